@@ -1,0 +1,329 @@
+-- What stands at a place is read up to it, and can be continued.
+use Rattle.std.proofs.Common.{◌≡◌, ◌⊎◌, ℕ, ◌+◌, ◌<◌, Bool, true, false, cond, Option, Some, None, List, [], ◌∷◌, ◌++◌, length, Result, Ok, Err, refl, sym, ap, subst, ◌∙◌, append_assoc, arith, inl, inr}
+use Rattle.std.specs.Prelude.{◌==◌, ◌&&◌}
+use Rattle.std.specs.List.{list_all}
+use Rattle.std.specs.Char.{is_ascii_alphanumeric}
+use Rattle.std.proofs.lemmas.Bool.Decides.{nat_tests}
+use Rattle.ctl_relation.specs.declared.fault.RelationFault.{RelationFault}
+use Rattle.ctl_relation.specs.declared.fault.RelationFault.TheVariants as fault
+use Rattle.ctl_relation.specs.declared.relation.FieldKind.{FieldKind}
+use Rattle.ctl_relation.specs.declared.relation.Atom.{Atom}
+use Rattle.ctl_relation.specs.Version.{is_upstream_byte, fault_of}
+use Rattle.ctl_relation.specs.Names.{is_name_byte, is_name}
+use Rattle.ctl_relation.specs.Grammar.{is_blank, is_qualifier_byte, is_version_run, is_provides, has_alternatives, rest, name_at, version_at, close_at, relations_of}
+use Rattle.ctl_relation.specs.Relations.{IsBlank, RelationsText}
+use Rattle.ctl_relation.specs.Fault.{Place, GroupDue, AtomDue, AfterName, QualifierDue, AfterQualifier, OperatorDue, AfterSign, VersionDue, CloseDue, AfterAtom, takes_name, takes_bracket, takes_bar, takes_comma, takes_version, is_sign, lengthens, StandsAt, at_start, comma, bar, name, colon, qualifier, bracket, equal, sign, longer, version, close, IsFault, Continues, GroupsOrFault, NeverBoth, OneFault}
+use Rattle.ctl_relation.proofs.VersionBytes.{version_bytes, all_weaker}
+use Rattle.ctl_relation.proofs.Only.{Stops, is_operator_byte, run_again, rest_again, stops_blanks, name_again, version_again, nonempty}
+use Rattle.ctl_relation.proofs.AtomAgain.{blank_no_name, blank_no_qualifier, blank_no_colon, blank_ends_version, stops_version, upstream_run, upstream_no_blank, upstream_no_operator, blank_no_operator}
+use Rattle.ctl_relation.proofs.FieldAgain.{letter_first, relations_again}
+use Rattle.ctl_relation.proofs.Found.{groups_found}
+use Rattle.ctl_relation.proofs.Runs.{Next, Ends, Moves, next_of, next_behind, group_next, end_next, bracket_next, name_next, operator_next, version_next, sign_next, next, Runs, ends, moves, one_end, fault_in, reader_runs}
+use Rattle.ctl_relation.proofs.Faults.{Whole, ended, due_is, whole_due, read_fault}
+
+-- ---- a token in front is the next one
+
+-- a byte that ends names and qualifiers
+record Cuts (c : ℕ) : Type 0 where
+  blank : is_blank c ≡ false
+  in_name : is_name_byte c ≡ false
+  in_qualifier : is_qualifier_byte c ≡ false
+  colon_other : (c == 58) ≡ false
+
+front_byte : (blanks left : List ℕ) (c : ℕ) → (blanks ++ c ∷ []) ++ left ≡ blanks ++ c ∷ left
+front_byte blanks left c = append_assoc blanks (c ∷ []) left
+
+rest_byte : (blanks left : List ℕ) (c : ℕ) → IsBlank blanks → is_blank c ≡ false → rest is_blank ((blanks ++ c ∷ []) ++ left) ≡ c ∷ left
+rest_byte blanks left c b h = ap (rest is_blank) (front_byte blanks left c) ∙ rest_again is_blank blanks (c ∷ left) b h
+
+stops_byte : (p : ℕ → Bool) (blanks left : List ℕ) (c : ℕ) → ((b : ℕ) → is_blank b ≡ true → p b ≡ false) → IsBlank blanks → p c ≡ false → Stops p ((blanks ++ c ∷ []) ++ left)
+stops_byte p blanks left c f b h = let P : List ℕ → Type 0 = Stops p in subst P (sym (front_byte blanks left c)) (stops_blanks p blanks (c ∷ left) f b h)
+
+no_colon : (kind : FieldKind) (text : List ℕ) → Stops (λ b. b == 58) text → name_next kind text ≡ bracket_next kind (rest is_blank text)
+no_colon kind [] s = refl
+no_colon kind (b ∷ text) s = ap (λ z. cond z (Moves QualifierDue text) (bracket_next kind (rest is_blank (b ∷ text)))) s
+
+-- Runs of what follows are runs from here.
+abbrev Leads : FieldKind → Place → List ℕ → Next → Type 0
+Leads kind p text n = Whole p text × (next kind p text ≡ n)
+
+name_leads : (kind : FieldKind) (blanks left : List ℕ) (c : ℕ) → IsBlank blanks → Cuts c → Leads kind AfterName ((blanks ++ c ∷ []) ++ left) (bracket_next kind (c ∷ left))
+name_leads kind blanks left c b h = (
+  stops_byte is_name_byte blanks left c blank_no_name b h.in_name,
+  no_colon kind ((blanks ++ c ∷ []) ++ left) (stops_byte (λ b. b == 58) blanks left c blank_no_colon b h.colon_other) ∙ ap (bracket_next kind) (rest_byte blanks left c b h.blank),
+)
+
+qualifier_leads : (kind : FieldKind) (blanks left : List ℕ) (c : ℕ) → IsBlank blanks → Cuts c → Leads kind AfterQualifier ((blanks ++ c ∷ []) ++ left) (bracket_next kind (c ∷ left))
+qualifier_leads kind blanks left c b h = (stops_byte is_qualifier_byte blanks left c blank_no_qualifier b h.in_qualifier, ap (bracket_next kind) (rest_byte blanks left c b h.blank))
+
+atom_leads : (kind : FieldKind) (blanks left : List ℕ) (c : ℕ) → IsBlank blanks → Cuts c → Leads kind AfterAtom ((blanks ++ c ∷ []) ++ left) (end_next kind (c ∷ left))
+atom_leads kind blanks left c b h = (tt, ap (end_next kind) (rest_byte blanks left c b h.blank))
+
+comma_leads : (kind : FieldKind) (p : Place) (blanks left : List ℕ) → takes_comma p ≡ true → IsBlank blanks → Leads kind p ((blanks ++ 44 ∷ []) ++ left) (Moves GroupDue left)
+comma_leads kind GroupDue blanks left c b = (tt, ap group_next (rest_byte blanks left 44 b refl))
+comma_leads kind AtomDue blanks left c b = absurd cc
+comma_leads kind AfterName blanks left c b = name_leads kind blanks left 44 b (record { blank = refl; in_name = refl; in_qualifier = refl; colon_other = refl })
+comma_leads kind QualifierDue blanks left c b = absurd cc
+comma_leads kind AfterQualifier blanks left c b = qualifier_leads kind blanks left 44 b (record { blank = refl; in_name = refl; in_qualifier = refl; colon_other = refl })
+comma_leads kind OperatorDue blanks left c b = absurd cc
+comma_leads kind (AfterSign d) blanks left c b = absurd cc
+comma_leads kind VersionDue blanks left c b = absurd cc
+comma_leads kind CloseDue blanks left c b = absurd cc
+comma_leads kind AfterAtom blanks left c b = atom_leads kind blanks left 44 b (record { blank = refl; in_name = refl; in_qualifier = refl; colon_other = refl })
+
+bar_leads : (kind : FieldKind) (p : Place) (blanks left : List ℕ) → takes_bar p ≡ true → has_alternatives kind ≡ true → IsBlank blanks → Leads kind p ((blanks ++ 124 ∷ []) ++ left) (Moves AtomDue left)
+bar_leads kind p blanks left c a b = go p c
+  where
+    bar_cuts : Cuts 124
+    bar_cuts = record { blank = refl; in_name = refl; in_qualifier = refl; colon_other = refl }
+
+    allowed : cond (has_alternatives kind) (Moves AtomDue left) (Ends (Some fault.Alternative)) ≡ Moves AtomDue left
+    allowed = ap (λ z. cond z (Moves AtomDue left) (Ends (Some fault.Alternative))) a
+
+    go : (p : Place) → takes_bar p ≡ true → Leads kind p ((blanks ++ 124 ∷ []) ++ left) (Moves AtomDue left)
+    go GroupDue c = absurd cc
+    go AtomDue c = absurd cc
+    go AfterName c = let l = name_leads kind blanks left 124 b bar_cuts in (l.0, l.1 ∙ allowed)
+    go QualifierDue c = absurd cc
+    go AfterQualifier c = let l = qualifier_leads kind blanks left 124 b bar_cuts in (l.0, l.1 ∙ allowed)
+    go OperatorDue c = absurd cc
+    go (AfterSign d) c = absurd cc
+    go VersionDue c = absurd cc
+    go CloseDue c = absurd cc
+    go AfterAtom c = let l = atom_leads kind blanks left 124 b bar_cuts in (l.0, l.1 ∙ allowed)
+
+bracket_leads : (kind : FieldKind) (p : Place) (blanks left : List ℕ) → takes_bracket p ≡ true → IsBlank blanks → Leads kind p ((blanks ++ 40 ∷ []) ++ left) (Moves OperatorDue left)
+bracket_leads kind GroupDue blanks left c b = absurd cc
+bracket_leads kind AtomDue blanks left c b = absurd cc
+bracket_leads kind AfterName blanks left c b = name_leads kind blanks left 40 b (record { blank = refl; in_name = refl; in_qualifier = refl; colon_other = refl })
+bracket_leads kind QualifierDue blanks left c b = absurd cc
+bracket_leads kind AfterQualifier blanks left c b = qualifier_leads kind blanks left 40 b (record { blank = refl; in_name = refl; in_qualifier = refl; colon_other = refl })
+bracket_leads kind OperatorDue blanks left c b = absurd cc
+bracket_leads kind (AfterSign d) blanks left c b = absurd cc
+bracket_leads kind VersionDue blanks left c b = absurd cc
+bracket_leads kind CloseDue blanks left c b = absurd cc
+bracket_leads kind AfterAtom blanks left c b = absurd cc
+
+-- a name
+first_of_name : (word after : List ℕ) → is_name word ≡ true → Stops is_blank (word ++ after) × (group_next (word ++ after) ≡ next_behind AfterName (name_at (word ++ after)))
+first_of_name [] after h = absurd cc
+first_of_name (b ∷ word) after h =
+    let l = letter_first b (first (is_ascii_alphanumeric b) _ h) in
+    (l.0, ap (λ t. cond t (Moves GroupDue (word ++ after)) (next_behind AfterName (name_at (b ∷ (word ++ after))))) l.1)
+  where
+    first : (s t : Bool) → (s && t) ≡ true → s ≡ true
+    first true t h = refl
+    first false t h = absurd cc
+
+names_lead : (kind : FieldKind) (p : Place) (blanks word left : List ℕ) → takes_name p ≡ true → IsBlank blanks → is_name word ≡ true → Stops is_name_byte left → Leads kind p ((blanks ++ word) ++ left) (Moves AfterName left)
+names_lead kind p blanks word left c b h s = go p c
+  where
+    f : Stops is_blank (word ++ left) × (group_next (word ++ left) ≡ next_behind AfterName (name_at (word ++ left)))
+    f = first_of_name word left h
+
+    e : rest is_blank ((blanks ++ word) ++ left) ≡ word ++ left
+    e = ap (rest is_blank) (append_assoc blanks word left) ∙ rest_again is_blank blanks (word ++ left) b f.0
+
+    n : next_behind AfterName (name_at (word ++ left)) ≡ Moves AfterName left
+    n = ap (next_behind AfterName) (name_again word left h s)
+
+    go : (p : Place) → takes_name p ≡ true → Leads kind p ((blanks ++ word) ++ left) (Moves AfterName left)
+    go GroupDue c = (tt, ap group_next e ∙ f.1 ∙ n)
+    go AtomDue c = (tt, ap (λ y. next_behind AfterName (name_at y)) e ∙ n)
+    go AfterName c = absurd cc
+    go QualifierDue c = absurd cc
+    go AfterQualifier c = absurd cc
+    go OperatorDue c = absurd cc
+    go (AfterSign d) c = absurd cc
+    go VersionDue c = absurd cc
+    go CloseDue c = absurd cc
+    go AfterAtom c = absurd cc
+
+-- a qualifier
+qualifiers_lead : (kind : FieldKind) (q left : List ℕ) → 0 < length q → list_all is_qualifier_byte q ≡ true → Stops is_qualifier_byte left → Leads kind QualifierDue (q ++ left) (Moves AfterQualifier left)
+qualifiers_lead kind q left h a s = (
+  tt,
+  ap (λ (l : List ℕ). cond (length l == 0) (Ends (Some fault.Name)) (Moves AfterQualifier (rest is_qualifier_byte (q ++ left)))) (run_again is_qualifier_byte q left a s)
+      ∙ ap (λ (l : List ℕ). cond (length q == 0) (Ends (Some fault.Name)) (Moves AfterQualifier l)) (rest_again is_qualifier_byte q left a s)
+      ∙ ap (λ t. cond t (Ends (Some fault.Name)) (Moves AfterQualifier left)) (nonempty q h),
+)
+
+-- an operator
+sign_facts : (b : ℕ) → is_sign b ≡ true → (is_blank b ≡ false) × ((b == 61) ≡ false) × (is_operator_byte b ≡ true)
+sign_facts b h = (grind (arith, nat_tests), grind (arith, nat_tests), grind (arith, nat_tests))
+
+signs_lead : (kind : FieldKind) (blanks left : List ℕ) (b : ℕ) → IsBlank blanks → is_sign b ≡ true → is_provides kind ≡ false → Leads kind OperatorDue ((blanks ++ b ∷ []) ++ left) (Moves (AfterSign b) left)
+signs_lead kind blanks left b h i p =
+    let f = sign_facts b i in (
+      tt,
+      ap (operator_next kind) (rest_byte blanks left b h f.0)
+          ∙ ap (λ t. cond t (Moves VersionDue left) (cond (is_sign b) (cond (is_provides kind) (Ends (Some fault.ProvidesOperator)) (Moves (AfterSign b) left)) (Ends (Some fault.Operator)))) f.1
+          ∙ ap (λ t. cond t (cond (is_provides kind) (Ends (Some fault.ProvidesOperator)) (Moves (AfterSign b) left)) (Ends (Some fault.Operator))) i
+          ∙ ap (λ t. cond t (Ends (Some fault.ProvidesOperator)) (Moves (AfterSign b) left)) p,
+    )
+
+-- behind a sign stands a sign
+abbrev Signs : Place → Type 0
+Signs (AfterSign b) = is_sign b ≡ true
+Signs _ = Unit {0}
+
+stands_sign : (kind : FieldKind) (read : List ℕ) (p : Place) → StandsAt kind read p → Signs p
+stands_sign kind read p at_start = tt
+stands_sign kind read p (comma _ _ _ _ _ _) = tt
+stands_sign kind read p (bar _ _ _ _ _ _ _) = tt
+stands_sign kind read p (name _ _ _ _ _ _ _ _) = tt
+stands_sign kind read p (colon _ _) = tt
+stands_sign kind read p (qualifier _ _ _ _ _) = tt
+stands_sign kind read p (bracket _ _ _ _ _ _) = tt
+stands_sign kind read p (equal _ _ _ _) = tt
+stands_sign kind read p (sign _ _ b _ _ h _) = h
+stands_sign kind read p (longer _ _ _ _ _) = tt
+stands_sign kind read p (version _ _ _ _ _ _ _ _) = tt
+stands_sign kind read p (close _ _ _ _) = tt
+
+-- no operator's byte lengthens nothing
+short_sign : (b c : ℕ) → is_sign b ≡ true → is_operator_byte c ≡ false → lengthens b c ≡ false
+short_sign b c h k = grind (arith, nat_tests)
+
+sign_next_version : (b : ℕ) (text : List ℕ) → is_sign b ≡ true → Stops is_operator_byte text → sign_next b text ≡ version_next text
+sign_next_version b [] h s = refl
+sign_next_version b (c ∷ text) h s = ap (λ t. cond t (Moves VersionDue text) (version_next (c ∷ text))) (short_sign b c h s)
+
+versions_lead : (kind : FieldKind) (p : Place) (blanks v left : List ℕ) → takes_version p ≡ true → Signs p → IsBlank blanks → fault_of v ≡ None → Stops is_version_run left → Leads kind p ((blanks ++ v) ++ left) (Moves CloseDue left)
+versions_lead kind p blanks v left c i b h s = go p c i
+  where
+    w : (blanks ++ v) ++ left ≡ blanks ++ (v ++ left)
+    w = append_assoc blanks v left
+
+    e : rest is_blank ((blanks ++ v) ++ left) ≡ v ++ left
+    e = ap (rest is_blank) w ∙ rest_again is_blank blanks (v ++ left) b (stops_version is_blank v left upstream_no_blank h)
+
+    n : version_next ((blanks ++ v) ++ left) ≡ Moves CloseDue left
+    n = ap (λ y. next_behind CloseDue (version_at y)) e ∙ ap (next_behind CloseDue) (version_again v left h (all_weaker is_upstream_byte is_version_run upstream_run v (version_bytes v h).1) s)
+
+    o : Stops is_operator_byte ((blanks ++ v) ++ left)
+    o = let P : List ℕ → Type 0 = Stops is_operator_byte in subst P (sym w) (stops_blanks is_operator_byte blanks (v ++ left) blank_no_operator b (stops_version is_operator_byte v left upstream_no_operator h))
+
+    go : (p : Place) → takes_version p ≡ true → Signs p → Leads kind p ((blanks ++ v) ++ left) (Moves CloseDue left)
+    go GroupDue c i = absurd cc
+    go AtomDue c i = absurd cc
+    go AfterName c i = absurd cc
+    go QualifierDue c i = absurd cc
+    go AfterQualifier c i = absurd cc
+    go OperatorDue c i = absurd cc
+    go (AfterSign d) c i = (tt, sign_next_version d ((blanks ++ v) ++ left) i o ∙ n)
+    go VersionDue c i = (tt, n)
+    go CloseDue c i = absurd cc
+    go AfterAtom c i = absurd cc
+
+close_leads : (kind : FieldKind) (blanks left : List ℕ) → IsBlank blanks → Leads kind CloseDue ((blanks ++ 41 ∷ []) ++ left) (Moves AfterAtom left)
+close_leads kind blanks left b = (stops_byte is_version_run blanks left 41 blank_ends_version b refl, ap (λ y. next_of AfterAtom (close_at y)) (rest_byte blanks left 41 b refl))
+
+-- ---- what stands at a place is read up to it
+
+joined : (kind : FieldKind) (before token left : List ℕ) (r : Option RelationFault) → Runs kind GroupDue (before ++ (token ++ left)) r → Runs kind GroupDue ((before ++ token) ++ left) r
+joined kind before token left r h = let P : List ℕ → Type 0 = λ z. Runs kind GroupDue z r in subst P (sym (append_assoc before token left)) h
+
+stands_runs : (kind : FieldKind) (read : List ℕ) (p : Place) → StandsAt kind read p → (left : List ℕ) (r : Option RelationFault) → Whole p left → Runs kind p left r → Runs kind GroupDue (read ++ left) r
+stands_runs kind read p at_start left r w more = more
+stands_runs kind read p (comma before blanks q s c b) left r w more =
+    let l = comma_leads kind q blanks left c b in
+    joined kind before (blanks ++ 44 ∷ []) left r (stands_runs kind before q s ((blanks ++ 44 ∷ []) ++ left) r l.0 (moves q ((blanks ++ 44 ∷ []) ++ left) GroupDue left r l.1 more))
+stands_runs kind read p (bar before blanks q s c a b) left r w more =
+    let l = bar_leads kind q blanks left c a b in
+    joined kind before (blanks ++ 124 ∷ []) left r (stands_runs kind before q s ((blanks ++ 124 ∷ []) ++ left) r l.0 (moves q ((blanks ++ 124 ∷ []) ++ left) AtomDue left r l.1 more))
+stands_runs kind read p (name before blanks word q s c b h) left r w more =
+    let l = names_lead kind q blanks word left c b h w in
+    joined kind before (blanks ++ word) left r (stands_runs kind before q s ((blanks ++ word) ++ left) r l.0 (moves q ((blanks ++ word) ++ left) AfterName left r l.1 more))
+stands_runs kind read p (colon before s) left r w more = joined kind before (58 ∷ []) left r (stands_runs kind before AfterName s ((58 ∷ []) ++ left) r refl (moves AfterName ((58 ∷ []) ++ left) QualifierDue left r (refl) more))
+stands_runs kind read p (qualifier before word s h a) left r w more =
+    let l = qualifiers_lead kind word left h a w in
+    joined kind before word left r (stands_runs kind before QualifierDue s (word ++ left) r l.0 (moves QualifierDue (word ++ left) AfterQualifier left r l.1 more))
+stands_runs kind read p (bracket before blanks q s c b) left r w more =
+    let l = bracket_leads kind q blanks left c b in
+    joined kind before (blanks ++ 40 ∷ []) left r (stands_runs kind before q s ((blanks ++ 40 ∷ []) ++ left) r l.0 (moves q ((blanks ++ 40 ∷ []) ++ left) OperatorDue left r l.1 more))
+stands_runs kind read p (equal before blanks s b) left r w more = joined kind before (blanks ++ 61 ∷ []) left r (stands_runs kind before OperatorDue s ((blanks ++ 61 ∷ []) ++ left) r tt (moves OperatorDue ((blanks ++ 61 ∷ []) ++ left) VersionDue left r (ap (operator_next kind) (rest_byte blanks left 61 b refl)) more))
+stands_runs kind read p (sign before blanks d s b h i) left r w more =
+    let l = signs_lead kind blanks left d b h i in
+    joined kind before (blanks ++ d ∷ []) left r (stands_runs kind before OperatorDue s ((blanks ++ d ∷ []) ++ left) r l.0 (moves OperatorDue ((blanks ++ d ∷ []) ++ left) (AfterSign d) left r l.1 more))
+stands_runs kind read p (longer before d c s h) left r w more = joined kind before (c ∷ []) left r (stands_runs kind before (AfterSign d) s ((c ∷ []) ++ left) r tt (moves (AfterSign d) ((c ∷ []) ++ left) VersionDue left r (ap (λ t. cond t (Moves VersionDue left) (version_next (c ∷ left))) h) more))
+stands_runs kind read p (version before blanks v q s c b h) left r w more =
+    let l = versions_lead kind q blanks v left c (stands_sign kind before q s) b h w in
+    joined kind before (blanks ++ v) left r (stands_runs kind before q s ((blanks ++ v) ++ left) r l.0 (moves q ((blanks ++ v) ++ left) CloseDue left r l.1 more))
+stands_runs kind read p (close before blanks s b) left r w more =
+    let l = close_leads kind blanks left b in
+    joined kind before (blanks ++ 41 ∷ []) left r (stands_runs kind before CloseDue s ((blanks ++ 41 ∷ []) ++ left) r l.0 (moves CloseDue ((blanks ++ 41 ∷ []) ++ left) AfterAtom left r l.1 more))
+
+-- ---- one fault
+
+ended_so : (n : Next) (f : RelationFault) → ended n ≡ Some f → n ≡ Ends (Some f)
+ended_so (Ends r) f h = ap Ends h
+ended_so (Moves q t) f h = absurd cc
+
+-- The fault of a field is what is read.
+pub fault_read : (kind : FieldKind) (body : List ℕ) (f : RelationFault) → IsFault kind body f → fault_in (relations_of kind body) ≡ Some f
+fault_read kind body f h =
+    let w = whole_due kind h.place h.left f h.due in
+    let e : next kind h.place h.left ≡ Ends (Some f) = ended_so (next kind h.place h.left) f (sym (due_is kind h.place h.left w) ∙ h.due) in
+    let runs : Runs kind GroupDue (h.read ++ h.left) (Some f) = stands_runs kind h.read h.place h.stands h.left (Some f) w (ends h.place h.left (Some f) e) in
+    let P : List ℕ → Type 0 = λ z. Runs kind GroupDue z (Some f) in
+    one_end kind GroupDue body (fault_in (relations_of kind body)) (Some f) (reader_runs kind body) (subst P (sym h.whole) runs)
+
+-- ---- a place can be continued
+
+-- the shortest end from a place
+record Ending (kind : FieldKind) (p : Place) : Type 0 where
+  more : List ℕ
+  whole : Whole p more
+  runs : Runs kind p more None
+
+at_end : (kind : FieldKind) (p : Place) → next kind p [] ≡ Ends None → Whole p [] → Ending kind p
+at_end kind p e w = record { more = []; whole = w; runs = ends p [] None e }
+
+close_runs : (kind : FieldKind) → Runs kind CloseDue (41 ∷ []) None
+close_runs kind = moves CloseDue (41 ∷ []) AfterAtom [] None refl (ends AfterAtom [] None refl)
+
+version_runs : (kind : FieldKind) → Runs kind VersionDue (49 ∷ 41 ∷ []) None
+version_runs kind = moves VersionDue (49 ∷ 41 ∷ []) CloseDue (41 ∷ []) None refl (close_runs kind)
+
+ending : (kind : FieldKind) (p : Place) → Signs p → Ending kind p
+ending kind GroupDue i = at_end kind GroupDue refl tt
+ending kind AtomDue i = record { more = 97 ∷ []; whole = tt; runs = moves AtomDue (97 ∷ []) AfterName [] None refl (ends AfterName [] None refl) }
+ending kind AfterName i = at_end kind AfterName refl tt
+ending kind QualifierDue i = record { more = 97 ∷ []; whole = tt; runs = moves QualifierDue (97 ∷ []) AfterQualifier [] None refl (ends AfterQualifier [] None refl) }
+ending kind AfterQualifier i = at_end kind AfterQualifier refl tt
+ending kind OperatorDue i = record { more = 61 ∷ 49 ∷ 41 ∷ []; whole = tt; runs = moves OperatorDue (61 ∷ 49 ∷ 41 ∷ []) VersionDue (49 ∷ 41 ∷ []) None refl (version_runs kind) }
+ending kind (AfterSign b) i = record { more = 49 ∷ 41 ∷ []; whole = tt; runs = moves (AfterSign b) (49 ∷ 41 ∷ []) CloseDue (41 ∷ []) None (sign_next_version b (49 ∷ 41 ∷ []) i refl) (close_runs kind) }
+ending kind VersionDue i = record { more = 49 ∷ 41 ∷ []; whole = tt; runs = version_runs kind }
+ending kind CloseDue i = record { more = 41 ∷ []; whole = refl; runs = close_runs kind }
+ending kind AfterAtom i = at_end kind AfterAtom refl tt
+
+-- no fault, so groups
+groups_read : (kind : FieldKind) (body : List ℕ) → fault_in (relations_of kind body) ≡ None → (groups : List (List Atom)) × RelationsText kind body groups
+groups_read kind body h = go (relations_of kind body) refl h
+  where
+    go : (r : Result (List (List Atom)) RelationFault) → relations_of kind body ≡ r → fault_in r ≡ None → (groups : List (List Atom)) × RelationsText kind body groups
+    go (Ok groups) e h = (groups, groups_found (length body + 1) kind body groups e)
+    go (Err d) e h = absurd cc
+
+pub continued : Continues
+continued kind read p s =
+    let t = ending kind p (stands_sign kind read p s) in
+    let runs = stands_runs kind read p s t.more None t.whole t.runs in
+    let g = groups_read kind (read ++ t.more) (one_end kind GroupDue (read ++ t.more) (fault_in (relations_of kind (read ++ t.more))) None (reader_runs kind (read ++ t.more)) runs) in
+    (t.more, g.0, g.1)
+
+-- ---- one fault or groups, and never both
+
+pub one_fault : OneFault
+one_fault kind body f g h k = let e : Some f ≡ Some g = sym (fault_read kind body f h) ∙ fault_read kind body g k in cc
+
+pub never_both : NeverBoth
+never_both kind body f groups h t = let e : Some f ≡ None = sym (fault_read kind body f h) ∙ ap fault_in (relations_again kind body groups t) in absurd cc
+
+pub groups_or_fault : GroupsOrFault
+groups_or_fault kind body = go (relations_of kind body) refl
+  where
+    go : (r : Result (List (List Atom)) RelationFault) → relations_of kind body ≡ r → ((groups : List (List Atom)) × RelationsText kind body groups) ⊎ ((f : RelationFault) × IsFault kind body f)
+    go (Ok groups) e = inl (groups, groups_found (length body + 1) kind body groups e)
+    go (Err f) e = inr (f, read_fault kind body f (ap fault_in e))

@@ -1,0 +1,385 @@
+-- What is read is in the grammar.
+use Rattle.std.proofs.Common.{◌≡◌, ℕ, zero, suc, ◌+◌, ◌<◌, Bool, true, false, cond, Option, Some, None, List, [], ◌∷◌, ◌++◌, length, take, Result, Ok, Err, refl, sym, ap, subst, ◌∙◌, append_assoc, append-nil, eqb-true, arith, inl, inr}
+use Rattle.std.specs.Prelude.{◌==◌, not, ◌&&◌, is_none, IfOk}
+use Rattle.std.specs.List.{prefix_len, list_all}
+use Rattle.std.proofs.lemmas.Bool.Decides.{nat_tests}
+use Rattle.std.proofs.lemmas.List.{take-append-drop}
+use Rattle.std.proofs.lemmas.List.Folds.{list_all-append}
+use Rattle.ctl_relation.specs.declared.fault.RelationFault.{RelationFault}
+use Rattle.ctl_relation.specs.declared.fault.RelationFault.TheVariants as fault
+use Rattle.ctl_relation.specs.declared.relation.Operator.{Operator}
+use Rattle.ctl_relation.specs.declared.relation.FieldKind.{FieldKind}
+use Rattle.ctl_relation.specs.declared.relation.Atom.{Atom}
+use Rattle.ctl_relation.specs.Version.{fault_of}
+use Rattle.ctl_relation.specs.Names.{is_name_byte, is_name}
+use Rattle.ctl_relation.specs.Grammar.{◌>>=◌, is_blank, is_qualifier_byte, is_version_run, is_provides, is_exact, run, rest, name_at, qualifier_at, operator_token, allowed, operator_at, version_at, close_at, inner_at, bound_behind, bound_at, atom_at, has_alternatives, behind_byte, alternatives, group_at, groups_behind, groups_from, groups_at, relations_of, Gives}
+use Rattle.ctl_relation.specs.Relations.{IsBlank, IsSpelled, QualifierText, BoundText, AtomText, PaddedAtom, GroupText, PieceText, PiecesText, groups_of, RelationsText}
+
+bind_ok : {A B : Type 0} (r : Result A RelationFault) (f : A → Result B RelationFault) (y : B) → (r >>= f) ≡ Ok y → (x : A) × (r ≡ Ok x) × (f x ≡ Ok y)
+bind_ok (Ok x) f y e = (x, refl, e)
+bind_ok (Err d) f y e = absurd cc
+
+-- a test that has passed
+guard_ok : {A : Type 0} (b : Bool) (d : RelationFault) (x y : A) → cond b (Ok x) (Err d) ≡ Ok y → (b ≡ true) × (x ≡ y)
+guard_ok true d x y e = (refl, cc)
+guard_ok false d x y e = absurd cc
+
+abbrev done : {A : Type 0} → A → Result A RelationFault
+done x = Ok x
+
+ok_is : {A : Type 0} (x y : A) → done x ≡ done y → x ≡ y
+ok_is x y e = cc
+
+regroup : (a b c d v f after : List ℕ) → (a ++ 40 ∷ (b ++ (c ++ (d ++ (v ++ (f ++ 41 ∷ [])))))) ++ after ≡ a ++ 40 ∷ (b ++ (c ++ (d ++ (v ++ (f ++ 41 ∷ after)))))
+regroup a b c d v f after = simp append_assoc
+
+guard_err : {A : Type 0} (b : Bool) (d : RelationFault) (x y : A) → cond b (Err d) (Ok x) ≡ Ok y → (b ≡ false) × (x ≡ y)
+guard_err true d x y e = absurd cc
+guard_err false d x y e = (refl, cc)
+
+pub run-rest : (p : ℕ → Bool) (text : List ℕ) → text ≡ run p text ++ rest p text
+run-rest p text = sym (take-append-drop (prefix_len p text) text)
+
+pub run-passes : (p : ℕ → Bool) (text : List ℕ) → list_all p (run p text) ≡ true
+run-passes p [] = refl
+run-passes p (b ∷ text) = passes (p b) refl (run-passes p text)
+  where
+    passes : (t : Bool) → p b ≡ t → list_all p (run p text) ≡ true → list_all p (run p (b ∷ text)) ≡ true
+    passes true e h =
+        let one : 1 + prefix_len p text ≡ suc (prefix_len p text) = omega arith in
+        ap (λ n. list_all p (take n (b ∷ text))) (ap (λ t. cond t (1 + prefix_len p text) 0) e ∙ one) ∙ ap (λ t. t && list_all p (run p text)) e ∙ h
+    passes false e h = ap (λ n. list_all p (take n (b ∷ text))) (ap (λ t. cond t (1 + prefix_len p text) 0) e)
+
+name_found : (text : List ℕ) (x : List ℕ × List ℕ) → name_at text ≡ Ok x → (is_name x.0 ≡ true) × (text ≡ x.0 ++ x.1)
+name_found text x e =
+    let g = guard_ok (is_name (run is_name_byte text)) fault.Name (run is_name_byte text, rest is_name_byte text) x e in
+    let P : List ℕ × List ℕ → Type 0 = λ y. (is_name y.0 ≡ true) × (text ≡ y.0 ++ y.1) in
+    subst P g.1 (g.0, run-rest is_name_byte text)
+
+version_found : (text : List ℕ) (x : List ℕ × List ℕ) → version_at text ≡ Ok x → (fault_of x.0 ≡ None) × (text ≡ x.0 ++ x.1)
+version_found text x e =
+    let g = guard_ok (is_none (fault_of (run is_version_run text))) fault.Version (run is_version_run text, rest is_version_run text) x e in
+    let P : List ℕ × List ℕ → Type 0 = λ y. (fault_of y.0 ≡ None) × (text ≡ y.0 ++ y.1) in
+    subst P g.1 (none_is (fault_of (run is_version_run text)) g.0, run-rest is_version_run text)
+  where
+    none_is : {A : Type 0} (o : Option A) → is_none o ≡ true → o ≡ None
+    none_is None e = refl
+    none_is (Some x) e = absurd cc
+
+close_found : (text after : List ℕ) → close_at text ≡ Ok after → text ≡ 41 ∷ after
+close_found [] after e = absurd cc
+close_found (b ∷ text) after e =
+    let g = guard_ok (b == 41) fault.Close text after e in
+    ap (λ n. n ∷ text) (eqb-true b 41 g.0) ∙ ap (λ (l : List ℕ). 41 ∷ l) g.1
+
+qualifier_found : (text : List ℕ) (x : Option (List ℕ) × List ℕ) → qualifier_at text ≡ Ok x → (q : List ℕ) × QualifierText q x.0 × (text ≡ q ++ x.1)
+qualifier_found [] x e = let h : (None, []) ≡ x = cc in let P : Option (List ℕ) × List ℕ → Type 0 = λ y. (q : List ℕ) × QualifierText q y.0 × ([] ≡ q ++ y.1) in subst P h ([], refl, refl)
+qualifier_found (b ∷ text) x e = go (b == 58) refl e
+  where
+    go : (t : Bool) → (b == 58) ≡ t → cond t (cond (length (run is_qualifier_byte text) == 0) (Err fault.Name) (Ok (Some (run is_qualifier_byte text), rest is_qualifier_byte text))) (Ok (None, b ∷ text)) ≡ Ok x
+        → (q : List ℕ) × QualifierText q x.0 × (b ∷ text ≡ q ++ x.1)
+    go true h e =
+        let g = guard_err (length (run is_qualifier_byte text) == 0) fault.Name (Some (run is_qualifier_byte text), rest is_qualifier_byte text) x e in
+        let P : Option (List ℕ) × List ℕ → Type 0 = λ y. (q : List ℕ) × QualifierText q y.0 × (b ∷ text ≡ q ++ y.1) in
+        let some : 0 < length (run is_qualifier_byte text) = grind (arith, nat_tests) in
+        subst P g.1 (58 ∷ run is_qualifier_byte text, (refl, some, run-passes is_qualifier_byte text), ap (λ n. n ∷ text) (eqb-true b 58 h) ∙ ap (λ (l : List ℕ). 58 ∷ l) (run-rest is_qualifier_byte text))
+    go false h e = let k : (None, b ∷ text) ≡ x = cc in let P : Option (List ℕ) × List ℕ → Type 0 = λ y. (q : List ℕ) × QualifierText q y.0 × (b ∷ text ≡ q ++ y.1) in subst P k ([], refl, refl)
+
+-- an operator and what follows it
+abbrev Spells : List ℕ → Option (Operator × List ℕ) → Type 0
+Spells text None = Unit {0}
+Spells text (Some x) = (s : List ℕ) × IsSpelled x.0 s × (text ≡ s ++ x.1)
+
+pick : {A : Type 0} (P : A → Type 0) (b n : ℕ) (x y : A) → (b ≡ n → P x) → P y → P (cond (b == n) x y)
+pick P b n x y f g = go (b == n) refl
+  where
+    go : (t : Bool) → (b == n) ≡ t → P (cond t x y)
+    go true h = f (eqb-true b n h)
+    go false h = g
+
+two : (b d m n : ℕ) (text : List ℕ) → b ≡ m → d ≡ n → b ∷ d ∷ text ≡ m ∷ n ∷ text
+two b d m n text p q = ap (λ k. k ∷ d ∷ text) p ∙ ap (λ k. m ∷ k ∷ text) q
+
+operator_found : (text : List ℕ) → Spells text (operator_token text)
+operator_found [] = tt
+operator_found (b ∷ []) =
+    pick (Spells (b ∷ [])) b 60 _ _ (λ e. (60 ∷ [], inr refl, ap (λ n. n ∷ []) e))
+    (pick (Spells (b ∷ [])) b 62 _ _ (λ e. (62 ∷ [], inr refl, ap (λ n. n ∷ []) e))
+    (pick (Spells (b ∷ [])) b 61 _ _ (λ e. (61 ∷ [], refl, ap (λ n. n ∷ []) e)) tt))
+operator_found (b ∷ d ∷ text) =
+    let P : Option (Operator × List ℕ) → Type 0 = Spells (b ∷ d ∷ text) in
+    pick P b 61 _ _ (λ e. (61 ∷ [], refl, ap (λ n. n ∷ d ∷ text) e))
+    (pick P b 60 _ _ (λ e. pick P d 60 _ _ (λ f. (60 ∷ 60 ∷ [], refl, two b d 60 60 text e f))
+    (pick P d 61 _ _ (λ f. (60 ∷ 61 ∷ [], inl refl, two b d 60 61 text e f)) (60 ∷ [], inr refl, ap (λ n. n ∷ d ∷ text) e)))
+    (pick P b 62 _ _ (λ e. pick P d 62 _ _ (λ f. (62 ∷ 62 ∷ [], refl, two b d 62 62 text e f))
+    (pick P d 61 _ _ (λ f. (62 ∷ 61 ∷ [], inl refl, two b d 62 61 text e f)) (62 ∷ [], inr refl, ap (λ n. n ∷ d ∷ text) e)))
+    tt))
+
+allowed_found : (kind : FieldKind) (o : Option (Operator × List ℕ)) (x : Operator × List ℕ) → allowed kind o ≡ Ok x → (o ≡ Some x) × (is_provides kind ≡ true → is_exact x.0 ≡ true)
+allowed_found kind None x e = absurd cc
+allowed_found kind (Some y) x e =
+    let g = guard_err (is_provides kind && not (is_exact y.0)) fault.ProvidesOperator y x e in
+    let P : Operator × List ℕ → Type 0 = λ z. (Some y ≡ Some z) × (is_provides kind ≡ true → is_exact z.0 ≡ true) in
+    subst P g.1 (refl, λ p. exact (is_provides kind) (is_exact y.0) g.0 p)
+  where
+    exact : (s t : Bool) → (s && not t) ≡ false → s ≡ true → t ≡ true
+    exact true true g p = refl
+    exact true false g p = absurd cc
+    exact false t g p = absurd cc
+
+-- the text of what stands behind an open parenthesis
+record Inner (kind : FieldKind) (text : List ℕ) (op : Operator) (version after : List ℕ) : Type 0 where
+  inside : List ℕ
+  spelled : List ℕ
+  between : List ℕ
+  behind : List ℕ
+  blanks : IsBlank inside × IsBlank between × IsBlank behind
+  operator : IsSpelled op spelled
+  in_provides : is_provides kind ≡ true → is_exact op ≡ true
+  is_version : fault_of version ≡ None
+  whole : text ≡ inside ++ (spelled ++ (between ++ (version ++ (behind ++ 41 ∷ after))))
+
+inner_found : (kind : FieldKind) (text : List ℕ) (x : (Operator × List ℕ) × List ℕ) → inner_at kind text ≡ Ok x → Inner kind text x.0.0 x.0.1 x.1
+unfolding inner_at
+inner_found kind text x e =
+    let a = bind_ok (operator_at kind (rest is_blank text)) (λ op. version_at (rest is_blank op.1) >>= λ version. close_at (rest is_blank version.1) >>= λ after. Ok ((op.0, version.0), after)) x e in
+    let b = bind_ok (version_at (rest is_blank a.0.1)) (λ version. close_at (rest is_blank version.1) >>= λ after. Ok ((a.0.0, version.0), after)) x a.2 in
+    let c = bind_ok (close_at (rest is_blank b.0.1)) (λ after. Ok ((a.0.0, b.0.0), after)) x b.2 in
+    let op = allowed_found kind (operator_token (rest is_blank text)) a.0 a.1 in
+    let P : Option (Operator × List ℕ) → Type 0 = Spells (rest is_blank text) in
+    let spelled : Spells (rest is_blank text) (Some a.0) = subst P op.0 (operator_found (rest is_blank text)) in
+    let version = version_found (rest is_blank a.0.1) b.0 b.1 in
+    let close = close_found (rest is_blank b.0.1) c.0 c.1 in
+    let made : (Operator × List ℕ) × List ℕ = ((a.0.0, b.0.0), c.0) in
+    let Q : (Operator × List ℕ) × List ℕ → Type 0 = λ y. Inner kind text y.0.0 y.0.1 y.1 in
+    let e5 : b.0.1 ≡ run is_blank b.0.1 ++ 41 ∷ c.0 = run-rest is_blank b.0.1 ∙ ap (λ l. run is_blank b.0.1 ++ l) close in
+    let e4 : rest is_blank a.0.1 ≡ b.0.0 ++ (run is_blank b.0.1 ++ 41 ∷ c.0) = version.1 ∙ ap (λ l. b.0.0 ++ l) e5 in
+    let e3 : a.0.1 ≡ run is_blank a.0.1 ++ (b.0.0 ++ (run is_blank b.0.1 ++ 41 ∷ c.0)) = run-rest is_blank a.0.1 ∙ ap (λ l. run is_blank a.0.1 ++ l) e4 in
+    let e2 : rest is_blank text ≡ spelled.0 ++ (run is_blank a.0.1 ++ (b.0.0 ++ (run is_blank b.0.1 ++ 41 ∷ c.0))) = spelled.2 ∙ ap (λ l. spelled.0 ++ l) e3 in
+    subst Q (ok_is made x c.2) (record {
+      inside = run is_blank text;
+      spelled = spelled.0;
+      between = run is_blank a.0.1;
+      behind = run is_blank b.0.1;
+      blanks = (run-passes is_blank text, run-passes is_blank a.0.1, run-passes is_blank b.0.1);
+      operator = spelled.1;
+      in_provides = op.1;
+      is_version = version.0;
+      whole = run-rest is_blank text ∙ ap (λ l. run is_blank text ++ l) e2;
+    })
+
+abbrev Bounded : FieldKind → List ℕ → Option (Operator × List ℕ) × List ℕ → Type 0
+Bounded kind text x = (t : List ℕ) × BoundText kind t x.0 × (text ≡ t ++ x.1)
+
+bound_found : (kind : FieldKind) (text : List ℕ) (x : Option (Operator × List ℕ) × List ℕ) → bound_at kind text ≡ Ok x → Bounded kind text x
+bound_found kind text x e = go (rest is_blank text) refl e
+  where
+    none : done (None, text) ≡ done x → Bounded kind text x
+    none e = let P : Option (Operator × List ℕ) × List ℕ → Type 0 = Bounded kind text in subst P (ok_is (None, text) x e) ([], refl, refl)
+
+    some : (behind : List ℕ) → rest is_blank text ≡ 40 ∷ behind → (inner_at kind behind >>= λ y. Ok (Some y.0, y.1)) ≡ Ok x → Bounded kind text x
+    some behind t e =
+        let a = bind_ok (inner_at kind behind) (λ y. Ok (Some y.0, y.1)) x e in
+        let made : Option (Operator × List ℕ) × List ℕ = (Some a.0.0, a.0.1) in
+        let P : Option (Operator × List ℕ) × List ℕ → Type 0 = Bounded kind text in
+        let i = inner_found kind behind a.0 a.1 in
+        let e0 : text ≡ run is_blank text ++ 40 ∷ (i.inside ++ (i.spelled ++ (i.between ++ (a.0.0.1 ++ (i.behind ++ 41 ∷ a.0.1))))) = run-rest is_blank text ∙ ap (λ l. run is_blank text ++ l) (t ∙ ap (λ (l : List ℕ). 40 ∷ l) i.whole) in
+        subst P (ok_is made x a.2) (
+          run is_blank text ++ 40 ∷ (i.inside ++ (i.spelled ++ (i.between ++ (a.0.0.1 ++ (i.behind ++ 41 ∷ []))))),
+          record {
+            before = run is_blank text;
+            inside = i.inside;
+            spelled = i.spelled;
+            between = i.between;
+            behind = i.behind;
+            blanks = (run-passes is_blank text, i.blanks.0, i.blanks.1, i.blanks.2);
+            operator = i.operator;
+            in_provides = i.in_provides;
+            is_version = i.is_version;
+            whole = refl;
+          },
+          e0 ∙ sym (regroup (run is_blank text) i.inside i.spelled i.between a.0.0.1 i.behind a.0.1),
+        )
+
+    go : (after : List ℕ) → rest is_blank text ≡ after → bound_behind kind text after ≡ Ok x → Bounded kind text x
+    go [] t e = none e
+    go (b ∷ behind) t e = step (b == 40) refl e
+      where
+        step : (u : Bool) → (b == 40) ≡ u → cond u (inner_at kind behind >>= λ y. Ok (Some y.0, y.1)) (Ok (None, text)) ≡ Ok x → Bounded kind text x
+        step true h e = some behind (t ∙ ap (λ n. n ∷ behind) (eqb-true b 40 h)) e
+        step false h e = none e
+
+-- an atom that is read is spelled so, and stands in front of what is left
+pub atom_found : (kind : FieldKind) (text : List ℕ) (x : Atom × List ℕ) → atom_at kind text ≡ Ok x → (t : List ℕ) × AtomText kind t x.0 × (text ≡ t ++ x.1)
+unfolding atom_at
+atom_found kind text x e =
+    let a = bind_ok (name_at text) (λ name. qualifier_at name.1 >>= λ qualifier. bound_at kind qualifier.1 >>= λ bound. Ok (record { name = name.0; qualifier = qualifier.0; bound = bound.0 }, bound.1)) x e in
+    let b = bind_ok (qualifier_at a.0.1) (λ qualifier. bound_at kind qualifier.1 >>= λ bound. Ok (record { name = a.0.0; qualifier = qualifier.0; bound = bound.0 }, bound.1)) x a.2 in
+    let c = bind_ok (bound_at kind b.0.1) (λ bound. Ok (record { name = a.0.0; qualifier = b.0.0; bound = bound.0 }, bound.1)) x b.2 in
+    let name = name_found text a.0 a.1 in
+    let qualifier = qualifier_found a.0.1 b.0 b.1 in
+    let bound = bound_found kind b.0.1 c.0 c.1 in
+    let made : Atom × List ℕ = (record { name = a.0.0; qualifier = b.0.0; bound = c.0.0 }, c.0.1) in
+    let P : Atom × List ℕ → Type 0 = λ y. (t : List ℕ) × AtomText kind t y.0 × (text ≡ t ++ y.1) in
+    let e1 : a.0.1 ≡ qualifier.0 ++ (bound.0 ++ c.0.1) = qualifier.2 ∙ ap (λ l. qualifier.0 ++ l) bound.2 in
+    let e0 : text ≡ a.0.0 ++ (qualifier.0 ++ (bound.0 ++ c.0.1)) = name.1 ∙ ap (λ l. a.0.0 ++ l) e1 in
+    subst P (ok_is made x c.2) (
+      a.0.0 ++ (qualifier.0 ++ bound.0),
+      record {
+        qualifier_text = qualifier.0;
+        bound_text = bound.0;
+        name = name.0;
+        qualifier = qualifier.1;
+        bound = bound.1;
+        whole = refl;
+      },
+      e0 ∙ sym (append_assoc a.0.0 (qualifier.0 ++ bound.0) c.0.1 ∙ ap (λ l. a.0.0 ++ l) (append_assoc qualifier.0 bound.0 c.0.1)),
+    )
+
+-- ---- groups
+
+both_blank : (a b : List ℕ) → IsBlank a → IsBlank b → IsBlank (a ++ b)
+both_blank a b p q = list_all-append is_blank a b ∙ ap (λ t. t && list_all is_blank b) p ∙ q
+
+padded : {kind : FieldKind} (blanks text : List ℕ) (atom : Atom) → IsBlank blanks → PaddedAtom kind text atom → PaddedAtom kind (blanks ++ text) atom
+padded blanks text atom b h = record {
+  before = blanks ++ h.before;
+  middle = h.middle;
+  after = h.after;
+  blanks = (both_blank blanks h.before b h.blanks.0, h.blanks.1);
+  spelled = h.spelled;
+  whole = ap (λ l. blanks ++ l) h.whole ∙ sym (append_assoc blanks h.before (h.middle ++ h.after));
+}
+
+pub behind_found : (c : ℕ) (text after : List ℕ) → behind_byte c text ≡ Some after → text ≡ c ∷ after
+behind_found c [] after e = absurd cc
+behind_found c (b ∷ text) after e = go (b == c) refl e
+  where
+    go : (t : Bool) → (b == c) ≡ t → cond t (Some text) None ≡ Some after → b ∷ text ≡ c ∷ after
+    go true h e = let k : text ≡ after = cc in ap (λ n. n ∷ text) (eqb-true b c h) ∙ ap (λ (l : List ℕ). c ∷ l) k
+    go false h e = absurd cc
+
+pad : (kind : FieldKind) (text middle after : List ℕ) (atom : Atom) → AtomText kind middle atom → IsBlank after → text ≡ middle ++ after → PaddedAtom kind text atom
+pad kind text middle after atom h b e = record { before = []; middle = middle; after = after; blanks = (refl, b); spelled = h; whole = e }
+
+abbrev put : Option (List Atom) → List (List Atom) → List (List Atom)
+put None groups = groups
+put (Some group) groups = group ∷ groups
+
+joined : (kind : FieldKind) (first second : List ℕ) (atom : Atom) (atoms : List Atom) → PaddedAtom kind first atom → has_alternatives kind ≡ true → GroupText kind second atoms → GroupText kind (first ++ 124 ∷ second) (atom ∷ atoms)
+joined kind first second atom [] p h g = absurd g
+joined kind first second atom (other ∷ more) p h g = (first, second, p, h, g, refl)
+
+test_ok : {A : Type 0} (b : Bool) (d : RelationFault) (r : Result A RelationFault) (y : A) → cond b r (Err d) ≡ Ok y → (b ≡ true) × (r ≡ Ok y)
+test_ok true d r y e = (refl, e)
+test_ok false d r y e = absurd cc
+
+-- blanks in front of a group
+front_blanks : (kind : FieldKind) (blanks text : List ℕ) (group : List Atom) → IsBlank blanks → GroupText kind text group → GroupText kind (blanks ++ text) group
+front_blanks kind blanks text [] b h = h
+front_blanks kind blanks text (atom ∷ []) b h = padded blanks text atom b h
+front_blanks kind blanks text (atom ∷ other ∷ more) b h =
+    (blanks ++ h.0, h.1, padded blanks h.0 atom b h.2, h.3, h.4, ap (λ l. blanks ++ l) h.5 ∙ sym (append_assoc blanks h.0 (124 ∷ h.1)))
+
+-- what follows a group, without the blanks in front, and the group's own text
+pub group_found : (n : ℕ) (kind : FieldKind) (text : List ℕ) (x : List Atom × List ℕ) → group_at n kind text ≡ Ok x → (t : List ℕ) × GroupText kind t x.0 × (text ≡ t ++ rest is_blank x.1)
+group_found zero kind text x e = absurd cc
+group_found (suc n) kind text x e =
+    let a = bind_ok (atom_at kind text) (λ atom. alternatives kind (group_at n kind) atom (behind_byte 124 (rest is_blank atom.1))) x e in
+    group_behind n kind text x a.0 (atom_found kind text a.0 a.1) (behind_byte 124 (rest is_blank a.0.1)) refl a.2 (group_found n kind)
+  where
+    group_behind : (n : ℕ) (kind : FieldKind) (text : List ℕ) (x : List Atom × List ℕ) (a : Atom × List ℕ) → ((t : List ℕ) × AtomText kind t a.0 × (text ≡ t ++ a.1)) → (b : Option (List ℕ)) → behind_byte 124 (rest is_blank a.1) ≡ b → alternatives kind (group_at n kind) a b ≡ Ok x
+        → ((text : List ℕ) (x : List Atom × List ℕ) → group_at n kind text ≡ Ok x → (t : List ℕ) × GroupText kind t x.0 × (text ≡ t ++ rest is_blank x.1)) → (t : List ℕ) × GroupText kind t x.0 × (text ≡ t ++ rest is_blank x.1)
+    group_behind n kind text x a f None b e more =
+        let P : List Atom × List ℕ → Type 0 = λ y. (t : List ℕ) × GroupText kind t y.0 × (text ≡ t ++ rest is_blank y.1) in
+        subst P (ok_is (a.0 ∷ [], a.1) x e) (
+          f.0 ++ run is_blank a.1,
+          pad kind (f.0 ++ run is_blank a.1) f.0 (run is_blank a.1) a.0 f.1 (run-passes is_blank a.1) refl,
+          f.2 ∙ ap (λ l. f.0 ++ l) (run-rest is_blank a.1) ∙ sym (append_assoc f.0 (run is_blank a.1) (rest is_blank a.1)),
+        )
+    group_behind n kind text x a f (Some after) b e more =
+        let g = test_ok (has_alternatives kind) fault.Alternative (group_at n kind (rest is_blank after) >>= λ y. Ok (a.0 ∷ y.0, y.1)) x e in
+        let c = bind_ok (group_at n kind (rest is_blank after)) (λ y. Ok (a.0 ∷ y.0, y.1)) x g.1 in
+        let m = more (rest is_blank after) c.0 c.1 in
+        let first : List ℕ = f.0 ++ run is_blank a.1 in
+        let second : List ℕ = run is_blank after ++ m.0 in
+        let P : List Atom × List ℕ → Type 0 = λ y. (t : List ℕ) × GroupText kind t y.0 × (text ≡ t ++ rest is_blank y.1) in
+        let atom = pad kind first f.0 (run is_blank a.1) a.0 f.1 (run-passes is_blank a.1) refl in
+        let left : List ℕ = rest is_blank c.0.1 in
+        let e2 : after ≡ second ++ left = run-rest is_blank after ∙ ap (λ l. run is_blank after ++ l) m.2 ∙ sym (append_assoc (run is_blank after) m.0 left) in
+        let e1 : a.1 ≡ run is_blank a.1 ++ 124 ∷ (second ++ left) = run-rest is_blank a.1 ∙ ap (λ l. run is_blank a.1 ++ l) (behind_found 124 (rest is_blank a.1) after b ∙ ap (λ (l : List ℕ). 124 ∷ l) e2) in
+        let e0 : text ≡ (first ++ 124 ∷ second) ++ left = f.2 ∙ ap (λ l. f.0 ++ l) e1 ∙ sym (append_assoc f.0 (run is_blank a.1) (124 ∷ (second ++ left))) ∙ sym (append_assoc first (124 ∷ second) left) in
+        subst P (ok_is (a.0 ∷ c.0.0, c.0.1) x c.2) (first ++ 124 ∷ second, joined kind first second a.0 c.0.0 atom g.0 (front_blanks kind (run is_blank after) m.0 c.0.0 (run-passes is_blank after) m.1), e0)
+
+-- ---- fields
+
+-- the pieces from a text on
+abbrev Pieces : FieldKind → List ℕ → List (List Atom) → Type 0
+Pieces kind text groups = RelationsText kind text groups
+
+one_piece : (kind : FieldKind) (text : List ℕ) (piece : Option (List Atom)) → PieceText kind text piece → RelationsText kind text (groups_of (piece ∷ []))
+one_piece kind text piece h = (piece ∷ [], h, refl)
+
+-- one more piece in front
+more_pieces : (kind : FieldKind) (first after : List ℕ) (piece : Option (List Atom)) (groups : List (List Atom)) → PieceText kind first piece → RelationsText kind after groups
+    → RelationsText kind (first ++ 44 ∷ after) (put piece groups)
+more_pieces kind first after piece groups h r = go piece r.0 r.1 r.2 h
+  where
+    go : (piece : Option (List Atom)) (pieces : List (Option (List Atom))) → PiecesText kind after pieces → groups ≡ groups_of pieces → PieceText kind first piece → RelationsText kind (first ++ 44 ∷ after) (put piece groups)
+    go piece [] p e h = absurd p
+    go None (other ∷ more) p e h = (None ∷ other ∷ more, (first, after, h, p, refl), e)
+    go (Some group) (other ∷ more) p e h = (Some group ∷ other ∷ more, (first, after, h, p, refl), ap (λ (l : List (List Atom)). group ∷ l) e)
+
+-- no bytes
+empty : (text : List ℕ) → (length text == 0) ≡ true → text ≡ []
+empty [] e = refl
+empty (b ∷ text) e = absurd (omega (arith, eqb-true (length (b ∷ text)) 0 e))
+
+whole : (kind : FieldKind) (text t : List ℕ) (gs : List (List Atom)) → t ≡ text → RelationsText kind t gs → RelationsText kind text gs
+whole kind text t gs e h = let P : List ℕ → Type 0 = λ z. RelationsText kind z gs in subst P e h
+
+-- the end, where nothing is left
+at_end : (kind : FieldKind) (text : List ℕ) (gs : List (List Atom)) → (length (rest is_blank text) == 0) ≡ true → done [] ≡ done gs → RelationsText kind text gs
+at_end kind text gs h e =
+    let P : List (List Atom) → Type 0 = RelationsText kind text in
+    let blank : IsBlank text = ap (λ l. list_all is_blank l) (run-rest is_blank text ∙ ap (λ l. run is_blank text ++ l) (empty (rest is_blank text) h)) ∙ both_blank (run is_blank text) [] (run-passes is_blank text) refl in
+    subst P (ok_is [] gs e) (one_piece kind text None blank)
+
+-- a group, and what stands behind it
+group_then : (n : ℕ) (kind : FieldKind) (text : List ℕ) (gs : List (List Atom)) (a : List Atom × List ℕ) → ((text : List ℕ) (gs : List (List Atom)) → groups_at n kind text ≡ Ok gs → RelationsText kind text gs)
+    → ((t : List ℕ) × GroupText kind t a.0 × (rest is_blank text ≡ t ++ rest is_blank a.1)) → (b : Option (List ℕ)) → behind_byte 44 (rest is_blank a.1) ≡ b → groups_behind (groups_at n kind) a.0 (rest is_blank a.1) b ≡ Ok gs → RelationsText kind text gs
+group_then n kind text gs a more g None b e =
+    let h = guard_ok (length (rest is_blank a.1) == 0) fault.Name (a.0 ∷ []) gs e in
+    let first : List ℕ = run is_blank text ++ g.0 in
+    let P : List (List Atom) → Type 0 = RelationsText kind first in
+    let e0 : text ≡ first = run-rest is_blank text ∙ ap (λ l. run is_blank text ++ l) (g.2 ∙ ap (λ l. g.0 ++ l) (empty (rest is_blank a.1) h.0) ∙ append-nil g.0) in
+    whole kind text first gs (sym e0) (subst P h.1 (one_piece kind first (Some a.0) (front_blanks kind (run is_blank text) g.0 a.0 (run-passes is_blank text) g.1)))
+group_then n kind text gs a more g (Some after) b e =
+    let c = bind_ok (groups_at n kind after) (λ x. Ok (a.0 ∷ x)) gs e in
+    let first : List ℕ = run is_blank text ++ g.0 in
+    let P : List (List Atom) → Type 0 = RelationsText kind (first ++ 44 ∷ after) in
+    let e0 : text ≡ first ++ 44 ∷ after = run-rest is_blank text ∙ ap (λ l. run is_blank text ++ l) (g.2 ∙ ap (λ l. g.0 ++ l) (behind_found 44 (rest is_blank a.1) after b)) ∙ sym (append_assoc (run is_blank text) g.0 (44 ∷ after)) in
+    whole kind text (first ++ 44 ∷ after) gs (sym e0) (subst P (ok_is (a.0 ∷ c.0) gs c.2)
+    (more_pieces kind first after (Some a.0) c.0 (front_blanks kind (run is_blank text) g.0 a.0 (run-passes is_blank text) g.1) (more after c.0 c.1)))
+
+pub groups_found : (n : ℕ) (kind : FieldKind) (text : List ℕ) (gs : List (List Atom)) → groups_at n kind text ≡ Ok gs → RelationsText kind text gs
+groups_found zero kind text gs e = absurd cc
+groups_found (suc n) kind text gs e = from n kind text gs (groups_found n kind) (behind_byte 44 (rest is_blank text)) refl e
+  where
+    from : (n : ℕ) (kind : FieldKind) (text : List ℕ) (gs : List (List Atom)) → ((text : List ℕ) (gs : List (List Atom)) → groups_at n kind text ≡ Ok gs → RelationsText kind text gs)
+        → (b : Option (List ℕ)) → behind_byte 44 (rest is_blank text) ≡ b → groups_from (groups_at n kind) kind (rest is_blank text) b ≡ Ok gs → RelationsText kind text gs
+    from n kind text gs more (Some after) b e =
+        let h : run is_blank text ++ 44 ∷ after ≡ text = sym (run-rest is_blank text ∙ ap (λ l. run is_blank text ++ l) (behind_found 44 (rest is_blank text) after b)) in
+        whole kind text (run is_blank text ++ 44 ∷ after) gs h (more_pieces kind (run is_blank text) after None gs (run-passes is_blank text) (more after gs e))
+    from n kind text gs more None b e = go (length (rest is_blank text) == 0) refl e
+      where
+        go : (u : Bool) → (length (rest is_blank text) == 0) ≡ u
+            → cond u (Ok []) (group_at (length (rest is_blank text) + 1) kind (rest is_blank text) >>= λ group. groups_behind (groups_at n kind) group.0 (rest is_blank group.1) (behind_byte 44 (rest is_blank group.1))) ≡ Ok gs → RelationsText kind text gs
+        go true h e = at_end kind text gs h e
+        go false h e =
+            let a = bind_ok (group_at (length (rest is_blank text) + 1) kind (rest is_blank text)) (λ group. groups_behind (groups_at n kind) group.0 (rest is_blank group.1) (behind_byte 44 (rest is_blank group.1))) gs e in
+            group_then n kind text gs a.0 more (group_found (length (rest is_blank text) + 1) kind (rest is_blank text) a.0 a.1) (behind_byte 44 (rest is_blank a.0.1)) refl a.2
+
+pub if_found : (kind : FieldKind) (body : List ℕ) (r : Result (List (List Atom)) RelationFault) → Gives (λ (x : List (List Atom)). x) r (relations_of kind body) → IfOk r (λ x. RelationsText kind body x)
+if_found kind body (Ok x) h = groups_found (length body + 1) kind body x h
+if_found kind body (Err e) h = tt

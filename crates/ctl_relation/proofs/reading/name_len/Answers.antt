@@ -1,0 +1,12 @@
+use Rattle.std.proofs.Common.{sym, ◌∙◌, arith}
+use Rattle.std.proofs.lemmas.List.Sums.{prefix_len_is}
+use Rattle.ctl_relation.specs.Names.{is_name_byte}
+
+use Rattle.ctl_relation.proofs.reading.name_len.Goals as goal
+
+pub returns-then-not-is_name_byte-clause-len : goal.returns-then-not-is_name_byte-clause-len
+returns-then-not-is_name_byte-clause-len c =
+    sym (prefix_len_is is_name_byte c.args.text.now c.loop-i.i 0 (omega arith) c.loop-i.invariant (λ _. sym c.is_name_byte.ensures ∙ c.if-not-is_name_byte.true))
+
+pub returns-clause-len : goal.returns-clause-len
+returns-clause-len c = sym (prefix_len_is is_name_byte c.args.text.now _ 0 (omega arith) (λ k h. c.loop-i.invariant k (omega arith)) (λ h. absurd (omega arith)))

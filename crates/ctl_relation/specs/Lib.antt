@@ -1,0 +1,12 @@
+pub mod Bytes
+pub mod Names
+pub mod Key
+pub mod KeyLaws
+pub mod Front
+pub mod Version
+pub mod VersionLaws
+pub mod Cut
+pub mod Met
+pub mod Grammar
+pub mod Relations
+pub mod Fault
