@@ -4,8 +4,8 @@ use Rattle.std.specs.Prelude.{◌≢◌, ◌==◌, ◌&&◌, ◌||◌, is_none, 
 use Rattle.std.specs.List.{prefix_len, list_all}
 use Rattle.std.specs.Char.{is_ascii_alphanumeric}
 use Rattle.std.proofs.lemmas.Bool.Decides.{nat_tests}
-use Rattle.ctl_relation.specs.declared.fault.RelationFault.{RelationFault}
-use Rattle.ctl_relation.specs.declared.fault.RelationFault.TheVariants as fault
+use Rattle.ctl_relation.specs.declared.relation_fault.RelationFault.{RelationFault}
+use Rattle.ctl_relation.specs.declared.relation_fault.RelationFault.TheVariants as fault
 use Rattle.ctl_relation.specs.declared.relation.FieldKind.{FieldKind}
 use Rattle.ctl_relation.specs.declared.relation.Atom.{Atom}
 use Rattle.ctl_relation.specs.Version.{fault_of}

@@ -5,8 +5,8 @@ use Rattle.std.specs.List.{prefix_len, list_all}
 use Rattle.std.proofs.lemmas.Bool.Decides.{nat_tests}
 use Rattle.std.proofs.lemmas.List.{take-append-drop}
 use Rattle.std.proofs.lemmas.List.Folds.{list_all-append}
-use Rattle.ctl_relation.specs.declared.fault.RelationFault.{RelationFault}
-use Rattle.ctl_relation.specs.declared.fault.RelationFault.TheVariants as fault
+use Rattle.ctl_relation.specs.declared.relation_fault.RelationFault.{RelationFault}
+use Rattle.ctl_relation.specs.declared.relation_fault.RelationFault.TheVariants as fault
 use Rattle.ctl_relation.specs.declared.relation.Operator.{Operator}
 use Rattle.ctl_relation.specs.declared.relation.FieldKind.{FieldKind}
 use Rattle.ctl_relation.specs.declared.relation.Atom.{Atom}

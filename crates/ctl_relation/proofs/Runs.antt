@@ -3,8 +3,8 @@ use Rattle.std.proofs.Common.{◌≡◌, ◌⊎◌, ℕ, zero, suc, ◌+◌, ◌
 use Rattle.std.specs.Prelude.{◌==◌, not, ◌&&◌, ◌||◌}
 use Rattle.std.specs.List.{prefix_len}
 use Rattle.std.proofs.lemmas.Bool.Decides.{nat_tests}
-use Rattle.ctl_relation.specs.declared.fault.RelationFault.{RelationFault}
-use Rattle.ctl_relation.specs.declared.fault.RelationFault.TheVariants as fault
+use Rattle.ctl_relation.specs.declared.relation_fault.RelationFault.{RelationFault}
+use Rattle.ctl_relation.specs.declared.relation_fault.RelationFault.TheVariants as fault
 use Rattle.ctl_relation.specs.declared.relation.Operator.{Operator}
 use Rattle.ctl_relation.specs.declared.relation.Operator.TheVariants.{Earlier, EarlierOrEqual, Equal, LaterOrEqual, Later}
 use Rattle.ctl_relation.specs.declared.relation.FieldKind.{FieldKind}

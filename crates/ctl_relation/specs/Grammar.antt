@@ -2,8 +2,8 @@
 use Rattle.std.specs.Prelude.{◌≡◌, ◌≢◌, ◌+◌, ℕ, zero, suc, ◌==◌, ◌||◌, ◌&&◌, not, Bool, true, false, List, [], ◌∷◌, length, take, drop, is_none, Option, Some, None, Result, Ok, Err, if◌then◌else◌}
 use Rattle.std.specs.List.{prefix_len, list_all}
 use Rattle.std.specs.Char.{is_ascii_alphanumeric}
-use Rattle.ctl_relation.specs.declared.fault.RelationFault.{RelationFault}
-use Rattle.ctl_relation.specs.declared.fault.RelationFault.TheVariants as fault
+use Rattle.ctl_relation.specs.declared.relation_fault.RelationFault.{RelationFault}
+use Rattle.ctl_relation.specs.declared.relation_fault.RelationFault.TheVariants as fault
 use Rattle.ctl_relation.specs.declared.relation.Operator.{Operator}
 use Rattle.ctl_relation.specs.declared.relation.Operator.TheVariants.{Earlier, EarlierOrEqual, Equal, LaterOrEqual, Later}
 use Rattle.ctl_relation.specs.declared.relation.FieldKind.{FieldKind}

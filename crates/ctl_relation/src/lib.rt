@@ -1,26 +1,28 @@
-//! Versions of Debian packages, their relations, and when an offer meets one.
+//! Names, versions and their order, relation fields, and when an offer meets one (Debian Policy 5.6.12 and 7).
 #![tactic(auto)]
 
 mod bytes;
 mod cut;
-mod fault;
-mod laws;
 mod name;
 mod part;
 mod reading;
 mod relation;
+mod relation_fault;
+mod relation_laws;
+#[cfg(test)]
+mod relation_tests;
 mod version;
+mod version_fault;
+mod version_laws;
+#[cfg(test)]
+mod version_tests;
 
 pub use bytes::Bytes;
-
-#[cfg(test)]
-mod tests;
-
-pub use fault::{RelationFault, VersionFault};
-pub use laws::{
-    equal_versions, fields_have_one_fault, met_by_name, met_counts_add_up, versions_are_ordered,
-};
 pub use name::is_name;
 pub use reading::parse_relations;
 pub use relation::{Atom, FieldKind, Group, Offer, Operator, Relations, Steps};
+pub use relation_fault::RelationFault;
+pub use relation_laws::{fields_have_one_fault, met_by_name, met_counts_add_up};
 pub use version::Version;
+pub use version_fault::VersionFault;
+pub use version_laws::{equal_versions, versions_are_ordered};

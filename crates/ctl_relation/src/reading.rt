@@ -9,13 +9,14 @@ ghost use Rattle.std.specs.Prelude.{List};
 ghost use Rattle.ctl_relation.specs.declared.relation.Atom.{Atom};
 ghost use Rattle.ctl_relation.specs.Relations.{RelationsText};
 ghost use Rattle.ctl_relation.specs.Fault.{IsFault};
-ghost use Rattle.ctl_relation.specs.declared.fault.RelationFault.TheVariants as relation;
+ghost use Rattle.ctl_relation.specs.declared.relation_fault.RelationFault.TheVariants as relation;
 
 use crate::bytes::Bytes;
-use crate::fault::{RelationFault, VersionFault};
 use crate::name::{is_name, is_name_byte};
 use crate::relation::{Atom, FieldKind, Group, Operator, Relations};
+use crate::relation_fault::RelationFault;
 use crate::version::Version;
+use crate::version_fault::VersionFault;
 use std::alloc::Global;
 
 fn is_blank(byte: u8) -> bool

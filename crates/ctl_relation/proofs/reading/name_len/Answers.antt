@@ -1,7 +1,6 @@
 use Rattle.std.proofs.Common.{sym, ◌∙◌, arith}
 use Rattle.std.proofs.lemmas.List.Sums.{prefix_len_is}
 use Rattle.ctl_relation.specs.Names.{is_name_byte}
-
 use Rattle.ctl_relation.proofs.reading.name_len.Goals as goal
 
 pub returns-then-not-is_name_byte-clause-len : goal.returns-then-not-is_name_byte-clause-len

@@ -1,6 +1,5 @@
 use Rattle.std.proofs.Common.{◌≡◌, ℕ, ◌<◌, true, get_or}
 use Rattle.ctl_relation.specs.Names.{is_name_byte}
-
 use Rattle.ctl_relation.proofs.reading.name_len.Given as goal
 
 abbrev pub invariant-loop-i : goal.invariant-loop-i
