@@ -1,0 +1,64 @@
+-- The fields of a stanza's lines.
+use Rattle.std.specs.Prelude.{ℕ, ◌+◌, ◌==◌, Bool, true, suc, List, [], ◌∷◌, ◌++◌, length, take, drop, codes, Option, None, Some, if◌then◌else◌}
+use Rattle.std.specs.List.{prefix_len}
+use Rattle.std.specs.Str.{str_eq_ignore_ascii_case}
+use Rattle.ctl_stanza.specs.declared.line_kind.LineKind.{LineKind}
+use Rattle.ctl_stanza.specs.declared.line_kind.LineKind.TheVariants.{Blank, Field, Continuation, Faulty}
+use Rattle.ctl_stanza.specs.Lines.{is_blank_byte}
+use Rattle.ctl_stanza.specs.LineKind.{kind_of}
+
+-- without the blanks at the front
+abbrev pub strip_front : List ℕ → List ℕ
+strip_front text = drop (prefix_len is_blank_byte text) text
+
+-- a byte before what is left of a text whose end is stripped
+abbrev pub before_stripped : ℕ → List ℕ → List ℕ
+before_stripped b [] = if is_blank_byte b then [] else b ∷ []
+before_stripped b (c ∷ text) = b ∷ c ∷ text
+
+-- without the blanks at the end
+abbrev pub strip_end : List ℕ → List ℕ
+strip_end [] = []
+strip_end (b ∷ text) = before_stripped b (strip_end text)
+
+-- the value of a field line whose name has n bytes: blanks round it don't belong to it
+abbrev pub value_of : ℕ → List ℕ → List ℕ
+value_of n line = strip_end (strip_front (drop (n + 1) line))
+
+-- a field: the index of its line in its stanza, its name, its body
+pub record FieldText : Type 0 where
+  pub line : ℕ
+  pub name : List ℕ
+  pub body : List ℕ
+
+-- the field that the line at an index begins, by the kind of the line
+abbrev pub field_at : ℕ → LineKind → List ℕ → List FieldText
+field_at i (Field n) line = record { line = i; name = take n line; body = value_of n line } ∷ []
+field_at i Blank line = []
+field_at i Continuation line = []
+field_at i Faulty line = []
+
+-- the fields of lines, whose indices count from i
+abbrev pub fields_from : ℕ → List (List ℕ) → List FieldText
+fields_from i [] = []
+fields_from i (line ∷ lines) = field_at i (kind_of line) line ++ fields_from (suc i) lines
+
+-- the fields of a stanza's lines
+abbrev pub fields_of_lines : List (List ℕ) → List FieldText
+fields_of_lines lines = fields_from 0 lines
+
+-- names of fields are equal without regard to ASCII case (Debian Policy 5.1)
+abbrev pub is_same_name : List ℕ → List ℕ → Bool
+is_same_name name other = str_eq_ignore_ascii_case name other
+
+-- the body of the first field of a name
+abbrev pub body_named : List ℕ → List FieldText → Option (List ℕ)
+body_named name [] = None
+body_named name (field ∷ fields) = if is_same_name field.name name then Some field.body else body_named name fields
+
+-- the names of the fields that every stanza has
+abbrev pub package_name : List ℕ
+package_name = codes "Package"
+
+abbrev pub version_name : List ℕ
+version_name = codes "Version"

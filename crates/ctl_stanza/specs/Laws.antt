@@ -1,0 +1,134 @@
+-- The faults of a text, each at the index of its line, told apart from how the text is read.
+use Rattle.std.specs.Prelude.{◌≡◌, ◌+◌, ◌<◌, ◌≤◌, ℕ, Bool, true, false, suc, not, ◌⊎◌, List, [], length, take, drop, map, filter, flat_map, slice_index_or, Contains, Option, Some, Result, Ok, Err}
+use Rattle.std.specs.List.{after_last}
+use Rattle.ctl_relation.specs.Names.{is_name}
+use Rattle.ctl_stanza.specs.declared.line_kind.LineKind.TheVariants.{Field, Continuation, Faulty}
+use Rattle.ctl_stanza.specs.declared.list_kind.ListKind.{ListKind}
+use Rattle.ctl_stanza.specs.declared.list_kind.ListKind.TheVariants.{Packages}
+use Rattle.ctl_stanza.specs.declared.fault.TextFault.{TextFault}
+use Rattle.ctl_stanza.specs.declared.fault.Cause.{Cause}
+use Rattle.ctl_stanza.specs.declared.fault.Cause.TheVariants as causes
+use Rattle.ctl_stanza.specs.Lines.{lines_of, text_of_lines, max_line, is_blank}
+use Rattle.ctl_stanza.specs.LineKind.{kind_of}
+use Rattle.ctl_stanza.specs.Fields.{FieldText, fields_of_lines, body_named, is_same_name, package_name, version_name}
+use Rattle.ctl_stanza.specs.Content.{Content}
+use Rattle.ctl_stanza.specs.Faults.{number_of}
+use Rattle.ctl_stanza.specs.Text.{read_text}
+
+abbrev pub line_at : List (List ℕ) → ℕ → List ℕ
+line_at lines i = slice_index_or lines i []
+
+-- ---- faulty lines
+
+-- an earlier line is a field line of this name
+pub record IsNameGiven (before : List (List ℕ)) (name : List ℕ) : Type 0 where
+  pub earlier : List ℕ
+  pub stands : Contains before earlier
+  pub bytes : ℕ
+  pub is_field : kind_of earlier ≡ Field bytes
+  pub same : is_same_name name (take bytes earlier) ≡ true
+
+-- a line is a field line whose name stands in an earlier line
+pub record IsFieldTwice (before : List (List ℕ)) (line : List ℕ) : Type 0 where
+  pub bytes : ℕ
+  pub is_field : kind_of line ≡ Field bytes
+  pub given : IsNameGiven before (take bytes line)
+
+-- What is wrong with a line, by the lines before it in its stanza: it is too long; it is neither blank nor a
+-- field line; it gives a field that was given. One line can have more than one fault.
+abbrev pub IsFaultyLine : List (List ℕ) → List ℕ → Cause → Type 0
+IsFaultyLine before line causes.TooLong = max_line < length line
+IsFaultyLine before line causes.Line = (kind_of line ≡ Continuation) ⊎ (kind_of line ≡ Faulty)
+IsFaultyLine before line causes.FieldTwice = IsFieldTwice before line
+IsFaultyLine before line causes.Missing = ⊥
+IsFaultyLine before line causes.Name = ⊥
+IsFaultyLine before line causes.Memory = ⊥
+
+-- ---- stanzas without a faulty line
+
+abbrev pub HasNoFaultyLine : List (List ℕ) → Type 0
+HasNoFaultyLine stanza = (i : ℕ) (cause : Cause) → i < length stanza → IsFaultyLine (take i stanza) (line_at stanza i) cause → ⊥
+
+-- a field of this name is absent, or empty
+abbrev pub LacksBody : List (List ℕ) → List ℕ → Type 0
+LacksBody stanza name = (body : List ℕ) → body_named name (fields_of_lines stanza) ≡ Some body → body ≡ []
+
+-- what every stanza of a list has, and this one lacks
+abbrev pub LacksField : ListKind → List (List ℕ) → Type 0
+LacksField Packages stanza = LacksBody stanza package_name ⊎ LacksBody stanza version_name
+
+-- the field that begins at the line at i is Package, and its body is no name
+pub record HasBadName (stanza : List (List ℕ)) (i : ℕ) : Type 0 where
+  pub field : FieldText
+  pub stands : Contains (fields_of_lines stanza) field
+  pub line : field.line ≡ i
+  pub is_package : is_same_name field.name package_name ≡ true
+  pub no_name : is_name field.body ≡ false
+
+-- what is wrong with the line at i of a stanza that has no faulty line
+abbrev pub HasWholeFault : ListKind → List (List ℕ) → ℕ → Cause → Type 0
+HasWholeFault kind stanza i causes.TooLong = ⊥
+HasWholeFault kind stanza i causes.Line = ⊥
+HasWholeFault kind stanza i causes.FieldTwice = ⊥
+HasWholeFault kind stanza i causes.Missing = (i ≡ 0) × LacksField kind stanza
+HasWholeFault kind stanza i causes.Name = HasBadName stanza i
+HasWholeFault kind stanza i causes.Memory = ⊥
+
+-- ---- the lines of a text
+
+-- the lines before the line at i, back to the last blank one
+abbrev pub lines_before : List (List ℕ) → ℕ → List (List ℕ)
+lines_before lines i = after_last is_blank (take i lines)
+
+-- a stanza stands at the line at start: a maximal run of lines that aren't blank
+pub record IsStanzaAt (lines : List (List ℕ)) (start : ℕ) (stanza : List (List ℕ)) : Type 0 where
+  pub some : 0 < length stanza
+  pub within : start + length stanza ≤ length lines
+  pub lines_are : take (length stanza) (drop start lines) ≡ stanza
+  pub no_blank : (i : ℕ) → start ≤ i → i < start + length stanza → is_blank (line_at lines i) ≡ false
+  pub begins : (i : ℕ) → i + 1 ≡ start → is_blank (line_at lines i) ≡ true
+  pub ends : start + length stanza < length lines → is_blank (line_at lines (start + length stanza)) ≡ true
+
+-- the line at i stands in a stanza without a faulty line, and has this fault there
+pub record HasStanzaFault (kind : ListKind) (lines : List (List ℕ)) (i : ℕ) (cause : Cause) : Type 0 where
+  pub start : ℕ
+  pub stanza : List (List ℕ)
+  pub stands : IsStanzaAt lines start stanza
+  pub good_lines : HasNoFaultyLine stanza
+  pub index : ℕ
+  pub line : start + index ≡ i
+  pub fault : HasWholeFault kind stanza index cause
+
+-- The line at i has this fault: it is faulty, or it stands in a stanza without a faulty line that has this fault there.
+abbrev pub HasFault : ListKind → List (List ℕ) → ℕ → Cause → Type 0
+HasFault kind lines i cause =
+    ((i < length lines) × IsFaultyLine (lines_before lines i) (line_at lines i) cause) ⊎ HasStanzaFault kind lines i cause
+
+-- ---- the laws
+
+abbrev pub HasNoFault : ListKind → List (List ℕ) → Type 0
+HasNoFault kind lines = (i : ℕ) (cause : Cause) → HasFault kind lines i cause → ⊥
+
+-- A fault that is told is one, where lines count from n. No line before it has a fault, and on its line none has a
+-- lower number.
+pub record IsLeastFault (kind : ListKind) (n : ℕ) (lines : List (List ℕ)) (fault : TextFault) : Type 0 where
+  pub index : ℕ
+  pub line : fault.line ≡ n + index
+  pub sound : HasFault kind lines index fault.cause
+  pub least : (i : ℕ) (cause : Cause) → HasFault kind lines i cause → index ≤ i
+  pub lowest : (cause : Cause) → HasFault kind lines index cause → number_of fault.cause ≤ number_of cause
+
+-- A text that is read has no fault; of one that isn't its least fault is told.
+pub record ReadsOrTells (kind : ListKind) (n : ℕ) (text : List ℕ) : Type 0 where
+  pub read : (contents : List Content) → read_text kind n text ≡ Ok contents → HasNoFault kind (lines_of text)
+  pub told : (fault : TextFault) → read_text kind n text ≡ Err fault → IsLeastFault kind n (lines_of text) fault
+
+-- the lines that aren't blank
+abbrev pub other_lines : List (List ℕ) → List (List ℕ)
+other_lines lines = filter (λ line. not (is_blank line)) lines
+
+-- The texts of the stanzas, joined, are the lines of the text that aren't blank, each with a newline: nothing is
+-- lost or made.
+abbrev pub KeepsLines : ListKind → ℕ → List ℕ → Type 0
+KeepsLines kind n text = (contents : List Content) → read_text kind n text ≡ Ok contents
+    → flat_map (λ content. content.text) contents ≡ text_of_lines (other_lines (lines_of text))

@@ -1,0 +1,11 @@
+pub use Rattle.ctl_relation.specs.Bytes
+pub use Rattle.ctl_relation.specs.Names
+pub mod Lines
+pub mod LineKind
+pub mod Fields
+pub mod Content
+pub mod Faults
+pub mod Text
+pub mod Laws
+pub mod NamesGiven
+pub mod Spans

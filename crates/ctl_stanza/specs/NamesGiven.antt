@@ -1,0 +1,16 @@
+-- The names of fields that a stanza has given so far.
+use Rattle.std.specs.Prelude.{◌≡◌, ℕ, Bool, ◌||◌, List}
+use Rattle.std.specs.List.{list_any}
+use Rattle.std.specs.Str.{bytes_eq, str_to_ascii_lowercase}
+use Rattle.ctl_stanza.specs.declared.names_given.NamesGiven.{NamesGiven}
+use Rattle.ctl_stanza.specs.Fields.{is_same_name}
+
+-- whether a name was given, without regard to ASCII case
+abbrev pub holds : NamesGiven → List ℕ → Bool
+holds names name =
+    list_any (λ other. is_same_name name other.now) names.first.items
+    || list_any (λ other. bytes_eq (str_to_ascii_lowercase name) other.items) names.others.keys
+
+-- one name more is given
+abbrev pub Adds : NamesGiven → NamesGiven → List ℕ → Type 0
+Adds old new name = (other : List ℕ) → holds new other ≡ (is_same_name other name || holds old other)

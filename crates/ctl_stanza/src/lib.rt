@@ -1,0 +1,23 @@
+//! Control text: stanzas and their fields (Debian Policy 5.1, deb822(5)).
+#![tactic(auto)]
+
+mod checks;
+mod fault;
+mod fields;
+mod laws;
+mod line_faults;
+mod line_kind;
+mod lines;
+mod list_kind;
+mod names_given;
+mod reading;
+mod stanza;
+#[cfg(test)]
+mod tests;
+
+pub use fault::{Cause, TextFault};
+pub use laws::{stanzas_keep_lines, told_fault_is_least};
+pub use lines::MAX_LINE;
+pub use list_kind::ListKind;
+pub use reading::read_stanzas;
+pub use stanza::{Fields, Stanza};

@@ -1,0 +1,47 @@
+//! Cutting a text into lines.
+
+ghost use Rattle.std.specs.Prelude.{◌≡◌, ◌<◌, ◌≤◌, ◌+◌, ◌∷◌, ◌++◌, [], ℕ, List, length, IfSome, IfNone};
+ghost use Rattle.ctl_relation.specs.Bytes.{newline};
+ghost use Rattle.ctl_stanza.specs.Lines.{lines_of, is_too_long, is_blank_byte, is_blank};
+
+use bstr::ByteSlice;
+
+/// The most bytes of a line, its newline not counted. A longer line is a fault.
+pub const MAX_LINE: usize = 1_048_576;
+
+/// Whether a line has more bytes than a line may have.
+pub(crate) fn is_too_long(line: &[u8]) -> bool
+    ensures { result ≡ is_too_long line.now }
+{
+    line.len() > MAX_LINE
+}
+
+pub(crate) fn is_blank_byte(byte: u8) -> bool
+    ensures { result ≡ is_blank_byte byte }
+{
+    byte == b' ' || byte == b'\t'
+}
+
+/// Whether a line has only spaces and tabs, or nothing.
+pub(crate) fn is_blank(line: &[u8]) -> bool
+    ensures { result ≡ is_blank line.now }
+{
+    line.iter().all(|byte| is_blank_byte(*byte))
+}
+
+/// The first line of a text, without its newline, and what stands behind it. None where the text is empty.
+pub(crate) fn take_line(text: &[u8]) -> Option<(&[u8], &[u8])>
+    ensures lines { IfSome result (λ cut. lines_of text.now ≡ cut.0.now ∷ lines_of cut.1.now) }
+    ensures one_line { IfSome result (λ cut. (more : List ℕ) → lines_of (cut.0.now ++ newline ∷ more) ≡ cut.0.now ∷ lines_of more) }
+    ensures shorter { IfSome result (λ cut. length cut.0.now + length cut.1.now ≤ length text.now) }
+    ensures less { IfSome result (λ cut. length cut.1.now < length text.now) }
+    ensures none { IfNone result (text.now ≡ []) }
+{
+    if text.is_empty() {
+        return None;
+    }
+    match text.find_byte(b'\n') {
+        Some(at) => Some((&text[..at], &text[at + 1..])),
+        None => Some((text, &text[text.len()..])),
+    }
+}

@@ -1,0 +1,8 @@
+//! Kinds of lists.
+
+/// What a list holds.
+#[derive(Clone, Copy, Debug, PartialEq, Eq)]
+pub enum ListKind {
+    /// Packages that can be had, as apt fetches such lists. Each stanza has a package and a version.
+    Packages,
+}

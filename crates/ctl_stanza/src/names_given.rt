@@ -1,0 +1,65 @@
+//! The names of fields that a stanza has given so far.
+
+ghost use Rattle.std.specs.Prelude.{◌≡◌, not, List, ℕ, false, IfOk, OnOk};
+ghost use Rattle.std.specs.List.{list_any};
+ghost use Rattle.ctl_stanza.specs.Fields.{is_same_name};
+ghost use Rattle.ctl_stanza.specs.NamesGiven.{holds, Adds};
+
+use crate::fields::is_same_name;
+use std::alloc::{AllocError, Global};
+use std::collections::BTreeSet;
+
+/// How many names are kept as they stand in the text, and looked through one by one.
+const FIRST_NAMES: usize = 16;
+
+/// Names of fields. Most stanzas have few, which are looked through one by one.
+#[derive(Drop)]
+pub(crate) struct NamesGiven<'a> {
+    first: Vec<&'a [u8]>,
+    // The names after the first ones, in lower case.
+    others: BTreeSet<Vec<u8>>,
+}
+
+// Whether a name is one of these.
+fn is_among(names: &[&[u8]], name: &[u8]) -> bool
+    ensures { result ≡ list_any (λ other. is_same_name name.now other.now) names.now }
+{
+    names.iter().any(|other| is_same_name(name, *other))
+}
+
+impl<'a> NamesGiven<'a> {
+    /// No name.
+    pub(crate) fn new(alloc: Global) -> NamesGiven<'a>
+        ensures { (other : List ℕ) → holds result other ≡ false }
+    {
+        NamesGiven {
+            first: Vec::new(alloc),
+            others: BTreeSet::new(alloc),
+        }
+    }
+
+    /// Forgets all names.
+    pub(crate) fn clear(&mut self)
+        ensures { (other : List ℕ) → holds self.new other ≡ false }
+    {
+        self.first.clear();
+        self.others.clear();
+    }
+
+    /// Adds a name. Whether it is new, without regard to ASCII case.
+    pub(crate) fn add(&mut self, alloc: Global, name: &'a [u8]) -> Result<bool, AllocError>
+        ensures added { IfOk result (λ added. added ≡ not (holds self.old name.now)) }
+        ensures held { OnOk result (Adds self.old self.new name.now) }
+    {
+        if is_among(&self.first, name) {
+            return Ok(false);
+        }
+        if self.others.is_empty() && self.first.len() < FIRST_NAMES {
+            self.first.push(name)?;
+            return Ok(true);
+        }
+        let folded = name.to_ascii_lowercase(alloc)?;
+        let added = self.others.insert(folded)?;
+        Ok(added)
+    }
+}

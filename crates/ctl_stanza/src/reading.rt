@@ -1,0 +1,106 @@
+//! A text to its stanzas.
+
+ghost use Rattle.std.specs.Prelude.{◌≡◌, ◌≢◌, ◌≤◌, ◌<◌, ◌+◌, ◌^◌, ◌∷◌, ◌++◌, ℕ, length, map, None, Some, Ok, IfOk, IfErr, OnOk};
+ghost use Rattle.ctl_stanza.specs.Lines.{lines_of, lent_lines, AreLines};
+ghost use Rattle.ctl_stanza.specs.Faults.{IsMemoryAtZero, Tells};
+ghost use Rattle.ctl_stanza.specs.Text.{IsFirstPiece, read_text, piece_content, piece_fault, piece, Reads};
+
+use crate::fault::TextFault;
+use crate::line_faults::first_fault;
+use crate::lines::{is_blank, take_line};
+use crate::list_kind::ListKind;
+use crate::names_given::NamesGiven;
+use crate::stanza::{Stanza, read_stanza};
+use std::alloc::{AllocError, Global};
+
+// Takes the lines of the first piece of a text: one blank line, or all lines up to the next one. What stands behind
+// them is returned.
+fn take_piece<'a>(lines: &mut Vec<&'a [u8]>, text: &'a [u8]) -> Result<&'a [u8], AllocError>
+    requires { 0 < length text.now }
+    ensures some { OnOk result (0 < length lines.new.items) }
+    ensures within { IfOk result (λ behind. length lines.new.items + length behind.now ≤ length text.now) }
+    ensures no_newline { OnOk result (AreLines (lent_lines lines.new.items)) }
+    ensures pieces { IfOk result (λ behind. IsFirstPiece (lines_of text.now) (lent_lines lines.new.items) (lines_of behind.now)) }
+{
+    lines.clear();
+    let Some((first, behind)) = take_line(text) else {
+        return Ok(text);
+    };
+    lines.push(first)?;
+    if is_blank(first) {
+        return Ok(behind);
+    }
+    let mut left = behind;
+    'lines: loop {
+        let Some((line, behind)) = take_line(left) else {
+            return Ok(left);
+        };
+        if is_blank(line) {
+            return Ok(left);
+        }
+        lines.push(line)?;
+        left = behind;
+    }
+}
+
+// Reads a piece: adds its stanza, if it is one.
+fn read_piece<'a>(
+    alloc: Global,
+    stanzas: &mut Vec<Stanza>,
+    names: &mut NamesGiven<'a>,
+    lines: &[&'a [u8]],
+    first_line: u64,
+    kind: ListKind,
+) -> Result<(), TextFault>
+    requires lines { first_line + length lines.now < 2 ^ 64 }
+    requires some { 0 < length lines.now }
+    requires no_newline { AreLines (lent_lines lines.now) }
+    ensures stanzas { OnOk result (stanzas.new.items ≡ stanzas.old.items ++ piece_content kind (lent_lines lines.now)) }
+    ensures whole { OnOk result (piece_fault kind (piece first_line (lent_lines lines.now)) ≡ None) }
+    ensures fault { IfErr result (Tells (piece_fault kind (piece first_line (lent_lines lines.now)))) }
+    ensures memory { IfErr result IsMemoryAtZero }
+{
+    if let Some(fault) = first_fault(alloc, names, lines, first_line)? {
+        return Err(fault);
+    }
+    if is_blank(lines[0]) {
+        return Ok(());
+    }
+    let stanza = read_stanza(alloc, lines, first_line, kind)?;
+    stanzas.push(stanza)?;
+    Ok(())
+}
+
+/// The stanzas of a control text whose lines count from `first_line`, or its fault.
+///
+/// A line ends with a newline, and a last line without one counts if it isn't empty. Lines of spaces and tabs alone, or
+/// of nothing, part stanzas. Each other line is a field line, `Name: value`; continuation lines are refused. A stanza
+/// has a `Package` that is a name, and a `Version` that isn't empty.
+///
+/// # Errors
+///
+/// The fault of the least line, and there the one with the lowest number: see [`Cause`](crate::Cause). Where memory runs out the cause is
+/// [`Cause::Memory`](crate::Cause::Memory) and the line is 0; so it is for a stanza of 2^32 bytes or more.
+pub fn read_stanzas(
+    alloc: Global,
+    text: &[u8],
+    first_line: u64,
+    kind: ListKind,
+) -> Result<Vec<Stanza>, TextFault>
+    requires lines { first_line + length text.now < 2 ^ 64 }
+    ensures read { Reads result (read_text kind first_line text.now) }
+    ensures memory { IfErr result IsMemoryAtZero }
+{
+    let mut stanzas = Vec::new(alloc);
+    let mut names = NamesGiven::new(alloc);
+    let mut lines: Vec<&[u8]> = Vec::new(alloc);
+    let mut left = text;
+    let mut line = first_line;
+    'pieces: while !left.is_empty() {
+        let behind = take_piece(&mut lines, left)?;
+        read_piece(alloc, &mut stanzas, &mut names, &lines, line, kind)?;
+        line += lines.len() as u64;
+        left = behind;
+    }
+    Ok(stanzas)
+}
