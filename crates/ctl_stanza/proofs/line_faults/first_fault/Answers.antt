@@ -1,0 +1,42 @@
+use Rattle.std.proofs.Common.{◌≡◌, ◌∙◌, ◌<◌, ◌+◌, ◌||◌, ℕ, List, [], length, take, Bor, sym, ap, ap₂, refl, arith}
+use Rattle.std.proofs.lemmas.List.{get_or-map, length-map}
+use Rattle.ctl_stanza.specs.Lines.{lent_lines}
+use Rattle.ctl_stanza.specs.LineKind.{kind_of}
+use Rattle.ctl_stanza.specs.Faults.{gives_name}
+use Rattle.ctl_stanza.proofs.FaultLemmas.{cause-is, cause-long, turn-fault, turn-good, has_name-next}
+use Rattle.ctl_stanza.proofs.line_faults.first_fault.Goals as goal
+
+abbrev now : Bor (List ℕ) → List ℕ
+now x = x.now
+
+pub returns-then-is_too_long : goal.returns-then-is_too_long
+returns-then-is_too_long c =
+    let lines = lent_lines c.args.lines.now in
+    let i = c.loop-i.i in
+    let lt : i < length lines = omega (arith, length-map c.args.lines.now now) in
+    let here = get_or-map now c.args.lines.now i _ [] c.loop-i-test.true in
+    sym (c.loop-i.invariant.told ∙ turn-fault lines (c.args.first_line + i) i _ lt (cause-long lines i _ here (sym c.is_too_long.ensures ∙ c.if-is_too_long.true)))
+
+pub returns-in-Some : goal.returns-in-Some
+returns-in-Some c =
+    let lines = lent_lines c.args.lines.now in
+    let i = c.loop-i.i in
+    let lt : i < length lines = omega (arith, length-map c.args.lines.now now) in
+    let here = get_or-map now c.args.lines.now i _ [] c.loop-i-test.true in
+    let cause = cause-is lines _ i _ _ _ lt c.loop-i.invariant.names here c.kind_of-kind.ensures.kind (sym c.is_too_long.ensures ∙ c.if-is_too_long.false) c.in_ok-cause.ensures.cause in
+    sym (c.loop-i.invariant.told ∙ turn-fault lines (c.args.first_line + i) i c.in-Some.cause lt (sym cause ∙ c.in-Some.is))
+
+pub loop-i-preserved : goal.loop-i-preserved
+loop-i-preserved c =
+    let lines = lent_lines c.args.lines.now in
+    let i = c.loop-i.i in
+    let lt : i < length lines = omega (arith, length-map c.args.lines.now now) in
+    let here = get_or-map now c.args.lines.now i _ [] c.loop-i-test.true in
+    let kind = c.kind_of-kind.ensures.kind ∙ ap kind_of (sym here) in
+    let cause = cause-is lines _ i _ _ _ lt c.loop-i.invariant.names here c.kind_of-kind.ensures.kind (sym c.is_too_long.ensures ∙ c.if-is_too_long.false) c.in_ok-cause.ensures.cause in
+    let same : c.args.first_line + (i + 1) ≡ c.args.first_line + i + 1 = omega arith in
+    record {
+      names = λ other. c.in_ok-cause.ensures.names c.in_default.is other
+          ∙ ap₂ ◌||◌ (ap₂ (λ k l. gives_name k l other) kind (sym here)) (c.loop-i.invariant.names other) ∙ sym (has_name-next lines i (i + 1) other refl lt);
+      told = c.loop-i.invariant.told ∙ turn-good lines (c.args.first_line + i) (c.args.first_line + (i + 1)) i (i + 1) refl same lt (sym cause ∙ c.in_default.is);
+    }
