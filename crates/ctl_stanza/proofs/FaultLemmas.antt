@@ -11,8 +11,10 @@ use Rattle.ctl_stanza.specs.declared.fault.Cause.{Cause}
 use Rattle.ctl_stanza.specs.declared.fault.Cause.TheVariants as causes
 use Rattle.ctl_stanza.specs.Lines.{is_too_long}
 use Rattle.ctl_stanza.specs.LineKind.{kind_of}
-use Rattle.ctl_stanza.specs.Fields.{is_same_name}
-use Rattle.ctl_stanza.specs.Faults.{name_in, names_of, has_name, gives_name, cause_of, cause_with, fault_or, first_fault}
+use Rattle.ctl_stanza.specs.Fields.{FieldText, is_same_name, package_name}
+use Rattle.ctl_relation.specs.Names.{is_name}
+use Rattle.ctl_stanza.specs.declared.list_kind.ListKind.{ListKind}
+use Rattle.ctl_stanza.specs.Faults.{name_in, names_of, has_name, gives_name, cause_of, cause_with, fault_or, first_fault, field_cause, first_wrong, is_missing, whole_fault}
 
 pub names_of-append : (xs ys : List (List ℕ)) → names_of (xs ++ ys) ≡ names_of xs ++ names_of ys
 names_of-append [] ys = refl
@@ -88,3 +90,50 @@ pub turn-good : (ls : List (List ℕ)) (m n i j : ℕ) → j ≡ i + 1 → n ≡
     → first_fault m (take i ls) (drop i ls) ≡ first_fault n (take j ls) (drop j ls)
 turn-good ls m n i j e f lt none =
     fault-here ls m n i j e f lt ∙ ap (λ x. fault_or m x (first_fault n (take j ls) (drop j ls))) none
+
+-- ---- no line and no field has want of memory for its fault
+
+abbrev pub NoMemory : Option TextFault → Type 0
+NoMemory None = Unit {0}
+NoMemory (Some fault) = fault.cause ≡ causes.Memory → ⊥
+
+abbrev NoMemoryCause : Option Cause → Type 0
+NoMemoryCause None = Unit {0}
+NoMemoryCause (Some cause) = cause ≡ causes.Memory → ⊥
+
+cond-keeps : {A : Type 0} (P : A → Type 0) (b : Bool) (x y : A) → P x → P y → P (cond b x y)
+cond-keeps P true x y p q = p
+cond-keeps P false x y p q = q
+
+fault_or-memory : (n : ℕ) (o : Option Cause) (later : Option TextFault) → NoMemoryCause o → NoMemory later → NoMemory (fault_or n o later)
+fault_or-memory n None later none rest = rest
+fault_or-memory n (Some cause) later none rest = none
+
+cause_with-memory : (given : List ℕ → Bool) (line : List ℕ) (kind : LineKind) → NoMemoryCause (cause_with given line kind)
+cause_with-memory given line (Field n) = cond-keeps NoMemoryCause (given (take n line)) (Some causes.FieldTwice) None (λ e. cc) tt
+cause_with-memory given line Blank = tt
+cause_with-memory given line Continuation = λ e. cc
+cause_with-memory given line Faulty = λ e. cc
+
+pub first_fault-memory : (n : ℕ) (before lines : List (List ℕ)) → NoMemory (first_fault n before lines)
+first_fault-memory n before [] = tt
+first_fault-memory n before (line ∷ lines) =
+    fault_or-memory n (cause_of before line) _
+      (cond-keeps NoMemoryCause (is_too_long line) (Some causes.TooLong) _ (λ e. cc) (cause_with-memory (has_name (names_of before)) line (kind_of line)))
+      (first_fault-memory (suc n) (before ++ line ∷ []) lines)
+
+first_wrong-memory : (n : ℕ) (fields : List FieldText) → NoMemory (first_wrong n fields)
+first_wrong-memory n [] = tt
+first_wrong-memory n (field ∷ fields) =
+    fault_or-memory (n + field.line) (field_cause field.name field.body) _
+      (cond-keeps NoMemoryCause (is_same_name field.name package_name) _ None (cond-keeps NoMemoryCause (is_name field.body) None (Some causes.Name) tt (λ e. cc)) tt)
+      (first_wrong-memory n fields)
+
+pub whole_fault-memory : (kind : ListKind) (n : ℕ) (fields : List FieldText) → NoMemory (whole_fault kind n fields)
+whole_fault-memory kind n fields =
+    cond-keeps NoMemory (is_missing kind fields) (Some (record { line = n; cause = causes.Missing })) (first_wrong n fields) (λ e. cc) (first_wrong-memory n fields)
+
+-- so it is told where it stands
+pub never-memory : (fault : TextFault) (found : Option TextFault) → NoMemory found → found ≡ Some fault → fault.cause ≡ causes.Memory → fault.line ≡ 0
+never-memory fault None none e memory = absurd (cc)
+never-memory fault (Some other) none e memory = absurd (none (let same : other ≡ fault = cc in ap (λ (f : TextFault). f.cause) same ∙ memory))
