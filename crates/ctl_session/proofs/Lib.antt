@@ -1,0 +1,11 @@
+pub mod Written
+pub mod LineLemmas
+pub mod ScriptLemmas
+pub mod WholeLemmas
+pub mod ReadingLemmas
+pub mod CommandLemmas
+pub mod RunLemmas
+pub mod WordLemmas
+pub mod PerformLemmas
+pub mod NameLemmas
+pub mod OneOutcomeLemmas

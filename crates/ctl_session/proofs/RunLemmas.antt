@@ -1,0 +1,252 @@
+-- A run, command by command.
+use Rattle.std.proofs.Common.{◌≡◌, ℕ, ◌+◌, List, [], ◌∷◌, ◌++◌, Option, None, Some, Bool, true, false, length, refl, sym, ◌∙◌, ap, arith, subst, append_assoc, append-nil, zero-add, take, if◌then◌else◌}
+use Rattle.std.specs.Io.KnownBytes.{Consumes, IsAtEnd, Appends, prepend_known}
+use Rattle.std.proofs.KnownBytes.{Consumes-trans, Appends-trans, Appends-nil}
+use Rattle.std.proofs.lemmas.Bool.{false≢true}
+use Rattle.ctl_stanza.specs.Lines.{lines_of}
+use Rattle.ctl_session.specs.Streams.{WritesPart}
+use Rattle.ctl_session.specs.Script.{Command, commands_from, commands_of, commands_in, ended_of, whole_lines_of, whole_commands_in}
+use Rattle.ctl_session.specs.LineReading.{IsPast}
+use Rattle.ctl_session.specs.Reading.{ReadsNone, ReadsCommand, StopsReading, WholeLines, Describes}
+use Rattle.ctl_session.specs.State.{State}
+use Rattle.ctl_session.specs.Outcome.{Outcome, Refused, Answered, Changed, text_of, text_of_all, state_after, state_after_all, accepted_in, refused_in}
+use Rattle.ctl_session.specs.Effect.{MayCome}
+use Rattle.ctl_session.specs.Run.{Runs, Ran, StoppedInWrite, Stopped}
+use Rattle.ctl_session.specs.declared.script.CommandRead.{CommandRead}
+use Rattle.ctl_session.specs.declared.fault.Fault.{Fault}
+use Rattle.ctl_session.specs.declared.fault.ReadingFault.{ReadingFault}
+use Rattle.ctl_session.specs.declared.fault.ReadingFault.TheVariants.{ReadFailed, TooManyLines}
+use Rattle.ctl_session.specs.Faults.{run_fault}
+use Rattle.ctl_session.proofs.WholeLemmas.{whole_none, whole_append, whole_lines_of-text, lines_of-text}
+use Rattle.ctl_session.proofs.ReadingLemmas.{is_true}
+
+pub runs_more : (state : State) (commands : List Command) (outcomes : List Outcome) (command : Command) (outcome : Outcome) → Runs state commands outcomes →
+    MayCome (state_after_all state outcomes) command outcome → Runs state (commands ++ command ∷ []) (outcomes ++ outcome ∷ [])
+runs_more state [] [] command outcome runs may = (may, tt)
+runs_more state [] (o ∷ outcomes) command outcome runs may = absurd runs
+runs_more state (c ∷ commands) [] command outcome runs may = absurd runs
+runs_more state (c ∷ commands) (o ∷ outcomes) command outcome runs may = (runs.0, runs_more (state_after state o) commands outcomes command outcome runs.1 may)
+
+pub text_more : (outcomes : List Outcome) (outcome : Outcome) → text_of_all (outcomes ++ outcome ∷ []) ≡ text_of_all outcomes ++ text_of outcome
+text_more [] outcome = append-nil (text_of outcome)
+text_more (o ∷ outcomes) outcome = ap (λ t. text_of o ++ t) (text_more outcomes outcome) ∙ sym (append_assoc (text_of o) (text_of_all outcomes) (text_of outcome))
+
+pub state_more : (state : State) (outcomes : List Outcome) (outcome : Outcome) → state_after_all state (outcomes ++ outcome ∷ []) ≡ state_after (state_after_all state outcomes) outcome
+state_more state [] outcome = refl
+state_more state (o ∷ outcomes) outcome = state_more (state_after state o) outcomes outcome
+
+pub accepted_more : (outcomes : List Outcome) (outcome : Outcome) → accepted_in (outcomes ++ outcome ∷ []) ≡ accepted_in outcomes + accepted_in (outcome ∷ [])
+accepted_more [] outcome = sym (zero-add (accepted_in (outcome ∷ [])))
+accepted_more (Refused line cause ∷ outcomes) outcome = accepted_more outcomes outcome
+accepted_more (Answered text ∷ outcomes) outcome = let e = accepted_more outcomes outcome in omega (arith, e)
+accepted_more (Changed state ∷ outcomes) outcome = let e = accepted_more outcomes outcome in omega (arith, e)
+
+pub refused_more : (outcomes : List Outcome) (outcome : Outcome) → refused_in (outcomes ++ outcome ∷ []) ≡ refused_in outcomes + refused_in (outcome ∷ [])
+refused_more [] outcome = sym (zero-add (refused_in (outcome ∷ [])))
+refused_more (Refused line cause ∷ outcomes) outcome = let e = refused_more outcomes outcome in omega (arith, e)
+refused_more (Answered text ∷ outcomes) outcome = refused_more outcomes outcome
+refused_more (Changed state ∷ outcomes) outcome = refused_more outcomes outcome
+
+-- a run that has come to here: these bytes are these commands, and whatever comes next goes on after them
+pub record Running (last : Bool) (given given' taken taken' : Option (List ℕ)) (old new : State) (number accepted refused : ℕ) : Type 0 where
+  pub bytes : List ℕ
+  pub commands : List Command
+  pub outcomes : List Outcome
+  pub gave : Consumes given given' bytes
+  pub cut : (rest : List ℕ) → (last ≡ true → rest ≡ []) → commands_from 1 (bytes ++ rest) ≡ commands ++ commands_from (number + 1) rest
+  pub runs : Runs old commands outcomes
+  pub wrote : Appends taken taken' (text_of_all outcomes)
+  pub state : new ≡ state_after_all old outcomes
+  pub counts_accepted : accepted ≡ accepted_in outcomes
+  pub counts_refused : refused ≡ refused_in outcomes
+  pub ends : last ≡ true → IsAtEnd given'
+  pub whole : last ≡ false → WholeLines bytes 0 number
+  pub ended : last ≡ false → (more : List Command) → ended_of (commands ++ more) ≡ commands ++ ended_of more
+
+given_none : (given : Option (List ℕ)) → Consumes given (prepend_known [] given) []
+given_none None = tt
+given_none (Some bytes) = refl
+
+-- nothing was read yet
+pub running_none : (given taken : Option (List ℕ)) (pending : List ℕ) (old : State) (number : ℕ) → pending ≡ [] → number ≡ 0 → Running false given (prepend_known pending given) taken taken old old number 0 0
+running_none given taken pending old number none first = record {
+  bytes = [];
+  commands = [];
+  outcomes = [];
+  gave = subst (λ p. Consumes given (prepend_known p given) []) (sym none) (given_none given);
+  cut = λ rest last. ap (λ n. commands_from (n + 1) rest) (sym first);
+  runs = tt;
+  wrote = Appends-nil taken;
+  state = refl;
+  counts_accepted = refl;
+  counts_refused = refl;
+  ends = λ bad. absurd (false≢true bad);
+  whole = λ _. subst (λ n. WholeLines [] 0 n) (sym first) (whole_none 0);
+  ended = λ _ more. refl;
+}
+
+-- a command with its end is one of those
+ended_first : (command : Command) (more : List Command) → command.ended ≡ true → ended_of (command ∷ more) ≡ command ∷ ended_of more
+ended_first command more has = ap (λ b. if b then command ∷ ended_of more else ended_of more) has
+
+-- one command more
+pub running_more : (given mid new taken taken' taken'' : Option (List ℕ)) (old state state' : State) (number after accepted refused accepted' refused' : ℕ) (head : List ℕ) (read : CommandRead) (outcome : Outcome) →
+    (running : Running false given mid taken taken' old state number accepted refused) → (reads : ReadsCommand mid new number after head read) → MayCome state reads.command outcome →
+    state' ≡ state_after state outcome → Appends taken' taken'' (text_of outcome) → accepted' ≡ accepted + accepted_in (outcome ∷ []) → refused' ≡ refused + refused_in (outcome ∷ []) →
+    Running read.body.last given new taken taken'' old state' after accepted' refused'
+running_more given mid new taken taken' taken'' old state state' number after accepted refused accepted' refused' head read outcome running reads may changes wrote counts_accepted counts_refused = record {
+  bytes = running.bytes ++ reads.taken;
+  commands = running.commands ++ reads.command ∷ [];
+  outcomes = running.outcomes ++ outcome ∷ [];
+  gave = Consumes-trans given mid new running.bytes reads.taken running.gave reads.took;
+  cut = λ rest last. ap (λ text. commands_from 1 text) (append_assoc running.bytes reads.taken rest) ∙ running.cut (reads.taken ++ rest) (λ bad. absurd (false≢true bad)) ∙
+      ap (λ cs. running.commands ++ cs) (reads.cut rest last) ∙ sym (append_assoc running.commands (reads.command ∷ []) (commands_from (after + 1) rest));
+  runs = runs_more old running.commands running.outcomes reads.command outcome running.runs (subst (λ s. MayCome s reads.command outcome) running.state may);
+  wrote = subst (λ t. Appends taken taken'' t) (sym (text_more running.outcomes outcome)) (Appends-trans taken taken' taken'' (text_of_all running.outcomes) (text_of outcome) running.wrote wrote);
+  state = changes ∙ ap (λ s. state_after s outcome) running.state ∙ sym (state_more old running.outcomes outcome);
+  counts_accepted = counts_accepted ∙ ap (λ n. n + accepted_in (outcome ∷ [])) running.counts_accepted ∙ sym (accepted_more running.outcomes outcome);
+  counts_refused = counts_refused ∙ ap (λ n. n + refused_in (outcome ∷ [])) running.counts_refused ∙ sym (refused_more running.outcomes outcome);
+  ends = reads.ends;
+  whole = λ on. whole_append running.bytes reads.taken 0 number after (running.whole refl) (reads.whole on);
+  ended = λ on more. ap ended_of (append_assoc running.commands (reads.command ∷ []) more) ∙ running.ended refl (reads.command ∷ more) ∙
+      ap (λ cs. running.commands ++ cs) (ended_first reads.command more (is_true reads.command.ended (λ e. false≢true (sym on ∙ reads.unended e)))) ∙
+      sym (append_assoc running.commands (reads.command ∷ []) (ended_of more));
+}
+
+nothing_after : (front back : List ℕ) → front ++ back ≡ [] → back ≡ []
+nothing_after [] back none = none
+nothing_after (b ∷ front) back none = absurd (cc none)
+
+end_inside : (pending : List ℕ) (given : Option (List ℕ)) → IsAtEnd (prepend_known pending given) → IsAtEnd given
+end_inside pending None end = tt
+end_inside pending (Some bytes) end = nothing_after pending bytes end
+
+gave_inside : (given new : Option (List ℕ)) (pending bytes : List ℕ) → Consumes given (prepend_known pending new) bytes → IsAtEnd (prepend_known pending new) → Consumes given new bytes
+gave_inside None new pending bytes gave end = tt
+gave_inside (Some xs) None pending bytes gave end = absurd gave
+gave_inside (Some xs) (Some ys) pending bytes gave end = gave ∙ ap (λ t. bytes ++ t) (end ∙ sym (nothing_after pending ys end))
+
+-- the end came after the last command's newline
+pub ran_none : (given mid new taken taken' : Option (List ℕ)) (pending : List ℕ) (old state : State) (number accepted refused : ℕ) →
+    (running : Running false given mid taken taken' old state number accepted refused) → (reads : ReadsNone mid (prepend_known pending new) number) → Ran given new taken taken' old state accepted refused
+ran_none given mid new taken taken' pending old state number accepted refused running reads = record {
+  script = running.bytes ++ reads.taken;
+  outcomes = running.outcomes;
+  gave = gave_inside given new pending (running.bytes ++ reads.taken) (Consumes-trans given mid (prepend_known pending new) running.bytes reads.taken running.gave reads.took) reads.end;
+  end = end_inside pending new reads.end;
+  runs = subst (λ cs. Runs old cs running.outcomes) (sym (running.cut reads.taken (λ bad. absurd (false≢true bad)) ∙ ap (λ cs. running.commands ++ cs) reads.none ∙ append-nil running.commands)) running.runs;
+  wrote = running.wrote;
+  state = running.state;
+  counts_accepted = running.counts_accepted;
+  counts_refused = running.counts_refused;
+}
+
+-- the end came in the last command
+pub ran_last : (given new taken taken' : Option (List ℕ)) (pending : List ℕ) (old state : State) (number accepted refused : ℕ) (last : Bool) → last ≡ true →
+    (running : Running last given (prepend_known pending new) taken taken' old state number accepted refused) → Ran given new taken taken' old state accepted refused
+ran_last given new taken taken' pending old state number accepted refused last is_last running = record {
+  script = running.bytes;
+  outcomes = running.outcomes;
+  gave = gave_inside given new pending running.bytes running.gave (running.ends is_last);
+  end = end_inside pending new (running.ends is_last);
+  runs = subst (λ cs. Runs old cs running.outcomes) (sym (ap (λ text. commands_from 1 text) (sym (append-nil running.bytes)) ∙ running.cut [] (λ _. refl) ∙ append-nil running.commands)) running.runs;
+  wrote = running.wrote;
+  state = running.state;
+  counts_accepted = running.counts_accepted;
+  counts_refused = running.counts_refused;
+}
+
+pub describes : (old new : Option (List ℕ)) (number after : ℕ) (head : List ℕ) (read : CommandRead) → (reads : ReadsCommand old new number after head read) → Describes after head read reads.command
+describes old new number after head read reads = record { at = reads.at; ended = reads.ended; long = reads.long; line = reads.line; text = reads.text; end = reads.end }
+
+-- the input goes on
+pub running_on : (last : Bool) (given given' taken taken' : Option (List ℕ)) (old new : State) (number accepted refused : ℕ) → last ≡ false →
+    Running last given given' taken taken' old new number accepted refused → Running false given given' taken taken' old new number accepted refused
+running_on last given given' taken taken' old new number accepted refused on running =
+    subst (λ b. Running b given given' taken taken' old new number accepted refused) on running
+
+gave_ahead : (given new : Option (List ℕ)) (pending bytes : List ℕ) → Consumes given (prepend_known pending new) bytes → Consumes given new (bytes ++ pending)
+gave_ahead None new pending bytes gave = tt
+gave_ahead (Some xs) None pending bytes gave = absurd gave
+gave_ahead (Some xs) (Some ys) pending bytes gave = gave ∙ sym (append_assoc bytes pending ys)
+
+-- a write failed in the text of a command
+pub stopped_in_write : (given mid new taken taken' taken'' : Option (List ℕ)) (pending : List ℕ) (old state state' : State) (number after accepted refused : ℕ) (head : List ℕ) (read : CommandRead) (outcome : Outcome) →
+    (running : Running false given mid taken taken' old state number accepted refused) → (reads : ReadsCommand mid (prepend_known pending new) number after head read) → MayCome state reads.command outcome →
+    state' ≡ state_after state outcome → WritesPart taken' taken'' (text_of outcome) → StoppedInWrite given new taken taken'' old state'
+stopped_in_write given mid new taken taken' taken'' pending old state state' number after accepted refused head read outcome running reads may changes part =
+    let script : commands_of (running.bytes ++ reads.taken) ≡ running.commands ++ reads.command ∷ [] =
+    ap (λ taken. commands_of (running.bytes ++ taken)) (sym (append-nil reads.taken)) ∙ running.cut (reads.taken ++ []) (λ bad. absurd (false≢true bad)) ∙ ap (λ cs. running.commands ++ cs) (reads.cut [] (λ _. refl)) in
+    record {
+      script = running.bytes ++ reads.taken;
+      ahead = pending;
+      outcome = outcome;
+      outcomes = running.outcomes;
+      part = part.0;
+      gave = gave_ahead given new pending (running.bytes ++ reads.taken) (Consumes-trans given mid (prepend_known pending new) running.bytes reads.taken running.gave reads.took);
+      runs = subst (λ cs. Runs old cs (running.outcomes ++ outcome ∷ [])) (sym script) (runs_more old running.commands running.outcomes reads.command outcome running.runs (subst (λ s. MayCome s reads.command outcome) running.state may));
+      short = part.1;
+      wrote = Appends-trans taken taken' taken'' (text_of_all running.outcomes) (take part.0 (text_of outcome)) running.wrote part.2;
+      state = changes ∙ ap (λ s. state_after s outcome) running.state ∙ sym (state_more old running.outcomes outcome);
+    }
+
+-- of the lines that came, those commands are given whole that were done
+whole_commands : (given mid new taken taken' : Option (List ℕ)) (old state : State) (number accepted refused max : ℕ) (fault : ReadingFault) →
+    (running : Running false given mid taken taken' old state number accepted refused) → (reads : StopsReading mid new number max fault) →
+    (whole : WholeLines (running.bytes ++ reads.taken) 0 reads.after) → running.commands ≡ whole_commands_in whole.lines
+whole_commands given mid new taken taken' old state number accepted refused max fault running reads whole =
+    let lines : lines_of (running.bytes ++ reads.taken) ≡ whole.lines = ap lines_of whole.same ∙ lines_of-text whole.lines whole.good in
+    let commands = running.cut reads.taken (λ bad. absurd (false≢true bad)) in
+    sym (append-nil running.commands) ∙ ap (λ cs. running.commands ++ cs) (sym reads.none) ∙ sym (running.ended refl (commands_from (number + 1) reads.taken)) ∙
+    ap ended_of (sym commands) ∙ ap (λ ls. ended_of (commands_in false 1 ls)) lines
+
+-- the same, at an equal limit
+pub stops_reading_same : (old new : Option (List ℕ)) (number max first : ℕ) (fault : ReadingFault) → max ≡ first → StopsReading old new number max fault → StopsReading old new number first fault
+stops_reading_same old new number max first fault same stops = subst (λ m. StopsReading old new number m fault) same stops
+
+-- a read failed, or the limit was passed
+pub stopped_reading : (fault : ReadingFault) (given mid new taken taken' : Option (List ℕ)) (pending : List ℕ) (old state : State) (number accepted refused max : ℕ) →
+    (running : Running false given mid taken taken' old state number accepted refused) → (reads : StopsReading mid (prepend_known pending new) number max fault) →
+    (fault ≡ ReadFailed → pending ≡ []) → Stopped max given new taken taken' old state (run_fault fault)
+stopped_reading ReadFailed given mid new taken taken' pending old state number accepted refused max running reads used =
+    let bytes = running.bytes ++ reads.taken in
+    let whole = whole_append running.bytes reads.taken 0 number reads.after (running.whole refl) reads.whole in
+    let took = Consumes-trans given mid reads.mid running.bytes reads.taken running.gave reads.took in
+    let gave = gave_ahead given new pending (bytes ++ reads.stops.0) (Consumes-trans given reads.mid (prepend_known pending new) bytes reads.stops.0 took reads.stops.2) in
+    let lines : whole_lines_of (bytes ++ reads.stops.0) ≡ whole.lines = ap (λ b. whole_lines_of (b ++ reads.stops.0)) whole.same ∙ whole_lines_of-text whole.lines reads.stops.0 whole.good reads.stops.1 in
+    let commands = whole_commands given mid (prepend_known pending new) taken taken' old state number accepted refused max ReadFailed running reads whole in
+    record {
+      script = bytes ++ reads.stops.0;
+      outcomes = running.outcomes;
+      gave = subst (λ t. Consumes given new t) (ap (λ p. (bytes ++ reads.stops.0) ++ p) (used refl) ∙ append-nil (bytes ++ reads.stops.0)) gave;
+      runs = subst (λ cs. Runs old cs running.outcomes) (commands ∙ ap whole_commands_in (sym lines)) running.runs;
+      wrote = running.wrote;
+      state = running.state;
+    }
+stopped_reading TooManyLines given mid new taken taken' pending old state number accepted refused max running reads used =
+    let bytes = running.bytes ++ reads.taken in
+    let over = reads.stops.0 in
+    let whole = whole_append running.bytes reads.taken 0 number reads.after (running.whole refl) reads.whole in
+    let took = Consumes-trans given mid reads.mid running.bytes reads.taken running.gave reads.took in
+    let gave = gave_ahead given new pending (bytes ++ (over ++ reads.stops.1)) (Consumes-trans given reads.mid (prepend_known pending new) bytes (over ++ reads.stops.1) took reads.stops.2) in
+    let count : reads.after ≡ length whole.lines = omega (arith, whole.count) in
+    let commands = whole_commands given mid (prepend_known pending new) taken taken' old state number accepted refused max TooManyLines running reads whole in
+    record {
+      lines = whole.lines;
+      over = over;
+      ahead = reads.stops.1 ++ pending;
+      outcomes = running.outcomes;
+      gave = subst (λ t. Consumes given new t) (append_assoc bytes (over ++ reads.stops.1) pending ∙ ap (λ t. bytes ++ t) (append_assoc over reads.stops.1 pending) ∙ ap (λ b. b ++ (over ++ (reads.stops.1 ++ pending))) whole.same) gave;
+      within = whole.good;
+      past = subst (λ n. IsPast max n over) count reads.stops.3;
+      runs = subst (λ cs. Runs old cs running.outcomes) commands running.runs;
+      wrote = running.wrote;
+      state = running.state;
+    }
+
+-- the same, of the fault that the run tells
+pub stopped_by : (told : Fault) (fault : ReadingFault) (given mid new taken taken' : Option (List ℕ)) (pending : List ℕ) (old state : State) (number accepted refused max : ℕ) → told ≡ run_fault fault →
+    (running : Running false given mid taken taken' old state number accepted refused) → (reads : StopsReading mid (prepend_known pending new) number max fault) →
+    (fault ≡ ReadFailed → pending ≡ []) → Stopped max given new taken taken' old state told
+stopped_by told fault given mid new taken taken' pending old state number accepted refused max same running reads used =
+    subst (λ f. Stopped max given new taken taken' old state f) (sym same) (stopped_reading fault given mid new taken taken' pending old state number accepted refused max running reads used)

@@ -1,0 +1,17 @@
+use Rattle.std.proofs.Common.{◌≡◌, ◌+◌, ◌≤◌, ◌-◌, false}
+use Rattle.std.specs.Io.KnownBytes.{prepend_known}
+use Rattle.ctl_session.proofs.RunLemmas.{Running}
+use Rattle.ctl_session.proofs.run.run_over.Given as goal
+
+abbrev pub invariant-commands : goal.invariant-commands
+invariant-commands g l = record {
+  max : l.lines.max ≡ l.max_lines;
+  read : g.R.Source.failures l.reader ≡ g.R.Source.failures l.fn.reader;
+  write : g.W.Sink.failures l.writer ≡ g.W.Sink.failures l.fn.writer;
+  counted : l.summary.accepted + l.summary.refused ≤ l.lines.number;
+  running : Running false (g.R.Source.remaining l.fn.reader) (prepend_known l.lines.pending (g.R.Source.remaining l.reader)) (g.W.Sink.taken l.fn.writer) (g.W.Sink.taken l.writer)
+      l.fn.cache l.cache l.lines.number l.summary.accepted l.summary.refused;
+}
+
+abbrev pub decreases-commands : goal.decreases-commands
+decreases-commands g l = l.lines.max - l.lines.number

@@ -1,0 +1,16 @@
+use Rattle.std.proofs.Common.{◌≡◌, ◌-◌, ◌≤◌, vec_capacity}
+use Rattle.std.specs.Io.KnownBytes.{prepend_known}
+use Rattle.ctl_stanza.specs.Lines.{max_line}
+use Rattle.ctl_session.proofs.CommandLemmas.{Skips}
+use Rattle.ctl_session.proofs.script.next_head.Given as goal
+
+abbrev pub invariant-lines : goal.invariant-lines
+invariant-lines g l = record {
+  room : max_line ≤ vec_capacity l.head;
+  failures : g.R.Source.failures l.reader ≡ g.R.Source.failures l.fn.reader;
+  max : l.lines.max ≡ l.fn.lines.max;
+  skips : Skips (prepend_known l.fn.lines.pending (g.R.Source.remaining l.fn.reader)) (prepend_known l.lines.pending (g.R.Source.remaining l.reader)) l.fn.lines.number l.lines.number;
+}
+
+abbrev pub decreases-lines : goal.decreases-lines
+decreases-lines g l = l.lines.max - l.lines.number

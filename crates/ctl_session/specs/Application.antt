@@ -1,0 +1,17 @@
+-- The words that the program takes, as clap's rules.
+use Rattle.std.specs.Prelude.{◌≡◌, true, Some, codes}
+use Rattle.std.proofs.Common.{refl}
+use Rattle.clap.specs.Simple.{App, is_simple, new_app, new_rule, with_rule}
+use Rattle.clap.specs.Walk.{Rule}
+use Rattle.clap.specs.declared.builder.action.ArgAction.TheVariants.{Set}
+
+-- one word, the file of the script
+abbrev pub script_rule : Rule
+script_rule = record (new_rule (codes "script")) { action = Some Set }
+
+abbrev pub application : App
+application = with_rule (new_app (codes "dctrl-cache")) script_rule
+
+-- What clap promises of matches, it promises of simple commands: this one is simple.
+pub application-is_simple : is_simple application ≡ true
+application-is_simple = refl

@@ -1,0 +1,36 @@
+//! Scripts over a cache of package lists: lines to commands, and a run over any reader and writer.
+#![tactic(auto)]
+
+mod cache;
+mod command_line;
+mod failed;
+mod fault;
+mod laws;
+mod lines;
+mod package_names;
+mod perform;
+mod print;
+mod program_words;
+mod read_ahead;
+mod refusal;
+mod reply;
+mod request;
+mod run;
+mod script;
+mod session;
+mod sink;
+mod source;
+mod summary;
+mod words;
+
+pub use cache::Cache;
+pub use command_line::arguments;
+pub use failed::Failed;
+pub use fault::Fault;
+pub use laws::commands_come_to_one_outcome;
+pub use program_words::{Arguments, ArgumentsFault};
+pub use refusal::Refusal;
+pub use session::Session;
+pub use sink::{FromWrite, Sink};
+pub use source::{FromRead, Source};
+pub use summary::Summary;

@@ -1,0 +1,22 @@
+//! What the words of the program ask for.
+
+use clap::Error as ClapError;
+use thiserror::Error;
+
+/// What the words of the program ask for.
+#[derive(Drop)]
+pub struct Arguments {
+    /// The file of the script. Without one the script is read from standard input.
+    pub script: Option<String>,
+}
+
+/// Why the words of the program were not read.
+#[derive(Debug, Drop, Error)]
+pub enum ArgumentsFault {
+    /// The words are not those of the program, or ask for help.
+    #[error(transparent)]
+    Words(ClapError),
+    /// There is not enough memory.
+    #[error("out of memory")]
+    Memory,
+}

@@ -1,0 +1,213 @@
+//! The commands of a script, one at a time.
+
+ghost use Rattle.std.specs.Prelude.{◌≡◌, ℕ, ◌+◌, ◌≤◌, ◌++◌, ◌∷◌, [], List, Option, None, false, IfOk, IfErr, OnOk, true, take, length, vec_capacity};
+ghost use Rattle.std.specs.Io.KnownBytes.{Consumes, prepend_known};
+ghost use Rattle.ctl_stanza.specs.Lines.{max_line};
+ghost use Rattle.ctl_session.specs.Streams.{counted};
+ghost use Rattle.ctl_session.specs.declared.fault.ReadingFault.TheVariants.{ReadFailed};
+ghost use Rattle.ctl_session.specs.LineReading.{is_failed_read};
+ghost use Rattle.ctl_session.specs.Reading.{HoldsBody, ReadsBody, ReadsHead, ReadsNext, StopsInBody, StopsReading};
+
+use crate::fault::ReadingFault;
+use crate::lines::Lines;
+use crate::read_ahead::LineRead;
+use crate::source::Source;
+use crate::words::{has_body, is_dot, is_no_command};
+use ctl_stanza::MAX_LINE;
+use std::alloc::{AllocError, Global};
+
+/// What was read of a body.
+#[derive(Drop)]
+pub(crate) struct Body {
+    /// Its lines, each with a newline. They are not all there where one is too long, or a growth was refused.
+    pub(crate) text: Vec<u8>,
+    /// The number of its first line that is too long.
+    pub(crate) too_long: Option<u32>,
+    /// A growth was refused.
+    pub(crate) refused: bool,
+    /// The line that ends it was there.
+    pub(crate) ended: bool,
+    /// The input ended with it.
+    pub(crate) last: bool,
+}
+
+impl Body {
+    /// No line of a body.
+    fn none(alloc: Global, too_long: Option<u32>, ended: bool, last: bool) -> Self
+        ensures text { result.text.items ≡ [] }
+        ensures too_long { result.too_long ≡ too_long }
+        ensures refused { result.refused ≡ false }
+        ensures ended { result.ended ≡ ended }
+        ensures last { result.last ≡ last }
+    {
+        Body {
+            text: Vec::new(alloc),
+            too_long,
+            refused: false,
+            ended,
+            last,
+        }
+    }
+
+    /// Puts a line at the end, by as much of it as a line may have and its length.
+    fn add(&mut self, line: &[u8], count: u32, number: u32)
+        ensures step { (first : ℕ) (lines : List (List ℕ)) (all : List ℕ) → HoldsBody first lines self.old → line.now ≡ take max_line all →
+            count ≡ length all → number ≡ first + length lines → HoldsBody first (lines ++ all ∷ []) self.new }
+        ensures ended { self.new.ended ≡ self.old.ended }
+        ensures last { self.new.last ≡ self.old.last }
+    {
+        if count as usize > MAX_LINE {
+            match self.too_long {
+                None => self.too_long = Some(number),
+                Some(_) => {}
+            }
+            return;
+        }
+        if push_line(&mut self.text, line).is_err() {
+            self.refused = true;
+        }
+    }
+}
+
+/// Puts a line and its newline at the end of a text.
+fn push_line(text: &mut Vec<u8>, line: &[u8]) -> Result<(), AllocError>
+    ensures { OnOk result (text.new.items ≡ text.old.items ++ (line.now ++ 10 ∷ [])) }
+{
+    text.extend_from_slice(line)?;
+    text.push(b'\n')?;
+    Ok(())
+}
+
+/// Reads a body, up to the line that ends it or to the end of the input.
+fn read_body<R: Source>(
+    alloc: Global,
+    lines: &mut Lines,
+    reader: &mut R,
+    line: &mut Vec<u8>,
+) -> Result<Body, ReadingFault>
+    requires { max_line ≤ vec_capacity line.old }
+    ensures room { max_line ≤ vec_capacity line.new }
+    ensures ok { IfOk result (ReadsBody (prepend_known lines.old.pending (R.remaining reader.old))
+        (prepend_known lines.new.pending (R.remaining reader.new)) lines.old.number lines.new.number) }
+    ensures fault { IfErr result (StopsInBody (prepend_known lines.old.pending (R.remaining reader.old))
+        (prepend_known lines.new.pending (R.remaining reader.new)) lines.old.number lines.old.max) }
+    ensures used { IfErr result (λ fault. fault ≡ ReadFailed → lines.new.pending ≡ []) }
+    ensures max { lines.new.max ≡ lines.old.max }
+    ensures failures { R.failures reader.new ≡ counted (is_failed_read result) (R.failures reader.old) }
+{
+    let mut body = Body {
+        text: Vec::new(alloc),
+        too_long: None,
+        refused: false,
+        ended: false,
+        last: false,
+    };
+    'lines: loop {
+        match lines.next(reader, line) {
+            Err(fault) => return Err(fault),
+            Ok(None) => {
+                body.last = true;
+                return Ok(body);
+            }
+            Ok(Some(read)) => {
+                if is_dot(line) {
+                    body.ended = true;
+                    body.last = !read.newline;
+                    return Ok(body);
+                }
+                body.add(line, read.count, lines.number);
+                if !read.newline {
+                    body.last = true;
+                    return Ok(body);
+                }
+            }
+        }
+    }
+}
+
+/// Reads the next line that is a command, past blank lines and comments.
+fn next_head<R: Source>(
+    lines: &mut Lines,
+    reader: &mut R,
+    head: &mut Vec<u8>,
+) -> Result<Option<LineRead>, ReadingFault>
+    requires { max_line ≤ vec_capacity head.old }
+    ensures room { max_line ≤ vec_capacity head.new }
+    ensures ok { IfOk result (ReadsHead (prepend_known lines.old.pending (R.remaining reader.old))
+        (prepend_known lines.new.pending (R.remaining reader.new)) lines.old.number lines.new.number head.new.items) }
+    ensures fault { IfErr result (StopsReading (prepend_known lines.old.pending (R.remaining reader.old))
+        (prepend_known lines.new.pending (R.remaining reader.new)) lines.old.number lines.old.max) }
+    ensures used { IfErr result (λ fault. fault ≡ ReadFailed → lines.new.pending ≡ []) }
+    ensures max { lines.new.max ≡ lines.old.max }
+    ensures failures { R.failures reader.new ≡ counted (is_failed_read result) (R.failures reader.old) }
+{
+    'lines: loop {
+        match lines.next(reader, head) {
+            Err(fault) => return Err(fault),
+            Ok(None) => return Ok(None),
+            Ok(Some(read)) => {
+                if read.count as usize > MAX_LINE {
+                    return Ok(Some(read));
+                }
+                if !is_no_command(head) {
+                    return Ok(Some(read));
+                }
+                if !read.newline {
+                    return Ok(None);
+                }
+            }
+        }
+    }
+}
+
+/// A command that was read.
+#[derive(Drop)]
+pub(crate) struct CommandRead {
+    /// The number of its line.
+    pub(crate) number: u32,
+    pub(crate) body: Body,
+}
+
+/// Reads the next command, with its body.
+pub(crate) fn read_command<R: Source>(
+    alloc: Global,
+    lines: &mut Lines,
+    reader: &mut R,
+    head: &mut Vec<u8>,
+    line: &mut Vec<u8>,
+) -> Result<Option<CommandRead>, ReadingFault>
+    requires head { max_line ≤ vec_capacity head.old }
+    requires line { max_line ≤ vec_capacity line.old }
+    ensures head { max_line ≤ vec_capacity head.new }
+    ensures line { max_line ≤ vec_capacity line.new }
+    ensures ok { IfOk result (ReadsNext (prepend_known lines.old.pending (R.remaining reader.old))
+        (prepend_known lines.new.pending (R.remaining reader.new)) lines.old.number lines.new.number head.new.items) }
+    ensures fault { IfErr result (StopsReading (prepend_known lines.old.pending (R.remaining reader.old))
+        (prepend_known lines.new.pending (R.remaining reader.new)) lines.old.number lines.old.max) }
+    ensures used { IfErr result (λ fault. fault ≡ ReadFailed → lines.new.pending ≡ []) }
+    ensures max { lines.new.max ≡ lines.old.max }
+    ensures failures { R.failures reader.new ≡ counted (is_failed_read result) (R.failures reader.old) }
+{
+    let read = match next_head(lines, reader, head) {
+        Err(fault) => return Err(fault),
+        Ok(None) => return Ok(None),
+        Ok(Some(read)) => read,
+    };
+    let number = lines.number;
+    if read.count as usize > MAX_LINE {
+        let body = Body::none(alloc, Some(number), true, !read.newline);
+        return Ok(Some(CommandRead { number, body }));
+    }
+    if !has_body(head) {
+        let body = Body::none(alloc, None, true, !read.newline);
+        return Ok(Some(CommandRead { number, body }));
+    }
+    if !read.newline {
+        let body = Body::none(alloc, None, false, true);
+        return Ok(Some(CommandRead { number, body }));
+    }
+    match read_body(alloc, lines, reader, line) {
+        Err(fault) => Err(fault),
+        Ok(body) => Ok(Some(CommandRead { number, body })),
+    }
+}

@@ -1,0 +1,113 @@
+//! A session: lists, and the scripts that are run over them.
+
+ghost use Rattle.std.specs.Prelude.{◌≡◌, ◌-◌, ◌^◌, IfOk, IfErr};
+ghost use Rattle.ctl_session.specs.Streams.{counted};
+ghost use Rattle.ctl_session.specs.Faults.{is_read_fault, is_write_fault};
+ghost use Rattle.ctl_session.specs.Run.{Ran, Stopped};
+
+use crate::cache::Cache;
+use crate::fault::Fault;
+use crate::lines::Lines;
+use crate::run::{Buffers, run_over};
+use crate::sink::Sink;
+use crate::source::Source;
+use crate::summary::Summary;
+use std::alloc::{AllocError, Global};
+use std::marker::Model;
+
+/// A session: a cache, and the scripts that are run over it.
+#[derive(Drop)]
+pub struct Session {
+    cache: Cache,
+    lines: Lines,
+    buffers: Buffers,
+    max_lines: u32,
+    alloc: Global,
+}
+
+impl Model for Session {
+    ghost use Rattle.ctl_session.specs.State.{SessionState};
+
+    ghost Value = { SessionState };
+
+    ghost view = { λ session. record { lists = session.cache; max_lines = session.max_lines } };
+}
+
+impl Session {
+    /// A session over a cache, whose runs read up to 4,294,967,295 lines.
+    /// It hands the cache back where there is not enough memory.
+    pub fn new(alloc: Global, cache: Cache) -> Result<Self, (Cache, AllocError)>
+        ensures ok { IfOk result (λ session. session ≡ record { lists = cache; max_lines = 2 ^ 32 - 1 }) }
+        ensures err { IfErr result (λ refused. refused.0 ≡ cache) }
+    {
+        Session::with_lines(alloc, cache, u32::MAX)
+    }
+
+    /// A session over a cache, whose runs read up to `max_lines` lines.
+    /// It hands the cache back where there is not enough memory.
+    pub fn with_lines(
+        alloc: Global,
+        cache: Cache,
+        max_lines: u32,
+    ) -> Result<Self, (Cache, AllocError)>
+        ensures ok { IfOk result (λ session. session ≡ record { lists = cache; max_lines = max_lines }) }
+        ensures err { IfErr result (λ refused. refused.0 ≡ cache) }
+    {
+        let lines = match Lines::new(alloc) {
+            Ok(lines) => lines,
+            Err(error) => return Err((cache, error)),
+        };
+        let buffers = match Buffers::new(alloc) {
+            Ok(buffers) => buffers,
+            Err(error) => return Err((cache, error)),
+        };
+        Ok(Session {
+            cache,
+            lines,
+            buffers,
+            max_lines,
+            alloc,
+        })
+    }
+
+    /// The cache.
+    pub fn cache(&self) -> &Cache
+        ensures { result.now ≡ self.now.lists }
+    {
+        &self.cache
+    }
+
+    /// Runs a script, and writes what its commands come to: for each command in its order nothing, one line that
+    /// names the line and the cause of its refusal, or the answer to a query. The text of a command is written
+    /// before the next line is read. The run ends where the reader ends, or by a fault: a failed read, a failed
+    /// write, or a script past the limit of lines. A run after it begins with line 1.
+    pub fn run<R: Source, W: Sink>(
+        &mut self,
+        reader: &mut R,
+        writer: &mut W,
+    ) -> Result<Summary, Fault>
+        // All that the reader gave is a script, and what the writer took is the text of its commands.
+        ensures ok { IfOk result (λ summary. Ran (R.remaining reader.old) (R.remaining reader.new) (W.taken writer.old) (W.taken writer.new)
+            self.old.lists self.new.lists summary.accepted summary.refused) }
+
+        // A fault of reading or writing comes where a read or a write failed, and only there.
+        ensures read { R.failures reader.new ≡ counted (is_read_fault result) (R.failures reader.old) }
+        ensures write { W.failures writer.new ≡ counted (is_write_fault result) (W.failures writer.old) }
+
+        // At a fault of reading, or past the limit, the text of the commands that were given whole is written, and no more;
+        // at a fault of writing the text of the last command that was done is written in part.
+        ensures fault { IfErr result (Stopped self.old.max_lines (R.remaining reader.old) (R.remaining reader.new) (W.taken writer.old) (W.taken writer.new)
+            self.old.lists self.new.lists) }
+        ensures max_lines { self.new.max_lines ≡ self.old.max_lines }
+    {
+        run_over(
+            self.alloc,
+            &mut self.cache,
+            &mut self.lines,
+            &mut self.buffers,
+            self.max_lines,
+            reader,
+            writer,
+        )
+    }
+}
