@@ -7,7 +7,7 @@ use Rattle.clap.specs.declared.builder.action.ArgAction.TheVariants.{Set}
 
 -- one word, the file of the script
 abbrev pub script_rule : Rule
-script_rule = record (new_rule (codes "script")) { action = Some Set }
+script_rule = record (new_rule (codes "SCRIPT")) { action = Some Set }
 
 abbrev pub application : App
 application = with_rule (new_app (codes "dctrl-cache")) script_rule

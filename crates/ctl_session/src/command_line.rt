@@ -18,7 +18,7 @@ use std::alloc::{AllocError, Global};
 fn command<'a>(alloc: Global) -> Result<Command<'a>, AllocError>
     ensures { IfOk result (λ command. app_of command ≡ application) }
 {
-    Command::new(alloc, "dctrl-cache").arg(Arg::new(alloc, "script").action(ArgAction::Set))
+    Command::new(alloc, "dctrl-cache").arg(Arg::new(alloc, "SCRIPT").action(ArgAction::Set))
 }
 
 /// A text of one's own.
@@ -40,7 +40,7 @@ fn owned(alloc: Global, text: Option<&str>) -> Result<Option<String>, AllocError
 pub fn arguments(alloc: Global, words: &[&str]) -> Result<Arguments, ArgumentsFault>
     // The script is the first value of this argument in matches that clap promises for the words.
     ensures script { IfOk result (λ arguments. (found : ArgMatches) × HasMatchesOf application (map (λ word. word.now) words.now) found
-        × (option_map string_bytes arguments.script ≡ first_value (found_of found) (codes "script"))) }
+        × (option_map string_bytes arguments.script ≡ first_value (found_of found) (codes "SCRIPT"))) }
 
     // Words that clap takes are refused for want of memory alone.
     ensures memory { takes application (map (λ word. word.now) words.now) ≡ true → IfErr result (λ fault. fault ≡ Memory) }
@@ -58,7 +58,7 @@ pub fn arguments(alloc: Global, words: &[&str]) -> Result<Arguments, ArgumentsFa
             return Err(ArgumentsFault::Words(error));
         }
     };
-    match owned(alloc, matches.get_str("script")) {
+    match owned(alloc, matches.get_str("SCRIPT")) {
         Ok(script) => Ok(Arguments { script }),
         Err(_) => Err(ArgumentsFault::Memory),
     }

@@ -33,6 +33,11 @@ impl Model for Session {
     ghost view = { λ session. record { lists = session.cache; max_lines = session.max_lines } };
 }
 
+/// All the memory that the reading of lines takes.
+fn reading_room(alloc: Global) -> Result<(Lines, Buffers), AllocError> {
+    Ok((Lines::new(alloc)?, Buffers::new(alloc)?))
+}
+
 impl Session {
     /// A session over a cache, whose runs read up to 4,294,967,295 lines.
     /// It hands the cache back where there is not enough memory.
@@ -53,21 +58,16 @@ impl Session {
         ensures ok { IfOk result (λ session. session ≡ record { lists = cache; max_lines = max_lines }) }
         ensures err { IfErr result (λ refused. refused.0 ≡ cache) }
     {
-        let lines = match Lines::new(alloc) {
-            Ok(lines) => lines,
-            Err(error) => return Err((cache, error)),
-        };
-        let buffers = match Buffers::new(alloc) {
-            Ok(buffers) => buffers,
-            Err(error) => return Err((cache, error)),
-        };
-        Ok(Session {
-            cache,
-            lines,
-            buffers,
-            max_lines,
-            alloc,
-        })
+        match reading_room(alloc) {
+            Ok((lines, buffers)) => Ok(Session {
+                cache,
+                lines,
+                buffers,
+                max_lines,
+                alloc,
+            }),
+            Err(error) => Err((cache, error)),
+        }
     }
 
     /// The cache.
