@@ -45,7 +45,7 @@ or-flip true false = refl
 or-flip false true = refl
 or-flip false false = refl
 
-gives-is : (kind : LineKind) (l name : List ℕ) → has_name (name_in kind l) name ≡ gives_name kind l name
+pub gives-is : (kind : LineKind) (l name : List ℕ) → has_name (name_in kind l) name ≡ gives_name kind l name
 gives-is (Field n) l name = or-false (is_same_name name (take n l))
 gives-is Continuation l name = refl
 gives-is Blank l name = refl

@@ -3,3 +3,8 @@ pub mod FieldLemmas
 pub mod NameLemmas
 pub mod FaultLemmas
 pub mod PieceLemmas
+pub mod ByPieces
+pub mod KeepLemmas
+pub mod CauseLemmas
+pub mod WholeLemmas
+pub mod PlaceLemmas
