@@ -8,3 +8,4 @@ pub mod KeepLemmas
 pub mod CauseLemmas
 pub mod WholeLemmas
 pub mod PlaceLemmas
+pub mod LawLemmas
