@@ -1,5 +1,5 @@
 -- The cause that is told of a line is the one of its faults with the lowest number.
-use Rattle.std.proofs.Common.{◌≡◌, ◌⊎◌, ◌∙◌, ◌+◌, ◌<◌, ◌≤◌, ◌++◌, ◌||◌, ◌==◌, ℕ, zero, suc, Bool, true, false, cond, List, [], ◌∷◌, length, take, drop, get_or, Option, Some, None, refl, sym, ap, subst, arith, inl, inr, ⊎_elim}
+use Rattle.std.proofs.Common.{◌≡◌, ◌⊎◌, ◌∙◌, ◌+◌, ◌<◌, ◌≤◌, ◌||◌, ◌==◌, ℕ, zero, suc, Bool, true, false, List, [], ◌∷◌, length, take, drop, get_or, Option, Some, None, refl, sym, ap, subst, arith, inl, inr, ⊎_elim}
 use Rattle.std.proofs.lemmas.Bool.{cases_Bool, cond-true, cond-false, ltb-true, ltb-false, eqb-true, eqb-false}
 use Rattle.std.proofs.lemmas.List.Folds.{list_any-append}
 use Rattle.std.proofs.lemmas.List.{drop_all}
@@ -172,12 +172,12 @@ lines-least ls (suc k) i n j c e le short fault =
     let here = turn-fault ls (n + i) i some.0 lt some.1 in
     let first : TextFault = record { line = n + i; cause = some.0 } in
     let at_most : IsAtMost first (n + j) c = ⊎_elim
-        (λ (is : (i == j) ≡ true).
-        let same = eqb-true i j is in
-        let cause : some.0 ≡ c = same-some _ _ _ some.1 (rw (← same) at fault) in
-        inr (ap (λ m. n + m) same, omega (arith, ap number_of cause)))
-        (λ (other : (i == j) ≡ false). inl (let differ = eqb-false i j other in omega arith))
-        (cases_Bool (i == j)) in
+    (λ (is : (i == j) ≡ true).
+    let same = eqb-true i j is in
+    let cause : some.0 ≡ c = same-some _ _ _ some.1 (rw (← same) at fault) in
+    inr (ap (λ m. n + m) same, omega (arith, ap number_of cause)))
+    (λ (other : (i == j) ≡ false). inl (let differ = eqb-false i j other in omega arith))
+    (cases_Bool (i == j)) in
     (first, here, at_most))
     (option_either (cause_of (take i ls) (get_or ls i [])))
 

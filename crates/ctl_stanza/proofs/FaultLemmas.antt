@@ -1,6 +1,5 @@
 -- Faulty lines, one after another.
 use Rattle.std.proofs.Common.{◌≡◌, ◌∙◌, ◌+◌, ◌<◌, ℕ, suc, Bool, true, false, cond, ◌||◌, List, [], ◌∷◌, ◌++◌, length, take, drop, get_or, Option, Some, None, refl, sym, ap, ap₂, arith, append_assoc}
-use Rattle.std.specs.List.{list_any}
 use Rattle.std.proofs.lemmas.List.{append-nil, take_more, drop_more}
 use Rattle.std.proofs.lemmas.List.Folds.{list_any-append}
 use Rattle.std.proofs.lemmas.Bool.{cond-true, cond-false}
@@ -119,15 +118,15 @@ pub first_fault-memory : (n : ℕ) (before lines : List (List ℕ)) → NoMemory
 first_fault-memory n before [] = tt
 first_fault-memory n before (line ∷ lines) =
     fault_or-memory n (cause_of before line) _
-      (cond-keeps NoMemoryCause (is_too_long line) (Some causes.TooLong) _ (λ e. cc) (cause_with-memory (has_name (names_of before)) line (kind_of line)))
-      (first_fault-memory (suc n) (before ++ line ∷ []) lines)
+    (cond-keeps NoMemoryCause (is_too_long line) (Some causes.TooLong) _ (λ e. cc) (cause_with-memory (has_name (names_of before)) line (kind_of line)))
+    (first_fault-memory (suc n) (before ++ line ∷ []) lines)
 
 first_wrong-memory : (n : ℕ) (fields : List FieldText) → NoMemory (first_wrong n fields)
 first_wrong-memory n [] = tt
 first_wrong-memory n (field ∷ fields) =
     fault_or-memory (n + field.line) (field_cause field.name field.body) _
-      (cond-keeps NoMemoryCause (is_same_name field.name package_name) _ None (cond-keeps NoMemoryCause (is_name field.body) None (Some causes.Name) tt (λ e. cc)) tt)
-      (first_wrong-memory n fields)
+    (cond-keeps NoMemoryCause (is_same_name field.name package_name) _ None (cond-keeps NoMemoryCause (is_name field.body) None (Some causes.Name) tt (λ e. cc)) tt)
+    (first_wrong-memory n fields)
 
 pub whole_fault-memory : (kind : ListKind) (n : ℕ) (fields : List FieldText) → NoMemory (whole_fault kind n fields)
 whole_fault-memory kind n fields =

@@ -1,13 +1,11 @@
 -- The stanzas that are read keep the lines that aren't blank.
-use Rattle.std.proofs.Common.{◌≡◌, ◌⊎◌, ◌∙◌, ◌++◌, ◌+◌, ℕ, suc, not, true, false, List, [], ◌∷◌, length, filter, flat_map, Option, Some, None, Result, Ok, Err, refl, sym, ap, ap₂, append_assoc, inl, inr, ⊎_elim}
+use Rattle.std.proofs.Common.{◌≡◌, ◌⊎◌, ◌∙◌, ◌++◌, ◌+◌, ℕ, suc, not, true, List, [], ◌∷◌, length, flat_map, Option, Some, None, Result, Ok, Err, refl, sym, ap, append_assoc, inl, inr}
 use Rattle.std.proofs.lemmas.List.Elements.{filter-append}
-use Rattle.std.proofs.lemmas.Grind.{flat_map-append}
-use Rattle.std.proofs.lemmas.List.{append-nil}
 use Rattle.std.proofs.lemmas.Bool.{cond-true, cond-false}
 use Rattle.ctl_stanza.specs.declared.list_kind.ListKind.{ListKind}
 use Rattle.ctl_stanza.specs.declared.fault.TextFault.{TextFault}
 use Rattle.ctl_stanza.specs.Lines.{text_of_lines, is_blank, lines_of}
-use Rattle.ctl_stanza.specs.Content.{Content, content_of}
+use Rattle.ctl_stanza.specs.Content.{Content}
 use Rattle.ctl_stanza.specs.Text.{Piece, piece, piece_content, piece_fault, read_pieces, with_contents, or_fault}
 use Rattle.ctl_stanza.specs.Laws.{other_lines, KeepsLines}
 use Rattle.ctl_stanza.proofs.PieceLemmas.{AreOther, StartsGap}

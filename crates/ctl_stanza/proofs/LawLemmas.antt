@@ -1,5 +1,5 @@
 -- The fault that is told of a text is the least of its faults.
-use Rattle.std.proofs.Common.{◌≡◌, ◌⊎◌, ◌∙◌, ◌+◌, ◌-◌, ◌<◌, ◌≤◌, ◌++◌, ℕ, suc, true, false, List, [], ◌∷◌, length, take, Option, Some, None, Result, Ok, Err, refl, sym, ap, subst, arith, inl, inr, append_assoc, ⊎_elim}
+use Rattle.std.proofs.Common.{◌≡◌, ◌⊎◌, ◌∙◌, ◌+◌, ◌-◌, ◌<◌, ◌≤◌, ◌++◌, ℕ, suc, true, List, [], ◌∷◌, length, take, Option, Some, None, Ok, Err, refl, sym, ap, subst, arith, inl, inr, append_assoc, ⊎_elim}
 use Rattle.std.proofs.lemmas.Bool.{cases_lt, cond-true, cond-false}
 use Rattle.std.proofs.lemmas.List.{length-append}
 use Rattle.ctl_stanza.specs.declared.line_kind.LineKind.TheVariants.{Blank, Field, Continuation, Faulty}
@@ -10,15 +10,15 @@ use Rattle.ctl_stanza.specs.declared.fault.Cause.TheVariants as causes
 use Rattle.ctl_stanza.specs.Lines.{is_blank, lines_of}
 use Rattle.ctl_stanza.specs.LineKind.{kind_of}
 use Rattle.ctl_stanza.specs.Content.{Content}
-use Rattle.ctl_stanza.specs.Faults.{number_of, cause_of, fault_or, first_fault}
+use Rattle.ctl_stanza.specs.Faults.{cause_of, fault_or}
 use Rattle.ctl_stanza.specs.Text.{Piece, piece, pieces_of, piece_content, piece_fault, read_pieces, with_contents, or_fault}
-use Rattle.ctl_stanza.specs.Laws.{line_at, lines_before, IsFaultyLine, HasNoFaultyLine, HasWholeFault, IsStanzaAt, HasStanzaFault, HasFault, IsLeastFault, HasNoFault, ReadsOrTells}
+use Rattle.ctl_stanza.specs.Laws.{line_at, lines_before, IsFaultyLine, HasNoFaultyLine, HasWholeFault, HasStanzaFault, HasFault, IsLeastFault, HasNoFault, ReadsOrTells}
 use Rattle.ctl_stanza.proofs.PieceLemmas.{AreOther, StartsGap}
 use Rattle.ctl_stanza.proofs.ByPieces.{by_pieces}
-use Rattle.ctl_stanza.proofs.KeepLemmas.{Read, option_either, result_either}
+use Rattle.ctl_stanza.proofs.KeepLemmas.{Read, option_either}
 use Rattle.ctl_stanza.proofs.CauseLemmas.{IsAtMost, TellsLeast, HasFaultyLine, cause-sound, cause-least, same-some}
 use Rattle.ctl_stanza.proofs.WholeLemmas.{HasStanzaLine, stanza_tell, whole-within}
-use Rattle.ctl_stanza.proofs.PlaceLemmas.{EndsGap, at-back, at-front, at-mid, lines_before-mid, stands-mid, unique}
+use Rattle.ctl_stanza.proofs.PlaceLemmas.{EndsGap, at-back, at-mid, lines_before-mid, stands-mid, unique}
 
 -- a line among those from one on has this fault
 abbrev HasThere : ListKind → List (List ℕ) → ℕ → ℕ → ℕ → Cause → Type 0
@@ -32,8 +32,8 @@ stanza-fault kind front mid rest k cause some gap others gap_after fault = ⊎_e
     (λ (faulty : HasFaultyLine mid k cause).
     let size : length front + k < length (front ++ (mid ++ rest)) = omega (arith, faulty.0, length-append front (mid ++ rest), length-append mid rest) in
     let here : IsFaultyLine (lines_before (front ++ (mid ++ rest)) (length front + k)) (line_at (front ++ (mid ++ rest)) (length front + k)) cause =
-        subst (λ before. IsFaultyLine before (line_at (front ++ (mid ++ rest)) (length front + k)) cause) (sym (lines_before-mid front mid rest k gap others faulty.0))
-          (subst (λ line. IsFaultyLine (take k mid) line cause) (sym (at-mid front mid rest k faulty.0)) faulty.1) in
+    subst (λ before. IsFaultyLine before (line_at (front ++ (mid ++ rest)) (length front + k)) cause) (sym (lines_before-mid front mid rest k gap others faulty.0))
+    (subst (λ line. IsFaultyLine (take k mid) line cause) (sym (at-mid front mid rest k faulty.0)) faulty.1) in
     let found : HasThere kind (front ++ (mid ++ rest)) (length front) (length mid) (length front + k) cause = (omega arith, omega (arith, faulty.0), inl (size, here)) in found)
     (λ (whole : HasNoFaultyLine mid × HasWholeFault kind mid k cause).
     let short = whole-within kind mid k cause some whole.1 in
@@ -53,15 +53,18 @@ stanza-line : (kind : ListKind) (front mid rest : List (List ℕ)) (k : ℕ) (ca
     → HasFault kind (front ++ (mid ++ rest)) (length front + k) cause → HasStanzaLine kind mid k cause
 stanza-line kind front mid rest k cause some gap others gap_after lt fault = elim fault [
   | inl faulty ↦
-    inl (lt, subst (λ before. IsFaultyLine before (line_at mid k) cause) (lines_before-mid front mid rest k gap others lt)
-        (subst (λ line. IsFaultyLine (lines_before (front ++ (mid ++ rest)) (length front + k)) line cause) (at-mid front mid rest k lt) faulty.1))
+      inl (
+        lt,
+        subst (λ before. IsFaultyLine before (line_at mid k) cause) (lines_before-mid front mid rest k gap others lt)
+            (subst (λ line. IsFaultyLine (lines_before (front ++ (mid ++ rest)) (length front + k)) line cause) (at-mid front mid rest k lt) faulty.1),
+      )
   | inr there ↦
-    let short = whole-within kind there.stanza there.index cause there.stands.some there.fault in
-    let one = unique (front ++ (mid ++ rest)) there.start (length front) there.stanza mid (length front + k) there.stands (stands-mid front mid rest some gap others gap_after)
-        (omega (arith, there.line)) (omega (arith, there.line, short)) (omega arith) (omega arith) in
-    let index : there.index ≡ k = omega (arith, there.line, one.0) in
-    let good : HasNoFaultyLine mid = subst HasNoFaultyLine one.1 there.good_lines in
-    inr (good, subst (λ i. HasWholeFault kind mid i cause) index (subst (λ stanza. HasWholeFault kind stanza there.index cause) one.1 there.fault))
+      let short = whole-within kind there.stanza there.index cause there.stands.some there.fault in
+      let one = unique (front ++ (mid ++ rest)) there.start (length front) there.stanza mid (length front + k) there.stands (stands-mid front mid rest some gap others gap_after)
+      (omega (arith, there.line)) (omega (arith, there.line, short)) (omega arith) (omega arith) in
+      let index : there.index ≡ k = omega (arith, there.line, one.0) in
+      let good : HasNoFaultyLine mid = subst HasNoFaultyLine one.1 there.good_lines in
+      inr (good, subst (λ i. HasWholeFault kind mid i cause) index (subst (λ stanza. HasWholeFault kind stanza there.index cause) one.1 there.fault))
 ]
 
 gap-none : (mid : List (List ℕ)) → 0 < length mid → AreOther mid → (kind : ListKind) (n : ℕ) → TellsLeast (HasStanzaLine kind mid) n (piece_fault kind (piece n mid))
@@ -114,9 +117,9 @@ gap_tell kind n front line rest blank =
           let same = same-some _ fault _ told e in
           let faulty : IsFaultyLine [] line fault.cause = cause-sound [] line fault.cause (some.1 ∙ ap (λ (f : TextFault). Some f.cause) same) in
           let there : HasFault kind all (length front) fault.cause =
-              inl (size, subst (λ l. IsFaultyLine (lines_before all (length front)) l fault.cause) (sym here) (blank-any [] (lines_before all (length front)) line fault.cause blank faulty)) in
+          inl (size, subst (λ l. IsFaultyLine (lines_before all (length front)) l fault.cause) (sym here) (blank-any [] (lines_before all (length front)) line fault.cause blank faulty)) in
           let found : (i : ℕ) × (fault.line ≡ n + i) × HasThere kind all (length front) 1 i fault.cause =
-              (length front, sym (ap (λ (f : TextFault). f.line) same), (omega arith, omega arith, there)) in
+          (length front, sym (ap (λ (f : TextFault). f.line) same), (omega arith, omega arith, there)) in
           found)
           (option_either (cause_of [] line));
       least = λ i cause fault.
@@ -127,7 +130,7 @@ gap_tell kind n front line rest blank =
           let alone = blank-any (lines_before all (length front)) [] line cause blank (subst (λ l. IsFaultyLine (lines_before all (length front)) l cause) here faulty.1) in
           let told = cause-least [] line cause alone in
           let found : (f : TextFault) × (piece_fault kind (piece (n + length front) (line ∷ [])) ≡ Some f) × IsAtMost f (n + i) cause =
-              (record { line = n + length front; cause = told.0 }, first ∙ ap (λ o. fault_or (n + length front) o None) told.1, inr (omega arith, told.2)) in
+          (record { line = n + length front; cause = told.0 }, first ∙ ap (λ o. fault_or (n + length front) o None) told.1, inr (omega arith, told.2)) in
           found)
           (λ (stanza : HasStanzaFault kind all (length front) cause).
           let short = whole-within kind stanza.stanza stanza.index cause stanza.stands.some stanza.fault in
@@ -184,11 +187,11 @@ tells_gap : (kind : ListKind) (n m : ℕ) (l : List ℕ) (ls : List (List ℕ)) 
 tells_gap kind n m l ls ps blank more front number border =
     let size : length (front ++ (l ∷ [])) ≡ length front + 1 = length-append front (l ∷ []) in
     let ends : EndsGap (front ++ (l ∷ [])) = λ i e.
-        let place : i ≡ length front + 0 = omega (arith, size) in ap (λ j. is_blank (line_at (front ++ (l ∷ [])) j)) place ∙ ap is_blank (at-back front (l ∷ []) 0) ∙ blank in
+    let place : i ≡ length front + 0 = omega (arith, size) in ap (λ j. is_blank (line_at (front ++ (l ∷ [])) j)) place ∙ ap is_blank (at-back front (l ∷ []) 0) ∙ blank in
     let later = more (front ++ (l ∷ [])) (omega (arith, size)) (inl ends) in
     let same : (front ++ (l ∷ [])) ++ ls ≡ front ++ (l ∷ ls) = append_assoc front (l ∷ []) ls in
     let rest : TellsFrom kind n (front ++ (l ∷ ls)) (length front + 1) (read_pieces kind ps) =
-        subst (λ from. TellsFrom kind n (front ++ (l ∷ ls)) from (read_pieces kind ps)) size (subst (λ all. TellsFrom kind n all (length (front ++ (l ∷ []))) (read_pieces kind ps)) same later) in
+    subst (λ from. TellsFrom kind n (front ++ (l ∷ ls)) from (read_pieces kind ps)) size (subst (λ all. TellsFrom kind n all (length (front ++ (l ∷ []))) (read_pieces kind ps)) same later) in
     let here = subst (λ k. TellsLeast (HasThere kind (front ++ (l ∷ ls)) (length front) 1) n (piece_fault kind (piece k (l ∷ [])))) (sym number) (gap_tell kind n front l ls blank) in
     joined kind n (front ++ (l ∷ ls)) (length front) 1 (piece_fault kind (piece m (l ∷ []))) (piece_content kind (l ∷ [])) (read_pieces kind ps) here rest
 
@@ -201,7 +204,7 @@ tells_run kind n m l ls rest ps others gap_after more front number border =
     let later = more (front ++ mid) (omega (arith, size)) (inr gap_after) in
     let same : (front ++ mid) ++ rest ≡ front ++ (mid ++ rest) = append_assoc front mid rest in
     let others_tell : TellsFrom kind n (front ++ (mid ++ rest)) (length front + length mid) (read_pieces kind ps) =
-        subst (λ from. TellsFrom kind n (front ++ (mid ++ rest)) from (read_pieces kind ps)) size (subst (λ all. TellsFrom kind n all (length (front ++ mid)) (read_pieces kind ps)) same later) in
+    subst (λ from. TellsFrom kind n (front ++ (mid ++ rest)) from (read_pieces kind ps)) size (subst (λ all. TellsFrom kind n all (length (front ++ mid)) (read_pieces kind ps)) same later) in
     let here = subst (λ k. TellsLeast (HasThere kind (front ++ (mid ++ rest)) (length front) (length mid)) n (piece_fault kind (piece k mid))) (sym number) (run_tell kind n front mid rest (omega arith) gap others gap_after) in
     joined kind n (front ++ (mid ++ rest)) (length front) (length mid) (piece_fault kind (piece m mid)) (piece_content kind mid) (read_pieces kind ps) here others_tell
 
@@ -215,7 +218,7 @@ least_of : (kind : ListKind) (n : ℕ) (lines : List (List ℕ)) (read : Read) �
 least_of kind n lines read tells fault e =
     let known = tells.sound fault e in
     let reach : (i : ℕ) (cause : Cause) → HasFault kind lines i cause → IsAtMost fault (n + i) cause = λ i cause has.
-        let told = tells.least i cause (omega arith) has in subst (λ f. IsAtMost f (n + i) cause) (same-err told.0 fault read told.1 e) told.2 in
+    let told = tells.least i cause (omega arith) has in subst (λ f. IsAtMost f (n + i) cause) (same-err told.0 fault read told.1 e) told.2 in
     record {
       index = known.0;
       line = known.1;

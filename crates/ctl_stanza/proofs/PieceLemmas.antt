@@ -1,16 +1,10 @@
 -- The first piece of a text, and those behind it.
-use Rattle.std.proofs.Common.{◌≡◌, ◌∙◌, ◌+◌, ◌<◌, ◌≤◌, ◌++◌, ℕ, suc, Bool, true, false, List, [], ◌∷◌, length, map, get_or, Bor, refl, sym, ap, arith, append_assoc, Option, Some, None, Result, Ok, Err}
-use Rattle.std.proofs.lemmas.List.{map-append, append-nil, length-map, length-append}
+use Rattle.std.proofs.Common.{◌≡◌, ◌∙◌, ◌+◌, ◌<◌, ◌++◌, ℕ, suc, true, false, List, [], ◌∷◌, length, Bor, refl, sym, ap, arith, append_assoc}
+use Rattle.std.proofs.lemmas.List.{map-append, length-map}
 use Rattle.std.specs.Bool.{⊤}
 use Rattle.std.proofs.lemmas.Bool.{cond-true, cond-false}
-use Rattle.ctl_relation.specs.Bytes.{newline}
-use Rattle.ctl_stanza.specs.declared.list_kind.ListKind.{ListKind}
-use Rattle.ctl_stanza.specs.declared.fault.TextFault.{TextFault}
 use Rattle.ctl_stanza.specs.Lines.{lines_of, text_of_lines, lent_lines, is_blank, AreLines}
-use Rattle.ctl_stanza.specs.Fields.{fields_of_lines}
-use Rattle.ctl_stanza.specs.Content.{Content, content_of}
-use Rattle.ctl_stanza.specs.Faults.{first_fault, whole_fault, or_else}
-use Rattle.ctl_stanza.specs.Text.{Piece, piece, pieces_of, onto_piece, is_gap, piece_content, piece_fault, read_pieces, with_contents, or_fault, IsFirstPiece}
+use Rattle.ctl_stanza.specs.Text.{piece, pieces_of, onto_piece, IsFirstPiece}
 use Rattle.ctl_stanza.proofs.LineLemmas.{IsLine}
 
 -- no line is blank

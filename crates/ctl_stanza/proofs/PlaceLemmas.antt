@@ -1,5 +1,5 @@
 -- Where the lines of a stanza stand among the lines round it.
-use Rattle.std.proofs.Common.{◌≡◌, ◌⊎◌, ◌∙◌, ◌+◌, ◌-◌, ◌<◌, ◌≤◌, ◌++◌, ℕ, zero, suc, not, true, false, List, [], ◌∷◌, length, take, drop, refl, sym, ap, ap₂, subst, arith, ⊎_elim}
+use Rattle.std.proofs.Common.{◌≡◌, ◌∙◌, ◌+◌, ◌-◌, ◌<◌, ◌≤◌, ◌++◌, ℕ, zero, suc, not, true, false, List, [], ◌∷◌, length, take, drop, sym, ap, ap₂, arith, ⊎_elim}
 use Rattle.std.proofs.Math.ListN.{get_or-append}
 use Rattle.std.proofs.Math.Seq.{take-append-add, take-append_seam, drop-append-add}
 use Rattle.std.proofs.lemmas.Bool.{cases_lt}
@@ -39,13 +39,13 @@ lines_before-mid front mid rest k gap others lt =
     let front_is : take (length front + k) (front ++ (mid ++ rest)) ≡ xs = take-append-add front (mid ++ rest) k ∙ ap (λ t. front ++ t) (take-append-le k mid rest (omega arith)) in
     let size : length xs ≡ length front + k = length-append front (take k mid) ∙ ap (λ n. length front + n) (length-take-le k mid (omega arith)) in
     let passes : (j : ℕ) → length front ≤ j → j < length xs → not (is_blank (line_at xs j)) ≡ true = λ j le less.
-        let place : length front + (j - length front) ≡ j = omega arith in
-        let inside : line_at xs j ≡ line_at mid (j - length front) =
-            ap (line_at xs) (sym place) ∙ at-back front (take k mid) (j - length front)
-            ∙ sym (at-front (take k mid) (drop k mid) (j - length front) (omega (arith, size, length-take-le k mid (omega arith)))) ∙ ap (λ t. line_at t (j - length front)) (take-append-drop k mid) in
-        ap (λ t. not (is_blank t)) inside ∙ ap not (other-at mid others (j - length front) (omega (arith, size))) in
+    let place : length front + (j - length front) ≡ j = omega arith in
+    let inside : line_at xs j ≡ line_at mid (j - length front) =
+    ap (line_at xs) (sym place) ∙ at-back front (take k mid) (j - length front)
+    ∙ sym (at-front (take k mid) (drop k mid) (j - length front) (omega (arith, size, length-take-le k mid (omega arith)))) ∙ ap (λ t. line_at t (j - length front)) (take-append-drop k mid) in
+    ap (λ t. not (is_blank t)) inside ∙ ap not (other-at mid others (j - length front) (omega (arith, size))) in
     let stops : 0 < length front → not (is_blank (line_at xs (length front - 1))) ≡ false = λ some.
-        ap (λ t. not (is_blank t)) (at-front front (take k mid) (length front - 1) (omega arith)) ∙ ap not (gap (length front - 1) (omega arith)) in
+    ap (λ t. not (is_blank t)) (at-front front (take k mid) (length front - 1) (omega arith)) ∙ ap not (gap (length front - 1) (omega arith)) in
     let suffix : suffix_len (λ x. not (is_blank x)) xs ≡ length xs - length front = suffix_len_is (λ x. not (is_blank x)) xs (length front) [] (omega (arith, size)) passes stops in
     let from : length xs - (length xs - length front) ≡ length front + 0 = omega (arith, size) in
     ap (λ t. drop (length t - suffix_len (λ x. not (is_blank x)) t) t) front_is
@@ -78,6 +78,6 @@ unique all a b s t i is_s is_t a_le s_lt b_le t_lt =
     let not_shorter : a + length s < b + length t → ⊥ = λ less. let clash = sym (is_t.no_blank (a + length s) (omega arith) less) ∙ is_s.ends (omega (arith, is_t.within)) in cc in
     let not_longer : b + length t < a + length s → ⊥ = λ less. let clash = sym (is_s.no_blank (b + length t) (omega arith) less) ∙ is_t.ends (omega (arith, is_s.within)) in cc in
     let end : a + length s ≡ b + length t =
-        ⊎_elim (λ less. absurd (not_shorter less)) (λ le. ⊎_elim (λ less. absurd (not_longer less)) (λ ge. omega arith) (cases_lt (b + length t) (a + length s))) (cases_lt (a + length s) (b + length t)) in
+    ⊎_elim (λ less. absurd (not_shorter less)) (λ le. ⊎_elim (λ less. absurd (not_longer less)) (λ ge. omega arith) (cases_lt (b + length t) (a + length s))) (cases_lt (a + length s) (b + length t)) in
     let size : length s ≡ length t = omega arith in
     (start, sym is_s.lines_are ∙ ap₂ (λ n k. take n (drop k all)) size start ∙ is_t.lines_are)

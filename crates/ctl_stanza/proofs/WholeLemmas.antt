@@ -1,5 +1,5 @@
 -- The fault that is told of a stanza without a faulty line is the least of its faults.
-use Rattle.std.proofs.Common.{◌≡◌, ◌⊎◌, ◌∙◌, ◌+◌, ◌<◌, ◌≤◌, ◌++◌, ◌||◌, ◌==◌, ℕ, zero, suc, Bool, true, false, cond, List, [], ◌∷◌, length, get_or, Option, Some, None, refl, sym, ap, subst, arith, inl, inr, ⊎_elim}
+use Rattle.std.proofs.Common.{◌≡◌, ◌⊎◌, ◌∙◌, ◌+◌, ◌<◌, ◌≤◌, ◌++◌, ◌==◌, ℕ, zero, suc, true, false, List, [], ◌∷◌, length, get_or, Option, Some, None, refl, sym, ap, subst, arith, inl, inr, ⊎_elim}
 use Rattle.std.proofs.lemmas.Bool.{cases_Bool, cond-true, cond-false, eqb-true, eqb-false}
 use Rattle.std.specs.Bool.{⊤}
 use Rattle.std.specs.List.{Contains}
@@ -109,10 +109,10 @@ pub record IsBadName (name body : List ℕ) (cause : Cause) : Type 0 where
 field_cause-sound : (name body : List ℕ) (cause : Cause) → field_cause name body ≡ Some cause → IsBadName name body cause
 field_cause-sound name body cause e = ⊎_elim
     (λ (is_package : is_same_name name package_name ≡ true). ⊎_elim
-      (λ (good : is_name body ≡ true). let here : field_cause name body ≡ None = cond-true _ _ _ is_package ∙ cond-true _ _ _ good in absurd (cc))
-      (λ (bad : is_name body ≡ false). let here : field_cause name body ≡ Some causes.Name = cond-true _ _ _ is_package ∙ cond-false _ _ _ bad in
-      let found : IsBadName name body cause = record { is_package = is_package; no_name = bad; is_cause = cc } in found)
-      (cases_Bool (is_name body)))
+    (λ (good : is_name body ≡ true). let here : field_cause name body ≡ None = cond-true _ _ _ is_package ∙ cond-true _ _ _ good in absurd (cc))
+    (λ (bad : is_name body ≡ false). let here : field_cause name body ≡ Some causes.Name = cond-true _ _ _ is_package ∙ cond-false _ _ _ bad in
+    let found : IsBadName name body cause = record { is_package = is_package; no_name = bad; is_cause = cc } in found)
+    (cases_Bool (is_name body)))
     (λ (other : is_same_name name package_name ≡ false). let here : field_cause name body ≡ None = cond-false _ _ _ other in absurd (cc))
     (cases_Bool (is_same_name name package_name))
 
@@ -151,9 +151,11 @@ wrong-least n m (f ∷ fs) (suc k) field cause rise lt is wrong = ⊎_elim
     (λ none.
     let rest = wrong-least n f.line fs k field cause rise.1 (omega arith) is wrong in
     (rest.0, ap (λ o. fault_or (n + f.line) o (first_wrong n fs)) none ∙ rest.1, rest.2))
-    (λ some.
-    (record { line = n + f.line; cause = some.0 }, ap (λ o. fault_or (n + f.line) o (first_wrong n fs)) some.1,
-      omega (arith, rise-reach f.line fs k field rise.1 (omega arith) is)))
+    (λ some. (
+      record { line = n + f.line; cause = some.0 },
+      ap (λ o. fault_or (n + f.line) o (first_wrong n fs)) some.1,
+      omega (arith, rise-reach f.line fs k field rise.1 (omega arith) is),
+    ))
     (option_either (field_cause f.name f.body))
 
 -- ---- a stanza without a faulty line

@@ -1,5 +1,5 @@
 -- The faults of a text, each at the index of its line, told apart from how the text is read.
-use Rattle.std.specs.Prelude.{◌≡◌, ◌+◌, ◌<◌, ◌≤◌, ℕ, Bool, true, false, suc, not, ◌⊎◌, List, [], length, take, drop, map, filter, flat_map, slice_index_or, Contains, Option, Some, Result, Ok, Err}
+use Rattle.std.specs.Prelude.{◌≡◌, ◌+◌, ◌<◌, ◌≤◌, ℕ, true, false, not, ◌⊎◌, List, [], length, take, drop, filter, flat_map, slice_index_or, Contains, Some, Ok, Err}
 use Rattle.std.specs.List.{after_last}
 use Rattle.ctl_relation.specs.Names.{is_name}
 use Rattle.ctl_stanza.specs.declared.line_kind.LineKind.TheVariants.{Field, Continuation, Faulty}

@@ -6,7 +6,7 @@ use Rattle.ctl_stanza.specs.declared.fields.Span.{Span}
 use Rattle.ctl_stanza.specs.declared.line_kind.LineKind.{LineKind}
 use Rattle.ctl_stanza.specs.declared.line_kind.LineKind.TheVariants as kinds
 use Rattle.ctl_stanza.specs.LineKind.{kind_of}
-use Rattle.ctl_stanza.specs.Fields.{FieldText, field_at, value_of}
+use Rattle.ctl_stanza.specs.Fields.{field_at, value_of}
 use Rattle.ctl_stanza.specs.Spans.{shown, shown_field, shown_fields, IsWithin, IsFieldWithin, Adds}
 use Rattle.ctl_stanza.proofs.FieldLemmas.{within_line}
 use Rattle.ctl_stanza.proofs.fields.add_field.Goals as goal
@@ -37,4 +37,4 @@ adds front line behind at n i value old new kind e lt is field within value_is p
 pub returns-in_ok-push : goal.returns-in_ok-push
 returns-in_ok-push c = λ front behind e.
     adds front c.args.line.now behind c.args.at c.in-Field.n c.args.index c.value_span-value.result c.args.fields.now.items c.push.new.self.items c.kind_of.result e c.in-Field.ensures.name c.kind_of.ensures.kind c.in-Field.is
-        c.value_span-value.ensures.within c.value_span-value.ensures.value c.in_ok-push.ensures.items
+    c.value_span-value.ensures.within c.value_span-value.ensures.value c.in_ok-push.ensures.items

@@ -1,4 +1,4 @@
-use Rattle.std.proofs.Common.{◌≡◌, ◌≤◌, ◌+◌, ◌++◌, ℕ, List, [], length, map, take, drop, Bor}
+use Rattle.std.proofs.Common.{◌≡◌, drop}
 use Rattle.ctl_stanza.specs.Fields.{body_named}
 use Rattle.ctl_stanza.specs.Spans.{shown_fields}
 use Rattle.ctl_stanza.proofs.fields.body_named.Given as goal

@@ -1,6 +1,4 @@
-use Rattle.std.proofs.Common.{◌≡◌, ◌∙◌, ◌+◌, ◌-◌, ◌<◌, ◌≤◌, suc, length, take, ap, sym, arith}
-use Rattle.std.proofs.lemmas.List.{length-take-le}
-use Rattle.ctl_stanza.specs.Fields.{strip_end}
+use Rattle.std.proofs.Common.{◌≡◌, ◌∙◌, ◌+◌, ◌-◌, suc, take, ap, sym, arith}
 use Rattle.ctl_stanza.proofs.FieldLemmas.{strip_end-at, strip_end-none}
 use Rattle.ctl_stanza.proofs.fields.stripped_len.Goals as goal
 

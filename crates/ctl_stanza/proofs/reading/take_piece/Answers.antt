@@ -10,7 +10,7 @@ returns-in_default-take_line-clause-no_newline c = are_lines (lent_lines c.lines
 pub returns-in_default-take_line-clause-pieces : goal.returns-in_default-take_line-clause-pieces
 returns-in_default-take_line-clause-pieces c =
     taken c.lines.lines.items (lines_of c.args.text.now) (lines_of c.lines.left.now) c.lines.invariant.told c.lines.invariant.some c.lines.invariant.other
-      (gap-none c.lines.left.now c.in_default-take_line.ensures.none)
+    (gap-none c.lines.left.now c.in_default-take_line.ensures.none)
 
 pub returns-then-is_blank-2-clause-no_newline : goal.returns-then-is_blank-2-clause-no_newline
 returns-then-is_blank-2-clause-no_newline c = are_lines (lent_lines c.lines.lines.items) c.lines.invariant.single
@@ -18,7 +18,7 @@ returns-then-is_blank-2-clause-no_newline c = are_lines (lent_lines c.lines.line
 pub returns-then-is_blank-2-clause-pieces : goal.returns-then-is_blank-2-clause-pieces
 returns-then-is_blank-2-clause-pieces c =
     taken c.lines.lines.items (lines_of c.args.text.now) (lines_of c.lines.left.now) c.lines.invariant.told c.lines.invariant.some c.lines.invariant.other
-      (gap-blank (lines_of c.lines.left.now) _ c.in-Some-take_line.line.now c.in-Some-take_line.ensures.lines (sym c.is_blank-in-lines.ensures ∙ c.if-is_blank-2.true))
+    (gap-blank (lines_of c.lines.left.now) _ c.in-Some-take_line.line.now c.in-Some-take_line.ensures.lines (sym c.is_blank-in-lines.ensures ∙ c.if-is_blank-2.true))
 
 pub lines-preserved : goal.lines-preserved
 lines-preserved c =

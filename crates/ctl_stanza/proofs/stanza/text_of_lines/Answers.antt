@@ -1,5 +1,5 @@
-use Rattle.std.proofs.Common.{◌≡◌, ◌∙◌, ◌<◌, ◌≤◌, ◌+◌, ◌-◌, ◌++◌, ◌∷◌, ℕ, List, [], length, map, take, drop, Bor, sym, ap, ap₂, refl, arith, not, take_all}
-use Rattle.std.proofs.lemmas.List.{get_or-map, length-map, length-drop, drop-map, append-nil}
+use Rattle.std.proofs.Common.{◌<◌, ℕ, List, [], length, Bor, arith}
+use Rattle.std.proofs.lemmas.List.{get_or-map, length-map}
 use Rattle.ctl_stanza.specs.Lines.{lent_lines}
 use Rattle.ctl_stanza.proofs.FieldLemmas.{text-go}
 use Rattle.ctl_stanza.proofs.stanza.text_of_lines.Goals as goal

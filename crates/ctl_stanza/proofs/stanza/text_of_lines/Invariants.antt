@@ -1,4 +1,4 @@
-use Rattle.std.proofs.Common.{◌≡◌, ◌≤◌, ◌+◌, ◌++◌, ℕ, List, [], length, map, take, drop, Bor}
+use Rattle.std.proofs.Common.{◌≡◌, ◌++◌, drop}
 use Rattle.ctl_stanza.specs.Lines.{text_of_lines, lent_lines}
 use Rattle.ctl_stanza.proofs.stanza.text_of_lines.Given as goal
 

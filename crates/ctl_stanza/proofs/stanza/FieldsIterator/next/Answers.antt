@@ -1,5 +1,4 @@
 use Rattle.std.proofs.Common.{suc, arith}
-use Rattle.ctl_stanza.specs.Spans.{AreWithin}
 use Rattle.ctl_stanza.proofs.stanza.FieldsIterator.next.Goals as goal
 
 -- the fields behind the first one lie in the text as all do
