@@ -1,9 +1,11 @@
 -- The names of fields that a stanza has given so far.
-use Rattle.std.specs.Prelude.{◌≡◌, ℕ, Bool, ◌||◌, List}
+use Rattle.std.specs.Prelude.{◌≡◌, ℕ, Bool, false, ◌||◌, List}
 use Rattle.std.specs.List.{list_any}
 use Rattle.std.specs.Str.{bytes_eq, str_to_ascii_lowercase}
+use Rattle.ctl_stanza.specs.declared.line_kind.LineKind.{LineKind}
 use Rattle.ctl_stanza.specs.declared.names_given.NamesGiven.{NamesGiven}
 use Rattle.ctl_stanza.specs.Fields.{is_same_name}
+use Rattle.ctl_stanza.specs.Faults.{gives_name}
 
 -- whether a name was given, without regard to ASCII case
 abbrev pub holds : NamesGiven → List ℕ → Bool
@@ -11,6 +13,13 @@ holds names name =
     list_any (λ other. is_same_name name other.now) names.first.items
     || list_any (λ other. bytes_eq (str_to_ascii_lowercase name) other.items) names.others.keys
 
+abbrev pub HoldsNone : NamesGiven → Type 0
+HoldsNone names = (name : List ℕ) → holds names name ≡ false
+
 -- one name more is given
 abbrev pub Adds : NamesGiven → NamesGiven → List ℕ → Type 0
 Adds old new name = (other : List ℕ) → holds new other ≡ (is_same_name other name || holds old other)
+
+-- the name of a line is given, if the line is of a kind that has one
+abbrev pub AddsNameOf : LineKind → List ℕ → NamesGiven → NamesGiven → Type 0
+AddsNameOf kind line old new = (other : List ℕ) → holds new other ≡ (gives_name kind line other || holds old other)

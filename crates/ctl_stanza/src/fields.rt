@@ -1,10 +1,10 @@
 //! The fields of a stanza, by where they stand in its text.
 
-ghost use Rattle.std.specs.Prelude.{◌≡◌, ◌+◌, ◌-◌, ◌<◌, ◌≤◌, ◌^◌, length, map, [], ◌++◌, ◌∷◌, List, ℕ, take, drop, slice_range, option_map, IfOk, OnOk, Some};
+ghost use Rattle.std.specs.Prelude.{◌≡◌, ◌+◌, ◌<◌, ◌≤◌, ◌^◌, length, take, option_map, IfOk, OnOk};
 ghost use Rattle.std.specs.List.{All, prefix_len};
 ghost use Rattle.ctl_stanza.specs.Lines.{is_blank_byte, text_of_lines, lent_lines};
 ghost use Rattle.ctl_stanza.specs.Fields.{strip_end, value_of, fields_of_lines, body_named, is_same_name};
-ghost use Rattle.ctl_stanza.specs.Spans.{IsWithin, IsFieldWithin, AreWithin, Adds, shown, shown_fields};
+ghost use Rattle.ctl_stanza.specs.Spans.{IsWithin, IsFieldWithin, AreWithin, AddsAt, shown, shown_fields};
 
 use crate::line_kind::{LineKind, kind_of};
 use crate::lines::is_blank_byte;
@@ -17,7 +17,8 @@ pub(crate) struct Span {
     pub(crate) end: u32,
 }
 
-/// A field of a stanza: the index of its line, and where its name and its body stand in the stanza's text.
+/// A field of a stanza: the index of its line, and where its name and its body stand in the stanza's
+/// text.
 #[derive(Clone, Copy)]
 pub(crate) struct Field {
     pub(crate) line: u32,
@@ -85,11 +86,11 @@ fn value_span(line: &[u8], n: usize) -> Span
     }
 }
 
-// Adds the field that a line begins, if it is a field line. The line is the one at an index, and stands at a place of
-// the stanza's text.
+// Adds the field that a line begins, if it is a field line. The line is the one at an index, and stands at a
+// place of the stanza's text.
 fn add_field(fields: &mut Vec<Field>, line: &[u8], index: u32, at: u32) -> Result<(), AllocError>
     requires { at + length line.now < 2 ^ 32 }
-    ensures { OnOk result ((front behind : List ℕ) → length front ≡ at → Adds (front ++ (line.now ++ behind)) line.now index fields.old.items fields.new.items) }
+    ensures { OnOk result (AddsAt at line.now index fields.old.items fields.new.items) }
 {
     if let LineKind::Field(n) = kind_of(line) {
         let value = value_span(line, n);
@@ -108,11 +109,12 @@ fn add_field(fields: &mut Vec<Field>, line: &[u8], index: u32, at: u32) -> Resul
     Ok(())
 }
 
-/// The fields of the lines of a stanza, in the text of these lines. Each line is a field line as a rule, so there is
-/// room for as many fields as there are lines.
+/// The fields of the lines of a stanza, in the text of these lines. Each line of a stanza without a faulty
+/// line is a field line, so there is room for as many fields as there are lines.
 pub(crate) fn fields_of_lines(alloc: Global, lines: &[&[u8]]) -> Result<Vec<Field>, AllocError>
     requires { length (text_of_lines (lent_lines lines.now)) < 2 ^ 32 }
-    ensures fields { IfOk result (λ fields. shown_fields (text_of_lines (lent_lines lines.now)) fields.items ≡ fields_of_lines (lent_lines lines.now)) }
+    ensures fields { let all = lent_lines lines.now in
+        IfOk result (λ fields. shown_fields (text_of_lines all) fields.items ≡ fields_of_lines all) }
     ensures within { IfOk result (λ fields. AreWithin (text_of_lines (lent_lines lines.now)) fields.items) }
     ensures lines { IfOk result (λ fields. All (λ field. field.line < length lines.now) fields.items) }
 {

@@ -4,14 +4,14 @@ ghost use Rattle.std.specs.Prelude.{ℕ, List};
 ghost use Rattle.ctl_stanza.specs.declared.list_kind.ListKind.{ListKind};
 ghost use Rattle.ctl_stanza.specs.Laws.{ReadsOrTells, KeepsLines};
 
-/// A text that is read to stanzas has no fault. Of a text that isn't a fault is told that it has: no line before it has
-/// a fault, and on its line no fault has a lower number.
+/// A text that is read to stanzas has no fault. Of a text that isn't, a fault is told that it has: no line
+/// before it has a fault, and on its line no fault has a lower number.
 pub fn told_fault_is_least()
     ensures { (kind : ListKind) (n : ℕ) (text : List ℕ) → ReadsOrTells kind n text }
 {}
 
-/// The texts of the stanzas that a text is read to, joined, are the lines of the text that aren't blank, in order, each
-/// with a newline.
+/// The texts of the stanzas that a text is read to, joined, are the lines of the text that aren't blank, in
+/// order, each with a newline.
 pub fn stanzas_keep_lines()
     ensures { (kind : ListKind) (n : ℕ) (text : List ℕ) → KeepsLines kind n text }
 {}

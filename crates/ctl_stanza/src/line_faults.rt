@@ -1,10 +1,10 @@
 //! The first faulty line of a stanza.
 
-ghost use Rattle.std.specs.Prelude.{◌≡◌, ◌+◌, ◌<◌, ◌^◌, ◌||◌, length, map, [], ℕ, List, None, IfOk};
+ghost use Rattle.std.specs.Prelude.{◌≡◌, ◌+◌, ◌<◌, ◌^◌, length, [], None, IfOk};
 ghost use Rattle.ctl_stanza.specs.Lines.{lent_lines};
 ghost use Rattle.ctl_stanza.specs.LineKind.{IfName};
-ghost use Rattle.ctl_stanza.specs.Faults.{cause_with, gives_name, first_fault};
-ghost use Rattle.ctl_stanza.specs.NamesGiven.{holds};
+ghost use Rattle.ctl_stanza.specs.Faults.{cause_with, first_fault};
+ghost use Rattle.ctl_stanza.specs.NamesGiven.{holds, HoldsNone, AddsNameOf};
 
 use crate::fault::{Cause, TextFault};
 use crate::line_kind::{LineKind, kind_of};
@@ -21,7 +21,7 @@ fn line_cause<'a>(
 ) -> Result<Option<Cause>, AllocError>
     requires { IfName kind line.now }
     ensures cause { IfOk result (λ cause. cause ≡ cause_with (holds names.old) line.now kind) }
-    ensures names { IfOk result (λ cause. cause ≡ None → (other : List ℕ) → holds names.new other ≡ (gives_name kind line.now other || holds names.old other)) }
+    ensures names { IfOk result (λ cause. cause ≡ None → AddsNameOf kind line.now names.old names.new) }
 {
     match kind {
         LineKind::Field(n) => {
@@ -37,17 +37,18 @@ fn line_cause<'a>(
     }
 }
 
-/// The first faulty line of lines, which count from `first_line`. The names that are given are kept in `names`.
+/// The first faulty line of a stanza's lines, which count from `first_line`. The names that they give are
+/// kept in `names`.
 pub(crate) fn first_fault<'a>(
     alloc: Global,
     names: &mut NamesGiven<'a>,
     lines: &[&'a [u8]],
     first_line: u64,
 ) -> Result<Option<TextFault>, AllocError>
-    requires { first_line + length lines.now < 2 ^ 64 }
+    requires lines { first_line + length lines.now < 2 ^ 64 }
+    requires names { HoldsNone names.old }
     ensures { IfOk result (λ found. found ≡ first_fault first_line [] (lent_lines lines.now)) }
 {
-    names.clear();
     for i in 0..lines.len() {
         let line = lines[i];
         if is_too_long(line) {

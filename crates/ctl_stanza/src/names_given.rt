@@ -1,9 +1,9 @@
 //! The names of fields that a stanza has given so far.
 
-ghost use Rattle.std.specs.Prelude.{◌≡◌, not, List, ℕ, false, IfOk, OnOk};
+ghost use Rattle.std.specs.Prelude.{◌≡◌, not, IfOk, OnOk};
 ghost use Rattle.std.specs.List.{list_any};
 ghost use Rattle.ctl_stanza.specs.Fields.{is_same_name};
-ghost use Rattle.ctl_stanza.specs.NamesGiven.{holds, Adds};
+ghost use Rattle.ctl_stanza.specs.NamesGiven.{holds, HoldsNone, Adds};
 
 use crate::fields::is_same_name;
 use std::alloc::{AllocError, Global};
@@ -30,7 +30,7 @@ fn is_among(names: &[&[u8]], name: &[u8]) -> bool
 impl<'a> NamesGiven<'a> {
     /// No name.
     pub(crate) fn new(alloc: Global) -> NamesGiven<'a>
-        ensures { (other : List ℕ) → holds result other ≡ false }
+        ensures { HoldsNone result }
     {
         NamesGiven {
             first: Vec::new(alloc),
@@ -40,7 +40,7 @@ impl<'a> NamesGiven<'a> {
 
     /// Forgets all names.
     pub(crate) fn clear(&mut self)
-        ensures { (other : List ℕ) → holds self.new other ≡ false }
+        ensures { HoldsNone self.new }
     {
         self.first.clear();
         self.others.clear();

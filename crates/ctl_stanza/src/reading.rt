@@ -3,6 +3,7 @@
 ghost use Rattle.std.specs.Prelude.{◌≡◌, ◌≢◌, ◌≤◌, ◌<◌, ◌+◌, ◌^◌, ◌∷◌, ◌++◌, ℕ, length, map, None, Some, Ok, IfOk, IfErr, OnOk};
 ghost use Rattle.ctl_stanza.specs.Lines.{lines_of, lent_lines, AreLines};
 ghost use Rattle.ctl_stanza.specs.Faults.{IsMemoryAtZero, Tells};
+ghost use Rattle.ctl_stanza.specs.NamesGiven.{HoldsNone};
 ghost use Rattle.ctl_stanza.specs.Text.{IsFirstPiece, read_text, piece_content, piece_fault, piece, Reads};
 
 use crate::fault::TextFault;
@@ -20,7 +21,7 @@ fn take_piece<'a>(lines: &mut Vec<&'a [u8]>, text: &'a [u8]) -> Result<&'a [u8],
     ensures some { OnOk result (0 < length lines.new.items) }
     ensures within { IfOk result (λ behind. length lines.new.items + length behind.now ≤ length text.now) }
     ensures no_newline { OnOk result (AreLines (lent_lines lines.new.items)) }
-    ensures pieces { IfOk result (λ behind. IsFirstPiece (lines_of text.now) (lent_lines lines.new.items) (lines_of behind.now)) }
+    ensures first { IfOk result (λ behind. IsFirstPiece (lines_of text.now) (lent_lines lines.new.items) (lines_of behind.now)) }
 {
     lines.clear();
     let Some((first, behind)) = take_line(text) else {
@@ -43,7 +44,8 @@ fn take_piece<'a>(lines: &mut Vec<&'a [u8]>, text: &'a [u8]) -> Result<&'a [u8],
     }
 }
 
-// Reads a piece: adds its stanza, if it is one.
+// Reads a piece: adds its stanza, if it is one. The names that it gives are forgotten before the stanza is made: of a
+// large one they take more room than the stanza.
 fn read_piece<'a>(
     alloc: Global,
     stanzas: &mut Vec<Stanza>,
@@ -54,13 +56,17 @@ fn read_piece<'a>(
 ) -> Result<(), TextFault>
     requires lines { first_line + length lines.now < 2 ^ 64 }
     requires some { 0 < length lines.now }
+    requires names { HoldsNone names.old }
     requires no_newline { AreLines (lent_lines lines.now) }
     ensures stanzas { OnOk result (stanzas.new.items ≡ stanzas.old.items ++ piece_content kind (lent_lines lines.now)) }
     ensures whole { OnOk result (piece_fault kind (piece first_line (lent_lines lines.now)) ≡ None) }
+    ensures names { OnOk result (HoldsNone names.new) }
     ensures fault { IfErr result (Tells (piece_fault kind (piece first_line (lent_lines lines.now)))) }
     ensures memory { IfErr result IsMemoryAtZero }
 {
-    if let Some(fault) = first_fault(alloc, names, lines, first_line)? {
+    let found = first_fault(alloc, names, lines, first_line)?;
+    names.clear();
+    if let Some(fault) = found {
         return Err(fault);
     }
     if is_blank(lines[0]) {
@@ -73,14 +79,15 @@ fn read_piece<'a>(
 
 /// The stanzas of a control text whose lines count from `first_line`, or its fault.
 ///
-/// A line ends with a newline, and a last line without one counts if it isn't empty. Lines of spaces and tabs alone, or
-/// of nothing, part stanzas. Each other line is a field line, `Name: value`; continuation lines are refused. A stanza
-/// has a `Package` that is a name, and a `Version` that isn't empty.
+/// A line ends with a newline, and a last line without one counts if it isn't empty. Lines of spaces and
+/// tabs alone, or of nothing, part stanzas. Each other line is a field line, `Name: value`: continuation
+/// lines are refused. A stanza has a `Package` that is a name, and a `Version` that isn't empty.
 ///
 /// # Errors
 ///
-/// The fault of the least line, and there the one with the lowest number: see [`Cause`](crate::Cause). Where memory runs out the cause is
-/// [`Cause::Memory`](crate::Cause::Memory) and the line is 0; so it is for a stanza of 2^32 bytes or more.
+/// The fault of the least line, and of the faults of that line the one with the lowest number: see
+/// [`Cause`](crate::Cause). Where memory runs out the cause is [`Cause::Memory`](crate::Cause::Memory) and
+/// the line is 0. So it is for a stanza of 2^32 bytes or more.
 pub fn read_stanzas(
     alloc: Global,
     text: &[u8],

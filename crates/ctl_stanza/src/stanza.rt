@@ -1,6 +1,6 @@
 //! Stanzas and their parts.
 
-ghost use Rattle.std.specs.Prelude.{◌≡◌, ◌≢◌, ◌+◌, ◌<◌, ◌^◌, length, map, option_map, None, Some, IfOk, IfErr};
+ghost use Rattle.std.specs.Prelude.{◌≡◌, ◌+◌, ◌<◌, ◌^◌, length, option_map, None, IfOk, IfErr, OnOk};
 ghost use Rattle.ctl_stanza.specs.Lines.{text_of_lines, lent_lines, AreLines};
 ghost use Rattle.ctl_stanza.specs.Fields.{fields_of_lines};
 ghost use Rattle.ctl_stanza.specs.Content.{content_of};
@@ -13,8 +13,8 @@ use crate::list_kind::ListKind;
 use std::alloc::{AllocError, Global};
 use std::marker::Model;
 
-/// A stanza without a fault: its text, and the kind of its list. What it has in it is read from its text once, and lent
-/// from there.
+/// A stanza without a fault, seen as its text and the kind of its list. What it has in it is read from its
+/// text once, and lent from there.
 #[derive(Drop)]
 pub struct Stanza {
     text: Vec<u8>,
@@ -23,17 +23,14 @@ pub struct Stanza {
 }
 
 impl Model for Stanza {
-    ghost use Rattle.std.specs.Prelude.{◌≡◌};
-    ghost use Rattle.ctl_stanza.specs.Lines.{lines_of};
-    ghost use Rattle.ctl_stanza.specs.Fields.{fields_of_lines};
     ghost use Rattle.ctl_stanza.specs.Content.{Content};
-    ghost use Rattle.ctl_stanza.specs.Spans.{AreWithin, shown_fields};
+    ghost use Rattle.ctl_stanza.specs.Spans.{AreFieldsOf};
 
     ghost Value = { Content };
 
     ghost view = { λ s. record { text = s.text.items; kind = s.kind } };
 
-    ghost invariant = { λ s. AreWithin s.text.items s.fields.items × (shown_fields s.text.items s.fields.items ≡ fields_of_lines (lines_of s.text.items)) };
+    ghost invariant = { λ s. AreFieldsOf s.text.items s.fields.items };
 }
 
 // Each line with a newline, in one piece without spare room.
@@ -52,8 +49,8 @@ fn text_of_lines(alloc: Global, lines: &[&[u8]]) -> Result<Vec<u8>, AllocError>
     Ok(text)
 }
 
-/// Reads a stanza that has no faulty line, whose lines count from `first_line`. One of 2^32 bytes or more is taken for
-/// want of memory.
+/// Reads a stanza that has no faulty line, whose lines count from `first_line`. One of 2^32 bytes or more
+/// is taken for want of memory.
 pub(crate) fn read_stanza(
     alloc: Global,
     lines: &[&[u8]],
@@ -63,7 +60,7 @@ pub(crate) fn read_stanza(
     requires lines { first_line + length lines.now < 2 ^ 64 }
     requires no_newline { AreLines (lent_lines lines.now) }
     ensures stanza { IfOk result (λ stanza. stanza ≡ content_of kind (lent_lines lines.now)) }
-    ensures whole { IfOk result (λ _. whole_fault kind first_line (fields_of_lines (lent_lines lines.now)) ≡ None) }
+    ensures whole { OnOk result (whole_fault kind first_line (fields_of_lines (lent_lines lines.now)) ≡ None) }
     ensures fault { IfErr result (Tells (whole_fault kind first_line (fields_of_lines (lent_lines lines.now)))) }
     ensures memory { IfErr result IsMemoryAtZero }
 {
@@ -95,7 +92,8 @@ impl Stanza {
         self.kind
     }
 
-    /// The body of the field of a name, which is taken without regard to ASCII case. None where there is no such field.
+    /// The body of the field of a name, which is taken without regard to ASCII case. None where there is no
+    /// such field.
     pub fn field(&self, name: &[u8]) -> Option<&[u8]>
         ensures { option_map (λ body. body.now) result ≡ body_of self.now name.now }
     {

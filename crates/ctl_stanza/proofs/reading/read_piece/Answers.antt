@@ -5,4 +5,4 @@ use Rattle.ctl_stanza.proofs.reading.read_piece.Goals as goal
 
 pub returns-in-Some-clause-memory : goal.returns-in-Some-clause-memory
 returns-in-Some-clause-memory c =
-    never-memory c.in-Some.fault _ (first_fault-memory c.args.first_line [] (lent_lines c.args.lines.now)) (sym c.in_ok-fault.ensures ∙ c.in-Some.is)
+    never-memory c.in-Some.fault _ (first_fault-memory c.args.first_line [] (lent_lines c.args.lines.now)) (sym c.in_ok-found.ensures ∙ c.in-Some.is)

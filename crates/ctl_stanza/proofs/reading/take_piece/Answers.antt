@@ -7,16 +7,16 @@ use Rattle.ctl_stanza.proofs.reading.take_piece.Goals as goal
 pub returns-in_default-take_line-clause-no_newline : goal.returns-in_default-take_line-clause-no_newline
 returns-in_default-take_line-clause-no_newline c = are_lines (lent_lines c.lines.lines.items) c.lines.invariant.single
 
-pub returns-in_default-take_line-clause-pieces : goal.returns-in_default-take_line-clause-pieces
-returns-in_default-take_line-clause-pieces c =
+pub returns-in_default-take_line-clause-first : goal.returns-in_default-take_line-clause-first
+returns-in_default-take_line-clause-first c =
     taken c.lines.lines.items (lines_of c.args.text.now) (lines_of c.lines.left.now) c.lines.invariant.told c.lines.invariant.some c.lines.invariant.other
     (gap-none c.lines.left.now c.in_default-take_line.ensures.none)
 
 pub returns-then-is_blank-2-clause-no_newline : goal.returns-then-is_blank-2-clause-no_newline
 returns-then-is_blank-2-clause-no_newline c = are_lines (lent_lines c.lines.lines.items) c.lines.invariant.single
 
-pub returns-then-is_blank-2-clause-pieces : goal.returns-then-is_blank-2-clause-pieces
-returns-then-is_blank-2-clause-pieces c =
+pub returns-then-is_blank-2-clause-first : goal.returns-then-is_blank-2-clause-first
+returns-then-is_blank-2-clause-first c =
     taken c.lines.lines.items (lines_of c.args.text.now) (lines_of c.lines.left.now) c.lines.invariant.told c.lines.invariant.some c.lines.invariant.other
     (gap-blank (lines_of c.lines.left.now) _ c.in-Some-take_line.line.now c.in-Some-take_line.ensures.lines (sym c.is_blank-in-lines.ensures ∙ c.if-is_blank-2.true))
 
