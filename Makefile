@@ -1,0 +1,44 @@
+# dctrl-cache: `make help` lists what can be made. The kit's command `rt` has to be on the path.
+SHELL := /bin/bash
+PREFIX ?= /usr/local
+DESTDIR ?=
+
+PROGRAM := crates/dctrl_cache/out/dctrl_cache
+EXAMPLES := $(sort $(wildcard examples/*.script))
+
+.PHONY: help demo build test install clean
+
+help:
+	@echo 'make demo      runs the examples with an unproved quick build, and compares what they print'
+	@echo 'make build     proves the program and leaves it as $(PROGRAM)'
+	@echo 'make test      the whole gate: the examples, every proof from nothing, the must-fail edits, the tests'
+	@echo 'make install   puts the program below DESTDIR and PREFIX ($(PREFIX))'
+	@echo 'make clean     removes what was made'
+
+# `rt try` builds the program without any proof, and runs it on each script.
+demo:
+	@set -e; work=$$(mktemp -d); trap 'rm -rf "$$work"' EXIT; mkdir "$$work/scripts"; \
+	for script in $(EXAMPLES); do \
+	  cp "$$script" "$$work/scripts/"; \
+	  echo "== $$(basename "$$script")" >> "$$work/expected"; cat "$${script%.script}.expected" >> "$$work/expected"; \
+	done; \
+	cat examples/names.script; \
+	(cd crates/dctrl_cache && rt try --cases "$$work/scripts" 2> "$$work/log" > "$$work/answers" || { cat "$$work/log"; exit 1; }); \
+	cat "$$work/answers"; \
+	diff "$$work/expected" "$$work/answers"; \
+	echo "$(words $(EXAMPLES)) passed, 0 failed"
+
+build: $(PROGRAM)
+
+$(PROGRAM): $(shell find crates -path '*/out' -prune -o -type f -print) crates.txt HANDLES
+	cd crates/dctrl_cache && rt run < /dev/null
+	@test -x $@
+
+test: demo
+	rt ci
+
+install: $(PROGRAM)
+	install -D -m 755 $(PROGRAM) $(DESTDIR)$(PREFIX)/bin/dctrl-cache
+
+clean:
+	rm -rf crates/*/out
