@@ -25,4 +25,7 @@ pub use relation_fault::RelationFault;
 pub use relation_laws::{fields_have_one_fault, met_by_name, met_counts_add_up};
 pub use version::Version;
 pub use version_fault::VersionFault;
-pub use version_laws::{equal_versions, versions_are_ordered};
+pub use version_laws::{
+    equal_versions, keys_go_by_turns, texts_have_one_cut, version_faults_are_of_texts,
+    versions_are_ordered,
+};
