@@ -18,7 +18,7 @@ mod version_laws;
 mod version_tests;
 
 pub use bytes::Bytes;
-pub use name::is_name;
+pub use name::{is_name, names_by_their_bytes};
 pub use reading::parse_relations;
 pub use relation::{Atom, FieldKind, Group, Offer, Operator, Relations, Steps};
 pub use relation_fault::RelationFault;
