@@ -15,6 +15,8 @@ mod version;
 mod version_fault;
 mod version_laws;
 #[cfg(test)]
+mod version_table;
+#[cfg(test)]
 mod version_tests;
 
 pub use bytes::Bytes;
