@@ -32,7 +32,7 @@ same b c h = grind (arith, nat_tests)
 
 -- ---- what a search for the first or the last c finds
 
-abbrev first_sides : ℕ → List ℕ → Option (List ℕ × List ℕ) → Type 0
+abbrev pub first_sides : ℕ → List ℕ → Option (List ℕ × List ℕ) → Type 0
 first_sides c text None = All (λ b. b ≢ c) text
 first_sides c text (Some x) = (text ≡ x.0 ++ c ∷ x.1) × All (λ b. b ≢ c) x.0
 
@@ -50,7 +50,7 @@ first_more : (c b : ℕ) (text : List ℕ) (found : Option (List ℕ × List ℕ
 first_more c b text None n h = all_more (λ b. b ≢ c) b text n h
 first_more c b text (Some x) n h = (ap (λ (l : List ℕ). b ∷ l) h.0, all_more (λ b. b ≢ c) b x.0 n h.1)
 
-split_first-sides : (c : ℕ) (text : List ℕ) → first_sides c text (split_first c text)
+pub split_first-sides : (c : ℕ) (text : List ℕ) → first_sides c text (split_first c text)
 split_first-sides c [] = all_none (λ b. b ≢ c)
 split_first-sides c (b ∷ text) = go (b == c) refl (split_first-sides c text)
   where

@@ -1,6 +1,6 @@
 //! Versions as Debian Policy 5.6.12 and deb-version(7) describe them, and as dpkg orders them.
 
-use crate::cut::cut_version;
+use crate::cut::cut_text;
 use crate::version_table::pairs;
 use crate::{Version, VersionFault};
 use std::alloc::{AllocError, Global};
@@ -28,7 +28,7 @@ fn cuts_texts_into_their_parts(rt: HostRuntime) {
         (b":1", Some(b""), b"1", None),
     ];
     for (text, epoch, upstream, revision) in rows {
-        let parts = cut_version(text);
+        let parts = cut_text(text);
         let same_epoch = parts.epoch == epoch;
         let same_upstream = parts.upstream == upstream;
         let same_revision = parts.revision == revision;

@@ -1,7 +1,7 @@
 use Rattle.std.proofs.Common.{◌≡◌, true, sym, ◌∙◌}
 use Rattle.std.specs.List.{list_all}
 use Rattle.std.specs.Char.{is_ascii_digit}
-use Rattle.ctl_relation.proofs.CutLemmas.{list_all-AllDigits}
+use Rattle.ctl_relation.proofs.EpochLemmas.{list_all-AllDigits}
 use Rattle.ctl_relation.proofs.cut.is_epoch.Goals as goal
 use Rattle.ctl_relation.proofs.cut.is_epoch.Goals.{then-not-is_empty, else-not-is_empty}
 
