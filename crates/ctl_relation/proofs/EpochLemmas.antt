@@ -1,5 +1,5 @@
 -- What precedes the first colon of a version are digits.
-use Rattle.std.proofs.Common.{◌≡◌, ◌≢◌, ℕ, suc, ◌+◌, ◌<◌, Bool, true, false, cond, List, [], ◌∷◌, ◌++◌, Option, Some, None, length, take, drop, get_or, refl, sym, ap, subst, ◌∙◌, arith}
+use Rattle.std.proofs.Common.{◌≡◌, ◌≢◌, ℕ, ◌+◌, ◌<◌, Bool, true, false, cond, List, [], ◌∷◌, ◌++◌, Option, Some, None, length, take, drop, get_or, refl, sym, ap, subst, ◌∙◌, arith}
 use Rattle.std.specs.Prelude.{◌==◌, nat_le, not, ◌&&◌, unwrap_or}
 use Rattle.std.specs.Cmp.{first_so, second_so}
 use Rattle.std.specs.List.{list_all, prefix_len}
@@ -105,7 +105,7 @@ pub epoch_at : (text : List ℕ) (len : ℕ) → len ≡ prefix_len is_ascii_dig
 epoch_at text len e within at =
     first_at colon text len within
     (λ k less same.
-        let digit = prefix_len_passes is_ascii_digit text k 0 (omega (arith, less, e)) in
-        let other : is_ascii_digit (get_or text k 0) ≡ false = ap is_ascii_digit same ∙ colon-other in
-        cc (digit, other))
+    let digit = prefix_len_passes is_ascii_digit text k 0 (omega (arith, less, e)) in
+    let other : is_ascii_digit (get_or text k 0) ≡ false = ap is_ascii_digit same ∙ colon-other in
+    cc (digit, other))
     at

@@ -1,17 +1,17 @@
 -- The numbers of a part go by turns, and a tilde comes first.
-use Rattle.std.proofs.Common.{◌≡◌, ◌⊎◌, ℕ, zero, suc, ◌+◌, ◌*◌, ◌<◌, Bool, true, false, cond, ℤ, pos, negsuc, List, [], ◌∷◌, ◌++◌, Some, None, Option, length, take, refl, sym, ap, ◌∙◌, arith, inl, inr, zero-add}
+use Rattle.std.proofs.Common.{◌≡◌, ℕ, zero, suc, ◌+◌, ◌*◌, Bool, true, false, cond, ℤ, pos, negsuc, List, [], ◌∷◌, ◌++◌, Some, None, Option, take, refl, sym, ap, ◌∙◌, arith, zero-add}
 use Rattle.std.specs.Prelude.{map, not}
 use Rattle.std.specs.List.{AllPass}
 use Rattle.std.specs.Char.{is_ascii_digit, digit_value}
 use Rattle.std.specs.Str.Parse.{digits_value, digits_value_after}
-use Rattle.std.specs.Ordering.{int_cmp, ordering_then}
+use Rattle.std.specs.Ordering.{ordering_then}
 use Rattle.std.specs.Cmp.{int_cmp_total}
-use Rattle.std.specs.declared.cmp.Ordering.TheVariants.{Less, Equal}
+use Rattle.std.specs.declared.cmp.Ordering.TheVariants.{Less}
 use Rattle.std.proofs.lemmas.Cmp.{tied_itself}
 use Rattle.ctl_relation.specs.Bytes.{tilde}
 use Rattle.ctl_relation.specs.Key.{weight, places, strike, struck, key, key_cmp}
 use Rattle.ctl_relation.specs.KeyLaws.{key_cmp-struck}
-use Rattle.ctl_relation.specs.KeyTurns.{IsTurn, KeysGoByTurns, TildeComesFirst}
+use Rattle.ctl_relation.specs.KeyTurns.{KeysGoByTurns, TildeComesFirst}
 
 -- ---- a test of each byte, from its front
 

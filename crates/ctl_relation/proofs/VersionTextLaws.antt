@@ -8,7 +8,7 @@ use Rattle.std.proofs.lemmas.Bool.Decides.{nat_tests}
 use Rattle.ctl_relation.specs.declared.version_fault.VersionFault.{VersionFault}
 use Rattle.ctl_relation.specs.declared.version_fault.VersionFault.TheVariants as fault
 use Rattle.ctl_relation.specs.Bytes.{hyphen, colon}
-use Rattle.ctl_relation.specs.Version.{Parts, parts_of, text_parts, body_parts, split_first, split_last, at_last, is_epoch, is_upstream_byte, is_revision_text, is_empty_revision, fault_of, fault_of_parts, parts_fault}
+use Rattle.ctl_relation.specs.Version.{parts_of, text_parts, body_parts, split_first, split_last, at_last, is_epoch, is_upstream_byte, is_revision_text, is_empty_revision, fault_of_parts, parts_fault}
 use Rattle.ctl_relation.specs.VersionText.{AreParts, TextsHaveParts, PartsAreUnique, NoTestOfMemory, epoch_text, hyphen_text}
 use Rattle.ctl_relation.proofs.CutLemmas.{unlike, first_none, last_none}
 
