@@ -2,9 +2,11 @@ pub mod Bytes
 pub mod Names
 pub mod Key
 pub mod KeyLaws
+pub mod KeyTurns
 pub mod Front
 pub mod Version
 pub mod VersionLaws
+pub mod VersionText
 pub mod Cut
 pub mod Met
 pub mod Grammar

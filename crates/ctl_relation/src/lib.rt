@@ -15,14 +15,19 @@ mod version;
 mod version_fault;
 mod version_laws;
 #[cfg(test)]
+mod version_table;
+#[cfg(test)]
 mod version_tests;
 
 pub use bytes::Bytes;
-pub use name::is_name;
+pub use name::{is_name, names_by_their_bytes};
 pub use reading::parse_relations;
 pub use relation::{Atom, FieldKind, Group, Offer, Operator, Relations, Steps};
 pub use relation_fault::RelationFault;
 pub use relation_laws::{fields_have_one_fault, met_by_name, met_counts_add_up};
 pub use version::Version;
 pub use version_fault::VersionFault;
-pub use version_laws::{equal_versions, versions_are_ordered};
+pub use version_laws::{
+    equal_versions, keys_go_by_turns, texts_have_one_cut, version_faults_are_of_texts,
+    versions_are_ordered,
+};

@@ -1,10 +1,10 @@
-//! Names of packages and lists.
+//! Names of packages and of lists.
 
 ghost use Rattle.std.specs.Prelude.{◌≡◌};
 ghost use Rattle.std.specs.List.{list_all};
-ghost use Rattle.ctl_relation.specs.Names.{is_name_byte, is_name};
+ghost use Rattle.ctl_relation.specs.Names.{is_name_byte, is_name, NamesByTheirBytes};
 
-/// Whether a byte may stand in a name.
+/// Whether a byte may stand in a name: a letter, a digit or one of `+ - . _`.
 pub(crate) fn is_name_byte(byte: u8) -> bool
     ensures { result ≡ is_name_byte byte }
 {
@@ -18,11 +18,47 @@ fn are_name_bytes(text: &[u8]) -> bool
 }
 
 /// Whether a text is a name: letters, digits and `+ - . _`, of which the first is a letter or a digit.
+///
+/// This is wider than Debian Policy 5.6.1, which has no capital letters and no underscore, and asks for two bytes.
 pub fn is_name(text: &[u8]) -> bool
     ensures { result ≡ is_name text.now }
 {
     match text {
         [] => false,
         [first, others @ ..] => { first.is_ascii_alphanumeric() && are_name_bytes(others) }
+    }
+}
+
+/// A text is a name exactly where it has a byte, the first is a letter or a digit, and each may stand in a name.
+#[tactic(auto, using(crate::proofs::NameLaws::names_by_their_bytes))]
+pub fn names_by_their_bytes()
+    ensures { NamesByTheirBytes }
+{}
+
+#[cfg(test)]
+mod tests {
+    use super::*;
+
+    #[test]
+    fn knows_names(rt: HostRuntime) {
+        let names: [&[u8]; 7] = [b"a", b"0", b"Z", b"libc6", b"g++-12", b"a.b", b"0ad_data"];
+        for text in names {
+            let found = is_name(text);
+            assert!(rt; found, "{text:?}");
+        }
+        let others: [&[u8]; 8] = [
+            b"",
+            b"-a",
+            b"+",
+            b".a",
+            b"_a",
+            b"a b",
+            b"a:any",
+            b"\xc3\xa9",
+        ];
+        for text in others {
+            let found = is_name(text);
+            assert!(rt; !found, "{text:?}");
+        }
     }
 }

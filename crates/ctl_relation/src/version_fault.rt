@@ -5,27 +5,30 @@ ghost use Rattle.ctl_relation.specs.declared.version_fault.VersionFault.TheVaria
 
 use std::alloc::AllocError;
 
-/// Why a text is no version: the first test that it fails.
+/// Why a text is no version (Debian Policy 5.6.12): the first test that it fails, in the order of the variants,
+/// or want of memory.
 #[derive(Clone, Copy, Debug, PartialEq, Eq)]
 pub enum VersionFault {
-    /// There is no byte.
+    /// The text has no byte.
     Empty,
-    /// The epoch is no number up to 2147483647.
+    /// What stands before the first colon has no digit, has another byte than a digit, or is above 2147483647.
+    /// Zeros in front are allowed.
     Epoch,
     /// The upstream version is empty.
     Upstream,
-    /// A byte stands where it may not.
+    /// The upstream version has another byte than letters, digits and `. + - ~ :`, or the revision another than
+    /// letters, digits and `+ . ~`.
     Character,
-    /// Nothing follows the hyphen.
+    /// Nothing follows the last hyphen.
     Revision,
-    /// Memory ran out.
+    /// There was no memory to keep the text.
     Memory,
 }
 
 impl From<AllocError> for VersionFault {
-    ghost from_gives = { λ _ e. e ≡ Memory };
+    ghost from_gives = { λ _ fault. fault ≡ Memory };
 
-    fn from(_e: AllocError) -> VersionFault {
+    fn from(_error: AllocError) -> VersionFault {
         VersionFault::Memory
     }
 }
