@@ -6,7 +6,14 @@ pub mod Front
 pub mod Version
 pub mod VersionLaws
 pub mod Cut
+pub mod Parts
+pub mod Lent
+pub mod FieldKind
+pub mod Alternatives
+pub mod Named
+pub mod Printed
 pub mod Met
+pub mod Reading
+pub mod ByteClass
 pub mod Grammar
-pub mod Relations
 pub mod Fault
