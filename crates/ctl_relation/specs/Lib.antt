@@ -17,3 +17,4 @@ pub mod Reading
 pub mod ByteClass
 pub mod Grammar
 pub mod Fault
+pub mod ReadAgain

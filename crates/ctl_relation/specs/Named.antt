@@ -1,5 +1,5 @@
 -- How an atom holds its name and its qualifier: in one text, joined by a colon.
-use Rattle.std.specs.Prelude.{◌≡◌, ℕ, ◌≤◌, List, [], ◌∷◌, length, take, drop, Option, Some, None}
+use Rattle.std.specs.Prelude.{◌≡◌, ℕ, ◌≤◌, List, [], ◌∷◌, length, drop, Option, Some, None}
 use Rattle.ctl_relation.specs.Bytes.{colon}
 
 abbrev pub qualifier_in : List ℕ → Option (List ℕ)
