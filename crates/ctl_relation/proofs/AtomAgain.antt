@@ -14,8 +14,9 @@ use Rattle.ctl_relation.specs.Names.{is_name_byte}
 use Rattle.ctl_relation.specs.FieldKind.{is_provides}
 use Rattle.ctl_relation.specs.Reading.{◌>>=◌, is_whitespace, is_qualifier_byte, is_version_word_byte, is_exact, run, rest, name_at, qualifier_at, operator_token, allowed, operator_at, version_at, close_at, parenthesized_at, bound_behind, bound_at, atom_at}
 use Rattle.ctl_relation.specs.Grammar.{IsWhitespace, IsSpelled, QualifierText, BoundText, AtomText}
+use Rattle.ctl_relation.specs.Fault.{Stops}
 use Rattle.ctl_relation.proofs.VersionBytes.{version_bytes, all_weaker}
-use Rattle.ctl_relation.proofs.Only.{Stops, is_operator_byte, rest_again, stops_blanks, name_again, qualifier_again, operator_again, version_again}
+use Rattle.ctl_relation.proofs.Only.{is_operator_byte, rest_again, stops_blanks, name_again, qualifier_again, operator_again, version_again}
 
 pub upstream_run : (b : ℕ) → is_upstream_byte b ≡ true → is_version_word_byte b ≡ true
 upstream_run b h = grind (arith, nat_tests)

@@ -13,14 +13,14 @@ use Rattle.ctl_relation.specs.Names.{is_name_byte, is_name}
 use Rattle.ctl_relation.specs.FieldKind.{is_provides, has_alternatives}
 use Rattle.ctl_relation.specs.Reading.{is_whitespace, is_qualifier_byte, is_version_word_byte, rest, name_at, version_at, close_at, relations_of}
 use Rattle.ctl_relation.specs.Grammar.{IsWhitespace, RelationsText}
-use Rattle.ctl_relation.specs.Fault.{Place, GroupDue, AtomDue, AfterName, QualifierDue, AfterQualifier, OperatorDue, AfterSign, VersionDue, CloseDue, AfterAtom, takes_name, takes_bracket, takes_bar, takes_comma, takes_version, is_sign, lengthens, StandsAt, at_start, comma_read, bar_read, name_read, colon_read, qualifier_read, bracket_read, equal_read, sign_read, sign_longer, version_read, close_read, IsFault, Continues, GroupsOrFault, NeverBoth, OneFault}
+use Rattle.ctl_relation.specs.Fault.{Place, GroupDue, AtomDue, AfterName, QualifierDue, AfterQualifier, OperatorDue, AfterSign, VersionDue, CloseDue, AfterAtom, takes_name, takes_bracket, takes_bar, takes_comma, takes_version, is_sign, lengthens, StandsAt, at_start, comma_read, bar_read, name_read, colon_read, qualifier_read, bracket_read, equal_read, sign_read, sign_longer, version_read, close_read, IsFault, Continues, GroupsOrFault, NeverBoth, OneFault, IsWhole, Stops}
 use Rattle.ctl_relation.proofs.VersionBytes.{version_bytes, all_weaker}
-use Rattle.ctl_relation.proofs.Only.{Stops, is_operator_byte, run_again, rest_again, stops_blanks, name_again, version_again, nonempty}
+use Rattle.ctl_relation.proofs.Only.{is_operator_byte, run_again, rest_again, stops_blanks, name_again, version_again, nonempty}
 use Rattle.ctl_relation.proofs.AtomAgain.{blank_no_name, blank_no_qualifier, blank_no_colon, blank_ends_version, stops_version, upstream_run, upstream_no_blank, upstream_no_operator, blank_no_operator}
 use Rattle.ctl_relation.proofs.FieldAgain.{letter_first, relations_again}
 use Rattle.ctl_relation.proofs.Found.{groups_found}
 use Rattle.ctl_relation.proofs.Runs.{Next, Ends, Moves, next_of, next_behind, group_next, end_next, bracket_next, name_next, operator_next, version_next, sign_next, next, Runs, ends, moves, one_end, fault_in, reader_runs}
-use Rattle.ctl_relation.proofs.Faults.{Whole, ended, due_is, whole_due, read_fault}
+use Rattle.ctl_relation.proofs.Faults.{ended, due_is, whole_due, read_fault}
 
 -- ---- a token in front is the next one
 
@@ -46,7 +46,7 @@ no_colon kind (b ∷ text) s = ap (λ z. cond z (Moves QualifierDue text) (brack
 
 -- Runs of what follows are runs from here.
 abbrev Leads : FieldKind → Place → List ℕ → Next → Type 0
-Leads kind p text n = Whole p text × (next kind p text ≡ n)
+Leads kind p text n = IsWhole p text × (next kind p text ≡ n)
 
 name_leads : (kind : FieldKind) (blanks left : List ℕ) (c : ℕ) → IsWhitespace blanks → Cuts c → Leads kind AfterName ((blanks ++ c ∷ []) ++ left) (bracket_next kind (c ∷ left))
 name_leads kind blanks left c b h = (
@@ -222,42 +222,53 @@ close_leads kind blanks left b = (stops_byte is_version_word_byte blanks left 41
 
 -- ---- what stands at a place is read up to it
 
-joined : (kind : FieldKind) (before token left : List ℕ) (r : Option RelationFault) → Runs kind GroupDue (before ++ (token ++ left)) r → Runs kind GroupDue ((before ++ token) ++ left) r
-joined kind before token left r h = let P : List ℕ → Type 0 = λ z. Runs kind GroupDue z r in subst P (sym (append_assoc before token left)) h
+joined : (holds : Place → List ℕ → Type 0) (before token left : List ℕ) → holds GroupDue (before ++ (token ++ left)) → holds GroupDue ((before ++ token) ++ left)
+joined holds before token left h = let P : List ℕ → Type 0 = holds GroupDue in subst P (sym (append_assoc before token left)) h
 
-stands_runs : (kind : FieldKind) (read : List ℕ) (p : Place) → StandsAt kind read p → (left : List ℕ) (r : Option RelationFault) → Whole p left → Runs kind p left r → Runs kind GroupDue (read ++ left) r
-stands_runs kind read p at_start left r w more = more
-stands_runs kind read p (comma_read before blanks q s c b) left r w more =
+-- what each turn hands back to the place before it
+abbrev pub HandsBack : FieldKind → (Place → List ℕ → Type 0) → Type 0
+HandsBack kind holds = (p q : Place) (left t : List ℕ) → next kind p left ≡ Moves q t → holds q t → holds p left
+
+-- What holds of what is left holds of the body.
+pub stands_lead : (kind : FieldKind) (holds : Place → List ℕ → Type 0) → HandsBack kind holds → (read : List ℕ) (p : Place) → StandsAt kind read p → (left : List ℕ) → IsWhole p left → holds p left → holds GroupDue (read ++ left)
+stands_lead kind holds back read p at_start left w h = h
+stands_lead kind holds back read p (comma_read before blanks q s c b) left w h =
     let l = comma_leads kind q blanks left c b in
-    joined kind before (blanks ++ 44 ∷ []) left r (stands_runs kind before q s ((blanks ++ 44 ∷ []) ++ left) r l.0 (moves q ((blanks ++ 44 ∷ []) ++ left) GroupDue left r l.1 more))
-stands_runs kind read p (bar_read before blanks q s c a b) left r w more =
+    joined holds before (blanks ++ 44 ∷ []) left (stands_lead kind holds back before q s ((blanks ++ 44 ∷ []) ++ left) l.0 (back q GroupDue ((blanks ++ 44 ∷ []) ++ left) left l.1 h))
+stands_lead kind holds back read p (bar_read before blanks q s c a b) left w h =
     let l = bar_leads kind q blanks left c a b in
-    joined kind before (blanks ++ 124 ∷ []) left r (stands_runs kind before q s ((blanks ++ 124 ∷ []) ++ left) r l.0 (moves q ((blanks ++ 124 ∷ []) ++ left) AtomDue left r l.1 more))
-stands_runs kind read p (name_read before blanks word q s c b h) left r w more =
-    let l = names_lead kind q blanks word left c b h w in
-    joined kind before (blanks ++ word) left r (stands_runs kind before q s ((blanks ++ word) ++ left) r l.0 (moves q ((blanks ++ word) ++ left) AfterName left r l.1 more))
-stands_runs kind read p (colon_read before s) left r w more = joined kind before (58 ∷ []) left r (stands_runs kind before AfterName s ((58 ∷ []) ++ left) r refl (moves AfterName ((58 ∷ []) ++ left) QualifierDue left r (refl) more))
-stands_runs kind read p (qualifier_read before word s h a) left r w more =
-    let l = qualifiers_lead kind word left h a w in
-    joined kind before word left r (stands_runs kind before QualifierDue s (word ++ left) r l.0 (moves QualifierDue (word ++ left) AfterQualifier left r l.1 more))
-stands_runs kind read p (bracket_read before blanks q s c b) left r w more =
+    joined holds before (blanks ++ 124 ∷ []) left (stands_lead kind holds back before q s ((blanks ++ 124 ∷ []) ++ left) l.0 (back q AtomDue ((blanks ++ 124 ∷ []) ++ left) left l.1 h))
+stands_lead kind holds back read p (name_read before blanks word q s c b n) left w h =
+    let l = names_lead kind q blanks word left c b n w in
+    joined holds before (blanks ++ word) left (stands_lead kind holds back before q s ((blanks ++ word) ++ left) l.0 (back q AfterName ((blanks ++ word) ++ left) left l.1 h))
+stands_lead kind holds back read p (colon_read before s) left w h =
+    joined holds before (58 ∷ []) left (stands_lead kind holds back before AfterName s ((58 ∷ []) ++ left) refl (back AfterName QualifierDue ((58 ∷ []) ++ left) left refl h))
+stands_lead kind holds back read p (qualifier_read before word s n a) left w h =
+    let l = qualifiers_lead kind word left n a w in
+    joined holds before word left (stands_lead kind holds back before QualifierDue s (word ++ left) l.0 (back QualifierDue AfterQualifier (word ++ left) left l.1 h))
+stands_lead kind holds back read p (bracket_read before blanks q s c b) left w h =
     let l = bracket_leads kind q blanks left c b in
-    joined kind before (blanks ++ 40 ∷ []) left r (stands_runs kind before q s ((blanks ++ 40 ∷ []) ++ left) r l.0 (moves q ((blanks ++ 40 ∷ []) ++ left) OperatorDue left r l.1 more))
-stands_runs kind read p (equal_read before blanks s b) left r w more = joined kind before (blanks ++ 61 ∷ []) left r (stands_runs kind before OperatorDue s ((blanks ++ 61 ∷ []) ++ left) r tt (moves OperatorDue ((blanks ++ 61 ∷ []) ++ left) VersionDue left r (ap (operator_next kind) (rest_byte blanks left 61 b refl)) more))
-stands_runs kind read p (sign_read before blanks d s b h i) left r w more =
-    let l = signs_lead kind blanks left d b h i in
-    joined kind before (blanks ++ d ∷ []) left r (stands_runs kind before OperatorDue s ((blanks ++ d ∷ []) ++ left) r l.0 (moves OperatorDue ((blanks ++ d ∷ []) ++ left) (AfterSign d) left r l.1 more))
-stands_runs kind read p (sign_longer before d c s h) left r w more = joined kind before (c ∷ []) left r (stands_runs kind before (AfterSign d) s ((c ∷ []) ++ left) r tt (moves (AfterSign d) ((c ∷ []) ++ left) VersionDue left r (ap (λ t. cond t (Moves VersionDue left) (version_next (c ∷ left))) h) more))
-stands_runs kind read p (version_read before blanks v q s c b h) left r w more =
-    let l = versions_lead kind q blanks v left c (stands_sign kind before q s) b h w in
-    joined kind before (blanks ++ v) left r (stands_runs kind before q s ((blanks ++ v) ++ left) r l.0 (moves q ((blanks ++ v) ++ left) CloseDue left r l.1 more))
-stands_runs kind read p (close_read before blanks s b) left r w more =
+    joined holds before (blanks ++ 40 ∷ []) left (stands_lead kind holds back before q s ((blanks ++ 40 ∷ []) ++ left) l.0 (back q OperatorDue ((blanks ++ 40 ∷ []) ++ left) left l.1 h))
+stands_lead kind holds back read p (equal_read before blanks s b) left w h =
+    joined holds before (blanks ++ 61 ∷ []) left (stands_lead kind holds back before OperatorDue s ((blanks ++ 61 ∷ []) ++ left) tt (back OperatorDue VersionDue ((blanks ++ 61 ∷ []) ++ left) left (ap (operator_next kind) (rest_byte blanks left 61 b refl)) h))
+stands_lead kind holds back read p (sign_read before blanks d s b i n) left w h =
+    let l = signs_lead kind blanks left d b i n in
+    joined holds before (blanks ++ d ∷ []) left (stands_lead kind holds back before OperatorDue s ((blanks ++ d ∷ []) ++ left) l.0 (back OperatorDue (AfterSign d) ((blanks ++ d ∷ []) ++ left) left l.1 h))
+stands_lead kind holds back read p (sign_longer before d c s n) left w h =
+    joined holds before (c ∷ []) left (stands_lead kind holds back before (AfterSign d) s ((c ∷ []) ++ left) tt (back (AfterSign d) VersionDue ((c ∷ []) ++ left) left (ap (λ t. cond t (Moves VersionDue left) (version_next (c ∷ left))) n) h))
+stands_lead kind holds back read p (version_read before blanks v q s c b n) left w h =
+    let l = versions_lead kind q blanks v left c (stands_sign kind before q s) b n w in
+    joined holds before (blanks ++ v) left (stands_lead kind holds back before q s ((blanks ++ v) ++ left) l.0 (back q CloseDue ((blanks ++ v) ++ left) left l.1 h))
+stands_lead kind holds back read p (close_read before blanks s b) left w h =
     let l = close_leads kind blanks left b in
-    joined kind before (blanks ++ 41 ∷ []) left r (stands_runs kind before CloseDue s ((blanks ++ 41 ∷ []) ++ left) r l.0 (moves CloseDue ((blanks ++ 41 ∷ []) ++ left) AfterAtom left r l.1 more))
+    joined holds before (blanks ++ 41 ∷ []) left (stands_lead kind holds back before CloseDue s ((blanks ++ 41 ∷ []) ++ left) l.0 (back CloseDue AfterAtom ((blanks ++ 41 ∷ []) ++ left) left l.1 h))
+
+stands_runs : (kind : FieldKind) (read : List ℕ) (p : Place) → StandsAt kind read p → (left : List ℕ) (r : Option RelationFault) → IsWhole p left → Runs kind p left r → Runs kind GroupDue (read ++ left) r
+stands_runs kind read p s left r w more = stands_lead kind (λ q t. Runs kind q t r) (λ q x l t e runs. moves q l x t r e runs) read p s left w more
 
 -- ---- one fault
 
-ended_so : (n : Next) (f : RelationFault) → ended n ≡ Some f → n ≡ Ends (Some f)
+pub ended_so : (n : Next) (f : RelationFault) → ended n ≡ Some f → n ≡ Ends (Some f)
 ended_so (Ends r) f h = ap Ends h
 ended_so (Moves q t) f h = absurd cc
 
@@ -275,10 +286,10 @@ fault_read kind body f h =
 -- the shortest end from a place
 record Ending (kind : FieldKind) (p : Place) : Type 0 where
   more : List ℕ
-  whole : Whole p more
+  whole : IsWhole p more
   runs : Runs kind p more None
 
-at_end : (kind : FieldKind) (p : Place) → next kind p [] ≡ Ends None → Whole p [] → Ending kind p
+at_end : (kind : FieldKind) (p : Place) → next kind p [] ≡ Ends None → IsWhole p [] → Ending kind p
 at_end kind p e w = record { more = []; whole = w; runs = ends p [] None e }
 
 close_runs : (kind : FieldKind) → Runs kind CloseDue (41 ∷ []) None

@@ -12,8 +12,8 @@ use Rattle.ctl_relation.specs.Version.{fault_of}
 use Rattle.ctl_relation.specs.Names.{is_name_byte, is_name}
 use Rattle.ctl_relation.specs.FieldKind.{is_provides, has_alternatives}
 use Rattle.ctl_relation.specs.Reading.{is_whitespace, is_qualifier_byte, is_version_word_byte, run, rest, name_at, version_at, close_at, relations_of, Gives}
-use Rattle.ctl_relation.specs.Fault.{Place, GroupDue, AtomDue, AfterName, QualifierDue, AfterQualifier, OperatorDue, AfterSign, VersionDue, CloseDue, AfterAtom, takes_name, takes_bracket, takes_bar, takes_comma, takes_version, is_sign, lengthens, StandsAt, at_start, comma_read, bar_read, name_read, colon_read, qualifier_read, bracket_read, equal_read, sign_read, sign_longer, version_read, close_read, name_fault, group_fault, end_fault, bracket_fault, operator_fault, version_fault, close_fault, due_fault, IsFault, NeverMemory}
-use Rattle.ctl_relation.proofs.Only.{Stops}
+use Rattle.ctl_relation.specs.Fault.{Place, GroupDue, AtomDue, AfterName, QualifierDue, AfterQualifier, OperatorDue, AfterSign, VersionDue, CloseDue, AfterAtom, takes_name, takes_bracket, takes_bar, takes_comma, takes_version, is_sign, lengthens, StandsAt, at_start, comma_read, bar_read, name_read, colon_read, qualifier_read, bracket_read, equal_read, sign_read, sign_longer, version_read, close_read, name_fault, group_fault, end_fault, bracket_fault, operator_fault, version_fault, close_fault, due_fault, IsFault, NeverMemory, IsWhole, Stops}
+use Rattle.ctl_relation.proofs.Only.{}
 use Rattle.ctl_relation.proofs.Found.{run-rest, run-passes}
 use Rattle.ctl_relation.proofs.Runs.{Next, Ends, Moves, next_of, next_behind, group_next, end_next, bracket_next, operator_next, version_next, next, Runs, ends, moves, on_test, more_than, fault_in, reader_runs}
 
@@ -45,13 +45,6 @@ rest-stops p (b ∷ text) = go (p b) refl (rest-stops p text)
     go false u h = let P : List ℕ → Type 0 = Stops p in subst P (sym (rest-all p b text u)) u
 
 -- ---- the table of faults is where the places end
-
--- the token before doesn't go on
-abbrev pub Whole : Place → List ℕ → Type 0
-Whole AfterName left = Stops is_name_byte left
-Whole AfterQualifier left = Stops is_qualifier_byte left
-Whole CloseDue left = Stops is_version_word_byte left
-Whole _ left = Unit {0}
 
 abbrev pub ended : Next → Option RelationFault
 ended (Ends r) = r
@@ -126,7 +119,7 @@ close_is (b ∷ text) = go (b == 41)
     go true = refl
     go false = refl
 
-pub due_is : (kind : FieldKind) (p : Place) (left : List ℕ) → Whole p left → due_fault kind p left ≡ ended (next kind p left)
+pub due_is : (kind : FieldKind) (p : Place) (left : List ℕ) → IsWhole p left → due_fault kind p left ≡ ended (next kind p left)
 due_is kind GroupDue left w = group_is (rest is_whitespace left)
 due_is kind AtomDue left w = name_is (rest is_whitespace left)
 due_is kind AfterName [] w = refl
@@ -152,7 +145,7 @@ ends_here f true x h = absurd cc
 ends_here f false x h = refl
 
 -- where there is a fault the token before doesn't go on
-pub whole_due : (kind : FieldKind) (p : Place) (left : List ℕ) (f : RelationFault) → due_fault kind p left ≡ Some f → Whole p left
+pub whole_due : (kind : FieldKind) (p : Place) (left : List ℕ) (f : RelationFault) → due_fault kind p left ≡ Some f → IsWhole p left
 whole_due kind GroupDue left f h = tt
 whole_due kind AtomDue left f h = tt
 whole_due kind AfterName [] f h = tt
@@ -169,10 +162,10 @@ whole_due kind AfterAtom left f h = tt
 
 -- ---- one token on
 
-abbrev Moved : FieldKind → Place → List ℕ → Place → List ℕ → Type 0
-Moved kind p left q t = (token : List ℕ) × (left ≡ token ++ t) × ((read : List ℕ) → StandsAt kind read p → StandsAt kind (read ++ token) q) × Whole q t
+abbrev pub Moved : FieldKind → Place → List ℕ → Place → List ℕ → Type 0
+Moved kind p left q t = (token : List ℕ) × (left ≡ token ++ t) × ((read : List ℕ) → StandsAt kind read p → StandsAt kind (read ++ token) q) × IsWhole q t
 
-abbrev Outcome : FieldKind → Place → List ℕ → Next → Type 0
+abbrev pub Outcome : FieldKind → Place → List ℕ → Next → Type 0
 Outcome kind p left (Ends r) = Unit {0}
 Outcome kind p left (Moves q t) = Moved kind p left q t
 
@@ -238,7 +231,7 @@ close_out kind left (b ∷ t) e =
 qualifier_some : (q : List ℕ) → (length q == 0) ≡ false → 0 < length q
 qualifier_some q h = grind (arith, nat_tests)
 
-outcome : (kind : FieldKind) (p : Place) (left : List ℕ) → Outcome kind p left (next kind p left)
+pub outcome : (kind : FieldKind) (p : Place) (left : List ℕ) → Outcome kind p left (next kind p left)
 outcome kind GroupDue left = group_out kind left (rest is_whitespace left) refl
 outcome kind AtomDue left = name_out kind AtomDue left (rest is_whitespace left) refl refl
 outcome kind AfterName [] = tt
@@ -265,7 +258,7 @@ abbrev Ran : FieldKind → List ℕ → Option RelationFault → Type 0
 Ran kind body None = Unit {0}
 Ran kind body (Some f) = IsFault kind body f
 
-runs_fault : (kind : FieldKind) (p : Place) (left : List ℕ) (r : Option RelationFault) → Runs kind p left r → (read : List ℕ) → StandsAt kind read p → Whole p left → Ran kind (read ++ left) r
+runs_fault : (kind : FieldKind) (p : Place) (left : List ℕ) (r : Option RelationFault) → Runs kind p left r → (read : List ℕ) → StandsAt kind read p → IsWhole p left → Ran kind (read ++ left) r
 runs_fault kind p left None h read s w = tt
 runs_fault kind p left (Some f) (ends _ _ _ e) read s w = record { read = read; left = left; place = p; whole = refl; stands = s; due = due_is kind p left w ∙ ap ended e }
 runs_fault kind p left (Some f) (moves _ _ q t _ e more) read s w =

@@ -11,7 +11,8 @@ use Rattle.ctl_relation.specs.Parts.{AtomParts}
 use Rattle.ctl_relation.specs.Names.{is_name}
 use Rattle.ctl_relation.specs.Reading.{◌>>=◌, is_whitespace, rest, atom_at, behind_byte, alternatives, group_at, groups_behind, groups_from, groups_at, relations_of, Gives}
 use Rattle.ctl_relation.specs.Grammar.{IsWhitespace, AtomText, PaddedAtom, GroupText, PiecesText, groups_of, RelationsText}
-use Rattle.ctl_relation.proofs.Only.{Stops, rest_again}
+use Rattle.ctl_relation.specs.Fault.{Stops}
+use Rattle.ctl_relation.proofs.Only.{rest_again}
 use Rattle.ctl_relation.proofs.AtomAgain.{taken, step, atom_again}
 
 -- a group goes up to a comma or the end

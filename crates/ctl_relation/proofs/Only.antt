@@ -11,11 +11,7 @@ use Rattle.ctl_relation.specs.Version.{fault_of}
 use Rattle.ctl_relation.specs.Names.{is_name_byte, is_name}
 use Rattle.ctl_relation.specs.Reading.{is_whitespace, is_qualifier_byte, is_version_word_byte, run, rest, name_at, qualifier_at, operator_token, version_at}
 use Rattle.ctl_relation.specs.Grammar.{IsWhitespace, IsSpelled}
-
--- no byte that passes comes first
-abbrev pub Stops : (ℕ → Bool) → List ℕ → Type 0
-Stops p [] = Unit {0}
-Stops p (b ∷ text) = p b ≡ false
+use Rattle.ctl_relation.specs.Fault.{Stops}
 
 both : (s t : Bool) → (s && t) ≡ true → (s ≡ true) × (t ≡ true)
 both true t h = (refl, h)

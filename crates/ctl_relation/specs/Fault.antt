@@ -1,7 +1,7 @@
 -- The fault of a text that is no relation field, said apart from how it is read.
 -- The text is read token by token from the left. The fault stands behind the last token up to which some field of the
 -- grammar reads the same, and is named by what is due there.
-use Rattle.std.specs.Prelude.{◌≡◌, ◌≢◌, ◌⊎◌, ℕ, ◌<◌, ◌==◌, ◌||◌, Bool, true, false, List, [], ◌∷◌, ◌++◌, length, is_none, Option, Some, None, if◌then◌else◌}
+use Rattle.std.specs.Prelude.{◌≡◌, ◌≢◌, ◌⊎◌, ℕ, ◌<◌, ◌≤◌, ◌==◌, ◌||◌, Bool, true, false, List, [], ◌∷◌, ◌++◌, length, is_none, Option, Some, None, if◌then◌else◌}
 use Rattle.std.specs.List.{list_all}
 use Rattle.std.specs.Char.{is_ascii_alphanumeric}
 use Rattle.ctl_relation.specs.declared.relation_fault.RelationFault.{RelationFault}
@@ -94,6 +94,18 @@ pub data StandsAt (kind : FieldKind) : List ℕ → Place → Type 0 where
   version_read : (read blanks version : List ℕ) (place : Place) → StandsAt kind read place → takes_version place ≡ true → IsWhitespace blanks → fault_of version ≡ None → StandsAt kind (read ++ (blanks ++ version)) CloseDue
   close_read : (read blanks : List ℕ) → StandsAt kind read CloseDue → IsWhitespace blanks → StandsAt kind (read ++ (blanks ++ right_parenthesis ∷ [])) AfterAtom
 
+-- no byte that passes comes first
+abbrev pub Stops : (ℕ → Bool) → List ℕ → Type 0
+Stops passes [] = Unit {0}
+Stops passes (b ∷ text) = passes b ≡ false
+
+-- The last token does not go on in what is left.
+abbrev pub IsWhole : Place → List ℕ → Type 0
+IsWhole AfterName left = Stops is_name_byte left
+IsWhole AfterQualifier left = Stops is_qualifier_byte left
+IsWhole CloseDue left = Stops is_version_word_byte left
+IsWhole _ left = Unit {0}
+
 -- ---- the fault by what is left: none where what is due comes first, or where the token before goes on
 
 -- a name begins with a letter or a digit
@@ -179,6 +191,12 @@ pub record IsFault (kind : FieldKind) (body : List ℕ) (f : RelationFault) : Ty
 -- Each place can be continued to a field.
 abbrev pub Continues : Type 0
 Continues = (kind : FieldKind) (read : List ℕ) (place : Place) → StandsAt kind read place → (more : List ℕ) × (groups : List (List AtomParts)) × RelationsText kind (read ++ more) groups
+
+-- No whole tokens that some field begins with reach further into the body than to its fault.
+abbrev pub StandsLast : Type 0
+StandsLast =
+    (kind : FieldKind) (body : List ℕ) (f : RelationFault) (found : IsFault kind body f) (read left : List ℕ) (place : Place)
+    → body ≡ read ++ left → StandsAt kind read place → IsWhole place left → length read ≤ length found.read
 
 -- A body has groups or a fault,
 abbrev pub GroupsOrFault : Type 0
