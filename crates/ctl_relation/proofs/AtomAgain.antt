@@ -8,13 +8,13 @@ use Rattle.ctl_relation.specs.declared.relation_fault.RelationFault.TheVariants 
 use Rattle.ctl_relation.specs.declared.operator.Operator.{Operator}
 use Rattle.ctl_relation.specs.declared.operator.Operator.TheVariants.{Earlier, EarlierOrEqual, Equal, LaterOrEqual, Later}
 use Rattle.ctl_relation.specs.declared.field_kind.FieldKind.{FieldKind}
+use Rattle.ctl_relation.specs.FieldBytes.{is_whitespace, is_qualifier_byte, is_version_word_byte, run, rest, Stops}
 use Rattle.ctl_relation.specs.Parts.{AtomParts}
 use Rattle.ctl_relation.specs.Version.{is_upstream_byte, fault_of}
 use Rattle.ctl_relation.specs.Names.{is_name_byte}
-use Rattle.ctl_relation.specs.FieldKind.{is_provides}
-use Rattle.ctl_relation.specs.Reading.{◌>>=◌, is_whitespace, is_qualifier_byte, is_version_word_byte, is_exact, run, rest, name_at, qualifier_at, operator_token, allowed, operator_at, version_at, close_at, parenthesized_at, bound_behind, bound_at, atom_at}
+use Rattle.ctl_relation.specs.FieldKind.{is_provides, is_exact}
+use Rattle.ctl_relation.specs.Reading.{◌>>=◌, name_at, qualifier_at, operator_token, allowed, operator_at, version_at, close_at, parenthesized_at, bound_behind, bound_at, atom_at}
 use Rattle.ctl_relation.specs.Grammar.{IsWhitespace, IsSpelled, QualifierText, BoundText, AtomText}
-use Rattle.ctl_relation.specs.Fault.{Stops}
 use Rattle.ctl_relation.proofs.VersionBytes.{version_bytes, all_weaker}
 use Rattle.ctl_relation.proofs.Only.{is_operator_byte, rest_again, stops_blanks, name_again, qualifier_again, operator_again, version_again}
 

@@ -7,13 +7,14 @@ use Rattle.std.proofs.lemmas.Bool.Decides.{nat_tests}
 use Rattle.ctl_relation.specs.declared.relation_fault.RelationFault.{RelationFault}
 use Rattle.ctl_relation.specs.declared.relation_fault.RelationFault.TheVariants as fault
 use Rattle.ctl_relation.specs.declared.field_kind.FieldKind.{FieldKind}
+use Rattle.ctl_relation.specs.FieldBytes.{is_whitespace, is_qualifier_byte, is_version_word_byte, rest, Stops}
 use Rattle.ctl_relation.specs.Parts.{AtomParts}
 use Rattle.ctl_relation.specs.Version.{is_upstream_byte, fault_of}
 use Rattle.ctl_relation.specs.Names.{is_name_byte, is_name}
 use Rattle.ctl_relation.specs.FieldKind.{is_provides, has_alternatives}
-use Rattle.ctl_relation.specs.Reading.{is_whitespace, is_qualifier_byte, is_version_word_byte, rest, name_at, version_at, close_at, relations_of}
+use Rattle.ctl_relation.specs.Reading.{name_at, version_at, close_at, relations_of}
 use Rattle.ctl_relation.specs.Grammar.{IsWhitespace, RelationsText}
-use Rattle.ctl_relation.specs.Fault.{Place, GroupDue, AtomDue, AfterName, QualifierDue, AfterQualifier, OperatorDue, AfterSign, VersionDue, CloseDue, AfterAtom, takes_name, takes_bracket, takes_bar, takes_comma, takes_version, is_sign, lengthens, StandsAt, at_start, comma_read, bar_read, name_read, colon_read, qualifier_read, bracket_read, equal_read, sign_read, sign_longer, version_read, close_read, IsFault, Continues, GroupsOrFault, NeverBoth, OneFault, IsWhole, Stops}
+use Rattle.ctl_relation.specs.Fault.{Place, GroupDue, AtomDue, AfterName, QualifierDue, AfterQualifier, OperatorDue, AfterSign, VersionDue, CloseDue, AfterAtom, takes_name, takes_bracket, takes_bar, takes_comma, takes_version, is_sign, lengthens, StandsAt, at_start, comma_read, bar_read, name_read, colon_read, qualifier_read, bracket_read, equal_read, sign_read, sign_longer, version_read, close_read, IsFault, Continues, GroupsOrFault, NeverBoth, OneFault, IsWhole}
 use Rattle.ctl_relation.proofs.VersionBytes.{version_bytes, all_weaker}
 use Rattle.ctl_relation.proofs.Only.{is_operator_byte, run_again, rest_again, stops_blanks, name_again, version_again, nonempty}
 use Rattle.ctl_relation.proofs.AtomAgain.{blank_no_name, blank_no_qualifier, blank_no_colon, blank_ends_version, stops_version, upstream_run, upstream_no_blank, upstream_no_operator, blank_no_operator}

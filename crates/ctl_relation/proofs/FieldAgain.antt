@@ -7,11 +7,11 @@ use Rattle.std.proofs.lemmas.Bool.Decides.{nat_tests}
 use Rattle.ctl_relation.specs.declared.relation_fault.RelationFault.{RelationFault}
 use Rattle.ctl_relation.specs.declared.relation_fault.RelationFault.TheVariants as fault
 use Rattle.ctl_relation.specs.declared.field_kind.FieldKind.{FieldKind}
+use Rattle.ctl_relation.specs.FieldBytes.{is_whitespace, rest, Stops}
 use Rattle.ctl_relation.specs.Parts.{AtomParts}
 use Rattle.ctl_relation.specs.Names.{is_name}
-use Rattle.ctl_relation.specs.Reading.{◌>>=◌, is_whitespace, rest, atom_at, behind_byte, alternatives, group_at, groups_behind, groups_from, groups_at, relations_of, Gives}
+use Rattle.ctl_relation.specs.Reading.{◌>>=◌, atom_at, behind_byte, alternatives, group_at, groups_behind, groups_from, groups_at, relations_of, Gives}
 use Rattle.ctl_relation.specs.Grammar.{IsWhitespace, AtomText, PaddedAtom, GroupText, PiecesText, groups_of, RelationsText}
-use Rattle.ctl_relation.specs.Fault.{Stops}
 use Rattle.ctl_relation.proofs.Only.{rest_again}
 use Rattle.ctl_relation.proofs.AtomAgain.{taken, step, atom_again}
 

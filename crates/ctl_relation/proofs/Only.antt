@@ -7,11 +7,11 @@ use Rattle.std.proofs.lemmas.Bool.Decides.{nat_tests}
 use Rattle.ctl_relation.specs.declared.relation_fault.RelationFault.TheVariants as fault
 use Rattle.ctl_relation.specs.declared.operator.Operator.{Operator}
 use Rattle.ctl_relation.specs.declared.operator.Operator.TheVariants.{Earlier, EarlierOrEqual, Equal, LaterOrEqual, Later}
+use Rattle.ctl_relation.specs.FieldBytes.{is_whitespace, is_qualifier_byte, is_version_word_byte, run, rest, Stops}
 use Rattle.ctl_relation.specs.Version.{fault_of}
 use Rattle.ctl_relation.specs.Names.{is_name_byte, is_name}
-use Rattle.ctl_relation.specs.Reading.{is_whitespace, is_qualifier_byte, is_version_word_byte, run, rest, name_at, qualifier_at, operator_token, version_at}
+use Rattle.ctl_relation.specs.Reading.{name_at, qualifier_at, operator_token, version_at}
 use Rattle.ctl_relation.specs.Grammar.{IsWhitespace, IsSpelled}
-use Rattle.ctl_relation.specs.Fault.{Stops}
 
 both : (s t : Bool) → (s && t) ≡ true → (s ≡ true) × (t ≡ true)
 both true t h = (refl, h)

@@ -8,10 +8,11 @@ use Rattle.ctl_relation.specs.declared.relation_fault.RelationFault.TheVariants 
 use Rattle.ctl_relation.specs.declared.operator.Operator.{Operator}
 use Rattle.ctl_relation.specs.declared.operator.Operator.TheVariants.{Earlier, EarlierOrEqual, Equal, LaterOrEqual, Later}
 use Rattle.ctl_relation.specs.declared.field_kind.FieldKind.{FieldKind}
+use Rattle.ctl_relation.specs.FieldBytes.{is_whitespace, is_qualifier_byte, run, rest}
 use Rattle.ctl_relation.specs.Parts.{AtomParts}
 use Rattle.ctl_relation.specs.Names.{is_name}
-use Rattle.ctl_relation.specs.FieldKind.{is_provides, has_alternatives}
-use Rattle.ctl_relation.specs.Reading.{◌>>=◌, is_whitespace, is_qualifier_byte, is_exact, run, rest, name_at, qualifier_at, operator_token, allowed, operator_at, version_at, close_at, parenthesized_at, bound_behind, bound_at, atom_at, behind_byte, alternatives, group_at, groups_behind, groups_from, groups_at, relations_of}
+use Rattle.ctl_relation.specs.FieldKind.{is_provides, has_alternatives, is_exact}
+use Rattle.ctl_relation.specs.Reading.{◌>>=◌, name_at, qualifier_at, operator_token, allowed, operator_at, version_at, close_at, parenthesized_at, bound_behind, bound_at, atom_at, behind_byte, alternatives, group_at, groups_behind, groups_from, groups_at, relations_of}
 use Rattle.ctl_relation.specs.Fault.{Place, GroupDue, AtomDue, AfterName, QualifierDue, AfterQualifier, OperatorDue, AfterSign, VersionDue, CloseDue, AfterAtom, is_sign, lengthens}
 use Rattle.ctl_relation.proofs.AtomAgain.{taken, step}
 use Rattle.ctl_relation.proofs.Found.{atom_found, behind_found}

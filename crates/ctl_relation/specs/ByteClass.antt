@@ -2,8 +2,8 @@
 use Rattle.std.specs.Prelude.{ℕ, Bool}
 use Rattle.ctl_relation.specs.declared.tokens.ByteClass.{ByteClass}
 use Rattle.ctl_relation.specs.declared.tokens.ByteClass.TheVariants.{Whitespace, Name, Qualifier, VersionWord}
+use Rattle.ctl_relation.specs.FieldBytes.{is_whitespace, is_qualifier_byte, is_version_word_byte}
 use Rattle.ctl_relation.specs.Names.{is_name_byte}
-use Rattle.ctl_relation.specs.Reading.{is_whitespace, is_qualifier_byte, is_version_word_byte}
 
 abbrev pub class_has : ByteClass → ℕ → Bool
 class_has Whitespace = is_whitespace

@@ -7,12 +7,12 @@ use Rattle.std.specs.Char.{is_ascii_alphanumeric}
 use Rattle.ctl_relation.specs.declared.relation_fault.RelationFault.{RelationFault}
 use Rattle.ctl_relation.specs.declared.relation_fault.RelationFault.TheVariants as fault
 use Rattle.ctl_relation.specs.declared.field_kind.FieldKind.{FieldKind}
+use Rattle.ctl_relation.specs.FieldBytes.{is_whitespace, is_qualifier_byte, is_version_word_byte, run, rest, Stops}
 use Rattle.ctl_relation.specs.Parts.{AtomParts}
 use Rattle.ctl_relation.specs.Version.{fault_of}
 use Rattle.ctl_relation.specs.Names.{is_name_byte, is_name}
 use Rattle.ctl_relation.specs.Bytes.{left_parenthesis, right_parenthesis, comma, colon, less_than, equals, greater_than, bar}
 use Rattle.ctl_relation.specs.FieldKind.{is_provides, has_alternatives}
-use Rattle.ctl_relation.specs.Reading.{is_whitespace, is_qualifier_byte, is_version_word_byte, run, rest}
 use Rattle.ctl_relation.specs.Grammar.{IsWhitespace, RelationsText}
 
 -- Between two tokens: what is due there.
@@ -93,11 +93,6 @@ pub data StandsAt (kind : FieldKind) : List ℕ → Place → Type 0 where
   sign_longer : (read : List ℕ) (b c : ℕ) → StandsAt kind read (AfterSign b) → lengthens b c ≡ true → StandsAt kind (read ++ c ∷ []) VersionDue
   version_read : (read blanks version : List ℕ) (place : Place) → StandsAt kind read place → takes_version place ≡ true → IsWhitespace blanks → fault_of version ≡ None → StandsAt kind (read ++ (blanks ++ version)) CloseDue
   close_read : (read blanks : List ℕ) → StandsAt kind read CloseDue → IsWhitespace blanks → StandsAt kind (read ++ (blanks ++ right_parenthesis ∷ [])) AfterAtom
-
--- no byte that passes comes first
-abbrev pub Stops : (ℕ → Bool) → List ℕ → Type 0
-Stops passes [] = Unit {0}
-Stops passes (b ∷ text) = passes b ≡ false
 
 -- The last token does not go on in what is left.
 abbrev pub IsWhole : Place → List ℕ → Type 0

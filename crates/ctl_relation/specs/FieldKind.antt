@@ -2,6 +2,8 @@
 use Rattle.std.specs.Prelude.{◌≡◌, ℕ, Bool, true, false}
 use Rattle.ctl_relation.specs.declared.field_kind.FieldKind.{FieldKind}
 use Rattle.ctl_relation.specs.declared.field_kind.FieldKind.TheVariants.{PreDepends, Depends, Conflicts, Breaks, Recommends, Suggests, Replaces, Enhances, Provides}
+use Rattle.ctl_relation.specs.declared.operator.Operator.{Operator}
+use Rattle.ctl_relation.specs.declared.operator.Operator.TheVariants.{Equal}
 
 -- the place of a field in the list of the nine, by which fields compare
 abbrev pub field_place : FieldKind → ℕ
@@ -34,3 +36,8 @@ has_alternatives Provides = false
 abbrev pub is_provides : FieldKind → Bool
 is_provides Provides = true
 is_provides _ = false
+
+-- `=`, the only operator that Provides has
+abbrev pub is_exact : Operator → Bool
+is_exact Equal = true
+is_exact _ = false

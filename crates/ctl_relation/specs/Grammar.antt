@@ -9,10 +9,10 @@ use Rattle.ctl_relation.specs.declared.operator.Operator.{Operator}
 use Rattle.ctl_relation.specs.declared.operator.Operator.TheVariants.{Earlier, EarlierOrEqual, Equal, LaterOrEqual, Later}
 use Rattle.ctl_relation.specs.declared.field_kind.FieldKind.{FieldKind}
 use Rattle.ctl_relation.specs.Bytes.{left_parenthesis, right_parenthesis, comma, colon, bar}
-use Rattle.ctl_relation.specs.FieldKind.{is_provides, has_alternatives}
+use Rattle.ctl_relation.specs.FieldBytes.{is_whitespace, is_qualifier_byte}
+use Rattle.ctl_relation.specs.FieldKind.{is_provides, has_alternatives, is_exact}
 use Rattle.ctl_relation.specs.Names.{is_name}
 use Rattle.ctl_relation.specs.Parts.{AtomParts}
-use Rattle.ctl_relation.specs.Reading.{is_whitespace, is_qualifier_byte, is_exact}
 use Rattle.ctl_relation.specs.Version.{fault_of}
 
 abbrev pub IsWhitespace : List ℕ → Type 0

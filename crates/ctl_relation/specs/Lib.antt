@@ -13,6 +13,7 @@ pub mod Alternatives
 pub mod Named
 pub mod Printed
 pub mod Met
+pub mod FieldBytes
 pub mod Reading
 pub mod ByteClass
 pub mod Grammar

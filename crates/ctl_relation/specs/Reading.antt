@@ -1,15 +1,14 @@
 -- How a relation field is read from left to right, up to its first fault (Debian Policy 7.1).
 -- What this reads is said apart from it by the grammar (Grammar) and by the place of the fault (Fault).
-use Rattle.std.specs.Prelude.{◌≡◌, ◌≢◌, ◌+◌, ℕ, zero, suc, ◌==◌, ◌||◌, ◌&&◌, not, Bool, true, false, List, [], ◌∷◌, length, take, drop, is_none, Option, Some, None, Result, Ok, Err, if◌then◌else◌}
-use Rattle.std.specs.List.{prefix_len}
-use Rattle.std.specs.Char.{is_ascii_alphanumeric}
+use Rattle.std.specs.Prelude.{◌≡◌, ◌≢◌, ◌+◌, ℕ, zero, suc, ◌==◌, ◌&&◌, not, List, [], ◌∷◌, length, is_none, Option, Some, None, Result, Ok, Err, if◌then◌else◌}
 use Rattle.ctl_relation.specs.declared.relation_fault.RelationFault.{RelationFault}
 use Rattle.ctl_relation.specs.declared.relation_fault.RelationFault.TheVariants as fault
 use Rattle.ctl_relation.specs.declared.operator.Operator.{Operator}
 use Rattle.ctl_relation.specs.declared.operator.Operator.TheVariants.{Earlier, EarlierOrEqual, Equal, LaterOrEqual, Later}
 use Rattle.ctl_relation.specs.declared.field_kind.FieldKind.{FieldKind}
-use Rattle.ctl_relation.specs.Bytes.{tab, newline, space, left_parenthesis, right_parenthesis, comma, hyphen, colon, less_than, equals, greater_than, bar}
-use Rattle.ctl_relation.specs.FieldKind.{has_alternatives, is_provides}
+use Rattle.ctl_relation.specs.Bytes.{left_parenthesis, right_parenthesis, comma, colon, less_than, equals, greater_than, bar}
+use Rattle.ctl_relation.specs.FieldBytes.{is_whitespace, is_qualifier_byte, is_version_word_byte, run, rest}
+use Rattle.ctl_relation.specs.FieldKind.{has_alternatives, is_provides, is_exact}
 use Rattle.ctl_relation.specs.Names.{is_name_byte, is_name}
 use Rattle.ctl_relation.specs.Parts.{AtomParts}
 use Rattle.ctl_relation.specs.Version.{fault_of}
@@ -25,29 +24,7 @@ abbrev pub Gives : {X Y : Type 0} → (X → Y) → Result X RelationFault → R
 Gives view (Ok x) read = read ≡ Ok (view x)
 Gives view (Err e) read = e ≢ fault.Memory → read ≡ Err e
 
--- ---- bytes
-
--- A field may be folded over several lines, so that a newline is whitespace too.
-abbrev pub is_whitespace : ℕ → Bool
-is_whitespace b = b == space || (b == tab || b == newline)
-
--- letters, digits, hyphens
-abbrev pub is_qualifier_byte : ℕ → Bool
-is_qualifier_byte b = is_ascii_alphanumeric b || b == hyphen
-
--- The word of a version goes up to whitespace or a closing parenthesis.
-abbrev pub is_version_word_byte : ℕ → Bool
-is_version_word_byte b = not (is_whitespace b || b == right_parenthesis)
-
 -- ---- tokens
-
--- the bytes that pass at the front
-abbrev pub run : (ℕ → Bool) → List ℕ → List ℕ
-run passes text = take (prefix_len passes text) text
-
--- what follows them
-abbrev pub rest : (ℕ → Bool) → List ℕ → List ℕ
-rest passes text = drop (prefix_len passes text) text
 
 -- A name is the longest run of the bytes of names.
 abbrev pub name_at : List ℕ → Result (List ℕ × List ℕ) RelationFault
@@ -73,11 +50,6 @@ operator_behind b (d ∷ text) =
 abbrev pub operator_token : List ℕ → Option (Operator × List ℕ)
 operator_token [] = None
 operator_token (b ∷ text) = operator_behind b text
-
--- `=`
-abbrev pub is_exact : Operator → Bool
-is_exact Equal = true
-is_exact _ = false
 
 -- Provides has `=` alone.
 abbrev pub allowed : FieldKind → Option (Operator × List ℕ) → Result (Operator × List ℕ) RelationFault
