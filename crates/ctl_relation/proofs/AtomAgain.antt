@@ -5,30 +5,32 @@ use Rattle.std.specs.List.{list_all}
 use Rattle.std.proofs.lemmas.Bool.Decides.{nat_tests}
 use Rattle.ctl_relation.specs.declared.relation_fault.RelationFault.{RelationFault}
 use Rattle.ctl_relation.specs.declared.relation_fault.RelationFault.TheVariants as fault
-use Rattle.ctl_relation.specs.declared.relation.Operator.{Operator}
-use Rattle.ctl_relation.specs.declared.relation.Operator.TheVariants.{Earlier, EarlierOrEqual, Equal, LaterOrEqual, Later}
-use Rattle.ctl_relation.specs.declared.relation.FieldKind.{FieldKind}
-use Rattle.ctl_relation.specs.declared.relation.Atom.{Atom}
+use Rattle.ctl_relation.specs.declared.operator.Operator.{Operator}
+use Rattle.ctl_relation.specs.declared.operator.Operator.TheVariants.{Earlier, EarlierOrEqual, Equal, LaterOrEqual, Later}
+use Rattle.ctl_relation.specs.declared.field_kind.FieldKind.{FieldKind}
+use Rattle.ctl_relation.specs.FieldBytes.{is_whitespace, is_qualifier_byte, is_version_word_byte, run, rest, Stops}
+use Rattle.ctl_relation.specs.Parts.{AtomParts}
 use Rattle.ctl_relation.specs.Version.{is_upstream_byte, fault_of}
 use Rattle.ctl_relation.specs.Names.{is_name_byte}
-use Rattle.ctl_relation.specs.Grammar.{◌>>=◌, is_blank, is_qualifier_byte, is_version_run, is_provides, is_exact, run, rest, name_at, qualifier_at, operator_token, allowed, operator_at, version_at, close_at, inner_at, bound_behind, bound_at, atom_at}
-use Rattle.ctl_relation.specs.Relations.{IsBlank, IsSpelled, QualifierText, BoundText, AtomText}
+use Rattle.ctl_relation.specs.FieldKind.{is_provides, is_exact}
+use Rattle.ctl_relation.specs.Reading.{◌>>=◌, name_at, qualifier_at, operator_token, allowed, operator_at, version_at, close_at, parenthesized_at, bound_behind, bound_at, atom_at}
+use Rattle.ctl_relation.specs.Grammar.{IsWhitespace, IsSpelled, QualifierText, BoundText, AtomText}
 use Rattle.ctl_relation.proofs.VersionBytes.{version_bytes, all_weaker}
-use Rattle.ctl_relation.proofs.Only.{Stops, is_operator_byte, rest_again, stops_blanks, name_again, qualifier_again, operator_again, version_again}
+use Rattle.ctl_relation.proofs.Only.{is_operator_byte, rest_again, stops_blanks, name_again, qualifier_again, operator_again, version_again}
 
-pub upstream_run : (b : ℕ) → is_upstream_byte b ≡ true → is_version_run b ≡ true
+pub upstream_run : (b : ℕ) → is_upstream_byte b ≡ true → is_version_word_byte b ≡ true
 upstream_run b h = grind (arith, nat_tests)
 
-pub upstream_no_blank : (b : ℕ) → is_upstream_byte b ≡ true → is_blank b ≡ false
+pub upstream_no_blank : (b : ℕ) → is_upstream_byte b ≡ true → is_whitespace b ≡ false
 upstream_no_blank b h = grind (arith, nat_tests)
 
 pub upstream_no_operator : (b : ℕ) → is_upstream_byte b ≡ true → is_operator_byte b ≡ false
 upstream_no_operator b h = grind (arith, nat_tests)
 
-pub blank_no_operator : (b : ℕ) → is_blank b ≡ true → is_operator_byte b ≡ false
+pub blank_no_operator : (b : ℕ) → is_whitespace b ≡ true → is_operator_byte b ≡ false
 blank_no_operator b h = grind (arith, nat_tests)
 
-pub blank_ends_version : (b : ℕ) → is_blank b ≡ true → is_version_run b ≡ false
+pub blank_ends_version : (b : ℕ) → is_whitespace b ≡ true → is_version_word_byte b ≡ false
 blank_ends_version b h = ap (λ t. not (t || b == 41)) h
 
 -- what doesn't begin a version's byte
@@ -43,14 +45,14 @@ stops_version p (b ∷ v) after f h = f b (first (is_upstream_byte b) (list_all 
 stops_at : (p : ℕ → Bool) (n : ℕ) (s t after : List ℕ) → s ≡ n ∷ t → p n ≡ false → Stops p (s ++ after)
 stops_at p n s t after e h = let P : List ℕ → Type 0 = λ l. Stops p (l ++ after) in subst P (sym e) h
 
-stops_spelled : (op : Operator) (s after : List ℕ) → IsSpelled op s → Stops is_blank (s ++ after)
-stops_spelled Earlier s after h = stops_at is_blank 60 s (60 ∷ []) after h refl
-stops_spelled EarlierOrEqual s after (inl h) = stops_at is_blank 60 s (61 ∷ []) after h refl
-stops_spelled EarlierOrEqual s after (inr h) = stops_at is_blank 60 s [] after h refl
-stops_spelled Equal s after h = stops_at is_blank 61 s [] after h refl
-stops_spelled LaterOrEqual s after (inl h) = stops_at is_blank 62 s (61 ∷ []) after h refl
-stops_spelled LaterOrEqual s after (inr h) = stops_at is_blank 62 s [] after h refl
-stops_spelled Later s after h = stops_at is_blank 62 s (62 ∷ []) after h refl
+stops_spelled : (op : Operator) (s after : List ℕ) → IsSpelled op s → Stops is_whitespace (s ++ after)
+stops_spelled Earlier s after h = stops_at is_whitespace 60 s (60 ∷ []) after h refl
+stops_spelled EarlierOrEqual s after (inl h) = stops_at is_whitespace 60 s (61 ∷ []) after h refl
+stops_spelled EarlierOrEqual s after (inr h) = stops_at is_whitespace 60 s [] after h refl
+stops_spelled Equal s after h = stops_at is_whitespace 61 s [] after h refl
+stops_spelled LaterOrEqual s after (inl h) = stops_at is_whitespace 62 s (61 ∷ []) after h refl
+stops_spelled LaterOrEqual s after (inr h) = stops_at is_whitespace 62 s [] after h refl
+stops_spelled Later s after h = stops_at is_whitespace 62 s (62 ∷ []) after h refl
 
 abbrev pub taken : {A : Type 0} → A → Result A RelationFault
 taken x = Ok x
@@ -66,36 +68,36 @@ allowed_again kind x h = go (is_provides kind) refl
 pub step : {A B : Type 0} (r : Result A RelationFault) (f : A → Result B RelationFault) (x : A) → r ≡ taken x → (r >>= f) ≡ f x
 step r f x e = ap (λ z. z >>= f) e
 
-inner_again : (kind : FieldKind) (op : Operator) (inside spelled between version behind after : List ℕ) → IsBlank inside → IsSpelled op spelled → IsBlank between → IsBlank behind → (is_provides kind ≡ true → is_exact op ≡ true) → fault_of version ≡ None
-    → inner_at kind (inside ++ (spelled ++ (between ++ (version ++ (behind ++ 41 ∷ after))))) ≡ taken ((op, version), after)
-unfolding inner_at
-inner_again kind op inside spelled between version behind after hi hs hb he hp hv =
+parenthesized_again : (kind : FieldKind) (op : Operator) (inside spelled between version behind after : List ℕ) → IsWhitespace inside → IsSpelled op spelled → IsWhitespace between → IsWhitespace behind → (is_provides kind ≡ true → is_exact op ≡ true) → fault_of version ≡ None
+    → parenthesized_at kind (inside ++ (spelled ++ (between ++ (version ++ (behind ++ 41 ∷ after))))) ≡ taken ((op, version), after)
+unfolding parenthesized_at
+parenthesized_again kind op inside spelled between version behind after hi hs hb he hp hv =
     let w : List ℕ = behind ++ 41 ∷ after in
     let z : List ℕ = version ++ w in
     let y : List ℕ = between ++ z in
     let x : List ℕ = spelled ++ y in
     let bytes = (version_bytes version hv).1 in
-    let e0 : rest is_blank (inside ++ x) ≡ x = rest_again is_blank inside x hi (stops_spelled op spelled y hs) in
+    let e0 : rest is_whitespace (inside ++ x) ≡ x = rest_again is_whitespace inside x hi (stops_spelled op spelled y hs) in
     let e1 : operator_token x ≡ Some (op, y) = operator_again op spelled y hs (stops_blanks is_operator_byte between z blank_no_operator hb (stops_version is_operator_byte version w upstream_no_operator hv)) in
-    let e2 : operator_at kind (rest is_blank (inside ++ x)) ≡ taken (op, y) = ap (operator_at kind) e0 ∙ ap (allowed kind) e1 ∙ allowed_again kind (op, y) hp in
-    let e3 : rest is_blank y ≡ z = rest_again is_blank between z hb (stops_version is_blank version w upstream_no_blank hv) in
-    let e4 : version_at (rest is_blank y) ≡ taken (version, w) = ap version_at e3 ∙ version_again version w hv (all_weaker is_upstream_byte is_version_run upstream_run version bytes) (stops_blanks is_version_run behind (41 ∷ after) blank_ends_version he refl) in
-    let e5 : close_at (rest is_blank w) ≡ taken after = ap close_at (rest_again is_blank behind (41 ∷ after) he refl) in
-    step (operator_at kind (rest is_blank (inside ++ x))) (λ op. version_at (rest is_blank op.1) >>= λ version. close_at (rest is_blank version.1) >>= λ after. Ok ((op.0, version.0), after)) (op, y) e2
-    ∙ step (version_at (rest is_blank y)) (λ version. close_at (rest is_blank version.1) >>= λ after. Ok ((op, version.0), after)) (version, w) e4
-    ∙ step (close_at (rest is_blank w)) (λ after. Ok ((op, version), after)) after e5
+    let e2 : operator_at kind (rest is_whitespace (inside ++ x)) ≡ taken (op, y) = ap (operator_at kind) e0 ∙ ap (allowed kind) e1 ∙ allowed_again kind (op, y) hp in
+    let e3 : rest is_whitespace y ≡ z = rest_again is_whitespace between z hb (stops_version is_whitespace version w upstream_no_blank hv) in
+    let e4 : version_at (rest is_whitespace y) ≡ taken (version, w) = ap version_at e3 ∙ version_again version w hv (all_weaker is_upstream_byte is_version_word_byte upstream_run version bytes) (stops_blanks is_version_word_byte behind (41 ∷ after) blank_ends_version he refl) in
+    let e5 : close_at (rest is_whitespace w) ≡ taken after = ap close_at (rest_again is_whitespace behind (41 ∷ after) he refl) in
+    step (operator_at kind (rest is_whitespace (inside ++ x))) (λ op. version_at (rest is_whitespace op.1) >>= λ version. close_at (rest is_whitespace version.1) >>= λ after. Ok ((op.0, version.0), after)) (op, y) e2
+    ∙ step (version_at (rest is_whitespace y)) (λ version. close_at (rest is_whitespace version.1) >>= λ after. Ok ((op, version.0), after)) (version, w) e4
+    ∙ step (close_at (rest is_whitespace w)) (λ after. Ok ((op, version), after)) after e5
 
 -- what may follow an atom: no byte of names or qualifiers, no colon, and behind blanks no open parenthesis
 pub record Follows (after : List ℕ) : Type 0 where
   pub blanks : List ℕ
   pub text : List ℕ
-  pub blank : IsBlank blanks
+  pub blank : IsWhitespace blanks
   pub whole : after ≡ blanks ++ text
   pub next : (text ≡ []) ⊎ ((b : ℕ) × (more : List ℕ) × (text ≡ b ∷ more) × ((b ≡ 44) ⊎ (b ≡ 124)))
 
 -- a test that holds of none of the bytes that may follow
 pub record Ends (p : ℕ → Bool) : Type 0 where
-  blank : (b : ℕ) → is_blank b ≡ true → p b ≡ false
+  blank : (b : ℕ) → is_whitespace b ≡ true → p b ≡ false
   comma : p 44 ≡ false
   bar : p 124 ≡ false
   open_bracket : p 40 ≡ false
@@ -123,7 +125,7 @@ stops_bound p kind t after (Some bound) e h f =
 
 no_bound : (kind : FieldKind) (after : List ℕ) → Follows after → bound_at kind after ≡ taken (None, after)
 no_bound kind after f =
-    let e : rest is_blank after ≡ f.text = ap (rest is_blank) f.whole ∙ rest_again is_blank f.blanks f.text f.blank (stops_next is_blank f.text refl refl f.next) in
+    let e : rest is_whitespace after ≡ f.text = ap (rest is_whitespace) f.whole ∙ rest_again is_whitespace f.blanks f.text f.blank (stops_next is_whitespace f.text refl refl f.next) in
     ap (bound_behind kind after) e ∙ go f.next
   where
     go : (f.text ≡ []) ⊎ ((b : ℕ) × (more : List ℕ) × (f.text ≡ b ∷ more) × ((b ≡ 44) ⊎ (b ≡ 124))) → bound_behind kind after f.text ≡ taken (None, after)
@@ -139,9 +141,9 @@ bound_again kind t after None h f = ap (λ (l : List ℕ). bound_at kind (l ++ a
 bound_again kind t after (Some bound) h f =
     let x : List ℕ = h.inside ++ (h.spelled ++ (h.between ++ (bound.1 ++ (h.behind ++ 41 ∷ after)))) in
     let w : t ++ after ≡ h.before ++ 40 ∷ x = ap (λ (l : List ℕ). l ++ after) h.whole ∙ regroup h.before h.inside h.spelled h.between bound.1 h.behind after in
-    let e : rest is_blank (h.before ++ 40 ∷ x) ≡ 40 ∷ x = rest_again is_blank h.before (40 ∷ x) h.blanks.0 refl in
+    let e : rest is_whitespace (h.before ++ 40 ∷ x) ≡ 40 ∷ x = rest_again is_whitespace h.before (40 ∷ x) h.blanks.0 refl in
     ap (bound_at kind) w ∙ ap (bound_behind kind (h.before ++ 40 ∷ x)) e
-    ∙ step (inner_at kind x) (λ y. taken (Some y.0, y.1)) ((bound.0, bound.1), after) (inner_again kind bound.0 h.inside h.spelled h.between bound.1 h.behind after h.blanks.1 h.operator h.blanks.2 h.blanks.3 h.in_provides h.is_version)
+    ∙ step (parenthesized_at kind x) (λ y. taken (Some y.0, y.1)) ((bound.0, bound.1), after) (parenthesized_again kind bound.0 h.inside h.spelled h.between bound.1 h.behind after h.blanks.1 h.operator h.blanks.2 h.blanks.3 h.in_provides h.is_version)
 
 no_qualifier : (text : List ℕ) → Stops (λ b. b == 58) text → qualifier_at text ≡ taken (None, text)
 no_qualifier [] s = refl
@@ -155,17 +157,17 @@ stops_qualifier : (q after : List ℕ) (o : Option (List ℕ)) → QualifierText
 stops_qualifier q after None h s = let P : List ℕ → Type 0 = λ l. Stops is_name_byte (l ++ after) in subst P (sym h) s
 stops_qualifier q after (Some name) h s = let P : List ℕ → Type 0 = λ l. Stops is_name_byte (l ++ after) in subst P (sym h.0) refl
 
-pub blank_no_name : (b : ℕ) → is_blank b ≡ true → is_name_byte b ≡ false
+pub blank_no_name : (b : ℕ) → is_whitespace b ≡ true → is_name_byte b ≡ false
 blank_no_name b h = grind (arith, nat_tests)
 
-pub blank_no_qualifier : (b : ℕ) → is_blank b ≡ true → is_qualifier_byte b ≡ false
+pub blank_no_qualifier : (b : ℕ) → is_whitespace b ≡ true → is_qualifier_byte b ≡ false
 blank_no_qualifier b h = grind (arith, nat_tests)
 
-pub blank_no_colon : (b : ℕ) → is_blank b ≡ true → (b == 58) ≡ false
+pub blank_no_colon : (b : ℕ) → is_whitespace b ≡ true → (b == 58) ≡ false
 blank_no_colon b h = grind (arith, nat_tests)
 
 -- an atom of the grammar is read, whatever may follow it
-pub atom_again : (kind : FieldKind) (t after : List ℕ) (atom : Atom) → AtomText kind t atom → Follows after → atom_at kind (t ++ after) ≡ taken (atom, after)
+pub atom_again : (kind : FieldKind) (t after : List ℕ) (atom : AtomParts) → AtomText kind t atom → Follows after → atom_at kind (t ++ after) ≡ taken (atom, after)
 unfolding atom_at
 atom_again kind t after atom h f =
     let y : List ℕ = h.bound_text ++ after in

@@ -6,26 +6,28 @@ use Rattle.std.specs.Char.{is_ascii_alphanumeric}
 use Rattle.std.proofs.lemmas.Bool.Decides.{nat_tests}
 use Rattle.ctl_relation.specs.declared.relation_fault.RelationFault.{RelationFault}
 use Rattle.ctl_relation.specs.declared.relation_fault.RelationFault.TheVariants as fault
-use Rattle.ctl_relation.specs.declared.relation.FieldKind.{FieldKind}
-use Rattle.ctl_relation.specs.declared.relation.Atom.{Atom}
+use Rattle.ctl_relation.specs.declared.field_kind.FieldKind.{FieldKind}
+use Rattle.ctl_relation.specs.FieldBytes.{is_whitespace, is_qualifier_byte, is_version_word_byte, rest, Stops}
+use Rattle.ctl_relation.specs.Parts.{AtomParts}
 use Rattle.ctl_relation.specs.Version.{is_upstream_byte, fault_of}
 use Rattle.ctl_relation.specs.Names.{is_name_byte, is_name}
-use Rattle.ctl_relation.specs.Grammar.{is_blank, is_qualifier_byte, is_version_run, is_provides, has_alternatives, rest, name_at, version_at, close_at, relations_of}
-use Rattle.ctl_relation.specs.Relations.{IsBlank, RelationsText}
-use Rattle.ctl_relation.specs.Fault.{Place, GroupDue, AtomDue, AfterName, QualifierDue, AfterQualifier, OperatorDue, AfterSign, VersionDue, CloseDue, AfterAtom, takes_name, takes_bracket, takes_bar, takes_comma, takes_version, is_sign, lengthens, StandsAt, at_start, comma, bar, name, colon, qualifier, bracket, equal, sign, longer, version, close, IsFault, Continues, GroupsOrFault, NeverBoth, OneFault}
+use Rattle.ctl_relation.specs.FieldKind.{is_provides, has_alternatives}
+use Rattle.ctl_relation.specs.Reading.{name_at, version_at, close_at, relations_of}
+use Rattle.ctl_relation.specs.Grammar.{IsWhitespace, RelationsText}
+use Rattle.ctl_relation.specs.Fault.{Place, GroupDue, AtomDue, AfterName, QualifierDue, AfterQualifier, OperatorDue, AfterSign, VersionDue, CloseDue, AfterAtom, takes_name, takes_bracket, takes_bar, takes_comma, takes_version, is_sign, lengthens, StandsAt, at_start, comma_read, bar_read, name_read, colon_read, qualifier_read, bracket_read, equal_read, sign_read, sign_longer, version_read, close_read, IsFault, Continues, GroupsOrFault, NeverBoth, OneFault, IsWhole}
 use Rattle.ctl_relation.proofs.VersionBytes.{version_bytes, all_weaker}
-use Rattle.ctl_relation.proofs.Only.{Stops, is_operator_byte, run_again, rest_again, stops_blanks, name_again, version_again, nonempty}
+use Rattle.ctl_relation.proofs.Only.{is_operator_byte, run_again, rest_again, stops_blanks, name_again, version_again, nonempty}
 use Rattle.ctl_relation.proofs.AtomAgain.{blank_no_name, blank_no_qualifier, blank_no_colon, blank_ends_version, stops_version, upstream_run, upstream_no_blank, upstream_no_operator, blank_no_operator}
 use Rattle.ctl_relation.proofs.FieldAgain.{letter_first, relations_again}
 use Rattle.ctl_relation.proofs.Found.{groups_found}
 use Rattle.ctl_relation.proofs.Runs.{Next, Ends, Moves, next_of, next_behind, group_next, end_next, bracket_next, name_next, operator_next, version_next, sign_next, next, Runs, ends, moves, one_end, fault_in, reader_runs}
-use Rattle.ctl_relation.proofs.Faults.{Whole, ended, due_is, whole_due, read_fault}
+use Rattle.ctl_relation.proofs.Faults.{ended, due_is, whole_due, read_fault}
 
 -- ---- a token in front is the next one
 
 -- a byte that ends names and qualifiers
 record Cuts (c : ℕ) : Type 0 where
-  blank : is_blank c ≡ false
+  blank : is_whitespace c ≡ false
   in_name : is_name_byte c ≡ false
   in_qualifier : is_qualifier_byte c ≡ false
   colon_other : (c == 58) ≡ false
@@ -33,33 +35,33 @@ record Cuts (c : ℕ) : Type 0 where
 front_byte : (blanks left : List ℕ) (c : ℕ) → (blanks ++ c ∷ []) ++ left ≡ blanks ++ c ∷ left
 front_byte blanks left c = append_assoc blanks (c ∷ []) left
 
-rest_byte : (blanks left : List ℕ) (c : ℕ) → IsBlank blanks → is_blank c ≡ false → rest is_blank ((blanks ++ c ∷ []) ++ left) ≡ c ∷ left
-rest_byte blanks left c b h = ap (rest is_blank) (front_byte blanks left c) ∙ rest_again is_blank blanks (c ∷ left) b h
+rest_byte : (blanks left : List ℕ) (c : ℕ) → IsWhitespace blanks → is_whitespace c ≡ false → rest is_whitespace ((blanks ++ c ∷ []) ++ left) ≡ c ∷ left
+rest_byte blanks left c b h = ap (rest is_whitespace) (front_byte blanks left c) ∙ rest_again is_whitespace blanks (c ∷ left) b h
 
-stops_byte : (p : ℕ → Bool) (blanks left : List ℕ) (c : ℕ) → ((b : ℕ) → is_blank b ≡ true → p b ≡ false) → IsBlank blanks → p c ≡ false → Stops p ((blanks ++ c ∷ []) ++ left)
+stops_byte : (p : ℕ → Bool) (blanks left : List ℕ) (c : ℕ) → ((b : ℕ) → is_whitespace b ≡ true → p b ≡ false) → IsWhitespace blanks → p c ≡ false → Stops p ((blanks ++ c ∷ []) ++ left)
 stops_byte p blanks left c f b h = let P : List ℕ → Type 0 = Stops p in subst P (sym (front_byte blanks left c)) (stops_blanks p blanks (c ∷ left) f b h)
 
-no_colon : (kind : FieldKind) (text : List ℕ) → Stops (λ b. b == 58) text → name_next kind text ≡ bracket_next kind (rest is_blank text)
+no_colon : (kind : FieldKind) (text : List ℕ) → Stops (λ b. b == 58) text → name_next kind text ≡ bracket_next kind (rest is_whitespace text)
 no_colon kind [] s = refl
-no_colon kind (b ∷ text) s = ap (λ z. cond z (Moves QualifierDue text) (bracket_next kind (rest is_blank (b ∷ text)))) s
+no_colon kind (b ∷ text) s = ap (λ z. cond z (Moves QualifierDue text) (bracket_next kind (rest is_whitespace (b ∷ text)))) s
 
 -- Runs of what follows are runs from here.
 abbrev Leads : FieldKind → Place → List ℕ → Next → Type 0
-Leads kind p text n = Whole p text × (next kind p text ≡ n)
+Leads kind p text n = IsWhole p text × (next kind p text ≡ n)
 
-name_leads : (kind : FieldKind) (blanks left : List ℕ) (c : ℕ) → IsBlank blanks → Cuts c → Leads kind AfterName ((blanks ++ c ∷ []) ++ left) (bracket_next kind (c ∷ left))
+name_leads : (kind : FieldKind) (blanks left : List ℕ) (c : ℕ) → IsWhitespace blanks → Cuts c → Leads kind AfterName ((blanks ++ c ∷ []) ++ left) (bracket_next kind (c ∷ left))
 name_leads kind blanks left c b h = (
   stops_byte is_name_byte blanks left c blank_no_name b h.in_name,
   no_colon kind ((blanks ++ c ∷ []) ++ left) (stops_byte (λ b. b == 58) blanks left c blank_no_colon b h.colon_other) ∙ ap (bracket_next kind) (rest_byte blanks left c b h.blank),
 )
 
-qualifier_leads : (kind : FieldKind) (blanks left : List ℕ) (c : ℕ) → IsBlank blanks → Cuts c → Leads kind AfterQualifier ((blanks ++ c ∷ []) ++ left) (bracket_next kind (c ∷ left))
+qualifier_leads : (kind : FieldKind) (blanks left : List ℕ) (c : ℕ) → IsWhitespace blanks → Cuts c → Leads kind AfterQualifier ((blanks ++ c ∷ []) ++ left) (bracket_next kind (c ∷ left))
 qualifier_leads kind blanks left c b h = (stops_byte is_qualifier_byte blanks left c blank_no_qualifier b h.in_qualifier, ap (bracket_next kind) (rest_byte blanks left c b h.blank))
 
-atom_leads : (kind : FieldKind) (blanks left : List ℕ) (c : ℕ) → IsBlank blanks → Cuts c → Leads kind AfterAtom ((blanks ++ c ∷ []) ++ left) (end_next kind (c ∷ left))
+atom_leads : (kind : FieldKind) (blanks left : List ℕ) (c : ℕ) → IsWhitespace blanks → Cuts c → Leads kind AfterAtom ((blanks ++ c ∷ []) ++ left) (end_next kind (c ∷ left))
 atom_leads kind blanks left c b h = (tt, ap (end_next kind) (rest_byte blanks left c b h.blank))
 
-comma_leads : (kind : FieldKind) (p : Place) (blanks left : List ℕ) → takes_comma p ≡ true → IsBlank blanks → Leads kind p ((blanks ++ 44 ∷ []) ++ left) (Moves GroupDue left)
+comma_leads : (kind : FieldKind) (p : Place) (blanks left : List ℕ) → takes_comma p ≡ true → IsWhitespace blanks → Leads kind p ((blanks ++ 44 ∷ []) ++ left) (Moves GroupDue left)
 comma_leads kind GroupDue blanks left c b = (tt, ap group_next (rest_byte blanks left 44 b refl))
 comma_leads kind AtomDue blanks left c b = absurd cc
 comma_leads kind AfterName blanks left c b = name_leads kind blanks left 44 b (record { blank = refl; in_name = refl; in_qualifier = refl; colon_other = refl })
@@ -71,7 +73,7 @@ comma_leads kind VersionDue blanks left c b = absurd cc
 comma_leads kind CloseDue blanks left c b = absurd cc
 comma_leads kind AfterAtom blanks left c b = atom_leads kind blanks left 44 b (record { blank = refl; in_name = refl; in_qualifier = refl; colon_other = refl })
 
-bar_leads : (kind : FieldKind) (p : Place) (blanks left : List ℕ) → takes_bar p ≡ true → has_alternatives kind ≡ true → IsBlank blanks → Leads kind p ((blanks ++ 124 ∷ []) ++ left) (Moves AtomDue left)
+bar_leads : (kind : FieldKind) (p : Place) (blanks left : List ℕ) → takes_bar p ≡ true → has_alternatives kind ≡ true → IsWhitespace blanks → Leads kind p ((blanks ++ 124 ∷ []) ++ left) (Moves AtomDue left)
 bar_leads kind p blanks left c a b = go p c
   where
     bar_cuts : Cuts 124
@@ -92,7 +94,7 @@ bar_leads kind p blanks left c a b = go p c
     go CloseDue c = absurd cc
     go AfterAtom c = let l = atom_leads kind blanks left 124 b bar_cuts in (l.0, l.1 ∙ allowed)
 
-bracket_leads : (kind : FieldKind) (p : Place) (blanks left : List ℕ) → takes_bracket p ≡ true → IsBlank blanks → Leads kind p ((blanks ++ 40 ∷ []) ++ left) (Moves OperatorDue left)
+bracket_leads : (kind : FieldKind) (p : Place) (blanks left : List ℕ) → takes_bracket p ≡ true → IsWhitespace blanks → Leads kind p ((blanks ++ 40 ∷ []) ++ left) (Moves OperatorDue left)
 bracket_leads kind GroupDue blanks left c b = absurd cc
 bracket_leads kind AtomDue blanks left c b = absurd cc
 bracket_leads kind AfterName blanks left c b = name_leads kind blanks left 40 b (record { blank = refl; in_name = refl; in_qualifier = refl; colon_other = refl })
@@ -105,7 +107,7 @@ bracket_leads kind CloseDue blanks left c b = absurd cc
 bracket_leads kind AfterAtom blanks left c b = absurd cc
 
 -- a name
-first_of_name : (word after : List ℕ) → is_name word ≡ true → Stops is_blank (word ++ after) × (group_next (word ++ after) ≡ next_behind AfterName (name_at (word ++ after)))
+first_of_name : (word after : List ℕ) → is_name word ≡ true → Stops is_whitespace (word ++ after) × (group_next (word ++ after) ≡ next_behind AfterName (name_at (word ++ after)))
 first_of_name [] after h = absurd cc
 first_of_name (b ∷ word) after h =
     let l = letter_first b (first (is_ascii_alphanumeric b) _ h) in
@@ -115,14 +117,14 @@ first_of_name (b ∷ word) after h =
     first true t h = refl
     first false t h = absurd cc
 
-names_lead : (kind : FieldKind) (p : Place) (blanks word left : List ℕ) → takes_name p ≡ true → IsBlank blanks → is_name word ≡ true → Stops is_name_byte left → Leads kind p ((blanks ++ word) ++ left) (Moves AfterName left)
+names_lead : (kind : FieldKind) (p : Place) (blanks word left : List ℕ) → takes_name p ≡ true → IsWhitespace blanks → is_name word ≡ true → Stops is_name_byte left → Leads kind p ((blanks ++ word) ++ left) (Moves AfterName left)
 names_lead kind p blanks word left c b h s = go p c
   where
-    f : Stops is_blank (word ++ left) × (group_next (word ++ left) ≡ next_behind AfterName (name_at (word ++ left)))
+    f : Stops is_whitespace (word ++ left) × (group_next (word ++ left) ≡ next_behind AfterName (name_at (word ++ left)))
     f = first_of_name word left h
 
-    e : rest is_blank ((blanks ++ word) ++ left) ≡ word ++ left
-    e = ap (rest is_blank) (append_assoc blanks word left) ∙ rest_again is_blank blanks (word ++ left) b f.0
+    e : rest is_whitespace ((blanks ++ word) ++ left) ≡ word ++ left
+    e = ap (rest is_whitespace) (append_assoc blanks word left) ∙ rest_again is_whitespace blanks (word ++ left) b f.0
 
     n : next_behind AfterName (name_at (word ++ left)) ≡ Moves AfterName left
     n = ap (next_behind AfterName) (name_again word left h s)
@@ -149,10 +151,10 @@ qualifiers_lead kind q left h a s = (
 )
 
 -- an operator
-sign_facts : (b : ℕ) → is_sign b ≡ true → (is_blank b ≡ false) × ((b == 61) ≡ false) × (is_operator_byte b ≡ true)
+sign_facts : (b : ℕ) → is_sign b ≡ true → (is_whitespace b ≡ false) × ((b == 61) ≡ false) × (is_operator_byte b ≡ true)
 sign_facts b h = (grind (arith, nat_tests), grind (arith, nat_tests), grind (arith, nat_tests))
 
-signs_lead : (kind : FieldKind) (blanks left : List ℕ) (b : ℕ) → IsBlank blanks → is_sign b ≡ true → is_provides kind ≡ false → Leads kind OperatorDue ((blanks ++ b ∷ []) ++ left) (Moves (AfterSign b) left)
+signs_lead : (kind : FieldKind) (blanks left : List ℕ) (b : ℕ) → IsWhitespace blanks → is_sign b ≡ true → is_provides kind ≡ false → Leads kind OperatorDue ((blanks ++ b ∷ []) ++ left) (Moves (AfterSign b) left)
 signs_lead kind blanks left b h i p =
     let f = sign_facts b i in (
       tt,
@@ -169,17 +171,17 @@ Signs _ = Unit {0}
 
 stands_sign : (kind : FieldKind) (read : List ℕ) (p : Place) → StandsAt kind read p → Signs p
 stands_sign kind read p at_start = tt
-stands_sign kind read p (comma _ _ _ _ _ _) = tt
-stands_sign kind read p (bar _ _ _ _ _ _ _) = tt
-stands_sign kind read p (name _ _ _ _ _ _ _ _) = tt
-stands_sign kind read p (colon _ _) = tt
-stands_sign kind read p (qualifier _ _ _ _ _) = tt
-stands_sign kind read p (bracket _ _ _ _ _ _) = tt
-stands_sign kind read p (equal _ _ _ _) = tt
-stands_sign kind read p (sign _ _ b _ _ h _) = h
-stands_sign kind read p (longer _ _ _ _ _) = tt
-stands_sign kind read p (version _ _ _ _ _ _ _ _) = tt
-stands_sign kind read p (close _ _ _ _) = tt
+stands_sign kind read p (comma_read _ _ _ _ _ _) = tt
+stands_sign kind read p (bar_read _ _ _ _ _ _ _) = tt
+stands_sign kind read p (name_read _ _ _ _ _ _ _ _) = tt
+stands_sign kind read p (colon_read _ _) = tt
+stands_sign kind read p (qualifier_read _ _ _ _ _) = tt
+stands_sign kind read p (bracket_read _ _ _ _ _ _) = tt
+stands_sign kind read p (equal_read _ _ _ _) = tt
+stands_sign kind read p (sign_read _ _ b _ _ h _) = h
+stands_sign kind read p (sign_longer _ _ _ _ _) = tt
+stands_sign kind read p (version_read _ _ _ _ _ _ _ _) = tt
+stands_sign kind read p (close_read _ _ _ _) = tt
 
 -- no operator's byte lengthens nothing
 short_sign : (b c : ℕ) → is_sign b ≡ true → is_operator_byte c ≡ false → lengthens b c ≡ false
@@ -189,17 +191,17 @@ sign_next_version : (b : ℕ) (text : List ℕ) → is_sign b ≡ true → Stops
 sign_next_version b [] h s = refl
 sign_next_version b (c ∷ text) h s = ap (λ t. cond t (Moves VersionDue text) (version_next (c ∷ text))) (short_sign b c h s)
 
-versions_lead : (kind : FieldKind) (p : Place) (blanks v left : List ℕ) → takes_version p ≡ true → Signs p → IsBlank blanks → fault_of v ≡ None → Stops is_version_run left → Leads kind p ((blanks ++ v) ++ left) (Moves CloseDue left)
+versions_lead : (kind : FieldKind) (p : Place) (blanks v left : List ℕ) → takes_version p ≡ true → Signs p → IsWhitespace blanks → fault_of v ≡ None → Stops is_version_word_byte left → Leads kind p ((blanks ++ v) ++ left) (Moves CloseDue left)
 versions_lead kind p blanks v left c i b h s = go p c i
   where
     w : (blanks ++ v) ++ left ≡ blanks ++ (v ++ left)
     w = append_assoc blanks v left
 
-    e : rest is_blank ((blanks ++ v) ++ left) ≡ v ++ left
-    e = ap (rest is_blank) w ∙ rest_again is_blank blanks (v ++ left) b (stops_version is_blank v left upstream_no_blank h)
+    e : rest is_whitespace ((blanks ++ v) ++ left) ≡ v ++ left
+    e = ap (rest is_whitespace) w ∙ rest_again is_whitespace blanks (v ++ left) b (stops_version is_whitespace v left upstream_no_blank h)
 
     n : version_next ((blanks ++ v) ++ left) ≡ Moves CloseDue left
-    n = ap (λ y. next_behind CloseDue (version_at y)) e ∙ ap (next_behind CloseDue) (version_again v left h (all_weaker is_upstream_byte is_version_run upstream_run v (version_bytes v h).1) s)
+    n = ap (λ y. next_behind CloseDue (version_at y)) e ∙ ap (next_behind CloseDue) (version_again v left h (all_weaker is_upstream_byte is_version_word_byte upstream_run v (version_bytes v h).1) s)
 
     o : Stops is_operator_byte ((blanks ++ v) ++ left)
     o = let P : List ℕ → Type 0 = Stops is_operator_byte in subst P (sym w) (stops_blanks is_operator_byte blanks (v ++ left) blank_no_operator b (stops_version is_operator_byte v left upstream_no_operator h))
@@ -216,47 +218,58 @@ versions_lead kind p blanks v left c i b h s = go p c i
     go CloseDue c i = absurd cc
     go AfterAtom c i = absurd cc
 
-close_leads : (kind : FieldKind) (blanks left : List ℕ) → IsBlank blanks → Leads kind CloseDue ((blanks ++ 41 ∷ []) ++ left) (Moves AfterAtom left)
-close_leads kind blanks left b = (stops_byte is_version_run blanks left 41 blank_ends_version b refl, ap (λ y. next_of AfterAtom (close_at y)) (rest_byte blanks left 41 b refl))
+close_leads : (kind : FieldKind) (blanks left : List ℕ) → IsWhitespace blanks → Leads kind CloseDue ((blanks ++ 41 ∷ []) ++ left) (Moves AfterAtom left)
+close_leads kind blanks left b = (stops_byte is_version_word_byte blanks left 41 blank_ends_version b refl, ap (λ y. next_of AfterAtom (close_at y)) (rest_byte blanks left 41 b refl))
 
 -- ---- what stands at a place is read up to it
 
-joined : (kind : FieldKind) (before token left : List ℕ) (r : Option RelationFault) → Runs kind GroupDue (before ++ (token ++ left)) r → Runs kind GroupDue ((before ++ token) ++ left) r
-joined kind before token left r h = let P : List ℕ → Type 0 = λ z. Runs kind GroupDue z r in subst P (sym (append_assoc before token left)) h
+joined : (holds : Place → List ℕ → Type 0) (before token left : List ℕ) → holds GroupDue (before ++ (token ++ left)) → holds GroupDue ((before ++ token) ++ left)
+joined holds before token left h = let P : List ℕ → Type 0 = holds GroupDue in subst P (sym (append_assoc before token left)) h
 
-stands_runs : (kind : FieldKind) (read : List ℕ) (p : Place) → StandsAt kind read p → (left : List ℕ) (r : Option RelationFault) → Whole p left → Runs kind p left r → Runs kind GroupDue (read ++ left) r
-stands_runs kind read p at_start left r w more = more
-stands_runs kind read p (comma before blanks q s c b) left r w more =
+-- what each turn hands back to the place before it
+abbrev pub HandsBack : FieldKind → (Place → List ℕ → Type 0) → Type 0
+HandsBack kind holds = (p q : Place) (left t : List ℕ) → next kind p left ≡ Moves q t → holds q t → holds p left
+
+-- What holds of what is left holds of the body.
+pub stands_lead : (kind : FieldKind) (holds : Place → List ℕ → Type 0) → HandsBack kind holds → (read : List ℕ) (p : Place) → StandsAt kind read p → (left : List ℕ) → IsWhole p left → holds p left → holds GroupDue (read ++ left)
+stands_lead kind holds back read p at_start left w h = h
+stands_lead kind holds back read p (comma_read before blanks q s c b) left w h =
     let l = comma_leads kind q blanks left c b in
-    joined kind before (blanks ++ 44 ∷ []) left r (stands_runs kind before q s ((blanks ++ 44 ∷ []) ++ left) r l.0 (moves q ((blanks ++ 44 ∷ []) ++ left) GroupDue left r l.1 more))
-stands_runs kind read p (bar before blanks q s c a b) left r w more =
+    joined holds before (blanks ++ 44 ∷ []) left (stands_lead kind holds back before q s ((blanks ++ 44 ∷ []) ++ left) l.0 (back q GroupDue ((blanks ++ 44 ∷ []) ++ left) left l.1 h))
+stands_lead kind holds back read p (bar_read before blanks q s c a b) left w h =
     let l = bar_leads kind q blanks left c a b in
-    joined kind before (blanks ++ 124 ∷ []) left r (stands_runs kind before q s ((blanks ++ 124 ∷ []) ++ left) r l.0 (moves q ((blanks ++ 124 ∷ []) ++ left) AtomDue left r l.1 more))
-stands_runs kind read p (name before blanks word q s c b h) left r w more =
-    let l = names_lead kind q blanks word left c b h w in
-    joined kind before (blanks ++ word) left r (stands_runs kind before q s ((blanks ++ word) ++ left) r l.0 (moves q ((blanks ++ word) ++ left) AfterName left r l.1 more))
-stands_runs kind read p (colon before s) left r w more = joined kind before (58 ∷ []) left r (stands_runs kind before AfterName s ((58 ∷ []) ++ left) r refl (moves AfterName ((58 ∷ []) ++ left) QualifierDue left r (refl) more))
-stands_runs kind read p (qualifier before word s h a) left r w more =
-    let l = qualifiers_lead kind word left h a w in
-    joined kind before word left r (stands_runs kind before QualifierDue s (word ++ left) r l.0 (moves QualifierDue (word ++ left) AfterQualifier left r l.1 more))
-stands_runs kind read p (bracket before blanks q s c b) left r w more =
+    joined holds before (blanks ++ 124 ∷ []) left (stands_lead kind holds back before q s ((blanks ++ 124 ∷ []) ++ left) l.0 (back q AtomDue ((blanks ++ 124 ∷ []) ++ left) left l.1 h))
+stands_lead kind holds back read p (name_read before blanks word q s c b n) left w h =
+    let l = names_lead kind q blanks word left c b n w in
+    joined holds before (blanks ++ word) left (stands_lead kind holds back before q s ((blanks ++ word) ++ left) l.0 (back q AfterName ((blanks ++ word) ++ left) left l.1 h))
+stands_lead kind holds back read p (colon_read before s) left w h =
+    joined holds before (58 ∷ []) left (stands_lead kind holds back before AfterName s ((58 ∷ []) ++ left) refl (back AfterName QualifierDue ((58 ∷ []) ++ left) left refl h))
+stands_lead kind holds back read p (qualifier_read before word s n a) left w h =
+    let l = qualifiers_lead kind word left n a w in
+    joined holds before word left (stands_lead kind holds back before QualifierDue s (word ++ left) l.0 (back QualifierDue AfterQualifier (word ++ left) left l.1 h))
+stands_lead kind holds back read p (bracket_read before blanks q s c b) left w h =
     let l = bracket_leads kind q blanks left c b in
-    joined kind before (blanks ++ 40 ∷ []) left r (stands_runs kind before q s ((blanks ++ 40 ∷ []) ++ left) r l.0 (moves q ((blanks ++ 40 ∷ []) ++ left) OperatorDue left r l.1 more))
-stands_runs kind read p (equal before blanks s b) left r w more = joined kind before (blanks ++ 61 ∷ []) left r (stands_runs kind before OperatorDue s ((blanks ++ 61 ∷ []) ++ left) r tt (moves OperatorDue ((blanks ++ 61 ∷ []) ++ left) VersionDue left r (ap (operator_next kind) (rest_byte blanks left 61 b refl)) more))
-stands_runs kind read p (sign before blanks d s b h i) left r w more =
-    let l = signs_lead kind blanks left d b h i in
-    joined kind before (blanks ++ d ∷ []) left r (stands_runs kind before OperatorDue s ((blanks ++ d ∷ []) ++ left) r l.0 (moves OperatorDue ((blanks ++ d ∷ []) ++ left) (AfterSign d) left r l.1 more))
-stands_runs kind read p (longer before d c s h) left r w more = joined kind before (c ∷ []) left r (stands_runs kind before (AfterSign d) s ((c ∷ []) ++ left) r tt (moves (AfterSign d) ((c ∷ []) ++ left) VersionDue left r (ap (λ t. cond t (Moves VersionDue left) (version_next (c ∷ left))) h) more))
-stands_runs kind read p (version before blanks v q s c b h) left r w more =
-    let l = versions_lead kind q blanks v left c (stands_sign kind before q s) b h w in
-    joined kind before (blanks ++ v) left r (stands_runs kind before q s ((blanks ++ v) ++ left) r l.0 (moves q ((blanks ++ v) ++ left) CloseDue left r l.1 more))
-stands_runs kind read p (close before blanks s b) left r w more =
+    joined holds before (blanks ++ 40 ∷ []) left (stands_lead kind holds back before q s ((blanks ++ 40 ∷ []) ++ left) l.0 (back q OperatorDue ((blanks ++ 40 ∷ []) ++ left) left l.1 h))
+stands_lead kind holds back read p (equal_read before blanks s b) left w h =
+    joined holds before (blanks ++ 61 ∷ []) left (stands_lead kind holds back before OperatorDue s ((blanks ++ 61 ∷ []) ++ left) tt (back OperatorDue VersionDue ((blanks ++ 61 ∷ []) ++ left) left (ap (operator_next kind) (rest_byte blanks left 61 b refl)) h))
+stands_lead kind holds back read p (sign_read before blanks d s b i n) left w h =
+    let l = signs_lead kind blanks left d b i n in
+    joined holds before (blanks ++ d ∷ []) left (stands_lead kind holds back before OperatorDue s ((blanks ++ d ∷ []) ++ left) l.0 (back OperatorDue (AfterSign d) ((blanks ++ d ∷ []) ++ left) left l.1 h))
+stands_lead kind holds back read p (sign_longer before d c s n) left w h =
+    joined holds before (c ∷ []) left (stands_lead kind holds back before (AfterSign d) s ((c ∷ []) ++ left) tt (back (AfterSign d) VersionDue ((c ∷ []) ++ left) left (ap (λ t. cond t (Moves VersionDue left) (version_next (c ∷ left))) n) h))
+stands_lead kind holds back read p (version_read before blanks v q s c b n) left w h =
+    let l = versions_lead kind q blanks v left c (stands_sign kind before q s) b n w in
+    joined holds before (blanks ++ v) left (stands_lead kind holds back before q s ((blanks ++ v) ++ left) l.0 (back q CloseDue ((blanks ++ v) ++ left) left l.1 h))
+stands_lead kind holds back read p (close_read before blanks s b) left w h =
     let l = close_leads kind blanks left b in
-    joined kind before (blanks ++ 41 ∷ []) left r (stands_runs kind before CloseDue s ((blanks ++ 41 ∷ []) ++ left) r l.0 (moves CloseDue ((blanks ++ 41 ∷ []) ++ left) AfterAtom left r l.1 more))
+    joined holds before (blanks ++ 41 ∷ []) left (stands_lead kind holds back before CloseDue s ((blanks ++ 41 ∷ []) ++ left) l.0 (back CloseDue AfterAtom ((blanks ++ 41 ∷ []) ++ left) left l.1 h))
+
+stands_runs : (kind : FieldKind) (read : List ℕ) (p : Place) → StandsAt kind read p → (left : List ℕ) (r : Option RelationFault) → IsWhole p left → Runs kind p left r → Runs kind GroupDue (read ++ left) r
+stands_runs kind read p s left r w more = stands_lead kind (λ q t. Runs kind q t r) (λ q x l t e runs. moves q l x t r e runs) read p s left w more
 
 -- ---- one fault
 
-ended_so : (n : Next) (f : RelationFault) → ended n ≡ Some f → n ≡ Ends (Some f)
+pub ended_so : (n : Next) (f : RelationFault) → ended n ≡ Some f → n ≡ Ends (Some f)
 ended_so (Ends r) f h = ap Ends h
 ended_so (Moves q t) f h = absurd cc
 
@@ -274,10 +287,10 @@ fault_read kind body f h =
 -- the shortest end from a place
 record Ending (kind : FieldKind) (p : Place) : Type 0 where
   more : List ℕ
-  whole : Whole p more
+  whole : IsWhole p more
   runs : Runs kind p more None
 
-at_end : (kind : FieldKind) (p : Place) → next kind p [] ≡ Ends None → Whole p [] → Ending kind p
+at_end : (kind : FieldKind) (p : Place) → next kind p [] ≡ Ends None → IsWhole p [] → Ending kind p
 at_end kind p e w = record { more = []; whole = w; runs = ends p [] None e }
 
 close_runs : (kind : FieldKind) → Runs kind CloseDue (41 ∷ []) None
@@ -299,10 +312,10 @@ ending kind CloseDue i = record { more = 41 ∷ []; whole = refl; runs = close_r
 ending kind AfterAtom i = at_end kind AfterAtom refl tt
 
 -- no fault, so groups
-groups_read : (kind : FieldKind) (body : List ℕ) → fault_in (relations_of kind body) ≡ None → (groups : List (List Atom)) × RelationsText kind body groups
+groups_read : (kind : FieldKind) (body : List ℕ) → fault_in (relations_of kind body) ≡ None → (groups : List (List AtomParts)) × RelationsText kind body groups
 groups_read kind body h = go (relations_of kind body) refl h
   where
-    go : (r : Result (List (List Atom)) RelationFault) → relations_of kind body ≡ r → fault_in r ≡ None → (groups : List (List Atom)) × RelationsText kind body groups
+    go : (r : Result (List (List AtomParts)) RelationFault) → relations_of kind body ≡ r → fault_in r ≡ None → (groups : List (List AtomParts)) × RelationsText kind body groups
     go (Ok groups) e h = (groups, groups_found (length body + 1) kind body groups e)
     go (Err d) e h = absurd cc
 
@@ -324,6 +337,6 @@ never_both kind body f groups h t = let e : Some f ≡ None = sym (fault_read ki
 pub groups_or_fault : GroupsOrFault
 groups_or_fault kind body = go (relations_of kind body) refl
   where
-    go : (r : Result (List (List Atom)) RelationFault) → relations_of kind body ≡ r → ((groups : List (List Atom)) × RelationsText kind body groups) ⊎ ((f : RelationFault) × IsFault kind body f)
+    go : (r : Result (List (List AtomParts)) RelationFault) → relations_of kind body ≡ r → ((groups : List (List AtomParts)) × RelationsText kind body groups) ⊎ ((f : RelationFault) × IsFault kind body f)
     go (Ok groups) e = inl (groups, groups_found (length body + 1) kind body groups e)
     go (Err f) e = inr (f, read_fault kind body f (ap fault_in e))

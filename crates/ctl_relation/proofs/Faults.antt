@@ -6,13 +6,15 @@ use Rattle.std.specs.Char.{is_ascii_alphanumeric}
 use Rattle.std.proofs.lemmas.Bool.Decides.{nat_tests}
 use Rattle.ctl_relation.specs.declared.relation_fault.RelationFault.{RelationFault}
 use Rattle.ctl_relation.specs.declared.relation_fault.RelationFault.TheVariants as fault
-use Rattle.ctl_relation.specs.declared.relation.FieldKind.{FieldKind}
-use Rattle.ctl_relation.specs.declared.relation.Atom.{Atom}
+use Rattle.ctl_relation.specs.declared.field_kind.FieldKind.{FieldKind}
+use Rattle.ctl_relation.specs.FieldBytes.{is_whitespace, is_qualifier_byte, is_version_word_byte, run, rest, Stops}
+use Rattle.ctl_relation.specs.Parts.{AtomParts}
 use Rattle.ctl_relation.specs.Version.{fault_of}
 use Rattle.ctl_relation.specs.Names.{is_name_byte, is_name}
-use Rattle.ctl_relation.specs.Grammar.{is_blank, is_qualifier_byte, is_version_run, is_provides, has_alternatives, run, rest, name_at, version_at, close_at, relations_of, Gives}
-use Rattle.ctl_relation.specs.Fault.{Place, GroupDue, AtomDue, AfterName, QualifierDue, AfterQualifier, OperatorDue, AfterSign, VersionDue, CloseDue, AfterAtom, takes_name, takes_bracket, takes_bar, takes_comma, takes_version, is_sign, lengthens, StandsAt, at_start, comma, bar, name, colon, qualifier, bracket, equal, sign, longer, version, close, name_fault, group_fault, end_fault, bracket_fault, operator_fault, version_fault, close_fault, due_fault, IsFault, NeverMemory}
-use Rattle.ctl_relation.proofs.Only.{Stops}
+use Rattle.ctl_relation.specs.FieldKind.{is_provides, has_alternatives}
+use Rattle.ctl_relation.specs.Reading.{name_at, version_at, close_at, relations_of, Gives}
+use Rattle.ctl_relation.specs.Fault.{Place, GroupDue, AtomDue, AfterName, QualifierDue, AfterQualifier, OperatorDue, AfterSign, VersionDue, CloseDue, AfterAtom, takes_name, takes_bracket, takes_bar, takes_comma, takes_version, is_sign, lengthens, StandsAt, at_start, comma_read, bar_read, name_read, colon_read, qualifier_read, bracket_read, equal_read, sign_read, sign_longer, version_read, close_read, name_fault, group_fault, end_fault, bracket_fault, operator_fault, version_fault, close_fault, due_fault, IsFault, NeverMemory, IsWhole}
+use Rattle.ctl_relation.proofs.Only.{}
 use Rattle.ctl_relation.proofs.Found.{run-rest, run-passes}
 use Rattle.ctl_relation.proofs.Runs.{Next, Ends, Moves, next_of, next_behind, group_next, end_next, bracket_next, operator_next, version_next, next, Runs, ends, moves, on_test, more_than, fault_in, reader_runs}
 
@@ -44,13 +46,6 @@ rest-stops p (b ∷ text) = go (p b) refl (rest-stops p text)
     go false u h = let P : List ℕ → Type 0 = Stops p in subst P (sym (rest-all p b text u)) u
 
 -- ---- the table of faults is where the places end
-
--- the token before doesn't go on
-abbrev pub Whole : Place → List ℕ → Type 0
-Whole AfterName left = Stops is_name_byte left
-Whole AfterQualifier left = Stops is_qualifier_byte left
-Whole CloseDue left = Stops is_version_run left
-Whole _ left = Unit {0}
 
 abbrev pub ended : Next → Option RelationFault
 ended (Ends r) = r
@@ -111,9 +106,9 @@ operator_is kind (b ∷ text) = either (b == 61) VersionDue text _ _ (go (is_sig
     go false v = refl
 
 version_is : (y : List ℕ) → version_fault y ≡ ended (next_behind CloseDue (version_at y))
-version_is y = go (is_none (fault_of (run is_version_run y)))
+version_is y = go (is_none (fault_of (run is_version_word_byte y)))
   where
-    go : (u : Bool) → cond u None (Some fault.Version) ≡ ended (next_behind CloseDue (cond u (Ok (run is_version_run y, rest is_version_run y)) (Err fault.Version)))
+    go : (u : Bool) → cond u None (Some fault.Version) ≡ ended (next_behind CloseDue (cond u (Ok (run is_version_word_byte y, rest is_version_word_byte y)) (Err fault.Version)))
     go true = refl
     go false = refl
 
@@ -125,11 +120,11 @@ close_is (b ∷ text) = go (b == 41)
     go true = refl
     go false = refl
 
-pub due_is : (kind : FieldKind) (p : Place) (left : List ℕ) → Whole p left → due_fault kind p left ≡ ended (next kind p left)
-due_is kind GroupDue left w = group_is (rest is_blank left)
-due_is kind AtomDue left w = name_is (rest is_blank left)
+pub due_is : (kind : FieldKind) (p : Place) (left : List ℕ) → IsWhole p left → due_fault kind p left ≡ ended (next kind p left)
+due_is kind GroupDue left w = group_is (rest is_whitespace left)
+due_is kind AtomDue left w = name_is (rest is_whitespace left)
 due_is kind AfterName [] w = refl
-due_is kind AfterName (b ∷ text) w = ap (λ u. cond u None (cond (b == 58) None (bracket_fault kind (rest is_blank (b ∷ text))))) w ∙ either (b == 58) QualifierDue text _ _ (bracket_is kind (rest is_blank (b ∷ text)))
+due_is kind AfterName (b ∷ text) w = ap (λ u. cond u None (cond (b == 58) None (bracket_fault kind (rest is_whitespace (b ∷ text))))) w ∙ either (b == 58) QualifierDue text _ _ (bracket_is kind (rest is_whitespace (b ∷ text)))
 due_is kind QualifierDue [] w = refl
 due_is kind QualifierDue (b ∷ text) w = go (is_qualifier_byte b) refl
   where
@@ -137,21 +132,21 @@ due_is kind QualifierDue (b ∷ text) w = go (is_qualifier_byte b) refl
     go true u = ap (λ t. cond t None (Some fault.Name)) u ∙ sym (ap (λ (y : List ℕ). ended (cond (length y == 0) (Ends (Some fault.Name)) (Moves AfterQualifier (rest is_qualifier_byte (b ∷ text))))) (run-more is_qualifier_byte b text u) ∙ ap (λ t. ended (cond t (Ends (Some fault.Name)) (Moves AfterQualifier (rest is_qualifier_byte (b ∷ text))))) (more_than b (run is_qualifier_byte text)))
     go false u = ap (λ t. cond t None (Some fault.Name)) u ∙ sym (ap (λ (y : List ℕ). ended (cond (length y == 0) (Ends (Some fault.Name)) (Moves AfterQualifier (rest is_qualifier_byte (b ∷ text))))) (run-none is_qualifier_byte b text u))
 due_is kind AfterQualifier [] w = refl
-due_is kind AfterQualifier (b ∷ text) w = ap (λ u. cond u None (bracket_fault kind (rest is_blank (b ∷ text)))) w ∙ bracket_is kind (rest is_blank (b ∷ text))
-due_is kind OperatorDue left w = operator_is kind (rest is_blank left)
+due_is kind AfterQualifier (b ∷ text) w = ap (λ u. cond u None (bracket_fault kind (rest is_whitespace (b ∷ text)))) w ∙ bracket_is kind (rest is_whitespace (b ∷ text))
+due_is kind OperatorDue left w = operator_is kind (rest is_whitespace left)
 due_is kind (AfterSign b) [] w = refl
-due_is kind (AfterSign b) (c ∷ text) w = either (lengthens b c) VersionDue text _ _ (version_is (rest is_blank (c ∷ text)))
-due_is kind VersionDue left w = version_is (rest is_blank left)
+due_is kind (AfterSign b) (c ∷ text) w = either (lengthens b c) VersionDue text _ _ (version_is (rest is_whitespace (c ∷ text)))
+due_is kind VersionDue left w = version_is (rest is_whitespace left)
 due_is kind CloseDue [] w = refl
-due_is kind CloseDue (b ∷ text) w = ap (λ u. cond u None (close_fault (rest is_blank (b ∷ text)))) w ∙ close_is (rest is_blank (b ∷ text))
-due_is kind AfterAtom left w = end_is kind (rest is_blank left)
+due_is kind CloseDue (b ∷ text) w = ap (λ u. cond u None (close_fault (rest is_whitespace (b ∷ text)))) w ∙ close_is (rest is_whitespace (b ∷ text))
+due_is kind AfterAtom left w = end_is kind (rest is_whitespace left)
 
 ends_here : (f : RelationFault) (u : Bool) (x : Option RelationFault) → cond u None x ≡ Some f → u ≡ false
 ends_here f true x h = absurd cc
 ends_here f false x h = refl
 
 -- where there is a fault the token before doesn't go on
-pub whole_due : (kind : FieldKind) (p : Place) (left : List ℕ) (f : RelationFault) → due_fault kind p left ≡ Some f → Whole p left
+pub whole_due : (kind : FieldKind) (p : Place) (left : List ℕ) (f : RelationFault) → due_fault kind p left ≡ Some f → IsWhole p left
 whole_due kind GroupDue left f h = tt
 whole_due kind AtomDue left f h = tt
 whole_due kind AfterName [] f h = tt
@@ -163,100 +158,100 @@ whole_due kind OperatorDue left f h = tt
 whole_due kind (AfterSign b) left f h = tt
 whole_due kind VersionDue left f h = tt
 whole_due kind CloseDue [] f h = tt
-whole_due kind CloseDue (b ∷ text) f h = ends_here f (is_version_run b) _ h
+whole_due kind CloseDue (b ∷ text) f h = ends_here f (is_version_word_byte b) _ h
 whole_due kind AfterAtom left f h = tt
 
 -- ---- one token on
 
-abbrev Moved : FieldKind → Place → List ℕ → Place → List ℕ → Type 0
-Moved kind p left q t = (token : List ℕ) × (left ≡ token ++ t) × ((read : List ℕ) → StandsAt kind read p → StandsAt kind (read ++ token) q) × Whole q t
+abbrev pub Moved : FieldKind → Place → List ℕ → Place → List ℕ → Type 0
+Moved kind p left q t = (token : List ℕ) × (left ≡ token ++ t) × ((read : List ℕ) → StandsAt kind read p → StandsAt kind (read ++ token) q) × IsWhole q t
 
-abbrev Outcome : FieldKind → Place → List ℕ → Next → Type 0
+abbrev pub Outcome : FieldKind → Place → List ℕ → Next → Type 0
 Outcome kind p left (Ends r) = Unit {0}
 Outcome kind p left (Moves q t) = Moved kind p left q t
 
 -- blanks and a byte
-byte_token : (left : List ℕ) (b n : ℕ) (t : List ℕ) → rest is_blank left ≡ b ∷ t → b ≡ n → left ≡ (run is_blank left ++ n ∷ []) ++ t
-byte_token left b n t e h = run-rest is_blank left ∙ ap (λ (l : List ℕ). run is_blank left ++ l) (e ∙ ap (λ m. m ∷ t) h) ∙ sym (append_assoc (run is_blank left) (n ∷ []) t)
+byte_token : (left : List ℕ) (b n : ℕ) (t : List ℕ) → rest is_whitespace left ≡ b ∷ t → b ≡ n → left ≡ (run is_whitespace left ++ n ∷ []) ++ t
+byte_token left b n t e h = run-rest is_whitespace left ∙ ap (λ (l : List ℕ). run is_whitespace left ++ l) (e ∙ ap (λ m. m ∷ t) h) ∙ sym (append_assoc (run is_whitespace left) (n ∷ []) t)
 
 -- blanks and a run
-run_token : (p : ℕ → Bool) (left y : List ℕ) → rest is_blank left ≡ y → left ≡ (run is_blank left ++ run p y) ++ rest p y
-run_token p left y e = run-rest is_blank left ∙ ap (λ (l : List ℕ). run is_blank left ++ l) (e ∙ run-rest p y) ∙ sym (append_assoc (run is_blank left) (run p y) (rest p y))
+run_token : (p : ℕ → Bool) (left y : List ℕ) → rest is_whitespace left ≡ y → left ≡ (run is_whitespace left ++ run p y) ++ rest p y
+run_token p left y e = run-rest is_whitespace left ∙ ap (λ (l : List ℕ). run is_whitespace left ++ l) (e ∙ run-rest p y) ∙ sym (append_assoc (run is_whitespace left) (run p y) (rest p y))
 
-end_out : (kind : FieldKind) (p : Place) (left y : List ℕ) → takes_comma p ≡ true → takes_bar p ≡ true → rest is_blank left ≡ y → Outcome kind p left (end_next kind y)
+end_out : (kind : FieldKind) (p : Place) (left y : List ℕ) → takes_comma p ≡ true → takes_bar p ≡ true → rest is_whitespace left ≡ y → Outcome kind p left (end_next kind y)
 end_out kind p left [] c d e = tt
 end_out kind p left (b ∷ t) c d e =
     let P : Next → Type 0 = Outcome kind p left in
-    on_test P (b == 44) _ _ (λ h. (run is_blank left ++ 44 ∷ [], byte_token left b 44 t e (eqb-true b 44 h), (λ read s. comma read (run is_blank left) p s c (run-passes is_blank left)), tt))
-    (λ n. on_test P (b == 124) _ _ (λ h. on_test P (has_alternatives kind) _ _ (λ a. (run is_blank left ++ 124 ∷ [], byte_token left b 124 t e (eqb-true b 124 h), (λ read s. bar read (run is_blank left) p s d a (run-passes is_blank left)), tt)) (λ a. tt)) (λ m. tt))
+    on_test P (b == 44) _ _ (λ h. (run is_whitespace left ++ 44 ∷ [], byte_token left b 44 t e (eqb-true b 44 h), (λ read s. comma_read read (run is_whitespace left) p s c (run-passes is_whitespace left)), tt))
+    (λ n. on_test P (b == 124) _ _ (λ h. on_test P (has_alternatives kind) _ _ (λ a. (run is_whitespace left ++ 124 ∷ [], byte_token left b 124 t e (eqb-true b 124 h), (λ read s. bar_read read (run is_whitespace left) p s d a (run-passes is_whitespace left)), tt)) (λ a. tt)) (λ m. tt))
 
-bracket_out : (kind : FieldKind) (p : Place) (left y : List ℕ) → takes_comma p ≡ true → takes_bar p ≡ true → takes_bracket p ≡ true → rest is_blank left ≡ y → Outcome kind p left (bracket_next kind y)
+bracket_out : (kind : FieldKind) (p : Place) (left y : List ℕ) → takes_comma p ≡ true → takes_bar p ≡ true → takes_bracket p ≡ true → rest is_whitespace left ≡ y → Outcome kind p left (bracket_next kind y)
 bracket_out kind p left [] c d a e = tt
 bracket_out kind p left (b ∷ t) c d a e =
     let P : Next → Type 0 = Outcome kind p left in
-    on_test P (b == 40) _ _ (λ h. (run is_blank left ++ 40 ∷ [], byte_token left b 40 t e (eqb-true b 40 h), (λ read s. bracket read (run is_blank left) p s a (run-passes is_blank left)), tt))
+    on_test P (b == 40) _ _ (λ h. (run is_whitespace left ++ 40 ∷ [], byte_token left b 40 t e (eqb-true b 40 h), (λ read s. bracket_read read (run is_whitespace left) p s a (run-passes is_whitespace left)), tt))
     (λ n. end_out kind p left (b ∷ t) c d e)
 
-name_out : (kind : FieldKind) (p : Place) (left y : List ℕ) → takes_name p ≡ true → rest is_blank left ≡ y → Outcome kind p left (next_behind AfterName (name_at y))
+name_out : (kind : FieldKind) (p : Place) (left y : List ℕ) → takes_name p ≡ true → rest is_whitespace left ≡ y → Outcome kind p left (next_behind AfterName (name_at y))
 name_out kind p left y c e =
     let P : Result (List ℕ × List ℕ) RelationFault → Type 0 = λ r. Outcome kind p left (next_behind AfterName r) in
     on_test P (is_name (run is_name_byte y)) _ _
-    (λ h. (run is_blank left ++ run is_name_byte y, run_token is_name_byte left y e, (λ read s. name read (run is_blank left) (run is_name_byte y) p s c (run-passes is_blank left) h), rest-stops is_name_byte y)) (λ n. tt)
+    (λ h. (run is_whitespace left ++ run is_name_byte y, run_token is_name_byte left y e, (λ read s. name_read read (run is_whitespace left) (run is_name_byte y) p s c (run-passes is_whitespace left) h), rest-stops is_name_byte y)) (λ n. tt)
 
-group_out : (kind : FieldKind) (left y : List ℕ) → rest is_blank left ≡ y → Outcome kind GroupDue left (group_next y)
+group_out : (kind : FieldKind) (left y : List ℕ) → rest is_whitespace left ≡ y → Outcome kind GroupDue left (group_next y)
 group_out kind left [] e = tt
 group_out kind left (b ∷ t) e =
     let P : Next → Type 0 = Outcome kind GroupDue left in
-    on_test P (b == 44) _ _ (λ h. (run is_blank left ++ 44 ∷ [], byte_token left b 44 t e (eqb-true b 44 h), (λ read s. comma read (run is_blank left) GroupDue s refl (run-passes is_blank left)), tt))
+    on_test P (b == 44) _ _ (λ h. (run is_whitespace left ++ 44 ∷ [], byte_token left b 44 t e (eqb-true b 44 h), (λ read s. comma_read read (run is_whitespace left) GroupDue s refl (run-passes is_whitespace left)), tt))
     (λ n. name_out kind GroupDue left (b ∷ t) refl e)
 
-operator_out : (kind : FieldKind) (left y : List ℕ) → rest is_blank left ≡ y → Outcome kind OperatorDue left (operator_next kind y)
+operator_out : (kind : FieldKind) (left y : List ℕ) → rest is_whitespace left ≡ y → Outcome kind OperatorDue left (operator_next kind y)
 operator_out kind left [] e = tt
 operator_out kind left (b ∷ t) e =
     let P : Next → Type 0 = Outcome kind OperatorDue left in
-    on_test P (b == 61) _ _ (λ h. (run is_blank left ++ 61 ∷ [], byte_token left b 61 t e (eqb-true b 61 h), (λ read s. equal read (run is_blank left) s (run-passes is_blank left)), tt))
-    (λ n. on_test P (is_sign b) _ _ (λ h. on_test P (is_provides kind) _ _ (λ a. tt) (λ a. (run is_blank left ++ b ∷ [], byte_token left b b t e refl, (λ read s. sign read (run is_blank left) b s (run-passes is_blank left) h a), tt))) (λ m. tt))
+    on_test P (b == 61) _ _ (λ h. (run is_whitespace left ++ 61 ∷ [], byte_token left b 61 t e (eqb-true b 61 h), (λ read s. equal_read read (run is_whitespace left) s (run-passes is_whitespace left)), tt))
+    (λ n. on_test P (is_sign b) _ _ (λ h. on_test P (is_provides kind) _ _ (λ a. tt) (λ a. (run is_whitespace left ++ b ∷ [], byte_token left b b t e refl, (λ read s. sign_read read (run is_whitespace left) b s (run-passes is_whitespace left) h a), tt))) (λ m. tt))
 
 version_out : (kind : FieldKind) (p : Place) (left : List ℕ) → takes_version p ≡ true → Outcome kind p left (version_next left)
 version_out kind p left c =
     let P : Result (List ℕ × List ℕ) RelationFault → Type 0 = λ r. Outcome kind p left (next_behind CloseDue r) in
-    let y : List ℕ = rest is_blank left in
-    on_test P (is_none (fault_of (run is_version_run y))) _ _
-    (λ h. (run is_blank left ++ run is_version_run y, run_token is_version_run left y refl, (λ read s. version read (run is_blank left) (run is_version_run y) p s c (run-passes is_blank left) (none_is (fault_of (run is_version_run y)) h)), rest-stops is_version_run y)) (λ n. tt)
+    let y : List ℕ = rest is_whitespace left in
+    on_test P (is_none (fault_of (run is_version_word_byte y))) _ _
+    (λ h. (run is_whitespace left ++ run is_version_word_byte y, run_token is_version_word_byte left y refl, (λ read s. version_read read (run is_whitespace left) (run is_version_word_byte y) p s c (run-passes is_whitespace left) (none_is (fault_of (run is_version_word_byte y)) h)), rest-stops is_version_word_byte y)) (λ n. tt)
   where
     none_is : {A : Type 0} (o : Option A) → is_none o ≡ true → o ≡ None
     none_is None e = refl
     none_is (Some x) e = absurd cc
 
-close_out : (kind : FieldKind) (left y : List ℕ) → rest is_blank left ≡ y → Outcome kind CloseDue left (next_of AfterAtom (close_at y))
+close_out : (kind : FieldKind) (left y : List ℕ) → rest is_whitespace left ≡ y → Outcome kind CloseDue left (next_of AfterAtom (close_at y))
 close_out kind left [] e = tt
 close_out kind left (b ∷ t) e =
     let P : Result (List ℕ) RelationFault → Type 0 = λ r. Outcome kind CloseDue left (next_of AfterAtom r) in
-    on_test P (b == 41) _ _ (λ h. (run is_blank left ++ 41 ∷ [], byte_token left b 41 t e (eqb-true b 41 h), (λ read s. close read (run is_blank left) s (run-passes is_blank left)), tt)) (λ n. tt)
+    on_test P (b == 41) _ _ (λ h. (run is_whitespace left ++ 41 ∷ [], byte_token left b 41 t e (eqb-true b 41 h), (λ read s. close_read read (run is_whitespace left) s (run-passes is_whitespace left)), tt)) (λ n. tt)
 
 qualifier_some : (q : List ℕ) → (length q == 0) ≡ false → 0 < length q
 qualifier_some q h = grind (arith, nat_tests)
 
-outcome : (kind : FieldKind) (p : Place) (left : List ℕ) → Outcome kind p left (next kind p left)
-outcome kind GroupDue left = group_out kind left (rest is_blank left) refl
-outcome kind AtomDue left = name_out kind AtomDue left (rest is_blank left) refl refl
+pub outcome : (kind : FieldKind) (p : Place) (left : List ℕ) → Outcome kind p left (next kind p left)
+outcome kind GroupDue left = group_out kind left (rest is_whitespace left) refl
+outcome kind AtomDue left = name_out kind AtomDue left (rest is_whitespace left) refl refl
 outcome kind AfterName [] = tt
 outcome kind AfterName (b ∷ t) =
     let P : Next → Type 0 = Outcome kind AfterName (b ∷ t) in
-    on_test P (b == 58) _ _ (λ h. (58 ∷ [], ap (λ n. n ∷ t) (eqb-true b 58 h), (λ read s. colon read s), tt)) (λ n. bracket_out kind AfterName (b ∷ t) (rest is_blank (b ∷ t)) refl refl refl refl)
+    on_test P (b == 58) _ _ (λ h. (58 ∷ [], ap (λ n. n ∷ t) (eqb-true b 58 h), (λ read s. colon_read read s), tt)) (λ n. bracket_out kind AfterName (b ∷ t) (rest is_whitespace (b ∷ t)) refl refl refl refl)
 outcome kind QualifierDue left =
     let P : Next → Type 0 = Outcome kind QualifierDue left in
     let q : List ℕ = run is_qualifier_byte left in
-    on_test P (length q == 0) _ _ (λ h. tt) (λ n. (q, run-rest is_qualifier_byte left, (λ read s. qualifier read q s (qualifier_some q n) (run-passes is_qualifier_byte left)), rest-stops is_qualifier_byte left))
-outcome kind AfterQualifier left = bracket_out kind AfterQualifier left (rest is_blank left) refl refl refl refl
-outcome kind OperatorDue left = operator_out kind left (rest is_blank left) refl
+    on_test P (length q == 0) _ _ (λ h. tt) (λ n. (q, run-rest is_qualifier_byte left, (λ read s. qualifier_read read q s (qualifier_some q n) (run-passes is_qualifier_byte left)), rest-stops is_qualifier_byte left))
+outcome kind AfterQualifier left = bracket_out kind AfterQualifier left (rest is_whitespace left) refl refl refl refl
+outcome kind OperatorDue left = operator_out kind left (rest is_whitespace left) refl
 outcome kind (AfterSign b) [] = version_out kind (AfterSign b) [] refl
 outcome kind (AfterSign b) (c ∷ t) =
     let P : Next → Type 0 = Outcome kind (AfterSign b) (c ∷ t) in
-    on_test P (lengthens b c) _ _ (λ h. (c ∷ [], refl, (λ read s. longer read b c s h), tt)) (λ n. version_out kind (AfterSign b) (c ∷ t) refl)
+    on_test P (lengthens b c) _ _ (λ h. (c ∷ [], refl, (λ read s. sign_longer read b c s h), tt)) (λ n. version_out kind (AfterSign b) (c ∷ t) refl)
 outcome kind VersionDue left = version_out kind VersionDue left refl
-outcome kind CloseDue left = close_out kind left (rest is_blank left) refl
-outcome kind AfterAtom left = end_out kind AfterAtom left (rest is_blank left) refl refl refl
+outcome kind CloseDue left = close_out kind left (rest is_whitespace left) refl
+outcome kind AfterAtom left = end_out kind AfterAtom left (rest is_whitespace left) refl refl refl
 
 -- ---- the fault
 
@@ -264,7 +259,7 @@ abbrev Ran : FieldKind → List ℕ → Option RelationFault → Type 0
 Ran kind body None = Unit {0}
 Ran kind body (Some f) = IsFault kind body f
 
-runs_fault : (kind : FieldKind) (p : Place) (left : List ℕ) (r : Option RelationFault) → Runs kind p left r → (read : List ℕ) → StandsAt kind read p → Whole p left → Ran kind (read ++ left) r
+runs_fault : (kind : FieldKind) (p : Place) (left : List ℕ) (r : Option RelationFault) → Runs kind p left r → (read : List ℕ) → StandsAt kind read p → IsWhole p left → Ran kind (read ++ left) r
 runs_fault kind p left None h read s w = tt
 runs_fault kind p left (Some f) (ends _ _ _ e) read s w = record { read = read; left = left; place = p; whole = refl; stands = s; due = due_is kind p left w ∙ ap ended e }
 runs_fault kind p left (Some f) (moves _ _ q t _ e more) read s w =
@@ -276,7 +271,7 @@ runs_fault kind p left (Some f) (moves _ _ q t _ e more) read s w =
 pub read_fault : (kind : FieldKind) (body : List ℕ) (f : RelationFault) → fault_in (relations_of kind body) ≡ Some f → IsFault kind body f
 read_fault kind body f h = let P : Option RelationFault → Type 0 = Runs kind GroupDue body in runs_fault kind GroupDue body (Some f) (subst P h (reader_runs kind body)) [] at_start tt
 
-pub if_fault : (kind : FieldKind) (body : List ℕ) (r : Result (List (List Atom)) RelationFault) → Gives (λ (x : List (List Atom)). x) r (relations_of kind body) → IfErr r (λ e. e ≢ fault.Memory → IsFault kind body e)
+pub if_fault : (kind : FieldKind) (body : List ℕ) (r : Result (List (List AtomParts)) RelationFault) → Gives (λ (x : List (List AtomParts)). x) r (relations_of kind body) → IfErr r (λ e. e ≢ fault.Memory → IsFault kind body e)
 if_fault kind body (Ok x) h = tt
 if_fault kind body (Err e) h = λ n. read_fault kind body e (ap fault_in (h n))
 
@@ -331,28 +326,28 @@ operator_says kind [] = says_operator
 operator_says kind (b ∷ text) = one_of (b == 61) _ _ nothing_said (one_of (is_sign b) _ _ (one_of (is_provides kind) _ _ says_provides nothing_said) says_operator)
 
 version_says : (y : List ℕ) → NotMemory (version_fault y)
-version_says y = one_of (is_none (fault_of (run is_version_run y))) _ _ nothing_said says_version
+version_says y = one_of (is_none (fault_of (run is_version_word_byte y))) _ _ nothing_said says_version
 
 close_says : (y : List ℕ) → NotMemory (close_fault y)
 close_says [] = says_close
 close_says (b ∷ text) = one_of (b == 41) _ _ nothing_said says_close
 
 due_says : (kind : FieldKind) (p : Place) (left : List ℕ) → NotMemory (due_fault kind p left)
-due_says kind GroupDue left = group_says (rest is_blank left)
-due_says kind AtomDue left = name_says (rest is_blank left)
+due_says kind GroupDue left = group_says (rest is_whitespace left)
+due_says kind AtomDue left = name_says (rest is_whitespace left)
 due_says kind AfterName [] = nothing_said
-due_says kind AfterName (b ∷ text) = one_of (is_name_byte b) _ _ nothing_said (one_of (b == 58) _ _ nothing_said (bracket_says kind (rest is_blank (b ∷ text))))
+due_says kind AfterName (b ∷ text) = one_of (is_name_byte b) _ _ nothing_said (one_of (b == 58) _ _ nothing_said (bracket_says kind (rest is_whitespace (b ∷ text))))
 due_says kind QualifierDue [] = says_name
 due_says kind QualifierDue (b ∷ text) = one_of (is_qualifier_byte b) _ _ nothing_said says_name
 due_says kind AfterQualifier [] = nothing_said
-due_says kind AfterQualifier (b ∷ text) = one_of (is_qualifier_byte b) _ _ nothing_said (bracket_says kind (rest is_blank (b ∷ text)))
-due_says kind OperatorDue left = operator_says kind (rest is_blank left)
+due_says kind AfterQualifier (b ∷ text) = one_of (is_qualifier_byte b) _ _ nothing_said (bracket_says kind (rest is_whitespace (b ∷ text)))
+due_says kind OperatorDue left = operator_says kind (rest is_whitespace left)
 due_says kind (AfterSign b) [] = says_version
-due_says kind (AfterSign b) (c ∷ text) = one_of (lengthens b c) _ _ nothing_said (version_says (rest is_blank (c ∷ text)))
-due_says kind VersionDue left = version_says (rest is_blank left)
+due_says kind (AfterSign b) (c ∷ text) = one_of (lengthens b c) _ _ nothing_said (version_says (rest is_whitespace (c ∷ text)))
+due_says kind VersionDue left = version_says (rest is_whitespace left)
 due_says kind CloseDue [] = says_close
-due_says kind CloseDue (b ∷ text) = one_of (is_version_run b) _ _ nothing_said (close_says (rest is_blank (b ∷ text)))
-due_says kind AfterAtom left = end_says kind (rest is_blank left)
+due_says kind CloseDue (b ∷ text) = one_of (is_version_word_byte b) _ _ nothing_said (close_says (rest is_whitespace (b ∷ text)))
+due_says kind AfterAtom left = end_says kind (rest is_whitespace left)
 
 pub never_memory : NeverMemory
 never_memory kind body f h = due_says kind h.place h.left f h.due

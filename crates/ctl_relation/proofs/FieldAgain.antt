@@ -6,24 +6,25 @@ use Rattle.std.specs.Char.{is_ascii_alphanumeric}
 use Rattle.std.proofs.lemmas.Bool.Decides.{nat_tests}
 use Rattle.ctl_relation.specs.declared.relation_fault.RelationFault.{RelationFault}
 use Rattle.ctl_relation.specs.declared.relation_fault.RelationFault.TheVariants as fault
-use Rattle.ctl_relation.specs.declared.relation.FieldKind.{FieldKind}
-use Rattle.ctl_relation.specs.declared.relation.Atom.{Atom}
+use Rattle.ctl_relation.specs.declared.field_kind.FieldKind.{FieldKind}
+use Rattle.ctl_relation.specs.FieldBytes.{is_whitespace, rest, Stops}
+use Rattle.ctl_relation.specs.Parts.{AtomParts}
 use Rattle.ctl_relation.specs.Names.{is_name}
-use Rattle.ctl_relation.specs.Grammar.{◌>>=◌, is_blank, rest, atom_at, behind_byte, alternatives, group_at, groups_behind, groups_from, groups_at, relations_of, Gives}
-use Rattle.ctl_relation.specs.Relations.{IsBlank, AtomText, PaddedAtom, GroupText, PiecesText, groups_of, RelationsText}
-use Rattle.ctl_relation.proofs.Only.{Stops, rest_again}
+use Rattle.ctl_relation.specs.Reading.{◌>>=◌, atom_at, behind_byte, alternatives, group_at, groups_behind, groups_from, groups_at, relations_of, Gives}
+use Rattle.ctl_relation.specs.Grammar.{IsWhitespace, AtomText, PaddedAtom, GroupText, PiecesText, groups_of, RelationsText}
+use Rattle.ctl_relation.proofs.Only.{rest_again}
 use Rattle.ctl_relation.proofs.AtomAgain.{taken, step, atom_again}
 
 -- a group goes up to a comma or the end
 abbrev GroupEnd : List ℕ → Type 0
 GroupEnd after = (after ≡ []) ⊎ ((more : List ℕ) × (after ≡ 44 ∷ more))
 
-pub letter_first : (b : ℕ) → is_ascii_alphanumeric b ≡ true → (is_blank b ≡ false) × ((b == 44) ≡ false)
+pub letter_first : (b : ℕ) → is_ascii_alphanumeric b ≡ true → (is_whitespace b ≡ false) × ((b == 44) ≡ false)
 letter_first b h = (grind (arith, nat_tests), grind (arith, nat_tests))
 
 -- the first byte of an atom
 record Begins (text : List ℕ) : Type 0 where
-  stops : Stops is_blank text
+  stops : Stops is_whitespace text
   comma : behind_byte 44 text ≡ None
   some : 0 < length text
 
@@ -37,26 +38,26 @@ name_begins (b ∷ name) after h =
     first true t h = refl
     first false t h = absurd cc
 
-atom_begins : (kind : FieldKind) (t after : List ℕ) (atom : Atom) → AtomText kind t atom → Begins (t ++ after)
+atom_begins : (kind : FieldKind) (t after : List ℕ) (atom : AtomParts) → AtomText kind t atom → Begins (t ++ after)
 atom_begins kind t after atom h =
     let P : List ℕ → Type 0 = Begins in
     let w : t ++ after ≡ atom.name ++ ((h.qualifier_text ++ h.bound_text) ++ after) = ap (λ (l : List ℕ). l ++ after) h.whole ∙ append_assoc atom.name (h.qualifier_text ++ h.bound_text) after in
     subst P (sym w) (name_begins atom.name ((h.qualifier_text ++ h.bound_text) ++ after) h.name)
 
 -- a padded atom before what follows it
-record Read (kind : FieldKind) (text : List ℕ) (atom : Atom) (after : List ℕ) : Type 0 where
+record Read (kind : FieldKind) (text : List ℕ) (atom : AtomParts) (after : List ℕ) : Type 0 where
   blanks : List ℕ
-  blank : IsBlank blanks
-  begins : Begins (rest is_blank text)
-  read : atom_at kind (rest is_blank text) ≡ taken (atom, blanks ++ after)
-  shorter : length after < length (rest is_blank text)
+  blank : IsWhitespace blanks
+  begins : Begins (rest is_whitespace text)
+  read : atom_at kind (rest is_whitespace text) ≡ taken (atom, blanks ++ after)
+  shorter : length after < length (rest is_whitespace text)
 
-padded_again : (kind : FieldKind) (text after : List ℕ) (atom : Atom) → PaddedAtom kind text atom → (after ≡ []) ⊎ ((b : ℕ) × (more : List ℕ) × (after ≡ b ∷ more) × ((b ≡ 44) ⊎ (b ≡ 124))) → Read kind (text ++ after) atom after
+padded_again : (kind : FieldKind) (text after : List ℕ) (atom : AtomParts) → PaddedAtom kind text atom → (after ≡ []) ⊎ ((b : ℕ) × (more : List ℕ) × (after ≡ b ∷ more) × ((b ≡ 44) ⊎ (b ≡ 124))) → Read kind (text ++ after) atom after
 padded_again kind text after atom h n =
     let x : List ℕ = h.middle ++ (h.after ++ after) in
     let w : text ++ after ≡ h.before ++ x = ap (λ (l : List ℕ). l ++ after) h.whole ∙ append_assoc h.before (h.middle ++ h.after) after ∙ ap (λ (l : List ℕ). h.before ++ l) (append_assoc h.middle h.after after) in
     let b = atom_begins kind h.middle (h.after ++ after) atom h.spelled in
-    let e : rest is_blank (text ++ after) ≡ x = ap (rest is_blank) w ∙ rest_again is_blank h.before x h.blanks.0 b.stops in
+    let e : rest is_whitespace (text ++ after) ≡ x = ap (rest is_whitespace) w ∙ rest_again is_whitespace h.before x h.blanks.0 b.stops in
     let c : atom_at kind x ≡ taken (atom, h.after ++ after) = atom_again kind h.middle (h.after ++ after) atom h.spelled (record { blanks = h.after; text = after; blank = h.blanks.1; whole = refl; next = n }) in
     let P : List ℕ → Type 0 = Begins in
     let s = name_begins atom.name (h.spelled.qualifier_text ++ h.spelled.bound_text) h.spelled.name in
@@ -69,35 +70,35 @@ padded_again kind text after atom h n =
     }
 
 -- what follows a group, behind blanks
-stops_end : (after : List ℕ) → GroupEnd after → Stops is_blank after × (behind_byte 124 after ≡ None)
-stops_end after (inl e) = let P : List ℕ → Type 0 = λ l. Stops is_blank l × (behind_byte 124 l ≡ None) in subst P (sym e) (tt, refl)
-stops_end after (inr m) = let P : List ℕ → Type 0 = λ l. Stops is_blank l × (behind_byte 124 l ≡ None) in subst P (sym m.1) (refl, refl)
+stops_end : (after : List ℕ) → GroupEnd after → Stops is_whitespace after × (behind_byte 124 after ≡ None)
+stops_end after (inl e) = let P : List ℕ → Type 0 = λ l. Stops is_whitespace l × (behind_byte 124 l ≡ None) in subst P (sym e) (tt, refl)
+stops_end after (inr m) = let P : List ℕ → Type 0 = λ l. Stops is_whitespace l × (behind_byte 124 l ≡ None) in subst P (sym m.1) (refl, refl)
 
 end_next : (after : List ℕ) → GroupEnd after → (after ≡ []) ⊎ ((b : ℕ) × (more : List ℕ) × (after ≡ b ∷ more) × ((b ≡ 44) ⊎ (b ≡ 124)))
 end_next after (inl e) = inl e
 end_next after (inr m) = inr (44, m.0, m.1, inl refl)
 
-rest-le : (text : List ℕ) → length (rest is_blank text) ≤ length text
-rest-le text = omega (arith, length-drop (prefix_len is_blank text) text)
+rest-le : (text : List ℕ) → length (rest is_whitespace text) ≤ length text
+rest-le text = omega (arith, length-drop (prefix_len is_whitespace text) text)
 
 -- a group that is read
-record ReadGroup (kind : FieldKind) (n : ℕ) (text : List ℕ) (group : List Atom) (after : List ℕ) : Type 0 where
+record ReadGroup (kind : FieldKind) (n : ℕ) (text : List ℕ) (group : List AtomParts) (after : List ℕ) : Type 0 where
   left : List ℕ
-  begins : Begins (rest is_blank text)
-  read : group_at n kind (rest is_blank text) ≡ taken (group, left)
-  follows : rest is_blank left ≡ after
+  begins : Begins (rest is_whitespace text)
+  read : group_at n kind (rest is_whitespace text) ≡ taken (group, left)
+  follows : rest is_whitespace left ≡ after
 
-group_again : (kind : FieldKind) (n : ℕ) (text after : List ℕ) (group : List Atom) → GroupText kind text group → GroupEnd after → length (rest is_blank (text ++ after)) < n → ReadGroup kind n (text ++ after) group after
+group_again : (kind : FieldKind) (n : ℕ) (text after : List ℕ) (group : List AtomParts) → GroupText kind text group → GroupEnd after → length (rest is_whitespace (text ++ after)) < n → ReadGroup kind n (text ++ after) group after
 group_again kind zero text after group h e l = absurd (omega arith)
 group_again kind (suc n) text after [] h e l = absurd h
 group_again kind (suc n) text after (atom ∷ []) h e l =
     let r = padded_again kind text after atom h (end_next after e) in
     let s = stops_end after e in
-    let f : rest is_blank (r.blanks ++ after) ≡ after = rest_again is_blank r.blanks after r.blank s.0 in
+    let f : rest is_whitespace (r.blanks ++ after) ≡ after = rest_again is_whitespace r.blanks after r.blank s.0 in
     record {
       left = r.blanks ++ after;
       begins = r.begins;
-      read = step (atom_at kind (rest is_blank (text ++ after))) (λ a. alternatives kind (group_at n kind) a (behind_byte 124 (rest is_blank a.1))) (atom, r.blanks ++ after) r.read
+      read = step (atom_at kind (rest is_whitespace (text ++ after))) (λ a. alternatives kind (group_at n kind) a (behind_byte 124 (rest is_whitespace a.1))) (atom, r.blanks ++ after) r.read
           ∙ ap (alternatives kind (group_at n kind) (atom, r.blanks ++ after)) (ap (behind_byte 124) f ∙ s.1);
       follows = f;
     }
@@ -105,55 +106,55 @@ group_again kind (suc n) text after (atom ∷ other ∷ more) h e l =
     let x : List ℕ = h.1 ++ after in
     let w : text ++ after ≡ h.0 ++ 124 ∷ x = ap (λ (z : List ℕ). z ++ after) h.5 ∙ append_assoc h.0 (124 ∷ h.1) after in
     let r = padded_again kind h.0 (124 ∷ x) atom h.2 (inr (124, x, refl, inr refl)) in
-    let f : rest is_blank (r.blanks ++ 124 ∷ x) ≡ 124 ∷ x = rest_again is_blank r.blanks (124 ∷ x) r.blank refl in
-    let small : length (rest is_blank x) < n = omega (arith, r.shorter, rest-le x, ap (λ (z : List ℕ). length (rest is_blank z)) w) in
+    let f : rest is_whitespace (r.blanks ++ 124 ∷ x) ≡ 124 ∷ x = rest_again is_whitespace r.blanks (124 ∷ x) r.blank refl in
+    let small : length (rest is_whitespace x) < n = omega (arith, r.shorter, rest-le x, ap (λ (z : List ℕ). length (rest is_whitespace z)) w) in
     let g = group_again kind n h.1 after (other ∷ more) h.4 e small in
     let P : List ℕ → Type 0 = λ z. ReadGroup kind (suc n) z (atom ∷ other ∷ more) after in
     subst P (sym w) (record {
       left = g.left;
       begins = r.begins;
-      read = step (atom_at kind (rest is_blank (h.0 ++ 124 ∷ x))) (λ a. alternatives kind (group_at n kind) a (behind_byte 124 (rest is_blank a.1))) (atom, r.blanks ++ 124 ∷ x) r.read
+      read = step (atom_at kind (rest is_whitespace (h.0 ++ 124 ∷ x))) (λ a. alternatives kind (group_at n kind) a (behind_byte 124 (rest is_whitespace a.1))) (atom, r.blanks ++ 124 ∷ x) r.read
           ∙ ap (λ z. alternatives kind (group_at n kind) (atom, r.blanks ++ 124 ∷ x) (behind_byte 124 z)) f
-          ∙ ap (λ t. cond t (group_at n kind (rest is_blank x) >>= λ y. taken (atom ∷ y.0, y.1)) (Err fault.Alternative)) h.3
-          ∙ step (group_at n kind (rest is_blank x)) (λ y. taken (atom ∷ y.0, y.1)) (other ∷ more, g.left) g.read;
+          ∙ ap (λ t. cond t (group_at n kind (rest is_whitespace x) >>= λ y. taken (atom ∷ y.0, y.1)) (Err fault.Alternative)) h.3
+          ∙ step (group_at n kind (rest is_whitespace x)) (λ y. taken (atom ∷ y.0, y.1)) (other ∷ more, g.left) g.read;
       follows = g.follows;
     })
 
 -- a field that is read
-blank_rest : (text : List ℕ) → IsBlank text → rest is_blank text ≡ []
-blank_rest text h = ap (rest is_blank) (sym (append-nil text)) ∙ rest_again is_blank text [] h tt
+blank_rest : (text : List ℕ) → IsWhitespace text → rest is_whitespace text ≡ []
+blank_rest text h = ap (rest is_whitespace) (sym (append-nil text)) ∙ rest_again is_whitespace text [] h tt
 
 is_some : (text : List ℕ) → 0 < length text → (length text == 0) ≡ false
 is_some text h = grind (arith, nat_tests)
 
 -- where a group comes first
-group_first : (kind : FieldKind) (n : ℕ) (text after : List ℕ) (group : List Atom) → ReadGroup kind (length (rest is_blank text) + 1) text group after → groups_at (suc n) kind text ≡ groups_behind (groups_at n kind) group after (behind_byte 44 after)
+group_first : (kind : FieldKind) (n : ℕ) (text after : List ℕ) (group : List AtomParts) → ReadGroup kind (length (rest is_whitespace text) + 1) text group after → groups_at (suc n) kind text ≡ groups_behind (groups_at n kind) group after (behind_byte 44 after)
 group_first kind n text after group r =
-    let x : List ℕ = rest is_blank text in
+    let x : List ℕ = rest is_whitespace text in
     ap (groups_from (groups_at n kind) kind x) r.begins.comma
-    ∙ ap (λ t. cond t (taken []) (group_at (length x + 1) kind x >>= λ g. groups_behind (groups_at n kind) g.0 (rest is_blank g.1) (behind_byte 44 (rest is_blank g.1)))) (is_some x r.begins.some)
-    ∙ step (group_at (length x + 1) kind x) (λ g. groups_behind (groups_at n kind) g.0 (rest is_blank g.1) (behind_byte 44 (rest is_blank g.1))) (group, r.left) r.read
+    ∙ ap (λ t. cond t (taken []) (group_at (length x + 1) kind x >>= λ g. groups_behind (groups_at n kind) g.0 (rest is_whitespace g.1) (behind_byte 44 (rest is_whitespace g.1)))) (is_some x r.begins.some)
+    ∙ step (group_at (length x + 1) kind x) (λ g. groups_behind (groups_at n kind) g.0 (rest is_whitespace g.1) (behind_byte 44 (rest is_whitespace g.1))) (group, r.left) r.read
     ∙ ap (λ z. groups_behind (groups_at n kind) group z (behind_byte 44 z)) r.follows
 
-pieces_again : (kind : FieldKind) (n : ℕ) (text : List ℕ) (pieces : List (Option (List Atom))) → PiecesText kind text pieces → length text < n → groups_at n kind text ≡ taken (groups_of pieces)
+pieces_again : (kind : FieldKind) (n : ℕ) (text : List ℕ) (pieces : List (Option (List AtomParts))) → PiecesText kind text pieces → length text < n → groups_at n kind text ≡ taken (groups_of pieces)
 pieces_again kind zero text pieces h l = absurd (omega arith)
 pieces_again kind (suc n) text [] h l = absurd h
 pieces_again kind (suc n) text (None ∷ []) h l = ap (λ z. groups_from (groups_at n kind) kind z (behind_byte 44 z)) (blank_rest text h)
 pieces_again kind (suc n) text (Some group ∷ []) h l =
-    let P : List ℕ → Type 0 = λ z. ReadGroup kind (length (rest is_blank z) + 1) z group [] in
-    group_first kind n text [] group (subst P (append-nil text) (group_again kind (length (rest is_blank (text ++ [])) + 1) text [] group h (inl refl) (omega arith)))
+    let P : List ℕ → Type 0 = λ z. ReadGroup kind (length (rest is_whitespace z) + 1) z group [] in
+    group_first kind n text [] group (subst P (append-nil text) (group_again kind (length (rest is_whitespace (text ++ [])) + 1) text [] group h (inl refl) (omega arith)))
 pieces_again kind (suc n) text (None ∷ other ∷ more) h l =
-    let e : rest is_blank text ≡ 44 ∷ h.1 = ap (rest is_blank) h.4 ∙ rest_again is_blank h.0 (44 ∷ h.1) h.2 refl in
+    let e : rest is_whitespace text ≡ 44 ∷ h.1 = ap (rest is_whitespace) h.4 ∙ rest_again is_whitespace h.0 (44 ∷ h.1) h.2 refl in
     ap (λ z. groups_from (groups_at n kind) kind z (behind_byte 44 z)) e ∙ pieces_again kind n h.1 (other ∷ more) h.3 (omega (arith, ap length h.4, length-append h.0 (44 ∷ h.1)))
 pieces_again kind (suc n) text (Some group ∷ other ∷ more) h l =
-    let P : List ℕ → Type 0 = λ z. ReadGroup kind (length (rest is_blank z) + 1) z group (44 ∷ h.1) in
-    let r = group_again kind (length (rest is_blank (h.0 ++ 44 ∷ h.1)) + 1) h.0 (44 ∷ h.1) group h.2 (inr (h.1, refl)) (omega arith) in
+    let P : List ℕ → Type 0 = λ z. ReadGroup kind (length (rest is_whitespace z) + 1) z group (44 ∷ h.1) in
+    let r = group_again kind (length (rest is_whitespace (h.0 ++ 44 ∷ h.1)) + 1) h.0 (44 ∷ h.1) group h.2 (inr (h.1, refl)) (omega arith) in
     group_first kind n text (44 ∷ h.1) group (subst P (sym h.4) r)
     ∙ step (groups_at n kind h.1) (λ y. taken (group ∷ y)) (groups_of (other ∷ more)) (pieces_again kind n h.1 (other ∷ more) h.3 (omega (arith, ap length h.4, length-append h.0 (44 ∷ h.1))))
 
 -- what is in the grammar is read
-pub relations_again : (kind : FieldKind) (body : List ℕ) (groups : List (List Atom)) → RelationsText kind body groups → relations_of kind body ≡ taken groups
-relations_again kind body groups h = pieces_again kind (length body + 1) body h.0 h.1 (omega arith) ∙ ap (λ (g : List (List Atom)). taken g) (sym h.2)
+pub relations_again : (kind : FieldKind) (body : List ℕ) (groups : List (List AtomParts)) → RelationsText kind body groups → relations_of kind body ≡ taken groups
+relations_again kind body groups h = pieces_again kind (length body + 1) body h.0 h.1 (omega arith) ∙ ap (λ (g : List (List AtomParts)). taken g) (sym h.2)
 
-pub gives_again : (kind : FieldKind) (body : List ℕ) (r : Result (List (List Atom)) RelationFault) → Gives (λ (x : List (List Atom)). x) r (relations_of kind body) → (groups : List (List Atom)) → RelationsText kind body groups → Gives (λ (x : List (List Atom)). x) r (taken groups)
-gives_again kind body r h groups t = let P : Result (List (List Atom)) RelationFault → Type 0 = Gives (λ (x : List (List Atom)). x) r in subst P (relations_again kind body groups t) h
+pub gives_again : (kind : FieldKind) (body : List ℕ) (r : Result (List (List AtomParts)) RelationFault) → Gives (λ (x : List (List AtomParts)). x) r (relations_of kind body) → (groups : List (List AtomParts)) → RelationsText kind body groups → Gives (λ (x : List (List AtomParts)). x) r (taken groups)
+gives_again kind body r h groups t = let P : Result (List (List AtomParts)) RelationFault → Type 0 = Gives (λ (x : List (List AtomParts)). x) r in subst P (relations_again kind body groups t) h

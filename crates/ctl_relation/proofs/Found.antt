@@ -7,13 +7,15 @@ use Rattle.std.proofs.lemmas.List.{take-append-drop}
 use Rattle.std.proofs.lemmas.List.Folds.{list_all-append}
 use Rattle.ctl_relation.specs.declared.relation_fault.RelationFault.{RelationFault}
 use Rattle.ctl_relation.specs.declared.relation_fault.RelationFault.TheVariants as fault
-use Rattle.ctl_relation.specs.declared.relation.Operator.{Operator}
-use Rattle.ctl_relation.specs.declared.relation.FieldKind.{FieldKind}
-use Rattle.ctl_relation.specs.declared.relation.Atom.{Atom}
+use Rattle.ctl_relation.specs.declared.operator.Operator.{Operator}
+use Rattle.ctl_relation.specs.declared.field_kind.FieldKind.{FieldKind}
+use Rattle.ctl_relation.specs.FieldBytes.{is_whitespace, is_qualifier_byte, is_version_word_byte, run, rest}
+use Rattle.ctl_relation.specs.Parts.{AtomParts}
 use Rattle.ctl_relation.specs.Version.{fault_of}
 use Rattle.ctl_relation.specs.Names.{is_name_byte, is_name}
-use Rattle.ctl_relation.specs.Grammar.{◌>>=◌, is_blank, is_qualifier_byte, is_version_run, is_provides, is_exact, run, rest, name_at, qualifier_at, operator_token, allowed, operator_at, version_at, close_at, inner_at, bound_behind, bound_at, atom_at, has_alternatives, behind_byte, alternatives, group_at, groups_behind, groups_from, groups_at, relations_of, Gives}
-use Rattle.ctl_relation.specs.Relations.{IsBlank, IsSpelled, QualifierText, BoundText, AtomText, PaddedAtom, GroupText, PieceText, PiecesText, groups_of, RelationsText}
+use Rattle.ctl_relation.specs.FieldKind.{is_provides, has_alternatives, is_exact}
+use Rattle.ctl_relation.specs.Reading.{◌>>=◌, name_at, qualifier_at, operator_token, allowed, operator_at, version_at, close_at, parenthesized_at, bound_behind, bound_at, atom_at, behind_byte, alternatives, group_at, groups_behind, groups_from, groups_at, relations_of, Gives}
+use Rattle.ctl_relation.specs.Grammar.{IsWhitespace, IsSpelled, QualifierText, BoundText, AtomText, PaddedAtom, GroupText, PieceText, PiecesText, groups_of, RelationsText}
 
 bind_ok : {A B : Type 0} (r : Result A RelationFault) (f : A → Result B RelationFault) (y : B) → (r >>= f) ≡ Ok y → (x : A) × (r ≡ Ok x) × (f x ≡ Ok y)
 bind_ok (Ok x) f y e = (x, refl, e)
@@ -58,9 +60,9 @@ name_found text x e =
 
 version_found : (text : List ℕ) (x : List ℕ × List ℕ) → version_at text ≡ Ok x → (fault_of x.0 ≡ None) × (text ≡ x.0 ++ x.1)
 version_found text x e =
-    let g = guard_ok (is_none (fault_of (run is_version_run text))) fault.Version (run is_version_run text, rest is_version_run text) x e in
+    let g = guard_ok (is_none (fault_of (run is_version_word_byte text))) fault.Version (run is_version_word_byte text, rest is_version_word_byte text) x e in
     let P : List ℕ × List ℕ → Type 0 = λ y. (fault_of y.0 ≡ None) × (text ≡ y.0 ++ y.1) in
-    subst P g.1 (none_is (fault_of (run is_version_run text)) g.0, run-rest is_version_run text)
+    subst P g.1 (none_is (fault_of (run is_version_word_byte text)) g.0, run-rest is_version_word_byte text)
   where
     none_is : {A : Type 0} (o : Option A) → is_none o ≡ true → o ≡ None
     none_is None e = refl
@@ -133,84 +135,84 @@ record Inner (kind : FieldKind) (text : List ℕ) (op : Operator) (version after
   spelled : List ℕ
   between : List ℕ
   behind : List ℕ
-  blanks : IsBlank inside × IsBlank between × IsBlank behind
+  blanks : IsWhitespace inside × IsWhitespace between × IsWhitespace behind
   operator : IsSpelled op spelled
   in_provides : is_provides kind ≡ true → is_exact op ≡ true
   is_version : fault_of version ≡ None
   whole : text ≡ inside ++ (spelled ++ (between ++ (version ++ (behind ++ 41 ∷ after))))
 
-inner_found : (kind : FieldKind) (text : List ℕ) (x : (Operator × List ℕ) × List ℕ) → inner_at kind text ≡ Ok x → Inner kind text x.0.0 x.0.1 x.1
-unfolding inner_at
+inner_found : (kind : FieldKind) (text : List ℕ) (x : (Operator × List ℕ) × List ℕ) → parenthesized_at kind text ≡ Ok x → Inner kind text x.0.0 x.0.1 x.1
+unfolding parenthesized_at
 inner_found kind text x e =
-    let a = bind_ok (operator_at kind (rest is_blank text)) (λ op. version_at (rest is_blank op.1) >>= λ version. close_at (rest is_blank version.1) >>= λ after. Ok ((op.0, version.0), after)) x e in
-    let b = bind_ok (version_at (rest is_blank a.0.1)) (λ version. close_at (rest is_blank version.1) >>= λ after. Ok ((a.0.0, version.0), after)) x a.2 in
-    let c = bind_ok (close_at (rest is_blank b.0.1)) (λ after. Ok ((a.0.0, b.0.0), after)) x b.2 in
-    let op = allowed_found kind (operator_token (rest is_blank text)) a.0 a.1 in
-    let P : Option (Operator × List ℕ) → Type 0 = Spells (rest is_blank text) in
-    let spelled : Spells (rest is_blank text) (Some a.0) = subst P op.0 (operator_found (rest is_blank text)) in
-    let version = version_found (rest is_blank a.0.1) b.0 b.1 in
-    let close = close_found (rest is_blank b.0.1) c.0 c.1 in
+    let a = bind_ok (operator_at kind (rest is_whitespace text)) (λ op. version_at (rest is_whitespace op.1) >>= λ version. close_at (rest is_whitespace version.1) >>= λ after. Ok ((op.0, version.0), after)) x e in
+    let b = bind_ok (version_at (rest is_whitespace a.0.1)) (λ version. close_at (rest is_whitespace version.1) >>= λ after. Ok ((a.0.0, version.0), after)) x a.2 in
+    let c = bind_ok (close_at (rest is_whitespace b.0.1)) (λ after. Ok ((a.0.0, b.0.0), after)) x b.2 in
+    let op = allowed_found kind (operator_token (rest is_whitespace text)) a.0 a.1 in
+    let P : Option (Operator × List ℕ) → Type 0 = Spells (rest is_whitespace text) in
+    let spelled : Spells (rest is_whitespace text) (Some a.0) = subst P op.0 (operator_found (rest is_whitespace text)) in
+    let version = version_found (rest is_whitespace a.0.1) b.0 b.1 in
+    let close = close_found (rest is_whitespace b.0.1) c.0 c.1 in
     let made : (Operator × List ℕ) × List ℕ = ((a.0.0, b.0.0), c.0) in
     let Q : (Operator × List ℕ) × List ℕ → Type 0 = λ y. Inner kind text y.0.0 y.0.1 y.1 in
-    let e5 : b.0.1 ≡ run is_blank b.0.1 ++ 41 ∷ c.0 = run-rest is_blank b.0.1 ∙ ap (λ l. run is_blank b.0.1 ++ l) close in
-    let e4 : rest is_blank a.0.1 ≡ b.0.0 ++ (run is_blank b.0.1 ++ 41 ∷ c.0) = version.1 ∙ ap (λ l. b.0.0 ++ l) e5 in
-    let e3 : a.0.1 ≡ run is_blank a.0.1 ++ (b.0.0 ++ (run is_blank b.0.1 ++ 41 ∷ c.0)) = run-rest is_blank a.0.1 ∙ ap (λ l. run is_blank a.0.1 ++ l) e4 in
-    let e2 : rest is_blank text ≡ spelled.0 ++ (run is_blank a.0.1 ++ (b.0.0 ++ (run is_blank b.0.1 ++ 41 ∷ c.0))) = spelled.2 ∙ ap (λ l. spelled.0 ++ l) e3 in
+    let e5 : b.0.1 ≡ run is_whitespace b.0.1 ++ 41 ∷ c.0 = run-rest is_whitespace b.0.1 ∙ ap (λ l. run is_whitespace b.0.1 ++ l) close in
+    let e4 : rest is_whitespace a.0.1 ≡ b.0.0 ++ (run is_whitespace b.0.1 ++ 41 ∷ c.0) = version.1 ∙ ap (λ l. b.0.0 ++ l) e5 in
+    let e3 : a.0.1 ≡ run is_whitespace a.0.1 ++ (b.0.0 ++ (run is_whitespace b.0.1 ++ 41 ∷ c.0)) = run-rest is_whitespace a.0.1 ∙ ap (λ l. run is_whitespace a.0.1 ++ l) e4 in
+    let e2 : rest is_whitespace text ≡ spelled.0 ++ (run is_whitespace a.0.1 ++ (b.0.0 ++ (run is_whitespace b.0.1 ++ 41 ∷ c.0))) = spelled.2 ∙ ap (λ l. spelled.0 ++ l) e3 in
     subst Q (ok_is made x c.2) (record {
-      inside = run is_blank text;
+      inside = run is_whitespace text;
       spelled = spelled.0;
-      between = run is_blank a.0.1;
-      behind = run is_blank b.0.1;
-      blanks = (run-passes is_blank text, run-passes is_blank a.0.1, run-passes is_blank b.0.1);
+      between = run is_whitespace a.0.1;
+      behind = run is_whitespace b.0.1;
+      blanks = (run-passes is_whitespace text, run-passes is_whitespace a.0.1, run-passes is_whitespace b.0.1);
       operator = spelled.1;
       in_provides = op.1;
       is_version = version.0;
-      whole = run-rest is_blank text ∙ ap (λ l. run is_blank text ++ l) e2;
+      whole = run-rest is_whitespace text ∙ ap (λ l. run is_whitespace text ++ l) e2;
     })
 
 abbrev Bounded : FieldKind → List ℕ → Option (Operator × List ℕ) × List ℕ → Type 0
 Bounded kind text x = (t : List ℕ) × BoundText kind t x.0 × (text ≡ t ++ x.1)
 
 bound_found : (kind : FieldKind) (text : List ℕ) (x : Option (Operator × List ℕ) × List ℕ) → bound_at kind text ≡ Ok x → Bounded kind text x
-bound_found kind text x e = go (rest is_blank text) refl e
+bound_found kind text x e = go (rest is_whitespace text) refl e
   where
     none : done (None, text) ≡ done x → Bounded kind text x
     none e = let P : Option (Operator × List ℕ) × List ℕ → Type 0 = Bounded kind text in subst P (ok_is (None, text) x e) ([], refl, refl)
 
-    some : (behind : List ℕ) → rest is_blank text ≡ 40 ∷ behind → (inner_at kind behind >>= λ y. Ok (Some y.0, y.1)) ≡ Ok x → Bounded kind text x
+    some : (behind : List ℕ) → rest is_whitespace text ≡ 40 ∷ behind → (parenthesized_at kind behind >>= λ y. Ok (Some y.0, y.1)) ≡ Ok x → Bounded kind text x
     some behind t e =
-        let a = bind_ok (inner_at kind behind) (λ y. Ok (Some y.0, y.1)) x e in
+        let a = bind_ok (parenthesized_at kind behind) (λ y. Ok (Some y.0, y.1)) x e in
         let made : Option (Operator × List ℕ) × List ℕ = (Some a.0.0, a.0.1) in
         let P : Option (Operator × List ℕ) × List ℕ → Type 0 = Bounded kind text in
         let i = inner_found kind behind a.0 a.1 in
-        let e0 : text ≡ run is_blank text ++ 40 ∷ (i.inside ++ (i.spelled ++ (i.between ++ (a.0.0.1 ++ (i.behind ++ 41 ∷ a.0.1))))) = run-rest is_blank text ∙ ap (λ l. run is_blank text ++ l) (t ∙ ap (λ (l : List ℕ). 40 ∷ l) i.whole) in
+        let e0 : text ≡ run is_whitespace text ++ 40 ∷ (i.inside ++ (i.spelled ++ (i.between ++ (a.0.0.1 ++ (i.behind ++ 41 ∷ a.0.1))))) = run-rest is_whitespace text ∙ ap (λ l. run is_whitespace text ++ l) (t ∙ ap (λ (l : List ℕ). 40 ∷ l) i.whole) in
         subst P (ok_is made x a.2) (
-          run is_blank text ++ 40 ∷ (i.inside ++ (i.spelled ++ (i.between ++ (a.0.0.1 ++ (i.behind ++ 41 ∷ []))))),
+          run is_whitespace text ++ 40 ∷ (i.inside ++ (i.spelled ++ (i.between ++ (a.0.0.1 ++ (i.behind ++ 41 ∷ []))))),
           record {
-            before = run is_blank text;
+            before = run is_whitespace text;
             inside = i.inside;
             spelled = i.spelled;
             between = i.between;
             behind = i.behind;
-            blanks = (run-passes is_blank text, i.blanks.0, i.blanks.1, i.blanks.2);
+            blanks = (run-passes is_whitespace text, i.blanks.0, i.blanks.1, i.blanks.2);
             operator = i.operator;
             in_provides = i.in_provides;
             is_version = i.is_version;
             whole = refl;
           },
-          e0 ∙ sym (regroup (run is_blank text) i.inside i.spelled i.between a.0.0.1 i.behind a.0.1),
+          e0 ∙ sym (regroup (run is_whitespace text) i.inside i.spelled i.between a.0.0.1 i.behind a.0.1),
         )
 
-    go : (after : List ℕ) → rest is_blank text ≡ after → bound_behind kind text after ≡ Ok x → Bounded kind text x
+    go : (after : List ℕ) → rest is_whitespace text ≡ after → bound_behind kind text after ≡ Ok x → Bounded kind text x
     go [] t e = none e
     go (b ∷ behind) t e = step (b == 40) refl e
       where
-        step : (u : Bool) → (b == 40) ≡ u → cond u (inner_at kind behind >>= λ y. Ok (Some y.0, y.1)) (Ok (None, text)) ≡ Ok x → Bounded kind text x
+        step : (u : Bool) → (b == 40) ≡ u → cond u (parenthesized_at kind behind >>= λ y. Ok (Some y.0, y.1)) (Ok (None, text)) ≡ Ok x → Bounded kind text x
         step true h e = some behind (t ∙ ap (λ n. n ∷ behind) (eqb-true b 40 h)) e
         step false h e = none e
 
 -- an atom that is read is spelled so, and stands in front of what is left
-pub atom_found : (kind : FieldKind) (text : List ℕ) (x : Atom × List ℕ) → atom_at kind text ≡ Ok x → (t : List ℕ) × AtomText kind t x.0 × (text ≡ t ++ x.1)
+pub atom_found : (kind : FieldKind) (text : List ℕ) (x : AtomParts × List ℕ) → atom_at kind text ≡ Ok x → (t : List ℕ) × AtomText kind t x.0 × (text ≡ t ++ x.1)
 unfolding atom_at
 atom_found kind text x e =
     let a = bind_ok (name_at text) (λ name. qualifier_at name.1 >>= λ qualifier. bound_at kind qualifier.1 >>= λ bound. Ok (record { name = name.0; qualifier = qualifier.0; bound = bound.0 }, bound.1)) x e in
@@ -219,8 +221,8 @@ atom_found kind text x e =
     let name = name_found text a.0 a.1 in
     let qualifier = qualifier_found a.0.1 b.0 b.1 in
     let bound = bound_found kind b.0.1 c.0 c.1 in
-    let made : Atom × List ℕ = (record { name = a.0.0; qualifier = b.0.0; bound = c.0.0 }, c.0.1) in
-    let P : Atom × List ℕ → Type 0 = λ y. (t : List ℕ) × AtomText kind t y.0 × (text ≡ t ++ y.1) in
+    let made : AtomParts × List ℕ = (record { name = a.0.0; qualifier = b.0.0; bound = c.0.0 }, c.0.1) in
+    let P : AtomParts × List ℕ → Type 0 = λ y. (t : List ℕ) × AtomText kind t y.0 × (text ≡ t ++ y.1) in
     let e1 : a.0.1 ≡ qualifier.0 ++ (bound.0 ++ c.0.1) = qualifier.2 ∙ ap (λ l. qualifier.0 ++ l) bound.2 in
     let e0 : text ≡ a.0.0 ++ (qualifier.0 ++ (bound.0 ++ c.0.1)) = name.1 ∙ ap (λ l. a.0.0 ++ l) e1 in
     subst P (ok_is made x c.2) (
@@ -238,10 +240,10 @@ atom_found kind text x e =
 
 -- ---- groups
 
-both_blank : (a b : List ℕ) → IsBlank a → IsBlank b → IsBlank (a ++ b)
-both_blank a b p q = list_all-append is_blank a b ∙ ap (λ t. t && list_all is_blank b) p ∙ q
+both_blank : (a b : List ℕ) → IsWhitespace a → IsWhitespace b → IsWhitespace (a ++ b)
+both_blank a b p q = list_all-append is_whitespace a b ∙ ap (λ t. t && list_all is_whitespace b) p ∙ q
 
-padded : {kind : FieldKind} (blanks text : List ℕ) (atom : Atom) → IsBlank blanks → PaddedAtom kind text atom → PaddedAtom kind (blanks ++ text) atom
+padded : {kind : FieldKind} (blanks text : List ℕ) (atom : AtomParts) → IsWhitespace blanks → PaddedAtom kind text atom → PaddedAtom kind (blanks ++ text) atom
 padded blanks text atom b h = record {
   before = blanks ++ h.before;
   middle = h.middle;
@@ -259,14 +261,14 @@ behind_found c (b ∷ text) after e = go (b == c) refl e
     go true h e = let k : text ≡ after = cc in ap (λ n. n ∷ text) (eqb-true b c h) ∙ ap (λ (l : List ℕ). c ∷ l) k
     go false h e = absurd cc
 
-pad : (kind : FieldKind) (text middle after : List ℕ) (atom : Atom) → AtomText kind middle atom → IsBlank after → text ≡ middle ++ after → PaddedAtom kind text atom
+pad : (kind : FieldKind) (text middle after : List ℕ) (atom : AtomParts) → AtomText kind middle atom → IsWhitespace after → text ≡ middle ++ after → PaddedAtom kind text atom
 pad kind text middle after atom h b e = record { before = []; middle = middle; after = after; blanks = (refl, b); spelled = h; whole = e }
 
-abbrev put : Option (List Atom) → List (List Atom) → List (List Atom)
+abbrev put : Option (List AtomParts) → List (List AtomParts) → List (List AtomParts)
 put None groups = groups
 put (Some group) groups = group ∷ groups
 
-joined : (kind : FieldKind) (first second : List ℕ) (atom : Atom) (atoms : List Atom) → PaddedAtom kind first atom → has_alternatives kind ≡ true → GroupText kind second atoms → GroupText kind (first ++ 124 ∷ second) (atom ∷ atoms)
+joined : (kind : FieldKind) (first second : List ℕ) (atom : AtomParts) (atoms : List AtomParts) → PaddedAtom kind first atom → has_alternatives kind ≡ true → GroupText kind second atoms → GroupText kind (first ++ 124 ∷ second) (atom ∷ atoms)
 joined kind first second atom [] p h g = absurd g
 joined kind first second atom (other ∷ more) p h g = (first, second, p, h, g, refl)
 
@@ -275,111 +277,111 @@ test_ok true d r y e = (refl, e)
 test_ok false d r y e = absurd cc
 
 -- blanks in front of a group
-front_blanks : (kind : FieldKind) (blanks text : List ℕ) (group : List Atom) → IsBlank blanks → GroupText kind text group → GroupText kind (blanks ++ text) group
+front_blanks : (kind : FieldKind) (blanks text : List ℕ) (group : List AtomParts) → IsWhitespace blanks → GroupText kind text group → GroupText kind (blanks ++ text) group
 front_blanks kind blanks text [] b h = h
 front_blanks kind blanks text (atom ∷ []) b h = padded blanks text atom b h
 front_blanks kind blanks text (atom ∷ other ∷ more) b h =
     (blanks ++ h.0, h.1, padded blanks h.0 atom b h.2, h.3, h.4, ap (λ l. blanks ++ l) h.5 ∙ sym (append_assoc blanks h.0 (124 ∷ h.1)))
 
 -- what follows a group, without the blanks in front, and the group's own text
-pub group_found : (n : ℕ) (kind : FieldKind) (text : List ℕ) (x : List Atom × List ℕ) → group_at n kind text ≡ Ok x → (t : List ℕ) × GroupText kind t x.0 × (text ≡ t ++ rest is_blank x.1)
+pub group_found : (n : ℕ) (kind : FieldKind) (text : List ℕ) (x : List AtomParts × List ℕ) → group_at n kind text ≡ Ok x → (t : List ℕ) × GroupText kind t x.0 × (text ≡ t ++ rest is_whitespace x.1)
 group_found zero kind text x e = absurd cc
 group_found (suc n) kind text x e =
-    let a = bind_ok (atom_at kind text) (λ atom. alternatives kind (group_at n kind) atom (behind_byte 124 (rest is_blank atom.1))) x e in
-    group_behind n kind text x a.0 (atom_found kind text a.0 a.1) (behind_byte 124 (rest is_blank a.0.1)) refl a.2 (group_found n kind)
+    let a = bind_ok (atom_at kind text) (λ atom. alternatives kind (group_at n kind) atom (behind_byte 124 (rest is_whitespace atom.1))) x e in
+    group_behind n kind text x a.0 (atom_found kind text a.0 a.1) (behind_byte 124 (rest is_whitespace a.0.1)) refl a.2 (group_found n kind)
   where
-    group_behind : (n : ℕ) (kind : FieldKind) (text : List ℕ) (x : List Atom × List ℕ) (a : Atom × List ℕ) → ((t : List ℕ) × AtomText kind t a.0 × (text ≡ t ++ a.1)) → (b : Option (List ℕ)) → behind_byte 124 (rest is_blank a.1) ≡ b → alternatives kind (group_at n kind) a b ≡ Ok x
-        → ((text : List ℕ) (x : List Atom × List ℕ) → group_at n kind text ≡ Ok x → (t : List ℕ) × GroupText kind t x.0 × (text ≡ t ++ rest is_blank x.1)) → (t : List ℕ) × GroupText kind t x.0 × (text ≡ t ++ rest is_blank x.1)
+    group_behind : (n : ℕ) (kind : FieldKind) (text : List ℕ) (x : List AtomParts × List ℕ) (a : AtomParts × List ℕ) → ((t : List ℕ) × AtomText kind t a.0 × (text ≡ t ++ a.1)) → (b : Option (List ℕ)) → behind_byte 124 (rest is_whitespace a.1) ≡ b → alternatives kind (group_at n kind) a b ≡ Ok x
+        → ((text : List ℕ) (x : List AtomParts × List ℕ) → group_at n kind text ≡ Ok x → (t : List ℕ) × GroupText kind t x.0 × (text ≡ t ++ rest is_whitespace x.1)) → (t : List ℕ) × GroupText kind t x.0 × (text ≡ t ++ rest is_whitespace x.1)
     group_behind n kind text x a f None b e more =
-        let P : List Atom × List ℕ → Type 0 = λ y. (t : List ℕ) × GroupText kind t y.0 × (text ≡ t ++ rest is_blank y.1) in
+        let P : List AtomParts × List ℕ → Type 0 = λ y. (t : List ℕ) × GroupText kind t y.0 × (text ≡ t ++ rest is_whitespace y.1) in
         subst P (ok_is (a.0 ∷ [], a.1) x e) (
-          f.0 ++ run is_blank a.1,
-          pad kind (f.0 ++ run is_blank a.1) f.0 (run is_blank a.1) a.0 f.1 (run-passes is_blank a.1) refl,
-          f.2 ∙ ap (λ l. f.0 ++ l) (run-rest is_blank a.1) ∙ sym (append_assoc f.0 (run is_blank a.1) (rest is_blank a.1)),
+          f.0 ++ run is_whitespace a.1,
+          pad kind (f.0 ++ run is_whitespace a.1) f.0 (run is_whitespace a.1) a.0 f.1 (run-passes is_whitespace a.1) refl,
+          f.2 ∙ ap (λ l. f.0 ++ l) (run-rest is_whitespace a.1) ∙ sym (append_assoc f.0 (run is_whitespace a.1) (rest is_whitespace a.1)),
         )
     group_behind n kind text x a f (Some after) b e more =
-        let g = test_ok (has_alternatives kind) fault.Alternative (group_at n kind (rest is_blank after) >>= λ y. Ok (a.0 ∷ y.0, y.1)) x e in
-        let c = bind_ok (group_at n kind (rest is_blank after)) (λ y. Ok (a.0 ∷ y.0, y.1)) x g.1 in
-        let m = more (rest is_blank after) c.0 c.1 in
-        let first : List ℕ = f.0 ++ run is_blank a.1 in
-        let second : List ℕ = run is_blank after ++ m.0 in
-        let P : List Atom × List ℕ → Type 0 = λ y. (t : List ℕ) × GroupText kind t y.0 × (text ≡ t ++ rest is_blank y.1) in
-        let atom = pad kind first f.0 (run is_blank a.1) a.0 f.1 (run-passes is_blank a.1) refl in
-        let left : List ℕ = rest is_blank c.0.1 in
-        let e2 : after ≡ second ++ left = run-rest is_blank after ∙ ap (λ l. run is_blank after ++ l) m.2 ∙ sym (append_assoc (run is_blank after) m.0 left) in
-        let e1 : a.1 ≡ run is_blank a.1 ++ 124 ∷ (second ++ left) = run-rest is_blank a.1 ∙ ap (λ l. run is_blank a.1 ++ l) (behind_found 124 (rest is_blank a.1) after b ∙ ap (λ (l : List ℕ). 124 ∷ l) e2) in
-        let e0 : text ≡ (first ++ 124 ∷ second) ++ left = f.2 ∙ ap (λ l. f.0 ++ l) e1 ∙ sym (append_assoc f.0 (run is_blank a.1) (124 ∷ (second ++ left))) ∙ sym (append_assoc first (124 ∷ second) left) in
-        subst P (ok_is (a.0 ∷ c.0.0, c.0.1) x c.2) (first ++ 124 ∷ second, joined kind first second a.0 c.0.0 atom g.0 (front_blanks kind (run is_blank after) m.0 c.0.0 (run-passes is_blank after) m.1), e0)
+        let g = test_ok (has_alternatives kind) fault.Alternative (group_at n kind (rest is_whitespace after) >>= λ y. Ok (a.0 ∷ y.0, y.1)) x e in
+        let c = bind_ok (group_at n kind (rest is_whitespace after)) (λ y. Ok (a.0 ∷ y.0, y.1)) x g.1 in
+        let m = more (rest is_whitespace after) c.0 c.1 in
+        let first : List ℕ = f.0 ++ run is_whitespace a.1 in
+        let second : List ℕ = run is_whitespace after ++ m.0 in
+        let P : List AtomParts × List ℕ → Type 0 = λ y. (t : List ℕ) × GroupText kind t y.0 × (text ≡ t ++ rest is_whitespace y.1) in
+        let atom = pad kind first f.0 (run is_whitespace a.1) a.0 f.1 (run-passes is_whitespace a.1) refl in
+        let left : List ℕ = rest is_whitespace c.0.1 in
+        let e2 : after ≡ second ++ left = run-rest is_whitespace after ∙ ap (λ l. run is_whitespace after ++ l) m.2 ∙ sym (append_assoc (run is_whitespace after) m.0 left) in
+        let e1 : a.1 ≡ run is_whitespace a.1 ++ 124 ∷ (second ++ left) = run-rest is_whitespace a.1 ∙ ap (λ l. run is_whitespace a.1 ++ l) (behind_found 124 (rest is_whitespace a.1) after b ∙ ap (λ (l : List ℕ). 124 ∷ l) e2) in
+        let e0 : text ≡ (first ++ 124 ∷ second) ++ left = f.2 ∙ ap (λ l. f.0 ++ l) e1 ∙ sym (append_assoc f.0 (run is_whitespace a.1) (124 ∷ (second ++ left))) ∙ sym (append_assoc first (124 ∷ second) left) in
+        subst P (ok_is (a.0 ∷ c.0.0, c.0.1) x c.2) (first ++ 124 ∷ second, joined kind first second a.0 c.0.0 atom g.0 (front_blanks kind (run is_whitespace after) m.0 c.0.0 (run-passes is_whitespace after) m.1), e0)
 
 -- ---- fields
 
 -- the pieces from a text on
-abbrev Pieces : FieldKind → List ℕ → List (List Atom) → Type 0
+abbrev Pieces : FieldKind → List ℕ → List (List AtomParts) → Type 0
 Pieces kind text groups = RelationsText kind text groups
 
-one_piece : (kind : FieldKind) (text : List ℕ) (piece : Option (List Atom)) → PieceText kind text piece → RelationsText kind text (groups_of (piece ∷ []))
+one_piece : (kind : FieldKind) (text : List ℕ) (piece : Option (List AtomParts)) → PieceText kind text piece → RelationsText kind text (groups_of (piece ∷ []))
 one_piece kind text piece h = (piece ∷ [], h, refl)
 
 -- one more piece in front
-more_pieces : (kind : FieldKind) (first after : List ℕ) (piece : Option (List Atom)) (groups : List (List Atom)) → PieceText kind first piece → RelationsText kind after groups
+more_pieces : (kind : FieldKind) (first after : List ℕ) (piece : Option (List AtomParts)) (groups : List (List AtomParts)) → PieceText kind first piece → RelationsText kind after groups
     → RelationsText kind (first ++ 44 ∷ after) (put piece groups)
 more_pieces kind first after piece groups h r = go piece r.0 r.1 r.2 h
   where
-    go : (piece : Option (List Atom)) (pieces : List (Option (List Atom))) → PiecesText kind after pieces → groups ≡ groups_of pieces → PieceText kind first piece → RelationsText kind (first ++ 44 ∷ after) (put piece groups)
+    go : (piece : Option (List AtomParts)) (pieces : List (Option (List AtomParts))) → PiecesText kind after pieces → groups ≡ groups_of pieces → PieceText kind first piece → RelationsText kind (first ++ 44 ∷ after) (put piece groups)
     go piece [] p e h = absurd p
     go None (other ∷ more) p e h = (None ∷ other ∷ more, (first, after, h, p, refl), e)
-    go (Some group) (other ∷ more) p e h = (Some group ∷ other ∷ more, (first, after, h, p, refl), ap (λ (l : List (List Atom)). group ∷ l) e)
+    go (Some group) (other ∷ more) p e h = (Some group ∷ other ∷ more, (first, after, h, p, refl), ap (λ (l : List (List AtomParts)). group ∷ l) e)
 
 -- no bytes
 empty : (text : List ℕ) → (length text == 0) ≡ true → text ≡ []
 empty [] e = refl
 empty (b ∷ text) e = absurd (omega (arith, eqb-true (length (b ∷ text)) 0 e))
 
-whole : (kind : FieldKind) (text t : List ℕ) (gs : List (List Atom)) → t ≡ text → RelationsText kind t gs → RelationsText kind text gs
+whole : (kind : FieldKind) (text t : List ℕ) (gs : List (List AtomParts)) → t ≡ text → RelationsText kind t gs → RelationsText kind text gs
 whole kind text t gs e h = let P : List ℕ → Type 0 = λ z. RelationsText kind z gs in subst P e h
 
 -- the end, where nothing is left
-at_end : (kind : FieldKind) (text : List ℕ) (gs : List (List Atom)) → (length (rest is_blank text) == 0) ≡ true → done [] ≡ done gs → RelationsText kind text gs
+at_end : (kind : FieldKind) (text : List ℕ) (gs : List (List AtomParts)) → (length (rest is_whitespace text) == 0) ≡ true → done [] ≡ done gs → RelationsText kind text gs
 at_end kind text gs h e =
-    let P : List (List Atom) → Type 0 = RelationsText kind text in
-    let blank : IsBlank text = ap (λ l. list_all is_blank l) (run-rest is_blank text ∙ ap (λ l. run is_blank text ++ l) (empty (rest is_blank text) h)) ∙ both_blank (run is_blank text) [] (run-passes is_blank text) refl in
+    let P : List (List AtomParts) → Type 0 = RelationsText kind text in
+    let blank : IsWhitespace text = ap (λ l. list_all is_whitespace l) (run-rest is_whitespace text ∙ ap (λ l. run is_whitespace text ++ l) (empty (rest is_whitespace text) h)) ∙ both_blank (run is_whitespace text) [] (run-passes is_whitespace text) refl in
     subst P (ok_is [] gs e) (one_piece kind text None blank)
 
 -- a group, and what stands behind it
-group_then : (n : ℕ) (kind : FieldKind) (text : List ℕ) (gs : List (List Atom)) (a : List Atom × List ℕ) → ((text : List ℕ) (gs : List (List Atom)) → groups_at n kind text ≡ Ok gs → RelationsText kind text gs)
-    → ((t : List ℕ) × GroupText kind t a.0 × (rest is_blank text ≡ t ++ rest is_blank a.1)) → (b : Option (List ℕ)) → behind_byte 44 (rest is_blank a.1) ≡ b → groups_behind (groups_at n kind) a.0 (rest is_blank a.1) b ≡ Ok gs → RelationsText kind text gs
+group_then : (n : ℕ) (kind : FieldKind) (text : List ℕ) (gs : List (List AtomParts)) (a : List AtomParts × List ℕ) → ((text : List ℕ) (gs : List (List AtomParts)) → groups_at n kind text ≡ Ok gs → RelationsText kind text gs)
+    → ((t : List ℕ) × GroupText kind t a.0 × (rest is_whitespace text ≡ t ++ rest is_whitespace a.1)) → (b : Option (List ℕ)) → behind_byte 44 (rest is_whitespace a.1) ≡ b → groups_behind (groups_at n kind) a.0 (rest is_whitespace a.1) b ≡ Ok gs → RelationsText kind text gs
 group_then n kind text gs a more g None b e =
-    let h = guard_ok (length (rest is_blank a.1) == 0) fault.Name (a.0 ∷ []) gs e in
-    let first : List ℕ = run is_blank text ++ g.0 in
-    let P : List (List Atom) → Type 0 = RelationsText kind first in
-    let e0 : text ≡ first = run-rest is_blank text ∙ ap (λ l. run is_blank text ++ l) (g.2 ∙ ap (λ l. g.0 ++ l) (empty (rest is_blank a.1) h.0) ∙ append-nil g.0) in
-    whole kind text first gs (sym e0) (subst P h.1 (one_piece kind first (Some a.0) (front_blanks kind (run is_blank text) g.0 a.0 (run-passes is_blank text) g.1)))
+    let h = guard_ok (length (rest is_whitespace a.1) == 0) fault.Name (a.0 ∷ []) gs e in
+    let first : List ℕ = run is_whitespace text ++ g.0 in
+    let P : List (List AtomParts) → Type 0 = RelationsText kind first in
+    let e0 : text ≡ first = run-rest is_whitespace text ∙ ap (λ l. run is_whitespace text ++ l) (g.2 ∙ ap (λ l. g.0 ++ l) (empty (rest is_whitespace a.1) h.0) ∙ append-nil g.0) in
+    whole kind text first gs (sym e0) (subst P h.1 (one_piece kind first (Some a.0) (front_blanks kind (run is_whitespace text) g.0 a.0 (run-passes is_whitespace text) g.1)))
 group_then n kind text gs a more g (Some after) b e =
     let c = bind_ok (groups_at n kind after) (λ x. Ok (a.0 ∷ x)) gs e in
-    let first : List ℕ = run is_blank text ++ g.0 in
-    let P : List (List Atom) → Type 0 = RelationsText kind (first ++ 44 ∷ after) in
-    let e0 : text ≡ first ++ 44 ∷ after = run-rest is_blank text ∙ ap (λ l. run is_blank text ++ l) (g.2 ∙ ap (λ l. g.0 ++ l) (behind_found 44 (rest is_blank a.1) after b)) ∙ sym (append_assoc (run is_blank text) g.0 (44 ∷ after)) in
+    let first : List ℕ = run is_whitespace text ++ g.0 in
+    let P : List (List AtomParts) → Type 0 = RelationsText kind (first ++ 44 ∷ after) in
+    let e0 : text ≡ first ++ 44 ∷ after = run-rest is_whitespace text ∙ ap (λ l. run is_whitespace text ++ l) (g.2 ∙ ap (λ l. g.0 ++ l) (behind_found 44 (rest is_whitespace a.1) after b)) ∙ sym (append_assoc (run is_whitespace text) g.0 (44 ∷ after)) in
     whole kind text (first ++ 44 ∷ after) gs (sym e0) (subst P (ok_is (a.0 ∷ c.0) gs c.2)
-    (more_pieces kind first after (Some a.0) c.0 (front_blanks kind (run is_blank text) g.0 a.0 (run-passes is_blank text) g.1) (more after c.0 c.1)))
+    (more_pieces kind first after (Some a.0) c.0 (front_blanks kind (run is_whitespace text) g.0 a.0 (run-passes is_whitespace text) g.1) (more after c.0 c.1)))
 
-pub groups_found : (n : ℕ) (kind : FieldKind) (text : List ℕ) (gs : List (List Atom)) → groups_at n kind text ≡ Ok gs → RelationsText kind text gs
+pub groups_found : (n : ℕ) (kind : FieldKind) (text : List ℕ) (gs : List (List AtomParts)) → groups_at n kind text ≡ Ok gs → RelationsText kind text gs
 groups_found zero kind text gs e = absurd cc
-groups_found (suc n) kind text gs e = from n kind text gs (groups_found n kind) (behind_byte 44 (rest is_blank text)) refl e
+groups_found (suc n) kind text gs e = from n kind text gs (groups_found n kind) (behind_byte 44 (rest is_whitespace text)) refl e
   where
-    from : (n : ℕ) (kind : FieldKind) (text : List ℕ) (gs : List (List Atom)) → ((text : List ℕ) (gs : List (List Atom)) → groups_at n kind text ≡ Ok gs → RelationsText kind text gs)
-        → (b : Option (List ℕ)) → behind_byte 44 (rest is_blank text) ≡ b → groups_from (groups_at n kind) kind (rest is_blank text) b ≡ Ok gs → RelationsText kind text gs
+    from : (n : ℕ) (kind : FieldKind) (text : List ℕ) (gs : List (List AtomParts)) → ((text : List ℕ) (gs : List (List AtomParts)) → groups_at n kind text ≡ Ok gs → RelationsText kind text gs)
+        → (b : Option (List ℕ)) → behind_byte 44 (rest is_whitespace text) ≡ b → groups_from (groups_at n kind) kind (rest is_whitespace text) b ≡ Ok gs → RelationsText kind text gs
     from n kind text gs more (Some after) b e =
-        let h : run is_blank text ++ 44 ∷ after ≡ text = sym (run-rest is_blank text ∙ ap (λ l. run is_blank text ++ l) (behind_found 44 (rest is_blank text) after b)) in
-        whole kind text (run is_blank text ++ 44 ∷ after) gs h (more_pieces kind (run is_blank text) after None gs (run-passes is_blank text) (more after gs e))
-    from n kind text gs more None b e = go (length (rest is_blank text) == 0) refl e
+        let h : run is_whitespace text ++ 44 ∷ after ≡ text = sym (run-rest is_whitespace text ∙ ap (λ l. run is_whitespace text ++ l) (behind_found 44 (rest is_whitespace text) after b)) in
+        whole kind text (run is_whitespace text ++ 44 ∷ after) gs h (more_pieces kind (run is_whitespace text) after None gs (run-passes is_whitespace text) (more after gs e))
+    from n kind text gs more None b e = go (length (rest is_whitespace text) == 0) refl e
       where
-        go : (u : Bool) → (length (rest is_blank text) == 0) ≡ u
-            → cond u (Ok []) (group_at (length (rest is_blank text) + 1) kind (rest is_blank text) >>= λ group. groups_behind (groups_at n kind) group.0 (rest is_blank group.1) (behind_byte 44 (rest is_blank group.1))) ≡ Ok gs → RelationsText kind text gs
+        go : (u : Bool) → (length (rest is_whitespace text) == 0) ≡ u
+            → cond u (Ok []) (group_at (length (rest is_whitespace text) + 1) kind (rest is_whitespace text) >>= λ group. groups_behind (groups_at n kind) group.0 (rest is_whitespace group.1) (behind_byte 44 (rest is_whitespace group.1))) ≡ Ok gs → RelationsText kind text gs
         go true h e = at_end kind text gs h e
         go false h e =
-            let a = bind_ok (group_at (length (rest is_blank text) + 1) kind (rest is_blank text)) (λ group. groups_behind (groups_at n kind) group.0 (rest is_blank group.1) (behind_byte 44 (rest is_blank group.1))) gs e in
-            group_then n kind text gs a.0 more (group_found (length (rest is_blank text) + 1) kind (rest is_blank text) a.0 a.1) (behind_byte 44 (rest is_blank a.0.1)) refl a.2
+            let a = bind_ok (group_at (length (rest is_whitespace text) + 1) kind (rest is_whitespace text)) (λ group. groups_behind (groups_at n kind) group.0 (rest is_whitespace group.1) (behind_byte 44 (rest is_whitespace group.1))) gs e in
+            group_then n kind text gs a.0 more (group_found (length (rest is_whitespace text) + 1) kind (rest is_whitespace text) a.0 a.1) (behind_byte 44 (rest is_whitespace a.0.1)) refl a.2
 
-pub if_found : (kind : FieldKind) (body : List ℕ) (r : Result (List (List Atom)) RelationFault) → Gives (λ (x : List (List Atom)). x) r (relations_of kind body) → IfOk r (λ x. RelationsText kind body x)
+pub if_found : (kind : FieldKind) (body : List ℕ) (r : Result (List (List AtomParts)) RelationFault) → Gives (λ (x : List (List AtomParts)). x) r (relations_of kind body) → IfOk r (λ x. RelationsText kind body x)
 if_found kind body (Ok x) h = groups_found (length body + 1) kind body x h
 if_found kind body (Err e) h = tt

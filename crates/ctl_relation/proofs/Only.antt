@@ -5,17 +5,13 @@ use Rattle.std.specs.List.{prefix_len, list_all}
 use Rattle.std.specs.Char.{is_ascii_alphanumeric}
 use Rattle.std.proofs.lemmas.Bool.Decides.{nat_tests}
 use Rattle.ctl_relation.specs.declared.relation_fault.RelationFault.TheVariants as fault
-use Rattle.ctl_relation.specs.declared.relation.Operator.{Operator}
-use Rattle.ctl_relation.specs.declared.relation.Operator.TheVariants.{Earlier, EarlierOrEqual, Equal, LaterOrEqual, Later}
+use Rattle.ctl_relation.specs.declared.operator.Operator.{Operator}
+use Rattle.ctl_relation.specs.declared.operator.Operator.TheVariants.{Earlier, EarlierOrEqual, Equal, LaterOrEqual, Later}
+use Rattle.ctl_relation.specs.FieldBytes.{is_whitespace, is_qualifier_byte, is_version_word_byte, run, rest, Stops}
 use Rattle.ctl_relation.specs.Version.{fault_of}
 use Rattle.ctl_relation.specs.Names.{is_name_byte, is_name}
-use Rattle.ctl_relation.specs.Grammar.{is_blank, is_qualifier_byte, is_version_run, run, rest, name_at, qualifier_at, operator_token, version_at}
-use Rattle.ctl_relation.specs.Relations.{IsBlank, IsSpelled}
-
--- no byte that passes comes first
-abbrev pub Stops : (ℕ → Bool) → List ℕ → Type 0
-Stops p [] = Unit {0}
-Stops p (b ∷ text) = p b ≡ false
+use Rattle.ctl_relation.specs.Reading.{name_at, qualifier_at, operator_token, version_at}
+use Rattle.ctl_relation.specs.Grammar.{IsWhitespace, IsSpelled}
 
 both : (s t : Bool) → (s && t) ≡ true → (s ≡ true) × (t ≡ true)
 both true t h = (refl, h)
@@ -44,9 +40,9 @@ pub rest_again : (p : ℕ → Bool) (xs ys : List ℕ) → list_all p xs ≡ tru
 rest_again p xs ys h s = ap (λ n. drop n (xs ++ ys)) (run_len p xs ys h s) ∙ drop_front xs ys
 
 -- blanks in front don't pass
-pub stops_blanks : (p : ℕ → Bool) (blanks text : List ℕ) → ((b : ℕ) → is_blank b ≡ true → p b ≡ false) → IsBlank blanks → Stops p text → Stops p (blanks ++ text)
+pub stops_blanks : (p : ℕ → Bool) (blanks text : List ℕ) → ((b : ℕ) → is_whitespace b ≡ true → p b ≡ false) → IsWhitespace blanks → Stops p text → Stops p (blanks ++ text)
 stops_blanks p [] text f h s = s
-stops_blanks p (b ∷ blanks) text f h s = f b (both (is_blank b) (list_all is_blank blanks) h).0
+stops_blanks p (b ∷ blanks) text f h s = f b (both (is_whitespace b) (list_all is_whitespace blanks) h).0
 
 name_bytes : (name : List ℕ) → is_name name ≡ true → list_all is_name_byte name ≡ true
 name_bytes [] h = absurd cc
@@ -62,11 +58,11 @@ name_again name after h s =
     ∙ ap (λ (l : List ℕ). cond (is_name name) (Ok (name, l)) (Err fault.Name)) f
     ∙ ap (λ t. cond t (Ok (name, after)) (Err fault.Name)) h
 
-pub version_again : (version after : List ℕ) → fault_of version ≡ None → list_all is_version_run version ≡ true → Stops is_version_run after → version_at (version ++ after) ≡ Ok (version, after)
+pub version_again : (version after : List ℕ) → fault_of version ≡ None → list_all is_version_word_byte version ≡ true → Stops is_version_word_byte after → version_at (version ++ after) ≡ Ok (version, after)
 version_again version after h all s =
-    let e = run_again is_version_run version after all s in
-    let f = rest_again is_version_run version after all s in
-    ap (λ (l : List ℕ). cond (is_none (fault_of l)) (Ok (l, rest is_version_run (version ++ after))) (Err fault.Version)) e
+    let e = run_again is_version_word_byte version after all s in
+    let f = rest_again is_version_word_byte version after all s in
+    ap (λ (l : List ℕ). cond (is_none (fault_of l)) (Ok (l, rest is_version_word_byte (version ++ after))) (Err fault.Version)) e
     ∙ ap (λ (l : List ℕ). cond (is_none (fault_of version)) (Ok (version, l)) (Err fault.Version)) f
     ∙ ap (λ o. cond (is_none o) (Ok (version, after)) (Err fault.Version)) h
 

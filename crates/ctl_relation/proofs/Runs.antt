@@ -5,12 +5,14 @@ use Rattle.std.specs.List.{prefix_len}
 use Rattle.std.proofs.lemmas.Bool.Decides.{nat_tests}
 use Rattle.ctl_relation.specs.declared.relation_fault.RelationFault.{RelationFault}
 use Rattle.ctl_relation.specs.declared.relation_fault.RelationFault.TheVariants as fault
-use Rattle.ctl_relation.specs.declared.relation.Operator.{Operator}
-use Rattle.ctl_relation.specs.declared.relation.Operator.TheVariants.{Earlier, EarlierOrEqual, Equal, LaterOrEqual, Later}
-use Rattle.ctl_relation.specs.declared.relation.FieldKind.{FieldKind}
-use Rattle.ctl_relation.specs.declared.relation.Atom.{Atom}
+use Rattle.ctl_relation.specs.declared.operator.Operator.{Operator}
+use Rattle.ctl_relation.specs.declared.operator.Operator.TheVariants.{Earlier, EarlierOrEqual, Equal, LaterOrEqual, Later}
+use Rattle.ctl_relation.specs.declared.field_kind.FieldKind.{FieldKind}
+use Rattle.ctl_relation.specs.FieldBytes.{is_whitespace, is_qualifier_byte, run, rest}
+use Rattle.ctl_relation.specs.Parts.{AtomParts}
 use Rattle.ctl_relation.specs.Names.{is_name}
-use Rattle.ctl_relation.specs.Grammar.{◌>>=◌, is_blank, is_qualifier_byte, is_provides, is_exact, run, rest, name_at, qualifier_at, operator_token, allowed, operator_at, version_at, close_at, inner_at, bound_behind, bound_at, atom_at, has_alternatives, behind_byte, alternatives, group_at, groups_behind, groups_from, groups_at, relations_of}
+use Rattle.ctl_relation.specs.FieldKind.{is_provides, has_alternatives, is_exact}
+use Rattle.ctl_relation.specs.Reading.{◌>>=◌, name_at, qualifier_at, operator_token, allowed, operator_at, version_at, close_at, parenthesized_at, bound_behind, bound_at, atom_at, behind_byte, alternatives, group_at, groups_behind, groups_from, groups_at, relations_of}
 use Rattle.ctl_relation.specs.Fault.{Place, GroupDue, AtomDue, AfterName, QualifierDue, AfterQualifier, OperatorDue, AfterSign, VersionDue, CloseDue, AfterAtom, is_sign, lengthens}
 use Rattle.ctl_relation.proofs.AtomAgain.{taken, step}
 use Rattle.ctl_relation.proofs.Found.{atom_found, behind_found}
@@ -42,30 +44,30 @@ bracket_next kind (b ∷ text) = cond (b == 40) (Moves OperatorDue text) (end_ne
 
 abbrev pub name_next : FieldKind → List ℕ → Next
 name_next kind [] = Ends None
-name_next kind (b ∷ text) = cond (b == 58) (Moves QualifierDue text) (bracket_next kind (rest is_blank (b ∷ text)))
+name_next kind (b ∷ text) = cond (b == 58) (Moves QualifierDue text) (bracket_next kind (rest is_whitespace (b ∷ text)))
 
 abbrev pub operator_next : FieldKind → List ℕ → Next
 operator_next kind [] = Ends (Some fault.Operator)
 operator_next kind (b ∷ text) = cond (b == 61) (Moves VersionDue text) (cond (is_sign b) (cond (is_provides kind) (Ends (Some fault.ProvidesOperator)) (Moves (AfterSign b) text)) (Ends (Some fault.Operator)))
 
 abbrev pub version_next : List ℕ → Next
-version_next left = next_behind CloseDue (version_at (rest is_blank left))
+version_next left = next_behind CloseDue (version_at (rest is_whitespace left))
 
 abbrev pub sign_next : ℕ → List ℕ → Next
 sign_next b [] = version_next []
 sign_next b (c ∷ text) = cond (lengthens b c) (Moves VersionDue text) (version_next (c ∷ text))
 
 abbrev pub next : FieldKind → Place → List ℕ → Next
-next kind GroupDue left = group_next (rest is_blank left)
-next kind AtomDue left = next_behind AfterName (name_at (rest is_blank left))
+next kind GroupDue left = group_next (rest is_whitespace left)
+next kind AtomDue left = next_behind AfterName (name_at (rest is_whitespace left))
 next kind AfterName left = name_next kind left
 next kind QualifierDue left = cond (length (run is_qualifier_byte left) == 0) (Ends (Some fault.Name)) (Moves AfterQualifier (rest is_qualifier_byte left))
-next kind AfterQualifier left = bracket_next kind (rest is_blank left)
-next kind OperatorDue left = operator_next kind (rest is_blank left)
+next kind AfterQualifier left = bracket_next kind (rest is_whitespace left)
+next kind OperatorDue left = operator_next kind (rest is_whitespace left)
 next kind (AfterSign b) left = sign_next b left
 next kind VersionDue left = version_next left
-next kind CloseDue left = next_of AfterAtom (close_at (rest is_blank left))
-next kind AfterAtom left = end_next kind (rest is_blank left)
+next kind CloseDue left = next_of AfterAtom (close_at (rest is_whitespace left))
+next kind AfterAtom left = end_next kind (rest is_whitespace left)
 
 -- from place to place to the end: the fault, if there is one
 pub data Runs (kind : FieldKind) : Place → List ℕ → Option RelationFault → Type 0 where
@@ -178,66 +180,66 @@ operated kind (b ∷ text) = one (b == 60) (b == 61) (b == 62) refl refl refl
         subst P (sym (no_token b text e f g)) (no_next kind b text e f g)
 
 -- an operator that fails, or one that is read
-operator_fails : (kind : FieldKind) (text : List ℕ) (e : RelationFault) → operator_at kind (rest is_blank text) ≡ Err e → Runs kind OperatorDue text (Some e)
+operator_fails : (kind : FieldKind) (text : List ℕ) (e : RelationFault) → operator_at kind (rest is_whitespace text) ≡ Err e → Runs kind OperatorDue text (Some e)
 operator_fails kind text e h =
-    let P : Result (Operator × List ℕ) RelationFault → Type 0 = Operated kind (operator_next kind (rest is_blank text)) in
-    ends OperatorDue text (Some e) (subst P h (operated kind (rest is_blank text)))
+    let P : Result (Operator × List ℕ) RelationFault → Type 0 = Operated kind (operator_next kind (rest is_whitespace text)) in
+    ends OperatorDue text (Some e) (subst P h (operated kind (rest is_whitespace text)))
 
-operator_runs : (kind : FieldKind) (text : List ℕ) (x : Operator × List ℕ) (r : Option RelationFault) → operator_at kind (rest is_blank text) ≡ Ok x → Runs kind VersionDue x.1 r → Runs kind OperatorDue text r
+operator_runs : (kind : FieldKind) (text : List ℕ) (x : Operator × List ℕ) (r : Option RelationFault) → operator_at kind (rest is_whitespace text) ≡ Ok x → Runs kind VersionDue x.1 r → Runs kind OperatorDue text r
 operator_runs kind text x r h more =
-    let P : Result (Operator × List ℕ) RelationFault → Type 0 = Operated kind (operator_next kind (rest is_blank text)) in
-    let o : Operated kind (operator_next kind (rest is_blank text)) (Ok x) = subst P h (operated kind (rest is_blank text)) in
+    let P : Result (Operator × List ℕ) RelationFault → Type 0 = Operated kind (operator_next kind (rest is_whitespace text)) in
+    let o : Operated kind (operator_next kind (rest is_whitespace text)) (Ok x) = subst P h (operated kind (rest is_whitespace text)) in
     go o
   where
     last : (b : ℕ) (t : List ℕ) → (next kind (AfterSign b) t ≡ Moves VersionDue x.1) ⊎ (next kind (AfterSign b) t ≡ next kind VersionDue x.1) → Runs kind (AfterSign b) t r
     last b t (inl e) = moves (AfterSign b) t VersionDue x.1 r e more
     last b t (inr e) = same kind VersionDue (AfterSign b) x.1 t r e more
 
-    go : Operated kind (operator_next kind (rest is_blank text)) (Ok x) → Runs kind OperatorDue text r
+    go : Operated kind (operator_next kind (rest is_whitespace text)) (Ok x) → Runs kind OperatorDue text r
     go (inl e) = moves OperatorDue text VersionDue x.1 r e more
     go (inr s) = moves OperatorDue text (AfterSign s.0) s.1 r s.2 (last s.0 s.1 s.3)
 
 -- ---- atoms
 
-inner_runs : (kind : FieldKind) (text : List ℕ) (k : (Operator × List ℕ) × List ℕ → Option RelationFault) → ((x : (Operator × List ℕ) × List ℕ) → inner_at kind text ≡ Ok x → Runs kind AfterAtom x.1 (k x)) → Runs kind OperatorDue text (then_in (inner_at kind text) k)
-unfolding inner_at
+inner_runs : (kind : FieldKind) (text : List ℕ) (k : (Operator × List ℕ) × List ℕ → Option RelationFault) → ((x : (Operator × List ℕ) × List ℕ) → parenthesized_at kind text ≡ Ok x → Runs kind AfterAtom x.1 (k x)) → Runs kind OperatorDue text (then_in (parenthesized_at kind text) k)
+unfolding parenthesized_at
 inner_runs kind text k h =
-    let f : Operator × List ℕ → Result ((Operator × List ℕ) × List ℕ) RelationFault = λ op. version_at (rest is_blank op.1) >>= λ version. close_at (rest is_blank version.1) >>= λ after. Ok ((op.0, version.0), after) in
-    bind_runs kind OperatorDue text (operator_at kind (rest is_blank text)) f k (operator_fails kind text) (λ op e.
-    let g : List ℕ × List ℕ → Result ((Operator × List ℕ) × List ℕ) RelationFault = λ version. close_at (rest is_blank version.1) >>= λ after. Ok ((op.0, version.0), after) in
-    operator_runs kind text op (then_in (f op) k) e (bind_runs kind VersionDue op.1 (version_at (rest is_blank op.1)) g k (λ d w. ends VersionDue op.1 (Some d) (ap (next_behind CloseDue) w)) (λ v w.
+    let f : Operator × List ℕ → Result ((Operator × List ℕ) × List ℕ) RelationFault = λ op. version_at (rest is_whitespace op.1) >>= λ version. close_at (rest is_whitespace version.1) >>= λ after. Ok ((op.0, version.0), after) in
+    bind_runs kind OperatorDue text (operator_at kind (rest is_whitespace text)) f k (operator_fails kind text) (λ op e.
+    let g : List ℕ × List ℕ → Result ((Operator × List ℕ) × List ℕ) RelationFault = λ version. close_at (rest is_whitespace version.1) >>= λ after. Ok ((op.0, version.0), after) in
+    operator_runs kind text op (then_in (f op) k) e (bind_runs kind VersionDue op.1 (version_at (rest is_whitespace op.1)) g k (λ d w. ends VersionDue op.1 (Some d) (ap (next_behind CloseDue) w)) (λ v w.
     let c : List ℕ → Result ((Operator × List ℕ) × List ℕ) RelationFault = λ after. Ok ((op.0, v.0), after) in
-    moves VersionDue op.1 CloseDue v.1 (then_in (g v) k) (ap (next_behind CloseDue) w) (bind_runs kind CloseDue v.1 (close_at (rest is_blank v.1)) c k (λ d u. ends CloseDue v.1 (Some d) (ap (next_of AfterAtom) u)) (λ after u.
+    moves VersionDue op.1 CloseDue v.1 (then_in (g v) k) (ap (next_behind CloseDue) w) (bind_runs kind CloseDue v.1 (close_at (rest is_whitespace v.1)) c k (λ d u. ends CloseDue v.1 (Some d) (ap (next_of AfterAtom) u)) (λ after u.
     moves CloseDue v.1 AfterAtom after (k ((op.0, v.0), after)) (ap (next_of AfterAtom) u)
-    (h ((op.0, v.0), after) (step (operator_at kind (rest is_blank text)) f op e ∙ step (version_at (rest is_blank op.1)) g v w ∙ step (close_at (rest is_blank v.1)) c after u)))))))
+    (h ((op.0, v.0), after) (step (operator_at kind (rest is_whitespace text)) f op e ∙ step (version_at (rest is_whitespace op.1)) g v w ∙ step (close_at (rest is_whitespace v.1)) c after u)))))))
 
-bound_runs : (kind : FieldKind) (p : Place) (left : List ℕ) (k : Option (Operator × List ℕ) × List ℕ → Option RelationFault) → next kind p left ≡ bracket_next kind (rest is_blank left)
+bound_runs : (kind : FieldKind) (p : Place) (left : List ℕ) (k : Option (Operator × List ℕ) × List ℕ → Option RelationFault) → next kind p left ≡ bracket_next kind (rest is_whitespace left)
     → ((x : Option (Operator × List ℕ) × List ℕ) → bound_at kind left ≡ Ok x → Runs kind AfterAtom x.1 (k x)) → Runs kind p left (then_in (bound_at kind left) k)
-bound_runs kind p left k n h = go (rest is_blank left) refl
+bound_runs kind p left k n h = go (rest is_whitespace left) refl
   where
-    none : next kind p left ≡ end_next kind (rest is_blank left) → bound_at kind left ≡ Ok (None, left) → Runs kind p left (k (None, left))
+    none : next kind p left ≡ end_next kind (rest is_whitespace left) → bound_at kind left ≡ Ok (None, left) → Runs kind p left (k (None, left))
     none e b = same kind AfterAtom p left left (k (None, left)) e (h (None, left) b)
 
-    go : (y : List ℕ) → rest is_blank left ≡ y → Runs kind p left (then_in (bound_behind kind left y) k)
+    go : (y : List ℕ) → rest is_whitespace left ≡ y → Runs kind p left (then_in (bound_behind kind left y) k)
     go [] e = none (n ∙ ap (bracket_next kind) e ∙ sym (ap (end_next kind) e)) (ap (bound_behind kind left) e)
     go (b ∷ behind) e = test (b == 40) refl
       where
-        test : (u : Bool) → (b == 40) ≡ u → Runs kind p left (then_in (cond u (inner_at kind behind >>= λ x. Ok (Some x.0, x.1)) (Ok (None, left))) k)
+        test : (u : Bool) → (b == 40) ≡ u → Runs kind p left (then_in (cond u (parenthesized_at kind behind >>= λ x. Ok (Some x.0, x.1)) (Ok (None, left))) k)
         test true t =
             let f : (Operator × List ℕ) × List ℕ → Result (Option (Operator × List ℕ) × List ℕ) RelationFault = λ x. Ok (Some x.0, x.1) in
             let s : next kind p left ≡ Moves OperatorDue behind = n ∙ ap (bracket_next kind) e ∙ ap (λ z. cond z (Moves OperatorDue behind) (end_next kind (b ∷ behind))) t in
-            let a : bound_at kind left ≡ (inner_at kind behind >>= f) = ap (bound_behind kind left) e ∙ ap (λ z. cond z (inner_at kind behind >>= f) (Ok (None, left))) t in
+            let a : bound_at kind left ≡ (parenthesized_at kind behind >>= f) = ap (bound_behind kind left) e ∙ ap (λ z. cond z (parenthesized_at kind behind >>= f) (Ok (None, left))) t in
             let P : Option RelationFault → Type 0 = Runs kind p left in
-            subst P (sym (in_bind (inner_at kind behind) f k)) (moves p left OperatorDue behind _ s (inner_runs kind behind (λ x. k (Some x.0, x.1)) (λ x w. h (Some x.0, x.1) (a ∙ step (inner_at kind behind) f x w))))
-        test false t = none (n ∙ ap (bracket_next kind) e ∙ ap (λ z. cond z (Moves OperatorDue behind) (end_next kind (b ∷ behind))) t ∙ sym (ap (end_next kind) e)) (ap (bound_behind kind left) e ∙ ap (λ z. cond z (inner_at kind behind >>= λ x. Ok (Some x.0, x.1)) (Ok (None, left))) t)
+            subst P (sym (in_bind (parenthesized_at kind behind) f k)) (moves p left OperatorDue behind _ s (inner_runs kind behind (λ x. k (Some x.0, x.1)) (λ x w. h (Some x.0, x.1) (a ∙ step (parenthesized_at kind behind) f x w))))
+        test false t = none (n ∙ ap (bracket_next kind) e ∙ ap (λ z. cond z (Moves OperatorDue behind) (end_next kind (b ∷ behind))) t ∙ sym (ap (end_next kind) e)) (ap (bound_behind kind left) e ∙ ap (λ z. cond z (parenthesized_at kind behind >>= λ x. Ok (Some x.0, x.1)) (Ok (None, left))) t)
 
 qualifier_runs : {B : Type 0} (kind : FieldKind) (left : List ℕ) (f : Option (List ℕ) × List ℕ → Result B RelationFault) (k : B → Option RelationFault)
-    → ((p : Place) (q : Option (List ℕ) × List ℕ) → qualifier_at left ≡ Ok q → next kind p q.1 ≡ bracket_next kind (rest is_blank q.1) → Runs kind p q.1 (then_in (f q) k)) → Runs kind AfterName left (then_in (qualifier_at left >>= f) k)
+    → ((p : Place) (q : Option (List ℕ) × List ℕ) → qualifier_at left ≡ Ok q → next kind p q.1 ≡ bracket_next kind (rest is_whitespace q.1) → Runs kind p q.1 (then_in (f q) k)) → Runs kind AfterName left (then_in (qualifier_at left >>= f) k)
 qualifier_runs kind [] f k h = h AfterName (None, []) refl refl
 qualifier_runs kind (b ∷ text) f k h = test (b == 58) refl
   where
     test : (u : Bool) → (b == 58) ≡ u → Runs kind AfterName (b ∷ text) (then_in (cond u (cond (length (run is_qualifier_byte text) == 0) (Err fault.Name) (Ok (Some (run is_qualifier_byte text), rest is_qualifier_byte text))) (Ok (None, b ∷ text)) >>= f) k)
-    test true t = moves AfterName (b ∷ text) QualifierDue text _ (ap (λ z. cond z (Moves QualifierDue text) (bracket_next kind (rest is_blank (b ∷ text)))) t) (inner (length (run is_qualifier_byte text) == 0) refl)
+    test true t = moves AfterName (b ∷ text) QualifierDue text _ (ap (λ z. cond z (Moves QualifierDue text) (bracket_next kind (rest is_whitespace (b ∷ text)))) t) (inner (length (run is_qualifier_byte text) == 0) refl)
       where
         inner : (v : Bool) → (length (run is_qualifier_byte text) == 0) ≡ v → Runs kind QualifierDue text (then_in (cond v (Err fault.Name) (Ok (Some (run is_qualifier_byte text), rest is_qualifier_byte text)) >>= f) k)
         inner true v = ends QualifierDue text (Some fault.Name) (ap (λ z. cond z (Ends (Some fault.Name)) (Moves AfterQualifier (rest is_qualifier_byte text))) v)
@@ -247,17 +249,17 @@ qualifier_runs kind (b ∷ text) f k h = test (b == 58) refl
             moves QualifierDue text AfterQualifier (rest is_qualifier_byte text) _ (ap (λ z. cond z (Ends (Some fault.Name)) (Moves AfterQualifier (rest is_qualifier_byte text))) v) (h AfterQualifier q e refl)
     test false t =
         h AfterName (None, b ∷ text) (ap (λ z. cond z (cond (length (run is_qualifier_byte text) == 0) (Err fault.Name) (taken (Some (run is_qualifier_byte text), rest is_qualifier_byte text))) (taken (None, b ∷ text))) t)
-        (ap (λ z. cond z (Moves QualifierDue text) (bracket_next kind (rest is_blank (b ∷ text)))) t)
+        (ap (λ z. cond z (Moves QualifierDue text) (bracket_next kind (rest is_whitespace (b ∷ text)))) t)
 
-atom_runs : (kind : FieldKind) (p : Place) (left text : List ℕ) (k : Atom × List ℕ → Option RelationFault) → next kind p left ≡ next_behind AfterName (name_at text)
-    → ((x : Atom × List ℕ) → atom_at kind text ≡ Ok x → Runs kind AfterAtom x.1 (k x)) → Runs kind p left (then_in (atom_at kind text) k)
+atom_runs : (kind : FieldKind) (p : Place) (left text : List ℕ) (k : AtomParts × List ℕ → Option RelationFault) → next kind p left ≡ next_behind AfterName (name_at text)
+    → ((x : AtomParts × List ℕ) → atom_at kind text ≡ Ok x → Runs kind AfterAtom x.1 (k x)) → Runs kind p left (then_in (atom_at kind text) k)
 unfolding atom_at
 atom_runs kind p left text k n h =
-    let f : List ℕ × List ℕ → Result (Atom × List ℕ) RelationFault = λ name. qualifier_at name.1 >>= λ qualifier. bound_at kind qualifier.1 >>= λ bound. Ok (record { name = name.0; qualifier = qualifier.0; bound = bound.0 }, bound.1) in
+    let f : List ℕ × List ℕ → Result (AtomParts × List ℕ) RelationFault = λ name. qualifier_at name.1 >>= λ qualifier. bound_at kind qualifier.1 >>= λ bound. Ok (record { name = name.0; qualifier = qualifier.0; bound = bound.0 }, bound.1) in
     bind_runs kind p left (name_at text) f k (λ e w. ends p left (Some e) (n ∙ ap (next_behind AfterName) w)) (λ name w.
-    let g : Option (List ℕ) × List ℕ → Result (Atom × List ℕ) RelationFault = λ qualifier. bound_at kind qualifier.1 >>= λ bound. Ok (record { name = name.0; qualifier = qualifier.0; bound = bound.0 }, bound.1) in
+    let g : Option (List ℕ) × List ℕ → Result (AtomParts × List ℕ) RelationFault = λ qualifier. bound_at kind qualifier.1 >>= λ bound. Ok (record { name = name.0; qualifier = qualifier.0; bound = bound.0 }, bound.1) in
     moves p left AfterName name.1 (then_in (f name) k) (n ∙ ap (next_behind AfterName) w) (qualifier_runs kind name.1 g k (λ q qualifier v s.
-    let c : Option (Operator × List ℕ) × List ℕ → Result (Atom × List ℕ) RelationFault = λ bound. Ok (record { name = name.0; qualifier = qualifier.0; bound = bound.0 }, bound.1) in
+    let c : Option (Operator × List ℕ) × List ℕ → Result (AtomParts × List ℕ) RelationFault = λ bound. Ok (record { name = name.0; qualifier = qualifier.0; bound = bound.0 }, bound.1) in
     let P : Option RelationFault → Type 0 = Runs kind q qualifier.1 in
     subst P (sym (in_bind (bound_at kind qualifier.1) c k)) (bound_runs kind q qualifier.1 (λ bound. k (record { name = name.0; qualifier = qualifier.0; bound = bound.0 }, bound.1)) s (λ bound u.
     h (record { name = name.0; qualifier = qualifier.0; bound = bound.0 }, bound.1) (step (name_at text) f name w ∙ step (qualifier_at name.1) g qualifier v ∙ step (bound_at kind qualifier.1) c bound u))))))
@@ -268,7 +270,7 @@ name_some : (name : List ℕ) → is_name name ≡ true → 0 < length name
 name_some [] h = absurd cc
 name_some (b ∷ name) h = omega arith
 
-atom_shorter : (kind : FieldKind) (text : List ℕ) (x : Atom × List ℕ) → atom_at kind text ≡ Ok x → length x.1 < length text
+atom_shorter : (kind : FieldKind) (text : List ℕ) (x : AtomParts × List ℕ) → atom_at kind text ≡ Ok x → length x.1 < length text
 atom_shorter kind text x e =
     let a = atom_found kind text x e in
     let n : 0 < length x.0.name = name_some x.0.name a.1.name in
@@ -276,32 +278,32 @@ atom_shorter kind text x e =
     let v : length text ≡ length (a.0 ++ x.1) = ap length a.2 in
     omega (arith, length-append a.0 x.1, length-append x.0.name (a.1.qualifier_text ++ a.1.bound_text))
 
-rest_within : (text y : List ℕ) → rest is_blank text ≡ y → length y ≤ length text
-rest_within text y e = let h : length (rest is_blank text) ≡ length y = ap length e in omega (arith, length-drop (prefix_len is_blank text) text)
+rest_within : (text y : List ℕ) → rest is_whitespace text ≡ y → length y ≤ length text
+rest_within text y e = let h : length (rest is_whitespace text) ≡ length y = ap length e in omega (arith, length-drop (prefix_len is_whitespace text) text)
 
-group_runs : (m : ℕ) (kind : FieldKind) (p : Place) (left text : List ℕ) (k : List Atom × List ℕ → Option RelationFault) → next kind p left ≡ next_behind AfterName (name_at text) → length text < m
-    → ((x : List Atom × List ℕ) → behind_byte 124 (rest is_blank x.1) ≡ None → length x.1 < length text → Runs kind AfterAtom x.1 (k x)) → Runs kind p left (then_in (group_at m kind text) k)
+group_runs : (m : ℕ) (kind : FieldKind) (p : Place) (left text : List ℕ) (k : List AtomParts × List ℕ → Option RelationFault) → next kind p left ≡ next_behind AfterName (name_at text) → length text < m
+    → ((x : List AtomParts × List ℕ) → behind_byte 124 (rest is_whitespace x.1) ≡ None → length x.1 < length text → Runs kind AfterAtom x.1 (k x)) → Runs kind p left (then_in (group_at m kind text) k)
 group_runs zero kind p left text k n l h = absurd (omega arith)
 group_runs (suc m) kind p left text k n l h =
-    let f : Atom × List ℕ → Result (List Atom × List ℕ) RelationFault = λ atom. alternatives kind (group_at m kind) atom (behind_byte 124 (rest is_blank atom.1)) in
+    let f : AtomParts × List ℕ → Result (List AtomParts × List ℕ) RelationFault = λ atom. alternatives kind (group_at m kind) atom (behind_byte 124 (rest is_whitespace atom.1)) in
     let P : Option RelationFault → Type 0 = Runs kind p left in
-    subst P (sym (in_bind (atom_at kind text) f k)) (atom_runs kind p left text (λ x. then_in (f x) k) n (λ x e. go (group_runs m kind) x (atom_shorter kind text x e) (behind_byte 124 (rest is_blank x.1)) refl))
+    subst P (sym (in_bind (atom_at kind text) f k)) (atom_runs kind p left text (λ x. then_in (f x) k) n (λ x e. go (group_runs m kind) x (atom_shorter kind text x e) (behind_byte 124 (rest is_whitespace x.1)) refl))
   where
-    go : ((p : Place) (left text : List ℕ) (k : List Atom × List ℕ → Option RelationFault) → next kind p left ≡ next_behind AfterName (name_at text) → length text < m
-        → ((x : List Atom × List ℕ) → behind_byte 124 (rest is_blank x.1) ≡ None → length x.1 < length text → Runs kind AfterAtom x.1 (k x)) → Runs kind p left (then_in (group_at m kind text) k))
-        → (x : Atom × List ℕ) → length x.1 < length text → (b : Option (List ℕ)) → behind_byte 124 (rest is_blank x.1) ≡ b → Runs kind AfterAtom x.1 (then_in (alternatives kind (group_at m kind) x b) k)
+    go : ((p : Place) (left text : List ℕ) (k : List AtomParts × List ℕ → Option RelationFault) → next kind p left ≡ next_behind AfterName (name_at text) → length text < m
+        → ((x : List AtomParts × List ℕ) → behind_byte 124 (rest is_whitespace x.1) ≡ None → length x.1 < length text → Runs kind AfterAtom x.1 (k x)) → Runs kind p left (then_in (group_at m kind text) k))
+        → (x : AtomParts × List ℕ) → length x.1 < length text → (b : Option (List ℕ)) → behind_byte 124 (rest is_whitespace x.1) ≡ b → Runs kind AfterAtom x.1 (then_in (alternatives kind (group_at m kind) x b) k)
     go again x s None e = h (x.0 ∷ [], x.1) e s
     go again x s (Some t) e = test (has_alternatives kind) refl
       where
-        test : (u : Bool) → has_alternatives kind ≡ u → Runs kind AfterAtom x.1 (then_in (cond u (group_at m kind (rest is_blank t) >>= λ y. Ok (x.0 ∷ y.0, y.1)) (Err fault.Alternative)) k)
+        test : (u : Bool) → has_alternatives kind ≡ u → Runs kind AfterAtom x.1 (then_in (cond u (group_at m kind (rest is_whitespace t) >>= λ y. Ok (x.0 ∷ y.0, y.1)) (Err fault.Alternative)) k)
         test true u =
-            let f : List Atom × List ℕ → Result (List Atom × List ℕ) RelationFault = λ y. Ok (x.0 ∷ y.0, y.1) in
+            let f : List AtomParts × List ℕ → Result (List AtomParts × List ℕ) RelationFault = λ y. Ok (x.0 ∷ y.0, y.1) in
             let P : Option RelationFault → Type 0 = Runs kind AfterAtom x.1 in
-            let s1 : length (124 ∷ t) ≤ length x.1 = rest_within x.1 (124 ∷ t) (behind_found 124 (rest is_blank x.1) t e) in
-            let s2 : length (rest is_blank t) ≤ length t = rest_within t (rest is_blank t) refl in
-            subst P (sym (in_bind (group_at m kind (rest is_blank t)) f k)) (moves AfterAtom x.1 AtomDue t _ (ap (end_next kind) (behind_found 124 (rest is_blank x.1) t e) ∙ ap (λ z. cond z (Moves AtomDue t) (Ends (Some fault.Alternative))) u)
-            (again AtomDue t (rest is_blank t) (λ y. k (x.0 ∷ y.0, y.1)) refl (omega arith) (λ y n l. h (x.0 ∷ y.0, y.1) n (omega arith))))
-        test false u = ends AfterAtom x.1 (Some fault.Alternative) (ap (end_next kind) (behind_found 124 (rest is_blank x.1) t e) ∙ ap (λ z. cond z (Moves AtomDue t) (Ends (Some fault.Alternative))) u)
+            let s1 : length (124 ∷ t) ≤ length x.1 = rest_within x.1 (124 ∷ t) (behind_found 124 (rest is_whitespace x.1) t e) in
+            let s2 : length (rest is_whitespace t) ≤ length t = rest_within t (rest is_whitespace t) refl in
+            subst P (sym (in_bind (group_at m kind (rest is_whitespace t)) f k)) (moves AfterAtom x.1 AtomDue t _ (ap (end_next kind) (behind_found 124 (rest is_whitespace x.1) t e) ∙ ap (λ z. cond z (Moves AtomDue t) (Ends (Some fault.Alternative))) u)
+            (again AtomDue t (rest is_whitespace t) (λ y. k (x.0 ∷ y.0, y.1)) refl (omega arith) (λ y n l. h (x.0 ∷ y.0, y.1) n (omega arith))))
+        test false u = ends AfterAtom x.1 (Some fault.Alternative) (ap (end_next kind) (behind_found 124 (rest is_whitespace x.1) t e) ∙ ap (λ z. cond z (Moves AtomDue t) (Ends (Some fault.Alternative))) u)
 
 -- ---- fields
 
@@ -319,18 +321,18 @@ abbrev pub fault_in : {A : Type 0} → Result A RelationFault → Option Relatio
 fault_in r = then_in r (λ x. None)
 
 -- behind a group: a comma and further groups, or the end
-behind_runs : (n : ℕ) (kind : FieldKind) (g : List Atom) (after : List ℕ) → ((text : List ℕ) → length text < n → Runs kind GroupDue text (fault_in (groups_at n kind text))) → behind_byte 124 (rest is_blank after) ≡ None → length after < suc n
-    → Runs kind AfterAtom after (fault_in (groups_behind (groups_at n kind) g (rest is_blank after) (behind_byte 44 (rest is_blank after))))
-behind_runs n kind g after again h l = go (rest is_blank after) refl h
+behind_runs : (n : ℕ) (kind : FieldKind) (g : List AtomParts) (after : List ℕ) → ((text : List ℕ) → length text < n → Runs kind GroupDue text (fault_in (groups_at n kind text))) → behind_byte 124 (rest is_whitespace after) ≡ None → length after < suc n
+    → Runs kind AfterAtom after (fault_in (groups_behind (groups_at n kind) g (rest is_whitespace after) (behind_byte 44 (rest is_whitespace after))))
+behind_runs n kind g after again h l = go (rest is_whitespace after) refl h
   where
-    go : (y : List ℕ) → rest is_blank after ≡ y → behind_byte 124 y ≡ None → Runs kind AfterAtom after (fault_in (groups_behind (groups_at n kind) g y (behind_byte 44 y)))
+    go : (y : List ℕ) → rest is_whitespace after ≡ y → behind_byte 124 y ≡ None → Runs kind AfterAtom after (fault_in (groups_behind (groups_at n kind) g y (behind_byte 44 y)))
     go [] e h = ends AfterAtom after None (ap (end_next kind) e)
     go (b ∷ text) e h = test (b == 44) refl
       where
         test : (u : Bool) → (b == 44) ≡ u → Runs kind AfterAtom after (fault_in (groups_behind (groups_at n kind) g (b ∷ text) (cond u (Some text) None)))
         test true u =
             let P : Option RelationFault → Type 0 = Runs kind AfterAtom after in
-            let f : List (List Atom) → Result (List (List Atom)) RelationFault = λ x. Ok (g ∷ x) in
+            let f : List (List AtomParts) → Result (List (List AtomParts)) RelationFault = λ x. Ok (g ∷ x) in
             let s : length (b ∷ text) ≤ length after = rest_within after (b ∷ text) e in
             subst P (sym (in_bind (groups_at n kind text) f (λ x. None))) (moves AfterAtom after GroupDue text _ (ap (end_next kind) e ∙ ap (λ z. cond z (Moves GroupDue text) (cond (b == 124) (cond (has_alternatives kind) (Moves AtomDue text) (Ends (Some fault.Alternative))) (Ends (Some fault.Name)))) u) (again text (omega arith)))
         test false u =
@@ -340,9 +342,9 @@ behind_runs n kind g after again h l = go (rest is_blank after) refl h
 
 groups_runs : (n : ℕ) (kind : FieldKind) (text : List ℕ) → length text < n → Runs kind GroupDue text (fault_in (groups_at n kind text))
 groups_runs zero kind text l = absurd (omega arith)
-groups_runs (suc n) kind text l = go (groups_runs n kind) (rest is_blank text) refl
+groups_runs (suc n) kind text l = go (groups_runs n kind) (rest is_whitespace text) refl
   where
-    go : ((text : List ℕ) → length text < n → Runs kind GroupDue text (fault_in (groups_at n kind text))) → (y : List ℕ) → rest is_blank text ≡ y → Runs kind GroupDue text (fault_in (groups_from (groups_at n kind) kind y (behind_byte 44 y)))
+    go : ((text : List ℕ) → length text < n → Runs kind GroupDue text (fault_in (groups_at n kind text))) → (y : List ℕ) → rest is_whitespace text ≡ y → Runs kind GroupDue text (fault_in (groups_from (groups_at n kind) kind y (behind_byte 44 y)))
     go again [] e = ends GroupDue text None (ap group_next e)
     go again (b ∷ after) e = test (b == 44) refl
       where
@@ -353,7 +355,7 @@ groups_runs (suc n) kind text l = go (groups_runs n kind) (rest is_blank text) r
         test false u =
             let x : List ℕ = b ∷ after in
             let s : length (b ∷ after) ≤ length text = rest_within text (b ∷ after) e in
-            let f : List Atom × List ℕ → Result (List (List Atom)) RelationFault = λ g. groups_behind (groups_at n kind) g.0 (rest is_blank g.1) (behind_byte 44 (rest is_blank g.1)) in
+            let f : List AtomParts × List ℕ → Result (List (List AtomParts)) RelationFault = λ g. groups_behind (groups_at n kind) g.0 (rest is_whitespace g.1) (behind_byte 44 (rest is_whitespace g.1)) in
             let P : Option RelationFault → Type 0 = Runs kind GroupDue text in
             let Q : Bool → Type 0 = λ z. Runs kind GroupDue text (fault_in (cond z (taken []) (group_at (length x + 1) kind x >>= f))) in
             subst Q (sym (more_than b after)) (subst P (sym (in_bind (group_at (length x + 1) kind x) f (λ y. None)))

@@ -8,7 +8,16 @@ pub mod Version
 pub mod VersionLaws
 pub mod VersionText
 pub mod Cut
+pub mod Parts
+pub mod Lent
+pub mod FieldKind
+pub mod Alternatives
+pub mod Named
+pub mod Printed
 pub mod Met
+pub mod FieldBytes
+pub mod Reading
+pub mod ByteClass
 pub mod Grammar
-pub mod Relations
 pub mod Fault
+pub mod ReadAgain

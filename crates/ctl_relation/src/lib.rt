@@ -1,16 +1,23 @@
 //! Names, versions and their order, relation fields, and when an offer meets one (Debian Policy 5.6.12 and 7).
 #![tactic(auto)]
 
+mod atom;
 mod bytes;
 mod cut;
+mod field_kind;
+mod group;
 mod name;
+mod offer;
+mod operator;
 mod part;
 mod reading;
-mod relation;
 mod relation_fault;
 mod relation_laws;
 #[cfg(test)]
 mod relation_tests;
+mod relations;
+mod steps;
+mod tokens;
 mod version;
 mod version_fault;
 mod version_laws;
@@ -19,12 +26,20 @@ mod version_table;
 #[cfg(test)]
 mod version_tests;
 
+pub use atom::Atom;
 pub use bytes::Bytes;
+pub use field_kind::FieldKind;
+pub use group::Group;
 pub use name::{is_name, names_by_their_bytes};
+pub use offer::Offer;
+pub use operator::Operator;
 pub use reading::parse_relations;
-pub use relation::{Atom, FieldKind, Group, Offer, Operator, Relations, Steps};
 pub use relation_fault::RelationFault;
-pub use relation_laws::{fields_have_one_fault, met_by_name, met_counts_add_up};
+pub use relation_laws::{
+    fields_have_one_fault, fields_have_places, met_by_name, met_counts_add_up,
+};
+pub use relations::Relations;
+pub use steps::Steps;
 pub use version::Version;
 pub use version_fault::VersionFault;
 pub use version_laws::{

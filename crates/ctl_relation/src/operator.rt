@@ -1,0 +1,51 @@
+//! The operators of version bounds (Debian Policy 7.1).
+
+ghost use Rattle.std.specs.Prelude.{◌≡◌};
+ghost use Rattle.ctl_relation.specs.Met.{relates};
+ghost use Rattle.ctl_relation.specs.Printed.{operator_text};
+
+use crate::version::Version;
+
+/// How a bound relates an offered version to its own: the five operators of Debian Policy 7.1.
+#[derive(Clone, Copy, Debug, PartialEq, Eq)]
+pub enum Operator {
+    /// `<<`: strictly earlier.
+    Earlier,
+    /// `<=`: earlier or equal.
+    EarlierOrEqual,
+    /// `=`: exactly equal.
+    Equal,
+    /// `>=`: later or equal.
+    LaterOrEqual,
+    /// `>>`: strictly later.
+    Later,
+}
+
+impl Operator {
+    /// Whether `version` stands in this relation to `bound`, by the order of Debian versions.
+    pub fn relates(self, version: &Version, bound: &Version) -> bool
+        ensures { result ≡ relates self version.now bound.now }
+    {
+        let order = version.cmp(bound);
+        match self {
+            Operator::Earlier => order.is_lt(),
+            Operator::EarlierOrEqual => order.is_le(),
+            Operator::Equal => order.is_eq(),
+            Operator::LaterOrEqual => order.is_ge(),
+            Operator::Later => order.is_gt(),
+        }
+    }
+
+    /// The operator as it is printed.
+    pub fn text(self) -> &'static [u8]
+        ensures { result.now ≡ operator_text self }
+    {
+        match self {
+            Operator::Earlier => b"<<",
+            Operator::EarlierOrEqual => b"<=",
+            Operator::Equal => b"=",
+            Operator::LaterOrEqual => b">=",
+            Operator::Later => b">>",
+        }
+    }
+}

@@ -1,0 +1,173 @@
+//! The tokens of a relation field: names, qualifiers, operators, versions, and the whitespace between them.
+
+ghost use Rattle.std.specs.Prelude.{◌≡◌, ◌≤◌, ◌<◌, length, IfOk, IfSome};
+ghost use Rattle.std.specs.List.{prefix_len};
+ghost use Rattle.std.specs.Option.{option_map};
+ghost use Rattle.ctl_relation.specs.ByteClass.{class_has};
+ghost use Rattle.ctl_relation.specs.FieldBytes.{is_whitespace, is_qualifier_byte, is_version_word_byte, rest};
+ghost use Rattle.ctl_relation.specs.Reading.{Gives, behind_byte, name_at, qualifier_at, operator_token, operator_at, version_at, close_at};
+
+use crate::field_kind::FieldKind;
+use crate::name::{is_name, is_name_byte};
+use crate::operator::Operator;
+use crate::relation_fault::RelationFault;
+use crate::version::Version;
+use crate::version_fault::VersionFault;
+use std::alloc::Global;
+
+fn is_whitespace(byte: u8) -> bool
+    ensures { result ≡ is_whitespace byte }
+{
+    byte == b' ' || byte == b'\t' || byte == b'\n'
+}
+
+fn is_qualifier_byte(byte: u8) -> bool
+    ensures { result ≡ is_qualifier_byte byte }
+{
+    byte.is_ascii_alphanumeric() || byte == b'-'
+}
+
+fn is_version_word_byte(byte: u8) -> bool
+    ensures { result ≡ is_version_word_byte byte }
+{
+    !(is_whitespace(byte) || byte == b')')
+}
+
+// The bytes that a run may have.
+#[derive(Clone, Copy)]
+enum ByteClass {
+    Whitespace,
+    Name,
+    Qualifier,
+    VersionWord,
+}
+
+impl ByteClass {
+    fn has(self, byte: u8) -> bool
+        ensures { result ≡ class_has self byte }
+    {
+        match self {
+            ByteClass::Whitespace => is_whitespace(byte),
+            ByteClass::Name => is_name_byte(byte),
+            ByteClass::Qualifier => is_qualifier_byte(byte),
+            ByteClass::VersionWord => is_version_word_byte(byte),
+        }
+    }
+}
+
+// How many bytes at the front are of the class.
+fn run_len(class: ByteClass, text: &[u8]) -> usize
+    ensures len { result ≡ prefix_len (class_has class) text.now }
+    ensures within { result ≤ length text.now }
+{
+    for (i, byte) in text.iter().enumerate() {
+        if !class.has(*byte) {
+            return i;
+        }
+    }
+    text.len()
+}
+
+/// What follows the whitespace at the front.
+pub(crate) fn without_whitespace(text: &[u8]) -> &[u8]
+    ensures rest { result.now ≡ rest is_whitespace text.now }
+    ensures within { length result.now ≤ length text.now }
+{
+    text.split_at(run_len(ByteClass::Whitespace, text)).1
+}
+
+/// What stands behind a byte, if it comes first.
+pub(crate) fn behind_byte(text: &[u8], byte: u8) -> Option<&[u8]>
+    ensures behind { option_map (λ x. x.now) result ≡ behind_byte byte text.now }
+    ensures shorter { IfSome result (λ x. length x.now < length text.now) }
+{
+    match text {
+        [first, behind @ ..] if *first == byte => Some(behind),
+        _ => None,
+    }
+}
+
+/// The name at the front, and what follows it.
+pub(crate) fn name_of(text: &[u8]) -> Result<(&[u8], &[u8]), RelationFault>
+    ensures gives { Gives (λ x. (x.0.now, x.1.now)) result (name_at text.now) }
+    ensures shorter { IfOk result (λ x. length x.1.now < length text.now) }
+{
+    let (name, after) = text.split_at(run_len(ByteClass::Name, text));
+    if is_name(name) {
+        Ok((name, after))
+    } else {
+        Err(RelationFault::Name)
+    }
+}
+
+/// The qualifier at the front, if a colon begins one, and what follows it.
+pub(crate) fn qualifier_of(text: &[u8]) -> Result<(Option<&[u8]>, &[u8]), RelationFault>
+    ensures gives { Gives (λ x. (option_map (λ y. y.now) x.0, x.1.now)) result (qualifier_at text.now) }
+    ensures within { IfOk result (λ x. length x.1.now ≤ length text.now) }
+{
+    match text {
+        [b':', behind @ ..] => {
+            let (qualifier, after) = behind.split_at(run_len(ByteClass::Qualifier, behind));
+            if qualifier.is_empty() {
+                Err(RelationFault::Name)
+            } else {
+                Ok((Some(qualifier), after))
+            }
+        }
+        _ => Ok((None, text)),
+    }
+}
+
+fn operator_token(text: &[u8]) -> Option<(Operator, &[u8])>
+    ensures token { option_map (λ x. (x.0, x.1.now)) result ≡ operator_token text.now }
+    ensures within { IfSome result (λ x. length x.1.now ≤ length text.now) }
+{
+    match text {
+        [b'<', b'<', after @ ..] => Some((Operator::Earlier, after)),
+        [b'<', b'=', after @ ..] => Some((Operator::EarlierOrEqual, after)),
+        [b'<', after @ ..] => Some((Operator::EarlierOrEqual, after)),
+        [b'=', after @ ..] => Some((Operator::Equal, after)),
+        [b'>', b'=', after @ ..] => Some((Operator::LaterOrEqual, after)),
+        [b'>', b'>', after @ ..] => Some((Operator::Later, after)),
+        [b'>', after @ ..] => Some((Operator::LaterOrEqual, after)),
+        _ => None,
+    }
+}
+
+/// The operator at the front, and what follows it. Provides has `=` alone.
+pub(crate) fn operator_of(kind: FieldKind, text: &[u8]) -> Result<(Operator, &[u8]), RelationFault>
+    ensures gives { Gives (λ x. (x.0, x.1.now)) result (operator_at kind text.now) }
+    ensures within { IfOk result (λ x. length x.1.now ≤ length text.now) }
+{
+    let Some((operator, after)) = operator_token(text) else {
+        return Err(RelationFault::Operator);
+    };
+    if kind.is_provides() && operator != Operator::Equal {
+        return Err(RelationFault::ProvidesOperator);
+    }
+    Ok((operator, after))
+}
+
+/// The version at the front, and what follows it.
+pub(crate) fn version_of(alloc: Global, text: &[u8]) -> Result<(Version, &[u8]), RelationFault>
+    ensures gives { Gives (λ x. (x.0, x.1.now)) result (version_at text.now) }
+    ensures within { IfOk result (λ x. length x.1.now ≤ length text.now) }
+{
+    let (version, after) = text.split_at(run_len(ByteClass::VersionWord, text));
+    match Version::parse(alloc, version) {
+        Ok(version) => Ok((version, after)),
+        Err(VersionFault::Memory) => Err(RelationFault::Memory),
+        Err(_) => Err(RelationFault::Version),
+    }
+}
+
+/// What follows the closing parenthesis at the front.
+pub(crate) fn close_of(text: &[u8]) -> Result<&[u8], RelationFault>
+    ensures gives { Gives (λ x. x.now) result (close_at text.now) }
+    ensures within { IfOk result (λ x. length x.now ≤ length text.now) }
+{
+    match text {
+        [b')', after @ ..] => Ok(after),
+        _ => Err(RelationFault::Close),
+    }
+}

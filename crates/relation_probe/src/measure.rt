@@ -1,0 +1,58 @@
+//! How much time and memory the reading of fields takes.
+
+use crate::field::Field;
+use anyhow::{Context, Result};
+use ctl_relation::{Relations, parse_relations};
+use std::alloc::{AllocError, Global};
+use std::fs;
+use std::rt::{Clock, Files};
+use std::time::Instant;
+
+const PAGE: u64 = 4096;
+
+// How many bytes of memory the process has in use.
+fn resident<R: Files + AllocGlobal>(rt: &R) -> Result<u64> {
+    let text = fs::read_to_string(rt, "/proc/self/statm")?;
+    let word = text
+        .as_str()
+        .split_whitespace()
+        .nth(1)
+        .context("no second word in statm")?;
+    let pages = word.parse::<u64>()?;
+    Ok(pages.saturating_mul(PAGE))
+}
+
+// What each field is read to. A field that is at fault is left out.
+fn read_all(alloc: Global, fields: &[Field]) -> Result<Vec<Relations>, AllocError> {
+    let mut read = Vec::with_capacity(alloc, fields.len())?;
+    for field in fields {
+        if let Ok(relations) = parse_relations(alloc, &field.body, field.kind) {
+            read.push(relations)?;
+        }
+    }
+    Ok(read)
+}
+
+fn atom_count(relations: &[Relations]) -> u64 {
+    let mut count: u64 = 0;
+    for field in relations {
+        for group in field.groups() {
+            count = count.saturating_add(group.atoms().len() as u64);
+        }
+    }
+    count
+}
+
+/// Prints how many of the fields are read and their atoms, and how many bytes and nanoseconds they took.
+pub fn measure<R: Files + AllocGlobal + Clock + Print>(rt: &R, fields: &[Field]) -> Result<()> {
+    let before = resident(rt)?;
+    let start = Instant::now(rt)?;
+    let read = read_all(rt.alloc(), fields)?;
+    let nanoseconds = start.elapsed(rt)?.as_nanos();
+    let after = resident(rt)?;
+    let bytes = after.saturating_sub(before);
+    let read_fields = read.len();
+    let atoms = atom_count(&read);
+    println!(rt; "fields {read_fields} atoms {atoms} bytes {bytes} nanoseconds {nanoseconds}")?;
+    Ok(())
+}
