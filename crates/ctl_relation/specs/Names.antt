@@ -1,12 +1,6 @@
-<<<<<<< HEAD
 -- Names of packages and of lists.
 use Rattle.std.specs.Prelude.{◌≡◌, ℕ, ◌<◌, ◌==◌, ◌||◌, ◌&&◌, ◌↔◌, Bool, true, false, List, [], ◌∷◌, length, take}
 use Rattle.std.specs.List.{list_all, AllPass}
-=======
--- Names of packages and lists.
-use Rattle.std.specs.Prelude.{ℕ, ◌==◌, ◌||◌, ◌&&◌, Bool, false, List, [], ◌∷◌}
-use Rattle.std.specs.List.{list_all}
->>>>>>> relation
 use Rattle.std.specs.Char.{is_ascii_alphanumeric}
 use Rattle.ctl_relation.specs.Bytes.{plus, hyphen, dot, underscore}
 

@@ -117,14 +117,14 @@ fn stanzas_are_read(rt: HostRuntime) {
 #[test]
 fn lines_have_a_limit(rt: HostRuntime) -> Result<(), AllocError> {
     // a field line, and a blank one
-    let lines: [&[u8]; 2] = [b"X:", b"  "];
-    for line in lines {
+    let lines: [(&[u8], u8); 2] = [(b"X:", b'y'), (b"", b' ')];
+    for (front, byte) in lines {
         let mut text = Vec::from_slice(rt.alloc(), b"Package: a\nVersion: 1\n")?;
-        text.extend_from_slice(line)?;
-        text.resize(22 + MAX_LINE, line[1])?;
+        text.extend_from_slice(front)?;
+        text.resize(22 + MAX_LINE, byte)?;
         let within = has_stanzas(rt.alloc(), &text, 1);
         assert!(rt; within);
-        text.push(line[1])?;
+        text.push(byte)?;
         text.extend_from_slice(b"\noops")?;
         let told = has_fault(rt.alloc(), &text, 3, Cause::TooLong);
         assert!(rt; told);
