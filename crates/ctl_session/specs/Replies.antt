@@ -1,11 +1,12 @@
 -- What the replies of the code mean.
-use Rattle.std.specs.Prelude.{◌≡◌, ◌≢◌, ◌⊎◌, ℕ, List, Result, Ok, Err}
+use Rattle.std.specs.Prelude.{◌≡◌, ◌≢◌, ◌⊎◌, ℕ, List, Vec, Result, Ok, Err}
+use Rattle.std.specs.declared.alloc.Global.{Global}
 use Rattle.ctl_stanza.specs.declared.fault.TextFault.{TextFault}
 use Rattle.ctl_stanza.specs.declared.fault.Cause.TheVariants as causes
 use Rattle.ctl_session.specs.State.{State}
 use Rattle.ctl_session.specs.Effect.{refusal_by}
 use Rattle.ctl_session.specs.Outcome.{Outcome, Refused as RefusedOutcome, Answered as AnsweredOutcome, Changed as ChangedOutcome}
-use Rattle.ctl_session.specs.Request.{Request as RequestText, AddList as AddListText, PackageNames as PackageNamesText}
+use Rattle.ctl_session.specs.Request.{Request as RequestText, AddList as AddListText, PackageNames as PackageNamesText, request_by, refused_at}
 use Rattle.ctl_session.specs.declared.reply.Reply.{Reply}
 use Rattle.ctl_session.specs.declared.reply.Reply.TheVariants.{Refused, Answered, Changed}
 use Rattle.ctl_session.specs.declared.request.Request.{Request}
@@ -30,15 +31,24 @@ abbrev pub request_text : Request → RequestText
 request_text (AddList name) = AddListText name.now
 request_text (PackageNames prefix) = PackageNamesText prefix.now
 
--- this request was read, or its refusal, or memory ran out
-abbrev pub Asks : Result Request Refusal → Result RequestText Refusal → Type 0
-Asks (Ok request) asked = asked ≡ Ok (request_text request)
-Asks (Err cause) asked = (asked ≡ Err cause) ⊎ (cause ≡ refusal.Memory)
+-- what was read of a request, or its refusal
+abbrev pub shown_request : Result Request Refusal → Result RequestText Refusal
+shown_request (Ok request) = Ok (request_text request)
+shown_request (Err cause) = Err cause
 
--- the same for a refusal with its line, where want of memory is told at the line of the command
-abbrev pub AsksAt : ℕ → Result Request RefusalAt → Result RequestText RefusalAt → Type 0
-AsksAt number (Ok request) asked = asked ≡ Ok (request_text request)
-AsksAt number (Err refused) asked = (asked ≡ Err refused) ⊎ (refused ≡ record { line = number; cause = refusal.Memory })
+abbrev pub shown_request_at : Result Request RefusalAt → Result RequestText RefusalAt
+shown_request_at (Ok request) = Ok (request_text request)
+shown_request_at (Err refused) = Err refused
+
+-- These words are those by which a command of this name asks, or the command is refused before them, or memory ran out.
+abbrev pub GivesWordsOf : Result (Vec (List ℕ) Global) Refusal → List ℕ → Result RequestText Refusal → Type 0
+GivesWordsOf (Ok words) name asked = asked ≡ request_by name words.items
+GivesWordsOf (Err cause) name asked = (asked ≡ Err cause) ⊎ (cause ≡ refusal.Memory)
+
+-- the same with the line of the command, at which want of memory is told
+abbrev pub GivesWords : ℕ → Result (Vec (List ℕ) Global) RefusalAt → List ℕ → Result RequestText RefusalAt → Type 0
+GivesWords number (Ok words) name asked = asked ≡ refused_at number (request_by name words.items)
+GivesWords number (Err refused) name asked = (asked ≡ Err refused) ⊎ (refused ≡ record { line = number; cause = refusal.Memory })
 
 -- a refusal tells the fault of a body's text, or that memory ran out, at the line of the command
 abbrev pub IsRefusalOf : TextFault → ℕ → RefusalAt → Type 0

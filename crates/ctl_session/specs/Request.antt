@@ -1,8 +1,7 @@
 -- What a command asks for, by its words.
-use Rattle.std.specs.Prelude.{ℕ, ◌+◌, ◌==◌, Bool, false, List, [], ◌∷◌, length, codes, None, Some, Result, Ok, Err, if◌then◌else◌}
-use Rattle.std.specs.List.{list_any}
+use Rattle.std.specs.Prelude.{ℕ, ◌+◌, ◌==◌, ◌||◌, Bool, false, List, [], ◌∷◌, length, codes, Option, None, Some, Result, Ok, Err, if◌then◌else◌}
 use Rattle.std.specs.Str.{bytes_eq}
-use Rattle.ctl_relation.specs.Bytes.{apostrophe, hyphen}
+use Rattle.ctl_relation.specs.Bytes.{hyphen}
 use Rattle.ctl_relation.specs.Names.{is_name}
 use Rattle.ctl_session.specs.Script.{Command, first_long, name_of}
 use Rattle.ctl_session.specs.Words.{words_of, behind_name}
@@ -36,19 +35,24 @@ package_names_request [] = Ok (PackageNames [])
 package_names_request (prefix ∷ []) = if is_option prefix then Err refusal.Usage else Ok (PackageNames prefix)
 package_names_request (prefix ∷ word ∷ words) = Err refusal.Usage
 
--- no word is quoted
-abbrev pub has_quote : List ℕ → Bool
-has_quote text = list_any (λ b. b == apostrophe) text
+-- what the words of a command ask for, by its name
+abbrev pub request_by : List ℕ → List (List ℕ) → Result Request Refusal
+request_by name words =
+    if bytes_eq name (codes "add-list") then add_list_request words
+    else package_names_request words
 
--- a request by the words of a command, none of which may be quoted
-abbrev pub unquoted : (List (List ℕ) → Result Request Refusal) → List ℕ → Result Request Refusal
-unquoted request text = if has_quote text then Err refusal.Usage else request (words_of text)
+-- the names of commands
+abbrev pub is_command : List ℕ → Bool
+is_command name = bytes_eq name (codes "add-list") || bytes_eq name (codes "pkgnames")
 
--- a request by the name of a command and the text behind it
+-- what a known command asks for by its words; a quote without its end leaves none
+abbrev pub request_in : List ℕ → Option (List (List ℕ)) → Result Request Refusal
+request_in name None = Err refusal.Usage
+request_in name (Some words) = request_by name words
+
+-- what a command asks for by its name and the text behind it
 abbrev pub request_named : List ℕ → List ℕ → Result Request Refusal
-request_named name text =
-    if bytes_eq name (codes "add-list") then unquoted add_list_request text
-    else (if bytes_eq name (codes "pkgnames") then unquoted package_names_request text else Err refusal.Command)
+request_named name text = if is_command name then request_in name (words_of text) else Err refusal.Command
 
 -- a refusal names the line of the command
 abbrev pub refused_at : ℕ → Result Request Refusal → Result Request RefusalAt

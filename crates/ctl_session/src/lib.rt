@@ -6,6 +6,7 @@ mod command_line;
 mod failed;
 mod fault;
 mod laws;
+mod line_words;
 mod lines;
 mod package_names;
 mod perform;

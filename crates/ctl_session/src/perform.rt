@@ -15,7 +15,7 @@ use crate::cache::Cache;
 use crate::package_names::push_package_names;
 use crate::refusal::{Refusal, RefusalAt};
 use crate::reply::Reply;
-use crate::request::{Request, read_request};
+use crate::request::{Request, command_words, read_request};
 use crate::script::CommandRead;
 use ctl_stanza::{Cause, ListKind, TextFault, read_stanzas};
 use std::alloc::Global;
@@ -85,7 +85,11 @@ pub(crate) fn perform(
 {
     out.clear();
     let number = command.number;
-    let request = match read_request(alloc, head, &command, last_line) {
+    let words = match command_words(alloc, head, &command, last_line) {
+        Ok(words) => words,
+        Err(refused) => return Reply::Refused(refused),
+    };
+    let request = match read_request(head, &words, number) {
         Ok(request) => request,
         Err(refused) => return Reply::Refused(refused),
     };

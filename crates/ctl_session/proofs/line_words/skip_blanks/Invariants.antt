@@ -1,6 +1,6 @@
 use Rattle.std.proofs.Common.{◌≡◌, ◌≤◌, length}
 use Rattle.ctl_session.specs.Script.{without_blanks}
-use Rattle.ctl_session.proofs.words.skip_blanks.Given as goal
+use Rattle.ctl_session.proofs.line_words.skip_blanks.Given as goal
 
 abbrev pub invariant-loop-rest : goal.invariant-loop-rest
 invariant-loop-rest l = record {

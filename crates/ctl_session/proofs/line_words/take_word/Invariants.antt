@@ -1,7 +1,7 @@
 use Rattle.std.proofs.Common.{◌≡◌, ◌++◌, take, drop}
 use Rattle.ctl_session.specs.Script.{first_word}
 use Rattle.ctl_session.specs.Words.{behind_word}
-use Rattle.ctl_session.proofs.words.take_word.Given as goal
+use Rattle.ctl_session.proofs.line_words.take_word.Given as goal
 
 abbrev pub invariant-loop-byte : goal.invariant-loop-byte
 invariant-loop-byte l = record {
