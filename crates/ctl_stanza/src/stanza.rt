@@ -82,7 +82,7 @@ impl Stanza {
     pub fn text(&self) -> &[u8]
         ensures { result.now ≡ self.now.text }
     {
-        &self.text
+        self.text.as_slice()
     }
 
     /// The kind of its list.
