@@ -114,10 +114,7 @@ impl Stanza {
     pub fn package(&self) -> &[u8]
         ensures { result.now ≡ package_of self.now }
     {
-        match self.field(b"Package") {
-            None => &[],
-            Some(body) => body,
-        }
+        self.field(b"Package").unwrap_or(&[])
     }
 }
 
