@@ -131,7 +131,8 @@ pub fn parse_relations(
     ensures found { IfOk result (λ relations. RelationsText kind body.now relations) }
 
     // What is in the grammar is read, unless memory runs out.
-    ensures only { (groups : List (List AtomParts)) → RelationsText kind body.now groups → Gives (λ x. x) result (Ok groups) }
+    ensures only { (groups : List (List AtomParts))
+        → RelationsText kind body.now groups → Gives (λ x. x) result (Ok groups) }
 
     // A fault but want of memory is the one that is due where the body first leaves the grammar.
     ensures fault { IfErr result (λ fault. fault ≢ relation.Memory → IsFault kind body.now fault) }
