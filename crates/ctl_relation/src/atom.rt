@@ -1,9 +1,9 @@
 //! Atoms, their printed form, and the counted test.
 
-ghost use Rattle.std.specs.Prelude.{◌≡◌, ◌≤◌, ◌+◌, ◌-◌, ◌^◌, ◌++◌, IfOk, OnOk, OnErr, min, take, vec_len};
+ghost use Rattle.std.specs.Prelude.{◌≡◌, ◌+◌, ◌-◌, ◌^◌, ◌++◌, IfOk, OnOk, OnErr, min, take, vec_len};
 ghost use Rattle.ctl_relation.specs.Lent.{lent, lent_bound};
 ghost use Rattle.ctl_relation.specs.Met.{met};
-ghost use Rattle.ctl_relation.specs.Printed.{atom_text, bound_text};
+ghost use Rattle.ctl_relation.specs.Printed.{atom_text};
 
 use crate::offer::Offer;
 use crate::operator::Operator;
