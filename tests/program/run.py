@@ -68,8 +68,7 @@ def test_writers(tests):
     os.close(reader)
     with os.fdopen(writer, "wb") as closed:
         status, _, errors = tests.run([], LIST + b"pkgnames\n", closed)
-        tests.same("a closed pipe", status in (2, -13), True)
-        tests.same("what a closed pipe says", errors in (b"dctrl-cache: write failed\n", b""), True)
+        tests.same("a closed pipe", (status, errors), (2, b"dctrl-cache: write failed\n"))
 
 
 def test_talk(tests):
