@@ -45,7 +45,7 @@ impl ReadAhead {
         })
     }
 
-    /// Forgets them.
+    /// Forgets all bytes.
     pub(crate) fn clear(&mut self)
         ensures { self.new ≡ [] }
     {
@@ -53,7 +53,7 @@ impl ReadAhead {
         self.end = 0;
     }
 
-    /// All of them.
+    /// The bytes.
     fn rest(&self) -> &[u8]
         ensures value { result.now ≡ self.now }
         ensures within { length result.now ≤ 65536 }
@@ -61,7 +61,7 @@ impl ReadAhead {
         &self.part[self.start..self.end]
     }
 
-    /// Takes out the first ones.
+    /// Takes out the first bytes.
     fn skip(&mut self, count: usize)
         requires { count ≤ length self.old }
         ensures { self.new ≡ drop count self.old }
@@ -109,7 +109,8 @@ impl ReadAhead {
         }
     }
 
-    /// Takes out what comes before the next newline, and that too, or all that there is. It goes into a line.
+    /// Takes out the bytes before the next newline, and the newline, or all bytes where there is none. The bytes go to the
+    /// end of the line in the buffer, as many as a line may have.
     pub(crate) fn take_piece(&mut self, line: &mut Vec<u8>) -> LineRead
         requires room { max_line ≤ vec_capacity line.old }
         requires short { vec_len line.old ≤ max_line }
