@@ -6,12 +6,13 @@ DESTDIR ?=
 PROGRAM := crates/dctrl_cache/out/dctrl_cache
 EXAMPLES := $(sort $(wildcard examples/*.script))
 
-.PHONY: help demo build test install clean
+.PHONY: help demo build test bench install clean
 
 help:
 	@echo 'make demo      runs the examples with an unproved quick build, and compares what they print'
 	@echo 'make build     proves the program and leaves it as $(PROGRAM)'
-	@echo 'make test      the whole gate: the examples, every proof from nothing, the must-fail edits, the tests'
+	@echo 'make test      the whole gate: every proof from nothing, the must-fail edits, the tests, the program'
+	@echo 'make bench     measures time and memory beside grep-dctrl; FILE=.. names a Packages file'
 	@echo 'make install   puts the program below DESTDIR and PREFIX ($(PREFIX))'
 	@echo 'make clean     removes what was made'
 
@@ -36,6 +37,15 @@ $(PROGRAM): $(shell find crates -path '*/out' -prune -o -type f -print) crates.t
 
 test: demo
 	rt ci
+	$(MAKE) build
+	python3 tests/program/run.py $(PROGRAM) examples
+
+bench: $(PROGRAM)
+	python3 bench/script.py $(PROGRAM) $(FILE)
+ifdef FILE
+	cd crates/relation_probe && rt run > /dev/null
+	python3 bench/relations.py $(FILE)
+endif
 
 install: $(PROGRAM)
 	install -D -m 755 $(PROGRAM) $(DESTDIR)$(PREFIX)/bin/dctrl-cache

@@ -1,4 +1,4 @@
--- The lines of a text.
+-- How the lines of a source are read, and where the reading stops.
 use Rattle.std.specs.Prelude.{◌≡◌, ◌≢◌, ℕ, ◌^◌, ◌<◌, ◌≤◌, ◌++◌, List, [], ◌∷◌, Option, None, Some, Result, Ok, Err, ◌⊎◌, Bool, true, false, length, take}
 use Rattle.std.specs.Io.KnownBytes.{Consumes, IsAtEnd}
 use Rattle.ctl_relation.specs.Bytes.{newline}
@@ -10,7 +10,7 @@ use Rattle.ctl_session.specs.declared.fault.ReadingFault.TheVariants.{ReadFailed
 -- no byte of it is a newline
 abbrev pub IsOneLine : List ℕ → Type 0
 IsOneLine [] = Unit {0}
-IsOneLine (b ∷ bytes) = (b ≢ 10) × IsOneLine bytes
+IsOneLine (b ∷ bytes) = (b ≢ newline) × IsOneLine bytes
 
 -- the newline at the end of a line, if there is one
 abbrev pub newline_if : Bool → List ℕ

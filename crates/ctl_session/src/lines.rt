@@ -1,18 +1,19 @@
 //! The lines of a source, one at a time.
 
-ghost use Rattle.std.specs.Prelude.{◌≡◌, ◌≢◌, ℕ, ◌+◌, ◌-◌, ◌<◌, ◌≤◌, List, [], ◌∷◌, ◌++◌, Option, length, take, drop, IfOk, IfErr, OnErr, OnOk, is_err, MatchOption, None, option_to_list, vec_capacity, vec_len, IsOk, IsSome, is_some, true, false, Ok, if◌then◌else◌};
-ghost use Rattle.std.specs.Io.KnownBytes.{Consumes, Keeps, IsAtEnd, prepend_known};
+ghost use Rattle.std.specs.Prelude.{◌≡◌, ◌+◌, ◌≤◌, [], IfOk, IfErr, vec_capacity, IsSome, is_some, true, if◌then◌else◌};
+ghost use Rattle.std.specs.Io.KnownBytes.{prepend_known};
 ghost use Rattle.ctl_stanza.specs.Lines.{max_line};
 ghost use Rattle.ctl_session.specs.Streams.{counted};
 ghost use Rattle.ctl_session.specs.declared.fault.ReadingFault.TheVariants.{ReadFailed};
-ghost use Rattle.ctl_session.specs.LineReading.{TakesNext, TakesPiece, StopsInLine, StopsAfter, is_failed_read};
+ghost use Rattle.ctl_session.specs.LineReading.{TakesNext, StopsInLine, StopsAfter, is_failed_read};
 
 use crate::fault::ReadingFault;
 use crate::read_ahead::{LineRead, ReadAhead};
 use crate::source::Source;
 use std::alloc::{AllocError, Global};
 
-/// Reads the next line, and keeps as much of it as a line may have. A line that is not allowed has no byte.
+/// Reads the next line into the buffer, as much of it as a line may have, and counts its bytes. Where no further line
+/// is allowed, a byte of one is a fault.
 pub(crate) fn next_line<R: Source>(
     pending: &mut ReadAhead,
     reader: &mut R,
@@ -65,7 +66,7 @@ pub(crate) fn next_line<R: Source>(
 #[derive(Drop)]
 pub(crate) struct Lines {
     pub(crate) pending: ReadAhead,
-    /// How many lines were read.
+    /// How many lines were read in this run.
     pub(crate) number: u32,
     /// How many there may be.
     pub(crate) max: u32,
@@ -81,7 +82,7 @@ impl Lines {
         })
     }
 
-    /// Goes to the start of a run.
+    /// Begins a run, which forgets what was read ahead.
     pub(crate) fn restart(&mut self, max: u32)
         ensures pending { self.new.pending ≡ [] }
         ensures number { self.new.number ≡ 0 }

@@ -1,10 +1,10 @@
 //! Bytes read ahead of the line that is being read.
 
-ghost use Rattle.std.specs.Prelude.{◌≡◌, ◌≢◌, ℕ, ◌+◌, ◌-◌, ◌<◌, ◌≤◌, List, [], ◌∷◌, ◌++◌, Option, length, take, drop, IfOk, IfErr, OnErr, OnOk, is_err, MatchOption, None, option_to_list, vec_capacity, vec_len, IsOk, IsSome, is_some, true, false, Ok, if◌then◌else◌};
+ghost use Rattle.std.specs.Prelude.{◌≡◌, ℕ, ◌+◌, ◌-◌, ◌<◌, ◌≤◌, List, [], ◌++◌, length, take, drop, IfOk, OnErr, OnOk, is_err, vec_capacity, vec_len, true, false};
 ghost use Rattle.std.specs.Io.KnownBytes.{Consumes, Keeps, IsAtEnd, prepend_known};
 ghost use Rattle.ctl_stanza.specs.Lines.{max_line};
 ghost use Rattle.ctl_session.specs.Streams.{counted};
-ghost use Rattle.ctl_session.specs.LineReading.{TakesNext, TakesPiece, StopsInLine, StopsAfter, is_failed_read};
+ghost use Rattle.ctl_session.specs.LineReading.{TakesPiece};
 
 use crate::failed::Failed;
 use crate::source::Source;
@@ -45,7 +45,7 @@ impl ReadAhead {
         })
     }
 
-    /// Forgets them.
+    /// Forgets all bytes.
     pub(crate) fn clear(&mut self)
         ensures { self.new ≡ [] }
     {
@@ -53,7 +53,7 @@ impl ReadAhead {
         self.end = 0;
     }
 
-    /// All of them.
+    /// The bytes.
     fn rest(&self) -> &[u8]
         ensures value { result.now ≡ self.now }
         ensures within { length result.now ≤ 65536 }
@@ -61,7 +61,7 @@ impl ReadAhead {
         &self.part[self.start..self.end]
     }
 
-    /// Takes out the first ones.
+    /// Takes out the first bytes.
     fn skip(&mut self, count: usize)
         requires { count ≤ length self.old }
         ensures { self.new ≡ drop count self.old }
@@ -109,7 +109,8 @@ impl ReadAhead {
         }
     }
 
-    /// Takes out what comes before the next newline, and that too, or all that there is. It goes into a line.
+    /// Takes out the bytes before the next newline, and the newline, or all bytes where there is none. The bytes go to the
+    /// end of the line in the buffer, as many as a line may have.
     pub(crate) fn take_piece(&mut self, line: &mut Vec<u8>) -> LineRead
         requires room { max_line ≤ vec_capacity line.old }
         requires short { vec_len line.old ≤ max_line }

@@ -1,7 +1,7 @@
 //! The commands of a script, one at a time.
 
-ghost use Rattle.std.specs.Prelude.{◌≡◌, ℕ, ◌+◌, ◌≤◌, ◌++◌, ◌∷◌, [], List, Option, None, false, IfOk, IfErr, OnOk, true, take, length, vec_capacity};
-ghost use Rattle.std.specs.Io.KnownBytes.{Consumes, prepend_known};
+ghost use Rattle.std.specs.Prelude.{◌≡◌, ℕ, ◌+◌, ◌≤◌, ◌++◌, ◌∷◌, [], List, false, IfOk, IfErr, OnOk, take, length, vec_capacity};
+ghost use Rattle.std.specs.Io.KnownBytes.{prepend_known};
 ghost use Rattle.ctl_stanza.specs.Lines.{max_line};
 ghost use Rattle.ctl_session.specs.Streams.{counted};
 ghost use Rattle.ctl_session.specs.declared.fault.ReadingFault.TheVariants.{ReadFailed};
@@ -19,20 +19,20 @@ use std::alloc::{AllocError, Global};
 /// What was read of a body.
 #[derive(Drop)]
 pub(crate) struct Body {
-    /// Its lines, each with a newline. They are not all there where one is too long, or a growth was refused.
+    /// Its lines, each with a newline. Not all of them are there where one is too long or memory ran out.
     pub(crate) text: Vec<u8>,
     /// The number of its first line that is too long.
     pub(crate) too_long: Option<u32>,
-    /// A growth was refused.
+    /// Whether memory ran out while it was read.
     pub(crate) refused: bool,
-    /// The line that ends it was there.
+    /// Whether the line that ends it was there.
     pub(crate) ended: bool,
-    /// The input ended with it.
+    /// Whether the input ended with it.
     pub(crate) last: bool,
 }
 
 impl Body {
-    /// No line of a body.
+    /// A body without lines.
     fn none(alloc: Global, too_long: Option<u32>, ended: bool, last: bool) -> Self
         ensures text { result.text.items ≡ [] }
         ensures too_long { result.too_long ≡ too_long }
@@ -49,7 +49,7 @@ impl Body {
         }
     }
 
-    /// Puts a line at the end, by as much of it as a line may have and its length.
+    /// Adds a line, by its first bytes, as many as a line may have, and the count of all.
     fn add(&mut self, line: &[u8], count: u32, number: u32)
         ensures step { (first : ℕ) (lines : List (List ℕ)) (all : List ℕ) → HoldsBody first lines self.old → line.now ≡ take max_line all →
             count ≡ length all → number ≡ first + length lines → HoldsBody first (lines ++ all ∷ []) self.new }
@@ -69,7 +69,7 @@ impl Body {
     }
 }
 
-/// Puts a line and its newline at the end of a text.
+/// Appends a line and its newline to a text.
 fn push_line(text: &mut Vec<u8>, line: &[u8]) -> Result<(), AllocError>
     ensures { OnOk result (text.new.items ≡ text.old.items ++ (line.now ++ 10 ∷ [])) }
 {

@@ -9,3 +9,4 @@ pub mod CauseLemmas
 pub mod WholeLemmas
 pub mod PlaceLemmas
 pub mod LawLemmas
+pub mod RunLemmas

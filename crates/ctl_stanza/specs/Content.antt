@@ -1,5 +1,5 @@
 -- What a stanza is: its text, and the kind of its list. Its fields are read from its text.
-use Rattle.std.specs.Prelude.{ℕ, List, [], map, Option, None, Some}
+use Rattle.std.specs.Prelude.{ℕ, List, [], map, Option, unwrap_or}
 use Rattle.ctl_stanza.specs.declared.list_kind.ListKind.{ListKind}
 use Rattle.ctl_stanza.specs.Lines.{lines_of, text_of_lines}
 use Rattle.ctl_stanza.specs.Fields.{FieldText, fields_of_lines, body_named, package_name}
@@ -29,10 +29,6 @@ named_bodies content = map name_and_body (fields_of content)
 abbrev pub body_of : Content → List ℕ → Option (List ℕ)
 body_of content name = body_named name (fields_of content)
 
-abbrev pub body_or_nothing : Option (List ℕ) → List ℕ
-body_or_nothing None = []
-body_or_nothing (Some body) = body
-
 -- the name of the package that a stanza describes
 abbrev pub package_of : Content → List ℕ
-package_of content = body_or_nothing (body_of content package_name)
+package_of content = unwrap_or (body_of content package_name) []

@@ -56,7 +56,7 @@ abbrev pub body_named : List ℕ → List FieldText → Option (List ℕ)
 body_named name [] = None
 body_named name (field ∷ fields) = if is_same_name field.name name then Some field.body else body_named name fields
 
--- the names of the fields that every stanza has
+-- the names of the fields that a stanza of a packages list has at least
 abbrev pub package_name : List ℕ
 package_name = codes "Package"
 

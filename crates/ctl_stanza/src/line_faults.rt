@@ -25,12 +25,10 @@ fn line_cause<'a>(
 {
     match kind {
         LineKind::Field(n) => {
-            let is_new = names.add(alloc, &line[..n])?;
-            Ok(if is_new {
-                None
-            } else {
-                Some(Cause::FieldTwice)
-            })
+            if names.add(alloc, &line[..n])? {
+                return Ok(None);
+            }
+            Ok(Some(Cause::FieldTwice))
         }
         LineKind::Blank => Ok(None),
         LineKind::Continuation | LineKind::Faulty => Ok(Some(Cause::Line)),
@@ -51,16 +49,17 @@ pub(crate) fn first_fault<'a>(
 {
     for i in 0..lines.len() {
         let line = lines[i];
+        let number = first_line + i as u64;
         if is_too_long(line) {
             return Ok(Some(TextFault {
-                line: first_line + i as u64,
+                line: number,
                 cause: Cause::TooLong,
             }));
         }
         let kind = kind_of(line);
         if let Some(cause) = line_cause(alloc, names, line, kind)? {
             return Ok(Some(TextFault {
-                line: first_line + i as u64,
+                line: number,
                 cause,
             }));
         }

@@ -82,7 +82,7 @@ impl Stanza {
     pub fn text(&self) -> &[u8]
         ensures { result.now ≡ self.now.text }
     {
-        &self.text
+        self.text.as_slice()
     }
 
     /// The kind of its list.
@@ -114,10 +114,7 @@ impl Stanza {
     pub fn package(&self) -> &[u8]
         ensures { result.now ≡ package_of self.now }
     {
-        match self.field(b"Package") {
-            None => &[],
-            Some(body) => body,
-        }
+        self.field(b"Package").unwrap_or(&[])
     }
 }
 
