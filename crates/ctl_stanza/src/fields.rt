@@ -232,9 +232,7 @@ pub(crate) fn fields_of_lines(
     for i in 0..lines.len() {
         let line = lines[i];
         add_field(bytes, &mut fields, line, &lines[i + 1..], i as u32, at)?;
-        if i + 1 < lines.len() {
-            at += line.len() as u32 + 1;
-        }
+        at += line.len() as u32 + 1;
     }
     bytes.shrink_to_fit();
     Ok(fields)

@@ -5,6 +5,7 @@ ghost use Rattle.std.specs.List.{All};
 ghost use Rattle.ctl_relation.specs.declared.field_kind.FieldKind.{FieldKind};
 ghost use Rattle.ctl_relation.specs.Reading.{relations_of};
 ghost use Rattle.ctl_relation.specs.Version.{fault_of};
+ghost use Rattle.ctl_stanza.specs.declared.fault.Cause.TheVariants as causes;
 ghost use Rattle.ctl_stanza.specs.Fields.{body_named, version_name};
 ghost use Rattle.ctl_stanza.specs.RelationFields.{relation_kind, groups_among};
 ghost use Rattle.ctl_stanza.specs.Faults.{live_cause, relation_cause, field_cause, first_wrong, or_else, IsMemoryAtZero, Tells, TellsCause};
@@ -79,7 +80,7 @@ fn read_version(
     version: &mut Option<Version>,
 ) -> Result<(), Cause>
     ensures good { OnOk result (fault_of body.now ≡ None) }
-    ensures bad { IfErr result (λ cause. cause ≢ Cause.Memory → (cause ≡ Cause.Version) × (fault_of body.now ≢ None)) }
+    ensures bad { IfErr result (λ cause. cause ≢ causes.Memory → (cause ≡ causes.Version) × (fault_of body.now ≢ None)) }
     ensures version { OnOk result (version.new ≡ or_else version.old (Some body.now)) }
 {
     match Version::parse(alloc, body) {

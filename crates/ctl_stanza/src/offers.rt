@@ -45,7 +45,7 @@ pub(crate) fn offers_of(
     version: Option<Version>,
     provides: &[Group],
 ) -> Result<Vec<Offer>, AllocError>
-    ensures { IfOk result (λ offers. offers.items ≡ record { name = package.now; version = version } ∷ offers_in provides.now) }
+    ensures { IfOk result (λ offers. offers.items ≡ record { name = «package».now; version = version } ∷ offers_in provides.now) }
 {
     let mut offers = Vec::with_capacity(alloc, provides.len().saturating_add(1))?;
     offers.push(Offer::new(alloc, package, version)?)?;

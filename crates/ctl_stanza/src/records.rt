@@ -1,6 +1,7 @@
 //! The records of a text of preferences (apt_preferences(5)).
 
 ghost use Rattle.std.specs.Prelude.{◌≡◌, ◌+◌, ◌<◌, ◌^◌, ◌++◌, length, None, IfOk, IfErr, OnOk};
+ghost use Rattle.ctl_stanza.specs.declared.fault.Cause.TheVariants as causes;
 ghost use Rattle.ctl_stanza.specs.Lines.{lent_lines, AreLines};
 ghost use Rattle.ctl_stanza.specs.Faults.{IsMemoryAtZero, Tells};
 ghost use Rattle.ctl_stanza.specs.NamesGiven.{HoldsNone};
@@ -47,7 +48,7 @@ fn record_of(alloc: Global, lines: &[&[u8]], numbers: &[u64]) -> Result<Record, 
     requires some { 0 < length lines.now }
     requires numbers { length numbers.now ≡ length lines.now }
     ensures record_is { IfOk result (λ read. read ≡ record_of numbers.now (lent_lines lines.now)) }
-    ensures memory { IfErr result (λ fault. fault ≡ record { line = 0; cause = Cause.Memory }) }
+    ensures memory { IfErr result (λ fault. fault ≡ record { line = 0; cause = causes.Memory }) }
 {
     let mut bytes = text_of_lines(alloc, lines)?;
     if bytes.len() > u32::MAX as usize {
