@@ -1,5 +1,5 @@
 -- Fields, and where they stand in a text.
-use Rattle.std.proofs.Common.{◌≡◌, ◌∙◌, ◌+◌, ◌-◌, ◌<◌, ◌≤◌, ℕ, zero, suc, Bool, true, false, List, [], ◌∷◌, ◌++◌, length, take, drop, get_or, Some, slice_range, append_assoc, take_all, refl, sym, ap, ap₂, arith, ⊎_elim}
+use Rattle.std.proofs.Common.{◌≡◌, ◌∙◌, ◌+◌, ◌-◌, ◌⊎◌, ◌<◌, ◌≤◌, ℕ, zero, suc, Bool, true, false, List, [], ◌∷◌, ◌++◌, length, take, drop, get_or, Some, slice_range, append_assoc, take_all, refl, sym, ap, ap₂, arith, ⊎_elim}
 use Rattle.std.proofs.lemmas.Bool.{cases_Bool, cond-true, cond-false}
 use Rattle.std.proofs.Math.Seq.{take-append-add, take-append_seam, drop-append-add}
 use Rattle.std.proofs.lemmas.List.{take-append-le, drop-append-le, take-append-drop, length-take-le, append-nil, drop_more, length-append, length-drop}
@@ -10,7 +10,7 @@ use Rattle.ctl_stanza.specs.LineKind.{kind_of}
 use Rattle.ctl_stanza.specs.declared.fields.Span.{Span}
 use Rattle.ctl_stanza.specs.Fields.{FieldText, strip_end, before_stripped, continues, continued, body_named, is_same_name, fields_from, field_at}
 use Rattle.ctl_stanza.specs.Faults.{field_cause, first_wrong, fault_or}
-use Rattle.ctl_stanza.specs.Spans.{IsWithin, AreWithin, StandsAt, shown, shown_field, shown_fields}
+use Rattle.ctl_stanza.specs.Spans.{IsWithin, AreWithin, StandsAt, Shows, shown, shown_field, shown_fields}
 
 -- nothing but blanks is left
 pub strip_end-none : (text : List ℕ) → ((k : ℕ) → k < length text → is_blank_byte (get_or text k 0) ≡ true) → strip_end text ≡ []
@@ -126,6 +126,12 @@ stands-size bytes part at some stands =
     let parts = ap length (take-append-drop (length part) (drop at bytes)) in
     omega (arith, some, ap length stands, parts, length-append (take (length part) (drop at bytes)) (drop (length part) (drop at bytes)), length-drop at bytes)
 
+-- a line and those behind it have room
+pub stands-room : (bytes line : List ℕ) (at : ℕ) (behind : List (List ℕ)) → StandsAt bytes at (line ++ 10 ∷ text_of_lines behind) → at + length line + 1 + length (text_of_lines behind) ≤ length bytes
+stands-room bytes line at behind stands =
+    let size = length-append line (10 ∷ text_of_lines behind) in
+    omega (arith, size, stands-size bytes (line ++ 10 ∷ text_of_lines behind) at (omega (arith, size)) stands)
+
 pub stands-round : (bytes line : List ℕ) (at : ℕ) (behind : List (List ℕ)) → StandsAt bytes at (line ++ 10 ∷ text_of_lines behind) → IsRound bytes at line behind
 stands-round bytes line at behind stands =
     let part = line ++ 10 ∷ text_of_lines behind in
@@ -181,6 +187,41 @@ fields-grow bytes more (f ∷ fs) all =
     let body = shown-grow bytes more f.body here.1 in
     ap₂ (λ (x : FieldText) xs. x ∷ xs) (ap₂ (λ (x y : List ℕ). record { line = f.line; name = x; body = y }) name body)
     (fields-grow bytes more fs (λ k d lt. all (suc k) d (omega arith)))
+
+-- ---- the body of a field
+
+-- a body that stands in the text in one piece
+pub body-within : (bytes line value : List ℕ) (at a b m : ℕ) (behind : List (List ℕ)) → StandsAt bytes at (line ++ 10 ∷ text_of_lines behind) → a ≤ b → b ≤ length line → slice_range line a b ≡ value
+    → m ≡ length (continued behind) → (m ≡ 0) ⊎ (b ≡ length line) → Shows bytes (record { start = at + a; end = at + b + m }) (value ++ continued behind)
+body-within bytes line value at a b m behind stands le in_line is size ends =
+    let round = stands-round bytes line at behind stands in
+    let room = stands-room bytes line at behind stands in
+    let tail = 10 ∷ (text_of_lines behind ++ round.rest) in
+    let short = continued-le behind in
+    let within : (at + a ≤ at + b + m) × (at + b + m ≤ length bytes) = (omega arith, omega (arith, room, short, size)) in
+    let front : take m tail ≡ continued behind =
+    take-append-le m (10 ∷ text_of_lines behind) round.rest (omega (arith, size, short)) ∙ ap (λ n. take n (10 ∷ text_of_lines behind)) size ∙ take-continued behind in
+    let shows : slice_range bytes (at + a) (at + b + m) ≡ value ++ continued behind = ⊎_elim
+    (λ (none : m ≡ 0).
+    let here : at + b + m ≡ at + b = omega arith in
+    ap (λ n. slice_range bytes (at + a) n) here ∙ ap (λ t. slice_range t (at + a) (at + b)) round.whole
+    ∙ within_line round.front line tail at a b round.front_len le in_line ∙ is ∙ sym (append-nil value) ∙ ap (λ t. value ++ t) (sym (nil-of (continued behind) (sym size ∙ none))))
+    (λ (end : b ≡ length line).
+    ap (λ t. slice_range t (at + a) (at + b + m)) round.whole ∙ beyond_line round.front line tail at a b m round.front_len le end ∙ ap₂ ◌++◌ is front)
+    ends in
+    record { within = within; part_is = shows }
+
+-- a body that is put behind
+pub body-behind : (old new part : List ℕ) → new ≡ old ++ part → Shows new (record { start = length old; end = length new }) part
+body-behind old new part e =
+    let size = ap length e ∙ length-append old part in
+    let len : length new - length old ≡ length part = omega (arith, size) in
+    let place : length old ≡ length old + 0 = omega arith in
+    record {
+      within = (omega (arith, size), omega arith);
+      part_is = ap₂ (λ n t. take n (drop (length old) t)) len e ∙ ap (λ n. take (length part) (drop n (old ++ part))) place ∙ ap (take (length part)) (drop-append-add old part 0)
+          ∙ take_all (length part) part (omega arith);
+    }
 
 -- ---- a field by its name
 

@@ -1,4 +1,4 @@
-use Rattle.std.proofs.Common.{◌≡◌, ◌∙◌, ◌<◌, ◌+◌, ◌-◌, ◌++◌, ◌∷◌, ℕ, List, [], length, take, drop, sym, ap, ap₂, arith}
+use Rattle.std.proofs.Common.{◌≡◌, ◌∙◌, ◌<◌, ◌≤◌, ◌+◌, ◌-◌, ◌++◌, ◌∷◌, ℕ, List, [], length, take, drop, sym, ap, ap₂, arith}
 use Rattle.std.proofs.lemmas.List.{length-append, map-append}
 use Rattle.std.proofs.lemmas.List.Elements.{All-push}
 use Rattle.ctl_stanza.specs.declared.fields.Field.{Field}
@@ -41,7 +41,7 @@ adds old_bytes bytes line behind at n i body old new kind grows stands all lt is
           ∙ ap (λ k. shown_fields old_bytes old ++ field_at i k line behind) (sym field ∙ is);
     }
 
-pub returns-in_ok-push-clause-fields : goal.returns-in_ok-push-clause-fields
-returns-in_ok-push-clause-fields c =
+pub returns-clause-fields : goal.returns-clause-fields
+returns-clause-fields c =
     adds c.args.bytes.now.items _ c.args.line.now (lent_lines c.args.behind.now) c.args.at c.in-Field.n c.args.index c.in_ok-body.body c.args.fields.now.items c.push.new.self.items c.kind_of.result
     c.in_ok-body.ensures.grows c.requires.stands c.requires.within c.in-Field.ensures.name c.kind_of.ensures.kind c.in-Field.is c.in_ok-body.ensures.body c.in_ok-push.ensures.items
