@@ -1,5 +1,6 @@
 pub mod LineLemmas
 pub mod FieldLemmas
+pub mod RelationLemmas
 pub mod NameLemmas
 pub mod FaultLemmas
 pub mod PieceLemmas
