@@ -11,7 +11,7 @@ EXAMPLES := $(sort $(wildcard examples/*.script))
 help:
 	@echo 'make demo      runs the examples with an unproved quick build, and compares what they print'
 	@echo 'make build     proves the program and leaves it as $(PROGRAM)'
-	@echo 'make test      the whole gate: the examples, every proof from nothing, the must-fail edits, the tests'
+	@echo 'make test      the whole gate: every proof from nothing, the must-fail edits, the tests, the program'
 	@echo 'make install   puts the program below DESTDIR and PREFIX ($(PREFIX))'
 	@echo 'make clean     removes what was made'
 
@@ -36,6 +36,8 @@ $(PROGRAM): $(shell find crates -path '*/out' -prune -o -type f -print) crates.t
 
 test: demo
 	rt ci
+	$(MAKE) build
+	python3 tests/program/run.py $(PROGRAM) examples
 
 install: $(PROGRAM)
 	install -D -m 755 $(PROGRAM) $(DESTDIR)$(PREFIX)/bin/dctrl-cache

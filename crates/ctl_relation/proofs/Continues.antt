@@ -1,12 +1,13 @@
 -- What stands at a place is read up to it, and can be continued.
 use Rattle.std.proofs.Common.{◌≡◌, ◌⊎◌, ℕ, ◌+◌, ◌<◌, Bool, true, false, cond, Option, Some, None, List, [], ◌∷◌, ◌++◌, length, Result, Ok, Err, refl, sym, ap, subst, ◌∙◌, append_assoc, arith, inl, inr}
-use Rattle.std.specs.Prelude.{◌==◌, ◌&&◌}
+use Rattle.std.specs.Prelude.{◌==◌, ◌&&◌, codes}
 use Rattle.std.specs.List.{list_all}
 use Rattle.std.specs.Char.{is_ascii_alphanumeric}
 use Rattle.std.proofs.lemmas.Bool.Decides.{nat_tests}
 use Rattle.ctl_relation.specs.declared.relation_fault.RelationFault.{RelationFault}
 use Rattle.ctl_relation.specs.declared.relation_fault.RelationFault.TheVariants as fault
 use Rattle.ctl_relation.specs.declared.field_kind.FieldKind.{FieldKind}
+use Rattle.ctl_relation.specs.Bytes.{left_parenthesis, right_parenthesis, comma, colon, equals, bar}
 use Rattle.ctl_relation.specs.FieldBytes.{is_whitespace, is_qualifier_byte, is_version_word_byte, rest, Stops}
 use Rattle.ctl_relation.specs.Parts.{AtomParts}
 use Rattle.ctl_relation.specs.Version.{is_upstream_byte, fault_of}
@@ -30,7 +31,7 @@ record Cuts (c : ℕ) : Type 0 where
   blank : is_whitespace c ≡ false
   in_name : is_name_byte c ≡ false
   in_qualifier : is_qualifier_byte c ≡ false
-  colon_other : (c == 58) ≡ false
+  colon_other : (c == colon) ≡ false
 
 front_byte : (blanks left : List ℕ) (c : ℕ) → (blanks ++ c ∷ []) ++ left ≡ blanks ++ c ∷ left
 front_byte blanks left c = append_assoc blanks (c ∷ []) left
@@ -41,7 +42,7 @@ rest_byte blanks left c b h = ap (rest is_whitespace) (front_byte blanks left c)
 stops_byte : (p : ℕ → Bool) (blanks left : List ℕ) (c : ℕ) → ((b : ℕ) → is_whitespace b ≡ true → p b ≡ false) → IsWhitespace blanks → p c ≡ false → Stops p ((blanks ++ c ∷ []) ++ left)
 stops_byte p blanks left c f b h = let P : List ℕ → Type 0 = Stops p in subst P (sym (front_byte blanks left c)) (stops_blanks p blanks (c ∷ left) f b h)
 
-no_colon : (kind : FieldKind) (text : List ℕ) → Stops (λ b. b == 58) text → name_next kind text ≡ bracket_next kind (rest is_whitespace text)
+no_colon : (kind : FieldKind) (text : List ℕ) → Stops (λ b. b == colon) text → name_next kind text ≡ bracket_next kind (rest is_whitespace text)
 no_colon kind [] s = refl
 no_colon kind (b ∷ text) s = ap (λ z. cond z (Moves QualifierDue text) (bracket_next kind (rest is_whitespace (b ∷ text)))) s
 
@@ -52,7 +53,7 @@ Leads kind p text n = IsWhole p text × (next kind p text ≡ n)
 name_leads : (kind : FieldKind) (blanks left : List ℕ) (c : ℕ) → IsWhitespace blanks → Cuts c → Leads kind AfterName ((blanks ++ c ∷ []) ++ left) (bracket_next kind (c ∷ left))
 name_leads kind blanks left c b h = (
   stops_byte is_name_byte blanks left c blank_no_name b h.in_name,
-  no_colon kind ((blanks ++ c ∷ []) ++ left) (stops_byte (λ b. b == 58) blanks left c blank_no_colon b h.colon_other) ∙ ap (bracket_next kind) (rest_byte blanks left c b h.blank),
+  no_colon kind ((blanks ++ c ∷ []) ++ left) (stops_byte (λ b. b == colon) blanks left c blank_no_colon b h.colon_other) ∙ ap (bracket_next kind) (rest_byte blanks left c b h.blank),
 )
 
 qualifier_leads : (kind : FieldKind) (blanks left : List ℕ) (c : ℕ) → IsWhitespace blanks → Cuts c → Leads kind AfterQualifier ((blanks ++ c ∷ []) ++ left) (bracket_next kind (c ∷ left))
@@ -61,45 +62,45 @@ qualifier_leads kind blanks left c b h = (stops_byte is_qualifier_byte blanks le
 atom_leads : (kind : FieldKind) (blanks left : List ℕ) (c : ℕ) → IsWhitespace blanks → Cuts c → Leads kind AfterAtom ((blanks ++ c ∷ []) ++ left) (end_next kind (c ∷ left))
 atom_leads kind blanks left c b h = (tt, ap (end_next kind) (rest_byte blanks left c b h.blank))
 
-comma_leads : (kind : FieldKind) (p : Place) (blanks left : List ℕ) → takes_comma p ≡ true → IsWhitespace blanks → Leads kind p ((blanks ++ 44 ∷ []) ++ left) (Moves GroupDue left)
-comma_leads kind GroupDue blanks left c b = (tt, ap group_next (rest_byte blanks left 44 b refl))
+comma_leads : (kind : FieldKind) (p : Place) (blanks left : List ℕ) → takes_comma p ≡ true → IsWhitespace blanks → Leads kind p ((blanks ++ comma ∷ []) ++ left) (Moves GroupDue left)
+comma_leads kind GroupDue blanks left c b = (tt, ap group_next (rest_byte blanks left comma b refl))
 comma_leads kind AtomDue blanks left c b = absurd cc
-comma_leads kind AfterName blanks left c b = name_leads kind blanks left 44 b (record { blank = refl; in_name = refl; in_qualifier = refl; colon_other = refl })
+comma_leads kind AfterName blanks left c b = name_leads kind blanks left comma b (record { blank = refl; in_name = refl; in_qualifier = refl; colon_other = refl })
 comma_leads kind QualifierDue blanks left c b = absurd cc
-comma_leads kind AfterQualifier blanks left c b = qualifier_leads kind blanks left 44 b (record { blank = refl; in_name = refl; in_qualifier = refl; colon_other = refl })
+comma_leads kind AfterQualifier blanks left c b = qualifier_leads kind blanks left comma b (record { blank = refl; in_name = refl; in_qualifier = refl; colon_other = refl })
 comma_leads kind OperatorDue blanks left c b = absurd cc
 comma_leads kind (AfterSign d) blanks left c b = absurd cc
 comma_leads kind VersionDue blanks left c b = absurd cc
 comma_leads kind CloseDue blanks left c b = absurd cc
-comma_leads kind AfterAtom blanks left c b = atom_leads kind blanks left 44 b (record { blank = refl; in_name = refl; in_qualifier = refl; colon_other = refl })
+comma_leads kind AfterAtom blanks left c b = atom_leads kind blanks left comma b (record { blank = refl; in_name = refl; in_qualifier = refl; colon_other = refl })
 
-bar_leads : (kind : FieldKind) (p : Place) (blanks left : List ℕ) → takes_bar p ≡ true → has_alternatives kind ≡ true → IsWhitespace blanks → Leads kind p ((blanks ++ 124 ∷ []) ++ left) (Moves AtomDue left)
+bar_leads : (kind : FieldKind) (p : Place) (blanks left : List ℕ) → takes_bar p ≡ true → has_alternatives kind ≡ true → IsWhitespace blanks → Leads kind p ((blanks ++ bar ∷ []) ++ left) (Moves AtomDue left)
 bar_leads kind p blanks left c a b = go p c
   where
-    bar_cuts : Cuts 124
+    bar_cuts : Cuts bar
     bar_cuts = record { blank = refl; in_name = refl; in_qualifier = refl; colon_other = refl }
 
     allowed : cond (has_alternatives kind) (Moves AtomDue left) (Ends (Some fault.Alternative)) ≡ Moves AtomDue left
     allowed = ap (λ z. cond z (Moves AtomDue left) (Ends (Some fault.Alternative))) a
 
-    go : (p : Place) → takes_bar p ≡ true → Leads kind p ((blanks ++ 124 ∷ []) ++ left) (Moves AtomDue left)
+    go : (p : Place) → takes_bar p ≡ true → Leads kind p ((blanks ++ bar ∷ []) ++ left) (Moves AtomDue left)
     go GroupDue c = absurd cc
     go AtomDue c = absurd cc
-    go AfterName c = let l = name_leads kind blanks left 124 b bar_cuts in (l.0, l.1 ∙ allowed)
+    go AfterName c = let l = name_leads kind blanks left bar b bar_cuts in (l.0, l.1 ∙ allowed)
     go QualifierDue c = absurd cc
-    go AfterQualifier c = let l = qualifier_leads kind blanks left 124 b bar_cuts in (l.0, l.1 ∙ allowed)
+    go AfterQualifier c = let l = qualifier_leads kind blanks left bar b bar_cuts in (l.0, l.1 ∙ allowed)
     go OperatorDue c = absurd cc
     go (AfterSign d) c = absurd cc
     go VersionDue c = absurd cc
     go CloseDue c = absurd cc
-    go AfterAtom c = let l = atom_leads kind blanks left 124 b bar_cuts in (l.0, l.1 ∙ allowed)
+    go AfterAtom c = let l = atom_leads kind blanks left bar b bar_cuts in (l.0, l.1 ∙ allowed)
 
-bracket_leads : (kind : FieldKind) (p : Place) (blanks left : List ℕ) → takes_bracket p ≡ true → IsWhitespace blanks → Leads kind p ((blanks ++ 40 ∷ []) ++ left) (Moves OperatorDue left)
+bracket_leads : (kind : FieldKind) (p : Place) (blanks left : List ℕ) → takes_bracket p ≡ true → IsWhitespace blanks → Leads kind p ((blanks ++ left_parenthesis ∷ []) ++ left) (Moves OperatorDue left)
 bracket_leads kind GroupDue blanks left c b = absurd cc
 bracket_leads kind AtomDue blanks left c b = absurd cc
-bracket_leads kind AfterName blanks left c b = name_leads kind blanks left 40 b (record { blank = refl; in_name = refl; in_qualifier = refl; colon_other = refl })
+bracket_leads kind AfterName blanks left c b = name_leads kind blanks left left_parenthesis b (record { blank = refl; in_name = refl; in_qualifier = refl; colon_other = refl })
 bracket_leads kind QualifierDue blanks left c b = absurd cc
-bracket_leads kind AfterQualifier blanks left c b = qualifier_leads kind blanks left 40 b (record { blank = refl; in_name = refl; in_qualifier = refl; colon_other = refl })
+bracket_leads kind AfterQualifier blanks left c b = qualifier_leads kind blanks left left_parenthesis b (record { blank = refl; in_name = refl; in_qualifier = refl; colon_other = refl })
 bracket_leads kind OperatorDue blanks left c b = absurd cc
 bracket_leads kind (AfterSign d) blanks left c b = absurd cc
 bracket_leads kind VersionDue blanks left c b = absurd cc
@@ -151,7 +152,7 @@ qualifiers_lead kind q left h a s = (
 )
 
 -- an operator
-sign_facts : (b : ℕ) → is_sign b ≡ true → (is_whitespace b ≡ false) × ((b == 61) ≡ false) × (is_operator_byte b ≡ true)
+sign_facts : (b : ℕ) → is_sign b ≡ true → (is_whitespace b ≡ false) × ((b == equals) ≡ false) × (is_operator_byte b ≡ true)
 sign_facts b h = (grind (arith, nat_tests), grind (arith, nat_tests), grind (arith, nat_tests))
 
 signs_lead : (kind : FieldKind) (blanks left : List ℕ) (b : ℕ) → IsWhitespace blanks → is_sign b ≡ true → is_provides kind ≡ false → Leads kind OperatorDue ((blanks ++ b ∷ []) ++ left) (Moves (AfterSign b) left)
@@ -218,8 +219,8 @@ versions_lead kind p blanks v left c i b h s = go p c i
     go CloseDue c i = absurd cc
     go AfterAtom c i = absurd cc
 
-close_leads : (kind : FieldKind) (blanks left : List ℕ) → IsWhitespace blanks → Leads kind CloseDue ((blanks ++ 41 ∷ []) ++ left) (Moves AfterAtom left)
-close_leads kind blanks left b = (stops_byte is_version_word_byte blanks left 41 blank_ends_version b refl, ap (λ y. next_of AfterAtom (close_at y)) (rest_byte blanks left 41 b refl))
+close_leads : (kind : FieldKind) (blanks left : List ℕ) → IsWhitespace blanks → Leads kind CloseDue ((blanks ++ right_parenthesis ∷ []) ++ left) (Moves AfterAtom left)
+close_leads kind blanks left b = (stops_byte is_version_word_byte blanks left right_parenthesis blank_ends_version b refl, ap (λ y. next_of AfterAtom (close_at y)) (rest_byte blanks left right_parenthesis b refl))
 
 -- ---- what stands at a place is read up to it
 
@@ -235,23 +236,23 @@ pub stands_lead : (kind : FieldKind) (holds : Place → List ℕ → Type 0) →
 stands_lead kind holds back read p at_start left w h = h
 stands_lead kind holds back read p (comma_read before blanks q s c b) left w h =
     let l = comma_leads kind q blanks left c b in
-    joined holds before (blanks ++ 44 ∷ []) left (stands_lead kind holds back before q s ((blanks ++ 44 ∷ []) ++ left) l.0 (back q GroupDue ((blanks ++ 44 ∷ []) ++ left) left l.1 h))
+    joined holds before (blanks ++ comma ∷ []) left (stands_lead kind holds back before q s ((blanks ++ comma ∷ []) ++ left) l.0 (back q GroupDue ((blanks ++ comma ∷ []) ++ left) left l.1 h))
 stands_lead kind holds back read p (bar_read before blanks q s c a b) left w h =
     let l = bar_leads kind q blanks left c a b in
-    joined holds before (blanks ++ 124 ∷ []) left (stands_lead kind holds back before q s ((blanks ++ 124 ∷ []) ++ left) l.0 (back q AtomDue ((blanks ++ 124 ∷ []) ++ left) left l.1 h))
+    joined holds before (blanks ++ bar ∷ []) left (stands_lead kind holds back before q s ((blanks ++ bar ∷ []) ++ left) l.0 (back q AtomDue ((blanks ++ bar ∷ []) ++ left) left l.1 h))
 stands_lead kind holds back read p (name_read before blanks word q s c b n) left w h =
     let l = names_lead kind q blanks word left c b n w in
     joined holds before (blanks ++ word) left (stands_lead kind holds back before q s ((blanks ++ word) ++ left) l.0 (back q AfterName ((blanks ++ word) ++ left) left l.1 h))
 stands_lead kind holds back read p (colon_read before s) left w h =
-    joined holds before (58 ∷ []) left (stands_lead kind holds back before AfterName s ((58 ∷ []) ++ left) refl (back AfterName QualifierDue ((58 ∷ []) ++ left) left refl h))
+    joined holds before (colon ∷ []) left (stands_lead kind holds back before AfterName s ((colon ∷ []) ++ left) refl (back AfterName QualifierDue ((colon ∷ []) ++ left) left refl h))
 stands_lead kind holds back read p (qualifier_read before word s n a) left w h =
     let l = qualifiers_lead kind word left n a w in
     joined holds before word left (stands_lead kind holds back before QualifierDue s (word ++ left) l.0 (back QualifierDue AfterQualifier (word ++ left) left l.1 h))
 stands_lead kind holds back read p (bracket_read before blanks q s c b) left w h =
     let l = bracket_leads kind q blanks left c b in
-    joined holds before (blanks ++ 40 ∷ []) left (stands_lead kind holds back before q s ((blanks ++ 40 ∷ []) ++ left) l.0 (back q OperatorDue ((blanks ++ 40 ∷ []) ++ left) left l.1 h))
+    joined holds before (blanks ++ left_parenthesis ∷ []) left (stands_lead kind holds back before q s ((blanks ++ left_parenthesis ∷ []) ++ left) l.0 (back q OperatorDue ((blanks ++ left_parenthesis ∷ []) ++ left) left l.1 h))
 stands_lead kind holds back read p (equal_read before blanks s b) left w h =
-    joined holds before (blanks ++ 61 ∷ []) left (stands_lead kind holds back before OperatorDue s ((blanks ++ 61 ∷ []) ++ left) tt (back OperatorDue VersionDue ((blanks ++ 61 ∷ []) ++ left) left (ap (operator_next kind) (rest_byte blanks left 61 b refl)) h))
+    joined holds before (blanks ++ equals ∷ []) left (stands_lead kind holds back before OperatorDue s ((blanks ++ equals ∷ []) ++ left) tt (back OperatorDue VersionDue ((blanks ++ equals ∷ []) ++ left) left (ap (operator_next kind) (rest_byte blanks left equals b refl)) h))
 stands_lead kind holds back read p (sign_read before blanks d s b i n) left w h =
     let l = signs_lead kind blanks left d b i n in
     joined holds before (blanks ++ d ∷ []) left (stands_lead kind holds back before OperatorDue s ((blanks ++ d ∷ []) ++ left) l.0 (back OperatorDue (AfterSign d) ((blanks ++ d ∷ []) ++ left) left l.1 h))
@@ -262,7 +263,7 @@ stands_lead kind holds back read p (version_read before blanks v q s c b n) left
     joined holds before (blanks ++ v) left (stands_lead kind holds back before q s ((blanks ++ v) ++ left) l.0 (back q CloseDue ((blanks ++ v) ++ left) left l.1 h))
 stands_lead kind holds back read p (close_read before blanks s b) left w h =
     let l = close_leads kind blanks left b in
-    joined holds before (blanks ++ 41 ∷ []) left (stands_lead kind holds back before CloseDue s ((blanks ++ 41 ∷ []) ++ left) l.0 (back CloseDue AfterAtom ((blanks ++ 41 ∷ []) ++ left) left l.1 h))
+    joined holds before (blanks ++ right_parenthesis ∷ []) left (stands_lead kind holds back before CloseDue s ((blanks ++ right_parenthesis ∷ []) ++ left) l.0 (back CloseDue AfterAtom ((blanks ++ right_parenthesis ∷ []) ++ left) left l.1 h))
 
 stands_runs : (kind : FieldKind) (read : List ℕ) (p : Place) → StandsAt kind read p → (left : List ℕ) (r : Option RelationFault) → IsWhole p left → Runs kind p left r → Runs kind GroupDue (read ++ left) r
 stands_runs kind read p s left r w more = stands_lead kind (λ q t. Runs kind q t r) (λ q x l t e runs. moves q l x t r e runs) read p s left w more
@@ -293,22 +294,22 @@ record Ending (kind : FieldKind) (p : Place) : Type 0 where
 at_end : (kind : FieldKind) (p : Place) → next kind p [] ≡ Ends None → IsWhole p [] → Ending kind p
 at_end kind p e w = record { more = []; whole = w; runs = ends p [] None e }
 
-close_runs : (kind : FieldKind) → Runs kind CloseDue (41 ∷ []) None
-close_runs kind = moves CloseDue (41 ∷ []) AfterAtom [] None refl (ends AfterAtom [] None refl)
+close_runs : (kind : FieldKind) → Runs kind CloseDue (right_parenthesis ∷ []) None
+close_runs kind = moves CloseDue (right_parenthesis ∷ []) AfterAtom [] None refl (ends AfterAtom [] None refl)
 
-version_runs : (kind : FieldKind) → Runs kind VersionDue (49 ∷ 41 ∷ []) None
-version_runs kind = moves VersionDue (49 ∷ 41 ∷ []) CloseDue (41 ∷ []) None refl (close_runs kind)
+version_runs : (kind : FieldKind) → Runs kind VersionDue (codes "1)") None
+version_runs kind = moves VersionDue (codes "1)") CloseDue (right_parenthesis ∷ []) None refl (close_runs kind)
 
 ending : (kind : FieldKind) (p : Place) → Signs p → Ending kind p
 ending kind GroupDue i = at_end kind GroupDue refl tt
-ending kind AtomDue i = record { more = 97 ∷ []; whole = tt; runs = moves AtomDue (97 ∷ []) AfterName [] None refl (ends AfterName [] None refl) }
+ending kind AtomDue i = record { more = codes "a"; whole = tt; runs = moves AtomDue (codes "a") AfterName [] None refl (ends AfterName [] None refl) }
 ending kind AfterName i = at_end kind AfterName refl tt
-ending kind QualifierDue i = record { more = 97 ∷ []; whole = tt; runs = moves QualifierDue (97 ∷ []) AfterQualifier [] None refl (ends AfterQualifier [] None refl) }
+ending kind QualifierDue i = record { more = codes "a"; whole = tt; runs = moves QualifierDue (codes "a") AfterQualifier [] None refl (ends AfterQualifier [] None refl) }
 ending kind AfterQualifier i = at_end kind AfterQualifier refl tt
-ending kind OperatorDue i = record { more = 61 ∷ 49 ∷ 41 ∷ []; whole = tt; runs = moves OperatorDue (61 ∷ 49 ∷ 41 ∷ []) VersionDue (49 ∷ 41 ∷ []) None refl (version_runs kind) }
-ending kind (AfterSign b) i = record { more = 49 ∷ 41 ∷ []; whole = tt; runs = moves (AfterSign b) (49 ∷ 41 ∷ []) CloseDue (41 ∷ []) None (sign_next_version b (49 ∷ 41 ∷ []) i refl) (close_runs kind) }
-ending kind VersionDue i = record { more = 49 ∷ 41 ∷ []; whole = tt; runs = version_runs kind }
-ending kind CloseDue i = record { more = 41 ∷ []; whole = refl; runs = close_runs kind }
+ending kind OperatorDue i = record { more = codes "=1)"; whole = tt; runs = moves OperatorDue (codes "=1)") VersionDue (codes "1)") None refl (version_runs kind) }
+ending kind (AfterSign b) i = record { more = codes "1)"; whole = tt; runs = moves (AfterSign b) (codes "1)") CloseDue (right_parenthesis ∷ []) None (sign_next_version b (codes "1)") i refl) (close_runs kind) }
+ending kind VersionDue i = record { more = codes "1)"; whole = tt; runs = version_runs kind }
+ending kind CloseDue i = record { more = right_parenthesis ∷ []; whole = refl; runs = close_runs kind }
 ending kind AfterAtom i = at_end kind AfterAtom refl tt
 
 -- no fault, so groups

@@ -12,7 +12,7 @@ use Rattle.ctl_relation.specs.declared.version_fault.VersionFault.TheVariants as
 use Rattle.ctl_relation.specs.Bytes.{hyphen, colon}
 use Rattle.ctl_relation.specs.Version.{Parts, parts_of, text_parts, body_parts, is_epoch, greatest_epoch, fault_of, fault_of_parts, parts_fault, split_first, split_last}
 use Rattle.ctl_relation.proofs.CutLemmas.{first_at}
-use Rattle.ctl_relation.proofs.VersionTextLaws.{first_sides, split_first-sides}
+use Rattle.ctl_relation.proofs.VersionTextLaws.{fails, first_sides, split_first-sides}
 
 -- ---- an epoch is made of digits
 
@@ -24,7 +24,7 @@ list_all-AllDigits [] h = tt
 list_all-AllDigits (b ∷ text) h =
     (digit-below b (first_so (is_ascii_digit b) (list_all is_ascii_digit text) h), list_all-AllDigits text (second_so (is_ascii_digit b) (list_all is_ascii_digit text) h))
 
-is_epoch-digits : (digits : List ℕ) → is_epoch (Some digits) ≡ true → list_all is_ascii_digit digits ≡ true
+pub is_epoch-digits : (digits : List ℕ) → is_epoch (Some digits) ≡ true → list_all is_ascii_digit digits ≡ true
 is_epoch-digits digits h =
     let small = nat_le (digits_value 10 digits) greatest_epoch in
     first_so (list_all is_ascii_digit digits) small (second_so (not (length digits == 0)) (list_all is_ascii_digit digits && small) h)
@@ -35,15 +35,12 @@ is_epoch-AllDigits (Some digits) h = list_all-AllDigits digits (is_epoch-digits 
 
 -- ---- so is that of a version
 
-abbrev fails : VersionFault → Option VersionFault
-fails found = Some found
-
 -- a test that a version passes, and the tests behind it
-passes : (b : Bool) (found : VersionFault) (later : Option VersionFault) → cond b (fails found) later ≡ None → (b ≡ false) × (later ≡ None)
+pub passes : (b : Bool) (found : VersionFault) (later : Option VersionFault) → cond b (fails found) later ≡ None → (b ≡ false) × (later ≡ None)
 passes true found later h = absurd cc
 passes false found later h = (refl, h)
 
-not_false : (b : Bool) → not b ≡ false → b ≡ true
+pub not_false : (b : Bool) → not b ≡ false → b ≡ true
 not_false true h = refl
 not_false false h = absurd cc
 

@@ -7,6 +7,7 @@ use Rattle.std.proofs.lemmas.Bool.Decides.{nat_tests}
 use Rattle.ctl_relation.specs.declared.relation_fault.RelationFault.{RelationFault}
 use Rattle.ctl_relation.specs.declared.relation_fault.RelationFault.TheVariants as fault
 use Rattle.ctl_relation.specs.declared.field_kind.FieldKind.{FieldKind}
+use Rattle.ctl_relation.specs.Bytes.{left_parenthesis, right_parenthesis, comma, colon, equals, bar}
 use Rattle.ctl_relation.specs.FieldBytes.{is_whitespace, is_qualifier_byte, is_version_word_byte, run, rest, Stops}
 use Rattle.ctl_relation.specs.Parts.{AtomParts}
 use Rattle.ctl_relation.specs.Version.{fault_of}
@@ -81,11 +82,11 @@ name_is (b ∷ text) = go (is_ascii_alphanumeric b) ∙ ap (λ u. ended (next_be
 
 group_is : (y : List ℕ) → group_fault y ≡ ended (group_next y)
 group_is [] = refl
-group_is (b ∷ text) = either (b == 44) GroupDue text (name_fault (b ∷ text)) (next_behind AfterName (name_at (b ∷ text))) (name_is (b ∷ text))
+group_is (b ∷ text) = either (b == comma) GroupDue text (name_fault (b ∷ text)) (next_behind AfterName (name_at (b ∷ text))) (name_is (b ∷ text))
 
 end_is : (kind : FieldKind) (y : List ℕ) → end_fault kind y ≡ ended (end_next kind y)
 end_is kind [] = refl
-end_is kind (b ∷ text) = either (b == 44) GroupDue text _ _ (go (b == 124) (has_alternatives kind))
+end_is kind (b ∷ text) = either (b == comma) GroupDue text _ _ (go (b == bar) (has_alternatives kind))
   where
     go : (u v : Bool) → cond u (cond v None (Some fault.Alternative)) (Some fault.Name) ≡ ended (cond u (cond v (Moves AtomDue text) (Ends (Some fault.Alternative))) (Ends (Some fault.Name)))
     go true true = refl
@@ -94,11 +95,11 @@ end_is kind (b ∷ text) = either (b == 44) GroupDue text _ _ (go (b == 124) (ha
 
 bracket_is : (kind : FieldKind) (y : List ℕ) → bracket_fault kind y ≡ ended (bracket_next kind y)
 bracket_is kind [] = refl
-bracket_is kind (b ∷ text) = either (b == 40) OperatorDue text _ _ (end_is kind (b ∷ text))
+bracket_is kind (b ∷ text) = either (b == left_parenthesis) OperatorDue text _ _ (end_is kind (b ∷ text))
 
 operator_is : (kind : FieldKind) (y : List ℕ) → operator_fault kind y ≡ ended (operator_next kind y)
 operator_is kind [] = refl
-operator_is kind (b ∷ text) = either (b == 61) VersionDue text _ _ (go (is_sign b) (is_provides kind))
+operator_is kind (b ∷ text) = either (b == equals) VersionDue text _ _ (go (is_sign b) (is_provides kind))
   where
     go : (u v : Bool) → cond u (cond v (Some fault.ProvidesOperator) None) (Some fault.Operator) ≡ ended (cond u (cond v (Ends (Some fault.ProvidesOperator)) (Moves (AfterSign b) text)) (Ends (Some fault.Operator)))
     go true true = refl
@@ -114,7 +115,7 @@ version_is y = go (is_none (fault_of (run is_version_word_byte y)))
 
 close_is : (y : List ℕ) → close_fault y ≡ ended (next_of AfterAtom (close_at y))
 close_is [] = refl
-close_is (b ∷ text) = go (b == 41)
+close_is (b ∷ text) = go (b == right_parenthesis)
   where
     go : (u : Bool) → cond u None (Some fault.Close) ≡ ended (next_of AfterAtom (cond u (Ok text) (Err fault.Close)))
     go true = refl
@@ -124,7 +125,7 @@ pub due_is : (kind : FieldKind) (p : Place) (left : List ℕ) → IsWhole p left
 due_is kind GroupDue left w = group_is (rest is_whitespace left)
 due_is kind AtomDue left w = name_is (rest is_whitespace left)
 due_is kind AfterName [] w = refl
-due_is kind AfterName (b ∷ text) w = ap (λ u. cond u None (cond (b == 58) None (bracket_fault kind (rest is_whitespace (b ∷ text))))) w ∙ either (b == 58) QualifierDue text _ _ (bracket_is kind (rest is_whitespace (b ∷ text)))
+due_is kind AfterName (b ∷ text) w = ap (λ u. cond u None (cond (b == colon) None (bracket_fault kind (rest is_whitespace (b ∷ text))))) w ∙ either (b == colon) QualifierDue text _ _ (bracket_is kind (rest is_whitespace (b ∷ text)))
 due_is kind QualifierDue [] w = refl
 due_is kind QualifierDue (b ∷ text) w = go (is_qualifier_byte b) refl
   where
@@ -182,14 +183,14 @@ end_out : (kind : FieldKind) (p : Place) (left y : List ℕ) → takes_comma p �
 end_out kind p left [] c d e = tt
 end_out kind p left (b ∷ t) c d e =
     let P : Next → Type 0 = Outcome kind p left in
-    on_test P (b == 44) _ _ (λ h. (run is_whitespace left ++ 44 ∷ [], byte_token left b 44 t e (eqb-true b 44 h), (λ read s. comma_read read (run is_whitespace left) p s c (run-passes is_whitespace left)), tt))
-    (λ n. on_test P (b == 124) _ _ (λ h. on_test P (has_alternatives kind) _ _ (λ a. (run is_whitespace left ++ 124 ∷ [], byte_token left b 124 t e (eqb-true b 124 h), (λ read s. bar_read read (run is_whitespace left) p s d a (run-passes is_whitespace left)), tt)) (λ a. tt)) (λ m. tt))
+    on_test P (b == comma) _ _ (λ h. (run is_whitespace left ++ comma ∷ [], byte_token left b comma t e (eqb-true b comma h), (λ read s. comma_read read (run is_whitespace left) p s c (run-passes is_whitespace left)), tt))
+    (λ n. on_test P (b == bar) _ _ (λ h. on_test P (has_alternatives kind) _ _ (λ a. (run is_whitespace left ++ bar ∷ [], byte_token left b bar t e (eqb-true b bar h), (λ read s. bar_read read (run is_whitespace left) p s d a (run-passes is_whitespace left)), tt)) (λ a. tt)) (λ m. tt))
 
 bracket_out : (kind : FieldKind) (p : Place) (left y : List ℕ) → takes_comma p ≡ true → takes_bar p ≡ true → takes_bracket p ≡ true → rest is_whitespace left ≡ y → Outcome kind p left (bracket_next kind y)
 bracket_out kind p left [] c d a e = tt
 bracket_out kind p left (b ∷ t) c d a e =
     let P : Next → Type 0 = Outcome kind p left in
-    on_test P (b == 40) _ _ (λ h. (run is_whitespace left ++ 40 ∷ [], byte_token left b 40 t e (eqb-true b 40 h), (λ read s. bracket_read read (run is_whitespace left) p s a (run-passes is_whitespace left)), tt))
+    on_test P (b == left_parenthesis) _ _ (λ h. (run is_whitespace left ++ left_parenthesis ∷ [], byte_token left b left_parenthesis t e (eqb-true b left_parenthesis h), (λ read s. bracket_read read (run is_whitespace left) p s a (run-passes is_whitespace left)), tt))
     (λ n. end_out kind p left (b ∷ t) c d e)
 
 name_out : (kind : FieldKind) (p : Place) (left y : List ℕ) → takes_name p ≡ true → rest is_whitespace left ≡ y → Outcome kind p left (next_behind AfterName (name_at y))
@@ -202,14 +203,14 @@ group_out : (kind : FieldKind) (left y : List ℕ) → rest is_whitespace left �
 group_out kind left [] e = tt
 group_out kind left (b ∷ t) e =
     let P : Next → Type 0 = Outcome kind GroupDue left in
-    on_test P (b == 44) _ _ (λ h. (run is_whitespace left ++ 44 ∷ [], byte_token left b 44 t e (eqb-true b 44 h), (λ read s. comma_read read (run is_whitespace left) GroupDue s refl (run-passes is_whitespace left)), tt))
+    on_test P (b == comma) _ _ (λ h. (run is_whitespace left ++ comma ∷ [], byte_token left b comma t e (eqb-true b comma h), (λ read s. comma_read read (run is_whitespace left) GroupDue s refl (run-passes is_whitespace left)), tt))
     (λ n. name_out kind GroupDue left (b ∷ t) refl e)
 
 operator_out : (kind : FieldKind) (left y : List ℕ) → rest is_whitespace left ≡ y → Outcome kind OperatorDue left (operator_next kind y)
 operator_out kind left [] e = tt
 operator_out kind left (b ∷ t) e =
     let P : Next → Type 0 = Outcome kind OperatorDue left in
-    on_test P (b == 61) _ _ (λ h. (run is_whitespace left ++ 61 ∷ [], byte_token left b 61 t e (eqb-true b 61 h), (λ read s. equal_read read (run is_whitespace left) s (run-passes is_whitespace left)), tt))
+    on_test P (b == equals) _ _ (λ h. (run is_whitespace left ++ equals ∷ [], byte_token left b equals t e (eqb-true b equals h), (λ read s. equal_read read (run is_whitespace left) s (run-passes is_whitespace left)), tt))
     (λ n. on_test P (is_sign b) _ _ (λ h. on_test P (is_provides kind) _ _ (λ a. tt) (λ a. (run is_whitespace left ++ b ∷ [], byte_token left b b t e refl, (λ read s. sign_read read (run is_whitespace left) b s (run-passes is_whitespace left) h a), tt))) (λ m. tt))
 
 version_out : (kind : FieldKind) (p : Place) (left : List ℕ) → takes_version p ≡ true → Outcome kind p left (version_next left)
@@ -227,7 +228,7 @@ close_out : (kind : FieldKind) (left y : List ℕ) → rest is_whitespace left �
 close_out kind left [] e = tt
 close_out kind left (b ∷ t) e =
     let P : Result (List ℕ) RelationFault → Type 0 = λ r. Outcome kind CloseDue left (next_of AfterAtom r) in
-    on_test P (b == 41) _ _ (λ h. (run is_whitespace left ++ 41 ∷ [], byte_token left b 41 t e (eqb-true b 41 h), (λ read s. close_read read (run is_whitespace left) s (run-passes is_whitespace left)), tt)) (λ n. tt)
+    on_test P (b == right_parenthesis) _ _ (λ h. (run is_whitespace left ++ right_parenthesis ∷ [], byte_token left b right_parenthesis t e (eqb-true b right_parenthesis h), (λ read s. close_read read (run is_whitespace left) s (run-passes is_whitespace left)), tt)) (λ n. tt)
 
 qualifier_some : (q : List ℕ) → (length q == 0) ≡ false → 0 < length q
 qualifier_some q h = grind (arith, nat_tests)
@@ -238,7 +239,7 @@ outcome kind AtomDue left = name_out kind AtomDue left (rest is_whitespace left)
 outcome kind AfterName [] = tt
 outcome kind AfterName (b ∷ t) =
     let P : Next → Type 0 = Outcome kind AfterName (b ∷ t) in
-    on_test P (b == 58) _ _ (λ h. (58 ∷ [], ap (λ n. n ∷ t) (eqb-true b 58 h), (λ read s. colon_read read s), tt)) (λ n. bracket_out kind AfterName (b ∷ t) (rest is_whitespace (b ∷ t)) refl refl refl refl)
+    on_test P (b == colon) _ _ (λ h. (colon ∷ [], ap (λ n. n ∷ t) (eqb-true b colon h), (λ read s. colon_read read s), tt)) (λ n. bracket_out kind AfterName (b ∷ t) (rest is_whitespace (b ∷ t)) refl refl refl refl)
 outcome kind QualifierDue left =
     let P : Next → Type 0 = Outcome kind QualifierDue left in
     let q : List ℕ = run is_qualifier_byte left in
@@ -311,32 +312,32 @@ name_says (b ∷ text) = one_of (is_ascii_alphanumeric b) _ _ nothing_said says_
 
 group_says : (y : List ℕ) → NotMemory (group_fault y)
 group_says [] = nothing_said
-group_says (b ∷ text) = one_of (b == 44) _ _ nothing_said (name_says (b ∷ text))
+group_says (b ∷ text) = one_of (b == comma) _ _ nothing_said (name_says (b ∷ text))
 
 end_says : (kind : FieldKind) (y : List ℕ) → NotMemory (end_fault kind y)
 end_says kind [] = nothing_said
-end_says kind (b ∷ text) = one_of (b == 44) _ _ nothing_said (one_of (b == 124) _ _ (one_of (has_alternatives kind) _ _ nothing_said says_alternative) says_name)
+end_says kind (b ∷ text) = one_of (b == comma) _ _ nothing_said (one_of (b == bar) _ _ (one_of (has_alternatives kind) _ _ nothing_said says_alternative) says_name)
 
 bracket_says : (kind : FieldKind) (y : List ℕ) → NotMemory (bracket_fault kind y)
 bracket_says kind [] = nothing_said
-bracket_says kind (b ∷ text) = one_of (b == 40) _ _ nothing_said (end_says kind (b ∷ text))
+bracket_says kind (b ∷ text) = one_of (b == left_parenthesis) _ _ nothing_said (end_says kind (b ∷ text))
 
 operator_says : (kind : FieldKind) (y : List ℕ) → NotMemory (operator_fault kind y)
 operator_says kind [] = says_operator
-operator_says kind (b ∷ text) = one_of (b == 61) _ _ nothing_said (one_of (is_sign b) _ _ (one_of (is_provides kind) _ _ says_provides nothing_said) says_operator)
+operator_says kind (b ∷ text) = one_of (b == equals) _ _ nothing_said (one_of (is_sign b) _ _ (one_of (is_provides kind) _ _ says_provides nothing_said) says_operator)
 
 version_says : (y : List ℕ) → NotMemory (version_fault y)
 version_says y = one_of (is_none (fault_of (run is_version_word_byte y))) _ _ nothing_said says_version
 
 close_says : (y : List ℕ) → NotMemory (close_fault y)
 close_says [] = says_close
-close_says (b ∷ text) = one_of (b == 41) _ _ nothing_said says_close
+close_says (b ∷ text) = one_of (b == right_parenthesis) _ _ nothing_said says_close
 
 due_says : (kind : FieldKind) (p : Place) (left : List ℕ) → NotMemory (due_fault kind p left)
 due_says kind GroupDue left = group_says (rest is_whitespace left)
 due_says kind AtomDue left = name_says (rest is_whitespace left)
 due_says kind AfterName [] = nothing_said
-due_says kind AfterName (b ∷ text) = one_of (is_name_byte b) _ _ nothing_said (one_of (b == 58) _ _ nothing_said (bracket_says kind (rest is_whitespace (b ∷ text))))
+due_says kind AfterName (b ∷ text) = one_of (is_name_byte b) _ _ nothing_said (one_of (b == colon) _ _ nothing_said (bracket_says kind (rest is_whitespace (b ∷ text))))
 due_says kind QualifierDue [] = says_name
 due_says kind QualifierDue (b ∷ text) = one_of (is_qualifier_byte b) _ _ nothing_said says_name
 due_says kind AfterQualifier [] = nothing_said

@@ -7,6 +7,7 @@ use Rattle.std.proofs.lemmas.Bool.Decides.{nat_tests}
 use Rattle.ctl_relation.specs.declared.relation_fault.RelationFault.{RelationFault}
 use Rattle.ctl_relation.specs.declared.relation_fault.RelationFault.TheVariants as fault
 use Rattle.ctl_relation.specs.declared.field_kind.FieldKind.{FieldKind}
+use Rattle.ctl_relation.specs.Bytes.{comma, bar}
 use Rattle.ctl_relation.specs.FieldBytes.{is_whitespace, rest, Stops}
 use Rattle.ctl_relation.specs.Parts.{AtomParts}
 use Rattle.ctl_relation.specs.Names.{is_name}
@@ -17,22 +18,22 @@ use Rattle.ctl_relation.proofs.AtomAgain.{taken, step, atom_again}
 
 -- a group goes up to a comma or the end
 abbrev GroupEnd : List ℕ → Type 0
-GroupEnd after = (after ≡ []) ⊎ ((more : List ℕ) × (after ≡ 44 ∷ more))
+GroupEnd after = (after ≡ []) ⊎ ((more : List ℕ) × (after ≡ comma ∷ more))
 
-pub letter_first : (b : ℕ) → is_ascii_alphanumeric b ≡ true → (is_whitespace b ≡ false) × ((b == 44) ≡ false)
+pub letter_first : (b : ℕ) → is_ascii_alphanumeric b ≡ true → (is_whitespace b ≡ false) × ((b == comma) ≡ false)
 letter_first b h = (grind (arith, nat_tests), grind (arith, nat_tests))
 
 -- the first byte of an atom
 record Begins (text : List ℕ) : Type 0 where
   stops : Stops is_whitespace text
-  comma : behind_byte 44 text ≡ None
+  no_comma : behind_byte comma text ≡ None
   some : 0 < length text
 
 name_begins : (name after : List ℕ) → is_name name ≡ true → Begins (name ++ after)
 name_begins [] after h = absurd cc
 name_begins (b ∷ name) after h =
     let l = letter_first b (first (is_ascii_alphanumeric b) _ h) in
-    record { stops = l.0; comma = ap (λ t. cond t (Some (name ++ after)) None) l.1; some = omega arith }
+    record { stops = l.0; no_comma = ap (λ t. cond t (Some (name ++ after)) None) l.1; some = omega arith }
   where
     first : (s t : Bool) → (s && t) ≡ true → s ≡ true
     first true t h = refl
@@ -52,7 +53,7 @@ record Read (kind : FieldKind) (text : List ℕ) (atom : AtomParts) (after : Lis
   read : atom_at kind (rest is_whitespace text) ≡ taken (atom, blanks ++ after)
   shorter : length after < length (rest is_whitespace text)
 
-padded_again : (kind : FieldKind) (text after : List ℕ) (atom : AtomParts) → PaddedAtom kind text atom → (after ≡ []) ⊎ ((b : ℕ) × (more : List ℕ) × (after ≡ b ∷ more) × ((b ≡ 44) ⊎ (b ≡ 124))) → Read kind (text ++ after) atom after
+padded_again : (kind : FieldKind) (text after : List ℕ) (atom : AtomParts) → PaddedAtom kind text atom → (after ≡ []) ⊎ ((b : ℕ) × (more : List ℕ) × (after ≡ b ∷ more) × ((b ≡ comma) ⊎ (b ≡ bar))) → Read kind (text ++ after) atom after
 padded_again kind text after atom h n =
     let x : List ℕ = h.middle ++ (h.after ++ after) in
     let w : text ++ after ≡ h.before ++ x = ap (λ (l : List ℕ). l ++ after) h.whole ∙ append_assoc h.before (h.middle ++ h.after) after ∙ ap (λ (l : List ℕ). h.before ++ l) (append_assoc h.middle h.after after) in
@@ -70,13 +71,13 @@ padded_again kind text after atom h n =
     }
 
 -- what follows a group, behind blanks
-stops_end : (after : List ℕ) → GroupEnd after → Stops is_whitespace after × (behind_byte 124 after ≡ None)
-stops_end after (inl e) = let P : List ℕ → Type 0 = λ l. Stops is_whitespace l × (behind_byte 124 l ≡ None) in subst P (sym e) (tt, refl)
-stops_end after (inr m) = let P : List ℕ → Type 0 = λ l. Stops is_whitespace l × (behind_byte 124 l ≡ None) in subst P (sym m.1) (refl, refl)
+stops_end : (after : List ℕ) → GroupEnd after → Stops is_whitespace after × (behind_byte bar after ≡ None)
+stops_end after (inl e) = let P : List ℕ → Type 0 = λ l. Stops is_whitespace l × (behind_byte bar l ≡ None) in subst P (sym e) (tt, refl)
+stops_end after (inr m) = let P : List ℕ → Type 0 = λ l. Stops is_whitespace l × (behind_byte bar l ≡ None) in subst P (sym m.1) (refl, refl)
 
-end_next : (after : List ℕ) → GroupEnd after → (after ≡ []) ⊎ ((b : ℕ) × (more : List ℕ) × (after ≡ b ∷ more) × ((b ≡ 44) ⊎ (b ≡ 124)))
+end_next : (after : List ℕ) → GroupEnd after → (after ≡ []) ⊎ ((b : ℕ) × (more : List ℕ) × (after ≡ b ∷ more) × ((b ≡ comma) ⊎ (b ≡ bar)))
 end_next after (inl e) = inl e
-end_next after (inr m) = inr (44, m.0, m.1, inl refl)
+end_next after (inr m) = inr (comma, m.0, m.1, inl refl)
 
 rest-le : (text : List ℕ) → length (rest is_whitespace text) ≤ length text
 rest-le text = omega (arith, length-drop (prefix_len is_whitespace text) text)
@@ -98,23 +99,23 @@ group_again kind (suc n) text after (atom ∷ []) h e l =
     record {
       left = r.blanks ++ after;
       begins = r.begins;
-      read = step (atom_at kind (rest is_whitespace (text ++ after))) (λ a. alternatives kind (group_at n kind) a (behind_byte 124 (rest is_whitespace a.1))) (atom, r.blanks ++ after) r.read
-          ∙ ap (alternatives kind (group_at n kind) (atom, r.blanks ++ after)) (ap (behind_byte 124) f ∙ s.1);
+      read = step (atom_at kind (rest is_whitespace (text ++ after))) (λ a. alternatives kind (group_at n kind) a (behind_byte bar (rest is_whitespace a.1))) (atom, r.blanks ++ after) r.read
+          ∙ ap (alternatives kind (group_at n kind) (atom, r.blanks ++ after)) (ap (behind_byte bar) f ∙ s.1);
       follows = f;
     }
 group_again kind (suc n) text after (atom ∷ other ∷ more) h e l =
     let x : List ℕ = h.1 ++ after in
-    let w : text ++ after ≡ h.0 ++ 124 ∷ x = ap (λ (z : List ℕ). z ++ after) h.5 ∙ append_assoc h.0 (124 ∷ h.1) after in
-    let r = padded_again kind h.0 (124 ∷ x) atom h.2 (inr (124, x, refl, inr refl)) in
-    let f : rest is_whitespace (r.blanks ++ 124 ∷ x) ≡ 124 ∷ x = rest_again is_whitespace r.blanks (124 ∷ x) r.blank refl in
+    let w : text ++ after ≡ h.0 ++ bar ∷ x = ap (λ (z : List ℕ). z ++ after) h.5 ∙ append_assoc h.0 (bar ∷ h.1) after in
+    let r = padded_again kind h.0 (bar ∷ x) atom h.2 (inr (bar, x, refl, inr refl)) in
+    let f : rest is_whitespace (r.blanks ++ bar ∷ x) ≡ bar ∷ x = rest_again is_whitespace r.blanks (bar ∷ x) r.blank refl in
     let small : length (rest is_whitespace x) < n = omega (arith, r.shorter, rest-le x, ap (λ (z : List ℕ). length (rest is_whitespace z)) w) in
     let g = group_again kind n h.1 after (other ∷ more) h.4 e small in
     let P : List ℕ → Type 0 = λ z. ReadGroup kind (suc n) z (atom ∷ other ∷ more) after in
     subst P (sym w) (record {
       left = g.left;
       begins = r.begins;
-      read = step (atom_at kind (rest is_whitespace (h.0 ++ 124 ∷ x))) (λ a. alternatives kind (group_at n kind) a (behind_byte 124 (rest is_whitespace a.1))) (atom, r.blanks ++ 124 ∷ x) r.read
-          ∙ ap (λ z. alternatives kind (group_at n kind) (atom, r.blanks ++ 124 ∷ x) (behind_byte 124 z)) f
+      read = step (atom_at kind (rest is_whitespace (h.0 ++ bar ∷ x))) (λ a. alternatives kind (group_at n kind) a (behind_byte bar (rest is_whitespace a.1))) (atom, r.blanks ++ bar ∷ x) r.read
+          ∙ ap (λ z. alternatives kind (group_at n kind) (atom, r.blanks ++ bar ∷ x) (behind_byte bar z)) f
           ∙ ap (λ t. cond t (group_at n kind (rest is_whitespace x) >>= λ y. taken (atom ∷ y.0, y.1)) (Err fault.Alternative)) h.3
           ∙ step (group_at n kind (rest is_whitespace x)) (λ y. taken (atom ∷ y.0, y.1)) (other ∷ more, g.left) g.read;
       follows = g.follows;
@@ -128,29 +129,29 @@ is_some : (text : List ℕ) → 0 < length text → (length text == 0) ≡ false
 is_some text h = grind (arith, nat_tests)
 
 -- where a group comes first
-group_first : (kind : FieldKind) (n : ℕ) (text after : List ℕ) (group : List AtomParts) → ReadGroup kind (length (rest is_whitespace text) + 1) text group after → groups_at (suc n) kind text ≡ groups_behind (groups_at n kind) group after (behind_byte 44 after)
+group_first : (kind : FieldKind) (n : ℕ) (text after : List ℕ) (group : List AtomParts) → ReadGroup kind (length (rest is_whitespace text) + 1) text group after → groups_at (suc n) kind text ≡ groups_behind (groups_at n kind) group after (behind_byte comma after)
 group_first kind n text after group r =
     let x : List ℕ = rest is_whitespace text in
-    ap (groups_from (groups_at n kind) kind x) r.begins.comma
-    ∙ ap (λ t. cond t (taken []) (group_at (length x + 1) kind x >>= λ g. groups_behind (groups_at n kind) g.0 (rest is_whitespace g.1) (behind_byte 44 (rest is_whitespace g.1)))) (is_some x r.begins.some)
-    ∙ step (group_at (length x + 1) kind x) (λ g. groups_behind (groups_at n kind) g.0 (rest is_whitespace g.1) (behind_byte 44 (rest is_whitespace g.1))) (group, r.left) r.read
-    ∙ ap (λ z. groups_behind (groups_at n kind) group z (behind_byte 44 z)) r.follows
+    ap (groups_from (groups_at n kind) kind x) r.begins.no_comma
+    ∙ ap (λ t. cond t (taken []) (group_at (length x + 1) kind x >>= λ g. groups_behind (groups_at n kind) g.0 (rest is_whitespace g.1) (behind_byte comma (rest is_whitespace g.1)))) (is_some x r.begins.some)
+    ∙ step (group_at (length x + 1) kind x) (λ g. groups_behind (groups_at n kind) g.0 (rest is_whitespace g.1) (behind_byte comma (rest is_whitespace g.1))) (group, r.left) r.read
+    ∙ ap (λ z. groups_behind (groups_at n kind) group z (behind_byte comma z)) r.follows
 
 pieces_again : (kind : FieldKind) (n : ℕ) (text : List ℕ) (pieces : List (Option (List AtomParts))) → PiecesText kind text pieces → length text < n → groups_at n kind text ≡ taken (groups_of pieces)
 pieces_again kind zero text pieces h l = absurd (omega arith)
 pieces_again kind (suc n) text [] h l = absurd h
-pieces_again kind (suc n) text (None ∷ []) h l = ap (λ z. groups_from (groups_at n kind) kind z (behind_byte 44 z)) (blank_rest text h)
+pieces_again kind (suc n) text (None ∷ []) h l = ap (λ z. groups_from (groups_at n kind) kind z (behind_byte comma z)) (blank_rest text h)
 pieces_again kind (suc n) text (Some group ∷ []) h l =
     let P : List ℕ → Type 0 = λ z. ReadGroup kind (length (rest is_whitespace z) + 1) z group [] in
     group_first kind n text [] group (subst P (append-nil text) (group_again kind (length (rest is_whitespace (text ++ [])) + 1) text [] group h (inl refl) (omega arith)))
 pieces_again kind (suc n) text (None ∷ other ∷ more) h l =
-    let e : rest is_whitespace text ≡ 44 ∷ h.1 = ap (rest is_whitespace) h.4 ∙ rest_again is_whitespace h.0 (44 ∷ h.1) h.2 refl in
-    ap (λ z. groups_from (groups_at n kind) kind z (behind_byte 44 z)) e ∙ pieces_again kind n h.1 (other ∷ more) h.3 (omega (arith, ap length h.4, length-append h.0 (44 ∷ h.1)))
+    let e : rest is_whitespace text ≡ comma ∷ h.1 = ap (rest is_whitespace) h.4 ∙ rest_again is_whitespace h.0 (comma ∷ h.1) h.2 refl in
+    ap (λ z. groups_from (groups_at n kind) kind z (behind_byte comma z)) e ∙ pieces_again kind n h.1 (other ∷ more) h.3 (omega (arith, ap length h.4, length-append h.0 (comma ∷ h.1)))
 pieces_again kind (suc n) text (Some group ∷ other ∷ more) h l =
-    let P : List ℕ → Type 0 = λ z. ReadGroup kind (length (rest is_whitespace z) + 1) z group (44 ∷ h.1) in
-    let r = group_again kind (length (rest is_whitespace (h.0 ++ 44 ∷ h.1)) + 1) h.0 (44 ∷ h.1) group h.2 (inr (h.1, refl)) (omega arith) in
-    group_first kind n text (44 ∷ h.1) group (subst P (sym h.4) r)
-    ∙ step (groups_at n kind h.1) (λ y. taken (group ∷ y)) (groups_of (other ∷ more)) (pieces_again kind n h.1 (other ∷ more) h.3 (omega (arith, ap length h.4, length-append h.0 (44 ∷ h.1))))
+    let P : List ℕ → Type 0 = λ z. ReadGroup kind (length (rest is_whitespace z) + 1) z group (comma ∷ h.1) in
+    let r = group_again kind (length (rest is_whitespace (h.0 ++ comma ∷ h.1)) + 1) h.0 (comma ∷ h.1) group h.2 (inr (h.1, refl)) (omega arith) in
+    group_first kind n text (comma ∷ h.1) group (subst P (sym h.4) r)
+    ∙ step (groups_at n kind h.1) (λ y. taken (group ∷ y)) (groups_of (other ∷ more)) (pieces_again kind n h.1 (other ∷ more) h.3 (omega (arith, ap length h.4, length-append h.0 (comma ∷ h.1))))
 
 -- what is in the grammar is read
 pub relations_again : (kind : FieldKind) (body : List ℕ) (groups : List (List AtomParts)) → RelationsText kind body groups → relations_of kind body ≡ taken groups

@@ -9,6 +9,7 @@ use Rattle.ctl_relation.specs.declared.relation_fault.RelationFault.{RelationFau
 use Rattle.ctl_relation.specs.declared.relation_fault.RelationFault.TheVariants as fault
 use Rattle.ctl_relation.specs.declared.operator.Operator.{Operator}
 use Rattle.ctl_relation.specs.declared.field_kind.FieldKind.{FieldKind}
+use Rattle.ctl_relation.specs.Bytes.{left_parenthesis, right_parenthesis, comma, colon, less_than, equals, greater_than, bar}
 use Rattle.ctl_relation.specs.FieldBytes.{is_whitespace, is_qualifier_byte, is_version_word_byte, run, rest}
 use Rattle.ctl_relation.specs.Parts.{AtomParts}
 use Rattle.ctl_relation.specs.Version.{fault_of}
@@ -32,7 +33,7 @@ done x = Ok x
 ok_is : {A : Type 0} (x y : A) → done x ≡ done y → x ≡ y
 ok_is x y e = cc
 
-regroup : (a b c d v f after : List ℕ) → (a ++ 40 ∷ (b ++ (c ++ (d ++ (v ++ (f ++ 41 ∷ [])))))) ++ after ≡ a ++ 40 ∷ (b ++ (c ++ (d ++ (v ++ (f ++ 41 ∷ after)))))
+regroup : (a b c d v f after : List ℕ) → (a ++ left_parenthesis ∷ (b ++ (c ++ (d ++ (v ++ (f ++ right_parenthesis ∷ [])))))) ++ after ≡ a ++ left_parenthesis ∷ (b ++ (c ++ (d ++ (v ++ (f ++ right_parenthesis ∷ after)))))
 regroup a b c d v f after = simp append_assoc
 
 guard_err : {A : Type 0} (b : Bool) (d : RelationFault) (x y : A) → cond b (Err d) (Ok x) ≡ Ok y → (b ≡ false) × (x ≡ y)
@@ -68,23 +69,23 @@ version_found text x e =
     none_is None e = refl
     none_is (Some x) e = absurd cc
 
-close_found : (text after : List ℕ) → close_at text ≡ Ok after → text ≡ 41 ∷ after
+close_found : (text after : List ℕ) → close_at text ≡ Ok after → text ≡ right_parenthesis ∷ after
 close_found [] after e = absurd cc
 close_found (b ∷ text) after e =
-    let g = guard_ok (b == 41) fault.Close text after e in
-    ap (λ n. n ∷ text) (eqb-true b 41 g.0) ∙ ap (λ (l : List ℕ). 41 ∷ l) g.1
+    let g = guard_ok (b == right_parenthesis) fault.Close text after e in
+    ap (λ n. n ∷ text) (eqb-true b right_parenthesis g.0) ∙ ap (λ (l : List ℕ). right_parenthesis ∷ l) g.1
 
 qualifier_found : (text : List ℕ) (x : Option (List ℕ) × List ℕ) → qualifier_at text ≡ Ok x → (q : List ℕ) × QualifierText q x.0 × (text ≡ q ++ x.1)
 qualifier_found [] x e = let h : (None, []) ≡ x = cc in let P : Option (List ℕ) × List ℕ → Type 0 = λ y. (q : List ℕ) × QualifierText q y.0 × ([] ≡ q ++ y.1) in subst P h ([], refl, refl)
-qualifier_found (b ∷ text) x e = go (b == 58) refl e
+qualifier_found (b ∷ text) x e = go (b == colon) refl e
   where
-    go : (t : Bool) → (b == 58) ≡ t → cond t (cond (length (run is_qualifier_byte text) == 0) (Err fault.Name) (Ok (Some (run is_qualifier_byte text), rest is_qualifier_byte text))) (Ok (None, b ∷ text)) ≡ Ok x
+    go : (t : Bool) → (b == colon) ≡ t → cond t (cond (length (run is_qualifier_byte text) == 0) (Err fault.Name) (Ok (Some (run is_qualifier_byte text), rest is_qualifier_byte text))) (Ok (None, b ∷ text)) ≡ Ok x
         → (q : List ℕ) × QualifierText q x.0 × (b ∷ text ≡ q ++ x.1)
     go true h e =
         let g = guard_err (length (run is_qualifier_byte text) == 0) fault.Name (Some (run is_qualifier_byte text), rest is_qualifier_byte text) x e in
         let P : Option (List ℕ) × List ℕ → Type 0 = λ y. (q : List ℕ) × QualifierText q y.0 × (b ∷ text ≡ q ++ y.1) in
         let some : 0 < length (run is_qualifier_byte text) = grind (arith, nat_tests) in
-        subst P g.1 (58 ∷ run is_qualifier_byte text, (refl, some, run-passes is_qualifier_byte text), ap (λ n. n ∷ text) (eqb-true b 58 h) ∙ ap (λ (l : List ℕ). 58 ∷ l) (run-rest is_qualifier_byte text))
+        subst P g.1 (colon ∷ run is_qualifier_byte text, (refl, some, run-passes is_qualifier_byte text), ap (λ n. n ∷ text) (eqb-true b colon h) ∙ ap (λ (l : List ℕ). colon ∷ l) (run-rest is_qualifier_byte text))
     go false h e = let k : (None, b ∷ text) ≡ x = cc in let P : Option (List ℕ) × List ℕ → Type 0 = λ y. (q : List ℕ) × QualifierText q y.0 × (b ∷ text ≡ q ++ y.1) in subst P k ([], refl, refl)
 
 -- an operator and what follows it
@@ -105,16 +106,16 @@ two b d m n text p q = ap (λ k. k ∷ d ∷ text) p ∙ ap (λ k. m ∷ k ∷ t
 operator_found : (text : List ℕ) → Spells text (operator_token text)
 operator_found [] = tt
 operator_found (b ∷ []) =
-    pick (Spells (b ∷ [])) b 60 _ _ (λ e. (60 ∷ [], inr refl, ap (λ n. n ∷ []) e))
-    (pick (Spells (b ∷ [])) b 62 _ _ (λ e. (62 ∷ [], inr refl, ap (λ n. n ∷ []) e))
-    (pick (Spells (b ∷ [])) b 61 _ _ (λ e. (61 ∷ [], refl, ap (λ n. n ∷ []) e)) tt))
+    pick (Spells (b ∷ [])) b less_than _ _ (λ e. (less_than ∷ [], inr refl, ap (λ n. n ∷ []) e))
+    (pick (Spells (b ∷ [])) b greater_than _ _ (λ e. (greater_than ∷ [], inr refl, ap (λ n. n ∷ []) e))
+    (pick (Spells (b ∷ [])) b equals _ _ (λ e. (equals ∷ [], refl, ap (λ n. n ∷ []) e)) tt))
 operator_found (b ∷ d ∷ text) =
     let P : Option (Operator × List ℕ) → Type 0 = Spells (b ∷ d ∷ text) in
-    pick P b 61 _ _ (λ e. (61 ∷ [], refl, ap (λ n. n ∷ d ∷ text) e))
-    (pick P b 60 _ _ (λ e. pick P d 60 _ _ (λ f. (60 ∷ 60 ∷ [], refl, two b d 60 60 text e f))
-    (pick P d 61 _ _ (λ f. (60 ∷ 61 ∷ [], inl refl, two b d 60 61 text e f)) (60 ∷ [], inr refl, ap (λ n. n ∷ d ∷ text) e)))
-    (pick P b 62 _ _ (λ e. pick P d 62 _ _ (λ f. (62 ∷ 62 ∷ [], refl, two b d 62 62 text e f))
-    (pick P d 61 _ _ (λ f. (62 ∷ 61 ∷ [], inl refl, two b d 62 61 text e f)) (62 ∷ [], inr refl, ap (λ n. n ∷ d ∷ text) e)))
+    pick P b equals _ _ (λ e. (equals ∷ [], refl, ap (λ n. n ∷ d ∷ text) e))
+    (pick P b less_than _ _ (λ e. pick P d less_than _ _ (λ f. (less_than ∷ less_than ∷ [], refl, two b d less_than less_than text e f))
+    (pick P d equals _ _ (λ f. (less_than ∷ equals ∷ [], inl refl, two b d less_than equals text e f)) (less_than ∷ [], inr refl, ap (λ n. n ∷ d ∷ text) e)))
+    (pick P b greater_than _ _ (λ e. pick P d greater_than _ _ (λ f. (greater_than ∷ greater_than ∷ [], refl, two b d greater_than greater_than text e f))
+    (pick P d equals _ _ (λ f. (greater_than ∷ equals ∷ [], inl refl, two b d greater_than equals text e f)) (greater_than ∷ [], inr refl, ap (λ n. n ∷ d ∷ text) e)))
     tt))
 
 allowed_found : (kind : FieldKind) (o : Option (Operator × List ℕ)) (x : Operator × List ℕ) → allowed kind o ≡ Ok x → (o ≡ Some x) × (is_provides kind ≡ true → is_exact x.0 ≡ true)
@@ -139,11 +140,11 @@ record Inner (kind : FieldKind) (text : List ℕ) (op : Operator) (version after
   operator : IsSpelled op spelled
   in_provides : is_provides kind ≡ true → is_exact op ≡ true
   is_version : fault_of version ≡ None
-  whole : text ≡ inside ++ (spelled ++ (between ++ (version ++ (behind ++ 41 ∷ after))))
+  whole : text ≡ inside ++ (spelled ++ (between ++ (version ++ (behind ++ right_parenthesis ∷ after))))
 
-inner_found : (kind : FieldKind) (text : List ℕ) (x : (Operator × List ℕ) × List ℕ) → parenthesized_at kind text ≡ Ok x → Inner kind text x.0.0 x.0.1 x.1
+parenthesized_found : (kind : FieldKind) (text : List ℕ) (x : (Operator × List ℕ) × List ℕ) → parenthesized_at kind text ≡ Ok x → Inner kind text x.0.0 x.0.1 x.1
 unfolding parenthesized_at
-inner_found kind text x e =
+parenthesized_found kind text x e =
     let a = bind_ok (operator_at kind (rest is_whitespace text)) (λ op. version_at (rest is_whitespace op.1) >>= λ version. close_at (rest is_whitespace version.1) >>= λ after. Ok ((op.0, version.0), after)) x e in
     let b = bind_ok (version_at (rest is_whitespace a.0.1)) (λ version. close_at (rest is_whitespace version.1) >>= λ after. Ok ((a.0.0, version.0), after)) x a.2 in
     let c = bind_ok (close_at (rest is_whitespace b.0.1)) (λ after. Ok ((a.0.0, b.0.0), after)) x b.2 in
@@ -154,10 +155,10 @@ inner_found kind text x e =
     let close = close_found (rest is_whitespace b.0.1) c.0 c.1 in
     let made : (Operator × List ℕ) × List ℕ = ((a.0.0, b.0.0), c.0) in
     let Q : (Operator × List ℕ) × List ℕ → Type 0 = λ y. Inner kind text y.0.0 y.0.1 y.1 in
-    let e5 : b.0.1 ≡ run is_whitespace b.0.1 ++ 41 ∷ c.0 = run-rest is_whitespace b.0.1 ∙ ap (λ l. run is_whitespace b.0.1 ++ l) close in
-    let e4 : rest is_whitespace a.0.1 ≡ b.0.0 ++ (run is_whitespace b.0.1 ++ 41 ∷ c.0) = version.1 ∙ ap (λ l. b.0.0 ++ l) e5 in
-    let e3 : a.0.1 ≡ run is_whitespace a.0.1 ++ (b.0.0 ++ (run is_whitespace b.0.1 ++ 41 ∷ c.0)) = run-rest is_whitespace a.0.1 ∙ ap (λ l. run is_whitespace a.0.1 ++ l) e4 in
-    let e2 : rest is_whitespace text ≡ spelled.0 ++ (run is_whitespace a.0.1 ++ (b.0.0 ++ (run is_whitespace b.0.1 ++ 41 ∷ c.0))) = spelled.2 ∙ ap (λ l. spelled.0 ++ l) e3 in
+    let e5 : b.0.1 ≡ run is_whitespace b.0.1 ++ right_parenthesis ∷ c.0 = run-rest is_whitespace b.0.1 ∙ ap (λ l. run is_whitespace b.0.1 ++ l) close in
+    let e4 : rest is_whitespace a.0.1 ≡ b.0.0 ++ (run is_whitespace b.0.1 ++ right_parenthesis ∷ c.0) = version.1 ∙ ap (λ l. b.0.0 ++ l) e5 in
+    let e3 : a.0.1 ≡ run is_whitespace a.0.1 ++ (b.0.0 ++ (run is_whitespace b.0.1 ++ right_parenthesis ∷ c.0)) = run-rest is_whitespace a.0.1 ∙ ap (λ l. run is_whitespace a.0.1 ++ l) e4 in
+    let e2 : rest is_whitespace text ≡ spelled.0 ++ (run is_whitespace a.0.1 ++ (b.0.0 ++ (run is_whitespace b.0.1 ++ right_parenthesis ∷ c.0))) = spelled.2 ∙ ap (λ l. spelled.0 ++ l) e3 in
     subst Q (ok_is made x c.2) (record {
       inside = run is_whitespace text;
       spelled = spelled.0;
@@ -179,15 +180,15 @@ bound_found kind text x e = go (rest is_whitespace text) refl e
     none : done (None, text) ≡ done x → Bounded kind text x
     none e = let P : Option (Operator × List ℕ) × List ℕ → Type 0 = Bounded kind text in subst P (ok_is (None, text) x e) ([], refl, refl)
 
-    some : (behind : List ℕ) → rest is_whitespace text ≡ 40 ∷ behind → (parenthesized_at kind behind >>= λ y. Ok (Some y.0, y.1)) ≡ Ok x → Bounded kind text x
+    some : (behind : List ℕ) → rest is_whitespace text ≡ left_parenthesis ∷ behind → (parenthesized_at kind behind >>= λ y. Ok (Some y.0, y.1)) ≡ Ok x → Bounded kind text x
     some behind t e =
         let a = bind_ok (parenthesized_at kind behind) (λ y. Ok (Some y.0, y.1)) x e in
         let made : Option (Operator × List ℕ) × List ℕ = (Some a.0.0, a.0.1) in
         let P : Option (Operator × List ℕ) × List ℕ → Type 0 = Bounded kind text in
-        let i = inner_found kind behind a.0 a.1 in
-        let e0 : text ≡ run is_whitespace text ++ 40 ∷ (i.inside ++ (i.spelled ++ (i.between ++ (a.0.0.1 ++ (i.behind ++ 41 ∷ a.0.1))))) = run-rest is_whitespace text ∙ ap (λ l. run is_whitespace text ++ l) (t ∙ ap (λ (l : List ℕ). 40 ∷ l) i.whole) in
+        let i = parenthesized_found kind behind a.0 a.1 in
+        let e0 : text ≡ run is_whitespace text ++ left_parenthesis ∷ (i.inside ++ (i.spelled ++ (i.between ++ (a.0.0.1 ++ (i.behind ++ right_parenthesis ∷ a.0.1))))) = run-rest is_whitespace text ∙ ap (λ l. run is_whitespace text ++ l) (t ∙ ap (λ (l : List ℕ). left_parenthesis ∷ l) i.whole) in
         subst P (ok_is made x a.2) (
-          run is_whitespace text ++ 40 ∷ (i.inside ++ (i.spelled ++ (i.between ++ (a.0.0.1 ++ (i.behind ++ 41 ∷ []))))),
+          run is_whitespace text ++ left_parenthesis ∷ (i.inside ++ (i.spelled ++ (i.between ++ (a.0.0.1 ++ (i.behind ++ right_parenthesis ∷ []))))),
           record {
             before = run is_whitespace text;
             inside = i.inside;
@@ -205,10 +206,10 @@ bound_found kind text x e = go (rest is_whitespace text) refl e
 
     go : (after : List ℕ) → rest is_whitespace text ≡ after → bound_behind kind text after ≡ Ok x → Bounded kind text x
     go [] t e = none e
-    go (b ∷ behind) t e = step (b == 40) refl e
+    go (b ∷ behind) t e = step (b == left_parenthesis) refl e
       where
-        step : (u : Bool) → (b == 40) ≡ u → cond u (parenthesized_at kind behind >>= λ y. Ok (Some y.0, y.1)) (Ok (None, text)) ≡ Ok x → Bounded kind text x
-        step true h e = some behind (t ∙ ap (λ n. n ∷ behind) (eqb-true b 40 h)) e
+        step : (u : Bool) → (b == left_parenthesis) ≡ u → cond u (parenthesized_at kind behind >>= λ y. Ok (Some y.0, y.1)) (Ok (None, text)) ≡ Ok x → Bounded kind text x
+        step true h e = some behind (t ∙ ap (λ n. n ∷ behind) (eqb-true b left_parenthesis h)) e
         step false h e = none e
 
 -- an atom that is read is spelled so, and stands in front of what is left
@@ -268,7 +269,7 @@ abbrev put : Option (List AtomParts) → List (List AtomParts) → List (List At
 put None groups = groups
 put (Some group) groups = group ∷ groups
 
-joined : (kind : FieldKind) (first second : List ℕ) (atom : AtomParts) (atoms : List AtomParts) → PaddedAtom kind first atom → has_alternatives kind ≡ true → GroupText kind second atoms → GroupText kind (first ++ 124 ∷ second) (atom ∷ atoms)
+joined : (kind : FieldKind) (first second : List ℕ) (atom : AtomParts) (atoms : List AtomParts) → PaddedAtom kind first atom → has_alternatives kind ≡ true → GroupText kind second atoms → GroupText kind (first ++ bar ∷ second) (atom ∷ atoms)
 joined kind first second atom [] p h g = absurd g
 joined kind first second atom (other ∷ more) p h g = (first, second, p, h, g, refl)
 
@@ -281,16 +282,16 @@ front_blanks : (kind : FieldKind) (blanks text : List ℕ) (group : List AtomPar
 front_blanks kind blanks text [] b h = h
 front_blanks kind blanks text (atom ∷ []) b h = padded blanks text atom b h
 front_blanks kind blanks text (atom ∷ other ∷ more) b h =
-    (blanks ++ h.0, h.1, padded blanks h.0 atom b h.2, h.3, h.4, ap (λ l. blanks ++ l) h.5 ∙ sym (append_assoc blanks h.0 (124 ∷ h.1)))
+    (blanks ++ h.0, h.1, padded blanks h.0 atom b h.2, h.3, h.4, ap (λ l. blanks ++ l) h.5 ∙ sym (append_assoc blanks h.0 (bar ∷ h.1)))
 
 -- what follows a group, without the blanks in front, and the group's own text
 pub group_found : (n : ℕ) (kind : FieldKind) (text : List ℕ) (x : List AtomParts × List ℕ) → group_at n kind text ≡ Ok x → (t : List ℕ) × GroupText kind t x.0 × (text ≡ t ++ rest is_whitespace x.1)
 group_found zero kind text x e = absurd cc
 group_found (suc n) kind text x e =
-    let a = bind_ok (atom_at kind text) (λ atom. alternatives kind (group_at n kind) atom (behind_byte 124 (rest is_whitespace atom.1))) x e in
-    group_behind n kind text x a.0 (atom_found kind text a.0 a.1) (behind_byte 124 (rest is_whitespace a.0.1)) refl a.2 (group_found n kind)
+    let a = bind_ok (atom_at kind text) (λ atom. alternatives kind (group_at n kind) atom (behind_byte bar (rest is_whitespace atom.1))) x e in
+    group_behind n kind text x a.0 (atom_found kind text a.0 a.1) (behind_byte bar (rest is_whitespace a.0.1)) refl a.2 (group_found n kind)
   where
-    group_behind : (n : ℕ) (kind : FieldKind) (text : List ℕ) (x : List AtomParts × List ℕ) (a : AtomParts × List ℕ) → ((t : List ℕ) × AtomText kind t a.0 × (text ≡ t ++ a.1)) → (b : Option (List ℕ)) → behind_byte 124 (rest is_whitespace a.1) ≡ b → alternatives kind (group_at n kind) a b ≡ Ok x
+    group_behind : (n : ℕ) (kind : FieldKind) (text : List ℕ) (x : List AtomParts × List ℕ) (a : AtomParts × List ℕ) → ((t : List ℕ) × AtomText kind t a.0 × (text ≡ t ++ a.1)) → (b : Option (List ℕ)) → behind_byte bar (rest is_whitespace a.1) ≡ b → alternatives kind (group_at n kind) a b ≡ Ok x
         → ((text : List ℕ) (x : List AtomParts × List ℕ) → group_at n kind text ≡ Ok x → (t : List ℕ) × GroupText kind t x.0 × (text ≡ t ++ rest is_whitespace x.1)) → (t : List ℕ) × GroupText kind t x.0 × (text ≡ t ++ rest is_whitespace x.1)
     group_behind n kind text x a f None b e more =
         let P : List AtomParts × List ℕ → Type 0 = λ y. (t : List ℕ) × GroupText kind t y.0 × (text ≡ t ++ rest is_whitespace y.1) in
@@ -309,9 +310,9 @@ group_found (suc n) kind text x e =
         let atom = pad kind first f.0 (run is_whitespace a.1) a.0 f.1 (run-passes is_whitespace a.1) refl in
         let left : List ℕ = rest is_whitespace c.0.1 in
         let e2 : after ≡ second ++ left = run-rest is_whitespace after ∙ ap (λ l. run is_whitespace after ++ l) m.2 ∙ sym (append_assoc (run is_whitespace after) m.0 left) in
-        let e1 : a.1 ≡ run is_whitespace a.1 ++ 124 ∷ (second ++ left) = run-rest is_whitespace a.1 ∙ ap (λ l. run is_whitespace a.1 ++ l) (behind_found 124 (rest is_whitespace a.1) after b ∙ ap (λ (l : List ℕ). 124 ∷ l) e2) in
-        let e0 : text ≡ (first ++ 124 ∷ second) ++ left = f.2 ∙ ap (λ l. f.0 ++ l) e1 ∙ sym (append_assoc f.0 (run is_whitespace a.1) (124 ∷ (second ++ left))) ∙ sym (append_assoc first (124 ∷ second) left) in
-        subst P (ok_is (a.0 ∷ c.0.0, c.0.1) x c.2) (first ++ 124 ∷ second, joined kind first second a.0 c.0.0 atom g.0 (front_blanks kind (run is_whitespace after) m.0 c.0.0 (run-passes is_whitespace after) m.1), e0)
+        let e1 : a.1 ≡ run is_whitespace a.1 ++ bar ∷ (second ++ left) = run-rest is_whitespace a.1 ∙ ap (λ l. run is_whitespace a.1 ++ l) (behind_found bar (rest is_whitespace a.1) after b ∙ ap (λ (l : List ℕ). bar ∷ l) e2) in
+        let e0 : text ≡ (first ++ bar ∷ second) ++ left = f.2 ∙ ap (λ l. f.0 ++ l) e1 ∙ sym (append_assoc f.0 (run is_whitespace a.1) (bar ∷ (second ++ left))) ∙ sym (append_assoc first (bar ∷ second) left) in
+        subst P (ok_is (a.0 ∷ c.0.0, c.0.1) x c.2) (first ++ bar ∷ second, joined kind first second a.0 c.0.0 atom g.0 (front_blanks kind (run is_whitespace after) m.0 c.0.0 (run-passes is_whitespace after) m.1), e0)
 
 -- ---- fields
 
@@ -324,10 +325,10 @@ one_piece kind text piece h = (piece ∷ [], h, refl)
 
 -- one more piece in front
 more_pieces : (kind : FieldKind) (first after : List ℕ) (piece : Option (List AtomParts)) (groups : List (List AtomParts)) → PieceText kind first piece → RelationsText kind after groups
-    → RelationsText kind (first ++ 44 ∷ after) (put piece groups)
+    → RelationsText kind (first ++ comma ∷ after) (put piece groups)
 more_pieces kind first after piece groups h r = go piece r.0 r.1 r.2 h
   where
-    go : (piece : Option (List AtomParts)) (pieces : List (Option (List AtomParts))) → PiecesText kind after pieces → groups ≡ groups_of pieces → PieceText kind first piece → RelationsText kind (first ++ 44 ∷ after) (put piece groups)
+    go : (piece : Option (List AtomParts)) (pieces : List (Option (List AtomParts))) → PiecesText kind after pieces → groups ≡ groups_of pieces → PieceText kind first piece → RelationsText kind (first ++ comma ∷ after) (put piece groups)
     go piece [] p e h = absurd p
     go None (other ∷ more) p e h = (None ∷ other ∷ more, (first, after, h, p, refl), e)
     go (Some group) (other ∷ more) p e h = (Some group ∷ other ∷ more, (first, after, h, p, refl), ap (λ (l : List (List AtomParts)). group ∷ l) e)
@@ -349,7 +350,7 @@ at_end kind text gs h e =
 
 -- a group, and what stands behind it
 group_then : (n : ℕ) (kind : FieldKind) (text : List ℕ) (gs : List (List AtomParts)) (a : List AtomParts × List ℕ) → ((text : List ℕ) (gs : List (List AtomParts)) → groups_at n kind text ≡ Ok gs → RelationsText kind text gs)
-    → ((t : List ℕ) × GroupText kind t a.0 × (rest is_whitespace text ≡ t ++ rest is_whitespace a.1)) → (b : Option (List ℕ)) → behind_byte 44 (rest is_whitespace a.1) ≡ b → groups_behind (groups_at n kind) a.0 (rest is_whitespace a.1) b ≡ Ok gs → RelationsText kind text gs
+    → ((t : List ℕ) × GroupText kind t a.0 × (rest is_whitespace text ≡ t ++ rest is_whitespace a.1)) → (b : Option (List ℕ)) → behind_byte comma (rest is_whitespace a.1) ≡ b → groups_behind (groups_at n kind) a.0 (rest is_whitespace a.1) b ≡ Ok gs → RelationsText kind text gs
 group_then n kind text gs a more g None b e =
     let h = guard_ok (length (rest is_whitespace a.1) == 0) fault.Name (a.0 ∷ []) gs e in
     let first : List ℕ = run is_whitespace text ++ g.0 in
@@ -359,28 +360,28 @@ group_then n kind text gs a more g None b e =
 group_then n kind text gs a more g (Some after) b e =
     let c = bind_ok (groups_at n kind after) (λ x. Ok (a.0 ∷ x)) gs e in
     let first : List ℕ = run is_whitespace text ++ g.0 in
-    let P : List (List AtomParts) → Type 0 = RelationsText kind (first ++ 44 ∷ after) in
-    let e0 : text ≡ first ++ 44 ∷ after = run-rest is_whitespace text ∙ ap (λ l. run is_whitespace text ++ l) (g.2 ∙ ap (λ l. g.0 ++ l) (behind_found 44 (rest is_whitespace a.1) after b)) ∙ sym (append_assoc (run is_whitespace text) g.0 (44 ∷ after)) in
-    whole kind text (first ++ 44 ∷ after) gs (sym e0) (subst P (ok_is (a.0 ∷ c.0) gs c.2)
+    let P : List (List AtomParts) → Type 0 = RelationsText kind (first ++ comma ∷ after) in
+    let e0 : text ≡ first ++ comma ∷ after = run-rest is_whitespace text ∙ ap (λ l. run is_whitespace text ++ l) (g.2 ∙ ap (λ l. g.0 ++ l) (behind_found comma (rest is_whitespace a.1) after b)) ∙ sym (append_assoc (run is_whitespace text) g.0 (comma ∷ after)) in
+    whole kind text (first ++ comma ∷ after) gs (sym e0) (subst P (ok_is (a.0 ∷ c.0) gs c.2)
     (more_pieces kind first after (Some a.0) c.0 (front_blanks kind (run is_whitespace text) g.0 a.0 (run-passes is_whitespace text) g.1) (more after c.0 c.1)))
 
 pub groups_found : (n : ℕ) (kind : FieldKind) (text : List ℕ) (gs : List (List AtomParts)) → groups_at n kind text ≡ Ok gs → RelationsText kind text gs
 groups_found zero kind text gs e = absurd cc
-groups_found (suc n) kind text gs e = from n kind text gs (groups_found n kind) (behind_byte 44 (rest is_whitespace text)) refl e
+groups_found (suc n) kind text gs e = from n kind text gs (groups_found n kind) (behind_byte comma (rest is_whitespace text)) refl e
   where
     from : (n : ℕ) (kind : FieldKind) (text : List ℕ) (gs : List (List AtomParts)) → ((text : List ℕ) (gs : List (List AtomParts)) → groups_at n kind text ≡ Ok gs → RelationsText kind text gs)
-        → (b : Option (List ℕ)) → behind_byte 44 (rest is_whitespace text) ≡ b → groups_from (groups_at n kind) kind (rest is_whitespace text) b ≡ Ok gs → RelationsText kind text gs
+        → (b : Option (List ℕ)) → behind_byte comma (rest is_whitespace text) ≡ b → groups_from (groups_at n kind) kind (rest is_whitespace text) b ≡ Ok gs → RelationsText kind text gs
     from n kind text gs more (Some after) b e =
-        let h : run is_whitespace text ++ 44 ∷ after ≡ text = sym (run-rest is_whitespace text ∙ ap (λ l. run is_whitespace text ++ l) (behind_found 44 (rest is_whitespace text) after b)) in
-        whole kind text (run is_whitespace text ++ 44 ∷ after) gs h (more_pieces kind (run is_whitespace text) after None gs (run-passes is_whitespace text) (more after gs e))
+        let h : run is_whitespace text ++ comma ∷ after ≡ text = sym (run-rest is_whitespace text ∙ ap (λ l. run is_whitespace text ++ l) (behind_found comma (rest is_whitespace text) after b)) in
+        whole kind text (run is_whitespace text ++ comma ∷ after) gs h (more_pieces kind (run is_whitespace text) after None gs (run-passes is_whitespace text) (more after gs e))
     from n kind text gs more None b e = go (length (rest is_whitespace text) == 0) refl e
       where
         go : (u : Bool) → (length (rest is_whitespace text) == 0) ≡ u
-            → cond u (Ok []) (group_at (length (rest is_whitespace text) + 1) kind (rest is_whitespace text) >>= λ group. groups_behind (groups_at n kind) group.0 (rest is_whitespace group.1) (behind_byte 44 (rest is_whitespace group.1))) ≡ Ok gs → RelationsText kind text gs
+            → cond u (Ok []) (group_at (length (rest is_whitespace text) + 1) kind (rest is_whitespace text) >>= λ group. groups_behind (groups_at n kind) group.0 (rest is_whitespace group.1) (behind_byte comma (rest is_whitespace group.1))) ≡ Ok gs → RelationsText kind text gs
         go true h e = at_end kind text gs h e
         go false h e =
-            let a = bind_ok (group_at (length (rest is_whitespace text) + 1) kind (rest is_whitespace text)) (λ group. groups_behind (groups_at n kind) group.0 (rest is_whitespace group.1) (behind_byte 44 (rest is_whitespace group.1))) gs e in
-            group_then n kind text gs a.0 more (group_found (length (rest is_whitespace text) + 1) kind (rest is_whitespace text) a.0 a.1) (behind_byte 44 (rest is_whitespace a.0.1)) refl a.2
+            let a = bind_ok (group_at (length (rest is_whitespace text) + 1) kind (rest is_whitespace text)) (λ group. groups_behind (groups_at n kind) group.0 (rest is_whitespace group.1) (behind_byte comma (rest is_whitespace group.1))) gs e in
+            group_then n kind text gs a.0 more (group_found (length (rest is_whitespace text) + 1) kind (rest is_whitespace text) a.0 a.1) (behind_byte comma (rest is_whitespace a.0.1)) refl a.2
 
 pub if_found : (kind : FieldKind) (body : List ℕ) (r : Result (List (List AtomParts)) RelationFault) → Gives (λ (x : List (List AtomParts)). x) r (relations_of kind body) → IfOk r (λ x. RelationsText kind body x)
 if_found kind body (Ok x) h = groups_found (length body + 1) kind body x h

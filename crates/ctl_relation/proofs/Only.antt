@@ -7,6 +7,7 @@ use Rattle.std.proofs.lemmas.Bool.Decides.{nat_tests}
 use Rattle.ctl_relation.specs.declared.relation_fault.RelationFault.TheVariants as fault
 use Rattle.ctl_relation.specs.declared.operator.Operator.{Operator}
 use Rattle.ctl_relation.specs.declared.operator.Operator.TheVariants.{Earlier, EarlierOrEqual, Equal, LaterOrEqual, Later}
+use Rattle.ctl_relation.specs.Bytes.{plus, hyphen, dot, underscore, colon, less_than, equals, greater_than}
 use Rattle.ctl_relation.specs.FieldBytes.{is_whitespace, is_qualifier_byte, is_version_word_byte, run, rest, Stops}
 use Rattle.ctl_relation.specs.Version.{fault_of}
 use Rattle.ctl_relation.specs.Names.{is_name_byte, is_name}
@@ -48,7 +49,7 @@ name_bytes : (name : List ℕ) → is_name name ≡ true → list_all is_name_by
 name_bytes [] h = absurd cc
 name_bytes (b ∷ text) h =
     let g = both (is_ascii_alphanumeric b) (list_all is_name_byte text) h in
-    ap (λ t. (t || (b == 43 || (b == 45 || (b == 46 || b == 95)))) && list_all is_name_byte text) g.0 ∙ g.1
+    ap (λ t. (t || (b == plus || (b == hyphen || (b == dot || b == underscore)))) && list_all is_name_byte text) g.0 ∙ g.1
 
 pub name_again : (name after : List ℕ) → is_name name ≡ true → Stops is_name_byte after → name_at (name ++ after) ≡ Ok (name, after)
 name_again name after h s =
@@ -69,7 +70,7 @@ version_again version after h all s =
 pub nonempty : (q : List ℕ) → 0 < length q → (length q == 0) ≡ false
 nonempty q h = grind (arith, nat_tests)
 
-pub qualifier_again : (q after : List ℕ) → 0 < length q → list_all is_qualifier_byte q ≡ true → Stops is_qualifier_byte after → qualifier_at (58 ∷ (q ++ after)) ≡ Ok (Some q, after)
+pub qualifier_again : (q after : List ℕ) → 0 < length q → list_all is_qualifier_byte q ≡ true → Stops is_qualifier_byte after → qualifier_at (colon ∷ (q ++ after)) ≡ Ok (Some q, after)
 qualifier_again q after some h s =
     let e = run_again is_qualifier_byte q after h s in
     let f = rest_again is_qualifier_byte q after h s in
@@ -79,7 +80,7 @@ qualifier_again q after some h s =
 
 -- no byte of an operator comes first
 abbrev pub is_operator_byte : ℕ → Bool
-is_operator_byte b = b == 60 || (b == 61 || b == 62)
+is_operator_byte b = b == less_than || (b == equals || b == greater_than)
 
 other_than : (b n : ℕ) → is_operator_byte b ≡ false → (is_operator_byte n ≡ true) → (b == n) ≡ false
 other_than b n h k = grind (arith, nat_tests)
@@ -89,20 +90,20 @@ abbrev read : Operator → List ℕ → Option (Operator × List ℕ)
 read op after = Some (op, after)
 
 short : (b : ℕ) (long op : Operator) (after : List ℕ) (d : ℕ) → is_operator_byte d ≡ false → is_operator_byte b ≡ true
-    → cond (d == b) (read long after) (cond (d == 61) (read op after) (read op (d ∷ after))) ≡ read op (d ∷ after)
+    → cond (d == b) (read long after) (cond (d == equals) (read op after) (read op (d ∷ after))) ≡ read op (d ∷ after)
 short b long op after d h k =
-    ap (λ t. cond t (read long after) (cond (d == 61) (read op after) (read op (d ∷ after)))) (other_than d b h k)
-    ∙ ap (λ t. cond t (read op after) (read op (d ∷ after))) (other_than d 61 h refl)
+    ap (λ t. cond t (read long after) (cond (d == equals) (read op after) (read op (d ∷ after)))) (other_than d b h k)
+    ∙ ap (λ t. cond t (read op after) (read op (d ∷ after))) (other_than d equals h refl)
 
-less_alone : (after : List ℕ) → Stops is_operator_byte after → operator_token (60 ∷ after) ≡ Some (EarlierOrEqual, after)
+less_alone : (after : List ℕ) → Stops is_operator_byte after → operator_token (less_than ∷ after) ≡ Some (EarlierOrEqual, after)
 less_alone [] s = refl
-less_alone (d ∷ after) s = short 60 Earlier EarlierOrEqual after d s refl
+less_alone (d ∷ after) s = short less_than Earlier EarlierOrEqual after d s refl
 
-more_alone : (after : List ℕ) → Stops is_operator_byte after → operator_token (62 ∷ after) ≡ Some (LaterOrEqual, after)
+more_alone : (after : List ℕ) → Stops is_operator_byte after → operator_token (greater_than ∷ after) ≡ Some (LaterOrEqual, after)
 more_alone [] s = refl
-more_alone (d ∷ after) s = short 62 Later LaterOrEqual after d s refl
+more_alone (d ∷ after) s = short greater_than Later LaterOrEqual after d s refl
 
-equal_alone : (after : List ℕ) → operator_token (61 ∷ after) ≡ Some (Equal, after)
+equal_alone : (after : List ℕ) → operator_token (equals ∷ after) ≡ Some (Equal, after)
 equal_alone [] = refl
 equal_alone (d ∷ after) = refl
 
@@ -110,10 +111,10 @@ spelled_so : (op : Operator) (s t after : List ℕ) → s ≡ t → operator_tok
 spelled_so op s t after e h = ap (λ (l : List ℕ). operator_token (l ++ after)) e ∙ h
 
 pub operator_again : (op : Operator) (s after : List ℕ) → IsSpelled op s → Stops is_operator_byte after → operator_token (s ++ after) ≡ Some (op, after)
-operator_again Earlier s after h t = spelled_so Earlier s (60 ∷ 60 ∷ []) after h refl
-operator_again EarlierOrEqual s after (inl h) t = spelled_so EarlierOrEqual s (60 ∷ 61 ∷ []) after h refl
-operator_again EarlierOrEqual s after (inr h) t = spelled_so EarlierOrEqual s (60 ∷ []) after h (less_alone after t)
-operator_again Equal s after h t = spelled_so Equal s (61 ∷ []) after h (equal_alone after)
-operator_again LaterOrEqual s after (inl h) t = spelled_so LaterOrEqual s (62 ∷ 61 ∷ []) after h refl
-operator_again LaterOrEqual s after (inr h) t = spelled_so LaterOrEqual s (62 ∷ []) after h (more_alone after t)
-operator_again Later s after h t = spelled_so Later s (62 ∷ 62 ∷ []) after h refl
+operator_again Earlier s after h t = spelled_so Earlier s (less_than ∷ less_than ∷ []) after h refl
+operator_again EarlierOrEqual s after (inl h) t = spelled_so EarlierOrEqual s (less_than ∷ equals ∷ []) after h refl
+operator_again EarlierOrEqual s after (inr h) t = spelled_so EarlierOrEqual s (less_than ∷ []) after h (less_alone after t)
+operator_again Equal s after h t = spelled_so Equal s (equals ∷ []) after h (equal_alone after)
+operator_again LaterOrEqual s after (inl h) t = spelled_so LaterOrEqual s (greater_than ∷ equals ∷ []) after h refl
+operator_again LaterOrEqual s after (inr h) t = spelled_so LaterOrEqual s (greater_than ∷ []) after h (more_alone after t)
+operator_again Later s after h t = spelled_so Later s (greater_than ∷ greater_than ∷ []) after h refl

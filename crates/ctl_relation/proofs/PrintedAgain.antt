@@ -7,9 +7,8 @@ use Rattle.ctl_relation.specs.declared.operator.Operator.TheVariants.{Earlier, E
 use Rattle.ctl_relation.specs.declared.field_kind.FieldKind.{FieldKind}
 use Rattle.ctl_relation.specs.Bytes.{space, bar}
 use Rattle.ctl_relation.specs.Grammar.{IsWhitespace, IsSpelled, QualifierText, BoundText, AtomText, PaddedAtom, GroupText, PiecesText, groups_of, RelationsText}
-use Rattle.ctl_relation.specs.Named.{qualifier_text}
 use Rattle.ctl_relation.specs.Parts.{AtomParts}
-use Rattle.ctl_relation.specs.Printed.{operator_text, bound_text, atom_text, alternative_text, group_text}
+use Rattle.ctl_relation.specs.Printed.{operator_text, qualifier_text, bound_text, atom_text, alternative_text, group_text}
 use Rattle.ctl_relation.specs.ReadAgain.{AtomsReadAgain, GroupsReadAgain}
 
 operator_spelled : (op : Operator) → IsSpelled op (operator_text op)

@@ -8,6 +8,7 @@ use Rattle.ctl_relation.specs.declared.relation_fault.RelationFault.TheVariants 
 use Rattle.ctl_relation.specs.declared.operator.Operator.{Operator}
 use Rattle.ctl_relation.specs.declared.operator.Operator.TheVariants.{Earlier, EarlierOrEqual, Equal, LaterOrEqual, Later}
 use Rattle.ctl_relation.specs.declared.field_kind.FieldKind.{FieldKind}
+use Rattle.ctl_relation.specs.Bytes.{left_parenthesis, comma, colon, less_than, equals, greater_than, bar}
 use Rattle.ctl_relation.specs.FieldBytes.{is_whitespace, is_qualifier_byte, run, rest}
 use Rattle.ctl_relation.specs.Parts.{AtomParts}
 use Rattle.ctl_relation.specs.Names.{is_name}
@@ -32,23 +33,23 @@ next_behind q (Err e) = Ends (Some e)
 
 abbrev pub group_next : List ℕ → Next
 group_next [] = Ends None
-group_next (b ∷ text) = cond (b == 44) (Moves GroupDue text) (next_behind AfterName (name_at (b ∷ text)))
+group_next (b ∷ text) = cond (b == comma) (Moves GroupDue text) (next_behind AfterName (name_at (b ∷ text)))
 
 abbrev pub end_next : FieldKind → List ℕ → Next
 end_next kind [] = Ends None
-end_next kind (b ∷ text) = cond (b == 44) (Moves GroupDue text) (cond (b == 124) (cond (has_alternatives kind) (Moves AtomDue text) (Ends (Some fault.Alternative))) (Ends (Some fault.Name)))
+end_next kind (b ∷ text) = cond (b == comma) (Moves GroupDue text) (cond (b == bar) (cond (has_alternatives kind) (Moves AtomDue text) (Ends (Some fault.Alternative))) (Ends (Some fault.Name)))
 
 abbrev pub bracket_next : FieldKind → List ℕ → Next
 bracket_next kind [] = Ends None
-bracket_next kind (b ∷ text) = cond (b == 40) (Moves OperatorDue text) (end_next kind (b ∷ text))
+bracket_next kind (b ∷ text) = cond (b == left_parenthesis) (Moves OperatorDue text) (end_next kind (b ∷ text))
 
 abbrev pub name_next : FieldKind → List ℕ → Next
 name_next kind [] = Ends None
-name_next kind (b ∷ text) = cond (b == 58) (Moves QualifierDue text) (bracket_next kind (rest is_whitespace (b ∷ text)))
+name_next kind (b ∷ text) = cond (b == colon) (Moves QualifierDue text) (bracket_next kind (rest is_whitespace (b ∷ text)))
 
 abbrev pub operator_next : FieldKind → List ℕ → Next
 operator_next kind [] = Ends (Some fault.Operator)
-operator_next kind (b ∷ text) = cond (b == 61) (Moves VersionDue text) (cond (is_sign b) (cond (is_provides kind) (Ends (Some fault.ProvidesOperator)) (Moves (AfterSign b) text)) (Ends (Some fault.Operator)))
+operator_next kind (b ∷ text) = cond (b == equals) (Moves VersionDue text) (cond (is_sign b) (cond (is_provides kind) (Ends (Some fault.ProvidesOperator)) (Moves (AfterSign b) text)) (Ends (Some fault.Operator)))
 
 abbrev pub version_next : List ℕ → Next
 version_next left = next_behind CloseDue (version_at (rest is_whitespace left))
@@ -131,50 +132,50 @@ signed kind b t x h last = go (is_provides kind)
 
 -- the second byte of an operator
 lengthened : (kind : FieldKind) (b c : ℕ) (text : List ℕ) → (c == b) ≡ true → next kind (AfterSign b) (c ∷ text) ≡ Moves VersionDue text
-lengthened kind b c text e = ap (λ t. cond (t || c == 61) (Moves VersionDue text) (version_next (c ∷ text))) e
+lengthened kind b c text e = ap (λ t. cond (t || c == equals) (Moves VersionDue text) (version_next (c ∷ text))) e
 
-with_equal : (kind : FieldKind) (b c : ℕ) (text : List ℕ) → (c == b) ≡ false → (c == 61) ≡ true → next kind (AfterSign b) (c ∷ text) ≡ Moves VersionDue text
-with_equal kind b c text n e = ap (λ t. cond (t || c == 61) (Moves VersionDue text) (version_next (c ∷ text))) n ∙ ap (λ t. cond t (Moves VersionDue text) (version_next (c ∷ text))) e
+with_equal : (kind : FieldKind) (b c : ℕ) (text : List ℕ) → (c == b) ≡ false → (c == equals) ≡ true → next kind (AfterSign b) (c ∷ text) ≡ Moves VersionDue text
+with_equal kind b c text n e = ap (λ t. cond (t || c == equals) (Moves VersionDue text) (version_next (c ∷ text))) n ∙ ap (λ t. cond t (Moves VersionDue text) (version_next (c ∷ text))) e
 
-alone : (kind : FieldKind) (b c : ℕ) (text : List ℕ) → (c == b) ≡ false → (c == 61) ≡ false → next kind (AfterSign b) (c ∷ text) ≡ next kind VersionDue (c ∷ text)
-alone kind b c text n e = ap (λ t. cond (t || c == 61) (Moves VersionDue text) (version_next (c ∷ text))) n ∙ ap (λ t. cond t (Moves VersionDue text) (version_next (c ∷ text))) e
+alone : (kind : FieldKind) (b c : ℕ) (text : List ℕ) → (c == b) ≡ false → (c == equals) ≡ false → next kind (AfterSign b) (c ∷ text) ≡ next kind VersionDue (c ∷ text)
+alone kind b c text n e = ap (λ t. cond (t || c == equals) (Moves VersionDue text) (version_next (c ∷ text))) n ∙ ap (λ t. cond t (Moves VersionDue text) (version_next (c ∷ text))) e
 
-less : (kind : FieldKind) (text : List ℕ) → Operated kind (operator_next kind (60 ∷ text)) (operator_at kind (60 ∷ text))
-less kind [] = signed kind 60 [] (EarlierOrEqual, []) refl (inr refl)
+less : (kind : FieldKind) (text : List ℕ) → Operated kind (operator_next kind (less_than ∷ text)) (operator_at kind (less_than ∷ text))
+less kind [] = signed kind less_than [] (EarlierOrEqual, []) refl (inr refl)
 less kind (d ∷ text) =
-    let P : Option (Operator × List ℕ) → Type 0 = λ o. Operated kind (operator_next kind (60 ∷ d ∷ text)) (allowed kind o) in
-    on_test P (d == 60) _ _ (λ e. signed kind 60 (d ∷ text) (Earlier, text) refl (inl (lengthened kind 60 d text e)))
-    (λ n. on_test P (d == 61) _ _ (λ e. signed kind 60 (d ∷ text) (EarlierOrEqual, text) refl (inl (with_equal kind 60 d text n e)))
-    (λ m. signed kind 60 (d ∷ text) (EarlierOrEqual, d ∷ text) refl (inr (alone kind 60 d text n m))))
+    let P : Option (Operator × List ℕ) → Type 0 = λ o. Operated kind (operator_next kind (less_than ∷ d ∷ text)) (allowed kind o) in
+    on_test P (d == less_than) _ _ (λ e. signed kind less_than (d ∷ text) (Earlier, text) refl (inl (lengthened kind less_than d text e)))
+    (λ n. on_test P (d == equals) _ _ (λ e. signed kind less_than (d ∷ text) (EarlierOrEqual, text) refl (inl (with_equal kind less_than d text n e)))
+    (λ m. signed kind less_than (d ∷ text) (EarlierOrEqual, d ∷ text) refl (inr (alone kind less_than d text n m))))
 
-greater : (kind : FieldKind) (text : List ℕ) → Operated kind (operator_next kind (62 ∷ text)) (operator_at kind (62 ∷ text))
-greater kind [] = signed kind 62 [] (LaterOrEqual, []) refl (inr refl)
+greater : (kind : FieldKind) (text : List ℕ) → Operated kind (operator_next kind (greater_than ∷ text)) (operator_at kind (greater_than ∷ text))
+greater kind [] = signed kind greater_than [] (LaterOrEqual, []) refl (inr refl)
 greater kind (d ∷ text) =
-    let P : Option (Operator × List ℕ) → Type 0 = λ o. Operated kind (operator_next kind (62 ∷ d ∷ text)) (allowed kind o) in
-    on_test P (d == 62) _ _ (λ e. signed kind 62 (d ∷ text) (Later, text) refl (inl (lengthened kind 62 d text e)))
-    (λ n. on_test P (d == 61) _ _ (λ e. signed kind 62 (d ∷ text) (LaterOrEqual, text) refl (inl (with_equal kind 62 d text n e)))
-    (λ m. signed kind 62 (d ∷ text) (LaterOrEqual, d ∷ text) refl (inr (alone kind 62 d text n m))))
+    let P : Option (Operator × List ℕ) → Type 0 = λ o. Operated kind (operator_next kind (greater_than ∷ d ∷ text)) (allowed kind o) in
+    on_test P (d == greater_than) _ _ (λ e. signed kind greater_than (d ∷ text) (Later, text) refl (inl (lengthened kind greater_than d text e)))
+    (λ n. on_test P (d == equals) _ _ (λ e. signed kind greater_than (d ∷ text) (LaterOrEqual, text) refl (inl (with_equal kind greater_than d text n e)))
+    (λ m. signed kind greater_than (d ∷ text) (LaterOrEqual, d ∷ text) refl (inr (alone kind greater_than d text n m))))
 
-equals : (kind : FieldKind) (text : List ℕ) → Operated kind (operator_next kind (61 ∷ text)) (operator_at kind (61 ∷ text))
-equals kind [] = let P : Bool → Type 0 = λ u. Operated kind (Moves VersionDue []) (cond (u && false) (Err fault.ProvidesOperator) (taken (Equal, []))) in by_bool P (inl refl) (inl refl) (is_provides kind)
-equals kind (d ∷ text) = let P : Bool → Type 0 = λ u. Operated kind (Moves VersionDue (d ∷ text)) (cond (u && false) (Err fault.ProvidesOperator) (taken (Equal, d ∷ text))) in by_bool P (inl refl) (inl refl) (is_provides kind)
+equals_alone : (kind : FieldKind) (text : List ℕ) → Operated kind (operator_next kind (equals ∷ text)) (operator_at kind (equals ∷ text))
+equals_alone kind [] = let P : Bool → Type 0 = λ u. Operated kind (Moves VersionDue []) (cond (u && false) (Err fault.ProvidesOperator) (taken (Equal, []))) in by_bool P (inl refl) (inl refl) (is_provides kind)
+equals_alone kind (d ∷ text) = let P : Bool → Type 0 = λ u. Operated kind (Moves VersionDue (d ∷ text)) (cond (u && false) (Err fault.ProvidesOperator) (taken (Equal, d ∷ text))) in by_bool P (inl refl) (inl refl) (is_provides kind)
 
 -- no operator
-no_token : (b : ℕ) (text : List ℕ) → (b == 60) ≡ false → (b == 61) ≡ false → (b == 62) ≡ false → operator_token (b ∷ text) ≡ None
+no_token : (b : ℕ) (text : List ℕ) → (b == less_than) ≡ false → (b == equals) ≡ false → (b == greater_than) ≡ false → operator_token (b ∷ text) ≡ None
 no_token b [] x y z = rw (x, z, y) refl
 no_token b (d ∷ text) x y z = rw (y, x, z) refl
 
-no_next : (kind : FieldKind) (b : ℕ) (text : List ℕ) → (b == 60) ≡ false → (b == 61) ≡ false → (b == 62) ≡ false → operator_next kind (b ∷ text) ≡ Ends (Some fault.Operator)
+no_next : (kind : FieldKind) (b : ℕ) (text : List ℕ) → (b == less_than) ≡ false → (b == equals) ≡ false → (b == greater_than) ≡ false → operator_next kind (b ∷ text) ≡ Ends (Some fault.Operator)
 no_next kind b text x y z = rw (y, x, z) refl
 
 operated : (kind : FieldKind) (text : List ℕ) → Operated kind (operator_next kind text) (operator_at kind text)
 operated kind [] = refl
-operated kind (b ∷ text) = one (b == 60) (b == 61) (b == 62) refl refl refl
+operated kind (b ∷ text) = one (b == less_than) (b == equals) (b == greater_than) refl refl refl
   where
-    one : (x y z : Bool) → (b == 60) ≡ x → (b == 61) ≡ y → (b == 62) ≡ z → Operated kind (operator_next kind (b ∷ text)) (operator_at kind (b ∷ text))
-    one true y z e f g = let P : ℕ → Type 0 = λ c. Operated kind (operator_next kind (c ∷ text)) (operator_at kind (c ∷ text)) in subst P (sym (eqb-true b 60 e)) (less kind text)
-    one false true z e f g = let P : ℕ → Type 0 = λ c. Operated kind (operator_next kind (c ∷ text)) (operator_at kind (c ∷ text)) in subst P (sym (eqb-true b 61 f)) (equals kind text)
-    one false false true e f g = let P : ℕ → Type 0 = λ c. Operated kind (operator_next kind (c ∷ text)) (operator_at kind (c ∷ text)) in subst P (sym (eqb-true b 62 g)) (greater kind text)
+    one : (x y z : Bool) → (b == less_than) ≡ x → (b == equals) ≡ y → (b == greater_than) ≡ z → Operated kind (operator_next kind (b ∷ text)) (operator_at kind (b ∷ text))
+    one true y z e f g = let P : ℕ → Type 0 = λ c. Operated kind (operator_next kind (c ∷ text)) (operator_at kind (c ∷ text)) in subst P (sym (eqb-true b less_than e)) (less kind text)
+    one false true z e f g = let P : ℕ → Type 0 = λ c. Operated kind (operator_next kind (c ∷ text)) (operator_at kind (c ∷ text)) in subst P (sym (eqb-true b equals f)) (equals_alone kind text)
+    one false false true e f g = let P : ℕ → Type 0 = λ c. Operated kind (operator_next kind (c ∷ text)) (operator_at kind (c ∷ text)) in subst P (sym (eqb-true b greater_than g)) (greater kind text)
     one false false false e f g =
         let P : Option (Operator × List ℕ) → Type 0 = λ o. Operated kind (operator_next kind (b ∷ text)) (allowed kind o) in
         subst P (sym (no_token b text e f g)) (no_next kind b text e f g)
@@ -201,9 +202,9 @@ operator_runs kind text x r h more =
 
 -- ---- atoms
 
-inner_runs : (kind : FieldKind) (text : List ℕ) (k : (Operator × List ℕ) × List ℕ → Option RelationFault) → ((x : (Operator × List ℕ) × List ℕ) → parenthesized_at kind text ≡ Ok x → Runs kind AfterAtom x.1 (k x)) → Runs kind OperatorDue text (then_in (parenthesized_at kind text) k)
+parenthesized_runs : (kind : FieldKind) (text : List ℕ) (k : (Operator × List ℕ) × List ℕ → Option RelationFault) → ((x : (Operator × List ℕ) × List ℕ) → parenthesized_at kind text ≡ Ok x → Runs kind AfterAtom x.1 (k x)) → Runs kind OperatorDue text (then_in (parenthesized_at kind text) k)
 unfolding parenthesized_at
-inner_runs kind text k h =
+parenthesized_runs kind text k h =
     let f : Operator × List ℕ → Result ((Operator × List ℕ) × List ℕ) RelationFault = λ op. version_at (rest is_whitespace op.1) >>= λ version. close_at (rest is_whitespace version.1) >>= λ after. Ok ((op.0, version.0), after) in
     bind_runs kind OperatorDue text (operator_at kind (rest is_whitespace text)) f k (operator_fails kind text) (λ op e.
     let g : List ℕ × List ℕ → Result ((Operator × List ℕ) × List ℕ) RelationFault = λ version. close_at (rest is_whitespace version.1) >>= λ after. Ok ((op.0, version.0), after) in
@@ -222,23 +223,23 @@ bound_runs kind p left k n h = go (rest is_whitespace left) refl
 
     go : (y : List ℕ) → rest is_whitespace left ≡ y → Runs kind p left (then_in (bound_behind kind left y) k)
     go [] e = none (n ∙ ap (bracket_next kind) e ∙ sym (ap (end_next kind) e)) (ap (bound_behind kind left) e)
-    go (b ∷ behind) e = test (b == 40) refl
+    go (b ∷ behind) e = test (b == left_parenthesis) refl
       where
-        test : (u : Bool) → (b == 40) ≡ u → Runs kind p left (then_in (cond u (parenthesized_at kind behind >>= λ x. Ok (Some x.0, x.1)) (Ok (None, left))) k)
+        test : (u : Bool) → (b == left_parenthesis) ≡ u → Runs kind p left (then_in (cond u (parenthesized_at kind behind >>= λ x. Ok (Some x.0, x.1)) (Ok (None, left))) k)
         test true t =
             let f : (Operator × List ℕ) × List ℕ → Result (Option (Operator × List ℕ) × List ℕ) RelationFault = λ x. Ok (Some x.0, x.1) in
             let s : next kind p left ≡ Moves OperatorDue behind = n ∙ ap (bracket_next kind) e ∙ ap (λ z. cond z (Moves OperatorDue behind) (end_next kind (b ∷ behind))) t in
             let a : bound_at kind left ≡ (parenthesized_at kind behind >>= f) = ap (bound_behind kind left) e ∙ ap (λ z. cond z (parenthesized_at kind behind >>= f) (Ok (None, left))) t in
             let P : Option RelationFault → Type 0 = Runs kind p left in
-            subst P (sym (in_bind (parenthesized_at kind behind) f k)) (moves p left OperatorDue behind _ s (inner_runs kind behind (λ x. k (Some x.0, x.1)) (λ x w. h (Some x.0, x.1) (a ∙ step (parenthesized_at kind behind) f x w))))
+            subst P (sym (in_bind (parenthesized_at kind behind) f k)) (moves p left OperatorDue behind _ s (parenthesized_runs kind behind (λ x. k (Some x.0, x.1)) (λ x w. h (Some x.0, x.1) (a ∙ step (parenthesized_at kind behind) f x w))))
         test false t = none (n ∙ ap (bracket_next kind) e ∙ ap (λ z. cond z (Moves OperatorDue behind) (end_next kind (b ∷ behind))) t ∙ sym (ap (end_next kind) e)) (ap (bound_behind kind left) e ∙ ap (λ z. cond z (parenthesized_at kind behind >>= λ x. Ok (Some x.0, x.1)) (Ok (None, left))) t)
 
 qualifier_runs : {B : Type 0} (kind : FieldKind) (left : List ℕ) (f : Option (List ℕ) × List ℕ → Result B RelationFault) (k : B → Option RelationFault)
     → ((p : Place) (q : Option (List ℕ) × List ℕ) → qualifier_at left ≡ Ok q → next kind p q.1 ≡ bracket_next kind (rest is_whitespace q.1) → Runs kind p q.1 (then_in (f q) k)) → Runs kind AfterName left (then_in (qualifier_at left >>= f) k)
 qualifier_runs kind [] f k h = h AfterName (None, []) refl refl
-qualifier_runs kind (b ∷ text) f k h = test (b == 58) refl
+qualifier_runs kind (b ∷ text) f k h = test (b == colon) refl
   where
-    test : (u : Bool) → (b == 58) ≡ u → Runs kind AfterName (b ∷ text) (then_in (cond u (cond (length (run is_qualifier_byte text) == 0) (Err fault.Name) (Ok (Some (run is_qualifier_byte text), rest is_qualifier_byte text))) (Ok (None, b ∷ text)) >>= f) k)
+    test : (u : Bool) → (b == colon) ≡ u → Runs kind AfterName (b ∷ text) (then_in (cond u (cond (length (run is_qualifier_byte text) == 0) (Err fault.Name) (Ok (Some (run is_qualifier_byte text), rest is_qualifier_byte text))) (Ok (None, b ∷ text)) >>= f) k)
     test true t = moves AfterName (b ∷ text) QualifierDue text _ (ap (λ z. cond z (Moves QualifierDue text) (bracket_next kind (rest is_whitespace (b ∷ text)))) t) (inner (length (run is_qualifier_byte text) == 0) refl)
       where
         inner : (v : Bool) → (length (run is_qualifier_byte text) == 0) ≡ v → Runs kind QualifierDue text (then_in (cond v (Err fault.Name) (Ok (Some (run is_qualifier_byte text), rest is_qualifier_byte text)) >>= f) k)
@@ -282,16 +283,16 @@ rest_within : (text y : List ℕ) → rest is_whitespace text ≡ y → length y
 rest_within text y e = let h : length (rest is_whitespace text) ≡ length y = ap length e in omega (arith, length-drop (prefix_len is_whitespace text) text)
 
 group_runs : (m : ℕ) (kind : FieldKind) (p : Place) (left text : List ℕ) (k : List AtomParts × List ℕ → Option RelationFault) → next kind p left ≡ next_behind AfterName (name_at text) → length text < m
-    → ((x : List AtomParts × List ℕ) → behind_byte 124 (rest is_whitespace x.1) ≡ None → length x.1 < length text → Runs kind AfterAtom x.1 (k x)) → Runs kind p left (then_in (group_at m kind text) k)
+    → ((x : List AtomParts × List ℕ) → behind_byte bar (rest is_whitespace x.1) ≡ None → length x.1 < length text → Runs kind AfterAtom x.1 (k x)) → Runs kind p left (then_in (group_at m kind text) k)
 group_runs zero kind p left text k n l h = absurd (omega arith)
 group_runs (suc m) kind p left text k n l h =
-    let f : AtomParts × List ℕ → Result (List AtomParts × List ℕ) RelationFault = λ atom. alternatives kind (group_at m kind) atom (behind_byte 124 (rest is_whitespace atom.1)) in
+    let f : AtomParts × List ℕ → Result (List AtomParts × List ℕ) RelationFault = λ atom. alternatives kind (group_at m kind) atom (behind_byte bar (rest is_whitespace atom.1)) in
     let P : Option RelationFault → Type 0 = Runs kind p left in
-    subst P (sym (in_bind (atom_at kind text) f k)) (atom_runs kind p left text (λ x. then_in (f x) k) n (λ x e. go (group_runs m kind) x (atom_shorter kind text x e) (behind_byte 124 (rest is_whitespace x.1)) refl))
+    subst P (sym (in_bind (atom_at kind text) f k)) (atom_runs kind p left text (λ x. then_in (f x) k) n (λ x e. go (group_runs m kind) x (atom_shorter kind text x e) (behind_byte bar (rest is_whitespace x.1)) refl))
   where
     go : ((p : Place) (left text : List ℕ) (k : List AtomParts × List ℕ → Option RelationFault) → next kind p left ≡ next_behind AfterName (name_at text) → length text < m
-        → ((x : List AtomParts × List ℕ) → behind_byte 124 (rest is_whitespace x.1) ≡ None → length x.1 < length text → Runs kind AfterAtom x.1 (k x)) → Runs kind p left (then_in (group_at m kind text) k))
-        → (x : AtomParts × List ℕ) → length x.1 < length text → (b : Option (List ℕ)) → behind_byte 124 (rest is_whitespace x.1) ≡ b → Runs kind AfterAtom x.1 (then_in (alternatives kind (group_at m kind) x b) k)
+        → ((x : List AtomParts × List ℕ) → behind_byte bar (rest is_whitespace x.1) ≡ None → length x.1 < length text → Runs kind AfterAtom x.1 (k x)) → Runs kind p left (then_in (group_at m kind text) k))
+        → (x : AtomParts × List ℕ) → length x.1 < length text → (b : Option (List ℕ)) → behind_byte bar (rest is_whitespace x.1) ≡ b → Runs kind AfterAtom x.1 (then_in (alternatives kind (group_at m kind) x b) k)
     go again x s None e = h (x.0 ∷ [], x.1) e s
     go again x s (Some t) e = test (has_alternatives kind) refl
       where
@@ -299,11 +300,11 @@ group_runs (suc m) kind p left text k n l h =
         test true u =
             let f : List AtomParts × List ℕ → Result (List AtomParts × List ℕ) RelationFault = λ y. Ok (x.0 ∷ y.0, y.1) in
             let P : Option RelationFault → Type 0 = Runs kind AfterAtom x.1 in
-            let s1 : length (124 ∷ t) ≤ length x.1 = rest_within x.1 (124 ∷ t) (behind_found 124 (rest is_whitespace x.1) t e) in
+            let s1 : length (bar ∷ t) ≤ length x.1 = rest_within x.1 (bar ∷ t) (behind_found bar (rest is_whitespace x.1) t e) in
             let s2 : length (rest is_whitespace t) ≤ length t = rest_within t (rest is_whitespace t) refl in
-            subst P (sym (in_bind (group_at m kind (rest is_whitespace t)) f k)) (moves AfterAtom x.1 AtomDue t _ (ap (end_next kind) (behind_found 124 (rest is_whitespace x.1) t e) ∙ ap (λ z. cond z (Moves AtomDue t) (Ends (Some fault.Alternative))) u)
+            subst P (sym (in_bind (group_at m kind (rest is_whitespace t)) f k)) (moves AfterAtom x.1 AtomDue t _ (ap (end_next kind) (behind_found bar (rest is_whitespace x.1) t e) ∙ ap (λ z. cond z (Moves AtomDue t) (Ends (Some fault.Alternative))) u)
             (again AtomDue t (rest is_whitespace t) (λ y. k (x.0 ∷ y.0, y.1)) refl (omega arith) (λ y n l. h (x.0 ∷ y.0, y.1) n (omega arith))))
-        test false u = ends AfterAtom x.1 (Some fault.Alternative) (ap (end_next kind) (behind_found 124 (rest is_whitespace x.1) t e) ∙ ap (λ z. cond z (Moves AtomDue t) (Ends (Some fault.Alternative))) u)
+        test false u = ends AfterAtom x.1 (Some fault.Alternative) (ap (end_next kind) (behind_found bar (rest is_whitespace x.1) t e) ∙ ap (λ z. cond z (Moves AtomDue t) (Ends (Some fault.Alternative))) u)
 
 -- ---- fields
 
@@ -321,41 +322,41 @@ abbrev pub fault_in : {A : Type 0} → Result A RelationFault → Option Relatio
 fault_in r = then_in r (λ x. None)
 
 -- behind a group: a comma and further groups, or the end
-behind_runs : (n : ℕ) (kind : FieldKind) (g : List AtomParts) (after : List ℕ) → ((text : List ℕ) → length text < n → Runs kind GroupDue text (fault_in (groups_at n kind text))) → behind_byte 124 (rest is_whitespace after) ≡ None → length after < suc n
-    → Runs kind AfterAtom after (fault_in (groups_behind (groups_at n kind) g (rest is_whitespace after) (behind_byte 44 (rest is_whitespace after))))
+behind_runs : (n : ℕ) (kind : FieldKind) (g : List AtomParts) (after : List ℕ) → ((text : List ℕ) → length text < n → Runs kind GroupDue text (fault_in (groups_at n kind text))) → behind_byte bar (rest is_whitespace after) ≡ None → length after < suc n
+    → Runs kind AfterAtom after (fault_in (groups_behind (groups_at n kind) g (rest is_whitespace after) (behind_byte comma (rest is_whitespace after))))
 behind_runs n kind g after again h l = go (rest is_whitespace after) refl h
   where
-    go : (y : List ℕ) → rest is_whitespace after ≡ y → behind_byte 124 y ≡ None → Runs kind AfterAtom after (fault_in (groups_behind (groups_at n kind) g y (behind_byte 44 y)))
+    go : (y : List ℕ) → rest is_whitespace after ≡ y → behind_byte bar y ≡ None → Runs kind AfterAtom after (fault_in (groups_behind (groups_at n kind) g y (behind_byte comma y)))
     go [] e h = ends AfterAtom after None (ap (end_next kind) e)
-    go (b ∷ text) e h = test (b == 44) refl
+    go (b ∷ text) e h = test (b == comma) refl
       where
-        test : (u : Bool) → (b == 44) ≡ u → Runs kind AfterAtom after (fault_in (groups_behind (groups_at n kind) g (b ∷ text) (cond u (Some text) None)))
+        test : (u : Bool) → (b == comma) ≡ u → Runs kind AfterAtom after (fault_in (groups_behind (groups_at n kind) g (b ∷ text) (cond u (Some text) None)))
         test true u =
             let P : Option RelationFault → Type 0 = Runs kind AfterAtom after in
             let f : List (List AtomParts) → Result (List (List AtomParts)) RelationFault = λ x. Ok (g ∷ x) in
             let s : length (b ∷ text) ≤ length after = rest_within after (b ∷ text) e in
-            subst P (sym (in_bind (groups_at n kind text) f (λ x. None))) (moves AfterAtom after GroupDue text _ (ap (end_next kind) e ∙ ap (λ z. cond z (Moves GroupDue text) (cond (b == 124) (cond (has_alternatives kind) (Moves AtomDue text) (Ends (Some fault.Alternative))) (Ends (Some fault.Name)))) u) (again text (omega arith)))
+            subst P (sym (in_bind (groups_at n kind text) f (λ x. None))) (moves AfterAtom after GroupDue text _ (ap (end_next kind) e ∙ ap (λ z. cond z (Moves GroupDue text) (cond (b == bar) (cond (has_alternatives kind) (Moves AtomDue text) (Ends (Some fault.Alternative))) (Ends (Some fault.Name)))) u) (again text (omega arith)))
         test false u =
             let P : Bool → Type 0 = λ z. Runs kind AfterAtom after (fault_in (cond z (taken (g ∷ [])) (Err fault.Name))) in
-            subst P (sym (more_than b text)) (ends AfterAtom after (Some fault.Name) (ap (end_next kind) e ∙ ap (λ z. cond z (Moves GroupDue text) (cond (b == 124) (cond (has_alternatives kind) (Moves AtomDue text) (Ends (Some fault.Alternative))) (Ends (Some fault.Name)))) u
-            ∙ ap (λ z. cond z (cond (has_alternatives kind) (Moves AtomDue text) (Ends (Some fault.Alternative))) (Ends (Some fault.Name))) (no_byte 124 b text h)))
+            subst P (sym (more_than b text)) (ends AfterAtom after (Some fault.Name) (ap (end_next kind) e ∙ ap (λ z. cond z (Moves GroupDue text) (cond (b == bar) (cond (has_alternatives kind) (Moves AtomDue text) (Ends (Some fault.Alternative))) (Ends (Some fault.Name)))) u
+            ∙ ap (λ z. cond z (cond (has_alternatives kind) (Moves AtomDue text) (Ends (Some fault.Alternative))) (Ends (Some fault.Name))) (no_byte bar b text h)))
 
 groups_runs : (n : ℕ) (kind : FieldKind) (text : List ℕ) → length text < n → Runs kind GroupDue text (fault_in (groups_at n kind text))
 groups_runs zero kind text l = absurd (omega arith)
 groups_runs (suc n) kind text l = go (groups_runs n kind) (rest is_whitespace text) refl
   where
-    go : ((text : List ℕ) → length text < n → Runs kind GroupDue text (fault_in (groups_at n kind text))) → (y : List ℕ) → rest is_whitespace text ≡ y → Runs kind GroupDue text (fault_in (groups_from (groups_at n kind) kind y (behind_byte 44 y)))
+    go : ((text : List ℕ) → length text < n → Runs kind GroupDue text (fault_in (groups_at n kind text))) → (y : List ℕ) → rest is_whitespace text ≡ y → Runs kind GroupDue text (fault_in (groups_from (groups_at n kind) kind y (behind_byte comma y)))
     go again [] e = ends GroupDue text None (ap group_next e)
-    go again (b ∷ after) e = test (b == 44) refl
+    go again (b ∷ after) e = test (b == comma) refl
       where
-        test : (u : Bool) → (b == 44) ≡ u → Runs kind GroupDue text (fault_in (groups_from (groups_at n kind) kind (b ∷ after) (cond u (Some after) None)))
+        test : (u : Bool) → (b == comma) ≡ u → Runs kind GroupDue text (fault_in (groups_from (groups_at n kind) kind (b ∷ after) (cond u (Some after) None)))
         test true u =
             let s : length (b ∷ after) ≤ length text = rest_within text (b ∷ after) e in
             moves GroupDue text GroupDue after _ (ap group_next e ∙ ap (λ z. cond z (Moves GroupDue after) (next_behind AfterName (name_at (b ∷ after)))) u) (again after (omega arith))
         test false u =
             let x : List ℕ = b ∷ after in
             let s : length (b ∷ after) ≤ length text = rest_within text (b ∷ after) e in
-            let f : List AtomParts × List ℕ → Result (List (List AtomParts)) RelationFault = λ g. groups_behind (groups_at n kind) g.0 (rest is_whitespace g.1) (behind_byte 44 (rest is_whitespace g.1)) in
+            let f : List AtomParts × List ℕ → Result (List (List AtomParts)) RelationFault = λ g. groups_behind (groups_at n kind) g.0 (rest is_whitespace g.1) (behind_byte comma (rest is_whitespace g.1)) in
             let P : Option RelationFault → Type 0 = Runs kind GroupDue text in
             let Q : Bool → Type 0 = λ z. Runs kind GroupDue text (fault_in (cond z (taken []) (group_at (length x + 1) kind x >>= f))) in
             subst Q (sym (more_than b after)) (subst P (sym (in_bind (group_at (length x + 1) kind x) f (λ y. None)))

@@ -134,7 +134,7 @@ parts_are_unique text parts h = sym (parts_of-unique text parts.epoch parts.upst
 
 -- ---- no test of memory
 
-abbrev fails : VersionFault → Option VersionFault
+abbrev pub fails : VersionFault → Option VersionFault
 fails found = Some found
 
 -- a test that is not one of memory, and those behind it

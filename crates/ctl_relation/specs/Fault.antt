@@ -82,17 +82,27 @@ lengthens b c = c == b || c == equals
 -- What was read stands at a place: it is made token by token, with whitespace in front of a token where it may stand.
 pub data StandsAt (kind : FieldKind) : List ℕ → Place → Type 0 where
   at_start : StandsAt kind [] GroupDue
-  comma_read : (read blanks : List ℕ) (place : Place) → StandsAt kind read place → takes_comma place ≡ true → IsWhitespace blanks → StandsAt kind (read ++ (blanks ++ comma ∷ [])) GroupDue
-  bar_read : (read blanks : List ℕ) (place : Place) → StandsAt kind read place → takes_bar place ≡ true → has_alternatives kind ≡ true → IsWhitespace blanks → StandsAt kind (read ++ (blanks ++ bar ∷ [])) AtomDue
-  name_read : (read blanks name : List ℕ) (place : Place) → StandsAt kind read place → takes_name place ≡ true → IsWhitespace blanks → is_name name ≡ true → StandsAt kind (read ++ (blanks ++ name)) AfterName
+  comma_read : (read blanks : List ℕ) (place : Place) → StandsAt kind read place → takes_comma place ≡ true
+      → IsWhitespace blanks → StandsAt kind (read ++ (blanks ++ comma ∷ [])) GroupDue
+  bar_read : (read blanks : List ℕ) (place : Place) → StandsAt kind read place → takes_bar place ≡ true
+      → has_alternatives kind ≡ true → IsWhitespace blanks → StandsAt kind (read ++ (blanks ++ bar ∷ [])) AtomDue
+  name_read : (read blanks name : List ℕ) (place : Place) → StandsAt kind read place → takes_name place ≡ true
+      → IsWhitespace blanks → is_name name ≡ true → StandsAt kind (read ++ (blanks ++ name)) AfterName
   colon_read : (read : List ℕ) → StandsAt kind read AfterName → StandsAt kind (read ++ colon ∷ []) QualifierDue
-  qualifier_read : (read qualifier : List ℕ) → StandsAt kind read QualifierDue → 0 < length qualifier → list_all is_qualifier_byte qualifier ≡ true → StandsAt kind (read ++ qualifier) AfterQualifier
-  bracket_read : (read blanks : List ℕ) (place : Place) → StandsAt kind read place → takes_bracket place ≡ true → IsWhitespace blanks → StandsAt kind (read ++ (blanks ++ left_parenthesis ∷ [])) OperatorDue
-  equal_read : (read blanks : List ℕ) → StandsAt kind read OperatorDue → IsWhitespace blanks → StandsAt kind (read ++ (blanks ++ equals ∷ [])) VersionDue
-  sign_read : (read blanks : List ℕ) (b : ℕ) → StandsAt kind read OperatorDue → IsWhitespace blanks → is_sign b ≡ true → is_provides kind ≡ false → StandsAt kind (read ++ (blanks ++ b ∷ [])) (AfterSign b)
-  sign_longer : (read : List ℕ) (b c : ℕ) → StandsAt kind read (AfterSign b) → lengthens b c ≡ true → StandsAt kind (read ++ c ∷ []) VersionDue
-  version_read : (read blanks version : List ℕ) (place : Place) → StandsAt kind read place → takes_version place ≡ true → IsWhitespace blanks → fault_of version ≡ None → StandsAt kind (read ++ (blanks ++ version)) CloseDue
-  close_read : (read blanks : List ℕ) → StandsAt kind read CloseDue → IsWhitespace blanks → StandsAt kind (read ++ (blanks ++ right_parenthesis ∷ [])) AfterAtom
+  qualifier_read : (read qualifier : List ℕ) → StandsAt kind read QualifierDue → 0 < length qualifier
+      → list_all is_qualifier_byte qualifier ≡ true → StandsAt kind (read ++ qualifier) AfterQualifier
+  bracket_read : (read blanks : List ℕ) (place : Place) → StandsAt kind read place → takes_bracket place ≡ true
+      → IsWhitespace blanks → StandsAt kind (read ++ (blanks ++ left_parenthesis ∷ [])) OperatorDue
+  equal_read : (read blanks : List ℕ) → StandsAt kind read OperatorDue
+      → IsWhitespace blanks → StandsAt kind (read ++ (blanks ++ equals ∷ [])) VersionDue
+  sign_read : (read blanks : List ℕ) (b : ℕ) → StandsAt kind read OperatorDue
+      → IsWhitespace blanks → is_sign b ≡ true → is_provides kind ≡ false → StandsAt kind (read ++ (blanks ++ b ∷ [])) (AfterSign b)
+  sign_longer : (read : List ℕ) (b c : ℕ) → StandsAt kind read (AfterSign b) → lengthens b c ≡ true
+      → StandsAt kind (read ++ c ∷ []) VersionDue
+  version_read : (read blanks version : List ℕ) (place : Place) → StandsAt kind read place → takes_version place ≡ true
+      → IsWhitespace blanks → fault_of version ≡ None → StandsAt kind (read ++ (blanks ++ version)) CloseDue
+  close_read : (read blanks : List ℕ) → StandsAt kind read CloseDue
+      → IsWhitespace blanks → StandsAt kind (read ++ (blanks ++ right_parenthesis ∷ [])) AfterAtom
 
 -- The last token does not go on in what is left.
 abbrev pub IsWhole : Place → List ℕ → Type 0
@@ -121,7 +131,9 @@ qualifier_fault (b ∷ text) = if is_qualifier_byte b then None else Some fault.
 -- behind an atom: the end, a comma, or a bar where the field has alternatives
 abbrev pub end_fault : FieldKind → List ℕ → Option RelationFault
 end_fault kind [] = None
-end_fault kind (b ∷ text) = if b == comma then None else (if b == bar then (if has_alternatives kind then None else Some fault.Alternative) else Some fault.Name)
+end_fault kind (b ∷ text) =
+    if b == comma then None else (
+    if b == bar then (if has_alternatives kind then None else Some fault.Alternative) else Some fault.Name)
 
 -- behind a name or a qualifier: an open parenthesis too
 abbrev pub bracket_fault : FieldKind → List ℕ → Option RelationFault
@@ -131,7 +143,9 @@ bracket_fault kind (b ∷ text) = if b == left_parenthesis then None else end_fa
 -- The name goes on, or a colon stands directly behind it, or what else may follow stands behind whitespace.
 abbrev pub after_name_fault : FieldKind → List ℕ → Option RelationFault
 after_name_fault kind [] = None
-after_name_fault kind (b ∷ text) = if is_name_byte b then None else (if b == colon then None else bracket_fault kind (rest is_whitespace (b ∷ text)))
+after_name_fault kind (b ∷ text) =
+    if is_name_byte b then None else (
+    if b == colon then None else bracket_fault kind (rest is_whitespace (b ∷ text)))
 
 -- The qualifier goes on, or what may follow stands behind whitespace.
 abbrev pub after_qualifier_fault : FieldKind → List ℕ → Option RelationFault
@@ -141,7 +155,9 @@ after_qualifier_fault kind (b ∷ text) = if is_qualifier_byte b then None else 
 -- In Provides `<` and `>` begin an operator that is not `=`.
 abbrev pub operator_fault : FieldKind → List ℕ → Option RelationFault
 operator_fault kind [] = Some fault.Operator
-operator_fault kind (b ∷ text) = if b == equals then None else (if is_sign b then (if is_provides kind then Some fault.ProvidesOperator else None) else Some fault.Operator)
+operator_fault kind (b ∷ text) =
+    if b == equals then None else (
+    if is_sign b then (if is_provides kind then Some fault.ProvidesOperator else None) else Some fault.Operator)
 
 -- A version goes up to whitespace, a closing parenthesis or the end, and is judged whole.
 abbrev pub version_fault : List ℕ → Option RelationFault
@@ -185,7 +201,9 @@ pub record IsFault (kind : FieldKind) (body : List ℕ) (f : RelationFault) : Ty
 
 -- Each place can be continued to a field.
 abbrev pub Continues : Type 0
-Continues = (kind : FieldKind) (read : List ℕ) (place : Place) → StandsAt kind read place → (more : List ℕ) × (groups : List (List AtomParts)) × RelationsText kind (read ++ more) groups
+Continues =
+    (kind : FieldKind) (read : List ℕ) (place : Place) → StandsAt kind read place
+    → (more : List ℕ) × (groups : List (List AtomParts)) × RelationsText kind (read ++ more) groups
 
 -- No whole tokens that some field begins with reach further into the body than to its fault.
 abbrev pub StandsLast : Type 0
@@ -195,11 +213,15 @@ StandsLast =
 
 -- A body has groups or a fault,
 abbrev pub GroupsOrFault : Type 0
-GroupsOrFault = (kind : FieldKind) (body : List ℕ) → ((groups : List (List AtomParts)) × RelationsText kind body groups) ⊎ ((f : RelationFault) × IsFault kind body f)
+GroupsOrFault =
+    (kind : FieldKind) (body : List ℕ)
+    → ((groups : List (List AtomParts)) × RelationsText kind body groups) ⊎ ((f : RelationFault) × IsFault kind body f)
 
 -- never both,
 abbrev pub NeverBoth : Type 0
-NeverBoth = (kind : FieldKind) (body : List ℕ) (f : RelationFault) (groups : List (List AtomParts)) → IsFault kind body f → RelationsText kind body groups → ⊥
+NeverBoth =
+    (kind : FieldKind) (body : List ℕ) (f : RelationFault) (groups : List (List AtomParts))
+    → IsFault kind body f → RelationsText kind body groups → ⊥
 
 -- and one fault,
 abbrev pub OneFault : Type 0

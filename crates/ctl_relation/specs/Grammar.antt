@@ -29,7 +29,8 @@ IsSpelled Later text = text ≡ codes ">>"
 -- a colon and the qualifier, of one or more letters, digits and hyphens; or nothing
 abbrev pub QualifierText : List ℕ → Option (List ℕ) → Type 0
 QualifierText text None = text ≡ []
-QualifierText text (Some qualifier) = (text ≡ colon ∷ qualifier) × (0 < length qualifier) × (list_all is_qualifier_byte qualifier ≡ true)
+QualifierText text (Some qualifier) =
+    (text ≡ colon ∷ qualifier) × (0 < length qualifier) × (list_all is_qualifier_byte qualifier ≡ true)
 
 -- whitespace, `(`, whitespace, the operator, whitespace, the version, whitespace, `)`; in Provides the operator is `=`
 pub record BracketText (kind : FieldKind) (text : List ℕ) (op : Operator) (version : List ℕ) : Type 0 where
@@ -72,7 +73,8 @@ abbrev pub GroupText : FieldKind → List ℕ → List AtomParts → Type 0
 GroupText kind text [] = ⊥
 GroupText kind text (atom ∷ []) = PaddedAtom kind text atom
 GroupText kind text (atom ∷ other ∷ more) =
-    (first after : List ℕ) × PaddedAtom kind first atom × (has_alternatives kind ≡ true) × GroupText kind after (other ∷ more) × (text ≡ first ++ bar ∷ after)
+    (first after : List ℕ) × PaddedAtom kind first atom × (has_alternatives kind ≡ true)
+    × GroupText kind after (other ∷ more) × (text ≡ first ++ bar ∷ after)
 
 -- [group]: whitespace alone is a piece without a group
 abbrev pub PieceText : FieldKind → List ℕ → Option (List AtomParts) → Type 0
@@ -84,7 +86,8 @@ abbrev pub PiecesText : FieldKind → List ℕ → List (Option (List AtomParts)
 PiecesText kind text [] = ⊥
 PiecesText kind text (piece ∷ []) = PieceText kind text piece
 PiecesText kind text (piece ∷ other ∷ more) =
-    (first after : List ℕ) × PieceText kind first piece × PiecesText kind after (other ∷ more) × (text ≡ first ++ comma ∷ after)
+    (first after : List ℕ) × PieceText kind first piece
+    × PiecesText kind after (other ∷ more) × (text ≡ first ++ comma ∷ after)
 
 -- the groups that are there
 abbrev pub groups_of : List (Option (List AtomParts)) → List (List AtomParts)
@@ -94,4 +97,5 @@ groups_of (Some group ∷ pieces) = group ∷ groups_of pieces
 
 -- The text is a field with these groups: a piece without a group is skipped.
 abbrev pub RelationsText : FieldKind → List ℕ → List (List AtomParts) → Type 0
-RelationsText kind text groups = (pieces : List (Option (List AtomParts))) × PiecesText kind text pieces × (groups ≡ groups_of pieces)
+RelationsText kind text groups =
+    (pieces : List (Option (List AtomParts))) × PiecesText kind text pieces × (groups ≡ groups_of pieces)

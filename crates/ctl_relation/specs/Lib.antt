@@ -12,8 +12,8 @@ pub mod Parts
 pub mod Lent
 pub mod FieldKind
 pub mod Alternatives
-pub mod Named
 pub mod Printed
+pub mod Named
 pub mod Met
 pub mod FieldBytes
 pub mod Reading

@@ -1,6 +1,6 @@
 -- How an atom holds its name and its qualifier: in one text, joined by a colon.
 use Rattle.std.specs.Prelude.{◌≡◌, ℕ, ◌≤◌, List, [], ◌∷◌, length, drop, Option, Some, None}
-use Rattle.ctl_relation.specs.Bytes.{colon}
+use Rattle.ctl_relation.specs.Printed.{qualifier_text}
 
 abbrev pub qualifier_in : List ℕ → Option (List ℕ)
 qualifier_in [] = None
@@ -9,11 +9,6 @@ qualifier_in (first ∷ qualifier) = Some qualifier
 -- what stands behind the name and the colon, if anything does
 abbrev pub qualifier_behind : ℕ → List ℕ → Option (List ℕ)
 qualifier_behind name_len named = qualifier_in (drop name_len named)
-
--- a qualifier behind its colon, or nothing
-abbrev pub qualifier_text : Option (List ℕ) → List ℕ
-qualifier_text None = []
-qualifier_text (Some qualifier) = colon ∷ qualifier
 
 -- The name ends within the text, and what stands behind it begins with a colon.
 pub record IsNamed (name_len : ℕ) (named : List ℕ) : Type 0 where

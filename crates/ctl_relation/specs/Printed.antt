@@ -3,7 +3,7 @@ use Rattle.std.specs.Prelude.{ℕ, List, [], ◌∷◌, ◌++◌, Option, Some, 
 use Rattle.std.specs.List.{flat_map}
 use Rattle.ctl_relation.specs.declared.operator.Operator.{Operator}
 use Rattle.ctl_relation.specs.declared.operator.Operator.TheVariants.{Earlier, EarlierOrEqual, Equal, LaterOrEqual, Later}
-use Rattle.ctl_relation.specs.Named.{qualifier_text}
+use Rattle.ctl_relation.specs.Bytes.{colon}
 use Rattle.ctl_relation.specs.Parts.{AtomParts}
 
 -- the five operators of Debian Policy 7.1
@@ -13,6 +13,11 @@ operator_text EarlierOrEqual = codes "<="
 operator_text Equal = codes "="
 operator_text LaterOrEqual = codes ">="
 operator_text Later = codes ">>"
+
+-- a qualifier behind its colon, or nothing
+abbrev pub qualifier_text : Option (List ℕ) → List ℕ
+qualifier_text None = []
+qualifier_text (Some qualifier) = colon ∷ qualifier
 
 -- a space and in parentheses the operator, a space and the version, or nothing
 abbrev pub bound_text : Option (Operator × List ℕ) → List ℕ

@@ -41,11 +41,18 @@ qualifier_at (b ∷ text) =
 
 -- the operator that begins with this byte, by the bytes behind it: the longest that fits, and `<` is `<=`, `>` is `>=`
 abbrev pub operator_behind : ℕ → List ℕ → Option (Operator × List ℕ)
-operator_behind b [] = if b == less_than then Some (EarlierOrEqual, []) else (if b == greater_than then Some (LaterOrEqual, []) else (if b == equals then Some (Equal, []) else None))
+operator_behind b [] =
+    if b == less_than then Some (EarlierOrEqual, []) else (
+    if b == greater_than then Some (LaterOrEqual, []) else (
+    if b == equals then Some (Equal, []) else None))
 operator_behind b (d ∷ text) =
     if b == equals then Some (Equal, d ∷ text) else (
-    if b == less_than then (if d == less_than then Some (Earlier, text) else (if d == equals then Some (EarlierOrEqual, text) else Some (EarlierOrEqual, d ∷ text))) else (
-    if b == greater_than then (if d == greater_than then Some (Later, text) else (if d == equals then Some (LaterOrEqual, text) else Some (LaterOrEqual, d ∷ text))) else None))
+    if b == less_than then (
+    if d == less_than then Some (Earlier, text) else (
+    if d == equals then Some (EarlierOrEqual, text) else Some (EarlierOrEqual, d ∷ text))) else (
+    if b == greater_than then (
+    if d == greater_than then Some (Later, text) else (
+    if d == equals then Some (LaterOrEqual, text) else Some (LaterOrEqual, d ∷ text))) else None))
 
 abbrev pub operator_token : List ℕ → Option (Operator × List ℕ)
 operator_token [] = None
@@ -60,7 +67,9 @@ abbrev pub operator_at : FieldKind → List ℕ → Result (Operator × List ℕ
 operator_at kind text = allowed kind (operator_token text)
 
 abbrev pub version_at : List ℕ → Result (List ℕ × List ℕ) RelationFault
-version_at text = if is_none (fault_of (run is_version_word_byte text)) then Ok (run is_version_word_byte text, rest is_version_word_byte text) else Err fault.Version
+version_at text =
+    if is_none (fault_of (run is_version_word_byte text)) then Ok (run is_version_word_byte text, rest is_version_word_byte text)
+    else Err fault.Version
 
 abbrev pub close_at : List ℕ → Result (List ℕ) RelationFault
 close_at [] = Err fault.Close
@@ -79,7 +88,8 @@ parenthesized_at kind text = do
 -- An open parenthesis begins a bound; without one nothing is taken, not even the whitespace.
 abbrev pub bound_behind : FieldKind → List ℕ → List ℕ → Result (Option (Operator × List ℕ) × List ℕ) RelationFault
 bound_behind kind text [] = Ok (None, text)
-bound_behind kind text (b ∷ behind) = if b == left_parenthesis then (parenthesized_at kind behind >>= λ x. Ok (Some x.0, x.1)) else Ok (None, text)
+bound_behind kind text (b ∷ behind) =
+    if b == left_parenthesis then (parenthesized_at kind behind >>= λ x. Ok (Some x.0, x.1)) else Ok (None, text)
 
 abbrev pub bound_at : FieldKind → List ℕ → Result (Option (Operator × List ℕ) × List ℕ) RelationFault
 bound_at kind text = bound_behind kind text (rest is_whitespace text)
@@ -100,26 +110,35 @@ behind_byte c [] = None
 behind_byte c (b ∷ text) = if b == c then Some text else None
 
 -- behind an atom: a bar and further atoms, or the end of the group
-abbrev pub alternatives : FieldKind → (List ℕ → Result (List AtomParts × List ℕ) RelationFault) → AtomParts × List ℕ → Option (List ℕ) → Result (List AtomParts × List ℕ) RelationFault
+abbrev pub alternatives :
+    FieldKind → (List ℕ → Result (List AtomParts × List ℕ) RelationFault) → AtomParts × List ℕ → Option (List ℕ)
+    → Result (List AtomParts × List ℕ) RelationFault
 alternatives kind others atom None = Ok (atom.0 ∷ [], atom.1)
-alternatives kind others atom (Some text) = if has_alternatives kind then (others (rest is_whitespace text) >>= λ x. Ok (atom.0 ∷ x.0, x.1)) else Err fault.Alternative
+alternatives kind others atom (Some text) =
+    if has_alternatives kind then (others (rest is_whitespace text) >>= λ x. Ok (atom.0 ∷ x.0, x.1)) else Err fault.Alternative
 
 -- Each atom takes a byte, so that as many turns as there are bytes suffice.
 abbrev pub group_at : ℕ → FieldKind → List ℕ → Result (List AtomParts × List ℕ) RelationFault
 group_at zero kind text = Err fault.Name
-group_at (suc n) kind text = atom_at kind text >>= λ atom. alternatives kind (group_at n kind) atom (behind_byte bar (rest is_whitespace atom.1))
+group_at (suc n) kind text =
+    atom_at kind text >>= λ atom. alternatives kind (group_at n kind) atom (behind_byte bar (rest is_whitespace atom.1))
 
 -- behind a group: a comma and further groups, or the end
-abbrev pub groups_behind : (List ℕ → Result (List (List AtomParts)) RelationFault) → List AtomParts → List ℕ → Option (List ℕ) → Result (List (List AtomParts)) RelationFault
+abbrev pub groups_behind :
+    (List ℕ → Result (List (List AtomParts)) RelationFault) → List AtomParts → List ℕ → Option (List ℕ)
+    → Result (List (List AtomParts)) RelationFault
 groups_behind others group after (Some text) = others text >>= λ x. Ok (group ∷ x)
 groups_behind others group after None = if length after == 0 then Ok (group ∷ []) else Err fault.Name
 
 -- a comma, the end, or a group
-abbrev pub groups_from : (List ℕ → Result (List (List AtomParts)) RelationFault) → FieldKind → List ℕ → Option (List ℕ) → Result (List (List AtomParts)) RelationFault
+abbrev pub groups_from :
+    (List ℕ → Result (List (List AtomParts)) RelationFault) → FieldKind → List ℕ → Option (List ℕ)
+    → Result (List (List AtomParts)) RelationFault
 groups_from others kind text (Some behind) = others behind
 groups_from others kind text None =
     if length text == 0 then Ok []
-    else (group_at (length text + 1) kind text >>= λ group. groups_behind others group.0 (rest is_whitespace group.1) (behind_byte comma (rest is_whitespace group.1)))
+    else (group_at (length text + 1) kind text
+    >>= λ group. groups_behind others group.0 (rest is_whitespace group.1) (behind_byte comma (rest is_whitespace group.1)))
 
 abbrev pub groups_at : ℕ → FieldKind → List ℕ → Result (List (List AtomParts)) RelationFault
 groups_at zero kind text = Err fault.Name

@@ -1,9 +1,9 @@
 //! Atoms, their printed form, and the counted test.
 
-ghost use Rattle.std.specs.Prelude.{◌≡◌, ◌≤◌, ◌+◌, ◌-◌, ◌^◌, ◌++◌, IfOk, OnOk, OnErr, min, take, vec_len};
+ghost use Rattle.std.specs.Prelude.{◌≡◌, ◌+◌, ◌-◌, ◌^◌, ◌++◌, IfOk, OnOk, OnErr, min, take, vec_len};
 ghost use Rattle.ctl_relation.specs.Lent.{lent, lent_bound};
 ghost use Rattle.ctl_relation.specs.Met.{met};
-ghost use Rattle.ctl_relation.specs.Printed.{atom_text, bound_text};
+ghost use Rattle.ctl_relation.specs.Printed.{atom_text};
 
 use crate::offer::Offer;
 use crate::operator::Operator;
@@ -29,7 +29,11 @@ impl Model for Atom {
 
     ghost Value = { AtomParts };
 
-    ghost view = { λ a. record { name = take a.name_len a.named.items; qualifier = qualifier_behind a.name_len a.named.items; bound = a.bound } };
+    ghost view = { λ a. record {
+      name = take a.name_len a.named.items;
+      qualifier = qualifier_behind a.name_len a.named.items;
+      bound = a.bound;
+    } };
 
     ghost invariant = { λ a. IsNamed a.name_len a.named.items };
 }
@@ -41,7 +45,8 @@ impl Atom {
         qualifier: Option<&[u8]>,
         bound: Option<(Operator, Version)>,
     ) -> Result<Atom, AllocError>
-        ensures { IfOk result (λ atom. atom ≡ record { name = name.now; qualifier = lent qualifier.entry; bound = bound }) }
+        ensures { IfOk result (λ atom.
+            atom ≡ record { name = name.now; qualifier = lent qualifier.entry; bound = bound }) }
     {
         let mut named = Vec::from_slice(alloc, name)?;
         if let Some(qualifier) = qualifier {

@@ -7,7 +7,7 @@ use crate::atom::Atom;
 use std::alloc::AllocError;
 use std::marker::Model;
 
-// Most groups have one atom, which then takes no memory beside the group's own.
+// A lone atom takes no memory beside the group's own.
 #[derive(Drop)]
 enum Alternatives {
     One(Atom),
@@ -19,6 +19,9 @@ enum Alternatives {
 pub struct Group {
     alternatives: Alternatives,
 }
+
+// Most groups have one atom, so a group is to take no more than the atom and a word.
+const _: () = prove!(size_of::<Group>() == size_of::<Atom>() + size_of::<usize>());
 
 impl Model for Group {
     ghost use Rattle.std.specs.Prelude.{List};

@@ -37,6 +37,7 @@ pub use reading::parse_relations;
 pub use relation_fault::RelationFault;
 pub use relation_laws::{
     fields_have_one_fault, fields_have_places, met_by_name, met_counts_add_up,
+    printed_forms_read_again,
 };
 pub use relations::Relations;
 pub use steps::Steps;

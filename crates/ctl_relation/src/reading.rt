@@ -1,6 +1,6 @@
 //! Reading relation fields from left to right.
 
-ghost use Rattle.std.specs.Prelude.{◌≡◌, ◌≢◌, ◌≤◌, ◌<◌, ◌+◌, List, length, IfOk, IfErr, Ok};
+ghost use Rattle.std.specs.Prelude.{◌≢◌, ◌≤◌, ◌<◌, ◌+◌, List, length, IfOk, IfErr, Ok};
 ghost use Rattle.ctl_relation.specs.declared.relation_fault.RelationFault.TheVariants as relation;
 ghost use Rattle.ctl_relation.specs.Fault.{IsFault};
 ghost use Rattle.ctl_relation.specs.Grammar.{RelationsText};
@@ -94,6 +94,7 @@ fn group_of(alloc: Global, kind: FieldKind, text: &[u8]) -> Result<(Group, &[u8]
 fn relations_from(alloc: Global, body: &[u8], kind: FieldKind) -> Result<Relations, RelationFault>
     ensures { Gives (λ x. x) result (relations_of kind body.now) }
 {
+    // With room for a group behind each comma, the list seldom grows or has room to give back.
     let commas = body.iter().filter(|byte| **byte == b',').count();
     let mut groups = Vec::with_capacity(alloc, commas + 1)?;
     let mut left = body;
@@ -131,7 +132,8 @@ pub fn parse_relations(
     ensures found { IfOk result (λ relations. RelationsText kind body.now relations) }
 
     // What is in the grammar is read, unless memory runs out.
-    ensures only { (groups : List (List AtomParts)) → RelationsText kind body.now groups → Gives (λ x. x) result (Ok groups) }
+    ensures only { (groups : List (List AtomParts))
+        → RelationsText kind body.now groups → Gives (λ x. x) result (Ok groups) }
 
     // A fault but want of memory is the one that is due where the body first leaves the grammar.
     ensures fault { IfErr result (λ fault. fault ≢ relation.Memory → IsFault kind body.now fault) }

@@ -1,6 +1,6 @@
 //! Laws of versions and their order, each a clause of a function that does nothing.
 
-ghost use Rattle.std.specs.Prelude.{◌≡◌, ◌↔◌, ℕ, List, [], refl};
+ghost use Rattle.std.specs.Prelude.{◌≡◌, ◌↔◌, ℕ, pos, negsuc, List, [], ◌∷◌, codes};
 ghost use Rattle.std.specs.declared.cmp.Ordering.TheVariants.{Equal};
 ghost use Rattle.std.specs.Cmp.{IsTotalOrder};
 ghost use Rattle.ctl_relation.specs.Key.{key};
@@ -27,6 +27,10 @@ pub fn equal_versions()
 #[tactic(auto, using(crate::proofs::KeyTurnLaws::keys_go_by_turns, crate::proofs::KeyTurnLaws::tilde_comes_first))]
 pub fn keys_go_by_turns()
     ensures empty { key [] ≡ [] }
+    ensures dotted { key (codes "1.0") ≡ pos 0 ∷ pos 1 ∷ pos 302 ∷ [] }
+    ensures ends_in_dot { key (codes "1.") ≡ pos 0 ∷ pos 1 ∷ pos 302 ∷ [] }
+    ensures tilde_alone { key (codes "~") ≡ negsuc 0 ∷ [] }
+    ensures zero_alone { key (codes "0") ≡ [] }
     ensures turn { KeysGoByTurns }
     ensures tilde { TildeComesFirst }
 {}

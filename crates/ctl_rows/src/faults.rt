@@ -47,7 +47,8 @@ impl Sink for FailingOnce {
 
     fn write(&mut self, buf: &[u8]) -> Result<usize, Failed> {
         let count = if self.failures == 0 {
-            buf.len().min(self.before - self.taken.len().min(self.before))
+            buf.len()
+                .min(self.before - self.taken.len().min(self.before))
         } else {
             buf.len()
         };
@@ -63,8 +64,14 @@ impl Sink for FailingOnce {
 fn the_commands_before_a_failed_read_are_done(rt: HostRuntime) -> Result<(), Fail> {
     let rows: [(&[u8], &[u8]); 3] = [
         (b"pkgnames\nfr", b""),
-        (b"frob\nadd-list m packages\nPackage: a\nVersion: 1\n", b"E: line 1: unknown command\n"),
-        (b"add-list m packages\nPackage: a\nVersion: 1\n.\npkgnames\npkgnames", b"a\n"),
+        (
+            b"frob\nadd-list m packages\nPackage: a\nVersion: 1\n",
+            b"E: line 1: unknown command\n",
+        ),
+        (
+            b"add-list m packages\nPackage: a\nVersion: 1\n.\npkgnames\npkgnames",
+            b"a\n",
+        ),
     ];
     for (bytes, text) in rows {
         let Ok(mut session) = Session::new(rt.alloc(), Cache::new(rt.alloc())) else {
@@ -87,7 +94,8 @@ fn a_failed_write_ends_the_run(rt: HostRuntime) -> Result<(), Fail> {
         assert!(rt; false);
         return Ok(());
     };
-    let script: &[u8] = b"add-list main packages\nPackage: foo\nVersion: 1.0-1\n\nPackage: bar\nVersion: 2.0\n.\n\
+    let script: &[u8] =
+        b"add-list main packages\nPackage: foo\nVersion: 1.0-1\n\nPackage: bar\nVersion: 2.0\n.\n\
         pkgnames\npkgnames\n";
     let mut reader = FromRead::new(script);
     let mut writer = FailingOnce {
@@ -141,10 +149,17 @@ fn faults_have_their_words(rt: HostRuntime) -> Result<(), Fail> {
 
 #[test]
 fn the_program_takes_a_script(rt: HostRuntime) {
-    let none = matches!(arguments(rt.alloc(), &["dctrl-cache"]), Ok(Arguments { script: None }));
+    let none = matches!(
+        arguments(rt.alloc(), &["dctrl-cache"]),
+        Ok(Arguments { script: None })
+    );
     assert!(rt; none);
     let one = match arguments(rt.alloc(), &["dctrl-cache", "x"]) {
-        Ok(Arguments { script: Some(script) }) => script.as_str() == "x",
+        Ok(
+            Arguments {
+                script: Some(script),
+            },
+        ) => script.as_str() == "x",
         _ => false,
     };
     assert!(rt; one);

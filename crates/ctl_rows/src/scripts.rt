@@ -60,18 +60,39 @@ fn each_refusal_names_its_line(rt: HostRuntime) {
         ("add-list\n.\n", "E: line 1: bad arguments\n"),
         ("add-list main\n.\n", "E: line 1: bad arguments\n"),
         ("add-list main status\n.\n", "E: line 1: bad arguments\n"),
-        ("add-list main packages x\n.\n", "E: line 1: bad arguments\n"),
-        ("add-list 'main' packages\n.\n", "E: line 1: bad arguments\n"),
+        (
+            "add-list main packages x\n.\n",
+            "E: line 1: bad arguments\n",
+        ),
+        (
+            "add-list 'main' packages\n.\n",
+            "E: line 1: bad arguments\n",
+        ),
         ("add-list -x packages\n.\n", "E: line 1: bad name\n"),
         ("add-list m! packages\noops\n.\n", "E: line 1: bad name\n"),
         ("pkgnames a b\n", "E: line 1: bad arguments\n"),
         ("pkgnames -a\n", "E: line 1: bad arguments\n"),
         ("pkgnames\r\n", "E: line 1: unknown command\n"),
-        ("add-list m packages\noops\n.\n", "E: line 2: not a control line\n"),
-        ("add-list m packages\nA: 1\na: 2\n.\n", "E: line 3: field given twice\n"),
-        ("add-list m packages\n\nPackage: a!\nVersion: 1\n.\n", "E: line 3: bad name\n"),
-        ("add-list m packages\n.\nadd-list m packages\n.\n", "E: line 3: list already present\n"),
-        ("add-list m packages\n.\nadd-list m packages\noops\n.\n", "E: line 4: not a control line\n"),
+        (
+            "add-list m packages\noops\n.\n",
+            "E: line 2: not a control line\n",
+        ),
+        (
+            "add-list m packages\nA: 1\na: 2\n.\n",
+            "E: line 3: field given twice\n",
+        ),
+        (
+            "add-list m packages\n\nPackage: a!\nVersion: 1\n.\n",
+            "E: line 3: bad name\n",
+        ),
+        (
+            "add-list m packages\n.\nadd-list m packages\n.\n",
+            "E: line 3: list already present\n",
+        ),
+        (
+            "add-list m packages\n.\nadd-list m packages\noops\n.\n",
+            "E: line 4: not a control line\n",
+        ),
     ];
     for (script, text) in rows {
         let same = writes(rt.alloc(), script.as_bytes(), text.as_bytes());
@@ -81,7 +102,8 @@ fn each_refusal_names_its_line(rt: HostRuntime) {
 
 #[test]
 fn names_are_in_the_order_of_their_bytes_and_each_once(rt: HostRuntime) {
-    let lists = "add-list one packages\nPackage: b\nVersion: 1\n\nPackage: B\nVersion: 1\n\nPackage: b\nVersion: 2\n.\n\
+    let lists =
+        "add-list one packages\nPackage: b\nVersion: 1\n\nPackage: B\nVersion: 1\n\nPackage: b\nVersion: 2\n.\n\
         add-list two packages\nPackage: a+\nVersion: 1\n\nPackage: a\nVersion: 1\n\nPackage: b\nVersion: 1\n.\n";
     let rows: [(&str, &str); 5] = [
         ("pkgnames\n", "B\na\na+\nb\n"),
@@ -93,7 +115,8 @@ fn names_are_in_the_order_of_their_bytes_and_each_once(rt: HostRuntime) {
     for (query, text) in rows {
         let same = match String::from_str(rt.alloc(), lists) {
             Ok(mut script) => {
-                script.push_str(query).is_ok() && writes(rt.alloc(), script.as_bytes(), text.as_bytes())
+                script.push_str(query).is_ok()
+                    && writes(rt.alloc(), script.as_bytes(), text.as_bytes())
             }
             Err(_) => false,
         };
@@ -105,13 +128,28 @@ fn names_are_in_the_order_of_their_bytes_and_each_once(rt: HostRuntime) {
 fn bodies_are_bytes(rt: HostRuntime) {
     let rows: [(&[u8], &[u8]); 5] = [
         // a carriage return is a byte like any other
-        (b"add-list m packages\nPackage: a\r\nVersion: 1\n.\n", b"E: line 2: bad name\n"),
-        (b"add-list m packages\nPackage: a\nVersion: 1\n.\r\n.\n", b"E: line 4: not a control line\n"),
+        (
+            b"add-list m packages\nPackage: a\r\nVersion: 1\n.\n",
+            b"E: line 2: bad name\n",
+        ),
+        (
+            b"add-list m packages\nPackage: a\nVersion: 1\n.\r\n.\n",
+            b"E: line 4: not a control line\n",
+        ),
         // only a line that is exactly a dot ends a body
-        (b"add-list m packages\nPackage: a\nVersion: 1\n. \n.\n", b"E: line 4: not a control line\n"),
+        (
+            b"add-list m packages\nPackage: a\nVersion: 1\n. \n.\n",
+            b"E: line 4: not a control line\n",
+        ),
         // bodies are no text in UTF-8
-        (b"add-list m packages\nPackage: a\nVersion: \xff\xfe\n.\npkgnames", b"a\n"),
-        (b"add-list m packages\nPackage: \xff\nVersion: 1\n.\npkgnames", b"E: line 2: bad name\n"),
+        (
+            b"add-list m packages\nPackage: a\nVersion: \xff\xfe\n.\npkgnames",
+            b"a\n",
+        ),
+        (
+            b"add-list m packages\nPackage: \xff\nVersion: 1\n.\npkgnames",
+            b"E: line 2: bad name\n",
+        ),
     ];
     for (script, text) in rows {
         let same = writes(rt.alloc(), script, text);
@@ -164,7 +202,13 @@ fn commands_are_counted(rt: HostRuntime) -> Result<(), Fail> {
     let outcome = session.run(&mut reader, &mut writer);
     let _ = reader.into_inner();
     let _ = writer.into_inner();
-    assert!(rt; outcome == Ok(Summary { accepted: 2, refused: 1 }));
+    assert!(rt;
+        outcome
+            == Ok(Summary {
+                accepted: 2,
+                refused: 1
+            })
+    );
     Ok(())
 }
 
@@ -174,10 +218,17 @@ fn a_session_keeps_its_lists_from_run_to_run(rt: HostRuntime) -> Result<(), Fail
         assert!(rt; false);
         return Ok(());
     };
-    let first = run_text(rt.alloc(), &mut session, b"add-list m packages\nPackage: a\nVersion: 1\n.\n")?;
+    let first = run_text(
+        rt.alloc(),
+        &mut session,
+        b"add-list m packages\nPackage: a\nVersion: 1\n.\n",
+    )?;
     assert!(rt; first.is_empty());
     let second = run_text(rt.alloc(), &mut session, b"frob\npkgnames\n")?;
-    assert_eq!(rt; second.as_slice(), b"E: line 1: unknown command\na\n".as_slice());
+    assert_eq!(rt;
+        second.as_slice(),
+        b"E: line 1: unknown command\na\n".as_slice()
+    );
     Ok(())
 }
 

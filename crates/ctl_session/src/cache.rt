@@ -1,6 +1,6 @@
 //! The lists that a session holds.
 
-ghost use Rattle.std.specs.Prelude.{◌≡◌, [], ◌∷◌, ◌++◌, IfOk, OnOk, OnErr};
+ghost use Rattle.std.specs.Prelude.{◌≡◌, [], ◌∷◌, ◌++◌, OnOk, OnErr};
 
 use ctl_relation::Bytes;
 use ctl_stanza::Stanza;

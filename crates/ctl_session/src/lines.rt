@@ -1,11 +1,11 @@
 //! The lines of a source, one at a time.
 
-ghost use Rattle.std.specs.Prelude.{◌≡◌, ◌≢◌, ℕ, ◌+◌, ◌-◌, ◌<◌, ◌≤◌, List, [], ◌∷◌, ◌++◌, Option, length, take, drop, IfOk, IfErr, OnErr, OnOk, is_err, MatchOption, None, option_to_list, vec_capacity, vec_len, IsOk, IsSome, is_some, true, false, Ok, if◌then◌else◌};
-ghost use Rattle.std.specs.Io.KnownBytes.{Consumes, Keeps, IsAtEnd, prepend_known};
+ghost use Rattle.std.specs.Prelude.{◌≡◌, ◌+◌, ◌≤◌, [], IfOk, IfErr, vec_capacity, IsSome, is_some, true, if◌then◌else◌};
+ghost use Rattle.std.specs.Io.KnownBytes.{prepend_known};
 ghost use Rattle.ctl_stanza.specs.Lines.{max_line};
 ghost use Rattle.ctl_session.specs.Streams.{counted};
 ghost use Rattle.ctl_session.specs.declared.fault.ReadingFault.TheVariants.{ReadFailed};
-ghost use Rattle.ctl_session.specs.LineReading.{TakesNext, TakesPiece, StopsInLine, StopsAfter, is_failed_read};
+ghost use Rattle.ctl_session.specs.LineReading.{TakesNext, StopsInLine, StopsAfter, is_failed_read};
 
 use crate::fault::ReadingFault;
 use crate::read_ahead::{LineRead, ReadAhead};

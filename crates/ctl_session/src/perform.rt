@@ -1,7 +1,6 @@
 //! Doing what a command asks for.
 
-ghost use Rattle.std.specs.Prelude.{◌≡◌, ◌⊎◌, ◌+◌, ◌<◌, ◌^◌, [], ℕ, List, length, true, OnOk, OnErr};
-ghost use Rattle.ctl_stanza.specs.Lines.{text_of_lines};
+ghost use Rattle.std.specs.Prelude.{◌≡◌, ◌⊎◌, ◌+◌, OnErr};
 ghost use Rattle.ctl_stanza.specs.Text.{read_text};
 ghost use Rattle.ctl_stanza.specs.declared.list_kind.ListKind.TheVariants.{Packages};
 ghost use Rattle.ctl_session.specs.Script.{Command};

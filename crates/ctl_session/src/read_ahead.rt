@@ -1,10 +1,10 @@
 //! Bytes read ahead of the line that is being read.
 
-ghost use Rattle.std.specs.Prelude.{◌≡◌, ◌≢◌, ℕ, ◌+◌, ◌-◌, ◌<◌, ◌≤◌, List, [], ◌∷◌, ◌++◌, Option, length, take, drop, IfOk, IfErr, OnErr, OnOk, is_err, MatchOption, None, option_to_list, vec_capacity, vec_len, IsOk, IsSome, is_some, true, false, Ok, if◌then◌else◌};
+ghost use Rattle.std.specs.Prelude.{◌≡◌, ℕ, ◌+◌, ◌-◌, ◌<◌, ◌≤◌, List, [], ◌++◌, length, take, drop, IfOk, OnErr, OnOk, is_err, vec_capacity, vec_len, true, false};
 ghost use Rattle.std.specs.Io.KnownBytes.{Consumes, Keeps, IsAtEnd, prepend_known};
 ghost use Rattle.ctl_stanza.specs.Lines.{max_line};
 ghost use Rattle.ctl_session.specs.Streams.{counted};
-ghost use Rattle.ctl_session.specs.LineReading.{TakesNext, TakesPiece, StopsInLine, StopsAfter, is_failed_read};
+ghost use Rattle.ctl_session.specs.LineReading.{TakesPiece};
 
 use crate::failed::Failed;
 use crate::source::Source;

@@ -1,6 +1,6 @@
 //! What a command asks for, by its words.
 
-ghost use Rattle.std.specs.Prelude.{◌≡◌, ℕ, map};
+ghost use Rattle.std.specs.Prelude.{◌≡◌, map};
 ghost use Rattle.ctl_session.specs.Request.{is_option, has_quote, add_list_request as add_list_asked, package_names_request as package_names_asked, request_named, request_of};
 ghost use Rattle.ctl_session.specs.Script.{Command as CommandText};
 ghost use Rattle.ctl_session.specs.Reading.{Describes};

@@ -1,7 +1,7 @@
 //! The commands of a script, one at a time.
 
-ghost use Rattle.std.specs.Prelude.{◌≡◌, ℕ, ◌+◌, ◌≤◌, ◌++◌, ◌∷◌, [], List, Option, None, false, IfOk, IfErr, OnOk, true, take, length, vec_capacity};
-ghost use Rattle.std.specs.Io.KnownBytes.{Consumes, prepend_known};
+ghost use Rattle.std.specs.Prelude.{◌≡◌, ℕ, ◌+◌, ◌≤◌, ◌++◌, ◌∷◌, [], List, false, IfOk, IfErr, OnOk, take, length, vec_capacity};
+ghost use Rattle.std.specs.Io.KnownBytes.{prepend_known};
 ghost use Rattle.ctl_stanza.specs.Lines.{max_line};
 ghost use Rattle.ctl_session.specs.Streams.{counted};
 ghost use Rattle.ctl_session.specs.declared.fault.ReadingFault.TheVariants.{ReadFailed};

@@ -28,7 +28,7 @@ pub record ReadsFirst (front : List Content) (rest : Read) (contents : List Cont
   pub read : rest ≡ Ok others
   pub joined : contents ≡ front ++ others
 
-reads_first : (fault : Option TextFault) (front contents : List Content) (rest : Read) → or_fault fault (with_contents front rest) ≡ Ok contents → ReadsFirst front rest contents
+pub reads_first : (fault : Option TextFault) (front contents : List Content) (rest : Read) → or_fault fault (with_contents front rest) ≡ Ok contents → ReadsFirst front rest contents
 reads_first None front contents (Ok others) e = record { others = others; read = refl; joined = cc }
 reads_first None front contents (Err f) e = absurd (cc)
 reads_first (Some f) front contents rest e = absurd (cc)

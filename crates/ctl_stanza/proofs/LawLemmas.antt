@@ -1,5 +1,5 @@
 -- The fault that is told of a text is the least of its faults.
-use Rattle.std.proofs.Common.{◌≡◌, ◌⊎◌, ◌∙◌, ◌+◌, ◌-◌, ◌<◌, ◌≤◌, ◌++◌, ℕ, suc, true, List, [], ◌∷◌, length, take, Option, Some, None, Ok, Err, refl, sym, ap, subst, arith, inl, inr, append_assoc, ⊎_elim}
+use Rattle.std.proofs.Common.{◌≡◌, ◌⊎◌, ◌∙◌, ◌+◌, ◌-◌, ◌<◌, ◌≤◌, ◌++◌, ℕ, suc, true, false, List, [], ◌∷◌, length, take, Option, Some, None, Ok, Err, refl, sym, ap, subst, arith, inl, inr, append_assoc, ⊎_elim}
 use Rattle.std.proofs.lemmas.Bool.{cases_lt, cond-true, cond-false}
 use Rattle.std.proofs.lemmas.List.{length-append}
 use Rattle.ctl_stanza.specs.declared.line_kind.LineKind.TheVariants.{Blank, Field, Continuation, Faulty}
@@ -171,6 +171,16 @@ joined kind n all from len (Some first) contents read here rest = record {
       (cases_lt i (from + len));
 }
 
+-- a blank line more in front
+pub ends-more : (front : List (List ℕ)) (l : List ℕ) → is_blank l ≡ true → EndsGap (front ++ (l ∷ []))
+ends-more front l blank = λ i e.
+    let place : i ≡ length front + 0 = omega (arith, length-append front (l ∷ [])) in
+    ap (λ j. is_blank (line_at (front ++ (l ∷ [])) j)) place ∙ ap is_blank (at-back front (l ∷ []) 0) ∙ blank
+
+-- before a line that isn't blank there is a blank one, or none
+pub ends-before : (front : List (List ℕ)) (l : List ℕ) (ls : List (List ℕ)) → is_blank l ≡ false → EndsGap front ⊎ StartsGap (l ∷ ls) → EndsGap front
+ends-before front l ls other border = ⊎_elim (λ (ends : EndsGap front). ends) (λ (starts : is_blank l ≡ true). let clash = sym other ∙ starts in absurd (cc)) border
+
 abbrev Tells : ListKind → ℕ → ℕ → List (List ℕ) → List Piece → Type 0
 Tells kind n m ls ps = (front : List (List ℕ)) → m ≡ n + length front → EndsGap front ⊎ StartsGap ls → TellsFrom kind n (front ++ ls) (length front) (read_pieces kind ps)
 
@@ -186,9 +196,7 @@ tells_nil kind n m front number border = record {
 tells_gap : (kind : ListKind) (n m : ℕ) (l : List ℕ) (ls : List (List ℕ)) (ps : List Piece) → is_blank l ≡ true → Tells kind n (suc m) ls ps → Tells kind n m (l ∷ ls) (piece m (l ∷ []) ∷ ps)
 tells_gap kind n m l ls ps blank more front number border =
     let size : length (front ++ (l ∷ [])) ≡ length front + 1 = length-append front (l ∷ []) in
-    let ends : EndsGap (front ++ (l ∷ [])) = λ i e.
-    let place : i ≡ length front + 0 = omega (arith, size) in ap (λ j. is_blank (line_at (front ++ (l ∷ [])) j)) place ∙ ap is_blank (at-back front (l ∷ []) 0) ∙ blank in
-    let later = more (front ++ (l ∷ [])) (omega (arith, size)) (inl ends) in
+    let later = more (front ++ (l ∷ [])) (omega (arith, size)) (inl (ends-more front l blank)) in
     let same : (front ++ (l ∷ [])) ++ ls ≡ front ++ (l ∷ ls) = append_assoc front (l ∷ []) ls in
     let rest : TellsFrom kind n (front ++ (l ∷ ls)) (length front + 1) (read_pieces kind ps) =
     subst (λ from. TellsFrom kind n (front ++ (l ∷ ls)) from (read_pieces kind ps)) size (subst (λ all. TellsFrom kind n all (length (front ++ (l ∷ []))) (read_pieces kind ps)) same later) in
@@ -199,7 +207,7 @@ tells_run : (kind : ListKind) (n m : ℕ) (l : List ℕ) (ls rest : List (List �
     → Tells kind n m (l ∷ (ls ++ rest)) (piece m (l ∷ ls) ∷ ps)
 tells_run kind n m l ls rest ps others gap_after more front number border =
     let mid = l ∷ ls in
-    let gap : EndsGap front = ⊎_elim (λ (ends : EndsGap front). ends) (λ (starts : is_blank l ≡ true). let clash = sym others.0 ∙ starts in absurd (cc)) border in
+    let gap = ends-before front l (ls ++ rest) others.0 border in
     let size : length (front ++ mid) ≡ length front + length mid = length-append front mid in
     let later = more (front ++ mid) (omega (arith, size)) (inr gap_after) in
     let same : (front ++ mid) ++ rest ≡ front ++ (mid ++ rest) = append_assoc front mid rest in

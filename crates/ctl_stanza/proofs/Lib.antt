@@ -10,3 +10,4 @@ pub mod CauseLemmas
 pub mod WholeLemmas
 pub mod PlaceLemmas
 pub mod LawLemmas
+pub mod RunLemmas

@@ -1,5 +1,5 @@
 -- What a stanza is: its text, and the kind of its list. Its fields are read from its text.
-use Rattle.std.specs.Prelude.{ℕ, Bool, List, [], ◌∷◌, map, flat_map, Option, None, Some, if◌then◌else◌}
+use Rattle.std.specs.Prelude.{ℕ, Bool, List, [], ◌∷◌, map, flat_map, unwrap_or, Option, None, if◌then◌else◌}
 use Rattle.std.specs.Option.{option_map}
 use Rattle.ctl_relation.specs.declared.field_kind.FieldKind.{FieldKind}
 use Rattle.ctl_relation.specs.declared.field_kind.FieldKind.TheVariants as field_kinds
@@ -37,13 +37,9 @@ named_bodies content = map name_and_body (fields_of content)
 abbrev pub body_of : Content → List ℕ → Option (List ℕ)
 body_of content name = body_named name (fields_of content)
 
-abbrev pub body_or_nothing : Option (List ℕ) → List ℕ
-body_or_nothing None = []
-body_or_nothing (Some body) = body
-
 -- the name of the package that a stanza describes
 abbrev pub package_of : Content → List ℕ
-package_of content = body_or_nothing (body_of content package_name)
+package_of content = unwrap_or (body_of content package_name) []
 
 -- Whether a stanza is live: its package counts as there.
 abbrev pub is_live : Content → Bool

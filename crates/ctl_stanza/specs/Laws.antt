@@ -1,6 +1,6 @@
 -- The faults of a text, each at the index of its line, told apart from how the text is read.
 use Rattle.std.specs.Prelude.{◌≡◌, ◌+◌, ◌<◌, ◌≤◌, ℕ, true, false, not, ◌⊎◌, List, [], length, take, drop, filter, flat_map, slice_index_or, Contains, Some, None, is_none, Ok, Err}
-use Rattle.std.specs.List.{after_last}
+use Rattle.std.specs.List.{All, after_last}
 use Rattle.ctl_relation.specs.declared.field_kind.FieldKind.{FieldKind}
 use Rattle.ctl_relation.specs.Names.{is_name}
 use Rattle.ctl_relation.specs.Version.{fault_of}
@@ -17,7 +17,7 @@ use Rattle.ctl_stanza.specs.LineKind.{kind_of}
 use Rattle.ctl_stanza.specs.Fields.{FieldText, fields_of_lines, body_named, is_same_name, may_repeat, package_name, version_name}
 use Rattle.ctl_stanza.specs.RelationFields.{name_of}
 use Rattle.ctl_stanza.specs.Status.{liveness, is_live_by}
-use Rattle.ctl_stanza.specs.Content.{Content}
+use Rattle.ctl_stanza.specs.Content.{Content, content_of}
 use Rattle.ctl_stanza.specs.Faults.{number_of, body_len, is_read}
 use Rattle.ctl_stanza.specs.Text.{read_text}
 
@@ -186,3 +186,15 @@ other_lines lines = filter (λ line. not (is_blank line)) lines
 abbrev pub KeepsLines : ListKind → ℕ → List ℕ → Type 0
 KeepsLines kind n text = (contents : List Content) → read_text kind n text ≡ Ok contents
     → flat_map (λ content. content.text) contents ≡ text_of_lines (other_lines (lines_of text))
+
+-- what is read is a stanza of the text, and is of this kind
+pub record IsStanzaOf (kind : ListKind) (lines : List (List ℕ)) (content : Content) : Type 0 where
+  pub start : ℕ
+  pub stanza : List (List ℕ)
+  pub stands : IsStanzaAt lines start stanza
+  pub is : content ≡ content_of kind stanza
+
+-- Each stanza that a text is read to is one of the text: a maximal run of lines that aren't blank.
+abbrev pub ReadsStanzas : ListKind → ℕ → List ℕ → Type 0
+ReadsStanzas kind n text = (contents : List Content) → read_text kind n text ≡ Ok contents
+    → All (IsStanzaOf kind (lines_of text)) contents

@@ -48,9 +48,9 @@ is_gap (line ∷ lines) = is_blank line
 
 -- A blank line can only be too long.
 abbrev pub piece_fault : ListKind → Piece → Option TextFault
-piece_fault kind p =
-    if is_gap p.lines then first_fault Never p.first [] p.lines
-    else stanza_fault kind p.first p.lines
+piece_fault kind one =
+    if is_gap one.lines then first_fault Never one.first [] one.lines
+    else stanza_fault kind one.first one.lines
 
 -- the stanza that a piece is
 abbrev pub piece_content : ListKind → List (List ℕ) → List Content

@@ -74,10 +74,7 @@ impl From<AllocError> for TextFault {
     ghost from_gives = { λ _ fault. fault ≡ record { line = 0; cause = causes.Memory } };
 
     fn from(_error: AllocError) -> TextFault {
-        TextFault {
-            line: 0,
-            cause: Cause::Memory,
-        }
+        TextFault::MEMORY
     }
 }
 
@@ -87,9 +84,6 @@ impl<T: Drop> From<AllocFailed<T>> for TextFault {
     ghost from_gives = { λ _ fault. fault ≡ record { line = 0; cause = causes.Memory } };
 
     fn from(_failed: AllocFailed<T>) -> TextFault {
-        TextFault {
-            line: 0,
-            cause: Cause::Memory,
-        }
+        TextFault::MEMORY
     }
 }

@@ -2,7 +2,7 @@
 
 ghost use Rattle.std.specs.Prelude.{ℕ, List};
 ghost use Rattle.ctl_stanza.specs.declared.list_kind.ListKind.{ListKind};
-ghost use Rattle.ctl_stanza.specs.Laws.{ReadsOrTells, KeepsLines};
+ghost use Rattle.ctl_stanza.specs.Laws.{ReadsOrTells, KeepsLines, ReadsStanzas};
 
 /// A text that is read to stanzas has no fault. Of a text that isn't, a fault is told that it has: no line
 /// before it has a fault, and on its line no fault has a lower number.
@@ -14,4 +14,10 @@ pub fn told_fault_is_least()
 /// order, each with a newline.
 pub fn stanzas_keep_lines()
     ensures { (kind : ListKind) (n : ℕ) (text : List ℕ) → KeepsLines kind n text }
+{}
+
+/// Each stanza that a text is read to is a maximal run of lines of the text that aren't blank, and is of the
+/// list's kind.
+pub fn stanzas_are_runs()
+    ensures { (kind : ListKind) (n : ℕ) (text : List ℕ) → ReadsStanzas kind n text }
 {}

@@ -85,9 +85,10 @@ pub(crate) fn first_fault<'a>(
     let mut body_len: usize = 0;
     for i in 0..lines.len() {
         let line = lines[i];
+        let number = first_line + i as u64;
         if is_too_long(line) {
             return Ok(Some(TextFault {
-                line: first_line + i as u64,
+                line: number,
                 cause: Cause::TooLong,
             }));
         }
@@ -95,7 +96,7 @@ pub(crate) fn first_fault<'a>(
         let found = line_cause(alloc, repeats, names, &mut body_len, i == 0, line, kind)?;
         if let Some(cause) = found {
             return Ok(Some(TextFault {
-                line: first_line + i as u64,
+                line: number,
                 cause,
             }));
         }

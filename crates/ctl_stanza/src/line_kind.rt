@@ -21,7 +21,7 @@ pub(crate) enum LineKind {
 fn is_field_name_byte(byte: u8) -> bool
     ensures { result ≡ is_field_name_byte byte }
 {
-    33 <= byte && byte <= 126 && byte != b':'
+    byte.is_ascii_graphic() && byte != b':'
 }
 
 // The index of the first byte that isn't one of names.

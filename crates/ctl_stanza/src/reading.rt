@@ -15,19 +15,20 @@ use crate::repeats::Repeats;
 use crate::stanza::{Stanza, read_stanza};
 use std::alloc::{AllocError, Global};
 
-/// Takes the lines of the first piece of a text: one blank line, or all lines up to the next one. What stands behind
-/// them is returned.
+/// Takes the lines of the first piece of a text: one blank line, or all lines up to the next blank one. What
+/// stands behind them is returned.
 pub(crate) fn take_piece<'a>(lines: &mut Vec<&'a [u8]>, text: &'a [u8]) -> Result<&'a [u8], AllocError>
     requires { 0 < length text.now }
     ensures some { OnOk result (0 < length lines.new.items) }
     ensures within { IfOk result (λ behind. length lines.new.items + length behind.now ≤ length text.now) }
     ensures no_newline { OnOk result (AreLines (lent_lines lines.new.items)) }
     ensures lines { IfOk result (λ behind. lines_of text.now ≡ lent_lines lines.new.items ++ lines_of behind.now) }
-    ensures first { IfOk result (λ behind. IsFirstPiece (lines_of text.now) (lent_lines lines.new.items) (lines_of behind.now)) }
+    ensures first { IfOk result (λ behind.
+        IsFirstPiece (lines_of text.now) (lent_lines lines.new.items) (lines_of behind.now)) }
 {
     lines.clear();
     let Some((first, behind)) = take_line(text) else {
-        return Ok(text);
+        unreachable!("the text isn't empty");
     };
     lines.push(first)?;
     if is_blank(first) {
@@ -46,8 +47,8 @@ pub(crate) fn take_piece<'a>(lines: &mut Vec<&'a [u8]>, text: &'a [u8]) -> Resul
     }
 }
 
-// Reads a piece: adds its stanza, if it is one. The names that it gives are forgotten before the stanza is made: of a
-// large one they take more room than the stanza.
+// Reads a piece: adds its stanza, if it is one. The names that it gives are forgotten before the stanza is
+// made, since those of a large one take more room than the stanza.
 fn read_piece<'a>(
     alloc: Global,
     stanzas: &mut Vec<Stanza>,
@@ -60,7 +61,8 @@ fn read_piece<'a>(
     requires some { 0 < length lines.now }
     requires names { HoldsNone names.old }
     requires no_newline { AreLines (lent_lines lines.now) }
-    ensures stanzas { OnOk result (stanzas.new.items ≡ stanzas.old.items ++ piece_content kind (lent_lines lines.now)) }
+    ensures stanzas { OnOk result (
+        stanzas.new.items ≡ stanzas.old.items ++ piece_content kind (lent_lines lines.now)) }
     ensures whole { OnOk result (piece_fault kind (piece first_line (lent_lines lines.now)) ≡ None) }
     ensures names { OnOk result (HoldsNone names.new) }
     ensures fault { IfErr result (Tells (piece_fault kind (piece first_line (lent_lines lines.now)))) }

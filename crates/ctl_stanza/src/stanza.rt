@@ -151,10 +151,7 @@ impl Stanza {
     pub fn package(&self) -> &[u8]
         ensures { result.now ≡ package_of self.now }
     {
-        match self.field(b"Package") {
-            None => &[],
-            Some(body) => body,
-        }
+        self.field(b"Package").unwrap_or(&[])
     }
 
     /// The version of a live stanza, which is the body of the field `Version` (Debian Policy 5.6.12). None where the
@@ -216,7 +213,9 @@ impl<'a> Model for Fields<'a> {
 }
 
 impl<'a> Iterator for Fields<'a> {
-    ghost use Rattle.std.specs.Iterator.{YieldsFirstBy, item_count};
+    ghost use Rattle.std.specs.Prelude.{◌≡◌, length, Some, IfSome};
+    ghost use Rattle.std.specs.Iterator.{YieldsFirstBy, UpTo, at_most, item_count};
+    ghost use Rattle.std.specs.Iterator.SizeHint.{IsWithinCount};
 
     type Item = (&'a [u8], &'a [u8]);
 
@@ -230,7 +229,11 @@ impl<'a> Iterator for Fields<'a> {
         Some((field.name.of(self.bytes), field.body.of(self.bytes)))
     }
 
-    fn size_hint(&self) -> (usize, Option<usize>) {
+    fn size_hint(&self) -> (usize, Option<usize>)
+        ensures lower { IsWithinCount result.0 (at_most (length self.now)) }
+        ensures upper { IfSome result.1 (UpTo (at_most (length self.now))) }
+        ensures exact { result ≡ (length self.now, Some (length self.now)) }
+    {
         (self.fields.len(), Some(self.fields.len()))
     }
 }

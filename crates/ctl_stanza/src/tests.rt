@@ -1,7 +1,7 @@
 //! Worked texts, each with what it is read to.
 
 use crate::{
-    Cause, ListKind, MAX_LINE, TextFault, read_records, read_stanzas, stanzas_keep_lines,
+    Cause, ListKind, MAX_LINE, TextFault, read_records, read_stanzas, stanzas_are_runs, stanzas_keep_lines,
     told_fault_is_least,
 };
 use ctl_relation::FieldKind;
@@ -400,4 +400,5 @@ fn causes_have_their_numbers(rt: HostRuntime) {
 fn laws_can_be_called() {
     told_fault_is_least();
     stanzas_keep_lines();
+    stanzas_are_runs();
 }
