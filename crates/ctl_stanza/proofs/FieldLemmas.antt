@@ -1,5 +1,5 @@
 -- Fields, and where they stand in a text.
-use Rattle.std.proofs.Common.{◌≡◌, ◌∙◌, ◌+◌, ◌-◌, ◌⊎◌, ◌<◌, ◌≤◌, ℕ, zero, suc, Bool, true, false, List, [], ◌∷◌, ◌++◌, length, take, drop, get_or, Some, slice_range, append_assoc, take_all, refl, sym, ap, ap₂, arith, ⊎_elim}
+use Rattle.std.proofs.Common.{◌≡◌, ◌∙◌, ◌+◌, ◌-◌, ◌⊎◌, ◌<◌, ◌≤◌, ℕ, zero, suc, Bool, true, false, List, [], ◌∷◌, ◌++◌, length, take, drop, get_or, Some, None, slice_range, append_assoc, take_all, refl, sym, ap, ap₂, arith, ⊎_elim}
 use Rattle.std.proofs.lemmas.Bool.{cases_Bool, cond-true, cond-false}
 use Rattle.std.proofs.Math.Seq.{take-append-add, take-append_seam, drop-append-add}
 use Rattle.std.proofs.lemmas.List.{take-append-le, drop-append-le, take-append-drop, length-take-le, append-nil, drop_more, length-append, length-drop}
@@ -236,6 +236,16 @@ pub passed : (text name : List ℕ) (fields : List Field) (i : ℕ) (f : Field) 
 passed text name fields i f lt is other =
     ap (λ fs. body_named name (shown_fields text fs)) (drop_more fields i f lt)
     ∙ ap (λ g. body_named name (shown_field text g ∷ shown_fields text (drop (i + 1) fields))) is ∙ cond-false _ _ _ other
+
+-- the field at i, and those behind it
+pub left-shown : (text name body : List ℕ) (fields : List Field) (i : ℕ) (d : Field) → i < length fields → name ≡ shown text (get_or fields i d).name → body ≡ shown text (get_or fields i d).body
+    → shown_fields text (drop i fields) ≡ (record { line = (get_or fields i d).line; name = name; body = body }) ∷ shown_fields text (drop (i + 1) fields)
+left-shown text name body fields i d lt is_name is_body =
+    ap (shown_fields text) (drop_more fields i d lt)
+    ∙ ap₂ (λ (x y : List ℕ). (record { line = (get_or fields i d).line; name = x; body = y }) ∷ shown_fields text (drop (i + 1) fields)) (sym is_name) (sym is_body)
+
+pub first_wrong-good : (live : Bool) (n : ℕ) (field : FieldText) (fields left : List FieldText) → left ≡ field ∷ fields → field_cause live field.name field.body ≡ None → first_wrong live n left ≡ first_wrong live n fields
+first_wrong-good live n field fields left is good = ap (first_wrong live n) is ∙ ap (λ o. fault_or (n + field.line) o (first_wrong live n fields)) good
 
 -- ---- a wrong field
 

@@ -1,6 +1,7 @@
 pub mod LineLemmas
 pub mod FieldLemmas
 pub mod RelationLemmas
+pub mod RecordLemmas
 pub mod NameLemmas
 pub mod FaultLemmas
 pub mod PieceLemmas

@@ -16,7 +16,7 @@ use Rattle.ctl_stanza.specs.declared.fields.Field.{Field}
 use Rattle.ctl_stanza.specs.Fields.{FieldText, is_same_name, body_named, package_name, version_name}
 use Rattle.ctl_stanza.specs.RelationFields.{name_of, relation_kind, groups_read, groups_in}
 use Rattle.ctl_stanza.specs.Faults.{or_else}
-use Rattle.ctl_stanza.specs.Live.{kept_of, or_no_groups, groups_given, version_given, groups_found, KeepsGroups}
+use Rattle.ctl_stanza.specs.Live.{kept_of, relation_field, or_no_groups, groups_given, version_given, groups_found, KeepsGroups}
 
 -- ---- names without regard to case
 
@@ -127,3 +127,97 @@ kept-push kind (f ∷ fs) field = ⊎_elim
     cond-false _ _ _ other ∙ kept-push kind fs field ∙ ap (λ o. or_else o (pushed_groups kind field)) (sym (cond-false _ _ _ other)))
     (cases_Bool (nat_eq (field_place f.kind) (field_place kind)))
 
+-- the nine fields in their order
+abbrev nine : List FieldKind
+nine = PreDepends ∷ Depends ∷ Conflicts ∷ Breaks ∷ Recommends ∷ Suggests ∷ Replaces ∷ Enhances ∷ Provides ∷ []
+
+at-place : (kind : FieldKind) → get_or nine (field_place kind) PreDepends ≡ kind
+at-place PreDepends = refl
+at-place Depends = refl
+at-place Conflicts = refl
+at-place Breaks = refl
+at-place Recommends = refl
+at-place Suggests = refl
+at-place Replaces = refl
+at-place Enhances = refl
+at-place Provides = refl
+
+-- Fields that stand at one place are one.
+pub same-place : (a b : FieldKind) → nat_eq (field_place a) (field_place b) ≡ true → a ≡ b
+same-place a b same = sym (at-place a) ∙ ap (λ n. get_or nine n PreDepends) (eqb-true (field_place a) (field_place b) same) ∙ at-place b
+
+place-same : (a : FieldKind) → nat_eq (field_place a) (field_place a) ≡ true
+place-same PreDepends = refl
+place-same Depends = refl
+place-same Conflicts = refl
+place-same Breaks = refl
+place-same Recommends = refl
+place-same Suggests = refl
+place-same Replaces = refl
+place-same Enhances = refl
+place-same Provides = refl
+
+-- what a relation field gives is what is pushed
+gives-pushed : (name body : List ℕ) (here kind : FieldKind) (groups : List (List AtomParts)) → relation_kind name ≡ Some here → groups_read (relations_of here body) ≡ groups
+    → pushed_groups kind (record { kind = here; relations = groups }) ≡ groups_given kind name body
+gives-pushed name body here kind groups is read = ⊎_elim
+    (λ (same : nat_eq (field_place here) (field_place kind) ≡ true).
+    let one : here ≡ kind = same-place here kind same in
+    let named : is_same_name name (name_of kind) ≡ true = same-kind name kind (is ∙ ap Some one) in
+    cond-true _ _ _ same ∙ ap Some (sym read ∙ ap (λ (k : FieldKind). groups_read (relations_of k body)) one) ∙ sym (cond-true _ _ _ named))
+    (λ (other : nat_eq (field_place here) (field_place kind) ≡ false). ⊎_elim
+    (λ (named : is_same_name name (name_of kind) ≡ true).
+    let some = kind-same name kind named in
+    let one : here ≡ kind = cc in
+    let clash = sym other ∙ ap (λ (k : FieldKind). nat_eq (field_place here) (field_place k)) (sym one) ∙ place-same here in absurd (cc))
+    (λ (unnamed : is_same_name name (name_of kind) ≡ false). cond-false _ _ _ other ∙ sym (cond-false _ _ _ unnamed))
+    (cases_Bool (is_same_name name (name_of kind))))
+    (cases_Bool (nat_eq (field_place here) (field_place kind)))
+
+pub keeps-pushed : (name body : List ℕ) (here : FieldKind) (old new : List RelationField) → relation_kind name ≡ Some here → new ≡ old ++ relation_field here body ∷ [] → KeepsGroups name body old new
+keeps-pushed name body here old new is pushed = λ kind.
+    ap (kept_of kind) pushed ∙ kept-push kind old (relation_field here body)
+    ∙ ap (or_else (kept_of kind old)) (gives-pushed name body here kind (groups_read (relations_of here body)) is refl)
+
+-- ---- one field more
+
+or_else-assoc : {A : Type 0} (a b c : Option A) → or_else (or_else a b) c ≡ or_else a (or_else b c)
+or_else-assoc None b c = refl
+or_else-assoc (Some x) b c = refl
+
+version-first : (field : FieldText) (fields : List FieldText) → body_named version_name (field ∷ fields) ≡ or_else (version_given field.name field.body) (body_named version_name fields)
+version-first field fields = ⊎_elim
+    (λ (same : is_same_name field.name version_name ≡ true). cond-true _ _ _ same ∙ ap (λ o. or_else o (body_named version_name fields)) (sym (cond-true _ _ _ same)))
+    (λ (other : is_same_name field.name version_name ≡ false). cond-false _ _ _ other ∙ ap (λ o. or_else o (body_named version_name fields)) (sym (cond-false _ _ _ other)))
+    (cases_Bool (is_same_name field.name version_name))
+
+abbrev read_as : FieldKind → List ℕ → List (List AtomParts)
+read_as kind body = groups_read (relations_of kind body)
+
+groups-first : (kind : FieldKind) (field : FieldText) (fields : List FieldText) → groups_found kind (field ∷ fields) ≡ or_else (groups_given kind field.name field.body) (groups_found kind fields)
+groups-first kind field fields = ⊎_elim
+    (λ (same : is_same_name field.name (name_of kind) ≡ true).
+    ap (option_map (read_as kind)) (cond-true _ _ _ same) ∙ ap (λ o. or_else o (groups_found kind fields)) (sym (cond-true _ _ _ same)))
+    (λ (other : is_same_name field.name (name_of kind) ≡ false).
+    ap (option_map (read_as kind)) (cond-false _ _ _ other) ∙ ap (λ o. or_else o (groups_found kind fields)) (sym (cond-false _ _ _ other)))
+    (cases_Bool (is_same_name field.name (name_of kind)))
+
+pub version-turn : (field : FieldText) (fields left : List FieldText) (old new whole : Option (List ℕ)) → left ≡ field ∷ fields → new ≡ or_else old (version_given field.name field.body)
+    → or_else old (body_named version_name left) ≡ whole → or_else new (body_named version_name fields) ≡ whole
+version-turn field fields left old new whole is e told =
+    ap (λ o. or_else o (body_named version_name fields)) e ∙ or_else-assoc old (version_given field.name field.body) (body_named version_name fields)
+    ∙ ap (or_else old) (sym (version-first field fields) ∙ ap (body_named version_name) (sym is)) ∙ told
+
+pub groups-turn : (kind : FieldKind) (field : FieldText) (fields left : List FieldText) (old new : List RelationField) (whole : Option (List (List AtomParts))) → left ≡ field ∷ fields
+    → KeepsGroups field.name field.body old new → or_else (kept_of kind old) (groups_found kind left) ≡ whole → or_else (kept_of kind new) (groups_found kind fields) ≡ whole
+groups-turn kind field fields left old new whole is keeps told =
+    ap (λ o. or_else o (groups_found kind fields)) (keeps kind) ∙ or_else-assoc (kept_of kind old) (groups_given kind field.name field.body) (groups_found kind fields)
+    ∙ ap (or_else (kept_of kind old)) (sym (groups-first kind field fields) ∙ ap (groups_found kind) (sym is)) ∙ told
+
+-- what is kept at the end is what stands among the fields
+pub groups-end : (kind : FieldKind) (fields : List FieldText) (kept : List RelationField) → or_else (kept_of kind kept) None ≡ groups_found kind fields → or_no_groups (kept_of kind kept) ≡ groups_in kind (body_named (name_of kind) fields)
+groups-end kind fields kept e = ap or_no_groups (sym (or_else-none (kept_of kind kept)) ∙ e) ∙ found-in kind (body_named (name_of kind) fields)
+  where
+    found-in : (kind : FieldKind) (o : Option (List ℕ)) → or_no_groups (option_map (read_as kind) o) ≡ groups_in kind o
+    found-in kind None = refl
+    found-in kind (Some body) = refl

@@ -18,6 +18,10 @@ abbrev pub kept_of : FieldKind → List RelationField → Option (List (List Ato
 kept_of kind [] = None
 kept_of kind (field ∷ fields) = if nat_eq (field_place field.kind) (field_place kind) then Some field.relations else kept_of kind fields
 
+-- what is kept of a relation field with this body
+abbrev pub relation_field : FieldKind → List ℕ → RelationField
+relation_field kind body = record { kind = kind; relations = groups_read (relations_of kind body) }
+
 abbrev pub or_no_groups : Option (List (List AtomParts)) → List (List AtomParts)
 or_no_groups None = []
 or_no_groups (Some groups) = groups

@@ -1,15 +1,16 @@
 //! What the fields of a live stanza are read to.
 
-ghost use Rattle.std.specs.Prelude.{◌≡◌, ◌≢◌, ◌+◌, ◌<◌, ◌^◌, true, None, Some, IfOk, IfErr, OnOk};
+ghost use Rattle.std.specs.Prelude.{◌≡◌, ◌≢◌, ◌+◌, ◌<◌, ◌^◌, ◌∷◌, ◌++◌, [], true, false, None, Some, IfOk, IfErr, OnOk};
 ghost use Rattle.std.specs.List.{All};
 ghost use Rattle.ctl_relation.specs.declared.field_kind.FieldKind.{FieldKind};
+ghost use Rattle.ctl_relation.specs.declared.relation_fault.RelationFault.TheVariants as relation;
 ghost use Rattle.ctl_relation.specs.Reading.{relations_of};
 ghost use Rattle.ctl_relation.specs.Version.{fault_of};
 ghost use Rattle.ctl_stanza.specs.declared.fault.Cause.TheVariants as causes;
 ghost use Rattle.ctl_stanza.specs.Fields.{body_named, version_name};
 ghost use Rattle.ctl_stanza.specs.RelationFields.{relation_kind, groups_among};
-ghost use Rattle.ctl_stanza.specs.Faults.{live_cause, relation_cause, field_cause, first_wrong, or_else, IsMemoryAtZero, Tells, TellsCause};
-ghost use Rattle.ctl_stanza.specs.Live.{kept_of, kept_groups, version_given, KeepsGroups};
+ghost use Rattle.ctl_stanza.specs.Faults.{is_read, field_cause, first_wrong, or_else, IsMemoryAtZero, Tells, TellsCause};
+ghost use Rattle.ctl_stanza.specs.Live.{kept_groups, relation_field, version_given, KeepsGroups};
 ghost use Rattle.ctl_stanza.specs.Spans.{AreWithin, shown_fields};
 
 use crate::fault::{Cause, TextFault};
@@ -95,6 +96,22 @@ fn read_version(
     }
 }
 
+// Reads the body of a relation field, and keeps its groups.
+fn read_relations(
+    alloc: Global,
+    body: &[u8],
+    kind: FieldKind,
+    fields: &mut Vec<RelationField>,
+) -> Result<(), RelationFault>
+    ensures good { OnOk result (is_read (relations_of kind body.now) ≡ true) }
+    ensures bad { IfErr result (λ fault. fault ≢ relation.Memory → is_read (relations_of kind body.now) ≡ false) }
+    ensures fields { OnOk result (fields.new.items ≡ fields.old.items ++ relation_field kind body.now ∷ []) }
+{
+    let relations = parse_relations(alloc, body, kind)?;
+    fields.push(RelationField { kind, relations })?;
+    Ok(())
+}
+
 // Reads a field of a live stanza, and keeps what it gives.
 fn read_field(
     alloc: Global,
@@ -120,11 +137,8 @@ fn read_field(
     let Some(kind) = relation_kind(name) else {
         return Ok(());
     };
-    match parse_relations(alloc, body, kind) {
-        Ok(relations) => match parts.relations.push(RelationField { kind, relations }) {
-            Ok(()) => Ok(()),
-            Err(_) => Err(Cause::Memory),
-        },
+    match read_relations(alloc, body, kind, &mut parts.relations) {
+        Ok(()) => Ok(()),
         Err(RelationFault::Memory) => Err(Cause::Memory),
         Err(_) => Err(Cause::Relation),
     }
