@@ -170,3 +170,7 @@ first_wrong-memory live n (field ∷ fields) =
 pub never-memory : (fault : TextFault) (found : Option TextFault) → NoMemory found → found ≡ Some fault → fault.cause ≡ causes.Memory → fault.line ≡ 0
 never-memory fault None none e memory = absurd (cc)
 never-memory fault (Some other) none e memory = absurd (none (let same : other ≡ fault = cc in ap (λ (f : TextFault). f.cause) same ∙ memory))
+
+pub not-memory : (fault : TextFault) (found : Option TextFault) → NoMemory found → found ≡ Some fault → fault.cause ≡ causes.Memory → ⊥
+not-memory fault None none e memory = cc
+not-memory fault (Some other) none e memory = none (let same : other ≡ fault = cc in ap (λ (f : TextFault). f.cause) same ∙ memory)

@@ -2,6 +2,7 @@ pub mod LineLemmas
 pub mod FieldLemmas
 pub mod RelationLemmas
 pub mod RecordLemmas
+pub mod TurnLemmas
 pub mod NameLemmas
 pub mod FaultLemmas
 pub mod PieceLemmas

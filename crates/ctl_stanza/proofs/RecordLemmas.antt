@@ -65,3 +65,11 @@ kept-lines text numbers number left all none are = ap lines_of are.text_is ∙ a
 
 pub kept-numbers : (text numbers : List ℕ) (number : ℕ) (left : List ℕ) (all : List NumberedLine) → left ≡ [] → AreKept text numbers number left all → numbers ≡ numbers_of all
 kept-numbers text numbers number left all none are = are.numbers_are ∙ ap numbers_of (kept-end are.kept all number left none are.joined)
+
+pub not-true : (a : Bool) → not a ≡ true → a ≡ false
+not-true true e = absurd (cc)
+not-true false e = refl
+
+pub not-false : (a : Bool) → not a ≡ false → a ≡ true
+not-false true e = refl
+not-false false e = absurd (cc)

@@ -6,7 +6,7 @@ ghost use Rattle.ctl_stanza.specs.Lines.{lent_lines, AreLines};
 ghost use Rattle.ctl_stanza.specs.Faults.{IsMemoryAtZero, Tells};
 ghost use Rattle.ctl_stanza.specs.NamesGiven.{HoldsNone};
 ghost use Rattle.ctl_stanza.specs.Text.{Reads};
-ghost use Rattle.ctl_stanza.specs.Records.{record_of, record_fault, piece_record, read_record_text};
+ghost use Rattle.ctl_stanza.specs.Records.{record_of, numbered_fault, record_fault, piece_record, read_record_text};
 
 use crate::fault::TextFault;
 use crate::fields::{Field, fields_of_lines};
@@ -14,7 +14,7 @@ use crate::line_faults::first_fault;
 use crate::lines::{is_blank, text_of_lines};
 use crate::names_given::NamesGiven;
 use crate::reading::take_piece;
-use crate::record_lines::record_lines;
+use crate::record_lines::{RecordLines, record_lines};
 use crate::repeats::Repeats;
 use std::alloc::Global;
 use std::marker::Model;
@@ -63,6 +63,17 @@ fn record_of(alloc: Global, lines: &[&[u8]], numbers: &[u64]) -> Result<Record, 
     })
 }
 
+// A fault whose line is told by its index, with the number of that line.
+fn numbered_fault(fault: TextFault, numbers: &[u64]) -> TextFault
+    requires { fault.line < length numbers.now }
+    ensures { result ≡ numbered_fault numbers.now fault }
+{
+    TextFault {
+        line: numbers[fault.line as usize],
+        cause: fault.cause,
+    }
+}
+
 // Reads a piece of lines that have these numbers: adds its record, if it is one.
 fn read_record<'a>(
     alloc: Global,
@@ -83,10 +94,7 @@ fn read_record<'a>(
     let found = first_fault(alloc, Repeats::Explanation, names, lines, 0)?;
     names.clear();
     if let Some(fault) = found {
-        return Err(TextFault {
-            line: numbers[fault.line as usize],
-            cause: fault.cause,
-        });
+        return Err(numbered_fault(fault, numbers));
     }
     if is_blank(lines[0]) {
         return Ok(());
@@ -112,22 +120,16 @@ pub fn read_records(alloc: Global, text: &[u8], first_line: u64) -> Result<Vec<R
     ensures read { Reads result (read_record_text first_line text.now) }
     ensures memory { IfErr result IsMemoryAtZero }
 {
-    let kept = record_lines(alloc, text, first_line)?;
+    let RecordLines { text: kept, numbers } = record_lines(alloc, text, first_line)?;
     let mut records = Vec::new(alloc);
     let mut names = NamesGiven::new(alloc);
     let mut lines: Vec<&[u8]> = Vec::new(alloc);
-    let mut left = kept.text.as_slice();
+    let mut left = kept.as_slice();
     let mut at: usize = 0;
     'pieces: while !left.is_empty() {
         let behind = take_piece(&mut lines, left)?;
         let end = at + lines.len();
-        read_record(
-            alloc,
-            &mut records,
-            &mut names,
-            &lines,
-            &kept.numbers[at..end],
-        )?;
+        read_record(alloc, &mut records, &mut names, &lines, &numbers[at..end])?;
         at = end;
         left = behind;
     }

@@ -9,8 +9,8 @@ use Rattle.ctl_stanza.proofs.records.read_records.Given as goal
 abbrev pub invariant-pieces : goal.invariant-pieces
 invariant-pieces l = record {
   names : HoldsNone l.names;
-  room : l.at + length (lines_of l.left) ≡ length l.kept.numbers.items;
-  told : with_contents l.records.items (read_record_pieces l.kept.numbers.items (pieces_of l.at (lines_of l.left))) ≡ read_record_text l.first_line l.text;
+  room : l.at + length (lines_of l.left) ≡ length l.numbers.items;
+  told : with_contents l.records.items (read_record_pieces l.numbers.items (pieces_of l.at (lines_of l.left))) ≡ read_record_text l.first_line l.text;
 }
 
 abbrev pub decreases-pieces : goal.decreases-pieces
