@@ -8,6 +8,7 @@ use Rattle.ctl_stanza.specs.declared.fault.TextFault.{TextFault}
 use Rattle.ctl_stanza.specs.declared.fault.Cause.{Cause}
 use Rattle.ctl_stanza.specs.declared.fault.Cause.TheVariants as causes
 use Rattle.ctl_stanza.specs.Lines.{max_line, is_blank, lines_of}
+use Rattle.ctl_stanza.specs.declared.repeats.Repeats.{Repeats}
 use Rattle.ctl_stanza.specs.declared.repeats.Repeats.TheVariants.{Never}
 use Rattle.ctl_stanza.specs.LineKind.{kind_of}
 use Rattle.ctl_stanza.specs.Content.{Content}
@@ -90,23 +91,23 @@ run_tell kind n front mid rest some gap others gap_after =
 -- ---- a blank line
 
 -- of a blank line only its length matters
-blank-any : (before other : List (List ℕ)) (line : List ℕ) (cause : Cause) → is_blank line ≡ true → IsFaultyLine Never before line cause → IsFaultyLine Never other line cause
-blank-any before other line causes.TooLong blank fault =
+pub blank-any : (r : Repeats) (before other : List (List ℕ)) (line : List ℕ) (cause : Cause) → is_blank line ≡ true → IsFaultyLine r before line cause → IsFaultyLine r other line cause
+blank-any r before other line causes.TooLong blank fault =
     let is : kind_of line ≡ Blank = cond-true _ _ _ blank in
     ⊎_elim (λ (long : max_line < length line). inl long) (λ (makes : MakesBodyTooLong before line). let continues : kind_of line ≡ Continuation = makes.continues in absurd (cc)) fault
-blank-any before other line causes.Line blank fault =
+blank-any r before other line causes.Line blank fault =
     let is : kind_of line ≡ Blank = cond-true _ _ _ blank in
     ⊎_elim (λ (nothing : ContinuesNothing before line). let continues : kind_of line ≡ Continuation = nothing.continues in absurd (cc)) (λ (b : kind_of line ≡ Faulty). absurd (cc)) fault
-blank-any before other line causes.FieldTwice blank fault =
+blank-any r before other line causes.FieldTwice blank fault =
     let is : kind_of line ≡ Blank = cond-true _ _ _ blank in
     let field : kind_of line ≡ Field fault.bytes = fault.is_field in absurd (cc)
-blank-any before other line causes.Missing blank fault = absurd fault
-blank-any before other line causes.Name blank fault = absurd fault
-blank-any before other line causes.Version blank fault = absurd fault
-blank-any before other line causes.Relation blank fault = absurd fault
-blank-any before other line causes.Priority blank fault = absurd fault
-blank-any before other line causes.Form blank fault = absurd fault
-blank-any before other line causes.Memory blank fault = absurd fault
+blank-any r before other line causes.Missing blank fault = absurd fault
+blank-any r before other line causes.Name blank fault = absurd fault
+blank-any r before other line causes.Version blank fault = absurd fault
+blank-any r before other line causes.Relation blank fault = absurd fault
+blank-any r before other line causes.Priority blank fault = absurd fault
+blank-any r before other line causes.Form blank fault = absurd fault
+blank-any r before other line causes.Memory blank fault = absurd fault
 
 gap_tell : (kind : ListKind) (n : ℕ) (front : List (List ℕ)) (line : List ℕ) (rest : List (List ℕ)) → is_blank line ≡ true
     → TellsLeast (HasThere kind (front ++ (line ∷ rest)) (length front) 1) n (piece_fault kind (piece (n + length front) (line ∷ [])))
@@ -124,7 +125,7 @@ gap_tell kind n front line rest blank =
           let same = same-some _ fault _ told e in
           let faulty : IsFaultyLine Never [] line fault.cause = cause-sound Never [] line fault.cause (some.1 ∙ ap (λ (f : TextFault). Some f.cause) same) in
           let there : HasFault kind all (length front) fault.cause =
-          inl (size, subst (λ l. IsFaultyLine Never (lines_before all (length front)) l fault.cause) (sym here) (blank-any [] (lines_before all (length front)) line fault.cause blank faulty)) in
+          inl (size, subst (λ l. IsFaultyLine Never (lines_before all (length front)) l fault.cause) (sym here) (blank-any Never [] (lines_before all (length front)) line fault.cause blank faulty)) in
           let found : (i : ℕ) × (fault.line ≡ n + i) × HasThere kind all (length front) 1 i fault.cause =
           (length front, sym (ap (λ (f : TextFault). f.line) same), (omega arith, omega arith, there)) in
           found)
@@ -134,7 +135,7 @@ gap_tell kind n front line rest blank =
           let there = subst (λ j. HasFault kind all j cause) place fault.2 in
           ⊎_elim
           (λ (faulty : (length front < length all) × IsFaultyLine Never (lines_before all (length front)) (line_at all (length front)) cause).
-          let alone = blank-any (lines_before all (length front)) [] line cause blank (subst (λ l. IsFaultyLine Never (lines_before all (length front)) l cause) here faulty.1) in
+          let alone = blank-any Never (lines_before all (length front)) [] line cause blank (subst (λ l. IsFaultyLine Never (lines_before all (length front)) l cause) here faulty.1) in
           let told = cause-least Never [] line cause alone in
           let found : (f : TextFault) × (piece_fault kind (piece (n + length front) (line ∷ [])) ≡ Some f) × IsAtMost f (n + i) cause =
           (record { line = n + length front; cause = told.0 }, first ∙ ap (λ o. fault_or (n + length front) o None) told.1, inr (omega arith, told.2)) in

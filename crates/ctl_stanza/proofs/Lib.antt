@@ -12,4 +12,5 @@ pub mod CauseLemmas
 pub mod WholeLemmas
 pub mod PlaceLemmas
 pub mod LawLemmas
+pub mod RecordLawLemmas
 pub mod RunLemmas

@@ -15,6 +15,7 @@ pub mod Faults
 pub mod Text
 pub mod Laws
 pub mod Records
+pub mod RecordLaws
 pub mod NamesGiven
 pub mod Spans
 pub mod Live

@@ -23,7 +23,9 @@ mod status;
 mod tests;
 
 pub use fault::{Cause, TextFault};
-pub use laws::{stanzas_are_runs, stanzas_keep_lines, told_fault_is_least};
+pub use laws::{
+    stanzas_are_runs, stanzas_keep_lines, told_fault_is_least, told_record_fault_is_least,
+};
 pub use lines::MAX_LINE;
 pub use list_kind::ListKind;
 pub use reading::read_stanzas;

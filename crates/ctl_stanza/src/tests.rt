@@ -2,7 +2,7 @@
 
 use crate::{
     Cause, ListKind, MAX_LINE, TextFault, read_records, read_stanzas, stanzas_are_runs, stanzas_keep_lines,
-    told_fault_is_least,
+    told_fault_is_least, told_record_fault_is_least,
 };
 use ctl_relation::FieldKind;
 use std::alloc::{AllocError, Global};
@@ -401,4 +401,5 @@ fn laws_can_be_called() {
     told_fault_is_least();
     stanzas_keep_lines();
     stanzas_are_runs();
+    told_record_fault_is_least();
 }
