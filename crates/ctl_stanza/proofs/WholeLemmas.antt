@@ -313,6 +313,7 @@ wrong_tell kind n stanza whole = record {
     field_least i cause field stands line wrong =
         let told = wrong-least (is_live_by kind (fields_of_lines stanza)) n 0 (fields_of_lines stanza) stands.0 field cause (rise-from 0 stanza) stands.1 stands.2 wrong in
         (told.0, told.1, subst (λ k. IsAtMost told.0 (n + k) cause) line told.2)
+
     wrong_is_least : (i : ℕ) (cause : Cause) → HasWholeFault kind stanza i cause
         → (fault : TextFault) × (first_wrong (is_live_by kind (fields_of_lines stanza)) n (fields_of_lines stanza) ≡ Some fault) × IsAtMost fault (n + i) cause
     wrong_is_least i causes.TooLong fault = absurd fault

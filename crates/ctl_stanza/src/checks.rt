@@ -21,12 +21,7 @@ fn is_empty_body(body: Option<&[u8]>) -> bool
 }
 
 /// Whether a stanza lacks its package, its state or its version, by whether it is live.
-pub(crate) fn is_missing(
-    kind: ListKind,
-    live: Option<bool>,
-    fields: &[Field],
-    bytes: &[u8],
-) -> bool
+pub(crate) fn is_missing(kind: ListKind, live: Option<bool>, fields: &[Field], bytes: &[u8]) -> bool
     requires within { AreWithin bytes.now fields.now }
     requires live { live ≡ liveness kind (shown_fields bytes.now fields.now) }
     ensures { result ≡ is_missing kind (shown_fields bytes.now fields.now) }

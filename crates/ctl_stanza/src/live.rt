@@ -75,11 +75,7 @@ pub(crate) fn kept_groups(fields: &[RelationField], kind: FieldKind) -> &[Group]
 }
 
 // Reads a version; the first one counts.
-fn read_version(
-    alloc: Global,
-    body: &[u8],
-    version: &mut Option<Version>,
-) -> Result<(), Cause>
+fn read_version(alloc: Global, body: &[u8], version: &mut Option<Version>) -> Result<(), Cause>
     ensures good { OnOk result (fault_of body.now ≡ None) }
     ensures bad { IfErr result (λ cause. cause ≢ causes.Memory → (cause ≡ causes.Version) × (fault_of body.now ≢ None)) }
     ensures version { OnOk result (version.new ≡ or_else version.old (Some body.now)) }
@@ -113,12 +109,7 @@ fn read_relations(
 }
 
 // Reads a field of a live stanza, and keeps what it gives.
-fn read_field(
-    alloc: Global,
-    name: &[u8],
-    body: &[u8],
-    parts: &mut LiveParts,
-) -> Result<(), Cause>
+fn read_field(alloc: Global, name: &[u8], body: &[u8], parts: &mut LiveParts) -> Result<(), Cause>
     ensures good { OnOk result (field_cause true name.now body.now ≡ None) }
     ensures bad { IfErr result (TellsCause (field_cause true name.now body.now)) }
     ensures version { OnOk result (parts.new.version ≡ or_else parts.old.version (version_given name.now body.now)) }
@@ -165,7 +156,12 @@ pub(crate) fn read_live(
     };
     for i in 0..fields.len() {
         let field = &fields[i];
-        match read_field(alloc, field.name.of(bytes), field.body.of(bytes), &mut parts) {
+        match read_field(
+            alloc,
+            field.name.of(bytes),
+            field.body.of(bytes),
+            &mut parts,
+        ) {
             Ok(()) => {}
             Err(Cause::Memory) => {
                 return Err(TextFault::MEMORY);

@@ -17,7 +17,10 @@ use std::alloc::{AllocError, Global};
 
 /// Takes the lines of the first piece of a text: one blank line, or all lines up to the next blank one. What
 /// stands behind them is returned.
-pub(crate) fn take_piece<'a>(lines: &mut Vec<&'a [u8]>, text: &'a [u8]) -> Result<&'a [u8], AllocError>
+pub(crate) fn take_piece<'a>(
+    lines: &mut Vec<&'a [u8]>,
+    text: &'a [u8],
+) -> Result<&'a [u8], AllocError>
     requires { 0 < length text.now }
     ensures some { OnOk result (0 < length lines.new.items) }
     ensures within { IfOk result (λ behind. length lines.new.items + length behind.now ≤ length text.now) }
@@ -115,5 +118,6 @@ pub fn read_stanzas(
         line += lines.len() as u64;
         left = behind;
     }
+    stanzas.shrink_to_fit();
     Ok(stanzas)
 }

@@ -120,7 +120,10 @@ pub fn read_records(alloc: Global, text: &[u8], first_line: u64) -> Result<Vec<R
     ensures read { Reads result (read_record_text first_line text.now) }
     ensures memory { IfErr result IsMemoryAtZero }
 {
-    let RecordLines { text: kept, numbers } = record_lines(alloc, text, first_line)?;
+    let RecordLines {
+        text: kept,
+        numbers,
+    } = record_lines(alloc, text, first_line)?;
     let mut records = Vec::new(alloc);
     let mut names = NamesGiven::new(alloc);
     let mut lines: Vec<&[u8]> = Vec::new(alloc);
@@ -133,6 +136,7 @@ pub fn read_records(alloc: Global, text: &[u8], first_line: u64) -> Result<Vec<R
         at = end;
         left = behind;
     }
+    records.shrink_to_fit();
     Ok(records)
 }
 

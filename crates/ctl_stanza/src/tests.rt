@@ -1,8 +1,8 @@
 //! Worked texts, each with what it is read to.
 
 use crate::{
-    Cause, ListKind, MAX_LINE, TextFault, read_records, read_stanzas, stanzas_are_runs, stanzas_keep_lines,
-    told_fault_is_least, told_record_fault_is_least,
+    Cause, ListKind, MAX_LINE, TextFault, read_records, read_stanzas, stanzas_are_runs,
+    stanzas_keep_lines, told_fault_is_least, told_record_fault_is_least,
 };
 use ctl_relation::FieldKind;
 use std::alloc::{AllocError, Global};
@@ -99,11 +99,23 @@ fn faults_of_whole_stanzas_are_told(rt: HostRuntime) {
             4,
             Cause::Name,
         ),
-        (b"Package: a\nDepends: b [x]\nVersion: 1-", 2, Cause::Relation),
-        (b"Package: a\nVersion: 1-\nDepends: b [x]", 2, Cause::Version),
+        (
+            b"Package: a\nDepends: b [x]\nVersion: 1-",
+            2,
+            Cause::Relation,
+        ),
+        (
+            b"Package: a\nVersion: 1-\nDepends: b [x]",
+            2,
+            Cause::Version,
+        ),
         (b"Version: 1\nPackage: a\n b", 2, Cause::Name),
         (b"Version: 1\n 2\nPackage: a", 1, Cause::Version),
-        (b"Package: a\nVersion: 1\nX: y\nProvides: b,\n c (>= 1)", 4, Cause::Relation),
+        (
+            b"Package: a\nVersion: 1\nX: y\nProvides: b,\n c (>= 1)",
+            4,
+            Cause::Relation,
+        ),
         (b"Package: a\nVersion:\n 1\n", 2, Cause::Version),
     ];
     for (text, line, cause) in rows {
@@ -116,15 +128,47 @@ fn faults_of_whole_stanzas_are_told(rt: HostRuntime) {
 fn faults_of_status_lists_are_told(rt: HostRuntime) {
     let rows: [(&[u8], u64, Cause); 9] = [
         (b"Package: a\nVersion: 1", 1, Cause::Missing),
-        (b"Package: a\nStatus: install ok installed", 1, Cause::Missing),
-        (b"Package: a\nStatus: install ok odd\nVersion: 1", 1, Cause::Missing),
-        (b"Package: a\nStatus: install installed\nVersion: 1", 1, Cause::Missing),
-        (b"Package: a\nStatus: install ok installed x\nVersion: 1", 1, Cause::Missing),
+        (
+            b"Package: a\nStatus: install ok installed",
+            1,
+            Cause::Missing,
+        ),
+        (
+            b"Package: a\nStatus: install ok odd\nVersion: 1",
+            1,
+            Cause::Missing,
+        ),
+        (
+            b"Package: a\nStatus: install installed\nVersion: 1",
+            1,
+            Cause::Missing,
+        ),
+        (
+            b"Package: a\nStatus: install ok installed x\nVersion: 1",
+            1,
+            Cause::Missing,
+        ),
         // A newline is a byte of a word.
-        (b"Package: a\nStatus: install ok\n\tinstalled\n x\nVersion: 1", 1, Cause::Missing),
-        (b"Package: a!\nStatus: purge ok not-installed", 1, Cause::Name),
-        (b"Status: purge ok not-installed\nX: y\n z", 1, Cause::Missing),
-        (b"Package: a\nStatus: x y unpacked\nVersion: 1_", 3, Cause::Version),
+        (
+            b"Package: a\nStatus: install ok\n\tinstalled\n x\nVersion: 1",
+            1,
+            Cause::Missing,
+        ),
+        (
+            b"Package: a!\nStatus: purge ok not-installed",
+            1,
+            Cause::Name,
+        ),
+        (
+            b"Status: purge ok not-installed\nX: y\n z",
+            1,
+            Cause::Missing,
+        ),
+        (
+            b"Package: a\nStatus: x y unpacked\nVersion: 1_",
+            3,
+            Cause::Version,
+        ),
     ];
     for (text, line, cause) in rows {
         let told = list_has_fault(rt.alloc(), ListKind::Status, text, line, cause);
@@ -147,7 +191,10 @@ fn states_say_what_is_live(rt: HostRuntime) -> Result<(), Fail> {
         (b"install ok\n installed", true),
     ];
     for (state, is_live) in rows {
-        let mut text = Vec::from_slice(rt.alloc(), b"Package: a\nVersion: 1\nProvides: b\nStatus:")?;
+        let mut text = Vec::from_slice(
+            rt.alloc(),
+            b"Package: a\nVersion: 1\nProvides: b\nStatus:",
+        )?;
         text.extend_from_slice(state)?;
         let stanzas = read_stanzas(rt.alloc(), &text, 1, ListKind::Status)?;
         assert_eq!(rt; stanzas.len(), 1);
@@ -271,7 +318,8 @@ fn parts_are_lent(rt: HostRuntime) -> Result<(), Fail> {
 
 #[test]
 fn bodies_are_their_lines(rt: HostRuntime) -> Result<(), Fail> {
-    let text: &[u8] = b"Package: a\nVersion: 1\nOne: x\n y \n\t.\nTwo: x \t\n y\nThree:\n z\nFour:  \n z\n w\nFive: v ";
+    let text: &[u8] =
+        b"Package: a\nVersion: 1\nOne: x\n y \n\t.\nTwo: x \t\n y\nThree:\n z\nFour:  \n z\n w\nFive: v ";
     let rows: [(&[u8], &[u8]); 5] = [
         (b"one", b"x\n y \n\t."),
         (b"two", b"x\n y"),
@@ -290,7 +338,8 @@ fn bodies_are_their_lines(rt: HostRuntime) -> Result<(), Fail> {
 
 #[test]
 fn relations_are_lent(rt: HostRuntime) -> Result<(), Fail> {
-    let text: &[u8] = b"Package: a\nDEPENDS: b | c (>= 1),\n d\nVersion: 1:2\nProvides: e, f (= 3)\nBreaks: g";
+    let text: &[u8] =
+        b"Package: a\nDEPENDS: b | c (>= 1),\n d\nVersion: 1:2\nProvides: e, f (= 3)\nBreaks: g";
     let stanzas = read_stanzas(rt.alloc(), text, 1, ListKind::Packages)?;
     assert_eq!(rt; stanzas.len(), 1);
     let stanza = &stanzas[0];
@@ -304,8 +353,11 @@ fn relations_are_lent(rt: HostRuntime) -> Result<(), Fail> {
     assert_eq!(rt; stanza.groups(FieldKind::Suggests).len(), 0);
     assert_eq!(rt; stanza.groups(FieldKind::Provides).len(), 0);
     assert_eq!(rt; stanza.provides().len(), 2);
-    let offers: [(&[u8], Option<&[u8]>); 3] =
-        [(b"a", Some(b"1:2")), (b"e", None), (b"f", Some(b"3"))];
+    let offers: [(&[u8], Option<&[u8]>); 3] = [
+        (b"a", Some(b"1:2")),
+        (b"e", None),
+        (b"f", Some(b"3")),
+    ];
     assert_eq!(rt; stanza.offers().len(), offers.len());
     for i in 0..offers.len() {
         assert!(rt; i < stanza.offers().len());
@@ -322,7 +374,8 @@ fn relations_are_lent(rt: HostRuntime) -> Result<(), Fail> {
 
 #[test]
 fn records_are_read(rt: HostRuntime) -> Result<(), Fail> {
-    let text: &[u8] = b"# c\nExplanation: keep\n\nExplanation: x\n#y\nexplanation: y\n# z\n  more\nPackage: foo\n#\n\n# alone\n \nPin: 1";
+    let text: &[u8] =
+        b"# c\nExplanation: keep\n\nExplanation: x\n#y\nexplanation: y\n# z\n  more\nPackage: foo\n#\n\n# alone\n \nPin: 1";
     let records = read_records(rt.alloc(), text, 10)?;
     assert_eq!(rt; records.len(), 3);
     assert_eq!(rt; records[0].first_line(), 11);
@@ -356,7 +409,11 @@ fn faults_of_records_are_told(rt: HostRuntime) {
         (b"#\n\n#\noops", 4, Cause::Line),
         // A comment is a line that begins with `#`, and not with a blank.
         (b" # x\n", 1, Cause::Line),
-        (b"Explanation: a\nExplanation: b\nPackage: c\nPackage: d\n-: x", 4, Cause::FieldTwice),
+        (
+            b"Explanation: a\nExplanation: b\nPackage: c\nPackage: d\n-: x",
+            4,
+            Cause::FieldTwice,
+        ),
     ];
     for (text, line, cause) in rows {
         let told = records_have_fault(rt.alloc(), text, line, cause);

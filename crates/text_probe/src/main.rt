@@ -35,7 +35,12 @@ fn append_fault(alloc: Global, fault: TextFault, line: &mut Vec<u8>) -> Result<(
 }
 
 // What a text is read to.
-fn append_answer(alloc: Global, kind: &Kind, text: &[u8], line: &mut Vec<u8>) -> Result<(), AllocError> {
+fn append_answer(
+    alloc: Global,
+    kind: &Kind,
+    text: &[u8],
+    line: &mut Vec<u8>,
+) -> Result<(), AllocError> {
     match kind {
         Kind::List(kind) => match read_stanzas(alloc, text, 1, *kind) {
             Err(fault) => append_fault(alloc, fault, line),
@@ -59,7 +64,12 @@ fn append_answer(alloc: Global, kind: &Kind, text: &[u8], line: &mut Vec<u8>) ->
 }
 
 // How many stanzas or records a text has, or its fault.
-fn append_count(alloc: Global, kind: &Kind, text: &[u8], line: &mut Vec<u8>) -> Result<(), AllocError> {
+fn append_count(
+    alloc: Global,
+    kind: &Kind,
+    text: &[u8],
+    line: &mut Vec<u8>,
+) -> Result<(), AllocError> {
     let read = match kind {
         Kind::List(kind) => read_stanzas(alloc, text, 1, *kind).map(|stanzas| stanzas.len()),
         Kind::Records => read_records(alloc, text, 1).map(|records| records.len()),
@@ -98,7 +108,10 @@ fn main(rt: HostRuntime) -> Result<()> {
     }
     for line in BufReader::new(alloc, rt.reader())?.lines(alloc) {
         let line = line?;
-        let (word, digits) = line.as_str().split_once('\t').context("a line without a tab")?;
+        let (word, digits) = line
+            .as_str()
+            .split_once('\t')
+            .context("a line without a tab")?;
         let kind = kind_named(word).context("a kind that is not known")?;
         let text = hex::decode(alloc, digits).context("a text that is not hexadecimal")?;
         answer.clear();

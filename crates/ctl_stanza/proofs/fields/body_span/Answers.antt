@@ -14,8 +14,14 @@ overflow_cast-result c =
 
 pub overflow_add-result-then-more-eq0-2 : goal.overflow_add-result-then-more-eq0-2
 overflow_add-result-then-more-eq0-2 c =
-    omega (arith, c.requires.short, c.continued_len-more.ensures, c.value_span-value.ensures.within.1, continued-le (lent_lines c.args.behind.now),
-    stands-room c.args.bytes.now.items c.args.line.now c.args.at (lent_lines c.args.behind.now) c.requires.stands)
+    omega (
+      arith,
+      c.requires.short,
+      c.continued_len-more.ensures,
+      c.value_span-value.ensures.within.1,
+      continued-le (lent_lines c.args.behind.now),
+      stands-room c.args.bytes.now.items c.args.line.now c.args.at (lent_lines c.args.behind.now) c.requires.stands,
+    )
 
 pub returns-then-more-eq0-clause-body : goal.returns-then-more-eq0-clause-body
 returns-then-more-eq0-clause-body c =

@@ -31,7 +31,6 @@ overflow_cast-i c =
     let size = ap length c.loop-i.invariant.grows.joined in
     omega (arith, c.loop-i.invariant.short, size, length-append (text_of_lines lines) c.loop-i.invariant.grows.more, length-text_of_lines lines, lt)
 
-
 pub add_field-requires-clause-stands : goal.add_field-requires-clause-stands
 add_field-requires-clause-stands c =
     let lines = lent_lines c.args.lines.now in
@@ -41,7 +40,6 @@ add_field-requires-clause-stands c =
     let stands = stands-here lines _ c.loop-i.bytes.items i c.loop-i.at lt here c.loop-i.invariant.stands in
     let room = stands-room c.loop-i.bytes.items _ c.loop-i.at (drop (i + 1) lines) stands in
     rw (behind_is c.args.lines.now i) stands
-
 
 pub overflow_cast-at : goal.overflow_cast-at
 overflow_cast-at c =
@@ -53,7 +51,6 @@ overflow_cast-at c =
     let room = stands-room c.loop-i.bytes.items _ c.loop-i.at (drop (i + 1) lines) stands in
     omega (arith, c.loop-i.invariant.short, room)
 
-
 pub overflow_add-at : goal.overflow_add-at
 overflow_add-at c =
     let lines = lent_lines c.args.lines.now in
@@ -64,7 +61,6 @@ overflow_add-at c =
     let room = stands-room c.loop-i.bytes.items _ c.loop-i.at (drop (i + 1) lines) stands in
     omega (arith, c.loop-i.invariant.short, room)
 
-
 pub overflow_add-at-in-loop-i : goal.overflow_add-at-in-loop-i
 overflow_add-at-in-loop-i c =
     let lines = lent_lines c.args.lines.now in
@@ -74,7 +70,6 @@ overflow_add-at-in-loop-i c =
     let stands = stands-here lines _ c.loop-i.bytes.items i c.loop-i.at lt here c.loop-i.invariant.stands in
     let room = stands-room c.loop-i.bytes.items _ c.loop-i.at (drop (i + 1) lines) stands in
     omega (arith, c.loop-i.invariant.short, room)
-
 
 pub loop-i-preserved : goal.loop-i-preserved
 loop-i-preserved c =
@@ -100,4 +95,3 @@ loop-i-preserved c =
       within = adds.within;
       known = added.lines (length c.args.lines.now) c.loop-i-test.true c.loop-i.invariant.known;
     }
-

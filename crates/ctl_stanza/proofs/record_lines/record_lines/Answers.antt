@@ -16,8 +16,8 @@ lines-preserved c =
             (ap (λ (k : RecordLines). k.text.items) w.kept-is ∙ w.in_ok-add.ensures.text) (ap (λ (k : RecordLines). k.numbers.items) w.kept-is ∙ w.in_ok-add.ensures.number) c.lines.invariant.kept
         | else-not-is_comment w ↦
             rw w.kept-is
-                (kept-skip c.lines.kept.text.items c.lines.kept.numbers.items c.lines.number c.in-Some.line.now c.lines.left.now c.in-Some.behind.now _ here.lines
-                (sym c.is_comment.ensures ∙ w.if-not-is_comment.false) c.lines.invariant.kept)
+            (kept-skip c.lines.kept.text.items c.lines.kept.numbers.items c.lines.number c.in-Some.line.now c.lines.left.now c.in-Some.behind.now _ here.lines
+            (sym c.is_comment.ensures ∙ w.if-not-is_comment.false) c.lines.invariant.kept)
       ];
     }
 
