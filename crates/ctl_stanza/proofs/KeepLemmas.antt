@@ -33,7 +33,7 @@ reads_first None front contents (Ok others) e = record { others = others; read =
 reads_first None front contents (Err f) e = absurd (cc)
 reads_first (Some f) front contents rest e = absurd (cc)
 
-text_of_lines-append : (xs ys : List (List ℕ)) → text_of_lines (xs ++ ys) ≡ text_of_lines xs ++ text_of_lines ys
+pub text_of_lines-append : (xs ys : List (List ℕ)) → text_of_lines (xs ++ ys) ≡ text_of_lines xs ++ text_of_lines ys
 text_of_lines-append [] ys = refl
 text_of_lines-append (x ∷ xs) ys = ap (λ t. x ++ 10 ∷ t) (text_of_lines-append xs ys) ∙ sym (append_assoc x (10 ∷ text_of_lines xs) (text_of_lines ys))
 

@@ -1,5 +1,5 @@
 -- The fields that a stanza keeps, seen in its text.
-use Rattle.std.specs.Prelude.{◌≡◌, ℕ, ◌<◌, ◌≤◌, List, ◌++◌, length, slice_range, map}
+use Rattle.std.specs.Prelude.{◌≡◌, ℕ, ◌<◌, ◌≤◌, List, ◌++◌, length, take, drop, slice_range, map}
 use Rattle.std.specs.List.{All}
 use Rattle.ctl_stanza.specs.declared.fields.Span.{Span}
 use Rattle.ctl_stanza.specs.declared.fields.Field.{Field}
@@ -27,17 +27,36 @@ shown_field text field = record { line = field.line; name = shown text field.nam
 abbrev pub shown_fields : List ℕ → List Field → List FieldText
 shown_fields text fields = map (shown_field text) fields
 
--- these are the fields of a text, and lie in it
-pub record AreFieldsOf (text : List ℕ) (fields : List Field) : Type 0 where
-  pub within : AreWithin text fields
-  pub fields_are : shown_fields text fields ≡ fields_of_lines (lines_of text)
+-- these are the fields of a text, and lie in these bytes
+pub record AreFieldsOf (text bytes : List ℕ) (fields : List Field) : Type 0 where
+  pub within : AreWithin bytes fields
+  pub fields_are : shown_fields bytes fields ≡ fields_of_lines (lines_of text)
 
--- what the line at an index, which stands in a text, adds to the fields of that text
-pub record Adds (text line : List ℕ) (index : ℕ) (old new : List Field) : Type 0 where
-  pub fields : shown_fields text new ≡ shown_fields text old ++ field_at index (kind_of line) line
-  pub within : AreWithin text old → AreWithin text new
-  pub lines : (count : ℕ) → index < count → All (λ field. field.line < count) old → All (λ field. field.line < count) new
+-- a part stands at a place of bytes
+abbrev pub StandsAt : List ℕ → ℕ → List ℕ → Type 0
+StandsAt bytes at part = take (length part) (drop at bytes) ≡ part
 
--- the same in each text in which the line stands at this place
-abbrev pub AddsAt : ℕ → List ℕ → ℕ → List Field → List Field → Type 0
-AddsAt at line index old new = (front behind : List ℕ) → length front ≡ at → Adds (front ++ (line ++ behind)) line index old new
+-- bytes with others behind them
+pub record Grows (old new : List ℕ) : Type 0 where
+  pub more : List ℕ
+  pub joined : new ≡ old ++ more
+
+-- a span lies in bytes, and shows this part of them
+pub record Shows (bytes : List ℕ) (span : Span) (part : List ℕ) : Type 0 where
+  pub within : IsWithin bytes span
+  pub part_is : shown bytes span ≡ part
+
+-- what the line at an index adds to fields, by the lines behind it
+pub record Adds (bytes line : List ℕ) (behind : List (List ℕ)) (index : ℕ) (old : List FieldText) (new : List Field) : Type 0 where
+  pub within : AreWithin bytes new
+  pub fields : shown_fields bytes new ≡ old ++ field_at index (kind_of line) line behind
+
+-- the line of each field is one of so many
+abbrev pub AreBelow : ℕ → List Field → Type 0
+AreBelow count fields = All (λ field. field.line < count) fields
+
+-- fields lie in these bytes, and each line has a number, of which there is at least one
+pub record AreNumbered (bytes numbers : List ℕ) (fields : List Field) : Type 0 where
+  pub some : 0 < length numbers
+  pub within : AreWithin bytes fields
+  pub below : AreBelow (length numbers) fields

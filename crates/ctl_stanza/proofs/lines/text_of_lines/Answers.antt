@@ -2,7 +2,7 @@ use Rattle.std.proofs.Common.{◌<◌, ℕ, List, [], length, Bor, arith}
 use Rattle.std.proofs.lemmas.List.{get_or-map, length-map}
 use Rattle.ctl_stanza.specs.Lines.{lent_lines}
 use Rattle.ctl_stanza.proofs.FieldLemmas.{text-go}
-use Rattle.ctl_stanza.proofs.stanza.text_of_lines.Goals as goal
+use Rattle.ctl_stanza.proofs.lines.text_of_lines.Goals as goal
 
 abbrev now : Bor (List ℕ) → List ℕ
 now x = x.now

@@ -1,0 +1,17 @@
+use Rattle.std.proofs.Common.{◌≡◌, ◌≤◌, ◌+◌, length}
+use Rattle.ctl_stanza.specs.Lines.{lines_of}
+use Rattle.ctl_stanza.specs.NamesGiven.{HoldsNone}
+use Rattle.ctl_stanza.specs.Text.{pieces_of, with_contents}
+use Rattle.ctl_stanza.specs.Records.{read_record_pieces, read_record_text}
+use Rattle.ctl_stanza.proofs.records.read_records.Given as goal
+
+-- the records so far, and the reading of what is left, are the reading of all
+abbrev pub invariant-pieces : goal.invariant-pieces
+invariant-pieces l = record {
+  names : HoldsNone l.names;
+  room : l.at + length (lines_of l.left) ≡ length l.numbers.items;
+  told : with_contents l.records.items (read_record_pieces l.numbers.items (pieces_of l.at (lines_of l.left))) ≡ read_record_text l.first_line l.text;
+}
+
+abbrev pub decreases-pieces : goal.decreases-pieces
+decreases-pieces l = length l.left
