@@ -1,0 +1,4 @@
+pub mod PlaceLemmas
+pub mod SortedLemmas
+pub mod OrderLemmas
+pub mod NamedLemmas

@@ -1,12 +1,12 @@
 -- The stanzas of a list under their serial numbers, and the order by which one is found.
 use Rattle.std.specs.Prelude.{◌≡◌, ℕ, zero, suc, ◌+◌, ◌≤◌, Bool, List, [], ◌∷◌, ◌++◌, map, Option, None, Some, option_map, nat_eq, if◌then◌else◌}
-use Rattle.std.specs.Option.{option_map_or}
+use Rattle.std.specs.Option.{option_map_or, option_cmp}
 use Rattle.std.specs.List.{remove}
 use Rattle.std.specs.Map.{lookup}
 use Rattle.std.specs.Ordering.{nat_cmp, ordering_then, is_gt, is_lt}
 use Rattle.std.specs.Cmp.Lexicographic.{slice_cmp}
 use Rattle.std.specs.declared.cmp.Ordering.{Ordering}
-use Rattle.std.specs.declared.cmp.Ordering.TheVariants.{Less, Equal, Greater}
+use Rattle.std.specs.declared.cmp.Ordering.TheVariants.{Less}
 use Rattle.ctl_relation.specs.Version.{Triple, triple_of, triple_cmp}
 use Rattle.ctl_stanza.specs.Content.{Content, package_of, version_of}
 use Rattle.ctl_store.specs.Step.{place, is_same}
@@ -76,10 +76,7 @@ id_of content = id (package_of content) (version_of content)
 
 -- no version stands before each version
 abbrev pub version_order : Option Triple → Option Triple → Ordering
-version_order None None = Equal
-version_order None (Some w) = Less
-version_order (Some v) None = Greater
-version_order (Some v) (Some w) = triple_cmp v w
+version_order a b = option_cmp triple_cmp a b
 
 abbrev pub id_cmp : Id → Id → Ordering
 id_cmp a b = ordering_then (slice_cmp nat_cmp a.name b.name) (version_order a.version b.version)

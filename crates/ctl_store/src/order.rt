@@ -62,11 +62,14 @@ pub(crate) fn find(
     ensures within { IfSome result (λ at. at < length rows.now) }
 {
     let at = lower(rows, order, name, version);
-    match order.get(at) {
-        Some(serial) if compare_row(rows, *serial, name, version).is_eq() => {
-            place_of(rows, *serial)
-        }
-        _ => None,
+    if at >= order.len() {
+        return None;
+    }
+    let serial = order[at];
+    if compare_row(rows, serial, name, version).is_eq() {
+        place_of(rows, serial)
+    } else {
+        None
     }
 }
 

@@ -1,6 +1,6 @@
 //! Stanzas under their serial numbers.
 
-ghost use Rattle.std.specs.Prelude.{◌≡◌, ◌<◌, ◌∷◌, ◌++◌, ℕ, [], IfSome, length, map, vec_len, take, drop, IfOk};
+ghost use Rattle.std.specs.Prelude.{◌≡◌, ◌<◌, ◌≤◌, ◌∷◌, ◌++◌, ℕ, [], IfSome, length, map, vec_len, take, drop, IfOk};
 ghost use Rattle.std.specs.Vec.{vec_capacity};
 ghost use Rattle.ctl_store.specs.Step.{place};
 ghost use Rattle.ctl_store.specs.Rows.{has_serial, Rises};
@@ -66,7 +66,7 @@ pub(crate) fn place_of(rows: &[Row], serial: u64) -> Option<usize>
 pub(crate) fn push_row(rows: &mut Vec<Row>, row: Row)
     requires { vec_len rows.old < vec_capacity rows.old }
     ensures items { rows.new.items ≡ rows.old.items ++ row ∷ [] }
-    ensures room { vec_capacity rows.new ≡ vec_capacity rows.old }
+    ensures room { vec_capacity rows.old ≤ vec_capacity rows.new }
 {
     match rows.push(row) {
         Ok(()) => {}

@@ -238,7 +238,8 @@ fn remove_from(
 {
     match find(rows, order, name, version) {
         Some(at) => {
-            let _ = order.remove(lower(rows, order, name, version));
+            let order_at = lower(rows, order, name, version);
+            let _ = order.remove(order_at);
             let _ = rows.remove(at);
         }
         None => {}
