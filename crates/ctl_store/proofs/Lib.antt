@@ -2,3 +2,4 @@ pub mod PlaceLemmas
 pub mod SortedLemmas
 pub mod OrderLemmas
 pub mod NamedLemmas
+pub mod ListedLemmas
