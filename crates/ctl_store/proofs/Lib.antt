@@ -3,3 +3,4 @@ pub mod SortedLemmas
 pub mod OrderLemmas
 pub mod NamedLemmas
 pub mod ListedLemmas
+pub mod AcceptLemmas

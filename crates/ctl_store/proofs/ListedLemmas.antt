@@ -1,12 +1,14 @@
 -- Changes of one list among the lists, and the order of serials through them.
-use Rattle.std.proofs.Common.{◌≡◌, ℕ, ◌+◌, ◌≤◌, suc, Bool, true, false, cond, List, [], ◌∷◌, ◌++◌, Option, None, Some, is_some, option_map, map, refl, ap, sym, subst, ◌∙◌, IfSome, OnOk, Result, Ok, Err, arith}
+use Rattle.std.proofs.Common.{◌≡◌, ℕ, ◌+◌, ◌≤◌, suc, Bool, true, false, cond, ◌||◌, List, [], ◌∷◌, ◌++◌, Option, None, Some, is_some, option_map, map, refl, ap, sym, subst, ◌∙◌, IfSome, OnOk, Result, Ok, Err, arith}
 use Rattle.std.specs.Str.{bytes_eq}
 use Rattle.ctl_stanza.specs.Content.{Content, package_of, version_of}
 use Rattle.ctl_store.specs.State.{StanzaList}
-use Rattle.ctl_store.specs.Step.{place}
+use Rattle.ctl_store.specs.Step.{place, is_same, is_status, has_status, has_stanza}
+use Rattle.std.specs.Option.{option_map_or}
+use Rattle.std.specs.List.{list_any}
 use Rattle.ctl_store.specs.Named.{at_name, has_name, put_named, set_named, without_name, change_named}
 use Rattle.ctl_store.specs.Rows.{Rises, by_name_and_version, put_row_at, next_at, remove_row_at}
-use Rattle.ctl_store.specs.Keys.{KeyedList, stanza_list, stanza_lists, put_keyed, remove_keyed}
+use Rattle.ctl_store.specs.Keys.{KeyedList, stanzas_of, stanza_list, stanza_lists, put_keyed, remove_keyed}
 use Rattle.ctl_store.specs.Held.{Sheet, keyed_list, lists_of, InOrder}
 use Rattle.ctl_store.proofs.NamedLemmas.{if_cases, some_is, none_is, put_named-new}
 use Rattle.ctl_store.proofs.PlaceLemmas.{Rises-push, Rises-replace, Rises-remove, place_within}
@@ -161,3 +163,18 @@ has_name_held name es = ap is_some (at_name-stanza_lists name (lists_of es)) ∙
 
 pub at_name_held : (name : List ℕ) (es : List (List ℕ × Sheet)) → at_name name (stanza_lists (lists_of es)) ≡ option_map stanza_list (option_map keyed_list (at_name name es))
 at_name_held name es = at_name-stanza_lists name (lists_of es) ∙ ap (option_map stanza_list) (at_name_lists name es)
+
+pub place_stanzas : (p : Content → Bool) (rows : List (ℕ × Content)) → place p (stanzas_of rows) ≡ place (λ (r : ℕ × Content). p r.1) rows
+place_stanzas p [] = refl
+place_stanzas p (r ∷ rows) = ap (λ o. cond (p r.1) (Some 0) (option_map (λ n. suc n) o)) (place_stanzas p rows)
+
+pub has_stanza_held : (list name : List ℕ) (version : Option (List ℕ)) (es : List (List ℕ × Sheet)) → has_stanza list name version (stanza_lists (lists_of es)) ≡ option_map_or (λ (s : Sheet). is_some (place (by_name_and_version name version) s.rows)) (at_name list es) false
+has_stanza_held list name version es = ap (λ o. option_map_or (λ (l : StanzaList). is_some (place (is_same name version) l.stanzas)) o false) (at_name_held list es) ∙ by (at_name list es)
+  where
+    by : (o : Option Sheet) → option_map_or (λ (l : StanzaList). is_some (place (is_same name version) l.stanzas)) (option_map stanza_list (option_map keyed_list o)) false ≡ option_map_or (λ (s : Sheet). is_some (place (by_name_and_version name version) s.rows)) o false
+    by None = refl
+    by (Some s) = ap is_some (place_stanzas (is_same name version) s.rows)
+
+pub has_status_held : (es : List (List ℕ × Sheet)) → has_status (stanza_lists (lists_of es)) ≡ list_any (λ (e : List ℕ × Sheet). is_status e.1.kind) es
+has_status_held [] = refl
+has_status_held (e ∷ es) = ap (λ b. is_status e.1.kind || b) (has_status_held es)

@@ -91,6 +91,10 @@ module _ {V : Type 0} where
   get-at_name : (es : List (List ℕ × V)) (q : List ℕ) → fin.get (fin.from_entries {R = slice_cmp nat_cmp} es) q ≡ at_name q es
   get-at_name es q = fin.get-from_entries nat_list_cmp_total es q ∙ find-at_name q es
 
+  -- under a name that `using` takes
+  pub get_at_name : (es : List (List ℕ × V)) (q : List ℕ) → fin.get (fin.from_entries {R = slice_cmp nat_cmp} es) q ≡ at_name q es
+  get_at_name = get-at_name
+
   -- the finite map of the entries, after `put_named`
   pub from_entries-put_named : (k : List ℕ) (v : V) (es : List (List ℕ × V)) → fin.from_entries {R = slice_cmp nat_cmp} (put_named k v es) ≡ fin.insert (fin.from_entries es) k v
   from_entries-put_named k v es = fin.same_map nat_list_cmp_total exact_bytes _ _ (λ q.

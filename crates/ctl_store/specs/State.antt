@@ -1,5 +1,5 @@
 -- What a store holds.
-use Rattle.std.specs.Prelude.{ℕ, ℤ, ◌+◌, List, [], Option, None, length, sum_by}
+use Rattle.std.specs.Prelude.{ℕ, ℤ, ◌+◌, List, [], ◌∷◌, Option, None, length}
 use Rattle.std.specs.Ordering.{nat_cmp}
 use Rattle.std.specs.Cmp.Lexicographic.{slice_cmp}
 use Rattle.std.specs.FinMap as fin
@@ -31,4 +31,5 @@ empty_state = record { lists = []; marks = fin.empty; pins = []; target = None; 
 
 -- how many stanzas lists hold
 abbrev pub stanza_count : List (List ℕ × StanzaList) → ℕ
-stanza_count lists = sum_by (λ (l : List ℕ × StanzaList). length l.1.stanzas) lists
+stanza_count [] = 0
+stanza_count (l ∷ ls) = length l.1.stanzas + stanza_count ls

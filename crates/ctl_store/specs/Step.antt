@@ -1,5 +1,5 @@
 -- What an edit makes of a state, and why it is refused.
-use Rattle.std.specs.Prelude.{ℕ, ℤ, ◌+◌, ◌||◌, ◌&&◌, suc, not, nat_lt, Bool, true, false, List, [], ◌∷◌, ◌++◌, Option, None, Some, is_some, option_map, slice_set, if◌then◌else◌}
+use Rattle.std.specs.Prelude.{ℕ, ℤ, ◌+◌, ◌||◌, ◌&&◌, suc, not, nat_lt, Bool, true, false, List, [], ◌∷◌, ◌++◌, Option, None, Some, is_some, length, option_map, slice_set, if◌then◌else◌}
 use Rattle.std.specs.Option.{option_or, option_map_or}
 use Rattle.std.specs.List.{list_any, remove}
 use Rattle.std.specs.Map.{lookup, remove_entry}
@@ -104,6 +104,19 @@ misfit_of s (Pin selector priority) = None
 misfit_of s (Unpin selector) = when (not (is_some (lookup (selector_eq selector) s.pins))) NoPin
 misfit_of s (Target name) = None
 misfit_of s (Prefs pins) = None
+
+-- how many stanzas an edit brings beside those that it replaces
+abbrev pub count_coming : State → Edit → ℕ
+count_coming s (AddList name kind class stanzas) = length stanzas
+count_coming s (DropList name) = 0
+count_coming s (Put list content) = if has_stanza list (package_of content) (version_of content) s.lists then 0 else 1
+count_coming s (Remove list name version) = 0
+count_coming s (Mark name version) = 0
+count_coming s (Unmark name) = 0
+count_coming s (Pin selector priority) = 0
+count_coming s (Unpin selector) = 0
+count_coming s (Target name) = 0
+count_coming s (Prefs pins) = 0
 
 -- more stanzas or more accepted edits than the limits allow
 abbrev pub is_past : Limits → State → Bool

@@ -2,21 +2,38 @@
 
 ghost use Rattle.std.specs.Prelude.{◌≡◌, None, Some, MatchResult, option_copied, is_some, length};
 ghost use Rattle.std.specs.FinMap as fin;
+ghost use Rattle.std.specs.List.{list_any};
 ghost use Rattle.std.specs.Map.{lookup};
 ghost use Rattle.ctl_store.specs.Named.{has_name};
 ghost use Rattle.ctl_store.specs.Pins.{selector_eq};
 ghost use Rattle.ctl_store.specs.Edits.{edit_of};
-ghost use Rattle.ctl_store.specs.Step.{has_status, has_stanza, misfit_of, is_past, after, refusal_of};
+ghost use Rattle.ctl_store.specs.Step.{is_status, count_coming, has_status, has_stanza, misfit_of, is_past, after, refusal_of};
 ghost use Rattle.ctl_store.specs.Held.{state_of};
 
 use crate::edit::Edit;
 use crate::refusal::Refusal;
 use crate::selector::Selector;
+use crate::shelf::Shelf;
 use crate::store::Store;
 use ctl_relation::Version;
 use ctl_stanza::ListKind;
+use indexmap::map::Slice;
+
+fn is_status_among(entries: Slice<'_, Vec<u8>, Shelf>) -> bool
+    ensures { result ≡ list_any (λ e. is_status e.1.kind) entries.entry }
+{
+    let mut left = entries;
+    while let Some(((_, shelf), rest)) = left.split_first() {
+        if shelf.kind() == ListKind::Status {
+            return true;
+        }
+        left = rest;
+    }
+    false
+}
 
 impl Store {
+    #[tactic(auto, using(crate::proofs::ListedLemmas::has_name_held))]
     pub(super) fn has_list(&self, name: &[u8]) -> bool
         ensures { result ≡ has_name name.now (state_of self.now).lists }
     {
@@ -26,14 +43,10 @@ impl Store {
     fn has_status(&self) -> bool
         ensures { result ≡ has_status (state_of self.now).lists }
     {
-        for (_, shelf) in self.lists.entries().iter() {
-            if shelf.kind() == ListKind::Status {
-                return true;
-            }
-        }
-        false
+        is_status_among(self.lists.entries())
     }
 
+    #[tactic(auto, using(crate::proofs::ListedLemmas::has_stanza_held))]
     fn has_stanza(&self, list: &[u8], name: &[u8], version: Option<&Version>) -> bool
         ensures { result ≡ has_stanza list.now name.now (option_copied version.entry) (state_of self.now).lists }
     {
@@ -43,6 +56,7 @@ impl Store {
         }
     }
 
+    #[tactic(auto, using(crate::proofs::NamedLemmas::get_at_name))]
     fn has_mark(&self, name: &[u8]) -> bool
         ensures { result ≡ is_some (fin.get (state_of self.now).marks name.now) }
     {
@@ -95,7 +109,9 @@ impl Store {
     }
 
     // How many stanzas an edit brings.
-    fn coming(&self, edit: &Edit) -> usize {
+    fn coming(&self, edit: &Edit) -> usize
+        ensures { result ≡ count_coming (state_of self.now) (edit_of edit.now) }
+    {
         match edit {
             Edit::AddList {
                 name: _,

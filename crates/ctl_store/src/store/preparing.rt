@@ -65,6 +65,7 @@ fn make_ready(alloc: Global, edit: &Edit) -> Result<Ready, AllocError> {
 }
 
 impl Store {
+    #[tactic(auto, using(crate::proofs::ListedLemmas::at_name_lists))]
     fn found_in(
         &self,
         list: &[u8],
@@ -79,6 +80,7 @@ impl Store {
         }
     }
 
+    #[tactic(auto, using(crate::proofs::ListedLemmas::at_name_lists))]
     fn kept_in(&self, list: &[u8], stanza: &Stanza) -> Result<Vec<StanzaKey>, AllocError>
         ensures { IfOk result (λ v. v.items ≡ kept_in list.now stanza.now (keyed_of self.now).lists) }
     {
@@ -88,6 +90,7 @@ impl Store {
         }
     }
 
+    #[tactic(auto, using(crate::proofs::ListedLemmas::at_name_lists))]
     fn all_in(&self, list: &[u8]) -> Result<Vec<StanzaKey>, AllocError>
         ensures { IfOk result (λ v. v.items ≡ all_in list.now (keyed_of self.now).lists) }
     {

@@ -128,6 +128,7 @@ impl Store {
     }
 
     /// The mark of a package: a version, or none; or no mark.
+    #[tactic(auto, using(crate::proofs::NamedLemmas::get_at_name))]
     pub fn mark(&self, name: &[u8]) -> Option<Option<&Version>>
         ensures { option_map (λ mark. option_copied mark) result ≡ fin.get (state_of self.now).marks name.now }
     {
