@@ -4,3 +4,5 @@ pub mod OrderLemmas
 pub mod NamedLemmas
 pub mod ListedLemmas
 pub mod AcceptLemmas
+pub mod StepLemmas
+pub mod SoundLemmas
