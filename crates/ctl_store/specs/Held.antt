@@ -1,0 +1,136 @@
+-- A store with its rooms: how much more it takes without memory.
+use Rattle.std.specs.Prelude.{◌≡◌, ℕ, ℤ, ◌+◌, ◌<◌, ◌≤◌, suc, List, [], ◌∷◌, map, length, Option, None, Some, IfSome}
+use Rattle.std.specs.Ordering.{nat_cmp}
+use Rattle.std.specs.Cmp.Lexicographic.{slice_cmp}
+use Rattle.std.specs.List.{IsDistinct}
+use Rattle.std.specs.Map.{keys_of as names_of}
+use Rattle.std.specs.FinMap as fin
+use Rattle.ctl_stanza.specs.declared.list_kind.ListKind.{ListKind}
+use Rattle.ctl_stanza.specs.Content.{Content}
+use Rattle.ctl_store.specs.declared.limits.Limits.{Limits}
+use Rattle.ctl_store.specs.declared.list_class.ListClass.{ListClass}
+use Rattle.ctl_store.specs.declared.selector.Selector.{Selector}
+use Rattle.ctl_store.specs.declared.stanza_key.StanzaKey.{StanzaKey}
+use Rattle.ctl_store.specs.Named.{at_name}
+use Rattle.ctl_store.specs.Pins.{selector_eq}
+use Rattle.ctl_store.specs.State.{State, stanza_count}
+use Rattle.ctl_store.specs.Edits.{Edit, AddList, DropList, Put, Remove, Mark, Unmark, Pin, Unpin, Target, Prefs}
+use Rattle.ctl_store.specs.Step.{refusal_of}
+use Rattle.ctl_store.specs.Rows.{Rises, rows_from, sorted_serials}
+use Rattle.ctl_store.specs.Keys.{KeyedList, Keyed, stanza_lists, removed_of, added_of}
+
+-- a list with the room for more of its rows, and in its order
+pub record Sheet : Type 0 where
+  pub serial : ℕ
+  pub kind : ListKind
+  pub class : ListClass
+  pub next : ℕ
+  pub rows : List (ℕ × Content)
+  pub room : ℕ
+  pub order_room : ℕ
+
+pub record Held : Type 0 where
+  pub lists : List (List ℕ × Sheet)
+  pub lists_room : ℕ
+  pub marks : List (List ℕ × Option (List ℕ))
+  pub marks_room : ℕ
+  pub pins : List (Selector × ℤ)
+  pub pins_room : ℕ
+  pub target : Option (List ℕ)
+  pub next_list : ℕ
+  pub edits : ℕ
+  pub limits : Limits
+
+-- ---- without the rooms
+
+abbrev pub keyed_list : Sheet → KeyedList
+keyed_list s = record { serial = s.serial; kind = s.kind; class = s.class; next = s.next; rows = s.rows }
+
+abbrev pub lists_of : List (List ℕ × Sheet) → List (List ℕ × KeyedList)
+lists_of es = map (λ (e : List ℕ × Sheet). (e.0, keyed_list e.1)) es
+
+-- the lists with the serial numbers in them
+abbrev pub keyed_of : Held → Keyed
+keyed_of h = record { lists = lists_of h.lists; next_list = h.next_list }
+
+-- what a store holds
+abbrev pub state_of : Held → State
+state_of h = record { lists = stanza_lists (lists_of h.lists); marks = fin.from_entries h.marks; pins = h.pins; target = h.target; edits = h.edits }
+
+-- ---- what every store keeps
+
+-- The serials of the lists rise from n on and stay below m, those of the stanzas rise within each list, and no list
+-- gave more than e of them.
+abbrev pub InOrder : ℕ → List (List ℕ × KeyedList) → ℕ → ℕ → Type 0
+InOrder n [] m e = n ≤ m
+InOrder n (l ∷ ls) m e = (n ≤ l.1.serial) × (l.1.next ≤ e) × Rises 0 l.1.rows l.1.next × InOrder (suc l.1.serial) ls m e
+
+pub record IsSound (lists : List (List ℕ × Sheet)) (next_list stanzas edits : ℕ) (limits : Limits) : Type 0 where
+  pub order : InOrder 0 (lists_of lists) next_list (limits.stanzas + edits)
+  pub few : next_list ≤ edits
+  pub counted : stanzas ≡ stanza_count (stanza_lists (lists_of lists))
+  pub within : stanzas ≤ limits.stanzas
+
+-- ---- plans
+
+-- a plan: the edit, the keys that go and come, and what is made ready for the edit
+pub record Planned : Type 0 where
+  pub edit : Edit
+  pub removed : List StanzaKey
+  pub added : List StanzaKey
+  pub rows_room : ℕ
+  pub order : List ℕ
+  pub pins_room : ℕ
+
+-- there is room for one stanza more in a list
+pub record HasRoomInList (s : Sheet) : Type 0 where
+  pub row : 0 < s.room
+  pub order : 0 < s.order_room
+
+-- what is made ready for a new list
+pub record HasRoomForList (h : Held) (stanzas : List Content) (plan : Planned) : Type 0 where
+  pub list : 0 < h.lists_room
+  pub rows : length stanzas ≤ plan.rows_room
+  pub order : plan.order ≡ sorted_serials (rows_from 0 stanzas)
+
+-- no selector stands twice
+abbrev pub AreDistinct : List (Selector × ℤ) → Type 0
+AreDistinct pins = IsDistinct selector_eq (names_of pins)
+
+-- what is made ready for pin settings
+pub record HasRoomForPins (pins : List (Selector × ℤ)) (plan : Planned) : Type 0 where
+  pub room : length pins ≤ plan.pins_room
+  pub distinct : AreDistinct pins
+
+-- there is room for the edit
+abbrev pub HasRoom : Held → Planned → Edit → Type 0
+HasRoom h plan (AddList name kind class stanzas) = HasRoomForList h stanzas plan
+HasRoom h plan (DropList name) = Unit {0}
+HasRoom h plan (Put list x) = IfSome (at_name list h.lists) HasRoomInList
+HasRoom h plan (Remove list name version) = Unit {0}
+HasRoom h plan (Mark name version) = 0 < h.marks_room
+HasRoom h plan (Unmark name) = Unit {0}
+HasRoom h plan (Pin selector priority) = 0 < h.pins_room
+HasRoom h plan (Unpin selector) = Unit {0}
+HasRoom h plan (Target name) = Unit {0}
+HasRoom h plan (Prefs pins) = HasRoomForPins pins plan
+
+-- an edit in which no selector stands twice
+abbrev pub IsProper : Edit → Type 0
+IsProper (AddList name kind class stanzas) = Unit {0}
+IsProper (DropList name) = Unit {0}
+IsProper (Put list x) = Unit {0}
+IsProper (Remove list name version) = Unit {0}
+IsProper (Mark name version) = Unit {0}
+IsProper (Unmark name) = Unit {0}
+IsProper (Pin selector priority) = Unit {0}
+IsProper (Unpin selector) = Unit {0}
+IsProper (Target name) = Unit {0}
+IsProper (Prefs pins) = AreDistinct pins
+
+-- a plan whose edit is accepted, for which there is room, and whose keys are those that go and come
+pub record IsReady (h : Held) (plan : Planned) : Type 0 where
+  pub accepted : refusal_of h.limits (state_of h) plan.edit ≡ None
+  pub room : HasRoom h plan plan.edit
+  pub removed : plan.removed ≡ removed_of (keyed_of h) plan.edit
+  pub added : plan.added ≡ added_of (keyed_of h) plan.edit

@@ -1,0 +1,16 @@
+pub use Rattle.ctl_relation.specs.Names
+pub use Rattle.ctl_relation.specs.Version
+pub use Rattle.ctl_stanza.specs.Content
+pub mod Refusals
+pub mod Limits
+pub mod PinVersions
+pub mod Pins
+pub mod PinForms
+pub mod SelectorLaws
+pub mod Named
+pub mod State
+pub mod Edits
+pub mod Step
+pub mod Rows
+pub mod Keys
+pub mod Held

@@ -1,0 +1,35 @@
+-- What a store holds.
+use Rattle.std.specs.Prelude.{ℕ, ℤ, ◌+◌, List, [], ◌∷◌, Option, None, length}
+use Rattle.std.specs.Ordering.{nat_cmp}
+use Rattle.std.specs.Cmp.Lexicographic.{slice_cmp}
+use Rattle.std.specs.FinMap as fin
+use Rattle.ctl_stanza.specs.declared.list_kind.ListKind.{ListKind}
+use Rattle.ctl_stanza.specs.Content.{Content}
+use Rattle.ctl_store.specs.declared.list_class.ListClass.{ListClass}
+use Rattle.ctl_store.specs.declared.selector.Selector.{Selector}
+
+-- a list without its name: its stanzas stand in order
+pub record StanzaList : Type 0 where
+  pub kind : ListKind
+  pub class : ListClass
+  pub stanzas : List Content
+
+-- for each package that is marked the version that is marked, or that none is
+abbrev pub Marks : Type 0
+Marks = fin.FinMap (slice_cmp nat_cmp) (Option (List ℕ))
+
+-- The lists by their names and the pin settings by their selectors, each in order.
+pub record State : Type 0 where
+  pub lists : List (List ℕ × StanzaList)
+  pub marks : Marks
+  pub pins : List (Selector × ℤ)
+  pub target : Option (List ℕ)
+  pub edits : ℕ
+
+abbrev pub empty_state : State
+empty_state = record { lists = []; marks = fin.empty; pins = []; target = None; edits = 0 }
+
+-- how many stanzas lists hold
+abbrev pub stanza_count : List (List ℕ × StanzaList) → ℕ
+stanza_count [] = 0
+stanza_count (l ∷ ls) = length l.1.stanzas + stanza_count ls

@@ -1,0 +1,93 @@
+//! The order of names and versions, by which the stanzas of a list are found.
+
+ghost use Rattle.std.specs.Prelude.{◌≡◌, ◌<◌, ℕ, map, IfSome, IfOk, length, option_copied};
+ghost use Rattle.ctl_stanza.specs.Content.{package_of, version_of};
+ghost use Rattle.ctl_store.specs.Step.{place, is_same};
+ghost use Rattle.ctl_store.specs.Rows.{IsKept, Rises, id, id_of, id_cmp, ids_of, sorted_ids, sorted_serials, lower, order_at, version_order, version_id, by_name_and_version, rows_from};
+
+use crate::rows::{Row, place_of};
+use ctl_relation::Version;
+use ctl_stanza::Stanza;
+use std::alloc::{AllocError, Global};
+use std::cmp::Ordering;
+
+fn compare_versions(one: Option<&Version>, other: Option<&Version>) -> Ordering
+    ensures { result ≡ version_order (version_id (option_copied one.entry)) (version_id (option_copied other.entry)) }
+{
+    match (one, other) {
+        (None, None) => Ordering::Equal,
+        (None, Some(_)) => Ordering::Less,
+        (Some(_), None) => Ordering::Greater,
+        (Some(one), Some(other)) => one.cmp(other),
+    }
+}
+
+fn compare(stanza: &Stanza, name: &[u8], version: Option<&Version>) -> Ordering
+    ensures { result ≡ id_cmp (id_of stanza.now) (id name.now (option_copied version.entry)) }
+{
+    stanza
+        .package()
+        .cmp(name)
+        .then(compare_versions(stanza.version(), version))
+}
+
+// How the row of a serial stands to a name and a version.
+fn compare_row(rows: &[Row], serial: u64, name: &[u8], version: Option<&Version>) -> Ordering
+    requires { (n : ℕ) × (m : ℕ) × Rises n rows.now m }
+    ensures { result ≡ order_at rows.now (id name.now (option_copied version.entry)) serial }
+{
+    match place_of(rows, serial) {
+        Some(at) => compare(rows[at].stanza(), name, version),
+        None => Ordering::Less,
+    }
+}
+
+/// Where a name and a version stand, or would, in the order of rows.
+pub(crate) fn lower(rows: &[Row], order: &[u64], name: &[u8], version: Option<&Version>) -> usize
+    requires { (next : ℕ) × IsKept rows.now next order.now }
+    ensures { result ≡ lower (id name.now (option_copied version.entry)) (sorted_ids (ids_of rows.now)) }
+{
+    order.partition_point(|serial| compare_row(rows, *serial, name, version).is_lt())
+}
+
+/// The place of the first row of a name and an equal version.
+pub(crate) fn find(
+    rows: &[Row],
+    order: &[u64],
+    name: &[u8],
+    version: Option<&Version>,
+) -> Option<usize>
+    requires { (next : ℕ) × IsKept rows.now next order.now }
+    ensures place { result ≡ place (by_name_and_version name.now (option_copied version.entry)) rows.now }
+    ensures within { IfSome result (λ at. at < length rows.now) }
+{
+    let at = lower(rows, order, name, version);
+    if at >= order.len() {
+        return None;
+    }
+    let serial = order[at];
+    if compare_row(rows, serial, name, version).is_eq() {
+        place_of(rows, serial)
+    } else {
+        None
+    }
+}
+
+fn compare_places(stanzas: &[Box<Stanza>], one: u64, other: u64) -> Ordering {
+    match (stanzas.get(one as usize), stanzas.get(other as usize)) {
+        (Some(a), Some(b)) => compare(a, b.package(), b.version()).then(one.cmp(&other)),
+        _ => one.cmp(&other),
+    }
+}
+
+/// The order of stanzas that stand under the serials from 0 on.
+pub(crate) fn sorted_order(alloc: Global, stanzas: &[Box<Stanza>]) -> Result<Vec<u64>, AllocError>
+    ensures { IfOk result (λ order. order.items ≡ sorted_serials (rows_from 0 (map (λ stanza. stanza.value) stanzas.now))) }
+{
+    let mut order = Vec::with_capacity(alloc, stanzas.len())?;
+    for serial in 0..stanzas.len() {
+        order.push(serial as u64)?;
+    }
+    order.sort_by(|one, other| compare_places(stanzas, *one, *other))?;
+    Ok(order)
+}
