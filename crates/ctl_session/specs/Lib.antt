@@ -18,3 +18,4 @@ pub mod Effect
 pub mod Run
 pub mod Replies
 pub mod Application
+pub mod Asked

@@ -1,7 +1,7 @@
 //! The words of commands on stanzas, marks and the target release.
 
 ghost use Rattle.ctl_session.specs.Request.{remove_request as remove_asked, mark_request as mark_asked, target_request as target_asked};
-ghost use Rattle.ctl_session.specs.Asked.{Asks, ReadsVersion};
+ghost use Rattle.ctl_session.specs.Asked.{Asks, ReadsVersion, IsProperRequest};
 
 use crate::list_words::copied;
 use crate::request::Request;
@@ -22,7 +22,8 @@ fn version_of(alloc: Global, word: &Bytes) -> Result<Version, Refusal>
 
 /// `remove NAME PKG VERSION`
 pub(crate) fn remove_request(alloc: Global, words: &[Bytes]) -> Result<Request<'_>, Refusal>
-    ensures { Asks result (remove_asked words.now) }
+    ensures asks { Asks result (remove_asked words.now) }
+    ensures proper { IfOk result IsProperRequest }
 {
     match words {
         [list, name, version] => {
@@ -47,7 +48,8 @@ pub(crate) fn remove_request(alloc: Global, words: &[Bytes]) -> Result<Request<'
 
 /// `mark PKG VERSION` or `mark PKG none`
 pub(crate) fn mark_request(alloc: Global, words: &[Bytes]) -> Result<Request<'_>, Refusal>
-    ensures { Asks result (mark_asked words.now) }
+    ensures asks { Asks result (mark_asked words.now) }
+    ensures proper { IfOk result IsProperRequest }
 {
     match words {
         [name, version] => {
@@ -74,7 +76,8 @@ pub(crate) fn mark_request(alloc: Global, words: &[Bytes]) -> Result<Request<'_>
 
 /// `target NAME` or `target none`
 pub(crate) fn target_request(alloc: Global, words: &[Bytes]) -> Result<Request<'_>, Refusal>
-    ensures { Asks result (target_asked words.now) }
+    ensures asks { Asks result (target_asked words.now) }
+    ensures proper { IfOk result IsProperRequest }
 {
     match words {
         [name] => {

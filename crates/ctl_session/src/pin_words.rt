@@ -1,8 +1,8 @@
 //! The words of commands on pins.
 
-ghost use Rattle.std.specs.Prelude.{◌≡◌};
+ghost use Rattle.std.specs.Prelude.{◌≡◌, IfOk};
 ghost use Rattle.ctl_session.specs.Request.{version_selector, release_selector, selector_of as selector_asked, pin_request as pin_asked, unpin_request as unpin_asked};
-ghost use Rattle.ctl_session.specs.Asked.{Asks, ReadsSelector};
+ghost use Rattle.ctl_session.specs.Asked.{Asks, ReadsSelector, IsProperRequest};
 
 use crate::list_words::copied;
 use crate::request::Request;
@@ -78,7 +78,8 @@ fn selector_of(
 
 /// `pin` with a selector and a priority
 pub(crate) fn pin_request(alloc: Global, words: &[Bytes]) -> Result<Request<'_>, Refusal>
-    ensures { Asks result (pin_asked words.now) }
+    ensures asks { Asks result (pin_asked words.now) }
+    ensures proper { IfOk result IsProperRequest }
 {
     match words {
         [name, form, value, priority] => {
@@ -100,7 +101,8 @@ pub(crate) fn pin_request(alloc: Global, words: &[Bytes]) -> Result<Request<'_>,
 
 /// `unpin` with a selector
 pub(crate) fn unpin_request(alloc: Global, words: &[Bytes]) -> Result<Request<'_>, Refusal>
-    ensures { Asks result (unpin_asked words.now) }
+    ensures asks { Asks result (unpin_asked words.now) }
+    ensures proper { IfOk result IsProperRequest }
 {
     match words {
         [name, form, value] => match selector_of(alloc, name, form, value) {

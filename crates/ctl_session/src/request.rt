@@ -1,11 +1,11 @@
 //! What a command asks for, by its words.
 
-ghost use Rattle.std.specs.Prelude.{◌≡◌};
+ghost use Rattle.std.specs.Prelude.{◌≡◌, IfOk};
 ghost use Rattle.ctl_session.specs.Script.{Command as CommandText, name_of};
 ghost use Rattle.ctl_session.specs.Words.{behind_name};
 ghost use Rattle.ctl_session.specs.Request.{command_named, request_by, request_named, request_of};
 ghost use Rattle.ctl_session.specs.Reading.{Describes};
-ghost use Rattle.ctl_session.specs.Asked.{Asks, GivesWords, GivesWordsAt};
+ghost use Rattle.ctl_session.specs.Asked.{Asks, GivesWords, GivesWordsAt, IsProperRequest};
 
 use crate::command_name::CommandName;
 use crate::edit_words::{mark_request, remove_request, target_request};
@@ -95,7 +95,8 @@ pub(crate) fn request_by(
     name: CommandName,
     words: &[Bytes],
 ) -> Result<Request<'_>, Refusal>
-    ensures { Asks result (request_by name words.now) }
+    ensures asks { Asks result (request_by name words.now) }
+    ensures proper { IfOk result IsProperRequest }
 {
     match name {
         CommandName::AddList => add_list_request(words),

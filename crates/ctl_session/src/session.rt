@@ -1,4 +1,4 @@
-//! A session: lists, and the scripts that are run over them.
+//! A session: a cache, and the scripts that are run over them.
 
 ghost use Rattle.std.specs.Prelude.{◌≡◌, ◌-◌, ◌^◌, IfOk, IfErr};
 ghost use Rattle.ctl_session.specs.Streams.{counted};
@@ -30,7 +30,7 @@ impl Model for Session {
 
     ghost Value = { SessionState };
 
-    ghost view = { λ session. record { lists = session.cache; max_lines = session.max_lines } };
+    ghost view = { λ session. record { cache = session.cache; max_lines = session.max_lines } };
 }
 
 /// All the memory that the reading of lines takes.
@@ -42,7 +42,7 @@ impl Session {
     /// A session over a cache, whose runs read up to 4,294,967,295 lines.
     /// It hands the cache back where there is not enough memory.
     pub fn new(alloc: Global, cache: Cache) -> Result<Self, (Cache, AllocError)>
-        ensures ok { IfOk result (λ session. session ≡ record { lists = cache; max_lines = 2 ^ 32 - 1 }) }
+        ensures ok { IfOk result (λ session. session ≡ record { cache = cache; max_lines = 2 ^ 32 - 1 }) }
         ensures err { IfErr result (λ refused. refused.0 ≡ cache) }
     {
         Session::with_lines(alloc, cache, u32::MAX)
@@ -55,7 +55,7 @@ impl Session {
         cache: Cache,
         max_lines: u32,
     ) -> Result<Self, (Cache, AllocError)>
-        ensures ok { IfOk result (λ session. session ≡ record { lists = cache; max_lines = max_lines }) }
+        ensures ok { IfOk result (λ session. session ≡ record { cache = cache; max_lines = max_lines }) }
         ensures err { IfErr result (λ refused. refused.0 ≡ cache) }
     {
         match reading_room(alloc) {
@@ -72,7 +72,7 @@ impl Session {
 
     /// The cache.
     pub fn cache(&self) -> &Cache
-        ensures { result.now ≡ self.now.lists }
+        ensures { result.now ≡ self.now.cache }
     {
         &self.cache
     }
@@ -88,7 +88,7 @@ impl Session {
     ) -> Result<Summary, Fault>
         // All that the reader gave is a script, and what the writer took is the text of its commands.
         ensures ok { IfOk result (λ summary. Ran (R.remaining reader.old) (R.remaining reader.new) (W.taken writer.old) (W.taken writer.new)
-            self.old.lists self.new.lists summary.accepted summary.refused) }
+            self.old.cache self.new.cache summary.accepted summary.refused) }
 
         // A fault of reading or writing comes where a read or a write failed, and only there.
         ensures read { R.failures reader.new ≡ counted (is_read_fault result) (R.failures reader.old) }
@@ -97,7 +97,7 @@ impl Session {
         // At a fault of reading, or past the limit, the text of the commands that were given whole is written, and no more;
         // at a fault of writing the text of the last command that was done is written in part.
         ensures fault { IfErr result (Stopped self.old.max_lines (R.remaining reader.old) (R.remaining reader.new) (W.taken writer.old) (W.taken writer.new)
-            self.old.lists self.new.lists) }
+            self.old.cache self.new.cache) }
         ensures max_lines { self.new.max_lines ≡ self.old.max_lines }
     {
         run_over(
