@@ -1,7 +1,7 @@
 -- The lines of a text of preferences that aren't comments.
-use Rattle.std.proofs.Common.{◌≡◌, ◌∙◌, ◌+◌, ◌-◌, ◌<◌, ◌≤◌, ◌++◌, ℕ, zero, suc, not, Bool, true, false, List, [], ◌∷◌, length, map, filter, take, drop, get_or, refl, sym, ap, ap₂, arith, append_assoc, ⊎_elim}
-use Rattle.std.proofs.lemmas.Bool.{cases_Bool, cond-true, cond-false}
-use Rattle.std.proofs.lemmas.List.{map-append, append-nil, length-append, length-map}
+use Rattle.std.proofs.Common.{◌≡◌, ◌∙◌, ◌+◌, ◌++◌, ℕ, suc, not, Bool, true, false, List, [], ◌∷◌, filter, refl, sym, ap, arith, append_assoc}
+use Rattle.std.proofs.lemmas.Bool.{cond-true, cond-false}
+use Rattle.std.proofs.lemmas.List.{map-append, append-nil}
 use Rattle.ctl_stanza.specs.Lines.{lines_of, text_of_lines}
 use Rattle.ctl_stanza.specs.Records.{NumberedLine, numbered_from, is_comment, record_lines, numbers_of, bytes_of}
 use Rattle.ctl_stanza.proofs.LineLemmas.{IsLine}
