@@ -211,18 +211,6 @@ body-within bytes line value at a b m behind stands le in_line is size ends =
     ends in
     record { within = within; part_is = shows }
 
--- a body that is put behind
-pub body-behind : (old new part : List ℕ) → new ≡ old ++ part → Shows new (record { start = length old; end = length new }) part
-body-behind old new part e =
-    let size = ap length e ∙ length-append old part in
-    let len : length new - length old ≡ length part = omega (arith, size) in
-    let place : length old ≡ length old + 0 = omega arith in
-    record {
-      within = (omega (arith, size), omega arith);
-      part_is = ap₂ (λ n t. take n (drop (length old) t)) len e ∙ ap (λ n. take (length part) (drop n (old ++ part))) place ∙ ap (take (length part)) (drop-append-add old part 0)
-          ∙ take_all (length part) part (omega arith);
-    }
-
 -- ---- a field by its name
 
 pub found : (text name : List ℕ) (fields : List Field) (i : ℕ) (f : Field) → i < length fields → get_or fields i f ≡ f → is_same_name (shown_field text f).name name ≡ true
@@ -230,12 +218,6 @@ pub found : (text name : List ℕ) (fields : List Field) (i : ℕ) (f : Field) �
 found text name fields i f lt is so =
     ap (λ fs. body_named name (shown_fields text fs)) (drop_more fields i f lt)
     ∙ ap (λ g. body_named name (shown_field text g ∷ shown_fields text (drop (i + 1) fields))) is ∙ cond-true _ _ _ so
-
-pub passed : (text name : List ℕ) (fields : List Field) (i : ℕ) (f : Field) → i < length fields → get_or fields i f ≡ f → is_same_name (shown_field text f).name name ≡ false
-    → body_named name (shown_fields text (drop i fields)) ≡ body_named name (shown_fields text (drop (i + 1) fields))
-passed text name fields i f lt is other =
-    ap (λ fs. body_named name (shown_fields text fs)) (drop_more fields i f lt)
-    ∙ ap (λ g. body_named name (shown_field text g ∷ shown_fields text (drop (i + 1) fields))) is ∙ cond-false _ _ _ other
 
 -- the field at i, and those behind it
 pub left-shown : (text name body : List ℕ) (fields : List Field) (i : ℕ) (d : Field) → i < length fields → name ≡ shown text (get_or fields i d).name → body ≡ shown text (get_or fields i d).body

@@ -11,7 +11,7 @@ use Rattle.ctl_stanza.specs.Faults.{number_of, first_fault}
 use Rattle.ctl_stanza.specs.Text.{Piece, piece, pieces_of, with_contents, or_fault}
 use Rattle.ctl_stanza.specs.Records.{RecordText, record_lines, numbers_of, bytes_of, numbered_fault, record_fault, piece_record, numbers_in, read_record_pieces}
 use Rattle.ctl_stanza.specs.Laws.{line_at, lines_before, IsFaultyLine}
-use Rattle.ctl_stanza.specs.RecordLaws.{HasRecordFault, IsLeastRecordFault, ReadsRecordsOrTells}
+use Rattle.ctl_stanza.specs.RecordLaws.{HasRecordFault, ReadsRecordsOrTells}
 use Rattle.ctl_stanza.proofs.PieceLemmas.{AreOther, StartsGap}
 use Rattle.ctl_stanza.proofs.ByPieces.{by_pieces}
 use Rattle.ctl_stanza.proofs.KeepLemmas.{option_either}

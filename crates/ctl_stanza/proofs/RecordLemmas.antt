@@ -1,7 +1,7 @@
 -- The lines of a text of preferences that aren't comments.
-use Rattle.std.proofs.Common.{◌≡◌, ◌∙◌, ◌+◌, ◌-◌, ◌<◌, ◌≤◌, ◌++◌, ℕ, zero, suc, not, Bool, true, false, List, [], ◌∷◌, length, map, filter, take, drop, get_or, refl, sym, ap, ap₂, arith, append_assoc, ⊎_elim}
-use Rattle.std.proofs.lemmas.Bool.{cases_Bool, cond-true, cond-false}
-use Rattle.std.proofs.lemmas.List.{map-append, append-nil, length-append, length-map}
+use Rattle.std.proofs.Common.{◌≡◌, ◌∙◌, ◌+◌, ◌++◌, ℕ, suc, not, true, false, List, [], ◌∷◌, filter, sym, ap, arith, append_assoc}
+use Rattle.std.proofs.lemmas.Bool.{cond-true, cond-false}
+use Rattle.std.proofs.lemmas.List.{map-append, append-nil}
 use Rattle.ctl_stanza.specs.Lines.{lines_of, text_of_lines}
 use Rattle.ctl_stanza.specs.Records.{NumberedLine, numbered_from, is_comment, record_lines, numbers_of, bytes_of}
 use Rattle.ctl_stanza.proofs.LineLemmas.{IsLine}
@@ -15,9 +15,6 @@ pub record AreKept (text numbers : List ℕ) (number : ℕ) (left : List ℕ) (a
   pub numbers_are : numbers ≡ numbers_of kept
   pub single : AreSingle (bytes_of kept)
   pub joined : kept ++ record_lines number left ≡ all
-
-pub kept-none : (number : ℕ) (left : List ℕ) → AreKept [] [] number left (record_lines number left)
-kept-none number left = record { kept = []; text_is = refl; numbers_are = refl; single = tt; joined = refl }
 
 -- a first line that is a comment, and one that isn't
 comment-first : (number : ℕ) (line left behind : List ℕ) → lines_of left ≡ line ∷ lines_of behind → is_comment line ≡ true → record_lines number left ≡ record_lines (suc number) behind
@@ -65,11 +62,3 @@ kept-lines text numbers number left all none are = ap lines_of are.text_is ∙ a
 
 pub kept-numbers : (text numbers : List ℕ) (number : ℕ) (left : List ℕ) (all : List NumberedLine) → left ≡ [] → AreKept text numbers number left all → numbers ≡ numbers_of all
 kept-numbers text numbers number left all none are = are.numbers_are ∙ ap numbers_of (kept-end are.kept all number left none are.joined)
-
-pub not-true : (a : Bool) → not a ≡ true → a ≡ false
-not-true true e = absurd (cc)
-not-true false e = refl
-
-pub not-false : (a : Bool) → not a ≡ false → a ≡ true
-not-false true e = refl
-not-false false e = absurd (cc)

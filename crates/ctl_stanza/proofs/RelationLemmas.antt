@@ -1,22 +1,19 @@
 -- The names of the relation fields, and what is kept of them.
-use Rattle.std.proofs.Common.{◌≡◌, ◌⊎◌, ◌∙◌, ◌+◌, ◌<◌, ◌++◌, ℕ, suc, Bool, true, false, cond, List, [], ◌∷◌, length, drop, get_or, nat_eq, Option, Some, None, Result, Ok, refl, sym, ap, subst, arith, inl, inr, ⊎_elim}
+use Rattle.std.proofs.Common.{◌≡◌, ◌∙◌, ◌++◌, ℕ, true, false, cond, List, [], ◌∷◌, get_or, nat_eq, Option, Some, None, refl, sym, ap, subst, ⊎_elim}
 use Rattle.std.specs.Option.{option_map}
 use Rattle.std.specs.Str.{bytes_eq, str_to_ascii_lowercase}
-use Rattle.std.proofs.lemmas.Bool.{cases_Bool, cond-true, cond-false, eqb-true, eqb-false}
+use Rattle.std.proofs.lemmas.Bool.{cases_Bool, cond-true, cond-false, eqb-true}
 use Rattle.std.proofs.lemmas.Slice.Eq.{bytes_eq-Decides}
-use Rattle.std.proofs.lemmas.List.{drop_more}
 use Rattle.ctl_relation.specs.declared.field_kind.FieldKind.{FieldKind}
 use Rattle.ctl_relation.specs.declared.field_kind.FieldKind.TheVariants.{PreDepends, Depends, Conflicts, Breaks, Recommends, Suggests, Replaces, Enhances, Provides}
-use Rattle.ctl_relation.specs.declared.relation_fault.RelationFault.{RelationFault}
 use Rattle.ctl_relation.specs.FieldKind.{field_place}
 use Rattle.ctl_relation.specs.Parts.{AtomParts}
 use Rattle.ctl_relation.specs.Reading.{relations_of}
 use Rattle.ctl_stanza.specs.declared.live.RelationField.{RelationField}
-use Rattle.ctl_stanza.specs.declared.fields.Field.{Field}
 use Rattle.ctl_stanza.specs.Fields.{FieldText, is_same_name, body_named, package_name, version_name}
-use Rattle.ctl_stanza.specs.RelationFields.{name_of, relation_kind, groups_read, groups_in}
+use Rattle.ctl_stanza.specs.RelationFields.{name_of, relation_kind, groups_read}
 use Rattle.ctl_stanza.specs.Faults.{or_else}
-use Rattle.ctl_stanza.specs.Live.{kept_of, relation_field, or_no_groups, groups_given, version_given, groups_found, KeepsGroups}
+use Rattle.ctl_stanza.specs.Live.{kept_of, relation_field, groups_given, version_given, groups_found, KeepsGroups}
 
 -- ---- names without regard to case
 
@@ -94,25 +91,11 @@ package-no-kind name same = kind-respects name package_name same
 pub version-no-kind : (name : List ℕ) → is_same_name name version_name ≡ true → relation_kind name ≡ None
 version-no-kind name same = kind-respects name version_name same
 
-pub package-no-version : (name : List ℕ) → is_same_name name package_name ≡ true → is_same_name name version_name ≡ false
-package-no-version name same = same-respects name package_name version_name same
-
 -- ---- what is kept
 
 or_else-none : {A : Type 0} (o : Option A) → or_else o None ≡ o
 or_else-none None = refl
 or_else-none (Some x) = refl
-
--- a field of another name keeps what was kept
-pub keeps-same : (name body : List ℕ) (old new : List RelationField) → relation_kind name ≡ None → new ≡ old → KeepsGroups name body old new
-keeps-same name body old new none e = λ kind.
-    ap (kept_of kind) e ∙ sym (or_else-none (kept_of kind old)) ∙ ap (or_else (kept_of kind old)) (sym (cond-false _ _ _ (no-kind name kind none)))
-
-pub version-same : (name body : List ℕ) (version : Option (List ℕ)) → is_same_name name version_name ≡ false → version ≡ or_else version (version_given name body)
-version-same name body version other = sym (or_else-none version) ∙ ap (or_else version) (sym (cond-false _ _ _ other))
-
-pub version-new : (name body : List ℕ) (old new : Option (List ℕ)) → is_same_name name version_name ≡ true → new ≡ or_else old (Some body) → new ≡ or_else old (version_given name body)
-version-new name body old new same e = e ∙ ap (or_else old) (sym (cond-true _ _ _ same))
 
 -- the groups of a field that is pushed
 abbrev pushed_groups : FieldKind → RelationField → Option (List (List AtomParts))
@@ -213,11 +196,3 @@ pub groups-turn : (kind : FieldKind) (field : FieldText) (fields left : List Fie
 groups-turn kind field fields left old new whole is keeps told =
     ap (λ o. or_else o (groups_found kind fields)) (keeps kind) ∙ or_else-assoc (kept_of kind old) (groups_given kind field.name field.body) (groups_found kind fields)
     ∙ ap (or_else (kept_of kind old)) (sym (groups-first kind field fields) ∙ ap (groups_found kind) (sym is)) ∙ told
-
--- what is kept at the end is what stands among the fields
-pub groups-end : (kind : FieldKind) (fields : List FieldText) (kept : List RelationField) → or_else (kept_of kind kept) None ≡ groups_found kind fields → or_no_groups (kept_of kind kept) ≡ groups_in kind (body_named (name_of kind) fields)
-groups-end kind fields kept e = ap or_no_groups (sym (or_else-none (kept_of kind kept)) ∙ e) ∙ found-in kind (body_named (name_of kind) fields)
-  where
-    found-in : (kind : FieldKind) (o : Option (List ℕ)) → or_no_groups (option_map (read_as kind) o) ≡ groups_in kind o
-    found-in kind None = refl
-    found-in kind (Some body) = refl

@@ -1,6 +1,6 @@
 -- The fault that is told of a stanza without a faulty line is the least of its faults.
 use Rattle.std.proofs.Common.{◌≡◌, ◌⊎◌, ◌∙◌, ◌+◌, ◌<◌, ◌≤◌, ◌++◌, ◌==◌, ◌&&◌, ◌||◌, is_none, ℕ, zero, suc, Bool, true, false, List, [], ◌∷◌, length, get_or, Option, Some, None, refl, sym, ap, subst, arith, inl, inr, ⊎_elim}
-use Rattle.std.proofs.lemmas.Bool.{cases_Bool, cond-true, cond-false, eqb-true, eqb-false}
+use Rattle.std.proofs.lemmas.Bool.{cases_Bool, cond-true, cond-false, eqb-true}
 use Rattle.std.specs.Bool.{⊤, if◌then◌else◌}
 use Rattle.std.specs.List.{Contains}
 use Rattle.ctl_relation.specs.Names.{is_name}
@@ -19,7 +19,7 @@ use Rattle.ctl_stanza.specs.declared.fault.Cause.{Cause}
 use Rattle.ctl_stanza.specs.declared.fault.Cause.TheVariants as causes
 use Rattle.ctl_stanza.specs.LineKind.{kind_of}
 use Rattle.ctl_stanza.specs.Fields.{FieldText, field_at, fields_from, fields_of_lines, body_named, is_same_name, package_name, version_name}
-use Rattle.ctl_stanza.specs.Faults.{number_of, fault_or, is_empty_body, lacks_state, is_missing, is_read, relation_cause, live_cause, field_cause, first_wrong, whole_fault, or_else, first_fault, stanza_fault}
+use Rattle.ctl_stanza.specs.Faults.{fault_or, is_empty_body, lacks_state, is_missing, is_read, relation_cause, live_cause, field_cause, first_wrong, whole_fault, or_else, first_fault, stanza_fault}
 use Rattle.ctl_stanza.specs.Laws.{LacksBody, LacksState, LacksField, IsLive, HasBadName, HasBadVersion, HasBadRelation, HasWholeFault, HasNoFaultyLine}
 use Rattle.ctl_stanza.proofs.KeepLemmas.{option_either}
 use Rattle.ctl_stanza.proofs.CauseLemmas.{IsAtMost, TellsLeast, HasFaultyLine, lines_tell, or-cases, or-left, or-right, same-some}

@@ -1,5 +1,5 @@
 -- The records of a text of preferences (apt_preferences(5)).
-use Rattle.std.specs.Prelude.{ℕ, ◌+◌, ◌==◌, not, suc, Bool, false, List, [], ◌∷◌, map, filter, length, take, drop, slice_index, Option, Result, Ok, if◌then◌else◌}
+use Rattle.std.specs.Prelude.{ℕ, ◌==◌, not, suc, Bool, false, List, [], ◌∷◌, map, filter, length, take, drop, slice_index, Option, Result, Ok, if◌then◌else◌}
 use Rattle.std.specs.Option.{option_map}
 use Rattle.ctl_relation.specs.Bytes.{hash}
 use Rattle.ctl_stanza.specs.declared.repeats.Repeats.TheVariants.{Explanation}

@@ -79,7 +79,7 @@ fn faulty_lines_are_told(rt: HostRuntime) {
 
 #[test]
 fn faults_of_whole_stanzas_are_told(rt: HostRuntime) {
-    let rows: [(&[u8], u64, Cause); 16] = [
+    let rows: [(&[u8], u64, Cause); 19] = [
         (b"Package: a_b!\nVersion: 1", 1, Cause::Name),
         (b"Version: 1\nX: y\nPackage: a b", 3, Cause::Name),
         (b"Package: a\r\nVersion: 1\r\n", 1, Cause::Name),
@@ -117,6 +117,15 @@ fn faults_of_whole_stanzas_are_told(rt: HostRuntime) {
             Cause::Relation,
         ),
         (b"Package: a\nVersion:\n 1\n", 2, Cause::Version),
+        (b"Package:\n a\nVersion: 1\n", 1, Cause::Name),
+        // The line is the first one of the field, also where the fault stands in a line that continues it.
+        (
+            b"Package: a\nVersion: 1\nDepends:\n x (>=\n 1),\n y z\n",
+            3,
+            Cause::Relation,
+        ),
+        // A stanza with a faulty line has no other fault, even at a line before it.
+        (b"Package: a!\nVersion: 1_\noops\n", 3, Cause::Line),
     ];
     for (text, line, cause) in rows {
         let told = has_fault(rt.alloc(), text, line, cause);

@@ -1,6 +1,6 @@
-use Rattle.std.proofs.Common.{◌≡◌, ◌∙◌, ◌⊎◌, inl, inr, arith, length}
+use Rattle.std.proofs.Common.{◌≡◌, ◌⊎◌, inl, inr, arith, length}
 use Rattle.ctl_stanza.specs.Lines.{lent_lines}
-use Rattle.ctl_stanza.proofs.FieldLemmas.{continued-le, stands-room, body-within, body-behind}
+use Rattle.ctl_stanza.proofs.FieldLemmas.{continued-le, stands-room, body-within}
 use Rattle.ctl_stanza.proofs.fields.body_span.Goals as goal
 use Rattle.ctl_stanza.proofs.fields.body_span.Goals.{then-more-eq0-via-then-more-eq0, then-more-eq0-via-else-more-eq0+then-value-line}
 

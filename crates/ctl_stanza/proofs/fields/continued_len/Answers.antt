@@ -1,4 +1,4 @@
-use Rattle.std.proofs.Common.{◌∙◌, ◌<◌, ◌+◌, ℕ, List, [], length, Bor, sym, arith}
+use Rattle.std.proofs.Common.{◌∙◌, ◌<◌, ℕ, List, [], length, Bor, sym, arith}
 use Rattle.std.proofs.lemmas.List.{get_or-map, length-map}
 use Rattle.ctl_stanza.specs.Lines.{lent_lines}
 use Rattle.ctl_stanza.proofs.FieldLemmas.{len-stop, len-go}

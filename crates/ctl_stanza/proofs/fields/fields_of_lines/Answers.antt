@@ -1,4 +1,4 @@
-use Rattle.std.proofs.Common.{◌≡◌, ◌∙◌, ◌<◌, ◌≤◌, ◌+◌, ◌-◌, ◌++◌, ◌∷◌, ℕ, List, [], length, take, drop, get_or, map, Bor, sym, ap, ap₂, arith, take_all, append_assoc}
+use Rattle.std.proofs.Common.{◌≡◌, ◌∙◌, ◌<◌, ◌+◌, ◌-◌, ◌++◌, ◌∷◌, ℕ, List, [], length, take, drop, get_or, Bor, sym, ap, arith, take_all, append_assoc}
 use Rattle.std.proofs.lemmas.List.{get_or-map, length-map, length-drop, drop-map, drop_more, length-append}
 use Rattle.ctl_stanza.specs.Lines.{text_of_lines, lent_lines}
 use Rattle.ctl_stanza.specs.Spans.{StandsAt, Grows}

@@ -1,4 +1,4 @@
-use Rattle.std.proofs.Common.{◌≡◌, ◌<◌, ◌^◌, ◌++◌, length, take, drop}
+use Rattle.std.proofs.Common.{◌≡◌, ◌<◌, ◌^◌, ◌++◌, length, drop}
 use Rattle.ctl_stanza.specs.Lines.{text_of_lines, lent_lines}
 use Rattle.ctl_stanza.specs.Fields.{fields_of_lines, fields_from}
 use Rattle.ctl_stanza.specs.Spans.{shown_fields, AreWithin, AreBelow, StandsAt, Grows}

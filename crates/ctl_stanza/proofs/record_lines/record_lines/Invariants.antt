@@ -1,6 +1,5 @@
-use Rattle.std.proofs.Common.{◌≡◌, ◌≤◌, ◌+◌, ◌++◌, length}
-use Rattle.ctl_stanza.specs.Lines.{lines_of}
-use Rattle.ctl_stanza.specs.Records.{record_lines, numbers_of, bytes_of}
+use Rattle.std.proofs.Common.{◌≤◌, ◌+◌, length}
+use Rattle.ctl_stanza.specs.Records.{record_lines}
 use Rattle.ctl_stanza.proofs.RecordLemmas.{AreKept}
 use Rattle.ctl_stanza.proofs.record_lines.record_lines.Given as goal
 

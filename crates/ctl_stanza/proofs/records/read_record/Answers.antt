@@ -1,4 +1,4 @@
-use Rattle.std.proofs.Common.{◌≡◌, ◌∙◌, ◌<◌, ℕ, [], Some, length, sym, ap, arith}
+use Rattle.std.proofs.Common.{◌∙◌, [], sym, ap, arith}
 use Rattle.std.proofs.lemmas.List.{length-map}
 use Rattle.ctl_stanza.specs.declared.repeats.Repeats.TheVariants.{Explanation}
 use Rattle.ctl_stanza.specs.declared.fault.TextFault.{TextFault}

@@ -1,4 +1,4 @@
-use Rattle.std.proofs.Common.{◌∙◌, ◌+◌, length, ap, sym, arith, slice_range}
+use Rattle.std.proofs.Common.{◌∙◌, ◌+◌, ap, sym, arith, slice_range}
 use Rattle.std.proofs.lemmas.Result.{err_from_is_err_and}
 use Rattle.ctl_stanza.specs.Lines.{lines_of}
 use Rattle.ctl_stanza.proofs.TurnLemmas.{record-turn, record-bad, room-next, first-lent}
