@@ -13,7 +13,7 @@ use Rattle.std.proofs.lemmas.List.Folds.{list_any_more}
 use Rattle.std.proofs.lemmas.Map.Text.{is_eq-slice_cmp}
 use Rattle.std.proofs.lemmas.Slice.Eq.{bytes_eq-Decides}
 use Rattle.ctl_stanza.specs.Lines.{text_of_lines}
-use Rattle.ctl_stanza.specs.Content.{Content, package_of}
+use Rattle.ctl_stanza.specs.Content.{Content, package_of, is_live}
 use Rattle.ctl_session.specs.PackageNames.{lent_names, is_among, describes}
 use Rattle.ctl_session.proofs.ReadingLemmas.{text_of_lines-push}
 
@@ -73,16 +73,16 @@ one_more true false true old = refl
 one_more true false false old = refl
 one_more false any name old = refl
 
-pub names_more : (prefix name : List ℕ) (stanzas : List Content) (i : ℕ) (stanza : Content) (own : List ℕ) (first before after : Bool) → i < length stanzas → stanza ≡ get_or stanzas i stanza →
-    own ≡ package_of stanza → before ≡ ((starts_with nat_eq name prefix && list_any (describes name) (take i stanzas)) || first) →
-    after ≡ ((starts_with nat_eq name prefix && bytes_eq name own) || before) →
+pub names_more : (prefix name : List ℕ) (stanzas : List Content) (i : ℕ) (stanza : Content) (own : Bool) (first before after : Bool) → i < length stanzas → stanza ≡ get_or stanzas i stanza →
+    own ≡ (is_live stanza && bytes_eq name (package_of stanza)) → before ≡ ((starts_with nat_eq name prefix && list_any (describes name) (take i stanzas)) || first) →
+    after ≡ ((starts_with nat_eq name prefix && own) || before) →
     after ≡ ((starts_with nat_eq name prefix && list_any (describes name) (take (i + 1) stanzas)) || first)
 names_more prefix name stanzas i stanza own first before after within is named was grown =
     let begins = starts_with nat_eq name prefix in
     let any = list_any (describes name) (take i stanzas) in
-    let more : list_any (describes name) (take (i + 1) stanzas) ≡ (any || bytes_eq name own) =
-    list_any_more (describes name) stanzas i stanza within ∙ ap (λ s. any || describes name s) (sym is) ∙ ap (λ p. any || bytes_eq name p) (sym named) in
-    grown ∙ ap (λ t. (begins && bytes_eq name own) || t) was ∙ one_more begins any (bytes_eq name own) first ∙ ap (λ t. (begins && t) || first) (sym more)
+    let more : list_any (describes name) (take (i + 1) stanzas) ≡ (any || own) =
+    list_any_more (describes name) stanzas i stanza within ∙ ap (λ s. any || describes name s) (sym is) ∙ ap (λ p. any || p) (sym named) in
+    grown ∙ ap (λ t. (begins && own) || t) was ∙ one_more begins any own first ∙ ap (λ t. (begins && t) || first) (sym more)
 
 -- ---- the names of a set are in order
 

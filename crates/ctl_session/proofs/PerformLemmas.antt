@@ -1,18 +1,13 @@
 -- What the replies of the code mean.
-use Rattle.std.proofs.Common.{◌≡◌, ◌≢◌, ◌⊎◌, ℕ, List, Result, Err, inl, inr, sym, ◌∙◌, ap}
-use Rattle.ctl_stanza.specs.declared.fault.TextFault.{TextFault}
-use Rattle.ctl_stanza.specs.declared.fault.Cause.TheVariants as causes
-use Rattle.ctl_store.specs.declared.refusal.Refusal.TheVariants as refusal
-use Rattle.ctl_session.specs.Effect.{refusal_by}
-use Rattle.ctl_session.specs.Outcome.{Outcome, Refused}
-use Rattle.ctl_session.specs.Replies.{IsRefusalOf}
-use Rattle.ctl_session.specs.declared.refusal_at.RefusalAt.{RefusalAt}
+use Rattle.std.proofs.Common.{◌≡◌, Ok, inl, inr, sym, subst}
+use Rattle.ctl_session.specs.State.{CacheState}
+use Rattle.ctl_session.specs.Script.{Command}
+use Rattle.ctl_session.specs.Request.{Request, request_of}
+use Rattle.ctl_session.specs.Outcome.{Outcome}
+use Rattle.ctl_session.specs.Effect.{DoesWhatIsAsked, MayCome}
+use Rattle.ctl_session.specs.Replies.{MayDo}
 
--- A body whose text was refused. The outcome is one of what was read, by which a fault is told.
-pub refused_text : {A : Type 0} (outcome : Result A TextFault → Outcome) (number : ℕ) (fault : TextFault) (refused : RefusalAt) (read : Result A TextFault) →
-    ((told : TextFault) → outcome (Err told) ≡ Refused told.line (refusal_by told.cause)) →
-    (fault.cause ≢ causes.Memory → read ≡ Err fault) → IsRefusalOf fault number refused →
-    (Refused refused.line refused.cause ≡ outcome read) ⊎ (Refused refused.line refused.cause ≡ Refused number refusal.Memory)
-refused_text outcome number fault refused read tells reads (inl told) =
-    inl (ap (λ r. Refused r.line r.cause) told.1 ∙ sym (ap outcome (reads told.0) ∙ tells fault))
-refused_text outcome number fault refused read tells reads (inr memory) = inr (ap (λ r. Refused r.line r.cause) memory)
+-- a command that asks for this may come to what this may do
+pub does_may : (cache : CacheState) (command : Command) (request : Request) (outcome : Outcome) → request_of command ≡ Ok request → MayDo cache command request outcome → MayCome cache command outcome
+does_may cache command request outcome asks (inl does) = inl (subst (λ r. DoesWhatIsAsked cache command r outcome) (sym asks) does)
+does_may cache command request outcome asks (inr memory) = inr memory

@@ -11,14 +11,18 @@ use std::marker::Model;
 /// The cache that a session works on: a store. It is seen as what the store holds, and its limits.
 #[derive(Drop)]
 pub struct Cache {
-    store: Store,
+    pub(crate) store: Store,
 }
 
 impl Model for Cache {
     ghost use Rattle.ctl_store.specs.Held.{state_of};
+    ghost use Rattle.std.specs.Coded.{codes};
+    ghost use Rattle.std.specs.FinMap.{code};
     ghost use Rattle.ctl_session.specs.State.{CacheState};
 
     ghost Value = { CacheState };
+
+    ghost coded = { Prim.hlevel (codes, code) };
 
     ghost view = { λ cache. record { store = state_of cache.store; limits = cache.store.limits } };
 }
@@ -50,13 +54,5 @@ impl Cache {
         ensures limits { result.now.limits ≡ self.now.limits }
     {
         &self.store
-    }
-
-    /// The store, for an edit.
-    pub(crate) fn store_mut(&mut self) -> &mut Store
-        ensures now { record { store = state_of result.now; limits = result.now.limits } ≡ self.old }
-        ensures later { self.new ≡ record { store = state_of result.new; limits = result.new.limits } }
-    {
-        &mut self.store
     }
 }

@@ -1,6 +1,7 @@
 //! The words of commands on stanzas, marks and the target release.
 
 ghost use Rattle.ctl_session.specs.Request.{remove_request as remove_asked, mark_request as mark_asked, target_request as target_asked};
+ghost use Rattle.std.specs.Prelude.{IfOk};
 ghost use Rattle.ctl_session.specs.Asked.{Asks, ReadsVersion, IsProperRequest};
 
 use crate::list_words::copied;

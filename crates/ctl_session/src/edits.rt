@@ -61,10 +61,9 @@ pub(crate) fn edit(cache: &mut Cache, edit: Edit, number: u32) -> Result<(), Ref
     ensures outcome { CameTo number result cache.new (edited cache.old number (edit_of edit)) }
     ensures err { OnErr result (cache.new ≡ cache.old) }
 {
-    let store = cache.store_mut();
-    match store.prepare(edit) {
+    match cache.store.prepare(edit) {
         Ok(plan) => {
-            store.commit(plan);
+            cache.store.commit(plan);
             Ok(())
         }
         Err((_, cause)) => Err(refused(number, cause)),
@@ -117,7 +116,7 @@ pub(crate) fn put(
     ensures outcome { CameTo number result cache.new (put_in_list cache.old number name.now text.now) }
     ensures err { OnErr result (cache.new ≡ cache.old) }
 {
-    let Some(kind) = cache.store().kind(name) else {
+    let Some(kind) = cache.store.kind(name) else {
         return Err(refused(number, Refusal::NoList));
     };
     let mut stanzas = match read_stanzas(alloc, text, number as u64 + 1, kind) {

@@ -42,7 +42,7 @@ fn do_request(
     requires proper { IsProperRequest request }
     requires empty { out.old.items ≡ [] }
     ensures may { (asked : Command) → asked.number ≡ number → (body.now.refused ≡ false → body.now.text.items ≡ text_of_lines asked.body) →
-        MayDo cache.old asked (request_text request) (outcome_from result out.new.items cache.new) }
+        MayDo cache.old asked (request_text request.entry) (outcome_from result out.new.items cache.new) }
     ensures state { cache.new ≡ state_after cache.old (outcome_from result out.new.items cache.new) }
 {
     if body.refused {
@@ -57,7 +57,7 @@ fn do_request(
         Request::Prefs => reply_of_edit(set_prefs(alloc, cache, text, number)),
         Request::Change(change) => reply_of_edit(edit(cache, change, number)),
         Request::PackageNames(prefix) => {
-            match push_package_names(alloc, cache.store(), prefix, out) {
+            match push_package_names(alloc, &cache.store, prefix, out) {
                 Ok(()) => Reply::Answered,
                 Err(_) => Reply::Refused(refused(number, Refusal::Memory)),
             }

@@ -1,6 +1,6 @@
 //! What a command asks for, by its words.
 
-ghost use Rattle.std.specs.Prelude.{◌≡◌, IfOk};
+ghost use Rattle.std.specs.Prelude.{◌≡◌, IfOk, OnOk, None};
 ghost use Rattle.ctl_session.specs.Script.{Command as CommandText, name_of};
 ghost use Rattle.ctl_session.specs.Words.{behind_name};
 ghost use Rattle.ctl_session.specs.Request.{command_named, request_by, request_named, request_of};
@@ -66,7 +66,8 @@ pub(crate) fn command_words(
     command: &CommandRead,
     last_line: u32,
 ) -> Result<CommandWords, RefusalAt>
-    ensures { (asked : CommandText) → Describes last_line head.now command.now asked → GivesWordsAt command.now.number result (request_of asked) }
+    ensures words { (asked : CommandText) → Describes last_line head.now command.now asked → GivesWordsAt command.now.number result (request_of asked) }
+    ensures fits { OnOk result (command.now.body.too_long ≡ None) }
 {
     if let Some(line) = command.body.too_long {
         return Err(RefusalAt {

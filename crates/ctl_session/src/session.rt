@@ -26,9 +26,13 @@ pub struct Session {
 }
 
 impl Model for Session {
+    ghost use Rattle.std.specs.Coded.{codes};
+    ghost use Rattle.std.specs.FinMap.{code};
     ghost use Rattle.ctl_session.specs.State.{SessionState};
 
     ghost Value = { SessionState };
+
+    ghost coded = { Prim.hlevel (codes, code) };
 
     ghost view = { λ session. record { cache = session.cache; max_lines = session.max_lines } };
 }
