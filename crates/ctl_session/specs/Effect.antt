@@ -1,5 +1,6 @@
 -- What each command does.
-use Rattle.std.specs.Prelude.{◌≡◌, ◌⊎◌, ℕ, ℤ, ◌+◌, List, [], ◌∷◌, Option, None, Some, Result, Ok, Err}
+use Rattle.std.specs.Prelude.{◌≡◌, ◌⊎◌, ℕ, ℤ, ◌+◌, List, [], ◌∷◌, Option, None, Some, Result, Ok, Err, if◌then◌else◌}
+use Rattle.ctl_relation.specs.Names.{is_name}
 use Rattle.ctl_stanza.specs.Lines.{text_of_lines}
 use Rattle.ctl_stanza.specs.Content.{Content}
 use Rattle.ctl_stanza.specs.Text.{read_text}
@@ -8,6 +9,7 @@ use Rattle.ctl_stanza.specs.declared.fault.TextFault.{TextFault}
 use Rattle.ctl_stanza.specs.declared.fault.Cause.{Cause}
 use Rattle.ctl_stanza.specs.declared.fault.Cause.TheVariants as causes
 use Rattle.ctl_store.specs.declared.list_class.ListClass.{ListClass}
+use Rattle.ctl_store.specs.declared.list_class.ListClass.TheVariants.{Plain}
 use Rattle.ctl_store.specs.declared.selector.Selector.{Selector}
 use Rattle.ctl_store.specs.declared.refusal.Refusal.{Refusal}
 use Rattle.ctl_store.specs.declared.refusal.Refusal.TheVariants as refusal
@@ -56,6 +58,11 @@ edited_by_body cache number edit (Err fault) = Refused fault.line (refusal_by fa
 abbrev pub list_added : CacheState → ℕ → List ℕ → ListKind → ListClass → List ℕ → Outcome
 list_added cache number name kind class text =
     edited_by_body cache number (edit.AddList name kind class) (read_text kind (number + 1) text)
+
+-- A list that is loaded is added as by `add-list`, but that the lines of its text count from 1, and that line 0 is told where
+-- the text has no fault.
+abbrev pub loaded : CacheState → List ℕ → ListKind → List ℕ → Outcome
+loaded cache name kind text = if is_name name then list_added cache 0 name kind Plain text else Refused 0 refusal.Name
 
 -- the body of `put` is one stanza
 abbrev pub stanza_put : CacheState → ℕ → List ℕ → Result (List Content) TextFault → Outcome

@@ -11,6 +11,7 @@ use Rattle.ctl_session.specs.Outcome.{Outcome, Refused as RefusedOutcome, Answer
 use Rattle.ctl_session.specs.declared.reply.Reply.{Reply}
 use Rattle.ctl_session.specs.declared.reply.Reply.TheVariants.{Refused, Answered, Changed}
 use Rattle.ctl_session.specs.declared.refusal_at.RefusalAt.{RefusalAt}
+use Rattle.ctl_session.specs.declared.load_fault.LoadFault.{LoadFault}
 
 -- with the text in the buffer and the cache that was left
 abbrev pub outcome_from : Reply → List ℕ → CacheState → Outcome
@@ -27,6 +28,16 @@ outcome_of_edit (Err refused) new = RefusedOutcome refused.line refused.cause
 abbrev pub CameTo : ℕ → Result Unit RefusalAt → CacheState → Outcome → Type 0
 CameTo number result new outcome =
     (outcome_of_edit result new ≡ outcome) ⊎ (outcome_of_edit result new ≡ RefusedOutcome number refusal.Memory)
+
+-- what the load of a list came to, which left this cache
+abbrev pub outcome_of_load : Result Unit LoadFault → CacheState → Outcome
+outcome_of_load (Ok done) new = ChangedOutcome new
+outcome_of_load (Err fault) new = RefusedOutcome fault.line fault.cause
+
+-- a load came to this outcome, or to want of memory
+abbrev pub LoadCameTo : Result Unit LoadFault → CacheState → Outcome → Type 0
+LoadCameTo result new outcome =
+    (outcome_of_load result new ≡ outcome) ⊎ (outcome_of_load result new ≡ RefusedOutcome 0 refusal.Memory)
 
 -- a refusal tells the fault of a body's text, or that memory ran out, at the line of the command
 abbrev pub IsRefusalOf : TextFault → ℕ → RefusalAt → Type 0

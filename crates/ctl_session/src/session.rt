@@ -1,17 +1,24 @@
 //! A session: a cache, and the scripts that are run over them.
 
-ghost use Rattle.std.specs.Prelude.{◌≡◌, ◌-◌, ◌^◌, IfOk, IfErr};
+ghost use Rattle.std.specs.Prelude.{◌≡◌, ◌-◌, ◌^◌, IfOk, IfErr, OnErr};
+ghost use Rattle.ctl_session.specs.Effect.{loaded};
+ghost use Rattle.ctl_session.specs.Replies.{LoadCameTo};
 ghost use Rattle.ctl_session.specs.Streams.{counted};
 ghost use Rattle.ctl_session.specs.Faults.{is_read_fault, is_write_fault};
 ghost use Rattle.ctl_session.specs.Run.{Ran, Stopped};
 
 use crate::cache::Cache;
+use crate::edits::add_list;
 use crate::fault::Fault;
 use crate::lines::Lines;
+use crate::load_fault::LoadFault;
 use crate::run::{Buffers, run_over};
 use crate::sink::Sink;
 use crate::source::Source;
 use crate::summary::Summary;
+use ctl_relation::is_name;
+use ctl_stanza::ListKind;
+use ctl_store::{ListClass, Refusal};
 use std::alloc::{AllocError, Global};
 use std::marker::Model;
 
@@ -79,6 +86,42 @@ impl Session {
         ensures { result.now ≡ self.now.cache }
     {
         &self.cache
+    }
+
+    /// Adds a last list of plain class with the stanzas of a text, as `add-list` does. The lines of the text count
+    /// from 1.
+    ///
+    /// # Errors
+    ///
+    /// The first of these, and the cache stays: the name is none; the fault of the text, with its line; there is
+    /// a list of that name; there is a status list, and this would be another; the cache is full. Each may be
+    /// want of memory instead.
+    pub fn load(&mut self, name: &[u8], kind: ListKind, text: &[u8]) -> Result<(), LoadFault>
+        ensures loaded { LoadCameTo result self.new.cache (loaded self.old.cache name.now kind text.now) }
+        ensures err { OnErr result (self.new.cache ≡ self.old.cache) }
+        ensures max_lines { self.new.max_lines ≡ self.old.max_lines }
+    {
+        if !is_name(name) {
+            return Err(LoadFault {
+                line: 0,
+                cause: Refusal::Name,
+            });
+        }
+        match add_list(
+            self.alloc,
+            &mut self.cache,
+            name,
+            kind,
+            ListClass::Plain,
+            text,
+            0,
+        ) {
+            Ok(()) => Ok(()),
+            Err(refused) => Err(LoadFault {
+                line: refused.line,
+                cause: refused.cause,
+            }),
+        }
     }
 
     /// Runs a script, and writes what its commands come to: for each command in its order nothing, one line that
