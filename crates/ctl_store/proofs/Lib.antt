@@ -6,3 +6,5 @@ pub mod ListedLemmas
 pub mod AcceptLemmas
 pub mod StepLemmas
 pub mod SoundLemmas
+pub mod PastLemmas
+pub mod FoundLemmas

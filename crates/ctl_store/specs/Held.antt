@@ -11,6 +11,7 @@ use Rattle.ctl_store.specs.declared.limits.Limits.{Limits}
 use Rattle.ctl_store.specs.declared.list_class.ListClass.{ListClass}
 use Rattle.ctl_store.specs.declared.selector.Selector.{Selector}
 use Rattle.ctl_store.specs.declared.stanza_key.StanzaKey.{StanzaKey}
+use Rattle.ctl_store.specs.Limits.{most}
 use Rattle.ctl_store.specs.Named.{at_name}
 use Rattle.ctl_store.specs.Pins.{selector_eq}
 use Rattle.ctl_store.specs.State.{State, stanza_count}
@@ -70,6 +71,8 @@ pub record IsSound (lists : List (List ℕ × Sheet)) (next_list stanzas edits :
   pub few : next_list ≤ edits
   pub counted : stanzas ≡ stanza_count (stanza_lists (lists_of lists))
   pub within : stanzas ≤ limits.stanzas
+  pub stanzas_bounded : limits.stanzas ≤ most
+  pub edits_bounded : limits.edits ≤ most
 
 -- ---- plans
 

@@ -126,10 +126,7 @@ impl Store {
         ensures limits { self.new.limits ≡ self.old.limits }
     {
         let _limits = self.limits;
-        let count = match self.lists.get(name.as_slice()) {
-            Some(shelf) => shelf.rows().len() as u32,
-            None => 0,
-        };
+        let count = self.count_in(name.as_slice()) as u32;
         self.lists.remove(name.as_slice());
         self.stanzas -= count;
         self.edits += 1;
@@ -143,10 +140,7 @@ impl Store {
         ensures limits { self.new.limits ≡ self.old.limits }
     {
         let _limits = self.limits;
-        let is_new = match self.lists.get(list.as_slice()) {
-            Some(shelf) => shelf.find(stanza.package(), stanza.version()).is_none(),
-            None => false,
-        };
+        let is_new = !self.has_stanza(list.as_slice(), stanza.package(), stanza.version());
         self.lists.put_in(list.as_slice(), stanza);
         self.stanzas += u32::from(is_new);
         self.edits += 1;
