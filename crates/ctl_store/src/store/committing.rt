@@ -1,6 +1,6 @@
 //! Plans are carried out.
 
-ghost use Rattle.std.specs.Prelude.{◌≡◌, ◌+◌, ◌<◌, ◌≤◌, ◌∷◌, ◌++◌, ℕ, [], None, Some, IfSome, length, map, vec_len};
+ghost use Rattle.std.specs.Prelude.{◌≡◌, ◌+◌, ◌<◌, ◌≤◌, ◌∷◌, ◌++◌, ℕ, [], None, Some, IfSome, length, map, vec_len, if◌then◌else◌};
 ghost use Rattle.std.specs.Vec.{vec_capacity};
 ghost use Rattle.ctl_store.specs.Named.{at_name};
 ghost use Rattle.ctl_store.specs.Pins.{selector_eq};
@@ -23,6 +23,12 @@ use crate::store::Store;
 use ctl_relation::{Bytes, Version};
 use ctl_stanza::{ListKind, Stanza};
 use indexmap::IndexMap;
+
+fn one_unless(is_there: bool) -> u32
+    ensures { result ≡ (if is_there then 0 else 1) }
+{
+    if is_there { 0 } else { 1 }
+}
 
 // Sets a pin, for which there is room.
 fn set_pin(pins: &mut IndexMap<Selector, i16>, setting: PinSetting)
@@ -140,9 +146,11 @@ impl Store {
         ensures limits { self.new.limits ≡ self.old.limits }
     {
         let _limits = self.limits;
-        let is_new = !self.has_stanza(list.as_slice(), stanza.package(), stanza.version());
+        let is_there =
+            self.has_stanza(list.as_slice(), stanza.package(), stanza.version());
+        let more = one_unless(is_there);
         self.lists.put_in(list.as_slice(), stanza);
-        self.stanzas += u32::from(is_new);
+        self.stanzas += more;
         self.edits += 1;
     }
 

@@ -16,10 +16,6 @@ use Rattle.ctl_store.proofs.AcceptLemmas.{accepted_edits}
 use Rattle.ctl_store.proofs.FoundLemmas.{put_found, put_count, put_fits}
 use Rattle.ctl_store.proofs.store.Store.put.Goals as goal
 
-one_if : (b : Bool) (n : ℕ) → n ≡ cond (not b) 1 0 → n ≡ cond b 0 1
-one_if true n e = e
-one_if false n e = e
-
 pub put_in-requires-clause-below : goal.put_in-requires-clause-below
 put_in-requires-clause-below c =
     let s = c.self.inside in
@@ -29,10 +25,34 @@ put_in-requires-clause-below c =
     (in_order_next 0 s.lists.0 s.next_list (s.limits.stanzas + s.edits) c.as_slice-2.result.now c.self.invariant.order)
 
 pub overflow_add-self : goal.overflow_add-self
-overflow_add-self c = ?
+overflow_add-self c =
+    let s = c.self.inside in
+    let h = c.args.self.now in
+    let list = c.args.list.now in
+    let x = c.args.stanza.value in
+    let f = put_found h.limits (state_of h) list x c.requires.accepted in
+    let held = ap (λ h. stanza_count (state_of h).lists) c.self.view_is in
+    let most = ap (λ h. h.limits.stanzas) c.self.view_is in
+    let there : c.has_stanza-is_there.result ≡ has_stanza list (package_of x) (version_of x) (state_of h).lists = c.has_stanza-is_there.ensures ∙ (λ j. has_stanza (c.as_slice.ensures j) ((c.package.ensures ∙ ap package_of c.deref.ensures) j) ((c.version.ensures ∙ ap version_of c.deref-2.ensures) j) (state_of h).lists) in
+    let more = c.one_unless-more.ensures ∙ ap (λ (b : Bool). cond b 0 1) there in
+    omega (arith, more, put_fits h.limits (state_of h) list x f.0 c.requires.accepted f.1, c.self.invariant.counted, c.self.invariant.stanzas_bounded, held, most)
 
 pub invariant_of-self : goal.invariant_of-self
-invariant_of-self c = ?
+invariant_of-self c =
+    let s = c.self.inside in
+    let h = c.args.self.now in
+    let list = c.args.list.now in
+    let x = c.args.stanza.value in
+    let f = put_found h.limits (state_of h) list x c.requires.accepted in
+    let held = ap (λ h. stanza_count (state_of h).lists) c.self.view_is in
+    let most = ap (λ h. h.limits.stanzas) c.self.view_is in
+    let there : c.has_stanza-is_there.result ≡ has_stanza list (package_of x) (version_of x) (state_of h).lists = c.has_stanza-is_there.ensures ∙ (λ j. has_stanza (c.as_slice.ensures j) ((c.package.ensures ∙ ap package_of c.deref.ensures) j) ((c.version.ensures ∙ ap version_of c.deref-2.ensures) j) (state_of h).lists) in
+    let more = c.one_unless-more.ensures ∙ ap (λ (b : Bool). cond b 0 1) there in
+    let lists = c.put_in.ensures ∙ ap (λ n. change_named n (put_keyed x) (lists_of s.lists.0)) c.as_slice-2.ensures in
+    sound_change s.lists.0 s.next_list s.stanzas s.edits s.limits c.self.invariant c.put_in.new.self.0 list f.0 (put_keyed x) (with_stanzas (put_stanza x)) (s.stanzas + c.one_unless-more.result) (Changes-put x) (put_list x) lists
+    (ap (λ h. at_name list (state_of h).lists) c.self.view_is ∙ f.1)
+    (omega (arith, more, put_count (state_of h) list x f.0 f.1))
+    (omega (arith, more, put_fits h.limits (state_of h) list x f.0 c.requires.accepted f.1, c.self.invariant.counted, held, most))
 
 pub returns-clause-state : goal.returns-clause-state
 returns-clause-state c =
