@@ -8,3 +8,4 @@ pub mod StepLemmas
 pub mod SoundLemmas
 pub mod PastLemmas
 pub mod FoundLemmas
+pub mod PinLemmas

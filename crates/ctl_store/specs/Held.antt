@@ -85,38 +85,77 @@ pub record Planned : Type 0 where
   pub order : List ℕ
   pub pins_room : ℕ
 
+-- what is made ready for an edit, beside the room in the store
+pub record Ready : Type 0 where
+  pub rows_room : ℕ
+  pub order : List ℕ
+  pub pins_room : ℕ
+
+abbrev pub ready_of : Planned → Ready
+ready_of plan = record { rows_room = plan.rows_room; order = plan.order; pins_room = plan.pins_room }
+
 -- there is room for one stanza more in a list
 pub record HasRoomInList (s : Sheet) : Type 0 where
   pub row : 0 < s.room
   pub order : 0 < s.order_room
 
 -- what is made ready for a new list
-pub record HasRoomForList (h : Held) (stanzas : List Content) (plan : Planned) : Type 0 where
+pub record HasRoomForList (h : Held) (stanzas : List Content) (ready : Ready) : Type 0 where
   pub list : 0 < h.lists_room
-  pub rows : length stanzas ≤ plan.rows_room
-  pub order : plan.order ≡ sorted_serials (rows_from 0 stanzas)
+  pub rows : length stanzas ≤ ready.rows_room
+  pub order : ready.order ≡ sorted_serials (rows_from 0 stanzas)
 
 -- no selector stands twice
 abbrev pub AreDistinct : List (Selector × ℤ) → Type 0
 AreDistinct pins = IsDistinct selector_eq (names_of pins)
 
 -- what is made ready for pin settings
-pub record HasRoomForPins (pins : List (Selector × ℤ)) (plan : Planned) : Type 0 where
-  pub room : length pins ≤ plan.pins_room
+pub record HasRoomForPins (pins : List (Selector × ℤ)) (ready : Ready) : Type 0 where
+  pub room : length pins ≤ ready.pins_room
   pub distinct : AreDistinct pins
 
 -- there is room for the edit
-abbrev pub HasRoom : Held → Planned → Edit → Type 0
-HasRoom h plan (AddList name kind class stanzas) = HasRoomForList h stanzas plan
-HasRoom h plan (DropList name) = Unit {0}
-HasRoom h plan (Put list x) = IfSome (at_name list h.lists) HasRoomInList
-HasRoom h plan (Remove list name version) = Unit {0}
-HasRoom h plan (Mark name version) = 0 < h.marks_room
-HasRoom h plan (Unmark name) = Unit {0}
-HasRoom h plan (Pin selector priority) = 0 < h.pins_room
-HasRoom h plan (Unpin selector) = Unit {0}
-HasRoom h plan (Target name) = Unit {0}
-HasRoom h plan (Prefs pins) = HasRoomForPins pins plan
+abbrev pub HasRoom : Held → Ready → Edit → Type 0
+HasRoom h ready (AddList name kind class stanzas) = HasRoomForList h stanzas ready
+HasRoom h ready (DropList name) = Unit {0}
+HasRoom h ready (Put list x) = IfSome (at_name list h.lists) HasRoomInList
+HasRoom h ready (Remove list name version) = Unit {0}
+HasRoom h ready (Mark name version) = 0 < h.marks_room
+HasRoom h ready (Unmark name) = Unit {0}
+HasRoom h ready (Pin selector priority) = 0 < h.pins_room
+HasRoom h ready (Unpin selector) = Unit {0}
+HasRoom h ready (Target name) = Unit {0}
+HasRoom h ready (Prefs pins) = HasRoomForPins pins ready
+
+-- there is room for the edit in the store
+abbrev pub HasRoomIn : Held → Edit → Type 0
+HasRoomIn h (AddList name kind class stanzas) = 0 < h.lists_room
+HasRoomIn h (DropList name) = Unit {0}
+HasRoomIn h (Put list x) = IfSome (at_name list h.lists) HasRoomInList
+HasRoomIn h (Remove list name version) = Unit {0}
+HasRoomIn h (Mark name version) = 0 < h.marks_room
+HasRoomIn h (Unmark name) = Unit {0}
+HasRoomIn h (Pin selector priority) = 0 < h.pins_room
+HasRoomIn h (Unpin selector) = Unit {0}
+HasRoomIn h (Target name) = Unit {0}
+HasRoomIn h (Prefs pins) = Unit {0}
+
+-- what is made ready for a new list, and for pin settings
+pub record IsReadyForList (stanzas : List Content) (ready : Ready) : Type 0 where
+  pub rows : length stanzas ≤ ready.rows_room
+  pub order : ready.order ≡ sorted_serials (rows_from 0 stanzas)
+
+abbrev pub IsReadyFor : Edit → Ready → Type 0
+IsReadyFor (AddList name kind class stanzas) ready = IsReadyForList stanzas ready
+IsReadyFor (DropList name) ready = Unit {0}
+IsReadyFor (Put list x) ready = Unit {0}
+IsReadyFor (Remove list name version) ready = Unit {0}
+IsReadyFor (Mark name version) ready = Unit {0}
+IsReadyFor (Unmark name) ready = Unit {0}
+IsReadyFor (Pin selector priority) ready = Unit {0}
+IsReadyFor (Unpin selector) ready = Unit {0}
+IsReadyFor (Target name) ready = Unit {0}
+IsReadyFor (Prefs pins) ready = length pins ≤ ready.pins_room
 
 -- an edit in which no selector stands twice
 abbrev pub IsProper : Edit → Type 0
@@ -134,6 +173,6 @@ IsProper (Prefs pins) = AreDistinct pins
 -- a plan whose edit is accepted, for which there is room, and whose keys are those that go and come
 pub record IsReady (h : Held) (plan : Planned) : Type 0 where
   pub accepted : refusal_of h.limits (state_of h) plan.edit ≡ None
-  pub room : HasRoom h plan plan.edit
+  pub room : HasRoom h (ready_of plan) plan.edit
   pub removed : plan.removed ≡ removed_of (keyed_of h) plan.edit
   pub added : plan.added ≡ added_of (keyed_of h) plan.edit

@@ -9,7 +9,7 @@ ghost use Rattle.ctl_store.specs.Edits as edits;
 ghost use Rattle.ctl_store.specs.Step.{after, refusal_of};
 ghost use Rattle.ctl_store.specs.Rows.{rows_from, sorted_serials};
 ghost use Rattle.ctl_store.specs.Keys.{keyed_after, IsNotAmong, stanza_at};
-ghost use Rattle.ctl_store.specs.Held.{state_of, keyed_of, lists_of, IsReady, HasRoomInList, AreDistinct};
+ghost use Rattle.ctl_store.specs.Held.{state_of, keyed_of, lists_of, IsReady, HasRoom, HasRoomInList, AreDistinct};
 ghost use Rattle.ctl_store.specs.declared.stanza_key.StanzaKey.{StanzaKey};
 ghost use Rattle.indexmap.specs.IndexMap.{insert_entry, spare};
 
@@ -75,6 +75,25 @@ impl Store {
             order,
             pins,
         } = plan;
+        self.make(edit, rows, order, pins);
+    }
+
+    // Makes an edit, for which this is ready: room for rows, the order of stanzas, and room for pins.
+    fn make(
+        &mut self,
+        edit: Edit,
+        rows: Vec<Row>,
+        order: Vec<u64>,
+        pins: IndexMap<Selector, i16>,
+    )
+        requires accepted { refusal_of self.old.limits (state_of self.old) (edit_of edit) ≡ None }
+        requires room { HasRoom self.old (record { rows_room = vec_capacity rows; order = order.items; pins_room = spare pins }) (edit_of edit) }
+        requires rows { rows.items ≡ [] }
+        requires pins { pins.entries ≡ [] }
+        ensures state { state_of self.new ≡ after (state_of self.old) (edit_of edit) }
+        ensures keyed { keyed_of self.new ≡ keyed_after (keyed_of self.old) (edit_of edit) }
+        ensures limits { self.new.limits ≡ self.old.limits }
+    {
         match edit {
             Edit::AddList {
                 name,
