@@ -17,7 +17,7 @@ use Rattle.ctl_store.specs.Pins.{selector_eq}
 use Rattle.ctl_store.specs.State.{State, stanza_count}
 use Rattle.ctl_store.specs.Edits.{Edit, AddList, DropList, Put, Remove, Mark, Unmark, Pin, Unpin, Target, Prefs}
 use Rattle.ctl_store.specs.Step.{refusal_of}
-use Rattle.ctl_store.specs.Rows.{Rises, rows_from, sorted_serials}
+use Rattle.ctl_store.specs.Rows.{Rises}
 use Rattle.ctl_store.specs.Keys.{KeyedList, Keyed, stanza_lists, removed_of, added_of}
 
 -- a list with the room for more of its rows, and in its order
@@ -82,17 +82,17 @@ pub record Planned : Type 0 where
   pub removed : List StanzaKey
   pub added : List StanzaKey
   pub rows_room : ℕ
-  pub order : List ℕ
+  pub order_room : ℕ
   pub pins_room : ℕ
 
 -- what is made ready for an edit, beside the room in the store
 pub record Ready : Type 0 where
   pub rows_room : ℕ
-  pub order : List ℕ
+  pub order_room : ℕ
   pub pins_room : ℕ
 
 abbrev pub ready_of : Planned → Ready
-ready_of plan = record { rows_room = plan.rows_room; order = plan.order; pins_room = plan.pins_room }
+ready_of plan = record { rows_room = plan.rows_room; order_room = plan.order_room; pins_room = plan.pins_room }
 
 -- there is room for one stanza more in a list
 pub record HasRoomInList (s : Sheet) : Type 0 where
@@ -103,7 +103,7 @@ pub record HasRoomInList (s : Sheet) : Type 0 where
 pub record HasRoomForList (h : Held) (stanzas : List Content) (ready : Ready) : Type 0 where
   pub list : 0 < h.lists_room
   pub rows : length stanzas ≤ ready.rows_room
-  pub order : ready.order ≡ sorted_serials (rows_from 0 stanzas)
+  pub order : length stanzas ≤ ready.order_room
 
 -- no selector stands twice
 abbrev pub AreDistinct : List (Selector × ℤ) → Type 0
@@ -143,7 +143,7 @@ HasRoomIn h (Prefs pins) = Unit {0}
 -- what is made ready for a new list, and for pin settings
 pub record IsReadyForList (stanzas : List Content) (ready : Ready) : Type 0 where
   pub rows : length stanzas ≤ ready.rows_room
-  pub order : ready.order ≡ sorted_serials (rows_from 0 stanzas)
+  pub order : length stanzas ≤ ready.order_room
 
 abbrev pub IsReadyFor : Edit → Ready → Type 0
 IsReadyFor (AddList name kind class stanzas) ready = IsReadyForList stanzas ready

@@ -7,7 +7,6 @@ ghost use Rattle.ctl_store.specs.Pins.{selector_eq};
 ghost use Rattle.ctl_store.specs.Edits.{edit_of, settings_of};
 ghost use Rattle.ctl_store.specs.Edits as edits;
 ghost use Rattle.ctl_store.specs.Step.{after, refusal_of};
-ghost use Rattle.ctl_store.specs.Rows.{rows_from, sorted_serials};
 ghost use Rattle.ctl_store.specs.Keys.{keyed_after, IsNotAmong, stanza_at};
 ghost use Rattle.ctl_store.specs.Held.{state_of, keyed_of, lists_of, IsReady, HasRoom, HasRoomInList, AreDistinct};
 ghost use Rattle.ctl_store.specs.declared.stanza_key.StanzaKey.{StanzaKey};
@@ -87,8 +86,9 @@ impl Store {
         pins: IndexMap<Selector, i16>,
     )
         requires accepted { refusal_of self.old.limits (state_of self.old) (edit_of edit) ≡ None }
-        requires room { HasRoom self.old (record { rows_room = vec_capacity rows; order = order.items; pins_room = spare pins }) (edit_of edit) }
+        requires room { HasRoom self.old (record { rows_room = vec_capacity rows; order_room = vec_capacity order; pins_room = spare pins }) (edit_of edit) }
         requires rows { rows.items ≡ [] }
+        requires order { order.items ≡ [] }
         requires pins { pins.entries ≡ [] }
         ensures state { state_of self.new ≡ after (state_of self.old) (edit_of edit) }
         ensures keyed { keyed_of self.new ≡ keyed_after (keyed_of self.old) (edit_of edit) }
@@ -130,7 +130,8 @@ impl Store {
         requires list { 0 < self.old.lists_room }
         requires empty { rows.items ≡ [] }
         requires room { vec_len stanzas ≤ vec_capacity rows }
-        requires ordered { order.items ≡ sorted_serials (rows_from 0 (map (λ stanza. stanza.value) stanzas.items)) }
+        requires none { order.items ≡ [] }
+        requires order_room { vec_len stanzas ≤ vec_capacity order }
         ensures state { state_of self.new ≡ after (state_of self.old) (edits.AddList name kind class (map (λ stanza. stanza.value) stanzas.items)) }
         ensures keyed { keyed_of self.new ≡ keyed_after (keyed_of self.old) (edits.AddList name kind class (map (λ stanza. stanza.value) stanzas.items)) }
         ensures limits { self.new.limits ≡ self.old.limits }

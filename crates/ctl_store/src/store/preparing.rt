@@ -7,12 +7,11 @@ ghost use Rattle.ctl_store.specs.declared.refusal.Refusal.TheVariants as refusal
 ghost use Rattle.ctl_store.specs.Named.{at_name};
 ghost use Rattle.ctl_store.specs.Edits.{edit_of, settings_of};
 ghost use Rattle.ctl_store.specs.Step.{refusal_of};
-ghost use Rattle.ctl_store.specs.Rows.{rows_from, sorted_serials};
+ghost use Rattle.ctl_store.specs.Rows.{rows_from};
 ghost use Rattle.ctl_store.specs.Keys.{removed_of, added_of, found_in, kept_in, all_in, keys_of, list_of_stanzas, key_of};
 ghost use Rattle.ctl_store.specs.Held.{state_of, keyed_of, IsReady, IsProper, IsReadyFor, HasRoomIn, HasRoom, HasRoomInList};
 
 use crate::edit::Edit;
-use crate::order::sorted_order;
 use crate::plan::Plan;
 use crate::refusal::Refusal;
 use crate::rows::Row;
@@ -55,8 +54,8 @@ struct Ready {
 }
 
 fn make_ready(alloc: Global, edit: &Edit) -> Result<Ready, AllocError>
-    ensures empty { IfOk result (λ ready. (ready.rows.items ≡ []) × (ready.pins.entries ≡ [])) }
-    ensures ready { IfOk result (λ ready. IsReadyFor (edit_of edit.now) (record { rows_room = vec_capacity ready.rows; order = ready.order.items; pins_room = spare ready.pins })) }
+    ensures empty { IfOk result (λ ready. (ready.rows.items ≡ []) × (ready.order.items ≡ []) × (ready.pins.entries ≡ [])) }
+    ensures ready { IfOk result (λ ready. IsReadyFor (edit_of edit.now) (record { rows_room = vec_capacity ready.rows; order_room = vec_capacity ready.order; pins_room = spare ready.pins })) }
 {
     let mut rows = Vec::new(alloc);
     let mut order = Vec::new(alloc);
@@ -69,7 +68,7 @@ fn make_ready(alloc: Global, edit: &Edit) -> Result<Ready, AllocError>
             stanzas,
         } => {
             rows.reserve(stanzas.len())?;
-            order = sorted_order(alloc, stanzas)?;
+            order.reserve(stanzas.len())?;
         }
         Edit::Prefs { settings } => pins.reserve(settings.len())?,
         _ => {}

@@ -10,7 +10,8 @@ make-requires c = record {
   accepted = subst (λ p. refusal_of c.args.self.now.limits (state_of c.args.self.now) p.edit ≡ None) (sym c.plan.view_is) c.requires.accepted;
   room = subst (λ p. HasRoom c.args.self.now (ready_of p) p.edit) (sym c.plan.view_is) c.requires.room;
   rows = c.plan.invariant.0;
-  pins = c.plan.invariant.1;
+  order = c.plan.invariant.1;
+  pins = c.plan.invariant.2;
 }
 
 pub returns-clause-stays : goal.returns-clause-stays

@@ -14,7 +14,7 @@ set_pin-requires c = omega (arith, c.loop-setting.invariant.room, ap (λ l. leng
 pub loop-setting-preserved : goal.loop-setting-preserved
 loop-setting-preserved c =
     let old = c.loop-setting.pins.entries in
-    let x = (c.in-Some.setting.selector, c.in-Some.setting.priority) in
+    let x : Selector × ℤ = (c.in-Some.setting.selector, c.in-Some.setting.priority) in
     let rest = settings_of c.next.new.self.rest.items in
     let whole = ap (λ l. old ++ settings_of l) (sym c.in-Some.ensures.steps.0) ∙ c.loop-setting.invariant.entries in
     let new = c.set_pin.ensures.entries ∙ set_new old x.0 x.1 rest (subst AreDistinct (sym whole) c.requires.distinct) in
