@@ -9,3 +9,4 @@ pub mod SoundLemmas
 pub mod PastLemmas
 pub mod FoundLemmas
 pub mod PinLemmas
+pub mod KeyLemmas
