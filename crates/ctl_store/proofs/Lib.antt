@@ -10,3 +10,5 @@ pub mod PastLemmas
 pub mod FoundLemmas
 pub mod PinLemmas
 pub mod KeyLemmas
+pub mod LookLemmas
+pub mod StarLemmas

@@ -1,5 +1,5 @@
 -- A store with its rooms: how much more it takes without memory.
-use Rattle.std.specs.Prelude.{◌≡◌, ℕ, ℤ, ◌+◌, ◌<◌, ◌≤◌, suc, List, [], ◌∷◌, map, length, Option, None, Some, IfSome}
+use Rattle.std.specs.Prelude.{◌≡◌, ℕ, ℤ, ◌+◌, ◌<◌, ◌≤◌, suc, List, [], ◌∷◌, map, length, Option, None, Some, IfSome, nat_eq, if◌then◌else◌}
 use Rattle.std.specs.Ordering.{nat_cmp}
 use Rattle.std.specs.Cmp.Lexicographic.{slice_cmp}
 use Rattle.std.specs.List.{IsDistinct}
@@ -57,6 +57,11 @@ keyed_of h = record { lists = lists_of h.lists; next_list = h.next_list }
 -- what a store holds
 abbrev pub state_of : Held → State
 state_of h = record { lists = stanza_lists (lists_of h.lists); marks = fin.from_entries h.marks; pins = h.pins; target = h.target; edits = h.edits }
+
+-- the list of a serial, with its name
+abbrev pub entry_of : ℕ → List (List ℕ × Sheet) → Option (List ℕ × Sheet)
+entry_of serial [] = None
+entry_of serial (e ∷ es) = if nat_eq e.1.serial serial then Some e else entry_of serial es
 
 -- ---- what every store keeps
 

@@ -5,7 +5,8 @@ ghost use Rattle.std.specs.Option.{option_map_or};
 ghost use Rattle.std.specs.FinMap as fin;
 ghost use Rattle.ctl_store.specs.State.{stanza_count};
 ghost use Rattle.ctl_store.specs.Keys.{all_in, all_keys, AreRising, stanza_at, list_at};
-ghost use Rattle.ctl_store.specs.Held.{state_of, keyed_of};
+ghost use Rattle.ctl_store.specs.Named.{by_bytes};
+ghost use Rattle.ctl_store.specs.Held.{state_of, keyed_of, entry_of};
 ghost use Rattle.ctl_store.specs.declared.limits.Counts.{Counts};
 
 use crate::limits::{Counts, Limits};
@@ -72,6 +73,23 @@ impl<'a> Iterator for Pins<'a> {
     }
 }
 
+// The name and the stanzas of the list of a serial.
+fn entry_of<'a>(
+    entries: Slice<'a, Vec<u8>, Shelf>,
+    serial: u32,
+) -> Option<(&'a Vec<u8>, &'a Shelf)>
+    ensures { option_map (λ e. (e.0.now.items, e.1.now)) result ≡ entry_of serial (map by_bytes entries.entry) }
+{
+    let mut left = entries;
+    while let Some(((name, shelf), rest)) = left.split_first() {
+        if shelf.serial() == serial {
+            return Some((name, shelf));
+        }
+        left = rest;
+    }
+    None
+}
+
 impl Store {
     /// The names, kinds and classes of the lists, in the order in which they were added.
     pub fn lists(&self) -> Lists<'_> {
@@ -91,23 +109,12 @@ impl Store {
         }
     }
 
-    fn list_of_serial(&self, serial: u32) -> Option<(&[u8], &Shelf)> {
-        let entries = self.lists.entries();
-        match entries.binary_search_by_key(&serial, |_name, shelf| shelf.serial()) {
-            Ok(at) => match entries.get_index(at) {
-                Some((name, shelf)) => Some((name, shelf)),
-                None => None,
-            },
-            Err(_) => None,
-        }
-    }
-
     /// The stanza of a key, which is one of the store.
     pub fn stanza(&self, key: StanzaKey) -> &Stanza
         requires { IsSome (stanza_at key (keyed_of self.now).lists) }
         ensures { Some result.now ≡ stanza_at key (keyed_of self.now).lists }
     {
-        match self.list_of_serial(key.list) {
+        match entry_of(self.lists.entries(), key.list) {
             Some((_, shelf)) => match place_of(shelf.rows(), key.stanza) {
                 Some(at) => shelf.rows()[at].stanza(),
                 None => unreachable!(),
@@ -121,7 +128,7 @@ impl Store {
         requires { IsSome (stanza_at key (keyed_of self.now).lists) }
         ensures { Some result.now ≡ list_at key.list (keyed_of self.now).lists }
     {
-        match self.list_of_serial(key.list) {
+        match entry_of(self.lists.entries(), key.list) {
             Some((name, _)) => name,
             None => unreachable!(),
         }
