@@ -2,7 +2,7 @@
 use Rattle.std.proofs.Common.{◌≡◌, ℕ, ◌+◌, ◌≤◌, suc, Bool, true, false, cond, ◌||◌, List, [], ◌∷◌, ◌++◌, Option, None, Some, is_some, option_map, map, length, refl, ap, sym, subst, ◌∙◌, IfSome, OnOk, Result, Ok, Err, Vec, arith}
 use Rattle.std.specs.Str.{bytes_eq}
 use Rattle.ctl_stanza.specs.Content.{Content, package_of, version_of}
-use Rattle.ctl_store.specs.State.{StanzaList}
+use Rattle.ctl_store.specs.State.{StanzaList, shown_lists}
 use Rattle.ctl_store.specs.Step.{place, is_same, is_status, has_status, has_stanza, count_in}
 use Rattle.std.specs.Option.{option_map_or}
 use Rattle.std.specs.List.{list_any}
@@ -193,3 +193,7 @@ count_held list es = ap (λ o. option_map_or (λ (l : StanzaList). length l.stan
     by : (o : Option Sheet) → option_map_or (λ (l : StanzaList). length l.stanzas) (option_map stanza_list (option_map keyed_list o)) 0 ≡ option_map_or (λ (s : Sheet). length s.rows) o 0
     by None = refl
     by (Some s) = length_stanzas s.rows
+
+pub shown_entries : {A : Type 0} (es : List (Vec ℕ A × Sheet)) → map (λ (e : Vec ℕ A × Sheet). (e.0.items, e.1.kind, e.1.class)) es ≡ shown_lists (stanza_lists (lists_of (map by_bytes es)))
+shown_entries [] = refl
+shown_entries (e ∷ es) = ap (λ l. (e.0.items, e.1.kind, e.1.class) ∷ l) (shown_entries es)

@@ -3,7 +3,7 @@
 ghost use Rattle.std.specs.Prelude.{◌≡◌, ◌+◌, IsSome, Some, [], map, option_map, option_copied, length};
 ghost use Rattle.std.specs.Option.{option_map_or};
 ghost use Rattle.std.specs.FinMap as fin;
-ghost use Rattle.ctl_store.specs.State.{stanza_count};
+ghost use Rattle.ctl_store.specs.State.{stanza_count, shown_lists};
 ghost use Rattle.ctl_store.specs.Keys.{all_in, all_keys, AreRising, stanza_at, list_at};
 ghost use Rattle.ctl_store.specs.Named.{by_bytes};
 ghost use Rattle.ctl_store.specs.Held.{state_of, keyed_of, entry_of};
@@ -27,7 +27,23 @@ pub struct Lists<'a> {
     entries: Slice<'a, Vec<u8>, Shelf>,
 }
 
+impl<'a> Model for Lists<'a> {
+    ghost use Rattle.std.specs.Prelude.{ℕ, List, map};
+    ghost use Rattle.ctl_stanza.specs.declared.list_kind.ListKind.{ListKind};
+    ghost use Rattle.ctl_store.specs.declared.list_class.ListClass.{ListClass};
+
+    ghost Value = { List (List ℕ × ListKind × ListClass) };
+
+    ghost view = { λ it. map (λ e. (e.0.items, e.1.kind, e.1.class)) it.entries };
+}
+
 impl<'a> Iterator for Lists<'a> {
+    ghost use Rattle.std.specs.Iterator.{YieldsFirstBy, item_count};
+
+    ghost next_gives = { YieldsFirstBy (λ item. (item.0.now, item.1, item.2)) (λ rest. rest) };
+
+    ghost remaining = { item_count (λ rest. rest) };
+
     type Item = (&'a [u8], ListKind, ListClass);
 
     fn next(&mut self) -> Option<(&'a [u8], ListKind, ListClass)> {
@@ -44,7 +60,23 @@ pub struct Stanzas<'a> {
     rows: &'a [Row],
 }
 
+impl<'a> Model for Stanzas<'a> {
+    ghost use Rattle.std.specs.Prelude.{List, map};
+    ghost use Rattle.ctl_store.specs.declared.stanza_key.StanzaKey.{StanzaKey};
+    ghost use Rattle.ctl_store.specs.Keys.{key_of};
+
+    ghost Value = { List StanzaKey };
+
+    ghost view = { λ it. map (λ row. key_of it.list row.0) it.rows.now };
+}
+
 impl<'a> Iterator for Stanzas<'a> {
+    ghost use Rattle.std.specs.Iterator.{YieldsFirst, item_count};
+
+    ghost next_gives = { YieldsFirst (λ rest. rest) };
+
+    ghost remaining = { item_count (λ rest. rest) };
+
     type Item = StanzaKey;
 
     fn next(&mut self) -> Option<StanzaKey> {
@@ -63,7 +95,22 @@ pub struct Pins<'a> {
     entries: Slice<'a, Selector, i16>,
 }
 
+impl<'a> Model for Pins<'a> {
+    ghost use Rattle.std.specs.Prelude.{List, ℤ};
+    ghost use Rattle.ctl_store.specs.declared.selector.Selector.{Selector};
+
+    ghost Value = { List (Selector × ℤ) };
+
+    ghost view = { λ it. it.entries };
+}
+
 impl<'a> Iterator for Pins<'a> {
+    ghost use Rattle.std.specs.Iterator.{YieldsFirstBy, item_count};
+
+    ghost next_gives = { YieldsFirstBy (λ item. (item.0.now, item.1)) (λ rest. rest) };
+
+    ghost remaining = { item_count (λ rest. rest) };
+
     type Item = (&'a Selector, i16);
 
     fn next(&mut self) -> Option<(&'a Selector, i16)> {
@@ -92,14 +139,19 @@ fn entry_of<'a>(
 
 impl Store {
     /// The names, kinds and classes of the lists, in the order in which they were added.
-    pub fn lists(&self) -> Lists<'_> {
+    pub fn lists(&self) -> Lists<'_>
+        ensures { result ≡ shown_lists (state_of self.now).lists }
+    {
         Lists {
             entries: self.lists.entries(),
         }
     }
 
     /// The keys of the stanzas of a list, in order. Of a list that is not there it has none.
-    pub fn stanzas(&self, list: &[u8]) -> Stanzas<'_> {
+    #[tactic(auto, using(crate::proofs::ListedLemmas::at_name_lists))]
+    pub fn stanzas(&self, list: &[u8]) -> Stanzas<'_>
+        ensures { result ≡ all_in list.now (keyed_of self.now).lists }
+    {
         match self.lists.get(list) {
             Some(shelf) => Stanzas {
                 list: shelf.serial(),
@@ -147,7 +199,9 @@ impl Store {
     }
 
     /// The pin settings, in the order in which their selectors were first set.
-    pub fn pins(&self) -> Pins<'_> {
+    pub fn pins(&self) -> Pins<'_>
+        ensures { result ≡ (state_of self.now).pins }
+    {
         Pins {
             entries: self.pins.as_slice(),
         }
