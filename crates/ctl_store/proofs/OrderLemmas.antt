@@ -112,9 +112,10 @@ module _ {P Q R : ℕ × Id → Type 0} where
 
 all_lookup : (n : ℕ) (xs : List (ℕ × Id)) (m : ℕ) → Rises n xs m → AllByRecursion (λ (x : ℕ × Id). lookup (λ k. nat_eq k x.0) xs ≡ Some x.1) xs
 all_lookup n [] m h = tt
-all_lookup n (x ∷ xs) m h =
-    (ap (λ b. cond b (Some x.1) (lookup (λ k. nat_eq k x.0) xs)) (eq_is x.0 x.0 refl),
-    all_both (λ y k e. ap (λ b. cond b (Some x.1) (lookup (λ k. nat_eq k y.0) xs)) (lt_ne x.0 y.0 (omega (arith, k))) ∙ e) xs (all_from (suc x.0) xs m h.1) (all_lookup (suc x.0) xs m h.1))
+all_lookup n (x ∷ xs) m h = (
+  ap (λ b. cond b (Some x.1) (lookup (λ k. nat_eq k x.0) xs)) (eq_is x.0 x.0 refl),
+  all_both (λ y k e. ap (λ b. cond b (Some x.1) (lookup (λ k. nat_eq k y.0) xs)) (lt_ne x.0 y.0 (omega (arith, k))) ∙ e) xs (all_from (suc x.0) xs m h.1) (all_lookup (suc x.0) xs m h.1),
+)
 
 order_at-found : (rows : List (ℕ × Content)) (q : Id) (y : ℕ × Id) → lookup (λ k. nat_eq k y.0) (ids_of rows) ≡ Some y.1 → order_at rows q y.0 ≡ id_cmp y.1 q
 order_at-found rows q y e = by (lookup (λ k. nat_eq k y.0) rows) (sym (lookup-ids y.0 rows) ∙ e)

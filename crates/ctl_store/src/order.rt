@@ -49,12 +49,7 @@ pub(crate) fn lower(rows: &[Row], order: &[u64], name: &[u8], version: Option<&V
 }
 
 /// Where a last row of a name and a version comes to stand in the order of rows: behind those that are equal.
-pub(crate) fn upper(
-    rows: &[Row],
-    order: &[u64],
-    name: &[u8],
-    version: Option<&Version>,
-) -> usize
+pub(crate) fn upper(rows: &[Row], order: &[u64], name: &[u8], version: Option<&Version>) -> usize
     requires { (next : ℕ) × IsKept rows.now next order.now }
     ensures { result ≡ upper (id name.now (option_copied version.entry)) (sorted_ids (ids_of rows.now)) }
 {

@@ -78,13 +78,7 @@ impl Store {
     }
 
     // Makes an edit, for which this is ready: room for rows, the order of stanzas, and room for pins.
-    fn make(
-        &mut self,
-        edit: Edit,
-        rows: Vec<Row>,
-        order: Vec<u64>,
-        pins: IndexMap<Selector, i16>,
-    )
+    fn make(&mut self, edit: Edit, rows: Vec<Row>, order: Vec<u64>, pins: IndexMap<Selector, i16>)
         requires accepted { refusal_of self.old.limits (state_of self.old) (edit_of edit) ≡ None }
         requires room { HasRoom self.old (record { rows_room = vec_capacity rows; order_room = vec_capacity order; pins_room = spare pins }) (edit_of edit) }
         requires rows { rows.items ≡ [] }
@@ -166,8 +160,7 @@ impl Store {
         ensures limits { self.new.limits ≡ self.old.limits }
     {
         let _limits = self.limits;
-        let is_there =
-            self.has_stanza(list.as_slice(), stanza.package(), stanza.version());
+        let is_there = self.has_stanza(list.as_slice(), stanza.package(), stanza.version());
         let more = one_unless(is_there);
         self.lists.put_in(list.as_slice(), stanza);
         self.stanzas += more;

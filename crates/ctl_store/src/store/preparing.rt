@@ -24,11 +24,7 @@ use indexmap::IndexMap;
 use std::alloc::{AllocError, Global};
 
 // The keys of the stanzas of a new list.
-fn new_keys(
-    alloc: Global,
-    list: u32,
-    stanzas: &[Box<Stanza>],
-) -> Result<Vec<StanzaKey>, AllocError>
+fn new_keys(alloc: Global, list: u32, stanzas: &[Box<Stanza>]) -> Result<Vec<StanzaKey>, AllocError>
     ensures { IfOk result (λ v. v.items ≡ map (λ row. key_of list row.0) (rows_from 0 (map (λ stanza. stanza.value) stanzas.now))) }
 {
     let mut keys = Vec::with_capacity(alloc, stanzas.len())?;

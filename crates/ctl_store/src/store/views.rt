@@ -121,10 +121,7 @@ impl<'a> Iterator for Pins<'a> {
 }
 
 // The name and the stanzas of the list of a serial.
-fn entry_of<'a>(
-    entries: Slice<'a, Vec<u8>, Shelf>,
-    serial: u32,
-) -> Option<(&'a Vec<u8>, &'a Shelf)>
+fn entry_of<'a>(entries: Slice<'a, Vec<u8>, Shelf>, serial: u32) -> Option<(&'a Vec<u8>, &'a Shelf)>
     ensures { option_map (λ e. (e.0.now.items, e.1.now)) result ≡ entry_of serial (map by_bytes entries.entry) }
 {
     let mut left = entries;
