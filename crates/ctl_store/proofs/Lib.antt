@@ -6,3 +6,9 @@ pub mod ListedLemmas
 pub mod AcceptLemmas
 pub mod StepLemmas
 pub mod SoundLemmas
+pub mod PastLemmas
+pub mod FoundLemmas
+pub mod PinLemmas
+pub mod KeyLemmas
+pub mod LookLemmas
+pub mod StarLemmas

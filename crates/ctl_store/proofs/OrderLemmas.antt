@@ -1,10 +1,10 @@
 -- What the order of the rows of a list says of the rows, and how it changes with them.
-use Rattle.std.proofs.Common.{◌≡◌, ℕ, zero, suc, ◌+◌, ◌<◌, ◌≤◌, Bool, true, false, cond, ◌&&◌, nat_eq, List, [], ◌∷◌, ◌++◌, length, map, get_or, Option, None, Some, option_map, refl, ap, sym, subst, ◌∙◌, arith}
+use Rattle.std.proofs.Common.{◌≡◌, ℕ, zero, suc, ◌+◌, ◌<◌, ◌≤◌, Bool, true, false, cond, not, ◌&&◌, nat_eq, List, [], ◌∷◌, ◌++◌, length, map, get_or, Option, None, Some, option_map, refl, ap, sym, subst, ◌∙◌, arith}
 use Rattle.std.specs.List.{AllByRecursion, find, slice_get, insert, remove}
 use Rattle.std.specs.List.Sorted.{IsPartitionedBy, IsPartitionPoint}
 use Rattle.std.specs.Map.{lookup}
 use Rattle.std.specs.Option.{option_map_or}
-use Rattle.std.specs.Ordering.{nat_cmp, ordering_then, is_lt, is_eq}
+use Rattle.std.specs.Ordering.{nat_cmp, ordering_then, is_lt, is_gt, is_eq}
 use Rattle.std.specs.Cmp.Lexicographic.{slice_cmp}
 use Rattle.std.specs.declared.cmp.Ordering.{Ordering}
 use Rattle.std.specs.declared.cmp.Ordering.TheVariants.{Less, Equal, Greater}
@@ -16,9 +16,9 @@ use Rattle.ctl_relation.specs.Version.{triple_of, version_cmp}
 use Rattle.ctl_relation.specs.VersionLaws.{equal_versions}
 use Rattle.ctl_stanza.specs.Content.{Content, package_of, version_of}
 use Rattle.ctl_store.specs.Step.{place, is_same, is_same_version}
-use Rattle.ctl_store.specs.Rows.{Id, id, id_of, version_id, version_order, id_cmp, ids_of, sorted_ids, sorted_serials, lower, has_serial, Rises, IsKept, order_at, by_name_and_version, replace_at}
+use Rattle.ctl_store.specs.Rows.{Id, id, id_of, version_id, version_order, id_cmp, ids_of, sorted_ids, sorted_serials, lower, upper, has_serial, Rises, IsKept, order_at, by_name_and_version, replace_at}
 use Rattle.ctl_store.proofs.PlaceLemmas.{if_cases, some_is, eq_is, gt_ne, lt_ne, and_left, place_within, place_passes, Rises-push, Rises-replace, Rises-remove, Rises-from}
-use Rattle.ctl_store.proofs.SortedLemmas.{all_map, all_sorted, all_get, found, if_at, sorted-append, sorted-remove, place-find, place-find_none, find-place_none, before_lower, from_lower, lower_within}
+use Rattle.ctl_store.proofs.SortedLemmas.{all_map, all_sorted, all_get, found, if_at, sorted-append, sorted-remove, place-find, place-find_none, find-place_none, before_lower, from_lower, lower_within, sorted-last, before_upper, from_upper, upper_within}
 
 -- ---- a name and a version, and the test of a stanza for them
 
@@ -112,9 +112,10 @@ module _ {P Q R : ℕ × Id → Type 0} where
 
 all_lookup : (n : ℕ) (xs : List (ℕ × Id)) (m : ℕ) → Rises n xs m → AllByRecursion (λ (x : ℕ × Id). lookup (λ k. nat_eq k x.0) xs ≡ Some x.1) xs
 all_lookup n [] m h = tt
-all_lookup n (x ∷ xs) m h =
-    (ap (λ b. cond b (Some x.1) (lookup (λ k. nat_eq k x.0) xs)) (eq_is x.0 x.0 refl),
-    all_both (λ y k e. ap (λ b. cond b (Some x.1) (lookup (λ k. nat_eq k y.0) xs)) (lt_ne x.0 y.0 (omega (arith, k))) ∙ e) xs (all_from (suc x.0) xs m h.1) (all_lookup (suc x.0) xs m h.1))
+all_lookup n (x ∷ xs) m h = (
+  ap (λ b. cond b (Some x.1) (lookup (λ k. nat_eq k x.0) xs)) (eq_is x.0 x.0 refl),
+  all_both (λ y k e. ap (λ b. cond b (Some x.1) (lookup (λ k. nat_eq k y.0) xs)) (lt_ne x.0 y.0 (omega (arith, k))) ∙ e) xs (all_from (suc x.0) xs m h.1) (all_lookup (suc x.0) xs m h.1),
+)
 
 order_at-found : (rows : List (ℕ × Content)) (q : Id) (y : ℕ × Id) → lookup (λ k. nat_eq k y.0) (ids_of rows) ≡ Some y.1 → order_at rows q y.0 ≡ id_cmp y.1 q
 order_at-found rows q y e = by (lookup (λ k. nat_eq k y.0) rows) (sym (lookup-ids y.0 rows) ∙ e)
@@ -305,3 +306,57 @@ lower_below rows next order kept name version i e = by (lower_length rows next o
 
     by : at ≤ length order → (length order ≤ at → ⊥) → at < length order
     by l f = omega (arith, f)
+
+-- ---- the place behind equal ones
+
+module _ (rows : List (ℕ × Content)) (next : ℕ) (order : List ℕ) (kept : IsKept rows next order) (q : Id) where
+  abbrev ids_up : List (ℕ × Id)
+  ids_up = sorted_ids (ids_of rows)
+
+  below_up : (k : ℕ) (d : ℕ) → k < length order → k < upper q ids_up → not (is_gt (order_at rows q (get_or order k d))) ≡ true
+  below_up k d w l =
+      let y = some_below ids_up k (omega (arith, ap length kept.ordered, length-serials ids_up)) in
+      ap (λ (s : List ℕ). not (is_gt (order_at rows q (get_or s k d)))) kept.ordered
+      ∙ ap (λ s. not (is_gt (order_at rows q s))) (get_serial ids_up k d y.0 y.1)
+      ∙ ap (λ o. not (is_gt o)) (order_at-sorted rows next kept.rises q k y.0 y.1)
+      ∙ ap not (before_upper q ids_up k y.0 l y.1)
+
+  above_up : (k : ℕ) (d : ℕ) → k < length order → upper q ids_up ≤ k → not (is_gt (order_at rows q (get_or order k d))) ≡ false
+  above_up k d w l =
+      let y = some_below ids_up k (omega (arith, ap length kept.ordered, length-serials ids_up)) in
+      ap (λ (s : List ℕ). not (is_gt (order_at rows q (get_or s k d)))) kept.ordered
+      ∙ ap (λ s. not (is_gt (order_at rows q s))) (get_serial ids_up k d y.0 y.1)
+      ∙ ap (λ o. not (is_gt o)) (order_at-sorted rows next kept.rises q k y.0 y.1)
+      ∙ ap not (from_upper q (ids_of rows) k y.0 l y.1)
+
+  -- the greater ones stand last
+  pub parted_up : IsPartitionedBy (λ s. not (is_gt (order_at rows q s))) order
+  parted_up i j d le l e = below_up i d (omega arith) (omega (arith, not_above))
+    where
+      not_above : upper q ids_up ≤ j → ⊥
+      not_above k = let z = above_up j d l k in cc
+
+  pub upper_length : upper q ids_up ≤ length order
+  upper_length = omega (arith, upper_within q ids_up, ap length kept.ordered, length-serials ids_up)
+
+  pub upper_is : (r : ℕ) → r ≤ length order → IsPartitionPoint (λ s. not (is_gt (order_at rows q s)) ≡ true) (λ s. not (is_gt (order_at rows q s)) ≡ false) order r → r ≡ upper q ids_up
+  upper_is r w h = omega (arith, not_below, not_above)
+    where
+      not_below : r < upper q ids_up → ⊥
+      not_below l = let y = below_up r 0 (omega (arith, upper_length)) l in let z = h.1 r 0 (omega arith) (omega (arith, upper_length)) in cc
+
+      not_above : upper q ids_up < r → ⊥
+      not_above l = let y = above_up (upper q ids_up) 0 (omega arith) (omega arith) in let z = h.0 (upper q ids_up) 0 (omega arith) (omega arith) in cc
+
+pub kept_last : (rows : List (ℕ × Content)) (next : ℕ) (order : List ℕ) → IsKept rows next order → (x : Content) → IsKept (rows ++ (next, x) ∷ []) (next + 1) (insert order (upper (id_of x) (sorted_ids (ids_of rows))) next)
+kept_last rows next order kept x = record {
+  rises = Rises-push 0 rows next x kept.rises;
+  ordered =
+      ap (λ (s : List ℕ). insert s k next) kept.ordered
+      ∙ sym (serials-insert (sorted_ids (ids_of rows)) k (next, id_of x))
+      ∙ ap (map (λ (y : ℕ × Id). y.0)) (sym (sorted-last (ids_of rows) (next, id_of x)))
+      ∙ ap (λ xs. map (λ (y : ℕ × Id). y.0) (sorted_ids xs)) (sym (ids-push rows next x));
+}
+  where
+    k : ℕ
+    k = upper (id_of x) (sorted_ids (ids_of rows))

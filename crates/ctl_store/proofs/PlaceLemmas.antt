@@ -147,7 +147,6 @@ module _ {V : Type 0} where
   Rises-replace n (y ∷ rs) m zero x h = h
   Rises-replace n (y ∷ rs) m (suc i) x h = (h.0, Rises-replace (suc y.0) rs m i x h.1)
 
-
 module _ {V : Type 0} where
   -- the value at the place of a serial
   pub lookup-place : (s : ℕ) (rs : List (ℕ × V)) (i : ℕ) (d : ℕ × V) → place (has_serial s) rs ≡ Some i → lookup (λ k. nat_eq k s) rs ≡ Some (get_or rs i d).1

@@ -10,7 +10,7 @@ use Rattle.std.specs.Cmp.Lexicographic.{options_total, nat_list_cmp_total}
 use Rattle.std.proofs.lemmas.Cmp.{upto, on_total, then_total}
 use Rattle.ctl_relation.specs.VersionLaws.{triple_total}
 use Rattle.ctl_store.specs.Step.{place}
-use Rattle.ctl_store.specs.Rows.{Id, id_cmp, insert_id, sorted_ids, lower, has_serial, Rises}
+use Rattle.ctl_store.specs.Rows.{Id, id_cmp, insert_id, sorted_ids, lower, upper, has_serial, Rises}
 use Rattle.ctl_store.proofs.PlaceLemmas.{if_cases, some_is, eq_is, gt_ne, lt_ne}
 
 id_total : IsTotalOrder id_cmp
@@ -187,52 +187,52 @@ found q xs = sym (find-sorted q xs) ∙ found_at_lower q (sorted_ids xs) (in_ord
 
 -- ---- a last row
 
-abbrev upper : ℕ × Id → List (ℕ × Id) → List (ℕ × Id)
-upper r [] = r ∷ []
-upper r (y ∷ ys) = cond (g y.1 r.1) (r ∷ y ∷ ys) (y ∷ upper r ys)
+abbrev put_upper : ℕ × Id → List (ℕ × Id) → List (ℕ × Id)
+put_upper r [] = r ∷ []
+put_upper r (y ∷ ys) = cond (g y.1 r.1) (r ∷ y ∷ ys) (y ∷ put_upper r ys)
 
-insert-upper : (x r : ℕ × Id) (ys : List (ℕ × Id)) → insert_id x (upper r ys) ≡ upper r (insert_id x ys)
-insert-upper x r [] = refl
-insert-upper x r (y ∷ ys) = by (g x.1 y.1) refl (g y.1 r.1) refl (insert-upper x r ys)
+insert-put_upper : (x r : ℕ × Id) (ys : List (ℕ × Id)) → insert_id x (put_upper r ys) ≡ put_upper r (insert_id x ys)
+insert-put_upper x r [] = refl
+insert-put_upper x r (y ∷ ys) = by (g x.1 y.1) refl (g y.1 r.1) refl (insert-put_upper x r ys)
   where
-    by : (b : Bool) → g x.1 y.1 ≡ b → (c : Bool) → g y.1 r.1 ≡ c → insert_id x (upper r ys) ≡ upper r (insert_id x ys)
-        → insert_id x (cond c (r ∷ y ∷ ys) (y ∷ upper r ys)) ≡ upper r (cond b (y ∷ insert_id x ys) (x ∷ y ∷ ys))
+    by : (b : Bool) → g x.1 y.1 ≡ b → (c : Bool) → g y.1 r.1 ≡ c → insert_id x (put_upper r ys) ≡ put_upper r (insert_id x ys)
+        → insert_id x (cond c (r ∷ y ∷ ys) (y ∷ put_upper r ys)) ≡ put_upper r (cond b (y ∷ insert_id x ys) (x ∷ y ∷ ys))
     by true p true q rest =
         ap (λ t. cond t (r ∷ insert_id x (y ∷ ys)) (x ∷ r ∷ y ∷ ys)) (gt_to x.1 y.1 r.1 p q)
         ∙ ap (λ t. r ∷ cond t (y ∷ insert_id x ys) (x ∷ y ∷ ys)) p
-        ∙ sym (ap (λ t. cond t (r ∷ y ∷ insert_id x ys) (y ∷ upper r (insert_id x ys))) q)
+        ∙ sym (ap (λ t. cond t (r ∷ y ∷ insert_id x ys) (y ∷ put_upper r (insert_id x ys))) q)
     by true p false q rest =
-        ap (λ t. cond t (y ∷ insert_id x (upper r ys)) (x ∷ y ∷ upper r ys)) p
+        ap (λ t. cond t (y ∷ insert_id x (put_upper r ys)) (x ∷ y ∷ put_upper r ys)) p
         ∙ ap (λ l. y ∷ l) rest
-        ∙ sym (ap (λ t. cond t (r ∷ y ∷ insert_id x ys) (y ∷ upper r (insert_id x ys))) q)
+        ∙ sym (ap (λ t. cond t (r ∷ y ∷ insert_id x ys) (y ∷ put_upper r (insert_id x ys))) q)
     by false p true q rest =
         ap (λ t. cond (g x.1 r.1) (r ∷ cond t (y ∷ insert_id x ys) (x ∷ y ∷ ys)) (x ∷ r ∷ y ∷ ys)) p
-        ∙ sym (ap (λ t. cond (g x.1 r.1) (r ∷ x ∷ y ∷ ys) (x ∷ cond t (r ∷ y ∷ ys) (y ∷ upper r ys))) q)
+        ∙ sym (ap (λ t. cond (g x.1 r.1) (r ∷ x ∷ y ∷ ys) (x ∷ cond t (r ∷ y ∷ ys) (y ∷ put_upper r ys))) q)
     by false p false q rest =
-        ap (λ t. cond t (y ∷ insert_id x (upper r ys)) (x ∷ y ∷ upper r ys)) p
-        ∙ sym (ap (λ t. cond t (r ∷ x ∷ y ∷ ys) (x ∷ upper r (y ∷ ys))) (up x.1 y.1 r.1 p q)
-        ∙ ap (λ t. x ∷ cond t (r ∷ y ∷ ys) (y ∷ upper r ys)) q)
+        ap (λ t. cond t (y ∷ insert_id x (put_upper r ys)) (x ∷ y ∷ put_upper r ys)) p
+        ∙ sym (ap (λ t. cond t (r ∷ x ∷ y ∷ ys) (x ∷ put_upper r (y ∷ ys))) (up x.1 y.1 r.1 p q)
+        ∙ ap (λ t. x ∷ cond t (r ∷ y ∷ ys) (y ∷ put_upper r ys)) q)
 
-sorted-push : (xs : List (ℕ × Id)) (r : ℕ × Id) → sorted_ids (xs ++ r ∷ []) ≡ upper r (sorted_ids xs)
+sorted-push : (xs : List (ℕ × Id)) (r : ℕ × Id) → sorted_ids (xs ++ r ∷ []) ≡ put_upper r (sorted_ids xs)
 sorted-push [] r = refl
-sorted-push (x ∷ xs) r = ap (insert_id x) (sorted-push xs r) ∙ insert-upper x r (sorted_ids xs)
+sorted-push (x ∷ xs) r = ap (insert_id x) (sorted-push xs r) ∙ insert-put_upper x r (sorted_ids xs)
 
-upper-insert : (r : ℕ × Id) (ys : List (ℕ × Id)) → find (is_at r.1) ys ≡ None → upper r ys ≡ insert ys (lower r.1 ys) r
-upper-insert r [] e = refl
-upper-insert r (y ∷ ys) e = by (is_at r.1 y) refl e (upper-insert r ys)
+put_upper-insert : (r : ℕ × Id) (ys : List (ℕ × Id)) → find (is_at r.1) ys ≡ None → put_upper r ys ≡ insert ys (lower r.1 ys) r
+put_upper-insert r [] e = refl
+put_upper-insert r (y ∷ ys) e = by (is_at r.1 y) refl e (put_upper-insert r ys)
   where
-    rest : (t : Bool) → is_lt (id_cmp y.1 r.1) ≡ t → is_at r.1 y ≡ false → upper r ys ≡ insert ys (lower r.1 ys) r → cond (g y.1 r.1) (r ∷ y ∷ ys) (y ∷ upper r ys) ≡ insert (y ∷ ys) (cond t (suc (lower r.1 ys)) 0) r
-    rest true k differs rec = ap (λ t. cond t (r ∷ y ∷ ys) (y ∷ upper r ys)) (asym r.1 y.1 (sym (lt_back y.1 r.1) ∙ k)) ∙ ap (λ l. y ∷ l) rec
-    rest false k differs rec = ap (λ t. cond t (r ∷ y ∷ ys) (y ∷ upper r ys)) (eq_else y.1 r.1 (sym (lt_back y.1 r.1) ∙ k) differs)
+    rest : (t : Bool) → is_lt (id_cmp y.1 r.1) ≡ t → is_at r.1 y ≡ false → put_upper r ys ≡ insert ys (lower r.1 ys) r → cond (g y.1 r.1) (r ∷ y ∷ ys) (y ∷ put_upper r ys) ≡ insert (y ∷ ys) (cond t (suc (lower r.1 ys)) 0) r
+    rest true k differs rec = ap (λ t. cond t (r ∷ y ∷ ys) (y ∷ put_upper r ys)) (asym r.1 y.1 (sym (lt_back y.1 r.1) ∙ k)) ∙ ap (λ l. y ∷ l) rec
+    rest false k differs rec = ap (λ t. cond t (r ∷ y ∷ ys) (y ∷ put_upper r ys)) (eq_else y.1 r.1 (sym (lt_back y.1 r.1) ∙ k) differs)
 
-    by : (b : Bool) → is_at r.1 y ≡ b → cond b (Some y) (find (is_at r.1) ys) ≡ None → (find (is_at r.1) ys ≡ None → upper r ys ≡ insert ys (lower r.1 ys) r)
-        → upper r (y ∷ ys) ≡ insert (y ∷ ys) (lower r.1 (y ∷ ys)) r
+    by : (b : Bool) → is_at r.1 y ≡ b → cond b (Some y) (find (is_at r.1) ys) ≡ None → (find (is_at r.1) ys ≡ None → put_upper r ys ≡ insert ys (lower r.1 ys) r)
+        → put_upper r (y ∷ ys) ≡ insert (y ∷ ys) (lower r.1 (y ∷ ys)) r
     by true k e rec = cc
     by false k e rec = rest (is_lt (id_cmp y.1 r.1)) refl k (rec e)
 
 -- where none has its name and version, a last row goes where halving leads
 pub sorted-append : (xs : List (ℕ × Id)) (r : ℕ × Id) → find (is_at r.1) xs ≡ None → sorted_ids (xs ++ r ∷ []) ≡ insert (sorted_ids xs) (lower r.1 (sorted_ids xs)) r
-sorted-append xs r e = sorted-push xs r ∙ upper-insert r (sorted_ids xs) (find-sorted r.1 xs ∙ e)
+sorted-append xs r e = sorted-push xs r ∙ put_upper-insert r (sorted_ids xs) (find-sorted r.1 xs ∙ e)
 
 -- ---- a row that goes
 
@@ -412,5 +412,63 @@ lower_within q [] = omega arith
 lower_within q (y ∷ ys) = by (is_lt (id_cmp y.1 q)) (lower_within q ys)
   where
     by : (b : Bool) → lower q ys ≤ length ys → cond b (suc (lower q ys)) 0 ≤ suc (length ys)
+    by true h = omega arith
+    by false h = omega arith
+
+-- ---- the place behind equal ones
+
+put_upper-at : (r : ℕ × Id) (ys : List (ℕ × Id)) → put_upper r ys ≡ insert ys (upper r.1 ys) r
+put_upper-at r [] = refl
+put_upper-at r (y ∷ ys) = by (g y.1 r.1) (put_upper-at r ys)
+  where
+    by : (b : Bool) → put_upper r ys ≡ insert ys (upper r.1 ys) r → cond b (r ∷ y ∷ ys) (y ∷ put_upper r ys) ≡ insert (y ∷ ys) (cond b 0 (suc (upper r.1 ys))) r
+    by true e = refl
+    by false e = ap (λ l. y ∷ l) e
+
+-- a last row goes behind those of its name and version
+pub sorted-last : (xs : List (ℕ × Id)) (r : ℕ × Id) → sorted_ids (xs ++ r ∷ []) ≡ insert (sorted_ids xs) (upper r.1 (sorted_ids xs)) r
+sorted-last xs r = sorted-push xs r ∙ put_upper-at r (sorted_ids xs)
+
+pub before_upper : (q : Id) (ys : List (ℕ × Id)) (k : ℕ) (y : ℕ × Id) → k < upper q ys → slice_get ys k ≡ Some y → is_gt (id_cmp y.1 q) ≡ false
+before_upper q [] k y l e = absurd (omega arith)
+before_upper q (x ∷ ys) zero y l e = by (is_gt (id_cmp x.1 q)) refl l
+  where
+    by : (b : Bool) → is_gt (id_cmp x.1 q) ≡ b → 0 < cond b 0 (suc (upper q ys)) → is_gt (id_cmp y.1 q) ≡ false
+    by true w l = absurd (omega arith)
+    by false w l = ap (λ (t : ℕ × Id). is_gt (id_cmp t.1 q)) (sym (some_is e)) ∙ w
+before_upper q (x ∷ ys) (suc k) y l e = by (is_gt (id_cmp x.1 q)) l (λ w. before_upper q ys k y w e)
+  where
+    by : (b : Bool) → suc k < cond b 0 (suc (upper q ys)) → (k < upper q ys → is_gt (id_cmp y.1 q) ≡ false) → is_gt (id_cmp y.1 q) ≡ false
+    by true l rec = absurd (omega arith)
+    by false l rec = rec (omega arith)
+
+above_next : (q : Id) (x : ℕ × Id) (ys : List (ℕ × Id)) (k : ℕ) (y : ℕ × Id) → is_gt (id_cmp x.1 q) ≡ true → AllByRecursion (λ z. g x.1 z.1 ≡ false) ys → slice_get ys k ≡ Some y → is_gt (id_cmp y.1 q) ≡ true
+above_next q x ys k y w h e = by (g y.1 q) refl
+  where
+    by : (t : Bool) → g y.1 q ≡ t → g y.1 q ≡ true
+    by true m = m
+    by false m = let z : g x.1 q ≡ false = up x.1 y.1 q (all_get (λ z. g x.1 z.1 ≡ false) ys k y h e) m in cc
+
+from_upper_in : (q : Id) (ys : List (ℕ × Id)) (k : ℕ) (y : ℕ × Id) → IsInOrder ys → upper q ys ≤ k → slice_get ys k ≡ Some y → is_gt (id_cmp y.1 q) ≡ true
+from_upper_in q [] k y h l e = cc
+from_upper_in q (x ∷ ys) zero y h l e = by (is_gt (id_cmp x.1 q)) refl l
+  where
+    by : (b : Bool) → is_gt (id_cmp x.1 q) ≡ b → cond b 0 (suc (upper q ys)) ≤ 0 → is_gt (id_cmp y.1 q) ≡ true
+    by true w l = ap (λ (t : ℕ × Id). is_gt (id_cmp t.1 q)) (sym (some_is e)) ∙ w
+    by false w l = absurd (omega arith)
+from_upper_in q (x ∷ ys) (suc k) y h l e = by (is_gt (id_cmp x.1 q)) refl l (λ w. from_upper_in q ys k y h.1 w e)
+  where
+    by : (b : Bool) → is_gt (id_cmp x.1 q) ≡ b → cond b 0 (suc (upper q ys)) ≤ suc k → (upper q ys ≤ k → is_gt (id_cmp y.1 q) ≡ true) → is_gt (id_cmp y.1 q) ≡ true
+    by true w l rec = above_next q x ys k y w h.0 e
+    by false w l rec = rec (omega arith)
+
+pub from_upper : (q : Id) (xs : List (ℕ × Id)) (k : ℕ) (y : ℕ × Id) → upper q (sorted_ids xs) ≤ k → slice_get (sorted_ids xs) k ≡ Some y → is_gt (id_cmp y.1 q) ≡ true
+from_upper q xs k y l e = from_upper_in q (sorted_ids xs) k y (in_order xs) l e
+
+pub upper_within : (q : Id) (ys : List (ℕ × Id)) → upper q ys ≤ length ys
+upper_within q [] = omega arith
+upper_within q (y ∷ ys) = by (is_gt (id_cmp y.1 q)) (upper_within q ys)
+  where
+    by : (b : Bool) → upper q ys ≤ length ys → cond b 0 (suc (upper q ys)) ≤ suc (length ys)
     by true h = omega arith
     by false h = omega arith

@@ -26,15 +26,19 @@ module _ (lists : List (List ℕ × Sheet)) (next stanzas edits : ℕ) (limits :
     few = omega (arith, sound.few);
     counted = sound.counted;
     within = sound.within;
+    stanzas_bounded = sound.stanzas_bounded;
+    edits_bounded = sound.edits_bounded;
   }
 
   pub sound_add : (new : List (List ℕ × Sheet)) (name : List ℕ) (kind : ListKind) (class : ListClass) (xs : List Content) → lists_of new ≡ lists_of lists ++ (name, list_of_stanzas next kind class xs) ∷ []
       → stanzas + length xs ≤ limits.stanzas → IsSound new (next + 1) (stanzas + length xs) (edits + 1) limits
   sound_add new name kind class xs e within = record {
-    order = subst (λ ls. InOrder 0 ls (next + 1) (limits.stanzas + (edits + 1))) (sym e) (one_more (lists_of lists ++ (name, list_of_stanzas next kind class xs) ∷ []) (next + 1) (in_order_push 0 (lists_of lists) next (limits.stanzas + edits) name (list_of_stanzas next kind class xs) refl (omega arith) (Rises-rows_from 0 xs) sound.order));
+    order = subst (λ ls. InOrder 0 ls (next + 1) (limits.stanzas + (edits + 1))) (sym e) (one_more (lists_of lists ++ (name, list_of_stanzas next kind class xs) ∷ []) (next + 1) (in_order_push 0 (lists_of lists) next (limits.stanzas + edits) name (list_of_stanzas next kind class xs) refl (omega arith) (subst (λ m. Rises 0 (rows_from 0 xs) m) (let z : 0 + length xs ≡ length xs = omega arith in z) (Rises-rows_from 0 xs)) sound.order));
     few = omega (arith, sound.few);
     counted = sym (ap (λ ls. stanza_count (stanza_lists ls)) e ∙ ap stanza_count (new_lists (lists_of lists) name next kind class xs) ∙ count-push (stanza_lists (lists_of lists)) name (record { kind = kind; class = class; stanzas = xs }) ∙ ap (λ n. n + length xs) (sym sound.counted));
     within = within;
+    stanzas_bounded = sound.stanzas_bounded;
+    edits_bounded = sound.edits_bounded;
   }
 
   pub sound_drop : (new : List (List ℕ × Sheet)) (name : List ℕ) (l : StanzaList) → lists_of new ≡ without_name name (lists_of lists) → at_name name (stanza_lists (lists_of lists)) ≡ Some l → IsSound new next (stanzas - length l.stanzas) (edits + 1) limits
@@ -43,6 +47,8 @@ module _ (lists : List (List ℕ × Sheet)) (next stanzas edits : ℕ) (limits :
     few = omega (arith, sound.few);
     counted = omega (arith, sound.counted, count-without name (stanza_lists (lists_of lists)) l at, ap (λ ls. stanza_count (stanza_lists ls)) e, ap stanza_count (without_lists name (lists_of lists)));
     within = omega (arith, sound.within);
+    stanzas_bounded = sound.stanzas_bounded;
+    edits_bounded = sound.edits_bounded;
   }
 
   pub sound_change : (new : List (List ℕ × Sheet)) (name : List ℕ) (l : StanzaList) (f : KeyedList → KeyedList) (h : StanzaList → StanzaList) (after : ℕ) → Changes f → ((k : KeyedList) → stanza_list (f k) ≡ h (stanza_list k))
@@ -52,4 +58,6 @@ module _ (lists : List (List ℕ × Sheet)) (next stanzas edits : ℕ) (limits :
     few = omega (arith, sound.few);
     counted = omega (arith, sound.counted, count, count-change name h (stanza_lists (lists_of lists)) l at, ap (λ ls. stanza_count (stanza_lists ls)) e, ap stanza_count (change_lists name f h same (lists_of lists)));
     within = within;
+    stanzas_bounded = sound.stanzas_bounded;
+    edits_bounded = sound.edits_bounded;
   }

@@ -1,5 +1,5 @@
 -- A store with its rooms: how much more it takes without memory.
-use Rattle.std.specs.Prelude.{◌≡◌, ℕ, ℤ, ◌+◌, ◌<◌, ◌≤◌, suc, List, [], ◌∷◌, map, length, Option, None, Some, IfSome}
+use Rattle.std.specs.Prelude.{◌≡◌, ℕ, ℤ, ◌+◌, ◌<◌, ◌≤◌, suc, List, [], ◌∷◌, map, length, Option, None, Some, IfSome, nat_eq, if◌then◌else◌}
 use Rattle.std.specs.Ordering.{nat_cmp}
 use Rattle.std.specs.Cmp.Lexicographic.{slice_cmp}
 use Rattle.std.specs.List.{IsDistinct}
@@ -11,12 +11,13 @@ use Rattle.ctl_store.specs.declared.limits.Limits.{Limits}
 use Rattle.ctl_store.specs.declared.list_class.ListClass.{ListClass}
 use Rattle.ctl_store.specs.declared.selector.Selector.{Selector}
 use Rattle.ctl_store.specs.declared.stanza_key.StanzaKey.{StanzaKey}
+use Rattle.ctl_store.specs.Limits.{most}
 use Rattle.ctl_store.specs.Named.{at_name}
 use Rattle.ctl_store.specs.Pins.{selector_eq}
 use Rattle.ctl_store.specs.State.{State, stanza_count}
 use Rattle.ctl_store.specs.Edits.{Edit, AddList, DropList, Put, Remove, Mark, Unmark, Pin, Unpin, Target, Prefs}
 use Rattle.ctl_store.specs.Step.{refusal_of}
-use Rattle.ctl_store.specs.Rows.{Rises, rows_from, sorted_serials}
+use Rattle.ctl_store.specs.Rows.{Rises}
 use Rattle.ctl_store.specs.Keys.{KeyedList, Keyed, stanza_lists, removed_of, added_of}
 
 -- a list with the room for more of its rows, and in its order
@@ -57,6 +58,11 @@ keyed_of h = record { lists = lists_of h.lists; next_list = h.next_list }
 abbrev pub state_of : Held → State
 state_of h = record { lists = stanza_lists (lists_of h.lists); marks = fin.from_entries h.marks; pins = h.pins; target = h.target; edits = h.edits }
 
+-- the list of a serial, with its name
+abbrev pub entry_of : ℕ → List (List ℕ × Sheet) → Option (List ℕ × Sheet)
+entry_of serial [] = None
+entry_of serial (e ∷ es) = if nat_eq e.1.serial serial then Some e else entry_of serial es
+
 -- ---- what every store keeps
 
 -- The serials of the lists rise from n on and stay below m, those of the stanzas rise within each list, and no list
@@ -70,6 +76,8 @@ pub record IsSound (lists : List (List ℕ × Sheet)) (next_list stanzas edits :
   pub few : next_list ≤ edits
   pub counted : stanzas ≡ stanza_count (stanza_lists (lists_of lists))
   pub within : stanzas ≤ limits.stanzas
+  pub stanzas_bounded : limits.stanzas ≤ most
+  pub edits_bounded : limits.edits ≤ most
 
 -- ---- plans
 
@@ -79,8 +87,17 @@ pub record Planned : Type 0 where
   pub removed : List StanzaKey
   pub added : List StanzaKey
   pub rows_room : ℕ
-  pub order : List ℕ
+  pub order_room : ℕ
   pub pins_room : ℕ
+
+-- what is made ready for an edit, beside the room in the store
+pub record Ready : Type 0 where
+  pub rows_room : ℕ
+  pub order_room : ℕ
+  pub pins_room : ℕ
+
+abbrev pub ready_of : Planned → Ready
+ready_of plan = record { rows_room = plan.rows_room; order_room = plan.order_room; pins_room = plan.pins_room }
 
 -- there is room for one stanza more in a list
 pub record HasRoomInList (s : Sheet) : Type 0 where
@@ -88,32 +105,62 @@ pub record HasRoomInList (s : Sheet) : Type 0 where
   pub order : 0 < s.order_room
 
 -- what is made ready for a new list
-pub record HasRoomForList (h : Held) (stanzas : List Content) (plan : Planned) : Type 0 where
+pub record HasRoomForList (h : Held) (stanzas : List Content) (ready : Ready) : Type 0 where
   pub list : 0 < h.lists_room
-  pub rows : length stanzas ≤ plan.rows_room
-  pub order : plan.order ≡ sorted_serials (rows_from 0 stanzas)
+  pub rows : length stanzas ≤ ready.rows_room
+  pub order : length stanzas ≤ ready.order_room
 
 -- no selector stands twice
 abbrev pub AreDistinct : List (Selector × ℤ) → Type 0
 AreDistinct pins = IsDistinct selector_eq (names_of pins)
 
 -- what is made ready for pin settings
-pub record HasRoomForPins (pins : List (Selector × ℤ)) (plan : Planned) : Type 0 where
-  pub room : length pins ≤ plan.pins_room
+pub record HasRoomForPins (pins : List (Selector × ℤ)) (ready : Ready) : Type 0 where
+  pub room : length pins ≤ ready.pins_room
   pub distinct : AreDistinct pins
 
 -- there is room for the edit
-abbrev pub HasRoom : Held → Planned → Edit → Type 0
-HasRoom h plan (AddList name kind class stanzas) = HasRoomForList h stanzas plan
-HasRoom h plan (DropList name) = Unit {0}
-HasRoom h plan (Put list x) = IfSome (at_name list h.lists) HasRoomInList
-HasRoom h plan (Remove list name version) = Unit {0}
-HasRoom h plan (Mark name version) = 0 < h.marks_room
-HasRoom h plan (Unmark name) = Unit {0}
-HasRoom h plan (Pin selector priority) = 0 < h.pins_room
-HasRoom h plan (Unpin selector) = Unit {0}
-HasRoom h plan (Target name) = Unit {0}
-HasRoom h plan (Prefs pins) = HasRoomForPins pins plan
+abbrev pub HasRoom : Held → Ready → Edit → Type 0
+HasRoom h ready (AddList name kind class stanzas) = HasRoomForList h stanzas ready
+HasRoom h ready (DropList name) = Unit {0}
+HasRoom h ready (Put list x) = IfSome (at_name list h.lists) HasRoomInList
+HasRoom h ready (Remove list name version) = Unit {0}
+HasRoom h ready (Mark name version) = 0 < h.marks_room
+HasRoom h ready (Unmark name) = Unit {0}
+HasRoom h ready (Pin selector priority) = 0 < h.pins_room
+HasRoom h ready (Unpin selector) = Unit {0}
+HasRoom h ready (Target name) = Unit {0}
+HasRoom h ready (Prefs pins) = HasRoomForPins pins ready
+
+-- there is room for the edit in the store
+abbrev pub HasRoomIn : Held → Edit → Type 0
+HasRoomIn h (AddList name kind class stanzas) = 0 < h.lists_room
+HasRoomIn h (DropList name) = Unit {0}
+HasRoomIn h (Put list x) = IfSome (at_name list h.lists) HasRoomInList
+HasRoomIn h (Remove list name version) = Unit {0}
+HasRoomIn h (Mark name version) = 0 < h.marks_room
+HasRoomIn h (Unmark name) = Unit {0}
+HasRoomIn h (Pin selector priority) = 0 < h.pins_room
+HasRoomIn h (Unpin selector) = Unit {0}
+HasRoomIn h (Target name) = Unit {0}
+HasRoomIn h (Prefs pins) = Unit {0}
+
+-- what is made ready for a new list, and for pin settings
+pub record IsReadyForList (stanzas : List Content) (ready : Ready) : Type 0 where
+  pub rows : length stanzas ≤ ready.rows_room
+  pub order : length stanzas ≤ ready.order_room
+
+abbrev pub IsReadyFor : Edit → Ready → Type 0
+IsReadyFor (AddList name kind class stanzas) ready = IsReadyForList stanzas ready
+IsReadyFor (DropList name) ready = Unit {0}
+IsReadyFor (Put list x) ready = Unit {0}
+IsReadyFor (Remove list name version) ready = Unit {0}
+IsReadyFor (Mark name version) ready = Unit {0}
+IsReadyFor (Unmark name) ready = Unit {0}
+IsReadyFor (Pin selector priority) ready = Unit {0}
+IsReadyFor (Unpin selector) ready = Unit {0}
+IsReadyFor (Target name) ready = Unit {0}
+IsReadyFor (Prefs pins) ready = length pins ≤ ready.pins_room
 
 -- an edit in which no selector stands twice
 abbrev pub IsProper : Edit → Type 0
@@ -131,6 +178,6 @@ IsProper (Prefs pins) = AreDistinct pins
 -- a plan whose edit is accepted, for which there is room, and whose keys are those that go and come
 pub record IsReady (h : Held) (plan : Planned) : Type 0 where
   pub accepted : refusal_of h.limits (state_of h) plan.edit ≡ None
-  pub room : HasRoom h plan plan.edit
+  pub room : HasRoom h (ready_of plan) plan.edit
   pub removed : plan.removed ≡ removed_of (keyed_of h) plan.edit
   pub added : plan.added ≡ added_of (keyed_of h) plan.edit

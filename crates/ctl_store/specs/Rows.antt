@@ -103,6 +103,11 @@ abbrev pub lower : Id → List (ℕ × Id) → ℕ
 lower wanted [] = 0
 lower wanted (x ∷ xs) = if is_lt (id_cmp x.1 wanted) then suc (lower wanted xs) else 0
 
+-- how many stand before the first that is greater
+abbrev pub upper : Id → List (ℕ × Id) → ℕ
+upper wanted [] = 0
+upper wanted (x ∷ xs) = if is_gt (id_cmp x.1 wanted) then 0 else suc (upper wanted xs)
+
 -- The serials rise, and the order has each of them.
 pub record IsKept (rows : List (ℕ × Content)) (next : ℕ) (order : List ℕ) : Type 0 where
   pub rises : Rises 0 rows next

@@ -1,5 +1,5 @@
 -- What a store holds.
-use Rattle.std.specs.Prelude.{ℕ, ℤ, ◌+◌, List, [], ◌∷◌, Option, None, length}
+use Rattle.std.specs.Prelude.{ℕ, ℤ, ◌+◌, List, [], ◌∷◌, Option, None, length, map}
 use Rattle.std.specs.Ordering.{nat_cmp}
 use Rattle.std.specs.Cmp.Lexicographic.{slice_cmp}
 use Rattle.std.specs.FinMap as fin
@@ -33,3 +33,7 @@ empty_state = record { lists = []; marks = fin.empty; pins = []; target = None; 
 abbrev pub stanza_count : List (List ℕ × StanzaList) → ℕ
 stanza_count [] = 0
 stanza_count (l ∷ ls) = length l.1.stanzas + stanza_count ls
+
+-- the lists as they are shown: their names, kinds and classes
+abbrev pub shown_lists : List (List ℕ × StanzaList) → List (List ℕ × ListKind × ListClass)
+shown_lists lists = map (λ (l : List ℕ × StanzaList). (l.0, l.1.kind, l.1.class)) lists

@@ -1,14 +1,12 @@
 //! The order of names and versions, by which the stanzas of a list are found.
 
-ghost use Rattle.std.specs.Prelude.{◌≡◌, ◌<◌, ℕ, map, IfSome, IfOk, length, option_copied};
-ghost use Rattle.ctl_stanza.specs.Content.{package_of, version_of};
-ghost use Rattle.ctl_store.specs.Step.{place, is_same};
-ghost use Rattle.ctl_store.specs.Rows.{IsKept, Rises, id, id_of, id_cmp, ids_of, sorted_ids, sorted_serials, lower, order_at, version_order, version_id, by_name_and_version, rows_from};
+ghost use Rattle.std.specs.Prelude.{◌≡◌, ◌<◌, ℕ, IfSome, length, option_copied};
+ghost use Rattle.ctl_store.specs.Step.{place};
+ghost use Rattle.ctl_store.specs.Rows.{IsKept, Rises, id, id_of, id_cmp, ids_of, sorted_ids, lower, upper, order_at, version_order, version_id, by_name_and_version};
 
 use crate::rows::{Row, place_of};
 use ctl_relation::Version;
 use ctl_stanza::Stanza;
-use std::alloc::{AllocError, Global};
 use std::cmp::Ordering;
 
 fn compare_versions(one: Option<&Version>, other: Option<&Version>) -> Ordering
@@ -50,6 +48,14 @@ pub(crate) fn lower(rows: &[Row], order: &[u64], name: &[u8], version: Option<&V
     order.partition_point(|serial| compare_row(rows, *serial, name, version).is_lt())
 }
 
+/// Where a last row of a name and a version comes to stand in the order of rows: behind those that are equal.
+pub(crate) fn upper(rows: &[Row], order: &[u64], name: &[u8], version: Option<&Version>) -> usize
+    requires { (next : ℕ) × IsKept rows.now next order.now }
+    ensures { result ≡ upper (id name.now (option_copied version.entry)) (sorted_ids (ids_of rows.now)) }
+{
+    order.partition_point(|serial| !compare_row(rows, *serial, name, version).is_gt())
+}
+
 /// The place of the first row of a name and an equal version.
 pub(crate) fn find(
     rows: &[Row],
@@ -71,23 +77,4 @@ pub(crate) fn find(
     } else {
         None
     }
-}
-
-fn compare_places(stanzas: &[Box<Stanza>], one: u64, other: u64) -> Ordering {
-    match (stanzas.get(one as usize), stanzas.get(other as usize)) {
-        (Some(a), Some(b)) => compare(a, b.package(), b.version()).then(one.cmp(&other)),
-        _ => one.cmp(&other),
-    }
-}
-
-/// The order of stanzas that stand under the serials from 0 on.
-pub(crate) fn sorted_order(alloc: Global, stanzas: &[Box<Stanza>]) -> Result<Vec<u64>, AllocError>
-    ensures { IfOk result (λ order. order.items ≡ sorted_serials (rows_from 0 (map (λ stanza. stanza.value) stanzas.now))) }
-{
-    let mut order = Vec::with_capacity(alloc, stanzas.len())?;
-    for serial in 0..stanzas.len() {
-        order.push(serial as u64)?;
-    }
-    order.sort_by(|one, other| compare_places(stanzas, *one, *other))?;
-    Ok(order)
 }

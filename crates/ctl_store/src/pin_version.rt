@@ -55,10 +55,8 @@ fn are_upstream_bytes(text: &[u8]) -> bool
 fn before_star(text: &[u8]) -> Option<&[u8]>
     ensures { option_copied result ≡ before_star text.now }
 {
-    match text {
-        [prefix @ .., b'*'] => Some(prefix),
-        _ => None,
-    }
+    let (last, prefix) = text.split_last()?;
+    if *last == b'*' { Some(prefix) } else { None }
 }
 
 fn is_prefix(text: &[u8]) -> bool

@@ -32,9 +32,9 @@ impl Model for Plan {
 
     ghost Value = { Planned };
 
-    ghost view = { λ p. record { edit = edit_of p.edit; removed = p.removed.items; added = p.added.items; rows_room = vec_capacity p.rows; order = p.order.items; pins_room = spare p.pins } };
+    ghost view = { λ p. record { edit = edit_of p.edit; removed = p.removed.items; added = p.added.items; rows_room = vec_capacity p.rows; order_room = vec_capacity p.order; pins_room = spare p.pins } };
 
-    ghost invariant = { λ p. (p.rows.items ≡ []) × (p.pins.entries ≡ []) };
+    ghost invariant = { λ p. (p.rows.items ≡ []) × (p.order.items ≡ []) × (p.pins.entries ≡ []) };
 }
 
 impl Plan {

@@ -10,7 +10,7 @@ ghost use Rattle.ctl_store.specs.Keys.{keys_of, found_key, put_key};
 ghost use Rattle.ctl_store.specs.Held.{keyed_list};
 
 use crate::list_class::ListClass;
-use crate::order::{find, lower};
+use crate::order::{find, lower, upper};
 use crate::rows::{Row, key_at, keys_of_rows, one_key, push_row};
 use crate::stanza_key::StanzaKey;
 use ctl_relation::Version;
@@ -44,40 +44,61 @@ impl Model for Shelf {
     ghost invariant = { λ s. IsKept s.rows.items s.next s.order.items };
 }
 
-/// The stanzas as rows under the serials from 0 on, in the room that is there.
-fn fill_rows(rows: &mut Vec<Row>, stanzas: Vec<Box<Stanza>>)
+// Adds a last row, for which there is room, behind those of its name and version in the order.
+fn add_last(rows: &mut Vec<Row>, next: u64, order: &mut Vec<u64>, stanza: Box<Stanza>)
+    requires kept { IsKept rows.old.items next order.old.items }
+    requires room { vec_len rows.old < vec_capacity rows.old }
+    requires order { vec_len order.old < vec_capacity order.old }
+    ensures kept { IsKept rows.new.items (next + 1) order.new.items }
+    ensures rows { rows.new.items ≡ rows.old.items ++ (next, stanza.value) ∷ [] }
+    ensures room { vec_capacity rows.old ≤ vec_capacity rows.new }
+    ensures order { vec_len order.new ≡ vec_len order.old + 1 }
+    ensures order_room { vec_capacity order.old ≤ vec_capacity order.new }
+{
+    let at = upper(rows, order, stanza.package(), stanza.version());
+    insert_serial(order, at, next);
+    push_row(rows, Row::new(next, stanza));
+}
+
+// The stanzas as rows under the serials from 0 on, in the room that is there.
+fn fill_rows(rows: &mut Vec<Row>, order: &mut Vec<u64>, stanzas: Vec<Box<Stanza>>) -> u64
     requires empty { rows.old.items ≡ [] }
+    requires none { order.old.items ≡ [] }
     requires room { vec_len stanzas ≤ vec_capacity rows.old }
-    ensures { rows.new.items ≡ rows_from 0 (map (λ stanza. stanza.value) stanzas.items) }
+    requires order_room { vec_len stanzas ≤ vec_capacity order.old }
+    ensures rows { rows.new.items ≡ rows_from 0 (map (λ stanza. stanza.value) stanzas.items) }
+    ensures kept { IsKept rows.new.items result order.new.items }
+    ensures next { result ≡ vec_len stanzas }
 {
     let mut serial = 0;
     for stanza in stanzas {
-        push_row(rows, Row::new(serial, stanza));
+        add_last(rows, serial, order, stanza);
         serial += 1;
     }
+    serial
 }
 
 impl Shelf {
-    /// A list of these stanzas. Their rows have room in `rows`, which is empty, and `order` is their order.
+    /// A list of these stanzas. There is room for them in `rows` and `order`, which are empty.
     pub(crate) fn new(
         serial: u32,
         kind: ListKind,
         class: ListClass,
         stanzas: Vec<Box<Stanza>>,
         mut rows: Vec<Row>,
-        order: Vec<u64>,
+        mut order: Vec<u64>,
     ) -> Shelf
         requires empty { rows.items ≡ [] }
         requires room { vec_len stanzas ≤ vec_capacity rows }
-        requires ordered { order.items ≡ sorted_serials (rows_from 0 (map (λ stanza. stanza.value) stanzas.items)) }
+        requires none { order.items ≡ [] }
+        requires order_room { vec_len stanzas ≤ vec_capacity order }
         ensures serial { result.serial ≡ serial }
         ensures kind { result.kind ≡ kind }
         ensures class { result.class ≡ class }
         ensures next { result.next ≡ vec_len stanzas }
         ensures rows { result.rows ≡ rows_from 0 (map (λ stanza. stanza.value) stanzas.items) }
     {
-        let next = stanzas.len() as u64;
-        fill_rows(&mut rows, stanzas);
+        let next = fill_rows(&mut rows, &mut order, stanzas);
         Shelf {
             serial,
             kind,
@@ -217,7 +238,9 @@ fn put_in(rows: &mut Vec<Row>, next: &mut u64, order: &mut Vec<u64>, stanza: Box
 fn insert_serial(order: &mut Vec<u64>, at: usize, serial: u64)
     requires within { at ≤ vec_len order.old }
     requires room { vec_len order.old < vec_capacity order.old }
-    ensures { order.new.items ≡ insert order.old.items at serial }
+    ensures items { order.new.items ≡ insert order.old.items at serial }
+    ensures len { vec_len order.new ≡ vec_len order.old + 1 }
+    ensures capacity { vec_capacity order.old ≤ vec_capacity order.new }
 {
     match order.insert(at, serial) {
         Ok(()) => {}

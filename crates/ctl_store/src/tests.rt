@@ -137,3 +137,107 @@ fn a_stanza_is_replaced_in_its_place(rt: HostRuntime) -> Result<(), Fail> {
     );
     Ok(())
 }
+
+fn version_pin(alloc: Global, package: &[u8], priority: i16) -> Result<Edit, Fail> {
+    match PinVersion::read(alloc, b"1")? {
+        Some(version) => Ok(Edit::Pin {
+            setting: PinSetting {
+                selector: Selector::Version {
+                    package: name(alloc, package)?,
+                    version,
+                },
+                priority,
+            },
+        }),
+        None => Err(Fail::from("no pin")),
+    }
+}
+
+#[test]
+fn a_pin_set_again_keeps_its_place(rt: HostRuntime) -> Result<(), Fail> {
+    let alloc = rt.alloc();
+    let mut store = Store::new(alloc);
+    for (package, priority) in [(b"a", 1), (b"b", 2), (b"a", 3)] {
+        assert_eq!(rt;
+            apply(&mut store, version_pin(alloc, package, priority)?),
+            None
+        );
+    }
+    let mut priorities = Vec::new(alloc);
+    for (_, priority) in store.pins() {
+        priorities.push(priority)?;
+    }
+    assert_eq!(rt; priorities.as_slice(), [3, 2].as_slice());
+    for (text, is_pin) in [
+        (b"1.0*".as_slice(), true),
+        (b"1.0*x".as_slice(), false),
+        (b"*".as_slice(), true),
+    ] {
+        let read = PinVersion::read(alloc, text)?;
+        assert_eq!(rt; read.is_some(), is_pin);
+    }
+    Ok(())
+}
+
+#[test]
+fn keys_stand_in_the_order_of_the_lists(rt: HostRuntime) -> Result<(), Fail> {
+    let alloc = rt.alloc();
+    let mut store = Store::new(alloc);
+    assert_eq!(rt;
+        apply(&mut store, add(alloc, b"A", b"Package: x\nVersion: 1\n")?),
+        None
+    );
+    assert_eq!(rt;
+        apply(
+            &mut store,
+            add(alloc, b"B", b"Package: foo\nVersion: 1.0\n")?
+        ),
+        None
+    );
+    assert_eq!(rt;
+        apply(
+            &mut store,
+            put(alloc, b"A", b"Package: foo\nVersion: 1.0-0\n")?
+        ),
+        None
+    );
+    let mut keys: Vec<StanzaKey> = Vec::new(alloc);
+    for key in store.stanzas(b"A") {
+        keys.push(key)?;
+    }
+    for key in store.stanzas(b"B") {
+        keys.push(key)?;
+    }
+    assert_eq!(rt; keys.len(), 3);
+    let are_rising = keys.windows(2).all(|pair| pair.first() < pair.last());
+    assert!(rt; are_rising);
+    assert_eq!(rt;
+        apply(&mut store, remove(alloc, b"A", b"foo", b"1.0")?),
+        None
+    );
+    let kept = texts(alloc, &store, b"A")?;
+    assert_eq!(rt; kept.as_slice(), b"Package: x\nVersion: 1\n/".as_slice());
+    assert_eq!(rt;
+        apply(&mut store, remove(alloc, b"A", b"foo", b"1.0")?),
+        Some(Refusal::NoStanza)
+    );
+    assert_eq!(rt;
+        apply(&mut store, remove(alloc, b"C", b"foo", b"1.0")?),
+        Some(Refusal::NoList)
+    );
+    Ok(())
+}
+
+#[test]
+fn more_stanzas_than_one_list_holds_are_within_the_limits(rt: HostRuntime) {
+    let most = Limits {
+        stanzas: 4_294_967_295,
+        edits: 4_294_967_295,
+    };
+    assert_eq!(rt; Store::with_limits(rt.alloc(), most).limits(), most);
+    let five = Limits {
+        stanzas: 16_777_216,
+        edits: 5,
+    };
+    assert_eq!(rt; Store::with_limits(rt.alloc(), five).limits(), five);
+}

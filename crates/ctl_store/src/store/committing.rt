@@ -1,15 +1,14 @@
 //! Plans are carried out.
 
-ghost use Rattle.std.specs.Prelude.{◌≡◌, ◌+◌, ◌<◌, ◌≤◌, ◌∷◌, ◌++◌, ℕ, [], None, Some, IfSome, length, map, vec_len};
+ghost use Rattle.std.specs.Prelude.{◌≡◌, ◌+◌, ◌<◌, ◌≤◌, ◌∷◌, ◌++◌, ℕ, [], None, Some, IfSome, length, map, vec_len, if◌then◌else◌};
 ghost use Rattle.std.specs.Vec.{vec_capacity};
 ghost use Rattle.ctl_store.specs.Named.{at_name};
 ghost use Rattle.ctl_store.specs.Pins.{selector_eq};
 ghost use Rattle.ctl_store.specs.Edits.{edit_of, settings_of};
 ghost use Rattle.ctl_store.specs.Edits as edits;
 ghost use Rattle.ctl_store.specs.Step.{after, refusal_of};
-ghost use Rattle.ctl_store.specs.Rows.{rows_from, sorted_serials};
 ghost use Rattle.ctl_store.specs.Keys.{keyed_after, IsNotAmong, stanza_at};
-ghost use Rattle.ctl_store.specs.Held.{state_of, keyed_of, lists_of, IsReady, HasRoomInList, AreDistinct};
+ghost use Rattle.ctl_store.specs.Held.{state_of, keyed_of, lists_of, IsReady, HasRoom, HasRoomInList, AreDistinct};
 ghost use Rattle.ctl_store.specs.declared.stanza_key.StanzaKey.{StanzaKey};
 ghost use Rattle.indexmap.specs.IndexMap.{insert_entry, spare};
 
@@ -23,6 +22,12 @@ use crate::store::Store;
 use ctl_relation::{Bytes, Version};
 use ctl_stanza::{ListKind, Stanza};
 use indexmap::IndexMap;
+
+fn one_unless(is_there: bool) -> u32
+    ensures { result ≡ (if is_there then 0 else 1) }
+{
+    if is_there { 0 } else { 1 }
+}
 
 // Sets a pin, for which there is room.
 fn set_pin(pins: &mut IndexMap<Selector, i16>, setting: PinSetting)
@@ -69,6 +74,20 @@ impl Store {
             order,
             pins,
         } = plan;
+        self.make(edit, rows, order, pins);
+    }
+
+    // Makes an edit, for which this is ready: room for rows, the order of stanzas, and room for pins.
+    fn make(&mut self, edit: Edit, rows: Vec<Row>, order: Vec<u64>, pins: IndexMap<Selector, i16>)
+        requires accepted { refusal_of self.old.limits (state_of self.old) (edit_of edit) ≡ None }
+        requires room { HasRoom self.old (record { rows_room = vec_capacity rows; order_room = vec_capacity order; pins_room = spare pins }) (edit_of edit) }
+        requires rows { rows.items ≡ [] }
+        requires order { order.items ≡ [] }
+        requires pins { pins.entries ≡ [] }
+        ensures state { state_of self.new ≡ after (state_of self.old) (edit_of edit) }
+        ensures keyed { keyed_of self.new ≡ keyed_after (keyed_of self.old) (edit_of edit) }
+        ensures limits { self.new.limits ≡ self.old.limits }
+    {
         match edit {
             Edit::AddList {
                 name,
@@ -105,7 +124,8 @@ impl Store {
         requires list { 0 < self.old.lists_room }
         requires empty { rows.items ≡ [] }
         requires room { vec_len stanzas ≤ vec_capacity rows }
-        requires ordered { order.items ≡ sorted_serials (rows_from 0 (map (λ stanza. stanza.value) stanzas.items)) }
+        requires none { order.items ≡ [] }
+        requires order_room { vec_len stanzas ≤ vec_capacity order }
         ensures state { state_of self.new ≡ after (state_of self.old) (edits.AddList name kind class (map (λ stanza. stanza.value) stanzas.items)) }
         ensures keyed { keyed_of self.new ≡ keyed_after (keyed_of self.old) (edits.AddList name kind class (map (λ stanza. stanza.value) stanzas.items)) }
         ensures limits { self.new.limits ≡ self.old.limits }
@@ -126,10 +146,7 @@ impl Store {
         ensures limits { self.new.limits ≡ self.old.limits }
     {
         let _limits = self.limits;
-        let count = match self.lists.get(name.as_slice()) {
-            Some(shelf) => shelf.rows().len() as u32,
-            None => 0,
-        };
+        let count = self.count_in(name.as_slice()) as u32;
         self.lists.remove(name.as_slice());
         self.stanzas -= count;
         self.edits += 1;
@@ -143,12 +160,10 @@ impl Store {
         ensures limits { self.new.limits ≡ self.old.limits }
     {
         let _limits = self.limits;
-        let is_new = match self.lists.get(list.as_slice()) {
-            Some(shelf) => shelf.find(stanza.package(), stanza.version()).is_none(),
-            None => false,
-        };
+        let is_there = self.has_stanza(list.as_slice(), stanza.package(), stanza.version());
+        let more = one_unless(is_there);
         self.lists.put_in(list.as_slice(), stanza);
-        self.stanzas += u32::from(is_new);
+        self.stanzas += more;
         self.edits += 1;
     }
 

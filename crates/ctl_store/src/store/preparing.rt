@@ -7,12 +7,11 @@ ghost use Rattle.ctl_store.specs.declared.refusal.Refusal.TheVariants as refusal
 ghost use Rattle.ctl_store.specs.Named.{at_name};
 ghost use Rattle.ctl_store.specs.Edits.{edit_of, settings_of};
 ghost use Rattle.ctl_store.specs.Step.{refusal_of};
-ghost use Rattle.ctl_store.specs.Rows.{rows_from, sorted_serials};
+ghost use Rattle.ctl_store.specs.Rows.{rows_from};
 ghost use Rattle.ctl_store.specs.Keys.{removed_of, added_of, found_in, kept_in, all_in, keys_of, list_of_stanzas, key_of};
-ghost use Rattle.ctl_store.specs.Held.{state_of, keyed_of, IsReady, IsProper, HasRoom, HasRoomInList};
+ghost use Rattle.ctl_store.specs.Held.{state_of, keyed_of, IsReady, IsProper, IsReadyFor, HasRoomIn, HasRoom, HasRoomInList};
 
 use crate::edit::Edit;
-use crate::order::sorted_order;
 use crate::plan::Plan;
 use crate::refusal::Refusal;
 use crate::rows::Row;
@@ -24,14 +23,20 @@ use ctl_stanza::Stanza;
 use indexmap::IndexMap;
 use std::alloc::{AllocError, Global};
 
-// The keys of so many new stanzas of a new list.
-fn new_keys(alloc: Global, list: u32, count: usize) -> Result<Vec<StanzaKey>, AllocError> {
-    let mut keys = Vec::with_capacity(alloc, count)?;
-    for serial in 0..count {
+// The keys of the stanzas of a new list.
+fn new_keys(alloc: Global, list: u32, stanzas: &[Box<Stanza>]) -> Result<Vec<StanzaKey>, AllocError>
+    ensures { IfOk result (λ v. v.items ≡ map (λ row. key_of list row.0) (rows_from 0 (map (λ stanza. stanza.value) stanzas.now))) }
+{
+    let mut keys = Vec::with_capacity(alloc, stanzas.len())?;
+    let mut left = stanzas;
+    let mut serial = 0;
+    'stanzas: while let Some((_, rest)) = left.split_first() {
         keys.push(StanzaKey {
             list,
-            stanza: serial as u64,
+            stanza: serial,
         })?;
+        serial += 1;
+        left = rest;
     }
     Ok(keys)
 }
@@ -44,7 +49,10 @@ struct Ready {
     pins: IndexMap<Selector, i16>,
 }
 
-fn make_ready(alloc: Global, edit: &Edit) -> Result<Ready, AllocError> {
+fn make_ready(alloc: Global, edit: &Edit) -> Result<Ready, AllocError>
+    ensures empty { IfOk result (λ ready. (ready.rows.items ≡ []) × (ready.order.items ≡ []) × (ready.pins.entries ≡ [])) }
+    ensures ready { IfOk result (λ ready. IsReadyFor (edit_of edit.now) (record { rows_room = vec_capacity ready.rows; order_room = vec_capacity ready.order; pins_room = spare ready.pins })) }
+{
     let mut rows = Vec::new(alloc);
     let mut order = Vec::new(alloc);
     let mut pins = IndexMap::new(alloc);
@@ -56,7 +64,7 @@ fn make_ready(alloc: Global, edit: &Edit) -> Result<Ready, AllocError> {
             stanzas,
         } => {
             rows.reserve(stanzas.len())?;
-            order = sorted_order(alloc, stanzas)?;
+            order.reserve(stanzas.len())?;
         }
         Edit::Prefs { settings } => pins.reserve(settings.len())?,
         _ => {}
@@ -126,7 +134,7 @@ impl Store {
                 kind: _,
                 class: _,
                 stanzas,
-            } => new_keys(self.alloc, self.next_list, stanzas.len()),
+            } => new_keys(self.alloc, self.next_list, stanzas),
             Edit::Put { list, stanza } => self.kept_in(list.as_slice(), stanza),
             _ => Ok(Vec::new(self.alloc)),
         }
@@ -137,6 +145,7 @@ impl Store {
         ensures state { state_of self.new ≡ state_of self.old }
         ensures keyed { keyed_of self.new ≡ keyed_of self.old }
         ensures limits { self.new.limits ≡ self.old.limits }
+        ensures room { OnOk result (HasRoomIn self.new (edit_of edit.now)) }
     {
         match edit {
             Edit::AddList {

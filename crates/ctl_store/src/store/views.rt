@@ -3,9 +3,10 @@
 ghost use Rattle.std.specs.Prelude.{◌≡◌, ◌+◌, IsSome, Some, [], map, option_map, option_copied, length};
 ghost use Rattle.std.specs.Option.{option_map_or};
 ghost use Rattle.std.specs.FinMap as fin;
-ghost use Rattle.ctl_store.specs.State.{stanza_count};
+ghost use Rattle.ctl_store.specs.State.{stanza_count, shown_lists};
 ghost use Rattle.ctl_store.specs.Keys.{all_in, all_keys, AreRising, stanza_at, list_at};
-ghost use Rattle.ctl_store.specs.Held.{state_of, keyed_of};
+ghost use Rattle.ctl_store.specs.Named.{by_bytes};
+ghost use Rattle.ctl_store.specs.Held.{state_of, keyed_of, entry_of};
 ghost use Rattle.ctl_store.specs.declared.limits.Counts.{Counts};
 
 use crate::limits::{Counts, Limits};
@@ -26,7 +27,23 @@ pub struct Lists<'a> {
     entries: Slice<'a, Vec<u8>, Shelf>,
 }
 
+impl<'a> Model for Lists<'a> {
+    ghost use Rattle.std.specs.Prelude.{ℕ, List, map};
+    ghost use Rattle.ctl_stanza.specs.declared.list_kind.ListKind.{ListKind};
+    ghost use Rattle.ctl_store.specs.declared.list_class.ListClass.{ListClass};
+
+    ghost Value = { List (List ℕ × ListKind × ListClass) };
+
+    ghost view = { λ it. map (λ e. (e.0.items, e.1.kind, e.1.class)) it.entries };
+}
+
 impl<'a> Iterator for Lists<'a> {
+    ghost use Rattle.std.specs.Iterator.{YieldsFirstBy, item_count};
+
+    ghost next_gives = { YieldsFirstBy (λ item. (item.0.now, item.1, item.2)) (λ rest. rest) };
+
+    ghost remaining = { item_count (λ rest. rest) };
+
     type Item = (&'a [u8], ListKind, ListClass);
 
     fn next(&mut self) -> Option<(&'a [u8], ListKind, ListClass)> {
@@ -43,7 +60,23 @@ pub struct Stanzas<'a> {
     rows: &'a [Row],
 }
 
+impl<'a> Model for Stanzas<'a> {
+    ghost use Rattle.std.specs.Prelude.{List, map};
+    ghost use Rattle.ctl_store.specs.declared.stanza_key.StanzaKey.{StanzaKey};
+    ghost use Rattle.ctl_store.specs.Keys.{key_of};
+
+    ghost Value = { List StanzaKey };
+
+    ghost view = { λ it. map (λ row. key_of it.list row.0) it.rows.now };
+}
+
 impl<'a> Iterator for Stanzas<'a> {
+    ghost use Rattle.std.specs.Iterator.{YieldsFirst, item_count};
+
+    ghost next_gives = { YieldsFirst (λ rest. rest) };
+
+    ghost remaining = { item_count (λ rest. rest) };
+
     type Item = StanzaKey;
 
     fn next(&mut self) -> Option<StanzaKey> {
@@ -62,7 +95,22 @@ pub struct Pins<'a> {
     entries: Slice<'a, Selector, i16>,
 }
 
+impl<'a> Model for Pins<'a> {
+    ghost use Rattle.std.specs.Prelude.{List, ℤ};
+    ghost use Rattle.ctl_store.specs.declared.selector.Selector.{Selector};
+
+    ghost Value = { List (Selector × ℤ) };
+
+    ghost view = { λ it. it.entries };
+}
+
 impl<'a> Iterator for Pins<'a> {
+    ghost use Rattle.std.specs.Iterator.{YieldsFirstBy, item_count};
+
+    ghost next_gives = { YieldsFirstBy (λ item. (item.0.now, item.1)) (λ rest. rest) };
+
+    ghost remaining = { item_count (λ rest. rest) };
+
     type Item = (&'a Selector, i16);
 
     fn next(&mut self) -> Option<(&'a Selector, i16)> {
@@ -72,16 +120,35 @@ impl<'a> Iterator for Pins<'a> {
     }
 }
 
+// The name and the stanzas of the list of a serial.
+fn entry_of<'a>(entries: Slice<'a, Vec<u8>, Shelf>, serial: u32) -> Option<(&'a Vec<u8>, &'a Shelf)>
+    ensures { option_map (λ e. (e.0.now.items, e.1.now)) result ≡ entry_of serial (map by_bytes entries.entry) }
+{
+    let mut left = entries;
+    while let Some(((name, shelf), rest)) = left.split_first() {
+        if shelf.serial() == serial {
+            return Some((name, shelf));
+        }
+        left = rest;
+    }
+    None
+}
+
 impl Store {
     /// The names, kinds and classes of the lists, in the order in which they were added.
-    pub fn lists(&self) -> Lists<'_> {
+    pub fn lists(&self) -> Lists<'_>
+        ensures { result ≡ shown_lists (state_of self.now).lists }
+    {
         Lists {
             entries: self.lists.entries(),
         }
     }
 
     /// The keys of the stanzas of a list, in order. Of a list that is not there it has none.
-    pub fn stanzas(&self, list: &[u8]) -> Stanzas<'_> {
+    #[tactic(auto, using(crate::proofs::ListedLemmas::at_name_lists))]
+    pub fn stanzas(&self, list: &[u8]) -> Stanzas<'_>
+        ensures { result ≡ all_in list.now (keyed_of self.now).lists }
+    {
         match self.lists.get(list) {
             Some(shelf) => Stanzas {
                 list: shelf.serial(),
@@ -91,23 +158,12 @@ impl Store {
         }
     }
 
-    fn list_of_serial(&self, serial: u32) -> Option<(&[u8], &Shelf)> {
-        let entries = self.lists.entries();
-        match entries.binary_search_by_key(&serial, |_name, shelf| shelf.serial()) {
-            Ok(at) => match entries.get_index(at) {
-                Some((name, shelf)) => Some((name, shelf)),
-                None => None,
-            },
-            Err(_) => None,
-        }
-    }
-
     /// The stanza of a key, which is one of the store.
     pub fn stanza(&self, key: StanzaKey) -> &Stanza
         requires { IsSome (stanza_at key (keyed_of self.now).lists) }
         ensures { Some result.now ≡ stanza_at key (keyed_of self.now).lists }
     {
-        match self.list_of_serial(key.list) {
+        match entry_of(self.lists.entries(), key.list) {
             Some((_, shelf)) => match place_of(shelf.rows(), key.stanza) {
                 Some(at) => shelf.rows()[at].stanza(),
                 None => unreachable!(),
@@ -121,7 +177,7 @@ impl Store {
         requires { IsSome (stanza_at key (keyed_of self.now).lists) }
         ensures { Some result.now ≡ list_at key.list (keyed_of self.now).lists }
     {
-        match self.list_of_serial(key.list) {
+        match entry_of(self.lists.entries(), key.list) {
             Some((name, _)) => name,
             None => unreachable!(),
         }
@@ -140,7 +196,9 @@ impl Store {
     }
 
     /// The pin settings, in the order in which their selectors were first set.
-    pub fn pins(&self) -> Pins<'_> {
+    pub fn pins(&self) -> Pins<'_>
+        ensures { result ≡ (state_of self.now).pins }
+    {
         Pins {
             entries: self.pins.as_slice(),
         }

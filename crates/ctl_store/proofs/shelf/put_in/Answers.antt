@@ -41,6 +41,6 @@ returns-in-None-clause-kept c =
     let same : id c.package-in-None.result.now (option_copied c.version-in-None.result) ≡ id_of x = λ j. id ((c.package-in-None.ensures ∙ ap package_of c.deref-in-None-3.ensures) j) ((c.version-in-None.ensures ∙ ap version_of c.deref-in-None-4.ensures) j) in
     let at : c.lower-at.result ≡ lower (id_of x) (sorted_ids (ids_of rs)) = c.lower-at.ensures ∙ (λ j. lower (same j) (sorted_ids (ids_of (c.deref-in-None.ensures.value j)))) in
     let items : c.push_row.new.rows.items ≡ rs ++ (next, x) ∷ [] = c.push_row.ensures.items ∙ ap (λ r. rs ++ r ∷ []) c.new.ensures in
-    let order : c.insert_serial.new.order.items ≡ insert c.args.order.now.items (lower (id_of x) (sorted_ids (ids_of rs))) next = c.insert_serial.ensures ∙ ap (λ k. insert c.args.order.now.items k next) at in
+    let order : c.insert_serial.new.order.items ≡ insert c.args.order.now.items (lower (id_of x) (sorted_ids (ids_of rs))) next = c.insert_serial.ensures.items ∙ ap (λ k. insert c.args.order.now.items k next) at in
     subst (λ l. IsKept l (next + 1) c.insert_serial.new.order.items) (sym items)
     (subst (λ l. IsKept (rs ++ (next, x) ∷ []) (next + 1) l) (sym order) (kept_push rs next c.args.order.now.items c.requires.kept x e))

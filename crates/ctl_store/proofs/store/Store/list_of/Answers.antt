@@ -1,0 +1,24 @@
+use Rattle.std.proofs.Common.{◌≡◌, ℕ, List, Option, None, Some, option_map, ◌∙◌, ap, sym, get_or, ◌+◌}
+use Rattle.ctl_stanza.specs.Content.{Content}
+use Rattle.ctl_store.specs.Step.{place}
+use Rattle.ctl_store.specs.Rows.{has_serial}
+use Rattle.ctl_store.specs.Keys.{stanza_at, list_at}
+use Rattle.ctl_store.specs.Held.{Sheet, lists_of, entry_of}
+use Rattle.ctl_store.proofs.PlaceLemmas.{lookup-place, lookup-place_none}
+use Rattle.ctl_store.proofs.LookLemmas.{look_up, list_at_entry, not_none, in_entry}
+use Rattle.ctl_store.proofs.store.Store.list_of.Goals as goal
+
+pub unreachable-requires : goal.unreachable-requires
+unreachable-requires c =
+    let s = c.self.inside in
+    let k = c.args.key in
+    let none = c.in-None.ensures ∙ ap (entry_of k.list) c.entries.ensures in
+    not_none (stanza_at k (lists_of c.args.self.now.lists)) c.requires
+    (sym (ap (λ h. stanza_at k (lists_of h.lists)) c.self.view_is) ∙ look_up k 0 s.lists.0 s.next_list (s.limits.stanzas + s.edits) c.self.invariant.order ∙ ap (in_entry k) (sym none))
+
+pub returns : goal.returns
+returns c =
+    let s = c.self.inside in
+    let k = c.args.key in
+    let found = c.in-Some.ensures ∙ ap (entry_of k.list) c.entries.ensures in
+    ap Some c.deref.ensures.value ∙ ap (option_map (λ (e : List ℕ × Sheet). e.0)) found ∙ sym (list_at_entry k.list s.lists.0) ∙ ap (λ h. list_at k.list (lists_of h.lists)) c.self.view_is
