@@ -150,7 +150,7 @@ fn faults_have_their_words(rt: HostRuntime) -> Result<(), Fail> {
 /// The script that the words ask for. None where the words are refused.
 fn script_asked(alloc: Global, words: &[&str]) -> Option<Option<String>> {
     match arguments(alloc, words) {
-        Ok(Arguments { script }) => Some(script),
+        Ok(Arguments { script, .. }) => Some(script),
         Err(_) => None,
     }
 }

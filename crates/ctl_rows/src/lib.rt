@@ -10,6 +10,8 @@ use ctl_session::{Fault, FromRead, FromWrite, Session};
 use std::alloc::Global;
 
 #[cfg(test)]
+mod edits;
+#[cfg(test)]
 mod faults;
 #[cfg(test)]
 mod scripts;
