@@ -9,3 +9,4 @@ pub mod PerformLemmas
 pub mod NameLemmas
 pub mod OneOutcomeLemmas
 pub mod WordLemmas
+pub mod ListedNameLemmas
