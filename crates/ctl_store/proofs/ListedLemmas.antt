@@ -6,6 +6,7 @@ use Rattle.ctl_store.specs.State.{StanzaList, shown_lists}
 use Rattle.ctl_store.specs.Step.{place, is_same, is_status, has_status, has_stanza, count_in}
 use Rattle.std.specs.Option.{option_map_or}
 use Rattle.std.specs.List.{list_any}
+use Rattle.std.specs.Map.{keys_of as names_of}
 use Rattle.ctl_store.specs.Named.{at_name, has_name, put_named, set_named, without_name, change_named, by_bytes}
 use Rattle.ctl_store.specs.Rows.{Rises, by_name_and_version, put_row_at, next_at, remove_row_at}
 use Rattle.ctl_store.specs.Keys.{KeyedList, stanzas_of, stanza_list, stanza_lists, put_keyed, remove_keyed}
@@ -197,3 +198,7 @@ count_held list es = ap (λ o. option_map_or (λ (l : StanzaList). length l.stan
 pub shown_entries : {A : Type 0} (es : List (Vec ℕ A × Sheet)) → map (λ (e : Vec ℕ A × Sheet). (e.0.items, e.1.kind, e.1.class)) es ≡ shown_lists (stanza_lists (lists_of (map by_bytes es)))
 shown_entries [] = refl
 shown_entries (e ∷ es) = ap (λ l. (e.0.items, e.1.kind, e.1.class) ∷ l) (shown_entries es)
+
+pub names_held : (es : List (List ℕ × Sheet)) → names_of (stanza_lists (lists_of es)) ≡ names_of es
+names_held [] = refl
+names_held (e ∷ es) = ap (λ l. e.0 ∷ l) (names_held es)

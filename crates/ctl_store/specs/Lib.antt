@@ -5,6 +5,7 @@ pub mod Refusals
 pub mod Limits
 pub mod PinVersions
 pub mod Pins
+pub mod Priority
 pub mod PinForms
 pub mod SelectorLaws
 pub mod Named

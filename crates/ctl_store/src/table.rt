@@ -86,8 +86,10 @@ impl<V> Table<V> {
 
     /// The entries, in order.
     pub(crate) fn entries(&self) -> Slice<'_, Vec<u8>, V>
-        ensures { map by_bytes result ≡ self.now.0 }
+        ensures entries { map by_bytes result ≡ self.now.0 }
+        ensures each_once { IsDistinct bytes_eq (keys_of self.now.0) }
     {
+        let _ = self.rows.len();
         self.rows.as_slice()
     }
 }

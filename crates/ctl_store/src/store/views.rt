@@ -5,7 +5,10 @@ ghost use Rattle.std.specs.Option.{option_map_or};
 ghost use Rattle.std.specs.FinMap as fin;
 ghost use Rattle.ctl_store.specs.State.{stanza_count, shown_lists};
 ghost use Rattle.ctl_store.specs.Keys.{all_in, all_keys, AreRising, stanza_at, list_at};
-ghost use Rattle.ctl_store.specs.Named.{by_bytes};
+ghost use Rattle.ctl_store.specs.Named.{at_name, by_bytes};
+ghost use Rattle.std.specs.List.{IsDistinct};
+ghost use Rattle.std.specs.Map.{keys_of as names_of};
+ghost use Rattle.std.specs.Str.{bytes_eq};
 ghost use Rattle.ctl_store.specs.Held.{state_of, keyed_of, entry_of};
 ghost use Rattle.ctl_store.specs.declared.limits.Counts.{Counts};
 
@@ -137,10 +140,23 @@ fn entry_of<'a>(entries: Slice<'a, Vec<u8>, Shelf>, serial: u32) -> Option<(&'a 
 impl Store {
     /// The names, kinds and classes of the lists, in the order in which they were added.
     pub fn lists(&self) -> Lists<'_>
-        ensures { result ≡ shown_lists (state_of self.now).lists }
+        ensures lists { result ≡ shown_lists (state_of self.now).lists }
+        // no name stands twice
+        ensures distinct { IsDistinct bytes_eq (names_of (state_of self.now).lists) }
     {
         Lists {
             entries: self.lists.entries(),
+        }
+    }
+
+    /// The kind of a list, if there is a list of this name.
+    #[tactic(auto, using(crate::proofs::ListedLemmas::at_name_held))]
+    pub fn kind(&self, list: &[u8]) -> Option<ListKind>
+        ensures { result ≡ option_map (λ l. l.kind) (at_name list.now (state_of self.now).lists) }
+    {
+        match self.lists.get(list) {
+            Some(shelf) => Some(shelf.kind()),
+            None => None,
         }
     }
 

@@ -6,4 +6,4 @@ use Rattle.ctl_store.proofs.ListedLemmas.{status_entries}
 use Rattle.ctl_store.proofs.store.Store.has_status.Goals as goal
 
 pub returns : goal.returns
-returns c = c.is_status_among.ensures ∙ status_entries c.entries.result ∙ ap (λ l. has_status (stanza_lists (lists_of l))) (c.entries.ensures ∙ ap (λ h. h.lists) c.self.view_is)
+returns c = c.is_status_among.ensures ∙ status_entries c.entries.result ∙ ap (λ l. has_status (stanza_lists (lists_of l))) (c.entries.ensures.entries ∙ ap (λ h. h.lists) c.self.view_is)

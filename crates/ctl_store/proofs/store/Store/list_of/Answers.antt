@@ -12,7 +12,7 @@ pub unreachable-requires : goal.unreachable-requires
 unreachable-requires c =
     let s = c.self.inside in
     let k = c.args.key in
-    let none = c.in-None.ensures ∙ ap (entry_of k.list) c.entries.ensures in
+    let none = c.in-None.ensures ∙ ap (entry_of k.list) c.entries.ensures.entries in
     not_none (stanza_at k (lists_of c.args.self.now.lists)) c.requires
     (sym (ap (λ h. stanza_at k (lists_of h.lists)) c.self.view_is) ∙ look_up k 0 s.lists.0 s.next_list (s.limits.stanzas + s.edits) c.self.invariant.order ∙ ap (in_entry k) (sym none))
 
@@ -20,5 +20,5 @@ pub returns : goal.returns
 returns c =
     let s = c.self.inside in
     let k = c.args.key in
-    let found = c.in-Some.ensures ∙ ap (entry_of k.list) c.entries.ensures in
+    let found = c.in-Some.ensures ∙ ap (entry_of k.list) c.entries.ensures.entries in
     ap Some c.deref.ensures.value ∙ ap (option_map (λ (e : List ℕ × Sheet). e.0)) found ∙ sym (list_at_entry k.list s.lists.0) ∙ ap (λ h. list_at k.list (lists_of h.lists)) c.self.view_is
