@@ -12,3 +12,4 @@ pub mod PinLemmas
 pub mod KeyLemmas
 pub mod LookLemmas
 pub mod StarLemmas
+pub mod HeldLemmas

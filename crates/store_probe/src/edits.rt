@@ -1,11 +1,15 @@
 //! Edits as the lines give them.
 
+ghost use Rattle.std.specs.Prelude.{◌≡◌, IfOk};
+ghost use Rattle.ctl_store.specs.Edits.{edit_of, settings_of};
+ghost use Rattle.ctl_store.specs.Held.{IsProper, AreDistinct};
+
 use crate::words::Words;
 use anyhow::{Context, Result, bail};
 use ctl_stanza::{ListKind, Stanza, read_stanzas};
 use ctl_store::{Edit, ListClass, PinSetting, PinVersion, Selector, boxed};
 use indexmap::IndexMap;
-use std::alloc::Global;
+use std::alloc::{AllocError, Global};
 
 fn kind_named(word: &str) -> Option<ListKind> {
     match word {
@@ -37,7 +41,9 @@ fn stanzas(alloc: Global, words: &mut Words<'_>, kind: ListKind) -> Result<Vec<B
     Ok(boxed(alloc, read)?)
 }
 
-fn add_list(alloc: Global, words: &mut Words<'_>) -> Result<Edit> {
+fn add_list(alloc: Global, words: &mut Words<'_>) -> Result<Edit>
+    ensures { IfOk result (λ edit. IsProper (edit_of edit)) }
+{
     let name = words.bytes()?;
     let kind = kind(words)?;
     let class = class_named(words.word()?).context("a class that is not known")?;
@@ -50,7 +56,9 @@ fn add_list(alloc: Global, words: &mut Words<'_>) -> Result<Edit> {
     })
 }
 
-fn put(alloc: Global, words: &mut Words<'_>) -> Result<Edit> {
+fn put(alloc: Global, words: &mut Words<'_>) -> Result<Edit>
+    ensures { IfOk result (λ edit. IsProper (edit_of edit)) }
+{
     let list = words.bytes()?;
     let kind = kind(words)?;
     let stanza = stanzas(alloc, words, kind)?
@@ -79,22 +87,33 @@ fn selector(alloc: Global, word: &str, words: &mut Words<'_>) -> Result<Selector
     }
 }
 
-// Selectors with priorities, to the end of the line.
-fn settings(alloc: Global, words: &mut Words<'_>) -> Result<Vec<PinSetting>> {
-    let mut pins = IndexMap::new(alloc);
-    while let Some(word) = words.next_word() {
-        let selector = selector(alloc, word, words)?;
-        let priority = words.priority()?;
-        pins.insert(selector, priority)?;
-    }
-    let mut settings = Vec::new(alloc);
+// The settings of a map of pins.
+fn collected(alloc: Global, pins: IndexMap<Selector, i16>) -> Result<Vec<PinSetting>, AllocError>
+    ensures { IfOk result (λ settings. AreDistinct (settings_of settings.items)) }
+{
+    let mut settings = Vec::with_capacity(alloc, pins.len())?;
     for (selector, priority) in pins {
         settings.push(PinSetting { selector, priority })?;
     }
     Ok(settings)
 }
 
-fn pin(alloc: Global, words: &mut Words<'_>) -> Result<Edit> {
+// Selectors with priorities, to the end of the line.
+fn settings(alloc: Global, words: &mut Words<'_>) -> Result<Vec<PinSetting>>
+    ensures { IfOk result (λ settings. AreDistinct (settings_of settings.items)) }
+{
+    let mut pins = IndexMap::new(alloc);
+    while let Some(word) = words.next_word() {
+        let selector = selector(alloc, word, words)?;
+        let priority = words.priority()?;
+        pins.insert(selector, priority)?;
+    }
+    Ok(collected(alloc, pins)?)
+}
+
+fn pin(alloc: Global, words: &mut Words<'_>) -> Result<Edit>
+    ensures { IfOk result (λ edit. IsProper (edit_of edit)) }
+{
     let selector = selector(alloc, words.word()?, words)?;
     let priority = words.priority()?;
     Ok(Edit::Pin {
@@ -103,7 +122,9 @@ fn pin(alloc: Global, words: &mut Words<'_>) -> Result<Edit> {
 }
 
 /// The edit of a line whose first word is this.
-pub fn edit_named(alloc: Global, word: &str, words: &mut Words<'_>) -> Result<Edit> {
+pub fn edit_named(alloc: Global, word: &str, words: &mut Words<'_>) -> Result<Edit>
+    ensures { IfOk result (λ edit. IsProper (edit_of edit)) }
+{
     match word {
         "add-list" => add_list(alloc, words),
         "drop-list" => Ok(Edit::DropList {

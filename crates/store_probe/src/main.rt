@@ -4,6 +4,9 @@
 //! with the names of packages, prints all that the store holds and the marks of these packages.
 #![tactic(auto)]
 
+ghost use Rattle.ctl_store.specs.Edits.{edit_of};
+ghost use Rattle.ctl_store.specs.Held.{IsProper};
+
 mod edits;
 mod state;
 mod words;
@@ -36,7 +39,9 @@ fn append_refusal(alloc: Global, why: Refusal, line: &mut Vec<u8>) -> Result<(),
 }
 
 // Changes the store by an edit. What is foretold of it must come.
-fn append_outcome(alloc: Global, store: &mut Store, edit: Edit, line: &mut Vec<u8>) -> Result<()> {
+fn append_outcome(alloc: Global, store: &mut Store, edit: Edit, line: &mut Vec<u8>) -> Result<()>
+    requires { IsProper (edit_of edit) }
+{
     let foretold = store.check(&edit).err();
     match store.prepare(edit) {
         Ok(plan) => {
