@@ -1,5 +1,5 @@
 -- The keys of stanzas, and the lists with the serial numbers in them.
-use Rattle.std.specs.Prelude.{◌≡◌, ℕ, suc, ◌+◌, ◌≤◌, List, [], ◌∷◌, ◌++◌, map, take, drop, length, Option, None, Some, slice_get, if◌then◌else◌, nat_eq, Bool, false, ◌&&◌}
+use Rattle.std.specs.Prelude.{◌≡◌, ℕ, ◌+◌, List, [], ◌∷◌, ◌++◌, map, take, drop, length, Option, None, Some, IsSome, slice_get, if◌then◌else◌, nat_eq, Bool, false, ◌&&◌}
 use Rattle.std.specs.List.{AllByRecursion}
 use Rattle.std.specs.Map.{lookup}
 use Rattle.std.specs.Option.{option_or, option_map_or}
@@ -101,6 +101,10 @@ in_rows k l = if nat_eq l.serial k.list then lookup (λ s. nat_eq s k.stanza) l.
 abbrev pub stanza_at : StanzaKey → List (List ℕ × KeyedList) → Option Content
 stanza_at k [] = None
 stanza_at k (l ∷ ls) = option_or (in_rows k l.1) (stanza_at k ls)
+
+-- each key has a stanza
+abbrev pub AreHeld : List StanzaKey → List (List ℕ × KeyedList) → Type 0
+AreHeld ks ls = AllByRecursion (λ k. IsSome (stanza_at k ls)) ks
 
 -- the name of the list of a serial
 abbrev pub list_at : ℕ → List (List ℕ × KeyedList) → Option (List ℕ)

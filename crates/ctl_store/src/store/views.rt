@@ -4,7 +4,7 @@ ghost use Rattle.std.specs.Prelude.{◌≡◌, ◌+◌, IsSome, Some, [], map, o
 ghost use Rattle.std.specs.Option.{option_map_or};
 ghost use Rattle.std.specs.FinMap as fin;
 ghost use Rattle.ctl_store.specs.State.{stanza_count, shown_lists};
-ghost use Rattle.ctl_store.specs.Keys.{all_in, all_keys, AreRising, stanza_at, list_at};
+ghost use Rattle.ctl_store.specs.Keys.{all_in, all_keys, AreRising, AreHeld, stanza_at, list_at};
 ghost use Rattle.ctl_store.specs.Named.{at_name, by_bytes};
 ghost use Rattle.std.specs.List.{IsDistinct};
 ghost use Rattle.std.specs.Map.{keys_of as names_of};
@@ -163,7 +163,8 @@ impl Store {
     /// The keys of the stanzas of a list, in order. Of a list that is not there it has none.
     #[tactic(auto, using(crate::proofs::ListedLemmas::at_name_lists))]
     pub fn stanzas(&self, list: &[u8]) -> Stanzas<'_>
-        ensures { result ≡ all_in list.now (keyed_of self.now).lists }
+        ensures keys { result ≡ all_in list.now (keyed_of self.now).lists }
+        ensures held { AreHeld result (keyed_of self.now).lists }
     {
         match self.lists.get(list) {
             Some(shelf) => Stanzas {
