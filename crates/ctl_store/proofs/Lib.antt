@@ -14,3 +14,4 @@ pub mod LookLemmas
 pub mod StarLemmas
 pub mod PriorityLemmas
 pub mod HeldLemmas
+pub mod FindLemmas

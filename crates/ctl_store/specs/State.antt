@@ -3,10 +3,12 @@ use Rattle.std.specs.Prelude.{ℕ, ℤ, ◌+◌, List, [], ◌∷◌, Option, No
 use Rattle.std.specs.Ordering.{nat_cmp}
 use Rattle.std.specs.Cmp.Lexicographic.{slice_cmp}
 use Rattle.std.specs.FinMap as fin
+use Rattle.std.specs.Option.{option_map_or}
 use Rattle.ctl_stanza.specs.declared.list_kind.ListKind.{ListKind}
 use Rattle.ctl_stanza.specs.Content.{Content}
 use Rattle.ctl_store.specs.declared.list_class.ListClass.{ListClass}
 use Rattle.ctl_store.specs.declared.selector.Selector.{Selector}
+use Rattle.ctl_store.specs.Named.{at_name}
 
 -- a list without its name: its stanzas stand in order
 pub record StanzaList : Type 0 where
@@ -37,3 +39,7 @@ stanza_count (l ∷ ls) = length l.1.stanzas + stanza_count ls
 -- the lists as they are shown: their names, kinds and classes
 abbrev pub shown_lists : List (List ℕ × StanzaList) → List (List ℕ × ListKind × ListClass)
 shown_lists lists = map (λ (l : List ℕ × StanzaList). (l.0, l.1.kind, l.1.class)) lists
+
+-- the stanzas of the list of a name; where there is none, none
+abbrev pub stanzas_named : List ℕ → List (List ℕ × StanzaList) → List Content
+stanzas_named name lists = option_map_or (λ (list : StanzaList). list.stanzas) (at_name name lists) []

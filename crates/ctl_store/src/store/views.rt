@@ -3,7 +3,7 @@
 ghost use Rattle.std.specs.Prelude.{◌≡◌, ◌+◌, IsSome, Some, [], map, option_map, option_copied, length};
 ghost use Rattle.std.specs.Option.{option_map_or};
 ghost use Rattle.std.specs.FinMap as fin;
-ghost use Rattle.ctl_store.specs.State.{stanza_count, shown_lists};
+ghost use Rattle.ctl_store.specs.State.{stanza_count, shown_lists, stanzas_named};
 ghost use Rattle.ctl_store.specs.Keys.{all_in, all_keys, AreRising, AreHeld, stanza_at, list_at};
 ghost use Rattle.ctl_store.specs.Named.{at_name, by_bytes};
 ghost use Rattle.std.specs.List.{IsDistinct};
@@ -165,6 +165,7 @@ impl Store {
     pub fn stanzas(&self, list: &[u8]) -> Stanzas<'_>
         ensures keys { result ≡ all_in list.now (keyed_of self.now).lists }
         ensures held { AreHeld result (keyed_of self.now).lists }
+        ensures stanzas { map (λ key. stanza_at key (keyed_of self.now).lists) result ≡ map Some (stanzas_named list.now (state_of self.now).lists) }
     {
         match self.lists.get(list) {
             Some(shelf) => Stanzas {
