@@ -15,8 +15,8 @@ use Rattle.ctl_stanza.specs.Content.{Content, package_of, is_live}
 use Rattle.ctl_store.specs.declared.list_class.ListClass.{ListClass}
 use Rattle.ctl_store.specs.declared.stanza_key.StanzaKey.{StanzaKey}
 use Rattle.ctl_store.specs.Keys.{KeyedList, stanza_at}
-use Rattle.ctl_store.specs.State.{StanzaList, shown_lists}
-use Rattle.ctl_session.specs.PackageNames.{AddsNames, describes, is_among, stanzas_named}
+use Rattle.ctl_store.specs.State.{StanzaList, shown_lists, stanzas_named}
+use Rattle.ctl_session.specs.PackageNames.{AddsNames, describes, is_among}
 
 -- what is left behind the first of two lists that are the same
 first_is_some : (s : Option Content) (ss : List (Option Content)) (xs : List Content) → s ∷ ss ≡ map Some xs → (x : Content) × (ys : List Content) × (xs ≡ x ∷ ys) × (s ≡ Some x) × (ss ≡ map Some ys)

@@ -1,6 +1,5 @@
 -- The names of packages that a state shows.
-use Rattle.std.specs.Prelude.{◌≡◌, ◌&&◌, ◌||◌, ℕ, Bool, List, [], map, nat_eq}
-use Rattle.std.specs.Option.{option_map_or}
+use Rattle.std.specs.Prelude.{◌≡◌, ◌&&◌, ◌||◌, ℕ, Bool, List, map, nat_eq}
 use Rattle.std.specs.Borrow.{Bor}
 use Rattle.std.specs.List.{list_any, starts_with}
 use Rattle.std.specs.Ordering.{nat_cmp}
@@ -8,7 +7,6 @@ use Rattle.std.specs.List.Sorted.{IsStrictlySortedBy}
 use Rattle.std.specs.Cmp.Lexicographic.{slice_cmp}
 use Rattle.std.specs.Str.{bytes_eq}
 use Rattle.ctl_stanza.specs.Content.{Content, package_of, is_live}
-use Rattle.ctl_store.specs.Named.{at_name}
 use Rattle.ctl_store.specs.State.{StanzaList, State}
 
 -- whether a stanza is live and describes this package
@@ -37,7 +35,3 @@ lent_names names = map (λ name. name.now) names
 abbrev pub AddsNames : List Content → List ℕ → List (List ℕ) → List (List ℕ) → Type 0
 AddsNames stanzas prefix old new =
     (name : List ℕ) → is_among new name ≡ ((starts_with nat_eq name prefix && list_any (describes name) stanzas) || is_among old name)
-
--- the stanzas of the list of a name
-abbrev pub stanzas_named : List ℕ → List (List ℕ × StanzaList) → List Content
-stanzas_named name lists = option_map_or (λ (list : StanzaList). list.stanzas) (at_name name lists) []

@@ -8,7 +8,8 @@ ghost use Rattle.std.specs.List.Sorted.{IsStrictlySortedBy};
 ghost use Rattle.std.specs.Cmp.Lexicographic.{slice_cmp};
 ghost use Rattle.ctl_stanza.specs.Lines.{text_of_lines};
 ghost use Rattle.ctl_store.specs.Held.{state_of};
-ghost use Rattle.ctl_session.specs.PackageNames.{ArePackageNames, AddsNames, lent_names, is_among, has_package, stanzas_named};
+ghost use Rattle.ctl_session.specs.PackageNames.{ArePackageNames, AddsNames, lent_names, is_among, has_package};
+ghost use Rattle.ctl_store.specs.State.{stanzas_named};
 
 use ctl_store::Store;
 use std::alloc::{AllocError, Global};

@@ -1,5 +1,6 @@
 use Rattle.ctl_store.specs.Held.{state_of, keyed_of}
-use Rattle.ctl_session.specs.PackageNames.{lent_names, stanzas_named}
+use Rattle.ctl_session.specs.PackageNames.{lent_names}
+use Rattle.ctl_store.specs.State.{stanzas_named}
 use Rattle.ctl_session.proofs.ListedNameLemmas.{KeysBefore}
 use Rattle.ctl_session.proofs.package_names.add_names.Given as goal
 
