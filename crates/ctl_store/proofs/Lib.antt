@@ -13,3 +13,4 @@ pub mod KeyLemmas
 pub mod LookLemmas
 pub mod StarLemmas
 pub mod PriorityLemmas
+pub mod WordLemmas
