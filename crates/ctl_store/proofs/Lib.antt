@@ -15,3 +15,4 @@ pub mod StarLemmas
 pub mod PriorityLemmas
 pub mod HeldLemmas
 pub mod FindLemmas
+pub mod WordLemmas
