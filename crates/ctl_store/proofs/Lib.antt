@@ -13,3 +13,5 @@ pub mod KeyLemmas
 pub mod LookLemmas
 pub mod StarLemmas
 pub mod PriorityLemmas
+pub mod WordLemmas
+pub mod PrefsLemmas

@@ -10,6 +10,7 @@ pub mod PinForms
 pub mod SelectorLaws
 pub mod Named
 pub mod State
+pub mod Prefs
 pub mod Edits
 pub mod Step
 pub mod Rows

@@ -7,6 +7,9 @@ mod list_class;
 mod order;
 mod pin_version;
 mod plan;
+mod prefs;
+#[cfg(test)]
+mod prefs_tests;
 mod priority;
 mod refusal;
 mod rows;
@@ -17,12 +20,14 @@ mod store;
 mod table;
 #[cfg(test)]
 mod tests;
+mod words;
 
 pub use edit::{Edit, boxed};
 pub use limits::{Counts, Limits};
 pub use list_class::ListClass;
 pub use pin_version::PinVersion;
 pub use plan::Plan;
+pub use prefs::read_prefs;
 pub use priority::read_priority;
 pub use refusal::Refusal;
 pub use selector::{PinSetting, Selector};
