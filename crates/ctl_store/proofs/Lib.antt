@@ -16,3 +16,5 @@ pub mod PriorityLemmas
 pub mod HeldLemmas
 pub mod FindLemmas
 pub mod WordLemmas
+pub mod WordLemmas
+pub mod PrefsLemmas

@@ -94,8 +94,8 @@ priority_cause body = if is_some (priority_of body) then None else Some causes.P
 -- what is wrong with a field of this name and body
 abbrev pub field_cause : Bool → List ℕ → List ℕ → Option Cause
 field_cause general name body =
-    if is_same_name name package_name then package_cause (words_of body)
-    else (if is_same_name name pin_name then pin_cause general (words_of body)
+    if is_same_name name pin_name then pin_cause general (words_of body)
+    else (if is_same_name name package_name then package_cause (words_of body)
     else (if is_same_name name priority_name then priority_cause body else None))
 
 -- the first field that is wrong

@@ -8,6 +8,8 @@ mod order;
 mod pin_version;
 mod plan;
 mod prefs;
+#[cfg(test)]
+mod prefs_tests;
 mod priority;
 mod refusal;
 mod rows;
@@ -15,8 +17,6 @@ mod selector;
 mod shelf;
 mod stanza_key;
 mod store;
-#[cfg(test)]
-mod store_tests;
 mod table;
 #[cfg(test)]
 mod tests;

@@ -1,6 +1,6 @@
 //! Preferences (apt_preferences(5)).
 
-ghost use Rattle.std.specs.Prelude.{◌≡◌, ◌≢◌, ◌+◌, ◌<◌, ◌≤◌, ◌^◌, ◌++◌, [], ◌∷◌, true, Some, None, Ok, Err, length, map, unwrap_or, option_copied, IfOk, IfErr, OnOk};
+ghost use Rattle.std.specs.Prelude.{◌≡◌, ◌≢◌, ◌+◌, ◌<◌, ◌≤◌, ◌^◌, ◌++◌, [], ◌∷◌, true, Some, None, Ok, Err, length, map, unwrap_or, option_copied, IfOk, IfErr, IfSome, OnOk};
 ghost use Rattle.ctl_stanza.specs.declared.fault.Cause.TheVariants as causes;
 ghost use Rattle.ctl_stanza.specs.Faults.{IsMemoryAtZero, Tells, is_empty_body};
 ghost use Rattle.ctl_stanza.specs.Records.{parts_of_fields};
@@ -9,7 +9,7 @@ ghost use Rattle.ctl_store.specs.Edits.{settings_of};
 ghost use Rattle.ctl_store.specs.Held.{AreDistinct};
 ghost use Rattle.ctl_store.specs.PinVersions.{is_pin_version};
 ghost use Rattle.ctl_store.specs.Priority.{priority_of};
-ghost use Rattle.ctl_store.specs.Prefs.{words_of, is_general as is_general_of, version_asked as version_asked_of, list_asked as list_asked_of, body_in, is_missing, field_cause, package_cause, pin_cause, asked_cause, priority_cause, first_wrong, words_in, own_fault, record_settings, selectors_of, with_priority, keep_first, first_settings, records_before_fault, read_prefs_text};
+ghost use Rattle.ctl_store.specs.Prefs.{words_of, is_general as is_general_of, version_asked as version_asked_of, list_asked as list_asked_of, body_in, is_missing, field_cause, package_cause, pin_cause, asked_cause, priority_cause, first_wrong, words_in, own_fault, first_own_fault, all_settings, record_settings, selectors_of, with_priority, keep_first, first_settings, records_before_fault, read_prefs_text};
 ghost use Rattle.ctl_stanza.specs.Fields.{package_name};
 
 use crate::pin_version::PinVersion;
@@ -31,6 +31,16 @@ fn body_in<'a>(item: &'a Record, name: &[u8]) -> Option<&'a [u8]>
         }
     }
     None
+}
+
+// The same, or an empty one where there is no such field.
+fn body_or_none<'a>(item: &'a Record, name: &[u8]) -> &'a [u8]
+    ensures { result.now ≡ unwrap_or (body_in name.now (parts_of_fields item.now)) [] }
+{
+    match body_in(item, name) {
+        Some(body) => body,
+        None => &[],
+    }
 }
 
 fn is_empty_body(body: Option<&[u8]>) -> bool
@@ -62,11 +72,7 @@ fn package_cause(body: &[u8]) -> Option<Cause>
 }
 
 // What is wrong with a pin that asks for a version.
-fn version_cause(
-    alloc: Global,
-    general: bool,
-    version: &[u8],
-) -> Result<Option<Cause>, AllocError>
+fn version_cause(alloc: Global, general: bool, version: &[u8]) -> Result<Option<Cause>, AllocError>
     ensures { IfOk result (λ cause. cause ≡ asked_cause general (Some version.now) None) }
 {
     match PinVersion::read(alloc, version)? {
@@ -113,10 +119,10 @@ fn field_cause(
 ) -> Result<Option<Cause>, AllocError>
     ensures { IfOk result (λ cause. cause ≡ field_cause general name.now body.now) }
 {
-    if name.eq_ignore_ascii_case(b"Package") {
-        Ok(package_cause(body))
-    } else if name.eq_ignore_ascii_case(b"Pin") {
+    if name.eq_ignore_ascii_case(b"Pin") {
         pin_cause(alloc, general, body)
+    } else if name.eq_ignore_ascii_case(b"Package") {
+        Ok(package_cause(body))
     } else if name.eq_ignore_ascii_case(b"Pin-Priority") {
         Ok(priority_cause(body))
     } else {
@@ -125,6 +131,7 @@ fn field_cause(
 }
 
 // Ends with the first field that is wrong.
+#[tactic(auto, using(crate::proofs::PrefsLemmas::never_memory))]
 fn check_fields(alloc: Global, general: bool, item: &Record) -> Result<(), TextFault>
     ensures whole { OnOk result (first_wrong general (parts_of_fields item.now) ≡ None) }
     ensures fault { IfErr result (Tells (first_wrong general (parts_of_fields item.now))) }
@@ -164,6 +171,7 @@ fn check_record(alloc: Global, item: &Record) -> Result<(), TextFault>
 }
 
 // Adds a setting, unless its selector stands before.
+#[tactic(auto, using(crate::proofs::PrefsLemmas::kept_before, crate::proofs::PrefsLemmas::kept_new))]
 fn keep_first(
     kept: &mut IndexMap<Selector, i16>,
     selector: Selector,
@@ -243,6 +251,7 @@ fn keep_list(
 }
 
 // Adds the settings of a record by the bodies of its fields.
+#[tactic(auto, using(crate::proofs::PrefsLemmas::version_is))]
 fn keep_settings(
     alloc: Global,
     kept: &mut IndexMap<Selector, i16>,
@@ -263,6 +272,7 @@ fn keep_settings(
 }
 
 // Adds the settings of a record, or ends with its fault.
+#[tactic(auto, using(crate::proofs::PrefsLemmas::good_pin))]
 fn keep_record(
     alloc: Global,
     kept: &mut IndexMap<Selector, i16>,
@@ -274,40 +284,64 @@ fn keep_record(
     ensures memory { IfErr result IsMemoryAtZero }
 {
     check_record(alloc, item)?;
-    let packages = body_in(item, b"Package").unwrap_or(&[]);
-    let pin = body_in(item, b"Pin").unwrap_or(&[]);
-    let body = body_in(item, b"Pin-Priority").unwrap_or(&[]);
+    let packages = body_or_none(item, b"Package");
+    let pin = body_or_none(item, b"Pin");
+    let body = body_or_none(item, b"Pin-Priority");
     if let Some(priority) = read_priority(body) {
         keep_settings(alloc, kept, packages, pin, priority)?;
     }
     Ok(())
 }
 
-// What stands before the record in which a line stands: up to the last blank line before it.
+// Adds the settings of records, or ends with the fault of the first that has one.
+#[tactic(auto, using(crate::proofs::PrefsLemmas::first_settings_append))]
+fn keep_records(
+    alloc: Global,
+    kept: &mut IndexMap<Selector, i16>,
+    records: &[Record],
+) -> Result<(), TextFault>
+    ensures whole { OnOk result (first_own_fault records.now ≡ None) }
+    ensures settings { OnOk result (kept.new.entries ≡ first_settings kept.old.entries (all_settings records.now)) }
+    ensures fault { IfErr result (Tells (first_own_fault records.now)) }
+    ensures memory { IfErr result IsMemoryAtZero }
+{
+    let mut left = records;
+    while let Some((item, behind)) = left.split_first() {
+        keep_record(alloc, kept, item)?;
+        left = behind;
+    }
+    Ok(())
+}
+
+// What stands before the record in which a line stands: up to the last blank line before it, or up to the line itself
+// where it is blank.
 fn before_record(text: &[u8], line: u64) -> &[u8]
     ensures { length result.now ≤ length text.now }
 {
     let mut lines = line;
+    let mut start = 0;
     let mut end = 0;
     let mut blank = true;
     for (i, byte) in text.iter().enumerate() {
-        if lines == 0 {
-            break;
-        }
         if *byte == b'\n' {
+            if lines == 0 {
+                break;
+            }
             if blank {
                 end = i + 1;
             }
+            start = i + 1;
             blank = true;
             lines -= 1;
         } else if *byte != b' ' && *byte != b'\t' {
             blank = false;
         }
     }
-    &text[..end]
+    if blank { &text[..start] } else { &text[..end] }
 }
 
 // The records before the first piece that has a faulty line, and the fault of that piece.
+#[tactic(auto, using(crate::proofs::PrefsLemmas::all_before))]
 fn records_before_fault(
     alloc: Global,
     text: &[u8],
@@ -315,6 +349,7 @@ fn records_before_fault(
 ) -> Result<(Vec<Record>, Option<TextFault>), TextFault>
     requires lines { first_line + length text.now < 2 ^ 64 }
     ensures ok { IfOk result (λ read. (read.0.items, read.1) ≡ records_before_fault first_line text.now) }
+    ensures memory { IfOk result (λ read. IfSome read.1 IsMemoryAtZero) }
     ensures err { IfErr result (λ fault. fault ≡ record { line = 0; cause = causes.Memory }) }
 {
     match read_records(alloc, text, first_line) {
@@ -323,9 +358,11 @@ fn records_before_fault(
             if fault.cause == Cause::Memory {
                 return Err(fault);
             }
-            let front = before_record(text, fault.line - first_line);
-            let records = read_records(alloc, front, first_line)?;
-            Ok((records, Some(fault)))
+            let front = before_record(text, fault.line.saturating_sub(first_line));
+            match read_records(alloc, front, first_line) {
+                Ok(records) => Ok((records, Some(fault))),
+                Err(_) => Err(TextFault::from(AllocError)),
+            }
         }
     }
 }
@@ -356,11 +393,7 @@ fn settings_in_order(
 /// [`Cause::Version`](ctl_stanza::Cause::Version), [`Cause::Form`](ctl_stanza::Cause::Form) and
 /// [`Cause::Priority`](ctl_stanza::Cause::Priority). Where memory runs out the cause is
 /// [`Cause::Memory`](ctl_stanza::Cause::Memory) and the line is 0.
-pub fn read_prefs(
-    alloc: Global,
-    text: &[u8],
-    first_line: u64,
-) -> Result<Vec<PinSetting>, TextFault>
+pub fn read_prefs(alloc: Global, text: &[u8], first_line: u64) -> Result<Vec<PinSetting>, TextFault>
     requires lines { first_line + length text.now < 2 ^ 64 }
     ensures ok { IfOk result (λ settings. read_prefs_text first_line text.now ≡ Ok (settings_of settings.items)) }
     ensures distinct { IfOk result (λ settings. AreDistinct (settings_of settings.items)) }
@@ -369,9 +402,7 @@ pub fn read_prefs(
 {
     let (records, fault) = records_before_fault(alloc, text, first_line)?;
     let mut kept: IndexMap<Selector, i16> = IndexMap::new(alloc);
-    for record in &records {
-        keep_record(alloc, &mut kept, record)?;
-    }
+    keep_records(alloc, &mut kept, &records)?;
     if let Some(fault) = fault {
         return Err(fault);
     }

@@ -102,7 +102,11 @@ pub(crate) fn version_asked(text: &[u8]) -> Option<&[u8]>
     ensures { option_copied result ≡ version_asked (words_of text.now) }
 {
     let (form, version) = two_words(text)?;
-    if form == b"version".as_slice() { Some(version) } else { None }
+    if form == b"version".as_slice() {
+        Some(version)
+    } else {
+        None
+    }
 }
 
 /// What stands behind `release a=`, where a text is these two words.

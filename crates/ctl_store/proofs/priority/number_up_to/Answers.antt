@@ -1,4 +1,4 @@
-use Rattle.std.proofs.Common.{◌≡◌, ◌∙◌, ap, sym, None, arith}
+use Rattle.std.proofs.Common.{◌∙◌, ap, sym, arith}
 use Rattle.ctl_store.proofs.PriorityLemmas.{number_behind, one_too_great}
 use Rattle.ctl_store.proofs.priority.number_up_to.Goals as goal
 
