@@ -1,7 +1,8 @@
 //! Changes a store by edits from standard input, each on a line of words with tabs between them: the edit's name and its
 //! parts, in which bytes stand as hexadecimal digits. Prints for each, on a line, `ok` and the keys that went and came, or
-//! `refused` and the number of the refusal, behind the number that was foretold. `limits`, with how many stanzas and edits, begins with a new store, and `dump`,
-//! with the names of packages, prints all that the store holds and the marks of these packages.
+//! `foretold` and the number of the refusal that is foretold, and `refused` and the number of that which comes. `limits`,
+//! with how many stanzas and edits, begins with a new store, and `dump`, with the names of packages, prints all that the
+//! store holds and the marks of these packages.
 #![tactic(auto)]
 
 ghost use Rattle.ctl_store.specs.Edits.{edit_of};
