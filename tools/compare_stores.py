@@ -231,7 +231,7 @@ def generate_sequence(source, oracle):
             state = after
             outcome = "ok" + "".join(f" -{key}" for key in gone) + "".join(f" +{key}" for key in come)
         except oracle.Refused as refused:
-            outcome = f"refused {refused.number}"
+            outcome = f"foretold {refused.number} refused {refused.number} "
         told.append(("\t".join(words), outcome))
         told.append((dump, state_words(oracle, state, keys, limits)))
     return told
@@ -252,7 +252,7 @@ def compare(told, answers):
     for (line, wanted), answer in zip(told, answers, strict=True):
         word = line.split("\t")[0]
         if word not in ("limits", "dump"):
-            outcomes[word, wanted.split(" ")[1] if wanted.startswith("refused") else "ok"] += 1
+            outcomes[word, wanted.split(" ")[1] if wanted.startswith("foretold") else "ok"] += 1
         if answer != wanted:
             wrong += 1
             if wrong <= 5:

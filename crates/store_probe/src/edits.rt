@@ -103,7 +103,10 @@ fn settings(alloc: Global, words: &mut Words<'_>) -> Result<Vec<PinSetting>>
     ensures { IfOk result (λ settings. AreDistinct (settings_of settings.items)) }
 {
     let mut pins = IndexMap::new(alloc);
-    while let Some(word) = words.next_word() {
+    for _ in 0..u64::MAX {
+        let Some(word) = words.next_word() else {
+            break;
+        };
         let selector = selector(alloc, word, words)?;
         let priority = words.priority()?;
         pins.insert(selector, priority)?;

@@ -1,17 +1,18 @@
 //! Changes a store by edits from standard input, each on a line of words with tabs between them: the edit's name and its
 //! parts, in which bytes stand as hexadecimal digits. Prints for each, on a line, `ok` and the keys that went and came, or
-//! `refused` and the number of the refusal. `limits`, with how many stanzas and edits, begins with a new store, and `dump`,
-//! with the names of packages, prints all that the store holds and the marks of these packages.
+//! `foretold` and the number of the refusal that is foretold, and `refused` and the number of that which comes. `limits`,
+//! with how many stanzas and edits, begins with a new store, and `dump`, with the names of packages, prints all that the
+//! store holds and the marks of these packages.
 #![tactic(auto)]
 
 ghost use Rattle.ctl_store.specs.Edits.{edit_of};
-ghost use Rattle.ctl_store.specs.Held.{IsProper};
+ghost use Rattle.ctl_store.specs.Held.{IsProper, IsReady};
 
 mod edits;
 mod state;
 mod words;
 
-use anyhow::{Result, bail};
+use anyhow::Result;
 use ctl_store::{Edit, Limits, Plan, Refusal, Store};
 use edits::edit_named;
 use state::{append_key, append_state};
@@ -33,32 +34,57 @@ fn append_keys(alloc: Global, plan: &Plan, line: &mut Vec<u8>) -> Result<(), All
     Ok(())
 }
 
-fn append_refusal(alloc: Global, why: Refusal, line: &mut Vec<u8>) -> Result<(), AllocError> {
-    let told = format!(in alloc; "refused {}", why.number())?;
+fn append_refusal(
+    alloc: Global,
+    word: &[u8],
+    why: Refusal,
+    line: &mut Vec<u8>,
+) -> Result<(), AllocError> {
+    line.extend_from_slice(word)?;
+    let told = format!(in alloc; " {} ", why.number())?;
     line.extend_from_slice(told.as_bytes())
 }
 
-// Changes the store by an edit. What is foretold of it must come.
-fn append_outcome(alloc: Global, store: &mut Store, edit: Edit, line: &mut Vec<u8>) -> Result<()>
+// Carries out a plan of the store.
+fn append_accepted(
+    alloc: Global,
+    store: &mut Store,
+    plan: Plan,
+    line: &mut Vec<u8>,
+) -> Result<(), AllocError>
+    requires { IsReady store.old plan }
+{
+    append_keys(alloc, &plan, line)?;
+    store.commit(plan);
+    Ok(())
+}
+
+// Changes the store by an edit.
+fn append_outcome(
+    alloc: Global,
+    store: &mut Store,
+    edit: Edit,
+    line: &mut Vec<u8>,
+) -> Result<(), AllocError>
     requires { IsProper (edit_of edit) }
 {
-    let foretold = store.check(&edit).err();
     match store.prepare(edit) {
-        Ok(plan) => {
-            if foretold.is_some() {
-                bail!("an edit is accepted, and its check says that it is refused");
-            }
-            append_keys(alloc, &plan, line)?;
-            store.commit(plan);
-        }
-        Err((edit, why)) => {
-            if foretold != Some(why) || store.check(&edit).err() != Some(why) {
-                bail!("an edit is refused, and its check says otherwise");
-            }
-            append_refusal(alloc, why, line)?;
-        }
+        Ok(plan) => append_accepted(alloc, store, plan, line),
+        Err((_, why)) => append_refusal(alloc, b"refused", why, line),
     }
-    Ok(())
+}
+
+// Where an edit would be refused, what is foretold of it.
+fn append_foretold(
+    alloc: Global,
+    store: &Store,
+    edit: &Edit,
+    line: &mut Vec<u8>,
+) -> Result<(), AllocError> {
+    match store.check(edit) {
+        Ok(()) => Ok(()),
+        Err(why) => append_refusal(alloc, b"foretold", why, line),
+    }
 }
 
 fn limits(words: &mut Words<'_>) -> Result<Limits> {
@@ -78,6 +104,7 @@ fn append_answer(alloc: Global, store: &mut Store, text: &str, line: &mut Vec<u8
         "dump" => append_state(alloc, store, &mut words, line)?,
         word => {
             let edit = edit_named(alloc, word, &mut words)?;
+            append_foretold(alloc, store, &edit, line)?;
             append_outcome(alloc, store, edit, line)?;
         }
     }

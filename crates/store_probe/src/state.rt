@@ -135,7 +135,10 @@ pub fn append_state(
 ) -> Result<()> {
     line.extend_from_slice(b"state")?;
     append_lists(alloc, store, line)?;
-    while let Some(word) = words.next_word() {
+    for _ in 0..u64::MAX {
+        let Some(word) = words.next_word() else {
+            break;
+        };
         let name = hex::decode(alloc, word)?;
         append_mark(alloc, &name, store.mark(&name), line)?;
     }
