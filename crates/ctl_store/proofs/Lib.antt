@@ -16,5 +16,4 @@ pub mod PriorityLemmas
 pub mod HeldLemmas
 pub mod FindLemmas
 pub mod WordLemmas
-pub mod WordLemmas
 pub mod PrefsLemmas

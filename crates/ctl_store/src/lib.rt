@@ -17,6 +17,8 @@ mod selector;
 mod shelf;
 mod stanza_key;
 mod store;
+#[cfg(test)]
+mod store_tests;
 mod table;
 #[cfg(test)]
 mod tests;
