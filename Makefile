@@ -12,8 +12,8 @@ help:
 	@echo 'make demo      runs the examples with an unproved quick build, and compares what they print'
 	@echo 'make build     proves the program and leaves it as $(PROGRAM)'
 	@echo 'make test      the whole gate: every proof from nothing, the must-fail edits, the tests, the program'
-	@echo 'make bench     measures time and memory beside grep-dctrl; FILE=.. names a Packages file'
-	@echo 'make install   puts the program below DESTDIR and PREFIX ($(PREFIX))'
+	@echo 'make bench     measures time and memory beside grep-dctrl and apt-cache; FILE=.. names a Packages file'
+	@echo 'make install   puts the program and its manual page below DESTDIR and PREFIX ($(PREFIX))'
 	@echo 'make clean     removes what was made'
 
 # `rt try` builds the program without any proof, and runs it on each script.
@@ -41,7 +41,10 @@ test: demo
 	python3 tests/program/run.py $(PROGRAM) examples
 
 bench: $(PROGRAM)
-	python3 bench/script.py $(PROGRAM) $(FILE)
+	python3 bench/lists.py $(PROGRAM) $(FILE)
+	python3 bench/stores.py $(PROGRAM) $(FILE)
+	cd crates/text_probe && rt run < stdin > /dev/null
+	python3 bench/texts.py $(FILE)
 ifdef FILE
 	cd crates/relation_probe && rt run > /dev/null
 	python3 bench/relations.py $(FILE)
@@ -49,6 +52,7 @@ endif
 
 install: $(PROGRAM)
 	install -D -m 755 $(PROGRAM) $(DESTDIR)$(PREFIX)/bin/dctrl-cache
+	install -D -m 644 man/dctrl-cache.1 $(DESTDIR)$(PREFIX)/share/man/man1/dctrl-cache.1
 
 clean:
 	rm -rf crates/*/out

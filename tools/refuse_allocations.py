@@ -1,10 +1,14 @@
 #!/usr/bin/env python3
-"""refuse_allocations.py PROGRAM SCRIPT...
+"""refuse_allocations.py PROGRAM [SCRIPT...]
 
-Runs PROGRAM on each script with the first request for memory refused, then the second, and so on until none is.
-A run may end with status 2 and the one line `dctrl-cache: out of memory`, with no answer before it. In any other run
-the commands that print `E: line N: out of memory` must have changed nothing: the rest of the output has to be what
-PROGRAM prints, with ample memory, for the script with these commands left out.
+Runs PROGRAM on each script with the first request for memory refused, then the second, and so on until none is; and then
+the same with the Nth request and all after it refused. Without a script these are the worked ones in refused_scripts.py,
+of all edits and of lists by -l and --status.
+
+A run may end with status 2, without an answer and with one line on standard error: `dctrl-cache: out of memory`, or
+`dctrl-cache: FILE: out of memory` of a file that is loaded. In any other run the commands that print
+`E: line N: out of memory` must have changed nothing: the rest of the output has to be what PROGRAM prints, with ample
+memory, for the script with these commands left out.
 
 It needs a C compiler, and is no part of the gate."""
 
@@ -14,9 +18,21 @@ import subprocess
 import sys
 import tempfile
 
+from refused_scripts import FILES, SCRIPTS
+
 HERE = os.path.dirname(os.path.abspath(__file__))
 BODIES = (b"add-list", b"put", b"prefs")
 REFUSED = re.compile(rb"E: line (\d+): out of memory\n")
+PATIENCE = 60
+
+
+class Case:
+    """A script, and the words that the program is called with."""
+
+    def __init__(self, name, script, words=()):
+        self.name = name
+        self.script = script
+        self.words = list(words)
 
 
 def library(folder):
@@ -27,10 +43,10 @@ def library(folder):
     return path
 
 
-def run(program, script, settings=None):
+def run(program, words, script, settings=None):
     """The status, the output and the errors of a run on a script."""
     environment = dict(os.environ, **(settings or {}))
-    done = subprocess.run([program], input=script, env=environment,
+    done = subprocess.run([program] + words, input=script, env=environment, timeout=PATIENCE,
                           stdout=subprocess.PIPE, stderr=subprocess.PIPE)
     return done.returncode, done.stdout, done.stderr
 
@@ -49,38 +65,67 @@ def without(script, numbers):
     return b"\n".join(lines)
 
 
-def check(program, preload, folder, script):
-    """Refuses each request in turn. How many runs there were, and how many commands were refused in them."""
+def fault(case, output, errors):
+    """Whether a run with status 2 ended as it may."""
+    files = [word.split("=", 1)[-1].encode() for word in case.words if not word.startswith("-")]
+    lines = [b"dctrl-cache: out of memory\n"] + [b"dctrl-cache: %s: out of memory\n" % name for name in files]
+    return output == b"" and errors in lines
+
+
+def judge(program, case, status, output, errors):
+    """The numbers of the commands refused for memory, or None where the run isn't as it may be."""
+    if status == 2:
+        return [] if fault(case, output, errors) else None
+    numbers = [int(number) for number in REFUSED.findall(output)]
+    _, expected, _ = run(program, case.words, without(case.script, numbers))
+    right = REFUSED.sub(b"", output) == expected and errors == b"" and status == (1 if b"E: line " in output else 0)
+    return numbers if right else None
+
+
+def check(program, preload, folder, case, more):
+    """Refuses each request in turn. How many runs there were, how many ended, and how many commands were refused."""
     count_file = os.path.join(folder, "count")
-    nth = 0
-    commands = 0
+    nth, ended, commands = 0, 0, 0
     while True:
         nth += 1
-        status, output, errors = run(program, script, {
-            "LD_PRELOAD": preload, "REFUSE_NTH": str(nth), "REFUSE_COUNT": count_file})
+        settings = {"LD_PRELOAD": preload, "REFUSE_NTH": str(nth), "REFUSE_COUNT": count_file, **more}
+        status, output, errors = run(program, case.words, case.script, settings)
         with open(count_file, encoding="ascii") as file:
             if int(file.read()) < nth:
-                return nth - 1, commands
-        if status == 2:
-            if output != b"" or errors != b"dctrl-cache: out of memory\n":
-                raise SystemExit("request %d: %r, errors %r" % (nth, output, errors))
-            continue
-        numbers = [int(number) for number in REFUSED.findall(output)]
+                return nth - 1, ended, commands
+        numbers = judge(program, case, status, output, errors)
+        if numbers is None:
+            raise SystemExit("%s, request %d: status %d, output %r, errors %r" % (case.name, nth, status, output, errors))
+        ended += status == 2
         commands += len(numbers)
-        _, expected, _ = run(program, without(script, numbers))
-        if REFUSED.sub(b"", output) != expected or errors != b"":
-            raise SystemExit("request %d: got %r, expected %r, errors %r" % (nth, output, expected, errors))
+
+
+def worked_cases(folder):
+    """The worked scripts. Their files are written to a folder."""
+    for name, text in FILES.items():
+        with open(os.path.join(folder, name), "wb") as file:
+            file.write(text)
+    return [Case(name, script, [word.format(folder) for word in words]) for name, script, words in SCRIPTS]
+
+
+def named_cases(names):
+    """The scripts of some files."""
+    cases = []
+    for name in names:
+        with open(name, "rb") as file:
+            cases.append(Case(name, file.read()))
+    return cases
 
 
 def main(words):
-    program, scripts = words[0], words[1:]
+    program = os.path.abspath(words[0])
     with tempfile.TemporaryDirectory() as folder:
         preload = library(folder)
-        for name in scripts:
-            with open(name, "rb") as file:
-                script = file.read()
-            runs, commands = check(program, preload, folder, script)
-            print("%s: %d requests refused in turn, %d commands refused for memory" % (name, runs, commands))
+        for case in named_cases(words[1:]) if words[1:] else worked_cases(folder):
+            for what, more in (("in turn", {}), ("with all after it", {"REFUSE_ALL": "1"})):
+                runs, ended, commands = check(program, preload, folder, case, more)
+                print("%s: each of %d requests refused %s: %d runs ended before the script, %d commands refused"
+                      % (case.name, runs, what, ended, commands), flush=True)
 
 
 if __name__ == "__main__":

@@ -1,21 +1,27 @@
-/* Preloaded into a program, makes its Nth request for memory fail, counting from 1; N is in the environment as
-   REFUSE_NTH. How many requests there were is written to the file named by REFUSE_COUNT when the program ends. */
+/* Preloaded into a program, makes requests for memory fail: the Nth, counting from 1, or with REFUSE_ALL in the
+   environment the Nth and all after it. N is in the environment as REFUSE_NTH. How many requests there were is written
+   to the file named by REFUSE_COUNT when the program ends. */
 #define _GNU_SOURCE
 #include <dlfcn.h>
+#include <fcntl.h>
 #include <stdio.h>
 #include <stdlib.h>
+#include <unistd.h>
 
 static unsigned long count;
 
 static int refused(void) {
   static unsigned long nth;
+  static int all;
   static int known;
   if (!known) {
     const char *text = getenv("REFUSE_NTH");
     nth = text ? strtoul(text, NULL, 10) : 0;
+    all = getenv("REFUSE_ALL") != NULL;
     known = 1;
   }
-  return ++count == nth;
+  ++count;
+  return nth != 0 && (count == nth || (all && count > nth));
 }
 
 void *malloc(size_t size) {
@@ -30,12 +36,12 @@ void *realloc(void *old, size_t size) {
   return refused() ? NULL : real(old, size);
 }
 
+/* By calls that take no memory. */
 __attribute__((destructor)) static void tell(void) {
   const char *name = getenv("REFUSE_COUNT");
-  unsigned long total = count;
-  FILE *file = name ? fopen(name, "w") : NULL;
-  if (file) {
-    fprintf(file, "%lu\n", total);
-    fclose(file);
+  int file = name ? open(name, O_WRONLY | O_CREAT | O_TRUNC, 0600) : -1;
+  if (file >= 0) {
+    dprintf(file, "%lu\n", count);
+    close(file);
   }
 }

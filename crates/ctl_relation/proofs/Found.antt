@@ -316,10 +316,6 @@ group_found (suc n) kind text x e =
 
 -- ---- fields
 
--- the pieces from a text on
-abbrev Pieces : FieldKind → List ℕ → List (List AtomParts) → Type 0
-Pieces kind text groups = RelationsText kind text groups
-
 one_piece : (kind : FieldKind) (text : List ℕ) (piece : Option (List AtomParts)) → PieceText kind text piece → RelationsText kind text (groups_of (piece ∷ []))
 one_piece kind text piece h = (piece ∷ [], h, refl)
 

@@ -4,6 +4,7 @@ pub mod Key
 pub mod KeyLaws
 pub mod KeyTurns
 pub mod Front
+pub mod SmallBytes
 pub mod Version
 pub mod VersionLaws
 pub mod VersionText

@@ -1,5 +1,8 @@
--- How an atom holds its name and its qualifier: in one text, joined by a colon.
+-- How an atom holds its name and its qualifier, in one text, joined by a colon; and its bound, an operator and apart from
+-- it the version.
 use Rattle.std.specs.Prelude.{◌≡◌, ℕ, ◌≤◌, List, [], ◌∷◌, length, drop, Option, Some, None}
+use Rattle.std.specs.Option.{option_map}
+use Rattle.ctl_relation.specs.declared.operator.Operator.{Operator}
 use Rattle.ctl_relation.specs.Printed.{qualifier_text}
 
 abbrev pub qualifier_in : List ℕ → Option (List ℕ)
@@ -14,3 +17,7 @@ qualifier_behind name_len named = qualifier_in (drop name_len named)
 pub record IsNamed (name_len : ℕ) (named : List ℕ) : Type 0 where
   pub within : name_len ≤ length named
   pub behind : drop name_len named ≡ qualifier_text (qualifier_behind name_len named)
+
+-- Where there is a version, it is bound by the operator.
+abbrev pub bound_at_version : Operator → Option (List ℕ) → Option (Operator × List ℕ)
+bound_at_version operator version = option_map (λ text. (operator, text)) version

@@ -1,12 +1,14 @@
 //! Atoms, their printed form, and the counted test.
 
-ghost use Rattle.std.specs.Prelude.{◌≡◌, ◌+◌, ◌-◌, ◌^◌, ◌++◌, IfOk, OnOk, OnErr, min, take, vec_len};
+ghost use Rattle.std.specs.Prelude.{◌≡◌, ◌+◌, ◌-◌, ◌^◌, ◌∷◌, ◌++◌, IfOk, OnOk, OnErr, min, take, vec_len};
+ghost use Rattle.ctl_relation.specs.Bytes.{colon};
 ghost use Rattle.ctl_relation.specs.Lent.{lent, lent_bound};
 ghost use Rattle.ctl_relation.specs.Met.{met};
 ghost use Rattle.ctl_relation.specs.Printed.{atom_text};
 
 use crate::offer::Offer;
 use crate::operator::Operator;
+use crate::small_bytes::SmallBytes;
 use crate::steps::Steps;
 use crate::version::Version;
 use std::alloc::{AllocError, Global};
@@ -17,28 +19,42 @@ use std::marker::Model;
 #[derive(Drop)]
 pub struct Atom {
     // The name, and where there is a qualifier a colon and the qualifier.
-    named: Vec<u8>,
-    name_len: usize,
-    bound: Option<(Operator, Version)>,
+    named: SmallBytes,
+    // The version of the bound, if there is one. The operator stands apart from it, beside the length, so that an atom is
+    // no larger: lists hold one for most of their relations. Without a version it says nothing.
+    version: Option<Version>,
+    name_len: u32,
+    operator: Operator,
 }
 
 impl Model for Atom {
     ghost use Rattle.std.specs.Prelude.{take};
     ghost use Rattle.ctl_relation.specs.Parts.{AtomParts};
-    ghost use Rattle.ctl_relation.specs.Named.{qualifier_behind, IsNamed};
+    ghost use Rattle.ctl_relation.specs.Named.{qualifier_behind, bound_at_version, IsNamed};
 
     ghost Value = { AtomParts };
 
     ghost view = { λ a. record {
-      name = take a.name_len a.named.items;
-      qualifier = qualifier_behind a.name_len a.named.items;
-      bound = a.bound;
+      name = take a.name_len a.named;
+      qualifier = qualifier_behind a.name_len a.named;
+      bound = bound_at_version a.operator a.version;
     } };
 
-    ghost invariant = { λ a. IsNamed a.name_len a.named.items };
+    ghost invariant = { λ a. IsNamed a.name_len a.named };
+}
+
+// A name, a colon and a qualifier.
+fn joined_name(alloc: Global, name: &[u8], qualifier: &[u8]) -> Result<SmallBytes, AllocError>
+    ensures { IfOk result (λ joined. joined ≡ name.now ++ colon ∷ qualifier.now) }
+{
+    let mut joined = Vec::from_slice(alloc, name)?;
+    joined.push(b':')?;
+    joined.extend_from_slice(qualifier)?;
+    SmallBytes::from_slice(alloc, &joined)
 }
 
 impl Atom {
+    // A name of 2^32 bytes or more is taken for want of memory.
     pub(crate) fn new(
         alloc: Global,
         name: &[u8],
@@ -48,16 +64,22 @@ impl Atom {
         ensures { IfOk result (λ atom.
             atom ≡ record { name = name.now; qualifier = lent qualifier.entry; bound = bound }) }
     {
-        let mut named = Vec::from_slice(alloc, name)?;
-        if let Some(qualifier) = qualifier {
-            named.reserve_exact(qualifier.len().saturating_add(1))?;
-            named.push(b':')?;
-            named.extend_from_slice(qualifier)?;
+        if name.len() > u32::MAX as usize {
+            return Err(AllocError);
         }
+        let named = match qualifier {
+            None => SmallBytes::from_slice(alloc, name)?,
+            Some(qualifier) => joined_name(alloc, name, qualifier)?,
+        };
+        let (operator, version) = match bound {
+            None => (Operator::Equal, None),
+            Some((operator, version)) => (operator, Some(version)),
+        };
         Ok(Atom {
             named,
-            name_len: name.len(),
-            bound,
+            version,
+            name_len: name.len() as u32,
+            operator,
         })
     }
 
@@ -65,14 +87,14 @@ impl Atom {
     pub fn name(&self) -> &[u8]
         ensures { result.now ≡ self.now.name }
     {
-        self.named.split_at(self.name_len).0
+        self.named.as_slice().split_at(self.name_len as usize).0
     }
 
     /// The architecture qualifier behind the name's colon, as `any`, if there is one.
     pub fn qualifier(&self) -> Option<&[u8]>
         ensures { lent result ≡ self.now.qualifier }
     {
-        match self.named.split_at(self.name_len).1 {
+        match self.named.as_slice().split_at(self.name_len as usize).1 {
             [] => None,
             [_, qualifier @ ..] => Some(qualifier),
         }
@@ -82,8 +104,8 @@ impl Atom {
     pub fn bound(&self) -> Option<(Operator, &Version)>
         ensures { lent_bound result ≡ self.now.bound }
     {
-        match &self.bound {
-            Some((operator, version)) => Some((*operator, version)),
+        match &self.version {
+            Some(version) => Some((self.operator, version)),
             None => None,
         }
     }
@@ -98,10 +120,10 @@ impl Atom {
         if self.name() != offer.name() {
             return false;
         }
-        match (&self.bound, offer.version()) {
+        match (&self.version, offer.version()) {
             (None, _) => true,
             (Some(_), None) => false,
-            (Some((operator, bound)), Some(version)) => operator.relates(version, bound),
+            (Some(bound), Some(version)) => self.operator.relates(version, bound),
         }
     }
 
@@ -127,10 +149,10 @@ impl Atom {
         ensures ok { OnOk result (out.new.items ≡ out.old.items ++ atom_text self.now) }
         ensures err { OnErr result (take (vec_len out.old) out.new.items ≡ out.old.items) }
     {
-        out.extend_from_slice(&self.named)?;
-        if let Some((operator, version)) = &self.bound {
+        out.extend_from_slice(self.named.as_slice())?;
+        if let Some(version) = &self.version {
             out.extend_from_slice(b" (")?;
-            out.extend_from_slice(operator.text())?;
+            out.extend_from_slice(self.operator.text())?;
             out.push(b' ')?;
             out.extend_from_slice(version.text())?;
             out.push(b')')?;

@@ -16,6 +16,7 @@ mod relation_laws;
 #[cfg(test)]
 mod relation_tests;
 mod relations;
+mod small_bytes;
 mod steps;
 mod tokens;
 mod version;

@@ -3,7 +3,7 @@
 ghost use Rattle.std.specs.Prelude.{◌≡◌, IfOk};
 ghost use Rattle.ctl_relation.specs.Lent.{lent};
 
-use crate::bytes::Bytes;
+use crate::small_bytes::SmallBytes;
 use crate::version::Version;
 use std::alloc::{AllocError, Global};
 use std::marker::Model;
@@ -11,7 +11,7 @@ use std::marker::Model;
 /// A name that a stanza offers, and the version at which it does, if there is one.
 #[derive(Drop)]
 pub struct Offer {
-    name: Bytes,
+    name: SmallBytes,
     version: Option<Version>,
 }
 
@@ -29,7 +29,7 @@ impl Offer {
         ensures { IfOk result (λ offer. offer ≡ record { name = name.now; version = version }) }
     {
         Ok(Offer {
-            name: Bytes::from_slice(alloc, name)?,
+            name: SmallBytes::from_slice(alloc, name)?,
             version,
         })
     }

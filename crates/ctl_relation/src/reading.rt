@@ -122,7 +122,7 @@ fn relations_from(alloc: Global, body: &[u8], kind: FieldKind) -> Result<Relatio
 
 /// Reads the body of a relation field of this kind: its groups, or its first fault from the left.
 ///
-/// `Memory` is the only fault that may stand in place of another answer.
+/// `Memory` is the only fault that may stand in place of another answer. A name of 2^32 bytes or more is taken for it.
 pub fn parse_relations(
     alloc: Global,
     body: &[u8],

@@ -2,6 +2,7 @@
 
 ghost use Rattle.std.specs.Prelude.{None};
 
+use crate::run_text;
 use ctl_session::{
     Arguments, Cache, Failed, Fault, FromRead, FromWrite, Session, Sink, Source, arguments,
 };
@@ -110,6 +111,131 @@ fn a_failed_write_ends_the_run(rt: HostRuntime) -> Result<(), Fail> {
     Ok(())
 }
 
+/// Three lists of one package, and two queries.
+const THREE_LISTS: &[u8] =
+    b"add-list main packages\nPackage: foo\nVersion: 1.0-1\n.\nadd-list sid packages\nPackage: foo\nVersion: 2.0-1\n.\n\
+    add-list status status\nPackage: foo\nStatus: install ok installed\nVersion: 1.0-1\n.\npkgnames\npkgnames\n";
+
+/// How many lists a session has.
+fn list_count(session: &Session) -> usize {
+    let mut count: usize = 0;
+    for _ in session.cache().store().lists() {
+        count = count.saturating_add(1);
+    }
+    count
+}
+
+#[test]
+fn a_write_may_fail_at_each_byte(rt: HostRuntime) -> Result<(), Fail> {
+    let text: &[u8] = b"foo\nfoo\n";
+    for before in 0..8 {
+        let Ok(mut session) = Session::new(rt.alloc(), Cache::new(rt.alloc())) else {
+            return Err(Fail::from("no session"));
+        };
+        let mut reader = FromRead::new(THREE_LISTS);
+        let mut writer = FailingOnce {
+            taken: Vec::new(rt.alloc()),
+            before,
+            failures: 0,
+        };
+        let outcome = session.run(&mut reader, &mut writer);
+        let _ = reader.into_inner();
+        assert!(rt; outcome == Err(Fault::Write));
+        assert!(rt; Some(writer.taken.as_slice()) == text.get(..before));
+        assert_eq!(rt; list_count(&session), 3);
+        let again = run_text(rt.alloc(), &mut session, b"pkgnames\n")?;
+        assert_eq!(rt; again.as_slice(), b"foo\n".as_slice());
+    }
+    Ok(())
+}
+
+#[test]
+fn a_read_may_fail_at_each_byte(rt: HostRuntime) -> Result<(), Fail> {
+    for cut in 0..THREE_LISTS.len() {
+        let Some(given) = THREE_LISTS.get(..cut) else {
+            return Err(Fail::from("no start of the script"));
+        };
+        let Ok(mut session) = Session::new(rt.alloc(), Cache::new(rt.alloc())) else {
+            return Err(Fail::from("no session"));
+        };
+        let mut reader = Breaking {
+            bytes: given,
+            failures: 0,
+        };
+        let mut writer = FromWrite::new(Vec::<u8>::new(rt.alloc()));
+        let outcome = session.run(&mut reader, &mut writer);
+        let written = writer.into_inner();
+        assert!(rt; outcome == Err(Fault::Read));
+        // A body counts where its end and the newline behind it were given.
+        let bodies = given
+            .windows(3)
+            .filter(|three| *three == b"\n.\n".as_slice())
+            .count();
+        assert_eq!(rt; list_count(&session), bodies);
+        let is_asked = given
+            .windows(9)
+            .any(|nine| nine == b"pkgnames\n".as_slice());
+        let text: &[u8] = if is_asked { b"foo\n" } else { b"" };
+        assert_eq!(rt; written.as_slice(), text);
+    }
+    Ok(())
+}
+
+/// A reader that gives comments without end.
+#[derive(Drop)]
+struct Endless {
+    failures: u64,
+}
+
+impl Source for Endless {
+    ghost remaining = { λ s. None };
+
+    ghost failures = { λ s. s.failures };
+
+    fn read(&mut self, buf: &mut [u8]) -> Result<usize, Failed> {
+        let mut comment: &[u8] = b"#\n";
+        match comment.read(buf) {
+            Ok(n) if n > 0 => Ok(n),
+            _ => {
+                self.failures = self.failures.saturating_add(1);
+                Err(Failed)
+            }
+        }
+    }
+}
+
+#[test]
+fn a_script_without_end_is_stopped(rt: HostRuntime) -> Result<(), Fail> {
+    let Ok(mut session) = Session::with_lines(rt.alloc(), Cache::new(rt.alloc()), 1000) else {
+        return Err(Fail::from("no session"));
+    };
+    let mut reader = Endless { failures: 0 };
+    let mut writer = FromWrite::new(Vec::<u8>::new(rt.alloc()));
+    let outcome = session.run(&mut reader, &mut writer);
+    let _ = writer.into_inner();
+    assert!(rt; outcome == Err(Fault::TooManyLines));
+    Ok(())
+}
+
+#[test]
+fn a_command_cut_by_the_limit_of_lines_is_not_done(rt: HostRuntime) -> Result<(), Fail> {
+    let Ok(mut session) = Session::with_lines(rt.alloc(), Cache::new(rt.alloc()), 3) else {
+        return Err(Fail::from("no session"));
+    };
+    let script: &[u8] = b"pkgnames\nadd-list main packages\nPackage: a\nVersion: 1\n.\n";
+    let mut reader = FromRead::new(script);
+    let mut writer = FromWrite::new(Vec::<u8>::new(rt.alloc()));
+    let outcome = session.run(&mut reader, &mut writer);
+    let _ = reader.into_inner();
+    let written = writer.into_inner();
+    assert!(rt; outcome == Err(Fault::TooManyLines));
+    assert!(rt; written.is_empty());
+    assert_eq!(rt; list_count(&session), 0);
+    let again = run_text(rt.alloc(), &mut session, b"pkgnames\n")?;
+    assert!(rt; again.is_empty());
+    Ok(())
+}
+
 #[test]
 fn a_run_ends_at_its_limit_of_lines(rt: HostRuntime) -> Result<(), Fail> {
     let rows: [(&[u8], Option<Fault>); 4] = [
@@ -150,7 +276,7 @@ fn faults_have_their_words(rt: HostRuntime) -> Result<(), Fail> {
 /// The script that the words ask for. None where the words are refused.
 fn script_asked(alloc: Global, words: &[&str]) -> Option<Option<String>> {
     match arguments(alloc, words) {
-        Ok(Arguments { script }) => Some(script),
+        Ok(Arguments { script, .. }) => Some(script),
         Err(_) => None,
     }
 }
@@ -176,4 +302,37 @@ fn the_program_takes_a_script(rt: HostRuntime) {
         let refused = script_asked(rt.alloc(), words).is_none();
         assert!(rt; refused);
     }
+}
+
+#[test]
+fn the_program_takes_lists_and_a_status_file(rt: HostRuntime) -> Result<(), Fail> {
+    let words = ["p", "-l", "a=f", "--status", "s", "-l", "b", "x"];
+    let Ok(asked) = arguments(rt.alloc(), &words) else {
+        return Err(Fail::from("refused words"));
+    };
+    assert_eq!(rt; asked.lists.len(), 2);
+    for (list, word) in asked.lists.iter().zip(["a=f", "b"]) {
+        assert!(rt; list.as_str() == word);
+    }
+    let status = match &asked.status {
+        Some(status) => status.as_str() == "s",
+        None => false,
+    };
+    assert!(rt; status);
+    let script = match &asked.script {
+        Some(script) => script.as_str() == "x",
+        None => false,
+    };
+    assert!(rt; script);
+    let rows: [&[&str]; 4] = [
+        &["p", "-l"],
+        &["p", "--status"],
+        &["p", "--status", "s", "--status", "s"],
+        &["p", "-l", "-x"],
+    ];
+    for words in rows {
+        let refused = script_asked(rt.alloc(), words).is_none();
+        assert!(rt; refused);
+    }
+    Ok(())
 }

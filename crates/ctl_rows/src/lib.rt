@@ -10,14 +10,22 @@ use ctl_session::{Fault, FromRead, FromWrite, Session};
 use std::alloc::Global;
 
 #[cfg(test)]
+mod edits;
+#[cfg(test)]
 mod faults;
 #[cfg(test)]
+mod limits;
+#[cfg(test)]
 mod scripts;
+#[cfg(test)]
+mod states;
+#[cfg(test)]
+mod traps;
 
 /// Runs a script that is in memory, and gives what it writes: the text of the script's commands, one after another.
 pub fn run_text(alloc: Global, session: &mut Session, script: &[u8]) -> Result<Vec<u8>, Fault>
-    ensures { IfOk result (λ text. (outcomes : List Outcome) × Runs session.old.lists (commands_of script.now) outcomes
-        × (text.items ≡ text_of_all outcomes) × (session.new.lists ≡ state_after_all session.old.lists outcomes)) }
+    ensures { IfOk result (λ text. (outcomes : List Outcome) × Runs session.old.cache (commands_of script.now) outcomes
+        × (text.items ≡ text_of_all outcomes) × (session.new.cache ≡ state_after_all session.old.cache outcomes)) }
 {
     let mut reader = FromRead::new(script);
     let mut writer = FromWrite::new(Vec::<u8>::new(alloc));

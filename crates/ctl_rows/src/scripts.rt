@@ -1,7 +1,7 @@
 //! Scripts and what they write.
 
 use crate::run_text;
-use ctl_session::{Cache, FromRead, FromWrite, Refusal, Session, Summary};
+use ctl_session::{Cache, FromRead, FromWrite, Session, Summary};
 use std::alloc::Global;
 use std::test::Fail;
 
@@ -14,7 +14,7 @@ fn answer(alloc: Global, script: &[u8]) -> Option<Vec<u8>> {
 }
 
 /// Whether a script writes this text on an empty session.
-fn writes(alloc: Global, script: &[u8], text: &[u8]) -> bool {
+pub(crate) fn writes(alloc: Global, script: &[u8], text: &[u8]) -> bool {
     match answer(alloc, script) {
         Some(written) => written.as_slice() == text,
         None => false,
@@ -55,19 +55,16 @@ fn a_refused_body_adds_nothing(rt: HostRuntime) {
 fn each_refusal_names_its_line(rt: HostRuntime) {
     let rows: [(&str, &str); 18] = [
         ("\n # x\n\t\nfrob\n", "E: line 4: unknown command\n"),
-        ("put main\nPackage: a\n.\n", "E: line 1: unknown command\n"),
+        ("put main\nPackage: a\n.\n", "E: line 1: no such list\n"),
         ("put main\nPackage: a\n", "E: line 2: body has no end\n"),
         ("add-list\n.\n", "E: line 1: bad arguments\n"),
         ("add-list main\n.\n", "E: line 1: bad arguments\n"),
-        ("add-list main status\n.\n", "E: line 1: bad arguments\n"),
+        ("add-list main other\n.\n", "E: line 1: bad arguments\n"),
         (
             "add-list main packages x\n.\n",
             "E: line 1: bad arguments\n",
         ),
-        (
-            "add-list 'main' packages\n.\n",
-            "E: line 1: bad arguments\n",
-        ),
+        ("add-list 'main packages\n.\n", "E: line 1: bad arguments\n"),
         ("add-list -x packages\n.\n", "E: line 1: bad name\n"),
         ("add-list m! packages\noops\n.\n", "E: line 1: bad name\n"),
         ("pkgnames a b\n", "E: line 1: bad arguments\n"),
@@ -143,7 +140,7 @@ fn bodies_are_bytes(rt: HostRuntime) {
         ),
         // bodies are no text in UTF-8
         (
-            b"add-list m packages\nPackage: a\nVersion: \xff\xfe\n.\npkgnames",
+            b"add-list m packages\nPackage: a\nVersion: 1\nX: \xff\xfe\n.\npkgnames",
             b"a\n",
         ),
         (
@@ -155,39 +152,6 @@ fn bodies_are_bytes(rt: HostRuntime) {
         let same = writes(rt.alloc(), script, text);
         assert!(rt; same);
     }
-}
-
-/// A script of one line of so many bytes `x`.
-fn one_line(alloc: Global, bytes: usize) -> Option<Vec<u8>> {
-    let mut script = Vec::<u8>::new(alloc);
-    match script.resize(bytes, b'x') {
-        Ok(()) => Some(script),
-        Err(_) => None,
-    }
-}
-
-#[test]
-fn lines_past_the_limit(rt: HostRuntime) -> Result<(), Fail> {
-    let rows: [(usize, &[u8]); 2] = [
-        (1_048_577, b"E: line 1: line too long\n"),
-        (1_048_576, b"E: line 1: unknown command\n"),
-    ];
-    for (bytes, text) in rows {
-        let same = match one_line(rt.alloc(), bytes) {
-            Some(script) => writes(rt.alloc(), &script, text),
-            None => false,
-        };
-        assert!(rt; same);
-    }
-    // In a body such a line comes before any other refusal, an earlier faulty line too.
-    let mut script = Vec::<u8>::new(rt.alloc());
-    script.extend_from_slice(b"add-list main other\noops\n")?;
-    let length = script.len();
-    script.resize(length + 1_048_577, b'x')?;
-    script.extend_from_slice(b"\n.\npkgnames\n")?;
-    let same = writes(rt.alloc(), &script, b"E: line 3: line too long\n");
-    assert!(rt; same);
-    Ok(())
 }
 
 #[test]
@@ -230,24 +194,4 @@ fn a_session_keeps_its_lists_from_run_to_run(rt: HostRuntime) -> Result<(), Fail
         b"E: line 1: unknown command\na\n".as_slice()
     );
     Ok(())
-}
-
-#[test]
-fn refusals_have_their_numbers_and_words(rt: HostRuntime) {
-    let rows: [(Refusal, u8, &str); 10] = [
-        (Refusal::Command, 1, "unknown command"),
-        (Refusal::Usage, 2, "bad arguments"),
-        (Refusal::Unended, 3, "body has no end"),
-        (Refusal::TooLong, 4, "line too long"),
-        (Refusal::Line, 5, "not a control line"),
-        (Refusal::FieldTwice, 6, "field given twice"),
-        (Refusal::Missing, 7, "required field missing"),
-        (Refusal::Name, 8, "bad name"),
-        (Refusal::ListExists, 11, "list already present"),
-        (Refusal::Memory, 22, "out of memory"),
-    ];
-    for (refusal, number, words) in rows {
-        assert_eq!(rt; refusal.number(), number);
-        assert!(rt; refusal.text() == words);
-    }
 }

@@ -1,6 +1,6 @@
 -- A command that is being read.
 use Rattle.std.proofs.Common.{subst, ◌≡◌, ℕ, ◌+◌, ◌<◌, ◌≤◌, List, [], ◌∷◌, ◌++◌, Option, None, Some, Bool, true, false, not, ◌&&◌, if◌then◌else◌, take, length, refl, sym, ◌∙◌, ap, arith, append_assoc, append-nil, add-zero}
-use Rattle.std.specs.Io.KnownBytes.{Consumes, IsAtEnd}
+use Rattle.std.specs.Io.KnownBytes.{Consumes}
 use Rattle.std.proofs.KnownBytes.{Consumes-trans}
 use Rattle.std.proofs.lemmas.Bool.{leb-true, false≢true}
 use Rattle.std.proofs.lemmas.List.{take_all}
@@ -80,14 +80,6 @@ stops_skipping old mid new number now max fault skips stops = record {
   whole = skips.whole;
   none = ap (λ text. ended_of (commands_from (number + 1) text)) (sym (append-nil skips.skipped)) ∙ ap ended_of (skips.skips []);
   stops = stops;
-}
-
-pub skips_end : (old mid new : Option (List ℕ)) (number now : ℕ) → (skips : Skips old mid number now) → Consumes mid new [] → IsAtEnd new → ReadsNone old new number
-skips_end old mid new number now skips took end = record {
-  taken = skips.skipped ++ [];
-  took = Consumes-trans old mid new skips.skipped [] skips.took took;
-  end = end;
-  none = skips.skips [];
 }
 
 pub skips_last : (old mid new : Option (List ℕ)) (number now : ℕ) (buffer line : List ℕ) (read : LineRead) → (skips : Skips old mid number now) → TakesLine mid new buffer line read →

@@ -5,7 +5,8 @@ pub mod WholeLemmas
 pub mod ReadingLemmas
 pub mod CommandLemmas
 pub mod RunLemmas
-pub mod WordLemmas
 pub mod PerformLemmas
 pub mod NameLemmas
 pub mod OneOutcomeLemmas
+pub mod WordLemmas
+pub mod ListedNameLemmas

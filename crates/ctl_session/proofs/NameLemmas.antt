@@ -1,6 +1,6 @@
 -- Names kept in order.
-use Rattle.std.proofs.Common.{◌≡◌, ◌∙◌, ◌<◌, ◌+◌, ℕ, Bool, true, false, ◌||◌, ◌&&◌, List, [], ◌∷◌, ◌++◌, refl, sym, ap, map, take, get_or, length, nat_eq, append_assoc, Bor}
-use Rattle.std.specs.List.{list_any, starts_with, AllByRecursion}
+use Rattle.std.proofs.Common.{◌≡◌, ◌∙◌, ℕ, Bool, true, false, ◌||◌, ◌&&◌, List, [], ◌∷◌, ◌++◌, refl, sym, ap, map, nat_eq, append_assoc, Bor}
+use Rattle.std.specs.List.{starts_with, AllByRecursion}
 use Rattle.std.specs.Ordering.{match_ordering, is_eq, nat_cmp}
 use Rattle.std.specs.declared.cmp.Ordering.{Ordering}
 use Rattle.std.specs.declared.cmp.Ordering.TheVariants.{Less, Equal, Greater}
@@ -9,12 +9,10 @@ use Rattle.std.specs.List.Sorted.{IsStrictlySortedBy}
 use Rattle.std.specs.BTreeSet.{insert_key}
 use Rattle.std.specs.Str.{bytes_eq}
 use Rattle.std.proofs.lemmas.List.{map-append}
-use Rattle.std.proofs.lemmas.List.Folds.{list_any_more}
 use Rattle.std.proofs.lemmas.Map.Text.{is_eq-slice_cmp}
 use Rattle.std.proofs.lemmas.Slice.Eq.{bytes_eq-Decides}
 use Rattle.ctl_stanza.specs.Lines.{text_of_lines}
-use Rattle.ctl_stanza.specs.Content.{Content, package_of}
-use Rattle.ctl_session.specs.PackageNames.{lent_names, is_among, describes}
+use Rattle.ctl_session.specs.PackageNames.{lent_names, is_among}
 use Rattle.ctl_session.proofs.ReadingLemmas.{text_of_lines-push}
 
 -- ---- a name goes into an ordered set
@@ -72,17 +70,6 @@ one_more true true false old = refl
 one_more true false true old = refl
 one_more true false false old = refl
 one_more false any name old = refl
-
-pub names_more : (prefix name : List ℕ) (stanzas : List Content) (i : ℕ) (stanza : Content) (own : List ℕ) (first before after : Bool) → i < length stanzas → stanza ≡ get_or stanzas i stanza →
-    own ≡ package_of stanza → before ≡ ((starts_with nat_eq name prefix && list_any (describes name) (take i stanzas)) || first) →
-    after ≡ ((starts_with nat_eq name prefix && bytes_eq name own) || before) →
-    after ≡ ((starts_with nat_eq name prefix && list_any (describes name) (take (i + 1) stanzas)) || first)
-names_more prefix name stanzas i stanza own first before after within is named was grown =
-    let begins = starts_with nat_eq name prefix in
-    let any = list_any (describes name) (take i stanzas) in
-    let more : list_any (describes name) (take (i + 1) stanzas) ≡ (any || bytes_eq name own) =
-    list_any_more (describes name) stanzas i stanza within ∙ ap (λ s. any || describes name s) (sym is) ∙ ap (λ p. any || bytes_eq name p) (sym named) in
-    grown ∙ ap (λ t. (begins && bytes_eq name own) || t) was ∙ one_more begins any (bytes_eq name own) first ∙ ap (λ t. (begins && t) || first) (sym more)
 
 -- ---- the names of a set are in order
 

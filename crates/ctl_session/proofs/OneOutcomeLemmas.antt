@@ -11,13 +11,13 @@ use Rattle.std.proofs.lemmas.Cmp.{nat_list_cmp_total}
 use Rattle.std.proofs.lemmas.Map.Text.{is_eq-slice_cmp}
 use Rattle.std.proofs.lemmas.Slice.Eq.{bytes_eq-Decides}
 use Rattle.ctl_stanza.specs.Lines.{text_of_lines}
-use Rattle.ctl_session.specs.State.{State}
+use Rattle.ctl_session.specs.State.{CacheState}
 use Rattle.ctl_session.specs.PackageNames.{is_among}
 use Rattle.ctl_session.specs.Script.{Command}
-use Rattle.ctl_session.specs.Request.{Request, AddList, PackageNames, request_of}
+use Rattle.ctl_session.specs.Request.{Request, AddList, Put, Prefs, Change, PackageNames, request_of}
 use Rattle.ctl_session.specs.Outcome.{Outcome, Answered}
 use Rattle.ctl_session.specs.Effect.{Does, DoesWhatIsAsked, ComesTo}
-use Rattle.ctl_session.specs.declared.refusal.RefusalAt.{RefusalAt}
+use Rattle.ctl_session.specs.declared.refusal_at.RefusalAt.{RefusalAt}
 
 same_bytes : (name : List ℕ) → bytes_eq name name ≡ true
 same_bytes name = (bytes_eq-Decides name name).1 refl
@@ -80,14 +80,17 @@ names_are_one (x ∷ xs) (y ∷ ys) sorted_xs sorted_ys same =
     let same' : (name : List ℕ) → is_among (x ∷ xs) name ≡ is_among (x ∷ ys) name = subst (λ n. (name : List ℕ) → is_among (x ∷ xs) name ≡ is_among (n ∷ ys) name) (sym is) same in
     ap (λ names. x ∷ names) (names_are_one xs ys sorted_xs.1 sorted_ys.1 (others_are_same x xs ys sorted_xs.0 below_ys same')) ∙ ap (λ n. n ∷ ys) is
 
-does_one : (state : State) (command : Command) (request : Request) (first second : Outcome) → Does state command request first → Does state command request second → first ≡ second
-does_one state command (AddList name) first second a b = a ∙ sym b
-does_one state command (PackageNames prefix) first second a b =
+does_one : (cache : CacheState) (command : Command) (request : Request) (first second : Outcome) → Does cache command request first → Does cache command request second → first ≡ second
+does_one cache command (AddList name kind class) first second a b = a ∙ sym b
+does_one cache command (Put name) first second a b = a ∙ sym b
+does_one cache command Prefs first second a b = a ∙ sym b
+does_one cache command (Change edit) first second a b = a ∙ sym b
+does_one cache command (PackageNames prefix) first second a b =
     a.2 ∙ ap (λ names. Answered (text_of_lines names)) (names_are_one a.0 b.0 a.1.increasing b.1.increasing (λ name. a.1.members name ∙ sym (b.1.members name))) ∙ sym b.2
 
-does_one_asked : (state : State) (command : Command) (asked : Result Request RefusalAt) (first second : Outcome) → DoesWhatIsAsked state command asked first → DoesWhatIsAsked state command asked second → first ≡ second
+does_one_asked : (state : CacheState) (command : Command) (asked : Result Request RefusalAt) (first second : Outcome) → DoesWhatIsAsked state command asked first → DoesWhatIsAsked state command asked second → first ≡ second
 does_one_asked state command (Err refused) first second a b = a ∙ sym b
 does_one_asked state command (Ok request) first second a b = does_one state command request first second a b
 
-pub comes_to_one : (state : State) (command : Command) (first second : Outcome) → ComesTo state command first → ComesTo state command second → first ≡ second
+pub comes_to_one : (state : CacheState) (command : Command) (first second : Outcome) → ComesTo state command first → ComesTo state command second → first ≡ second
 comes_to_one state command first second a b = does_one_asked state command (request_of command) first second a b

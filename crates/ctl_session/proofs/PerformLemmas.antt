@@ -1,19 +1,13 @@
 -- What the replies of the code mean.
-use Rattle.std.proofs.Common.{◌≡◌, ◌≢◌, ◌⊎◌, ℕ, List, Result, Err, inl, inr, sym, ◌∙◌, ap}
-use Rattle.ctl_stanza.specs.Content.{Content}
-use Rattle.ctl_stanza.specs.declared.fault.TextFault.{TextFault}
-use Rattle.ctl_stanza.specs.declared.fault.Cause.TheVariants as causes
-use Rattle.ctl_session.specs.State.{State}
-use Rattle.ctl_session.specs.Outcome.{Refused}
-use Rattle.ctl_session.specs.Effect.{list_added}
-use Rattle.ctl_session.specs.Replies.{IsRefusalOf}
-use Rattle.ctl_session.specs.declared.refusal.Refusal.TheVariants as refusal
-use Rattle.ctl_session.specs.declared.refusal.RefusalAt.{RefusalAt}
+use Rattle.std.proofs.Common.{◌≡◌, Ok, inl, inr, sym, subst}
+use Rattle.ctl_session.specs.State.{CacheState}
+use Rattle.ctl_session.specs.Script.{Command}
+use Rattle.ctl_session.specs.Request.{Request, request_of}
+use Rattle.ctl_session.specs.Outcome.{Outcome}
+use Rattle.ctl_session.specs.Effect.{DoesWhatIsAsked, MayCome}
+use Rattle.ctl_session.specs.Replies.{MayDo}
 
--- a body whose text was refused
-pub refused_text : (state : State) (number : ℕ) (name : List ℕ) (fault : TextFault) (refused : RefusalAt) (read : Result (List Content) TextFault) →
-    (fault.cause ≢ causes.Memory → read ≡ Err fault) → IsRefusalOf fault number refused →
-    (Refused refused.line refused.cause ≡ list_added state number name read) ⊎ (Refused refused.line refused.cause ≡ Refused number refusal.Memory)
-refused_text state number name fault refused read reads (inl told) =
-    inl (ap (λ r. Refused r.line r.cause) told.1 ∙ sym (ap (list_added state number name) (reads told.0)))
-refused_text state number name fault refused read reads (inr memory) = inr (ap (λ r. Refused r.line r.cause) memory)
+-- a command that asks for this may come to what this may do
+pub does_may : (cache : CacheState) (command : Command) (request : Request) (outcome : Outcome) → request_of command ≡ Ok request → MayDo cache command request outcome → MayCome cache command outcome
+does_may cache command request outcome asks (inl does) = inl (subst (λ r. DoesWhatIsAsked cache command r outcome) (sym asks) does)
+does_may cache command request outcome asks (inr memory) = inr memory

@@ -1,8 +1,8 @@
 -- A body that is being read.
-use Rattle.std.proofs.Common.{◌≡◌, ℕ, ◌+◌, ◌<◌, ◌≤◌, List, [], ◌∷◌, ◌++◌, Option, None, Some, Bool, true, false, not, length, append_assoc, take, map, get_or, inl, inr, refl, sym, ◌∙◌, ap, arith, append-nil, subst}
-use Rattle.std.specs.Io.KnownBytes.{Consumes, IsAtEnd}
+use Rattle.std.proofs.Common.{◌≡◌, ℕ, ◌+◌, ◌<◌, ◌≤◌, List, [], ◌∷◌, ◌++◌, Option, None, Some, Bool, true, false, not, length, append_assoc, take, inl, inr, refl, sym, ◌∙◌, ap, arith, append-nil, subst}
+use Rattle.std.specs.Io.KnownBytes.{Consumes}
 use Rattle.std.proofs.KnownBytes.{Consumes-trans}
-use Rattle.std.proofs.lemmas.List.{length-append, take_all, take_more, map-append}
+use Rattle.std.proofs.lemmas.List.{length-append, take_all}
 use Rattle.std.proofs.lemmas.Bool.{eqb-true, cases_Bool, le-leb, lt-leb, false≢true}
 use Rattle.ctl_stanza.specs.Lines.{max_line, text_of_lines}
 use Rattle.ctl_session.specs.LineReading.{TakesLine, StopsAfter, newline_if}
@@ -11,7 +11,7 @@ use Rattle.ctl_session.specs.Reading.{Cuts, HasNoDot, HoldsBody, ReadsBody, Whol
 use Rattle.ctl_session.specs.declared.script.Body.{Body}
 use Rattle.ctl_session.specs.declared.read_ahead.LineRead.{LineRead}
 use Rattle.ctl_session.specs.declared.fault.ReadingFault.{ReadingFault}
-use Rattle.ctl_session.proofs.ScriptLemmas.{cuts_line, cuts_end, cuts_none, no_dot_push}
+use Rattle.ctl_session.proofs.ScriptLemmas.{cuts_line, cuts_none, no_dot_push}
 use Rattle.ctl_session.proofs.WholeLemmas.{whole_none, line_is_whole, whole_append}
 
 -- the line that ends a body is one dot
@@ -168,22 +168,6 @@ body_ends old mid new number after now body buffer line read in_body takes next 
   whole = λ on. whole_append in_body.taken (line ++ newline_if read.newline) number after now in_body.whole (line_is_whole read.newline line after now (true_of_not _ on) takes.one takes.short next);
 }
 
--- the end of the input, after a newline
-pub body_stops : (old mid new : Option (List ℕ)) (number after : ℕ) (body : Body) → (in_body : InBody old mid number after body) →
-    Consumes mid new [] → IsAtEnd new → body.ended ≡ false → ReadsBody old new number after (record body { last = true })
-body_stops old mid new number after body in_body took at_end unended = record {
-  taken = in_body.taken ++ [];
-  lines = in_body.lines;
-  took = Consumes-trans old mid new in_body.taken [] in_body.took took;
-  cut = let cut = cuts_end in_body.taken in_body.lines in_body.cut in rw unended cut;
-  none = in_body.none;
-  unended = λ _. refl;
-  holds = record { long = in_body.holds.long; text = in_body.holds.text };
-  count = rw unended (omega (arith, in_body.count));
-  ends = λ _. at_end;
-  whole = λ bad. absurd (false≢true (sym bad));
-}
-
 -- the end of the input, in a line of the body
 pub body_stops_in_line : (old mid new : Option (List ℕ)) (number after now : ℕ) (body grown : Body) (buffer line : List ℕ) (read : LineRead) → (in_body : InBody old mid number after body) →
     TakesLine mid new buffer line read → now ≡ after + 1 → is_dot line ≡ false → read.newline ≡ false → grown.ended ≡ false → HoldsBody (number + 1) (in_body.lines ++ line ∷ []) grown →
@@ -202,12 +186,3 @@ body_stops_in_line old mid new number after now body grown buffer line read in_b
   ends = λ _. (takes.last newline).0;
   whole = λ bad. absurd (false≢true (sym bad));
 }
-
--- the text of one name more
-pub text_of_more : {A : Type 0} (f : A → List ℕ) (xs : List A) (i : ℕ) (x : A) (old new line : List ℕ) → i < length xs → x ≡ get_or xs i x →
-    old ≡ text_of_lines (map f (take i xs)) → line ≡ f x → new ≡ old ++ (line ++ 10 ∷ []) → new ≡ text_of_lines (map f (take (i + 1) xs))
-text_of_more f xs i x old new line within is before same grown =
-    let more : take (i + 1) xs ≡ take i xs ++ x ∷ [] = take_more xs i x within ∙ ap (λ y. take i xs ++ y ∷ []) (sym is) in
-    let mapped : map f (take (i + 1) xs) ≡ map f (take i xs) ++ f x ∷ [] = ap (map f) more ∙ map-append f (take i xs) (x ∷ []) in
-    grown ∙ ap (λ t. t ++ (line ++ 10 ∷ [])) before ∙ ap (λ l. text_of_lines (map f (take i xs)) ++ (l ++ 10 ∷ [])) same ∙
-    sym (text_of_lines-push (map f (take i xs)) (f x)) ∙ ap text_of_lines (sym mapped)

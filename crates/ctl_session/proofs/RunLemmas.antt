@@ -8,7 +8,7 @@ use Rattle.ctl_session.specs.Streams.{WritesPart}
 use Rattle.ctl_session.specs.Script.{Command, commands_from, commands_of, commands_in, ended_of, whole_lines_of, whole_commands_in}
 use Rattle.ctl_session.specs.LineReading.{IsPast}
 use Rattle.ctl_session.specs.Reading.{ReadsNone, ReadsCommand, StopsReading, WholeLines, Describes}
-use Rattle.ctl_session.specs.State.{State}
+use Rattle.ctl_session.specs.State.{CacheState}
 use Rattle.ctl_session.specs.Outcome.{Outcome, Refused, Answered, Changed, text_of, text_of_all, state_after, state_after_all, accepted_in, refused_in}
 use Rattle.ctl_session.specs.Effect.{MayCome}
 use Rattle.ctl_session.specs.Run.{Runs, Ran, StoppedInWrite, Stopped}
@@ -20,7 +20,7 @@ use Rattle.ctl_session.specs.Faults.{run_fault}
 use Rattle.ctl_session.proofs.WholeLemmas.{whole_none, whole_append, whole_lines_of-text, lines_of-text}
 use Rattle.ctl_session.proofs.ReadingLemmas.{is_true}
 
-pub runs_more : (state : State) (commands : List Command) (outcomes : List Outcome) (command : Command) (outcome : Outcome) → Runs state commands outcomes →
+pub runs_more : (state : CacheState) (commands : List Command) (outcomes : List Outcome) (command : Command) (outcome : Outcome) → Runs state commands outcomes →
     MayCome (state_after_all state outcomes) command outcome → Runs state (commands ++ command ∷ []) (outcomes ++ outcome ∷ [])
 runs_more state [] [] command outcome runs may = (may, tt)
 runs_more state [] (o ∷ outcomes) command outcome runs may = absurd runs
@@ -31,7 +31,7 @@ pub text_more : (outcomes : List Outcome) (outcome : Outcome) → text_of_all (o
 text_more [] outcome = append-nil (text_of outcome)
 text_more (o ∷ outcomes) outcome = ap (λ t. text_of o ++ t) (text_more outcomes outcome) ∙ sym (append_assoc (text_of o) (text_of_all outcomes) (text_of outcome))
 
-pub state_more : (state : State) (outcomes : List Outcome) (outcome : Outcome) → state_after_all state (outcomes ++ outcome ∷ []) ≡ state_after (state_after_all state outcomes) outcome
+pub state_more : (state : CacheState) (outcomes : List Outcome) (outcome : Outcome) → state_after_all state (outcomes ++ outcome ∷ []) ≡ state_after (state_after_all state outcomes) outcome
 state_more state [] outcome = refl
 state_more state (o ∷ outcomes) outcome = state_more (state_after state o) outcomes outcome
 
@@ -48,7 +48,7 @@ refused_more (Answered text ∷ outcomes) outcome = refused_more outcomes outcom
 refused_more (Changed state ∷ outcomes) outcome = refused_more outcomes outcome
 
 -- a run that has come to here: these bytes are these commands, and whatever comes next goes on after them
-pub record Running (last : Bool) (given given' taken taken' : Option (List ℕ)) (old new : State) (number accepted refused : ℕ) : Type 0 where
+pub record Running (last : Bool) (given given' taken taken' : Option (List ℕ)) (old new : CacheState) (number accepted refused : ℕ) : Type 0 where
   pub bytes : List ℕ
   pub commands : List Command
   pub outcomes : List Outcome
@@ -68,7 +68,7 @@ given_none None = tt
 given_none (Some bytes) = refl
 
 -- nothing was read yet
-pub running_none : (given taken : Option (List ℕ)) (pending : List ℕ) (old : State) (number : ℕ) → pending ≡ [] → number ≡ 0 → Running false given (prepend_known pending given) taken taken old old number 0 0
+pub running_none : (given taken : Option (List ℕ)) (pending : List ℕ) (old : CacheState) (number : ℕ) → pending ≡ [] → number ≡ 0 → Running false given (prepend_known pending given) taken taken old old number 0 0
 running_none given taken pending old number none first = record {
   bytes = [];
   commands = [];
@@ -90,7 +90,7 @@ ended_first : (command : Command) (more : List Command) → command.ended ≡ tr
 ended_first command more has = ap (λ b. if b then command ∷ ended_of more else ended_of more) has
 
 -- one command more
-pub running_more : (given mid new taken taken' taken'' : Option (List ℕ)) (old state state' : State) (number after accepted refused accepted' refused' : ℕ) (head : List ℕ) (read : CommandRead) (outcome : Outcome) →
+pub running_more : (given mid new taken taken' taken'' : Option (List ℕ)) (old state state' : CacheState) (number after accepted refused accepted' refused' : ℕ) (head : List ℕ) (read : CommandRead) (outcome : Outcome) →
     (running : Running false given mid taken taken' old state number accepted refused) → (reads : ReadsCommand mid new number after head read) → MayCome state reads.command outcome →
     state' ≡ state_after state outcome → Appends taken' taken'' (text_of outcome) → accepted' ≡ accepted + accepted_in (outcome ∷ []) → refused' ≡ refused + refused_in (outcome ∷ []) →
     Running read.body.last given new taken taken'' old state' after accepted' refused'
@@ -127,7 +127,7 @@ gave_inside (Some xs) None pending bytes gave end = absurd gave
 gave_inside (Some xs) (Some ys) pending bytes gave end = gave ∙ ap (λ t. bytes ++ t) (end ∙ sym (nothing_after pending ys end))
 
 -- the end came after the last command's newline
-pub ran_none : (given mid new taken taken' : Option (List ℕ)) (pending : List ℕ) (old state : State) (number accepted refused : ℕ) →
+pub ran_none : (given mid new taken taken' : Option (List ℕ)) (pending : List ℕ) (old state : CacheState) (number accepted refused : ℕ) →
     (running : Running false given mid taken taken' old state number accepted refused) → (reads : ReadsNone mid (prepend_known pending new) number) → Ran given new taken taken' old state accepted refused
 ran_none given mid new taken taken' pending old state number accepted refused running reads = record {
   script = running.bytes ++ reads.taken;
@@ -142,7 +142,7 @@ ran_none given mid new taken taken' pending old state number accepted refused ru
 }
 
 -- the end came in the last command
-pub ran_last : (given new taken taken' : Option (List ℕ)) (pending : List ℕ) (old state : State) (number accepted refused : ℕ) (last : Bool) → last ≡ true →
+pub ran_last : (given new taken taken' : Option (List ℕ)) (pending : List ℕ) (old state : CacheState) (number accepted refused : ℕ) (last : Bool) → last ≡ true →
     (running : Running last given (prepend_known pending new) taken taken' old state number accepted refused) → Ran given new taken taken' old state accepted refused
 ran_last given new taken taken' pending old state number accepted refused last is_last running = record {
   script = running.bytes;
@@ -160,7 +160,7 @@ pub describes : (old new : Option (List ℕ)) (number after : ℕ) (head : List 
 describes old new number after head read reads = record { at = reads.at; ended = reads.ended; long = reads.long; line = reads.line; text = reads.text; end = reads.end }
 
 -- the input goes on
-pub running_on : (last : Bool) (given given' taken taken' : Option (List ℕ)) (old new : State) (number accepted refused : ℕ) → last ≡ false →
+pub running_on : (last : Bool) (given given' taken taken' : Option (List ℕ)) (old new : CacheState) (number accepted refused : ℕ) → last ≡ false →
     Running last given given' taken taken' old new number accepted refused → Running false given given' taken taken' old new number accepted refused
 running_on last given given' taken taken' old new number accepted refused on running =
     subst (λ b. Running b given given' taken taken' old new number accepted refused) on running
@@ -171,7 +171,7 @@ gave_ahead (Some xs) None pending bytes gave = absurd gave
 gave_ahead (Some xs) (Some ys) pending bytes gave = gave ∙ sym (append_assoc bytes pending ys)
 
 -- a write failed in the text of a command
-pub stopped_in_write : (given mid new taken taken' taken'' : Option (List ℕ)) (pending : List ℕ) (old state state' : State) (number after accepted refused : ℕ) (head : List ℕ) (read : CommandRead) (outcome : Outcome) →
+pub stopped_in_write : (given mid new taken taken' taken'' : Option (List ℕ)) (pending : List ℕ) (old state state' : CacheState) (number after accepted refused : ℕ) (head : List ℕ) (read : CommandRead) (outcome : Outcome) →
     (running : Running false given mid taken taken' old state number accepted refused) → (reads : ReadsCommand mid (prepend_known pending new) number after head read) → MayCome state reads.command outcome →
     state' ≡ state_after state outcome → WritesPart taken' taken'' (text_of outcome) → StoppedInWrite given new taken taken'' old state'
 stopped_in_write given mid new taken taken' taken'' pending old state state' number after accepted refused head read outcome running reads may changes part =
@@ -191,7 +191,7 @@ stopped_in_write given mid new taken taken' taken'' pending old state state' num
     }
 
 -- of the lines that came, those commands are given whole that were done
-whole_commands : (given mid new taken taken' : Option (List ℕ)) (old state : State) (number accepted refused max : ℕ) (fault : ReadingFault) →
+whole_commands : (given mid new taken taken' : Option (List ℕ)) (old state : CacheState) (number accepted refused max : ℕ) (fault : ReadingFault) →
     (running : Running false given mid taken taken' old state number accepted refused) → (reads : StopsReading mid new number max fault) →
     (whole : WholeLines (running.bytes ++ reads.taken) 0 reads.after) → running.commands ≡ whole_commands_in whole.lines
 whole_commands given mid new taken taken' old state number accepted refused max fault running reads whole =
@@ -205,7 +205,7 @@ pub stops_reading_same : (old new : Option (List ℕ)) (number max first : ℕ) 
 stops_reading_same old new number max first fault same stops = subst (λ m. StopsReading old new number m fault) same stops
 
 -- a read failed, or the limit was passed
-pub stopped_reading : (fault : ReadingFault) (given mid new taken taken' : Option (List ℕ)) (pending : List ℕ) (old state : State) (number accepted refused max : ℕ) →
+pub stopped_reading : (fault : ReadingFault) (given mid new taken taken' : Option (List ℕ)) (pending : List ℕ) (old state : CacheState) (number accepted refused max : ℕ) →
     (running : Running false given mid taken taken' old state number accepted refused) → (reads : StopsReading mid (prepend_known pending new) number max fault) →
     (fault ≡ ReadFailed → pending ≡ []) → Stopped max given new taken taken' old state (run_fault fault)
 stopped_reading ReadFailed given mid new taken taken' pending old state number accepted refused max running reads used =
@@ -245,7 +245,7 @@ stopped_reading TooManyLines given mid new taken taken' pending old state number
     }
 
 -- the same, of the fault that the run tells
-pub stopped_by : (told : Fault) (fault : ReadingFault) (given mid new taken taken' : Option (List ℕ)) (pending : List ℕ) (old state : State) (number accepted refused max : ℕ) → told ≡ run_fault fault →
+pub stopped_by : (told : Fault) (fault : ReadingFault) (given mid new taken taken' : Option (List ℕ)) (pending : List ℕ) (old state : CacheState) (number accepted refused max : ℕ) → told ≡ run_fault fault →
     (running : Running false given mid taken taken' old state number accepted refused) → (reads : StopsReading mid (prepend_known pending new) number max fault) →
     (fault ≡ ReadFailed → pending ≡ []) → Stopped max given new taken taken' old state told
 stopped_by told fault given mid new taken taken' pending old state number accepted refused max same running reads used =

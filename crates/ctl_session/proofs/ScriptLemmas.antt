@@ -67,9 +67,5 @@ cuts_line false taken line lines cut one some rest last =
     let first = cut line (λ bad. absurd (false≢true bad)) in
     rw (last refl, same, first, lines_of-last line one (some refl)) (sym (append-nil (lines ++ line ∷ [])))
 
--- nothing more comes
-pub cuts_end : (taken : List ℕ) (lines : List (List ℕ)) → Cuts false taken lines → Cuts true (taken ++ []) (lines ++ [])
-cuts_end taken lines cut rest last = rw (append-nil taken, append-nil lines) (cut rest (λ bad. absurd (false≢true bad)))
-
 pub cuts_none : Cuts false [] []
 cuts_none rest last = refl

@@ -3,14 +3,22 @@ use Rattle.std.specs.Prelude.{◌≡◌, true, Some, codes}
 use Rattle.std.proofs.Common.{refl}
 use Rattle.clap.specs.Simple.{App, is_simple, new_app, new_rule, with_rule}
 use Rattle.clap.specs.Walk.{Rule}
-use Rattle.clap.specs.declared.builder.action.ArgAction.TheVariants.{Set}
+use Rattle.clap.specs.declared.builder.action.ArgAction.TheVariants.{Set, Append}
+
+-- `-l NAME=FILE`, any number of times; 108 is the letter `l`
+abbrev pub list_rule : Rule
+list_rule = record (new_rule (codes "LIST")) { short = Some 108; action = Some Append }
+
+-- `--status FILE`
+abbrev pub status_rule : Rule
+status_rule = record (new_rule (codes "FILE")) { long = Some (codes "status"); action = Some Set }
 
 -- one word, the file of the script
 abbrev pub script_rule : Rule
 script_rule = record (new_rule (codes "SCRIPT")) { action = Some Set }
 
 abbrev pub application : App
-application = with_rule (new_app (codes "dctrl-cache")) script_rule
+application = with_rule (with_rule (with_rule (new_app (codes "dctrl-cache")) list_rule) status_rule) script_rule
 
 -- What clap promises of matches, it promises of simple commands: this one is simple.
 pub application-is_simple : is_simple application ≡ true

@@ -1,20 +1,29 @@
 -- What each command does.
-use Rattle.std.specs.Prelude.{◌≡◌, ◌⊎◌, ℕ, ◌+◌, List, [], ◌∷◌, ◌++◌, Result, Ok, Err, if◌then◌else◌}
+use Rattle.std.specs.Prelude.{◌≡◌, ◌⊎◌, ℕ, ◌+◌, List, [], ◌∷◌, Option, None, Some, Result, Ok, Err, if◌then◌else◌}
+use Rattle.ctl_relation.specs.Names.{is_name}
 use Rattle.ctl_stanza.specs.Lines.{text_of_lines}
 use Rattle.ctl_stanza.specs.Content.{Content}
 use Rattle.ctl_stanza.specs.Text.{read_text}
-use Rattle.ctl_stanza.specs.declared.list_kind.ListKind.TheVariants.{Packages}
+use Rattle.ctl_stanza.specs.declared.list_kind.ListKind.{ListKind}
 use Rattle.ctl_stanza.specs.declared.fault.TextFault.{TextFault}
 use Rattle.ctl_stanza.specs.declared.fault.Cause.{Cause}
 use Rattle.ctl_stanza.specs.declared.fault.Cause.TheVariants as causes
-use Rattle.ctl_session.specs.State.{State, has_list}
+use Rattle.ctl_store.specs.declared.list_class.ListClass.{ListClass}
+use Rattle.ctl_store.specs.declared.list_class.ListClass.TheVariants.{Plain}
+use Rattle.ctl_store.specs.declared.refusal.Refusal.{Refusal}
+use Rattle.ctl_store.specs.declared.refusal.Refusal.TheVariants as refusal
+use Rattle.ctl_store.specs.Edits.{Edit}
+use Rattle.ctl_store.specs.Edits as edit
+use Rattle.ctl_store.specs.Named.{at_name}
+use Rattle.ctl_store.specs.Prefs.{read_prefs_text}
+use Rattle.ctl_store.specs.State.{StanzaList}
+use Rattle.ctl_store.specs.Step.{after, refusal_of}
+use Rattle.ctl_session.specs.State.{CacheState}
 use Rattle.ctl_session.specs.PackageNames.{ArePackageNames}
 use Rattle.ctl_session.specs.Script.{Command}
-use Rattle.ctl_session.specs.Request.{Request, AddList, PackageNames, request_of}
+use Rattle.ctl_session.specs.Request.{Request, AddList, Put, Prefs, Change, PackageNames, request_of}
 use Rattle.ctl_session.specs.Outcome.{Outcome, Refused, Answered, Changed}
-use Rattle.ctl_session.specs.declared.refusal.Refusal.{Refusal}
-use Rattle.ctl_session.specs.declared.refusal.Refusal.TheVariants as refusal
-use Rattle.ctl_session.specs.declared.refusal.RefusalAt.{RefusalAt}
+use Rattle.ctl_session.specs.declared.refusal_at.RefusalAt.{RefusalAt}
 
 -- the refusal of a body, by the cause of its text's fault
 abbrev pub refusal_by : Cause → Refusal
@@ -23,30 +32,75 @@ refusal_by causes.Line = refusal.Line
 refusal_by causes.FieldTwice = refusal.FieldTwice
 refusal_by causes.Missing = refusal.Missing
 refusal_by causes.Name = refusal.Name
+refusal_by causes.Version = refusal.Version
+refusal_by causes.Relation = refusal.Relation
+refusal_by causes.Priority = refusal.Priority
+refusal_by causes.Form = refusal.Form
 refusal_by causes.Memory = refusal.Memory
 
--- A new list goes last, with the stanzas of the body. Before a list of the same name, the fault of the body's text counts.
-abbrev pub list_added : State → ℕ → List ℕ → Result (List Content) TextFault → Outcome
-list_added state number name (Err fault) = Refused fault.line (refusal_by fault.cause)
-list_added state number name (Ok stanzas) =
-    if has_list state name then Refused number refusal.ListExists
-    else Changed (state ++ record { name = name; stanzas = stanzas } ∷ [])
+-- ---- edits
+
+abbrev pub edited_unless : CacheState → ℕ → Edit → Option Refusal → Outcome
+edited_unless cache number edit None = Changed (record cache { store = after cache.store edit })
+edited_unless cache number edit (Some cause) = Refused number cause
+
+-- an edit makes what it makes of the store, or the command is refused at its line
+abbrev pub edited : CacheState → ℕ → Edit → Outcome
+edited cache number edit = edited_unless cache number edit (refusal_of cache.limits cache.store edit)
+
+-- the edit of a body that was read; a fault of its text is told at the fault's line
+abbrev pub edited_by_body : {A : Type 0} → CacheState → ℕ → (A → Edit) → Result A TextFault → Outcome
+edited_by_body cache number edit (Ok read) = edited cache number (edit read)
+edited_by_body cache number edit (Err fault) = Refused fault.line (refusal_by fault.cause)
+
+-- a new list with the stanzas of a text whose lines count from the line behind the command's
+abbrev pub list_added : CacheState → ℕ → List ℕ → ListKind → ListClass → List ℕ → Outcome
+list_added cache number name kind class text =
+    edited_by_body cache number (edit.AddList name kind class) (read_text kind (number + 1) text)
+
+-- A list that is loaded is added as by `add-list`, but that the lines of its text count from 1, and that line 0 is told where
+-- the text has no fault.
+abbrev pub loaded : CacheState → List ℕ → ListKind → List ℕ → Outcome
+loaded cache name kind text = if is_name name then list_added cache 0 name kind Plain text else Refused 0 refusal.Name
+
+-- the body of `put` is one stanza
+abbrev pub stanza_put : CacheState → ℕ → List ℕ → Result (List Content) TextFault → Outcome
+stanza_put cache number name (Err fault) = Refused fault.line (refusal_by fault.cause)
+stanza_put cache number name (Ok []) = Refused number refusal.OneStanza
+stanza_put cache number name (Ok (stanza ∷ [])) = edited cache number (edit.Put name stanza)
+stanza_put cache number name (Ok (stanza ∷ second ∷ stanzas)) = Refused number refusal.OneStanza
+
+-- A stanza for a list is read as those of the list's kind are, so a list that is not there is told before the body.
+abbrev pub put_into : CacheState → ℕ → List ℕ → List ℕ → Option StanzaList → Outcome
+put_into cache number name text None = Refused number refusal.NoList
+put_into cache number name text (Some list) = stanza_put cache number name (read_text list.kind (number + 1) text)
+
+abbrev pub put_in_list : CacheState → ℕ → List ℕ → List ℕ → Outcome
+put_in_list cache number name text = put_into cache number name text (at_name name cache.store.lists)
+
+-- the pin settings of a text take the place of all
+abbrev pub prefs_set : CacheState → ℕ → List ℕ → Outcome
+prefs_set cache number text = edited_by_body cache number edit.Prefs (read_prefs_text (number + 1) text)
+
+-- ---- commands
 
 -- what a command does that asks for this
-abbrev pub Does : State → Command → Request → Outcome → Type 0
-Does state command (AddList name) outcome =
-    outcome ≡ list_added state command.number name (read_text Packages (command.number + 1) (text_of_lines command.body))
-Does state command (PackageNames prefix) outcome =
-    (names : List (List ℕ)) × ArePackageNames state prefix names × (outcome ≡ Answered (text_of_lines names))
+abbrev pub Does : CacheState → Command → Request → Outcome → Type 0
+Does cache command (AddList name kind class) outcome = outcome ≡ list_added cache command.number name kind class (text_of_lines command.body)
+Does cache command (Put name) outcome = outcome ≡ put_in_list cache command.number name (text_of_lines command.body)
+Does cache command Prefs outcome = outcome ≡ prefs_set cache command.number (text_of_lines command.body)
+Does cache command (Change edit) outcome = outcome ≡ edited cache command.number edit
+Does cache command (PackageNames prefix) outcome =
+    (names : List (List ℕ)) × ArePackageNames cache.store prefix names × (outcome ≡ Answered (text_of_lines names))
 
-abbrev pub DoesWhatIsAsked : State → Command → Result Request RefusalAt → Outcome → Type 0
-DoesWhatIsAsked state command (Err refused) outcome = outcome ≡ Refused refused.line refused.cause
-DoesWhatIsAsked state command (Ok request) outcome = Does state command request outcome
+abbrev pub DoesWhatIsAsked : CacheState → Command → Result Request RefusalAt → Outcome → Type 0
+DoesWhatIsAsked cache command (Err refused) outcome = outcome ≡ Refused refused.line refused.cause
+DoesWhatIsAsked cache command (Ok request) outcome = Does cache command request outcome
 
 -- what a command comes to, where no growth is refused
-abbrev pub ComesTo : State → Command → Outcome → Type 0
-ComesTo state command outcome = DoesWhatIsAsked state command (request_of command) outcome
+abbrev pub ComesTo : CacheState → Command → Outcome → Type 0
+ComesTo cache command outcome = DoesWhatIsAsked cache command (request_of command) outcome
 
 -- what a command may come to: where a growth was refused, it may be refused for that
-abbrev pub MayCome : State → Command → Outcome → Type 0
-MayCome state command outcome = ComesTo state command outcome ⊎ (outcome ≡ Refused command.number refusal.Memory)
+abbrev pub MayCome : CacheState → Command → Outcome → Type 0
+MayCome cache command outcome = ComesTo cache command outcome ⊎ (outcome ≡ Refused command.number refusal.Memory)

@@ -8,6 +8,7 @@ pub mod LineReading
 pub mod Faults
 pub mod Script
 pub mod Words
+pub mod WordsRead
 pub mod Reading
 pub mod State
 pub mod PackageNames
@@ -17,3 +18,4 @@ pub mod Effect
 pub mod Run
 pub mod Replies
 pub mod Application
+pub mod Asked

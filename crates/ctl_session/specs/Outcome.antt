@@ -1,8 +1,8 @@
 -- What a command comes to: what is written for it, and what it leaves.
 use Rattle.std.specs.Prelude.{ℕ, ◌+◌, List, [], ◌∷◌, ◌++◌, codes, decimal}
-use Rattle.ctl_session.specs.State.{State}
-use Rattle.ctl_session.specs.declared.refusal.Refusal.{Refusal}
-use Rattle.ctl_session.specs.declared.refusal.Refusal.TheVariants as refusal
+use Rattle.ctl_session.specs.State.{CacheState}
+use Rattle.ctl_store.specs.declared.refusal.Refusal.{Refusal}
+use Rattle.ctl_store.specs.Refusals.{words_of_refusal}
 
 -- what a command comes to
 pub data Outcome : Type 0 where
@@ -11,33 +11,7 @@ pub data Outcome : Type 0 where
   -- it is a query, with this answer
   Answered : List ℕ → Outcome
   -- it is an edit, which leaves this state
-  Changed : State → Outcome
-
--- the words of a refusal
-abbrev pub words_of_refusal : Refusal → List ℕ
-words_of_refusal refusal.Command = codes "unknown command"
-words_of_refusal refusal.Usage = codes "bad arguments"
-words_of_refusal refusal.Unended = codes "body has no end"
-words_of_refusal refusal.TooLong = codes "line too long"
-words_of_refusal refusal.Line = codes "not a control line"
-words_of_refusal refusal.FieldTwice = codes "field given twice"
-words_of_refusal refusal.Missing = codes "required field missing"
-words_of_refusal refusal.Name = codes "bad name"
-words_of_refusal refusal.ListExists = codes "list already present"
-words_of_refusal refusal.Memory = codes "out of memory"
-
--- the number of a refusal
-abbrev pub number_of_refusal : Refusal → ℕ
-number_of_refusal refusal.Command = 1
-number_of_refusal refusal.Usage = 2
-number_of_refusal refusal.Unended = 3
-number_of_refusal refusal.TooLong = 4
-number_of_refusal refusal.Line = 5
-number_of_refusal refusal.FieldTwice = 6
-number_of_refusal refusal.Missing = 7
-number_of_refusal refusal.Name = 8
-number_of_refusal refusal.ListExists = 11
-number_of_refusal refusal.Memory = 22
+  Changed : CacheState → Outcome
 
 -- what is written for a command
 abbrev pub text_of : Outcome → List ℕ
@@ -46,7 +20,7 @@ text_of (Answered text) = text
 text_of (Changed state) = []
 
 -- the state after a command: only an edit changes it
-abbrev pub state_after : State → Outcome → State
+abbrev pub state_after : CacheState → Outcome → CacheState
 state_after old (Refused line cause) = old
 state_after old (Answered text) = old
 state_after old (Changed new) = new
@@ -57,7 +31,7 @@ text_of_all [] = []
 text_of_all (outcome ∷ outcomes) = text_of outcome ++ text_of_all outcomes
 
 -- the state after commands
-abbrev pub state_after_all : State → List Outcome → State
+abbrev pub state_after_all : CacheState → List Outcome → CacheState
 state_after_all state [] = state
 state_after_all state (outcome ∷ outcomes) = state_after_all (state_after state outcome) outcomes
 

@@ -6,23 +6,23 @@ use Rattle.std.specs.Ordering.{nat_cmp}
 use Rattle.std.specs.List.Sorted.{IsStrictlySortedBy}
 use Rattle.std.specs.Cmp.Lexicographic.{slice_cmp}
 use Rattle.std.specs.Str.{bytes_eq}
-use Rattle.ctl_stanza.specs.Content.{Content, package_of}
-use Rattle.ctl_session.specs.State.{State}
+use Rattle.ctl_stanza.specs.Content.{Content, package_of, is_live}
+use Rattle.ctl_store.specs.State.{StanzaList, State}
 
--- whether a stanza describes this package
+-- whether a stanza is live and describes this package
 abbrev pub describes : List ℕ → Content → Bool
-describes name stanza = bytes_eq name (package_of stanza)
+describes name stanza = is_live stanza && bytes_eq name (package_of stanza)
 
--- whether a stanza of a list describes this package
+-- whether a live stanza of a list describes this package
 abbrev pub has_package : State → List ℕ → Bool
-has_package state name = list_any (λ list. list_any (describes name) list.stanzas) state
+has_package state name = list_any (λ (list : List ℕ × StanzaList). list_any (describes name) list.1.stanzas) state.lists
 
 -- whether a name is one of these
 abbrev pub is_among : List (List ℕ) → List ℕ → Bool
 is_among names name = list_any (bytes_eq name) names
 
 -- The names of packages that begin with a prefix: strictly increasing in the order of their bytes,
--- and a name is one of them exactly where a list has a stanza of that package and the name begins with the prefix.
+-- and a name is one of them exactly where a list has a live stanza of that package and the name begins with the prefix.
 pub record ArePackageNames (state : State) (prefix : List ℕ) (names : List (List ℕ)) : Type 0 where
   pub increasing : IsStrictlySortedBy (slice_cmp nat_cmp) names
   pub members : (name : List ℕ) → is_among names name ≡ (starts_with nat_eq name prefix && has_package state name)

@@ -2,46 +2,49 @@
 use Rattle.std.specs.Prelude.{◌≡◌, ◌≢◌, ◌⊎◌, ℕ, List, Result, Ok, Err}
 use Rattle.ctl_stanza.specs.declared.fault.TextFault.{TextFault}
 use Rattle.ctl_stanza.specs.declared.fault.Cause.TheVariants as causes
-use Rattle.ctl_session.specs.State.{State}
-use Rattle.ctl_session.specs.Effect.{refusal_by}
+use Rattle.ctl_store.specs.declared.refusal.Refusal.TheVariants as refusal
+use Rattle.ctl_session.specs.State.{CacheState}
+use Rattle.ctl_session.specs.Effect.{refusal_by, Does}
+use Rattle.ctl_session.specs.Request.{Request}
+use Rattle.ctl_session.specs.Script.{Command}
 use Rattle.ctl_session.specs.Outcome.{Outcome, Refused as RefusedOutcome, Answered as AnsweredOutcome, Changed as ChangedOutcome}
-use Rattle.ctl_session.specs.Request.{Request as RequestText, AddList as AddListText, PackageNames as PackageNamesText}
 use Rattle.ctl_session.specs.declared.reply.Reply.{Reply}
 use Rattle.ctl_session.specs.declared.reply.Reply.TheVariants.{Refused, Answered, Changed}
-use Rattle.ctl_session.specs.declared.request.Request.{Request}
-use Rattle.ctl_session.specs.declared.request.Request.TheVariants.{AddList, PackageNames}
-use Rattle.ctl_session.specs.declared.refusal.Refusal.{Refusal}
-use Rattle.ctl_session.specs.declared.refusal.Refusal.TheVariants as refusal
-use Rattle.ctl_session.specs.declared.refusal.RefusalAt.{RefusalAt}
+use Rattle.ctl_session.specs.declared.refusal_at.RefusalAt.{RefusalAt}
+use Rattle.ctl_session.specs.declared.load_fault.LoadFault.{LoadFault}
 
--- with the text in the buffer and the state that was left
-abbrev pub outcome_from : Reply → List ℕ → State → Outcome
+-- with the text in the buffer and the cache that was left
+abbrev pub outcome_from : Reply → List ℕ → CacheState → Outcome
 outcome_from (Refused refused) out new = RefusedOutcome refused.line refused.cause
 outcome_from Answered out new = AnsweredOutcome out
 outcome_from Changed out new = ChangedOutcome new
 
--- what an edit came to, which left this state
-abbrev pub outcome_of_edit : Result Unit RefusalAt → State → Outcome
+-- what an edit came to, which left this cache
+abbrev pub outcome_of_edit : Result Unit RefusalAt → CacheState → Outcome
 outcome_of_edit (Ok done) new = ChangedOutcome new
 outcome_of_edit (Err refused) new = RefusedOutcome refused.line refused.cause
 
--- the request that lends from a line
-abbrev pub request_text : Request → RequestText
-request_text (AddList name) = AddListText name.now
-request_text (PackageNames prefix) = PackageNamesText prefix.now
+-- an edit came to this outcome, or to want of memory, told at the line of its command
+abbrev pub CameTo : ℕ → Result Unit RefusalAt → CacheState → Outcome → Type 0
+CameTo number result new outcome =
+    (outcome_of_edit result new ≡ outcome) ⊎ (outcome_of_edit result new ≡ RefusedOutcome number refusal.Memory)
 
--- this request was read, or its refusal, or memory ran out
-abbrev pub Asks : Result Request Refusal → Result RequestText Refusal → Type 0
-Asks (Ok request) asked = asked ≡ Ok (request_text request)
-Asks (Err cause) asked = (asked ≡ Err cause) ⊎ (cause ≡ refusal.Memory)
+-- what the load of a list came to, which left this cache
+abbrev pub outcome_of_load : Result Unit LoadFault → CacheState → Outcome
+outcome_of_load (Ok done) new = ChangedOutcome new
+outcome_of_load (Err fault) new = RefusedOutcome fault.line fault.cause
 
--- the same for a refusal with its line, where want of memory is told at the line of the command
-abbrev pub AsksAt : ℕ → Result Request RefusalAt → Result RequestText RefusalAt → Type 0
-AsksAt number (Ok request) asked = asked ≡ Ok (request_text request)
-AsksAt number (Err refused) asked = (asked ≡ Err refused) ⊎ (refused ≡ record { line = number; cause = refusal.Memory })
+-- a load came to this outcome, or to want of memory
+abbrev pub LoadCameTo : Result Unit LoadFault → CacheState → Outcome → Type 0
+LoadCameTo result new outcome =
+    (outcome_of_load result new ≡ outcome) ⊎ (outcome_of_load result new ≡ RefusedOutcome 0 refusal.Memory)
 
 -- a refusal tells the fault of a body's text, or that memory ran out, at the line of the command
 abbrev pub IsRefusalOf : TextFault → ℕ → RefusalAt → Type 0
 IsRefusalOf fault number refused =
     ((fault.cause ≢ causes.Memory) × (refused ≡ record { line = fault.line; cause = refusal_by fault.cause }))
     ⊎ (refused ≡ record { line = number; cause = refusal.Memory })
+
+-- a command does what this request asks for, or it is refused for want of memory
+abbrev pub MayDo : CacheState → Command → Request → Outcome → Type 0
+MayDo cache command request outcome = Does cache command request outcome ⊎ (outcome ≡ RefusedOutcome command.number refusal.Memory)

@@ -1,34 +1,184 @@
 -- What a command asks for, by its words.
-use Rattle.std.specs.Prelude.{ℕ, ◌+◌, ◌==◌, Bool, false, List, [], ◌∷◌, length, codes, None, Some, Result, Ok, Err, if◌then◌else◌}
-use Rattle.std.specs.List.{list_any}
+use Rattle.std.specs.Prelude.{ℕ, ℤ, ◌+◌, ◌==◌, Bool, false, List, [], ◌∷◌, length, codes, is_none, Option, None, Some, Result, Ok, Err, if◌then◌else◌}
 use Rattle.std.specs.Str.{bytes_eq}
-use Rattle.ctl_relation.specs.Bytes.{apostrophe, hyphen}
+use Rattle.ctl_relation.specs.Bytes.{hyphen}
 use Rattle.ctl_relation.specs.Names.{is_name}
+use Rattle.ctl_relation.specs.Version.{fault_of}
+use Rattle.ctl_stanza.specs.declared.list_kind.ListKind.{ListKind}
+use Rattle.ctl_stanza.specs.declared.list_kind.ListKind.TheVariants.{Packages, Status}
+use Rattle.ctl_store.specs.declared.list_class.ListClass.{ListClass}
+use Rattle.ctl_store.specs.declared.list_class.ListClass.TheVariants.{Plain, NotAutomatic, ButAutomatic}
+use Rattle.ctl_store.specs.declared.selector.Selector.{Selector}
+use Rattle.ctl_store.specs.declared.selector.Selector.TheVariants as selector
+use Rattle.ctl_store.specs.declared.refusal.Refusal.{Refusal}
+use Rattle.ctl_store.specs.declared.refusal.Refusal.TheVariants as refusal
+use Rattle.ctl_store.specs.Edits.{Edit}
+use Rattle.ctl_store.specs.Edits as edit
+use Rattle.ctl_store.specs.PinVersions.{is_pin_version}
+use Rattle.ctl_store.specs.Priority.{priority_of}
 use Rattle.ctl_session.specs.Script.{Command, first_long, name_of}
 use Rattle.ctl_session.specs.Words.{words_of, behind_name}
-use Rattle.ctl_session.specs.declared.refusal.Refusal.{Refusal}
-use Rattle.ctl_session.specs.declared.refusal.Refusal.TheVariants as refusal
-use Rattle.ctl_session.specs.declared.refusal.RefusalAt.{RefusalAt}
+use Rattle.ctl_session.specs.declared.refusal_at.RefusalAt.{RefusalAt}
+use Rattle.ctl_session.specs.declared.command_name.CommandName.{CommandName}
+use Rattle.ctl_session.specs.declared.command_name.CommandName.TheVariants as command
 
 -- what a command asks for
 pub data Request : Type 0 where
-  -- a new last list of this name, which holds packages
-  AddList : List ℕ → Request
+  -- a new last list of this name, kind and class, with the stanzas of the body
+  AddList : List ℕ → ListKind → ListClass → Request
+  -- the stanza of the body for the list of this name
+  Put : List ℕ → Request
+  -- the pin settings of the body
+  Prefs : Request
+  -- an edit that needs no body
+  Change : Edit → Request
   -- the names of packages that begin with this prefix
   PackageNames : List ℕ → Request
+
+-- ---- tests of words
+
+-- a request whose word has to be a name, and one whose word has to be a version
+abbrev pub if_name : List ℕ → Result Request Refusal → Result Request Refusal
+if_name word request = if is_name word then request else Err refusal.Name
+
+abbrev pub if_version : List ℕ → Result Request Refusal → Result Request Refusal
+if_version word request = if is_none (fault_of word) then request else Err refusal.Version
 
 -- a word that begins with a hyphen is an option of a query
 abbrev pub is_option : List ℕ → Bool
 is_option [] = false
 is_option (b ∷ word) = b == hyphen
 
--- `add-list NAME packages`
+-- ---- the words of each command
+
+-- `packages` and `status`
+abbrev pub kind_of_word : List ℕ → Option ListKind
+kind_of_word word =
+    if bytes_eq word (codes "packages") then Some Packages
+    else (if bytes_eq word (codes "status") then Some Status else None)
+
+-- `notauto` and `butauto`, behind `packages` alone
+abbrev pub class_of_words : List ℕ → List ℕ → Option ListClass
+class_of_words kind class =
+    if bytes_eq kind (codes "packages")
+    then (if bytes_eq class (codes "notauto") then Some NotAutomatic
+        else (if bytes_eq class (codes "butauto") then Some ButAutomatic else None))
+    else None
+
+abbrev pub add_plain_list : List ℕ → Option ListKind → Result Request Refusal
+add_plain_list name None = Err refusal.Usage
+add_plain_list name (Some kind) = if_name name (Ok (AddList name kind Plain))
+
+abbrev pub add_packages : List ℕ → Option ListClass → Result Request Refusal
+add_packages name None = Err refusal.Usage
+add_packages name (Some class) = if_name name (Ok (AddList name Packages class))
+
+-- `add-list NAME packages [notauto|butauto]` or `add-list NAME status`
 abbrev pub add_list_request : List (List ℕ) → Result Request Refusal
 add_list_request [] = Err refusal.Usage
 add_list_request (name ∷ []) = Err refusal.Usage
-add_list_request (name ∷ kind ∷ []) =
-    if bytes_eq kind (codes "packages") then (if is_name name then Ok (AddList name) else Err refusal.Name) else Err refusal.Usage
-add_list_request (name ∷ kind ∷ word ∷ words) = Err refusal.Usage
+add_list_request (name ∷ kind ∷ []) = add_plain_list name (kind_of_word kind)
+add_list_request (name ∷ kind ∷ class ∷ []) = add_packages name (class_of_words kind class)
+add_list_request (name ∷ kind ∷ class ∷ word ∷ words) = Err refusal.Usage
+
+-- a command of one word, which is a name
+abbrev pub request_of_name : (List ℕ → Request) → List (List ℕ) → Result Request Refusal
+request_of_name request [] = Err refusal.Usage
+request_of_name request (name ∷ []) = if_name name (Ok (request name))
+request_of_name request (name ∷ word ∷ words) = Err refusal.Usage
+
+-- `drop-list NAME`, `put NAME`, `unmark PKG`
+abbrev pub drop_list_request : List (List ℕ) → Result Request Refusal
+drop_list_request words = request_of_name (λ name. Change (edit.DropList name)) words
+
+abbrev pub put_request : List (List ℕ) → Result Request Refusal
+put_request words = request_of_name (λ name. Put name) words
+
+abbrev pub unmark_request : List (List ℕ) → Result Request Refusal
+unmark_request words = request_of_name (λ name. Change (edit.Unmark name)) words
+
+-- `remove NAME PKG VERSION`
+abbrev pub remove_request : List (List ℕ) → Result Request Refusal
+remove_request [] = Err refusal.Usage
+remove_request (list ∷ []) = Err refusal.Usage
+remove_request (list ∷ name ∷ []) = Err refusal.Usage
+remove_request (list ∷ name ∷ version ∷ []) = if_name list (if_name name (if_version version (Ok (Change (edit.Remove list name version)))))
+remove_request (list ∷ name ∷ version ∷ word ∷ words) = Err refusal.Usage
+
+-- the word `none` is no version
+abbrev pub marked : List ℕ → List ℕ → Result Request Refusal
+marked name version =
+    if bytes_eq version (codes "none") then Ok (Change (edit.Mark name None))
+    else if_version version (Ok (Change (edit.Mark name (Some version))))
+
+-- `mark PKG VERSION` or `mark PKG none`
+abbrev pub mark_request : List (List ℕ) → Result Request Refusal
+mark_request [] = Err refusal.Usage
+mark_request (name ∷ []) = Err refusal.Usage
+mark_request (name ∷ version ∷ []) = if_name name (marked name version)
+mark_request (name ∷ version ∷ word ∷ words) = Err refusal.Usage
+
+-- `PKG version V`
+abbrev pub version_selector : List ℕ → List ℕ → Result Selector Refusal
+version_selector name version =
+    if bytes_eq name (codes "*") then Err refusal.Usage
+    else (if is_name name
+        then (if is_pin_version version then Ok (selector.Version name version) else Err refusal.Version)
+        else Err refusal.Name)
+
+-- `PKG release LIST`, or with `*` for all packages
+abbrev pub release_selector : List ℕ → List ℕ → Result Selector Refusal
+release_selector name list =
+    if bytes_eq name (codes "*")
+    then (if is_name list then Ok (selector.Release None list) else Err refusal.Name)
+    else (if is_name name
+        then (if is_name list then Ok (selector.Release (Some name) list) else Err refusal.Name)
+        else Err refusal.Name)
+
+-- the selector that three words give
+abbrev pub selector_of : List ℕ → List ℕ → List ℕ → Result Selector Refusal
+selector_of name form value =
+    if bytes_eq form (codes "version") then version_selector name value
+    else (if bytes_eq form (codes "release") then release_selector name value else Err refusal.Usage)
+
+abbrev pub pin_of : Result Selector Refusal → Option ℤ → Result Request Refusal
+pin_of (Err cause) priority = Err cause
+pin_of (Ok selector) None = Err refusal.Priority
+pin_of (Ok selector) (Some priority) = Ok (Change (edit.Pin selector priority))
+
+-- `pin` with a selector and a priority
+abbrev pub pin_request : List (List ℕ) → Result Request Refusal
+pin_request [] = Err refusal.Usage
+pin_request (name ∷ []) = Err refusal.Usage
+pin_request (name ∷ form ∷ []) = Err refusal.Usage
+pin_request (name ∷ form ∷ value ∷ []) = Err refusal.Usage
+pin_request (name ∷ form ∷ value ∷ priority ∷ []) = pin_of (selector_of name form value) (priority_of priority)
+pin_request (name ∷ form ∷ value ∷ priority ∷ word ∷ words) = Err refusal.Usage
+
+abbrev pub unpin_of : Result Selector Refusal → Result Request Refusal
+unpin_of (Err cause) = Err cause
+unpin_of (Ok selector) = Ok (Change (edit.Unpin selector))
+
+-- `unpin` with a selector
+abbrev pub unpin_request : List (List ℕ) → Result Request Refusal
+unpin_request [] = Err refusal.Usage
+unpin_request (name ∷ []) = Err refusal.Usage
+unpin_request (name ∷ form ∷ []) = Err refusal.Usage
+unpin_request (name ∷ form ∷ value ∷ []) = unpin_of (selector_of name form value)
+unpin_request (name ∷ form ∷ value ∷ word ∷ words) = Err refusal.Usage
+
+-- `target NAME` or `target none`
+abbrev pub target_request : List (List ℕ) → Result Request Refusal
+target_request [] = Err refusal.Usage
+target_request (name ∷ []) =
+    if bytes_eq name (codes "none") then Ok (Change (edit.Target None))
+    else if_name name (Ok (Change (edit.Target (Some name))))
+target_request (name ∷ word ∷ words) = Err refusal.Usage
+
+-- `prefs`
+abbrev pub prefs_request : List (List ℕ) → Result Request Refusal
+prefs_request [] = Ok Prefs
+prefs_request (word ∷ words) = Err refusal.Usage
 
 -- `pkgnames [PREFIX]`
 abbrev pub package_names_request : List (List ℕ) → Result Request Refusal
@@ -36,19 +186,46 @@ package_names_request [] = Ok (PackageNames [])
 package_names_request (prefix ∷ []) = if is_option prefix then Err refusal.Usage else Ok (PackageNames prefix)
 package_names_request (prefix ∷ word ∷ words) = Err refusal.Usage
 
--- no word is quoted
-abbrev pub has_quote : List ℕ → Bool
-has_quote text = list_any (λ b. b == apostrophe) text
+-- ---- commands by their names
 
--- a request by the words of a command, none of which may be quoted
-abbrev pub unquoted : (List (List ℕ) → Result Request Refusal) → List ℕ → Result Request Refusal
-unquoted request text = if has_quote text then Err refusal.Usage else request (words_of text)
+-- the command of a name, if there is one
+abbrev pub command_named : List ℕ → Option CommandName
+command_named name =
+    if bytes_eq name (codes "add-list") then Some command.AddList else (
+    if bytes_eq name (codes "drop-list") then Some command.DropList else (
+    if bytes_eq name (codes "put") then Some command.Put else (
+    if bytes_eq name (codes "remove") then Some command.Remove else (
+    if bytes_eq name (codes "mark") then Some command.Mark else (
+    if bytes_eq name (codes "unmark") then Some command.Unmark else (
+    if bytes_eq name (codes "pin") then Some command.Pin else (
+    if bytes_eq name (codes "unpin") then Some command.Unpin else (
+    if bytes_eq name (codes "target") then Some command.Target else (
+    if bytes_eq name (codes "prefs") then Some command.Prefs else (
+    if bytes_eq name (codes "pkgnames") then Some command.PackageNames else None))))))))))
 
--- a request by the name of a command and the text behind it
-abbrev pub request_named : List ℕ → List ℕ → Result Request Refusal
-request_named name text =
-    if bytes_eq name (codes "add-list") then unquoted add_list_request text
-    else (if bytes_eq name (codes "pkgnames") then unquoted package_names_request text else Err refusal.Command)
+-- what the words of a command ask for
+abbrev pub request_by : CommandName → List (List ℕ) → Result Request Refusal
+request_by command.AddList words = add_list_request words
+request_by command.DropList words = drop_list_request words
+request_by command.Put words = put_request words
+request_by command.Remove words = remove_request words
+request_by command.Mark words = mark_request words
+request_by command.Unmark words = unmark_request words
+request_by command.Pin words = pin_request words
+request_by command.Unpin words = unpin_request words
+request_by command.Target words = target_request words
+request_by command.Prefs words = prefs_request words
+request_by command.PackageNames words = package_names_request words
+
+-- what a command asks for by its words; a quote without its end leaves none
+abbrev pub request_in : CommandName → Option (List (List ℕ)) → Result Request Refusal
+request_in name None = Err refusal.Usage
+request_in name (Some words) = request_by name words
+
+-- what a line asks for by the name of its command and the text behind it
+abbrev pub request_named : Option CommandName → List ℕ → Result Request Refusal
+request_named None text = Err refusal.Command
+request_named (Some name) text = request_in name (words_of text)
 
 -- a refusal names the line of the command
 abbrev pub refused_at : ℕ → Result Request Refusal → Result Request RefusalAt
@@ -56,11 +233,12 @@ refused_at number (Ok request) = Ok request
 refused_at number (Err cause) = Err (record { line = number; cause = cause })
 
 -- What a command asks for, or the first of these refusals: a line that is too long, a body without its end
--- (at the last line of the input), a name that is no command's, words that are no words of it, a bad name.
+-- (at the last line of the input), a name that is no command's, words that are not the command's, and, word by word from
+-- the left, a bad name, version or priority.
 abbrev pub request_of : Command → Result Request RefusalAt
 request_of command = elim (first_long command.number (command.line ∷ command.body)) [
   | Some line ↦ Err (record { line = line; cause = refusal.TooLong })
   | None ↦ if command.ended
-      then refused_at command.number (request_named (name_of command.line) (behind_name command.line))
+      then refused_at command.number (request_named (command_named (name_of command.line)) (behind_name command.line))
       else Err (record { line = command.number + length command.body; cause = refusal.Unended })
 ]

@@ -2,7 +2,7 @@
 use Rattle.std.specs.Prelude.{◌≡◌, ℕ, ◌<◌, List, [], ◌∷◌, ◌++◌, Option, length, take}
 use Rattle.std.specs.Io.KnownBytes.{Consumes, IsAtEnd, Appends}
 use Rattle.ctl_stanza.specs.Lines.{text_of_lines}
-use Rattle.ctl_session.specs.State.{State}
+use Rattle.ctl_session.specs.State.{CacheState}
 use Rattle.ctl_session.specs.Script.{Command, commands_of, AreLines, whole_commands_of, whole_commands_in}
 use Rattle.ctl_session.specs.LineReading.{IsPast}
 use Rattle.ctl_session.specs.Outcome.{Outcome, text_of, text_of_all, state_after, state_after_all, accepted_in, refused_in}
@@ -11,14 +11,14 @@ use Rattle.ctl_session.specs.declared.fault.Fault.{Fault}
 use Rattle.ctl_session.specs.declared.fault.Fault.TheVariants.{Read, Write, TooManyLines}
 
 -- commands come to these outcomes, one after another
-abbrev pub Runs : State → List Command → List Outcome → Type 0
+abbrev pub Runs : CacheState → List Command → List Outcome → Type 0
 Runs state [] [] = Unit {0}
 Runs state [] (outcome ∷ outcomes) = ⊥
 Runs state (command ∷ commands) [] = ⊥
 Runs state (command ∷ commands) (outcome ∷ outcomes) = MayCome state command outcome × Runs (state_after state outcome) commands outcomes
 
 -- a whole run: what the reader gave is a script, and what the writer took is the text of its commands
-pub record Ran (given given' taken taken' : Option (List ℕ)) (old new : State) (accepted refused : ℕ) : Type 0 where
+pub record Ran (given given' taken taken' : Option (List ℕ)) (old new : CacheState) (accepted refused : ℕ) : Type 0 where
   pub script : List ℕ
   pub outcomes : List Outcome
   pub gave : Consumes given given' script
@@ -30,7 +30,7 @@ pub record Ran (given given' taken taken' : Option (List ℕ)) (old new : State)
   pub counts_refused : refused ≡ refused_in outcomes
 
 -- a run that a failed write stopped: the last command that was done is written in part
-pub record StoppedInWrite (given given' taken taken' : Option (List ℕ)) (old new : State) : Type 0 where
+pub record StoppedInWrite (given given' taken taken' : Option (List ℕ)) (old new : CacheState) : Type 0 where
   -- what was used of what the reader gave, and what was read ahead and dropped
   pub script : List ℕ
   pub ahead : List ℕ
@@ -45,7 +45,7 @@ pub record StoppedInWrite (given given' taken taken' : Option (List ℕ)) (old n
   pub state : new ≡ state_after_all old (outcomes ++ outcome ∷ [])
 
 -- a run that a failed read stopped: what is written is the text of the commands that the reader gave whole
-pub record StoppedInRead (given given' taken taken' : Option (List ℕ)) (old new : State) : Type 0 where
+pub record StoppedInRead (given given' taken taken' : Option (List ℕ)) (old new : CacheState) : Type 0 where
   -- all that the reader gave
   pub script : List ℕ
   pub outcomes : List Outcome
@@ -55,7 +55,7 @@ pub record StoppedInRead (given given' taken taken' : Option (List ℕ)) (old ne
   pub state : new ≡ state_after_all old outcomes
 
 -- a run that came past its limit: what is written is the text of the commands that were given whole within it
-pub record StoppedPastLimit (max : ℕ) (given given' taken taken' : Option (List ℕ)) (old new : State) : Type 0 where
+pub record StoppedPastLimit (max : ℕ) (given given' taken taken' : Option (List ℕ)) (old new : CacheState) : Type 0 where
   -- the lines within the limit, what came of the next one, and what was read ahead and dropped
   pub lines : List (List ℕ)
   pub over : List ℕ
@@ -69,7 +69,7 @@ pub record StoppedPastLimit (max : ℕ) (given given' taken taken' : Option (Lis
   pub state : new ≡ state_after_all old outcomes
 
 -- what a run leaves that stopped before its end
-abbrev pub Stopped : ℕ → Option (List ℕ) → Option (List ℕ) → Option (List ℕ) → Option (List ℕ) → State → State → Fault → Type 0
+abbrev pub Stopped : ℕ → Option (List ℕ) → Option (List ℕ) → Option (List ℕ) → Option (List ℕ) → CacheState → CacheState → Fault → Type 0
 Stopped max given given' taken taken' old new Read = StoppedInRead given given' taken taken' old new
 Stopped max given given' taken taken' old new Write = StoppedInWrite given given' taken taken' old new
 Stopped max given given' taken taken' old new TooManyLines = StoppedPastLimit max given given' taken taken' old new

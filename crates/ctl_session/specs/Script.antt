@@ -34,7 +34,7 @@ is_skipped line = fits line && is_idle (without_blanks line)
 
 -- the commands that have a body
 abbrev pub names_body : List ℕ → Bool
-names_body name = bytes_eq name (codes "add-list") || bytes_eq name (codes "put")
+names_body name = bytes_eq name (codes "add-list") || (bytes_eq name (codes "put") || bytes_eq name (codes "prefs"))
 
 -- a line after which a body comes
 abbrev pub opens_body : List ℕ → Bool

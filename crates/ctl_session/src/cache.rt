@@ -1,76 +1,58 @@
-//! The lists that a session holds.
+//! The cache that a session works on.
 
-ghost use Rattle.std.specs.Prelude.{◌≡◌, [], ◌∷◌, ◌++◌, OnOk, OnErr};
+ghost use Rattle.std.specs.Prelude.{◌≡◌};
+ghost use Rattle.ctl_store.specs.Limits.{limits_that_count};
+ghost use Rattle.ctl_store.specs.State.{empty_state};
 
-use ctl_relation::Bytes;
-use ctl_stanza::Stanza;
-use std::alloc::{AllocError, Global};
+use ctl_store::{Limits, Store};
+use std::alloc::Global;
 use std::marker::Model;
 
-/// A list: its name and its stanzas.
-#[derive(Drop)]
-pub(crate) struct PackageList {
-    pub(crate) name: Bytes,
-    pub(crate) stanzas: Vec<Stanza>,
-}
-
-impl Model for PackageList {
-    ghost use Rattle.ctl_session.specs.State.{NamedList};
-
-    ghost Value = { NamedList };
-
-    ghost view = { λ list. record { name = list.name; stanzas = list.stanzas.items } };
-}
-
-/// The lists that a session holds, in the order in which they were added.
+/// The cache that a session works on: a store. It is seen as what the store holds, and its limits.
 #[derive(Drop)]
 pub struct Cache {
-    lists: Vec<PackageList>,
-    alloc: Global,
+    pub(crate) store: Store,
 }
 
 impl Model for Cache {
-    ghost use Rattle.ctl_session.specs.State.{State};
+    ghost use Rattle.ctl_store.specs.Held.{state_of};
+    ghost use Rattle.std.specs.Coded.{codes};
+    ghost use Rattle.std.specs.FinMap.{code};
+    ghost use Rattle.ctl_session.specs.State.{CacheState};
 
-    ghost Value = { State };
+    ghost Value = { CacheState };
 
-    ghost view = { λ cache. cache.lists.items };
+    ghost coded = { Prim.hlevel (codes, code) };
+
+    ghost view = { λ cache. record { store = state_of cache.store; limits = cache.store.limits } };
 }
 
 impl Cache {
-    ghost use Rattle.ctl_session.specs.State.{has_list};
+    ghost use Rattle.ctl_store.specs.Held.{state_of};
 
-    /// A cache without a list. It takes no memory.
+    /// A cache with an empty store, whose limits are [`Limits::MOST`]. It takes no memory.
     pub fn new(alloc: Global) -> Cache
-        ensures { result ≡ [] }
+        ensures { result ≡ record { store = empty_state; limits = limits_that_count (record { stanzas = 4294967295; edits = 4294967295 }) } }
     {
         Cache {
-            lists: Vec::new(alloc),
-            alloc,
+            store: Store::new(alloc),
         }
     }
 
-    /// The lists, in order.
-    pub(crate) fn lists(&self) -> &[PackageList]
-        ensures { result.now ≡ self.now }
+    /// A cache with an empty store of these limits, or those of [`Limits::MOST`] where they are smaller.
+    pub fn with_limits(alloc: Global, limits: Limits) -> Cache
+        ensures { result ≡ record { store = empty_state; limits = limits_that_count limits } }
     {
-        &self.lists
+        Cache {
+            store: Store::with_limits(alloc, limits),
+        }
     }
 
-    /// Whether there is a list of this name.
-    pub(crate) fn has_list(&self, name: &[u8]) -> bool
-        ensures { result ≡ has_list self.now name.now }
+    /// The store.
+    pub fn store(&self) -> &Store
+        ensures state { state_of result.now ≡ self.now.store }
+        ensures limits { result.now.limits ≡ self.now.limits }
     {
-        self.lists.iter().any(|list| list.name.as_slice() == name)
-    }
-
-    /// Adds a last list.
-    pub(crate) fn add_list(&mut self, name: &[u8], stanzas: Vec<Stanza>) -> Result<(), AllocError>
-        ensures ok { OnOk result (self.new ≡ self.old ++ record { name = name.now; stanzas = stanzas.items } ∷ []) }
-        ensures err { OnErr result (self.new ≡ self.old) }
-    {
-        let name = Bytes::from_slice(self.alloc, name)?;
-        self.lists.push(PackageList { name, stanzas })?;
-        Ok(())
+        &self.store
     }
 }

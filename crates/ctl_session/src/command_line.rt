@@ -3,22 +3,46 @@
 ghost use Rattle.std.specs.Prelude.{◌≡◌, true, IfOk, IfErr, codes, map, string_bytes};
 ghost use Rattle.std.specs.Option.{option_map};
 ghost use Rattle.clap.specs.Words.{HasMatchesOf, app_of};
+ghost use Rattle.clap.specs.Simple.{with_rule};
 ghost use Rattle.clap.specs.Takes.{takes};
 ghost use Rattle.clap.specs.Matches.{first_value, found_of};
-ghost use Rattle.clap.specs.declared.parser.matches.ArgMatches.{ArgMatches};
-ghost use Rattle.ctl_session.specs.Application.{application};
+ghost use Rattle.clap.specs.declared.parser.matches.ArgMatches.{ArgMatches as Matches};
+ghost use Rattle.ctl_session.specs.Application.{application, list_rule, status_rule, script_rule};
 ghost use Rattle.ctl_session.specs.declared.program_words.ArgumentsFault.TheVariants.{Memory};
 
 use crate::program_words::{Arguments, ArgumentsFault};
 use clap::error::ErrorKind;
-use clap::{Arg, ArgAction, Command};
+use clap::{Arg, ArgAction, ArgMatches, Command};
 use std::alloc::{AllocError, Global};
 
-/// The words that the program takes: `dctrl-cache [SCRIPT]`.
+/// Adds `-l NAME=FILE`, which may be given any number of times.
+fn with_list<'a>(alloc: Global, command: Command<'a>) -> Result<Command<'a>, AllocError>
+    ensures { IfOk result (λ more. app_of more ≡ with_rule (app_of command.entry) list_rule) }
+{
+    command.arg(Arg::new(alloc, "LIST").short('l').action(ArgAction::Append))
+}
+
+/// Adds `--status FILE`.
+fn with_status<'a>(alloc: Global, command: Command<'a>) -> Result<Command<'a>, AllocError>
+    ensures { IfOk result (λ more. app_of more ≡ with_rule (app_of command.entry) status_rule) }
+{
+    command.arg(Arg::new(alloc, "FILE").long("status").action(ArgAction::Set))
+}
+
+/// Adds `SCRIPT`.
+fn with_script<'a>(alloc: Global, command: Command<'a>) -> Result<Command<'a>, AllocError>
+    ensures { IfOk result (λ more. app_of more ≡ with_rule (app_of command.entry) script_rule) }
+{
+    command.arg(Arg::new(alloc, "SCRIPT").action(ArgAction::Set))
+}
+
+/// The words that the program takes: `dctrl-cache [-l NAME=FILE]... [--status FILE] [SCRIPT]`.
 fn command<'a>(alloc: Global) -> Result<Command<'a>, AllocError>
     ensures { IfOk result (λ command. app_of command ≡ application) }
 {
-    Command::new(alloc, "dctrl-cache").arg(Arg::new(alloc, "SCRIPT").action(ArgAction::Set))
+    let command = with_list(alloc, Command::new(alloc, "dctrl-cache"))?;
+    let command = with_status(alloc, command)?;
+    with_script(alloc, command)
 }
 
 /// A text of one's own.
@@ -31,15 +55,43 @@ fn owned(alloc: Global, text: Option<&str>) -> Result<Option<String>, AllocError
     }
 }
 
+/// Texts of one's own.
+fn all_owned(alloc: Global, texts: &[&str]) -> Result<Vec<String>, AllocError> {
+    let mut own = Vec::new(alloc);
+    for text in texts {
+        own.push(String::from_str(alloc, text)?)?;
+    }
+    Ok(own)
+}
+
+/// What matches ask for.
+fn asked(alloc: Global, matches: &ArgMatches<'_>) -> Result<Arguments, AllocError>
+    ensures status { IfOk result (λ arguments. option_map string_bytes arguments.status ≡ first_value (found_of matches.now) (codes "FILE")) }
+    ensures script { IfOk result (λ arguments. option_map string_bytes arguments.script ≡ first_value (found_of matches.now) (codes "SCRIPT")) }
+{
+    let lists = match matches.get_strs("LIST") {
+        None => Vec::new(alloc),
+        Some(lists) => all_owned(alloc, lists)?,
+    };
+    let status = owned(alloc, matches.get_str("FILE"))?;
+    let script = owned(alloc, matches.get_str("SCRIPT"))?;
+    Ok(Arguments {
+        lists,
+        status,
+        script,
+    })
+}
+
 /// Reads the words that the program is called with, its own name first.
 ///
 /// # Errors
 ///
-/// [`ArgumentsFault::Words`] where the words are not `[SCRIPT]`, or ask for help; it holds clap's error, whose text tells
-/// what is wrong. [`ArgumentsFault::Memory`] where there is not enough memory.
+/// [`ArgumentsFault::Words`] where the words are not `[-l NAME=FILE]... [--status FILE] [SCRIPT]`, or ask for help; it
+/// holds clap's error, whose text tells what is wrong. [`ArgumentsFault::Memory`] where there is not enough memory.
 pub fn arguments(alloc: Global, words: &[&str]) -> Result<Arguments, ArgumentsFault>
-    // The script is the first value of this argument in matches that clap promises for the words.
-    ensures script { IfOk result (λ arguments. (found : ArgMatches) × HasMatchesOf application (map (λ word. word.now) words.now) found
+    // The status file and the script are the first values of their arguments in matches that clap promises for the words.
+    ensures values { IfOk result (λ arguments. (found : Matches) × HasMatchesOf application (map (λ word. word.now) words.now) found
+        × (option_map string_bytes arguments.status ≡ first_value (found_of found) (codes "FILE"))
         × (option_map string_bytes arguments.script ≡ first_value (found_of found) (codes "SCRIPT"))) }
 
     // Words that clap takes are refused for want of memory alone.
@@ -58,8 +110,8 @@ pub fn arguments(alloc: Global, words: &[&str]) -> Result<Arguments, ArgumentsFa
             return Err(ArgumentsFault::Words(error));
         }
     };
-    match owned(alloc, matches.get_str("SCRIPT")) {
-        Ok(script) => Ok(Arguments { script }),
+    match asked(alloc, &matches) {
+        Ok(arguments) => Ok(arguments),
         Err(_) => Err(ArgumentsFault::Memory),
     }
 }

@@ -7,10 +7,11 @@ ghost use Rattle.std.specs.List.{starts_with};
 ghost use Rattle.std.specs.List.Sorted.{IsStrictlySortedBy};
 ghost use Rattle.std.specs.Cmp.Lexicographic.{slice_cmp};
 ghost use Rattle.ctl_stanza.specs.Lines.{text_of_lines};
+ghost use Rattle.ctl_store.specs.Held.{state_of};
 ghost use Rattle.ctl_session.specs.PackageNames.{ArePackageNames, AddsNames, lent_names, is_among, has_package};
+ghost use Rattle.ctl_store.specs.State.{stanzas_named};
 
-use crate::cache::PackageList;
-use ctl_stanza::Stanza;
+use ctl_store::Store;
 use std::alloc::{AllocError, Global};
 use std::collections::BTreeSet;
 
@@ -29,32 +30,36 @@ fn add_name<'a>(
     Ok(())
 }
 
-/// Adds the names of the packages that stanzas describe, as far as they begin with a prefix.
+/// Adds the names of the packages that the live stanzas of a list describe, as far as they begin with a prefix.
 fn add_names<'a>(
     names: &mut BTreeSet<&'a [u8]>,
-    stanzas: &'a [Stanza],
+    store: &'a Store,
+    list: &[u8],
     prefix: &[u8],
 ) -> Result<(), AllocError>
-    ensures { OnOk result (AddsNames stanzas.now prefix.now (lent_names names.old.keys) (lent_names names.new.keys)) }
+    ensures { OnOk result (AddsNames (stanzas_named list.now (state_of store.now).lists) prefix.now (lent_names names.old.keys) (lent_names names.new.keys)) }
 {
-    'stanzas: for stanza in stanzas {
-        add_name(names, stanza.package(), prefix)?;
+    'keys: for key in store.stanzas(list) {
+        let stanza = store.stanza(key);
+        if stanza.is_live() {
+            add_name(names, stanza.package(), prefix)?;
+        }
     }
     Ok(())
 }
 
-/// The names of the packages of lists, as far as they begin with a prefix.
+/// The names of the packages of a store, as far as they begin with a prefix.
 fn names_of<'a>(
     alloc: Global,
-    lists: &'a [PackageList],
+    store: &'a Store,
     prefix: &[u8],
 ) -> Result<BTreeSet<&'a [u8]>, AllocError>
     ensures { IfOk result (λ names. (name : List ℕ) →
-        is_among (lent_names names.keys) name ≡ (starts_with nat_eq name prefix.now && has_package lists.now name)) }
+        is_among (lent_names names.keys) name ≡ (starts_with nat_eq name prefix.now && has_package (state_of store.now) name)) }
 {
     let mut names = BTreeSet::new(alloc);
-    'lists: for list in lists {
-        add_names(&mut names, &list.stanzas, prefix)?;
+    'lists: for (list, _, _) in store.lists() {
+        add_names(&mut names, store, list, prefix)?;
     }
     Ok(names)
 }
@@ -74,13 +79,13 @@ fn push_names(names: &BTreeSet<&[u8]>, out: &mut Vec<u8>) -> Result<(), AllocErr
 /// The answer to `pkgnames`: each name that begins with the prefix, on a line of its own.
 pub(crate) fn push_package_names(
     alloc: Global,
-    lists: &[PackageList],
+    store: &Store,
     prefix: &[u8],
     out: &mut Vec<u8>,
 ) -> Result<(), AllocError>
-    ensures { OnOk result ((names : List (List ℕ)) × ArePackageNames lists.now prefix.now names
+    ensures { OnOk result ((names : List (List ℕ)) × ArePackageNames (state_of store.now) prefix.now names
         × (out.new.items ≡ out.old.items ++ text_of_lines names)) }
 {
-    let names = names_of(alloc, lists, prefix)?;
+    let names = names_of(alloc, store, prefix)?;
     push_names(&names, out)
 }

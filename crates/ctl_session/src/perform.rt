@@ -1,72 +1,67 @@
 //! Doing what a command asks for.
 
-ghost use Rattle.std.specs.Prelude.{◌≡◌, ◌⊎◌, ◌+◌, OnErr};
-ghost use Rattle.ctl_stanza.specs.Text.{read_text};
-ghost use Rattle.ctl_stanza.specs.declared.list_kind.ListKind.TheVariants.{Packages};
+ghost use Rattle.std.specs.Prelude.{◌≡◌, ℕ, List, false, []};
+ghost use Rattle.ctl_stanza.specs.Lines.{text_of_lines};
 ghost use Rattle.ctl_session.specs.Script.{Command};
 ghost use Rattle.ctl_session.specs.Reading.{Describes};
-ghost use Rattle.ctl_session.specs.Outcome.{Refused, state_after};
-ghost use Rattle.ctl_session.specs.Effect.{MayCome, list_added};
-ghost use Rattle.ctl_session.specs.declared.refusal.Refusal.TheVariants.{Memory};
-ghost use Rattle.ctl_session.specs.Replies.{IsRefusalOf, outcome_from, outcome_of_edit};
+ghost use Rattle.ctl_session.specs.Outcome.{state_after};
+ghost use Rattle.ctl_session.specs.Effect.{MayCome};
+ghost use Rattle.ctl_session.specs.Asked.{request_text, IsProperRequest};
+ghost use Rattle.ctl_session.specs.State.{CacheState};
+ghost use Rattle.ctl_session.specs.Replies.{outcome_from, outcome_of_edit, MayDo};
 
 use crate::cache::Cache;
+use crate::edits::{add_list, edit, put, refused, set_prefs};
 use crate::package_names::push_package_names;
-use crate::refusal::{Refusal, RefusalAt};
+use crate::refusal_at::RefusalAt;
 use crate::reply::Reply;
-use crate::request::{Request, read_request};
-use crate::script::CommandRead;
-use ctl_stanza::{Cause, ListKind, TextFault, read_stanzas};
+use crate::request::{Request, command_words, request_by};
+use crate::script::{Body, CommandRead};
+use ctl_store::Refusal;
 use std::alloc::Global;
 
-/// The refusal of a body whose text has a fault. Want of memory is told at the line of the command.
-fn refusal_at(fault: TextFault, number: u32) -> RefusalAt
-    ensures { IsRefusalOf fault number result }
+/// What an edit came to.
+fn reply_of_edit(edited: Result<(), RefusalAt>) -> Reply
+    ensures { (out : List ℕ) (new : CacheState) → outcome_from result out new ≡ outcome_of_edit edited new }
 {
-    match fault.cause {
-        Cause::Memory => memory(number),
-        cause => RefusalAt {
-            line: fault.line,
-            cause: Refusal::from(cause),
-        },
+    match edited {
+        Ok(()) => Reply::Changed,
+        Err(refused) => Reply::Refused(refused),
     }
 }
 
-/// Want of memory at the line of a command.
-fn memory(number: u32) -> RefusalAt
-    ensures { result ≡ record { line = number; cause = Memory } }
-{
-    RefusalAt {
-        line: number as u64,
-        cause: Refusal::Memory,
-    }
-}
-
-/// Adds a list with the stanzas of a text, which is the body of the command at this line.
-fn add_list(
+/// Does what a request asks for, with what was read of the command's body, and the text of an answer in the buffer.
+fn do_request(
     alloc: Global,
     cache: &mut Cache,
-    name: &[u8],
-    text: &[u8],
+    request: Request<'_>,
+    body: &Body,
     number: u32,
-) -> Result<(), RefusalAt>
-    ensures outcome { (outcome_of_edit result cache.new ≡ list_added cache.old number name.now (read_text Packages (number + 1) text.now))
-        ⊎ (outcome_of_edit result cache.new ≡ Refused number Memory) }
-    ensures err { OnErr result (cache.new ≡ cache.old) }
+    out: &mut Vec<u8>,
+) -> Reply
+    requires proper { IsProperRequest request }
+    requires empty { out.old.items ≡ [] }
+    ensures may { (asked : Command) → asked.number ≡ number → (body.now.refused ≡ false → body.now.text.items ≡ text_of_lines asked.body) →
+        MayDo cache.old asked (request_text request.entry) (outcome_from result out.new.items cache.new) }
+    ensures state { cache.new ≡ state_after cache.old (outcome_from result out.new.items cache.new) }
 {
-    let stanzas = match read_stanzas(alloc, text, number as u64 + 1, ListKind::Packages) {
-        Ok(stanzas) => stanzas,
-        Err(fault) => return Err(refusal_at(fault, number)),
-    };
-    if cache.has_list(name) {
-        return Err(RefusalAt {
-            line: number as u64,
-            cause: Refusal::ListExists,
-        });
+    if body.refused {
+        return Reply::Refused(refused(number, Refusal::Memory));
     }
-    match cache.add_list(name, stanzas) {
-        Ok(()) => Ok(()),
-        Err(_) => Err(memory(number)),
+    let text = &body.text;
+    match request {
+        Request::AddList(name, kind, class) => {
+            reply_of_edit(add_list(alloc, cache, name, kind, class, text, number))
+        }
+        Request::Put(name) => reply_of_edit(put(alloc, cache, name, text, number)),
+        Request::Prefs => reply_of_edit(set_prefs(alloc, cache, text, number)),
+        Request::Change(change) => reply_of_edit(edit(cache, change, number)),
+        Request::PackageNames(prefix) => {
+            match push_package_names(alloc, &cache.store, prefix, out) {
+                Ok(()) => Reply::Answered,
+                Err(_) => Reply::Refused(refused(number, Refusal::Memory)),
+            }
+        }
     }
 }
 
@@ -84,25 +79,12 @@ pub(crate) fn perform(
 {
     out.clear();
     let number = command.number;
-    let request = match read_request(alloc, head, &command, last_line) {
-        Ok(request) => request,
+    let read = match command_words(alloc, head, &command, last_line) {
+        Ok(read) => read,
         Err(refused) => return Reply::Refused(refused),
     };
-    match request {
-        Request::AddList(name) => {
-            if command.body.refused {
-                return Reply::Refused(memory(number));
-            }
-            match add_list(alloc, cache, name, &command.body.text, number) {
-                Ok(()) => Reply::Changed,
-                Err(refused) => Reply::Refused(refused),
-            }
-        }
-        Request::PackageNames(prefix) => {
-            match push_package_names(alloc, cache.lists(), prefix, out) {
-                Ok(()) => Reply::Answered,
-                Err(_) => Reply::Refused(memory(number)),
-            }
-        }
+    match request_by(alloc, read.name, &read.words) {
+        Ok(request) => do_request(alloc, cache, request, &command.body, number, out),
+        Err(cause) => Reply::Refused(refused(number, cause)),
     }
 }

@@ -3,7 +3,7 @@
 ghost use Rattle.std.specs.Prelude.{◌≡◌, ◌++◌, OnOk, OnErr, is_err, codes};
 ghost use Rattle.std.specs.Io.KnownBytes.{Appends};
 ghost use Rattle.ctl_session.specs.Streams.{counted, WritesPart};
-ghost use Rattle.ctl_session.specs.State.{State};
+ghost use Rattle.ctl_session.specs.State.{CacheState};
 ghost use Rattle.ctl_session.specs.Outcome.{text_of};
 ghost use Rattle.ctl_session.specs.Replies.{outcome_from};
 
@@ -42,8 +42,8 @@ fn write_refusal<W: Sink>(writer: &mut W, line: &[u8], cause: &[u8]) -> Result<(
 
 /// Writes what a command came to.
 pub(crate) fn print<W: Sink>(writer: &mut W, reply: Reply, out: &[u8]) -> Result<(), Failed>
-    ensures ok { (state : State) → OnOk result (Appends (W.taken writer.old) (W.taken writer.new) (text_of (outcome_from reply out.now state))) }
-    ensures err { (state : State) → OnErr result (WritesPart (W.taken writer.old) (W.taken writer.new) (text_of (outcome_from reply out.now state))) }
+    ensures ok { (state : CacheState) → OnOk result (Appends (W.taken writer.old) (W.taken writer.new) (text_of (outcome_from reply out.now state))) }
+    ensures err { (state : CacheState) → OnErr result (WritesPart (W.taken writer.old) (W.taken writer.new) (text_of (outcome_from reply out.now state))) }
     ensures failures { W.failures writer.new ≡ counted (is_err result) (W.failures writer.old) }
 {
     match reply {

@@ -6,6 +6,10 @@ use thiserror::Error;
 /// What the words of the program ask for.
 #[derive(Drop)]
 pub struct Arguments {
+    /// The values of `-l`, each `NAME=FILE`, in order.
+    pub lists: Vec<String>,
+    /// The status file.
+    pub status: Option<String>,
     /// The file of the script. Without one the script is read from standard input.
     pub script: Option<String>,
 }

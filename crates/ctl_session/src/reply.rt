@@ -1,6 +1,6 @@
 //! What a command came to.
 
-use crate::refusal::RefusalAt;
+use crate::refusal_at::RefusalAt;
 
 /// What a command came to.
 #[derive(Clone, Copy, Debug, PartialEq, Eq)]

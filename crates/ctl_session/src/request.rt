@@ -1,105 +1,73 @@
 //! What a command asks for, by its words.
 
-ghost use Rattle.std.specs.Prelude.{◌≡◌, map};
-ghost use Rattle.ctl_session.specs.Request.{is_option, has_quote, add_list_request as add_list_asked, package_names_request as package_names_asked, request_named, request_of};
-ghost use Rattle.ctl_session.specs.Script.{Command as CommandText};
+ghost use Rattle.std.specs.Prelude.{◌≡◌, IfOk, OnOk, None};
+ghost use Rattle.ctl_session.specs.Script.{Command as CommandText, name_of};
+ghost use Rattle.ctl_session.specs.Words.{behind_name};
+ghost use Rattle.ctl_session.specs.Request.{command_named, request_by, request_named, request_of};
 ghost use Rattle.ctl_session.specs.Reading.{Describes};
-ghost use Rattle.ctl_session.specs.Replies.{Asks, AsksAt};
+ghost use Rattle.ctl_session.specs.Asked.{Asks, GivesWords, GivesWordsAt, IsProperRequest};
 
-use crate::refusal::{Refusal, RefusalAt};
+use crate::command_name::CommandName;
+use crate::edit_words::{mark_request, remove_request, target_request};
+use crate::line_words::{behind_name, name};
+use crate::list_words::{
+    add_list_request, drop_list_request, package_names_request, prefs_request, put_request,
+    unmark_request,
+};
+use crate::pin_words::{pin_request, unpin_request};
+use crate::refusal_at::RefusalAt;
 use crate::script::CommandRead;
-use crate::words::{behind_name, name, words};
-use ctl_relation::is_name;
+use crate::words::words;
+use ctl_relation::Bytes;
+use ctl_stanza::ListKind;
+use ctl_store::{Edit, ListClass, Refusal};
 use std::alloc::Global;
 
 /// What a command asks for.
+#[derive(Drop)]
 pub(crate) enum Request<'a> {
-    /// A new last list of this name, which holds packages.
-    AddList(&'a [u8]),
+    /// A new last list, with the stanzas of the body.
+    AddList(&'a [u8], ListKind, ListClass),
+    /// The stanza of the body for this list.
+    Put(&'a [u8]),
+    /// The pin settings of the body.
+    Prefs,
+    /// An edit that needs no body.
+    Change(Edit),
     /// The names of packages that begin with this prefix.
     PackageNames(&'a [u8]),
 }
 
-/// Whether a word is an option of a query.
-fn is_option(word: &[u8]) -> bool
-    ensures { result ≡ is_option word.now }
-{
-    match word {
-        [] => false,
-        [byte, ..] => *byte == b'-',
-    }
+/// The name of a command and its words.
+#[derive(Drop)]
+pub(crate) struct CommandWords {
+    pub(crate) name: CommandName,
+    pub(crate) words: Vec<Bytes>,
 }
 
-/// Whether a word is quoted, which no command takes.
-fn has_quote(text: &[u8]) -> bool
-    ensures { result ≡ has_quote text.now }
+/// The name and the words of a command's line.
+pub(crate) fn words_of_line(alloc: Global, head: &[u8]) -> Result<CommandWords, Refusal>
+    ensures { GivesWords result (request_named (command_named (name_of head.now)) (behind_name head.now)) }
 {
-    text.iter().any(|byte| *byte == b'\'')
-}
-
-/// `add-list NAME packages`
-fn add_list_request<'a>(words: &[&'a [u8]]) -> Result<Request<'a>, Refusal>
-    ensures { Asks result (add_list_asked (map (λ word. word.now) words.now)) }
-{
-    match words {
-        [name, kind] => {
-            if *kind != b"packages".as_slice() {
-                return Err(Refusal::Usage);
-            }
-            if !is_name(name) {
-                return Err(Refusal::Name);
-            }
-            Ok(Request::AddList(name))
-        }
-        _ => Err(Refusal::Usage),
-    }
-}
-
-/// `pkgnames [PREFIX]`
-fn package_names_request<'a>(words: &[&'a [u8]]) -> Result<Request<'a>, Refusal>
-    ensures { Asks result (package_names_asked (map (λ word. word.now) words.now)) }
-{
-    match words {
-        [] => Ok(Request::PackageNames(b"")),
-        [prefix] => {
-            if is_option(prefix) {
-                return Err(Refusal::Usage);
-            }
-            Ok(Request::PackageNames(prefix))
-        }
-        _ => Err(Refusal::Usage),
-    }
-}
-
-/// A request by the name of a command and the text behind it.
-fn request_named<'a>(alloc: Global, name: &[u8], text: &'a [u8]) -> Result<Request<'a>, Refusal>
-    ensures { Asks result (request_named name.now text.now) }
-{
-    let adds_list = name == b"add-list".as_slice();
-    if !adds_list && name != b"pkgnames".as_slice() {
+    let Some(name) = CommandName::read(name(head)) else {
         return Err(Refusal::Command);
-    }
-    if has_quote(text) {
-        return Err(Refusal::Usage);
-    }
-    let Ok(words) = words(alloc, text) else {
-        return Err(Refusal::Memory);
     };
-    if adds_list {
-        add_list_request(&words)
-    } else {
-        package_names_request(&words)
+    match words(alloc, behind_name(head)) {
+        Ok(Some(words)) => Ok(CommandWords { name, words }),
+        Ok(None) => Err(Refusal::Usage),
+        Err(_) => Err(Refusal::Memory),
     }
 }
 
-/// What a command asks for, or why it is refused before anything is done.
-pub(crate) fn read_request<'a>(
+/// The name and the words of a command, or why it is refused before its words are looked at.
+pub(crate) fn command_words(
     alloc: Global,
-    head: &'a [u8],
+    head: &[u8],
     command: &CommandRead,
     last_line: u32,
-) -> Result<Request<'a>, RefusalAt>
-    ensures { (asked : CommandText) → Describes last_line head.now command.now asked → AsksAt command.now.number result (request_of asked) }
+) -> Result<CommandWords, RefusalAt>
+    ensures words { (asked : CommandText) → Describes last_line head.now command.now asked → GivesWordsAt command.now.number result (request_of asked) }
+    ensures fits { OnOk result (command.now.body.too_long ≡ None) }
 {
     if let Some(line) = command.body.too_long {
         return Err(RefusalAt {
@@ -113,11 +81,35 @@ pub(crate) fn read_request<'a>(
             cause: Refusal::Unended,
         });
     }
-    match request_named(alloc, name(head), behind_name(head)) {
-        Ok(request) => Ok(request),
+    match words_of_line(alloc, head) {
+        Ok(words) => Ok(words),
         Err(cause) => Err(RefusalAt {
             line: command.number as u64,
             cause,
         }),
+    }
+}
+
+/// What the words of a command ask for.
+pub(crate) fn request_by(
+    alloc: Global,
+    name: CommandName,
+    words: &[Bytes],
+) -> Result<Request<'_>, Refusal>
+    ensures asks { Asks result (request_by name words.now) }
+    ensures proper { IfOk result IsProperRequest }
+{
+    match name {
+        CommandName::AddList => add_list_request(words),
+        CommandName::DropList => drop_list_request(alloc, words),
+        CommandName::Put => put_request(words),
+        CommandName::Remove => remove_request(alloc, words),
+        CommandName::Mark => mark_request(alloc, words),
+        CommandName::Unmark => unmark_request(alloc, words),
+        CommandName::Pin => pin_request(alloc, words),
+        CommandName::Unpin => unpin_request(alloc, words),
+        CommandName::Target => target_request(alloc, words),
+        CommandName::Prefs => prefs_request(words),
+        CommandName::PackageNames => package_names_request(words),
     }
 }

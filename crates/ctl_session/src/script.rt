@@ -12,7 +12,7 @@ use crate::fault::ReadingFault;
 use crate::lines::Lines;
 use crate::read_ahead::LineRead;
 use crate::source::Source;
-use crate::words::{has_body, is_dot, is_no_command};
+use crate::line_words::{has_body, is_dot, is_no_command};
 use ctl_stanza::MAX_LINE;
 use std::alloc::{AllocError, Global};
 

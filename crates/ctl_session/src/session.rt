@@ -1,17 +1,24 @@
-//! A session: lists, and the scripts that are run over them.
+//! A session: a cache, and the scripts that are run over them.
 
-ghost use Rattle.std.specs.Prelude.{◌≡◌, ◌-◌, ◌^◌, IfOk, IfErr};
+ghost use Rattle.std.specs.Prelude.{◌≡◌, ◌-◌, ◌^◌, IfOk, IfErr, OnErr};
+ghost use Rattle.ctl_session.specs.Effect.{loaded};
+ghost use Rattle.ctl_session.specs.Replies.{LoadCameTo};
 ghost use Rattle.ctl_session.specs.Streams.{counted};
 ghost use Rattle.ctl_session.specs.Faults.{is_read_fault, is_write_fault};
 ghost use Rattle.ctl_session.specs.Run.{Ran, Stopped};
 
 use crate::cache::Cache;
+use crate::edits::add_list;
 use crate::fault::Fault;
 use crate::lines::Lines;
+use crate::load_fault::LoadFault;
 use crate::run::{Buffers, run_over};
 use crate::sink::Sink;
 use crate::source::Source;
 use crate::summary::Summary;
+use ctl_relation::is_name;
+use ctl_stanza::ListKind;
+use ctl_store::{ListClass, Refusal};
 use std::alloc::{AllocError, Global};
 use std::marker::Model;
 
@@ -26,11 +33,15 @@ pub struct Session {
 }
 
 impl Model for Session {
+    ghost use Rattle.std.specs.Coded.{codes};
+    ghost use Rattle.std.specs.FinMap.{code};
     ghost use Rattle.ctl_session.specs.State.{SessionState};
 
     ghost Value = { SessionState };
 
-    ghost view = { λ session. record { lists = session.cache; max_lines = session.max_lines } };
+    ghost coded = { Prim.hlevel (codes, code) };
+
+    ghost view = { λ session. record { cache = session.cache; max_lines = session.max_lines } };
 }
 
 /// All the memory that the reading of lines takes.
@@ -42,7 +53,7 @@ impl Session {
     /// A session over a cache, whose runs read up to 4,294,967,295 lines.
     /// It hands the cache back where there is not enough memory.
     pub fn new(alloc: Global, cache: Cache) -> Result<Self, (Cache, AllocError)>
-        ensures ok { IfOk result (λ session. session ≡ record { lists = cache; max_lines = 2 ^ 32 - 1 }) }
+        ensures ok { IfOk result (λ session. session ≡ record { cache = cache; max_lines = 2 ^ 32 - 1 }) }
         ensures err { IfErr result (λ refused. refused.0 ≡ cache) }
     {
         Session::with_lines(alloc, cache, u32::MAX)
@@ -55,7 +66,7 @@ impl Session {
         cache: Cache,
         max_lines: u32,
     ) -> Result<Self, (Cache, AllocError)>
-        ensures ok { IfOk result (λ session. session ≡ record { lists = cache; max_lines = max_lines }) }
+        ensures ok { IfOk result (λ session. session ≡ record { cache = cache; max_lines = max_lines }) }
         ensures err { IfErr result (λ refused. refused.0 ≡ cache) }
     {
         match reading_room(alloc) {
@@ -72,9 +83,45 @@ impl Session {
 
     /// The cache.
     pub fn cache(&self) -> &Cache
-        ensures { result.now ≡ self.now.lists }
+        ensures { result.now ≡ self.now.cache }
     {
         &self.cache
+    }
+
+    /// Adds a last list of plain class with the stanzas of a text, as `add-list` does. The lines of the text count
+    /// from 1.
+    ///
+    /// # Errors
+    ///
+    /// The first of these, and the cache stays: the name is none; the fault of the text, with its line; there is
+    /// a list of that name; there is a status list, and this would be another; the cache is full. Each may be
+    /// want of memory instead.
+    pub fn load(&mut self, name: &[u8], kind: ListKind, text: &[u8]) -> Result<(), LoadFault>
+        ensures loaded { LoadCameTo result self.new.cache (loaded self.old.cache name.now kind text.now) }
+        ensures err { OnErr result (self.new.cache ≡ self.old.cache) }
+        ensures max_lines { self.new.max_lines ≡ self.old.max_lines }
+    {
+        if !is_name(name) {
+            return Err(LoadFault {
+                line: 0,
+                cause: Refusal::Name,
+            });
+        }
+        match add_list(
+            self.alloc,
+            &mut self.cache,
+            name,
+            kind,
+            ListClass::Plain,
+            text,
+            0,
+        ) {
+            Ok(()) => Ok(()),
+            Err(refused) => Err(LoadFault {
+                line: refused.line,
+                cause: refused.cause,
+            }),
+        }
     }
 
     /// Runs a script, and writes what its commands come to: for each command in its order nothing, one line that
@@ -88,7 +135,7 @@ impl Session {
     ) -> Result<Summary, Fault>
         // All that the reader gave is a script, and what the writer took is the text of its commands.
         ensures ok { IfOk result (λ summary. Ran (R.remaining reader.old) (R.remaining reader.new) (W.taken writer.old) (W.taken writer.new)
-            self.old.lists self.new.lists summary.accepted summary.refused) }
+            self.old.cache self.new.cache summary.accepted summary.refused) }
 
         // A fault of reading or writing comes where a read or a write failed, and only there.
         ensures read { R.failures reader.new ≡ counted (is_read_fault result) (R.failures reader.old) }
@@ -97,7 +144,7 @@ impl Session {
         // At a fault of reading, or past the limit, the text of the commands that were given whole is written, and no more;
         // at a fault of writing the text of the last command that was done is written in part.
         ensures fault { IfErr result (Stopped self.old.max_lines (R.remaining reader.old) (R.remaining reader.new) (W.taken writer.old) (W.taken writer.new)
-            self.old.lists self.new.lists) }
+            self.old.cache self.new.cache) }
         ensures max_lines { self.new.max_lines ≡ self.old.max_lines }
     {
         run_over(

@@ -1,103 +1,126 @@
-//! The words of a line.
+//! The words of a command.
 
-ghost use Rattle.std.specs.Prelude.{◌≡◌, ◌≤◌, ◌++◌, IfOk, length, map};
-ghost use Rattle.ctl_stanza.specs.Lines.{is_blank_byte as blank};
-ghost use Rattle.ctl_session.specs.Script.{without_blanks, first_word, name_of, is_idle, names_body, is_dot as dot};
-ghost use Rattle.ctl_session.specs.Words.{behind_word, behind_name, words_of};
+ghost use Rattle.std.specs.Prelude.{◌≡◌, ◌∷◌, [], ℕ, List, IfOk, OnOk};
+ghost use Rattle.std.specs.Option.{option_map};
+ghost use Rattle.ctl_session.specs.Words.{words_of};
+ghost use Rattle.ctl_session.specs.declared.words.Place.TheVariants.{Between, Within, Quoted};
+ghost use Rattle.ctl_session.specs.WordsRead.{words_read};
 
+use crate::line_words::is_blank;
+use ctl_relation::Bytes;
 use std::alloc::{AllocError, Global};
 
-fn is_blank(byte: u8) -> bool
-    ensures { result ≡ blank byte }
-{
-    byte == b' ' || byte == b'\t'
+/// Where the reading of words stands.
+#[derive(Clone, Copy, Debug, PartialEq, Eq)]
+pub(crate) enum Place {
+    /// Between words.
+    Between,
+    /// Within a word, and not between quotes.
+    Within,
+    /// Between the quotes of a word.
+    Quoted,
 }
 
-/// The line without the blanks at its front.
-pub(crate) fn skip_blanks(text: &[u8]) -> &[u8]
-    ensures value { result.now ≡ without_blanks text.now }
-    ensures within { length result.now ≤ length text.now }
-{
-    let mut rest = text;
-    while let [byte, tail @ ..] = rest {
-        if !is_blank(*byte) {
-            break;
+/// Words that are being read: those that have ended, the bytes of the one that has not, and the place.
+#[derive(Drop)]
+pub(crate) struct Reading {
+    words: Vec<Bytes>,
+    word: Vec<u8>,
+    place: Place,
+}
+
+impl Reading {
+    /// Reads one byte more.
+    fn read(&mut self, alloc: Global, byte: u8) -> Result<(), AllocError>
+        ensures { (text : List ℕ) → OnOk result (words_read self.new text ≡ words_read self.old (byte ∷ text)) }
+    {
+        match self.place {
+            Place::Between => self.read_between(byte),
+            Place::Within => self.read_within(alloc, byte),
+            Place::Quoted => self.read_quoted(byte),
         }
-        rest = tail;
     }
-    rest
-}
 
-/// The bytes up to the next blank, and what comes after them.
-pub(crate) fn take_word(text: &[u8]) -> (&[u8], &[u8])
-    ensures word { result.0.now ≡ first_word text.now }
-    ensures behind { result.1.now ≡ behind_word text.now }
-    ensures split { text.now ≡ result.0.now ++ result.1.now }
-{
-    let mut at = 0;
-    for byte in text {
-        if is_blank(*byte) {
-            break;
+    /// Reads a byte between words: a blank, or the first byte of a word, which may be its opening quote.
+    fn read_between(&mut self, byte: u8) -> Result<(), AllocError>
+        requires { self.old.place ≡ Between }
+        ensures { (text : List ℕ) → OnOk result (words_read self.new text ≡ words_read self.old (byte ∷ text)) }
+    {
+        if is_blank(byte) {
+            return Ok(());
         }
-        at += 1;
+        self.word.clear();
+        if byte == b'\'' {
+            self.place = Place::Quoted;
+            return Ok(());
+        }
+        self.word.push(byte)?;
+        self.place = Place::Within;
+        Ok(())
     }
-    text.split_at(at)
-}
 
-/// The words of a text: blanks part them.
-pub(crate) fn words<'a>(alloc: Global, text: &'a [u8]) -> Result<Vec<&'a [u8]>, AllocError>
-    ensures { IfOk result (λ words. map (λ word. word.now) words.items ≡ words_of text.now) }
-{
-    let mut words = Vec::new(alloc);
-    let mut rest = skip_blanks(text);
-    'words: while !rest.is_empty() {
-        let (word, behind) = take_word(rest);
-        words.push(word)?;
-        rest = skip_blanks(behind);
+    /// Reads a byte within a word: a blank that ends it, an opening quote, or a byte of it.
+    fn read_within(&mut self, alloc: Global, byte: u8) -> Result<(), AllocError>
+        requires { self.old.place ≡ Within }
+        ensures { (text : List ℕ) → OnOk result (words_read self.new text ≡ words_read self.old (byte ∷ text)) }
+    {
+        if is_blank(byte) {
+            self.words.push(Bytes::from_slice(alloc, &self.word)?)?;
+            self.place = Place::Between;
+            return Ok(());
+        }
+        if byte == b'\'' {
+            self.place = Place::Quoted;
+            return Ok(());
+        }
+        self.word.push(byte)?;
+        Ok(())
     }
-    Ok(words)
-}
 
-/// What stands behind the name of a command.
-pub(crate) fn behind_name(line: &[u8]) -> &[u8]
-    ensures { result.now ≡ behind_name line.now }
-{
-    let (_, behind) = take_word(skip_blanks(line));
-    behind
-}
+    /// Reads a byte between quotes: the closing one, or one of the word.
+    fn read_quoted(&mut self, byte: u8) -> Result<(), AllocError>
+        requires { self.old.place ≡ Quoted }
+        ensures { (text : List ℕ) → OnOk result (words_read self.new text ≡ words_read self.old (byte ∷ text)) }
+    {
+        if byte == b'\'' {
+            self.place = Place::Within;
+            return Ok(());
+        }
+        self.word.push(byte)?;
+        Ok(())
+    }
 
-/// The name of a command.
-pub(crate) fn name(line: &[u8]) -> &[u8]
-    ensures { result.now ≡ name_of line.now }
-{
-    let (word, _) = take_word(skip_blanks(line));
-    word
-}
-
-/// Whether a line that is not too long is no command.
-pub(crate) fn is_no_command(line: &[u8]) -> bool
-    ensures { result ≡ is_idle (without_blanks line.now) }
-{
-    match skip_blanks(line) {
-        [] => true,
-        [byte, ..] => *byte == b'#',
+    /// The words, where the text ends here. There are none where a quote lacks its end.
+    fn end(self) -> Result<Option<Vec<Bytes>>, AllocError>
+        ensures { IfOk result (λ words. option_map (λ some. some.items) words ≡ words_read self []) }
+    {
+        let Reading {
+            mut words,
+            word,
+            place,
+        } = self;
+        match place {
+            Place::Quoted => Ok(None),
+            Place::Between => Ok(Some(words)),
+            Place::Within => {
+                words.push(Bytes::from_vec(word))?;
+                Ok(Some(words))
+            }
+        }
     }
 }
 
-/// Whether a body comes after a line that is not too long.
-pub(crate) fn has_body(line: &[u8]) -> bool
-    ensures { result ≡ names_body (name_of line.now) }
+/// The words of a text. There are none where a quote lacks its end.
+pub(crate) fn words(alloc: Global, text: &[u8]) -> Result<Option<Vec<Bytes>>, AllocError>
+    ensures { IfOk result (λ words. option_map (λ some. some.items) words ≡ words_of text.now) }
 {
-    let name = name(line);
-    name == b"add-list".as_slice() || name == b"put".as_slice()
-}
-
-/// Whether a line ends a body.
-pub(crate) fn is_dot(line: &[u8]) -> bool
-    ensures { result ≡ dot line.now }
-{
-    match line {
-        [byte] => *byte == b'.',
-        _ => false,
+    let mut reading = Reading {
+        words: Vec::new(alloc),
+        word: Vec::new(alloc),
+        place: Place::Between,
+    };
+    'bytes: for byte in text {
+        reading.read(alloc, *byte)?;
     }
+    reading.end()
 }

@@ -1,6 +1,6 @@
 -- Faulty lines, one after another.
-use Rattle.std.proofs.Common.{◌≡◌, ◌∙◌, ◌+◌, ◌<◌, ℕ, suc, Bool, true, false, cond, ◌||◌, List, [], ◌∷◌, ◌++◌, length, take, drop, get_or, Option, Some, None, refl, sym, ap, ap₂, arith, append_assoc}
-use Rattle.std.proofs.lemmas.List.{append-nil, take_more, drop_more}
+use Rattle.std.proofs.Common.{◌≡◌, ◌∙◌, ◌+◌, ◌<◌, ℕ, suc, Bool, true, false, cond, not, ◌==◌, ◌&&◌, ◌||◌, nat_lt, is_none, List, [], ◌∷◌, ◌++◌, length, take, drop, get_or, Option, Some, None, refl, sym, ap, ap₂, arith, append_assoc}
+use Rattle.std.proofs.lemmas.List.{append-nil, take_more, drop_more, length-take-le}
 use Rattle.std.proofs.lemmas.List.Folds.{list_any-append}
 use Rattle.std.proofs.lemmas.Bool.{cond-true, cond-false}
 use Rattle.ctl_stanza.specs.declared.line_kind.LineKind.{LineKind}
@@ -8,12 +8,16 @@ use Rattle.ctl_stanza.specs.declared.line_kind.LineKind.TheVariants.{Blank, Fiel
 use Rattle.ctl_stanza.specs.declared.fault.TextFault.{TextFault}
 use Rattle.ctl_stanza.specs.declared.fault.Cause.{Cause}
 use Rattle.ctl_stanza.specs.declared.fault.Cause.TheVariants as causes
-use Rattle.ctl_stanza.specs.Lines.{is_too_long}
+use Rattle.ctl_stanza.specs.Lines.{max_line, is_too_long}
 use Rattle.ctl_stanza.specs.LineKind.{kind_of}
-use Rattle.ctl_stanza.specs.Fields.{FieldText, is_same_name, package_name}
+use Rattle.ctl_stanza.specs.Fields.{FieldText, is_same_name, may_repeat, package_name, version_name}
+use Rattle.ctl_stanza.specs.RelationFields.{relation_kind}
+use Rattle.ctl_stanza.specs.declared.repeats.Repeats.{Repeats}
+use Rattle.ctl_relation.specs.declared.field_kind.FieldKind.{FieldKind}
+use Rattle.ctl_relation.specs.Reading.{relations_of}
+use Rattle.ctl_relation.specs.Version.{fault_of}
 use Rattle.ctl_relation.specs.Names.{is_name}
-use Rattle.ctl_stanza.specs.declared.list_kind.ListKind.{ListKind}
-use Rattle.ctl_stanza.specs.Faults.{name_in, names_of, has_name, gives_name, cause_of, cause_with, fault_or, first_fault, field_cause, first_wrong, is_missing, whole_fault}
+use Rattle.ctl_stanza.specs.Faults.{name_in, names_of, has_name, gives_name, body_step, body_len_from, body_len, repeat_cause, continuation_cause, cause_of, cause_with, fault_or, first_fault, is_read, relation_cause, live_cause, field_cause, first_wrong}
 
 pub names_of-append : (xs ys : List (List ℕ)) → names_of (xs ++ ys) ≡ names_of xs ++ names_of ys
 names_of-append [] ys = refl
@@ -27,12 +31,12 @@ pub drop-here : (ls : List (List ℕ)) (i j : ℕ) → j ≡ i + 1 → i < lengt
 drop-here ls i j e lt = rw e (drop_more ls i [] lt)
 
 -- a turn: the faults of what is left are that of the next line, or those after it
-pub fault-here : (ls : List (List ℕ)) (m n i j : ℕ) → j ≡ i + 1 → n ≡ m + 1 → i < length ls
-    → first_fault m (take i ls) (drop i ls) ≡ fault_or m (cause_of (take i ls) (get_or ls i [])) (first_fault n (take j ls) (drop j ls))
-fault-here ls m n i j e f lt =
+pub fault-here : (r : Repeats) (ls : List (List ℕ)) (m n i j : ℕ) → j ≡ i + 1 → n ≡ m + 1 → i < length ls
+    → first_fault r m (take i ls) (drop i ls) ≡ fault_or m (cause_of r (take i ls) (get_or ls i [])) (first_fault r n (take j ls) (drop j ls))
+fault-here r ls m n i j e f lt =
     let next : suc m ≡ n = omega arith in
-    ap (first_fault m (take i ls)) (drop-here ls i j e lt)
-    ∙ ap₂ (λ k before. fault_or m (cause_of (take i ls) (get_or ls i [])) (first_fault k before (drop j ls))) next (sym (take-next ls i j e lt))
+    ap (first_fault r m (take i ls)) (drop-here ls i j e lt)
+    ∙ ap₂ (λ k before. fault_or m (cause_of r (take i ls) (get_or ls i [])) (first_fault r k before (drop j ls))) next (sym (take-next ls i j e lt))
 
 or-false : (a : Bool) → (a || false) ≡ a
 or-false true = refl
@@ -61,34 +65,49 @@ has_name-next ls i j name e lt =
     ∙ or-flip (has_name (names_of (take i ls)) name) (has_name (name_in (kind_of l) l) name)
     ∙ ap (λ t. t || has_name (names_of (take i ls)) name) (gives-is (kind_of l) l name)
 
-given-same : (given other : List ℕ → Bool) → ((name : List ℕ) → given name ≡ other name) → (line : List ℕ) (kind : LineKind)
-    → cause_with given line kind ≡ cause_with other line kind
-given-same given other same line (Field n) = ap (λ t. cond t (Some causes.FieldTwice) None) (same (take n line))
-given-same given other same line Continuation = refl
-given-same given other same line Blank = refl
-given-same given other same line Faulty = refl
+-- ---- the bytes of a body
+
+body_len-append : (len : ℕ) (xs ys : List (List ℕ)) → body_len_from len (xs ++ ys) ≡ body_len_from (body_len_from len xs) ys
+body_len-append len [] ys = refl
+body_len-append len (x ∷ xs) ys = body_len-append (body_step len x (kind_of x)) xs ys
+
+-- one line more
+pub body_len-next : (ls : List (List ℕ)) (i j : ℕ) → j ≡ i + 1 → i < length ls
+    → body_len (take j ls) ≡ body_step (body_len (take i ls)) (get_or ls i []) (kind_of (get_or ls i []))
+body_len-next ls i j e lt = ap body_len (take-next ls i j e lt) ∙ body_len-append 0 (take i ls) (get_or ls i [] ∷ [])
+
+-- ---- the cause of a line
+
+given-same : (r : Repeats) (given other : List ℕ → Bool) → ((name : List ℕ) → given name ≡ other name) → (first : Bool) (len : ℕ) (line : List ℕ) (kind : LineKind)
+    → cause_with r given first len line kind ≡ cause_with r other first len line kind
+given-same r given other same first len line (Field n) = ap (λ t. repeat_cause t (may_repeat r (take n line))) (same (take n line))
+given-same r given other same first len line Continuation = refl
+given-same r given other same first len line Blank = refl
+given-same r given other same first len line Faulty = refl
 
 -- the cause that the code finds is that of the line
-pub cause-is : (ls : List (List ℕ)) (given : List ℕ → Bool) (i : ℕ) (line : List ℕ) (kind : LineKind) (r : Option Cause) → i < length ls
-    → ((name : List ℕ) → given name ≡ has_name (names_of (take i ls)) name)
-    → get_or ls i [] ≡ line → kind ≡ kind_of line → is_too_long line ≡ false → r ≡ cause_with given line kind → r ≡ cause_of (take i ls) (get_or ls i [])
-cause-is ls given i line kind r lt same here is short e =
-    e ∙ given-same given (has_name (names_of (take i ls))) same line kind
-    ∙ ap (cause_with (has_name (names_of (take i ls))) line) is
-    ∙ sym (cond-false _ _ _ short) ∙ ap (cause_of (take i ls)) (sym here)
+pub cause-is : (r : Repeats) (ls : List (List ℕ)) (given : List ℕ → Bool) (i len : ℕ) (line : List ℕ) (kind : LineKind) (found : Option Cause) → i < length ls
+    → ((name : List ℕ) → given name ≡ has_name (names_of (take i ls)) name) → len ≡ body_len (take i ls)
+    → get_or ls i [] ≡ line → kind ≡ kind_of line → is_too_long line ≡ false → found ≡ cause_with r given (i == 0) len line kind → found ≡ cause_of r (take i ls) (get_or ls i [])
+cause-is r ls given i len line kind found lt same len_is here is short e =
+    let size : i ≡ length (take i ls) = sym (length-take-le i ls (omega arith)) in
+    e ∙ given-same r given (has_name (names_of (take i ls))) same (i == 0) len line kind
+    ∙ ap₂ (λ k n. cause_with r (has_name (names_of (take i ls))) (k == 0) n line kind) size len_is
+    ∙ ap (cause_with r (has_name (names_of (take i ls))) (length (take i ls) == 0) (body_len (take i ls)) line) is
+    ∙ sym (cond-false _ _ _ short) ∙ ap (cause_of r (take i ls)) (sym here)
 
-pub cause-long : (ls : List (List ℕ)) (i : ℕ) (line : List ℕ) → get_or ls i [] ≡ line → is_too_long line ≡ true → cause_of (take i ls) (get_or ls i []) ≡ Some causes.TooLong
-cause-long ls i line here long = ap (cause_of (take i ls)) here ∙ cond-true _ _ _ long
+pub cause-long : (r : Repeats) (ls : List (List ℕ)) (i : ℕ) (line : List ℕ) → get_or ls i [] ≡ line → is_too_long line ≡ true → cause_of r (take i ls) (get_or ls i []) ≡ Some causes.TooLong
+cause-long r ls i line here long = ap (cause_of r (take i ls)) here ∙ cond-true _ _ _ long
 
-pub turn-fault : (ls : List (List ℕ)) (m i : ℕ) (cause : Cause) → i < length ls → cause_of (take i ls) (get_or ls i []) ≡ Some cause
-    → first_fault m (take i ls) (drop i ls) ≡ Some (record { line = m; cause = cause })
-turn-fault ls m i cause lt e =
-    fault-here ls m (m + 1) i (i + 1) refl refl lt ∙ ap (λ x. fault_or m x (first_fault (m + 1) (take (i + 1) ls) (drop (i + 1) ls))) e
+pub turn-fault : (r : Repeats) (ls : List (List ℕ)) (m i : ℕ) (cause : Cause) → i < length ls → cause_of r (take i ls) (get_or ls i []) ≡ Some cause
+    → first_fault r m (take i ls) (drop i ls) ≡ Some (record { line = m; cause = cause })
+turn-fault r ls m i cause lt e =
+    fault-here r ls m (m + 1) i (i + 1) refl refl lt ∙ ap (λ x. fault_or m x (first_fault r (m + 1) (take (i + 1) ls) (drop (i + 1) ls))) e
 
-pub turn-good : (ls : List (List ℕ)) (m n i j : ℕ) → j ≡ i + 1 → n ≡ m + 1 → i < length ls → cause_of (take i ls) (get_or ls i []) ≡ None
-    → first_fault m (take i ls) (drop i ls) ≡ first_fault n (take j ls) (drop j ls)
-turn-good ls m n i j e f lt none =
-    fault-here ls m n i j e f lt ∙ ap (λ x. fault_or m x (first_fault n (take j ls) (drop j ls))) none
+pub turn-good : (r : Repeats) (ls : List (List ℕ)) (m n i j : ℕ) → j ≡ i + 1 → n ≡ m + 1 → i < length ls → cause_of r (take i ls) (get_or ls i []) ≡ None
+    → first_fault r m (take i ls) (drop i ls) ≡ first_fault r n (take j ls) (drop j ls)
+turn-good r ls m n i j e f lt none =
+    fault-here r ls m n i j e f lt ∙ ap (λ x. fault_or m x (first_fault r n (take j ls) (drop j ls))) none
 
 -- ---- no line and no field has want of memory for its fault
 
@@ -108,31 +127,50 @@ fault_or-memory : (n : ℕ) (o : Option Cause) (later : Option TextFault) → No
 fault_or-memory n None later none rest = rest
 fault_or-memory n (Some cause) later none rest = none
 
-cause_with-memory : (given : List ℕ → Bool) (line : List ℕ) (kind : LineKind) → NoMemoryCause (cause_with given line kind)
-cause_with-memory given line (Field n) = cond-keeps NoMemoryCause (given (take n line)) (Some causes.FieldTwice) None (λ e. cc) tt
-cause_with-memory given line Blank = tt
-cause_with-memory given line Continuation = λ e. cc
-cause_with-memory given line Faulty = λ e. cc
+repeat-memory : (given allowed : Bool) → NoMemoryCause (repeat_cause given allowed)
+repeat-memory given allowed = cond-keeps NoMemoryCause (given && not allowed) (Some causes.FieldTwice) None (λ e. cc) tt
 
-pub first_fault-memory : (n : ℕ) (before lines : List (List ℕ)) → NoMemory (first_fault n before lines)
-first_fault-memory n before [] = tt
-first_fault-memory n before (line ∷ lines) =
-    fault_or-memory n (cause_of before line) _
-    (cond-keeps NoMemoryCause (is_too_long line) (Some causes.TooLong) _ (λ e. cc) (cause_with-memory (has_name (names_of before)) line (kind_of line)))
-    (first_fault-memory (suc n) (before ++ line ∷ []) lines)
+continuation-memory : (first : Bool) (len : ℕ) → NoMemoryCause (continuation_cause first len)
+continuation-memory first len =
+    cond-keeps NoMemoryCause first (Some causes.Line) _ (λ e. cc) (cond-keeps NoMemoryCause (nat_lt max_line len) (Some causes.TooLong) None (λ e. cc) tt)
 
-first_wrong-memory : (n : ℕ) (fields : List FieldText) → NoMemory (first_wrong n fields)
-first_wrong-memory n [] = tt
-first_wrong-memory n (field ∷ fields) =
-    fault_or-memory (n + field.line) (field_cause field.name field.body) _
-    (cond-keeps NoMemoryCause (is_same_name field.name package_name) _ None (cond-keeps NoMemoryCause (is_name field.body) None (Some causes.Name) tt (λ e. cc)) tt)
-    (first_wrong-memory n fields)
+cause_with-memory : (r : Repeats) (given : List ℕ → Bool) (first : Bool) (len : ℕ) (line : List ℕ) (kind : LineKind) → NoMemoryCause (cause_with r given first len line kind)
+cause_with-memory r given first len line (Field n) = repeat-memory (given (take n line)) (may_repeat r (take n line))
+cause_with-memory r given first len line Blank = tt
+cause_with-memory r given first len line Continuation = continuation-memory first (len + (1 + length line))
+cause_with-memory r given first len line Faulty = λ e. cc
 
-pub whole_fault-memory : (kind : ListKind) (n : ℕ) (fields : List FieldText) → NoMemory (whole_fault kind n fields)
-whole_fault-memory kind n fields =
-    cond-keeps NoMemory (is_missing kind fields) (Some (record { line = n; cause = causes.Missing })) (first_wrong n fields) (λ e. cc) (first_wrong-memory n fields)
+pub first_fault-memory : (r : Repeats) (n : ℕ) (before lines : List (List ℕ)) → NoMemory (first_fault r n before lines)
+first_fault-memory r n before [] = tt
+first_fault-memory r n before (line ∷ lines) =
+    fault_or-memory n (cause_of r before line) _
+    (cond-keeps NoMemoryCause (is_too_long line) (Some causes.TooLong) _ (λ e. cc)
+    (cause_with-memory r (has_name (names_of before)) (length before == 0) (body_len before) line (kind_of line)))
+    (first_fault-memory r (suc n) (before ++ line ∷ []) lines)
+
+relation-memory : (body : List ℕ) (kind : Option FieldKind) → NoMemoryCause (relation_cause body kind)
+relation-memory body None = tt
+relation-memory body (Some kind) = cond-keeps NoMemoryCause (is_read (relations_of kind body)) None (Some causes.Relation) tt (λ e. cc)
+
+field-memory : (live : Bool) (name body : List ℕ) → NoMemoryCause (field_cause live name body)
+field-memory live name body =
+    cond-keeps NoMemoryCause (is_same_name name package_name) _ _
+    (cond-keeps NoMemoryCause (is_name body) None (Some causes.Name) tt (λ e. cc))
+    (cond-keeps NoMemoryCause live (live_cause name body) None
+    (cond-keeps NoMemoryCause (is_same_name name version_name) _ _
+    (cond-keeps NoMemoryCause (is_none (fault_of body)) None (Some causes.Version) tt (λ e. cc)) (relation-memory body (relation_kind name)))
+    tt)
+
+pub first_wrong-memory : (live : Bool) (n : ℕ) (fields : List FieldText) → NoMemory (first_wrong live n fields)
+first_wrong-memory live n [] = tt
+first_wrong-memory live n (field ∷ fields) =
+    fault_or-memory (n + field.line) (field_cause live field.name field.body) _ (field-memory live field.name field.body) (first_wrong-memory live n fields)
 
 -- so it is told where it stands
 pub never-memory : (fault : TextFault) (found : Option TextFault) → NoMemory found → found ≡ Some fault → fault.cause ≡ causes.Memory → fault.line ≡ 0
 never-memory fault None none e memory = absurd (cc)
 never-memory fault (Some other) none e memory = absurd (none (let same : other ≡ fault = cc in ap (λ (f : TextFault). f.cause) same ∙ memory))
+
+pub not-memory : (fault : TextFault) (found : Option TextFault) → NoMemory found → found ≡ Some fault → fault.cause ≡ causes.Memory → ⊥
+not-memory fault None none e memory = cc
+not-memory fault (Some other) none e memory = none (let same : other ≡ fault = cc in ap (λ (f : TextFault). f.cause) same ∙ memory)

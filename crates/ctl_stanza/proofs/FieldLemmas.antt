@@ -1,15 +1,18 @@
 -- Fields, and where they stand in a text.
-use Rattle.std.proofs.Common.{◌≡◌, ◌∙◌, ◌+◌, ◌-◌, ◌<◌, ◌≤◌, ℕ, zero, suc, true, false, List, [], ◌∷◌, ◌++◌, length, take, drop, get_or, Some, slice_range, append_assoc, refl, sym, ap, arith}
-use Rattle.std.proofs.lemmas.Bool.{cond-true, cond-false}
-use Rattle.std.proofs.Math.Seq.{drop-append-add}
-use Rattle.std.proofs.lemmas.List.{take-append-le, drop-append-le, drop_more, length-append, length-drop}
+use Rattle.std.proofs.Common.{◌≡◌, ◌∙◌, ◌+◌, ◌-◌, ◌⊎◌, ◌<◌, ◌≤◌, ℕ, zero, suc, cond, Bool, true, false, List, [], ◌∷◌, ◌++◌, length, map, take, drop, get_or, Some, None, slice_range, append_assoc, take_all, refl, sym, ap, ap₂, arith, ⊎_elim}
+use Rattle.std.proofs.lemmas.Bool.{cases_Bool, cond-true, cond-false}
+use Rattle.std.proofs.Math.Seq.{take-append-add, take-append_seam, drop-append-add}
+use Rattle.std.proofs.lemmas.List.{take-append-le, drop-append-le, take-append-drop, length-take-le, append-nil, drop_more, length-append, length-drop}
+use Rattle.std.proofs.lemmas.List.Elements.{All-nil, All-cons}
 use Rattle.ctl_stanza.specs.declared.fields.Field.{Field}
-use Rattle.ctl_stanza.specs.declared.fault.Cause.{Cause}
 use Rattle.ctl_stanza.specs.Lines.{is_blank_byte, text_of_lines}
 use Rattle.ctl_stanza.specs.LineKind.{kind_of}
-use Rattle.ctl_stanza.specs.Fields.{FieldText, strip_end, before_stripped, body_named, is_same_name, fields_from, field_at}
+use Rattle.ctl_stanza.specs.declared.fields.Span.{Span}
+use Rattle.ctl_stanza.specs.Fields.{FieldText, strip_end, before_stripped, continues, continued, body_named, is_same_name, fields_from, field_at}
 use Rattle.ctl_stanza.specs.Faults.{field_cause, first_wrong, fault_or}
-use Rattle.ctl_stanza.specs.Spans.{shown, shown_field, shown_fields}
+use Rattle.ctl_stanza.specs.declared.fields.FieldPlace.{FieldPlace}
+use Rattle.ctl_stanza.specs.Content.{name_and_body}
+use Rattle.ctl_stanza.specs.Spans.{IsWithin, AreWithin, StandsAt, Shows, shown, shown_fields, place_of, shown_places, body_among, IsPlaceWithin, ArePlacesWithin, AreReadFrom, AreFieldsOf}
 
 -- nothing but blanks is left
 pub strip_end-none : (text : List ℕ) → ((k : ℕ) → k < length text → is_blank_byte (get_or text k 0) ≡ true) → strip_end text ≡ []
@@ -38,46 +41,215 @@ within_line front line behind at a b e le in_line =
     ∙ ap (take (b - a)) (drop-append-add front (line ++ behind) a ∙ drop-append-le a line behind (omega arith))
     ∙ take-append-le (b - a) (drop a line) behind (omega (arith, length-drop a line))
 
--- ---- a field by its name
+-- from within a line on, up to a place behind it
+pub beyond_line : (front line behind : List ℕ) (at a b m : ℕ) → length front ≡ at → a ≤ b → b ≡ length line
+    → slice_range (front ++ (line ++ behind)) (at + a) (at + b + m) ≡ slice_range line a b ++ take m behind
+beyond_line front line behind at a b m e le is =
+    let n : at + b + m - (at + a) ≡ length (drop a line) + m = omega (arith, length-drop a line) in
+    let place : at + a ≡ length front + a = omega arith in
+    ap (λ k. take k (drop (at + a) (front ++ (line ++ behind)))) n
+    ∙ ap (λ k. take (length (drop a line) + m) (drop k (front ++ (line ++ behind)))) place
+    ∙ ap (take (length (drop a line) + m)) (drop-append-add front (line ++ behind) a ∙ drop-append-le a line behind (omega arith))
+    ∙ take-append-add (drop a line) behind m
+    ∙ ap (λ t. t ++ take m behind) (sym (take_all (b - a) (drop a line) (omega (arith, length-drop a line))))
 
-pub found : (text name : List ℕ) (fields : List Field) (i : ℕ) (f : Field) → i < length fields → get_or fields i f ≡ f → is_same_name (shown_field text f).name name ≡ true
-    → body_named name (shown_fields text (drop i fields)) ≡ Some (shown text f.body)
-found text name fields i f lt is so =
-    ap (λ fs. body_named name (shown_fields text fs)) (drop_more fields i f lt)
-    ∙ ap (λ g. body_named name (shown_field text g ∷ shown_fields text (drop (i + 1) fields))) is ∙ cond-true _ _ _ so
+-- ---- continuation lines
 
--- ---- a wrong field
+pub continued-stop : (ls : List (List ℕ)) (i : ℕ) → i < length ls → continues (kind_of (get_or ls i [])) ≡ false → continued (drop i ls) ≡ []
+continued-stop ls i lt other = ap continued (drop_more ls i [] lt) ∙ cond-false _ _ _ other
 
-pub wrong : (text : List ℕ) (fields : List Field) (n i : ℕ) (f : Field) (cause : Cause) → i < length fields → get_or fields i f ≡ f
-    → field_cause (shown_field text f).name (shown_field text f).body ≡ Some cause
-    → first_wrong n (shown_fields text (drop i fields)) ≡ Some (record { line = n + f.line; cause = cause })
-wrong text fields n i f cause lt is so =
-    ap (λ fs. first_wrong n (shown_fields text fs)) (drop_more fields i f lt)
-    ∙ ap (λ g. first_wrong n (shown_field text g ∷ shown_fields text (drop (i + 1) fields))) is
-    ∙ ap (λ o. fault_or (n + f.line) o (first_wrong n (shown_fields text (drop (i + 1) fields)))) so
+pub continued-go : (ls : List (List ℕ)) (i : ℕ) → i < length ls → continues (kind_of (get_or ls i [])) ≡ true
+    → continued (drop i ls) ≡ 10 ∷ (get_or ls i [] ++ continued (drop (i + 1) ls))
+continued-go ls i lt so = ap continued (drop_more ls i [] lt) ∙ cond-true _ _ _ so
+
+-- they stand at the front of the text behind the line before them
+pub take-continued : (ls : List (List ℕ)) → take (length (continued ls)) (10 ∷ text_of_lines ls) ≡ continued ls
+take-continued [] = refl
+take-continued (l ∷ ls) = ⊎_elim
+    (λ (so : continues (kind_of l) ≡ true).
+    let is : continued (l ∷ ls) ≡ 10 ∷ (l ++ continued ls) = cond-true _ _ _ so in
+    ap (λ t. take (length t) (10 ∷ (l ++ 10 ∷ text_of_lines ls))) is
+    ∙ ap (λ n. 10 ∷ take n (l ++ 10 ∷ text_of_lines ls)) (length-append l (continued ls))
+    ∙ ap (λ t. 10 ∷ t) (take-append-add l (10 ∷ text_of_lines ls) (length (continued ls)) ∙ ap (λ t. l ++ t) (take-continued ls))
+    ∙ sym is)
+    (λ (other : continues (kind_of l) ≡ false).
+    let none : continued (l ∷ ls) ≡ [] = cond-false _ _ _ other in
+    ap (λ t. take (length t) (10 ∷ (l ++ 10 ∷ text_of_lines ls))) none ∙ sym none)
+    (cases_Bool (continues (kind_of l)))
+
+pub continued-le : (ls : List (List ℕ)) → length (continued ls) ≤ length (text_of_lines ls)
+continued-le [] = omega arith
+continued-le (l ∷ ls) = ⊎_elim
+    (λ (so : continues (kind_of l) ≡ true).
+    let is : continued (l ∷ ls) ≡ 10 ∷ (l ++ continued ls) = cond-true _ _ _ so in
+    rw is (omega (arith, length-append l (continued ls), length-append l (10 ∷ text_of_lines ls), continued-le ls)))
+    (λ (other : continues (kind_of l) ≡ false).
+    let none : continued (l ∷ ls) ≡ [] = cond-false _ _ _ other in rw none (omega arith))
+    (cases_Bool (continues (kind_of l)))
+
+pub len-stop : (ls : List (List ℕ)) (line : List ℕ) (i len total : ℕ) → i < length ls → get_or ls i [] ≡ line → continues (kind_of line) ≡ false
+    → len + length (continued (drop i ls)) ≡ total → len ≡ total
+len-stop ls line i len total lt is other e = omega (arith, e, ap length (continued-stop ls i lt (ap (λ l. continues (kind_of l)) is ∙ other)))
+
+pub len-go : (ls : List (List ℕ)) (line : List ℕ) (i len total : ℕ) → i < length ls → get_or ls i [] ≡ line → continues (kind_of line) ≡ true
+    → len + length (continued (drop i ls)) ≡ total → len + (length line + 1) + length (continued (drop (i + 1) ls)) ≡ total
+len-go ls line i len total lt is so e =
+    omega (arith, e, ap length (continued-go ls i lt (ap (λ l. continues (kind_of l)) is ∙ so)), length-append (get_or ls i []) (continued (drop (i + 1) ls)), ap length is)
+
+pub join-stop : (ls : List (List ℕ)) (line body whole : List ℕ) (i : ℕ) → i < length ls → get_or ls i [] ≡ line → continues (kind_of line) ≡ false
+    → body ++ continued (drop i ls) ≡ whole → body ≡ whole
+join-stop ls line body whole i lt is other e =
+    sym (append-nil body) ∙ ap (λ t. body ++ t) (sym (continued-stop ls i lt (ap (λ l. continues (kind_of l)) is ∙ other))) ∙ e
+
+pub join-go : (ls : List (List ℕ)) (line body pushed more whole : List ℕ) (i : ℕ) → i < length ls → get_or ls i [] ≡ line → continues (kind_of line) ≡ true
+    → pushed ≡ body ++ 10 ∷ [] → more ≡ pushed ++ line → body ++ continued (drop i ls) ≡ whole → more ++ continued (drop (i + 1) ls) ≡ whole
+join-go ls line body pushed more whole i lt is so first then e =
+    ap (λ t. t ++ continued (drop (i + 1) ls)) (then ∙ ap (λ t. t ++ line) first)
+    ∙ append_assoc (body ++ 10 ∷ []) line (continued (drop (i + 1) ls))
+    ∙ append_assoc body (10 ∷ []) (line ++ continued (drop (i + 1) ls))
+    ∙ ap (λ l. body ++ 10 ∷ (l ++ continued (drop (i + 1) ls))) (sym is)
+    ∙ ap (λ t. body ++ t) (sym (continued-go ls i lt (ap (λ l. continues (kind_of l)) is ∙ so))) ∙ e
+
+pub nil-of : {A : Type 0} (xs : List A) → length xs ≡ 0 → xs ≡ []
+nil-of [] e = refl
+nil-of (x ∷ xs) e = absurd (omega (arith, e))
+
+-- ---- a line at a place of bytes
+
+-- what stands round a line
+pub record IsRound (bytes : List ℕ) (at : ℕ) (line : List ℕ) (behind : List (List ℕ)) : Type 0 where
+  pub front : List ℕ
+  pub rest : List ℕ
+  pub front_len : length front ≡ at
+  pub whole : bytes ≡ front ++ (line ++ 10 ∷ (text_of_lines behind ++ rest))
+
+pub stands-size : (bytes part : List ℕ) (at : ℕ) → 0 < length part → StandsAt bytes at part → at + length part ≤ length bytes
+stands-size bytes part at some stands =
+    let parts = ap length (take-append-drop (length part) (drop at bytes)) in
+    omega (arith, some, ap length stands, parts, length-append (take (length part) (drop at bytes)) (drop (length part) (drop at bytes)), length-drop at bytes)
+
+-- a line and those behind it have room
+pub stands-room : (bytes line : List ℕ) (at : ℕ) (behind : List (List ℕ)) → StandsAt bytes at (line ++ 10 ∷ text_of_lines behind) → at + length line + 1 + length (text_of_lines behind) ≤ length bytes
+stands-room bytes line at behind stands =
+    let size = length-append line (10 ∷ text_of_lines behind) in
+    omega (arith, size, stands-size bytes (line ++ 10 ∷ text_of_lines behind) at (omega (arith, size)) stands)
+
+pub stands-round : (bytes line : List ℕ) (at : ℕ) (behind : List (List ℕ)) → StandsAt bytes at (line ++ 10 ∷ text_of_lines behind) → IsRound bytes at line behind
+stands-round bytes line at behind stands =
+    let part = line ++ 10 ∷ text_of_lines behind in
+    let rest = drop (length part) (drop at bytes) in
+    let size = stands-size bytes part at (omega (arith, length-append line (10 ∷ text_of_lines behind))) stands in
+    record {
+      front = take at bytes;
+      rest = rest;
+      front_len = length-take-le at bytes (omega arith);
+      whole = sym (take-append-drop at bytes)
+          ∙ ap (λ t. take at bytes ++ t) (sym (take-append-drop (length part) (drop at bytes)) ∙ ap (λ t. t ++ rest) stands ∙ append_assoc line (10 ∷ text_of_lines behind) rest);
+    }
+
+-- the lines behind stand behind the line
+pub stands-next : (bytes line : List ℕ) (at : ℕ) (behind : List (List ℕ)) → StandsAt bytes at (line ++ 10 ∷ text_of_lines behind) → StandsAt bytes (at + (length line + 1)) (text_of_lines behind)
+stands-next bytes line at behind stands =
+    let round = stands-round bytes line at behind stands in
+    let front = round.front ++ (line ++ 10 ∷ []) in
+    let tail = text_of_lines behind ++ round.rest in
+    let whole : bytes ≡ front ++ tail =
+    round.whole ∙ ap (λ t. round.front ++ t) (sym (append_assoc line (10 ∷ []) tail)) ∙ sym (append_assoc round.front (line ++ 10 ∷ []) tail) in
+    let place : at + (length line + 1) ≡ length front + 0 = omega (arith, round.front_len, length-append round.front (line ++ 10 ∷ []), length-append line (10 ∷ [])) in
+    ap (λ t. take (length (text_of_lines behind)) (drop (at + (length line + 1)) t)) whole
+    ∙ ap (λ n. take (length (text_of_lines behind)) (drop n (front ++ tail))) place
+    ∙ ap (take (length (text_of_lines behind))) (drop-append-add front tail 0)
+    ∙ take-append_seam (text_of_lines behind) round.rest
+
+-- ---- more bytes
+
+pub stands-grow : (bytes part more : List ℕ) (at : ℕ) → at ≤ length bytes → StandsAt bytes at part → StandsAt (bytes ++ more) at part
+stands-grow bytes part more at le stands =
+    let parts = ap length (take-append-drop (length part) (drop at bytes)) in
+    ap (take (length part)) (drop-append-le at bytes more le)
+    ∙ take-append-le (length part) (drop at bytes) more
+    (omega (arith, ap length stands, parts, length-append (take (length part) (drop at bytes)) (drop (length part) (drop at bytes)))) ∙ stands
+
+pub shown-grow : (bytes more : List ℕ) (span : Span) → IsWithin bytes span → shown (bytes ++ more) span ≡ shown bytes span
+shown-grow bytes more span within =
+    ap (take (span.end - span.start)) (drop-append-le span.start bytes more (omega (arith, within.0, within.1)))
+    ∙ take-append-le (span.end - span.start) (drop span.start bytes) more (omega (arith, length-drop span.start bytes, within.0, within.1))
+
+pub within-grow : (bytes more : List ℕ) (span : Span) → IsWithin bytes span → IsWithin (bytes ++ more) span
+within-grow bytes more span within = (within.0, omega (arith, within.1, length-append bytes more))
+
+pub fields_within-grow : (bytes more : List ℕ) (fields : List Field) → AreWithin bytes fields → AreWithin (bytes ++ more) fields
+fields_within-grow bytes more fields all = λ k d lt. (within-grow bytes more _ (all k d lt).0, within-grow bytes more _ (all k d lt).1)
+
+pub fields-grow : (bytes more : List ℕ) (fields : List Field) → AreWithin bytes fields → shown_fields (bytes ++ more) fields ≡ shown_fields bytes fields
+fields-grow bytes more [] all = refl
+fields-grow bytes more (f ∷ fs) all =
+    let here = all 0 f (omega arith) in
+    let name = shown-grow bytes more f.name here.0 in
+    let body = shown-grow bytes more f.body here.1 in
+    ap₂ (λ (x : FieldText) xs. x ∷ xs) (ap₂ (λ (x y : List ℕ). record { line = f.line; name = x; body = y }) name body)
+    (fields-grow bytes more fs (λ k d lt. all (suc k) d (omega arith)))
+
+-- ---- the body of a field
+
+-- a body that stands in the text in one piece
+pub body-within : (bytes line value : List ℕ) (at a b m : ℕ) (behind : List (List ℕ)) → StandsAt bytes at (line ++ 10 ∷ text_of_lines behind) → a ≤ b → b ≤ length line → slice_range line a b ≡ value
+    → m ≡ length (continued behind) → (m ≡ 0) ⊎ (b ≡ length line) → Shows bytes (record { start = at + a; end = at + b + m }) (value ++ continued behind)
+body-within bytes line value at a b m behind stands le in_line is size ends =
+    let round = stands-round bytes line at behind stands in
+    let room = stands-room bytes line at behind stands in
+    let tail = 10 ∷ (text_of_lines behind ++ round.rest) in
+    let short = continued-le behind in
+    let within : (at + a ≤ at + b + m) × (at + b + m ≤ length bytes) = (omega arith, omega (arith, room, short, size)) in
+    let front : take m tail ≡ continued behind =
+    take-append-le m (10 ∷ text_of_lines behind) round.rest (omega (arith, size, short)) ∙ ap (λ n. take n (10 ∷ text_of_lines behind)) size ∙ take-continued behind in
+    let shows : slice_range bytes (at + a) (at + b + m) ≡ value ++ continued behind = ⊎_elim
+    (λ (none : m ≡ 0).
+    let here : at + b + m ≡ at + b = omega arith in
+    ap (λ n. slice_range bytes (at + a) n) here ∙ ap (λ t. slice_range t (at + a) (at + b)) round.whole
+    ∙ within_line round.front line tail at a b round.front_len le in_line ∙ is ∙ sym (append-nil value) ∙ ap (λ t. value ++ t) (sym (nil-of (continued behind) (sym size ∙ none))))
+    (λ (end : b ≡ length line).
+    ap (λ t. slice_range t (at + a) (at + b + m)) round.whole ∙ beyond_line round.front line tail at a b m round.front_len le end ∙ ap₂ ◌++◌ is front)
+    ends in
+    record { within = within; part_is = shows }
+
+-- ---- the fields that are left
+
+-- the field at i, and those behind it
+pub left-shown : (text name body : List ℕ) (fields : List Field) (i : ℕ) (d : Field) → i < length fields → name ≡ shown text (get_or fields i d).name → body ≡ shown text (get_or fields i d).body
+    → shown_fields text (drop i fields) ≡ (record { line = (get_or fields i d).line; name = name; body = body }) ∷ shown_fields text (drop (i + 1) fields)
+left-shown text name body fields i d lt is_name is_body =
+    ap (shown_fields text) (drop_more fields i d lt)
+    ∙ ap₂ (λ (x y : List ℕ). (record { line = (get_or fields i d).line; name = x; body = y }) ∷ shown_fields text (drop (i + 1) fields)) (sym is_name) (sym is_body)
+
+pub first_wrong-good : (live : Bool) (n : ℕ) (field : FieldText) (fields left : List FieldText) → left ≡ field ∷ fields → field_cause live field.name field.body ≡ None → first_wrong live n left ≡ first_wrong live n fields
+first_wrong-good live n field fields left is good = ap (first_wrong live n) is ∙ ap (λ o. fault_or (n + field.line) o (first_wrong live n fields)) good
+
+-- ---- what is kept of fields
+
+-- the body of a name among names with bodies is that among fields
+pub body_among_named : (name : List ℕ) (fields : List FieldText) → body_among name (map name_and_body fields) ≡ body_named name fields
+body_among_named name [] = refl
+body_among_named name (f ∷ fs) = ap (λ o. cond (is_same_name f.name name) (Some f.body) o) (body_among_named name fs)
+
+places-shown : (bytes : List ℕ) (fields : List Field) → shown_places bytes (map place_of fields) ≡ map name_and_body (shown_fields bytes fields)
+places-shown bytes [] = refl
+places-shown bytes (f ∷ fs) = ap (λ t. (shown bytes f.name, shown bytes f.body) ∷ t) (places-shown bytes fs)
+
+places-within : (bytes : List ℕ) (fields : List Field) → AreWithin bytes fields → ArePlacesWithin bytes (map place_of fields)
+places-within bytes [] within = All-nil _
+places-within bytes (f ∷ fs) within =
+    All-cons (IsPlaceWithin bytes) (place_of f) _ (within 0 f (omega arith)) (places-within bytes fs (λ k d lt. within (suc k) d (omega arith)))
+
+-- the places of fields that were read are those of the text's fields
+pub kept_fields : (text bytes : List ℕ) (fields : List Field) (places : List FieldPlace) → AreReadFrom text bytes fields → places ≡ map place_of fields → AreFieldsOf text bytes places
+kept_fields text bytes fields places read kept =
+    record {
+      within = rw kept (places-within bytes fields read.within);
+      fields_are = ap (shown_places bytes) kept ∙ places-shown bytes fields ∙ ap (map name_and_body) read.fields_are;
+    }
 
 -- ---- the text of lines
-
-pub length-text_round : (front line : List ℕ) (after : List (List ℕ)) → length (front ++ (line ++ 10 ∷ text_of_lines after)) ≡ length front + (length line + 1 + length (text_of_lines after))
-length-text_round front line after = omega (arith, length-append front (line ++ 10 ∷ text_of_lines after), length-append line (10 ∷ text_of_lines after))
-
--- the text round the line at i
-pub text_of_lines-split : (ls : List (List ℕ)) (i : ℕ) → i < length ls → text_of_lines (take i ls) ++ (get_or ls i [] ++ 10 ∷ text_of_lines (drop (i + 1) ls)) ≡ text_of_lines ls
-text_of_lines-split [] i lt = absurd (omega arith)
-text_of_lines-split (l ∷ ls) zero lt = refl
-text_of_lines-split (l ∷ ls) (suc i) lt =
-    let e : suc i + 1 ≡ suc (i + 1) = omega arith in
-    ap (λ n. text_of_lines (take (suc i) (l ∷ ls)) ++ (get_or ls i [] ++ 10 ∷ text_of_lines (drop n (l ∷ ls)))) e
-    ∙ append_assoc l (10 ∷ text_of_lines (take i ls)) (get_or ls i [] ++ 10 ∷ text_of_lines (drop (i + 1) ls))
-    ∙ ap (λ t. l ++ 10 ∷ t) (text_of_lines-split ls i (omega arith))
-
-pub text_of_lines-next : (ls : List (List ℕ)) (i : ℕ) → i < length ls → length (text_of_lines (take (i + 1) ls)) ≡ length (text_of_lines (take i ls)) + (length (get_or ls i []) + 1)
-text_of_lines-next [] i lt = absurd (omega arith)
-text_of_lines-next (l ∷ ls) zero lt = omega (arith, length-append l (10 ∷ []))
-text_of_lines-next (l ∷ ls) (suc i) lt =
-    let e : suc i + 1 ≡ suc (i + 1) = omega arith in
-    ap (λ n. length (text_of_lines (take n (l ∷ ls)))) e
-    ∙ omega (arith, length-append l (10 ∷ text_of_lines (take (i + 1) ls)), length-append l (10 ∷ text_of_lines (take i ls)), text_of_lines-next ls i (omega arith))
 
 -- each line has a newline at least
 pub length-text_of_lines : (ls : List (List ℕ)) → length ls ≤ length (text_of_lines ls)
@@ -94,13 +266,13 @@ text-go ls line text more pushed whole i lt is first then e =
     ∙ ap (λ t. text ++ text_of_lines t) (sym (drop_more ls i [] lt)) ∙ e
 
 -- the fields of one line more
-pub fields-turn : (ls : List (List ℕ)) (line text : List ℕ) (old new : List Field) (i : ℕ) (whole : List FieldText) → i < length ls → get_or ls i [] ≡ line
-    → shown_fields text new ≡ shown_fields text old ++ field_at i (kind_of line) line
-    → shown_fields text old ++ fields_from i (drop i ls) ≡ whole
+pub fields-turn : (ls : List (List ℕ)) (line text : List ℕ) (before : List FieldText) (new : List Field) (i : ℕ) (whole : List FieldText) → i < length ls → get_or ls i [] ≡ line
+    → shown_fields text new ≡ before ++ field_at i (kind_of line) line (drop (i + 1) ls)
+    → before ++ fields_from i (drop i ls) ≡ whole
     → shown_fields text new ++ fields_from (i + 1) (drop (i + 1) ls) ≡ whole
-fields-turn ls line text old new i whole lt is adds e =
+fields-turn ls line text before new i whole lt is adds e =
     let next : i + 1 ≡ suc i = omega arith in
-    ap (λ t. t ++ fields_from (i + 1) (drop (i + 1) ls)) (adds ∙ ap (λ l. shown_fields text old ++ field_at i (kind_of l) l) (sym is))
-    ∙ append_assoc (shown_fields text old) _ (fields_from (i + 1) (drop (i + 1) ls))
-    ∙ ap (λ n. shown_fields text old ++ (field_at i (kind_of (get_or ls i [])) (get_or ls i []) ++ fields_from n (drop (i + 1) ls))) next
-    ∙ ap (λ t. shown_fields text old ++ fields_from i t) (sym (drop_more ls i [] lt)) ∙ e
+    ap (λ t. t ++ fields_from (i + 1) (drop (i + 1) ls)) (adds ∙ ap (λ l. before ++ field_at i (kind_of l) l (drop (i + 1) ls)) (sym is))
+    ∙ append_assoc before _ (fields_from (i + 1) (drop (i + 1) ls))
+    ∙ ap (λ n. before ++ (field_at i (kind_of (get_or ls i [])) (get_or ls i []) (drop (i + 1) ls) ++ fields_from n (drop (i + 1) ls))) next
+    ∙ ap (λ t. before ++ fields_from i t) (sym (drop_more ls i [] lt)) ∙ e

@@ -18,10 +18,6 @@ pub option_either : {A : Type 0} (o : Option A) → (o ≡ None) ⊎ ((x : A) ×
 option_either None = inl refl
 option_either (Some x) = inr (x, refl)
 
-pub result_either : (r : Read) → ((cs : List Content) × (r ≡ Ok cs)) ⊎ ((f : TextFault) × (r ≡ Err f))
-result_either (Ok cs) = inl (cs, refl)
-result_either (Err f) = inr (f, refl)
-
 -- a first piece without a fault, and the others that are read
 pub record ReadsFirst (front : List Content) (rest : Read) (contents : List Content) : Type 0 where
   pub others : List Content
@@ -33,7 +29,7 @@ reads_first None front contents (Ok others) e = record { others = others; read =
 reads_first None front contents (Err f) e = absurd (cc)
 reads_first (Some f) front contents rest e = absurd (cc)
 
-text_of_lines-append : (xs ys : List (List ℕ)) → text_of_lines (xs ++ ys) ≡ text_of_lines xs ++ text_of_lines ys
+pub text_of_lines-append : (xs ys : List (List ℕ)) → text_of_lines (xs ++ ys) ≡ text_of_lines xs ++ text_of_lines ys
 text_of_lines-append [] ys = refl
 text_of_lines-append (x ∷ xs) ys = ap (λ t. x ++ 10 ∷ t) (text_of_lines-append xs ys) ∙ sym (append_assoc x (10 ∷ text_of_lines xs) (text_of_lines ys))
 

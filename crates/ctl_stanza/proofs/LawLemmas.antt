@@ -7,12 +7,14 @@ use Rattle.ctl_stanza.specs.declared.list_kind.ListKind.{ListKind}
 use Rattle.ctl_stanza.specs.declared.fault.TextFault.{TextFault}
 use Rattle.ctl_stanza.specs.declared.fault.Cause.{Cause}
 use Rattle.ctl_stanza.specs.declared.fault.Cause.TheVariants as causes
-use Rattle.ctl_stanza.specs.Lines.{is_blank, lines_of}
+use Rattle.ctl_stanza.specs.Lines.{max_line, is_blank, lines_of}
+use Rattle.ctl_stanza.specs.declared.repeats.Repeats.{Repeats}
+use Rattle.ctl_stanza.specs.declared.repeats.Repeats.TheVariants.{Never}
 use Rattle.ctl_stanza.specs.LineKind.{kind_of}
 use Rattle.ctl_stanza.specs.Content.{Content}
 use Rattle.ctl_stanza.specs.Faults.{cause_of, fault_or}
 use Rattle.ctl_stanza.specs.Text.{Piece, piece, pieces_of, piece_content, piece_fault, read_pieces, with_contents, or_fault}
-use Rattle.ctl_stanza.specs.Laws.{line_at, lines_before, IsFaultyLine, HasNoFaultyLine, HasWholeFault, HasStanzaFault, HasFault, IsLeastFault, HasNoFault, ReadsOrTells}
+use Rattle.ctl_stanza.specs.Laws.{line_at, lines_before, MakesBodyTooLong, ContinuesNothing, IsFaultyLine, HasNoFaultyLine, HasWholeFault, HasStanzaFault, HasFault, IsLeastFault, HasNoFault, ReadsOrTells}
 use Rattle.ctl_stanza.proofs.PieceLemmas.{AreOther, StartsGap}
 use Rattle.ctl_stanza.proofs.ByPieces.{by_pieces}
 use Rattle.ctl_stanza.proofs.KeepLemmas.{Read, option_either}
@@ -29,11 +31,11 @@ HasThere kind all from len i cause = (from ≤ i) × (i < from + len) × HasFaul
 stanza-fault : (kind : ListKind) (front mid rest : List (List ℕ)) (k : ℕ) (cause : Cause) → 0 < length mid → EndsGap front → AreOther mid → StartsGap rest → HasStanzaLine kind mid k cause
     → HasThere kind (front ++ (mid ++ rest)) (length front) (length mid) (length front + k) cause
 stanza-fault kind front mid rest k cause some gap others gap_after fault = ⊎_elim
-    (λ (faulty : HasFaultyLine mid k cause).
+    (λ (faulty : HasFaultyLine Never mid k cause).
     let size : length front + k < length (front ++ (mid ++ rest)) = omega (arith, faulty.0, length-append front (mid ++ rest), length-append mid rest) in
-    let here : IsFaultyLine (lines_before (front ++ (mid ++ rest)) (length front + k)) (line_at (front ++ (mid ++ rest)) (length front + k)) cause =
-    subst (λ before. IsFaultyLine before (line_at (front ++ (mid ++ rest)) (length front + k)) cause) (sym (lines_before-mid front mid rest k gap others faulty.0))
-    (subst (λ line. IsFaultyLine (take k mid) line cause) (sym (at-mid front mid rest k faulty.0)) faulty.1) in
+    let here : IsFaultyLine Never (lines_before (front ++ (mid ++ rest)) (length front + k)) (line_at (front ++ (mid ++ rest)) (length front + k)) cause =
+    subst (λ before. IsFaultyLine Never before (line_at (front ++ (mid ++ rest)) (length front + k)) cause) (sym (lines_before-mid front mid rest k gap others faulty.0))
+    (subst (λ line. IsFaultyLine Never (take k mid) line cause) (sym (at-mid front mid rest k faulty.0)) faulty.1) in
     let found : HasThere kind (front ++ (mid ++ rest)) (length front) (length mid) (length front + k) cause = (omega arith, omega (arith, faulty.0), inl (size, here)) in found)
     (λ (whole : HasNoFaultyLine mid × HasWholeFault kind mid k cause).
     let short = whole-within kind mid k cause some whole.1 in
@@ -55,8 +57,8 @@ stanza-line kind front mid rest k cause some gap others gap_after lt fault = eli
   | inl faulty ↦
       inl (
         lt,
-        subst (λ before. IsFaultyLine before (line_at mid k) cause) (lines_before-mid front mid rest k gap others lt)
-            (subst (λ line. IsFaultyLine (lines_before (front ++ (mid ++ rest)) (length front + k)) line cause) (at-mid front mid rest k lt) faulty.1),
+        subst (λ before. IsFaultyLine Never before (line_at mid k) cause) (lines_before-mid front mid rest k gap others lt)
+            (subst (λ line. IsFaultyLine Never (lines_before (front ++ (mid ++ rest)) (length front + k)) line cause) (at-mid front mid rest k lt) faulty.1),
       )
   | inr there ↦
       let short = whole-within kind there.stanza there.index cause there.stands.some there.fault in
@@ -89,23 +91,29 @@ run_tell kind n front mid rest some gap others gap_after =
 -- ---- a blank line
 
 -- of a blank line only its length matters
-blank-any : (before other : List (List ℕ)) (line : List ℕ) (cause : Cause) → is_blank line ≡ true → IsFaultyLine before line cause → IsFaultyLine other line cause
-blank-any before other line causes.TooLong blank fault = fault
-blank-any before other line causes.Line blank fault =
+pub blank-any : (r : Repeats) (before other : List (List ℕ)) (line : List ℕ) (cause : Cause) → is_blank line ≡ true → IsFaultyLine r before line cause → IsFaultyLine r other line cause
+blank-any r before other line causes.TooLong blank fault =
     let is : kind_of line ≡ Blank = cond-true _ _ _ blank in
-    ⊎_elim (λ (a : kind_of line ≡ Continuation). absurd (cc)) (λ (b : kind_of line ≡ Faulty). absurd (cc)) fault
-blank-any before other line causes.FieldTwice blank fault =
+    ⊎_elim (λ (long : max_line < length line). inl long) (λ (makes : MakesBodyTooLong before line). let continues : kind_of line ≡ Continuation = makes.continues in absurd (cc)) fault
+blank-any r before other line causes.Line blank fault =
+    let is : kind_of line ≡ Blank = cond-true _ _ _ blank in
+    ⊎_elim (λ (nothing : ContinuesNothing before line). let continues : kind_of line ≡ Continuation = nothing.continues in absurd (cc)) (λ (b : kind_of line ≡ Faulty). absurd (cc)) fault
+blank-any r before other line causes.FieldTwice blank fault =
     let is : kind_of line ≡ Blank = cond-true _ _ _ blank in
     let field : kind_of line ≡ Field fault.bytes = fault.is_field in absurd (cc)
-blank-any before other line causes.Missing blank fault = absurd fault
-blank-any before other line causes.Name blank fault = absurd fault
-blank-any before other line causes.Memory blank fault = absurd fault
+blank-any r before other line causes.Missing blank fault = absurd fault
+blank-any r before other line causes.Name blank fault = absurd fault
+blank-any r before other line causes.Version blank fault = absurd fault
+blank-any r before other line causes.Relation blank fault = absurd fault
+blank-any r before other line causes.Priority blank fault = absurd fault
+blank-any r before other line causes.Form blank fault = absurd fault
+blank-any r before other line causes.Memory blank fault = absurd fault
 
 gap_tell : (kind : ListKind) (n : ℕ) (front : List (List ℕ)) (line : List ℕ) (rest : List (List ℕ)) → is_blank line ≡ true
     → TellsLeast (HasThere kind (front ++ (line ∷ rest)) (length front) 1) n (piece_fault kind (piece (n + length front) (line ∷ [])))
 gap_tell kind n front line rest blank =
     let all = front ++ (line ∷ rest) in
-    let first : piece_fault kind (piece (n + length front) (line ∷ [])) ≡ fault_or (n + length front) (cause_of [] line) None = cond-true _ _ _ blank in
+    let first : piece_fault kind (piece (n + length front) (line ∷ [])) ≡ fault_or (n + length front) (cause_of Never [] line) None = cond-true _ _ _ blank in
     let zero_more : length front + 0 ≡ length front = omega arith in
     let here : line_at all (length front) ≡ line = ap (line_at all) (sym zero_more) ∙ at-back front (line ∷ rest) 0 in
     let size : length front < length all = omega (arith, length-append front (line ∷ rest)) in
@@ -115,20 +123,20 @@ gap_tell kind n front line rest blank =
           (λ some.
           let told : piece_fault kind (piece (n + length front) (line ∷ [])) ≡ Some (record { line = n + length front; cause = some.0 }) = first ∙ ap (λ o. fault_or (n + length front) o None) some.1 in
           let same = same-some _ fault _ told e in
-          let faulty : IsFaultyLine [] line fault.cause = cause-sound [] line fault.cause (some.1 ∙ ap (λ (f : TextFault). Some f.cause) same) in
+          let faulty : IsFaultyLine Never [] line fault.cause = cause-sound Never [] line fault.cause (some.1 ∙ ap (λ (f : TextFault). Some f.cause) same) in
           let there : HasFault kind all (length front) fault.cause =
-          inl (size, subst (λ l. IsFaultyLine (lines_before all (length front)) l fault.cause) (sym here) (blank-any [] (lines_before all (length front)) line fault.cause blank faulty)) in
+          inl (size, subst (λ l. IsFaultyLine Never (lines_before all (length front)) l fault.cause) (sym here) (blank-any Never [] (lines_before all (length front)) line fault.cause blank faulty)) in
           let found : (i : ℕ) × (fault.line ≡ n + i) × HasThere kind all (length front) 1 i fault.cause =
           (length front, sym (ap (λ (f : TextFault). f.line) same), (omega arith, omega arith, there)) in
           found)
-          (option_either (cause_of [] line));
+          (option_either (cause_of Never [] line));
       least = λ i cause fault.
           let place : i ≡ length front = omega (arith, fault.0, fault.1) in
           let there = subst (λ j. HasFault kind all j cause) place fault.2 in
           ⊎_elim
-          (λ (faulty : (length front < length all) × IsFaultyLine (lines_before all (length front)) (line_at all (length front)) cause).
-          let alone = blank-any (lines_before all (length front)) [] line cause blank (subst (λ l. IsFaultyLine (lines_before all (length front)) l cause) here faulty.1) in
-          let told = cause-least [] line cause alone in
+          (λ (faulty : (length front < length all) × IsFaultyLine Never (lines_before all (length front)) (line_at all (length front)) cause).
+          let alone = blank-any Never (lines_before all (length front)) [] line cause blank (subst (λ l. IsFaultyLine Never (lines_before all (length front)) l cause) here faulty.1) in
+          let told = cause-least Never [] line cause alone in
           let found : (f : TextFault) × (piece_fault kind (piece (n + length front) (line ∷ [])) ≡ Some f) × IsAtMost f (n + i) cause =
           (record { line = n + length front; cause = told.0 }, first ∙ ap (λ o. fault_or (n + length front) o None) told.1, inr (omega arith, told.2)) in
           found)

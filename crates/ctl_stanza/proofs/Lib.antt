@@ -1,5 +1,8 @@
 pub mod LineLemmas
 pub mod FieldLemmas
+pub mod RelationLemmas
+pub mod RecordLemmas
+pub mod TurnLemmas
 pub mod NameLemmas
 pub mod FaultLemmas
 pub mod PieceLemmas
@@ -9,4 +12,5 @@ pub mod CauseLemmas
 pub mod WholeLemmas
 pub mod PlaceLemmas
 pub mod LawLemmas
+pub mod RecordLawLemmas
 pub mod RunLemmas

@@ -37,10 +37,6 @@ pub pieces-run : (ls rest whole : List (List ℕ)) → whole ≡ ls ++ rest → 
 pieces-run [] rest whole e some others gap = absurd (omega (arith, some))
 pieces-run (l ∷ ls) rest whole e some others gap = λ n. ap (pieces_of n) e ∙ run-whole n l ls rest others gap
 
--- a blank line is a piece by itself
-pub pieces-gap : (n : ℕ) (l : List ℕ) (rest whole : List (List ℕ)) → whole ≡ l ∷ rest → is_blank l ≡ true → pieces_of n whole ≡ piece n (l ∷ []) ∷ pieces_of (n + 1) rest
-pieces-gap n l rest whole e blank = let one : suc n ≡ n + 1 = omega arith in ap (pieces_of n) e ∙ cond-true _ _ _ blank ∙ ap (λ k. piece n (l ∷ []) ∷ pieces_of k rest) one
-
 pub gap-none : (text : List ℕ) → text ≡ [] → StartsGap (lines_of text)
 gap-none [] e = _
 gap-none (b ∷ bs) e = absurd (cc)

@@ -1,9 +1,12 @@
 -- The fields of a stanza's lines.
-use Rattle.std.specs.Prelude.{ℕ, ◌+◌, Bool, suc, List, [], ◌∷◌, ◌++◌, take, drop, codes, Option, None, Some, if◌then◌else◌}
+use Rattle.std.specs.Prelude.{ℕ, ◌+◌, Bool, true, false, suc, List, [], ◌∷◌, ◌++◌, take, drop, codes, Option, None, Some, if◌then◌else◌}
 use Rattle.std.specs.List.{prefix_len}
 use Rattle.std.specs.Str.{str_eq_ignore_ascii_case}
 use Rattle.ctl_stanza.specs.declared.line_kind.LineKind.{LineKind}
 use Rattle.ctl_stanza.specs.declared.line_kind.LineKind.TheVariants.{Blank, Field, Continuation, Faulty}
+use Rattle.ctl_stanza.specs.declared.repeats.Repeats.{Repeats}
+use Rattle.ctl_stanza.specs.declared.repeats.Repeats.TheVariants.{Never, Explanation}
+use Rattle.ctl_relation.specs.Bytes.{newline}
 use Rattle.ctl_stanza.specs.Lines.{is_blank_byte}
 use Rattle.ctl_stanza.specs.LineKind.{kind_of}
 
@@ -25,23 +28,36 @@ strip_end (b ∷ text) = before_stripped b (strip_end text)
 abbrev pub value_of : ℕ → List ℕ → List ℕ
 value_of n line = strip_end (strip_front (drop (n + 1) line))
 
+-- whether a line of this kind continues the field before it
+abbrev pub continues : LineKind → Bool
+continues Continuation = true
+continues Blank = false
+continues (Field n) = false
+continues Faulty = false
+
+-- the continuation lines at the front, as they stand, each behind a newline
+abbrev pub continued : List (List ℕ) → List ℕ
+continued [] = []
+continued (line ∷ lines) = if continues (kind_of line) then newline ∷ (line ++ continued lines) else []
+
 -- a field: the index of its line in its stanza, its name, its body
 pub record FieldText : Type 0 where
   pub line : ℕ
   pub name : List ℕ
   pub body : List ℕ
 
--- the field that the line at an index begins, by the kind of the line
-abbrev pub field_at : ℕ → LineKind → List ℕ → List FieldText
-field_at i (Field n) line = record { line = i; name = take n line; body = value_of n line } ∷ []
-field_at i Blank line = []
-field_at i Continuation line = []
-field_at i Faulty line = []
+-- The field that the line at an index begins, by the kind of the line and the lines behind it. Its body is its
+-- value, and then the lines that continue it, each behind a newline (Debian Policy 5.1).
+abbrev pub field_at : ℕ → LineKind → List ℕ → List (List ℕ) → List FieldText
+field_at i (Field n) line behind = record { line = i; name = take n line; body = value_of n line ++ continued behind } ∷ []
+field_at i Blank line behind = []
+field_at i Continuation line behind = []
+field_at i Faulty line behind = []
 
 -- the fields of lines, whose indices count from i
 abbrev pub fields_from : ℕ → List (List ℕ) → List FieldText
 fields_from i [] = []
-fields_from i (line ∷ lines) = field_at i (kind_of line) line ++ fields_from (suc i) lines
+fields_from i (line ∷ lines) = field_at i (kind_of line) line lines ++ fields_from (suc i) lines
 
 -- the fields of a stanza's lines
 abbrev pub fields_of_lines : List (List ℕ) → List FieldText
@@ -56,9 +72,17 @@ abbrev pub body_named : List ℕ → List FieldText → Option (List ℕ)
 body_named name [] = None
 body_named name (field ∷ fields) = if is_same_name field.name name then Some field.body else body_named name fields
 
--- the names of the fields that a stanza of a packages list has at least
+-- the names of the fields that a stanza has to have
 abbrev pub package_name : List ℕ
 package_name = codes "Package"
 
 abbrev pub version_name : List ℕ
 version_name = codes "Version"
+
+abbrev pub status_name : List ℕ
+status_name = codes "Status"
+
+-- Which names may stand more than once: none in a stanza of a list, Explanation in a record of preferences.
+abbrev pub may_repeat : Repeats → List ℕ → Bool
+may_repeat Never name = false
+may_repeat Explanation name = is_same_name name (codes "Explanation")

@@ -1,18 +1,24 @@
 -- The faults of a text, each at the index of its line, told apart from how the text is read.
-use Rattle.std.specs.Prelude.{◌≡◌, ◌+◌, ◌<◌, ◌≤◌, ℕ, true, false, not, ◌⊎◌, List, [], length, take, drop, filter, flat_map, slice_index_or, Contains, Some, Ok, Err}
+use Rattle.std.specs.Prelude.{◌≡◌, ◌+◌, ◌<◌, ◌≤◌, ℕ, true, false, not, ◌⊎◌, List, [], length, take, drop, filter, flat_map, slice_index_or, Contains, Some, None, is_none, Ok, Err}
 use Rattle.std.specs.List.{All, after_last}
+use Rattle.ctl_relation.specs.declared.field_kind.FieldKind.{FieldKind}
 use Rattle.ctl_relation.specs.Names.{is_name}
+use Rattle.ctl_relation.specs.Version.{fault_of}
+use Rattle.ctl_relation.specs.Reading.{relations_of}
 use Rattle.ctl_stanza.specs.declared.line_kind.LineKind.TheVariants.{Field, Continuation, Faulty}
 use Rattle.ctl_stanza.specs.declared.list_kind.ListKind.{ListKind}
-use Rattle.ctl_stanza.specs.declared.list_kind.ListKind.TheVariants.{Packages}
+use Rattle.ctl_stanza.specs.declared.repeats.Repeats.{Repeats}
+use Rattle.ctl_stanza.specs.declared.repeats.Repeats.TheVariants.{Never}
 use Rattle.ctl_stanza.specs.declared.fault.TextFault.{TextFault}
 use Rattle.ctl_stanza.specs.declared.fault.Cause.{Cause}
 use Rattle.ctl_stanza.specs.declared.fault.Cause.TheVariants as causes
 use Rattle.ctl_stanza.specs.Lines.{lines_of, text_of_lines, max_line, is_blank}
 use Rattle.ctl_stanza.specs.LineKind.{kind_of}
-use Rattle.ctl_stanza.specs.Fields.{FieldText, fields_of_lines, body_named, is_same_name, package_name, version_name}
+use Rattle.ctl_stanza.specs.Fields.{FieldText, fields_of_lines, body_named, is_same_name, may_repeat, package_name, version_name}
+use Rattle.ctl_stanza.specs.RelationFields.{name_of}
+use Rattle.ctl_stanza.specs.Status.{liveness, is_live_by}
 use Rattle.ctl_stanza.specs.Content.{Content, content_of}
-use Rattle.ctl_stanza.specs.Faults.{number_of}
+use Rattle.ctl_stanza.specs.Faults.{number_of, body_len, is_read}
 use Rattle.ctl_stanza.specs.Text.{read_text}
 
 abbrev pub line_at : List (List ℕ) → ℕ → List ℕ
@@ -28,34 +34,59 @@ pub record IsNameGiven (before : List (List ℕ)) (name : List ℕ) : Type 0 whe
   pub is_field : kind_of earlier ≡ Field bytes
   pub same : is_same_name name (take bytes earlier) ≡ true
 
--- a line is a field line whose name stands in an earlier line
-pub record IsFieldTwice (before : List (List ℕ)) (line : List ℕ) : Type 0 where
+-- a line is a field line whose name stands in an earlier line, and may stand but once
+pub record IsFieldTwice (repeats : Repeats) (before : List (List ℕ)) (line : List ℕ) : Type 0 where
   pub bytes : ℕ
   pub is_field : kind_of line ≡ Field bytes
   pub given : IsNameGiven before (take bytes line)
+  pub once : may_repeat repeats (take bytes line) ≡ false
 
--- What is wrong with a line, by the lines before it in its stanza: it is too long; it is neither blank nor a
--- field line; it gives a field that was given. One line can have more than one fault.
-abbrev pub IsFaultyLine : List (List ℕ) → List ℕ → Cause → Type 0
-IsFaultyLine before line causes.TooLong = max_line < length line
-IsFaultyLine before line causes.Line = (kind_of line ≡ Continuation) ⊎ (kind_of line ≡ Faulty)
-IsFaultyLine before line causes.FieldTwice = IsFieldTwice before line
-IsFaultyLine before line causes.Missing = ⊥
-IsFaultyLine before line causes.Name = ⊥
-IsFaultyLine before line causes.Memory = ⊥
+-- a line continues the body that the lines before it have begun to more bytes than a body may have
+pub record MakesBodyTooLong (before : List (List ℕ)) (line : List ℕ) : Type 0 where
+  pub behind_line : 0 < length before
+  pub continues : kind_of line ≡ Continuation
+  pub too_long : max_line < body_len before + (1 + length line)
+
+-- a line continues, and no line stands before it
+pub record ContinuesNothing (before : List (List ℕ)) (line : List ℕ) : Type 0 where
+  pub is_first : length before ≡ 0
+  pub continues : kind_of line ≡ Continuation
+
+-- What is wrong with a line, by the lines before it in its stanza: it is too long, or the body that it continues is; it
+-- is neither blank, nor a field line, nor a continuation behind a line; it gives a field that was given. One line can have
+-- more than one fault.
+abbrev pub IsFaultyLine : Repeats → List (List ℕ) → List ℕ → Cause → Type 0
+IsFaultyLine repeats before line causes.TooLong = (max_line < length line) ⊎ MakesBodyTooLong before line
+IsFaultyLine repeats before line causes.Line = ContinuesNothing before line ⊎ (kind_of line ≡ Faulty)
+IsFaultyLine repeats before line causes.FieldTwice = IsFieldTwice repeats before line
+IsFaultyLine repeats before line causes.Missing = ⊥
+IsFaultyLine repeats before line causes.Name = ⊥
+IsFaultyLine repeats before line causes.Version = ⊥
+IsFaultyLine repeats before line causes.Relation = ⊥
+IsFaultyLine repeats before line causes.Priority = ⊥
+IsFaultyLine repeats before line causes.Form = ⊥
+IsFaultyLine repeats before line causes.Memory = ⊥
 
 -- ---- stanzas without a faulty line
 
 abbrev pub HasNoFaultyLine : List (List ℕ) → Type 0
-HasNoFaultyLine stanza = (i : ℕ) (cause : Cause) → i < length stanza → IsFaultyLine (take i stanza) (line_at stanza i) cause → ⊥
+HasNoFaultyLine stanza = (i : ℕ) (cause : Cause) → i < length stanza → IsFaultyLine Never (take i stanza) (line_at stanza i) cause → ⊥
 
 -- a field of this name is absent, or empty
 abbrev pub LacksBody : List (List ℕ) → List ℕ → Type 0
 LacksBody stanza name = (body : List ℕ) → body_named name (fields_of_lines stanza) ≡ Some body → body ≡ []
 
--- what every stanza of a list has, and this one lacks
+-- a stanza of a status list has no state: no field Status, or one whose body isn't three words with a state as the third
+abbrev pub LacksState : ListKind → List (List ℕ) → Type 0
+LacksState kind stanza = liveness kind (fields_of_lines stanza) ≡ None
+
+abbrev pub IsLive : ListKind → List (List ℕ) → Type 0
+IsLive kind stanza = is_live_by kind (fields_of_lines stanza) ≡ true
+
+-- A stanza has to have a package, in a status list a state, and where it is live a version; this one lacks one of them.
 abbrev pub LacksField : ListKind → List (List ℕ) → Type 0
-LacksField Packages stanza = LacksBody stanza package_name ⊎ LacksBody stanza version_name
+LacksField kind stanza =
+    LacksBody stanza package_name ⊎ (LacksState kind stanza ⊎ (IsLive kind stanza × LacksBody stanza version_name))
 
 -- the field that begins at the line at i is Package, and its body is no name
 pub record HasBadName (stanza : List (List ℕ)) (i : ℕ) : Type 0 where
@@ -65,6 +96,25 @@ pub record HasBadName (stanza : List (List ℕ)) (i : ℕ) : Type 0 where
   pub is_package : is_same_name field.name package_name ≡ true
   pub no_name : is_name field.body ≡ false
 
+-- the stanza is live, the field that begins at the line at i is Version, and its body is no version
+pub record HasBadVersion (kind : ListKind) (stanza : List (List ℕ)) (i : ℕ) : Type 0 where
+  pub live : IsLive kind stanza
+  pub field : FieldText
+  pub stands : Contains (fields_of_lines stanza) field
+  pub line : field.line ≡ i
+  pub is_version : is_same_name field.name version_name ≡ true
+  pub no_version : is_none (fault_of field.body) ≡ false
+
+-- the stanza is live, the field that begins at the line at i is a relation field, and its body can't be read
+pub record HasBadRelation (kind : ListKind) (stanza : List (List ℕ)) (i : ℕ) : Type 0 where
+  pub live : IsLive kind stanza
+  pub field : FieldText
+  pub stands : Contains (fields_of_lines stanza) field
+  pub line : field.line ≡ i
+  pub relation : FieldKind
+  pub is_relation : is_same_name field.name (name_of relation) ≡ true
+  pub no_relations : is_read (relations_of relation field.body) ≡ false
+
 -- what is wrong with the line at i of a stanza that has no faulty line
 abbrev pub HasWholeFault : ListKind → List (List ℕ) → ℕ → Cause → Type 0
 HasWholeFault kind stanza i causes.TooLong = ⊥
@@ -72,6 +122,10 @@ HasWholeFault kind stanza i causes.Line = ⊥
 HasWholeFault kind stanza i causes.FieldTwice = ⊥
 HasWholeFault kind stanza i causes.Missing = (i ≡ 0) × LacksField kind stanza
 HasWholeFault kind stanza i causes.Name = HasBadName stanza i
+HasWholeFault kind stanza i causes.Version = HasBadVersion kind stanza i
+HasWholeFault kind stanza i causes.Relation = HasBadRelation kind stanza i
+HasWholeFault kind stanza i causes.Priority = ⊥
+HasWholeFault kind stanza i causes.Form = ⊥
 HasWholeFault kind stanza i causes.Memory = ⊥
 
 -- ---- the lines of a text
@@ -102,7 +156,7 @@ pub record HasStanzaFault (kind : ListKind) (lines : List (List ℕ)) (i : ℕ) 
 -- The line at i has this fault: it is faulty, or it stands in a stanza without a faulty line that has this fault there.
 abbrev pub HasFault : ListKind → List (List ℕ) → ℕ → Cause → Type 0
 HasFault kind lines i cause =
-    ((i < length lines) × IsFaultyLine (lines_before lines i) (line_at lines i) cause) ⊎ HasStanzaFault kind lines i cause
+    ((i < length lines) × IsFaultyLine Never (lines_before lines i) (line_at lines i) cause) ⊎ HasStanzaFault kind lines i cause
 
 -- ---- the laws
 

@@ -1,11 +1,13 @@
 -- The fields that a stanza keeps, seen in its text.
-use Rattle.std.specs.Prelude.{◌≡◌, ℕ, ◌<◌, ◌≤◌, List, ◌++◌, length, slice_range, map}
+use Rattle.std.specs.Prelude.{◌≡◌, ℕ, ◌<◌, ◌≤◌, List, [], ◌∷◌, ◌++◌, length, take, drop, slice_range, map, Option, Some, None, if◌then◌else◌}
 use Rattle.std.specs.List.{All}
 use Rattle.ctl_stanza.specs.declared.fields.Span.{Span}
 use Rattle.ctl_stanza.specs.declared.fields.Field.{Field}
+use Rattle.ctl_stanza.specs.declared.fields.FieldPlace.{FieldPlace}
 use Rattle.ctl_stanza.specs.Lines.{lines_of}
 use Rattle.ctl_stanza.specs.LineKind.{kind_of}
-use Rattle.ctl_stanza.specs.Fields.{FieldText, field_at, fields_of_lines}
+use Rattle.ctl_stanza.specs.Fields.{FieldText, field_at, fields_of_lines, is_same_name}
+use Rattle.ctl_stanza.specs.Content.{name_and_body}
 
 -- a span lies in a text
 abbrev pub IsWithin : List ℕ → Span → Type 0
@@ -27,17 +29,66 @@ shown_field text field = record { line = field.line; name = shown text field.nam
 abbrev pub shown_fields : List ℕ → List Field → List FieldText
 shown_fields text fields = map (shown_field text) fields
 
--- these are the fields of a text, and lie in it
-pub record AreFieldsOf (text : List ℕ) (fields : List Field) : Type 0 where
-  pub within : AreWithin text fields
-  pub fields_are : shown_fields text fields ≡ fields_of_lines (lines_of text)
+-- ---- what is kept of a field: its place, without its line
 
--- what the line at an index, which stands in a text, adds to the fields of that text
-pub record Adds (text line : List ℕ) (index : ℕ) (old new : List Field) : Type 0 where
-  pub fields : shown_fields text new ≡ shown_fields text old ++ field_at index (kind_of line) line
-  pub within : AreWithin text old → AreWithin text new
-  pub lines : (count : ℕ) → index < count → All (λ field. field.line < count) old → All (λ field. field.line < count) new
+abbrev pub place_of : Field → FieldPlace
+place_of field = record { name = field.name; body = field.body }
 
--- the same in each text in which the line stands at this place
-abbrev pub AddsAt : ℕ → List ℕ → ℕ → List Field → List Field → Type 0
-AddsAt at line index old new = (front behind : List ℕ) → length front ≡ at → Adds (front ++ (line ++ behind)) line index old new
+abbrev pub IsPlaceWithin : List ℕ → FieldPlace → Type 0
+IsPlaceWithin text place = IsWithin text place.name × IsWithin text place.body
+
+abbrev pub ArePlacesWithin : List ℕ → List FieldPlace → Type 0
+ArePlacesWithin text places = All (IsPlaceWithin text) places
+
+-- the name and the body at a place of a text
+abbrev pub shown_place : List ℕ → FieldPlace → List ℕ × List ℕ
+shown_place text place = (shown text place.name, shown text place.body)
+
+abbrev pub shown_places : List ℕ → List FieldPlace → List (List ℕ × List ℕ)
+shown_places text places = map (shown_place text) places
+
+-- the body of the first field of a name, among names with bodies
+abbrev pub body_among : List ℕ → List (List ℕ × List ℕ) → Option (List ℕ)
+body_among name [] = None
+body_among name (field ∷ fields) = if is_same_name field.0 name then Some field.1 else body_among name fields
+
+-- these were read as the fields of a text, and lie in these bytes
+pub record AreReadFrom (text bytes : List ℕ) (fields : List Field) : Type 0 where
+  pub within : AreWithin bytes fields
+  pub fields_are : shown_fields bytes fields ≡ fields_of_lines (lines_of text)
+
+-- at these places stand the fields of a text, which lie in these bytes
+pub record AreFieldsOf (text bytes : List ℕ) (places : List FieldPlace) : Type 0 where
+  pub within : ArePlacesWithin bytes places
+  pub fields_are : shown_places bytes places ≡ map name_and_body (fields_of_lines (lines_of text))
+
+-- ---- how fields are read
+
+-- a part stands at a place of bytes
+abbrev pub StandsAt : List ℕ → ℕ → List ℕ → Type 0
+StandsAt bytes at part = take (length part) (drop at bytes) ≡ part
+
+-- bytes with others behind them
+pub record Grows (old new : List ℕ) : Type 0 where
+  pub more : List ℕ
+  pub joined : new ≡ old ++ more
+
+-- a span lies in bytes, and shows this part of them
+pub record Shows (bytes : List ℕ) (span : Span) (part : List ℕ) : Type 0 where
+  pub within : IsWithin bytes span
+  pub part_is : shown bytes span ≡ part
+
+-- what the line at an index adds to fields, by the lines behind it
+pub record Adds (bytes line : List ℕ) (behind : List (List ℕ)) (index : ℕ) (old : List FieldText) (new : List Field) : Type 0 where
+  pub within : AreWithin bytes new
+  pub fields : shown_fields bytes new ≡ old ++ field_at index (kind_of line) line behind
+
+-- the line of each field is one of so many
+abbrev pub AreBelow : ℕ → List Field → Type 0
+AreBelow count fields = All (λ field. field.line < count) fields
+
+-- fields lie in these bytes, and each line has a number, of which there is at least one
+pub record AreNumbered (bytes numbers : List ℕ) (fields : List Field) : Type 0 where
+  pub some : 0 < length numbers
+  pub within : AreWithin bytes fields
+  pub below : AreBelow (length numbers) fields

@@ -2,6 +2,7 @@
 use Rattle.std.specs.Prelude.{◌≡◌, ◌≢◌, ℕ, ◌+◌, Bool, true, suc, length, List, [], ◌∷◌, ◌++◌, Option, Some, None, Result, Ok, Err, Vec, if◌then◌else◌}
 use Rattle.std.specs.declared.alloc.Global.{Global}
 use Rattle.ctl_stanza.specs.declared.list_kind.ListKind.{ListKind}
+use Rattle.ctl_stanza.specs.declared.repeats.Repeats.TheVariants.{Never}
 use Rattle.ctl_stanza.specs.declared.fault.TextFault.{TextFault}
 use Rattle.ctl_stanza.specs.declared.fault.Cause.TheVariants as causes
 use Rattle.ctl_stanza.specs.Lines.{lines_of, is_blank}
@@ -48,18 +49,18 @@ is_gap (line ∷ lines) = is_blank line
 -- A blank line can only be too long.
 abbrev pub piece_fault : ListKind → Piece → Option TextFault
 piece_fault kind one =
-    if is_gap one.lines then first_fault one.first [] one.lines
+    if is_gap one.lines then first_fault Never one.first [] one.lines
     else stanza_fault kind one.first one.lines
 
 -- the stanza that a piece is
 abbrev pub piece_content : ListKind → List (List ℕ) → List Content
 piece_content kind lines = if is_gap lines then [] else content_of kind lines ∷ []
 
-abbrev pub with_contents : List Content → Result (List Content) TextFault → Result (List Content) TextFault
+abbrev pub with_contents : {A : Type 0} → List A → Result (List A) TextFault → Result (List A) TextFault
 with_contents front (Ok contents) = Ok (front ++ contents)
 with_contents front (Err fault) = Err fault
 
-abbrev pub or_fault : Option TextFault → Result (List Content) TextFault → Result (List Content) TextFault
+abbrev pub or_fault : {A : Type 0} → Option TextFault → Result (List A) TextFault → Result (List A) TextFault
 or_fault None others = others
 or_fault (Some fault) others = Err fault
 
@@ -74,6 +75,6 @@ abbrev pub read_text : ListKind → ℕ → List ℕ → Result (List Content) T
 read_text kind n text = read_pieces kind (pieces_of n (lines_of text))
 
 -- What was returned is what reading gives, unless memory ran out.
-abbrev pub Reads : Result (Vec Content Global) TextFault → Result (List Content) TextFault → Type 0
-Reads (Ok stanzas) read = read ≡ Ok stanzas.items
+abbrev pub Reads : {A : Type 0} → Result (Vec A Global) TextFault → Result (List A) TextFault → Type 0
+Reads (Ok contents) read = read ≡ Ok contents.items
 Reads (Err fault) read = fault.cause ≢ causes.Memory → read ≡ Err fault

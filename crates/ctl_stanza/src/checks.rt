@@ -1,8 +1,9 @@
-//! What a stanza without a faulty line lacks, and its first wrong field.
+//! What a stanza without a faulty line lacks, and its first wrong field where it isn't live.
 
-ghost use Rattle.std.specs.Prelude.{◌≡◌, ◌+◌, ◌<◌, ◌^◌, length, map, option_map};
+ghost use Rattle.std.specs.Prelude.{◌≡◌, ◌+◌, ◌<◌, ◌^◌, false, option_map};
 ghost use Rattle.std.specs.List.{All};
-ghost use Rattle.ctl_stanza.specs.Faults.{is_empty_body, is_missing, field_cause, first_wrong, whole_fault};
+ghost use Rattle.ctl_stanza.specs.Status.{liveness};
+ghost use Rattle.ctl_stanza.specs.Faults.{is_empty_body, is_missing, field_cause, first_wrong};
 ghost use Rattle.ctl_stanza.specs.Spans.{AreWithin, shown_fields};
 
 use crate::fault::{Cause, TextFault};
@@ -19,22 +20,24 @@ fn is_empty_body(body: Option<&[u8]>) -> bool
     }
 }
 
-// Whether a field that every stanza of its list has is absent or empty.
-fn is_missing(kind: ListKind, fields: &[Field], text: &[u8]) -> bool
-    requires { AreWithin text.now fields.now }
-    ensures { result ≡ is_missing kind (shown_fields text.now fields.now) }
+/// Whether a stanza lacks its package, its state or its version, by whether it is live.
+pub(crate) fn is_missing(kind: ListKind, live: Option<bool>, fields: &[Field], bytes: &[u8]) -> bool
+    requires within { AreWithin bytes.now fields.now }
+    requires live { live ≡ liveness kind (shown_fields bytes.now fields.now) }
+    ensures { result ≡ is_missing kind (shown_fields bytes.now fields.now) }
 {
-    match kind {
-        ListKind::Packages => {
-            is_empty_body(body_named(fields, text, b"Package"))
-                || is_empty_body(body_named(fields, text, b"Version"))
-        }
+    if is_empty_body(body_named(fields, bytes, b"Package")) {
+        return true;
+    }
+    match live {
+        None => true,
+        Some(live) => live && is_empty_body(body_named(fields, bytes, b"Version")),
     }
 }
 
-// What is wrong with a field by itself.
+// What is wrong with a field of a stanza that isn't live.
 fn field_cause(name: &[u8], body: &[u8]) -> Option<Cause>
-    ensures { result ≡ field_cause name.now body.now }
+    ensures { result ≡ field_cause false name.now body.now }
 {
     if is_same_name(name, b"Package") && !is_name(body) {
         return Some(Cause::Name);
@@ -42,15 +45,15 @@ fn field_cause(name: &[u8], body: &[u8]) -> Option<Cause>
     None
 }
 
-// The first wrong field.
-fn first_wrong(fields: &[Field], text: &[u8], first_line: u64) -> Option<TextFault>
-    requires within { AreWithin text.now fields.now }
+/// The first wrong field of a stanza that isn't live, which is at `first_line`.
+pub(crate) fn first_wrong(fields: &[Field], bytes: &[u8], first_line: u64) -> Option<TextFault>
+    requires within { AreWithin bytes.now fields.now }
     requires lines { All (λ field. first_line + field.line < 2 ^ 64) fields.now }
-    ensures { result ≡ first_wrong first_line (shown_fields text.now fields.now) }
+    ensures { result ≡ first_wrong false first_line (shown_fields bytes.now fields.now) }
 {
     for i in 0..fields.len() {
         let field = &fields[i];
-        if let Some(cause) = field_cause(field.name.of(text), field.body.of(text)) {
+        if let Some(cause) = field_cause(field.name.of(bytes), field.body.of(bytes)) {
             return Some(TextFault {
                 line: first_line + field.line as u64,
                 cause,
@@ -58,24 +61,4 @@ fn first_wrong(fields: &[Field], text: &[u8], first_line: u64) -> Option<TextFau
         }
     }
     None
-}
-
-/// The fault of a stanza that has no faulty line, which is at `first_line`.
-pub(crate) fn whole_fault(
-    kind: ListKind,
-    fields: &[Field],
-    text: &[u8],
-    first_line: u64,
-) -> Option<TextFault>
-    requires within { AreWithin text.now fields.now }
-    requires lines { All (λ field. first_line + field.line < 2 ^ 64) fields.now }
-    ensures { result ≡ whole_fault kind first_line (shown_fields text.now fields.now) }
-{
-    if is_missing(kind, fields, text) {
-        return Some(TextFault {
-            line: first_line,
-            cause: Cause::Missing,
-        });
-    }
-    first_wrong(fields, text, first_line)
 }

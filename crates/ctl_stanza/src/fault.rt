@@ -8,16 +8,25 @@ use std::alloc::{AllocError, AllocFailed};
 /// What is wrong with a line of a text, or with the stanza that it stands in.
 #[derive(Clone, Copy, Debug, PartialEq, Eq)]
 pub enum Cause {
-    /// The line has more than [`MAX_LINE`](crate::MAX_LINE) bytes.
+    /// The line has more than [`MAX_LINE`](crate::MAX_LINE) bytes, or continues a body to more than that.
     TooLong,
-    /// The line is neither blank nor a field line.
+    /// The line is neither blank, nor a field line, nor a continuation line with a line before it.
     Line,
     /// An earlier line of the stanza gives a field of this name.
     FieldTwice,
-    /// `Package` or `Version` is absent or empty; told at the first line of the stanza.
+    /// A field that the stanza has to have is absent or empty, or `Status` names no state; told at the first line
+    /// of the stanza.
     Missing,
     /// The body of `Package` is no name; told at its line.
     Name,
+    /// The body of `Version` is no version; told at its line.
+    Version,
+    /// The body of one of the nine relation fields can't be read; told at its line.
+    Relation,
+    /// A priority of preferences is none. Stanzas have no such fault.
+    Priority,
+    /// A record of preferences has a form that isn't known. Stanzas have no such fault.
+    Form,
     /// Memory ran out.
     Memory,
 }
@@ -33,6 +42,10 @@ impl Cause {
             Cause::FieldTwice => 6,
             Cause::Missing => 7,
             Cause::Name => 8,
+            Cause::Version => 9,
+            Cause::Relation => 10,
+            Cause::Priority => 18,
+            Cause::Form => 23,
             Cause::Memory => 22,
         }
     }

@@ -1,14 +1,17 @@
 //! The fields of a stanza, by where they stand in its text.
 
-ghost use Rattle.std.specs.Prelude.{◌≡◌, ◌+◌, ◌<◌, ◌≤◌, ◌^◌, length, take, option_map, IfOk, OnOk};
-ghost use Rattle.std.specs.List.{All, prefix_len};
+ghost use Rattle.std.specs.Prelude.{◌≡◌, ◌+◌, ◌<◌, ◌≤◌, ◌^◌, ◌∷◌, ◌++◌, ℕ, length, take, map, option_map, IfOk, OnOk};
+ghost use Rattle.std.specs.List.{prefix_len};
+ghost use Rattle.ctl_relation.specs.Bytes.{newline};
 ghost use Rattle.ctl_stanza.specs.Lines.{is_blank_byte, text_of_lines, lent_lines};
-ghost use Rattle.ctl_stanza.specs.Fields.{strip_end, value_of, fields_of_lines, body_named, is_same_name};
-ghost use Rattle.ctl_stanza.specs.Spans.{IsWithin, IsFieldWithin, AreWithin, AddsAt, shown, shown_fields};
+ghost use Rattle.ctl_stanza.specs.LineKind.{kind_of};
+ghost use Rattle.ctl_stanza.specs.Fields.{strip_end, value_of, continues, continued, fields_of_lines, body_named, is_same_name};
+ghost use Rattle.ctl_stanza.specs.Spans.{IsWithin, AreWithin, AreBelow, ArePlacesWithin, StandsAt, Grows, Shows, Adds, shown, shown_fields, place_of, shown_places, body_among};
 
 use crate::line_kind::{LineKind, kind_of};
-use crate::lines::is_blank_byte;
+use crate::lines::{begins_with_blank, is_blank_byte};
 use std::alloc::{AllocError, Global};
+use std::mem::size_of;
 
 /// From a place in a text up to another.
 #[derive(Clone, Copy)]
@@ -17,14 +20,24 @@ pub(crate) struct Span {
     pub(crate) end: u32,
 }
 
-/// A field of a stanza: the index of its line, and where its name and its body stand in the stanza's
-/// text.
+/// A field of a stanza or a record: the index of its line, and where its name and its body stand in the text.
 #[derive(Clone, Copy)]
 pub(crate) struct Field {
     pub(crate) line: u32,
     pub(crate) name: Span,
     pub(crate) body: Span,
 }
+
+/// What a stanza keeps of a field: where its name and its body stand in the text. Its line is told only where it is at
+/// fault.
+#[derive(Clone, Copy)]
+pub(crate) struct FieldPlace {
+    pub(crate) name: Span,
+    pub(crate) body: Span,
+}
+
+// A stanza has many fields, and keeps four numbers of each.
+const _: () = prove!(size_of::<FieldPlace>() == 16);
 
 impl Span {
     /// The part of a text that it shows.
@@ -43,8 +56,8 @@ pub(crate) fn is_same_name(name: &[u8], other: &[u8]) -> bool
     name.eq_ignore_ascii_case(other)
 }
 
-// How many blanks stand at the front.
-fn blank_len(text: &[u8]) -> usize
+/// How many blanks stand at the front.
+pub(crate) fn blank_len(text: &[u8]) -> usize
     ensures len { result ≡ prefix_len is_blank_byte text.now }
     ensures within { result ≤ length text.now }
 {
@@ -86,45 +99,153 @@ fn value_span(line: &[u8], n: usize) -> Span
     }
 }
 
-// Adds the field that a line begins, if it is a field line. The line is the one at an index, and stands at a
-// place of the stanza's text.
-fn add_field(fields: &mut Vec<Field>, line: &[u8], index: u32, at: u32) -> Result<(), AllocError>
-    requires { at + length line.now < 2 ^ 32 }
-    ensures { OnOk result (AddsAt at line.now index fields.old.items fields.new.items) }
+/// The bytes of the value of a field line whose name has `n` bytes.
+pub(crate) fn value_len(line: &[u8], n: usize) -> usize
+    requires name { n < length line.now }
+    requires short { length line.now < 2 ^ 32 }
+    ensures len { result ≡ length (value_of n line.now) }
+    ensures within { result ≤ length line.now }
 {
-    if let LineKind::Field(n) = kind_of(line) {
-        let value = value_span(line, n);
-        fields.push(Field {
-            line: index,
-            name: Span {
-                start: at,
-                end: at + n as u32,
-            },
-            body: Span {
-                start: at + value.start,
-                end: at + value.end,
-            },
-        })?;
+    value_span(line, n).of(line).len()
+}
+
+// Whether a line continues the field before it.
+fn continues(line: &[u8]) -> bool
+    ensures { result ≡ continues (kind_of line.now) }
+{
+    matches!(kind_of(line), LineKind::Continuation)
+}
+
+// The bytes of the continuation lines at the front, each with the newline before it.
+fn continued_len(lines: &[&[u8]]) -> usize
+    requires { length (continued (lent_lines lines.now)) < 2 ^ 64 }
+    ensures { result ≡ length (continued (lent_lines lines.now)) }
+{
+    let mut len: usize = 0;
+    for i in 0..lines.len() {
+        let line = lines[i];
+        if !continues(line) {
+            return len;
+        }
+        len += line.len() + 1;
+    }
+    len
+}
+
+// Puts a value and the continuation lines at the front behind the bytes.
+fn append_body(bytes: &mut Vec<u8>, value: &[u8], lines: &[&[u8]]) -> Result<(), AllocError>
+    ensures { OnOk result (bytes.new.items ≡ bytes.old.items ++ (value.now ++ continued (lent_lines lines.now))) }
+{
+    bytes.extend_from_slice(value)?;
+    for i in 0..lines.len() {
+        let line = lines[i];
+        if !continues(line) {
+            return Ok(());
+        }
+        bytes.push(b'\n')?;
+        bytes.extend_from_slice(line)?;
     }
     Ok(())
 }
 
-/// The fields of the lines of a stanza, in the text of these lines. Each line of a stanza without a faulty
-/// line is a field line, so there is room for as many fields as there are lines.
-pub(crate) fn fields_of_lines(alloc: Global, lines: &[&[u8]]) -> Result<Vec<Field>, AllocError>
-    requires { length (text_of_lines (lent_lines lines.now)) < 2 ^ 32 }
-    ensures fields { let all = lent_lines lines.now in
-        IfOk result (λ fields. shown_fields (text_of_lines all) fields.items ≡ fields_of_lines all) }
-    ensures within { IfOk result (λ fields. AreWithin (text_of_lines (lent_lines lines.now)) fields.items) }
-    ensures lines { IfOk result (λ fields. All (λ field. field.line < length lines.now) fields.items) }
+// Where the body stands of the field that a line begins, by the lines behind it. Blanks at the end of the line stand
+// between its value and the lines that continue it, though they are no part of the body: such a body is put together
+// behind the text. Where there is then no place below 2^32 left, memory is said to be wanting.
+fn body_span(
+    bytes: &mut Vec<u8>,
+    line: &[u8],
+    n: usize,
+    behind: &[&[u8]],
+    at: u32,
+) -> Result<Span, AllocError>
+    requires name { n < length line.now }
+    requires short { length bytes.old.items < 2 ^ 32 }
+    requires stands { StandsAt bytes.old.items at (line.now ++ newline ∷ text_of_lines (lent_lines behind.now)) }
+    ensures grows { OnOk result (Grows bytes.old.items bytes.new.items) }
+    ensures short { OnOk result (length bytes.new.items < 2 ^ 32) }
+    ensures body { IfOk result (λ span. Shows bytes.new.items span (value_of n line.now ++ continued (lent_lines behind.now))) }
 {
-    let mut fields = Vec::with_capacity(alloc, lines.len())?;
+    let value = value_span(line, n);
+    let more = continued_len(behind);
+    if more == 0 || value.end as usize == line.len() {
+        return Ok(Span {
+            start: at + value.start,
+            end: at + value.end + more as u32,
+        });
+    }
+    let start = bytes.len();
+    append_body(bytes, value.of(line), behind)?;
+    let end = bytes.len();
+    if end > u32::MAX as usize {
+        return Err(AllocError);
+    }
+    Ok(Span {
+        start: start as u32,
+        end: end as u32,
+    })
+}
+
+// Adds the field that a line begins, if it is a field line, by the lines behind it. The line is the one at an index, and
+// stands at a place of the bytes.
+fn add_field(
+    bytes: &mut Vec<u8>,
+    fields: &mut Vec<Field>,
+    line: &[u8],
+    behind: &[&[u8]],
+    index: u32,
+    at: u32,
+) -> Result<(), AllocError>
+    requires short { length bytes.old.items < 2 ^ 32 }
+    requires stands { StandsAt bytes.old.items at (line.now ++ newline ∷ text_of_lines (lent_lines behind.now)) }
+    requires within { AreWithin bytes.old.items fields.old.items }
+    ensures grows { OnOk result (Grows bytes.old.items bytes.new.items) }
+    ensures short { OnOk result (length bytes.new.items < 2 ^ 32) }
+    ensures fields { OnOk result (Adds bytes.new.items line.now (lent_lines behind.now) index (shown_fields bytes.old.items fields.old.items) fields.new.items) }
+    ensures lines { OnOk result ((count : ℕ) → index < count → AreBelow count fields.old.items → AreBelow count fields.new.items) }
+{
+    let LineKind::Field(n) = kind_of(line) else {
+        return Ok(());
+    };
+    let body = body_span(bytes, line, n, behind, at)?;
+    fields.push(Field {
+        line: index,
+        name: Span {
+            start: at,
+            end: at + n as u32,
+        },
+        body,
+    })?;
+    Ok(())
+}
+
+// How many lines don't begin with a blank: in a stanza without a faulty line these are its field lines.
+fn field_count(lines: &[&[u8]]) -> usize {
+    lines.iter().filter(|line| !begins_with_blank(line)).count()
+}
+
+/// The fields of the lines of a stanza without a faulty line, in the text of these lines; behind it are put the bodies
+/// that don't stand in it in one piece. The only error is want of memory, which also a place of 2^32 or more is
+/// taken for.
+pub(crate) fn fields_of_lines(
+    alloc: Global,
+    bytes: &mut Vec<u8>,
+    lines: &[&[u8]],
+) -> Result<Vec<Field>, AllocError>
+    requires text { bytes.old.items ≡ text_of_lines (lent_lines lines.now) }
+    requires short { length bytes.old.items < 2 ^ 32 }
+    ensures grows { OnOk result (Grows bytes.old.items bytes.new.items) }
+    ensures fields { IfOk result (λ fields. shown_fields bytes.new.items fields.items ≡ fields_of_lines (lent_lines lines.now)) }
+    ensures within { IfOk result (λ fields. AreWithin bytes.new.items fields.items) }
+    ensures lines { IfOk result (λ fields. AreBelow (length lines.now) fields.items) }
+{
+    let mut fields = Vec::with_capacity(alloc, field_count(lines))?;
     let mut at: u32 = 0;
     for i in 0..lines.len() {
         let line = lines[i];
-        add_field(&mut fields, line, i as u32, at)?;
+        add_field(bytes, &mut fields, line, &lines[i + 1..], i as u32, at)?;
         at += line.len() as u32 + 1;
     }
+    bytes.shrink_to_fit();
     Ok(fields)
 }
 
@@ -137,6 +258,36 @@ pub(crate) fn body_named<'a>(fields: &'a [Field], text: &'a [u8], name: &[u8]) -
         let field = &fields[i];
         if is_same_name(field.name.of(text), name) {
             return Some(field.body.of(text));
+        }
+    }
+    None
+}
+
+/// What is kept of fields, without spare room.
+pub(crate) fn places_of(alloc: Global, fields: &[Field]) -> Result<Vec<FieldPlace>, AllocError>
+    ensures { IfOk result (λ places. places.items ≡ map place_of fields.now) }
+{
+    let mut places = Vec::with_capacity(alloc, fields.len())?;
+    for i in 0..fields.len() {
+        let Field { name, body, .. } = fields[i];
+        places.push(FieldPlace { name, body })?;
+    }
+    Ok(places)
+}
+
+/// The body at the first place of a field of this name.
+pub(crate) fn body_among<'a>(
+    places: &'a [FieldPlace],
+    text: &'a [u8],
+    name: &[u8],
+) -> Option<&'a [u8]>
+    requires { ArePlacesWithin text.now places.now }
+    ensures { option_map (λ body. body.now) result ≡ body_among name.now (shown_places text.now places.now) }
+{
+    for i in 0..places.len() {
+        let place = &places[i];
+        if is_same_name(place.name.of(text), name) {
+            return Some(place.body.of(text));
         }
     }
     None

@@ -2,6 +2,7 @@
 
 ghost use Rattle.std.specs.Prelude.{ℕ, List};
 ghost use Rattle.ctl_stanza.specs.declared.list_kind.ListKind.{ListKind};
+ghost use Rattle.ctl_stanza.specs.RecordLaws.{ReadsRecordsOrTells};
 ghost use Rattle.ctl_stanza.specs.Laws.{ReadsOrTells, KeepsLines, ReadsStanzas};
 
 /// A text that is read to stanzas has no fault. Of a text that isn't, a fault is told that it has: no line
@@ -20,4 +21,10 @@ pub fn stanzas_keep_lines()
 /// list's kind.
 pub fn stanzas_are_runs()
     ensures { (kind : ListKind) (n : ℕ) (text : List ℕ) → ReadsStanzas kind n text }
+{}
+
+/// A text of preferences that is read to records has no faulty line, comments aside. Of a text that isn't, the fault is
+/// told of a line that has it: no line before it has a fault, and on its line no fault has a lower number.
+pub fn told_record_fault_is_least()
+    ensures { (n : ℕ) (text : List ℕ) → ReadsRecordsOrTells n text }
 {}

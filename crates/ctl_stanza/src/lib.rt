@@ -1,4 +1,5 @@
-//! Control text: stanzas and their fields (Debian Policy 5.1, deb822(5)).
+//! Control text: stanzas and their fields (Debian Policy 5.1, deb822(5)), and the records of preferences
+//! (apt_preferences(5)).
 #![tactic(auto)]
 
 mod checks;
@@ -9,15 +10,26 @@ mod line_faults;
 mod line_kind;
 mod lines;
 mod list_kind;
+mod live;
 mod names_given;
+mod offers;
 mod reading;
+mod record_lines;
+mod records;
+mod repeats;
 mod stanza;
+mod status;
 #[cfg(test)]
 mod tests;
 
 pub use fault::{Cause, TextFault};
-pub use laws::{stanzas_are_runs, stanzas_keep_lines, told_fault_is_least};
+pub use laws::{
+    stanzas_are_runs, stanzas_keep_lines, told_fault_is_least, told_record_fault_is_least,
+};
 pub use lines::MAX_LINE;
 pub use list_kind::ListKind;
 pub use reading::read_stanzas;
+pub use records::{
+    Record, RecordFields, RecordsBeforeFault, read_records, read_records_before_fault,
+};
 pub use stanza::{Fields, Stanza};

@@ -1,10 +1,11 @@
 //! Cutting a text into lines.
 
-ghost use Rattle.std.specs.Prelude.{◌≡◌, ◌<◌, ◌≤◌, ◌+◌, ◌∷◌, ◌++◌, [], ℕ, List, length, IfSome, IfNone};
+ghost use Rattle.std.specs.Prelude.{◌≡◌, ◌<◌, ◌≤◌, ◌+◌, ◌∷◌, ◌++◌, [], ℕ, List, length, IfOk, IfSome, IfNone};
 ghost use Rattle.ctl_relation.specs.Bytes.{newline};
-ghost use Rattle.ctl_stanza.specs.Lines.{lines_of, is_too_long, is_blank_byte, is_blank};
+ghost use Rattle.ctl_stanza.specs.Lines.{lines_of, is_too_long, is_blank_byte, is_blank, text_of_lines, lent_lines};
 
 use bstr::ByteSlice;
+use std::alloc::{AllocError, Global};
 
 /// The most bytes of a line, its newline not counted. A longer line is a fault.
 pub const MAX_LINE: usize = 1_048_576;
@@ -29,6 +30,14 @@ pub(crate) fn is_blank(line: &[u8]) -> bool
     line.iter().all(|byte| is_blank_byte(*byte))
 }
 
+/// Whether a line begins with a space or a tab.
+pub(crate) fn begins_with_blank(line: &[u8]) -> bool {
+    match line {
+        [] => false,
+        [first, ..] => is_blank_byte(*first),
+    }
+}
+
 /// The first line of a text, without its newline, and what stands behind it. None where the text is empty.
 pub(crate) fn take_line(text: &[u8]) -> Option<(&[u8], &[u8])>
     ensures lines { IfSome result (λ cut. lines_of text.now ≡ cut.0.now ∷ lines_of cut.1.now) }
@@ -44,4 +53,20 @@ pub(crate) fn take_line(text: &[u8]) -> Option<(&[u8], &[u8])>
         Some(at) => Some((&text[..at], &text[at + 1..])),
         None => Some((text, &text[text.len()..])),
     }
+}
+
+/// Each line with a newline, in one piece without spare room.
+pub(crate) fn text_of_lines(alloc: Global, lines: &[&[u8]]) -> Result<Vec<u8>, AllocError>
+    ensures { IfOk result (λ text. text.items ≡ text_of_lines (lent_lines lines.now)) }
+{
+    let mut len: usize = 0;
+    for line in lines {
+        len = len.saturating_add(line.len()).saturating_add(1);
+    }
+    let mut text = Vec::with_capacity(alloc, len)?;
+    for i in 0..lines.len() {
+        text.extend_from_slice(lines[i])?;
+        text.push(b'\n')?;
+    }
+    Ok(text)
 }

@@ -11,16 +11,21 @@ use crate::line_faults::first_fault;
 use crate::lines::{is_blank, take_line};
 use crate::list_kind::ListKind;
 use crate::names_given::NamesGiven;
+use crate::repeats::Repeats;
 use crate::stanza::{Stanza, read_stanza};
 use std::alloc::{AllocError, Global};
 
-// Takes the lines of the first piece of a text: one blank line, or all lines up to the next blank one. What
-// stands behind them is returned.
-fn take_piece<'a>(lines: &mut Vec<&'a [u8]>, text: &'a [u8]) -> Result<&'a [u8], AllocError>
+/// Takes the lines of the first piece of a text: one blank line, or all lines up to the next blank one. What
+/// stands behind them is returned.
+pub(crate) fn take_piece<'a>(
+    lines: &mut Vec<&'a [u8]>,
+    text: &'a [u8],
+) -> Result<&'a [u8], AllocError>
     requires { 0 < length text.now }
     ensures some { OnOk result (0 < length lines.new.items) }
     ensures within { IfOk result (λ behind. length lines.new.items + length behind.now ≤ length text.now) }
     ensures no_newline { OnOk result (AreLines (lent_lines lines.new.items)) }
+    ensures lines { IfOk result (λ behind. lines_of text.now ≡ lent_lines lines.new.items ++ lines_of behind.now) }
     ensures first { IfOk result (λ behind.
         IsFirstPiece (lines_of text.now) (lent_lines lines.new.items) (lines_of behind.now)) }
 {
@@ -66,7 +71,7 @@ fn read_piece<'a>(
     ensures fault { IfErr result (Tells (piece_fault kind (piece first_line (lent_lines lines.now)))) }
     ensures memory { IfErr result IsMemoryAtZero }
 {
-    let found = first_fault(alloc, names, lines, first_line)?;
+    let found = first_fault(alloc, Repeats::Never, names, lines, first_line)?;
     names.clear();
     if let Some(fault) = found {
         return Err(fault);
@@ -82,14 +87,16 @@ fn read_piece<'a>(
 /// The stanzas of a control text whose lines count from `first_line`, or its fault.
 ///
 /// A line ends with a newline, and a last line without one counts if it isn't empty. Lines of spaces and
-/// tabs alone, or of nothing, part stanzas. Each other line is a field line, `Name: value`: continuation
-/// lines are refused. A stanza has a `Package` that is a name, and a `Version` that isn't empty.
+/// tabs alone, or of nothing, part stanzas. Each other line is a field line, `Name: value`, or continues the field
+/// before it, as one that begins with a space or a tab does. A stanza has a `Package` that is a name; in a status list a
+/// `Status` of three words, of which the third is one of the eight states of dpkg; and where it is live a `Version`
+/// that is a version, and relation fields that can be read.
 ///
 /// # Errors
 ///
 /// The fault of the least line, and of the faults of that line the one with the lowest number: see
 /// [`Cause`](crate::Cause). Where memory runs out the cause is [`Cause::Memory`](crate::Cause::Memory) and
-/// the line is 0. So it is for a stanza of 2^32 bytes or more.
+/// the line is 0. So it is for a stanza of 2^32 bytes or more, where the bodies count that can't be lent from its text.
 pub fn read_stanzas(
     alloc: Global,
     text: &[u8],
@@ -111,5 +118,6 @@ pub fn read_stanzas(
         line += lines.len() as u64;
         left = behind;
     }
+    stanzas.shrink_to_fit();
     Ok(stanzas)
 }

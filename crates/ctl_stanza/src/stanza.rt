@@ -1,15 +1,22 @@
 //! Stanzas and their parts.
 
-ghost use Rattle.std.specs.Prelude.{◌≡◌, ◌+◌, ◌<◌, ◌^◌, length, option_map, None, IfOk, IfErr, OnOk};
-ghost use Rattle.ctl_stanza.specs.Lines.{text_of_lines, lent_lines, AreLines};
+ghost use Rattle.std.specs.Prelude.{◌≡◌, ◌+◌, ◌<◌, ◌≤◌, ◌^◌, length, take, option_map, None, IfOk, IfErr, OnOk};
+ghost use Rattle.ctl_stanza.specs.Lines.{lent_lines, AreLines};
 ghost use Rattle.ctl_stanza.specs.Fields.{fields_of_lines};
-ghost use Rattle.ctl_stanza.specs.Content.{content_of};
+ghost use Rattle.ctl_stanza.specs.Content.{content_of, offers_of};
+ghost use Rattle.ctl_stanza.specs.Live.{content_in_front, AreRelationsOf};
+ghost use Rattle.ctl_stanza.specs.Spans.{AreReadFrom};
 ghost use Rattle.ctl_stanza.specs.Faults.{whole_fault, IsMemoryAtZero, Tells};
 
-use crate::checks::whole_fault;
-use crate::fault::TextFault;
-use crate::fields::{Field, body_named, fields_of_lines};
+use crate::checks::{first_wrong, is_missing};
+use crate::fault::{Cause, TextFault};
+use crate::fields::{Field, FieldPlace, body_among, body_named, fields_of_lines, places_of};
+use crate::lines::text_of_lines;
 use crate::list_kind::ListKind;
+use crate::live::{LiveParts, RelationField, kept_groups, read_live};
+use crate::offers::offers_of;
+use crate::status::liveness;
+use ctl_relation::{FieldKind, Group, Offer, Version};
 use std::alloc::{AllocError, Global};
 use std::marker::Model;
 
@@ -17,36 +24,52 @@ use std::marker::Model;
 /// text once, and lent from there.
 #[derive(Drop)]
 pub struct Stanza {
-    text: Vec<u8>,
-    fields: Vec<Field>,
+    // The text, and behind it the bodies that don't stand in it in one piece.
+    bytes: Vec<u8>,
+    text_len: u32,
     kind: ListKind,
+    fields: Vec<FieldPlace>,
+    // None where the stanza isn't live, as there are no offers then. The version is that of the first offer.
+    relations: Vec<RelationField>,
+    offers: Vec<Offer>,
 }
 
 impl Model for Stanza {
     ghost use Rattle.ctl_stanza.specs.Content.{Content};
-    ghost use Rattle.ctl_stanza.specs.Spans.{AreFieldsOf};
+    ghost use Rattle.ctl_stanza.specs.Live.{content_in_front, ArePartsOf};
 
     ghost Value = { Content };
 
-    ghost view = { λ s. record { text = s.text.items; kind = s.kind } };
+    ghost view = { λ s. content_in_front s.kind s.text_len s.bytes.items };
 
-    ghost invariant = { λ s. AreFieldsOf s.text.items s.fields.items };
+    ghost invariant = { λ s. ArePartsOf (content_in_front s.kind s.text_len s.bytes.items) s.bytes.items s.text_len s.fields.items s.relations.items s.offers.items };
 }
 
-// Each line with a newline, in one piece without spare room.
-fn text_of_lines(alloc: Global, lines: &[&[u8]]) -> Result<Vec<u8>, AllocError>
-    ensures { IfOk result (λ text. text.items ≡ text_of_lines (lent_lines lines.now)) }
+// The stanza of what was read. The lines of its fields are let go.
+fn stanza_of(
+    alloc: Global,
+    bytes: Vec<u8>,
+    text_len: u32,
+    kind: ListKind,
+    fields: &[Field],
+    relations: Vec<RelationField>,
+    offers: Vec<Offer>,
+) -> Result<Stanza, AllocError>
+    requires text { text_len ≤ length bytes.items }
+    requires fields { AreReadFrom (take text_len bytes.items) bytes.items fields.now }
+    requires relations { AreRelationsOf (content_in_front kind text_len bytes.items) relations.items }
+    requires offers { offers.items ≡ offers_of (content_in_front kind text_len bytes.items) }
+    ensures { IfOk result (λ stanza. stanza ≡ content_in_front kind text_len bytes.items) }
 {
-    let mut len: usize = 0;
-    for line in lines {
-        len = len.saturating_add(line.len()).saturating_add(1);
-    }
-    let mut text = Vec::with_capacity(alloc, len)?;
-    for i in 0..lines.len() {
-        text.extend_from_slice(lines[i])?;
-        text.push(b'\n')?;
-    }
-    Ok(text)
+    let fields = places_of(alloc, fields)?;
+    Ok(Stanza {
+        bytes,
+        text_len,
+        kind,
+        fields,
+        relations,
+        offers,
+    })
 }
 
 /// Reads a stanza that has no faulty line, whose lines count from `first_line`. One of 2^32 bytes or more
@@ -64,25 +87,45 @@ pub(crate) fn read_stanza(
     ensures fault { IfErr result (Tells (whole_fault kind first_line (fields_of_lines (lent_lines lines.now)))) }
     ensures memory { IfErr result IsMemoryAtZero }
 {
-    let text = text_of_lines(alloc, lines)?;
-    if text.len() > u32::MAX as usize {
+    let mut bytes = text_of_lines(alloc, lines)?;
+    if bytes.len() > u32::MAX as usize {
         return Err(TextFault::MEMORY);
     }
-    let fields = fields_of_lines(alloc, lines)?;
-    if let Some(fault) = whole_fault(kind, &fields, &text, first_line) {
-        return Err(fault);
+    let text_len = bytes.len() as u32;
+    let fields = fields_of_lines(alloc, &mut bytes, lines)?;
+    let live = liveness(kind, &fields, &bytes);
+    if is_missing(kind, live, &fields, &bytes) {
+        return Err(TextFault {
+            line: first_line,
+            cause: Cause::Missing,
+        });
     }
-    Ok(Stanza { text, fields, kind })
+    if live != Some(true) {
+        if let Some(fault) = first_wrong(&fields, &bytes, first_line) {
+            return Err(fault);
+        }
+        let relations = Vec::new(alloc);
+        let offers = Vec::new(alloc);
+        let stanza = stanza_of(alloc, bytes, text_len, kind, &fields, relations, offers)?;
+        return Ok(stanza);
+    }
+    let LiveParts { version, relations } = read_live(alloc, &fields, &bytes, first_line)?;
+    let package = body_named(&fields, &bytes, b"Package").unwrap_or(&[]);
+    let provides = kept_groups(&relations, FieldKind::Provides);
+    let offers = offers_of(alloc, package, version, provides)?;
+    let stanza = stanza_of(alloc, bytes, text_len, kind, &fields, relations, offers)?;
+    Ok(stanza)
 }
 
 impl Stanza {
-    ghost use Rattle.ctl_stanza.specs.Content.{body_of, package_of, named_bodies};
+    ghost use Rattle.ctl_relation.specs.Lent.{lent};
+    ghost use Rattle.ctl_stanza.specs.Content.{body_of, package_of, named_bodies, is_live, version_of, groups_of, provides_of, offers_of};
 
     /// The lines of the stanza, each with a newline.
     pub fn text(&self) -> &[u8]
         ensures { result.now ≡ self.now.text }
     {
-        self.text.as_slice()
+        self.bytes.split_at(self.text_len as usize).0
     }
 
     /// The kind of its list.
@@ -92,12 +135,25 @@ impl Stanza {
         self.kind
     }
 
+    /// Whether its package counts as there: it stands in a packages list, or its state is `unpacked`,
+    /// `half-configured`, `triggers-awaited`, `triggers-pending` or `installed`. Of another stanza only `Package` and
+    /// `Status` are checked, and it has no version, no groups and no offers.
+    pub fn is_live(&self) -> bool
+        ensures { result ≡ is_live self.now }
+    {
+        !self.offers.is_empty()
+    }
+
     /// The body of the field of a name, which is taken without regard to ASCII case. None where there is no
     /// such field.
+    ///
+    /// A body is the value of its field line, without the blanks round it, and then each line that continues it as it
+    /// stands, behind a newline.
+    #[tactic(auto, using(crate::proofs::FieldLemmas::body_among_named))]
     pub fn field(&self, name: &[u8]) -> Option<&[u8]>
         ensures { option_map (λ body. body.now) result ≡ body_of self.now name.now }
     {
-        body_named(&self.fields, &self.text, name)
+        body_among(&self.fields, &self.bytes, name)
     }
 
     /// The names and the bodies of the fields, in order.
@@ -105,7 +161,7 @@ impl Stanza {
         ensures { result ≡ named_bodies self.now }
     {
         Fields {
-            text: &self.text,
+            bytes: &self.bytes,
             fields: &self.fields,
         }
     }
@@ -114,27 +170,68 @@ impl Stanza {
     pub fn package(&self) -> &[u8]
         ensures { result.now ≡ package_of self.now }
     {
-        self.field(b"Package").unwrap_or(&[])
+        match self.offers.first() {
+            // It offers its own name first, so that the fields need not be looked through.
+            Some(own) => own.name(),
+            None => self.field(b"Package").unwrap_or(&[]),
+        }
+    }
+
+    /// The version of a live stanza, which is the body of the field `Version` (Debian Policy 5.6.12). None where the
+    /// stanza isn't live.
+    pub fn version(&self) -> Option<&Version>
+        ensures { lent result ≡ version_of self.now }
+    {
+        match self.offers.first() {
+            None => None,
+            Some(own) => own.version(),
+        }
+    }
+
+    /// The groups of one of the relation fields other than `Provides` (Debian Policy 7.1). None where the stanza has no
+    /// such field or isn't live, and none of `Provides`.
+    pub fn groups(&self, kind: FieldKind) -> &[Group]
+        ensures { result.now ≡ groups_of kind self.now }
+    {
+        match kind {
+            FieldKind::Provides => &[],
+            _ => kept_groups(&self.relations, kind),
+        }
+    }
+
+    /// The entries of the field `Provides` (Debian Policy 7.5), each a group of one atom. None where the stanza has no
+    /// such field or isn't live.
+    pub fn provides(&self) -> &[Group]
+        ensures { result.now ≡ provides_of self.now }
+    {
+        kept_groups(&self.relations, FieldKind::Provides)
+    }
+
+    /// What the stanza offers: its own name at its version, and then each entry of its `Provides`, at the version of that
+    /// entry if it has one. None where the stanza isn't live.
+    pub fn offers(&self) -> &[Offer]
+        ensures { result.now ≡ offers_of self.now }
+    {
+        &self.offers
     }
 }
 
 /// The fields of a stanza, by [`Stanza::fields`]: names with bodies, in order.
 #[derive(Drop)]
 pub struct Fields<'a> {
-    text: &'a [u8],
-    fields: &'a [Field],
+    bytes: &'a [u8],
+    fields: &'a [FieldPlace],
 }
 
 impl<'a> Model for Fields<'a> {
-    ghost use Rattle.std.specs.Prelude.{ℕ, List, map};
-    ghost use Rattle.ctl_stanza.specs.Content.{name_and_body};
-    ghost use Rattle.ctl_stanza.specs.Spans.{AreWithin, shown_fields};
+    ghost use Rattle.std.specs.Prelude.{ℕ, List};
+    ghost use Rattle.ctl_stanza.specs.Spans.{ArePlacesWithin, shown_places};
 
     ghost Value = { List (List ℕ × List ℕ) };
 
-    ghost view = { λ it. map name_and_body (shown_fields it.text.now it.fields.now) };
+    ghost view = { λ it. shown_places it.bytes.now it.fields.now };
 
-    ghost invariant = { λ it. AreWithin it.text.now it.fields.now };
+    ghost invariant = { λ it. ArePlacesWithin it.bytes.now it.fields.now };
 }
 
 impl<'a> Iterator for Fields<'a> {
@@ -151,7 +248,7 @@ impl<'a> Iterator for Fields<'a> {
     fn next(&mut self) -> Option<(&'a [u8], &'a [u8])> {
         let (field, rest) = self.fields.split_first()?;
         self.fields = rest;
-        Some((field.name.of(self.text), field.body.of(self.text)))
+        Some((field.name.of(self.bytes), field.body.of(self.bytes)))
     }
 
     fn size_hint(&self) -> (usize, Option<usize>)

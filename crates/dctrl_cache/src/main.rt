@@ -2,22 +2,32 @@
 #![tactic(auto)]
 
 use ctl_session::{
-    Arguments, ArgumentsFault, Cache, Fault, FromRead, FromWrite, Session, Summary, arguments,
+    Arguments, ArgumentsFault, Cache, Fault, FromRead, FromWrite, LoadFault, Session, Summary,
+    arguments,
 };
+use ctl_stanza::ListKind;
 use std::alloc::{AllocError, Global};
-use std::env;
+use std::env::{self, Args};
 use std::fs::File;
-use std::io::{Read, Write};
+use std::io::{ErrorKind, Read, Write};
 use std::process::ExitCode;
 use thiserror::Error;
 
 /// Why the program gives up, with status 2.
 #[derive(Debug, Drop, Error)]
 enum Failure {
+    #[error("a word is not UTF-8")]
+    NotUtf8,
     #[error(transparent)]
     Words(ArgumentsFault),
+    #[error("{0}: not NAME=FILE")]
+    NotNameAndFile(String),
     #[error("{0}: cannot read")]
     CannotRead(String),
+    #[error("{0}: line {1}: {2}")]
+    TextFault(String, u64, &'static str),
+    #[error("{0}: {1}")]
+    Load(String, &'static str),
     #[error(transparent)]
     Run(Fault),
     #[error("out of memory")]
@@ -27,6 +37,64 @@ enum Failure {
 impl From<AllocError> for Failure {
     fn from(_error: AllocError) -> Failure {
         Failure::Memory
+    }
+}
+
+/// A file has no more bytes than this.
+const MAX_FILE: u64 = 4_294_967_295;
+
+/// A text of one's own.
+fn owned(rt: &HostRuntime, text: &str) -> Result<String, AllocError> {
+    String::from_str(rt.alloc(), text)
+}
+
+/// The bytes of a file, of which there may be [`MAX_FILE`].
+fn read_file(rt: &HostRuntime, path: &str) -> Result<Vec<u8>, Failure> {
+    let Ok(file) = File::open(rt, path) else {
+        return Err(Failure::CannotRead(owned(rt, path)?));
+    };
+    let mut bytes = Vec::new(rt.alloc());
+    match file.take(MAX_FILE + 1).read_to_end(&mut bytes) {
+        Ok(_) if bytes.len() as u64 <= MAX_FILE => Ok(bytes),
+        Err(error) if error.kind() == ErrorKind::OutOfMemory => Err(Failure::Memory),
+        _ => Err(Failure::CannotRead(owned(rt, path)?)),
+    }
+}
+
+/// Loads a list from a file.
+fn load(
+    rt: &HostRuntime,
+    session: &mut Session,
+    name: &str,
+    kind: ListKind,
+    path: &str,
+) -> Result<(), Failure> {
+    let text = read_file(rt, path)?;
+    match session.load(name.as_bytes(), kind, &text) {
+        Ok(()) => Ok(()),
+        Err(LoadFault { line: 0, cause }) => Err(Failure::Load(owned(rt, path)?, cause.text())),
+        Err(LoadFault { line, cause }) => {
+            Err(Failure::TextFault(owned(rt, path)?, line, cause.text()))
+        }
+    }
+}
+
+/// Loads the lists that the words name: the packages lists in their order, then the status list.
+fn load_lists(
+    rt: &HostRuntime,
+    session: &mut Session,
+    lists: &[String],
+    status: Option<&String>,
+) -> Result<(), Failure> {
+    for word in lists {
+        match word.as_str().split_once('=') {
+            Some((name, path)) => load(rt, session, name, ListKind::Packages, path)?,
+            None => return Err(Failure::NotNameAndFile(owned(rt, word.as_str())?)),
+        }
+    }
+    match status {
+        Some(path) => load(rt, session, "status", ListKind::Status, path.as_str()),
+        None => Ok(()),
     }
 }
 
@@ -48,16 +116,22 @@ fn run<R: Read + Drop, W: Write + Drop>(
     }
 }
 
-/// The words that the program was called with, its own name first.
-fn words(rt: &HostRuntime) -> Result<Vec<String>, AllocError> {
-    let mut words = Vec::new(rt.alloc());
-    let Ok(given) = env::args(rt) else {
-        return Err(AllocError);
-    };
+/// Words in a list.
+fn listed(alloc: Global, given: Args) -> Result<Vec<String>, AllocError> {
+    let mut words = Vec::new(alloc);
     for word in given {
         words.push(word)?;
     }
     Ok(words)
+}
+
+/// The words that the program was called with, its own name first.
+fn words(rt: &HostRuntime) -> Result<Vec<String>, Failure> {
+    match env::args(rt) {
+        Ok(given) => Ok(listed(rt.alloc(), given)?),
+        Err(error) if error.kind() == ErrorKind::OutOfMemory => Err(Failure::Memory),
+        Err(_) => Err(Failure::NotUtf8),
+    }
 }
 
 /// The texts of words.
@@ -69,18 +143,23 @@ fn texts_of(alloc: Global, words: &[String]) -> Result<Vec<&str>, AllocError> {
     Ok(texts)
 }
 
-/// Runs the script that the words name, or standard input.
+/// Loads the lists that the words name, and runs the script, or standard input.
 fn run_words(rt: &HostRuntime) -> Result<Summary, Failure> {
     let words = words(rt)?;
     let texts = texts_of(rt.alloc(), &words)?;
-    let Arguments { script } = match arguments(rt.alloc(), &texts) {
+    let Arguments {
+        lists,
+        status,
+        script,
+    } = match arguments(rt.alloc(), &texts) {
         Ok(arguments) => arguments,
         Err(fault) => return Err(Failure::Words(fault)),
     };
-    let session = match Session::new(rt.alloc(), Cache::new(rt.alloc())) {
+    let mut session = match Session::new(rt.alloc(), Cache::new(rt.alloc())) {
         Ok(session) => session,
         Err((_cache, _error)) => return Err(Failure::Memory),
     };
+    load_lists(rt, &mut session, &lists, status.as_ref())?;
     match script {
         None => run(session, rt.stdin(), rt.stdout()),
         Some(path) => match File::open(rt, path.as_str()) {

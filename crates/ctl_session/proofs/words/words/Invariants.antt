@@ -1,13 +1,7 @@
-use Rattle.std.proofs.Common.{◌≡◌, ◌++◌, length, map}
+use Rattle.std.proofs.Common.{◌≡◌, drop}
 use Rattle.ctl_session.specs.Words.{words_of}
-use Rattle.ctl_session.proofs.WordLemmas.{BeginsWord}
+use Rattle.ctl_session.specs.WordsRead.{words_read}
 use Rattle.ctl_session.proofs.words.words.Given as goal
 
-abbrev pub invariant-words : goal.invariant-words
-invariant-words l = record {
-  begins : BeginsWord l.rest;
-  cut : map (λ word. word.now) l.words.items ++ words_of l.rest ≡ words_of l.text;
-}
-
-abbrev pub decreases-words : goal.decreases-words
-decreases-words l = length l.rest
+abbrev pub invariant-bytes : goal.invariant-bytes
+invariant-bytes l = words_read l.reading (drop l.byte-index l.text) ≡ words_of l.text

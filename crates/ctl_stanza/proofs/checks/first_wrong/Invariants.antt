@@ -1,7 +1,7 @@
-use Rattle.std.proofs.Common.{◌≡◌, drop}
+use Rattle.std.proofs.Common.{◌≡◌, drop, false}
 use Rattle.ctl_stanza.specs.Faults.{first_wrong}
 use Rattle.ctl_stanza.specs.Spans.{shown_fields}
 use Rattle.ctl_stanza.proofs.checks.first_wrong.Given as goal
 
 abbrev pub invariant-loop-i : goal.invariant-loop-i
-invariant-loop-i l = first_wrong l.first_line (shown_fields l.text l.fields) ≡ first_wrong l.first_line (shown_fields l.text (drop l.i l.fields))
+invariant-loop-i l = first_wrong false l.first_line (shown_fields l.bytes l.fields) ≡ first_wrong false l.first_line (shown_fields l.bytes (drop l.i l.fields))

@@ -2,8 +2,8 @@ use Rattle.std.proofs.Common.{◌≡◌, ◌∙◌, ◌<◌, ◌+◌, ◌||◌, 
 use Rattle.std.proofs.lemmas.List.{get_or-map, length-map}
 use Rattle.ctl_stanza.specs.Lines.{lent_lines}
 use Rattle.ctl_stanza.specs.LineKind.{kind_of}
-use Rattle.ctl_stanza.specs.Faults.{gives_name}
-use Rattle.ctl_stanza.proofs.FaultLemmas.{cause-is, cause-long, turn-fault, turn-good, has_name-next}
+use Rattle.ctl_stanza.specs.Faults.{gives_name, body_step}
+use Rattle.ctl_stanza.proofs.FaultLemmas.{cause-is, cause-long, turn-fault, turn-good, has_name-next, body_len-next}
 use Rattle.ctl_stanza.proofs.line_faults.first_fault.Goals as goal
 
 abbrev now : Bor (List ℕ) → List ℕ
@@ -15,7 +15,7 @@ returns-then-is_too_long c =
     let i = c.loop-i.i in
     let lt : i < length lines = omega (arith, length-map c.args.lines.now now) in
     let here = get_or-map now c.args.lines.now i _ [] c.loop-i-test.true in
-    sym (c.loop-i.invariant.told ∙ turn-fault lines (c.args.first_line + i) i _ lt (cause-long lines i _ here (sym c.is_too_long.ensures ∙ c.if-is_too_long.true)))
+    sym (c.loop-i.invariant.told ∙ turn-fault c.args.repeats lines (c.args.first_line + i) i _ lt (cause-long c.args.repeats lines i _ here (sym c.is_too_long.ensures ∙ c.if-is_too_long.true)))
 
 pub returns-in-Some : goal.returns-in-Some
 returns-in-Some c =
@@ -23,8 +23,8 @@ returns-in-Some c =
     let i = c.loop-i.i in
     let lt : i < length lines = omega (arith, length-map c.args.lines.now now) in
     let here = get_or-map now c.args.lines.now i _ [] c.loop-i-test.true in
-    let cause = cause-is lines _ i _ _ _ lt c.loop-i.invariant.names here c.kind_of-kind.ensures.kind (sym c.is_too_long.ensures ∙ c.if-is_too_long.false) c.in_ok-cause.ensures.cause in
-    sym (c.loop-i.invariant.told ∙ turn-fault lines (c.args.first_line + i) i c.in-Some.cause lt (sym cause ∙ c.in-Some.is))
+    let cause = cause-is c.args.repeats lines _ i _ _ _ _ lt c.loop-i.invariant.names c.loop-i.invariant.body here c.kind_of-kind.ensures.kind (sym c.is_too_long.ensures ∙ c.if-is_too_long.false) c.in_ok-found.ensures.cause in
+    sym (c.loop-i.invariant.told ∙ turn-fault c.args.repeats lines (c.args.first_line + i) i c.in-Some.cause lt (sym cause ∙ c.in-Some.is))
 
 pub loop-i-preserved : goal.loop-i-preserved
 loop-i-preserved c =
@@ -33,10 +33,13 @@ loop-i-preserved c =
     let lt : i < length lines = omega (arith, length-map c.args.lines.now now) in
     let here = get_or-map now c.args.lines.now i _ [] c.loop-i-test.true in
     let kind = c.kind_of-kind.ensures.kind ∙ ap kind_of (sym here) in
-    let cause = cause-is lines _ i _ _ _ lt c.loop-i.invariant.names here c.kind_of-kind.ensures.kind (sym c.is_too_long.ensures ∙ c.if-is_too_long.false) c.in_ok-cause.ensures.cause in
+    let cause = cause-is c.args.repeats lines _ i _ _ _ _ lt c.loop-i.invariant.names c.loop-i.invariant.body here c.kind_of-kind.ensures.kind (sym c.is_too_long.ensures ∙ c.if-is_too_long.false) c.in_ok-found.ensures.cause in
     let same : c.args.first_line + (i + 1) ≡ c.args.first_line + i + 1 = omega arith in
     record {
-      names = λ other. c.in_ok-cause.ensures.names c.in_default.is other
+      names = λ other. c.in_ok-found.ensures.names c.in_default.is other
           ∙ ap₂ ◌||◌ (ap₂ (λ k l. gives_name k l other) kind (sym here)) (c.loop-i.invariant.names other) ∙ sym (has_name-next lines i (i + 1) other refl lt);
-      told = c.loop-i.invariant.told ∙ turn-good lines (c.args.first_line + i) (c.args.first_line + (i + 1)) i (i + 1) refl same lt (sym cause ∙ c.in_default.is);
+      body = c.in_ok-found.ensures.body c.in_default.is ∙ ap (body_step c.loop-i.body_len _) c.kind_of-kind.ensures.kind
+          ∙ ap₂ (λ n l. body_step n l (kind_of l)) c.loop-i.invariant.body (sym here) ∙ sym (body_len-next lines i (i + 1) refl lt);
+      within = c.in_ok-found.ensures.within c.in_default.is;
+      told = c.loop-i.invariant.told ∙ turn-good c.args.repeats lines (c.args.first_line + i) (c.args.first_line + (i + 1)) i (i + 1) refl same lt (sym cause ∙ c.in_default.is);
     }

@@ -1,14 +1,16 @@
-use Rattle.std.proofs.Common.{◌≡◌, ◌+◌, ℕ, List, [], take, drop}
-use Rattle.ctl_stanza.specs.Lines.{lent_lines}
-use Rattle.ctl_stanza.specs.Faults.{names_of, has_name, first_fault}
+use Rattle.std.proofs.Common.{◌≡◌, ◌+◌, ◌≤◌, ℕ, List, [], take, drop}
+use Rattle.ctl_stanza.specs.Lines.{max_line, lent_lines}
+use Rattle.ctl_stanza.specs.Faults.{names_of, has_name, body_len, first_fault}
 use Rattle.ctl_stanza.specs.NamesGiven.{holds}
 use Rattle.ctl_stanza.proofs.line_faults.first_fault.Given as goal
 
--- the names are those of the lines so far, none of which is faulty
+-- the names and the body are those of the lines so far, none of which is faulty
 abbrev pub invariant-loop-i : goal.invariant-loop-i
 invariant-loop-i l =
     let lines = lent_lines l.lines in
     record {
       names : (other : List ℕ) → holds l.names other ≡ has_name (names_of (take l.i lines)) other;
-      told : first_fault l.first_line [] lines ≡ first_fault (l.first_line + l.i) (take l.i lines) (drop l.i lines);
+      body : l.body_len ≡ body_len (take l.i lines);
+      within : l.body_len ≤ max_line;
+      told : first_fault l.repeats l.first_line [] lines ≡ first_fault l.repeats (l.first_line + l.i) (take l.i lines) (drop l.i lines);
     }

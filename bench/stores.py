@@ -1,0 +1,107 @@
+#!/usr/bin/env python3
+"""Measures edits of a list that is held.
+
+    bench/stores.py PROGRAM [PACKAGES]
+
+Loads a Packages file, and then takes 50,000 of its stanzas out, one by one in no order, and puts each in again at once: the
+time of these 100,000 edits as a ratio to that of loading the list. Then 100,000 marks that are set and taken out again, and
+lists of 60,000 stanzas in other orders than that of their names, as ratios to the list in order. Each time is the least of
+some runs, less that of the same run without the edits. Without PACKAGES a list of 60,000 stanzas is made."""
+
+import os
+import random
+import re
+import sys
+import tempfile
+
+from measuring import measured
+
+CHANGES = 50000
+SEED = 20261122
+RUNS = 3
+
+
+def made_stanza(name, version):
+    """A stanza of about the size of those of a release's list."""
+    return (b"Package: %s\nVersion: %s\nArchitecture: amd64\nMaintainer: A Developer <a@example.org>\nInstalled-Size: 123\n"
+            b"Depends: libc6 (>= 2.34), %s-data, libgcc-s1 | libgcc1\nProvides: %s-api (= %s)\nDescription: the package %s\n"
+            b"Section: utils\nPriority: optional\nSHA256: %064d\n" % (name, version, name, name, version, name, 7))
+
+
+def made_list(numbers):
+    """Stanzas whose names have these numbers."""
+    return [made_stanza(b"package-%06d" % number, b"1.%d-1" % (number % 50)) for number in numbers]
+
+
+def stanzas_of(path):
+    """The stanzas of a file, in its order."""
+    with open(path, "rb") as file:
+        return [stanza + b"\n" for stanza in file.read().split(b"\n\n") if stanza.strip()]
+
+
+def field(stanza, name):
+    return re.search(rb"^%s: (.*)$" % name, stanza, re.M).group(1)
+
+
+def changes(stanzas):
+    """A script that takes stanzas out and puts them in again."""
+    chosen = random.Random(SEED)
+    lines = []
+    for _ in range(CHANGES):
+        stanza = chosen.choice(stanzas)
+        lines.append(b"remove main %s %s\nput main\n%s.\n" % (field(stanza, b"Package"), field(stanza, b"Version"), stanza.lstrip(b"\n")))
+    return b"".join(lines)
+
+
+def marks():
+    """A script that sets 100,000 marks, and takes them out in the order in which they were set."""
+    names = [b"package-%06d" % number for number in range(2 * CHANGES)]
+    return b"".join([b"mark %s 1\n" % name for name in names] + [b"unmark %s\n" % name for name in names])
+
+
+class Bench:
+    def __init__(self, program, folder):
+        self.program = program
+        self.folder = folder
+
+    def write(self, name, text):
+        path = os.path.join(self.folder, name)
+        with open(path, "wb") as file:
+            file.write(text)
+        return path
+
+    def loading(self, stanzas):
+        """The time that loading a list takes."""
+        path = self.write("list", b"\n".join(stanzas))
+        return measured([self.program, "-l", "main=" + path], runs=RUNS)[0]
+
+    def edits(self, stanzas, script):
+        """The times of loading a list, and of the edits of a script after it."""
+        path = self.write("list", b"\n".join(stanzas))
+        load = measured([self.program, "-l", "main=" + path], runs=RUNS)[0]
+        whole = measured([self.program, "-l", "main=" + path], self.write("script", script), runs=RUNS)[0]
+        return load, whole - load
+
+
+def main(words):
+    if not words:
+        raise SystemExit(__doc__)
+    with tempfile.TemporaryDirectory() as folder:
+        bench = Bench(os.path.abspath(words[0]), folder)
+        stanzas = stanzas_of(words[1]) if len(words) > 1 else made_list(range(60000))
+        load, spent = bench.edits(stanzas, changes(stanzas))
+        print("%d stanzas: loading %.0f ms; 100,000 edits that take out and put in %.0f ms, ratio %.2f" % (len(stanzas), load * 1e3, spent * 1e3, spent / load))
+        load, spent = bench.edits([], marks())
+        print("100,000 marks set and taken out: %.0f ms" % (spent * 1e3))
+        numbers = list(range(60000))
+        in_order = bench.loading(made_list(numbers))
+        in_reverse = bench.loading(made_list(numbers[::-1]))
+        random.Random(SEED).shuffle(numbers)
+        in_no_order = bench.loading(made_list(numbers))
+        versions = bench.loading([made_stanza(b"package", b"1.%06d-1" % number) for number in range(60000)])
+        print("a list of 60,000 stanzas, as ratios to one in the order of names (%.0f ms): in reverse %.2f, in no order %.2f, of one name %.2f"
+              % (in_order * 1e3, in_reverse / in_order, in_no_order / in_order, versions / in_order))
+
+
+if __name__ == "__main__":
+    main(sys.argv[1:])

@@ -1,0 +1,54 @@
+-- What was read of the words of a command.
+use Rattle.std.specs.Prelude.{◌≡◌, ◌⊎◌, ℕ, List, None, is_none, false, Result, Ok, Err}
+use Rattle.ctl_relation.specs.Version.{fault_of}
+use Rattle.ctl_store.specs.declared.selector.Selector.{Selector}
+use Rattle.ctl_store.specs.declared.refusal.Refusal.{Refusal}
+use Rattle.ctl_store.specs.declared.refusal.Refusal.TheVariants as refusal
+use Rattle.ctl_store.specs.Edits.{edit_of}
+use Rattle.ctl_store.specs.Held.{IsProper}
+use Rattle.ctl_session.specs.Request.{Request as RequestText, AddList as AddListText, Put as PutText, Prefs as PrefsText, Change as ChangeText, PackageNames as PackageNamesText, request_by, refused_at}
+use Rattle.ctl_session.specs.declared.request.Request.{Request}
+use Rattle.ctl_session.specs.declared.request.Request.TheVariants.{AddList, Put, Prefs, Change, PackageNames}
+use Rattle.ctl_session.specs.declared.request.CommandWords.{CommandWords}
+use Rattle.ctl_session.specs.declared.refusal_at.RefusalAt.{RefusalAt}
+
+-- the request that the code has read
+abbrev pub request_text : Request → RequestText
+request_text (AddList name kind class) = AddListText name.now kind class
+request_text (Put name) = PutText name.now
+request_text Prefs = PrefsText
+request_text (Change edit) = ChangeText (edit_of edit)
+request_text (PackageNames prefix) = PackageNamesText prefix.now
+
+-- the request of the definition was read, or it is refused as the definition says, or memory ran out
+abbrev pub Asks : Result Request Refusal → Result RequestText Refusal → Type 0
+Asks (Ok request) asked = asked ≡ Ok (request_text request)
+Asks (Err cause) asked = (asked ≡ Err cause) ⊎ (cause ≡ refusal.Memory)
+
+-- the same of a selector
+abbrev pub ReadsSelector : Result Selector Refusal → Result Selector Refusal → Type 0
+ReadsSelector (Ok selector) asked = asked ≡ Ok selector
+ReadsSelector (Err cause) asked = (asked ≡ Err cause) ⊎ (cause ≡ refusal.Memory)
+
+-- the same of a version
+abbrev pub ReadsVersion : List ℕ → Result (List ℕ) Refusal → Type 0
+ReadsVersion word (Ok version) = (version ≡ word) × (fault_of word ≡ None)
+ReadsVersion word (Err cause) = ((is_none (fault_of word) ≡ false) × (cause ≡ refusal.Version)) ⊎ (cause ≡ refusal.Memory)
+
+-- These are the command and the words by which a line asks, or it is refused before them, or memory ran out.
+abbrev pub GivesWords : Result CommandWords Refusal → Result RequestText Refusal → Type 0
+GivesWords (Ok read) asked = asked ≡ request_by read.name read.words.items
+GivesWords (Err cause) asked = (asked ≡ Err cause) ⊎ (cause ≡ refusal.Memory)
+
+-- the same with the line of the command, at which want of memory is told
+abbrev pub GivesWordsAt : ℕ → Result CommandWords RefusalAt → Result RequestText RefusalAt → Type 0
+GivesWordsAt number (Ok read) asked = asked ≡ refused_at number (request_by read.name read.words.items)
+GivesWordsAt number (Err refused) asked = (asked ≡ Err refused) ⊎ (refused ≡ record { line = number; cause = refusal.Memory })
+
+-- an edit that a request holds is one that a store takes
+abbrev pub IsProperRequest : Request → Type 0
+IsProperRequest (AddList name kind class) = Unit {0}
+IsProperRequest (Put name) = Unit {0}
+IsProperRequest Prefs = Unit {0}
+IsProperRequest (Change edit) = IsProper (edit_of edit)
+IsProperRequest (PackageNames prefix) = Unit {0}

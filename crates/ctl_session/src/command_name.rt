@@ -1,0 +1,54 @@
+//! The commands of a script.
+
+ghost use Rattle.std.specs.Prelude.{◌≡◌};
+
+/// A command of a script.
+#[derive(Clone, Copy, Debug, PartialEq, Eq)]
+pub(crate) enum CommandName {
+    AddList,
+    DropList,
+    Put,
+    Remove,
+    Mark,
+    Unmark,
+    Pin,
+    Unpin,
+    Target,
+    Prefs,
+    PackageNames,
+}
+
+impl CommandName {
+    ghost use Rattle.ctl_session.specs.Request.{command_named};
+
+    /// The command of a name, if there is one.
+    pub(crate) fn read(name: &[u8]) -> Option<CommandName>
+        ensures { result ≡ command_named name.now }
+    {
+        if name == b"add-list".as_slice() {
+            Some(CommandName::AddList)
+        } else if name == b"drop-list".as_slice() {
+            Some(CommandName::DropList)
+        } else if name == b"put".as_slice() {
+            Some(CommandName::Put)
+        } else if name == b"remove".as_slice() {
+            Some(CommandName::Remove)
+        } else if name == b"mark".as_slice() {
+            Some(CommandName::Mark)
+        } else if name == b"unmark".as_slice() {
+            Some(CommandName::Unmark)
+        } else if name == b"pin".as_slice() {
+            Some(CommandName::Pin)
+        } else if name == b"unpin".as_slice() {
+            Some(CommandName::Unpin)
+        } else if name == b"target".as_slice() {
+            Some(CommandName::Target)
+        } else if name == b"prefs".as_slice() {
+            Some(CommandName::Prefs)
+        } else if name == b"pkgnames".as_slice() {
+            Some(CommandName::PackageNames)
+        } else {
+            None
+        }
+    }
+}

@@ -1,0 +1,12 @@
+//! Why a list was not loaded.
+
+use ctl_store::Refusal;
+
+/// Why a list was not loaded, and at which line of its text; the line is 0 where the text has no fault.
+#[derive(Clone, Copy, Debug, PartialEq, Eq)]
+pub struct LoadFault {
+    /// The line of the text whose fault it is, or 0.
+    pub line: u64,
+    /// Why the list is refused.
+    pub cause: Refusal,
+}

@@ -1,0 +1,30 @@
+use Rattle.std.proofs.Common.{rules, ◌≢◌, ◌∙◌, ◌+◌, List, Some, ap, sym, arith, slice_range}
+use Rattle.ctl_stanza.specs.declared.fault.Cause.TheVariants as causes
+use Rattle.ctl_stanza.specs.Lines.{lines_of}
+use Rattle.ctl_stanza.specs.Records.{RecordText}
+use Rattle.ctl_stanza.proofs.TurnLemmas.{record-turn, record-bad, room-next, first-lent}
+use Rattle.ctl_stanza.proofs.records.read_records_before_fault.Goals as goal
+
+pub returns-in-Err-2-clause-read : goal.returns-in-Err-2-clause-read
+returns-in-Err-2-clause-read c =
+    let at = c.pieces.at in
+    let size = ap (λ k. at + k) (c.len.ensures ∙ sym c.deref.ensures.len) in
+    let other : c.in-Err.fault.cause ≢ causes.Memory = search rules in
+    ap (λ (records : List RecordText). (records, Some c.in-Err.fault)) c.in-Err.ensures.kept
+    ∙ record-bad c.in_ok-kept.field-0.numbers.items _ c.pieces.records.items at _ (lines_of c.pieces.left.now) (lines_of c.in_ok-behind.behind.now) c.deref.result.now c.in-Err.fault _
+    (first-lent (lines_of c.pieces.left.now) (lines_of c.in_ok-behind.behind.now) c.take_piece.new.lines.items c.deref.result.now c.deref.ensures.value c.in_ok-behind.ensures.first)
+    size (ap (λ xs. slice_range xs at (at + c.len.result)) c.deref-in-pieces.ensures.value) (c.in-Err.ensures.fault other) c.pieces.invariant.told
+
+pub pieces-preserved : goal.pieces-preserved
+pieces-preserved c =
+    let taken = c.take_piece.new.lines.items in
+    let given = c.deref.result.now in
+    let at = c.pieces.at in
+    let size = ap (λ k. at + k) (c.len.ensures ∙ sym c.deref.ensures.len) in
+    record {
+      names = c.in-Ok.ensures.names;
+      room = omega (arith, room-next (lines_of c.pieces.left.now) (lines_of c.in_ok-behind.behind.now) taken at _ c.in_ok-behind.ensures.lines c.pieces.invariant.room, c.len.ensures);
+      told = record-turn c.in_ok-kept.field-0.numbers.items _ c.pieces.records.items c.read_record.new.records.items at _ (lines_of c.pieces.left.now) (lines_of c.in_ok-behind.behind.now) given _
+          (first-lent (lines_of c.pieces.left.now) (lines_of c.in_ok-behind.behind.now) taken given c.deref.ensures.value c.in_ok-behind.ensures.first) size (ap (λ xs. slice_range xs at (at + c.len.result)) c.deref-in-pieces.ensures.value)
+          c.in-Ok.ensures.whole c.in-Ok.ensures.records c.pieces.invariant.told;
+    }

@@ -1,0 +1,39 @@
+-- The stanza of a key, found by the serial of its list.
+use Rattle.std.proofs.Common.{◌≡◌, ℕ, ◌<◌, suc, Bool, true, false, cond, nat_eq, List, [], ◌∷◌, Option, None, Some, IsSome, is_some, option_map, refl, ap, sym, ◌∙◌, arith}
+use Rattle.std.specs.Map.{lookup}
+use Rattle.std.specs.Option.{option_or}
+use Rattle.ctl_stanza.specs.Content.{Content}
+use Rattle.ctl_store.specs.declared.stanza_key.StanzaKey.{StanzaKey}
+use Rattle.ctl_store.specs.Keys.{stanza_at, list_at}
+use Rattle.ctl_store.specs.Held.{Sheet, lists_of, InOrder, entry_of}
+use Rattle.ctl_store.proofs.PlaceLemmas.{gt_ne, is_eq_from, if_cases}
+
+none_later : (k : StanzaKey) (n : ℕ) (es : List (List ℕ × Sheet)) (m e : ℕ) → k.list < n → InOrder n (lists_of es) m e → stanza_at k (lists_of es) ≡ None
+none_later k n [] m e l h = refl
+none_later k n (x ∷ es) m e l h =
+    ap (λ b. option_or (cond b (lookup (λ s. nat_eq s k.stanza) x.1.rows) None) (stanza_at k (lists_of es))) (gt_ne x.1.serial k.list (omega (arith, h.0)))
+    ∙ none_later k (suc x.1.serial) es m e (omega (arith, h.0)) h.3
+
+or_none : {X : Type 0} (o : Option X) → option_or o None ≡ o
+or_none None = refl
+or_none (Some x) = refl
+
+abbrev pub in_entry : StanzaKey → Option (List ℕ × Sheet) → Option Content
+in_entry k None = None
+in_entry k (Some e) = lookup (λ s. nat_eq s k.stanza) e.1.rows
+
+pub look_up : (k : StanzaKey) (n : ℕ) (es : List (List ℕ × Sheet)) (m e : ℕ) → InOrder n (lists_of es) m e → stanza_at k (lists_of es) ≡ in_entry k (entry_of k.list es)
+look_up k n [] m e h = refl
+look_up k n (x ∷ es) m e h = by (nat_eq x.1.serial k.list) refl (look_up k (suc x.1.serial) es m e h.3)
+  where
+    by : (b : Bool) → nat_eq x.1.serial k.list ≡ b → stanza_at k (lists_of es) ≡ in_entry k (entry_of k.list es)
+        → option_or (cond b (lookup (λ s. nat_eq s k.stanza) x.1.rows) None) (stanza_at k (lists_of es)) ≡ in_entry k (cond b (Some x) (entry_of k.list es))
+    by true is rest = ap (option_or (lookup (λ s. nat_eq s k.stanza) x.1.rows)) (none_later k (suc x.1.serial) es m e (let z : x.1.serial ≡ k.list = is_eq_from x.1.serial k.list is in omega arith) h.3) ∙ or_none _
+    by false is rest = rest
+
+pub list_at_entry : (serial : ℕ) (es : List (List ℕ × Sheet)) → list_at serial (lists_of es) ≡ option_map (λ (e : List ℕ × Sheet). e.0) (entry_of serial es)
+list_at_entry serial [] = refl
+list_at_entry serial (x ∷ es) = ap (cond (nat_eq x.1.serial serial) (Some x.0)) (list_at_entry serial es) ∙ sym (if_cases (option_map (λ (e : List ℕ × Sheet). e.0)) (nat_eq x.1.serial serial) _ _)
+
+pub not_none : {X : Type 0} {P : Type 0} (o : Option X) → IsSome o → o ≡ None → P
+not_none o h e = let z : is_some o ≡ false = ap is_some e in absurd (let w : ⊥ = cc in w)

@@ -1,0 +1,149 @@
+-- what a map by `Vec<u8>` keys is, seen by the bytes of its keys
+use Rattle.std.proofs.Common.{◌≡◌, ℕ, Bool, true, false, cond, List, [], ◌∷◌, ◌++◌, Option, None, Some, is_some, map, refl, ap, sym, ◌∙◌, Vec}
+use Rattle.std.specs.Str.{bytes_eq}
+use Rattle.std.specs.Map.{lookup, remove_entry, set_value, keys_of, KeepsOthers, IsKeyTest, AreApart}
+use Rattle.std.specs.HashMap.{HashMap, UpdatesBy}
+use Rattle.std.specs.List.{IsDistinct, AllByRecursion}
+use Rattle.std.specs.Cmp.Lexicographic.{slice_cmp, nat_list_cmp_total, nat_list_eq_equiv}
+use Rattle.std.specs.Ordering.{nat_cmp, eq_by_cmp}
+use Rattle.std.specs.FinMap as fin
+use Rattle.std.proofs.lemmas.Map.{lookup-remove_entry}
+use Rattle.std.proofs.lemmas.Map.Lookups.{exact_bytes}
+use Rattle.std.proofs.lemmas.Map.Text.{is_eq-slice_cmp}
+use Rattle.std.proofs.lemmas.Slice.Eq.{bytes_eq-Decides}
+use Rattle.indexmap.specs.IndexMap.{insert_entry}
+use Rattle.ctl_store.specs.Named.{at_name, put_named, set_named, without_name, by_bytes}
+
+pub if_cases : {A B : Type 0} (f : A → B) (b : Bool) (x y : A) → f (cond b x y) ≡ cond b (f x) (f y)
+if_cases f true x y = refl
+if_cases f false x y = refl
+
+pub some_is : {X : Type 0} {x y : X} → Some x ≡ Some y → x ≡ y
+some_is e = cc
+
+module _ {A V : Type 0} where
+  pub at_name-by_bytes : (name : List ℕ) (es : List (Vec ℕ A × V)) → lookup (λ k. bytes_eq name k.items) es ≡ at_name name (map by_bytes es)
+  at_name-by_bytes name [] = refl
+  at_name-by_bytes name (e ∷ es) = ap (cond (bytes_eq name e.0.items) (Some e.1)) (at_name-by_bytes name es)
+
+  pub put_named-by_bytes : (k : Vec ℕ A) (v : V) (es : List (Vec ℕ A × V)) → map by_bytes (insert_entry (λ x y. bytes_eq x.items y.items) es k v) ≡ put_named k.items v (map by_bytes es)
+  put_named-by_bytes k v [] = refl
+  put_named-by_bytes k v (e ∷ es) = if_cases (map by_bytes) (bytes_eq k.items e.0.items) _ _ ∙ ap (λ r. cond (bytes_eq k.items e.0.items) ((e.0.items, v) ∷ map by_bytes es) ((e.0.items, e.1) ∷ r)) (put_named-by_bytes k v es)
+
+  pub set_named-by_bytes : (name : List ℕ) (v : V) (es : List (Vec ℕ A × V)) → map by_bytes (set_value (λ k. bytes_eq name k.items) es v) ≡ set_named name v (map by_bytes es)
+  set_named-by_bytes name v [] = refl
+  set_named-by_bytes name v (e ∷ es) = if_cases (map by_bytes) (bytes_eq name e.0.items) _ _ ∙ ap (λ r. cond (bytes_eq name e.0.items) ((e.0.items, v) ∷ map by_bytes es) ((e.0.items, e.1) ∷ r)) (set_named-by_bytes name v es)
+
+  pub without_name-by_bytes : (name : List ℕ) (es : List (Vec ℕ A × V)) → map by_bytes (remove_entry (λ k. bytes_eq name k.items) es) ≡ without_name name (map by_bytes es)
+  without_name-by_bytes name [] = refl
+  without_name-by_bytes name (e ∷ es) = if_cases (map by_bytes) (bytes_eq name e.0.items) _ _ ∙ ap (λ r. cond (bytes_eq name e.0.items) (map by_bytes es) ((e.0.items, e.1) ∷ r)) (without_name-by_bytes name es)
+
+module _ {V : Type 0} where
+  -- a new name goes last
+  pub put_named-new : (name : List ℕ) (v : V) (es : List (List ℕ × V)) → at_name name es ≡ None → put_named name v es ≡ es ++ (name, v) ∷ []
+  put_named-new name v [] e = refl
+  put_named-new name v (x ∷ es) e = by (bytes_eq name x.0) e (put_named-new name v es)
+    where
+      by : (b : Bool) → cond b (Some x.1) (at_name name es) ≡ None → (at_name name es ≡ None → put_named name v es ≡ es ++ (name, v) ∷ []) → cond b ((x.0, v) ∷ es) (x ∷ put_named name v es) ≡ x ∷ (es ++ (name, v) ∷ [])
+      by true e rest = cc
+      by false e rest = ap (λ r. x ∷ r) (rest e)
+
+  -- what was set is there
+  pub at_name-set_named : (name : List ℕ) (v w : V) (es : List (List ℕ × V)) → Some v ≡ at_name name es → at_name name (set_named name w es) ≡ Some w
+  at_name-set_named name v w [] e = cc
+  at_name-set_named name v w (x ∷ es) e = by (bytes_eq name x.0) refl e (at_name-set_named name v w es)
+    where
+      by : (b : Bool) → bytes_eq name x.0 ≡ b → Some v ≡ cond b (Some x.1) (at_name name es) → (Some v ≡ at_name name es → at_name name (set_named name w es) ≡ Some w)
+          → at_name name (cond b ((x.0, w) ∷ es) (x ∷ set_named name w es)) ≡ Some w
+      by true is e rest = ap (λ b. cond b (Some w) (at_name name es)) is
+      by false is e rest = ap (λ b. cond b (Some x.1) (at_name name (set_named name w es))) is ∙ rest e
+
+-- ---- what each name has, after a change
+
+choose : {X : Type 0} (a b c : Bool) (v w r s : X) → (a ≡ true → b ≡ c) → (c ≡ true → a ≡ b) → s ≡ cond c v r → cond a (cond b v r) (cond b w s) ≡ cond c v (cond b w r)
+choose true b c v w r s h k e = ap (λ d. cond d v r) (h refl) ∙ same c ∙ ap (λ d. cond c v (cond d w r)) (sym (h refl))
+  where
+    same : (c : Bool) → cond c v r ≡ cond c v (cond c w r)
+    same true = refl
+    same false = refl
+choose false b true v w r s h k e = ap (λ d. cond d w s) (sym (k refl)) ∙ e
+choose false b false v w r s h k e = ap (cond b w) e
+
+same_bytes : (x y : List ℕ) → bytes_eq x y ≡ true → x ≡ y
+same_bytes x y h = (bytes_eq-Decides x y).0 h
+
+module _ {V : Type 0} where
+  pub at_name-put_named : (k : List ℕ) (v : V) (q : List ℕ) (es : List (List ℕ × V)) → at_name q (put_named k v es) ≡ cond (bytes_eq k q) (Some v) (at_name q es)
+  at_name-put_named k v q [] = ap (λ b. cond b (Some v) None) (nat_list_eq_equiv.symm q k)
+  at_name-put_named k v q (e ∷ es) =
+      if_cases (at_name q) (bytes_eq k e.0) ((e.0, v) ∷ es) (e ∷ put_named k v es)
+      ∙ choose (bytes_eq k e.0) (bytes_eq q e.0) (bytes_eq k q) (Some v) (Some e.1) (at_name q es) (at_name q (put_named k v es))
+      (λ h. ap (bytes_eq q) (sym (same_bytes k e.0 h)) ∙ nat_list_eq_equiv.symm q k)
+      (λ h. ap (λ x. bytes_eq x e.0) (same_bytes k q h))
+      (at_name-put_named k v q es)
+
+  pub at_name-without_name : (k q : List ℕ) (es : List (List ℕ × V)) → IsDistinct bytes_eq (keys_of es) → at_name q (without_name k es) ≡ cond (bytes_eq k q) None (at_name q es)
+  at_name-without_name k q es d = lookup-remove_entry nat_list_eq_equiv (bytes_eq k) (nat_list_eq_equiv.congr k) q es d
+
+  find-at_name : (q : List ℕ) (es : List (List ℕ × V)) → fin.find (slice_cmp nat_cmp) q es ≡ at_name q es
+  find-at_name q [] = refl
+  find-at_name q (e ∷ es) = ap (λ b. cond b (Some e.1) (fin.find (slice_cmp nat_cmp) q es)) (is_eq-slice_cmp q e.0) ∙ ap (cond (bytes_eq q e.0) (Some e.1)) (find-at_name q es)
+
+  get-at_name : (es : List (List ℕ × V)) (q : List ℕ) → fin.get (fin.from_entries {R = slice_cmp nat_cmp} es) q ≡ at_name q es
+  get-at_name es q = fin.get-from_entries nat_list_cmp_total es q ∙ find-at_name q es
+
+  -- under a name that `using` takes
+  pub get_at_name : (es : List (List ℕ × V)) (q : List ℕ) → fin.get (fin.from_entries {R = slice_cmp nat_cmp} es) q ≡ at_name q es
+  get_at_name = get-at_name
+
+  -- the finite map of the entries, after `put_named`
+  pub from_entries-put_named : (k : List ℕ) (v : V) (es : List (List ℕ × V)) → fin.from_entries {R = slice_cmp nat_cmp} (put_named k v es) ≡ fin.insert (fin.from_entries es) k v
+  from_entries-put_named k v es = fin.same_map nat_list_cmp_total exact_bytes _ _ (λ q.
+      get-at_name (put_named k v es) q ∙ at_name-put_named k v q es ∙ ap (λ b. cond b (Some v) (at_name q es)) (nat_list_eq_equiv.symm k q ∙ sym (is_eq-slice_cmp q k))
+      ∙ ap (cond (eq_by_cmp (slice_cmp nat_cmp) q k) (Some v)) (sym (get-at_name es q)) ∙ sym (fin.get-insert nat_list_cmp_total (fin.from_entries es) k v q))
+
+  -- and after `without_name`
+  pub from_entries-without_name : (k : List ℕ) (es : List (List ℕ × V)) → IsDistinct bytes_eq (keys_of es) → fin.from_entries {R = slice_cmp nat_cmp} (without_name k es) ≡ fin.remove (fin.from_entries es) k
+  from_entries-without_name k es d = fin.same_map nat_list_cmp_total exact_bytes _ _ (λ q.
+      get-at_name (without_name k es) q ∙ at_name-without_name k q es d ∙ ap (λ b. cond b None (at_name q es)) (nat_list_eq_equiv.symm k q ∙ sym (is_eq-slice_cmp q k))
+      ∙ ap (cond (eq_by_cmp (slice_cmp nat_cmp) q k) None) (sym (get-at_name es q)) ∙ sym (fin.get-remove nat_list_cmp_total (fin.from_entries es) k q))
+
+  -- a map has each name once
+  apart : {A : Type 0} (x : Vec ℕ A) (es : List (Vec ℕ A × V)) → AllByRecursion (λ y. bytes_eq x.items y.items ≡ false) (keys_of es) → AllByRecursion (λ y. bytes_eq x.items y ≡ false) (keys_of (map by_bytes es))
+  apart x [] h = h
+  apart x (e ∷ es) h = (h.0, apart x es h.1)
+
+  pub IsDistinct-by_bytes : {A : Type 0} (es : List (Vec ℕ A × V)) → IsDistinct (λ x y. bytes_eq x.items y.items) (keys_of es) → IsDistinct bytes_eq (keys_of (map by_bytes es))
+  unfolding IsDistinct
+  IsDistinct-by_bytes [] h = h
+  IsDistinct-by_bytes (e ∷ es) h = (apart e.0 es h.0, IsDistinct-by_bytes es h.1)
+
+pub none_is : {X : Type 0} (o : Option X) → is_some o ≡ false → o ≡ None
+none_is None h = refl
+none_is (Some x) h = cc
+
+-- ---- what a call leaves at each name
+
+module _ {A : Type 0} where
+  other_entries : {X : Type 0} (eq : Vec ℕ A → Vec ℕ A → Bool) (test : Vec ℕ A → Bool) (old new : List (Vec ℕ A × X)) → KeepsOthers eq test old new → (other : Vec ℕ A → Bool) → IsKeyTest eq other → AreApart test other → lookup other new ≡ lookup other old
+  unfolding KeepsOthers
+  other_entries eq test old new h = h
+
+  apart_bytes : (bs cs : List ℕ) (k : Vec ℕ A) → bytes_eq bs cs ≡ false → bytes_eq bs k.items ≡ true → bytes_eq cs k.items ≡ false
+  apart_bytes bs cs k n y = nat_list_eq_equiv.symm cs k.items ∙ sym (nat_list_eq_equiv.congr bs k.items cs y) ∙ n
+
+  -- at other bytes the map keeps what it has
+  pub updates_bytes : {X S : Type 0} (bs : List ℕ) (m n : HashMap (Vec ℕ A) X S) (w : Option X) → UpdatesBy (λ x y. bytes_eq x.items y.items) (λ k. bytes_eq bs k.items) m n w
+      → (cs : List ℕ) → at_name cs (map by_bytes n.entries) ≡ cond (bytes_eq bs cs) w (at_name cs (map by_bytes m.entries))
+  updates_bytes bs m n w h cs = by (bytes_eq bs cs) refl
+    where
+      by : (b : Bool) → bytes_eq bs cs ≡ b → at_name cs (map by_bytes n.entries) ≡ cond b w (at_name cs (map by_bytes m.entries))
+      by true e = ap (λ q. at_name q (map by_bytes n.entries)) (sym (same_bytes bs cs e)) ∙ sym (at_name-by_bytes bs n.entries) ∙ h.1
+      by false e = sym (at_name-by_bytes cs n.entries) ∙ other_entries _ _ m.entries n.entries h.3 (λ k. bytes_eq cs k.items) (λ x y. nat_list_eq_equiv.congr cs x.items y.items) (λ k. apart_bytes bs cs k e) ∙ at_name-by_bytes cs m.entries
+
+module _ {V : Type 0} where
+  -- the finite map of entries that a name left
+  pub from_entries-removed : (k : List ℕ) (es fs : List (List ℕ × V)) → ((q : List ℕ) → at_name q fs ≡ cond (bytes_eq k q) None (at_name q es)) → fin.from_entries {R = slice_cmp nat_cmp} fs ≡ fin.remove (fin.from_entries es) k
+  from_entries-removed k es fs h = fin.same_map nat_list_cmp_total exact_bytes _ _ (λ q.
+      get-at_name fs q ∙ h q ∙ ap (λ b. cond b None (at_name q es)) (nat_list_eq_equiv.symm k q ∙ sym (is_eq-slice_cmp q k))
+      ∙ ap (cond (eq_by_cmp (slice_cmp nat_cmp) q k) None) (sym (get-at_name es q)) ∙ sym (fin.get-remove nat_list_cmp_total (fin.from_entries es) k q))

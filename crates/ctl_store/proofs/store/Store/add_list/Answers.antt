@@ -1,0 +1,75 @@
+use Rattle.std.proofs.Common.{◌≡◌, suc, refl, ◌+◌, ◌∷◌, ◌++◌, [], ◌∙◌, ap, sym, subst, map, length, List, arith}
+use Rattle.std.specs.FinMap as fin
+use Rattle.ctl_store.specs.Named.{has_name, put_named}
+use Rattle.ctl_store.specs.State.{stanza_count, status_count, count_of_kind}
+use Rattle.ctl_store.specs.Edits.{AddList}
+use Rattle.ctl_store.specs.Step.{after}
+use Rattle.ctl_store.specs.Keys.{KeyedList, stanza_lists, list_of_stanzas, keyed_after}
+use Rattle.ctl_store.specs.Held.{lists_of, keyed_list, state_of, keyed_of, IsSound}
+use Rattle.ctl_store.proofs.ListedLemmas.{lists_put_new}
+use Rattle.ctl_store.proofs.StepLemmas.{new_lists}
+use Rattle.ctl_store.proofs.SoundLemmas.{sound_add}
+use Rattle.ctl_store.proofs.StatusLemmas.{add_statuses}
+use Rattle.ctl_store.proofs.FoundLemmas.{add_new, add_fits, new_among}
+use Rattle.ctl_store.proofs.store.Store.add_list.Goals as goal
+
+same_length : {X Y : Type 0} (f : X → Y) (xs : List X) → length (map f xs) ≡ length xs
+same_length f [] = refl
+same_length f (x ∷ xs) = ap (λ n. suc n) (same_length f xs)
+
+pub overflow_cast-count : goal.overflow_cast-count
+overflow_cast-count c =
+    let h = c.args.self.now in
+    omega (arith, c.len-count.ensures, add_fits h.limits (state_of h) c.args.name c.args.kind c.args.class (map (λ stanza. stanza.value) c.args.stanzas.items) c.requires.accepted, same_length (λ stanza. stanza.value) c.args.stanzas.items, c.self.invariant.stanzas_bounded, ap (λ h. h.limits.stanzas) c.self.view_is)
+
+pub overflow_add-self-2 : goal.overflow_add-self-2
+overflow_add-self-2 c =
+    let h = c.args.self.now in
+    let held = ap (λ h. stanza_count (state_of h).lists) c.self.view_is in
+    omega (arith, c.len-count.ensures, add_fits h.limits (state_of h) c.args.name c.args.kind c.args.class (map (λ stanza. stanza.value) c.args.stanzas.items) c.requires.accepted, same_length (λ stanza. stanza.value) c.args.stanzas.items, c.self.invariant.counted, held, c.self.invariant.stanzas_bounded, ap (λ h. h.limits.stanzas) c.self.view_is)
+
+pub overflow_add-self-3 : goal.overflow_add-self-3
+overflow_add-self-3 c =
+    let h = c.args.self.now in
+    let held = ap (λ h. status_count (state_of h).lists) c.self.view_is in
+    omega (arith, c.one_if_status.ensures, add_statuses h.limits (state_of h) c.args.name c.args.kind c.args.class (map (λ stanza. stanza.value) c.args.stanzas.items) c.requires.accepted 4294967295 (omega (arith, held, c.self.invariant.statuses_counted)) (omega arith), held, c.self.invariant.statuses_counted)
+
+pub invariant_of-self : goal.invariant_of-self
+invariant_of-self c =
+    let s = c.self.inside in
+    let h = c.args.self.now in
+    let xs = map (λ stanza. stanza.value) c.args.stanzas.items in
+    let long : length xs ≡ c.len-count.result = omega (arith, same_length (λ stanza. stanza.value) c.args.stanzas.items, c.len-count.ensures) in
+    let shelf : keyed_list c.new-shelf.result ≡ list_of_stanzas s.next_list c.args.kind c.args.class xs = λ j. record { serial = c.new-shelf.ensures.serial j; kind = c.new-shelf.ensures.kind j; class = c.new-shelf.ensures.class j; next = (c.new-shelf.ensures.next ∙ sym c.len-count.ensures ∙ sym long) j; rows = c.new-shelf.ensures.rows j } in
+    let new = new_among c.args.name s.lists.0 (ap (λ h. has_name c.args.name (state_of h).lists) c.self.view_is ∙ add_new h.limits (state_of h) c.args.name c.args.kind c.args.class xs c.requires.accepted) in
+    let lists = ap lists_of (c.put.ensures.entries ∙ ap (λ n. put_named n c.new-shelf.result s.lists.0) c.into_vec.ensures) ∙ lists_put_new c.args.name c.new-shelf.result s.lists.0 new ∙ ap (λ (l : KeyedList). lists_of s.lists.0 ++ (c.args.name, l) ∷ []) shelf in
+    let held = ap (λ h. stanza_count (state_of h).lists) c.self.view_is in
+    let most = ap (λ h. h.limits.stanzas) c.self.view_is in
+    subst (λ k. IsSound c.put.new.self.0 (s.next_list + 1) (s.statuses + k) (s.stanzas + c.len-count.result) (s.edits + 1) s.limits) (sym c.one_if_status.ensures)
+    (subst (λ n. IsSound c.put.new.self.0 (s.next_list + 1) (s.statuses + count_of_kind c.args.kind) (s.stanzas + n) (s.edits + 1) s.limits) long
+    (sound_add s.lists.0 s.next_list s.statuses s.stanzas s.edits s.limits c.self.invariant c.put.new.self.0 c.args.name c.args.kind c.args.class xs lists
+    (omega (arith, add_fits h.limits (state_of h) c.args.name c.args.kind c.args.class xs c.requires.accepted, c.self.invariant.counted, held, most))))
+
+pub returns-clause-state : goal.returns-clause-state
+returns-clause-state c =
+    let s = c.self.inside in
+    let h = c.args.self.now in
+    let xs = map (λ stanza. stanza.value) c.args.stanzas.items in
+    let long : length xs ≡ c.len-count.result = omega (arith, same_length (λ stanza. stanza.value) c.args.stanzas.items, c.len-count.ensures) in
+    let shelf : keyed_list c.new-shelf.result ≡ list_of_stanzas s.next_list c.args.kind c.args.class xs = λ j. record { serial = c.new-shelf.ensures.serial j; kind = c.new-shelf.ensures.kind j; class = c.new-shelf.ensures.class j; next = (c.new-shelf.ensures.next ∙ sym c.len-count.ensures ∙ sym long) j; rows = c.new-shelf.ensures.rows j } in
+    let new = new_among c.args.name s.lists.0 (ap (λ h. has_name c.args.name (state_of h).lists) c.self.view_is ∙ add_new h.limits (state_of h) c.args.name c.args.kind c.args.class xs c.requires.accepted) in
+    let lists = ap lists_of (c.put.ensures.entries ∙ ap (λ n. put_named n c.new-shelf.result s.lists.0) c.into_vec.ensures) ∙ lists_put_new c.args.name c.new-shelf.result s.lists.0 new ∙ ap (λ (l : KeyedList). lists_of s.lists.0 ++ (c.args.name, l) ∷ []) shelf in
+    (λ j. record { lists = (ap stanza_lists lists ∙ new_lists (lists_of s.lists.0) c.args.name s.next_list c.args.kind c.args.class xs) j; marks = fin.from_entries s.marks.0; pins = s.pins.entries; target = s.target; edits = s.edits + 1 })
+    ∙ ap (λ h. after (state_of h) (AddList c.args.name c.args.kind c.args.class xs)) c.self.view_is
+
+pub returns-clause-keyed : goal.returns-clause-keyed
+returns-clause-keyed c =
+    let s = c.self.inside in
+    let h = c.args.self.now in
+    let xs = map (λ stanza. stanza.value) c.args.stanzas.items in
+    let long : length xs ≡ c.len-count.result = omega (arith, same_length (λ stanza. stanza.value) c.args.stanzas.items, c.len-count.ensures) in
+    let shelf : keyed_list c.new-shelf.result ≡ list_of_stanzas s.next_list c.args.kind c.args.class xs = λ j. record { serial = c.new-shelf.ensures.serial j; kind = c.new-shelf.ensures.kind j; class = c.new-shelf.ensures.class j; next = (c.new-shelf.ensures.next ∙ sym c.len-count.ensures ∙ sym long) j; rows = c.new-shelf.ensures.rows j } in
+    let new = new_among c.args.name s.lists.0 (ap (λ h. has_name c.args.name (state_of h).lists) c.self.view_is ∙ add_new h.limits (state_of h) c.args.name c.args.kind c.args.class xs c.requires.accepted) in
+    let lists = ap lists_of (c.put.ensures.entries ∙ ap (λ n. put_named n c.new-shelf.result s.lists.0) c.into_vec.ensures) ∙ lists_put_new c.args.name c.new-shelf.result s.lists.0 new ∙ ap (λ (l : KeyedList). lists_of s.lists.0 ++ (c.args.name, l) ∷ []) shelf in
+    (λ j. record { lists = lists j; next_list = s.next_list + 1 })
+    ∙ ap (λ h. keyed_after (keyed_of h) (AddList c.args.name c.args.kind c.args.class xs)) c.self.view_is

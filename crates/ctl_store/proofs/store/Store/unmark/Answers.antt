@@ -1,0 +1,19 @@
+use Rattle.std.proofs.Common.{◌∙◌, ap, ◌+◌, cond, None}
+use Rattle.std.specs.Str.{bytes_eq}
+use Rattle.ctl_store.specs.Named.{at_name}
+use Rattle.ctl_store.specs.Edits.{Unmark}
+use Rattle.ctl_store.specs.Step.{after}
+use Rattle.ctl_store.specs.Keys.{stanza_lists}
+use Rattle.ctl_store.specs.Held.{lists_of, state_of}
+use Rattle.ctl_store.proofs.NamedLemmas.{from_entries-removed}
+use Rattle.ctl_store.proofs.SoundLemmas.{sound_more}
+use Rattle.ctl_store.proofs.store.Store.unmark.Goals as goal
+
+pub invariant_of-self : goal.invariant_of-self
+invariant_of-self c = let s = c.self.inside in sound_more s.lists.0 s.next_list s.statuses s.stanzas s.edits s.limits c.self.invariant
+
+pub returns-clause-state : goal.returns-clause-state
+returns-clause-state c =
+    let s = c.self.inside in
+    (λ j. record { lists = stanza_lists (lists_of s.lists.0); marks = (from_entries-removed c.args.name.now s.marks.0 c.swap_remove.new.self.0 (λ q. c.swap_remove.ensures.found q ∙ ap (λ n. cond (bytes_eq n q) None (at_name q s.marks.0)) c.as_slice.ensures)) j; pins = s.pins.entries; target = s.target; edits = s.edits + 1 })
+    ∙ ap (λ h. after (state_of h) (Unmark c.args.name.now)) c.self.view_is

@@ -1,0 +1,189 @@
+-- A store with its rooms: how much more it takes without memory.
+use Rattle.std.specs.Prelude.{◌≡◌, ℕ, ℤ, ◌+◌, ◌<◌, ◌≤◌, suc, List, [], ◌∷◌, map, length, Option, None, Some, IfSome, nat_eq, if◌then◌else◌}
+use Rattle.std.specs.List.{IsDistinct}
+use Rattle.std.specs.Map.{keys_of as names_of}
+use Rattle.std.specs.FinMap as fin
+use Rattle.ctl_stanza.specs.declared.list_kind.ListKind.{ListKind}
+use Rattle.ctl_stanza.specs.Content.{Content}
+use Rattle.ctl_store.specs.declared.limits.Limits.{Limits}
+use Rattle.ctl_store.specs.declared.list_class.ListClass.{ListClass}
+use Rattle.ctl_store.specs.declared.selector.Selector.{Selector}
+use Rattle.ctl_store.specs.declared.stanza_key.StanzaKey.{StanzaKey}
+use Rattle.ctl_store.specs.Limits.{most}
+use Rattle.ctl_store.specs.Named.{at_name}
+use Rattle.ctl_store.specs.Pins.{selector_eq}
+use Rattle.ctl_store.specs.State.{State, stanza_count, status_count}
+use Rattle.ctl_store.specs.Edits.{Edit, AddList, DropList, Put, Remove, Mark, Unmark, Pin, Unpin, Target, Prefs}
+use Rattle.ctl_store.specs.Step.{refusal_of}
+use Rattle.ctl_store.specs.Rows.{Rises}
+use Rattle.ctl_store.specs.Keys.{KeyedList, Keyed, stanza_lists, removed_of, added_of, AreComing}
+
+-- a list with the room for more of its rows, and in its order
+pub record Sheet : Type 0 where
+  pub serial : ℕ
+  pub kind : ListKind
+  pub class : ListClass
+  pub next : ℕ
+  pub rows : List (ℕ × Content)
+  pub room : ℕ
+  pub order_room : ℕ
+
+pub record Held : Type 0 where
+  pub lists : List (List ℕ × Sheet)
+  pub lists_room : ℕ
+  pub marks : List (List ℕ × Option (List ℕ))
+  pub marks_room : ℕ
+  pub pins : List (Selector × ℤ)
+  pub pins_room : ℕ
+  pub target : Option (List ℕ)
+  pub next_list : ℕ
+  pub edits : ℕ
+  pub limits : Limits
+
+-- ---- without the rooms
+
+abbrev pub keyed_list : Sheet → KeyedList
+keyed_list s = record { serial = s.serial; kind = s.kind; class = s.class; next = s.next; rows = s.rows }
+
+abbrev pub lists_of : List (List ℕ × Sheet) → List (List ℕ × KeyedList)
+lists_of es = map (λ (e : List ℕ × Sheet). (e.0, keyed_list e.1)) es
+
+-- the lists with the serial numbers in them
+abbrev pub keyed_of : Held → Keyed
+keyed_of h = record { lists = lists_of h.lists; next_list = h.next_list }
+
+-- what a store holds
+abbrev pub state_of : Held → State
+state_of h = record { lists = stanza_lists (lists_of h.lists); marks = fin.from_entries h.marks; pins = h.pins; target = h.target; edits = h.edits }
+
+-- the list of a serial, with its name
+abbrev pub entry_of : ℕ → List (List ℕ × Sheet) → Option (List ℕ × Sheet)
+entry_of serial [] = None
+entry_of serial (e ∷ es) = if nat_eq e.1.serial serial then Some e else entry_of serial es
+
+-- ---- what every store keeps
+
+-- The serials of the lists rise from n on and stay below m, those of the stanzas rise within each list, and no list
+-- gave more than e of them.
+abbrev pub InOrder : ℕ → List (List ℕ × KeyedList) → ℕ → ℕ → Type 0
+InOrder n [] m e = n ≤ m
+InOrder n (l ∷ ls) m e = (n ≤ l.1.serial) × (l.1.next ≤ e) × Rises 0 l.1.rows l.1.next × InOrder (suc l.1.serial) ls m e
+
+pub record IsSound (lists : List (List ℕ × Sheet)) (next_list statuses stanzas edits : ℕ) (limits : Limits) : Type 0 where
+  pub order : InOrder 0 (lists_of lists) next_list (limits.stanzas + edits)
+  pub few : next_list ≤ edits
+  pub statuses_counted : statuses ≡ status_count (stanza_lists (lists_of lists))
+  pub counted : stanzas ≡ stanza_count (stanza_lists (lists_of lists))
+  pub within : stanzas ≤ limits.stanzas
+  pub stanzas_bounded : limits.stanzas ≤ most
+  pub edits_bounded : limits.edits ≤ most
+
+-- ---- plans
+
+-- a plan: the edit, the keys that go and come, and what is made ready for the edit
+pub record Planned : Type 0 where
+  pub edit : Edit
+  pub removed : List StanzaKey
+  pub added : List StanzaKey
+  pub rows_room : ℕ
+  pub order_room : ℕ
+  pub pins_room : ℕ
+
+-- what every plan keeps: nothing stands yet in the room that is made ready, and a stanza comes under each key
+pub record IsWhole {R : Type 0} (rows : List R) (order : List ℕ) (pins : List (Selector × ℤ)) (added : List StanzaKey) (edit : Edit) : Type 0 where
+  pub no_rows : rows ≡ []
+  pub no_order : order ≡ []
+  pub no_pins : pins ≡ []
+  pub coming : AreComing added edit
+
+-- what is made ready for an edit, beside the room in the store
+pub record Ready : Type 0 where
+  pub rows_room : ℕ
+  pub order_room : ℕ
+  pub pins_room : ℕ
+
+abbrev pub ready_of : Planned → Ready
+ready_of plan = record { rows_room = plan.rows_room; order_room = plan.order_room; pins_room = plan.pins_room }
+
+-- there is room for one stanza more in a list
+pub record HasRoomInList (s : Sheet) : Type 0 where
+  pub row : 0 < s.room
+  pub order : 0 < s.order_room
+
+-- what is made ready for a new list
+pub record HasRoomForList (h : Held) (stanzas : List Content) (ready : Ready) : Type 0 where
+  pub list : 0 < h.lists_room
+  pub rows : length stanzas ≤ ready.rows_room
+  pub order : length stanzas ≤ ready.order_room
+
+-- no selector stands twice
+abbrev pub AreDistinct : List (Selector × ℤ) → Type 0
+AreDistinct pins = IsDistinct selector_eq (names_of pins)
+
+-- what is made ready for pin settings
+pub record HasRoomForPins (pins : List (Selector × ℤ)) (ready : Ready) : Type 0 where
+  pub room : length pins ≤ ready.pins_room
+  pub distinct : AreDistinct pins
+
+-- there is room for the edit
+abbrev pub HasRoom : Held → Ready → Edit → Type 0
+HasRoom h ready (AddList name kind class stanzas) = HasRoomForList h stanzas ready
+HasRoom h ready (DropList name) = Unit {0}
+HasRoom h ready (Put list x) = IfSome (at_name list h.lists) HasRoomInList
+HasRoom h ready (Remove list name version) = Unit {0}
+HasRoom h ready (Mark name version) = 0 < h.marks_room
+HasRoom h ready (Unmark name) = Unit {0}
+HasRoom h ready (Pin selector priority) = 0 < h.pins_room
+HasRoom h ready (Unpin selector) = Unit {0}
+HasRoom h ready (Target name) = Unit {0}
+HasRoom h ready (Prefs pins) = HasRoomForPins pins ready
+
+-- there is room for the edit in the store
+abbrev pub HasRoomIn : Held → Edit → Type 0
+HasRoomIn h (AddList name kind class stanzas) = 0 < h.lists_room
+HasRoomIn h (DropList name) = Unit {0}
+HasRoomIn h (Put list x) = IfSome (at_name list h.lists) HasRoomInList
+HasRoomIn h (Remove list name version) = Unit {0}
+HasRoomIn h (Mark name version) = 0 < h.marks_room
+HasRoomIn h (Unmark name) = Unit {0}
+HasRoomIn h (Pin selector priority) = 0 < h.pins_room
+HasRoomIn h (Unpin selector) = Unit {0}
+HasRoomIn h (Target name) = Unit {0}
+HasRoomIn h (Prefs pins) = Unit {0}
+
+-- what is made ready for a new list, and for pin settings
+pub record IsReadyForList (stanzas : List Content) (ready : Ready) : Type 0 where
+  pub rows : length stanzas ≤ ready.rows_room
+  pub order : length stanzas ≤ ready.order_room
+
+abbrev pub IsReadyFor : Edit → Ready → Type 0
+IsReadyFor (AddList name kind class stanzas) ready = IsReadyForList stanzas ready
+IsReadyFor (DropList name) ready = Unit {0}
+IsReadyFor (Put list x) ready = Unit {0}
+IsReadyFor (Remove list name version) ready = Unit {0}
+IsReadyFor (Mark name version) ready = Unit {0}
+IsReadyFor (Unmark name) ready = Unit {0}
+IsReadyFor (Pin selector priority) ready = Unit {0}
+IsReadyFor (Unpin selector) ready = Unit {0}
+IsReadyFor (Target name) ready = Unit {0}
+IsReadyFor (Prefs pins) ready = length pins ≤ ready.pins_room
+
+-- an edit in which no selector stands twice
+abbrev pub IsProper : Edit → Type 0
+IsProper (AddList name kind class stanzas) = Unit {0}
+IsProper (DropList name) = Unit {0}
+IsProper (Put list x) = Unit {0}
+IsProper (Remove list name version) = Unit {0}
+IsProper (Mark name version) = Unit {0}
+IsProper (Unmark name) = Unit {0}
+IsProper (Pin selector priority) = Unit {0}
+IsProper (Unpin selector) = Unit {0}
+IsProper (Target name) = Unit {0}
+IsProper (Prefs pins) = AreDistinct pins
+
+-- a plan whose edit is accepted, for which there is room, and whose keys are those that go and come
+pub record IsReady (h : Held) (plan : Planned) : Type 0 where
+  pub accepted : refusal_of h.limits (state_of h) plan.edit ≡ None
+  pub room : HasRoom h (ready_of plan) plan.edit
+  pub removed : plan.removed ≡ removed_of (keyed_of h) plan.edit
+  pub added : plan.added ≡ added_of (keyed_of h) plan.edit

@@ -1,0 +1,171 @@
+-- Preferences, and the pin settings that they make (apt_preferences(5)).
+use Rattle.std.specs.Prelude.{ℕ, ℤ, ◌==◌, ◌&&◌, ◌||◌, not, nat_eq, Bool, false, List, [], ◌∷◌, ◌++◌, map, drop, length, codes, Option, Some, None, is_some, Result, Ok, unwrap_or, if◌then◌else◌}
+use Rattle.std.specs.Str.{bytes_eq}
+use Rattle.std.specs.List.{list_all, starts_with}
+use Rattle.std.specs.Map.{lookup}
+use Rattle.ctl_relation.specs.FieldBytes.{is_whitespace}
+use Rattle.ctl_relation.specs.Names.{is_name}
+use Rattle.ctl_stanza.specs.declared.fault.TextFault.{TextFault}
+use Rattle.ctl_stanza.specs.declared.fault.Cause.{Cause}
+use Rattle.ctl_stanza.specs.declared.fault.Cause.TheVariants as causes
+use Rattle.ctl_stanza.specs.Lines.{onto_first}
+use Rattle.ctl_stanza.specs.Fields.{is_same_name, package_name}
+use Rattle.ctl_stanza.specs.Faults.{fault_or, or_else, is_empty_body}
+use Rattle.ctl_stanza.specs.Text.{or_fault}
+use Rattle.ctl_stanza.specs.Records.{RecordText, parts_of_fields, records_before_fault}
+use Rattle.ctl_store.specs.declared.selector.Selector.{Selector}
+use Rattle.ctl_store.specs.declared.selector.Selector.TheVariants.{Version, Release}
+use Rattle.ctl_store.specs.Pins.{selector_eq}
+use Rattle.ctl_store.specs.PinVersions.{is_pin_version}
+use Rattle.ctl_store.specs.Priority.{priority_of}
+
+-- ---- words
+
+abbrev pub is_word_byte : ℕ → Bool
+is_word_byte b = not (is_whitespace b)
+
+-- A byte that is no whitespace, before the words of the text behind it. It belongs to the first of them where that
+-- follows at once.
+abbrev pub onto_word : ℕ → List ℕ → List (List ℕ) → List (List ℕ)
+onto_word b [] words = (b ∷ []) ∷ words
+onto_word b (c ∷ text) words = if is_whitespace c then (b ∷ []) ∷ words else onto_first b words
+
+-- the words of a body, which spaces, tabs and newlines part
+abbrev pub words_of : List ℕ → List (List ℕ)
+words_of [] = []
+words_of (b ∷ text) = if is_whitespace b then words_of text else onto_word b text (words_of text)
+
+-- ---- fields
+
+abbrev pub pin_name : List ℕ
+pin_name = codes "Pin"
+
+abbrev pub priority_name : List ℕ
+priority_name = codes "Pin-Priority"
+
+-- The body of the first field of a name. A field has a name, a body and the number of its line.
+abbrev pub body_in : List ℕ → List (List ℕ × List ℕ × ℕ) → Option (List ℕ)
+body_in name [] = None
+body_in name (field ∷ fields) = if is_same_name field.0 name then Some field.1 else body_in name fields
+
+-- ---- what a record is for
+
+-- a record is for any package where its packages are one `*` alone
+abbrev pub is_general : List (List ℕ) → Bool
+is_general [] = false
+is_general (word ∷ []) = bytes_eq word (codes "*")
+is_general (word ∷ other ∷ words) = false
+
+abbrev pub are_names : List (List ℕ) → Bool
+are_names words = not (length words == 0) && list_all is_name words
+
+-- what stands behind `version`, where a pin is these two words
+abbrev pub version_asked : List (List ℕ) → Option (List ℕ)
+version_asked [] = None
+version_asked (form ∷ []) = None
+version_asked (form ∷ version ∷ []) = if bytes_eq form (codes "version") then Some version else None
+version_asked (form ∷ version ∷ other ∷ words) = None
+
+-- what stands behind `release a=`, where a pin is these two words
+abbrev pub list_asked : List (List ℕ) → Option (List ℕ)
+list_asked [] = None
+list_asked (form ∷ []) = None
+list_asked (form ∷ release ∷ []) =
+    if bytes_eq form (codes "release") && starts_with nat_eq release (codes "a=") then Some (drop 2 release) else None
+list_asked (form ∷ release ∷ other ∷ words) = None
+
+-- ---- faults of a record without a faulty line
+
+abbrev pub package_cause : List (List ℕ) → Option Cause
+package_cause words = if is_general words || are_names words then None else Some causes.Name
+
+-- what is wrong with a pin, by whether its record is for any package, and the version or the list that it asks for
+abbrev pub asked_cause : Bool → Option (List ℕ) → Option (List ℕ) → Option Cause
+asked_cause general (Some version) list = if is_pin_version version then (if general then Some causes.Form else None) else Some causes.Version
+asked_cause general None (Some list) = if is_name list then None else Some causes.Name
+asked_cause general None None = Some causes.Form
+
+abbrev pub pin_cause : Bool → List (List ℕ) → Option Cause
+pin_cause general words = asked_cause general (version_asked words) (list_asked words)
+
+abbrev pub priority_cause : List ℕ → Option Cause
+priority_cause body = if is_some (priority_of body) then None else Some causes.Priority
+
+-- what is wrong with a field of this name and body
+abbrev pub field_cause : Bool → List ℕ → List ℕ → Option Cause
+field_cause general name body =
+    if is_same_name name pin_name then pin_cause general (words_of body)
+    else (if is_same_name name package_name then package_cause (words_of body)
+    else (if is_same_name name priority_name then priority_cause body else None))
+
+-- the first field that is wrong
+abbrev pub first_wrong : Bool → List (List ℕ × List ℕ × ℕ) → Option TextFault
+first_wrong general [] = None
+first_wrong general (field ∷ fields) = fault_or field.2 (field_cause general field.0 field.1) (first_wrong general fields)
+
+-- whether a field that a record has to have is absent or empty
+abbrev pub is_missing : List (List ℕ × List ℕ × ℕ) → Bool
+is_missing fields =
+    is_empty_body (body_in package_name fields)
+    || (is_empty_body (body_in pin_name fields) || is_empty_body (body_in priority_name fields))
+
+-- the words of the field of a name, none where it is absent
+abbrev pub words_in : List ℕ → List (List ℕ × List ℕ × ℕ) → List (List ℕ)
+words_in name fields = words_of (unwrap_or (body_in name fields) [])
+
+-- What is missing is told at the first line, before all else that is wrong.
+abbrev pub own_fault : RecordText → Option TextFault
+own_fault text =
+    let fields = parts_of_fields text in
+    if is_missing fields then Some (record { line = text.first_line; cause = causes.Missing })
+    else first_wrong (is_general (words_in package_name fields)) fields
+
+-- the fault of the first record that has one
+abbrev pub first_own_fault : List RecordText → Option TextFault
+first_own_fault [] = None
+first_own_fault (text ∷ texts) = or_else (own_fault text) (first_own_fault texts)
+
+-- ---- settings
+
+-- the selectors of a record, by the words of its packages, and the version or the list that it asks for
+abbrev pub selectors_of : List (List ℕ) → Option (List ℕ) → Option (List ℕ) → List Selector
+selectors_of names (Some version) list = map (λ (name : List ℕ). Version name version) names
+selectors_of names None (Some list) =
+    if is_general names then Release None list ∷ []
+    else map (λ (name : List ℕ). Release (Some name) list) names
+selectors_of names None None = []
+
+abbrev pub with_priority : Option ℤ → List Selector → List (Selector × ℤ)
+with_priority None selectors = []
+with_priority (Some priority) selectors = map (λ (selector : Selector). (selector, priority)) selectors
+
+-- the settings of a record: one for each of its packages in order, or one for any package
+abbrev pub record_settings : RecordText → List (Selector × ℤ)
+record_settings text =
+    let fields = parts_of_fields text in
+    let pin = words_in pin_name fields in
+    with_priority (priority_of (unwrap_or (body_in priority_name fields) []))
+    (selectors_of (words_in package_name fields) (version_asked pin) (list_asked pin))
+
+abbrev pub all_settings : List RecordText → List (Selector × ℤ)
+all_settings [] = []
+all_settings (text ∷ texts) = record_settings text ++ all_settings texts
+
+-- one setting more, unless its selector stands before
+abbrev pub keep_first : List (Selector × ℤ) → Selector × ℤ → List (Selector × ℤ)
+keep_first kept one = if is_some (lookup (selector_eq one.0) kept) then kept else kept ++ one ∷ []
+
+-- these settings and those that follow, without those whose selector stands before
+abbrev pub first_settings : List (Selector × ℤ) → List (Selector × ℤ) → List (Selector × ℤ)
+first_settings kept [] = kept
+first_settings kept (one ∷ others) = first_settings (keep_first kept one) others
+
+-- ---- the text
+
+-- the settings of records, or the first fault: of one of them, or else the one behind them
+abbrev pub settings_or_fault : List RecordText × Option TextFault → Result (List (Selector × ℤ)) TextFault
+settings_or_fault read = or_fault (or_else (first_own_fault read.0) read.1) (Ok (first_settings [] (all_settings read.0)))
+
+-- What a text of preferences is read to, where its lines count from n. Of two settings of one selector the first counts.
+abbrev pub read_prefs_text : ℕ → List ℕ → Result (List (Selector × ℤ)) TextFault
+read_prefs_text n text = settings_or_fault (records_before_fault n text)

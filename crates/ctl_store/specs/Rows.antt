@@ -1,0 +1,121 @@
+-- The stanzas of a list under their serial numbers, and the order by which one is found.
+use Rattle.std.specs.Prelude.{◌≡◌, ℕ, zero, suc, ◌+◌, ◌≤◌, Bool, List, [], ◌∷◌, ◌++◌, map, Option, None, Some, option_map, nat_eq, slice_get, if◌then◌else◌}
+use Rattle.std.specs.Option.{option_map_or, option_cmp}
+use Rattle.std.specs.List.{remove}
+use Rattle.std.specs.Map.{lookup}
+use Rattle.std.specs.Ordering.{nat_cmp, ordering_then, is_gt, is_lt}
+use Rattle.std.specs.Cmp.Lexicographic.{slice_cmp}
+use Rattle.std.specs.declared.cmp.Ordering.{Ordering}
+use Rattle.std.specs.declared.cmp.Ordering.TheVariants.{Less}
+use Rattle.ctl_relation.specs.Version.{Triple, triple_of, triple_cmp}
+use Rattle.ctl_stanza.specs.Content.{Content, package_of, version_of}
+use Rattle.ctl_store.specs.Step.{place, is_same}
+
+-- ---- rows in the order of their serials
+
+abbrev pub has_serial : {V : Type 0} → ℕ → ℕ × V → Bool
+has_serial serial row = nat_eq row.0 serial
+
+-- the serials rise from n on, and stay below m
+abbrev pub Rises : {V : Type 0} → ℕ → List (ℕ × V) → ℕ → Type 0
+Rises n [] m = n ≤ m
+Rises n (row ∷ rows) m = (n ≤ row.0) × Rises (suc row.0) rows m
+
+-- rows under the serials from n on
+abbrev pub rows_from : {V : Type 0} → ℕ → List V → List (ℕ × V)
+rows_from n [] = []
+rows_from n (x ∷ xs) = (n, x) ∷ rows_from (suc n) xs
+
+abbrev pub by_name_and_version : List ℕ → Option (List ℕ) → ℕ × Content → Bool
+by_name_and_version name version row = is_same name version row.1
+
+-- the row at a place takes another stanza
+abbrev pub replace_at : {V : Type 0} → List (ℕ × V) → ℕ → V → List (ℕ × V)
+replace_at [] i x = []
+replace_at (row ∷ rows) zero x = (row.0, x) ∷ rows
+replace_at (row ∷ rows) (suc i) x = row ∷ replace_at rows i x
+
+abbrev pub put_row_at : Option ℕ → Content → ℕ → List (ℕ × Content) → List (ℕ × Content)
+put_row_at None x next rows = rows ++ (next, x) ∷ []
+put_row_at (Some i) x next rows = replace_at rows i x
+
+-- in the place of the first of its name and version, else last
+abbrev pub put_row : Content → ℕ → List (ℕ × Content) → List (ℕ × Content)
+put_row x next rows = put_row_at (place (by_name_and_version (package_of x) (version_of x)) rows) x next rows
+
+abbrev pub next_at : Option ℕ → ℕ → ℕ
+next_at None next = next + 1
+next_at (Some i) next = next
+
+abbrev pub next_after_put : Content → ℕ → List (ℕ × Content) → ℕ
+next_after_put x next rows = next_at (place (by_name_and_version (package_of x) (version_of x)) rows) next
+
+abbrev pub remove_row_at : {V : Type 0} → Option ℕ → List (ℕ × V) → List (ℕ × V)
+remove_row_at None rows = rows
+remove_row_at (Some i) rows = remove rows i
+
+-- without the first of this name and version
+abbrev pub remove_row : List ℕ → Option (List ℕ) → List (ℕ × Content) → List (ℕ × Content)
+remove_row name version rows = remove_row_at (place (by_name_and_version name version) rows) rows
+
+-- ---- the order of names and versions
+
+-- What a stanza is found by. Equal versions have one triple.
+pub record Id : Type 0 where
+  pub name : List ℕ
+  pub version : Option Triple
+
+abbrev pub version_id : Option (List ℕ) → Option Triple
+version_id version = option_map triple_of version
+
+abbrev pub id : List ℕ → Option (List ℕ) → Id
+id name version = record { name = name; version = version_id version }
+
+abbrev pub id_of : Content → Id
+id_of content = id (package_of content) (version_of content)
+
+-- no version stands before each version
+abbrev pub version_order : Option Triple → Option Triple → Ordering
+version_order a b = option_cmp triple_cmp a b
+
+abbrev pub id_cmp : Id → Id → Ordering
+id_cmp a b = ordering_then (slice_cmp nat_cmp a.name b.name) (version_order a.version b.version)
+
+abbrev pub ids_of : List (ℕ × Content) → List (ℕ × Id)
+ids_of rows = map (λ (row : ℕ × Content). (row.0, id_of row.1)) rows
+
+-- before the first that isn't smaller
+abbrev pub insert_id : ℕ × Id → List (ℕ × Id) → List (ℕ × Id)
+insert_id x [] = x ∷ []
+insert_id x (y ∷ ys) = if is_gt (id_cmp x.1 y.1) then y ∷ insert_id x ys else x ∷ y ∷ ys
+
+-- in the order of names and versions, and of serials where these are equal
+abbrev pub sorted_ids : List (ℕ × Id) → List (ℕ × Id)
+sorted_ids [] = []
+sorted_ids (x ∷ xs) = insert_id x (sorted_ids xs)
+
+-- the serials of rows in that order
+abbrev pub sorted_serials : List (ℕ × Content) → List ℕ
+sorted_serials rows = map (λ (x : ℕ × Id). x.0) (sorted_ids (ids_of rows))
+
+-- how many stand before the first that isn't smaller
+abbrev pub lower : Id → List (ℕ × Id) → ℕ
+lower wanted [] = 0
+lower wanted (x ∷ xs) = if is_lt (id_cmp x.1 wanted) then suc (lower wanted xs) else 0
+
+-- what the row at a place is found by
+abbrev pub id_at : List (ℕ × Content) → ℕ → Option Id
+id_at rows k = option_map (λ (row : ℕ × Content). id_of row.1) (slice_get rows k)
+
+-- how the rows at two places stand, by names and versions and then by the places
+abbrev pub place_cmp : List (ℕ × Content) → ℕ → ℕ → Ordering
+place_cmp rows i j = ordering_then (option_cmp id_cmp (id_at rows i) (id_at rows j)) (nat_cmp i j)
+
+-- The serials rise, and the order has each of them.
+pub record IsKept (rows : List (ℕ × Content)) (next : ℕ) (order : List ℕ) : Type 0 where
+  pub rises : Rises 0 rows next
+  pub ordered : order ≡ sorted_serials rows
+
+-- how the row of a serial stands to a name and a version
+abbrev pub order_at : List (ℕ × Content) → Id → ℕ → Ordering
+order_at rows wanted serial = option_map_or (λ (x : Content). id_cmp (id_of x) wanted) (lookup (λ k. nat_eq k serial) rows) Less

@@ -1,0 +1,31 @@
+//! The store: lists of stanzas, marks, pin settings and a target release, changed by one edit at a time.
+#![tactic(auto)]
+
+mod edit;
+mod limits;
+mod list_class;
+mod order;
+mod pin_version;
+mod plan;
+mod prefs;
+mod priority;
+mod refusal;
+mod rows;
+mod selector;
+mod shelf;
+mod stanza_key;
+mod store;
+mod table;
+mod words;
+
+pub use edit::{Edit, boxed};
+pub use limits::{Counts, Limits};
+pub use list_class::ListClass;
+pub use pin_version::PinVersion;
+pub use plan::Plan;
+pub use prefs::read_prefs;
+pub use priority::read_priority;
+pub use refusal::Refusal;
+pub use selector::{PinSetting, Selector};
+pub use stanza_key::StanzaKey;
+pub use store::{Lists, Pins, Stanzas, Store};

@@ -1,0 +1,90 @@
+//! Plans: edits that were accepted, with all that they need.
+
+ghost use Rattle.std.specs.Prelude.{◌≡◌, Some, IsSome};
+ghost use Rattle.ctl_store.specs.Edits.{edit_of};
+ghost use Rattle.ctl_store.specs.Keys.{coming, AreComing};
+
+use crate::edit::Edit;
+use crate::rows::Row;
+use crate::selector::Selector;
+use crate::stanza_key::StanzaKey;
+use ctl_stanza::Stanza;
+use indexmap::IndexMap;
+use std::marker::Model;
+
+/// An edit that a store accepts, with the keys that go and come, and with the memory that it takes.
+#[derive(Drop)]
+pub struct Plan {
+    pub(crate) edit: Edit,
+    pub(crate) removed: Vec<StanzaKey>,
+    pub(crate) added: Vec<StanzaKey>,
+    pub(crate) rows: Vec<Row>,
+    pub(crate) order: Vec<u64>,
+    pub(crate) pins: IndexMap<Selector, i16>,
+}
+
+impl Model for Plan {
+    ghost use Rattle.std.specs.Prelude.{◌≡◌, []};
+    ghost use Rattle.std.specs.Vec.{vec_capacity};
+    ghost use Rattle.indexmap.specs.IndexMap.{spare};
+    ghost use Rattle.ctl_store.specs.Edits.{edit_of};
+    ghost use Rattle.ctl_store.specs.Held.{Planned, IsWhole};
+
+    ghost Value = { Planned };
+
+    ghost view = { λ p. record { edit = edit_of p.edit; removed = p.removed.items; added = p.added.items; rows_room = vec_capacity p.rows; order_room = vec_capacity p.order; pins_room = spare p.pins } };
+
+    ghost invariant = { λ p. IsWhole p.rows.items p.order.items p.pins.entries p.added.items (edit_of p.edit) };
+}
+
+impl Plan {
+    /// The keys that go. That of a stanza that is replaced is among them.
+    pub fn removed(&self) -> &[StanzaKey]
+        ensures { result.now ≡ self.now.removed }
+    {
+        &self.removed
+    }
+
+    /// The keys that come. That of a stanza that replaces another is among them. Under each comes the stanza that
+    /// [`stanza`](Plan::stanza) gives.
+    pub fn added(&self) -> &[StanzaKey]
+        ensures keys { result.now ≡ self.now.added }
+        ensures coming { AreComing result.now self.now.edit }
+    {
+        &self.added
+    }
+
+    /// The edit.
+    pub fn edit(&self) -> &Edit
+        ensures { edit_of result.now ≡ self.now.edit }
+    {
+        &self.edit
+    }
+
+    /// The stanza that comes under a key, which is one of those that come.
+    pub fn stanza(&self, key: StanzaKey) -> &Stanza
+        requires { IsSome (coming self.now.edit key) }
+        ensures { Some result.now ≡ coming self.now.edit key }
+    {
+        stanza_of(&self.edit, key)
+    }
+}
+
+fn stanza_of(edit: &Edit, key: StanzaKey) -> &Stanza
+    requires { IsSome (coming (edit_of edit.now) key) }
+    ensures { Some result.now ≡ coming (edit_of edit.now) key }
+{
+    match edit {
+        Edit::AddList {
+            name: _,
+            kind: _,
+            class: _,
+            stanzas,
+        } => match stanzas.get(key.stanza as usize) {
+            Some(stanza) => stanza,
+            None => unreachable!(),
+        },
+        Edit::Put { list: _, stanza } => stanza,
+        _ => unreachable!(),
+    }
+}

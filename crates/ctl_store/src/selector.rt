@@ -1,0 +1,107 @@
+//! Pin settings and their selectors.
+
+ghost use Rattle.std.specs.Prelude.{◌≡◌};
+ghost use Rattle.ctl_store.specs.Pins.{package_eq};
+
+use crate::pin_version::PinVersion;
+use ctl_relation::Bytes;
+use std::hash::{Hash, Hasher};
+
+/// What a pin setting is for (apt_preferences(5)). A release pin names a list: a list's name is its archive, which apt
+/// writes `a=NAME`.
+#[derive(Drop)]
+pub enum Selector {
+    /// The versions of a package that the pin's version matches.
+    Version { package: Bytes, version: PinVersion },
+    /// The versions of a package, or where there is none of any package, that the list holds.
+    Release { package: Option<Bytes>, list: Bytes },
+}
+
+/// A pin setting: a selector and its priority, which is not 0.
+#[derive(Drop)]
+pub struct PinSetting {
+    pub selector: Selector,
+    pub priority: i16,
+}
+
+fn is_same_package(one: &Option<Bytes>, other: &Option<Bytes>) -> bool
+    ensures { result ≡ package_eq one.now other.now }
+{
+    match (one, other) {
+        (Some(one), Some(other)) => one.as_slice() == other.as_slice(),
+        (None, None) => true,
+        _ => false,
+    }
+}
+
+impl PartialEq for Selector {
+    ghost use Rattle.std.specs.Cmp.{partial_equiv_from_equiv};
+    ghost use Rattle.ctl_store.specs.Pins.{selector_eq};
+    ghost use Rattle.ctl_store.specs.SelectorLaws.{selector_equiv};
+
+    ghost eq = { selector_eq };
+
+    ghost laws = { partial_equiv_from_equiv selector_equiv };
+
+    fn eq(&self, other: &Selector) -> bool {
+        match (self, other) {
+            (
+                Selector::Version {
+                    package: a,
+                    version: v,
+                },
+                Selector::Version {
+                    package: b,
+                    version: w,
+                },
+            ) => { a.as_slice() == b.as_slice() && v == w }
+            (
+                Selector::Release {
+                    package: a,
+                    list: k,
+                },
+                Selector::Release {
+                    package: b,
+                    list: l,
+                },
+            ) => { is_same_package(a, b) && k.as_slice() == l.as_slice() }
+            _ => false,
+        }
+    }
+}
+
+impl Eq for Selector {
+    ghost use Rattle.ctl_store.specs.SelectorLaws.{selector_equiv};
+
+    ghost laws = { selector_equiv };
+}
+
+impl Hash for Selector {
+    ghost use Rattle.ctl_store.specs.SelectorLaws.{selector_hash, same_hash};
+
+    ghost hash_input = { selector_hash };
+
+    ghost respects_eq = { same_hash };
+
+    fn hash<H: Hasher>(&self, state: &mut H) {
+        match self {
+            Selector::Version { package, version } => {
+                package.as_slice().hash(state);
+                version.text().hash(state);
+            }
+            Selector::Release {
+                package: None,
+                list,
+            } => {
+                list.as_slice().hash(state);
+            }
+            Selector::Release {
+                package: Some(package),
+                list,
+            } => {
+                package.as_slice().hash(state);
+                list.as_slice().hash(state);
+            }
+        }
+    }
+}

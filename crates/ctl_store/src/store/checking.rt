@@ -1,0 +1,172 @@
+//! Why an edit is refused.
+
+ghost use Rattle.std.specs.Prelude.{◌≡◌, None, Some, MatchResult, option_copied, is_some, length};
+ghost use Rattle.std.specs.FinMap as fin;
+ghost use Rattle.std.specs.Option.{option_map_or};
+ghost use Rattle.std.specs.Map.{lookup};
+ghost use Rattle.ctl_store.specs.Named.{at_name, has_name};
+ghost use Rattle.ctl_store.specs.State.{count_of_kind};
+ghost use Rattle.ctl_store.specs.Pins.{selector_eq};
+ghost use Rattle.ctl_store.specs.Edits.{edit_of};
+ghost use Rattle.ctl_store.specs.Step.{count_in, count_coming, has_status, has_stanza, misfit_of, is_past, after, refusal_of};
+ghost use Rattle.ctl_store.specs.Held.{state_of};
+
+use crate::edit::Edit;
+use crate::refusal::Refusal;
+use crate::selector::Selector;
+use crate::store::Store;
+use ctl_relation::Version;
+use ctl_stanza::ListKind;
+
+/// 1 for a status list, else 0.
+pub(super) fn one_if_status(kind: ListKind) -> u32
+    ensures { result ≡ count_of_kind kind }
+{
+    match kind {
+        ListKind::Packages => 0,
+        ListKind::Status => 1,
+    }
+}
+
+impl Store {
+    #[tactic(auto, using(crate::proofs::ListedLemmas::has_name_held))]
+    pub(super) fn has_list(&self, name: &[u8]) -> bool
+        ensures { result ≡ has_name name.now (state_of self.now).lists }
+    {
+        self.lists.get(name).is_some()
+    }
+
+    fn has_status(&self) -> bool
+        ensures { result ≡ has_status (state_of self.now).lists }
+    {
+        self.statuses > 0
+    }
+
+    // 1 for a status list that is there, else 0.
+    #[tactic(auto, using(crate::proofs::ListedLemmas::at_name_held))]
+    pub(super) fn count_of_kind(&self, list: &[u8]) -> u32
+        ensures { result ≡ option_map_or (λ l. count_of_kind l.kind) (at_name list.now (state_of self.now).lists) 0 }
+    {
+        match self.lists.get(list) {
+            Some(shelf) => one_if_status(shelf.kind()),
+            None => 0,
+        }
+    }
+
+    // How many stanzas a list holds.
+    #[tactic(auto, using(crate::proofs::ListedLemmas::count_held))]
+    pub(super) fn count_in(&self, list: &[u8]) -> usize
+        ensures { result ≡ count_in list.now (state_of self.now).lists }
+    {
+        match self.lists.get(list) {
+            Some(shelf) => shelf.rows().len(),
+            None => 0,
+        }
+    }
+
+    #[tactic(auto, using(crate::proofs::ListedLemmas::has_stanza_held))]
+    pub(super) fn has_stanza(&self, list: &[u8], name: &[u8], version: Option<&Version>) -> bool
+        ensures { result ≡ has_stanza list.now name.now (option_copied version.entry) (state_of self.now).lists }
+    {
+        match self.lists.get(list) {
+            Some(shelf) => shelf.find(name, version).is_some(),
+            None => false,
+        }
+    }
+
+    #[tactic(auto, using(crate::proofs::NamedLemmas::get_at_name))]
+    fn has_mark(&self, name: &[u8]) -> bool
+        ensures { result ≡ is_some (fin.get (state_of self.now).marks name.now) }
+    {
+        self.marks.get(name).is_some()
+    }
+
+    fn has_pin(&self, selector: &Selector) -> bool
+        ensures { result ≡ is_some (lookup (selector_eq selector.now) (state_of self.now).pins) }
+    {
+        self.pins.get(selector).is_some()
+    }
+
+    // Why an edit does not fit what the store holds, the limits aside.
+    fn misfit(&self, edit: &Edit) -> Option<Refusal>
+        ensures { result ≡ misfit_of (state_of self.now) (edit_of edit.now) }
+    {
+        match edit {
+            Edit::AddList {
+                name,
+                kind: _,
+                class: _,
+                stanzas: _,
+            } if self.has_list(name.as_slice()) => Some(Refusal::ListExists),
+            Edit::AddList {
+                name: _,
+                kind: ListKind::Status,
+                class: _,
+                stanzas: _,
+            } if self.has_status() => Some(Refusal::StatusExists),
+            Edit::DropList { name } if !self.has_list(name.as_slice()) => Some(Refusal::NoList),
+            Edit::Put { list, stanza: _ } if !self.has_list(list.as_slice()) => {
+                Some(Refusal::NoList)
+            }
+            Edit::Remove {
+                list,
+                package: _,
+                version: _,
+            } if !self.has_list(list.as_slice()) => Some(Refusal::NoList),
+            Edit::Remove {
+                list,
+                package,
+                version,
+            } if !self.has_stanza(list.as_slice(), package.as_slice(), Some(version)) => {
+                Some(Refusal::NoStanza)
+            }
+            Edit::Unmark { package } if !self.has_mark(package.as_slice()) => Some(Refusal::NoMark),
+            Edit::Unpin { selector } if !self.has_pin(selector) => Some(Refusal::NoPin),
+            _ => None,
+        }
+    }
+
+    // How many stanzas an edit brings.
+    fn coming(&self, edit: &Edit) -> usize
+        ensures { result ≡ count_coming (state_of self.now) (edit_of edit.now) }
+    {
+        match edit {
+            Edit::AddList {
+                name: _,
+                kind: _,
+                class: _,
+                stanzas,
+            } => stanzas.len(),
+            Edit::Put { list, stanza } => {
+                if self.has_stanza(list.as_slice(), stanza.package(), stanza.version()) {
+                    0
+                } else {
+                    1
+                }
+            }
+            _ => 0,
+        }
+    }
+
+    // Whether the state after an edit would pass a limit.
+    fn is_past(&self, edit: &Edit) -> bool
+        requires { misfit_of (state_of self.now) (edit_of edit.now) ≡ None }
+        ensures { result ≡ is_past self.now.limits (after (state_of self.now) (edit_of edit.now)) }
+    {
+        self.coming(edit) > (self.limits.stanzas - self.stanzas) as usize
+            || self.edits >= self.limits.edits
+    }
+
+    /// Whether an edit would be refused, and why: 11 to 14, 16, 17 and 21 by [`Refusal::number`]. It takes no memory.
+    pub fn check(&self, edit: &Edit) -> Result<(), Refusal>
+        ensures { MatchResult result (λ _. refusal_of self.now.limits (state_of self.now) (edit_of edit.now) ≡ None) (λ e. refusal_of self.now.limits (state_of self.now) (edit_of edit.now) ≡ Some e) }
+    {
+        if let Some(why) = self.misfit(edit) {
+            return Err(why);
+        }
+        if self.is_past(edit) {
+            return Err(Refusal::Full);
+        }
+        Ok(())
+    }
+}

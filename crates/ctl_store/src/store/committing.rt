@@ -1,0 +1,258 @@
+//! Plans are carried out.
+
+ghost use Rattle.std.specs.Prelude.{◌≡◌, ◌+◌, ◌<◌, ◌≤◌, ◌∷◌, ◌++◌, ℕ, [], None, Some, IfSome, length, map, vec_len, if◌then◌else◌};
+ghost use Rattle.std.specs.Vec.{vec_capacity};
+ghost use Rattle.ctl_store.specs.Named.{at_name};
+ghost use Rattle.ctl_store.specs.Pins.{selector_eq};
+ghost use Rattle.ctl_store.specs.Edits.{edit_of, settings_of};
+ghost use Rattle.ctl_store.specs.Edits as edits;
+ghost use Rattle.ctl_store.specs.Step.{after, refusal_of};
+ghost use Rattle.ctl_store.specs.Keys.{keyed_after, IsNotAmong, stanza_at};
+ghost use Rattle.ctl_store.specs.Held.{state_of, keyed_of, lists_of, IsReady, HasRoom, HasRoomInList, AreDistinct};
+ghost use Rattle.ctl_store.specs.declared.stanza_key.StanzaKey.{StanzaKey};
+ghost use Rattle.indexmap.specs.IndexMap.{insert_entry, spare};
+
+use crate::edit::Edit;
+use crate::list_class::ListClass;
+use crate::plan::Plan;
+use crate::rows::Row;
+use crate::selector::{PinSetting, Selector};
+use crate::shelf::Shelf;
+use crate::store::Store;
+use crate::store::checking::one_if_status;
+use ctl_relation::{Bytes, Version};
+use ctl_stanza::{ListKind, Stanza};
+use indexmap::IndexMap;
+
+fn one_unless(is_there: bool) -> u32
+    ensures { result ≡ (if is_there then 0 else 1) }
+{
+    if is_there { 0 } else { 1 }
+}
+
+// Sets a pin, for which there is room.
+fn set_pin(pins: &mut IndexMap<Selector, i16>, setting: PinSetting)
+    requires { 0 < spare pins.old }
+    ensures entries { pins.new.entries ≡ insert_entry selector_eq pins.old.entries setting.selector setting.priority }
+    ensures room { spare pins.old ≤ spare pins.new + 1 }
+{
+    let PinSetting { selector, priority } = setting;
+    match pins.insert(selector, priority) {
+        Ok(_) => {}
+        Err(_) => unreachable!(),
+    }
+}
+
+// Sets each of these pins, for which there is room.
+fn set_pins(pins: &mut IndexMap<Selector, i16>, settings: Vec<PinSetting>)
+    requires empty { pins.old.entries ≡ [] }
+    requires room { length (settings_of settings.items) ≤ spare pins.old }
+    requires distinct { AreDistinct (settings_of settings.items) }
+    ensures { pins.new.entries ≡ settings_of settings.items }
+{
+    for setting in settings {
+        set_pin(pins, setting);
+    }
+}
+
+impl Store {
+    /// Makes the edit of a plan, which this store accepts and has room for: that of the last call of
+    /// [`prepare`](Store::prepare) is one, while nothing was committed since. It takes no memory.
+    pub fn commit(&mut self, plan: Plan)
+        requires { IsReady self.old plan }
+        ensures state { state_of self.new ≡ after (state_of self.old) plan.edit }
+        ensures keyed { keyed_of self.new ≡ keyed_after (keyed_of self.old) plan.edit }
+        ensures limits { self.new.limits ≡ self.old.limits }
+
+        // A key that neither goes nor comes keeps its stanza.
+        ensures stays { (k : StanzaKey) → IsNotAmong k plan.removed → IsNotAmong k plan.added → stanza_at k (keyed_of self.new).lists ≡ stanza_at k (keyed_of self.old).lists }
+    {
+        let Plan {
+            edit,
+            removed: _removed,
+            added: _added,
+            rows,
+            order,
+            pins,
+        } = plan;
+        self.make(edit, rows, order, pins);
+    }
+
+    // Makes an edit, for which this is ready: room for rows, the order of stanzas, and room for pins.
+    fn make(&mut self, edit: Edit, rows: Vec<Row>, order: Vec<u64>, pins: IndexMap<Selector, i16>)
+        requires accepted { refusal_of self.old.limits (state_of self.old) (edit_of edit) ≡ None }
+        requires room { HasRoom self.old (record { rows_room = vec_capacity rows; order_room = vec_capacity order; pins_room = spare pins }) (edit_of edit) }
+        requires rows { rows.items ≡ [] }
+        requires order { order.items ≡ [] }
+        requires pins { pins.entries ≡ [] }
+        ensures state { state_of self.new ≡ after (state_of self.old) (edit_of edit) }
+        ensures keyed { keyed_of self.new ≡ keyed_after (keyed_of self.old) (edit_of edit) }
+        ensures limits { self.new.limits ≡ self.old.limits }
+    {
+        match edit {
+            Edit::AddList {
+                name,
+                kind,
+                class,
+                stanzas,
+            } => self.add_list(name, kind, class, stanzas, rows, order),
+            Edit::DropList { name } => self.drop_list(&name),
+            Edit::Put { list, stanza } => self.put(&list, stanza),
+            Edit::Remove {
+                list,
+                package,
+                version,
+            } => self.remove(&list, &package, &version),
+            Edit::Mark { package, version } => self.set_mark(package, version),
+            Edit::Unmark { package } => self.unmark(&package),
+            Edit::Pin { setting } => self.pin(setting),
+            Edit::Unpin { selector } => self.unpin(&selector),
+            Edit::Target { name } => self.set_target(name),
+            Edit::Prefs { settings } => self.set_all_pins(settings, pins),
+        }
+    }
+
+    fn add_list(
+        &mut self,
+        name: Bytes,
+        kind: ListKind,
+        class: ListClass,
+        stanzas: Vec<Box<Stanza>>,
+        rows: Vec<Row>,
+        order: Vec<u64>,
+    )
+        requires accepted { refusal_of self.old.limits (state_of self.old) (edits.AddList name kind class (map (λ stanza. stanza.value) stanzas.items)) ≡ None }
+        requires list { 0 < self.old.lists_room }
+        requires empty { rows.items ≡ [] }
+        requires room { vec_len stanzas ≤ vec_capacity rows }
+        requires none { order.items ≡ [] }
+        requires order_room { vec_len stanzas ≤ vec_capacity order }
+        ensures state { state_of self.new ≡ after (state_of self.old) (edits.AddList name kind class (map (λ stanza. stanza.value) stanzas.items)) }
+        ensures keyed { keyed_of self.new ≡ keyed_after (keyed_of self.old) (edits.AddList name kind class (map (λ stanza. stanza.value) stanzas.items)) }
+        ensures limits { self.new.limits ≡ self.old.limits }
+    {
+        let _limits = self.limits;
+        let count = stanzas.len() as u32;
+        let shelf = Shelf::new(self.next_list, kind, class, stanzas, rows, order);
+        self.lists.put(name.into_vec(), shelf);
+        self.next_list += 1;
+        self.stanzas += count;
+        self.statuses += one_if_status(kind);
+        self.edits += 1;
+    }
+
+    fn drop_list(&mut self, name: &Bytes)
+        requires accepted { refusal_of self.old.limits (state_of self.old) (edits.DropList name.now) ≡ None }
+        ensures state { state_of self.new ≡ after (state_of self.old) (edits.DropList name.now) }
+        ensures keyed { keyed_of self.new ≡ keyed_after (keyed_of self.old) (edits.DropList name.now) }
+        ensures limits { self.new.limits ≡ self.old.limits }
+    {
+        let _limits = self.limits;
+        let count = self.count_in(name.as_slice()) as u32;
+        let statuses = self.count_of_kind(name.as_slice());
+        self.lists.remove(name.as_slice());
+        self.stanzas -= count;
+        self.statuses -= statuses;
+        self.edits += 1;
+    }
+
+    fn put(&mut self, list: &Bytes, stanza: Box<Stanza>)
+        requires accepted { refusal_of self.old.limits (state_of self.old) (edits.Put list.now stanza.value) ≡ None }
+        requires room { IfSome (at_name list.now self.old.lists) HasRoomInList }
+        ensures state { state_of self.new ≡ after (state_of self.old) (edits.Put list.now stanza.value) }
+        ensures keyed { keyed_of self.new ≡ keyed_after (keyed_of self.old) (edits.Put list.now stanza.value) }
+        ensures limits { self.new.limits ≡ self.old.limits }
+    {
+        let _limits = self.limits;
+        let is_there = self.has_stanza(list.as_slice(), stanza.package(), stanza.version());
+        let more = one_unless(is_there);
+        self.lists.put_in(list.as_slice(), stanza);
+        self.stanzas += more;
+        self.edits += 1;
+    }
+
+    fn remove(&mut self, list: &Bytes, package: &Bytes, version: &Version)
+        requires accepted { refusal_of self.old.limits (state_of self.old) (edits.Remove list.now «package».now version.now) ≡ None }
+        ensures state { state_of self.new ≡ after (state_of self.old) (edits.Remove list.now «package».now version.now) }
+        ensures keyed { keyed_of self.new ≡ keyed_after (keyed_of self.old) (edits.Remove list.now «package».now version.now) }
+        ensures limits { self.new.limits ≡ self.old.limits }
+    {
+        let _limits = self.limits;
+        self.lists
+            .remove_in(list.as_slice(), package.as_slice(), version);
+        self.stanzas -= 1;
+        self.edits += 1;
+    }
+
+    fn set_mark(&mut self, name: Bytes, version: Option<Version>)
+        requires accepted { refusal_of self.old.limits (state_of self.old) (edits.Mark name version) ≡ None }
+        requires room { 0 < self.old.marks_room }
+        ensures state { state_of self.new ≡ after (state_of self.old) (edits.Mark name version) }
+        ensures keyed { keyed_of self.new ≡ keyed_of self.old }
+        ensures limits { self.new.limits ≡ self.old.limits }
+    {
+        let _limits = self.limits;
+        self.marks.put(name.into_vec(), version);
+        self.edits += 1;
+    }
+
+    fn unmark(&mut self, name: &Bytes)
+        requires accepted { refusal_of self.old.limits (state_of self.old) (edits.Unmark name.now) ≡ None }
+        ensures state { state_of self.new ≡ after (state_of self.old) (edits.Unmark name.now) }
+        ensures keyed { keyed_of self.new ≡ keyed_of self.old }
+        ensures limits { self.new.limits ≡ self.old.limits }
+    {
+        let _limits = self.limits;
+        self.marks.swap_remove(name.as_slice());
+        self.edits += 1;
+    }
+
+    fn pin(&mut self, setting: PinSetting)
+        requires accepted { refusal_of self.old.limits (state_of self.old) (edits.Pin setting.selector setting.priority) ≡ None }
+        requires room { 0 < self.old.pins_room }
+        ensures state { state_of self.new ≡ after (state_of self.old) (edits.Pin setting.selector setting.priority) }
+        ensures keyed { keyed_of self.new ≡ keyed_of self.old }
+        ensures limits { self.new.limits ≡ self.old.limits }
+    {
+        let _limits = self.limits;
+        set_pin(&mut self.pins, setting);
+        self.edits += 1;
+    }
+
+    fn unpin(&mut self, selector: &Selector)
+        requires accepted { refusal_of self.old.limits (state_of self.old) (edits.Unpin selector.now) ≡ None }
+        ensures state { state_of self.new ≡ after (state_of self.old) (edits.Unpin selector.now) }
+        ensures keyed { keyed_of self.new ≡ keyed_of self.old }
+        ensures limits { self.new.limits ≡ self.old.limits }
+    {
+        let _limits = self.limits;
+        let _ = self.pins.shift_remove(selector);
+        self.edits += 1;
+    }
+
+    fn set_target(&mut self, name: Option<Bytes>)
+        requires accepted { refusal_of self.old.limits (state_of self.old) (edits.Target name) ≡ None }
+        ensures state { state_of self.new ≡ after (state_of self.old) (edits.Target name) }
+        ensures keyed { keyed_of self.new ≡ keyed_of self.old }
+        ensures limits { self.new.limits ≡ self.old.limits }
+    {
+        let _limits = self.limits;
+        self.target = name;
+        self.edits += 1;
+    }
+
+    fn set_all_pins(&mut self, settings: Vec<PinSetting>, mut pins: IndexMap<Selector, i16>)
+        requires accepted { refusal_of self.old.limits (state_of self.old) (edits.Prefs (settings_of settings.items)) ≡ None }
+        requires empty { pins.entries ≡ [] }
+        requires room { length (settings_of settings.items) ≤ spare pins }
+        requires distinct { AreDistinct (settings_of settings.items) }
+        ensures state { state_of self.new ≡ after (state_of self.old) (edits.Prefs (settings_of settings.items)) }
+        ensures keyed { keyed_of self.new ≡ keyed_of self.old }
+        ensures limits { self.new.limits ≡ self.old.limits }
+    {
+        let _limits = self.limits;
+        set_pins(&mut pins, settings);
+        self.pins = pins;
+        self.edits += 1;
+    }
+}

@@ -1,0 +1,212 @@
+//! Plans are made.
+
+ghost use Rattle.std.specs.Prelude.{◌≡◌, ◌≢◌, ◌<◌, [], ◌≤◌, Some, IfOk, IfErr, OnOk, IfSome, option_copied, map, length, vec_len};
+ghost use Rattle.std.specs.Vec.{vec_capacity};
+ghost use Rattle.indexmap.specs.IndexMap.{spare};
+ghost use Rattle.ctl_store.specs.declared.refusal.Refusal.TheVariants as refusal;
+ghost use Rattle.ctl_store.specs.Named.{at_name};
+ghost use Rattle.ctl_store.specs.Edits.{edit_of, settings_of};
+ghost use Rattle.ctl_store.specs.Step.{refusal_of};
+ghost use Rattle.ctl_store.specs.Rows.{rows_from};
+ghost use Rattle.ctl_store.specs.Keys.{removed_of, added_of, found_in, kept_in, all_in, keys_of, list_of_stanzas, key_of};
+ghost use Rattle.ctl_store.specs.Held.{state_of, keyed_of, IsReady, IsProper, IsReadyFor, HasRoomIn, HasRoom, HasRoomInList};
+
+use crate::edit::Edit;
+use crate::plan::Plan;
+use crate::refusal::Refusal;
+use crate::rows::Row;
+use crate::selector::Selector;
+use crate::stanza_key::StanzaKey;
+use crate::store::Store;
+use ctl_relation::Version;
+use ctl_stanza::Stanza;
+use indexmap::IndexMap;
+use std::alloc::{AllocError, Global};
+
+// The keys of the stanzas of a new list.
+fn new_keys(alloc: Global, list: u32, stanzas: &[Box<Stanza>]) -> Result<Vec<StanzaKey>, AllocError>
+    ensures { IfOk result (λ v. v.items ≡ map (λ row. key_of list row.0) (rows_from 0 (map (λ stanza. stanza.value) stanzas.now))) }
+{
+    let mut keys = Vec::with_capacity(alloc, stanzas.len())?;
+    let mut left = stanzas;
+    let mut serial = 0;
+    'stanzas: while let Some((_, rest)) = left.split_first() {
+        keys.push(StanzaKey {
+            list,
+            stanza: serial,
+        })?;
+        serial += 1;
+        left = rest;
+    }
+    Ok(keys)
+}
+
+// Memory for an edit, beside the room in the store.
+#[derive(Drop)]
+struct Ready {
+    rows: Vec<Row>,
+    order: Vec<u64>,
+    pins: IndexMap<Selector, i16>,
+}
+
+fn make_ready(alloc: Global, edit: &Edit) -> Result<Ready, AllocError>
+    ensures empty { IfOk result (λ ready. (ready.rows.items ≡ []) × (ready.order.items ≡ []) × (ready.pins.entries ≡ [])) }
+    ensures ready { IfOk result (λ ready. IsReadyFor (edit_of edit.now) (record { rows_room = vec_capacity ready.rows; order_room = vec_capacity ready.order; pins_room = spare ready.pins })) }
+{
+    let mut rows = Vec::new(alloc);
+    let mut order = Vec::new(alloc);
+    let mut pins = IndexMap::new(alloc);
+    match edit {
+        Edit::AddList {
+            name: _,
+            kind: _,
+            class: _,
+            stanzas,
+        } => {
+            rows.reserve(stanzas.len())?;
+            order.reserve(stanzas.len())?;
+        }
+        Edit::Prefs { settings } => pins.reserve(settings.len())?,
+        _ => {}
+    }
+    Ok(Ready { rows, order, pins })
+}
+
+impl Store {
+    #[tactic(auto, using(crate::proofs::ListedLemmas::at_name_lists))]
+    fn found_in(
+        &self,
+        list: &[u8],
+        name: &[u8],
+        version: Option<&Version>,
+    ) -> Result<Vec<StanzaKey>, AllocError>
+        ensures { IfOk result (λ v. v.items ≡ found_in list.now name.now (option_copied version.entry) (keyed_of self.now).lists) }
+    {
+        match self.lists.get(list) {
+            Some(shelf) => shelf.found_key(self.alloc, name, version),
+            None => Ok(Vec::new(self.alloc)),
+        }
+    }
+
+    #[tactic(auto, using(crate::proofs::ListedLemmas::at_name_lists))]
+    fn kept_in(&self, list: &[u8], stanza: &Stanza) -> Result<Vec<StanzaKey>, AllocError>
+        ensures { IfOk result (λ v. v.items ≡ kept_in list.now stanza.now (keyed_of self.now).lists) }
+    {
+        match self.lists.get(list) {
+            Some(shelf) => shelf.put_key(self.alloc, stanza),
+            None => Ok(Vec::new(self.alloc)),
+        }
+    }
+
+    #[tactic(auto, using(crate::proofs::ListedLemmas::at_name_lists))]
+    fn all_in(&self, list: &[u8]) -> Result<Vec<StanzaKey>, AllocError>
+        ensures { IfOk result (λ v. v.items ≡ all_in list.now (keyed_of self.now).lists) }
+    {
+        match self.lists.get(list) {
+            Some(shelf) => shelf.keys(self.alloc),
+            None => Ok(Vec::new(self.alloc)),
+        }
+    }
+
+    fn removed_keys(&self, edit: &Edit) -> Result<Vec<StanzaKey>, AllocError>
+        ensures { IfOk result (λ v. v.items ≡ removed_of (keyed_of self.now) (edit_of edit.now)) }
+    {
+        match edit {
+            Edit::DropList { name } => self.all_in(name.as_slice()),
+            Edit::Put { list, stanza } => {
+                self.found_in(list.as_slice(), stanza.package(), stanza.version())
+            }
+            Edit::Remove {
+                list,
+                package,
+                version,
+            } => self.found_in(list.as_slice(), package.as_slice(), Some(version)),
+            _ => Ok(Vec::new(self.alloc)),
+        }
+    }
+
+    fn added_keys(&self, edit: &Edit) -> Result<Vec<StanzaKey>, AllocError>
+        ensures { IfOk result (λ v. v.items ≡ added_of (keyed_of self.now) (edit_of edit.now)) }
+    {
+        match edit {
+            Edit::AddList {
+                name: _,
+                kind: _,
+                class: _,
+                stanzas,
+            } => new_keys(self.alloc, self.next_list, stanzas),
+            Edit::Put { list, stanza } => self.kept_in(list.as_slice(), stanza),
+            _ => Ok(Vec::new(self.alloc)),
+        }
+    }
+
+    // Makes the room that an edit wants in what the store keeps.
+    fn make_room(&mut self, edit: &Edit) -> Result<(), AllocError>
+        ensures state { state_of self.new ≡ state_of self.old }
+        ensures keyed { keyed_of self.new ≡ keyed_of self.old }
+        ensures limits { self.new.limits ≡ self.old.limits }
+        ensures room { OnOk result (HasRoomIn self.new (edit_of edit.now)) }
+    {
+        match edit {
+            Edit::AddList {
+                name: _,
+                kind: _,
+                class: _,
+                stanzas: _,
+            } => self.lists.reserve_one(),
+            Edit::Put { list, stanza: _ } => self.lists.reserve_in(list.as_slice()),
+            Edit::Mark {
+                package: _,
+                version: _,
+            } => self.marks.reserve_one(),
+            Edit::Pin { setting: _ } => self.pins.reserve(1),
+            _ => Ok(()),
+        }
+    }
+
+    /// Accepts an edit, and takes all memory that it needs. What the store holds stays.
+    ///
+    /// # Errors
+    ///
+    /// The refusal that [`check`](Store::check) gives, or [`Refusal::Memory`]. The edit comes back.
+    pub fn prepare(&mut self, edit: Edit) -> Result<Plan, (Edit, Refusal)>
+        requires { IsProper (edit_of edit) }
+        ensures state { state_of self.new ≡ state_of self.old }
+        ensures keyed { keyed_of self.new ≡ keyed_of self.old }
+        ensures limits { self.new.limits ≡ self.old.limits }
+        ensures ready { IfOk result (λ plan. IsReady self.new plan) }
+        ensures same { IfOk result (λ plan. plan.edit ≡ edit_of edit) }
+        ensures back { IfErr result (λ e. e.0 ≡ edit) }
+        ensures refused { IfErr result (λ e. e.1 ≢ refusal.Memory → refusal_of self.old.limits (state_of self.old) (edit_of edit) ≡ Some e.1) }
+    {
+        match self.check(&edit) {
+            Ok(()) => {}
+            Err(why) => return Err((edit, why)),
+        }
+        let removed = match self.removed_keys(&edit) {
+            Ok(keys) => keys,
+            Err(_) => return Err((edit, Refusal::Memory)),
+        };
+        let added = match self.added_keys(&edit) {
+            Ok(keys) => keys,
+            Err(_) => return Err((edit, Refusal::Memory)),
+        };
+        let ready = match make_ready(self.alloc, &edit) {
+            Ok(ready) => ready,
+            Err(_) => return Err((edit, Refusal::Memory)),
+        };
+        match self.make_room(&edit) {
+            Ok(()) => {}
+            Err(_) => return Err((edit, Refusal::Memory)),
+        }
+        let Ready { rows, order, pins } = ready;
+        Ok(Plan {
+            edit,
+            removed,
+            added,
+            rows,
+            order,
+            pins,
+        })
+    }
+}

@@ -1,0 +1,250 @@
+//! What a store holds, lent.
+
+ghost use Rattle.std.specs.Prelude.{◌≡◌, ◌+◌, ℕ, IsSome, Some, [], map, option_map, option_copied, length};
+ghost use Rattle.std.specs.Option.{option_map_or};
+ghost use Rattle.std.specs.FinMap as fin;
+ghost use Rattle.ctl_store.specs.State.{stanza_count, shown_lists, stanzas_named};
+ghost use Rattle.ctl_store.specs.Keys.{all_in, all_keys, AreRising, AreHeld, stanza_at, list_at};
+ghost use Rattle.ctl_store.specs.Named.{at_name, by_bytes};
+ghost use Rattle.std.specs.List.{IsDistinct};
+ghost use Rattle.std.specs.Map.{keys_of as names_of};
+ghost use Rattle.std.specs.Str.{bytes_eq};
+ghost use Rattle.ctl_store.specs.Held.{state_of, keyed_of, lists_of, InOrder, entry_of};
+ghost use Rattle.ctl_store.specs.declared.limits.Counts.{Counts};
+
+use crate::limits::{Counts, Limits};
+use crate::list_class::ListClass;
+use crate::rows::{Row, place_of};
+use crate::selector::Selector;
+use crate::shelf::Shelf;
+use crate::stanza_key::StanzaKey;
+use crate::store::Store;
+use ctl_relation::Version;
+use ctl_stanza::{ListKind, Stanza};
+use indexmap::map::Slice;
+use std::marker::Model;
+
+/// The lists of a store, by [`Store::lists`]: their names, kinds and classes, in order.
+#[derive(Drop)]
+pub struct Lists<'a> {
+    entries: Slice<'a, Vec<u8>, Shelf>,
+}
+
+impl<'a> Model for Lists<'a> {
+    ghost use Rattle.std.specs.Prelude.{ℕ, List, map};
+    ghost use Rattle.ctl_stanza.specs.declared.list_kind.ListKind.{ListKind};
+    ghost use Rattle.ctl_store.specs.declared.list_class.ListClass.{ListClass};
+
+    ghost Value = { List (List ℕ × ListKind × ListClass) };
+
+    ghost view = { λ it. map (λ e. (e.0.items, e.1.kind, e.1.class)) it.entries };
+}
+
+impl<'a> Iterator for Lists<'a> {
+    ghost use Rattle.std.specs.Iterator.{YieldsFirstBy, item_count};
+
+    ghost next_gives = { YieldsFirstBy (λ item. (item.0.now, item.1, item.2)) (λ rest. rest) };
+
+    ghost remaining = { item_count (λ rest. rest) };
+
+    type Item = (&'a [u8], ListKind, ListClass);
+
+    fn next(&mut self) -> Option<(&'a [u8], ListKind, ListClass)> {
+        let ((name, shelf), rest) = self.entries.split_first()?;
+        self.entries = rest;
+        Some((name, shelf.kind(), shelf.class()))
+    }
+}
+
+/// The keys of the stanzas of a list, by [`Store::stanzas`], in order.
+#[derive(Drop)]
+pub struct Stanzas<'a> {
+    list: u32,
+    rows: &'a [Row],
+}
+
+impl<'a> Model for Stanzas<'a> {
+    ghost use Rattle.std.specs.Prelude.{List, map};
+    ghost use Rattle.ctl_store.specs.declared.stanza_key.StanzaKey.{StanzaKey};
+    ghost use Rattle.ctl_store.specs.Keys.{key_of};
+
+    ghost Value = { List StanzaKey };
+
+    ghost view = { λ it. map (λ row. key_of it.list row.0) it.rows.now };
+}
+
+impl<'a> Iterator for Stanzas<'a> {
+    ghost use Rattle.std.specs.Iterator.{YieldsFirst, item_count};
+
+    ghost next_gives = { YieldsFirst (λ rest. rest) };
+
+    ghost remaining = { item_count (λ rest. rest) };
+
+    type Item = StanzaKey;
+
+    fn next(&mut self) -> Option<StanzaKey> {
+        let (row, rest) = self.rows.split_first()?;
+        self.rows = rest;
+        Some(StanzaKey {
+            list: self.list,
+            stanza: row.serial(),
+        })
+    }
+}
+
+/// The pin settings of a store, by [`Store::pins`]: selectors with priorities, in order.
+#[derive(Drop)]
+pub struct Pins<'a> {
+    entries: Slice<'a, Selector, i16>,
+}
+
+impl<'a> Model for Pins<'a> {
+    ghost use Rattle.std.specs.Prelude.{List, ℤ};
+    ghost use Rattle.ctl_store.specs.declared.selector.Selector.{Selector};
+
+    ghost Value = { List (Selector × ℤ) };
+
+    ghost view = { λ it. it.entries };
+}
+
+impl<'a> Iterator for Pins<'a> {
+    ghost use Rattle.std.specs.Iterator.{YieldsFirstBy, item_count};
+
+    ghost next_gives = { YieldsFirstBy (λ item. (item.0.now, item.1)) (λ rest. rest) };
+
+    ghost remaining = { item_count (λ rest. rest) };
+
+    type Item = (&'a Selector, i16);
+
+    fn next(&mut self) -> Option<(&'a Selector, i16)> {
+        let ((selector, priority), rest) = self.entries.split_first()?;
+        self.entries = rest;
+        Some((selector, *priority))
+    }
+}
+
+// The name and the stanzas of the list of a serial, found by halving: lists come last, and their serials rise.
+fn entry_of<'a>(entries: Slice<'a, Vec<u8>, Shelf>, serial: u32) -> Option<(&'a Vec<u8>, &'a Shelf)>
+    requires { (n : ℕ) × (m : ℕ) × (most : ℕ) × InOrder n (lists_of (map by_bytes entries)) m most }
+    ensures { option_map (λ e. (e.0.now.items, e.1.now)) result ≡ entry_of serial (map by_bytes entries.entry) }
+{
+    match entries.binary_search_by_key(&serial, |_name, shelf| shelf.serial()) {
+        Ok(at) => entries.get_index(at),
+        Err(_) => None,
+    }
+}
+
+impl Store {
+    /// The names, kinds and classes of the lists, in the order in which they were added.
+    pub fn lists(&self) -> Lists<'_>
+        ensures lists { result ≡ shown_lists (state_of self.now).lists }
+        // no name stands twice
+        ensures distinct { IsDistinct bytes_eq (names_of (state_of self.now).lists) }
+    {
+        Lists {
+            entries: self.lists.entries(),
+        }
+    }
+
+    /// The kind of a list, if there is a list of this name.
+    #[tactic(auto, using(crate::proofs::ListedLemmas::at_name_held))]
+    pub fn kind(&self, list: &[u8]) -> Option<ListKind>
+        ensures { result ≡ option_map (λ l. l.kind) (at_name list.now (state_of self.now).lists) }
+    {
+        match self.lists.get(list) {
+            Some(shelf) => Some(shelf.kind()),
+            None => None,
+        }
+    }
+
+    /// The keys of the stanzas of a list, in order. Of a list that is not there it has none.
+    #[tactic(auto, using(crate::proofs::ListedLemmas::at_name_lists))]
+    pub fn stanzas(&self, list: &[u8]) -> Stanzas<'_>
+        ensures keys { result ≡ all_in list.now (keyed_of self.now).lists }
+        ensures held { AreHeld result (keyed_of self.now).lists }
+        ensures stanzas { map (λ key. stanza_at key (keyed_of self.now).lists) result ≡ map Some (stanzas_named list.now (state_of self.now).lists) }
+    {
+        match self.lists.get(list) {
+            Some(shelf) => Stanzas {
+                list: shelf.serial(),
+                rows: shelf.rows(),
+            },
+            None => Stanzas { list: 0, rows: &[] },
+        }
+    }
+
+    /// The stanza of a key, which is one of the store.
+    pub fn stanza(&self, key: StanzaKey) -> &Stanza
+        requires { IsSome (stanza_at key (keyed_of self.now).lists) }
+        ensures { Some result.now ≡ stanza_at key (keyed_of self.now).lists }
+    {
+        match entry_of(self.lists.entries(), key.list) {
+            Some((_, shelf)) => match place_of(shelf.rows(), key.stanza) {
+                Some(at) => shelf.rows()[at].stanza(),
+                None => unreachable!(),
+            },
+            None => unreachable!(),
+        }
+    }
+
+    /// The name of the list of a key, which is one of the store.
+    pub fn list_of(&self, key: StanzaKey) -> &[u8]
+        requires { IsSome (stanza_at key (keyed_of self.now).lists) }
+        ensures { Some result.now ≡ list_at key.list (keyed_of self.now).lists }
+    {
+        match entry_of(self.lists.entries(), key.list) {
+            Some((name, _)) => name,
+            None => unreachable!(),
+        }
+    }
+
+    /// The mark of a package: a version, or none; or no mark.
+    #[tactic(auto, using(crate::proofs::NamedLemmas::get_at_name))]
+    pub fn mark(&self, name: &[u8]) -> Option<Option<&Version>>
+        ensures { option_map (λ mark. option_copied mark) result ≡ fin.get (state_of self.now).marks name.now }
+    {
+        match self.marks.get(name) {
+            Some(Some(version)) => Some(Some(version)),
+            Some(None) => Some(None),
+            None => None,
+        }
+    }
+
+    /// The pin settings, in the order in which their selectors were first set.
+    pub fn pins(&self) -> Pins<'_>
+        ensures { result ≡ (state_of self.now).pins }
+    {
+        Pins {
+            entries: self.pins.as_slice(),
+        }
+    }
+
+    /// The name of the list that is the target release, which need not be there.
+    pub fn target(&self) -> Option<&[u8]>
+        ensures { option_copied result ≡ (state_of self.now).target }
+    {
+        match &self.target {
+            Some(name) => Some(name.as_slice()),
+            None => None,
+        }
+    }
+
+    /// How many stanzas it holds, and how many edits it has accepted. The keys of its stanzas rise in the order of its
+    /// lists and of the stanzas in them.
+    pub fn counts(&self) -> Counts
+        ensures counts { result ≡ record { stanzas = stanza_count (state_of self.now).lists; edits = (state_of self.now).edits } }
+        ensures order { AreRising (all_keys (keyed_of self.now).lists) }
+    {
+        Counts {
+            stanzas: self.stanzas,
+            edits: self.edits,
+        }
+    }
+
+    /// The limits that count.
+    pub fn limits(&self) -> Limits
+        ensures { result ≡ self.now.limits }
+    {
+        self.limits
+    }
+}

@@ -1,0 +1,161 @@
+//! Edits as the lines give them.
+
+ghost use Rattle.std.specs.Prelude.{◌≡◌, IfOk};
+ghost use Rattle.ctl_store.specs.Edits.{edit_of, settings_of};
+ghost use Rattle.ctl_store.specs.Held.{IsProper, AreDistinct};
+
+use crate::words::Words;
+use anyhow::{Context, Result, bail};
+use ctl_stanza::{ListKind, Stanza, read_stanzas};
+use ctl_store::{Edit, ListClass, PinSetting, PinVersion, Selector, boxed};
+use indexmap::IndexMap;
+use std::alloc::{AllocError, Global};
+
+fn kind_named(word: &str) -> Option<ListKind> {
+    match word {
+        "packages" => Some(ListKind::Packages),
+        "status" => Some(ListKind::Status),
+        _ => None,
+    }
+}
+
+fn class_named(word: &str) -> Option<ListClass> {
+    match word {
+        "plain" => Some(ListClass::Plain),
+        "notauto" => Some(ListClass::NotAutomatic),
+        "butauto" => Some(ListClass::ButAutomatic),
+        _ => None,
+    }
+}
+
+fn kind(words: &mut Words<'_>) -> Result<ListKind> {
+    kind_named(words.word()?).context("a kind that is not known")
+}
+
+// The stanzas of the next word, which is a text of a list of this kind.
+fn stanzas(alloc: Global, words: &mut Words<'_>, kind: ListKind) -> Result<Vec<Box<Stanza>>> {
+    let text = words.bytes()?;
+    let read = read_stanzas(alloc, text.as_slice(), 1, kind)
+        .ok()
+        .context("a text with a fault")?;
+    Ok(boxed(alloc, read)?)
+}
+
+fn add_list(alloc: Global, words: &mut Words<'_>) -> Result<Edit>
+    ensures { IfOk result (λ edit. IsProper (edit_of edit)) }
+{
+    let name = words.bytes()?;
+    let kind = kind(words)?;
+    let class = class_named(words.word()?).context("a class that is not known")?;
+    let stanzas = stanzas(alloc, words, kind)?;
+    Ok(Edit::AddList {
+        name,
+        kind,
+        class,
+        stanzas,
+    })
+}
+
+fn put(alloc: Global, words: &mut Words<'_>) -> Result<Edit>
+    ensures { IfOk result (λ edit. IsProper (edit_of edit)) }
+{
+    let list = words.bytes()?;
+    let kind = kind(words)?;
+    let stanza = stanzas(alloc, words, kind)?
+        .pop()
+        .context("a text without a stanza")?;
+    Ok(Edit::Put { list, stanza })
+}
+
+// A selector: `version`, a package and a version or the beginning of versions; or `release`, a package or `-`, and a list.
+fn selector(alloc: Global, word: &str, words: &mut Words<'_>) -> Result<Selector> {
+    match word {
+        "version" => {
+            let package = words.bytes()?;
+            let text = words.bytes()?;
+            let version = PinVersion::read(alloc, text.as_slice())?.context(
+                "a pin's version that is none",
+            )?;
+            Ok(Selector::Version { package, version })
+        }
+        "release" => {
+            let package = words.bytes_or_none()?;
+            let list = words.bytes()?;
+            Ok(Selector::Release { package, list })
+        }
+        _ => bail!("a selector that is not known"),
+    }
+}
+
+// The settings of a map of pins.
+fn collected(alloc: Global, pins: IndexMap<Selector, i16>) -> Result<Vec<PinSetting>, AllocError>
+    ensures { IfOk result (λ settings. AreDistinct (settings_of settings.items)) }
+{
+    let mut settings = Vec::with_capacity(alloc, pins.len())?;
+    for (selector, priority) in pins {
+        settings.push(PinSetting { selector, priority })?;
+    }
+    Ok(settings)
+}
+
+// Selectors with priorities, to the end of the line.
+fn settings(alloc: Global, words: &mut Words<'_>) -> Result<Vec<PinSetting>>
+    ensures { IfOk result (λ settings. AreDistinct (settings_of settings.items)) }
+{
+    let mut pins = IndexMap::new(alloc);
+    for _ in 0..u64::MAX {
+        let Some(word) = words.next_word() else {
+            break;
+        };
+        let selector = selector(alloc, word, words)?;
+        let priority = words.priority()?;
+        pins.insert(selector, priority)?;
+    }
+    Ok(collected(alloc, pins)?)
+}
+
+fn pin(alloc: Global, words: &mut Words<'_>) -> Result<Edit>
+    ensures { IfOk result (λ edit. IsProper (edit_of edit)) }
+{
+    let selector = selector(alloc, words.word()?, words)?;
+    let priority = words.priority()?;
+    Ok(Edit::Pin {
+        setting: PinSetting { selector, priority },
+    })
+}
+
+/// The edit of a line whose first word is this.
+pub fn edit_named(alloc: Global, word: &str, words: &mut Words<'_>) -> Result<Edit>
+    ensures { IfOk result (λ edit. IsProper (edit_of edit)) }
+{
+    match word {
+        "add-list" => add_list(alloc, words),
+        "drop-list" => Ok(Edit::DropList {
+            name: words.bytes()?,
+        }),
+        "put" => put(alloc, words),
+        "remove" => Ok(Edit::Remove {
+            list: words.bytes()?,
+            package: words.bytes()?,
+            version: words.version()?,
+        }),
+        "mark" => Ok(Edit::Mark {
+            package: words.bytes()?,
+            version: words.version_or_none()?,
+        }),
+        "unmark" => Ok(Edit::Unmark {
+            package: words.bytes()?,
+        }),
+        "pin" => pin(alloc, words),
+        "unpin" => Ok(Edit::Unpin {
+            selector: selector(alloc, words.word()?, words)?,
+        }),
+        "target" => Ok(Edit::Target {
+            name: words.bytes_or_none()?,
+        }),
+        "prefs" => Ok(Edit::Prefs {
+            settings: settings(alloc, words)?,
+        }),
+        _ => bail!("an edit that is not known"),
+    }
+}

@@ -1,0 +1,284 @@
+#!/usr/bin/env python3
+"""Compares what edits do to a store with a reference program: which are refused and why, and what the store then holds.
+
+    tools/compare_stores.py FOLDER [SEQUENCES]
+
+FOLDER holds the reference program `oracle.py`, with `State`, `Limits`, `Version`, `read_stanzas` and
+`step(state, limits, edit)`, which gives the state after an edit or raises `Refused` with a number. The edits are
+generated: sequences of them over few names, with versions that are equal in other words, and with small limits at
+times. After each edit the whole state is compared. The keys of stanzas, which the reference program has none of, are
+kept here by their rules: a list and a stanza that come new take the next serial, and a stanza that replaces another
+takes over its key. `rt run` in crates/store_probe builds the program that is compared.
+"""
+
+import collections
+import pathlib
+import random
+import subprocess
+import sys
+
+PROBE = pathlib.Path(__file__).resolve().parent.parent / "crates/store_probe/out/store_probe"
+SEQUENCES = 600
+SEED = 20250311
+
+LISTS = [b"main", b"extra", b"back", b"dpkg", b"main2"]
+PACKAGES = [b"a", b"b", b"ab", b"libc6"]
+# The first six are equal.
+VERSIONS = [b"1.0", b"1.0-0", b"0:1.0", b"1.00", b"1.0-00", b"00:1.0-0", b"1.0-1", b"2", b"1.0~rc1", b"1:0.5", b"10.0"]
+PIN_VERSIONS = VERSIONS + [b"1.*", b"*", b"1.0*", b"2:*"]
+STATES = ["installed", "unpacked", "half-configured", "not-installed", "config-files", "half-installed"]
+PRIORITIES = [-32768, -1, 1, 99, 500, 990, 1000, 32767]
+CLASSES = ["plain", "plain", "notauto", "butauto"]
+COMMON = ["put"] * 7 + ["remove"] * 5 + ["add-list"] * 3 + ["mark"] * 2 + ["unmark"] * 2 + ["pin"] * 3 + ["unpin"] * 2
+EDITS = COMMON + ["drop-list", "target", "prefs"]
+
+
+def generate_stanza(source, kind):
+    """A stanza. One of a status list that is not live may have no version."""
+    state = source.choice(STATES)
+    lines = ["Package: " + source.choice(PACKAGES).decode()]
+    if kind == "packages" or state not in STATES[3:] or source.random() < 0.5:
+        lines.append("Version: " + source.choice(VERSIONS).decode())
+    if kind == "status":
+        lines.append("Status: install ok " + state)
+    if source.random() < 0.3:
+        lines.append("Depends: b (>= 1) | ab")
+    lines.append(f"Note: {source.randrange(1000)}")
+    source.shuffle(lines)
+    return "\n".join(lines) + "\n"
+
+
+def generate_selector(source):
+    """A selector of one of the three kinds."""
+    way = source.randrange(3)
+    if way == 0:
+        return ("version", source.choice(PACKAGES), source.choice(PIN_VERSIONS))
+    return ("release", source.choice(PACKAGES) if way == 1 else None, source.choice(LISTS))
+
+
+def generate_settings(source):
+    """Pin settings, each of a selector of its own."""
+    settings = {generate_selector(source): source.choice(PRIORITIES) for _ in range(source.randrange(6))}
+    return list(settings.items())
+
+
+def read(oracle, text, kind):
+    return oracle.read_stanzas(text.encode(), 1, oracle.PACKAGES if kind == "packages" else oracle.STATUS)
+
+
+def choose_list(source, state):
+    """The name of a list, most often of one that is there."""
+    if state.lists and source.random() < 0.85:
+        return source.choice(state.lists).name
+    return source.choice(LISTS)
+
+
+def generate_remove(source, oracle, state):
+    """A stanza that goes; most often one is there, at times under another version that is equal."""
+    name = choose_list(source, state)
+    package = source.choice(PACKAGES)
+    version = oracle.Version(source.choice(VERSIONS))
+    entry = state.find(name)
+    if entry is not None and entry.stanzas and source.random() < 0.6:
+        stanza = source.choice(entry.stanzas)
+        package = stanza.package
+        if stanza.version is not None and not (stanza.version.equals(oracle.Version(VERSIONS[0])) and version.text in VERSIONS[:6]):
+            version = stanza.version
+    return ("remove", name, package, version), ["remove", name.hex(), package.hex(), version.text.hex()]
+
+
+def generate_list(source, oracle):
+    """A new list, as an edit and as its line."""
+    kind = source.choice(["packages", "packages", "status"])
+    name = source.choice(LISTS)
+    label = source.choice(CLASSES) if kind == "packages" else "plain"
+    text = "\n".join(generate_stanza(source, kind) for _ in range(source.randrange(6)))
+    kind_of_list = oracle.PACKAGES if kind == "packages" else oracle.STATUS
+    edit = ("add-list", name, kind_of_list, label, read(oracle, text, kind))
+    return edit, ["add-list", name.hex(), kind, label, text.encode().hex()]
+
+
+def generate_put(source, oracle, state):
+    """A stanza for a list, of the kind of that list where it is there."""
+    name = choose_list(source, state)
+    entry = state.find(name)
+    kind = "packages" if entry is None or entry.kind == oracle.PACKAGES else "status"
+    text = generate_stanza(source, kind)
+    return ("put", name, read(oracle, text, kind)[0]), ["put", name.hex(), kind, text.encode().hex()]
+
+
+def selector_words(selector):
+    form, package, value = selector
+    return [form, "-" if package is None else package.hex(), value.hex()]
+
+
+def generate_pin(source, state, what):
+    """A pin setting that comes or goes; most often one that is there goes."""
+    selector = generate_selector(source)
+    if state.pins and source.random() < 0.5:
+        selector = source.choice(state.pins)[0]
+    if what == "unpin":
+        return ("unpin", selector), ["unpin", *selector_words(selector)]
+    priority = source.choice(PRIORITIES)
+    return ("pin", selector, priority), ["pin", *selector_words(selector), str(priority)]
+
+
+def generate_edit(source, oracle, state):
+    """An edit for the reference program, and the words of its line for the probe."""
+    what = source.choice(EDITS)
+    name = choose_list(source, state)
+    package = source.choice(PACKAGES)
+    version = oracle.Version(source.choice(VERSIONS))
+    if what == "add-list":
+        return generate_list(source, oracle)
+    if what == "put":
+        return generate_put(source, oracle, state)
+    if what == "drop-list":
+        return ("drop-list", name), ["drop-list", name.hex()]
+    if what == "remove":
+        return generate_remove(source, oracle, state)
+    if what == "mark":
+        mark = None if source.random() < 0.3 else version
+        return ("mark", package, mark), ["mark", package.hex(), "-" if mark is None else version.text.hex()]
+    if what == "unmark":
+        return ("unmark", package), ["unmark", package.hex()]
+    if what == "target":
+        target = None if source.random() < 0.3 else name
+        return ("target", target), ["target", "-" if target is None else name.hex()]
+    if what == "prefs":
+        settings = generate_settings(source)
+        words = [word for selector, priority in settings for word in [*selector_words(selector), str(priority)]]
+        return ("prefs", settings), ["prefs", *words]
+    return generate_pin(source, state, what)
+
+
+class Keys:
+    """The keys of the stanzas of each list, by name."""
+
+    def __init__(self):
+        self.lists = {}
+        self.next_list = 0
+
+    def after(self, oracle, edit, state):
+        """Makes an edit that is accepted in this state, and gives the keys that go and those that come."""
+        if edit[0] == "add-list":
+            self.lists[edit[1]] = (self.next_list, list(range(len(edit[4]))), len(edit[4]))
+            self.next_list += 1
+            return [], self.of(edit[1])
+        if edit[0] == "drop-list":
+            gone = self.of(edit[1])
+            del self.lists[edit[1]]
+            return gone, []
+        if edit[0] in ("put", "remove"):
+            return self.at_place(oracle, edit, state)
+        return [], []
+
+    def at_place(self, oracle, edit, state):
+        """A put or a remove."""
+        entry = state.find(edit[1])
+        serial, rows, following = self.lists[edit[1]]
+        find = oracle.find_put_place if edit[0] == "put" else oracle.find_remove_place
+        place = find(entry, *edit[2:])
+        if place is None:
+            rows.append(following)
+            self.lists[edit[1]] = (serial, rows, following + 1)
+            return [], [f"{serial}.{following}"]
+        key = f"{serial}.{rows[place]}"
+        if edit[0] == "put":
+            return [key], [key]
+        del rows[place]
+        return [key], []
+
+    def of(self, name):
+        serial, rows, _ = self.lists[name]
+        return [f"{serial}.{row}" for row in rows]
+
+
+def state_words(oracle, state, keys, limits):
+    """A state as the probe prints it."""
+    words = "state"
+    for entry in state.lists:
+        kind = "packages" if entry.kind == oracle.PACKAGES else "status"
+        words += f" list {entry.name.hex()} {kind} {entry.cls}"
+        for key, stanza in zip(keys.of(entry.name), entry.stanzas, strict=True):
+            words += f" {key}={stanza.text.hex()}@{entry.name.hex()}"
+    for package in PACKAGES:
+        if package in state.marks:
+            version = state.marks[package]
+            words += f" none {package.hex()}" if version is None else f" mark {package.hex()}={version.text.hex()}"
+    for selector, priority in state.pins:
+        words += " " + " ".join(selector_words(selector)) + f" {priority}"
+    if state.target is not None:
+        words += f" target {state.target.hex()}"
+    return words + f" counts {state.count()} {state.edits} limits {limits.stanzas} {limits.edits}"
+
+
+def generate_sequence(source, oracle):
+    """The lines of a sequence, each with what is to be printed for it."""
+    small = source.random() < 0.4
+    stanzas = source.randrange(12) if small else 4_294_967_295
+    edits = source.choice([source.randrange(30), 4_294_967_295]) if small else 4_294_967_295
+    limits = oracle.Limits(stanzas, edits)
+    state = oracle.State()
+    keys = Keys()
+    dump = "\t".join(["dump"] + [package.hex() for package in PACKAGES])
+    told = [(f"limits\t{stanzas}\t{edits}", "new"), (dump, state_words(oracle, state, keys, limits))]
+    for _ in range(source.randrange(5, 60)):
+        edit, words = generate_edit(source, oracle, state)
+        try:
+            after = oracle.step(state, limits, edit)
+            gone, come = keys.after(oracle, edit, state)
+            state = after
+            outcome = "ok" + "".join(f" -{key}" for key in gone) + "".join(f" +{key}" for key in come)
+        except oracle.Refused as refused:
+            outcome = f"foretold {refused.number} refused {refused.number} "
+        told.append(("\t".join(words), outcome))
+        told.append((dump, state_words(oracle, state, keys, limits)))
+    return told
+
+
+def probe(lines):
+    """What the built program crates/store_probe prints for these lines."""
+    if not PROBE.exists():
+        raise SystemExit(f"{PROBE} is missing: build it with `rt run` in crates/store_probe")
+    done = subprocess.run([PROBE], input="".join(f"{line}\n" for line in lines).encode(), stdout=subprocess.PIPE, check=True)
+    return done.stdout.decode().split("\n")[:-1]
+
+
+def compare(told, answers):
+    """How often each outcome of each edit came; shows the first answers that are others than those told."""
+    outcomes = collections.Counter()
+    wrong = 0
+    for (line, wanted), answer in zip(told, answers, strict=True):
+        word = line.split("\t")[0]
+        if word not in ("limits", "dump"):
+            outcomes[word, wanted.split(" ")[1] if wanted.startswith("foretold") else "ok"] += 1
+        if answer != wanted:
+            wrong += 1
+            if wrong <= 5:
+                print(f"{line[:300]}\n  gives       {answer[:600]}\n  and not     {wanted[:600]}")
+    return outcomes, wrong
+
+
+def main():
+    if len(sys.argv) not in (2, 3):
+        raise SystemExit(__doc__)
+    sys.path.insert(0, sys.argv[1])
+    import oracle
+
+    source = random.Random(SEED)
+    count = int(sys.argv[2]) if len(sys.argv) == 3 else SEQUENCES
+    told = [line for _ in range(count) for line in generate_sequence(source, oracle)]
+    answers = probe(line for line, _ in told)
+    if len(answers) != len(told):
+        raise SystemExit(f"{len(answers)} answers for {len(told)} lines")
+    outcomes, wrong = compare(told, answers)
+    for (word, outcome), times in sorted(outcomes.items()):
+        print(f"{word:10} {outcome:3} {times}")
+    print(f"{count} sequences, {sum(outcomes.values())} edits, {wrong} answers are others")
+    if wrong:
+        raise SystemExit(1)
+
+
+if __name__ == "__main__":
+    main()

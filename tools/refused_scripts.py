@@ -1,0 +1,174 @@
+"""Worked scripts for refuse_allocations.py: every edit, its refusals, and questions that show what the edits left.
+
+What no query shows yet, as a mark or a pin, is shown by taking it out, which is refused where it isn't there."""
+
+LISTS = b"""add-list main packages
+Package: s
+Version: 1
+Depends: x, y (>= 1) | z:any
+Provides: x, x (= 2)
+Description: a stanza
+ with more
+ .
+ lines
+
+Package: t
+Version: 1:2.0-1
+Pre-Depends: x
+.
+add-list sid packages notauto
+Package: foo
+Version: 2.0-1
+.
+add-list status status
+Package: foo
+Status: install ok installed
+Version: 1.0-1
+Enhances: a | b
+
+Package: gone
+Status: deinstall ok config-files
+.
+pkgnames
+"""
+
+STANZAS = b"""put main
+Package: s
+Version: 0:1-0
+Conflicts: x (<< 2)
+.
+put main
+Package: u
+Version: 3
+Replaces: s
+.
+pkgnames
+put status
+Package: gone
+Status: purge ok not-installed
+.
+put status
+Package: gone
+Status: install ok unpacked
+Version: 7
+.
+pkgnames
+remove main s 1
+remove main s 1
+remove status gone 7
+remove sid foo 2.0-1
+pkgnames
+put main
+Package: v
+Version: 1
+
+Package: w
+Version: 1
+.
+put nope
+Package: v
+Version: 1
+.
+put main
+Package: v
+Depends: x
+Version: 1_0
+.
+add-list main packages
+Package: a
+Version: 1
+.
+add-list dpkg status
+Package: a
+Status: install ok installed
+Version: 1
+.
+drop-list sid
+drop-list sid
+add-list sid packages butauto
+Package: bar
+Version: 9
+.
+pkgnames
+pkgnames b
+drop-list main
+drop-list status
+pkgnames
+"""
+
+SETTINGS = b"""mark foo 1.0-1
+mark foo 2.0-1
+mark bar none
+unmark foo
+unmark foo
+unmark bar
+mark 'f'oo 0:none
+pin foo version 1.0* 999
+pin foo version 1.0* 1000
+pin foo version 1.0 -5
+pin foo release main 700
+pin '*' release sid 100
+unpin foo version 1.0*
+unpin foo version 1.0*
+unpin foo version 1.0-0
+target sid
+target none
+target 'main'
+prefs
+Explanation: keep
+Explanation: the old one
+Package: foo bar baz
+Pin: version 1.0*
+Pin-Priority: 1001
+
+# a comment
+Package: *
+Pin: release a=sid
+Pin-Priority: 50
+
+Package: foo
+Pin: version 1.0*
+Pin-Priority: 1
+.
+unpin foo release main
+unpin foo version 1.0*
+unpin foo version 1.0*
+unpin bar version 1.0*
+unpin '*' release sid
+prefs
+Package: foo
+Pin: version 2
+Pin-Priority: 5
+
+Package: bar
+Pin: origin x
+Pin-Priority: 500
+.
+unpin baz version 1.0*
+unpin foo version 2
+pin foo version 3 5
+prefs
+.
+unpin foo version 3
+unmark foo
+pin foo version 1 0
+mark foo 1_0
+frob
+pkgnames 'f
+pkgnames
+"""
+
+FILES = {
+    "main": b"Package: s\nVersion: 1\nDepends: x, y (>= 1) | z:any\nProvides: x\n\nPackage: t\nVersion: 1:2.0-1\nX: y\n z\n",
+    "sid": b"Package: foo\nVersion: 2.0-1\n",
+    "status": b"Package: foo\nStatus: install ok installed\nVersion: 1.0-1\n\nPackage: gone\nStatus: deinstall ok config-files\n",
+}
+
+LOADED = ["-l", "main={0}/main", "-l", "sid={0}/sid", "--status", "{0}/status"]
+
+# The name of a case, its script, and the words of the program, in which {0} is the folder of FILES.
+SCRIPTS = [
+    ("lists and stanzas", LISTS + STANZAS, []),
+    ("marks, pins, target and preferences", SETTINGS, []),
+    ("all edits over lists of -l and --status", b"pkgnames\n" + STANZAS + SETTINGS, LOADED),
+]
