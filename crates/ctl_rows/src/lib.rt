@@ -16,9 +16,17 @@ mod faults;
 #[cfg(test)]
 mod limits;
 #[cfg(test)]
+mod made;
+#[cfg(test)]
 mod scripts;
 #[cfg(test)]
+mod shown;
+#[cfg(test)]
 mod states;
+#[cfg(test)]
+mod store;
+#[cfg(test)]
+mod store_memory;
 #[cfg(test)]
 mod traps;
 

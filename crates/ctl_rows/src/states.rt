@@ -1,8 +1,9 @@
 //! What scripts leave in the store, as its views lend it.
 
 use crate::run_text;
+use crate::shown::{classes, lists, priorities, selectors, texts_in};
 use ctl_session::{Cache, Session};
-use ctl_store::{Counts, Limits, ListClass, Selector, Store};
+use ctl_store::{Counts, Limits, ListClass};
 use std::alloc::Global;
 use std::test::Fail;
 
@@ -29,73 +30,6 @@ fn goes_on(alloc: Global, session: &mut Session, script: &str) -> Result<(), Fai
     } else {
         Err(Fail::from("a refused edit"))
     }
-}
-
-/// The texts of the stanzas of a list, with a bar behind each.
-fn texts_in(alloc: Global, store: &Store, list: &[u8]) -> Result<Vec<u8>, Fail> {
-    let mut all = Vec::new(alloc);
-    for key in store.stanzas(list) {
-        all.extend_from_slice(store.stanza(key).text())?;
-        all.push(b'|')?;
-    }
-    Ok(all)
-}
-
-/// The same in the store of a session.
-fn texts(alloc: Global, session: &Session, list: &[u8]) -> Result<Vec<u8>, Fail> {
-    texts_in(alloc, session.cache().store(), list)
-}
-
-/// The names of the lists, with a bar behind each.
-fn lists(alloc: Global, session: &Session) -> Result<Vec<u8>, Fail> {
-    let mut all = Vec::new(alloc);
-    for (name, _kind, _class) in session.cache().store().lists() {
-        all.extend_from_slice(name)?;
-        all.push(b'|')?;
-    }
-    Ok(all)
-}
-
-/// The classes of the lists.
-fn classes(alloc: Global, session: &Session) -> Result<Vec<ListClass>, Fail> {
-    let mut all = Vec::new(alloc);
-    for (_name, _kind, class) in session.cache().store().lists() {
-        all.push(class)?;
-    }
-    Ok(all)
-}
-
-/// The words of the pins, with a bar behind each.
-fn selectors(alloc: Global, session: &Session) -> Result<Vec<u8>, Fail> {
-    let mut all = Vec::new(alloc);
-    for (selector, _priority) in session.cache().store().pins() {
-        match selector {
-            Selector::Version { package, version } => {
-                all.extend_from_slice(package.as_slice())?;
-                all.extend_from_slice(b" version ")?;
-                all.extend_from_slice(version.text())?;
-            }
-            Selector::Release { package, list } => {
-                match package {
-                    Some(package) => all.extend_from_slice(package.as_slice())?,
-                    None => all.push(b'*')?,
-                }
-                all.extend_from_slice(b" release ")?;
-                all.extend_from_slice(list.as_slice())?;
-            }
-        }
-        all.push(b'|')?;
-    }
-    Ok(all)
-}
-
-/// The priorities of the pins.
-fn priorities(alloc: Global, session: &Session) -> Result<Vec<i16>, Fail> {
-    let mut all = Vec::new(alloc);
-    for (_selector, priority) in session.cache().store().pins() {
-        all.push(priority)?;
-    }
-    Ok(all)
 }
 
 #[test]
@@ -162,7 +96,7 @@ fn a_stanza_takes_the_place_of_an_equal_one(rt: HostRuntime) -> Result<(), Fail>
     ];
     for (script, text) in rows {
         let session = after(rt.alloc(), script)?;
-        let kept = texts(rt.alloc(), &session, b"m")?;
+        let kept = texts_in(rt.alloc(), session.cache().store(), b"m")?;
         assert!(rt; kept.as_slice() == text.as_bytes(), "at {script}");
     }
     Ok(())
@@ -183,7 +117,7 @@ fn lists_keep_their_order(rt: HostRuntime) -> Result<(), Fail> {
     ];
     for (script, names) in rows {
         let session = after(rt.alloc(), script)?;
-        let kept = lists(rt.alloc(), &session)?;
+        let kept = lists(rt.alloc(), session.cache().store())?;
         assert!(rt; kept.as_slice() == names.as_bytes(), "at {script}");
     }
     Ok(())
@@ -195,7 +129,7 @@ fn lists_have_their_classes(rt: HostRuntime) -> Result<(), Fail> {
         rt.alloc(),
         "add-list a packages\n.\nadd-list b packages notauto\n.\nadd-list c packages butauto\n.\nadd-list d status\n.\n",
     )?;
-    let found = classes(rt.alloc(), &session)?;
+    let found = classes(rt.alloc(), session.cache().store())?;
     assert!(rt;
         found.as_slice()
             == [
@@ -238,7 +172,7 @@ fn pins_keep_their_place(rt: HostRuntime) -> Result<(), Fail> {
     ];
     for (script, words) in rows {
         let session = after(rt.alloc(), script)?;
-        let kept = selectors(rt.alloc(), &session)?;
+        let kept = selectors(rt.alloc(), session.cache().store())?;
         assert!(rt; kept.as_slice() == words.as_bytes(), "at {script}");
     }
     Ok(())
@@ -259,7 +193,7 @@ fn pins_have_the_priority_set_last(rt: HostRuntime) -> Result<(), Fail> {
     ];
     for (script, numbers) in rows {
         let session = after(rt.alloc(), script)?;
-        let kept = priorities(rt.alloc(), &session)?;
+        let kept = priorities(rt.alloc(), session.cache().store())?;
         assert!(rt; kept.as_slice() == numbers.as_slice(), "at {script}");
     }
     Ok(())
@@ -274,12 +208,12 @@ const PREFERENCES: &str =
 fn preferences_take_the_place_of_all_pins(rt: HostRuntime) -> Result<(), Fail> {
     let mut session = after(rt.alloc(), "target main\npin a version 1 7\n")?;
     goes_on(rt.alloc(), &mut session, PREFERENCES)?;
-    let kept = selectors(rt.alloc(), &session)?;
+    let kept = selectors(rt.alloc(), session.cache().store())?;
     assert_eq!(rt;
         kept.as_slice(),
         b"foo version 1.0*|bar version 1.0*|* release sid|".as_slice()
     );
-    let numbers = priorities(rt.alloc(), &session)?;
+    let numbers = priorities(rt.alloc(), session.cache().store())?;
     assert_eq!(rt; numbers.as_slice(), [1001, 1001, 50].as_slice());
     assert!(rt; session.cache().store().target() == Some(b"main".as_slice()));
     // One that is refused changes nothing.
@@ -304,7 +238,7 @@ fn preferences_take_the_place_of_all_pins(rt: HostRuntime) -> Result<(), Fail> {
     for (script, words) in rows {
         let text = run_text(rt.alloc(), &mut session, script.as_bytes())?;
         assert!(rt; text.as_slice() == words.as_bytes(), "at {script}");
-        let numbers = priorities(rt.alloc(), &session)?;
+        let numbers = priorities(rt.alloc(), session.cache().store())?;
         assert_eq!(rt; numbers.as_slice(), [1001, 1001, 50].as_slice());
     }
     goes_on(rt.alloc(), &mut session, "prefs\n.\n")?;
@@ -319,9 +253,9 @@ fn the_first_of_two_records_counts(rt: HostRuntime) -> Result<(), Fail> {
         "prefs\nPackage: a a\nPin: release a=m\nPin-Priority: 5\n\nPackage: a\nPin: release a=m\nPin-Priority: 6\n\n\
          Package: a\nPin: version 1\nPin-Priority: 8\n.\n",
     )?;
-    let kept = selectors(rt.alloc(), &session)?;
+    let kept = selectors(rt.alloc(), session.cache().store())?;
     assert_eq!(rt; kept.as_slice(), b"a release m|a version 1|".as_slice());
-    let numbers = priorities(rt.alloc(), &session)?;
+    let numbers = priorities(rt.alloc(), session.cache().store())?;
     assert_eq!(rt; numbers.as_slice(), [5, 8].as_slice());
     Ok(())
 }

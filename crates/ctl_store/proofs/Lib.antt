@@ -12,6 +12,7 @@ pub mod SoundLemmas
 pub mod PastLemmas
 pub mod FoundLemmas
 pub mod PinLemmas
+pub mod KeptLemmas
 pub mod KeyLemmas
 pub mod LookLemmas
 pub mod ComingLemmas

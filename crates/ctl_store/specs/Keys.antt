@@ -116,9 +116,13 @@ abbrev pub key_at : KeyedList → Option ℕ → List StanzaKey
 key_at l None = []
 key_at l (Some i) = map (λ (row : ℕ × Content). key_of l.serial row.0) (take 1 (drop i l.rows))
 
+-- the key of the next new stanza of a list
+abbrev pub next_key : KeyedList → List StanzaKey
+next_key l = key_of l.serial l.next ∷ []
+
 -- the key at a place, else a new one
 abbrev pub key_or_new : KeyedList → Option ℕ → List StanzaKey
-key_or_new l None = key_of l.serial l.next ∷ []
+key_or_new l None = next_key l
 key_or_new l (Some i) = key_at l (Some i)
 
 -- the key of the first stanza of this name and an equal version
@@ -134,6 +138,10 @@ found_in list name version ls = option_map_or (found_key name version) (at_name 
 
 abbrev pub kept_in : List ℕ → Content → List (List ℕ × KeyedList) → List StanzaKey
 kept_in list x ls = option_map_or (put_key x) (at_name list ls) []
+
+-- the key of the next new stanza of the list of a name
+abbrev pub next_in : List ℕ → List (List ℕ × KeyedList) → List StanzaKey
+next_in list ls = option_map_or next_key (at_name list ls) []
 
 abbrev pub all_in : List ℕ → List (List ℕ × KeyedList) → List StanzaKey
 all_in list ls = option_map_or keys_of (at_name list ls) []

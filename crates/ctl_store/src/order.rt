@@ -25,10 +25,10 @@ fn compare_versions(one: Option<&Version>, other: Option<&Version>) -> Ordering
 fn compare(stanza: &Stanza, name: &[u8], version: Option<&Version>) -> Ordering
     ensures { result ≡ id_cmp (id_of stanza.now) (id name.now (option_copied version.entry)) }
 {
-    stanza
-        .package()
-        .cmp(name)
-        .then(compare_versions(stanza.version(), version))
+    match stanza.package().cmp(name) {
+        Ordering::Equal => compare_versions(stanza.version(), version),
+        unequal => unequal,
+    }
 }
 
 // How the row of a serial stands to a name and a version.
@@ -73,33 +73,34 @@ pub(crate) fn sort_serials(rows: &[Row], order: &mut Vec<u64>)
     order.sort_unstable_by(|one, other| compare_places(rows, *one, *other));
 }
 
-/// Where a name and a version stand, or would, in the order of rows.
-pub(crate) fn lower(rows: &[Row], order: &[u64], name: &[u8], version: Option<&Version>) -> usize
+// Where a name and a version stand, or would, in the order of rows.
+fn lower(rows: &[Row], order: &[u64], name: &[u8], version: Option<&Version>) -> usize
     requires { (next : ℕ) × IsKept rows.now next order.now }
     ensures { result ≡ lower (id name.now (option_copied version.entry)) (sorted_ids (ids_of rows.now)) }
 {
     order.partition_point(|serial| compare_row(rows, *serial, name, version).is_lt())
 }
 
-/// The place of the first row of a name and an equal version.
-pub(crate) fn find(
+/// Where a name and a version stand, or would, in the order of rows, and the place of the first row that has them.
+pub(crate) fn look_up(
     rows: &[Row],
     order: &[u64],
     name: &[u8],
     version: Option<&Version>,
-) -> Option<usize>
+) -> (usize, Option<usize>)
     requires { (next : ℕ) × IsKept rows.now next order.now }
-    ensures place { result ≡ place (by_name_and_version name.now (option_copied version.entry)) rows.now }
-    ensures within { IfSome result (λ at. at < length rows.now) }
+    ensures order { result.0 ≡ lower (id name.now (option_copied version.entry)) (sorted_ids (ids_of rows.now)) }
+    ensures place { result.1 ≡ place (by_name_and_version name.now (option_copied version.entry)) rows.now }
+    ensures within { IfSome result.1 (λ at. at < length rows.now) }
 {
     let at = lower(rows, order, name, version);
     if at >= order.len() {
-        return None;
+        return (at, None);
     }
     let serial = order[at];
     if compare_row(rows, serial, name, version).is_eq() {
-        place_of(rows, serial)
+        (at, place_of(rows, serial))
     } else {
-        None
+        (at, None)
     }
 }

@@ -6,12 +6,12 @@ ghost use Rattle.std.specs.Prelude.{insert};
 ghost use Rattle.ctl_stanza.specs.Content.{package_of, version_of};
 ghost use Rattle.ctl_store.specs.Step.{place};
 ghost use Rattle.ctl_store.specs.Rows.{IsKept, Rises, by_name_and_version, put_row, next_after_put, remove_row, rows_from, sorted_serials};
-ghost use Rattle.ctl_store.specs.Keys.{keys_of, found_key, put_key};
+ghost use Rattle.ctl_store.specs.Keys.{keys_of, found_key};
 ghost use Rattle.ctl_store.specs.Held.{keyed_list};
 
 use crate::list_class::ListClass;
-use crate::order::{find, lower, sort_serials};
-use crate::rows::{Row, key_at, keys_of_rows, one_key, push_row};
+use crate::order::{look_up, sort_serials};
+use crate::rows::{Row, key_at, keys_of_rows, push_row};
 use crate::stanza_key::StanzaKey;
 use ctl_relation::Version;
 use ctl_stanza::{ListKind, Stanza};
@@ -143,7 +143,7 @@ impl Shelf {
         ensures place { result ≡ place (by_name_and_version name.now (option_copied version.entry)) self.now.rows }
         ensures within { IfSome result (λ at. at < length self.now.rows) }
     {
-        find(&self.rows, &self.order, name, version)
+        look_up(&self.rows, &self.order, name, version).1
     }
 
     /// The keys of all its stanzas.
@@ -168,18 +168,11 @@ impl Shelf {
         }
     }
 
-    /// The key under which a stanza stands once it is put.
-    pub(crate) fn put_key(
-        &self,
-        alloc: Global,
-        stanza: &Stanza,
-    ) -> Result<Vec<StanzaKey>, AllocError>
-        ensures { IfOk result (λ v. v.items ≡ put_key stanza.now (keyed_list self.now)) }
+    /// The serial of its next new stanza.
+    pub(crate) fn next(&self) -> u64
+        ensures { result ≡ self.now.next }
     {
-        match self.find(stanza.package(), stanza.version()) {
-            Some(at) => key_at(alloc, self.serial, &self.rows, at),
-            None => one_key(alloc, self.serial, self.next),
-        }
+        self.next
     }
 
     /// Makes the room for one stanza more.
@@ -226,11 +219,10 @@ fn put_in(rows: &mut Vec<Row>, next: &mut u64, order: &mut Vec<u64>, stanza: Box
     ensures rows { rows.new.items ≡ put_row stanza.value next.old rows.old.items }
     ensures next { next.new ≡ next_after_put stanza.value next.old rows.old.items }
 {
-    match find(rows, order, stanza.package(), stanza.version()) {
-        Some(at) => rows[at].replace(stanza),
-        None => {
-            let at = lower(rows, order, stanza.package(), stanza.version());
-            insert_serial(order, at, *next);
+    match look_up(rows, order, stanza.package(), stanza.version()) {
+        (_, Some(at)) => rows[at].replace(stanza),
+        (order_at, None) => {
+            insert_serial(order, order_at, *next);
             push_row(rows, Row::new(*next, stanza));
             *next += 1;
         }
@@ -261,12 +253,11 @@ fn remove_from(
     ensures kept { IsKept rows.new.items next order.new.items }
     ensures rows { rows.new.items ≡ remove_row name.now (option_copied version.entry) rows.old.items }
 {
-    match find(rows, order, name, version) {
-        Some(at) => {
-            let order_at = lower(rows, order, name, version);
+    match look_up(rows, order, name, version) {
+        (order_at, Some(at)) => {
             let _ = order.remove(order_at);
             let _ = rows.remove(at);
         }
-        None => {}
+        (_, None) => {}
     }
 }

@@ -1,4 +1,4 @@
-//! A table by byte strings, in order of insertion, and the lists in it.
+//! A table by byte strings, and the lists in it.
 ghost use Rattle.std.specs.Prelude.{length, map, IfSome, ◌++◌, ◌∷◌, ◌≡◌, ◌<◌, ◌≤◌, ◌↔◌, ℕ, List, [], OnOk, IsOk, None, Some, option_copied, if◌then◌else◌};
 ghost use Rattle.ctl_store.specs.Named.{at_name, put_named, without_name, by_bytes};
 ghost use Rattle.std.specs.Prelude.{◌+◌, ◌^◌};
@@ -17,7 +17,8 @@ use indexmap::map::Slice;
 use std::alloc::{AllocError, Global};
 use std::marker::Model;
 
-/// Values by name. A contract sees the entries in order, and the room: how many more fit with no memory.
+/// Values by name, in order of insertion until one goes by `swap_remove`. A contract sees the entries in order, and the
+/// room: how many more fit with no memory.
 #[derive(Drop)]
 pub(crate) struct Table<V> {
     rows: IndexMap<Vec<u8>, V>,

@@ -1,13 +1,14 @@
 //! Plans are carried out.
 
-ghost use Rattle.std.specs.Prelude.{◌≡◌, ◌+◌, ◌<◌, ◌≤◌, ◌∷◌, ◌++◌, ℕ, [], None, Some, IfSome, length, map, vec_len, if◌then◌else◌};
+ghost use Rattle.std.specs.Prelude.{◌≡◌, ◌+◌, ◌-◌, ◌<◌, ◌≤◌, ◌∷◌, ◌++◌, ℕ, [], None, Some, IfSome, length, map, vec_len, if◌then◌else◌};
 ghost use Rattle.std.specs.Vec.{vec_capacity};
 ghost use Rattle.ctl_store.specs.Named.{at_name};
 ghost use Rattle.ctl_store.specs.Pins.{selector_eq};
 ghost use Rattle.ctl_store.specs.Edits.{edit_of, settings_of};
 ghost use Rattle.ctl_store.specs.Edits as edits;
 ghost use Rattle.ctl_store.specs.Step.{after, refusal_of};
-ghost use Rattle.ctl_store.specs.Keys.{keyed_after, IsNotAmong, stanza_at};
+ghost use Rattle.ctl_stanza.specs.Content.{package_of, version_of};
+ghost use Rattle.ctl_store.specs.Keys.{keyed_after, removed_of, found_in, IsNotAmong, stanza_at};
 ghost use Rattle.ctl_store.specs.Held.{state_of, keyed_of, lists_of, IsReady, HasRoom, HasRoomInList, AreDistinct};
 ghost use Rattle.ctl_store.specs.declared.stanza_key.StanzaKey.{StanzaKey};
 ghost use Rattle.indexmap.specs.IndexMap.{insert_entry, spare};
@@ -24,10 +25,11 @@ use ctl_relation::{Bytes, Version};
 use ctl_stanza::{ListKind, Stanza};
 use indexmap::IndexMap;
 
-fn one_unless(is_there: bool) -> u32
-    ensures { result ≡ (if is_there then 0 else 1) }
+// How many stanzas more a list has once one is put, where so many keys go.
+fn more_if_none_goes(gone: usize) -> u32
+    ensures { result ≡ 1 - gone }
 {
-    if is_there { 0 } else { 1 }
+    if gone == 0 { 1 } else { 0 }
 }
 
 // Sets a pin, for which there is room.
@@ -69,18 +71,26 @@ impl Store {
     {
         let Plan {
             edit,
-            removed: _removed,
+            removed,
             added: _added,
             rows,
             order,
             pins,
         } = plan;
-        self.make(edit, rows, order, pins);
+        self.make(edit, removed.len(), rows, order, pins);
     }
 
-    // Makes an edit, for which this is ready: room for rows, the order of stanzas, and room for pins.
-    fn make(&mut self, edit: Edit, rows: Vec<Row>, order: Vec<u64>, pins: IndexMap<Selector, i16>)
+    // Makes an edit by which so many keys go, and for which this is ready: room for rows, for their order, and for pins.
+    fn make(
+        &mut self,
+        edit: Edit,
+        gone: usize,
+        rows: Vec<Row>,
+        order: Vec<u64>,
+        pins: IndexMap<Selector, i16>,
+    )
         requires accepted { refusal_of self.old.limits (state_of self.old) (edit_of edit) ≡ None }
+        requires gone { gone ≡ length (removed_of (keyed_of self.old) (edit_of edit)) }
         requires room { HasRoom self.old (record { rows_room = vec_capacity rows; order_room = vec_capacity order; pins_room = spare pins }) (edit_of edit) }
         requires rows { rows.items ≡ [] }
         requires order { order.items ≡ [] }
@@ -97,7 +107,7 @@ impl Store {
                 stanzas,
             } => self.add_list(name, kind, class, stanzas, rows, order),
             Edit::DropList { name } => self.drop_list(&name),
-            Edit::Put { list, stanza } => self.put(&list, stanza),
+            Edit::Put { list, stanza } => self.put(&list, stanza, gone),
             Edit::Remove {
                 list,
                 package,
@@ -156,18 +166,17 @@ impl Store {
         self.edits += 1;
     }
 
-    fn put(&mut self, list: &Bytes, stanza: Box<Stanza>)
+    fn put(&mut self, list: &Bytes, stanza: Box<Stanza>, gone: usize)
         requires accepted { refusal_of self.old.limits (state_of self.old) (edits.Put list.now stanza.value) ≡ None }
+        requires gone { gone ≡ length (found_in list.now (package_of stanza.value) (version_of stanza.value) (keyed_of self.old).lists) }
         requires room { IfSome (at_name list.now self.old.lists) HasRoomInList }
         ensures state { state_of self.new ≡ after (state_of self.old) (edits.Put list.now stanza.value) }
         ensures keyed { keyed_of self.new ≡ keyed_after (keyed_of self.old) (edits.Put list.now stanza.value) }
         ensures limits { self.new.limits ≡ self.old.limits }
     {
         let _limits = self.limits;
-        let is_there = self.has_stanza(list.as_slice(), stanza.package(), stanza.version());
-        let more = one_unless(is_there);
         self.lists.put_in(list.as_slice(), stanza);
-        self.stanzas += more;
+        self.stanzas += more_if_none_goes(gone);
         self.edits += 1;
     }
 

@@ -4,17 +4,18 @@ ghost use Rattle.std.specs.Prelude.{◌≡◌, ◌≢◌, ◌<◌, [], ◌≤◌
 ghost use Rattle.std.specs.Vec.{vec_capacity};
 ghost use Rattle.indexmap.specs.IndexMap.{spare};
 ghost use Rattle.ctl_store.specs.declared.refusal.Refusal.TheVariants as refusal;
+ghost use Rattle.ctl_stanza.specs.Content.{package_of, version_of};
 ghost use Rattle.ctl_store.specs.Named.{at_name};
 ghost use Rattle.ctl_store.specs.Edits.{edit_of, settings_of};
 ghost use Rattle.ctl_store.specs.Step.{refusal_of};
 ghost use Rattle.ctl_store.specs.Rows.{rows_from};
-ghost use Rattle.ctl_store.specs.Keys.{removed_of, added_of, found_in, kept_in, all_in, keys_of, list_of_stanzas, key_of};
+ghost use Rattle.ctl_store.specs.Keys.{removed_of, added_of, found_in, kept_in, next_in, all_in, keys_of, list_of_stanzas, key_of};
 ghost use Rattle.ctl_store.specs.Held.{state_of, keyed_of, IsReady, IsProper, IsReadyFor, HasRoomIn, HasRoom, HasRoomInList};
 
 use crate::edit::Edit;
 use crate::plan::Plan;
 use crate::refusal::Refusal;
-use crate::rows::Row;
+use crate::rows::{Row, one_key};
 use crate::selector::Selector;
 use crate::stanza_key::StanzaKey;
 use crate::store::Store;
@@ -88,13 +89,30 @@ impl Store {
         }
     }
 
+    // The key of the next new stanza of a list, if there is a list of this name.
     #[tactic(auto, using(crate::proofs::ListedLemmas::at_name_lists))]
-    fn kept_in(&self, list: &[u8], stanza: &Stanza) -> Result<Vec<StanzaKey>, AllocError>
-        ensures { IfOk result (λ v. v.items ≡ kept_in list.now stanza.now (keyed_of self.now).lists) }
+    fn next_in(&self, list: &[u8]) -> Result<Vec<StanzaKey>, AllocError>
+        ensures { IfOk result (λ v. v.items ≡ next_in list.now (keyed_of self.now).lists) }
     {
         match self.lists.get(list) {
-            Some(shelf) => shelf.put_key(self.alloc, stanza),
+            Some(shelf) => one_key(self.alloc, shelf.serial(), shelf.next()),
             None => Ok(Vec::new(self.alloc)),
+        }
+    }
+
+    // The key under which a stanza that is put stands: that which goes, else a new one.
+    fn kept_in(
+        &self,
+        list: &[u8],
+        stanza: &Stanza,
+        removed: &[StanzaKey],
+    ) -> Result<Vec<StanzaKey>, AllocError>
+        requires { removed.now ≡ found_in list.now (package_of stanza.now) (version_of stanza.now) (keyed_of self.now).lists }
+        ensures { IfOk result (λ v. v.items ≡ kept_in list.now stanza.now (keyed_of self.now).lists) }
+    {
+        match removed.first() {
+            Some(key) => one_key(self.alloc, key.list, key.stanza),
+            None => self.next_in(list),
         }
     }
 
@@ -125,7 +143,9 @@ impl Store {
         }
     }
 
-    fn added_keys(&self, edit: &Edit) -> Result<Vec<StanzaKey>, AllocError>
+    // The keys that come, where these go.
+    fn added_keys(&self, edit: &Edit, removed: &[StanzaKey]) -> Result<Vec<StanzaKey>, AllocError>
+        requires { removed.now ≡ removed_of (keyed_of self.now) (edit_of edit.now) }
         ensures { IfOk result (λ v. v.items ≡ added_of (keyed_of self.now) (edit_of edit.now)) }
     {
         match edit {
@@ -135,7 +155,7 @@ impl Store {
                 class: _,
                 stanzas,
             } => new_keys(self.alloc, self.next_list, stanzas),
-            Edit::Put { list, stanza } => self.kept_in(list.as_slice(), stanza),
+            Edit::Put { list, stanza } => self.kept_in(list.as_slice(), stanza, removed),
             _ => Ok(Vec::new(self.alloc)),
         }
     }
@@ -187,7 +207,7 @@ impl Store {
             Ok(keys) => keys,
             Err(_) => return Err((edit, Refusal::Memory)),
         };
-        let added = match self.added_keys(&edit) {
+        let added = match self.added_keys(&edit, &removed) {
             Ok(keys) => keys,
             Err(_) => return Err((edit, Refusal::Memory)),
         };

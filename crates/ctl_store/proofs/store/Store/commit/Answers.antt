@@ -1,6 +1,7 @@
-use Rattle.std.proofs.Common.{◌≡◌, None, ap, subst, sym, ◌∙◌}
+use Rattle.std.proofs.Common.{◌≡◌, None, List, length, ap, subst, sym, ◌∙◌, arith}
+use Rattle.ctl_store.specs.declared.stanza_key.StanzaKey.{StanzaKey}
 use Rattle.ctl_store.specs.Step.{refusal_of}
-use Rattle.ctl_store.specs.Keys.{Keyed, keyed_after, IsNotAmong, stanza_at}
+use Rattle.ctl_store.specs.Keys.{Keyed, keyed_after, removed_of, IsNotAmong, stanza_at}
 use Rattle.ctl_store.specs.Held.{state_of, keyed_of, ready_of, HasRoom}
 use Rattle.ctl_store.proofs.StepLemmas.{stays_law}
 use Rattle.ctl_store.proofs.store.Store.commit.Goals as goal
@@ -8,6 +9,7 @@ use Rattle.ctl_store.proofs.store.Store.commit.Goals as goal
 pub make-requires : goal.make-requires
 make-requires c = record {
   accepted = subst (λ p. refusal_of c.args.self.now.limits (state_of c.args.self.now) p.edit ≡ None) (sym c.plan.view_is) c.requires.accepted;
+  gone = omega (arith, c.len.ensures, ap (λ (ks : List StanzaKey). length ks) (ap (λ p. p.removed) c.plan.view_is ∙ c.requires.removed ∙ ap (λ p. removed_of (keyed_of c.args.self.now) p.edit) (sym c.plan.view_is)));
   room = subst (λ p. HasRoom c.args.self.now (ready_of p) p.edit) (sym c.plan.view_is) c.requires.room;
   rows = c.plan.invariant.no_rows;
   order = c.plan.invariant.no_order;

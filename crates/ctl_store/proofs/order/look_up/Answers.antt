@@ -3,7 +3,7 @@ use Rattle.std.specs.Ordering.{is_eq}
 use Rattle.ctl_store.specs.Step.{place}
 use Rattle.ctl_store.specs.Rows.{has_serial}
 use Rattle.ctl_store.proofs.OrderLemmas.{found_here, found_past}
-use Rattle.ctl_store.proofs.order.find.Goals as goal
+use Rattle.ctl_store.proofs.order.look_up.Goals as goal
 
 pub returns-then-at-order-clause-place : goal.returns-then-at-order-clause-place
 returns-then-at-order-clause-place c =

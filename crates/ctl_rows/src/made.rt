@@ -1,0 +1,132 @@
+//! Edits and their parts, made of texts. None comes where memory is refused, or where a text is not well formed.
+
+ghost use Rattle.std.specs.Prelude.{◌≡◌, Some, IfOk, IfSome};
+ghost use Rattle.ctl_store.specs.Edits.{edit_of, settings_of};
+ghost use Rattle.ctl_store.specs.Held.{IsProper, AreDistinct};
+
+use ctl_relation::{Bytes, Version};
+use ctl_stanza::{ListKind, Stanza, read_stanzas};
+use ctl_store::{Edit, ListClass, PinSetting, PinVersion, Selector, Store, boxed, read_prefs};
+use std::alloc::Global;
+use std::test::Fail;
+
+pub fn name(alloc: Global, text: &str) -> Option<Bytes> {
+    Bytes::from_slice(alloc, text.as_bytes()).ok()
+}
+
+pub fn version(alloc: Global, text: &str) -> Option<Version> {
+    Version::parse(alloc, text.as_bytes()).ok()
+}
+
+pub fn stanzas(alloc: Global, text: &str) -> Option<Vec<Box<Stanza>>> {
+    let read = read_stanzas(alloc, text.as_bytes(), 1, ListKind::Packages).ok()?;
+    boxed(alloc, read).ok()
+}
+
+pub fn selector(alloc: Global, package: &str, version: &str) -> Option<Selector> {
+    let version = PinVersion::read(alloc, version.as_bytes()).ok()??;
+    Some(Selector::Version {
+        package: name(alloc, package)?,
+        version,
+    })
+}
+
+/// The edit that adds a list `m` of packages.
+pub fn add_list(alloc: Global, text: &str) -> Option<Edit>
+    ensures { IfSome result (λ edit. IsProper (edit_of edit)) }
+{
+    Some(Edit::AddList {
+        name: name(alloc, "m")?,
+        kind: ListKind::Packages,
+        class: ListClass::NotAutomatic,
+        stanzas: stanzas(alloc, text)?,
+    })
+}
+
+/// The edit that puts a stanza into the list `m`.
+pub fn put(alloc: Global, text: &str) -> Option<Edit>
+    ensures { IfSome result (λ edit. IsProper (edit_of edit)) }
+{
+    let stanza = stanzas(alloc, text)?.pop()?;
+    Some(Edit::Put {
+        list: name(alloc, "m")?,
+        stanza,
+    })
+}
+
+/// The edit that takes a stanza out of the list `m`.
+pub fn remove(alloc: Global, package: &str, text: &str) -> Option<Edit>
+    ensures { IfSome result (λ edit. IsProper (edit_of edit)) }
+{
+    Some(Edit::Remove {
+        list: name(alloc, "m")?,
+        package: name(alloc, package)?,
+        version: version(alloc, text)?,
+    })
+}
+
+pub fn mark(alloc: Global, package: &str, text: &str) -> Option<Edit>
+    ensures { IfSome result (λ edit. IsProper (edit_of edit)) }
+{
+    Some(Edit::Mark {
+        package: name(alloc, package)?,
+        version: Some(version(alloc, text)?),
+    })
+}
+
+pub fn pin(alloc: Global, package: &str, version: &str, priority: i16) -> Option<Edit>
+    ensures { IfSome result (λ edit. IsProper (edit_of edit)) }
+{
+    Some(Edit::Pin {
+        setting: PinSetting {
+            selector: selector(alloc, package, version)?,
+            priority,
+        },
+    })
+}
+
+pub fn unpin(alloc: Global, package: &str, version: &str) -> Option<Edit>
+    ensures { IfSome result (λ edit. IsProper (edit_of edit)) }
+{
+    Some(Edit::Unpin {
+        selector: selector(alloc, package, version)?,
+    })
+}
+
+/// The pin settings of preferences.
+pub fn settings(alloc: Global, text: &str) -> Option<Vec<PinSetting>>
+    ensures { IfSome result (λ settings. AreDistinct (settings_of settings.items)) }
+{
+    read_prefs(alloc, text.as_bytes(), 1).ok()
+}
+
+pub fn prefs(alloc: Global, text: &str) -> Option<Edit>
+    ensures { IfSome result (λ edit. IsProper (edit_of edit)) }
+{
+    Some(Edit::Prefs {
+        settings: settings(alloc, text)?,
+    })
+}
+
+/// What a test is to begin with.
+pub fn given<T>(made: Option<T>) -> Result<T, Fail>
+    ensures { IfOk result (λ it. made ≡ Some it) }
+{
+    match made {
+        Some(it) => Ok(it),
+        None => Err(Fail::from("a part could not be made")),
+    }
+}
+
+/// Makes an edit that the store accepts.
+pub fn edited(store: &mut Store, edit: Edit) -> Result<(), Fail>
+    requires { IsProper (edit_of edit) }
+{
+    match store.prepare(edit) {
+        Ok(plan) => {
+            store.commit(plan);
+            Ok(())
+        }
+        Err(_) => Err(Fail::from("a refused edit")),
+    }
+}
