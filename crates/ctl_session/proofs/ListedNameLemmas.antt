@@ -75,9 +75,10 @@ keys_more {lists} {all} {keys} {left} {prefix} {old} {mid} {new} key stanza are 
       whole = before.whole ∙ ap (λ xs. before.front ++ xs) (first.2 ∙ ap (λ x. x ∷ first.1) (sym is)) ∙ sym (append_assoc before.front (stanza ∷ []) first.1);
       left = first.4;
       adds = λ name. grown name ∙ ap (λ t. (starts_with nat_eq name prefix && describes name stanza) || t) (before.adds name) ∙
-        one_more (starts_with nat_eq name prefix) (list_any (describes name) before.front) (describes name stanza) (is_among old name) ∙
-        ap (λ t. (starts_with nat_eq name prefix && t) || is_among old name) (sym (list_any-append (describes name) before.front (stanza ∷ []) ∙ ap (λ t. list_any (describes name) before.front || t) (or_false (describes name stanza))));
+          one_more (starts_with nat_eq name prefix) (list_any (describes name) before.front) (describes name stanza) (is_among old name) ∙
+          ap (λ t. (starts_with nat_eq name prefix && t) || is_among old name) (sym (list_any-append (describes name) before.front (stanza ∷ []) ∙ ap (λ t. list_any (describes name) before.front || t) (or_false (describes name stanza))));
     }
+
 -- a stanza that isn't live adds nothing
 pub adds_nothing : (begins old one : Bool) → one ≡ false → old ≡ ((begins && one) || old)
 adds_nothing begins old one dead = sym (ap (λ t. t || old) (ap (λ t. begins && t) dead ∙ and_false begins))
@@ -144,19 +145,19 @@ lists_more {lists} {items} {left} {prefix} {mid} {new} item distinct are before 
     let l = first.0 in
     let whole : lists ≡ before.front ++ l ∷ first.1 = before.whole ∙ ap (λ ls. before.front ++ ls) first.2 in
     let stanzas : stanzas_named item.0 lists ≡ l.1.stanzas =
-        ap (λ n. stanzas_named n lists) (ap (λ (i : List ℕ × ListKind × ListClass). i.0) first.3) ∙ ap (stanzas_named l.0) whole ∙
-        middle_named before.front l first.1 (subst (λ ls. IsDistinct bytes_eq (keys_of ls)) whole distinct) in
+    ap (λ n. stanzas_named n lists) (ap (λ (i : List ℕ × ListKind × ListClass). i.0) first.3) ∙ ap (stanzas_named l.0) whole ∙
+    middle_named before.front l first.1 (subst (λ ls. IsDistinct bytes_eq (keys_of ls)) whole distinct) in
     record {
       front = before.front ++ l ∷ [];
       rest = first.1;
       whole = whole ∙ sym (append_assoc before.front (l ∷ []) first.1);
       left = first.4;
       members = λ name.
-        let has : List ℕ × StanzaList → Bool = λ m. list_any (describes name) m.1.stanzas in
-        adds name ∙ ap (λ t. (starts_with nat_eq name prefix && list_any (describes name) (stanzas_named item.0 lists)) || t) (before.members name) ∙
-        ap (λ xs. (starts_with nat_eq name prefix && list_any (describes name) xs) || (starts_with nat_eq name prefix && list_any has before.front)) stanzas ∙
-        members_more (starts_with nat_eq name prefix) (list_any has before.front) (has l) ∙
-        ap (λ t. starts_with nat_eq name prefix && t) (sym (list_any-append has before.front (l ∷ []) ∙ ap (λ t. list_any has before.front || t) (or_false (has l))));
+          let has : List ℕ × StanzaList → Bool = λ m. list_any (describes name) m.1.stanzas in
+          adds name ∙ ap (λ t. (starts_with nat_eq name prefix && list_any (describes name) (stanzas_named item.0 lists)) || t) (before.members name) ∙
+          ap (λ xs. (starts_with nat_eq name prefix && list_any (describes name) xs) || (starts_with nat_eq name prefix && list_any has before.front)) stanzas ∙
+          members_more (starts_with nat_eq name prefix) (list_any has before.front) (has l) ∙
+          ap (λ t. starts_with nat_eq name prefix && t) (sym (list_any-append has before.front (l ∷ []) ∙ ap (λ t. list_any has before.front || t) (or_false (has l))));
     }
 
 -- no list is left

@@ -37,9 +37,10 @@ quoted_by false b within quoted has = onto_has b quoted
 -- within a word there is one
 pub has_first : (text : List ℕ) → HasFirst (words_from Within text) × HasFirst (words_from Quoted text)
 has_first [] = (tt, tt)
-has_first (b ∷ text) =
-    (has_by (is_blank_byte b) (b == apostrophe) b (words_from Between text) (words_from Within text) (words_from Quoted text) (has_first text).1,
-     quoted_by (b == apostrophe) b (words_from Within text) (words_from Quoted text) (has_first text).0)
+has_first (b ∷ text) = (
+  has_by (is_blank_byte b) (b == apostrophe) b (words_from Between text) (words_from Within text) (words_from Quoted text) (has_first text).1,
+  quoted_by (b == apostrophe) b (words_from Within text) (words_from Quoted text) (has_first text).0,
+)
 
 first_more : (b : ℕ) (word : List ℕ) (words : List (List ℕ)) → before_first (word ++ b ∷ []) words ≡ before_first word (onto_first b words)
 first_more b word [] = refl

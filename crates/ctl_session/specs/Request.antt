@@ -62,7 +62,7 @@ abbrev pub class_of_words : List ℕ → List ℕ → Option ListClass
 class_of_words kind class =
     if bytes_eq kind (codes "packages")
     then (if bytes_eq class (codes "notauto") then Some NotAutomatic
-        else (if bytes_eq class (codes "butauto") then Some ButAutomatic else None))
+    else (if bytes_eq class (codes "butauto") then Some ButAutomatic else None))
     else None
 
 abbrev pub add_plain_list : List ℕ → Option ListKind → Result Request Refusal
@@ -123,8 +123,8 @@ abbrev pub version_selector : List ℕ → List ℕ → Result Selector Refusal
 version_selector name version =
     if bytes_eq name (codes "*") then Err refusal.Usage
     else (if is_name name
-        then (if is_pin_version version then Ok (selector.Version name version) else Err refusal.Version)
-        else Err refusal.Name)
+    then (if is_pin_version version then Ok (selector.Version name version) else Err refusal.Version)
+    else Err refusal.Name)
 
 -- `PKG release LIST`, or with `*` for all packages
 abbrev pub release_selector : List ℕ → List ℕ → Result Selector Refusal
@@ -132,8 +132,8 @@ release_selector name list =
     if bytes_eq name (codes "*")
     then (if is_name list then Ok (selector.Release None list) else Err refusal.Name)
     else (if is_name name
-        then (if is_name list then Ok (selector.Release (Some name) list) else Err refusal.Name)
-        else Err refusal.Name)
+    then (if is_name list then Ok (selector.Release (Some name) list) else Err refusal.Name)
+    else Err refusal.Name)
 
 -- the selector that three words give
 abbrev pub selector_of : List ℕ → List ℕ → List ℕ → Result Selector Refusal

@@ -73,9 +73,7 @@ pub(crate) fn has_body(line: &[u8]) -> bool
     ensures { result ≡ names_body (name_of line.now) }
 {
     let name = name(line);
-    name == b"add-list".as_slice()
-        || name == b"put".as_slice()
-        || name == b"prefs".as_slice()
+    name == b"add-list".as_slice() || name == b"put".as_slice() || name == b"prefs".as_slice()
 }
 
 /// Whether a line ends a body.

@@ -9,10 +9,10 @@ ghost use Rattle.ctl_session.specs.LineReading.{is_failed_read};
 ghost use Rattle.ctl_session.specs.Reading.{HoldsBody, ReadsBody, ReadsHead, ReadsNext, StopsInBody, StopsReading};
 
 use crate::fault::ReadingFault;
+use crate::line_words::{has_body, is_dot, is_no_command};
 use crate::lines::Lines;
 use crate::read_ahead::LineRead;
 use crate::source::Source;
-use crate::line_words::{has_body, is_dot, is_no_command};
 use ctl_stanza::MAX_LINE;
 use std::alloc::{AllocError, Global};
 
