@@ -7,7 +7,7 @@ use Rattle.clap.specs.declared.builder.action.ArgAction.TheVariants.{Set, Append
 
 -- `-l NAME=FILE`, any number of times; 108 is the letter `l`
 abbrev pub list_rule : Rule
-list_rule = record (new_rule (codes "NAME=FILE")) { short = Some 108; action = Some Append }
+list_rule = record (new_rule (codes "LIST")) { short = Some 108; action = Some Append }
 
 -- `--status FILE`
 abbrev pub status_rule : Rule

@@ -19,11 +19,7 @@ use std::alloc::{AllocError, Global};
 fn with_list<'a>(alloc: Global, command: Command<'a>) -> Result<Command<'a>, AllocError>
     ensures { IfOk result (λ more. app_of more ≡ with_rule (app_of command.entry) list_rule) }
 {
-    command.arg(
-        Arg::new(alloc, "NAME=FILE")
-            .short('l')
-            .action(ArgAction::Append),
-    )
+    command.arg(Arg::new(alloc, "LIST").short('l').action(ArgAction::Append))
 }
 
 /// Adds `--status FILE`.
@@ -77,7 +73,7 @@ fn asked(alloc: Global, matches: &ArgMatches<'_>) -> Result<Arguments, AllocErro
     ensures status { IfOk result (λ arguments. option_map string_bytes arguments.status ≡ first_value (found_of matches.now) (codes "FILE")) }
     ensures script { IfOk result (λ arguments. option_map string_bytes arguments.script ≡ first_value (found_of matches.now) (codes "SCRIPT")) }
 {
-    let lists = match matches.get_strs("NAME=FILE") {
+    let lists = match matches.get_strs("LIST") {
         None => Vec::new(alloc),
         Some(lists) => all_owned(alloc, lists)?,
     };
