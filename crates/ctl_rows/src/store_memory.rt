@@ -1,6 +1,7 @@
 //! Every edit, made of two stores in turn. Where memory is refused once, at any place, the edit that meets it leaves its
 //! store as the other still is, and is then made again.
 
+ghost use Rattle.std.specs.Prelude.{IfSome};
 ghost use Rattle.ctl_store.specs.Edits.{edit_of};
 ghost use Rattle.ctl_store.specs.Held.{IsProper};
 
