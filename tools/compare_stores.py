@@ -213,6 +213,12 @@ def state_words(oracle, state, keys, limits):
     return words + f" counts {state.count()} {state.edits} limits {limits.stanzas} {limits.edits}"
 
 
+def first_text(edit):
+    """The text of the first stanza that an edit brings, as the probe prints it."""
+    stanzas = {"add-list": edit[-1], "put": edit[-1:]}.get(edit[0], [])
+    return f"={stanzas[0].text.hex()}" if stanzas else ""
+
+
 def generate_sequence(source, oracle):
     """The lines of a sequence, each with what is to be printed for it."""
     small = source.random() < 0.4
@@ -229,7 +235,7 @@ def generate_sequence(source, oracle):
             after = oracle.step(state, limits, edit)
             gone, come = keys.after(oracle, edit, state)
             state = after
-            outcome = "ok" + "".join(f" -{key}" for key in gone) + "".join(f" +{key}" for key in come)
+            outcome = "ok" + "".join(f" -{key}" for key in gone) + "".join(f" +{key}" for key in come) + first_text(edit)
         except oracle.Refused as refused:
             outcome = f"foretold {refused.number} refused {refused.number} "
         told.append(("\t".join(words), outcome))

@@ -1,76 +1,81 @@
 #!/usr/bin/env python3
-"""Refuses each allocation of a test in turn.
+"""refuse_store_allocations.py [LINES]
 
-    tools/refuse_store_allocations.py [FIRST [LAST]]
+Runs the program crates/store_probe, which `rt run` builds there, on its lines (crates/store_probe/stdin) with the first
+request for memory refused, then the second, and so on until none is; and then the same with the Nth request and all after it
+refused. Behind each edit the lines ask for all that the store holds.
 
-The test `store_memory` of ctl_rows makes every edit of two stores. Where memory is refused, it compares the store with the
-other, which has not made that edit yet, and makes the edit again. It is run by `rt try --test --fail-alloc N` for each N
-from FIRST (1) to LAST (the last allocation that the test asks for), in a copy of the crates that has this test alone. Some
-runs go side by side, as many as RUNS in the environment says (2)."""
+A run may end early with a status that isn't 0: memory was refused to the program itself, and what it wrote before is what it
+writes with ample memory. Else the edit that met the refusal has to be refused with number 22, and the store has to hold what
+it held before. The last lines count the requests and the edits refused.
 
-import concurrent.futures
+It needs a C compiler, and is no part of the gate."""
+
 import os
-import re
-import shutil
-import subprocess
 import sys
 import tempfile
 
-ROOT = os.path.dirname(os.path.dirname(os.path.abspath(__file__)))
-CRATES = ["ctl_relation", "ctl_stanza", "ctl_store", "ctl_rows"]
-RUNS = int(os.environ.get("RUNS", "2"))
-MODULES = ["made", "shown", "store_memory"]
-TEST = "a_refused_allocation_leaves_the_store"
-WITHOUT = "no_allocation_was_refused"
+from refuse_allocations import HERE, library, run
+
+PROBE = os.path.join(HERE, "../crates/store_probe/out/store_probe")
+LINES = os.path.join(HERE, "../crates/store_probe/stdin")
+DUMP = b"dump\t61\t62\t6162\t6c69626336"
+REFUSED = b"refused 22 "
 
 
-def copied(folder):
-    """The crates that the test needs, and of ctl_rows the modules that it needs."""
-    for crate in CRATES:
-        shutil.copytree(os.path.join(ROOT, "crates", crate), os.path.join(folder, "crates", crate), ignore=shutil.ignore_patterns("out", "must-fail"))
-    shutil.copy(os.path.join(ROOT, "HANDLES"), folder)
-    with open(os.path.join(ROOT, "crates.txt")) as file, open(os.path.join(folder, "crates.txt"), "w") as to:
-        for line in file:
-            if line.split(":")[0] in CRATES:
-                to.write(line.replace("ctl_session ", ""))
-    source = os.path.join(folder, "crates", "ctl_rows", "src")
-    for name in os.listdir(source):
-        if name[:-3] not in MODULES:
-            os.remove(os.path.join(source, name))
-    with open(os.path.join(source, "lib.rt"), "w") as file:
-        file.write("//! One test.\n#![tactic(auto)]\n\n" + "".join("#[cfg(test)]\nmod %s;\n" % module for module in MODULES))
-    return os.path.join(folder, "crates", "ctl_rows")
+def with_dumps(lines):
+    """The lines, with all that the store holds asked for behind each edit."""
+    more = []
+    for line in lines:
+        if not line.startswith(b"dump"):
+            more += [line, DUMP]
+    return more
 
 
-def run(crate, number):
-    """Whether the test passes where this allocation is refused, whether there is one, and what was said."""
-    command = ["rt", "try", "--test", "--fail-alloc", str(number)]
-    said = subprocess.run(command, cwd=crate, stdout=subprocess.PIPE, stderr=subprocess.STDOUT, text=True, errors="replace").stdout
-    passed, none = (re.search(r"^test \S*::%s \.\.\. ok$" % name, said, re.M) is not None for name in (TEST, WITHOUT))
-    return passed, not none, said
+def judge(lines, ample, answers, status):
+    """Whether the answers are as they may be, and how many edits were refused for memory."""
+    refused = 0
+    for at, answer in enumerate(answers):
+        if answer != REFUSED:
+            # what comes behind a refused edit may differ, since that edit is not there
+            if not refused and answer != ample[at]:
+                return None
+            continue
+        refused += 1
+        if at + 1 < len(answers) and answers[at + 1] != answers[at - 1]:
+            return None
+    whole = len(answers) == len(lines)
+    return refused if whole or status != 0 else None
+
+
+def check(preload, folder, lines, more):
+    """Refuses each request in turn. How many runs there were, how many ended early, and how many edits were refused."""
+    text = b"".join(line + b"\n" for line in lines)
+    count_file = os.path.join(folder, "count")
+    ample = run(PROBE, [], text)[1].split(b"\n")[:-1]
+    nth, ended, edits = 0, 0, 0
+    while True:
+        nth += 1
+        settings = {"LD_PRELOAD": preload, "REFUSE_NTH": str(nth), "REFUSE_COUNT": count_file, **more}
+        status, output, errors = run(PROBE, [], text, settings)
+        with open(count_file, encoding="ascii") as file:
+            if int(file.read()) < nth:
+                return nth - 1, ended, edits
+        refused = judge(lines, ample, output.split(b"\n")[:-1], status)
+        if refused is None:
+            raise SystemExit("request %d: status %d, output %r, errors %r" % (nth, status, output[-2000:], errors))
+        ended += status != 0
+        edits += refused
 
 
 def main(words):
-    first = int(words[0]) if words else 1
-    last = int(words[1]) if len(words) > 1 else None
-    failed, refused, number = [], 0, first
-    with tempfile.TemporaryDirectory() as folder, concurrent.futures.ThreadPoolExecutor(RUNS) as pool:
-        crate = copied(folder)
-        passed, _, said = run(crate, 10 ** 9)
-        if not passed:
-            raise SystemExit(said[-2000:] + "\nthe test does not pass where no memory is refused")
-        more = True
-        while more and (last is None or number <= last):
-            numbers = range(number, number + RUNS if last is None else min(number + RUNS, last + 1))
-            for at, (passed, is_there, said) in zip(numbers, pool.map(lambda it: run(crate, it), numbers)):
-                refused += is_there
-                more = more and is_there
-                if not passed:
-                    failed.append(at)
-                    print("allocation %d: %s" % (at, said[-1000:]))
-            number = numbers[-1] + 1
-    print("%d allocations refused in turn, from %d on: %d passed, %d failed" % (refused, first, refused - len(failed), len(failed)))
-    raise SystemExit(bool(failed))
+    with open(words[0] if words else LINES, "rb") as file:
+        lines = with_dumps(file.read().split(b"\n")[:-1])
+    with tempfile.TemporaryDirectory() as folder:
+        preload = library(folder)
+        for what, more in (("refused in turn", {}), ("refused with all after it", {"REFUSE_ALL": "1"})):
+            requests, ended, edits = check(preload, folder, lines, more)
+            print("each of %d requests %s: %d runs ended early, %d edits refused" % (requests, what, ended, edits))
 
 
 if __name__ == "__main__":

@@ -26,8 +26,6 @@ mod states;
 #[cfg(test)]
 mod store;
 #[cfg(test)]
-mod store_memory;
-#[cfg(test)]
 mod traps;
 
 /// Runs a script that is in memory, and gives what it writes: the text of the script's commands, one after another.

@@ -1,10 +1,27 @@
-//! What a store holds, as its views lend it.
+//! What a store holds, as text.
 
+use ctl_relation::Version;
+use ctl_stanza::ListKind;
 use ctl_store::{ListClass, Selector, Store};
 use std::alloc::{AllocError, Global};
 
+fn kind_name(kind: ListKind) -> &'static [u8] {
+    match kind {
+        ListKind::Packages => b" packages ",
+        ListKind::Status => b" status ",
+    }
+}
+
+fn class_name(class: ListClass) -> &'static [u8] {
+    match class {
+        ListClass::Plain => b"plain\n",
+        ListClass::NotAutomatic => b"notauto\n",
+        ListClass::ButAutomatic => b"butauto\n",
+    }
+}
+
 /// The texts of the stanzas of a list, with a bar behind each.
-pub fn texts_in(alloc: Global, store: &Store, list: &[u8]) -> Result<Vec<u8>, AllocError> {
+fn texts_in(alloc: Global, store: &Store, list: &[u8]) -> Result<Vec<u8>, AllocError> {
     let mut all = Vec::new(alloc);
     for key in store.stanzas(list) {
         all.extend_from_slice(store.stanza(key).text())?;
@@ -13,66 +30,81 @@ pub fn texts_in(alloc: Global, store: &Store, list: &[u8]) -> Result<Vec<u8>, Al
     Ok(all)
 }
 
-/// The names of the lists, with a bar behind each.
-pub fn lists(alloc: Global, store: &Store) -> Result<Vec<u8>, AllocError> {
-    let mut all = Vec::new(alloc);
-    for (name, _kind, _class) in store.lists() {
+/// Each list with its kind, its class and its stanzas.
+fn append_lists(alloc: Global, store: &Store, all: &mut Vec<u8>) -> Result<(), AllocError> {
+    for (name, kind, class) in store.lists() {
+        all.extend_from_slice(b"list ")?;
         all.extend_from_slice(name)?;
-        all.push(b'|')?;
+        all.extend_from_slice(kind_name(kind))?;
+        all.extend_from_slice(class_name(class))?;
+        let texts = texts_in(alloc, store, name)?;
+        all.extend_from_slice(&texts)?;
     }
-    Ok(all)
+    Ok(())
 }
 
-/// The classes of the lists.
-pub fn classes(alloc: Global, store: &Store) -> Result<Vec<ListClass>, AllocError> {
-    let mut all = Vec::new(alloc);
-    for (_name, _kind, class) in store.lists() {
-        all.push(class)?;
-    }
-    Ok(all)
+fn append_mark(
+    name: &[u8],
+    mark: Option<Option<&Version>>,
+    all: &mut Vec<u8>,
+) -> Result<(), AllocError> {
+    let text = match mark {
+        Some(Some(version)) => version.text(),
+        Some(None) => b"none",
+        None => return Ok(()),
+    };
+    all.extend_from_slice(b"mark ")?;
+    all.extend_from_slice(name)?;
+    all.push(b' ')?;
+    all.extend_from_slice(text)?;
+    all.push(b'\n')?;
+    Ok(())
 }
 
-/// The words of the pins, with a bar behind each.
-pub fn selectors(alloc: Global, store: &Store) -> Result<Vec<u8>, AllocError> {
-    let mut all = Vec::new(alloc);
-    for (selector, _priority) in store.pins() {
-        match selector {
-            Selector::Version { package, version } => {
-                all.extend_from_slice(package.as_slice())?;
-                all.extend_from_slice(b" version ")?;
-                all.extend_from_slice(version.text())?;
-            }
-            Selector::Release { package, list } => {
-                match package {
-                    Some(package) => all.extend_from_slice(package.as_slice())?,
-                    None => all.push(b'*')?,
-                }
-                all.extend_from_slice(b" release ")?;
-                all.extend_from_slice(list.as_slice())?;
-            }
+fn append_selector(selector: &Selector, all: &mut Vec<u8>) -> Result<(), AllocError> {
+    match selector {
+        Selector::Version { package, version } => {
+            all.extend_from_slice(package.as_slice())?;
+            all.extend_from_slice(b" version ")?;
+            all.extend_from_slice(version.text())
         }
-        all.push(b'|')?;
+        Selector::Release { package, list } => {
+            match package {
+                Some(package) => all.extend_from_slice(package.as_slice())?,
+                None => all.push(b'*')?,
+            }
+            all.extend_from_slice(b" release ")?;
+            all.extend_from_slice(list.as_slice())
+        }
     }
-    Ok(all)
 }
 
-/// The priorities of the pins.
-pub fn priorities(alloc: Global, store: &Store) -> Result<Vec<i16>, AllocError> {
-    let mut all = Vec::new(alloc);
-    for (_selector, priority) in store.pins() {
-        all.push(priority)?;
+fn append_pins(alloc: Global, store: &Store, all: &mut Vec<u8>) -> Result<(), AllocError> {
+    for (selector, priority) in store.pins() {
+        all.extend_from_slice(b"pin ")?;
+        append_selector(selector, all)?;
+        let told = format!(in alloc; " {priority}\n")?;
+        all.extend_from_slice(told.as_bytes())?;
     }
-    Ok(all)
+    Ok(())
 }
 
-/// The lists with their stanzas, the pins, and the target release.
+/// The lists, the marks of the packages `a`, `b` and `c`, the pins, the target release and the counts, a line for each and
+/// stanzas as they are.
 pub fn state(alloc: Global, store: &Store) -> Result<Vec<u8>, AllocError> {
-    let mut all = lists(alloc, store)?;
-    all.extend_from_slice(&texts_in(alloc, store, b"m")?)?;
-    all.extend_from_slice(&selectors(alloc, store)?)?;
-    for priority in priorities(alloc, store)?.as_slice() {
-        all.extend_from_slice(&priority.to_be_bytes())?;
+    let mut all = Vec::new(alloc);
+    append_lists(alloc, store, &mut all)?;
+    append_mark(b"a", store.mark(b"a"), &mut all)?;
+    append_mark(b"b", store.mark(b"b"), &mut all)?;
+    append_mark(b"c", store.mark(b"c"), &mut all)?;
+    append_pins(alloc, store, &mut all)?;
+    if let Some(target) = store.target() {
+        all.extend_from_slice(b"target ")?;
+        all.extend_from_slice(target)?;
+        all.push(b'\n')?;
     }
-    all.extend_from_slice(store.target().unwrap_or(b""))?;
+    let counts = store.counts();
+    let told = format!(in alloc; "{} stanzas, {} edits\n", counts.stanzas, counts.edits)?;
+    all.extend_from_slice(told.as_bytes())?;
     Ok(all)
 }

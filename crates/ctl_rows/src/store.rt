@@ -6,8 +6,7 @@ ghost use Rattle.ctl_store.specs.Held.{IsProper};
 use crate::made::{add_list, edited, given, mark, name, pin, put, settings, version};
 use ctl_stanza::{Cause, ListKind, TextFault};
 use ctl_store::{
-    Counts, Edit, Limits, ListClass, PinSetting, PinVersion, Plan, Refusal, Selector, StanzaKey,
-    Store, read_prefs, read_priority,
+    Counts, Edit, Limits, PinSetting, PinVersion, Plan, Refusal, Store, read_prefs, read_priority,
 };
 use std::alloc::Global;
 use std::test::Fail;
@@ -77,79 +76,6 @@ fn a_list_has_a_kind(rt: HostRuntime) -> Result<(), Fail> {
     Ok(())
 }
 
-/// What `check` says of an edit.
-fn refusal_of(store: &Store, edit: &Edit) -> Option<Refusal> {
-    store.check(edit).err()
-}
-
-#[test]
-fn a_check_foretells_the_refusal(rt: HostRuntime) -> Result<(), Fail> {
-    let store = with_list(rt.alloc())?;
-    let again = refusal_of(&store, &given(add_list(rt.alloc(), LIST))?);
-    assert_eq!(rt; again, Some(Refusal::ListExists));
-    let fits = refusal_of(&store, &given(put(rt.alloc(), "Package: c\nVersion: 1\n"))?);
-    assert_eq!(rt; fits, None);
-    Ok(())
-}
-
-/// Whether the store refuses an edit, and hands back one that it refuses again for the same cause.
-fn comes_back(store: &mut Store, edit: Edit, why: Refusal) -> bool
-    requires { IsProper (edit_of edit) }
-{
-    match store.prepare(edit) {
-        Ok(_) => false,
-        Err((edit, given)) => given == why && store.check(&edit) == Err(why),
-    }
-}
-
-#[test]
-fn a_refused_edit_comes_back(rt: HostRuntime) -> Result<(), Fail> {
-    let mut store = with_list(rt.alloc())?;
-    let edit = given(add_list(rt.alloc(), LIST))?;
-    let came_back = comes_back(&mut store, edit, Refusal::ListExists);
-    assert!(rt; came_back);
-    assert_eq!(rt;
-        store.counts(),
-        Counts {
-            stanzas: 2,
-            edits: 1
-        }
-    );
-    Ok(())
-}
-
-/// The keys that a plan takes out and brings.
-fn keys(alloc: Global, plan: &Plan) -> Result<(Vec<StanzaKey>, Vec<StanzaKey>), Fail> {
-    Ok((
-        Vec::from_slice(alloc, plan.removed())?,
-        Vec::from_slice(alloc, plan.added())?,
-    ))
-}
-
-/// The text of the first stanza that a plan brings.
-fn first_text(alloc: Global, plan: &Plan) -> Result<Vec<u8>, Fail> {
-    match plan.added().split_first() {
-        Some((key, _)) => Ok(Vec::from_slice(alloc, plan.stanza(*key).text())?),
-        None => Err(Fail::from("no key")),
-    }
-}
-
-#[test]
-fn a_replaced_key_goes_and_comes(rt: HostRuntime) -> Result<(), Fail> {
-    let mut store = with_list(rt.alloc())?;
-    let edit = given(put(rt.alloc(), "Package: a\nVersion: 1-0\n"))?;
-    let Ok(plan) = store.prepare(edit) else {
-        return Err(Fail::from("a refused edit"));
-    };
-    let (removed, added) = keys(rt.alloc(), &plan)?;
-    let text = first_text(rt.alloc(), &plan)?;
-    let key = StanzaKey { list: 0, stanza: 0 };
-    assert_eq!(rt; removed.as_slice(), [key].as_slice());
-    assert_eq!(rt; added.as_slice(), [key].as_slice());
-    assert_eq!(rt; text.as_slice(), b"Package: a\nVersion: 1-0\n".as_slice());
-    Ok(())
-}
-
 /// Whether the edit of a plan is a mark.
 fn is_mark(plan: &Plan) -> bool {
     match plan.edit() {
@@ -161,40 +87,22 @@ fn is_mark(plan: &Plan) -> bool {
     }
 }
 
+/// Whether the edit of the plan that the store makes is a mark.
+fn plans_a_mark(store: &mut Store, edit: Edit) -> bool
+    requires { IsProper (edit_of edit) }
+{
+    match store.prepare(edit) {
+        Ok(plan) => is_mark(&plan),
+        Err(_) => false,
+    }
+}
+
 #[test]
 fn a_plan_has_its_edit(rt: HostRuntime) -> Result<(), Fail> {
     let mut store = Store::new(rt.alloc());
-    let edit = Edit::Mark {
-        package: given(name(rt.alloc(), "a"))?,
-        version: None,
-    };
-    let Ok(plan) = store.prepare(edit) else {
-        return Err(Fail::from("a refused edit"));
-    };
-    let same = is_mark(&plan);
-    assert!(rt; same);
-    Ok(())
-}
-
-/// The keys and the list's name of the stanzas of a list, in order.
-fn held_in(alloc: Global, store: &Store, list: &[u8]) -> Result<Vec<u8>, Fail> {
-    let mut all = Vec::new(alloc);
-    for key in store.stanzas(list) {
-        all.extend_from_slice(store.list_of(key))?;
-        all.push(b' ')?;
-        all.extend_from_slice(store.stanza(key).package())?;
-        all.push(b'|')?;
-    }
-    Ok(all)
-}
-
-#[test]
-fn a_key_leads_to_its_stanza_and_its_list(rt: HostRuntime) -> Result<(), Fail> {
-    let store = with_list(rt.alloc())?;
-    let held = held_in(rt.alloc(), &store, b"m")?;
-    assert_eq!(rt; held.as_slice(), b"m a|m b|".as_slice());
-    let none = held_in(rt.alloc(), &store, b"n")?;
-    assert!(rt; none.is_empty());
+    let edit = given(mark(rt.alloc(), "a", "1"))?;
+    let planned = plans_a_mark(&mut store, edit);
+    assert!(rt; planned);
     Ok(())
 }
 

@@ -1,8 +1,8 @@
 //! Changes a store by edits from standard input, each on a line of words with tabs between them: the edit's name and its
-//! parts, in which bytes stand as hexadecimal digits. Prints for each, on a line, `ok` and the keys that went and came, or
-//! `foretold` and the number of the refusal that is foretold, and `refused` and the number of that which comes. `limits`,
-//! with how many stanzas and edits, begins with a new store, and `dump`, with the names of packages, prints all that the
-//! store holds and the marks of these packages.
+//! parts, in which bytes stand as hexadecimal digits. Prints for each, on a line, `ok`, the keys that went and came and the
+//! text of the first stanza that came, or `foretold` and the number of the refusal that is foretold, and `refused` and the
+//! number of that which comes. `limits`, with how many stanzas and edits, begins with a new store, and `dump`, with the
+//! names of packages, prints all that the store holds and the marks of these packages.
 #![tactic(auto)]
 
 ghost use Rattle.ctl_store.specs.Edits.{edit_of};
@@ -15,11 +15,19 @@ mod words;
 use anyhow::Result;
 use ctl_store::{Edit, Limits, Plan, Refusal, Store};
 use edits::edit_named;
-use state::{append_key, append_state};
+use state::{append_key, append_state, append_word};
 use std::alloc::{AllocError, Global};
 use std::io;
 use std::io::{BufRead, BufReader, BufWriter, Write};
 use words::Words;
+
+// The text of the first stanza that comes.
+fn append_first(alloc: Global, plan: &Plan, line: &mut Vec<u8>) -> Result<(), AllocError> {
+    match plan.added().split_first() {
+        Some((key, _)) => append_word(alloc, b"=", plan.stanza(*key).text(), line),
+        None => Ok(()),
+    }
+}
 
 fn append_keys(alloc: Global, plan: &Plan, line: &mut Vec<u8>) -> Result<(), AllocError> {
     line.extend_from_slice(b"ok")?;
@@ -31,7 +39,7 @@ fn append_keys(alloc: Global, plan: &Plan, line: &mut Vec<u8>) -> Result<(), All
         line.push(b' ')?;
         append_key(alloc, b'+', *key, line)?;
     }
-    Ok(())
+    append_first(alloc, plan, line)
 }
 
 fn append_refusal(

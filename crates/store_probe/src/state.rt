@@ -8,7 +8,7 @@ use ctl_store::{ListClass, Selector, StanzaKey, Store};
 use std::alloc::{AllocError, Global};
 
 /// A word in hexadecimal digits, behind bytes that say what it is.
-fn append_word(
+pub fn append_word(
     alloc: Global,
     mark: &[u8],
     word: &[u8],
