@@ -11,11 +11,12 @@ kept here by their rules: a list and a stanza that come new take the next serial
 takes over its key. `rt run` in crates/store_probe builds the program that is compared.
 """
 
-import collections
 import pathlib
 import random
 import subprocess
 import sys
+
+from answers import compare, tell
 
 PROBE = pathlib.Path(__file__).resolve().parent.parent / "crates/store_probe/out/store_probe"
 SEQUENCES = 600
@@ -251,19 +252,12 @@ def probe(lines):
     return done.stdout.decode().split("\n")[:-1]
 
 
-def compare(told, answers):
-    """How often each outcome of each edit came; shows the first answers that are others than those told."""
-    outcomes = collections.Counter()
-    wrong = 0
-    for (line, wanted), answer in zip(told, answers, strict=True):
-        word = line.split("\t")[0]
-        if word not in ("limits", "dump"):
-            outcomes[word, wanted.split(" ")[1] if wanted.startswith("foretold") else "ok"] += 1
-        if answer != wanted:
-            wrong += 1
-            if wrong <= 5:
-                print(f"{line[:300]}\n  gives       {answer[:600]}\n  and not     {wanted[:600]}")
-    return outcomes, wrong
+def outcome_of(line, wanted):
+    """The name of an edit, with the number of its refusal or `ok`."""
+    word = line.split("\t")[0]
+    if word in ("limits", "dump"):
+        return None
+    return word, wanted.split(" ")[1] if wanted.startswith("foretold") else "ok"
 
 
 def main():
@@ -276,14 +270,8 @@ def main():
     count = int(sys.argv[2]) if len(sys.argv) == 3 else SEQUENCES
     told = [line for _ in range(count) for line in generate_sequence(source, oracle)]
     answers = probe(line for line, _ in told)
-    if len(answers) != len(told):
-        raise SystemExit(f"{len(answers)} answers for {len(told)} lines")
-    outcomes, wrong = compare(told, answers)
-    for (word, outcome), times in sorted(outcomes.items()):
-        print(f"{word:10} {outcome:3} {times}")
-    print(f"{count} sequences, {sum(outcomes.values())} edits, {wrong} answers are others")
-    if wrong:
-        raise SystemExit(1)
+    outcomes, wrong = compare(told, answers, outcome_of)
+    tell(outcomes, f"{count} sequences, {sum(outcomes.values())} edits, {wrong} answers are others", wrong)
 
 
 if __name__ == "__main__":

@@ -10,11 +10,12 @@ status file of dpkg, these files are compared too, and pieces of them that are c
 `rt run` in crates/text_probe builds the program that is compared.
 """
 
-import collections
 import pathlib
 import random
 import subprocess
 import sys
+
+from answers import compare, tell
 
 PROBE = pathlib.Path(__file__).resolve().parent.parent / "crates/text_probe/out/text_probe"
 GENERATED = 6_000
@@ -152,6 +153,11 @@ def probe(texts):
     return done.stdout.decode().split("\n")[:-1]
 
 
+def outcome_of(line, wanted):
+    """The kind of a text, with the number of its fault or `read`."""
+    return line.split("\t")[0], wanted.split(" ")[2] if wanted.startswith("fault") else "read"
+
+
 def main():
     if len(sys.argv) < 2:
         raise SystemExit(__doc__)
@@ -171,23 +177,9 @@ def main():
         texts.append((kind, text))
         for piece in pieces_of(source, text, PIECES):
             texts.append((source.choice([kind, kind, "status", "records"]), piece))
-    answers = probe(texts)
-    if len(answers) != len(texts):
-        raise SystemExit(f"{len(answers)} answers for {len(texts)} texts")
-    told = collections.Counter()
-    wrong = 0
-    for (kind, text), answer in zip(texts, answers):
-        wanted = expected(oracle, kind, text)
-        told[kind, wanted.split(" ")[2] if wanted.startswith("fault") else "read"] += 1
-        if answer != wanted:
-            wrong += 1
-            if wrong <= 5:
-                print(f"{kind} {text[:400]!r}\n  is read to   {answer[:300]}\n  and not to   {wanted[:300]}")
-    for (kind, what), count in sorted(told.items()):
-        print(f"{kind:9} {what:5} {count}")
-    print(f"{len(texts)} texts, {wrong} read otherwise")
-    if wrong:
-        raise SystemExit(1)
+    told = [(f"{kind}\t{text!r}", expected(oracle, kind, text)) for kind, text in texts]
+    outcomes, wrong = compare(told, probe(texts), outcome_of)
+    tell(outcomes, f"{len(texts)} texts, {wrong} read otherwise", wrong)
 
 
 if __name__ == "__main__":

@@ -34,29 +34,26 @@ class Talk:
         return rest, self.running.returncode
 
 
-def test_answers(tests):
+def talk_by_turns(tests, what, turns, end):
+    """What is said, and the line that is then heard, turn by turn; and what comes at the end."""
     talk = Talk(tests.program)
-    talk.say(LIST + b"pkgnames f\n")
-    tests.same("a first answer", talk.hear(), b"foo\n")
-    talk.say(b"frob\n")
-    tests.same("a refusal in a talk", talk.hear(), b"E: line 9: unknown command\n")
-    talk.say(b"pkgnames b\n")
-    tests.same("a last answer", talk.hear(), b"bar\n")
-    tests.same("the end of a talk", talk.end(), (b"", 1))
+    for number, (said, heard) in enumerate(turns, 1):
+        talk.say(said)
+        tests.same("%s, turn %d" % (what, number), talk.hear(), heard)
+    tests.same("the end of %s" % what, talk.end(), end)
+
+
+def test_answers(tests):
+    turns = [(LIST + b"pkgnames f\n", b"foo\n"), (b"frob\n", b"E: line 9: unknown command\n"), (b"pkgnames b\n", b"bar\n")]
+    talk_by_turns(tests, "a talk", turns, (b"", 1))
 
 
 def test_edits(tests):
     """Edits print nothing, and the next answer tells what they did."""
-    talk = Talk(tests.program)
-    talk.say(LIST)
-    talk.say(b"remove main foo 1-0\n")
-    talk.say(b"put main\nPackage: baz\nVersion: 1\n.\n")
-    talk.say(b"pkgnames\n")
-    tests.same("the first name after edits", talk.hear(), b"bar\n")
-    tests.same("the second name after edits", talk.hear(), b"baz\n")
-    talk.say(b"drop-list main\npkgnames\ndrop-list main\n")
-    tests.same("a refusal after an empty answer", talk.hear(), b"E: line 16: no such list\n")
-    tests.same("the end of edits", talk.end(), (b"", 1))
+    edits = LIST + b"remove main foo 1-0\nput main\nPackage: baz\nVersion: 1\n.\n"
+    turns = [(edits + b"pkgnames\n", b"bar\n"), (b"", b"baz\n"),
+             (b"drop-list main\npkgnames\ndrop-list main\n", b"E: line 16: no such list\n")]
+    talk_by_turns(tests, "a talk of edits", turns, (b"", 1))
 
 
 def test_pieces(tests):
