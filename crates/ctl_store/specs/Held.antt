@@ -1,5 +1,5 @@
 -- A store with its rooms: how much more it takes without memory.
-use Rattle.std.specs.Prelude.{◌≡◌, ℕ, ℤ, ◌+◌, ◌<◌, ◌≤◌, suc, List, [], ◌∷◌, map, length, Option, None, Some, IfSome, nat_eq, if◌then◌else◌}
+use Rattle.std.specs.Prelude.{◌≡◌, ℕ, ℤ, ◌+◌, ◌<◌, ◌≤◌, suc, List, [], ◌∷◌, map, length, Option, None, Some, IfSome, Vec, nat_eq, if◌then◌else◌}
 use Rattle.std.specs.List.{IsDistinct}
 use Rattle.std.specs.Map.{keys_of as names_of}
 use Rattle.std.specs.FinMap as fin
@@ -15,7 +15,8 @@ use Rattle.ctl_store.specs.Pins.{selector_eq}
 use Rattle.ctl_store.specs.State.{State, stanza_count, status_count}
 use Rattle.ctl_store.specs.Edits.{Edit, AddList, DropList, Put, Remove, Mark, Unmark, Pin, Unpin, Target, Prefs}
 use Rattle.ctl_store.specs.Step.{refusal_of}
-use Rattle.ctl_store.specs.Rows.{Rises}
+use Rattle.ctl_store.specs.Rows.{Rises, IsKept}
+use Rattle.ctl_store.specs.Pieces.{joined, IsFit}
 use Rattle.ctl_store.specs.Keys.{KeyedList, Keyed, stanza_lists, removed_of, added_of, AreComing}
 
 -- a list with the room for more of its rows, and in its order
@@ -78,32 +79,54 @@ pub record IsSound (lists : List (List ℕ × Sheet)) (next_list statuses stanza
   pub stanzas_bounded : limits.stanzas ≤ most
   pub edits_bounded : limits.edits ≤ most
 
+-- what every list keeps: its rows and their order, each in pieces
+pub record IsShelved {A B : Type 0} (rows rows_ready : Vec (Vec (ℕ × Content) A) B) (next : ℕ) (order order_ready : Vec (Vec ℕ A) B) : Type 0 where
+  pub kept : IsKept (joined rows.items) next (joined order.items)
+  pub rows_fit : IsFit rows rows_ready
+  pub order_fit : IsFit order order_ready
+
 -- ---- plans
+
+-- the room for a new list: for its serials while they are put in order, for its rows, and for the order that stays
+pub record ListRoom : Type 0 where
+  pub serials : ℕ
+  pub rows : ℕ
+  pub order : ℕ
+
+-- nothing stands yet in the room for a new list
+pub record IsBare {R A B C : Type 0} (serials : Vec ℕ C) (rows rows_ready : Vec (Vec R A) B) (order order_ready : Vec (Vec ℕ A) B) : Type 0 where
+  pub no_serials : serials.items ≡ []
+  pub no_rows : rows.items ≡ []
+  pub rows_fit : IsFit rows rows_ready
+  pub no_order : order.items ≡ []
+  pub order_fit : IsFit order order_ready
+
+-- so many stanzas fit in the room
+pub record Fits (count : ℕ) (room : ListRoom) : Type 0 where
+  pub serials : count ≤ room.serials
+  pub rows : count ≤ room.rows
+  pub order : count ≤ room.order
 
 -- a plan: the edit, the keys that go and come, and what is made ready for the edit
 pub record Planned : Type 0 where
   pub edit : Edit
   pub removed : List StanzaKey
   pub added : List StanzaKey
-  pub rows_room : ℕ
-  pub order_room : ℕ
+  pub list_room : ListRoom
   pub pins_room : ℕ
 
--- what every plan keeps: nothing stands yet in the room that is made ready, and a stanza comes under each key
-pub record IsWhole {R : Type 0} (rows : List R) (order : List ℕ) (pins : List (Selector × ℤ)) (added : List StanzaKey) (edit : Edit) : Type 0 where
-  pub no_rows : rows ≡ []
-  pub no_order : order ≡ []
+-- what every plan keeps: nothing stands yet in the room for pins, and a stanza comes under each key
+pub record IsWhole (pins : List (Selector × ℤ)) (added : List StanzaKey) (edit : Edit) : Type 0 where
   pub no_pins : pins ≡ []
   pub coming : AreComing added edit
 
 -- what is made ready for an edit, beside the room in the store
 pub record Ready : Type 0 where
-  pub rows_room : ℕ
-  pub order_room : ℕ
+  pub list_room : ListRoom
   pub pins_room : ℕ
 
 abbrev pub ready_of : Planned → Ready
-ready_of plan = record { rows_room = plan.rows_room; order_room = plan.order_room; pins_room = plan.pins_room }
+ready_of plan = record { list_room = plan.list_room; pins_room = plan.pins_room }
 
 -- there is room for one stanza more in a list
 pub record HasRoomInList (s : Sheet) : Type 0 where
@@ -113,8 +136,7 @@ pub record HasRoomInList (s : Sheet) : Type 0 where
 -- what is made ready for a new list
 pub record HasRoomForList (h : Held) (stanzas : List Content) (ready : Ready) : Type 0 where
   pub list : 0 < h.lists_room
-  pub rows : length stanzas ≤ ready.rows_room
-  pub order : length stanzas ≤ ready.order_room
+  pub room : Fits (length stanzas) ready.list_room
 
 -- no selector stands twice
 abbrev pub AreDistinct : List (Selector × ℤ) → Type 0
@@ -152,12 +174,8 @@ HasRoomIn h (Target name) = Unit {0}
 HasRoomIn h (Prefs pins) = Unit {0}
 
 -- what is made ready for a new list, and for pin settings
-pub record IsReadyForList (stanzas : List Content) (ready : Ready) : Type 0 where
-  pub rows : length stanzas ≤ ready.rows_room
-  pub order : length stanzas ≤ ready.order_room
-
 abbrev pub IsReadyFor : Edit → Ready → Type 0
-IsReadyFor (AddList name kind class stanzas) ready = IsReadyForList stanzas ready
+IsReadyFor (AddList name kind class stanzas) ready = Fits (length stanzas) ready.list_room
 IsReadyFor (DropList name) ready = Unit {0}
 IsReadyFor (Put list x) ready = Unit {0}
 IsReadyFor (Remove list name version) ready = Unit {0}

@@ -14,5 +14,6 @@ pub mod Prefs
 pub mod Edits
 pub mod Step
 pub mod Rows
+pub mod Pieces
 pub mod Keys
 pub mod Held

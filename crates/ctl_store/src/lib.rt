@@ -5,6 +5,7 @@ mod edit;
 mod limits;
 mod list_class;
 mod order;
+mod pieces;
 mod pin_version;
 mod plan;
 mod prefs;

@@ -1,12 +1,15 @@
 //! The order of names and versions, by which the stanzas of a list are found.
 
-ghost use Rattle.std.specs.Prelude.{◌≡◌, ◌<◌, ℕ, IfSome, length, map, option_map, option_copied};
+ghost use Rattle.std.specs.Prelude.{◌≡◌, ◌<◌, ◌≤◌, ℕ, [], IfSome, length, map, option_map, option_copied};
+ghost use Rattle.std.specs.Vec.{vec_capacity};
 ghost use Rattle.std.specs.Option.{option_cmp};
 ghost use Rattle.ctl_store.specs.Step.{place};
 ghost use Rattle.ctl_store.specs.Rows.{IsKept, Rises, id, id_of, id_cmp, ids_of, sorted_ids, sorted_serials, lower, order_at, place_cmp, rows_from, version_order, version_id, by_name_and_version};
-ghost use Rattle.ctl_store.specs.Keys.{stanzas_of};
+ghost use Rattle.std.specs.Ordering.{is_lt};
+ghost use Rattle.ctl_store.specs.Pieces.{joined, last_passes, place_of_spot, ArePieces, IsSpot, IsSpotOrEnd};
 
-use crate::rows::{Row, place_of};
+use crate::pieces::Spot;
+use crate::rows::{Row, spot_of, stanza_of};
 use ctl_relation::Version;
 use ctl_stanza::Stanza;
 use std::cmp::Ordering;
@@ -32,75 +35,119 @@ fn compare(stanza: &Stanza, name: &[u8], version: Option<&Version>) -> Ordering
 }
 
 // How the row of a serial stands to a name and a version.
-fn compare_row(rows: &[Row], serial: u64, name: &[u8], version: Option<&Version>) -> Ordering
-    requires { (n : ℕ) × (m : ℕ) × Rises n rows.now m }
-    ensures { result ≡ order_at rows.now (id name.now (option_copied version.entry)) serial }
+fn compare_row(rows: &[Vec<Row>], serial: u64, name: &[u8], version: Option<&Version>) -> Ordering
+    requires pieces { ArePieces rows.now }
+    requires rises { (n : ℕ) × (m : ℕ) × Rises n (joined rows.now) m }
+    ensures { result ≡ order_at (joined rows.now) (id name.now (option_copied version.entry)) serial }
 {
-    match place_of(rows, serial) {
-        Some(at) => compare(rows[at].stanza(), name, version),
+    match stanza_of(rows, serial) {
+        Some(stanza) => compare(stanza, name, version),
         None => Ordering::Less,
     }
 }
 
-// How two rows stand by their names and versions. Where there is no row, it stands first.
-fn compare_rows(one: Option<&Row>, other: Option<&Row>) -> Ordering
-    ensures { result ≡ option_cmp id_cmp (option_map (λ row. id_of row.1) (option_copied one.entry)) (option_map (λ row. id_of row.1) (option_copied other.entry)) }
+// Whether the row of the last of some serials comes before a name and a version.
+fn ends_before(rows: &[Vec<Row>], serials: &[u64], name: &[u8], version: Option<&Version>) -> bool
+    requires pieces { ArePieces rows.now }
+    requires rises { (n : ℕ) × (m : ℕ) × Rises n (joined rows.now) m }
+    ensures { result ≡ last_passes (λ serial. is_lt (order_at (joined rows.now) (id name.now (option_copied version.entry)) serial)) serials.now }
+{
+    match serials.last() {
+        Some(serial) => compare_row(rows, *serial, name, version).is_lt(),
+        None => false,
+    }
+}
+
+// How two stanzas stand by their names and versions. Where there is none, it stands first.
+fn compare_stanzas(one: Option<&Box<Stanza>>, other: Option<&Box<Stanza>>) -> Ordering
+    ensures { result ≡ option_cmp id_cmp (option_map (λ stanza. id_of stanza.value) (option_copied one.entry)) (option_map (λ stanza. id_of stanza.value) (option_copied other.entry)) }
 {
     match (one, other) {
         (None, None) => Ordering::Equal,
         (None, Some(_)) => Ordering::Less,
         (Some(_), None) => Ordering::Greater,
-        (Some(one), Some(other)) => {
-            let other = other.stanza();
-            compare(one.stanza(), other.package(), other.version())
-        }
+        (Some(one), Some(other)) => compare(one, other.package(), other.version()),
     }
 }
 
-// How the rows at two places stand, by their names and versions and then by the places.
-fn compare_places(rows: &[Row], one: u64, other: u64) -> Ordering
-    ensures { result ≡ place_cmp rows.now one other }
+// How the stanzas at two places stand, by their names and versions and then by the places.
+fn compare_places(stanzas: &[Box<Stanza>], one: u64, other: u64) -> Ordering
+    ensures { result ≡ place_cmp (rows_from 0 (map (λ stanza. stanza.value) stanzas.now)) one other }
 {
-    compare_rows(rows.get(one as usize), rows.get(other as usize)).then(one.cmp(&other))
+    compare_stanzas(stanzas.get(one as usize), stanzas.get(other as usize)).then(one.cmp(&other))
 }
 
-/// Puts the serials of rows, which are their places, in the order of names and versions. It takes no memory.
-pub(crate) fn sort_serials(rows: &[Row], order: &mut Vec<u64>)
-    requires places { rows.now ≡ rows_from 0 (stanzas_of rows.now) }
-    requires serials { order.old.items ≡ map (λ row. row.0) rows.now }
-    ensures { order.new.items ≡ sorted_serials rows.now }
+// The places of stanzas, for which there is room.
+fn push_places(order: &mut Vec<u64>, stanzas: &[Box<Stanza>])
+    requires none { order.old.items ≡ [] }
+    requires room { length stanzas.now ≤ vec_capacity order.old }
+    ensures { order.new.items ≡ map (λ row. row.0) (rows_from 0 (map (λ stanza. stanza.value) stanzas.now)) }
 {
-    order.sort_unstable_by(|one, other| compare_places(rows, *one, *other));
+    let mut left = stanzas;
+    let mut place = 0;
+    'stanzas: while let Some((_, rest)) = left.split_first() {
+        match order.push(place) {
+            Ok(()) => {}
+            Err(_) => unreachable!(),
+        }
+        place += 1;
+        left = rest;
+    }
+}
+
+/// The serials of stanzas, which are their places, in the order of names and versions. There is room for them.
+pub(crate) fn sort_serials(stanzas: &[Box<Stanza>], order: &mut Vec<u64>)
+    requires none { order.old.items ≡ [] }
+    requires room { length stanzas.now ≤ vec_capacity order.old }
+    ensures { order.new.items ≡ sorted_serials (rows_from 0 (map (λ stanza. stanza.value) stanzas.now)) }
+{
+    push_places(order, stanzas);
+    order.sort_unstable_by(|one, other| compare_places(stanzas, *one, *other));
 }
 
 // Where a name and a version stand, or would, in the order of rows.
-fn lower(rows: &[Row], order: &[u64], name: &[u8], version: Option<&Version>) -> usize
-    requires { (next : ℕ) × IsKept rows.now next order.now }
-    ensures { result ≡ lower (id name.now (option_copied version.entry)) (sorted_ids (ids_of rows.now)) }
+fn lower(rows: &[Vec<Row>], order: &[Vec<u64>], name: &[u8], version: Option<&Version>) -> Spot
+    requires rows { ArePieces rows.now }
+    requires order { ArePieces order.now }
+    requires kept { (next : ℕ) × IsKept (joined rows.now) next (joined order.now) }
+    ensures place { place_of_spot order.now result ≡ lower (id name.now (option_copied version.entry)) (sorted_ids (ids_of (joined rows.now))) }
+    ensures within { IsSpotOrEnd order.now result }
 {
-    order.partition_point(|serial| compare_row(rows, *serial, name, version).is_lt())
+    let piece = order.partition_point(|serials| ends_before(rows, serials, name, version));
+    match order.get(piece) {
+        Some(serials) => Spot {
+            piece,
+            at: serials.partition_point(|serial| compare_row(rows, *serial, name, version).is_lt()),
+        },
+        None => Spot { piece, at: 0 },
+    }
 }
 
-/// Where a name and a version stand, or would, in the order of rows, and the place of the first row that has them.
+/// Where a name and a version stand, or would, in the order of rows, and the spot of the first row that has them.
 pub(crate) fn look_up(
-    rows: &[Row],
-    order: &[u64],
+    rows: &[Vec<Row>],
+    order: &[Vec<u64>],
     name: &[u8],
     version: Option<&Version>,
-) -> (usize, Option<usize>)
-    requires { (next : ℕ) × IsKept rows.now next order.now }
-    ensures order { result.0 ≡ lower (id name.now (option_copied version.entry)) (sorted_ids (ids_of rows.now)) }
-    ensures place { result.1 ≡ place (by_name_and_version name.now (option_copied version.entry)) rows.now }
-    ensures within { IfSome result.1 (λ at. at < length rows.now) }
+) -> (Spot, Option<Spot>)
+    requires rows { ArePieces rows.now }
+    requires order { ArePieces order.now }
+    requires kept { (next : ℕ) × IsKept (joined rows.now) next (joined order.now) }
+    ensures order { place_of_spot order.now result.0 ≡ lower (id name.now (option_copied version.entry)) (sorted_ids (ids_of (joined rows.now))) }
+    ensures place { option_map (λ spot. place_of_spot rows.now spot) result.1 ≡ place (by_name_and_version name.now (option_copied version.entry)) (joined rows.now) }
+    ensures in_order { IsSpotOrEnd order.now result.0 }
+    ensures in_rows { IfSome result.1 (λ spot. IsSpot rows.now spot) }
+    // a row that is there is in the order
+    ensures found { IfSome result.1 (λ _. IsSpot order.now result.0) }
 {
-    let at = lower(rows, order, name, version);
-    if at >= order.len() {
-        return (at, None);
+    let spot = lower(rows, order, name, version);
+    if spot.piece >= order.len() {
+        return (spot, None);
     }
-    let serial = order[at];
+    let serial = order[spot.piece][spot.at];
     if compare_row(rows, serial, name, version).is_eq() {
-        (at, place_of(rows, serial))
+        (spot, spot_of(rows, serial))
     } else {
-        (at, None)
+        (spot, None)
     }
 }

@@ -5,8 +5,8 @@ ghost use Rattle.ctl_store.specs.Edits.{edit_of};
 ghost use Rattle.ctl_store.specs.Keys.{coming, AreComing};
 
 use crate::edit::Edit;
-use crate::rows::Row;
 use crate::selector::Selector;
+use crate::shelf::ListRoom;
 use crate::stanza_key::StanzaKey;
 use ctl_stanza::Stanza;
 use indexmap::IndexMap;
@@ -18,23 +18,21 @@ pub struct Plan {
     pub(crate) edit: Edit,
     pub(crate) removed: Vec<StanzaKey>,
     pub(crate) added: Vec<StanzaKey>,
-    pub(crate) rows: Vec<Row>,
-    pub(crate) order: Vec<u64>,
+    pub(crate) list_room: ListRoom,
     pub(crate) pins: IndexMap<Selector, i16>,
 }
 
 impl Model for Plan {
     ghost use Rattle.std.specs.Prelude.{◌≡◌, []};
-    ghost use Rattle.std.specs.Vec.{vec_capacity};
     ghost use Rattle.indexmap.specs.IndexMap.{spare};
     ghost use Rattle.ctl_store.specs.Edits.{edit_of};
     ghost use Rattle.ctl_store.specs.Held.{Planned, IsWhole};
 
     ghost Value = { Planned };
 
-    ghost view = { λ p. record { edit = edit_of p.edit; removed = p.removed.items; added = p.added.items; rows_room = vec_capacity p.rows; order_room = vec_capacity p.order; pins_room = spare p.pins } };
+    ghost view = { λ p. record { edit = edit_of p.edit; removed = p.removed.items; added = p.added.items; list_room = p.list_room; pins_room = spare p.pins } };
 
-    ghost invariant = { λ p. IsWhole p.rows.items p.order.items p.pins.entries p.added.items (edit_of p.edit) };
+    ghost invariant = { λ p. IsWhole p.pins.entries p.added.items (edit_of p.edit) };
 }
 
 impl Plan {

@@ -1,14 +1,15 @@
 //! Stanzas under their serial numbers.
 
-ghost use Rattle.std.specs.Prelude.{◌≡◌, ◌<◌, ◌≤◌, ◌∷◌, ◌++◌, ℕ, [], IfSome, length, map, vec_len, take, drop, IfOk};
+ghost use Rattle.std.specs.Prelude.{◌≡◌, ◌<◌, ◌≤◌, ◌∷◌, ◌++◌, ℕ, [], IfSome, length, map, set, nat_lt, vec_len, take, drop, true, false, option_map, option_copied, nat_eq};
+ghost use Rattle.std.specs.Map.{lookup};
 ghost use Rattle.std.specs.Vec.{vec_capacity};
+ghost use Rattle.std.specs.List.Sorted.{IsPartitionPoint};
 ghost use Rattle.ctl_store.specs.Step.{place};
-ghost use Rattle.ctl_store.specs.Rows.{has_serial, Rises};
-ghost use Rattle.ctl_store.specs.Keys.{key_of};
+ghost use Rattle.ctl_store.specs.Rows.{has_serial, Rises, replace_at};
+ghost use Rattle.ctl_store.specs.Pieces.{joined, last_passes, place_of_spot, ArePieces, IsSpot, IsSpotOrEnd};
 
-use crate::stanza_key::StanzaKey;
+use crate::pieces::Spot;
 use ctl_stanza::Stanza;
-use std::alloc::{AllocError, Global};
 use std::marker::Model;
 
 /// A stanza under its serial number.
@@ -53,64 +54,68 @@ impl Row {
     }
 }
 
-/// The place of a serial, found by halving.
-pub(crate) fn place_of(rows: &[Row], serial: u64) -> Option<usize>
-    requires { (n : ℕ) × (m : ℕ) × Rises n rows.now m }
-    ensures place { result ≡ place (has_serial serial) rows.now }
-    ensures within { IfSome result (λ at. at < length rows.now) }
+// Whether the last serial is below a serial.
+fn ends_before(rows: &[Row], serial: u64) -> bool
+    ensures { result ≡ last_passes (λ row. nat_lt row.0 serial) rows.now }
 {
-    rows.binary_search_by_key(&serial, |row| row.serial()).ok()
-}
-
-/// Adds a last row, for which there is room.
-pub(crate) fn push_row(rows: &mut Vec<Row>, row: Row)
-    requires { vec_len rows.old < vec_capacity rows.old }
-    ensures items { rows.new.items ≡ rows.old.items ++ row ∷ [] }
-    ensures room { vec_capacity rows.old ≤ vec_capacity rows.new }
-{
-    match rows.push(row) {
-        Ok(()) => {}
-        Err(_) => unreachable!(),
+    match rows.last() {
+        Some(row) => row.serial() < serial,
+        None => false,
     }
 }
 
-/// The keys of rows of a list.
-pub(crate) fn keys_of_rows(
-    alloc: Global,
-    list: u32,
-    rows: &[Row],
-) -> Result<Vec<StanzaKey>, AllocError>
-    ensures { IfOk result (λ v. v.items ≡ map (λ row. key_of list row.0) rows.now) }
+// Where the rows end whose serials are below a serial.
+fn end_below(rows: &[Vec<Row>], serial: u64) -> Spot
+    requires pieces { ArePieces rows.now }
+    requires rises { (n : ℕ) × (m : ℕ) × Rises n (joined rows.now) m }
+    ensures point { IsPartitionPoint (λ row. nat_lt row.0 serial ≡ true) (λ row. nat_lt row.0 serial ≡ false) (joined rows.now) (place_of_spot rows.now result) }
+    ensures within { IsSpotOrEnd rows.now result }
 {
-    rows.iter()
-        .map(|row| StanzaKey {
-            list,
-            stanza: row.serial(),
-        })
-        .collect(alloc)
+    let piece = rows.partition_point(|rows| ends_before(rows, serial));
+    match rows.get(piece) {
+        Some(rows) => Spot {
+            piece,
+            at: rows.partition_point(|row| row.serial() < serial),
+        },
+        None => Spot { piece, at: 0 },
+    }
 }
 
-/// One key.
-pub(crate) fn one_key(alloc: Global, list: u32, serial: u64) -> Result<Vec<StanzaKey>, AllocError>
-    ensures { IfOk result (λ v. v.items ≡ key_of list serial ∷ []) }
+/// The spot of the row of a serial, found by halving.
+pub(crate) fn spot_of(rows: &[Vec<Row>], serial: u64) -> Option<Spot>
+    requires pieces { ArePieces rows.now }
+    requires rises { (n : ℕ) × (m : ℕ) × Rises n (joined rows.now) m }
+    ensures place { option_map (λ spot. place_of_spot rows.now spot) result ≡ place (has_serial serial) (joined rows.now) }
+    ensures within { IfSome result (λ spot. IsSpot rows.now spot) }
 {
-    let mut keys = Vec::new(alloc);
-    keys.push(StanzaKey {
-        list,
-        stanza: serial,
-    })?;
-    Ok(keys)
+    let spot = end_below(rows, serial);
+    if spot.piece < rows.len() && rows[spot.piece][spot.at].serial() == serial {
+        Some(spot)
+    } else {
+        None
+    }
 }
 
-/// The key of the row at a place.
-pub(crate) fn key_at(
-    alloc: Global,
-    list: u32,
-    rows: &[Row],
-    at: usize,
-) -> Result<Vec<StanzaKey>, AllocError>
-    requires { at < length rows.now }
-    ensures { IfOk result (λ v. v.items ≡ map (λ row. key_of list row.0) (take 1 (drop at rows.now))) }
+/// Puts a stanza in the place of that of a row.
+pub(crate) fn replace_row(rows: &mut Vec<Vec<Row>>, spot: Spot, stanza: Box<Stanza>)
+    requires pieces { ArePieces rows.old.items }
+    requires spot { IsSpot rows.old.items spot }
+    ensures pieces { ArePieces rows.new.items }
+    ensures len { vec_len rows.new ≡ vec_len rows.old }
+    ensures capacity { vec_capacity rows.new ≡ vec_capacity rows.old }
+    ensures rows { joined rows.new.items ≡ replace_at (joined rows.old.items) (place_of_spot rows.old.items spot) stanza.value }
 {
-    one_key(alloc, list, rows[at].serial())
+    rows[spot.piece][spot.at].replace(stanza);
+}
+
+/// The stanza of a serial.
+pub(crate) fn stanza_of(rows: &[Vec<Row>], serial: u64) -> Option<&Stanza>
+    requires pieces { ArePieces rows.now }
+    requires rises { (n : ℕ) × (m : ℕ) × Rises n (joined rows.now) m }
+    ensures { option_copied result ≡ lookup (λ k. nat_eq k serial) (joined rows.now) }
+{
+    match spot_of(rows, serial) {
+        Some(spot) => Some(rows[spot.piece][spot.at].stanza()),
+        None => None,
+    }
 }

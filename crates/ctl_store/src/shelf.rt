@@ -1,18 +1,22 @@
 //! The stanzas of one list.
 
-ghost use Rattle.std.specs.Prelude.{◌≡◌, ◌<◌, ◌≤◌, ◌+◌, ◌-◌, ◌^◌, ◌∷◌, ◌++◌, ℕ, [], List, Option, Some, OnOk, IfSome, IsOk, IfOk, length, vec_len, map, option_copied};
+ghost use Rattle.std.specs.Prelude.{◌≡◌, ◌<◌, ◌≤◌, ◌+◌, ◌-◌, ◌^◌, ◌∷◌, ◌++◌, ℕ, [], List, Option, Some, OnOk, IfSome, IsOk, IfOk, length, vec_len, map, is_some, nat_eq, option_copied};
+ghost use Rattle.std.specs.Map.{lookup};
+ghost use Rattle.std.specs.Option.{option_to_list};
 ghost use Rattle.std.specs.Vec.{vec_capacity};
-ghost use Rattle.std.specs.Prelude.{insert};
 ghost use Rattle.ctl_stanza.specs.Content.{package_of, version_of};
 ghost use Rattle.ctl_store.specs.Step.{place};
-ghost use Rattle.ctl_store.specs.Rows.{IsKept, Rises, by_name_and_version, put_row, next_after_put, remove_row, rows_from, sorted_serials};
+ghost use Rattle.ctl_store.specs.Rows.{Rises, by_name_and_version, put_row, next_after_put, remove_row, rows_from, sorted_serials};
+ghost use Rattle.ctl_store.specs.Pieces.{joined, ArePieces, IsFit, room_at_end};
 ghost use Rattle.ctl_store.specs.Keys.{keys_of, found_key};
-ghost use Rattle.ctl_store.specs.Held.{keyed_list};
+ghost use Rattle.ctl_store.specs.Held.{IsShelved, Fits, keyed_list};
 
 use crate::list_class::ListClass;
 use crate::order::{look_up, sort_serials};
-use crate::rows::{Row, key_at, keys_of_rows, push_row};
+use crate::pieces::Pieces;
+use crate::rows::{Row, replace_row, stanza_of};
 use crate::stanza_key::StanzaKey;
+use crate::store::Stanzas;
 use ctl_relation::Version;
 use ctl_stanza::{ListKind, Stanza};
 use std::alloc::{AllocError, Global};
@@ -26,81 +30,106 @@ pub(crate) struct Shelf {
     kind: ListKind,
     class: ListClass,
     next: u64,
-    rows: Vec<Row>,
-    order: Vec<u64>,
+    rows: Pieces<Row>,
+    order: Pieces<u64>,
 }
 
 impl Model for Shelf {
-    ghost use Rattle.std.specs.Prelude.{◌-◌, vec_len};
-    ghost use Rattle.std.specs.Vec.{vec_capacity};
-    ghost use Rattle.std.specs.Prelude.{insert};
-    ghost use Rattle.ctl_store.specs.Rows.{IsKept};
-    ghost use Rattle.ctl_store.specs.Held.{Sheet};
+    ghost use Rattle.std.specs.Prelude.{vec_len};
+    ghost use Rattle.ctl_store.specs.Pieces.{joined};
+    ghost use Rattle.ctl_store.specs.Held.{Sheet, IsShelved};
 
     ghost Value = { Sheet };
 
-    ghost view = { λ s. record { serial = s.serial; kind = s.kind; class = s.class; next = s.next; rows = s.rows.items; room = vec_capacity s.rows - vec_len s.rows; order_room = vec_capacity s.order - vec_len s.order } };
+    ghost view = { λ s. record { serial = s.serial; kind = s.kind; class = s.class; next = s.next; rows = joined s.rows.pieces.items; room = vec_len s.rows.ready; order_room = vec_len s.order.ready } };
 
-    ghost invariant = { λ s. IsKept s.rows.items s.next s.order.items };
+    ghost invariant = { λ s. IsShelved s.rows.pieces s.rows.ready s.next s.order.pieces s.order.ready };
 }
 
-// Adds a last row and its serial, for which there is room.
-fn add_last(rows: &mut Vec<Row>, order: &mut Vec<u64>, serial: u64, stanza: Box<Stanza>)
-    requires room { vec_len rows.old < vec_capacity rows.old }
-    requires order { vec_len order.old < vec_capacity order.old }
-    ensures rows { rows.new.items ≡ rows.old.items ++ (serial, stanza.value) ∷ [] }
-    ensures order { order.new.items ≡ order.old.items ++ serial ∷ [] }
-    ensures room { vec_capacity rows.old ≤ vec_capacity rows.new }
-    ensures order_room { vec_capacity order.old ≤ vec_capacity order.new }
-{
-    match order.push(serial) {
-        Ok(()) => {}
-        Err(_) => unreachable!(),
+/// The room for a new list: for its serials while they are put in order, for its rows, and for the order that stays.
+#[derive(Drop)]
+pub(crate) struct ListRoom {
+    serials: Vec<u64>,
+    rows: Pieces<Row>,
+    order: Pieces<u64>,
+}
+
+impl Model for ListRoom {
+    ghost use Rattle.std.specs.Vec.{vec_capacity};
+    ghost use Rattle.ctl_store.specs.Pieces.{room_at_end};
+    ghost use Rattle.ctl_store.specs.Held.{ListRoom, IsBare};
+
+    ghost Value = { ListRoom };
+
+    ghost view = { λ r. record { serials = vec_capacity r.serials; rows = room_at_end r.rows.pieces r.rows.ready; order = room_at_end r.order.pieces r.order.ready } };
+
+    ghost invariant = { λ r. IsBare r.serials r.rows.pieces r.rows.ready r.order.pieces r.order.ready };
+}
+
+impl ListRoom {
+    /// No room. It takes no memory.
+    pub(crate) fn new(alloc: Global) -> ListRoom {
+        ListRoom {
+            serials: Vec::new(alloc),
+            rows: Pieces::new(alloc),
+            order: Pieces::new(alloc),
+        }
     }
-    push_row(rows, Row::new(serial, stanza));
+
+    /// The room for a list of so many stanzas.
+    pub(crate) fn with_capacity(alloc: Global, stanzas: usize) -> Result<ListRoom, AllocError>
+        ensures { IfOk result (λ room. Fits stanzas room) }
+    {
+        Ok(ListRoom {
+            serials: Vec::with_capacity(alloc, stanzas)?,
+            rows: Pieces::with_capacity(alloc, stanzas)?,
+            order: Pieces::with_capacity(alloc, stanzas)?,
+        })
+    }
 }
 
-// The stanzas as rows under the serials from 0 on, in the room that is there. The order comes last, by one sort: each
-// serial put in its place would move those behind it, and a long list that comes in reverse would take its square.
-fn fill_rows(rows: &mut Vec<Row>, order: &mut Vec<u64>, stanzas: Vec<Box<Stanza>>) -> u64
-    requires empty { rows.old.items ≡ [] }
-    requires none { order.old.items ≡ [] }
-    requires room { vec_len stanzas ≤ vec_capacity rows.old }
-    requires order_room { vec_len stanzas ≤ vec_capacity order.old }
-    ensures rows { rows.new.items ≡ rows_from 0 (map (λ stanza. stanza.value) stanzas.items) }
-    ensures kept { IsKept rows.new.items result order.new.items }
+// The stanzas as rows under the serials from 0 on, in the room that is there.
+fn fill_rows(rows: &mut Pieces<Row>, stanzas: Vec<Box<Stanza>>) -> u64
+    requires fit { IsFit rows.old.pieces rows.old.ready }
+    requires none { rows.old.pieces.items ≡ [] }
+    requires room { vec_len stanzas ≤ room_at_end rows.old.pieces rows.old.ready }
+    ensures fit { IsFit rows.new.pieces rows.new.ready }
+    ensures rows { joined rows.new.pieces.items ≡ rows_from 0 (map (λ stanza. stanza.value) stanzas.items) }
     ensures next { result ≡ vec_len stanzas }
 {
     let mut serial = 0;
     for stanza in stanzas {
-        add_last(rows, order, serial, stanza);
+        rows.push(Row::new(serial, stanza));
         serial += 1;
     }
-    sort_serials(rows, order);
     serial
 }
 
 impl Shelf {
-    /// A list of these stanzas. There is room for them in `rows` and `order`, which are empty.
+    /// A list of these stanzas, for which there is room. The order comes by one sort: each serial put in its place would
+    /// look for that place.
     pub(crate) fn new(
         serial: u32,
         kind: ListKind,
         class: ListClass,
         stanzas: Vec<Box<Stanza>>,
-        mut rows: Vec<Row>,
-        mut order: Vec<u64>,
+        room: ListRoom,
     ) -> Shelf
-        requires empty { rows.items ≡ [] }
-        requires room { vec_len stanzas ≤ vec_capacity rows }
-        requires none { order.items ≡ [] }
-        requires order_room { vec_len stanzas ≤ vec_capacity order }
+        requires { Fits (vec_len stanzas) room }
         ensures serial { result.serial ≡ serial }
         ensures kind { result.kind ≡ kind }
         ensures class { result.class ≡ class }
         ensures next { result.next ≡ vec_len stanzas }
         ensures rows { result.rows ≡ rows_from 0 (map (λ stanza. stanza.value) stanzas.items) }
     {
-        let next = fill_rows(&mut rows, &mut order, stanzas);
+        let ListRoom {
+            mut serials,
+            mut rows,
+            mut order,
+        } = room;
+        sort_serials(&stanzas, &mut serials);
+        order.extend(serials);
+        let next = fill_rows(&mut rows, stanzas);
         Shelf {
             serial,
             kind,
@@ -130,41 +159,32 @@ impl Shelf {
         self.class
     }
 
-    /// The rows, whose serials rise.
-    pub(crate) fn rows(&self) -> &[Row]
-        ensures rows { result.now ≡ self.now.rows }
-        ensures rises { Rises 0 self.now.rows self.now.next }
+    /// The keys of its stanzas, in order.
+    pub(crate) fn keys(&self) -> Stanzas<'_>
+        ensures { result ≡ keys_of (keyed_list self.now) }
     {
-        &self.rows
+        Stanzas::new(self.serial, self.rows.as_slice())
     }
 
-    /// The place of the first stanza of this name and an equal version.
-    pub(crate) fn find(&self, name: &[u8], version: Option<&Version>) -> Option<usize>
-        ensures place { result ≡ place (by_name_and_version name.now (option_copied version.entry)) self.now.rows }
-        ensures within { IfSome result (λ at. at < length self.now.rows) }
+    /// The stanza of a serial.
+    pub(crate) fn stanza(&self, serial: u64) -> Option<&Stanza>
+        ensures { option_copied result ≡ lookup (λ k. nat_eq k serial) self.now.rows }
     {
-        look_up(&self.rows, &self.order, name, version).1
+        stanza_of(self.rows.as_slice(), serial)
     }
 
-    /// The keys of all its stanzas.
-    pub(crate) fn keys(&self, alloc: Global) -> Result<Vec<StanzaKey>, AllocError>
-        ensures { IfOk result (λ v. v.items ≡ keys_of (keyed_list self.now)) }
+    /// The key of the first stanza of this name and an equal version.
+    pub(crate) fn found_key(&self, name: &[u8], version: Option<&Version>) -> Option<StanzaKey>
+        ensures key { option_to_list result ≡ found_key name.now (option_copied version.entry) (keyed_list self.now) }
+        ensures found { is_some result ≡ is_some (place (by_name_and_version name.now (option_copied version.entry)) self.now.rows) }
     {
-        keys_of_rows(alloc, self.serial, &self.rows)
-    }
-
-    /// The key of the first stanza of this name and an equal version, or none.
-    pub(crate) fn found_key(
-        &self,
-        alloc: Global,
-        name: &[u8],
-        version: Option<&Version>,
-    ) -> Result<Vec<StanzaKey>, AllocError>
-        ensures { IfOk result (λ v. v.items ≡ found_key name.now (option_copied version.entry) (keyed_list self.now)) }
-    {
-        match self.find(name, version) {
-            Some(at) => key_at(alloc, self.serial, &self.rows, at),
-            None => Ok(Vec::new(alloc)),
+        let rows = self.rows.as_slice();
+        match look_up(rows, self.order.as_slice(), name, version) {
+            (_, Some(spot)) => Some(StanzaKey {
+                list: self.serial,
+                stanza: rows[spot.piece][spot.at].serial(),
+            }),
+            (_, None) => None,
         }
     }
 
@@ -176,12 +196,12 @@ impl Shelf {
     }
 
     /// Makes the room for one stanza more.
-    pub(crate) fn reserve_one(&mut self) -> Result<(), AllocError>
+    pub(crate) fn reserve_one(&mut self, alloc: Global) -> Result<(), AllocError>
         ensures same { keyed_list self.new ≡ keyed_list self.old }
         ensures ok { OnOk result ((0 < self.new.room) × (0 < self.new.order_room)) }
     {
-        self.rows.reserve(1)?;
-        self.order.reserve(1)
+        self.rows.reserve_one(alloc)?;
+        self.order.reserve_one(alloc)
     }
 
     /// Puts a stanza in the place of the first of its name and version, else last.
@@ -210,53 +230,46 @@ impl Shelf {
     }
 }
 
-fn put_in(rows: &mut Vec<Row>, next: &mut u64, order: &mut Vec<u64>, stanza: Box<Stanza>)
-    requires kept { IsKept rows.old.items next.old order.old.items }
-    requires room { vec_len rows.old < vec_capacity rows.old }
-    requires order { vec_len order.old < vec_capacity order.old }
+fn put_in(rows: &mut Pieces<Row>, next: &mut u64, order: &mut Pieces<u64>, stanza: Box<Stanza>)
+    requires shelved { IsShelved rows.old.pieces rows.old.ready next.old order.old.pieces order.old.ready }
+    requires room { 0 < vec_len rows.old.ready }
+    requires order { 0 < vec_len order.old.ready }
     requires below { next.old + 1 < 2 ^ 64 }
-    ensures kept { IsKept rows.new.items next.new order.new.items }
-    ensures rows { rows.new.items ≡ put_row stanza.value next.old rows.old.items }
-    ensures next { next.new ≡ next_after_put stanza.value next.old rows.old.items }
+    ensures shelved { IsShelved rows.new.pieces rows.new.ready next.new order.new.pieces order.new.ready }
+    ensures rows { joined rows.new.pieces.items ≡ put_row stanza.value next.old (joined rows.old.pieces.items) }
+    ensures next { next.new ≡ next_after_put stanza.value next.old (joined rows.old.pieces.items) }
 {
-    match look_up(rows, order, stanza.package(), stanza.version()) {
-        (_, Some(at)) => rows[at].replace(stanza),
-        (order_at, None) => {
-            insert_serial(order, order_at, *next);
-            push_row(rows, Row::new(*next, stanza));
+    let place = look_up(
+        rows.as_slice(),
+        order.as_slice(),
+        stanza.package(),
+        stanza.version(),
+    );
+    match place {
+        (_, Some(spot)) => replace_row(&mut rows.pieces, spot, stanza),
+        (spot, None) => {
+            order.insert(spot, *next);
+            rows.push(Row::new(*next, stanza));
             *next += 1;
         }
     }
 }
 
-fn insert_serial(order: &mut Vec<u64>, at: usize, serial: u64)
-    requires within { at ≤ vec_len order.old }
-    requires room { vec_len order.old < vec_capacity order.old }
-    ensures items { order.new.items ≡ insert order.old.items at serial }
-    ensures len { vec_len order.new ≡ vec_len order.old + 1 }
-    ensures capacity { vec_capacity order.old ≤ vec_capacity order.new }
-{
-    match order.insert(at, serial) {
-        Ok(()) => {}
-        Err(_) => unreachable!(),
-    }
-}
-
 fn remove_from(
-    rows: &mut Vec<Row>,
+    rows: &mut Pieces<Row>,
     next: u64,
-    order: &mut Vec<u64>,
+    order: &mut Pieces<u64>,
     name: &[u8],
     version: Option<&Version>,
 )
-    requires kept { IsKept rows.old.items next order.old.items }
-    ensures kept { IsKept rows.new.items next order.new.items }
-    ensures rows { rows.new.items ≡ remove_row name.now (option_copied version.entry) rows.old.items }
+    requires { IsShelved rows.old.pieces rows.old.ready next order.old.pieces order.old.ready }
+    ensures shelved { IsShelved rows.new.pieces rows.new.ready next order.new.pieces order.new.ready }
+    ensures rows { joined rows.new.pieces.items ≡ remove_row name.now (option_copied version.entry) (joined rows.old.pieces.items) }
 {
-    match look_up(rows, order, name, version) {
-        (order_at, Some(at)) => {
-            let _ = order.remove(order_at);
-            let _ = rows.remove(at);
+    match look_up(rows.as_slice(), order.as_slice(), name, version) {
+        (order_spot, Some(spot)) => {
+            order.remove(order_spot);
+            rows.remove(spot);
         }
         (_, None) => {}
     }

@@ -107,11 +107,11 @@ impl<V> Table<V> {
 
 impl Table<Shelf> {
     /// Makes room for one stanza more in a list.
-    pub(crate) fn reserve_in(&mut self, list: &[u8]) -> Result<(), AllocError>
+    pub(crate) fn reserve_in(&mut self, alloc: Global, list: &[u8]) -> Result<(), AllocError>
         ensures lists { lists_of self.new.0 ≡ lists_of self.old.0 }
         ensures ok { OnOk result (IfSome (at_name list.now self.new.0) HasRoomInList) }
     {
-        reserve_at(&mut self.rows, list)
+        reserve_at(&mut self.rows, alloc, list)
     }
 
     /// Puts a stanza into a list, in the room that `reserve_in` made.
@@ -131,12 +131,16 @@ impl Table<Shelf> {
     }
 }
 
-fn reserve_at(rows: &mut IndexMap<Vec<u8>, Shelf>, list: &[u8]) -> Result<(), AllocError>
+fn reserve_at(
+    rows: &mut IndexMap<Vec<u8>, Shelf>,
+    alloc: Global,
+    list: &[u8],
+) -> Result<(), AllocError>
     ensures lists { lists_of (map by_bytes rows.new.entries) ≡ lists_of (map by_bytes rows.old.entries) }
     ensures ok { OnOk result (IfSome (at_name list.now (map by_bytes rows.new.entries)) HasRoomInList) }
 {
     match rows.get_mut(list) {
-        Some(shelf) => shelf.reserve_one(),
+        Some(shelf) => shelf.reserve_one(alloc),
         None => Ok(()),
     }
 }

@@ -8,7 +8,7 @@ ghost use Rattle.ctl_store.specs.Named.{at_name, has_name};
 ghost use Rattle.ctl_store.specs.State.{count_of_kind};
 ghost use Rattle.ctl_store.specs.Pins.{selector_eq};
 ghost use Rattle.ctl_store.specs.Edits.{edit_of};
-ghost use Rattle.ctl_store.specs.Step.{count_in, count_coming, has_status, has_stanza, misfit_of, is_past, after, refusal_of};
+ghost use Rattle.ctl_store.specs.Step.{count_coming, has_status, has_stanza, misfit_of, is_past, after, refusal_of};
 ghost use Rattle.ctl_store.specs.Held.{state_of};
 
 use crate::edit::Edit;
@@ -53,23 +53,12 @@ impl Store {
         }
     }
 
-    // How many stanzas a list holds.
-    #[tactic(auto, using(crate::proofs::ListedLemmas::count_held))]
-    pub(super) fn count_in(&self, list: &[u8]) -> usize
-        ensures { result ≡ count_in list.now (state_of self.now).lists }
-    {
-        match self.lists.get(list) {
-            Some(shelf) => shelf.rows().len(),
-            None => 0,
-        }
-    }
-
     #[tactic(auto, using(crate::proofs::ListedLemmas::has_stanza_held))]
     pub(super) fn has_stanza(&self, list: &[u8], name: &[u8], version: Option<&Version>) -> bool
         ensures { result ≡ has_stanza list.now name.now (option_copied version.entry) (state_of self.now).lists }
     {
         match self.lists.get(list) {
-            Some(shelf) => shelf.find(name, version).is_some(),
+            Some(shelf) => shelf.found_key(name, version).is_some(),
             None => false,
         }
     }

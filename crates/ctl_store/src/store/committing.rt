@@ -1,24 +1,22 @@
 //! Plans are carried out.
 
 ghost use Rattle.std.specs.Prelude.{◌≡◌, ◌+◌, ◌-◌, ◌<◌, ◌≤◌, ◌∷◌, ◌++◌, ℕ, [], None, Some, IfSome, length, map, vec_len, if◌then◌else◌};
-ghost use Rattle.std.specs.Vec.{vec_capacity};
 ghost use Rattle.ctl_store.specs.Named.{at_name};
 ghost use Rattle.ctl_store.specs.Pins.{selector_eq};
 ghost use Rattle.ctl_store.specs.Edits.{edit_of, settings_of};
 ghost use Rattle.ctl_store.specs.Edits as edits;
 ghost use Rattle.ctl_store.specs.Step.{after, refusal_of};
 ghost use Rattle.ctl_stanza.specs.Content.{package_of, version_of};
-ghost use Rattle.ctl_store.specs.Keys.{keyed_after, removed_of, found_in, IsNotAmong, stanza_at};
-ghost use Rattle.ctl_store.specs.Held.{state_of, keyed_of, lists_of, IsReady, HasRoom, HasRoomInList, AreDistinct};
+ghost use Rattle.ctl_store.specs.Keys.{keyed_after, removed_of, found_in, all_in, IsNotAmong, stanza_at};
+ghost use Rattle.ctl_store.specs.Held.{state_of, keyed_of, lists_of, IsReady, HasRoom, HasRoomInList, Fits, AreDistinct};
 ghost use Rattle.ctl_store.specs.declared.stanza_key.StanzaKey.{StanzaKey};
 ghost use Rattle.indexmap.specs.IndexMap.{insert_entry, spare};
 
 use crate::edit::Edit;
 use crate::list_class::ListClass;
 use crate::plan::Plan;
-use crate::rows::Row;
 use crate::selector::{PinSetting, Selector};
-use crate::shelf::Shelf;
+use crate::shelf::{ListRoom, Shelf};
 use crate::store::Store;
 use crate::store::checking::one_if_status;
 use ctl_relation::{Bytes, Version};
@@ -73,27 +71,17 @@ impl Store {
             edit,
             removed,
             added: _added,
-            rows,
-            order,
+            list_room,
             pins,
         } = plan;
-        self.make(edit, removed.len(), rows, order, pins);
+        self.make(edit, removed.len(), list_room, pins);
     }
 
-    // Makes an edit by which so many keys go, and for which this is ready: room for rows, for their order, and for pins.
-    fn make(
-        &mut self,
-        edit: Edit,
-        gone: usize,
-        rows: Vec<Row>,
-        order: Vec<u64>,
-        pins: IndexMap<Selector, i16>,
-    )
+    // Makes an edit by which so many keys go, and for which this is ready: room for a list, and for pins.
+    fn make(&mut self, edit: Edit, gone: usize, list_room: ListRoom, pins: IndexMap<Selector, i16>)
         requires accepted { refusal_of self.old.limits (state_of self.old) (edit_of edit) ≡ None }
         requires gone { gone ≡ length (removed_of (keyed_of self.old) (edit_of edit)) }
-        requires room { HasRoom self.old (record { rows_room = vec_capacity rows; order_room = vec_capacity order; pins_room = spare pins }) (edit_of edit) }
-        requires rows { rows.items ≡ [] }
-        requires order { order.items ≡ [] }
+        requires room { HasRoom self.old (record { list_room = list_room; pins_room = spare pins }) (edit_of edit) }
         requires pins { pins.entries ≡ [] }
         ensures state { state_of self.new ≡ after (state_of self.old) (edit_of edit) }
         ensures keyed { keyed_of self.new ≡ keyed_after (keyed_of self.old) (edit_of edit) }
@@ -105,8 +93,8 @@ impl Store {
                 kind,
                 class,
                 stanzas,
-            } => self.add_list(name, kind, class, stanzas, rows, order),
-            Edit::DropList { name } => self.drop_list(&name),
+            } => self.add_list(name, kind, class, stanzas, list_room),
+            Edit::DropList { name } => self.drop_list(&name, gone),
             Edit::Put { list, stanza } => self.put(&list, stanza, gone),
             Edit::Remove {
                 list,
@@ -128,22 +116,18 @@ impl Store {
         kind: ListKind,
         class: ListClass,
         stanzas: Vec<Box<Stanza>>,
-        rows: Vec<Row>,
-        order: Vec<u64>,
+        list_room: ListRoom,
     )
         requires accepted { refusal_of self.old.limits (state_of self.old) (edits.AddList name kind class (map (λ stanza. stanza.value) stanzas.items)) ≡ None }
         requires list { 0 < self.old.lists_room }
-        requires empty { rows.items ≡ [] }
-        requires room { vec_len stanzas ≤ vec_capacity rows }
-        requires none { order.items ≡ [] }
-        requires order_room { vec_len stanzas ≤ vec_capacity order }
+        requires room { Fits (vec_len stanzas) list_room }
         ensures state { state_of self.new ≡ after (state_of self.old) (edits.AddList name kind class (map (λ stanza. stanza.value) stanzas.items)) }
         ensures keyed { keyed_of self.new ≡ keyed_after (keyed_of self.old) (edits.AddList name kind class (map (λ stanza. stanza.value) stanzas.items)) }
         ensures limits { self.new.limits ≡ self.old.limits }
     {
         let _limits = self.limits;
         let count = stanzas.len() as u32;
-        let shelf = Shelf::new(self.next_list, kind, class, stanzas, rows, order);
+        let shelf = Shelf::new(self.next_list, kind, class, stanzas, list_room);
         self.lists.put(name.into_vec(), shelf);
         self.next_list += 1;
         self.stanzas += count;
@@ -151,17 +135,17 @@ impl Store {
         self.edits += 1;
     }
 
-    fn drop_list(&mut self, name: &Bytes)
+    fn drop_list(&mut self, name: &Bytes, gone: usize)
         requires accepted { refusal_of self.old.limits (state_of self.old) (edits.DropList name.now) ≡ None }
+        requires gone { gone ≡ length (all_in name.now (keyed_of self.old).lists) }
         ensures state { state_of self.new ≡ after (state_of self.old) (edits.DropList name.now) }
         ensures keyed { keyed_of self.new ≡ keyed_after (keyed_of self.old) (edits.DropList name.now) }
         ensures limits { self.new.limits ≡ self.old.limits }
     {
         let _limits = self.limits;
-        let count = self.count_in(name.as_slice()) as u32;
         let statuses = self.count_of_kind(name.as_slice());
         self.lists.remove(name.as_slice());
-        self.stanzas -= count;
+        self.stanzas -= gone as u32;
         self.statuses -= statuses;
         self.edits += 1;
     }

@@ -1,7 +1,7 @@
 //! Plans are made.
 
 ghost use Rattle.std.specs.Prelude.{◌≡◌, ◌≢◌, ◌<◌, [], ◌≤◌, Some, IfOk, IfErr, OnOk, IfSome, option_copied, map, length, vec_len};
-ghost use Rattle.std.specs.Vec.{vec_capacity};
+ghost use Rattle.std.specs.Option.{option_to_list};
 ghost use Rattle.indexmap.specs.IndexMap.{spare};
 ghost use Rattle.ctl_store.specs.declared.refusal.Refusal.TheVariants as refusal;
 ghost use Rattle.ctl_stanza.specs.Content.{package_of, version_of};
@@ -9,14 +9,14 @@ ghost use Rattle.ctl_store.specs.Named.{at_name};
 ghost use Rattle.ctl_store.specs.Edits.{edit_of, settings_of};
 ghost use Rattle.ctl_store.specs.Step.{refusal_of};
 ghost use Rattle.ctl_store.specs.Rows.{rows_from};
-ghost use Rattle.ctl_store.specs.Keys.{removed_of, added_of, found_in, kept_in, next_in, all_in, keys_of, list_of_stanzas, key_of};
+ghost use Rattle.ctl_store.specs.Keys.{removed_of, added_of, found_in, kept_in, next_in, all_in, list_of_stanzas, key_of};
 ghost use Rattle.ctl_store.specs.Held.{state_of, keyed_of, IsReady, IsProper, IsReadyFor, HasRoomIn, HasRoom, HasRoomInList};
 
 use crate::edit::Edit;
 use crate::plan::Plan;
 use crate::refusal::Refusal;
-use crate::rows::{Row, one_key};
 use crate::selector::Selector;
+use crate::shelf::ListRoom;
 use crate::stanza_key::StanzaKey;
 use crate::store::Store;
 use ctl_relation::Version;
@@ -42,20 +42,29 @@ fn new_keys(alloc: Global, list: u32, stanzas: &[Box<Stanza>]) -> Result<Vec<Sta
     Ok(keys)
 }
 
+// One key, or none.
+fn keys_of(alloc: Global, key: Option<StanzaKey>) -> Result<Vec<StanzaKey>, AllocError>
+    ensures { IfOk result (λ v. v.items ≡ option_to_list key) }
+{
+    let mut keys = Vec::new(alloc);
+    if let Some(key) = key {
+        keys.push(key)?;
+    }
+    Ok(keys)
+}
+
 // Memory for an edit, beside the room in the store.
 #[derive(Drop)]
 struct Ready {
-    rows: Vec<Row>,
-    order: Vec<u64>,
+    list_room: ListRoom,
     pins: IndexMap<Selector, i16>,
 }
 
 fn make_ready(alloc: Global, edit: &Edit) -> Result<Ready, AllocError>
-    ensures empty { IfOk result (λ ready. (ready.rows.items ≡ []) × (ready.order.items ≡ []) × (ready.pins.entries ≡ [])) }
-    ensures ready { IfOk result (λ ready. IsReadyFor (edit_of edit.now) (record { rows_room = vec_capacity ready.rows; order_room = vec_capacity ready.order; pins_room = spare ready.pins })) }
+    ensures empty { IfOk result (λ ready. ready.pins.entries ≡ []) }
+    ensures ready { IfOk result (λ ready. IsReadyFor (edit_of edit.now) (record { list_room = ready.list_room; pins_room = spare ready.pins })) }
 {
-    let mut rows = Vec::new(alloc);
-    let mut order = Vec::new(alloc);
+    let mut list_room = ListRoom::new(alloc);
     let mut pins = IndexMap::new(alloc);
     match edit {
         Edit::AddList {
@@ -63,55 +72,46 @@ fn make_ready(alloc: Global, edit: &Edit) -> Result<Ready, AllocError>
             kind: _,
             class: _,
             stanzas,
-        } => {
-            rows.reserve(stanzas.len())?;
-            order.reserve(stanzas.len())?;
-        }
+        } => list_room = ListRoom::with_capacity(alloc, stanzas.len())?,
         Edit::Prefs { settings } => pins.reserve(settings.len())?,
         _ => {}
     }
-    Ok(Ready { rows, order, pins })
+    Ok(Ready { list_room, pins })
 }
 
 impl Store {
+    // The key of the first stanza of this name and an equal version in a list.
     #[tactic(auto, using(crate::proofs::ListedLemmas::at_name_lists))]
-    fn found_in(
-        &self,
-        list: &[u8],
-        name: &[u8],
-        version: Option<&Version>,
-    ) -> Result<Vec<StanzaKey>, AllocError>
-        ensures { IfOk result (λ v. v.items ≡ found_in list.now name.now (option_copied version.entry) (keyed_of self.now).lists) }
+    fn found_in(&self, list: &[u8], name: &[u8], version: Option<&Version>) -> Option<StanzaKey>
+        ensures { option_to_list result ≡ found_in list.now name.now (option_copied version.entry) (keyed_of self.now).lists }
     {
         match self.lists.get(list) {
-            Some(shelf) => shelf.found_key(self.alloc, name, version),
-            None => Ok(Vec::new(self.alloc)),
+            Some(shelf) => shelf.found_key(name, version),
+            None => None,
         }
     }
 
     // The key of the next new stanza of a list, if there is a list of this name.
     #[tactic(auto, using(crate::proofs::ListedLemmas::at_name_lists))]
-    fn next_in(&self, list: &[u8]) -> Result<Vec<StanzaKey>, AllocError>
-        ensures { IfOk result (λ v. v.items ≡ next_in list.now (keyed_of self.now).lists) }
+    fn next_in(&self, list: &[u8]) -> Option<StanzaKey>
+        ensures { option_to_list result ≡ next_in list.now (keyed_of self.now).lists }
     {
         match self.lists.get(list) {
-            Some(shelf) => one_key(self.alloc, shelf.serial(), shelf.next()),
-            None => Ok(Vec::new(self.alloc)),
+            Some(shelf) => Some(StanzaKey {
+                list: shelf.serial(),
+                stanza: shelf.next(),
+            }),
+            None => None,
         }
     }
 
     // The key under which a stanza that is put stands: that which goes, else a new one.
-    fn kept_in(
-        &self,
-        list: &[u8],
-        stanza: &Stanza,
-        removed: &[StanzaKey],
-    ) -> Result<Vec<StanzaKey>, AllocError>
+    fn kept_in(&self, list: &[u8], stanza: &Stanza, removed: &[StanzaKey]) -> Option<StanzaKey>
         requires { removed.now ≡ found_in list.now (package_of stanza.now) (version_of stanza.now) (keyed_of self.now).lists }
-        ensures { IfOk result (λ v. v.items ≡ kept_in list.now stanza.now (keyed_of self.now).lists) }
+        ensures { option_to_list result ≡ kept_in list.now stanza.now (keyed_of self.now).lists }
     {
         match removed.first() {
-            Some(key) => one_key(self.alloc, key.list, key.stanza),
+            Some(key) => Some(*key),
             None => self.next_in(list),
         }
     }
@@ -121,7 +121,7 @@ impl Store {
         ensures { IfOk result (λ v. v.items ≡ all_in list.now (keyed_of self.now).lists) }
     {
         match self.lists.get(list) {
-            Some(shelf) => shelf.keys(self.alloc),
+            Some(shelf) => shelf.keys().collect(self.alloc),
             None => Ok(Vec::new(self.alloc)),
         }
     }
@@ -131,14 +131,18 @@ impl Store {
     {
         match edit {
             Edit::DropList { name } => self.all_in(name.as_slice()),
-            Edit::Put { list, stanza } => {
-                self.found_in(list.as_slice(), stanza.package(), stanza.version())
-            }
+            Edit::Put { list, stanza } => keys_of(
+                self.alloc,
+                self.found_in(list.as_slice(), stanza.package(), stanza.version()),
+            ),
             Edit::Remove {
                 list,
                 package,
                 version,
-            } => self.found_in(list.as_slice(), package.as_slice(), Some(version)),
+            } => keys_of(
+                self.alloc,
+                self.found_in(list.as_slice(), package.as_slice(), Some(version)),
+            ),
             _ => Ok(Vec::new(self.alloc)),
         }
     }
@@ -155,7 +159,10 @@ impl Store {
                 class: _,
                 stanzas,
             } => new_keys(self.alloc, self.next_list, stanzas),
-            Edit::Put { list, stanza } => self.kept_in(list.as_slice(), stanza, removed),
+            Edit::Put { list, stanza } => keys_of(
+                self.alloc,
+                self.kept_in(list.as_slice(), stanza, removed),
+            ),
             _ => Ok(Vec::new(self.alloc)),
         }
     }
@@ -174,7 +181,7 @@ impl Store {
                 class: _,
                 stanzas: _,
             } => self.lists.reserve_one(),
-            Edit::Put { list, stanza: _ } => self.lists.reserve_in(list.as_slice()),
+            Edit::Put { list, stanza: _ } => self.lists.reserve_in(self.alloc, list.as_slice()),
             Edit::Mark {
                 package: _,
                 version: _,
@@ -219,13 +226,12 @@ impl Store {
             Ok(()) => {}
             Err(_) => return Err((edit, Refusal::Memory)),
         }
-        let Ready { rows, order, pins } = ready;
+        let Ready { list_room, pins } = ready;
         Ok(Plan {
             edit,
             removed,
             added,
-            rows,
-            order,
+            list_room,
             pins,
         })
     }

@@ -4,7 +4,8 @@ ghost use Rattle.std.specs.Prelude.{◌≡◌, ◌+◌, ℕ, IsSome, Some, [], m
 ghost use Rattle.std.specs.Option.{option_map_or};
 ghost use Rattle.std.specs.FinMap as fin;
 ghost use Rattle.ctl_store.specs.State.{stanza_count, shown_lists, stanzas_named};
-ghost use Rattle.ctl_store.specs.Keys.{all_in, all_keys, AreRising, AreHeld, stanza_at, list_at};
+ghost use Rattle.ctl_store.specs.Pieces.{joined, ArePieces};
+ghost use Rattle.ctl_store.specs.Keys.{key_of, all_in, all_keys, AreRising, AreHeld, stanza_at, list_at};
 ghost use Rattle.ctl_store.specs.Named.{at_name, by_bytes};
 ghost use Rattle.std.specs.List.{IsDistinct};
 ghost use Rattle.std.specs.Map.{keys_of as names_of};
@@ -14,7 +15,7 @@ ghost use Rattle.ctl_store.specs.declared.limits.Counts.{Counts};
 
 use crate::limits::{Counts, Limits};
 use crate::list_class::ListClass;
-use crate::rows::{Row, place_of};
+use crate::rows::Row;
 use crate::selector::Selector;
 use crate::shelf::Shelf;
 use crate::stanza_key::StanzaKey;
@@ -60,17 +61,36 @@ impl<'a> Iterator for Lists<'a> {
 #[derive(Drop)]
 pub struct Stanzas<'a> {
     list: u32,
+    // What is left of a piece, and the pieces after it.
     rows: &'a [Row],
+    pieces: &'a [Vec<Row>],
 }
 
 impl<'a> Model for Stanzas<'a> {
-    ghost use Rattle.std.specs.Prelude.{List, map};
+    ghost use Rattle.std.specs.Prelude.{List, map, ◌++◌};
     ghost use Rattle.ctl_store.specs.declared.stanza_key.StanzaKey.{StanzaKey};
     ghost use Rattle.ctl_store.specs.Keys.{key_of};
+    ghost use Rattle.ctl_store.specs.Pieces.{joined, ArePieces};
 
     ghost Value = { List StanzaKey };
 
-    ghost view = { λ it. map (λ row. key_of it.list row.0) it.rows.now };
+    ghost view = { λ it. map (λ row. key_of it.list row.0) (it.rows.now ++ joined it.pieces.now) };
+
+    ghost invariant = { λ it. ArePieces it.pieces.now };
+}
+
+impl<'a> Stanzas<'a> {
+    /// The keys of rows in pieces, of a list of this serial.
+    pub(crate) fn new(list: u32, pieces: &'a [Vec<Row>]) -> Stanzas<'a>
+        requires { ArePieces pieces.now }
+        ensures { result ≡ map (λ row. key_of list row.0) (joined pieces.now) }
+    {
+        Stanzas {
+            list,
+            rows: &[],
+            pieces,
+        }
+    }
 }
 
 impl<'a> Iterator for Stanzas<'a> {
@@ -83,6 +103,11 @@ impl<'a> Iterator for Stanzas<'a> {
     type Item = StanzaKey;
 
     fn next(&mut self) -> Option<StanzaKey> {
+        if self.rows.is_empty() {
+            let (piece, pieces) = self.pieces.split_first()?;
+            self.rows = piece;
+            self.pieces = pieces;
+        }
         let (row, rest) = self.rows.split_first()?;
         self.rows = rest;
         Some(StanzaKey {
@@ -165,11 +190,8 @@ impl Store {
         ensures stanzas { map (λ key. stanza_at key (keyed_of self.now).lists) result ≡ map Some (stanzas_named list.now (state_of self.now).lists) }
     {
         match self.lists.get(list) {
-            Some(shelf) => Stanzas {
-                list: shelf.serial(),
-                rows: shelf.rows(),
-            },
-            None => Stanzas { list: 0, rows: &[] },
+            Some(shelf) => shelf.keys(),
+            None => Stanzas::new(0, &[]),
         }
     }
 
@@ -179,8 +201,8 @@ impl Store {
         ensures { Some result.now ≡ stanza_at key (keyed_of self.now).lists }
     {
         match entry_of(self.lists.entries(), key.list) {
-            Some((_, shelf)) => match place_of(shelf.rows(), key.stanza) {
-                Some(at) => shelf.rows()[at].stanza(),
+            Some((_, shelf)) => match shelf.stanza(key.stanza) {
+                Some(stanza) => stanza,
                 None => unreachable!(),
             },
             None => unreachable!(),

@@ -1,0 +1,76 @@
+-- Sequences in pieces.
+use Rattle.std.specs.Prelude.{◌≡◌, ℕ, zero, suc, ◌+◌, ◌*◌, ◌-◌, ◌<◌, ◌≤◌, List, [], ◌∷◌, length, take, slice_get, Bool, false, Vec, vec_len}
+use Rattle.std.specs.List.{AllByRecursion, flat_map}
+use Rattle.std.specs.Option.{option_map_or}
+use Rattle.std.specs.Vec.{vec_capacity}
+use Rattle.ctl_store.specs.declared.pieces.Spot.{Spot}
+
+-- how many items a piece holds at most
+abbrev pub most_in_piece : ℕ
+most_in_piece = 256
+
+-- all items, piece by piece
+abbrev pub joined : {X A : Type 0} → List (Vec X A) → List X
+joined ps = flat_map (λ p. p.items) ps
+
+-- how many items the piece at a place holds
+abbrev pub length_at : {X A : Type 0} → List (Vec X A) → ℕ → ℕ
+length_at [] i = 0
+length_at (p ∷ ps) zero = length p.items
+length_at (p ∷ ps) (suc i) = length_at ps i
+
+-- where the item at a place of a piece stands among all items
+abbrev pub stands_at : {X A : Type 0} → List (Vec X A) → ℕ → ℕ → ℕ
+stands_at ps i j = length (joined (take i ps)) + j
+
+abbrev pub place_of_spot : {X A : Type 0} → List (Vec X A) → Spot → ℕ
+place_of_spot ps spot = stands_at ps spot.piece spot.at
+
+-- an item stands there
+abbrev pub IsSpot : {X A : Type 0} → List (Vec X A) → Spot → Type 0
+IsSpot ps spot = spot.at < length_at ps spot.piece
+
+-- an item stands there, or it is the end
+pub record IsSpotOrEnd {X A : Type 0} (ps : List (Vec X A)) (spot : Spot) : Type 0 where
+  pub piece : spot.piece ≤ length ps
+  pub item : spot.piece < length ps → IsSpot ps spot
+  pub end : spot.piece ≡ length ps → spot.at ≡ 0
+
+-- whether the last item passes a test
+abbrev pub last_passes : {X : Type 0} → (X → Bool) → List X → Bool
+last_passes p xs = option_map_or p (slice_get xs (length xs - 1)) false
+
+-- ---- what pieces keep
+
+-- No piece is empty, and each can grow to its greatest length with no memory.
+pub record IsPiece {X A : Type 0} (p : Vec X A) : Type 0 where
+  pub some : 0 < length p.items
+  pub few : length p.items ≤ most_in_piece
+  pub room : most_in_piece ≤ vec_capacity p
+
+-- an empty piece, which can grow to its greatest length with no memory
+pub record IsReadyPiece {X A : Type 0} (p : Vec X A) : Type 0 where
+  pub none : p.items ≡ []
+  pub room : most_in_piece ≤ vec_capacity p
+
+abbrev pub ArePieces : {X A : Type 0} → List (Vec X A) → Type 0
+ArePieces ps = AllByRecursion IsPiece ps
+
+abbrev pub AreReady : {X A : Type 0} → List (Vec X A) → Type 0
+AreReady ps = AllByRecursion IsReadyPiece ps
+
+-- pieces, and empty ones for which there is room among them
+pub record IsFit {X A B : Type 0} (ps ready_ones : Vec (Vec X A) B) : Type 0 where
+  pub pieces : ArePieces ps.items
+  pub ready : AreReady ready_ones.items
+  pub room : vec_len ps + vec_len ready_ones ≤ vec_capacity ps
+
+-- how many items more the last piece takes
+abbrev pub free_at_end : {X A : Type 0} → List (Vec X A) → ℕ
+free_at_end [] = 0
+free_at_end (p ∷ []) = most_in_piece - length p.items
+free_at_end (p ∷ q ∷ ps) = free_at_end (q ∷ ps)
+
+-- how many items more come last with no memory
+abbrev pub room_at_end : {X A B : Type 0} → Vec (Vec X A) B → Vec (Vec X A) B → ℕ
+room_at_end pieces ready = free_at_end pieces.items + most_in_piece * vec_len ready
