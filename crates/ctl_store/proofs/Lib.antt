@@ -1,4 +1,6 @@
 pub mod PlaceLemmas
+pub mod PiecesLemmas
+pub mod PointLemmas
 pub mod SortedLemmas
 pub mod OrderLemmas
 pub mod SortLemmas

@@ -45,7 +45,7 @@ module _ {V : Type 0} where
   Rises-from n (r ∷ rs) m zero d h l = h.0
   Rises-from n (r ∷ rs) m (suc i) d h l = omega (arith, h.0, Rises-from (suc r.0) rs m i d h.1 (omega arith))
 
-  Rises-up : (n : ℕ) (rs : List (ℕ × V)) (m i j : ℕ) (d : ℕ × V) → Rises n rs m → i < j → j < length rs → (get_or rs i d).0 < (get_or rs j d).0
+  pub Rises-up : (n : ℕ) (rs : List (ℕ × V)) (m i j : ℕ) (d : ℕ × V) → Rises n rs m → i < j → j < length rs → (get_or rs i d).0 < (get_or rs j d).0
   Rises-up n [] m i j d h l b = absurd (omega arith)
   Rises-up n (r ∷ rs) m zero zero d h l b = absurd (omega arith)
   Rises-up n (r ∷ rs) m zero (suc j) d h l b = omega (arith, Rises-from (suc r.0) rs m j d h.1 (omega arith))
@@ -102,7 +102,7 @@ module _ {X : Type 0} (p : X → Bool) where
 
 module _ {V : Type 0} where
   -- the row of a serial stands at one place
-  place_at : (s n : ℕ) (rs : List (ℕ × V)) (m i : ℕ) → Rises n rs m → i < length rs → ((d : ℕ × V) → (get_or rs i d).0 ≡ s) → place (has_serial s) rs ≡ Some i
+  pub place_at : (s n : ℕ) (rs : List (ℕ × V)) (m i : ℕ) → Rises n rs m → i < length rs → ((d : ℕ × V) → (get_or rs i d).0 ≡ s) → place (has_serial s) rs ≡ Some i
   place_at s n [] m i h l e = absurd (omega arith)
   place_at s n (r ∷ rs) m zero h l e = ap (λ b. cond b (Some 0) (option_map (λ n. suc n) (place (has_serial s) rs))) (eq_is r.0 s (e r))
   place_at s n (r ∷ rs) m (suc i) h l e =

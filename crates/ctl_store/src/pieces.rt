@@ -1,6 +1,6 @@
 //! Sequences in pieces, so that what comes or goes moves the items of one piece only.
 
-ghost use Rattle.std.specs.Prelude.{◌≡◌, ◌+◌, ◌*◌, ◌-◌, ◌<◌, ◌≤◌, ◌∷◌, ◌++◌, [], ℕ, length, take, drop, vec_len, insert, OnOk, IfOk};
+ghost use Rattle.std.specs.Prelude.{◌≡◌, ◌+◌, ◌*◌, ◌-◌, ◌^◌, ◌<◌, ◌≤◌, ◌∷◌, ◌++◌, [], ℕ, length, take, drop, vec_len, insert, OnOk, IfOk};
 ghost use Rattle.std.specs.List.{remove};
 ghost use Rattle.std.specs.Vec.{vec_capacity};
 ghost use Rattle.ctl_store.specs.Pieces.{most_in_piece, joined, length_at, stands_at, place_of_spot, IsSpot, IsSpotOrEnd, IsFit, IsPiece, IsReadyPiece, ArePieces, AreReady, free_at_end, room_at_end};
@@ -195,6 +195,7 @@ fn insert_within<T: Drop>(pieces: &mut Vec<Vec<T>>, spot: Spot, item: T)
     ensures pieces { ArePieces pieces.new.items }
     ensures len { vec_len pieces.new ≡ vec_len pieces.old }
     ensures capacity { vec_capacity pieces.new ≡ vec_capacity pieces.old }
+    ensures length { length_at pieces.new.items spot.piece ≡ length_at pieces.old.items spot.piece + 1 }
     ensures items { joined pieces.new.items ≡ insert (joined pieces.old.items) (place_of_spot pieces.old.items spot) item }
 {
     insert_in(&mut pieces[spot.piece], spot.at, item);
@@ -247,6 +248,15 @@ fn remove_at<T: Drop>(pieces: &mut Vec<Vec<T>>, spot: Spot)
     }
 }
 
+// The upper half of a full piece.
+fn upper_half(piece: &[u64]) -> &[u64]
+    requires { length piece.now ≡ most_in_piece }
+    ensures items { result.now ≡ drop 128 piece.now }
+    ensures len { length result.now ≡ 128 }
+{
+    &piece[MOST / 2..]
+}
+
 // Moves the upper half of a full piece into another, which comes behind it.
 fn split(pieces: &mut Vec<Vec<u64>>, at: usize, mut upper: Vec<u64>)
     requires pieces { ArePieces pieces.old.items }
@@ -263,7 +273,7 @@ fn split(pieces: &mut Vec<Vec<u64>>, at: usize, mut upper: Vec<u64>)
     ensures lower { (j : ℕ) → stands_at pieces.new.items at j ≡ stands_at pieces.old.items at j }
     ensures upper { (j : ℕ) → stands_at pieces.new.items (at + 1) j ≡ stands_at pieces.old.items at (128 + j) }
 {
-    match upper.extend_from_slice(&pieces[at][MOST / 2..]) {
+    match upper.extend_from_slice(upper_half(&pieces[at])) {
         Ok(()) => {}
         Err(_) => unreachable!(),
     }
@@ -273,6 +283,7 @@ fn split(pieces: &mut Vec<Vec<u64>>, at: usize, mut upper: Vec<u64>)
 
 // The spot, after the piece was split, of what came at a place of it.
 fn spot_after_split(spot: Spot) -> Spot
+    requires { spot.piece + 1 < 2 ^ 64 }
     ensures lower { spot.at ≤ 128 → result ≡ spot }
     ensures upper { 128 < spot.at → result ≡ record { piece = spot.piece + 1; at = spot.at - 128 } }
 {

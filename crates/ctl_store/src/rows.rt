@@ -3,6 +3,8 @@
 ghost use Rattle.std.specs.Prelude.{◌≡◌, ◌<◌, ◌≤◌, ◌∷◌, ◌++◌, ℕ, [], IfSome, length, map, set, nat_lt, vec_len, take, drop, true, false, option_map, option_copied, nat_eq};
 ghost use Rattle.std.specs.Map.{lookup};
 ghost use Rattle.std.specs.Vec.{vec_capacity};
+ghost use Rattle.std.specs.List.{slice_index_or};
+ghost use Rattle.ctl_stanza.specs.Content.{Content};
 ghost use Rattle.std.specs.List.Sorted.{IsPartitionPoint};
 ghost use Rattle.ctl_store.specs.Step.{place};
 ghost use Rattle.ctl_store.specs.Rows.{has_serial, Rises, replace_at};
@@ -81,6 +83,14 @@ fn end_below(rows: &[Vec<Row>], serial: u64) -> Spot
     }
 }
 
+/// The row of a spot.
+pub(crate) fn row_at(rows: &[Vec<Row>], spot: Spot) -> &Row
+    requires { IsSpot rows.now spot }
+    ensures { (d : ℕ × Content) → slice_index_or (joined rows.now) (place_of_spot rows.now spot) d ≡ result.now }
+{
+    &rows[spot.piece][spot.at]
+}
+
 /// The spot of the row of a serial, found by halving.
 pub(crate) fn spot_of(rows: &[Vec<Row>], serial: u64) -> Option<Spot>
     requires pieces { ArePieces rows.now }
@@ -89,7 +99,10 @@ pub(crate) fn spot_of(rows: &[Vec<Row>], serial: u64) -> Option<Spot>
     ensures within { IfSome result (λ spot. IsSpot rows.now spot) }
 {
     let spot = end_below(rows, serial);
-    if spot.piece < rows.len() && rows[spot.piece][spot.at].serial() == serial {
+    if spot.piece >= rows.len() {
+        return None;
+    }
+    if row_at(rows, spot).serial() == serial {
         Some(spot)
     } else {
         None
@@ -115,7 +128,7 @@ pub(crate) fn stanza_of(rows: &[Vec<Row>], serial: u64) -> Option<&Stanza>
     ensures { option_copied result ≡ lookup (λ k. nat_eq k serial) (joined rows.now) }
 {
     match spot_of(rows, serial) {
-        Some(spot) => Some(rows[spot.piece][spot.at].stanza()),
+        Some(spot) => Some(row_at(rows, spot).stanza()),
         None => None,
     }
 }

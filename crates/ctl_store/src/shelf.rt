@@ -14,7 +14,7 @@ ghost use Rattle.ctl_store.specs.Held.{IsShelved, Fits, keyed_list};
 use crate::list_class::ListClass;
 use crate::order::{look_up, sort_serials};
 use crate::pieces::Pieces;
-use crate::rows::{Row, replace_row, stanza_of};
+use crate::rows::{Row, replace_row, row_at, stanza_of};
 use crate::stanza_key::StanzaKey;
 use crate::store::Stanzas;
 use ctl_relation::Version;
@@ -182,7 +182,7 @@ impl Shelf {
         match look_up(rows, self.order.as_slice(), name, version) {
             (_, Some(spot)) => Some(StanzaKey {
                 list: self.serial,
-                stanza: rows[spot.piece][spot.at].serial(),
+                stanza: row_at(rows, spot).serial(),
             }),
             (_, None) => None,
         }

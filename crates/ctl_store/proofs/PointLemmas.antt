@@ -1,0 +1,257 @@
+-- Where the items that pass a test end, in pieces.
+use Rattle.std.proofs.Common.{◌≡◌, ℕ, zero, suc, ◌+◌, ◌-◌, ◌<◌, ◌≤◌, Bool, true, false, List, [], ◌∷◌, ◌++◌, length, take, get_or, set, slice_get, Vec, refl, ap, sym, subst, ◌∙◌, arith, nat_eq, nat_lt, None, Some}
+use Rattle.std.specs.List.Sorted.{IsPartitionedBy, IsPartitionPoint}
+use Rattle.std.specs.Option.{option_map_or}
+use Rattle.std.proofs.lemmas.Option.{slice_get-get_or}
+use Rattle.std.proofs.lemmas.List.{get_or-append-add}
+use Rattle.std.proofs.lemmas.Bool.Decides.{nat_tests}
+use Rattle.ctl_store.specs.Step.{place}
+use Rattle.ctl_store.specs.Rows.{has_serial, Rises, replace_at}
+use Rattle.ctl_store.specs.Pieces.{joined, length_at, stands_at, last_passes, ArePieces}
+use Rattle.ctl_store.proofs.PlaceLemmas.{Rises-up, place_at, place_none}
+
+module _ {X : Type 0} where
+  pub length-append : (xs ys : List X) → length (xs ++ ys) ≡ length xs + length ys
+  length-append [] ys = omega arith
+  length-append (x ∷ xs) ys = let n = length-append xs ys in omega (arith, n)
+
+  pub get_or-left : (xs ys : List X) (i : ℕ) (d : X) → i < length xs → get_or (xs ++ ys) i d ≡ get_or xs i d
+  get_or-left [] ys i d l = absurd (omega arith)
+  get_or-left (x ∷ xs) ys zero d l = refl
+  get_or-left (x ∷ xs) ys (suc i) d l = get_or-left xs ys i d (omega arith)
+
+module _ {X : Type 0} (p : X → Bool) where
+  -- the first r pass the test, and none after them
+  abbrev pub IsEnd : List X → ℕ → Type 0
+  IsEnd xs r = IsPartitionPoint (λ y. p y ≡ true) (λ y. p y ≡ false) xs r
+
+  cons_end : (x : X) (ys : List X) (r : ℕ) → p x ≡ true → IsEnd ys r → IsEnd (x ∷ ys) (suc r)
+  cons_end x ys r e h = (low, high)
+    where
+      low : (k : ℕ) (d : X) → 0 ≤ k → k < suc r → p (get_or (x ∷ ys) k d) ≡ true
+      low zero d a l = e
+      low (suc k) d a l = h.0 k d (omega arith) (omega arith)
+
+      high : (k : ℕ) (d : X) → suc r ≤ k → k < suc (length ys) → p (get_or (x ∷ ys) k d) ≡ false
+      high zero d a l = absurd (omega arith)
+      high (suc k) d a l = h.1 k d (omega arith) (omega arith)
+
+  tail_end : (x : X) (ys : List X) (r : ℕ) → IsEnd (x ∷ ys) (suc r) → IsEnd ys r
+  tail_end x ys r h = (λ k d a l. h.0 (suc k) d (omega arith) (omega arith), λ k d a l. h.1 (suc k) d (omega arith) (omega arith))
+
+  first_all : (q ys : List X) (r : ℕ) → ((k : ℕ) (d : X) → k < length q → p (get_or q k d) ≡ true) → IsEnd ys r → IsEnd (q ++ ys) (length q + r)
+  first_all [] ys r all h = subst (λ n. IsEnd ys n) (omega arith) h
+  first_all (x ∷ q) ys r all h = subst (λ n. IsEnd (x ∷ (q ++ ys)) n) (omega arith) (cons_end x (q ++ ys) (length q + r) (all 0 x (omega arith)) (first_all q ys r (λ k d l. all (suc k) d (omega arith)) h))
+
+  none_end : (xs : List X) → ((k : ℕ) (d : X) → k < length xs → p (get_or xs k d) ≡ false) → IsEnd xs 0
+  none_end xs none = (λ k d a l. absurd (omega arith), λ k d a l. none k d l)
+
+  last_none : (q ys : List X) (r : ℕ) → r ≤ length q → IsEnd q r → ((k : ℕ) (d : X) → k < length ys → p (get_or ys k d) ≡ false) → IsEnd (q ++ ys) r
+  last_none [] ys zero b h none = none_end ys none
+  last_none [] ys (suc r) b h none = absurd (omega arith)
+  last_none (x ∷ q) ys (suc r) b h none = cons_end x (q ++ ys) r (h.0 0 x (omega arith) (omega arith)) (last_none q ys r (omega arith) (tail_end x q r h) none)
+  last_none (x ∷ q) ys zero b h none = all (last_none q ys 0 (omega arith) (none_end q (λ k d l. h.1 (suc k) d (omega arith) (omega arith))) none)
+    where
+      all : IsEnd (q ++ ys) 0 → IsEnd (x ∷ (q ++ ys)) 0
+      all rest = none_end (x ∷ (q ++ ys)) each
+        where
+          each : (k : ℕ) (d : X) → k < suc (length (q ++ ys)) → p (get_or (x ∷ (q ++ ys)) k d) ≡ false
+          each zero d l = h.1 0 d (omega arith) (omega arith)
+          each (suc k) d l = rest.1 k d (omega arith) (omega arith)
+
+  -- ---- parts of a list in which those that pass come first
+
+  parted_tail : (q ys : List X) → IsPartitionedBy p (q ++ ys) → IsPartitionedBy p ys
+  parted_tail [] ys h = h
+  parted_tail (x ∷ q) ys h = parted_tail q ys (λ i j d le l e. h (suc i) (suc j) d (omega arith) (omega arith) e)
+
+  parted_head : (q ys : List X) → IsPartitionedBy p (q ++ ys) → IsPartitionedBy p q
+  parted_head q ys h i j d le l e =
+      sym (ap p (get_or-left q ys i d (omega arith)))
+      ∙ h i j d le (omega (arith, length-append q ys)) (ap p (get_or-left q ys j d l) ∙ e)
+
+  pub last_is : (q : List X) (m : ℕ) (d : X) → length q ≡ m + 1 → last_passes p q ≡ p (get_or q m d)
+  last_is q m d e =
+      let n : length q - 1 ≡ m = omega (arith, e) in
+      ap (λ k. option_map_or p (slice_get q k) false) n ∙ ap (λ o. option_map_or p o false) (slice_get-get_or q m d (omega (arith, e)))
+
+  all_pass : (q : List X) → 0 < length q → IsPartitionedBy p q → last_passes p q ≡ true → (k : ℕ) (d : X) → k < length q → p (get_or q k d) ≡ true
+  all_pass q some h e k d l = h k (length q - 1) d (omega arith) (omega arith) (sym (last_is q (length q - 1) d (omega arith)) ∙ e)
+
+  none_after : (q ys : List X) → 0 < length q → IsPartitionedBy p (q ++ ys) → last_passes p q ≡ false → (k : ℕ) (d : X) → k < length ys → p (get_or ys k d) ≡ false
+  none_after q ys some h e k d l = by (p (get_or ys k d)) refl
+    where
+      by : (b : Bool) → p (get_or ys k d) ≡ b → p (get_or ys k d) ≡ false
+      by false is = is
+      by true is =
+          let z : last_passes p q ≡ true = last_is q (length q - 1) d (omega arith) ∙ sym (ap p (get_or-left q ys (length q - 1) d (omega arith))) ∙ h (length q - 1) (length q + k) d (omega arith) (omega (arith, length-append q ys)) (ap p (get_or-append-add q ys k d) ∙ is) in
+          cc
+
+  inside : (q : List X) (r : ℕ) → 0 < length q → r ≤ length q → IsEnd q r → last_passes p q ≡ false → r < length q
+  inside [] r some b h e = absurd (omega arith)
+  inside (x ∷ q) r some b h e = omega (arith, not_all)
+    where
+      not_all : r ≡ suc (length q) → ⊥
+      not_all all = let z : last_passes p (x ∷ q) ≡ true = last_is (x ∷ q) (length q) x (omega arith) ∙ h.0 (length q) x (omega arith) (omega arith) in cc
+
+module _ {X A : Type 0} (p : X → Bool) where
+  pub parted_piece : (ps : List (Vec X A)) (k : ℕ) (d : Vec X A) → IsPartitionedBy p (joined ps) → k < length ps → IsPartitionedBy p (get_or ps k d).items
+  parted_piece [] k d h l = absurd (omega arith)
+  parted_piece (q ∷ ps) zero d h l = parted_head p q.items (joined ps) h
+  parted_piece (q ∷ ps) (suc k) d h l = parted_piece ps k d (parted_tail p q.items (joined ps) h) (omega arith)
+
+  none_last : (ps : List (Vec X A)) → ArePieces ps → ((k : ℕ) (d : X) → k < length (joined ps) → p (get_or (joined ps) k d) ≡ false) → (j : ℕ) (d : Vec X A) → j < length ps → last_passes p (get_or ps j d).items ≡ false
+  none_last [] h none j d l = absurd (omega arith)
+  none_last (q ∷ ps) h none zero d l = by q.items h.0.some none
+    where
+      by : (xs : List X) → 0 < length xs → ((k : ℕ) (d : X) → k < length (xs ++ joined ps) → p (get_or (xs ++ joined ps) k d) ≡ false) → last_passes p xs ≡ false
+      by [] some none = absurd (omega arith)
+      by (x ∷ xs) some none = last_is p (x ∷ xs) (length xs) x (omega arith) ∙ sym (ap p (get_or-left (x ∷ xs) (joined ps) (length xs) x (omega arith))) ∙ none (length xs) x (omega (arith, length-append xs (joined ps)))
+  none_last (q ∷ ps) h none (suc j) d l =
+      none_last ps h.1 (λ k d l. sym (ap p (get_or-append-add q.items (joined ps) k d)) ∙ none (length q.items + k) d (omega (arith, length-append q.items (joined ps)))) j d (omega arith)
+
+  -- the pieces whose last item passes come first
+  pub parted_last : (ps : List (Vec X A)) → ArePieces ps → IsPartitionedBy p (joined ps) → IsPartitionedBy (λ (v : Vec X A). last_passes p v.items) ps
+  parted_last [] h parted i j d le l e = absurd (omega arith)
+  parted_last (q ∷ ps) h parted zero zero d le l e = e
+  parted_last (q ∷ ps) h parted (suc i) zero d le l e = absurd (omega arith)
+  parted_last (q ∷ ps) h parted (suc i) (suc j) d le l e = parted_last ps h.1 (parted_tail p q.items (joined ps) parted) i j d (omega arith) (omega arith) e
+  parted_last (q ∷ ps) h parted zero (suc j) d le l e = by (last_passes p q.items) refl
+    where
+      by : (b : Bool) → last_passes p q.items ≡ b → last_passes p q.items ≡ true
+      by true is = is
+      by false is = let z = none_last ps h.1 (none_after p q.items (joined ps) h.0.some parted is) j d (omega arith) in cc
+
+  abbrev pub IsLastEnd : List (Vec X A) → ℕ → Type 0
+  IsLastEnd ps k = IsPartitionPoint (λ (v : Vec X A). last_passes p v.items ≡ true) (λ (v : Vec X A). last_passes p v.items ≡ false) ps k
+
+  rest_end : (q : Vec X A) (ps : List (Vec X A)) (k : ℕ) → IsLastEnd (q ∷ ps) (suc k) → IsLastEnd ps k
+  rest_end q ps k h = (λ i d a l. h.0 (suc i) d (omega arith) (omega arith), λ i d a l. h.1 (suc i) d (omega arith) (omega arith))
+
+  more : (q : Vec X A) (ps : List (Vec X A)) (k r : ℕ) → stands_at (q ∷ ps) (suc k) r ≡ length q.items + stands_at ps k r
+  more q ps k r = let n = length-append q.items (joined (take k ps)) in omega (arith, n)
+
+  -- in the first piece whose last item doesn't pass, where those that pass end there
+  pub end_in : (ps : List (Vec X A)) (k r : ℕ) → ArePieces ps → IsPartitionedBy p (joined ps) → IsLastEnd ps k → k < length ps
+      → ((d : Vec X A) → IsEnd p (get_or ps k d).items r) → ((d : Vec X A) → r ≤ length (get_or ps k d).items) → IsEnd p (joined ps) (stands_at ps k r) × (r < length_at ps k)
+  end_in [] k r h parted outer l inner bound = absurd (omega arith)
+  end_in (q ∷ ps) zero r h parted outer l inner bound = (
+    subst (λ n. IsEnd p (joined (q ∷ ps)) n) (omega arith) (last_none p q.items (joined ps) r (bound q) (inner q) (none_after p q.items (joined ps) h.0.some parted (outer.1 0 q (omega arith) (omega arith)))),
+    inside p q.items r h.0.some (bound q) (inner q) (outer.1 0 q (omega arith) (omega arith)),
+  )
+  end_in (q ∷ ps) (suc k) r h parted outer l inner bound =
+      let rest = end_in ps k r h.1 (parted_tail p q.items (joined ps) parted) (rest_end q ps k outer) (omega arith) inner bound in
+      let passes = all_pass p q.items h.0.some (parted_head p q.items (joined ps) parted) (outer.0 0 q (omega arith) (omega arith)) in
+      (subst (λ n. IsEnd p (joined (q ∷ ps)) n) (sym (more q ps k r)) (first_all p q.items (joined ps) (stands_at ps k r) passes rest.0), rest.1)
+
+  -- the same of a copy of the piece, and of what halving gives of it
+  pub end_found : (ps : List (Vec X A)) (k r : ℕ) (xs : List X) → ArePieces ps → IsPartitionedBy p (joined ps) → IsLastEnd ps k → k < length ps
+      → ((d : Vec X A) → xs ≡ (get_or ps k d).items) → r ≤ length xs → (IsPartitionedBy p xs → IsEnd p xs r) → IsEnd p (joined ps) (stands_at ps k r) × (r < length_at ps k)
+  end_found ps k r xs h parted outer l is bound inner =
+      end_in ps k r h parted outer l
+      (λ d. subst (λ ys. IsEnd p ys r) (is d) (inner (subst (IsPartitionedBy p) (sym (is d)) (parted_piece ps k d parted l))))
+      (λ d. omega (arith, bound, ap length (is d)))
+
+  -- behind all pieces, where each last item passes
+  pub end_past : (ps : List (Vec X A)) (k : ℕ) → ArePieces ps → IsPartitionedBy p (joined ps) → IsLastEnd ps k → k ≡ length ps → IsEnd p (joined ps) (stands_at ps k 0)
+  end_past [] zero h parted outer e = none_end p [] (λ k d l. absurd (omega arith))
+  end_past [] (suc k) h parted outer e = absurd (omega arith)
+  end_past (q ∷ ps) zero h parted outer e = absurd (omega arith)
+  end_past (q ∷ ps) (suc k) h parted outer e =
+      let rest = end_past ps k h.1 (parted_tail p q.items (joined ps) parted) (rest_end q ps k outer) (omega arith) in
+      let passes = all_pass p q.items h.0.some (parted_head p q.items (joined ps) parted) (outer.0 0 q (omega arith) (omega arith)) in
+      subst (λ n. IsEnd p (joined (q ∷ ps)) n) (sym (more q ps k 0)) (first_all p q.items (joined ps) (stands_at ps k 0) passes rest)
+
+-- ---- what stands at a spot
+
+module _ {X A : Type 0} where
+  pub stands_end : (ps : List (Vec X A)) (j : ℕ) → stands_at ps (length ps) j ≡ length (joined ps) + j
+  stands_end [] j = refl
+  stands_end (q ∷ ps) j = omega (arith, length-append q.items (joined ps), length-append q.items (joined (take (length ps) ps)), stands_end ps j)
+
+module _ {X : Type 0} where
+  get_or-any : (xs : List X) (j : ℕ) (x d : X) → j < length xs → x ≡ get_or xs j x → get_or xs j d ≡ x
+  get_or-any [] j x d l e = absurd (omega arith)
+  get_or-any (y ∷ xs) zero x d l e = sym e
+  get_or-any (y ∷ xs) (suc j) x d l e = get_or-any xs j x d (omega arith) e
+
+module _ {X A : Type 0} where
+  pub get_joined : (ps : List (Vec X A)) (i j : ℕ) (p : Vec X A) (x d : X) → j < length_at ps i → p ≡ get_or ps i p → x ≡ get_or p.items j x → get_or (joined ps) (stands_at ps i j) d ≡ x
+  get_joined [] i j p x d l e f = absurd (omega arith)
+  get_joined (q ∷ ps) zero j p x d l e f =
+      ap (λ n. get_or (q.items ++ joined ps) n d) (omega arith) ∙ get_or-left q.items (joined ps) j d l
+      ∙ get_or-any q.items j x d l (f ∙ ap (λ (v : Vec X A). get_or v.items j x) e)
+  get_joined (q ∷ ps) (suc i) j p x d l e f =
+      ap (λ n. get_or (q.items ++ joined ps) n d) (more_joined q ps i j)
+      ∙ get_or-append-add q.items (joined ps) (stands_at ps i j) d
+      ∙ get_joined ps i j p x d l e f
+    where
+      more_joined : (q : Vec X A) (ps : List (Vec X A)) (k r : ℕ) → stands_at (q ∷ ps) (suc k) r ≡ length q.items + stands_at ps k r
+      more_joined q ps k r = let n = length-append q.items (joined (take k ps)) in omega (arith, n)
+
+  pub stands_within : (ps : List (Vec X A)) (i j : ℕ) → j < length_at ps i → stands_at ps i j < length (joined ps)
+  stands_within [] i j l = absurd (omega arith)
+  stands_within (q ∷ ps) zero j l = omega (arith, length-append q.items (joined ps))
+  stands_within (q ∷ ps) (suc i) j l = omega (arith, length-append q.items (joined ps), length-append q.items (joined (take i ps)), stands_within ps i j l)
+
+-- ---- a row that takes another value
+
+module _ {V : Type 0} where
+  replace_in : (xs ys : List (ℕ × V)) (j : ℕ) (r : ℕ × V) (x : V) → j < length xs → r ≡ get_or xs j r → set xs j (r.0, x) ++ ys ≡ replace_at (xs ++ ys) j x
+  replace_in [] ys j r x l e = absurd (omega arith)
+  replace_in (y ∷ xs) ys zero r x l e = ap (λ (t : ℕ × V). (t.0, x) ∷ (xs ++ ys)) e
+  replace_in (y ∷ xs) ys (suc j) r x l e = ap (λ l. y ∷ l) (replace_in xs ys j r x (omega arith) e)
+
+  replace_behind : (xs ys : List (ℕ × V)) (j : ℕ) (x : V) → replace_at (xs ++ ys) (length xs + j) x ≡ xs ++ replace_at ys j x
+  replace_behind [] ys j x = ap (λ n. replace_at ys n x) (omega arith)
+  replace_behind (y ∷ xs) ys j x =
+      let n : length (y ∷ xs) + j ≡ suc (length xs + j) = omega arith in
+      ap (λ n. replace_at (y ∷ (xs ++ ys)) n x) n ∙ ap (λ l. y ∷ l) (replace_behind xs ys j x)
+
+module _ {V A : Type 0} where
+  pub replace_joined : (ps : List (Vec (ℕ × V) A)) (i j : ℕ) (p : Vec (ℕ × V) A) (r : ℕ × V) (p' : Vec (ℕ × V) A) (x : V) → j < length_at ps i → p ≡ get_or ps i p → r ≡ get_or p.items j r
+      → p'.items ≡ set p.items j (r.0, x) → joined (set ps i p') ≡ replace_at (joined ps) (stands_at ps i j) x
+  replace_joined [] i j p r p' x l e f g = absurd (omega arith)
+  replace_joined (q ∷ ps) zero j p r p' x l e f g =
+      ap (λ (xs : List (ℕ × V)). xs ++ joined ps) (g ∙ ap (λ (v : Vec (ℕ × V) A). set v.items j (r.0, x)) e)
+      ∙ replace_in q.items (joined ps) j r x l (f ∙ ap (λ (v : Vec (ℕ × V) A). get_or v.items j r) e)
+      ∙ ap (λ n. replace_at (q.items ++ joined ps) n x) (omega arith)
+  replace_joined (q ∷ ps) (suc i) j p r p' x l e f g =
+      ap (λ (xs : List (ℕ × V)). q.items ++ xs) (replace_joined ps i j p r p' x l e f g)
+      ∙ sym (replace_behind q.items (joined ps) (stands_at ps i j) x)
+      ∙ ap (λ n. replace_at (q.items ++ joined ps) n x) (more_of q ps i j)
+    where
+      more_of : (q : Vec (ℕ × V) A) (ps : List (Vec (ℕ × V) A)) (k r : ℕ) → length q.items + stands_at ps k r ≡ stands_at (q ∷ ps) (suc k) r
+      more_of q ps k r = let n = length-append q.items (joined (take k ps)) in omega (arith, n)
+
+-- ---- rows whose serials rise
+
+module _ {V : Type 0} where
+  abbrev pub is_below : ℕ → ℕ × V → Bool
+  is_below s row = nat_lt row.0 s
+
+  pub parted_serials : (s n : ℕ) (rs : List (ℕ × V)) (m : ℕ) → Rises n rs m → IsPartitionedBy (is_below s) rs
+  parted_serials s n rs m h i j d le l e =
+      let up : i < j → (get_or rs i d).0 < (get_or rs j d).0 = λ lt. Rises-up n rs m i j d h lt l in
+      let same : i ≡ j → (get_or rs i d).0 ≡ (get_or rs j d).0 = λ e. ap (λ k. (get_or rs k d).0) e in
+      below _ _ s (grind (arith, up, same)) e
+    where
+      below : (a b s : ℕ) → a ≤ b → nat_lt b s ≡ true → nat_lt a s ≡ true
+      below a b s le e = grind (arith, nat_tests, e)
+
+  -- the row of the serial stands where those of smaller ones end, or nowhere
+  pub place_there : (s n : ℕ) (rs : List (ℕ × V)) (m r : ℕ) → Rises n rs m → r < length rs → ((d : ℕ × V) → (get_or rs r d).0 ≡ s) → place (has_serial s) rs ≡ Some r
+  place_there = place_at
+
+  pub place_nowhere : (s n : ℕ) (rs : List (ℕ × V)) (m r : ℕ) → Rises n rs m → IsEnd (is_below s) rs r → (r < length rs → (d : ℕ × V) → (get_or rs r d).0 ≡ s → ⊥) → place (has_serial s) rs ≡ None
+  place_nowhere s n rs m r h point other =
+      place_none (has_serial s) rs
+      (λ k d l. differs (get_or rs k d).0 (get_or rs r d).0 s k r
+        (λ lt. point.0 k d (omega arith) lt)
+        (λ le. point.1 r d (omega arith) (omega arith))
+        (λ lt. Rises-up n rs m r k d h lt l)
+        (λ e. ap (λ i. (get_or rs i d).0) e)
+        (λ le e. other (omega arith) d e))
+    where
+      differs : (a b s k r : ℕ) → (k < r → nat_lt a s ≡ true) → (r ≤ k → nat_lt b s ≡ false) → (r < k → b < a) → (k ≡ r → a ≡ b) → (r ≤ k → b ≡ s → ⊥) → nat_eq a s ≡ false
+      differs a b s k r low high up same other = grind (arith, nat_tests, low, high, up, same, other)

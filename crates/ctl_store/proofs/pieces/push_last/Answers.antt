@@ -1,0 +1,41 @@
+use Rattle.std.proofs.Common.{◌≡◌, ◌∙◌, ◌-◌, ◌<◌, length, ap, arith}
+use Rattle.std.specs.List.{insert}
+use Rattle.ctl_store.specs.Pieces.{most_in_piece, length_at, free_at_end}
+use Rattle.ctl_store.proofs.PiecesLemmas.{length_read, some_free, free_last, length_at_end}
+use Rattle.ctl_store.proofs.pieces.push_last.Goals as goal
+
+pub insert_within-requires-clause-at : goal.insert_within-requires-clause-at
+insert_within-requires-clause-at g c =
+    let ps = c.args.pieces.now.items in
+    let free : 0 < free_at_end ps = omega (arith, ap free_at_end c.deref.ensures.value) in
+    let some = some_free ps free in
+    let within : c.len-count.result - 1 < length ps = omega arith in
+    omega (arith, length_read ps (c.len-count.result - 1) c.index.result.now within c.index.ensures)
+
+pub insert_within-requires-clause-few : goal.insert_within-requires-clause-few
+insert_within-requires-clause-few g c =
+    let ps = c.args.pieces.now.items in
+    let free : 0 < free_at_end ps = omega (arith, ap free_at_end c.deref.ensures.value) in
+    let some = some_free ps free in
+    omega (arith, free_last ps (c.len-count.result - 1) (omega arith))
+
+pub returns-then-free_in_last-eq0-clause-room : goal.returns-then-free_in_last-eq0-clause-room
+returns-then-free_in_last-eq0-clause-room g c =
+    let ps = c.args.pieces.now.items in
+    let qs = c.insert_piece.new.pieces.items in
+    let p = c.insert_in.new.piece in
+    let none : free_at_end ps ≡ 0 = omega (arith, ap free_at_end c.deref.ensures.value) in
+    let count : c.len-count.result ≡ length ps = omega arith in
+    let now : qs ≡ insert ps (length ps) p = c.insert_piece.ensures.items ∙ ap (λ n. insert ps n p) count in
+    let one : length p.items ≡ 1 = omega (arith, ap length c.take_ready-piece.ensures.piece.none) in
+    let free : free_at_end qs ≡ most_in_piece - 1 = free_last qs (length ps) (omega arith) ∙ ap (λ n. most_in_piece - n) (ap (λ l. length_at l (length ps)) now ∙ length_at_end ps p ∙ one) in
+    omega (arith, none, free, c.take_ready-piece.ensures.len)
+
+pub returns-else-free_in_last-eq0-clause-room : goal.returns-else-free_in_last-eq0-clause-room
+returns-else-free_in_last-eq0-clause-room g c =
+    let ps = c.args.pieces.now.items in
+    let qs = c.insert_within.new.pieces.items in
+    let free : 0 < free_at_end ps = omega (arith, ap free_at_end c.deref.ensures.value) in
+    let some = some_free ps free in
+    let n = c.len-count.result - 1 in
+    omega (arith, c.insert_within.ensures.length, free_last ps n (omega arith), free_last qs n (omega arith))
