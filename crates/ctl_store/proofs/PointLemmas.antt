@@ -247,11 +247,11 @@ module _ {V : Type 0} where
   place_nowhere s n rs m r h point other =
       place_none (has_serial s) rs
       (λ k d l. differs (get_or rs k d).0 (get_or rs r d).0 s k r
-        (λ lt. point.0 k d (omega arith) lt)
-        (λ le. point.1 r d (omega arith) (omega arith))
-        (λ lt. Rises-up n rs m r k d h lt l)
-        (λ e. ap (λ i. (get_or rs i d).0) e)
-        (λ le e. other (omega arith) d e))
+      (λ lt. point.0 k d (omega arith) lt)
+      (λ le. point.1 r d (omega arith) (omega arith))
+      (λ lt. Rises-up n rs m r k d h lt l)
+      (λ e. ap (λ i. (get_or rs i d).0) e)
+      (λ le e. other (omega arith) d e))
     where
       differs : (a b s k r : ℕ) → (k < r → nat_lt a s ≡ true) → (r ≤ k → nat_lt b s ≡ false) → (r < k → b < a) → (k ≡ r → a ≡ b) → (r ≤ k → b ≡ s → ⊥) → nat_eq a s ≡ false
       differs a b s k r low high up same other = grind (arith, nat_tests, low, high, up, same, other)

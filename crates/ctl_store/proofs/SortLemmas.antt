@@ -1,5 +1,5 @@
 -- Sorting the serials of new rows gives the order that is kept.
-use Rattle.std.proofs.Common.{◌≡◌, ℕ, suc, ◌+◌, ◌<◌, ◌≤◌, Bool, true, false, cond, nat_eq, List, [], ◌∷◌, length, map, get_or, Some, option_map, refl, ap, sym, subst, ◌∙◌, arith, sum_by}
+use Rattle.std.proofs.Common.{◌≡◌, ℕ, zero, suc, Box, ◌+◌, ◌<◌, ◌≤◌, Bool, true, false, cond, nat_eq, List, [], ◌∷◌, length, map, get_or, Some, option_map, refl, ap, sym, subst, ◌∙◌, arith, sum_by}
 use Rattle.std.specs.List.{AllByRecursion, slice_get}
 use Rattle.std.specs.List.Sorted.{IsPermutation, IsSortedBy}
 use Rattle.std.specs.Cmp.{IsTotalOrder, nat_cmp_total}
@@ -214,3 +214,9 @@ sorted_is rows xs e serials order s moved sorted =
 -- the order that a sort of serials asks for
 pub place_ranks : (rows : List (ℕ × Content)) → IsTotalOrder (place_cmp rows)
 place_ranks = place_total
+
+-- what the row at a place is found by, of the stanza at that place
+pub id_at_stanza : {A : Type 0} (n : ℕ) (xs : List (Box Content A)) (k : ℕ) → id_at (rows_from n (map (λ stanza. stanza.value) xs)) k ≡ option_map (λ (x : Box Content A). id_of x.value) (slice_get xs k)
+id_at_stanza n [] k = refl
+id_at_stanza n (x ∷ xs) zero = refl
+id_at_stanza n (x ∷ xs) (suc k) = id_at_stanza (suc n) xs k
