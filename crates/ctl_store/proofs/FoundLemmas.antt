@@ -1,5 +1,5 @@
 -- What an accepted edit finds, and how many stanzas are there after it.
-use Rattle.std.proofs.Common.{◌≡◌, ℕ, ◌+◌, ◌≤◌, Bool, true, false, cond, not, List, length, Option, None, Some, is_some, refl, ap, sym, ◌∙◌, arith}
+use Rattle.std.proofs.Common.{◌≡◌, ℕ, ◌+◌, ◌≤◌, Bool, true, false, cond, not, suc, List, [], ◌∷◌, map, length, Option, None, Some, is_some, option_map, refl, ap, sym, ◌∙◌, arith}
 use Rattle.std.specs.Option.{option_or, option_map_or}
 use Rattle.ctl_stanza.specs.declared.list_kind.ListKind.{ListKind}
 use Rattle.ctl_stanza.specs.Content.{Content, package_of, version_of}
@@ -9,10 +9,11 @@ use Rattle.ctl_store.specs.declared.refusal.Refusal.{Refusal}
 use Rattle.ctl_store.specs.Named.{at_name, has_name}
 use Rattle.ctl_store.specs.State.{StanzaList, State, stanza_count}
 use Rattle.ctl_store.specs.Edits.{AddList, DropList, Put, Remove}
-use Rattle.ctl_store.specs.Step.{place, is_same, put_stanza, remove_stanza, with_stanzas, has_stanza, when, refusal_of, count_in}
-use Rattle.ctl_store.specs.Keys.{stanza_lists}
+use Rattle.ctl_store.specs.Step.{place, is_same, put_stanza, remove_stanza, with_stanzas, has_stanza, when, refusal_of}
+use Rattle.ctl_store.specs.Keys.{KeyedList, key_of, keys_of, stanzas_of, stanza_list, stanza_lists, all_in}
 use Rattle.ctl_store.specs.Held.{Sheet, lists_of}
-use Rattle.ctl_store.proofs.ListedLemmas.{has_name_lists, has_name_held}
+use Rattle.ctl_store.proofs.ListedLemmas.{has_name_lists, has_name_held, at_name-stanza_lists}
+use Rattle.ctl_store.proofs.NamedLemmas.{some_is}
 use Rattle.ctl_store.proofs.AcceptLemmas.{accepted_fits, accepted_stanzas, count-push, count-without, count-change}
 use Rattle.ctl_store.proofs.PastLemmas.{put-length, remove-length}
 
@@ -48,8 +49,17 @@ drop_found limits s name e = some (at_name name s.lists) (no_refusal _ _ (accept
 pub count_below : (s : State) (name : List ℕ) (l : StanzaList) → at_name name s.lists ≡ Some l → length l.stanzas ≤ stanza_count s.lists
 count_below s name l e = omega (arith, count-without name s.lists l e)
 
-pub count_in_is : (s : State) (name : List ℕ) (l : StanzaList) → at_name name s.lists ≡ Some l → count_in name s.lists ≡ length l.stanzas
-count_in_is s name l e = ap (λ o. option_map_or (λ (l : StanzaList). length l.stanzas) o 0) e
+rows_count : (list : ℕ) (rows : List (ℕ × Content)) → length (map (λ (row : ℕ × Content). key_of list row.0) rows) ≡ length (stanzas_of rows)
+rows_count list [] = refl
+rows_count list (row ∷ rows) = ap (λ n. suc n) (rows_count list rows)
+
+-- a list has as many keys as stanzas
+pub keys_count : (name : List ℕ) (ls : List (List ℕ × KeyedList)) (l : StanzaList) → at_name name (stanza_lists ls) ≡ Some l → length (all_in name ls) ≡ length l.stanzas
+keys_count name ls l e = by (at_name name ls) (sym (at_name-stanza_lists name ls) ∙ e)
+  where
+    by : (o : Option KeyedList) → option_map stanza_list o ≡ Some l → length (option_map_or keys_of o []) ≡ length l.stanzas
+    by None e = cc e
+    by (Some k) e = rows_count k.serial k.rows ∙ ap (λ (l : StanzaList). length l.stanzas) (some_is e)
 
 pub put_found : (limits : Limits) (s : State) (list : List ℕ) (x : Content) → refusal_of limits s (Put list x) ≡ None → (l : StanzaList) × (at_name list s.lists ≡ Some l)
 put_found limits s list x e = some (at_name list s.lists) (no_refusal _ _ (accepted_fits limits s (Put list x) e))

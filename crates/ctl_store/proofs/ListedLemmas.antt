@@ -1,9 +1,9 @@
 -- Changes of one list among the lists, and the order of serials through them.
-use Rattle.std.proofs.Common.{◌≡◌, ℕ, ◌+◌, ◌≤◌, suc, Bool, true, false, cond, ◌||◌, List, [], ◌∷◌, ◌++◌, Option, None, Some, is_some, option_map, map, length, refl, ap, sym, subst, ◌∙◌, IfSome, OnOk, Result, Ok, Err, Vec, arith}
+use Rattle.std.proofs.Common.{◌≡◌, ℕ, ◌+◌, ◌≤◌, suc, Bool, true, false, cond, ◌||◌, List, [], ◌∷◌, ◌++◌, Option, None, Some, is_some, option_map, map, refl, ap, sym, subst, ◌∙◌, IfSome, OnOk, Result, Ok, Err, Vec, arith}
 use Rattle.std.specs.Str.{bytes_eq}
 use Rattle.ctl_stanza.specs.Content.{Content, package_of, version_of}
 use Rattle.ctl_store.specs.State.{StanzaList, shown_lists}
-use Rattle.ctl_store.specs.Step.{place, is_same, is_status, has_status, has_stanza, count_in}
+use Rattle.ctl_store.specs.Step.{place, is_same, is_status, has_status, has_stanza}
 use Rattle.std.specs.Option.{option_map_or}
 use Rattle.std.specs.List.{list_any}
 use Rattle.std.specs.Map.{keys_of as names_of}
@@ -183,17 +183,6 @@ has_status_held (e ∷ es) = ap (λ b. is_status e.1.kind || b) (has_status_held
 pub status_entries : {A : Type 0} (es : List (Vec ℕ A × Sheet)) → list_any (λ (e : Vec ℕ A × Sheet). is_status e.1.kind) es ≡ has_status (stanza_lists (lists_of (map by_bytes es)))
 status_entries [] = refl
 status_entries (e ∷ es) = ap (λ b. is_status e.1.kind || b) (status_entries es)
-
-length_stanzas : (rows : List (ℕ × Content)) → length (stanzas_of rows) ≡ length rows
-length_stanzas [] = refl
-length_stanzas (r ∷ rows) = ap (λ n. suc n) (length_stanzas rows)
-
-pub count_held : (list : List ℕ) (es : List (List ℕ × Sheet)) → count_in list (stanza_lists (lists_of es)) ≡ option_map_or (λ (s : Sheet). length s.rows) (at_name list es) 0
-count_held list es = ap (λ o. option_map_or (λ (l : StanzaList). length l.stanzas) o 0) (at_name_held list es) ∙ by (at_name list es)
-  where
-    by : (o : Option Sheet) → option_map_or (λ (l : StanzaList). length l.stanzas) (option_map stanza_list (option_map keyed_list o)) 0 ≡ option_map_or (λ (s : Sheet). length s.rows) o 0
-    by None = refl
-    by (Some s) = length_stanzas s.rows
 
 pub shown_entries : {A : Type 0} (es : List (Vec ℕ A × Sheet)) → map (λ (e : Vec ℕ A × Sheet). (e.0.items, e.1.kind, e.1.class)) es ≡ shown_lists (stanza_lists (lists_of (map by_bytes es)))
 shown_entries [] = refl

@@ -1,4 +1,4 @@
-use Rattle.std.proofs.Common.{◌≡◌, ◌∙◌, List, [], ◌∷◌, None, refl, sym, subst, IfOk}
+use Rattle.std.proofs.Common.{◌≡◌, ◌∙◌, List, [], ◌∷◌, None, refl, sym}
 use Rattle.std.specs.List.{slice_get}
 use Rattle.ctl_store.specs.declared.stanza_key.StanzaKey.{StanzaKey}
 use Rattle.ctl_store.specs.Held.{lists_of}
@@ -11,6 +11,4 @@ none_first (k ∷ ks) e = cc e
 
 pub returns-in-None : goal.returns-in-None
 returns-in-None c =
-    subst (λ ks. IfOk c.next_in.result (λ v. v.items ≡ ks))
-    (sym (kept_new c.args.list.now c.args.stanza.now (lists_of c.args.self.now.lists) (sym c.requires ∙ none_first c.args.removed.now c.in-None.ensures.value)))
-    c.next_in.ensures
+    c.next_in.ensures ∙ sym (kept_new c.args.list.now c.args.stanza.now (lists_of c.args.self.now.lists) (sym c.requires ∙ none_first c.args.removed.now c.in-None.ensures.value))

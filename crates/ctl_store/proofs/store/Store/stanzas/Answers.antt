@@ -1,4 +1,4 @@
-use Rattle.std.proofs.Common.{rules, [], ◌≡◌, ◌∙◌, ◌+◌, Some, map, ap, subst, sym}
+use Rattle.std.proofs.Common.{rules, ◌≡◌, ◌∙◌, ◌+◌, Some, map, ap, subst, sym}
 use Rattle.ctl_store.specs.Keys.{AreHeld, all_in, stanza_at, stanza_lists}
 use Rattle.ctl_store.specs.State.{stanzas_named}
 use Rattle.ctl_store.specs.Held.{lists_of}
@@ -7,16 +7,13 @@ use Rattle.ctl_store.proofs.FindLemmas.{keys_find}
 use Rattle.ctl_store.proofs.HeldLemmas.{keys_held}
 use Rattle.ctl_store.proofs.store.Store.stanzas.Goals as goal
 
-keys : goal.returns-in-Some-clause-keys
-keys c = search (rules, at_name_lists)
-
 pub returns-in-Some-clause-keys : goal.returns-in-Some-clause-keys
-returns-in-Some-clause-keys = keys
+returns-in-Some-clause-keys c = search (rules, at_name_lists)
 
 pub returns-in-Some-clause-held : goal.returns-in-Some-clause-held
 returns-in-Some-clause-held c =
     let ls = lists_of c.args.self.now.lists in
-    subst (λ ks. AreHeld ks ls) (sym (keys c)) (keys_held c.args.list.now ls)
+    subst (λ ks. AreHeld ks ls) (sym (returns-in-Some-clause-keys c)) (keys_held c.args.list.now ls)
 
 pub returns-in-Some-clause-stanzas : goal.returns-in-Some-clause-stanzas
 returns-in-Some-clause-stanzas c =
@@ -24,7 +21,10 @@ returns-in-Some-clause-stanzas c =
     let ls = lists_of c.args.self.now.lists in
     let found = subst (λ h. map (λ key. stanza_at key (lists_of h.lists)) (all_in c.args.list.now (lists_of h.lists)) ≡ map Some (stanzas_named c.args.list.now (stanza_lists (lists_of h.lists)))) c.self.view_is
     (keys_find c.args.list.now 0 (lists_of s.lists.0) s.next_list (s.limits.stanzas + s.edits) c.self.invariant.order) in
-    ap (λ ks. map (λ key. stanza_at key ls) ks) (keys c) ∙ found
+    ap (λ ks. map (λ key. stanza_at key ls) ks) (returns-in-Some-clause-keys c) ∙ found
+
+pub returns-in-None-clause-keys : goal.returns-in-None-clause-keys
+returns-in-None-clause-keys c = search (rules, at_name_lists)
 
 pub returns-in-None-clause-stanzas : goal.returns-in-None-clause-stanzas
 returns-in-None-clause-stanzas c =
@@ -32,5 +32,4 @@ returns-in-None-clause-stanzas c =
     let ls = lists_of c.args.self.now.lists in
     let found = subst (λ h. map (λ key. stanza_at key (lists_of h.lists)) (all_in c.args.list.now (lists_of h.lists)) ≡ map Some (stanzas_named c.args.list.now (stanza_lists (lists_of h.lists)))) c.self.view_is
     (keys_find c.args.list.now 0 (lists_of s.lists.0) s.next_list (s.limits.stanzas + s.edits) c.self.invariant.order) in
-    let none : [] ≡ all_in c.args.list.now ls = search (rules, at_name_lists) in
-    ap (λ ks. map (λ key. stanza_at key ls) ks) none ∙ found
+    ap (λ ks. map (λ key. stanza_at key ls) ks) (returns-in-None-clause-keys c) ∙ found
