@@ -3,6 +3,7 @@ pub mod PiecesLemmas
 pub mod PointLemmas
 pub mod SortedLemmas
 pub mod OrderLemmas
+pub mod ShelfLemmas
 pub mod SortLemmas
 pub mod HalvedLemmas
 pub mod NamedLemmas
