@@ -1,10 +1,11 @@
 -- What a list keeps while its rows and their order change.
-use Rattle.std.proofs.Common.{◌≡◌, ℕ, zero, suc, ◌+◌, ◌<◌, ◌≤◌, List, [], ◌∷◌, ◌++◌, length, map, take, drop, get_or, Vec, vec_len, Option, Some, None, refl, ap, sym, subst, ◌∙◌, arith}
+use Rattle.std.proofs.Common.{◌≡◌, ℕ, zero, suc, ◌+◌, ◌<◌, Bool, true, false, cond, List, [], ◌∷◌, ◌++◌, length, map, take, drop, get_or, Vec, vec_len, Option, Some, None, refl, ap, sym, subst, ◌∙◌, arith}
 use Rattle.std.specs.List.{insert, remove}
 use Rattle.std.specs.Vec.{vec_capacity}
+use Rattle.std.specs.Ordering.{is_gt}
 use Rattle.ctl_stanza.specs.Content.{Content, package_of, version_of}
 use Rattle.ctl_store.specs.Step.{place}
-use Rattle.ctl_store.specs.Rows.{id, id_of, ids_of, sorted_ids, sorted_serials, lower, IsKept, Rises, by_name_and_version, replace_at, rows_from}
+use Rattle.ctl_store.specs.Rows.{Id, id, id_of, id_cmp, insert_id, ids_of, sorted_ids, sorted_serials, lower, IsKept, Rises, by_name_and_version, replace_at, rows_from}
 use Rattle.ctl_store.specs.Pieces.{joined, ArePieces, IsFit}
 use Rattle.ctl_store.specs.Keys.{KeyedList, key_of, key_at}
 use Rattle.ctl_store.specs.Held.{IsShelved}
@@ -69,6 +70,32 @@ module _ {A B : Type 0} (rows rows_ready : Vec (Vec (ℕ × Content) A) B) (next
       rows_fit = rows_fit;
       order_fit = order_fit;
     }
+
+-- ---- a new list
+
+length-rows_from : (n : ℕ) (xs : List Content) → length (rows_from n xs) ≡ length xs
+length-rows_from n [] = refl
+length-rows_from n (x ∷ xs) = ap (λ k. suc k) (length-rows_from (suc n) xs)
+
+length-insert_id : (x : ℕ × Id) (ys : List (ℕ × Id)) → length (insert_id x ys) ≡ suc (length ys)
+length-insert_id x [] = refl
+length-insert_id x (y ∷ ys) = by (is_gt (id_cmp x.1 y.1)) (length-insert_id x ys)
+  where
+    by : (b : Bool) → length (insert_id x ys) ≡ suc (length ys) → length (cond b (y ∷ insert_id x ys) (x ∷ y ∷ ys)) ≡ suc (suc (length ys))
+    by true e = ap (λ k. suc k) e
+    by false e = refl
+
+length-sorted_ids : (xs : List (ℕ × Id)) → length (sorted_ids xs) ≡ length xs
+length-sorted_ids [] = refl
+length-sorted_ids (x ∷ xs) = length-insert_id x (sorted_ids xs) ∙ ap (λ k. suc k) (length-sorted_ids xs)
+
+-- each of them is in the order once
+pub length-serials : (xs : List Content) → length (sorted_serials (rows_from 0 xs)) ≡ length xs
+length-serials xs =
+    same_length (λ (x : ℕ × Id). x.0) (sorted_ids (ids_of (rows_from 0 xs)))
+    ∙ length-sorted_ids (ids_of (rows_from 0 xs))
+    ∙ same_length (λ (row : ℕ × Content). (row.0, id_of row.1)) (rows_from 0 xs)
+    ∙ length-rows_from 0 xs
 
 -- rows from 0 on, in the order that a sort gives
 pub shelved_sorted : {A B : Type 0} (rows rows_ready : Vec (Vec (ℕ × Content) A) B) (next : ℕ) (order order_ready : Vec (Vec ℕ A) B) (xs : List Content)

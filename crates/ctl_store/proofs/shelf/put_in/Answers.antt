@@ -1,5 +1,5 @@
-use Rattle.std.proofs.Common.{◌≡◌, ℕ, List, ◌∙◌, sym, ap, ◌++◌, ◌∷◌, [], None, Some, option_copied, option_map}
-use Rattle.ctl_stanza.specs.Content.{Content, package_of, version_of}
+use Rattle.std.proofs.Common.{◌≡◌, ◌∙◌, sym, ap, ◌++◌, ◌∷◌, [], None, Some, option_copied, option_map}
+use Rattle.ctl_stanza.specs.Content.{package_of, version_of}
 use Rattle.ctl_store.specs.Step.{place}
 use Rattle.ctl_store.specs.Rows.{id, id_of, ids_of, sorted_ids, lower, by_name_and_version}
 use Rattle.ctl_store.specs.Pieces.{joined, place_of_spot}

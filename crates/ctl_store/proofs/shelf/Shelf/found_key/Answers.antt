@@ -1,5 +1,4 @@
-use Rattle.std.proofs.Common.{◌≡◌, ◌∙◌, ℕ, List, Some, ◌∷◌, [], sym, ap, option_copied, option_map}
-use Rattle.ctl_stanza.specs.Content.{Content}
+use Rattle.std.proofs.Common.{◌≡◌, ◌∙◌, Some, ◌∷◌, [], sym, ap, option_copied, option_map}
 use Rattle.ctl_store.specs.Step.{place}
 use Rattle.ctl_store.specs.Rows.{by_name_and_version}
 use Rattle.ctl_store.specs.Pieces.{joined, place_of_spot}

@@ -1,0 +1,30 @@
+use Rattle.std.proofs.Common.{◌∙◌, ◌++◌, map, length, ap, arith}
+use Rattle.ctl_store.specs.Rows.{rows_from, sorted_serials}
+use Rattle.ctl_store.specs.Pieces.{joined}
+use Rattle.ctl_store.specs.Held.{ListRoom}
+use Rattle.ctl_store.proofs.ShelfLemmas.{same_length, length-serials, shelved_sorted}
+use Rattle.ctl_store.proofs.shelf.Shelf.new.Goals as goal
+
+pub extend-requires-clause-room : goal.extend-requires-clause-room
+extend-requires-clause-room c =
+    let stanzas = c.args.stanzas.items in
+    let xs = map (λ stanza. stanza.value) stanzas in
+    omega (
+      arith,
+      c.requires.order,
+      ap (λ (room : ListRoom). room.order) c.room.view_is,
+      ap length c.sort_serials.ensures,
+      ap (λ l. length (sorted_serials (rows_from 0 (map (λ stanza. stanza.value) l)))) c.deref.ensures.value,
+      length-serials xs,
+      same_length (λ stanza. stanza.value) stanzas,
+    )
+
+pub invariant_of-result : goal.invariant_of-result
+invariant_of-result c =
+    let xs = map (λ stanza. stanza.value) c.args.stanzas.items in
+    let rows = c.fill_rows-next.new.rows in
+    let order = c.extend.new.self in
+    shelved_sorted rows.pieces rows.ready c.fill_rows-next.result order.pieces order.ready xs c.fill_rows-next.ensures.rows
+    (omega (arith, c.fill_rows-next.ensures.next, same_length (λ stanza. stanza.value) c.args.stanzas.items))
+    (c.extend.ensures.items ∙ ap (λ l. joined l ++ c.sort_serials.new.order.items) c.room.invariant.no_order ∙ c.sort_serials.ensures ∙ ap (λ l. sorted_serials (rows_from 0 (map (λ stanza. stanza.value) l))) c.deref.ensures.value)
+    c.fill_rows-next.ensures.fit c.extend.ensures.fit
