@@ -11,8 +11,6 @@ make-requires c = record {
   accepted = subst (λ p. refusal_of c.args.self.now.limits (state_of c.args.self.now) p.edit ≡ None) (sym c.plan.view_is) c.requires.accepted;
   gone = omega (arith, c.len.ensures, ap (λ (ks : List StanzaKey). length ks) (ap (λ p. p.removed) c.plan.view_is ∙ c.requires.removed ∙ ap (λ p. removed_of (keyed_of c.args.self.now) p.edit) (sym c.plan.view_is)));
   room = subst (λ p. HasRoom c.args.self.now (ready_of p) p.edit) (sym c.plan.view_is) c.requires.room;
-  rows = c.plan.invariant.no_rows;
-  order = c.plan.invariant.no_order;
   pins = c.plan.invariant.no_pins;
 }
 

@@ -7,8 +7,6 @@ use Rattle.ctl_store.proofs.store.Store.prepare.Goals as goal
 
 pub invariant_of-result : goal.invariant_of-result
 invariant_of-result c = record {
-  no_rows = c.in-Ok-make_ready.ensures.empty.0;
-  no_order = c.in-Ok-make_ready.ensures.empty.1;
-  no_pins = c.in-Ok-make_ready.ensures.empty.2;
+  no_pins = c.in-Ok-make_ready.ensures.empty;
   coming = subst (λ ks. AreComing ks (edit_of c.args.edit)) (sym c.in-Ok-added_keys.ensures) (added_come (keyed_of c.args.self.now) (edit_of c.args.edit));
 }
