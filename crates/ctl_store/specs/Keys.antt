@@ -146,6 +146,19 @@ next_in list ls = option_map_or next_key (at_name list ls) []
 abbrev pub all_in : List ℕ → List (List ℕ × KeyedList) → List StanzaKey
 all_in list ls = option_map_or keys_of (at_name list ls) []
 
+-- the key of the stanza that an edit takes out or replaces
+abbrev pub found_of : Keyed → Edit → List StanzaKey
+found_of k (AddList name kind class stanzas) = []
+found_of k (DropList name) = []
+found_of k (Put list x) = found_in list (package_of x) (version_of x) k.lists
+found_of k (Remove list name version) = found_in list name (Some version) k.lists
+found_of k (Mark name version) = []
+found_of k (Unmark name) = []
+found_of k (Pin selector priority) = []
+found_of k (Unpin selector) = []
+found_of k (Target name) = []
+found_of k (Prefs pins) = []
+
 -- the keys that go
 abbrev pub removed_of : Keyed → Edit → List StanzaKey
 removed_of k (AddList name kind class stanzas) = []

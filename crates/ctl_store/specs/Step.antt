@@ -92,6 +92,19 @@ has_status lists = list_any (λ (l : List ℕ × StanzaList). is_status l.1.kind
 abbrev pub has_stanza : List ℕ → List ℕ → Option (List ℕ) → List (List ℕ × StanzaList) → Bool
 has_stanza list name version lists = option_map_or (λ (l : StanzaList). is_some (place (is_same name version) l.stanzas)) (at_name list lists) false
 
+-- whether the stanza that an edit takes out or replaces is there
+abbrev pub is_there : State → Edit → Bool
+is_there s (AddList name kind class stanzas) = false
+is_there s (DropList name) = false
+is_there s (Put list content) = has_stanza list (package_of content) (version_of content) s.lists
+is_there s (Remove list name version) = has_stanza list name (Some version) s.lists
+is_there s (Mark name version) = false
+is_there s (Unmark name) = false
+is_there s (Pin selector priority) = false
+is_there s (Unpin selector) = false
+is_there s (Target name) = false
+is_there s (Prefs pins) = false
+
 -- why an edit does not fit the state, the limits aside
 abbrev pub misfit_of : State → Edit → Option Refusal
 misfit_of s (AddList name kind class stanzas) = option_or (when (has_name name s.lists) ListExists) (when (is_status kind && has_status s.lists) StatusExists)

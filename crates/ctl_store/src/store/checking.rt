@@ -2,18 +2,20 @@
 
 ghost use Rattle.std.specs.Prelude.{◌≡◌, None, Some, MatchResult, option_copied, is_some, length};
 ghost use Rattle.std.specs.FinMap as fin;
-ghost use Rattle.std.specs.Option.{option_map_or};
+ghost use Rattle.std.specs.Option.{option_map_or, option_to_list};
 ghost use Rattle.std.specs.Map.{lookup};
 ghost use Rattle.ctl_store.specs.Named.{at_name, has_name};
 ghost use Rattle.ctl_store.specs.State.{count_of_kind};
 ghost use Rattle.ctl_store.specs.Pins.{selector_eq};
 ghost use Rattle.ctl_store.specs.Edits.{edit_of};
-ghost use Rattle.ctl_store.specs.Step.{count_coming, has_status, has_stanza, misfit_of, is_past, after, refusal_of};
-ghost use Rattle.ctl_store.specs.Held.{state_of};
+ghost use Rattle.ctl_store.specs.Step.{count_coming, has_status, has_stanza, is_there, misfit_of, is_past, after, refusal_of};
+ghost use Rattle.ctl_store.specs.Keys.{found_in, found_of};
+ghost use Rattle.ctl_store.specs.Held.{state_of, keyed_of};
 
 use crate::edit::Edit;
 use crate::refusal::Refusal;
 use crate::selector::Selector;
+use crate::stanza_key::StanzaKey;
 use crate::store::Store;
 use ctl_relation::Version;
 use ctl_stanza::ListKind;
@@ -53,13 +55,33 @@ impl Store {
         }
     }
 
-    #[tactic(auto, using(crate::proofs::ListedLemmas::has_stanza_held))]
-    pub(super) fn has_stanza(&self, list: &[u8], name: &[u8], version: Option<&Version>) -> bool
-        ensures { result ≡ has_stanza list.now name.now (option_copied version.entry) (state_of self.now).lists }
+    // The key of the first stanza of this name and an equal version in a list.
+    #[tactic(auto, using(crate::proofs::ListedLemmas::at_name_lists, crate::proofs::ListedLemmas::has_stanza_held))]
+    fn found_in(&self, list: &[u8], name: &[u8], version: Option<&Version>) -> Option<StanzaKey>
+        ensures key { option_to_list result ≡ found_in list.now name.now (option_copied version.entry) (keyed_of self.now).lists }
+        ensures there { is_some result ≡ has_stanza list.now name.now (option_copied version.entry) (state_of self.now).lists }
     {
         match self.lists.get(list) {
-            Some(shelf) => shelf.found_key(name, version).is_some(),
-            None => false,
+            Some(shelf) => shelf.found_key(name, version),
+            None => None,
+        }
+    }
+
+    // The key of the stanza that an edit takes out or replaces.
+    pub(super) fn found(&self, edit: &Edit) -> Option<StanzaKey>
+        ensures key { option_to_list result ≡ found_of (keyed_of self.now) (edit_of edit.now) }
+        ensures there { is_some result ≡ is_there (state_of self.now) (edit_of edit.now) }
+    {
+        match edit {
+            Edit::Put { list, stanza } => {
+                self.found_in(list.as_slice(), stanza.package(), stanza.version())
+            }
+            Edit::Remove {
+                list,
+                package,
+                version,
+            } => self.found_in(list.as_slice(), package.as_slice(), Some(version)),
+            _ => None,
         }
     }
 
@@ -76,8 +98,9 @@ impl Store {
         self.pins.get(selector).is_some()
     }
 
-    // Why an edit does not fit what the store holds, the limits aside.
-    fn misfit(&self, edit: &Edit) -> Option<Refusal>
+    // Why an edit does not fit what the store holds, the limits aside, where its stanza is there or not.
+    fn misfit(&self, edit: &Edit, there: bool) -> Option<Refusal>
+        requires { there ≡ is_there (state_of self.now) (edit_of edit.now) }
         ensures { result ≡ misfit_of (state_of self.now) (edit_of edit.now) }
     {
         match edit {
@@ -103,20 +126,19 @@ impl Store {
                 version: _,
             } if !self.has_list(list.as_slice()) => Some(Refusal::NoList),
             Edit::Remove {
-                list,
-                package,
-                version,
-            } if !self.has_stanza(list.as_slice(), package.as_slice(), Some(version)) => {
-                Some(Refusal::NoStanza)
-            }
+                list: _,
+                package: _,
+                version: _,
+            } if !there => Some(Refusal::NoStanza),
             Edit::Unmark { package } if !self.has_mark(package.as_slice()) => Some(Refusal::NoMark),
             Edit::Unpin { selector } if !self.has_pin(selector) => Some(Refusal::NoPin),
             _ => None,
         }
     }
 
-    // How many stanzas an edit brings.
-    fn coming(&self, edit: &Edit) -> usize
+    // How many stanzas an edit brings, where the one that it replaces is there or not.
+    fn coming(&self, edit: &Edit, there: bool) -> usize
+        requires { there ≡ is_there (state_of self.now) (edit_of edit.now) }
         ensures { result ≡ count_coming (state_of self.now) (edit_of edit.now) }
     {
         match edit {
@@ -126,36 +148,39 @@ impl Store {
                 class: _,
                 stanzas,
             } => stanzas.len(),
-            Edit::Put { list, stanza } => {
-                if self.has_stanza(list.as_slice(), stanza.package(), stanza.version()) {
-                    0
-                } else {
-                    1
-                }
-            }
+            Edit::Put { list: _, stanza: _ } => { if there { 0 } else { 1 } }
             _ => 0,
         }
     }
 
-    // Whether the state after an edit would pass a limit.
-    fn is_past(&self, edit: &Edit) -> bool
-        requires { misfit_of (state_of self.now) (edit_of edit.now) ≡ None }
+    // Whether the state after an edit, whose stanza is there or not, would pass a limit.
+    fn is_past(&self, edit: &Edit, there: bool) -> bool
+        requires there { there ≡ is_there (state_of self.now) (edit_of edit.now) }
+        requires fits { misfit_of (state_of self.now) (edit_of edit.now) ≡ None }
         ensures { result ≡ is_past self.now.limits (after (state_of self.now) (edit_of edit.now)) }
     {
-        self.coming(edit) > (self.limits.stanzas - self.stanzas) as usize
+        self.coming(edit, there) > (self.limits.stanzas - self.stanzas) as usize
             || self.edits >= self.limits.edits
+    }
+
+    // Whether an edit, whose stanza is there or not, would be refused.
+    pub(super) fn check_found(&self, edit: &Edit, there: bool) -> Result<(), Refusal>
+        requires { there ≡ is_there (state_of self.now) (edit_of edit.now) }
+        ensures { MatchResult result (λ _. refusal_of self.now.limits (state_of self.now) (edit_of edit.now) ≡ None) (λ e. refusal_of self.now.limits (state_of self.now) (edit_of edit.now) ≡ Some e) }
+    {
+        if let Some(why) = self.misfit(edit, there) {
+            return Err(why);
+        }
+        if self.is_past(edit, there) {
+            return Err(Refusal::Full);
+        }
+        Ok(())
     }
 
     /// Whether an edit would be refused, and why: 11 to 14, 16, 17 and 21 by [`Refusal::number`]. It takes no memory.
     pub fn check(&self, edit: &Edit) -> Result<(), Refusal>
         ensures { MatchResult result (λ _. refusal_of self.now.limits (state_of self.now) (edit_of edit.now) ≡ None) (λ e. refusal_of self.now.limits (state_of self.now) (edit_of edit.now) ≡ Some e) }
     {
-        if let Some(why) = self.misfit(edit) {
-            return Err(why);
-        }
-        if self.is_past(edit) {
-            return Err(Refusal::Full);
-        }
-        Ok(())
+        self.check_found(edit, self.found(edit).is_some())
     }
 }

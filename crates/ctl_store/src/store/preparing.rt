@@ -9,7 +9,7 @@ ghost use Rattle.ctl_store.specs.Named.{at_name};
 ghost use Rattle.ctl_store.specs.Edits.{edit_of, settings_of};
 ghost use Rattle.ctl_store.specs.Step.{refusal_of};
 ghost use Rattle.ctl_store.specs.Rows.{rows_from};
-ghost use Rattle.ctl_store.specs.Keys.{removed_of, added_of, found_in, kept_in, next_in, all_in, list_of_stanzas, key_of};
+ghost use Rattle.ctl_store.specs.Keys.{removed_of, added_of, found_of, found_in, kept_in, next_in, all_in, list_of_stanzas, key_of};
 ghost use Rattle.ctl_store.specs.Held.{state_of, keyed_of, IsReady, IsProper, IsReadyFor, HasRoomIn, HasRoom, HasRoomInList};
 
 use crate::edit::Edit;
@@ -19,7 +19,6 @@ use crate::selector::Selector;
 use crate::shelf::ListRoom;
 use crate::stanza_key::StanzaKey;
 use crate::store::Store;
-use ctl_relation::Version;
 use ctl_stanza::Stanza;
 use indexmap::IndexMap;
 use std::alloc::{AllocError, Global};
@@ -80,17 +79,6 @@ fn make_ready(alloc: Global, edit: &Edit) -> Result<Ready, AllocError>
 }
 
 impl Store {
-    // The key of the first stanza of this name and an equal version in a list.
-    #[tactic(auto, using(crate::proofs::ListedLemmas::at_name_lists))]
-    fn found_in(&self, list: &[u8], name: &[u8], version: Option<&Version>) -> Option<StanzaKey>
-        ensures { option_to_list result ≡ found_in list.now name.now (option_copied version.entry) (keyed_of self.now).lists }
-    {
-        match self.lists.get(list) {
-            Some(shelf) => shelf.found_key(name, version),
-            None => None,
-        }
-    }
-
     // The key of the next new stanza of a list, if there is a list of this name.
     #[tactic(auto, using(crate::proofs::ListedLemmas::at_name_lists))]
     fn next_in(&self, list: &[u8]) -> Option<StanzaKey>
@@ -106,12 +94,12 @@ impl Store {
     }
 
     // The key under which a stanza that is put stands: that which goes, else a new one.
-    fn kept_in(&self, list: &[u8], stanza: &Stanza, removed: &[StanzaKey]) -> Option<StanzaKey>
-        requires { removed.now ≡ found_in list.now (package_of stanza.now) (version_of stanza.now) (keyed_of self.now).lists }
+    fn kept_in(&self, list: &[u8], stanza: &Stanza, found: Option<StanzaKey>) -> Option<StanzaKey>
+        requires { option_to_list found ≡ found_in list.now (package_of stanza.now) (version_of stanza.now) (keyed_of self.now).lists }
         ensures { option_to_list result ≡ kept_in list.now stanza.now (keyed_of self.now).lists }
     {
-        match removed.first() {
-            Some(key) => Some(*key),
+        match found {
+            Some(key) => Some(key),
             None => self.next_in(list),
         }
     }
@@ -126,30 +114,28 @@ impl Store {
         }
     }
 
-    fn removed_keys(&self, edit: &Edit) -> Result<Vec<StanzaKey>, AllocError>
+    // The keys that go, where this is the key of the edit's stanza.
+    fn removed_keys(
+        &self,
+        edit: &Edit,
+        found: Option<StanzaKey>,
+    ) -> Result<Vec<StanzaKey>, AllocError>
+        requires { option_to_list found ≡ found_of (keyed_of self.now) (edit_of edit.now) }
         ensures { IfOk result (λ v. v.items ≡ removed_of (keyed_of self.now) (edit_of edit.now)) }
     {
         match edit {
             Edit::DropList { name } => self.all_in(name.as_slice()),
-            Edit::Put { list, stanza } => keys_of(
-                self.alloc,
-                self.found_in(list.as_slice(), stanza.package(), stanza.version()),
-            ),
-            Edit::Remove {
-                list,
-                package,
-                version,
-            } => keys_of(
-                self.alloc,
-                self.found_in(list.as_slice(), package.as_slice(), Some(version)),
-            ),
-            _ => Ok(Vec::new(self.alloc)),
+            _ => keys_of(self.alloc, found),
         }
     }
 
-    // The keys that come, where these go.
-    fn added_keys(&self, edit: &Edit, removed: &[StanzaKey]) -> Result<Vec<StanzaKey>, AllocError>
-        requires { removed.now ≡ removed_of (keyed_of self.now) (edit_of edit.now) }
+    // The keys that come, where this is the key of the edit's stanza.
+    fn added_keys(
+        &self,
+        edit: &Edit,
+        found: Option<StanzaKey>,
+    ) -> Result<Vec<StanzaKey>, AllocError>
+        requires { option_to_list found ≡ found_of (keyed_of self.now) (edit_of edit.now) }
         ensures { IfOk result (λ v. v.items ≡ added_of (keyed_of self.now) (edit_of edit.now)) }
     {
         match edit {
@@ -161,7 +147,7 @@ impl Store {
             } => new_keys(self.alloc, self.next_list, stanzas),
             Edit::Put { list, stanza } => keys_of(
                 self.alloc,
-                self.kept_in(list.as_slice(), stanza, removed),
+                self.kept_in(list.as_slice(), stanza, found),
             ),
             _ => Ok(Vec::new(self.alloc)),
         }
@@ -206,15 +192,16 @@ impl Store {
         ensures back { IfErr result (λ e. e.0 ≡ edit) }
         ensures refused { IfErr result (λ e. e.1 ≢ refusal.Memory → refusal_of self.old.limits (state_of self.old) (edit_of edit) ≡ Some e.1) }
     {
-        match self.check(&edit) {
+        let found = self.found(&edit);
+        match self.check_found(&edit, found.is_some()) {
             Ok(()) => {}
             Err(why) => return Err((edit, why)),
         }
-        let removed = match self.removed_keys(&edit) {
+        let removed = match self.removed_keys(&edit, found) {
             Ok(keys) => keys,
             Err(_) => return Err((edit, Refusal::Memory)),
         };
-        let added = match self.added_keys(&edit, &removed) {
+        let added = match self.added_keys(&edit, found) {
             Ok(keys) => keys,
             Err(_) => return Err((edit, Refusal::Memory)),
         };

@@ -23,7 +23,7 @@ returns-then-coming-self c =
     let room : h.limits.stanzas - stanza_count (state_of h).lists < count_coming (state_of h) e = omega (arith, c.if-coming-self.true, c.coming.ensures, c.self.invariant.counted, held, most) in
     let first = below_is (h.limits.stanzas - stanza_count (state_of h).lists) (count_coming (state_of h) e) room in
     below_is (s.limits.stanzas - s.stanzas) c.coming.result c.if-coming-self.true
-    ∙ sym (past_is h.limits (state_of h) e c.requires (omega (arith, c.self.invariant.within, c.self.invariant.counted, held, most)) ∙ ap (λ b. b || nat_le h.limits.edits h.edits) first)
+    ∙ sym (past_is h.limits (state_of h) e c.requires.fits (omega (arith, c.self.invariant.within, c.self.invariant.counted, held, most)) ∙ ap (λ b. b || nat_le h.limits.edits h.edits) first)
 
 pub returns-else-coming-self : goal.returns-else-coming-self
 returns-else-coming-self c =
@@ -35,4 +35,4 @@ returns-else-coming-self c =
     let room : count_coming (state_of h) e ≤ h.limits.stanzas - stanza_count (state_of h).lists = omega (arith, c.if-coming-self.false, c.coming.ensures, c.self.invariant.counted, held, most) in
     let first = above_is (h.limits.stanzas - stanza_count (state_of h).lists) (count_coming (state_of h) e) room in
     ap (λ h. nat_le h.limits.edits h.edits) c.self.view_is
-    ∙ sym (past_is h.limits (state_of h) e c.requires (omega (arith, c.self.invariant.within, c.self.invariant.counted, held, most)) ∙ ap (λ b. b || nat_le h.limits.edits h.edits) first)
+    ∙ sym (past_is h.limits (state_of h) e c.requires.fits (omega (arith, c.self.invariant.within, c.self.invariant.counted, held, most)) ∙ ap (λ b. b || nat_le h.limits.edits h.edits) first)
