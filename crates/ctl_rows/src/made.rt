@@ -43,6 +43,15 @@ pub fn add_list(alloc: Global, text: &str) -> Option<Edit>
     })
 }
 
+/// The edit that drops the list `m`.
+pub fn drop_list(alloc: Global) -> Option<Edit>
+    ensures { IfSome result (λ edit. IsProper (edit_of edit)) }
+{
+    Some(Edit::DropList {
+        name: name(alloc, "m")?,
+    })
+}
+
 /// The edit that puts a stanza into the list `m`.
 pub fn put(alloc: Global, text: &str) -> Option<Edit>
     ensures { IfSome result (λ edit. IsProper (edit_of edit)) }
@@ -74,6 +83,24 @@ pub fn mark(alloc: Global, package: &str, text: &str) -> Option<Edit>
     })
 }
 
+/// The edit that marks that no version of a package is installed.
+pub fn mark_none(alloc: Global, package: &str) -> Option<Edit>
+    ensures { IfSome result (λ edit. IsProper (edit_of edit)) }
+{
+    Some(Edit::Mark {
+        package: name(alloc, package)?,
+        version: None,
+    })
+}
+
+pub fn unmark(alloc: Global, package: &str) -> Option<Edit>
+    ensures { IfSome result (λ edit. IsProper (edit_of edit)) }
+{
+    Some(Edit::Unmark {
+        package: name(alloc, package)?,
+    })
+}
+
 pub fn pin(alloc: Global, package: &str, version: &str, priority: i16) -> Option<Edit>
     ensures { IfSome result (λ edit. IsProper (edit_of edit)) }
 {
@@ -91,6 +118,21 @@ pub fn unpin(alloc: Global, package: &str, version: &str) -> Option<Edit>
     Some(Edit::Unpin {
         selector: selector(alloc, package, version)?,
     })
+}
+
+pub fn target(alloc: Global, list: &str) -> Option<Edit>
+    ensures { IfSome result (λ edit. IsProper (edit_of edit)) }
+{
+    Some(Edit::Target {
+        name: Some(name(alloc, list)?),
+    })
+}
+
+/// The edit by which there is no target release.
+pub fn target_none() -> Option<Edit>
+    ensures { IfSome result (λ edit. IsProper (edit_of edit)) }
+{
+    Some(Edit::Target { name: None })
 }
 
 /// The pin settings of preferences.

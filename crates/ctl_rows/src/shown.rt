@@ -108,3 +108,16 @@ pub fn state(alloc: Global, store: &Store) -> Result<Vec<u8>, AllocError> {
     all.extend_from_slice(told.as_bytes())?;
     Ok(all)
 }
+
+/// The keys of the stanzas of each list, a line for each list.
+pub fn keys(alloc: Global, store: &Store) -> Result<Vec<u8>, AllocError> {
+    let mut all = Vec::new(alloc);
+    for (name, _, _) in store.lists() {
+        for key in store.stanzas(name) {
+            let told = format!(in alloc; "{}.{} ", key.list, key.stanza)?;
+            all.extend_from_slice(told.as_bytes())?;
+        }
+        all.push(b'\n')?;
+    }
+    Ok(all)
+}

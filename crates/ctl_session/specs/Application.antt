@@ -1,7 +1,6 @@
 -- The words that the program takes, as clap's rules.
-use Rattle.std.specs.Prelude.{◌≡◌, true, Some, codes}
-use Rattle.std.proofs.Common.{refl}
-use Rattle.clap.specs.Simple.{App, is_simple, new_app, new_rule, with_rule}
+use Rattle.std.specs.Prelude.{Some, codes}
+use Rattle.clap.specs.Simple.{App, new_app, new_rule, with_rule}
 use Rattle.clap.specs.Walk.{Rule}
 use Rattle.clap.specs.declared.builder.action.ArgAction.TheVariants.{Set, Append}
 
@@ -19,7 +18,3 @@ script_rule = record (new_rule (codes "SCRIPT")) { action = Some Set }
 
 abbrev pub application : App
 application = with_rule (with_rule (with_rule (new_app (codes "dctrl-cache")) list_rule) status_rule) script_rule
-
--- What clap promises of matches, it promises of simple commands: this one is simple.
-pub application-is_simple : is_simple application ≡ true
-application-is_simple = refl

@@ -78,13 +78,7 @@ same-kind name kind e =
     kind-step name Enhances kind _ e7 (λ e8.
     kind-step name Provides kind _ e8 (λ e9. absurd (cc))))))))))
 
--- a name that is that of no relation field
-pub no-kind : (name : List ℕ) (kind : FieldKind) → relation_kind name ≡ None → is_same_name name (name_of kind) ≡ false
-no-kind name kind none = ⊎_elim
-    (λ (same : is_same_name name (name_of kind) ≡ true). let some = kind-same name kind same in absurd (cc))
-    (λ (other : is_same_name name (name_of kind) ≡ false). other)
-    (cases_Bool (is_same_name name (name_of kind)))
-
+-- names that are those of no relation field
 pub package-no-kind : (name : List ℕ) → is_same_name name package_name ≡ true → relation_kind name ≡ None
 package-no-kind name same = kind-respects name package_name same
 

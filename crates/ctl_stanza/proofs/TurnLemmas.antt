@@ -13,15 +13,11 @@ with-with : {A : Type 0} (a b : List A) (r : Result (List A) TextFault) → with
 with-with a b (Ok xs) = ap Ok (sym (append_assoc a b xs))
 with-with a b (Err f) = refl
 
--- a piece without a fault, and one with a fault
+-- a piece without a fault
 turn-good : {A : Type 0} (old new part : List A) (fault : Option TextFault) (rest whole : Result (List A) TextFault) → fault ≡ None → new ≡ old ++ part
     → with_contents old (or_fault fault (with_contents part rest)) ≡ whole → with_contents new rest ≡ whole
 turn-good old new part fault rest whole none e told =
     ap (λ xs. with_contents xs rest) e ∙ sym (with-with old part rest) ∙ ap (λ o. with_contents old (or_fault o (with_contents part rest))) (sym none) ∙ told
-
-turn-bad : {A : Type 0} (old part : List A) (fault : Option TextFault) (f : TextFault) (rest whole : Result (List A) TextFault) → fault ≡ Some f
-    → with_contents old (or_fault fault (with_contents part rest)) ≡ whole → whole ≡ Err f
-turn-bad old part fault f rest whole some told = sym told ∙ ap (λ o. with_contents old (or_fault o (with_contents part rest))) some
 
 -- ---- stanzas
 

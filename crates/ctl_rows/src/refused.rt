@@ -1,0 +1,140 @@
+//! Each form of edit in turn, also where memory is refused to it.
+//!
+//! With ample memory each is accepted. With one request refused, as by `rt try --test --fail-alloc N`, the test fails with
+//! words that say which edit met it, or that none did. It still passes where a request can be done without, as that by which
+//! a vector gives room back. What it asserts holds at each request.
+
+ghost use Rattle.std.specs.Prelude.{IfSome};
+ghost use Rattle.ctl_store.specs.Edits.{edit_of};
+ghost use Rattle.ctl_store.specs.Held.{IsProper};
+
+use crate::made::{
+    add_list, drop_list, mark, mark_none, pin, prefs, put, remove, target, target_none, unmark,
+    unpin,
+};
+use crate::shown::{keys, state};
+use ctl_store::{Edit, Refusal, Store};
+use std::alloc::{AllocError, Global};
+use std::test::Fail;
+
+/// How many edits the test makes.
+const EDITS: u8 = 15;
+
+/// The list `m` at first. It has no room for a stanza more.
+const LIST: &str =
+    "Package: a\nVersion: 1\n\nPackage: b\nVersion: 2\n\nPackage: d\nVersion: 4\n\nPackage: e\nVersion: 5\n";
+
+/// What they leave in the store, and the keys of its stanzas.
+const LEFT: &[u8] =
+    b"list m packages notauto\nPackage: a\nVersion: 2\n|mark b none\npin c version 3 -1\npin b version 2* 9\n\
+      target m\n1 stanzas, 15 edits\n1.0 \n";
+
+/// The edit of a number, each form among them.
+fn numbered(alloc: Global, number: u8) -> Option<Edit>
+    ensures { IfSome result (λ edit. IsProper (edit_of edit)) }
+{
+    match number {
+        0 => add_list(alloc, LIST),
+        1 => put(alloc, "Package: c\nVersion: 3\n"),
+        2 => put(alloc, "Package: a\nVersion: 1-0\n"),
+        3 => remove(alloc, "b", "2-0"),
+        4 => mark(alloc, "a", "1"),
+        5 => mark_none(alloc, "b"),
+        6 => unmark(alloc, "a"),
+        7 => pin(alloc, "a", "1.*", -5),
+        8 => pin(alloc, "a", "1.*", 7),
+        9 => unpin(alloc, "a", "1.*"),
+        10 => target_none(),
+        11 => target(alloc, "m"),
+        12 => prefs(
+            alloc,
+            "Package: c\nPin: version 3\nPin-Priority: -1\n\nPackage: b\nPin: version 2*\nPin-Priority: 9\n",
+        ),
+        13 => drop_list(alloc),
+        14 => add_list(alloc, "Package: a\nVersion: 2\n"),
+        _ => None,
+    }
+}
+
+/// What the store holds, and the keys of its stanzas.
+fn held(alloc: Global, store: &Store) -> Result<Vec<u8>, AllocError> {
+    let mut all = state(alloc, store)?;
+    let keys = keys(alloc, store)?;
+    all.extend_from_slice(&keys)?;
+    Ok(all)
+}
+
+/// Makes an edit, or gives its refusal.
+fn refusal(store: &mut Store, edit: Edit) -> Option<Refusal>
+    requires { IsProper (edit_of edit) }
+{
+    match store.prepare(edit) {
+        Ok(plan) => {
+            store.commit(plan);
+            None
+        }
+        Err((_, why)) => Some(why),
+    }
+}
+
+/// What came of an edit.
+#[derive(Clone, Copy, Debug, PartialEq, Eq)]
+enum Outcome {
+    Accepted,
+    /// For want of memory. The store held what it held before, and then accepted the edit.
+    Refused,
+    /// It was refused for want of memory, and the store held something else.
+    Changed,
+    /// It was refused for another cause, or again.
+    Wrong,
+}
+
+/// Makes an edit that was refused for want of memory when the store held this.
+fn made_again(alloc: Global, store: &mut Store, number: u8, before: &[u8]) -> Option<Outcome> {
+    let after = held(alloc, store).ok()?;
+    if after.as_slice() != before {
+        return Some(Outcome::Changed);
+    }
+    let edit = numbered(alloc, number)?;
+    match refusal(store, edit) {
+        None => Some(Outcome::Refused),
+        Some(_) => Some(Outcome::Wrong),
+    }
+}
+
+/// Makes the edit of a number. None comes where memory was refused before it or behind it.
+fn made(alloc: Global, store: &mut Store, number: u8) -> Option<Outcome> {
+    let before = held(alloc, store).ok()?;
+    let edit = numbered(alloc, number)?;
+    match refusal(store, edit) {
+        None => Some(Outcome::Accepted),
+        Some(Refusal::Memory) => made_again(alloc, store, number, &before),
+        Some(_) => Some(Outcome::Wrong),
+    }
+}
+
+#[test]
+fn an_edit_without_memory_changes_nothing(rt: HostRuntime) -> Result<(), Fail> {
+    let mut store = Store::new(rt.alloc());
+    let mut refused = None;
+    for number in 0..EDITS {
+        let Some(outcome) = made(rt.alloc(), &mut store, number) else {
+            return Err(Fail::new("memory was refused outside of edits"));
+        };
+        assert!(rt;
+            outcome == Outcome::Accepted || outcome == Outcome::Refused,
+            "edit {number}: {outcome:?}"
+        );
+        if outcome == Outcome::Refused {
+            refused = Some(number);
+        }
+    }
+    let Ok(held) = held(rt.alloc(), &store) else {
+        return Err(Fail::new("memory was refused outside of edits"));
+    };
+    assert_eq!(rt; held.as_slice(), LEFT);
+    match refused {
+        None => Ok(()),
+        Some(number) => Err(Fail::new(format_args!("memory was refused to edit {number}"))),
+    }
+}
