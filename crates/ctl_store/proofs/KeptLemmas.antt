@@ -14,18 +14,10 @@ use Rattle.ctl_store.proofs.ListedLemmas.{at_name-stanza_lists, place_stanzas}
 abbrev first_key : ℕ → List (ℕ × Content) → List StanzaKey
 first_key list rows = map (λ (row : ℕ × Content). key_of list row.0) (take 1 rows)
 
-one : (list : ℕ) (rows : List (ℕ × Content)) (k : StanzaKey) (ks : List StanzaKey) → first_key list rows ≡ k ∷ ks → first_key list rows ≡ k ∷ []
-one list [] k ks e = cc e
-one list (r ∷ rows) k ks e = ap (λ qs. get_or qs 0 k ∷ []) e
-
 count : (list : ℕ) (rows : List (ℕ × Content)) (i : ℕ) → i < length rows → length (first_key list (drop i rows)) ≡ 1
 count list [] i l = absurd (omega arith)
 count list (r ∷ rows) zero l = refl
 count list (r ∷ rows) (suc i) l = count list rows i (omega arith)
-
-found_one : (l : KeyedList) (o : Option ℕ) (k : StanzaKey) (ks : List StanzaKey) → key_at l o ≡ k ∷ ks → key_or_new l o ≡ k ∷ []
-found_one l None k ks e = cc e
-found_one l (Some i) k ks e = one l.serial (drop i l.rows) k ks e
 
 none_new : (l : KeyedList) (o : Option ℕ) → ((i : ℕ) → o ≡ Some i → i < length l.rows) → key_at l o ≡ [] → key_or_new l o ≡ next_key l
 none_new l None h e = refl
@@ -34,14 +26,6 @@ none_new l (Some i) h e = absurd (omega (arith, count l.serial l.rows i (h i ref
 key_count : (l : KeyedList) (o : Option ℕ) → ((i : ℕ) → o ≡ Some i → i < length l.rows) → length (key_at l o) ≡ cond (is_some o) 1 0
 key_count l None h = refl
 key_count l (Some i) h = count l.serial l.rows i (h i refl)
-
--- the key that goes comes again
-pub kept_found : (list : List ℕ) (x : Content) (ls : List (List ℕ × KeyedList)) (k : StanzaKey) (ks : List StanzaKey) → found_in list (package_of x) (version_of x) ls ≡ k ∷ ks → kept_in list x ls ≡ k ∷ []
-kept_found list x ls k ks = by (at_name list ls)
-  where
-    by : (o : Option KeyedList) → option_map_or (found_key (package_of x) (version_of x)) o [] ≡ k ∷ ks → option_map_or (put_key x) o [] ≡ k ∷ []
-    by None e = cc e
-    by (Some l) e = found_one l (place (by_name_and_version (package_of x) (version_of x)) l.rows) k ks e
 
 -- where none goes, a new one comes
 pub kept_new : (list : List ℕ) (x : Content) (ls : List (List ℕ × KeyedList)) → found_in list (package_of x) (version_of x) ls ≡ [] → kept_in list x ls ≡ next_in list ls

@@ -102,12 +102,6 @@ module _ {V : Type 0} where
       get-at_name (put_named k v es) q ∙ at_name-put_named k v q es ∙ ap (λ b. cond b (Some v) (at_name q es)) (nat_list_eq_equiv.symm k q ∙ sym (is_eq-slice_cmp q k))
       ∙ ap (cond (eq_by_cmp (slice_cmp nat_cmp) q k) (Some v)) (sym (get-at_name es q)) ∙ sym (fin.get-insert nat_list_cmp_total (fin.from_entries es) k v q))
 
-  -- and after `without_name`
-  pub from_entries-without_name : (k : List ℕ) (es : List (List ℕ × V)) → IsDistinct bytes_eq (keys_of es) → fin.from_entries {R = slice_cmp nat_cmp} (without_name k es) ≡ fin.remove (fin.from_entries es) k
-  from_entries-without_name k es d = fin.same_map nat_list_cmp_total exact_bytes _ _ (λ q.
-      get-at_name (without_name k es) q ∙ at_name-without_name k q es d ∙ ap (λ b. cond b None (at_name q es)) (nat_list_eq_equiv.symm k q ∙ sym (is_eq-slice_cmp q k))
-      ∙ ap (cond (eq_by_cmp (slice_cmp nat_cmp) q k) None) (sym (get-at_name es q)) ∙ sym (fin.get-remove nat_list_cmp_total (fin.from_entries es) k q))
-
   -- a map has each name once
   apart : {A : Type 0} (x : Vec ℕ A) (es : List (Vec ℕ A × V)) → AllByRecursion (λ y. bytes_eq x.items y.items ≡ false) (keys_of es) → AllByRecursion (λ y. bytes_eq x.items y ≡ false) (keys_of (map by_bytes es))
   apart x [] h = h

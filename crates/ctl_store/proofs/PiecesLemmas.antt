@@ -15,8 +15,8 @@ at_first : (j : ℕ) → 0 + j ≡ j
 at_first j = omega arith
 
 -- the two halves of a full piece
-pub halves : {X : Type 0} (xs low up : List X) → low ≡ take 128 xs → up ≡ drop 128 xs → low ++ up ≡ xs
-halves xs low up e f = ap (λ l. l ++ up) e ∙ ap (λ l. take 128 xs ++ l) f ∙ take-append-drop 128 xs
+pub halves : {X : Type 0} (xs low up : List X) → low ≡ take 32 xs → up ≡ drop 32 xs → low ++ up ≡ xs
+halves xs low up e f = ap (λ l. l ++ up) e ∙ ap (λ l. take 32 xs ++ l) f ∙ take-append-drop 32 xs
 
 module _ {X A : Type 0} where
   -- ---- the piece at a place, which is read as `p ≡ get_or ps i p`
@@ -151,19 +151,19 @@ module _ {X A : Type 0} where
 
   -- ---- a spot whose piece was split
 
-  module _ (ps qs : List (Vec X A)) (s t : Spot) (low : s.at ≤ 128 → t ≡ s) (up : 128 < s.at → t ≡ record { piece = s.piece + 1; at = s.at - 128 }) where
-    pub split_stands : ((j : ℕ) → stands_at qs s.piece j ≡ stands_at ps s.piece j) → ((j : ℕ) → stands_at qs (s.piece + 1) j ≡ stands_at ps s.piece (128 + j)) → place_of_spot qs t ≡ place_of_spot ps s
-    split_stands lower upper = by (cases_lt 128 s.at)
+  module _ (ps qs : List (Vec X A)) (s t : Spot) (low : s.at ≤ 32 → t ≡ s) (up : 32 < s.at → t ≡ record { piece = s.piece + 1; at = s.at - 32 }) where
+    pub split_stands : ((j : ℕ) → stands_at qs s.piece j ≡ stands_at ps s.piece j) → ((j : ℕ) → stands_at qs (s.piece + 1) j ≡ stands_at ps s.piece (32 + j)) → place_of_spot qs t ≡ place_of_spot ps s
+    split_stands lower upper = by (cases_lt 32 s.at)
       where
-        by : (128 < s.at) ⊎ (s.at ≤ 128) → place_of_spot qs t ≡ place_of_spot ps s
+        by : (32 < s.at) ⊎ (s.at ≤ 32) → place_of_spot qs t ≡ place_of_spot ps s
         by (inl l) =
-            let back : 128 + (s.at - 128) ≡ s.at = omega arith in
-            ap (place_of_spot qs) (up l) ∙ upper (s.at - 128) ∙ ap (λ n. stands_at ps s.piece n) back
+            let back : 32 + (s.at - 32) ≡ s.at = omega arith in
+            ap (place_of_spot qs) (up l) ∙ upper (s.at - 32) ∙ ap (λ n. stands_at ps s.piece n) back
         by (inr l) = ap (place_of_spot qs) (low l) ∙ lower s.at
 
-    pub split_within : s.at < 256 → length_at qs s.piece ≡ 128 → length_at qs (s.piece + 1) ≡ 128 → t.at ≤ length_at qs t.piece
-    split_within few lower upper = by (cases_lt 128 s.at)
+    pub split_within : s.at < 64 → length_at qs s.piece ≡ 32 → length_at qs (s.piece + 1) ≡ 32 → t.at ≤ length_at qs t.piece
+    split_within few lower upper = by (cases_lt 32 s.at)
       where
-        by : (128 < s.at) ⊎ (s.at ≤ 128) → t.at ≤ length_at qs t.piece
+        by : (32 < s.at) ⊎ (s.at ≤ 32) → t.at ≤ length_at qs t.piece
         by (inl l) = subst (λ (u : Spot). u.at ≤ length_at qs u.piece) (sym (up l)) (omega (arith, upper))
         by (inr l) = subst (λ (u : Spot). u.at ≤ length_at qs u.piece) (sym (low l)) (omega (arith, lower))

@@ -16,11 +16,6 @@ one_digit greatest n b digits h =
     let m = digits_value_after 10 (n * 10 + digit_value b) digits in
     ap (λ (t : Bool). cond ((t && list_all is_ascii_digit digits) && (nat_lt 0 m && nat_le m greatest)) (Some m) None) h
 
-pub no_digit : (greatest n b : ℕ) (digits : List ℕ) → is_ascii_digit b ≡ false → number_behind greatest n (b ∷ digits) ≡ None
-no_digit greatest n b digits h =
-    let m = digits_value_after 10 (n * 10 + digit_value b) digits in
-    ap (λ (t : Bool). cond ((t && list_all is_ascii_digit digits) && (nat_lt 0 m && nat_le m greatest)) (Some m) None) h
-
 grows : (n : ℕ) (digits : List ℕ) → n ≤ digits_value_after 10 n digits
 grows n [] = omega arith
 grows n (b ∷ digits) = let more : n * 10 + digit_value b ≤ digits_value_after 10 (n * 10 + digit_value b) digits = grows (n * 10 + digit_value b) digits in omega arith
@@ -44,9 +39,3 @@ digit_is b h = grind (arith, nat_tests)
 
 pub one_too_great : (greatest n b : ℕ) (digits : List ℕ) → is_ascii_digit b ≡ true → greatest < n * 10 + (b - 48) → number_behind greatest n (b ∷ digits) ≡ None
 one_too_great greatest n b digits h p = one_digit greatest n b digits h ∙ too_great greatest (n * 10 + digit_value b) digits (omega (arith, p, digit_is b h))
-
-pub no_more : (greatest n : ℕ) → 0 < n → n ≤ greatest → number_behind greatest n [] ≡ Some n
-no_more greatest n p q = ap (λ (t : Bool). cond t (Some n) None) (both (nat_lt 0 n) (nat_le n greatest) (grind (arith, nat_tests)) (grind (arith, nat_tests)))
-  where
-    both : (a b : Bool) → a ≡ true → b ≡ true → (true && (a && b)) ≡ true
-    both a b e f = cc

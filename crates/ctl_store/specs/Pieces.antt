@@ -7,7 +7,11 @@ use Rattle.ctl_store.specs.declared.pieces.Spot.{Spot}
 
 -- how many items a piece holds at most
 abbrev pub most_in_piece : ℕ
-most_in_piece = 256
+most_in_piece = 64
+
+-- how many are in each half of a full piece
+abbrev pub half_of_piece : ℕ
+half_of_piece = 32
 
 -- all items, piece by piece
 abbrev pub joined : {X A : Type 0} → List (Vec X A) → List X

@@ -118,10 +118,6 @@ misfit_of s (Unpin selector) = when (not (is_some (lookup (selector_eq selector)
 misfit_of s (Target name) = None
 misfit_of s (Prefs pins) = None
 
--- how many stanzas the list of a name has
-abbrev pub count_in : List ℕ → List (List ℕ × StanzaList) → ℕ
-count_in name lists = option_map_or (λ (l : StanzaList). length l.stanzas) (at_name name lists) 0
-
 -- how many stanzas an edit brings beside those that it replaces
 abbrev pub count_coming : State → Edit → ℕ
 count_coming s (AddList name kind class stanzas) = length stanzas

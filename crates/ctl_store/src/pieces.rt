@@ -1,14 +1,14 @@
 //! Sequences in pieces, so that what comes or goes moves the items of one piece only.
 
-ghost use Rattle.std.specs.Prelude.{◌≡◌, ◌+◌, ◌*◌, ◌-◌, ◌^◌, ◌<◌, ◌≤◌, ◌∷◌, ◌++◌, [], ℕ, length, take, drop, vec_len, insert, OnOk, IfOk};
+ghost use Rattle.std.specs.Prelude.{◌≡◌, ◌+◌, ◌-◌, ◌^◌, ◌<◌, ◌≤◌, ◌∷◌, ◌++◌, [], ℕ, length, drop, vec_len, insert, OnOk, IfOk};
 ghost use Rattle.std.specs.List.{remove};
 ghost use Rattle.std.specs.Vec.{vec_capacity};
-ghost use Rattle.ctl_store.specs.Pieces.{most_in_piece, joined, length_at, stands_at, place_of_spot, IsSpot, IsSpotOrEnd, IsFit, IsPiece, IsReadyPiece, ArePieces, AreReady, free_at_end, room_at_end};
+ghost use Rattle.ctl_store.specs.Pieces.{most_in_piece, half_of_piece, joined, length_at, stands_at, place_of_spot, IsSpot, IsSpotOrEnd, IsFit, IsReadyPiece, ArePieces, AreReady, free_at_end, room_at_end};
 
 use std::alloc::{AllocError, Global};
 
 /// How many items a piece holds at most.
-const MOST: usize = 256;
+const MOST: usize = 64;
 
 /// Where an item stands: the place of its piece, and its place in the piece.
 #[derive(Clone, Copy)]
@@ -17,7 +17,7 @@ pub(crate) struct Spot {
     pub(crate) at: usize,
 }
 
-/// A sequence in pieces of at most 256 items, none of which is empty.
+/// A sequence in pieces of at most 64 items, none of which is empty.
 #[derive(Drop)]
 pub(crate) struct Pieces<T> {
     pub(crate) pieces: Vec<Vec<T>>,
@@ -251,8 +251,8 @@ fn remove_at<T: Drop>(pieces: &mut Vec<Vec<T>>, spot: Spot)
 // The upper half of a full piece.
 fn upper_half(piece: &[u64]) -> &[u64]
     requires { length piece.now ≡ most_in_piece }
-    ensures items { result.now ≡ drop 128 piece.now }
-    ensures len { length result.now ≡ 128 }
+    ensures items { result.now ≡ drop half_of_piece piece.now }
+    ensures len { length result.now ≡ half_of_piece }
 {
     &piece[MOST / 2..]
 }
@@ -268,10 +268,10 @@ fn split(pieces: &mut Vec<Vec<u64>>, at: usize, mut upper: Vec<u64>)
     ensures len { vec_len pieces.new ≡ vec_len pieces.old + 1 }
     ensures capacity { vec_capacity pieces.old ≤ vec_capacity pieces.new }
     ensures items { joined pieces.new.items ≡ joined pieces.old.items }
-    ensures lower_length { length_at pieces.new.items at ≡ 128 }
-    ensures upper_length { length_at pieces.new.items (at + 1) ≡ 128 }
+    ensures lower_length { length_at pieces.new.items at ≡ half_of_piece }
+    ensures upper_length { length_at pieces.new.items (at + 1) ≡ half_of_piece }
     ensures lower { (j : ℕ) → stands_at pieces.new.items at j ≡ stands_at pieces.old.items at j }
-    ensures upper { (j : ℕ) → stands_at pieces.new.items (at + 1) j ≡ stands_at pieces.old.items at (128 + j) }
+    ensures upper { (j : ℕ) → stands_at pieces.new.items (at + 1) j ≡ stands_at pieces.old.items at (half_of_piece + j) }
 {
     match upper.extend_from_slice(upper_half(&pieces[at])) {
         Ok(()) => {}
@@ -284,8 +284,8 @@ fn split(pieces: &mut Vec<Vec<u64>>, at: usize, mut upper: Vec<u64>)
 // The spot, after the piece was split, of what came at a place of it.
 fn spot_after_split(spot: Spot) -> Spot
     requires { spot.piece + 1 < 2 ^ 64 }
-    ensures lower { spot.at ≤ 128 → result ≡ spot }
-    ensures upper { 128 < spot.at → result ≡ record { piece = spot.piece + 1; at = spot.at - 128 } }
+    ensures lower { spot.at ≤ half_of_piece → result ≡ spot }
+    ensures upper { half_of_piece < spot.at → result ≡ record { piece = spot.piece + 1; at = spot.at - half_of_piece } }
 {
     if spot.at <= MOST / 2 {
         spot

@@ -23,7 +23,6 @@ pub struct Plan {
 }
 
 impl Model for Plan {
-    ghost use Rattle.std.specs.Prelude.{◌≡◌, []};
     ghost use Rattle.indexmap.specs.IndexMap.{spare};
     ghost use Rattle.ctl_store.specs.Edits.{edit_of};
     ghost use Rattle.ctl_store.specs.Held.{Planned, IsWhole};

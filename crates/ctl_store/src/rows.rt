@@ -1,6 +1,6 @@
 //! Stanzas under their serial numbers.
 
-ghost use Rattle.std.specs.Prelude.{◌≡◌, ◌<◌, ◌≤◌, ◌∷◌, ◌++◌, ℕ, [], IfSome, length, map, set, nat_lt, vec_len, take, drop, true, false, option_map, option_copied, nat_eq};
+ghost use Rattle.std.specs.Prelude.{◌≡◌, ◌<◌, ℕ, IfSome, nat_lt, vec_len, true, false, option_map, option_copied, nat_eq};
 ghost use Rattle.std.specs.Map.{lookup};
 ghost use Rattle.std.specs.Vec.{vec_capacity};
 ghost use Rattle.std.specs.List.{slice_index_or};

@@ -1,13 +1,12 @@
 //! The stanzas of one list.
 
-ghost use Rattle.std.specs.Prelude.{◌≡◌, ◌<◌, ◌≤◌, ◌+◌, ◌-◌, ◌^◌, ◌∷◌, ◌++◌, ℕ, [], List, Option, Some, OnOk, IfSome, IsOk, IfOk, length, vec_len, map, is_some, nat_eq, option_copied};
+ghost use Rattle.std.specs.Prelude.{◌≡◌, ◌<◌, ◌≤◌, ◌+◌, ◌-◌, ◌^◌, [], Option, Some, OnOk, IfOk, vec_len, map, is_some, nat_eq, option_copied};
 ghost use Rattle.std.specs.Map.{lookup};
 ghost use Rattle.std.specs.Option.{option_to_list};
 ghost use Rattle.std.specs.Vec.{vec_capacity};
-ghost use Rattle.ctl_stanza.specs.Content.{package_of, version_of};
 ghost use Rattle.ctl_store.specs.Step.{place};
-ghost use Rattle.ctl_store.specs.Rows.{Rises, by_name_and_version, put_row, next_after_put, remove_row, rows_from, sorted_serials};
-ghost use Rattle.ctl_store.specs.Pieces.{joined, ArePieces, IsFit, room_at_end};
+ghost use Rattle.ctl_store.specs.Rows.{by_name_and_version, put_row, next_after_put, remove_row, rows_from};
+ghost use Rattle.ctl_store.specs.Pieces.{joined, IsFit, room_at_end};
 ghost use Rattle.ctl_store.specs.Keys.{keys_of, found_key};
 ghost use Rattle.ctl_store.specs.Held.{IsShelved, Fits, keyed_list};
 

@@ -1,5 +1,5 @@
 //! A table by byte strings, and the lists in it.
-ghost use Rattle.std.specs.Prelude.{length, map, IfSome, ◌++◌, ◌∷◌, ◌≡◌, ◌<◌, ◌≤◌, ◌↔◌, ℕ, List, [], OnOk, IsOk, None, Some, option_copied, if◌then◌else◌};
+ghost use Rattle.std.specs.Prelude.{map, IfSome, ◌≡◌, ◌<◌, ◌≤◌, ℕ, List, [], OnOk, IsOk, None, Some, option_copied, if◌then◌else◌};
 ghost use Rattle.ctl_store.specs.Named.{at_name, put_named, without_name, by_bytes};
 ghost use Rattle.std.specs.Prelude.{◌+◌, ◌^◌};
 ghost use Rattle.ctl_store.specs.Named.{change_named};

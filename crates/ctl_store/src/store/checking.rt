@@ -1,6 +1,6 @@
 //! Why an edit is refused.
 
-ghost use Rattle.std.specs.Prelude.{◌≡◌, None, Some, MatchResult, option_copied, is_some, length};
+ghost use Rattle.std.specs.Prelude.{◌≡◌, None, Some, MatchResult, option_copied, is_some};
 ghost use Rattle.std.specs.FinMap as fin;
 ghost use Rattle.std.specs.Option.{option_map_or, option_to_list};
 ghost use Rattle.std.specs.Map.{lookup};

@@ -1,6 +1,6 @@
 //! Plans are carried out.
 
-ghost use Rattle.std.specs.Prelude.{◌≡◌, ◌+◌, ◌-◌, ◌<◌, ◌≤◌, ◌∷◌, ◌++◌, ℕ, [], None, Some, IfSome, length, map, vec_len, if◌then◌else◌};
+ghost use Rattle.std.specs.Prelude.{◌≡◌, ◌+◌, ◌-◌, ◌<◌, ◌≤◌, [], None, IfSome, length, map, vec_len};
 ghost use Rattle.ctl_store.specs.Named.{at_name};
 ghost use Rattle.ctl_store.specs.Pins.{selector_eq};
 ghost use Rattle.ctl_store.specs.Edits.{edit_of, settings_of};
@@ -8,7 +8,7 @@ ghost use Rattle.ctl_store.specs.Edits as edits;
 ghost use Rattle.ctl_store.specs.Step.{after, refusal_of};
 ghost use Rattle.ctl_stanza.specs.Content.{package_of, version_of};
 ghost use Rattle.ctl_store.specs.Keys.{keyed_after, removed_of, found_in, all_in, IsNotAmong, stanza_at};
-ghost use Rattle.ctl_store.specs.Held.{state_of, keyed_of, lists_of, IsReady, HasRoom, HasRoomInList, Fits, AreDistinct};
+ghost use Rattle.ctl_store.specs.Held.{state_of, keyed_of, IsReady, HasRoom, HasRoomInList, Fits, AreDistinct};
 ghost use Rattle.ctl_store.specs.declared.stanza_key.StanzaKey.{StanzaKey};
 ghost use Rattle.indexmap.specs.IndexMap.{insert_entry, spare};
 

@@ -1,16 +1,15 @@
 //! Plans are made.
 
-ghost use Rattle.std.specs.Prelude.{◌≡◌, ◌≢◌, ◌<◌, [], ◌≤◌, Some, IfOk, IfErr, OnOk, IfSome, option_copied, map, length, vec_len};
+ghost use Rattle.std.specs.Prelude.{◌≡◌, ◌≢◌, ◌<◌, [], Some, IfOk, IfErr, OnOk, map};
 ghost use Rattle.std.specs.Option.{option_to_list};
 ghost use Rattle.indexmap.specs.IndexMap.{spare};
 ghost use Rattle.ctl_store.specs.declared.refusal.Refusal.TheVariants as refusal;
 ghost use Rattle.ctl_stanza.specs.Content.{package_of, version_of};
-ghost use Rattle.ctl_store.specs.Named.{at_name};
-ghost use Rattle.ctl_store.specs.Edits.{edit_of, settings_of};
+ghost use Rattle.ctl_store.specs.Edits.{edit_of};
 ghost use Rattle.ctl_store.specs.Step.{refusal_of};
 ghost use Rattle.ctl_store.specs.Rows.{rows_from};
-ghost use Rattle.ctl_store.specs.Keys.{removed_of, added_of, found_of, found_in, kept_in, next_in, all_in, list_of_stanzas, key_of};
-ghost use Rattle.ctl_store.specs.Held.{state_of, keyed_of, IsReady, IsProper, IsReadyFor, HasRoomIn, HasRoom, HasRoomInList};
+ghost use Rattle.ctl_store.specs.Keys.{removed_of, added_of, found_of, found_in, kept_in, next_in, all_in, key_of};
+ghost use Rattle.ctl_store.specs.Held.{state_of, keyed_of, IsReady, IsProper, IsReadyFor, HasRoomIn};
 
 use crate::edit::Edit;
 use crate::plan::Plan;

@@ -1,7 +1,6 @@
 //! What a store holds, lent.
 
-ghost use Rattle.std.specs.Prelude.{◌≡◌, ◌+◌, ℕ, IsSome, Some, [], map, option_map, option_copied, length};
-ghost use Rattle.std.specs.Option.{option_map_or};
+ghost use Rattle.std.specs.Prelude.{◌≡◌, ◌+◌, ℕ, IsSome, Some, [], map, option_map, option_copied};
 ghost use Rattle.std.specs.FinMap as fin;
 ghost use Rattle.ctl_store.specs.State.{stanza_count, shown_lists, stanzas_named};
 ghost use Rattle.ctl_store.specs.Pieces.{joined, ArePieces};

@@ -31,7 +31,7 @@ returns-clause-items c =
     let low = c.truncate.new.self in
     let up = c.extend_from_slice.new.self in
     let same : c.index.result.now ≡ p = read_same ps c.args.at c.index.result.now p within c.index.ensures c.index_mut.ensures.value in
-    let rest : up.items ≡ drop 128 p.items = c.in-Ok.ensures.items ∙ ap (λ l. l ++ c.upper_half.result.now) c.requires.upper.none ∙ c.upper_half.ensures.items ∙ ap (drop 128) (c.deref.ensures.value ∙ ap (λ (v : Vec ℕ _). v.items) same) in
+    let rest : up.items ≡ drop 32 p.items = c.in-Ok.ensures.items ∙ ap (λ l. l ++ c.upper_half.result.now) c.requires.upper.none ∙ c.upper_half.ensures.items ∙ ap (drop 32) (c.deref.ensures.value ∙ ap (λ (v : Vec ℕ _). v.items) same) in
     ap joined (next (set ps c.args.at low) c.insert_piece.new.pieces.items c.args.at up c.insert_piece.ensures.items)
     ∙ joined_split ps c.args.at p low up within c.index_mut.ensures.value (halves p.items low.items up.items c.truncate.ensures.items rest)
 
@@ -56,7 +56,7 @@ returns-clause-upper c = λ j.
     let ps = c.args.pieces.now.items in
     let within : c.args.at < length ps = omega arith in
     let n = length_read ps c.args.at c.index_mut.result.now within c.index_mut.ensures.value in
-    let low : length c.truncate.new.self.items ≡ 128 = omega (arith, n) in
+    let low : length c.truncate.new.self.items ≡ 32 = omega (arith, n) in
     ap (λ n. stands_at c.insert_piece.new.pieces.items n j) (plus_one c.args.at)
     ∙ ap (λ l. stands_at l (suc c.args.at) j) (next (set ps c.args.at c.truncate.new.self) c.insert_piece.new.pieces.items c.args.at c.extend_from_slice.new.self c.insert_piece.ensures.items)
     ∙ stands_upper ps c.args.at c.truncate.new.self c.extend_from_slice.new.self j within ∙ ap (λ k. stands_at ps c.args.at (k + j)) low
