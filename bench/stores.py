@@ -4,7 +4,8 @@
     bench/stores.py PROGRAM [PACKAGES]
 
 Loads a Packages file, and then takes 50,000 of its stanzas out, one by one in no order, and puts each in again at once: the
-time of these 100,000 edits as a ratio to that of loading the list. Then 100,000 marks that are set and taken out again, and
+time of these 100,000 edits as a ratio to that of loading the list, and what they take beside the reading of the stanzas that are
+put, which is measured as the body of one list of them. Then 100,000 marks that are set and taken out again, and
 lists of 60,000 stanzas in other orders than that of their names, as ratios to the list in order. Each time is the least of
 some runs, less that of the same run without the edits. Without PACKAGES a list of 60,000 stanzas is made."""
 
@@ -43,14 +44,21 @@ def field(stanza, name):
     return re.search(rb"^%s: (.*)$" % name, stanza, re.M).group(1)
 
 
-def changes(stanzas):
+def chosen(stanzas):
+    """The places of stanzas in no order, some of them more than once."""
+    choice = random.Random(SEED)
+    return [choice.randrange(len(stanzas)) for _ in range(CHANGES)]
+
+
+def changes(stanzas, places):
     """A script that takes stanzas out and puts them in again."""
-    chosen = random.Random(SEED)
-    lines = []
-    for _ in range(CHANGES):
-        stanza = chosen.choice(stanzas)
-        lines.append(b"remove main %s %s\nput main\n%s.\n" % (field(stanza, b"Package"), field(stanza, b"Version"), stanza.lstrip(b"\n")))
-    return b"".join(lines)
+    texts = [stanzas[place].lstrip(b"\n") for place in places]
+    return b"".join(b"remove main %s %s\nput main\n%s.\n" % (field(text, b"Package"), field(text, b"Version"), text) for text in texts)
+
+
+def another_list(stanzas, places):
+    """A script that adds a list of stanzas, in the order in which they stand."""
+    return b"add-list other packages\n" + b"\n".join(stanzas[place].lstrip(b"\n") for place in sorted(places)) + b".\n"
 
 
 def marks():
@@ -89,8 +97,11 @@ def main(words):
     with tempfile.TemporaryDirectory() as folder:
         bench = Bench(os.path.abspath(words[0]), folder)
         stanzas = stanzas_of(words[1]) if len(words) > 1 else made_list(range(60000))
-        load, spent = bench.edits(stanzas, changes(stanzas))
+        places = chosen(stanzas)
+        load, spent = bench.edits(stanzas, changes(stanzas, places))
+        reading = bench.edits(stanzas, another_list(stanzas, places))[1]
         print("%d stanzas: loading %.0f ms; 100,000 edits that take out and put in %.0f ms, ratio %.2f" % (len(stanzas), load * 1e3, spent * 1e3, spent / load))
+        print("the stanzas that are put as one list: %.0f ms; the edits beside that %.0f ms, ratio to loading %.2f" % (reading * 1e3, (spent - reading) * 1e3, (spent - reading) / load))
         load, spent = bench.edits([], marks())
         print("100,000 marks set and taken out: %.0f ms" % (spent * 1e3))
         numbers = list(range(60000))
