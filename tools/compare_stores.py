@@ -8,7 +8,8 @@ FOLDER holds the reference program `oracle.py`, with `State`, `Limits`, `Version
 generated: sequences of them over few names, with versions that are equal in other words, and with small limits at
 times. After each edit the whole state is compared. The keys of stanzas, which the reference program has none of, are
 kept here by their rules: a list and a stanza that come new take the next serial, and a stanza that replaces another
-takes over its key. `rt run` in crates/store_probe builds the program that is compared.
+takes over its key. Each twentieth sequence puts and removes stanzas of one list of hundreds, which grows and shrinks, and
+the state is compared now and then. `rt run` in crates/store_probe builds the program that is compared.
 """
 
 import pathlib
@@ -21,6 +22,10 @@ from answers import compare, tell
 PROBE = pathlib.Path(__file__).resolve().parent.parent / "crates/store_probe/out/store_probe"
 SEQUENCES = 600
 SEED = 20250311
+
+# How many names a long sequence has, and how many edits there are between two looks at the state.
+LONG_NAMES = 300
+LONG_EDITS = 100
 
 LISTS = [b"main", b"extra", b"back", b"dpkg", b"main2"]
 PACKAGES = [b"a", b"b", b"ab", b"libc6"]
@@ -244,6 +249,45 @@ def generate_sequence(source, oracle):
     return told
 
 
+def named_stanza(source, names):
+    """A stanza of one of these names, of one of two versions."""
+    return f"Package: {source.choice(names)}\nVersion: {source.choice(['1', '2'])}\nNote: {source.randrange(1000)}\n"
+
+
+def generate_change(source, oracle, state, names, growth):
+    """A stanza that is put into the first list, or one of it that is removed."""
+    entry = state.lists[0]
+    if not entry.stanzas or source.random() < growth:
+        text = named_stanza(source, names)
+        return ("put", entry.name, read(oracle, text, "packages")[0]), ["put", entry.name.hex(), "packages", text.encode().hex()]
+    stanza = source.choice(entry.stanzas)
+    return (
+        ("remove", entry.name, stanza.package, stanza.version),
+        ["remove", entry.name.hex(), stanza.package.hex(), stanza.version.text.hex()],
+    )
+
+
+def generate_long_sequence(source, oracle):
+    """The lines of many edits of one list, which grows, shrinks to a few stanzas and grows again."""
+    limits = oracle.Limits(4_294_967_295, 4_294_967_295)
+    state = oracle.State()
+    keys = Keys()
+    names = [f"p{number}" for number in range(LONG_NAMES)]
+    dump = "\t".join(["dump"] + [package.hex() for package in PACKAGES])
+    text = "\n".join(named_stanza(source, names) for _ in range(source.choice([0, 1, 64, 65, 300])))
+    edit = ("add-list", LISTS[0], oracle.PACKAGES, "plain", read(oracle, text, "packages"))
+    words = ["add-list", LISTS[0].hex(), "packages", "plain", text.encode().hex()]
+    told = [(f"limits\t{limits.stanzas}\t{limits.edits}", "new")]
+    for growth in [1.0] * 3 + [0.9, 0.5, 0.1] * 2 + [0.9]:
+        for _ in range(LONG_EDITS):
+            gone, come = keys.after(oracle, edit, state)
+            state = oracle.step(state, limits, edit)
+            told.append(("\t".join(words), "ok" + "".join(f" -{key}" for key in gone) + "".join(f" +{key}" for key in come) + first_text(edit)))
+            edit, words = generate_change(source, oracle, state, names, growth)
+        told.append((dump, state_words(oracle, state, keys, limits)))
+    return told
+
+
 def probe(lines):
     """What the built program crates/store_probe prints for these lines."""
     if not PROBE.exists():
@@ -268,7 +312,10 @@ def main():
 
     source = random.Random(SEED)
     count = int(sys.argv[2]) if len(sys.argv) == 3 else SEQUENCES
-    told = [line for _ in range(count) for line in generate_sequence(source, oracle)]
+    told = []
+    for number in range(count):
+        generate = generate_long_sequence if number % 20 == 19 else generate_sequence
+        told += generate(source, oracle)
     answers = probe(line for line, _ in told)
     outcomes, wrong = compare(told, answers, outcome_of)
     tell(outcomes, f"{count} sequences, {sum(outcomes.values())} edits, {wrong} answers are others", wrong)

@@ -2,12 +2,13 @@
 """run.py PROGRAM EXAMPLES
 
 Tests the program from outside: its words, its exit statuses, lists from files, what it writes to standard output and
-standard error, a full device, a closed pipe, a reader that stops, a talk command by command, the examples, and those of the
-manual. The last line is the count."""
+standard error, many edits of one list, a full device, a closed pipe, a reader that stops, a talk command by command, the
+examples, and those of the manual. The last line is the count."""
 
 import os
 import sys
 
+from edits import test_edits
 from examples import test_examples
 from files import test_files
 from harness import Tests
@@ -23,6 +24,7 @@ def main(words):
         raise SystemExit(__doc__)
     tests = Tests(os.path.abspath(words[0]))
     test_scripts(tests)
+    test_edits(tests)
     test_words(tests)
     test_files(tests)
     test_writers(tests)
