@@ -1,32 +1,34 @@
 #!/usr/bin/env python3
-"""refuse_edit_allocations.py [EVERY]
+"""refuse_edit_allocations.py [--try] [EVERY]
 
 Runs the test of crates/ctl_rows that makes each form of edit, from the program of the tests, which `rt test` leaves there:
 with the first request for memory refused, then the second, and so on until a run makes no more. With EVERY it is the first
-and each EVERYth behind it.
+and each EVERYth behind it. With --try the runs are those of `rt try --test --fail-alloc N`, without a proof; each compiles the
+crate, which takes a minute or so.
 
 With ample memory the test has to pass. With a request refused it may fail with words that say which edit met it, or that none
 did; it may pass where the request could be done without. An edit that met it has to leave the store as it was, and has to be
 accepted when it is made again: where one isn't, the test fails by an assertion, and so does this. The last lines count the
 requests, and those that each edit met.
 
-`rt try --test --fail-alloc N` shows the same of one request without a proof, but compiles the crate for each.
-
 It needs a C compiler, and is no part of the gate."""
 
 import collections
 import os
 import re
+import subprocess
 import sys
 import tempfile
 
 from refuse_allocations import HERE, library, run
 
-TESTS = os.path.join(HERE, "../crates/ctl_rows/out/ctl_rows_tests")
+CRATE = os.path.join(HERE, "../crates/ctl_rows")
+TESTS = os.path.join(CRATE, "out/ctl_rows_tests")
 TEST = "refused::an_edit_without_memory_changes_nothing"
 MET = re.compile(rb"^memory was refused to edit (\d+)$", re.MULTILINE)
 OUTSIDE = re.compile(rb"^memory was refused outside of edits$", re.MULTILINE)
 PASSED, FAILED = 0, 101
+NONE = 0
 
 
 def met(status, words):
@@ -39,30 +41,46 @@ def met(status, words):
     return "what is no edit" if status == FAILED and OUTSIDE.search(words) else None
 
 
-def check(preload, folder, every):
+def requests(preload, count_file):
+    """How many requests the test makes. With ample memory it has to pass."""
+    status, _, errors = refused_at(preload, count_file, NONE)
+    if status != PASSED:
+        raise SystemExit("with ample memory: errors %r" % errors)
+    with open(count_file, encoding="ascii") as file:
+        return int(file.read())
+
+
+def refused_at(preload, count_file, nth):
+    """A run of the program of the tests with a request refused."""
+    return run(TESTS, [TEST], b"", {"LD_PRELOAD": preload, "REFUSE_NTH": str(nth), "REFUSE_COUNT": count_file})
+
+
+def tried_at(nth):
+    """The same by `rt try`, which compiles the crate."""
+    done = subprocess.run(
+        ["rt", "try", "--test", "--fail-alloc", str(nth), "--", TEST], cwd=CRATE, stdout=subprocess.PIPE, stderr=subprocess.STDOUT, check=False
+    )
+    return done.returncode, b"", b"\n".join(line.strip() for line in done.stdout.split(b"\n"))
+
+
+def check(preload, folder, every, by_try):
     """Refuses the requests in turn. How many were refused to each edit, and to what else."""
     count_file = os.path.join(folder, "count")
     refused = collections.Counter()
-    nth = 1
-    while True:
-        settings = {"LD_PRELOAD": preload, "REFUSE_NTH": str(nth), "REFUSE_COUNT": count_file}
-        status, output, errors = run(TESTS, [TEST], b"", settings)
+    for nth in range(1, requests(preload, count_file) + 1, every):
+        status, output, errors = tried_at(nth) if by_try else refused_at(preload, count_file, nth)
         where = met(status, errors)
         if where is None:
             raise SystemExit("request %d: status %d, output %r, errors %r" % (nth, status, output, errors))
-        with open(count_file, encoding="ascii") as file:
-            if int(file.read()) < nth:
-                break
         refused[where] += 1
-        nth += every
-    if status != PASSED:
-        raise SystemExit("with ample memory: errors %r" % errors)
     return refused
 
 
 def main(words):
+    by_try = words[:1] == ["--try"]
+    every = words[1:] if by_try else words
     with tempfile.TemporaryDirectory() as folder:
-        refused = check(library(folder), folder, int(words[0]) if words else 1)
+        refused = check(library(folder), folder, int(every[0]) if every else 1, by_try)
     edits = {where: count for where, count in refused.items() if isinstance(where, int)}
     for edit, count in sorted(edits.items()):
         print("edit %d met %d" % (edit, count))
