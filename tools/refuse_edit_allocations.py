@@ -1,10 +1,10 @@
 #!/usr/bin/env python3
-"""refuse_edit_allocations.py [--try] [EVERY]
+"""refuse_edit_allocations.py [--try]
 
 Runs the test of crates/ctl_rows that makes each form of edit, from the program of the tests, which `rt test` leaves there:
-with the first request for memory refused, then the second, and so on until a run makes no more. With EVERY it is the first
-and each EVERYth behind it. With --try the runs are those of `rt try --test --fail-alloc N`, without a proof; each compiles the
-crate, which takes a minute or so.
+with the first request for memory refused, then the second, and so on until a run makes no more. With --try each request that
+an edit met is then refused once more by `rt try --test --fail-alloc N`, without a proof, and the same edit has to meet it; each
+of these runs compiles the crate, which takes a minute or so.
 
 With ample memory the test has to pass. With a request refused it may fail with words that say which edit met it, or that none
 did; it may pass where the request could be done without. An edit that met it has to leave the store as it was, and has to be
@@ -63,32 +63,40 @@ def tried_at(nth):
     return done.returncode, b"", b"\n".join(line.strip() for line in done.stdout.split(b"\n"))
 
 
-def check(preload, folder, every, by_try):
-    """Refuses the requests in turn. How many were refused to each edit, and to what else."""
+def check(preload, folder):
+    """Refuses the requests in turn: for each the edit that met it, or what else."""
     count_file = os.path.join(folder, "count")
-    refused = collections.Counter()
-    for nth in range(1, requests(preload, count_file) + 1, every):
-        status, output, errors = tried_at(nth) if by_try else refused_at(preload, count_file, nth)
-        where = met(status, errors)
-        if where is None:
+    refused = {}
+    for nth in range(1, requests(preload, count_file) + 1):
+        status, output, errors = refused_at(preload, count_file, nth)
+        refused[nth] = met(status, errors)
+        if refused[nth] is None:
             raise SystemExit("request %d: status %d, output %r, errors %r" % (nth, status, output, errors))
-        refused[where] += 1
     return refused
 
 
+def try_again(edits):
+    """Refuses the requests that edits met by `rt try`."""
+    for nth, edit in edits.items():
+        status, _, words = tried_at(nth)
+        if met(status, words) != edit:
+            raise SystemExit("rt try, request %d: status %d, %r" % (nth, status, words))
+        print("rt try, request %d: edit %d" % (nth, edit), flush=True)
+
+
 def main(words):
-    by_try = words[:1] == ["--try"]
-    every = words[1:] if by_try else words
     with tempfile.TemporaryDirectory() as folder:
-        refused = check(library(folder), folder, int(every[0]) if every else 1, by_try)
-    edits = {where: count for where, count in refused.items() if isinstance(where, int)}
-    for edit, count in sorted(edits.items()):
+        refused = check(library(folder), folder)
+    edits = {nth: edit for nth, edit in refused.items() if isinstance(edit, int)}
+    for edit, count in sorted(collections.Counter(edits.values()).items()):
         print("edit %d met %d" % (edit, count))
-    for where in sorted(set(refused) - set(edits)):
-        print("%s met %d" % (where, refused[where]))
-    print("each of %d requests refused: %d met an edit" % (sum(refused.values()), sum(edits.values())))
+    for where, count in sorted(collections.Counter(what for what in refused.values() if not isinstance(what, int)).items()):
+        print("%s met %d" % (where, count))
+    print("each of %d requests refused: %d met an edit" % (len(refused), len(edits)), flush=True)
     if not edits:
         raise SystemExit("no edit met one")
+    if words == ["--try"]:
+        try_again(edits)
 
 
 if __name__ == "__main__":
