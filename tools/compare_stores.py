@@ -278,7 +278,7 @@ def generate_long_sequence(source, oracle):
     edit = ("add-list", LISTS[0], oracle.PACKAGES, "plain", read(oracle, text, "packages"))
     words = ["add-list", LISTS[0].hex(), "packages", "plain", text.encode().hex()]
     told = [(f"limits\t{limits.stanzas}\t{limits.edits}", "new")]
-    for growth in [1.0] * 3 + [0.9, 0.5, 0.1] * 2 + [0.9]:
+    for growth in [1.0, 1.0, 0.5, 0.5] + [0.02] * 6 + [0.9, 0.5]:
         for _ in range(LONG_EDITS):
             gone, come = keys.after(oracle, edit, state)
             state = oracle.step(state, limits, edit)
