@@ -5,8 +5,8 @@
 
 Loads a Packages file, and then takes 50,000 of its stanzas out, one by one in no order, and puts each in again at once: the
 time of these 100,000 edits as a ratio to that of loading the list, and what they take beside the reading of the stanzas that are
-put, which is measured as the body of one list of them. Then 100,000 marks that are set and taken out again, and
-lists of 60,000 stanzas in other orders than that of their names, as ratios to the list in order. Each time is the least of
+put, which is measured as the body of one list of them, in the order of the file, and so with the adding of that list. Then 100,000
+marks that are set and taken out again, and lists of 60,000 stanzas in other orders than that of their names, as ratios to the list in order. Each time is the least of
 some runs, less that of the same run without the edits. Without PACKAGES a list of 60,000 stanzas is made."""
 
 import os
