@@ -19,6 +19,9 @@ pub halves : {X : Type 0} (xs low up : List X) → low ≡ take 32 xs → up ≡
 halves xs low up e f = ap (λ l. l ++ up) e ∙ ap (λ l. take 32 xs ++ l) f ∙ take-append-drop 32 xs
 
 module _ {X A : Type 0} where
+  pub stands_next : (q : Vec X A) (ps : List (Vec X A)) (i j : ℕ) → stands_at (q ∷ ps) (suc i) j ≡ length q.items + stands_at ps i j
+  stands_next q ps i j = omega (arith, length-append q.items (joined (take i ps)))
+
   -- ---- the piece at a place, which is read as `p ≡ get_or ps i p`
 
   pub length_read : (ps : List (Vec X A)) (i : ℕ) (p : Vec X A) → i < length ps → p ≡ get_or ps i p → length_at ps i ≡ length p.items
@@ -72,7 +75,7 @@ module _ {X A : Type 0} where
       ap (λ l. l ++ joined ps) (w ∙ ap (λ (v : Vec X A). insert v.items j x) e) ∙ sym (insert-append_left q.items (joined ps) j x (omega arith))
       ∙ ap (λ n. insert (joined (q ∷ ps)) n x) (sym (at_first j))
   joined_insert (q ∷ ps) (suc i) p p' j x l e le w =
-      let at : stands_at (q ∷ ps) (suc i) j ≡ length q.items + stands_at ps i j = omega (arith, length-append q.items (joined (take i ps))) in
+      let at = stands_next q ps i j in
       ap (λ l. q.items ++ l) (joined_insert ps i p p' j x (omega arith) e le w ∙ ap (λ n. insert (joined ps) n x) (omega (arith, at)))
       ∙ sym (insert-append_right q.items (joined ps) (length q.items) (stands_at (q ∷ ps) (suc i) j) x refl (omega (arith, at)))
 
@@ -83,7 +86,7 @@ module _ {X A : Type 0} where
       ap (λ l. l ++ joined ps) (w ∙ ap (λ (v : Vec X A). remove v.items j) e) ∙ sym (remove-append_left q.items (joined ps) j (omega arith))
       ∙ ap (remove (joined (q ∷ ps))) (sym (at_first j))
   joined_remove (q ∷ ps) (suc i) p p' j l e le w =
-      let at : stands_at (q ∷ ps) (suc i) j ≡ length q.items + stands_at ps i j = omega (arith, length-append q.items (joined (take i ps))) in
+      let at = stands_next q ps i j in
       ap (λ l. q.items ++ l) (joined_remove ps i p p' j (omega arith) e le w ∙ ap (remove (joined ps)) (omega (arith, at)))
       ∙ sym (remove-append_right q.items (joined ps) (length q.items) (stands_at (q ∷ ps) (suc i) j) refl (omega (arith, at)))
 
@@ -94,7 +97,7 @@ module _ {X A : Type 0} where
       let none : remove q.items j ≡ [] = nil_from_length (remove q.items j) (omega (arith, length-remove q.items j l)) in
       sym (ap (remove (joined (q ∷ ps))) (at_first j) ∙ remove-append_left q.items (joined ps) j l ∙ ap (λ l. l ++ joined ps) none)
   joined_remove_piece (q ∷ ps) (suc i) j l one =
-      let at : stands_at (q ∷ ps) (suc i) j ≡ length q.items + stands_at ps i j = omega (arith, length-append q.items (joined (take i ps))) in
+      let at = stands_next q ps i j in
       ap (λ l. q.items ++ l) (joined_remove_piece ps i j l one ∙ ap (remove (joined ps)) (omega (arith, at)))
       ∙ sym (remove-append_right q.items (joined ps) (length q.items) (stands_at (q ∷ ps) (suc i) j) refl (omega (arith, at)))
 

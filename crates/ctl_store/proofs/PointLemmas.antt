@@ -3,22 +3,13 @@ use Rattle.std.proofs.Common.{◌≡◌, ℕ, zero, suc, ◌+◌, ◌-◌, ◌<�
 use Rattle.std.specs.List.Sorted.{IsPartitionedBy, IsPartitionPoint}
 use Rattle.std.specs.Option.{option_map_or}
 use Rattle.std.proofs.lemmas.Option.{slice_get-get_or}
-use Rattle.std.proofs.lemmas.List.{get_or-append-add}
+use Rattle.std.proofs.lemmas.List.{length-append, get_or-append-add, get_or_append_left, get_or_default}
 use Rattle.std.proofs.lemmas.Bool.Decides.{nat_tests}
 use Rattle.ctl_store.specs.Step.{place}
 use Rattle.ctl_store.specs.Rows.{has_serial, Rises, replace_at}
 use Rattle.ctl_store.specs.Pieces.{joined, length_at, stands_at, last_passes, ArePieces}
 use Rattle.ctl_store.proofs.PlaceLemmas.{Rises-up, place_at, place_none}
-
-module _ {X : Type 0} where
-  pub length-append : (xs ys : List X) → length (xs ++ ys) ≡ length xs + length ys
-  length-append [] ys = omega arith
-  length-append (x ∷ xs) ys = let n = length-append xs ys in omega (arith, n)
-
-  pub get_or-left : (xs ys : List X) (i : ℕ) (d : X) → i < length xs → get_or (xs ++ ys) i d ≡ get_or xs i d
-  get_or-left [] ys i d l = absurd (omega arith)
-  get_or-left (x ∷ xs) ys zero d l = refl
-  get_or-left (x ∷ xs) ys (suc i) d l = get_or-left xs ys i d (omega arith)
+use Rattle.ctl_store.proofs.PiecesLemmas.{stands_next}
 
 module _ {X : Type 0} (p : X → Bool) where
   -- the first r pass the test, and none after them
@@ -59,6 +50,21 @@ module _ {X : Type 0} (p : X → Bool) where
           each zero d l = h.1 0 d (omega arith) (omega arith)
           each (suc k) d l = rest.1 k d (omega arith) (omega arith)
 
+  -- the item at a place, which is read as `x ≡ get_or xs i x`
+  pub read_passes : (xs : List X) (i : ℕ) (x d : X) (b : Bool) → i < length xs → x ≡ get_or xs i x → p x ≡ b → p (get_or xs i d) ≡ b
+  read_passes xs i x d b l e is = ap p (get_or_default xs i d x l ∙ sym e) ∙ is
+
+  -- where one passes and the next doesn't, in a list in which those that pass come first
+  pub end_between : (xs : List X) (r : ℕ) → IsPartitionedBy p xs → r < length xs → ((d : X) → 0 < r → p (get_or xs (r - 1) d) ≡ true) → ((d : X) → p (get_or xs r d) ≡ false) → IsEnd xs r
+  end_between xs r parted within before here = (λ k d a l. parted k (r - 1) d (omega arith) (omega arith) (before d (omega arith)), λ k d a l. high k d a l)
+    where
+      high : (k : ℕ) (d : X) → r ≤ k → k < length xs → p (get_or xs k d) ≡ false
+      high k d a l = by (p (get_or xs k d)) refl
+        where
+          by : (b : Bool) → p (get_or xs k d) ≡ b → p (get_or xs k d) ≡ false
+          by false is = is
+          by true is = let z : p (get_or xs r d) ≡ true = parted r k d a l is in let f = here d in cc
+
   -- ---- parts of a list in which those that pass come first
 
   parted_tail : (q ys : List X) → IsPartitionedBy p (q ++ ys) → IsPartitionedBy p ys
@@ -67,8 +73,8 @@ module _ {X : Type 0} (p : X → Bool) where
 
   parted_head : (q ys : List X) → IsPartitionedBy p (q ++ ys) → IsPartitionedBy p q
   parted_head q ys h i j d le l e =
-      sym (ap p (get_or-left q ys i d (omega arith)))
-      ∙ h i j d le (omega (arith, length-append q ys)) (ap p (get_or-left q ys j d l) ∙ e)
+      sym (ap p (get_or_append_left q ys d i (omega arith)))
+      ∙ h i j d le (omega (arith, length-append q ys)) (ap p (get_or_append_left q ys d j l) ∙ e)
 
   pub last_is : (q : List X) (m : ℕ) (d : X) → length q ≡ m + 1 → last_passes p q ≡ p (get_or q m d)
   last_is q m d e =
@@ -84,7 +90,7 @@ module _ {X : Type 0} (p : X → Bool) where
       by : (b : Bool) → p (get_or ys k d) ≡ b → p (get_or ys k d) ≡ false
       by false is = is
       by true is =
-          let z : last_passes p q ≡ true = last_is q (length q - 1) d (omega arith) ∙ sym (ap p (get_or-left q ys (length q - 1) d (omega arith))) ∙ h (length q - 1) (length q + k) d (omega arith) (omega (arith, length-append q ys)) (ap p (get_or-append-add q ys k d) ∙ is) in
+          let z : last_passes p q ≡ true = last_is q (length q - 1) d (omega arith) ∙ sym (ap p (get_or_append_left q ys d (length q - 1) (omega arith))) ∙ h (length q - 1) (length q + k) d (omega arith) (omega (arith, length-append q ys)) (ap p (get_or-append-add q ys k d) ∙ is) in
           cc
 
   inside : (q : List X) (r : ℕ) → 0 < length q → r ≤ length q → IsEnd q r → last_passes p q ≡ false → r < length q
@@ -106,7 +112,7 @@ module _ {X A : Type 0} (p : X → Bool) where
     where
       by : (xs : List X) → 0 < length xs → ((k : ℕ) (d : X) → k < length (xs ++ joined ps) → p (get_or (xs ++ joined ps) k d) ≡ false) → last_passes p xs ≡ false
       by [] some none = absurd (omega arith)
-      by (x ∷ xs) some none = last_is p (x ∷ xs) (length xs) x (omega arith) ∙ sym (ap p (get_or-left (x ∷ xs) (joined ps) (length xs) x (omega arith))) ∙ none (length xs) x (omega (arith, length-append xs (joined ps)))
+      by (x ∷ xs) some none = last_is p (x ∷ xs) (length xs) x (omega arith) ∙ sym (ap p (get_or_append_left (x ∷ xs) (joined ps) x (length xs) (omega arith))) ∙ none (length xs) x (omega (arith, length-append xs (joined ps)))
   none_last (q ∷ ps) h none (suc j) d l =
       none_last ps h.1 (λ k d l. sym (ap p (get_or-append-add q.items (joined ps) k d)) ∙ none (length q.items + k) d (omega (arith, length-append q.items (joined ps)))) j d (omega arith)
 
@@ -128,9 +134,6 @@ module _ {X A : Type 0} (p : X → Bool) where
   rest_end : (q : Vec X A) (ps : List (Vec X A)) (k : ℕ) → IsLastEnd (q ∷ ps) (suc k) → IsLastEnd ps k
   rest_end q ps k h = (λ i d a l. h.0 (suc i) d (omega arith) (omega arith), λ i d a l. h.1 (suc i) d (omega arith) (omega arith))
 
-  more : (q : Vec X A) (ps : List (Vec X A)) (k r : ℕ) → stands_at (q ∷ ps) (suc k) r ≡ length q.items + stands_at ps k r
-  more q ps k r = let n = length-append q.items (joined (take k ps)) in omega (arith, n)
-
   -- in the first piece whose last item doesn't pass, where those that pass end there
   pub end_in : (ps : List (Vec X A)) (k r : ℕ) → ArePieces ps → IsPartitionedBy p (joined ps) → IsLastEnd ps k → k < length ps
       → ((d : Vec X A) → IsEnd p (get_or ps k d).items r) → ((d : Vec X A) → r ≤ length (get_or ps k d).items) → IsEnd p (joined ps) (stands_at ps k r) × (r < length_at ps k)
@@ -142,7 +145,7 @@ module _ {X A : Type 0} (p : X → Bool) where
   end_in (q ∷ ps) (suc k) r h parted outer l inner bound =
       let rest = end_in ps k r h.1 (parted_tail p q.items (joined ps) parted) (rest_end q ps k outer) (omega arith) inner bound in
       let passes = all_pass p q.items h.0.some (parted_head p q.items (joined ps) parted) (outer.0 0 q (omega arith) (omega arith)) in
-      (subst (λ n. IsEnd p (joined (q ∷ ps)) n) (sym (more q ps k r)) (first_all p q.items (joined ps) (stands_at ps k r) passes rest.0), rest.1)
+      (subst (λ n. IsEnd p (joined (q ∷ ps)) n) (sym (stands_next q ps k r)) (first_all p q.items (joined ps) (stands_at ps k r) passes rest.0), rest.1)
 
   -- the same of a copy of the piece, and of what halving gives of it
   pub end_found : (ps : List (Vec X A)) (k r : ℕ) (xs : List X) → ArePieces ps → IsPartitionedBy p (joined ps) → IsLastEnd ps k → k < length ps
@@ -160,7 +163,7 @@ module _ {X A : Type 0} (p : X → Bool) where
   end_past (q ∷ ps) (suc k) h parted outer e =
       let rest = end_past ps k h.1 (parted_tail p q.items (joined ps) parted) (rest_end q ps k outer) (omega arith) in
       let passes = all_pass p q.items h.0.some (parted_head p q.items (joined ps) parted) (outer.0 0 q (omega arith) (omega arith)) in
-      subst (λ n. IsEnd p (joined (q ∷ ps)) n) (sym (more q ps k 0)) (first_all p q.items (joined ps) (stands_at ps k 0) passes rest)
+      subst (λ n. IsEnd p (joined (q ∷ ps)) n) (sym (stands_next q ps k 0)) (first_all p q.items (joined ps) (stands_at ps k 0) passes rest)
 
 -- ---- what stands at a spot
 
@@ -169,25 +172,16 @@ module _ {X A : Type 0} where
   stands_end [] j = refl
   stands_end (q ∷ ps) j = omega (arith, length-append q.items (joined ps), length-append q.items (joined (take (length ps) ps)), stands_end ps j)
 
-module _ {X : Type 0} where
-  get_or-any : (xs : List X) (j : ℕ) (x d : X) → j < length xs → x ≡ get_or xs j x → get_or xs j d ≡ x
-  get_or-any [] j x d l e = absurd (omega arith)
-  get_or-any (y ∷ xs) zero x d l e = sym e
-  get_or-any (y ∷ xs) (suc j) x d l e = get_or-any xs j x d (omega arith) e
-
 module _ {X A : Type 0} where
   pub get_joined : (ps : List (Vec X A)) (i j : ℕ) (p : Vec X A) (x d : X) → j < length_at ps i → p ≡ get_or ps i p → x ≡ get_or p.items j x → get_or (joined ps) (stands_at ps i j) d ≡ x
   get_joined [] i j p x d l e f = absurd (omega arith)
   get_joined (q ∷ ps) zero j p x d l e f =
-      ap (λ n. get_or (q.items ++ joined ps) n d) (omega arith) ∙ get_or-left q.items (joined ps) j d l
-      ∙ get_or-any q.items j x d l (f ∙ ap (λ (v : Vec X A). get_or v.items j x) e)
+      ap (λ n. get_or (q.items ++ joined ps) n d) (omega arith) ∙ get_or_append_left q.items (joined ps) d j l
+      ∙ get_or_default q.items j d x l ∙ sym (f ∙ ap (λ (v : Vec X A). get_or v.items j x) e)
   get_joined (q ∷ ps) (suc i) j p x d l e f =
-      ap (λ n. get_or (q.items ++ joined ps) n d) (more_joined q ps i j)
+      ap (λ n. get_or (q.items ++ joined ps) n d) (stands_next q ps i j)
       ∙ get_or-append-add q.items (joined ps) (stands_at ps i j) d
       ∙ get_joined ps i j p x d l e f
-    where
-      more_joined : (q : Vec X A) (ps : List (Vec X A)) (k r : ℕ) → stands_at (q ∷ ps) (suc k) r ≡ length q.items + stands_at ps k r
-      more_joined q ps k r = let n = length-append q.items (joined (take k ps)) in omega (arith, n)
 
   pub stands_within : (ps : List (Vec X A)) (i j : ℕ) → j < length_at ps i → stands_at ps i j < length (joined ps)
   stands_within [] i j l = absurd (omega arith)
@@ -219,10 +213,7 @@ module _ {V A : Type 0} where
   replace_joined (q ∷ ps) (suc i) j p r p' x l e f g =
       ap (λ (xs : List (ℕ × V)). q.items ++ xs) (replace_joined ps i j p r p' x l e f g)
       ∙ sym (replace_behind q.items (joined ps) (stands_at ps i j) x)
-      ∙ ap (λ n. replace_at (q.items ++ joined ps) n x) (more_of q ps i j)
-    where
-      more_of : (q : Vec (ℕ × V) A) (ps : List (Vec (ℕ × V) A)) (k r : ℕ) → length q.items + stands_at ps k r ≡ stands_at (q ∷ ps) (suc k) r
-      more_of q ps k r = let n = length-append q.items (joined (take k ps)) in omega (arith, n)
+      ∙ ap (λ n. replace_at (q.items ++ joined ps) n x) (sym (stands_next q ps i j))
 
 -- ---- rows whose serials rise
 

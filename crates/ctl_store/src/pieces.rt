@@ -8,7 +8,7 @@ ghost use Rattle.ctl_store.specs.Pieces.{most_in_piece, half_of_piece, joined, l
 use std::alloc::{AllocError, Global};
 
 /// How many items a piece holds at most.
-const MOST: usize = 64;
+pub(crate) const MOST: usize = 64;
 
 /// Where an item stands: the place of its piece, and its place in the piece.
 #[derive(Clone, Copy)]

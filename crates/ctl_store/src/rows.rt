@@ -1,6 +1,6 @@
 //! Stanzas under their serial numbers.
 
-ghost use Rattle.std.specs.Prelude.{◌≡◌, ◌<◌, ℕ, IfSome, nat_lt, vec_len, true, false, option_map, option_copied, nat_eq};
+ghost use Rattle.std.specs.Prelude.{◌≡◌, ◌<◌, ◌≤◌, ℕ, length, IfSome, nat_lt, vec_len, true, false, option_map, option_copied, nat_eq};
 ghost use Rattle.std.specs.Map.{lookup};
 ghost use Rattle.std.specs.Vec.{vec_capacity};
 ghost use Rattle.std.specs.List.{slice_index_or};
@@ -10,7 +10,7 @@ ghost use Rattle.ctl_store.specs.Step.{place};
 ghost use Rattle.ctl_store.specs.Rows.{has_serial, Rises, replace_at};
 ghost use Rattle.ctl_store.specs.Pieces.{joined, last_passes, place_of_spot, ArePieces, IsSpot, IsSpotOrEnd};
 
-use crate::pieces::Spot;
+use crate::pieces::{MOST, Spot};
 use ctl_stanza::Stanza;
 use std::marker::Model;
 
@@ -66,6 +66,33 @@ fn ends_before(rows: &[Row], serial: u64) -> bool
     }
 }
 
+// Where the piece of a serial stands if no piece but those in front has gone, since each was filled before the next one came.
+fn likely_piece(rows: &[Vec<Row>], serial: u64) -> usize {
+    let first = rows
+        .first()
+        .and_then(|rows| rows.first())
+        .map_or(0, |row| row.serial());
+    let most = MOST as u64;
+    (serial / most).saturating_sub(first / most) as usize
+}
+
+// Where the pieces end whose last serials are below a serial.
+fn pieces_below(rows: &[Vec<Row>], serial: u64) -> usize
+    requires pieces { ArePieces rows.now }
+    requires rises { (n : ℕ) × (m : ℕ) × Rises n (joined rows.now) m }
+    ensures point { IsPartitionPoint (λ rows. last_passes (λ row. nat_lt row.0 serial) rows.items ≡ true) (λ rows. last_passes (λ row. nat_lt row.0 serial) rows.items ≡ false) rows.now result }
+    ensures bound { result ≤ length rows.now }
+{
+    let likely = likely_piece(rows, serial);
+    if likely < rows.len()
+        && !ends_before(&rows[likely], serial)
+        && (likely == 0 || ends_before(&rows[likely - 1], serial))
+    {
+        return likely;
+    }
+    rows.partition_point(|rows| ends_before(rows, serial))
+}
+
 // Where the rows end whose serials are below a serial.
 fn end_below(rows: &[Vec<Row>], serial: u64) -> Spot
     requires pieces { ArePieces rows.now }
@@ -73,7 +100,7 @@ fn end_below(rows: &[Vec<Row>], serial: u64) -> Spot
     ensures point { IsPartitionPoint (λ row. nat_lt row.0 serial ≡ true) (λ row. nat_lt row.0 serial ≡ false) (joined rows.now) (place_of_spot rows.now result) }
     ensures within { IsSpotOrEnd rows.now result }
 {
-    let piece = rows.partition_point(|rows| ends_before(rows, serial));
+    let piece = pieces_below(rows, serial);
     match rows.get(piece) {
         Some(rows) => Spot {
             piece,

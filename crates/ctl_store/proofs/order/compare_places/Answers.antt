@@ -1,10 +1,10 @@
-use Rattle.std.proofs.Common.{arith, ◌≡◌, ◌∙◌, sym, ap, map, Option, Box, Global, option_map, option_copied, slice_get}
+use Rattle.std.proofs.Common.{arith, ◌≡◌, ◌∙◌, sym, ap, Option, Box, Global, option_map, option_copied, slice_get}
 use Rattle.std.proofs.lemmas.Grind.{common_steps}
 use Rattle.std.proofs.lemmas.Option.{gets}
 use Rattle.std.specs.Option.{option_cmp}
 use Rattle.std.specs.Ordering.{ordering_then}
 use Rattle.ctl_stanza.specs.Content.{Content}
-use Rattle.ctl_store.specs.Rows.{id_of, id_cmp, id_at, rows_from}
+use Rattle.ctl_store.specs.Rows.{id_of, id_cmp}
 use Rattle.ctl_store.proofs.SortLemmas.{id_at_stanza}
 use Rattle.ctl_store.proofs.order.compare_places.Goals as goal
 

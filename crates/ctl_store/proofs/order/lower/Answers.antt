@@ -1,4 +1,4 @@
-use Rattle.std.proofs.Common.{rules, of_calls, ℕ, Bool, ◌<◌, ◌≤◌, ◌≡◌, ◌∙◌, length, arith, option_copied}
+use Rattle.std.proofs.Common.{rules, of_calls, ℕ, Bool, ◌<◌, ◌≡◌, length, arith, option_copied}
 use Rattle.std.proofs.lemmas.Fn.{always_returns_same}
 use Rattle.std.specs.Ordering.{is_lt}
 use Rattle.ctl_store.specs.Rows.{id, order_at}

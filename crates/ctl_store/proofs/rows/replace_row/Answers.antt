@@ -1,6 +1,4 @@
-use Rattle.std.proofs.Common.{◌≡◌, ◌∙◌, ◌<◌, ℕ, sym, ap, arith, vec_len, Vec, set}
-use Rattle.ctl_stanza.specs.Content.{Content}
-use Rattle.ctl_store.specs.Pieces.{joined}
+use Rattle.std.proofs.Common.{ap, arith, set}
 use Rattle.ctl_store.proofs.PiecesLemmas.{length_read, spot_within}
 use Rattle.ctl_store.proofs.PointLemmas.{replace_joined}
 use Rattle.ctl_store.proofs.rows.replace_row.Goals as goal
