@@ -4,7 +4,7 @@
 Runs the test of crates/ctl_rows that makes each form of edit, from the program of the tests, which `rt test` leaves there:
 with the first request for memory refused, then the second, and so on until a run makes no more. With --try each request that
 an edit met is then refused once more by `rt try --test --fail-alloc N`, without a proof, and the same edit has to meet it; each
-of these runs compiles the crate, which takes a minute or so.
+of these runs compiles the crate, which takes a minute or so, and as many go on at once as there are processors.
 
 With ample memory the test has to pass. With a request refused it may fail with words that say which edit met it, or that none
 did; it may pass where the request could be done without. An edit that met it has to leave the store as it was, and has to be
@@ -14,6 +14,7 @@ requests, and those that each edit met.
 It needs a C compiler, and is no part of the gate."""
 
 import collections
+import concurrent.futures
 import os
 import re
 import subprocess
@@ -77,11 +78,11 @@ def check(preload, folder):
 
 def try_again(edits):
     """Refuses the requests that edits met by `rt try`."""
-    for nth, edit in edits.items():
-        status, _, words = tried_at(nth)
-        if met(status, words) != edit:
-            raise SystemExit("rt try, request %d: status %d, %r" % (nth, status, words))
-        print("rt try, request %d: edit %d" % (nth, edit), flush=True)
+    with concurrent.futures.ThreadPoolExecutor(os.cpu_count()) as runs:
+        for (nth, edit), (status, _, words) in zip(edits.items(), runs.map(tried_at, edits)):
+            if met(status, words) != edit:
+                raise SystemExit("rt try, request %d: status %d, %r" % (nth, status, words))
+            print("rt try, request %d: edit %d" % (nth, edit), flush=True)
 
 
 def main(words):
