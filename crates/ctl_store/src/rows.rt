@@ -66,7 +66,8 @@ fn ends_before(rows: &[Row], serial: u64) -> bool
     }
 }
 
-// Where the piece of a serial stands if no piece but those in front has gone, since each was filled before the next one came.
+// Where the piece of a serial most likely stands. It stands elsewhere once a piece behind the first has gone, or a row was
+// taken out of the last piece, which later serials then fill.
 fn likely_piece(rows: &[Vec<Row>], serial: u64) -> usize {
     let first = rows
         .first()
