@@ -100,7 +100,7 @@ pieces_have kind P f text (Some group ∷ []) h = All-cons P group [] (f text gr
 pieces_have kind P f text (None ∷ other ∷ more) h = pieces_have kind P f h.1 (other ∷ more) h.3
 pieces_have kind P f text (Some group ∷ other ∷ more) h = All-cons P group (groups_of (other ∷ more)) (f h.0 group h.2) (pieces_have kind P f h.1 (other ∷ more) h.3)
 
-fields_have : (kind : FieldKind) (P : List AtomParts → Type 0) → ((text : List ℕ) (group : List AtomParts) → GroupText kind text group → P group) → (body : List ℕ) (groups : List (List AtomParts)) → RelationsText kind body groups → All P groups
+pub fields_have : (kind : FieldKind) (P : List AtomParts → Type 0) → ((text : List ℕ) (group : List AtomParts) → GroupText kind text group → P group) → (body : List ℕ) (groups : List (List AtomParts)) → RelationsText kind body groups → All P groups
 fields_have kind P f body groups h = let Q : List (List AtomParts) → Type 0 = All P in subst Q (sym h.2) (pieces_have kind P f body h.0 h.1)
 
 pub atoms_read_again : AtomsReadAgain

@@ -22,3 +22,4 @@ pub mod ByteClass
 pub mod Grammar
 pub mod Fault
 pub mod ReadAgain
+pub mod Bounds

@@ -25,7 +25,7 @@ pub enum FieldKind {
 
 impl FieldKind {
     /// Whether a group of the field may have several alternatives, joined by `|`.
-    pub fn has_alternatives(self) -> bool
+    pub(crate) fn has_alternatives(self) -> bool
         ensures { result ≡ has_alternatives self }
     {
         !matches!(

@@ -37,8 +37,8 @@ pub use operator::Operator;
 pub use reading::parse_relations;
 pub use relation_fault::RelationFault;
 pub use relation_laws::{
-    fields_have_one_fault, fields_have_places, met_by_name, met_counts_add_up,
-    printed_forms_read_again,
+    fields_bound_atoms, fields_have_one_fault, fields_have_places, met_by_name, met_counts_add_up,
+    printed_forms_read_again, reading_is_the_grammar,
 };
 pub use relations::Relations;
 pub use steps::Steps;

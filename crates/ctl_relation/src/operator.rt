@@ -23,7 +23,7 @@ pub enum Operator {
 
 impl Operator {
     /// Whether `version` stands in this relation to `bound`, by the order of Debian versions.
-    pub fn relates(self, version: &Version, bound: &Version) -> bool
+    pub(crate) fn relates(self, version: &Version, bound: &Version) -> bool
         ensures { result ≡ relates self version.now bound.now }
     {
         let order = version.cmp(bound);

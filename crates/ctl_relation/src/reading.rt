@@ -94,9 +94,8 @@ fn group_of(alloc: Global, kind: FieldKind, text: &[u8]) -> Result<(Group, &[u8]
 fn relations_from(alloc: Global, body: &[u8], kind: FieldKind) -> Result<Relations, RelationFault>
     ensures { Gives (λ x. x) result (relations_of kind body.now) }
 {
-    // With room for a group behind each comma, the list seldom grows or has room to give back.
-    let commas = body.iter().filter(|byte| **byte == b',').count();
-    let mut groups = Vec::with_capacity(alloc, commas + 1)?;
+    // The list grows as groups come, since commas without groups are to take no memory.
+    let mut groups = Vec::new(alloc);
     let mut left = body;
     'groups: loop {
         let text = without_whitespace(left);

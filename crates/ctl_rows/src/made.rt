@@ -5,7 +5,7 @@ ghost use Rattle.ctl_store.specs.Edits.{edit_of, settings_of};
 ghost use Rattle.ctl_store.specs.Held.{IsProper, AreDistinct};
 
 use ctl_relation::{Bytes, Version};
-use ctl_stanza::{ListKind, Stanza, read_stanzas};
+use ctl_stanza::{ListKind, Stanza, lines_take_bytes, read_stanzas};
 use ctl_store::{Edit, ListClass, PinSetting, PinVersion, Selector, Store, boxed, read_prefs};
 use std::alloc::Global;
 use std::test::Fail;
@@ -19,6 +19,7 @@ pub fn version(alloc: Global, text: &str) -> Option<Version> {
 }
 
 pub fn stanzas(alloc: Global, text: &str) -> Option<Vec<Box<Stanza>>> {
+    lines_take_bytes();
     let read = read_stanzas(alloc, text.as_bytes(), 1, ListKind::Packages).ok()?;
     boxed(alloc, read).ok()
 }

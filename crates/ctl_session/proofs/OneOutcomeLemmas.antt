@@ -14,7 +14,9 @@ use Rattle.ctl_stanza.specs.Lines.{text_of_lines}
 use Rattle.ctl_session.specs.State.{CacheState}
 use Rattle.ctl_session.specs.PackageNames.{is_among}
 use Rattle.ctl_session.specs.Script.{Command}
-use Rattle.ctl_session.specs.Request.{Request, AddList, Put, Prefs, Change, PackageNames, request_of}
+use Rattle.ctl_store.specs.State.{State}
+use Rattle.ctl_session.specs.Query.{Query, PackageNames, IsAnswer}
+use Rattle.ctl_session.specs.Request.{Request, AddList, Put, Prefs, Change, Ask, request_of}
 use Rattle.ctl_session.specs.Outcome.{Outcome, Answered}
 use Rattle.ctl_session.specs.Effect.{Does, DoesWhatIsAsked, ComesTo}
 use Rattle.ctl_session.specs.declared.refusal_at.RefusalAt.{RefusalAt}
@@ -80,13 +82,17 @@ names_are_one (x ∷ xs) (y ∷ ys) sorted_xs sorted_ys same =
     let same' : (name : List ℕ) → is_among (x ∷ xs) name ≡ is_among (x ∷ ys) name = subst (λ n. (name : List ℕ) → is_among (x ∷ xs) name ≡ is_among (n ∷ ys) name) (sym is) same in
     ap (λ names. x ∷ names) (names_are_one xs ys sorted_xs.1 sorted_ys.1 (others_are_same x xs ys sorted_xs.0 below_ys same')) ∙ ap (λ n. n ∷ ys) is
 
+-- a query has one answer
+answers_are_one : (state : State) (query : Query) (first second : List ℕ) → IsAnswer state query first → IsAnswer state query second → first ≡ second
+answers_are_one state (PackageNames prefix) first second a b =
+    a.2 ∙ ap text_of_lines (names_are_one a.0 b.0 a.1.increasing b.1.increasing (λ name. a.1.members name ∙ sym (b.1.members name))) ∙ sym b.2
+
 does_one : (cache : CacheState) (command : Command) (request : Request) (first second : Outcome) → Does cache command request first → Does cache command request second → first ≡ second
 does_one cache command (AddList name kind class) first second a b = a ∙ sym b
 does_one cache command (Put name) first second a b = a ∙ sym b
 does_one cache command Prefs first second a b = a ∙ sym b
 does_one cache command (Change edit) first second a b = a ∙ sym b
-does_one cache command (PackageNames prefix) first second a b =
-    a.2 ∙ ap (λ names. Answered (text_of_lines names)) (names_are_one a.0 b.0 a.1.increasing b.1.increasing (λ name. a.1.members name ∙ sym (b.1.members name))) ∙ sym b.2
+does_one cache command (Ask query) first second a b = a.2 ∙ ap Answered (answers_are_one cache.store query a.0 b.0 a.1 b.1) ∙ sym b.2
 
 does_one_asked : (state : CacheState) (command : Command) (asked : Result Request RefusalAt) (first second : Outcome) → DoesWhatIsAsked state command asked first → DoesWhatIsAsked state command asked second → first ≡ second
 does_one_asked state command (Err refused) first second a b = a ∙ sym b

@@ -170,6 +170,29 @@ gave_ahead None new pending bytes gave = tt
 gave_ahead (Some xs) None pending bytes gave = absurd gave
 gave_ahead (Some xs) (Some ys) pending bytes gave = gave ∙ sym (append_assoc bytes pending ys)
 
+-- what was read ahead, where the input goes on
+abbrev ahead_of : Bool → List ℕ → List ℕ
+ahead_of true pending = []
+ahead_of false pending = pending
+
+gave_on : (given new : Option (List ℕ)) (pending bytes : List ℕ) (last : Bool) → (last ≡ true → IsAtEnd (prepend_known pending new)) →
+    Consumes given (prepend_known pending new) bytes → Consumes given new (bytes ++ ahead_of last pending)
+gave_on given new pending bytes true end gave = subst (λ t. Consumes given new t) (sym (append-nil bytes)) (gave_inside given new pending bytes gave (end refl))
+gave_on given new pending bytes false end gave = gave_ahead given new pending bytes gave
+
+ahead_at_end : (last : Bool) (pending : List ℕ) → last ≡ true → ahead_of last pending ≡ []
+ahead_at_end true pending is_last = refl
+ahead_at_end false pending is_last = absurd (false≢true is_last)
+
+-- the commands so far and one more are the first ones, whatever comes
+whole_so_far : (given mid taken taken' : Option (List ℕ)) (new : Option (List ℕ)) (old state : CacheState) (number after accepted refused : ℕ) (head : List ℕ) (read : CommandRead) →
+    (running : Running false given mid taken taken' old state number accepted refused) → (reads : ReadsCommand mid new number after head read) →
+    (rest : List ℕ) → (read.body.last ≡ true → rest ≡ []) →
+    commands_of ((running.bytes ++ reads.taken) ++ rest) ≡ (running.commands ++ reads.command ∷ []) ++ commands_from (after + 1) rest
+whole_so_far given mid taken taken' new old state number after accepted refused head read running reads rest none =
+    ap commands_of (append_assoc running.bytes reads.taken rest) ∙ running.cut (reads.taken ++ rest) (λ bad. absurd (false≢true bad)) ∙
+    ap (λ cs. running.commands ++ cs) (reads.cut rest none) ∙ sym (append_assoc running.commands (reads.command ∷ []) (commands_from (after + 1) rest))
+
 -- a write failed in the text of a command
 pub stopped_in_write : (given mid new taken taken' taken'' : Option (List ℕ)) (pending : List ℕ) (old state state' : CacheState) (number after accepted refused : ℕ) (head : List ℕ) (read : CommandRead) (outcome : Outcome) →
     (running : Running false given mid taken taken' old state number accepted refused) → (reads : ReadsCommand mid (prepend_known pending new) number after head read) → MayCome state reads.command outcome →
@@ -179,11 +202,18 @@ stopped_in_write given mid new taken taken' taken'' pending old state state' num
     ap (λ taken. commands_of (running.bytes ++ taken)) (sym (append-nil reads.taken)) ∙ running.cut (reads.taken ++ []) (λ bad. absurd (false≢true bad)) ∙ ap (λ cs. running.commands ++ cs) (reads.cut [] (λ _. refl)) in
     record {
       script = running.bytes ++ reads.taken;
-      ahead = pending;
+      ahead = ahead_of read.body.last pending;
       outcome = outcome;
       outcomes = running.outcomes;
       part = part.0;
-      gave = gave_ahead given new pending (running.bytes ++ reads.taken) (Consumes-trans given mid (prepend_known pending new) running.bytes reads.taken running.gave reads.took);
+      last = read.body.last;
+      whole = λ rest none. (
+        commands_from (after + 1) rest,
+        whole_so_far given mid taken taken' (prepend_known pending new) old state number after accepted refused head read running reads rest none ∙
+            ap (λ cs. cs ++ commands_from (after + 1) rest) (sym script),
+      );
+      end = λ is_last. (end_inside pending new (reads.ends is_last), ahead_at_end read.body.last pending is_last);
+      gave = gave_on given new pending (running.bytes ++ reads.taken) read.body.last reads.ends (Consumes-trans given mid (prepend_known pending new) running.bytes reads.taken running.gave reads.took);
       runs = subst (λ cs. Runs old cs (running.outcomes ++ outcome ∷ [])) (sym script) (runs_more old running.commands running.outcomes reads.command outcome running.runs (subst (λ s. MayCome s reads.command outcome) running.state may));
       short = part.1;
       wrote = Appends-trans taken taken' taken'' (text_of_all running.outcomes) (take part.0 (text_of outcome)) running.wrote part.2;

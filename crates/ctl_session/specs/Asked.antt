@@ -6,9 +6,10 @@ use Rattle.ctl_store.specs.declared.refusal.Refusal.{Refusal}
 use Rattle.ctl_store.specs.declared.refusal.Refusal.TheVariants as refusal
 use Rattle.ctl_store.specs.Edits.{edit_of}
 use Rattle.ctl_store.specs.Held.{IsProper}
-use Rattle.ctl_session.specs.Request.{Request as RequestText, AddList as AddListText, Put as PutText, Prefs as PrefsText, Change as ChangeText, PackageNames as PackageNamesText, request_by, refused_at}
+use Rattle.ctl_session.specs.Request.{Request as RequestText, AddList as AddListText, Put as PutText, Prefs as PrefsText, Change as ChangeText, Ask as AskText, request_by, refused_at}
 use Rattle.ctl_session.specs.declared.request.Request.{Request}
-use Rattle.ctl_session.specs.declared.request.Request.TheVariants.{AddList, Put, Prefs, Change, PackageNames}
+use Rattle.ctl_session.specs.declared.request.Request.TheVariants.{AddList, Put, Prefs, Change, Ask}
+use Rattle.ctl_session.specs.Query.{query_text}
 use Rattle.ctl_session.specs.declared.request.CommandWords.{CommandWords}
 use Rattle.ctl_session.specs.declared.refusal_at.RefusalAt.{RefusalAt}
 
@@ -18,7 +19,7 @@ request_text (AddList name kind class) = AddListText name.now kind class
 request_text (Put name) = PutText name.now
 request_text Prefs = PrefsText
 request_text (Change edit) = ChangeText (edit_of edit)
-request_text (PackageNames prefix) = PackageNamesText prefix.now
+request_text (Ask query) = AskText (query_text query)
 
 -- the request of the definition was read, or it is refused as the definition says, or memory ran out
 abbrev pub Asks : Result Request Refusal → Result RequestText Refusal → Type 0
@@ -51,4 +52,4 @@ IsProperRequest (AddList name kind class) = Unit {0}
 IsProperRequest (Put name) = Unit {0}
 IsProperRequest Prefs = Unit {0}
 IsProperRequest (Change edit) = IsProper (edit_of edit)
-IsProperRequest (PackageNames prefix) = Unit {0}
+IsProperRequest (Ask query) = Unit {0}

@@ -19,9 +19,9 @@ use Rattle.ctl_store.specs.Prefs.{read_prefs_text}
 use Rattle.ctl_store.specs.State.{StanzaList}
 use Rattle.ctl_store.specs.Step.{after, refusal_of}
 use Rattle.ctl_session.specs.State.{CacheState}
-use Rattle.ctl_session.specs.PackageNames.{ArePackageNames}
+use Rattle.ctl_session.specs.Query.{IsAnswer}
 use Rattle.ctl_session.specs.Script.{Command}
-use Rattle.ctl_session.specs.Request.{Request, AddList, Put, Prefs, Change, PackageNames, request_of}
+use Rattle.ctl_session.specs.Request.{Request, AddList, Put, Prefs, Change, Ask, request_of}
 use Rattle.ctl_session.specs.Outcome.{Outcome, Refused, Answered, Changed}
 use Rattle.ctl_session.specs.declared.refusal_at.RefusalAt.{RefusalAt}
 
@@ -90,8 +90,7 @@ Does cache command (AddList name kind class) outcome = outcome ≡ list_added ca
 Does cache command (Put name) outcome = outcome ≡ put_in_list cache command.number name (text_of_lines command.body)
 Does cache command Prefs outcome = outcome ≡ prefs_set cache command.number (text_of_lines command.body)
 Does cache command (Change edit) outcome = outcome ≡ edited cache command.number edit
-Does cache command (PackageNames prefix) outcome =
-    (names : List (List ℕ)) × ArePackageNames cache.store prefix names × (outcome ≡ Answered (text_of_lines names))
+Does cache command (Ask query) outcome = (text : List ℕ) × IsAnswer cache.store query text × (outcome ≡ Answered text)
 
 abbrev pub DoesWhatIsAsked : CacheState → Command → Result Request RefusalAt → Outcome → Type 0
 DoesWhatIsAsked cache command (Err refused) outcome = outcome ≡ Refused refused.line refused.cause

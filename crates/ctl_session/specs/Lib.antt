@@ -12,6 +12,8 @@ pub mod WordsRead
 pub mod Reading
 pub mod State
 pub mod PackageNames
+pub mod Query
+pub mod Queries
 pub mod Request
 pub mod Outcome
 pub mod Effect

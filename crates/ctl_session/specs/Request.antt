@@ -1,7 +1,6 @@
 -- What a command asks for, by its words.
-use Rattle.std.specs.Prelude.{ℕ, ℤ, ◌+◌, ◌==◌, Bool, false, List, [], ◌∷◌, length, codes, is_none, Option, None, Some, Result, Ok, Err, if◌then◌else◌}
+use Rattle.std.specs.Prelude.{ℕ, ℤ, ◌+◌, List, [], ◌∷◌, length, codes, is_none, Option, None, Some, Result, Ok, Err, if◌then◌else◌}
 use Rattle.std.specs.Str.{bytes_eq}
-use Rattle.ctl_relation.specs.Bytes.{hyphen}
 use Rattle.ctl_relation.specs.Names.{is_name}
 use Rattle.ctl_relation.specs.Version.{fault_of}
 use Rattle.ctl_stanza.specs.declared.list_kind.ListKind.{ListKind}
@@ -18,6 +17,7 @@ use Rattle.ctl_store.specs.PinVersions.{is_pin_version}
 use Rattle.ctl_store.specs.Priority.{priority_of}
 use Rattle.ctl_session.specs.Script.{Command, first_long, name_of}
 use Rattle.ctl_session.specs.Words.{words_of, behind_name}
+use Rattle.ctl_session.specs.Query.{Query, is_query, query_of}
 use Rattle.ctl_session.specs.declared.refusal_at.RefusalAt.{RefusalAt}
 use Rattle.ctl_session.specs.declared.command_name.CommandName.{CommandName}
 use Rattle.ctl_session.specs.declared.command_name.CommandName.TheVariants as command
@@ -32,8 +32,8 @@ pub data Request : Type 0 where
   Prefs : Request
   -- an edit that needs no body
   Change : Edit → Request
-  -- the names of packages that begin with this prefix
-  PackageNames : List ℕ → Request
+  -- a query
+  Ask : Query → Request
 
 -- ---- tests of words
 
@@ -43,11 +43,6 @@ if_name word request = if is_name word then request else Err refusal.Name
 
 abbrev pub if_version : List ℕ → Result Request Refusal → Result Request Refusal
 if_version word request = if is_none (fault_of word) then request else Err refusal.Version
-
--- a word that begins with a hyphen is an option of a query
-abbrev pub is_option : List ℕ → Bool
-is_option [] = false
-is_option (b ∷ word) = b == hyphen
 
 -- ---- the words of each command
 
@@ -180,11 +175,10 @@ abbrev pub prefs_request : List (List ℕ) → Result Request Refusal
 prefs_request [] = Ok Prefs
 prefs_request (word ∷ words) = Err refusal.Usage
 
--- `pkgnames [PREFIX]`
-abbrev pub package_names_request : List (List ℕ) → Result Request Refusal
-package_names_request [] = Ok (PackageNames [])
-package_names_request (prefix ∷ []) = if is_option prefix then Err refusal.Usage else Ok (PackageNames prefix)
-package_names_request (prefix ∷ word ∷ words) = Err refusal.Usage
+-- a query asks for itself
+abbrev pub asking : Result Query Refusal → Result Request Refusal
+asking (Ok query) = Ok (Ask query)
+asking (Err cause) = Err cause
 
 -- ---- commands by their names
 
@@ -201,7 +195,7 @@ command_named name =
     if bytes_eq name (codes "unpin") then Some command.Unpin else (
     if bytes_eq name (codes "target") then Some command.Target else (
     if bytes_eq name (codes "prefs") then Some command.Prefs else (
-    if bytes_eq name (codes "pkgnames") then Some command.PackageNames else None))))))))))
+    if is_query name then Some command.Query else None))))))))))
 
 -- what the words of a command ask for
 abbrev pub request_by : CommandName → List (List ℕ) → Result Request Refusal
@@ -215,17 +209,31 @@ request_by command.Pin words = pin_request words
 request_by command.Unpin words = unpin_request words
 request_by command.Target words = target_request words
 request_by command.Prefs words = prefs_request words
-request_by command.PackageNames words = package_names_request words
+request_by command.Query words = asking (query_of words)
 
--- what a command asks for by its words; a quote without its end leaves none
-abbrev pub request_in : CommandName → Option (List (List ℕ)) → Result Request Refusal
-request_in name None = Err refusal.Usage
-request_in name (Some words) = request_by name words
+-- the words by which a command asks: a query has its name before them
+abbrev pub words_by : CommandName → List ℕ → List (List ℕ) → List (List ℕ)
+words_by command.Query name words = name ∷ words
+words_by command.AddList name words = words
+words_by command.DropList name words = words
+words_by command.Put name words = words
+words_by command.Remove name words = words
+words_by command.Mark name words = words
+words_by command.Unmark name words = words
+words_by command.Pin name words = words
+words_by command.Unpin name words = words
+words_by command.Target name words = words
+words_by command.Prefs name words = words
 
--- what a line asks for by the name of its command and the text behind it
-abbrev pub request_named : Option CommandName → List ℕ → Result Request Refusal
-request_named None text = Err refusal.Command
-request_named (Some name) text = request_in name (words_of text)
+-- what a command asks for by its name and its words; a quote without its end leaves none
+abbrev pub request_in : CommandName → List ℕ → Option (List (List ℕ)) → Result Request Refusal
+request_in command name None = Err refusal.Usage
+request_in command name (Some words) = request_by command (words_by command name words)
+
+-- what a line asks for by its command, the name of it and the text behind it
+abbrev pub request_named : Option CommandName → List ℕ → List ℕ → Result Request Refusal
+request_named None name text = Err refusal.Command
+request_named (Some command) name text = request_in command name (words_of text)
 
 -- a refusal names the line of the command
 abbrev pub refused_at : ℕ → Result Request Refusal → Result Request RefusalAt
@@ -239,6 +247,6 @@ abbrev pub request_of : Command → Result Request RefusalAt
 request_of command = elim (first_long command.number (command.line ∷ command.body)) [
   | Some line ↦ Err (record { line = line; cause = refusal.TooLong })
   | None ↦ if command.ended
-      then refused_at command.number (request_named (command_named (name_of command.line)) (behind_name command.line))
+      then refused_at command.number (request_named (command_named (name_of command.line)) (name_of command.line) (behind_name command.line))
       else Err (record { line = command.number + length command.body; cause = refusal.Unended })
 ]

@@ -1,5 +1,5 @@
 -- A run: what a script's commands come to, one after another, and where a run may stop.
-use Rattle.std.specs.Prelude.{◌≡◌, ℕ, ◌<◌, List, [], ◌∷◌, ◌++◌, Option, length, take}
+use Rattle.std.specs.Prelude.{◌≡◌, ℕ, ◌<◌, List, [], ◌∷◌, ◌++◌, Option, Bool, true, length, take}
 use Rattle.std.specs.Io.KnownBytes.{Consumes, IsAtEnd, Appends}
 use Rattle.ctl_stanza.specs.Lines.{text_of_lines}
 use Rattle.ctl_session.specs.State.{CacheState}
@@ -39,6 +39,10 @@ pub record StoppedInWrite (given given' taken taken' : Option (List ℕ)) (old n
   pub outcomes : List Outcome
   pub part : ℕ
   pub gave : Consumes given given' (script ++ ahead)
+  -- The last command was given whole: whatever comes after it, the commands begin with these. Or the input ended with it.
+  pub last : Bool
+  pub whole : (rest : List ℕ) → (last ≡ true → rest ≡ []) → (others : List Command) × (commands_of (script ++ rest) ≡ commands_of script ++ others)
+  pub end : last ≡ true → IsAtEnd given' × (ahead ≡ [])
   pub runs : Runs old (commands_of script) (outcomes ++ outcome ∷ [])
   pub short : part < length (text_of outcome)
   pub wrote : Appends taken taken' (text_of_all outcomes ++ take part (text_of outcome))

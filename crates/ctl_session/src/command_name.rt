@@ -2,6 +2,8 @@
 
 ghost use Rattle.std.specs.Prelude.{◌≡◌};
 
+use crate::query::is_query;
+
 /// A command of a script.
 #[derive(Clone, Copy, Debug, PartialEq, Eq)]
 pub(crate) enum CommandName {
@@ -15,7 +17,8 @@ pub(crate) enum CommandName {
     Unpin,
     Target,
     Prefs,
-    PackageNames,
+    /// A query, of whatever name.
+    Query,
 }
 
 impl CommandName {
@@ -45,8 +48,8 @@ impl CommandName {
             Some(CommandName::Target)
         } else if name == b"prefs".as_slice() {
             Some(CommandName::Prefs)
-        } else if name == b"pkgnames".as_slice() {
-            Some(CommandName::PackageNames)
+        } else if is_query(name) {
+            Some(CommandName::Query)
         } else {
             None
         }

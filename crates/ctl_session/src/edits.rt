@@ -10,7 +10,7 @@ ghost use Rattle.ctl_session.specs.Replies.{CameTo, IsRefusalOf};
 use crate::cache::Cache;
 use crate::refusal_at::RefusalAt;
 use ctl_relation::Bytes;
-use ctl_stanza::{Cause, ListKind, TextFault, read_stanzas};
+use ctl_stanza::{Cause, ListKind, TextFault, lines_take_bytes, read_stanzas};
 use ctl_store::{Edit, ListClass, Refusal, boxed, read_prefs};
 use std::alloc::Global;
 
@@ -83,6 +83,7 @@ pub(crate) fn add_list(
     ensures outcome { CameTo number result cache.new (list_added cache.old number name.now kind class text.now) }
     ensures err { OnErr result (cache.new ≡ cache.old) }
 {
+    lines_take_bytes();
     let stanzas = match read_stanzas(alloc, text, number as u64 + 1, kind) {
         Ok(stanzas) => stanzas,
         Err(fault) => return Err(refusal_at(fault, number)),
@@ -119,6 +120,7 @@ pub(crate) fn put(
     let Some(kind) = cache.store.kind(name) else {
         return Err(refused(number, Refusal::NoList));
     };
+    lines_take_bytes();
     let mut stanzas = match read_stanzas(alloc, text, number as u64 + 1, kind) {
         Ok(stanzas) => stanzas,
         Err(fault) => return Err(refusal_at(fault, number)),

@@ -18,6 +18,7 @@ mod perform;
 mod pin_words;
 mod print;
 mod program_words;
+mod query;
 mod read_ahead;
 mod refusal_at;
 mod reply;

@@ -1,7 +1,7 @@
-//! The words of commands on lists, and of `pkgnames` and `prefs`.
+//! The words of commands on lists, and of `prefs`.
 
 ghost use Rattle.std.specs.Prelude.{◌≡◌, IfOk, IfErr};
-ghost use Rattle.ctl_session.specs.Request.{is_option, kind_of_word, class_of_words, add_list_request as add_list_asked, put_request as put_asked, drop_list_request as drop_list_asked, unmark_request as unmark_asked, prefs_request as prefs_asked, package_names_request as package_names_asked};
+ghost use Rattle.ctl_session.specs.Request.{kind_of_word, class_of_words, add_list_request as add_list_asked, put_request as put_asked, drop_list_request as drop_list_asked, unmark_request as unmark_asked, prefs_request as prefs_asked};
 ghost use Rattle.ctl_session.specs.Asked.{Asks, IsProperRequest};
 ghost use Rattle.ctl_store.specs.declared.refusal.Refusal.TheVariants.{Memory};
 
@@ -19,16 +19,6 @@ pub(crate) fn copied(alloc: Global, word: &Bytes) -> Result<Bytes, Refusal>
     match Bytes::from_slice(alloc, word.as_slice()) {
         Ok(copy) => Ok(copy),
         Err(_) => Err(Refusal::Memory),
-    }
-}
-
-/// Whether a word is an option of a query.
-fn is_option(word: &[u8]) -> bool
-    ensures { result ≡ is_option word.now }
-{
-    match word {
-        [] => false,
-        [byte, ..] => *byte == b'-',
     }
 }
 
@@ -140,23 +130,6 @@ pub(crate) fn prefs_request(words: &[Bytes]) -> Result<Request<'_>, Refusal>
 {
     match words {
         [] => Ok(Request::Prefs),
-        _ => Err(Refusal::Usage),
-    }
-}
-
-/// `pkgnames [PREFIX]`
-pub(crate) fn package_names_request(words: &[Bytes]) -> Result<Request<'_>, Refusal>
-    ensures asks { Asks result (package_names_asked words.now) }
-    ensures proper { IfOk result IsProperRequest }
-{
-    match words {
-        [] => Ok(Request::PackageNames(b"")),
-        [prefix] => {
-            if is_option(prefix.as_slice()) {
-                return Err(Refusal::Usage);
-            }
-            Ok(Request::PackageNames(prefix.as_slice()))
-        }
         _ => Err(Refusal::Usage),
     }
 }

@@ -12,7 +12,7 @@ ghost use Rattle.ctl_session.specs.Replies.{outcome_from, outcome_of_edit, MayDo
 
 use crate::cache::Cache;
 use crate::edits::{add_list, edit, put, refused, set_prefs};
-use crate::package_names::push_package_names;
+use crate::query::answer;
 use crate::refusal_at::RefusalAt;
 use crate::reply::Reply;
 use crate::request::{Request, command_words, request_by};
@@ -56,12 +56,10 @@ fn do_request(
         Request::Put(name) => reply_of_edit(put(alloc, cache, name, text, number)),
         Request::Prefs => reply_of_edit(set_prefs(alloc, cache, text, number)),
         Request::Change(change) => reply_of_edit(edit(cache, change, number)),
-        Request::PackageNames(prefix) => {
-            match push_package_names(alloc, &cache.store, prefix, out) {
-                Ok(()) => Reply::Answered,
-                Err(_) => Reply::Refused(refused(number, Refusal::Memory)),
-            }
-        }
+        Request::Ask(query) => match answer(alloc, &cache.store, &query, out) {
+            Ok(()) => Reply::Answered,
+            Err(_) => Reply::Refused(refused(number, Refusal::Memory)),
+        },
     }
 }
 

@@ -3,7 +3,7 @@
 ghost use Rattle.std.specs.Prelude.{◌≡◌, IfOk, OnOk, None};
 ghost use Rattle.ctl_session.specs.Script.{Command as CommandText, name_of};
 ghost use Rattle.ctl_session.specs.Words.{behind_name};
-ghost use Rattle.ctl_session.specs.Request.{command_named, request_by, request_named, request_of};
+ghost use Rattle.ctl_session.specs.Request.{command_named, request_by, request_named, request_of, words_by};
 ghost use Rattle.ctl_session.specs.Reading.{Describes};
 ghost use Rattle.ctl_session.specs.Asked.{Asks, GivesWords, GivesWordsAt, IsProperRequest};
 
@@ -11,17 +11,17 @@ use crate::command_name::CommandName;
 use crate::edit_words::{mark_request, remove_request, target_request};
 use crate::line_words::{behind_name, name};
 use crate::list_words::{
-    add_list_request, drop_list_request, package_names_request, prefs_request, put_request,
-    unmark_request,
+    add_list_request, drop_list_request, prefs_request, put_request, unmark_request,
 };
 use crate::pin_words::{pin_request, unpin_request};
+use crate::query::{Query, parse_query};
 use crate::refusal_at::RefusalAt;
 use crate::script::CommandRead;
 use crate::words::words;
 use ctl_relation::Bytes;
 use ctl_stanza::ListKind;
 use ctl_store::{Edit, ListClass, Refusal};
-use std::alloc::Global;
+use std::alloc::{AllocError, Global};
 
 /// What a command asks for.
 #[derive(Drop)]
@@ -34,8 +34,8 @@ pub(crate) enum Request<'a> {
     Prefs,
     /// An edit that needs no body.
     Change(Edit),
-    /// The names of packages that begin with this prefix.
-    PackageNames(&'a [u8]),
+    /// A query.
+    Ask(Query),
 }
 
 /// The name of a command and its words.
@@ -45,15 +45,35 @@ pub(crate) struct CommandWords {
     pub(crate) words: Vec<Bytes>,
 }
 
+/// The words by which a command asks: a query has its name before them.
+fn words_by(
+    alloc: Global,
+    command: CommandName,
+    name: &[u8],
+    words: Vec<Bytes>,
+) -> Result<Vec<Bytes>, AllocError>
+    ensures { IfOk result (λ all. all.items ≡ words_by command name.now words.items) }
+{
+    let mut words = words;
+    if command == CommandName::Query {
+        words.insert(0, Bytes::from_slice(alloc, name)?)?;
+    }
+    Ok(words)
+}
+
 /// The name and the words of a command's line.
 pub(crate) fn words_of_line(alloc: Global, head: &[u8]) -> Result<CommandWords, Refusal>
-    ensures { GivesWords result (request_named (command_named (name_of head.now)) (behind_name head.now)) }
+    ensures { GivesWords result (request_named (command_named (name_of head.now)) (name_of head.now) (behind_name head.now)) }
 {
-    let Some(name) = CommandName::read(name(head)) else {
+    let word = name(head);
+    let Some(name) = CommandName::read(word) else {
         return Err(Refusal::Command);
     };
     match words(alloc, behind_name(head)) {
-        Ok(Some(words)) => Ok(CommandWords { name, words }),
+        Ok(Some(words)) => match words_by(alloc, name, word, words) {
+            Ok(words) => Ok(CommandWords { name, words }),
+            Err(_) => Err(Refusal::Memory),
+        },
         Ok(None) => Err(Refusal::Usage),
         Err(_) => Err(Refusal::Memory),
     }
@@ -110,6 +130,9 @@ pub(crate) fn request_by(
         CommandName::Unpin => unpin_request(alloc, words),
         CommandName::Target => target_request(alloc, words),
         CommandName::Prefs => prefs_request(words),
-        CommandName::PackageNames => package_names_request(words),
+        CommandName::Query => match parse_query(alloc, words) {
+            Ok(query) => Ok(Request::Ask(query)),
+            Err(cause) => Err(cause),
+        },
     }
 }

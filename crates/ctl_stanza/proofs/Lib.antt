@@ -14,3 +14,4 @@ pub mod PlaceLemmas
 pub mod LawLemmas
 pub mod RecordLawLemmas
 pub mod RunLemmas
+pub mod SoundLemmas

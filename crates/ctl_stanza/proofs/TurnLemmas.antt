@@ -1,5 +1,5 @@
 -- One piece more of a text.
-use Rattle.std.proofs.Common.{◌≡◌, ◌∙◌, ◌+◌, ◌-◌, ◌++◌, ℕ, List, length, take, drop, Bor, Option, Some, None, Result, Ok, Err, slice_range, refl, sym, ap, subst, arith, append_assoc, append-nil}
+use Rattle.std.proofs.Common.{◌≡◌, ◌∙◌, ◌+◌, ◌-◌, ◌≤◌, ◌++◌, ℕ, List, length, take, drop, Bor, Option, Some, None, Result, Ok, Err, slice_range, refl, sym, ap, subst, arith, append_assoc, append-nil}
 use Rattle.std.proofs.lemmas.List.{length-map, length-append}
 use Rattle.ctl_stanza.specs.declared.list_kind.ListKind.{ListKind}
 use Rattle.ctl_stanza.specs.declared.fault.TextFault.{TextFault}
@@ -96,3 +96,7 @@ record-bad numbers here old at m all others lines f whole first e is some told =
 -- as many lines are left as have numbers
 pub room-next : (all others : List (List ℕ)) (lines : List (Bor (List ℕ))) (at total : ℕ) → all ≡ lent_lines lines ++ others → at + length all ≡ total → at + length lines + length others ≡ total
 room-next all others lines at total e room = omega (arith, room, ap length e, length-append (lent_lines lines) others, length-map lines now)
+
+-- the lines that are left have numbers
+pub lines-room : (all others : List (List ℕ)) (lines : List (Bor (List ℕ))) (at taken bound : ℕ) → all ≡ lent_lines lines ++ others → taken ≡ length lines → at + length all ≤ bound → at + taken + length others ≤ bound
+lines-room all others lines at taken bound e size room = omega (arith, room, size, ap length e, length-append (lent_lines lines) others, length-map lines now)

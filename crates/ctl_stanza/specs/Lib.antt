@@ -19,3 +19,4 @@ pub mod RecordLaws
 pub mod NamesGiven
 pub mod Spans
 pub mod Live
+pub mod Sound

@@ -12,6 +12,7 @@ use Rattle.ctl_stanza.specs.Fields.{FieldText, is_same_name, body_named, version
 use Rattle.ctl_stanza.specs.RelationFields.{name_of, groups_read}
 use Rattle.ctl_stanza.specs.Content.{Content, relations_of_kind, offers_of}
 use Rattle.ctl_stanza.specs.Faults.{or_else}
+use Rattle.ctl_stanza.specs.Sound.{IsWhole, IsSound}
 use Rattle.ctl_stanza.specs.Spans.{AreFieldsOf}
 
 -- the groups that are kept of a relation field, if it was given
@@ -53,9 +54,11 @@ AreRelationsOf content fields = (kind : FieldKind) → kept_groups kind fields �
 abbrev pub content_in_front : ListKind → ℕ → List ℕ → Content
 content_in_front kind text_len bytes = record { text = take text_len bytes; kind = kind }
 
--- What a stanza keeps is read from its text, which stands at the front of its bytes.
+-- What a stanza keeps is read from its text, which stands at the front of its bytes and has no fault.
 pub record ArePartsOf (content : Content) (bytes : List ℕ) (text_len : ℕ) (fields : List FieldPlace) (relations : List RelationField) (offers : List OfferParts) : Type 0 where
   pub within : text_len ≤ length bytes
   pub fields_are : AreFieldsOf content.text bytes fields
   pub relations_are : AreRelationsOf content relations
   pub offers_are : offers ≡ offers_of content
+  pub whole : IsWhole content
+  pub sound : IsSound content

@@ -1,9 +1,14 @@
 //! What the definition of reading means, as laws.
 
-ghost use Rattle.std.specs.Prelude.{ℕ, List};
+ghost use Rattle.std.specs.Prelude.{ℕ, ◌≤◌, List, length};
 ghost use Rattle.ctl_stanza.specs.declared.list_kind.ListKind.{ListKind};
 ghost use Rattle.ctl_stanza.specs.RecordLaws.{ReadsRecordsOrTells};
+ghost use Rattle.ctl_stanza.specs.Content.{Content};
+ghost use Rattle.ctl_stanza.specs.Lines.{lines_of};
 ghost use Rattle.ctl_stanza.specs.Laws.{ReadsOrTells, KeepsLines, ReadsStanzas};
+ghost use Rattle.ctl_stanza.specs.Sound.{IsWhole, IsSound};
+
+use ctl_relation::{fields_bound_atoms, reading_is_the_grammar};
 
 /// A text that is read to stanzas has no fault. Of a text that isn't, a fault is told that it has: no line
 /// before it has a fault, and on its line no fault has a lower number.
@@ -27,4 +32,18 @@ pub fn stanzas_are_runs()
 /// told of a line that has it: no line before it has a fault, and on its line no fault has a lower number.
 pub fn told_record_fault_is_least()
     ensures { (n : ℕ) (text : List ℕ) → ReadsRecordsOrTells n text }
+{}
+
+/// A stanza without a fault has a name, and where it is live a version. Each group of its relation fields has an atom,
+/// and the atoms of a field, and what the stanza offers, are less than 2^32.
+pub fn whole_stanzas_are_sound()
+    ensures { (content : Content) → IsWhole content → IsSound content }
+{
+    reading_is_the_grammar();
+    fields_bound_atoms();
+}
+
+/// A text has no more lines than bytes.
+pub fn lines_take_bytes()
+    ensures { (text : List ℕ) → length (lines_of text) ≤ length text }
 {}

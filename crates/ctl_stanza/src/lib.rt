@@ -24,7 +24,8 @@ mod tests;
 
 pub use fault::{Cause, TextFault};
 pub use laws::{
-    stanzas_are_runs, stanzas_keep_lines, told_fault_is_least, told_record_fault_is_least,
+    lines_take_bytes, stanzas_are_runs, stanzas_keep_lines, told_fault_is_least,
+    told_record_fault_is_least, whole_stanzas_are_sound,
 };
 pub use lines::MAX_LINE;
 pub use list_kind::ListKind;

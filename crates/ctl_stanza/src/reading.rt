@@ -103,7 +103,7 @@ pub fn read_stanzas(
     first_line: u64,
     kind: ListKind,
 ) -> Result<Vec<Stanza>, TextFault>
-    requires lines { first_line + length text.now < 2 ^ 64 }
+    requires lines { first_line + length (lines_of text.now) < 2 ^ 64 }
     ensures read { Reads result (read_text kind first_line text.now) }
     ensures memory { IfErr result IsMemoryAtZero }
 {

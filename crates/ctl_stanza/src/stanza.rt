@@ -1,16 +1,18 @@
 //! Stanzas and their parts.
 
-ghost use Rattle.std.specs.Prelude.{◌≡◌, ◌+◌, ◌<◌, ◌≤◌, ◌^◌, length, take, option_map, None, IfOk, IfErr, OnOk};
-ghost use Rattle.ctl_stanza.specs.Lines.{lent_lines, AreLines};
+ghost use Rattle.std.specs.Prelude.{◌≡◌, ◌+◌, ◌<◌, ◌≤◌, ◌^◌, [], length, take, option_map, None, IfOk, IfErr, OnOk};
+ghost use Rattle.ctl_stanza.specs.Lines.{lines_of, lent_lines, AreLines};
 ghost use Rattle.ctl_stanza.specs.Fields.{fields_of_lines};
 ghost use Rattle.ctl_stanza.specs.Content.{content_of, offers_of};
 ghost use Rattle.ctl_stanza.specs.Live.{content_in_front, AreRelationsOf};
 ghost use Rattle.ctl_stanza.specs.Spans.{AreReadFrom};
-ghost use Rattle.ctl_stanza.specs.Faults.{whole_fault, IsMemoryAtZero, Tells};
+ghost use Rattle.ctl_stanza.specs.Faults.{first_fault, whole_fault, stanza_fault, IsMemoryAtZero, Tells};
+ghost use Rattle.ctl_stanza.specs.declared.repeats.Repeats.TheVariants.{Never};
 
 use crate::checks::{first_wrong, is_missing};
 use crate::fault::{Cause, TextFault};
 use crate::fields::{Field, FieldPlace, body_among, body_named, fields_of_lines, places_of};
+use crate::laws::whole_stanzas_are_sound;
 use crate::lines::text_of_lines;
 use crate::list_kind::ListKind;
 use crate::live::{LiveParts, RelationField, kept_groups, read_live};
@@ -59,8 +61,10 @@ fn stanza_of(
     requires fields { AreReadFrom (take text_len bytes.items) bytes.items fields.now }
     requires relations { AreRelationsOf (content_in_front kind text_len bytes.items) relations.items }
     requires offers { offers.items ≡ offers_of (content_in_front kind text_len bytes.items) }
+    requires no_fault { stanza_fault kind 0 (lines_of (take text_len bytes.items)) ≡ None }
     ensures { IfOk result (λ stanza. stanza ≡ content_in_front kind text_len bytes.items) }
 {
+    whole_stanzas_are_sound();
     let fields = places_of(alloc, fields)?;
     Ok(Stanza {
         bytes,
@@ -82,6 +86,7 @@ pub(crate) fn read_stanza(
 ) -> Result<Stanza, TextFault>
     requires lines { first_line + length lines.now < 2 ^ 64 }
     requires no_newline { AreLines (lent_lines lines.now) }
+    requires no_fault { first_fault Never first_line [] (lent_lines lines.now) ≡ None }
     ensures stanza { IfOk result (λ stanza. stanza ≡ content_of kind (lent_lines lines.now)) }
     ensures whole { OnOk result (whole_fault kind first_line (fields_of_lines (lent_lines lines.now)) ≡ None) }
     ensures fault { IfErr result (Tells (whole_fault kind first_line (fields_of_lines (lent_lines lines.now)))) }
@@ -118,19 +123,26 @@ pub(crate) fn read_stanza(
 }
 
 impl Stanza {
+    ghost use Rattle.std.specs.Prelude.{true, IsSome};
+    ghost use Rattle.std.specs.List.{All};
+    ghost use Rattle.ctl_relation.specs.Bounds.{atom_count};
     ghost use Rattle.ctl_relation.specs.Lent.{lent};
+    ghost use Rattle.ctl_relation.specs.Names.{is_name};
+    ghost use Rattle.ctl_stanza.specs.Sound.{IsWhole};
     ghost use Rattle.ctl_stanza.specs.Content.{body_of, package_of, named_bodies, is_live, version_of, groups_of, provides_of, offers_of};
 
-    /// The lines of the stanza, each with a newline.
+    /// The lines of the stanza, each with a newline. A stanza has no fault, and less than 2^32 bytes.
     pub fn text(&self) -> &[u8]
-        ensures { result.now ≡ self.now.text }
+        ensures text { result.now ≡ self.now.text }
+        ensures whole { IsWhole self.now }
     {
         self.bytes.split_at(self.text_len as usize).0
     }
 
     /// The kind of its list.
     pub fn kind(&self) -> ListKind
-        ensures { result ≡ self.now.kind }
+        ensures kind { result ≡ self.now.kind }
+        ensures whole { IsWhole self.now }
     {
         self.kind
     }
@@ -168,7 +180,8 @@ impl Stanza {
 
     /// The name of the package, which is the body of the field `Package` (Debian Policy 5.6.7).
     pub fn package(&self) -> &[u8]
-        ensures { result.now ≡ package_of self.now }
+        ensures body { result.now ≡ package_of self.now }
+        ensures name { is_name result.now ≡ true }
     {
         match self.offers.first() {
             // It offers its own name first, so that the fields need not be looked through.
@@ -180,7 +193,8 @@ impl Stanza {
     /// The version of a live stanza, which is the body of the field `Version` (Debian Policy 5.6.12). None where the
     /// stanza isn't live.
     pub fn version(&self) -> Option<&Version>
-        ensures { lent result ≡ version_of self.now }
+        ensures version { lent result ≡ version_of self.now }
+        ensures live { is_live self.now ≡ true → IsSome result }
     {
         match self.offers.first() {
             None => None,
@@ -191,7 +205,9 @@ impl Stanza {
     /// The groups of one of the relation fields other than `Provides` (Debian Policy 7.1). None where the stanza has no
     /// such field or isn't live, and none of `Provides`.
     pub fn groups(&self, kind: FieldKind) -> &[Group]
-        ensures { result.now ≡ groups_of kind self.now }
+        ensures groups { result.now ≡ groups_of kind self.now }
+        ensures some { All (λ group. 0 < length group) result.now }
+        ensures few { atom_count result.now < 2 ^ 32 }
     {
         match kind {
             FieldKind::Provides => &[],
@@ -202,7 +218,9 @@ impl Stanza {
     /// The entries of the field `Provides` (Debian Policy 7.5), each a group of one atom. None where the stanza has no
     /// such field or isn't live.
     pub fn provides(&self) -> &[Group]
-        ensures { result.now ≡ provides_of self.now }
+        ensures provides { result.now ≡ provides_of self.now }
+        ensures some { All (λ group. 0 < length group) result.now }
+        ensures few { atom_count result.now < 2 ^ 32 }
     {
         kept_groups(&self.relations, FieldKind::Provides)
     }
@@ -210,7 +228,8 @@ impl Stanza {
     /// What the stanza offers: its own name at its version, and then each entry of its `Provides`, at the version of that
     /// entry if it has one. None where the stanza isn't live.
     pub fn offers(&self) -> &[Offer]
-        ensures { result.now ≡ offers_of self.now }
+        ensures offers { result.now ≡ offers_of self.now }
+        ensures few { length result.now < 2 ^ 32 }
     {
         &self.offers
     }

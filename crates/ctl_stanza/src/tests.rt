@@ -1,8 +1,8 @@
 //! Worked texts, each with what it is read to.
 
 use crate::{
-    Cause, ListKind, MAX_LINE, TextFault, read_records, read_stanzas, stanzas_are_runs,
-    stanzas_keep_lines, told_fault_is_least, told_record_fault_is_least,
+    Cause, ListKind, MAX_LINE, TextFault, lines_take_bytes, read_records, read_stanzas,
+    stanzas_are_runs, stanzas_keep_lines, told_fault_is_least, told_record_fault_is_least,
 };
 use ctl_relation::FieldKind;
 use std::alloc::{AllocError, Global};
@@ -10,6 +10,7 @@ use std::test::Fail;
 
 // Whether a list has this fault.
 fn list_has_fault(alloc: Global, kind: ListKind, text: &[u8], line: u64, cause: Cause) -> bool {
+    lines_take_bytes();
     match read_stanzas(alloc, text, 1, kind) {
         Ok(_) => false,
         Err(fault) => fault == TextFault { line, cause },
@@ -23,6 +24,7 @@ fn has_fault(alloc: Global, text: &[u8], line: u64, cause: Cause) -> bool {
 
 // Whether a packages list is read to so many stanzas.
 fn has_stanzas(alloc: Global, text: &[u8], count: usize) -> bool {
+    lines_take_bytes();
     match read_stanzas(alloc, text, 1, ListKind::Packages) {
         Ok(stanzas) => stanzas.len() == count,
         Err(_) => false,
@@ -219,6 +221,7 @@ fn states_say_what_is_live(rt: HostRuntime) -> Result<(), Fail> {
             b"Package: a\nVersion: 1\nProvides: b\nStatus:",
         )?;
         text.extend_from_slice(state)?;
+        lines_take_bytes();
         let stanzas = read_stanzas(rt.alloc(), &text, 1, ListKind::Status)?;
         assert_eq!(rt; stanzas.len(), 1);
         assert_eq!(rt; stanzas[0].is_live(), is_live, "{state:?}");
@@ -234,6 +237,7 @@ fn little_is_asked_of_stanzas_that_are_not_live(rt: HostRuntime) -> Result<(), F
     // No version is asked for, and neither it nor the relation fields are checked.
     let text: &[u8] =
         b"Package: a\nStatus: purge ok not-installed\n\nPackage: b\nStatus: deinstall ok config-files\nVersion: 1_0\nDepends: a [x]";
+    lines_take_bytes();
     let stanzas = read_stanzas(rt.alloc(), text, 1, ListKind::Status)?;
     assert_eq!(rt; stanzas.len(), 2);
     for stanza in &stanzas {
@@ -321,6 +325,7 @@ fn bodies_have_a_limit(rt: HostRuntime) -> Result<(), AllocError> {
 
 #[test]
 fn lines_count_from_the_first(rt: HostRuntime) {
+    lines_take_bytes();
     let found = read_stanzas(
         rt.alloc(),
         b"\nPackage: a\nVersion: 1\noops",
@@ -341,6 +346,7 @@ fn lines_count_from_the_first(rt: HostRuntime) {
 #[test]
 fn parts_are_lent(rt: HostRuntime) -> Result<(), Fail> {
     let text: &[u8] = b"\nPACKAGE:  a \nVersion: 1:2\nEmpty:\nRaw:\xff \xfe\t";
+    lines_take_bytes();
     let stanzas = read_stanzas(rt.alloc(), text, 1, ListKind::Packages)?;
     assert_eq!(rt; stanzas.len(), 1);
     let stanza = &stanzas[0];
@@ -382,6 +388,7 @@ fn bodies_are_their_lines(rt: HostRuntime) -> Result<(), Fail> {
         (b"four", b"\n z\n w"),
         (b"five", b"v"),
     ];
+    lines_take_bytes();
     let stanzas = read_stanzas(rt.alloc(), text, 1, ListKind::Packages)?;
     assert_eq!(rt; stanzas.len(), 1);
     for (name, body) in rows {
@@ -395,6 +402,7 @@ fn bodies_are_their_lines(rt: HostRuntime) -> Result<(), Fail> {
 fn relations_are_lent(rt: HostRuntime) -> Result<(), Fail> {
     let text: &[u8] =
         b"Package: a\nDEPENDS: b | c (>= 1),\n d\nVersion: 1:2\nProvides: e, f (= 3)\nBreaks: g";
+    lines_take_bytes();
     let stanzas = read_stanzas(rt.alloc(), text, 1, ListKind::Packages)?;
     assert_eq!(rt; stanzas.len(), 1);
     let stanza = &stanzas[0];
@@ -430,6 +438,7 @@ fn relations_are_lent(rt: HostRuntime) -> Result<(), Fail> {
 #[test]
 fn relations_go_on_over_lines(rt: HostRuntime) -> Result<(), Fail> {
     let text: &[u8] = b"Package: a\nVersion: 1\nDepends:\n x (>=\n  1) |\n y\n";
+    lines_take_bytes();
     let stanzas = read_stanzas(rt.alloc(), text, 1, ListKind::Packages)?;
     assert_eq!(rt; stanzas.len(), 1);
     let depends = stanzas[0].groups(FieldKind::Depends);

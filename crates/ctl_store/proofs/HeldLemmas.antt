@@ -16,26 +16,26 @@ module _ {X : Type 0} {P Q : X → Type 0} (f : (x : X) → P x → Q x) where
   weaken (x ∷ xs) h = (f x h.0, weaken xs h.1)
 
 module _ {X : Type 0} where
-  first_is : (b c : Bool) (x : X) (o : Option X) → b ≡ true → c ≡ true → IsSome (cond b (cond c (Some x) o) None)
+  pub first_is : (b c : Bool) (x : X) (o : Option X) → b ≡ true → c ≡ true → IsSome (cond b (cond c (Some x) o) None)
   first_is b c x o e f = subst (λ b. IsSome (cond b (cond c (Some x) o) None)) (sym e) (subst (λ c. IsSome (cond c (Some x) o)) (sym f) refl)
 
-  later_is : (b c : Bool) (x : X) (o : Option X) → IsSome (cond b o None) → IsSome (cond b (cond c (Some x) o) None)
+  pub later_is : (b c : Bool) (x : X) (o : Option X) → IsSome (cond b o None) → IsSome (cond b (cond c (Some x) o) None)
   later_is true true x o h = refl
   later_is true false x o h = h
   later_is false c x o h = h
 
-  either_first : (a b : Option X) → IsSome a → IsSome (option_or a b)
+  pub either_first : (a b : Option X) → IsSome a → IsSome (option_or a b)
   either_first (Some x) b h = h
   either_first None b h = absurd (let w : ⊥ = cc in w)
 
-  either_second : (a b : Option X) → IsSome b → IsSome (option_or a b)
+  pub either_second : (a b : Option X) → IsSome b → IsSome (option_or a b)
   either_second (Some x) b h = refl
   either_second None b h = h
 
-same : (n : ℕ) → nat_eq n n ≡ true
+pub same : (n : ℕ) → nat_eq n n ≡ true
 same n = grind (arith, nat_tests)
 
-abbrev in_some : ℕ → List (ℕ × Content) → StanzaKey → Type 0
+abbrev pub in_some : ℕ → List (ℕ × Content) → StanzaKey → Type 0
 in_some list rs k = IsSome (cond (nat_eq list k.list) (lookup (λ s. nat_eq s k.stanza) rs) None)
 
 rows_there : (list : ℕ) (rs : List (ℕ × Content)) → AllByRecursion (in_some list rs) (map (λ (r : ℕ × Content). key_of list r.0) rs)

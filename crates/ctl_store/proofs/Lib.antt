@@ -25,3 +25,5 @@ pub mod HeldLemmas
 pub mod FindLemmas
 pub mod WordLemmas
 pub mod PrefsLemmas
+pub mod ChangeLemmas
+pub mod EntryLemmas

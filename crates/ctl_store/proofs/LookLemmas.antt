@@ -4,7 +4,7 @@ use Rattle.std.specs.Map.{lookup}
 use Rattle.std.specs.Option.{option_or}
 use Rattle.ctl_stanza.specs.Content.{Content}
 use Rattle.ctl_store.specs.declared.stanza_key.StanzaKey.{StanzaKey}
-use Rattle.ctl_store.specs.Keys.{stanza_at, list_at}
+use Rattle.ctl_store.specs.Keys.{stanza_at, list_at, holder_of}
 use Rattle.ctl_store.specs.Held.{Sheet, lists_of, InOrder, entry_of}
 use Rattle.ctl_store.proofs.PlaceLemmas.{gt_ne, is_eq_from, if_cases}
 
@@ -37,3 +37,14 @@ list_at_entry serial (x ∷ es) = ap (cond (nat_eq x.1.serial serial) (Some x.0)
 
 pub not_none : {X : Type 0} {P : Type 0} (o : Option X) → IsSome o → o ≡ None → P
 not_none o h e = let z : is_some o ≡ false = ap is_some e in absurd (let w : ⊥ = cc in w)
+
+-- the list of its serial holds a key that has a stanza
+pub holder_is : (k : StanzaKey) (n : ℕ) (es : List (List ℕ × Sheet)) (m e : ℕ) → InOrder n (lists_of es) m e → IsSome (stanza_at k (lists_of es)) → holder_of k (lists_of es) ≡ list_at k.list (lists_of es)
+holder_is k n [] m e h there = refl
+holder_is k n (x ∷ es) m e h there = by (nat_eq x.1.serial k.list) refl (lookup (λ s. nat_eq s k.stanza) x.1.rows) there (λ g. holder_is k (suc x.1.serial) es m e h.3 g)
+  where
+    by : (b : Bool) → nat_eq x.1.serial k.list ≡ b → (o : Option Content) → IsSome (option_or (cond b o None) (stanza_at k (lists_of es))) → (IsSome (stanza_at k (lists_of es)) → holder_of k (lists_of es) ≡ list_at k.list (lists_of es))
+        → cond (is_some (cond b o None)) (Some x.0) (holder_of k (lists_of es)) ≡ cond b (Some x.0) (list_at k.list (lists_of es))
+    by true is (Some y) there rest = refl
+    by true is None there rest = not_none (stanza_at k (lists_of es)) there (none_later k (suc x.1.serial) es m e (let z : x.1.serial ≡ k.list = is_eq_from x.1.serial k.list is in omega arith) h.3)
+    by false is o there rest = rest there

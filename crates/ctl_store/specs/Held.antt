@@ -17,7 +17,7 @@ use Rattle.ctl_store.specs.Edits.{Edit, AddList, DropList, Put, Remove, Mark, Un
 use Rattle.ctl_store.specs.Step.{refusal_of}
 use Rattle.ctl_store.specs.Rows.{Rises, IsKept}
 use Rattle.ctl_store.specs.Pieces.{joined, IsFit}
-use Rattle.ctl_store.specs.Keys.{KeyedList, Keyed, stanza_lists, removed_of, added_of, AreComing}
+use Rattle.ctl_store.specs.Keys.{KeyedList, Keyed, stanza_lists, removed_of, added_of, AreComing, AreHeld, AreNew}
 
 -- a list with the room for more of its rows, and in its order
 pub record Sheet : Type 0 where
@@ -199,9 +199,12 @@ IsProper (Unpin selector) = Unit {0}
 IsProper (Target name) = Unit {0}
 IsProper (Prefs pins) = AreDistinct pins
 
--- a plan whose edit is accepted, for which there is room, and whose keys are those that go and come
+-- A plan whose edit is accepted, for which there is room, and whose keys are those that go and come. Each that goes has
+-- a stanza, and one that only comes has none.
 pub record IsReady (h : Held) (plan : Planned) : Type 0 where
   pub accepted : refusal_of h.limits (state_of h) plan.edit ≡ None
   pub room : HasRoom h (ready_of plan) plan.edit
   pub removed : plan.removed ≡ removed_of (keyed_of h) plan.edit
   pub added : plan.added ≡ added_of (keyed_of h) plan.edit
+  pub goes : AreHeld plan.removed (keyed_of h).lists
+  pub comes : AreNew plan.added plan.removed (keyed_of h).lists

@@ -1,5 +1,5 @@
 -- The keys of stanzas, and the lists with the serial numbers in them.
-use Rattle.std.specs.Prelude.{◌≡◌, ℕ, ◌+◌, List, [], ◌∷◌, ◌++◌, map, take, drop, length, Option, None, Some, IsSome, slice_get, if◌then◌else◌, nat_eq, Bool, false, ◌&&◌}
+use Rattle.std.specs.Prelude.{◌≡◌, ℕ, ◌+◌, List, [], ◌∷◌, ◌++◌, map, take, drop, length, Option, None, Some, IsSome, is_some, slice_get, if◌then◌else◌, nat_eq, Bool, false, ◌&&◌}
 use Rattle.std.specs.List.{AllByRecursion}
 use Rattle.std.specs.Map.{lookup}
 use Rattle.std.specs.Option.{option_or, option_map_or}
@@ -201,3 +201,20 @@ coming (Prefs pins) k = None
 -- under each key a stanza comes
 abbrev pub AreComing : List StanzaKey → Edit → Type 0
 AreComing ks edit = AllByRecursion (λ k. IsSome (coming edit k)) ks
+
+-- under each key that comes stands the stanza that comes
+abbrev pub AreCome : List StanzaKey → Edit → List (List ℕ × KeyedList) → Type 0
+AreCome ks edit ls = AllByRecursion (λ k. stanza_at k ls ≡ coming edit k) ks
+
+-- under a key that goes and doesn't come stands none
+abbrev pub AreGone : List StanzaKey → List StanzaKey → List (List ℕ × KeyedList) → Type 0
+AreGone removed added ls = AllByRecursion (λ k. IsNotAmong k added → stanza_at k ls ≡ None) removed
+
+-- a key that comes and doesn't go is that of no stanza
+abbrev pub AreNew : List StanzaKey → List StanzaKey → List (List ℕ × KeyedList) → Type 0
+AreNew added removed ls = AllByRecursion (λ k. IsNotAmong k removed → stanza_at k ls ≡ None) added
+
+-- the name of the list that holds a key
+abbrev pub holder_of : StanzaKey → List (List ℕ × KeyedList) → Option (List ℕ)
+holder_of k [] = None
+holder_of k (l ∷ ls) = if is_some (in_rows k l.1) then Some l.0 else holder_of k ls

@@ -16,4 +16,5 @@ pub mod Step
 pub mod Rows
 pub mod Pieces
 pub mod Keys
+pub mod Entries
 pub mod Held

@@ -28,5 +28,5 @@ pub use prefs::read_prefs;
 pub use priority::read_priority;
 pub use refusal::Refusal;
 pub use selector::{PinSetting, Selector};
-pub use stanza_key::StanzaKey;
-pub use store::{Lists, Pins, Stanzas, Store};
+pub use stanza_key::{StanzaKey, compare_keys};
+pub use store::{CommittedKeys, Keys, Lists, Pins, Stanzas, Store};

@@ -15,11 +15,12 @@ use crate::limits::Limits;
 use crate::selector::Selector;
 use crate::shelf::Shelf;
 use crate::table::Table;
+pub use committing::CommittedKeys;
 use ctl_relation::{Bytes, Version};
 use indexmap::IndexMap;
 use std::alloc::Global;
 use std::marker::Model;
-pub use views::{Lists, Pins, Stanzas};
+pub use views::{Keys, Lists, Pins, Stanzas};
 
 /// Lists of stanzas, marks of packages, pin settings and a target release. It is changed by one edit at a time:
 /// [`prepare`](Store::prepare) accepts it and takes all memory, and [`commit`](Store::commit) makes it.

@@ -6,7 +6,7 @@ ghost use Rattle.ctl_store.specs.Held.{IsProper, AreDistinct};
 
 use crate::words::Words;
 use anyhow::{Context, Result, bail};
-use ctl_stanza::{ListKind, Stanza, read_stanzas};
+use ctl_stanza::{ListKind, Stanza, lines_take_bytes, read_stanzas};
 use ctl_store::{Edit, ListClass, PinSetting, PinVersion, Selector, boxed};
 use indexmap::IndexMap;
 use std::alloc::{AllocError, Global};
@@ -35,6 +35,7 @@ fn kind(words: &mut Words<'_>) -> Result<ListKind> {
 // The stanzas of the next word, which is a text of a list of this kind.
 fn stanzas(alloc: Global, words: &mut Words<'_>, kind: ListKind) -> Result<Vec<Box<Stanza>>> {
     let text = words.bytes()?;
+    lines_take_bytes();
     let read = read_stanzas(alloc, text.as_slice(), 1, kind)
         .ok()
         .context("a text with a fault")?;

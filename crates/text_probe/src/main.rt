@@ -7,7 +7,7 @@
 mod parts;
 
 use anyhow::{Context, Result};
-use ctl_stanza::{ListKind, TextFault, read_records, read_stanzas};
+use ctl_stanza::{ListKind, TextFault, lines_take_bytes, read_records, read_stanzas};
 use parts::{append_record, append_stanza};
 use std::alloc::{AllocError, Global};
 use std::env::{self, Env};
@@ -41,6 +41,7 @@ fn append_answer(
     text: &[u8],
     line: &mut Vec<u8>,
 ) -> Result<(), AllocError> {
+    lines_take_bytes();
     match kind {
         Kind::List(kind) => match read_stanzas(alloc, text, 1, *kind) {
             Err(fault) => append_fault(alloc, fault, line),
@@ -70,6 +71,7 @@ fn append_count(
     text: &[u8],
     line: &mut Vec<u8>,
 ) -> Result<(), AllocError> {
+    lines_take_bytes();
     let read = match kind {
         Kind::List(kind) => read_stanzas(alloc, text, 1, *kind).map(|stanzas| stanzas.len()),
         Kind::Records => read_records(alloc, text, 1).map(|records| records.len()),

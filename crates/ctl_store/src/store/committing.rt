@@ -1,15 +1,15 @@
 //! Plans are carried out.
 
-ghost use Rattle.std.specs.Prelude.{◌≡◌, ◌+◌, ◌-◌, ◌<◌, ◌≤◌, [], None, IfSome, length, map, vec_len};
+ghost use Rattle.std.specs.Prelude.{◌≡◌, ◌+◌, ◌-◌, ◌<◌, ◌≤◌, [], None, IsSome, IfSome, length, map, vec_len};
 ghost use Rattle.ctl_store.specs.Named.{at_name};
 ghost use Rattle.ctl_store.specs.Pins.{selector_eq};
 ghost use Rattle.ctl_store.specs.Edits.{edit_of, settings_of};
 ghost use Rattle.ctl_store.specs.Edits as edits;
 ghost use Rattle.ctl_store.specs.Step.{after, refusal_of};
 ghost use Rattle.ctl_stanza.specs.Content.{package_of, version_of};
-ghost use Rattle.ctl_store.specs.Keys.{keyed_after, removed_of, found_in, all_in, IsNotAmong, stanza_at};
+ghost use Rattle.ctl_store.specs.Keys.{keyed_after, removed_of, found_in, all_in, IsNotAmong, stanza_at, AreCome, AreGone};
+ghost use Rattle.ctl_store.specs.Entries.{IsChange};
 ghost use Rattle.ctl_store.specs.Held.{state_of, keyed_of, IsReady, HasRoom, HasRoomInList, Fits, AreDistinct};
-ghost use Rattle.ctl_store.specs.declared.stanza_key.StanzaKey.{StanzaKey};
 ghost use Rattle.indexmap.specs.IndexMap.{insert_entry, spare};
 
 use crate::edit::Edit;
@@ -17,6 +17,7 @@ use crate::list_class::ListClass;
 use crate::plan::Plan;
 use crate::selector::{PinSetting, Selector};
 use crate::shelf::{ListRoom, Shelf};
+use crate::stanza_key::StanzaKey;
 use crate::store::Store;
 use crate::store::checking::one_if_status;
 use ctl_relation::{Bytes, Version};
@@ -55,6 +56,15 @@ fn set_pins(pins: &mut IndexMap<Selector, i16>, settings: Vec<PinSetting>)
     }
 }
 
+/// The keys of an edit that was made, by [`Store::commit_with_keys`].
+#[derive(Drop)]
+pub struct CommittedKeys {
+    /// The keys that went. That of a stanza that was replaced is among them.
+    pub removed: Vec<StanzaKey>,
+    /// The keys that came. That of a stanza that replaced another is among them.
+    pub added: Vec<StanzaKey>,
+}
+
 impl Store {
     /// Makes the edit of a plan, which this store accepts and has room for: that of the last call of
     /// [`prepare`](Store::prepare) is one, while nothing was committed since. It takes no memory.
@@ -64,17 +74,48 @@ impl Store {
         ensures keyed { keyed_of self.new ≡ keyed_after (keyed_of self.old) plan.edit }
         ensures limits { self.new.limits ≡ self.old.limits }
 
-        // A key that neither goes nor comes keeps its stanza.
-        ensures stays { (k : StanzaKey) → IsNotAmong k plan.removed → IsNotAmong k plan.added → stanza_at k (keyed_of self.new).lists ≡ stanza_at k (keyed_of self.old).lists }
+        // Under a key that comes stands its stanza, and none under one that goes.
+        ensures comes { AreCome plan.added plan.edit (keyed_of self.new).lists }
+        ensures goes { AreGone plan.removed plan.added (keyed_of self.new).lists }
+
+        // A key that has a stanza and doesn't go keeps it.
+        ensures stays { (k : StanzaKey) → IsSome (stanza_at k (keyed_of self.old).lists) → IsNotAmong k plan.removed → stanza_at k (keyed_of self.new).lists ≡ stanza_at k (keyed_of self.old).lists }
+
+        // In the order of all stanzas, what goes stood in one place, and what comes stands there.
+        ensures change { IsChange (keyed_of self.old).lists (keyed_of self.new).lists plan.removed plan.added plan.edit }
+    {
+        let _ = self.commit_with_keys(plan);
+    }
+
+    /// Makes the edit of a plan as [`commit`](Store::commit) does, and hands its keys back. It takes no memory.
+    pub fn commit_with_keys(&mut self, plan: Plan) -> CommittedKeys
+        requires { IsReady self.old plan }
+        ensures state { state_of self.new ≡ after (state_of self.old) plan.edit }
+        ensures keyed { keyed_of self.new ≡ keyed_after (keyed_of self.old) plan.edit }
+        ensures limits { self.new.limits ≡ self.old.limits }
+
+        // Under a key that comes stands its stanza, and none under one that goes.
+        ensures comes { AreCome plan.added plan.edit (keyed_of self.new).lists }
+        ensures goes { AreGone plan.removed plan.added (keyed_of self.new).lists }
+
+        // A key that has a stanza and doesn't go keeps it.
+        ensures stays { (k : StanzaKey) → IsSome (stanza_at k (keyed_of self.old).lists) → IsNotAmong k plan.removed → stanza_at k (keyed_of self.new).lists ≡ stanza_at k (keyed_of self.old).lists }
+
+        // In the order of all stanzas, what goes stood in one place, and what comes stands there.
+        ensures change { IsChange (keyed_of self.old).lists (keyed_of self.new).lists plan.removed plan.added plan.edit }
+        ensures removed { result.removed.items ≡ plan.removed }
+        ensures added { result.added.items ≡ plan.added }
     {
         let Plan {
             edit,
             removed,
-            added: _added,
+            added,
             list_room,
             pins,
         } = plan;
+        let _limits = self.limits;
         self.make(edit, removed.len(), list_room, pins);
+        CommittedKeys { removed, added }
     }
 
     // Makes an edit by which so many keys go, and for which this is ready: room for a list, and for pins.

@@ -8,7 +8,8 @@ ghost use Rattle.ctl_stanza.specs.Content.{package_of, version_of};
 ghost use Rattle.ctl_store.specs.Edits.{edit_of};
 ghost use Rattle.ctl_store.specs.Step.{refusal_of};
 ghost use Rattle.ctl_store.specs.Rows.{rows_from};
-ghost use Rattle.ctl_store.specs.Keys.{removed_of, added_of, found_of, found_in, kept_in, next_in, all_in, key_of};
+ghost use Rattle.ctl_store.specs.Keys.{keyed_after, removed_of, added_of, found_of, found_in, kept_in, next_in, all_in, key_of};
+ghost use Rattle.ctl_store.specs.Entries.{IsChange};
 ghost use Rattle.ctl_store.specs.Held.{state_of, keyed_of, IsReady, IsProper, IsReadyFor, HasRoomIn};
 
 use crate::edit::Edit;
@@ -188,6 +189,8 @@ impl Store {
         ensures limits { self.new.limits ≡ self.old.limits }
         ensures ready { IfOk result (λ plan. IsReady self.new plan) }
         ensures same { IfOk result (λ plan. plan.edit ≡ edit_of edit) }
+        // what the edit will make of the stanzas
+        ensures change { IfOk result (λ plan. IsChange (keyed_of self.new).lists (keyed_after (keyed_of self.new) plan.edit).lists plan.removed plan.added plan.edit) }
         ensures back { IfErr result (λ e. e.0 ≡ edit) }
         ensures refused { IfErr result (λ e. e.1 ≢ refusal.Memory → refusal_of self.old.limits (state_of self.old) (edit_of edit) ≡ Some e.1) }
     {

@@ -1,14 +1,15 @@
 //! What a store holds, lent.
 
-ghost use Rattle.std.specs.Prelude.{◌≡◌, ◌+◌, ℕ, IsSome, Some, [], map, option_map, option_copied};
+ghost use Rattle.std.specs.Prelude.{◌≡◌, ◌+◌, ◌++◌, ◌∷◌, ℕ, IsSome, IfSome, IfNone, Some, [], map, option_map, option_copied};
 ghost use Rattle.std.specs.FinMap as fin;
 ghost use Rattle.ctl_store.specs.State.{stanza_count, shown_lists, stanzas_named};
 ghost use Rattle.ctl_store.specs.Pieces.{joined, ArePieces};
-ghost use Rattle.ctl_store.specs.Keys.{key_of, all_in, all_keys, AreRising, AreHeld, stanza_at, list_at};
+ghost use Rattle.ctl_store.specs.Keys.{key_of, all_in, all_keys, AreRising, AreHeld, stanza_at, holder_of};
 ghost use Rattle.ctl_store.specs.Named.{at_name, by_bytes};
 ghost use Rattle.std.specs.List.{IsDistinct};
 ghost use Rattle.std.specs.Map.{keys_of as names_of};
 ghost use Rattle.std.specs.Str.{bytes_eq};
+ghost use Rattle.ctl_store.specs.Entries.{entry_keys, entries_of, AreAt};
 ghost use Rattle.ctl_store.specs.Held.{state_of, keyed_of, lists_of, InOrder, entry_of};
 ghost use Rattle.ctl_store.specs.declared.limits.Counts.{Counts};
 
@@ -116,6 +117,64 @@ impl<'a> Iterator for Stanzas<'a> {
     }
 }
 
+/// The keys of all stanzas of a store, by [`Store::keys`], in order.
+#[derive(Drop)]
+pub struct Keys<'a> {
+    // What is left of a list, and the lists after it.
+    stanzas: Stanzas<'a>,
+    lists: Slice<'a, Vec<u8>, Shelf>,
+}
+
+impl<'a> Model for Keys<'a> {
+    ghost use Rattle.std.specs.Prelude.{List, map, ◌++◌};
+    ghost use Rattle.ctl_store.specs.declared.stanza_key.StanzaKey.{StanzaKey};
+    ghost use Rattle.ctl_store.specs.Named.{by_bytes};
+    ghost use Rattle.ctl_store.specs.Keys.{all_keys};
+    ghost use Rattle.ctl_store.specs.Held.{lists_of};
+
+    ghost Value = { List StanzaKey };
+
+    ghost view = { λ it. it.stanzas ++ all_keys (lists_of (map by_bytes it.lists)) };
+}
+
+// Takes the first key of some lists. What is left of its list takes the place of no stanzas.
+fn take_first<'a>(
+    stanzas: &mut Stanzas<'a>,
+    lists: &mut Slice<'a, Vec<u8>, Shelf>,
+) -> Option<StanzaKey>
+    requires { stanzas.old ≡ [] }
+    ensures some { IfSome result (λ key. all_keys (lists_of (map by_bytes lists.old)) ≡ key ∷ (stanzas.new ++ all_keys (lists_of (map by_bytes lists.new)))) }
+    ensures none { IfNone result (all_keys (lists_of (map by_bytes lists.old)) ≡ []) }
+    ensures ended { IfNone result (stanzas.new ++ all_keys (lists_of (map by_bytes lists.new)) ≡ []) }
+{
+    'lists: while let Some(((_, shelf), rest)) = lists.split_first() {
+        *lists = rest;
+        *stanzas = shelf.keys();
+        match stanzas.next() {
+            Some(key) => return Some(key),
+            None => {}
+        }
+    }
+    None
+}
+
+impl<'a> Iterator for Keys<'a> {
+    ghost use Rattle.std.specs.Iterator.{YieldsFirst, item_count};
+
+    ghost next_gives = { YieldsFirst (λ rest. rest) };
+
+    ghost remaining = { item_count (λ rest. rest) };
+
+    type Item = StanzaKey;
+
+    fn next(&mut self) -> Option<StanzaKey> {
+        match self.stanzas.next() {
+            Some(key) => Some(key),
+            None => take_first(&mut self.stanzas, &mut self.lists),
+        }
+    }
+}
+
 /// The pin settings of a store, by [`Store::pins`]: selectors with priorities, in order.
 #[derive(Drop)]
 pub struct Pins<'a> {
@@ -181,6 +240,32 @@ impl Store {
         }
     }
 
+    /// The kind and the class of a list, if there is a list of this name.
+    #[tactic(auto, using(crate::proofs::ListedLemmas::at_name_held))]
+    pub fn list(&self, name: &[u8]) -> Option<(ListKind, ListClass)>
+        ensures { result ≡ option_map (λ l. (l.kind, l.class)) (at_name name.now (state_of self.now).lists) }
+    {
+        match self.lists.get(name) {
+            Some(shelf) => Some((shelf.kind(), shelf.class())),
+            None => None,
+        }
+    }
+
+    /// The keys of all stanzas, list by list and stanza by stanza.
+    pub fn keys(&self) -> Keys<'_>
+        ensures keys { result ≡ all_keys (keyed_of self.now).lists }
+        // those of all stanzas, each with its stanza
+        ensures entries { result ≡ entry_keys (entries_of (keyed_of self.now).lists) }
+        ensures stanzas { AreAt (entries_of (keyed_of self.now).lists) (keyed_of self.now).lists }
+        // they rise
+        ensures order { AreRising result }
+    {
+        Keys {
+            stanzas: Stanzas::new(0, &[]),
+            lists: self.lists.entries(),
+        }
+    }
+
     /// The keys of the stanzas of a list, in order. Of a list that is not there it has none.
     #[tactic(auto, using(crate::proofs::ListedLemmas::at_name_lists))]
     pub fn stanzas(&self, list: &[u8]) -> Stanzas<'_>
@@ -208,10 +293,20 @@ impl Store {
         }
     }
 
+    /// The stanza of a key, if it is one of the store.
+    pub fn find(&self, key: StanzaKey) -> Option<&Stanza>
+        ensures { option_copied result ≡ stanza_at key (keyed_of self.now).lists }
+    {
+        match entry_of(self.lists.entries(), key.list) {
+            Some((_, shelf)) => shelf.stanza(key.stanza),
+            None => None,
+        }
+    }
+
     /// The name of the list of a key, which is one of the store.
     pub fn list_of(&self, key: StanzaKey) -> &[u8]
         requires { IsSome (stanza_at key (keyed_of self.now).lists) }
-        ensures { Some result.now ≡ list_at key.list (keyed_of self.now).lists }
+        ensures { Some result.now ≡ holder_of key (keyed_of self.now).lists }
     {
         match entry_of(self.lists.entries(), key.list) {
             Some((name, _)) => name,

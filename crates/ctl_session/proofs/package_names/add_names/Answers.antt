@@ -17,7 +17,7 @@ keys-preserved-in-Continue-1 c =
     let live : is_live c.stanza-stanza.result.now ≡ true = sym c.is_live.ensures ∙ c.if-is_live.true in
     keys_more c.in-Some.key c.stanza-stanza.result.now c.in-Some.ensures.steps c.stanza-stanza.ensures c.keys.invariant
     (λ name. c.in_ok-add_name.ensures name ∙ ap (λ own. (starts_with nat_eq name c.args.prefix.now && own) || is_among (lent_names c.keys.names.keys) name)
-    (ap (bytes_eq name) c.package.ensures ∙ sym (ap (λ t. t && bytes_eq name (package_of c.stanza-stanza.result.now)) live)))
+    (ap (bytes_eq name) c.package.ensures.body ∙ sym (ap (λ t. t && bytes_eq name (package_of c.stanza-stanza.result.now)) live)))
 
 pub keys-preserved : goal.keys-preserved
 keys-preserved c =

@@ -8,7 +8,7 @@ use Rattle.ctl_stanza.proofs.reading.read_stanzas.Given as goal
 abbrev pub invariant-pieces : goal.invariant-pieces
 invariant-pieces l = record {
   names : HoldsNone l.names;
-  within : l.line + length l.left ≤ l.first_line + length l.text;
+  within : l.line + length (lines_of l.left) ≤ l.first_line + length (lines_of l.text);
   told : with_contents l.stanzas.items (read_pieces l.kind (pieces_of l.line (lines_of l.left))) ≡ read_text l.kind l.first_line l.text;
 }
 

@@ -11,7 +11,7 @@ returns-in_default-Some-clause-shelved c =
     let ps = c.args.rows.now.pieces in
     let x = c.args.stanza.value in
     let spot = c.in_default-Some.spot in
-    let moved : place (by_name_and_version c.package.result.now (option_copied c.version.result)) (joined c.as_slice.result.now) ≡ place (by_name_and_version (package_of x) (version_of x)) (joined ps.items) = λ j. place (by_name_and_version ((c.package.ensures ∙ ap package_of c.deref.ensures) j) ((c.version.ensures ∙ ap version_of c.deref-2.ensures) j)) (joined (c.as_slice.ensures j)) in
+    let moved : place (by_name_and_version c.package.result.now (option_copied c.version.result)) (joined c.as_slice.result.now) ≡ place (by_name_and_version (package_of x) (version_of x)) (joined ps.items) = λ j. place (by_name_and_version ((c.package.ensures.body ∙ ap package_of c.deref.ensures) j) ((c.version.ensures.version ∙ ap version_of c.deref-2.ensures) j)) (joined (c.as_slice.ensures j)) in
     let found : place (by_name_and_version (package_of x) (version_of x)) (joined ps.items) ≡ Some (place_of_spot ps.items spot) =
     sym moved ∙ sym c.look_up-place.ensures.place ∙ ap (option_map (λ s. place_of_spot c.as_slice.result.now s)) c.in_default-Some.is-1 ∙ (λ j. Some (place_of_spot (c.as_slice.ensures j) spot)) in
     shelved_replace ps c.args.rows.now.ready c.args.next.now c.args.order.now.pieces c.args.order.now.ready c.requires.shelved x (place_of_spot ps.items spot) c.replace_row.new.rows found
@@ -25,10 +25,10 @@ returns-in_default-None-clause-shelved c =
     let next = c.args.next.now in
     let x = c.args.stanza.value in
     let spot = c.look_up-place.result.0 in
-    let moved : place (by_name_and_version c.package.result.now (option_copied c.version.result)) (joined c.as_slice.result.now) ≡ place (by_name_and_version (package_of x) (version_of x)) (joined ps.items) = λ j. place (by_name_and_version ((c.package.ensures ∙ ap package_of c.deref.ensures) j) ((c.version.ensures ∙ ap version_of c.deref-2.ensures) j)) (joined (c.as_slice.ensures j)) in
+    let moved : place (by_name_and_version c.package.result.now (option_copied c.version.result)) (joined c.as_slice.result.now) ≡ place (by_name_and_version (package_of x) (version_of x)) (joined ps.items) = λ j. place (by_name_and_version ((c.package.ensures.body ∙ ap package_of c.deref.ensures) j) ((c.version.ensures.version ∙ ap version_of c.deref-2.ensures) j)) (joined (c.as_slice.ensures j)) in
     let none : place (by_name_and_version (package_of x) (version_of x)) (joined ps.items) ≡ None =
     sym moved ∙ sym c.look_up-place.ensures.place ∙ ap (option_map (λ s. place_of_spot c.as_slice.result.now s)) c.in_default-None.is-1 in
-    let same : id c.package.result.now (option_copied c.version.result) ≡ id_of x = λ j. id ((c.package.ensures ∙ ap package_of c.deref.ensures) j) ((c.version.ensures ∙ ap version_of c.deref-2.ensures) j) in
+    let same : id c.package.result.now (option_copied c.version.result) ≡ id_of x = λ j. id ((c.package.ensures.body ∙ ap package_of c.deref.ensures) j) ((c.version.ensures.version ∙ ap version_of c.deref-2.ensures) j) in
     let at : place_of_spot order.items spot ≡ lower (id_of x) (sorted_ids (ids_of (joined ps.items))) =
     (λ j. place_of_spot (sym c.as_slice-2.ensures j) spot) ∙ c.look_up-place.ensures.order ∙ (λ j. lower (same j) (sorted_ids (ids_of (joined (c.as_slice.ensures j))))) in
     let items : joined c.push.new.self.pieces.items ≡ joined ps.items ++ (next, x) ∷ [] = c.push.ensures.items ∙ ap (λ r. joined ps.items ++ r ∷ []) c.new.ensures in

@@ -1,7 +1,7 @@
-use Rattle.std.proofs.Common.{ℕ, List, Some, option_map, ◌∙◌, ap, sym, subst, ◌+◌}
-use Rattle.ctl_store.specs.Keys.{stanza_at, list_at}
+use Rattle.std.proofs.Common.{ℕ, List, Some, option_map, IsSome, ◌∙◌, ap, sym, subst, ◌+◌}
+use Rattle.ctl_store.specs.Keys.{stanza_at, list_at, holder_of}
 use Rattle.ctl_store.specs.Held.{Sheet, lists_of, InOrder, entry_of}
-use Rattle.ctl_store.proofs.LookLemmas.{look_up, list_at_entry, not_none, in_entry}
+use Rattle.ctl_store.proofs.LookLemmas.{look_up, list_at_entry, not_none, in_entry, holder_is}
 use Rattle.ctl_store.proofs.store.Store.list_of.Goals as goal
 
 pub entry_of-requires : goal.entry_of-requires
@@ -23,3 +23,4 @@ returns c =
     let k = c.args.key in
     let found = c.in-Some.ensures ∙ ap (entry_of k.list) c.entries.ensures.entries in
     ap Some c.deref.ensures.value ∙ ap (option_map (λ (e : List ℕ × Sheet). e.0)) found ∙ sym (list_at_entry k.list s.lists.0) ∙ ap (λ h. list_at k.list (lists_of h.lists)) c.self.view_is
+    ∙ sym (ap (λ h. holder_of k (lists_of h.lists)) (sym c.self.view_is) ∙ holder_is k 0 s.lists.0 s.next_list (s.limits.stanzas + s.edits) c.self.invariant.order (subst (λ h. IsSome (stanza_at k (lists_of h.lists))) (sym c.self.view_is) c.requires) ∙ ap (λ h. list_at k.list (lists_of h.lists)) c.self.view_is)

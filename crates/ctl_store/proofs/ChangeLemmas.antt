@@ -1,0 +1,340 @@
+-- What an edit makes of the keys that come and go.
+use Rattle.std.proofs.Common.{◌≡◌, ℕ, zero, suc, ◌+◌, ◌<◌, ◌≤◌, Bool, true, false, cond, ◌&&◌, nat_eq, List, [], ◌∷◌, ◌++◌, map, take, drop, Option, None, Some, IsSome, refl, ap, sym, subst, ◌∙◌, arith}
+use Rattle.std.specs.List.{AllByRecursion, remove, slice_get}
+use Rattle.std.specs.Map.{lookup}
+use Rattle.std.specs.Option.{option_or, option_map_or}
+use Rattle.std.specs.Str.{bytes_eq}
+use Rattle.ctl_stanza.specs.Content.{Content, package_of, version_of}
+use Rattle.ctl_store.specs.declared.stanza_key.StanzaKey.{StanzaKey}
+use Rattle.ctl_store.specs.Named.{at_name, without_name, change_named}
+use Rattle.ctl_store.specs.Step.{place}
+use Rattle.ctl_store.specs.Edits.{Edit, AddList, DropList, Put, Remove, Mark, Unmark, Pin, Unpin, Target, Prefs}
+use Rattle.ctl_store.specs.Rows.{Rises, by_name_and_version, rows_from, replace_at, put_row_at, remove_row_at}
+use Rattle.ctl_store.specs.Keys.{KeyedList, Keyed, key_of, keys_of, key_at, key_or_new, found_key, put_key, key_is, in_rows, stanza_at, put_keyed, remove_keyed, list_of_stanzas, keyed_after, removed_of, added_of, IsNotAmong, AreCome, AreGone, AreNew, AreHeld}
+use Rattle.ctl_store.specs.Held.{InOrder}
+use Rattle.ctl_store.proofs.PlaceLemmas.{eq_is, lt_ne, gt_ne, is_eq_from}
+use Rattle.ctl_store.proofs.LookLemmas.{not_none}
+use Rattle.ctl_store.proofs.HeldLemmas.{keys_held, either_first, either_second, first_is, later_is, same, in_some}
+
+abbrev stanza_in : ℕ → List (ℕ × Content) → Option Content
+stanza_in serial rows = lookup (λ s. nat_eq s serial) rows
+
+or_none : {X : Type 0} (o : Option X) → option_or o None ≡ o
+or_none None = refl
+or_none (Some x) = refl
+
+-- ---- rows
+
+-- no row of a serial below the first, or above the last
+below_rows : (s n : ℕ) (rs : List (ℕ × Content)) (m : ℕ) → s < n → Rises n rs m → stanza_in s rs ≡ None
+below_rows s n [] m l h = refl
+below_rows s n (r ∷ rs) m l h = ap (λ b. cond b (Some r.1) (stanza_in s rs)) (gt_ne r.0 s (omega (arith, h.0))) ∙ below_rows s (suc r.0) rs m (omega (arith, h.0)) h.1
+
+above_rows : (n : ℕ) (rs : List (ℕ × Content)) (m : ℕ) → Rises n rs m → stanza_in m rs ≡ None
+above_rows n [] m h = refl
+above_rows n (r ∷ rs) m h = ap (λ b. cond b (Some r.1) (stanza_in m rs)) (lt_ne r.0 m (end (suc r.0) rs m h.1)) ∙ above_rows (suc r.0) rs m h.1
+  where
+    end : (n : ℕ) (rs : List (ℕ × Content)) (m : ℕ) → Rises n rs m → n ≤ m
+    end n [] m h = h
+    end n (r ∷ rs) m h = omega (arith, h.0, end (suc r.0) rs m h.1)
+
+pushed_in : (n : ℕ) (rs : List (ℕ × Content)) (m : ℕ) (x : Content) → Rises n rs m → stanza_in m (rs ++ (m, x) ∷ []) ≡ Some x
+pushed_in n [] m x h = ap (λ b. cond b (Some x) None) (eq_is m m refl)
+pushed_in n (r ∷ rs) m x h = ap (λ b. cond b (Some r.1) (stanza_in m (rs ++ (m, x) ∷ []))) (lt_ne r.0 m (end (suc r.0) rs m h.1)) ∙ pushed_in (suc r.0) rs m x h.1
+  where
+    end : (n : ℕ) (rs : List (ℕ × Content)) (m : ℕ) → Rises n rs m → n ≤ m
+    end n [] m h = h
+    end n (r ∷ rs) m h = omega (arith, h.0, end (suc r.0) rs m h.1)
+
+-- from each serial of the rows on the stanza is found
+from_on : (n j : ℕ) (xs : List Content) → stanza_in (n + j) (rows_from n xs) ≡ slice_get xs j
+from_on n zero [] = refl
+from_on n (suc j) [] = refl
+from_on n zero (x ∷ xs) = ap (λ b. cond b (Some x) (stanza_in (n + 0) (rows_from (suc n) xs))) (eq_is n (n + 0) (omega arith))
+from_on n (suc j) (x ∷ xs) =
+    ap (λ b. cond b (Some x) (stanza_in (n + suc j) (rows_from (suc n) xs))) (lt_ne n (n + suc j) (omega arith))
+    ∙ ap (λ s. stanza_in s (rows_from (suc n) xs)) (let z : n + suc j ≡ suc n + j = omega arith in z)
+    ∙ from_on (suc n) j xs
+
+module _ (list : ℕ) where
+  abbrev Each : (ℕ → Type 0) → List (ℕ × Content) → Type 0
+  Each P rs = AllByRecursion (λ (k : StanzaKey). P k.stanza) (map (λ (row : ℕ × Content). key_of list row.0) rs)
+
+  replaced_in : (n : ℕ) (rs : List (ℕ × Content)) (m i : ℕ) (x : Content) → Rises n rs m → Each (λ s. (n ≤ s) × (stanza_in s (replace_at rs i x) ≡ Some x)) (take 1 (drop i rs))
+  replaced_in n [] m zero x h = tt
+  replaced_in n [] m (suc i) x h = tt
+  replaced_in n (r ∷ rs) m zero x h = ((h.0, ap (λ b. cond b (Some x) (stanza_in r.0 rs)) (eq_is r.0 r.0 refl)), tt)
+  replaced_in n (r ∷ rs) m (suc i) x h = over (take 1 (drop i rs)) (replaced_in (suc r.0) rs m i x h.1)
+    where
+      over : (qs : List (ℕ × Content)) → Each (λ s. (suc r.0 ≤ s) × (stanza_in s (replace_at rs i x) ≡ Some x)) qs → Each (λ s. (n ≤ s) × (stanza_in s (r ∷ replace_at rs i x) ≡ Some x)) qs
+      over [] g = tt
+      over (q ∷ qs) g = ((omega (arith, h.0, g.0.0), ap (λ b. cond b (Some r.1) (stanza_in q.0 (replace_at rs i x))) (lt_ne r.0 q.0 (omega (arith, g.0.0))) ∙ g.0.1), over qs g.1)
+
+  removed_in : (n : ℕ) (rs : List (ℕ × Content)) (m i : ℕ) → Rises n rs m → Each (λ s. (n ≤ s) × (stanza_in s (remove rs i) ≡ None)) (take 1 (drop i rs))
+  removed_in n [] m zero h = tt
+  removed_in n [] m (suc i) h = tt
+  removed_in n (r ∷ rs) m zero h = ((h.0, below_rows r.0 (suc r.0) rs m (omega arith) h.1), tt)
+  removed_in n (r ∷ rs) m (suc i) h = over (take 1 (drop i rs)) (removed_in (suc r.0) rs m i h.1)
+    where
+      over : (qs : List (ℕ × Content)) → Each (λ s. (suc r.0 ≤ s) × (stanza_in s (remove rs i) ≡ None)) qs → Each (λ s. (n ≤ s) × (stanza_in s (r ∷ remove rs i) ≡ None)) qs
+      over [] g = tt
+      over (q ∷ qs) g = ((omega (arith, h.0, g.0.0), ap (λ b. cond b (Some r.1) (stanza_in q.0 (remove rs i))) (lt_ne r.0 q.0 (omega (arith, g.0.0))) ∙ g.0.1), over qs g.1)
+
+-- ---- lists
+
+module _ (k : StanzaKey) where
+  none_later : (n : ℕ) (ls : List (List ℕ × KeyedList)) (m e : ℕ) → k.list < n → InOrder n ls m e → stanza_at k ls ≡ None
+  none_later n [] m e l h = refl
+  none_later n (x ∷ ls) m e l h =
+      ap (λ b. option_or (cond b (stanza_in k.stanza x.1.rows) None) (stanza_at k ls)) (gt_ne x.1.serial k.list (omega (arith, h.0)))
+      ∙ none_later (suc x.1.serial) ls m e (omega (arith, h.0)) h.3
+
+  ends : (n : ℕ) (ls : List (List ℕ × KeyedList)) (m e : ℕ) → InOrder n ls m e → n ≤ m
+  ends n [] m e h = h
+  ends n (x ∷ ls) m e h = omega (arith, h.0, ends (suc x.1.serial) ls m e h.3)
+
+  -- a key of the next list is in none that is there
+  none_of_next : (n : ℕ) (ls : List (List ℕ × KeyedList)) (m e : ℕ) → k.list ≡ m → InOrder n ls m e → stanza_at k ls ≡ None
+  none_of_next n [] m e l h = refl
+  none_of_next n (x ∷ ls) m e l h =
+      ap (λ b. option_or (cond b (stanza_in k.stanza x.1.rows) None) (stanza_at k ls)) (lt_ne x.1.serial k.list (omega (arith, l, ends (suc x.1.serial) ls m e h.3)))
+      ∙ none_of_next (suc x.1.serial) ls m e l h.3
+
+  in_next : (n : ℕ) (ls : List (List ℕ × KeyedList)) (m e : ℕ) (name : List ℕ) (l : KeyedList) → k.list ≡ m → InOrder n ls m e → stanza_at k (ls ++ (name, l) ∷ []) ≡ in_rows k l
+  in_next n [] m e name l q h = or_none (in_rows k l)
+  in_next n (x ∷ ls) m e name l q h =
+      ap (λ b. option_or (cond b (stanza_in k.stanza x.1.rows) None) (stanza_at k (ls ++ (name, l) ∷ []))) (lt_ne x.1.serial k.list (omega (arith, q, ends (suc x.1.serial) ls m e h.3)))
+      ∙ in_next (suc x.1.serial) ls m e name l q h.3
+
+  -- the list of a name has no serial below the first
+  from_first : (n : ℕ) (ls : List (List ℕ × KeyedList)) (m e : ℕ) (name : List ℕ) (l : KeyedList) → InOrder n ls m e → at_name name ls ≡ Some l → n ≤ l.serial
+  from_first n [] m e name l h at = cc at
+  from_first n (x ∷ ls) m e name l h at = by (bytes_eq name x.0) at (λ a. from_first (suc x.1.serial) ls m e name l h.3 a)
+    where
+      by : (b : Bool) → cond b (Some x.1) (at_name name ls) ≡ Some l → (at_name name ls ≡ Some l → suc x.1.serial ≤ l.serial) → n ≤ l.serial
+      by true at rest = let z : x.1 ≡ l = cc at in subst (λ (l : KeyedList). n ≤ l.serial) z h.0
+      by false at rest = omega (arith, h.0, rest at)
+
+  -- a key of the list of a name, where that list is changed
+  in_changed : (n : ℕ) (ls : List (List ℕ × KeyedList)) (m e : ℕ) (name : List ℕ) (l : KeyedList) (f : KeyedList → KeyedList) → InOrder n ls m e → at_name name ls ≡ Some l → k.list ≡ l.serial → stanza_at k (change_named name f ls) ≡ in_rows k (f l)
+  in_changed n [] m e name l f h at is = cc at
+  in_changed n (x ∷ ls) m e name l f h at is = by (bytes_eq name x.0) at (λ a. from_first (suc x.1.serial) ls m e name l h.3 a) (λ a. in_changed (suc x.1.serial) ls m e name l f h.3 a is)
+    where
+      by : (b : Bool) → cond b (Some x.1) (at_name name ls) ≡ Some l → (at_name name ls ≡ Some l → suc x.1.serial ≤ l.serial) → (at_name name ls ≡ Some l → stanza_at k (change_named name f ls) ≡ in_rows k (f l))
+          → stanza_at k (cond b ((x.0, f x.1) ∷ ls) (x ∷ change_named name f ls)) ≡ in_rows k (f l)
+      by true at up rest =
+          let z : x.1 ≡ l = cc at in
+          ap (option_or (in_rows k (f x.1))) (none_later (suc x.1.serial) ls m e (omega (arith, is, ap (λ (l : KeyedList). l.serial) z)) h.3) ∙ or_none (in_rows k (f x.1)) ∙ ap (λ l. in_rows k (f l)) z
+      by false at up rest = ap (λ b. option_or (cond b (stanza_in k.stanza x.1.rows) None) (stanza_at k (change_named name f ls))) (lt_ne x.1.serial k.list (omega (arith, is, up at))) ∙ rest at
+
+  in_list : (n : ℕ) (ls : List (List ℕ × KeyedList)) (m e : ℕ) (name : List ℕ) (l : KeyedList) → InOrder n ls m e → at_name name ls ≡ Some l → k.list ≡ l.serial → stanza_at k ls ≡ in_rows k l
+  in_list n [] m e name l h at is = cc at
+  in_list n (x ∷ ls) m e name l h at is = by (bytes_eq name x.0) at (λ a. from_first (suc x.1.serial) ls m e name l h.3 a) (λ a. in_list (suc x.1.serial) ls m e name l h.3 a is)
+    where
+      by : (b : Bool) → cond b (Some x.1) (at_name name ls) ≡ Some l → (at_name name ls ≡ Some l → suc x.1.serial ≤ l.serial) → (at_name name ls ≡ Some l → stanza_at k ls ≡ in_rows k l) → stanza_at k (x ∷ ls) ≡ in_rows k l
+      by true at up rest =
+          let z : x.1 ≡ l = cc at in
+          ap (option_or (in_rows k x.1)) (none_later (suc x.1.serial) ls m e (omega (arith, is, ap (λ (l : KeyedList). l.serial) z)) h.3) ∙ or_none (in_rows k x.1) ∙ ap (in_rows k) z
+      by false at up rest = ap (λ b. option_or (cond b (stanza_in k.stanza x.1.rows) None) (stanza_at k ls)) (lt_ne x.1.serial k.list (omega (arith, is, up at))) ∙ rest at
+
+  in_dropped : (n : ℕ) (ls : List (List ℕ × KeyedList)) (m e : ℕ) (name : List ℕ) (l : KeyedList) → InOrder n ls m e → at_name name ls ≡ Some l → k.list ≡ l.serial → stanza_at k (without_name name ls) ≡ None
+  in_dropped n [] m e name l h at is = cc at
+  in_dropped n (x ∷ ls) m e name l h at is = by (bytes_eq name x.0) at (λ a. from_first (suc x.1.serial) ls m e name l h.3 a) (λ a. in_dropped (suc x.1.serial) ls m e name l h.3 a is)
+    where
+      by : (b : Bool) → cond b (Some x.1) (at_name name ls) ≡ Some l → (at_name name ls ≡ Some l → suc x.1.serial ≤ l.serial) → (at_name name ls ≡ Some l → stanza_at k (without_name name ls) ≡ None) → stanza_at k (cond b ls (x ∷ without_name name ls)) ≡ None
+      by true at up rest = let z : x.1 ≡ l = cc at in none_later (suc x.1.serial) ls m e (omega (arith, is, ap (λ (l : KeyedList). l.serial) z)) h.3
+      by false at up rest = ap (λ b. option_or (cond b (stanza_in k.stanza x.1.rows) None) (stanza_at k (without_name name ls))) (lt_ne x.1.serial k.list (omega (arith, is, up at))) ∙ rest at
+
+  of_serial : (l : KeyedList) → k.list ≡ l.serial → in_rows k l ≡ stanza_in k.stanza l.rows
+  of_serial l is = ap (λ b. cond b (stanza_in k.stanza l.rows) None) (eq_is l.serial k.list (sym is))
+
+-- what the rows of the list of a name have
+rows_rise : (n : ℕ) (ls : List (List ℕ × KeyedList)) (m e : ℕ) (name : List ℕ) (l : KeyedList) → InOrder n ls m e → at_name name ls ≡ Some l → Rises 0 l.rows l.next
+rows_rise n [] m e name l h at = cc at
+rows_rise n (x ∷ ls) m e name l h at = by (bytes_eq name x.0) at (λ a. rows_rise (suc x.1.serial) ls m e name l h.3 a)
+  where
+    by : (b : Bool) → cond b (Some x.1) (at_name name ls) ≡ Some l → (at_name name ls ≡ Some l → Rises 0 l.rows l.next) → Rises 0 l.rows l.next
+    by true at rest = let z : x.1 ≡ l = cc at in subst (λ (l : KeyedList). Rises 0 l.rows l.next) z h.2
+    by false at rest = rest at
+
+module _ {X : Type 0} {P Q : X → Type 0} (f : (x : X) → P x → Q x) where
+  weaken : (xs : List X) → AllByRecursion P xs → AllByRecursion Q xs
+  weaken [] h = tt
+  weaken (x ∷ xs) h = (f x h.0, weaken xs h.1)
+
+both_true : (a b : Bool) → a ≡ true → b ≡ true → (a && b) ≡ true
+both_true true b p q = q
+both_true false b p q = cc
+
+is_itself : (k : StanzaKey) → key_is k k ≡ true
+is_itself k = both_true (nat_eq k.list k.list) (nat_eq k.stanza k.stanza) (eq_is k.list k.list refl) (eq_is k.stanza k.stanza refl)
+
+-- ---- the laws
+
+module _ (s : Keyed) (e : ℕ) (order : InOrder 0 s.lists s.next_list e) where
+  -- each stanza of a new list
+  new_come : (n : ℕ) (name : List ℕ) (l : KeyedList) (all xs : List Content) → l.serial ≡ s.next_list → l.rows ≡ rows_from 0 all → ((j : ℕ) → slice_get all (n + j) ≡ slice_get xs j)
+      → AllByRecursion (λ (k : StanzaKey). stanza_at k (s.lists ++ (name, l) ∷ []) ≡ slice_get all k.stanza) (map (λ (row : ℕ × Content). key_of l.serial row.0) (rows_from n xs))
+  new_come n name l all [] is rows each = tt
+  new_come n name l all (x ∷ xs) is rows each = (
+    in_next (key_of l.serial n) 0 s.lists s.next_list e name l is order ∙ of_serial (key_of l.serial n) l refl ∙ ap (stanza_in n) rows ∙ ap (λ j. stanza_in j (rows_from 0 all)) (let z : n ≡ 0 + n = omega arith in z) ∙ from_on 0 n all,
+    new_come (suc n) name l all xs is rows (λ j. ap (slice_get all) (let z : suc n + j ≡ n + suc j = omega arith in z) ∙ each (suc j)),
+  )
+
+  put_come : (list : List ℕ) (x : Content) (l : KeyedList) → at_name list s.lists ≡ Some l → AreCome (put_key x l) (Put list x) (change_named list (put_keyed x) s.lists)
+  put_come list x l at = by (place (by_name_and_version (package_of x) (version_of x)) l.rows) refl
+    where
+      rise : Rises 0 l.rows l.next
+      rise = rows_rise 0 s.lists s.next_list e list l order at
+
+      by : (o : Option ℕ) → place (by_name_and_version (package_of x) (version_of x)) l.rows ≡ o → AreCome (key_or_new l o) (Put list x) (change_named list (put_keyed x) s.lists)
+      by None is = (in_changed (key_of l.serial l.next) 0 s.lists s.next_list e list l (put_keyed x) order at refl ∙ of_serial (key_of l.serial l.next) (put_keyed x l) refl ∙ ap (λ o. stanza_in l.next (put_row_at o x l.next l.rows)) is ∙ pushed_in 0 l.rows l.next x rise, tt)
+      by (Some i) is = over (take 1 (drop i l.rows)) (replaced_in l.serial 0 l.rows l.next i x rise)
+        where
+          over : (qs : List (ℕ × Content)) → Each l.serial (λ s. (0 ≤ s) × (stanza_in s (replace_at l.rows i x) ≡ Some x)) qs → AreCome (map (λ (row : ℕ × Content). key_of l.serial row.0) qs) (Put list x) (change_named list (put_keyed x) s.lists)
+          over [] g = tt
+          over (q ∷ qs) g = (in_changed (key_of l.serial q.0) 0 s.lists s.next_list e list l (put_keyed x) order at refl ∙ of_serial (key_of l.serial q.0) (put_keyed x l) refl ∙ ap (λ o. stanza_in q.0 (put_row_at o x l.next l.rows)) is ∙ g.0.1, over qs g.1)
+
+  kept_come : (list : List ℕ) (x : Content) (o : Option KeyedList) → at_name list s.lists ≡ o → AreCome (option_map_or (put_key x) o []) (Put list x) (change_named list (put_keyed x) s.lists)
+  kept_come list x None at = tt
+  kept_come list x (Some l) at = put_come list x l at
+
+  pub come_law : (edit : Edit) → AreCome (added_of s edit) edit (keyed_after s edit).lists
+  come_law (AddList name kind class stanzas) = new_come 0 name (list_of_stanzas s.next_list kind class stanzas) stanzas stanzas refl refl (λ j. ap (slice_get stanzas) (let z : 0 + j ≡ j = omega arith in z))
+  come_law (DropList name) = tt
+  come_law (Put list x) = kept_come list x (at_name list s.lists) refl
+  come_law (Remove list name version) = tt
+  come_law (Mark name version) = tt
+  come_law (Unmark name) = tt
+  come_law (Pin selector priority) = tt
+  come_law (Unpin selector) = tt
+  come_law (Target name) = tt
+  come_law (Prefs pins) = tt
+
+  drop_gone : (name : List ℕ) (o : Option KeyedList) → at_name name s.lists ≡ o → AreGone (option_map_or keys_of o []) [] (without_name name s.lists)
+  drop_gone name None at = tt
+  drop_gone name (Some l) at = over l.rows
+    where
+      over : (qs : List (ℕ × Content)) → AreGone (map (λ (row : ℕ × Content). key_of l.serial row.0) qs) [] (without_name name s.lists)
+      over [] = tt
+      over (q ∷ qs) = ((λ h. in_dropped (key_of l.serial q.0) 0 s.lists s.next_list e name l order at refl), over qs)
+
+  remove_gone : (list name : List ℕ) (version : Option (List ℕ)) (o : Option KeyedList) → at_name list s.lists ≡ o → AreGone (option_map_or (found_key name version) o []) [] (change_named list (remove_keyed name version) s.lists)
+  remove_gone list name version None at = tt
+  remove_gone list name version (Some l) at = by (place (by_name_and_version name version) l.rows) refl
+    where
+      rise : Rises 0 l.rows l.next
+      rise = rows_rise 0 s.lists s.next_list e list l order at
+
+      by : (o : Option ℕ) → place (by_name_and_version name version) l.rows ≡ o → AreGone (key_at l o) [] (change_named list (remove_keyed name version) s.lists)
+      by None is = tt
+      by (Some i) is = over (take 1 (drop i l.rows)) (removed_in l.serial 0 l.rows l.next i rise)
+        where
+          over : (qs : List (ℕ × Content)) → Each l.serial (λ s. (0 ≤ s) × (stanza_in s (remove l.rows i) ≡ None)) qs → AreGone (map (λ (row : ℕ × Content). key_of l.serial row.0) qs) [] (change_named list (remove_keyed name version) s.lists)
+          over [] g = tt
+          over (q ∷ qs) g = ((λ h. in_changed (key_of l.serial q.0) 0 s.lists s.next_list e list l (remove_keyed name version) order at refl ∙ of_serial (key_of l.serial q.0) (remove_keyed name version l) refl ∙ ap (λ o. stanza_in q.0 (remove_row_at o l.rows)) is ∙ g.0.1), over qs g.1)
+
+  put_gone : (list : List ℕ) (x : Content) (o : Option KeyedList) → at_name list s.lists ≡ o → AreGone (option_map_or (found_key (package_of x) (version_of x)) o []) (option_map_or (put_key x) o []) (change_named list (put_keyed x) s.lists)
+  put_gone list x None at = tt
+  put_gone list x (Some l) at = by (place (by_name_and_version (package_of x) (version_of x)) l.rows)
+    where
+      by : (o : Option ℕ) → AreGone (key_at l o) (key_or_new l o) (change_named list (put_keyed x) s.lists)
+      by None = tt
+      by (Some i) = over (take 1 (drop i l.rows))
+        where
+          over : (qs : List (ℕ × Content)) → AllByRecursion (λ k. IsNotAmong k (map (λ (row : ℕ × Content). key_of l.serial row.0) qs) → stanza_at k (change_named list (put_keyed x) s.lists) ≡ None) (map (λ (row : ℕ × Content). key_of l.serial row.0) qs)
+          over [] = tt
+          over (q ∷ qs) = ((λ h. absurd (let e : true ≡ false = sym (is_itself (key_of l.serial q.0)) ∙ h.0 in cc)), weaken (λ k g h. g h.1) (map (λ (row : ℕ × Content). key_of l.serial row.0) qs) (over qs))
+
+  pub gone_law : (edit : Edit) → AreGone (removed_of s edit) (added_of s edit) (keyed_after s edit).lists
+  gone_law (AddList name kind class stanzas) = tt
+  gone_law (DropList name) = drop_gone name (at_name name s.lists) refl
+  gone_law (Put list x) = put_gone list x (at_name list s.lists) refl
+  gone_law (Remove list name version) = remove_gone list name (Some version) (at_name list s.lists) refl
+  gone_law (Mark name version) = tt
+  gone_law (Unmark name) = tt
+  gone_law (Pin selector priority) = tt
+  gone_law (Unpin selector) = tt
+  gone_law (Target name) = tt
+  gone_law (Prefs pins) = tt
+
+  put_new : (list : List ℕ) (x : Content) (o : Option KeyedList) → at_name list s.lists ≡ o → AreNew (option_map_or (put_key x) o []) (option_map_or (found_key (package_of x) (version_of x)) o []) s.lists
+  put_new list x None at = tt
+  put_new list x (Some l) at = by (place (by_name_and_version (package_of x) (version_of x)) l.rows)
+    where
+      by : (o : Option ℕ) → AreNew (key_or_new l o) (key_at l o) s.lists
+      by None = ((λ h. in_list (key_of l.serial l.next) 0 s.lists s.next_list e list l order at refl ∙ of_serial (key_of l.serial l.next) l refl ∙ above_rows 0 l.rows l.next (rows_rise 0 s.lists s.next_list e list l order at)), tt)
+      by (Some i) = over (take 1 (drop i l.rows))
+        where
+          over : (qs : List (ℕ × Content)) → AllByRecursion (λ k. IsNotAmong k (map (λ (row : ℕ × Content). key_of l.serial row.0) qs) → stanza_at k s.lists ≡ None) (map (λ (row : ℕ × Content). key_of l.serial row.0) qs)
+          over [] = tt
+          over (q ∷ qs) = ((λ h. absurd (let e : true ≡ false = sym (is_itself (key_of l.serial q.0)) ∙ h.0 in cc)), weaken (λ k g h. g h.1) (map (λ (row : ℕ × Content). key_of l.serial row.0) qs) (over qs))
+
+  list_new : (rs : List (ℕ × Content)) → AreNew (map (λ (row : ℕ × Content). key_of s.next_list row.0) rs) [] s.lists
+  list_new [] = tt
+  list_new (r ∷ rs) = ((λ h. none_of_next (key_of s.next_list r.0) 0 s.lists s.next_list e refl order), list_new rs)
+
+  pub new_law : (edit : Edit) → AreNew (added_of s edit) (removed_of s edit) s.lists
+  new_law (AddList name kind class stanzas) = list_new (rows_from 0 stanzas)
+  new_law (DropList name) = tt
+  new_law (Put list x) = put_new list x (at_name list s.lists) refl
+  new_law (Remove list name version) = tt
+  new_law (Mark name version) = tt
+  new_law (Unmark name) = tt
+  new_law (Pin selector priority) = tt
+  new_law (Unpin selector) = tt
+  new_law (Target name) = tt
+  new_law (Prefs pins) = tt
+
+-- ---- each key that goes has a stanza
+
+some_there : (list : ℕ) (rs : List (ℕ × Content)) (i : ℕ) → AllByRecursion (in_some list rs) (map (λ (r : ℕ × Content). key_of list r.0) (take 1 (drop i rs)))
+some_there list [] zero = tt
+some_there list [] (suc i) = tt
+some_there list (r ∷ rs) zero = (first_is (nat_eq list list) (nat_eq r.0 r.0) r.1 (lookup (λ s. nat_eq s r.0) rs) (same list) (same r.0), tt)
+some_there list (r ∷ rs) (suc i) = weaken (λ k h. later_is (nat_eq list k.list) (nat_eq r.0 k.stanza) r.1 (lookup (λ s. nat_eq s k.stanza) rs) h) (map (λ (r : ℕ × Content). key_of list r.0) (take 1 (drop i rs))) (some_there list rs i)
+
+found_held : (name : List ℕ) (version : Option (List ℕ)) (list : List ℕ) (ls : List (List ℕ × KeyedList)) → AreHeld (option_map_or (found_key name version) (at_name list ls) []) ls
+found_held name version list [] = tt
+found_held name version list (l ∷ ls) = by (bytes_eq list l.0) (found_held name version list ls)
+  where
+    at_place : (o : Option ℕ) → AreHeld (key_at l.1 o) (l ∷ ls)
+    at_place None = tt
+    at_place (Some i) = weaken (λ k g. either_first (in_rows k l.1) (stanza_at k ls) g) (key_at l.1 (Some i)) (some_there l.1.serial l.1.rows i)
+
+    by : (b : Bool) → AreHeld (option_map_or (found_key name version) (at_name list ls) []) ls → AreHeld (option_map_or (found_key name version) (cond b (Some l.1) (at_name list ls)) []) (l ∷ ls)
+    by true h = at_place (place (by_name_and_version name version) l.1.rows)
+    by false h = weaken (λ k g. either_second (in_rows k l.1) (stanza_at k ls) g) (option_map_or (found_key name version) (at_name list ls) []) h
+
+pub removed_held : (s : Keyed) (edit : Edit) → AreHeld (removed_of s edit) s.lists
+removed_held s (AddList name kind class stanzas) = tt
+removed_held s (DropList name) = keys_held name s.lists
+removed_held s (Put list x) = found_held (package_of x) (version_of x) list s.lists
+removed_held s (Remove list name version) = found_held name (Some version) list s.lists
+removed_held s (Mark name version) = tt
+removed_held s (Unmark name) = tt
+removed_held s (Pin selector priority) = tt
+removed_held s (Unpin selector) = tt
+removed_held s (Target name) = tt
+removed_held s (Prefs pins) = tt
+
+and_first : (a b : Bool) → (a && b) ≡ true → a ≡ true
+and_first true b e = refl
+and_first false b e = cc
+
+and_second : (a b : Bool) → (a && b) ≡ true → b ≡ true
+and_second true b e = e
+and_second false b e = cc
+
+-- a key that has a stanza and doesn't go doesn't come
+pub not_added : (k : StanzaKey) (added removed : List StanzaKey) (ls : List (List ℕ × KeyedList)) → AreNew added removed ls → IsSome (stanza_at k ls) → IsNotAmong k removed → IsNotAmong k added
+not_added k [] removed ls n h g = tt
+not_added k (q ∷ qs) removed ls n h g = (by (key_is k q) refl, not_added k qs removed ls n.1 h g)
+  where
+    by : (b : Bool) → key_is k q ≡ b → key_is k q ≡ false
+    by false is = is
+    by true is =
+        let lists : q.list ≡ k.list = is_eq_from q.list k.list (and_first (nat_eq q.list k.list) (nat_eq q.stanza k.stanza) is) in
+        let stanzas : q.stanza ≡ k.stanza = is_eq_from q.stanza k.stanza (and_second (nat_eq q.list k.list) (nat_eq q.stanza k.stanza) is) in
+        let same_key : q ≡ k = ap (λ a. key_of a q.stanza) lists ∙ ap (λ b. key_of k.list b) stanzas in
+        not_none (stanza_at k ls) h (ap (λ k. stanza_at k ls) (sym same_key) ∙ n.0 (subst (λ k. IsNotAmong k removed) (sym same_key) g))
