@@ -1,0 +1,191 @@
+"""Proves the crates with edits as they stand, in a copy of the repository, and tries their edits over what that kept."""
+
+import collections
+import concurrent.futures
+import os
+import shutil
+import sys
+import tempfile
+import threading
+
+from . import batches, checks
+from .crate import FOLDERS
+
+printing = threading.Lock()
+
+
+def tell(text):
+    with printing:
+        print(text, file=sys.stderr, flush=True)
+
+
+class Runner:
+    """Has as many checks at a time as jobs. Each batch is checked in a room, a copy of the repository for one crate, over
+    the kept work of the crate as it stands."""
+
+    def __init__(self, root, crates, jobs):
+        self.root, self.crates, self.jobs = root, crates, jobs
+        self.checks = checks.Checks()
+        self.judgements = {}
+        self.own_cpu = {}
+        self.edits_cpu = collections.Counter()
+        self.tried = collections.Counter()
+        self.rooms, self.lock = collections.defaultdict(list), threading.Lock()
+
+    def run(self):
+        """Judges all edits that can be applied, and yields each crate once its edits are judged."""
+        with tempfile.TemporaryDirectory(prefix="edits-") as self.folder:
+            self.base = self.new_folder("base")
+            copy_texts(self.root, self.base)
+            for name in {it for crate in self.crates for it in (crate.name, *crate.below)}:
+                for part in ("rlib", "incremental"):
+                    copy_if_there(f"{self.root}/crates/{name}/out/{part}", f"{self.base}/crates/{name}/out/{part}")
+            with concurrent.futures.ThreadPoolExecutor(self.jobs) as pool:
+                try:
+                    yield from self.run_in(pool)
+                except BaseException:
+                    # What runs has to end before the folders go.
+                    self.checks.stop()
+                    raise
+
+    def run_in(self, pool):
+        unproved, ready, running = collections.deque(self.crates), [], {}
+        left = {it: len(batches.batches_of(good(it))) for it in self.crates}
+
+        def start():
+            # One crate at a time is proved as it stands, the lowest first: two at once would build the same library.
+            if unproved and not any(batch is None for _, batch in running.values()):
+                crate = unproved.popleft()
+                running[pool.submit(self.prove, crate)] = crate, None
+            while ready and len(running) < self.jobs:
+                crate, batch = ready.pop(0)
+                running[pool.submit(self.try_batch, crate, batch)] = crate, batch
+
+        start()
+        while running:
+            for done in concurrent.futures.wait(running, return_when=concurrent.futures.FIRST_COMPLETED).done:
+                crate, batch = running.pop(done)
+                if batch is None:
+                    ready += [(crate, it) for it in batches.batches_of(good(crate))] if done.result() else []
+                    # The most work first.
+                    ready.sort(key=lambda it: -len(it[1]))
+                    left[crate] = left[crate] if done.result() else 0
+                else:
+                    left[crate] -= 1
+                if not left[crate]:
+                    for room in self.rooms.pop(crate, []):
+                        shutil.rmtree(room)
+                    yield crate
+            start()
+
+    def prove(self, crate):
+        """Proves a crate as it stands, and sets aside what that kept. Returns whether it is proved."""
+        folder = f"{self.base}/crates/{crate.name}"
+        answer = self.checks.run(folder)
+        is_proved = answer.status == checks.PROVED
+        self.own_cpu[crate] = answer.cpu
+        how = "is proved" if is_proved else "IS NOT PROVED"
+        tell(f"{crate.name}: the crate itself {how}, {answer.cpu:.0f} CPU s, {answer.wall:.0f} s")
+        if is_proved:
+            # A crate above it builds its library into out/ while its edits are tried.
+            shutil.copytree(f"{folder}/out/incremental", self.kept(crate))
+        else:
+            tell("\n".join(answer.lines[-12:]))
+        for it in good(crate):
+            self.judgements[it] = batches.Judgement(False, "not tried: the crate itself is not proved")
+        return is_proved
+
+    def kept(self, crate):
+        return f"{self.folder}/kept/{crate.name}"
+
+    def try_batch(self, crate, batch):
+        with self.lock:
+            free = self.rooms[crate]
+            room = free.pop() if free else None
+        room = room or self.new_room(crate)
+        try:
+            found, cpu = batches.try_batch(crate, batch, lambda texts: self.check(crate, room, texts), tell)
+        finally:
+            with self.lock:
+                self.rooms[crate].append(room)
+        with self.lock:
+            self.judgements.update(found)
+            self.edits_cpu[crate] += cpu
+
+    def check(self, crate, room, texts):
+        """Checks the crate with these texts in place of its own."""
+        folder = f"{room}/crates/{crate.name}"
+        mirror(self.kept(crate), f"{folder}/out/incremental")
+        write_all(folder, texts)
+        answer = self.checks.run(folder)
+        write_all(folder, {path: crate.texts[path] for path in texts})
+        with self.lock:
+            self.tried[crate] += 1
+        return answer
+
+    def new_room(self, crate):
+        room = self.new_folder(f"{crate.name}-")
+        copy_texts(self.base, room)
+        for it in crate.below:
+            shutil.copytree(f"{self.base}/crates/{it}/out/rlib", f"{room}/crates/{it}/out/rlib")
+        return room
+
+    def new_folder(self, name):
+        return tempfile.mkdtemp(prefix=name, dir=self.folder)
+
+
+def good(crate):
+    return [it for it in crate.edits if not it.fault]
+
+
+def write_all(folder, texts):
+    for path, text in texts.items():
+        with open(f"{folder}/{path}", "w", encoding="utf-8") as it:
+            it.write(text)
+
+
+def copy_if_there(source, target):
+    if os.path.isdir(source):
+        shutil.copytree(source, target)
+
+
+def copy_texts(root, to):
+    """Copies what checks read of a repository: its own files, and its crates without edits and without what was made."""
+    for it in os.listdir(root):
+        if os.path.isfile(f"{root}/{it}"):
+            shutil.copy2(f"{root}/{it}", to)
+    for crate in os.listdir(f"{root}/crates"):
+        os.makedirs(f"{to}/crates/{crate}")
+        for part in os.listdir(f"{root}/crates/{crate}"):
+            at, into = f"{root}/crates/{crate}/{part}", f"{to}/crates/{crate}/{part}"
+            if os.path.isfile(at):
+                shutil.copy2(at, into)
+            elif part not in ("out", *FOLDERS):
+                shutil.copytree(at, into)
+
+
+def mirror(kept, to):
+    """Makes a folder equal to another, and copies only the files whose size or time differs."""
+    there = set()
+    for at, _, files in os.walk(kept):
+        into = to + at[len(kept) :]
+        os.makedirs(into, exist_ok=True)
+        there.add(into)
+        for it in files:
+            there.add(f"{into}/{it}")
+            if not is_same(f"{at}/{it}", f"{into}/{it}"):
+                shutil.copy2(f"{at}/{it}", f"{into}/{it}")
+    for at, _, files in os.walk(to, topdown=False):
+        for it in files:
+            if f"{at}/{it}" not in there:
+                os.remove(f"{at}/{it}")
+        if at not in there:
+            os.rmdir(at)
+
+
+def is_same(one, other):
+    try:
+        one, other = os.stat(one), os.stat(other)
+    except FileNotFoundError:
+        return False
+    return (one.st_size, one.st_mtime_ns) == (other.st_size, other.st_mtime_ns)
