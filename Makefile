@@ -6,12 +6,14 @@ DESTDIR ?=
 PROGRAM := crates/dctrl_cache/out/dctrl_cache
 EXAMPLES := $(sort $(wildcard examples/*.script))
 
-.PHONY: help demo build test bench install clean
+.PHONY: help demo build test prove test-program test-tools edits bench install clean
 
 help:
 	@echo 'make demo      runs the examples with an unproved quick build, and compares what they print'
 	@echo 'make build     proves the program and leaves it as $(PROGRAM)'
-	@echo 'make test      the whole gate: every proof from nothing, the must-fail edits, the tests, the program'
+	@echo 'make test      the whole gate: demo, test-tools, prove, test-program and edits, up to the first that fails; KEEP_GOING=1 runs all'
+	@echo 'make prove     every proof from nothing, the named wrong bodies, the tests, the programs'
+	@echo 'make edits     the edits that must fail, many in one check; CRATES="ctl_store .." names some crates, JOBS=N sets how many checks run at once'
 	@echo 'make bench     measures time and memory beside grep-dctrl and apt-cache; FILE=.. names a Packages file'
 	@echo 'make install   puts the program and its manual page below DESTDIR and PREFIX ($(PREFIX))'
 	@echo 'make clean     removes what was made'
@@ -31,14 +33,25 @@ demo:
 
 build: $(PROGRAM)
 
-$(PROGRAM): $(shell find crates -path '*/out' -prune -o -type f -print) crates.txt HANDLES
+$(PROGRAM): $(shell find crates \( -name out -o -name edits -o -name must-fail \) -prune -o -type f -print) crates.txt HANDLES
 	cd crates/dctrl_cache && rt run < /dev/null
 	@test -x $@
 
-test: demo
-	rt ci
-	$(MAKE) build
+test:
+	python3 tools/gate.py $(if $(KEEP_GOING),--keep-going)
+
+# With RT_JOBS `rt ci` has a task on each processor, however much memory it thinks that they take.
+prove:
+	RT_JOBS=$$(nproc) rt ci
+
+test-program: build
 	python3 tests/program/run.py $(PROGRAM) examples
+
+test-tools:
+	python3 tests/edit_runner.py
+
+edits:
+	python3 tools/batch_edits.py $(if $(CRATES),--crates $(CRATES)) $(if $(JOBS),--jobs $(JOBS))
 
 bench: $(PROGRAM)
 	python3 bench/lists.py $(PROGRAM) $(FILE)

@@ -25,8 +25,8 @@ from edit_runner.crate import Crate, crates_of  # noqa: E402
 from edit_runner.runner import Runner, good  # noqa: E402
 
 MEMORY_OF_A_CHECK = 3 << 30
-UNCOVERED = """list the public functions with a body that no edit changes, and check nothing. A law has an empty body, so that no edit
-can change it: laws are left out"""
+UNCOVERED = """list the public functions of libraries that no edit changes, and check nothing. Programs are left out, and crates that no
+crate stands on. So are laws, which have no parameter and no result, or an empty body: no edit can change what they do"""
 
 
 def main():
@@ -38,7 +38,7 @@ def main():
             sys.exit(f"crates.txt names no crate {it}")
     crates = [Crate(root, it, libraries) for it, libraries in below.items() if not given.crates or it in given.crates]
     if given.uncovered:
-        return list_uncovered(crates)
+        return list_uncovered([it for it in crates if any(it.name in libraries for libraries in below.values())])
     crates = [it for it in crates if it.edits or it.misnamed]
     return list_plan(crates) if given.plan else try_all(root, crates, given.jobs or jobs_that_fit())
 

@@ -115,18 +115,27 @@ class Crate:
         return layout.block_names(function.block)[2] if function.block else function.modules, function.name
 
     def uncovered(self):
-        """Returns the public functions with a body that no edit changes. A law has an empty body."""
+        """Returns the public functions that no edit changes, but for laws and tests."""
         changed = {function for edit in self.edits for function in edit.functions}
         found = []
         for path, text in self.sources():
             for it in layout.functions(path, text):
-                lines = text[it.body : it.end].split("\n")
-                body = [line for line in lines if line.strip(" {}") and not line.strip().startswith("//")]
-                is_public = re.match(r" *pub ", text[it.start :]) or re.match(r"impl\b.* for ", it.block)
                 is_test = "#[cfg(test)]" in text[: it.start] or re.search(r"#\[test\][^\n]*\n\Z", text[: it.start])
-                if is_public and body and not is_test and it not in changed:
+                if it not in changed and is_public(it, text) and not is_test and not is_law(it, text):
                     found.append(it)
         return found
+
+
+def is_public(function, text):
+    """A function of an impl of a trait is as public as the trait."""
+    return re.match(r" *pub ", text[function.start :]) or re.match(r"impl\b.* for ", function.block)
+
+
+def is_law(function, text):
+    """Returns whether there is nothing to a function but its contract: it has no parameter and no result, or its body is empty."""
+    has_nothing = re.search(r"fn \w+\(\)(?!\s*->)", text[function.start : function.body])
+    lines = text[function.body : function.end].split("\n")
+    return has_nothing or not any(line.strip(" {}") and not line.strip().startswith("//") for line in lines)
 
 
 def texts_of(folder):

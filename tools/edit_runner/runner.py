@@ -89,11 +89,19 @@ class Runner:
         if is_proved:
             # A crate above it builds its library into out/ while its edits are tried.
             shutil.copytree(f"{folder}/out/incremental", self.kept(crate))
+            self.hand_over(crate)
         else:
             tell("\n".join(answer.lines[-12:]))
         for it in good(crate):
             self.judgements[it] = batches.Judgement(False, "not tried: the crate itself is not proved")
         return is_proved
+
+    def hand_over(self, crate):
+        """Leaves the kept work where the repository has none of the crate, so that the next run starts over it."""
+        target = f"{crate.folder}/out/incremental"
+        if not os.path.exists(target):
+            shutil.copytree(self.kept(crate), f"{target}.new")
+            os.rename(f"{target}.new", target)
 
     def kept(self, crate):
         return f"{self.folder}/kept/{crate.name}"

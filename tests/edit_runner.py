@@ -1,0 +1,146 @@
+#!/usr/bin/env python3
+"""Tests tools/batch_edits.py on a repository of one small crate, which it makes in a temporary folder. Edits that the prover
+refuses by themselves pass; an edit of a comment, one whose function only calls another that is refused, one that doesn't compile
+and one that can't be applied are told as failed. The last line is the count."""
+
+import os
+import subprocess
+import sys
+import tempfile
+
+TOOL = os.path.join(os.path.dirname(os.path.abspath(__file__)), "..", "tools", "batch_edits.py")
+
+SOURCE = """//! The greater of numbers.
+#![tactic(auto)]
+
+ghost use Rattle.std.specs.Prelude.{◌≡◌, ◌≤◌};
+
+const LEAST: u32 = 0;
+
+/// The greater of two numbers.
+pub fn greater(a: u32, b: u32) -> u32
+    ensures a { a ≤ result }
+    ensures b { b ≤ result }
+{
+    // the second where they are equal
+    if a > b { a } else { b }
+}
+
+/// A number that none of three is above.
+pub fn greatest(a: u32, b: u32, c: u32) -> u32
+    ensures a { a ≤ result }
+    ensures c { c ≤ result }
+{
+    greater(greater(a, b), c)
+}
+
+/// The least number.
+pub fn least() -> u32
+    ensures { result ≡ 0 }
+{
+    LEAST
+}
+
+/// Half of a number.
+pub fn half(a: u32) -> u32
+    ensures { result ≤ a }
+{
+    a / 2
+}
+"""
+
+# Name, folder, old text, new text, and what is told of the edit: none where it passes.
+EDITS = [
+    ("lesser", "edits", "if a > b { a } else { b }", "if a < b { a } else { b }", None),
+    ("second", "must-fail", "else { b }", "else { a }", None),
+    ("least-is-one", "edits", "LEAST: u32 = 0", "LEAST: u32 = 1", None),
+    ("comment", "edits", "they are equal", "both are equal", "NOT REFUSED"),
+    ("caller", "edits", "greater(greater(a, b), c)", "greater(greater(b, a), c)", "NOT REFUSED"),
+    ("no-such-name", "edits", "    a / 2", "    a / two", "BAD EDIT: it did not reach the prover"),
+    ("no-such-text", "edits", "a / 3", "a / 4", "BAD EDIT: an 'old:' text"),
+    ("misnamed edit", "edits", "a / 2", "a", "BAD EDIT: an edit's name"),
+]
+
+
+class Tests:
+    def __init__(self):
+        self.passed, self.failed = 0, 0
+
+    def expect(self, name, is_well, told):
+        self.passed, self.failed = self.passed + is_well, self.failed + (not is_well)
+        if not is_well:
+            print("FAILED: %s\n%s" % (name, told))
+
+
+def write(path, text):
+    os.makedirs(os.path.dirname(path), exist_ok=True)
+    with open(path, "w", encoding="utf-8") as it:
+        it.write(text)
+
+
+def make_repository(root, edits):
+    write(root + "/crates.txt", "numbers:\n")
+    write(root + "/HANDLES", "Handles allowed: none.\n")
+    write(root + "/crates/numbers/src/lib.rt", SOURCE)
+    for name, folder, old, new, _ in edits:
+        write("%s/crates/numbers/%s/%s.edit" % (root, folder, name), "file: src/lib.rt\nold: %s\nnew: %s\n" % (old, new))
+
+
+def call(root, *words):
+    done = subprocess.run([sys.executable, TOOL, *words], cwd=root, stdout=subprocess.PIPE, stderr=subprocess.PIPE, text=True)
+    return done.returncode, done.stdout.splitlines(), done.stdout + done.stderr
+
+
+def test_edits(tests):
+    with tempfile.TemporaryDirectory() as root:
+        make_repository(root, EDITS)
+        status, lines, told = call(root, "--jobs", "1")
+    for name, folder, _, _, fault in EDITS:
+        said = [it for it in lines if it.startswith("numbers/%s/%s.edit: " % (folder, name)) or "/%s.edit: BAD" % name in it]
+        is_well = len(said) == 1 and fault in said[0] if fault else not said
+        tests.expect(name, is_well, told)
+    failed = sum(fault is not None for *_, fault in EDITS)
+    tests.expect("count", lines[-1:] == ["%d passed, %d failed" % (len(EDITS) - failed, failed)], told)
+    tests.expect("status of failed edits", status == 1, told)
+
+
+def test_good_edits(tests):
+    with tempfile.TemporaryDirectory() as root:
+        make_repository(root, [it for it in EDITS if it[0] == "lesser"])
+        status, lines, told = call(root, "--crates", "numbers", "--jobs", "2")
+    tests.expect("one good edit", status == 0 and lines[-1:] == ["1 passed, 0 failed"], told)
+
+
+def test_unproved(tests):
+    """Nothing passes by edits of a crate that is not proved as it stands."""
+    with tempfile.TemporaryDirectory() as root:
+        make_repository(root, EDITS[:1])
+        write(root + "/crates/numbers/src/lib.rt", SOURCE.replace("    a / 2", "    a"). replace("result ≤ a", "result ≡ 0"))
+        status, lines, told = call(root)
+    tests.expect("unproved crate", status == 1 and "the crate itself is not proved" in told and lines[-1:] == ["0 passed, 1 failed"], told)
+
+
+def test_listings(tests):
+    with tempfile.TemporaryDirectory() as root:
+        make_repository(root, EDITS)
+        write(root + "/crates.txt", "numbers:\nabove: numbers\n")
+        status, lines, told = call(root, "--plan")
+        tests.expect("plan tells what cannot be applied", status == 1 and "no-such-text" in lines[0], told)
+        batches = {it.split("\t")[3]: it.split("\t")[1] for it in lines if "\t" in it}
+        tests.expect("plan parts edits of one function", batches["lesser.edit"] != batches["second.edit"], told)
+        status, lines, told = call(root, "--uncovered")
+        tests.expect("uncovered", status == 0 and [it.split("\t")[2:] for it in lines[:-1]] == [[" least"]], told)
+
+
+def main():
+    tests = Tests()
+    test_listings(tests)
+    test_edits(tests)
+    test_good_edits(tests)
+    test_unproved(tests)
+    print("%d passed, %d failed" % (tests.passed, tests.failed))
+    return 1 if tests.failed else 0
+
+
+if __name__ == "__main__":
+    sys.exit(main())
