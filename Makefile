@@ -13,7 +13,7 @@ help:
 	@echo 'make build     proves the program and leaves it as $(PROGRAM)'
 	@echo 'make test      the whole gate: demo, test-tools, prove, test-program and edits, up to the first that fails; KEEP_GOING=1 runs all'
 	@echo 'make prove     every proof from nothing, the named wrong bodies, the tests, the programs'
-	@echo 'make edits     the edits that must fail, many in one check; CRATES="ctl_store .." names some crates, JOBS=N sets how many checks run at once'
+	@echo 'make edits     the edits that must fail, many in one check; CRATES=".." and EDITS=".." name some, JOBS=N sets how many checks run at once'
 	@echo 'make bench     measures time and memory beside grep-dctrl and apt-cache; FILE=.. names a Packages file'
 	@echo 'make install   puts the program and its manual page below DESTDIR and PREFIX ($(PREFIX))'
 	@echo 'make clean     removes what was made'
@@ -51,7 +51,7 @@ test-tools:
 	python3 tests/edit_runner.py
 
 edits:
-	python3 tools/batch_edits.py $(if $(CRATES),--crates $(CRATES)) $(if $(JOBS),--jobs $(JOBS))
+	python3 tools/batch_edits.py $(if $(CRATES),--crates $(CRATES)) $(if $(EDITS),--edits $(EDITS)) $(if $(JOBS),--jobs $(JOBS))
 
 bench: $(PROGRAM)
 	python3 bench/lists.py $(PROGRAM) $(FILE)

@@ -1,7 +1,7 @@
 #!/usr/bin/env python3
 """Tries the edits that must fail, many in one check: the prover has to refuse each.
 
-    tools/batch_edits.py [--crates NAME..] [--jobs N] [--plan | --uncovered]
+    tools/batch_edits.py [--crates NAME..] [--edits NAME..] [--jobs N] [--plan | --uncovered]
 
 It is called at the top of the repository, and tries crates/NAME/edits/ and crates/NAME/must-fail/. In a copy of the
 repository each crate is proved as it stands; then edits of different functions of a crate make up a batch, which is
@@ -39,6 +39,12 @@ def main():
     crates = [Crate(root, it, libraries) for it, libraries in below.items() if not given.crates or it in given.crates]
     if given.uncovered:
         return list_uncovered([it for it in crates if any(it.name in libraries for libraries in below.values())])
+    if given.edits:
+        unknown = {*given.edits} - {name for crate in crates for name in crate.names()}
+        if unknown:
+            sys.exit(f"no such edit: {' '.join(sorted(unknown))}")
+        for it in crates:
+            it.keep_only(given.edits)
     crates = [it for it in crates if it.edits or it.misnamed]
     return list_plan(crates) if given.plan else try_all(root, crates, given.jobs or jobs_that_fit())
 
@@ -46,6 +52,7 @@ def main():
 def read_words():
     words = argparse.ArgumentParser(description=__doc__, formatter_class=argparse.RawDescriptionHelpFormatter)
     words.add_argument("--crates", nargs="+", metavar="NAME", help="only these crates")
+    words.add_argument("--edits", nargs="+", metavar="NAME", help="only the edits of these names, without .edit")
     words.add_argument("--jobs", type=int, metavar="N", help="so many checks at a time, each of about 3 GB (else as many as processors and free memory allow)")
     listing = words.add_mutually_exclusive_group()
     listing.add_argument("--plan", action="store_true", help="list the batches and the edits that cannot be applied, and check nothing")

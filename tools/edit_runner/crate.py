@@ -110,6 +110,14 @@ class Crate:
     def sources(self):
         return [(path, text) for path, text in sorted(self.texts.items()) if path.startswith("src/") and path.endswith(".rt")]
 
+    def names(self):
+        return [it.name.removesuffix(".edit") for it in self.edits]
+
+    def keep_only(self, names):
+        """Forgets the edits of other names."""
+        self.edits = [it for it, name in zip(self.edits, self.names()) if name in names]
+        self.misnamed = []
+
     def known_as(self, function):
         """Returns what no two functions of one batch may share, since the lines of a check could not tell them apart."""
         return layout.block_names(function.block)[2] if function.block else function.modules, function.name
