@@ -1,7 +1,7 @@
 #!/usr/bin/env python3
-"""Tests tools/batch_edits.py on a repository of one small crate, which it makes in a temporary folder. Edits that the prover
-refuses by themselves pass; an edit of a comment, one whose function only calls another that is refused, one that doesn't compile
-and one that can't be applied are told as failed. The last line is the count."""
+"""Tests tools/batch_edits.py on a repository of one small crate, which it makes in a temporary folder. Edits that the
+prover refuses by themselves pass. An edit of a comment, one whose function only calls another that is refused, one that
+doesn't compile and one that can't be applied are told as failed. The last line is the count."""
 
 import os
 import subprocess
@@ -87,7 +87,8 @@ def make_repository(root, edits):
 
 
 def call(root, *words):
-    done = subprocess.run([sys.executable, TOOL, *words], cwd=root, stdout=subprocess.PIPE, stderr=subprocess.PIPE, text=True)
+    how = {"stdout": subprocess.PIPE, "stderr": subprocess.PIPE, "text": True}
+    done = subprocess.run([sys.executable, TOOL, *words], cwd=root, **how)
     return done.returncode, done.stdout.splitlines(), done.stdout + done.stderr
 
 
@@ -115,9 +116,10 @@ def test_unproved(tests):
     """Nothing passes by edits of a crate that is not proved as it stands."""
     with tempfile.TemporaryDirectory() as root:
         make_repository(root, EDITS[:1])
-        write(root + "/crates/numbers/src/lib.rt", SOURCE.replace("    a / 2", "    a"). replace("result ≤ a", "result ≡ 0"))
+        write(root + "/crates/numbers/src/lib.rt", SOURCE.replace("result ≤ a", "result ≡ 0"))
         status, lines, told = call(root)
-    tests.expect("unproved crate", status == 1 and "the crate itself is not proved" in told and lines[-1:] == ["0 passed, 1 failed"], told)
+    is_told = "the crate itself is not proved" in told
+    tests.expect("unproved crate", status == 1 and is_told and lines[-1:] == ["0 passed, 1 failed"], told)
 
 
 def test_listings(tests):

@@ -7,8 +7,9 @@ It is called at the top of the repository, and tries crates/NAME/edits/ and crat
 repository each crate is proved as it stands; then edits of different functions of a crate make up a batch, which is
 one check. An edit has passed where the prover by itself refuses a function, or impl, whose body it changes: a line `not
 proved`, or `no proof: expected answers in ..`, and not merely `no proof: it calls ..`. An edit of anything but a
-function's body (a constant, a contract, a definition, a proof) goes alone, and has passed where the crate is not proved and the
-prover could read the text. What is not refused in company is tried again alone, and a batch that does not compile is halved.
+function's body (a constant, a contract, a definition, a proof) goes alone, and has passed where the crate is not proved
+and the prover could read the text. What is not refused in company is tried again alone, and a batch that does not compile
+is halved.
 
 On standard error a line for each check. On standard output a line for each edit that was not refused, notes, what each
 crate took, and last 'N passed, M failed'; the status is 1 where any failed."""
@@ -25,8 +26,11 @@ from edit_runner.crate import Crate, crates_of  # noqa: E402
 from edit_runner.runner import Runner, good  # noqa: E402
 
 MEMORY_OF_A_CHECK = 3 << 30
-UNCOVERED = """list the public functions of libraries that no edit changes, and check nothing. Programs are left out, and crates that no
-crate stands on. So are laws, which have no parameter and no result, or an empty body: no edit can change what they do"""
+JOBS = "so many checks at a time, each of about 3 GB (else as many as processors and free memory allow)"
+PLAN = "list the batches and the edits that cannot be applied, and check nothing"
+UNCOVERED = """list the public functions of libraries that no edit changes, and check nothing. Programs are left out, and
+crates that no crate stands on. So are laws, which have neither parameter nor result, or an empty body: no edit can change
+what they do"""
 
 
 def main():
@@ -53,9 +57,9 @@ def read_words():
     words = argparse.ArgumentParser(description=__doc__, formatter_class=argparse.RawDescriptionHelpFormatter)
     words.add_argument("--crates", nargs="+", metavar="NAME", help="only these crates")
     words.add_argument("--edits", nargs="+", metavar="NAME", help="only the edits of these names, without .edit")
-    words.add_argument("--jobs", type=int, metavar="N", help="so many checks at a time, each of about 3 GB (else as many as processors and free memory allow)")
+    words.add_argument("--jobs", type=int, metavar="N", help=JOBS)
     listing = words.add_mutually_exclusive_group()
-    listing.add_argument("--plan", action="store_true", help="list the batches and the edits that cannot be applied, and check nothing")
+    listing.add_argument("--plan", action="store_true", help=PLAN)
     listing.add_argument("--uncovered", action="store_true", help=UNCOVERED)
     return words.parse_args()
 
@@ -110,7 +114,8 @@ def try_all(root, crates, jobs):
                 print(f"{'note: ' if judgement.is_refused else ''}{it.label}: {judgement.text}")
             passed, failed = passed + judgement.is_refused, failed + (not judgement.is_refused)
         for it in crate.misnamed:
-            print(f"{os.path.relpath(it, root)}: BAD EDIT: an edit's name is of letters, digits, _, - and . and ends in .edit")
+            why = "an edit's name is of letters, digits, _, - and . and ends in .edit"
+            print(f"{os.path.relpath(it, root)}: BAD EDIT: {why}")
             failed += 1
         print(
             f"{crate.name}: {len(crate.edits)} edits in {runner.tried[crate]} checks, {runner.edits_cpu[crate]:.0f} CPU s;"

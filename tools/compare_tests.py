@@ -5,7 +5,8 @@ functions under #[test].
     tools/compare_tests.py COMMIT          lists the names of a commit, with the file that each stands in
     tools/compare_tests.py OLD NEW         says which names went and which came; a name that only moved is counted
 
-A name that stands in several crates counts as often. The last line says how many went and came; the status is 1 where any went."""
+A name that stands in several crates counts as often. The last line says how many went and came; the status is 1 where
+any went."""
 
 import collections
 import io

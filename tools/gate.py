@@ -3,8 +3,8 @@
 
     tools/gate.py [--keep-going]
 
-As a part ends, a line says how long it took. A part that fails stops the gate, unless --keep-going is given. The last line is
-'N passed, M failed', the sum over all parts that ran; the status is 1 where anything failed."""
+As a part ends, a line says how long it took. A part that fails stops the gate, unless --keep-going is given. The last
+line is 'N passed, M failed', the sum over all parts that ran; the status is 1 where anything failed."""
 
 import dataclasses
 import os
@@ -33,7 +33,8 @@ class Outcome:
     cpu: float
 
     def __str__(self):
-        return f"{self.name}: {self.passed} passed, {self.failed} failed in {minutes(self.wall)}, {minutes(self.cpu)} of processors"
+        counts = f"{self.passed} passed, {self.failed} failed"
+        return f"{self.name}: {counts} in {minutes(self.wall)}, {minutes(self.cpu)} of processors"
 
 
 def minutes(seconds):
@@ -41,10 +42,12 @@ def minutes(seconds):
 
 
 def run(name):
-    """Runs a part and lets its output through. One that gives no count, or fails and counts no failure, counts as one failed."""
+    """Runs a part and lets its output through. One that gives no count, or fails and counts no failure, counts as one
+    failed."""
     began, counted = time.time(), (0, 1)
-    words = ["make", "--no-print-directory", name]
-    part = subprocess.Popen(words, stdout=subprocess.PIPE, text=True, errors="replace", env={**os.environ, "PYTHONUNBUFFERED": "1"})
+    how = {"stdout": subprocess.PIPE, "text": True, "errors": "replace"}
+    how["env"] = {**os.environ, "PYTHONUNBUFFERED": "1"}
+    part = subprocess.Popen(["make", "--no-print-directory", name], **how)
     for line in part.stdout:
         print(line, end="", flush=True)
         found = COUNT.fullmatch(line.rstrip("\n"))

@@ -16,7 +16,7 @@ class Judgement:
 
 
 def batches_of(edits):
-    """Returns the edits in as few batches as their functions allow. An edit of anything but the body of a function goes alone."""
+    """Returns the edits in as few batches as their functions allow. One of anything but a function's body goes alone."""
     left, made = [it for it in edits if it.shares], []
     while left:
         texts, names, batch, later = {}, set(), [], []
@@ -108,7 +108,8 @@ def try_batch(crate, batch, check, tell):
     for it in batch:
         found[it], verdicts = judged(crate, it, answer)
         counted.update(verdicts)
-    refused_beside = [name for (kind, name), verdict in answer.verdicts.items() if kind == "fn" and (kind, name) not in counted and checks.is_by_itself(verdict)]
+    others = {it: verdict for it, verdict in answer.verdicts.items() if it[0] == "fn" and it not in counted}
+    refused_beside = [name for (_, name), verdict in others.items() if checks.is_by_itself(verdict)]
     if refused_beside and all(it.shares for it in batch):
         said += f"; refused too, though no edit changes it: {', '.join(refused_beside[:4])}"
     again = [it for it in batch if not found[it].is_refused] if len(batch) > 1 else []

@@ -64,14 +64,14 @@ class Checks:
     def __init__(self):
         self.running, self.is_stopped, self.lock = set(), False, threading.Lock()
 
-    def run(self, folder):
+    def run(self, folder, jobs=1):
         began = time.time()
         with tempfile.TemporaryFile("w+", errors="replace") as out:
             with self.lock:
                 if self.is_stopped:
                     raise RuntimeError("stopped")
                 how = {"cwd": folder, "stdin": subprocess.DEVNULL, "stdout": out, "stderr": subprocess.STDOUT}
-                child = subprocess.Popen(["rt", "check", "--jobs", "1"], start_new_session=True, **how)
+                child = subprocess.Popen(["rt", "check", "--jobs", str(jobs)], start_new_session=True, **how)
                 self.running.add(child.pid)
             alarm = threading.Timer(LONGEST, os.killpg, (child.pid, signal.SIGKILL))
             alarm.daemon = True

@@ -108,7 +108,7 @@ class Crate:
         self.misnamed = [it for it in files if not NAME.fullmatch(os.path.basename(it)) and not it.endswith(".md")]
 
     def sources(self):
-        return [(path, text) for path, text in sorted(self.texts.items()) if path.startswith("src/") and path.endswith(".rt")]
+        return [it for it in sorted(self.texts.items()) if it[0].startswith("src/") and it[0].endswith(".rt")]
 
     def names(self):
         return [it.name.removesuffix(".edit") for it in self.edits]
@@ -140,7 +140,8 @@ def is_public(function, text):
 
 
 def is_law(function, text):
-    """Returns whether there is nothing to a function but its contract: it has no parameter and no result, or its body is empty."""
+    """Returns whether there is nothing to a function but its contract: it has neither parameter nor result, or its body is
+    empty."""
     has_nothing = re.search(r"fn \w+\(\)(?!\s*->)", text[function.start : function.body])
     lines = text[function.body : function.end].split("\n")
     return has_nothing or not any(line.strip(" {}") and not line.strip().startswith("//") for line in lines)

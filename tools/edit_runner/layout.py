@@ -11,8 +11,8 @@ TYPE = re.compile(rf"(?m)^ *{VISIBILITY}(?:struct|enum|union|trait) (\w+)")
 
 @dataclasses.dataclass(frozen=True)
 class Function:
-    """A function, its modules below the crate, the header of the impl or trait that it stands in (or ""), and where it starts,
-    its body starts and it ends."""
+    """A function, its modules below the crate, the header of the impl or trait that it stands in (or ""), and where it
+    starts, its body starts and it ends."""
 
     path: str
     modules: str

@@ -56,7 +56,8 @@ class Runner:
             # One crate at a time is proved as it stands, the lowest first: two at once would build the same library.
             if unproved and not any(batch is None for _, batch in running.values()):
                 crate = unproved.popleft()
-                running[pool.submit(self.prove, crate)] = crate, None
+                idle = self.jobs - len(running) - len(ready)
+                running[pool.submit(self.prove, crate, max(1, idle))] = crate, None
             while ready and len(running) < self.jobs:
                 crate, batch = ready.pop(0)
                 running[pool.submit(self.try_batch, crate, batch)] = crate, batch
@@ -78,10 +79,10 @@ class Runner:
                     yield crate
             start()
 
-    def prove(self, crate):
+    def prove(self, crate, jobs):
         """Proves a crate as it stands, and sets aside what that kept. Returns whether it is proved."""
         folder = f"{self.base}/crates/{crate.name}"
-        answer = self.checks.run(folder)
+        answer = self.checks.run(folder, jobs)
         is_proved = answer.status == checks.PROVED
         self.own_cpu[crate] = answer.cpu
         how = "is proved" if is_proved else "IS NOT PROVED"
