@@ -17,6 +17,7 @@ use crate::fault::{Cause, TextFault};
 use crate::fields::{Field, is_same_name};
 use ctl_relation::{
     FieldKind, Group, RelationFault, Relations, Version, VersionFault, is_name, parse_relations,
+    reading_is_the_grammar,
 };
 use std::alloc::Global;
 
@@ -103,6 +104,7 @@ fn read_relations(
     ensures bad { IfErr result (λ fault. fault ≢ relation.Memory → is_read (relations_of kind body.now) ≡ false) }
     ensures fields { OnOk result (fields.new.items ≡ fields.old.items ++ relation_field kind body.now ∷ []) }
 {
+    reading_is_the_grammar();
     let relations = parse_relations(alloc, body, kind)?;
     fields.push(RelationField { kind, relations })?;
     Ok(())
