@@ -39,23 +39,23 @@ pub(crate) struct LiveParts {
 fn relation_kind(name: &[u8]) -> Option<FieldKind>
     ensures { result ≡ relation_kind name.now }
 {
-    if is_same_name(name, b"Pre-Depends") {
+    if is_same_name(name, FieldKind::PreDepends.key()) {
         Some(FieldKind::PreDepends)
-    } else if is_same_name(name, b"Depends") {
+    } else if is_same_name(name, FieldKind::Depends.key()) {
         Some(FieldKind::Depends)
-    } else if is_same_name(name, b"Conflicts") {
+    } else if is_same_name(name, FieldKind::Conflicts.key()) {
         Some(FieldKind::Conflicts)
-    } else if is_same_name(name, b"Breaks") {
+    } else if is_same_name(name, FieldKind::Breaks.key()) {
         Some(FieldKind::Breaks)
-    } else if is_same_name(name, b"Recommends") {
+    } else if is_same_name(name, FieldKind::Recommends.key()) {
         Some(FieldKind::Recommends)
-    } else if is_same_name(name, b"Suggests") {
+    } else if is_same_name(name, FieldKind::Suggests.key()) {
         Some(FieldKind::Suggests)
-    } else if is_same_name(name, b"Replaces") {
+    } else if is_same_name(name, FieldKind::Replaces.key()) {
         Some(FieldKind::Replaces)
-    } else if is_same_name(name, b"Enhances") {
+    } else if is_same_name(name, FieldKind::Enhances.key()) {
         Some(FieldKind::Enhances)
-    } else if is_same_name(name, b"Provides") {
+    } else if is_same_name(name, FieldKind::Provides.key()) {
         Some(FieldKind::Provides)
     } else {
         None
