@@ -39,27 +39,12 @@ pub(crate) struct LiveParts {
 fn relation_kind(name: &[u8]) -> Option<FieldKind>
     ensures { result ≡ relation_kind name.now }
 {
-    if is_same_name(name, FieldKind::PreDepends.key()) {
-        Some(FieldKind::PreDepends)
-    } else if is_same_name(name, FieldKind::Depends.key()) {
-        Some(FieldKind::Depends)
-    } else if is_same_name(name, FieldKind::Conflicts.key()) {
-        Some(FieldKind::Conflicts)
-    } else if is_same_name(name, FieldKind::Breaks.key()) {
-        Some(FieldKind::Breaks)
-    } else if is_same_name(name, FieldKind::Recommends.key()) {
-        Some(FieldKind::Recommends)
-    } else if is_same_name(name, FieldKind::Suggests.key()) {
-        Some(FieldKind::Suggests)
-    } else if is_same_name(name, FieldKind::Replaces.key()) {
-        Some(FieldKind::Replaces)
-    } else if is_same_name(name, FieldKind::Enhances.key()) {
-        Some(FieldKind::Enhances)
-    } else if is_same_name(name, FieldKind::Provides.key()) {
-        Some(FieldKind::Provides)
-    } else {
-        None
+    for kind in FieldKind::nine() {
+        if is_same_name(name, kind.key()) {
+            return Some(*kind);
+        }
     }
+    None
 }
 
 /// The groups that are kept of a relation field; none where it wasn't given.
