@@ -1,13 +1,12 @@
 -- The key of a part goes by turns, and a tilde comes first.
-use Rattle.std.proofs.Common.{◌≡◌, ℕ, ◌+◌, ◌*◌, Bool, true, false, cond, ℤ, pos, negsuc, List, [], ◌∷◌, ◌++◌, Some, None, Option, sym, ap, ◌∙◌, refl}
+use Rattle.std.proofs.Common.{◌≡◌, ℕ, ◌+◌, ◌*◌, Bool, true, false, cond, ℤ, pos, negsuc, List, [], ◌∷◌, ◌++◌, Some, None, Option, ap, ◌∙◌, refl}
 use Rattle.std.specs.Char.{is_ascii_digit, digit_value}
 use Rattle.std.specs.Ordering.{ordering_then}
 use Rattle.std.specs.Cmp.{int_cmp_total}
-use Rattle.std.specs.declared.cmp.Ordering.{Ordering}
 use Rattle.std.specs.declared.cmp.Ordering.TheVariants.{Less}
 use Rattle.std.proofs.lemmas.Cmp.{tied_itself}
 use Rattle.ctl_relation.specs.Bytes.{tilde}
-use Rattle.ctl_relation.specs.Key.{weight, key, key_cmp}
+use Rattle.ctl_relation.specs.Key.{weight, key_cmp}
 use Rattle.ctl_relation.specs.KeyTurns.{KeysGoByTurns, TildeComesFirst}
 use Rattle.ctl_relation.proofs.KeyByByte.{places, turn-key, key_cmp-places}
 
