@@ -9,7 +9,8 @@ use Rattle.ctl_relation.specs.declared.operator.Operator.{Operator}
 use Rattle.ctl_relation.specs.declared.operator.Operator.TheVariants.{Earlier, EarlierOrEqual, Equal, LaterOrEqual, Later}
 use Rattle.ctl_relation.specs.declared.field_kind.FieldKind.{FieldKind}
 use Rattle.ctl_relation.specs.Bytes.{left_parenthesis, right_parenthesis, comma, colon, less_than, equals, greater_than, bar}
-use Rattle.ctl_relation.specs.FieldBytes.{is_whitespace, is_qualifier_byte, is_version_word_byte, run, rest, Stops}
+use Rattle.ctl_relation.specs.FieldBytes.{is_whitespace, is_qualifier_byte, is_version_word_byte}
+use Rattle.ctl_relation.specs.Runs.{run, rest, Stops}
 use Rattle.ctl_relation.specs.Parts.{AtomParts}
 use Rattle.ctl_relation.specs.Version.{is_upstream_byte, fault_of}
 use Rattle.ctl_relation.specs.Names.{is_name_byte}

@@ -8,7 +8,8 @@ use Rattle.ctl_relation.specs.declared.relation_fault.RelationFault.{RelationFau
 use Rattle.ctl_relation.specs.declared.relation_fault.RelationFault.TheVariants as fault
 use Rattle.ctl_relation.specs.declared.field_kind.FieldKind.{FieldKind}
 use Rattle.ctl_relation.specs.Bytes.{left_parenthesis, right_parenthesis, comma, colon, equals, bar}
-use Rattle.ctl_relation.specs.FieldBytes.{is_whitespace, is_qualifier_byte, is_version_word_byte, rest, Stops}
+use Rattle.ctl_relation.specs.FieldBytes.{is_whitespace, is_qualifier_byte, is_version_word_byte}
+use Rattle.ctl_relation.specs.Runs.{rest, Stops}
 use Rattle.ctl_relation.specs.Parts.{AtomParts}
 use Rattle.ctl_relation.specs.Version.{is_upstream_byte, fault_of}
 use Rattle.ctl_relation.specs.Names.{is_name_byte, is_name}

@@ -10,9 +10,9 @@ use Rattle.std.proofs.lemmas.List.Sums.{prefix_len_passes}
 use Rattle.ctl_relation.specs.declared.version_fault.VersionFault.{VersionFault}
 use Rattle.ctl_relation.specs.declared.version_fault.VersionFault.TheVariants as fault
 use Rattle.ctl_relation.specs.Bytes.{hyphen, colon}
-use Rattle.ctl_relation.specs.Version.{Parts, parts_of, text_parts, body_parts, is_epoch, greatest_epoch, fault_of, fault_of_parts, parts_fault, split_first, split_last}
+use Rattle.ctl_relation.specs.Version.{Parts, parts_of, text_parts, body_parts, is_epoch, greatest_epoch, fault_of, split_first, split_last}
 use Rattle.ctl_relation.proofs.CutLemmas.{first_at}
-use Rattle.ctl_relation.proofs.VersionTextLaws.{fails, first_sides, split_first-sides}
+use Rattle.ctl_relation.proofs.VersionTextLaws.{fails, behind_test, first_sides, split_first-sides}
 
 -- ---- an epoch is made of digits
 
@@ -47,8 +47,8 @@ not_false false h = absurd cc
 version-is_epoch : (text : List ℕ) → fault_of text ≡ None → is_epoch (parts_of text).epoch ≡ true
 version-is_epoch text h =
     let parts = parts_of text in
-    let some = passes (length text == 0) fault.Empty (fault_of_parts parts) h in
-    let epoch = passes (not (is_epoch parts.epoch)) fault.Epoch (parts_fault parts) some.1 in
+    let some = passes (length text == 0) fault.Empty (behind_test 1 text) h in
+    let epoch = passes (not (is_epoch parts.epoch)) fault.Epoch (behind_test 2 text) some.1 in
     not_false (is_epoch parts.epoch) epoch.0
 
 pub AllDigits-epoch : (text digits : List ℕ) (parts : Parts) → fault_of text ≡ None → parts ≡ parts_of text → digits ≡ unwrap_or parts.epoch [] → AllDigits 10 digits

@@ -1,14 +1,15 @@
 -- A fault that is read is the fault of the field.
-use Rattle.std.proofs.Common.{◌≡◌, ℕ, suc, ◌+◌, ◌<◌, Bool, true, false, cond, Option, Some, None, List, [], ◌∷◌, ◌++◌, length, take, drop, Result, Ok, Err, refl, sym, ap, subst, ◌∙◌, append_assoc, eqb-true, arith}
+use Rattle.std.proofs.Common.{◌≡◌, ℕ, ◌<◌, Bool, true, false, cond, Option, Some, None, List, [], ◌∷◌, ◌++◌, length, Result, Ok, Err, refl, sym, ap, subst, ◌∙◌, append_assoc, eqb-true, arith}
 use Rattle.std.specs.Prelude.{◌≢◌, ◌==◌, ◌&&◌, ◌||◌, is_none, IfErr}
-use Rattle.std.specs.List.{prefix_len, list_all}
+use Rattle.std.specs.List.{list_all}
 use Rattle.std.specs.Char.{is_ascii_alphanumeric}
 use Rattle.std.proofs.lemmas.Bool.Decides.{nat_tests}
 use Rattle.ctl_relation.specs.declared.relation_fault.RelationFault.{RelationFault}
 use Rattle.ctl_relation.specs.declared.relation_fault.RelationFault.TheVariants as fault
 use Rattle.ctl_relation.specs.declared.field_kind.FieldKind.{FieldKind}
 use Rattle.ctl_relation.specs.Bytes.{left_parenthesis, right_parenthesis, comma, colon, equals, bar}
-use Rattle.ctl_relation.specs.FieldBytes.{is_whitespace, is_qualifier_byte, is_version_word_byte, run, rest, Stops}
+use Rattle.ctl_relation.specs.FieldBytes.{is_whitespace, is_qualifier_byte, is_version_word_byte}
+use Rattle.ctl_relation.specs.Runs.{run, rest}
 use Rattle.ctl_relation.specs.Parts.{AtomParts}
 use Rattle.ctl_relation.specs.Version.{fault_of}
 use Rattle.ctl_relation.specs.Names.{is_name_byte, is_name}
@@ -16,35 +17,8 @@ use Rattle.ctl_relation.specs.FieldKind.{is_provides, has_alternatives}
 use Rattle.ctl_relation.specs.Reading.{name_at, version_at, close_at, relations_of, Gives}
 use Rattle.ctl_relation.specs.Fault.{Place, GroupDue, AtomDue, AfterName, QualifierDue, AfterQualifier, OperatorDue, AfterSign, VersionDue, CloseDue, AfterAtom, takes_name, takes_bracket, takes_bar, takes_comma, takes_version, is_sign, lengthens, StandsAt, at_start, comma_read, bar_read, name_read, colon_read, qualifier_read, bracket_read, equal_read, sign_read, sign_longer, version_read, close_read, name_fault, group_fault, end_fault, bracket_fault, operator_fault, version_fault, close_fault, due_fault, IsFault, NeverMemory, IsWhole}
 use Rattle.ctl_relation.proofs.Only.{}
-use Rattle.ctl_relation.proofs.Found.{run-rest, run-passes}
+use Rattle.ctl_relation.proofs.LongestRuns.{run-rest, run-passes, run-more, run-none, rest-stops}
 use Rattle.ctl_relation.proofs.Runs.{Next, Ends, Moves, next_of, next_behind, group_next, end_next, bracket_next, operator_next, version_next, next, Runs, ends, moves, on_test, more_than, fault_in, reader_runs}
-
--- ---- runs of bytes
-
-run-more : (p : ℕ → Bool) (b : ℕ) (text : List ℕ) → p b ≡ true → run p (b ∷ text) ≡ b ∷ run p text
-run-more p b text h =
-    let one : 1 + prefix_len p text ≡ suc (prefix_len p text) = omega arith in
-    ap (λ n. take n (b ∷ text)) (ap (λ t. cond t (1 + prefix_len p text) 0) h ∙ one)
-
-run-none : (p : ℕ → Bool) (b : ℕ) (text : List ℕ) → p b ≡ false → run p (b ∷ text) ≡ []
-run-none p b text h = ap (λ n. take n (b ∷ text)) (ap (λ t. cond t (1 + prefix_len p text) 0) h)
-
-rest-more : (p : ℕ → Bool) (b : ℕ) (text : List ℕ) → p b ≡ true → rest p (b ∷ text) ≡ rest p text
-rest-more p b text h =
-    let one : 1 + prefix_len p text ≡ suc (prefix_len p text) = omega arith in
-    ap (λ n. drop n (b ∷ text)) (ap (λ t. cond t (1 + prefix_len p text) 0) h ∙ one)
-
-rest-all : (p : ℕ → Bool) (b : ℕ) (text : List ℕ) → p b ≡ false → rest p (b ∷ text) ≡ b ∷ text
-rest-all p b text h = ap (λ n. drop n (b ∷ text)) (ap (λ t. cond t (1 + prefix_len p text) 0) h)
-
--- behind the longest run no byte passes
-rest-stops : (p : ℕ → Bool) (text : List ℕ) → Stops p (rest p text)
-rest-stops p [] = tt
-rest-stops p (b ∷ text) = go (p b) refl (rest-stops p text)
-  where
-    go : (u : Bool) → p b ≡ u → Stops p (rest p text) → Stops p (rest p (b ∷ text))
-    go true u h = let P : List ℕ → Type 0 = Stops p in subst P (sym (rest-more p b text u)) h
-    go false u h = let P : List ℕ → Type 0 = Stops p in subst P (sym (rest-all p b text u)) u
 
 -- ---- the table of faults is where the places end
 

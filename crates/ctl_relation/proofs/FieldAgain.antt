@@ -1,6 +1,6 @@
 -- A field of the grammar is read, with its groups.
-use Rattle.std.proofs.Common.{◌≡◌, ◌⊎◌, ℕ, zero, suc, ◌+◌, ◌<◌, ◌≤◌, Bool, true, false, cond, Option, Some, None, List, [], ◌∷◌, ◌++◌, length, Result, Err, refl, sym, ap, subst, ◌∙◌, append_assoc, append-nil, length-append, length-drop, arith, inl, inr}
-use Rattle.std.specs.Prelude.{◌==◌, ◌&&◌}
+use Rattle.std.proofs.Common.{◌≡◌, ◌⊎◌, ℕ, zero, suc, ◌+◌, ◌<◌, ◌≤◌, Bool, true, false, cond, Option, Some, None, List, [], ◌∷◌, ◌++◌, length, Result, Ok, Err, refl, sym, ap, subst, ◌∙◌, append_assoc, append-nil, length-append, length-drop, arith, inl, inr}
+use Rattle.std.specs.Prelude.{◌==◌, ◌&&◌, IfOk, IfErr}
 use Rattle.std.specs.List.{prefix_len}
 use Rattle.std.specs.Char.{is_ascii_alphanumeric}
 use Rattle.std.proofs.lemmas.Bool.Decides.{nat_tests}
@@ -8,12 +8,14 @@ use Rattle.ctl_relation.specs.declared.relation_fault.RelationFault.{RelationFau
 use Rattle.ctl_relation.specs.declared.relation_fault.RelationFault.TheVariants as fault
 use Rattle.ctl_relation.specs.declared.field_kind.FieldKind.{FieldKind}
 use Rattle.ctl_relation.specs.Bytes.{comma, bar}
-use Rattle.ctl_relation.specs.FieldBytes.{is_whitespace, rest, Stops}
+use Rattle.ctl_relation.specs.FieldBytes.{is_whitespace}
+use Rattle.ctl_relation.specs.Runs.{rest, Stops}
 use Rattle.ctl_relation.specs.Parts.{AtomParts}
 use Rattle.ctl_relation.specs.Names.{is_name}
 use Rattle.ctl_relation.specs.Reading.{◌>>=◌, atom_at, behind_byte, alternatives, group_at, groups_behind, groups_from, groups_at, relations_of, Gives}
-use Rattle.ctl_relation.specs.Grammar.{IsWhitespace, AtomText, PaddedAtom, GroupText, PiecesText, groups_of, RelationsText}
+use Rattle.ctl_relation.specs.Grammar.{IsWhitespace, AtomText, PaddedAtom, GroupText, PiecesText, given_groups, RelationsText}
 use Rattle.ctl_relation.proofs.Only.{rest_again}
+use Rattle.ctl_relation.proofs.MemoryAlone.{memory_alone}
 use Rattle.ctl_relation.proofs.AtomAgain.{taken, step, atom_again}
 
 -- a group goes up to a comma or the end
@@ -137,7 +139,7 @@ group_first kind n text after group r =
     ∙ step (group_at (length x + 1) kind x) (λ g. groups_behind (groups_at n kind) g.0 (rest is_whitespace g.1) (behind_byte comma (rest is_whitespace g.1))) (group, r.left) r.read
     ∙ ap (λ z. groups_behind (groups_at n kind) group z (behind_byte comma z)) r.follows
 
-pieces_again : (kind : FieldKind) (n : ℕ) (text : List ℕ) (pieces : List (Option (List AtomParts))) → PiecesText kind text pieces → length text < n → groups_at n kind text ≡ taken (groups_of pieces)
+pieces_again : (kind : FieldKind) (n : ℕ) (text : List ℕ) (pieces : List (Option (List AtomParts))) → PiecesText kind text pieces → length text < n → groups_at n kind text ≡ taken (given_groups pieces)
 pieces_again kind zero text pieces h l = absurd (omega arith)
 pieces_again kind (suc n) text [] h l = absurd h
 pieces_again kind (suc n) text (None ∷ []) h l = ap (λ z. groups_from (groups_at n kind) kind z (behind_byte comma z)) (blank_rest text h)
@@ -151,11 +153,14 @@ pieces_again kind (suc n) text (Some group ∷ other ∷ more) h l =
     let P : List ℕ → Type 0 = λ z. ReadGroup kind (length (rest is_whitespace z) + 1) z group (comma ∷ h.1) in
     let r = group_again kind (length (rest is_whitespace (h.0 ++ comma ∷ h.1)) + 1) h.0 (comma ∷ h.1) group h.2 (inr (h.1, refl)) (omega arith) in
     group_first kind n text (comma ∷ h.1) group (subst P (sym h.4) r)
-    ∙ step (groups_at n kind h.1) (λ y. taken (group ∷ y)) (groups_of (other ∷ more)) (pieces_again kind n h.1 (other ∷ more) h.3 (omega (arith, ap length h.4, length-append h.0 (comma ∷ h.1))))
+    ∙ step (groups_at n kind h.1) (λ y. taken (group ∷ y)) (given_groups (other ∷ more)) (pieces_again kind n h.1 (other ∷ more) h.3 (omega (arith, ap length h.4, length-append h.0 (comma ∷ h.1))))
 
 -- what is in the grammar is read
 pub relations_again : (kind : FieldKind) (body : List ℕ) (groups : List (List AtomParts)) → RelationsText kind body groups → relations_of kind body ≡ taken groups
 relations_again kind body groups h = pieces_again kind (length body + 1) body h.0 h.1 (omega arith) ∙ ap (λ (g : List (List AtomParts)). taken g) (sym h.2)
 
-pub gives_again : (kind : FieldKind) (body : List ℕ) (r : Result (List (List AtomParts)) RelationFault) → Gives (λ (x : List (List AtomParts)). x) r (relations_of kind body) → (groups : List (List AtomParts)) → RelationsText kind body groups → Gives (λ (x : List (List AtomParts)). x) r (taken groups)
-gives_again kind body r h groups t = let P : Result (List (List AtomParts)) RelationFault → Type 0 = Gives (λ (x : List (List AtomParts)). x) r in subst P (relations_again kind body groups t) h
+-- What a body in the grammar is read to are its groups, or memory runs out.
+pub gives_again : (kind : FieldKind) (body : List ℕ) (r : Result (List (List AtomParts)) RelationFault) → Gives (λ (x : List (List AtomParts)). x) r (relations_of kind body) → (groups : List (List AtomParts)) → RelationsText kind body groups
+    → IfOk r (λ x. x ≡ groups) × IfErr r (λ e. e ≡ fault.Memory)
+gives_again kind body (Ok x) h groups t = let e : taken x ≡ taken groups = sym h ∙ relations_again kind body groups t in (cc, tt)
+gives_again kind body (Err e) h groups t = (tt, memory_alone e (λ n. let z : taken groups ≡ Err e = sym (relations_again kind body groups t) ∙ h n in cc))

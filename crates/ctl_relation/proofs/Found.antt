@@ -1,22 +1,23 @@
 -- What is read is in the grammar.
-use Rattle.std.proofs.Common.{◌≡◌, ℕ, zero, suc, ◌+◌, ◌<◌, Bool, true, false, cond, Option, Some, None, List, [], ◌∷◌, ◌++◌, length, take, Result, Ok, Err, refl, sym, ap, subst, ◌∙◌, append_assoc, append-nil, eqb-true, arith, inl, inr}
+use Rattle.std.proofs.Common.{◌≡◌, ℕ, zero, suc, ◌+◌, ◌<◌, Bool, true, false, cond, Option, Some, None, List, [], ◌∷◌, ◌++◌, length, Result, Ok, Err, refl, sym, ap, subst, ◌∙◌, append_assoc, append-nil, eqb-true, arith, inl, inr}
 use Rattle.std.specs.Prelude.{◌==◌, not, ◌&&◌, is_none, IfOk}
-use Rattle.std.specs.List.{prefix_len, list_all}
+use Rattle.std.specs.List.{list_all}
 use Rattle.std.proofs.lemmas.Bool.Decides.{nat_tests}
-use Rattle.std.proofs.lemmas.List.{take-append-drop}
 use Rattle.std.proofs.lemmas.List.Folds.{list_all-append}
 use Rattle.ctl_relation.specs.declared.relation_fault.RelationFault.{RelationFault}
 use Rattle.ctl_relation.specs.declared.relation_fault.RelationFault.TheVariants as fault
 use Rattle.ctl_relation.specs.declared.operator.Operator.{Operator}
 use Rattle.ctl_relation.specs.declared.field_kind.FieldKind.{FieldKind}
 use Rattle.ctl_relation.specs.Bytes.{left_parenthesis, right_parenthesis, comma, colon, less_than, equals, greater_than, bar}
-use Rattle.ctl_relation.specs.FieldBytes.{is_whitespace, is_qualifier_byte, is_version_word_byte, run, rest}
+use Rattle.ctl_relation.specs.FieldBytes.{is_whitespace, is_qualifier_byte, is_version_word_byte}
+use Rattle.ctl_relation.specs.Runs.{run, rest}
 use Rattle.ctl_relation.specs.Parts.{AtomParts}
 use Rattle.ctl_relation.specs.Version.{fault_of}
 use Rattle.ctl_relation.specs.Names.{is_name_byte, is_name}
 use Rattle.ctl_relation.specs.FieldKind.{is_provides, has_alternatives, is_exact}
+use Rattle.ctl_relation.proofs.LongestRuns.{run-rest, run-passes}
 use Rattle.ctl_relation.specs.Reading.{◌>>=◌, name_at, qualifier_at, operator_token, allowed, operator_at, version_at, close_at, parenthesized_at, bound_behind, bound_at, atom_at, behind_byte, alternatives, group_at, groups_behind, groups_from, groups_at, relations_of, Gives}
-use Rattle.ctl_relation.specs.Grammar.{IsWhitespace, IsSpelled, QualifierText, BoundText, AtomText, PaddedAtom, GroupText, PieceText, PiecesText, groups_of, RelationsText}
+use Rattle.ctl_relation.specs.Grammar.{IsWhitespace, IsSpelled, QualifierText, BoundText, AtomText, PaddedAtom, GroupText, PieceText, PiecesText, given_groups, RelationsText}
 
 bind_ok : {A B : Type 0} (r : Result A RelationFault) (f : A → Result B RelationFault) (y : B) → (r >>= f) ≡ Ok y → (x : A) × (r ≡ Ok x) × (f x ≡ Ok y)
 bind_ok (Ok x) f y e = (x, refl, e)
@@ -39,19 +40,6 @@ regroup a b c d v f after = simp append_assoc
 guard_err : {A : Type 0} (b : Bool) (d : RelationFault) (x y : A) → cond b (Err d) (Ok x) ≡ Ok y → (b ≡ false) × (x ≡ y)
 guard_err true d x y e = absurd cc
 guard_err false d x y e = (refl, cc)
-
-pub run-rest : (p : ℕ → Bool) (text : List ℕ) → text ≡ run p text ++ rest p text
-run-rest p text = sym (take-append-drop (prefix_len p text) text)
-
-pub run-passes : (p : ℕ → Bool) (text : List ℕ) → list_all p (run p text) ≡ true
-run-passes p [] = refl
-run-passes p (b ∷ text) = passes (p b) refl (run-passes p text)
-  where
-    passes : (t : Bool) → p b ≡ t → list_all p (run p text) ≡ true → list_all p (run p (b ∷ text)) ≡ true
-    passes true e h =
-        let one : 1 + prefix_len p text ≡ suc (prefix_len p text) = omega arith in
-        ap (λ n. list_all p (take n (b ∷ text))) (ap (λ t. cond t (1 + prefix_len p text) 0) e ∙ one) ∙ ap (λ t. t && list_all p (run p text)) e ∙ h
-    passes false e h = ap (λ n. list_all p (take n (b ∷ text))) (ap (λ t. cond t (1 + prefix_len p text) 0) e)
 
 name_found : (text : List ℕ) (x : List ℕ × List ℕ) → name_at text ≡ Ok x → (is_name x.0 ≡ true) × (text ≡ x.0 ++ x.1)
 name_found text x e =
@@ -316,7 +304,7 @@ group_found (suc n) kind text x e =
 
 -- ---- fields
 
-one_piece : (kind : FieldKind) (text : List ℕ) (piece : Option (List AtomParts)) → PieceText kind text piece → RelationsText kind text (groups_of (piece ∷ []))
+one_piece : (kind : FieldKind) (text : List ℕ) (piece : Option (List AtomParts)) → PieceText kind text piece → RelationsText kind text (given_groups (piece ∷ []))
 one_piece kind text piece h = (piece ∷ [], h, refl)
 
 -- one more piece in front
@@ -324,7 +312,7 @@ more_pieces : (kind : FieldKind) (first after : List ℕ) (piece : Option (List 
     → RelationsText kind (first ++ comma ∷ after) (put piece groups)
 more_pieces kind first after piece groups h r = go piece r.0 r.1 r.2 h
   where
-    go : (piece : Option (List AtomParts)) (pieces : List (Option (List AtomParts))) → PiecesText kind after pieces → groups ≡ groups_of pieces → PieceText kind first piece → RelationsText kind (first ++ comma ∷ after) (put piece groups)
+    go : (piece : Option (List AtomParts)) (pieces : List (Option (List AtomParts))) → PiecesText kind after pieces → groups ≡ given_groups pieces → PieceText kind first piece → RelationsText kind (first ++ comma ∷ after) (put piece groups)
     go piece [] p e h = absurd p
     go None (other ∷ more) p e h = (None ∷ other ∷ more, (first, after, h, p, refl), e)
     go (Some group) (other ∷ more) p e h = (Some group ∷ other ∷ more, (first, after, h, p, refl), ap (λ (l : List (List AtomParts)). group ∷ l) e)

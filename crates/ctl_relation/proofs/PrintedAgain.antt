@@ -6,7 +6,7 @@ use Rattle.ctl_relation.specs.declared.operator.Operator.{Operator}
 use Rattle.ctl_relation.specs.declared.operator.Operator.TheVariants.{Earlier, EarlierOrEqual, Equal, LaterOrEqual, Later}
 use Rattle.ctl_relation.specs.declared.field_kind.FieldKind.{FieldKind}
 use Rattle.ctl_relation.specs.Bytes.{space, bar}
-use Rattle.ctl_relation.specs.Grammar.{IsWhitespace, IsSpelled, QualifierText, BoundText, AtomText, PaddedAtom, GroupText, PiecesText, groups_of, RelationsText}
+use Rattle.ctl_relation.specs.Grammar.{IsWhitespace, IsSpelled, QualifierText, BoundText, AtomText, PaddedAtom, GroupText, PiecesText, given_groups, RelationsText}
 use Rattle.ctl_relation.specs.Parts.{AtomParts}
 use Rattle.ctl_relation.specs.Printed.{operator_text, qualifier_text, bound_text, atom_text, alternative_text, group_text}
 use Rattle.ctl_relation.specs.ReadAgain.{AtomsReadAgain, GroupsReadAgain}
@@ -93,12 +93,12 @@ group_atoms kind text (atom ∷ []) h = All-cons (AtomAgain kind) atom [] (one_a
 group_atoms kind text (atom ∷ other ∷ more) h = All-cons (AtomAgain kind) atom (other ∷ more) (one_atom kind h.0 atom h.2) (group_atoms kind h.1 (other ∷ more) h.4)
 
 -- what holds of each group of the grammar holds of the groups of a field
-pieces_have : (kind : FieldKind) (P : List AtomParts → Type 0) → ((text : List ℕ) (group : List AtomParts) → GroupText kind text group → P group) → (text : List ℕ) (pieces : List (Option (List AtomParts))) → PiecesText kind text pieces → All P (groups_of pieces)
+pieces_have : (kind : FieldKind) (P : List AtomParts → Type 0) → ((text : List ℕ) (group : List AtomParts) → GroupText kind text group → P group) → (text : List ℕ) (pieces : List (Option (List AtomParts))) → PiecesText kind text pieces → All P (given_groups pieces)
 pieces_have kind P f text [] h = absurd h
 pieces_have kind P f text (None ∷ []) h = λ k d l. absurd (omega arith)
 pieces_have kind P f text (Some group ∷ []) h = All-cons P group [] (f text group h) (λ k d l. absurd (omega arith))
 pieces_have kind P f text (None ∷ other ∷ more) h = pieces_have kind P f h.1 (other ∷ more) h.3
-pieces_have kind P f text (Some group ∷ other ∷ more) h = All-cons P group (groups_of (other ∷ more)) (f h.0 group h.2) (pieces_have kind P f h.1 (other ∷ more) h.3)
+pieces_have kind P f text (Some group ∷ other ∷ more) h = All-cons P group (given_groups (other ∷ more)) (f h.0 group h.2) (pieces_have kind P f h.1 (other ∷ more) h.3)
 
 pub fields_have : (kind : FieldKind) (P : List AtomParts → Type 0) → ((text : List ℕ) (group : List AtomParts) → GroupText kind text group → P group) → (body : List ℕ) (groups : List (List AtomParts)) → RelationsText kind body groups → All P groups
 fields_have kind P f body groups h = let Q : List (List AtomParts) → Type 0 = All P in subst Q (sym h.2) (pieces_have kind P f body h.0 h.1)

@@ -1,5 +1,5 @@
 -- Each text has parts, and no others, and no test of it is one of memory.
-use Rattle.std.proofs.Common.{◌≡◌, ◌≢◌, ℕ, zero, suc, ◌<◌, Bool, true, false, cond, List, [], ◌∷◌, ◌++◌, Option, Some, None, length, refl, sym, ap, ◌∙◌, arith, eq-eqb, append_assoc}
+use Rattle.std.proofs.Common.{◌≡◌, ◌≢◌, ℕ, zero, suc, ◌<◌, Bool, true, false, cond, List, [], ◌∷◌, ◌++◌, Option, Some, None, length, drop, refl, sym, ap, ◌∙◌, arith, eq-eqb, append_assoc}
 use Rattle.std.specs.Prelude.{◌==◌, unwrap_or, not, ◌&&◌}
 use Rattle.std.specs.Option.{option_map}
 use Rattle.std.specs.List.{All, list_all, slice_index_or}
@@ -8,7 +8,7 @@ use Rattle.std.proofs.lemmas.Bool.Decides.{nat_tests}
 use Rattle.ctl_relation.specs.declared.version_fault.VersionFault.{VersionFault}
 use Rattle.ctl_relation.specs.declared.version_fault.VersionFault.TheVariants as fault
 use Rattle.ctl_relation.specs.Bytes.{hyphen, colon}
-use Rattle.ctl_relation.specs.Version.{parts_of, text_parts, body_parts, split_first, split_last, at_last, is_epoch, is_upstream_byte, is_revision_text, is_empty_revision, fault_of_parts, parts_fault}
+use Rattle.ctl_relation.specs.Version.{parts_of, text_parts, body_parts, split_first, split_last, at_last, is_epoch, is_upstream_byte, is_revision_text, is_empty_revision, tests, first_failed}
 use Rattle.ctl_relation.specs.VersionText.{AreParts, TextsHaveParts, PartsAreUnique, NoTestOfMemory, epoch_text, hyphen_text}
 use Rattle.ctl_relation.proofs.CutLemmas.{unlike, first_none, last_none}
 
@@ -137,6 +137,10 @@ parts_are_unique text parts h = sym (parts_of-unique text parts.epoch parts.upst
 abbrev pub fails : VersionFault → Option VersionFault
 fails found = Some found
 
+-- the first test that a text fails behind so many of them
+abbrev pub behind_test : ℕ → List ℕ → Option VersionFault
+behind_test n text = first_failed (drop n (tests text (parts_of text)))
+
 -- a test that is not one of memory, and those behind it
 later_test : (t : Bool) (found : VersionFault) (later : Option VersionFault) → found ≢ fault.Memory → cond t (fails found) later ≡ Some fault.Memory → later ≡ Some fault.Memory
 later_test true found later n h = absurd (n cc)
@@ -145,11 +149,9 @@ later_test false found later n h = h
 pub no_test_of_memory : NoTestOfMemory
 no_test_of_memory text h =
     let parts = parts_of text in
-    let revision = cond (is_empty_revision parts.revision) (fails fault.Revision) None in
-    let character = cond (not (list_all is_upstream_byte parts.upstream && is_revision_text parts.revision)) (fails fault.Character) revision in
-    let at_epoch = later_test (length text == 0) fault.Empty (fault_of_parts parts) (λ e. cc) h in
-    let at_upstream = later_test (not (is_epoch parts.epoch)) fault.Epoch (parts_fault parts) (λ e. cc) at_epoch in
-    let at_character = later_test (length parts.upstream == 0) fault.Upstream character (λ e. cc) at_upstream in
-    let at_revision = later_test (not (list_all is_upstream_byte parts.upstream && is_revision_text parts.revision)) fault.Character revision (λ e. cc) at_character in
+    let at_epoch = later_test (length text == 0) fault.Empty (behind_test 1 text) (λ e. cc) h in
+    let at_upstream = later_test (not (is_epoch parts.epoch)) fault.Epoch (behind_test 2 text) (λ e. cc) at_epoch in
+    let at_character = later_test (length parts.upstream == 0) fault.Upstream (behind_test 3 text) (λ e. cc) at_upstream in
+    let at_revision = later_test (not (list_all is_upstream_byte parts.upstream && is_revision_text parts.revision)) fault.Character (behind_test 4 text) (λ e. cc) at_character in
     let at_end = later_test (is_empty_revision parts.revision) fault.Revision None (λ e. cc) at_revision in
     cc

@@ -1,6 +1,5 @@
--- The bytes of relation fields, and runs of them.
-use Rattle.std.specs.Prelude.{◌≡◌, ℕ, ◌==◌, ◌||◌, not, Bool, false, List, [], ◌∷◌, take, drop}
-use Rattle.std.specs.List.{prefix_len}
+-- The bytes of relation fields.
+use Rattle.std.specs.Prelude.{ℕ, ◌==◌, ◌||◌, not, Bool}
 use Rattle.std.specs.Char.{is_ascii_alphanumeric}
 use Rattle.ctl_relation.specs.Bytes.{tab, newline, space, right_parenthesis, hyphen}
 
@@ -15,16 +14,3 @@ is_qualifier_byte b = is_ascii_alphanumeric b || b == hyphen
 -- The word of a version goes up to whitespace or a closing parenthesis.
 abbrev pub is_version_word_byte : ℕ → Bool
 is_version_word_byte b = not (is_whitespace b || b == right_parenthesis)
-
--- the bytes that pass at the front
-abbrev pub run : (ℕ → Bool) → List ℕ → List ℕ
-run passes text = take (prefix_len passes text) text
-
--- what follows them
-abbrev pub rest : (ℕ → Bool) → List ℕ → List ℕ
-rest passes text = drop (prefix_len passes text) text
-
--- no byte that passes comes first
-abbrev pub Stops : (ℕ → Bool) → List ℕ → Type 0
-Stops passes [] = Unit {0}
-Stops passes (b ∷ text) = passes b ≡ false

@@ -1,9 +1,33 @@
 -- The nine fields that hold relations (Debian Policy 7.1).
-use Rattle.std.specs.Prelude.{◌≡◌, ℕ, Bool, true, false}
+use Rattle.std.specs.Prelude.{◌≡◌, ℕ, Bool, true, false, List, [], ◌∷◌, codes}
 use Rattle.ctl_relation.specs.declared.field_kind.FieldKind.{FieldKind}
 use Rattle.ctl_relation.specs.declared.field_kind.FieldKind.TheVariants.{PreDepends, Depends, Conflicts, Breaks, Recommends, Suggests, Replaces, Enhances, Provides}
 use Rattle.ctl_relation.specs.declared.operator.Operator.{Operator}
 use Rattle.ctl_relation.specs.declared.operator.Operator.TheVariants.{Equal}
+
+-- the nine, in the order in which they are listed and compared
+abbrev pub nine_fields : List FieldKind
+nine_fields = PreDepends ∷ Depends ∷ Conflicts ∷ Breaks ∷ Recommends ∷ Suggests ∷ Replaces ∷ Enhances ∷ Provides ∷ []
+
+-- the eight whose atoms name other packages: all but Provides
+abbrev pub eight_fields : List FieldKind
+eight_fields = PreDepends ∷ Depends ∷ Conflicts ∷ Breaks ∷ Recommends ∷ Suggests ∷ Replaces ∷ Enhances ∷ []
+
+-- the four whose groups are wanted to be met
+abbrev pub four_fields : List FieldKind
+four_fields = PreDepends ∷ Depends ∷ Recommends ∷ Suggests ∷ []
+
+-- The name of a field in small letters, as which names of fields are compared; and its name as answers print it.
+abbrev pub names_of : FieldKind → List ℕ × List ℕ
+names_of PreDepends = (codes "pre-depends", codes "PreDepends")
+names_of Depends = (codes "depends", codes "Depends")
+names_of Conflicts = (codes "conflicts", codes "Conflicts")
+names_of Breaks = (codes "breaks", codes "Breaks")
+names_of Recommends = (codes "recommends", codes "Recommends")
+names_of Suggests = (codes "suggests", codes "Suggests")
+names_of Replaces = (codes "replaces", codes "Replaces")
+names_of Enhances = (codes "enhances", codes "Enhances")
+names_of Provides = (codes "provides", codes "Provides")
 
 -- the place of a field in the list of the nine, by which fields compare
 abbrev pub field_place : FieldKind → ℕ

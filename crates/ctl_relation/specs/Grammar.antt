@@ -90,12 +90,12 @@ PiecesText kind text (piece ∷ other ∷ more) =
     × PiecesText kind after (other ∷ more) × (text ≡ first ++ comma ∷ after)
 
 -- the groups that are there
-abbrev pub groups_of : List (Option (List AtomParts)) → List (List AtomParts)
-groups_of [] = []
-groups_of (None ∷ pieces) = groups_of pieces
-groups_of (Some group ∷ pieces) = group ∷ groups_of pieces
+abbrev pub given_groups : List (Option (List AtomParts)) → List (List AtomParts)
+given_groups [] = []
+given_groups (None ∷ pieces) = given_groups pieces
+given_groups (Some group ∷ pieces) = group ∷ given_groups pieces
 
 -- The text is a field with these groups: a piece without a group is skipped.
 abbrev pub RelationsText : FieldKind → List ℕ → List (List AtomParts) → Type 0
 RelationsText kind text groups =
-    (pieces : List (Option (List AtomParts))) × PiecesText kind text pieces × (groups ≡ groups_of pieces)
+    (pieces : List (Option (List AtomParts))) × PiecesText kind text pieces × (groups ≡ given_groups pieces)

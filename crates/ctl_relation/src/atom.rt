@@ -30,7 +30,7 @@ pub struct Atom {
 impl Model for Atom {
     ghost use Rattle.std.specs.Prelude.{take};
     ghost use Rattle.ctl_relation.specs.Parts.{AtomParts};
-    ghost use Rattle.ctl_relation.specs.Named.{qualifier_behind, bound_at_version, IsNamed};
+    ghost use Rattle.ctl_relation.specs.Inside.Named.{qualifier_behind, bound_at_version, IsNamed};
 
     ghost Value = { AtomParts };
 

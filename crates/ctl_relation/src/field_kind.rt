@@ -5,7 +5,7 @@ ghost use Rattle.std.specs.Ordering.{nat_cmp, on, as_partial_cmp};
 ghost use Rattle.std.specs.Cmp.{on_equiv, on_total, nat_eq_equiv, nat_cmp_total, partial_equiv_from_equiv, partial_order_from_own_ties};
 ghost use Rattle.std.specs.Cmp.Rules.{comparing};
 ghost use Rattle.std.proofs.Common.{rules};
-ghost use Rattle.ctl_relation.specs.FieldKind.{field_place, has_alternatives, is_provides};
+ghost use Rattle.ctl_relation.specs.FieldKind.{nine_fields, eight_fields, four_fields, names_of, field_place, has_alternatives, is_provides};
 
 use std::cmp::Ordering;
 
@@ -23,7 +23,110 @@ pub enum FieldKind {
     Provides,
 }
 
+const FOUR: [FieldKind; 4] = [
+    FieldKind::PreDepends,
+    FieldKind::Depends,
+    FieldKind::Recommends,
+    FieldKind::Suggests,
+];
+
+// What a field is called.
+#[derive(Clone, Copy)]
+struct FieldNames {
+    // In small letters, as names of fields are compared.
+    key: &'static [u8],
+    printed: &'static [u8],
+}
+
 impl FieldKind {
+    /// The nine fields, in their order.
+    pub fn nine() -> &'static [FieldKind]
+        ensures { result.now ≡ nine_fields }
+    {
+        &[
+            FieldKind::PreDepends,
+            FieldKind::Depends,
+            FieldKind::Conflicts,
+            FieldKind::Breaks,
+            FieldKind::Recommends,
+            FieldKind::Suggests,
+            FieldKind::Replaces,
+            FieldKind::Enhances,
+            FieldKind::Provides,
+        ]
+    }
+
+    /// The eight fields whose atoms name other packages, in their order: all but Provides.
+    pub fn eight() -> &'static [FieldKind]
+        ensures { result.now ≡ eight_fields }
+    {
+        FieldKind::nine().split_at(8).0
+    }
+
+    /// The four fields whose groups are wanted to be met, in their order.
+    pub fn four() -> &'static [FieldKind]
+        ensures { result.now ≡ four_fields }
+    {
+        &FOUR
+    }
+
+    /// The name of the field in small letters. Names of fields are compared without regard to case.
+    pub fn key(self) -> &'static [u8]
+        ensures { result.now ≡ (names_of self).0 }
+    {
+        self.names().key
+    }
+
+    /// The name of the field as answers print it, without a hyphen.
+    pub fn printed_name(self) -> &'static [u8]
+        ensures { result.now ≡ (names_of self).1 }
+    {
+        self.names().printed
+    }
+
+    fn names(self) -> FieldNames
+        ensures { (result.key.now, result.printed.now) ≡ names_of self }
+    {
+        match self {
+            FieldKind::PreDepends => FieldNames {
+                key: b"pre-depends",
+                printed: b"PreDepends",
+            },
+            FieldKind::Depends => FieldNames {
+                key: b"depends",
+                printed: b"Depends",
+            },
+            FieldKind::Conflicts => FieldNames {
+                key: b"conflicts",
+                printed: b"Conflicts",
+            },
+            FieldKind::Breaks => FieldNames {
+                key: b"breaks",
+                printed: b"Breaks",
+            },
+            FieldKind::Recommends => FieldNames {
+                key: b"recommends",
+                printed: b"Recommends",
+            },
+            FieldKind::Suggests => FieldNames {
+                key: b"suggests",
+                printed: b"Suggests",
+            },
+            FieldKind::Replaces => FieldNames {
+                key: b"replaces",
+                printed: b"Replaces",
+            },
+            FieldKind::Enhances => FieldNames {
+                key: b"enhances",
+                printed: b"Enhances",
+            },
+            FieldKind::Provides => FieldNames {
+                key: b"provides",
+                printed: b"Provides",
+            },
+        }
+    }
+
     /// Whether a group of the field may have several alternatives, joined by `|`.
     pub(crate) fn has_alternatives(self) -> bool
         ensures { result ≡ has_alternatives self }

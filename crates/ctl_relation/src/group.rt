@@ -29,7 +29,7 @@ impl Model for Group {
 
     ghost Value = { List AtomParts };
 
-    ghost use Rattle.ctl_relation.specs.Alternatives.{atoms_of};
+    ghost use Rattle.ctl_relation.specs.Inside.Alternatives.{atoms_of};
 
     ghost view = { λ g. atoms_of g.alternatives };
 }

@@ -1,6 +1,6 @@
 //! Reading relation fields from left to right.
 
-ghost use Rattle.std.specs.Prelude.{◌≢◌, ◌≤◌, ◌<◌, ◌+◌, List, length, IfOk, IfErr, Ok};
+ghost use Rattle.std.specs.Prelude.{◌≡◌, ◌≢◌, ◌≤◌, ◌<◌, ◌+◌, List, length, IfOk, IfErr};
 ghost use Rattle.ctl_relation.specs.declared.relation_fault.RelationFault.TheVariants as relation;
 ghost use Rattle.ctl_relation.specs.Fault.{IsFault};
 ghost use Rattle.ctl_relation.specs.Grammar.{RelationsText};
@@ -130,15 +130,12 @@ pub fn parse_relations(
     // What is read is in the grammar, with these groups.
     ensures found { IfOk result (λ relations. RelationsText kind body.now relations) }
 
-    // What is in the grammar is read, unless memory runs out.
-    ensures only { (groups : List (List AtomParts))
-        → RelationsText kind body.now groups → Gives (λ x. x) result (Ok groups) }
+    // What is in the grammar is read to these groups, or memory runs out.
+    ensures only { (groups : List (List AtomParts)) → RelationsText kind body.now groups
+        → IfOk result (λ relations. relations ≡ groups) × IfErr result (λ fault. fault ≡ relation.Memory) }
 
     // A fault but want of memory is the one that is due where the body first leaves the grammar.
     ensures fault { IfErr result (λ fault. fault ≢ relation.Memory → IsFault kind body.now fault) }
-
-    // What it is read to, or which fault it is, reading from left to right.
-    ensures exact { Gives (λ x. x) result (relations_of kind body.now) }
 {
     relations_from(alloc, body, kind)
 }

@@ -27,7 +27,7 @@ const _: () = prove!(size_of::<SmallBytes>() == size_of::<Vec<u8>>() + size_of::
 
 impl Model for SmallBytes {
     ghost use Rattle.std.specs.Prelude.{List, ℕ};
-    ghost use Rattle.ctl_relation.specs.SmallBytes.{bytes_of, IsHeld};
+    ghost use Rattle.ctl_relation.specs.Inside.SmallBytes.{bytes_of, IsHeld};
 
     ghost Value = { List ℕ };
 

@@ -3,8 +3,9 @@
 ghost use Rattle.std.specs.Prelude.{◌≡◌, ◌≤◌, ◌<◌, length, IfOk, IfSome};
 ghost use Rattle.std.specs.List.{prefix_len};
 ghost use Rattle.std.specs.Option.{option_map};
-ghost use Rattle.ctl_relation.specs.ByteClass.{class_has};
-ghost use Rattle.ctl_relation.specs.FieldBytes.{is_whitespace, is_qualifier_byte, is_version_word_byte, rest};
+ghost use Rattle.ctl_relation.specs.Inside.ByteClass.{class_has};
+ghost use Rattle.ctl_relation.specs.FieldBytes.{is_whitespace, is_qualifier_byte, is_version_word_byte};
+ghost use Rattle.ctl_relation.specs.Runs.{rest};
 ghost use Rattle.ctl_relation.specs.Reading.{Gives, behind_byte, name_at, qualifier_at, operator_token, operator_at, version_at, close_at};
 
 use crate::field_kind::FieldKind;

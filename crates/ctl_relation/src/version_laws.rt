@@ -9,14 +9,14 @@ ghost use Rattle.ctl_relation.specs.Version.{version_cmp, triple_of};
 ghost use Rattle.ctl_relation.specs.VersionText.{TextsHaveParts, PartsAreUnique, NoTestOfMemory};
 
 /// The order of versions is a total order.
-#[tactic(auto, using(crate::specs::VersionLaws::version_total))]
+#[tactic(auto, using(crate::specs::Orders::Versions::version_total))]
 pub fn versions_are_ordered()
     ensures { IsTotalOrder version_cmp }
 {}
 
 /// Two versions are equal exactly where their epochs, the keys of their upstream versions and the keys of their
 /// revisions are.
-#[tactic(auto, using(crate::specs::VersionLaws::equal_versions))]
+#[tactic(auto, using(crate::specs::Orders::Versions::equal_versions))]
 pub fn equal_versions()
     ensures { (a b : List ℕ) → (version_cmp a b ≡ Equal) ↔ (triple_of a ≡ triple_of b) }
 {}

@@ -14,6 +14,8 @@ mod edits;
 #[cfg(test)]
 mod faults;
 #[cfg(test)]
+mod field_names;
+#[cfg(test)]
 mod limits;
 #[cfg(test)]
 mod made;

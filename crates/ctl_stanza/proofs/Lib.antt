@@ -15,3 +15,4 @@ pub mod LawLemmas
 pub mod RecordLawLemmas
 pub mod RunLemmas
 pub mod SoundLemmas
+pub mod ReadLemmas

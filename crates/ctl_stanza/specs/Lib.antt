@@ -1,6 +1,7 @@
 pub use Rattle.ctl_relation.specs.Bytes
 pub use Rattle.ctl_relation.specs.Names
 pub use Rattle.ctl_relation.specs.FieldBytes
+pub use Rattle.ctl_relation.specs.Runs
 pub use Rattle.ctl_relation.specs.Version
 pub use Rattle.ctl_relation.specs.Reading
 pub use Rattle.ctl_relation.specs.Parts

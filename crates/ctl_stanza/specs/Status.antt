@@ -1,7 +1,7 @@
 -- The state of a package in a status list, and whether a stanza is live (deb822(5), dpkg-query(1)).
 use Rattle.std.specs.Prelude.{ℕ, not, ◌==◌, ◌||◌, Bool, true, false, List, codes, length, Option, None, Some, if◌then◌else◌}
 use Rattle.std.specs.Str.{bytes_eq}
-use Rattle.ctl_relation.specs.FieldBytes.{run, rest}
+use Rattle.ctl_relation.specs.Runs.{run, rest}
 use Rattle.ctl_stanza.specs.declared.list_kind.ListKind.{ListKind}
 use Rattle.ctl_stanza.specs.declared.list_kind.ListKind.TheVariants.{Packages, Status}
 use Rattle.ctl_stanza.specs.Lines.{is_blank_byte}

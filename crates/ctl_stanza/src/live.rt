@@ -17,6 +17,7 @@ use crate::fault::{Cause, TextFault};
 use crate::fields::{Field, is_same_name};
 use ctl_relation::{
     FieldKind, Group, RelationFault, Relations, Version, VersionFault, is_name, parse_relations,
+    reading_is_the_grammar,
 };
 use std::alloc::Global;
 
@@ -38,27 +39,12 @@ pub(crate) struct LiveParts {
 fn relation_kind(name: &[u8]) -> Option<FieldKind>
     ensures { result ≡ relation_kind name.now }
 {
-    if is_same_name(name, b"Pre-Depends") {
-        Some(FieldKind::PreDepends)
-    } else if is_same_name(name, b"Depends") {
-        Some(FieldKind::Depends)
-    } else if is_same_name(name, b"Conflicts") {
-        Some(FieldKind::Conflicts)
-    } else if is_same_name(name, b"Breaks") {
-        Some(FieldKind::Breaks)
-    } else if is_same_name(name, b"Recommends") {
-        Some(FieldKind::Recommends)
-    } else if is_same_name(name, b"Suggests") {
-        Some(FieldKind::Suggests)
-    } else if is_same_name(name, b"Replaces") {
-        Some(FieldKind::Replaces)
-    } else if is_same_name(name, b"Enhances") {
-        Some(FieldKind::Enhances)
-    } else if is_same_name(name, b"Provides") {
-        Some(FieldKind::Provides)
-    } else {
-        None
+    for kind in FieldKind::nine() {
+        if is_same_name(name, kind.key()) {
+            return Some(*kind);
+        }
     }
+    None
 }
 
 /// The groups that are kept of a relation field; none where it wasn't given.
@@ -103,6 +89,7 @@ fn read_relations(
     ensures bad { IfErr result (λ fault. fault ≢ relation.Memory → is_read (relations_of kind body.now) ≡ false) }
     ensures fields { OnOk result (fields.new.items ≡ fields.old.items ++ relation_field kind body.now ∷ []) }
 {
+    reading_is_the_grammar();
     let relations = parse_relations(alloc, body, kind)?;
     fields.push(RelationField { kind, relations })?;
     Ok(())

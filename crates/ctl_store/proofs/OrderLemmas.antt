@@ -13,7 +13,7 @@ use Rattle.std.proofs.lemmas.Map.Text.{is_eq-slice_cmp}
 use Rattle.std.proofs.lemmas.Slice.Eq.{bytes_eq-Decides}
 use Rattle.std.proofs.lemmas.Option.{slice_get-get_or}
 use Rattle.ctl_relation.specs.Version.{version_cmp}
-use Rattle.ctl_relation.specs.VersionLaws.{equal_versions}
+use Rattle.ctl_relation.specs.Orders.Versions.{equal_versions}
 use Rattle.ctl_stanza.specs.Content.{Content, package_of, version_of}
 use Rattle.ctl_store.specs.Step.{place, is_same, is_same_version}
 use Rattle.ctl_store.specs.Rows.{Id, id, id_of, version_id, version_order, id_cmp, ids_of, sorted_ids, lower, has_serial, Rises, IsKept, order_at, by_name_and_version, replace_at}

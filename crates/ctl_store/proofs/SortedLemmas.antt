@@ -7,7 +7,7 @@ use Rattle.std.specs.declared.cmp.Ordering.{Ordering}
 use Rattle.std.specs.declared.cmp.Ordering.TheVariants.{Less, Equal, Greater}
 use Rattle.std.specs.Cmp.Lexicographic.{options_total, nat_list_cmp_total}
 use Rattle.std.proofs.lemmas.Cmp.{upto, on_total, then_total}
-use Rattle.ctl_relation.specs.VersionLaws.{triple_total}
+use Rattle.ctl_relation.specs.Orders.Versions.{triple_total}
 use Rattle.ctl_store.specs.Step.{place}
 use Rattle.ctl_store.specs.Rows.{Id, id_cmp, insert_id, sorted_ids, lower, has_serial, Rises}
 use Rattle.ctl_store.proofs.PlaceLemmas.{some_is, eq_is, lt_ne}

@@ -1,6 +1,6 @@
 use Rattle.std.proofs.Common.{sym, ◌∙◌, arith}
 use Rattle.std.proofs.lemmas.List.Sums.{prefix_len_is}
-use Rattle.ctl_relation.specs.ByteClass.{class_has}
+use Rattle.ctl_relation.specs.Inside.ByteClass.{class_has}
 use Rattle.ctl_relation.proofs.tokens.run_len.Goals as goal
 
 pub returns-then-not-has-clause-len : goal.returns-then-not-has-clause-len

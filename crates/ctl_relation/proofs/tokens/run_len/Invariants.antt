@@ -1,5 +1,5 @@
 use Rattle.std.proofs.Common.{◌≡◌, ℕ, ◌<◌, true, get_or}
-use Rattle.ctl_relation.specs.ByteClass.{class_has}
+use Rattle.ctl_relation.specs.Inside.ByteClass.{class_has}
 use Rattle.ctl_relation.proofs.tokens.run_len.Given as goal
 
 -- the bytes so far are of the class

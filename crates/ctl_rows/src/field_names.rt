@@ -1,0 +1,38 @@
+//! The relation fields in their order, and what they are called.
+
+use ctl_relation::FieldKind;
+
+#[test]
+fn relation_fields_have_names(rt: HostRuntime) {
+    let rows: [(&str, &str); 9] = [
+        ("pre-depends", "PreDepends"),
+        ("depends", "Depends"),
+        ("conflicts", "Conflicts"),
+        ("breaks", "Breaks"),
+        ("recommends", "Recommends"),
+        ("suggests", "Suggests"),
+        ("replaces", "Replaces"),
+        ("enhances", "Enhances"),
+        ("provides", "Provides"),
+    ];
+    let fields = FieldKind::nine();
+    assert_eq!(rt; fields.len(), rows.len());
+    for (field, (key, printed)) in fields.iter().zip(rows.iter()) {
+        let same = field.key() == key.as_bytes() && field.printed_name() == printed.as_bytes();
+        assert!(rt; same, "{key}");
+    }
+}
+
+#[test]
+fn eight_fields_name_packages_and_four_are_wanted(rt: HostRuntime) {
+    let same = FieldKind::eight() == FieldKind::nine().split_at(8).0;
+    assert!(rt; same);
+    let wanted = [
+        FieldKind::PreDepends,
+        FieldKind::Depends,
+        FieldKind::Recommends,
+        FieldKind::Suggests,
+    ];
+    let same = FieldKind::four() == wanted.as_slice();
+    assert!(rt; same);
+}
