@@ -14,7 +14,8 @@ use Rattle.ctl_stanza.specs.LineKind.{kind_of}
 use Rattle.ctl_stanza.specs.Content.{Content}
 use Rattle.ctl_stanza.specs.Faults.{cause_of, fault_or}
 use Rattle.ctl_stanza.specs.Text.{Piece, piece, pieces_of, piece_content, piece_fault, read_pieces, with_contents, or_fault}
-use Rattle.ctl_stanza.specs.Laws.{line_at, lines_before, MakesBodyTooLong, ContinuesNothing, IsFaultyLine, HasNoFaultyLine, HasWholeFault, HasStanzaFault, HasFault, IsLeastFault, HasNoFault, ReadsOrTells}
+use Rattle.ctl_stanza.specs.Runs.{line_at}
+use Rattle.ctl_stanza.specs.Laws.{lines_before, MakesBodyTooLong, ContinuesNothing, IsFaultyLine, HasNoFaultyLine, HasWholeFault, HasStanzaFault, HasFault, IsLeastFault, HasNoFault, ReadsOrTells}
 use Rattle.ctl_stanza.proofs.PieceLemmas.{AreOther, StartsGap}
 use Rattle.ctl_stanza.proofs.ByPieces.{by_pieces}
 use Rattle.ctl_stanza.proofs.KeepLemmas.{Read, option_either}

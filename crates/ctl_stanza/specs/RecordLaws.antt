@@ -4,7 +4,8 @@ use Rattle.ctl_stanza.specs.declared.repeats.Repeats.TheVariants.{Explanation}
 use Rattle.ctl_stanza.specs.declared.fault.TextFault.{TextFault}
 use Rattle.ctl_stanza.specs.declared.fault.Cause.{Cause}
 use Rattle.ctl_stanza.specs.Faults.{number_of}
-use Rattle.ctl_stanza.specs.Laws.{line_at, lines_before, IsFaultyLine}
+use Rattle.ctl_stanza.specs.Runs.{line_at}
+use Rattle.ctl_stanza.specs.Laws.{lines_before, IsFaultyLine}
 use Rattle.ctl_stanza.specs.Records.{RecordText, record_lines, numbers_of, bytes_of, read_record_text}
 
 -- the line at i of the lines that aren't comments has this fault
