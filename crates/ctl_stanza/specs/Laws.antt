@@ -1,5 +1,5 @@
 -- The faults of a text, each at the index of its line, told apart from how the text is read.
-use Rattle.std.specs.Prelude.{◌≡◌, ◌+◌, ◌<◌, ◌≤◌, ℕ, true, false, not, ◌⊎◌, List, [], length, map, take, filter, flat_map, Contains, Some, None, is_none, Ok, Err}
+use Rattle.std.specs.Prelude.{◌≡◌, ◌≢◌, ◌+◌, ◌<◌, ◌≤◌, ℕ, true, false, not, ◌⊎◌, List, [], length, map, take, filter, flat_map, Contains, Some, None, is_none, Ok, Err}
 use Rattle.std.specs.List.{after_last}
 use Rattle.ctl_relation.specs.declared.field_kind.FieldKind.{FieldKind}
 use Rattle.ctl_relation.specs.Names.{is_name}
@@ -160,6 +160,10 @@ pub record IsLeastFault (kind : ListKind) (n : ℕ) (lines : List (List ℕ)) (f
   pub sound : HasFault kind lines index fault.cause
   pub least : (i : ℕ) (cause : Cause) → HasFault kind lines i cause → index ≤ i
   pub lowest : (cause : Cause) → HasFault kind lines index cause → number_of fault.cause ≤ number_of cause
+
+-- What is told is the least fault, unless memory ran out.
+abbrev pub TellsLeastFault : ListKind → ℕ → List (List ℕ) → TextFault → Type 0
+TellsLeastFault kind n lines told = told.cause ≢ causes.Memory → IsLeastFault kind n lines told
 
 -- A text that is read has no fault; of one that isn't its least fault is told.
 pub record ReadsOrTells (kind : ListKind) (n : ℕ) (text : List ℕ) : Type 0 where

@@ -8,6 +8,7 @@ pub use Rattle.ctl_relation.specs.Lent
 pub mod Lines
 pub mod LineKind
 pub mod Fields
+pub mod FieldLines
 pub mod RelationFields
 pub mod Status
 pub mod Content
