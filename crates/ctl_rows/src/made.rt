@@ -140,6 +140,7 @@ pub fn target_none() -> Option<Edit>
 pub fn settings(alloc: Global, text: &str) -> Option<Vec<PinSetting>>
     ensures { IfSome result (λ settings. AreDistinct (settings_of settings.items)) }
 {
+    lines_take_bytes();
     read_prefs(alloc, text.as_bytes(), 1).ok()
 }
 

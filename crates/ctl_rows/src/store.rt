@@ -4,7 +4,7 @@ ghost use Rattle.ctl_store.specs.Edits.{edit_of};
 ghost use Rattle.ctl_store.specs.Held.{IsProper};
 
 use crate::made::{add_list, edited, given, mark, name, pin, put, settings, version};
-use ctl_stanza::{Cause, ListKind, TextFault};
+use ctl_stanza::{Cause, ListKind, TextFault, lines_take_bytes};
 use ctl_store::{
     Counts, Edit, Limits, PinSetting, PinVersion, Plan, Refusal, Store, read_prefs, read_priority,
 };
@@ -216,6 +216,7 @@ fn preferences_are_read(rt: HostRuntime) -> Result<(), Fail> {
 
 #[test]
 fn a_fault_of_preferences_has_its_line(rt: HostRuntime) {
+    lines_take_bytes();
     let fault = match read_prefs(rt.alloc(), b"Package: a\nPin: other\nPin-Priority: 5\n", 3) {
         Ok(_) => None,
         Err(fault) => Some(fault),

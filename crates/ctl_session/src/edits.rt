@@ -150,6 +150,7 @@ pub(crate) fn set_prefs(
     ensures outcome { CameTo number result cache.new (prefs_set cache.old number text.now) }
     ensures err { OnErr result (cache.new ≡ cache.old) }
 {
+    lines_take_bytes();
     match read_prefs(alloc, text, number as u64 + 1) {
         Ok(settings) => edit(cache, Edit::Prefs { settings }, number),
         Err(fault) => Err(refusal_at(fault, number)),

@@ -1,5 +1,5 @@
 -- The fault that is told of a text is the least of its faults.
-use Rattle.std.proofs.Common.{◌≡◌, ◌⊎◌, ◌∙◌, ◌+◌, ◌-◌, ◌<◌, ◌≤◌, ◌++◌, ℕ, suc, true, false, List, [], ◌∷◌, length, take, Option, Some, None, Ok, Err, refl, sym, ap, subst, arith, inl, inr, append_assoc, ⊎_elim}
+use Rattle.std.proofs.Common.{◌≡◌, ◌⊎◌, ◌∙◌, ◌+◌, ◌-◌, ◌<◌, ◌≤◌, ◌++◌, ℕ, suc, true, false, List, [], ◌∷◌, length, take, Option, Some, None, Result, Ok, Err, IfErr, Vec, refl, sym, ap, subst, arith, inl, inr, append_assoc, ⊎_elim}
 use Rattle.std.proofs.lemmas.Bool.{cases_lt, cond-true, cond-false}
 use Rattle.std.proofs.lemmas.List.{length-append}
 use Rattle.ctl_stanza.specs.declared.line_kind.LineKind.TheVariants.{Blank, Field, Continuation, Faulty}
@@ -13,8 +13,10 @@ use Rattle.ctl_stanza.specs.declared.repeats.Repeats.TheVariants.{Never}
 use Rattle.ctl_stanza.specs.LineKind.{kind_of}
 use Rattle.ctl_stanza.specs.Content.{Content}
 use Rattle.ctl_stanza.specs.Faults.{cause_of, fault_or}
-use Rattle.ctl_stanza.specs.Text.{Piece, piece, pieces_of, piece_content, piece_fault, read_pieces, with_contents, or_fault}
-use Rattle.ctl_stanza.specs.Laws.{line_at, lines_before, MakesBodyTooLong, ContinuesNothing, IsFaultyLine, HasNoFaultyLine, HasWholeFault, HasStanzaFault, HasFault, IsLeastFault, HasNoFault, ReadsOrTells}
+use Rattle.ctl_stanza.specs.Text.{Piece, piece, pieces_of, piece_content, piece_fault, read_pieces, with_contents, or_fault, read_text, Reads}
+use Rattle.std.specs.declared.alloc.Global.{Global}
+use Rattle.ctl_stanza.specs.Runs.{line_at}
+use Rattle.ctl_stanza.specs.Laws.{lines_before, MakesBodyTooLong, ContinuesNothing, IsFaultyLine, HasNoFaultyLine, HasWholeFault, HasStanzaFault, HasFault, IsLeastFault, HasNoFault, ReadsOrTells, TellsLeastFault}
 use Rattle.ctl_stanza.proofs.PieceLemmas.{AreOther, StartsGap}
 use Rattle.ctl_stanza.proofs.ByPieces.{by_pieces}
 use Rattle.ctl_stanza.proofs.KeepLemmas.{Read, option_either}
@@ -253,3 +255,8 @@ reads_or_tells kind n text =
       read = λ contents e. none_of kind n (lines_of text) (read_pieces kind (pieces_of n (lines_of text))) tells contents e;
       told = λ fault e. least_of kind n (lines_of text) (read_pieces kind (pieces_of n (lines_of text))) tells fault e;
     }
+
+pub tells_least : (kind : ListKind) (n : ℕ) (text : List ℕ) (result : Result (Vec Content Global) TextFault) → Reads result (read_text kind n text)
+    → IfErr result (TellsLeastFault kind n (lines_of text))
+tells_least kind n text (Ok contents) read = tt
+tells_least kind n text (Err fault) read = λ other. (reads_or_tells kind n text).told fault (read other)

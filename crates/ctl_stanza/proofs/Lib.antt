@@ -1,5 +1,7 @@
 pub mod LineLemmas
 pub mod FieldLemmas
+pub mod FieldLineLemmas
+pub mod WordLemmas
 pub mod RelationLemmas
 pub mod RecordLemmas
 pub mod TurnLemmas
@@ -14,5 +16,7 @@ pub mod PlaceLemmas
 pub mod LawLemmas
 pub mod RecordLawLemmas
 pub mod RunLemmas
+pub mod RecordRunLemmas
+pub mod ProvidesLemmas
 pub mod SoundLemmas
 pub mod ReadLemmas

@@ -34,6 +34,7 @@ use Rattle.std.proofs.Math.Seq.{take-append_seam}
 use Rattle.ctl_stanza.specs.Spans.{Grows}
 use Rattle.ctl_stanza.specs.Sound.{IsWhole, IsSound}
 use Rattle.ctl_stanza.proofs.FieldLemmas.{continued-le}
+use Rattle.ctl_stanza.proofs.ProvidesLemmas.{one_atom_each}
 
 -- ---- no fault, from whichever line the lines count
 
@@ -248,6 +249,7 @@ sound found some bounded content whole =
       version = λ live. let version = some-body (body_named version_name fields) (and-false (is_live_by kind fields) (is_empty_body (body_named version_name fields)) later.1 live) in
           subst (λ (o : Option (List ℕ)). IsSome o) (sym (cond-true (is_live content) (body_of content version_name) None live ∙ version.1)) refl;
       some = λ field. if-live HaveAtoms (is_live content) (groups_among field fields) [] (in-some found some field (body_of content (name_of field))) none-have;
+      one = one_atom_each (found field_kinds.Provides) content;
       atoms = λ field. omega (arith, whole.small, content-count found bounded content field);
       offers = content-offers found bounded content whole.small;
     }

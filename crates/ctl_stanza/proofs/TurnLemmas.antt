@@ -1,9 +1,10 @@
 -- One piece more of a text.
-use Rattle.std.proofs.Common.{◌≡◌, ◌∙◌, ◌+◌, ◌-◌, ◌≤◌, ◌++◌, ℕ, List, length, take, drop, Bor, Option, Some, None, Result, Ok, Err, slice_range, refl, sym, ap, subst, arith, append_assoc, append-nil}
+use Rattle.std.proofs.Common.{◌≡◌, ◌∙◌, ◌+◌, ◌-◌, ◌≤◌, ◌++◌, ◌==◌, ℕ, true, List, [], ◌∷◌, length, take, drop, Bor, Option, Some, None, Result, Ok, Err, slice_range, refl, sym, ap, subst, arith, append_assoc, append-nil}
+use Rattle.std.proofs.Math.Dec.{eqb-suc-zero}
 use Rattle.std.proofs.lemmas.List.{length-map, length-append}
 use Rattle.ctl_stanza.specs.declared.list_kind.ListKind.{ListKind}
 use Rattle.ctl_stanza.specs.declared.fault.TextFault.{TextFault}
-use Rattle.ctl_stanza.specs.Lines.{lent_lines}
+use Rattle.ctl_stanza.specs.Lines.{lines_of, lent_lines}
 use Rattle.ctl_stanza.specs.Content.{Content}
 use Rattle.ctl_stanza.specs.Text.{piece, pieces_of, IsFirstPiece, piece_fault, piece_content, read_pieces, with_contents, or_fault}
 use Rattle.ctl_stanza.specs.Records.{RecordText, record_fault, piece_record, before_fault, records_before}
@@ -35,6 +36,15 @@ pub stanza-turn : (kind : ListKind) (old new : List Content) (n m : ℕ) (all ot
 stanza-turn kind old new n m all others lines whole first e none more told =
     turn-good old new (piece_content kind (lent_lines lines)) (piece_fault kind (piece n (lent_lines lines))) (read_pieces kind (pieces_of m others)) whole none more
     (ap (with_contents old) (sym (first-read kind n m all others lines first e)) ∙ told)
+
+all-read : (kind : ListKind) (n : ℕ) (left : List ℕ) (stanzas : List Content) → (length left == 0) ≡ true → with_contents stanzas (read_pieces kind (pieces_of n (lines_of left))) ≡ Ok stanzas
+all-read kind n [] stanzas none = ap Ok (append-nil stanzas)
+all-read kind n (b ∷ left) stanzas none = let some = eqb-suc-zero (length left) in absurd (cc)
+
+-- nothing is left
+pub stanza-end : (kind : ListKind) (n : ℕ) (left : List ℕ) (old new : List Content) (whole : Result (List Content) TextFault) → (length left == 0) ≡ true
+    → new ≡ old → with_contents old (read_pieces kind (pieces_of n (lines_of left))) ≡ whole → whole ≡ Ok new
+stanza-end kind n left old new whole none same told = sym told ∙ all-read kind n left old none ∙ ap Ok (sym same)
 
 -- the lines that were lent are those that were taken
 pub first-lent : (all others : List (List ℕ)) (lines given : List (Bor (List ℕ))) → given ≡ lines → IsFirstPiece all (lent_lines lines) others → IsFirstPiece all (lent_lines given) others
@@ -92,6 +102,15 @@ record-bad numbers here old at m all others lines f whole first e is some told =
     let same : here ≡ slice_range numbers at (at + length lines) = is ∙ ap (slice_range numbers at) e in
     record-stop old _ _ f (records_before numbers (pieces_of (at + length lines) others)) whole (ap (λ ns. record_fault ns (lent_lines lines)) (sym same) ∙ some)
     (ap (behind old) (sym (first-record numbers at all others lines first)) ∙ told)
+
+none-left : (numbers : List ℕ) (at : ℕ) (left : List ℕ) (records : List RecordText) → (length left == 0) ≡ true → behind records (records_before numbers (pieces_of at (lines_of left))) ≡ (records, None)
+none-left numbers at [] records none = ap (λ (xs : List RecordText). (xs, None)) (append-nil records)
+none-left numbers at (b ∷ left) records none = let some = eqb-suc-zero (length left) in absurd (cc)
+
+-- nothing is left
+pub record-end : (numbers : List ℕ) (at : ℕ) (left : List ℕ) (old new : List RecordText) (whole : List RecordText × Option TextFault) → (length left == 0) ≡ true → new ≡ old
+    → behind old (records_before numbers (pieces_of at (lines_of left))) ≡ whole → (new, None) ≡ whole
+record-end numbers at left old new whole none same told = ap (λ (xs : List RecordText). (xs, None)) same ∙ sym (none-left numbers at left old none) ∙ told
 
 -- as many lines are left as have numbers
 pub room-next : (all others : List (List ℕ)) (lines : List (Bor (List ℕ))) (at total : ℕ) → all ≡ lent_lines lines ++ others → at + length all ≡ total → at + length lines + length others ≡ total

@@ -1,6 +1,6 @@
 -- The faults of a text, each at the index of its line, told apart from how the text is read.
-use Rattle.std.specs.Prelude.{◌≡◌, ◌+◌, ◌<◌, ◌≤◌, ℕ, true, false, not, ◌⊎◌, List, [], length, take, drop, filter, flat_map, slice_index_or, Contains, Some, None, is_none, Ok, Err}
-use Rattle.std.specs.List.{All, after_last}
+use Rattle.std.specs.Prelude.{◌≡◌, ◌≢◌, ◌+◌, ◌<◌, ◌≤◌, ℕ, true, false, not, ◌⊎◌, List, [], length, map, take, filter, flat_map, Contains, Some, None, is_none, Ok, Err}
+use Rattle.std.specs.List.{after_last}
 use Rattle.ctl_relation.specs.declared.field_kind.FieldKind.{FieldKind}
 use Rattle.ctl_relation.specs.Names.{is_name}
 use Rattle.ctl_relation.specs.Version.{fault_of}
@@ -17,12 +17,10 @@ use Rattle.ctl_stanza.specs.LineKind.{kind_of}
 use Rattle.ctl_stanza.specs.Fields.{FieldText, fields_of_lines, body_named, is_same_name, may_repeat, package_name, version_name}
 use Rattle.ctl_stanza.specs.RelationFields.{name_of}
 use Rattle.ctl_stanza.specs.Status.{liveness, is_live_by}
+use Rattle.ctl_stanza.specs.Runs.{line_at, IsStanzaAt, Run, AreStanzasBefore}
 use Rattle.ctl_stanza.specs.Content.{Content, content_of}
 use Rattle.ctl_stanza.specs.Faults.{number_of, body_len, is_read}
 use Rattle.ctl_stanza.specs.Text.{read_text}
-
-abbrev pub line_at : List (List ℕ) → ℕ → List ℕ
-line_at lines i = slice_index_or lines i []
 
 -- ---- faulty lines
 
@@ -134,15 +132,6 @@ HasWholeFault kind stanza i causes.Memory = ⊥
 abbrev pub lines_before : List (List ℕ) → ℕ → List (List ℕ)
 lines_before lines i = after_last is_blank (take i lines)
 
--- a stanza stands at the line at start: a maximal run of lines that aren't blank
-pub record IsStanzaAt (lines : List (List ℕ)) (start : ℕ) (stanza : List (List ℕ)) : Type 0 where
-  pub some : 0 < length stanza
-  pub within : start + length stanza ≤ length lines
-  pub lines_are : take (length stanza) (drop start lines) ≡ stanza
-  pub no_blank : (i : ℕ) → start ≤ i → i < start + length stanza → is_blank (line_at lines i) ≡ false
-  pub begins : (i : ℕ) → i + 1 ≡ start → is_blank (line_at lines i) ≡ true
-  pub ends : start + length stanza < length lines → is_blank (line_at lines (start + length stanza)) ≡ true
-
 -- the line at i stands in a stanza without a faulty line, and has this fault there
 pub record HasStanzaFault (kind : ListKind) (lines : List (List ℕ)) (i : ℕ) (cause : Cause) : Type 0 where
   pub start : ℕ
@@ -172,6 +161,10 @@ pub record IsLeastFault (kind : ListKind) (n : ℕ) (lines : List (List ℕ)) (f
   pub least : (i : ℕ) (cause : Cause) → HasFault kind lines i cause → index ≤ i
   pub lowest : (cause : Cause) → HasFault kind lines index cause → number_of fault.cause ≤ number_of cause
 
+-- What is told is the least fault, unless memory ran out.
+abbrev pub TellsLeastFault : ListKind → ℕ → List (List ℕ) → TextFault → Type 0
+TellsLeastFault kind n lines told = told.cause ≢ causes.Memory → IsLeastFault kind n lines told
+
 -- A text that is read has no fault; of one that isn't its least fault is told.
 pub record ReadsOrTells (kind : ListKind) (n : ℕ) (text : List ℕ) : Type 0 where
   pub read : (contents : List Content) → read_text kind n text ≡ Ok contents → HasNoFault kind (lines_of text)
@@ -187,14 +180,12 @@ abbrev pub KeepsLines : ListKind → ℕ → List ℕ → Type 0
 KeepsLines kind n text = (contents : List Content) → read_text kind n text ≡ Ok contents
     → flat_map (λ content. content.text) contents ≡ text_of_lines (other_lines (lines_of text))
 
--- what is read is a stanza of the text, and is of this kind
-pub record IsStanzaOf (kind : ListKind) (lines : List (List ℕ)) (content : Content) : Type 0 where
-  pub start : ℕ
-  pub stanza : List (List ℕ)
-  pub stands : IsStanzaAt lines start stanza
-  pub is : content ≡ content_of kind stanza
+-- These are the stanzas of lines: all the maximal runs of lines that aren't blank, each once, in order.
+pub record AreStanzasOf (kind : ListKind) (lines : List (List ℕ)) (contents : List Content) : Type 0 where
+  pub runs : List Run
+  pub are_stanzas : AreStanzasBefore lines (length lines) runs
+  pub contents_are : contents ≡ map (λ (run : Run). content_of kind run.lines) runs
 
--- Each stanza that a text is read to is one of the text: a maximal run of lines that aren't blank.
+-- A text is read to its stanzas and to nothing else.
 abbrev pub ReadsStanzas : ListKind → ℕ → List ℕ → Type 0
-ReadsStanzas kind n text = (contents : List Content) → read_text kind n text ≡ Ok contents
-    → All (IsStanzaOf kind (lines_of text)) contents
+ReadsStanzas kind n text = (contents : List Content) → read_text kind n text ≡ Ok contents → AreStanzasOf kind (lines_of text) contents

@@ -9,11 +9,13 @@ pub use Rattle.ctl_relation.specs.Lent
 pub mod Lines
 pub mod LineKind
 pub mod Fields
+pub mod FieldLines
 pub mod RelationFields
 pub mod Status
 pub mod Content
 pub mod Faults
 pub mod Text
+pub mod Runs
 pub mod Laws
 pub mod Records
 pub mod RecordLaws

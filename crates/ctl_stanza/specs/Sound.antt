@@ -1,11 +1,12 @@
 -- What holds of a stanza without a fault.
-use Rattle.std.specs.Prelude.{◌≡◌, ◌<◌, ◌^◌, true, length, None, IsSome}
+use Rattle.std.specs.Prelude.{◌≡◌, ◌<◌, ◌^◌, true, List, length, None, IsSome}
 use Rattle.std.specs.List.{All}
 use Rattle.ctl_relation.specs.declared.field_kind.FieldKind.{FieldKind}
 use Rattle.ctl_relation.specs.Bounds.{atom_count}
 use Rattle.ctl_relation.specs.Names.{is_name}
+use Rattle.ctl_relation.specs.Parts.{AtomParts}
 use Rattle.ctl_stanza.specs.Lines.{lines_of}
-use Rattle.ctl_stanza.specs.Content.{Content, is_live, package_of, version_of, relations_of_kind, offers_of}
+use Rattle.ctl_stanza.specs.Content.{Content, is_live, package_of, version_of, relations_of_kind, provides_of, offers_of}
 use Rattle.ctl_stanza.specs.Faults.{stanza_fault}
 
 -- a stanza has no fault, and less than 2^32 bytes
@@ -13,11 +14,16 @@ pub record IsWhole (content : Content) : Type 0 where
   pub no_fault : stanza_fault content.kind 0 (lines_of content.text) ≡ None
   pub small : length content.text < 2 ^ 32
 
--- A stanza has a name, and where it is live a version. Each group of its relation fields has an atom. The atoms of a
--- field, and what the stanza offers, are few.
+-- an entry of Provides: a group of one atom
+abbrev pub IsOneAtom : List AtomParts → Type 0
+IsOneAtom group = length group ≡ 1
+
+-- A stanza has a name, and where it is live a version. Each group of its relation fields has an atom, and each entry of
+-- Provides one alone. The atoms of a field, and what the stanza offers, are few.
 pub record IsSound (content : Content) : Type 0 where
   pub name : is_name (package_of content) ≡ true
   pub version : is_live content ≡ true → IsSome (version_of content)
   pub some : (kind : FieldKind) → All (λ group. 0 < length group) (relations_of_kind kind content)
+  pub one : All IsOneAtom (provides_of content)
   pub atoms : (kind : FieldKind) → atom_count (relations_of_kind kind content) < 2 ^ 32
   pub offers : length (offers_of content) < 2 ^ 32

@@ -1,5 +1,6 @@
 -- The state of a package in a status list, and whether a stanza is live (deb822(5), dpkg-query(1)).
-use Rattle.std.specs.Prelude.{ℕ, not, ◌==◌, ◌||◌, Bool, true, false, List, codes, length, Option, None, Some, if◌then◌else◌}
+use Rattle.std.specs.Prelude.{ℕ, not, ◌==◌, ◌||◌, Bool, true, false, List, [], ◌∷◌, codes, length, filter, Option, None, Some, if◌then◌else◌}
+use Rattle.std.specs.List.{slice_split}
 use Rattle.std.specs.Str.{bytes_eq}
 use Rattle.ctl_relation.specs.Runs.{run, rest}
 use Rattle.ctl_stanza.specs.declared.list_kind.ListKind.{ListKind}
@@ -7,16 +8,13 @@ use Rattle.ctl_stanza.specs.declared.list_kind.ListKind.TheVariants.{Packages, S
 use Rattle.ctl_stanza.specs.Lines.{is_blank_byte}
 use Rattle.ctl_stanza.specs.Fields.{FieldText, body_named, status_name}
 
--- The bytes of words: all but spaces and tabs. A newline is one of them.
-abbrev pub is_word_byte : ℕ → Bool
-is_word_byte b = not (is_blank_byte b)
+-- a part of a text that has a byte
+abbrev pub is_word : List ℕ → Bool
+is_word part = not (length part == 0)
 
--- the first word of a text, and what stands behind it
-abbrev pub first_word : List ℕ → List ℕ
-first_word text = run is_word_byte (rest is_blank_byte text)
-
-abbrev pub behind_word : List ℕ → List ℕ
-behind_word text = rest is_word_byte (rest is_blank_byte text)
+-- The words of a text: its parts between spaces and tabs, without the empty ones. A newline belongs to a word.
+abbrev pub words_of : List ℕ → List (List ℕ)
+words_of text = filter is_word (slice_split is_blank_byte text)
 
 -- whether a word is one of the three states in which a package doesn't count as there
 abbrev pub is_other_state : List ℕ → Bool
@@ -33,12 +31,16 @@ is_live_state word =
 abbrev pub liveness_in : List ℕ → Option Bool
 liveness_in word = if is_live_state word then Some true else (if is_other_state word then Some false else None)
 
--- A body of Status has three words, of which the third is the state.
+-- Status has three words, of which the third is the state.
+abbrev pub liveness_by_words : List (List ℕ) → Option Bool
+liveness_by_words [] = None
+liveness_by_words (want ∷ []) = None
+liveness_by_words (want ∷ flag ∷ []) = None
+liveness_by_words (want ∷ flag ∷ state ∷ []) = liveness_in state
+liveness_by_words (want ∷ flag ∷ state ∷ other ∷ more) = None
+
 abbrev pub liveness_by_body : List ℕ → Option Bool
-liveness_by_body body =
-    if length (first_word (behind_word (behind_word (behind_word body)))) == 0
-    then liveness_in (first_word (behind_word (behind_word body)))
-    else None
+liveness_by_body body = liveness_by_words (words_of body)
 
 abbrev pub liveness_by : Option (List ℕ) → Option Bool
 liveness_by None = None
@@ -56,3 +58,15 @@ is_yes (Some answer) = answer
 
 abbrev pub is_live_by : ListKind → List FieldText → Bool
 is_live_by kind fields = is_yes (liveness kind fields)
+
+-- ---- how one word after another is taken; not for callers
+
+abbrev pub is_word_byte : ℕ → Bool
+is_word_byte b = not (is_blank_byte b)
+
+-- the first word of a text, or nothing, and what stands behind it
+abbrev pub first_word : List ℕ → List ℕ
+first_word text = run is_word_byte (rest is_blank_byte text)
+
+abbrev pub behind_word : List ℕ → List ℕ
+behind_word text = rest is_word_byte (rest is_blank_byte text)

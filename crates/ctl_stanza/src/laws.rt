@@ -2,8 +2,10 @@
 
 ghost use Rattle.std.specs.Prelude.{ℕ, ◌≤◌, List, length};
 ghost use Rattle.ctl_stanza.specs.declared.list_kind.ListKind.{ListKind};
-ghost use Rattle.ctl_stanza.specs.RecordLaws.{ReadsRecordsOrTells};
+ghost use Rattle.ctl_stanza.specs.RecordLaws.{ReadsRecordsOrTells, AreRecordsUpTo};
+ghost use Rattle.ctl_stanza.specs.Records.{records_before_fault};
 ghost use Rattle.ctl_stanza.specs.Content.{Content};
+ghost use Rattle.ctl_stanza.specs.FieldLines.{FieldLinesAreTaken, FieldLinesAreKnown};
 ghost use Rattle.ctl_stanza.specs.Lines.{lines_of};
 ghost use Rattle.ctl_stanza.specs.Laws.{ReadsOrTells, KeepsLines, ReadsStanzas};
 ghost use Rattle.ctl_stanza.specs.Sound.{IsWhole, IsSound};
@@ -22,8 +24,15 @@ pub fn stanzas_keep_lines()
     ensures { (kind : ListKind) (n : ℕ) (text : List ℕ) → KeepsLines kind n text }
 {}
 
-/// Each stanza that a text is read to is a maximal run of lines of the text that aren't blank, and is of the
-/// list's kind.
+/// A field line is a name, a colon, blanks, a value and blanks: each such line is taken for a field line with that name
+/// and that value, and no other line is.
+pub fn field_lines_have_names_and_values()
+    ensures taken { FieldLinesAreTaken }
+    ensures known { FieldLinesAreKnown }
+{}
+
+/// The stanzas that a text is read to are all the maximal runs of its lines that aren't blank, each once and in order,
+/// and are of the list's kind.
 pub fn stanzas_are_runs()
     ensures { (kind : ListKind) (n : ℕ) (text : List ℕ) → ReadsStanzas kind n text }
 {}
@@ -34,8 +43,14 @@ pub fn told_record_fault_is_least()
     ensures { (n : ℕ) (text : List ℕ) → ReadsRecordsOrTells n text }
 {}
 
-/// A stanza without a fault has a name, and where it is live a version. Each group of its relation fields has an atom,
-/// and the atoms of a field, and what the stanza offers, are less than 2^32.
+/// The records that a text of preferences is read to are all the maximal runs of its lines that aren't blank, comments
+/// left out, each once and in order; where a fault is told they are all those before its line.
+pub fn records_are_runs()
+    ensures { (n : ℕ) (text : List ℕ) → AreRecordsUpTo n text (records_before_fault n text).0 (records_before_fault n text).1 }
+{}
+
+/// A stanza without a fault has a name, and where it is live a version. Each group of its relation fields has an atom, an
+/// entry of Provides has one alone, and the atoms of a field, and what the stanza offers, are less than 2^32.
 pub fn whole_stanzas_are_sound()
     ensures { (content : Content) → IsWhole content → IsSound content }
 {

@@ -24,7 +24,7 @@ mod tests;
 
 pub use fault::{Cause, TextFault};
 pub use laws::{
-    lines_take_bytes, stanzas_are_runs, stanzas_keep_lines, told_fault_is_least,
+    field_lines_have_names_and_values, lines_take_bytes, records_are_runs, stanzas_are_runs, stanzas_keep_lines, told_fault_is_least,
     told_record_fault_is_least, whole_stanzas_are_sound,
 };
 pub use lines::MAX_LINE;

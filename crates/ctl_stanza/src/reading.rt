@@ -3,6 +3,7 @@
 ghost use Rattle.std.specs.Prelude.{◌≡◌, ◌≢◌, ◌≤◌, ◌<◌, ◌+◌, ◌^◌, ◌∷◌, ◌++◌, ℕ, length, map, None, Some, Ok, IfOk, IfErr, OnOk};
 ghost use Rattle.ctl_stanza.specs.Lines.{lines_of, lent_lines, AreLines};
 ghost use Rattle.ctl_stanza.specs.Faults.{IsMemoryAtZero, Tells};
+ghost use Rattle.ctl_stanza.specs.Laws.{AreStanzasOf, HasNoFault, TellsLeastFault};
 ghost use Rattle.ctl_stanza.specs.NamesGiven.{HoldsNone};
 ghost use Rattle.ctl_stanza.specs.Text.{IsFirstPiece, read_text, piece_content, piece_fault, piece, Reads};
 
@@ -104,6 +105,9 @@ pub fn read_stanzas(
     kind: ListKind,
 ) -> Result<Vec<Stanza>, TextFault>
     requires lines { first_line + length (lines_of text.now) < 2 ^ 64 }
+    ensures stanzas { IfOk result (λ stanzas. AreStanzasOf kind (lines_of text.now) stanzas.items) }
+    ensures no_fault { OnOk result (HasNoFault kind (lines_of text.now)) }
+    ensures least { IfErr result (TellsLeastFault kind first_line (lines_of text.now)) }
     ensures read { Reads result (read_text kind first_line text.now) }
     ensures memory { IfErr result IsMemoryAtZero }
 {

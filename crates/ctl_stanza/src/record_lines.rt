@@ -43,7 +43,7 @@ pub(crate) fn record_lines(
     text: &[u8],
     first_line: u64,
 ) -> Result<RecordLines, AllocError>
-    requires { first_line + length text.now < 2 ^ 64 }
+    requires { first_line + length (lines_of text.now) < 2 ^ 64 }
     ensures lines { IfOk result (λ lines. lines_of lines.text.items ≡ bytes_of (record_lines first_line text.now)) }
     ensures numbers { IfOk result (λ lines. lines.numbers.items ≡ numbers_of (record_lines first_line text.now)) }
 {

@@ -2,10 +2,11 @@
 
 ghost use Rattle.std.specs.Prelude.{◌≡◌, ◌≢◌, ◌+◌, ◌<◌, ◌^◌, ◌++◌, length, None, IfOk, IfErr, IfSome, OnOk, OnErr};
 ghost use Rattle.ctl_stanza.specs.declared.fault.Cause.TheVariants as causes;
-ghost use Rattle.ctl_stanza.specs.Lines.{lent_lines, AreLines};
+ghost use Rattle.ctl_stanza.specs.Lines.{lines_of, lent_lines, AreLines};
 ghost use Rattle.ctl_stanza.specs.Faults.{IsMemoryAtZero, Tells};
 ghost use Rattle.ctl_stanza.specs.NamesGiven.{HoldsNone};
 ghost use Rattle.ctl_stanza.specs.Text.{Reads};
+ghost use Rattle.ctl_stanza.specs.RecordLaws.{HasNoRecordFault, AreRecordsOf, AreRecordsUpTo, TellsLeastRecordFault};
 ghost use Rattle.ctl_stanza.specs.Records.{record_of, numbered_fault, record_fault, piece_record, records_before_fault, read_record_text};
 
 use crate::fault::{Cause, TextFault};
@@ -129,7 +130,8 @@ pub fn read_records_before_fault(
     text: &[u8],
     first_line: u64,
 ) -> Result<RecordsBeforeFault, AllocError>
-    requires lines { first_line + length text.now < 2 ^ 64 }
+    requires lines { first_line + length (lines_of text.now) < 2 ^ 64 }
+    ensures records { IfOk result (λ read. AreRecordsUpTo first_line text.now read.records.items read.fault) }
     ensures read { IfOk result (λ read. (read.records.items, read.fault) ≡ records_before_fault first_line text.now) }
     ensures fault { IfOk result (λ read. IfSome read.fault (λ fault. fault.cause ≢ causes.Memory)) }
 {
@@ -174,7 +176,10 @@ pub fn read_records_before_fault(
 /// [`Cause::FieldTwice`](crate::Cause::FieldTwice). Where memory runs out the cause is
 /// [`Cause::Memory`](crate::Cause::Memory) and the line is 0. So it is for a record of 2^32 bytes or more.
 pub fn read_records(alloc: Global, text: &[u8], first_line: u64) -> Result<Vec<Record>, TextFault>
-    requires lines { first_line + length text.now < 2 ^ 64 }
+    requires lines { first_line + length (lines_of text.now) < 2 ^ 64 }
+    ensures records { IfOk result (λ records. AreRecordsOf first_line text.now records.items) }
+    ensures no_fault { OnOk result (HasNoRecordFault first_line text.now) }
+    ensures least { IfErr result (TellsLeastRecordFault first_line text.now) }
     ensures read { Reads result (read_record_text first_line text.now) }
     ensures memory { IfErr result IsMemoryAtZero }
 {

@@ -128,7 +128,7 @@ impl Stanza {
     ghost use Rattle.ctl_relation.specs.Bounds.{atom_count};
     ghost use Rattle.ctl_relation.specs.Lent.{lent};
     ghost use Rattle.ctl_relation.specs.Names.{is_name};
-    ghost use Rattle.ctl_stanza.specs.Sound.{IsWhole};
+    ghost use Rattle.ctl_stanza.specs.Sound.{IsWhole, IsOneAtom};
     ghost use Rattle.ctl_stanza.specs.Content.{body_of, package_of, named_bodies, is_live, version_of, groups_of, provides_of, offers_of};
 
     /// The lines of the stanza, each with a newline. A stanza has no fault, and less than 2^32 bytes.
@@ -220,6 +220,7 @@ impl Stanza {
     pub fn provides(&self) -> &[Group]
         ensures provides { result.now ≡ provides_of self.now }
         ensures some { All (λ group. 0 < length group) result.now }
+        ensures one { All IsOneAtom result.now }
         ensures few { atom_count result.now < 2 ^ 32 }
     {
         kept_groups(&self.relations, FieldKind::Provides)

@@ -33,6 +33,7 @@ fn has_stanzas(alloc: Global, text: &[u8], count: usize) -> bool {
 
 // Whether a text of preferences has this fault.
 fn records_have_fault(alloc: Global, text: &[u8], line: u64, cause: Cause) -> bool {
+    lines_take_bytes();
     match read_records(alloc, text, 1) {
         Ok(_) => false,
         Err(fault) => fault == TextFault { line, cause },
@@ -453,6 +454,7 @@ fn relations_go_on_over_lines(rt: HostRuntime) -> Result<(), Fail> {
 fn records_are_read(rt: HostRuntime) -> Result<(), Fail> {
     let text: &[u8] =
         b"# c\nExplanation: keep\n\nExplanation: x\n#y\nexplanation: y\n# z\n  more\nPackage: foo\n#\n\n# alone\n \nPin: 1";
+    lines_take_bytes();
     let records = read_records(rt.alloc(), text, 10)?;
     assert_eq!(rt; records.len(), 3);
     assert_eq!(rt; records[0].first_line(), 11);
@@ -503,6 +505,7 @@ fn comments_have_no_limit(rt: HostRuntime) -> Result<(), Fail> {
     let mut text = Vec::from_slice(rt.alloc(), b"A: x\n#")?;
     text.resize(MAX_LINE + 10, b'y')?;
     text.extend_from_slice(b"\n z")?;
+    lines_take_bytes();
     let records = read_records(rt.alloc(), &text, 1)?;
     assert_eq!(rt; records.len(), 1);
     text.resize(2 * MAX_LINE + 40, b'y')?;

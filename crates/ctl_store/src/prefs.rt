@@ -3,6 +3,7 @@
 ghost use Rattle.std.specs.Prelude.{◌≡◌, ◌≢◌, ◌+◌, ◌<◌, ◌≤◌, ◌^◌, ◌++◌, [], ◌∷◌, true, Some, None, Ok, Err, length, map, unwrap_or, option_copied, IfOk, IfErr, IfSome, OnOk};
 ghost use Rattle.ctl_stanza.specs.declared.fault.Cause.TheVariants as causes;
 ghost use Rattle.ctl_stanza.specs.Faults.{IsMemoryAtZero, Tells, is_empty_body};
+ghost use Rattle.ctl_stanza.specs.Lines.{lines_of};
 ghost use Rattle.ctl_stanza.specs.Records.{parts_of_fields};
 ghost use Rattle.ctl_store.specs.declared.selector.Selector.TheVariants as selectors;
 ghost use Rattle.ctl_store.specs.Edits.{settings_of};
@@ -340,7 +341,7 @@ fn settings_in_order(
 /// [`Cause::Priority`](ctl_stanza::Cause::Priority). Where memory runs out the cause is
 /// [`Cause::Memory`](ctl_stanza::Cause::Memory) and the line is 0.
 pub fn read_prefs(alloc: Global, text: &[u8], first_line: u64) -> Result<Vec<PinSetting>, TextFault>
-    requires lines { first_line + length text.now < 2 ^ 64 }
+    requires lines { first_line + length (lines_of text.now) < 2 ^ 64 }
     ensures ok { IfOk result (λ settings. read_prefs_text first_line text.now ≡ Ok (settings_of settings.items)) }
     ensures distinct { IfOk result (λ settings. AreDistinct (settings_of settings.items)) }
     ensures err { IfErr result (λ fault. fault.cause ≢ causes.Memory → read_prefs_text first_line text.now ≡ Err fault) }

@@ -1,4 +1,4 @@
-use Rattle.ctl_stanza.proofs.RecordLawLemmas.{reads_or_tells}
+use Rattle.ctl_stanza.proofs.RecordRunLemmas.{reads_or_tells}
 use Rattle.ctl_stanza.proofs.laws.told_record_fault_is_least.Goals as goal
 
 pub returns : goal.returns

@@ -1,4 +1,4 @@
-use Rattle.std.proofs.Common.{◌∙◌, sym, ap, arith}
+use Rattle.std.proofs.Common.{◌∙◌, length, sym, ap, arith}
 use Rattle.ctl_stanza.specs.declared.record_lines.RecordLines.{RecordLines}
 use Rattle.ctl_stanza.proofs.RecordLemmas.{kept-skip, kept-add, kept-lines, kept-numbers}
 use Rattle.ctl_stanza.proofs.record_lines.record_lines.Goals as goal
@@ -8,7 +8,7 @@ pub lines-preserved : goal.lines-preserved
 lines-preserved c =
     let here = c.in-Some.ensures in
     record {
-      within = omega (arith, here.less, c.lines.invariant.within);
+      within = omega (arith, ap length here.lines, c.lines.invariant.within);
       kept = elim c.if-not-is_comment.branch [
         | then-not-is_comment+in_ok-add w ↦
             kept-add c.lines.kept.text.items c.lines.kept.numbers.items _ _ c.lines.number c.in-Some.line.now c.lines.left.now c.in-Some.behind.now _ here.lines here.one_line

@@ -1,9 +1,16 @@
 use Rattle.std.proofs.Common.{◌<◌, ◌^◌, List, ◌∙◌, ap, sym, subst}
 use Rattle.ctl_relation.specs.declared.field_kind.FieldKind.TheVariants as field_kinds
 use Rattle.ctl_relation.specs.Bounds.{atom_count}
+use Rattle.std.specs.List.{All}
 use Rattle.ctl_relation.specs.Parts.{AtomParts}
+use Rattle.ctl_stanza.specs.Sound.{IsOneAtom}
 use Rattle.ctl_stanza.specs.Live.{kept_groups}
 use Rattle.ctl_stanza.proofs.stanza.Stanza.provides.Goals as goal
+
+pub returns-clause-one : goal.returns-clause-one
+returns-clause-one c =
+    let are = c.kept_groups.ensures ∙ ap (kept_groups field_kinds.Provides) c.deref.ensures.value ∙ c.self.invariant.relations_are field_kinds.Provides in
+    subst (All IsOneAtom) (sym are) c.self.invariant.sound.one
 
 pub returns-clause-few : goal.returns-clause-few
 returns-clause-few c =

@@ -1,0 +1,47 @@
+-- Each entry of Provides is one atom.
+use Rattle.std.proofs.Common.{◌≡◌, ℕ, Bool, true, false, cond, List, [], ◌∷◌, length, Option, Some, None, Result, Ok, Err, refl, sym, subst}
+use Rattle.std.specs.List.{All}
+use Rattle.std.proofs.lemmas.List.Elements.{All-nil, All-cons}
+use Rattle.ctl_relation.specs.declared.field_kind.FieldKind.TheVariants.{Provides}
+use Rattle.ctl_relation.specs.declared.relation_fault.RelationFault.{RelationFault}
+use Rattle.ctl_relation.specs.FieldKind.{has_alternatives}
+use Rattle.ctl_relation.specs.Grammar.{GroupText, PiecesText, groups_of, RelationsText}
+use Rattle.ctl_relation.specs.Parts.{AtomParts}
+use Rattle.ctl_relation.specs.Reading.{relations_of}
+use Rattle.ctl_stanza.specs.RelationFields.{name_of, groups_read, groups_in, groups_among}
+use Rattle.ctl_stanza.specs.Content.{Content, fields_of, body_of, is_live, provides_of}
+use Rattle.ctl_stanza.specs.Sound.{IsOneAtom}
+
+one-group : (text : List ℕ) (group : List AtomParts) → GroupText Provides text group → IsOneAtom group
+one-group text [] h = absurd h
+one-group text (atom ∷ []) h = refl
+one-group text (atom ∷ other ∷ more) h = let alternatives : has_alternatives Provides ≡ true = h.3 in absurd (cc)
+
+one-pieces : (text : List ℕ) (pieces : List (Option (List AtomParts))) → PiecesText Provides text pieces → All IsOneAtom (groups_of pieces)
+one-pieces text [] h = absurd h
+one-pieces text (None ∷ []) h = All-nil IsOneAtom
+one-pieces text (Some group ∷ []) h = All-cons IsOneAtom group [] (one-group text group h) (All-nil IsOneAtom)
+one-pieces text (None ∷ other ∷ more) h = one-pieces h.1 (other ∷ more) h.3
+one-pieces text (Some group ∷ other ∷ more) h = All-cons IsOneAtom group (groups_of (other ∷ more)) (one-group h.0 group h.2) (one-pieces h.1 (other ∷ more) h.3)
+
+one-field : (body : List ℕ) (groups : List (List AtomParts)) → RelationsText Provides body groups → All IsOneAtom groups
+one-field body groups h = subst (All IsOneAtom) (sym h.2) (one-pieces body h.0 h.1)
+
+-- what is read is in the grammar
+abbrev Found : Type 0
+Found = (body : List ℕ) (groups : List (List AtomParts)) → relations_of Provides body ≡ Ok groups → RelationsText Provides body groups
+
+one-read : Found → (body : List ℕ) (r : Result (List (List AtomParts)) RelationFault) → relations_of Provides body ≡ r → All IsOneAtom (groups_read r)
+one-read found body (Ok groups) e = one-field body groups (found body groups e)
+one-read found body (Err fault) e = All-nil IsOneAtom
+
+one-given : Found → (body : Option (List ℕ)) → All IsOneAtom (groups_in Provides body)
+one-given found None = All-nil IsOneAtom
+one-given found (Some body) = one-read found body (relations_of Provides body) refl
+
+pub one_atom_each : Found → (content : Content) → All IsOneAtom (provides_of content)
+one_atom_each found content = by (is_live content)
+  where
+    by : (live : Bool) → All IsOneAtom (cond live (groups_among Provides (fields_of content)) [])
+    by true = one-given found (body_of content (name_of Provides))
+    by false = All-nil IsOneAtom
