@@ -83,7 +83,7 @@ module _ (list : ℕ) where
 -- ---- lists
 
 module _ (k : StanzaKey) where
-  none_later : (n : ℕ) (ls : List (List ℕ × KeyedList)) (m e : ℕ) → k.list < n → InOrder n ls m e → stanza_at k ls ≡ None
+  pub none_later : (n : ℕ) (ls : List (List ℕ × KeyedList)) (m e : ℕ) → k.list < n → InOrder n ls m e → stanza_at k ls ≡ None
   none_later n [] m e l h = refl
   none_later n (x ∷ ls) m e l h =
       ap (λ b. option_or (cond b (stanza_in k.stanza x.1.rows) None) (stanza_at k ls)) (gt_ne x.1.serial k.list (omega (arith, h.0)))
@@ -127,7 +127,7 @@ module _ (k : StanzaKey) where
           ap (option_or (in_rows k (f x.1))) (none_later (suc x.1.serial) ls m e (omega (arith, is, ap (λ (l : KeyedList). l.serial) z)) h.3) ∙ or_none (in_rows k (f x.1)) ∙ ap (λ l. in_rows k (f l)) z
       by false at up rest = ap (λ b. option_or (cond b (stanza_in k.stanza x.1.rows) None) (stanza_at k (change_named name f ls))) (lt_ne x.1.serial k.list (omega (arith, is, up at))) ∙ rest at
 
-  in_list : (n : ℕ) (ls : List (List ℕ × KeyedList)) (m e : ℕ) (name : List ℕ) (l : KeyedList) → InOrder n ls m e → at_name name ls ≡ Some l → k.list ≡ l.serial → stanza_at k ls ≡ in_rows k l
+  pub in_list : (n : ℕ) (ls : List (List ℕ × KeyedList)) (m e : ℕ) (name : List ℕ) (l : KeyedList) → InOrder n ls m e → at_name name ls ≡ Some l → k.list ≡ l.serial → stanza_at k ls ≡ in_rows k l
   in_list n [] m e name l h at is = cc at
   in_list n (x ∷ ls) m e name l h at is = by (bytes_eq name x.0) at (λ a. from_first (suc x.1.serial) ls m e name l h.3 a) (λ a. in_list (suc x.1.serial) ls m e name l h.3 a is)
     where
@@ -145,11 +145,11 @@ module _ (k : StanzaKey) where
       by true at up rest = let z : x.1 ≡ l = cc at in none_later (suc x.1.serial) ls m e (omega (arith, is, ap (λ (l : KeyedList). l.serial) z)) h.3
       by false at up rest = ap (λ b. option_or (cond b (stanza_in k.stanza x.1.rows) None) (stanza_at k (without_name name ls))) (lt_ne x.1.serial k.list (omega (arith, is, up at))) ∙ rest at
 
-  of_serial : (l : KeyedList) → k.list ≡ l.serial → in_rows k l ≡ stanza_in k.stanza l.rows
+  pub of_serial : (l : KeyedList) → k.list ≡ l.serial → in_rows k l ≡ stanza_in k.stanza l.rows
   of_serial l is = ap (λ b. cond b (stanza_in k.stanza l.rows) None) (eq_is l.serial k.list (sym is))
 
 -- what the rows of the list of a name have
-rows_rise : (n : ℕ) (ls : List (List ℕ × KeyedList)) (m e : ℕ) (name : List ℕ) (l : KeyedList) → InOrder n ls m e → at_name name ls ≡ Some l → Rises 0 l.rows l.next
+pub rows_rise : (n : ℕ) (ls : List (List ℕ × KeyedList)) (m e : ℕ) (name : List ℕ) (l : KeyedList) → InOrder n ls m e → at_name name ls ≡ Some l → Rises 0 l.rows l.next
 rows_rise n [] m e name l h at = cc at
 rows_rise n (x ∷ ls) m e name l h at = by (bytes_eq name x.0) at (λ a. rows_rise (suc x.1.serial) ls m e name l h.3 a)
   where
@@ -166,7 +166,7 @@ both_true : (a b : Bool) → a ≡ true → b ≡ true → (a && b) ≡ true
 both_true true b p q = q
 both_true false b p q = cc
 
-is_itself : (k : StanzaKey) → key_is k k ≡ true
+pub is_itself : (k : StanzaKey) → key_is k k ≡ true
 is_itself k = both_true (nat_eq k.list k.list) (nat_eq k.stanza k.stanza) (eq_is k.list k.list refl) (eq_is k.stanza k.stanza refl)
 
 -- ---- the laws

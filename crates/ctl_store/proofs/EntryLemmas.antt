@@ -105,7 +105,7 @@ before_tail b a q r k c = record {
 
 -- ---- rows
 
-keys_under : (list : ℕ) (rows : List (ℕ × Content)) → entry_keys (rows_under list rows) ≡ map (λ (row : ℕ × Content). key_of list row.0) rows
+pub keys_under : (list : ℕ) (rows : List (ℕ × Content)) → entry_keys (rows_under list rows) ≡ map (λ (row : ℕ × Content). key_of list row.0) rows
 keys_under list [] = refl
 keys_under list (r ∷ rows) = ap (λ ks. key_of list r.0 ∷ ks) (keys_under list rows)
 
@@ -336,7 +336,7 @@ between (e ∷ head) gone tail h =
 -- ---- the laws
 
 -- the order of the serials after an edit
-order_after : (s : Keyed) (e : ℕ) → InOrder 0 s.lists s.next_list e → (edit : Edit) → (n : ℕ) × InOrder 0 (keyed_after s edit).lists (keyed_after s edit).next_list n
+pub order_after : (s : Keyed) (e : ℕ) → InOrder 0 s.lists s.next_list e → (edit : Edit) → (n : ℕ) × InOrder 0 (keyed_after s edit).lists (keyed_after s edit).next_list n
 order_after s e order (AddList name kind class stanzas) = (
   e + length stanzas + 1,
   in_order_push 0 s.lists s.next_list (e + length stanzas) name (list_of_stanzas s.next_list kind class stanzas) refl (omega arith) (subst (λ m. Rises 0 (rows_from 0 stanzas) m) (let z : 0 + length stanzas ≡ length stanzas = omega arith in z) (Rises-rows_from 0 stanzas)) (InOrder-weaken 0 0 s.lists s.next_list e (e + length stanzas) (omega arith) (omega arith) order),

@@ -27,3 +27,6 @@ pub mod WordLemmas
 pub mod PrefsLemmas
 pub mod ChangeLemmas
 pub mod EntryLemmas
+pub mod FollowedLemmas
+pub mod GivenLemmas
+pub mod ByNameLemmas

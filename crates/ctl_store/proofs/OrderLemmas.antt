@@ -72,7 +72,7 @@ serial-ids : (s : ℕ) (rows : List (ℕ × Content)) → place (has_serial s) (
 serial-ids s [] = refl
 serial-ids s (r ∷ rows) = ap (λ o. cond (nat_eq r.0 s) (Some 0) (option_map (λ n. suc n) o)) (serial-ids s rows)
 
-lookup-ids : (s : ℕ) (rows : List (ℕ × Content)) → lookup (λ k. nat_eq k s) (ids_of rows) ≡ option_map id_of (lookup (λ k. nat_eq k s) rows)
+pub lookup-ids : (s : ℕ) (rows : List (ℕ × Content)) → lookup (λ k. nat_eq k s) (ids_of rows) ≡ option_map id_of (lookup (λ k. nat_eq k s) rows)
 lookup-ids s [] = refl
 lookup-ids s (r ∷ rows) = ap (cond (nat_eq r.0 s) (Some (id_of r.1))) (lookup-ids s rows) ∙ sym (if_cases (option_map id_of) (nat_eq r.0 s) _ _)
 
@@ -110,7 +110,7 @@ module _ {P Q R : ℕ × Id → Type 0} where
   all_both f [] h k = tt
   all_both f (x ∷ xs) h k = (f x h.0 k.0, all_both f xs h.1 k.1)
 
-all_lookup : (n : ℕ) (xs : List (ℕ × Id)) (m : ℕ) → Rises n xs m → AllByRecursion (λ (x : ℕ × Id). lookup (λ k. nat_eq k x.0) xs ≡ Some x.1) xs
+pub all_lookup : (n : ℕ) (xs : List (ℕ × Id)) (m : ℕ) → Rises n xs m → AllByRecursion (λ (x : ℕ × Id). lookup (λ k. nat_eq k x.0) xs ≡ Some x.1) xs
 all_lookup n [] m h = tt
 all_lookup n (x ∷ xs) m h = (
   ap (λ b. cond b (Some x.1) (lookup (λ k. nat_eq k x.0) xs)) (eq_is x.0 x.0 refl),

@@ -17,7 +17,8 @@ use Rattle.ctl_store.specs.Edits.{Edit, AddList, DropList, Put, Remove, Mark, Un
 use Rattle.ctl_store.specs.Step.{refusal_of}
 use Rattle.ctl_store.specs.Rows.{Rises, IsKept}
 use Rattle.ctl_store.specs.Pieces.{joined, IsFit}
-use Rattle.ctl_store.specs.Keys.{KeyedList, Keyed, stanza_lists, removed_of, added_of, AreComing, AreHeld, AreNew}
+use Rattle.ctl_store.specs.Keys.{KeyedList, Keyed, stanza_lists, removed_of, added_of, coming, AreComing, AreHeld, AreNew}
+use Rattle.ctl_store.specs.Followed.{coming_under}
 
 -- a list with the room for more of its rows, and in its order
 pub record Sheet : Type 0 where
@@ -115,10 +116,21 @@ pub record Planned : Type 0 where
   pub list_room : ListRoom
   pub pins_room : ℕ
 
+-- The stanza that comes under a key, by the first key that comes: those of a new list come from 0 on, and of others there
+-- is no second.
+abbrev pub coming_from : Edit → StanzaKey → StanzaKey → Option Content
+coming_from (Put list x) first k = if nat_eq first.stanza k.stanza then Some x else None
+coming_from edit first k = coming edit k
+
+abbrev pub coming_among : Edit → List StanzaKey → StanzaKey → Option Content
+coming_among edit [] k = None
+coming_among edit (first ∷ others) k = if nat_eq first.list k.list then coming_from edit first k else None
+
 -- what every plan keeps: nothing stands yet in the room for pins, and a stanza comes under each key
 pub record IsWhole (pins : List (Selector × ℤ)) (added : List StanzaKey) (edit : Edit) : Type 0 where
   pub no_pins : pins ≡ []
   pub coming : AreComing added edit
+  pub among : (k : StanzaKey) → coming_among edit added k ≡ coming_under added edit k
 
 -- what is made ready for an edit, beside the room in the store
 pub record Ready : Type 0 where

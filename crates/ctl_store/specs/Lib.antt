@@ -17,4 +17,7 @@ pub mod Rows
 pub mod Pieces
 pub mod Keys
 pub mod Entries
+pub mod ByName
+pub mod Given
+pub mod Followed
 pub mod Held

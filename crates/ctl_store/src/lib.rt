@@ -29,4 +29,4 @@ pub use priority::read_priority;
 pub use refusal::Refusal;
 pub use selector::{PinSetting, Selector};
 pub use stanza_key::{StanzaKey, compare_keys};
-pub use store::{CommittedKeys, Keys, Lists, Pins, Stanzas, Store};
+pub use store::{ByName, CommittedKeys, Entries, Keys, Lists, Pins, Stanzas, Store};

@@ -101,6 +101,17 @@ impl PinVersion {
         }
     }
 
+    /// A copy, which nothing but want of memory keeps from being made.
+    pub fn try_clone(&self, alloc: Global) -> Result<PinVersion, AllocError>
+        ensures { IfOk result (λ copy. copy ≡ self.now) }
+    {
+        let form = match &self.form {
+            Form::Exact(version) => Form::Exact(version.try_clone(alloc)?),
+            Form::Prefix(text) => Form::Prefix(Bytes::from_slice(alloc, text.as_slice())?),
+        };
+        Ok(PinVersion { form })
+    }
+
     /// The text, as it was read.
     pub fn text(&self) -> &[u8]
         ensures { result.now ≡ self.now }

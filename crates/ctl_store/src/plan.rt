@@ -1,8 +1,10 @@
 //! Plans: edits that were accepted, with all that they need.
 
-ghost use Rattle.std.specs.Prelude.{◌≡◌, Some, IsSome};
+ghost use Rattle.std.specs.Prelude.{◌≡◌, ◌∷◌, [], Some, IsSome, option_copied};
 ghost use Rattle.ctl_store.specs.Edits.{edit_of};
 ghost use Rattle.ctl_store.specs.Keys.{coming, AreComing};
+ghost use Rattle.ctl_store.specs.Followed.{coming_under};
+ghost use Rattle.ctl_store.specs.Held.{coming_among};
 
 use crate::edit::Edit;
 use crate::selector::Selector;
@@ -63,13 +65,39 @@ impl Plan {
         requires { IsSome (coming self.now.edit key) }
         ensures { Some result.now ≡ coming self.now.edit key }
     {
-        stanza_of(&self.edit, key)
+        match coming(&self.edit, key) {
+            Some(stanza) => stanza,
+            None => unreachable!(),
+        }
+    }
+
+    /// The stanza that comes under a key, if it is one of those that come.
+    pub fn find(&self, key: StanzaKey) -> Option<&Stanza>
+        ensures { option_copied result ≡ coming_under self.now.added self.now.edit key }
+    {
+        match self.added.first() {
+            Some(first) => found_from(&self.edit, *first, key),
+            None => None,
+        }
     }
 }
 
-fn stanza_of(edit: &Edit, key: StanzaKey) -> &Stanza
-    requires { IsSome (coming (edit_of edit.now) key) }
-    ensures { Some result.now ≡ coming (edit_of edit.now) key }
+// The stanza that comes under a key, where this key comes first.
+fn found_from(edit: &Edit, first: StanzaKey, key: StanzaKey) -> Option<&Stanza>
+    ensures { option_copied result ≡ coming_among (edit_of edit.now) (first ∷ []) key }
+{
+    if first.list != key.list {
+        return None;
+    }
+    match edit {
+        Edit::Put { list: _, stanza: _ } if first.stanza != key.stanza => None,
+        _ => coming(edit, key),
+    }
+}
+
+// The stanza that comes under a key, if it is one of those that come.
+fn coming(edit: &Edit, key: StanzaKey) -> Option<&Stanza>
+    ensures { option_copied result ≡ coming (edit_of edit.now) key }
 {
     match edit {
         Edit::AddList {
@@ -78,10 +106,10 @@ fn stanza_of(edit: &Edit, key: StanzaKey) -> &Stanza
             class: _,
             stanzas,
         } => match stanzas.get(key.stanza as usize) {
-            Some(stanza) => stanza,
-            None => unreachable!(),
+            Some(stanza) => Some(stanza),
+            None => None,
         },
-        Edit::Put { list: _, stanza } => stanza,
-        _ => unreachable!(),
+        Edit::Put { list: _, stanza } => Some(stanza),
+        _ => None,
     }
 }

@@ -1,10 +1,11 @@
 //! Pin settings and their selectors.
 
-ghost use Rattle.std.specs.Prelude.{◌≡◌};
+ghost use Rattle.std.specs.Prelude.{◌≡◌, IfOk};
 ghost use Rattle.ctl_store.specs.Pins.{package_eq};
 
 use crate::pin_version::PinVersion;
 use ctl_relation::Bytes;
+use std::alloc::{AllocError, Global};
 use std::hash::{Hash, Hasher};
 
 /// What a pin setting is for (apt_preferences(5)). A release pin names a list: a list's name is its archive, which apt
@@ -22,6 +23,46 @@ pub enum Selector {
 pub struct PinSetting {
     pub selector: Selector,
     pub priority: i16,
+}
+
+impl Selector {
+    /// A copy, which nothing but want of memory keeps from being made.
+    pub fn try_clone(&self, alloc: Global) -> Result<Selector, AllocError>
+        ensures { IfOk result (λ copy. copy ≡ self.now) }
+    {
+        match self {
+            Selector::Version { package, version } => Ok(Selector::Version {
+                package: Bytes::from_slice(alloc, package.as_slice())?,
+                version: version.try_clone(alloc)?,
+            }),
+            Selector::Release {
+                package: None,
+                list,
+            } => Ok(Selector::Release {
+                package: None,
+                list: Bytes::from_slice(alloc, list.as_slice())?,
+            }),
+            Selector::Release {
+                package: Some(package),
+                list,
+            } => Ok(Selector::Release {
+                package: Some(Bytes::from_slice(alloc, package.as_slice())?),
+                list: Bytes::from_slice(alloc, list.as_slice())?,
+            }),
+        }
+    }
+}
+
+impl PinSetting {
+    /// A copy, which nothing but want of memory keeps from being made.
+    pub fn try_clone(&self, alloc: Global) -> Result<PinSetting, AllocError>
+        ensures { IfOk result (λ copy. copy ≡ self.now) }
+    {
+        Ok(PinSetting {
+            selector: self.selector.try_clone(alloc)?,
+            priority: self.priority,
+        })
+    }
 }
 
 fn is_same_package(one: &Option<Bytes>, other: &Option<Bytes>) -> bool

@@ -8,6 +8,8 @@ ghost use Rattle.ctl_store.specs.Step.{place};
 ghost use Rattle.ctl_store.specs.Rows.{by_name_and_version, put_row, next_after_put, remove_row, rows_from};
 ghost use Rattle.ctl_store.specs.Pieces.{joined, IsFit, room_at_end};
 ghost use Rattle.ctl_store.specs.Keys.{keys_of, found_key};
+ghost use Rattle.ctl_store.specs.Entries.{entries_in};
+ghost use Rattle.ctl_store.specs.ByName.{keys_by_name};
 ghost use Rattle.ctl_store.specs.Held.{IsShelved, Fits, keyed_list};
 
 use crate::list_class::ListClass;
@@ -15,7 +17,7 @@ use crate::order::{look_up, sort_serials};
 use crate::pieces::Pieces;
 use crate::rows::{Row, replace_row, row_at, stanza_of};
 use crate::stanza_key::StanzaKey;
-use crate::store::Stanzas;
+use crate::store::{ByName, ListEntries, Stanzas};
 use ctl_relation::Version;
 use ctl_stanza::{ListKind, Stanza};
 use std::alloc::{AllocError, Global};
@@ -162,7 +164,21 @@ impl Shelf {
     pub(crate) fn keys(&self) -> Stanzas<'_>
         ensures { result ≡ keys_of (keyed_list self.now) }
     {
-        Stanzas::new(self.serial, self.rows.as_slice())
+        Stanzas::new(self.entries())
+    }
+
+    /// Its stanzas with their keys, in order.
+    pub(crate) fn entries(&self) -> ListEntries<'_>
+        ensures { result ≡ entries_in (keyed_list self.now) }
+    {
+        ListEntries::new(self.serial, self.rows.as_slice())
+    }
+
+    /// The keys of its stanzas, in the order of names and versions.
+    pub(crate) fn by_name(&self) -> ByName<'_>
+        ensures { result ≡ keys_by_name (keyed_list self.now) }
+    {
+        ByName::new(self.serial, self.order.as_slice())
     }
 
     /// The stanza of a serial.

@@ -6,8 +6,10 @@ ghost use Rattle.ctl_store.specs.Limits.{limits_that_count};
 ghost use Rattle.ctl_store.specs.Held.{state_of};
 ghost use Rattle.ctl_store.specs.declared.limits.Limits.{Limits};
 
+mod by_name;
 mod checking;
 mod committing;
+mod entries;
 mod preparing;
 mod views;
 
@@ -15,12 +17,15 @@ use crate::limits::Limits;
 use crate::selector::Selector;
 use crate::shelf::Shelf;
 use crate::table::Table;
+pub use by_name::ByName;
 pub use committing::CommittedKeys;
 use ctl_relation::{Bytes, Version};
+pub(crate) use entries::ListEntries;
+pub use entries::{Entries, Keys, Stanzas};
 use indexmap::IndexMap;
 use std::alloc::Global;
 use std::marker::Model;
-pub use views::{Keys, Lists, Pins, Stanzas};
+pub use views::{Lists, Pins};
 
 /// Lists of stanzas, marks of packages, pin settings and a target release. It is changed by one edit at a time:
 /// [`prepare`](Store::prepare) accepts it and takes all memory, and [`commit`](Store::commit) makes it.

@@ -9,6 +9,7 @@ ghost use Rattle.ctl_store.specs.Step.{after, refusal_of};
 ghost use Rattle.ctl_stanza.specs.Content.{package_of, version_of};
 ghost use Rattle.ctl_store.specs.Keys.{keyed_after, removed_of, found_in, all_in, IsNotAmong, stanza_at, AreCome, AreGone};
 ghost use Rattle.ctl_store.specs.Entries.{IsChange};
+ghost use Rattle.ctl_store.specs.Given.{IsGivenOnce};
 ghost use Rattle.ctl_store.specs.Held.{state_of, keyed_of, IsReady, HasRoom, HasRoomInList, Fits, AreDistinct};
 ghost use Rattle.indexmap.specs.IndexMap.{insert_entry, spare};
 
@@ -83,6 +84,9 @@ impl Store {
 
         // In the order of all stanzas, what goes stood in one place, and what comes stands there.
         ensures change { IsChange (keyed_of self.old).lists (keyed_of self.new).lists plan.removed plan.added plan.edit }
+
+        // No key comes that was given before.
+        ensures given { IsGivenOnce (keyed_of self.old) (keyed_of self.new) plan.removed plan.added }
     {
         let _ = self.commit_with_keys(plan);
     }
@@ -103,6 +107,9 @@ impl Store {
 
         // In the order of all stanzas, what goes stood in one place, and what comes stands there.
         ensures change { IsChange (keyed_of self.old).lists (keyed_of self.new).lists plan.removed plan.added plan.edit }
+
+        // No key comes that was given before.
+        ensures given { IsGivenOnce (keyed_of self.old) (keyed_of self.new) plan.removed plan.added }
         ensures removed { result.removed.items ≡ plan.removed }
         ensures added { result.added.items ≡ plan.added }
     {

@@ -10,6 +10,8 @@ ghost use Rattle.ctl_store.specs.Step.{refusal_of};
 ghost use Rattle.ctl_store.specs.Rows.{rows_from};
 ghost use Rattle.ctl_store.specs.Keys.{keyed_after, removed_of, added_of, found_of, found_in, kept_in, next_in, all_in, key_of};
 ghost use Rattle.ctl_store.specs.Entries.{IsChange};
+ghost use Rattle.ctl_store.specs.Followed.{IsFollowed};
+ghost use Rattle.ctl_store.specs.Given.{IsGivenOnce};
 ghost use Rattle.ctl_store.specs.Held.{state_of, keyed_of, IsReady, IsProper, IsReadyFor, HasRoomIn};
 
 use crate::edit::Edit;
@@ -191,6 +193,10 @@ impl Store {
         ensures same { IfOk result (λ plan. plan.edit ≡ edit_of edit) }
         // what the edit will make of the stanzas
         ensures change { IfOk result (λ plan. IsChange (keyed_of self.new).lists (keyed_after (keyed_of self.new) plan.edit).lists plan.removed plan.added plan.edit) }
+        // and where it is followed key by key
+        ensures followed { IfOk result (λ plan. IsFollowed (keyed_of self.new).lists (keyed_after (keyed_of self.new) plan.edit).lists plan.removed plan.added plan.edit) }
+        // no key comes that was given before
+        ensures given { IfOk result (λ plan. IsGivenOnce (keyed_of self.new) (keyed_after (keyed_of self.new) plan.edit) plan.removed plan.added) }
         ensures back { IfErr result (λ e. e.0 ≡ edit) }
         ensures refused { IfErr result (λ e. e.1 ≢ refusal.Memory → refusal_of self.old.limits (state_of self.old) (edit_of edit) ≡ Some e.1) }
     {

@@ -1,10 +1,12 @@
 //! What a store holds, lent.
 
-ghost use Rattle.std.specs.Prelude.{◌≡◌, ◌+◌, ◌++◌, ◌∷◌, ℕ, IsSome, IfSome, IfNone, Some, [], map, option_map, option_copied};
+ghost use Rattle.std.specs.Prelude.{◌≡◌, ◌+◌, ℕ, true, IsSome, Some, map, option_map, option_copied};
 ghost use Rattle.std.specs.FinMap as fin;
 ghost use Rattle.ctl_store.specs.State.{stanza_count, shown_lists, stanzas_named};
-ghost use Rattle.ctl_store.specs.Pieces.{joined, ArePieces};
-ghost use Rattle.ctl_store.specs.Keys.{key_of, all_in, all_keys, AreRising, AreHeld, stanza_at, holder_of};
+ghost use Rattle.std.specs.List.Sorted.{IsPermutation};
+ghost use Rattle.ctl_store.specs.Keys.{all_in, all_keys, AreRising, AreHeld, stanza_at, holder_of};
+ghost use Rattle.ctl_store.specs.ByName.{by_name_in, AreByName};
+ghost use Rattle.ctl_store.specs.Followed.{under};
 ghost use Rattle.ctl_store.specs.Named.{at_name, by_bytes};
 ghost use Rattle.std.specs.List.{IsDistinct};
 ghost use Rattle.std.specs.Map.{keys_of as names_of};
@@ -15,11 +17,10 @@ ghost use Rattle.ctl_store.specs.declared.limits.Counts.{Counts};
 
 use crate::limits::{Counts, Limits};
 use crate::list_class::ListClass;
-use crate::rows::Row;
 use crate::selector::Selector;
 use crate::shelf::Shelf;
 use crate::stanza_key::StanzaKey;
-use crate::store::Store;
+use crate::store::{ByName, Entries, Keys, ListEntries, Stanzas, Store};
 use ctl_relation::Version;
 use ctl_stanza::{ListKind, Stanza};
 use indexmap::map::Slice;
@@ -54,124 +55,6 @@ impl<'a> Iterator for Lists<'a> {
         let ((name, shelf), rest) = self.entries.split_first()?;
         self.entries = rest;
         Some((name, shelf.kind(), shelf.class()))
-    }
-}
-
-/// The keys of the stanzas of a list, by [`Store::stanzas`], in order.
-#[derive(Drop)]
-pub struct Stanzas<'a> {
-    list: u32,
-    // What is left of a piece, and the pieces after it.
-    rows: &'a [Row],
-    pieces: &'a [Vec<Row>],
-}
-
-impl<'a> Model for Stanzas<'a> {
-    ghost use Rattle.std.specs.Prelude.{List, map, ◌++◌};
-    ghost use Rattle.ctl_store.specs.declared.stanza_key.StanzaKey.{StanzaKey};
-    ghost use Rattle.ctl_store.specs.Keys.{key_of};
-    ghost use Rattle.ctl_store.specs.Pieces.{joined, ArePieces};
-
-    ghost Value = { List StanzaKey };
-
-    ghost view = { λ it. map (λ row. key_of it.list row.0) (it.rows.now ++ joined it.pieces.now) };
-
-    ghost invariant = { λ it. ArePieces it.pieces.now };
-}
-
-impl<'a> Stanzas<'a> {
-    /// The keys of rows in pieces, of a list of this serial.
-    pub(crate) fn new(list: u32, pieces: &'a [Vec<Row>]) -> Stanzas<'a>
-        requires { ArePieces pieces.now }
-        ensures { result ≡ map (λ row. key_of list row.0) (joined pieces.now) }
-    {
-        Stanzas {
-            list,
-            rows: &[],
-            pieces,
-        }
-    }
-}
-
-impl<'a> Iterator for Stanzas<'a> {
-    ghost use Rattle.std.specs.Iterator.{YieldsFirst, item_count};
-
-    ghost next_gives = { YieldsFirst (λ rest. rest) };
-
-    ghost remaining = { item_count (λ rest. rest) };
-
-    type Item = StanzaKey;
-
-    fn next(&mut self) -> Option<StanzaKey> {
-        if self.rows.is_empty() {
-            let (piece, pieces) = self.pieces.split_first()?;
-            self.rows = piece;
-            self.pieces = pieces;
-        }
-        let (row, rest) = self.rows.split_first()?;
-        self.rows = rest;
-        Some(StanzaKey {
-            list: self.list,
-            stanza: row.serial(),
-        })
-    }
-}
-
-/// The keys of all stanzas of a store, by [`Store::keys`], in order.
-#[derive(Drop)]
-pub struct Keys<'a> {
-    // What is left of a list, and the lists after it.
-    stanzas: Stanzas<'a>,
-    lists: Slice<'a, Vec<u8>, Shelf>,
-}
-
-impl<'a> Model for Keys<'a> {
-    ghost use Rattle.std.specs.Prelude.{List, map, ◌++◌};
-    ghost use Rattle.ctl_store.specs.declared.stanza_key.StanzaKey.{StanzaKey};
-    ghost use Rattle.ctl_store.specs.Named.{by_bytes};
-    ghost use Rattle.ctl_store.specs.Keys.{all_keys};
-    ghost use Rattle.ctl_store.specs.Held.{lists_of};
-
-    ghost Value = { List StanzaKey };
-
-    ghost view = { λ it. it.stanzas ++ all_keys (lists_of (map by_bytes it.lists)) };
-}
-
-// Takes the first key of some lists. What is left of its list takes the place of no stanzas.
-fn take_first<'a>(
-    stanzas: &mut Stanzas<'a>,
-    lists: &mut Slice<'a, Vec<u8>, Shelf>,
-) -> Option<StanzaKey>
-    requires { stanzas.old ≡ [] }
-    ensures some { IfSome result (λ key. all_keys (lists_of (map by_bytes lists.old)) ≡ key ∷ (stanzas.new ++ all_keys (lists_of (map by_bytes lists.new)))) }
-    ensures none { IfNone result (all_keys (lists_of (map by_bytes lists.old)) ≡ []) }
-    ensures ended { IfNone result (stanzas.new ++ all_keys (lists_of (map by_bytes lists.new)) ≡ []) }
-{
-    'lists: while let Some(((_, shelf), rest)) = lists.split_first() {
-        *lists = rest;
-        *stanzas = shelf.keys();
-        match stanzas.next() {
-            Some(key) => return Some(key),
-            None => {}
-        }
-    }
-    None
-}
-
-impl<'a> Iterator for Keys<'a> {
-    ghost use Rattle.std.specs.Iterator.{YieldsFirst, item_count};
-
-    ghost next_gives = { YieldsFirst (λ rest. rest) };
-
-    ghost remaining = { item_count (λ rest. rest) };
-
-    type Item = StanzaKey;
-
-    fn next(&mut self) -> Option<StanzaKey> {
-        match self.stanzas.next() {
-            Some(key) => Some(key),
-            None => take_first(&mut self.stanzas, &mut self.lists),
-        }
     }
 }
 
@@ -251,6 +134,28 @@ impl Store {
         }
     }
 
+    /// The serial of a list, which its keys have, if there is a list of this name.
+    #[tactic(auto, using(crate::proofs::ListedLemmas::at_name_lists))]
+    pub fn serial(&self, list: &[u8]) -> Option<u32>
+        ensures { result ≡ option_map (λ l. l.serial) (at_name list.now (keyed_of self.now).lists) }
+    {
+        match self.lists.get(list) {
+            Some(shelf) => Some(shelf.serial()),
+            None => None,
+        }
+    }
+
+    /// All stanzas with their keys, list by list and stanza by stanza.
+    pub fn entries(&self) -> Entries<'_>
+        ensures entries { result ≡ entries_of (keyed_of self.now).lists }
+        // each stands under its key
+        ensures stanzas { AreAt result (keyed_of self.now).lists }
+        // the keys rise
+        ensures order { AreRising (entry_keys result) }
+    {
+        Entries::new(self.lists.entries())
+    }
+
     /// The keys of all stanzas, list by list and stanza by stanza.
     pub fn keys(&self) -> Keys<'_>
         ensures keys { result ≡ all_keys (keyed_of self.now).lists }
@@ -260,10 +165,7 @@ impl Store {
         // they rise
         ensures order { AreRising result }
     {
-        Keys {
-            stanzas: Stanzas::new(0, &[]),
-            lists: self.lists.entries(),
-        }
+        Keys::new(self.entries())
     }
 
     /// The keys of the stanzas of a list, in order. Of a list that is not there it has none.
@@ -275,7 +177,23 @@ impl Store {
     {
         match self.lists.get(list) {
             Some(shelf) => shelf.keys(),
-            None => Stanzas::new(0, &[]),
+            None => Stanzas::new(ListEntries::new(0, &[])),
+        }
+    }
+
+    /// The keys of the stanzas of a list in the order of names, and for one name in that of versions. Of a list that is
+    /// not there it has none.
+    #[tactic(auto, using(crate::proofs::ListedLemmas::at_name_lists))]
+    pub fn by_name(&self, list: &[u8]) -> ByName<'_>
+        ensures keys { result ≡ by_name_in list.now (keyed_of self.now).lists }
+        ensures held { AreHeld result (keyed_of self.now).lists }
+        // each key of the list once
+        ensures same { IsPermutation (all_in list.now (keyed_of self.now).lists) result }
+        ensures order { AreByName (keyed_of self.now).lists result }
+    {
+        match self.lists.get(list) {
+            Some(shelf) => shelf.by_name(),
+            None => ByName::new(0, &[]),
         }
     }
 
@@ -295,7 +213,8 @@ impl Store {
 
     /// The stanza of a key, if it is one of the store.
     pub fn find(&self, key: StanzaKey) -> Option<&Stanza>
-        ensures { option_copied result ≡ stanza_at key (keyed_of self.now).lists }
+        ensures stanza { option_copied result ≡ stanza_at key (keyed_of self.now).lists }
+        ensures entry { option_copied result ≡ under key (entries_of (keyed_of self.now).lists) }
     {
         match entry_of(self.lists.entries(), key.list) {
             Some((_, shelf)) => shelf.stanza(key.stanza),

@@ -3,10 +3,12 @@ use Rattle.ctl_store.specs.declared.stanza_key.StanzaKey.{StanzaKey}
 use Rattle.ctl_store.specs.Step.{refusal_of}
 use Rattle.ctl_store.specs.Keys.{Keyed, keyed_after, removed_of, IsNotAmong, stanza_at, AreCome, AreGone}
 use Rattle.ctl_store.specs.Entries.{IsChange}
+use Rattle.ctl_store.specs.Given.{IsGivenOnce}
 use Rattle.ctl_store.specs.Held.{state_of, keyed_of, lists_of, ready_of, HasRoom, InOrder}
 use Rattle.ctl_store.proofs.StepLemmas.{stays_law}
 use Rattle.ctl_store.proofs.ChangeLemmas.{come_law, gone_law, not_added}
 use Rattle.ctl_store.proofs.EntryLemmas.{change_law}
+use Rattle.ctl_store.proofs.GivenLemmas.{given_law}
 use Rattle.ctl_store.proofs.store.Store.commit_with_keys.Goals as goal
 
 pub make-requires : goal.make-requires
@@ -51,3 +53,14 @@ returns-clause-change c =
     (subst (λ ks. IsChange k.lists (keyed_after k p.edit).lists ks p.added p.edit) (sym c.requires.removed)
     (subst (λ ks. IsChange k.lists (keyed_after k p.edit).lists (removed_of k p.edit) ks p.edit) (sym c.requires.added)
     (change_law k e (subst (λ h. InOrder 0 (lists_of h.lists) h.next_list e) c.self.view_is c.self.invariant.order) p.edit)))
+
+pub returns-clause-given : goal.returns-clause-given
+returns-clause-given c =
+    let s = c.self.inside in
+    let k = keyed_of c.args.self.now in
+    let e = s.limits.stanzas + s.edits in
+    let p = c.args.plan in
+    subst (λ (t : Keyed). IsGivenOnce k t p.removed p.added) (sym (c.make.ensures.keyed ∙ ap (λ p. keyed_after k p.edit) c.plan.view_is))
+    (subst (λ ks. IsGivenOnce k (keyed_after k p.edit) ks p.added) (sym c.requires.removed)
+    (subst (λ ks. IsGivenOnce k (keyed_after k p.edit) (removed_of k p.edit) ks) (sym c.requires.added)
+    (given_law k e (subst (λ h. InOrder 0 (lists_of h.lists) h.next_list e) c.self.view_is c.self.invariant.order) p.edit)))

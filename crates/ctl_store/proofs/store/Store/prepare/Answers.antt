@@ -1,10 +1,15 @@
-use Rattle.std.proofs.Common.{rules, ◌+◌, subst, sym}
+use Rattle.std.proofs.Common.{rules, ◌≡◌, ◌+◌, subst, sym}
 use Rattle.ctl_store.specs.Edits.{edit_of}
 use Rattle.ctl_store.specs.Keys.{Keyed, keyed_after, AreComing, AreHeld, AreNew, removed_of, added_of}
 use Rattle.ctl_store.specs.Entries.{IsChange}
-use Rattle.ctl_store.proofs.EntryLemmas.{change_law}
+use Rattle.ctl_store.proofs.EntryLemmas.{change_law, entries_found}
 use Rattle.ctl_store.proofs.ChangeLemmas.{removed_held, new_law}
-use Rattle.ctl_store.specs.Held.{keyed_of, lists_of, InOrder}
+use Rattle.ctl_store.specs.Followed.{coming_under, IsFollowed}
+use Rattle.ctl_store.specs.Given.{IsGivenOnce}
+use Rattle.ctl_store.specs.Held.{keyed_of, lists_of, coming_among, InOrder}
+use Rattle.ctl_store.proofs.KeyLemmas.{keys_rise}
+use Rattle.ctl_store.proofs.FollowedLemmas.{comes_among, followed_law}
+use Rattle.ctl_store.proofs.GivenLemmas.{given_law}
 use Rattle.ctl_store.proofs.ComingLemmas.{added_come}
 use Rattle.ctl_store.proofs.store.Store.prepare.Goals as goal
 
@@ -12,6 +17,7 @@ pub invariant_of-result : goal.invariant_of-result
 invariant_of-result c = record {
   no_pins = c.in-Ok-make_ready.ensures.empty;
   coming = subst (λ ks. AreComing ks (edit_of c.args.edit)) (sym c.in-Ok-added_keys.ensures) (added_come (keyed_of c.args.self.now) (edit_of c.args.edit));
+  among = λ k. subst (λ ks. coming_among (edit_of c.args.edit) ks k ≡ coming_under ks (edit_of c.args.edit) k) (sym c.in-Ok-added_keys.ensures) (comes_among k (keyed_of c.args.self.now) (edit_of c.args.edit));
 }
 
 pub returns-clause-ready : goal.returns-clause-ready
@@ -40,3 +46,27 @@ returns-clause-change c =
     (subst (λ ks. IsChange k.lists (keyed_after k e).lists ks c.in-Ok-added_keys.keys.items e) (sym c.in-Ok-removed_keys.ensures)
     (subst (λ ks. IsChange k.lists (keyed_after k e).lists (removed_of k e) ks e) (sym c.in-Ok-added_keys.ensures)
     (change_law k (s.limits.stanzas + s.edits) (subst (λ h. InOrder 0 (lists_of h.lists) h.next_list (s.limits.stanzas + s.edits)) c.self.view_is c.self.invariant.order) e)))
+
+pub returns-clause-followed : goal.returns-clause-followed
+returns-clause-followed c =
+    let k = keyed_of c.args.self.now in
+    let e = edit_of c.args.edit in
+    let s = c.self.inside in
+    let n = s.limits.stanzas + s.edits in
+    let order = subst (λ h. InOrder 0 (lists_of h.lists) h.next_list n) c.self.view_is c.self.invariant.order in
+    subst (λ (t : Keyed). IsFollowed t.lists (keyed_after t e).lists c.in-Ok-removed_keys.keys.items c.in-Ok-added_keys.keys.items e) (sym c.make_room.ensures.keyed)
+    (subst (λ ks. IsFollowed k.lists (keyed_after k e).lists ks c.in-Ok-added_keys.keys.items e) (sym c.in-Ok-removed_keys.ensures)
+    (subst (λ ks. IsFollowed k.lists (keyed_after k e).lists (removed_of k e) ks e) (sym c.in-Ok-added_keys.ensures)
+    (followed_law k.lists (keyed_after k e).lists (removed_of k e) (added_of k e) e (keys_rise 0 k.lists k.next_list n order) (entries_found 0 k.lists k.next_list n order) (change_law k n order e))))
+
+pub returns-clause-given : goal.returns-clause-given
+returns-clause-given c =
+    let k = keyed_of c.args.self.now in
+    let e = edit_of c.args.edit in
+    let s = c.self.inside in
+    let n = s.limits.stanzas + s.edits in
+    let order = subst (λ h. InOrder 0 (lists_of h.lists) h.next_list n) c.self.view_is c.self.invariant.order in
+    subst (λ (t : Keyed). IsGivenOnce t (keyed_after t e) c.in-Ok-removed_keys.keys.items c.in-Ok-added_keys.keys.items) (sym c.make_room.ensures.keyed)
+    (subst (λ ks. IsGivenOnce k (keyed_after k e) ks c.in-Ok-added_keys.keys.items) (sym c.in-Ok-removed_keys.ensures)
+    (subst (λ ks. IsGivenOnce k (keyed_after k e) (removed_of k e) ks) (sym c.in-Ok-added_keys.ensures)
+    (given_law k n order e)))

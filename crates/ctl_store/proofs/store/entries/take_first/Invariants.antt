@@ -1,13 +1,13 @@
 use Rattle.std.proofs.Common.{◌≡◌, [], map, length}
 use Rattle.ctl_store.specs.Named.{by_bytes}
-use Rattle.ctl_store.specs.Keys.{all_keys}
+use Rattle.ctl_store.specs.Entries.{entries_of}
 use Rattle.ctl_store.specs.Held.{lists_of}
-use Rattle.ctl_store.proofs.store.views.take_first.Given as goal
+use Rattle.ctl_store.proofs.store.entries.take_first.Given as goal
 
 abbrev pub invariant-lists : goal.invariant-lists
 invariant-lists l = record {
-  none : l.stanzas ≡ [];
-  rest : all_keys (lists_of (map by_bytes l.lists)) ≡ all_keys (lists_of (map by_bytes l.fn.lists));
+  none : l.entries ≡ [];
+  rest : entries_of (lists_of (map by_bytes l.lists)) ≡ entries_of (lists_of (map by_bytes l.fn.lists));
 }
 
 abbrev pub decreases-lists : goal.decreases-lists

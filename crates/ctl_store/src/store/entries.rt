@@ -1,0 +1,223 @@
+//! The stanzas of a store with their keys, lent in order.
+
+ghost use Rattle.std.specs.Prelude.{◌≡◌, ◌++◌, ◌∷◌, IfSome, IfNone, [], map};
+ghost use Rattle.ctl_store.specs.Named.{by_bytes};
+ghost use Rattle.ctl_store.specs.Pieces.{joined, ArePieces};
+ghost use Rattle.ctl_store.specs.Entries.{rows_under, entries_of, entry_keys};
+ghost use Rattle.ctl_store.specs.Held.{lists_of};
+
+use crate::rows::Row;
+use crate::shelf::Shelf;
+use crate::stanza_key::StanzaKey;
+use ctl_stanza::Stanza;
+use indexmap::map::Slice;
+use std::marker::Model;
+
+/// The stanzas of a list with their keys, in order.
+#[derive(Drop)]
+pub(crate) struct ListEntries<'a> {
+    list: u32,
+    // What is left of a piece, and the pieces after it.
+    rows: &'a [Row],
+    pieces: &'a [Vec<Row>],
+}
+
+impl<'a> Model for ListEntries<'a> {
+    ghost use Rattle.std.specs.Prelude.{List, ◌++◌};
+    ghost use Rattle.ctl_store.specs.Pieces.{joined, ArePieces};
+    ghost use Rattle.ctl_store.specs.Entries.{Entry, rows_under};
+
+    ghost Value = { List Entry };
+
+    ghost view = { λ it. rows_under it.list (it.rows.now ++ joined it.pieces.now) };
+
+    ghost invariant = { λ it. ArePieces it.pieces.now };
+}
+
+impl<'a> ListEntries<'a> {
+    /// The rows in pieces of a list of this serial.
+    pub(crate) fn new(list: u32, pieces: &'a [Vec<Row>]) -> ListEntries<'a>
+        requires { ArePieces pieces.now }
+        ensures { result ≡ rows_under list (joined pieces.now) }
+    {
+        ListEntries {
+            list,
+            rows: &[],
+            pieces,
+        }
+    }
+}
+
+impl<'a> Iterator for ListEntries<'a> {
+    ghost use Rattle.std.specs.Iterator.{YieldsFirstBy, item_count};
+
+    ghost next_gives = { YieldsFirstBy (λ item. (item.0, item.1.now)) (λ rest. rest) };
+
+    ghost remaining = { item_count (λ rest. rest) };
+
+    type Item = (StanzaKey, &'a Stanza);
+
+    fn next(&mut self) -> Option<(StanzaKey, &'a Stanza)> {
+        if self.rows.is_empty() {
+            let (piece, pieces) = self.pieces.split_first()?;
+            self.rows = piece;
+            self.pieces = pieces;
+        }
+        let (row, rest) = self.rows.split_first()?;
+        self.rows = rest;
+        let key = StanzaKey {
+            list: self.list,
+            stanza: row.serial(),
+        };
+        Some((key, row.stanza()))
+    }
+}
+
+/// All stanzas of a store with their keys, by [`Store::entries`](crate::Store::entries), in order.
+#[derive(Drop)]
+pub struct Entries<'a> {
+    // What is left of a list, and the lists after it.
+    entries: ListEntries<'a>,
+    lists: Slice<'a, Vec<u8>, Shelf>,
+}
+
+impl<'a> Model for Entries<'a> {
+    ghost use Rattle.std.specs.Prelude.{List, map, ◌++◌};
+    ghost use Rattle.ctl_store.specs.Named.{by_bytes};
+    ghost use Rattle.ctl_store.specs.Entries.{Entry, entries_of};
+    ghost use Rattle.ctl_store.specs.Held.{lists_of};
+
+    ghost Value = { List Entry };
+
+    ghost view = { λ it. it.entries ++ entries_of (lists_of (map by_bytes it.lists)) };
+}
+
+impl<'a> Entries<'a> {
+    /// Those of these lists.
+    pub(super) fn new(lists: Slice<'a, Vec<u8>, Shelf>) -> Entries<'a>
+        ensures { result ≡ entries_of (lists_of (map by_bytes lists.entry)) }
+    {
+        Entries {
+            entries: ListEntries::new(0, &[]),
+            lists,
+        }
+    }
+}
+
+// Takes the first stanza of some lists. What is left of its list takes the place of no stanzas.
+fn take_first<'a>(
+    entries: &mut ListEntries<'a>,
+    lists: &mut Slice<'a, Vec<u8>, Shelf>,
+) -> Option<(StanzaKey, &'a Stanza)>
+    requires { entries.old ≡ [] }
+    ensures some { IfSome result (λ e. entries_of (lists_of (map by_bytes lists.old)) ≡ (e.0, e.1.now) ∷ (entries.new ++ entries_of (lists_of (map by_bytes lists.new)))) }
+    ensures none { IfNone result (entries_of (lists_of (map by_bytes lists.old)) ≡ []) }
+    ensures ended { IfNone result (entries.new ++ entries_of (lists_of (map by_bytes lists.new)) ≡ []) }
+{
+    'lists: while let Some(((_, shelf), rest)) = lists.split_first() {
+        *lists = rest;
+        *entries = shelf.entries();
+        match entries.next() {
+            Some(entry) => return Some(entry),
+            None => {}
+        }
+    }
+    None
+}
+
+impl<'a> Iterator for Entries<'a> {
+    ghost use Rattle.std.specs.Iterator.{YieldsFirstBy, item_count};
+
+    ghost next_gives = { YieldsFirstBy (λ item. (item.0, item.1.now)) (λ rest. rest) };
+
+    ghost remaining = { item_count (λ rest. rest) };
+
+    type Item = (StanzaKey, &'a Stanza);
+
+    fn next(&mut self) -> Option<(StanzaKey, &'a Stanza)> {
+        match self.entries.next() {
+            Some(entry) => Some(entry),
+            None => take_first(&mut self.entries, &mut self.lists),
+        }
+    }
+}
+
+/// The keys of the stanzas of a list, by [`Store::stanzas`](crate::Store::stanzas), in order.
+#[derive(Drop)]
+pub struct Stanzas<'a> {
+    entries: ListEntries<'a>,
+}
+
+impl<'a> Model for Stanzas<'a> {
+    ghost use Rattle.std.specs.Prelude.{List};
+    ghost use Rattle.ctl_store.specs.declared.stanza_key.StanzaKey.{StanzaKey};
+    ghost use Rattle.ctl_store.specs.Entries.{entry_keys};
+
+    ghost Value = { List StanzaKey };
+
+    ghost view = { λ it. entry_keys it.entries };
+}
+
+impl<'a> Stanzas<'a> {
+    /// The keys of these stanzas.
+    pub(crate) fn new(entries: ListEntries<'a>) -> Stanzas<'a>
+        ensures { result ≡ entry_keys entries.entry }
+    {
+        Stanzas { entries }
+    }
+}
+
+impl<'a> Iterator for Stanzas<'a> {
+    ghost use Rattle.std.specs.Iterator.{YieldsFirst, item_count};
+
+    ghost next_gives = { YieldsFirst (λ rest. rest) };
+
+    ghost remaining = { item_count (λ rest. rest) };
+
+    type Item = StanzaKey;
+
+    fn next(&mut self) -> Option<StanzaKey> {
+        let (key, _) = self.entries.next()?;
+        Some(key)
+    }
+}
+
+/// The keys of all stanzas of a store, by [`Store::keys`](crate::Store::keys), in order.
+#[derive(Drop)]
+pub struct Keys<'a> {
+    entries: Entries<'a>,
+}
+
+impl<'a> Model for Keys<'a> {
+    ghost use Rattle.std.specs.Prelude.{List};
+    ghost use Rattle.ctl_store.specs.declared.stanza_key.StanzaKey.{StanzaKey};
+    ghost use Rattle.ctl_store.specs.Entries.{entry_keys};
+
+    ghost Value = { List StanzaKey };
+
+    ghost view = { λ it. entry_keys it.entries };
+}
+
+impl<'a> Keys<'a> {
+    /// The keys of these stanzas.
+    pub(super) fn new(entries: Entries<'a>) -> Keys<'a>
+        ensures { result ≡ entry_keys entries.entry }
+    {
+        Keys { entries }
+    }
+}
+
+impl<'a> Iterator for Keys<'a> {
+    ghost use Rattle.std.specs.Iterator.{YieldsFirst, item_count};
+
+    ghost next_gives = { YieldsFirst (λ rest. rest) };
+
+    ghost remaining = { item_count (λ rest. rest) };
+
+    type Item = StanzaKey;
+
+    fn next(&mut self) -> Option<StanzaKey> {
+        let (key, _) = self.entries.next()?;
+        Some(key)
+    }
+}
