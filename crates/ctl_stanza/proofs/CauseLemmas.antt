@@ -13,7 +13,7 @@ use Rattle.ctl_stanza.specs.declared.repeats.Repeats.{Repeats}
 use Rattle.ctl_stanza.specs.LineKind.{kind_of}
 use Rattle.ctl_stanza.specs.Fields.{is_same_name, may_repeat}
 use Rattle.ctl_stanza.specs.Faults.{number_of, name_in, names_of, has_name, gives_name, body_len, repeat_cause, continuation_cause, cause_of, cause_with, first_fault}
-use Rattle.ctl_stanza.specs.Runs.{line_at}
+use Rattle.ctl_stanza.specs.LineRuns.{line_at}
 use Rattle.ctl_stanza.specs.Laws.{IsNameGiven, IsFieldTwice, MakesBodyTooLong, ContinuesNothing, IsFaultyLine}
 use Rattle.ctl_stanza.proofs.FaultLemmas.{gives-is, turn-fault, turn-good}
 use Rattle.ctl_stanza.proofs.KeepLemmas.{option_either}

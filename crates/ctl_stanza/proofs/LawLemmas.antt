@@ -15,7 +15,7 @@ use Rattle.ctl_stanza.specs.Content.{Content}
 use Rattle.ctl_stanza.specs.Faults.{cause_of, fault_or}
 use Rattle.ctl_stanza.specs.Text.{Piece, piece, pieces_of, piece_content, piece_fault, read_pieces, with_contents, or_fault, read_text, Reads}
 use Rattle.std.specs.declared.alloc.Global.{Global}
-use Rattle.ctl_stanza.specs.Runs.{line_at}
+use Rattle.ctl_stanza.specs.LineRuns.{line_at}
 use Rattle.ctl_stanza.specs.Laws.{lines_before, MakesBodyTooLong, ContinuesNothing, IsFaultyLine, HasNoFaultyLine, HasWholeFault, HasStanzaFault, HasFault, IsLeastFault, HasNoFault, ReadsOrTells, TellsLeastFault}
 use Rattle.ctl_stanza.proofs.PieceLemmas.{AreOther, StartsGap}
 use Rattle.ctl_stanza.proofs.ByPieces.{by_pieces}

@@ -7,7 +7,7 @@ use Rattle.std.proofs.lemmas.List.{get_or-append-add, length-append, length-take
 use Rattle.std.proofs.lemmas.List.Sums.{suffix_len_is}
 use Rattle.std.specs.List.{suffix_len}
 use Rattle.ctl_stanza.specs.Lines.{is_blank}
-use Rattle.ctl_stanza.specs.Runs.{line_at, IsStanzaAt}
+use Rattle.ctl_stanza.specs.LineRuns.{line_at, IsStanzaAt}
 use Rattle.ctl_stanza.specs.Laws.{lines_before}
 use Rattle.ctl_stanza.proofs.PieceLemmas.{AreOther, StartsGap}
 

@@ -5,7 +5,7 @@ use Rattle.std.proofs.lemmas.List.Elements.{All-nil, All-cons}
 use Rattle.ctl_relation.specs.declared.field_kind.FieldKind.TheVariants.{Provides}
 use Rattle.ctl_relation.specs.declared.relation_fault.RelationFault.{RelationFault}
 use Rattle.ctl_relation.specs.FieldKind.{has_alternatives}
-use Rattle.ctl_relation.specs.Grammar.{GroupText, PiecesText, groups_of, RelationsText}
+use Rattle.ctl_relation.specs.Grammar.{GroupText, PiecesText, given_groups, RelationsText}
 use Rattle.ctl_relation.specs.Parts.{AtomParts}
 use Rattle.ctl_relation.specs.Reading.{relations_of}
 use Rattle.ctl_stanza.specs.RelationFields.{name_of, groups_read, groups_in, groups_among}
@@ -17,12 +17,12 @@ one-group text [] h = absurd h
 one-group text (atom ∷ []) h = refl
 one-group text (atom ∷ other ∷ more) h = let alternatives : has_alternatives Provides ≡ true = h.3 in absurd (cc)
 
-one-pieces : (text : List ℕ) (pieces : List (Option (List AtomParts))) → PiecesText Provides text pieces → All IsOneAtom (groups_of pieces)
+one-pieces : (text : List ℕ) (pieces : List (Option (List AtomParts))) → PiecesText Provides text pieces → All IsOneAtom (given_groups pieces)
 one-pieces text [] h = absurd h
 one-pieces text (None ∷ []) h = All-nil IsOneAtom
 one-pieces text (Some group ∷ []) h = All-cons IsOneAtom group [] (one-group text group h) (All-nil IsOneAtom)
 one-pieces text (None ∷ other ∷ more) h = one-pieces h.1 (other ∷ more) h.3
-one-pieces text (Some group ∷ other ∷ more) h = All-cons IsOneAtom group (groups_of (other ∷ more)) (one-group h.0 group h.2) (one-pieces h.1 (other ∷ more) h.3)
+one-pieces text (Some group ∷ other ∷ more) h = All-cons IsOneAtom group (given_groups (other ∷ more)) (one-group h.0 group h.2) (one-pieces h.1 (other ∷ more) h.3)
 
 one-field : (body : List ℕ) (groups : List (List AtomParts)) → RelationsText Provides body groups → All IsOneAtom groups
 one-field body groups h = subst (All IsOneAtom) (sym h.2) (one-pieces body h.0 h.1)

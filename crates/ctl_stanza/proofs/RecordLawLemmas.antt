@@ -10,7 +10,7 @@ use Rattle.ctl_stanza.specs.Lines.{is_blank}
 use Rattle.ctl_stanza.specs.Faults.{number_of, first_fault}
 use Rattle.ctl_stanza.specs.Text.{Piece, piece, pieces_of, with_contents, or_fault}
 use Rattle.ctl_stanza.specs.Records.{RecordText, record_lines, numbers_of, bytes_of, numbered_fault, record_fault, piece_record, numbers_in, before_fault, records_before, records_or_fault}
-use Rattle.ctl_stanza.specs.Runs.{line_at}
+use Rattle.ctl_stanza.specs.LineRuns.{line_at}
 use Rattle.ctl_stanza.specs.Laws.{lines_before, IsFaultyLine}
 use Rattle.ctl_stanza.specs.RecordLaws.{HasRecordFault, ReadsRecordsOrTells}
 use Rattle.ctl_stanza.proofs.PieceLemmas.{AreOther, StartsGap}

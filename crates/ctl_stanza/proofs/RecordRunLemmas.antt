@@ -6,7 +6,7 @@ use Rattle.ctl_stanza.specs.declared.fault.TextFault.{TextFault}
 use Rattle.ctl_stanza.specs.declared.fault.Cause.{Cause}
 use Rattle.ctl_stanza.specs.Lines.{is_blank}
 use Rattle.ctl_stanza.specs.Text.{Piece, piece, pieces_of}
-use Rattle.ctl_stanza.specs.Runs.{line_at, IsStanzaAt, Run}
+use Rattle.ctl_stanza.specs.LineRuns.{line_at, IsStanzaAt, Run}
 use Rattle.ctl_stanza.specs.Records.{RecordText, record_fault, piece_record, numbers_in, before_fault, records_before, records_before_fault, records_or_fault}
 use Rattle.ctl_stanza.specs.RecordLaws.{lines_kept, numbers_kept, record_at, IsLeastFaultOf, AreRecordsUpTo, ReadsRecordsOrTells}
 use Rattle.ctl_stanza.proofs.PieceLemmas.{AreOther, StartsGap}

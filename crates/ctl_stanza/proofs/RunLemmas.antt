@@ -8,7 +8,7 @@ use Rattle.std.specs.List.Sorted.{IsStrictlyIncreasing}
 use Rattle.ctl_stanza.specs.declared.list_kind.ListKind.{ListKind}
 use Rattle.ctl_stanza.specs.Lines.{is_blank, lines_of}
 use Rattle.ctl_stanza.specs.Content.{Content, content_of}
-use Rattle.ctl_stanza.specs.Runs.{line_at, IsStanzaAt, Run, IsStanzaBefore, AreStanzasBefore}
+use Rattle.ctl_stanza.specs.LineRuns.{line_at, IsStanzaAt, Run, IsStanzaBefore, AreStanzasBefore}
 use Rattle.ctl_stanza.specs.Text.{Piece, piece, piece_content, piece_fault, read_pieces}
 use Rattle.ctl_stanza.specs.Laws.{AreStanzasOf, ReadsStanzas}
 use Rattle.ctl_stanza.proofs.PieceLemmas.{AreOther, StartsGap}

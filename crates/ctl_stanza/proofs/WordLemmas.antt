@@ -3,7 +3,7 @@ use Rattle.std.proofs.Common.{◌≡◌, ◌⊎◌, ◌∙◌, ◌+◌, ◌<◌,
 use Rattle.std.proofs.Math.Dec.{eqb-suc-zero}
 use Rattle.std.proofs.lemmas.Bool.{cases_Bool, cond-true, cond-false}
 use Rattle.std.specs.List.{prefix_len, slice_split, onto_first}
-use Rattle.ctl_relation.specs.FieldBytes.{run, rest}
+use Rattle.ctl_relation.specs.Runs.{run, rest}
 use Rattle.ctl_stanza.specs.Lines.{is_blank_byte}
 use Rattle.ctl_stanza.specs.Status.{is_word, words_of, liveness_in, liveness_by_words, liveness_by_body, is_word_byte, first_word, behind_word}
 

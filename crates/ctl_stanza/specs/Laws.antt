@@ -17,7 +17,7 @@ use Rattle.ctl_stanza.specs.LineKind.{kind_of}
 use Rattle.ctl_stanza.specs.Fields.{FieldText, fields_of_lines, body_named, is_same_name, may_repeat, package_name, version_name}
 use Rattle.ctl_stanza.specs.RelationFields.{name_of}
 use Rattle.ctl_stanza.specs.Status.{liveness, is_live_by}
-use Rattle.ctl_stanza.specs.Runs.{line_at, IsStanzaAt, Run, AreStanzasBefore}
+use Rattle.ctl_stanza.specs.LineRuns.{line_at, IsStanzaAt, Run, AreStanzasBefore}
 use Rattle.ctl_stanza.specs.Content.{Content, content_of}
 use Rattle.ctl_stanza.specs.Faults.{number_of, body_len, is_read}
 use Rattle.ctl_stanza.specs.Text.{read_text}

@@ -15,7 +15,7 @@ pub mod Status
 pub mod Content
 pub mod Faults
 pub mod Text
-pub mod Runs
+pub mod LineRuns
 pub mod Laws
 pub mod Records
 pub mod RecordLaws

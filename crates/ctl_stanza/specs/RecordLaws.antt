@@ -5,7 +5,7 @@ use Rattle.ctl_stanza.specs.declared.fault.TextFault.{TextFault}
 use Rattle.ctl_stanza.specs.declared.fault.Cause.{Cause}
 use Rattle.ctl_stanza.specs.declared.fault.Cause.TheVariants as causes
 use Rattle.ctl_stanza.specs.Faults.{number_of}
-use Rattle.ctl_stanza.specs.Runs.{line_at, Run, AreStanzasBefore}
+use Rattle.ctl_stanza.specs.LineRuns.{line_at, Run, AreStanzasBefore}
 use Rattle.ctl_stanza.specs.Laws.{lines_before, IsFaultyLine}
 use Rattle.ctl_stanza.specs.Records.{RecordText, record_lines, numbers_of, bytes_of, record_of, read_record_text}
 
