@@ -49,6 +49,21 @@ pub fn half(a: u32) -> u32
 }
 """
 
+ABOVE = """//! Numbers above others.
+#![tactic(auto)]
+
+ghost use Rattle.std.specs.Prelude.{◌≤◌};
+
+use numbers::greater;
+
+/// A number that is at least 1.
+pub fn positive(a: u32) -> u32
+    ensures { 1 ≤ result }
+{
+    greater(a, 1)
+}
+"""
+
 # Name, folder, old text, new text, and what is told of the edit: none where it passes.
 EDITS = [
     ("lesser", "edits", "if a > b { a } else { b }", "if a < b { a } else { b }", None),
@@ -106,10 +121,15 @@ def test_edits(tests):
 
 
 def test_good_edits(tests):
+    """Two crates, of which one stands on the other."""
     with tempfile.TemporaryDirectory() as root:
         make_repository(root, [it for it in EDITS if it[0] == "lesser"])
-        status, lines, told = call(root, "--crates", "numbers", "--jobs", "2")
-    tests.expect("one good edit", status == 0 and lines[-1:] == ["1 passed, 0 failed"], told)
+        write(root + "/crates.txt", "above: numbers\nnumbers:\n")
+        write(root + "/crates/above/src/lib.rt", ABOVE)
+        write(root + "/crates/above/edits/one-alone.edit", "file: src/lib.rt\nold: greater(a, 1)\nnew: a\n")
+        status, lines, told = call(root, "--jobs", "2")
+        tests.expect("kept work is left", os.path.isdir(root + "/crates/numbers/out/incremental"), told)
+    tests.expect("good edits", status == 0 and lines[-1:] == ["2 passed, 0 failed"], told)
 
 
 def test_unproved(tests):

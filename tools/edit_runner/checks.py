@@ -65,13 +65,17 @@ class Checks:
         self.running, self.is_stopped, self.lock = set(), False, threading.Lock()
 
     def run(self, folder, jobs=1):
+        return self.call(folder, "check", "--jobs", str(jobs))
+
+    def call(self, folder, *words):
+        """Runs a command of rt, and takes its answer for that of a check."""
         began = time.time()
         with tempfile.TemporaryFile("w+", errors="replace") as out:
             with self.lock:
                 if self.is_stopped:
                     raise RuntimeError("stopped")
                 how = {"cwd": folder, "stdin": subprocess.DEVNULL, "stdout": out, "stderr": subprocess.STDOUT}
-                child = subprocess.Popen(["rt", "check", "--jobs", str(jobs)], start_new_session=True, **how)
+                child = subprocess.Popen(["rt", *words], start_new_session=True, **how)
                 self.running.add(child.pid)
             alarm = threading.Timer(LONGEST, os.killpg, (child.pid, signal.SIGKILL))
             alarm.daemon = True

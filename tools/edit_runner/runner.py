@@ -20,8 +20,8 @@ def tell(text):
 
 
 class Runner:
-    """Has as many checks at a time as jobs. Each batch is checked in a room, a copy of the repository for one crate, over
-    the kept work of the crate as it stands."""
+    """Has as many checks at a time as jobs. Each crate is proved as it stands in a copy of the repository, the base. A batch
+    is checked in a room, a copy for one crate, over the kept work of the base."""
 
     def __init__(self, root, crates, jobs):
         self.root, self.crates, self.jobs = root, crates, jobs
@@ -31,6 +31,7 @@ class Runner:
         self.edits_cpu = collections.Counter()
         self.tried = collections.Counter()
         self.rooms, self.lock = collections.defaultdict(list), threading.Lock()
+        self.removals = []
 
     def run(self):
         """Judges all edits that can be applied, and yields each crate once its edits are judged."""
@@ -47,6 +48,8 @@ class Runner:
                     # What runs has to end before the folders go.
                     self.checks.stop()
                     raise
+            for it in self.removals:
+                it.join()
 
     def run_in(self, pool):
         unproved, ready, running = collections.deque(self.crates), [], {}
@@ -66,30 +69,32 @@ class Runner:
         while running:
             for done in concurrent.futures.wait(running, return_when=concurrent.futures.FIRST_COMPLETED).done:
                 crate, batch = running.pop(done)
-                if batch is None:
-                    ready += [(crate, it) for it in batches.batches_of(good(crate))] if done.result() else []
+                result = done.result()
+                if batch is not None:
+                    left[crate] -= 1
+                elif result:
+                    ready += [(crate, it) for it in batches.batches_of(good(crate))]
                     # The most work first.
                     ready.sort(key=lambda it: -len(it[1]))
-                    left[crate] = left[crate] if done.result() else 0
                 else:
-                    left[crate] -= 1
+                    left[crate] = 0
                 if not left[crate]:
-                    for room in self.rooms.pop(crate, []):
-                        shutil.rmtree(room)
+                    self.remove(self.rooms.pop(crate, []))
                     yield crate
             start()
 
     def prove(self, crate, jobs):
-        """Proves a crate as it stands, and sets aside what that kept. Returns whether it is proved."""
+        """Proves a crate as it stands. Returns whether it is proved."""
         folder = f"{self.base}/crates/{crate.name}"
         answer = self.checks.run(folder, jobs)
         is_proved = answer.status == checks.PROVED
         self.own_cpu[crate] = answer.cpu
+        if is_proved and any(crate.name in it.below for it in self.crates):
+            # Else the check of a crate above would do it, and change the kept work while edits are tried over it.
+            self.own_cpu[crate] += self.checks.call(folder, "lib").cpu
         how = "is proved" if is_proved else "IS NOT PROVED"
         tell(f"{crate.name}: the crate itself {how}, {answer.cpu:.0f} CPU s, {answer.wall:.0f} s")
         if is_proved:
-            # A crate above it builds its library into out/ while its edits are tried.
-            shutil.copytree(f"{folder}/out/incremental", self.kept(crate))
             self.hand_over(crate)
         else:
             tell("\n".join(answer.lines[-12:]))
@@ -105,7 +110,12 @@ class Runner:
             os.rename(f"{target}.new", target)
 
     def kept(self, crate):
-        return f"{self.folder}/kept/{crate.name}"
+        return f"{self.base}/crates/{crate.name}/out/incremental"
+
+    def remove(self, rooms):
+        """Removes rooms beside what runs: they have many large files."""
+        self.removals.append(threading.Thread(target=lambda: [shutil.rmtree(it) for it in rooms]))
+        self.removals[-1].start()
 
     def try_batch(self, crate, batch):
         with self.lock:
