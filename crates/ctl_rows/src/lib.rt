@@ -16,6 +16,8 @@ mod faults;
 #[cfg(test)]
 mod field_names;
 #[cfg(test)]
+mod keys;
+#[cfg(test)]
 mod limits;
 #[cfg(test)]
 mod made;
