@@ -1,20 +1,20 @@
 -- A command that is being read.
 use Rattle.std.proofs.Common.{subst, ◌≡◌, ℕ, ◌+◌, ◌<◌, ◌≤◌, List, [], ◌∷◌, ◌++◌, Option, None, Some, Bool, true, false, not, ◌&&◌, if◌then◌else◌, take, length, refl, sym, ◌∙◌, ap, arith, append_assoc, append-nil, add-zero}
-use Rattle.std.specs.Io.KnownBytes.{Consumes}
+use Rattle.std.specs.Io.KnownBytes.{Consumes, IsAtEnd}
 use Rattle.std.proofs.KnownBytes.{Consumes-trans}
 use Rattle.std.proofs.lemmas.Bool.{leb-true, false≢true}
 use Rattle.std.proofs.lemmas.List.{take_all}
 use Rattle.ctl_stanza.specs.Lines.{lines_of, max_line}
 use Rattle.ctl_session.specs.LineReading.{TakesLine, StopsAfter, IsOneLine, newline_if}
 use Rattle.ctl_session.specs.Script.{commands_in, commands_from, command_at, is_skipped, is_idle, without_blanks, opens_body, names_body, name_of, fits, body_of, has_end, first_long, ended_of}
-use Rattle.ctl_session.specs.Reading.{HasNoDot, dot_if, ReadsNone, SkipsToLine, ReadsBody, ReadsCommand, WholeLines, StopsInBody, StopsReading}
+use Rattle.ctl_session.specs.Reading.{HasNoDot, dot_if, ReadsNone, SkipsToLine, ReadsBody, ReadsCommand, WholeLines, CountsLines, StopsInBody, StopsReading}
 use Rattle.ctl_session.specs.declared.read_ahead.LineRead.{LineRead}
 use Rattle.ctl_session.specs.declared.script.Body.{Body}
 use Rattle.ctl_session.specs.declared.fault.ReadingFault.{ReadingFault}
 use Rattle.ctl_session.specs.declared.script.CommandRead.{CommandRead}
 use Rattle.ctl_session.proofs.ScriptLemmas.{cuts_line, cuts_none, body_of-ended, has_end-ended, after-ended, body_of-open, has_end-open, after-open}
 use Rattle.ctl_session.proofs.ReadingLemmas.{fits_short, fits_long, false_of_not, true_of_not, first_long-new, first_long-fits}
-use Rattle.ctl_session.proofs.WholeLemmas.{whole_none, line_is_whole, whole_append}
+use Rattle.ctl_session.proofs.WholeLemmas.{whole_none, line_is_whole, whole_append, line_counts, counts_append, whole_counts}
 
 -- the bytes so far are no commands
 pub record Skips (old new : Option (List ℕ)) (number now : ℕ) : Type 0 where
@@ -82,13 +82,24 @@ stops_skipping old mid new number now max fault skips stops = record {
   stops = stops;
 }
 
-pub skips_last : (old mid new : Option (List ℕ)) (number now : ℕ) (buffer line : List ℕ) (read : LineRead) → (skips : Skips old mid number now) → TakesLine mid new buffer line read →
-    read.newline ≡ false → is_skipped line ≡ true → ReadsNone old new number
-skips_last old mid new number now buffer line read skips takes newline skipped = record {
+-- the end of the input, behind a line that is no command
+pub skips_end : (old mid new : Option (List ℕ)) (number now after : ℕ) → (skips : Skips old mid number now) → Consumes mid new [] × IsAtEnd new → after ≡ now → ReadsNone old new number after
+skips_end old mid new number now after skips takes same = record {
+  taken = skips.skipped;
+  took = subst (λ t. Consumes old new t) (append-nil skips.skipped) (Consumes-trans old mid new skips.skipped [] skips.took takes.0);
+  end = takes.1;
+  none = ap (λ text. commands_from (number + 1) text) (sym (append-nil skips.skipped)) ∙ skips.skips [];
+  counts = subst (λ n. CountsLines skips.skipped number n) (sym same) (whole_counts skips.skipped number now skips.whole);
+}
+
+pub skips_last : (old mid new : Option (List ℕ)) (number now next : ℕ) (buffer line : List ℕ) (read : LineRead) → (skips : Skips old mid number now) → TakesLine mid new buffer line read →
+    read.newline ≡ false → is_skipped line ≡ true → next ≡ now + 1 → ReadsNone old new number next
+skips_last old mid new number now next buffer line read skips takes newline skipped after = record {
   taken = skips.skipped ++ (line ++ newline_if read.newline);
   took = Consumes-trans old mid new skips.skipped (line ++ newline_if read.newline) skips.took takes.took;
   end = (takes.last newline).0;
   none = ap (λ text. commands_from (number + 1) text) (sym (append-nil (skips.skipped ++ (line ++ newline_if read.newline)))) ∙ skips_to old mid number now line [] read.newline skips takes.one (λ e. (takes.last e).1) (λ _. refl) ∙ commands_in-skipped (now + 1) line [] skipped;
+  counts = counts_append skips.skipped (line ++ newline_if read.newline) number now next skips.whole (line_counts read.newline line now next takes.one (λ e. (takes.last e).1) takes.short after);
 }
 
 pub finds_line : (old mid new : Option (List ℕ)) (number now next : ℕ) (buffer line : List ℕ) (read : LineRead) → (skips : Skips old mid number now) → TakesLine mid new buffer line read →
@@ -126,6 +137,13 @@ whole_to : (old new : Option (List ℕ)) (number at : ℕ) (buffer : List ℕ) (
 whole_to old new number at buffer read found newline =
     whole_append found.skipped (found.line ++ newline_if read.newline) number found.before at found.whole (line_is_whole read.newline found.line found.before at newline found.takes.one found.takes.short found.next)
 
+-- the same, where the line may lack its newline
+counts_to : (old new : Option (List ℕ)) (number at : ℕ) (buffer : List ℕ) (read : LineRead) → (found : SkipsToLine old new number at buffer read) →
+    CountsLines (found.skipped ++ (found.line ++ newline_if read.newline)) number at
+counts_to old new number at buffer read found =
+    counts_append found.skipped (found.line ++ newline_if read.newline) number found.before at found.whole
+    (line_counts read.newline found.line found.before at found.takes.one (λ e. (found.takes.last e).1) found.takes.short found.next)
+
 -- a command that no body follows
 pub reads_alone : (old new : Option (List ℕ)) (number at : ℕ) (buffer : List ℕ) (read : LineRead) (result : CommandRead) → (found : SkipsToLine old new number at buffer read) →
     opens_body found.line ≡ false → result.number ≡ at → result.body.ended ≡ true → result.body.last ≡ not read.newline →
@@ -145,6 +163,7 @@ reads_alone old new number at buffer read result found opens is_at ended last lo
   unended = λ bad. absurd (false≢true (sym bad));
   ends = λ e. (found.takes.last (false_of_not read.newline (sym last ∙ e))).0;
   whole = λ e. whole_to old new number at buffer read found (true_of_not read.newline (sym last ∙ e));
+  counts = counts_to old new number at buffer read found;
   more = found.more;
 }
 
@@ -169,6 +188,7 @@ reads_unended old new number at buffer read result found opens newline is_at end
   unended = λ _. last;
   ends = λ _. (found.takes.last newline).0;
   whole = λ e. absurd (false≢true (sym e ∙ last));
+  counts = counts_to old new number at buffer read found;
   more = found.more;
 }
 
@@ -216,6 +236,7 @@ reads_with_body old mid new number at after buffer read body found short opens n
   unended = reads.unended;
   ends = reads.ends;
   whole = λ e. whole_append (found.skipped ++ (found.line ++ newline_if read.newline)) reads.taken number at after (whole_to old mid number at buffer read found newline) (reads.whole e);
+  counts = counts_append (found.skipped ++ (found.line ++ newline_if read.newline)) reads.taken number at after (whole_to old mid number at buffer read found newline) reads.counts;
   more = omega (arith, found.more, reads.count);
 }
 

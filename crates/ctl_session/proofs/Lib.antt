@@ -5,8 +5,10 @@ pub mod WholeLemmas
 pub mod ReadingLemmas
 pub mod CommandLemmas
 pub mod RunLemmas
+pub mod RequestLemmas
 pub mod PerformLemmas
 pub mod NameLemmas
+pub mod OneAnswerLemmas
 pub mod OneOutcomeLemmas
 pub mod WordLemmas
 pub mod ListedNameLemmas

@@ -1,18 +1,18 @@
 -- A body that is being read.
 use Rattle.std.proofs.Common.{◌≡◌, ℕ, ◌+◌, ◌<◌, ◌≤◌, List, [], ◌∷◌, ◌++◌, Option, None, Some, Bool, true, false, not, length, append_assoc, take, inl, inr, refl, sym, ◌∙◌, ap, arith, append-nil, subst}
-use Rattle.std.specs.Io.KnownBytes.{Consumes}
+use Rattle.std.specs.Io.KnownBytes.{Consumes, IsAtEnd}
 use Rattle.std.proofs.KnownBytes.{Consumes-trans}
 use Rattle.std.proofs.lemmas.List.{length-append, take_all}
 use Rattle.std.proofs.lemmas.Bool.{eqb-true, cases_Bool, le-leb, lt-leb, false≢true}
-use Rattle.ctl_stanza.specs.Lines.{max_line, text_of_lines}
+use Rattle.ctl_stanza.specs.Lines.{max_line, lines_of, text_of_lines}
 use Rattle.ctl_session.specs.LineReading.{TakesLine, StopsAfter, newline_if}
 use Rattle.ctl_session.specs.Script.{is_dot, first_long, fits}
-use Rattle.ctl_session.specs.Reading.{Cuts, HasNoDot, HoldsBody, ReadsBody, WholeLines, StopsInBody}
+use Rattle.ctl_session.specs.Reading.{Cuts, HasNoDot, HoldsBody, ReadsBody, WholeLines, CountsLines, StopsInBody}
 use Rattle.ctl_session.specs.declared.script.Body.{Body}
 use Rattle.ctl_session.specs.declared.read_ahead.LineRead.{LineRead}
 use Rattle.ctl_session.specs.declared.fault.ReadingFault.{ReadingFault}
 use Rattle.ctl_session.proofs.ScriptLemmas.{cuts_line, cuts_none, no_dot_push}
-use Rattle.ctl_session.proofs.WholeLemmas.{whole_none, line_is_whole, whole_append}
+use Rattle.ctl_session.proofs.WholeLemmas.{whole_none, line_is_whole, whole_append, line_counts, counts_append, whole_counts}
 
 -- the line that ends a body is one dot
 pub is_dot-dot : (line : List ℕ) → is_dot line ≡ true → line ≡ 46 ∷ []
@@ -102,7 +102,7 @@ pub text_of_lines-push : (lines : List (List ℕ)) (line : List ℕ) → text_of
 text_of_lines-push [] line = refl
 text_of_lines-push (x ∷ lines) line = rw (text_of_lines-push lines line) (simp append_assoc)
 
--- a line goes into a body: the first that is too long, one more that is, one that is kept, one that finds no memory
+-- a line goes into a body: the first that is too long, one more that is, one that is kept, one that is dropped
 pub holds_new_long : (first number : ℕ) (lines : List (List ℕ)) (all : List ℕ) (old new : Body) → HoldsBody first lines old → old.too_long ≡ None →
     new.too_long ≡ Some number → number ≡ first + length lines → max_line < length all → HoldsBody first (lines ++ all ∷ []) new
 holds_new_long first number lines all old new holds none some at long = record {
@@ -118,20 +118,20 @@ holds_more_long first k lines all old new holds some same = record {
 }
 
 pub holds_kept : (first : ℕ) (lines : List (List ℕ)) (line all : List ℕ) (old new : Body) → HoldsBody first lines old → line ≡ take max_line all →
-    length all ≤ max_line → new.too_long ≡ old.too_long → new.refused ≡ old.refused → new.text.items ≡ old.text.items ++ (line ++ 10 ∷ []) →
+    length all ≤ max_line → new.too_long ≡ old.too_long → new.dropped ≡ old.dropped → new.text.items ≡ old.text.items ++ (line ++ 10 ∷ []) →
     HoldsBody first (lines ++ all ∷ []) new
-holds_kept first lines line all old new holds front short same_long same_refused text = record {
+holds_kept first lines line all old new holds front short same_long same_dropped text = record {
   long = same_long ∙ holds.long ∙ sym (first_long-fits first lines all (fits_short all short));
   text = λ calm none.
       let whole : line ≡ all = front ∙ take_all max_line all short in
-      text ∙ ap (λ t. t ++ (line ++ 10 ∷ [])) (holds.text (sym same_refused ∙ calm) (sym same_long ∙ none)) ∙ ap (λ l. text_of_lines lines ++ (l ++ 10 ∷ [])) whole ∙ sym (text_of_lines-push lines all);
+      text ∙ ap (λ t. t ++ (line ++ 10 ∷ [])) (holds.text (sym same_dropped ∙ calm) (sym same_long ∙ none)) ∙ ap (λ l. text_of_lines lines ++ (l ++ 10 ∷ [])) whole ∙ sym (text_of_lines-push lines all);
 }
 
-pub holds_refused : (first : ℕ) (lines : List (List ℕ)) (all : List ℕ) (old new : Body) → HoldsBody first lines old →
-    length all ≤ max_line → new.too_long ≡ old.too_long → new.refused ≡ true → HoldsBody first (lines ++ all ∷ []) new
-holds_refused first lines all old new holds short same_long refused = record {
+pub holds_dropped : (first : ℕ) (lines : List (List ℕ)) (all : List ℕ) (old new : Body) → HoldsBody first lines old →
+    length all ≤ max_line → new.too_long ≡ old.too_long → new.dropped ≡ true → HoldsBody first (lines ++ all ∷ []) new
+holds_dropped first lines all old new holds short same_long dropped = record {
   long = same_long ∙ holds.long ∙ sym (first_long-fits first lines all (fits_short all short));
-  text = λ bad _. absurd (false≢true (sym bad ∙ refused));
+  text = λ bad _. absurd (false≢true (sym bad ∙ dropped));
 }
 
 -- the next line of a body, which goes on
@@ -166,6 +166,7 @@ body_ends old mid new number after now body buffer line read in_body takes next 
   count = omega (arith, next, in_body.count);
   ends = λ last. (takes.last (false_of_not _ last)).0;
   whole = λ on. whole_append in_body.taken (line ++ newline_if read.newline) number after now in_body.whole (line_is_whole read.newline line after now (true_of_not _ on) takes.one takes.short next);
+  counts = counts_append in_body.taken (line ++ newline_if read.newline) number after now in_body.whole (line_counts read.newline line after now takes.one (λ e. (takes.last e).1) takes.short next);
 }
 
 -- the end of the input, in a line of the body
@@ -185,4 +186,23 @@ body_stops_in_line old mid new number after now body grown buffer line read in_b
   count = rw unended (omega (arith, next, in_body.count, length-append in_body.lines (line ∷ [])));
   ends = λ _. (takes.last newline).0;
   whole = λ bad. absurd (false≢true (sym bad));
+  counts = counts_append in_body.taken (line ++ newline_if read.newline) number after now in_body.whole (line_counts read.newline line after now takes.one (λ e. (takes.last e).1) takes.short next);
+}
+
+-- the end of the input, behind a line of the body
+pub body_stops : (old mid new : Option (List ℕ)) (number after now : ℕ) (body : Body) → (in_body : InBody old mid number after body) →
+    Consumes mid new [] × IsAtEnd new → now ≡ after → body.ended ≡ false → ReadsBody old new number now (record body { last = true })
+body_stops old mid new number after now body in_body takes same unended = record {
+  taken = in_body.taken;
+  lines = in_body.lines;
+  took = subst (λ t. Consumes old new t) (append-nil in_body.taken) (Consumes-trans old mid new in_body.taken [] in_body.took takes.0);
+  cut = let open_cut : Cuts true in_body.taken (in_body.lines ++ []) = λ rest last. in_body.cut rest (λ bad. absurd (false≢true bad)) ∙ ap (λ ls. ls ++ lines_of rest) (sym (append-nil in_body.lines)) in
+      rw unended open_cut;
+  none = in_body.none;
+  unended = λ _. refl;
+  holds = record { long = in_body.holds.long; text = in_body.holds.text };
+  count = rw unended (omega (arith, same, in_body.count));
+  ends = λ _. takes.1;
+  whole = λ bad. absurd (false≢true (sym bad));
+  counts = subst (λ n. CountsLines in_body.taken number n) (sym same) (whole_counts in_body.taken number after in_body.whole);
 }

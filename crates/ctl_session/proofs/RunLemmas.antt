@@ -1,13 +1,13 @@
 -- A run, command by command.
-use Rattle.std.proofs.Common.{◌≡◌, ℕ, ◌+◌, List, [], ◌∷◌, ◌++◌, Option, None, Some, Bool, true, false, length, refl, sym, ◌∙◌, ap, arith, subst, append_assoc, append-nil, zero-add, take, if◌then◌else◌}
+use Rattle.std.proofs.Common.{◌≡◌, ℕ, ◌+◌, ◌≤◌, List, [], ◌∷◌, ◌++◌, Option, None, Some, Bool, true, false, length, refl, sym, ◌∙◌, ap, arith, subst, append_assoc, append-nil, zero-add, take, if◌then◌else◌}
 use Rattle.std.specs.Io.KnownBytes.{Consumes, IsAtEnd, Appends, prepend_known}
 use Rattle.std.proofs.KnownBytes.{Consumes-trans, Appends-trans, Appends-nil}
 use Rattle.std.proofs.lemmas.Bool.{false≢true}
 use Rattle.ctl_stanza.specs.Lines.{lines_of}
 use Rattle.ctl_session.specs.Streams.{WritesPart}
-use Rattle.ctl_session.specs.Script.{Command, commands_from, commands_of, commands_in, ended_of, whole_lines_of, whole_commands_in}
+use Rattle.ctl_session.specs.Script.{Command, IsWithin, commands_from, commands_of, commands_in, ended_of, whole_lines_of, whole_commands_in}
 use Rattle.ctl_session.specs.LineReading.{IsPast}
-use Rattle.ctl_session.specs.Reading.{ReadsNone, ReadsCommand, StopsReading, WholeLines, Describes}
+use Rattle.ctl_session.specs.Reading.{ReadsNone, ReadsCommand, StopsReading, WholeLines, CountsLines, Describes}
 use Rattle.ctl_session.specs.State.{CacheState}
 use Rattle.ctl_session.specs.Outcome.{Outcome, Refused, Answered, Changed, text_of, text_of_all, state_after, state_after_all, accepted_in, refused_in}
 use Rattle.ctl_session.specs.Effect.{MayCome}
@@ -17,7 +17,7 @@ use Rattle.ctl_session.specs.declared.fault.Fault.{Fault}
 use Rattle.ctl_session.specs.declared.fault.ReadingFault.{ReadingFault}
 use Rattle.ctl_session.specs.declared.fault.ReadingFault.TheVariants.{ReadFailed, TooManyLines}
 use Rattle.ctl_session.specs.Faults.{run_fault}
-use Rattle.ctl_session.proofs.WholeLemmas.{whole_none, whole_append, whole_lines_of-text, lines_of-text}
+use Rattle.ctl_session.proofs.WholeLemmas.{whole_none, whole_append, counts_none, counts_append, whole_lines_of-text, lines_of-text}
 use Rattle.ctl_session.proofs.ReadingLemmas.{is_true}
 
 pub runs_more : (state : CacheState) (commands : List Command) (outcomes : List Outcome) (command : Command) (outcome : Outcome) → Runs state commands outcomes →
@@ -61,6 +61,7 @@ pub record Running (last : Bool) (given given' taken taken' : Option (List ℕ))
   pub counts_refused : refused ≡ refused_in outcomes
   pub ends : last ≡ true → IsAtEnd given'
   pub whole : last ≡ false → WholeLines bytes 0 number
+  pub counts : CountsLines bytes 0 number
   pub ended : last ≡ false → (more : List Command) → ended_of (commands ++ more) ≡ commands ++ ended_of more
 
 given_none : (given : Option (List ℕ)) → Consumes given (prepend_known [] given) []
@@ -82,6 +83,7 @@ running_none given taken pending old number none first = record {
   counts_refused = refl;
   ends = λ bad. absurd (false≢true bad);
   whole = λ _. subst (λ n. WholeLines [] 0 n) (sym first) (whole_none 0);
+  counts = subst (λ n. CountsLines [] 0 n) (sym first) (counts_none 0);
   ended = λ _ more. refl;
 }
 
@@ -108,6 +110,7 @@ running_more given mid new taken taken' taken'' old state state' number after ac
   counts_refused = counts_refused ∙ ap (λ n. n + refused_in (outcome ∷ [])) running.counts_refused ∙ sym (refused_more running.outcomes outcome);
   ends = reads.ends;
   whole = λ on. whole_append running.bytes reads.taken 0 number after (running.whole refl) (reads.whole on);
+  counts = counts_append running.bytes reads.taken 0 number after (running.whole refl) reads.counts;
   ended = λ on more. ap ended_of (append_assoc running.commands (reads.command ∷ []) more) ∙ running.ended refl (reads.command ∷ more) ∙
       ap (λ cs. running.commands ++ cs) (ended_first reads.command more (is_true reads.command.ended (λ e. false≢true (sym on ∙ reads.unended e)))) ∙
       sym (append_assoc running.commands (reads.command ∷ []) (ended_of more));
@@ -126,14 +129,20 @@ gave_inside None new pending bytes gave end = tt
 gave_inside (Some xs) None pending bytes gave end = absurd gave
 gave_inside (Some xs) (Some ys) pending bytes gave end = gave ∙ ap (λ t. bytes ++ t) (end ∙ sym (nothing_after pending ys end))
 
+-- as many lines as were counted are within a limit that is no less
+within_limit : (bytes : List ℕ) (number max : ℕ) → CountsLines bytes 0 number → number ≤ max → IsWithin max bytes
+within_limit bytes number max counts within = (omega (arith, counts.count), counts.good)
+
 -- the end came after the last command's newline
-pub ran_none : (given mid new taken taken' : Option (List ℕ)) (pending : List ℕ) (old state : CacheState) (number accepted refused : ℕ) →
-    (running : Running false given mid taken taken' old state number accepted refused) → (reads : ReadsNone mid (prepend_known pending new) number) → Ran given new taken taken' old state accepted refused
-ran_none given mid new taken taken' pending old state number accepted refused running reads = record {
+pub ran_none : (given mid new taken taken' : Option (List ℕ)) (pending : List ℕ) (old state : CacheState) (number after max accepted refused : ℕ) →
+    (running : Running false given mid taken taken' old state number accepted refused) → (reads : ReadsNone mid (prepend_known pending new) number after) → after ≤ max →
+    Ran max given new taken taken' old state accepted refused
+ran_none given mid new taken taken' pending old state number after max accepted refused running reads few = record {
   script = running.bytes ++ reads.taken;
   outcomes = running.outcomes;
   gave = gave_inside given new pending (running.bytes ++ reads.taken) (Consumes-trans given mid (prepend_known pending new) running.bytes reads.taken running.gave reads.took) reads.end;
   end = end_inside pending new reads.end;
+  within = within_limit (running.bytes ++ reads.taken) after max (counts_append running.bytes reads.taken 0 number after (running.whole refl) reads.counts) few;
   runs = subst (λ cs. Runs old cs running.outcomes) (sym (running.cut reads.taken (λ bad. absurd (false≢true bad)) ∙ ap (λ cs. running.commands ++ cs) reads.none ∙ append-nil running.commands)) running.runs;
   wrote = running.wrote;
   state = running.state;
@@ -142,13 +151,14 @@ ran_none given mid new taken taken' pending old state number accepted refused ru
 }
 
 -- the end came in the last command
-pub ran_last : (given new taken taken' : Option (List ℕ)) (pending : List ℕ) (old state : CacheState) (number accepted refused : ℕ) (last : Bool) → last ≡ true →
-    (running : Running last given (prepend_known pending new) taken taken' old state number accepted refused) → Ran given new taken taken' old state accepted refused
-ran_last given new taken taken' pending old state number accepted refused last is_last running = record {
+pub ran_last : (given new taken taken' : Option (List ℕ)) (pending : List ℕ) (old state : CacheState) (number max accepted refused : ℕ) (last : Bool) → last ≡ true → number ≤ max →
+    (running : Running last given (prepend_known pending new) taken taken' old state number accepted refused) → Ran max given new taken taken' old state accepted refused
+ran_last given new taken taken' pending old state number max accepted refused last is_last few running = record {
   script = running.bytes;
   outcomes = running.outcomes;
   gave = gave_inside given new pending running.bytes running.gave (running.ends is_last);
   end = end_inside pending new (running.ends is_last);
+  within = within_limit running.bytes number max running.counts few;
   runs = subst (λ cs. Runs old cs running.outcomes) (sym (ap (λ text. commands_from 1 text) (sym (append-nil running.bytes)) ∙ running.cut [] (λ _. refl) ∙ append-nil running.commands)) running.runs;
   wrote = running.wrote;
   state = running.state;

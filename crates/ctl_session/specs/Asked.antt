@@ -1,12 +1,13 @@
 -- What was read of the words of a command.
-use Rattle.std.specs.Prelude.{◌≡◌, ◌⊎◌, ℕ, List, None, is_none, false, Result, Ok, Err}
+use Rattle.std.specs.Prelude.{◌≡◌, ◌⊎◌, ℕ, List, None, is_none, true, false, Result, Ok, Err}
 use Rattle.ctl_relation.specs.Version.{fault_of}
 use Rattle.ctl_store.specs.declared.selector.Selector.{Selector}
 use Rattle.ctl_store.specs.declared.refusal.Refusal.{Refusal}
 use Rattle.ctl_store.specs.declared.refusal.Refusal.TheVariants as refusal
 use Rattle.ctl_store.specs.Edits.{edit_of}
 use Rattle.ctl_store.specs.Held.{IsProper}
-use Rattle.ctl_session.specs.Request.{Request as RequestText, AddList as AddListText, Put as PutText, Prefs as PrefsText, Change as ChangeText, Ask as AskText, request_by, refused_at}
+use Rattle.ctl_session.specs.Request.{Request as RequestText, AddList as AddListText, Put as PutText, Prefs as PrefsText, Change as ChangeText, Ask as AskText, request_by, request_of, refused_at, takes_memory}
+use Rattle.ctl_session.specs.Script.{Command}
 use Rattle.ctl_session.specs.declared.request.Request.{Request}
 use Rattle.ctl_session.specs.declared.request.Request.TheVariants.{AddList, Put, Prefs, Change, Ask}
 use Rattle.ctl_session.specs.Query.{query_text}
@@ -41,10 +42,11 @@ abbrev pub GivesWords : Result CommandWords Refusal → Result RequestText Refus
 GivesWords (Ok read) asked = asked ≡ request_by read.name read.words.items
 GivesWords (Err cause) asked = (asked ≡ Err cause) ⊎ (cause ≡ refusal.Memory)
 
--- the same with the line of the command, at which want of memory is told
-abbrev pub GivesWordsAt : ℕ → Result CommandWords RefusalAt → Result RequestText RefusalAt → Type 0
-GivesWordsAt number (Ok read) asked = asked ≡ refused_at number (request_by read.name read.words.items)
-GivesWordsAt number (Err refused) asked = (asked ≡ Err refused) ⊎ (refused ≡ record { line = number; cause = refusal.Memory })
+-- The same of a command, at whose line want of memory is told: only of one that takes memory.
+abbrev pub GivesWordsOf : Command → Result CommandWords RefusalAt → Type 0
+GivesWordsOf command (Ok read) = (request_of command ≡ refused_at command.number (request_by read.name read.words.items)) × (takes_memory command ≡ true)
+GivesWordsOf command (Err refused) =
+    (request_of command ≡ Err refused) ⊎ ((takes_memory command ≡ true) × (refused ≡ record { line = command.number; cause = refusal.Memory }))
 
 -- an edit that a request holds is one that a store takes
 abbrev pub IsProperRequest : Request → Type 0

@@ -1,5 +1,5 @@
 -- What each command does.
-use Rattle.std.specs.Prelude.{◌≡◌, ◌⊎◌, ℕ, ◌+◌, List, [], ◌∷◌, Option, None, Some, Result, Ok, Err, if◌then◌else◌}
+use Rattle.std.specs.Prelude.{◌≡◌, ◌⊎◌, ℕ, ◌+◌, List, [], ◌∷◌, Option, None, Some, true, Result, Ok, Err, if◌then◌else◌}
 use Rattle.ctl_relation.specs.Names.{is_name}
 use Rattle.ctl_stanza.specs.Lines.{text_of_lines}
 use Rattle.ctl_stanza.specs.Content.{Content}
@@ -19,9 +19,10 @@ use Rattle.ctl_store.specs.Prefs.{read_prefs_text}
 use Rattle.ctl_store.specs.State.{StanzaList}
 use Rattle.ctl_store.specs.Step.{after, refusal_of}
 use Rattle.ctl_session.specs.State.{CacheState}
+use Rattle.ctl_session.specs.Holdings.{holdings_of}
 use Rattle.ctl_session.specs.Query.{IsAnswer}
 use Rattle.ctl_session.specs.Script.{Command}
-use Rattle.ctl_session.specs.Request.{Request, AddList, Put, Prefs, Change, Ask, request_of}
+use Rattle.ctl_session.specs.Request.{Request, AddList, Put, Prefs, Change, Ask, request_of, takes_memory}
 use Rattle.ctl_session.specs.Outcome.{Outcome, Refused, Answered, Changed}
 use Rattle.ctl_session.specs.declared.refusal_at.RefusalAt.{RefusalAt}
 
@@ -90,7 +91,7 @@ Does cache command (AddList name kind class) outcome = outcome ≡ list_added ca
 Does cache command (Put name) outcome = outcome ≡ put_in_list cache command.number name (text_of_lines command.body)
 Does cache command Prefs outcome = outcome ≡ prefs_set cache command.number (text_of_lines command.body)
 Does cache command (Change edit) outcome = outcome ≡ edited cache command.number edit
-Does cache command (Ask query) outcome = (text : List ℕ) × IsAnswer cache.store query text × (outcome ≡ Answered text)
+Does cache command (Ask query) outcome = (text : List ℕ) × IsAnswer (holdings_of cache.store) query text × (outcome ≡ Answered text)
 
 abbrev pub DoesWhatIsAsked : CacheState → Command → Result Request RefusalAt → Outcome → Type 0
 DoesWhatIsAsked cache command (Err refused) outcome = outcome ≡ Refused refused.line refused.cause
@@ -100,6 +101,6 @@ DoesWhatIsAsked cache command (Ok request) outcome = Does cache command request 
 abbrev pub ComesTo : CacheState → Command → Outcome → Type 0
 ComesTo cache command outcome = DoesWhatIsAsked cache command (request_of command) outcome
 
--- what a command may come to: where a growth was refused, it may be refused for that
+-- what a command may come to: where a growth was refused, one that takes memory may be refused for that
 abbrev pub MayCome : CacheState → Command → Outcome → Type 0
-MayCome cache command outcome = ComesTo cache command outcome ⊎ (outcome ≡ Refused command.number refusal.Memory)
+MayCome cache command outcome = ComesTo cache command outcome ⊎ ((takes_memory command ≡ true) × (outcome ≡ Refused command.number refusal.Memory))

@@ -11,6 +11,7 @@ pub mod Words
 pub mod WordsRead
 pub mod Reading
 pub mod State
+pub mod Holdings
 pub mod PackageNames
 pub mod Query
 pub mod Queries

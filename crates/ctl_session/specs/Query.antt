@@ -1,11 +1,11 @@
--- A query, by its words, and what answers it. (Stands in for the definitions of a crate of queries.)
+-- A query, by its words, and what answers it.
 use Rattle.std.specs.Prelude.{◌≡◌, ℕ, ◌==◌, Bool, false, List, [], ◌∷◌, codes, Result, Ok, Err, if◌then◌else◌}
 use Rattle.std.specs.Str.{bytes_eq}
 use Rattle.ctl_relation.specs.Bytes.{hyphen}
 use Rattle.ctl_stanza.specs.Lines.{text_of_lines}
-use Rattle.ctl_store.specs.State.{State}
 use Rattle.ctl_store.specs.declared.refusal.Refusal.{Refusal}
 use Rattle.ctl_store.specs.declared.refusal.Refusal.TheVariants as refusal
+use Rattle.ctl_session.specs.Holdings.{Holdings}
 use Rattle.ctl_session.specs.PackageNames.{ArePackageNames}
 use Rattle.ctl_session.specs.declared.query.Query.{Query as HeldQuery}
 use Rattle.ctl_session.specs.declared.query.Query.TheVariants as held
@@ -38,6 +38,6 @@ abbrev pub query_of : List (List ℕ) → Result Query Refusal
 query_of [] = Err refusal.Command
 query_of (name ∷ words) = if is_query name then package_names_query words else Err refusal.Command
 
--- this text answers a query over a state
-abbrev pub IsAnswer : State → Query → List ℕ → Type 0
-IsAnswer state (PackageNames prefix) text = (names : List (List ℕ)) × ArePackageNames state prefix names × (text ≡ text_of_lines names)
+-- this text answers a query over what is held
+abbrev pub IsAnswer : Holdings → Query → List ℕ → Type 0
+IsAnswer held (PackageNames prefix) text = (names : List (List ℕ)) × ArePackageNames held prefix names × (text ≡ text_of_lines names)

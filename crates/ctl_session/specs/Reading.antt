@@ -21,6 +21,11 @@ pub record WholeLines (bytes : List ℕ) (number after : ℕ) : Type 0 where
   pub good : AreLines lines
   pub count : after ≡ number + length lines
 
+-- these bytes are lines, those after the one of this number up to the other; the last of them may lack its newline
+pub record CountsLines (bytes : List ℕ) (number after : ℕ) : Type 0 where
+  pub good : AreLines (lines_of bytes)
+  pub count : after ≡ number + length (lines_of bytes)
+
 -- none of the lines ends a body
 abbrev pub HasNoDot : List (List ℕ) → Type 0
 HasNoDot [] = Unit {0}
@@ -34,7 +39,7 @@ dot_if false = []
 -- the body of these lines, the first of which has this number
 pub record HoldsBody (first : ℕ) (lines : List (List ℕ)) (body : Body) : Type 0 where
   pub long : body.too_long ≡ first_long first lines
-  pub text : body.refused ≡ false → body.too_long ≡ None → body.text.items ≡ text_of_lines lines
+  pub text : body.dropped ≡ false → body.too_long ≡ None → body.text.items ≡ text_of_lines lines
 
 -- a body was read: these bytes, that are these lines
 pub record ReadsBody (old new : Option (List ℕ)) (number after : ℕ) (body : Body) : Type 0 where
@@ -48,13 +53,15 @@ pub record ReadsBody (old new : Option (List ℕ)) (number after : ℕ) (body : 
   pub count : after ≡ number + length lines + length (dot_if body.ended)
   pub ends : body.last ≡ true → IsAtEnd new
   pub whole : body.last ≡ false → WholeLines taken number after
+  pub counts : CountsLines taken number after
 
 -- no further command came before the end
-pub record ReadsNone (old new : Option (List ℕ)) (number : ℕ) : Type 0 where
+pub record ReadsNone (old new : Option (List ℕ)) (number after : ℕ) : Type 0 where
   pub taken : List ℕ
   pub took : Consumes old new taken
   pub end : IsAtEnd new
   pub none : commands_from (number + 1) taken ≡ []
+  pub counts : CountsLines taken number after
 
 -- these bytes are no commands, and then a line came
 pub record SkipsToLine (old new : Option (List ℕ)) (number at : ℕ) (buffer : List ℕ) (read : LineRead) : Type 0 where
@@ -71,7 +78,7 @@ pub record SkipsToLine (old new : Option (List ℕ)) (number at : ℕ) (buffer :
   pub more : number < at
 
 abbrev pub ReadsHead : Option (List ℕ) → Option (List ℕ) → ℕ → ℕ → List ℕ → Option LineRead → Type 0
-ReadsHead old new number at buffer None = ReadsNone old new number
+ReadsHead old new number at buffer None = ReadsNone old new number at
 ReadsHead old new number at buffer (Some read) = SkipsToLine old new number at buffer read
 
 -- these bytes came, and whatever comes after them, the commands begin with this one
@@ -84,15 +91,16 @@ pub record ReadsCommand (old new : Option (List ℕ)) (number after : ℕ) (head
   pub ended : read.body.ended ≡ command.ended
   pub long : read.body.too_long ≡ first_long command.number (command.line ∷ command.body)
   pub line : fits command.line ≡ true → head ≡ command.line
-  pub text : read.body.refused ≡ false → read.body.too_long ≡ None → read.body.text.items ≡ text_of_lines command.body
+  pub text : read.body.dropped ≡ false → read.body.too_long ≡ None → read.body.text.items ≡ text_of_lines command.body
   pub end : command.ended ≡ false → after ≡ command.number + length command.body
   pub unended : command.ended ≡ false → read.body.last ≡ true
   pub ends : read.body.last ≡ true → IsAtEnd new
   pub whole : read.body.last ≡ false → WholeLines taken number after
+  pub counts : CountsLines taken number after
   pub more : number < after
 
 abbrev pub ReadsNext : Option (List ℕ) → Option (List ℕ) → ℕ → ℕ → List ℕ → Option CommandRead → Type 0
-ReadsNext old new number after head None = ReadsNone old new number
+ReadsNext old new number after head None = ReadsNone old new number after
 ReadsNext old new number after head (Some read) = ReadsCommand old new number after head read
 
 -- what was read is this command
@@ -101,7 +109,7 @@ pub record Describes (after : ℕ) (head : List ℕ) (read : CommandRead) (comma
   pub ended : read.body.ended ≡ command.ended
   pub long : read.body.too_long ≡ first_long command.number (command.line ∷ command.body)
   pub line : fits command.line ≡ true → head ≡ command.line
-  pub text : read.body.refused ≡ false → read.body.too_long ≡ None → read.body.text.items ≡ text_of_lines command.body
+  pub text : read.body.dropped ≡ false → read.body.too_long ≡ None → read.body.text.items ≡ text_of_lines command.body
   pub end : command.ended ≡ false → after ≡ command.number + length command.body
 
 -- the run stopped in a body: these bytes of it came, that are whole lines

@@ -1,5 +1,5 @@
 -- What a command asks for, by its words.
-use Rattle.std.specs.Prelude.{ℕ, ℤ, ◌+◌, List, [], ◌∷◌, length, codes, is_none, Option, None, Some, Result, Ok, Err, if◌then◌else◌}
+use Rattle.std.specs.Prelude.{ℕ, ℤ, ◌+◌, List, [], ◌∷◌, ◌&&◌, length, codes, is_none, is_some, Bool, Option, None, Some, Result, Ok, Err, if◌then◌else◌}
 use Rattle.std.specs.Str.{bytes_eq}
 use Rattle.ctl_relation.specs.Names.{is_name}
 use Rattle.ctl_relation.specs.Version.{fault_of}
@@ -239,6 +239,12 @@ request_named (Some command) name text = request_in command name (words_of text)
 abbrev pub refused_at : ℕ → Result Request Refusal → Result Request RefusalAt
 refused_at number (Ok request) = Ok request
 refused_at number (Err cause) = Err (record { line = number; cause = cause })
+
+-- A command takes memory only where none of its lines is too long, its body has its end, and its name is a command's: the
+-- refusals of these three take none.
+abbrev pub takes_memory : Command → Bool
+takes_memory command =
+    is_none (first_long command.number (command.line ∷ command.body)) && (command.ended && is_some (command_named (name_of command.line)))
 
 -- What a command asks for, or the first of these refusals: a line that is too long, a body without its end
 -- (at the last line of the input), a name that is no command's, words that are not the command's, and, word by word from

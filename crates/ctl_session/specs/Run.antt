@@ -3,7 +3,7 @@ use Rattle.std.specs.Prelude.{◌≡◌, ℕ, ◌<◌, List, [], ◌∷◌, ◌+
 use Rattle.std.specs.Io.KnownBytes.{Consumes, IsAtEnd, Appends}
 use Rattle.ctl_stanza.specs.Lines.{text_of_lines}
 use Rattle.ctl_session.specs.State.{CacheState}
-use Rattle.ctl_session.specs.Script.{Command, commands_of, AreLines, whole_commands_of, whole_commands_in}
+use Rattle.ctl_session.specs.Script.{Command, commands_of, AreLines, IsWithin, whole_commands_of, whole_commands_in}
 use Rattle.ctl_session.specs.LineReading.{IsPast}
 use Rattle.ctl_session.specs.Outcome.{Outcome, text_of, text_of_all, state_after, state_after_all, accepted_in, refused_in}
 use Rattle.ctl_session.specs.Effect.{MayCome}
@@ -17,12 +17,13 @@ Runs state [] (outcome ∷ outcomes) = ⊥
 Runs state (command ∷ commands) [] = ⊥
 Runs state (command ∷ commands) (outcome ∷ outcomes) = MayCome state command outcome × Runs (state_after state outcome) commands outcomes
 
--- a whole run: what the reader gave is a script, and what the writer took is the text of its commands
-pub record Ran (given given' taken taken' : Option (List ℕ)) (old new : CacheState) (accepted refused : ℕ) : Type 0 where
+-- a whole run: what the reader gave is a script within the limit of lines, and what the writer took is the text of its commands
+pub record Ran (max : ℕ) (given given' taken taken' : Option (List ℕ)) (old new : CacheState) (accepted refused : ℕ) : Type 0 where
   pub script : List ℕ
   pub outcomes : List Outcome
   pub gave : Consumes given given' script
   pub end : IsAtEnd given'
+  pub within : IsWithin max script
   pub runs : Runs old (commands_of script) outcomes
   pub wrote : Appends taken taken' (text_of_all outcomes)
   pub state : new ≡ state_after_all old outcomes

@@ -1,5 +1,5 @@
 -- A script, and how it is cut into commands.
-use Rattle.std.specs.Prelude.{ℕ, ◌+◌, List, [], ◌∷◌, ◌<◌, ◌^◌, ◌&&◌, ◌||◌, ◌==◌, Option, None, Some, Bool, true, false, not, if◌then◌else◌, nat_le, length, codes}
+use Rattle.std.specs.Prelude.{ℕ, ◌+◌, List, [], ◌∷◌, ◌<◌, ◌^◌, ◌&&◌, ◌||◌, ◌==◌, ◌≤◌, Option, None, Some, Bool, true, false, not, if◌then◌else◌, nat_le, length, codes}
 use Rattle.std.specs.Str.{bytes_eq}
 use Rattle.ctl_relation.specs.Bytes.{newline, hash, dot}
 use Rattle.ctl_stanza.specs.Lines.{max_line, lines_of, is_blank_byte}
@@ -117,3 +117,7 @@ first_long number (line ∷ lines) = if fits line then first_long (number + 1) l
 abbrev pub AreLines : List (List ℕ) → Type 0
 AreLines [] = Unit {0}
 AreLines (line ∷ lines) = (IsOneLine line × (length line < 2 ^ 32)) × AreLines lines
+
+-- a script is within a limit: it has so many lines at most, and none of as many bytes as can't be counted
+abbrev pub IsWithin : ℕ → List ℕ → Type 0
+IsWithin max script = (length (lines_of script) ≤ max) × AreLines (lines_of script)

@@ -8,7 +8,7 @@ use ctl_store::{Limits, Store};
 use std::alloc::Global;
 use std::marker::Model;
 
-/// The cache that a session works on: a store. It is seen as what the store holds, and its limits.
+/// The cache that a session works on: a store. It is seen as its state: what the store holds, and its limits.
 #[derive(Drop)]
 pub struct Cache {
     pub(crate) store: Store,
@@ -18,13 +18,13 @@ impl Model for Cache {
     ghost use Rattle.ctl_store.specs.Held.{state_of};
     ghost use Rattle.std.specs.Coded.{codes};
     ghost use Rattle.std.specs.FinMap.{code};
-    ghost use Rattle.ctl_session.specs.State.{CacheState};
+    ghost use Rattle.ctl_session.specs.State.{CacheValue};
 
-    ghost Value = { CacheState };
+    ghost Value = { CacheValue };
 
     ghost coded = { Prim.hlevel (codes, code) };
 
-    ghost view = { λ cache. record { store = state_of cache.store; limits = cache.store.limits } };
+    ghost view = { λ cache. record { state = record { store = state_of cache.store; limits = cache.store.limits } } };
 }
 
 impl Cache {
@@ -32,7 +32,7 @@ impl Cache {
 
     /// A cache with an empty store, whose limits are [`Limits::MOST`]. It takes no memory.
     pub fn new(alloc: Global) -> Cache
-        ensures { result ≡ record { store = empty_state; limits = limits_that_count (record { stanzas = 4294967295; edits = 4294967295 }) } }
+        ensures { result ≡ record { state = record { store = empty_state; limits = limits_that_count (record { stanzas = 4294967295; edits = 4294967295 }) } } }
     {
         Cache {
             store: Store::new(alloc),
@@ -41,7 +41,7 @@ impl Cache {
 
     /// A cache with an empty store of these limits, or those of [`Limits::MOST`] where they are smaller.
     pub fn with_limits(alloc: Global, limits: Limits) -> Cache
-        ensures { result ≡ record { store = empty_state; limits = limits_that_count limits } }
+        ensures { result ≡ record { state = record { store = empty_state; limits = limits_that_count limits } } }
     {
         Cache {
             store: Store::with_limits(alloc, limits),
@@ -50,8 +50,8 @@ impl Cache {
 
     /// The store.
     pub fn store(&self) -> &Store
-        ensures state { state_of result.now ≡ self.now.store }
-        ensures limits { result.now.limits ≡ self.now.limits }
+        ensures state { state_of result.now ≡ self.now.state.store }
+        ensures limits { result.now.limits ≡ self.now.state.limits }
     {
         &self.store
     }

@@ -7,7 +7,7 @@ ghost use Rattle.clap.specs.Simple.{with_rule};
 ghost use Rattle.clap.specs.Takes.{takes};
 ghost use Rattle.clap.specs.Matches.{first_value, found_of};
 ghost use Rattle.clap.specs.declared.parser.matches.ArgMatches.{ArgMatches as Matches};
-ghost use Rattle.ctl_session.specs.Application.{application, list_rule, status_rule, script_rule};
+ghost use Rattle.ctl_session.specs.Application.{application, program, list_rule, status_rule, script_rule};
 ghost use Rattle.ctl_session.specs.declared.program_words.ArgumentsFault.TheVariants.{Memory};
 
 use crate::program_words::{Arguments, ArgumentsFault};
@@ -19,7 +19,13 @@ use std::alloc::{AllocError, Global};
 fn with_list<'a>(alloc: Global, command: Command<'a>) -> Result<Command<'a>, AllocError>
     ensures { IfOk result (λ more. app_of more ≡ with_rule (app_of command.entry) list_rule) }
 {
-    command.arg(Arg::new(alloc, "LIST").short('l').action(ArgAction::Append))
+    command.arg(
+        Arg::new(alloc, "LIST")
+            .short('l')
+            .value_name("NAME=FILE")
+            .help("Reads the packages list FILE as the list NAME; may be given again")
+            .action(ArgAction::Append),
+    )
 }
 
 /// Adds `--status FILE`.
@@ -29,6 +35,8 @@ fn with_status<'a>(alloc: Global, command: Command<'a>) -> Result<Command<'a>, A
     command.arg(
         Arg::new(alloc, "FILE")
             .long("status")
+            .value_name("FILE")
+            .help("Reads the status list FILE as the list `status`")
             .action(ArgAction::Set),
     )
 }
@@ -37,14 +45,31 @@ fn with_status<'a>(alloc: Global, command: Command<'a>) -> Result<Command<'a>, A
 fn with_script<'a>(alloc: Global, command: Command<'a>) -> Result<Command<'a>, AllocError>
     ensures { IfOk result (λ more. app_of more ≡ with_rule (app_of command.entry) script_rule) }
 {
-    command.arg(Arg::new(alloc, "SCRIPT").action(ArgAction::Set))
+    command.arg(
+        Arg::new(alloc, "SCRIPT")
+            .value_name("SCRIPT")
+            .help("The file of the commands; without it they are read from standard input")
+            .action(ArgAction::Set),
+    )
+}
+
+/// The program without its words: its name, its version and what it is.
+fn program<'a>(alloc: Global) -> Command<'a>
+    ensures { app_of result ≡ program }
+{
+    Command::new(alloc, "dctrl-cache")
+        .version("0.1.0")
+        .about(
+            "Holds lists of Debian packages in memory, edits them and answers queries about them",
+        )
+        .override_usage("dctrl-cache [-l NAME=FILE]... [--status FILE] [SCRIPT]")
 }
 
 /// The words that the program takes: `dctrl-cache [-l NAME=FILE]... [--status FILE] [SCRIPT]`.
 fn command<'a>(alloc: Global) -> Result<Command<'a>, AllocError>
     ensures { IfOk result (λ command. app_of command ≡ application) }
 {
-    let command = with_list(alloc, Command::new(alloc, "dctrl-cache"))?;
+    let command = with_list(alloc, program(alloc))?;
     let command = with_status(alloc, command)?;
     with_script(alloc, command)
 }
@@ -90,8 +115,8 @@ fn asked(alloc: Global, matches: &ArgMatches<'_>) -> Result<Arguments, AllocErro
 ///
 /// # Errors
 ///
-/// [`ArgumentsFault::Words`] where the words are not `[-l NAME=FILE]... [--status FILE] [SCRIPT]`, or ask for help; it
-/// holds clap's error, whose text tells what is wrong. [`ArgumentsFault::Memory`] where there is not enough memory.
+/// [`ArgumentsFault::Words`] where the words are not `[-l NAME=FILE]... [--status FILE] [SCRIPT]`, or ask for help or the
+/// version; it holds clap's error, whose text tells what is wrong, or what was asked for. [`ArgumentsFault::Memory`] where there is not enough memory.
 pub fn arguments(alloc: Global, words: &[&str]) -> Result<Arguments, ArgumentsFault>
     // The status file and the script are the first values of their arguments in matches that clap promises for the words.
     ensures values { IfOk result (λ arguments. (found : Matches) × HasMatchesOf application (map (λ word. word.now) words.now) found

@@ -58,7 +58,7 @@ fn refusal_at(fault: TextFault, number: u32) -> RefusalAt
 /// Makes an edit, of the command at this line.
 pub(crate) fn edit(cache: &mut Cache, edit: Edit, number: u32) -> Result<(), RefusalAt>
     requires { IsProper (edit_of edit) }
-    ensures outcome { CameTo number result cache.new (edited cache.old number (edit_of edit)) }
+    ensures outcome { CameTo number result cache.new.state (edited cache.old.state number (edit_of edit)) }
     ensures err { OnErr result (cache.new ≡ cache.old) }
 {
     match cache.store.prepare(edit) {
@@ -80,7 +80,7 @@ pub(crate) fn add_list(
     text: &[u8],
     number: u32,
 ) -> Result<(), RefusalAt>
-    ensures outcome { CameTo number result cache.new (list_added cache.old number name.now kind class text.now) }
+    ensures outcome { CameTo number result cache.new.state (list_added cache.old.state number name.now kind class text.now) }
     ensures err { OnErr result (cache.new ≡ cache.old) }
 {
     lines_take_bytes();
@@ -114,7 +114,7 @@ pub(crate) fn put(
     text: &[u8],
     number: u32,
 ) -> Result<(), RefusalAt>
-    ensures outcome { CameTo number result cache.new (put_in_list cache.old number name.now text.now) }
+    ensures outcome { CameTo number result cache.new.state (put_in_list cache.old.state number name.now text.now) }
     ensures err { OnErr result (cache.new ≡ cache.old) }
 {
     let Some(kind) = cache.store.kind(name) else {
@@ -147,7 +147,7 @@ pub(crate) fn set_prefs(
     text: &[u8],
     number: u32,
 ) -> Result<(), RefusalAt>
-    ensures outcome { CameTo number result cache.new (prefs_set cache.old number text.now) }
+    ensures outcome { CameTo number result cache.new.state (prefs_set cache.old.state number text.now) }
     ensures err { OnErr result (cache.new ≡ cache.old) }
 {
     lines_take_bytes();

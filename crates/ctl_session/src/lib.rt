@@ -1,6 +1,7 @@
 //! Scripts over a cache of package lists: lines to commands, and a run over any reader and writer.
 #![tactic(auto)]
 
+mod body_need;
 mod cache;
 mod command_line;
 mod command_name;
@@ -35,7 +36,7 @@ pub use cache::Cache;
 pub use command_line::arguments;
 pub use failed::Failed;
 pub use fault::Fault;
-pub use laws::commands_come_to_one_outcome;
+pub use laws::{commands_come_to_one_outcome, queries_have_one_answer};
 pub use load_fault::LoadFault;
 pub use program_words::{Arguments, ArgumentsFault};
 pub use session::Session;

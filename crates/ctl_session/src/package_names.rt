@@ -8,6 +8,7 @@ ghost use Rattle.std.specs.List.Sorted.{IsStrictlySortedBy};
 ghost use Rattle.std.specs.Cmp.Lexicographic.{slice_cmp};
 ghost use Rattle.ctl_stanza.specs.Lines.{text_of_lines};
 ghost use Rattle.ctl_store.specs.Held.{state_of};
+ghost use Rattle.ctl_session.specs.Holdings.{holdings_of};
 ghost use Rattle.ctl_session.specs.PackageNames.{ArePackageNames, AddsNames, lent_names, is_among, has_package};
 ghost use Rattle.ctl_store.specs.State.{stanzas_named};
 
@@ -55,7 +56,7 @@ fn names_of<'a>(
     prefix: &[u8],
 ) -> Result<BTreeSet<&'a [u8]>, AllocError>
     ensures { IfOk result (λ names. (name : List ℕ) →
-        is_among (lent_names names.keys) name ≡ (starts_with nat_eq name prefix.now && has_package (state_of store.now) name)) }
+        is_among (lent_names names.keys) name ≡ (starts_with nat_eq name prefix.now && has_package (holdings_of (state_of store.now)) name)) }
 {
     let mut names = BTreeSet::new(alloc);
     'lists: for (list, _, _) in store.lists() {
@@ -83,7 +84,7 @@ pub(crate) fn push_package_names(
     prefix: &[u8],
     out: &mut Vec<u8>,
 ) -> Result<(), AllocError>
-    ensures { OnOk result ((names : List (List ℕ)) × ArePackageNames (state_of store.now) prefix.now names
+    ensures { OnOk result ((names : List (List ℕ)) × ArePackageNames (holdings_of (state_of store.now)) prefix.now names
         × (out.new.items ≡ out.old.items ++ text_of_lines names)) }
 {
     let names = names_of(alloc, store, prefix)?;

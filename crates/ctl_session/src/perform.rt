@@ -41,11 +41,11 @@ fn do_request(
 ) -> Reply
     requires proper { IsProperRequest request }
     requires empty { out.old.items ≡ [] }
-    ensures may { (asked : Command) → asked.number ≡ number → (body.now.refused ≡ false → body.now.text.items ≡ text_of_lines asked.body) →
-        MayDo cache.old asked (request_text request.entry) (outcome_from result out.new.items cache.new) }
-    ensures state { cache.new ≡ state_after cache.old (outcome_from result out.new.items cache.new) }
+    ensures may { (asked : Command) → asked.number ≡ number → (body.now.dropped ≡ false → body.now.text.items ≡ text_of_lines asked.body) →
+        MayDo cache.old.state asked (request_text request.entry) (outcome_from result out.new.items cache.new.state) }
+    ensures state { cache.new.state ≡ state_after cache.old.state (outcome_from result out.new.items cache.new.state) }
 {
-    if body.refused {
+    if body.dropped {
         return Reply::Refused(refused(number, Refusal::Memory));
     }
     let text = &body.text;
@@ -72,8 +72,8 @@ pub(crate) fn perform(
     last_line: u32,
     out: &mut Vec<u8>,
 ) -> Reply
-    ensures may { (asked : Command) → Describes last_line head.now command asked → MayCome cache.old asked (outcome_from result out.new.items cache.new) }
-    ensures state { cache.new ≡ state_after cache.old (outcome_from result out.new.items cache.new) }
+    ensures may { (asked : Command) → Describes last_line head.now command asked → MayCome cache.old.state asked (outcome_from result out.new.items cache.new.state) }
+    ensures state { cache.new.state ≡ state_after cache.old.state (outcome_from result out.new.items cache.new.state) }
 {
     out.clear();
     let number = command.number;

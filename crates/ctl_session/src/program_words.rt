@@ -17,7 +17,7 @@ pub struct Arguments {
 /// Why the words of the program were not read.
 #[derive(Debug, Drop, Error)]
 pub enum ArgumentsFault {
-    /// The words are not those of the program, or ask for help.
+    /// The words are not those of the program, or ask for help or the version.
     #[error(transparent)]
     Words(ClapError),
     /// There is not enough memory.

@@ -2,6 +2,7 @@
 
 ghost use Rattle.std.specs.Prelude.{◌≡◌, ◌++◌, ℕ, List, OnOk, Ok};
 ghost use Rattle.ctl_store.specs.Held.{state_of};
+ghost use Rattle.ctl_session.specs.Holdings.{holdings_of};
 ghost use Rattle.ctl_session.specs.Query.{query_of, query_text, is_query, is_option, package_names_query, IsAnswer, PackageNames as PackageNamesText};
 ghost use Rattle.ctl_session.specs.Queries.{ReadsQuery};
 
@@ -81,7 +82,7 @@ pub(crate) fn answer(
     query: &Query,
     out: &mut Vec<u8>,
 ) -> Result<(), AllocError>
-    ensures { OnOk result ((text : List ℕ) × IsAnswer (state_of store.now) (query_text query.now) text × (out.new.items ≡ out.old.items ++ text)) }
+    ensures { OnOk result ((text : List ℕ) × IsAnswer (holdings_of (state_of store.now)) (query_text query.now) text × (out.new.items ≡ out.old.items ++ text)) }
 {
     match query {
         Query::PackageNames(prefix) => push_package_names(alloc, store, prefix.as_slice(), out),

@@ -1,11 +1,12 @@
 //! What a command asks for, by its words.
 
-ghost use Rattle.std.specs.Prelude.{◌≡◌, IfOk, OnOk, None};
+ghost use Rattle.std.specs.Prelude.{◌≡◌, IfOk, OnOk, Err, None, is_some, false};
+ghost use Rattle.ctl_store.specs.declared.refusal.Refusal.TheVariants.{Command as UnknownCommand};
 ghost use Rattle.ctl_session.specs.Script.{Command as CommandText, name_of};
 ghost use Rattle.ctl_session.specs.Words.{behind_name};
-ghost use Rattle.ctl_session.specs.Request.{command_named, request_by, request_named, request_of, words_by};
+ghost use Rattle.ctl_session.specs.Request.{command_named, request_by, request_named, words_by};
 ghost use Rattle.ctl_session.specs.Reading.{Describes};
-ghost use Rattle.ctl_session.specs.Asked.{Asks, GivesWords, GivesWordsAt, IsProperRequest};
+ghost use Rattle.ctl_session.specs.Asked.{Asks, GivesWords, GivesWordsOf, IsProperRequest};
 
 use crate::command_name::CommandName;
 use crate::edit_words::{mark_request, remove_request, target_request};
@@ -63,7 +64,10 @@ fn words_by(
 
 /// The name and the words of a command's line.
 pub(crate) fn words_of_line(alloc: Global, head: &[u8]) -> Result<CommandWords, Refusal>
-    ensures { GivesWords result (request_named (command_named (name_of head.now)) (name_of head.now) (behind_name head.now)) }
+    ensures words { GivesWords result (request_named (command_named (name_of head.now)) (name_of head.now) (behind_name head.now)) }
+
+    // A name that is no command's is told as such, without memory.
+    ensures unknown { is_some (command_named (name_of head.now)) ≡ false → result ≡ Err UnknownCommand }
 {
     let word = name(head);
     let Some(name) = CommandName::read(word) else {
@@ -86,7 +90,7 @@ pub(crate) fn command_words(
     command: &CommandRead,
     last_line: u32,
 ) -> Result<CommandWords, RefusalAt>
-    ensures words { (asked : CommandText) → Describes last_line head.now command.now asked → GivesWordsAt command.now.number result (request_of asked) }
+    ensures words { (asked : CommandText) → Describes last_line head.now command.now asked → GivesWordsOf asked result }
     ensures fits { OnOk result (command.now.body.too_long ≡ None) }
 {
     if let Some(line) = command.body.too_long {

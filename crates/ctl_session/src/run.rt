@@ -52,12 +52,12 @@ pub(crate) fn run_over<R: Source, W: Sink>(
     reader: &mut R,
     writer: &mut W,
 ) -> Result<Summary, Fault>
-    ensures ok { IfOk result (λ summary. Ran (R.remaining reader.old) (R.remaining reader.new) (W.taken writer.old) (W.taken writer.new)
-        cache.old cache.new summary.accepted summary.refused) }
+    ensures ok { IfOk result (λ summary. Ran max_lines (R.remaining reader.old) (R.remaining reader.new) (W.taken writer.old) (W.taken writer.new)
+        cache.old.state cache.new.state summary.accepted summary.refused) }
     ensures read { R.failures reader.new ≡ counted (is_read_fault result) (R.failures reader.old) }
     ensures write { W.failures writer.new ≡ counted (is_write_fault result) (W.failures writer.old) }
     ensures fault { IfErr result (Stopped max_lines (R.remaining reader.old) (R.remaining reader.new) (W.taken writer.old) (W.taken writer.new)
-        cache.old cache.new) }
+        cache.old.state cache.new.state) }
 {
     lines.restart(max_lines);
     let mut summary = Summary {
@@ -67,6 +67,7 @@ pub(crate) fn run_over<R: Source, W: Sink>(
     'commands: loop {
         let command = match read_command(
             alloc,
+            cache,
             lines,
             reader,
             &mut buffers.head,
@@ -85,7 +86,7 @@ pub(crate) fn run_over<R: Source, W: Sink>(
             lines.number,
             &mut buffers.out,
         );
-        match print(writer, reply, &buffers.out) {
+        match print(writer, reply, &buffers.out, &mut buffers.head) {
             Err(_) => return Err(Fault::Write),
             Ok(()) => {}
         }

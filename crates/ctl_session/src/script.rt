@@ -8,6 +8,8 @@ ghost use Rattle.ctl_session.specs.declared.fault.ReadingFault.TheVariants.{Read
 ghost use Rattle.ctl_session.specs.LineReading.{is_failed_read};
 ghost use Rattle.ctl_session.specs.Reading.{HoldsBody, ReadsBody, ReadsHead, ReadsNext, StopsInBody, StopsReading};
 
+use crate::body_need::needs_body;
+use crate::cache::Cache;
 use crate::fault::ReadingFault;
 use crate::line_words::{has_body, is_dot, is_no_command};
 use crate::lines::Lines;
@@ -19,12 +21,12 @@ use std::alloc::{AllocError, Global};
 /// What was read of a body.
 #[derive(Drop)]
 pub(crate) struct Body {
-    /// Its lines, each with a newline. Not all of them are there where one is too long or memory ran out.
+    /// Its lines, each with a newline. Not all of them are there where one is too long or lines were dropped.
     pub(crate) text: Vec<u8>,
     /// The number of its first line that is too long.
     pub(crate) too_long: Option<u32>,
-    /// Whether memory ran out while it was read.
-    pub(crate) refused: bool,
+    /// Whether lines were dropped: memory ran out, or the command is refused whatever its body is.
+    pub(crate) dropped: bool,
     /// Whether the line that ends it was there.
     pub(crate) ended: bool,
     /// Whether the input ended with it.
@@ -36,14 +38,14 @@ impl Body {
     fn none(alloc: Global, too_long: Option<u32>, ended: bool, last: bool) -> Self
         ensures text { result.text.items ≡ [] }
         ensures too_long { result.too_long ≡ too_long }
-        ensures refused { result.refused ≡ false }
+        ensures dropped { result.dropped ≡ false }
         ensures ended { result.ended ≡ ended }
         ensures last { result.last ≡ last }
     {
         Body {
             text: Vec::new(alloc),
             too_long,
-            refused: false,
+            dropped: false,
             ended,
             last,
         }
@@ -56,15 +58,18 @@ impl Body {
         ensures ended { self.new.ended ≡ self.old.ended }
         ensures last { self.new.last ≡ self.old.last }
     {
+        if let Some(_) = self.too_long {
+            return;
+        }
         if count as usize > MAX_LINE {
-            match self.too_long {
-                None => self.too_long = Some(number),
-                Some(_) => {}
-            }
+            self.too_long = Some(number);
+            return;
+        }
+        if self.dropped {
             return;
         }
         if push_line(&mut self.text, line).is_err() {
-            self.refused = true;
+            self.dropped = true;
         }
     }
 }
@@ -78,12 +83,13 @@ fn push_line(text: &mut Vec<u8>, line: &[u8]) -> Result<(), AllocError>
     Ok(())
 }
 
-/// Reads a body, up to the line that ends it or to the end of the input.
+/// Reads a body, up to the line that ends it or to the end of the input, and keeps its lines or drops them.
 fn read_body<R: Source>(
     alloc: Global,
     lines: &mut Lines,
     reader: &mut R,
     line: &mut Vec<u8>,
+    is_kept: bool,
 ) -> Result<Body, ReadingFault>
     requires { max_line ≤ vec_capacity line.old }
     ensures room { max_line ≤ vec_capacity line.new }
@@ -98,7 +104,7 @@ fn read_body<R: Source>(
     let mut body = Body {
         text: Vec::new(alloc),
         too_long: None,
-        refused: false,
+        dropped: !is_kept,
         ended: false,
         last: false,
     };
@@ -168,9 +174,10 @@ pub(crate) struct CommandRead {
     pub(crate) body: Body,
 }
 
-/// Reads the next command, with its body.
+/// Reads the next command, with its body, whose lines are dropped where they are not needed.
 pub(crate) fn read_command<R: Source>(
     alloc: Global,
+    cache: &Cache,
     lines: &mut Lines,
     reader: &mut R,
     head: &mut Vec<u8>,
@@ -206,7 +213,8 @@ pub(crate) fn read_command<R: Source>(
         let body = Body::none(alloc, None, false, true);
         return Ok(Some(CommandRead { number, body }));
     }
-    match read_body(alloc, lines, reader, line) {
+    let is_kept = needs_body(alloc, cache, head);
+    match read_body(alloc, lines, reader, line, is_kept) {
         Err(fault) => Err(fault),
         Ok(body) => Ok(Some(CommandRead { number, body })),
     }

@@ -97,7 +97,7 @@ impl Session {
     /// a list of that name; there is a status list, and this would be another; the cache is full. Each may be
     /// want of memory instead.
     pub fn load(&mut self, name: &[u8], kind: ListKind, text: &[u8]) -> Result<(), LoadFault>
-        ensures loaded { LoadCameTo result self.new.cache (loaded self.old.cache name.now kind text.now) }
+        ensures loaded { LoadCameTo result self.new.cache.state (loaded self.old.cache.state name.now kind text.now) }
         ensures err { OnErr result (self.new.cache ≡ self.old.cache) }
         ensures max_lines { self.new.max_lines ≡ self.old.max_lines }
     {
@@ -133,9 +133,9 @@ impl Session {
         reader: &mut R,
         writer: &mut W,
     ) -> Result<Summary, Fault>
-        // All that the reader gave is a script, and what the writer took is the text of its commands.
-        ensures ok { IfOk result (λ summary. Ran (R.remaining reader.old) (R.remaining reader.new) (W.taken writer.old) (W.taken writer.new)
-            self.old.cache self.new.cache summary.accepted summary.refused) }
+        // All that the reader gave is a script within the limit of lines, and what the writer took is the text of its commands.
+        ensures ok { IfOk result (λ summary. Ran self.old.max_lines (R.remaining reader.old) (R.remaining reader.new) (W.taken writer.old) (W.taken writer.new)
+            self.old.cache.state self.new.cache.state summary.accepted summary.refused) }
 
         // A fault of reading or writing comes where a read or a write failed, and only there.
         ensures read { R.failures reader.new ≡ counted (is_read_fault result) (R.failures reader.old) }
@@ -144,7 +144,7 @@ impl Session {
         // At a fault of reading, or past the limit, the text of the commands that were given whole is written, and no more;
         // at a fault of writing the text of the last command that was done is written in part.
         ensures fault { IfErr result (Stopped self.old.max_lines (R.remaining reader.old) (R.remaining reader.new) (W.taken writer.old) (W.taken writer.new)
-            self.old.cache self.new.cache) }
+            self.old.cache.state self.new.cache.state) }
         ensures max_lines { self.new.max_lines ≡ self.old.max_lines }
     {
         run_over(

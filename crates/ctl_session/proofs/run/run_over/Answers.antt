@@ -12,13 +12,13 @@ commands-init g c = record {
   read = refl;
   write = refl;
   counted = omega arith;
-  running = running_none (g.R.Source.remaining c.args.reader.now) (g.W.Sink.taken c.args.writer.now) c.restart.new.self.pending c.args.cache.now _ c.restart.ensures.pending c.restart.ensures.number;
+  running = running_none (g.R.Source.remaining c.args.reader.now) (g.W.Sink.taken c.args.writer.now) c.restart.new.self.pending c.args.cache.now.state _ c.restart.ensures.pending c.restart.ensures.number;
 }
 
 pub returns-in-Ok-None-clause-ok : goal.returns-in-Ok-None-clause-ok
 returns-in-Ok-None-clause-ok g c =
     let reads = rw c.in-Ok-None.field-0-is at c.in-Ok-None.ensures.ok in
-    ran_none _ _ _ _ _ _ _ _ _ _ _ c.commands.invariant.running reads
+    ran_none _ _ _ _ _ _ _ _ _ _ _ _ _ c.commands.invariant.running reads (omega (arith, c.read_command.new.lines.within, c.in-Ok-None.ensures.max, c.commands.invariant.max))
 
 pub count-requires : goal.count-requires
 count-requires g c =
@@ -29,14 +29,14 @@ pub returns-then-last-clause-ok : goal.returns-then-last-clause-ok
 returns-then-last-clause-ok g c =
     let reads = rw c.in-Ok-Some.field-0-is at c.in-Ok-Some.ensures.ok in
     let out = c.deref-in-commands.result.now in
-    let old = c.args.cache.now in
-    let state = c.commands.cache in
-    let new = c.perform-reply.new.cache in
+    let old = c.args.cache.now.state in
+    let state = c.commands.cache.state in
+    let new = c.perform-reply.new.cache.state in
     let reply = c.perform-reply.result in
     let asked = subst (λ h. Describes c.read_command.new.lines.number h c.in-Ok-Some.command reads.command) (sym c.deref.ensures.value) (describes _ _ _ _ _ _ reads) in
     let may = subst (λ o. MayCome state reads.command (outcome_from reply o new)) (sym c.deref-in-commands.ensures.value) (c.perform-reply.ensures.may reads.command asked) in
     let changes = subst (λ o. new ≡ state_after state (outcome_from reply o new)) (sym c.deref-in-commands.ensures.value) c.perform-reply.ensures.state in
-    ran_last _ _ _ _ _ _ _ _ _ _ _ c.if-last.true
+    ran_last _ _ _ _ _ _ _ _ _ _ _ _ c.if-last.true (omega (arith, c.read_command.new.lines.within, c.in-Ok-Some.ensures.max, c.commands.invariant.max))
     (running_more _ _ _ _ _ _ old state new _ _ _ _ _ _ _ c.in-Ok-Some.command (outcome_from reply out new) c.commands.invariant.running reads may
     changes (c.in-Ok.ensures.ok new) (c.count.ensures.accepted out new) (c.count.ensures.refused out new))
 
@@ -44,9 +44,9 @@ pub commands-preserved : goal.commands-preserved
 commands-preserved g c =
     let reads = rw c.in-Ok-Some.field-0-is at c.in-Ok-Some.ensures.ok in
     let out = c.deref-in-commands.result.now in
-    let old = c.args.cache.now in
-    let state = c.commands.cache in
-    let new = c.perform-reply.new.cache in
+    let old = c.args.cache.now.state in
+    let state = c.commands.cache.state in
+    let new = c.perform-reply.new.cache.state in
     let reply = c.perform-reply.result in
     let asked = subst (λ h. Describes c.read_command.new.lines.number h c.in-Ok-Some.command reads.command) (sym c.deref.ensures.value) (describes _ _ _ _ _ _ reads) in
     let may = subst (λ o. MayCome state reads.command (outcome_from reply o new)) (sym c.deref-in-commands.ensures.value) (c.perform-reply.ensures.may reads.command asked) in
@@ -70,9 +70,9 @@ pub returns-in-Err-print-clause-fault : goal.returns-in-Err-print-clause-fault
 returns-in-Err-print-clause-fault g c =
     let reads = rw c.in-Ok-Some.field-0-is at c.in-Ok-Some.ensures.ok in
     let out = c.deref-in-commands.result.now in
-    let old = c.args.cache.now in
-    let state = c.commands.cache in
-    let new = c.perform-reply.new.cache in
+    let old = c.args.cache.now.state in
+    let state = c.commands.cache.state in
+    let new = c.perform-reply.new.cache.state in
     let reply = c.perform-reply.result in
     let asked = subst (λ h. Describes c.read_command.new.lines.number h c.in-Ok-Some.command reads.command) (sym c.deref.ensures.value) (describes _ _ _ _ _ _ reads) in
     let may = subst (λ o. MayCome state reads.command (outcome_from reply o new)) (sym c.deref-in-commands.ensures.value) (c.perform-reply.ensures.may reads.command asked) in

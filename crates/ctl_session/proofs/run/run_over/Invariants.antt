@@ -10,7 +10,7 @@ invariant-commands g l = record {
   write : g.W.Sink.failures l.writer ≡ g.W.Sink.failures l.fn.writer;
   counted : l.summary.accepted + l.summary.refused ≤ l.lines.number;
   running : Running false (g.R.Source.remaining l.fn.reader) (prepend_known l.lines.pending (g.R.Source.remaining l.reader)) (g.W.Sink.taken l.fn.writer) (g.W.Sink.taken l.writer)
-      l.fn.cache l.cache l.lines.number l.summary.accepted l.summary.refused;
+      l.fn.cache.state l.cache.state l.lines.number l.summary.accepted l.summary.refused;
 }
 
 abbrev pub decreases-commands : goal.decreases-commands
