@@ -16,7 +16,6 @@ use Rattle.ctl_relation.specs.Names.{is_name_byte, is_name}
 use Rattle.ctl_relation.specs.FieldKind.{is_provides, has_alternatives}
 use Rattle.ctl_relation.specs.Reading.{name_at, version_at, close_at, relations_of, Gives}
 use Rattle.ctl_relation.specs.Fault.{Place, GroupDue, AtomDue, AfterName, QualifierDue, AfterQualifier, OperatorDue, AfterSign, VersionDue, CloseDue, AfterAtom, takes_name, takes_bracket, takes_bar, takes_comma, takes_version, is_sign, lengthens, StandsAt, at_start, comma_read, bar_read, name_read, colon_read, qualifier_read, bracket_read, equal_read, sign_read, sign_longer, version_read, close_read, name_fault, group_fault, end_fault, bracket_fault, operator_fault, version_fault, close_fault, due_fault, IsFault, NeverMemory, IsWhole}
-use Rattle.ctl_relation.proofs.Only.{}
 use Rattle.ctl_relation.proofs.LongestRuns.{run-rest, run-passes, run-more, run-none, rest-stops}
 use Rattle.ctl_relation.proofs.Runs.{Next, Ends, Moves, next_of, next_behind, group_next, end_next, bracket_next, operator_next, version_next, next, Runs, ends, moves, on_test, more_than, fault_in, reader_runs}
 
