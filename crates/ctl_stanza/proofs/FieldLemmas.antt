@@ -12,7 +12,7 @@ use Rattle.ctl_stanza.specs.Fields.{FieldText, strip_end, before_stripped, conti
 use Rattle.ctl_stanza.specs.Faults.{field_cause, first_wrong, fault_or}
 use Rattle.ctl_stanza.specs.declared.fields.FieldPlace.{FieldPlace}
 use Rattle.ctl_stanza.specs.Content.{name_and_body}
-use Rattle.ctl_stanza.specs.Spans.{IsWithin, AreWithin, StandsAt, Shows, shown, shown_fields, place_of, shown_places, body_among, IsPlaceWithin, ArePlacesWithin, AreReadFrom, AreFieldsOf}
+use Rattle.ctl_stanza.specs.HeldFields.{IsWithin, AreWithin, StandsAt, Shows, shown, shown_fields, place_of, shown_places, body_among, IsPlaceWithin, ArePlacesWithin, AreReadFrom, AreFieldsOf}
 
 -- nothing but blanks is left
 pub strip_end-none : (text : List ℕ) → ((k : ℕ) → k < length text → is_blank_byte (get_or text k 0) ≡ true) → strip_end text ≡ []

@@ -231,8 +231,7 @@ taken line n e =
         bytes = all-at (take n line) (λ k lt.
             ap is_field_name_byte (get_or-take n line k 0 (omega (arith, lt, size))) ∙ not-yes (is_field_name_byte (get_or line k 0)) (at.2 k (omega (arith, lt, size))));
         begins = λ b rest is.
-            let first : get_or line 0 0 ≡ b = sym (get_or-take n line 0 0 some) ∙ ap (λ t. get_or t 0 0) is in
-            (
+            let first : get_or line 0 0 ≡ b = sym (get_or-take n line 0 0 some) ∙ ap (λ t. get_or t 0 0) is in (
               other-number b hash (ap (λ x. x == hash) (sym first) ∙ found.no_hash),
               other-number b hyphen (ap (λ x. x == hyphen) (sym first) ∙ found.no_hyphen),
             );

@@ -13,9 +13,12 @@ pub mod KeepLemmas
 pub mod CauseLemmas
 pub mod WholeLemmas
 pub mod PlaceLemmas
+pub mod FaultlessLemmas
 pub mod LawLemmas
 pub mod RecordLawLemmas
+pub mod BodyLemmas
 pub mod RunLemmas
+pub mod OneListLemmas
 pub mod RecordRunLemmas
 pub mod ProvidesLemmas
 pub mod SoundLemmas

@@ -47,8 +47,7 @@ EndsNone all from to = (r : Run) (end : ℕ) → end < to → IsBetween all from
 least-behind : (numbers : List ℕ) (all : List (List ℕ)) (from to : ℕ) (records : List RecordText) (fault : TextFault) (front : List RecordText) → from ≤ to → HasNone all from to
     → Grows numbers all from to front → StopsAt numbers all to records fault → StopsAt numbers all from (front ++ records) fault
 least-behind numbers all from to records fault front le none grows known =
-    let later = known.0 in
-    (
+    let later = known.0 in (
       record {
         index = later.index;
         from_on = omega (arith, later.from_on);
@@ -170,15 +169,13 @@ stand_run numbers m l ls rest ps others gap_after more front number border =
 
 up_to : (n : ℕ) (text : List ℕ) (read : Read) → Stands (numbers_kept n text) (lines_kept n text) 0 read → AreRecordsUpTo n text read.0 read.1
 up_to n text (records, None) stands =
-    let known = stands.whole refl in
-    (
+    let known = stands.whole refl in (
       λ i cause has. known.0 i cause (omega arith) has.0 has,
       record { runs = known.1.runs; are_runs = all-between (lines_kept n text) (length (lines_kept n text)) known.1.runs known.1.between; records_are = known.1.records_are },
     )
 up_to n text (records, Some fault) stands =
     let known = stands.stops fault refl in
-    let least = known.0 in
-    (
+    let least = known.0 in (
       record {
         index = least.index;
         line = least.line;

@@ -13,7 +13,7 @@ use Rattle.ctl_stanza.specs.declared.live.RelationField.{RelationField}
 use Rattle.ctl_stanza.specs.Fields.{FieldText, is_same_name, body_named, package_name, version_name}
 use Rattle.ctl_stanza.specs.RelationFields.{name_of, relation_kind, groups_read}
 use Rattle.ctl_stanza.specs.Faults.{or_else}
-use Rattle.ctl_stanza.specs.Live.{kept_of, relation_field, groups_given, version_given, groups_found, KeepsGroups}
+use Rattle.ctl_stanza.specs.HeldStanza.{kept_of, relation_field, groups_given, version_given, groups_found, KeepsGroups}
 
 -- ---- names without regard to case
 

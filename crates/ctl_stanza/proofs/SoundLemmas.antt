@@ -5,6 +5,7 @@ use Rattle.std.specs.List.{All, prefix_len}
 use Rattle.std.specs.Prelude.{IsSome, unwrap_or}
 use Rattle.std.proofs.lemmas.Bool.{cases_Bool, cond-true, cond-false}
 use Rattle.std.proofs.lemmas.List.{length-append, length-map, length-drop, length-take-le}
+use Rattle.std.proofs.lemmas.List.Elements.{All-nil, All-cons}
 use Rattle.std.proofs.lemmas.List.Sums.{sum_by-cons}
 use Rattle.ctl_relation.specs.declared.field_kind.FieldKind.{FieldKind}
 use Rattle.ctl_relation.specs.declared.field_kind.FieldKind.TheVariants as field_kinds
@@ -31,7 +32,7 @@ use Rattle.ctl_stanza.specs.Status.{liveness, is_live_by}
 use Rattle.ctl_stanza.specs.Content.{Content, fields_of, body_of, is_live, package_of, version_of, relations_of_kind, offer_of, offers_in, offers_of}
 use Rattle.ctl_stanza.specs.Faults.{cause_of, fault_or, first_fault, is_empty_body, lacks_state, is_missing, field_cause, first_wrong, whole_fault, or_else, stanza_fault}
 use Rattle.std.proofs.Math.Seq.{take-append_seam}
-use Rattle.ctl_stanza.specs.Spans.{Grows}
+use Rattle.ctl_stanza.specs.HeldFields.{Grows}
 use Rattle.ctl_stanza.specs.Sound.{IsWhole, IsSound}
 use Rattle.ctl_stanza.proofs.FieldLemmas.{continued-le}
 use Rattle.ctl_stanza.proofs.ProvidesLemmas.{one_atom_each}
@@ -220,6 +221,18 @@ content-count found bounded content kind =
     if-live (λ (groups : List (List AtomParts)). atom_count groups ≤ length content.text - 1) (is_live content) (groups_among kind (fields_of content)) []
     (in-count found bounded content kind (body_of content (name_of kind)) refl) (omega arith)
 
+-- each group has an atom, and so the groups are no more than the atoms
+groups-le : (groups : List (List AtomParts)) → HaveAtoms groups → length groups ≤ atom_count groups
+groups-le [] some = omega arith
+groups-le (g ∷ gs) some =
+    omega (arith, some 0 g (omega arith), groups-le gs (λ k d lt. some (suc k) d (omega arith)), sum_by-cons (λ (x : List AtomParts). length x) g gs)
+
+small-groups : (m : ℕ) (groups : List (List AtomParts)) → atom_count groups < m → All (λ group. length group < m) groups
+small-groups m [] lt = All-nil (λ (group : List AtomParts). length group < m)
+small-groups m (g ∷ gs) lt =
+    All-cons (λ (group : List AtomParts). length group < m) g gs (omega (arith, lt, sum_by-cons (λ (x : List AtomParts). length x) g gs))
+    (small-groups m gs (omega (arith, lt, sum_by-cons (λ (x : List AtomParts). length x) g gs)))
+
 offers-size : (groups : List (List AtomParts)) → length (offers_in groups) ≡ atom_count groups
 offers-size [] = refl
 offers-size (g ∷ gs) = omega (arith, offers-size gs, length-append (map offer_of g) (offers_in gs), length-map g offer_of, sum_by-cons (λ (x : List AtomParts). length x) g gs)
@@ -244,13 +257,18 @@ sound found some bounded content whole =
     let here = or-false (is_empty_body (body_named package_name fields)) (lacks_state (liveness kind fields) || lacks_version) parts.0 in
     let later = or-false (lacks_state (liveness kind fields)) lacks_version here.1 in
     let «package» = some-body (body_named package_name fields) here.0 in
+    let have : (field : FieldKind) → HaveAtoms (relations_of_kind field content) = λ field.
+    if-live HaveAtoms (is_live content) (groups_among field fields) [] (in-some found some field (body_of content (name_of field))) none-have in
+    let few : (field : FieldKind) → atom_count (relations_of_kind field content) < 2 ^ 32 = λ field. omega (arith, whole.small, content-count found bounded content field) in
     record {
       name = ap (λ o. is_name (unwrap_or o [])) «package».1 ∙ good-name (is_live_by kind fields) «package».0 (named-good (is_live_by kind fields) 0 package_name «package».0 fields parts.1 «package».1);
       version = λ live. let version = some-body (body_named version_name fields) (and-false (is_live_by kind fields) (is_empty_body (body_named version_name fields)) later.1 live) in
           subst (λ (o : Option (List ℕ)). IsSome o) (sym (cond-true (is_live content) (body_of content version_name) None live ∙ version.1)) refl;
-      some = λ field. if-live HaveAtoms (is_live content) (groups_among field fields) [] (in-some found some field (body_of content (name_of field))) none-have;
+      some = have;
       one = one_atom_each (found field_kinds.Provides) content;
-      atoms = λ field. omega (arith, whole.small, content-count found bounded content field);
+      atoms = few;
+      groups = λ field. omega (arith, groups-le (relations_of_kind field content) (have field), few field);
+      sizes = λ field. small-groups (2 ^ 32) (relations_of_kind field content) (few field);
       offers = content-offers found bounded content whole.small;
     }
 

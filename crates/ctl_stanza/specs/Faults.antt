@@ -1,4 +1,5 @@
--- What is wrong with the lines of a stanza, and with a stanza as a whole.
+-- What is wrong with the lines of a stanza, and with a stanza as a whole, as a function. Laws says in plain words what a
+-- fault is, and `told_fault_is_least` that this tells the least one.
 use Rattle.std.specs.Prelude.{◌≡◌, ◌≢◌, ℕ, ◌+◌, ◌==◌, ◌&&◌, ◌||◌, not, nat_lt, Bool, true, false, suc, length, List, [], ◌∷◌, ◌++◌, take, Option, Some, None, is_none, Result, Ok, Err, if◌then◌else◌}
 use Rattle.std.specs.List.{list_any}
 use Rattle.ctl_relation.specs.declared.field_kind.FieldKind.{FieldKind}

@@ -1,6 +1,6 @@
 -- The faults of a text, each at the index of its line, told apart from how the text is read.
-use Rattle.std.specs.Prelude.{◌≡◌, ◌≢◌, ◌+◌, ◌<◌, ◌≤◌, ℕ, true, false, not, ◌⊎◌, List, [], length, map, take, filter, flat_map, Contains, Some, None, is_none, Ok, Err}
-use Rattle.std.specs.List.{after_last}
+use Rattle.std.specs.Prelude.{◌≡◌, ◌≢◌, ◌+◌, ◌<◌, ◌≤◌, ℕ, true, false, not, ◌⊎◌, List, [], ◌∷◌, ◌++◌, length, map, take, filter, flat_map, Contains, Some, None, is_none, Ok, Err}
+use Rattle.std.specs.List.{list_all, after_last}
 use Rattle.ctl_relation.specs.declared.field_kind.FieldKind.{FieldKind}
 use Rattle.ctl_relation.specs.Names.{is_name}
 use Rattle.ctl_relation.specs.Version.{fault_of}
@@ -14,7 +14,7 @@ use Rattle.ctl_stanza.specs.declared.fault.Cause.{Cause}
 use Rattle.ctl_stanza.specs.declared.fault.Cause.TheVariants as causes
 use Rattle.ctl_stanza.specs.Lines.{lines_of, text_of_lines, max_line, is_blank}
 use Rattle.ctl_stanza.specs.LineKind.{kind_of}
-use Rattle.ctl_stanza.specs.Fields.{FieldText, fields_of_lines, body_named, is_same_name, may_repeat, package_name, version_name}
+use Rattle.ctl_stanza.specs.Fields.{FieldText, value_of, continues, continued, fields_of_lines, body_named, is_same_name, may_repeat, package_name, version_name}
 use Rattle.ctl_stanza.specs.RelationFields.{name_of}
 use Rattle.ctl_stanza.specs.Status.{liveness, is_live_by}
 use Rattle.ctl_stanza.specs.LineRuns.{line_at, IsStanzaAt, Run, AreStanzasBefore}
@@ -44,6 +44,15 @@ pub record MakesBodyTooLong (before : List (List ℕ)) (line : List ℕ) : Type 
   pub behind_line : 0 < length before
   pub continues : kind_of line ≡ Continuation
   pub too_long : max_line < body_len before + (1 + length line)
+
+-- all of them continue the field before them
+abbrev pub AreContinuations : List (List ℕ) → Type 0
+AreContinuations lines = list_all (λ line. continues (kind_of line)) lines ≡ true
+
+-- The bytes that are counted are those of the body: of the value of the last field line, and of the lines that continue it.
+abbrev pub BodiesAreCounted : Type 0
+BodiesAreCounted = (front : List (List ℕ)) (line : List ℕ) (more : List (List ℕ)) (n : ℕ) → kind_of line ≡ Field n → AreContinuations more
+    → body_len (front ++ line ∷ more) ≡ length (value_of n line ++ continued more)
 
 -- a line continues, and no line stands before it
 pub record ContinuesNothing (before : List (List ℕ)) (line : List ℕ) : Type 0 where
@@ -126,6 +135,11 @@ HasWholeFault kind stanza i causes.Priority = ⊥
 HasWholeFault kind stanza i causes.Form = ⊥
 HasWholeFault kind stanza i causes.Memory = ⊥
 
+-- a stanza has no faulty line, and no other fault either
+pub record IsFaultless (kind : ListKind) (stanza : List (List ℕ)) : Type 0 where
+  pub good_lines : HasNoFaultyLine stanza
+  pub good_parts : (i : ℕ) (cause : Cause) → HasWholeFault kind stanza i cause → ⊥
+
 -- ---- the lines of a text
 
 -- the lines before the line at i, back to the last blank one
@@ -189,3 +203,8 @@ pub record AreStanzasOf (kind : ListKind) (lines : List (List ℕ)) (contents : 
 -- A text is read to its stanzas and to nothing else.
 abbrev pub ReadsStanzas : ListKind → ℕ → List ℕ → Type 0
 ReadsStanzas kind n text = (contents : List Content) → read_text kind n text ≡ Ok contents → AreStanzasOf kind (lines_of text) contents
+
+-- There is no other list of the stanzas of these lines.
+abbrev pub StanzasAreOneList : Type 0
+StanzasAreOneList = (kind : ListKind) (lines : List (List ℕ)) (contents others : List Content) → AreStanzasOf kind lines contents → AreStanzasOf kind lines others
+    → contents ≡ others

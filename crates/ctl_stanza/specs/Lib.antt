@@ -1,3 +1,6 @@
+-- What control text means. A caller reads Lines, LineKind, FieldLines, Fields, RelationFields, Status and Content: what a
+-- text has in it; Runs, Laws and Sound: its stanzas and its faults in plain words; Records and RecordLaws: the same of
+-- preferences. Faults and Text are the same again as a function, which the laws tie to those words.
 pub use Rattle.ctl_relation.specs.Bytes
 pub use Rattle.ctl_relation.specs.Names
 pub use Rattle.ctl_relation.specs.FieldBytes
@@ -17,9 +20,10 @@ pub mod Faults
 pub mod Text
 pub mod LineRuns
 pub mod Laws
+pub mod Sound
 pub mod Records
 pub mod RecordLaws
-pub mod NamesGiven
-pub mod Spans
-pub mod Live
-pub mod Sound
+-- How the code holds what it has read. Not for callers.
+pub mod HeldFields
+pub mod HeldNames
+pub mod HeldStanza

@@ -18,7 +18,8 @@ kind_after_name line (Some n) =
     else if slice_index line 0 == hash || slice_index line 0 == hyphen then Faulty
     else Field n
 
--- A field line is a name, a colon, a value; a continuation line begins with a blank, and isn't blank.
+-- A field line is a name, a colon, a value (FieldLines says so, and that no other line is one); a continuation line
+-- begins with a blank, and isn't blank.
 abbrev pub kind_of : List ℕ → LineKind
 kind_of line =
     if is_blank line then Blank

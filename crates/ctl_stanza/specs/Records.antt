@@ -1,4 +1,5 @@
--- The records of a text of preferences (apt_preferences(5)).
+-- The records of a text of preferences (apt_preferences(5)), as a function. RecordLaws says in plain words what they are,
+-- and `records_are_runs` that this gives them.
 use Rattle.std.specs.Prelude.{ℕ, ◌==◌, not, suc, Bool, false, List, [], ◌∷◌, ◌++◌, map, filter, length, take, drop, slice_index, Option, Some, None, Result, Ok, if◌then◌else◌}
 use Rattle.std.specs.Option.{option_map}
 use Rattle.ctl_relation.specs.Bytes.{hash}

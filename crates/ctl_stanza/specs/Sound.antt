@@ -18,12 +18,19 @@ pub record IsWhole (content : Content) : Type 0 where
 abbrev pub IsOneAtom : List AtomParts → Type 0
 IsOneAtom group = length group ≡ 1
 
+-- a group of few atoms
+abbrev pub IsSmallGroup : List AtomParts → Type 0
+IsSmallGroup group = length group < 2 ^ 32
+
 -- A stanza has a name, and where it is live a version. Each group of its relation fields has an atom, and each entry of
--- Provides one alone. The atoms of a field, and what the stanza offers, are few.
+-- Provides one alone. The groups and the atoms of a
+-- field, and what the stanza offers, are few.
 pub record IsSound (content : Content) : Type 0 where
   pub name : is_name (package_of content) ≡ true
   pub version : is_live content ≡ true → IsSome (version_of content)
   pub some : (kind : FieldKind) → All (λ group. 0 < length group) (relations_of_kind kind content)
   pub one : All IsOneAtom (provides_of content)
   pub atoms : (kind : FieldKind) → atom_count (relations_of_kind kind content) < 2 ^ 32
+  pub groups : (kind : FieldKind) → length (relations_of_kind kind content) < 2 ^ 32
+  pub sizes : (kind : FieldKind) → All IsSmallGroup (relations_of_kind kind content)
   pub offers : length (offers_of content) < 2 ^ 32

@@ -1,4 +1,5 @@
--- The stanzas of a text, or its fault.
+-- The stanzas of a text, or its fault, as a function. Runs and Laws say in plain words what they are; `stanzas_are_runs`
+-- and `told_fault_is_least` that this gives them.
 use Rattle.std.specs.Prelude.{◌≡◌, ◌≢◌, ℕ, ◌+◌, Bool, true, suc, length, List, [], ◌∷◌, ◌++◌, Option, Some, None, Result, Ok, Err, Vec, if◌then◌else◌}
 use Rattle.std.specs.declared.alloc.Global.{Global}
 use Rattle.ctl_stanza.specs.declared.list_kind.ListKind.{ListKind}

@@ -84,6 +84,6 @@ impl<T: Drop> From<AllocFailed<T>> for TextFault {
     ghost from_gives = { λ _ fault. fault ≡ record { line = 0; cause = causes.Memory } };
 
     fn from(_failed: AllocFailed<T>) -> TextFault {
-        TextFault::MEMORY
+        TextFault::from(AllocError)
     }
 }

@@ -6,7 +6,7 @@ ghost use Rattle.ctl_relation.specs.Bytes.{newline};
 ghost use Rattle.ctl_stanza.specs.Lines.{is_blank_byte, text_of_lines, lent_lines};
 ghost use Rattle.ctl_stanza.specs.LineKind.{kind_of};
 ghost use Rattle.ctl_stanza.specs.Fields.{strip_end, value_of, continues, continued, fields_of_lines, body_named, is_same_name};
-ghost use Rattle.ctl_stanza.specs.Spans.{IsWithin, AreWithin, AreBelow, ArePlacesWithin, StandsAt, Grows, Shows, Adds, shown, shown_fields, place_of, shown_places, body_among};
+ghost use Rattle.ctl_stanza.specs.HeldFields.{IsWithin, AreWithin, AreBelow, ArePlacesWithin, StandsAt, Grows, Shows, Adds, shown, shown_fields, place_of, shown_places, body_among};
 
 use crate::line_kind::{LineKind, kind_of};
 use crate::lines::{begins_with_blank, is_blank_byte};

@@ -7,7 +7,7 @@ ghost use Rattle.ctl_stanza.specs.Records.{records_before_fault};
 ghost use Rattle.ctl_stanza.specs.Content.{Content};
 ghost use Rattle.ctl_stanza.specs.FieldLines.{FieldLinesAreTaken, FieldLinesAreKnown};
 ghost use Rattle.ctl_stanza.specs.Lines.{lines_of};
-ghost use Rattle.ctl_stanza.specs.Laws.{ReadsOrTells, KeepsLines, ReadsStanzas};
+ghost use Rattle.ctl_stanza.specs.Laws.{BodiesAreCounted, IsFaultless, ReadsOrTells, KeepsLines, ReadsStanzas, StanzasAreOneList};
 ghost use Rattle.ctl_stanza.specs.Sound.{IsWhole, IsSound};
 
 use ctl_relation::{fields_bound_atoms, reading_is_the_grammar};
@@ -31,6 +31,12 @@ pub fn field_lines_have_names_and_values()
     ensures known { FieldLinesAreKnown }
 {}
 
+/// The bytes that are counted for the limit of a body are those of the body: its value, and the lines that continue it,
+/// each behind a newline.
+pub fn bodies_are_counted()
+    ensures { BodiesAreCounted }
+{}
+
 /// The stanzas that a text is read to are all the maximal runs of its lines that aren't blank, each once and in order,
 /// and are of the list's kind.
 pub fn stanzas_are_runs()
@@ -43,6 +49,11 @@ pub fn told_record_fault_is_least()
     ensures { (n : ℕ) (text : List ℕ) → ReadsRecordsOrTells n text }
 {}
 
+/// Lines have one list of stanzas: all their maximal runs of lines that aren't blank, each once and in order.
+pub fn lines_have_one_list_of_stanzas()
+    ensures { StanzasAreOneList }
+{}
+
 /// The records that a text of preferences is read to are all the maximal runs of its lines that aren't blank, comments
 /// left out, each once and in order; where a fault is told they are all those before its line.
 pub fn records_are_runs()
@@ -50,13 +61,19 @@ pub fn records_are_runs()
 {}
 
 /// A stanza without a fault has a name, and where it is live a version. Each group of its relation fields has an atom, an
-/// entry of Provides has one alone, and the atoms of a field, and what the stanza offers, are less than 2^32.
+/// entry of Provides has one alone, and the groups and the atoms of a field, and what the stanza offers, are less than
+/// 2^32.
 pub fn whole_stanzas_are_sound()
     ensures { (content : Content) → IsWhole content → IsSound content }
 {
     reading_is_the_grammar();
     fields_bound_atoms();
 }
+
+/// A stanza that is whole has no faulty line and no other fault, line by line and field by field.
+pub fn whole_stanzas_are_faultless()
+    ensures { (content : Content) → IsWhole content → IsFaultless content.kind (lines_of content.text) }
+{}
 
 /// A text has no more lines than bytes.
 pub fn lines_take_bytes()

@@ -4,7 +4,7 @@ ghost use Rattle.std.specs.Prelude.{◌≡◌, ◌+◌, ◌<◌, ◌≤◌, ◌^
 ghost use Rattle.ctl_stanza.specs.Lines.{max_line, lent_lines};
 ghost use Rattle.ctl_stanza.specs.LineKind.{IfName};
 ghost use Rattle.ctl_stanza.specs.Faults.{body_step, continuation_cause, cause_with, first_fault};
-ghost use Rattle.ctl_stanza.specs.NamesGiven.{holds, HoldsNone, AddsNameOf};
+ghost use Rattle.ctl_stanza.specs.HeldNames.{holds, HoldsNone, AddsNameOf};
 
 use crate::fault::{Cause, TextFault};
 use crate::fields::value_len;

@@ -10,8 +10,8 @@ ghost use Rattle.ctl_stanza.specs.declared.fault.Cause.TheVariants as causes;
 ghost use Rattle.ctl_stanza.specs.Fields.{body_named, version_name};
 ghost use Rattle.ctl_stanza.specs.RelationFields.{relation_kind, groups_among};
 ghost use Rattle.ctl_stanza.specs.Faults.{is_read, field_cause, first_wrong, or_else, IsMemoryAtZero, Tells, TellsCause};
-ghost use Rattle.ctl_stanza.specs.Live.{kept_groups, relation_field, version_given, KeepsGroups};
-ghost use Rattle.ctl_stanza.specs.Spans.{AreWithin, shown_fields};
+ghost use Rattle.ctl_stanza.specs.HeldStanza.{kept_groups, relation_field, version_given, KeepsGroups};
+ghost use Rattle.ctl_stanza.specs.HeldFields.{AreWithin, shown_fields};
 
 use crate::fault::{Cause, TextFault};
 use crate::fields::{Field, is_same_name};

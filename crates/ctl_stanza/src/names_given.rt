@@ -3,7 +3,7 @@
 ghost use Rattle.std.specs.Prelude.{◌≡◌, not, IfOk, OnOk};
 ghost use Rattle.std.specs.List.{list_any};
 ghost use Rattle.ctl_stanza.specs.Fields.{is_same_name};
-ghost use Rattle.ctl_stanza.specs.NamesGiven.{holds, HoldsNone, Adds};
+ghost use Rattle.ctl_stanza.specs.HeldNames.{holds, HoldsNone, Adds};
 
 use crate::fields::is_same_name;
 use std::alloc::{AllocError, Global};

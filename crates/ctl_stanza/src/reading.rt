@@ -4,7 +4,7 @@ ghost use Rattle.std.specs.Prelude.{◌≡◌, ◌≢◌, ◌≤◌, ◌<◌, �
 ghost use Rattle.ctl_stanza.specs.Lines.{lines_of, lent_lines, AreLines};
 ghost use Rattle.ctl_stanza.specs.Faults.{IsMemoryAtZero, Tells};
 ghost use Rattle.ctl_stanza.specs.Laws.{AreStanzasOf, HasNoFault, TellsLeastFault};
-ghost use Rattle.ctl_stanza.specs.NamesGiven.{HoldsNone};
+ghost use Rattle.ctl_stanza.specs.HeldNames.{HoldsNone};
 ghost use Rattle.ctl_stanza.specs.Text.{IsFirstPiece, read_text, piece_content, piece_fault, piece, Reads};
 
 use crate::fault::TextFault;

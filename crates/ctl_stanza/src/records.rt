@@ -4,7 +4,7 @@ ghost use Rattle.std.specs.Prelude.{◌≡◌, ◌≢◌, ◌+◌, ◌<◌, ◌^
 ghost use Rattle.ctl_stanza.specs.declared.fault.Cause.TheVariants as causes;
 ghost use Rattle.ctl_stanza.specs.Lines.{lines_of, lent_lines, AreLines};
 ghost use Rattle.ctl_stanza.specs.Faults.{IsMemoryAtZero, Tells};
-ghost use Rattle.ctl_stanza.specs.NamesGiven.{HoldsNone};
+ghost use Rattle.ctl_stanza.specs.HeldNames.{HoldsNone};
 ghost use Rattle.ctl_stanza.specs.Text.{Reads};
 ghost use Rattle.ctl_stanza.specs.RecordLaws.{HasNoRecordFault, AreRecordsOf, AreRecordsUpTo, TellsLeastRecordFault};
 ghost use Rattle.ctl_stanza.specs.Records.{record_of, numbered_fault, record_fault, piece_record, records_before_fault, read_record_text};
@@ -34,7 +34,7 @@ pub struct Record {
 impl Model for Record {
     ghost use Rattle.std.specs.Prelude.{map, slice_index};
     ghost use Rattle.ctl_stanza.specs.Records.{RecordText, numbered_field};
-    ghost use Rattle.ctl_stanza.specs.Spans.{shown_fields, AreNumbered};
+    ghost use Rattle.ctl_stanza.specs.HeldFields.{shown_fields, AreNumbered};
 
     ghost Value = { RecordText };
 
@@ -223,7 +223,7 @@ pub struct RecordFields<'a> {
 impl<'a> Model for RecordFields<'a> {
     ghost use Rattle.std.specs.Prelude.{ℕ, List, map};
     ghost use Rattle.ctl_stanza.specs.Records.{numbered_field, parts_of_field};
-    ghost use Rattle.ctl_stanza.specs.Spans.{shown_fields, AreNumbered};
+    ghost use Rattle.ctl_stanza.specs.HeldFields.{shown_fields, AreNumbered};
 
     ghost Value = { List (List ℕ × List ℕ × ℕ) };
 

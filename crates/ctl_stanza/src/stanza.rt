@@ -4,8 +4,8 @@ ghost use Rattle.std.specs.Prelude.{◌≡◌, ◌+◌, ◌<◌, ◌≤◌, ◌^
 ghost use Rattle.ctl_stanza.specs.Lines.{lines_of, lent_lines, AreLines};
 ghost use Rattle.ctl_stanza.specs.Fields.{fields_of_lines};
 ghost use Rattle.ctl_stanza.specs.Content.{content_of, offers_of};
-ghost use Rattle.ctl_stanza.specs.Live.{content_in_front, AreRelationsOf};
-ghost use Rattle.ctl_stanza.specs.Spans.{AreReadFrom};
+ghost use Rattle.ctl_stanza.specs.HeldStanza.{content_in_front, AreRelationsOf};
+ghost use Rattle.ctl_stanza.specs.HeldFields.{AreReadFrom};
 ghost use Rattle.ctl_stanza.specs.Faults.{first_fault, whole_fault, stanza_fault, IsMemoryAtZero, Tells};
 ghost use Rattle.ctl_stanza.specs.declared.repeats.Repeats.TheVariants.{Never};
 
@@ -38,7 +38,7 @@ pub struct Stanza {
 
 impl Model for Stanza {
     ghost use Rattle.ctl_stanza.specs.Content.{Content};
-    ghost use Rattle.ctl_stanza.specs.Live.{content_in_front, ArePartsOf};
+    ghost use Rattle.ctl_stanza.specs.HeldStanza.{content_in_front, ArePartsOf};
 
     ghost Value = { Content };
 
@@ -128,7 +128,7 @@ impl Stanza {
     ghost use Rattle.ctl_relation.specs.Bounds.{atom_count};
     ghost use Rattle.ctl_relation.specs.Lent.{lent};
     ghost use Rattle.ctl_relation.specs.Names.{is_name};
-    ghost use Rattle.ctl_stanza.specs.Sound.{IsWhole, IsOneAtom};
+    ghost use Rattle.ctl_stanza.specs.Sound.{IsWhole, IsOneAtom, IsSmallGroup};
     ghost use Rattle.ctl_stanza.specs.Content.{body_of, package_of, named_bodies, is_live, version_of, groups_of, provides_of, offers_of};
 
     /// The lines of the stanza, each with a newline. A stanza has no fault, and less than 2^32 bytes.
@@ -208,6 +208,8 @@ impl Stanza {
         ensures groups { result.now ≡ groups_of kind self.now }
         ensures some { All (λ group. 0 < length group) result.now }
         ensures few { atom_count result.now < 2 ^ 32 }
+        ensures count { length result.now < 2 ^ 32 }
+        ensures sizes { All IsSmallGroup result.now }
     {
         match kind {
             FieldKind::Provides => &[],
@@ -222,6 +224,8 @@ impl Stanza {
         ensures some { All (λ group. 0 < length group) result.now }
         ensures one { All IsOneAtom result.now }
         ensures few { atom_count result.now < 2 ^ 32 }
+        ensures count { length result.now < 2 ^ 32 }
+        ensures sizes { All IsSmallGroup result.now }
     {
         kept_groups(&self.relations, FieldKind::Provides)
     }
@@ -245,7 +249,7 @@ pub struct Fields<'a> {
 
 impl<'a> Model for Fields<'a> {
     ghost use Rattle.std.specs.Prelude.{ℕ, List};
-    ghost use Rattle.ctl_stanza.specs.Spans.{ArePlacesWithin, shown_places};
+    ghost use Rattle.ctl_stanza.specs.HeldFields.{ArePlacesWithin, shown_places};
 
     ghost Value = { List (List ℕ × List ℕ) };
 

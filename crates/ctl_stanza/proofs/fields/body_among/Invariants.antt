@@ -1,5 +1,5 @@
 use Rattle.std.proofs.Common.{◌≡◌, drop}
-use Rattle.ctl_stanza.specs.Spans.{body_among, shown_places}
+use Rattle.ctl_stanza.specs.HeldFields.{body_among, shown_places}
 use Rattle.ctl_stanza.proofs.fields.body_among.Given as goal
 
 abbrev pub invariant-loop-i : goal.invariant-loop-i

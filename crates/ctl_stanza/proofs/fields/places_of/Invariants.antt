@@ -1,5 +1,5 @@
 use Rattle.std.proofs.Common.{◌≡◌, map, take}
-use Rattle.ctl_stanza.specs.Spans.{place_of}
+use Rattle.ctl_stanza.specs.HeldFields.{place_of}
 use Rattle.ctl_stanza.proofs.fields.places_of.Given as goal
 
 abbrev pub invariant-loop-i : goal.invariant-loop-i

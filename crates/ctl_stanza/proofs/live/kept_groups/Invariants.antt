@@ -1,5 +1,5 @@
 use Rattle.std.proofs.Common.{◌≡◌, drop}
-use Rattle.ctl_stanza.specs.Live.{kept_of}
+use Rattle.ctl_stanza.specs.HeldStanza.{kept_of}
 use Rattle.ctl_stanza.proofs.live.kept_groups.Given as goal
 
 abbrev pub invariant-loop-i : goal.invariant-loop-i

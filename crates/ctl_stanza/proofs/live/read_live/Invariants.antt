@@ -2,8 +2,8 @@ use Rattle.std.proofs.Common.{◌≡◌, true, drop}
 use Rattle.ctl_relation.specs.declared.field_kind.FieldKind.{FieldKind}
 use Rattle.ctl_stanza.specs.Fields.{body_named, version_name}
 use Rattle.ctl_stanza.specs.Faults.{first_wrong, or_else}
-use Rattle.ctl_stanza.specs.Live.{kept_of, groups_found}
-use Rattle.ctl_stanza.specs.Spans.{shown_fields}
+use Rattle.ctl_stanza.specs.HeldStanza.{kept_of, groups_found}
+use Rattle.ctl_stanza.specs.HeldFields.{shown_fields}
 use Rattle.ctl_stanza.proofs.live.read_live.Given as goal
 
 -- no field so far is wrong; what they gave is kept, and what is left gives the rest

@@ -4,7 +4,7 @@ use Rattle.ctl_stanza.specs.Lines.{lines_of, lent_lines}
 use Rattle.ctl_stanza.specs.Content.{Content}
 use Rattle.ctl_stanza.specs.Fields.{fields_of_lines}
 use Rattle.ctl_stanza.specs.Faults.{whole_fault}
-use Rattle.ctl_stanza.specs.Spans.{shown_fields}
+use Rattle.ctl_stanza.specs.HeldFields.{shown_fields}
 use Rattle.ctl_stanza.proofs.FaultLemmas.{first_wrong-memory, never-memory}
 use Rattle.ctl_stanza.proofs.SoundLemmas.{no_fault, front_text}
 use Rattle.ctl_stanza.proofs.stanza.read_stanza.Goals as goal

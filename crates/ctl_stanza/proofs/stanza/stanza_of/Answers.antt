@@ -1,5 +1,5 @@
 use Rattle.std.proofs.Common.{take}
-use Rattle.ctl_stanza.specs.Live.{content_in_front}
+use Rattle.ctl_stanza.specs.HeldStanza.{content_in_front}
 use Rattle.ctl_stanza.specs.Sound.{IsWhole}
 use Rattle.ctl_stanza.proofs.FieldLemmas.{kept_fields}
 use Rattle.ctl_stanza.proofs.SoundLemmas.{short_text}

@@ -1,4 +1,4 @@
--- The fields that a stanza keeps, seen in its text.
+-- The fields that a stanza keeps, seen in its text: how they are held. Not for callers, who read Fields.
 use Rattle.std.specs.Prelude.{◌≡◌, ℕ, ◌<◌, ◌≤◌, List, [], ◌∷◌, ◌++◌, length, take, drop, slice_range, map, Option, Some, None, if◌then◌else◌}
 use Rattle.std.specs.List.{All}
 use Rattle.ctl_stanza.specs.declared.fields.Span.{Span}

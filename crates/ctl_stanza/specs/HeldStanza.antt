@@ -1,4 +1,5 @@
--- What a stanza keeps of its relation fields, and the facts that hold it together.
+-- What a stanza keeps of its relation fields, and the facts that hold it together: how it is held. Not for callers, who
+-- read Content.
 use Rattle.std.specs.Prelude.{◌≡◌, ◌≤◌, ℕ, List, [], ◌∷◌, length, take, nat_eq, Option, None, Some, if◌then◌else◌}
 use Rattle.std.specs.Option.{option_map}
 use Rattle.ctl_relation.specs.declared.field_kind.FieldKind.{FieldKind}
@@ -13,7 +14,7 @@ use Rattle.ctl_stanza.specs.RelationFields.{name_of, groups_read}
 use Rattle.ctl_stanza.specs.Content.{Content, relations_of_kind, offers_of}
 use Rattle.ctl_stanza.specs.Faults.{or_else}
 use Rattle.ctl_stanza.specs.Sound.{IsWhole, IsSound}
-use Rattle.ctl_stanza.specs.Spans.{AreFieldsOf}
+use Rattle.ctl_stanza.specs.HeldFields.{AreFieldsOf}
 
 -- the groups that are kept of a relation field, if it was given
 abbrev pub kept_of : FieldKind → List RelationField → Option (List (List AtomParts))

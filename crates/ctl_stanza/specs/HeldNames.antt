@@ -1,4 +1,4 @@
--- The names of fields that a stanza has given so far.
+-- The names of fields that a stanza has given so far: how they are held. Not for callers.
 use Rattle.std.specs.Prelude.{◌≡◌, ℕ, Bool, false, ◌||◌, List}
 use Rattle.std.specs.List.{list_any}
 use Rattle.std.specs.Str.{bytes_eq, str_to_ascii_lowercase}
