@@ -6,7 +6,7 @@ use Rattle.std.proofs.lemmas.List.Edits.{length-remove, insert-append_left, inse
 use Rattle.std.proofs.lemmas.Bool.{cases_lt}
 use Rattle.ctl_store.proofs.PlaceLemmas.{some_is}
 use Rattle.ctl_store.specs.declared.pieces.Spot.{Spot}
-use Rattle.ctl_store.specs.Pieces.{most_in_piece, joined, length_at, stands_at, place_of_spot, IsPiece, ArePieces, free_at_end}
+use Rattle.ctl_store.specs.Pieces.{most_in_piece, joined, length_at, room_in, room_at, room_of_all, room_of_last, stands_at, place_of_spot, IsPiece, ArePieces, AreReady, free_at_end}
 
 pub plus_one : (n : ℕ) → n + 1 ≡ suc n
 plus_one n = omega arith
@@ -14,9 +14,9 @@ plus_one n = omega arith
 at_first : (j : ℕ) → 0 + j ≡ j
 at_first j = omega arith
 
--- the two halves of a full piece
-pub halves : {X : Type 0} (xs low up : List X) → low ≡ take 32 xs → up ≡ drop 32 xs → low ++ up ≡ xs
-halves xs low up e f = ap (λ l. l ++ up) e ∙ ap (λ l. take 32 xs ++ l) f ∙ take-append-drop 32 xs
+-- the two parts of a piece that is split
+pub halves : {X : Type 0} (n : ℕ) (xs low up : List X) → low ≡ take n xs → up ≡ drop n xs → low ++ up ≡ xs
+halves n xs low up e f = ap (λ l. l ++ up) e ∙ ap (λ l. take n xs ++ l) f ∙ take-append-drop n xs
 
 module _ {X A : Type 0} where
   pub stands_next : (q : Vec X A) (ps : List (Vec X A)) (i j : ℕ) → stands_at (q ∷ ps) (suc i) j ≡ length q.items + stands_at ps i j
@@ -48,6 +48,50 @@ module _ {X A : Type 0} where
   length_at_set [] i p l = absurd (omega arith)
   length_at_set (q ∷ ps) zero p l = refl
   length_at_set (q ∷ ps) (suc i) p l = length_at_set ps i p (omega arith)
+
+  pub room_read : (ps : List (Vec X A)) (i : ℕ) (p : Vec X A) → i < length ps → p ≡ get_or ps i p → room_at ps i ≡ room_in p
+  room_read [] i p l e = absurd (omega arith)
+  room_read (q ∷ ps) zero p l e = sym (ap room_in e)
+  room_read (q ∷ ps) (suc i) p l e = room_read ps i p (omega arith) e
+
+  pub room_at_set : (ps : List (Vec X A)) (i : ℕ) (p : Vec X A) → i < length ps → room_at (set ps i p) i ≡ room_in p
+  room_at_set [] i p l = absurd (omega arith)
+  room_at_set (q ∷ ps) zero p l = refl
+  room_at_set (q ∷ ps) (suc i) p l = room_at_set ps i p (omega arith)
+
+  -- a piece has no more items than all have
+  pub length_of_all : (ps : List (Vec X A)) (i : ℕ) → length_at ps i ≤ length (joined ps)
+  length_of_all [] i = omega arith
+  length_of_all (q ∷ ps) zero = omega (arith, length-append q.items (joined ps))
+  length_of_all (q ∷ ps) (suc i) = omega (arith, length-append q.items (joined ps), length_of_all ps i)
+
+  -- ---- the room in pieces that are ready
+
+  pub room_of_all_push : (ps : List (Vec X A)) (p : Vec X A) → room_of_all (ps ++ p ∷ []) ≡ room_of_all ps + room_in p
+  room_of_all_push [] p = omega arith
+  room_of_all_push (q ∷ ps) p = omega (arith, room_of_all_push ps p)
+
+  pub room_of_last_push : (ps : List (Vec X A)) (p : Vec X A) → room_of_last (ps ++ p ∷ []) ≡ room_in p
+  room_of_last_push [] p = refl
+  room_of_last_push (q ∷ []) p = refl
+  room_of_last_push (q ∷ r ∷ ps) p = room_of_last_push (r ∷ ps) p
+
+  pub last_of_all : (ps : List (Vec X A)) → room_of_last ps ≤ room_of_all ps
+  last_of_all [] = omega arith
+  last_of_all (q ∷ []) = omega arith
+  last_of_all (q ∷ r ∷ ps) = omega (arith, last_of_all (r ∷ ps))
+
+  pub some_of_all : (ps : List (Vec X A)) → 0 < room_of_all ps → 0 < length ps
+  some_of_all [] l = l
+  some_of_all (q ∷ ps) l = omega arith
+
+  pub some_of_last : (ps : List (Vec X A)) → 0 < room_of_last ps → 0 < length ps
+  some_of_last [] l = l
+  some_of_last (q ∷ ps) l = omega arith
+
+  pub ready_room : (ps : List (Vec X A)) → AreReady ps → 0 < length ps → 0 < room_of_all ps
+  ready_room [] h l = l
+  ready_room (q ∷ ps) h l = omega (arith, h.0.room)
 
   pub read_same : (ps : List (Vec X A)) (i : ℕ) (p p' : Vec X A) → i < length ps → p ≡ get_or ps i p → p' ≡ get_or ps i p' → p ≡ p'
   read_same [] i p p' l e e' = absurd (omega arith)
@@ -101,6 +145,32 @@ module _ {X A : Type 0} where
       ap (λ l. q.items ++ l) (joined_remove_piece ps i j l one ∙ ap (remove (joined ps)) (omega (arith, at)))
       ∙ sym (remove-append_right q.items (joined ps) (length q.items) (stands_at (q ∷ ps) (suc i) j) refl (omega (arith, at)))
 
+  -- ---- a piece with its items in other memory, and two in one
+
+  pub joined_same : (ps : List (Vec X A)) (i : ℕ) (p p' : Vec X A) → i < length ps → p ≡ get_or ps i p → p'.items ≡ p.items → joined (set ps i p') ≡ joined ps
+  joined_same [] i p p' l e w = absurd (omega arith)
+  joined_same (q ∷ ps) zero p p' l e w = ap (λ l. l ++ joined ps) (w ∙ ap (λ (v : Vec X A). v.items) e)
+  joined_same (q ∷ ps) (suc i) p p' l e w = ap (λ l. q.items ++ l) (joined_same ps i p p' (omega arith) e w)
+
+  pub joined_join : (ps : List (Vec X A)) (i : ℕ) (p up p' : Vec X A) → suc i < length ps → p ≡ get_or (remove ps (suc i)) i p → up ≡ get_or ps (suc i) up → p'.items ≡ p.items ++ up.items → joined (set (remove ps (suc i)) i p') ≡ joined ps
+  joined_join [] i p up p' l e f w = absurd (omega arith)
+  joined_join (q ∷ []) i p up p' l e f w = absurd (omega arith)
+  joined_join (q ∷ r ∷ ps) zero p up p' l e f w = ap (λ l. l ++ joined ps) (w ∙ (λ j. (e j).items ++ (f j).items)) ∙ append_assoc q.items r.items (joined ps)
+  joined_join (q ∷ r ∷ ps) (suc i) p up p' l e f w = ap (λ l. q.items ++ l) (joined_join (r ∷ ps) i p up p' (omega arith) e f w)
+
+  pub pieces_remove : (ps : List (Vec X A)) (i : ℕ) → ArePieces ps → ArePieces (remove ps i)
+  pieces_remove [] zero h = tt
+  pieces_remove [] (suc i) h = tt
+  pieces_remove (q ∷ ps) zero h = h.1
+  pieces_remove (q ∷ ps) (suc i) h = (h.0, pieces_remove ps i h.1)
+
+  -- the piece before one that goes
+  pub read_before : (ps : List (Vec X A)) (i : ℕ) (p : Vec X A) → suc i < length ps → p ≡ get_or (remove ps (suc i)) i p → p ≡ get_or ps i p
+  read_before [] i p l e = absurd (omega arith)
+  read_before (q ∷ []) i p l e = absurd (omega arith)
+  read_before (q ∷ r ∷ ps) zero p l e = e
+  read_before (q ∷ r ∷ ps) (suc i) p l e = read_before (r ∷ ps) i p (omega arith) e
+
   -- ---- a piece in two
 
   pub joined_split : (ps : List (Vec X A)) (i : ℕ) (p low up : Vec X A) → i < length ps → p ≡ get_or ps i p → low.items ++ up.items ≡ p.items → joined (insert (set ps i low) (suc i) up) ≡ joined ps
@@ -118,6 +188,16 @@ module _ {X A : Type 0} where
   length_upper (q ∷ ps) zero low up l = refl
   length_upper (q ∷ ps) (suc i) low up l = length_upper ps i low up (omega arith)
 
+  pub room_lower : (ps : List (Vec X A)) (i : ℕ) (low up : Vec X A) → i < length ps → room_at (insert (set ps i low) (suc i) up) i ≡ room_in low
+  room_lower [] i low up l = absurd (omega arith)
+  room_lower (q ∷ ps) zero low up l = refl
+  room_lower (q ∷ ps) (suc i) low up l = room_lower ps i low up (omega arith)
+
+  pub room_upper : (ps : List (Vec X A)) (i : ℕ) (low up : Vec X A) → i < length ps → room_at (insert (set ps i low) (suc i) up) (suc i) ≡ room_in up
+  room_upper [] i low up l = absurd (omega arith)
+  room_upper (q ∷ ps) zero low up l = refl
+  room_upper (q ∷ ps) (suc i) low up l = room_upper ps i low up (omega arith)
+
   pub stands_upper : (ps : List (Vec X A)) (i : ℕ) (low up : Vec X A) (j : ℕ) → i < length ps → stands_at (insert (set ps i low) (suc i) up) (suc i) j ≡ stands_at ps i (length low.items + j)
   stands_upper [] i low up j l = absurd (omega arith)
   stands_upper (q ∷ ps) zero low up j l = omega (arith, ap length (append-nil low.items))
@@ -130,7 +210,7 @@ module _ {X A : Type 0} where
   some_free [] l = l
   some_free (q ∷ ps) l = omega arith
 
-  pub free_last : (ps : List (Vec X A)) (n : ℕ) → n + 1 ≡ length ps → free_at_end ps ≡ most_in_piece - length_at ps n
+  pub free_last : (ps : List (Vec X A)) (n : ℕ) → n + 1 ≡ length ps → free_at_end ps ≡ room_at ps n - length_at ps n
   free_last [] n e = absurd (omega arith)
   free_last (q ∷ []) zero e = refl
   free_last (q ∷ r ∷ ps) zero e = absurd (omega arith)
@@ -148,25 +228,50 @@ module _ {X A : Type 0} where
   got_length (q ∷ ps) zero p e = sym (ap (λ (v : Vec X A). length v.items) (some_is e))
   got_length (q ∷ ps) (suc n) p e = got_length ps n p e
 
+  pub got_room : (ps : List (Vec X A)) (n : ℕ) (p : Vec X A) → Some p ≡ slice_get ps n → room_at ps n ≡ room_in p
+  got_room [] n p e = cc
+  got_room (q ∷ ps) zero p e = sym (ap room_in (some_is e))
+  got_room (q ∷ ps) (suc n) p e = got_room ps n p e
+
+  pub got_last : (ps : List (Vec X A)) (n : ℕ) (p : Vec X A) → n + 1 ≡ length ps → Some p ≡ slice_get ps n → room_of_last ps ≡ room_in p
+  got_last [] n p l e = cc
+  got_last (q ∷ []) zero p l e = sym (ap room_in (some_is e))
+  got_last (q ∷ []) (suc n) p l e = absurd (omega arith)
+  got_last (q ∷ r ∷ ps) zero p l e = absurd (omega arith)
+  got_last (q ∷ r ∷ ps) (suc n) p l e = got_last (r ∷ ps) n p (omega arith) e
+
+  pub room_at_last : (ps : List (Vec X A)) (p : Vec X A) → room_at (insert ps (length ps) p) (length ps) ≡ room_in p
+  room_at_last [] p = refl
+  room_at_last (q ∷ ps) p = room_at_last ps p
+
   pub length_at_end : (ps : List (Vec X A)) (p : Vec X A) → length_at (insert ps (length ps) p) (length ps) ≡ length p.items
   length_at_end [] p = refl
   length_at_end (q ∷ ps) p = length_at_end ps p
 
   -- ---- a spot whose piece was split
 
-  module _ (ps qs : List (Vec X A)) (s t : Spot) (low : s.at ≤ 32 → t ≡ s) (up : 32 < s.at → t ≡ record { piece = s.piece + 1; at = s.at - 32 }) where
-    pub split_stands : ((j : ℕ) → stands_at qs s.piece j ≡ stands_at ps s.piece j) → ((j : ℕ) → stands_at qs (s.piece + 1) j ≡ stands_at ps s.piece (32 + j)) → place_of_spot qs t ≡ place_of_spot ps s
-    split_stands lower upper = by (cases_lt 32 s.at)
+  module _ (ps qs : List (Vec X A)) (s t : Spot) (half : ℕ) (low : s.at ≤ half → t ≡ s) (up : half < s.at → t ≡ record { piece = s.piece + 1; at = s.at - half }) where
+    pub split_stands : ((j : ℕ) → stands_at qs s.piece j ≡ stands_at ps s.piece j) → ((j : ℕ) → stands_at qs (s.piece + 1) j ≡ stands_at ps s.piece (half + j)) → place_of_spot qs t ≡ place_of_spot ps s
+    split_stands lower upper = by (cases_lt half s.at)
       where
-        by : (32 < s.at) ⊎ (s.at ≤ 32) → place_of_spot qs t ≡ place_of_spot ps s
+        by : (half < s.at) ⊎ (s.at ≤ half) → place_of_spot qs t ≡ place_of_spot ps s
         by (inl l) =
-            let back : 32 + (s.at - 32) ≡ s.at = omega arith in
-            ap (place_of_spot qs) (up l) ∙ upper (s.at - 32) ∙ ap (λ n. stands_at ps s.piece n) back
+            let back : half + (s.at - half) ≡ s.at = omega (arith, l) in
+            ap (place_of_spot qs) (up l) ∙ upper (s.at - half) ∙ ap (λ n. stands_at ps s.piece n) back
         by (inr l) = ap (place_of_spot qs) (low l) ∙ lower s.at
 
-    pub split_within : s.at < 64 → length_at qs s.piece ≡ 32 → length_at qs (s.piece + 1) ≡ 32 → t.at ≤ length_at qs t.piece
-    split_within few lower upper = by (cases_lt 32 s.at)
+    -- in both parts there is room for what comes
+    pub split_fits : (n : ℕ) → s.at ≤ n → half < n → 0 < half → length_at qs s.piece ≡ half → length_at qs (s.piece + 1) + half ≡ n → n ≤ room_at qs s.piece → n ≤ room_at qs (s.piece + 1)
+        → (t.at ≤ length_at qs t.piece) × (length_at qs t.piece < room_at qs t.piece)
+    split_fits n few more some lower upper lower_room upper_room = by (cases_lt half s.at)
       where
-        by : (32 < s.at) ⊎ (s.at ≤ 32) → t.at ≤ length_at qs t.piece
-        by (inl l) = subst (λ (u : Spot). u.at ≤ length_at qs u.piece) (sym (up l)) (omega (arith, upper))
-        by (inr l) = subst (λ (u : Spot). u.at ≤ length_at qs u.piece) (sym (low l)) (omega (arith, lower))
+        by : (half < s.at) ⊎ (s.at ≤ half) → (t.at ≤ length_at qs t.piece) × (length_at qs t.piece < room_at qs t.piece)
+        by (inl l) = subst (λ (u : Spot). (u.at ≤ length_at qs u.piece) × (length_at qs u.piece < room_at qs u.piece)) (sym (up l)) (omega (arith, upper, few, l), omega (arith, upper, upper_room, some, more))
+        by (inr l) = subst (λ (u : Spot). (u.at ≤ length_at qs u.piece) × (length_at qs u.piece < room_at qs u.piece)) (sym (low l)) (omega (arith, lower, l), omega (arith, lower, lower_room, more))
+
+    pub split_piece : t.piece ≤ s.piece + 1
+    split_piece = by (cases_lt half s.at)
+      where
+        by : (half < s.at) ⊎ (s.at ≤ half) → t.piece ≤ s.piece + 1
+        by (inl l) = subst (λ (u : Spot). u.piece ≤ s.piece + 1) (sym (up l)) (omega arith)
+        by (inr l) = subst (λ (u : Spot). u.piece ≤ s.piece + 1) (sym (low l)) (omega arith)

@@ -97,6 +97,14 @@ length-serials xs =
     ∙ same_length (λ (row : ℕ × Content). (row.0, id_of row.1)) (rows_from 0 xs)
     ∙ length-rows_from 0 xs
 
+-- so the order is as long as the rows
+pub length-order : (rows : List (ℕ × Content)) (next : ℕ) (order : List ℕ) → IsKept rows next order → length order ≡ length rows
+length-order rows next order h =
+    ap length h.ordered
+    ∙ same_length (λ (x : ℕ × Id). x.0) (sorted_ids (ids_of rows))
+    ∙ length-sorted_ids (ids_of rows)
+    ∙ same_length (λ (row : ℕ × Content). (row.0, id_of row.1)) rows
+
 -- rows from 0 on, in the order that a sort gives
 pub shelved_sorted : {A B : Type 0} (rows rows_ready : Vec (Vec (ℕ × Content) A) B) (next : ℕ) (order order_ready : Vec (Vec ℕ A) B) (xs : List Content)
     → joined rows.items ≡ rows_from 0 xs → next ≡ length xs → joined order.items ≡ sorted_serials (rows_from 0 xs) → IsFit rows rows_ready → IsFit order order_ready → IsShelved rows rows_ready next order order_ready

@@ -6,7 +6,7 @@ use Rattle.ctl_store.specs.declared.stanza_key.StanzaKey.{StanzaKey}
 use Rattle.ctl_store.specs.Named.{without_name, change_named}
 use Rattle.ctl_store.specs.State.{StanzaList}
 use Rattle.ctl_store.specs.Step.{remove_stanza, with_stanzas}
-use Rattle.ctl_store.specs.Edits.{Edit, AddList, DropList, Put, Remove, Mark, Unmark, Pin, Unpin, Target, Prefs}
+use Rattle.ctl_store.specs.Edits.{Edit, DropList, Put, Remove}
 use Rattle.ctl_store.specs.Keys.{KeyedList, stanza_lists, key_of, key_is, all_keys, AreRising, stanza_at, coming}
 
 -- a stanza with its key
@@ -63,16 +63,10 @@ stanzas_in_order ls = flat_map (λ (l : List ℕ × StanzaList). l.1.stanzas) ls
 
 -- the lists without the stanzas that an edit takes out, one that is replaced among them
 abbrev pub lists_between : List (List ℕ × StanzaList) → Edit → List (List ℕ × StanzaList)
-lists_between ls (AddList name kind class stanzas) = ls
 lists_between ls (DropList name) = without_name name ls
 lists_between ls (Put list x) = change_named list (with_stanzas (remove_stanza (package_of x) (version_of x))) ls
 lists_between ls (Remove list name version) = change_named list (with_stanzas (remove_stanza name (Some version))) ls
-lists_between ls (Mark name version) = ls
-lists_between ls (Unmark name) = ls
-lists_between ls (Pin selector priority) = ls
-lists_between ls (Unpin selector) = ls
-lists_between ls (Target name) = ls
-lists_between ls (Prefs pins) = ls
+lists_between ls edit = ls
 
 -- What an edit makes of the stanzas of these lists: those of some keys go, and others come in their place.
 pub record IsChange (before after : List (List ℕ × KeyedList)) (removed added : List StanzaKey) (edit : Edit) : Type 0 where

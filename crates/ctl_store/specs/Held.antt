@@ -1,5 +1,5 @@
 -- A store with its rooms: how much more it takes without memory.
-use Rattle.std.specs.Prelude.{◌≡◌, ℕ, ℤ, ◌+◌, ◌<◌, ◌≤◌, suc, List, [], ◌∷◌, map, length, Option, None, Some, IfSome, Vec, nat_eq, if◌then◌else◌}
+use Rattle.std.specs.Prelude.{◌≡◌, ℕ, ℤ, ◌+◌, ◌<◌, ◌≤◌, min, suc, List, [], ◌∷◌, map, length, Option, None, Some, IfSome, Vec, nat_eq, if◌then◌else◌}
 use Rattle.std.specs.List.{IsDistinct, slice_index_or}
 use Rattle.std.specs.Map.{keys_of as names_of}
 use Rattle.std.specs.FinMap as fin
@@ -13,14 +13,14 @@ use Rattle.ctl_store.specs.Limits.{most}
 use Rattle.ctl_store.specs.Named.{at_name}
 use Rattle.ctl_store.specs.Pins.{selector_eq}
 use Rattle.ctl_store.specs.State.{State, stanza_count, status_count}
-use Rattle.ctl_store.specs.Edits.{Edit, AddList, DropList, Put, Remove, Mark, Unmark, Pin, Unpin, Target, Prefs}
+use Rattle.ctl_store.specs.Edits.{Edit, AddList, Put, Mark, Pin, Prefs}
 use Rattle.ctl_store.specs.Step.{refusal_of}
 use Rattle.ctl_store.specs.Rows.{Rises, IsKept, replace_at}
-use Rattle.ctl_store.specs.Pieces.{joined, IsFit}
+use Rattle.ctl_store.specs.Pieces.{most_in_piece, joined, IsFit}
 use Rattle.ctl_store.specs.Keys.{KeyedList, Keyed, stanza_lists, removed_of, added_of, coming, AreComing, AreHeld, AreNew}
 use Rattle.ctl_store.specs.Followed.{coming_under}
 
--- a list with the room for more of its rows, and in its order
+-- a list with the pieces that are ready for its rows, and the room in the one that is ready for its order
 pub record Sheet : Type 0 where
   pub serial : ℕ
   pub kind : ListKind
@@ -143,7 +143,7 @@ ready_of plan = record { list_room = plan.list_room; pins_room = plan.pins_room 
 -- there is room for one stanza more in a list
 pub record HasRoomInList (s : Sheet) : Type 0 where
   pub row : 0 < s.room
-  pub order : 0 < s.order_room
+  pub order : min most_in_piece (length s.rows + 1) ≤ s.order_room
 
 -- what is made ready for a new list
 pub record HasRoomForList (h : Held) (stanzas : List Content) (ready : Ready) : Type 0 where
@@ -162,54 +162,30 @@ pub record HasRoomForPins (pins : List (Selector × ℤ)) (ready : Ready) : Type
 -- there is room for the edit
 abbrev pub HasRoom : Held → Ready → Edit → Type 0
 HasRoom h ready (AddList name kind class stanzas) = HasRoomForList h stanzas ready
-HasRoom h ready (DropList name) = Unit {0}
 HasRoom h ready (Put list x) = IfSome (at_name list h.lists) HasRoomInList
-HasRoom h ready (Remove list name version) = Unit {0}
 HasRoom h ready (Mark name version) = 0 < h.marks_room
-HasRoom h ready (Unmark name) = Unit {0}
 HasRoom h ready (Pin selector priority) = 0 < h.pins_room
-HasRoom h ready (Unpin selector) = Unit {0}
-HasRoom h ready (Target name) = Unit {0}
 HasRoom h ready (Prefs pins) = HasRoomForPins pins ready
+HasRoom h ready edit = Unit {0}
 
 -- there is room for the edit in the store
 abbrev pub HasRoomIn : Held → Edit → Type 0
 HasRoomIn h (AddList name kind class stanzas) = 0 < h.lists_room
-HasRoomIn h (DropList name) = Unit {0}
 HasRoomIn h (Put list x) = IfSome (at_name list h.lists) HasRoomInList
-HasRoomIn h (Remove list name version) = Unit {0}
 HasRoomIn h (Mark name version) = 0 < h.marks_room
-HasRoomIn h (Unmark name) = Unit {0}
 HasRoomIn h (Pin selector priority) = 0 < h.pins_room
-HasRoomIn h (Unpin selector) = Unit {0}
-HasRoomIn h (Target name) = Unit {0}
-HasRoomIn h (Prefs pins) = Unit {0}
+HasRoomIn h edit = Unit {0}
 
 -- what is made ready for a new list, and for pin settings
 abbrev pub IsReadyFor : Edit → Ready → Type 0
 IsReadyFor (AddList name kind class stanzas) ready = Fits (length stanzas) ready.list_room
-IsReadyFor (DropList name) ready = Unit {0}
-IsReadyFor (Put list x) ready = Unit {0}
-IsReadyFor (Remove list name version) ready = Unit {0}
-IsReadyFor (Mark name version) ready = Unit {0}
-IsReadyFor (Unmark name) ready = Unit {0}
-IsReadyFor (Pin selector priority) ready = Unit {0}
-IsReadyFor (Unpin selector) ready = Unit {0}
-IsReadyFor (Target name) ready = Unit {0}
 IsReadyFor (Prefs pins) ready = length pins ≤ ready.pins_room
+IsReadyFor edit ready = Unit {0}
 
 -- an edit in which no selector stands twice
 abbrev pub IsProper : Edit → Type 0
-IsProper (AddList name kind class stanzas) = Unit {0}
-IsProper (DropList name) = Unit {0}
-IsProper (Put list x) = Unit {0}
-IsProper (Remove list name version) = Unit {0}
-IsProper (Mark name version) = Unit {0}
-IsProper (Unmark name) = Unit {0}
-IsProper (Pin selector priority) = Unit {0}
-IsProper (Unpin selector) = Unit {0}
-IsProper (Target name) = Unit {0}
 IsProper (Prefs pins) = AreDistinct pins
+IsProper edit = Unit {0}
 
 -- A plan whose edit is accepted, for which there is room, and whose keys are those that go and come. Each that goes has
 -- a stanza, and one that only comes has none.

@@ -12,7 +12,7 @@ use Rattle.ctl_store.specs.declared.list_class.ListClass.{ListClass}
 use Rattle.ctl_store.specs.declared.stanza_key.StanzaKey.{StanzaKey}
 use Rattle.ctl_store.specs.Named.{at_name, without_name, change_named}
 use Rattle.ctl_store.specs.State.{StanzaList}
-use Rattle.ctl_store.specs.Edits.{Edit, AddList, DropList, Put, Remove, Mark, Unmark, Pin, Unpin, Target, Prefs}
+use Rattle.ctl_store.specs.Edits.{Edit, AddList, DropList, Put, Remove}
 use Rattle.ctl_store.specs.Step.{place}
 use Rattle.ctl_store.specs.Rows.{by_name_and_version, rows_from, put_row, next_after_put, remove_row}
 
@@ -60,12 +60,7 @@ keyed_after k (AddList name kind class stanzas) = record { lists = k.lists ++ (n
 keyed_after k (DropList name) = record k { lists = without_name name k.lists }
 keyed_after k (Put list content) = record k { lists = change_named list (put_keyed content) k.lists }
 keyed_after k (Remove list name version) = record k { lists = change_named list (remove_keyed name (Some version)) k.lists }
-keyed_after k (Mark name version) = k
-keyed_after k (Unmark name) = k
-keyed_after k (Pin selector priority) = k
-keyed_after k (Unpin selector) = k
-keyed_after k (Target name) = k
-keyed_after k (Prefs pins) = k
+keyed_after k edit = k
 
 -- ---- keys
 
@@ -148,55 +143,28 @@ all_in list ls = option_map_or keys_of (at_name list ls) []
 
 -- the key of the stanza that an edit takes out or replaces
 abbrev pub found_of : Keyed → Edit → List StanzaKey
-found_of k (AddList name kind class stanzas) = []
-found_of k (DropList name) = []
 found_of k (Put list x) = found_in list (package_of x) (version_of x) k.lists
 found_of k (Remove list name version) = found_in list name (Some version) k.lists
-found_of k (Mark name version) = []
-found_of k (Unmark name) = []
-found_of k (Pin selector priority) = []
-found_of k (Unpin selector) = []
-found_of k (Target name) = []
-found_of k (Prefs pins) = []
+found_of k edit = []
 
 -- the keys that go
 abbrev pub removed_of : Keyed → Edit → List StanzaKey
-removed_of k (AddList name kind class stanzas) = []
 removed_of k (DropList name) = all_in name k.lists
 removed_of k (Put list x) = found_in list (package_of x) (version_of x) k.lists
 removed_of k (Remove list name version) = found_in list name (Some version) k.lists
-removed_of k (Mark name version) = []
-removed_of k (Unmark name) = []
-removed_of k (Pin selector priority) = []
-removed_of k (Unpin selector) = []
-removed_of k (Target name) = []
-removed_of k (Prefs pins) = []
+removed_of k edit = []
 
 -- The keys that come. That of a stanza that replaces another both goes and comes.
 abbrev pub added_of : Keyed → Edit → List StanzaKey
 added_of k (AddList name kind class stanzas) = keys_of (list_of_stanzas k.next_list kind class stanzas)
-added_of k (DropList name) = []
 added_of k (Put list x) = kept_in list x k.lists
-added_of k (Remove list name version) = []
-added_of k (Mark name version) = []
-added_of k (Unmark name) = []
-added_of k (Pin selector priority) = []
-added_of k (Unpin selector) = []
-added_of k (Target name) = []
-added_of k (Prefs pins) = []
+added_of k edit = []
 
 -- the stanza that comes under a key
 abbrev pub coming : Edit → StanzaKey → Option Content
 coming (AddList name kind class stanzas) k = slice_get stanzas k.stanza
-coming (DropList name) k = None
 coming (Put list x) k = Some x
-coming (Remove list name version) k = None
-coming (Mark name version) k = None
-coming (Unmark name) k = None
-coming (Pin selector priority) k = None
-coming (Unpin selector) k = None
-coming (Target name) k = None
-coming (Prefs pins) k = None
+coming edit k = None
 
 -- under each key a stanza comes
 abbrev pub AreComing : List StanzaKey → Edit → Type 0

@@ -94,16 +94,9 @@ has_stanza list name version lists = option_map_or (λ (l : StanzaList). is_some
 
 -- whether the stanza that an edit takes out or replaces is there
 abbrev pub is_there : State → Edit → Bool
-is_there s (AddList name kind class stanzas) = false
-is_there s (DropList name) = false
 is_there s (Put list content) = has_stanza list (package_of content) (version_of content) s.lists
 is_there s (Remove list name version) = has_stanza list name (Some version) s.lists
-is_there s (Mark name version) = false
-is_there s (Unmark name) = false
-is_there s (Pin selector priority) = false
-is_there s (Unpin selector) = false
-is_there s (Target name) = false
-is_there s (Prefs pins) = false
+is_there s edit = false
 
 -- why an edit does not fit the state, the limits aside
 abbrev pub misfit_of : State → Edit → Option Refusal
@@ -111,25 +104,15 @@ misfit_of s (AddList name kind class stanzas) = option_or (when (has_name name s
 misfit_of s (DropList name) = when (not (has_name name s.lists)) NoList
 misfit_of s (Put list content) = when (not (has_name list s.lists)) NoList
 misfit_of s (Remove list name version) = option_or (when (not (has_name list s.lists)) NoList) (when (not (has_stanza list name (Some version) s.lists)) NoStanza)
-misfit_of s (Mark name version) = None
 misfit_of s (Unmark name) = when (not (is_some (fin.get s.marks name))) NoMark
-misfit_of s (Pin selector priority) = None
 misfit_of s (Unpin selector) = when (not (is_some (lookup (selector_eq selector) s.pins))) NoPin
-misfit_of s (Target name) = None
-misfit_of s (Prefs pins) = None
+misfit_of s edit = None
 
 -- how many stanzas an edit brings beside those that it replaces
 abbrev pub count_coming : State → Edit → ℕ
 count_coming s (AddList name kind class stanzas) = length stanzas
-count_coming s (DropList name) = 0
 count_coming s (Put list content) = if has_stanza list (package_of content) (version_of content) s.lists then 0 else 1
-count_coming s (Remove list name version) = 0
-count_coming s (Mark name version) = 0
-count_coming s (Unmark name) = 0
-count_coming s (Pin selector priority) = 0
-count_coming s (Unpin selector) = 0
-count_coming s (Target name) = 0
-count_coming s (Prefs pins) = 0
+count_coming s edit = 0
 
 -- more stanzas or more accepted edits than the limits allow
 abbrev pub is_past : Limits → State → Bool

@@ -1,14 +1,20 @@
 //! Sequences in pieces, so that what comes or goes moves the items of one piece only.
 
-ghost use Rattle.std.specs.Prelude.{◌≡◌, ◌+◌, ◌-◌, ◌^◌, ◌<◌, ◌≤◌, ◌∷◌, ◌++◌, [], ℕ, length, drop, vec_len, insert, OnOk, IfOk};
+ghost use Rattle.std.specs.Prelude.{◌≡◌, ◌+◌, ◌-◌, ◌^◌, ◌<◌, ◌≤◌, ◌∷◌, ◌++◌, [], ℕ, true, min, length, drop, vec_len, insert, OnOk, IfOk};
 ghost use Rattle.std.specs.List.{remove};
 ghost use Rattle.std.specs.Vec.{vec_capacity};
-ghost use Rattle.ctl_store.specs.Pieces.{most_in_piece, half_of_piece, joined, length_at, stands_at, place_of_spot, IsSpot, IsSpotOrEnd, IsFit, IsReadyPiece, ArePieces, AreReady, free_at_end, room_at_end};
+ghost use Rattle.ctl_store.specs.Pieces.{most_in_piece, least_room, joined, length_at, room_in, room_at, stands_at, place_of_spot, IsSpot, IsSpotOrEnd, IsFit, IsReadyPiece, ArePieces, AreReady, HasRoomFor, free_at_end, room_of_all, room_of_last, room_at_end};
 
 use std::alloc::{AllocError, Global};
 
 /// How many items a piece holds at most.
 pub(crate) const MOST: usize = 64;
+
+// How many each piece has room for at least.
+const LEAST: usize = 4;
+
+// Neighbouring pieces that have no more items together are joined, so that some can come before the piece is split again.
+const JOINED: usize = 32;
 
 /// Where an item stands: the place of its piece, and its place in the piece.
 #[derive(Clone, Copy)]
@@ -17,11 +23,11 @@ pub(crate) struct Spot {
     pub(crate) at: usize,
 }
 
-/// A sequence in pieces of at most 64 items, none of which is empty.
+/// A sequence in pieces of at most 64 items, none of which is empty. The pieces of a short sequence are small.
 #[derive(Drop)]
 pub(crate) struct Pieces<T> {
     pub(crate) pieces: Vec<Vec<T>>,
-    // Empty pieces, each with the room for all items of one.
+    // Empty pieces for what comes, the last first. There are some only while an edit is prepared.
     ready: Vec<Vec<T>>,
 }
 
@@ -43,10 +49,9 @@ impl<T: Drop> Pieces<T> {
         ensures none { IfOk result (λ it. it.pieces.items ≡ []) }
         ensures room { IfOk result (λ it. items ≤ room_at_end it.pieces it.ready) }
     {
-        let wanted = items.div_ceil(MOST);
+        let ready = ready_pieces(alloc, items)?;
         let mut pieces = Vec::new(alloc);
-        pieces.reserve(wanted)?;
-        let ready = ready_pieces(alloc, wanted)?;
+        pieces.reserve_exact(ready.len())?;
         Ok(Pieces { pieces, ready })
     }
 
@@ -62,9 +67,20 @@ impl<T: Drop> Pieces<T> {
         requires { IsFit self.old.pieces self.old.ready }
         ensures fit { IsFit self.new.pieces self.new.ready }
         ensures items { self.new.pieces.items ≡ self.old.pieces.items }
-        ensures ok { OnOk result (0 < vec_len self.new.ready) }
+        ensures some { OnOk result (0 < vec_len self.new.ready) }
+        ensures room { OnOk result (HasRoomFor (length (joined self.new.pieces.items)) self.new.ready) }
     {
         reserve_piece(&mut self.pieces, &mut self.ready, alloc)
+    }
+
+    /// The room that was made and not taken goes.
+    pub(crate) fn forget_room(&mut self)
+        requires { IsFit self.old.pieces self.old.ready }
+        ensures fit { IsFit self.new.pieces self.new.ready }
+        ensures items { self.new.pieces.items ≡ self.old.pieces.items }
+    {
+        self.ready.clear();
+        self.ready.shrink_to_fit();
     }
 
     /// Adds a last item, for which there is room.
@@ -90,7 +106,7 @@ impl<T: Drop> Pieces<T> {
         }
     }
 
-    /// Takes an item out. A piece that is empty then goes, with its memory.
+    /// Takes an item out. A piece that is empty then goes, with its memory, and one with few items is joined with a neighbour.
     pub(crate) fn remove(&mut self, spot: Spot)
         requires fit { IsFit self.old.pieces self.old.ready }
         requires spot { IsSpot self.old.pieces.items spot }
@@ -98,6 +114,8 @@ impl<T: Drop> Pieces<T> {
         ensures items { joined self.new.pieces.items ≡ remove (joined self.old.pieces.items) (place_of_spot self.old.pieces.items spot) }
     {
         remove_at(&mut self.pieces, spot);
+        shrink_only(&mut self.pieces);
+        shrink_pieces(&mut self.pieces, self.ready.len());
     }
 }
 
@@ -106,7 +124,7 @@ impl Pieces<u64> {
     pub(crate) fn insert(&mut self, spot: Spot, item: u64)
         requires fit { IsFit self.old.pieces self.old.ready }
         requires spot { IsSpotOrEnd self.old.pieces.items spot }
-        requires room { 0 < vec_len self.old.ready }
+        requires room { HasRoomFor (length (joined self.old.pieces.items)) self.old.ready }
         ensures fit { IsFit self.new.pieces self.new.ready }
         ensures items { joined self.new.pieces.items ≡ insert (joined self.old.pieces.items) (place_of_spot self.old.pieces.items spot) item }
     {
@@ -114,16 +132,69 @@ impl Pieces<u64> {
     }
 }
 
-// So many empty pieces.
-fn ready_pieces<T: Drop>(alloc: Global, wanted: usize) -> Result<Vec<Vec<T>>, AllocError>
-    ensures len { IfOk result (λ ready. vec_len ready ≡ wanted) }
+// Empty pieces for so many items. The one that need not be full is taken last.
+fn ready_pieces<T: Drop>(alloc: Global, items: usize) -> Result<Vec<Vec<T>>, AllocError>
     ensures ready { IfOk result (λ ready. AreReady ready.items) }
+    ensures room { IfOk result (λ ready. items ≤ room_of_all ready.items) }
 {
-    let mut ready = Vec::with_capacity(alloc, wanted)?;
-    while ready.len() < wanted {
-        ready.push(Vec::with_capacity(alloc, MOST)?)?;
+    let mut ready = Vec::with_capacity(alloc, items.div_ceil(MOST))?;
+    let mut room: usize = 0;
+    while room < items {
+        let left = (items - room) % MOST;
+        let more = if left == 0 { MOST } else { left };
+        push_ready(
+            &mut ready,
+            Vec::with_capacity(alloc, more.max(LEAST))?,
+            more,
+        )?;
+        room = room.saturating_add(more);
     }
     Ok(ready)
+}
+
+// Adds an empty piece, which has room for so many items.
+fn push_ready<T: Drop>(
+    ready: &mut Vec<Vec<T>>,
+    piece: Vec<T>,
+    items: usize,
+) -> Result<(), AllocError>
+    requires ready { AreReady ready.old.items }
+    requires piece { IsReadyPiece piece }
+    requires items { items ≤ room_in piece }
+    ensures ready { OnOk result (AreReady ready.new.items) }
+    ensures room { OnOk result (room_of_all ready.old.items + items ≤ room_of_all ready.new.items) }
+{
+    ready.push(piece)?;
+    Ok(())
+}
+
+// How large a piece is to be that has room for an item wherever it comes.
+fn room_for<T: Drop>(pieces: &[Vec<T>]) -> usize
+    requires { ArePieces pieces.now }
+    ensures room { min most_in_piece (length (joined pieces.now) + 1) ≤ result }
+    ensures least { least_room ≤ result }
+    ensures most { result ≤ most_in_piece }
+{
+    let mut items = 0;
+    let mut left = pieces;
+    'pieces: while let Some((piece, rest)) = left.split_first() {
+        items += piece.len();
+        if items >= MOST {
+            return MOST;
+        }
+        left = rest;
+    }
+    (items + 1).max(LEAST)
+}
+
+// How many items the piece that is taken first has room for.
+fn room_of_last<T>(ready: &[Vec<T>]) -> usize
+    ensures { result ≡ room_of_last ready.now }
+{
+    match ready.last() {
+        Some(piece) => MOST.min(piece.capacity()),
+        None => 0,
+    }
 }
 
 fn reserve_piece<T: Drop>(
@@ -134,13 +205,16 @@ fn reserve_piece<T: Drop>(
     requires { IsFit pieces.old ready.old }
     ensures fit { IsFit pieces.new ready.new }
     ensures items { pieces.new.items ≡ pieces.old.items }
-    ensures ok { OnOk result (0 < vec_len ready.new) }
+    ensures some { OnOk result (0 < vec_len ready.new) }
+    ensures room { OnOk result (HasRoomFor (length (joined pieces.new.items)) ready.new) }
 {
-    if !ready.is_empty() {
+    let room = room_for(pieces);
+    if room <= room_of_last(ready) {
         return Ok(());
     }
+    ready.clear();
     pieces.reserve(1)?;
-    ready.push(Vec::with_capacity(alloc, MOST)?)?;
+    ready.push(Vec::with_capacity(alloc, room)?)?;
     Ok(())
 }
 
@@ -151,6 +225,7 @@ fn take_ready<T: Drop>(ready: &mut Vec<Vec<T>>) -> Vec<T>
     ensures ready { AreReady ready.new.items }
     ensures len { vec_len ready.new + 1 ≡ vec_len ready.old }
     ensures piece { IsReadyPiece result }
+    ensures items { ready.old.items ≡ ready.new.items ++ result ∷ [] }
 {
     match ready.pop() {
         Some(piece) => piece,
@@ -178,7 +253,7 @@ fn insert_in<T: Drop>(piece: &mut Vec<T>, at: usize, item: T)
     requires room { vec_len piece.old < vec_capacity piece.old }
     ensures items { piece.new.items ≡ insert piece.old.items at item }
     ensures len { vec_len piece.new ≡ vec_len piece.old + 1 }
-    ensures capacity { vec_capacity piece.old ≤ vec_capacity piece.new }
+    ensures capacity { vec_capacity piece.new ≡ vec_capacity piece.old }
 {
     match piece.insert(at, item) {
         Ok(()) => {}
@@ -186,19 +261,27 @@ fn insert_in<T: Drop>(piece: &mut Vec<T>, at: usize, item: T)
     }
 }
 
-// Puts an item into the piece of a spot, which is not full.
+// Puts an item into the piece of a spot, which has room for it.
 fn insert_within<T: Drop>(pieces: &mut Vec<Vec<T>>, spot: Spot, item: T)
     requires pieces { ArePieces pieces.old.items }
     requires piece { spot.piece < vec_len pieces.old }
     requires at { spot.at ≤ length_at pieces.old.items spot.piece }
-    requires few { length_at pieces.old.items spot.piece < most_in_piece }
+    requires few { length_at pieces.old.items spot.piece < room_at pieces.old.items spot.piece }
     ensures pieces { ArePieces pieces.new.items }
     ensures len { vec_len pieces.new ≡ vec_len pieces.old }
     ensures capacity { vec_capacity pieces.new ≡ vec_capacity pieces.old }
     ensures length { length_at pieces.new.items spot.piece ≡ length_at pieces.old.items spot.piece + 1 }
+    ensures room { room_at pieces.new.items spot.piece ≡ room_at pieces.old.items spot.piece }
     ensures items { joined pieces.new.items ≡ insert (joined pieces.old.items) (place_of_spot pieces.old.items spot) item }
 {
     insert_in(&mut pieces[spot.piece], spot.at, item);
+}
+
+// How many items more a piece takes.
+fn free_in<T>(piece: &Vec<T>) -> usize
+    ensures { result ≡ room_in piece.now - vec_len piece.now }
+{
+    MOST.min(piece.capacity()).saturating_sub(piece.len())
 }
 
 // How many items more the last piece takes.
@@ -206,7 +289,7 @@ fn free_in_last<T>(pieces: &[Vec<T>]) -> usize
     ensures { result ≡ free_at_end pieces.now }
 {
     match pieces.last() {
-        Some(last) => MOST.saturating_sub(last.len()),
+        Some(last) => free_in(last),
         None => 0,
     }
 }
@@ -233,66 +316,169 @@ fn push_last<T: Drop>(pieces: &mut Vec<Vec<T>>, ready: &mut Vec<Vec<T>>, item: T
     }
 }
 
+// Whether a piece has room for the items of another, and both have few.
+fn takes<T: Drop>(piece: &Vec<T>, next: &Vec<T>) -> bool
+    requires { 0 < vec_len next.now }
+    ensures { result ≡ true → vec_len piece.now + vec_len next.now ≤ room_in piece.now }
+{
+    next.len() <= free_in(piece) && next.len() <= JOINED.saturating_sub(piece.len())
+}
+
+// Whether a piece takes the items of the one behind it, and they are few.
+fn takes_next<T: Drop>(pieces: &[Vec<T>], at: usize) -> bool
+    requires pieces { ArePieces pieces.now }
+    requires within { at < length pieces.now }
+    ensures next { result ≡ true → at + 1 < length pieces.now }
+    ensures room { result ≡ true → length_at pieces.now at + length_at pieces.now (at + 1) ≤ room_at pieces.now at }
+{
+    if at + 1 >= pieces.len() {
+        return false;
+    }
+    let piece = &pieces[at];
+    let next = &pieces[at + 1];
+    takes(piece, next)
+}
+
+// Moves the items of the next piece into a piece, which has room for them.
+fn join_next<T: Drop>(pieces: &mut Vec<Vec<T>>, at: usize)
+    requires pieces { ArePieces pieces.old.items }
+    requires next { at + 1 < vec_len pieces.old }
+    requires room { length_at pieces.old.items at + length_at pieces.old.items (at + 1) ≤ room_at pieces.old.items at }
+    ensures pieces { ArePieces pieces.new.items }
+    ensures len { vec_len pieces.new ≤ vec_len pieces.old }
+    ensures capacity { vec_capacity pieces.new ≡ vec_capacity pieces.old }
+    ensures items { joined pieces.new.items ≡ joined pieces.old.items }
+{
+    let mut next = pieces.remove(at + 1);
+    match pieces[at].append(&mut next) {
+        Ok(()) => {}
+        Err(_) => unreachable!(),
+    }
+}
+
+// Joins a piece with a neighbour, if there are few items in both.
+fn join_around<T: Drop>(pieces: &mut Vec<Vec<T>>, at: usize)
+    requires pieces { ArePieces pieces.old.items }
+    requires within { at < vec_len pieces.old }
+    ensures pieces { ArePieces pieces.new.items }
+    ensures len { vec_len pieces.new ≤ vec_len pieces.old }
+    ensures capacity { vec_capacity pieces.new ≡ vec_capacity pieces.old }
+    ensures items { joined pieces.new.items ≡ joined pieces.old.items }
+{
+    if takes_next(pieces, at) {
+        join_next(pieces, at);
+    } else if at > 0 && takes_next(pieces, at - 1) {
+        join_next(pieces, at - 1);
+    }
+}
+
+// Takes an item out of its piece, in which there are others.
+fn remove_within<T: Drop>(pieces: &mut Vec<Vec<T>>, spot: Spot)
+    requires pieces { ArePieces pieces.old.items }
+    requires spot { IsSpot pieces.old.items spot }
+    requires others { 1 < length_at pieces.old.items spot.piece }
+    ensures pieces { ArePieces pieces.new.items }
+    ensures len { vec_len pieces.new ≡ vec_len pieces.old }
+    ensures capacity { vec_capacity pieces.new ≡ vec_capacity pieces.old }
+    ensures items { joined pieces.new.items ≡ remove (joined pieces.old.items) (place_of_spot pieces.old.items spot) }
+{
+    let _ = pieces[spot.piece].remove(spot.at);
+}
+
 fn remove_at<T: Drop>(pieces: &mut Vec<Vec<T>>, spot: Spot)
     requires pieces { ArePieces pieces.old.items }
     requires spot { IsSpot pieces.old.items spot }
     ensures pieces { ArePieces pieces.new.items }
     ensures len { vec_len pieces.new ≤ vec_len pieces.old }
-    ensures capacity { vec_capacity pieces.old ≤ vec_capacity pieces.new }
+    ensures capacity { vec_capacity pieces.new ≡ vec_capacity pieces.old }
     ensures items { joined pieces.new.items ≡ remove (joined pieces.old.items) (place_of_spot pieces.old.items spot) }
 {
     if pieces[spot.piece].len() > 1 {
-        let _ = pieces[spot.piece].remove(spot.at);
+        remove_within(pieces, spot);
+        join_around(pieces, spot.piece);
     } else {
         let _ = pieces.remove(spot.piece);
     }
 }
 
-// The upper half of a full piece.
-fn upper_half(piece: &[u64]) -> &[u64]
-    requires { length piece.now ≡ most_in_piece }
-    ensures items { result.now ≡ drop half_of_piece piece.now }
-    ensures len { length result.now ≡ half_of_piece }
+// Gives back the memory of an only piece that has room for many more.
+fn shrink_only<T: Drop>(pieces: &mut Vec<Vec<T>>)
+    requires { ArePieces pieces.old.items }
+    ensures pieces { ArePieces pieces.new.items }
+    ensures len { vec_len pieces.new ≡ vec_len pieces.old }
+    ensures capacity { vec_capacity pieces.new ≡ vec_capacity pieces.old }
+    ensures items { joined pieces.new.items ≡ joined pieces.old.items }
 {
-    &piece[MOST / 2..]
+    if pieces.len() == 1 {
+        let wanted = pieces[0].len().saturating_mul(2).max(LEAST);
+        if wanted <= pieces[0].capacity() / 2 {
+            pieces[0].shrink_to(wanted);
+        }
+    }
 }
 
-// Moves the upper half of a full piece into another, which comes behind it.
-fn split(pieces: &mut Vec<Vec<u64>>, at: usize, mut upper: Vec<u64>)
+// Gives back the memory for many more pieces than there are, but for so many.
+fn shrink_pieces<T: Drop>(pieces: &mut Vec<Vec<T>>, more: usize)
+    requires { vec_len pieces.old + more ≤ vec_capacity pieces.old }
+    ensures items { pieces.new.items ≡ pieces.old.items }
+    ensures len { vec_len pieces.new ≡ vec_len pieces.old }
+    ensures room { vec_len pieces.new + more ≤ vec_capacity pieces.new }
+{
+    let wanted = pieces.len().saturating_mul(2).saturating_add(more);
+    if wanted <= pieces.capacity() / 2 {
+        pieces.shrink_to(wanted);
+    }
+}
+
+// The items of a piece from a place on.
+fn upper_part(piece: &[u64], half: usize) -> &[u64]
+    requires { half ≤ length piece.now }
+    ensures items { result.now ≡ drop half piece.now }
+    ensures len { length result.now + half ≡ length piece.now }
+{
+    &piece[half..]
+}
+
+// Moves the items of a piece from a place on into another, which comes behind it.
+fn split(pieces: &mut Vec<Vec<u64>>, at: usize, half: usize, mut upper: Vec<u64>)
     requires pieces { ArePieces pieces.old.items }
     requires within { at < vec_len pieces.old }
-    requires full { length_at pieces.old.items at ≡ most_in_piece }
+    requires lower { 0 < half }
+    requires some { half < length_at pieces.old.items at }
     requires upper { IsReadyPiece upper }
+    requires fits { length_at pieces.old.items at ≤ room_in upper }
     requires room { vec_len pieces.old < vec_capacity pieces.old }
     ensures pieces { ArePieces pieces.new.items }
     ensures len { vec_len pieces.new ≡ vec_len pieces.old + 1 }
     ensures capacity { vec_capacity pieces.old ≤ vec_capacity pieces.new }
     ensures items { joined pieces.new.items ≡ joined pieces.old.items }
-    ensures lower_length { length_at pieces.new.items at ≡ half_of_piece }
-    ensures upper_length { length_at pieces.new.items (at + 1) ≡ half_of_piece }
+    ensures lower_length { length_at pieces.new.items at ≡ half }
+    ensures upper_length { length_at pieces.new.items (at + 1) + half ≡ length_at pieces.old.items at }
+    ensures lower_room { room_at pieces.new.items at ≡ room_at pieces.old.items at }
+    ensures upper_room { length_at pieces.old.items at ≤ room_at pieces.new.items (at + 1) }
     ensures lower { (j : ℕ) → stands_at pieces.new.items at j ≡ stands_at pieces.old.items at j }
-    ensures upper { (j : ℕ) → stands_at pieces.new.items (at + 1) j ≡ stands_at pieces.old.items at (half_of_piece + j) }
+    ensures upper { (j : ℕ) → stands_at pieces.new.items (at + 1) j ≡ stands_at pieces.old.items at (half + j) }
 {
-    match upper.extend_from_slice(upper_half(&pieces[at])) {
+    match upper.extend_from_slice(upper_part(&pieces[at], half)) {
         Ok(()) => {}
         Err(_) => unreachable!(),
     }
-    pieces[at].truncate(MOST / 2);
+    pieces[at].truncate(half);
     insert_piece(pieces, at + 1, upper);
 }
 
-// The spot, after the piece was split, of what came at a place of it.
-fn spot_after_split(spot: Spot) -> Spot
+// The spot, after its piece was split at a place, of what came at a place of it.
+fn spot_after_split(spot: Spot, half: usize) -> Spot
     requires { spot.piece + 1 < 2 ^ 64 }
-    ensures lower { spot.at ≤ half_of_piece → result ≡ spot }
-    ensures upper { half_of_piece < spot.at → result ≡ record { piece = spot.piece + 1; at = spot.at - half_of_piece } }
+    ensures lower { spot.at ≤ half → result ≡ spot }
+    ensures upper { half < spot.at → result ≡ record { piece = spot.piece + 1; at = spot.at - half } }
 {
-    if spot.at <= MOST / 2 {
+    if spot.at <= half {
         spot
     } else {
         Spot {
             piece: spot.piece + 1,
-            at: spot.at - MOST / 2,
+            at: spot.at - half,
         }
     }
 }
@@ -300,16 +486,17 @@ fn spot_after_split(spot: Spot) -> Spot
 fn insert_at(pieces: &mut Vec<Vec<u64>>, ready: &mut Vec<Vec<u64>>, spot: Spot, item: u64)
     requires fit { IsFit pieces.old ready.old }
     requires spot { IsSpotOrEnd pieces.old.items spot }
-    requires room { 0 < vec_len ready.old }
+    requires room { HasRoomFor (length (joined pieces.old.items)) ready.old }
     ensures fit { IsFit pieces.new ready.new }
     ensures items { joined pieces.new.items ≡ insert (joined pieces.old.items) (place_of_spot pieces.old.items spot) item }
 {
     if spot.piece >= pieces.len() {
         push_last(pieces, ready, item);
-    } else if pieces[spot.piece].len() < MOST {
+    } else if free_in(&pieces[spot.piece]) > 0 {
         insert_within(pieces, spot, item);
     } else {
-        split(pieces, spot.piece, take_ready(ready));
-        insert_within(pieces, spot_after_split(spot), item);
+        let half = pieces[spot.piece].len() / 2;
+        split(pieces, spot.piece, half, take_ready(ready));
+        insert_within(pieces, spot_after_split(spot, half), item);
     }
 }

@@ -1,12 +1,12 @@
 //! The stanzas of one list.
 
-ghost use Rattle.std.specs.Prelude.{◌≡◌, ◌<◌, ◌≤◌, ◌+◌, ◌-◌, ◌^◌, [], Option, Some, OnOk, IfOk, vec_len, map, is_some, nat_eq, option_copied};
+ghost use Rattle.std.specs.Prelude.{◌≡◌, ◌<◌, ◌≤◌, ◌+◌, ◌-◌, ◌^◌, [], Option, Some, OnOk, IfOk, min, length, vec_len, map, is_some, nat_eq, option_copied};
 ghost use Rattle.std.specs.Map.{lookup};
 ghost use Rattle.std.specs.Option.{option_to_list};
 ghost use Rattle.std.specs.Vec.{vec_capacity};
 ghost use Rattle.ctl_store.specs.Step.{place};
 ghost use Rattle.ctl_store.specs.Rows.{by_name_and_version, put_row, next_after_put, remove_row, rows_from};
-ghost use Rattle.ctl_store.specs.Pieces.{joined, IsFit, room_at_end};
+ghost use Rattle.ctl_store.specs.Pieces.{most_in_piece, joined, IsFit, HasRoomFor, room_at_end};
 ghost use Rattle.ctl_store.specs.Keys.{keys_of, found_key};
 ghost use Rattle.ctl_store.specs.Entries.{entries_in};
 ghost use Rattle.ctl_store.specs.ByName.{keys_by_name};
@@ -37,12 +37,12 @@ pub(crate) struct Shelf {
 
 impl Model for Shelf {
     ghost use Rattle.std.specs.Prelude.{vec_len};
-    ghost use Rattle.ctl_store.specs.Pieces.{joined};
+    ghost use Rattle.ctl_store.specs.Pieces.{joined, room_of_last};
     ghost use Rattle.ctl_store.specs.Held.{Sheet, IsShelved};
 
     ghost Value = { Sheet };
 
-    ghost view = { λ s. record { serial = s.serial; kind = s.kind; class = s.class; next = s.next; rows = joined s.rows.pieces.items; room = vec_len s.rows.ready; order_room = vec_len s.order.ready } };
+    ghost view = { λ s. record { serial = s.serial; kind = s.kind; class = s.class; next = s.next; rows = joined s.rows.pieces.items; room = vec_len s.rows.ready; order_room = room_of_last s.order.ready.items } };
 
     ghost invariant = { λ s. IsShelved s.rows.pieces s.rows.ready s.next s.order.pieces s.order.ready };
 }
@@ -131,6 +131,8 @@ impl Shelf {
         sort_serials(&stanzas, &mut serials);
         order.extend(serials);
         let next = fill_rows(&mut rows, stanzas);
+        rows.forget_room();
+        order.forget_room();
         Shelf {
             serial,
             kind,
@@ -213,7 +215,7 @@ impl Shelf {
     /// Makes the room for one stanza more.
     pub(crate) fn reserve_one(&mut self, alloc: Global) -> Result<(), AllocError>
         ensures same { keyed_list self.new ≡ keyed_list self.old }
-        ensures ok { OnOk result ((0 < self.new.room) × (0 < self.new.order_room)) }
+        ensures ok { OnOk result ((0 < self.new.room) × (min most_in_piece (length self.new.rows + 1) ≤ self.new.order_room)) }
     {
         self.rows.reserve_one(alloc)?;
         self.order.reserve_one(alloc)
@@ -222,7 +224,7 @@ impl Shelf {
     /// Puts a stanza in the place of the first of its name and version, else last.
     pub(crate) fn put(&mut self, stanza: Box<Stanza>)
         requires room { 0 < self.old.room }
-        requires order { 0 < self.old.order_room }
+        requires order { min most_in_piece (length self.old.rows + 1) ≤ self.old.order_room }
         requires below { self.old.next + 1 < 2 ^ 64 }
         ensures serial { self.new.serial ≡ self.old.serial }
         ensures kind { self.new.kind ≡ self.old.kind }
@@ -231,6 +233,8 @@ impl Shelf {
         ensures next { self.new.next ≡ next_after_put stanza.value self.old.next self.old.rows }
     {
         put_in(&mut self.rows, &mut self.next, &mut self.order, stanza);
+        self.rows.forget_room();
+        self.order.forget_room();
     }
 
     /// Takes the first stanza of this name and an equal version out.
@@ -248,7 +252,7 @@ impl Shelf {
 fn put_in(rows: &mut Pieces<Row>, next: &mut u64, order: &mut Pieces<u64>, stanza: Box<Stanza>)
     requires shelved { IsShelved rows.old.pieces rows.old.ready next.old order.old.pieces order.old.ready }
     requires room { 0 < vec_len rows.old.ready }
-    requires order { 0 < vec_len order.old.ready }
+    requires order { HasRoomFor (length (joined rows.old.pieces.items)) order.old.ready }
     requires below { next.old + 1 < 2 ^ 64 }
     ensures shelved { IsShelved rows.new.pieces rows.new.ready next.new order.new.pieces order.new.ready }
     ensures rows { joined rows.new.pieces.items ≡ put_row stanza.value next.old (joined rows.old.pieces.items) }

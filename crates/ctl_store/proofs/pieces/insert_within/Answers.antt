@@ -1,6 +1,6 @@
 use Rattle.std.proofs.Common.{◌<◌, length, arith}
 use Rattle.ctl_store.specs.Pieces.{IsPiece}
-use Rattle.ctl_store.proofs.PiecesLemmas.{length_read, piece_read, pieces_set, joined_insert, length_at_set}
+use Rattle.ctl_store.proofs.PiecesLemmas.{length_read, room_read, piece_read, pieces_set, joined_insert, length_at_set, room_at_set}
 use Rattle.ctl_store.proofs.pieces.insert_within.Goals as goal
 
 pub insert_in-requires-clause-within : goal.insert_in-requires-clause-within
@@ -14,7 +14,8 @@ insert_in-requires-clause-room g c =
     omega (
       arith,
       length_read c.args.pieces.now.items c.args.spot.piece c.index_mut.result.now within c.index_mut.ensures.value,
-      piece_read c.args.pieces.now.items c.args.spot.piece c.index_mut.result.now c.requires.pieces within c.index_mut.ensures.value,
+      room_read c.args.pieces.now.items c.args.spot.piece c.index_mut.result.now within c.index_mut.ensures.value,
+      c.requires.few,
     )
 
 pub returns-clause-pieces : goal.returns-clause-pieces
@@ -24,7 +25,7 @@ returns-clause-pieces g c =
     let n = length_read c.args.pieces.now.items c.args.spot.piece c.index_mut.result.now within c.index_mut.ensures.value in
     pieces_set c.args.pieces.now.items c.args.spot.piece c.insert_in.new.piece c.requires.pieces (record {
       some = omega (arith, c.insert_in.ensures.len);
-      few = omega (arith, c.insert_in.ensures.len, n);
+      few = omega (arith, c.insert_in.ensures.len, n, room_read c.args.pieces.now.items c.args.spot.piece c.index_mut.result.now within c.index_mut.ensures.value, c.requires.few);
       room = omega (arith, c.insert_in.ensures.capacity, p.room);
     })
 
@@ -42,4 +43,14 @@ returns-clause-length g c =
       length_read c.args.pieces.now.items c.args.spot.piece c.index_mut.result.now within c.index_mut.ensures.value,
       length_at_set c.args.pieces.now.items c.args.spot.piece c.insert_in.new.piece within,
       c.insert_in.ensures.len,
+    )
+
+pub returns-clause-room : goal.returns-clause-room
+returns-clause-room g c =
+    let within : c.args.spot.piece < length c.args.pieces.now.items = omega arith in
+    omega (
+      arith,
+      room_read c.args.pieces.now.items c.args.spot.piece c.index_mut.result.now within c.index_mut.ensures.value,
+      room_at_set c.args.pieces.now.items c.args.spot.piece c.insert_in.new.piece within,
+      c.insert_in.ensures.capacity,
     )

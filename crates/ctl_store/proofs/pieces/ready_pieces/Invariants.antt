@@ -1,12 +1,12 @@
-use Rattle.std.proofs.Common.{◌≤◌, ◌-◌, vec_len}
-use Rattle.ctl_store.specs.Pieces.{AreReady}
+use Rattle.std.proofs.Common.{◌≤◌, ◌-◌}
+use Rattle.ctl_store.specs.Pieces.{AreReady, room_of_all}
 use Rattle.ctl_store.proofs.pieces.ready_pieces.Given as goal
 
-abbrev pub invariant-loop-alloc : goal.invariant-loop-alloc
-invariant-loop-alloc g l = record {
+abbrev pub invariant-loop-room : goal.invariant-loop-room
+invariant-loop-room g l = record {
   ready : AreReady l.ready.items;
-  few : vec_len l.ready ≤ l.wanted;
+  room : l.room ≤ room_of_all l.ready.items;
 }
 
-abbrev pub decreases-loop-alloc : goal.decreases-loop-alloc
-decreases-loop-alloc g l = l.wanted - vec_len l.ready
+abbrev pub decreases-loop-room : goal.decreases-loop-room
+decreases-loop-room g l = l.items - l.room

@@ -1,10 +1,19 @@
-use Rattle.std.proofs.Common.{◌≡◌, ◌∙◌, sym, ap, ◌++◌, ◌∷◌, [], None, Some, option_copied, option_map}
+use Rattle.std.proofs.Common.{◌≡◌, ◌∙◌, ◌+◌, ◌≤◌, min, sym, ap, subst, arith, ◌++◌, ◌∷◌, [], None, Some, option_copied, option_map}
 use Rattle.ctl_stanza.specs.Content.{package_of, version_of}
 use Rattle.ctl_store.specs.Step.{place}
 use Rattle.ctl_store.specs.Rows.{id, id_of, ids_of, sorted_ids, lower, by_name_and_version}
-use Rattle.ctl_store.specs.Pieces.{joined, place_of_spot}
-use Rattle.ctl_store.proofs.ShelfLemmas.{fit_written, shelved_replace, shelved_push}
+use Rattle.ctl_store.specs.Pieces.{most_in_piece, joined, room_of_last, place_of_spot}
+use Rattle.ctl_store.proofs.PiecesLemmas.{ready_room}
+use Rattle.ctl_store.proofs.ShelfLemmas.{fit_written, shelved_replace, shelved_push, length-order}
 use Rattle.ctl_store.proofs.shelf.put_in.Goals as goal
+
+pub insert-requires-clause-room : goal.insert-requires-clause-room
+insert-requires-clause-room c =
+    let rows = joined c.args.rows.now.pieces.items in
+    subst (λ n. min most_in_piece (n + 1) ≤ room_of_last c.args.order.now.ready.items) (sym (length-order rows c.args.next.now (joined c.args.order.now.pieces.items) c.requires.shelved.kept)) c.requires.order
+
+pub push-requires-clause-room : goal.push-requires-clause-room
+push-requires-clause-room c = omega (arith, ready_room c.args.rows.now.ready.items c.requires.shelved.rows_fit.ready (omega (arith, c.requires.room)))
 
 pub returns-in_default-Some-clause-shelved : goal.returns-in_default-Some-clause-shelved
 returns-in_default-Some-clause-shelved c =

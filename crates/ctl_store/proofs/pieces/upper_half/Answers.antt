@@ -1,5 +1,0 @@
-use Rattle.std.proofs.lemmas.List.{take_rest}
-use Rattle.ctl_store.proofs.pieces.upper_half.Goals as goal
-
-pub returns-clause-items : goal.returns-clause-items
-returns-clause-items c = take_rest c.args.piece.now 32
