@@ -56,10 +56,9 @@ edits:
 bench: $(PROGRAM)
 	python3 bench/lists.py $(PROGRAM) $(FILE)
 	python3 bench/stores.py $(PROGRAM) $(FILE)
-	cd crates/text_probe && rt run < stdin > /dev/null
+	cd crates/probe && rt run < stdin > /dev/null
 	python3 bench/texts.py $(FILE)
 ifdef FILE
-	cd crates/relation_probe && rt run > /dev/null
 	python3 bench/relations.py $(FILE)
 endif
 

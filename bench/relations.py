@@ -5,7 +5,7 @@
 
 PACKAGES is a Packages file. Prints for its relation fields how many bytes of memory and how many nanoseconds an atom
 takes, beside the time that `grep-dctrl -c ''` takes on the same file; and the time that the longest fields take whose
-shapes cost most. `rt run` in crates/relation_probe builds the program that is measured.
+shapes cost most. `rt run` in crates/probe builds the program that is measured.
 """
 
 import pathlib

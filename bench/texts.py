@@ -7,7 +7,7 @@ Prints the time and the peak memory of reading a Packages file, the peak as a mu
 both as ratios to `grep-dctrl -c ''` on the same file in the same run, where dctrl-tools are installed. Then the same
 without a peer for texts whose shapes cost most, each at a quarter of its size and whole: where work grows as n log n the
 whole takes a little more than four times as long. Without PACKAGES a list of 60,000 stanzas is made. `rt run` in
-crates/text_probe builds the program that is measured. A peak can't be told that is less than the memory of this script,
+crates/probe builds the program that is measured. A peak can't be told that is less than the memory of this script,
 from which the programs are started: such a one is told as `at most`.
 """
 
@@ -21,7 +21,7 @@ import tempfile
 from lists import made_list
 from measuring import measured
 
-PROBE = pathlib.Path(__file__).resolve().parent.parent / "crates/text_probe/out/text_probe"
+PROBE = pathlib.Path(__file__).resolve().parent.parent / "crates/probe/out/probe"
 MILLION = 1_000_000
 
 
@@ -77,7 +77,7 @@ def peak_words(peak, size):
 def measure_list(path):
     """Prints what reading a list costs, beside what it costs the peer."""
     size = os.path.getsize(path)
-    spent, peak = measured([str(PROBE), "packages"], path)
+    spent, peak = measured([str(PROBE), "text", "packages"], path)
     print("%d bytes: %.0f ms, %s" % (size, spent * 1e3, peak_words(peak, size)))
     if shutil.which("grep-dctrl"):
         peer_spent, peer_peak = measured(["grep-dctrl", "-c", "", path])
@@ -91,13 +91,13 @@ def measure_shape(name, make, count, path):
     for part in (count // 4, count):
         write_text(path, lambda: make(part))
         size = os.path.getsize(path)
-        spent, peak = measured([str(PROBE), "packages"], path)
+        spent, peak = measured([str(PROBE), "text", "packages"], path)
         print("  %d bytes: %.0f ms, %.0f ns a byte; %s" % (size, spent * 1e3, spent * 1e9 / size, peak_words(peak, size)))
 
 
 def main(words):
     if not PROBE.exists():
-        raise SystemExit("%s is missing: build it with `rt run` in crates/text_probe" % PROBE)
+        raise SystemExit("%s is missing: build it with `rt run` in crates/probe" % PROBE)
     with tempfile.NamedTemporaryFile() as file:
         if not words:
             write_text(file.name, made_list)

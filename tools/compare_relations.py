@@ -5,7 +5,7 @@
 
 FOLDER holds the reference program `oracle.py`, with `parse_relations(body, kind)`, which gives lists of atoms or raises
 `RelationFault` with a number, and `print_group`. With PACKAGES, a Packages file, each relation field of that file is
-compared too, and must be accepted. `rt run` in crates/relation_probe builds the program that is compared.
+compared too, and must be accepted. `rt run` in crates/probe builds the program that is compared.
 """
 
 import collections

@@ -9,7 +9,7 @@ generated: sequences of them over few names, with versions that are equal in oth
 times. After each edit the whole state is compared. The keys of stanzas, which the reference program has none of, are
 kept here by their rules: a list and a stanza that come new take the next serial, and a stanza that replaces another
 takes over its key. Each twentieth sequence puts and removes stanzas of one list of hundreds, which grows and shrinks, and
-the state is compared now and then. `rt run` in crates/store_probe builds the program that is compared.
+the state is compared now and then. `rt run` in crates/probe builds the program that is compared.
 """
 
 import pathlib
@@ -19,7 +19,7 @@ import sys
 
 from answers import compare, tell
 
-PROBE = pathlib.Path(__file__).resolve().parent.parent / "crates/store_probe/out/store_probe"
+PROBE = pathlib.Path(__file__).resolve().parent.parent / "crates/probe/out/probe"
 SEQUENCES = 600
 SEED = 20250311
 
@@ -289,10 +289,10 @@ def generate_long_sequence(source, oracle):
 
 
 def probe(lines):
-    """What the built program crates/store_probe prints for these lines."""
+    """What the built program crates/probe prints for these lines."""
     if not PROBE.exists():
-        raise SystemExit(f"{PROBE} is missing: build it with `rt run` in crates/store_probe")
-    done = subprocess.run([PROBE], input="".join(f"{line}\n" for line in lines).encode(), stdout=subprocess.PIPE, check=True)
+        raise SystemExit(f"{PROBE} is missing: build it with `rt run` in crates/probe")
+    done = subprocess.run([PROBE, "store"], input="".join(f"{line}\n" for line in lines).encode(), stdout=subprocess.PIPE, check=True)
     return done.stdout.decode().split("\n")[:-1]
 
 

@@ -7,7 +7,7 @@ FOLDER holds the reference program `oracle.py`, with `read_stanzas(data, first_l
 `read_records(data, first_line)`, which raise `TextFault` with a line and a number. The texts are generated, and changed
 at random: a byte changed, a line cut, doubled or swapped with another. With PACKAGES, a Packages file, and STATUS, a
 status file of dpkg, these files are compared too, and pieces of them that are changed in the same way.
-`rt run` in crates/text_probe builds the program that is compared.
+`rt run` in crates/probe builds the program that is compared.
 """
 
 import pathlib
@@ -17,7 +17,7 @@ import sys
 
 from answers import compare, tell
 
-PROBE = pathlib.Path(__file__).resolve().parent.parent / "crates/text_probe/out/text_probe"
+PROBE = pathlib.Path(__file__).resolve().parent.parent / "crates/probe/out/probe"
 GENERATED = 6_000
 PIECES = 1_500
 SEED = 20241117
@@ -145,11 +145,11 @@ def expected(oracle, kind, text):
 
 
 def probe(texts):
-    """What the built program crates/text_probe prints for these texts."""
+    """What the built program crates/probe prints for these texts."""
     if not PROBE.exists():
-        raise SystemExit(f"{PROBE} is missing: build it with `rt run` in crates/text_probe")
+        raise SystemExit(f"{PROBE} is missing: build it with `rt run` in crates/probe")
     lines = "".join(f"{kind}\t{text.hex()}\n" for kind, text in texts)
-    done = subprocess.run([PROBE], input=lines.encode(), stdout=subprocess.PIPE, check=True)
+    done = subprocess.run([PROBE, "text"], input=lines.encode(), stdout=subprocess.PIPE, check=True)
     return done.stdout.decode().split("\n")[:-1]
 
 

@@ -1,7 +1,7 @@
 #!/usr/bin/env python3
 """refuse_store_allocations.py [LINES]
 
-Runs the program crates/store_probe, which `rt run` builds there, on its lines (crates/store_probe/stdin) with the first
+Runs the program crates/probe, which `rt run` builds there, on its lines of a store (crates/probe/stdin) with the first
 request for memory refused, then the second, and so on until none is; and then the same with the Nth request and all after it
 refused. Behind each edit the lines ask for all that the store holds.
 
@@ -17,10 +17,15 @@ import tempfile
 
 from refuse_allocations import HERE, library, run
 
-PROBE = os.path.join(HERE, "../crates/store_probe/out/store_probe")
-LINES = os.path.join(HERE, "../crates/store_probe/stdin")
+PROBE = os.path.join(HERE, "../crates/probe/out/probe")
+LINES = os.path.join(HERE, "../crates/probe/stdin")
 DUMP = b"dump\t61\t62\t6162\t6c69626336"
 REFUSED = b"refused 22 "
+
+
+def lines_of_store(lines):
+    """The lines behind the word `store`, where there is one."""
+    return lines[lines.index(b"store") + 1:] if b"store" in lines else lines
 
 
 def with_dumps(lines):
@@ -52,12 +57,12 @@ def check(preload, folder, lines, more):
     """Refuses each request in turn. How many runs there were, how many ended early, and how many edits were refused."""
     text = b"".join(line + b"\n" for line in lines)
     count_file = os.path.join(folder, "count")
-    ample = run(PROBE, [], text)[1].split(b"\n")[:-1]
+    ample = run(PROBE, ["store"], text)[1].split(b"\n")[:-1]
     nth, ended, edits = 0, 0, 0
     while True:
         nth += 1
         settings = {"LD_PRELOAD": preload, "REFUSE_NTH": str(nth), "REFUSE_COUNT": count_file, **more}
-        status, output, errors = run(PROBE, [], text, settings)
+        status, output, errors = run(PROBE, ["store"], text, settings)
         with open(count_file, encoding="ascii") as file:
             if int(file.read()) < nth:
                 return nth - 1, ended, edits
@@ -70,7 +75,7 @@ def check(preload, folder, lines, more):
 
 def main(words):
     with open(words[0] if words else LINES, "rb") as file:
-        lines = with_dumps(file.read().split(b"\n")[:-1])
+        lines = with_dumps(lines_of_store(file.read().split(b"\n")[:-1]))
     with tempfile.TemporaryDirectory() as folder:
         preload = library(folder)
         for what, more in (("refused in turn", {}), ("refused with all after it", {"REFUSE_ALL": "1"})):

@@ -15,7 +15,7 @@ KINDS = [
     "Provides",
 ]
 
-PROBE = pathlib.Path(__file__).resolve().parent.parent / "crates/relation_probe/out/relation_probe"
+PROBE = pathlib.Path(__file__).resolve().parent.parent / "crates/probe/out/probe"
 
 
 def fields_of(path):
@@ -38,9 +38,9 @@ def fields_of(path):
 
 
 def probe(fields, *arguments):
-    """What the built program crates/relation_probe writes for these fields."""
+    """What the built program crates/probe writes for these fields."""
     if not PROBE.exists():
-        raise SystemExit(f"{PROBE} is missing: build it with `rt run` in crates/relation_probe")
+        raise SystemExit(f"{PROBE} is missing: build it with `rt run` in crates/probe")
     lines = "".join(f"{kind}\t{body.hex()}\n" for kind, body in fields)
-    done = subprocess.run([PROBE, *arguments], input=lines.encode(), stdout=subprocess.PIPE, check=True)
+    done = subprocess.run([PROBE, "relation", *arguments], input=lines.encode(), stdout=subprocess.PIPE, check=True)
     return done.stdout

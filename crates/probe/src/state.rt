@@ -1,23 +1,12 @@
 //! What a store holds, as text.
 
+use crate::hexadecimal::append_word;
 use crate::words::Words;
 use anyhow::Result;
 use ctl_relation::Version;
 use ctl_stanza::ListKind;
 use ctl_store::{ListClass, Selector, StanzaKey, Store};
 use std::alloc::{AllocError, Global};
-
-/// A word in hexadecimal digits, behind bytes that say what it is.
-pub fn append_word(
-    alloc: Global,
-    mark: &[u8],
-    word: &[u8],
-    line: &mut Vec<u8>,
-) -> Result<(), AllocError> {
-    line.extend_from_slice(mark)?;
-    let digits = hex::encode(alloc, word)?;
-    line.extend_from_slice(digits.as_bytes())
-}
 
 /// A key behind a byte: the serial number of the list, a dot and that of the stanza.
 pub fn append_key(

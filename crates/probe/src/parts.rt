@@ -1,6 +1,7 @@
 //! What stanzas and records have in them, as text.
 
-use ctl_relation::{FieldKind, Group};
+use crate::hexadecimal::append_word;
+use ctl_relation::{FieldKind, Group, Version};
 use ctl_stanza::{Record, Stanza};
 use std::alloc::{AllocError, Global};
 
@@ -16,17 +17,10 @@ const KINDS: [FieldKind; 9] = [
     FieldKind::Provides,
 ];
 
-// A word in hexadecimal digits, behind a byte that says what it is.
-fn append_word(alloc: Global, mark: u8, word: &[u8], line: &mut Vec<u8>) -> Result<(), AllocError> {
-    line.push(mark)?;
-    let digits = hex::encode(alloc, word)?;
-    line.extend_from_slice(digits.as_bytes())
-}
-
 // Groups, each in its printed form.
 fn append_groups(
     alloc: Global,
-    mark: u8,
+    mark: &[u8],
     groups: &[Group],
     line: &mut Vec<u8>,
 ) -> Result<(), AllocError> {
@@ -40,32 +34,32 @@ fn append_groups(
 
 fn append_version(
     alloc: Global,
-    version: Option<&ctl_relation::Version>,
+    version: Option<&Version>,
     line: &mut Vec<u8>,
 ) -> Result<(), AllocError> {
     match version {
         None => line.extend_from_slice(b"-"),
-        Some(version) => append_word(alloc, b'@', version.text(), line),
+        Some(version) => append_word(alloc, b"@", version.text(), line),
     }
 }
 
 /// A stanza: its text, whether it is live, its package, its version, its fields, its groups and what it offers.
 pub fn append_stanza(alloc: Global, stanza: &Stanza, line: &mut Vec<u8>) -> Result<(), AllocError> {
-    append_word(alloc, b'|', stanza.text(), line)?;
+    append_word(alloc, b"|", stanza.text(), line)?;
     line.extend_from_slice(if stanza.is_live() { b" live" } else { b" gone" })?;
-    append_word(alloc, b' ', stanza.package(), line)?;
+    append_word(alloc, b" ", stanza.package(), line)?;
     append_version(alloc, stanza.version(), line)?;
     for (name, body) in stanza.fields() {
-        append_word(alloc, b' ', name, line)?;
-        append_word(alloc, b'=', body, line)?;
+        append_word(alloc, b" ", name, line)?;
+        append_word(alloc, b"=", body, line)?;
     }
     for kind in KINDS {
         line.push(b' ')?;
-        append_groups(alloc, b'&', stanza.groups(kind), line)?;
+        append_groups(alloc, b"&", stanza.groups(kind), line)?;
     }
-    append_groups(alloc, b'+', stanza.provides(), line)?;
+    append_groups(alloc, b"+", stanza.provides(), line)?;
     for offer in stanza.offers() {
-        append_word(alloc, b' ', offer.name(), line)?;
+        append_word(alloc, b" ", offer.name(), line)?;
         append_version(alloc, offer.version(), line)?;
     }
     Ok(())
@@ -77,8 +71,8 @@ pub fn append_record(alloc: Global, record: &Record, line: &mut Vec<u8>) -> Resu
     let first = format!(in alloc; "{}", record.first_line())?;
     line.extend_from_slice(first.as_bytes())?;
     for (name, body, number) in record.fields() {
-        append_word(alloc, b' ', name, line)?;
-        append_word(alloc, b'=', body, line)?;
+        append_word(alloc, b" ", name, line)?;
+        append_word(alloc, b"=", body, line)?;
         let number = format!(in alloc; ":{number}")?;
         line.extend_from_slice(number.as_bytes())?;
     }

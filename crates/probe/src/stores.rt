@@ -1,25 +1,15 @@
-//! Changes a store by edits from standard input, each on a line of words with tabs between them: the edit's name and its
-//! parts, in which bytes stand as hexadecimal digits. Prints for each, on a line, `ok`, the keys that went and came and the
-//! text of the first stanza that came, or `foretold` and the number of the refusal that is foretold, and `refused` and the
-//! number of that which comes. `limits`, with how many stanzas and edits, begins with a new store, and `dump`, with the
-//! names of packages, prints all that the store holds and the marks of these packages.
-#![tactic(auto)]
+//! Changes of a store, and what comes of them.
 
 ghost use Rattle.ctl_store.specs.Edits.{edit_of};
 ghost use Rattle.ctl_store.specs.Held.{IsProper, IsReady};
 
-mod edits;
-mod state;
-mod words;
-
+use crate::edits::edit_named;
+use crate::hexadecimal::append_word;
+use crate::state::{append_key, append_state};
+use crate::words::Words;
 use anyhow::Result;
 use ctl_store::{Edit, Limits, Plan, Refusal, Store};
-use edits::edit_named;
-use state::{append_key, append_state, append_word};
 use std::alloc::{AllocError, Global};
-use std::io;
-use std::io::{BufRead, BufReader, BufWriter, Write};
-use words::Words;
 
 // The text of the first stanza that comes.
 fn append_first(alloc: Global, plan: &Plan, line: &mut Vec<u8>) -> Result<(), AllocError> {
@@ -102,7 +92,13 @@ fn limits(words: &mut Words<'_>) -> Result<Limits> {
     })
 }
 
-fn append_answer(alloc: Global, store: &mut Store, text: &str, line: &mut Vec<u8>) -> Result<()> {
+/// Changes the store by a line, or shows what it holds.
+pub fn append_change(
+    alloc: Global,
+    store: &mut Store,
+    text: &str,
+    line: &mut Vec<u8>,
+) -> Result<()> {
     let mut words = Words::new(alloc, text);
     match words.word()? {
         "limits" => {
@@ -116,21 +112,5 @@ fn append_answer(alloc: Global, store: &mut Store, text: &str, line: &mut Vec<u8
             append_outcome(alloc, store, edit, line)?;
         }
     }
-    Ok(())
-}
-
-fn main(rt: HostRuntime) -> Result<()> {
-    let alloc = rt.alloc();
-    let mut out = BufWriter::new(alloc, io::writer(&rt))?;
-    let mut store = Store::new(alloc);
-    let mut answer = Vec::new(alloc);
-    for line in BufReader::new(alloc, rt.reader())?.lines(alloc) {
-        let line = line?;
-        answer.clear();
-        append_answer(alloc, &mut store, line.as_str(), &mut answer)?;
-        answer.push(b'\n')?;
-        out.write_all(&answer)?;
-    }
-    out.flush()?;
     Ok(())
 }

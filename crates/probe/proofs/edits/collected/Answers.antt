@@ -2,7 +2,7 @@ use Rattle.std.proofs.Common.{◌≡◌, List, [], ◌∷◌, ◌++◌, append_a
 use Rattle.ctl_store.specs.declared.selector.PinSetting.{PinSetting}
 use Rattle.ctl_store.specs.Edits.{settings_of}
 use Rattle.std.specs.Map.{keys_of as names_of}
-use Rattle.store_probe.proofs.edits.collected.Goals as goal
+use Rattle.probe.proofs.edits.collected.Goals as goal
 
 push_name : (old : List PinSetting) (x : PinSetting) → names_of (settings_of (old ++ x ∷ [])) ≡ names_of (settings_of old) ++ x.selector ∷ []
 push_name [] x = refl

@@ -4,20 +4,13 @@ ghost use Rattle.std.specs.Prelude.{◌≡◌, IfOk};
 ghost use Rattle.ctl_store.specs.Edits.{edit_of, settings_of};
 ghost use Rattle.ctl_store.specs.Held.{IsProper, AreDistinct};
 
+use crate::texts::list_kind_named;
 use crate::words::Words;
 use anyhow::{Context, Result, bail};
 use ctl_stanza::{ListKind, Stanza, lines_take_bytes, read_stanzas};
 use ctl_store::{Edit, ListClass, PinSetting, PinVersion, Selector, boxed};
 use indexmap::IndexMap;
 use std::alloc::{AllocError, Global};
-
-fn kind_named(word: &str) -> Option<ListKind> {
-    match word {
-        "packages" => Some(ListKind::Packages),
-        "status" => Some(ListKind::Status),
-        _ => None,
-    }
-}
 
 fn class_named(word: &str) -> Option<ListClass> {
     match word {
@@ -29,7 +22,7 @@ fn class_named(word: &str) -> Option<ListClass> {
 }
 
 fn kind(words: &mut Words<'_>) -> Result<ListKind> {
-    kind_named(words.word()?).context("a kind that is not known")
+    list_kind_named(words.word()?).context("a kind that is not known")
 }
 
 // The stanzas of the next word, which is a text of a list of this kind.

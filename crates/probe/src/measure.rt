@@ -1,6 +1,6 @@
 //! How much time and memory the reading of fields takes.
 
-use crate::field::Field;
+use crate::relations::Field;
 use anyhow::{Context, Result};
 use ctl_relation::{Relations, parse_relations};
 use std::alloc::{AllocError, Global};
