@@ -5,7 +5,7 @@ use Rattle.std.specs.List.{Contains}
 use Rattle.std.specs.List.Sorted.{IsStrictlyIncreasing}
 use Rattle.ctl_stanza.specs.declared.list_kind.ListKind.{ListKind}
 use Rattle.ctl_stanza.specs.Content.{Content, content_of}
-use Rattle.ctl_stanza.specs.Runs.{Run, AreStanzasBefore}
+use Rattle.ctl_stanza.specs.LineRuns.{Run, AreStanzasBefore}
 use Rattle.ctl_stanza.specs.Laws.{AreStanzasOf, StanzasAreOneList}
 use Rattle.ctl_stanza.proofs.PlaceLemmas.{unique}
 use Rattle.ctl_stanza.proofs.RunLemmas.{run, starts, IsBetween, AreBetween}

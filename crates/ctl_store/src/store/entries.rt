@@ -217,7 +217,7 @@ impl<'a> Iterator for Keys<'a> {
     type Item = StanzaKey;
 
     fn next(&mut self) -> Option<StanzaKey> {
-        let (key, _) = self.entries.next()?;
-        Some(key)
+        let (next_key, _) = self.entries.next()?;
+        Some(next_key)
     }
 }
