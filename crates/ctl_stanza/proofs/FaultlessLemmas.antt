@@ -3,7 +3,7 @@ use Rattle.std.proofs.Common.{◌≡◌, ◌∙◌, ℕ, List, None, sym, inl, i
 use Rattle.ctl_stanza.specs.declared.list_kind.ListKind.{ListKind}
 use Rattle.ctl_stanza.specs.Laws.{HasNoFaultyLine, IsFaultless}
 use Rattle.ctl_stanza.specs.Faults.{stanza_fault}
-use Rattle.ctl_stanza.proofs.WholeLemmas.{HasStanzaLine, stanza_tell}
+use Rattle.ctl_stanza.proofs.WholeLemmas.{stanza_tell}
 
 pub faultless : (kind : ListKind) (lines : List (List ℕ)) → stanza_fault kind 0 lines ≡ None → IsFaultless kind lines
 faultless kind lines none =

@@ -1,9 +1,9 @@
 -- Field lines, and how they are taken apart.
-use Rattle.std.proofs.Common.{◌≡◌, ◌≢◌, ◌∙◌, ◌+◌, ◌<◌, ◌≤◌, ◌==◌, ◌&&◌, ◌||◌, not, ℕ, suc, Bool, true, false, List, [], ◌∷◌, ◌++◌, length, take, drop, get_or, nat_le, position, Option, Some, None, cond, refl, sym, ap, subst, arith, ⊎_elim}
+use Rattle.std.proofs.Common.{◌≡◌, ◌≢◌, ◌∙◌, ◌+◌, ◌<◌, ◌≤◌, ◌==◌, ◌&&◌, ◌||◌, not, ℕ, suc, Bool, true, false, List, [], ◌∷◌, ◌++◌, length, take, drop, get_or, nat_le, position, Option, Some, None, cond, refl, sym, ap, arith, ⊎_elim}
 use Rattle.std.proofs.Math.Dec.{eqb-suc-zero}
 use Rattle.std.proofs.lemmas.Bool.{cases_Bool, cond-true, cond-false, eqb-true, eqb-false, ne_eqb, leb-true, lt-ltb}
 use Rattle.std.specs.Char.{is_ascii_graphic}
-use Rattle.std.proofs.lemmas.List.{append-nil, get_or-take, drop_more, length-append, length-take-le, take-append-drop, append_assoc}
+use Rattle.std.proofs.lemmas.List.{append-nil, get_or-take, drop_more, length-append, length-take-le, take-append-drop}
 use Rattle.std.proofs.lemmas.List.Quantifiers.{position-Some}
 use Rattle.std.proofs.Math.Seq.{take-append_seam, drop-append-add}
 use Rattle.std.specs.List.{list_all, prefix_len}
@@ -13,7 +13,7 @@ use Rattle.ctl_stanza.specs.declared.line_kind.LineKind.TheVariants.{Blank, Fiel
 use Rattle.ctl_stanza.specs.Lines.{is_blank_byte, is_blank}
 use Rattle.ctl_stanza.specs.LineKind.{is_field_name_byte, kind_after_name, kind_of}
 use Rattle.ctl_stanza.specs.Fields.{strip_front, strip_end, before_stripped, value_of}
-use Rattle.ctl_stanza.specs.FieldLines.{IsFieldName, IsValue, AreBlanks, IsFieldLine, IsTakenAs, FieldLinesAreTaken, FieldLinesAreKnown}
+use Rattle.ctl_stanza.specs.FieldLines.{IsFieldName, IsValue, AreBlanks, FieldLinesAreTaken, FieldLinesAreKnown}
 
 -- ---- tests that are joined
 

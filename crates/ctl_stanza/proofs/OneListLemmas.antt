@@ -3,12 +3,11 @@ use Rattle.std.proofs.Common.{◌≡◌, ◌∙◌, ◌+◌, ◌<◌, ◌≤◌,
 use Rattle.std.proofs.lemmas.List.{get_or-map, length-map}
 use Rattle.std.specs.List.{Contains}
 use Rattle.std.specs.List.Sorted.{IsStrictlyIncreasing}
-use Rattle.ctl_stanza.specs.declared.list_kind.ListKind.{ListKind}
-use Rattle.ctl_stanza.specs.Content.{Content, content_of}
+use Rattle.ctl_stanza.specs.Content.{content_of}
 use Rattle.ctl_stanza.specs.LineRuns.{Run, AreStanzasBefore}
-use Rattle.ctl_stanza.specs.Laws.{AreStanzasOf, StanzasAreOneList}
+use Rattle.ctl_stanza.specs.Laws.{StanzasAreOneList}
 use Rattle.ctl_stanza.proofs.PlaceLemmas.{unique}
-use Rattle.ctl_stanza.proofs.RunLemmas.{run, starts, IsBetween, AreBetween}
+use Rattle.ctl_stanza.proofs.RunLemmas.{run, starts, AreBetween}
 
 -- where starts rise, the first is the least
 first-least : (r : Run) (rs : List Run) → IsStrictlyIncreasing (starts (r ∷ rs)) → (k : ℕ) → k < length (r ∷ rs) → r.start ≤ slice_index (starts (r ∷ rs)) k

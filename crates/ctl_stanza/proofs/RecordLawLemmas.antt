@@ -1,6 +1,5 @@
 -- The least fault of a piece of a text of preferences.
-use Rattle.std.proofs.Common.{◌≡◌, ◌⊎◌, ◌∙◌, ◌+◌, ◌-◌, ◌<◌, ◌≤◌, ◌++◌, ℕ, suc, true, List, [], ◌∷◌, length, take, drop, get_or, Option, Some, None, Result, Ok, Err, refl, sym, ap, subst, arith, inl, inr, append_assoc, ⊎_elim}
-use Rattle.std.proofs.lemmas.Bool.{cases_lt}
+use Rattle.std.proofs.Common.{◌≡◌, ◌∙◌, ◌+◌, ◌-◌, ◌<◌, ◌≤◌, ◌++◌, ℕ, true, List, [], ◌∷◌, length, take, drop, get_or, Option, Some, None, sym, ap, subst, arith, inl, inr, ⊎_elim}
 use Rattle.std.proofs.lemmas.List.{length-append, get_or-take, get_or-drop}
 use Rattle.ctl_stanza.specs.declared.repeats.Repeats.TheVariants.{Explanation}
 use Rattle.ctl_stanza.specs.declared.fault.TextFault.{TextFault}
@@ -8,17 +7,15 @@ use Rattle.ctl_stanza.specs.declared.fault.Cause.{Cause}
 use Rattle.std.specs.Option.{option_map}
 use Rattle.ctl_stanza.specs.Lines.{is_blank}
 use Rattle.ctl_stanza.specs.Faults.{number_of, first_fault}
-use Rattle.ctl_stanza.specs.Text.{Piece, piece, pieces_of, with_contents, or_fault}
-use Rattle.ctl_stanza.specs.Records.{RecordText, record_lines, numbers_of, bytes_of, numbered_fault, record_fault, piece_record, numbers_in, before_fault, records_before, records_or_fault}
+use Rattle.ctl_stanza.specs.Records.{numbered_fault, record_fault}
 use Rattle.ctl_stanza.specs.LineRuns.{line_at}
 use Rattle.ctl_stanza.specs.Laws.{lines_before, IsFaultyLine}
-use Rattle.ctl_stanza.specs.RecordLaws.{HasRecordFault, ReadsRecordsOrTells}
-use Rattle.ctl_stanza.proofs.PieceLemmas.{AreOther, StartsGap}
-use Rattle.ctl_stanza.proofs.ByPieces.{by_pieces}
+use Rattle.ctl_stanza.specs.RecordLaws.{HasRecordFault}
+use Rattle.ctl_stanza.proofs.PieceLemmas.{AreOther}
 use Rattle.ctl_stanza.proofs.KeepLemmas.{option_either}
 use Rattle.ctl_stanza.proofs.CauseLemmas.{IsAtMost, HasFaultyLine, lines_tell, same-some}
 use Rattle.ctl_stanza.proofs.PlaceLemmas.{EndsGap, at-back, at-mid, lines_before-mid}
-use Rattle.ctl_stanza.proofs.LawLemmas.{blank-any, ends-more, ends-before}
+use Rattle.ctl_stanza.proofs.LawLemmas.{blank-any}
 
 -- the least fault of the lines from one on, before another
 pub record IsLeastBetween (numbers : List ℕ) (all : List (List ℕ)) (from to : ℕ) (fault : TextFault) : Type 0 where

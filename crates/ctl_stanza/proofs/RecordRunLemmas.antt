@@ -1,13 +1,12 @@
 -- What a text of preferences is read to: its records before its least fault.
-use Rattle.std.proofs.Common.{◌≡◌, ◌⊎◌, ◌∙◌, ◌+◌, ◌<◌, ◌≤◌, ◌++◌, ℕ, suc, true, false, List, [], ◌∷◌, length, map, take, drop, Option, Some, None, Result, Ok, Err, refl, sym, ap, subst, arith, inl, inr, append_assoc, ⊎_elim}
+use Rattle.std.proofs.Common.{◌≡◌, ◌⊎◌, ◌∙◌, ◌+◌, ◌<◌, ◌≤◌, ◌++◌, ℕ, suc, true, false, List, [], ◌∷◌, length, map, take, drop, Option, Some, None, Err, refl, sym, ap, subst, arith, inl, inr, append_assoc, ⊎_elim}
 use Rattle.std.proofs.lemmas.Bool.{cases_lt, cond-true, cond-false}
 use Rattle.std.proofs.lemmas.List.{length-append}
 use Rattle.ctl_stanza.specs.declared.fault.TextFault.{TextFault}
-use Rattle.ctl_stanza.specs.declared.fault.Cause.{Cause}
 use Rattle.ctl_stanza.specs.Lines.{is_blank}
 use Rattle.ctl_stanza.specs.Text.{Piece, piece, pieces_of}
-use Rattle.ctl_stanza.specs.LineRuns.{line_at, IsStanzaAt, Run}
-use Rattle.ctl_stanza.specs.Records.{RecordText, record_fault, piece_record, numbers_in, before_fault, records_before, records_before_fault, records_or_fault}
+use Rattle.ctl_stanza.specs.LineRuns.{IsStanzaAt, Run}
+use Rattle.ctl_stanza.specs.Records.{RecordText, record_fault, piece_record, before_fault, records_before, records_before_fault, records_or_fault}
 use Rattle.ctl_stanza.specs.RecordLaws.{lines_kept, numbers_kept, record_at, IsLeastFaultOf, AreRecordsUpTo, ReadsRecordsOrTells}
 use Rattle.ctl_stanza.proofs.PieceLemmas.{AreOther, StartsGap}
 use Rattle.ctl_stanza.proofs.ByPieces.{by_pieces}

@@ -1,5 +1,5 @@
 -- The maximal runs of lines between two lines, and that what is read are those of the text.
-use Rattle.std.proofs.Common.{◌≡◌, ◌⊎◌, ◌∙◌, ◌+◌, ◌<◌, ◌≤◌, ◌++◌, ℕ, zero, suc, true, false, List, [], ◌∷◌, length, map, Ok, slice_index, sym, subst, refl, ap, ap₂, arith, append_assoc, inl, inr, ⊎_elim}
+use Rattle.std.proofs.Common.{◌≡◌, ◌⊎◌, ◌∙◌, ◌+◌, ◌<◌, ◌≤◌, ◌++◌, ℕ, zero, suc, true, List, [], ◌∷◌, length, map, Ok, slice_index, sym, subst, ap, ap₂, arith, append_assoc, inl, inr, ⊎_elim}
 use Rattle.std.proofs.lemmas.Bool.{cases_lt, cond-true, cond-false}
 use Rattle.std.proofs.lemmas.List.{length-append}
 use Rattle.std.proofs.lemmas.List.Elements.{All-nil, All-cons}
@@ -10,7 +10,7 @@ use Rattle.ctl_stanza.specs.Lines.{is_blank, lines_of}
 use Rattle.ctl_stanza.specs.Content.{Content, content_of}
 use Rattle.ctl_stanza.specs.LineRuns.{line_at, IsStanzaAt, Run, IsStanzaBefore, AreStanzasBefore}
 use Rattle.ctl_stanza.specs.Text.{Piece, piece, piece_content, piece_fault, read_pieces}
-use Rattle.ctl_stanza.specs.Laws.{AreStanzasOf, ReadsStanzas}
+use Rattle.ctl_stanza.specs.Laws.{ReadsStanzas}
 use Rattle.ctl_stanza.proofs.PieceLemmas.{AreOther, StartsGap}
 use Rattle.ctl_stanza.proofs.ByPieces.{by_pieces}
 use Rattle.ctl_stanza.proofs.KeepLemmas.{reads_first}

@@ -21,12 +21,12 @@ pub record Run : Type 0 where
   pub start : ℕ
   pub lines : List (List ℕ)
 
--- a run is a stanza that ends before the line at an index, or at the one before it
+-- a run is a stanza, and all its lines stand before the line at an index
 abbrev pub IsStanzaBefore : List (List ℕ) → ℕ → Run → Type 0
 IsStanzaBefore lines end run = IsStanzaAt lines run.start run.lines × (run.start + length run.lines ≤ end)
 
--- These are the stanzas that lie before the line at an index, each of them once and in order: each run is one, each of
--- them is here, and the lines at which they begin rise.
+-- These are the stanzas before the line at an index, each of them once and in order: each run is one, each of them is
+-- here, and the lines at which they begin rise.
 pub record AreStanzasBefore (lines : List (List ℕ)) (end : ℕ) (runs : List Run) : Type 0 where
   pub stand : All (IsStanzaBefore lines end) runs
   pub whole : (run : Run) → IsStanzaBefore lines end run → Contains runs run

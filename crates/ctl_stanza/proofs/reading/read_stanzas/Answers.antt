@@ -1,4 +1,4 @@
-use Rattle.std.proofs.Common.{rules, ◌∙◌, ◌+◌, length, ap, sym, arith}
+use Rattle.std.proofs.Common.{rules, ◌∙◌, ◌+◌, length, ap, sym}
 use Rattle.ctl_stanza.specs.Lines.{lines_of}
 use Rattle.ctl_stanza.specs.Text.{read_text, Reads}
 use Rattle.ctl_stanza.proofs.LawLemmas.{reads_or_tells, tells_least}
