@@ -11,7 +11,7 @@ most_in_piece = 64
 
 -- how many each piece has room for at least
 abbrev pub least_room : ℕ
-least_room = 4
+least_room = 2
 
 -- all items, piece by piece
 abbrev pub joined : {X A : Type 0} → List (Vec X A) → List X

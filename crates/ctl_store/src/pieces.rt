@@ -11,7 +11,7 @@ use std::alloc::{AllocError, Global};
 pub(crate) const MOST: usize = 64;
 
 // How many each piece has room for at least.
-const LEAST: usize = 4;
+const LEAST: usize = 2;
 
 // Neighbouring pieces that have no more items together are joined, so that some can come before the piece is split again.
 const JOINED: usize = 32;
@@ -142,11 +142,9 @@ fn ready_pieces<T: Drop>(alloc: Global, items: usize) -> Result<Vec<Vec<T>>, All
     while room < items {
         let left = (items - room) % MOST;
         let more = if left == 0 { MOST } else { left };
-        push_ready(
-            &mut ready,
-            Vec::with_capacity(alloc, more.max(LEAST))?,
-            more,
-        )?;
+        // What comes later fills the last piece of a long list.
+        let capacity = items.min(MOST).max(more).max(LEAST);
+        push_ready(&mut ready, Vec::with_capacity(alloc, capacity)?, more)?;
         room = room.saturating_add(more);
     }
     Ok(ready)
