@@ -43,6 +43,7 @@ test: demo
 bench: $(PROGRAM)
 	python3 bench/lists.py $(PROGRAM) $(FILE)
 	python3 bench/stores.py $(PROGRAM) $(FILE)
+	python3 bench/refusals.py $(PROGRAM)
 	cd crates/text_probe && rt run < stdin > /dev/null
 	python3 bench/texts.py $(FILE)
 ifdef FILE
