@@ -56,6 +56,7 @@ edits:
 bench: $(PROGRAM)
 	python3 bench/lists.py $(PROGRAM) $(FILE)
 	python3 bench/stores.py $(PROGRAM) $(FILE)
+	python3 bench/refusals.py $(PROGRAM)
 	cd crates/probe && rt run < stdin > /dev/null
 	python3 bench/texts.py $(FILE)
 ifdef FILE

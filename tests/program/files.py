@@ -1,8 +1,14 @@
 """Lists that are loaded from files, by -l and --status."""
 
+import gzip
+import lzma
 import os
+import time
 
-from harness import Files
+from harness import Files, finished
+
+# One byte more than a file may have.
+TOO_MANY = 4294967296
 
 ONE = b"Package: a\nVersion: 1\n"
 TWO = b"Package: c\nVersion: 1\n\nPackage: b\nVersion: 1:2-3\nDepends: a (>= 1) | x\nDescription: b\n more\n .\n"
@@ -110,6 +116,28 @@ def test_files_that_cannot_be_read(tests):
     tests.same("a pipe as file", got, (0, b"b\nc\n", b""))
 
 
+def test_large_files(tests):
+    """A file that is known to be too large is refused before it is read; one of a byte less is read, and has its fault."""
+    with Files() as files:
+        large = files.write("large", b"")
+        os.truncate(large, TOO_MANY)
+        start = time.monotonic()
+        tests.fails("a file that is too large", ["-l", "m=" + large], large.encode() + b": cannot read")
+        tests.same("it is refused by its size", time.monotonic() - start < 1, True)
+        tests.fails("a status file that is too large", ["--status", large], large.encode() + b": cannot read")
+
+
+def test_compressed_files(tests):
+    """A compressed list is refused at its first line, and comes through a pipe."""
+    with Files() as files:
+        for name, pack in (("gzip", gzip.compress), ("xz", lzma.compress)):
+            path = files.write(name, pack(TWO))
+            tests.fails("a list by %s" % name, ["-l", "m=" + path], path.encode() + b": line 1: not a control line")
+        path = files.write("Packages.xz", lzma.compress(TWO))
+        script = "echo pkgnames | \"$0\" -l m=<(xz -dc %s)" % path
+        tests.same("a list through a pipe of bash", finished(["bash", "-c", script, tests.program]), (0, b"b\nc\n", b""))
+
+
 def test_faults_of_files(tests):
     """The line of the fault is told, and the script is not run."""
     with Files() as files:
@@ -167,6 +195,8 @@ def test_files(tests):
     test_lists(tests)
     test_names_and_files(tests)
     test_files_that_cannot_be_read(tests)
+    test_large_files(tests)
+    test_compressed_files(tests)
     test_faults_of_files(tests)
     test_the_first_fault(tests)
     test_files_and_bodies(tests)

@@ -1,4 +1,5 @@
-"""The examples of the manual, two indented blocks with the word `prints` between them, and the manual page."""
+"""The examples of the manual, two indented blocks with the word `prints` between them; the manual page, and whether both
+say what the program does."""
 
 import os
 import re
@@ -41,26 +42,109 @@ def contents(path):
         return file.read()
 
 
-def first_column(text, heading):
-    """The texts in code style that stand in the first column of the tables below a heading."""
-    section = text.split("\n## %s\n" % heading)[1].split("\n## ")[0]
-    cells = [line.split("|")[1] for line in section.split("\n") if line.startswith("| `")]
-    return [word for cell in cells for word in re.findall("`([^`]*)`", cell)]
+def without_fonts(text):
+    """A line of the manual page without its fonts and escapes."""
+    text = re.sub(r"\\f(\[[^]]*\]|[PIRB])", "", text)
+    for escape, sign in ((r"\(aq", "'"), (r"\~", " "), (r"\&", ""), (r"\-", "-"), (r"\e", "\\")):
+        text = text.replace(escape, sign)
+    return text
+
+
+def words_of_request(line):
+    """The words of a request of the manual page, as `.BI pin " PKG"`. Requests of two fonts join their words."""
+    request, _, rest = line.partition(" ")
+    words = [quoted or plain for quoted, plain in re.findall(r'"([^"]*)"|([^ "]+)', rest)]
+    return without_fonts(("" if request in (".BI", ".BR", ".RB", ".RI", ".IB", ".IR") else " ").join(words))
+
+
+def section(text, heading):
+    """The lines of a section of the manual page."""
+    return re.split(r'^\.SH "?%s"?\n' % heading, text, flags=re.M)[1].split("\n.SH ")[0].split("\n")
+
+
+def tags(lines):
+    """The tags of the lists of a section of the manual page."""
+    return [words_of_request(line) for before, line in zip(lines, lines[1:]) if before in (".TP", ".TQ")]
+
+
+def page_commands(page):
+    """The forms of the commands in the manual page."""
+    return tags(section(page, "COMMANDS"))
+
+
+def manual_commands(text):
+    """The forms of the commands in the manual."""
+    return re.findall(r"^- `([^`]*)`$", text, re.M)
+
+
+def differences(text, page):
+    """The forms that stand in one of the manual and the page alone, or twice in one."""
+    ours, theirs = sorted(manual_commands(text)), sorted(page_commands(page))
+    return sorted(set(ours) ^ set(theirs)) + [form for forms in (ours, theirs) for form in sorted(set(forms)) if forms.count(form) > 1]
+
+
+def instances(form):
+    """Scripts that call a command by its form, with each of its optional words and without."""
+    places = {"NAME": "main", "PKG": "foo", "VERSION": "1", "LIST": "main", "V": "1*", "P": "990", "PREFIX": "fo"}
+    optional = re.search(r" \[([^]]*)\]", form)
+    calls = [form]
+    if optional:
+        calls = [form.replace(optional[0], "")] + [form.replace(optional[0], " " + word) for word in optional[1].split("|")]
+    return [" ".join(places.get(word, word) for word in call.split()) for call in calls]
+
+
+def test_commands(tests):
+    """The manual and its page have the same commands, a missing one is seen, and the program takes each in its form alone."""
+    page, text = contents(PAGE), contents(MANUAL)
+    forms = manual_commands(text)
+    tests.same("the commands of the manual and of its page", (differences(text, page), "pkgnames [PREFIX]" in forms), ([], True))
+    for form in forms:
+        tests.same("the manual without %s" % form, differences(text.replace("- `%s`\n" % form, ""), page), [form])
+        for call in instances(form):
+            for words, wanted in ((call, False), (call + " x y z", True)):
+                answer = tests.run([], words.encode() + b"\n.\n")[1]
+                got = b"E: line 1: unknown command" in answer, b"E: line 1: bad arguments" in answer
+                tests.same("the words %s" % words, got, (False, wanted))
+    names = {form.split()[0] for form in forms}
+    for name in ("pkgname", "PKGNAMES", "add", "list"):
+        tests.same("%s is no command" % name, (name in names, tests.run([], name.encode())[1]), (False, b"E: line 1: unknown command\n"))
+
+
+def test_refusals(tests):
+    """The page has each refusal of the program, and no other. The examples of the manual meet all but those for want of room."""
+    page, text = contents(PAGE), contents(MANUAL)
+    source = contents(os.path.join(TOP, "crates", "ctl_store", "src", "refusal.rt"))
+    known = set(re.findall(r'=> "([^"]*)"', source)) - {"bad filter", "bad pattern"}
+    told = {words for tag in tags(section(page, "REFUSALS")) for words in tag.split(", ")}
+    tests.same("the refusals of the manual page", sorted(told ^ known), [])
+    met = set(re.findall(r"^    E: line [0-9]+: (.*)$", text, re.M))
+    tests.same("the refusals that the manual shows", sorted(known - met), ["cache full", "line too long", "out of memory"])
+
+
+def rendered(page):
+    """The manual page as a reader sees it, or nothing where no program for it is there, and what such a program complains of."""
+    if shutil.which("mandoc"):
+        wrong = subprocess.run(["mandoc", "-T", "lint", "-W", "warning", page], stdout=subprocess.PIPE, stderr=subprocess.STDOUT).stdout
+        return subprocess.run(["mandoc", "-T", "ascii", page], stdout=subprocess.PIPE).stdout, wrong
+    if shutil.which("groff"):
+        done = subprocess.run(["groff", "-man", "-Tascii", "-ww", page], stdout=subprocess.PIPE, stderr=subprocess.PIPE)
+        return done.stdout, done.stderr
+    return None, b""
 
 
 def test_page(tests):
-    """The manual page has every command and every refusal of the manual, and is well formed."""
-    page = re.sub(r"\\f[PIRB]|\\(?=-)", "", contents(PAGE))
-    text = contents(MANUAL)
-    commands = {words.split()[0] for heading in ("Edits", "Queries") for words in first_column(text, heading)}
-    wanted = sorted(commands | set(first_column(text, "Refusals")))
-    tests.same("commands and refusals in the manual page", [words for words in wanted if words not in page], [])
-    tests.same("the tables of the manual", ("pkgnames" in commands, "out of memory" in wanted), (True, True))
-    if shutil.which("mandoc"):
-        done = subprocess.run(["mandoc", "-T", "lint", "-W", "warning", PAGE], stdout=subprocess.PIPE, stderr=subprocess.STDOUT)
-        tests.same("mandoc's advice on the manual page", done.stdout, b"")
-    else:
-        tests.skip("mandoc's advice on the manual page", "mandoc isn't installed")
+    """The manual page renders without a complaint, and reads as it should."""
+    seen, wrong = rendered(PAGE)
+    if seen is None:
+        tests.skip("the rendering of the manual page", "neither mandoc nor groff is installed")
+        return
+    tests.same("complaints of the manual page", wrong, b"")
+    # Bold and underlined letters are overprinted, or have escapes.
+    plain = re.sub(rb"\x1b\[[0-9;]*m|.\x08", b"", seen)
+    words = b" ".join(plain.split())
+    for wanted in (b"a single dot", b"dctrl-cache [-l NAME=FILE]... [--status FILE] [SCRIPT]", b"pin * release LIST P", b"/usr/lib/apt/apt-helper cat-file"):
+        tests.same("%r in the manual page" % wanted, wanted in words, True)
+    tests.same("dots that meet", b" .. " in words, False)
 
 
 def test_examples_of_manual(tests):
@@ -74,4 +158,6 @@ def test_examples_of_manual(tests):
 
 def test_manual(tests):
     test_examples_of_manual(tests)
+    test_commands(tests)
+    test_refusals(tests)
     test_page(tests)

@@ -7,9 +7,6 @@ from harness import Files
 WRONG = [
     ["a", "b"],
     ["-x"],
-    ["--help"],
-    ["-h"],
-    ["--version"],
     ["--nope=1"],
     ["-l"],
     ["--status"],
@@ -18,6 +15,27 @@ WRONG = [
     ["--status", "a", "--status", "a"],
     ["--list", "a=b"],
 ]
+
+
+USAGE = b"dctrl-cache [-l NAME=FILE]... [--status FILE] [SCRIPT]"
+
+
+def test_help(tests):
+    """Help and the version are told alone: what the program is, its words, and what each of them does."""
+    told = tests.run(["--help"], b"frob\n")
+    tests.same("-h and --help", tests.run(["-h"]), told)
+    lines = told[2].split(b"\n")
+    tests.same("the status of --help", told[:2], (2, b""))
+    tests.same("what the program is", lines[0], b"Holds lists of Debian packages in memory, edits them and answers queries about them")
+    tests.same("its words", b"Usage: " + USAGE in lines, True)
+    for word in (b"[SCRIPT]", b"-l <NAME=FILE>", b"--status <FILE>", b"-h, --help", b"-V, --version"):
+        rows = [line.strip() for line in lines if line.strip().startswith(word)]
+        tests.same("%s in the help" % word.decode(), [len(row[len(word):].split()) > 1 for row in rows], [True])
+    tests.same("the help's last line ends", told[2][-1:], b"\n")
+    for word in ("--version", "-V"):
+        tests.same(word, tests.run([word], b"frob\n"), (2, b"", b"dctrl-cache 0.1.0\n"))
+    with open("/dev/full", "wb") as full:
+        tests.same("help on a full device", tests.run(["--help"], stderr=full)[:2], (2, b""))
 
 
 def test_wrong_words(tests):
@@ -54,6 +72,7 @@ def test_spellings(tests):
 
 
 def test_words(tests):
+    test_help(tests)
     test_wrong_words(tests)
     test_words_of_other_bytes(tests)
     test_spellings(tests)

@@ -1,6 +1,7 @@
 """Writers that take nothing, stop taking, or take slowly."""
 
 import os
+import socket
 import subprocess
 import time
 
@@ -73,9 +74,41 @@ def test_slow_reader(tests):
         tests.same("a slow reader", (b"".join(taken) == answer, running.wait(PATIENCE), running.stderr.read()), (True, 0, b""))
 
 
+def test_writer_that_would_block(tests):
+    """A pipe that is set not to wait, and is full: the run doesn't wait for it."""
+    script, answer = many_names(30000)
+    reader, writer = os.pipe()
+    os.set_blocking(writer, False)
+    status, _, errors = tests.run([], script, writer)
+    os.close(writer)
+    taken = b""
+    with os.fdopen(reader, "rb") as pipe:
+        taken = pipe.read()
+    tests.same("a writer that would block", (status, errors), WRITE_FAILED)
+    tests.same("it has a part of the answer", (0 < len(taken) < len(answer), answer.startswith(taken)), (True, True))
+
+
+def test_one_write_a_refusal(tests):
+    """Each refusal comes in one piece: a socket that keeps pieces apart shows each line as one."""
+    ours, its = socket.socketpair(socket.AF_UNIX, socket.SOCK_SEQPACKET)
+    with ours, its:
+        status, _, errors = tests.run([], b"frob\n" * 3 + b"pkgnames\nunmark foo\n", its.fileno())
+        its.close()
+        pieces = []
+        while True:
+            piece = ours.recv(4096)
+            if not piece:
+                break
+            pieces.append(piece)
+    wanted = [b"E: line %d: unknown command\n" % number for number in (1, 2, 3)] + [b"E: line 5: no such mark\n"]
+    tests.same("the pieces of refusals", (status, errors, pieces), (1, b"", wanted))
+
+
 def test_writers(tests):
     test_full_device(tests)
     test_errors_that_cannot_be_told(tests)
     test_closed_pipe(tests)
     test_reader_that_stops(tests)
     test_slow_reader(tests)
+    test_writer_that_would_block(tests)
+    test_one_write_a_refusal(tests)

@@ -10,6 +10,8 @@ use ctl_session::{Fault, FromRead, FromWrite, Session};
 use std::alloc::Global;
 
 #[cfg(test)]
+mod cuts;
+#[cfg(test)]
 mod edits;
 #[cfg(test)]
 mod faults;
@@ -36,8 +38,8 @@ mod traps;
 
 /// Runs a script that is in memory, and gives what it writes: the text of the script's commands, one after another.
 pub fn run_text(alloc: Global, session: &mut Session, script: &[u8]) -> Result<Vec<u8>, Fault>
-    ensures { IfOk result (λ text. (outcomes : List Outcome) × Runs session.old.cache (commands_of script.now) outcomes
-        × (text.items ≡ text_of_all outcomes) × (session.new.cache ≡ state_after_all session.old.cache outcomes)) }
+    ensures { IfOk result (λ text. (outcomes : List Outcome) × Runs session.old.cache.state (commands_of script.now) outcomes
+        × (text.items ≡ text_of_all outcomes) × (session.new.cache.state ≡ state_after_all session.old.cache.state outcomes)) }
 {
     let mut reader = FromRead::new(script);
     let mut writer = FromWrite::new(Vec::<u8>::new(alloc));

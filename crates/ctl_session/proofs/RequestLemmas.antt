@@ -1,14 +1,13 @@
 -- What a command asks for that was read whole.
-use Rattle.std.proofs.Common.{◌≡◌, ◌∙◌, ℕ, ◌+◌, ◌&&◌, List, ◌∷◌, Bool, true, false, Option, None, Some, is_none, is_some, option_map, length, Result, Ok, Err, inl, inr, refl, sym, ap, subst, if◌then◌else◌}
-use Rattle.std.proofs.lemmas.Bool.{cases_Bool, false≢true}
-use Rattle.ctl_store.specs.declared.refusal.Refusal.{Refusal}
+use Rattle.std.proofs.Common.{◌≡◌, ◌∙◌, ℕ, ◌+◌, ◌&&◌, List, ◌∷◌, true, false, Option, None, Some, is_none, is_some, length, Ok, Err, inl, inr, sym, ap, subst, if◌then◌else◌}
+use Rattle.std.proofs.lemmas.Bool.{cases_Bool}
 use Rattle.ctl_store.specs.declared.refusal.Refusal.TheVariants.{Command as UnknownCommand, TooLong, Unended}
 use Rattle.ctl_session.specs.State.{CacheState}
 use Rattle.ctl_session.specs.Outcome.{Outcome}
 use Rattle.ctl_session.specs.Effect.{Does, DoesWhatIsAsked, ComesTo}
 use Rattle.ctl_session.specs.Script.{Command, first_long, fits, name_of}
 use Rattle.ctl_session.specs.Words.{behind_name}
-use Rattle.ctl_session.specs.Request.{Request, request_of, request_by, request_named, command_named, refused_at, takes_memory}
+use Rattle.ctl_session.specs.Request.{Request, request_of, request_by, request_named, command_named, refused_at}
 use Rattle.ctl_session.specs.Asked.{GivesWordsOf}
 use Rattle.ctl_session.specs.declared.request.CommandWords.{CommandWords}
 use Rattle.ctl_session.proofs.ReadingLemmas.{is_true}
@@ -44,11 +43,6 @@ words_given command head read none ended line given unknown =
       ap (λ o. is_none o && (command.ended && is_some (command_named (name_of command.line)))) none ∙ ap (λ e. e && is_some (command_named (name_of command.line))) ended ∙
           ap (λ l. is_some (command_named (name_of l))) (sym same) ∙ named,
     )
-
--- nothing comes of nothing alone
-pub none_of : {A : Type 0} {B : Type 0} (f : A → B) (o : Option A) → is_some (option_map f o) ≡ false → o ≡ None
-none_of f None none = refl
-none_of f (Some x) none = absurd (false≢true (sym none))
 
 -- what a command that is whole does, where its words ask for this
 pub whole_does : (cache : CacheState) (command : Command) (head : List ℕ) (request : Request) (outcome : Outcome) → command.line ≡ head →

@@ -14,7 +14,7 @@ use ctl_store::Refusal;
 use std::alloc::Global;
 
 /// Whether what a request comes to depends on its body: not where it is a stanza for a list that isn't there.
-fn uses_body(cache: &Cache, request: &Request<'_>) -> bool
+pub(crate) fn uses_body(cache: &Cache, request: &Request<'_>) -> bool
     ensures { result ≡ false → (asked : Command) → Does cache.now.state asked (request_text request.now) (Refused asked.number NoList) }
 {
     match request {

@@ -3,7 +3,7 @@
 ghost use Rattle.std.specs.Prelude.{◌≡◌, true, IfOk, IfErr, codes, map, string_bytes};
 ghost use Rattle.std.specs.Option.{option_map};
 ghost use Rattle.clap.specs.Words.{HasMatchesOf, app_of};
-ghost use Rattle.clap.specs.Simple.{with_rule};
+ghost use Rattle.clap.specs.Simple.{with_rule, is_simple};
 ghost use Rattle.clap.specs.Takes.{takes};
 ghost use Rattle.clap.specs.Matches.{first_value, found_of};
 ghost use Rattle.clap.specs.declared.parser.matches.ArgMatches.{ArgMatches as Matches};
@@ -122,6 +122,9 @@ pub fn arguments(alloc: Global, words: &[&str]) -> Result<Arguments, ArgumentsFa
     ensures values { IfOk result (λ arguments. (found : Matches) × HasMatchesOf application (map (λ word. word.now) words.now) found
         × (option_map string_bytes arguments.status ≡ first_value (found_of found) (codes "FILE"))
         × (option_map string_bytes arguments.script ≡ first_value (found_of found) (codes "SCRIPT"))) }
+
+    // What clap promises it promises of simple applications, as this one is.
+    ensures simple { is_simple application ≡ true }
 
     // Words that clap takes are refused for want of memory alone.
     ensures memory { takes application (map (λ word. word.now) words.now) ≡ true → IfErr result (λ fault. fault ≡ Memory) }

@@ -10,6 +10,7 @@ ghost use Rattle.ctl_session.specs.Asked.{request_text, IsProperRequest};
 ghost use Rattle.ctl_session.specs.State.{CacheState};
 ghost use Rattle.ctl_session.specs.Replies.{outcome_from, outcome_of_edit, MayDo};
 
+use crate::body_need::uses_body;
 use crate::cache::Cache;
 use crate::edits::{add_list, edit, put, refused, set_prefs};
 use crate::query::answer;
@@ -45,6 +46,9 @@ fn do_request(
         MayDo cache.old.state asked (request_text request.entry) (outcome_from result out.new.items cache.new.state) }
     ensures state { cache.new.state ≡ state_after cache.old.state (outcome_from result out.new.items cache.new.state) }
 {
+    if !uses_body(cache, &request) {
+        return Reply::Refused(refused(number, Refusal::NoList));
+    }
     if body.dropped {
         return Reply::Refused(refused(number, Refusal::Memory));
     }

@@ -21,7 +21,7 @@ use std::alloc::{AllocError, Global};
 /// What a run has in memory: two lines, and the text of an answer.
 #[derive(Drop)]
 pub(crate) struct Buffers {
-    /// The line of a command.
+    /// The line of a command, and then that of its refusal.
     head: Vec<u8>,
     /// A line of its body.
     line: Vec<u8>,

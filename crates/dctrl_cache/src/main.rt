@@ -1,6 +1,7 @@
 //! `dctrl-cache`: runs a script over a package cache in memory.
 #![tactic(auto)]
 
+use clap::error::ErrorKind as WordsFault;
 use ctl_session::{
     Arguments, ArgumentsFault, Cache, Fault, FromRead, FromWrite, LoadFault, Session, Summary,
     arguments,
@@ -48,11 +49,22 @@ fn owned(rt: &HostRuntime, text: &str) -> Result<String, AllocError> {
     String::from_str(rt.alloc(), text)
 }
 
+/// Whether a file is known to have more bytes than it may. Of a pipe it isn't known.
+fn is_too_large(file: &File) -> bool {
+    match file.metadata() {
+        Ok(known) => known.len() > MAX_FILE,
+        Err(_) => false,
+    }
+}
+
 /// The bytes of a file, of which there may be [`MAX_FILE`].
 fn read_file(rt: &HostRuntime, path: &str) -> Result<Vec<u8>, Failure> {
     let Ok(file) = File::open(rt, path) else {
         return Err(Failure::CannotRead(owned(rt, path)?));
     };
+    if is_too_large(&file) {
+        return Err(Failure::CannotRead(owned(rt, path)?));
+    }
     let mut bytes = Vec::new(rt.alloc());
     match file.take(MAX_FILE + 1).read_to_end(&mut bytes) {
         Ok(_) if bytes.len() as u64 <= MAX_FILE => Ok(bytes),
@@ -98,17 +110,27 @@ fn load_lists(
     }
 }
 
-/// Runs a script from a reader to a writer, which is flushed at the end, after a fault too.
-fn run<R: Read + Drop, W: Write + Drop>(
+/// Runs a script from a reader to a writer, which it hands back.
+fn run_script<R: Read + Drop, W: Write>(
     mut session: Session,
     reader: R,
     writer: W,
-) -> Result<Summary, Failure> {
+) -> (Result<Summary, Fault>, W) {
     let mut source = FromRead::new(reader);
     let mut sink = FromWrite::new(writer);
     let outcome = session.run(&mut source, &mut sink);
     let _ = source.into_inner();
-    let flushed = sink.into_inner().flush();
+    (outcome, sink.into_inner())
+}
+
+/// Runs a script from a reader to a writer, which is flushed at the end, after a fault too.
+fn run<R: Read + Drop, W: Write + Drop>(
+    session: Session,
+    reader: R,
+    writer: W,
+) -> Result<Summary, Failure> {
+    let (outcome, mut writer) = run_script(session, reader, writer);
+    let flushed = writer.flush();
     match outcome {
         Err(fault) => Err(Failure::Run(fault)),
         Ok(_) if flushed.is_err() => Err(Failure::Run(Fault::Write)),
@@ -125,12 +147,29 @@ fn listed(alloc: Global, given: Args) -> Result<Vec<String>, AllocError> {
     Ok(words)
 }
 
+/// Why the words that the program was called with can't be had.
+fn words_failure(kind: ErrorKind) -> Failure {
+    if kind == ErrorKind::OutOfMemory {
+        Failure::Memory
+    } else {
+        Failure::NotUtf8
+    }
+}
+
 /// The words that the program was called with, its own name first.
-fn words(rt: &HostRuntime) -> Result<Vec<String>, Failure> {
+fn given_words(rt: &HostRuntime) -> Result<Args, Failure> {
     match env::args(rt) {
-        Ok(given) => Ok(listed(rt.alloc(), given)?),
-        Err(error) if error.kind() == ErrorKind::OutOfMemory => Err(Failure::Memory),
-        Err(_) => Err(Failure::NotUtf8),
+        Ok(given) => Ok(given),
+        Err(error) => Err(words_failure(error.kind())),
+    }
+}
+
+/// The same in a list.
+fn words(rt: &HostRuntime) -> Result<Vec<String>, Failure> {
+    let given = given_words(rt)?;
+    match listed(rt.alloc(), given) {
+        Ok(words) => Ok(words),
+        Err(_) => Err(Failure::Memory),
     }
 }
 
@@ -169,16 +208,32 @@ fn run_words(rt: &HostRuntime) -> Result<Summary, Failure> {
     }
 }
 
+/// Whether clap's text was asked for, and tells no fault.
+fn was_asked_for(kind: WordsFault) -> bool {
+    matches!(kind, WordsFault::DisplayHelp | WordsFault::DisplayVersion)
+}
+
+/// What stands before and behind the text of a failure. The texts of clap end their lines by themselves.
+fn ends_of(failure: &Failure) -> (&'static str, &'static str) {
+    match failure {
+        Failure::Words(ArgumentsFault::Words(error)) if was_asked_for(error.kind()) => ("", ""),
+        Failure::Words(ArgumentsFault::Words(_)) => ("dctrl-cache: ", ""),
+        _ => ("dctrl-cache: ", "\n"),
+    }
+}
+
+/// Tells on standard error why the program gives up.
+fn tell(rt: &HostRuntime, failure: &Failure) {
+    let (before, behind) = ends_of(failure);
+    let _ = eprint!(rt; "{before}{failure}{behind}");
+}
+
 fn main(rt: HostRuntime) -> ExitCode {
     match run_words(&rt) {
         Ok(Summary { refused: 0, .. }) => ExitCode::SUCCESS,
         Ok(_) => ExitCode::from(1),
         Err(failure) => {
-            let _ = match failure {
-                // clap's text ends its line by itself.
-                Failure::Words(ArgumentsFault::Words(error)) => eprint!(rt; "dctrl-cache: {error}"),
-                other => eprintln!(rt; "dctrl-cache: {other}"),
-            };
+            tell(&rt, &failure);
             ExitCode::from(2)
         }
     }
