@@ -3,7 +3,7 @@
 
 ghost use Rattle.std.specs.Prelude.{None};
 
-use crate::run_text;
+use crate::run_script;
 use ctl_session::{Cache, Failed, Fault, FromRead, Session, Sink};
 use std::alloc::Global;
 use std::test::Fail;
@@ -82,7 +82,7 @@ fn cut_run(alloc: Global, script: &[u8], room: usize) -> Option<CutRun> {
     };
     let outcome = session.run(&mut reader, &mut writer);
     let _ = reader.into_inner();
-    let Ok(shown) = run_text(alloc, &mut session, PROBE) else {
+    let (Ok(_), shown) = run_script(alloc, &mut session, PROBE) else {
         return None;
     };
     Some(CutRun {
