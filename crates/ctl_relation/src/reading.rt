@@ -94,8 +94,12 @@ fn group_of(alloc: Global, kind: FieldKind, text: &[u8]) -> Result<(Group, &[u8]
 fn relations_from(alloc: Global, body: &[u8], kind: FieldKind) -> Result<Relations, RelationFault>
     ensures { Gives (λ x. x) result (relations_of kind body.now) }
 {
-    // The list grows as groups come, since commas without groups are to take no memory.
-    let mut groups = Vec::new(alloc);
+    // Room for the pieces between commas that aren't blank: the list doesn't grow, and has no room to give back.
+    let pieces = body
+        .split(|byte| *byte == b',')
+        .filter(|piece| !without_whitespace(piece).is_empty())
+        .count();
+    let mut groups = Vec::with_capacity(alloc, pieces)?;
     let mut left = body;
     'groups: loop {
         let text = without_whitespace(left);
