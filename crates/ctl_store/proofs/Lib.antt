@@ -3,6 +3,9 @@ pub mod PiecesLemmas
 pub mod PointLemmas
 pub mod SortedLemmas
 pub mod OrderLemmas
+pub mod RankLemmas
+pub mod RankedLemmas
+pub mod TableLemmas
 pub mod ShelfLemmas
 pub mod SortLemmas
 pub mod HalvedLemmas

@@ -1,6 +1,6 @@
 -- A store with its rooms: how much more it takes without memory.
 use Rattle.std.specs.Prelude.{◌≡◌, ℕ, ℤ, ◌+◌, ◌<◌, ◌≤◌, min, suc, List, [], ◌∷◌, map, length, Option, None, Some, IfSome, Vec, nat_eq, if◌then◌else◌}
-use Rattle.std.specs.List.{IsDistinct}
+use Rattle.std.specs.List.{IsDistinct, slice_index_or}
 use Rattle.std.specs.Map.{keys_of as names_of}
 use Rattle.std.specs.FinMap as fin
 use Rattle.ctl_stanza.specs.declared.list_kind.ListKind.{ListKind}
@@ -15,7 +15,7 @@ use Rattle.ctl_store.specs.Pins.{selector_eq}
 use Rattle.ctl_store.specs.State.{State, stanza_count, status_count}
 use Rattle.ctl_store.specs.Edits.{Edit, AddList, Put, Mark, Pin, Prefs}
 use Rattle.ctl_store.specs.Step.{refusal_of}
-use Rattle.ctl_store.specs.Rows.{Rises, IsKept}
+use Rattle.ctl_store.specs.Rows.{Rises, IsKept, replace_at}
 use Rattle.ctl_store.specs.Pieces.{most_in_piece, joined, IsFit}
 use Rattle.ctl_store.specs.Keys.{KeyedList, Keyed, stanza_lists, removed_of, added_of, coming, AreComing, AreHeld, AreNew}
 use Rattle.ctl_store.specs.Followed.{coming_under}
@@ -196,3 +196,18 @@ pub record IsReady (h : Held) (plan : Planned) : Type 0 where
   pub added : plan.added ≡ added_of (keyed_of h) plan.edit
   pub goes : AreHeld plan.removed (keyed_of h).lists
   pub comes : AreNew plan.added plan.removed (keyed_of h).lists
+
+-- ---- a change of one list in its place
+
+-- The list in the row of a place was changed, and says so of the room that it has then. It keeps its name.
+pub record HasChanged (old new : List (ℕ × (List ℕ × Sheet))) (at : ℕ) (change : KeyedList → KeyedList) (says : Type 0 → Type 0) : Type 0 where
+  pub list : List ℕ × Sheet
+  pub is : new ≡ replace_at old at list
+  pub name : (d : ℕ × (List ℕ × Sheet)) → list.0 ≡ (slice_index_or old at d).1.0
+  pub change_is : (d : ℕ × (List ℕ × Sheet)) → keyed_list list.1 ≡ change (keyed_list (slice_index_or old at d).1.1)
+  pub room : says (HasRoomInList list.1)
+
+-- the list in the row of a place takes one stanza more
+pub record TakesOne (rows : List (ℕ × (List ℕ × Sheet))) (at : ℕ) : Type 0 where
+  pub room : (d : ℕ × (List ℕ × Sheet)) → HasRoomInList (slice_index_or rows at d).1.1
+  pub below : (d : ℕ × (List ℕ × Sheet)) → (slice_index_or rows at d).1.1.next + 1 < 18446744073709551616

@@ -15,6 +15,7 @@ pub mod Edits
 pub mod Step
 pub mod Rows
 pub mod Pieces
+pub mod Ranks
 pub mod Keys
 pub mod Entries
 pub mod ByName

@@ -2,14 +2,19 @@
 #![tactic(auto)]
 
 mod edit;
+mod items;
+mod label;
 mod limits;
 mod list_class;
+mod numbered;
 mod order;
 mod pieces;
 mod pin_version;
 mod plan;
 mod prefs;
 mod priority;
+mod ranked;
+mod ranks;
 mod refusal;
 mod rows;
 mod selector;
