@@ -18,6 +18,8 @@ mod limits;
 #[cfg(test)]
 mod made;
 #[cfg(test)]
+mod pins;
+#[cfg(test)]
 mod refused;
 #[cfg(test)]
 mod scripts;

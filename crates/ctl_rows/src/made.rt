@@ -2,11 +2,10 @@
 
 ghost use Rattle.std.specs.Prelude.{◌≡◌, Some, IfOk, IfSome};
 ghost use Rattle.ctl_store.specs.Edits.{edit_of, settings_of};
-ghost use Rattle.ctl_store.specs.Held.{IsProper, AreDistinct};
 
 use ctl_relation::{Bytes, Version};
 use ctl_stanza::{ListKind, Stanza, lines_take_bytes, read_stanzas};
-use ctl_store::{Edit, ListClass, PinSetting, PinVersion, Selector, Store, boxed, read_prefs};
+use ctl_store::{Edit, ListClass, PinSetting, PinSettings, PinVersion, Selector, Store, boxed, read_prefs};
 use std::alloc::Global;
 use std::test::Fail;
 
@@ -34,7 +33,6 @@ pub fn selector(alloc: Global, package: &str, version: &str) -> Option<Selector>
 
 /// The edit that adds a list `m` of packages.
 pub fn add_list(alloc: Global, text: &str) -> Option<Edit>
-    ensures { IfSome result (λ edit. IsProper (edit_of edit)) }
 {
     Some(Edit::AddList {
         name: name(alloc, "m")?,
@@ -46,7 +44,6 @@ pub fn add_list(alloc: Global, text: &str) -> Option<Edit>
 
 /// The edit that drops the list `m`.
 pub fn drop_list(alloc: Global) -> Option<Edit>
-    ensures { IfSome result (λ edit. IsProper (edit_of edit)) }
 {
     Some(Edit::DropList {
         name: name(alloc, "m")?,
@@ -55,7 +52,6 @@ pub fn drop_list(alloc: Global) -> Option<Edit>
 
 /// The edit that puts a stanza into the list `m`.
 pub fn put(alloc: Global, text: &str) -> Option<Edit>
-    ensures { IfSome result (λ edit. IsProper (edit_of edit)) }
 {
     let stanza = stanzas(alloc, text)?.pop()?;
     Some(Edit::Put {
@@ -66,7 +62,6 @@ pub fn put(alloc: Global, text: &str) -> Option<Edit>
 
 /// The edit that takes a stanza out of the list `m`.
 pub fn remove(alloc: Global, package: &str, text: &str) -> Option<Edit>
-    ensures { IfSome result (λ edit. IsProper (edit_of edit)) }
 {
     Some(Edit::Remove {
         list: name(alloc, "m")?,
@@ -76,7 +71,6 @@ pub fn remove(alloc: Global, package: &str, text: &str) -> Option<Edit>
 }
 
 pub fn mark(alloc: Global, package: &str, text: &str) -> Option<Edit>
-    ensures { IfSome result (λ edit. IsProper (edit_of edit)) }
 {
     Some(Edit::Mark {
         package: name(alloc, package)?,
@@ -86,7 +80,6 @@ pub fn mark(alloc: Global, package: &str, text: &str) -> Option<Edit>
 
 /// The edit that marks that no version of a package is installed.
 pub fn mark_none(alloc: Global, package: &str) -> Option<Edit>
-    ensures { IfSome result (λ edit. IsProper (edit_of edit)) }
 {
     Some(Edit::Mark {
         package: name(alloc, package)?,
@@ -95,7 +88,6 @@ pub fn mark_none(alloc: Global, package: &str) -> Option<Edit>
 }
 
 pub fn unmark(alloc: Global, package: &str) -> Option<Edit>
-    ensures { IfSome result (λ edit. IsProper (edit_of edit)) }
 {
     Some(Edit::Unmark {
         package: name(alloc, package)?,
@@ -103,7 +95,6 @@ pub fn unmark(alloc: Global, package: &str) -> Option<Edit>
 }
 
 pub fn pin(alloc: Global, package: &str, version: &str, priority: i16) -> Option<Edit>
-    ensures { IfSome result (λ edit. IsProper (edit_of edit)) }
 {
     Some(Edit::Pin {
         setting: PinSetting {
@@ -114,7 +105,6 @@ pub fn pin(alloc: Global, package: &str, version: &str, priority: i16) -> Option
 }
 
 pub fn unpin(alloc: Global, package: &str, version: &str) -> Option<Edit>
-    ensures { IfSome result (λ edit. IsProper (edit_of edit)) }
 {
     Some(Edit::Unpin {
         selector: selector(alloc, package, version)?,
@@ -122,7 +112,6 @@ pub fn unpin(alloc: Global, package: &str, version: &str) -> Option<Edit>
 }
 
 pub fn target(alloc: Global, list: &str) -> Option<Edit>
-    ensures { IfSome result (λ edit. IsProper (edit_of edit)) }
 {
     Some(Edit::Target {
         name: Some(name(alloc, list)?),
@@ -131,20 +120,17 @@ pub fn target(alloc: Global, list: &str) -> Option<Edit>
 
 /// The edit by which there is no target release.
 pub fn target_none() -> Option<Edit>
-    ensures { IfSome result (λ edit. IsProper (edit_of edit)) }
 {
     Some(Edit::Target { name: None })
 }
 
 /// The pin settings of preferences.
-pub fn settings(alloc: Global, text: &str) -> Option<Vec<PinSetting>>
-    ensures { IfSome result (λ settings. AreDistinct (settings_of settings.items)) }
+pub fn settings(alloc: Global, text: &str) -> Option<PinSettings>
 {
     read_prefs(alloc, text.as_bytes(), 1).ok()
 }
 
 pub fn prefs(alloc: Global, text: &str) -> Option<Edit>
-    ensures { IfSome result (λ edit. IsProper (edit_of edit)) }
 {
     Some(Edit::Prefs {
         settings: settings(alloc, text)?,
@@ -163,7 +149,6 @@ pub fn given<T>(made: Option<T>) -> Result<T, Fail>
 
 /// Makes an edit that the store accepts.
 pub fn edited(store: &mut Store, edit: Edit) -> Result<(), Fail>
-    requires { IsProper (edit_of edit) }
 {
     match store.prepare(edit) {
         Ok(plan) => {

@@ -6,7 +6,6 @@
 
 ghost use Rattle.std.specs.Prelude.{IfSome};
 ghost use Rattle.ctl_store.specs.Edits.{edit_of};
-ghost use Rattle.ctl_store.specs.Held.{IsProper};
 
 use crate::made::{
     add_list, drop_list, mark, mark_none, pin, prefs, put, remove, target, target_none, unmark,
@@ -31,7 +30,6 @@ const LEFT: &[u8] =
 
 /// The edit of a number, each form among them.
 fn numbered(alloc: Global, number: u8) -> Option<Edit>
-    ensures { IfSome result (λ edit. IsProper (edit_of edit)) }
 {
     match number {
         0 => add_list(alloc, LIST),
@@ -66,7 +64,6 @@ fn held(alloc: Global, store: &Store) -> Result<Vec<u8>, AllocError> {
 
 /// Makes an edit, or gives its refusal.
 fn refusal(store: &mut Store, edit: Edit) -> Option<Refusal>
-    requires { IsProper (edit_of edit) }
 {
     match store.prepare(edit) {
         Ok(plan) => {

@@ -1,7 +1,6 @@
 //! The calls of the store that no script shows, each with what it has to give.
 
 ghost use Rattle.ctl_store.specs.Edits.{edit_of};
-ghost use Rattle.ctl_store.specs.Held.{IsProper};
 
 use crate::made::{add_list, edited, given, mark, name, pin, put, settings, version};
 use ctl_stanza::{Cause, ListKind, TextFault};
@@ -89,7 +88,6 @@ fn is_mark(plan: &Plan) -> bool {
 
 /// Whether the edit of the plan that the store makes is a mark.
 fn plans_a_mark(store: &mut Store, edit: Edit) -> bool
-    requires { IsProper (edit_of edit) }
 {
     match store.prepare(edit) {
         Ok(plan) => is_mark(&plan),
@@ -206,10 +204,8 @@ fn preferences_are_read(rt: HostRuntime) -> Result<(), Fail> {
         rt.alloc(),
         "Package: a b\nPin: version 1\nPin-Priority: 7\n\nPackage: a\nPin: version 1\nPin-Priority: 8\n",
     ))?;
-    assert_eq!(rt; settings.len(), 2);
-    let seven = settings
-        .iter()
-        .all(|setting: &PinSetting| setting.priority == 7);
+    assert_eq!(rt; settings.iter().count(), 2);
+    let seven = settings.iter().all(|(_selector, priority)| priority == 7);
     assert!(rt; seven);
     Ok(())
 }

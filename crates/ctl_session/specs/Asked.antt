@@ -5,7 +5,6 @@ use Rattle.ctl_store.specs.declared.selector.Selector.{Selector}
 use Rattle.ctl_store.specs.declared.refusal.Refusal.{Refusal}
 use Rattle.ctl_store.specs.declared.refusal.Refusal.TheVariants as refusal
 use Rattle.ctl_store.specs.Edits.{edit_of}
-use Rattle.ctl_store.specs.Held.{IsProper}
 use Rattle.ctl_session.specs.Request.{Request as RequestText, AddList as AddListText, Put as PutText, Prefs as PrefsText, Change as ChangeText, Ask as AskText, request_by, refused_at}
 use Rattle.ctl_session.specs.declared.request.Request.{Request}
 use Rattle.ctl_session.specs.declared.request.Request.TheVariants.{AddList, Put, Prefs, Change, Ask}
@@ -46,10 +45,3 @@ abbrev pub GivesWordsAt : ℕ → Result CommandWords RefusalAt → Result Reque
 GivesWordsAt number (Ok read) asked = asked ≡ refused_at number (request_by read.name read.words.items)
 GivesWordsAt number (Err refused) asked = (asked ≡ Err refused) ⊎ (refused ≡ record { line = number; cause = refusal.Memory })
 
--- an edit that a request holds is one that a store takes
-abbrev pub IsProperRequest : Request → Type 0
-IsProperRequest (AddList name kind class) = Unit {0}
-IsProperRequest (Put name) = Unit {0}
-IsProperRequest Prefs = Unit {0}
-IsProperRequest (Change edit) = IsProper (edit_of edit)
-IsProperRequest (Ask query) = Unit {0}

@@ -6,7 +6,7 @@ ghost use Rattle.ctl_session.specs.Script.{Command};
 ghost use Rattle.ctl_session.specs.Reading.{Describes};
 ghost use Rattle.ctl_session.specs.Outcome.{state_after};
 ghost use Rattle.ctl_session.specs.Effect.{MayCome};
-ghost use Rattle.ctl_session.specs.Asked.{request_text, IsProperRequest};
+ghost use Rattle.ctl_session.specs.Asked.{request_text};
 ghost use Rattle.ctl_session.specs.State.{CacheState};
 ghost use Rattle.ctl_session.specs.Replies.{outcome_from, outcome_of_edit, MayDo};
 
@@ -39,7 +39,6 @@ fn do_request(
     number: u32,
     out: &mut Vec<u8>,
 ) -> Reply
-    requires proper { IsProperRequest request }
     requires empty { out.old.items ≡ [] }
     ensures may { (asked : Command) → asked.number ≡ number → (body.now.refused ≡ false → body.now.text.items ≡ text_of_lines asked.body) →
         MayDo cache.old asked (request_text request.entry) (outcome_from result out.new.items cache.new) }

@@ -10,8 +10,7 @@ use Rattle.std.specs.declared.cmp.Ordering.TheVariants.{Less}
 use Rattle.ctl_store.specs.declared.selector.Selector.{Selector}
 use Rattle.ctl_store.specs.declared.selector.Selector.TheVariants.{Version, Release}
 use Rattle.ctl_store.specs.declared.selector.PinSetting.{PinSetting}
-use Rattle.ctl_store.specs.Step.{place}
-use Rattle.ctl_store.specs.Rows.{Rises, replace_at}
+use Rattle.ctl_store.specs.Places.{place, Rises, replace_at}
 use Rattle.ctl_store.specs.Pieces.{joined, place_of_spot, IsSpot, IsSpotOrEnd, IsFit}
 use Rattle.ctl_store.specs.declared.pieces.Spot.{Spot}
 

@@ -9,17 +9,11 @@ use Rattle.std.specs.declared.cmp.Ordering.{Ordering}
 use Rattle.std.specs.declared.cmp.Ordering.TheVariants.{Less}
 use Rattle.ctl_relation.specs.Version.{Triple, triple_of, triple_cmp}
 use Rattle.ctl_stanza.specs.Content.{Content, package_of, version_of}
-use Rattle.ctl_store.specs.Step.{place, is_same}
+use Rattle.ctl_store.specs.Step.{is_same}
+use Rattle.ctl_store.specs.Places.{place}
+pub use Rattle.ctl_store.specs.Places.{has_serial, Rises, replace_at, remove_row_at}
 
 -- ---- rows in the order of their serials
-
-abbrev pub has_serial : {V : Type 0} → ℕ → ℕ × V → Bool
-has_serial serial row = nat_eq row.0 serial
-
--- the serials rise from n on, and stay below m
-abbrev pub Rises : {V : Type 0} → ℕ → List (ℕ × V) → ℕ → Type 0
-Rises n [] m = n ≤ m
-Rises n (row ∷ rows) m = (n ≤ row.0) × Rises (suc row.0) rows m
 
 -- rows under the serials from n on
 abbrev pub rows_from : {V : Type 0} → ℕ → List V → List (ℕ × V)
@@ -28,12 +22,6 @@ rows_from n (x ∷ xs) = (n, x) ∷ rows_from (suc n) xs
 
 abbrev pub by_name_and_version : List ℕ → Option (List ℕ) → ℕ × Content → Bool
 by_name_and_version name version row = is_same name version row.1
-
--- the row at a place takes another stanza
-abbrev pub replace_at : {V : Type 0} → List (ℕ × V) → ℕ → V → List (ℕ × V)
-replace_at [] i x = []
-replace_at (row ∷ rows) zero x = (row.0, x) ∷ rows
-replace_at (row ∷ rows) (suc i) x = row ∷ replace_at rows i x
 
 abbrev pub put_row_at : Option ℕ → Content → ℕ → List (ℕ × Content) → List (ℕ × Content)
 put_row_at None x next rows = rows ++ (next, x) ∷ []
@@ -49,10 +37,6 @@ next_at (Some i) next = next
 
 abbrev pub next_after_put : Content → ℕ → List (ℕ × Content) → ℕ
 next_after_put x next rows = next_at (place (by_name_and_version (package_of x) (version_of x)) rows) next
-
-abbrev pub remove_row_at : {V : Type 0} → Option ℕ → List (ℕ × V) → List (ℕ × V)
-remove_row_at None rows = rows
-remove_row_at (Some i) rows = remove rows i
 
 -- without the first of this name and version
 abbrev pub remove_row : List ℕ → Option (List ℕ) → List (ℕ × Content) → List (ℕ × Content)

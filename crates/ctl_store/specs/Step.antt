@@ -15,16 +15,12 @@ use Rattle.ctl_store.specs.declared.limits.Limits.{Limits}
 use Rattle.ctl_store.specs.declared.refusal.Refusal.{Refusal}
 use Rattle.ctl_store.specs.declared.refusal.Refusal.TheVariants.{ListExists, NoList, StatusExists, NoStanza, NoMark, NoPin, Full}
 use Rattle.ctl_store.specs.Pins.{selector_eq}
+pub use Rattle.ctl_store.specs.Places.{place}
 use Rattle.ctl_store.specs.Named.{at_name, has_name, without_name, change_named}
 use Rattle.ctl_store.specs.State.{StanzaList, State, stanza_count}
 use Rattle.ctl_store.specs.Edits.{Edit, AddList, DropList, Put, Remove, Mark, Unmark, Pin, Unpin, Target, Prefs}
 
 -- ---- stanzas of a list
-
--- the place of the first that passes
-abbrev pub place : {X : Type 0} → (X → Bool) → List X → Option ℕ
-place p [] = None
-place p (x ∷ xs) = if p x then Some 0 else option_map (λ n. suc n) (place p xs)
 
 -- equal versions, or no version at both
 abbrev pub is_same_version : Option (List ℕ) → Option (List ℕ) → Bool

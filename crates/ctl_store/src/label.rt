@@ -39,11 +39,9 @@ pub(crate) trait Labelled {
 fn compare_rest(one: &Label<'_>, other: &Label<'_>) -> Ordering
     ensures { result ≡ ordering_then (nat_cmp one.now.form other.now.form) (ordering_then (slice_cmp nat_cmp one.now.text other.now.text) (nat_cmp one.now.rank other.now.rank)) }
 {
-    one.form.cmp(&other.form).then(
-        one.text
-            .cmp(other.text)
-            .then(one.rank.cmp(&other.rank)),
-    )
+    one.form
+        .cmp(&other.form)
+        .then(one.text.cmp(other.text).then(one.rank.cmp(&other.rank)))
 }
 
 /// How two labels stand, by names, forms, texts and ranks.

@@ -93,9 +93,7 @@ fn pieces_below<T>(rows: &[Vec<Numbered<T>>], serial: u64) -> usize
     rows.partition_point(
         |rows: &Vec<Numbered<T>>|
             ensures { result ≡ last_passes (λ row. nat_lt row.0 serial) rows.now.items }
-        {
-            ends_before(rows, serial)
-        },
+        { ends_before(rows, serial) },
     )
 }
 

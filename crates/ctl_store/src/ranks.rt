@@ -12,11 +12,7 @@ use crate::pieces::Spot;
 use std::cmp::Ordering;
 
 // How the row of a serial stands to a label.
-fn compare_row<T: Labelled>(
-    rows: &[Vec<Numbered<T>>],
-    serial: u64,
-    wanted: &Label<'_>,
-) -> Ordering
+fn compare_row<T: Labelled>(rows: &[Vec<Numbered<T>>], serial: u64, wanted: &Label<'_>) -> Ordering
     requires pieces { ArePieces rows.now }
     requires rises { (n : ℕ) × (m : ℕ) × Rises n (joined rows.now) m }
     ensures { result ≡ label_order (λ row. T.label row.1) (joined rows.now) wanted.now serial }
@@ -28,11 +24,7 @@ fn compare_row<T: Labelled>(
 }
 
 // Whether the row of the last of some serials comes before a label.
-fn ends_before<T: Labelled>(
-    rows: &[Vec<Numbered<T>>],
-    serials: &[u64],
-    wanted: &Label<'_>,
-) -> bool
+fn ends_before<T: Labelled>(rows: &[Vec<Numbered<T>>], serials: &[u64], wanted: &Label<'_>) -> bool
     requires pieces { ArePieces rows.now }
     requires rises { (n : ℕ) × (m : ℕ) × Rises n (joined rows.now) m }
     ensures { result ≡ last_passes (λ serial. is_lt (label_order (λ row. T.label row.1) (joined rows.now) wanted.now serial)) serials.now }
@@ -60,9 +52,7 @@ pub(crate) fn lower<T: Labelled>(
             requires pieces { ArePieces rows.now }
             requires rises { (n : ℕ) × (m : ℕ) × Rises n (joined rows.now) m }
             ensures { result ≡ last_passes (λ serial. is_lt (label_order (λ row. T.label row.1) (joined rows.entry.now) wanted.entry.now serial)) serials.now.items }
-        {
-            ends_before(rows, serials, wanted)
-        },
+        { ends_before(rows, serials, wanted) },
     );
     match order.get(piece) {
         Some(serials) => Spot {
@@ -72,9 +62,7 @@ pub(crate) fn lower<T: Labelled>(
                     requires pieces { ArePieces rows.now }
                     requires rises { (n : ℕ) × (m : ℕ) × Rises n (joined rows.now) m }
                     ensures { result ≡ is_lt (label_order (λ row. T.label row.1) (joined rows.entry.now) wanted.entry.now serial.now) }
-                {
-                    compare_row(rows, *serial, wanted).is_lt()
-                },
+                { compare_row(rows, *serial, wanted).is_lt() },
             ),
         },
         None => Spot { piece, at: 0 },

@@ -6,7 +6,7 @@
 #![tactic(auto)]
 
 ghost use Rattle.ctl_store.specs.Edits.{edit_of};
-ghost use Rattle.ctl_store.specs.Held.{IsProper, IsReady};
+ghost use Rattle.ctl_store.specs.Held.{IsReady};
 
 mod edits;
 mod state;
@@ -74,7 +74,6 @@ fn append_outcome(
     edit: Edit,
     line: &mut Vec<u8>,
 ) -> Result<(), AllocError>
-    requires { IsProper (edit_of edit) }
 {
     match store.prepare(edit) {
         Ok(plan) => append_accepted(alloc, store, plan, line),

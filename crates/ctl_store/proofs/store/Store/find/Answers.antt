@@ -4,16 +4,16 @@ use Rattle.ctl_store.specs.Held.{lists_of, InOrder, entry_of}
 use Rattle.ctl_store.proofs.LookLemmas.{look_up, in_entry}
 use Rattle.ctl_store.proofs.store.Store.find.Goals as goal
 
-pub entry_of-requires : goal.entry_of-requires
-entry_of-requires c =
+pub entry_of-requires-clause-order : goal.entry_of-requires-clause-order
+entry_of-requires-clause-order c =
     let s = c.self.inside in
-    (0, s.next_list, s.limits.stanzas + s.edits, subst (λ es. InOrder 0 (lists_of es) s.next_list (s.limits.stanzas + s.edits)) (sym c.entries.ensures.entries) c.self.invariant.order)
+    (0, s.next_list, s.limits.stanzas + s.edits, subst (λ es. InOrder 0 (lists_of es) s.next_list (s.limits.stanzas + s.edits)) (sym c.pieces.ensures.entries) c.self.invariant.order)
 
 pub returns-in-Some : goal.returns-in-Some
 returns-in-Some c =
     let s = c.self.inside in
     let k = c.args.key in
-    let found = c.in-Some.ensures ∙ ap (entry_of k.list) c.entries.ensures.entries in
+    let found = c.in-Some.ensures ∙ ap (entry_of k.list) c.pieces.ensures.entries in
     c.stanza.ensures
     ∙ sym (sym (ap (λ h. stanza_at k (lists_of h.lists)) c.self.view_is) ∙ look_up k 0 s.lists.0 s.next_list (s.limits.stanzas + s.edits) c.self.invariant.order ∙ ap (in_entry k) (sym found))
 
@@ -21,5 +21,5 @@ pub returns-in-None : goal.returns-in-None
 returns-in-None c =
     let s = c.self.inside in
     let k = c.args.key in
-    let none = c.in-None.ensures ∙ ap (entry_of k.list) c.entries.ensures.entries in
+    let none = c.in-None.ensures ∙ ap (entry_of k.list) c.pieces.ensures.entries in
     sym (sym (ap (λ h. stanza_at k (lists_of h.lists)) c.self.view_is) ∙ look_up k 0 s.lists.0 s.next_list (s.limits.stanzas + s.edits) c.self.invariant.order ∙ ap (in_entry k) (sym none))

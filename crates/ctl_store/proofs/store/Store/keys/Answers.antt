@@ -1,5 +1,4 @@
-use Rattle.std.proofs.Common.{◌∙◌, ◌+◌, ◌++◌, map, ap, sym, subst}
-use Rattle.ctl_store.specs.Named.{by_bytes}
+use Rattle.std.proofs.Common.{◌∙◌, ◌+◌, ◌++◌, ap, sym, subst}
 use Rattle.ctl_store.specs.Keys.{AreRising, all_keys}
 use Rattle.ctl_store.specs.Entries.{entries_of, AreAt}
 use Rattle.ctl_store.specs.Held.{lists_of}
@@ -8,7 +7,7 @@ use Rattle.ctl_store.proofs.EntryLemmas.{keys_are_all, entries_found}
 use Rattle.ctl_store.proofs.store.Store.keys.Goals as goal
 
 pub returns-clause-keys : goal.returns-clause-keys
-returns-clause-keys c = ap (λ ks. ks ++ all_keys (lists_of (map by_bytes c.entries.result))) c.new.ensures ∙ ap (λ l. all_keys (lists_of l)) (c.entries.ensures.entries ∙ ap (λ h. h.lists) c.self.view_is)
+returns-clause-keys c = ap (λ ks. ks ++ all_keys (lists_of c.entries.result)) c.new.ensures ∙ ap (λ l. all_keys (lists_of l)) (c.entries.ensures.entries ∙ ap (λ h. h.lists) c.self.view_is)
 
 pub returns-clause-entries : goal.returns-clause-entries
 returns-clause-entries c = returns-clause-keys c ∙ sym (keys_are_all (lists_of c.args.self.now.lists))
