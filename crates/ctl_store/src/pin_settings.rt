@@ -117,7 +117,7 @@ impl PinSettings {
     {
         let wanted = label_of_general(list);
         match find_item(&self.rows, &self.order, self.next, &wanted) {
-            Some(setting) => Some(setting.priority),
+            Some(pin) => Some(pin.priority),
             None => None,
         }
     }
