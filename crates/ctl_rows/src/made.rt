@@ -1,7 +1,6 @@
 //! Edits and their parts, made of texts. None comes where memory is refused, or where a text is not well formed.
 
-ghost use Rattle.std.specs.Prelude.{◌≡◌, Some, IfOk, IfSome};
-ghost use Rattle.ctl_store.specs.Edits.{edit_of, settings_of};
+ghost use Rattle.std.specs.Prelude.{◌≡◌, Some, IfOk};
 
 use ctl_relation::{Bytes, Version};
 use ctl_stanza::{ListKind, Stanza, lines_take_bytes, read_stanzas};

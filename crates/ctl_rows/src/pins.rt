@@ -25,7 +25,7 @@ fn a_setting_that_is_set_again_keeps_its_place(rt: HostRuntime) -> Result<(), Fa
     set(rt.alloc(), &mut settings, "b", 7)?;
     let priorities = settings.iter().map(|(_selector, priority)| priority);
     let shown: Vec<i16> = priorities.collect(rt.alloc())?;
-    assert_eq!(rt; shown.as_slice(), &[7, 6]);
+    assert_eq!(rt; shown.as_slice(), [7, 6].as_slice());
     let found = settings.get(&given(selector(rt.alloc(), "a", "1"))?);
     assert_eq!(rt; found, Some(6));
     let other = settings.get(&given(selector(rt.alloc(), "a", "2"))?);
@@ -61,7 +61,7 @@ fn pins_that_are_left_keep_their_order(rt: HostRuntime) -> Result<(), Fail> {
     }
     edited(&mut store, given(pin(rt.alloc(), "d", "1", 8))?)?;
     let left = priorities(rt.alloc(), &store)?;
-    assert_eq!(rt; left.as_slice(), &[2, 3, 5, 8]);
+    assert_eq!(rt; left.as_slice(), [2, 3, 5, 8].as_slice());
     Ok(())
 }
 

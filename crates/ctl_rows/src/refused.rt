@@ -4,9 +4,6 @@
 //! words that say which edit met it, or that none did. It still passes where a request can be done without, as that by which
 //! a vector gives room back. What it asserts holds at each request.
 
-ghost use Rattle.std.specs.Prelude.{IfSome};
-ghost use Rattle.ctl_store.specs.Edits.{edit_of};
-
 use crate::made::{
     add_list, drop_list, mark, mark_none, pin, prefs, put, remove, target, target_none, unmark,
     unpin,

@@ -1,11 +1,9 @@
 //! The calls of the store that no script shows, each with what it has to give.
 
-ghost use Rattle.ctl_store.specs.Edits.{edit_of};
-
 use crate::made::{add_list, edited, given, mark, name, pin, put, settings, version};
 use ctl_stanza::{Cause, ListKind, TextFault};
 use ctl_store::{
-    Counts, Edit, Limits, PinSetting, PinVersion, Plan, Refusal, Store, read_prefs, read_priority,
+    Counts, Edit, Limits, PinVersion, Plan, Refusal, Store, read_prefs, read_priority,
 };
 use std::alloc::Global;
 use std::test::Fail;

@@ -44,4 +44,3 @@ GivesWords (Err cause) asked = (asked ≡ Err cause) ⊎ (cause ≡ refusal.Memo
 abbrev pub GivesWordsAt : ℕ → Result CommandWords RefusalAt → Result RequestText RefusalAt → Type 0
 GivesWordsAt number (Ok read) asked = asked ≡ refused_at number (request_by read.name read.words.items)
 GivesWordsAt number (Err refused) asked = (asked ≡ Err refused) ⊎ (refused ≡ record { line = number; cause = refusal.Memory })
-

@@ -1,8 +1,5 @@
 //! Edits as the lines give them.
 
-ghost use Rattle.std.specs.Prelude.{◌≡◌, IfOk};
-ghost use Rattle.ctl_store.specs.Edits.{edit_of, settings_of};
-
 use crate::words::Words;
 use anyhow::{Context, Result, bail};
 use ctl_stanza::{ListKind, Stanza, lines_take_bytes, read_stanzas};
@@ -40,8 +37,7 @@ fn stanzas(alloc: Global, words: &mut Words<'_>, kind: ListKind) -> Result<Vec<B
     Ok(boxed(alloc, read)?)
 }
 
-fn add_list(alloc: Global, words: &mut Words<'_>) -> Result<Edit>
-{
+fn add_list(alloc: Global, words: &mut Words<'_>) -> Result<Edit> {
     let name = words.bytes()?;
     let kind = kind(words)?;
     let class = class_named(words.word()?).context("a class that is not known")?;
@@ -54,8 +50,7 @@ fn add_list(alloc: Global, words: &mut Words<'_>) -> Result<Edit>
     })
 }
 
-fn put(alloc: Global, words: &mut Words<'_>) -> Result<Edit>
-{
+fn put(alloc: Global, words: &mut Words<'_>) -> Result<Edit> {
     let list = words.bytes()?;
     let kind = kind(words)?;
     let stanza = stanzas(alloc, words, kind)?
@@ -98,8 +93,7 @@ fn settings(alloc: Global, words: &mut Words<'_>) -> Result<PinSettings> {
     Ok(settings)
 }
 
-fn pin(alloc: Global, words: &mut Words<'_>) -> Result<Edit>
-{
+fn pin(alloc: Global, words: &mut Words<'_>) -> Result<Edit> {
     let selector = selector(alloc, words.word()?, words)?;
     let priority = words.priority()?;
     Ok(Edit::Pin {
@@ -108,8 +102,7 @@ fn pin(alloc: Global, words: &mut Words<'_>) -> Result<Edit>
 }
 
 /// The edit of a line whose first word is this.
-pub fn edit_named(alloc: Global, word: &str, words: &mut Words<'_>) -> Result<Edit>
-{
+pub fn edit_named(alloc: Global, word: &str, words: &mut Words<'_>) -> Result<Edit> {
     match word {
         "add-list" => add_list(alloc, words),
         "drop-list" => Ok(Edit::DropList {

@@ -5,7 +5,6 @@
 //! names of packages, prints all that the store holds and the marks of these packages.
 #![tactic(auto)]
 
-ghost use Rattle.ctl_store.specs.Edits.{edit_of};
 ghost use Rattle.ctl_store.specs.Held.{IsReady};
 
 mod edits;
@@ -73,8 +72,7 @@ fn append_outcome(
     store: &mut Store,
     edit: Edit,
     line: &mut Vec<u8>,
-) -> Result<(), AllocError>
-{
+) -> Result<(), AllocError> {
     match store.prepare(edit) {
         Ok(plan) => append_accepted(alloc, store, plan, line),
         Err((_, why)) => append_refusal(alloc, b"refused", why, line),
