@@ -36,7 +36,8 @@ fn a_setting_that_is_set_again_keeps_its_place(rt: HostRuntime) -> Result<(), Fa
 #[test]
 fn a_general_pin_is_that_of_its_list(rt: HostRuntime) -> Result<(), Fail> {
     let mut store = Store::new(rt.alloc());
-    let text = "Package: a\nPin: release a=main\nPin-Priority: 7\n\nPackage: *\nPin: release a=sid\nPin-Priority: 100\n";
+    let text =
+        "Package: a\nPin: release a=main\nPin-Priority: 7\n\nPackage: *\nPin: release a=sid\nPin-Priority: 100\n";
     edited(&mut store, given(prefs(rt.alloc(), text))?)?;
     assert_eq!(rt; store.general_pin(b"sid"), Some(100));
     assert_eq!(rt; store.general_pin(b"main"), None);

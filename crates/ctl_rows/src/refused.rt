@@ -26,8 +26,7 @@ const LEFT: &[u8] =
       target m\n1 stanzas, 15 edits\n1.0 \n";
 
 /// The edit of a number, each form among them.
-fn numbered(alloc: Global, number: u8) -> Option<Edit>
-{
+fn numbered(alloc: Global, number: u8) -> Option<Edit> {
     match number {
         0 => add_list(alloc, LIST),
         1 => put(alloc, "Package: c\nVersion: 3\n"),
@@ -60,8 +59,7 @@ fn held(alloc: Global, store: &Store) -> Result<Vec<u8>, AllocError> {
 }
 
 /// Makes an edit, or gives its refusal.
-fn refusal(store: &mut Store, edit: Edit) -> Option<Refusal>
-{
+fn refusal(store: &mut Store, edit: Edit) -> Option<Refusal> {
     match store.prepare(edit) {
         Ok(plan) => {
             store.commit(plan);
