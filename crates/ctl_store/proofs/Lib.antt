@@ -11,13 +11,14 @@ pub mod SortLemmas
 pub mod HalvedLemmas
 pub mod NamedLemmas
 pub mod ListedLemmas
+pub mod NamedRowLemmas
 pub mod AcceptLemmas
 pub mod StepLemmas
 pub mod StatusLemmas
 pub mod SoundLemmas
 pub mod PastLemmas
 pub mod FoundLemmas
-pub mod PinLemmas
+pub mod SettingLemmas
 pub mod KeptLemmas
 pub mod KeyLemmas
 pub mod LookLemmas
@@ -28,6 +29,8 @@ pub mod HeldLemmas
 pub mod FindLemmas
 pub mod WordLemmas
 pub mod PrefsLemmas
+pub mod FirstLemmas
+pub mod OwnLemmas
 pub mod ChangeLemmas
 pub mod EntryLemmas
 pub mod FollowedLemmas

@@ -10,12 +10,11 @@ use Rattle.std.specs.Cmp.Lexicographic.{slice_cmp}
 use Rattle.std.proofs.lemmas.Cmp.{ranked}
 use Rattle.std.proofs.lemmas.Map.Text.{is_eq-slice_cmp}
 use Rattle.std.proofs.lemmas.Slice.Eq.{bytes_eq-Decides}
-use Rattle.ctl_store.specs.Step.{place}
 use Rattle.ctl_store.specs.Rows.{Rises, replace_at, remove_row_at}
 use Rattle.ctl_store.specs.Pieces.{joined, IsFit}
-use Rattle.ctl_store.specs.Ranks.{Label, label_cmp, labels_of, sorted_labels, labels_below, has_label, label_place, label_item, put_item_at, IsRanked, AreApart, IsTable}
+use Rattle.ctl_store.specs.Ranks.{Label, label_cmp, labels_of, sorted_labels, labels_below, ranked_serials, has_label, label_place, label_item, put_item_at, IsRanked, AreApart, IsTable}
 use Rattle.ctl_store.proofs.PlaceLemmas.{some_is, place_within, place_passes}
-use Rattle.ctl_store.proofs.RankLemmas.{label_total, all_map}
+use Rattle.ctl_store.proofs.RankLemmas.{label_total}
 use Rattle.ctl_store.proofs.RankedLemmas.{ranked_replace, ranked_push, ranked_remove}
 
 -- ---- labels that tie
@@ -136,18 +135,19 @@ module _ {T : Type 0} (label : ℕ × T → Label) where
     abbrev below : Label → ℕ
     below q = labels_below q (sorted_labels (labels_of label (joined rows.items)))
 
+    -- an item whose label is that of the one in its place
+    pub table_written : (x : T) (i : ℕ) (rows' : Vec (Vec (ℕ × T) A) B) → i < length (joined rows.items) → ((d : ℕ × T) → label (get_or (joined rows.items) i d) ≡ label ((get_or (joined rows.items) i d).0, x))
+        → IsFit rows' rows_ready → joined rows'.items ≡ replace_at (joined rows.items) i x → IsTable label rows' rows_ready next order order_ready
+    table_written x i rows' within alike fit is = record {
+      ranked = subst (λ l. IsRanked label l next (joined order.items)) (sym is) (ranked_replace label (joined rows.items) next (joined order.items) h.ranked x i within alike);
+      apart = subst (λ l. AreApart label l) (sym is) (apart_replace (joined rows.items) i x (λ d l. alike d) h.apart);
+      rows_fit = fit;
+      order_fit = h.order_fit;
+    }
+
     pub table_replace : (same : (m n : ℕ) (x : T) → label (m, x) ≡ label (n, x)) (x : T) (i : ℕ) (rows' : Vec (Vec (ℕ × T) A) B) → label_place label (label (next, x)) (joined rows.items) ≡ Some i
         → IsFit rows' rows_ready → joined rows'.items ≡ replace_at (joined rows.items) i x → IsTable label rows' rows_ready next order order_ready
-    table_replace same x i rows' found fit is =
-        let old = joined rows.items in
-        let within = place_within (has_label label (label (next, x))) old i found in
-        let alike = alike same next x old i found in
-        record {
-          ranked = subst (λ l. IsRanked label l next (joined order.items)) (sym is) (ranked_replace label old next (joined order.items) h.ranked x i within alike);
-          apart = subst (λ l. AreApart label l) (sym is) (apart_replace old i x (λ d l. alike d) h.apart);
-          rows_fit = fit;
-          order_fit = h.order_fit;
-        }
+    table_replace same x i rows' found fit is = table_written x i rows' (place_within (has_label label (label (next, x))) (joined rows.items) i found) (alike same next x (joined rows.items) i found) fit is
 
     module _ (rows' rows_ready' : Vec (Vec (ℕ × T) A) B) (order' order_ready' : Vec (Vec ℕ A) B) (rows_fit : IsFit rows' rows_ready') (order_fit : IsFit order' order_ready') where
       pub table_push : (x : T) (at : ℕ) → label_place label (label (next, x)) (joined rows.items) ≡ None → at ≡ below (label (next, x))
@@ -171,6 +171,19 @@ module _ {T : Type 0} (label : ℕ × T → Label) where
         rows_fit = rows_fit;
         order_fit = order_fit;
       }
+
+module _ {T : Type 0} (label : ℕ × T → Label) where
+  -- no rows
+  pub table_empty : {A B : Type 0} (rows rows_ready : Vec (Vec (ℕ × T) A) B) (next : ℕ) (order order_ready : Vec (Vec ℕ A) B) → rows.items ≡ [] → order.items ≡ [] → IsFit rows rows_ready → IsFit order order_ready → IsTable label rows rows_ready next order order_ready
+  table_empty rows rows_ready next order order_ready no_rows no_order rows_fit order_fit = record {
+    ranked = record {
+      rises = subst (λ l. Rises 0 (joined l) next) (sym no_rows) (omega arith);
+      ordered = ap joined no_order ∙ sym (ap (λ l. ranked_serials label (joined l)) no_rows);
+    };
+    apart = subst (λ l. AreApart label (joined l)) (sym no_rows) tt;
+    rows_fit = rows_fit;
+    order_fit = order_fit;
+  }
 
 -- ---- the entries of a table, by keys that its labels tell apart
 

@@ -11,7 +11,9 @@ pub mod SelectorLaws
 pub mod Named
 pub mod State
 pub mod Prefs
+pub mod PrefsLaws
 pub mod Edits
+pub mod Places
 pub mod Step
 pub mod Rows
 pub mod Pieces

@@ -1,5 +1,5 @@
 -- Rows under rising serials, and orders of labels by which one is found.
-use Rattle.std.specs.Prelude.{◌≡◌, ℕ, suc, ◌+◌, ◌-◌, Bool, false, List, [], ◌∷◌, ◌++◌, map, min, Option, None, Some, IfSome, option_map, nat_eq, Vec, if◌then◌else◌}
+use Rattle.std.specs.Prelude.{◌≡◌, ℕ, suc, ◌+◌, ◌-◌, Bool, false, List, [], ◌∷◌, ◌++◌, map, min, Option, None, Some, IfSome, option_map, nat_eq, Vec, if◌then◌else◌, length, vec_len}
 use Rattle.std.specs.List.{AllByRecursion}
 use Rattle.std.specs.Option.{option_map_or}
 use Rattle.std.specs.Map.{lookup}
@@ -10,9 +10,8 @@ use Rattle.std.specs.declared.cmp.Ordering.TheVariants.{Less}
 use Rattle.ctl_store.specs.declared.selector.Selector.{Selector}
 use Rattle.ctl_store.specs.declared.selector.Selector.TheVariants.{Version, Release}
 use Rattle.ctl_store.specs.declared.selector.PinSetting.{PinSetting}
-use Rattle.ctl_store.specs.Step.{place}
-use Rattle.ctl_store.specs.Rows.{Rises, replace_at}
-use Rattle.ctl_store.specs.Pieces.{joined, place_of_spot, IsSpot, IsSpotOrEnd, IsFit}
+use Rattle.ctl_store.specs.Places.{place, Rises, replace_at}
+use Rattle.ctl_store.specs.Pieces.{most_in_piece, room_of_last, joined, place_of_spot, IsSpot, IsSpotOrEnd, IsFit}
 use Rattle.ctl_store.specs.declared.pieces.Spot.{Spot}
 
 -- what a row is found by
@@ -100,9 +99,10 @@ module _ {T : Type 0} (label : ℕ × T → Label) where
 abbrev pub items_of : {T : Type 0} → List (ℕ × T) → List T
 items_of rows = map (λ row. row.1) rows
 
--- how many rows come with no memory, at least
-abbrev pub room_of : ℕ → ℕ → ℕ → ℕ
-room_of rows order next = min rows (min order (18446744073709551615 - next))
+-- how many rows come with no memory: one, wherever its label stands, or none
+abbrev pub room_of : {T A B : Type 0} → Vec (Vec T A) B → Vec (Vec ℕ A) B → Vec (Vec ℕ A) B → ℕ → ℕ
+room_of rows_ready order order_ready next =
+    min 1 (min (vec_len rows_ready) (min (room_of_last order_ready.items + 1 - min most_in_piece (length (joined order.items) + 1)) (18446744073709551615 - next)))
 
 -- What looking for a label finds: where it stands or would in the order, and the spot of its row.
 pub record IsFoundIn {T A B : Type 0} (label : ℕ × T → Label) (rows : Vec (Vec (ℕ × T) A) B) (order : Vec (Vec ℕ A) B) (wanted : Label) (looked : Spot × Option Spot) : Type 0 where

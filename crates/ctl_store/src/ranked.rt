@@ -1,7 +1,7 @@
 //! Tables: items in the order in which their labels were first set, found by their labels. The items stand in rows under
 //! rising serials, and the serials in the order of the labels.
 
-ghost use Rattle.std.specs.Prelude.{◌≡◌, ◌<◌, ◌+◌, ◌^◌, ℕ, OnOk, vec_len, option_copied, option_map, IfSome};
+ghost use Rattle.std.specs.Prelude.{◌≡◌, ◌<◌, ◌+◌, ◌^◌, ℕ, OnOk, option_copied, option_map, IfSome};
 ghost use Rattle.ctl_store.specs.Rows.{remove_row_at};
 ghost use Rattle.ctl_store.specs.Ranks.{IsTable, IsFoundIn, label_item, label_place, put_item_at, room_of};
 ghost use Rattle.ctl_store.specs.Pieces.{joined, place_of_spot, IsSpot};
@@ -22,7 +22,7 @@ pub(crate) fn reserve_item<T: Labelled + Drop>(
     requires { IsTable (λ row. T.label row.1) rows.old.pieces rows.old.ready next order.old.pieces order.old.ready }
     ensures table { IsTable (λ row. T.label row.1) rows.new.pieces rows.new.ready next order.new.pieces order.new.ready }
     ensures rows { rows.new.pieces.items ≡ rows.old.pieces.items }
-    ensures ok { OnOk result (0 < room_of (vec_len rows.new.ready) (vec_len order.new.ready) next) }
+    ensures ok { OnOk result (0 < room_of rows.new.ready order.new.pieces order.new.ready next) }
 {
     if next == u64::MAX {
         return Err(AllocError);
@@ -83,7 +83,7 @@ pub(crate) fn put_item<T: Labelled + Drop>(
     item: T,
 )
     requires table { IsTable (λ row. T.label row.1) rows.old.pieces rows.old.ready next.old order.old.pieces order.old.ready }
-    requires room { 0 < room_of (vec_len rows.old.ready) (vec_len order.old.ready) next.old }
+    requires room { 0 < room_of rows.old.ready order.old.pieces order.old.ready next.old }
     ensures table { IsTable (λ row. T.label row.1) rows.new.pieces rows.new.ready next.new order.new.pieces order.new.ready }
     ensures rows { joined rows.new.pieces.items ≡ put_item_at (label_place (λ row. T.label row.1) (T.label item) (joined rows.old.pieces.items)) item next.old (joined rows.old.pieces.items) }
 {

@@ -1,10 +1,14 @@
-use Rattle.std.proofs.Common.{ℕ, ◌≡◌, ◌∙◌, sym, ap, refl, ◌++◌, ◌∷◌, [], None, Some, option_map}
-use Rattle.ctl_store.specs.Ranks.{label_place, labels_of, sorted_labels, labels_below}
+use Rattle.std.proofs.Common.{ℕ, ◌≡◌, ◌∙◌, sym, ap, refl, arith, ◌++◌, ◌∷◌, [], None, Some, option_map}
+use Rattle.ctl_store.specs.Ranks.{label_place}
 use Rattle.ctl_store.specs.declared.pieces.Spot.{Spot}
 use Rattle.ctl_store.specs.Pieces.{joined, place_of_spot}
+use Rattle.ctl_store.proofs.PiecesLemmas.{ready_room}
 use Rattle.ctl_store.proofs.ShelfLemmas.{fit_written}
 use Rattle.ctl_store.proofs.TableLemmas.{table_replace, table_push}
 use Rattle.ctl_store.proofs.ranked.put_item.Goals as goal
+
+pub push-requires-clause-room : goal.push-requires-clause-room
+push-requires-clause-room g c = omega (arith, ready_room c.args.rows.now.ready.items c.requires.table.rows_fit.ready (omega (arith, c.requires.room)))
 
 pub returns-in_default-Some-clause-table : goal.returns-in_default-Some-clause-table
 returns-in_default-Some-clause-table g c =

@@ -1,4 +1,4 @@
-use Rattle.std.proofs.Common.{Bool, List, Vec, Global, Option, None, ◌≡◌, ◌∙◌, ◌<◌, ℕ, sym, ap, cond, get_or, arith, length}
+use Rattle.std.proofs.Common.{Bool, List, Vec, Global, None, ◌≡◌, ◌∙◌, ◌<◌, ℕ, sym, ap, cond, get_or, arith, length}
 use Rattle.std.specs.Ordering.{is_eq}
 use Rattle.ctl_store.specs.Step.{place}
 use Rattle.ctl_store.specs.Rows.{has_serial}
