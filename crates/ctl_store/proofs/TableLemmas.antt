@@ -150,6 +150,17 @@ module _ {T : Type 0} (label : ℕ × T → Label) where
     table_replace same x i rows' found fit is = table_written x i rows' (place_within (has_label label (label (next, x))) (joined rows.items) i found) (alike same next x (joined rows.items) i found) fit is
 
     module _ (rows' rows_ready' : Vec (Vec (ℕ × T) A) B) (order' order_ready' : Vec (Vec ℕ A) B) (rows_fit : IsFit rows' rows_ready') (order_fit : IsFit order' order_ready') where
+      -- the same rows in the same order, with another room
+      pub table_same : rows'.items ≡ rows.items → order'.items ≡ order.items → IsTable label rows' rows_ready' next order' order_ready'
+      table_same is order_is = record {
+        ranked =
+            subst (λ l. IsRanked label (joined l) next (joined order'.items)) (sym is)
+            (subst (λ l. IsRanked label (joined rows.items) next (joined l)) (sym order_is) h.ranked);
+        apart = subst (λ l. AreApart label (joined l)) (sym is) h.apart;
+        rows_fit = rows_fit;
+        order_fit = order_fit;
+      }
+
       pub table_push : (x : T) (at : ℕ) → label_place label (label (next, x)) (joined rows.items) ≡ None → at ≡ below (label (next, x))
           → joined rows'.items ≡ joined rows.items ++ (next, x) ∷ [] → joined order'.items ≡ insert (joined order.items) at next → IsTable label rows' rows_ready' (next + 1) order' order_ready'
       table_push x at none e is order_is = record {

@@ -75,8 +75,8 @@ fn look_up_item<T: Labelled + Drop>(
     look_up(rows.as_slice(), order.as_slice(), &item.label())
 }
 
-/// Puts an item in the place of that of its label, or else last. There is room for it.
-pub(crate) fn put_item<T: Labelled + Drop>(
+// Puts an item in the place of that of its label, or else last. There is room for it.
+fn put_in_room<T: Labelled + Drop>(
     rows: &mut Pieces<Numbered<T>>,
     order: &mut Pieces<u64>,
     next: &mut u64,
@@ -95,6 +95,23 @@ pub(crate) fn put_item<T: Labelled + Drop>(
             *next += 1;
         }
     }
+}
+
+/// Puts an item in the place of that of its label, or else last. There is room for it, and what isn't taken of it goes.
+pub(crate) fn put_item<T: Labelled + Drop>(
+    rows: &mut Pieces<Numbered<T>>,
+    order: &mut Pieces<u64>,
+    next: &mut u64,
+    item: T,
+)
+    requires table { IsTable (λ row. T.label row.1) rows.old.pieces rows.old.ready next.old order.old.pieces order.old.ready }
+    requires room { 0 < room_of rows.old.ready order.old.pieces order.old.ready next.old }
+    ensures table { IsTable (λ row. T.label row.1) rows.new.pieces rows.new.ready next.new order.new.pieces order.new.ready }
+    ensures rows { joined rows.new.pieces.items ≡ put_item_at (label_place (λ row. T.label row.1) (T.label item) (joined rows.old.pieces.items)) item next.old (joined rows.old.pieces.items) }
+{
+    put_in_room(rows, order, next, item);
+    rows.forget_room();
+    order.forget_room();
 }
 
 /// Takes the item of a label out. The others keep their order.
