@@ -13,8 +13,6 @@ mod part;
 mod reading;
 mod relation_fault;
 mod relation_laws;
-#[cfg(test)]
-mod relation_tests;
 mod relations;
 mod small_bytes;
 mod steps;
@@ -22,10 +20,6 @@ mod tokens;
 mod version;
 mod version_fault;
 mod version_laws;
-#[cfg(test)]
-mod version_table;
-#[cfg(test)]
-mod version_tests;
 
 pub use atom::Atom;
 pub use bytes::Bytes;

@@ -34,31 +34,3 @@ pub fn is_name(text: &[u8]) -> bool
 pub fn names_by_their_bytes()
     ensures { NamesByTheirBytes }
 {}
-
-#[cfg(test)]
-mod tests {
-    use super::*;
-
-    #[test]
-    fn knows_names(rt: HostRuntime) {
-        let names: [&[u8]; 7] = [b"a", b"0", b"Z", b"libc6", b"g++-12", b"a.b", b"0ad_data"];
-        for text in names {
-            let found = is_name(text);
-            assert!(rt; found, "{text:?}");
-        }
-        let others: [&[u8]; 8] = [
-            b"",
-            b"-a",
-            b"+",
-            b".a",
-            b"_a",
-            b"a b",
-            b"a:any",
-            b"\xc3\xa9",
-        ];
-        for text in others {
-            let found = is_name(text);
-            assert!(rt; !found, "{text:?}");
-        }
-    }
-}

@@ -62,20 +62,3 @@ impl SmallBytes {
         }
     }
 }
-
-#[cfg(test)]
-mod tests {
-    use super::*;
-    use std::test::Fail;
-
-    #[test]
-    fn keeps_short_and_long_bytes(rt: HostRuntime) -> Result<(), Fail> {
-        let text: &[u8] = b"libgstreamer-plugins-base1.0-dev";
-        for len in 0..text.len() + 1 {
-            let bytes = SmallBytes::from_slice(rt.alloc(), &text[..len])?;
-            let same = bytes.as_slice() == &text[..len];
-            assert!(rt; same, "{len}");
-        }
-        Ok(())
-    }
-}

@@ -1,113 +1,39 @@
-//! Runs that stop before their end, and words of the program.
+//! Runs that stop before their end.
 
-ghost use Rattle.std.specs.Prelude.{None};
-
-use crate::run_text;
-use ctl_session::{
-    Arguments, Cache, Failed, Fault, FromRead, FromWrite, Session, Sink, Source, arguments,
-};
-use std::alloc::Global;
-use std::io::Read;
+use crate::runs::{Act, came, came_of, fault_words};
+use crate::tables::same;
+use ctl_session::Fault;
+use ctl_store::Limits;
+use std::alloc::{AllocError, Global};
 use std::test::Fail;
-
-/// A reader that gives these bytes, and then fails.
-#[derive(Drop)]
-struct Breaking<'a> {
-    bytes: &'a [u8],
-    failures: u64,
-}
-
-impl Source for Breaking<'_> {
-    ghost remaining = { λ s. None };
-
-    ghost failures = { λ s. s.failures };
-
-    fn read(&mut self, buf: &mut [u8]) -> Result<usize, Failed> {
-        match self.bytes.read(buf) {
-            Ok(n) if n > 0 => Ok(n),
-            _ => {
-                self.failures = self.failures.saturating_add(1);
-                Err(Failed)
-            }
-        }
-    }
-}
-
-/// A writer that takes so many bytes, fails once, and then takes all.
-#[derive(Drop)]
-struct FailingOnce {
-    taken: Vec<u8>,
-    before: usize,
-    failures: u64,
-}
-
-impl Sink for FailingOnce {
-    ghost taken = { λ s. None };
-
-    ghost failures = { λ s. s.failures };
-
-    fn write(&mut self, buf: &[u8]) -> Result<usize, Failed> {
-        let count = if self.failures == 0 {
-            buf.len()
-                .min(self.before - self.taken.len().min(self.before))
-        } else {
-            buf.len()
-        };
-        if (count > 0 || buf.is_empty()) && self.taken.extend_from_slice(&buf[..count]).is_ok() {
-            return Ok(count);
-        }
-        self.failures = self.failures.saturating_add(1);
-        Err(Failed)
-    }
-}
 
 #[test]
 fn the_commands_before_a_failed_read_are_done(rt: HostRuntime) -> Result<(), Fail> {
     let rows: [(&[u8], &[u8]); 3] = [
-        (b"pkgnames\nfr", b""),
+        (b"pkgnames\nfr", b"! read failed\n"),
         (
             b"frob\nadd-list m packages\nPackage: a\nVersion: 1\n",
-            b"E: line 1: unknown command\n",
+            b"E: line 1: unknown command\n! read failed\n",
         ),
         (
             b"add-list m packages\nPackage: a\nVersion: 1\n.\npkgnames\npkgnames",
-            b"a\n",
+            b"a\n! read failed\n",
         ),
     ];
-    for (bytes, text) in rows {
-        let Ok(mut session) = Session::new(rt.alloc(), Cache::new(rt.alloc())) else {
-            assert!(rt; false);
-            return Ok(());
-        };
-        let mut reader = Breaking { bytes, failures: 0 };
-        let mut writer = FromWrite::new(Vec::<u8>::new(rt.alloc()));
-        let outcome = session.run(&mut reader, &mut writer);
-        let written = writer.into_inner();
-        assert!(rt; outcome == Err(Fault::Read));
-        assert_eq!(rt; written.as_slice(), text);
+    for (script, wanted) in &rows {
+        let text = came(rt.alloc(), &[Act::Broken(script)])?;
+        same(&rt, script, &text, wanted);
     }
     Ok(())
 }
 
 #[test]
 fn a_failed_write_ends_the_run(rt: HostRuntime) -> Result<(), Fail> {
-    let Ok(mut session) = Session::new(rt.alloc(), Cache::new(rt.alloc())) else {
-        assert!(rt; false);
-        return Ok(());
-    };
     let script: &[u8] =
         b"add-list main packages\nPackage: foo\nVersion: 1.0-1\n\nPackage: bar\nVersion: 2.0\n.\n\
         pkgnames\npkgnames\n";
-    let mut reader = FromRead::new(script);
-    let mut writer = FailingOnce {
-        taken: Vec::new(rt.alloc()),
-        before: 5,
-        failures: 0,
-    };
-    let outcome = session.run(&mut reader, &mut writer);
-    let _ = reader.into_inner();
-    assert!(rt; outcome == Err(Fault::Write));
-    assert_eq!(rt; writer.taken.as_slice(), b"bar\nf".as_slice());
+    let text = came(rt.alloc(), &[Act::Until(script, 5)])?;
+    same(&rt, script, &text, b"bar\nf! write failed\n");
     Ok(())
 }
 
@@ -116,223 +42,115 @@ const THREE_LISTS: &[u8] =
     b"add-list main packages\nPackage: foo\nVersion: 1.0-1\n.\nadd-list sid packages\nPackage: foo\nVersion: 2.0-1\n.\n\
     add-list status status\nPackage: foo\nStatus: install ok installed\nVersion: 1.0-1\n.\npkgnames\npkgnames\n";
 
-/// How many lists a session has.
-fn list_count(session: &Session) -> usize {
-    let mut count: usize = 0;
-    for _ in session.cache().store().lists() {
-        count = count.saturating_add(1);
-    }
-    count
+/// Asks for the names, and drops the three lists.
+const DROPS: &[u8] = b"pkgnames\ndrop-list main\ndrop-list sid\ndrop-list status\n";
+
+/// Three texts, one behind another.
+fn joined(alloc: Global, first: &[u8], second: &[u8], third: &[u8]) -> Result<Vec<u8>, AllocError> {
+    let mut all = Vec::from_slice(alloc, first)?;
+    all.extend_from_slice(second)?;
+    all.extend_from_slice(third)?;
+    Ok(all)
 }
 
 #[test]
 fn a_write_may_fail_at_each_byte(rt: HostRuntime) -> Result<(), Fail> {
     let text: &[u8] = b"foo\nfoo\n";
     for before in 0..8 {
-        let Ok(mut session) = Session::new(rt.alloc(), Cache::new(rt.alloc())) else {
-            return Err(Fail::from("no session"));
-        };
-        let mut reader = FromRead::new(THREE_LISTS);
-        let mut writer = FailingOnce {
-            taken: Vec::new(rt.alloc()),
-            before,
-            failures: 0,
-        };
-        let outcome = session.run(&mut reader, &mut writer);
-        let _ = reader.into_inner();
-        assert!(rt; outcome == Err(Fault::Write));
-        assert!(rt; Some(writer.taken.as_slice()) == text.get(..before));
-        assert_eq!(rt; list_count(&session), 3);
-        let again = run_text(rt.alloc(), &mut session, b"pkgnames\n")?;
-        assert_eq!(rt; again.as_slice(), b"foo\n".as_slice());
+        // All three lists are there.
+        let wanted = joined(rt.alloc(), &text[..before], b"! write failed\n", b"foo\n")?;
+        let acts = [Act::Until(THREE_LISTS, before), Act::Script(DROPS)];
+        let came = came(rt.alloc(), &acts)?;
+        same(&rt, &text[..before], &came, &wanted);
     }
     Ok(())
+}
+
+/// How often some bytes stand in a text.
+fn count_of(text: &[u8], bytes: &[u8]) -> usize {
+    let mut count: usize = 0;
+    for from in 0..text.len() {
+        if text[from..].starts_with(bytes) {
+            count = count.saturating_add(1);
+        }
+    }
+    count
+}
+
+/// What the names and then the drops come to, where so many of the three lists are there.
+fn drops_among(lists: usize) -> &'static [u8] {
+    match lists {
+        0 => b"E: line 2: no such list\nE: line 3: no such list\nE: line 4: no such list\n",
+        1 => b"foo\nE: line 3: no such list\nE: line 4: no such list\n",
+        2 => b"foo\nE: line 4: no such list\n",
+        _ => b"foo\n",
+    }
 }
 
 #[test]
 fn a_read_may_fail_at_each_byte(rt: HostRuntime) -> Result<(), Fail> {
     for cut in 0..THREE_LISTS.len() {
-        let Some(given) = THREE_LISTS.get(..cut) else {
-            return Err(Fail::from("no start of the script"));
-        };
-        let Ok(mut session) = Session::new(rt.alloc(), Cache::new(rt.alloc())) else {
-            return Err(Fail::from("no session"));
-        };
-        let mut reader = Breaking {
-            bytes: given,
-            failures: 0,
-        };
-        let mut writer = FromWrite::new(Vec::<u8>::new(rt.alloc()));
-        let outcome = session.run(&mut reader, &mut writer);
-        let written = writer.into_inner();
-        assert!(rt; outcome == Err(Fault::Read));
+        let script = &THREE_LISTS[..cut];
+        let is_asked = count_of(script, b"pkgnames\n") > 0;
+        let names: &[u8] = if is_asked { b"foo\n" } else { b"" };
         // A body counts where its end and the newline behind it were given.
-        let bodies = given
-            .windows(3)
-            .filter(|three| *three == b"\n.\n".as_slice())
-            .count();
-        assert_eq!(rt; list_count(&session), bodies);
-        let is_asked = given
-            .windows(9)
-            .any(|nine| nine == b"pkgnames\n".as_slice());
-        let text: &[u8] = if is_asked { b"foo\n" } else { b"" };
-        assert_eq!(rt; written.as_slice(), text);
+        let lists = count_of(script, b"\n.\n");
+        let wanted = joined(rt.alloc(), names, b"! read failed\n", drops_among(lists))?;
+        let came = came(rt.alloc(), &[Act::Broken(script), Act::Script(DROPS)])?;
+        same(&rt, script, &came, &wanted);
     }
     Ok(())
 }
 
-/// A reader that gives comments without end.
-#[derive(Drop)]
-struct Endless {
-    failures: u64,
-}
-
-impl Source for Endless {
-    ghost remaining = { λ s. None };
-
-    ghost failures = { λ s. s.failures };
-
-    fn read(&mut self, buf: &mut [u8]) -> Result<usize, Failed> {
-        let mut comment: &[u8] = b"#\n";
-        match comment.read(buf) {
-            Ok(n) if n > 0 => Ok(n),
-            _ => {
-                self.failures = self.failures.saturating_add(1);
-                Err(Failed)
-            }
-        }
-    }
+/// What comes of acts whose runs read up to so many lines.
+fn came_by(alloc: Global, max_lines: u32, acts: &[Act<'_>]) -> Result<Vec<u8>, AllocError> {
+    came_of(alloc, Limits::MOST, max_lines, acts)
 }
 
 #[test]
 fn a_script_without_end_is_stopped(rt: HostRuntime) -> Result<(), Fail> {
-    let Ok(mut session) = Session::with_lines(rt.alloc(), Cache::new(rt.alloc()), 1000) else {
-        return Err(Fail::from("no session"));
-    };
-    let mut reader = Endless { failures: 0 };
-    let mut writer = FromWrite::new(Vec::<u8>::new(rt.alloc()));
-    let outcome = session.run(&mut reader, &mut writer);
-    let _ = writer.into_inner();
-    assert!(rt; outcome == Err(Fault::TooManyLines));
+    let came = came_by(rt.alloc(), 1000, &[Act::Endless(b"#\n")])?;
+    same(&rt, b"comments", &came, b"! too many lines\n");
     Ok(())
 }
 
 #[test]
 fn a_command_cut_by_the_limit_of_lines_is_not_done(rt: HostRuntime) -> Result<(), Fail> {
-    let Ok(mut session) = Session::with_lines(rt.alloc(), Cache::new(rt.alloc()), 3) else {
-        return Err(Fail::from("no session"));
-    };
     let script: &[u8] = b"pkgnames\nadd-list main packages\nPackage: a\nVersion: 1\n.\n";
-    let mut reader = FromRead::new(script);
-    let mut writer = FromWrite::new(Vec::<u8>::new(rt.alloc()));
-    let outcome = session.run(&mut reader, &mut writer);
-    let _ = reader.into_inner();
-    let written = writer.into_inner();
-    assert!(rt; outcome == Err(Fault::TooManyLines));
-    assert!(rt; written.is_empty());
-    assert_eq!(rt; list_count(&session), 0);
-    let again = run_text(rt.alloc(), &mut session, b"pkgnames\n")?;
-    assert!(rt; again.is_empty());
+    let acts = [
+        Act::Script(script),
+        Act::Script(b"pkgnames\ndrop-list main\n"),
+    ];
+    let came = came_by(rt.alloc(), 3, &acts)?;
+    same(
+        &rt,
+        script,
+        &came,
+        b"! too many lines\nE: line 2: no such list\n",
+    );
     Ok(())
 }
 
 #[test]
 fn a_run_ends_at_its_limit_of_lines(rt: HostRuntime) -> Result<(), Fail> {
-    let rows: [(&[u8], Option<Fault>); 4] = [
-        (b"#\n#\n#\n", Some(Fault::TooManyLines)),
-        (b"#\n#\nx", Some(Fault::TooManyLines)),
-        (b"#\n#\n", None),
-        (b"#\n#", None),
+    let rows: [(&[u8], &[u8]); 4] = [
+        (b"#\n#\n#\n", b"! too many lines\n"),
+        (b"#\n#\nx", b"! too many lines\n"),
+        (b"#\n#\n", b""),
+        (b"#\n#", b""),
     ];
-    for (script, fault) in rows {
-        let Ok(mut session) = Session::with_lines(rt.alloc(), Cache::new(rt.alloc()), 2) else {
-            assert!(rt; false);
-            return Ok(());
-        };
-        let mut reader = FromRead::new(script);
-        let mut writer = FromWrite::new(Vec::<u8>::new(rt.alloc()));
-        let outcome = session.run(&mut reader, &mut writer);
-        let _ = reader.into_inner();
-        let _ = writer.into_inner();
-        assert!(rt; outcome.err() == fault);
+    for (script, wanted) in &rows {
+        let came = came_by(rt.alloc(), 2, &[Act::Script(script)])?;
+        same(&rt, script, &came, wanted);
     }
     Ok(())
 }
 
 #[test]
 fn faults_have_their_words(rt: HostRuntime) -> Result<(), Fail> {
-    let rows: [(Fault, &str); 3] = [
-        (Fault::Read, "read failed"),
-        (Fault::Write, "write failed"),
-        (Fault::TooManyLines, "too many lines"),
-    ];
-    for (fault, words) in rows {
-        let text = format!(in rt.alloc(); "{fault}")?;
-        assert!(rt; text.as_str() == words);
-    }
-    Ok(())
-}
-
-/// The script that the words ask for. None where the words are refused.
-fn script_asked(alloc: Global, words: &[&str]) -> Option<Option<String>> {
-    match arguments(alloc, words) {
-        Ok(Arguments { script, .. }) => Some(script),
-        Err(_) => None,
-    }
-}
-
-#[test]
-fn the_program_takes_a_script(rt: HostRuntime) {
-    let none = match script_asked(rt.alloc(), &["dctrl-cache"]) {
-        Some(script) => script.is_none(),
-        None => false,
-    };
-    assert!(rt; none);
-    let one = match script_asked(rt.alloc(), &["dctrl-cache", "x"]) {
-        Some(Some(script)) => script.as_str() == "x",
-        _ => false,
-    };
-    assert!(rt; one);
-    let rows: [&[&str]; 3] = [
-        &["dctrl-cache", "x", "y"],
-        &["dctrl-cache", "--help"],
-        &["dctrl-cache", "-x"],
-    ];
-    for words in rows {
-        let refused = script_asked(rt.alloc(), words).is_none();
-        assert!(rt; refused);
-    }
-}
-
-#[test]
-fn the_program_takes_lists_and_a_status_file(rt: HostRuntime) -> Result<(), Fail> {
-    let words = ["p", "-l", "a=f", "--status", "s", "-l", "b", "x"];
-    let Ok(asked) = arguments(rt.alloc(), &words) else {
-        return Err(Fail::from("refused words"));
-    };
-    assert_eq!(rt; asked.lists.len(), 2);
-    for (list, word) in asked.lists.iter().zip(["a=f", "b"]) {
-        assert!(rt; list.as_str() == word);
-    }
-    let status = match &asked.status {
-        Some(status) => status.as_str() == "s",
-        None => false,
-    };
-    assert!(rt; status);
-    let script = match &asked.script {
-        Some(script) => script.as_str() == "x",
-        None => false,
-    };
-    assert!(rt; script);
-    let rows: [&[&str]; 4] = [
-        &["p", "-l"],
-        &["p", "--status"],
-        &["p", "--status", "s", "--status", "s"],
-        &["p", "-l", "-x"],
-    ];
-    for words in rows {
-        let refused = script_asked(rt.alloc(), words).is_none();
-        assert!(rt; refused);
+    for fault in [Fault::Read, Fault::Write, Fault::TooManyLines] {
+        let came = format!(in rt.alloc(); "! {fault}\n")?;
+        same(&rt, b"a fault", came.as_bytes(), fault_words(fault));
     }
     Ok(())
 }

@@ -1,4 +1,5 @@
-//! Tests that cross crates: worked scripts and what they write.
+//! Every test: worked scripts and texts and what they come to, runs that stop early, and each public call of the crates
+//! below once.
 #![tactic(auto)]
 
 ghost use Rattle.std.specs.Prelude.{◌≡◌, List, IfOk};
@@ -6,19 +7,41 @@ ghost use Rattle.ctl_session.specs.Script.{commands_of};
 ghost use Rattle.ctl_session.specs.Outcome.{Outcome, text_of_all, state_after_all};
 ghost use Rattle.ctl_session.specs.Run.{Runs};
 
-use ctl_session::{Fault, FromRead, FromWrite, Session};
+use ctl_session::{Fault, FromRead, FromWrite, Session, Summary};
 use std::alloc::Global;
 
+#[cfg(test)]
+mod bodies;
+#[cfg(test)]
+mod control_text;
 #[cfg(test)]
 mod edits;
 #[cfg(test)]
 mod faults;
 #[cfg(test)]
+mod laws;
+#[cfg(test)]
 mod limits;
+#[cfg(test)]
+mod loads;
 #[cfg(test)]
 mod made;
 #[cfg(test)]
+mod names;
+#[cfg(test)]
+mod pins;
+#[cfg(test)]
+mod preferences;
+#[cfg(test)]
+mod program;
+#[cfg(test)]
+mod records;
+#[cfg(test)]
 mod refused;
+#[cfg(test)]
+mod relations;
+#[cfg(test)]
+mod runs;
 #[cfg(test)]
 mod scripts;
 #[cfg(test)]
@@ -28,20 +51,27 @@ mod states;
 #[cfg(test)]
 mod store;
 #[cfg(test)]
-mod traps;
+mod tables;
+#[cfg(test)]
+mod version_table;
+#[cfg(test)]
+mod versions;
+#[cfg(test)]
+mod words;
 
-/// Runs a script that is in memory, and gives what it writes: the text of the script's commands, one after another.
-pub fn run_text(alloc: Global, session: &mut Session, script: &[u8]) -> Result<Vec<u8>, Fault>
-    ensures { IfOk result (λ text. (outcomes : List Outcome) × Runs session.old.cache (commands_of script.now) outcomes
-        × (text.items ≡ text_of_all outcomes) × (session.new.cache ≡ state_after_all session.old.cache outcomes)) }
+/// Runs a script that is in memory. Gives what the run comes to, and what it writes: where it has no fault the text of the
+/// script's commands, one after another.
+pub fn run_script(
+    alloc: Global,
+    session: &mut Session,
+    script: &[u8],
+) -> (Result<Summary, Fault>, Vec<u8>)
+    ensures { IfOk result.0 (λ _. (outcomes : List Outcome) × Runs session.old.cache (commands_of script.now) outcomes
+        × (result.1.items ≡ text_of_all outcomes) × (session.new.cache ≡ state_after_all session.old.cache outcomes)) }
 {
     let mut reader = FromRead::new(script);
     let mut writer = FromWrite::new(Vec::<u8>::new(alloc));
     let outcome = session.run(&mut reader, &mut writer);
     let _ = reader.into_inner();
-    let text = writer.into_inner();
-    match outcome {
-        Ok(_) => Ok(text),
-        Err(fault) => Err(fault),
-    }
+    (outcome, writer.into_inner())
 }

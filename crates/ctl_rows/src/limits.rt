@@ -1,7 +1,8 @@
 //! Lines and bodies of fields at the limit of their bytes.
 
-use crate::scripts::writes;
+use crate::tables::{same, written};
 use std::alloc::Global;
+use std::process::Abort;
 use std::test::Fail;
 
 /// The most bytes of a line, and of the body of a field.
@@ -24,15 +25,23 @@ fn one_line(alloc: Global, count: usize) -> Result<Vec<u8>, Fail> {
     Ok(script)
 }
 
+/// Compares what a script with long lines writes.
+fn script_writes(
+    rt: &(impl Abort + AllocGlobal),
+    script: &[u8],
+    wanted: &[u8],
+) -> Result<(), Fail> {
+    let came = written(rt.alloc(), script)?;
+    same(rt, script, &came, wanted);
+    Ok(())
+}
+
 #[test]
 fn a_line_at_the_limit_is_read(rt: HostRuntime) -> Result<(), Fail> {
     let script = one_line(rt.alloc(), LIMIT)?;
-    let same = writes(rt.alloc(), &script, b"E: line 1: unknown command\n");
-    assert!(rt; same);
+    script_writes(&rt, &script, b"E: line 1: unknown command\n")?;
     let script = one_line(rt.alloc(), LIMIT + 1)?;
-    let same = writes(rt.alloc(), &script, b"E: line 1: line too long\n");
-    assert!(rt; same);
-    Ok(())
+    script_writes(&rt, &script, b"E: line 1: line too long\n")
 }
 
 #[test]
@@ -42,13 +51,21 @@ fn a_line_past_the_limit_is_a_command_whatever_it_holds(rt: HostRuntime) -> Resu
     add_line(&mut script, b" ", b' ', LIMIT)?;
     add_line(&mut script, b"add-list m packages", b' ', LIMIT)?;
     script.extend_from_slice(b"frob\n")?;
-    let same = writes(
-        rt.alloc(),
+    script_writes(
+        &rt,
         &script,
         b"E: line 1: line too long\nE: line 2: line too long\nE: line 3: line too long\nE: line 4: unknown command\n",
-    );
-    assert!(rt; same);
-    Ok(())
+    )
+}
+
+/// A line past the limit between two texts.
+fn long_line_between(alloc: Global, before: &[u8], behind: &[u8]) -> Result<Vec<u8>, Fail> {
+    let mut script = Vec::from_slice(alloc, before)?;
+    for _ in 0..LIMIT + 1 {
+        script.push(b'x')?;
+    }
+    script.extend_from_slice(behind)?;
+    Ok(script)
 }
 
 #[test]
@@ -71,15 +88,9 @@ fn a_long_line_of_a_body_comes_before_all_else(rt: HostRuntime) -> Result<(), Fa
         // a comment of preferences
         (b"prefs\n#", b"\n.\n", b"E: line 2: line too long\n"),
     ];
-    for (before, behind, text) in rows {
-        let mut script = Vec::<u8>::new(rt.alloc());
-        script.extend_from_slice(before)?;
-        for _ in 0..LIMIT + 1 {
-            script.push(b'x')?;
-        }
-        script.extend_from_slice(behind)?;
-        let same = writes(rt.alloc(), &script, text);
-        assert!(rt; same);
+    for (before, behind, wanted) in &rows {
+        let script = long_line_between(rt.alloc(), before, behind)?;
+        script_writes(&rt, &script, wanted)?;
     }
     Ok(())
 }
@@ -110,10 +121,9 @@ fn a_body_of_a_field_has_a_limit(rt: HostRuntime) -> Result<(), Fail> {
             b"E: line 1: bad arguments\n",
         ),
     ];
-    for (command, count, text) in rows {
-        let script = long_body(rt.alloc(), command, count)?;
-        let same = writes(rt.alloc(), &script, text);
-        assert!(rt; same);
+    for (command, count, wanted) in &rows {
+        let script = long_body(rt.alloc(), command, *count)?;
+        script_writes(&rt, &script, wanted)?;
     }
     Ok(())
 }

@@ -36,8 +36,15 @@ pub fn selector(alloc: Global, package: &str, version: &str) -> Option<Selector>
 pub fn add_list(alloc: Global, text: &str) -> Option<Edit>
     ensures { IfSome result (λ edit. IsProper (edit_of edit)) }
 {
+    add_list_named(alloc, "m", text)
+}
+
+/// The edit that adds a list of packages of a name.
+pub fn add_list_named(alloc: Global, list: &str, text: &str) -> Option<Edit>
+    ensures { IfSome result (λ edit. IsProper (edit_of edit)) }
+{
     Some(Edit::AddList {
-        name: name(alloc, "m")?,
+        name: name(alloc, list)?,
         kind: ListKind::Packages,
         class: ListClass::NotAutomatic,
         stanzas: stanzas(alloc, text)?,

@@ -13,8 +13,10 @@ use crate::made::{
     unpin,
 };
 use crate::shown::{keys, state};
+use crate::tables::same;
 use ctl_store::{Edit, Refusal, Store};
 use std::alloc::{AllocError, Global};
+use std::process::Abort;
 use std::test::Fail;
 
 /// How many edits the test makes.
@@ -113,28 +115,39 @@ fn made(alloc: Global, store: &mut Store, number: u8) -> Option<Outcome> {
     }
 }
 
-#[test]
-fn an_edit_without_memory_changes_nothing(rt: HostRuntime) -> Result<(), Fail> {
-    let mut store = Store::new(rt.alloc());
+/// Ends the test where an edit was refused for another cause than memory, or changed what the store holds.
+fn judge(rt: &impl Abort, number: u8, outcome: Outcome) {
+    let is_right = outcome == Outcome::Accepted || outcome == Outcome::Refused;
+    assert!(rt; is_right, "edit {number}: {outcome:?}");
+}
+
+/// Makes each edit in turn. Gives the number of the last that memory was refused to, if there is one. None comes where memory
+/// was refused outside of edits.
+fn make_all(rt: &(impl Abort + AllocGlobal), store: &mut Store) -> Option<Option<u8>> {
     let mut refused = None;
     for number in 0..EDITS {
-        let Some(outcome) = made(rt.alloc(), &mut store, number) else {
-            return Err(Fail::new("memory was refused outside of edits"));
-        };
-        assert!(rt;
-            outcome == Outcome::Accepted || outcome == Outcome::Refused,
-            "edit {number}: {outcome:?}"
-        );
+        let outcome = made(rt.alloc(), store, number)?;
+        judge(rt, number, outcome);
         if outcome == Outcome::Refused {
             refused = Some(number);
         }
     }
-    let Ok(held) = held(rt.alloc(), &store) else {
-        return Err(Fail::new("memory was refused outside of edits"));
-    };
-    assert_eq!(rt; held.as_slice(), LEFT);
-    match refused {
-        None => Ok(()),
-        Some(number) => Err(Fail::new(format_args!("memory was refused to edit {number}"))),
+    let held = held(rt.alloc(), store).ok()?;
+    same(rt, b"what is left", &held, LEFT);
+    Some(refused)
+}
+
+/// The same with a new store.
+fn make_all_anew(rt: &(impl Abort + AllocGlobal)) -> Option<Option<u8>> {
+    let mut store = Store::new(rt.alloc());
+    make_all(rt, &mut store)
+}
+
+#[test]
+fn an_edit_without_memory_changes_nothing(rt: HostRuntime) -> Result<(), Fail> {
+    match make_all_anew(&rt) {
+        Some(None) => Ok(()),
+        Some(Some(number)) => Err(Fail::new(format_args!("memory was refused to edit {number}"))),
+        None => Err(Fail::new("memory was refused outside of edits")),
     }
 }

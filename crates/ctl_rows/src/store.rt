@@ -1,84 +1,136 @@
 //! The calls of the store that no script shows, each with what it has to give.
+//!
+//! A store is made and dropped in one function, and all others have it lent, so that each is proved in a second or two.
 
+ghost use Rattle.std.specs.Prelude.{IfSome};
 ghost use Rattle.ctl_store.specs.Edits.{edit_of};
 ghost use Rattle.ctl_store.specs.Held.{IsProper};
 
-use crate::made::{add_list, edited, given, mark, name, pin, put, settings, version};
-use ctl_stanza::{Cause, ListKind, TextFault};
-use ctl_store::{
-    Counts, Edit, Limits, PinSetting, PinVersion, Plan, Refusal, Store, read_prefs, read_priority,
+use crate::made::{
+    add_list, add_list_named, drop_list, edited, given, mark, mark_none, pin, put, remove,
 };
-use std::alloc::Global;
+use crate::shown::state;
+use crate::tables::{agree, same};
+use ctl_stanza::ListKind;
+use ctl_store::{
+    CommittedKeys, Edit, Limits, ListClass, Plan, Refusal, StanzaKey, Store, compare_keys,
+};
+use std::alloc::{AllocError, Global};
+use std::cmp::Ordering;
 use std::test::Fail;
 
-/// The list `m` that the tests begin with.
+/// The list `m` that most tests begin with.
 const LIST: &str = "Package: a\nVersion: 1\n\nPackage: b\nVersion: 2\n";
 
-/// A store with the list `m`.
-fn with_list(alloc: Global) -> Result<Store, Fail> {
-    let mut store = Store::new(alloc);
-    edited(&mut store, given(add_list(alloc, LIST))?)?;
-    Ok(store)
+/// The same as an edit.
+const ADD: Asked<'static> = Asked::AddList("m", LIST);
+
+/// An edit that is asked for.
+#[derive(Clone, Copy)]
+enum Asked<'a> {
+    /// A list of this name and text.
+    AddList(&'a str, &'a str),
+    /// The list `m`.
+    DropList,
+    /// A stanza of this text into the list `m`.
+    Put(&'a str),
+    /// The stanza of this package and version out of the list `m`.
+    Remove(&'a str, &'a str),
+    /// This version as that of a package.
+    Mark(&'a str, &'a str),
+    /// No version of a package.
+    MarkNone(&'a str),
+    /// This version of a package with a priority.
+    Pin(&'a str, &'a str, i16),
 }
 
-#[test]
-fn a_new_store_is_empty(rt: HostRuntime) {
-    let store = Store::new(rt.alloc());
-    assert_eq!(rt;
-        store.counts(),
-        Counts {
-            stanzas: 0,
-            edits: 0
-        }
-    );
-    assert_eq!(rt;
-        store.limits(),
-        Limits {
-            stanzas: 4_294_967_295,
-            edits: 4_294_967_295
-        }
-    );
-    assert!(rt; store.target().is_none());
-    assert!(rt; store.lists().next().is_none());
-    assert!(rt; store.pins().next().is_none());
+fn edit_asked(alloc: Global, asked: Asked<'_>) -> Option<Edit>
+    ensures { IfSome result (λ edit. IsProper (edit_of edit)) }
+{
+    match asked {
+        Asked::AddList(name, text) => add_list_named(alloc, name, text),
+        Asked::DropList => drop_list(alloc),
+        Asked::Put(text) => put(alloc, text),
+        Asked::Remove(package, version) => remove(alloc, package, version),
+        Asked::Mark(package, version) => mark(alloc, package, version),
+        Asked::MarkNone(package) => mark_none(alloc, package),
+        Asked::Pin(package, version, priority) => pin(alloc, package, version, priority),
+    }
 }
 
-#[test]
-fn limits_are_those_handed_in(rt: HostRuntime) {
-    let store = Store::with_limits(
-        rt.alloc(),
-        Limits {
-            stanzas: 2,
-            edits: 3,
-        },
-    );
-    assert_eq!(rt;
-        store.limits(),
-        Limits {
-            stanzas: 2,
-            edits: 3
-        }
-    );
-    assert_eq!(rt;
-        Limits::MOST,
-        Limits {
-            stanzas: 4_294_967_295,
-            edits: 4_294_967_295
-        }
-    );
+/// What is done with a store.
+#[derive(Clone, Copy)]
+enum Act<'a> {
+    /// Makes an edit.
+    Make(Asked<'a>),
+    /// Makes an edit, and shows the keys that are handed back.
+    MakeWithKeys(Asked<'a>),
+    /// Plans an edit, and shows the keys and the first stanza of the plan.
+    Plan(Asked<'a>),
+    /// Plans an edit that is refused, shows it as it comes back, and makes it once the list `m` is there.
+    MakeLate(Asked<'a>),
+    /// Shows the numbers of what it holds, and its limits.
+    Numbers,
+    /// Shows all keys, each with its list and its stanza.
+    Entries,
+    /// Shows what stands under the first key of the first list.
+    First,
+    /// Shows the kind and the class of a list.
+    List(&'a [u8]),
+    /// Shows the mark of a package.
+    MarkOf(&'a [u8]),
+    /// Shows the priority of the first pin.
+    FirstPriority,
 }
 
-#[test]
-fn a_list_has_a_kind(rt: HostRuntime) -> Result<(), Fail> {
-    let store = with_list(rt.alloc())?;
-    assert_eq!(rt; store.kind(b"m"), Some(ListKind::Packages));
-    assert_eq!(rt; store.kind(b"n"), None);
+/// A key, behind a byte.
+fn append_key(
+    alloc: Global,
+    mark: u8,
+    key: StanzaKey,
+    all: &mut Vec<u8>,
+) -> Result<(), AllocError> {
+    let told = format!(in alloc; "{}.{}", key.list, key.stanza)?;
+    all.push(mark)?;
+    all.extend_from_slice(told.as_bytes())
+}
+
+fn append_keys(
+    alloc: Global,
+    mark: u8,
+    keys: &[StanzaKey],
+    all: &mut Vec<u8>,
+) -> Result<(), AllocError> {
+    for key in keys {
+        append_key(alloc, mark, *key, all)?;
+    }
+    Ok(())
+}
+
+/// The list and the text of the stanza of a key, if there is one.
+fn append_found(store: &Store, key: StanzaKey, all: &mut Vec<u8>) -> Result<(), AllocError> {
+    match store.find(key) {
+        Some(stanza) => {
+            all.push(b' ')?;
+            all.extend_from_slice(store.list_of(key))?;
+            all.push(b' ')?;
+            all.extend_from_slice(stanza.text())
+        }
+        None => all.extend_from_slice(b" none\n"),
+    }
+}
+
+fn append_entries(alloc: Global, store: &Store, all: &mut Vec<u8>) -> Result<(), AllocError> {
+    for key in store.keys() {
+        append_key(alloc, b'#', key, all)?;
+        append_found(store, key, all)?;
+    }
     Ok(())
 }
 
 /// Whether the edit of a plan is a mark.
-fn is_mark(plan: &Plan) -> bool {
-    match plan.edit() {
+fn is_mark(edit: &Edit) -> bool {
+    match edit {
         Edit::Mark {
             package: _,
             version: _,
@@ -87,181 +139,463 @@ fn is_mark(plan: &Plan) -> bool {
     }
 }
 
-/// Whether the edit of the plan that the store makes is a mark.
-fn plans_a_mark(store: &mut Store, edit: Edit) -> bool
+/// Whether a plan is of a mark, its keys, and its first stanza.
+fn append_plan(alloc: Global, plan: &Plan, all: &mut Vec<u8>) -> Result<(), AllocError> {
+    if is_mark(plan.edit()) {
+        all.extend_from_slice(b"mark")?;
+    }
+    append_keys(alloc, b'-', plan.removed(), all)?;
+    append_keys(alloc, b'+', plan.added(), all)?;
+    if let Some((key, _)) = plan.added().split_first() {
+        all.push(b' ')?;
+        all.extend_from_slice(plan.stanza(*key).text())?;
+    }
+    Ok(())
+}
+
+fn append_planned(
+    alloc: Global,
+    store: &mut Store,
+    edit: Edit,
+    all: &mut Vec<u8>,
+) -> Result<(), AllocError>
     requires { IsProper (edit_of edit) }
 {
     match store.prepare(edit) {
-        Ok(plan) => is_mark(&plan),
-        Err(_) => false,
+        Ok(plan) => append_plan(alloc, &plan, all),
+        Err(_) => all.extend_from_slice(b"refused"),
     }
+}
+
+fn append_committed(
+    alloc: Global,
+    keys: &CommittedKeys,
+    all: &mut Vec<u8>,
+) -> Result<(), AllocError> {
+    append_keys(alloc, b'-', &keys.removed, all)?;
+    append_keys(alloc, b'+', &keys.added, all)?;
+    all.push(b'\n')?;
+    Ok(())
+}
+
+fn append_made(
+    alloc: Global,
+    store: &mut Store,
+    edit: Edit,
+    all: &mut Vec<u8>,
+) -> Result<(), AllocError>
+    requires { IsProper (edit_of edit) }
+{
+    match store.prepare(edit) {
+        Ok(plan) => append_committed(alloc, &store.commit_with_keys(plan), all),
+        Err(_) => all.extend_from_slice(b"refused"),
+    }
+}
+
+/// The list, the package and the version of an edit that takes a stanza out.
+fn removal_of(edit: &Edit) -> Option<(&[u8], &[u8], &[u8])> {
+    match edit {
+        Edit::Remove {
+            list,
+            package,
+            version,
+        } => Some((list.as_slice(), package.as_slice(), version.text())),
+        _ => None,
+    }
+}
+
+fn append_removal(edit: &Edit, all: &mut Vec<u8>) -> Result<(), AllocError> {
+    let Some((list, package, version)) = removal_of(edit) else {
+        return all.extend_from_slice(b"another edit");
+    };
+    all.extend_from_slice(list)?;
+    all.push(b' ')?;
+    all.extend_from_slice(package)?;
+    all.push(b' ')?;
+    all.extend_from_slice(version)
+}
+
+/// Why an edit would be refused, if it would be.
+fn append_foretold(store: &Store, edit: &Edit, all: &mut Vec<u8>) -> Result<(), AllocError> {
+    match store.check(edit) {
+        Ok(()) => Ok(()),
+        Err(why) => all.extend_from_slice(why.text().as_bytes()),
+    }
+}
+
+/// The edit that comes back, and why.
+fn handed_back(store: &mut Store, edit: Edit) -> Option<(Edit, Refusal)>
+    requires { IsProper (edit_of edit) }
+    ensures { IfSome result (λ back. IsProper (edit_of back.0)) }
+{
+    match store.prepare(edit) {
+        Ok(_) => None,
+        Err(refused) => Some(refused),
+    }
+}
+
+fn append_back(edit: &Edit, why: Refusal, all: &mut Vec<u8>) -> Result<(), AllocError> {
+    all.push(b',')?;
+    all.extend_from_slice(why.text().as_bytes())?;
+    all.push(b':')?;
+    append_removal(edit, all)
+}
+
+fn append_late(alloc: Global, store: &mut Store, edit: Edit, all: &mut Vec<u8>) -> Result<(), Fail>
+    requires { IsProper (edit_of edit) }
+{
+    append_foretold(store, &edit, all)?;
+    let (edit, why) = given(handed_back(store, edit))?;
+    append_back(&edit, why, all)?;
+    make_late(alloc, store, edit, all)
+}
+
+fn make_late(alloc: Global, store: &mut Store, edit: Edit, all: &mut Vec<u8>) -> Result<(), Fail>
+    requires { IsProper (edit_of edit) }
+{
+    add_m(alloc, store)?;
+    append_made(alloc, store, edit, all)?;
+    Ok(())
+}
+
+/// Adds the list `m`.
+fn add_m(alloc: Global, store: &mut Store) -> Result<(), Fail> {
+    edited(store, given(add_list(alloc, LIST))?)
+}
+
+fn append_numbers(alloc: Global, store: &Store, all: &mut Vec<u8>) -> Result<(), AllocError> {
+    let counts = store.counts();
+    let limits = store.limits();
+    let told = format!(in alloc;
+        "{} of {} stanzas, {} of {} edits",
+        counts.stanzas, limits.stanzas, counts.edits, limits.edits
+    )?;
+    all.extend_from_slice(told.as_bytes())
+}
+
+/// Whether a list is one of packages and not automatic, or that there is none, by both calls.
+fn list_words(store: &Store, name: &[u8]) -> &'static [u8] {
+    match (store.kind(name), store.list(name)) {
+        (None, None) => b"no list",
+        (Some(ListKind::Packages), Some((ListKind::Packages, ListClass::NotAutomatic))) => {
+            b"packages notauto"
+        }
+        _ => b"another list",
+    }
+}
+
+fn mark_words<'a>(store: &'a Store, package: &[u8]) -> &'a [u8] {
+    match store.mark(package) {
+        Some(Some(version)) => version.text(),
+        Some(None) => b"none",
+        None => b"no mark",
+    }
+}
+
+fn append_first_priority(
+    alloc: Global,
+    store: &Store,
+    all: &mut Vec<u8>,
+) -> Result<(), AllocError> {
+    match store.pins().next() {
+        Some((_, priority)) => {
+            let told = format!(in alloc; "{priority}")?;
+            all.extend_from_slice(told.as_bytes())
+        }
+        None => all.extend_from_slice(b"no pin"),
+    }
+}
+
+/// Shows something of what a store holds.
+fn append_view(
+    alloc: Global,
+    store: &Store,
+    act: Act<'_>,
+    all: &mut Vec<u8>,
+) -> Result<(), AllocError> {
+    match act {
+        Act::Numbers => append_numbers(alloc, store, all),
+        Act::Entries => append_entries(alloc, store, all),
+        Act::First => append_found(store, StanzaKey { list: 0, stanza: 0 }, all),
+        Act::List(name) => all.extend_from_slice(list_words(store, name)),
+        Act::MarkOf(package) => all.extend_from_slice(mark_words(store, package)),
+        Act::FirstPriority => append_first_priority(alloc, store, all),
+        _ => Ok(()),
+    }
+}
+
+fn append_act(
+    alloc: Global,
+    store: &mut Store,
+    act: Act<'_>,
+    all: &mut Vec<u8>,
+) -> Result<(), Fail> {
+    match act {
+        Act::Make(asked) => edited(store, given(edit_asked(alloc, asked))?),
+        Act::MakeWithKeys(asked) => {
+            Ok(append_made(alloc, store, given(edit_asked(alloc, asked))?, all)?)
+        }
+        Act::Plan(asked) => {
+            Ok(append_planned(alloc, store, given(edit_asked(alloc, asked))?, all)?)
+        }
+        Act::MakeLate(asked) => append_late(alloc, store, given(edit_asked(alloc, asked))?, all),
+        _ => Ok(append_view(alloc, store, act, all)?),
+    }
+}
+
+fn came_in(alloc: Global, store: &mut Store, acts: &[Act<'_>]) -> Result<Vec<u8>, Fail> {
+    let mut all = Vec::new(alloc);
+    for act in acts {
+        append_act(alloc, store, *act, &mut all)?;
+    }
+    Ok(all)
+}
+
+/// What comes of acts with a new store of these limits.
+fn came_under(alloc: Global, limits: Limits, acts: &[Act<'_>]) -> Result<Vec<u8>, Fail> {
+    let mut store = Store::with_limits(alloc, limits);
+    came_in(alloc, &mut store, acts)
+}
+
+/// The same without limits.
+fn came(alloc: Global, acts: &[Act<'_>]) -> Result<Vec<u8>, Fail> {
+    came_under(alloc, Limits::MOST, acts)
+}
+
+/// What a new store holds: no list, no pin and no target.
+fn new_state(alloc: Global) -> Result<Vec<u8>, AllocError> {
+    let store = Store::new(alloc);
+    state(alloc, &store)
+}
+
+#[test]
+fn a_new_store_is_empty(rt: HostRuntime) -> Result<(), Fail> {
+    let acts = [Act::Numbers, Act::Entries, Act::FirstPriority];
+    let text = came(rt.alloc(), &acts)?;
+    same(
+        &rt,
+        b"a new store",
+        &text,
+        b"0 of 4294967295 stanzas, 0 of 4294967295 editsno pin",
+    );
+    let held = new_state(rt.alloc())?;
+    same(&rt, b"a new store", &held, b"0 stanzas, 0 edits\n");
+    Ok(())
+}
+
+#[test]
+fn limits_are_those_handed_in(rt: HostRuntime) -> Result<(), Fail> {
+    let limits = Limits {
+        stanzas: 2,
+        edits: 3,
+    };
+    let text = came_under(rt.alloc(), limits, &[Act::Numbers])?;
+    same(&rt, b"limits", &text, b"0 of 2 stanzas, 0 of 3 edits");
+    assert!(rt; Limits::MOST.stanzas == 4_294_967_295);
+    assert!(rt; Limits::MOST.edits == 4_294_967_295);
+    Ok(())
+}
+
+#[test]
+fn limits_may_be_as_large_as_their_numbers(rt: HostRuntime) -> Result<(), Fail> {
+    let rows: [(u32, u32, &[u8]); 2] = [
+        (
+            16_777_216,
+            4_294_967_295,
+            b"0 of 16777216 stanzas, 0 of 4294967295 edits",
+        ),
+        (
+            4_294_967_295,
+            16_777_216,
+            b"0 of 4294967295 stanzas, 0 of 16777216 edits",
+        ),
+    ];
+    for (stanzas, edits, wanted) in &rows {
+        let limits = Limits {
+            stanzas: *stanzas,
+            edits: *edits,
+        };
+        let text = came_under(rt.alloc(), limits, &[Act::Numbers])?;
+        same(&rt, b"limits", &text, wanted);
+    }
+    Ok(())
+}
+
+#[test]
+fn a_list_has_a_kind(rt: HostRuntime) -> Result<(), Fail> {
+    let text = came(
+        rt.alloc(),
+        &[Act::Make(ADD), Act::List(b"m"), Act::List(b"n")],
+    )?;
+    same(&rt, b"m and n", &text, b"packages notautono list");
+    Ok(())
+}
+
+#[test]
+fn keys_rise_from_list_to_list(rt: HostRuntime) -> Result<(), Fail> {
+    let acts = [
+        Act::Make(ADD),
+        Act::Make(Asked::AddList("a", "Package: a\nVersion: 1\n")),
+        // comes after the second list, and stands before it
+        Act::Make(Asked::Put("Package: a\nVersion: 3\n")),
+        Act::Entries,
+    ];
+    let text = came(rt.alloc(), &acts)?;
+    same(
+        &rt,
+        b"two lists",
+        &text,
+        b"#0.0 m Package: a\nVersion: 1\n#0.1 m Package: b\nVersion: 2\n#0.2 m Package: a\nVersion: 3\n\
+          #1.0 a Package: a\nVersion: 1\n",
+    );
+    Ok(())
+}
+
+#[test]
+fn keys_are_ordered_by_their_lists_and_then_by_their_stanzas(rt: HostRuntime) {
+    let one = StanzaKey { list: 0, stanza: 9 };
+    let other = StanzaKey { list: 1, stanza: 0 };
+    let last = StanzaKey { list: 1, stanza: 1 };
+    assert!(rt; compare_keys(&one, &other) == Ordering::Less);
+    assert!(rt; compare_keys(&last, &other) == Ordering::Greater);
+    assert!(rt; compare_keys(&last, &last) == Ordering::Equal);
+    assert!(rt; one.cmp(&other) == Ordering::Less);
+}
+
+#[test]
+fn a_key_finds_its_stanza_while_it_is_there(rt: HostRuntime) -> Result<(), Fail> {
+    let acts = [
+        Act::First,
+        Act::Make(ADD),
+        Act::First,
+        Act::Make(Asked::Remove("a", "1")),
+        Act::First,
+    ];
+    let text = came(rt.alloc(), &acts)?;
+    same(
+        &rt,
+        b"0.0",
+        &text,
+        b" none\n m Package: a\nVersion: 1\n none\n",
+    );
+    Ok(())
+}
+
+#[test]
+fn a_commit_hands_its_keys_back(rt: HostRuntime) -> Result<(), Fail> {
+    let acts = [
+        Act::MakeWithKeys(ADD),
+        Act::MakeWithKeys(Asked::Put("Package: a\nVersion: 1-0\n")),
+        Act::MakeWithKeys(Asked::Put("Package: c\nVersion: 1\n")),
+        Act::MakeWithKeys(Asked::Remove("b", "2")),
+        Act::MakeWithKeys(Asked::DropList),
+    ];
+    let text = came(rt.alloc(), &acts)?;
+    same(
+        &rt,
+        b"keys",
+        &text,
+        b"+0.0+0.1\n-0.0+0.0\n+0.2\n-0.1\n-0.0-0.2\n",
+    );
+    Ok(())
+}
+
+#[test]
+fn a_plan_has_its_keys_and_stanzas(rt: HostRuntime) -> Result<(), Fail> {
+    let acts = [
+        Act::Make(ADD),
+        Act::Plan(Asked::Remove("b", "2")),
+        Act::Plan(Asked::Put("Package: a\nVersion: 1-0\n")),
+    ];
+    let text = came(rt.alloc(), &acts)?;
+    same(
+        &rt,
+        b"plans",
+        &text,
+        b"-0.1-0.0+0.0 Package: a\nVersion: 1-0\n",
+    );
+    Ok(())
 }
 
 #[test]
 fn a_plan_has_its_edit(rt: HostRuntime) -> Result<(), Fail> {
-    let mut store = Store::new(rt.alloc());
-    let edit = given(mark(rt.alloc(), "a", "1"))?;
-    let planned = plans_a_mark(&mut store, edit);
-    assert!(rt; planned);
+    let text = came(rt.alloc(), &[Act::Plan(Asked::Mark("a", "1"))])?;
+    same(&rt, b"a plan", &text, b"mark");
     Ok(())
 }
 
-/// Whether the mark of a package is this version.
-fn is_marked(store: &Store, package: &[u8], text: &[u8]) -> bool {
-    match store.mark(package) {
-        Some(Some(version)) => version.text() == text,
-        _ => false,
-    }
+#[test]
+fn a_prepared_edit_that_is_refused_comes_back(rt: HostRuntime) -> Result<(), Fail> {
+    // As it was: it is accepted once its list is there.
+    let text = came(rt.alloc(), &[Act::MakeLate(Asked::Remove("a", "1"))])?;
+    same(
+        &rt,
+        b"remove",
+        &text,
+        b"no such list,no such list:m a 1-0.0\n",
+    );
+    Ok(())
 }
 
 #[test]
 fn a_mark_is_a_version_or_none(rt: HostRuntime) -> Result<(), Fail> {
-    let mut store = Store::new(rt.alloc());
-    let edit = given(mark(rt.alloc(), "a", "1"))?;
-    edited(&mut store, edit)?;
-    edited(
-        &mut store,
-        Edit::Mark {
-            package: given(name(rt.alloc(), "b"))?,
-            version: None,
-        },
-    )?;
-    let marked = is_marked(&store, b"a", b"1");
-    assert!(rt; marked);
-    assert!(rt; store.mark(b"b").is_some());
-    assert!(rt; store.mark(b"c").is_none());
+    let acts = [
+        Act::Make(Asked::Mark("a", "1")),
+        Act::Make(Asked::MarkNone("b")),
+        Act::MarkOf(b"a"),
+        Act::MarkOf(b"b"),
+        Act::MarkOf(b"c"),
+    ];
+    let text = came(rt.alloc(), &acts)?;
+    same(&rt, b"marks", &text, b"1noneno mark");
     Ok(())
-}
-
-/// The priority of the first pin.
-fn first_priority(store: &Store) -> Option<i16> {
-    match store.pins().next() {
-        Some((_, priority)) => Some(priority),
-        None => None,
-    }
 }
 
 #[test]
 fn a_pin_has_its_priority(rt: HostRuntime) -> Result<(), Fail> {
-    let mut store = Store::new(rt.alloc());
-    let edit = given(pin(rt.alloc(), "a", "1.*", -5))?;
-    edited(&mut store, edit)?;
-    let priority = first_priority(&store);
-    assert_eq!(rt; priority, Some(-5));
-    Ok(())
-}
-
-/// Whether a version of a pin matches a version.
-fn matches(alloc: Global, pin: &str, text: &str) -> Result<bool, Fail> {
-    let Some(wanted) = PinVersion::read(alloc, pin.as_bytes())? else {
-        return Err(Fail::from("no version of a pin"));
-    };
-    if wanted.text() != pin.as_bytes() {
-        return Err(Fail::from("another text"));
-    }
-    let version = given(version(alloc, text))?;
-    Ok(wanted.matches(&version))
-}
-
-#[test]
-fn versions_of_pins_match(rt: HostRuntime) -> Result<(), Fail> {
-    let rows: [(&str, &str, bool); 7] = [
-        ("1.0", "1.0-0", true),
-        ("1.0", "1.00", true),
-        ("1.0", "1.0-1", false),
-        ("1.0*", "1.0-1", true),
-        ("1.0*", "1.00", true),
-        ("1.0*", "0:1.0", false),
-        ("*", "0:1.0", true),
+    let acts = [
+        Act::FirstPriority,
+        Act::Make(Asked::Pin("a", "1.*", -5)),
+        Act::FirstPriority,
     ];
-    for (pin, text, wanted) in rows {
-        let found = matches(rt.alloc(), pin, text)?;
-        assert!(rt; found == wanted, "{pin} and {text}");
-    }
+    let text = came(rt.alloc(), &acts)?;
+    same(&rt, b"pins", &text, b"no pin-5");
     Ok(())
-}
-
-#[test]
-fn some_texts_are_no_versions_of_pins(rt: HostRuntime) -> Result<(), Fail> {
-    let rows: [&str; 5] = ["", "a!*", "1_", "1**", "1*x"];
-    for text in rows {
-        let found = PinVersion::read(rt.alloc(), text.as_bytes())?;
-        assert!(rt; found.is_none(), "{text}");
-    }
-    Ok(())
-}
-
-#[test]
-fn priorities_are_read(rt: HostRuntime) {
-    assert_eq!(rt; read_priority(b"-32768"), Some(-32768));
-    assert_eq!(rt; read_priority(b"007"), Some(7));
-    assert_eq!(rt; read_priority(b"0"), None);
-    assert_eq!(rt; read_priority(b"32768"), None);
-    assert_eq!(rt; read_priority(b"+5"), None);
-}
-
-#[test]
-fn preferences_are_read(rt: HostRuntime) -> Result<(), Fail> {
-    let settings = given(settings(
-        rt.alloc(),
-        "Package: a b\nPin: version 1\nPin-Priority: 7\n\nPackage: a\nPin: version 1\nPin-Priority: 8\n",
-    ))?;
-    assert_eq!(rt; settings.len(), 2);
-    let seven = settings
-        .iter()
-        .all(|setting: &PinSetting| setting.priority == 7);
-    assert!(rt; seven);
-    Ok(())
-}
-
-#[test]
-fn a_fault_of_preferences_has_its_line(rt: HostRuntime) {
-    let fault = match read_prefs(rt.alloc(), b"Package: a\nPin: other\nPin-Priority: 5\n", 3) {
-        Ok(_) => None,
-        Err(fault) => Some(fault),
-    };
-    assert_eq!(rt;
-        fault,
-        Some(TextFault {
-            line: 4,
-            cause: Cause::Form
-        })
-    );
 }
 
 #[test]
 fn refusals_have_numbers_and_words(rt: HostRuntime) {
-    let rows: [(Refusal, u8, &str); 23] = [
-        (Refusal::Command, 1, "unknown command"),
-        (Refusal::Usage, 2, "bad arguments"),
-        (Refusal::Unended, 3, "body has no end"),
-        (Refusal::TooLong, 4, "line too long"),
-        (Refusal::Line, 5, "not a control line"),
-        (Refusal::FieldTwice, 6, "field given twice"),
-        (Refusal::Missing, 7, "required field missing"),
-        (Refusal::Name, 8, "bad name"),
-        (Refusal::Version, 9, "bad version"),
-        (Refusal::Relation, 10, "bad relation field"),
-        (Refusal::ListExists, 11, "list already present"),
-        (Refusal::NoList, 12, "no such list"),
+    let rows: [(Refusal, u8, &[u8]); 23] = [
+        (Refusal::Command, 1, b"unknown command"),
+        (Refusal::Usage, 2, b"bad arguments"),
+        (Refusal::Unended, 3, b"body has no end"),
+        (Refusal::TooLong, 4, b"line too long"),
+        (Refusal::Line, 5, b"not a control line"),
+        (Refusal::FieldTwice, 6, b"field given twice"),
+        (Refusal::Missing, 7, b"required field missing"),
+        (Refusal::Name, 8, b"bad name"),
+        (Refusal::Version, 9, b"bad version"),
+        (Refusal::Relation, 10, b"bad relation field"),
+        (Refusal::ListExists, 11, b"list already present"),
+        (Refusal::NoList, 12, b"no such list"),
         (
             Refusal::StatusExists,
             13,
-            "a status list is already present",
+            b"a status list is already present",
         ),
-        (Refusal::NoStanza, 14, "no such stanza"),
-        (Refusal::OneStanza, 15, "body is not one stanza"),
-        (Refusal::NoMark, 16, "no such mark"),
-        (Refusal::NoPin, 17, "no such pin"),
-        (Refusal::Priority, 18, "bad priority"),
-        (Refusal::Filter, 19, "bad filter"),
-        (Refusal::Pattern, 20, "bad pattern"),
-        (Refusal::Full, 21, "cache full"),
-        (Refusal::Memory, 22, "out of memory"),
-        (Refusal::Form, 23, "bad pin record"),
+        (Refusal::NoStanza, 14, b"no such stanza"),
+        (Refusal::OneStanza, 15, b"body is not one stanza"),
+        (Refusal::NoMark, 16, b"no such mark"),
+        (Refusal::NoPin, 17, b"no such pin"),
+        (Refusal::Priority, 18, b"bad priority"),
+        (Refusal::Filter, 19, b"bad filter"),
+        (Refusal::Pattern, 20, b"bad pattern"),
+        (Refusal::Full, 21, b"cache full"),
+        (Refusal::Memory, 22, b"out of memory"),
+        (Refusal::Form, 23, b"bad pin record"),
     ];
-    for (refusal, number, words) in rows {
-        assert!(rt; refusal.number() == number, "{words}");
-        assert!(rt; refusal.text() == words, "{number}");
+    for (refusal, number, words) in &rows {
+        agree(&rt, words, refusal.number() == *number, true);
+        same(&rt, words, refusal.text().as_bytes(), words);
     }
 }

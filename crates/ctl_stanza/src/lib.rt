@@ -19,8 +19,6 @@ mod records;
 mod repeats;
 mod stanza;
 mod status;
-#[cfg(test)]
-mod tests;
 
 pub use fault::{Cause, TextFault};
 pub use laws::{

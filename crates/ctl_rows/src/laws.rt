@@ -1,0 +1,45 @@
+//! The laws, each called once: what calls one is proved from what it says.
+
+use ctl_relation::{
+    equal_versions, fields_bound_atoms, fields_have_one_fault, fields_have_places,
+    keys_go_by_turns, met_by_name, met_counts_add_up, names_by_their_bytes,
+    printed_forms_read_again, reading_is_the_grammar, texts_have_one_cut,
+    version_faults_are_of_texts, versions_are_ordered,
+};
+use ctl_session::commands_come_to_one_outcome;
+use ctl_stanza::{
+    lines_take_bytes, stanzas_are_runs, stanzas_keep_lines, told_fault_is_least,
+    told_record_fault_is_least, whole_stanzas_are_sound,
+};
+
+#[test]
+fn laws_can_be_called() {
+    told_fault_is_least();
+    stanzas_keep_lines();
+    stanzas_are_runs();
+    told_record_fault_is_least();
+    whole_stanzas_are_sound();
+    lines_take_bytes();
+}
+
+#[test]
+fn laws_of_relations_can_be_called() {
+    names_by_their_bytes();
+    versions_are_ordered();
+    equal_versions();
+    keys_go_by_turns();
+    texts_have_one_cut();
+    version_faults_are_of_texts();
+    fields_have_one_fault();
+    fields_have_places();
+    fields_bound_atoms();
+    reading_is_the_grammar();
+    printed_forms_read_again();
+    met_counts_add_up();
+    met_by_name();
+}
+
+#[test]
+fn laws_of_commands_can_be_called() {
+    commands_come_to_one_outcome();
+}

@@ -1,0 +1,290 @@
+//! Relation fields: their groups, their faults, and what meets an atom (Debian Policy 7.1).
+
+use crate::tables::{agree, pair, same};
+use ctl_relation::{
+    Atom, FieldKind, Offer, Operator, RelationFault, Relations, Steps, Version, parse_relations,
+};
+use std::alloc::{AllocError, Global};
+use std::process::Abort;
+use std::test::Fail;
+
+const NINE: [FieldKind; 9] = [
+    FieldKind::PreDepends,
+    FieldKind::Depends,
+    FieldKind::Conflicts,
+    FieldKind::Breaks,
+    FieldKind::Recommends,
+    FieldKind::Suggests,
+    FieldKind::Replaces,
+    FieldKind::Enhances,
+    FieldKind::Provides,
+];
+
+fn fault_name(fault: RelationFault) -> &'static [u8] {
+    match fault {
+        RelationFault::Name => b"fault Name",
+        RelationFault::Operator => b"fault Operator",
+        RelationFault::Version => b"fault Version",
+        RelationFault::Close => b"fault Close",
+        RelationFault::Alternative => b"fault Alternative",
+        RelationFault::ProvidesOperator => b"fault ProvidesOperator",
+        RelationFault::Memory => b"fault Memory",
+    }
+}
+
+/// Groups in their printed form, a line for each.
+fn printed(alloc: Global, relations: &Relations) -> Result<Vec<u8>, AllocError> {
+    let mut all = Vec::new(alloc);
+    for group in relations.groups() {
+        group.append_to(&mut all)?;
+        all.push(b'\n')?;
+    }
+    Ok(all)
+}
+
+/// The groups of a field, or its fault.
+fn told(alloc: Global, kind: FieldKind, body: &[u8]) -> Result<Vec<u8>, AllocError> {
+    match parse_relations(alloc, body, kind) {
+        Ok(relations) => printed(alloc, &relations),
+        Err(fault) => Vec::from_slice(alloc, fault_name(fault)),
+    }
+}
+
+fn each_is_told(
+    rt: &(impl Abort + AllocGlobal),
+    rows: &[(FieldKind, &[u8], &[u8])],
+) -> Result<(), Fail> {
+    for (kind, body, wanted) in rows {
+        let came = told(rt.alloc(), *kind, body)?;
+        same(rt, body, &came, wanted);
+    }
+    Ok(())
+}
+
+#[test]
+fn faults(rt: HostRuntime) -> Result<(), Fail> {
+    let depends = FieldKind::Depends;
+    each_is_told(
+        &rt,
+        &[
+            (depends, b"a b", b"fault Name"),
+            (depends, b"a | ", b"fault Name"),
+            (depends, b"a:", b"fault Name"),
+            (depends, b"a [amd64]", b"fault Name"),
+            (depends, b"a : any", b"fault Name"),
+            (depends, b"a (= 1) (= 2)", b"fault Name"),
+            (depends, b"-a", b"fault Name"),
+            (depends, b"a, | b", b"fault Name"),
+            (depends, b"a (1)", b"fault Operator"),
+            (depends, b"a (", b"fault Operator"),
+            (depends, b"a (== 1)", b"fault Version"),
+            (depends, b"a (>= )", b"fault Version"),
+            (depends, b"a (< < 1)", b"fault Version"),
+            (depends, b"a (>= 1", b"fault Close"),
+            (depends, b"a (>= 1 2)", b"fault Close"),
+            (depends, b"a (= 1), b (>= 1]", b"fault Version"),
+        ],
+    )
+}
+
+#[test]
+fn faults_of_a_kind(rt: HostRuntime) -> Result<(), Fail> {
+    each_is_told(
+        &rt,
+        &[
+            (FieldKind::Conflicts, b"a | b", b"fault Alternative"),
+            (FieldKind::Breaks, b"a | b", b"fault Alternative"),
+            (FieldKind::Replaces, b"a | b", b"fault Alternative"),
+            (FieldKind::Provides, b"a | b", b"fault Alternative"),
+            (FieldKind::Conflicts, b"| a", b"fault Name"),
+            (FieldKind::Provides, b"x (>= 1)", b"fault ProvidesOperator"),
+            (FieldKind::Provides, b"x (1)", b"fault Operator"),
+        ],
+    )
+}
+
+#[test]
+fn fields_with_alternatives(rt: HostRuntime) -> Result<(), Fail> {
+    each_is_told(
+        &rt,
+        &[
+            (FieldKind::PreDepends, b"a | b", b"a | b\n"),
+            (FieldKind::Depends, b"a | b", b"a | b\n"),
+            (FieldKind::Conflicts, b"a | b", b"fault Alternative"),
+            (FieldKind::Breaks, b"a | b", b"fault Alternative"),
+            (FieldKind::Recommends, b"a | b", b"a | b\n"),
+            (FieldKind::Suggests, b"a | b", b"a | b\n"),
+            (FieldKind::Replaces, b"a | b", b"fault Alternative"),
+            (FieldKind::Enhances, b"a | b", b"a | b\n"),
+            (FieldKind::Provides, b"a | b", b"fault Alternative"),
+        ],
+    )
+}
+
+#[test]
+fn groups(rt: HostRuntime) -> Result<(), Fail> {
+    each_is_told(
+        &rt,
+        &[
+            (FieldKind::Depends, b"", b""),
+            (FieldKind::Depends, b" \t\n ", b""),
+            (FieldKind::Depends, b"a, , b (>=1)", b"a\nb (>= 1)\n"),
+            (
+                FieldKind::Depends,
+                b"python3:any (>= 3.1~), x|y",
+                b"python3:any (>= 3.1~)\nx | y\n",
+            ),
+            (FieldKind::Depends, b"a (< 2)", b"a (<= 2)\n"),
+            (
+                FieldKind::Recommends,
+                b"\n a(<<1)|b(<=1) | c\t(=\n1),d ( >=1 ),e(>>1) | f(>1),",
+                b"a (<< 1) | b (<= 1) | c (= 1)\nd (>= 1)\ne (>> 1) | f (>= 1)\n",
+            ),
+            (FieldKind::Enhances, b"a | b", b"a | b\n"),
+            (
+                FieldKind::Conflicts,
+                b"a:i386 (<< 2:1-1)",
+                b"a:i386 (<< 2:1-1)\n",
+            ),
+            (FieldKind::Provides, b"x (= 1), y", b"x (= 1)\ny\n"),
+        ],
+    )
+}
+
+/// The only atom of a field with one.
+fn lone_atom<'a>(rt: &impl Abort, relations: &'a Relations) -> &'a Atom {
+    assert_eq!(rt; relations.groups().len(), 1);
+    let atoms = relations.groups()[0].atoms();
+    assert_eq!(rt; atoms.len(), 1);
+    &atoms[0]
+}
+
+#[test]
+fn parts_of_an_atom(rt: HostRuntime) -> Result<(), Fail> {
+    let relations = parse_relations(rt.alloc(), b" python3:any ( >= 3.1~ ) ", FieldKind::Depends)?;
+    let atom = lone_atom(&rt, &relations);
+    same(&rt, b"name", atom.name(), b"python3");
+    let qualifier = atom.qualifier().ok_or("a qualifier is missing")?;
+    same(&rt, b"qualifier", qualifier, b"any");
+    let (operator, version) = atom.bound().ok_or("a bound is missing")?;
+    assert!(rt; operator == Operator::LaterOrEqual);
+    same(&rt, b"operator", operator.text(), b">=");
+    same(&rt, b"version", version.text(), b"3.1~");
+    let mut out = Vec::from_slice(rt.alloc(), b"Depends: ")?;
+    atom.append_to(&mut out)?;
+    same(&rt, b"printed", &out, b"Depends: python3:any (>= 3.1~)");
+    Ok(())
+}
+
+#[test]
+fn bare_atom(rt: HostRuntime) -> Result<(), Fail> {
+    let relations = parse_relations(rt.alloc(), b"a", FieldKind::Provides)?;
+    let atom = lone_atom(&rt, &relations);
+    same(&rt, b"name", atom.name(), b"a");
+    assert!(rt; atom.qualifier().is_none());
+    assert!(rt; atom.bound().is_none());
+    Ok(())
+}
+
+#[test]
+fn order_of_fields(rt: HostRuntime) {
+    for (i, kind) in NINE.iter().enumerate() {
+        for (j, other) in NINE.iter().enumerate() {
+            let is_right = kind.cmp(other) == i.cmp(&j) && (*kind == *other) == (i == j);
+            assert!(rt; is_right, "fields {i} and {j}");
+        }
+    }
+}
+
+/// An offer of a name, with a version or without.
+fn offer_of(alloc: Global, name: &[u8], version: Option<&[u8]>) -> Result<Offer, Fail> {
+    match version {
+        Some(text) => Ok(Offer::new(alloc, name, Some(Version::parse(alloc, text)?))?),
+        None => Ok(Offer::new(alloc, name, None)?),
+    }
+}
+
+/// Whether an offer meets the only atom of a field.
+fn is_met(
+    rt: &(impl Abort + AllocGlobal),
+    field: &[u8],
+    name: &[u8],
+    version: Option<&[u8]>,
+    steps: &mut Steps,
+) -> Result<bool, Fail> {
+    let relations = parse_relations(rt.alloc(), field, FieldKind::Depends)?;
+    let offer = offer_of(rt.alloc(), name, version)?;
+    Ok(lone_atom(rt, &relations).met_by(&offer, steps))
+}
+
+#[test]
+fn operators_relate(rt: HostRuntime) -> Result<(), Fail> {
+    // A field, the version of an offer, which is earlier than that of the bound, equal or later, and whether it meets it.
+    let rows: [(&[u8], &[u8], bool); 15] = [
+        (b"a (<< 1.0)", b"1.0~rc1", true),
+        (b"a (<< 1.0)", b"0:1.0-0", false),
+        (b"a (<< 1.0)", b"1.0.1", false),
+        (b"a (<= 1.0)", b"1.0~rc1", true),
+        (b"a (<= 1.0)", b"0:1.0-0", true),
+        (b"a (<= 1.0)", b"1.0.1", false),
+        (b"a (= 1.0)", b"1.0~rc1", false),
+        (b"a (= 1.0)", b"0:1.0-0", true),
+        (b"a (= 1.0)", b"1.0.1", false),
+        (b"a (>= 1.0)", b"1.0~rc1", false),
+        (b"a (>= 1.0)", b"0:1.0-0", true),
+        (b"a (>= 1.0)", b"1.0.1", true),
+        (b"a (>> 1.0)", b"1.0~rc1", false),
+        (b"a (>> 1.0)", b"0:1.0-0", false),
+        (b"a (>> 1.0)", b"1.0.1", true),
+    ];
+    let mut steps = Steps::new();
+    for (field, version, wanted) in &rows {
+        let met = is_met(&rt, field, b"a", Some(*version), &mut steps)?;
+        let row = pair(rt.alloc(), field, version)?;
+        agree(&rt, &row, met, *wanted);
+    }
+    Ok(())
+}
+
+#[test]
+fn tests_are_counted(rt: HostRuntime) -> Result<(), Fail> {
+    let rows: [(&[u8], Option<&[u8]>, bool); 5] = [
+        (b"baz", None, false),
+        (b"baz", Some(b"1-0"), true),
+        (b"baz", Some(b"2"), true),
+        (b"baz", Some(b"1~"), false),
+        (b"bar", Some(b"1"), false),
+    ];
+    let mut steps = Steps::new();
+    for (name, version, wanted) in &rows {
+        let met = is_met(&rt, b"baz:any (>= 1)", name, *version, &mut steps)?;
+        agree(&rt, name, met, *wanted);
+    }
+    assert_eq!(rt; steps.count(), 5);
+    let met = is_met(&rt, b"baz", b"baz", None, &mut steps)?;
+    assert!(rt; met);
+    assert_eq!(rt; steps.count(), 6);
+    Ok(())
+}
+
+/// The name of an offer, and its version where it has one.
+fn offer_words(alloc: Global, name: &[u8], version: Option<&[u8]>) -> Result<Vec<u8>, Fail> {
+    let offer = offer_of(alloc, name, version)?;
+    Ok(parts_of(alloc, &offer)?)
+}
+
+fn parts_of(alloc: Global, offer: &Offer) -> Result<Vec<u8>, AllocError> {
+    match offer.version() {
+        Some(version) => pair(alloc, offer.name(), version.text()),
+        None => Vec::from_slice(alloc, offer.name()),
+    }
+}
+
+#[test]
+fn an_offer_has_its_parts(rt: HostRuntime) -> Result<(), Fail> {
+    let came = offer_words(rt.alloc(), b"baz", Some(b"1-0"))?;
+    same(&rt, b"with a version", &came, b"baz and 1-0");
+    let came = offer_words(rt.alloc(), b"baz", None)?;
+    same(&rt, b"without", &came, b"baz");
+    Ok(())
+}
