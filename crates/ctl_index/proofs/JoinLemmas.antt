@@ -19,7 +19,8 @@ use Rattle.ctl_index.specs.TablesByName.{offers_under, namers_under}
 use Rattle.ctl_index.specs.TablesIndexed.{atom_named, IsIndexed, IsPutIn, IsTakenOut, offers_put, namers_taken, tests_put_in, tests_taken_out}
 use Rattle.ctl_index.specs.TablesParts.{AreApart, IsJoined}
 use Rattle.ctl_index.specs.TablesSight.{Seen, seen, hit, AreSeen}
-use Rattle.ctl_index.specs.TablesSteps.{group_met, is_within, span_of, with_each, raise_step, lower_step, enter_step, drop_step}
+use Rattle.ctl_index.specs.TablesOrder.{is_within}
+use Rattle.ctl_index.specs.TablesSteps.{group_met, span_of, with_each, raise_step, lower_step, enter_step, drop_step}
 use Rattle.ctl_index.specs.Work.{named_pairs, pairs}
 use Rattle.ctl_index.proofs.SumLemmas.{sum-cong, sum-plus, sum-swap, sum-flat_map, sum-map, sum-zero}
 use Rattle.ctl_index.proofs.TableLemmas.{put_offers, put_namers, take_offers, take_namers}

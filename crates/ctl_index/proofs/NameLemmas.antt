@@ -1,5 +1,5 @@
 -- The table of names, by the bytes of the names: what a write at the bytes bs leaves under any name.
-use Rattle.std.proofs.Common.{◌≡◌, ℕ, Bool, true, false, cond, not, nat_eq, ◌&&◌, length, List, [], ◌∷◌, ◌++◌, Option, None, Some, Vec, Global, Result, Ok, Err, OnOk, OnErr, refl, ap, sym, subst, ◌∙◌, arith, length-append}
+use Rattle.std.proofs.Common.{◌≡◌, ◌+◌, ℕ, Bool, true, false, cond, not, nat_eq, ◌&&◌, length, List, [], ◌∷◌, ◌++◌, Option, None, Some, Vec, Global, Result, Ok, Err, OnOk, OnErr, refl, ap, sym, subst, ◌∙◌, arith, length-append}
 use Rattle.std.specs.Str.{bytes_eq}
 use Rattle.std.specs.Ordering.{nat_cmp, is_eq}
 use Rattle.std.specs.Cmp.{eq_by_cmp_equiv}
@@ -12,6 +12,8 @@ use Rattle.std.proofs.lemmas.Slice.Eq.{bytes_eq-Decides}
 use Rattle.std.proofs.lemmas.Bool.Decides.{nat_tests}
 use Rattle.std.proofs.lemmas.List.{nil_from_length}
 use Rattle.ctl_index.specs.declared.named.Named.{Named}
+use Rattle.ctl_store.specs.declared.stanza_key.StanzaKey.{StanzaKey}
+use Rattle.ctl_index.specs.TablesOrder.{put_in_order, is_through}
 use Rattle.ctl_index.specs.declared.keys.AtomKey.{AtomKey}
 use Rattle.ctl_index.specs.declared.keys.OfferKey.{OfferKey}
 use Rattle.ctl_index.specs.TablesByName.{NameMap, named_offers, named_namers, at_bytes, part_under, is_used, AreUsed}
@@ -105,15 +107,23 @@ used_replaced bs m n o w h g old q =
 pub used_found : (m : NameMap) (bs : List ℕ) (v : Named) → Some v ≡ at_bytes m bs → AreUsed m → is_used v ≡ true
 used_found m bs v at old = ap (λ o. option_map_or is_used o true) at ∙ old bs
 
-not_empty : {T : Type 0} (xs : List T) (x : T) → nat_eq (length (xs ++ x ∷ [])) 0 ≡ false
-not_empty xs x = grind (arith, nat_tests, length-append)
+longer : {T : Type 0} (g : T → StanzaKey) (x : T) (xs : List T) → length (put_in_order g x xs) ≡ length xs + 1
+longer g x [] = refl
+longer g x (y ∷ ys) = by (is_through g (g x) y) (longer g x ys)
+  where
+    by : (b : Bool) → length (put_in_order g x ys) ≡ length ys + 1 → length (cond b (y ∷ put_in_order g x ys) (x ∷ y ∷ ys)) ≡ length (y ∷ ys) + 1
+    by true rest = omega (arith, rest)
+    by false rest = omega arith
+
+not_empty : {T : Type 0} (g : T → StanzaKey) (xs : List T) (x : T) → nat_eq (length (put_in_order g x xs)) 0 ≡ false
+not_empty g xs x = let more : length (put_in_order g x xs) ≡ length xs + 1 = longer g x xs in grind (arith, nat_tests)
 
 -- an entry more
-pub used_more : {T : Type 0} (xs : List T) (x : T) (b : Bool) → not (nat_eq (length (xs ++ x ∷ [])) 0 && b) ≡ true
-used_more xs x b = ap (λ z. not (z && b)) (not_empty xs x)
+pub used_more : {T : Type 0} (g : T → StanzaKey) (xs : List T) (x : T) (b : Bool) → not (nat_eq (length (put_in_order g x xs)) 0 && b) ≡ true
+used_more g xs x b = ap (λ z. not (z && b)) (not_empty g xs x)
 
-pub used_more_too : {T : Type 0} (xs : List T) (x : T) (b : Bool) → not (b && nat_eq (length (xs ++ x ∷ [])) 0) ≡ true
-used_more_too xs x b = ap (λ z. not (b && z)) (not_empty xs x) ∙ by b
+pub used_more_too : {T : Type 0} (g : T → StanzaKey) (xs : List T) (x : T) (b : Bool) → not (b && nat_eq (length (put_in_order g x xs)) 0) ≡ true
+used_more_too g xs x b = ap (λ z. not (b && z)) (not_empty g xs x) ∙ by b
   where
     by : (d : Bool) → not (d && false) ≡ true
     by true = refl

@@ -12,8 +12,10 @@ use Rattle.std.proofs.lemmas.Bool.{true≢false}
 use Rattle.ctl_store.specs.declared.stanza_key.StanzaKey.{StanzaKey}
 use Rattle.ctl_store.specs.Keys.{key_cmp, key_is, key_of, AreRising}
 use Rattle.ctl_store.specs.Entries.{Entry, entry_keys, is_among}
-use Rattle.ctl_index.specs.declared.named.Span.{Span}
-use Rattle.ctl_index.specs.TablesSteps.{is_within, last_or, span_of}
+use Rattle.ctl_index.specs.declared.span.Span.{Span}
+use Rattle.ctl_index.specs.TablesOrder.{is_within}
+use Rattle.ctl_index.specs.TablesSteps.{last_or, span_of}
+use Rattle.ctl_index.proofs.KeyLemmas.{key_same, turned}
 use Rattle.ctl_index.proofs.StoreLemmas.{all_append, all_both, own_among}
 
 last_at : (k : StanzaKey) (ks : List StanzaKey) → slice_get (k ∷ ks) (length ks) ≡ Some (last_or k ks)
@@ -29,18 +31,6 @@ span_is (k ∷ ks) a b f l =
     λ i. record { first = one i; last = two i }
 
 -- ---- which keys are within
-
-keys_total : IsTotalOrder key_cmp
-keys_total = then_total (on_total (λ (k : StanzaKey). k.list) nat_cmp_total) (on_total (λ (k : StanzaKey). k.stanza) nat_cmp_total)
-
-pub nat_same : (a : ℕ) → nat_cmp a a ≡ Equal
-nat_same a = grind (arith, nat_tests)
-
-pub key_same : (k : StanzaKey) → key_cmp k k ≡ Equal
-key_same k = λ i. ordering_then (nat_same k.list i) (nat_same k.stanza i)
-
-turned : (a b : StanzaKey) → key_cmp a b ≡ Less → key_cmp b a ≡ Greater
-turned a b h = keys_total.antisymm b a ∙ ap ordering_reverse h
 
 -- those before the first, and those behind the last
 below_out : (k first last : StanzaKey) → key_cmp k first ≡ Less → is_within (record { first = first; last = last }) k ≡ false

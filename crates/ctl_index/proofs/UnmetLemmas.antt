@@ -25,7 +25,7 @@ use Rattle.ctl_index.specs.TablesParts.{AreApart}
 use Rattle.ctl_index.proofs.ClauseLemmas.{tie_is, same_stanza, same_field, at_from, at_from-start}
 use Rattle.ctl_index.proofs.CounterLemmas.{clauses_total, exact_clauses, same_clause}
 use Rattle.ctl_index.proofs.SeenLemmas.{key_is-same, none_under}
-use Rattle.ctl_index.proofs.SpanLemmas.{nat_same, key_same}
+use Rattle.ctl_index.proofs.KeyLemmas.{nat_same, key_same}
 use Rattle.ctl_index.proofs.StoreLemmas.{all_append}
 
 -- ---- all clauses stand in order

@@ -21,10 +21,10 @@ abbrev pub part_under : {T : Type 0} → (Named → List T) → NameMap → List
 part_under part m name = option_map_or part (at_bytes m name) []
 
 abbrev pub named_offers : Named → List OfferKey
-named_offers v = v.offers.items
+named_offers v = v.offers
 
 abbrev pub named_namers : Named → List AtomKey
-named_namers v = v.namers.items
+named_namers v = v.namers
 
 -- the offers of a name, and the atoms that name it
 abbrev pub offers_under : NameMap → List ℕ → List OfferKey

@@ -9,7 +9,8 @@ use Rattle.ctl_index.specs.Held.{standing}
 use Rattle.ctl_index.specs.Offers.{contents}
 use Rattle.ctl_index.specs.TablesParts.{AreApart, IsJoined}
 use Rattle.ctl_index.specs.TablesSight.{seen, AreSeen, in_store, with_plan}
-use Rattle.ctl_index.specs.TablesSteps.{is_within, span_of}
+use Rattle.ctl_index.specs.TablesOrder.{is_within}
+use Rattle.ctl_index.specs.TablesSteps.{span_of}
 use Rattle.ctl_index.specs.Work.{pairs}
 
 -- the stanzas that a plan leaves, and those after it

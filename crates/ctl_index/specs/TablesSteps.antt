@@ -12,7 +12,8 @@ use Rattle.ctl_store.specs.Keys.{key_cmp, key_of}
 use Rattle.ctl_index.specs.declared.keys.ClauseKey.{ClauseKey}
 use Rattle.ctl_index.specs.declared.keys.AtomKey.{AtomKey}
 use Rattle.ctl_index.specs.declared.keys.OfferKey.{OfferKey}
-use Rattle.ctl_index.specs.declared.named.Span.{Span}
+use Rattle.ctl_index.specs.declared.span.Span.{Span}
+use Rattle.ctl_index.specs.TablesOrder.{offer_stanza, atom_stanza, put_in_order, others}
 use Rattle.ctl_index.specs.Clauses.{is_clause_field, clause_cmp}
 use Rattle.ctl_index.specs.Names.{naming_fields}
 use Rattle.ctl_index.specs.TablesSight.{Seen, seen, hit, tested, atom_met, atom_tested}
@@ -21,11 +22,11 @@ use Rattle.ctl_index.specs.TablesSight.{Seen, seen, hit, tested, atom_met, atom_
 
 abbrev pub listed_offers : StanzaKey → List ℕ → ℕ → List OfferParts → List OfferKey → List OfferKey
 listed_offers key q n [] xs = xs
-listed_offers key q n (offer ∷ offers) xs = listed_offers key q (suc n) offers (if bytes_eq offer.name q then xs ++ record { stanza = key; place = n } ∷ [] else xs)
+listed_offers key q n (offer ∷ offers) xs = listed_offers key q (suc n) offers (if bytes_eq offer.name q then put_in_order offer_stanza (record { stanza = key; place = n }) xs else xs)
 
 abbrev pub listed_group : StanzaKey → FieldKind → ℕ → List ℕ → ℕ → List AtomParts → List AtomKey → List AtomKey
 listed_group key field group q n [] xs = xs
-listed_group key field group q n (atom ∷ atoms) xs = listed_group key field group q (suc n) atoms (if bytes_eq atom.name q then xs ++ record { stanza = key; field = field; group = group; atom = n } ∷ [] else xs)
+listed_group key field group q n (atom ∷ atoms) xs = listed_group key field group q (suc n) atoms (if bytes_eq atom.name q then put_in_order atom_stanza (record { stanza = key; field = field; group = group; atom = n }) xs else xs)
 
 abbrev pub listed_groups : StanzaKey → FieldKind → List ℕ → ℕ → List (List AtomParts) → List AtomKey → List AtomKey
 listed_groups key field q n [] xs = xs
@@ -37,22 +38,13 @@ listed_fields key stanza q (field ∷ fields) xs = listed_fields key stanza q fi
 
 -- ---- what goes under a name q: all that is of a span of keys, once a stanza of it names q
 
-abbrev pub is_within : Span → StanzaKey → Bool
-is_within span key = is_ge (key_cmp key span.first) && is_le (key_cmp key span.last)
-
-abbrev pub other_offers : Span → List OfferKey → List OfferKey
-other_offers span xs = filter (λ x. not (is_within span x.stanza)) xs
-
-abbrev pub other_atoms : Span → List AtomKey → List AtomKey
-other_atoms span xs = filter (λ x. not (is_within span x.stanza)) xs
-
 abbrev pub left_offers : Span → List ℕ → List OfferParts → List OfferKey → List OfferKey
 left_offers span q [] xs = xs
-left_offers span q (offer ∷ offers) xs = left_offers span q offers (if bytes_eq offer.name q then other_offers span xs else xs)
+left_offers span q (offer ∷ offers) xs = left_offers span q offers (if bytes_eq offer.name q then others offer_stanza span xs else xs)
 
 abbrev pub left_group : Span → List ℕ → List AtomParts → List AtomKey → List AtomKey
 left_group span q [] xs = xs
-left_group span q (atom ∷ atoms) xs = left_group span q atoms (if bytes_eq atom.name q then other_atoms span xs else xs)
+left_group span q (atom ∷ atoms) xs = left_group span q atoms (if bytes_eq atom.name q then others atom_stanza span xs else xs)
 
 abbrev pub left_groups : Span → List ℕ → List (List AtomParts) → List AtomKey → List AtomKey
 left_groups span q [] xs = xs

@@ -9,15 +9,18 @@ ghost use Rattle.std.specs.Str.{bytes_eq};
 ghost use Rattle.ctl_index.specs.Clauses.{clause_cmp};
 ghost use Rattle.ctl_index.specs.TablesByName.{offers_under, namers_under, AreUsed, is_used, named_offers, named_namers};
 ghost use Rattle.ctl_index.specs.TablesSight.{hit, tested, atom_met, atom_tested};
-ghost use Rattle.ctl_index.specs.TablesSteps.{other_offers, other_atoms};
+ghost use Rattle.ctl_index.specs.TablesOrder.{others, offer_stanza, put_in_order, atom_stanza};
 ghost use Rattle.ctl_index.specs.Work.{more_by};
 ghost use Rattle.ctl_index.specs.declared.keys.ClauseKey.{ClauseKey};
 
+use crate::atom_list::AtomList;
 use crate::counters::Counters;
 use crate::counting::{count_tested, meet, part};
 use crate::keys::{AtomKey, OfferKey};
-use crate::named::{Named, Span, is_used, keep_other_atoms, keep_other_offers};
+use crate::named::{Named, is_used};
+use crate::offer_list::OfferList;
 use crate::sight::Sight;
+use crate::span::Span;
 use ctl_relation::{Atom, FieldKind, Offer, Steps};
 use std::alloc::{AllocError, Global};
 use std::collections::{BTreeMap, btree_map};
@@ -27,15 +30,6 @@ use std::collections::{BTreeMap, btree_map};
 pub(crate) struct NameTable {
     map: BTreeMap<Vec<u8>, Named>,
     ghost used: { AreUsed map },
-}
-
-// A list of one entry, with no spare room.
-fn list_of_one<T: Drop>(alloc: Global, entry: T) -> Result<Vec<T>, AllocError>
-    ensures { IfOk result (λ list. list.items ≡ entry ∷ []) }
-{
-    let mut list = Vec::with_capacity(alloc, 1)?;
-    list.push(entry)?;
-    Ok(list)
 }
 
 impl NameTable {
@@ -62,7 +56,7 @@ impl NameTable {
         ensures { result.now ≡ offers_under self.now.map name.now }
     {
         match self.map.get(name) {
-            Some(named) => &named.offers,
+            Some(named) => named.offers.as_slice(),
             None => &[],
         }
     }
@@ -72,7 +66,7 @@ impl NameTable {
         ensures { result.now ≡ namers_under self.now.map name.now }
     {
         match self.map.get(name) {
-            Some(named) => &named.namers,
+            Some(named) => named.namers.as_slice(),
             None => &[],
         }
     }
@@ -98,7 +92,7 @@ impl NameTable {
         counters: &mut Counters,
         steps: &mut Steps,
     ) -> Result<(), AllocError>
-        ensures offers { OnOk result ((q : List ℕ) → offers_under self.new.map q ≡ (if bytes_eq offer.now.name q then offers_under self.old.map q ++ key ∷ [] else offers_under self.old.map q)) }
+        ensures offers { OnOk result ((q : List ℕ) → offers_under self.new.map q ≡ (if bytes_eq offer.now.name q then put_in_order offer_stanza key (offers_under self.old.map q) else offers_under self.old.map q)) }
         ensures namers { OnOk result ((q : List ℕ) → namers_under self.new.map q ≡ namers_under self.old.map q) }
         ensures counts { OnOk result ((k : ClauseKey) → get clause_cmp counters.new.numbers k ≡ option_map (λ n. n + sum_by (hit sight.now offer.now k) (namers_under self.old.map offer.now.name)) (get clause_cmp counters.old.numbers k)) }
         ensures steps { OnOk result (steps.new ≡ more_by (sum_by (tested sight.now) (namers_under self.old.map offer.now.name)) steps.old) }
@@ -107,13 +101,13 @@ impl NameTable {
         let _count = steps.count();
         match self.map.get_mut(offer.name()) {
             Some(named) => {
-                named.offers.push(key)?;
-                meet(sight, offer, &named.namers, counters, steps)
+                named.offers.put(key)?;
+                meet(sight, offer, named.namers.as_slice(), counters, steps)
             }
             None => {
                 let named = Named {
-                    offers: list_of_one(alloc, key)?,
-                    namers: Vec::new(alloc),
+                    offers: OfferList::of_one(alloc, key)?,
+                    namers: AtomList::new(alloc),
                 };
                 self.insert(alloc, offer.name(), named)
             }
@@ -130,7 +124,7 @@ impl NameTable {
         atom: &Atom,
         steps: &mut Steps,
     ) -> Result<usize, AllocError>
-        ensures namers { OnOk result ((q : List ℕ) → namers_under self.new.map q ≡ (if bytes_eq atom.now.name q then namers_under self.old.map q ++ key ∷ [] else namers_under self.old.map q)) }
+        ensures namers { OnOk result ((q : List ℕ) → namers_under self.new.map q ≡ (if bytes_eq atom.now.name q then put_in_order atom_stanza key (namers_under self.old.map q) else namers_under self.old.map q)) }
         ensures offers { OnOk result ((q : List ℕ) → offers_under self.new.map q ≡ offers_under self.old.map q) }
         ensures met { IfOk result (λ met. met ≡ atom_met sight.now key.field atom.now (offers_under self.old.map atom.now.name)) }
         ensures few { IfOk result (λ met. met < 2 ^ 64) }
@@ -140,13 +134,13 @@ impl NameTable {
         let _count = steps.count();
         match self.map.get_mut(atom.name()) {
             Some(named) => {
-                named.namers.push(key)?;
-                Ok(count_tested(sight, key.field, atom, &named.offers, steps))
+                named.namers.put(key)?;
+                Ok(count_tested(sight, key.field, atom, named.offers.as_slice(), steps))
             }
             None => {
                 let named = Named {
-                    offers: Vec::new(alloc),
-                    namers: list_of_one(alloc, key)?,
+                    offers: OfferList::new(alloc),
+                    namers: AtomList::of_one(alloc, key)?,
                 };
                 self.insert(alloc, atom.name(), named)?;
                 Ok(0)
@@ -164,7 +158,7 @@ impl NameTable {
         atom: &Atom,
         steps: &mut Steps,
     )
-        ensures namers { (q : List ℕ) → namers_under self.new.map q ≡ (if bytes_eq atom.now.name q then other_atoms span (namers_under self.old.map q) else namers_under self.old.map q) }
+        ensures namers { (q : List ℕ) → namers_under self.new.map q ≡ (if bytes_eq atom.now.name q then others atom_stanza span (namers_under self.old.map q) else namers_under self.old.map q) }
         ensures offers { (q : List ℕ) → offers_under self.new.map q ≡ offers_under self.old.map q }
         ensures steps { steps.new ≡ more_by (atom_tested sight.now field (offers_under self.old.map atom.now.name)) steps.old }
     {
@@ -172,8 +166,8 @@ impl NameTable {
         let Some(named) = self.map.get_mut(atom.name()) else {
             return;
         };
-        let _ = count_tested(sight, field, atom, &named.offers, steps);
-        keep_other_atoms(&mut named.namers, span);
+        let _ = count_tested(sight, field, atom, named.offers.as_slice(), steps);
+        named.namers.take(span);
         if !is_used(named) {
             let _ = self.map.remove(atom.name());
         }
@@ -188,7 +182,7 @@ impl NameTable {
         counters: &mut Counters,
         steps: &mut Steps,
     ) -> Result<(), AllocError>
-        ensures offers { OnOk result ((q : List ℕ) → offers_under self.new.map q ≡ (if bytes_eq offer.now.name q then other_offers span (offers_under self.old.map q) else offers_under self.old.map q)) }
+        ensures offers { OnOk result ((q : List ℕ) → offers_under self.new.map q ≡ (if bytes_eq offer.now.name q then others offer_stanza span (offers_under self.old.map q) else offers_under self.old.map q)) }
         ensures namers { OnOk result ((q : List ℕ) → namers_under self.new.map q ≡ namers_under self.old.map q) }
         ensures counts { OnOk result ((k : ClauseKey) → get clause_cmp counters.new.numbers k ≡ option_map (λ n. n - sum_by (hit sight.now offer.now k) (namers_under self.old.map offer.now.name)) (get clause_cmp counters.old.numbers k)) }
         ensures steps { OnOk result (steps.new ≡ more_by (sum_by (tested sight.now) (namers_under self.old.map offer.now.name)) steps.old) }
@@ -198,8 +192,8 @@ impl NameTable {
         let Some(named) = self.map.get_mut(offer.name()) else {
             return Ok(());
         };
-        part(sight, offer, &named.namers, counters, steps)?;
-        keep_other_offers(&mut named.offers, span);
+        part(sight, offer, named.namers.as_slice(), counters, steps)?;
+        named.offers.take(span);
         if !is_used(named) {
             let _ = self.map.remove(offer.name());
         }

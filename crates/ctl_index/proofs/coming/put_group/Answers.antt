@@ -8,6 +8,7 @@ use Rattle.ctl_index.specs.declared.keys.AtomKey.{AtomKey}
 use Rattle.ctl_index.specs.declared.keys.OfferKey.{OfferKey}
 use Rattle.ctl_index.specs.TablesByName.{offers_under, namers_under}
 use Rattle.ctl_index.specs.TablesSight.{atom_met, atom_tested}
+use Rattle.ctl_index.specs.TablesOrder.{atom_stanza, put_in_order}
 use Rattle.ctl_index.specs.TablesSteps.{listed_group, group_met, group_tested}
 use Rattle.ctl_index.specs.Work.{more_by}
 use Rattle.ctl_index.proofs.CounterLemmas.{more_by_twice}
@@ -27,7 +28,7 @@ loop-i-preserved c =
     record {
       namers = λ q.
           let now = namers_under c.loop-i.names.map q in
-          let put : AtomParts → List AtomKey = λ p. cond (bytes_eq p.name q) (now ++ key ∷ []) now in
+          let put : AtomParts → List AtomKey = λ p. cond (bytes_eq p.name q) (put_in_order atom_stanza key now) now in
           ap (λ n. listed_group k.stanza k.field k.group q n (drop (i + 1) atoms) (namers_under c.put_atom.new.self.map q)) (let z : i + 1 ≡ suc i = omega arith in z)
           ∙ ap (listed_group k.stanza k.field k.group q (suc i) (drop (i + 1) atoms)) (c.in_ok-met.ensures.namers q ∙ ap put item)
           ∙ sym (at_drop_more (λ ps. listed_group k.stanza k.field k.group q i ps now) atoms i a below) ∙ c.loop-i.invariant.namers q;

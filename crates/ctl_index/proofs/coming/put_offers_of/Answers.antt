@@ -10,6 +10,7 @@ use Rattle.ctl_index.specs.declared.keys.OfferKey.{OfferKey}
 use Rattle.ctl_index.specs.Clauses.{clause_cmp}
 use Rattle.ctl_index.specs.TablesByName.{offers_under, namers_under}
 use Rattle.ctl_index.specs.TablesSight.{hit, tested}
+use Rattle.ctl_index.specs.TablesOrder.{offer_stanza, put_in_order}
 use Rattle.ctl_index.specs.TablesSteps.{listed_offers, raised, all_tested}
 use Rattle.ctl_index.specs.Work.{more_by}
 use Rattle.ctl_index.proofs.CounterLemmas.{more_by_twice, more_most}
@@ -28,7 +29,7 @@ loop-i-preserved c =
     record {
       offers = λ q.
           let now = offers_under c.loop-i.tables.names.map q in
-          let put : OfferParts → List OfferKey = λ p. cond (bytes_eq p.name q) (now ++ key ∷ []) now in
+          let put : OfferParts → List OfferKey = λ p. cond (bytes_eq p.name q) (put_in_order offer_stanza key now) now in
           ap (λ n. listed_offers c.args.key q n (drop (i + 1) os) (offers_under c.put_offer.new.self.map q)) (let z : i + 1 ≡ suc i = omega arith in z)
           ∙ ap (listed_offers c.args.key q (suc i) (drop (i + 1) os)) (c.in_ok-put_offer.ensures.offers q ∙ ap put item)
           ∙ sym (at_drop_more (λ ps. listed_offers c.args.key q i ps now) os i o below) ∙ c.loop-i.invariant.offers q;

@@ -7,7 +7,8 @@ use Rattle.ctl_index.specs.declared.keys.AtomKey.{AtomKey}
 use Rattle.ctl_index.specs.declared.keys.OfferKey.{OfferKey}
 use Rattle.ctl_index.specs.TablesByName.{offers_under, namers_under}
 use Rattle.ctl_index.specs.TablesSight.{atom_tested}
-use Rattle.ctl_index.specs.TablesSteps.{other_atoms, left_group, group_tested}
+use Rattle.ctl_index.specs.TablesOrder.{others, atom_stanza, put_in_order}
+use Rattle.ctl_index.specs.TablesSteps.{left_group, group_tested}
 use Rattle.ctl_index.specs.Work.{more_by}
 use Rattle.ctl_index.proofs.CounterLemmas.{more_by_twice}
 use Rattle.ctl_index.proofs.going.take_group.Goals as goal
@@ -24,7 +25,7 @@ loop-atom-preserved c =
     record {
       namers = λ q.
           let now = namers_under c.loop-atom.names.map q in
-          let taken : AtomParts → List AtomKey = λ p. cond (bytes_eq p.name q) (other_atoms c.args.span now) now in
+          let taken : AtomParts → List AtomKey = λ p. cond (bytes_eq p.name q) (others atom_stanza c.args.span now) now in
           ap (left_group c.args.span q (drop (i + 1) atoms)) (c.take_atom.ensures.namers q ∙ ap taken item)
           ∙ sym (at_drop_more (λ ps. left_group c.args.span q ps now) atoms i a below) ∙ c.loop-atom.invariant.namers q;
       offers = (λ j q. c.take_atom.ensures.offers q j) ∙ c.loop-atom.invariant.offers;

@@ -10,7 +10,8 @@ use Rattle.ctl_index.specs.declared.keys.OfferKey.{OfferKey}
 use Rattle.ctl_index.specs.Clauses.{clause_cmp}
 use Rattle.ctl_index.specs.TablesByName.{offers_under, namers_under}
 use Rattle.ctl_index.specs.TablesSight.{hit, tested}
-use Rattle.ctl_index.specs.TablesSteps.{other_offers, left_offers, lowered, all_tested}
+use Rattle.ctl_index.specs.TablesOrder.{others, offer_stanza, put_in_order}
+use Rattle.ctl_index.specs.TablesSteps.{left_offers, lowered, all_tested}
 use Rattle.ctl_index.specs.Work.{more_by}
 use Rattle.ctl_index.proofs.CounterLemmas.{more_by_twice}
 use Rattle.ctl_index.proofs.going.take_offers_of.Goals as goal
@@ -27,7 +28,7 @@ loop-offer-preserved c =
     record {
       offers = λ q.
           let now = offers_under c.loop-offer.tables.names.map q in
-          let taken : OfferParts → List OfferKey = λ p. cond (bytes_eq p.name q) (other_offers c.args.span now) now in
+          let taken : OfferParts → List OfferKey = λ p. cond (bytes_eq p.name q) (others offer_stanza c.args.span now) now in
           ap (left_offers c.args.span q (drop (i + 1) os)) (c.in_ok-take_offer.ensures.offers q ∙ ap taken item)
           ∙ sym (at_drop_more (λ ps. left_offers c.args.span q ps now) os i o below) ∙ c.loop-offer.invariant.offers q;
       namers = (λ j q. c.in_ok-take_offer.ensures.namers q j) ∙ c.loop-offer.invariant.namers;

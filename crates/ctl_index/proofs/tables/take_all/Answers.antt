@@ -1,7 +1,7 @@
 use Rattle.std.proofs.Common.{◌≡◌, ℕ, List, ap, sym, subst, refl, ◌∙◌, ◌≤◌, arith}
 use Rattle.ctl_store.specs.declared.stanza_key.StanzaKey.{StanzaKey}
 use Rattle.ctl_index.specs.declared.keys.AtomKey.{AtomKey}
-use Rattle.ctl_index.specs.declared.named.Span.{Span}
+use Rattle.ctl_index.specs.declared.span.Span.{Span}
 use Rattle.ctl_index.specs.TablesByName.{offers_under, namers_under}
 use Rattle.ctl_index.specs.TablesIndexed.{namers_taken, IsTakenOut, tests_taken_out}
 use Rattle.ctl_index.specs.TablesSight.{seen}
