@@ -32,6 +32,35 @@ fn mark(unmet: &mut BTreeSet<ClauseKey>, key: ClauseKey, is_unmet: bool) -> Resu
     Ok(())
 }
 
+// Notes whether a clause is among those at 0, where that has changed.
+#[tactic(auto, using(crate::proofs::CounterLemmas::marked_already))]
+fn note(
+    unmet: &mut BTreeSet<ClauseKey>,
+    key: ClauseKey,
+    was_unmet: bool,
+    is_unmet: bool,
+) -> Result<(), AllocError>
+    requires { contains clause_cmp unmet.old key ≡ was_unmet }
+    ensures ok { OnOk result ((k : ClauseKey) → contains clause_cmp unmet.new k ≡ (if is_eq (clause_cmp key k) then is_unmet else contains clause_cmp unmet.old k)) }
+    ensures err { OnErr result ((k : ClauseKey) → contains clause_cmp unmet.new k ≡ contains clause_cmp unmet.old k) }
+{
+    if was_unmet == is_unmet {
+        return Ok(());
+    }
+    mark(unmet, key, is_unmet)
+}
+
+// Takes a clause from those at 0, where it is one.
+#[tactic(auto, using(crate::proofs::CounterLemmas::marked_already))]
+fn unmark(unmet: &mut BTreeSet<ClauseKey>, key: ClauseKey, was_unmet: bool)
+    requires { contains clause_cmp unmet.old key ≡ was_unmet }
+    ensures { (k : ClauseKey) → contains clause_cmp unmet.new k ≡ (if is_eq (clause_cmp key k) then false else contains clause_cmp unmet.old k) }
+{
+    if was_unmet {
+        let _ = unmet.remove(&key);
+    }
+}
+
 // Takes a clause out.
 fn forget(numbers: &mut BTreeMap<ClauseKey, u128>, unmet: &mut BTreeSet<ClauseKey>, key: ClauseKey)
     ensures numbers { (k : ClauseKey) → get clause_cmp numbers.new k ≡ (if is_eq (clause_cmp key k) then None else get clause_cmp numbers.old k) }
@@ -77,8 +106,8 @@ impl Counters {
     pub(crate) fn enter(&mut self, key: ClauseKey, number: u128) -> Result<(), AllocError>
         ensures { OnOk result ((k : ClauseKey) → get clause_cmp self.new.numbers k ≡ (if is_eq (clause_cmp key k) then Some number else get clause_cmp self.old.numbers k)) }
     {
-        self.numbers.insert(key, number)?;
-        match mark(&mut self.unmet, key, number == 0) {
+        let old = self.numbers.insert(key, number)?;
+        match note(&mut self.unmet, key, matches!(old, Some(0)), number == 0) {
             Ok(()) => Ok(()),
             Err(error) => {
                 forget(&mut self.numbers, &mut self.unmet, key);
@@ -91,7 +120,8 @@ impl Counters {
     pub(crate) fn remove(&mut self, key: ClauseKey)
         ensures { (k : ClauseKey) → get clause_cmp self.new.numbers k ≡ (if is_eq (clause_cmp key k) then None else get clause_cmp self.old.numbers k) }
     {
-        forget(&mut self.numbers, &mut self.unmet, key);
+        let gone = self.numbers.remove(&key);
+        unmark(&mut self.unmet, key, matches!(gone, Some(0)));
     }
 
     /// The clause, if it is there, counts one more. One that would pass a u128 is taken for want of memory.
@@ -103,7 +133,7 @@ impl Counters {
                 let Some(more) = n.checked_add(1) else {
                     return Err(AllocError);
                 };
-                mark(&mut self.unmet, key, false)?;
+                note(&mut self.unmet, key, *n == 0, false)?;
                 *n = more;
                 Ok(())
             }
@@ -118,7 +148,7 @@ impl Counters {
         match self.numbers.get_mut(&key) {
             Some(n) => {
                 let less = n.saturating_sub(1);
-                mark(&mut self.unmet, key, less == 0)?;
+                note(&mut self.unmet, key, *n == 0, less == 0)?;
                 *n = less;
                 Ok(())
             }

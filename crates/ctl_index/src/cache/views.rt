@@ -1,4 +1,4 @@
-//! What a cache that isn't stale tells, lent.
+//! What a cache tells: its store, and, where it isn't stale, what stands in its tables, lent.
 
 ghost use Rattle.std.specs.Prelude.{◌≡◌, ℕ, List, Some, IsSome, false, map};
 ghost use Rattle.std.specs.BTreeMap.{get};
@@ -162,6 +162,27 @@ impl<'a> Iterator for UnmetClauses<'a> {
 }
 
 impl Cache {
+    /// The store.
+    pub fn store(&self) -> &Store
+        ensures { result.now ≡ self.now.store }
+    {
+        &self.store
+    }
+
+    /// Whether an edit found no memory in the middle, so that the tables are to be made anew.
+    pub fn is_stale(&self) -> bool
+        ensures { result ≡ self.now.stale }
+    {
+        self.stale
+    }
+
+    /// How many tests of an offer against an atom were made by [`apply`](Cache::apply) and [`recover`](Cache::recover).
+    pub fn steps(&self) -> u128
+        ensures { result ≡ self.now.steps }
+    {
+        self.steps.count()
+    }
+
     /// The names that are known, in the order of their bytes, each once: those that are offered, and those that an atom names.
     pub fn names(&self) -> Names<'_>
         requires { self.now.stale ≡ false }
