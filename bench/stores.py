@@ -6,7 +6,7 @@
 Loads a Packages file, and then takes 50,000 of its stanzas out, one by one in no order, and puts each in again at once: the
 time of these 100,000 edits as a ratio to that of loading the list, and what they take beside the reading of the stanzas that are
 put, which is measured as the body of one list of them, in the order of the file, and so with the adding of that list. Then 100,000
-marks that are set and taken out again, and lists of 60,000 stanzas in other orders than that of their names, as ratios to the list in order. Each time is the least of
+marks, 80,000 pins and 80,000 empty lists that are set and taken out again in order, and lists of 60,000 stanzas in other orders than that of their names, as ratios to the list in order. Each time is the least of
 some runs, less that of the same run without the edits. Without PACKAGES a list of 60,000 stanzas is made."""
 
 import os
@@ -18,6 +18,7 @@ import tempfile
 from measuring import measured
 
 CHANGES = 50000
+MANY = 80000
 SEED = 20261122
 RUNS = 3
 
@@ -67,6 +68,26 @@ def marks():
     return b"".join([b"mark %s 1\n" % name for name in names] + [b"unmark %s\n" % name for name in names])
 
 
+def pins():
+    """A script that sets 80,000 pins of as many packages, and takes them out in the order in which they were set."""
+    return pins_of([b"package-%06d version 1" % number for number in range(MANY)])
+
+
+def pins_of_one():
+    """The same with pins of one package."""
+    return pins_of([b"package version 1.%06d" % number for number in range(MANY)])
+
+
+def pins_of(selectors):
+    return b"".join([b"pin %s 900\n" % selector for selector in selectors] + [b"unpin %s\n" % selector for selector in selectors])
+
+
+def lists():
+    """A script that adds 80,000 empty lists, and takes them out in the order in which they were added."""
+    names = [b"list-%06d" % number for number in range(MANY)]
+    return b"".join([b"add-list %s packages\n.\n" % name for name in names] + [b"drop-list %s\n" % name for name in names])
+
+
 class Bench:
     def __init__(self, program, folder):
         self.program = program
@@ -104,6 +125,8 @@ def main(words):
         print("the stanzas that are put as one list: %.0f ms; the edits beside that %.0f ms, ratio to loading %.2f" % (reading * 1e3, (spent - reading) * 1e3, (spent - reading) / load))
         load, spent = bench.edits([], marks())
         print("100,000 marks set and taken out: %.0f ms" % (spent * 1e3))
+        for what, script in (("pins", pins()), ("pins of one package", pins_of_one()), ("lists", lists())):
+            print("%d %s set and taken out in order: %.0f ms" % (MANY, what, bench.edits([], script)[1] * 1e3))
         numbers = list(range(60000))
         in_order = bench.loading(made_list(numbers))
         in_reverse = bench.loading(made_list(numbers[::-1]))

@@ -1,8 +1,5 @@
 //! The views of a store by keys, and copies of its settings.
 
-ghost use Rattle.ctl_store.specs.Edits.{edit_of};
-ghost use Rattle.ctl_store.specs.Held.{IsProper};
-
 use crate::made::{add_list, edited, given, put, selector, version};
 use ctl_stanza::Stanza;
 use ctl_store::{Edit, PinSetting, Selector, StanzaKey, Store};
@@ -80,9 +77,7 @@ fn a_list_has_a_serial(rt: HostRuntime) -> Result<(), Fail> {
 }
 
 /// Whether the plan that the store makes has a stanza of package c under the next key alone.
-fn plans_c(store: &mut Store, edit: Edit) -> bool
-    requires { IsProper (edit_of edit) }
-{
+fn plans_c(store: &mut Store, edit: Edit) -> bool {
     match store.prepare(edit) {
         Ok(plan) => {
             let next = StanzaKey { list: 0, stanza: 3 };

@@ -35,6 +35,8 @@ mod made;
 #[cfg(test)]
 mod names;
 #[cfg(test)]
+mod pin_settings;
+#[cfg(test)]
 mod pins;
 #[cfg(test)]
 mod preferences;

@@ -1,12 +1,12 @@
 //! Edits and their parts, made of texts. None comes where memory is refused, or where a text is not well formed.
 
-ghost use Rattle.std.specs.Prelude.{◌≡◌, Some, IfOk, IfSome};
-ghost use Rattle.ctl_store.specs.Edits.{edit_of, settings_of};
-ghost use Rattle.ctl_store.specs.Held.{IsProper, AreDistinct};
+ghost use Rattle.std.specs.Prelude.{◌≡◌, Some, IfOk};
 
 use ctl_relation::{Bytes, Version};
 use ctl_stanza::{ListKind, Stanza, lines_take_bytes, read_stanzas};
-use ctl_store::{Edit, ListClass, PinSetting, PinVersion, Selector, Store, boxed, read_prefs};
+use ctl_store::{
+    Edit, ListClass, PinSetting, PinSettings, PinVersion, Selector, Store, boxed, read_prefs,
+};
 use std::alloc::Global;
 use std::test::Fail;
 
@@ -33,16 +33,12 @@ pub fn selector(alloc: Global, package: &str, version: &str) -> Option<Selector>
 }
 
 /// The edit that adds a list `m` of packages.
-pub fn add_list(alloc: Global, text: &str) -> Option<Edit>
-    ensures { IfSome result (λ edit. IsProper (edit_of edit)) }
-{
+pub fn add_list(alloc: Global, text: &str) -> Option<Edit> {
     add_list_named(alloc, "m", text)
 }
 
 /// The edit that adds a list of packages of a name.
-pub fn add_list_named(alloc: Global, list: &str, text: &str) -> Option<Edit>
-    ensures { IfSome result (λ edit. IsProper (edit_of edit)) }
-{
+pub fn add_list_named(alloc: Global, list: &str, text: &str) -> Option<Edit> {
     Some(Edit::AddList {
         name: name(alloc, list)?,
         kind: ListKind::Packages,
@@ -52,18 +48,14 @@ pub fn add_list_named(alloc: Global, list: &str, text: &str) -> Option<Edit>
 }
 
 /// The edit that drops the list `m`.
-pub fn drop_list(alloc: Global) -> Option<Edit>
-    ensures { IfSome result (λ edit. IsProper (edit_of edit)) }
-{
+pub fn drop_list(alloc: Global) -> Option<Edit> {
     Some(Edit::DropList {
         name: name(alloc, "m")?,
     })
 }
 
 /// The edit that puts a stanza into the list `m`.
-pub fn put(alloc: Global, text: &str) -> Option<Edit>
-    ensures { IfSome result (λ edit. IsProper (edit_of edit)) }
-{
+pub fn put(alloc: Global, text: &str) -> Option<Edit> {
     let stanza = stanzas(alloc, text)?.pop()?;
     Some(Edit::Put {
         list: name(alloc, "m")?,
@@ -72,9 +64,7 @@ pub fn put(alloc: Global, text: &str) -> Option<Edit>
 }
 
 /// The edit that takes a stanza out of the list `m`.
-pub fn remove(alloc: Global, package: &str, text: &str) -> Option<Edit>
-    ensures { IfSome result (λ edit. IsProper (edit_of edit)) }
-{
+pub fn remove(alloc: Global, package: &str, text: &str) -> Option<Edit> {
     Some(Edit::Remove {
         list: name(alloc, "m")?,
         package: name(alloc, package)?,
@@ -82,9 +72,7 @@ pub fn remove(alloc: Global, package: &str, text: &str) -> Option<Edit>
     })
 }
 
-pub fn mark(alloc: Global, package: &str, text: &str) -> Option<Edit>
-    ensures { IfSome result (λ edit. IsProper (edit_of edit)) }
-{
+pub fn mark(alloc: Global, package: &str, text: &str) -> Option<Edit> {
     Some(Edit::Mark {
         package: name(alloc, package)?,
         version: Some(version(alloc, text)?),
@@ -92,26 +80,20 @@ pub fn mark(alloc: Global, package: &str, text: &str) -> Option<Edit>
 }
 
 /// The edit that marks that no version of a package is installed.
-pub fn mark_none(alloc: Global, package: &str) -> Option<Edit>
-    ensures { IfSome result (λ edit. IsProper (edit_of edit)) }
-{
+pub fn mark_none(alloc: Global, package: &str) -> Option<Edit> {
     Some(Edit::Mark {
         package: name(alloc, package)?,
         version: None,
     })
 }
 
-pub fn unmark(alloc: Global, package: &str) -> Option<Edit>
-    ensures { IfSome result (λ edit. IsProper (edit_of edit)) }
-{
+pub fn unmark(alloc: Global, package: &str) -> Option<Edit> {
     Some(Edit::Unmark {
         package: name(alloc, package)?,
     })
 }
 
-pub fn pin(alloc: Global, package: &str, version: &str, priority: i16) -> Option<Edit>
-    ensures { IfSome result (λ edit. IsProper (edit_of edit)) }
-{
+pub fn pin(alloc: Global, package: &str, version: &str, priority: i16) -> Option<Edit> {
     Some(Edit::Pin {
         setting: PinSetting {
             selector: selector(alloc, package, version)?,
@@ -120,40 +102,30 @@ pub fn pin(alloc: Global, package: &str, version: &str, priority: i16) -> Option
     })
 }
 
-pub fn unpin(alloc: Global, package: &str, version: &str) -> Option<Edit>
-    ensures { IfSome result (λ edit. IsProper (edit_of edit)) }
-{
+pub fn unpin(alloc: Global, package: &str, version: &str) -> Option<Edit> {
     Some(Edit::Unpin {
         selector: selector(alloc, package, version)?,
     })
 }
 
-pub fn target(alloc: Global, list: &str) -> Option<Edit>
-    ensures { IfSome result (λ edit. IsProper (edit_of edit)) }
-{
+pub fn target(alloc: Global, list: &str) -> Option<Edit> {
     Some(Edit::Target {
         name: Some(name(alloc, list)?),
     })
 }
 
 /// The edit by which there is no target release.
-pub fn target_none() -> Option<Edit>
-    ensures { IfSome result (λ edit. IsProper (edit_of edit)) }
-{
+pub fn target_none() -> Option<Edit> {
     Some(Edit::Target { name: None })
 }
 
 /// The pin settings of preferences.
-pub fn settings(alloc: Global, text: &str) -> Option<Vec<PinSetting>>
-    ensures { IfSome result (λ settings. AreDistinct (settings_of settings.items)) }
-{
+pub fn settings(alloc: Global, text: &str) -> Option<PinSettings> {
     lines_take_bytes();
     read_prefs(alloc, text.as_bytes(), 1).ok()
 }
 
-pub fn prefs(alloc: Global, text: &str) -> Option<Edit>
-    ensures { IfSome result (λ edit. IsProper (edit_of edit)) }
-{
+pub fn prefs(alloc: Global, text: &str) -> Option<Edit> {
     Some(Edit::Prefs {
         settings: settings(alloc, text)?,
     })
@@ -170,9 +142,7 @@ pub fn given<T>(made: Option<T>) -> Result<T, Fail>
 }
 
 /// Makes an edit that the store accepts.
-pub fn edited(store: &mut Store, edit: Edit) -> Result<(), Fail>
-    requires { IsProper (edit_of edit) }
-{
+pub fn edited(store: &mut Store, edit: Edit) -> Result<(), Fail> {
     match store.prepare(edit) {
         Ok(plan) => {
             store.commit(plan);

@@ -4,7 +4,7 @@ use crate::control_text::fault_words;
 use crate::made::{given, version};
 use crate::tables::{agree, pair, same};
 use ctl_stanza::lines_take_bytes;
-use ctl_store::{PinSetting, PinVersion, Selector, read_prefs, read_priority};
+use ctl_store::{PinSettings, PinVersion, Selector, read_prefs, read_priority};
 use std::alloc::{AllocError, Global};
 use std::test::Fail;
 
@@ -65,10 +65,11 @@ fn priorities_are_read(rt: HostRuntime) {
 /// A setting, on a line.
 fn append_setting(
     alloc: Global,
-    setting: &PinSetting,
+    selector: &Selector,
+    priority: i16,
     all: &mut Vec<u8>,
 ) -> Result<(), AllocError> {
-    match &setting.selector {
+    match selector {
         Selector::Version { package, version } => {
             all.extend_from_slice(package.as_slice())?;
             all.extend_from_slice(b" version ")?;
@@ -79,14 +80,14 @@ fn append_setting(
             all.extend_from_slice(list.as_slice())?;
         }
     }
-    let told = format!(in alloc; " {}\n", setting.priority)?;
+    let told = format!(in alloc; " {priority}\n")?;
     all.extend_from_slice(told.as_bytes())
 }
 
-fn settings_words(alloc: Global, settings: &[PinSetting]) -> Result<Vec<u8>, AllocError> {
+fn settings_words(alloc: Global, settings: &PinSettings) -> Result<Vec<u8>, AllocError> {
     let mut all = Vec::new(alloc);
-    for setting in settings {
-        append_setting(alloc, setting, &mut all)?;
+    for (selector, priority) in settings.iter() {
+        append_setting(alloc, selector, priority, &mut all)?;
     }
     Ok(all)
 }

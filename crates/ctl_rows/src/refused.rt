@@ -4,10 +4,6 @@
 //! words that say which edit met it, or that none did. It still passes where a request can be done without, as that by which
 //! a vector gives room back. What it asserts holds at each request.
 
-ghost use Rattle.std.specs.Prelude.{IfSome};
-ghost use Rattle.ctl_store.specs.Edits.{edit_of};
-ghost use Rattle.ctl_store.specs.Held.{IsProper};
-
 use crate::made::{
     add_list, drop_list, mark, mark_none, pin, prefs, put, remove, target, target_none, unmark,
     unpin,
@@ -32,9 +28,7 @@ const LEFT: &[u8] =
       target m\n1 stanzas, 15 edits\n1.0 \n";
 
 /// The edit of a number, each form among them.
-fn numbered(alloc: Global, number: u8) -> Option<Edit>
-    ensures { IfSome result (λ edit. IsProper (edit_of edit)) }
-{
+fn numbered(alloc: Global, number: u8) -> Option<Edit> {
     match number {
         0 => add_list(alloc, LIST),
         1 => put(alloc, "Package: c\nVersion: 3\n"),
@@ -67,9 +61,7 @@ fn held(alloc: Global, store: &Store) -> Result<Vec<u8>, AllocError> {
 }
 
 /// Makes an edit, or gives its refusal.
-fn refusal(store: &mut Store, edit: Edit) -> Option<Refusal>
-    requires { IsProper (edit_of edit) }
-{
+fn refusal(store: &mut Store, edit: Edit) -> Option<Refusal> {
     match store.prepare(edit) {
         Ok(plan) => {
             store.commit(plan);

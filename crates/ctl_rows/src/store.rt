@@ -2,10 +2,6 @@
 //!
 //! A store is made and dropped in one function, and all others have it lent, so that each is proved in a second or two.
 
-ghost use Rattle.std.specs.Prelude.{IfOk, IfSome};
-ghost use Rattle.ctl_store.specs.Edits.{edit_of};
-ghost use Rattle.ctl_store.specs.Held.{IsProper};
-
 use crate::made::{
     add_list, add_list_named, drop_list, edited, given, mark, mark_none, pin, put, remove,
 };
@@ -44,9 +40,7 @@ enum Asked<'a> {
     Pin(&'a str, &'a str, i16),
 }
 
-fn edit_asked(alloc: Global, asked: Asked<'_>) -> Option<Edit>
-    ensures { IfSome result (λ edit. IsProper (edit_of edit)) }
-{
+fn edit_asked(alloc: Global, asked: Asked<'_>) -> Option<Edit> {
     match asked {
         Asked::AddList(name, text) => add_list_named(alloc, name, text),
         Asked::DropList => drop_list(alloc),
@@ -158,9 +152,7 @@ fn append_planned(
     store: &mut Store,
     edit: Edit,
     all: &mut Vec<u8>,
-) -> Result<(), AllocError>
-    requires { IsProper (edit_of edit) }
-{
+) -> Result<(), AllocError> {
     match store.prepare(edit) {
         Ok(plan) => append_plan(alloc, &plan, all),
         Err(_) => all.extend_from_slice(b"refused"),
@@ -183,9 +175,7 @@ fn append_made(
     store: &mut Store,
     edit: Edit,
     all: &mut Vec<u8>,
-) -> Result<(), AllocError>
-    requires { IsProper (edit_of edit) }
-{
+) -> Result<(), AllocError> {
     match store.prepare(edit) {
         Ok(plan) => append_committed(alloc, &store.commit_with_keys(plan), all),
         Err(_) => all.extend_from_slice(b"refused"),
@@ -220,10 +210,7 @@ fn append_refused(
     store: &mut Store,
     edit: Edit,
     all: &mut Vec<u8>,
-) -> Result<Option<Edit>, AllocError>
-    requires { IsProper (edit_of edit) }
-    ensures { IfOk result (λ back. IfSome back (λ edit. IsProper (edit_of edit))) }
-{
+) -> Result<Option<Edit>, AllocError> {
     if let Err(why) = store.check(&edit) {
         all.extend_from_slice(why.text().as_bytes())?;
     }
@@ -239,17 +226,18 @@ fn append_refused(
     }
 }
 
-fn append_late(alloc: Global, store: &mut Store, edit: Edit, all: &mut Vec<u8>) -> Result<(), Fail>
-    requires { IsProper (edit_of edit) }
-{
+fn append_late(
+    alloc: Global,
+    store: &mut Store,
+    edit: Edit,
+    all: &mut Vec<u8>,
+) -> Result<(), Fail> {
     let back = append_refused(store, edit, all)?;
     let edit = given(back)?;
     make_late(alloc, store, edit, all)
 }
 
-fn make_late(alloc: Global, store: &mut Store, edit: Edit, all: &mut Vec<u8>) -> Result<(), Fail>
-    requires { IsProper (edit_of edit) }
-{
+fn make_late(alloc: Global, store: &mut Store, edit: Edit, all: &mut Vec<u8>) -> Result<(), Fail> {
     add_m(alloc, store)?;
     append_made(alloc, store, edit, all)?;
     Ok(())

@@ -5,7 +5,6 @@ use Rattle.ctl_store.specs.declared.selector.Selector.{Selector}
 use Rattle.ctl_store.specs.declared.refusal.Refusal.{Refusal}
 use Rattle.ctl_store.specs.declared.refusal.Refusal.TheVariants as refusal
 use Rattle.ctl_store.specs.Edits.{edit_of}
-use Rattle.ctl_store.specs.Held.{IsProper}
 use Rattle.ctl_session.specs.Request.{Request as RequestText, AddList as AddListText, Put as PutText, Prefs as PrefsText, Change as ChangeText, Ask as AskText, request_by, request_of, refused_at, takes_memory}
 use Rattle.ctl_session.specs.Script.{Command}
 use Rattle.ctl_session.specs.declared.request.Request.{Request}
@@ -47,11 +46,3 @@ abbrev pub GivesWordsOf : Command → Result CommandWords RefusalAt → Type 0
 GivesWordsOf command (Ok read) = (request_of command ≡ refused_at command.number (request_by read.name read.words.items)) × (takes_memory command ≡ true)
 GivesWordsOf command (Err refused) =
     (request_of command ≡ Err refused) ⊎ ((takes_memory command ≡ true) × (refused ≡ record { line = command.number; cause = refusal.Memory }))
-
--- an edit that a request holds is one that a store takes
-abbrev pub IsProperRequest : Request → Type 0
-IsProperRequest (AddList name kind class) = Unit {0}
-IsProperRequest (Put name) = Unit {0}
-IsProperRequest Prefs = Unit {0}
-IsProperRequest (Change edit) = IsProper (edit_of edit)
-IsProperRequest (Ask query) = Unit {0}

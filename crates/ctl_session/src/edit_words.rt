@@ -2,7 +2,7 @@
 
 ghost use Rattle.ctl_session.specs.Request.{remove_request as remove_asked, mark_request as mark_asked, target_request as target_asked};
 ghost use Rattle.std.specs.Prelude.{IfOk};
-ghost use Rattle.ctl_session.specs.Asked.{Asks, ReadsVersion, IsProperRequest};
+ghost use Rattle.ctl_session.specs.Asked.{Asks, ReadsVersion};
 
 use crate::list_words::copied;
 use crate::request::Request;
@@ -24,7 +24,6 @@ fn version_of(alloc: Global, word: &Bytes) -> Result<Version, Refusal>
 /// `remove NAME PKG VERSION`
 pub(crate) fn remove_request(alloc: Global, words: &[Bytes]) -> Result<Request<'_>, Refusal>
     ensures asks { Asks result (remove_asked words.now) }
-    ensures proper { IfOk result IsProperRequest }
 {
     match words {
         [list, name, version] => {
@@ -50,7 +49,6 @@ pub(crate) fn remove_request(alloc: Global, words: &[Bytes]) -> Result<Request<'
 /// `mark PKG VERSION` or `mark PKG none`
 pub(crate) fn mark_request(alloc: Global, words: &[Bytes]) -> Result<Request<'_>, Refusal>
     ensures asks { Asks result (mark_asked words.now) }
-    ensures proper { IfOk result IsProperRequest }
 {
     match words {
         [name, version] => {
@@ -78,7 +76,6 @@ pub(crate) fn mark_request(alloc: Global, words: &[Bytes]) -> Result<Request<'_>
 /// `target NAME` or `target none`
 pub(crate) fn target_request(alloc: Global, words: &[Bytes]) -> Result<Request<'_>, Refusal>
     ensures asks { Asks result (target_asked words.now) }
-    ensures proper { IfOk result IsProperRequest }
 {
     match words {
         [name] => {

@@ -2,7 +2,6 @@
 
 ghost use Rattle.std.specs.Prelude.{◌≡◌, OnErr};
 ghost use Rattle.ctl_store.specs.Edits.{edit_of};
-ghost use Rattle.ctl_store.specs.Held.{IsProper};
 ghost use Rattle.ctl_store.specs.declared.refusal.Refusal.TheVariants.{Memory};
 ghost use Rattle.ctl_session.specs.Effect.{refusal_by, edited, list_added, put_in_list, prefs_set};
 ghost use Rattle.ctl_session.specs.Replies.{CameTo, IsRefusalOf};
@@ -57,7 +56,6 @@ fn refusal_at(fault: TextFault, number: u32) -> RefusalAt
 
 /// Makes an edit, of the command at this line.
 pub(crate) fn edit(cache: &mut Cache, edit: Edit, number: u32) -> Result<(), RefusalAt>
-    requires { IsProper (edit_of edit) }
     ensures outcome { CameTo number result cache.new.state (edited cache.old.state number (edit_of edit)) }
     ensures err { OnErr result (cache.new ≡ cache.old) }
 {

@@ -2,7 +2,7 @@
 
 ghost use Rattle.std.specs.Prelude.{◌≡◌, IfOk, IfErr};
 ghost use Rattle.ctl_session.specs.Request.{kind_of_word, class_of_words, add_list_request as add_list_asked, put_request as put_asked, drop_list_request as drop_list_asked, unmark_request as unmark_asked, prefs_request as prefs_asked};
-ghost use Rattle.ctl_session.specs.Asked.{Asks, IsProperRequest};
+ghost use Rattle.ctl_session.specs.Asked.{Asks};
 ghost use Rattle.ctl_store.specs.declared.refusal.Refusal.TheVariants.{Memory};
 
 use crate::request::Request;
@@ -54,7 +54,6 @@ fn class_of_words(kind: &[u8], class: &[u8]) -> Option<ListClass>
 /// `add-list NAME packages [notauto|butauto]` or `add-list NAME status`
 pub(crate) fn add_list_request(words: &[Bytes]) -> Result<Request<'_>, Refusal>
     ensures asks { Asks result (add_list_asked words.now) }
-    ensures proper { IfOk result IsProperRequest }
 {
     let (name, kind, class) = match words {
         [name, kind] => match kind_of_word(kind.as_slice()) {
@@ -76,7 +75,6 @@ pub(crate) fn add_list_request(words: &[Bytes]) -> Result<Request<'_>, Refusal>
 /// `drop-list NAME`
 pub(crate) fn drop_list_request(alloc: Global, words: &[Bytes]) -> Result<Request<'_>, Refusal>
     ensures asks { Asks result (drop_list_asked words.now) }
-    ensures proper { IfOk result IsProperRequest }
 {
     match words {
         [name] => {
@@ -93,7 +91,6 @@ pub(crate) fn drop_list_request(alloc: Global, words: &[Bytes]) -> Result<Reques
 /// `put NAME`
 pub(crate) fn put_request(words: &[Bytes]) -> Result<Request<'_>, Refusal>
     ensures asks { Asks result (put_asked words.now) }
-    ensures proper { IfOk result IsProperRequest }
 {
     match words {
         [name] => {
@@ -109,7 +106,6 @@ pub(crate) fn put_request(words: &[Bytes]) -> Result<Request<'_>, Refusal>
 /// `unmark PKG`
 pub(crate) fn unmark_request(alloc: Global, words: &[Bytes]) -> Result<Request<'_>, Refusal>
     ensures asks { Asks result (unmark_asked words.now) }
-    ensures proper { IfOk result IsProperRequest }
 {
     match words {
         [name] => {
@@ -126,7 +122,6 @@ pub(crate) fn unmark_request(alloc: Global, words: &[Bytes]) -> Result<Request<'
 /// `prefs`
 pub(crate) fn prefs_request(words: &[Bytes]) -> Result<Request<'_>, Refusal>
     ensures asks { Asks result (prefs_asked words.now) }
-    ensures proper { IfOk result IsProperRequest }
 {
     match words {
         [] => Ok(Request::Prefs),

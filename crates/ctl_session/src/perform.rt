@@ -6,7 +6,7 @@ ghost use Rattle.ctl_session.specs.Script.{Command};
 ghost use Rattle.ctl_session.specs.Reading.{Describes};
 ghost use Rattle.ctl_session.specs.Outcome.{state_after};
 ghost use Rattle.ctl_session.specs.Effect.{MayCome};
-ghost use Rattle.ctl_session.specs.Asked.{request_text, IsProperRequest};
+ghost use Rattle.ctl_session.specs.Asked.{request_text};
 ghost use Rattle.ctl_session.specs.State.{CacheState};
 ghost use Rattle.ctl_session.specs.Replies.{outcome_from, outcome_of_edit, MayDo};
 
@@ -40,7 +40,6 @@ fn do_request(
     number: u32,
     out: &mut Vec<u8>,
 ) -> Reply
-    requires proper { IsProperRequest request }
     requires empty { out.old.items ≡ [] }
     ensures may { (asked : Command) → asked.number ≡ number → (body.now.dropped ≡ false → body.now.text.items ≡ text_of_lines asked.body) →
         MayDo cache.old.state asked (request_text request.entry) (outcome_from result out.new.items cache.new.state) }

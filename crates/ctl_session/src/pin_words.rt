@@ -2,7 +2,7 @@
 
 ghost use Rattle.std.specs.Prelude.{◌≡◌, IfOk};
 ghost use Rattle.ctl_session.specs.Request.{version_selector, release_selector, selector_of as selector_asked, pin_request as pin_asked, unpin_request as unpin_asked};
-ghost use Rattle.ctl_session.specs.Asked.{Asks, ReadsSelector, IsProperRequest};
+ghost use Rattle.ctl_session.specs.Asked.{Asks, ReadsSelector};
 
 use crate::list_words::copied;
 use crate::request::Request;
@@ -79,7 +79,6 @@ fn selector_of(
 /// `pin` with a selector and a priority
 pub(crate) fn pin_request(alloc: Global, words: &[Bytes]) -> Result<Request<'_>, Refusal>
     ensures asks { Asks result (pin_asked words.now) }
-    ensures proper { IfOk result IsProperRequest }
 {
     match words {
         [name, form, value, priority] => {
@@ -102,7 +101,6 @@ pub(crate) fn pin_request(alloc: Global, words: &[Bytes]) -> Result<Request<'_>,
 /// `unpin` with a selector
 pub(crate) fn unpin_request(alloc: Global, words: &[Bytes]) -> Result<Request<'_>, Refusal>
     ensures asks { Asks result (unpin_asked words.now) }
-    ensures proper { IfOk result IsProperRequest }
 {
     match words {
         [name, form, value] => match selector_of(alloc, name, form, value) {

@@ -6,7 +6,7 @@ ghost use Rattle.ctl_session.specs.Script.{Command as CommandText, name_of};
 ghost use Rattle.ctl_session.specs.Words.{behind_name};
 ghost use Rattle.ctl_session.specs.Request.{command_named, request_by, request_named, words_by};
 ghost use Rattle.ctl_session.specs.Reading.{Describes};
-ghost use Rattle.ctl_session.specs.Asked.{Asks, GivesWords, GivesWordsOf, IsProperRequest};
+ghost use Rattle.ctl_session.specs.Asked.{Asks, GivesWords, GivesWordsOf};
 
 use crate::command_name::CommandName;
 use crate::edit_words::{mark_request, remove_request, target_request};
@@ -121,7 +121,6 @@ pub(crate) fn request_by(
     words: &[Bytes],
 ) -> Result<Request<'_>, Refusal>
     ensures asks { Asks result (request_by name words.now) }
-    ensures proper { IfOk result IsProperRequest }
 {
     match name {
         CommandName::AddList => add_list_request(words),

@@ -1,5 +1,5 @@
 -- Changes of one list among the lists, and the order of serials through them.
-use Rattle.std.proofs.Common.{◌≡◌, ℕ, ◌+◌, ◌≤◌, suc, Bool, true, false, cond, ◌||◌, List, [], ◌∷◌, ◌++◌, Option, None, Some, is_some, option_map, map, refl, ap, sym, subst, ◌∙◌, IfSome, OnOk, Result, Ok, Err, Vec, arith}
+use Rattle.std.proofs.Common.{◌≡◌, ℕ, ◌+◌, ◌≤◌, suc, Bool, true, false, cond, ◌||◌, List, [], ◌∷◌, ◌++◌, Option, None, Some, is_some, option_map, map, refl, ap, sym, subst, ◌∙◌, IfSome, OnOk, Result, Ok, Err, arith}
 use Rattle.std.specs.Str.{bytes_eq}
 use Rattle.ctl_stanza.specs.Content.{Content, package_of, version_of}
 use Rattle.ctl_store.specs.State.{StanzaList, shown_lists}
@@ -7,7 +7,7 @@ use Rattle.ctl_store.specs.Step.{place, is_same, is_status, has_status, has_stan
 use Rattle.std.specs.Option.{option_map_or}
 use Rattle.std.specs.List.{list_any}
 use Rattle.std.specs.Map.{keys_of as names_of}
-use Rattle.ctl_store.specs.Named.{at_name, has_name, put_named, set_named, without_name, change_named, by_bytes}
+use Rattle.ctl_store.specs.Named.{at_name, has_name, put_named, set_named, without_name, change_named}
 use Rattle.ctl_store.specs.Rows.{Rises, by_name_and_version, put_row_at, next_at, remove_row_at}
 use Rattle.ctl_store.specs.Keys.{KeyedList, stanzas_of, stanza_list, stanza_lists, put_keyed, remove_keyed}
 use Rattle.ctl_store.specs.Held.{Sheet, keyed_list, lists_of, InOrder}
@@ -180,13 +180,9 @@ pub has_status_held : (es : List (List ℕ × Sheet)) → has_status (stanza_lis
 has_status_held [] = refl
 has_status_held (e ∷ es) = ap (λ b. is_status e.1.kind || b) (has_status_held es)
 
-pub status_entries : {A : Type 0} (es : List (Vec ℕ A × Sheet)) → list_any (λ (e : Vec ℕ A × Sheet). is_status e.1.kind) es ≡ has_status (stanza_lists (lists_of (map by_bytes es)))
-status_entries [] = refl
-status_entries (e ∷ es) = ap (λ b. is_status e.1.kind || b) (status_entries es)
-
-pub shown_entries : {A : Type 0} (es : List (Vec ℕ A × Sheet)) → map (λ (e : Vec ℕ A × Sheet). (e.0.items, e.1.kind, e.1.class)) es ≡ shown_lists (stanza_lists (lists_of (map by_bytes es)))
+pub shown_entries : (es : List (List ℕ × Sheet)) → map (λ (e : List ℕ × Sheet). (e.0, e.1.kind, e.1.class)) es ≡ shown_lists (stanza_lists (lists_of es))
 shown_entries [] = refl
-shown_entries (e ∷ es) = ap (λ l. (e.0.items, e.1.kind, e.1.class) ∷ l) (shown_entries es)
+shown_entries (e ∷ es) = ap (λ l. (e.0, e.1.kind, e.1.class) ∷ l) (shown_entries es)
 
 pub names_held : (es : List (List ℕ × Sheet)) → names_of (stanza_lists (lists_of es)) ≡ names_of es
 names_held [] = refl

@@ -1,9 +1,8 @@
--- what a map by `Vec<u8>` keys is, seen by the bytes of its keys
-use Rattle.std.proofs.Common.{◌≡◌, ℕ, Bool, true, false, cond, List, [], ◌∷◌, ◌++◌, Option, None, Some, is_some, map, refl, ap, sym, ◌∙◌, Vec}
+-- Lists of values by name, and the finite maps that they are.
+use Rattle.std.proofs.Common.{◌≡◌, ℕ, Bool, true, false, cond, List, [], ◌∷◌, ◌++◌, Option, None, Some, is_some, refl, ap, sym, ◌∙◌}
 use Rattle.std.specs.Str.{bytes_eq}
-use Rattle.std.specs.Map.{lookup, remove_entry, set_value, keys_of, KeepsOthers, IsKeyTest, AreApart}
-use Rattle.std.specs.HashMap.{HashMap, UpdatesBy}
-use Rattle.std.specs.List.{IsDistinct, AllByRecursion}
+use Rattle.std.specs.Map.{keys_of}
+use Rattle.std.specs.List.{IsDistinct}
 use Rattle.std.specs.Cmp.Lexicographic.{slice_cmp, nat_list_cmp_total, nat_list_eq_equiv}
 use Rattle.std.specs.Ordering.{nat_cmp, eq_by_cmp}
 use Rattle.std.specs.FinMap as fin
@@ -11,8 +10,7 @@ use Rattle.std.proofs.lemmas.Map.{lookup-remove_entry}
 use Rattle.std.proofs.lemmas.Map.Lookups.{exact_bytes}
 use Rattle.std.proofs.lemmas.Map.Text.{is_eq-slice_cmp}
 use Rattle.std.proofs.lemmas.Slice.Eq.{bytes_eq-Decides}
-use Rattle.indexmap.specs.IndexMap.{insert_entry}
-use Rattle.ctl_store.specs.Named.{at_name, put_named, set_named, without_name, by_bytes}
+use Rattle.ctl_store.specs.Named.{at_name, put_named, set_named, without_name}
 
 pub if_cases : {A B : Type 0} (f : A → B) (b : Bool) (x y : A) → f (cond b x y) ≡ cond b (f x) (f y)
 if_cases f true x y = refl
@@ -20,23 +18,6 @@ if_cases f false x y = refl
 
 pub some_is : {X : Type 0} {x y : X} → Some x ≡ Some y → x ≡ y
 some_is e = cc
-
-module _ {A V : Type 0} where
-  pub at_name-by_bytes : (name : List ℕ) (es : List (Vec ℕ A × V)) → lookup (λ k. bytes_eq name k.items) es ≡ at_name name (map by_bytes es)
-  at_name-by_bytes name [] = refl
-  at_name-by_bytes name (e ∷ es) = ap (cond (bytes_eq name e.0.items) (Some e.1)) (at_name-by_bytes name es)
-
-  pub put_named-by_bytes : (k : Vec ℕ A) (v : V) (es : List (Vec ℕ A × V)) → map by_bytes (insert_entry (λ x y. bytes_eq x.items y.items) es k v) ≡ put_named k.items v (map by_bytes es)
-  put_named-by_bytes k v [] = refl
-  put_named-by_bytes k v (e ∷ es) = if_cases (map by_bytes) (bytes_eq k.items e.0.items) _ _ ∙ ap (λ r. cond (bytes_eq k.items e.0.items) ((e.0.items, v) ∷ map by_bytes es) ((e.0.items, e.1) ∷ r)) (put_named-by_bytes k v es)
-
-  pub set_named-by_bytes : (name : List ℕ) (v : V) (es : List (Vec ℕ A × V)) → map by_bytes (set_value (λ k. bytes_eq name k.items) es v) ≡ set_named name v (map by_bytes es)
-  set_named-by_bytes name v [] = refl
-  set_named-by_bytes name v (e ∷ es) = if_cases (map by_bytes) (bytes_eq name e.0.items) _ _ ∙ ap (λ r. cond (bytes_eq name e.0.items) ((e.0.items, v) ∷ map by_bytes es) ((e.0.items, e.1) ∷ r)) (set_named-by_bytes name v es)
-
-  pub without_name-by_bytes : (name : List ℕ) (es : List (Vec ℕ A × V)) → map by_bytes (remove_entry (λ k. bytes_eq name k.items) es) ≡ without_name name (map by_bytes es)
-  without_name-by_bytes name [] = refl
-  without_name-by_bytes name (e ∷ es) = if_cases (map by_bytes) (bytes_eq name e.0.items) _ _ ∙ ap (λ r. cond (bytes_eq name e.0.items) (map by_bytes es) ((e.0.items, e.1) ∷ r)) (without_name-by_bytes name es)
 
 module _ {V : Type 0} where
   -- a new name goes last
@@ -102,38 +83,9 @@ module _ {V : Type 0} where
       get-at_name (put_named k v es) q ∙ at_name-put_named k v q es ∙ ap (λ b. cond b (Some v) (at_name q es)) (nat_list_eq_equiv.symm k q ∙ sym (is_eq-slice_cmp q k))
       ∙ ap (cond (eq_by_cmp (slice_cmp nat_cmp) q k) (Some v)) (sym (get-at_name es q)) ∙ sym (fin.get-insert nat_list_cmp_total (fin.from_entries es) k v q))
 
-  -- a map has each name once
-  apart : {A : Type 0} (x : Vec ℕ A) (es : List (Vec ℕ A × V)) → AllByRecursion (λ y. bytes_eq x.items y.items ≡ false) (keys_of es) → AllByRecursion (λ y. bytes_eq x.items y ≡ false) (keys_of (map by_bytes es))
-  apart x [] h = h
-  apart x (e ∷ es) h = (h.0, apart x es h.1)
-
-  pub IsDistinct-by_bytes : {A : Type 0} (es : List (Vec ℕ A × V)) → IsDistinct (λ x y. bytes_eq x.items y.items) (keys_of es) → IsDistinct bytes_eq (keys_of (map by_bytes es))
-  unfolding IsDistinct
-  IsDistinct-by_bytes [] h = h
-  IsDistinct-by_bytes (e ∷ es) h = (apart e.0 es h.0, IsDistinct-by_bytes es h.1)
-
 pub none_is : {X : Type 0} (o : Option X) → is_some o ≡ false → o ≡ None
 none_is None h = refl
 none_is (Some x) h = cc
-
--- ---- what a call leaves at each name
-
-module _ {A : Type 0} where
-  other_entries : {X : Type 0} (eq : Vec ℕ A → Vec ℕ A → Bool) (test : Vec ℕ A → Bool) (old new : List (Vec ℕ A × X)) → KeepsOthers eq test old new → (other : Vec ℕ A → Bool) → IsKeyTest eq other → AreApart test other → lookup other new ≡ lookup other old
-  unfolding KeepsOthers
-  other_entries eq test old new h = h
-
-  apart_bytes : (bs cs : List ℕ) (k : Vec ℕ A) → bytes_eq bs cs ≡ false → bytes_eq bs k.items ≡ true → bytes_eq cs k.items ≡ false
-  apart_bytes bs cs k n y = nat_list_eq_equiv.symm cs k.items ∙ sym (nat_list_eq_equiv.congr bs k.items cs y) ∙ n
-
-  -- at other bytes the map keeps what it has
-  pub updates_bytes : {X S : Type 0} (bs : List ℕ) (m n : HashMap (Vec ℕ A) X S) (w : Option X) → UpdatesBy (λ x y. bytes_eq x.items y.items) (λ k. bytes_eq bs k.items) m n w
-      → (cs : List ℕ) → at_name cs (map by_bytes n.entries) ≡ cond (bytes_eq bs cs) w (at_name cs (map by_bytes m.entries))
-  updates_bytes bs m n w h cs = by (bytes_eq bs cs) refl
-    where
-      by : (b : Bool) → bytes_eq bs cs ≡ b → at_name cs (map by_bytes n.entries) ≡ cond b w (at_name cs (map by_bytes m.entries))
-      by true e = ap (λ q. at_name q (map by_bytes n.entries)) (sym (same_bytes bs cs e)) ∙ sym (at_name-by_bytes bs n.entries) ∙ h.1
-      by false e = sym (at_name-by_bytes cs n.entries) ∙ other_entries _ _ m.entries n.entries h.3 (λ k. bytes_eq cs k.items) (λ x y. nat_list_eq_equiv.congr cs x.items y.items) (λ k. apart_bytes bs cs k e) ∙ at_name-by_bytes cs m.entries
 
 module _ {V : Type 0} where
   -- the finite map of entries that a name left

@@ -10,9 +10,7 @@ use Rattle.ctl_stanza.specs.Fields.{is_same_name, package_name}
 use Rattle.ctl_stanza.specs.Records.{RecordText, parts_of_fields}
 use Rattle.ctl_relation.specs.Names.{is_name}
 use Rattle.ctl_store.specs.declared.selector.Selector.{Selector}
-use Rattle.ctl_store.specs.declared.selector.PinSetting.{PinSetting}
 use Rattle.ctl_store.specs.Pins.{selector_eq}
-use Rattle.ctl_store.specs.Edits.{settings_of}
 use Rattle.ctl_store.specs.PinVersions.{is_pin_version}
 use Rattle.ctl_store.specs.Priority.{priority_of}
 use Rattle.ctl_store.specs.Prefs.{words_of, is_general, are_names, version_asked, list_asked, package_cause, asked_cause, pin_cause, priority_cause, pin_name, priority_name, field_cause, body_in, words_in, first_wrong, own_fault, keep_first, first_settings}
@@ -37,16 +35,6 @@ kept_new s p kept h = absent_last s p kept h ∙ sym (ap (λ b. cond b kept (kep
 pub first_settings_append : (kept one others : List (Selector × ℤ)) → first_settings kept (one ++ others) ≡ first_settings (first_settings kept one) others
 first_settings_append kept [] others = refl
 first_settings_append kept (s ∷ one) others = first_settings_append (keep_first kept s) one others
-
-settings_of-append : (old : List PinSetting) (s : PinSetting) (rest : List (Selector × ℤ)) → settings_of (old ++ s ∷ []) ++ rest ≡ settings_of old ++ (s.selector, s.priority) ∷ rest
-settings_of-append [] s rest = refl
-settings_of-append (x ∷ old) s rest = ap (λ l. (x.selector, x.priority) ∷ l) (settings_of-append old s rest)
-
-abbrev pub with_last : List PinSetting → Selector → ℤ → List PinSetting
-with_last old selector priority = old ++ record { selector = selector; priority = priority } ∷ []
-
-pub settings_more : (old new : List PinSetting) (s : PinSetting) (rest all : List (Selector × ℤ)) → new ≡ old ++ s ∷ [] → settings_of old ++ (s.selector, s.priority) ∷ rest ≡ all → settings_of new ++ rest ≡ all
-settings_more old new s rest all e h = ap (λ l. settings_of l ++ rest) e ∙ settings_of-append old s rest ∙ h
 
 -- ---- faults
 

@@ -4,7 +4,6 @@ use Rattle.ctl_stanza.specs.declared.list_kind.ListKind.{ListKind}
 use Rattle.ctl_stanza.specs.Content.{Content}
 use Rattle.ctl_store.specs.declared.list_class.ListClass.{ListClass}
 use Rattle.ctl_store.specs.declared.selector.Selector.{Selector}
-use Rattle.ctl_store.specs.declared.selector.PinSetting.{PinSetting}
 use Rattle.ctl_store.specs.declared.edit.Edit.{Edit as HeldEdit}
 use Rattle.ctl_store.specs.declared.edit.Edit.TheVariants as held
 
@@ -26,10 +25,6 @@ pub data Edit : Type 0 where
   -- the pin settings that take the place of all
   Prefs : List (Selector × ℤ) → Edit
 
--- pin settings as pairs
-abbrev pub settings_of : List PinSetting → List (Selector × ℤ)
-settings_of settings = map (λ (s : PinSetting). (s.selector, s.priority)) settings
-
 -- an edit of the code, as plain data
 abbrev pub edit_of : HeldEdit → Edit
 edit_of (held.AddList name kind class stanzas) = AddList name kind class (map (λ stanza. stanza.value) stanzas.items)
@@ -41,4 +36,4 @@ edit_of (held.Unmark name) = Unmark name
 edit_of (held.Pin setting) = Pin setting.selector setting.priority
 edit_of (held.Unpin selector) = Unpin selector
 edit_of (held.Target name) = Target name
-edit_of (held.Prefs settings) = Prefs (settings_of settings.items)
+edit_of (held.Prefs settings) = Prefs settings.pins

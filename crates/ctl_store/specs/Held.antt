@@ -1,7 +1,6 @@
 -- A store with its rooms: how much more it takes without memory.
 use Rattle.std.specs.Prelude.{◌≡◌, ℕ, ℤ, ◌+◌, ◌<◌, ◌≤◌, min, suc, List, [], ◌∷◌, map, length, Option, None, Some, IfSome, Vec, nat_eq, if◌then◌else◌}
-use Rattle.std.specs.List.{IsDistinct}
-use Rattle.std.specs.Map.{keys_of as names_of}
+use Rattle.std.specs.List.{slice_index_or}
 use Rattle.std.specs.FinMap as fin
 use Rattle.ctl_stanza.specs.declared.list_kind.ListKind.{ListKind}
 use Rattle.ctl_stanza.specs.Content.{Content}
@@ -11,11 +10,10 @@ use Rattle.ctl_store.specs.declared.selector.Selector.{Selector}
 use Rattle.ctl_store.specs.declared.stanza_key.StanzaKey.{StanzaKey}
 use Rattle.ctl_store.specs.Limits.{most}
 use Rattle.ctl_store.specs.Named.{at_name}
-use Rattle.ctl_store.specs.Pins.{selector_eq}
 use Rattle.ctl_store.specs.State.{State, stanza_count, status_count}
-use Rattle.ctl_store.specs.Edits.{Edit, AddList, Put, Mark, Pin, Prefs}
+use Rattle.ctl_store.specs.Edits.{Edit, AddList, Put, Mark, Pin}
 use Rattle.ctl_store.specs.Step.{refusal_of}
-use Rattle.ctl_store.specs.Rows.{Rises, IsKept}
+use Rattle.ctl_store.specs.Rows.{Rises, IsKept, replace_at}
 use Rattle.ctl_store.specs.Pieces.{most_in_piece, joined, IsFit}
 use Rattle.ctl_store.specs.Keys.{KeyedList, Keyed, stanza_lists, removed_of, added_of, coming, AreComing, AreHeld, AreNew}
 use Rattle.ctl_store.specs.Followed.{coming_under}
@@ -114,7 +112,6 @@ pub record Planned : Type 0 where
   pub removed : List StanzaKey
   pub added : List StanzaKey
   pub list_room : ListRoom
-  pub pins_room : ℕ
 
 -- The stanza that comes under a key, by the first key that comes: those of a new list come from 0 on, and of others there
 -- is no second.
@@ -126,19 +123,10 @@ abbrev pub coming_among : Edit → List StanzaKey → StanzaKey → Option Conte
 coming_among edit [] k = None
 coming_among edit (first ∷ others) k = if nat_eq first.list k.list then coming_from edit first k else None
 
--- what every plan keeps: nothing stands yet in the room for pins, and a stanza comes under each key
-pub record IsWhole (pins : List (Selector × ℤ)) (added : List StanzaKey) (edit : Edit) : Type 0 where
-  pub no_pins : pins ≡ []
+-- what every plan keeps: a stanza comes under each key
+pub record IsWhole (added : List StanzaKey) (edit : Edit) : Type 0 where
   pub coming : AreComing added edit
   pub among : (k : StanzaKey) → coming_among edit added k ≡ coming_under added edit k
-
--- what is made ready for an edit, beside the room in the store
-pub record Ready : Type 0 where
-  pub list_room : ListRoom
-  pub pins_room : ℕ
-
-abbrev pub ready_of : Planned → Ready
-ready_of plan = record { list_room = plan.list_room; pins_room = plan.pins_room }
 
 -- there is room for one stanza more in a list
 pub record HasRoomInList (s : Sheet) : Type 0 where
@@ -146,27 +134,17 @@ pub record HasRoomInList (s : Sheet) : Type 0 where
   pub order : min most_in_piece (length s.rows + 1) ≤ s.order_room
 
 -- what is made ready for a new list
-pub record HasRoomForList (h : Held) (stanzas : List Content) (ready : Ready) : Type 0 where
+pub record HasRoomForList (h : Held) (stanzas : List Content) (room : ListRoom) : Type 0 where
   pub list : 0 < h.lists_room
-  pub room : Fits (length stanzas) ready.list_room
-
--- no selector stands twice
-abbrev pub AreDistinct : List (Selector × ℤ) → Type 0
-AreDistinct pins = IsDistinct selector_eq (names_of pins)
-
--- what is made ready for pin settings
-pub record HasRoomForPins (pins : List (Selector × ℤ)) (ready : Ready) : Type 0 where
-  pub room : length pins ≤ ready.pins_room
-  pub distinct : AreDistinct pins
+  pub fits : Fits (length stanzas) room
 
 -- there is room for the edit
-abbrev pub HasRoom : Held → Ready → Edit → Type 0
-HasRoom h ready (AddList name kind class stanzas) = HasRoomForList h stanzas ready
-HasRoom h ready (Put list x) = IfSome (at_name list h.lists) HasRoomInList
-HasRoom h ready (Mark name version) = 0 < h.marks_room
-HasRoom h ready (Pin selector priority) = 0 < h.pins_room
-HasRoom h ready (Prefs pins) = HasRoomForPins pins ready
-HasRoom h ready edit = Unit {0}
+abbrev pub HasRoom : Held → ListRoom → Edit → Type 0
+HasRoom h room (AddList name kind class stanzas) = HasRoomForList h stanzas room
+HasRoom h room (Put list x) = IfSome (at_name list h.lists) HasRoomInList
+HasRoom h room (Mark name version) = 0 < h.marks_room
+HasRoom h room (Pin selector priority) = 0 < h.pins_room
+HasRoom h room edit = Unit {0}
 
 -- there is room for the edit in the store
 abbrev pub HasRoomIn : Held → Edit → Type 0
@@ -176,23 +154,32 @@ HasRoomIn h (Mark name version) = 0 < h.marks_room
 HasRoomIn h (Pin selector priority) = 0 < h.pins_room
 HasRoomIn h edit = Unit {0}
 
--- what is made ready for a new list, and for pin settings
-abbrev pub IsReadyFor : Edit → Ready → Type 0
-IsReadyFor (AddList name kind class stanzas) ready = Fits (length stanzas) ready.list_room
-IsReadyFor (Prefs pins) ready = length pins ≤ ready.pins_room
-IsReadyFor edit ready = Unit {0}
-
--- an edit in which no selector stands twice
-abbrev pub IsProper : Edit → Type 0
-IsProper (Prefs pins) = AreDistinct pins
-IsProper edit = Unit {0}
+-- what is made ready for a new list
+abbrev pub IsReadyFor : Edit → ListRoom → Type 0
+IsReadyFor (AddList name kind class stanzas) room = Fits (length stanzas) room
+IsReadyFor edit room = Unit {0}
 
 -- A plan whose edit is accepted, for which there is room, and whose keys are those that go and come. Each that goes has
 -- a stanza, and one that only comes has none.
 pub record IsReady (h : Held) (plan : Planned) : Type 0 where
   pub accepted : refusal_of h.limits (state_of h) plan.edit ≡ None
-  pub room : HasRoom h (ready_of plan) plan.edit
+  pub room : HasRoom h plan.list_room plan.edit
   pub removed : plan.removed ≡ removed_of (keyed_of h) plan.edit
   pub added : plan.added ≡ added_of (keyed_of h) plan.edit
   pub goes : AreHeld plan.removed (keyed_of h).lists
   pub comes : AreNew plan.added plan.removed (keyed_of h).lists
+
+-- ---- a change of one list in its place
+
+-- The list in the row of a place was changed, and says so of the room that it has then. It keeps its name.
+pub record HasChanged (old new : List (ℕ × (List ℕ × Sheet))) (at : ℕ) (change : KeyedList → KeyedList) (says : Type 0 → Type 0) : Type 0 where
+  pub list : List ℕ × Sheet
+  pub is : new ≡ replace_at old at list
+  pub name : (d : ℕ × (List ℕ × Sheet)) → list.0 ≡ (slice_index_or old at d).1.0
+  pub change_is : (d : ℕ × (List ℕ × Sheet)) → keyed_list list.1 ≡ change (keyed_list (slice_index_or old at d).1.1)
+  pub room : says (HasRoomInList list.1)
+
+-- the list in the row of a place takes one stanza more
+pub record TakesOne (rows : List (ℕ × (List ℕ × Sheet))) (at : ℕ) : Type 0 where
+  pub room : (d : ℕ × (List ℕ × Sheet)) → HasRoomInList (slice_index_or rows at d).1.1
+  pub below : (d : ℕ × (List ℕ × Sheet)) → (slice_index_or rows at d).1.1.next + 1 < 18446744073709551616

@@ -11,10 +11,13 @@ pub mod SelectorLaws
 pub mod Named
 pub mod State
 pub mod Prefs
+pub mod PrefsLaws
 pub mod Edits
+pub mod Places
 pub mod Step
 pub mod Rows
 pub mod Pieces
+pub mod Ranks
 pub mod Keys
 pub mod Entries
 pub mod ByName

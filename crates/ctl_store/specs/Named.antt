@@ -1,5 +1,5 @@
 -- Lists of values by name, in an order.
-use Rattle.std.specs.Prelude.{ℕ, Bool, List, [], ◌∷◌, Option, is_some, Vec, if◌then◌else◌}
+use Rattle.std.specs.Prelude.{ℕ, Bool, List, [], ◌∷◌, Option, is_some, if◌then◌else◌}
 use Rattle.std.specs.Str.{bytes_eq}
 use Rattle.std.specs.Map.{lookup, remove_entry, set_value}
 use Rattle.indexmap.specs.IndexMap.{insert_entry}
@@ -29,7 +29,3 @@ module _ {V : Type 0} where
   abbrev pub change_named : List ℕ → (V → V) → List (List ℕ × V) → List (List ℕ × V)
   change_named name f [] = []
   change_named name f (e ∷ es) = if bytes_eq name e.0 then (e.0, f e.1) ∷ es else e ∷ change_named name f es
-
-  -- an entry of a map by `Vec<u8>` keys, by the bytes of its key
-  abbrev pub by_bytes : {A : Type 0} → Vec ℕ A × V → List ℕ × V
-  by_bytes e = (e.0.items, e.1)

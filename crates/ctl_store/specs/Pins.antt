@@ -1,7 +1,10 @@
--- When two selectors of pin settings are the same.
-use Rattle.std.specs.Prelude.{ℕ, ◌&&◌, Bool, true, false, List, Option, Some, None}
+-- Pin settings, and when two selectors are the same.
+use Rattle.std.specs.Prelude.{ℕ, ℤ, ◌&&◌, Bool, true, false, List, map, filter, Option, Some, None}
+use Rattle.std.specs.List.{IsDistinct}
+use Rattle.std.specs.Map.{lookup, keys_of as names_of}
 use Rattle.std.specs.Str.{bytes_eq}
 use Rattle.ctl_store.specs.declared.selector.Selector.{Selector}
+use Rattle.ctl_store.specs.declared.selector.PinSetting.{PinSetting}
 use Rattle.ctl_store.specs.declared.selector.Selector.TheVariants.{Version, Release}
 
 abbrev pub package_eq : Option (List ℕ) → Option (List ℕ) → Bool
@@ -16,3 +19,38 @@ selector_eq (Version a v) (Version b w) = bytes_eq a b && bytes_eq v w
 selector_eq (Version a v) (Release b l) = false
 selector_eq (Release a k) (Version b w) = false
 selector_eq (Release a k) (Release b l) = package_eq a b && bytes_eq k l
+
+-- pin settings as pairs
+abbrev pub settings_of : List PinSetting → List (Selector × ℤ)
+settings_of settings = map (λ (s : PinSetting). (s.selector, s.priority)) settings
+
+-- no selector stands twice
+abbrev pub AreDistinct : List (Selector × ℤ) → Type 0
+AreDistinct pins = IsDistinct selector_eq (names_of pins)
+
+-- a table of pin settings, with the room for more: how many come with no memory
+pub record Settings : Type 0 where
+  pub pins : List (Selector × ℤ)
+  pub room : ℕ
+
+-- ---- what a pin setting is for (apt_preferences(5))
+
+-- a general pin on the list of this name
+abbrev pub is_general_on : List ℕ → Selector → Bool
+is_general_on list (Version «package» version) = false
+is_general_on list (Release None named) = bytes_eq named list
+is_general_on list (Release (Some «package») named) = false
+
+-- the priority of the first general pin on a list, if there is one
+abbrev pub general_pin : List ℕ → List (Selector × ℤ) → Option ℤ
+general_pin list pins = lookup (is_general_on list) pins
+
+-- a specific pin of a package
+abbrev pub is_of : List ℕ → Selector → Bool
+is_of name (Version «package» version) = bytes_eq «package» name
+is_of name (Release None list) = false
+is_of name (Release (Some «package») list) = bytes_eq «package» name
+
+-- the specific pins of a package, in order
+abbrev pub own_settings : List ℕ → List (Selector × ℤ) → List (Selector × ℤ)
+own_settings name pins = filter (λ (s : Selector × ℤ). is_of name s.0) pins

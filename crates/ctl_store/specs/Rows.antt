@@ -1,7 +1,6 @@
 -- The stanzas of a list under their serial numbers, and the order by which one is found.
-use Rattle.std.specs.Prelude.{◌≡◌, ℕ, zero, suc, ◌+◌, ◌≤◌, Bool, List, [], ◌∷◌, ◌++◌, map, Option, None, Some, option_map, nat_eq, slice_get, if◌then◌else◌}
+use Rattle.std.specs.Prelude.{◌≡◌, ℕ, suc, ◌+◌, Bool, List, [], ◌∷◌, ◌++◌, map, Option, None, Some, option_map, nat_eq, slice_get, if◌then◌else◌}
 use Rattle.std.specs.Option.{option_map_or, option_cmp}
-use Rattle.std.specs.List.{remove}
 use Rattle.std.specs.Map.{lookup}
 use Rattle.std.specs.Ordering.{nat_cmp, ordering_then, is_gt, is_lt}
 use Rattle.std.specs.Cmp.Lexicographic.{slice_cmp}
@@ -9,17 +8,11 @@ use Rattle.std.specs.declared.cmp.Ordering.{Ordering}
 use Rattle.std.specs.declared.cmp.Ordering.TheVariants.{Less}
 use Rattle.ctl_relation.specs.Version.{Triple, triple_of, triple_cmp}
 use Rattle.ctl_stanza.specs.Content.{Content, package_of, version_of}
-use Rattle.ctl_store.specs.Step.{place, is_same}
+use Rattle.ctl_store.specs.Step.{is_same}
+use Rattle.ctl_store.specs.Places.{place}
+pub use Rattle.ctl_store.specs.Places.{has_serial, Rises, replace_at, remove_row_at}
 
 -- ---- rows in the order of their serials
-
-abbrev pub has_serial : {V : Type 0} → ℕ → ℕ × V → Bool
-has_serial serial row = nat_eq row.0 serial
-
--- the serials rise from n on, and stay below m
-abbrev pub Rises : {V : Type 0} → ℕ → List (ℕ × V) → ℕ → Type 0
-Rises n [] m = n ≤ m
-Rises n (row ∷ rows) m = (n ≤ row.0) × Rises (suc row.0) rows m
 
 -- rows under the serials from n on
 abbrev pub rows_from : {V : Type 0} → ℕ → List V → List (ℕ × V)
@@ -28,12 +21,6 @@ rows_from n (x ∷ xs) = (n, x) ∷ rows_from (suc n) xs
 
 abbrev pub by_name_and_version : List ℕ → Option (List ℕ) → ℕ × Content → Bool
 by_name_and_version name version row = is_same name version row.1
-
--- the row at a place takes another stanza
-abbrev pub replace_at : {V : Type 0} → List (ℕ × V) → ℕ → V → List (ℕ × V)
-replace_at [] i x = []
-replace_at (row ∷ rows) zero x = (row.0, x) ∷ rows
-replace_at (row ∷ rows) (suc i) x = row ∷ replace_at rows i x
 
 abbrev pub put_row_at : Option ℕ → Content → ℕ → List (ℕ × Content) → List (ℕ × Content)
 put_row_at None x next rows = rows ++ (next, x) ∷ []
@@ -49,10 +36,6 @@ next_at (Some i) next = next
 
 abbrev pub next_after_put : Content → ℕ → List (ℕ × Content) → ℕ
 next_after_put x next rows = next_at (place (by_name_and_version (package_of x) (version_of x)) rows) next
-
-abbrev pub remove_row_at : {V : Type 0} → Option ℕ → List (ℕ × V) → List (ℕ × V)
-remove_row_at None rows = rows
-remove_row_at (Some i) rows = remove rows i
 
 -- without the first of this name and version
 abbrev pub remove_row : List ℕ → Option (List ℕ) → List (ℕ × Content) → List (ℕ × Content)

@@ -1,5 +1,5 @@
 -- What an edit makes of a state, and why it is refused.
-use Rattle.std.specs.Prelude.{ℕ, ◌+◌, ◌||◌, ◌&&◌, suc, not, nat_lt, Bool, true, false, List, [], ◌∷◌, ◌++◌, Option, None, Some, is_some, length, option_map, slice_set, if◌then◌else◌}
+use Rattle.std.specs.Prelude.{ℕ, ◌+◌, ◌||◌, ◌&&◌, not, nat_lt, Bool, true, false, List, [], ◌∷◌, ◌++◌, Option, None, Some, is_some, length, slice_set, if◌then◌else◌}
 use Rattle.std.specs.Option.{option_or, option_map_or}
 use Rattle.std.specs.List.{list_any, remove}
 use Rattle.std.specs.Map.{lookup, remove_entry}
@@ -15,16 +15,12 @@ use Rattle.ctl_store.specs.declared.limits.Limits.{Limits}
 use Rattle.ctl_store.specs.declared.refusal.Refusal.{Refusal}
 use Rattle.ctl_store.specs.declared.refusal.Refusal.TheVariants.{ListExists, NoList, StatusExists, NoStanza, NoMark, NoPin, Full}
 use Rattle.ctl_store.specs.Pins.{selector_eq}
+pub use Rattle.ctl_store.specs.Places.{place}
 use Rattle.ctl_store.specs.Named.{at_name, has_name, without_name, change_named}
 use Rattle.ctl_store.specs.State.{StanzaList, State, stanza_count}
 use Rattle.ctl_store.specs.Edits.{Edit, AddList, DropList, Put, Remove, Mark, Unmark, Pin, Unpin, Target, Prefs}
 
 -- ---- stanzas of a list
-
--- the place of the first that passes
-abbrev pub place : {X : Type 0} → (X → Bool) → List X → Option ℕ
-place p [] = None
-place p (x ∷ xs) = if p x then Some 0 else option_map (λ n. suc n) (place p xs)
 
 -- equal versions, or no version at both
 abbrev pub is_same_version : Option (List ℕ) → Option (List ℕ) → Bool

@@ -3,6 +3,7 @@
 ghost use Rattle.std.specs.Prelude.{◌≡◌, IfOk, map};
 
 use crate::list_class::ListClass;
+use crate::pin_settings::PinSettings;
 use crate::selector::{PinSetting, Selector};
 use ctl_relation::{Bytes, Version};
 use ctl_stanza::{ListKind, Stanza};
@@ -55,9 +56,9 @@ pub enum Edit {
     Target {
         name: Option<Bytes>,
     },
-    /// These pin settings take the place of all. No selector stands twice among them.
+    /// These pin settings take the place of all.
     Prefs {
-        settings: Vec<PinSetting>,
+        settings: PinSettings,
     },
 }
 

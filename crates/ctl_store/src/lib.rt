@@ -2,14 +2,22 @@
 #![tactic(auto)]
 
 mod edit;
+mod items;
+mod label;
+mod laws;
 mod limits;
 mod list_class;
+mod lists;
+mod numbered;
 mod order;
 mod pieces;
+mod pin_settings;
 mod pin_version;
 mod plan;
 mod prefs;
 mod priority;
+mod ranked;
+mod ranks;
 mod refusal;
 mod rows;
 mod selector;
@@ -20,8 +28,10 @@ mod table;
 mod words;
 
 pub use edit::{Edit, boxed};
+pub use laws::{first_setting_counts, settings_by_package};
 pub use limits::{Counts, Limits};
 pub use list_class::ListClass;
+pub use pin_settings::PinSettings;
 pub use pin_version::PinVersion;
 pub use plan::Plan;
 pub use prefs::read_prefs;

@@ -7,11 +7,9 @@ ghost use Rattle.ctl_store.specs.Followed.{coming_under};
 ghost use Rattle.ctl_store.specs.Held.{coming_among};
 
 use crate::edit::Edit;
-use crate::selector::Selector;
 use crate::shelf::ListRoom;
 use crate::stanza_key::StanzaKey;
 use ctl_stanza::Stanza;
-use indexmap::IndexMap;
 use std::marker::Model;
 
 /// An edit that a store accepts, with the keys that go and come, and with the memory that it takes.
@@ -21,19 +19,17 @@ pub struct Plan {
     pub(crate) removed: Vec<StanzaKey>,
     pub(crate) added: Vec<StanzaKey>,
     pub(crate) list_room: ListRoom,
-    pub(crate) pins: IndexMap<Selector, i16>,
 }
 
 impl Model for Plan {
-    ghost use Rattle.indexmap.specs.IndexMap.{spare};
     ghost use Rattle.ctl_store.specs.Edits.{edit_of};
     ghost use Rattle.ctl_store.specs.Held.{Planned, IsWhole};
 
     ghost Value = { Planned };
 
-    ghost view = { λ p. record { edit = edit_of p.edit; removed = p.removed.items; added = p.added.items; list_room = p.list_room; pins_room = spare p.pins } };
+    ghost view = { λ p. record { edit = edit_of p.edit; removed = p.removed.items; added = p.added.items; list_room = p.list_room } };
 
-    ghost invariant = { λ p. IsWhole p.pins.entries p.added.items (edit_of p.edit) };
+    ghost invariant = { λ p. IsWhole p.added.items (edit_of p.edit) };
 }
 
 impl Plan {

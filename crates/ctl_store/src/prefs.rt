@@ -6,20 +6,18 @@ ghost use Rattle.ctl_stanza.specs.Faults.{IsMemoryAtZero, Tells, is_empty_body};
 ghost use Rattle.ctl_stanza.specs.Lines.{lines_of};
 ghost use Rattle.ctl_stanza.specs.Records.{parts_of_fields};
 ghost use Rattle.ctl_store.specs.declared.selector.Selector.TheVariants as selectors;
-ghost use Rattle.ctl_store.specs.Edits.{settings_of};
-ghost use Rattle.ctl_store.specs.Held.{AreDistinct};
 ghost use Rattle.ctl_store.specs.PinVersions.{is_pin_version};
 ghost use Rattle.ctl_store.specs.Priority.{priority_of};
 ghost use Rattle.ctl_store.specs.Prefs.{words_of, is_general as is_general_of, version_asked as version_asked_of, list_asked as list_asked_of, body_in, is_missing, field_cause, package_cause, pin_cause, asked_cause, priority_cause, first_wrong, words_in, own_fault, first_own_fault, all_settings, record_settings, selectors_of, with_priority, keep_first, first_settings, read_prefs_text};
 ghost use Rattle.ctl_stanza.specs.Fields.{package_name};
 
+use crate::pin_settings::PinSettings;
 use crate::pin_version::PinVersion;
 use crate::priority::read_priority;
 use crate::selector::{PinSetting, Selector};
 use crate::words::{are_names, is_general, list_asked, take_word, version_asked};
 use ctl_relation::{Bytes, is_name};
 use ctl_stanza::{Cause, Record, RecordsBeforeFault, TextFault, read_records_before_fault};
-use indexmap::IndexMap;
 use std::alloc::{AllocError, Global};
 
 // The body of the first field of a name.
@@ -173,30 +171,25 @@ fn check_record(alloc: Global, item: &Record) -> Result<(), TextFault>
 
 // Adds a setting, unless its selector stands before.
 #[tactic(auto, using(crate::proofs::PrefsLemmas::kept_before, crate::proofs::PrefsLemmas::kept_new))]
-fn keep_first(
-    kept: &mut IndexMap<Selector, i16>,
-    selector: Selector,
-    priority: i16,
-) -> Result<(), AllocError>
-    ensures { OnOk result (kept.new.entries ≡ keep_first kept.old.entries (selector, priority)) }
+fn keep_first(kept: &mut PinSettings, selector: Selector, priority: i16) -> Result<(), AllocError>
+    ensures { OnOk result (kept.new.pins ≡ keep_first kept.old.pins (selector, priority)) }
 {
-    if kept.contains_key(&selector) {
+    if kept.get(&selector).is_some() {
         return Ok(());
     }
-    kept.insert(selector, priority)?;
-    Ok(())
+    kept.set(PinSetting { selector, priority })
 }
 
 // Adds the settings of names that ask for a version.
 fn keep_versions(
     alloc: Global,
-    kept: &mut IndexMap<Selector, i16>,
+    kept: &mut PinSettings,
     names: &[u8],
     version: &[u8],
     priority: i16,
 ) -> Result<(), AllocError>
     requires { is_pin_version version.now ≡ true }
-    ensures { OnOk result (kept.new.entries ≡ first_settings kept.old.entries (with_priority (Some priority) (selectors_of (words_of names.now) (Some version.now) None))) }
+    ensures { OnOk result (kept.new.pins ≡ first_settings kept.old.pins (with_priority (Some priority) (selectors_of (words_of names.now) (Some version.now) None))) }
 {
     let mut left = names;
     while let Some((name, behind)) = take_word(left) {
@@ -212,12 +205,12 @@ fn keep_versions(
 // Adds the settings of names that ask for a list.
 fn keep_lists(
     alloc: Global,
-    kept: &mut IndexMap<Selector, i16>,
+    kept: &mut PinSettings,
     names: &[u8],
     list: &[u8],
     priority: i16,
 ) -> Result<(), AllocError>
-    ensures { OnOk result (kept.new.entries ≡ first_settings kept.old.entries (with_priority (Some priority) (map (λ name. selectors.Release (Some name) list.now) (words_of names.now)))) }
+    ensures { OnOk result (kept.new.pins ≡ first_settings kept.old.pins (with_priority (Some priority) (map (λ name. selectors.Release (Some name) list.now) (words_of names.now)))) }
 {
     let mut left = names;
     while let Some((name, behind)) = take_word(left) {
@@ -232,12 +225,12 @@ fn keep_lists(
 // Adds the settings of these packages that ask for a list.
 fn keep_list(
     alloc: Global,
-    kept: &mut IndexMap<Selector, i16>,
+    kept: &mut PinSettings,
     packages: &[u8],
     list: &[u8],
     priority: i16,
 ) -> Result<(), AllocError>
-    ensures { OnOk result (kept.new.entries ≡ first_settings kept.old.entries (with_priority (Some priority) (selectors_of (words_of packages.now) None (Some list.now)))) }
+    ensures { OnOk result (kept.new.pins ≡ first_settings kept.old.pins (with_priority (Some priority) (selectors_of (words_of packages.now) None (Some list.now)))) }
 {
     if is_general(packages) {
         let list = Bytes::from_slice(alloc, list)?;
@@ -255,13 +248,13 @@ fn keep_list(
 #[tactic(auto, using(crate::proofs::PrefsLemmas::version_is))]
 fn keep_settings(
     alloc: Global,
-    kept: &mut IndexMap<Selector, i16>,
+    kept: &mut PinSettings,
     packages: &[u8],
     pin: &[u8],
     priority: i16,
 ) -> Result<(), AllocError>
     requires { pin_cause (is_general_of (words_of packages.now)) (words_of pin.now) ≡ None }
-    ensures { OnOk result (kept.new.entries ≡ first_settings kept.old.entries (with_priority (Some priority) (selectors_of (words_of packages.now) (version_asked_of (words_of pin.now)) (list_asked_of (words_of pin.now))))) }
+    ensures { OnOk result (kept.new.pins ≡ first_settings kept.old.pins (with_priority (Some priority) (selectors_of (words_of packages.now) (version_asked_of (words_of pin.now)) (list_asked_of (words_of pin.now))))) }
 {
     if let Some(version) = version_asked(pin) {
         return keep_versions(alloc, kept, packages, version, priority);
@@ -274,13 +267,9 @@ fn keep_settings(
 
 // Adds the settings of a record, or ends with its fault.
 #[tactic(auto, using(crate::proofs::PrefsLemmas::good_pin))]
-fn keep_record(
-    alloc: Global,
-    kept: &mut IndexMap<Selector, i16>,
-    item: &Record,
-) -> Result<(), TextFault>
+fn keep_record(alloc: Global, kept: &mut PinSettings, item: &Record) -> Result<(), TextFault>
     ensures whole { OnOk result (own_fault item.now ≡ None) }
-    ensures settings { OnOk result (kept.new.entries ≡ first_settings kept.old.entries (record_settings item.now)) }
+    ensures settings { OnOk result (kept.new.pins ≡ first_settings kept.old.pins (record_settings item.now)) }
     ensures fault { IfErr result (Tells (own_fault item.now)) }
     ensures memory { IfErr result IsMemoryAtZero }
 {
@@ -296,13 +285,9 @@ fn keep_record(
 
 // Adds the settings of records, or ends with the fault of the first that has one.
 #[tactic(auto, using(crate::proofs::PrefsLemmas::first_settings_append))]
-fn keep_records(
-    alloc: Global,
-    kept: &mut IndexMap<Selector, i16>,
-    records: &[Record],
-) -> Result<(), TextFault>
+fn keep_records(alloc: Global, kept: &mut PinSettings, records: &[Record]) -> Result<(), TextFault>
     ensures whole { OnOk result (first_own_fault records.now ≡ None) }
-    ensures settings { OnOk result (kept.new.entries ≡ first_settings kept.old.entries (all_settings records.now)) }
+    ensures settings { OnOk result (kept.new.pins ≡ first_settings kept.old.pins (all_settings records.now)) }
     ensures fault { IfErr result (Tells (first_own_fault records.now)) }
     ensures memory { IfErr result IsMemoryAtZero }
 {
@@ -312,21 +297,6 @@ fn keep_records(
         left = behind;
     }
     Ok(())
-}
-
-// The settings of a map, in order.
-fn settings_in_order(
-    alloc: Global,
-    kept: IndexMap<Selector, i16>,
-) -> Result<Vec<PinSetting>, AllocError>
-    ensures settings { IfOk result (λ settings. settings_of settings.items ≡ kept.entries) }
-    ensures distinct { IfOk result (λ settings. AreDistinct (settings_of settings.items)) }
-{
-    let mut settings = Vec::with_capacity(alloc, kept.len())?;
-    for (selector, priority) in kept {
-        settings.push(PinSetting { selector, priority })?;
-    }
-    Ok(settings)
 }
 
 /// Reads preferences, whose lines count from `first_line`, to the pin settings that they make. Of two settings of one
@@ -340,19 +310,17 @@ fn settings_in_order(
 /// [`Cause::Version`](ctl_stanza::Cause::Version), [`Cause::Form`](ctl_stanza::Cause::Form) and
 /// [`Cause::Priority`](ctl_stanza::Cause::Priority). Where memory runs out the cause is
 /// [`Cause::Memory`](ctl_stanza::Cause::Memory) and the line is 0.
-pub fn read_prefs(alloc: Global, text: &[u8], first_line: u64) -> Result<Vec<PinSetting>, TextFault>
+pub fn read_prefs(alloc: Global, text: &[u8], first_line: u64) -> Result<PinSettings, TextFault>
     requires lines { first_line + length (lines_of text.now) < 2 ^ 64 }
-    ensures ok { IfOk result (λ settings. read_prefs_text first_line text.now ≡ Ok (settings_of settings.items)) }
-    ensures distinct { IfOk result (λ settings. AreDistinct (settings_of settings.items)) }
+    ensures ok { IfOk result (λ settings. read_prefs_text first_line text.now ≡ Ok settings.pins) }
     ensures err { IfErr result (λ fault. fault.cause ≢ causes.Memory → read_prefs_text first_line text.now ≡ Err fault) }
     ensures memory { IfErr result IsMemoryAtZero }
 {
     let RecordsBeforeFault { records, fault } = read_records_before_fault(alloc, text, first_line)?;
-    let mut kept: IndexMap<Selector, i16> = IndexMap::new(alloc);
+    let mut kept = PinSettings::new(alloc);
     keep_records(alloc, &mut kept, &records)?;
     if let Some(fault) = fault {
         return Err(fault);
     }
-    let settings = settings_in_order(alloc, kept)?;
-    Ok(settings)
+    Ok(kept)
 }

@@ -14,7 +14,7 @@ mod preparing;
 mod views;
 
 use crate::limits::Limits;
-use crate::selector::Selector;
+use crate::pin_settings::PinSettings;
 use crate::shelf::Shelf;
 use crate::table::Table;
 pub use by_name::ByName;
@@ -22,7 +22,6 @@ pub use committing::CommittedKeys;
 use ctl_relation::{Bytes, Version};
 pub(crate) use entries::ListEntries;
 pub use entries::{Entries, Keys, Stanzas};
-use indexmap::IndexMap;
 use std::alloc::Global;
 use std::marker::Model;
 pub use views::{Lists, Pins};
@@ -34,7 +33,7 @@ pub struct Store {
     alloc: Global,
     lists: Table<Shelf>,
     marks: Table<Option<Version>>,
-    pins: IndexMap<Selector, i16>,
+    pins: PinSettings,
     target: Option<Bytes>,
     next_list: u32,
     // How many of the lists are status lists, so that none is looked for.
@@ -45,12 +44,11 @@ pub struct Store {
 }
 
 impl Model for Store {
-    ghost use Rattle.indexmap.specs.IndexMap.{spare};
     ghost use Rattle.ctl_store.specs.Held.{Held, IsSound};
 
     ghost Value = { Held };
 
-    ghost view = { λ s. record { lists = s.lists.0; lists_room = s.lists.1; marks = s.marks.0; marks_room = s.marks.1; pins = s.pins.entries; pins_room = spare s.pins; target = s.target; next_list = s.next_list; edits = s.edits; limits = s.limits } };
+    ghost view = { λ s. record { lists = s.lists.0; lists_room = s.lists.1; marks = s.marks.0; marks_room = s.marks.1; pins = s.pins.pins; pins_room = s.pins.room; target = s.target; next_list = s.next_list; edits = s.edits; limits = s.limits } };
 
     ghost invariant = { λ s. IsSound s.lists.0 s.next_list s.statuses s.stanzas s.edits s.limits };
 }
@@ -73,7 +71,7 @@ impl Store {
             alloc,
             lists: Table::new(alloc),
             marks: Table::new(alloc),
-            pins: IndexMap::new(alloc),
+            pins: PinSettings::new(alloc),
             target: None,
             next_list: 0,
             statuses: 0,

@@ -1,16 +1,11 @@
 //! Edits as the lines give them.
 
-ghost use Rattle.std.specs.Prelude.{◌≡◌, IfOk};
-ghost use Rattle.ctl_store.specs.Edits.{edit_of, settings_of};
-ghost use Rattle.ctl_store.specs.Held.{IsProper, AreDistinct};
-
 use crate::texts::list_kind_named;
 use crate::words::Words;
 use anyhow::{Context, Result, bail};
 use ctl_stanza::{ListKind, Stanza, lines_take_bytes, read_stanzas};
-use ctl_store::{Edit, ListClass, PinSetting, PinVersion, Selector, boxed};
-use indexmap::IndexMap;
-use std::alloc::{AllocError, Global};
+use ctl_store::{Edit, ListClass, PinSetting, PinSettings, PinVersion, Selector, boxed};
+use std::alloc::Global;
 
 fn class_named(word: &str) -> Option<ListClass> {
     match word {
@@ -35,9 +30,7 @@ fn stanzas(alloc: Global, words: &mut Words<'_>, kind: ListKind) -> Result<Vec<B
     Ok(boxed(alloc, read)?)
 }
 
-fn add_list(alloc: Global, words: &mut Words<'_>) -> Result<Edit>
-    ensures { IfOk result (λ edit. IsProper (edit_of edit)) }
-{
+fn add_list(alloc: Global, words: &mut Words<'_>) -> Result<Edit> {
     let name = words.bytes()?;
     let kind = kind(words)?;
     let class = class_named(words.word()?).context("a class that is not known")?;
@@ -50,9 +43,7 @@ fn add_list(alloc: Global, words: &mut Words<'_>) -> Result<Edit>
     })
 }
 
-fn put(alloc: Global, words: &mut Words<'_>) -> Result<Edit>
-    ensures { IfOk result (λ edit. IsProper (edit_of edit)) }
-{
+fn put(alloc: Global, words: &mut Words<'_>) -> Result<Edit> {
     let list = words.bytes()?;
     let kind = kind(words)?;
     let stanza = stanzas(alloc, words, kind)?
@@ -81,36 +72,21 @@ fn selector(alloc: Global, word: &str, words: &mut Words<'_>) -> Result<Selector
     }
 }
 
-// The settings of a map of pins.
-fn collected(alloc: Global, pins: IndexMap<Selector, i16>) -> Result<Vec<PinSetting>, AllocError>
-    ensures { IfOk result (λ settings. AreDistinct (settings_of settings.items)) }
-{
-    let mut settings = Vec::with_capacity(alloc, pins.len())?;
-    for (selector, priority) in pins {
-        settings.push(PinSetting { selector, priority })?;
-    }
-    Ok(settings)
-}
-
 // Selectors with priorities, to the end of the line.
-fn settings(alloc: Global, words: &mut Words<'_>) -> Result<Vec<PinSetting>>
-    ensures { IfOk result (λ settings. AreDistinct (settings_of settings.items)) }
-{
-    let mut pins = IndexMap::new(alloc);
+fn settings(alloc: Global, words: &mut Words<'_>) -> Result<PinSettings> {
+    let mut settings = PinSettings::new(alloc);
     for _ in 0..u64::MAX {
         let Some(word) = words.next_word() else {
             break;
         };
         let selector = selector(alloc, word, words)?;
         let priority = words.priority()?;
-        pins.insert(selector, priority)?;
+        settings.set(PinSetting { selector, priority })?;
     }
-    Ok(collected(alloc, pins)?)
+    Ok(settings)
 }
 
-fn pin(alloc: Global, words: &mut Words<'_>) -> Result<Edit>
-    ensures { IfOk result (λ edit. IsProper (edit_of edit)) }
-{
+fn pin(alloc: Global, words: &mut Words<'_>) -> Result<Edit> {
     let selector = selector(alloc, words.word()?, words)?;
     let priority = words.priority()?;
     Ok(Edit::Pin {
@@ -119,9 +95,7 @@ fn pin(alloc: Global, words: &mut Words<'_>) -> Result<Edit>
 }
 
 /// The edit of a line whose first word is this.
-pub fn edit_named(alloc: Global, word: &str, words: &mut Words<'_>) -> Result<Edit>
-    ensures { IfOk result (λ edit. IsProper (edit_of edit)) }
-{
+pub fn edit_named(alloc: Global, word: &str, words: &mut Words<'_>) -> Result<Edit> {
     match word {
         "add-list" => add_list(alloc, words),
         "drop-list" => Ok(Edit::DropList {

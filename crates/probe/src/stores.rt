@@ -1,7 +1,6 @@
 //! Changes of a store, and what comes of them.
 
-ghost use Rattle.ctl_store.specs.Edits.{edit_of};
-ghost use Rattle.ctl_store.specs.Held.{IsProper, IsReady};
+ghost use Rattle.ctl_store.specs.Held.{IsReady};
 
 use crate::edits::edit_named;
 use crate::hexadecimal::append_word;
@@ -63,9 +62,7 @@ fn append_outcome(
     store: &mut Store,
     edit: Edit,
     line: &mut Vec<u8>,
-) -> Result<(), AllocError>
-    requires { IsProper (edit_of edit) }
-{
+) -> Result<(), AllocError> {
     match store.prepare(edit) {
         Ok(plan) => append_accepted(alloc, store, plan, line),
         Err((_, why)) => append_refusal(alloc, b"refused", why, line),

@@ -1,20 +1,19 @@
 //! Plans are carried out.
 
-ghost use Rattle.std.specs.Prelude.{◌≡◌, ◌+◌, ◌-◌, ◌<◌, ◌≤◌, [], None, IsSome, IfSome, length, map, vec_len};
+ghost use Rattle.std.specs.Prelude.{◌≡◌, ◌-◌, ◌<◌, None, IsSome, IfSome, length, map, vec_len};
 ghost use Rattle.ctl_store.specs.Named.{at_name};
-ghost use Rattle.ctl_store.specs.Pins.{selector_eq};
-ghost use Rattle.ctl_store.specs.Edits.{edit_of, settings_of};
+ghost use Rattle.ctl_store.specs.Edits.{edit_of};
 ghost use Rattle.ctl_store.specs.Edits as edits;
 ghost use Rattle.ctl_store.specs.Step.{after, refusal_of};
 ghost use Rattle.ctl_stanza.specs.Content.{package_of, version_of};
 ghost use Rattle.ctl_store.specs.Keys.{keyed_after, removed_of, found_in, all_in, IsNotAmong, stanza_at, AreCome, AreGone};
 ghost use Rattle.ctl_store.specs.Entries.{IsChange};
 ghost use Rattle.ctl_store.specs.Given.{IsGivenOnce};
-ghost use Rattle.ctl_store.specs.Held.{state_of, keyed_of, IsReady, HasRoom, HasRoomInList, Fits, AreDistinct};
-ghost use Rattle.indexmap.specs.IndexMap.{insert_entry, spare};
+ghost use Rattle.ctl_store.specs.Held.{state_of, keyed_of, IsReady, HasRoom, HasRoomInList, Fits};
 
 use crate::edit::Edit;
 use crate::list_class::ListClass;
+use crate::pin_settings::PinSettings;
 use crate::plan::Plan;
 use crate::selector::{PinSetting, Selector};
 use crate::shelf::{ListRoom, Shelf};
@@ -23,38 +22,12 @@ use crate::store::Store;
 use crate::store::checking::one_if_status;
 use ctl_relation::{Bytes, Version};
 use ctl_stanza::{ListKind, Stanza};
-use indexmap::IndexMap;
 
 // How many stanzas more a list has once one is put, where so many keys go.
 fn more_if_none_goes(gone: usize) -> u32
     ensures { result ≡ 1 - gone }
 {
     if gone == 0 { 1 } else { 0 }
-}
-
-// Sets a pin, for which there is room.
-fn set_pin(pins: &mut IndexMap<Selector, i16>, setting: PinSetting)
-    requires { 0 < spare pins.old }
-    ensures entries { pins.new.entries ≡ insert_entry selector_eq pins.old.entries setting.selector setting.priority }
-    ensures room { spare pins.old ≤ spare pins.new + 1 }
-{
-    let PinSetting { selector, priority } = setting;
-    match pins.insert(selector, priority) {
-        Ok(_) => {}
-        Err(_) => unreachable!(),
-    }
-}
-
-// Sets each of these pins, for which there is room.
-fn set_pins(pins: &mut IndexMap<Selector, i16>, settings: Vec<PinSetting>)
-    requires empty { pins.old.entries ≡ [] }
-    requires room { length (settings_of settings.items) ≤ spare pins.old }
-    requires distinct { AreDistinct (settings_of settings.items) }
-    ensures { pins.new.entries ≡ settings_of settings.items }
-{
-    for setting in settings {
-        set_pin(pins, setting);
-    }
 }
 
 /// The keys of an edit that was made, by [`Store::commit_with_keys`].
@@ -118,19 +91,17 @@ impl Store {
             removed,
             added,
             list_room,
-            pins,
         } = plan;
         let _limits = self.limits;
-        self.make(edit, removed.len(), list_room, pins);
+        self.make(edit, removed.len(), list_room);
         CommittedKeys { removed, added }
     }
 
     // Makes an edit by which so many keys go, and for which this is ready: room for a list, and for pins.
-    fn make(&mut self, edit: Edit, gone: usize, list_room: ListRoom, pins: IndexMap<Selector, i16>)
+    fn make(&mut self, edit: Edit, gone: usize, list_room: ListRoom)
         requires accepted { refusal_of self.old.limits (state_of self.old) (edit_of edit) ≡ None }
         requires gone { gone ≡ length (removed_of (keyed_of self.old) (edit_of edit)) }
-        requires room { HasRoom self.old (record { list_room = list_room; pins_room = spare pins }) (edit_of edit) }
-        requires pins { pins.entries ≡ [] }
+        requires room { HasRoom self.old list_room (edit_of edit) }
         ensures state { state_of self.new ≡ after (state_of self.old) (edit_of edit) }
         ensures keyed { keyed_of self.new ≡ keyed_after (keyed_of self.old) (edit_of edit) }
         ensures limits { self.new.limits ≡ self.old.limits }
@@ -154,7 +125,7 @@ impl Store {
             Edit::Pin { setting } => self.pin(setting),
             Edit::Unpin { selector } => self.unpin(&selector),
             Edit::Target { name } => self.set_target(name),
-            Edit::Prefs { settings } => self.set_all_pins(settings, pins),
+            Edit::Prefs { settings } => self.set_all_pins(settings),
         }
     }
 
@@ -176,7 +147,7 @@ impl Store {
         let _limits = self.limits;
         let count = stanzas.len() as u32;
         let shelf = Shelf::new(self.next_list, kind, class, stanzas, list_room);
-        self.lists.put(name.into_vec(), shelf);
+        self.lists.put(name, shelf);
         self.next_list += 1;
         self.stanzas += count;
         self.statuses += one_if_status(kind);
@@ -233,7 +204,7 @@ impl Store {
         ensures limits { self.new.limits ≡ self.old.limits }
     {
         let _limits = self.limits;
-        self.marks.put(name.into_vec(), version);
+        self.marks.put(name, version);
         self.edits += 1;
     }
 
@@ -244,7 +215,7 @@ impl Store {
         ensures limits { self.new.limits ≡ self.old.limits }
     {
         let _limits = self.limits;
-        self.marks.swap_remove(name.as_slice());
+        self.marks.remove(name.as_slice());
         self.edits += 1;
     }
 
@@ -256,7 +227,7 @@ impl Store {
         ensures limits { self.new.limits ≡ self.old.limits }
     {
         let _limits = self.limits;
-        set_pin(&mut self.pins, setting);
+        self.pins.put(setting);
         self.edits += 1;
     }
 
@@ -267,7 +238,7 @@ impl Store {
         ensures limits { self.new.limits ≡ self.old.limits }
     {
         let _limits = self.limits;
-        let _ = self.pins.shift_remove(selector);
+        self.pins.remove(selector);
         self.edits += 1;
     }
 
@@ -282,18 +253,14 @@ impl Store {
         self.edits += 1;
     }
 
-    fn set_all_pins(&mut self, settings: Vec<PinSetting>, mut pins: IndexMap<Selector, i16>)
-        requires accepted { refusal_of self.old.limits (state_of self.old) (edits.Prefs (settings_of settings.items)) ≡ None }
-        requires empty { pins.entries ≡ [] }
-        requires room { length (settings_of settings.items) ≤ spare pins }
-        requires distinct { AreDistinct (settings_of settings.items) }
-        ensures state { state_of self.new ≡ after (state_of self.old) (edits.Prefs (settings_of settings.items)) }
+    fn set_all_pins(&mut self, settings: PinSettings)
+        requires accepted { refusal_of self.old.limits (state_of self.old) (edits.Prefs settings.pins) ≡ None }
+        ensures state { state_of self.new ≡ after (state_of self.old) (edits.Prefs settings.pins) }
         ensures keyed { keyed_of self.new ≡ keyed_of self.old }
         ensures limits { self.new.limits ≡ self.old.limits }
     {
         let _limits = self.limits;
-        set_pins(&mut pins, settings);
-        self.pins = pins;
+        self.pins = settings;
         self.edits += 1;
     }
 }

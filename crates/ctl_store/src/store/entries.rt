@@ -1,16 +1,16 @@
 //! The stanzas of a store with their keys, lent in order.
 
-ghost use Rattle.std.specs.Prelude.{◌≡◌, ◌++◌, ◌∷◌, IfSome, IfNone, [], map};
-ghost use Rattle.ctl_store.specs.Named.{by_bytes};
+ghost use Rattle.std.specs.Prelude.{◌≡◌, ◌++◌, ◌∷◌, IfSome, IfNone, []};
 ghost use Rattle.ctl_store.specs.Pieces.{joined, ArePieces};
 ghost use Rattle.ctl_store.specs.Entries.{rows_under, entries_of, entry_keys};
 ghost use Rattle.ctl_store.specs.Held.{lists_of};
 
+use crate::items::Items;
 use crate::rows::Row;
 use crate::shelf::Shelf;
 use crate::stanza_key::StanzaKey;
+use crate::table::Named;
 use ctl_stanza::Stanza;
-use indexmap::map::Slice;
 use std::marker::Model;
 
 /// The stanzas of a list with their keys, in order.
@@ -78,24 +78,23 @@ impl<'a> Iterator for ListEntries<'a> {
 pub struct Entries<'a> {
     // What is left of a list, and the lists after it.
     entries: ListEntries<'a>,
-    lists: Slice<'a, Vec<u8>, Shelf>,
+    lists: Items<'a, Named<Shelf>>,
 }
 
 impl<'a> Model for Entries<'a> {
     ghost use Rattle.std.specs.Prelude.{List, map, ◌++◌};
-    ghost use Rattle.ctl_store.specs.Named.{by_bytes};
     ghost use Rattle.ctl_store.specs.Entries.{Entry, entries_of};
     ghost use Rattle.ctl_store.specs.Held.{lists_of};
 
     ghost Value = { List Entry };
 
-    ghost view = { λ it. it.entries ++ entries_of (lists_of (map by_bytes it.lists)) };
+    ghost view = { λ it. it.entries ++ entries_of (lists_of it.lists) };
 }
 
 impl<'a> Entries<'a> {
     /// Those of these lists.
-    pub(super) fn new(lists: Slice<'a, Vec<u8>, Shelf>) -> Entries<'a>
-        ensures { result ≡ entries_of (lists_of (map by_bytes lists.entry)) }
+    pub(super) fn new(lists: Items<'a, Named<Shelf>>) -> Entries<'a>
+        ensures { result ≡ entries_of (lists_of lists.entry) }
     {
         Entries {
             entries: ListEntries::new(0, &[]),
@@ -107,16 +106,15 @@ impl<'a> Entries<'a> {
 // Takes the first stanza of some lists. What is left of its list takes the place of no stanzas.
 fn take_first<'a>(
     entries: &mut ListEntries<'a>,
-    lists: &mut Slice<'a, Vec<u8>, Shelf>,
+    lists: &mut Items<'a, Named<Shelf>>,
 ) -> Option<(StanzaKey, &'a Stanza)>
     requires { entries.old ≡ [] }
-    ensures some { IfSome result (λ e. entries_of (lists_of (map by_bytes lists.old)) ≡ (e.0, e.1.now) ∷ (entries.new ++ entries_of (lists_of (map by_bytes lists.new)))) }
-    ensures none { IfNone result (entries_of (lists_of (map by_bytes lists.old)) ≡ []) }
-    ensures ended { IfNone result (entries.new ++ entries_of (lists_of (map by_bytes lists.new)) ≡ []) }
+    ensures some { IfSome result (λ e. entries_of (lists_of lists.old) ≡ (e.0, e.1.now) ∷ (entries.new ++ entries_of (lists_of lists.new))) }
+    ensures none { IfNone result (entries_of (lists_of lists.old) ≡ []) }
+    ensures ended { IfNone result (entries.new ++ entries_of (lists_of lists.new) ≡ []) }
 {
-    'lists: while let Some(((_, shelf), rest)) = lists.split_first() {
-        *lists = rest;
-        *entries = shelf.entries();
+    'lists: while let Some(list) = lists.next() {
+        *entries = list.value().entries();
         match entries.next() {
             Some(entry) => return Some(entry),
             None => {}

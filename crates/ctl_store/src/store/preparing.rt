@@ -2,7 +2,6 @@
 
 ghost use Rattle.std.specs.Prelude.{◌≡◌, ◌≢◌, ◌<◌, [], Some, IfOk, IfErr, OnOk, map};
 ghost use Rattle.std.specs.Option.{option_to_list};
-ghost use Rattle.indexmap.specs.IndexMap.{spare};
 ghost use Rattle.ctl_store.specs.declared.refusal.Refusal.TheVariants as refusal;
 ghost use Rattle.ctl_stanza.specs.Content.{package_of, version_of};
 ghost use Rattle.ctl_store.specs.Edits.{edit_of};
@@ -12,17 +11,15 @@ ghost use Rattle.ctl_store.specs.Keys.{keyed_after, removed_of, added_of, found_
 ghost use Rattle.ctl_store.specs.Entries.{IsChange};
 ghost use Rattle.ctl_store.specs.Followed.{IsFollowed};
 ghost use Rattle.ctl_store.specs.Given.{IsGivenOnce};
-ghost use Rattle.ctl_store.specs.Held.{state_of, keyed_of, IsReady, IsProper, IsReadyFor, HasRoomIn};
+ghost use Rattle.ctl_store.specs.Held.{state_of, keyed_of, IsReady, IsReadyFor, HasRoomIn};
 
 use crate::edit::Edit;
 use crate::plan::Plan;
 use crate::refusal::Refusal;
-use crate::selector::Selector;
 use crate::shelf::ListRoom;
 use crate::stanza_key::StanzaKey;
 use crate::store::Store;
 use ctl_stanza::Stanza;
-use indexmap::IndexMap;
 use std::alloc::{AllocError, Global};
 
 // The keys of the stanzas of a new list.
@@ -54,30 +51,19 @@ fn keys_of(alloc: Global, key: Option<StanzaKey>) -> Result<Vec<StanzaKey>, Allo
     Ok(keys)
 }
 
-// Memory for an edit, beside the room in the store.
-#[derive(Drop)]
-struct Ready {
-    list_room: ListRoom,
-    pins: IndexMap<Selector, i16>,
-}
-
-fn make_ready(alloc: Global, edit: &Edit) -> Result<Ready, AllocError>
-    ensures empty { IfOk result (λ ready. ready.pins.entries ≡ []) }
-    ensures ready { IfOk result (λ ready. IsReadyFor (edit_of edit.now) (record { list_room = ready.list_room; pins_room = spare ready.pins })) }
+// Memory for a new list, if an edit adds one.
+fn make_ready(alloc: Global, edit: &Edit) -> Result<ListRoom, AllocError>
+    ensures { IfOk result (IsReadyFor (edit_of edit.now)) }
 {
-    let mut list_room = ListRoom::new(alloc);
-    let mut pins = IndexMap::new(alloc);
     match edit {
         Edit::AddList {
             name: _,
             kind: _,
             class: _,
             stanzas,
-        } => list_room = ListRoom::with_capacity(alloc, stanzas.len())?,
-        Edit::Prefs { settings } => pins.reserve(settings.len())?,
-        _ => {}
+        } => ListRoom::with_capacity(alloc, stanzas.len()),
+        _ => Ok(ListRoom::new(alloc)),
     }
-    Ok(Ready { list_room, pins })
 }
 
 impl Store {
@@ -168,13 +154,13 @@ impl Store {
                 kind: _,
                 class: _,
                 stanzas: _,
-            } => self.lists.reserve_one(),
+            } => self.lists.reserve_one(self.alloc),
             Edit::Put { list, stanza: _ } => self.lists.reserve_in(self.alloc, list.as_slice()),
             Edit::Mark {
                 package: _,
                 version: _,
-            } => self.marks.reserve_one(),
-            Edit::Pin { setting: _ } => self.pins.reserve(1),
+            } => self.marks.reserve_one(self.alloc),
+            Edit::Pin { setting: _ } => self.pins.reserve_one(),
             _ => Ok(()),
         }
     }
@@ -185,7 +171,6 @@ impl Store {
     ///
     /// The refusal that [`check`](Store::check) gives, or [`Refusal::Memory`]. The edit comes back.
     pub fn prepare(&mut self, edit: Edit) -> Result<Plan, (Edit, Refusal)>
-        requires { IsProper (edit_of edit) }
         ensures state { state_of self.new ≡ state_of self.old }
         ensures keyed { keyed_of self.new ≡ keyed_of self.old }
         ensures limits { self.new.limits ≡ self.old.limits }
@@ -213,21 +198,19 @@ impl Store {
             Ok(keys) => keys,
             Err(_) => return Err((edit, Refusal::Memory)),
         };
-        let ready = match make_ready(self.alloc, &edit) {
-            Ok(ready) => ready,
+        let list_room = match make_ready(self.alloc, &edit) {
+            Ok(room) => room,
             Err(_) => return Err((edit, Refusal::Memory)),
         };
         match self.make_room(&edit) {
             Ok(()) => {}
             Err(_) => return Err((edit, Refusal::Memory)),
         }
-        let Ready { list_room, pins } = ready;
         Ok(Plan {
             edit,
             removed,
             added,
             list_room,
-            pins,
         })
     }
 }

@@ -7,29 +7,32 @@ ghost use Rattle.std.specs.List.Sorted.{IsPermutation};
 ghost use Rattle.ctl_store.specs.Keys.{all_in, all_keys, AreRising, AreHeld, stanza_at, holder_of};
 ghost use Rattle.ctl_store.specs.ByName.{by_name_in, AreByName};
 ghost use Rattle.ctl_store.specs.Followed.{under};
-ghost use Rattle.ctl_store.specs.Named.{at_name, by_bytes};
+ghost use Rattle.ctl_store.specs.Named.{at_name};
+ghost use Rattle.ctl_store.specs.Pins.{settings_of, general_pin, AreDistinct};
 ghost use Rattle.std.specs.List.{IsDistinct};
 ghost use Rattle.std.specs.Map.{keys_of as names_of};
 ghost use Rattle.std.specs.Str.{bytes_eq};
 ghost use Rattle.ctl_store.specs.Entries.{entry_keys, entries_of, AreAt};
-ghost use Rattle.ctl_store.specs.Held.{state_of, keyed_of, lists_of, InOrder, entry_of};
+ghost use Rattle.ctl_store.specs.Held.{state_of, keyed_of, lists_of};
 ghost use Rattle.ctl_store.specs.declared.limits.Counts.{Counts};
 
+use crate::items::Items;
 use crate::limits::{Counts, Limits};
 use crate::list_class::ListClass;
-use crate::selector::Selector;
+use crate::lists::entry_of;
+use crate::selector::{PinSetting, Selector};
 use crate::shelf::Shelf;
 use crate::stanza_key::StanzaKey;
 use crate::store::{ByName, Entries, Keys, ListEntries, Stanzas, Store};
+use crate::table::Named;
 use ctl_relation::Version;
 use ctl_stanza::{ListKind, Stanza};
-use indexmap::map::Slice;
 use std::marker::Model;
 
 /// The lists of a store, by [`Store::lists`]: their names, kinds and classes, in order.
 #[derive(Drop)]
 pub struct Lists<'a> {
-    entries: Slice<'a, Vec<u8>, Shelf>,
+    entries: Items<'a, Named<Shelf>>,
 }
 
 impl<'a> Model for Lists<'a> {
@@ -39,7 +42,7 @@ impl<'a> Model for Lists<'a> {
 
     ghost Value = { List (List ℕ × ListKind × ListClass) };
 
-    ghost view = { λ it. map (λ e. (e.0.items, e.1.kind, e.1.class)) it.entries };
+    ghost view = { λ it. map (λ e. (e.0, e.1.kind, e.1.class)) it.entries };
 }
 
 impl<'a> Iterator for Lists<'a> {
@@ -52,25 +55,34 @@ impl<'a> Iterator for Lists<'a> {
     type Item = (&'a [u8], ListKind, ListClass);
 
     fn next(&mut self) -> Option<(&'a [u8], ListKind, ListClass)> {
-        let ((name, shelf), rest) = self.entries.split_first()?;
-        self.entries = rest;
-        Some((name, shelf.kind(), shelf.class()))
+        let entry = self.entries.next()?;
+        Some((entry.name(), entry.value().kind(), entry.value().class()))
     }
 }
 
 /// The pin settings of a store, by [`Store::pins`]: selectors with priorities, in order.
 #[derive(Drop)]
 pub struct Pins<'a> {
-    entries: Slice<'a, Selector, i16>,
+    entries: Items<'a, PinSetting>,
 }
 
 impl<'a> Model for Pins<'a> {
     ghost use Rattle.std.specs.Prelude.{List, ℤ};
     ghost use Rattle.ctl_store.specs.declared.selector.Selector.{Selector};
+    ghost use Rattle.ctl_store.specs.Pins.{settings_of};
 
     ghost Value = { List (Selector × ℤ) };
 
-    ghost view = { λ it. it.entries };
+    ghost view = { λ it. settings_of it.entries };
+}
+
+impl<'a> Pins<'a> {
+    /// These settings.
+    pub(crate) fn new(entries: Items<'a, PinSetting>) -> Pins<'a>
+        ensures { result ≡ settings_of entries.entry }
+    {
+        Pins { entries }
+    }
 }
 
 impl<'a> Iterator for Pins<'a> {
@@ -83,20 +95,8 @@ impl<'a> Iterator for Pins<'a> {
     type Item = (&'a Selector, i16);
 
     fn next(&mut self) -> Option<(&'a Selector, i16)> {
-        let ((selector, priority), rest) = self.entries.split_first()?;
-        self.entries = rest;
-        Some((selector, *priority))
-    }
-}
-
-// The name and the stanzas of the list of a serial, found by halving: lists come last, and their serials rise.
-fn entry_of<'a>(entries: Slice<'a, Vec<u8>, Shelf>, serial: u32) -> Option<(&'a Vec<u8>, &'a Shelf)>
-    requires { (n : ℕ) × (m : ℕ) × (most : ℕ) × InOrder n (lists_of (map by_bytes entries)) m most }
-    ensures { option_map (λ e. (e.0.now.items, e.1.now)) result ≡ entry_of serial (map by_bytes entries.entry) }
-{
-    match entries.binary_search_by_key(&serial, |_name, shelf| shelf.serial()) {
-        Ok(at) => entries.get_index(at),
-        Err(_) => None,
+        let setting = self.entries.next()?;
+        Some((&setting.selector, setting.priority))
     }
 }
 
@@ -202,7 +202,7 @@ impl Store {
         requires { IsSome (stanza_at key (keyed_of self.now).lists) }
         ensures { Some result.now ≡ stanza_at key (keyed_of self.now).lists }
     {
-        match entry_of(self.lists.entries(), key.list) {
+        match entry_of(self.lists.pieces(), key.list) {
             Some((_, shelf)) => match shelf.stanza(key.stanza) {
                 Some(stanza) => stanza,
                 None => unreachable!(),
@@ -216,7 +216,7 @@ impl Store {
         ensures stanza { option_copied result ≡ stanza_at key (keyed_of self.now).lists }
         ensures entry { option_copied result ≡ under key (entries_of (keyed_of self.now).lists) }
     {
-        match entry_of(self.lists.entries(), key.list) {
+        match entry_of(self.lists.pieces(), key.list) {
             Some((_, shelf)) => shelf.stanza(key.stanza),
             None => None,
         }
@@ -227,7 +227,7 @@ impl Store {
         requires { IsSome (stanza_at key (keyed_of self.now).lists) }
         ensures { Some result.now ≡ holder_of key (keyed_of self.now).lists }
     {
-        match entry_of(self.lists.entries(), key.list) {
+        match entry_of(self.lists.pieces(), key.list) {
             Some((name, _)) => name,
             None => unreachable!(),
         }
@@ -247,11 +247,19 @@ impl Store {
 
     /// The pin settings, in the order in which their selectors were first set.
     pub fn pins(&self) -> Pins<'_>
-        ensures { result ≡ (state_of self.now).pins }
+        ensures pins { result ≡ (state_of self.now).pins }
+        // no selector stands twice
+        ensures distinct { AreDistinct result }
     {
-        Pins {
-            entries: self.pins.as_slice(),
-        }
+        self.pins.iter()
+    }
+
+    /// The priority of the general pin on a list, if there is one, as of `Package: *` with `Pin: release a=NAME`. The list
+    /// need not be there.
+    pub fn general_pin(&self, list: &[u8]) -> Option<i16>
+        ensures { result ≡ general_pin list.now (state_of self.now).pins }
+    {
+        self.pins.general(list)
     }
 
     /// The name of the list that is the target release, which need not be there.

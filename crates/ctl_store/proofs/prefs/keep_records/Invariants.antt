@@ -5,7 +5,7 @@ use Rattle.ctl_store.proofs.prefs.keep_records.Given as goal
 abbrev pub invariant-loop-item : goal.invariant-loop-item
 invariant-loop-item l = record {
   fault : first_own_fault l.left ≡ first_own_fault l.records;
-  settings : first_settings l.kept.entries (all_settings l.left) ≡ first_settings l.fn.kept.entries (all_settings l.records);
+  settings : first_settings l.kept.pins (all_settings l.left) ≡ first_settings l.fn.kept.pins (all_settings l.records);
 }
 
 abbrev pub decreases-loop-item : goal.decreases-loop-item

@@ -1,22 +1,37 @@
-use Rattle.std.proofs.Common.{ap, sym, subst, ◌∙◌, map, IfSome, OnOk}
-use Rattle.ctl_store.specs.Named.{at_name, by_bytes}
-use Rattle.ctl_store.specs.Held.{lists_of, HasRoomInList}
-use Rattle.ctl_store.proofs.NamedLemmas.{at_name-by_bytes, set_named-by_bytes, at_name-set_named}
-use Rattle.ctl_store.proofs.ListedLemmas.{set_named-same, on_ok_map}
+use Rattle.std.proofs.Common.{◌≡◌, ◌∙◌, Some, ap, sym, subst, IfSome, OnOk}
+use Rattle.ctl_store.specs.Held.{HasRoomInList}
+use Rattle.ctl_store.specs.Ranks.{label_place, named_row, name_label}
+use Rattle.ctl_store.specs.Pieces.{joined, place_of_spot}
+use Rattle.ctl_store.proofs.NamedRowLemmas.{list_same, list_at, named_nowhere, table_listed}
+use Rattle.ctl_store.proofs.ShelfLemmas.{fit_written}
 use Rattle.ctl_store.proofs.table.reserve_at.Goals as goal
 
-pub returns-in-Some : goal.returns-in-Some
-returns-in-Some c =
-    let list = c.args.list.now in
-    let rows = map by_bytes c.args.rows.now.entries in
-    let w = c.reserve_one.new.self in
-    let at = c.in-Some.ensures.value ∙ at_name-by_bytes list c.args.rows.now.entries in
-    let set = ap (map by_bytes) (c.get_mut.follows.holds w).0 ∙ set_named-by_bytes list w c.args.rows.now.entries in
-    record {
-      lists = ap lists_of set ∙ set_named-same list rows c.in-Some.shelf.now w at c.reserve_one.ensures.same;
-      ok = subst (λ r. OnOk c.reserve_one.result (IfSome r HasRoomInList)) (sym (ap (at_name list) set ∙ at_name-set_named list c.in-Some.shelf.now w rows at))
-          (on_ok_map c.reserve_one.result (λ p. record { row = p.0; order = p.1 }) c.reserve_one.ensures.ok);
-    }
+found : (c : goal.After-reserve_spot) → label_place named_row (name_label c.args.list.now) (joined c.args.rows.now.pieces.items) ≡ Some (place_of_spot c.args.rows.now.pieces.items c.in-Some.spot)
+found c = ap (λ q. label_place named_row q (joined c.args.rows.now.pieces.items)) (sym c.label_of_name.ensures) ∙ sym c.in-Some.ensures.place
+
+pub returns-in-Some-clause-table : goal.returns-in-Some-clause-table
+returns-in-Some-clause-table c =
+    let ps = c.args.rows.now.pieces in
+    table_listed ps c.args.rows.now.ready c.args.next c.args.order.now.pieces c.args.order.now.ready c.requires c.args.list.now (place_of_spot ps.items c.in-Some.spot) c.reserve_spot.new.rows (found c)
+    (fit_written ps c.reserve_spot.new.rows c.args.rows.now.ready c.requires.rows_fit c.reserve_spot.ensures.pieces c.reserve_spot.ensures.len c.reserve_spot.ensures.capacity)
+    (λ l. l) (OnOk c.reserve_spot.result) c.reserve_spot.ensures.rows
+
+pub returns-in-Some-clause-lists : goal.returns-in-Some-clause-lists
+returns-in-Some-clause-lists c =
+    let ps = c.args.rows.now.pieces in
+    let h = c.reserve_spot.ensures.rows in
+    list_same c.args.list.now (joined ps.items) (joined c.reserve_spot.new.rows.items) (place_of_spot ps.items c.in-Some.spot) (found c) (OnOk c.reserve_spot.result) h (0, h.list)
+
+pub returns-in-Some-clause-ok : goal.returns-in-Some-clause-ok
+returns-in-Some-clause-ok c =
+    let ps = c.args.rows.now.pieces in
+    let h = c.reserve_spot.ensures.rows in
+    subst (λ o. OnOk c.reserve_spot.result (IfSome o HasRoomInList))
+    (sym (list_at c.args.list.now (joined ps.items) (joined c.reserve_spot.new.rows.items) (place_of_spot ps.items c.in-Some.spot) (found c) (λ l. l) (OnOk c.reserve_spot.result) h (0, h.list)))
+    h.room
 
 pub returns-in-None-clause-ok : goal.returns-in-None-clause-ok
-returns-in-None-clause-ok c = subst (λ r. IfSome r HasRoomInList) (c.in-None.ensures.value ∙ at_name-by_bytes c.args.list.now c.args.rows.now.entries ∙ ap (λ m. at_name c.args.list.now (map by_bytes m.entries)) (sym c.get_mut.follows.holds-at-none)) tt
+returns-in-None-clause-ok c =
+    let rows = joined c.args.rows.now.pieces.items in
+    subst (λ o. IfSome o HasRoomInList)
+    (named_nowhere c.args.list.now rows (ap (λ q. label_place named_row q rows) (sym c.label_of_name.ensures) ∙ sym c.in-None.ensures.place)) tt

@@ -1,4 +1,4 @@
-use Rattle.std.proofs.Common.{◌≡◌, ◌∷◌, sym, subst}
+use Rattle.std.proofs.Common.{◌∷◌, sym, subst}
 use Rattle.ctl_store.specs.Keys.{AreHeld}
 use Rattle.ctl_store.specs.Held.{keyed_of}
 use Rattle.probe.proofs.state.append_stanzas.Goals as goal

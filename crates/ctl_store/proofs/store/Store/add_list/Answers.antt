@@ -1,6 +1,6 @@
 use Rattle.std.proofs.Common.{◌≡◌, suc, refl, ◌+◌, ◌∷◌, ◌++◌, [], ◌∙◌, ap, sym, subst, map, length, List, arith}
 use Rattle.std.specs.FinMap as fin
-use Rattle.ctl_store.specs.Named.{has_name, put_named}
+use Rattle.ctl_store.specs.Named.{has_name}
 use Rattle.ctl_store.specs.State.{stanza_count, status_count, count_of_kind}
 use Rattle.ctl_store.specs.Edits.{AddList}
 use Rattle.ctl_store.specs.Step.{after}
@@ -42,7 +42,7 @@ invariant_of-self c =
     let long : length xs ≡ c.len-count.result = omega (arith, same_length (λ stanza. stanza.value) c.args.stanzas.items, c.len-count.ensures) in
     let shelf : keyed_list c.new-shelf.result ≡ list_of_stanzas s.next_list c.args.kind c.args.class xs = λ j. record { serial = c.new-shelf.ensures.serial j; kind = c.new-shelf.ensures.kind j; class = c.new-shelf.ensures.class j; next = (c.new-shelf.ensures.next ∙ sym c.len-count.ensures ∙ sym long) j; rows = c.new-shelf.ensures.rows j } in
     let new = new_among c.args.name s.lists.0 (ap (λ h. has_name c.args.name (state_of h).lists) c.self.view_is ∙ add_new h.limits (state_of h) c.args.name c.args.kind c.args.class xs c.requires.accepted) in
-    let lists = ap lists_of (c.put.ensures.entries ∙ ap (λ n. put_named n c.new-shelf.result s.lists.0) c.into_vec.ensures) ∙ lists_put_new c.args.name c.new-shelf.result s.lists.0 new ∙ ap (λ (l : KeyedList). lists_of s.lists.0 ++ (c.args.name, l) ∷ []) shelf in
+    let lists = ap lists_of c.put.ensures.entries ∙ lists_put_new c.args.name c.new-shelf.result s.lists.0 new ∙ ap (λ (l : KeyedList). lists_of s.lists.0 ++ (c.args.name, l) ∷ []) shelf in
     let held = ap (λ h. stanza_count (state_of h).lists) c.self.view_is in
     let most = ap (λ h. h.limits.stanzas) c.self.view_is in
     subst (λ k. IsSound c.put.new.self.0 (s.next_list + 1) (s.statuses + k) (s.stanzas + c.len-count.result) (s.edits + 1) s.limits) (sym c.one_if_status.ensures)
@@ -58,8 +58,8 @@ returns-clause-state c =
     let long : length xs ≡ c.len-count.result = omega (arith, same_length (λ stanza. stanza.value) c.args.stanzas.items, c.len-count.ensures) in
     let shelf : keyed_list c.new-shelf.result ≡ list_of_stanzas s.next_list c.args.kind c.args.class xs = λ j. record { serial = c.new-shelf.ensures.serial j; kind = c.new-shelf.ensures.kind j; class = c.new-shelf.ensures.class j; next = (c.new-shelf.ensures.next ∙ sym c.len-count.ensures ∙ sym long) j; rows = c.new-shelf.ensures.rows j } in
     let new = new_among c.args.name s.lists.0 (ap (λ h. has_name c.args.name (state_of h).lists) c.self.view_is ∙ add_new h.limits (state_of h) c.args.name c.args.kind c.args.class xs c.requires.accepted) in
-    let lists = ap lists_of (c.put.ensures.entries ∙ ap (λ n. put_named n c.new-shelf.result s.lists.0) c.into_vec.ensures) ∙ lists_put_new c.args.name c.new-shelf.result s.lists.0 new ∙ ap (λ (l : KeyedList). lists_of s.lists.0 ++ (c.args.name, l) ∷ []) shelf in
-    (λ j. record { lists = (ap stanza_lists lists ∙ new_lists (lists_of s.lists.0) c.args.name s.next_list c.args.kind c.args.class xs) j; marks = fin.from_entries s.marks.0; pins = s.pins.entries; target = s.target; edits = s.edits + 1 })
+    let lists = ap lists_of c.put.ensures.entries ∙ lists_put_new c.args.name c.new-shelf.result s.lists.0 new ∙ ap (λ (l : KeyedList). lists_of s.lists.0 ++ (c.args.name, l) ∷ []) shelf in
+    (λ j. record { lists = (ap stanza_lists lists ∙ new_lists (lists_of s.lists.0) c.args.name s.next_list c.args.kind c.args.class xs) j; marks = fin.from_entries s.marks.0; pins = s.pins.pins; target = s.target; edits = s.edits + 1 })
     ∙ ap (λ h. after (state_of h) (AddList c.args.name c.args.kind c.args.class xs)) c.self.view_is
 
 pub returns-clause-keyed : goal.returns-clause-keyed
@@ -70,6 +70,6 @@ returns-clause-keyed c =
     let long : length xs ≡ c.len-count.result = omega (arith, same_length (λ stanza. stanza.value) c.args.stanzas.items, c.len-count.ensures) in
     let shelf : keyed_list c.new-shelf.result ≡ list_of_stanzas s.next_list c.args.kind c.args.class xs = λ j. record { serial = c.new-shelf.ensures.serial j; kind = c.new-shelf.ensures.kind j; class = c.new-shelf.ensures.class j; next = (c.new-shelf.ensures.next ∙ sym c.len-count.ensures ∙ sym long) j; rows = c.new-shelf.ensures.rows j } in
     let new = new_among c.args.name s.lists.0 (ap (λ h. has_name c.args.name (state_of h).lists) c.self.view_is ∙ add_new h.limits (state_of h) c.args.name c.args.kind c.args.class xs c.requires.accepted) in
-    let lists = ap lists_of (c.put.ensures.entries ∙ ap (λ n. put_named n c.new-shelf.result s.lists.0) c.into_vec.ensures) ∙ lists_put_new c.args.name c.new-shelf.result s.lists.0 new ∙ ap (λ (l : KeyedList). lists_of s.lists.0 ++ (c.args.name, l) ∷ []) shelf in
+    let lists = ap lists_of c.put.ensures.entries ∙ lists_put_new c.args.name c.new-shelf.result s.lists.0 new ∙ ap (λ (l : KeyedList). lists_of s.lists.0 ++ (c.args.name, l) ∷ []) shelf in
     (λ j. record { lists = lists j; next_list = s.next_list + 1 })
     ∙ ap (λ h. keyed_after (keyed_of h) (AddList c.args.name c.args.kind c.args.class xs)) c.self.view_is

@@ -4,7 +4,7 @@ use Rattle.ctl_store.specs.Step.{refusal_of}
 use Rattle.ctl_store.specs.Keys.{Keyed, keyed_after, removed_of, IsNotAmong, stanza_at, AreCome, AreGone}
 use Rattle.ctl_store.specs.Entries.{IsChange}
 use Rattle.ctl_store.specs.Given.{IsGivenOnce}
-use Rattle.ctl_store.specs.Held.{state_of, keyed_of, lists_of, ready_of, HasRoom, InOrder}
+use Rattle.ctl_store.specs.Held.{state_of, keyed_of, lists_of, HasRoom, InOrder}
 use Rattle.ctl_store.proofs.StepLemmas.{stays_law}
 use Rattle.ctl_store.proofs.ChangeLemmas.{come_law, gone_law, not_added}
 use Rattle.ctl_store.proofs.EntryLemmas.{change_law}
@@ -15,8 +15,7 @@ pub make-requires : goal.make-requires
 make-requires c = record {
   accepted = subst (λ p. refusal_of c.args.self.now.limits (state_of c.args.self.now) p.edit ≡ None) (sym c.plan.view_is) c.requires.accepted;
   gone = omega (arith, c.len.ensures, ap (λ (ks : List StanzaKey). length ks) (ap (λ p. p.removed) c.plan.view_is ∙ c.requires.removed ∙ ap (λ p. removed_of (keyed_of c.args.self.now) p.edit) (sym c.plan.view_is)));
-  room = subst (λ p. HasRoom c.args.self.now (ready_of p) p.edit) (sym c.plan.view_is) c.requires.room;
-  pins = c.plan.invariant.no_pins;
+  room = subst (λ p. HasRoom c.args.self.now p.list_room p.edit) (sym c.plan.view_is) c.requires.room;
 }
 
 pub returns-clause-stays : goal.returns-clause-stays

@@ -53,7 +53,7 @@ returns-clause-state c =
     let s = c.self.inside in
     let name = c.args.name.now in
     let lists = ap lists_of (c.remove.ensures.entries ∙ ap (λ n. without_name n s.lists.0) c.as_slice-2.ensures) ∙ lists_without name s.lists.0 in
-    (λ j. record { lists = (ap stanza_lists lists ∙ without_lists name (lists_of s.lists.0)) j; marks = fin.from_entries s.marks.0; pins = s.pins.entries; target = s.target; edits = s.edits + 1 })
+    (λ j. record { lists = (ap stanza_lists lists ∙ without_lists name (lists_of s.lists.0)) j; marks = fin.from_entries s.marks.0; pins = s.pins.pins; target = s.target; edits = s.edits + 1 })
     ∙ ap (λ h. after (state_of h) (DropList name)) c.self.view_is
 
 pub returns-clause-keyed : goal.returns-clause-keyed

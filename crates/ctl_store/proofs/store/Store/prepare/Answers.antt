@@ -15,7 +15,6 @@ use Rattle.ctl_store.proofs.store.Store.prepare.Goals as goal
 
 pub invariant_of-result : goal.invariant_of-result
 invariant_of-result c = record {
-  no_pins = c.in-Ok-make_ready.ensures.empty;
   coming = subst (λ ks. AreComing ks (edit_of c.args.edit)) (sym c.in-Ok-added_keys.ensures) (added_come (keyed_of c.args.self.now) (edit_of c.args.edit));
   among = λ k. subst (λ ks. coming_among (edit_of c.args.edit) ks k ≡ coming_under ks (edit_of c.args.edit) k) (sym c.in-Ok-added_keys.ensures) (comes_among k (keyed_of c.args.self.now) (edit_of c.args.edit));
 }

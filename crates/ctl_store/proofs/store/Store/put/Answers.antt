@@ -57,5 +57,5 @@ returns-clause-state c =
     let list = c.args.list.now in
     let x = c.args.stanza.value in
     let lists = c.put_in.ensures ∙ ap (λ n. change_named n (put_keyed x) (lists_of s.lists.0)) c.as_slice.ensures in
-    (λ j. record { lists = (ap stanza_lists lists ∙ change_lists list (put_keyed x) (with_stanzas (put_stanza x)) (put_list x) (lists_of s.lists.0)) j; marks = fin.from_entries s.marks.0; pins = s.pins.entries; target = s.target; edits = s.edits + 1 })
+    (λ j. record { lists = (ap stanza_lists lists ∙ change_lists list (put_keyed x) (with_stanzas (put_stanza x)) (put_list x) (lists_of s.lists.0)) j; marks = fin.from_entries s.marks.0; pins = s.pins.pins; target = s.target; edits = s.edits + 1 })
     ∙ ap (λ h. after (state_of h) (Put list x)) c.self.view_is

@@ -42,5 +42,5 @@ returns-clause-state c =
     let name = c.args.«package».now in
     let version = c.args.version.now in
     let lists = c.remove_in.ensures ∙ (λ j. change_named (c.as_slice.ensures j) (remove_keyed (c.as_slice-2.ensures j) (Some version)) (lists_of s.lists.0)) in
-    (λ j. record { lists = (ap stanza_lists lists ∙ change_lists list (remove_keyed name (Some version)) (with_stanzas (remove_stanza name (Some version))) (remove_list name (Some version)) (lists_of s.lists.0)) j; marks = fin.from_entries s.marks.0; pins = s.pins.entries; target = s.target; edits = s.edits + 1 })
+    (λ j. record { lists = (ap stanza_lists lists ∙ change_lists list (remove_keyed name (Some version)) (with_stanzas (remove_stanza name (Some version))) (remove_list name (Some version)) (lists_of s.lists.0)) j; marks = fin.from_entries s.marks.0; pins = s.pins.pins; target = s.target; edits = s.edits + 1 })
     ∙ ap (λ h. after (state_of h) (Remove list name version)) c.self.view_is

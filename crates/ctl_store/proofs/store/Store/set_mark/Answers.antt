@@ -1,6 +1,5 @@
 use Rattle.std.proofs.Common.{◌∙◌, ap, ◌+◌}
 use Rattle.std.specs.FinMap as fin
-use Rattle.ctl_store.specs.Named.{put_named}
 use Rattle.ctl_store.specs.Edits.{Mark}
 use Rattle.ctl_store.specs.Step.{after}
 use Rattle.ctl_store.specs.Keys.{stanza_lists}
@@ -15,5 +14,5 @@ invariant_of-self c = let s = c.self.inside in sound_more s.lists.0 s.next_list 
 pub returns-clause-state : goal.returns-clause-state
 returns-clause-state c =
     let s = c.self.inside in
-    (λ j. record { lists = stanza_lists (lists_of s.lists.0); marks = (ap fin.from_entries c.put.ensures.entries ∙ ap (λ n. fin.from_entries (put_named n c.args.version s.marks.0)) c.into_vec.ensures ∙ from_entries-put_named c.args.name c.args.version s.marks.0) j; pins = s.pins.entries; target = s.target; edits = s.edits + 1 })
+    (λ j. record { lists = stanza_lists (lists_of s.lists.0); marks = (ap fin.from_entries c.put.ensures.entries ∙ from_entries-put_named c.args.name c.args.version s.marks.0) j; pins = s.pins.pins; target = s.target; edits = s.edits + 1 })
     ∙ ap (λ h. after (state_of h) (Mark c.args.name c.args.version)) c.self.view_is

@@ -1,11 +1,10 @@
-use Rattle.std.proofs.Common.{◌∙◌, ap, ◌+◌, cond, None}
-use Rattle.std.specs.Str.{bytes_eq}
-use Rattle.ctl_store.specs.Named.{at_name}
+use Rattle.std.proofs.Common.{◌∙◌, ap, ◌+◌}
+use Rattle.ctl_store.specs.Named.{at_name, without_name}
 use Rattle.ctl_store.specs.Edits.{Unmark}
 use Rattle.ctl_store.specs.Step.{after}
 use Rattle.ctl_store.specs.Keys.{stanza_lists}
 use Rattle.ctl_store.specs.Held.{lists_of, state_of}
-use Rattle.ctl_store.proofs.NamedLemmas.{from_entries-removed}
+use Rattle.ctl_store.proofs.NamedLemmas.{from_entries-removed, at_name-without_name}
 use Rattle.ctl_store.proofs.SoundLemmas.{sound_more}
 use Rattle.ctl_store.proofs.store.Store.unmark.Goals as goal
 
@@ -15,5 +14,5 @@ invariant_of-self c = let s = c.self.inside in sound_more s.lists.0 s.next_list 
 pub returns-clause-state : goal.returns-clause-state
 returns-clause-state c =
     let s = c.self.inside in
-    (λ j. record { lists = stanza_lists (lists_of s.lists.0); marks = (from_entries-removed c.args.name.now s.marks.0 c.swap_remove.new.self.0 (λ q. c.swap_remove.ensures.found q ∙ ap (λ n. cond (bytes_eq n q) None (at_name q s.marks.0)) c.as_slice.ensures)) j; pins = s.pins.entries; target = s.target; edits = s.edits + 1 })
+    (λ j. record { lists = stanza_lists (lists_of s.lists.0); marks = (from_entries-removed c.args.name.now s.marks.0 c.remove.new.self.0 (λ q. ap (at_name q) (c.remove.ensures.entries ∙ ap (λ n. without_name n s.marks.0) c.as_slice.ensures) ∙ at_name-without_name c.args.name.now q s.marks.0 c.remove.ensures.each_once)) j; pins = s.pins.pins; target = s.target; edits = s.edits + 1 })
     ∙ ap (λ h. after (state_of h) (Unmark c.args.name.now)) c.self.view_is

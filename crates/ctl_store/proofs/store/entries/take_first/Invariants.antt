@@ -1,5 +1,4 @@
-use Rattle.std.proofs.Common.{◌≡◌, [], map, length}
-use Rattle.ctl_store.specs.Named.{by_bytes}
+use Rattle.std.proofs.Common.{◌≡◌, [], length}
 use Rattle.ctl_store.specs.Entries.{entries_of}
 use Rattle.ctl_store.specs.Held.{lists_of}
 use Rattle.ctl_store.proofs.store.entries.take_first.Given as goal
@@ -7,7 +6,7 @@ use Rattle.ctl_store.proofs.store.entries.take_first.Given as goal
 abbrev pub invariant-lists : goal.invariant-lists
 invariant-lists l = record {
   none : l.entries ≡ [];
-  rest : entries_of (lists_of (map by_bytes l.lists)) ≡ entries_of (lists_of (map by_bytes l.fn.lists));
+  rest : entries_of (lists_of l.lists) ≡ entries_of (lists_of l.fn.lists);
 }
 
 abbrev pub decreases-lists : goal.decreases-lists

@@ -1,9 +1,13 @@
-use Rattle.std.proofs.Common.{ap, ◌∙◌, map}
-use Rattle.ctl_store.specs.Named.{put_named, by_bytes}
-use Rattle.ctl_store.proofs.NamedLemmas.{put_named-by_bytes}
+use Rattle.std.proofs.Common.{◌∙◌, ap}
+use Rattle.ctl_store.specs.Named.{put_named}
+use Rattle.ctl_store.specs.Pieces.{joined}
+use Rattle.ctl_store.specs.Ranks.{items_of}
+use Rattle.ctl_store.proofs.NamedRowLemmas.{named_put}
 use Rattle.ctl_store.proofs.table.Table.put.Goals as goal
 
 pub returns : goal.returns
 returns g c = record {
-  entries = ap (map by_bytes) c.in-Ok.ensures.entries ∙ put_named-by_bytes c.args.name c.args.value c.self.inside.rows.entries ∙ ap (λ v. put_named c.args.name.items c.args.value v.0) c.self.view_is;
+  entries = ap items_of c.put_item.ensures.rows
+      ∙ named_put c.self.inside.next (c.args.name, c.args.value) (joined c.self.inside.rows.pieces.items)
+      ∙ ap (λ v. put_named c.args.name c.args.value v.0) c.self.view_is;
 }

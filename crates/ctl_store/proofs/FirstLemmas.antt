@@ -1,0 +1,108 @@
+-- Of two settings of one selector the first counts.
+use Rattle.std.proofs.Common.{◌≡◌, ℕ, ℤ, Bool, true, false, cond, List, [], ◌∷◌, ◌++◌, Option, None, Some, is_some, Ok, refl, ap, subst, ◌∙◌}
+use Rattle.std.specs.List.{IsDistinct, AllByRecursion}
+use Rattle.std.specs.Map.{lookup, keys_of}
+use Rattle.std.specs.Option.{option_or}
+use Rattle.ctl_stanza.specs.declared.fault.TextFault.{TextFault}
+use Rattle.ctl_stanza.specs.Faults.{or_else}
+use Rattle.ctl_stanza.specs.Text.{or_fault}
+use Rattle.ctl_stanza.specs.Records.{RecordText, records_before_fault}
+use Rattle.ctl_store.specs.declared.selector.Selector.{Selector}
+use Rattle.ctl_store.specs.Pins.{selector_eq, AreDistinct}
+use Rattle.ctl_store.specs.SelectorLaws.{selector_equiv, selector_eq-Decides}
+use Rattle.ctl_store.specs.Prefs.{keep_first, first_settings, all_settings, first_own_fault, settings_or_fault, read_prefs_text}
+use Rattle.ctl_store.specs.PrefsLaws.{SetsFirst}
+
+or_none : {X : Type 0} (o : Option X) → o ≡ option_or o None
+or_none None = refl
+or_none (Some x) = refl
+
+lookup-append : (s : Selector) (kept : List (Selector × ℤ)) (one : Selector × ℤ) → lookup (selector_eq s) (kept ++ one ∷ []) ≡ option_or (lookup (selector_eq s) kept) (cond (selector_eq s one.0) (Some one.1) None)
+lookup-append s [] one = refl
+lookup-append s (e ∷ kept) one = by (selector_eq s e.0) (lookup-append s kept one)
+  where
+    by : (b : Bool) → lookup (selector_eq s) (kept ++ one ∷ []) ≡ option_or (lookup (selector_eq s) kept) (cond (selector_eq s one.0) (Some one.1) None)
+        → cond b (Some e.1) (lookup (selector_eq s) (kept ++ one ∷ [])) ≡ option_or (cond b (Some e.1) (lookup (selector_eq s) kept)) (cond (selector_eq s one.0) (Some one.1) None)
+    by true rest = refl
+    by false rest = rest
+
+-- a setting that is kept, or whose selector stands before, is what its selector has
+lookup-keep : (s : Selector) (kept : List (Selector × ℤ)) (one : Selector × ℤ) → lookup (selector_eq s) (keep_first kept one) ≡ option_or (lookup (selector_eq s) kept) (cond (selector_eq s one.0) (Some one.1) None)
+lookup-keep s kept one = by (is_some (lookup (selector_eq one.0) kept)) refl
+  where
+    there : (o : Option ℤ) → is_some o ≡ true → (b : Bool) → o ≡ option_or o (cond b (Some one.1) None)
+    there None h b = cc
+    there (Some x) h b = refl
+
+    same : is_some (lookup (selector_eq one.0) kept) ≡ true → (b : Bool) → selector_eq s one.0 ≡ b → lookup (selector_eq s) kept ≡ option_or (lookup (selector_eq s) kept) (cond b (Some one.1) None)
+    same h true e = there (lookup (selector_eq s) kept) (ap (λ t. is_some (lookup (selector_eq t) kept)) ((selector_eq-Decides s one.0).0 e) ∙ h) true
+    same h false e = or_none (lookup (selector_eq s) kept)
+
+    by : (b : Bool) → is_some (lookup (selector_eq one.0) kept) ≡ b → lookup (selector_eq s) (cond b kept (kept ++ one ∷ [])) ≡ option_or (lookup (selector_eq s) kept) (cond (selector_eq s one.0) (Some one.1) None)
+    by true h = same h (selector_eq s one.0) refl
+    by false h = lookup-append s kept one
+
+or_assoc : {X : Type 0} (a : Option X) (b : Bool) (x : X) (c : Option X) → option_or (option_or a (cond b (Some x) None)) c ≡ option_or a (cond b (Some x) c)
+or_assoc (Some y) b x c = refl
+or_assoc None true x c = refl
+or_assoc None false x c = refl
+
+lookup-first : (s : Selector) (kept all : List (Selector × ℤ)) → lookup (selector_eq s) (first_settings kept all) ≡ option_or (lookup (selector_eq s) kept) (lookup (selector_eq s) all)
+lookup-first s kept [] = or_none (lookup (selector_eq s) kept)
+lookup-first s kept (one ∷ all) =
+    lookup-first s (keep_first kept one) all
+    ∙ ap (λ o. option_or o (lookup (selector_eq s) all)) (lookup-keep s kept one)
+    ∙ or_assoc (lookup (selector_eq s) kept) (selector_eq s one.0) one.1 (lookup (selector_eq s) all)
+
+-- ---- no selector stands twice
+
+absent_all : (s : Selector) (kept : List (Selector × ℤ)) → is_some (lookup (selector_eq s) kept) ≡ false → AllByRecursion (λ t. selector_eq t s ≡ false) (keys_of kept)
+absent_all s [] h = tt
+absent_all s (e ∷ kept) h = by (selector_eq s e.0) refl h (absent_all s kept)
+  where
+    by : (b : Bool) → selector_eq s e.0 ≡ b → is_some (cond b (Some e.1) (lookup (selector_eq s) kept)) ≡ false → (is_some (lookup (selector_eq s) kept) ≡ false → AllByRecursion (λ t. selector_eq t s ≡ false) (keys_of kept))
+        → (selector_eq e.0 s ≡ false) × AllByRecursion (λ t. selector_eq t s ≡ false) (keys_of kept)
+    by true is h rest = cc
+    by false is h rest = (selector_equiv.symm e.0 s ∙ is, rest h)
+
+all_last : (P : Selector → Type 0) (kept : List (Selector × ℤ)) (one : Selector × ℤ) → AllByRecursion P (keys_of kept) → P one.0 → AllByRecursion P (keys_of (kept ++ one ∷ []))
+all_last P [] one h p = (p, tt)
+all_last P (e ∷ kept) one h p = (h.0, all_last P kept one h.1 p)
+
+distinct-push : (kept : List (Selector × ℤ)) (one : Selector × ℤ) → AreDistinct kept → AllByRecursion (λ t. selector_eq t one.0 ≡ false) (keys_of kept) → AreDistinct (kept ++ one ∷ [])
+unfolding IsDistinct
+distinct-push [] one h k = (tt, tt)
+distinct-push (e ∷ kept) one h k = (all_last (λ t. selector_eq e.0 t ≡ false) kept one h.0 k.0, distinct-push kept one h.1 k.1)
+
+distinct-keep : (kept : List (Selector × ℤ)) (one : Selector × ℤ) → AreDistinct kept → AreDistinct (keep_first kept one)
+distinct-keep kept one h = by (is_some (lookup (selector_eq one.0) kept)) refl
+  where
+    by : (b : Bool) → is_some (lookup (selector_eq one.0) kept) ≡ b → AreDistinct (cond b kept (kept ++ one ∷ []))
+    by true e = h
+    by false e = distinct-push kept one h (absent_all one.0 kept e)
+
+distinct-first : (kept all : List (Selector × ℤ)) → AreDistinct kept → AreDistinct (first_settings kept all)
+distinct-first kept [] h = h
+distinct-first kept (one ∷ all) h = distinct-first (keep_first kept one) all (distinct-keep kept one h)
+
+distinct-none : AreDistinct []
+unfolding IsDistinct
+distinct-none = tt
+
+-- ---- the text
+
+what_is_read : (read : List RecordText × Option TextFault) (settings : List (Selector × ℤ)) → settings_or_fault read ≡ Ok settings → first_settings [] (all_settings read.0) ≡ settings
+what_is_read read settings e = by (or_else (first_own_fault read.0) read.1) e
+  where
+    by : (o : Option TextFault) → or_fault o (Ok (first_settings [] (all_settings read.0))) ≡ Ok settings → first_settings [] (all_settings read.0) ≡ settings
+    by None e = cc
+    by (Some fault) e = cc
+
+pub sets_first : (n : ℕ) (text : List ℕ) (settings : List (Selector × ℤ)) → read_prefs_text n text ≡ Ok settings → SetsFirst (records_before_fault n text).0 settings
+sets_first n text settings e =
+    let records = (records_before_fault n text).0 in
+    let is = what_is_read (records_before_fault n text) settings e in
+    subst (SetsFirst records) is (record {
+      first = λ s. lookup-first s [] (all_settings records);
+      distinct = distinct-first [] (all_settings records) distinct-none;
+    })

@@ -1,0 +1,52 @@
+use Rattle.std.proofs.Common.{Bool, List, Vec, Global, None, ◌≡◌, ◌∙◌, ◌<◌, ℕ, sym, ap, cond, get_or, arith, length}
+use Rattle.std.specs.Ordering.{is_eq}
+use Rattle.ctl_store.specs.Step.{place}
+use Rattle.ctl_store.specs.Rows.{has_serial}
+use Rattle.ctl_store.specs.Ranks.{Label, IsRanked, labels_of, sorted_labels, labels_below, label_order, label_place}
+use Rattle.ctl_store.specs.declared.pieces.Spot.{Spot}
+use Rattle.ctl_store.specs.Pieces.{joined, stands_at, place_of_spot, IsSpot}
+use Rattle.ctl_store.proofs.RankedLemmas.{found_here, found_past}
+use Rattle.ctl_store.proofs.PiecesLemmas.{length_read}
+use Rattle.ctl_store.proofs.PointLemmas.{get_joined, stands_within, stands_end}
+use Rattle.ctl_store.proofs.ranks.look_up.Goals as goal
+
+pub returns-then-spot-order-clause-place : goal.returns-then-spot-order-clause-place
+returns-then-spot-order-clause-place g c =
+    let ps = c.args.order.now in
+    let spot = c.lower-spot.result in
+    let within = c.lower-spot.ensures.within in
+    let last : spot.piece ≡ length ps = omega (arith, within.piece, c.if-spot-order.true) in
+    let at : place_of_spot ps spot ≡ stands_at ps (length ps) 0 = λ j. stands_at ps (last j) (within.end last j) in
+    sym (found_past (λ (row : ℕ × g.row.T.Denot). g.T.Labelled.label row.1) (joined c.args.rows.now) c.requires.ranked.0 (joined ps) c.requires.ranked.1 c.args.wanted.now (place_of_spot ps spot) c.lower-spot.ensures.place (omega (arith, at, stands_end ps 0)))
+
+pub index-serial-requires : goal.index-serial-requires
+index-serial-requires g c =
+    let spot = c.lower-spot.result in
+    let l : spot.piece < length c.args.order.now = c.if-spot-order.false in
+    omega (arith, length_read c.args.order.now spot.piece c.index-order-spot.result l c.index-order-spot.is, c.lower-spot.ensures.within.item l)
+
+-- the first row, by the serial that stands at the spot
+module _ {T : Type 0} (label : ℕ × T → Label) where
+  found : (rows : List (ℕ × T)) (next : ℕ) (ps : List (Vec ℕ Global)) → IsRanked label rows next (joined ps) → (q : Label) (spot : Spot) → place_of_spot ps spot ≡ labels_below q (sorted_labels (labels_of label rows))
+      → IsSpot ps spot → (p : Vec ℕ Global) (s : ℕ) → p ≡ get_or ps spot.piece p → s ≡ get_or p.items spot.at s
+      → label_place label q rows ≡ cond (is_eq (label_order label rows q s)) (place (has_serial s) rows) None
+  found rows next ps kept q spot e there p s is at =
+      found_here label rows next (joined ps) kept q (place_of_spot ps spot) e (stands_within ps spot.piece spot.at there)
+      ∙ ap (λ (k : ℕ). cond (is_eq (label_order label rows q k)) (place (has_serial k) rows) None) (get_joined ps spot.piece spot.at p s 0 there is at)
+
+pub returns-then-is_eq-clause-place : goal.returns-then-is_eq-clause-place
+returns-then-is_eq-clause-place g c =
+    let rows = joined c.args.rows.now in
+    let serial = c.index-serial.result.now in
+    let spot = c.lower-spot.result in
+    c.spot_of.ensures.place
+    ∙ sym (found (λ (row : ℕ × g.row.T.Denot). g.T.Labelled.label row.1) rows c.requires.ranked.0 c.args.order.now c.requires.ranked.1 c.args.wanted.now spot c.lower-spot.ensures.place (c.lower-spot.ensures.within.item c.if-spot-order.false) c.index-order-spot.result serial c.index-order-spot.is c.index-serial.ensures
+    ∙ ap (λ (b : Bool). cond b (place (has_serial serial) rows) None) (ap is_eq (sym c.compare_row.ensures) ∙ sym c.is_eq.ensures ∙ c.if-is_eq.true))
+
+pub returns-else-is_eq-clause-place : goal.returns-else-is_eq-clause-place
+returns-else-is_eq-clause-place g c =
+    let rows = joined c.args.rows.now in
+    let serial = c.index-serial.result.now in
+    let spot = c.lower-spot.result in
+    sym (found (λ (row : ℕ × g.row.T.Denot). g.T.Labelled.label row.1) rows c.requires.ranked.0 c.args.order.now c.requires.ranked.1 c.args.wanted.now spot c.lower-spot.ensures.place (c.lower-spot.ensures.within.item c.if-spot-order.false) c.index-order-spot.result serial c.index-order-spot.is c.index-serial.ensures
+    ∙ ap (λ (b : Bool). cond b (place (has_serial serial) rows) None) (ap is_eq (sym c.compare_row.ensures) ∙ sym c.is_eq.ensures ∙ c.if-is_eq.false))

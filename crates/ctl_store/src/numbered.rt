@@ -1,0 +1,165 @@
+//! Items under serial numbers, in pieces.
+
+ghost use Rattle.std.specs.Prelude.{◌≡◌, ◌<◌, ◌≤◌, ℕ, length, IfSome, nat_lt, vec_len, true, false, option_map, option_copied, nat_eq};
+ghost use Rattle.std.specs.Map.{lookup};
+ghost use Rattle.std.specs.Vec.{vec_capacity};
+ghost use Rattle.std.specs.List.{slice_index_or};
+ghost use Rattle.std.specs.List.Sorted.{IsPartitionPoint};
+ghost use Rattle.ctl_store.specs.Step.{place};
+ghost use Rattle.ctl_store.specs.Rows.{has_serial, Rises, replace_at};
+ghost use Rattle.ctl_store.specs.Pieces.{joined, last_passes, place_of_spot, ArePieces, IsSpot, IsSpotOrEnd};
+
+use crate::pieces::{MOST, Spot};
+use std::marker::Model;
+
+/// An item under its serial number.
+#[derive(Drop)]
+pub(crate) struct Numbered<T> {
+    pub(crate) serial: u64,
+    pub(crate) item: T,
+}
+
+impl<T> Model for Numbered<T> {
+    ghost use Rattle.std.specs.Prelude.{ℕ};
+
+    ghost Value = { ℕ × T };
+
+    ghost view = { λ row. (row.serial, row.item) };
+}
+
+impl<T> Numbered<T> {
+    pub(crate) fn new(serial: u64, item: T) -> Numbered<T>
+        ensures { result ≡ (serial, item) }
+    {
+        Numbered { serial, item }
+    }
+
+    pub(crate) fn serial(&self) -> u64
+        ensures { result ≡ self.now.0 }
+    {
+        self.serial
+    }
+
+    pub(crate) fn item(&self) -> &T
+        ensures { result.now ≡ self.now.1 }
+    {
+        &self.item
+    }
+}
+
+impl<T: Drop> Numbered<T> {
+    pub(crate) fn replace(&mut self, item: T)
+        ensures { self.new ≡ (self.old.0, item) }
+    {
+        self.item = item;
+    }
+}
+
+// Whether the last serial is below a serial.
+fn ends_before<T>(rows: &[Numbered<T>], serial: u64) -> bool
+    ensures { result ≡ last_passes (λ row. nat_lt row.0 serial) rows.now }
+{
+    match rows.last() {
+        Some(row) => row.serial() < serial,
+        None => false,
+    }
+}
+
+// Where the piece of a serial most likely stands. It stands elsewhere once a piece behind the first has gone, or a row was
+// taken out of the last piece, which later serials then fill.
+fn likely_piece<T>(rows: &[Vec<Numbered<T>>], serial: u64) -> usize {
+    let first = rows
+        .first()
+        .and_then(|rows| rows.first())
+        .map_or(0, |row| row.serial());
+    let most = MOST as u64;
+    (serial / most).saturating_sub(first / most) as usize
+}
+
+// Where the pieces end whose last serials are below a serial.
+fn pieces_below<T>(rows: &[Vec<Numbered<T>>], serial: u64) -> usize
+    requires pieces { ArePieces rows.now }
+    requires rises { (n : ℕ) × (m : ℕ) × Rises n (joined rows.now) m }
+    ensures point { IsPartitionPoint (λ rows. last_passes (λ row. nat_lt row.0 serial) rows.items ≡ true) (λ rows. last_passes (λ row. nat_lt row.0 serial) rows.items ≡ false) rows.now result }
+    ensures bound { result ≤ length rows.now }
+{
+    let likely = likely_piece(rows, serial);
+    if likely < rows.len()
+        && !ends_before(&rows[likely], serial)
+        && (likely == 0 || ends_before(&rows[likely - 1], serial))
+    {
+        return likely;
+    }
+    rows.partition_point(
+        |rows: &Vec<Numbered<T>>|
+            ensures { result ≡ last_passes (λ row. nat_lt row.0 serial) rows.now.items }
+        { ends_before(rows, serial) },
+    )
+}
+
+// Where the rows end whose serials are below a serial.
+fn end_below<T>(rows: &[Vec<Numbered<T>>], serial: u64) -> Spot
+    requires pieces { ArePieces rows.now }
+    requires rises { (n : ℕ) × (m : ℕ) × Rises n (joined rows.now) m }
+    ensures point { IsPartitionPoint (λ row. nat_lt row.0 serial ≡ true) (λ row. nat_lt row.0 serial ≡ false) (joined rows.now) (place_of_spot rows.now result) }
+    ensures within { IsSpotOrEnd rows.now result }
+{
+    let piece = pieces_below(rows, serial);
+    match rows.get(piece) {
+        Some(rows) => Spot {
+            piece,
+            at: rows.partition_point(|row| row.serial() < serial),
+        },
+        None => Spot { piece, at: 0 },
+    }
+}
+
+/// The row of a spot.
+pub(crate) fn row_at<T>(rows: &[Vec<Numbered<T>>], spot: Spot) -> &Numbered<T>
+    requires { IsSpot rows.now spot }
+    ensures { (d : ℕ × T) → slice_index_or (joined rows.now) (place_of_spot rows.now spot) d ≡ result.now }
+{
+    &rows[spot.piece][spot.at]
+}
+
+/// The spot of the row of a serial, found by halving.
+pub(crate) fn spot_of<T>(rows: &[Vec<Numbered<T>>], serial: u64) -> Option<Spot>
+    requires pieces { ArePieces rows.now }
+    requires rises { (n : ℕ) × (m : ℕ) × Rises n (joined rows.now) m }
+    ensures place { option_map (λ spot. place_of_spot rows.now spot) result ≡ place (has_serial serial) (joined rows.now) }
+    ensures within { IfSome result (λ spot. IsSpot rows.now spot) }
+{
+    let spot = end_below(rows, serial);
+    if spot.piece >= rows.len() {
+        return None;
+    }
+    if row_at(rows, spot).serial() == serial {
+        Some(spot)
+    } else {
+        None
+    }
+}
+
+/// Puts an item in the place of that of a row.
+pub(crate) fn replace_row<T: Drop>(rows: &mut Vec<Vec<Numbered<T>>>, spot: Spot, item: T)
+    requires pieces { ArePieces rows.old.items }
+    requires spot { IsSpot rows.old.items spot }
+    ensures pieces { ArePieces rows.new.items }
+    ensures len { vec_len rows.new ≡ vec_len rows.old }
+    ensures capacity { vec_capacity rows.new ≡ vec_capacity rows.old }
+    ensures rows { joined rows.new.items ≡ replace_at (joined rows.old.items) (place_of_spot rows.old.items spot) item }
+{
+    rows[spot.piece][spot.at].replace(item);
+}
+
+/// The item of a serial.
+pub(crate) fn item_of<T>(rows: &[Vec<Numbered<T>>], serial: u64) -> Option<&T>
+    requires pieces { ArePieces rows.now }
+    requires rises { (n : ℕ) × (m : ℕ) × Rises n (joined rows.now) m }
+    ensures { option_copied result ≡ lookup (λ k. nat_eq k serial) (joined rows.now) }
+{
+    match spot_of(rows, serial) {
+        Some(spot) => Some(row_at(rows, spot).item()),
+        None => None,
+    }
+}
