@@ -3,11 +3,12 @@
 
 Tests the program from outside: its words, its exit statuses, lists from files, what it writes to standard output and
 standard error, many edits of one list, a full device, a closed pipe, a reader that stops, a talk command by command, the
-examples, and those of the manual. The last line is the count."""
+examples and those of the manual, also cut at each byte. The last line is the count."""
 
 import os
 import sys
 
+from cuts import test_cuts
 from edits import test_edits
 from examples import test_examples
 from files import test_files
@@ -30,6 +31,7 @@ def main(words):
     test_writers(tests)
     test_talk(tests)
     test_examples(tests, words[1])
+    test_cuts(tests, words[1])
     test_manual(tests)
     print("%d passed, %d failed" % (tests.passed, tests.failed))
     return 0 if tests.failed == 0 else 1
