@@ -110,6 +110,15 @@ def test_commands(tests):
         tests.same("%s is no command" % name, (name in names, tests.run([], name.encode())[1]), (False, b"E: line 1: unknown command\n"))
 
 
+def test_synopsis(tests):
+    """The program, the manual and its page call the program by the same words."""
+    told = re.findall(rb"^Usage: (.*)$", tests.run(["--help"])[2], re.M)
+    ours = re.findall(r"^`(dctrl-cache .*)`$", contents(MANUAL), re.M)
+    synopsis = section(contents(PAGE), "SYNOPSIS")
+    words = " ".join(words_of_request(line).strip() for line in synopsis[:synopsis.index(".br")])
+    tests.same("the words in the manual and its page", ([it.encode() for it in ours], [words.encode()]), (told, told))
+
+
 def test_refusals(tests):
     """The page has each refusal of the program, and no other. The examples of the manual meet all but those for want of room."""
     page, text = contents(PAGE), contents(MANUAL)
@@ -124,7 +133,7 @@ def test_refusals(tests):
 def rendered(page):
     """The manual page as a reader sees it, or nothing where no program for it is there, and what such a program complains of."""
     if shutil.which("mandoc"):
-        wrong = subprocess.run(["mandoc", "-T", "lint", "-W", "warning", page], stdout=subprocess.PIPE, stderr=subprocess.STDOUT).stdout
+        wrong = subprocess.run(["mandoc", "-T", "lint", page], stdout=subprocess.PIPE, stderr=subprocess.STDOUT).stdout
         return subprocess.run(["mandoc", "-T", "ascii", page], stdout=subprocess.PIPE).stdout, wrong
     if shutil.which("groff"):
         done = subprocess.run(["groff", "-man", "-Tascii", "-ww", page], stdout=subprocess.PIPE, stderr=subprocess.PIPE)
@@ -158,6 +167,7 @@ def test_examples_of_manual(tests):
 
 def test_manual(tests):
     test_examples_of_manual(tests)
+    test_synopsis(tests)
     test_commands(tests)
     test_refusals(tests)
     test_page(tests)
