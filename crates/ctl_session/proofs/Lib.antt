@@ -7,6 +7,7 @@ pub mod CommandLemmas
 pub mod RunLemmas
 pub mod RequestLemmas
 pub mod PerformLemmas
+pub mod BodyNeedLemmas
 pub mod NameLemmas
 pub mod OneAnswerLemmas
 pub mod OneOutcomeLemmas

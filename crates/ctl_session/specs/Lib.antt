@@ -18,6 +18,7 @@ pub mod Queries
 pub mod Request
 pub mod Outcome
 pub mod Effect
+pub mod BodyNeed
 pub mod Run
 pub mod Replies
 pub mod Application

@@ -1,21 +1,21 @@
 //! Whether the body of a command bears on what it comes to.
 
-ghost use Rattle.std.specs.Prelude.{◌≡◌, ◌∷◌, None, true, false};
-ghost use Rattle.ctl_store.specs.declared.refusal.Refusal.{Refusal as Cause};
+ghost use Rattle.std.specs.Prelude.{◌≡◌, true, false};
 ghost use Rattle.ctl_store.specs.declared.refusal.Refusal.TheVariants.{NoList};
-ghost use Rattle.ctl_session.specs.Script.{Command, first_long};
+ghost use Rattle.ctl_session.specs.Script.{Command};
 ghost use Rattle.ctl_session.specs.Outcome.{Refused};
-ghost use Rattle.ctl_session.specs.Effect.{ComesTo, Does};
+ghost use Rattle.ctl_session.specs.Effect.{Does};
 ghost use Rattle.ctl_session.specs.Asked.{request_text};
+ghost use Rattle.ctl_session.specs.BodyNeed.{uses_body, NeedsBody, IsRefusedWithAnyBody};
 
 use crate::cache::Cache;
 use crate::request::{Request, request_by, words_of_line};
-use ctl_store::Refusal;
 use std::alloc::Global;
 
 /// Whether what a request comes to depends on its body: not where it is a stanza for a list that isn't there.
 pub(crate) fn uses_body(cache: &Cache, request: &Request<'_>) -> bool
-    ensures { result ≡ false → (asked : Command) → Does cache.now.state asked (request_text request.now) (Refused asked.number NoList) }
+    ensures uses { result ≡ uses_body cache.now.state (request_text request.now) }
+    ensures unused { result ≡ false → (asked : Command) → Does cache.now.state asked (request_text request.now) (Refused asked.number NoList) }
 {
     match request {
         Request::Put(name) => cache.store.kind(name).is_some(),
@@ -23,18 +23,19 @@ pub(crate) fn uses_body(cache: &Cache, request: &Request<'_>) -> bool
     }
 }
 
-/// Whether a command needs its body. It doesn't where its words are refused, or where it is a `put` into a list that isn't
-/// there: then it comes to this refusal with any body whose lines aren't too long and that has its end.
+/// Whether a command needs its body. It doesn't where its words are refused, where there is no memory for them, or where it is
+/// a `put` into a list that isn't there: then it is refused at its line with any body whose lines aren't too long and that has
+/// its end.
 pub(crate) fn needs_body(alloc: Global, cache: &Cache, head: &[u8]) -> bool
-    ensures { result ≡ false → (asked : Command) → asked.line ≡ head.now → first_long asked.number (asked.line ∷ asked.body) ≡ None → asked.ended ≡ true →
-        (cause : Cause) × ComesTo cache.now.state asked (Refused asked.number cause) }
+    ensures needed { result ≡ true → NeedsBody cache.now.state head.now }
+    ensures unneeded { result ≡ false → IsRefusedWithAnyBody cache.now.state head.now }
 {
     let read = match words_of_line(alloc, head) {
         Ok(read) => read,
-        Err(cause) => return cause == Refusal::Memory,
+        Err(_) => return false,
     };
     match request_by(alloc, read.name, &read.words) {
         Ok(request) => uses_body(cache, &request),
-        Err(cause) => cause == Refusal::Memory,
+        Err(_) => false,
     }
 }

@@ -1,12 +1,13 @@
 //! The commands of a script, one at a time.
 
-ghost use Rattle.std.specs.Prelude.{◌≡◌, ℕ, ◌+◌, ◌≤◌, ◌++◌, ◌∷◌, [], List, false, IfOk, IfErr, OnOk, take, length, vec_capacity};
+ghost use Rattle.std.specs.Prelude.{◌≡◌, ℕ, ◌+◌, ◌≤◌, ◌++◌, ◌∷◌, [], List, true, false, IfOk, IfErr, OnOk, take, length, vec_capacity};
 ghost use Rattle.std.specs.Io.KnownBytes.{prepend_known};
 ghost use Rattle.ctl_stanza.specs.Lines.{max_line};
 ghost use Rattle.ctl_session.specs.Streams.{counted};
 ghost use Rattle.ctl_session.specs.declared.fault.ReadingFault.TheVariants.{ReadFailed};
 ghost use Rattle.ctl_session.specs.LineReading.{is_failed_read};
 ghost use Rattle.ctl_session.specs.Reading.{HoldsBody, ReadsBody, ReadsHead, ReadsNext, StopsInBody, StopsReading};
+ghost use Rattle.ctl_session.specs.BodyNeed.{KeepsWhatIsNeeded};
 
 use crate::body_need::needs_body;
 use crate::cache::Cache;
@@ -55,6 +56,7 @@ impl Body {
     fn add(&mut self, line: &[u8], count: u32, number: u32)
         ensures step { (first : ℕ) (lines : List (List ℕ)) (all : List ℕ) → HoldsBody first lines self.old → line.now ≡ take max_line all →
             count ≡ length all → number ≡ first + length lines → HoldsBody first (lines ++ all ∷ []) self.new }
+        ensures dropped { self.old.dropped ≡ true → (self.new.dropped ≡ true) × (self.new.text.items ≡ self.old.text.items) }
         ensures ended { self.new.ended ≡ self.old.ended }
         ensures last { self.new.last ≡ self.old.last }
     {
@@ -93,6 +95,7 @@ fn read_body<R: Source>(
 ) -> Result<Body, ReadingFault>
     requires { max_line ≤ vec_capacity line.old }
     ensures room { max_line ≤ vec_capacity line.new }
+    ensures kept { is_kept ≡ false → IfOk result (λ body. body.text.items ≡ []) }
     ensures ok { IfOk result (ReadsBody (prepend_known lines.old.pending (R.remaining reader.old))
         (prepend_known lines.new.pending (R.remaining reader.new)) lines.old.number lines.new.number) }
     ensures fault { IfErr result (StopsInBody (prepend_known lines.old.pending (R.remaining reader.old))
@@ -187,6 +190,9 @@ pub(crate) fn read_command<R: Source>(
     requires line { max_line ≤ vec_capacity line.old }
     ensures head { max_line ≤ vec_capacity head.new }
     ensures line { max_line ≤ vec_capacity line.new }
+
+    // Of a body lines are kept only where the command needs it.
+    ensures kept { IfOk result (KeepsWhatIsNeeded cache.now.state head.new.items) }
     ensures ok { IfOk result (ReadsNext (prepend_known lines.old.pending (R.remaining reader.old))
         (prepend_known lines.new.pending (R.remaining reader.new)) lines.old.number lines.new.number head.new.items) }
     ensures fault { IfErr result (StopsReading (prepend_known lines.old.pending (R.remaining reader.old))

@@ -1,4 +1,4 @@
-use Rattle.std.proofs.Common.{◌≡◌, ◌-◌, ◌≤◌, false, vec_capacity}
+use Rattle.std.proofs.Common.{◌≡◌, ◌-◌, ◌≤◌, [], true, false, vec_capacity}
 use Rattle.std.specs.Io.KnownBytes.{prepend_known}
 use Rattle.ctl_stanza.specs.Lines.{max_line}
 use Rattle.ctl_session.proofs.ReadingLemmas.{InBody}
@@ -7,6 +7,7 @@ use Rattle.ctl_session.proofs.script.read_body.Given as goal
 abbrev pub invariant-lines : goal.invariant-lines
 invariant-lines g l = record {
   room : max_line ≤ vec_capacity l.line;
+  kept : l.is_kept ≡ false → (l.body.dropped ≡ true) × (l.body.text.items ≡ []);
   failures : g.R.Source.failures l.reader ≡ g.R.Source.failures l.fn.reader;
   max : l.lines.max ≡ l.fn.lines.max;
   ended : l.body.ended ≡ false;

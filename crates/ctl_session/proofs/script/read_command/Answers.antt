@@ -1,7 +1,9 @@
-use Rattle.std.proofs.Common.{arith, refl, sym, ◌∙◌, ◌≤◌, ◌<◌, length}
+use Rattle.std.proofs.Common.{arith, refl, inl, subst, sym, ◌∙◌, ◌≤◌, ◌<◌, length}
 use Rattle.ctl_stanza.specs.Lines.{max_line}
 use Rattle.ctl_session.proofs.ReadingLemmas.{false_of_not, true_of_not, fits_short}
 use Rattle.ctl_session.proofs.CommandLemmas.{stops_with_body, stops_in_body_same, reads_alone, reads_unended, reads_with_body, first_long-one, first_long-none, long_opens_nothing, line_opens}
+use Rattle.ctl_session.specs.BodyNeed.{NeedsBody}
+use Rattle.ctl_session.proofs.BodyNeedLemmas.{kept_is_needed}
 use Rattle.ctl_session.proofs.script.read_command.Goals as goal
 
 pub returns-then-read-gt-MAX_LINE-clause-ok : goal.returns-then-read-gt-MAX_LINE-clause-ok
@@ -45,3 +47,17 @@ returns-in-Err-read_body-clause-fault g c =
     stops_with_body _ _ _ _ c.next_head.new.lines.number _ _ c.in-Ok-Some.read _ found
     (line_opens found.line _ _ _ found.takes.front c.deref.ensures.value short c.has_body.ensures ∙ c.if-not-has_body.false)
     (true_of_not _ c.if-not-read.false) (stops_in_body_same _ _ c.next_head.new.lines.number _ _ c.in-Err-read_body.fault c.in-Ok-Some.ensures.max c.in-Err-read_body.ensures.fault)
+
+pub returns-then-read-gt-MAX_LINE-clause-kept : goal.returns-then-read-gt-MAX_LINE-clause-kept
+returns-then-read-gt-MAX_LINE-clause-kept g c = inl c.none-body.ensures.text
+
+pub returns-then-not-has_body-clause-kept : goal.returns-then-not-has_body-clause-kept
+returns-then-not-has_body-clause-kept g c = inl c.none-body-then-not-has_body.ensures.text
+
+pub returns-then-not-read-clause-kept : goal.returns-then-not-read-clause-kept
+returns-then-not-read-clause-kept g c = inl c.none-body-then-not-read.ensures.text
+
+pub returns-in-Ok-clause-kept : goal.returns-in-Ok-clause-kept
+returns-in-Ok-clause-kept g c =
+    kept_is_needed c.args.cache.now.state c.next_head.new.head.items c.in-Ok.body.text.items c.needs_body-is_kept.result c.in-Ok.ensures.kept
+    (λ kept. subst (λ h. NeedsBody c.args.cache.now.state h) c.deref-2.ensures.value (c.needs_body-is_kept.ensures.needed kept))
