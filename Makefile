@@ -40,9 +40,9 @@ $(PROGRAM): $(shell find crates \( -name out -o -name edits -o -name must-fail \
 test:
 	python3 tools/gate.py $(if $(KEEP_GOING),--keep-going)
 
-# With RT_JOBS `rt ci` has a task on each processor, however much memory it thinks that they take.
+# With RT_JOBS `rt ci` has so many tasks at a time, however much memory it thinks that they take.
 prove:
-	RT_JOBS=$$(nproc) rt ci
+	RT_JOBS=$(or $(JOBS),$$(nproc)) rt ci
 
 test-program: build
 	python3 tests/program/run.py $(PROGRAM) examples
@@ -51,7 +51,7 @@ test-tools:
 	python3 tests/edit_runner.py
 
 edits:
-	python3 tools/batch_edits.py $(if $(CRATES),--crates $(CRATES)) $(if $(EDITS),--edits $(EDITS)) $(if $(JOBS),--jobs $(JOBS))
+	python3 tools/batch_edits.py $(if $(CRATES),--crates $(CRATES)) $(if $(EDITS),--edits $(EDITS)) $(if $(JOBS),--jobs $(JOBS)) $(if $(APART),--apart)
 
 bench: $(PROGRAM)
 	python3 bench/lists.py $(PROGRAM) $(FILE)

@@ -132,6 +132,18 @@ def test_good_edits(tests):
     tests.expect("good edits", status == 0 and lines[-1:] == ["2 passed, 0 failed"], told)
 
 
+def test_apart(tests):
+    """Something else may be at work in the folders where the kept work is: they stay as they are."""
+    with tempfile.TemporaryDirectory() as root:
+        make_repository(root, EDITS[:1])
+        kept = root + "/crates/numbers/out/incremental/kept"
+        write(kept, "none")
+        status, lines, told = call(root, "--apart")
+        left = os.listdir(root + "/crates/numbers/out/incremental") + os.listdir(root + "/crates/numbers/out")
+        tests.expect("kept work stays as it is", left == ["kept", "incremental"], told)
+    tests.expect("edits apart", status == 0 and lines[-1:] == ["1 passed, 0 failed"], told)
+
+
 def test_unproved(tests):
     """Nothing passes by edits of a crate that is not proved as it stands."""
     with tempfile.TemporaryDirectory() as root:
@@ -159,6 +171,7 @@ def main():
     test_listings(tests)
     test_edits(tests)
     test_good_edits(tests)
+    test_apart(tests)
     test_unproved(tests)
     print("%d passed, %d failed" % (tests.passed, tests.failed))
     return 1 if tests.failed else 0

@@ -1,7 +1,7 @@
 #!/usr/bin/env python3
 """Tries the edits that must fail, many in one check: the prover has to refuse each.
 
-    tools/batch_edits.py [--crates NAME..] [--edits NAME..] [--jobs N] [--plan | --uncovered]
+    tools/batch_edits.py [--crates NAME..] [--edits NAME..] [--jobs N] [--apart] [--plan | --uncovered]
 
 It is called at the top of the repository, and tries crates/NAME/edits/ and crates/NAME/must-fail/. In a copy of the
 repository each crate is proved as it stands; then edits of different functions of a crate make up a batch, which is
@@ -27,6 +27,7 @@ from edit_runner.runner import Runner, good  # noqa: E402
 
 MEMORY_OF_A_CHECK = 3 << 30
 JOBS = "so many checks at a time, each of about 3 GB (else as many as processors and free memory allow)"
+APART = "neither start over what is kept in out/ of the crates nor leave anything there, where something else may be at work"
 PLAN = "list the batches and the edits that cannot be applied, and check nothing"
 UNCOVERED = """list the public functions of libraries that no edit changes, and check nothing. Programs are left out, and
 crates that no crate stands on. So are laws, which have neither parameter nor result, or an empty body: no edit can change
@@ -50,7 +51,7 @@ def main():
         for it in crates:
             it.keep_only(given.edits)
     crates = [it for it in crates if it.edits or it.misnamed]
-    return list_plan(crates) if given.plan else try_all(root, crates, given.jobs or jobs_that_fit())
+    return list_plan(crates) if given.plan else try_all(root, crates, given)
 
 
 def read_words():
@@ -58,6 +59,7 @@ def read_words():
     words.add_argument("--crates", nargs="+", metavar="NAME", help="only these crates")
     words.add_argument("--edits", nargs="+", metavar="NAME", help="only the edits of these names, without .edit")
     words.add_argument("--jobs", type=int, metavar="N", help=JOBS)
+    words.add_argument("--apart", action="store_true", help=APART)
     listing = words.add_mutually_exclusive_group()
     listing.add_argument("--plan", action="store_true", help=PLAN)
     listing.add_argument("--uncovered", action="store_true", help=UNCOVERED)
@@ -99,9 +101,9 @@ def list_plan(crates):
     return 1 if is_bad else 0
 
 
-def try_all(root, crates, jobs):
+def try_all(root, crates, given):
     signal.signal(signal.SIGTERM, lambda *_: sys.exit(1))
-    runner = Runner(root, crates, jobs)
+    runner = Runner(root, crates, given.jobs or jobs_that_fit(), given.apart)
     passed = failed = 0
     for crate in runner.run():
         for it in crate.edits:

@@ -3,9 +3,13 @@
 
     tools/gate.py [--keep-going]
 
-As a part ends, a line says how long it took. A part that fails stops the gate, unless --keep-going is given. The last
-line is 'N passed, M failed', the sum over all parts that ran; the status is 1 where anything failed."""
+As a part ends, a line says how long it took. A part that fails stops the gate, once what runs beside it has ended, unless
+--keep-going is given. The last line is 'N passed, M failed', the sum over all parts that ran; the status is 1 where anything failed.
 
+The proofs are a chain from crate to crate, which keeps some two processors busy. So with four or more the edits are tried
+beside them, each on half of the processors, and what the edits print comes behind what the proofs do."""
+
+import concurrent.futures
 import dataclasses
 import os
 import re
@@ -13,14 +17,18 @@ import subprocess
 import sys
 import time
 
-# The program that test-program calls is the one that prove has made.
-PARTS = [
-    ("demo", "the examples, by an unproved build"),
-    ("test-tools", "the tests of the runner of edits"),
-    ("prove", "every proof from nothing, the named wrong bodies, the tests under proof, the programs"),
-    ("test-program", "the program from outside"),
-    ("edits", "the edits that must fail"),
+# The program that test-program calls is the one that prove has made. Parts of one row can run beside each other.
+STAGES = [
+    [("demo", "the examples, by an unproved build")],
+    [("test-tools", "the tests of the runner of edits")],
+    [
+        ("prove", "every proof from nothing, the named wrong bodies, the tests under proof, the programs"),
+        ("edits", "the edits that must fail"),
+    ],
+    [("test-program", "the program from outside")],
 ]
+# So many processors are needed for parts beside each other.
+ENOUGH = 4
 COUNT = re.compile(r"(\d+) passed, (\d+) failed")
 
 
@@ -41,15 +49,15 @@ def minutes(seconds):
     return f"{seconds / 60:.1f} min"
 
 
-def run(name):
-    """Runs a part and lets its output through. One that gives no count, or fails and counts no failure, counts as one
+def run(name, show, settings=()):
+    """Runs a part and hands on its output line by line. One that gives no count, or fails and counts no failure, counts as one
     failed."""
     began, counted = time.time(), (0, 1)
-    how = {"stdout": subprocess.PIPE, "text": True, "errors": "replace"}
+    how = {"stdout": subprocess.PIPE, "stderr": subprocess.STDOUT, "text": True, "errors": "replace"}
     how["env"] = {**os.environ, "PYTHONUNBUFFERED": "1"}
-    part = subprocess.Popen(["make", "--no-print-directory", name], **how)
+    part = subprocess.Popen(["make", "--no-print-directory", name, *settings], **how)
     for line in part.stdout:
-        print(line, end="", flush=True)
+        show(line.rstrip("\n"))
         found = COUNT.fullmatch(line.rstrip("\n"))
         counted = (int(found[1]), int(found[2])) if found else counted
     _, ended, used = os.wait4(part.pid, 0)
@@ -60,23 +68,49 @@ def run(name):
     return Outcome(name, passed, failed, time.time() - began, used.ru_utime + used.ru_stime)
 
 
+def tell(line):
+    print(line, flush=True)
+
+
+def run_stage(parts):
+    """Runs the parts of a stage, and yields what each came to. The output of the first comes as it is written."""
+    processors = len(os.sched_getaffinity(0))
+    if len(parts) == 1 or processors < ENOUGH:
+        for name, what in parts:
+            tell(f"== {name}: {what}")
+            yield run(name, tell)
+        return
+    (first, what), others = parts[0], parts[1:]
+    settings = [f"JOBS={processors // len(parts)}", "APART=1"]
+    with concurrent.futures.ThreadPoolExecutor() as pool:
+        lines = {name: [] for name, _ in others}
+        beside = [pool.submit(run, name, lines[name].append, settings) for name, _ in others]
+        tell(f"== {first}: {what}; beside it {', '.join(name for name, _ in others)}")
+        yield run(first, tell, settings)
+        for (name, what), part in zip(others, beside):
+            outcome = part.result()
+            tell("\n".join([f"== {name}: {what}", *lines[name]]))
+            yield outcome
+
+
 def main(words):
     if words not in ([], ["--keep-going"]):
         raise SystemExit(__doc__)
     os.chdir(os.path.join(os.path.dirname(os.path.abspath(__file__)), ".."))
-    outcomes = []
-    for name, what in PARTS:
-        print(f"== {name}: {what}", flush=True)
-        outcomes.append(run(name))
-        print(f"== {outcomes[-1]}", flush=True)
-        if outcomes[-1].failed and not words:
+    outcomes, left, began = [], [name for stage in STAGES for name, _ in stage], time.time()
+    for stage in STAGES:
+        for outcome in run_stage(stage):
+            outcomes.append(outcome)
+            left.remove(outcome.name)
+            tell(f"== {outcome}")
+        if any(it.failed for it in outcomes) and not words:
             break
     print("== the gate")
     for it in outcomes:
         print(it)
-    for name, _ in PARTS[len(outcomes) :]:
+    for name in left:
         print(f"{name}: not run")
-    print(f"all: {minutes(sum(it.wall for it in outcomes))}, {minutes(sum(it.cpu for it in outcomes))} of processors")
+    print(f"all: {minutes(time.time() - began)}, {minutes(sum(it.cpu for it in outcomes))} of processors")
     failed = sum(it.failed for it in outcomes)
     print(f"{sum(it.passed for it in outcomes)} passed, {failed} failed")
     return 1 if failed else 0

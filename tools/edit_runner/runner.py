@@ -21,10 +21,11 @@ def tell(text):
 
 class Runner:
     """Has as many checks at a time as jobs. Each crate is proved as it stands in a copy of the repository, the base. A batch
-    is checked in a room, a copy for one crate, over the kept work of the base."""
+    is checked in a room, a copy for one crate, over the kept work of the base. One that is apart neither takes nor leaves kept
+    work of the repository."""
 
-    def __init__(self, root, crates, jobs):
-        self.root, self.crates, self.jobs = root, crates, jobs
+    def __init__(self, root, crates, jobs, is_apart=False):
+        self.root, self.crates, self.jobs, self.is_apart = root, crates, jobs, is_apart
         self.checks = checks.Checks()
         self.judgements = {}
         self.own_cpu = {}
@@ -38,9 +39,8 @@ class Runner:
         with tempfile.TemporaryDirectory(prefix="edits-") as self.folder:
             self.base = self.new_folder("base")
             copy_texts(self.root, self.base)
-            for name in {it for crate in self.crates for it in (crate.name, *crate.below)}:
-                for part in ("rlib", "incremental"):
-                    copy_if_there(f"{self.root}/crates/{name}/out/{part}", f"{self.base}/crates/{name}/out/{part}")
+            if not self.is_apart:
+                self.take_kept()
             with concurrent.futures.ThreadPoolExecutor(self.jobs) as pool:
                 try:
                     yield from self.run_in(pool)
@@ -50,6 +50,11 @@ class Runner:
                     raise
             for it in self.removals:
                 it.join()
+
+    def take_kept(self):
+        for name in {it for crate in self.crates for it in (crate.name, *crate.below)}:
+            for part in ("rlib", "incremental"):
+                copy_if_there(f"{self.root}/crates/{name}/out/{part}", f"{self.base}/crates/{name}/out/{part}")
 
     def run_in(self, pool):
         unproved, ready, running = collections.deque(self.crates), [], {}
@@ -94,10 +99,10 @@ class Runner:
             self.own_cpu[crate] += self.checks.call(folder, "lib").cpu
         how = "is proved" if is_proved else "IS NOT PROVED"
         tell(f"{crate.name}: the crate itself {how}, {answer.cpu:.0f} CPU s, {answer.wall:.0f} s")
-        if is_proved:
-            self.hand_over(crate)
-        else:
+        if not is_proved:
             tell("\n".join(answer.lines[-12:]))
+        elif not self.is_apart:
+            self.hand_over(crate)
         for it in good(crate):
             self.judgements[it] = batches.Judgement(False, "not tried: the crate itself is not proved")
         return is_proved
