@@ -11,4 +11,3 @@ pub mod NameLemmas
 pub mod OneAnswerLemmas
 pub mod OneOutcomeLemmas
 pub mod WordLemmas
-pub mod ListedNameLemmas

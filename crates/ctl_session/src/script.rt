@@ -9,12 +9,12 @@ ghost use Rattle.ctl_session.specs.LineReading.{is_failed_read};
 ghost use Rattle.ctl_session.specs.Reading.{HoldsBody, ReadsBody, ReadsHead, ReadsNext, StopsInBody, StopsReading};
 
 use crate::body_need::needs_body;
-use crate::cache::Cache;
 use crate::fault::ReadingFault;
 use crate::line_words::{has_body, is_dot, is_no_command};
 use crate::lines::Lines;
 use crate::read_ahead::LineRead;
 use crate::source::Source;
+use ctl_index::Cache;
 use ctl_stanza::MAX_LINE;
 use std::alloc::{AllocError, Global};
 
