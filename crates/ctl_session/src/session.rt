@@ -94,9 +94,9 @@ impl Session {
     ///
     /// # Errors
     ///
-    /// The first of these, and the cache stays: the name is none; the fault of the text, with its line; there is
-    /// a list of that name; there is a status list, and this would be another; the cache is full. Each may be
-    /// want of memory instead.
+    /// The first of these, and what the cache holds stays: the name is none; the fault of the text, with its line;
+    /// there is a list of that name; there is a status list, and this would be another; the cache is full. Each may
+    /// be want of memory instead.
     pub fn load(&mut self, name: &[u8], kind: ListKind, text: &[u8]) -> Result<(), LoadFault>
         ensures loaded { LoadCameTo result (cache_state self.new.cache) (loaded (cache_state self.old.cache) name.now kind text.now) }
         ensures err { OnErr result (cache_state self.new.cache ≡ cache_state self.old.cache) }
