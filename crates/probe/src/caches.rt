@@ -5,7 +5,7 @@ ghost use Rattle.std.specs.Prelude.{◌≡◌, false};
 use crate::edits::edit_named;
 use crate::hexadecimal::append_word;
 use crate::parts::append_version;
-use crate::state::append_key;
+use crate::state::{append_key, append_state};
 use crate::words::Words;
 use anyhow::{Result, bail};
 use ctl_index::{AtomKey, Cache, ClauseKey};
@@ -117,10 +117,9 @@ fn append_views(alloc: Global, cache: &Cache, line: &mut Vec<u8>) -> Result<(), 
     append_unmet(alloc, cache, line)
 }
 
-// The same where the tables are not stale, or could be made anew.
+// The same, where the tables are not stale or could be made anew; else `stale`.
 fn append_recovered(alloc: Global, cache: &mut Cache, line: &mut Vec<u8>) -> Result<(), AllocError> {
-    cache.recover()?;
-    if cache.is_stale() {
+    if cache.recover().is_err() || cache.is_stale() {
         return line.extend_from_slice(b"stale");
     }
     append_views(alloc, cache, line)
@@ -174,6 +173,7 @@ pub fn append_followed(
             line.extend_from_slice(b"new")?;
         }
         "views" => append_recovered(alloc, cache, line)?,
+        "dump" => append_state(alloc, cache.store(), &mut words, line)?,
         word => {
             let edit = edit_named(alloc, word, &mut words)?;
             append_outcome(alloc, cache, edit, line)?;

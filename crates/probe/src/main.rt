@@ -8,8 +8,9 @@
 //!   records with all their parts, or by its fault. With one of these words as second argument the whole of standard input is
 //!   one such text, and how many stanzas or records it has is printed instead.
 //! - `index`: the same edits of a kept cache; each is answered by `ok`, or `refused` and the number of the refusal, and then the
-//!   count of tests. `limits` begins with a new cache, and `views` is answered by all that the tables tell, which are made anew
-//!   before that where they are stale. With a second argument `measure` each edit is answered by how long it took too.
+//!   count of tests. `limits` begins with a new cache, `views` is answered by all that the tables tell, which are made anew
+//!   before that where they are stale, and `dump` as of a store. With a second argument `measure` each edit is answered by what
+//!   came of it, the count of tests and how long it took.
 //! - `store`: an edit, by its name and its parts with tabs between them, in which bytes stand as hexadecimal digits; it is
 //!   answered by `ok`, the keys that went and came and the text of the first stanza that came, or by `foretold` and the number
 //!   of the refusal that is foretold, and `refused` and the number of that which comes. `limits`, with how many stanzas and

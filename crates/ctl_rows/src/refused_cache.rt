@@ -1,0 +1,1 @@
+//! Each form of edit of a cache in turn.
