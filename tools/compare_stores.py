@@ -24,6 +24,7 @@ SEED = 20250311
 # How many edits of a long sequence there are between two looks at the state.
 LONG_EDITS = 100
 
+
 def state_words(oracle, state, keys, limits):
     """A state as the probe prints it."""
     words = "state"

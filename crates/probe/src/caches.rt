@@ -159,6 +159,16 @@ pub fn make(cache: &mut Cache, edit: Edit) -> Result<()> {
     }
 }
 
+// The count of tests, and whether the tables are stale.
+fn append_steps(alloc: Global, cache: &Cache, line: &mut Vec<u8>) -> Result<(), AllocError> {
+    let told = format!(in alloc; "steps {}", cache.steps())?;
+    line.extend_from_slice(told.as_bytes())?;
+    if cache.is_stale() {
+        line.extend_from_slice(b" stale")?;
+    }
+    Ok(())
+}
+
 /// Begins with a new cache, changes it by a line, or shows what it tells.
 pub fn append_followed(
     alloc: Global,
@@ -173,6 +183,7 @@ pub fn append_followed(
             line.extend_from_slice(b"new")?;
         }
         "views" => append_recovered(alloc, cache, line)?,
+        "steps" => append_steps(alloc, cache, line)?,
         "dump" => append_state(alloc, cache.store(), &mut words, line)?,
         word => {
             let edit = edit_named(alloc, word, &mut words)?;

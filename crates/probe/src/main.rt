@@ -1,5 +1,5 @@
 //! Shows what the lower crates make of the lines of standard input, for comparisons and measurements. Each line is answered
-//! by one line. Its first argument says what the lines are, and so does a line that is such a word alone, for those behind it:
+//! at once by one line. Its first argument says what the lines are, and so does a line that is such a word alone, for those behind it:
 //!
 //! - `relation`: a relation field, which is its name, a tab, and its body in hexadecimal digits; it is answered by its groups in
 //!   their printed form, or by its fault. With a second argument `measure`, how much time the reading of all of them takes
@@ -8,9 +8,9 @@
 //!   records with all their parts, or by its fault. With one of these words as second argument the whole of standard input is
 //!   one such text, and how many stanzas or records it has is printed instead.
 //! - `index`: the same edits of a kept cache; each is answered by `ok`, or `refused` and the number of the refusal, and then the
-//!   count of tests. `limits` begins with a new cache, `views` is answered by all that the tables tell, which are made anew
-//!   before that where they are stale, and `dump` as of a store. With a second argument `measure` each edit is answered by what
-//!   came of it, the count of tests and how long it took.
+//!   count of tests. `limits` begins with a new cache; `views` is answered by all that the tables tell, which are made anew
+//!   before that where they are stale; `steps` by the count of tests and whether the tables are stale; and `dump` as of a store.
+//!   With a second argument `measure` each edit is answered by what came of it, the count of tests and how long it took.
 //! - `store`: an edit, by its name and its parts with tabs between them, in which bytes stand as hexadecimal digits; it is
 //!   answered by `ok`, the keys that went and came and the text of the first stanza that came, or by `foretold` and the number
 //!   of the refusal that is foretold, and `refused` and the number of that which comes. `limits`, with how many stanzas and
@@ -40,7 +40,7 @@ use ctl_store::Store;
 use edits::main_list;
 use relations::{Field, append_field, field_of};
 use std::alloc::Global;
-use std::io::{BufRead, BufReader, BufWriter, Read, Write};
+use std::io::{BufRead, BufReader, Read, Write};
 use std::{env, io};
 use stores::append_change;
 use texts::{TextKind, append_count, append_text, list_kind_named, text_kind_named};
@@ -131,20 +131,18 @@ fn append_answer(
 fn answer_lines(rt: &HostRuntime, kept: &mut Kept, first: Subject) -> Result<()> {
     let alloc = rt.alloc();
     let mut subject = first;
-    let mut answer = Vec::new(alloc);
-    let mut out = BufWriter::new(alloc, io::writer(rt))?;
+    let mut out = io::writer(rt);
     for line in BufReader::new(alloc, rt.reader())?.lines(alloc) {
         let line = line?;
         match subject_named(line.as_str()) {
             Some(named) => subject = named,
             None => {
-                answer.clear();
+                let mut answer = Vec::new(alloc);
                 append_answer(alloc, kept, subject, line.as_str(), &mut answer)?;
                 out.write_all(&answer)?;
             }
         }
     }
-    out.flush()?;
     Ok(())
 }
 
