@@ -20,7 +20,7 @@ import os
 import sys
 import tempfile
 
-from refuse_allocations import HERE, library, run
+from refuse_allocations import HERE, library, lines_of, run
 
 PROBE = os.path.join(HERE, "../crates/probe/out/probe")
 LINES = os.path.join(HERE, "../crates/probe/stdin")
@@ -34,8 +34,7 @@ STALE = b"stale"
 
 def edits_of(lines):
     """The edits behind the word `index`, with the lines that begin with a new cache."""
-    behind = lines[lines.index(b"index") + 1:] if b"index" in lines else lines
-    return [line for line in behind if line.split(b"\t")[0] in FORMS | {b"limits"}]
+    return [line for line in lines_of(lines, b"index") if line.split(b"\t")[0] in FORMS | {b"limits"}]
 
 
 def text_of(edits):
