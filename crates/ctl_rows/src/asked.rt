@@ -1,8 +1,8 @@
 //! Edits that tests ask for, by the texts of their parts.
 
 use crate::made::{
-    add_list_named, add_status, drop_list_named, mark, mark_none, pin, prefs, put_into, remove, target,
-    target_none, unmark, unpin,
+    add_list_named, add_status, drop_list_named, mark, mark_none, pin, prefs, put_into, remove,
+    target, target_none, unmark, unpin,
 };
 use ctl_store::Edit;
 use std::alloc::Global;

@@ -101,11 +101,7 @@ fn append_made(
     append_count(alloc, before, cache.steps(), all)
 }
 
-fn append_recovered(
-    alloc: Global,
-    cache: &mut Cache,
-    all: &mut Vec<u8>,
-) -> Result<(), AllocError> {
+fn append_recovered(alloc: Global, cache: &mut Cache, all: &mut Vec<u8>) -> Result<(), AllocError> {
     let before = cache.steps();
     cache.recover()?;
     append_count(alloc, before, cache.steps(), all)
@@ -241,10 +237,7 @@ fn limits_are_those_of_the_store(rt: HostRuntime) -> Result<(), Fail> {
         edits: 5,
     };
     let acts = [
-        Act::Make(Asked::AddList(
-            "m",
-            "Package: a\nVersion: 1\n\nPackage: b\nVersion: 1\n",
-        )),
+        Act::Make(Asked::AddList("m", "Package: a\nVersion: 1\n\nPackage: b\nVersion: 1\n")),
         Act::Make(Asked::Put("Package: b\nVersion: 1-0\n")),
         Act::Make(Asked::Put("Package: c\nVersion: 1\nDepends: a\n")),
         Act::Numbers,
@@ -300,9 +293,7 @@ fn an_edit_takes_its_own_tests(rt: HostRuntime) -> Result<(), Fail> {
             &[
                 Act::Make(Asked::AddList("m", BOUND)),
                 Act::Counters,
-                Act::Make(Asked::Put(
-                    "Package: p\nVersion: 7\nProvides: baz (= 1)\n",
-                )),
+                Act::Make(Asked::Put("Package: p\nVersion: 7\nProvides: baz (= 1)\n")),
                 Act::Counters,
                 Act::Unmet,
             ],
@@ -359,9 +350,7 @@ fn other_edits_take_no_tests(rt: HostRuntime) -> Result<(), Fail> {
                 Act::Make(Asked::Unpin("s", "1.*")),
                 Act::Make(Asked::Target("m")),
                 Act::Make(Asked::TargetNone),
-                Act::Make(Asked::Prefs(
-                    "Package: s\nPin: version 1\nPin-Priority: 5\n",
-                )),
+                Act::Make(Asked::Prefs("Package: s\nPin: version 1\nPin-Priority: 5\n")),
                 Act::Counters,
                 Act::Steps,
             ],

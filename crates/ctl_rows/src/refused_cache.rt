@@ -27,8 +27,7 @@ const LAST: &str =
     "Package: s\nVersion: 1\nDepends: x\nProvides: x, x\n\nPackage: t\nVersion: 1\nDepends: x\n";
 
 /// What the cache then tells.
-const LEFT: &[u8] =
-    b"s:1.0 s 1;\nt:1.1 t 1;\nx:1.0 x -;1.0 x -;1.0 Depends 0 0;1.1 Depends 0 0;\n\
+const LEFT: &[u8] = b"s:1.0 s 1;\nt:1.1 t 1;\nx:1.0 x -;1.0 x -;1.0 Depends 0 0;1.1 Depends 0 0;\n\
       1.0 Depends 0: 2;1.1 Depends 0: 2;\n\n";
 
 /// The edit of a number, each form among them.
@@ -47,9 +46,7 @@ fn asked(number: u8) -> Option<Asked<'static>> {
         8 => Some(Asked::Unpin("a", "1.*")),
         9 => Some(Asked::TargetNone),
         10 => Some(Asked::Target("m")),
-        11 => Some(Asked::Prefs(
-            "Package: c\nPin: version 3\nPin-Priority: -1\n",
-        )),
+        11 => Some(Asked::Prefs("Package: c\nPin: version 3\nPin-Priority: -1\n")),
         12 => Some(Asked::DropList),
         13 => Some(Asked::AddList("m", LAST)),
         _ => None,

@@ -118,7 +118,11 @@ fn append_views(alloc: Global, cache: &Cache, line: &mut Vec<u8>) -> Result<(), 
 }
 
 // The same, where the tables are not stale or could be made anew; else `stale`.
-fn append_recovered(alloc: Global, cache: &mut Cache, line: &mut Vec<u8>) -> Result<(), AllocError> {
+fn append_recovered(
+    alloc: Global,
+    cache: &mut Cache,
+    line: &mut Vec<u8>,
+) -> Result<(), AllocError> {
     if cache.recover().is_err() || cache.is_stale() {
         return line.extend_from_slice(b"stale");
     }

@@ -197,7 +197,11 @@ fn follow_list(rt: &HostRuntime, kind: ListKind) -> Result<()> {
     let text = read_all(rt)?;
     let mut cache = Cache::new(alloc);
     caches::make(&mut cache, main_list(alloc, &text, kind)?)?;
-    println!(rt; "stanzas {} tests {}", cache.store().counts().stanzas, cache.steps())?;
+    println!(rt;
+        "stanzas {} tests {}",
+        cache.store().counts().stanzas,
+        cache.steps()
+    )?;
     Ok(())
 }
 
