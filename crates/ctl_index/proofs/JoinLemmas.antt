@@ -9,15 +9,16 @@ use Rattle.ctl_relation.specs.Met.{met, met_count, met_pairs}
 use Rattle.ctl_stanza.specs.Content.{Content, offers_of}
 use Rattle.ctl_store.specs.declared.stanza_key.StanzaKey.{StanzaKey}
 use Rattle.ctl_store.specs.Entries.{Entry, entries_by}
+use Rattle.ctl_store.specs.Followed.{under, AreApart}
 use Rattle.ctl_index.specs.declared.keys.AtomKey.{AtomKey}
 use Rattle.ctl_index.specs.declared.keys.ClauseKey.{ClauseKey}
 use Rattle.ctl_index.specs.declared.tables.Tables.{Tables}
-use Rattle.ctl_index.specs.Clauses.{clause_atoms, under, clause_cmp, clause_of, clause_at, number_at}
+use Rattle.ctl_index.specs.Clauses.{clause_atoms, clause_cmp, clause_of, clause_at, number_at}
 use Rattle.ctl_index.specs.Names.{keyed_atoms}
 use Rattle.ctl_index.specs.Offers.{offers_among, contents}
 use Rattle.ctl_index.specs.TablesByName.{offers_under, namers_under}
 use Rattle.ctl_index.specs.TablesIndexed.{atom_named, IsIndexed, IsPutIn, IsTakenOut, offers_put, namers_taken, tests_put_in, tests_taken_out}
-use Rattle.ctl_index.specs.TablesParts.{AreApart, IsJoined}
+use Rattle.ctl_index.specs.TablesParts.{IsJoined}
 use Rattle.ctl_index.specs.TablesSight.{Seen, seen, hit, AreSeen}
 use Rattle.ctl_index.specs.TablesOrder.{is_within}
 use Rattle.ctl_index.specs.TablesSteps.{group_met, span_of, with_each, raise_step, lower_step, enter_step, drop_step}

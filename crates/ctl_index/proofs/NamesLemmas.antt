@@ -31,7 +31,7 @@ use Rattle.ctl_index.proofs.SumLemmas.{sum-cong, sum-plus, sum-flat_map, sum-map
 -- ---- a test that passes somewhere
 
 -- some element passes, where those that pass are counted
-any-counted : {X : Type 0} (p : X → Bool) (xs : List X) → list_any p xs ≡ not (nat_eq (sum_by (λ x. cond (p x) 1 0) xs) 0)
+pub any-counted : {X : Type 0} (p : X → Bool) (xs : List X) → list_any p xs ≡ not (nat_eq (sum_by (λ x. cond (p x) 1 0) xs) 0)
 any-counted p [] = refl
 any-counted p (x ∷ xs) = by (p x) (any-counted p xs) ∙ ap (λ n. not (nat_eq n 0)) (sym (sum_by-cons (λ y. cond (p y) 1 0) x xs))
   where

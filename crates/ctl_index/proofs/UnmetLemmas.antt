@@ -19,9 +19,9 @@ use Rattle.ctl_stanza.specs.Content.{Content, groups_of}
 use Rattle.ctl_store.specs.declared.stanza_key.StanzaKey.{StanzaKey}
 use Rattle.ctl_store.specs.Keys.{key_cmp, key_is, AreRising}
 use Rattle.ctl_store.specs.Entries.{Entry, entry_keys}
+use Rattle.ctl_store.specs.Followed.{under, AreApart}
 use Rattle.ctl_index.specs.declared.keys.ClauseKey.{ClauseKey}
-use Rattle.ctl_index.specs.Clauses.{clause_fields, is_clause_field, clause_cmp, under, clause_of, clause_at, number_at, is_unmet, group_keys, clauses_of, clauses, unmet_clauses}
-use Rattle.ctl_index.specs.TablesParts.{AreApart}
+use Rattle.ctl_index.specs.Clauses.{clause_fields, is_clause_field, clause_cmp, clause_of, clause_at, number_at, is_unmet, group_keys, clauses_of, clauses, unmet_clauses}
 use Rattle.ctl_index.proofs.ClauseLemmas.{tie_is, same_stanza, same_field, at_from, at_from-start}
 use Rattle.ctl_index.proofs.CounterLemmas.{clauses_total, exact_clauses, same_clause}
 use Rattle.ctl_index.proofs.SeenLemmas.{key_is-same, none_under}

@@ -1,7 +1,7 @@
--- Clauses, and how many pairs meet them (Debian Policy 7.1, 7.2, 7.5).
+-- Clauses: the groups of the four fields that ask for packages, each a list of alternatives (Debian Policy 7.1, 7.2). A clause is met
+-- by what packages are and what they provide (7.5).
 use Rattle.std.specs.Prelude.{ℕ, suc, Bool, true, false, List, [], ◌∷◌, ◌++◌, map, flat_map, filter, slice_get, nat_eq, Option, None, if◌then◌else◌}
 use Rattle.std.specs.Option.{option_map, option_map_or, option_and_then}
-use Rattle.std.specs.Map.{lookup}
 use Rattle.std.specs.Ordering.{nat_cmp, ordering_then}
 use Rattle.std.specs.declared.cmp.Ordering.{Ordering}
 use Rattle.ctl_relation.specs.declared.field_kind.FieldKind.{FieldKind}
@@ -11,8 +11,9 @@ use Rattle.ctl_relation.specs.Parts.{AtomParts}
 use Rattle.ctl_relation.specs.Met.{met_pairs}
 use Rattle.ctl_stanza.specs.Content.{Content, groups_of}
 use Rattle.ctl_store.specs.declared.stanza_key.StanzaKey.{StanzaKey}
-use Rattle.ctl_store.specs.Keys.{key_cmp, key_is}
+use Rattle.ctl_store.specs.Keys.{key_cmp}
 use Rattle.ctl_store.specs.Entries.{Entry}
+use Rattle.ctl_store.specs.Followed.{under}
 use Rattle.ctl_index.specs.declared.keys.ClauseKey.{ClauseKey}
 use Rattle.ctl_index.specs.Offers.{contents, offers_among}
 
@@ -41,10 +42,6 @@ clause_atoms stanza = flat_map (λ field. flat_map (λ group. group) (groups_of 
 -- by stanza, then by field, then by the place of the group in it
 abbrev pub clause_cmp : ClauseKey → ClauseKey → Ordering
 clause_cmp a b = ordering_then (key_cmp a.stanza b.stanza) (ordering_then (nat_cmp (field_place a.field) (field_place b.field)) (nat_cmp a.group b.group))
-
--- the stanza under a key
-abbrev pub under : StanzaKey → List Entry → Option Content
-under key es = lookup (key_is key) es
 
 -- the group of a stanza that a clause's key names
 abbrev pub clause_of : ClauseKey → Content → Option (List AtomParts)

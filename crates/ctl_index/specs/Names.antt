@@ -1,13 +1,14 @@
--- Who names what, and which names are known (Debian Policy 7.1, 7.2, 7.5).
-use Rattle.std.specs.Prelude.{ℕ, suc, List, [], ◌∷◌, ◌++◌, map, filter, flat_map}
+-- Who names what, and which names are known: what is offered (Debian Policy 7.5), and what a relation field names (7.1).
+use Rattle.std.specs.Prelude.{ℕ, suc, Bool, ◌&&◌, List, [], ◌∷◌, ◌++◌, map, filter, flat_map}
 use Rattle.std.specs.BTreeSet.{insert_key}
 use Rattle.std.specs.Cmp.Lexicographic.{slice_cmp}
 use Rattle.std.specs.Ordering.{nat_cmp}
+use Rattle.std.specs.List.{list_any}
 use Rattle.std.specs.Str.{bytes_eq}
 use Rattle.ctl_relation.specs.declared.field_kind.FieldKind.{FieldKind}
 use Rattle.ctl_relation.specs.declared.field_kind.FieldKind.TheVariants.{PreDepends, Depends, Conflicts, Breaks, Recommends, Suggests, Replaces, Enhances}
 use Rattle.ctl_relation.specs.Parts.{AtomParts, OfferParts}
-use Rattle.ctl_stanza.specs.Content.{Content, groups_of, offers_of}
+use Rattle.ctl_stanza.specs.Content.{Content, package_of, is_live, groups_of, offers_of}
 use Rattle.ctl_store.specs.declared.stanza_key.StanzaKey.{StanzaKey}
 use Rattle.ctl_store.specs.Entries.{Entry}
 use Rattle.ctl_index.specs.declared.keys.AtomKey.{AtomKey}
@@ -32,6 +33,10 @@ names_of stanza = map (λ (offer : OfferParts). offer.name) (offers_of stanza) +
 -- A name is known that is offered, or is the name of an atom of one of the eight fields. What has a row is offered.
 unfoldable pub known_names : List Content → List (List ℕ)
 known_names stanzas = in_order (flat_map names_of stanzas)
+
+-- whether a live stanza is of the package of a name
+abbrev pub is_package : List Content → List ℕ → Bool
+is_package stanzas name = list_any (λ stanza. is_live stanza && bytes_eq name (package_of stanza)) stanzas
 
 -- ---- under their keys
 

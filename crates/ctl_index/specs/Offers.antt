@@ -1,4 +1,4 @@
--- What stanzas offer (Debian Policy 7.5).
+-- What stanzas offer: a package its own name, and those of its Provides (Debian Policy 7.5).
 use Rattle.std.specs.Prelude.{ℕ, suc, List, [], ◌∷◌, map, filter, flat_map}
 use Rattle.std.specs.Str.{bytes_eq}
 use Rattle.ctl_relation.specs.Parts.{OfferParts}

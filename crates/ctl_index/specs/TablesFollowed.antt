@@ -5,9 +5,10 @@ use Rattle.ctl_store.specs.Edits.{Edit}
 use Rattle.ctl_store.specs.Keys.{keyed_after}
 use Rattle.ctl_store.specs.Entries.{Entry, entries_of, entries_by, without_keys}
 use Rattle.ctl_store.specs.Held.{Held, Planned, keyed_of}
+use Rattle.ctl_store.specs.Followed.{AreApart}
 use Rattle.ctl_index.specs.Held.{standing}
 use Rattle.ctl_index.specs.Offers.{contents}
-use Rattle.ctl_index.specs.TablesParts.{AreApart, IsJoined}
+use Rattle.ctl_index.specs.TablesParts.{IsJoined}
 use Rattle.ctl_index.specs.TablesSight.{seen, AreSeen, in_store, with_plan}
 use Rattle.ctl_index.specs.TablesOrder.{is_within}
 use Rattle.ctl_index.specs.TablesSteps.{span_of}

@@ -6,12 +6,7 @@ use Rattle.ctl_stanza.specs.Content.{Content}
 use Rattle.ctl_store.specs.declared.stanza_key.StanzaKey.{StanzaKey}
 use Rattle.ctl_store.specs.Keys.{key_is}
 use Rattle.ctl_store.specs.Entries.{Entry}
-use Rattle.ctl_index.specs.Clauses.{under}
-
--- no key stands twice
-abbrev pub AreApart : List Entry → Type 0
-AreApart [] = Unit {0}
-AreApart (e ∷ es) = AllByRecursion (λ (d : Entry). key_is e.0 d.0 ≡ false) es × AreApart es
+use Rattle.ctl_store.specs.Followed.{under}
 
 -- Stanzas are those of two parts, in any order: each sum over them is that over both parts, and what stands under a key stands in
 -- one of them.

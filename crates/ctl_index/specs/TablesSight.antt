@@ -8,9 +8,9 @@ use Rattle.ctl_relation.specs.Parts.{AtomParts, OfferParts}
 use Rattle.ctl_relation.specs.Met.{met}
 use Rattle.ctl_stanza.specs.Content.{Content, groups_of, offers_of}
 use Rattle.ctl_store.specs.declared.stanza_key.StanzaKey.{StanzaKey}
-use Rattle.ctl_store.specs.Edits.{Edit, Put}
-use Rattle.ctl_store.specs.Keys.{coming, stanza_at}
+use Rattle.ctl_store.specs.Keys.{stanza_at}
 use Rattle.ctl_store.specs.Entries.{Entry}
+use Rattle.ctl_store.specs.Followed.{coming_under}
 use Rattle.ctl_store.specs.Held.{Held, Planned, keyed_of}
 use Rattle.ctl_index.specs.declared.keys.ClauseKey.{ClauseKey}
 use Rattle.ctl_index.specs.declared.keys.AtomKey.{AtomKey}
@@ -22,17 +22,8 @@ pub record Seen : Type 0 where
   pub store : Held
   pub plan : Option Planned
 
--- the stanza that comes under a key of a list in which the first that comes has this key
-abbrev pub coming_in : Edit → StanzaKey → StanzaKey → Option Content
-coming_in (Put list x) first k = if nat_eq first.stanza k.stanza then Some x else None
-coming_in edit first k = coming edit k
-
-abbrev pub coming_among : Edit → List StanzaKey → StanzaKey → Option Content
-coming_among edit [] k = None
-coming_among edit (first ∷ others) k = if nat_eq first.list k.list then coming_in edit first k else None
-
 abbrev pub seen : Seen → StanzaKey → Option Content
-seen s k = option_or (option_and_then (λ (plan : Planned). coming_among plan.edit plan.added k) s.plan) (stanza_at k (keyed_of s.store).lists)
+seen s k = option_or (option_and_then (λ (plan : Planned). coming_under plan.added plan.edit k) s.plan) (stanza_at k (keyed_of s.store).lists)
 
 abbrev pub offer_seen : Seen → OfferKey → Option OfferParts
 offer_seen s k = option_and_then (λ x. slice_get (offers_of x) k.place) (seen s k.stanza)

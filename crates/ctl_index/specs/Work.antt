@@ -1,4 +1,4 @@
--- How many pairs go and come with an edit.
+-- The work of an edit: how many pairs of an atom of a clause and an offer of its name go and come with it.
 use Rattle.std.specs.Prelude.{ℕ, ◌+◌, ◌-◌, ◌^◌, min, List, flat_map}
 use Rattle.std.specs.List.{count_by, sum_by}
 use Rattle.std.specs.Str.{bytes_eq}

@@ -1,9 +1,9 @@
 //! The table of names: who offers each name, and the atoms that name it.
 
-ghost use Rattle.std.specs.Prelude.{◌≡◌, ◌≤◌, ◌<◌, ◌^◌, ◌∷◌, ◌++◌, ◌+◌, ◌-◌, ℕ, [], List, OnOk, OnErr, IfOk, option_map, true, if◌then◌else◌};
+ghost use Rattle.std.specs.Prelude.{◌≡◌, ◌≤◌, ◌<◌, ◌^◌, ◌∷◌, ◌++◌, ◌+◌, ◌-◌, ℕ, [], List, OnOk, OnErr, IfOk, option_map, filter, ◌&&◌, true, if◌then◌else◌};
 ghost use Rattle.std.specs.BTreeMap.{get, keys, IsEmpty, IsOrdered};
 ghost use Rattle.std.specs.Cmp.Lexicographic.{slice_cmp};
-ghost use Rattle.std.specs.Ordering.{nat_cmp};
+ghost use Rattle.std.specs.Ordering.{nat_cmp, is_le};
 ghost use Rattle.std.specs.List.{sum_by};
 ghost use Rattle.std.specs.Str.{bytes_eq};
 ghost use Rattle.ctl_index.specs.Clauses.{clause_cmp};
@@ -49,6 +49,14 @@ impl NameTable {
         ensures used { AreUsed self.now.map }
     {
         self.map.keys()
+    }
+
+    /// The names from this one on, in the order of their bytes, with what stands under them.
+    pub(crate) fn range_from(&self, first: &Vec<u8>) -> btree_map::Range<'_, Vec<u8>, Named>
+        ensures entries { result ≡ filter (λ entry. is_le (slice_cmp nat_cmp first.now.items entry.0.items) && true) self.now.map.entries }
+        ensures ordered { IsOrdered (λ one other. slice_cmp nat_cmp one.items other.items) self.now.map }
+    {
+        self.map.range(first..)
     }
 
     /// The offers of a name.
