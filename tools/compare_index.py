@@ -6,7 +6,8 @@
 FOLDER holds the reference program `oracle.py`, which says what an edit makes of a state, how many tests of an offer against an
 atom it takes (`pairs`), and which names are known, offers stand and atoms are met in a state. The edits are generated:
 sequences of them over few names, which depend on each other in all fields, with small limits at times. After each edit the
-names, the offers and the namers of each name, the numbers of all clauses, those at 0 and the count of tests are compared.
+names, the offers and the namers of each name, the numbers of all clauses, those at 0, the names of packages with some prefix and the
+count of tests are compared.
 Each twentieth sequence puts and removes stanzas of one list beside one that stays, of which the first grows to hundreds and
 shrinks; there the count of tests is compared after each edit, and the rest now and then. `rt run` in crates/probe builds the
 program that is compared.
@@ -148,8 +149,14 @@ class Followed:
         self.state = after
         return f"ok {self.tests}"
 
-    def tables(self):
-        return tables_words(self.oracle, self.state, self.keys)
+    def looks(self, source):
+        """What is asked behind an edit, each with its answer."""
+        prefix = source.choice([b"", b"", b"a", b"ab", b"p1", b"v"])
+        packages = [name for name in self.oracle.View(self.state).packages() if name.startswith(prefix)]
+        return [
+            ("views", tables_words(self.oracle, self.state, self.keys)),
+            (f"packages\t{prefix.hex()}", " ".join(["packages"] + [name.hex() for name in packages])),
+        ]
 
 
 def generate_sequence(source, oracle):
@@ -158,11 +165,11 @@ def generate_sequence(source, oracle):
     stanzas = source.randrange(12) if small else 4_294_967_295
     edits = source.choice([source.randrange(30), 4_294_967_295]) if small else 4_294_967_295
     followed = Followed(oracle, oracle.Limits(stanzas, edits))
-    told = [(f"limits\t{stanzas}\t{edits}", "new"), ("views", followed.tables())]
+    told = [(f"limits\t{stanzas}\t{edits}", "new"), *followed.looks(source)]
     for _ in range(source.randrange(5, 50)):
         edit, words = generate_edit(source, oracle, followed.state, related_stanza)
         told.append(("\t".join(words), followed.outcome(edit)))
-        told.append(("views", followed.tables()))
+        told += followed.looks(source)
     return told
 
 
@@ -182,17 +189,17 @@ def generate_long_sequence(source, oracle):
         for _ in range(LONG_EDITS):
             edit, words = edits.pop(0) if edits else generate_change(source, oracle, followed.state, names, growth, named_related_stanza)
             told.append(("\t".join(words), followed.outcome(edit)))
-        told.append(("views", followed.tables()))
+        told += followed.looks(source)
     for entry in followed.state.lists:
         told.append((f"drop-list\t{entry.name.hex()}", followed.outcome(("drop-list", entry.name))))
-        told.append(("views", followed.tables()))
+        told += followed.looks(source)
     return told
 
 
 def outcome_of(line, wanted):
     """The name of an edit, with the number of its refusal or `ok`."""
     word = line.split("\t")[0]
-    if word in ("limits", "views"):
+    if word in ("limits", "views", "packages"):
         return None
     return word, wanted.split(" ")[1] if wanted.startswith("refused") else "ok"
 

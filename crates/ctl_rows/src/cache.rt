@@ -6,8 +6,8 @@ ghost use Rattle.std.specs.Prelude.{◌≡◌, false};
 
 use crate::asked::{Asked, edit_asked};
 use crate::cache_shown::{
-    append_counters, append_namers, append_names, append_offers, append_satisfiers, append_unmet,
-    tables,
+    append_counters, append_namers, append_names, append_offers, append_packages,
+    append_satisfiers, append_unmet, tables,
 };
 use crate::made::given;
 use crate::tables::same;
@@ -57,6 +57,8 @@ enum Act<'a> {
     Recover,
     /// Shows the names that are known.
     Names,
+    /// Shows the names of packages that begin with a prefix.
+    Packages(&'a [u8]),
     /// Shows the offers of a name.
     Offers(&'a [u8]),
     /// Shows the atoms that name a name.
@@ -140,6 +142,7 @@ fn append_view(
 {
     match act {
         Act::Names => append_names(cache, all),
+        Act::Packages(prefix) => append_packages(cache, prefix, all),
         Act::Offers(name) => append_offers(alloc, cache, name, all),
         Act::Namers(name) => append_namers(alloc, cache, name, all),
         Act::Satisfiers(clause) => append_satisfiers(alloc, cache, clause, all),
@@ -428,6 +431,47 @@ fn names_are_known_by_offers_and_by_atoms(rt: HostRuntime) -> Result<(), Fail> {
                 Act::Namers(b"gone"),
             ],
             b"+0| foo old|0.1 Depends 0: 0;|||",
+        ),
+    ];
+    each_comes_to(&rt, &rows)
+}
+
+#[test]
+fn packages_begin_with_a_prefix(rt: HostRuntime) -> Result<(), Fail> {
+    let rows: [(&[u8], &[Act<'_>], &[u8]); 3] = [
+        (
+            b"names that are offered or named alone are none",
+            &[
+                Act::Make(Asked::AddList("m", HALF)),
+                Act::Packages(b""),
+                Act::Packages(b"b"),
+                Act::Packages(b"q"),
+                Act::Make(Asked::Remove("bar", "2.0")),
+                Act::Packages(b""),
+            ],
+            b"+1| bar foo| bar||+1| foo|",
+        ),
+        (
+            b"names between which others stand, in the order of bytes",
+            &[
+                Act::Make(Asked::AddList(
+                    "m",
+                    "Package: ab\nVersion: 1\nDepends: aa, abb\n\nPackage: abc\nVersion: 1\n\n\
+                     Package: ac\nVersion: 1\n\nPackage: ab+\nVersion: 1\nProvides: abd\n\n\
+                     Package: ab\nVersion: 2\n",
+                )),
+                Act::Packages(b""),
+                Act::Packages(b"ab"),
+                Act::Packages(b"abc"),
+                Act::Packages(b"abcd"),
+                Act::Packages(b"b"),
+            ],
+            b"+0| ab ab+ abc ac| ab ab+ abc| abc|||",
+        ),
+        (
+            b"a stanza that isn't live",
+            &[Act::Make(Asked::AddStatus(STATUS)), Act::Packages(b"")],
+            b"+0| foo|",
         ),
     ];
     each_comes_to(&rt, &rows)

@@ -44,6 +44,17 @@ pub fn append_names(cache: &Cache, all: &mut Vec<u8>) -> Result<(), AllocError>
     Ok(())
 }
 
+/// The names of packages that begin with a prefix, each behind a space.
+pub fn append_packages(cache: &Cache, prefix: &[u8], all: &mut Vec<u8>) -> Result<(), AllocError>
+    requires { cache.now.stale ≡ false }
+{
+    for name in cache.package_names(prefix)? {
+        all.push(b' ')?;
+        all.extend_from_slice(name)?;
+    }
+    Ok(())
+}
+
 fn version_words(version: Option<&Version>) -> &[u8] {
     match version {
         Some(version) => version.text(),

@@ -106,6 +106,22 @@ fn append_unmet(alloc: Global, cache: &Cache, line: &mut Vec<u8>) -> Result<(), 
     Ok(())
 }
 
+// The names of packages that begin with a prefix.
+fn append_packages(
+    alloc: Global,
+    cache: &Cache,
+    prefix: &[u8],
+    line: &mut Vec<u8>,
+) -> Result<(), AllocError>
+    requires { cache.now.stale ≡ false }
+{
+    line.extend_from_slice(b"packages")?;
+    for name in cache.package_names(prefix)? {
+        append_word(alloc, b" ", name, line)?;
+    }
+    Ok(())
+}
+
 // All that the tables tell.
 fn append_views(alloc: Global, cache: &Cache, line: &mut Vec<u8>) -> Result<(), AllocError>
     requires { cache.now.stale ≡ false }
@@ -127,6 +143,21 @@ fn append_recovered(
         return line.extend_from_slice(b"stale");
     }
     append_views(alloc, cache, line)
+}
+
+fn append_packages_of_word(
+    alloc: Global,
+    cache: &Cache,
+    words: &mut Words<'_>,
+    line: &mut Vec<u8>,
+) -> Result<()> {
+    let prefix = words.bytes()?;
+    if cache.is_stale() {
+        line.extend_from_slice(b"stale")?;
+    } else {
+        append_packages(alloc, cache, prefix.as_slice(), line)?;
+    }
+    Ok(())
 }
 
 /// Makes an edit. A stale cache refuses it as it does where there is no memory.
@@ -187,6 +218,7 @@ pub fn append_followed(
             line.extend_from_slice(b"new")?;
         }
         "views" => append_recovered(alloc, cache, line)?,
+        "packages" => append_packages_of_word(alloc, cache, &mut words, line)?,
         "steps" => append_steps(alloc, cache, line)?,
         "dump" => append_state(alloc, cache.store(), &mut words, line)?,
         word => {
