@@ -1,6 +1,14 @@
 pub mod KeyLemmas
-pub mod RowLemmas
 pub mod SetLemmas
+pub mod RowLemmas
 pub mod FormLemmas
 pub mod AlikeLemmas
+pub mod ShownLemmas
 pub mod ChosenLemmas
+pub mod ByNameLemmas
+pub mod DefinedLemmas
+pub mod KeptLemmas
+pub mod HeldLemmas
+pub mod OwnLemmas
+pub mod StatusLemmas
+pub mod ChoiceLemmas

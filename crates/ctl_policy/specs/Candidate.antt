@@ -1,24 +1,25 @@
 -- The installed row and the candidate of a name (apt_preferences(5), "How APT Interprets Priorities").
-use Rattle.std.specs.Prelude.{ℕ, ℤ, pos, Bool, true, ◌&&◌, ◌||◌, int_lt, int_le, List, [], ◌∷◌, filter, Option, None, Some, option_map, unwrap_or, slice_get, if◌then◌else◌}
+use Rattle.std.specs.Prelude.{ℕ, ℤ, pos, Bool, true, ◌&&◌, ◌||◌, int_lt, int_le, List, [], ◌∷◌, Option, None, Some, is_some, option_map, unwrap_or, if◌then◌else◌}
 use Rattle.std.specs.Option.{option_map_or}
 use Rattle.std.specs.Ordering.{is_ge}
 use Rattle.std.specs.FinMap as fin
 use Rattle.ctl_relation.specs.Version.{Triple, triple_of, triple_cmp}
 use Rattle.ctl_store.specs.declared.stanza_key.StanzaKey.{StanzaKey}
 use Rattle.ctl_store.specs.Step.{is_status}
-use Rattle.ctl_store.specs.Entries.{Entry, entries_of}
-use Rattle.ctl_policy.specs.Rows.{Lists, Rows, Row, versions_of, rows_named, newest_first, lead_of, lead_at}
+use Rattle.ctl_stanza.specs.Content.{Content}
+use Rattle.ctl_store.specs.Entries.{entries_of}
+use Rattle.ctl_policy.specs.Rows.{Lists, Rows, Row, version_in, keys_with, version_under, rows_named, newest_first, lead_of, lead_at}
 use Rattle.ctl_policy.specs.Priority.{World, row_priority}
 
 -- ---- what is installed
 
--- whether a stanza stands in the status list
-abbrev pub is_status_entry : Entry → Bool
-is_status_entry s = is_status s.1.kind
+-- whether a stanza is a live one of a name in the status list
+abbrev pub is_status_of : List ℕ → Content → Bool
+is_status_of name x = is_status x.kind && is_some (version_in name x)
 
 -- the version of the first live stanza of a name in the status list
 abbrev pub status_version : List ℕ → Lists → Option (List ℕ)
-status_version name lists = option_map (λ (s : StanzaKey × List ℕ). s.1) (slice_get (versions_of name (filter is_status_entry (entries_of lists))) 0)
+status_version name lists = version_under lists (lead_of (keys_with (is_status_of name) (entries_of lists)))
 
 -- The mark of a name decides, also one of none. Without a mark the status list does.
 abbrev pub wanted_version : List ℕ → World → Option (List ℕ)

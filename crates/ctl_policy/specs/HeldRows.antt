@@ -1,6 +1,8 @@
 -- How the rows of one name are held: most names have one row of one stanza, for which there is no map.
 use Rattle.std.specs.Prelude.{◌≡◌, ℕ, List, [], ◌∷◌, map, Option, None, Some, option_map, Vec, if◌then◌else◌}
 use Rattle.std.proofs.Common.{Global}
+use Rattle.std.proofs.Common.{refl}
+use Rattle.std.specs.Coded.{Coded, code_by, coded×, coded_list, coded_ℕ}
 use Rattle.std.specs.Ordering.{is_eq}
 use Rattle.std.specs.BTreeMap.{BTreeMap, get, IsOrdered}
 use Rattle.std.specs.FinMap as fin
@@ -42,6 +44,13 @@ form_with version key at v = if is_eq (version_cmp version v) then Some (with_ke
 
 abbrev pub form_without : List ℕ → StanzaKey → (List ℕ → Option (List StanzaKey)) → List ℕ → Option (List StanzaKey)
 form_without version key at v = if is_eq (version_cmp version v) then some_keys (without_key key (or_none (at version))) else at v
+
+-- a code of rows, by which a proof tells them apart
+abbrev key_code : Coded StanzaKey
+key_code = code_by (ℕ × ℕ) (coded× coded_ℕ coded_ℕ) (λ k. (k.list, k.stanza)) (λ p. record { list = p.0; stanza = p.1 }) (λ _. refl)
+
+abbrev pub rows_code : Coded Rows
+rows_code = fin.code (coded_list coded_ℕ) (coded_list key_code)
 
 -- a row of a map with its version
 abbrev pub with_items : List ℕ × Vec StanzaKey Global → List ℕ × List StanzaKey

@@ -10,7 +10,7 @@ ghost use Rattle.ctl_policy.specs.Priority.{world_of, own_priority, is_target, l
 
 use ctl_relation::Version;
 use ctl_stanza::ListKind;
-use ctl_store::{ListClass, PinVersion, Pins, Selector, StanzaKey, Store};
+use ctl_store::{ListClass, PackagePins, PinVersion, Selector, StanzaKey, Store};
 
 fn own_priority(kind: ListKind, class: ListClass) -> i16
     ensures { result ≡ own_priority kind class }
@@ -148,9 +148,9 @@ fn matches_row(store: &Store, name: &[u8], keys: &[StanzaKey], selector: &Select
 }
 
 // The priority of the first of these settings that is one of a name and matches a row of it.
-fn first_match(store: &Store, name: &[u8], keys: &[StanzaKey], pins: Pins<'_>) -> Option<i16>
+fn first_match(store: &Store, name: &[u8], keys: &[StanzaKey], pins: PackagePins<'_>) -> Option<i16>
     requires { AreHeld keys.now (keyed_of store.now).lists }
-    ensures { result ≡ specific_pin name.now (keyed_of store.now).lists keys.now pins }
+    ensures { result ≡ specific_pin name.now (keyed_of store.now).lists keys.now pins.entry }
 {
     let mut left = pins;
     'pins: while let Some((selector, priority)) = left.next() {
@@ -161,12 +161,13 @@ fn first_match(store: &Store, name: &[u8], keys: &[StanzaKey], pins: Pins<'_>) -
     None
 }
 
+#[tactic(auto, using(crate::proofs::OwnLemmas::own_pins))]
 /// The priority of the first specific pin that matches a row of a name, which has these stanzas, if there is one.
 pub fn specific_pin(store: &Store, name: &[u8], keys: &[StanzaKey]) -> Option<i16>
     requires { AreHeld keys.now (keyed_of store.now).lists }
     ensures { result ≡ specific_pin name.now (keyed_of store.now).lists keys.now (world_of store.now).pins }
 {
-    first_match(store, name, keys, store.pins())
+    first_match(store, name, keys, store.pins_of(name))
 }
 
 /// The priority of a row of a name, which has these stanzas: that of the first specific pin that matches it, else the

@@ -1,6 +1,7 @@
 //! The rows of one name.
 
-ghost use Rattle.std.specs.Prelude.{◌≡◌, ◌↔◌, true, [], List, ℕ, None, OnOk, OnErr, option_copied};
+ghost use Rattle.std.specs.Prelude.{◌≡◌, [], List, ℕ, None, OnOk, OnErr};
+ghost use Rattle.std.specs.Bool.{OnTrue, OnFalse};
 ghost use Rattle.std.specs.FinMap as fin;
 ghost use Rattle.ctl_store.specs.Keys.{AreRising};
 ghost use Rattle.ctl_policy.specs.Rows.{keys_at, lead_at, newest_first};
@@ -22,10 +23,12 @@ pub struct Rows {
 }
 
 impl Model for Rows {
-    ghost use Rattle.ctl_policy.specs.Rows.{Rows};
-    ghost use Rattle.ctl_policy.specs.HeldRows.{rows_of_form, IsFormed};
+    ghost use Rattle.ctl_policy.specs.Rows.{Rows as RowsByVersion};
+    ghost use Rattle.ctl_policy.specs.HeldRows.{rows_code, rows_of_form, IsFormed};
 
-    ghost Value = { Rows };
+    ghost Value = { RowsByVersion };
+
+    ghost coded = { rows_code };
 
     ghost view = { λ rows. rows_of_form rows.form };
 
@@ -42,6 +45,18 @@ fn order_of(form: &Form)
         Form::Many(map) => {
             map.len();
         }
+    }
+}
+
+fn is_bare(form: &Form) -> bool
+    requires { IsOrderedForm form.now }
+    ensures none { OnTrue result (newest_first (rows_of_form form.now) ≡ []) }
+    ensures some { OnFalse result (newest_first (rows_of_form form.now) ≡ [] → ⊥) }
+{
+    match form {
+        Form::Empty => true,
+        Form::One(_, _) => false,
+        Form::Many(map) => map.is_empty(),
     }
 }
 
@@ -83,13 +98,10 @@ impl Rows {
 
     /// Whether there is no row.
     pub fn is_empty(&self) -> bool
-        ensures { (result ≡ true) ↔ (newest_first self.now ≡ []) }
+        ensures none { OnTrue result (newest_first self.now ≡ []) }
+        ensures some { OnFalse result (newest_first self.now ≡ [] → ⊥) }
     {
-        match &self.form {
-            Form::Empty => true,
-            Form::One(_, _) => false,
-            Form::Many(map) => map.is_empty(),
-        }
+        is_bare(self.form())
     }
 
     /// The keys of the stanzas of a version, in order; none where there is no row of it.

@@ -6,7 +6,7 @@ ghost use Rattle.ctl_store.specs.Held.{keyed_of};
 ghost use Rattle.ctl_policy.specs.Rows.{rows_named};
 ghost use Rattle.ctl_policy.specs.Priority.{world_of};
 ghost use Rattle.ctl_policy.specs.Candidate.{status_version, wanted_version};
-ghost use Rattle.ctl_policy.specs.HeldRows.{IsFormOf};
+ghost use Rattle.ctl_policy.specs.HeldRows.{IsFormOf, IsOrderedForm};
 ghost use Rattle.ctl_policy.specs.HeldWalk.{AreHeldIn, IsHeldForm, is_status_key, first_status, lower, lowest_status, status_key};
 
 use crate::by_version::ByVersion;
@@ -87,6 +87,7 @@ fn status_key(store: &Store, rows: &Form) -> Option<StanzaKey>
 // The version that the status list has of a name, of which these are the rows.
 fn status_version<'a>(store: &'a Store, name: &[u8], rows: &Form) -> Option<&'a Version>
     requires rising { AreRising (all_keys (keyed_of store.now).lists) }
+    requires ordered { IsOrderedForm rows.now }
     requires held { IsHeldForm (keyed_of store.now).lists rows.now }
     requires rows { IsFormOf rows.now (rows_named name.now (keyed_of store.now).lists) }
     ensures { option_copied result ≡ status_version name.now (keyed_of store.now).lists }
@@ -103,6 +104,7 @@ fn status_version<'a>(store: &'a Store, name: &[u8], rows: &Form) -> Option<&'a 
 /// The version that a name should have installed: that of its mark, also none; without a mark that of the status list.
 pub(crate) fn wanted_version<'a>(store: &'a Store, name: &[u8], rows: &Form) -> Option<&'a Version>
     requires rising { AreRising (all_keys (keyed_of store.now).lists) }
+    requires ordered { IsOrderedForm rows.now }
     requires held { IsHeldForm (keyed_of store.now).lists rows.now }
     requires rows { IsFormOf rows.now (rows_named name.now (keyed_of store.now).lists) }
     ensures { option_copied result ≡ wanted_version name.now (world_of store.now) }
