@@ -66,6 +66,35 @@ fn pins_that_are_left_keep_their_order(rt: HostRuntime) -> Result<(), Fail> {
     Ok(())
 }
 
+/// The priorities of the pins of a package, in order.
+fn priorities_of(alloc: Global, store: &Store, name: &[u8]) -> Result<Vec<i16>, AllocError> {
+    let shown = store.pins_of(name).map(|(_selector, priority)| priority);
+    shown.collect(alloc)
+}
+
+#[test]
+fn pins_of_a_package_are_in_the_order_in_which_they_were_set(rt: HostRuntime) -> Result<(), Fail> {
+    let rows = [
+        ("b", "2", 1),
+        ("a", "1", 2),
+        ("b", "1", 3),
+        ("c", "1", 4),
+        ("b", "3", 5),
+    ];
+    let mut store = Store::new(rt.alloc());
+    for (name, version, priority) in rows {
+        edited(&mut store, given(pin(rt.alloc(), name, version, priority))?)?;
+    }
+    edited(&mut store, given(unpin(rt.alloc(), "b", "1"))?)?;
+    edited(&mut store, given(pin(rt.alloc(), "b", "1", 6))?)?;
+    edited(&mut store, given(pin(rt.alloc(), "b", "2", 7))?)?;
+    let own = priorities_of(rt.alloc(), &store, b"b")?;
+    assert_eq!(rt; own.as_slice(), [7, 5, 6].as_slice());
+    let other = priorities_of(rt.alloc(), &store, b"ab")?;
+    assert_eq!(rt; other.as_slice(), [].as_slice());
+    Ok(())
+}
+
 #[test]
 fn laws_of_pins_can_be_called() {
     first_setting_counts();

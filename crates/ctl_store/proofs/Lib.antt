@@ -19,6 +19,8 @@ pub mod SoundLemmas
 pub mod PastLemmas
 pub mod FoundLemmas
 pub mod SettingLemmas
+pub mod OwnOrderLemmas
+pub mod OwnRunLemmas
 pub mod KeptLemmas
 pub mod KeyLemmas
 pub mod LookLemmas

@@ -108,7 +108,7 @@ module _ (P : ℕ × Label → Type 0) where
 
 -- ---- the order
 
-abbrev IsInOrder : List (ℕ × Label) → Type 0
+abbrev pub IsInOrder : List (ℕ × Label) → Type 0
 IsInOrder [] = Unit {0}
 IsInOrder (y ∷ ys) = AllByRecursion (λ z. g y.1 z.1 ≡ false) ys × IsInOrder ys
 

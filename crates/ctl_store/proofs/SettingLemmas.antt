@@ -52,10 +52,10 @@ selectors_tie (Release None k) (Release (Some b) l) = differs (slice_cmp nat_cmp
 selectors_tie (Release (Some a) k) (Release None l) = differs (slice_cmp nat_cmp a []) Greater refl
 selectors_tie (Release (Some a) k) (Release (Some b) l) = two_texts a b k l
 
-setting_test : (k : Selector) (r : ℕ × PinSetting) → has_label setting_row (selector_label k) r ≡ selector_eq k r.1.selector
+pub setting_test : (k : Selector) (r : ℕ × PinSetting) → has_label setting_row (selector_label k) r ≡ selector_eq k r.1.selector
 setting_test k r = selectors_tie r.1.selector k ∙ selector_equiv.symm r.1.selector k
 
-exact_selectors : (k l : Selector) → selector_eq k l ≡ true → k ≡ l
+pub exact_selectors : (k l : Selector) → selector_eq k l ≡ true → k ≡ l
 exact_selectors k l e = (selector_eq-Decides k l).0 e
 
 -- the label of a general pin on a list is that of these selectors alone

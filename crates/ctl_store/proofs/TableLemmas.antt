@@ -34,10 +34,10 @@ equal_is Less e = cc
 equal_is Equal e = refl
 equal_is Greater e = cc
 
-same_texts : (a b : List ℕ) → is_eq (slice_cmp nat_cmp a b) ≡ true → a ≡ b
+pub same_texts : (a b : List ℕ) → is_eq (slice_cmp nat_cmp a b) ≡ true → a ≡ b
 same_texts a b e = (bytes_eq-Decides a b).0 (sym (is_eq-slice_cmp a b) ∙ e)
 
-same_numbers : (a b : ℕ) → is_eq (nat_cmp a b) ≡ true → a ≡ b
+pub same_numbers : (a b : ℕ) → is_eq (nat_cmp a b) ≡ true → a ≡ b
 same_numbers a b e = ranked a b _ (sym (equal_is (nat_cmp a b) e))
 
 -- labels that tie are one

@@ -18,6 +18,7 @@ pub mod Step
 pub mod Rows
 pub mod Pieces
 pub mod Ranks
+pub mod HeldPins
 pub mod Keys
 pub mod Entries
 pub mod ByName

@@ -4,16 +4,17 @@ ghost use Rattle.std.specs.Prelude.{◌≡◌, ◌<◌, [], None, OnOk, OnErr};
 ghost use Rattle.std.specs.Map.{lookup, remove_entry};
 ghost use Rattle.indexmap.specs.IndexMap.{insert_entry};
 ghost use Rattle.ctl_store.specs.declared.selector.Selector.TheVariants as selectors;
-ghost use Rattle.ctl_store.specs.Pins.{selector_eq, general_pin, AreDistinct};
+ghost use Rattle.ctl_store.specs.Pins.{selector_eq, general_pin, own_settings, AreDistinct};
 ghost use Rattle.ctl_store.specs.Ranks.{selector_label};
 
 use crate::items::Items;
 use crate::label::{Label, Labelled};
 use crate::numbered::Numbered;
 use crate::pieces::Pieces;
+use crate::pin_order::{enter, leave, rest_of, start_of};
 use crate::ranked::{find_item, put_item, remove_item, reserve_item};
 use crate::selector::{PinSetting, Selector};
-use crate::store::Pins;
+use crate::store::{PackagePins, Pins};
 use std::alloc::{AllocError, Global};
 use std::marker::Model;
 
@@ -65,25 +66,29 @@ fn label_of_selector(selector: &Selector) -> Label<'_>
 }
 
 /// Pin settings, in the order in which their selectors were first set. No selector stands twice. One is found in the log
-/// of their number, and what comes or goes moves no more than those of one piece.
+/// of their number, and so are those of a package; what comes or goes moves no more than those of one piece.
 #[derive(Drop)]
 pub struct PinSettings {
     alloc: Global,
     rows: Pieces<Numbered<PinSetting>>,
+    // The serials in the order of the selectors, and in that of the packages.
     order: Pieces<u64>,
+    packages: Pieces<u64>,
     next: u64,
 }
 
 impl Model for PinSettings {
     ghost use Rattle.ctl_store.specs.Pieces.{joined};
     ghost use Rattle.ctl_store.specs.Pins.{Settings, settings_of};
+    ghost use Rattle.std.specs.Prelude.{min};
     ghost use Rattle.ctl_store.specs.Ranks.{IsTable, setting_row, items_of, room_of};
+    ghost use Rattle.ctl_store.specs.HeldPins.{AreByPackage, own_room};
 
     ghost Value = { Settings };
 
-    ghost view = { λ t. record { pins = settings_of (items_of (joined t.rows.pieces.items)); room = room_of t.rows.ready t.order.pieces t.order.ready t.next } };
+    ghost view = { λ t. record { pins = settings_of (items_of (joined t.rows.pieces.items)); room = min (room_of t.rows.ready t.order.pieces t.order.ready t.next) (own_room t.packages.pieces t.packages.ready) } };
 
-    ghost invariant = { λ t. IsTable setting_row t.rows.pieces t.rows.ready t.next t.order.pieces t.order.ready };
+    ghost invariant = { λ t. IsTable setting_row t.rows.pieces t.rows.ready t.next t.order.pieces t.order.ready × AreByPackage (joined t.rows.pieces.items) t.packages.pieces t.packages.ready };
 }
 
 impl PinSettings {
@@ -95,6 +100,7 @@ impl PinSettings {
             alloc,
             rows: Pieces::new(alloc),
             order: Pieces::new(alloc),
+            packages: Pieces::new(alloc),
             next: 0,
         }
     }
@@ -140,12 +146,23 @@ impl PinSettings {
         Pins::new(Items::new(self.rows.as_slice()))
     }
 
+    /// The specific pins of a package, in order.
+    pub fn of<'a>(&'a self, name: &'a [u8]) -> PackagePins<'a>
+        ensures { result ≡ own_settings name.now self.now.pins }
+    {
+        let rows = self.rows.as_slice();
+        let order = self.packages.as_slice();
+        let (serials, pieces) = rest_of(order, start_of(rows, order, name));
+        PackagePins::new(name, rows, serials, pieces)
+    }
+
     /// Makes room for one setting more.
     pub(crate) fn reserve_one(&mut self) -> Result<(), AllocError>
         ensures pins { self.new.pins ≡ self.old.pins }
         ensures ok { OnOk result (0 < self.new.room) }
     {
-        reserve_item(&mut self.rows, &mut self.order, self.next, self.alloc)
+        reserve_item(&mut self.rows, &mut self.order, self.next, self.alloc)?;
+        self.packages.reserve_one(self.alloc)
     }
 
     /// Sets a pin, for which there is room. A selector that is set keeps its place.
@@ -153,7 +170,15 @@ impl PinSettings {
         requires { 0 < self.old.room }
         ensures { self.new.pins ≡ insert_entry selector_eq self.old.pins setting.selector setting.priority }
     {
+        enter(
+            &self.rows,
+            &self.order,
+            self.next,
+            &mut self.packages,
+            &setting,
+        );
         put_item(&mut self.rows, &mut self.order, &mut self.next, setting);
+        self.packages.forget_room();
     }
 
     /// Takes a pin out. The others keep their order.
@@ -161,6 +186,13 @@ impl PinSettings {
         ensures { self.new.pins ≡ remove_entry (selector_eq selector.now) self.old.pins }
     {
         let wanted = label_of_selector(selector);
+        leave(
+            &self.rows,
+            &self.order,
+            self.next,
+            &mut self.packages,
+            &wanted,
+        );
         remove_item(&mut self.rows, &mut self.order, self.next, &wanted);
     }
 }

@@ -10,6 +10,7 @@ mod by_name;
 mod checking;
 mod committing;
 mod entries;
+mod package_pins;
 mod preparing;
 mod views;
 
@@ -22,6 +23,7 @@ pub use committing::CommittedKeys;
 use ctl_relation::{Bytes, Version};
 pub(crate) use entries::ListEntries;
 pub use entries::{Entries, Keys, Stanzas};
+pub use package_pins::PackagePins;
 use std::alloc::Global;
 use std::marker::Model;
 pub use views::{Lists, Pins};

@@ -8,7 +8,7 @@ ghost use Rattle.ctl_store.specs.Keys.{all_in, all_keys, AreRising, AreHeld, sta
 ghost use Rattle.ctl_store.specs.ByName.{by_name_in, AreByName};
 ghost use Rattle.ctl_store.specs.Followed.{under};
 ghost use Rattle.ctl_store.specs.Named.{at_name};
-ghost use Rattle.ctl_store.specs.Pins.{settings_of, general_pin, AreDistinct};
+ghost use Rattle.ctl_store.specs.Pins.{settings_of, general_pin, own_settings, AreDistinct};
 ghost use Rattle.std.specs.List.{IsDistinct};
 ghost use Rattle.std.specs.Map.{keys_of as names_of};
 ghost use Rattle.std.specs.Str.{bytes_eq};
@@ -23,7 +23,7 @@ use crate::lists::entry_of;
 use crate::selector::{PinSetting, Selector};
 use crate::shelf::Shelf;
 use crate::stanza_key::StanzaKey;
-use crate::store::{ByName, Entries, Keys, ListEntries, Stanzas, Store};
+use crate::store::{ByName, Entries, Keys, ListEntries, PackagePins, Stanzas, Store};
 use crate::table::Named;
 use ctl_relation::Version;
 use ctl_stanza::{ListKind, Stanza};
@@ -260,6 +260,14 @@ impl Store {
         ensures { result ≡ general_pin list.now (state_of self.now).pins }
     {
         self.pins.general(list)
+    }
+
+    /// The specific pins of a package, in the order in which their selectors were first set. They are found in the log of the
+    /// number of all pins, and so is each of them.
+    pub fn pins_of<'a>(&'a self, name: &'a [u8]) -> PackagePins<'a>
+        ensures { result ≡ own_settings name.now (state_of self.now).pins }
+    {
+        self.pins.of(name)
     }
 
     /// The name of the list that is the target release, which need not be there.

@@ -1,0 +1,292 @@
+-- The settings of one package stand together in the order of packages, in the order in which they were set.
+use Rattle.std.proofs.Common.{◌≡◌, ℕ, ℤ, zero, suc, ◌+◌, ◌<◌, ◌≤◌, Bool, true, false, ◌&&◌, cond, nat_eq, List, [], ◌∷◌, ◌++◌, length, map, filter, drop, take, get_or, Vec, Option, Some, None, refl, ap, sym, subst, ◌∙◌, arith}
+use Rattle.std.specs.List.{AllByRecursion}
+use Rattle.std.specs.Map.{lookup}
+use Rattle.std.specs.Option.{option_map_or}
+use Rattle.std.specs.Str.{bytes_eq}
+use Rattle.std.specs.Cmp.{nat_cmp_is}
+use Rattle.std.specs.Cmp.Lexicographic.{slice_cmp}
+use Rattle.std.specs.Ordering.{nat_cmp, ordering_then, is_gt, is_lt, is_eq}
+use Rattle.std.specs.declared.cmp.Ordering.{Ordering}
+use Rattle.std.specs.declared.cmp.Ordering.TheVariants.{Less, Equal, Greater}
+use Rattle.std.proofs.lemmas.Map.Text.{is_eq-slice_cmp}
+use Rattle.std.proofs.lemmas.Slice.Eq.{bytes_eq-Decides}
+use Rattle.std.proofs.lemmas.List.{drop-map, length-append, drop-append-le}
+use Rattle.std.proofs.Math.Seq.{drop-append-add}
+use Rattle.ctl_store.specs.declared.selector.Selector.{Selector}
+use Rattle.ctl_store.specs.declared.selector.Selector.TheVariants.{Version, Release}
+use Rattle.ctl_store.specs.declared.selector.PinSetting.{PinSetting}
+use Rattle.ctl_store.specs.Pins.{settings_of, is_of, own_settings}
+use Rattle.ctl_store.specs.Rows.{Rises}
+use Rattle.ctl_store.specs.Pieces.{joined, stands_at}
+use Rattle.ctl_store.specs.Ranks.{Label, label_cmp, insert_label, labels_of, sorted_labels, labels_below, ranked_serials, items_of}
+use Rattle.ctl_store.specs.HeldPins.{own_label, own_row, own_start, own_one, own_run}
+use Rattle.ctl_store.proofs.PiecesLemmas.{plus_one, stands_next}
+use Rattle.ctl_store.proofs.PlaceLemmas.{eq_is, lt_ne, is_eq_from}
+use Rattle.ctl_store.proofs.RankLemmas.{g, up, lt_back, all_map, all_sorted, in_order, IsInOrder}
+use Rattle.ctl_store.proofs.TableLemmas.{same_numbers}
+
+-- ---- labels of one package
+
+abbrev own : List ℕ → Label → Bool
+own q l = nat_eq l.form 1 && bytes_eq l.name q
+
+abbrev is_own : List ℕ → ℕ × Label → Bool
+is_own q x = own q x.1
+
+first_of : (a b : Bool) → (a && b) ≡ true → a ≡ true
+first_of true b e = refl
+first_of false b e = cc
+
+second_of : (a b : Bool) → (a && b) ≡ true → b ≡ true
+second_of true b e = e
+second_of false b e = cc
+
+both_of : (a b : Bool) → a ≡ true → b ≡ true → (a && b) ≡ true
+both_of true b p q = q
+both_of false b p q = cc
+
+form_of : (q : List ℕ) (l : Label) → own q l ≡ true → l.form ≡ 1
+form_of q l e = is_eq_from l.form 1 (first_of _ _ e)
+
+name_of : (q : List ℕ) (l : Label) → own q l ≡ true → l.name ≡ q
+name_of q l e = (bytes_eq-Decides l.name q).0 (second_of _ _ e)
+
+own_is : (q : List ℕ) (n : ℕ) (s : Selector) → own q (own_label n s) ≡ is_of q s
+own_is q n (Version name version) = refl
+own_is q n (Release None list) = refl
+own_is q n (Release (Some name) list) = refl
+
+text_is : (n : ℕ) (s : Selector) → (own_label n s).text ≡ []
+text_is n (Version name version) = refl
+text_is n (Release None list) = refl
+text_is n (Release (Some name) list) = refl
+
+rank_is : (n : ℕ) (s : Selector) → (own_label n s).rank ≡ n
+rank_is n (Version name version) = refl
+rank_is n (Release None list) = refl
+rank_is n (Release (Some name) list) = refl
+
+names_tie : (a b q : List ℕ) → a ≡ q → b ≡ q → is_eq (slice_cmp nat_cmp a b) ≡ true
+names_tie a b q d e = is_eq-slice_cmp a b ∙ (λ j. bytes_eq (d j) (e j)) ∙ (bytes_eq-Decides q q).1 refl
+
+numbers_tie : (a b : ℕ) → a ≡ b → is_eq (nat_cmp a b) ≡ true
+numbers_tie a b e = ap is_eq (sym (nat_cmp_is a b Equal e))
+
+-- ---- where they stand
+
+not_less : (o p r t : Ordering) → is_eq o ≡ true → is_eq p ≡ true → is_lt r ≡ false → is_lt t ≡ false → is_lt (ordering_then o (ordering_then p (ordering_then r t))) ≡ false
+not_less Less p r t a b c d = cc
+not_less Greater p r t a b c d = cc
+not_less Equal Less r t a b c d = cc
+not_less Equal Greater r t a b c d = cc
+not_less Equal Equal Less t a b c d = cc
+not_less Equal Equal Equal t a b c d = d
+not_less Equal Equal Greater t a b c d = refl
+
+text_not_less : (xs : List ℕ) → is_lt (slice_cmp nat_cmp xs []) ≡ false
+text_not_less [] = refl
+text_not_less (x ∷ xs) = refl
+
+rank_not_less : (n : ℕ) → is_lt (nat_cmp n 0) ≡ false
+rank_not_less zero = refl
+rank_not_less (suc n) = ap is_lt (sym (nat_cmp_is (suc n) 0 Greater (omega arith)))
+
+-- what stands before the start is not the package's
+before_start : (q : List ℕ) (l : Label) → is_lt (label_cmp l (own_start q)) ≡ true → own q l ≡ false
+before_start q l e = by (own q l) refl
+  where
+    by : (b : Bool) → own q l ≡ b → b ≡ false
+    by true is =
+        let z : is_lt (label_cmp l (own_start q)) ≡ false = not_less (slice_cmp nat_cmp l.name q) (nat_cmp l.form 1) (slice_cmp nat_cmp l.text []) (nat_cmp l.rank 0) (names_tie l.name q q (name_of q l is) refl) (numbers_tie l.form 1 (form_of q l is)) (text_not_less l.text) (rank_not_less l.rank) in cc
+    by false is = refl
+
+ties : (o p r t : Ordering) → is_gt (ordering_then o (ordering_then p r)) ≡ false → is_lt (ordering_then o (ordering_then p t)) ≡ false → (is_eq o ≡ true) × (is_eq p ≡ true)
+ties Less p r t a b = cc
+ties Greater p r t a b = cc
+ties Equal Less r t a b = cc
+ties Equal Greater r t a b = cc
+ties Equal Equal r t a b = (refl, refl)
+
+-- between the start and one of the package there are none but its own
+between : (q : List ℕ) (y z : Label) → own q z ≡ true → g y z ≡ false → is_lt (label_cmp y (own_start q)) ≡ false → own q y ≡ true
+between q y z is not_above not_below =
+    let after : Ordering = ordering_then (slice_cmp nat_cmp y.text z.text) (nat_cmp y.rank z.rank) in
+    let start : Ordering = ordering_then (slice_cmp nat_cmp y.text []) (nat_cmp y.rank 0) in
+    let there : is_gt (ordering_then (slice_cmp nat_cmp y.name q) (ordering_then (nat_cmp y.form 1) after)) ≡ false = (λ j. is_gt (ordering_then (slice_cmp nat_cmp y.name (sym (name_of q z is) j)) (ordering_then (nat_cmp y.form (sym (form_of q z is) j)) after))) ∙ not_above in
+    let t = ties (slice_cmp nat_cmp y.name q) (nat_cmp y.form 1) after start there not_below in
+    both_of _ _ (eq_is y.form 1 (same_numbers y.form 1 t.1)) (sym (is_eq-slice_cmp y.name q) ∙ t.0)
+
+-- ---- those in front that are of the package
+
+abbrev front : {X : Type 0} → (X → Bool) → List X → List X
+front p [] = []
+front p (x ∷ xs) = cond (p x) (x ∷ front p xs) []
+
+none_own : (q : List ℕ) (y : ℕ × Label) (ys : List (ℕ × Label)) → is_own q y ≡ false → is_lt (label_cmp y.1 (own_start q)) ≡ false → AllByRecursion (λ z. g y.1 z.1 ≡ false) ys → filter (is_own q) ys ≡ []
+none_own q y [] e w h = refl
+none_own q y (z ∷ ys) e w h = by (is_own q z) refl (none_own q y ys e w h.1)
+  where
+    by : (b : Bool) → is_own q z ≡ b → filter (is_own q) ys ≡ [] → cond b (z ∷ filter (is_own q) ys) (filter (is_own q) ys) ≡ []
+    by true is rest = let t : is_own q y ≡ true = between q y.1 z.1 is h.0 w in cc
+    by false is rest = rest
+
+front_is : (q : List ℕ) (ys : List (ℕ × Label)) → IsInOrder ys → AllByRecursion (λ z. is_lt (label_cmp z.1 (own_start q)) ≡ false) ys → front (is_own q) ys ≡ filter (is_own q) ys
+front_is q [] h w = refl
+front_is q (y ∷ ys) h w = by (is_own q y) refl (front_is q ys h.1 w.1)
+  where
+    by : (b : Bool) → is_own q y ≡ b → front (is_own q) ys ≡ filter (is_own q) ys → cond b (y ∷ front (is_own q) ys) [] ≡ cond b (y ∷ filter (is_own q) ys) (filter (is_own q) ys)
+    by true is rest = ap (λ l. y ∷ l) rest
+    by false is rest = sym (none_own q y ys is w.0 h.0)
+
+front_from : (q : List ℕ) (ys : List (ℕ × Label)) → IsInOrder ys → front (is_own q) (drop (labels_below (own_start q) ys) ys) ≡ filter (is_own q) ys
+front_from q [] h = refl
+front_from q (y ∷ ys) h = by (is_lt (label_cmp y.1 (own_start q))) refl (front_from q ys h.1)
+  where
+    by : (b : Bool) → is_lt (label_cmp y.1 (own_start q)) ≡ b → front (is_own q) (drop (labels_below (own_start q) ys) ys) ≡ filter (is_own q) ys
+        → front (is_own q) (drop (cond b (suc (labels_below (own_start q) ys)) 0) (y ∷ ys)) ≡ cond (is_own q y) (y ∷ filter (is_own q) ys) (filter (is_own q) ys)
+    by true e rest = rest ∙ ap (λ b. cond b (y ∷ filter (is_own q) ys) (filter (is_own q) ys)) (sym (before_start q y.1 e))
+    by false e rest = front_is q (y ∷ ys) h (e, all_map (λ z k. lt_back z.1 (own_start q) ∙ up (own_start q) y.1 z.1 (sym (lt_back y.1 (own_start q)) ∙ e) k) ys h.0)
+
+-- ---- their order is that of the rows
+
+not_greater : (o p r t : Ordering) → is_eq o ≡ true → is_eq p ≡ true → is_eq r ≡ true → is_gt t ≡ false → is_gt (ordering_then o (ordering_then p (ordering_then r t))) ≡ false
+not_greater Less p r t a b c d = cc
+not_greater Greater p r t a b c d = cc
+not_greater Equal Less r t a b c d = cc
+not_greater Equal Greater r t a b c d = cc
+not_greater Equal Equal Less t a b c d = cc
+not_greater Equal Equal Equal t a b c d = d
+not_greater Equal Equal Greater t a b c d = cc
+
+before_later : (q : List ℕ) (n m : ℕ) (s t : Selector) → n < m → own q (own_label n s) ≡ true → own q (own_label m t) ≡ true → g (own_label n s) (own_label m t) ≡ false
+before_later q n m s t l d e =
+    let a : Label = own_label n s in
+    let b : Label = own_label m t in
+    not_greater (slice_cmp nat_cmp a.name b.name) (nat_cmp a.form b.form) (slice_cmp nat_cmp a.text b.text) (nat_cmp a.rank b.rank)
+    (names_tie a.name b.name q (name_of q a d) (name_of q b e)) (numbers_tie a.form b.form (form_of q a d ∙ sym (form_of q b e))) (names_tie a.text b.text [] (text_is n s) (text_is m t))
+    (ap is_gt (sym (nat_cmp_is a.rank b.rank Less (omega (arith, rank_is n s, rank_is m t, l)))))
+
+abbrev IsNotAfter : List ℕ → ℕ × Label → ℕ × Label → Type 0
+IsNotAfter q x y = is_own q x ≡ true → is_own q y ≡ true → g x.1 y.1 ≡ false
+
+all_later : (q : List ℕ) (r : ℕ × PinSetting) (n : ℕ) (rows : List (ℕ × PinSetting)) (m : ℕ) → r.0 < n → Rises n rows m → AllByRecursion (IsNotAfter q (r.0, own_row r)) (labels_of own_row rows)
+all_later q r n [] m l h = tt
+all_later q r n (s ∷ rows) m l h = (before_later q r.0 s.0 r.1.selector s.1.selector (omega (arith, l, h.0)), all_later q r (suc s.0) rows m (omega (arith, l, h.0)) h.1)
+
+filter-insert : (q : List ℕ) (x : ℕ × Label) (ys : List (ℕ × Label)) → AllByRecursion (IsNotAfter q x) ys → filter (is_own q) (insert_label x ys) ≡ filter (is_own q) (x ∷ ys)
+filter-insert q x [] h = refl
+filter-insert q x (y ∷ ys) h = by (g x.1 y.1) refl (filter-insert q x ys h.1)
+  where
+    rest : List (ℕ × Label)
+    rest = filter (is_own q) ys
+
+    turn : (a b : Bool) → (a ≡ true → b ≡ true → true ≡ false) → cond b (y ∷ cond a (x ∷ rest) rest) (cond a (x ∷ rest) rest) ≡ cond a (x ∷ cond b (y ∷ rest) rest) (cond b (y ∷ rest) rest)
+    turn true true f = let z = f refl refl in cc
+    turn true false f = refl
+    turn false true f = refl
+    turn false false f = refl
+
+    by : (b : Bool) → g x.1 y.1 ≡ b → filter (is_own q) (insert_label x ys) ≡ filter (is_own q) (x ∷ ys) → filter (is_own q) (cond b (y ∷ insert_label x ys) (x ∷ y ∷ ys)) ≡ filter (is_own q) (x ∷ y ∷ ys)
+    by true e same = ap (λ l. cond (is_own q y) (y ∷ l) l) same ∙ turn (is_own q x) (is_own q y) (λ a b. sym e ∙ h.0 a b)
+    by false e same = refl
+
+filter-sorted : (q : List ℕ) (n : ℕ) (rows : List (ℕ × PinSetting)) (m : ℕ) → Rises n rows m → filter (is_own q) (sorted_labels (labels_of own_row rows)) ≡ filter (is_own q) (labels_of own_row rows)
+filter-sorted q n [] m h = refl
+filter-sorted q n (r ∷ rows) m h =
+    filter-insert q (r.0, own_row r) (sorted_labels (labels_of own_row rows)) (all_sorted (IsNotAfter q (r.0, own_row r)) (labels_of own_row rows) (all_later q r (suc r.0) rows m (omega arith) h.1))
+    ∙ ap (λ l. cond (is_own q (r.0, own_row r)) ((r.0, own_row r) ∷ l) l) (filter-sorted q (suc r.0) rows m h.1)
+
+-- ---- the settings of their serials
+
+all_from : (n : ℕ) (rows : List (ℕ × PinSetting)) (m : ℕ) → Rises n rows m → AllByRecursion (λ (r : ℕ × PinSetting). n ≤ r.0) rows
+all_from n [] m h = tt
+all_from n (r ∷ rows) m h = (h.0, all_map (λ s k. omega (arith, h.0, k)) rows (all_from (suc r.0) rows m h.1))
+
+all_zip : {P Q R : ℕ × PinSetting → Type 0} → ((r : ℕ × PinSetting) → P r → Q r → R r) → (rows : List (ℕ × PinSetting)) → AllByRecursion P rows → AllByRecursion Q rows → AllByRecursion R rows
+all_zip f [] h k = tt
+all_zip f (r ∷ rows) h k = (f r h.0 k.0, all_zip f rows h.1 k.1)
+
+abbrev IsFound : List (ℕ × PinSetting) → ℕ × PinSetting → Type 0
+IsFound rows r = lookup (λ k. nat_eq k r.0) rows ≡ Some r.1
+
+all_found : (n : ℕ) (rows : List (ℕ × PinSetting)) (m : ℕ) → Rises n rows m → AllByRecursion (IsFound rows) rows
+all_found n [] m h = tt
+all_found n (r ∷ rows) m h = (
+  ap (λ b. cond b (Some r.1) (lookup (λ k. nat_eq k r.0) rows)) (eq_is r.0 r.0 refl),
+  all_zip (λ s k e. ap (λ b. cond b (Some r.1) (lookup (λ k. nat_eq k s.0) rows)) (lt_ne r.0 s.0 (omega (arith, k))) ∙ e) rows (all_from (suc r.0) rows m h.1) (all_found (suc r.0) rows m h.1),
+)
+
+-- a label of a serial whose setting is there
+abbrev HasSetting : List ℕ → List (ℕ × PinSetting) → ℕ × Label → Type 0
+HasSetting q rows y = (x : PinSetting) × (lookup (λ k. nat_eq k y.0) rows ≡ Some x) × (is_of q x.selector ≡ is_own q y)
+
+all_have : (q : List ℕ) (all rows : List (ℕ × PinSetting)) → AllByRecursion (IsFound all) rows → AllByRecursion (HasSetting q all) (labels_of own_row rows)
+all_have q all [] h = tt
+all_have q all (r ∷ rows) h = ((r.1, h.0, sym (own_is q r.0 r.1.selector)), all_have q all rows h.1)
+
+abbrev picked : List (ℕ × PinSetting) → List (ℕ × Label) → List PinSetting
+picked rows [] = []
+picked rows (y ∷ ys) = option_map_or (λ (x : PinSetting). x ∷ picked rows ys) (lookup (λ k. nat_eq k y.0) rows) (picked rows ys)
+
+run_picks : (q : List ℕ) (rows : List (ℕ × PinSetting)) (ys : List (ℕ × Label)) → AllByRecursion (HasSetting q rows) ys → own_run q rows (map (λ (y : ℕ × Label). y.0) ys) ≡ picked rows (front (is_own q) ys)
+run_picks q rows [] h = refl
+run_picks q rows (y ∷ ys) h =
+    ap (λ o. option_map_or (λ (x : PinSetting). x ∷ own_run q rows (map (λ (y : ℕ × Label). y.0) ys)) (own_one q o) []) h.0.1
+    ∙ ap (λ b. option_map_or (λ (x : PinSetting). x ∷ own_run q rows (map (λ (y : ℕ × Label). y.0) ys)) (cond {A = Option PinSetting} b (Some h.0.0) None) []) h.0.2
+    ∙ by (is_own q y) (run_picks q rows ys h.1)
+  where
+    by : (b : Bool) → own_run q rows (map (λ (y : ℕ × Label). y.0) ys) ≡ picked rows (front (is_own q) ys)
+        → option_map_or (λ (x : PinSetting). x ∷ own_run q rows (map (λ (y : ℕ × Label). y.0) ys)) (cond {A = Option PinSetting} b (Some h.0.0) None) [] ≡ picked rows (cond b (y ∷ front (is_own q) ys) [])
+    by true rest = ap (λ l. h.0.0 ∷ l) rest ∙ sym (ap (λ o. option_map_or (λ (x : PinSetting). x ∷ picked rows (front (is_own q) ys)) o (picked rows (front (is_own q) ys))) h.0.1)
+    by false rest = refl
+
+picks : (q : List ℕ) (all rows : List (ℕ × PinSetting)) → AllByRecursion (IsFound all) rows → settings_of (picked all (filter (is_own q) (labels_of own_row rows))) ≡ own_settings q (settings_of (items_of rows))
+picks q all [] h = refl
+picks q all (r ∷ rows) h =
+    ap (λ b. settings_of (picked all (cond b ((r.0, own_row r) ∷ filter (is_own q) (labels_of own_row rows)) (filter (is_own q) (labels_of own_row rows))))) (own_is q r.0 r.1.selector)
+    ∙ by (is_of q r.1.selector) (picks q all rows h.1)
+  where
+    by : (b : Bool) → settings_of (picked all (filter (is_own q) (labels_of own_row rows))) ≡ own_settings q (settings_of (items_of rows))
+        → settings_of (picked all (cond b ((r.0, own_row r) ∷ filter (is_own q) (labels_of own_row rows)) (filter (is_own q) (labels_of own_row rows))))
+        ≡ cond b ((r.1.selector, r.1.priority) ∷ own_settings q (settings_of (items_of rows))) (own_settings q (settings_of (items_of rows)))
+    by true rest =
+        ap (λ o. settings_of (option_map_or (λ (x : PinSetting). x ∷ picked all (filter (is_own q) (labels_of own_row rows))) o (picked all (filter (is_own q) (labels_of own_row rows))))) h.0
+        ∙ ap (λ l. (r.1.selector, r.1.priority) ∷ l) rest
+    by false rest = rest
+
+-- from where they begin, the order leads through the settings of the package
+pub own_found : (q : List ℕ) (rows : List (ℕ × PinSetting)) (next : ℕ) (order : List ℕ) (at : ℕ) → Rises 0 rows next → order ≡ ranked_serials own_row rows → at ≡ labels_below (own_start q) (sorted_labels (labels_of own_row rows))
+    → settings_of (own_run q rows (drop at order)) ≡ own_settings q (settings_of (items_of rows))
+own_found q rows next order at h is at_is =
+    (λ j. settings_of (own_run q rows (drop (at_is j) (is j))))
+    ∙ ap (λ l. settings_of (own_run q rows l)) (drop-map (λ (y : ℕ × Label). y.0) (labels_below (own_start q) ids) ids)
+    ∙ ap settings_of (run_picks q rows (drop (labels_below (own_start q) ids) ids) (all_drop (labels_below (own_start q) ids) ids (all_sorted (HasSetting q rows) (labels_of own_row rows) (all_have q rows rows (all_found 0 rows next h)))))
+    ∙ ap (λ l. settings_of (picked rows l)) (front_from q ids (in_order (labels_of own_row rows)) ∙ filter-sorted q 0 rows next h)
+    ∙ picks q rows rows (all_found 0 rows next h)
+  where
+    ids : List (ℕ × Label)
+    ids = sorted_labels (labels_of own_row rows)
+
+    all_drop : (k : ℕ) (ys : List (ℕ × Label)) → AllByRecursion (HasSetting q rows) ys → AllByRecursion (HasSetting q rows) (drop k ys)
+    all_drop zero ys h = h
+    all_drop (suc k) [] h = h
+    all_drop (suc k) (y ∷ ys) h = all_drop k ys h.1
+
+-- ---- from a spot on
+
+module _ {X A : Type 0} where
+  rest_from : (ps : List (Vec X A)) (i j : ℕ) (p : Vec X A) → i < length ps → p ≡ get_or ps i p → j ≤ length p.items → drop j p.items ++ joined (drop (suc i) ps) ≡ drop (stands_at ps i j) (joined ps)
+  rest_from [] i j p l is within = absurd (omega arith)
+  rest_from (q ∷ ps) zero j p l is within =
+      let first : j ≡ stands_at (q ∷ ps) 0 j = omega arith in
+      (λ k. drop j (is k).items ++ joined ps)
+      ∙ sym (drop-append-le j q.items (joined ps) (omega (arith, within, ap (λ (v : Vec X A). length v.items) is)))
+      ∙ ap (λ k. drop k (q.items ++ joined ps)) first
+  rest_from (q ∷ ps) (suc i) j p l is within =
+      rest_from ps i j p (omega arith) is within
+      ∙ sym (drop-append-add q.items (joined ps) (stands_at ps i j))
+      ∙ ap (λ k. drop k (q.items ++ joined ps)) (sym (stands_next q ps i j))
+
+  pub rest_joined : (ps : List (Vec X A)) (i j : ℕ) (p : Vec X A) → i < length ps → p ≡ get_or ps i p → j ≤ length p.items → drop j p.items ++ joined (drop (i + 1) ps) ≡ drop (stands_at ps i j) (joined ps)
+  rest_joined ps i j p l is within = ap (λ k. drop j p.items ++ joined (drop k ps)) (plus_one i) ∙ rest_from ps i j p l is within
