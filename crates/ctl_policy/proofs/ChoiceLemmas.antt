@@ -1,11 +1,13 @@
 -- The choice among the rows that are held is that among the rows of the definition.
-use Rattle.std.proofs.Common.{◌≡◌, ℕ, List, [], Option, None, Some, option_map, refl, ap, sym, ◌∙◌}
+use Rattle.std.proofs.Common.{◌≡◌, ℕ, List, [], ◌∷◌, Option, None, Some, option_map, refl, ap, sym, ◌∙◌}
 use Rattle.std.specs.Option.{option_map_or}
 use Rattle.std.specs.FinMap as fin
 use Rattle.ctl_relation.specs.Version.{Triple, triple_of}
 use Rattle.ctl_store.specs.declared.stanza_key.StanzaKey.{StanzaKey}
 use Rattle.ctl_policy.specs.Keys.{or_none}
-use Rattle.ctl_policy.specs.Rows.{Rows, rows_named, newest_first, lead_of, lead_at}
+use Rattle.ctl_policy.specs.declared.chosen.Chosen.{Chosen}
+use Rattle.ctl_policy.specs.Rows.{Rows, Row, rows_named, newest_first, lead_of, lead_at}
+use Rattle.ctl_policy.specs.Chosen.{if_rows}
 use Rattle.ctl_policy.specs.Priority.{World, row_priority}
 use Rattle.ctl_policy.specs.Candidate.{best_of, version_if_row, wanted_version, choice_of}
 use Rattle.ctl_policy.specs.declared.form.Form.{Form}
@@ -34,3 +36,12 @@ choice_is name w form wanted installed rows want there =
 
 pub form_of : (form : Form) (rows others : Rows) → rows_of_form form ≡ rows → ((v : List ℕ) → fin.get rows v ≡ fin.get others v) → IsFormOf form others
 form_of form rows others is h v = sym (shown_get form v) ∙ ap (λ (r : Rows). fin.get r v) is ∙ h v
+
+-- ---- names with rows and without
+
+pub no_rows : (rows : List Row) (c : Chosen) → rows ≡ [] → None ≡ if_rows rows c
+no_rows rows c e = ap (λ r. if_rows r c) (sym e)
+
+pub some_rows : (rows : List Row) (c : Chosen) → (rows ≡ [] → ⊥) → Some c ≡ if_rows rows c
+some_rows [] c h = absurd (h refl)
+some_rows (row ∷ rows) c h = refl

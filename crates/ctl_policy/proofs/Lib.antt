@@ -12,3 +12,6 @@ pub mod HeldLemmas
 pub mod OwnLemmas
 pub mod StatusLemmas
 pub mod ChoiceLemmas
+pub mod RestLemmas
+pub mod TouchLemmas
+pub mod ReadLemmas

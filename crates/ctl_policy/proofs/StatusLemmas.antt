@@ -95,7 +95,7 @@ IsLowest p None = (k : StanzaKey) → p k ≡ false
 IsLowest p (Some k) = (p k ≡ true) × ((j : StanzaKey) → p j ≡ true → is_lt (key_cmp j k) ≡ false)
 
 lowest_alike : (p q : StanzaKey → Bool) (o : Option StanzaKey) → ((k : StanzaKey) → p k ≡ q k) → IsLowest p o → IsLowest q o
-lowest_alike p q None e h k = sym (e k) ∙ h k
+lowest_alike p q None e h = λ k. sym (e k) ∙ h k
 lowest_alike p q (Some k) e h = (sym (e k) ∙ h.0, λ j t. h.1 j (e j ∙ t))
 
 first_there : (x : StanzaKey) (xs : List StanzaKey) → has_key x (x ∷ xs) ≡ true
@@ -149,11 +149,11 @@ abbrev Entries : Type 0
 Entries = List (List ℕ × Vec StanzaKey Global)
 
 -- whether a key stands in one of the rows
-in_rows : StanzaKey → Entries → Bool
+abbrev in_rows : StanzaKey → Entries → Bool
 in_rows k [] = false
 in_rows k (e ∷ es) = has_key k e.1.items || in_rows k es
 
-status_in : Lists → Entries → StanzaKey → Bool
+abbrev status_in : Lists → Entries → StanzaKey → Bool
 status_in lists [] k = false
 status_in lists (e ∷ es) k = (has_key k e.1.items && is_status_key lists k) || status_in lists es k
 

@@ -7,3 +7,4 @@ pub mod Chosen
 pub mod Laws
 pub mod HeldRows
 pub mod HeldWalk
+pub mod HeldRead

@@ -1,14 +1,14 @@
 //! The candidate among the rows of a name.
 
-ghost use Rattle.std.specs.Prelude.{◌≡◌, ℤ, option_copied, option_map, map, reverse};
-ghost use Rattle.std.specs.BTreeMap.{IsOrdered};
-ghost use Rattle.ctl_relation.specs.Version.{triple_of, version_cmp};
+ghost use Rattle.std.specs.Prelude.{◌≡◌, ◌∷◌, [], None, Some, option_copied, option_map, map, reverse};
+ghost use Rattle.ctl_relation.specs.Version.{triple_of};
+ghost use Rattle.ctl_store.specs.Keys.{AreHeld};
 ghost use Rattle.ctl_store.specs.Held.{keyed_of};
 ghost use Rattle.ctl_policy.specs.Rows.{newest_first};
 ghost use Rattle.ctl_policy.specs.Priority.{world_of, row_priority};
 ghost use Rattle.ctl_policy.specs.Candidate.{may_be_taken, is_upgrade, better, best_of};
 ghost use Rattle.ctl_policy.specs.HeldRows.{shown_row, rows_of_form, IsOrderedForm};
-ghost use Rattle.ctl_policy.specs.HeldWalk.{AreHeldIn, IsHeldForm, considered, carried};
+ghost use Rattle.ctl_policy.specs.HeldWalk.{AreHeldIn, IsHeldForm, considered};
 
 use crate::by_version::ByVersion;
 use crate::form::Form;
@@ -86,6 +86,21 @@ fn best_in_map(
     choice
 }
 
+// The row of one stanza, if it may be taken.
+fn best_of_one(
+    store: &Store,
+    name: &[u8],
+    installed: Option<&Version>,
+    version: &Version,
+    key: &StanzaKey,
+) -> Option<Choice>
+    requires { AreHeld (key.now ∷ []) (keyed_of store.now).lists }
+    ensures { result ≡ considered (row_priority name.now (world_of store.now) (key.now ∷ [])) (triple_of version.now) (Some key.now) (option_map triple_of (option_copied installed.entry)) None }
+{
+    let priority = row_priority(store, name, slice::from_ref(key));
+    considered(priority, version, Some(*key), installed, None)
+}
+
 /// The row to be taken of a name, of which these are the rows, where this version is installed.
 pub(crate) fn best(
     store: &Store,
@@ -99,10 +114,7 @@ pub(crate) fn best(
 {
     match rows {
         Form::Empty => None,
-        Form::One(version, key) => {
-            let priority = row_priority(store, name, slice::from_ref(key));
-            considered(priority, version, Some(*key), installed, None)
-        }
+        Form::One(version, key) => best_of_one(store, name, installed, version, key),
         Form::Many(map) => best_in_map(store, name, installed, map),
     }
 }

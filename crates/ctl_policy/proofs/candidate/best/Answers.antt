@@ -4,8 +4,6 @@ use Rattle.ctl_policy.specs.Rows.{newest_first}
 use Rattle.ctl_policy.specs.Priority.{world_of, row_priority}
 use Rattle.ctl_policy.specs.Candidate.{best_of}
 use Rattle.ctl_policy.specs.HeldRows.{rows_of_form, IsOrderedForm}
-use Rattle.ctl_policy.specs.HeldWalk.{considered}
-use Rattle.std.proofs.Common.{None, Some}
 use Rattle.ctl_policy.specs.declared.form.Form.TheVariants.{Empty, One, Many}
 use Rattle.ctl_policy.proofs.ShownLemmas.{rows_shown}
 use Rattle.ctl_policy.proofs.candidate.best.Goals as goal
@@ -18,8 +16,7 @@ returns-in-Empty c =
 pub returns-in-One : goal.returns-in-One
 returns-in-One c =
     let best = best_of (row_priority c.args.name.now (world_of c.args.store.now)) (option_map triple_of (option_copied c.args.installed)) in
-    c.considered.ensures
-    ∙ ap (λ p. considered p (triple_of c.in-One.version) (Some c.in-One.key) (option_map triple_of (option_copied c.args.installed)) None) (c.row_priority-priority.ensures ∙ ap (row_priority c.args.name.now (world_of c.args.store.now)) c.from_ref.ensures.value)
+    c.best_of_one.ensures
     ∙ ap best (rows_shown (One c.in-One.version c.in-One.key) tt) ∙ ap (λ f. best (newest_first (rows_of_form f))) (sym c.in-One.is)
 
 pub returns-in-Many : goal.returns-in-Many
