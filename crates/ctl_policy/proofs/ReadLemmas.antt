@@ -70,8 +70,8 @@ pub read_none : (name : List ℕ) (rows : Rows) (lists : Lists) (left : List Ent
 read_none name rows lists left none all rising = record {
   some = λ v. none v ∙ ap (λ o. some_keys (or_none o)) (sym (none v));
   rest = λ v.
-  ap (λ o. with_keys (or_none o) (keys_with (is_in_row name v) left)) (none v) ∙ from_none (keys_with (is_in_row name v) left) (with_rises (is_in_row name v) left rising)
-  ∙ ap (keys_with (is_in_row name v)) all;
+      ap (λ o. with_keys (or_none o) (keys_with (is_in_row name v) left)) (none v) ∙ from_none (keys_with (is_in_row name v) left) (with_rises (is_in_row name v) left rising)
+      ∙ ap (keys_with (is_in_row name v)) all;
 }
 
 -- one more

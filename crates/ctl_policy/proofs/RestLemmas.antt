@@ -47,7 +47,7 @@ abbrev chosen_by : Option StanzaKey → Choice → Chosen
 chosen_by installed choice = record { installed = installed; candidate = lead_of_choice choice }
 
 module _ (q : List ℕ) (w u : World) (rows : rows_in q u ≡ rows_in q w) (priorities : AllByRecursion (λ (row : Row). row_priority q u row.1 ≡ row_priority q w row.1) (rows_in q w)) (installed : installed_of q u ≡ installed_of q w)
-  (there : version_if_row (rows_named q u.lists) (wanted_version q u) ≡ version_if_row (rows_named q w.lists) (wanted_version q w)) where
+    (there : version_if_row (rows_named q u.lists) (wanted_version q u) ≡ version_if_row (rows_named q w.lists) (wanted_version q w)) where
   best_same : choice_of q u ≡ choice_of q w
   best_same = (λ i. best_of (row_priority q u) (there i) (rows i)) ∙ best_of-same (row_priority q u) (row_priority q w) (version_if_row (rows_named q w.lists) (wanted_version q w)) (rows_in q w) priorities
 

@@ -41,7 +41,7 @@ pub fn rows_are_kept()
 
 /// Rows follow a stanza that comes where its key is put into the rows of its name, and one that goes where it is taken
 /// out. A stanza that isn't live changes no row.
-#[tactic(auto, using(crate::proofs::KeptLemmas::kept_none, crate::proofs::KeptLemmas::kept_put, crate::proofs::KeptLemmas::kept_take, crate::proofs::KeptLemmas::kept_idle, crate::proofs::KeptLemmas::kept_idle_goes, crate::proofs::KeptLemmas::kept_same, crate::proofs::KeptLemmas::kept_alike))]
+#[tactic(auto, using(crate::proofs::KeptLemmas::kept_none, crate::proofs::KeptLemmas::kept_idle, crate::proofs::KeptLemmas::kept_idle_goes, crate::proofs::KeptLemmas::kept_same, crate::proofs::KeptLemmas::kept_alike))]
 pub fn rows_follow_stanzas()
     ensures none { (rows : RowsByName) → ((name : List ℕ) → (version : List ℕ) → fin.get (rows name) version ≡ None) → IsKept rows (λ key. None) }
     ensures put { (key : StanzaKey) → (x : Content) → (name : List ℕ) → (version : List ℕ) → (old : RowsByName) → (new : RowsByName) → (stanzas : Stanzas) → IsKept old stanzas → package_of x ≡ name → version_of x ≡ Some version → stanzas key ≡ None → HasPut version key (old name) (new name) → OthersStay name old new → IsKept new (with_stanza key x stanzas) }
@@ -53,7 +53,6 @@ pub fn rows_follow_stanzas()
 {}
 
 /// A mark changes its own name alone.
-#[tactic(auto, using(crate::proofs::RestLemmas::mark_others, crate::proofs::RestLemmas::unmark_others))]
 pub fn marks_leave_other_names()
     ensures mark { (w : World) → (name : List ℕ) → (mark : Option (List ℕ)) → IsOfName name w (with_marks (fin.insert w.marks name mark) w) }
     ensures unmark { (w : World) → (name : List ℕ) → IsOfName name w (with_marks (fin.remove w.marks name) w) }
@@ -76,7 +75,6 @@ pub fn general_pins_leave_other_names()
 }
 
 /// Preferences change packages whose specific pins change, and names with a stanza in a list whose priority changes, alone.
-#[tactic(auto, using(crate::proofs::RestLemmas::pins_others))]
 pub fn preferences_leave_other_names()
     ensures { (w : World) → (pins : Settings) → (name : List ℕ) → own_settings name pins ≡ own_settings name w.pins → AreRankedAlike name w (with_pins pins w) → Stays name w (with_pins pins w) }
 {}
@@ -88,7 +86,6 @@ pub fn targets_leave_other_names()
 {}
 
 /// A stanza that comes or goes changes its own name alone, where the lists of other names keep their names and priorities.
-#[tactic(auto, using(crate::proofs::TouchLemmas::stanza_others))]
 pub fn stanzas_leave_other_names()
     ensures { (name : List ℕ) → (w : World) → (others : Lists) → AreSameLists name w others → IsUntouched name w.lists others → Stays name w (with_lists others w) }
 {}

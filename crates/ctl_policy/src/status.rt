@@ -47,13 +47,7 @@ fn lower(one: Option<StanzaKey>, other: Option<StanzaKey>) -> Option<StanzaKey>
 {
     match one {
         Some(key) => match other {
-            Some(other) => {
-                if other < key {
-                    Some(other)
-                } else {
-                    Some(key)
-                }
-            }
+            Some(other) => { if other < key { Some(other) } else { Some(key) } }
             None => Some(key),
         },
         None => other,
