@@ -14,7 +14,8 @@ use Rattle.ctl_relation.specs.Orders.Versions.{version_total}
 use Rattle.ctl_store.specs.declared.stanza_key.StanzaKey.{StanzaKey}
 use Rattle.ctl_store.specs.Keys.{AreRising}
 use Rattle.ctl_policy.specs.Keys.{with_key, without_key, or_none, some_keys}
-use Rattle.ctl_policy.specs.Rows.{Rows, Row, newest_first}
+use Rattle.ctl_policy.specs.Rows.{Rows, Row, keys_of_row, newest_first}
+use Rattle.ctl_policy.specs.HeldIter.{one_left, items_left}
 use Rattle.ctl_policy.specs.Kept.{HasPut, HasTaken, HasSame}
 use Rattle.ctl_policy.specs.declared.form.Form.{Form}
 use Rattle.ctl_policy.specs.declared.form.Form.TheVariants.{Empty, One, Many}
@@ -165,3 +166,28 @@ bare_many m false o h = tt
 pub filled_many : (m : Shelf) (b : Bool) → IsOrderedForm (Many m) → (b ≡ true) ↔ (length m.entries ≡ 0) → OnFalse b (newest_first (rows_of_form (Many m)) ≡ [] → ⊥)
 filled_many m true o h = tt
 filled_many m false o h = λ e. many_there m.entries (λ z. false≢true (h.1 z)) (rows_shown (Many m) o ∙ e)
+
+-- ---- rows that are lent, newest first
+
+map_append : {A B : Type 0} (f : A → B) (xs ys : List A) → map f (xs ++ ys) ≡ map f xs ++ map f ys
+map_append f [] ys = refl
+map_append f (x ∷ xs) ys = ap (λ l. f x ∷ l) (map_append f xs ys)
+
+items_shown : (es : List (List ℕ × Vec StanzaKey Global)) → items_left es ≡ map keys_of_row (reverse (map shown_row es))
+items_shown [] = refl
+items_shown (e ∷ es) =
+    reverse-append (e.1.items ∷ []) (map (λ (e : List ℕ × Vec StanzaKey Global). e.1.items) es)
+    ∙ ap (λ l. l ++ e.1.items ∷ []) (items_shown es)
+    ∙ sym (ap (map keys_of_row) (reverse-append (shown_row e ∷ []) (map shown_row es)) ∙ map_append keys_of_row (reverse (map shown_row es)) (shown_row e ∷ []))
+
+pub empty_left : one_left None ≡ map keys_of_row (newest_first (rows_of_form Empty))
+empty_left = ap (map keys_of_row) (rows_shown Empty tt)
+
+pub one_is_left : (version : List ℕ) (key : StanzaKey) → one_left (Some key) ≡ map keys_of_row (newest_first (rows_of_form (One version key)))
+one_is_left version key = ap (map keys_of_row) (rows_shown (One version key) tt)
+
+pub many_left : (m : Shelf) → IsOrderedForm (Many m) → items_left m.entries ≡ map keys_of_row (newest_first (rows_of_form (Many m)))
+many_left m o = items_shown m.entries ∙ ap (map keys_of_row) (rows_shown (Many m) o)
+
+pub last_first : (es : List (List ℕ × Vec StanzaKey Global)) (e : List ℕ × Vec StanzaKey Global) → items_left (es ++ e ∷ []) ≡ e.1.items ∷ items_left es
+last_first es e = ap reverse (map_append (λ (e : List ℕ × Vec StanzaKey Global). e.1.items) es (e ∷ [])) ∙ reverse-append (map (λ (e : List ℕ × Vec StanzaKey Global). e.1.items) es) (e.1.items ∷ [])

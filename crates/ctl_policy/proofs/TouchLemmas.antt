@@ -1,5 +1,5 @@
 -- Stanzas that come and go leave other names; lists that hold no stanza of a name are no source of its rows.
-use Rattle.std.proofs.Common.{◌≡◌, ◌⊎◌, inl, inr, ℕ, Bool, true, false, cond, ◌&&◌, ◌||◌, List, [], ◌∷◌, ◌++◌, map, reverse, Option, None, Some, IfSome, option_map, unwrap_or, is_some, refl, ap, sym, subst, ◌∙◌}
+use Rattle.std.proofs.Common.{◌≡◌, ◌⊎◌, inl, inr, ℕ, Bool, true, false, cond, ◌&&◌, ◌||◌, List, [], ◌∷◌, ◌++◌, map, reverse, Option, None, Some, IfSome, IsSome, option_map, unwrap_or, is_some, refl, ap, sym, subst, ◌∙◌}
 use Rattle.std.specs.Str.{bytes_eq}
 use Rattle.std.specs.Option.{option_map_or}
 use Rattle.std.specs.List.{AllByRecursion}
@@ -12,15 +12,15 @@ use Rattle.ctl_store.specs.declared.selector.Selector.{Selector}
 use Rattle.ctl_store.specs.declared.selector.Selector.TheVariants.{Version, Release}
 use Rattle.ctl_store.specs.declared.stanza_key.StanzaKey.{StanzaKey}
 use Rattle.ctl_store.specs.Step.{is_status}
-use Rattle.ctl_store.specs.Keys.{key_is, stanza_at, holder_of, all_keys, AreRising}
+use Rattle.ctl_store.specs.Keys.{key_is, stanza_at, holder_of, all_keys, AreHeld, AreRising}
 use Rattle.ctl_store.specs.Entries.{entries_of}
 use Rattle.ctl_policy.specs.Keys.{has_key, or_none, some_keys}
-use Rattle.ctl_policy.specs.Rows.{Lists, Row, version_in, is_of_version, is_in_row, keys_with, rows_named, newest_first, lead_of, lead_at, version_under, is_called, is_source}
+use Rattle.ctl_policy.specs.Rows.{Lists, Rows, Row, keys_at, keys_of_row, AreRowsOf, version_in, is_of_version, is_in_row, keys_with, rows_named, newest_first, lead_of, lead_at, version_under, is_called, is_source}
 use Rattle.ctl_policy.specs.Priority.{Settings, World, matches_text, matches_row, specific_pin, priority_found, source_priorities, greatest, row_priority}
 use Rattle.ctl_policy.specs.Candidate.{is_status_of, status_version, wanted_version, version_if_row}
 use Rattle.ctl_policy.specs.Laws.{rows_in, with_lists, version_found, Stays, IsUntouched, AreSameLists, IsNoSource, HoldsNone}
 use Rattle.ctl_policy.proofs.SetLemmas.{same_keys, key_is-itself}
-use Rattle.ctl_policy.proofs.DefinedLemmas.{keys_are, with_rises, find_placed, has_key-placed, row_defined}
+use Rattle.ctl_policy.proofs.DefinedLemmas.{or_none-some, key_held, keys_are, with_rises, find_placed, has_key-placed, row_defined}
 use Rattle.ctl_policy.proofs.ShownLemmas.{sorted, find_is}
 use Rattle.ctl_policy.proofs.HeldLemmas.{each_key, each_value}
 use Rattle.ctl_policy.proofs.ChoiceLemmas.{shown_alike}
@@ -209,3 +209,21 @@ no_source list q w rising none =
     other : (k : StanzaKey) (v : List ℕ) (b : Bool) → is_called list (holder_of k w.lists) ≡ b → is_of_version v (version_found q (stanza_at k w.lists)) ≡ true → b ≡ false
     other k v true is e = absurd (false≢true (sym (ap (is_of_version v) (none k is)) ∙ e))
     other k v false is e = refl
+
+-- ---- the stanzas of rows stand in the lists
+
+pub version_held : (rows : Rows) (name : List ℕ) (lists : Lists) → AreRowsOf rows name lists → (version : List ℕ) → AreHeld (keys_at rows version) lists
+version_held rows name lists h v = each_key (λ k. IsSome (stanza_at k lists)) (keys_at rows v) (λ k e. key_held name v lists k (ap (λ o. has_key k (or_none o)) (sym (h v)) ∙ e))
+
+all_mapped : (P : List StanzaKey → Type 0) (rows : List Row) → AllByRecursion (λ (row : Row). P row.1) rows → AllByRecursion P (map keys_of_row rows)
+all_mapped P [] h = tt
+all_mapped P (row ∷ rows) h = (h.0, all_mapped P rows h.1)
+
+class_held : (name v : List ℕ) (lists : Lists) → AreHeld (keys_with (is_in_row name v) (entries_of lists)) lists
+class_held name v lists = subst (λ ks. AreHeld ks lists) (ap or_none (row_defined name v lists) ∙ or_none-some (keys_with (is_in_row name v) (entries_of lists)))
+    (each_key (λ k. IsSome (stanza_at k lists)) (keys_at (rows_named name lists) v) (key_held name v lists))
+
+pub rows_held : (rows : Rows) (name : List ℕ) (lists : Lists) → AreRowsOf rows name lists → AllByRecursion (λ keys. AreHeld keys lists) (map keys_of_row (newest_first rows))
+rows_held rows name lists h =
+    subst (λ rs. AllByRecursion (λ keys. AreHeld keys lists) (map keys_of_row rs)) (sym (shown_alike rows (rows_named name lists) h))
+    (all_mapped (λ keys. AreHeld keys lists) (newest_first (rows_named name lists)) (each_class (λ keys. AreHeld keys lists) name lists (λ v. class_held name v lists)))

@@ -8,3 +8,4 @@ pub mod Laws
 pub mod HeldRows
 pub mod HeldWalk
 pub mod HeldRead
+pub mod HeldIter

@@ -68,6 +68,9 @@ AreRowsOf rows name lists = (version : List ℕ) → fin.get rows version ≡ fi
 abbrev pub Row : Type 0
 Row = Triple × List StanzaKey
 
+abbrev pub keys_of_row : Row → List StanzaKey
+keys_of_row row = row.1
+
 -- the rows, newest first
 abbrev pub newest_first : Rows → List Row
 newest_first rows = reverse (map (λ (row : List ℕ × List StanzaKey). (triple_of row.0, row.1)) (fin.entries rows))

@@ -1,8 +1,9 @@
 //! Laws, each a function whose contract says it.
 
-ghost use Rattle.std.specs.Prelude.{◌≡◌, ℕ, ℤ, List, Option, None, Some, Vec, true, false, if◌then◌else◌};
+ghost use Rattle.std.specs.Prelude.{◌≡◌, ℕ, ℤ, List, Option, None, Some, Vec, map, true, false, if◌then◌else◌};
 ghost use Rattle.std.proofs.Common.{Global};
 ghost use Rattle.std.specs.Str.{bytes_eq};
+ghost use Rattle.std.specs.List.{AllByRecursion};
 ghost use Rattle.std.specs.Map.{remove_entry};
 ghost use Rattle.std.specs.BTreeMap.{BTreeMap};
 ghost use Rattle.std.specs.FinMap as fin;
@@ -14,12 +15,12 @@ ghost use Rattle.ctl_store.specs.declared.stanza_key.StanzaKey.{StanzaKey};
 ghost use Rattle.ctl_store.specs.Pins.{selector_eq, is_of, own_settings};
 ghost use Rattle.ctl_store.specs.Edits.{Edit, Mark, Unmark, Pin, Unpin};
 ghost use Rattle.ctl_store.specs.Step.{after};
-ghost use Rattle.ctl_store.specs.Keys.{keyed_after, AreRising, all_keys};
+ghost use Rattle.ctl_store.specs.Keys.{keyed_after, AreHeld, AreRising, all_keys};
 ghost use Rattle.ctl_store.specs.Entries.{entries_of};
 ghost use Rattle.ctl_store.specs.Held.{Held, keyed_of, state_of};
 ghost use Rattle.ctl_policy.specs.declared.chosen.Chosen.{Chosen};
 ghost use Rattle.ctl_policy.specs.Keys.{some_keys};
-ghost use Rattle.ctl_policy.specs.Rows.{Lists, Rows, rows_named, is_in_row, keys_with, AreRowsOf};
+ghost use Rattle.ctl_policy.specs.Rows.{Lists, Rows, rows_named, is_in_row, keys_at, keys_with, keys_of_row, newest_first, AreRowsOf};
 ghost use Rattle.ctl_policy.specs.Priority.{World, Settings, world_of};
 ghost use Rattle.ctl_policy.specs.Kept.{RowsByName, Stanzas, IsKept, OthersStay, HasPut, HasTaken, stanzas_in, with_stanza, without_stanza};
 ghost use Rattle.ctl_policy.specs.Chosen.{at_bytes, kept_of, AreChosen};
@@ -37,6 +38,12 @@ pub fn rows_are_classes()
 #[tactic(auto, using(crate::proofs::DefinedLemmas::kept_rows))]
 pub fn rows_are_kept()
     ensures { (rows : RowsByName) → (lists : Lists) → AreRising (all_keys lists) → IsKept rows (stanzas_in lists) → (name : List ℕ) → AreRowsOf (rows name) name lists }
+{}
+
+/// The stanzas of the rows of a name stand in the store.
+pub fn rows_are_held()
+    ensures rows { (rows : Rows) → (name : List ℕ) → (lists : Lists) → AreRowsOf rows name lists → AllByRecursion (λ keys. AreHeld keys lists) (map keys_of_row (newest_first rows)) }
+    ensures version { (rows : Rows) → (name : List ℕ) → (lists : Lists) → AreRowsOf rows name lists → (version : List ℕ) → AreHeld (keys_at rows version) lists }
 {}
 
 /// Rows follow a stanza that comes where its key is put into the rows of its name, and one that goes where it is taken

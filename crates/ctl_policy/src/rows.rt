@@ -1,14 +1,15 @@
 //! The rows of one name.
 
-ghost use Rattle.std.specs.Prelude.{◌≡◌, [], List, ℕ, None, OnOk, OnErr};
+ghost use Rattle.std.specs.Prelude.{◌≡◌, [], map, List, ℕ, None, OnOk, OnErr};
 ghost use Rattle.std.specs.Bool.{OnTrue, OnFalse};
 ghost use Rattle.std.specs.FinMap as fin;
 ghost use Rattle.ctl_store.specs.Keys.{AreRising};
-ghost use Rattle.ctl_policy.specs.Rows.{keys_at, lead_at, newest_first};
+ghost use Rattle.ctl_policy.specs.Rows.{keys_at, lead_at, keys_of_row, newest_first};
 ghost use Rattle.ctl_policy.specs.HeldRows.{rows_of_form, IsOrderedForm};
 ghost use Rattle.ctl_policy.specs.Kept.{HasPut, HasTaken, HasSame};
 
 use crate::form::{Form, keys_in_form, put_in_form, take_from_form};
+use crate::newest::NewestFirst;
 use ctl_relation::Version;
 use ctl_store::StanzaKey;
 use std::alloc::{AllocError, Global};
@@ -102,6 +103,13 @@ impl Rows {
         ensures some { OnFalse result (newest_first self.now ≡ [] → ⊥) }
     {
         is_bare(self.form())
+    }
+
+    /// The rows, newest first: the keys of the stanzas of each.
+    pub fn iter(&self) -> NewestFirst<'_>
+        ensures { result ≡ map keys_of_row (newest_first self.now) }
+    {
+        NewestFirst::new(self.form())
     }
 
     /// The keys of the stanzas of a version, in order; none where there is no row of it.
