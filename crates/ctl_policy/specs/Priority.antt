@@ -1,4 +1,4 @@
--- The priority of a list and of a row (apt_preferences(5), "APT's Default Priority Assignments" and "Assigning Priorities").
+-- The priority of a list and of a row (apt_preferences(5), "APT's Default Priority Assignments" and "The Effect of APT Preferences").
 use Rattle.std.specs.Prelude.{ℕ, ℤ, pos, Bool, false, ◌&&◌, List, [], ◌∷◌, map, Option, None, Some, option_map, unwrap_or, if◌then◌else◌}
 use Rattle.std.specs.Option.{option_map_or}
 use Rattle.std.specs.Str.{bytes_eq}
