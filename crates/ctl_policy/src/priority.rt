@@ -161,8 +161,8 @@ fn first_match(store: &Store, name: &[u8], keys: &[StanzaKey], pins: PackagePins
     None
 }
 
-#[tactic(auto, using(crate::proofs::OwnLemmas::own_pins))]
 /// The priority of the first specific pin that matches a row of a name, which has these stanzas, if there is one.
+#[tactic(auto, using(crate::proofs::OwnLemmas::own_pins))]
 pub fn specific_pin(store: &Store, name: &[u8], keys: &[StanzaKey]) -> Option<i16>
     requires { AreHeld keys.now (keyed_of store.now).lists }
     ensures { result ≡ specific_pin name.now (keyed_of store.now).lists keys.now (world_of store.now).pins }
