@@ -15,3 +15,4 @@ pub mod ChoiceLemmas
 pub mod RestLemmas
 pub mod TouchLemmas
 pub mod ReadLemmas
+pub mod StepLemmas

@@ -11,6 +11,7 @@ use Rattle.ctl_store.specs.Step.{after}
 use Rattle.ctl_store.specs.Pins.{own_settings}
 use Rattle.ctl_store.specs.Keys.{stanza_at, holder_of, all_keys, AreRising, keyed_after}
 use Rattle.ctl_store.specs.Held.{Held, keyed_of, state_of}
+use Rattle.ctl_policy.specs.Keys.{has_key}
 use Rattle.ctl_policy.specs.Rows.{Lists, Row, rows_named, newest_first, version_in, is_called, is_source}
 use Rattle.ctl_policy.specs.Priority.{World, Settings, world_in, list_priority, row_priority, priority_found}
 use Rattle.ctl_policy.specs.Chosen.{choice_in, kept_of}
@@ -70,6 +71,10 @@ HoldsNone list name lists = (k : StanzaKey) → is_called list (holder_of k list
 -- Under each key stands the stanza that stood there, unless neither is a live one of this name.
 abbrev pub IsUntouched : List ℕ → Lists → Lists → Type 0
 IsUntouched name lists others = (k : StanzaKey) → (stanza_at k others ≡ stanza_at k lists) ⊎ ((version_found name (stanza_at k lists) ≡ None) × (version_found name (stanza_at k others) ≡ None))
+
+-- none of the stanzas that are found under these keys is a live one of a name
+abbrev pub HasNoneOf : List ℕ → List StanzaKey → (StanzaKey → Option Content) → Type 0
+HasNoneOf name keys find = (k : StanzaKey) → has_key k keys ≡ true → version_found name (find k) ≡ None
 
 -- The lists that hold the stanzas of a name have the names and the priorities that they had.
 pub record AreSameLists (name : List ℕ) (w : World) (others : Lists) : Type 0 where

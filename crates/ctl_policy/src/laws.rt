@@ -15,8 +15,8 @@ ghost use Rattle.ctl_store.specs.declared.stanza_key.StanzaKey.{StanzaKey};
 ghost use Rattle.ctl_store.specs.Pins.{selector_eq, is_of, own_settings};
 ghost use Rattle.ctl_store.specs.Edits.{Edit, Mark, Unmark, Pin, Unpin};
 ghost use Rattle.ctl_store.specs.Step.{after};
-ghost use Rattle.ctl_store.specs.Keys.{keyed_after, AreHeld, AreRising, all_keys};
-ghost use Rattle.ctl_store.specs.Entries.{entries_of};
+ghost use Rattle.ctl_store.specs.Keys.{keyed_after, stanza_at, coming, AreCome, AreNew, AreHeld, AreRising, all_keys};
+ghost use Rattle.ctl_store.specs.Entries.{entries_of, IsChange};
 ghost use Rattle.ctl_store.specs.Held.{Held, keyed_of, state_of};
 ghost use Rattle.ctl_policy.specs.declared.chosen.Chosen.{Chosen};
 ghost use Rattle.ctl_policy.specs.Keys.{some_keys};
@@ -24,7 +24,7 @@ ghost use Rattle.ctl_policy.specs.Rows.{Lists, Rows, rows_named, is_in_row, keys
 ghost use Rattle.ctl_policy.specs.Priority.{World, Settings, world_of};
 ghost use Rattle.ctl_policy.specs.Kept.{RowsByName, Stanzas, IsKept, OthersStay, HasPut, HasTaken, stanzas_in, with_stanza, without_stanza};
 ghost use Rattle.ctl_policy.specs.Chosen.{at_bytes, kept_of, AreChosen};
-ghost use Rattle.ctl_policy.specs.Laws.{Stays, IsOfName, IsNoSource, IsNoTarget, AreRankedAlike, HoldsNone, IsUntouched, AreSameLists, with_marks, with_pins, with_target, with_lists, world_after};
+ghost use Rattle.ctl_policy.specs.Laws.{Stays, IsOfName, IsNoSource, IsNoTarget, AreRankedAlike, HoldsNone, HasNoneOf, IsUntouched, AreSameLists, with_marks, with_pins, with_target, with_lists, world_after};
 
 use ctl_store::settings_by_package;
 
@@ -95,6 +95,11 @@ pub fn targets_leave_other_names()
 /// A stanza that comes or goes changes its own name alone, where the lists of other names keep their names and priorities.
 pub fn stanzas_leave_other_names()
     ensures { (name : List ℕ) → (w : World) → (others : Lists) → AreSameLists name w others → IsUntouched name w.lists others → Stays name w (with_lists others w) }
+{}
+
+/// An edit by which no live stanza of a name goes or comes leaves the stanzas of that name.
+pub fn edits_leave_other_stanzas()
+    ensures { (name : List ℕ) → (before : Lists) → (after : Lists) → (removed : List StanzaKey) → (added : List StanzaKey) → (edit : Edit) → IsChange before after removed added edit → AreCome added edit after → AreNew added removed before → HasNoneOf name removed (λ k. stanza_at k before) → HasNoneOf name added (coming edit) → IsUntouched name before after }
 {}
 
 /// A name of which a list holds no live stanza has no row with this list as a source.

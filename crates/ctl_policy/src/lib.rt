@@ -16,7 +16,7 @@ mod walk;
 
 pub use chosen::{Chosen, choose, renew};
 pub use laws::{
-    edits_of_one_name, general_pins_leave_other_names, marks_leave_other_names, one_name_is_enough,
+    edits_leave_other_stanzas, edits_of_one_name, general_pins_leave_other_names, marks_leave_other_names, one_name_is_enough,
     preferences_leave_other_names, rows_are_classes, rows_are_held, rows_are_kept,
     rows_follow_stanzas, sources_hold_stanzas, specific_pins_leave_other_names,
     stanzas_leave_other_names, targets_leave_other_names, worlds_move,
