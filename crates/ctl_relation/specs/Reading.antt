@@ -25,6 +25,11 @@ abbrev pub Gives : {X Y : Type 0} → (X → Y) → Result X RelationFault → R
 Gives view (Ok x) read = read ≡ Ok (view x)
 Gives view (Err e) read = e ≢ fault.Memory → read ≡ Err e
 
+-- What a function returned, seen by view, is what reading gives.
+abbrev pub GivesAlways : {X Y : Type 0} → (X → Y) → Result X RelationFault → Result Y RelationFault → Type 0
+GivesAlways view (Ok x) read = read ≡ Ok (view x)
+GivesAlways view (Err e) read = read ≡ Err e
+
 -- ---- tokens
 
 -- A name is the longest run of the bytes of names.
