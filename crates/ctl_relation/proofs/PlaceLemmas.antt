@@ -1,13 +1,12 @@
 -- Places that rise, and the groups that are held at them.
-use Rattle.std.proofs.Common.{◌≡◌, ◌∙◌, ◌⊎◌, ◌+◌, ◌-◌, ◌<◌, ◌≤◌, ◌^◌, ℕ, zero, suc, Bool, true, false, cond, nat_lt, List, [], ◌∷◌, ◌++◌, length, length-append, length-drop, map, take, drop, get_or, slice_get, Some, inl, inr, refl, sym, ap, ap₂, subst, arith, ⊎_elim, drop-drop, take_all, ltb-true, ltb-false, lt-ltb, le-ltb}
+use Rattle.std.proofs.Common.{◌≡◌, ◌∙◌, ◌⊎◌, ◌+◌, ◌-◌, ◌<◌, ◌≤◌, ◌^◌, ℕ, zero, suc, Bool, true, false, cond, nat_lt, List, [], ◌∷◌, ◌++◌, length, length-append, length-drop, map, take, drop, get_or, slice_get, Option, None, Some, MatchOption, inl, inr, refl, sym, ap, ap₂, subst, arith, ⊎_elim, drop-drop, take_all, ltb-true, ltb-false, lt-ltb, le-ltb}
 use lib.Seq.{take-append-le, drop-append-le}
 use Rattle.std.proofs.lemmas.Bool.{cases_Bool, cond-true, cond-false}
-use Rattle.std.proofs.lemmas.List.Sums.{prefix_len_is}
-use Rattle.std.specs.List.{prefix_len}
-use Rattle.std.specs.List.Sorted.{IsNonDecreasing, IsPartitionedBy}
+use Rattle.std.proofs.lemmas.List.Elements.{All-tail, All-drop}
+use Rattle.std.specs.List.Sorted.{IsNonDecreasing}
 use Rattle.ctl_relation.specs.declared.field_kind.FieldKind.{FieldKind}
 use Rattle.ctl_relation.specs.Parts.{AtomParts}
-use Rattle.ctl_relation.specs.HeldPlaces.{atoms_held, count_below, count_before, groups_held, Rise}
+use Rattle.ctl_relation.specs.HeldPlaces.{HasAtom, HaveAtoms, AreHeld, atoms_held, behind_earlier, count_below, count_before, groups_held, places_left, Rise}
 
 -- ---- places that rise
 
@@ -103,23 +102,76 @@ before-le (next ∷ starts) further = below-le next further
 
 -- ---- the groups that are held
 
+from-drop : {A : Type 0} (i : ℕ) (xs ys : List A) → drop i xs ≡ ys → slice_get xs i ≡ slice_get ys 0
+from-drop zero xs ys e = ap (λ t. slice_get t 0) e
+from-drop (suc i) [] ys e = ap (λ t. slice_get t 0) e
+from-drop (suc i) (x ∷ xs) ys e = from-drop i xs ys e
+
+-- what comes first of the rest from an index on is what stands there
+pub first-from : {A : Type 0} (i : ℕ) (xs rest : List A) (r : Option A) → MatchOption r ((drop i xs ≡ []) × (rest ≡ [])) (λ x. drop i xs ≡ x ∷ rest) → r ≡ slice_get xs i
+first-from i xs rest None h = sym (from-drop i xs [] h.0)
+first-from i xs rest (Some x) h = sym (from-drop i xs (x ∷ rest) h)
+
 module _ (kind : FieldKind) (body : List ℕ) where
   pub held-length : (starts further : List ℕ) → length (groups_held kind body starts further) ≡ length starts
   held-length [] further = refl
   held-length (start ∷ starts) further = ap suc (held-length starts (drop (count_before starts further) further))
 
-  -- the groups from one on
-  pub held-drop : (i low high start : ℕ) (starts further : List ℕ) → i < length starts → Rise low high starts
-      → drop (suc i) (groups_held kind body (start ∷ starts) further) ≡ groups_held kind body (drop i starts) (drop (count_below (get_or starts i 0) further) further)
-  held-drop i low high start [] further lt h = absurd (omega arith)
+  -- what is left behind the next group is what is left behind a later one
+  earlier-again : (next high : ℕ) (later further : List ℕ) → 0 < length later → Rise (suc next) high later
+      → behind_earlier later (drop (count_below next further) further) ≡ behind_earlier later further
+  earlier-again next high [] further some h = absurd (omega (arith, some))
+  earlier-again next high (bound ∷ later) further some h =
+      let n : ℕ = count_below next further in
+      drop-drop (count_below bound (drop n further)) n further ∙ ap (λ k. drop k further) (sym (below-more next bound further (omega (arith, h.0))))
+
+  held-drop : (i low high start : ℕ) (starts further : List ℕ) → i < length starts → Rise low high starts
+      → groups_held kind body (drop i starts) (behind_earlier (drop i starts) further) ≡ drop (suc i) (groups_held kind body (start ∷ starts) further)
+  held-drop i low high start [] further lt h = absurd (omega (arith, lt))
   held-drop zero low high start (next ∷ starts) further lt h = refl
   held-drop (suc i) low high start (next ∷ starts) further lt h =
       let n : ℕ = count_below next further in
-      let bound : ℕ = get_or starts i 0 in
-      let le : next ≤ bound = omega (arith, rise-above (suc next) high starts i 0 (omega (arith, lt)) h.1) in
-      held-drop i (suc next) high next starts (drop n further) (omega (arith, lt)) h.1
-      ∙ ap (λ t. groups_held kind body (drop i starts) t)
-      (drop-drop (count_below bound (drop n further)) n further ∙ ap (λ k. drop k further) (sym (below-more next bound further le)))
+      ap (λ t. groups_held kind body (drop i starts) t) (sym (earlier-again next high (drop i starts) further (omega (arith, lt, length-drop i starts)) (rise-drop i (suc next) high starts h.1)))
+      ∙ held-drop i (suc next) high next starts (drop n further) (omega (arith, lt)) h.1
+
+  -- the groups from one on
+  pub held-from : (i high : ℕ) (starts further : List ℕ) → (i ≡ 0 → ⊥) → i < length starts → Rise 0 high starts
+      → groups_held kind body (drop i starts) (behind_earlier (drop i starts) further) ≡ drop i (groups_held kind body starts further)
+  held-from zero high starts further some lt h = absurd (some refl)
+  held-from (suc i) high [] further some lt h = absurd (omega (arith, lt))
+  held-from (suc i) high (start ∷ starts) further some lt h = held-drop i (suc start) high start starts further (omega (arith, lt)) h.1
+
+  pub are-held-from : (i : ℕ) (starts further : List ℕ) → AreHeld kind body starts further → AreHeld kind body (drop i starts) (behind_earlier (drop i starts) further)
+  are-held-from i starts further h = earlier (drop i starts) (All-drop (HasAtom kind body) i starts h.first_atoms) (rise-drop i 0 (2 ^ 32) starts h.starts_rise)
+    where
+      earlier : (later : List ℕ) → HaveAtoms kind body later → Rise 0 (2 ^ 32) later → AreHeld kind body later (behind_earlier later further)
+      earlier [] atoms rise = record { first_atoms = atoms; further_atoms = h.further_atoms; starts_rise = rise; further_rise = h.further_rise }
+      earlier (bound ∷ later) atoms rise = record {
+        first_atoms = atoms;
+        further_atoms = All-drop (HasAtom kind body) (count_below bound further) further h.further_atoms;
+        starts_rise = rise;
+        further_rise = rise-drop (count_below bound further) 0 (2 ^ 32) further h.further_rise;
+      }
+
+  -- the groups behind the first one
+  pub are-held-behind : (start n : ℕ) (starts all further others : List ℕ) → all ≡ start ∷ starts → others ≡ drop n further → AreHeld kind body all further → AreHeld kind body starts others
+  are-held-behind start n starts all further others e o h =
+      let rise = subst (Rise 0 (2 ^ 32)) e h.starts_rise in
+      record {
+        first_atoms = All-tail (HasAtom kind body) start starts (subst (HaveAtoms kind body) e h.first_atoms);
+        further_atoms = subst (HaveAtoms kind body) (sym o) (All-drop (HasAtom kind body) n further h.further_atoms);
+        starts_rise = rise-low (suc start) 0 (2 ^ 32) starts (omega arith) rise.1;
+        further_rise = subst (Rise 0 (2 ^ 32)) (sym o) (rise-drop n 0 (2 ^ 32) further h.further_rise);
+      }
+
+  -- the atoms behind the first one
+  pub atoms-left : (first : Option ℕ) (place : ℕ) (further : List ℕ) → first ≡ Some place → HaveAtoms kind body (places_left first further) → HaveAtoms kind body further
+  atoms-left None place further e h = absurd cc
+  atoms-left (Some p) place further e h = All-tail (HasAtom kind body) p further h
+
+  pub atoms-left-further : (first : Option ℕ) (place : ℕ) (all further : List ℕ) → first ≡ None → all ≡ place ∷ further → HaveAtoms kind body (places_left first all) → HaveAtoms kind body (places_left first further)
+  atoms-left-further None place all further e is h = All-tail (HasAtom kind body) place further (subst (HaveAtoms kind body) is h)
+  atoms-left-further (Some p) place all further e is h = absurd cc
 
   -- a group more, whose places lie behind those of the others
   held-more : (low less high start place : ℕ) (starts further more : List ℕ) → Rise low place starts → Rise less place further → Rise (suc place) high more

@@ -30,6 +30,11 @@ abbrev pub count_before : List ℕ → List ℕ → ℕ
 count_before [] further = length further
 count_before (next ∷ starts) further = count_below next further
 
+-- the further places without those of groups before the first of these
+abbrev pub behind_earlier : List ℕ → List ℕ → List ℕ
+behind_earlier [] further = further
+behind_earlier (start ∷ starts) further = drop (count_below start further) further
+
 -- The groups that begin at these places. What comes further in each of them begins at the further places up to the next
 -- group.
 abbrev pub groups_held : FieldKind → List ℕ → List ℕ → List ℕ → List (List AtomParts)
@@ -38,7 +43,7 @@ groups_held kind body (start ∷ starts) further =
     atoms_held kind body (start ∷ take (count_before starts further) further)
     ∷ groups_held kind body starts (drop (count_before starts further) further)
 
--- the places of a group as far as they are left: of its first atom and of the further ones
+-- the places of the atoms of a group that are left: of its first one, until it was given, and of the further ones
 abbrev pub places_left : Option ℕ → List ℕ → List ℕ
 places_left None further = further
 places_left (Some first) further = first ∷ further

@@ -3,7 +3,7 @@
 ghost use Rattle.std.specs.Prelude.{◌≡◌, ◌+◌, ◌-◌, ◌^◌, ◌++◌, None, IfSome, OnOk, OnErr, min, take, vec_len};
 ghost use Rattle.ctl_relation.specs.Lent.{lent, lent_bound};
 ghost use Rattle.ctl_relation.specs.Met.{met};
-ghost use Rattle.ctl_relation.specs.Printed.{atom_text};
+ghost use Rattle.ctl_relation.specs.Printed.{atom_text, qualifier_text};
 ghost use Rattle.ctl_relation.specs.Version.{fault_of};
 
 use crate::offer::Offer;
@@ -112,17 +112,26 @@ impl<'a> Atom<'a> {
         ensures ok { OnOk result (out.new.items ≡ out.old.items ++ atom_text self.now) }
         ensures err { OnErr result (take (vec_len out.old) out.new.items ≡ out.old.items) }
     {
-        out.extend_from_slice(self.name)?;
-        if let Some(qualifier) = self.qualifier {
-            out.push(b':')?;
-            out.extend_from_slice(qualifier)?;
-        }
+        self.append_name(out)?;
         if let Some((operator, version)) = self.bound {
             out.extend_from_slice(b" (")?;
             out.extend_from_slice(operator.text())?;
             out.push(b' ')?;
             out.extend_from_slice(version)?;
             out.push(b')')?;
+        }
+        Ok(())
+    }
+
+    // Appends the name, and the qualifier behind its colon. Want of memory leaves what stood in `out` at its front.
+    fn append_name(&self, out: &mut Vec<u8>) -> Result<(), AllocError>
+        ensures ok { OnOk result (out.new.items ≡ out.old.items ++ (self.now.name ++ qualifier_text self.now.qualifier)) }
+        ensures err { OnErr result (take (vec_len out.old) out.new.items ≡ out.old.items) }
+    {
+        out.extend_from_slice(self.name)?;
+        if let Some(qualifier) = self.qualifier {
+            out.push(b':')?;
+            out.extend_from_slice(qualifier)?;
         }
         Ok(())
     }

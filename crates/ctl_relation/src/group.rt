@@ -1,8 +1,9 @@
 //! Groups of alternatives.
 
-ghost use Rattle.std.specs.Prelude.{◌≡◌, ◌≤◌, ◌==◌, ◌<◌, ◌^◌, ◌++◌, [], ◌∷◌, length, OnOk, OnErr, take, vec_len, slice_get, slice_index};
-ghost use Rattle.ctl_relation.specs.HeldPlaces.{HasAtom, HaveAtoms, atoms_held, places_left};
-ghost use Rattle.ctl_relation.specs.Printed.{group_text};
+ghost use Rattle.std.specs.Prelude.{◌≡◌, ◌≤◌, ◌^◌, ◌++◌, ◌∷◌, length, OnOk, OnErr, take, vec_len, slice_get, slice_index};
+ghost use Rattle.std.specs.List.{flat_map};
+ghost use Rattle.ctl_relation.specs.HeldPlaces.{HasAtom, HaveAtoms, atom_held, atoms_held};
+ghost use Rattle.ctl_relation.specs.Printed.{alternative_text, group_text};
 
 use crate::atom::Atom;
 use crate::field_kind::FieldKind;
@@ -10,44 +11,38 @@ use crate::reading::atom_at_place;
 use std::alloc::AllocError;
 use std::marker::Model;
 
-/// Alternatives, of which one is to be met: seen as the list of its atoms.
-///
-/// They are lent from the text of the field. As an iterator this gives them in their order.
+/// Alternatives, of which one is to be met: seen as the list of its atoms, of which there is at least one. They are lent from
+/// the text of the field.
 #[derive(Drop)]
 pub struct Group<'a> {
     kind: FieldKind,
     body: &'a [u8],
-    // Where the first atom begins, until it was given.
-    first: Option<u32>,
+    // Where the first atom begins, and where the further ones do.
+    first: u32,
     further: &'a [u32],
 }
 
 impl<'a> Model for Group<'a> {
-    ghost use Rattle.std.specs.Prelude.{List, ◌≤◌, ◌^◌, length};
+    ghost use Rattle.std.specs.Prelude.{List, ◌≤◌, ◌^◌, ◌∷◌, length};
     ghost use Rattle.ctl_relation.specs.Parts.{AtomParts};
-    ghost use Rattle.ctl_relation.specs.HeldPlaces.{HaveAtoms, atoms_held, places_left};
+    ghost use Rattle.ctl_relation.specs.HeldPlaces.{HaveAtoms, atoms_held};
 
     ghost Value = { List AtomParts };
 
-    ghost view = { λ g. atoms_held g.kind g.body.now (places_left g.first g.further.now) };
+    ghost view = { λ g. atoms_held g.kind g.body.now (g.first ∷ g.further.now) };
 
-    ghost invariant = { λ g. HaveAtoms g.kind g.body.now (places_left g.first g.further.now) × (length g.further.now ≤ 2 ^ 32) };
+    ghost invariant = { λ g. HaveAtoms g.kind g.body.now (g.first ∷ g.further.now) × (length g.further.now ≤ 2 ^ 32) };
 }
 
-// Where the atom at an index begins.
-fn place_at(first: Option<u32>, further: &[u32], index: usize) -> u32
-    requires { index < length (places_left first further.now) }
-    ensures { result ≡ slice_index (places_left first further.now) index }
+// The place at an index, the first one before the others.
+fn place_at(first: u32, further: &[u32], index: usize) -> u32
+    requires { index ≤ length further.now }
+    ensures { result ≡ slice_index (first ∷ further.now) index }
 {
-    match first {
-        None => further[index],
-        Some(first) => {
-            if index == 0 {
-                first
-            } else {
-                further[index - 1]
-            }
-        }
+    if index == 0 {
+        first
+    } else {
+        further[index - 1]
     }
 }
 
@@ -62,7 +57,7 @@ impl<'a> Group<'a> {
         Group {
             kind,
             body,
-            first: Some(first),
+            first,
             further,
         }
     }
@@ -71,27 +66,30 @@ impl<'a> Group<'a> {
     pub fn len(&self) -> usize
         ensures { result ≡ length self.now }
     {
-        match self.first {
-            None => self.further.len(),
-            Some(_) => self.further.len() + 1,
-        }
-    }
-
-    /// Whether there is no atom. A group of a field has one.
-    pub fn is_empty(&self) -> bool
-        ensures { result ≡ (length self.now == 0) }
-    {
-        self.len() == 0
+        self.further.len() + 1
     }
 
     /// The atom at an index, if there is one.
     pub fn get(&self, index: usize) -> Option<Atom<'a>>
         ensures { result ≡ slice_get self.now index }
     {
-        if index >= self.len() {
+        if index > self.further.len() {
             return None;
         }
-        Some(atom_at_place(self.kind, self.body, place_at(self.first, self.further, index)))
+        let place = place_at(self.first, self.further, index);
+        Some(atom_at_place(self.kind, self.body, place))
+    }
+
+    /// The atoms, in the order of the field.
+    pub fn atoms(&self) -> Atoms<'a>
+        ensures { result ≡ self.now }
+    {
+        Atoms {
+            kind: self.kind,
+            body: self.body,
+            first: Some(self.first),
+            further: self.further,
+        }
     }
 
     /// Appends the printed form of the group to `out`: its atoms joined by ` | `. The only error is want of memory,
@@ -101,7 +99,7 @@ impl<'a> Group<'a> {
         ensures err { OnErr result (out.new.items ≡ out.old.items) }
     {
         let start = out.len();
-        match append_atoms(self, out) {
+        match self.append_parts(out) {
             Ok(()) => Ok(()),
             Err(error) => {
                 out.truncate(start);
@@ -109,12 +107,62 @@ impl<'a> Group<'a> {
             }
         }
     }
+
+    // Want of memory leaves what stood in `out` at its front.
+    fn append_parts(&self, out: &mut Vec<u8>) -> Result<(), AllocError>
+        ensures ok { OnOk result (out.new.items ≡ out.old.items ++ group_text self.now) }
+        ensures err { OnErr result (take (vec_len out.old) out.new.items ≡ out.old.items) }
+    {
+        let first = atom_at_place(self.kind, self.body, self.first);
+        first.append_to(out)?;
+        append_others(self.kind, self.body, self.further, out)
+    }
 }
 
-impl<'a> Iterator for Group<'a> {
-    ghost use Rattle.std.specs.Prelude.{◌≡◌, length, Some, IfSome};
-    ghost use Rattle.std.specs.Iterator.{YieldsFirstBy, UpTo, at_most, item_count};
-    ghost use Rattle.std.specs.Iterator.SizeHint.{IsWithinCount};
+// Appends the atoms at these places, each behind a bar. Want of memory leaves what stood in `out` at its front.
+fn append_others(
+    kind: FieldKind,
+    body: &[u8],
+    places: &[u32],
+    out: &mut Vec<u8>,
+) -> Result<(), AllocError>
+    requires { HaveAtoms kind body.now places.now }
+    ensures ok { OnOk result (out.new.items ≡ out.old.items ++ flat_map (λ place. alternative_text (atom_held kind body.now place)) places.now) }
+    ensures err { OnErr result (take (vec_len out.old) out.new.items ≡ out.old.items) }
+{
+    for place in places {
+        let other = atom_at_place(kind, body, *place);
+        out.extend_from_slice(b" | ")?;
+        other.append_to(out)?;
+    }
+    Ok(())
+}
+
+/// The atoms of a group, by [`Group::atoms`]: those that were not yet given.
+#[derive(Drop)]
+pub struct Atoms<'a> {
+    kind: FieldKind,
+    body: &'a [u8],
+    // Where the first atom begins, until it was given.
+    first: Option<u32>,
+    further: &'a [u32],
+}
+
+impl<'a> Model for Atoms<'a> {
+    ghost use Rattle.std.specs.Prelude.{List, ◌≤◌, ◌^◌, length};
+    ghost use Rattle.ctl_relation.specs.Parts.{AtomParts};
+    ghost use Rattle.ctl_relation.specs.HeldPlaces.{HaveAtoms, atoms_held, places_left};
+
+    ghost Value = { List AtomParts };
+
+    ghost view = { λ it. atoms_held it.kind it.body.now (places_left it.first it.further.now) };
+
+    ghost invariant = { λ it. HaveAtoms it.kind it.body.now (places_left it.first it.further.now) };
+}
+
+impl<'a> Iterator for Atoms<'a> {
+    ghost use Rattle.std.specs.Prelude.{◌≡◌, length};
+    ghost use Rattle.std.specs.Iterator.{YieldsFirstBy, item_count};
 
     type Item = Atom<'a>;
 
@@ -131,31 +179,4 @@ impl<'a> Iterator for Group<'a> {
         self.further = further;
         Some(atom_at_place(self.kind, self.body, *place))
     }
-
-    fn size_hint(&self) -> (usize, Option<usize>)
-        ensures lower { IsWithinCount result.0 (at_most (length self.now)) }
-        ensures upper { IfSome result.1 (UpTo (at_most (length self.now))) }
-        ensures exact { result ≡ (length self.now, Some (length self.now)) }
-    {
-        (self.len(), Some(self.len()))
-    }
-}
-
-// Want of memory leaves what stood in `out` at its front.
-fn append_atoms(group: &Group<'_>, out: &mut Vec<u8>) -> Result<(), AllocError>
-    ensures ok { OnOk result (out.new.items ≡ out.old.items ++ group_text group.now) }
-    ensures err { OnErr result (take (vec_len out.old) out.new.items ≡ out.old.items) }
-{
-    let Some(first) = group.get(0) else {
-        return Ok(());
-    };
-    first.append_to(out)?;
-    for index in 1..group.len() {
-        let Some(other) = group.get(index) else {
-            return Ok(());
-        };
-        out.extend_from_slice(b" | ")?;
-        other.append_to(out)?;
-    }
-    Ok(())
 }

@@ -1,7 +1,7 @@
 //! The groups of a relation field.
 
 ghost use Rattle.std.specs.Prelude.{◌≡◌, ◌≤◌, ◌<◌, ◌^◌, ◌==◌, [], length, drop, slice_get};
-ghost use Rattle.ctl_relation.specs.HeldPlaces.{AreHeld, Rise, groups_held, count_below, count_before};
+ghost use Rattle.ctl_relation.specs.HeldPlaces.{AreHeld, Rise, groups_held, count_below, count_before, behind_earlier};
 
 use crate::field_kind::FieldKind;
 use crate::group::Group;
@@ -54,6 +54,17 @@ fn count_before(starts: &[u32], further: &[u32]) -> usize
     }
 }
 
+// The further places without those of groups before the first of `starts`.
+fn behind_earlier<'a>(starts: &[u32], further: &'a [u32]) -> &'a [u32]
+    requires { Rise 0 (2 ^ 32) further.now }
+    ensures { result.now ≡ behind_earlier starts.now further.now }
+{
+    match starts.first() {
+        None => further,
+        Some(start) => further.split_at(count_below(further, *start)).1,
+    }
+}
+
 impl<'a> Groups<'a> {
     /// The groups that begin at these places of a body.
     pub(crate) fn new(
@@ -99,11 +110,11 @@ impl<'a> Groups<'a> {
         requires { index < length self.now }
         ensures { result ≡ drop index self.now }
     {
-        let (_, starts) = self.starts.split_at(index);
         if index == 0 {
-            return Groups::new(self.kind, self.body, starts, self.further);
+            return Groups::new(self.kind, self.body, self.starts, self.further);
         }
-        let (_, further) = self.further.split_at(count_below(self.further, starts[0]));
+        let (_, starts) = self.starts.split_at(index);
+        let further = behind_earlier(starts, self.further);
         Groups::new(self.kind, self.body, starts, further)
     }
 

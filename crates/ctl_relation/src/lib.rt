@@ -26,7 +26,7 @@ mod version_laws;
 pub use atom::Atom;
 pub use bytes::Bytes;
 pub use field_kind::FieldKind;
-pub use group::Group;
+pub use group::{Atoms, Group};
 pub use groups::Groups;
 pub use name::{is_name, names_by_their_bytes};
 pub use offer::Offer;
