@@ -5,8 +5,10 @@ use Rattle.std.proofs.lemmas.Bool.{cases_Bool, cond-true, cond-false}
 use Rattle.std.proofs.lemmas.List.Elements.{All-tail, All-drop}
 use Rattle.std.specs.List.Sorted.{IsNonDecreasing}
 use Rattle.ctl_relation.specs.declared.field_kind.FieldKind.{FieldKind}
+use Rattle.std.specs.List.{flat_map}
 use Rattle.ctl_relation.specs.Parts.{AtomParts}
-use Rattle.ctl_relation.specs.HeldPlaces.{HasAtom, HaveAtoms, AreHeld, atoms_held, behind_earlier, count_below, count_before, groups_held, places_left, Rise}
+use Rattle.ctl_relation.specs.Printed.{alternative_text}
+use Rattle.ctl_relation.specs.HeldPlaces.{HasAtom, HaveAtoms, AreHeld, atom_held, atoms_held, behind_earlier, count_below, count_before, groups_held, places_left, Rise}
 
 -- ---- places that rise
 
@@ -113,6 +115,10 @@ first-from i xs rest None h = sym (from-drop i xs [] h.0)
 first-from i xs rest (Some x) h = sym (from-drop i xs (x ∷ rest) h)
 
 module _ (kind : FieldKind) (body : List ℕ) where
+  pub others-text : (places : List ℕ) → flat_map (λ (place : ℕ). alternative_text (atom_held kind body place)) places ≡ flat_map alternative_text (atoms_held kind body places)
+  others-text [] = refl
+  others-text (place ∷ places) = ap (λ t. alternative_text (atom_held kind body place) ++ t) (others-text places)
+
   pub held-length : (starts further : List ℕ) → length (groups_held kind body starts further) ≡ length starts
   held-length [] further = refl
   held-length (start ∷ starts) further = ap suc (held-length starts (drop (count_before starts further) further))

@@ -115,7 +115,8 @@ impl<'a> Group<'a> {
     {
         let first = atom_at_place(self.kind, self.body, self.first);
         first.append_to(out)?;
-        append_others(self.kind, self.body, self.further, out)
+        append_others(self.kind, self.body, self.further, out)?;
+        Ok(())
     }
 }
 

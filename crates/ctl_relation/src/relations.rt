@@ -60,6 +60,8 @@ pub fn parse_relations<'a>(
     // A fault but want of memory is the one that is due where the body first leaves the grammar.
     ensures fault { IfErr result (λ fault. fault ≢ relation.Memory → IsFault kind body.now fault) }
 {
-    let places = read_places(alloc, body, kind)?;
-    Ok(Relations { body, places })
+    match read_places(alloc, body, kind) {
+        Ok(places) => Ok(Relations { body, places }),
+        Err(fault) => Err(fault),
+    }
 }

@@ -12,12 +12,12 @@ split_at-requires c =
 pub new-requires-2 : goal.new-requires-2
 new-requires-2 c =
     let g = c.self.inside in
-    rw (c.behind_earlier.ensures, c.split_at.ensures.back) (are-held-from g.kind g.body.now c.args.index g.starts.now g.further.now c.self.invariant)
+    rw (c.behind_earlier-further.ensures, c.split_at.ensures.back) (are-held-from g.kind g.body.now c.args.index g.starts.now g.further.now c.self.invariant)
 
 pub returns : goal.returns
 returns c =
     let g = c.self.inside in
     let size = ap (λ (groups : List (List AtomParts)). length groups) c.self.view_is in
-    rw (c.new-2.ensures, c.behind_earlier.ensures, c.split_at.ensures.back)
+    rw (c.new-2.ensures, c.behind_earlier-further.ensures, c.split_at.ensures.back)
     (held-from g.kind g.body.now c.args.index _ g.starts.now g.further.now c.if-index-eq0.false (omega (arith, c.requires, held-length g.kind g.body.now g.starts.now g.further.now, size)) c.self.invariant.starts_rise
     ∙ ap (drop c.args.index) c.self.view_is)
