@@ -109,7 +109,7 @@ module _ (kind : FieldKind) (body : List ℕ) where
       let all : HaveAtoms kind body (place_of body text ∷ at.further) = subst (HaveAtoms kind body) (sym at.places) (All-push (HasAtom kind body) at.before (place_of body left) at.atoms here) in
       let end = end-atom left x at.ends read in
       let rises : Rise (place_of body text) (place_of body x.1) (place_of body text ∷ at.further) = subst (Rise (place_of body text) (place_of body x.1)) (sym at.places)
-          (rise-append (place_of body text) (place_of body left) (place_of body x.1) at.before (place_of body left ∷ []) at.rise (omega arith, omega (arith, short, end-size body left at.ends))) in
+      (rise-append (place_of body text) (place_of body left) (place_of body x.1) at.before (place_of body left ∷ []) at.rise (omega arith, omega (arith, short, end-size body left at.ends))) in
       record {
         further = at.further;
         added = at.added;
@@ -119,7 +119,7 @@ module _ (kind : FieldKind) (body : List ℕ) where
         ends = end;
         shorter = omega (arith, short, at.room);
         read = group_ends (atoms_held kind body at.before) at.fuel (at.fuel - 1) kind left x _ (one-less at.fuel (length left) at.enough) read none at.told
-        ∙ ap (λ t. Ok (t, x.1)) (ap (λ a. atoms_held kind body at.before ++ a ∷ []) (sym (front-held left x at.ends read)) ∙ sym (held-more-atoms at.before (place_of body left)) ∙ ap (atoms_held kind body) (sym at.places));
+            ∙ ap (λ t. Ok (t, x.1)) (ap (λ a. atoms_held kind body at.before ++ a ∷ []) (sym (front-held left x at.ends read)) ∙ sym (held-more-atoms at.before (place_of body left)) ∙ ap (atoms_held kind body) (sym at.places));
       }
 
   pub next_ends : (left bared next : List ℕ) (x : AtomParts × List ℕ) → IsEnd body left → atom_at kind left ≡ Ok x → Some bared ≡ behind_byte bar (rest is_whitespace x.1) → next ≡ rest is_whitespace bared → IsEnd body next
@@ -143,8 +143,8 @@ module _ (kind : FieldKind) (body : List ℕ) where
         ends = end;
         room = omega (arith, at.room, less);
         told = ap (λ t. with_front t (group_at (at.fuel - 1) kind next)) (held-more-atoms at.before (place_of body left) ∙ ap (λ a. atoms_held kind body at.before ++ a ∷ []) (front-held left x at.ends read))
-        ∙ ap (λ t. with_front (atoms_held kind body at.before ++ x.0 ∷ []) (group_at (at.fuel - 1) kind t)) blanks
-        ∙ group_goes_on (atoms_held kind body at.before) at.fuel (at.fuel - 1) kind left x bared _ (one-less at.fuel (length left) at.enough) read some allowed at.told;
+            ∙ ap (λ t. with_front (atoms_held kind body at.before ++ x.0 ∷ []) (group_at (at.fuel - 1) kind t)) blanks
+            ∙ group_goes_on (atoms_held kind body at.before) at.fuel (at.fuel - 1) kind left x bared _ (one-less at.fuel (length left) at.enough) read some allowed at.told;
       }
 
   -- ---- groups
@@ -276,7 +276,7 @@ module _ (kind : FieldKind) (body : List ℕ) where
         none = added.none;
         ends = end-byte body rested next comma some (end-blanks body after rested blanks group.ends);
         told = ap (λ g. behind g (groups_at (at.fuel - 1) kind next)) added.groups
-        ∙ groups_go_on (groups_held kind body starts further) kind left text rested next (relations_of kind body) at.fuel (at.fuel - 1) _ (one-less at.fuel (length left) at.enough) due.blanks due.no_comma due.some group.read blanks some at.told;
+            ∙ groups_go_on (groups_held kind body starts further) kind left text rested next (relations_of kind body) at.fuel (at.fuel - 1) _ (one-less at.fuel (length left) at.enough) due.blanks due.no_comma due.some group.read blanks some at.told;
       }
 
   -- a comma, and no group before it
