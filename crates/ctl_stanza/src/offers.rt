@@ -47,7 +47,7 @@ fn add_entries(
     offers: &mut Vec<Offer>,
     provides: Groups<'_>,
 ) -> Result<(), AllocError>
-    ensures { OnOk result (offers.new.items ≡ offers.old.items ++ offers_in provides) }
+    ensures { OnOk result (offers.new.items ≡ offers.old.items ++ offers_in provides.entry) }
 {
     let mut groups = provides;
     'groups: loop {
@@ -65,7 +65,7 @@ pub(crate) fn offers_of(
     version: Option<Version>,
     provides: Groups<'_>,
 ) -> Result<Vec<Offer>, AllocError>
-    ensures { IfOk result (λ offers. offers.items ≡ record { name = «package».now; version = version } ∷ offers_in provides) }
+    ensures { IfOk result (λ offers. offers.items ≡ record { name = «package».now; version = version } ∷ offers_in provides.entry) }
 {
     let mut offers = Vec::with_capacity(alloc, provides.len().saturating_add(1))?;
     offers.push(Offer::new(alloc, package, version)?)?;

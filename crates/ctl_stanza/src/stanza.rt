@@ -6,7 +6,7 @@ ghost use Rattle.ctl_stanza.specs.Lines.{lines_of, lent_lines, AreLines};
 ghost use Rattle.ctl_stanza.specs.Fields.{fields_of_lines};
 ghost use Rattle.ctl_stanza.specs.Content.{content_of, offers_of};
 ghost use Rattle.ctl_stanza.specs.HeldStanza.{content_in_front, AreRelationsOf};
-ghost use Rattle.ctl_stanza.specs.HeldFields.{AreReadFrom, IsReadFrom, shown_fields};
+ghost use Rattle.ctl_stanza.specs.HeldFields.{IsReadFrom, shown_fields};
 ghost use Rattle.ctl_stanza.specs.Faults.{first_fault, is_missing, whole_fault, stanza_fault, IsMemoryAtZero, Tells};
 ghost use Rattle.ctl_stanza.specs.Status.{is_live_by};
 ghost use Rattle.ctl_stanza.specs.declared.repeats.Repeats.TheVariants.{Never};
@@ -59,8 +59,7 @@ fn stanza_of(
     relations: Vec<RelationField>,
     offers: Vec<Offer>,
 ) -> Result<Stanza, AllocError>
-    requires text { text_len ≤ length bytes.items }
-    requires fields { AreReadFrom (take text_len bytes.items) bytes.items fields.now }
+    requires read { IsReadFrom bytes.items text_len fields.now }
     requires relations { AreRelationsOf (content_in_front kind text_len bytes.items) bytes.items relations.items }
     requires offers { offers.items ≡ offers_of (content_in_front kind text_len bytes.items) }
     requires no_fault { stanza_fault kind 0 (lines_of (take text_len bytes.items)) ≡ None }
