@@ -33,7 +33,7 @@ pub returns-clause-relations : goal.returns-clause-relations
 returns-clause-relations c =
     let inv = c.loop-i.invariant in
     let bytes = c.args.bytes.now in
-    let none : drop c.loop-i.i c.args.fields.now ≡ [] = drop_of_length-le c.loop-i.i c.args.fields.now (omega (arith, c.loop-i-test.false)) in
+    let none : drop c.loop-i.i c.args.fields.now ≡ [] = drop_of_length-le c.args.fields.now (omega (arith, c.loop-i-test.false)) in
     record {
       kept = rw c.shrink_to_fit.ensures.items inv.kept;
       groups = λ kind. rw c.shrink_to_fit.ensures.items (all-kept kind bytes (shown_fields bytes c.args.fields.now) c.loop-i.parts.relations.items
