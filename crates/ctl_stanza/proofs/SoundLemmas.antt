@@ -342,9 +342,20 @@ one-of-nine name size (Some field_kinds.Provides) is =
 
 nine-first : (f : FieldText) (fs : List FieldText) → nine_sum (size_of fs) ≤ bodies_size fs → nine_sum (size_of (f ∷ fs)) ≤ bodies_size (f ∷ fs)
 nine-first f fs le =
-    omega (arith, le, one-of-nine f.name (length f.body) (relation_kind f.name) refl,
-    size-first f fs field_kinds.PreDepends, size-first f fs field_kinds.Depends, size-first f fs field_kinds.Conflicts, size-first f fs field_kinds.Breaks, size-first f fs field_kinds.Recommends,
-    size-first f fs field_kinds.Suggests, size-first f fs field_kinds.Replaces, size-first f fs field_kinds.Enhances, size-first f fs field_kinds.Provides)
+    omega (
+      arith,
+      le,
+      one-of-nine f.name (length f.body) (relation_kind f.name) refl,
+      size-first f fs field_kinds.PreDepends,
+      size-first f fs field_kinds.Depends,
+      size-first f fs field_kinds.Conflicts,
+      size-first f fs field_kinds.Breaks,
+      size-first f fs field_kinds.Recommends,
+      size-first f fs field_kinds.Suggests,
+      size-first f fs field_kinds.Replaces,
+      size-first f fs field_kinds.Enhances,
+      size-first f fs field_kinds.Provides,
+    )
 
 nine-size : (fields : List FieldText) → nine_sum (size_of fields) ≤ bodies_size fields
 nine-size [] = omega arith
@@ -366,7 +377,7 @@ all-atoms found bounded content small =
     omega (arith, small, whole, same, nine-size (fields_of content), bodies-less (fields_of content), bodies-room 0 (lines_of content.text), lines-size content.text)
   where
     sum-nine : (f : FieldKind → ℕ) → sum_by f nine_fields ≡ nine_sum f
-    sum-nine f = 
+    sum-nine f =
         omega (arith, sum_by-cons f field_kinds.PreDepends (field_kinds.Depends ∷ field_kinds.Conflicts ∷ field_kinds.Breaks ∷ field_kinds.Recommends ∷ field_kinds.Suggests ∷ field_kinds.Replaces ∷ field_kinds.Enhances ∷ field_kinds.Provides ∷ []), sum_by-cons f field_kinds.Depends (field_kinds.Conflicts ∷ field_kinds.Breaks ∷ field_kinds.Recommends ∷ field_kinds.Suggests ∷ field_kinds.Replaces ∷ field_kinds.Enhances ∷ field_kinds.Provides ∷ []), sum_by-cons f field_kinds.Conflicts (field_kinds.Breaks ∷ field_kinds.Recommends ∷ field_kinds.Suggests ∷ field_kinds.Replaces ∷ field_kinds.Enhances ∷ field_kinds.Provides ∷ []), sum_by-cons f field_kinds.Breaks (field_kinds.Recommends ∷ field_kinds.Suggests ∷ field_kinds.Replaces ∷ field_kinds.Enhances ∷ field_kinds.Provides ∷ []), sum_by-cons f field_kinds.Recommends (field_kinds.Suggests ∷ field_kinds.Replaces ∷ field_kinds.Enhances ∷ field_kinds.Provides ∷ []), sum_by-cons f field_kinds.Suggests (field_kinds.Replaces ∷ field_kinds.Enhances ∷ field_kinds.Provides ∷ []), sum_by-cons f field_kinds.Replaces (field_kinds.Enhances ∷ field_kinds.Provides ∷ []), sum_by-cons f field_kinds.Enhances (field_kinds.Provides ∷ []), sum_by-cons f field_kinds.Provides ([]))
 
 -- ---- all of it

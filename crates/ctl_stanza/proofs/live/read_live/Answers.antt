@@ -37,5 +37,5 @@ returns-clause-relations c =
     record {
       kept = rw c.shrink_to_fit.ensures.items inv.kept;
       groups = λ kind. rw c.shrink_to_fit.ensures.items (all-kept kind bytes (shown_fields bytes c.args.fields.now) c.loop-i.parts.relations.items
-      (sym (ap (λ (fs : List Field). or_else (kept_of kind bytes c.loop-i.parts.relations.items) (groups_found kind (shown_fields bytes fs))) none) ∙ inv.relations kind));
+          (sym (ap (λ (fs : List Field). or_else (kept_of kind bytes c.loop-i.parts.relations.items) (groups_found kind (shown_fields bytes fs))) none) ∙ inv.relations kind));
     }
