@@ -8,9 +8,7 @@ use crate::groups::Groups;
 use std::alloc::AllocError;
 use std::mem::size_of;
 
-/// Where the atoms of a relation field stand in its body: what is kept of a field beside its text.
-///
-/// It takes four bytes for each atom, with no spare room.
+/// Where the atoms of a relation field stand in its body, four bytes for each: what is kept of a field beside its text.
 #[derive(Drop)]
 pub struct Places {
     kind: FieldKind,
