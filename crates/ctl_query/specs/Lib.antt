@@ -1,0 +1,9 @@
+pub mod Packages
+pub mod Texts
+pub mod PackageNames
+pub mod Show
+pub mod Depends
+pub mod ReverseDepends
+pub mod Unmet
+pub mod Policy
+pub mod ShowPackage
