@@ -7,3 +7,8 @@ pub mod ReverseDepends
 pub mod Unmet
 pub mod Policy
 pub mod ShowPackage
+pub mod Words
+pub mod Asked
+pub mod Query
+pub mod QueryRead
+pub mod Answer
