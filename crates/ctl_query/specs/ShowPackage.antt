@@ -34,9 +34,12 @@ naming_line lead field atom = line (asker lead ∷ field_label field ∷ codes "
 abbrev pub line_if_naming : List ℕ → Content → FieldKind → AtomParts → List ℕ
 line_if_naming name lead field atom = if bytes_eq atom.name name then naming_line lead field atom else []
 
+abbrev pub naming_in : List ℕ → Content → FieldKind → List ℕ
+naming_in name lead field = flat_map (flat_map (line_if_naming name lead field)) (groups_of field lead)
+
 -- the atoms of the eight fields of a lead that name it
 unfoldable pub naming_lines : List ℕ → Content → List ℕ
-naming_lines name lead = flat_map (λ field. flat_map (flat_map (line_if_naming name lead field)) (groups_of field lead)) naming_fields
+naming_lines name lead = flat_map (naming_in name lead) naming_fields
 
 -- ---- what it names
 
