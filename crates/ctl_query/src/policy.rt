@@ -6,11 +6,13 @@ ghost use Rattle.ctl_store.specs.Held.{keyed_of};
 ghost use Rattle.ctl_store.specs.Keys.{AreHeld};
 ghost use Rattle.ctl_policy.specs.Rows.{sources_of};
 ghost use Rattle.ctl_policy.specs.Priority.{world_of};
-ghost use Rattle.ctl_query.specs.Policy.{priority_of, row_version, version_or_none, is_led_by, row_mark, row_line, source_line, row_lines, list_line, line_if_pinned, pinned_line};
+ghost use Rattle.ctl_query.specs.Policy.{priority_of, row_version, version_or_none, is_led_by, row_mark, row_line, source_line, row_lines, policy_one, list_line, line_if_pinned, pinned_line};
+ghost use Rattle.ctl_query.specs.Packages.{rows_of};
+ghost use Rattle.ctl_policy.specs.Chosen.{choice_in};
 
 use crate::leads::version_under;
 use crate::text::{append_line, append_parts, append_right_four};
-use ctl_policy::{NewestFirst, is_source, list_priority, row_priority, specific_pin};
+use ctl_policy::{Chosen, NewestFirst, is_source, list_priority, row_priority, specific_pin};
 use ctl_store::{StanzaKey, Store};
 use std::alloc::{AllocError, Global};
 
@@ -149,6 +151,35 @@ pub(crate) fn append_table(
     'rows: for row in rows {
         append_row(alloc, store, name, installed, row, out)?;
     }
+    Ok(())
+}
+
+/// Appends the answer on a known name: what is chosen of it, and its rows.
+#[tactic(auto, unfolding(crate::specs::Policy::policy_one))]
+pub(crate) fn append_known(
+    alloc: Global,
+    store: &Store,
+    name: &[u8],
+    chosen: Chosen,
+    rows: NewestFirst<'_>,
+    out: &mut Vec<u8>,
+) -> Result<(), AllocError>
+    requires chosen { chosen ≡ choice_in name.now (world_of store.now) }
+    requires rows { rows.entry ≡ rows_of (world_of store.now) name.now }
+    requires held { AllByRecursion (λ row. AreHeld row (keyed_of store.now).lists) rows.entry }
+    ensures { OnOk result (out.new.items ≡ out.old.items ++ policy_one (world_of store.now) name.now) }
+{
+    append_line(out, &[name, b":"])?;
+    append_line(
+        out,
+        &[b"  Installed: ", version_or_none(store, chosen.installed)],
+    )?;
+    append_line(
+        out,
+        &[b"  Candidate: ", version_or_none(store, chosen.candidate)],
+    )?;
+    append_line(out, &[b"  Version table:"])?;
+    append_table(alloc, store, name, chosen.installed, rows, out)?;
     Ok(())
 }
 
