@@ -1,6 +1,5 @@
 //! The relation fields in their order, and what they are called.
 
-use crate::tables::same;
 use ctl_relation::FieldKind;
 
 #[test]
@@ -19,26 +18,21 @@ fn relation_fields_have_names(rt: HostRuntime) {
     let fields = FieldKind::nine();
     assert_eq!(rt; fields.len(), rows.len());
     for (field, (key, printed)) in fields.iter().zip(rows.iter()) {
-        same(&rt, key.as_bytes(), field.key(), key.as_bytes());
-        same(
-            &rt,
-            key.as_bytes(),
-            field.printed_name(),
-            printed.as_bytes(),
-        );
+        let same = field.key() == key.as_bytes() && field.printed_name() == printed.as_bytes();
+        assert!(rt; same, "{key}");
     }
 }
 
 #[test]
 fn eight_fields_name_packages_and_four_are_wanted(rt: HostRuntime) {
-    let is_same = FieldKind::eight() == FieldKind::nine().split_at(8).0;
-    assert!(rt; is_same);
+    let same = FieldKind::eight() == FieldKind::nine().split_at(8).0;
+    assert!(rt; same);
     let wanted = [
         FieldKind::PreDepends,
         FieldKind::Depends,
         FieldKind::Recommends,
         FieldKind::Suggests,
     ];
-    let is_same = FieldKind::four() == wanted.as_slice();
-    assert!(rt; is_same);
+    let same = FieldKind::four() == wanted.as_slice();
+    assert!(rt; same);
 }

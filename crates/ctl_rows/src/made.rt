@@ -5,8 +5,7 @@ ghost use Rattle.std.specs.Prelude.{◌≡◌, Some, IfOk};
 use ctl_relation::{Bytes, Version};
 use ctl_stanza::{ListKind, Stanza, lines_take_bytes, read_stanzas};
 use ctl_store::{
-    Edit, ListClass, PinSetting, PinSettings, PinVersion, Refusal, Selector, Store, boxed,
-    read_prefs,
+    Edit, ListClass, PinSetting, PinSettings, PinVersion, Selector, Store, boxed, read_prefs,
 };
 use std::alloc::Global;
 use std::test::Fail;
@@ -142,21 +141,13 @@ pub fn given<T>(made: Option<T>) -> Result<T, Fail>
     }
 }
 
-/// Makes an edit, or gives its refusal.
-pub fn refusal(store: &mut Store, edit: Edit) -> Option<Refusal> {
+/// Makes an edit that the store accepts.
+pub fn edited(store: &mut Store, edit: Edit) -> Result<(), Fail> {
     match store.prepare(edit) {
         Ok(plan) => {
             store.commit(plan);
-            None
+            Ok(())
         }
-        Err((_, why)) => Some(why),
-    }
-}
-
-/// Makes an edit that the store accepts.
-pub fn edited(store: &mut Store, edit: Edit) -> Result<(), Fail> {
-    match refusal(store, edit) {
-        None => Ok(()),
-        Some(why) => Err(Fail::new(format_args!("a refused edit: {}", why.text()))),
+        Err(_) => Err(Fail::from("a refused edit")),
     }
 }

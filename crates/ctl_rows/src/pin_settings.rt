@@ -52,41 +52,17 @@ fn priorities(alloc: Global, store: &Store) -> Result<Vec<i16>, AllocError> {
 
 #[test]
 fn pins_that_are_left_keep_their_order(rt: HostRuntime) -> Result<(), Fail> {
+    let rows = [("d", 1), ("b", 2), ("e", 3), ("a", 4), ("c", 5)];
     let mut store = Store::new(rt.alloc());
-    edited(&mut store, given(pin(rt.alloc(), "d", "1", 1))?)?;
-    edited(&mut store, given(pin(rt.alloc(), "b", "1", 2))?)?;
-    edited(&mut store, given(pin(rt.alloc(), "e", "1", 3))?)?;
-    edited(&mut store, given(pin(rt.alloc(), "a", "1", 4))?)?;
-    edited(&mut store, given(pin(rt.alloc(), "c", "1", 5))?)?;
-    edited(&mut store, given(unpin(rt.alloc(), "d", "1"))?)?;
-    edited(&mut store, given(unpin(rt.alloc(), "a", "1"))?)?;
+    for (name, priority) in rows {
+        edited(&mut store, given(pin(rt.alloc(), name, "1", priority))?)?;
+    }
+    for name in ["d", "a"] {
+        edited(&mut store, given(unpin(rt.alloc(), name, "1"))?)?;
+    }
     edited(&mut store, given(pin(rt.alloc(), "d", "1", 8))?)?;
     let left = priorities(rt.alloc(), &store)?;
     assert_eq!(rt; left.as_slice(), [2, 3, 5, 8].as_slice());
-    Ok(())
-}
-
-/// The priorities of the pins of a package, in order.
-fn priorities_of(alloc: Global, store: &Store, name: &[u8]) -> Result<Vec<i16>, AllocError> {
-    let shown = store.pins_of(name).map(|(_selector, priority)| priority);
-    shown.collect(alloc)
-}
-
-#[test]
-fn pins_of_a_package_are_in_the_order_in_which_they_were_set(rt: HostRuntime) -> Result<(), Fail> {
-    let mut store = Store::new(rt.alloc());
-    edited(&mut store, given(pin(rt.alloc(), "b", "2", 1))?)?;
-    edited(&mut store, given(pin(rt.alloc(), "a", "1", 2))?)?;
-    edited(&mut store, given(pin(rt.alloc(), "b", "1", 3))?)?;
-    edited(&mut store, given(pin(rt.alloc(), "c", "1", 4))?)?;
-    edited(&mut store, given(pin(rt.alloc(), "b", "3", 5))?)?;
-    edited(&mut store, given(unpin(rt.alloc(), "b", "1"))?)?;
-    edited(&mut store, given(pin(rt.alloc(), "b", "1", 6))?)?;
-    edited(&mut store, given(pin(rt.alloc(), "b", "2", 7))?)?;
-    let own = priorities_of(rt.alloc(), &store, b"b")?;
-    assert_eq!(rt; own.as_slice(), [7, 5, 6].as_slice());
-    let other = priorities_of(rt.alloc(), &store, b"ab")?;
-    assert_eq!(rt; other.as_slice(), [].as_slice());
     Ok(())
 }
 

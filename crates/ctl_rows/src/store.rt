@@ -6,7 +6,7 @@ use crate::made::{
     add_list, add_list_named, drop_list, edited, given, mark, mark_none, pin, put, remove,
 };
 use crate::shown::state;
-use crate::tables::same;
+use crate::tables::{agree, same};
 use ctl_stanza::ListKind;
 use ctl_store::{
     CommittedKeys, Edit, Limits, ListClass, Plan, Refusal, StanzaKey, Store, compare_keys,
@@ -205,27 +205,25 @@ fn append_removal(edit: &Edit, all: &mut Vec<u8>) -> Result<(), AllocError> {
     all.extend_from_slice(version)
 }
 
-/// Why an edit would be refused, if it would be.
-fn append_foretold(store: &Store, edit: &Edit, all: &mut Vec<u8>) -> Result<(), AllocError> {
-    match store.check(edit) {
-        Ok(()) => Ok(()),
-        Err(why) => all.extend_from_slice(why.text().as_bytes()),
+/// Why an edit is refused, as it is foretold and as it comes, and the edit that comes back.
+fn append_refused(
+    store: &mut Store,
+    edit: Edit,
+    all: &mut Vec<u8>,
+) -> Result<Option<Edit>, AllocError> {
+    if let Err(why) = store.check(&edit) {
+        all.extend_from_slice(why.text().as_bytes())?;
     }
-}
-
-/// The edit that comes back, and why.
-fn handed_back(store: &mut Store, edit: Edit) -> Option<(Edit, Refusal)> {
     match store.prepare(edit) {
-        Ok(_) => None,
-        Err(refused) => Some(refused),
+        Ok(_) => Ok(None),
+        Err((edit, why)) => {
+            all.push(b',')?;
+            all.extend_from_slice(why.text().as_bytes())?;
+            all.push(b':')?;
+            append_removal(&edit, all)?;
+            Ok(Some(edit))
+        }
     }
-}
-
-fn append_back(edit: &Edit, why: Refusal, all: &mut Vec<u8>) -> Result<(), AllocError> {
-    all.push(b',')?;
-    all.extend_from_slice(why.text().as_bytes())?;
-    all.push(b':')?;
-    append_removal(edit, all)
 }
 
 fn append_late(
@@ -234,9 +232,8 @@ fn append_late(
     edit: Edit,
     all: &mut Vec<u8>,
 ) -> Result<(), Fail> {
-    append_foretold(store, &edit, all)?;
-    let (edit, why) = given(handed_back(store, edit))?;
-    append_back(&edit, why, all)?;
+    let back = append_refused(store, edit, all)?;
+    let edit = given(back)?;
     make_late(alloc, store, edit, all)
 }
 
@@ -583,7 +580,7 @@ fn refusals_have_numbers_and_words(rt: HostRuntime) {
         (Refusal::Form, 23, b"bad pin record"),
     ];
     for (refusal, number, words) in &rows {
-        assert_eq!(rt; refusal.number(), *number);
+        agree(&rt, words, refusal.number() == *number, true);
         same(&rt, words, refusal.text().as_bytes(), words);
     }
 }

@@ -1,6 +1,5 @@
 //! Tables of texts, each row with what it has to come to.
 
-use crate::cuts::cut_at_each_byte;
 use crate::runs::{Act, came, came_of};
 use ctl_store::Limits;
 use std::alloc::{AllocError, Global};
@@ -10,17 +9,12 @@ use std::test::Fail;
 /// How many bytes of a text are shown where a row fails.
 const SHOWN: usize = 4096;
 
-/// The first bytes of a text, up to so many.
-pub fn front(text: &[u8], count: usize) -> &[u8] {
-    match text.get(..count) {
+/// The beginning of a text, as much as is shown of it.
+fn beginning(text: &[u8]) -> &[u8] {
+    match text.get(..SHOWN) {
         Some(front) => front,
         None => text,
     }
-}
-
-/// The beginning of a text, as much as is shown of it.
-fn beginning(text: &[u8]) -> &[u8] {
-    front(text, SHOWN)
 }
 
 /// Ends the test where a row came to another text than was wanted, and shows the row and both texts.
@@ -43,19 +37,6 @@ pub fn pair(alloc: Global, one: &[u8], other: &[u8]) -> Result<Vec<u8>, AllocErr
     Ok(row)
 }
 
-/// Three texts, one behind another.
-pub fn joined(
-    alloc: Global,
-    first: &[u8],
-    second: &[u8],
-    third: &[u8],
-) -> Result<Vec<u8>, AllocError> {
-    let mut all = Vec::from_slice(alloc, first)?;
-    all.extend_from_slice(second)?;
-    all.extend_from_slice(third)?;
-    Ok(all)
-}
-
 /// Ends the test where a row came to another truth than was wanted.
 pub fn agree(rt: &impl Abort, row: &[u8], came: bool, wanted: bool) {
     same(rt, row, truth(came), truth(wanted));
@@ -75,21 +56,11 @@ pub fn left_under(alloc: Global, limits: Limits, script: &[u8]) -> Result<Vec<u8
     came_of(alloc, limits, u32::MAX, &[Act::Script(script), Act::Held])
 }
 
-/// Runs a script on an empty session, whole and cut at each byte, and compares what it writes.
-fn script_writes(
-    rt: &(impl Abort + AllocGlobal),
-    script: &[u8],
-    wanted: &[u8],
-) -> Result<(), Fail> {
-    let came = written(rt.alloc(), script)?;
-    same(rt, script, &came, wanted);
-    cut_at_each_byte(rt, script, wanted)
-}
-
-/// The same for each of several scripts.
+/// Runs each script on an empty session, and compares what it writes.
 pub fn each_writes(rt: &(impl Abort + AllocGlobal), rows: &[(&[u8], &[u8])]) -> Result<(), Fail> {
     for (script, wanted) in rows {
-        script_writes(rt, script, wanted)?;
+        let came = written(rt.alloc(), script)?;
+        same(rt, script, &came, wanted);
     }
     Ok(())
 }
@@ -103,17 +74,17 @@ pub fn each_writes_behind(
     for (behind, wanted) in rows {
         let mut script = Vec::from_slice(rt.alloc(), front)?;
         script.extend_from_slice(behind)?;
-        script_writes(rt, &script, wanted)?;
+        let came = written(rt.alloc(), &script)?;
+        same(rt, behind, &came, wanted);
     }
     Ok(())
 }
 
-/// Runs each script on an empty session, whole and cut at each byte, and compares what it writes and what the store then holds.
+/// Runs each script on an empty session, and compares what it writes and what the store then holds.
 pub fn each_leaves(rt: &(impl Abort + AllocGlobal), rows: &[(&[u8], &[u8])]) -> Result<(), Fail> {
     for (script, wanted) in rows {
         let came = left_under(rt.alloc(), Limits::MOST, script)?;
         same(rt, script, &came, wanted);
-        cut_at_each_byte(rt, script, wanted)?;
     }
     Ok(())
 }
