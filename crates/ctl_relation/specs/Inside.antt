@@ -1,7 +1,5 @@
 -- How this crate holds its values, and what its own functions say. Callers need none of it.
 pub mod SmallBytes
-pub mod Alternatives
-pub mod Named
 pub mod Cut
 pub mod ByteClass
 pub mod Front

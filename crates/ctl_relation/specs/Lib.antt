@@ -16,5 +16,7 @@ pub mod Grammar
 pub mod Fault
 pub mod ReadAgain
 pub mod Bounds
+-- How this crate holds groups. Not for callers.
+pub mod HeldPlaces
 pub mod Orders
 pub mod Inside

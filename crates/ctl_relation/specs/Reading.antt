@@ -25,6 +25,11 @@ abbrev pub Gives : {X Y : Type 0} → (X → Y) → Result X RelationFault → R
 Gives view (Ok x) read = read ≡ Ok (view x)
 Gives view (Err e) read = e ≢ fault.Memory → read ≡ Err e
 
+-- What a function returned, seen by view, is what reading gives.
+abbrev pub GivesAlways : {X Y : Type 0} → (X → Y) → Result X RelationFault → Result Y RelationFault → Type 0
+GivesAlways view (Ok x) read = read ≡ Ok (view x)
+GivesAlways view (Err e) read = read ≡ Err e
+
 -- ---- tokens
 
 -- A name is the longest run of the bytes of names.
@@ -148,3 +153,12 @@ groups_at (suc n) kind text = groups_from (groups_at n kind) kind (rest is_white
 -- what the body of a field is read to
 abbrev pub relations_of : FieldKind → List ℕ → Result (List (List AtomParts)) RelationFault
 relations_of kind body = groups_at (length body + 1) kind body
+
+-- the groups that were read, and none where a body is at fault
+abbrev pub groups_or_none : Result (List (List AtomParts)) RelationFault → List (List AtomParts)
+groups_or_none (Ok groups) = groups
+groups_or_none (Err fault) = []
+
+-- the groups that a body is read to, none where it is at fault
+abbrev pub groups_read : FieldKind → List ℕ → List (List AtomParts)
+groups_read kind body = groups_or_none (relations_of kind body)

@@ -1,66 +1,94 @@
 //! Groups of alternatives.
 
-ghost use Rattle.std.specs.Prelude.{◌≡◌, ◌++◌, [], ◌∷◌, OnOk, OnErr, take, vec_len};
-ghost use Rattle.ctl_relation.specs.Printed.{group_text};
+ghost use Rattle.std.specs.Prelude.{◌≡◌, ◌≤◌, ◌^◌, ◌++◌, ◌∷◌, length, OnOk, OnErr, take, vec_len, slice_get, slice_index};
+ghost use Rattle.std.specs.List.{flat_map};
+ghost use Rattle.ctl_relation.specs.HeldPlaces.{HasAtom, HaveAtoms, atom_held, atoms_held};
+ghost use Rattle.ctl_relation.specs.Printed.{alternative_text, group_text};
 
 use crate::atom::Atom;
+use crate::field_kind::FieldKind;
+use crate::reading::atom_at_place;
 use std::alloc::AllocError;
 use std::marker::Model;
 
-// A lone atom takes no memory beside the group's own.
+/// Alternatives, of which one is to be met: seen as the list of its atoms, of which there is at least one. They are lent from
+/// the text of the field.
 #[derive(Drop)]
-enum Alternatives {
-    One(Atom),
-    Several(Vec<Atom>),
+pub struct Group<'a> {
+    kind: FieldKind,
+    body: &'a [u8],
+    // Where the first atom begins, and where the further ones do.
+    first: u32,
+    further: &'a [u32],
 }
 
-/// Alternatives, of which one is to be met: seen as the list of its atoms.
-#[derive(Drop)]
-pub struct Group {
-    alternatives: Alternatives,
-}
-
-// Most groups have one atom, so a group is to take no more than the atom and a word.
-const _: () = prove!(size_of::<Group>() == size_of::<Atom>() + size_of::<usize>());
-
-impl Model for Group {
-    ghost use Rattle.std.specs.Prelude.{List};
+impl<'a> Model for Group<'a> {
+    ghost use Rattle.std.specs.Prelude.{List, ◌≤◌, ◌^◌, ◌∷◌, length};
     ghost use Rattle.ctl_relation.specs.Parts.{AtomParts};
+    ghost use Rattle.ctl_relation.specs.HeldPlaces.{HaveAtoms, atoms_held};
 
     ghost Value = { List AtomParts };
 
-    ghost use Rattle.ctl_relation.specs.Inside.Alternatives.{atoms_of};
+    ghost view = { λ g. atoms_held g.kind g.body.now (g.first ∷ g.further.now) };
 
-    ghost view = { λ g. atoms_of g.alternatives };
+    ghost invariant = { λ g. HaveAtoms g.kind g.body.now (g.first ∷ g.further.now) × (length g.further.now ≤ 2 ^ 32) };
 }
 
-impl Group {
-    pub(crate) fn from_atom(atom: Atom) -> Group
-        ensures { result ≡ atom ∷ [] }
+// The place at an index, the first one before the others.
+fn place_at(first: u32, further: &[u32], index: usize) -> u32
+    requires { index ≤ length further.now }
+    ensures { result ≡ slice_index (first ∷ further.now) index }
+{
+    if index == 0 {
+        first
+    } else {
+        further[index - 1]
+    }
+}
+
+impl<'a> Group<'a> {
+    /// The group of the atoms at these places of a body.
+    pub(crate) fn new(kind: FieldKind, body: &'a [u8], first: u32, further: &'a [u32]) -> Group<'a>
+        requires first { HasAtom kind body.now first }
+        requires further { HaveAtoms kind body.now further.now }
+        requires few { length further.now ≤ 2 ^ 32 }
+        ensures { result ≡ atoms_held kind body.now (first ∷ further.now) }
     {
         Group {
-            alternatives: Alternatives::One(atom),
+            kind,
+            body,
+            first,
+            further,
         }
     }
 
-    // Gives back the room that no atom takes.
-    pub(crate) fn from_vec(atoms: Vec<Atom>) -> Group
-        ensures { result ≡ atoms.items }
+    /// How many atoms there are.
+    pub fn len(&self) -> usize
+        ensures { result ≡ length self.now }
     {
-        let mut atoms = atoms;
-        atoms.shrink_to_fit();
-        Group {
-            alternatives: Alternatives::Several(atoms),
+        self.further.len() + 1
+    }
+
+    /// The atom at an index, if there is one.
+    pub fn get(&self, index: usize) -> Option<Atom<'a>>
+        ensures { result ≡ slice_get self.now index }
+    {
+        if index > self.further.len() {
+            return None;
         }
+        let place = place_at(self.first, self.further, index);
+        Some(atom_at_place(self.kind, self.body, place))
     }
 
     /// The atoms, in the order of the field.
-    pub fn atoms(&self) -> &[Atom]
-        ensures { result.now ≡ self.now }
+    pub fn atoms(&self) -> Atoms<'a>
+        ensures { result ≡ self.now }
     {
-        match &self.alternatives {
-            Alternatives::One(atom) => std::slice::from_ref(atom),
-            Alternatives::Several(atoms) => atoms,
+        Atoms {
+            kind: self.kind,
+            body: self.body,
+            first: Some(self.first),
+            further: self.further,
         }
     }
 
@@ -71,7 +99,7 @@ impl Group {
         ensures err { OnErr result (out.new.items ≡ out.old.items) }
     {
         let start = out.len();
-        match append_atoms(self.atoms(), out) {
+        match self.append_parts(out) {
             Ok(()) => Ok(()),
             Err(error) => {
                 out.truncate(start);
@@ -79,20 +107,77 @@ impl Group {
             }
         }
     }
+
+    // Want of memory leaves what stood in `out` at its front.
+    fn append_parts(&self, out: &mut Vec<u8>) -> Result<(), AllocError>
+        ensures ok { OnOk result (out.new.items ≡ out.old.items ++ group_text self.now) }
+        ensures err { OnErr result (take (vec_len out.old) out.new.items ≡ out.old.items) }
+    {
+        let first = atom_at_place(self.kind, self.body, self.first);
+        first.append_to(out)?;
+        append_others(self.kind, self.body, self.further, out)?;
+        Ok(())
+    }
 }
 
-// Want of memory leaves what stood in `out` at its front.
-fn append_atoms(atoms: &[Atom], out: &mut Vec<u8>) -> Result<(), AllocError>
-    ensures ok { OnOk result (out.new.items ≡ out.old.items ++ group_text atoms.now) }
+// Appends the atoms at these places, each behind a bar. Want of memory leaves what stood in `out` at its front.
+fn append_others(
+    kind: FieldKind,
+    body: &[u8],
+    places: &[u32],
+    out: &mut Vec<u8>,
+) -> Result<(), AllocError>
+    requires { HaveAtoms kind body.now places.now }
+    ensures ok { OnOk result (out.new.items ≡ out.old.items ++ flat_map (λ place. alternative_text (atom_held kind body.now place)) places.now) }
     ensures err { OnErr result (take (vec_len out.old) out.new.items ≡ out.old.items) }
 {
-    let Some((first, others)) = atoms.split_first() else {
-        return Ok(());
-    };
-    first.append_to(out)?;
-    for other in others {
+    for place in places {
+        let other = atom_at_place(kind, body, *place);
         out.extend_from_slice(b" | ")?;
         other.append_to(out)?;
     }
     Ok(())
+}
+
+/// The atoms of a group, by [`Group::atoms`]: those that were not yet given.
+#[derive(Drop)]
+pub struct Atoms<'a> {
+    kind: FieldKind,
+    body: &'a [u8],
+    // Where the first atom begins, until it was given.
+    first: Option<u32>,
+    further: &'a [u32],
+}
+
+impl<'a> Model for Atoms<'a> {
+    ghost use Rattle.std.specs.Prelude.{List, ◌≤◌, ◌^◌, length};
+    ghost use Rattle.ctl_relation.specs.Parts.{AtomParts};
+    ghost use Rattle.ctl_relation.specs.HeldPlaces.{HaveAtoms, atoms_held, places_left};
+
+    ghost Value = { List AtomParts };
+
+    ghost view = { λ it. atoms_held it.kind it.body.now (places_left it.first it.further.now) };
+
+    ghost invariant = { λ it. HaveAtoms it.kind it.body.now (places_left it.first it.further.now) };
+}
+
+impl<'a> Iterator for Atoms<'a> {
+    ghost use Rattle.std.specs.Prelude.{◌≡◌, length};
+    ghost use Rattle.std.specs.Iterator.{YieldsFirstBy, item_count};
+
+    type Item = Atom<'a>;
+
+    ghost next_gives = { YieldsFirstBy (λ atom. atom) (λ rest. rest) };
+
+    ghost remaining = { item_count (λ rest. rest) };
+
+    fn next(&mut self) -> Option<Atom<'a>> {
+        if let Some(first) = self.first {
+            self.first = None;
+            return Some(atom_at_place(self.kind, self.body, first));
+        }
+        let (place, further) = self.further.split_first()?;
+        self.further = further;
+        Some(atom_at_place(self.kind, self.body, *place))
+    }
 }

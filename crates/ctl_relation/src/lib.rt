@@ -6,10 +6,12 @@ mod bytes;
 mod cut;
 mod field_kind;
 mod group;
+mod groups;
 mod name;
 mod offer;
 mod operator;
 mod part;
+mod places;
 mod reading;
 mod relation_fault;
 mod relation_laws;
@@ -24,17 +26,19 @@ mod version_laws;
 pub use atom::Atom;
 pub use bytes::Bytes;
 pub use field_kind::FieldKind;
-pub use group::Group;
+pub use group::{Atoms, Group};
+pub use groups::Groups;
 pub use name::{is_name, names_by_their_bytes};
 pub use offer::Offer;
 pub use operator::Operator;
-pub use reading::parse_relations;
+pub use places::Places;
+pub use reading::read_places;
 pub use relation_fault::RelationFault;
 pub use relation_laws::{
     fields_bound_atoms, fields_have_one_fault, fields_have_places, met_by_name, met_counts_add_up,
     printed_forms_read_again, reading_is_the_grammar,
 };
-pub use relations::Relations;
+pub use relations::{Relations, parse_relations};
 pub use steps::Steps;
 pub use version::Version;
 pub use version_fault::VersionFault;

@@ -1,10 +1,11 @@
 //! The operators of version bounds (Debian Policy 7.1).
 
-ghost use Rattle.std.specs.Prelude.{◌≡◌};
+ghost use Rattle.std.specs.Prelude.{◌≡◌, None};
 ghost use Rattle.ctl_relation.specs.Met.{relates};
 ghost use Rattle.ctl_relation.specs.Printed.{operator_text};
+ghost use Rattle.ctl_relation.specs.Version.{fault_of};
 
-use crate::version::Version;
+use crate::version::{Version, compare_versions};
 
 /// How a bound relates an offered version to its own: the five operators of Debian Policy 7.1.
 #[derive(Clone, Copy, Debug, PartialEq, Eq)]
@@ -22,11 +23,12 @@ pub enum Operator {
 }
 
 impl Operator {
-    /// Whether `version` stands in this relation to `bound`, by the order of Debian versions.
-    pub(crate) fn relates(self, version: &Version, bound: &Version) -> bool
+    /// Whether `version` stands in this relation to `bound`, which is one too, by the order of Debian versions.
+    pub(crate) fn relates(self, version: &Version, bound: &[u8]) -> bool
+        requires { fault_of bound.now ≡ None }
         ensures { result ≡ relates self version.now bound.now }
     {
-        let order = version.cmp(bound);
+        let order = compare_versions(version.text(), bound);
         match self {
             Operator::Earlier => order.is_lt(),
             Operator::EarlierOrEqual => order.is_le(),

@@ -1,52 +1,50 @@
 //! Reading relation fields from left to right.
 
-ghost use Rattle.std.specs.Prelude.{◌≡◌, ◌≢◌, ◌≤◌, ◌<◌, ◌+◌, List, length, IfOk, IfErr};
+ghost use Rattle.std.specs.Prelude.{◌≡◌, ◌≢◌, ◌≤◌, ◌<◌, ◌+◌, ◌^◌, [], None, length, IfOk, IfErr, OnOk, IfSome};
 ghost use Rattle.ctl_relation.specs.declared.relation_fault.RelationFault.TheVariants as relation;
-ghost use Rattle.ctl_relation.specs.Fault.{IsFault};
-ghost use Rattle.ctl_relation.specs.Grammar.{RelationsText};
-ghost use Rattle.ctl_relation.specs.Parts.{AtomParts};
-ghost use Rattle.ctl_relation.specs.Reading.{Gives, parenthesized_at, bound_at, atom_at, group_at, relations_of};
+ghost use Rattle.ctl_relation.specs.HeldPlaces.{ArePlacesIn, HasAtom, IsEnd, ReadsField, ReadsGroup, atom_held, groups_kept, place_of};
+ghost use Rattle.ctl_relation.specs.Lent.{lent_bound};
+ghost use Rattle.ctl_relation.specs.Reading.{Gives, GivesAlways, parenthesized_at, bound_at, atom_at, group_at, relations_of};
+ghost use Rattle.ctl_relation.specs.Version.{fault_of};
 
 use crate::atom::Atom;
 use crate::field_kind::FieldKind;
-use crate::group::Group;
 use crate::operator::Operator;
+use crate::places::Places;
 use crate::relation_fault::RelationFault;
-use crate::relations::Relations;
 use crate::tokens::{
     behind_byte, close_of, name_of, operator_of, qualifier_of, version_of, without_whitespace,
 };
-use crate::version::Version;
 use std::alloc::Global;
 
 // The operator and the version behind an open parenthesis, and what follows the closing one.
 #[tactic(auto, unfolding(crate::specs::Reading::parenthesized_at))]
 fn parenthesized_of(
-    alloc: Global,
     kind: FieldKind,
     text: &[u8],
-) -> Result<((Operator, Version), &[u8]), RelationFault>
-    ensures gives { Gives (λ x. (x.0, x.1.now)) result (parenthesized_at kind text.now) }
+) -> Result<((Operator, &[u8]), &[u8]), RelationFault>
+    ensures gives { GivesAlways (λ x. ((x.0.0, x.0.1.now), x.1.now)) result (parenthesized_at kind text.now) }
     ensures within { IfOk result (λ x. length x.1.now ≤ length text.now) }
+    ensures version { IfOk result (λ x. fault_of x.0.1.now ≡ None) }
 {
     let (operator, after) = operator_of(kind, without_whitespace(text))?;
-    let (version, after) = version_of(alloc, without_whitespace(after))?;
+    let (version, after) = version_of(without_whitespace(after))?;
     let after = close_of(without_whitespace(after))?;
     Ok(((operator, version), after))
 }
 
 // The bound at the front, if an open parenthesis begins one, and what follows it.
 fn bound_of(
-    alloc: Global,
     kind: FieldKind,
     text: &[u8],
-) -> Result<(Option<(Operator, Version)>, &[u8]), RelationFault>
-    ensures gives { Gives (λ x. (x.0, x.1.now)) result (bound_at kind text.now) }
+) -> Result<(Option<(Operator, &[u8])>, &[u8]), RelationFault>
+    ensures gives { GivesAlways (λ x. (lent_bound x.0, x.1.now)) result (bound_at kind text.now) }
     ensures within { IfOk result (λ x. length x.1.now ≤ length text.now) }
+    ensures version { IfOk result (λ x. IfSome x.0 (λ bound. fault_of bound.1.now ≡ None)) }
 {
     match without_whitespace(text) {
         [b'(', behind @ ..] => {
-            let (bound, after) = parenthesized_of(alloc, kind, behind)?;
+            let (bound, after) = parenthesized_of(kind, behind)?;
             Ok((Some(bound), after))
         }
         _ => Ok((None, text)),
@@ -55,51 +53,76 @@ fn bound_of(
 
 // The atom at the front, and what follows it.
 #[tactic(auto, unfolding(crate::specs::Reading::atom_at))]
-fn atom_of(alloc: Global, kind: FieldKind, text: &[u8]) -> Result<(Atom, &[u8]), RelationFault>
-    ensures gives { Gives (λ x. (x.0, x.1.now)) result (atom_at kind text.now) }
+fn atom_of(kind: FieldKind, text: &[u8]) -> Result<(Atom<'_>, &[u8]), RelationFault>
+    ensures gives { GivesAlways (λ x. (x.0, x.1.now)) result (atom_at kind text.now) }
     ensures shorter { IfOk result (λ x. length x.1.now < length text.now) }
 {
     let (name, after) = name_of(text)?;
     let (qualifier, after) = qualifier_of(after)?;
-    let (bound, after) = bound_of(alloc, kind, after)?;
-    let atom = Atom::new(alloc, name, qualifier, bound)?;
-    Ok((atom, after))
+    let (bound, after) = bound_of(kind, after)?;
+    Ok((Atom::new(name, qualifier, bound), after))
 }
 
-// The group at the front, and what follows it.
-fn group_of(alloc: Global, kind: FieldKind, text: &[u8]) -> Result<(Group, &[u8]), RelationFault>
-    ensures gives { Gives (λ x. (x.0, x.1.now)) result (group_at (length text.now + 1) kind text.now) }
-    ensures shorter { IfOk result (λ x. length x.1.now < length text.now) }
+/// The atom that begins at a place of a body.
+pub(crate) fn atom_at_place(kind: FieldKind, body: &[u8], place: u32) -> Atom<'_>
+    requires { HasAtom kind body.now place }
+    ensures { result ≡ atom_held kind body.now place }
 {
-    let mut atoms = Vec::new(alloc);
+    let (_, text) = body.split_at(place as usize);
+    match atom_of(kind, text) {
+        Ok((atom, _)) => atom,
+        Err(_) => unreachable!("an atom begins there"),
+    }
+}
+
+// Where the end of a body begins.
+fn place_of(body: &[u8], text: &[u8]) -> u32
+    requires ends { IsEnd body.now text.now }
+    requires short { length body.now < 2 ^ 32 }
+    ensures { result ≡ place_of body.now text.now }
+{
+    (body.len() - text.len()) as u32
+}
+
+// Reads the group at the front of the end of a body: adds where its further atoms begin, and tells what follows it.
+fn read_group<'a>(
+    kind: FieldKind,
+    body: &'a [u8],
+    text: &'a [u8],
+    further: &mut Vec<u32>,
+) -> Result<&'a [u8], RelationFault>
+    requires ends { IsEnd body.now text.now }
+    requires short { length body.now < 2 ^ 32 }
+    ensures read { IfOk result (λ after. ReadsGroup kind body.now text.now further.old.items further.new.items after.now) }
+    ensures bad { IfErr result (λ fault. fault ≢ relation.Memory → group_at (length text.now + 1) kind text.now ≡ Err fault) }
+{
     let mut left = text;
-    loop {
-        let (atom, after) = atom_of(alloc, kind, left)?;
+    'atoms: loop {
+        let (_, after) = atom_of(kind, left)?;
         let Some(behind) = behind_byte(without_whitespace(after), b'|') else {
-            if atoms.is_empty() {
-                return Ok((Group::from_atom(atom), after));
-            }
-            atoms.push(atom)?;
-            return Ok((Group::from_vec(atoms), after));
+            return Ok(after);
         };
         if !kind.has_alternatives() {
             return Err(RelationFault::Alternative);
         }
-        atoms.push(atom)?;
         left = without_whitespace(behind);
+        further.push(place_of(body, left))?;
     }
 }
 
-// The groups from left to right.
-fn relations_from(alloc: Global, body: &[u8], kind: FieldKind) -> Result<Relations, RelationFault>
-    ensures { Gives (λ x. x) result (relations_of kind body.now) }
+// Reads the groups from left to right, and keeps where they and their further atoms begin.
+fn read_groups(
+    kind: FieldKind,
+    body: &[u8],
+    starts: &mut Vec<u32>,
+    further: &mut Vec<u32>,
+) -> Result<(), RelationFault>
+    requires short { length body.now < 2 ^ 32 }
+    requires none { starts.old.items ≡ [] }
+    requires none_further { further.old.items ≡ [] }
+    ensures read { OnOk result (ReadsField kind body.now starts.new.items further.new.items) }
+    ensures bad { IfErr result (λ fault. fault ≢ relation.Memory → relations_of kind body.now ≡ Err fault) }
 {
-    // Room for the pieces between commas that aren't blank: the list doesn't grow, and has no room to give back.
-    let pieces = body
-        .split(|byte| *byte == b',')
-        .filter(|piece| !without_whitespace(piece).is_empty())
-        .count();
-    let mut groups = Vec::with_capacity(alloc, pieces)?;
     let mut left = body;
     'groups: loop {
         let text = without_whitespace(left);
@@ -108,14 +131,14 @@ fn relations_from(alloc: Global, body: &[u8], kind: FieldKind) -> Result<Relatio
             continue 'groups;
         }
         if text.is_empty() {
-            return Ok(Relations::from_vec(groups));
+            return Ok(());
         }
-        let (group, after) = group_of(alloc, kind, text)?;
-        groups.push(group)?;
+        let after = read_group(kind, body, text, further)?;
+        starts.push(place_of(body, text))?;
         let after = without_whitespace(after);
         let Some(behind) = behind_byte(after, b',') else {
             if after.is_empty() {
-                return Ok(Relations::from_vec(groups));
+                return Ok(());
             }
             return Err(RelationFault::Name);
         };
@@ -123,23 +146,26 @@ fn relations_from(alloc: Global, body: &[u8], kind: FieldKind) -> Result<Relatio
     }
 }
 
-/// Reads the body of a relation field of this kind: its groups, or its first fault from the left.
-///
-/// `Memory` is the only fault that may stand in place of another answer. A name of 2^32 bytes or more is taken for it.
-pub fn parse_relations(
-    alloc: Global,
-    body: &[u8],
-    kind: FieldKind,
-) -> Result<Relations, RelationFault>
-    // What is read is in the grammar, with these groups.
-    ensures found { IfOk result (λ relations. RelationsText kind body.now relations) }
+// How many of the pieces between commas aren't blank: so many groups a field has.
+fn piece_count(body: &[u8]) -> usize {
+    body.split(|byte| *byte == b',')
+        .filter(|piece| !without_whitespace(piece).is_empty())
+        .count()
+}
 
-    // What is in the grammar is read to these groups, or memory runs out.
-    ensures only { (groups : List (List AtomParts)) → RelationsText kind body.now groups
-        → IfOk result (λ relations. relations ≡ groups) × IfErr result (λ fault. fault ≡ relation.Memory) }
-
-    // A fault but want of memory is the one that is due where the body first leaves the grammar.
-    ensures fault { IfErr result (λ fault. fault ≢ relation.Memory → IsFault kind body.now fault) }
+/// Reads the body of a relation field of this kind: where its atoms stand, or its first fault from the left. A body of 2^32
+/// bytes or more is taken for want of memory.
+pub fn read_places(alloc: Global, body: &[u8], kind: FieldKind) -> Result<Places, RelationFault>
+    ensures groups { Gives (λ places. groups_kept body.now places) result (relations_of kind body.now) }
+    ensures held { IfOk result (ArePlacesIn body.now) }
+    ensures kind { IfOk result (λ places. places.kind ≡ kind) }
 {
-    relations_from(alloc, body, kind)
+    if body.len() > u32::MAX as usize {
+        return Err(RelationFault::Memory);
+    }
+    let mut starts = Vec::with_capacity(alloc, piece_count(body))?;
+    let mut further = Vec::new(alloc);
+    read_groups(kind, body, &mut starts, &mut further)?;
+    let places = Places::new(kind, starts, further)?;
+    Ok(places)
 }

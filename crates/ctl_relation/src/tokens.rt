@@ -1,20 +1,19 @@
 //! The tokens of a relation field: names, qualifiers, operators, versions, and the whitespace between them.
 
-ghost use Rattle.std.specs.Prelude.{◌≡◌, ◌≤◌, ◌<◌, length, IfOk, IfSome};
+ghost use Rattle.std.specs.Prelude.{◌≡◌, ◌≤◌, ◌<◌, length, None, IfOk, IfSome};
 ghost use Rattle.std.specs.List.{prefix_len};
 ghost use Rattle.std.specs.Option.{option_map};
 ghost use Rattle.ctl_relation.specs.Inside.ByteClass.{class_has};
 ghost use Rattle.ctl_relation.specs.FieldBytes.{is_whitespace, is_qualifier_byte, is_version_word_byte};
 ghost use Rattle.ctl_relation.specs.Runs.{rest};
-ghost use Rattle.ctl_relation.specs.Reading.{Gives, behind_byte, name_at, qualifier_at, operator_token, operator_at, version_at, close_at};
+ghost use Rattle.ctl_relation.specs.Reading.{GivesAlways, behind_byte, name_at, qualifier_at, operator_token, operator_at, version_at, close_at};
+ghost use Rattle.ctl_relation.specs.Version.{fault_of};
 
+use crate::cut::version_fault;
 use crate::field_kind::FieldKind;
 use crate::name::{is_name, is_name_byte};
 use crate::operator::Operator;
 use crate::relation_fault::RelationFault;
-use crate::version::Version;
-use crate::version_fault::VersionFault;
-use std::alloc::Global;
 
 fn is_whitespace(byte: u8) -> bool
     ensures { result ≡ is_whitespace byte }
@@ -90,7 +89,7 @@ pub(crate) fn behind_byte(text: &[u8], byte: u8) -> Option<&[u8]>
 
 /// The name at the front, and what follows it.
 pub(crate) fn name_of(text: &[u8]) -> Result<(&[u8], &[u8]), RelationFault>
-    ensures gives { Gives (λ x. (x.0.now, x.1.now)) result (name_at text.now) }
+    ensures gives { GivesAlways (λ x. (x.0.now, x.1.now)) result (name_at text.now) }
     ensures shorter { IfOk result (λ x. length x.1.now < length text.now) }
 {
     let (name, after) = text.split_at(run_len(ByteClass::Name, text));
@@ -103,7 +102,7 @@ pub(crate) fn name_of(text: &[u8]) -> Result<(&[u8], &[u8]), RelationFault>
 
 /// The qualifier at the front, if a colon begins one, and what follows it.
 pub(crate) fn qualifier_of(text: &[u8]) -> Result<(Option<&[u8]>, &[u8]), RelationFault>
-    ensures gives { Gives (λ x. (option_map (λ y. y.now) x.0, x.1.now)) result (qualifier_at text.now) }
+    ensures gives { GivesAlways (λ x. (option_map (λ y. y.now) x.0, x.1.now)) result (qualifier_at text.now) }
     ensures within { IfOk result (λ x. length x.1.now ≤ length text.now) }
 {
     match text {
@@ -137,7 +136,7 @@ fn operator_token(text: &[u8]) -> Option<(Operator, &[u8])>
 
 /// The operator at the front, and what follows it. Provides has `=` alone.
 pub(crate) fn operator_of(kind: FieldKind, text: &[u8]) -> Result<(Operator, &[u8]), RelationFault>
-    ensures gives { Gives (λ x. (x.0, x.1.now)) result (operator_at kind text.now) }
+    ensures gives { GivesAlways (λ x. (x.0, x.1.now)) result (operator_at kind text.now) }
     ensures within { IfOk result (λ x. length x.1.now ≤ length text.now) }
 {
     let Some((operator, after)) = operator_token(text) else {
@@ -150,21 +149,21 @@ pub(crate) fn operator_of(kind: FieldKind, text: &[u8]) -> Result<(Operator, &[u
 }
 
 /// The version at the front, and what follows it.
-pub(crate) fn version_of(alloc: Global, text: &[u8]) -> Result<(Version, &[u8]), RelationFault>
-    ensures gives { Gives (λ x. (x.0, x.1.now)) result (version_at text.now) }
+pub(crate) fn version_of(text: &[u8]) -> Result<(&[u8], &[u8]), RelationFault>
+    ensures gives { GivesAlways (λ x. (x.0.now, x.1.now)) result (version_at text.now) }
     ensures within { IfOk result (λ x. length x.1.now ≤ length text.now) }
+    ensures version { IfOk result (λ x. fault_of x.0.now ≡ None) }
 {
     let (version, after) = text.split_at(run_len(ByteClass::VersionWord, text));
-    match Version::parse(alloc, version) {
-        Ok(version) => Ok((version, after)),
-        Err(VersionFault::Memory) => Err(RelationFault::Memory),
-        Err(_) => Err(RelationFault::Version),
+    match version_fault(version) {
+        None => Ok((version, after)),
+        Some(_) => Err(RelationFault::Version),
     }
 }
 
 /// What follows the closing parenthesis at the front.
 pub(crate) fn close_of(text: &[u8]) -> Result<&[u8], RelationFault>
-    ensures gives { Gives (λ x. x.now) result (close_at text.now) }
+    ensures gives { GivesAlways (λ x. x.now) result (close_at text.now) }
     ensures within { IfOk result (λ x. length x.now ≤ length text.now) }
 {
     match text {

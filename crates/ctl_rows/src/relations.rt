@@ -2,7 +2,8 @@
 
 use crate::tables::{agree, pair, same};
 use ctl_relation::{
-    Atom, FieldKind, Offer, Operator, RelationFault, Relations, Steps, Version, parse_relations,
+    Atom, FieldKind, Groups, Offer, Operator, RelationFault, Relations, Steps, Version,
+    parse_relations, read_places,
 };
 use std::alloc::{AllocError, Global};
 use std::process::Abort;
@@ -33,7 +34,7 @@ fn fault_name(fault: RelationFault) -> &'static [u8] {
 }
 
 /// Groups in their printed form, a line for each.
-fn printed(alloc: Global, relations: &Relations) -> Result<Vec<u8>, AllocError> {
+fn printed(alloc: Global, relations: &Relations<'_>) -> Result<Vec<u8>, AllocError> {
     let mut all = Vec::new(alloc);
     for group in relations.groups() {
         group.append_to(&mut all)?;
@@ -152,24 +153,29 @@ fn groups(rt: HostRuntime) -> Result<(), Fail> {
 }
 
 /// The only atom of a field with one.
-fn lone_atom<'a>(rt: &impl Abort, relations: &'a Relations) -> &'a Atom {
-    assert_eq!(rt; relations.groups().len(), 1);
-    let atoms = relations.groups()[0].atoms();
-    assert_eq!(rt; atoms.len(), 1);
-    &atoms[0]
+fn lone_atom<'a>(relations: &'a Relations<'_>) -> Result<Atom<'a>, Fail> {
+    let groups = relations.groups();
+    if groups.len() != 1 {
+        return Err(Fail::from("not one group"));
+    }
+    let group = groups.get(0).ok_or("a group is missing")?;
+    if group.len() != 1 {
+        return Err(Fail::from("not one atom"));
+    }
+    Ok(group.get(0).ok_or("an atom is missing")?)
 }
 
 #[test]
 fn parts_of_an_atom(rt: HostRuntime) -> Result<(), Fail> {
     let relations = parse_relations(rt.alloc(), b" python3:any ( >= 3.1~ ) ", FieldKind::Depends)?;
-    let atom = lone_atom(&rt, &relations);
+    let atom = lone_atom(&relations)?;
     same(&rt, b"name", atom.name(), b"python3");
     let qualifier = atom.qualifier().ok_or("a qualifier is missing")?;
     same(&rt, b"qualifier", qualifier, b"any");
     let (operator, version) = atom.bound().ok_or("a bound is missing")?;
     assert!(rt; operator == Operator::LaterOrEqual);
     same(&rt, b"operator", operator.text(), b">=");
-    same(&rt, b"version", version.text(), b"3.1~");
+    same(&rt, b"version", version, b"3.1~");
     let mut out = Vec::from_slice(rt.alloc(), b"Depends: ")?;
     atom.append_to(&mut out)?;
     same(&rt, b"printed", &out, b"Depends: python3:any (>= 3.1~)");
@@ -179,7 +185,7 @@ fn parts_of_an_atom(rt: HostRuntime) -> Result<(), Fail> {
 #[test]
 fn bare_atom(rt: HostRuntime) -> Result<(), Fail> {
     let relations = parse_relations(rt.alloc(), b"a", FieldKind::Provides)?;
-    let atom = lone_atom(&rt, &relations);
+    let atom = lone_atom(&relations)?;
     same(&rt, b"name", atom.name(), b"a");
     assert!(rt; atom.qualifier().is_none());
     assert!(rt; atom.bound().is_none());
@@ -206,7 +212,7 @@ fn offer_of(alloc: Global, name: &[u8], version: Option<&[u8]>) -> Result<Offer,
 
 /// Whether an offer meets the only atom of a field.
 fn is_met(
-    rt: &(impl Abort + AllocGlobal),
+    rt: &impl AllocGlobal,
     field: &[u8],
     name: &[u8],
     version: Option<&[u8]>,
@@ -214,7 +220,8 @@ fn is_met(
 ) -> Result<bool, Fail> {
     let relations = parse_relations(rt.alloc(), field, FieldKind::Depends)?;
     let offer = offer_of(rt.alloc(), name, version)?;
-    Ok(lone_atom(rt, &relations).met_by(&offer, steps))
+    let atom = lone_atom(&relations)?;
+    Ok(atom.met_by(&offer, steps))
 }
 
 #[test]
@@ -275,5 +282,60 @@ fn an_offer_has_its_parts(rt: HostRuntime) -> Result<(), Fail> {
     same(&rt, b"version", version.text(), b"1-0");
     let offer = offer_of(rt.alloc(), b"baz", None)?;
     assert!(rt; offer.version().is_none());
+    Ok(())
+}
+
+/// A field whose groups have one atom, two and three.
+const MIXED: &[u8] = b"a,b|c , ,d, e (= 1)| f:any |g,h";
+
+/// The names of the atoms, each group behind a semicolon.
+fn names(alloc: Global, groups: Groups<'_>) -> Result<Vec<u8>, AllocError> {
+    let mut all = Vec::new(alloc);
+    for group in groups {
+        all.push(b';')?;
+        for atom in group.atoms() {
+            all.extend_from_slice(atom.name())?;
+        }
+    }
+    Ok(all)
+}
+
+#[test]
+fn groups_are_given_in_order(rt: HostRuntime) -> Result<(), Fail> {
+    let relations = parse_relations(rt.alloc(), MIXED, FieldKind::Depends)?;
+    let groups = relations.groups();
+    assert!(rt; !groups.is_empty());
+    assert!(rt; groups.size_hint() == (5, Some(5)));
+    let came = names(rt.alloc(), relations.groups())?;
+    same(&rt, MIXED, &came, b";a;bc;d;efg;h");
+    assert!(rt; Groups::empty().is_empty());
+    Ok(())
+}
+
+#[test]
+fn groups_and_atoms_have_their_numbers(rt: HostRuntime) -> Result<(), Fail> {
+    let relations = parse_relations(rt.alloc(), MIXED, FieldKind::Depends)?;
+    let groups = relations.groups();
+    let wanted: [&[u8]; 5] = [b"a", b"bc", b"d", b"efg", b"h"];
+    assert_eq!(rt; groups.len(), 5);
+    for (i, names) in wanted.iter().enumerate() {
+        let group = groups.get(i).ok_or("a group is missing")?;
+        assert_eq!(rt; group.len(), names.len());
+        for j in 0..group.len() {
+            let atom = group.get(j).ok_or("an atom is missing")?;
+            assert!(rt; Some(atom.name()) == names.get(j..j + 1));
+        }
+        assert!(rt; group.get(group.len()).is_none());
+    }
+    assert!(rt; groups.get(5).is_none());
+    Ok(())
+}
+
+#[test]
+fn places_are_kept_of_a_field(rt: HostRuntime) -> Result<(), Fail> {
+    let places = read_places(rt.alloc(), MIXED, FieldKind::Depends)?;
+    assert!(rt; places.kind() == FieldKind::Depends);
+    let came = names(rt.alloc(), places.groups(MIXED))?;
+    same(&rt, MIXED, &came, b";a;bc;d;efg;h");
     Ok(())
 }

@@ -5,6 +5,7 @@ use Rattle.std.proofs.Math.Seq.{take-append-add, take-append_seam, drop-append-a
 use Rattle.std.proofs.lemmas.List.{take-append-le, drop-append-le, take-append-drop, length-take-le, append-nil, drop_more, length-append, length-drop}
 use Rattle.std.proofs.lemmas.List.Elements.{All-nil, All-cons}
 use Rattle.ctl_stanza.specs.declared.fields.Field.{Field}
+use Rattle.ctl_stanza.specs.declared.fault.Cause.{Cause}
 use Rattle.ctl_stanza.specs.Lines.{is_blank_byte, text_of_lines}
 use Rattle.ctl_stanza.specs.LineKind.{kind_of}
 use Rattle.ctl_stanza.specs.declared.fields.Span.{Span}
@@ -224,6 +225,9 @@ left-shown text name body fields i d lt is_name is_body =
 
 pub first_wrong-good : (live : Bool) (n : ℕ) (field : FieldText) (fields left : List FieldText) → left ≡ field ∷ fields → field_cause live field.name field.body ≡ None → first_wrong live n left ≡ first_wrong live n fields
 first_wrong-good live n field fields left is good = ap (first_wrong live n) is ∙ ap (λ o. fault_or (n + field.line) o (first_wrong live n fields)) good
+
+pub first_wrong-bad : (live : Bool) (n : ℕ) (cause : Cause) (field : FieldText) (fields left : List FieldText) → left ≡ field ∷ fields → field_cause live field.name field.body ≡ Some cause → first_wrong live n left ≡ Some (record { line = n + field.line; cause = cause })
+first_wrong-bad live n cause field fields left is bad = ap (first_wrong live n) is ∙ ap (λ o. fault_or (n + field.line) o (first_wrong live n fields)) bad
 
 -- ---- what is kept of fields
 

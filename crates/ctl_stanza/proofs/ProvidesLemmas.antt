@@ -1,5 +1,5 @@
 -- Each entry of Provides is one atom.
-use Rattle.std.proofs.Common.{◌≡◌, ℕ, Bool, true, false, cond, List, [], ◌∷◌, Option, Some, None, Result, Ok, Err, refl, sym, subst}
+use Rattle.std.proofs.Common.{◌≡◌, ℕ, Bool, true, false, cond, List, [], ◌∷◌, Option, Some, None, Result, Ok, Err, refl, sym, subst, unwrap_or}
 use Rattle.std.specs.List.{All}
 use Rattle.std.proofs.lemmas.List.Elements.{All-nil, All-cons}
 use Rattle.ctl_relation.specs.declared.field_kind.FieldKind.TheVariants.{Provides}
@@ -7,9 +7,9 @@ use Rattle.ctl_relation.specs.declared.relation_fault.RelationFault.{RelationFau
 use Rattle.ctl_relation.specs.FieldKind.{has_alternatives}
 use Rattle.ctl_relation.specs.Grammar.{GroupText, PiecesText, given_groups, RelationsText}
 use Rattle.ctl_relation.specs.Parts.{AtomParts}
-use Rattle.ctl_relation.specs.Reading.{relations_of}
-use Rattle.ctl_stanza.specs.RelationFields.{name_of, groups_read, groups_in, groups_among}
-use Rattle.ctl_stanza.specs.Content.{Content, fields_of, body_of, is_live, provides_of}
+use Rattle.ctl_relation.specs.Reading.{relations_of, groups_or_none, groups_read}
+use Rattle.ctl_stanza.specs.RelationFields.{name_of}
+use Rattle.ctl_stanza.specs.Content.{Content, body_of, is_live, provides_of}
 use Rattle.ctl_stanza.specs.Sound.{IsOneAtom}
 
 one-group : (text : List ℕ) (group : List AtomParts) → GroupText Provides text group → IsOneAtom group
@@ -31,17 +31,13 @@ one-field body groups h = subst (All IsOneAtom) (sym h.2) (one-pieces body h.0 h
 abbrev Found : Type 0
 Found = (body : List ℕ) (groups : List (List AtomParts)) → relations_of Provides body ≡ Ok groups → RelationsText Provides body groups
 
-one-read : Found → (body : List ℕ) (r : Result (List (List AtomParts)) RelationFault) → relations_of Provides body ≡ r → All IsOneAtom (groups_read r)
+one-read : Found → (body : List ℕ) (r : Result (List (List AtomParts)) RelationFault) → relations_of Provides body ≡ r → All IsOneAtom (groups_or_none r)
 one-read found body (Ok groups) e = one-field body groups (found body groups e)
 one-read found body (Err fault) e = All-nil IsOneAtom
 
-one-given : Found → (body : Option (List ℕ)) → All IsOneAtom (groups_in Provides body)
-one-given found None = All-nil IsOneAtom
-one-given found (Some body) = one-read found body (relations_of Provides body) refl
-
 pub one_atom_each : Found → (content : Content) → All IsOneAtom (provides_of content)
-one_atom_each found content = by (is_live content)
+one_atom_each found content = by (is_live content) (unwrap_or (body_of content (name_of Provides)) [])
   where
-    by : (live : Bool) → All IsOneAtom (cond live (groups_among Provides (fields_of content)) [])
-    by true = one-given found (body_of content (name_of Provides))
-    by false = All-nil IsOneAtom
+    by : (live : Bool) (body : List ℕ) → All IsOneAtom (cond live (groups_read Provides body) [])
+    by true body = one-read found body (relations_of Provides body) refl
+    by false body = All-nil IsOneAtom

@@ -1,19 +1,23 @@
 -- The names of the relation fields, and what is kept of them.
-use Rattle.std.proofs.Common.{◌≡◌, ◌∙◌, ◌++◌, ℕ, true, false, cond, List, [], ◌∷◌, get_or, nat_eq, Option, Some, None, refl, sym, ap, subst, ⊎_elim}
+use Rattle.std.proofs.Common.{◌≡◌, ◌∙◌, ◌++◌, ℕ, true, false, cond, List, [], ◌∷◌, get_or, nat_eq, Option, Some, None, refl, sym, ap, ap₂, subst, ⊎_elim, Bool, unwrap_or}
 use Rattle.std.specs.Option.{option_map}
 use Rattle.std.specs.Str.{bytes_eq, str_to_ascii_lowercase}
 use Rattle.std.proofs.lemmas.Bool.{cases_Bool, cond-true, cond-false, eqb-true}
+use Rattle.std.proofs.lemmas.List.Elements.{All-push}
 use Rattle.std.proofs.lemmas.Slice.Eq.{bytes_eq-Decides}
 use Rattle.ctl_relation.specs.declared.field_kind.FieldKind.{FieldKind}
 use Rattle.ctl_relation.specs.declared.field_kind.FieldKind.TheVariants.{PreDepends, Depends, Conflicts, Breaks, Recommends, Suggests, Replaces, Enhances, Provides}
 use Rattle.ctl_relation.specs.FieldKind.{field_place}
 use Rattle.ctl_relation.specs.Parts.{AtomParts}
-use Rattle.ctl_relation.specs.Reading.{relations_of}
+use Rattle.ctl_relation.specs.HeldPlaces.{groups_kept}
+use Rattle.ctl_relation.specs.Reading.{groups_read}
 use Rattle.ctl_stanza.specs.declared.live.RelationField.{RelationField}
 use Rattle.ctl_stanza.specs.Fields.{FieldText, is_same_name, body_named, package_name, version_name}
-use Rattle.ctl_stanza.specs.RelationFields.{name_of, relation_kind, groups_read}
+use Rattle.ctl_stanza.specs.RelationFields.{name_of, relation_kind}
 use Rattle.ctl_stanza.specs.Faults.{or_else}
-use Rattle.ctl_stanza.specs.HeldStanza.{kept_of, relation_field, groups_given, version_given, groups_found, KeepsGroups}
+use Rattle.ctl_stanza.specs.declared.fields.Span.{Span}
+use Rattle.ctl_stanza.specs.HeldFields.{shown}
+use Rattle.ctl_stanza.specs.HeldStanza.{kept_groups, version_given, AreKeptIn, IsKeptIn, Keeps, KeepsIfRelation}
 
 -- ---- names without regard to case
 
@@ -87,18 +91,42 @@ version-no-kind name same = kind-respects name version_name same
 
 -- ---- what is kept
 
--- the groups of a field that is pushed
-abbrev pushed_groups : FieldKind → RelationField → Option (List (List AtomParts))
-pushed_groups kind field = cond (nat_eq (field_place field.kind) (field_place kind)) (Some field.relations) None
+-- the groups that are kept of a relation field, if it was given
+abbrev pub kept_of : FieldKind → List ℕ → List RelationField → Option (List (List AtomParts))
+kept_of kind bytes [] = None
+kept_of kind bytes (field ∷ fields) = cond (nat_eq (field_place field.places.kind) (field_place kind)) (Some (groups_kept (shown bytes field.body) field.places)) (kept_of kind bytes fields)
 
-kept-push : (kind : FieldKind) (fields : List RelationField) (field : RelationField) → kept_of kind (fields ++ field ∷ []) ≡ or_else (kept_of kind fields) (pushed_groups kind field)
-kept-push kind [] field = refl
-kept-push kind (f ∷ fs) field = ⊎_elim
-    (λ (here : nat_eq (field_place f.kind) (field_place kind) ≡ true).
-    cond-true _ _ _ here ∙ ap (λ o. or_else o (pushed_groups kind field)) (sym (cond-true _ _ _ here)))
-    (λ (other : nat_eq (field_place f.kind) (field_place kind) ≡ false).
-    cond-false _ _ _ other ∙ kept-push kind fs field ∙ ap (λ o. or_else o (pushed_groups kind field)) (sym (cond-false _ _ _ other)))
-    (cases_Bool (nat_eq (field_place f.kind) (field_place kind)))
+pub kept-or-none : (kind : FieldKind) (bytes : List ℕ) (fields : List RelationField) → kept_groups kind bytes fields ≡ unwrap_or (kept_of kind bytes fields) []
+kept-or-none kind bytes [] = refl
+kept-or-none kind bytes (f ∷ fs) = by (nat_eq (field_place f.places.kind) (field_place kind)) (kept-or-none kind bytes fs)
+  where
+    by : (t : Bool) → kept_groups kind bytes fs ≡ unwrap_or (kept_of kind bytes fs) [] → cond t (groups_kept (shown bytes f.body) f.places) (kept_groups kind bytes fs) ≡ unwrap_or (cond t (Some (groups_kept (shown bytes f.body) f.places)) (kept_of kind bytes fs)) []
+    by true rest = refl
+    by false rest = rest
+
+-- what a field gives to the groups of a relation field
+abbrev pub groups_given : FieldKind → List ℕ → List ℕ → Option (List (List AtomParts))
+groups_given kind name body = cond (is_same_name name (name_of kind)) (Some (groups_read kind body)) None
+
+-- the groups of a relation field among fields, if it is given
+abbrev pub groups_found : FieldKind → List FieldText → Option (List (List AtomParts))
+groups_found kind fields = option_map (groups_read kind) (body_named (name_of kind) fields)
+
+found-or-none : (kind : FieldKind) (body : Option (List ℕ)) → unwrap_or (option_map (groups_read kind) body) [] ≡ groups_read kind (unwrap_or body [])
+found-or-none kind None = refl
+found-or-none kind (Some body) = refl
+
+-- the groups of a field that is pushed
+abbrev pushed_groups : FieldKind → List ℕ → RelationField → Option (List (List AtomParts))
+pushed_groups kind bytes field = cond (nat_eq (field_place field.places.kind) (field_place kind)) (Some (groups_kept (shown bytes field.body) field.places)) None
+
+kept-push : (kind : FieldKind) (bytes : List ℕ) (fields : List RelationField) (field : RelationField) → kept_of kind bytes (fields ++ field ∷ []) ≡ or_else (kept_of kind bytes fields) (pushed_groups kind bytes field)
+kept-push kind bytes [] field = refl
+kept-push kind bytes (f ∷ fs) field = by (nat_eq (field_place f.places.kind) (field_place kind)) (kept-push kind bytes fs field)
+  where
+    by : (t : Bool) → kept_of kind bytes (fs ++ field ∷ []) ≡ or_else (kept_of kind bytes fs) (pushed_groups kind bytes field) → cond t (Some (groups_kept (shown bytes f.body) f.places)) (kept_of kind bytes (fs ++ field ∷ [])) ≡ or_else (cond t (Some (groups_kept (shown bytes f.body) f.places)) (kept_of kind bytes fs)) (pushed_groups kind bytes field)
+    by true rest = refl
+    by false rest = rest
 
 -- the nine fields in their order
 abbrev nine : List FieldKind
@@ -119,7 +147,7 @@ at-place Provides = refl
 pub same-place : (a b : FieldKind) → nat_eq (field_place a) (field_place b) ≡ true → a ≡ b
 same-place a b same = sym (at-place a) ∙ ap (λ n. get_or nine n PreDepends) (eqb-true (field_place a) (field_place b) same) ∙ at-place b
 
-place-same : (a : FieldKind) → nat_eq (field_place a) (field_place a) ≡ true
+pub place-same : (a : FieldKind) → nat_eq (field_place a) (field_place a) ≡ true
 place-same PreDepends = refl
 place-same Depends = refl
 place-same Conflicts = refl
@@ -131,13 +159,13 @@ place-same Enhances = refl
 place-same Provides = refl
 
 -- what a relation field gives is what is pushed
-gives-pushed : (name body : List ℕ) (here kind : FieldKind) (groups : List (List AtomParts)) → relation_kind name ≡ Some here → groups_read (relations_of here body) ≡ groups
-    → pushed_groups kind (record { kind = here; relations = groups }) ≡ groups_given kind name body
+gives-pushed : (name body : List ℕ) (here kind : FieldKind) (groups : List (List AtomParts)) → relation_kind name ≡ Some here → groups ≡ groups_read here body
+    → cond (nat_eq (field_place here) (field_place kind)) (Some groups) None ≡ groups_given kind name body
 gives-pushed name body here kind groups is read = ⊎_elim
     (λ (same : nat_eq (field_place here) (field_place kind) ≡ true).
     let one : here ≡ kind = same-place here kind same in
     let named : is_same_name name (name_of kind) ≡ true = same-kind name kind (is ∙ ap Some one) in
-    cond-true _ _ _ same ∙ ap Some (sym read ∙ ap (λ (k : FieldKind). groups_read (relations_of k body)) one) ∙ sym (cond-true _ _ _ named))
+    cond-true _ _ _ same ∙ ap Some (read ∙ ap (λ (k : FieldKind). groups_read k body) one) ∙ sym (cond-true _ _ _ named))
     (λ (other : nat_eq (field_place here) (field_place kind) ≡ false). ⊎_elim
     (λ (named : is_same_name name (name_of kind) ≡ true).
     let some = kind-same name kind named in
@@ -147,10 +175,32 @@ gives-pushed name body here kind groups is read = ⊎_elim
     (cases_Bool (is_same_name name (name_of kind))))
     (cases_Bool (nat_eq (field_place here) (field_place kind)))
 
-pub keeps-pushed : (name body : List ℕ) (here : FieldKind) (old new : List RelationField) → relation_kind name ≡ Some here → new ≡ old ++ relation_field here body ∷ [] → KeepsGroups name body old new
-keeps-pushed name body here old new is pushed = λ kind.
-    ap (kept_of kind) pushed ∙ kept-push kind old (relation_field here body)
-    ∙ ap (or_else (kept_of kind old)) (gives-pushed name body here kind (groups_read (relations_of here body)) is refl)
+or_else-none : {A : Type 0} (o : Option A) → or_else o None ≡ o
+or_else-none None = refl
+or_else-none (Some x) = refl
+
+-- a field that is none of the nine gives no groups
+none-given : (name body : List ℕ) (kind : FieldKind) → relation_kind name ≡ None → groups_given kind name body ≡ None
+none-given name body kind is = ⊎_elim
+    (λ (named : is_same_name name (name_of kind) ≡ true). let some = kind-same name kind named in absurd (cc))
+    (λ (unnamed : is_same_name name (name_of kind) ≡ false). cond-false _ _ _ unnamed)
+    (cases_Bool (is_same_name name (name_of kind)))
+
+-- what is kept, with one field more
+pub keeps-given : (bytes name : List ℕ) (body : Span) (o : Option FieldKind) (old new : List RelationField) → relation_kind name ≡ o → KeepsIfRelation bytes o body old new
+    → (kind : FieldKind) → kept_of kind bytes new ≡ or_else (kept_of kind bytes old) (groups_given kind name (shown bytes body))
+keeps-given bytes name body None old new is keeps kind =
+    ap (kept_of kind bytes) keeps ∙ sym (ap (or_else (kept_of kind bytes old)) (none-given name (shown bytes body) kind is) ∙ or_else-none (kept_of kind bytes old))
+keeps-given bytes name body (Some here) old new is keeps kind =
+    let groups : List (List AtomParts) = groups_kept (shown bytes body) keeps.field.places in
+    ap (kept_of kind bytes) keeps.pushed ∙ kept-push kind bytes old keeps.field
+    ∙ ap (or_else (kept_of kind bytes old))
+    (ap₂ (λ (k : FieldKind) (span : Span). cond (nat_eq (field_place k) (field_place kind)) (Some (groups_kept (shown bytes span) keeps.field.places)) None) keeps.kind_is keeps.body_is
+    ∙ gives-pushed name (shown bytes body) here kind groups is keeps.groups)
+
+pub keeps-kept : (bytes : List ℕ) (body : Span) (o : Option FieldKind) (old new : List RelationField) → KeepsIfRelation bytes o body old new → AreKeptIn bytes old → AreKeptIn bytes new
+keeps-kept bytes body None old new keeps kept = subst (AreKeptIn bytes) (sym keeps) kept
+keeps-kept bytes body (Some here) old new keeps kept = subst (AreKeptIn bytes) (sym keeps.pushed) (All-push (IsKeptIn bytes) old keeps.field kept keeps.kept)
 
 -- ---- one field more
 
@@ -164,15 +214,12 @@ version-first field fields = ⊎_elim
     (λ (other : is_same_name field.name version_name ≡ false). cond-false _ _ _ other ∙ ap (λ o. or_else o (body_named version_name fields)) (sym (cond-false _ _ _ other)))
     (cases_Bool (is_same_name field.name version_name))
 
-abbrev read_as : FieldKind → List ℕ → List (List AtomParts)
-read_as kind body = groups_read (relations_of kind body)
-
 groups-first : (kind : FieldKind) (field : FieldText) (fields : List FieldText) → groups_found kind (field ∷ fields) ≡ or_else (groups_given kind field.name field.body) (groups_found kind fields)
 groups-first kind field fields = ⊎_elim
     (λ (same : is_same_name field.name (name_of kind) ≡ true).
-    ap (option_map (read_as kind)) (cond-true _ _ _ same) ∙ ap (λ o. or_else o (groups_found kind fields)) (sym (cond-true _ _ _ same)))
+    ap (option_map (groups_read kind)) (cond-true _ _ _ same) ∙ ap (λ o. or_else o (groups_found kind fields)) (sym (cond-true _ _ _ same)))
     (λ (other : is_same_name field.name (name_of kind) ≡ false).
-    ap (option_map (read_as kind)) (cond-false _ _ _ other) ∙ ap (λ o. or_else o (groups_found kind fields)) (sym (cond-false _ _ _ other)))
+    ap (option_map (groups_read kind)) (cond-false _ _ _ other) ∙ ap (λ o. or_else o (groups_found kind fields)) (sym (cond-false _ _ _ other)))
     (cases_Bool (is_same_name field.name (name_of kind)))
 
 pub version-turn : (field : FieldText) (fields left : List FieldText) (old new whole : Option (List ℕ)) → left ≡ field ∷ fields → new ≡ or_else old (version_given field.name field.body)
@@ -181,8 +228,14 @@ version-turn field fields left old new whole is e told =
     ap (λ o. or_else o (body_named version_name fields)) e ∙ or_else-assoc old (version_given field.name field.body) (body_named version_name fields)
     ∙ ap (or_else old) (sym (version-first field fields) ∙ ap (body_named version_name) (sym is)) ∙ told
 
-pub groups-turn : (kind : FieldKind) (field : FieldText) (fields left : List FieldText) (old new : List RelationField) (whole : Option (List (List AtomParts))) → left ≡ field ∷ fields
-    → KeepsGroups field.name field.body old new → or_else (kept_of kind old) (groups_found kind left) ≡ whole → or_else (kept_of kind new) (groups_found kind fields) ≡ whole
-groups-turn kind field fields left old new whole is keeps told =
-    ap (λ o. or_else o (groups_found kind fields)) (keeps kind) ∙ or_else-assoc (kept_of kind old) (groups_given kind field.name field.body) (groups_found kind fields)
-    ∙ ap (or_else (kept_of kind old)) (sym (groups-first kind field fields) ∙ ap (groups_found kind) (sym is)) ∙ told
+pub groups-turn : (kind : FieldKind) (bytes : List ℕ) (field : FieldText) (fields left : List FieldText) (old new : List RelationField) (whole : Option (List (List AtomParts))) → left ≡ field ∷ fields
+    → kept_of kind bytes new ≡ or_else (kept_of kind bytes old) (groups_given kind field.name field.body) → or_else (kept_of kind bytes old) (groups_found kind left) ≡ whole → or_else (kept_of kind bytes new) (groups_found kind fields) ≡ whole
+groups-turn kind bytes field fields left old new whole is keeps told =
+    ap (λ o. or_else o (groups_found kind fields)) keeps ∙ or_else-assoc (kept_of kind bytes old) (groups_given kind field.name field.body) (groups_found kind fields)
+    ∙ ap (or_else (kept_of kind bytes old)) (sym (groups-first kind field fields) ∙ ap (groups_found kind) (sym is)) ∙ told
+
+-- where all fields were looked at, what is kept are their groups
+pub all-kept : (kind : FieldKind) (bytes : List ℕ) (all : List FieldText) (relations : List RelationField) → or_else (kept_of kind bytes relations) None ≡ groups_found kind all
+    → kept_groups kind bytes relations ≡ groups_read kind (unwrap_or (body_named (name_of kind) all) [])
+all-kept kind bytes all relations told =
+    kept-or-none kind bytes relations ∙ ap (λ (o : Option (List (List AtomParts))). unwrap_or o []) (sym (or_else-none (kept_of kind bytes relations)) ∙ told) ∙ found-or-none kind (body_named (name_of kind) all)

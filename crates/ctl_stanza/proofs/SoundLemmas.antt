@@ -1,7 +1,7 @@
 -- What holds of a stanza without a fault.
-use Rattle.std.proofs.Common.{◌≡◌, ◌∙◌, ◌+◌, ◌-◌, ◌<◌, ◌≤◌, ◌^◌, ◌==◌, ◌&&◌, ◌||◌, ℕ, suc, Bool, true, false, cond, List, [], ◌∷◌, ◌++◌, length, map, take, drop, Option, Some, None, Result, Ok, Err, refl, sym, ap, subst, arith, ⊎_elim}
+use Rattle.std.proofs.Common.{◌≡◌, ◌∙◌, ◌+◌, ◌-◌, ◌<◌, ◌≤◌, ◌^◌, ◌==◌, ◌&&◌, ◌||◌, ℕ, suc, Bool, true, false, cond, List, [], ◌∷◌, ◌++◌, nat_eq, length, map, take, drop, Option, Some, None, Result, Ok, Err, refl, sym, ap, subst, arith, ⊎_elim}
 use Rattle.std.specs.Bool.{⊤}
-use Rattle.std.specs.List.{All, prefix_len}
+use Rattle.std.specs.List.{All, prefix_len, sum_by}
 use Rattle.std.specs.Prelude.{IsSome, unwrap_or}
 use Rattle.std.proofs.lemmas.Bool.{cases_Bool, cond-true, cond-false}
 use Rattle.std.proofs.lemmas.List.{length-append, length-map, length-drop, length-take-le}
@@ -12,30 +12,33 @@ use Rattle.ctl_relation.specs.declared.field_kind.FieldKind.TheVariants as field
 use Rattle.ctl_relation.specs.declared.relation_fault.RelationFault.{RelationFault}
 use Rattle.ctl_relation.specs.Bounds.{atom_count, GroupsHaveAtoms, AtomsTakeBytes}
 use Rattle.ctl_relation.specs.Bytes.{newline}
+use Rattle.ctl_relation.specs.FieldKind.{nine_fields, field_place}
 use Rattle.ctl_relation.specs.Grammar.{RelationsText}
 use Rattle.ctl_relation.specs.Names.{is_name}
 use Rattle.ctl_relation.specs.Parts.{AtomParts, OfferParts}
-use Rattle.ctl_relation.specs.Reading.{relations_of}
+use Rattle.ctl_relation.specs.Reading.{relations_of, groups_or_none, groups_read}
 use Rattle.ctl_stanza.specs.declared.fault.Cause.{Cause}
 use Rattle.ctl_stanza.specs.declared.fault.Cause.TheVariants as causes
 use Rattle.ctl_stanza.specs.declared.fault.TextFault.{TextFault}
 use Rattle.ctl_stanza.specs.declared.line_kind.LineKind.{LineKind}
-use Rattle.ctl_stanza.specs.declared.line_kind.LineKind.TheVariants.{Blank, Field, Continuation, Faulty}
+use Rattle.ctl_stanza.specs.declared.line_kind.LineKind.TheVariants as line_kinds
 use Rattle.ctl_stanza.specs.declared.list_kind.ListKind.{ListKind}
 use Rattle.ctl_stanza.specs.declared.repeats.Repeats.{Repeats}
 use Rattle.ctl_stanza.specs.declared.repeats.Repeats.TheVariants.{Never}
 use Rattle.ctl_stanza.specs.Lines.{lines_of, text_of_lines, onto_first, is_blank_byte}
 use Rattle.ctl_stanza.specs.LineKind.{kind_of}
-use Rattle.ctl_stanza.specs.Fields.{FieldText, strip_front, strip_end, before_stripped, value_of, continued, field_at, fields_from, fields_of_lines, body_named, is_same_name, package_name, version_name}
-use Rattle.ctl_stanza.specs.RelationFields.{name_of, groups_read, groups_in, groups_among}
+use Rattle.ctl_stanza.specs.Fields.{FieldText, strip_front, strip_end, before_stripped, value_of, continues, continued, field_at, fields_from, fields_of_lines, body_named, is_same_name, package_name, version_name}
+use Rattle.ctl_stanza.specs.RelationFields.{name_of, relation_kind}
 use Rattle.ctl_stanza.specs.Status.{liveness, is_live_by}
 use Rattle.ctl_stanza.specs.Content.{Content, fields_of, body_of, is_live, package_of, version_of, relations_of_kind, offer_of, offers_in, offers_of}
 use Rattle.ctl_stanza.specs.Faults.{cause_of, fault_or, first_fault, is_empty_body, lacks_state, is_missing, field_cause, first_wrong, whole_fault, or_else, stanza_fault}
 use Rattle.std.proofs.Math.Seq.{take-append_seam}
-use Rattle.ctl_stanza.specs.HeldFields.{Grows}
-use Rattle.ctl_stanza.specs.Sound.{IsWhole, IsSound}
+use Rattle.ctl_stanza.specs.declared.fields.Field.{Field}
+use Rattle.ctl_stanza.specs.HeldFields.{AreWithin, Grows, IsReadFrom, shown_fields}
+use Rattle.ctl_stanza.specs.Sound.{IsWhole, IsSound, atoms_of}
 use Rattle.ctl_stanza.proofs.FieldLemmas.{continued-le}
 use Rattle.ctl_stanza.proofs.ProvidesLemmas.{one_atom_each}
+use Rattle.ctl_stanza.proofs.RelationLemmas.{kind-same, place-same}
 
 -- ---- no fault, from whichever line the lines count
 
@@ -143,11 +146,11 @@ BodiesWithin m (f ∷ fs) = (length f.body + 2 ≤ m) × BodiesWithin m fs
 
 bodies-at : (i m b n : ℕ) (kind : LineKind) (line : List ℕ) (behind : List (List ℕ)) (fs : List FieldText) → length (text_of_lines ((b ∷ line) ∷ behind)) ≤ m
     → BodiesWithin m fs → BodiesWithin m (field_at i kind (b ∷ line) behind ++ fs)
-bodies-at i m b n (Field k) line behind fs le rest =
+bodies-at i m b n (line_kinds.Field k) line behind fs le rest =
     (omega (arith, le, value-le k b line, continued-le behind, length-append (value_of k (b ∷ line)) (continued behind), length-append (b ∷ line) (newline ∷ text_of_lines behind)), rest)
-bodies-at i m b n Blank line behind fs le rest = rest
-bodies-at i m b n Continuation line behind fs le rest = rest
-bodies-at i m b n Faulty line behind fs le rest = rest
+bodies-at i m b n line_kinds.Blank line behind fs le rest = rest
+bodies-at i m b n line_kinds.Continuation line behind fs le rest = rest
+bodies-at i m b n line_kinds.Faulty line behind fs le rest = rest
 
 bodies-from : (i m : ℕ) (lines : List (List ℕ)) → length (text_of_lines lines) ≤ m → BodiesWithin m (fields_from i lines)
 bodies-from i m [] le = tt
@@ -196,21 +199,18 @@ HaveAtoms groups = All (λ group. 0 < length group) groups
 none-have : HaveAtoms []
 none-have = λ k d lt. absurd (omega arith)
 
-read-some : Found → GroupsHaveAtoms → (kind : FieldKind) (body : List ℕ) (r : Result (List (List AtomParts)) RelationFault) → relations_of kind body ≡ r → HaveAtoms (groups_read r)
+read-some : Found → GroupsHaveAtoms → (kind : FieldKind) (body : List ℕ) (r : Result (List (List AtomParts)) RelationFault) → relations_of kind body ≡ r → HaveAtoms (groups_or_none r)
 read-some found some kind body (Ok groups) e = some kind body groups (found kind body groups e)
 read-some found some kind body (Err fault) e = none-have
 
-read-count : Found → AtomsTakeBytes → (kind : FieldKind) (body : List ℕ) (r : Result (List (List AtomParts)) RelationFault) → relations_of kind body ≡ r → atom_count (groups_read r) ≤ length body
+read-count : Found → AtomsTakeBytes → (kind : FieldKind) (body : List ℕ) (r : Result (List (List AtomParts)) RelationFault) → relations_of kind body ≡ r → atom_count (groups_or_none r) ≤ length body
 read-count found bounded kind body (Ok groups) e = bounded kind body groups (found kind body groups e)
 read-count found bounded kind body (Err fault) e = omega arith
 
-in-some : Found → GroupsHaveAtoms → (kind : FieldKind) (o : Option (List ℕ)) → HaveAtoms (groups_in kind o)
-in-some found some kind None = none-have
-in-some found some kind (Some body) = read-some found some kind body (relations_of kind body) refl
-
-in-count : Found → AtomsTakeBytes → (content : Content) (kind : FieldKind) (o : Option (List ℕ)) → body_of content (name_of kind) ≡ o → atom_count (groups_in kind o) ≤ length content.text - 1
-in-count found bounded content kind None e = omega arith
-in-count found bounded content kind (Some body) e = omega (arith, read-count found bounded kind body (relations_of kind body) refl, content-body content (name_of kind) body e)
+-- the body of a relation field is shorter than the text, or there is none
+field-size : (content : Content) (kind : FieldKind) (o : Option (List ℕ)) → body_of content (name_of kind) ≡ o → length (unwrap_or o []) ≤ length content.text - 1
+field-size content kind None e = omega arith
+field-size content kind (Some body) e = omega (arith, content-body content (name_of kind) body e)
 
 if-live : {A : Type 0} (P : A → Type 0) (b : Bool) (x y : A) → P x → P y → P (cond b x y)
 if-live P true x y p q = p
@@ -218,8 +218,9 @@ if-live P false x y p q = q
 
 content-count : Found → AtomsTakeBytes → (content : Content) (kind : FieldKind) → atom_count (relations_of_kind kind content) ≤ length content.text - 1
 content-count found bounded content kind =
-    if-live (λ (groups : List (List AtomParts)). atom_count groups ≤ length content.text - 1) (is_live content) (groups_among kind (fields_of content)) []
-    (in-count found bounded content kind (body_of content (name_of kind)) refl) (omega arith)
+    let body = unwrap_or (body_of content (name_of kind)) [] in
+    if-live (λ (groups : List (List AtomParts)). atom_count groups ≤ length content.text - 1) (is_live content) (groups_read kind body) []
+    (omega (arith, read-count found bounded kind body (relations_of kind body) refl, field-size content kind (body_of content (name_of kind)) refl)) (omega arith)
 
 -- each group has an atom, and so the groups are no more than the atoms
 groups-le : (groups : List (List AtomParts)) → HaveAtoms groups → length groups ≤ atom_count groups
@@ -245,6 +246,140 @@ content-offers found bounded content small =
     if-live (λ (offers : List OfferParts). length offers < 2 ^ 32) (is_live content) (own_offer content ∷ offers_in (relations_of_kind field_kinds.Provides content)) []
     (omega (arith, small, offers-size (relations_of_kind field_kinds.Provides content), content-count found bounded content field_kinds.Provides)) (omega arith)
 
+-- ---- the atoms of all fields together
+
+abbrev bodies_size : List FieldText → ℕ
+bodies_size [] = 0
+bodies_size (f ∷ fs) = length f.body + bodies_size fs
+
+-- with a byte more for each field
+abbrev bodies_more : List FieldText → ℕ
+bodies_more [] = 0
+bodies_more (f ∷ fs) = (length f.body + 1) + bodies_more fs
+
+bodies-less : (fs : List FieldText) → bodies_size fs ≤ bodies_more fs - 1
+bodies-less [] = omega arith
+bodies-less (f ∷ fs) = omega (arith, bodies-less fs)
+
+value-size : (n b : ℕ) (line : List ℕ) → length (value_of n (b ∷ line)) + 1 ≤ length (b ∷ line)
+value-size n b line = omega (arith, value-le n b line)
+
+-- The bodies of fields, with a byte more for each, and the lines that continue what stands before, take no more than the text.
+bodies-room : (i : ℕ) (lines : List (List ℕ)) → bodies_more (fields_from i lines) + length (continued lines) ≤ length (text_of_lines lines)
+bodies-room i [] = omega arith
+bodies-room i ([] ∷ lines) = omega (arith, bodies-room (suc i) lines)
+bodies-room i ((b ∷ line) ∷ lines) = by (kind_of (b ∷ line)) (bodies-room (suc i) lines)
+  where
+    by : (kind : LineKind) → bodies_more (fields_from (suc i) lines) + length (continued lines) ≤ length (text_of_lines lines)
+        → bodies_more (field_at i kind (b ∷ line) lines ++ fields_from (suc i) lines) + length (cond (continues kind) (newline ∷ ((b ∷ line) ++ continued lines)) []) ≤ length (text_of_lines ((b ∷ line) ∷ lines))
+    by (line_kinds.Field k) le = omega (arith, le, value-size k b line, length-append (value_of k (b ∷ line)) (continued lines), length-append (b ∷ line) (newline ∷ text_of_lines lines))
+    by line_kinds.Blank le = omega (arith, le, length-append (b ∷ line) (newline ∷ text_of_lines lines))
+    by line_kinds.Continuation le = omega (arith, le, length-append (b ∷ line) (continued lines), length-append (b ∷ line) (newline ∷ text_of_lines lines))
+    by line_kinds.Faulty le = omega (arith, le, length-append (b ∷ line) (newline ∷ text_of_lines lines))
+
+-- how long the body of a relation field is, 0 where it isn't given
+abbrev size_of : List FieldText → FieldKind → ℕ
+size_of fields kind = length (unwrap_or (body_named (name_of kind) fields) [])
+
+-- how long the body of a field is that is this relation field, and else 0
+abbrev size_if : List ℕ → ℕ → FieldKind → ℕ
+size_if name size kind = cond (is_same_name name (name_of kind)) size 0
+
+size-first : (f : FieldText) (fs : List FieldText) (kind : FieldKind) → size_of (f ∷ fs) kind ≤ size_if f.name (length f.body) kind + size_of fs kind
+size-first f fs kind = by (is_same_name f.name (name_of kind))
+  where
+    by : (t : Bool) → length (unwrap_or (cond t (Some f.body) (body_named (name_of kind) fs)) []) ≤ cond t (length f.body) 0 + size_of fs kind
+    by true = omega arith
+    by false = omega arith
+
+size-le : (name : List ℕ) (size : ℕ) (kind : FieldKind) → size_if name size kind ≤ size
+size-le name size kind = by (is_same_name name (name_of kind))
+  where
+    by : (t : Bool) → cond t size 0 ≤ size
+    by true = omega arith
+    by false = omega arith
+
+size-other : (name : List ℕ) (size : ℕ) (here kind : FieldKind) → relation_kind name ≡ Some here → nat_eq (field_place here) (field_place kind) ≡ false → size_if name size kind ≡ 0
+size-other name size here kind is other = ⊎_elim
+    (λ (named : is_same_name name (name_of kind) ≡ true).
+    let some = kind-same name kind named in
+    let one : here ≡ kind = cc in
+    let clash = sym other ∙ ap (λ (k : FieldKind). nat_eq (field_place here) (field_place k)) (sym one) ∙ place-same here in absurd cc)
+    (λ (unnamed : is_same_name name (name_of kind) ≡ false). cond-false _ _ _ unnamed)
+    (cases_Bool (is_same_name name (name_of kind)))
+
+size-none : (name : List ℕ) (size : ℕ) (kind : FieldKind) → relation_kind name ≡ None → size_if name size kind ≡ 0
+size-none name size kind is = ⊎_elim
+    (λ (named : is_same_name name (name_of kind) ≡ true). let some = kind-same name kind named in absurd cc)
+    (λ (unnamed : is_same_name name (name_of kind) ≡ false). cond-false _ _ _ unnamed)
+    (cases_Bool (is_same_name name (name_of kind)))
+
+abbrev nine_sum : (FieldKind → ℕ) → ℕ
+nine_sum f = f field_kinds.PreDepends + (f field_kinds.Depends + (f field_kinds.Conflicts + (f field_kinds.Breaks + (f field_kinds.Recommends + (f field_kinds.Suggests + (f field_kinds.Replaces + (f field_kinds.Enhances + f field_kinds.Provides)))))))
+
+-- a field is at most one of the nine
+one-of-nine : (name : List ℕ) (size : ℕ) (o : Option FieldKind) → relation_kind name ≡ o → nine_sum (size_if name size) ≤ size
+one-of-nine name size None is =
+    omega (arith, size-none name size field_kinds.PreDepends is, size-none name size field_kinds.Depends is, size-none name size field_kinds.Conflicts is, size-none name size field_kinds.Breaks is, size-none name size field_kinds.Recommends is, size-none name size field_kinds.Suggests is, size-none name size field_kinds.Replaces is, size-none name size field_kinds.Enhances is, size-none name size field_kinds.Provides is)
+one-of-nine name size (Some field_kinds.PreDepends) is =
+    omega (arith, size-le name size field_kinds.PreDepends, size-other name size field_kinds.PreDepends field_kinds.Depends is refl, size-other name size field_kinds.PreDepends field_kinds.Conflicts is refl, size-other name size field_kinds.PreDepends field_kinds.Breaks is refl, size-other name size field_kinds.PreDepends field_kinds.Recommends is refl, size-other name size field_kinds.PreDepends field_kinds.Suggests is refl, size-other name size field_kinds.PreDepends field_kinds.Replaces is refl, size-other name size field_kinds.PreDepends field_kinds.Enhances is refl, size-other name size field_kinds.PreDepends field_kinds.Provides is refl)
+one-of-nine name size (Some field_kinds.Depends) is =
+    omega (arith, size-le name size field_kinds.Depends, size-other name size field_kinds.Depends field_kinds.PreDepends is refl, size-other name size field_kinds.Depends field_kinds.Conflicts is refl, size-other name size field_kinds.Depends field_kinds.Breaks is refl, size-other name size field_kinds.Depends field_kinds.Recommends is refl, size-other name size field_kinds.Depends field_kinds.Suggests is refl, size-other name size field_kinds.Depends field_kinds.Replaces is refl, size-other name size field_kinds.Depends field_kinds.Enhances is refl, size-other name size field_kinds.Depends field_kinds.Provides is refl)
+one-of-nine name size (Some field_kinds.Conflicts) is =
+    omega (arith, size-le name size field_kinds.Conflicts, size-other name size field_kinds.Conflicts field_kinds.PreDepends is refl, size-other name size field_kinds.Conflicts field_kinds.Depends is refl, size-other name size field_kinds.Conflicts field_kinds.Breaks is refl, size-other name size field_kinds.Conflicts field_kinds.Recommends is refl, size-other name size field_kinds.Conflicts field_kinds.Suggests is refl, size-other name size field_kinds.Conflicts field_kinds.Replaces is refl, size-other name size field_kinds.Conflicts field_kinds.Enhances is refl, size-other name size field_kinds.Conflicts field_kinds.Provides is refl)
+one-of-nine name size (Some field_kinds.Breaks) is =
+    omega (arith, size-le name size field_kinds.Breaks, size-other name size field_kinds.Breaks field_kinds.PreDepends is refl, size-other name size field_kinds.Breaks field_kinds.Depends is refl, size-other name size field_kinds.Breaks field_kinds.Conflicts is refl, size-other name size field_kinds.Breaks field_kinds.Recommends is refl, size-other name size field_kinds.Breaks field_kinds.Suggests is refl, size-other name size field_kinds.Breaks field_kinds.Replaces is refl, size-other name size field_kinds.Breaks field_kinds.Enhances is refl, size-other name size field_kinds.Breaks field_kinds.Provides is refl)
+one-of-nine name size (Some field_kinds.Recommends) is =
+    omega (arith, size-le name size field_kinds.Recommends, size-other name size field_kinds.Recommends field_kinds.PreDepends is refl, size-other name size field_kinds.Recommends field_kinds.Depends is refl, size-other name size field_kinds.Recommends field_kinds.Conflicts is refl, size-other name size field_kinds.Recommends field_kinds.Breaks is refl, size-other name size field_kinds.Recommends field_kinds.Suggests is refl, size-other name size field_kinds.Recommends field_kinds.Replaces is refl, size-other name size field_kinds.Recommends field_kinds.Enhances is refl, size-other name size field_kinds.Recommends field_kinds.Provides is refl)
+one-of-nine name size (Some field_kinds.Suggests) is =
+    omega (arith, size-le name size field_kinds.Suggests, size-other name size field_kinds.Suggests field_kinds.PreDepends is refl, size-other name size field_kinds.Suggests field_kinds.Depends is refl, size-other name size field_kinds.Suggests field_kinds.Conflicts is refl, size-other name size field_kinds.Suggests field_kinds.Breaks is refl, size-other name size field_kinds.Suggests field_kinds.Recommends is refl, size-other name size field_kinds.Suggests field_kinds.Replaces is refl, size-other name size field_kinds.Suggests field_kinds.Enhances is refl, size-other name size field_kinds.Suggests field_kinds.Provides is refl)
+one-of-nine name size (Some field_kinds.Replaces) is =
+    omega (arith, size-le name size field_kinds.Replaces, size-other name size field_kinds.Replaces field_kinds.PreDepends is refl, size-other name size field_kinds.Replaces field_kinds.Depends is refl, size-other name size field_kinds.Replaces field_kinds.Conflicts is refl, size-other name size field_kinds.Replaces field_kinds.Breaks is refl, size-other name size field_kinds.Replaces field_kinds.Recommends is refl, size-other name size field_kinds.Replaces field_kinds.Suggests is refl, size-other name size field_kinds.Replaces field_kinds.Enhances is refl, size-other name size field_kinds.Replaces field_kinds.Provides is refl)
+one-of-nine name size (Some field_kinds.Enhances) is =
+    omega (arith, size-le name size field_kinds.Enhances, size-other name size field_kinds.Enhances field_kinds.PreDepends is refl, size-other name size field_kinds.Enhances field_kinds.Depends is refl, size-other name size field_kinds.Enhances field_kinds.Conflicts is refl, size-other name size field_kinds.Enhances field_kinds.Breaks is refl, size-other name size field_kinds.Enhances field_kinds.Recommends is refl, size-other name size field_kinds.Enhances field_kinds.Suggests is refl, size-other name size field_kinds.Enhances field_kinds.Replaces is refl, size-other name size field_kinds.Enhances field_kinds.Provides is refl)
+one-of-nine name size (Some field_kinds.Provides) is =
+    omega (arith, size-le name size field_kinds.Provides, size-other name size field_kinds.Provides field_kinds.PreDepends is refl, size-other name size field_kinds.Provides field_kinds.Depends is refl, size-other name size field_kinds.Provides field_kinds.Conflicts is refl, size-other name size field_kinds.Provides field_kinds.Breaks is refl, size-other name size field_kinds.Provides field_kinds.Recommends is refl, size-other name size field_kinds.Provides field_kinds.Suggests is refl, size-other name size field_kinds.Provides field_kinds.Replaces is refl, size-other name size field_kinds.Provides field_kinds.Enhances is refl)
+
+nine-first : (f : FieldText) (fs : List FieldText) → nine_sum (size_of fs) ≤ bodies_size fs → nine_sum (size_of (f ∷ fs)) ≤ bodies_size (f ∷ fs)
+nine-first f fs le =
+    omega (
+      arith,
+      le,
+      one-of-nine f.name (length f.body) (relation_kind f.name) refl,
+      size-first f fs field_kinds.PreDepends,
+      size-first f fs field_kinds.Depends,
+      size-first f fs field_kinds.Conflicts,
+      size-first f fs field_kinds.Breaks,
+      size-first f fs field_kinds.Recommends,
+      size-first f fs field_kinds.Suggests,
+      size-first f fs field_kinds.Replaces,
+      size-first f fs field_kinds.Enhances,
+      size-first f fs field_kinds.Provides,
+    )
+
+nine-size : (fields : List FieldText) → nine_sum (size_of fields) ≤ bodies_size fields
+nine-size [] = omega arith
+nine-size (f ∷ fs) = nine-first f fs (nine-size fs)
+
+count-size : Found → AtomsTakeBytes → (content : Content) (kind : FieldKind) → atom_count (relations_of_kind kind content) ≤ size_of (fields_of content) kind
+count-size found bounded content kind =
+    let body = unwrap_or (body_of content (name_of kind)) [] in
+    if-live (λ (groups : List (List AtomParts)). atom_count groups ≤ length body) (is_live content) (groups_read kind body) []
+    (read-count found bounded kind body (relations_of kind body) refl) (omega arith)
+
+all-atoms : Found → AtomsTakeBytes → (content : Content) → length content.text < 2 ^ 32 → atoms_of content < 2 ^ 32
+all-atoms found bounded content small =
+    let count : FieldKind → ℕ = λ kind. atom_count (relations_of_kind kind content) in
+    let le : (kind : FieldKind) → count kind ≤ size_of (fields_of content) kind = count-size found bounded content in
+    let whole : nine_sum count ≤ nine_sum (size_of (fields_of content)) =
+    omega (arith, le field_kinds.PreDepends, le field_kinds.Depends, le field_kinds.Conflicts, le field_kinds.Breaks, le field_kinds.Recommends, le field_kinds.Suggests, le field_kinds.Replaces, le field_kinds.Enhances, le field_kinds.Provides) in
+    let same : atoms_of content ≡ nine_sum count = sum-nine count in
+    omega (arith, small, whole, same, nine-size (fields_of content), bodies-less (fields_of content), bodies-room 0 (lines_of content.text), lines-size content.text)
+  where
+    sum-nine : (f : FieldKind → ℕ) → sum_by f nine_fields ≡ nine_sum f
+    sum-nine f =
+        omega (arith, sum_by-cons f field_kinds.PreDepends (field_kinds.Depends ∷ field_kinds.Conflicts ∷ field_kinds.Breaks ∷ field_kinds.Recommends ∷ field_kinds.Suggests ∷ field_kinds.Replaces ∷ field_kinds.Enhances ∷ field_kinds.Provides ∷ []), sum_by-cons f field_kinds.Depends (field_kinds.Conflicts ∷ field_kinds.Breaks ∷ field_kinds.Recommends ∷ field_kinds.Suggests ∷ field_kinds.Replaces ∷ field_kinds.Enhances ∷ field_kinds.Provides ∷ []), sum_by-cons f field_kinds.Conflicts (field_kinds.Breaks ∷ field_kinds.Recommends ∷ field_kinds.Suggests ∷ field_kinds.Replaces ∷ field_kinds.Enhances ∷ field_kinds.Provides ∷ []), sum_by-cons f field_kinds.Breaks (field_kinds.Recommends ∷ field_kinds.Suggests ∷ field_kinds.Replaces ∷ field_kinds.Enhances ∷ field_kinds.Provides ∷ []), sum_by-cons f field_kinds.Recommends (field_kinds.Suggests ∷ field_kinds.Replaces ∷ field_kinds.Enhances ∷ field_kinds.Provides ∷ []), sum_by-cons f field_kinds.Suggests (field_kinds.Replaces ∷ field_kinds.Enhances ∷ field_kinds.Provides ∷ []), sum_by-cons f field_kinds.Replaces (field_kinds.Enhances ∷ field_kinds.Provides ∷ []), sum_by-cons f field_kinds.Enhances (field_kinds.Provides ∷ []), sum_by-cons f field_kinds.Provides ([]))
+
 -- ---- all of it
 
 pub sound : Found → GroupsHaveAtoms → AtomsTakeBytes → (content : Content) → IsWhole content → IsSound content
@@ -258,7 +393,8 @@ sound found some bounded content whole =
     let later = or-false (lacks_state (liveness kind fields)) lacks_version here.1 in
     let «package» = some-body (body_named package_name fields) here.0 in
     let have : (field : FieldKind) → HaveAtoms (relations_of_kind field content) = λ field.
-    if-live HaveAtoms (is_live content) (groups_among field fields) [] (in-some found some field (body_of content (name_of field))) none-have in
+    let body = unwrap_or (body_of content (name_of field)) [] in
+    if-live HaveAtoms (is_live content) (groups_read field body) [] (read-some found some field body (relations_of field body) refl) none-have in
     let few : (field : FieldKind) → atom_count (relations_of_kind field content) < 2 ^ 32 = λ field. omega (arith, whole.small, content-count found bounded content field) in
     record {
       name = ap (λ o. is_name (unwrap_or o [])) «package».1 ∙ good-name (is_live_by kind fields) «package».0 (named-good (is_live_by kind fields) 0 package_name «package».0 fields parts.1 «package».1);
@@ -269,8 +405,15 @@ sound found some bounded content whole =
       atoms = few;
       groups = λ field. omega (arith, groups-le (relations_of_kind field content) (have field), few field);
       sizes = λ field. small-groups (2 ^ 32) (relations_of_kind field content) (few field);
+      all_atoms = all-atoms found bounded content whole.small;
       offers = content-offers found bounded content whole.small;
     }
+
+-- a stanza without a faulty line whose fields have no fault has none
+pub no_fault_of : (kind : ListKind) (n text_len : ℕ) (bytes : List ℕ) (fields : List Field) → IsReadFrom bytes text_len fields → whole_fault kind n (shown_fields bytes fields) ≡ None → stanza_fault kind 0 (lines_of (take text_len bytes)) ≡ None
+no_fault_of kind n text_len bytes fields read whole =
+    let lines = lines_of (take text_len bytes) in
+    no_fault kind n lines (take text_len bytes) refl (first_fault-none Never 0 n [] lines read.good_lines) (ap (whole_fault kind n) (sym read.fields_are.fields_are) ∙ whole)
 
 -- the text at the front of bytes is no longer than its length says
 pub short_text : (size : ℕ) (bytes : List ℕ) → size ≤ length bytes → size < 2 ^ 32 → length (take size bytes) < 2 ^ 32
@@ -279,6 +422,19 @@ short_text size bytes le lt = omega (arith, length-take-le size bytes le)
 -- the text stays at the front of bytes that grow
 pub front_text : (size : ℕ) (old new : List ℕ) → size ≡ length old → Grows old new → take size new ≡ old
 front_text size old new e grows = ap (λ n. take n new) e ∙ ap (take (length old)) grows.joined ∙ take-append_seam old grows.more
+
+-- what the lines of a stanza without a faulty line are read to
+pub read_from : (n text_len : ℕ) (lines : List (List ℕ)) (old new : List ℕ) (fields : List Field) → text_len ≡ length old → length old < 2 ^ 32 → old ≡ text_of_lines lines → lines_of (text_of_lines lines) ≡ lines
+    → Grows old new → AreWithin new fields → shown_fields new fields ≡ fields_of_lines lines → first_fault Never n [] lines ≡ None → IsReadFrom new text_len fields
+read_from n text_len lines old new fields size small text cut grows within read good =
+    let front = front_text text_len old new size grows in
+    let same : lines_of (take text_len new) ≡ lines = ap lines_of (front ∙ text) ∙ cut in
+    record {
+      within = omega (arith, size, ap (λ (t : List ℕ). length t) grows.joined, length-append old grows.more);
+      small = omega (arith, size, small);
+      fields_are = record { within = within; fields_are = read ∙ ap fields_of_lines (sym same) };
+      good_lines = ap (first_fault Never 0 []) same ∙ first_fault-none Never n 0 [] lines good;
+    }
 
 pub lines_take_bytes : (text : List ℕ) → length (lines_of text) ≤ length text
 lines_take_bytes [] = omega arith

@@ -6,10 +6,11 @@ use Rattle.ctl_relation.specs.declared.field_kind.FieldKind.TheVariants as field
 use Rattle.ctl_relation.specs.declared.operator.Operator.{Operator}
 use Rattle.ctl_relation.specs.FieldKind.{is_provides}
 use Rattle.ctl_relation.specs.Parts.{AtomParts, OfferParts}
+use Rattle.ctl_relation.specs.Reading.{groups_read}
 use Rattle.ctl_stanza.specs.declared.list_kind.ListKind.{ListKind}
 use Rattle.ctl_stanza.specs.Lines.{lines_of, text_of_lines}
 use Rattle.ctl_stanza.specs.Fields.{FieldText, fields_of_lines, body_named, package_name, version_name}
-use Rattle.ctl_stanza.specs.RelationFields.{groups_among}
+use Rattle.ctl_stanza.specs.RelationFields.{name_of}
 use Rattle.ctl_stanza.specs.Status.{is_live_by}
 
 -- The text of a stanza is its lines, each with a newline.
@@ -49,9 +50,9 @@ is_live content = is_live_by content.kind (fields_of content)
 abbrev pub version_of : Content → Option (List ℕ)
 version_of content = if is_live content then body_of content version_name else None
 
--- the groups of a relation field of a live stanza; another has none
+-- The groups of a relation field of a live stanza, another has none. A field that isn't given is as an empty one.
 abbrev pub relations_of_kind : FieldKind → Content → List (List AtomParts)
-relations_of_kind kind content = if is_live content then groups_among kind (fields_of content) else []
+relations_of_kind kind content = if is_live content then groups_read kind (unwrap_or (body_of content (name_of kind)) []) else []
 
 -- The groups of one of the eight fields that are relations to other packages. Provides is none of them.
 abbrev pub groups_of : FieldKind → Content → List (List AtomParts)

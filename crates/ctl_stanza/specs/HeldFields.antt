@@ -1,9 +1,11 @@
 -- The fields that a stanza keeps, seen in its text: how they are held. Not for callers, who read Fields.
-use Rattle.std.specs.Prelude.{◌≡◌, ℕ, ◌<◌, ◌≤◌, List, [], ◌∷◌, ◌++◌, length, take, drop, slice_range, map, Option, Some, None, if◌then◌else◌}
+use Rattle.std.specs.Prelude.{◌≡◌, ℕ, ◌<◌, ◌≤◌, ◌^◌, List, [], ◌∷◌, ◌++◌, length, take, drop, slice_range, map, Option, Some, None, if◌then◌else◌}
 use Rattle.std.specs.List.{All}
 use Rattle.ctl_stanza.specs.declared.fields.Span.{Span}
 use Rattle.ctl_stanza.specs.declared.fields.Field.{Field}
 use Rattle.ctl_stanza.specs.declared.fields.FieldPlace.{FieldPlace}
+use Rattle.ctl_stanza.specs.declared.repeats.Repeats.TheVariants.{Never}
+use Rattle.ctl_stanza.specs.Faults.{first_fault}
 use Rattle.ctl_stanza.specs.Lines.{lines_of}
 use Rattle.ctl_stanza.specs.LineKind.{kind_of}
 use Rattle.ctl_stanza.specs.Fields.{FieldText, field_at, fields_of_lines, is_same_name}
@@ -56,6 +58,13 @@ body_among name (field ∷ fields) = if is_same_name field.0 name then Some fiel
 pub record AreReadFrom (text bytes : List ℕ) (fields : List Field) : Type 0 where
   pub within : AreWithin bytes fields
   pub fields_are : shown_fields bytes fields ≡ fields_of_lines (lines_of text)
+
+-- The text at the front of bytes has no faulty line, and these are its fields.
+pub record IsReadFrom (bytes : List ℕ) (text_len : ℕ) (fields : List Field) : Type 0 where
+  pub within : text_len ≤ length bytes
+  pub small : text_len < 2 ^ 32
+  pub fields_are : AreReadFrom (take text_len bytes) bytes fields
+  pub good_lines : first_fault Never 0 [] (lines_of (take text_len bytes)) ≡ None
 
 -- at these places stand the fields of a text, which lie in these bytes
 pub record AreFieldsOf (text bytes : List ℕ) (places : List FieldPlace) : Type 0 where

@@ -1,8 +1,9 @@
 -- What holds of a stanza without a fault.
-use Rattle.std.specs.Prelude.{◌≡◌, ◌<◌, ◌^◌, true, List, length, None, IsSome}
-use Rattle.std.specs.List.{All}
+use Rattle.std.specs.Prelude.{◌≡◌, ◌<◌, ◌^◌, ℕ, true, List, length, None, IsSome}
+use Rattle.std.specs.List.{All, sum_by}
 use Rattle.ctl_relation.specs.declared.field_kind.FieldKind.{FieldKind}
 use Rattle.ctl_relation.specs.Bounds.{atom_count}
+use Rattle.ctl_relation.specs.FieldKind.{nine_fields}
 use Rattle.ctl_relation.specs.Names.{is_name}
 use Rattle.ctl_relation.specs.Parts.{AtomParts}
 use Rattle.ctl_stanza.specs.Lines.{lines_of}
@@ -22,9 +23,13 @@ IsOneAtom group = length group ≡ 1
 abbrev pub IsSmallGroup : List AtomParts → Type 0
 IsSmallGroup group = length group < 2 ^ 32
 
+-- how many atoms a stanza has in its relation fields together
+abbrev pub atoms_of : Content → ℕ
+atoms_of content = sum_by (λ kind. atom_count (relations_of_kind kind content)) nine_fields
+
 -- A stanza has a name, and where it is live a version. Each group of its relation fields has an atom, and each entry of
--- Provides one alone. The groups and the atoms of a
--- field, and what the stanza offers, are few.
+-- Provides one alone. The groups and the atoms of a field, the atoms of all fields together, and what the stanza offers, are
+-- few.
 pub record IsSound (content : Content) : Type 0 where
   pub name : is_name (package_of content) ≡ true
   pub version : is_live content ≡ true → IsSome (version_of content)
@@ -33,4 +38,5 @@ pub record IsSound (content : Content) : Type 0 where
   pub atoms : (kind : FieldKind) → atom_count (relations_of_kind kind content) < 2 ^ 32
   pub groups : (kind : FieldKind) → length (relations_of_kind kind content) < 2 ^ 32
   pub sizes : (kind : FieldKind) → All IsSmallGroup (relations_of_kind kind content)
+  pub all_atoms : atoms_of content < 2 ^ 32
   pub offers : length (offers_of content) < 2 ^ 32

@@ -1,31 +1,29 @@
 //! What the fields of a live stanza are read to.
 
-ghost use Rattle.std.specs.Prelude.{◌≡◌, ◌≢◌, ◌+◌, ◌<◌, ◌^◌, ◌∷◌, ◌++◌, [], true, false, None, Some, IfOk, IfErr, OnOk};
+ghost use Rattle.std.specs.Prelude.{◌≡◌, ◌≢◌, ◌+◌, ◌<◌, ◌^◌, true, false, None, IfOk, IfErr, OnOk};
 ghost use Rattle.std.specs.List.{All};
-ghost use Rattle.ctl_relation.specs.declared.field_kind.FieldKind.{FieldKind};
 ghost use Rattle.ctl_relation.specs.declared.relation_fault.RelationFault.TheVariants as relation;
 ghost use Rattle.ctl_relation.specs.Reading.{relations_of};
 ghost use Rattle.ctl_relation.specs.Version.{fault_of};
 ghost use Rattle.ctl_stanza.specs.declared.fault.Cause.TheVariants as causes;
 ghost use Rattle.ctl_stanza.specs.Fields.{body_named, version_name};
-ghost use Rattle.ctl_stanza.specs.RelationFields.{relation_kind, groups_among};
+ghost use Rattle.ctl_stanza.specs.RelationFields.{relation_kind};
 ghost use Rattle.ctl_stanza.specs.Faults.{is_read, field_cause, first_wrong, or_else, IsMemoryAtZero, Tells, TellsCause};
-ghost use Rattle.ctl_stanza.specs.HeldStanza.{kept_groups, relation_field, version_given, KeepsGroups};
-ghost use Rattle.ctl_stanza.specs.HeldFields.{AreWithin, shown_fields};
+ghost use Rattle.ctl_stanza.specs.HeldStanza.{kept_groups, version_given, AreKept, AreKeptIn, Keeps, KeepsIfRelation};
+ghost use Rattle.ctl_stanza.specs.HeldFields.{AreWithin, IsFieldWithin, IsWithin, shown, shown_fields};
 
 use crate::fault::{Cause, TextFault};
-use crate::fields::{Field, is_same_name};
+use crate::fields::{Field, Span, is_same_name};
 use ctl_relation::{
-    FieldKind, Group, RelationFault, Relations, Version, VersionFault, is_name, parse_relations,
-    reading_is_the_grammar,
+    FieldKind, Groups, Places, RelationFault, Version, VersionFault, is_name, read_places,
 };
 use std::alloc::Global;
 
-/// A relation field of a stanza, with its groups.
+/// What a stanza keeps of a relation field: where its body stands in the bytes, and there its atoms.
 #[derive(Drop)]
 pub(crate) struct RelationField {
-    pub(crate) kind: FieldKind,
-    pub(crate) relations: Relations,
+    pub(crate) body: Span,
+    pub(crate) places: Places,
 }
 
 /// The version and the relation fields of a live stanza.
@@ -47,17 +45,22 @@ fn relation_kind(name: &[u8]) -> Option<FieldKind>
     None
 }
 
-/// The groups that are kept of a relation field; none where it wasn't given.
-pub(crate) fn kept_groups(fields: &[RelationField], kind: FieldKind) -> &[Group]
-    ensures { result.now ≡ kept_groups kind fields.now }
+/// The groups that are kept of a relation field, lent from these bytes; none where it wasn't given.
+pub(crate) fn kept_groups<'a>(
+    fields: &'a [RelationField],
+    bytes: &'a [u8],
+    kind: FieldKind,
+) -> Groups<'a>
+    requires { AreKeptIn bytes.now fields.now }
+    ensures { result ≡ kept_groups kind bytes.now fields.now }
 {
     for i in 0..fields.len() {
         let field = &fields[i];
-        if field.kind == kind {
-            return field.relations.groups();
+        if field.places.kind() == kind {
+            return field.places.groups(field.body.of(bytes));
         }
     }
-    &[]
+    Groups::empty()
 }
 
 // Reads a version; the first one counts.
@@ -78,44 +81,56 @@ fn read_version(alloc: Global, body: &[u8], version: &mut Option<Version>) -> Re
     }
 }
 
-// Reads the body of a relation field, and keeps its groups.
+// Reads the body of a relation field, and keeps where its atoms stand.
 fn read_relations(
     alloc: Global,
-    body: &[u8],
+    bytes: &[u8],
+    body: Span,
     kind: FieldKind,
     fields: &mut Vec<RelationField>,
 ) -> Result<(), RelationFault>
-    ensures good { OnOk result (is_read (relations_of kind body.now) ≡ true) }
-    ensures bad { IfErr result (λ fault. fault ≢ relation.Memory → is_read (relations_of kind body.now) ≡ false) }
-    ensures fields { OnOk result (fields.new.items ≡ fields.old.items ++ relation_field kind body.now ∷ []) }
+    requires { IsWithin bytes.now body }
+    ensures good { OnOk result (is_read (relations_of kind (shown bytes.now body)) ≡ true) }
+    ensures bad { IfErr result (λ fault. fault ≢ relation.Memory → is_read (relations_of kind (shown bytes.now body)) ≡ false) }
+    ensures keeps { OnOk result (Keeps bytes.now kind body fields.old.items fields.new.items) }
 {
-    reading_is_the_grammar();
-    let relations = parse_relations(alloc, body, kind)?;
-    fields.push(RelationField { kind, relations })?;
-    Ok(())
+    match read_places(alloc, body.of(bytes), kind) {
+        Ok(places) => {
+            fields.push(RelationField { body, places })?;
+            Ok(())
+        }
+        Err(fault) => Err(fault),
+    }
 }
 
 // Reads a field of a live stanza, and keeps what it gives.
-fn read_field(alloc: Global, name: &[u8], body: &[u8], parts: &mut LiveParts) -> Result<(), Cause>
-    ensures good { OnOk result (field_cause true name.now body.now ≡ None) }
-    ensures bad { IfErr result (TellsCause (field_cause true name.now body.now)) }
-    ensures version { OnOk result (parts.new.version ≡ or_else parts.old.version (version_given name.now body.now)) }
-    ensures relations { OnOk result (KeepsGroups name.now body.now parts.old.relations.items parts.new.relations.items) }
+fn read_field(
+    alloc: Global,
+    field: &Field,
+    bytes: &[u8],
+    parts: &mut LiveParts,
+) -> Result<(), Cause>
+    requires { IsFieldWithin bytes.now field.now }
+    ensures good { OnOk result (field_cause true (shown bytes.now field.now.name) (shown bytes.now field.now.body) ≡ None) }
+    ensures bad { IfErr result (TellsCause (field_cause true (shown bytes.now field.now.name) (shown bytes.now field.now.body))) }
+    ensures version { OnOk result (parts.new.version ≡ or_else parts.old.version (version_given (shown bytes.now field.now.name) (shown bytes.now field.now.body))) }
+    ensures keeps { OnOk result (KeepsIfRelation bytes.now (relation_kind (shown bytes.now field.now.name)) field.now.body parts.old.relations.items parts.new.relations.items) }
 {
+    let name = field.name.of(bytes);
     if is_same_name(name, b"Package") {
-        return if is_name(body) {
+        return if is_name(field.body.of(bytes)) {
             Ok(())
         } else {
             Err(Cause::Name)
         };
     }
     if is_same_name(name, b"Version") {
-        return read_version(alloc, body, &mut parts.version);
+        return read_version(alloc, field.body.of(bytes), &mut parts.version);
     }
     let Some(kind) = relation_kind(name) else {
         return Ok(());
     };
-    match read_relations(alloc, body, kind, &mut parts.relations) {
+    match read_relations(alloc, bytes, field.body, kind, &mut parts.relations) {
         Ok(()) => Ok(()),
         Err(RelationFault::Memory) => Err(Cause::Memory),
         Err(_) => Err(Cause::Relation),
@@ -135,7 +150,7 @@ pub(crate) fn read_live(
     ensures bad { IfErr result (Tells (first_wrong true first_line (shown_fields bytes.now fields.now))) }
     ensures memory { IfErr result IsMemoryAtZero }
     ensures version { IfOk result (λ parts. parts.version ≡ body_named version_name (shown_fields bytes.now fields.now)) }
-    ensures relations { IfOk result (λ parts. (kind : FieldKind) → kept_groups kind parts.relations.items ≡ groups_among kind (shown_fields bytes.now fields.now)) }
+    ensures relations { IfOk result (λ parts. AreKept bytes.now (shown_fields bytes.now fields.now) parts.relations.items) }
 {
     let mut parts = LiveParts {
         version: None,
@@ -143,12 +158,7 @@ pub(crate) fn read_live(
     };
     for i in 0..fields.len() {
         let field = &fields[i];
-        match read_field(
-            alloc,
-            field.name.of(bytes),
-            field.body.of(bytes),
-            &mut parts,
-        ) {
+        match read_field(alloc, field, bytes, &mut parts) {
             Ok(()) => {}
             Err(Cause::Memory) => {
                 return Err(TextFault::MEMORY);

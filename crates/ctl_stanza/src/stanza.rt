@@ -1,12 +1,14 @@
 //! Stanzas and their parts.
 
-ghost use Rattle.std.specs.Prelude.{◌≡◌, ◌+◌, ◌<◌, ◌≤◌, ◌^◌, [], length, take, option_map, None, IfOk, IfErr, OnOk};
+ghost use Rattle.std.specs.Prelude.{◌≡◌, ◌+◌, ◌<◌, ◌≤◌, ◌^◌, [], true, false, length, take, option_map, None, IfOk, IfErr, OnOk};
+ghost use Rattle.std.specs.List.{All};
 ghost use Rattle.ctl_stanza.specs.Lines.{lines_of, lent_lines, AreLines};
 ghost use Rattle.ctl_stanza.specs.Fields.{fields_of_lines};
 ghost use Rattle.ctl_stanza.specs.Content.{content_of, offers_of};
 ghost use Rattle.ctl_stanza.specs.HeldStanza.{content_in_front, AreRelationsOf};
-ghost use Rattle.ctl_stanza.specs.HeldFields.{AreReadFrom};
-ghost use Rattle.ctl_stanza.specs.Faults.{first_fault, whole_fault, stanza_fault, IsMemoryAtZero, Tells};
+ghost use Rattle.ctl_stanza.specs.HeldFields.{IsReadFrom, shown_fields};
+ghost use Rattle.ctl_stanza.specs.Faults.{first_fault, is_missing, whole_fault, stanza_fault, IsMemoryAtZero, Tells};
+ghost use Rattle.ctl_stanza.specs.Status.{is_live_by};
 ghost use Rattle.ctl_stanza.specs.declared.repeats.Repeats.TheVariants.{Never};
 
 use crate::checks::{first_wrong, is_missing};
@@ -18,7 +20,7 @@ use crate::list_kind::ListKind;
 use crate::live::{LiveParts, RelationField, kept_groups, read_live};
 use crate::offers::offers_of;
 use crate::status::liveness;
-use ctl_relation::{FieldKind, Group, Offer, Version};
+use ctl_relation::{FieldKind, Groups, Offer, Version};
 use std::alloc::{AllocError, Global};
 use std::marker::Model;
 
@@ -57,9 +59,8 @@ fn stanza_of(
     relations: Vec<RelationField>,
     offers: Vec<Offer>,
 ) -> Result<Stanza, AllocError>
-    requires text { text_len ≤ length bytes.items }
-    requires fields { AreReadFrom (take text_len bytes.items) bytes.items fields.now }
-    requires relations { AreRelationsOf (content_in_front kind text_len bytes.items) relations.items }
+    requires read { IsReadFrom bytes.items text_len fields.now }
+    requires relations { AreRelationsOf (content_in_front kind text_len bytes.items) bytes.items relations.items }
     requires offers { offers.items ≡ offers_of (content_in_front kind text_len bytes.items) }
     requires no_fault { stanza_fault kind 0 (lines_of (take text_len bytes.items)) ≡ None }
     ensures { IfOk result (λ stanza. stanza ≡ content_in_front kind text_len bytes.items) }
@@ -74,6 +75,59 @@ fn stanza_of(
         relations,
         offers,
     })
+}
+
+// Reads a stanza that isn't live, of which its package alone is checked.
+fn other_stanza(
+    alloc: Global,
+    bytes: Vec<u8>,
+    text_len: u32,
+    kind: ListKind,
+    fields: &[Field],
+    first_line: u64,
+) -> Result<Stanza, TextFault>
+    requires lines { All (λ field. first_line + field.line < 2 ^ 64) fields.now }
+    requires read { IsReadFrom bytes.items text_len fields.now }
+    requires not_missing { is_missing kind (shown_fields bytes.items fields.now) ≡ false }
+    requires not_live { is_live_by kind (shown_fields bytes.items fields.now) ≡ false }
+    ensures stanza { IfOk result (λ stanza. stanza ≡ content_in_front kind text_len bytes.items) }
+    ensures whole { OnOk result (whole_fault kind first_line (shown_fields bytes.items fields.now) ≡ None) }
+    ensures fault { IfErr result (Tells (whole_fault kind first_line (shown_fields bytes.items fields.now))) }
+    ensures memory { IfErr result IsMemoryAtZero }
+{
+    if let Some(fault) = first_wrong(fields, &bytes, first_line) {
+        return Err(fault);
+    }
+    let relations = Vec::new(alloc);
+    let offers = Vec::new(alloc);
+    let stanza = stanza_of(alloc, bytes, text_len, kind, fields, relations, offers)?;
+    Ok(stanza)
+}
+
+// Reads a live stanza.
+fn live_stanza(
+    alloc: Global,
+    bytes: Vec<u8>,
+    text_len: u32,
+    kind: ListKind,
+    fields: &[Field],
+    first_line: u64,
+) -> Result<Stanza, TextFault>
+    requires lines { All (λ field. first_line + field.line < 2 ^ 64) fields.now }
+    requires read { IsReadFrom bytes.items text_len fields.now }
+    requires not_missing { is_missing kind (shown_fields bytes.items fields.now) ≡ false }
+    requires live { is_live_by kind (shown_fields bytes.items fields.now) ≡ true }
+    ensures stanza { IfOk result (λ stanza. stanza ≡ content_in_front kind text_len bytes.items) }
+    ensures whole { OnOk result (whole_fault kind first_line (shown_fields bytes.items fields.now) ≡ None) }
+    ensures fault { IfErr result (Tells (whole_fault kind first_line (shown_fields bytes.items fields.now))) }
+    ensures memory { IfErr result IsMemoryAtZero }
+{
+    let LiveParts { version, relations } = read_live(alloc, fields, &bytes, first_line)?;
+    let package = body_named(fields, &bytes, b"Package").unwrap_or(&[]);
+    let provides = kept_groups(&relations, &bytes, FieldKind::Provides);
+    let offers = offers_of(alloc, package, version, provides)?;
+    let stanza = stanza_of(alloc, bytes, text_len, kind, fields, relations, offers)?;
+    Ok(stanza)
 }
 
 /// Reads a stanza that has no faulty line, whose lines count from `first_line`. One of 2^32 bytes or more
@@ -105,21 +159,11 @@ pub(crate) fn read_stanza(
             cause: Cause::Missing,
         });
     }
-    if live != Some(true) {
-        if let Some(fault) = first_wrong(&fields, &bytes, first_line) {
-            return Err(fault);
-        }
-        let relations = Vec::new(alloc);
-        let offers = Vec::new(alloc);
-        let stanza = stanza_of(alloc, bytes, text_len, kind, &fields, relations, offers)?;
-        return Ok(stanza);
+    if live == Some(true) {
+        live_stanza(alloc, bytes, text_len, kind, &fields, first_line)
+    } else {
+        other_stanza(alloc, bytes, text_len, kind, &fields, first_line)
     }
-    let LiveParts { version, relations } = read_live(alloc, &fields, &bytes, first_line)?;
-    let package = body_named(&fields, &bytes, b"Package").unwrap_or(&[]);
-    let provides = kept_groups(&relations, FieldKind::Provides);
-    let offers = offers_of(alloc, package, version, provides)?;
-    let stanza = stanza_of(alloc, bytes, text_len, kind, &fields, relations, offers)?;
-    Ok(stanza)
 }
 
 impl Stanza {
@@ -204,30 +248,30 @@ impl Stanza {
 
     /// The groups of one of the relation fields other than `Provides` (Debian Policy 7.1). None where the stanza has no
     /// such field or isn't live, and none of `Provides`.
-    pub fn groups(&self, kind: FieldKind) -> &[Group]
-        ensures groups { result.now ≡ groups_of kind self.now }
-        ensures some { All (λ group. 0 < length group) result.now }
-        ensures few { atom_count result.now < 2 ^ 32 }
-        ensures count { length result.now < 2 ^ 32 }
-        ensures sizes { All IsSmallGroup result.now }
+    pub fn groups(&self, kind: FieldKind) -> Groups<'_>
+        ensures groups { result ≡ groups_of kind self.now }
+        ensures some { All (λ group. 0 < length group) result }
+        ensures few { atom_count result < 2 ^ 32 }
+        ensures count { length result < 2 ^ 32 }
+        ensures sizes { All IsSmallGroup result }
     {
         match kind {
-            FieldKind::Provides => &[],
-            _ => kept_groups(&self.relations, kind),
+            FieldKind::Provides => Groups::empty(),
+            _ => kept_groups(&self.relations, &self.bytes, kind),
         }
     }
 
     /// The entries of the field `Provides` (Debian Policy 7.5), each a group of one atom. None where the stanza has no
     /// such field or isn't live.
-    pub fn provides(&self) -> &[Group]
-        ensures provides { result.now ≡ provides_of self.now }
-        ensures some { All (λ group. 0 < length group) result.now }
-        ensures one { All IsOneAtom result.now }
-        ensures few { atom_count result.now < 2 ^ 32 }
-        ensures count { length result.now < 2 ^ 32 }
-        ensures sizes { All IsSmallGroup result.now }
+    pub fn provides(&self) -> Groups<'_>
+        ensures provides { result ≡ provides_of self.now }
+        ensures some { All (λ group. 0 < length group) result }
+        ensures one { All IsOneAtom result }
+        ensures few { atom_count result < 2 ^ 32 }
+        ensures count { length result < 2 ^ 32 }
+        ensures sizes { All IsSmallGroup result }
     {
-        kept_groups(&self.relations, FieldKind::Provides)
+        kept_groups(&self.relations, &self.bytes, FieldKind::Provides)
     }
 
     /// What the stanza offers: its own name at its version, and then each entry of its `Provides`, at the version of that

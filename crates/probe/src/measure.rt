@@ -23,7 +23,7 @@ fn resident<R: Files + AllocGlobal>(rt: &R) -> Result<u64> {
 }
 
 // What each field is read to. A field that is at fault is left out.
-fn read_all(alloc: Global, fields: &[Field]) -> Result<Vec<Relations>, AllocError> {
+fn read_all<'a>(alloc: Global, fields: &'a [Field]) -> Result<Vec<Relations<'a>>, AllocError> {
     let mut read = Vec::with_capacity(alloc, fields.len())?;
     for field in fields {
         if let Ok(relations) = parse_relations(alloc, &field.body, field.kind) {
@@ -33,11 +33,11 @@ fn read_all(alloc: Global, fields: &[Field]) -> Result<Vec<Relations>, AllocErro
     Ok(read)
 }
 
-fn atom_count(relations: &[Relations]) -> u64 {
+fn atom_count(relations: &[Relations<'_>]) -> u64 {
     let mut count: u64 = 0;
     for field in relations {
         for group in field.groups() {
-            count = count.saturating_add(group.atoms().len() as u64);
+            count = count.saturating_add(group.len() as u64);
         }
     }
     count

@@ -1,7 +1,7 @@
 //! What stanzas and records have in them, as text.
 
 use crate::hexadecimal::append_word;
-use ctl_relation::{FieldKind, Group, Version};
+use ctl_relation::{FieldKind, Groups, Version};
 use ctl_stanza::{Record, Stanza};
 use std::alloc::{AllocError, Global};
 
@@ -21,7 +21,7 @@ const KINDS: [FieldKind; 9] = [
 fn append_groups(
     alloc: Global,
     mark: &[u8],
-    groups: &[Group],
+    groups: Groups<'_>,
     line: &mut Vec<u8>,
 ) -> Result<(), AllocError> {
     for group in groups {

@@ -56,7 +56,7 @@ pub fn append_field(alloc: Global, line: &str, answer: &mut Vec<u8>) -> Result<(
         }
         Ok(relations) => {
             answer.extend_from_slice(b"groups:")?;
-            for (index, group) in relations.groups().iter().enumerate() {
+            for (index, group) in relations.groups().enumerate() {
                 answer.extend_from_slice(if index == 0 { b" " } else { b", " })?;
                 group.append_to(answer)?;
             }

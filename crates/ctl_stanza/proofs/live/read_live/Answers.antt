@@ -1,14 +1,41 @@
-use Rattle.std.proofs.Common.{◌∙◌, true}
-use Rattle.ctl_stanza.proofs.FieldLemmas.{left-shown, first_wrong-good}
-use Rattle.ctl_stanza.proofs.RelationLemmas.{version-turn, groups-turn}
+use Rattle.std.proofs.Common.{◌≡◌, ◌∙◌, true, refl, sym, ap, rules, drop, List, [], drop_of_length-le, arith}
+use Rattle.ctl_stanza.specs.declared.fields.Field.{Field}
+use Rattle.ctl_stanza.specs.HeldFields.{shown_fields}
+use Rattle.ctl_stanza.proofs.FieldLemmas.{left-shown, first_wrong-good, first_wrong-bad}
+use Rattle.ctl_stanza.proofs.RelationLemmas.{version-turn, groups-turn, keeps-given, keeps-kept, kept_of, groups_found, all-kept}
+use Rattle.ctl_stanza.specs.Faults.{or_else}
 use Rattle.ctl_stanza.proofs.live.read_live.Goals as goal
 
 pub loop-i-preserved : goal.loop-i-preserved
 loop-i-preserved c =
     let inv = c.loop-i.invariant in
-    let left = left-shown c.args.bytes.now _ _ c.args.fields.now c.loop-i.i _ c.loop-i-test.true c.of.ensures c.of-in-loop-i.ensures in
+    let left = left-shown c.args.bytes.now _ _ c.args.fields.now c.loop-i.i _ c.loop-i-test.true refl refl in
     record {
       told = inv.told ∙ first_wrong-good true c.args.first_line _ _ _ left c.in-Ok.ensures.good;
       version = version-turn _ _ _ c.loop-i.parts.version _ _ left c.in-Ok.ensures.version inv.version;
-      relations = λ kind. groups-turn kind _ _ _ c.loop-i.parts.relations.items _ _ left c.in-Ok.ensures.relations (inv.relations kind);
+      kept = keeps-kept c.args.bytes.now _ _ c.loop-i.parts.relations.items _ c.in-Ok.ensures.keeps inv.kept;
+      relations = λ kind. groups-turn kind c.args.bytes.now _ _ _ c.loop-i.parts.relations.items _ _ left (keeps-given c.args.bytes.now _ _ _ c.loop-i.parts.relations.items _ refl c.in-Ok.ensures.keeps kind) (inv.relations kind);
+    }
+
+pub returns-in-Err : goal.returns-in-Err
+returns-in-Err c =
+    let inv = c.loop-i.invariant in
+    let left = left-shown c.args.bytes.now _ _ c.args.fields.now c.loop-i.i _ c.loop-i-test.true refl refl in
+    record {
+      good = tt;
+      bad = λ other. inv.told ∙ first_wrong-bad true c.args.first_line _ _ _ _ left (c.in-Err.ensures.bad other);
+      memory = search rules;
+      version = tt;
+      relations = tt;
+    }
+
+pub returns-clause-relations : goal.returns-clause-relations
+returns-clause-relations c =
+    let inv = c.loop-i.invariant in
+    let bytes = c.args.bytes.now in
+    let none : drop c.loop-i.i c.args.fields.now ≡ [] = drop_of_length-le c.args.fields.now (omega (arith, c.loop-i-test.false)) in
+    record {
+      kept = rw c.shrink_to_fit.ensures.items inv.kept;
+      groups = λ kind. rw c.shrink_to_fit.ensures.items (all-kept kind bytes (shown_fields bytes c.args.fields.now) c.loop-i.parts.relations.items
+          (sym (ap (λ (fs : List Field). or_else (kept_of kind bytes c.loop-i.parts.relations.items) (groups_found kind (shown_fields bytes fs))) none) ∙ inv.relations kind));
     }

@@ -2,8 +2,9 @@ use Rattle.std.proofs.Common.{◌≡◌, true, drop}
 use Rattle.ctl_relation.specs.declared.field_kind.FieldKind.{FieldKind}
 use Rattle.ctl_stanza.specs.Fields.{body_named, version_name}
 use Rattle.ctl_stanza.specs.Faults.{first_wrong, or_else}
-use Rattle.ctl_stanza.specs.HeldStanza.{kept_of, groups_found}
 use Rattle.ctl_stanza.specs.HeldFields.{shown_fields}
+use Rattle.ctl_stanza.specs.HeldStanza.{AreKeptIn}
+use Rattle.ctl_stanza.proofs.RelationLemmas.{kept_of, groups_found}
 use Rattle.ctl_stanza.proofs.live.read_live.Given as goal
 
 -- no field so far is wrong; what they gave is kept, and what is left gives the rest
@@ -14,5 +15,6 @@ invariant-loop-i l =
     record {
       told : first_wrong true l.first_line all ≡ first_wrong true l.first_line left;
       version : or_else l.parts.version (body_named version_name left) ≡ body_named version_name all;
-      relations : (kind : FieldKind) → or_else (kept_of kind l.parts.relations.items) (groups_found kind left) ≡ groups_found kind all;
+      kept : AreKeptIn l.bytes l.parts.relations.items;
+      relations : (kind : FieldKind) → or_else (kept_of kind l.bytes l.parts.relations.items) (groups_found kind left) ≡ groups_found kind all;
     }

@@ -1,6 +1,10 @@
-use Rattle.std.proofs.Common.{◌≡◌, ◌++◌, map, take}
+use Rattle.std.proofs.Common.{◌≡◌, ◌++◌, length, map}
 use Rattle.ctl_stanza.specs.Content.{offer_of}
 use Rattle.ctl_stanza.proofs.offers.add_offers.Given as goal
 
-abbrev pub invariant-loop-i : goal.invariant-loop-i
-invariant-loop-i l = l.offers.items ≡ l.fn.offers.items ++ map offer_of (take l.i l.atoms)
+-- what was added, and what the atoms that are left offer, is what all offer
+abbrev pub invariant-atoms : goal.invariant-atoms
+invariant-atoms l = l.offers.items ++ map offer_of l.atoms ≡ l.fn.offers.items ++ map offer_of l.group
+
+abbrev pub decreases-atoms : goal.decreases-atoms
+decreases-atoms l = length l.atoms

@@ -9,10 +9,10 @@ pub invariant_of-result : goal.invariant_of-result
 invariant_of-result c =
     let bytes = c.args.bytes.items in
     let content = content_in_front c.args.kind c.args.text_len bytes in
-    let whole : IsWhole content = record { no_fault = c.requires.no_fault; small = short_text c.args.text_len bytes c.requires.text c.ranges.text_len.fits } in
+    let whole : IsWhole content = record { no_fault = c.requires.no_fault; small = short_text c.args.text_len bytes c.requires.read.within c.requires.read.small } in
     record {
-      within = c.requires.text;
-      fields_are = kept_fields (take c.args.text_len bytes) bytes c.args.fields.now c.in_ok-fields.fields.items c.requires.fields c.in_ok-fields.ensures;
+      within = c.requires.read.within;
+      fields_are = kept_fields (take c.args.text_len bytes) bytes c.args.fields.now c.in_ok-fields.fields.items c.requires.read.fields_are c.in_ok-fields.ensures;
       relations_are = c.requires.relations;
       offers_are = c.requires.offers;
       whole = whole;
