@@ -4,7 +4,8 @@
 ghost use Rattle.std.specs.Prelude.{None};
 
 use crate::run_script;
-use ctl_session::{Cache, Failed, Fault, FromRead, Session, Sink};
+use ctl_index::Cache;
+use ctl_session::{Failed, Fault, FromRead, Session, Sink};
 use std::alloc::Global;
 use std::test::Fail;
 

@@ -6,6 +6,7 @@ ghost use Rattle.std.specs.Prelude.{◌≡◌, List, IfOk};
 ghost use Rattle.ctl_session.specs.Script.{commands_of};
 ghost use Rattle.ctl_session.specs.Outcome.{Outcome, text_of_all, state_after_all};
 ghost use Rattle.ctl_session.specs.Run.{Runs};
+ghost use Rattle.ctl_session.specs.State.{cache_state};
 
 use ctl_session::{Fault, FromRead, FromWrite, Session, Summary};
 use std::alloc::Global;
@@ -74,8 +75,8 @@ pub fn run_script(
     session: &mut Session,
     script: &[u8],
 ) -> (Result<Summary, Fault>, Vec<u8>)
-    ensures { IfOk result.0 (λ _. (outcomes : List Outcome) × Runs session.old.cache.state (commands_of script.now) outcomes
-        × (result.1.items ≡ text_of_all outcomes) × (session.new.cache.state ≡ state_after_all session.old.cache.state outcomes)) }
+    ensures { IfOk result.0 (λ _. (outcomes : List Outcome) × Runs (cache_state session.old.cache) (commands_of script.now) outcomes
+        × (result.1.items ≡ text_of_all outcomes) × (cache_state session.new.cache ≡ state_after_all (cache_state session.old.cache) outcomes)) }
 {
     let mut reader = FromRead::new(script);
     let mut writer = FromWrite::new(Vec::<u8>::new(alloc));

@@ -6,7 +6,8 @@ ghost use Rattle.std.specs.Prelude.{None};
 
 use crate::run_script;
 use crate::shown::state;
-use ctl_session::{Cache, Failed, Fault, FromRead, FromWrite, Session, Sink, Source, Summary};
+use ctl_index::Cache;
+use ctl_session::{Failed, Fault, FromRead, FromWrite, Session, Sink, Source, Summary};
 use ctl_stanza::ListKind;
 use ctl_store::Limits;
 use std::alloc::{AllocError, Global};

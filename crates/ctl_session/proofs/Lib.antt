@@ -12,4 +12,3 @@ pub mod NameLemmas
 pub mod OneAnswerLemmas
 pub mod OneOutcomeLemmas
 pub mod WordLemmas
-pub mod ListedNameLemmas

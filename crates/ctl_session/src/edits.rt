@@ -1,13 +1,14 @@
 //! Edits of the store by commands.
 
-ghost use Rattle.std.specs.Prelude.{◌≡◌, OnErr};
+ghost use Rattle.std.specs.Prelude.{◌≡◌, false, OnErr};
 ghost use Rattle.ctl_store.specs.Edits.{edit_of};
 ghost use Rattle.ctl_store.specs.declared.refusal.Refusal.TheVariants.{Memory};
 ghost use Rattle.ctl_session.specs.Effect.{refusal_by, edited, list_added, put_in_list, prefs_set};
 ghost use Rattle.ctl_session.specs.Replies.{CameTo, IsRefusalOf};
+ghost use Rattle.ctl_session.specs.State.{cache_state};
 
-use crate::cache::Cache;
 use crate::refusal_at::RefusalAt;
+use ctl_index::Cache;
 use ctl_relation::Bytes;
 use ctl_stanza::{Cause, ListKind, TextFault, lines_take_bytes, read_stanzas};
 use ctl_store::{Edit, ListClass, Refusal, boxed, read_prefs};
@@ -56,15 +57,13 @@ fn refusal_at(fault: TextFault, number: u32) -> RefusalAt
 
 /// Makes an edit, of the command at this line.
 pub(crate) fn edit(cache: &mut Cache, edit: Edit, number: u32) -> Result<(), RefusalAt>
-    ensures outcome { CameTo number result cache.new.state (edited cache.old.state number (edit_of edit)) }
-    ensures err { OnErr result (cache.new ≡ cache.old) }
+    requires { cache.old.stale ≡ false }
+    ensures outcome { CameTo number result (cache_state cache.new) (edited (cache_state cache.old) number (edit_of edit)) }
+    ensures err { OnErr result (cache_state cache.new ≡ cache_state cache.old) }
 {
-    match cache.store.prepare(edit) {
-        Ok(plan) => {
-            cache.store.commit(plan);
-            Ok(())
-        }
-        Err((_, cause)) => Err(refused(number, cause)),
+    match cache.apply(edit) {
+        Ok(()) => Ok(()),
+        Err(cause) => Err(refused(number, cause)),
     }
 }
 
@@ -78,8 +77,9 @@ pub(crate) fn add_list(
     text: &[u8],
     number: u32,
 ) -> Result<(), RefusalAt>
-    ensures outcome { CameTo number result cache.new.state (list_added cache.old.state number name.now kind class text.now) }
-    ensures err { OnErr result (cache.new ≡ cache.old) }
+    requires { cache.old.stale ≡ false }
+    ensures outcome { CameTo number result (cache_state cache.new) (list_added (cache_state cache.old) number name.now kind class text.now) }
+    ensures err { OnErr result (cache_state cache.new ≡ cache_state cache.old) }
 {
     lines_take_bytes();
     let stanzas = match read_stanzas(alloc, text, number as u64 + 1, kind) {
@@ -112,10 +112,11 @@ pub(crate) fn put(
     text: &[u8],
     number: u32,
 ) -> Result<(), RefusalAt>
-    ensures outcome { CameTo number result cache.new.state (put_in_list cache.old.state number name.now text.now) }
-    ensures err { OnErr result (cache.new ≡ cache.old) }
+    requires { cache.old.stale ≡ false }
+    ensures outcome { CameTo number result (cache_state cache.new) (put_in_list (cache_state cache.old) number name.now text.now) }
+    ensures err { OnErr result (cache_state cache.new ≡ cache_state cache.old) }
 {
-    let Some(kind) = cache.store.kind(name) else {
+    let Some(kind) = cache.store().kind(name) else {
         return Err(refused(number, Refusal::NoList));
     };
     lines_take_bytes();
@@ -145,8 +146,9 @@ pub(crate) fn set_prefs(
     text: &[u8],
     number: u32,
 ) -> Result<(), RefusalAt>
-    ensures outcome { CameTo number result cache.new.state (prefs_set cache.old.state number text.now) }
-    ensures err { OnErr result (cache.new ≡ cache.old) }
+    requires { cache.old.stale ≡ false }
+    ensures outcome { CameTo number result (cache_state cache.new) (prefs_set (cache_state cache.old) number text.now) }
+    ensures err { OnErr result (cache_state cache.new ≡ cache_state cache.old) }
 {
     lines_take_bytes();
     match read_prefs(alloc, text, number as u64 + 1) {

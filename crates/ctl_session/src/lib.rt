@@ -2,7 +2,6 @@
 #![tactic(auto)]
 
 mod body_need;
-mod cache;
 mod command_line;
 mod command_name;
 mod edit_words;
@@ -32,7 +31,6 @@ mod source;
 mod summary;
 mod words;
 
-pub use cache::Cache;
 pub use command_line::arguments;
 pub use failed::Failed;
 pub use fault::Fault;

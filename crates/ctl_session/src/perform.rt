@@ -7,17 +7,17 @@ ghost use Rattle.ctl_session.specs.Reading.{Describes};
 ghost use Rattle.ctl_session.specs.Outcome.{state_after};
 ghost use Rattle.ctl_session.specs.Effect.{MayCome};
 ghost use Rattle.ctl_session.specs.Asked.{request_text};
-ghost use Rattle.ctl_session.specs.State.{CacheState};
+ghost use Rattle.ctl_session.specs.State.{CacheState, cache_state};
 ghost use Rattle.ctl_session.specs.Replies.{outcome_from, outcome_of_edit, MayDo};
 
 use crate::body_need::uses_body;
-use crate::cache::Cache;
 use crate::edits::{add_list, edit, put, refused, set_prefs};
 use crate::query::answer;
 use crate::refusal_at::RefusalAt;
 use crate::reply::Reply;
 use crate::request::{Request, command_words, request_by};
 use crate::script::{Body, CommandRead};
+use ctl_index::Cache;
 use ctl_store::Refusal;
 use std::alloc::Global;
 
@@ -42,14 +42,18 @@ fn do_request(
 ) -> Reply
     requires empty { out.old.items ≡ [] }
     ensures may { (asked : Command) → asked.number ≡ number → (body.now.dropped ≡ false → body.now.text.items ≡ text_of_lines asked.body) →
-        MayDo cache.old.state asked (request_text request.entry) (outcome_from result out.new.items cache.new.state) }
-    ensures state { cache.new.state ≡ state_after cache.old.state (outcome_from result out.new.items cache.new.state) }
+        MayDo (cache_state cache.old) asked (request_text request.entry) (outcome_from result out.new.items (cache_state cache.new)) }
+    ensures state { cache_state cache.new ≡ state_after (cache_state cache.old) (outcome_from result out.new.items (cache_state cache.new)) }
 {
     if !uses_body(cache, &request) {
         return Reply::Refused(refused(number, Refusal::NoList));
     }
     if body.dropped {
         return Reply::Refused(refused(number, Refusal::Memory));
+    }
+    match cache.recover() {
+        Ok(()) => {}
+        Err(_) => return Reply::Refused(refused(number, Refusal::Memory)),
     }
     let text = &body.text;
     match request {
@@ -59,7 +63,7 @@ fn do_request(
         Request::Put(name) => reply_of_edit(put(alloc, cache, name, text, number)),
         Request::Prefs => reply_of_edit(set_prefs(alloc, cache, text, number)),
         Request::Change(change) => reply_of_edit(edit(cache, change, number)),
-        Request::Ask(query) => match answer(alloc, &cache.store, &query, out) {
+        Request::Ask(query) => match answer(cache, &query, out) {
             Ok(()) => Reply::Answered,
             Err(_) => Reply::Refused(refused(number, Refusal::Memory)),
         },
@@ -75,8 +79,8 @@ pub(crate) fn perform(
     last_line: u32,
     out: &mut Vec<u8>,
 ) -> Reply
-    ensures may { (asked : Command) → Describes last_line head.now command asked → MayCome cache.old.state asked (outcome_from result out.new.items cache.new.state) }
-    ensures state { cache.new.state ≡ state_after cache.old.state (outcome_from result out.new.items cache.new.state) }
+    ensures may { (asked : Command) → Describes last_line head.now command asked → MayCome (cache_state cache.old) asked (outcome_from result out.new.items (cache_state cache.new)) }
+    ensures state { cache_state cache.new ≡ state_after (cache_state cache.old) (outcome_from result out.new.items (cache_state cache.new)) }
 {
     out.clear();
     let number = command.number;

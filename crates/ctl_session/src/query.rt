@@ -1,14 +1,15 @@
 //! Queries: their words, and their answers.
 
-ghost use Rattle.std.specs.Prelude.{◌≡◌, ◌++◌, ℕ, List, OnOk, Ok};
+ghost use Rattle.std.specs.Prelude.{◌≡◌, ◌++◌, ℕ, List, OnOk, Ok, false};
 ghost use Rattle.ctl_store.specs.Held.{state_of};
 ghost use Rattle.ctl_session.specs.Holdings.{holdings_of};
 ghost use Rattle.ctl_session.specs.Query.{query_of, query_text, is_query, is_option, package_names_query, IsAnswer, PackageNames as PackageNamesText};
 ghost use Rattle.ctl_session.specs.Queries.{ReadsQuery};
 
 use crate::package_names::push_package_names;
+use ctl_index::Cache;
 use ctl_relation::Bytes;
-use ctl_store::{Refusal, Store};
+use ctl_store::Refusal;
 use std::alloc::{AllocError, Global};
 
 /// A query.
@@ -76,15 +77,11 @@ pub(crate) fn parse_query(alloc: Global, words: &[Bytes]) -> Result<Query, Refus
 }
 
 /// Appends the answer to a query.
-pub(crate) fn answer(
-    alloc: Global,
-    store: &Store,
-    query: &Query,
-    out: &mut Vec<u8>,
-) -> Result<(), AllocError>
-    ensures { OnOk result ((text : List ℕ) × IsAnswer (holdings_of (state_of store.now)) (query_text query.now) text × (out.new.items ≡ out.old.items ++ text)) }
+pub(crate) fn answer(cache: &Cache, query: &Query, out: &mut Vec<u8>) -> Result<(), AllocError>
+    requires { cache.now.stale ≡ false }
+    ensures { OnOk result ((text : List ℕ) × IsAnswer (holdings_of (state_of cache.now.store)) (query_text query.now) text × (out.new.items ≡ out.old.items ++ text)) }
 {
     match query {
-        Query::PackageNames(prefix) => push_package_names(alloc, store, prefix.as_slice(), out),
+        Query::PackageNames(prefix) => push_package_names(cache, prefix.as_slice(), out),
     }
 }

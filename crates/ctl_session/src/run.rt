@@ -5,8 +5,8 @@ ghost use Rattle.ctl_stanza.specs.Lines.{max_line};
 ghost use Rattle.ctl_session.specs.Streams.{counted};
 ghost use Rattle.ctl_session.specs.Faults.{is_read_fault, is_write_fault};
 ghost use Rattle.ctl_session.specs.Run.{Ran, Stopped};
+ghost use Rattle.ctl_session.specs.State.{cache_state};
 
-use crate::cache::Cache;
 use crate::fault::Fault;
 use crate::lines::Lines;
 use crate::perform::perform;
@@ -15,6 +15,7 @@ use crate::script::read_command;
 use crate::sink::Sink;
 use crate::source::Source;
 use crate::summary::Summary;
+use ctl_index::Cache;
 use ctl_stanza::MAX_LINE;
 use std::alloc::{AllocError, Global};
 
@@ -53,11 +54,11 @@ pub(crate) fn run_over<R: Source, W: Sink>(
     writer: &mut W,
 ) -> Result<Summary, Fault>
     ensures ok { IfOk result (λ summary. Ran max_lines (R.remaining reader.old) (R.remaining reader.new) (W.taken writer.old) (W.taken writer.new)
-        cache.old.state cache.new.state summary.accepted summary.refused) }
+        (cache_state cache.old) (cache_state cache.new) summary.accepted summary.refused) }
     ensures read { R.failures reader.new ≡ counted (is_read_fault result) (R.failures reader.old) }
     ensures write { W.failures writer.new ≡ counted (is_write_fault result) (W.failures writer.old) }
     ensures fault { IfErr result (Stopped max_lines (R.remaining reader.old) (R.remaining reader.new) (W.taken writer.old) (W.taken writer.new)
-        cache.old.state cache.new.state) }
+        (cache_state cache.old) (cache_state cache.new)) }
 {
     lines.restart(max_lines);
     let mut summary = Summary {

@@ -10,12 +10,12 @@ ghost use Rattle.ctl_session.specs.Reading.{HoldsBody, ReadsBody, ReadsHead, Rea
 ghost use Rattle.ctl_session.specs.BodyNeed.{KeepsWhatIsNeeded};
 
 use crate::body_need::needs_body;
-use crate::cache::Cache;
 use crate::fault::ReadingFault;
 use crate::line_words::{has_body, is_dot, is_no_command};
 use crate::lines::Lines;
 use crate::read_ahead::LineRead;
 use crate::source::Source;
+use ctl_index::Cache;
 use ctl_stanza::MAX_LINE;
 use std::alloc::{AllocError, Global};
 
@@ -192,7 +192,7 @@ pub(crate) fn read_command<R: Source>(
     ensures line { max_line ≤ vec_capacity line.new }
 
     // Of a body lines are kept only where the command needs it.
-    ensures kept { IfOk result (KeepsWhatIsNeeded cache.now.state head.new.items) }
+    ensures kept { IfOk result (KeepsWhatIsNeeded (cache_state cache.now) head.new.items) }
     ensures ok { IfOk result (ReadsNext (prepend_known lines.old.pending (R.remaining reader.old))
         (prepend_known lines.new.pending (R.remaining reader.new)) lines.old.number lines.new.number head.new.items) }
     ensures fault { IfErr result (StopsReading (prepend_known lines.old.pending (R.remaining reader.old))

@@ -6,8 +6,8 @@ ghost use Rattle.ctl_session.specs.Replies.{LoadCameTo};
 ghost use Rattle.ctl_session.specs.Streams.{counted};
 ghost use Rattle.ctl_session.specs.Faults.{is_read_fault, is_write_fault};
 ghost use Rattle.ctl_session.specs.Run.{Ran, Stopped};
+ghost use Rattle.ctl_session.specs.State.{cache_state};
 
-use crate::cache::Cache;
 use crate::edits::add_list;
 use crate::fault::Fault;
 use crate::lines::Lines;
@@ -16,6 +16,7 @@ use crate::run::{Buffers, run_over};
 use crate::sink::Sink;
 use crate::source::Source;
 use crate::summary::Summary;
+use ctl_index::Cache;
 use ctl_relation::is_name;
 use ctl_stanza::ListKind;
 use ctl_store::{ListClass, Refusal};
@@ -93,12 +94,12 @@ impl Session {
     ///
     /// # Errors
     ///
-    /// The first of these, and the cache stays: the name is none; the fault of the text, with its line; there is
-    /// a list of that name; there is a status list, and this would be another; the cache is full. Each may be
-    /// want of memory instead.
+    /// The first of these, and what the cache holds stays: the name is none; the fault of the text, with its line;
+    /// there is a list of that name; there is a status list, and this would be another; the cache is full. Each may
+    /// be want of memory instead.
     pub fn load(&mut self, name: &[u8], kind: ListKind, text: &[u8]) -> Result<(), LoadFault>
-        ensures loaded { LoadCameTo result self.new.cache.state (loaded self.old.cache.state name.now kind text.now) }
-        ensures err { OnErr result (self.new.cache ≡ self.old.cache) }
+        ensures loaded { LoadCameTo result (cache_state self.new.cache) (loaded (cache_state self.old.cache) name.now kind text.now) }
+        ensures err { OnErr result (cache_state self.new.cache ≡ cache_state self.old.cache) }
         ensures max_lines { self.new.max_lines ≡ self.old.max_lines }
     {
         if !is_name(name) {
@@ -106,6 +107,15 @@ impl Session {
                 line: 0,
                 cause: Refusal::Name,
             });
+        }
+        match self.cache.recover() {
+            Ok(()) => {}
+            Err(_) => {
+                return Err(LoadFault {
+                    line: 0,
+                    cause: Refusal::Memory,
+                });
+            }
         }
         match add_list(
             self.alloc,
@@ -135,7 +145,7 @@ impl Session {
     ) -> Result<Summary, Fault>
         // All that the reader gave is a script within the limit of lines, and what the writer took is the text of its commands.
         ensures ok { IfOk result (λ summary. Ran self.old.max_lines (R.remaining reader.old) (R.remaining reader.new) (W.taken writer.old) (W.taken writer.new)
-            self.old.cache.state self.new.cache.state summary.accepted summary.refused) }
+            (cache_state self.old.cache) (cache_state self.new.cache) summary.accepted summary.refused) }
 
         // A fault of reading or writing comes where a read or a write failed, and only there.
         ensures read { R.failures reader.new ≡ counted (is_read_fault result) (R.failures reader.old) }
@@ -144,7 +154,7 @@ impl Session {
         // At a fault of reading, or past the limit, the text of the commands that were given whole is written, and no more;
         // at a fault of writing the text of the last command that was done is written in part.
         ensures fault { IfErr result (Stopped self.old.max_lines (R.remaining reader.old) (R.remaining reader.new) (W.taken writer.old) (W.taken writer.new)
-            self.old.cache.state self.new.cache.state) }
+            (cache_state self.old.cache) (cache_state self.new.cache)) }
         ensures max_lines { self.new.max_lines ≡ self.old.max_lines }
     {
         run_over(

@@ -2,9 +2,9 @@
 #![tactic(auto)]
 
 use clap::error::ErrorKind as WordsFault;
+use ctl_index::Cache;
 use ctl_session::{
-    Arguments, ArgumentsFault, Cache, Fault, FromRead, FromWrite, LoadFault, Session, Summary,
-    arguments,
+    Arguments, ArgumentsFault, Fault, FromRead, FromWrite, LoadFault, Session, Summary, arguments,
 };
 use ctl_stanza::ListKind;
 use std::alloc::{AllocError, Global};

@@ -4,6 +4,7 @@ use Rattle.ctl_session.specs.Effect.{MayCome}
 use Rattle.ctl_session.specs.Reading.{Describes}
 use Rattle.ctl_session.specs.Replies.{outcome_from}
 use Rattle.ctl_session.proofs.RunLemmas.{stopped_by, stops_reading_same, stopped_in_write, running_none, running_more, ran_none, ran_last, running_on, describes}
+use Rattle.ctl_session.specs.State.{cache_state}
 use Rattle.ctl_session.proofs.run.run_over.Goals as goal
 
 pub commands-init : goal.commands-init
@@ -12,7 +13,7 @@ commands-init g c = record {
   read = refl;
   write = refl;
   counted = omega arith;
-  running = running_none (g.R.Source.remaining c.args.reader.now) (g.W.Sink.taken c.args.writer.now) c.restart.new.self.pending c.args.cache.now.state _ c.restart.ensures.pending c.restart.ensures.number;
+  running = running_none (g.R.Source.remaining c.args.reader.now) (g.W.Sink.taken c.args.writer.now) c.restart.new.self.pending (cache_state c.args.cache.now) _ c.restart.ensures.pending c.restart.ensures.number;
 }
 
 pub returns-in-Ok-None-clause-ok : goal.returns-in-Ok-None-clause-ok
@@ -29,9 +30,9 @@ pub returns-then-last-clause-ok : goal.returns-then-last-clause-ok
 returns-then-last-clause-ok g c =
     let reads = rw c.in-Ok-Some.field-0-is at c.in-Ok-Some.ensures.ok in
     let out = c.deref-in-commands.result.now in
-    let old = c.args.cache.now.state in
-    let state = c.commands.cache.state in
-    let new = c.perform-reply.new.cache.state in
+    let old = cache_state c.args.cache.now in
+    let state = cache_state c.commands.cache in
+    let new = cache_state c.perform-reply.new.cache in
     let reply = c.perform-reply.result in
     let asked = subst (λ h. Describes c.read_command.new.lines.number h c.in-Ok-Some.command reads.command) (sym c.deref.ensures.value) (describes _ _ _ _ _ _ reads) in
     let may = subst (λ o. MayCome state reads.command (outcome_from reply o new)) (sym c.deref-in-commands.ensures.value) (c.perform-reply.ensures.may reads.command asked) in
@@ -44,9 +45,9 @@ pub commands-preserved : goal.commands-preserved
 commands-preserved g c =
     let reads = rw c.in-Ok-Some.field-0-is at c.in-Ok-Some.ensures.ok in
     let out = c.deref-in-commands.result.now in
-    let old = c.args.cache.now.state in
-    let state = c.commands.cache.state in
-    let new = c.perform-reply.new.cache.state in
+    let old = cache_state c.args.cache.now in
+    let state = cache_state c.commands.cache in
+    let new = cache_state c.perform-reply.new.cache in
     let reply = c.perform-reply.result in
     let asked = subst (λ h. Describes c.read_command.new.lines.number h c.in-Ok-Some.command reads.command) (sym c.deref.ensures.value) (describes _ _ _ _ _ _ reads) in
     let may = subst (λ o. MayCome state reads.command (outcome_from reply o new)) (sym c.deref-in-commands.ensures.value) (c.perform-reply.ensures.may reads.command asked) in
@@ -70,9 +71,9 @@ pub returns-in-Err-print-clause-fault : goal.returns-in-Err-print-clause-fault
 returns-in-Err-print-clause-fault g c =
     let reads = rw c.in-Ok-Some.field-0-is at c.in-Ok-Some.ensures.ok in
     let out = c.deref-in-commands.result.now in
-    let old = c.args.cache.now.state in
-    let state = c.commands.cache.state in
-    let new = c.perform-reply.new.cache.state in
+    let old = cache_state c.args.cache.now in
+    let state = cache_state c.commands.cache in
+    let new = cache_state c.perform-reply.new.cache in
     let reply = c.perform-reply.result in
     let asked = subst (λ h. Describes c.read_command.new.lines.number h c.in-Ok-Some.command reads.command) (sym c.deref.ensures.value) (describes _ _ _ _ _ _ reads) in
     let may = subst (λ o. MayCome state reads.command (outcome_from reply o new)) (sym c.deref-in-commands.ensures.value) (c.perform-reply.ensures.may reads.command asked) in

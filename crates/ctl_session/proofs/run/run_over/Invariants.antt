@@ -1,6 +1,7 @@
 use Rattle.std.proofs.Common.{◌≡◌, ◌+◌, ◌≤◌, ◌-◌, false}
 use Rattle.std.specs.Io.KnownBytes.{prepend_known}
 use Rattle.ctl_session.proofs.RunLemmas.{Running}
+use Rattle.ctl_session.specs.State.{cache_state}
 use Rattle.ctl_session.proofs.run.run_over.Given as goal
 
 abbrev pub invariant-commands : goal.invariant-commands
@@ -10,7 +11,7 @@ invariant-commands g l = record {
   write : g.W.Sink.failures l.writer ≡ g.W.Sink.failures l.fn.writer;
   counted : l.summary.accepted + l.summary.refused ≤ l.lines.number;
   running : Running false (g.R.Source.remaining l.fn.reader) (prepend_known l.lines.pending (g.R.Source.remaining l.reader)) (g.W.Sink.taken l.fn.writer) (g.W.Sink.taken l.writer)
-      l.fn.cache.state l.cache.state l.lines.number l.summary.accepted l.summary.refused;
+      (cache_state l.fn.cache) (cache_state l.cache) l.lines.number l.summary.accepted l.summary.refused;
 }
 
 abbrev pub decreases-commands : goal.decreases-commands

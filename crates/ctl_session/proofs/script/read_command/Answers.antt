@@ -3,6 +3,7 @@ use Rattle.ctl_stanza.specs.Lines.{max_line}
 use Rattle.ctl_session.proofs.ReadingLemmas.{false_of_not, true_of_not, fits_short}
 use Rattle.ctl_session.proofs.CommandLemmas.{stops_with_body, stops_in_body_same, reads_alone, reads_unended, reads_with_body, first_long-one, first_long-none, long_opens_nothing, line_opens}
 use Rattle.ctl_session.specs.BodyNeed.{NeedsBody}
+use Rattle.ctl_session.specs.State.{cache_state}
 use Rattle.ctl_session.proofs.BodyNeedLemmas.{kept_is_needed}
 use Rattle.ctl_session.proofs.script.read_command.Goals as goal
 
@@ -59,5 +60,5 @@ returns-then-not-read-clause-kept g c = inl c.none-body-then-not-read.ensures.te
 
 pub returns-in-Ok-clause-kept : goal.returns-in-Ok-clause-kept
 returns-in-Ok-clause-kept g c =
-    kept_is_needed c.args.cache.now.state c.next_head.new.head.items c.in-Ok.body.text.items c.needs_body-is_kept.result c.in-Ok.ensures.kept
-    (λ kept. subst (λ h. NeedsBody c.args.cache.now.state h) c.deref-2.ensures.value (c.needs_body-is_kept.ensures.needed kept))
+    kept_is_needed (cache_state c.args.cache.now) c.next_head.new.head.items c.in-Ok.body.text.items c.needs_body-is_kept.result c.in-Ok.ensures.kept
+    (λ kept. subst (λ h. NeedsBody (cache_state c.args.cache.now) h) c.deref-2.ensures.value (c.needs_body-is_kept.ensures.needed kept))

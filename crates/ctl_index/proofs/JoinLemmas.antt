@@ -1,0 +1,196 @@
+-- Stanzas that come or go: the tables hold what the stanzas then have, and the tests are the pairs that come or go.
+use Rattle.std.proofs.Common.{◌≡◌, ℕ, ◌+◌, ◌-◌, ◌≤◌, Bool, true, false, cond, List, [], ◌∷◌, ◌++◌, Option, Some, None, refl, ap, sym, ◌∙◌, arith}
+use Rattle.std.specs.List.{sum_by, flat_map, AllByRecursion, count_by}
+use Rattle.std.specs.Option.{option_map, option_map_or, option_or, option_and_then}
+use Rattle.std.specs.Str.{bytes_eq}
+use Rattle.std.specs.BTreeMap.{get}
+use Rattle.ctl_relation.specs.Parts.{AtomParts, OfferParts}
+use Rattle.ctl_relation.specs.Met.{met, met_count, met_pairs}
+use Rattle.ctl_stanza.specs.Content.{Content, offers_of}
+use Rattle.ctl_store.specs.declared.stanza_key.StanzaKey.{StanzaKey}
+use Rattle.ctl_store.specs.Entries.{Entry, entries_by}
+use Rattle.ctl_store.specs.Followed.{under, AreApart}
+use Rattle.ctl_index.specs.declared.keys.AtomKey.{AtomKey}
+use Rattle.ctl_index.specs.declared.keys.ClauseKey.{ClauseKey}
+use Rattle.ctl_index.specs.declared.tables.Tables.{Tables}
+use Rattle.ctl_index.specs.Clauses.{clause_atoms, clause_cmp, clause_of, clause_at, number_at}
+use Rattle.ctl_index.specs.Names.{keyed_atoms}
+use Rattle.ctl_index.specs.Offers.{offers_among, contents}
+use Rattle.ctl_index.specs.TablesByName.{offers_under, namers_under}
+use Rattle.ctl_index.specs.TablesIndexed.{atom_named, IsIndexed, IsPutIn, IsTakenOut, offers_put, namers_taken, tests_put_in, tests_taken_out}
+use Rattle.ctl_index.specs.TablesParts.{IsJoined}
+use Rattle.ctl_index.specs.TablesSight.{Seen, seen, hit, AreSeen}
+use Rattle.ctl_index.specs.TablesOrder.{is_within}
+use Rattle.ctl_index.specs.TablesSteps.{group_met, span_of, with_each, raise_step, lower_step, enter_step, drop_step}
+use Rattle.ctl_index.specs.Work.{named_pairs, pairs}
+use Rattle.ctl_index.proofs.SumLemmas.{sum-cong, sum-plus, sum-swap, sum-flat_map, sum-map, sum-zero}
+use Rattle.ctl_index.proofs.TableLemmas.{put_offers, put_namers, take_offers, take_namers}
+use Rattle.ctl_index.proofs.ClauseLemmas.{gone}
+use Rattle.ctl_index.proofs.SeenLemmas.{one_under, clause_met-is, listed_hits, all_tested-is, offers_tested-is, atoms_tested-is, raised_all-is, lowered_all-is, entered_all-is, dropped_all-is, all_hits}
+
+-- ---- pairs over two parts
+
+module _ (all rest some : List Entry) (joined : IsJoined all rest some) where
+  offers-joined : (h : OfferParts → ℕ) → sum_by h (offers_among (contents all)) ≡ sum_by h (offers_among (contents rest)) + sum_by h (offers_among (contents some))
+  offers-joined h =
+      over all ∙ joined.sums (λ (e : Entry). sum_by h (offers_of e.1)) ∙ (λ i. sym (over rest) i + sym (over some) i)
+    where
+      over : (es : List Entry) → sum_by h (offers_among (contents es)) ≡ sum_by (λ (e : Entry). sum_by h (offers_of e.1)) es
+      over es = sum-flat_map h offers_of (contents es) ∙ sum-map (λ x. sum_by h (offers_of x)) (λ (e : Entry). e.1) es
+
+  atoms-joined : (g : AtomParts → ℕ) → sum_by g (flat_map clause_atoms (contents all)) ≡ sum_by g (flat_map clause_atoms (contents rest)) + sum_by g (flat_map clause_atoms (contents some))
+  atoms-joined g =
+      over all ∙ joined.sums (λ (e : Entry). sum_by g (clause_atoms e.1)) ∙ (λ i. sym (over rest) i + sym (over some) i)
+    where
+      over : (es : List Entry) → sum_by g (flat_map clause_atoms (contents es)) ≡ sum_by (λ (e : Entry). sum_by g (clause_atoms e.1)) es
+      over es = sum-flat_map g clause_atoms (contents es) ∙ sum-map (λ x. sum_by g (clause_atoms x)) (λ (e : Entry). e.1) es
+
+  pub pairs-joined : pairs (contents all) ≡ pairs (contents rest) + (named_pairs (flat_map clause_atoms (contents rest)) (offers_among (contents some)) + named_pairs (flat_map clause_atoms (contents some)) (offers_among (contents all)))
+  pairs-joined =
+      let os = offers_among (contents all) in
+      let left = offers_among (contents rest) in
+      let new = offers_among (contents some) in
+      let atoms = flat_map clause_atoms (contents rest) in
+      let both : named_pairs atoms os ≡ named_pairs atoms left + named_pairs atoms new =
+      sum-cong _ _ (λ (a : AtomParts). offers-joined (λ (o : OfferParts). cond (bytes_eq a.name o.name) 1 0)) atoms
+      ∙ sum-plus (λ (a : AtomParts). count_by (λ (o : OfferParts). bytes_eq a.name o.name) left) (λ (a : AtomParts). count_by (λ (o : OfferParts). bytes_eq a.name o.name) new) atoms in
+      omega (arith, atoms-joined (λ (a : AtomParts). count_by (λ (o : OfferParts). bytes_eq a.name o.name) os), both)
+
+  pub met_pairs-joined : (atoms : List AtomParts) → met_pairs atoms (offers_among (contents all)) ≡ met_pairs atoms (offers_among (contents rest)) + sum_by (λ (o : OfferParts). sum_by (λ (a : AtomParts). cond (met a o) 1 0) atoms) (offers_among (contents some))
+  met_pairs-joined atoms =
+      sum-swap (λ (a : AtomParts) (o : OfferParts). cond (met a o) 1 0) atoms (offers_among (contents all))
+      ∙ offers-joined (λ (o : OfferParts). sum_by (λ (a : AtomParts). cond (met a o) 1 0) atoms)
+      ∙ ap (λ n. n + sum_by (λ (o : OfferParts). sum_by (λ (a : AtomParts). cond (met a o) 1 0) atoms) (offers_among (contents some))) (sym (sum-swap (λ (a : AtomParts) (o : OfferParts). cond (met a o) 1 0) atoms (offers_among (contents rest))))
+
+-- how often offers meet the atoms of a clause
+abbrev hits_of : List OfferParts → Option (List AtomParts) → ℕ
+hits_of os c = option_map_or (λ atoms. sum_by (λ (o : OfferParts). sum_by (λ (a : AtomParts). cond (met a o) 1 0) atoms) os) c 0
+
+-- what offers hit of a clause of these stanzas, where their atoms are listed
+hits-is : (s : Seen) (atoms : List ℕ → List AtomKey) (es : List Entry) → ((q : List ℕ) (f : AtomKey → ℕ) → sum_by f (atoms q) ≡ sum_by (λ (e : Entry). sum_by (atom_named q f) (keyed_atoms e)) es) → AreSeen s es → AreApart es
+    → (os : List OfferParts) (k : ClauseKey) → all_hits s atoms os k ≡ hits_of os (clause_at k es)
+hits-is s atoms es fact sees apart os k =
+    sum-cong _ _ (λ o. listed_hits s atoms es fact sees k o ∙ one_under (λ y. option_map_or (λ group. sum_by (λ a. cond (met a o) 1 0) group) (clause_of k y) 0) k.stanza es apart ∙ join o (under k.stanza es)) os
+    ∙ out (clause_at k es)
+  where
+    join : (o : OfferParts) (c : Option Content) → option_map_or (λ y. option_map_or (λ group. sum_by (λ (a : AtomParts). cond (met a o) 1 0) group) (clause_of k y) 0) c 0
+        ≡ option_map_or (λ group. sum_by (λ (a : AtomParts). cond (met a o) 1 0) group) (option_and_then (clause_of k) c) 0
+    join o None = refl
+    join o (Some y) = refl
+
+    out : (c : Option (List AtomParts)) → sum_by (λ (o : OfferParts). option_map_or (λ group. sum_by (λ (a : AtomParts). cond (met a o) 1 0) group) c 0) os ≡ hits_of os c
+    out None = sum-zero os
+    out (Some atoms) = refl
+
+or_none : {Y : Type 0} (o : Option Y) → option_or o None ≡ o
+or_none None = refl
+or_none (Some y) = refl
+
+-- ---- stanzas come
+
+module _ (s : Seen) (keys : List StanzaKey) (all rest : List Entry) (old new : Tables) (joined : IsJoined all rest (entries_by (seen s) keys)) (was : IsIndexed rest old)
+    (apart : AreApart rest) (apart_new : AreApart (entries_by (seen s) keys)) (sees : AreSeen s rest) (sees_all : AreSeen s all) where
+  abbrev come : List Entry
+  come = entries_by (seen s) keys
+
+  abbrev number : List Entry → Option (List AtomParts) → Option ℕ
+  number es c = option_map (λ atoms. met_pairs atoms (offers_among (contents es))) c
+
+  put_number : IsPutIn s keys old new → (k : ClauseKey) → get clause_cmp new.counters.numbers k ≡ number_at k all
+  put_number step k =
+      step.counters k
+      ∙ entered_all-is s (offers_put s keys old) k keys apart_new (with_each (seen s) (raise_step s (namers_under old.names.map) k) keys (get clause_cmp old.counters.numbers k))
+      ∙ (λ i. option_or (came (under k.stanza come) i) (raised i))
+      ∙ by (under k.stanza come) (under k.stanza rest) refl (λ x h. joined.either k.stanza x h)
+      ∙ ap (λ c. number all (option_and_then (clause_of k) c)) (sym (joined.unders k.stanza))
+    where
+      came : (c : Option Content) → option_map (group_met s k.field (offers_put s keys old)) (option_and_then (clause_of k) c) ≡ number all (option_and_then (clause_of k) c)
+      came None = refl
+      came (Some x) = clause_met-is s (offers_put s keys old) all (put_offers s keys all rest old joined was) sees_all k x
+
+      raised : with_each (seen s) (raise_step s (namers_under old.names.map) k) keys (get clause_cmp old.counters.numbers k) ≡ option_map (λ n. n + hits_of (offers_among (contents come)) (clause_at k rest)) (number_at k rest)
+      raised =
+          raised_all-is s (namers_under old.names.map) k keys (get clause_cmp old.counters.numbers k)
+          ∙ (λ i. option_map (λ n. n + hits-is s (namers_under old.names.map) rest was.namers sees apart (offers_among (contents come)) k i) (was.counters k i))
+
+      more : (c : Option (List AtomParts)) → option_map (λ n. n + hits_of (offers_among (contents come)) c) (number rest c) ≡ number all c
+      more None = refl
+      more (Some atoms) = ap (λ n. Some n) (sym (met_pairs-joined all rest come joined atoms))
+
+      by : (c d : Option Content) → under k.stanza come ≡ c → ((x : Content) → c ≡ Some x → d ≡ None)
+          → option_or (number all (option_and_then (clause_of k) c)) (option_map (λ n. n + hits_of (offers_among (contents come)) (option_and_then (clause_of k) d)) (number rest (option_and_then (clause_of k) d))) ≡ number all (option_and_then (clause_of k) (option_or c d))
+      by None d is none = more (option_and_then (clause_of k) d)
+      by (Some x) d is none =
+          ap (λ (z : Option Content). option_or (number all (clause_of k x)) (option_map (λ n. n + hits_of (offers_among (contents come)) (option_and_then (clause_of k) z)) (number rest (option_and_then (clause_of k) z)))) (none x refl)
+          ∙ or_none (number all (clause_of k x))
+
+  pub put_law : IsPutIn s keys old new → IsIndexed all new
+  put_law step = record {
+    offers = λ q f. ap (sum_by f) (step.offers q) ∙ put_offers s keys all rest old joined was q f;
+    namers = λ q f. ap (sum_by f) (step.namers q) ∙ put_namers s keys all rest old joined was q f;
+    counters = put_number step;
+  }
+
+  put_counted : tests_put_in s keys old ≡ named_pairs (flat_map clause_atoms (contents rest)) (offers_among (contents come)) + named_pairs (flat_map clause_atoms (contents come)) (offers_among (contents all))
+  put_counted = λ i.
+      (offers_tested-is s (namers_under old.names.map) keys ∙ all_tested-is s (namers_under old.names.map) rest was.namers sees (offers_among (contents come))) i
+      + atoms_tested-is s (offers_put s keys old) all (put_offers s keys all rest old joined was) sees_all keys i
+
+  pub put_tests : tests_put_in s keys old ≡ pairs (contents all) - pairs (contents rest)
+  put_tests = omega (arith, put_counted, pairs-joined all rest come joined)
+
+-- ---- stanzas go
+
+module _ (s : Seen) (keys : List StanzaKey) (all rest : List Entry) (old new : Tables) (joined : IsJoined all rest (entries_by (seen s) keys)) (was : IsIndexed all old)
+    (outside : AllByRecursion (λ (e : Entry). is_within (span_of keys) e.0 ≡ false) rest) (inside : AllByRecursion (λ (e : Entry). is_within (span_of keys) e.0 ≡ true) (entries_by (seen s) keys))
+    (apart : AreApart rest) (apart_gone : AreApart (entries_by (seen s) keys)) (sees : AreSeen s rest) (sees_all : AreSeen s all) where
+  abbrev going : List Entry
+  going = entries_by (seen s) keys
+
+  left_namers : (q : List ℕ) (f : AtomKey → ℕ) → sum_by f (namers_taken s keys old q) ≡ sum_by (λ (e : Entry). sum_by (atom_named q f) (keyed_atoms e)) rest
+  left_namers = take_namers s keys all rest old joined was outside inside
+
+  abbrev number_of : List Entry → Option (List AtomParts) → Option ℕ
+  number_of es c = option_map (λ atoms. met_pairs atoms (offers_among (contents es))) c
+
+  take_number : IsTakenOut s keys old new → (k : ClauseKey) → get clause_cmp new.counters.numbers k ≡ number_at k rest
+  take_number step k =
+      step.counters k
+      ∙ lowered_all-is s (namers_taken s keys old) k keys (with_each (seen s) (drop_step k) keys (get clause_cmp old.counters.numbers k))
+      ∙ (λ i. option_map (λ n. n - hits-is s (namers_taken s keys old) rest left_namers sees apart (offers_among (contents going)) k i) (dropped_all-is s k keys apart_gone (was.counters k i) i))
+      ∙ ap (λ c. option_map (λ n. n - hits_of (offers_among (contents going)) (clause_at k rest)) (gone (clause_at k going) (number_of all (option_and_then (clause_of k) c)))) (joined.unders k.stanza)
+      ∙ by (under k.stanza going) (under k.stanza rest) (λ x h. joined.either k.stanza x h)
+    where
+      les : (c : Option (List AtomParts)) → option_map (λ n. n - hits_of (offers_among (contents going)) c) (number_of all c) ≡ number_of rest c
+      les None = refl
+      les (Some atoms) = ap (λ n. Some n) (omega (arith, met_pairs-joined all rest going joined atoms))
+
+      all_gone : (c : Option (List AtomParts)) → gone c (number_of all c) ≡ None
+      all_gone None = refl
+      all_gone (Some atoms) = refl
+
+      by : (c d : Option Content) → ((x : Content) → c ≡ Some x → d ≡ None)
+          → option_map (λ n. n - hits_of (offers_among (contents going)) (option_and_then (clause_of k) d)) (gone (option_and_then (clause_of k) c) (number_of all (option_and_then (clause_of k) (option_or c d)))) ≡ number_of rest (option_and_then (clause_of k) d)
+      by None d none = les (option_and_then (clause_of k) d)
+      by (Some x) d none =
+          ap (option_map (λ n. n - hits_of (offers_among (contents going)) (option_and_then (clause_of k) d))) (all_gone (clause_of k x))
+          ∙ sym (ap (λ z. number_of rest (option_and_then (clause_of k) z)) (none x refl))
+
+  pub take_law : IsTakenOut s keys old new → IsIndexed rest new
+  take_law step = record {
+    offers = λ q f. ap (sum_by f) (step.offers q) ∙ take_offers s keys all rest old joined was outside inside q f;
+    namers = λ q f. ap (sum_by f) (step.namers q) ∙ left_namers q f;
+    counters = take_number step;
+  }
+
+  take_counted : tests_taken_out s keys old ≡ named_pairs (flat_map clause_atoms (contents going)) (offers_among (contents all)) + named_pairs (flat_map clause_atoms (contents rest)) (offers_among (contents going))
+  take_counted = λ i.
+      atoms_tested-is s (offers_under old.names.map) all was.offers sees_all keys i
+      + (offers_tested-is s (namers_taken s keys old) keys ∙ all_tested-is s (namers_taken s keys old) rest left_namers sees (offers_among (contents going))) i
+
+  pub take_tests : tests_taken_out s keys old ≡ pairs (contents all) - pairs (contents rest)
+  take_tests = omega (arith, take_counted, pairs-joined all rest going joined)
+
+-- the pairs of a part are no more
+pub pairs-within : (all rest some : List Entry) → IsJoined all rest some → pairs (contents rest) ≤ pairs (contents all)
+pairs-within all rest some joined = omega (arith, pairs-joined all rest some joined)

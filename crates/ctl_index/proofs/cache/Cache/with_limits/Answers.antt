@@ -1,0 +1,8 @@
+use Rattle.std.proofs.Common.{ap, sym, subst}
+use Rattle.ctl_store.specs.State.{State}
+use Rattle.ctl_index.specs.TablesIndexed.{IsIndexed}
+use Rattle.ctl_index.proofs.RecoverLemmas.{none_standing}
+use Rattle.ctl_index.proofs.cache.Cache.with_limits.Goals as goal
+
+pub invariant_of-result : goal.invariant_of-result
+invariant_of-result c = λ _. subst (λ es. IsIndexed es c.new.result) (sym (none_standing c.with_limits.result (ap (λ (s : State). s.lists) c.with_limits.ensures.state))) c.new.ensures

@@ -1,0 +1,12 @@
+use Rattle.std.proofs.Common.{◌≡◌, length}
+use Rattle.ctl_index.specs.TablesViews.{packages_with, entry_names, AreFrom}
+use Rattle.ctl_index.proofs.cache.packages.next_package.Given as goal
+
+abbrev pub invariant-names : goal.invariant-names
+invariant-names l = record {
+  rest : packages_with l.prefix l.entries ≡ packages_with l.fn.prefix l.fn.entries;
+  from : AreFrom l.prefix (entry_names l.entries);
+}
+
+abbrev pub decreases-names : goal.decreases-names
+decreases-names l = length l.entries

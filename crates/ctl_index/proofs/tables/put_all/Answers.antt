@@ -1,0 +1,42 @@
+use Rattle.std.proofs.Common.{◌≡◌, ℕ, List, ap, ◌∙◌, arith}
+use Rattle.ctl_index.specs.declared.keys.OfferKey.{OfferKey}
+use Rattle.ctl_index.specs.TablesByName.{offers_under, namers_under}
+use Rattle.ctl_index.specs.TablesIndexed.{offers_put}
+use Rattle.ctl_index.specs.TablesSight.{seen}
+use Rattle.ctl_index.specs.TablesSteps.{with_each, put_atoms_step, enter_step, offers_tested, atoms_tested}
+use Rattle.ctl_index.specs.Work.{more_by}
+use Rattle.ctl_index.proofs.CounterLemmas.{more_by_twice}
+use Rattle.ctl_index.proofs.tables.put_all.Goals as goal
+
+pub returns-clause-tables : goal.returns-clause-tables
+returns-clause-tables c =
+    let s = c.args.sight.now in
+    let keys = c.args.keys.now in
+    record {
+      offers = λ q. (λ i. c.in_ok-put_atoms.ensures.offers i q) ∙ c.in_ok-put_offers.ensures.offers q;
+      namers = λ q. c.in_ok-put_atoms.ensures.namers q ∙ (λ i. with_each (seen s) (put_atoms_step q) keys (c.in_ok-put_offers.ensures.namers i q));
+      counters = λ k. c.in_ok-put_atoms.ensures.counts k ∙ (λ i. with_each (seen s) (enter_step s (λ q. c.in_ok-put_offers.ensures.offers q i) k) keys (c.in_ok-put_offers.ensures.counts k i));
+    }
+
+pub returns-clause-steps : goal.returns-clause-steps
+returns-clause-steps c =
+    let s = c.args.sight.now in
+    let keys = c.args.keys.now in
+    let old = c.args.tables.now in
+    c.in_ok-put_atoms.ensures.steps ∙ (λ i. more_by (atoms_tested s (λ q. c.in_ok-put_offers.ensures.offers q i) keys) (c.in_ok-put_offers.ensures.steps i))
+    ∙ more_by_twice (offers_tested s (namers_under old.names.map) keys) (atoms_tested s (offers_put s keys old) keys) c.args.steps.now
+
+pub returns-clause-most : goal.returns-clause-most
+returns-clause-most c =
+    let s = c.args.sight.now in
+    let keys = c.args.keys.now in
+    let old = c.args.tables.now in
+    let same = ap (λ (t : List ℕ → List OfferKey). atoms_tested s t keys) (λ i q. c.in_ok-put_offers.ensures.offers q i) in
+    omega (arith, c.in_ok-put_atoms.ensures.steps, c.in_ok-put_offers.ensures.steps, same)
+
+pub returns-in_err-put_atoms-clause-most : goal.returns-in_err-put_atoms-clause-most
+returns-in_err-put_atoms-clause-most c =
+    let s = c.args.sight.now in
+    let keys = c.args.keys.now in
+    let same = ap (λ (t : List ℕ → List OfferKey). atoms_tested s t keys) (λ i q. c.in_ok-put_offers.ensures.offers q i) in
+    omega (arith, c.put_atoms.ensures.most, c.in_ok-put_offers.ensures.steps, same)

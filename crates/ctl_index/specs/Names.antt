@@ -1,0 +1,57 @@
+-- Who names what, and which names are known: what is offered (Debian Policy 7.5), and what a relation field names (7.1).
+use Rattle.std.specs.Prelude.{ℕ, suc, Bool, ◌&&◌, List, [], ◌∷◌, ◌++◌, map, filter, flat_map}
+use Rattle.std.specs.BTreeSet.{insert_key}
+use Rattle.std.specs.Cmp.Lexicographic.{slice_cmp}
+use Rattle.std.specs.Ordering.{nat_cmp}
+use Rattle.std.specs.List.{list_any}
+use Rattle.std.specs.Str.{bytes_eq}
+use Rattle.ctl_relation.specs.declared.field_kind.FieldKind.{FieldKind}
+use Rattle.ctl_relation.specs.declared.field_kind.FieldKind.TheVariants.{PreDepends, Depends, Conflicts, Breaks, Recommends, Suggests, Replaces, Enhances}
+use Rattle.ctl_relation.specs.Parts.{AtomParts, OfferParts}
+use Rattle.ctl_stanza.specs.Content.{Content, package_of, is_live, groups_of, offers_of}
+use Rattle.ctl_store.specs.declared.stanza_key.StanzaKey.{StanzaKey}
+use Rattle.ctl_store.specs.Entries.{Entry}
+use Rattle.ctl_index.specs.declared.keys.AtomKey.{AtomKey}
+
+-- the fields whose atoms name packages: all but Provides
+abbrev pub naming_fields : List FieldKind
+naming_fields = PreDepends ∷ Depends ∷ Conflicts ∷ Breaks ∷ Recommends ∷ Suggests ∷ Replaces ∷ Enhances ∷ []
+
+-- the atoms of these fields of a stanza
+abbrev pub naming_atoms : Content → List AtomParts
+naming_atoms stanza = flat_map (λ field. flat_map (λ group. group) (groups_of field stanza)) naming_fields
+
+-- names in the order of their bytes, each once
+unfoldable pub in_order : List (List ℕ) → List (List ℕ)
+in_order [] = []
+in_order (name ∷ names) = insert_key (slice_cmp nat_cmp) (in_order names) name
+
+-- the names that a stanza offers, and those that its atoms name
+abbrev pub names_of : Content → List (List ℕ)
+names_of stanza = map (λ (offer : OfferParts). offer.name) (offers_of stanza) ++ map (λ (atom : AtomParts). atom.name) (naming_atoms stanza)
+
+-- A name is known that is offered, or is the name of an atom of one of the eight fields. What has a row is offered.
+unfoldable pub known_names : List Content → List (List ℕ)
+known_names stanzas = in_order (flat_map names_of stanzas)
+
+-- whether a live stanza is of the package of a name
+abbrev pub is_package : List Content → List ℕ → Bool
+is_package stanzas name = list_any (λ stanza. is_live stanza && bytes_eq name (package_of stanza)) stanzas
+
+-- ---- under their keys
+
+abbrev pub keyed_group : StanzaKey → FieldKind → ℕ → ℕ → List AtomParts → List (AtomKey × AtomParts)
+keyed_group key field group n [] = []
+keyed_group key field group n (atom ∷ atoms) = (record { stanza = key; field = field; group = group; atom = n }, atom) ∷ keyed_group key field group (suc n) atoms
+
+abbrev pub keyed_groups : StanzaKey → FieldKind → ℕ → List (List AtomParts) → List (AtomKey × AtomParts)
+keyed_groups key field n [] = []
+keyed_groups key field n (group ∷ groups) = keyed_group key field n 0 group ++ keyed_groups key field (suc n) groups
+
+-- the atoms of the eight fields of a stanza, each under its key
+abbrev pub keyed_atoms : Entry → List (AtomKey × AtomParts)
+keyed_atoms e = flat_map (λ field. keyed_groups e.0 field 0 (groups_of field e.1)) naming_fields
+
+-- the atoms that name a name, in cache order
+abbrev pub namers_named : List ℕ → List Entry → List AtomKey
+namers_named name es = flat_map (λ (e : Entry). map (λ (y : AtomKey × AtomParts). y.0) (filter (λ (y : AtomKey × AtomParts). bytes_eq y.1.name name) (keyed_atoms e))) es

@@ -1,0 +1,83 @@
+-- Of the tables alone: tables that hold what the stanzas under keys have, and what stanzas that come or go make of them.
+use Rattle.std.specs.Prelude.{◌≡◌, ℕ, suc, ◌+◌, List, [], ◌∷◌, Option, if◌then◌else◌}
+use Rattle.std.specs.List.{sum_by}
+use Rattle.std.specs.Str.{bytes_eq}
+use Rattle.std.specs.BTreeMap.{get}
+use Rattle.ctl_relation.specs.Parts.{AtomParts, OfferParts}
+use Rattle.ctl_stanza.specs.Content.{Content, offers_of}
+use Rattle.ctl_store.specs.declared.stanza_key.StanzaKey.{StanzaKey}
+use Rattle.ctl_store.specs.Entries.{Entry}
+use Rattle.ctl_index.specs.declared.keys.ClauseKey.{ClauseKey}
+use Rattle.ctl_index.specs.declared.keys.AtomKey.{AtomKey}
+use Rattle.ctl_index.specs.declared.keys.OfferKey.{OfferKey}
+use Rattle.ctl_index.specs.declared.tables.Tables.{Tables}
+use Rattle.ctl_index.specs.Clauses.{clause_cmp, number_at}
+use Rattle.ctl_index.specs.Names.{keyed_atoms}
+use Rattle.ctl_index.specs.TablesByName.{offers_under, namers_under}
+use Rattle.ctl_index.specs.TablesSight.{Seen, seen}
+use Rattle.ctl_index.specs.TablesSteps.{with_each, span_of, put_offers_step, put_atoms_step, take_offers_step, take_atoms_step, raise_step, lower_step, enter_step, drop_step, offers_tested, atoms_tested}
+
+abbrev pub keyed_offers_from : StanzaKey → ℕ → List OfferParts → List (OfferKey × OfferParts)
+keyed_offers_from key n [] = []
+keyed_offers_from key n (offer ∷ offers) = (record { stanza = key; place = n }, offer) ∷ keyed_offers_from key (suc n) offers
+
+-- what a stanza offers, each under its key
+abbrev pub keyed_offers : Entry → List (OfferKey × OfferParts)
+keyed_offers e = keyed_offers_from e.0 0 (offers_of e.1)
+
+-- a number for each offer, or atom, of a name
+abbrev pub offer_named : List ℕ → (OfferKey → ℕ) → OfferKey × OfferParts → ℕ
+offer_named q f x = if bytes_eq x.1.name q then f x.0 else 0
+
+abbrev pub atom_named : List ℕ → (AtomKey → ℕ) → AtomKey × AtomParts → ℕ
+atom_named q f x = if bytes_eq x.1.name q then f x.0 else 0
+
+-- Under each name stand the keys of its offers and of its atoms, each as often as it is there, in any order: any sum over
+-- them is that over the stanzas. Each clause has its number, and no other key has one.
+pub record IsIndexed (es : List Entry) (t : Tables) : Type 0 where
+  pub offers : (q : List ℕ) (f : OfferKey → ℕ) → sum_by f (offers_under t.names.map q) ≡ sum_by (λ (e : Entry). sum_by (offer_named q f) (keyed_offers e)) es
+  pub namers : (q : List ℕ) (f : AtomKey → ℕ) → sum_by f (namers_under t.names.map q) ≡ sum_by (λ (e : Entry). sum_by (atom_named q f) (keyed_atoms e)) es
+  pub counters : (k : ClauseKey) → get clause_cmp t.counters.numbers k ≡ number_at k es
+
+-- ---- stanzas that come
+
+-- what stands under a name once they came
+abbrev pub offers_put : Seen → List StanzaKey → Tables → List ℕ → List OfferKey
+offers_put s keys old q = with_each (seen s) (put_offers_step q) keys (offers_under old.names.map q)
+
+abbrev pub namers_put : Seen → List StanzaKey → Tables → List ℕ → List AtomKey
+namers_put s keys old q = with_each (seen s) (put_atoms_step q) keys (namers_under old.names.map q)
+
+-- the number of a clause: that of one that stood is raised, and those that come have theirs
+abbrev pub number_put : Seen → List StanzaKey → Tables → ClauseKey → Option ℕ
+number_put s keys old k = with_each (seen s) (enter_step s (offers_put s keys old) k) keys (with_each (seen s) (raise_step s (namers_under old.names.map) k) keys (get clause_cmp old.counters.numbers k))
+
+pub record IsPutIn (s : Seen) (keys : List StanzaKey) (old new : Tables) : Type 0 where
+  pub offers : (q : List ℕ) → offers_under new.names.map q ≡ offers_put s keys old q
+  pub namers : (q : List ℕ) → namers_under new.names.map q ≡ namers_put s keys old q
+  pub counters : (k : ClauseKey) → get clause_cmp new.counters.numbers k ≡ number_put s keys old k
+
+-- how many tests are made
+abbrev pub tests_put_in : Seen → List StanzaKey → Tables → ℕ
+tests_put_in s keys old = offers_tested s (namers_under old.names.map) keys + atoms_tested s (offers_put s keys old) keys
+
+-- ---- stanzas that go
+
+-- what stands under a name once they went
+abbrev pub offers_taken : Seen → List StanzaKey → Tables → List ℕ → List OfferKey
+offers_taken s keys old q = with_each (seen s) (take_offers_step (span_of keys) q) keys (offers_under old.names.map q)
+
+abbrev pub namers_taken : Seen → List StanzaKey → Tables → List ℕ → List AtomKey
+namers_taken s keys old q = with_each (seen s) (take_atoms_step (span_of keys) q) keys (namers_under old.names.map q)
+
+-- the number of a clause: those of theirs go, and that of one that stays is lowered
+abbrev pub number_taken : Seen → List StanzaKey → Tables → ClauseKey → Option ℕ
+number_taken s keys old k = with_each (seen s) (lower_step s (namers_taken s keys old) k) keys (with_each (seen s) (drop_step k) keys (get clause_cmp old.counters.numbers k))
+
+pub record IsTakenOut (s : Seen) (keys : List StanzaKey) (old new : Tables) : Type 0 where
+  pub offers : (q : List ℕ) → offers_under new.names.map q ≡ offers_taken s keys old q
+  pub namers : (q : List ℕ) → namers_under new.names.map q ≡ namers_taken s keys old q
+  pub counters : (k : ClauseKey) → get clause_cmp new.counters.numbers k ≡ number_taken s keys old k
+
+abbrev pub tests_taken_out : Seen → List StanzaKey → Tables → ℕ
+tests_taken_out s keys old = atoms_tested s (offers_under old.names.map) keys + offers_tested s (namers_taken s keys old) keys

@@ -1,0 +1,46 @@
+-- Of the tables alone: lists in the order of the stanzas that their entries are of.
+use Rattle.std.specs.Prelude.{◌≡◌, ◌-◌, Bool, true, false, not, ◌&&◌, List, [], ◌∷◌, length, filter, slice_get, if◌then◌else◌}
+use Rattle.std.specs.List.{AllByRecursion}
+use Rattle.std.specs.Option.{option_map_or}
+use Rattle.std.specs.Ordering.{is_lt, is_le, is_ge, is_gt}
+use Rattle.ctl_store.specs.declared.stanza_key.StanzaKey.{StanzaKey}
+use Rattle.ctl_store.specs.Keys.{key_cmp}
+use Rattle.ctl_index.specs.declared.keys.AtomKey.{AtomKey}
+use Rattle.ctl_index.specs.declared.keys.OfferKey.{OfferKey}
+use Rattle.ctl_index.specs.declared.span.Span.{Span}
+
+abbrev pub offer_stanza : OfferKey → StanzaKey
+offer_stanza key = key.stanza
+
+abbrev pub atom_stanza : AtomKey → StanzaKey
+atom_stanza key = key.stanza
+
+-- whether a key is one of a span
+abbrev pub is_within : Span → StanzaKey → Bool
+is_within span key = is_ge (key_cmp key span.first) && is_le (key_cmp key span.last)
+
+module _ {X : Type 0} (stanza : X → StanzaKey) where
+  -- each entry is of the stanza of those before it, or of a later one
+  abbrev pub InOrder : List X → Type 0
+  InOrder [] = Unit {0}
+  InOrder (x ∷ xs) = AllByRecursion (λ y. is_le (key_cmp (stanza x) (stanza y)) ≡ true) xs × InOrder xs
+
+  -- whether an entry is of an earlier stanza; of it or an earlier one
+  abbrev pub is_before : StanzaKey → X → Bool
+  is_before k x = is_lt (key_cmp (stanza x) k)
+
+  abbrev pub is_through : StanzaKey → X → Bool
+  is_through k x = is_le (key_cmp (stanza x) k)
+
+  -- whether the last is of a later stanza
+  abbrev pub ends_behind : StanzaKey → List X → Bool
+  ends_behind k xs = option_map_or (λ x. is_gt (key_cmp (stanza x) k)) (slice_get xs (length xs - 1)) false
+
+  -- with an entry, behind those of its stanza and of earlier ones
+  abbrev pub put_in_order : X → List X → List X
+  put_in_order a [] = a ∷ []
+  put_in_order a (x ∷ xs) = if is_through (stanza a) x then x ∷ put_in_order a xs else a ∷ x ∷ xs
+
+  -- those of no stanza of a span
+  abbrev pub others : Span → List X → List X
+  others span xs = filter (λ x. not (is_within span (stanza x))) xs

@@ -1,0 +1,69 @@
+-- Of the tables alone: which stanza stands under a key while an edit is followed. One that comes with a plan, else one of the store.
+use Rattle.std.specs.Prelude.{ℕ, ◌+◌, ◌-◌, ◌^◌, min, ◌&&◌, ◌≡◌, List, [], ◌∷◌, slice_get, nat_eq, Option, None, Some, if◌then◌else◌}
+use Rattle.std.specs.List.{sum_by, AllByRecursion}
+use Rattle.ctl_relation.specs.declared.field_kind.FieldKind.{FieldKind}
+use Rattle.std.specs.Option.{option_and_then, option_map_or, option_or}
+use Rattle.std.specs.Ordering.{is_eq}
+use Rattle.ctl_relation.specs.Parts.{AtomParts, OfferParts}
+use Rattle.ctl_relation.specs.Met.{met}
+use Rattle.ctl_stanza.specs.Content.{Content, groups_of, offers_of}
+use Rattle.ctl_store.specs.declared.stanza_key.StanzaKey.{StanzaKey}
+use Rattle.ctl_store.specs.Keys.{stanza_at}
+use Rattle.ctl_store.specs.Entries.{Entry}
+use Rattle.ctl_store.specs.Followed.{coming_under}
+use Rattle.ctl_store.specs.Held.{Held, Planned, keyed_of}
+use Rattle.ctl_index.specs.declared.keys.ClauseKey.{ClauseKey}
+use Rattle.ctl_index.specs.declared.keys.AtomKey.{AtomKey}
+use Rattle.ctl_index.specs.declared.keys.OfferKey.{OfferKey}
+use Rattle.ctl_index.specs.Clauses.{is_clause_field, clause_cmp}
+
+-- a store, and a plan whose stanzas come, if there is one
+pub record Seen : Type 0 where
+  pub store : Held
+  pub plan : Option Planned
+
+abbrev pub seen : Seen → StanzaKey → Option Content
+seen s k = option_or (option_and_then (λ (plan : Planned). coming_under plan.added plan.edit k) s.plan) (stanza_at k (keyed_of s.store).lists)
+
+abbrev pub offer_seen : Seen → OfferKey → Option OfferParts
+offer_seen s k = option_and_then (λ x. slice_get (offers_of x) k.place) (seen s k.stanza)
+
+abbrev pub atom_seen : Seen → AtomKey → Option AtomParts
+atom_seen s k = option_and_then (λ x. option_and_then (λ group. slice_get group k.atom) (slice_get (groups_of k.field x) k.group)) (seen s k.stanza)
+
+-- whether an offer under a key meets the atom, and whether it is tested, as numbers
+abbrev pub met_by : Seen → AtomParts → OfferKey → ℕ
+met_by s atom k = option_map_or (λ offer. if met atom offer then 1 else 0) (offer_seen s k) 0
+
+abbrev pub tested_by : Seen → OfferKey → ℕ
+tested_by s k = option_map_or (λ (offer : OfferParts). 1) (offer_seen s k) 0
+
+-- how many of these offers meet an atom of a field, and how many are tested: none where the field has no clauses
+abbrev pub atom_met : Seen → FieldKind → AtomParts → List OfferKey → ℕ
+atom_met s field atom offers = if is_clause_field field then sum_by (met_by s atom) offers else 0
+
+abbrev pub atom_tested : Seen → FieldKind → List OfferKey → ℕ
+atom_tested s field offers = if is_clause_field field then sum_by (tested_by s) offers else 0
+
+-- the clause of an atom
+abbrev pub clause_key : AtomKey → ClauseKey
+clause_key k = record { stanza = k.stanza; field = k.field; group = k.group }
+
+-- whether an atom under a key is of the clause and met by the offer, and whether it is tested, as numbers
+abbrev pub hit : Seen → OfferParts → ClauseKey → AtomKey → ℕ
+hit s offer k a = option_map_or (λ atom. if (is_clause_field a.field && met atom offer) && is_eq (clause_cmp (clause_key a) k) then 1 else 0) (atom_seen s a) 0
+
+abbrev pub tested : Seen → AtomKey → ℕ
+tested s a = option_map_or (λ (atom : AtomParts). if is_clause_field a.field then 1 else 0) (atom_seen s a) 0
+
+-- ---- a store alone, and with a plan
+
+abbrev pub in_store : Held → Seen
+in_store h = record { store = h; plan = None }
+
+abbrev pub with_plan : Held → Planned → Seen
+with_plan h plan = record { store = h; plan = Some plan }
+
+-- each stanza is what is seen under its key
+abbrev pub AreSeen : Seen → List Entry → Type 0
+AreSeen s es = AllByRecursion (λ (e : Entry). seen s e.0 ≡ Some e.1) es

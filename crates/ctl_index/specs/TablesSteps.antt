@@ -1,0 +1,163 @@
+-- Of the tables alone: what each step of taking stanzas out or putting them in makes of them.
+use Rattle.std.specs.Prelude.{◌≡◌, ℕ, ◌+◌, ◌-◌, suc, not, ◌&&◌, Bool, List, [], ◌∷◌, ◌++◌, filter, length, get_or, Option, None, Some, if◌then◌else◌}
+use Rattle.std.specs.List.{sum_by}
+use Rattle.std.specs.Option.{option_map, option_map_or}
+use Rattle.std.specs.Str.{bytes_eq}
+use Rattle.std.specs.Ordering.{is_eq, is_ge, is_le}
+use Rattle.ctl_relation.specs.declared.field_kind.FieldKind.{FieldKind}
+use Rattle.ctl_relation.specs.Parts.{AtomParts, OfferParts}
+use Rattle.ctl_stanza.specs.Content.{Content, groups_of, offers_of}
+use Rattle.ctl_store.specs.declared.stanza_key.StanzaKey.{StanzaKey}
+use Rattle.ctl_store.specs.Keys.{key_cmp, key_of}
+use Rattle.ctl_index.specs.declared.keys.ClauseKey.{ClauseKey}
+use Rattle.ctl_index.specs.declared.keys.AtomKey.{AtomKey}
+use Rattle.ctl_index.specs.declared.keys.OfferKey.{OfferKey}
+use Rattle.ctl_index.specs.declared.span.Span.{Span}
+use Rattle.ctl_index.specs.TablesOrder.{offer_stanza, atom_stanza, put_in_order, others}
+use Rattle.ctl_index.specs.Clauses.{is_clause_field, clause_cmp}
+use Rattle.ctl_index.specs.Names.{naming_fields}
+use Rattle.ctl_index.specs.TablesSight.{Seen, seen, hit, tested, atom_met, atom_tested}
+
+-- ---- what comes under a name q
+
+abbrev pub listed_offers : StanzaKey → List ℕ → ℕ → List OfferParts → List OfferKey → List OfferKey
+listed_offers key q n [] xs = xs
+listed_offers key q n (offer ∷ offers) xs = listed_offers key q (suc n) offers (if bytes_eq offer.name q then put_in_order offer_stanza (record { stanza = key; place = n }) xs else xs)
+
+abbrev pub listed_group : StanzaKey → FieldKind → ℕ → List ℕ → ℕ → List AtomParts → List AtomKey → List AtomKey
+listed_group key field group q n [] xs = xs
+listed_group key field group q n (atom ∷ atoms) xs = listed_group key field group q (suc n) atoms (if bytes_eq atom.name q then put_in_order atom_stanza (record { stanza = key; field = field; group = group; atom = n }) xs else xs)
+
+abbrev pub listed_groups : StanzaKey → FieldKind → List ℕ → ℕ → List (List AtomParts) → List AtomKey → List AtomKey
+listed_groups key field q n [] xs = xs
+listed_groups key field q n (group ∷ groups) xs = listed_groups key field q (suc n) groups (listed_group key field n q 0 group xs)
+
+abbrev pub listed_fields : StanzaKey → Content → List ℕ → List FieldKind → List AtomKey → List AtomKey
+listed_fields key stanza q [] xs = xs
+listed_fields key stanza q (field ∷ fields) xs = listed_fields key stanza q fields (listed_groups key field q 0 (groups_of field stanza) xs)
+
+-- ---- what goes under a name q: all that is of a span of keys, once a stanza of it names q
+
+abbrev pub left_offers : Span → List ℕ → List OfferParts → List OfferKey → List OfferKey
+left_offers span q [] xs = xs
+left_offers span q (offer ∷ offers) xs = left_offers span q offers (if bytes_eq offer.name q then others offer_stanza span xs else xs)
+
+abbrev pub left_group : Span → List ℕ → List AtomParts → List AtomKey → List AtomKey
+left_group span q [] xs = xs
+left_group span q (atom ∷ atoms) xs = left_group span q atoms (if bytes_eq atom.name q then others atom_stanza span xs else xs)
+
+abbrev pub left_groups : Span → List ℕ → List (List AtomParts) → List AtomKey → List AtomKey
+left_groups span q [] xs = xs
+left_groups span q (group ∷ groups) xs = left_groups span q groups (left_group span q group xs)
+
+abbrev pub left_fields : Span → Content → List ℕ → List FieldKind → List AtomKey → List AtomKey
+left_fields span stanza q [] xs = xs
+left_fields span stanza q (field ∷ fields) xs = left_fields span stanza q fields (left_groups span q (groups_of field stanza) xs)
+
+-- ---- the counters, where these offers stand under the names
+
+-- how many offers meet the atoms of a group, and how many are tested
+abbrev pub group_met : Seen → FieldKind → (List ℕ → List OfferKey) → List AtomParts → ℕ
+group_met s field offers group = sum_by (λ (atom : AtomParts). atom_met s field atom (offers atom.name)) group
+
+abbrev pub group_tested : Seen → FieldKind → (List ℕ → List OfferKey) → List AtomParts → ℕ
+group_tested s field offers group = sum_by (λ (atom : AtomParts). atom_tested s field (offers atom.name)) group
+
+abbrev pub groups_tested : Seen → FieldKind → (List ℕ → List OfferKey) → List (List AtomParts) → ℕ
+groups_tested s field offers groups = sum_by (group_tested s field offers) groups
+
+abbrev pub fields_tested : Seen → (List ℕ → List OfferKey) → List FieldKind → Content → ℕ
+fields_tested s offers fields stanza = sum_by (λ field. groups_tested s field offers (groups_of field stanza)) fields
+
+-- whether a clause is this group
+abbrev pub is_clause : ClauseKey → ClauseKey → Bool
+is_clause group k = is_clause_field group.field && is_eq (clause_cmp group k)
+
+abbrev pub entered_groups : Seen → (List ℕ → List OfferKey) → StanzaKey → FieldKind → ℕ → List (List AtomParts) → ClauseKey → Option ℕ → Option ℕ
+entered_groups s offers key field n [] k old = old
+entered_groups s offers key field n (group ∷ groups) k old = entered_groups s offers key field (suc n) groups k (if is_clause (record { stanza = key; field = field; group = n }) k then Some (group_met s field offers group) else old)
+
+abbrev pub entered_fields : Seen → (List ℕ → List OfferKey) → StanzaKey → Content → List FieldKind → ClauseKey → Option ℕ → Option ℕ
+entered_fields s offers key stanza [] k old = old
+entered_fields s offers key stanza (field ∷ fields) k old = entered_fields s offers key stanza fields k (entered_groups s offers key field 0 (groups_of field stanza) k old)
+
+abbrev pub dropped_groups : StanzaKey → FieldKind → ℕ → List (List AtomParts) → ClauseKey → Option ℕ → Option ℕ
+dropped_groups key field n [] k old = old
+dropped_groups key field n (group ∷ groups) k old = dropped_groups key field (suc n) groups k (if is_clause (record { stanza = key; field = field; group = n }) k then None else old)
+
+abbrev pub dropped_fields : StanzaKey → Content → List FieldKind → ClauseKey → Option ℕ → Option ℕ
+dropped_fields key stanza [] k old = old
+dropped_fields key stanza (field ∷ fields) k old = dropped_fields key stanza fields k (dropped_groups key field 0 (groups_of field stanza) k old)
+
+-- ---- the counters, where offers come or go and these atoms stand under the names
+
+abbrev pub raised : Seen → (List ℕ → List AtomKey) → List OfferParts → ClauseKey → Option ℕ → Option ℕ
+raised s atoms [] k old = old
+raised s atoms (offer ∷ offers) k old = raised s atoms offers k (option_map (λ n. n + sum_by (hit s offer k) (atoms offer.name)) old)
+
+abbrev pub lowered : Seen → (List ℕ → List AtomKey) → List OfferParts → ClauseKey → Option ℕ → Option ℕ
+lowered s atoms [] k old = old
+lowered s atoms (offer ∷ offers) k old = lowered s atoms offers k (option_map (λ n. n - sum_by (hit s offer k) (atoms offer.name)) old)
+
+abbrev pub all_tested : Seen → (List ℕ → List AtomKey) → List OfferParts → ℕ
+all_tested s atoms offers = sum_by (λ (offer : OfferParts). sum_by (tested s) (atoms offer.name)) offers
+
+-- ---- several stanzas
+
+-- what a step makes of it with the stanza that is found under a key, if there is one
+abbrev pub with_found : {A : Type 0} → (StanzaKey → Option Content) → (StanzaKey → Content → A → A) → StanzaKey → A → A
+with_found find step key a = option_map_or (λ x. step key x a) (find key) a
+
+-- with each of those that are found under these keys, in turn
+abbrev pub with_each : {A : Type 0} → (StanzaKey → Option Content) → (StanzaKey → Content → A → A) → List StanzaKey → A → A
+with_each find step [] a = a
+with_each find step (key ∷ keys) a = with_each find step keys (with_found find step key a)
+
+-- a number of each stanza that is found, 0 where there is none
+abbrev pub of_found : (StanzaKey → Option Content) → (Content → ℕ) → StanzaKey → ℕ
+of_found find f key = option_map_or f (find key) 0
+
+abbrev pub put_offers_step : List ℕ → StanzaKey → Content → List OfferKey → List OfferKey
+put_offers_step q key x xs = listed_offers key q 0 (offers_of x) xs
+
+abbrev pub put_atoms_step : List ℕ → StanzaKey → Content → List AtomKey → List AtomKey
+put_atoms_step q key x xs = listed_fields key x q naming_fields xs
+
+abbrev pub take_offers_step : Span → List ℕ → StanzaKey → Content → List OfferKey → List OfferKey
+take_offers_step span q key x xs = left_offers span q (offers_of x) xs
+
+abbrev pub take_atoms_step : Span → List ℕ → StanzaKey → Content → List AtomKey → List AtomKey
+take_atoms_step span q key x xs = left_fields span x q naming_fields xs
+
+abbrev pub raise_step : Seen → (List ℕ → List AtomKey) → ClauseKey → StanzaKey → Content → Option ℕ → Option ℕ
+raise_step s atoms k key x old = raised s atoms (offers_of x) k old
+
+abbrev pub lower_step : Seen → (List ℕ → List AtomKey) → ClauseKey → StanzaKey → Content → Option ℕ → Option ℕ
+lower_step s atoms k key x old = lowered s atoms (offers_of x) k old
+
+abbrev pub enter_step : Seen → (List ℕ → List OfferKey) → ClauseKey → StanzaKey → Content → Option ℕ → Option ℕ
+enter_step s offers k key x old = entered_fields s offers key x naming_fields k old
+
+abbrev pub drop_step : ClauseKey → StanzaKey → Content → Option ℕ → Option ℕ
+drop_step k key x old = dropped_fields key x naming_fields k old
+
+-- how many tests the offers, or the atoms, of these stanzas make
+abbrev pub offers_tests : Seen → (List ℕ → List AtomKey) → Content → ℕ
+offers_tests s atoms x = all_tested s atoms (offers_of x)
+
+abbrev pub offers_tested : Seen → (List ℕ → List AtomKey) → List StanzaKey → ℕ
+offers_tested s atoms keys = sum_by (of_found (seen s) (offers_tests s atoms)) keys
+
+abbrev pub atoms_tested : Seen → (List ℕ → List OfferKey) → List StanzaKey → ℕ
+atoms_tested s offers keys = sum_by (of_found (seen s) (fields_tested s offers naming_fields)) keys
+
+-- ---- the span of keys
+
+abbrev pub last_or : StanzaKey → List StanzaKey → StanzaKey
+last_or key [] = key
+last_or key (other ∷ keys) = last_or other keys
+
+-- The first and the last of keys. Of no keys it is a span that holds none.
+abbrev pub span_of : List StanzaKey → Span
+span_of [] = record { first = key_of 1 0; last = key_of 0 0 }
+span_of (key ∷ keys) = record { first = key; last = last_or key keys }

@@ -1,0 +1,47 @@
+-- Of the tables alone: what the views lend.
+use Rattle.std.specs.Prelude.{◌≡◌, ℕ, Bool, true, ◌&&◌, List, [], map, filter, nat_eq, None, IsSome, unwrap_or}
+use Rattle.std.proofs.Common.{Vec, Global}
+use Rattle.std.specs.List.{AllByRecursion, list_any, starts_with}
+use Rattle.std.specs.List.Sorted.{IsStrictlySortedBy}
+use Rattle.std.specs.Ordering.{nat_cmp, is_le}
+use Rattle.std.specs.Cmp.Lexicographic.{slice_cmp}
+use Rattle.ctl_relation.specs.Parts.{OfferParts}
+use Rattle.ctl_store.specs.declared.stanza_key.StanzaKey.{StanzaKey}
+use Rattle.ctl_store.specs.Held.{Held}
+use Rattle.ctl_index.specs.declared.keys.OfferKey.{OfferKey}
+use Rattle.ctl_index.specs.declared.named.Named.{Named}
+use Rattle.ctl_index.specs.TablesByName.{named_offers}
+use Rattle.ctl_index.specs.TablesSight.{offer_seen, in_store}
+
+-- the offer under a key, with the key of its stanza
+abbrev pub offer_found : Held → OfferKey → StanzaKey × OfferParts
+offer_found h k = (k.stanza, unwrap_or (offer_seen (in_store h) k) (record { name = []; version = None }))
+
+-- each has an offer
+abbrev pub AreFound : Held → List OfferKey → Type 0
+AreFound h keys = AllByRecursion (λ k. IsSome (offer_seen (in_store h) k)) keys
+
+-- ---- the names of packages
+
+-- whether an offer is the package of its stanza: that is the first of what a stanza offers
+abbrev pub is_own : OfferKey → Bool
+is_own key = nat_eq key.place 0
+
+-- whether a name has an offer of that kind
+abbrev pub has_own : Named → Bool
+has_own named = list_any is_own (named_offers named)
+
+abbrev pub NamedEntry : Type 0
+NamedEntry = Vec ℕ Global × Named
+
+abbrev pub entry_names : List NamedEntry → List (List ℕ)
+entry_names entries = map (λ (e : NamedEntry). e.0.items) entries
+
+-- the names that begin with a prefix, of packages
+abbrev pub packages_with : List ℕ → List NamedEntry → List (List ℕ)
+packages_with prefix entries = entry_names (filter (λ (e : NamedEntry). starts_with nat_eq e.0.items prefix && has_own e.1) entries)
+
+-- names in order, none of them before the prefix
+pub record AreFrom (prefix : List ℕ) (names : List (List ℕ)) : Type 0 where
+  pub order : IsStrictlySortedBy (slice_cmp nat_cmp) names
+  pub from : AllByRecursion (λ name. is_le (slice_cmp nat_cmp prefix name) ≡ true) names

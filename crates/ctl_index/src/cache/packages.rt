@@ -1,0 +1,93 @@
+//! The names of packages, lent in order.
+
+ghost use Rattle.std.specs.Prelude.{◌≡◌, ◌∷◌, ◌&&◌, [], ℕ, List, IfOk, IfSome, IfNone, false, nat_eq};
+ghost use Rattle.std.specs.List.{list_any, starts_with};
+ghost use Rattle.std.specs.List.Sorted.{IsStrictlySortedBy};
+ghost use Rattle.std.specs.Cmp.Lexicographic.{slice_cmp};
+ghost use Rattle.std.specs.Ordering.{nat_cmp};
+ghost use Rattle.std.specs.Str.{bytes_eq};
+ghost use Rattle.ctl_store.specs.Held.{state_of};
+ghost use Rattle.ctl_index.specs.Names.{is_package};
+ghost use Rattle.ctl_index.specs.TablesViews.{packages_with, entry_names, AreFrom};
+ghost use Rattle.ctl_index.specs.Work.{stanzas_of_state};
+
+use crate::cache::Cache;
+use crate::named::{Named, has_own};
+use std::alloc::AllocError;
+use std::collections::btree_map;
+use std::marker::Model;
+
+/// The names of packages that begin with a prefix, by [`Cache::package_names`], in the order of their bytes.
+#[derive(Drop)]
+pub struct PackageNames<'a> {
+    prefix: Vec<u8>,
+    // What is left of the names that aren't before the prefix.
+    entries: btree_map::Range<'a, Vec<u8>, Named>,
+}
+
+impl<'a> Model for PackageNames<'a> {
+    ghost use Rattle.std.specs.Prelude.{ℕ, List};
+    ghost use Rattle.ctl_index.specs.TablesViews.{packages_with, entry_names, AreFrom};
+
+    ghost Value = { List (List ℕ) };
+
+    ghost view = { λ it. packages_with it.prefix.items it.entries };
+
+    ghost invariant = { λ it. AreFrom it.prefix.items (entry_names it.entries) };
+}
+
+// Takes the names up to the next one that begins with the prefix and is that of a package. Behind a name that doesn't begin
+// with the prefix none does, for they are in order.
+fn next_package<'a>(
+    prefix: &[u8],
+    entries: &mut btree_map::Range<'a, Vec<u8>, Named>,
+) -> Option<&'a [u8]>
+    requires { AreFrom prefix.now (entry_names entries.old) }
+    ensures some { IfSome result (λ name. packages_with prefix.now entries.old ≡ name.now ∷ packages_with prefix.now entries.new) }
+    ensures none { IfNone result (packages_with prefix.now entries.old ≡ []) }
+    ensures ended { IfNone result (packages_with prefix.now entries.new ≡ []) }
+    ensures from { AreFrom prefix.now (entry_names entries.new) }
+{
+    'names: while let Some((name, named)) = entries.next() {
+        if !name.starts_with(prefix) {
+            return None;
+        }
+        if has_own(named) {
+            return Some(name);
+        }
+    }
+    None
+}
+
+impl<'a> Iterator for PackageNames<'a> {
+    ghost use Rattle.std.specs.Iterator.{YieldsFirstBy, item_count};
+
+    ghost next_gives = { YieldsFirstBy (λ item. item.now) (λ rest. rest) };
+
+    ghost remaining = { item_count (λ rest. rest) };
+
+    type Item = &'a [u8];
+
+    fn next(&mut self) -> Option<&'a [u8]> {
+        next_package(&self.prefix, &mut self.entries)
+    }
+}
+
+impl Cache {
+    /// The names of packages that begin with a prefix, in the order of their bytes: those that a live stanza is of.
+    ///
+    /// # Errors
+    ///
+    /// Want of memory, of which it takes as much as the prefix has bytes.
+    pub fn package_names(&self, prefix: &[u8]) -> Result<PackageNames<'_>, AllocError>
+        requires { self.now.stale ≡ false }
+        // each once
+        ensures order { IfOk result (λ names. IsStrictlySortedBy (slice_cmp nat_cmp) names) }
+        ensures members { IfOk result (λ names. (name : List ℕ) → list_any (bytes_eq name) names
+            ≡ (starts_with nat_eq name prefix.now && is_package (stanzas_of_state (state_of self.now.store)) name)) }
+    {
+        let prefix = Vec::from_slice(self.alloc, prefix)?;
+        let entries = self.tables.names.range_from(&prefix);
+        Ok(PackageNames { prefix, entries })
+    }
+}

@@ -1,0 +1,255 @@
+//! What a cache tells: its store, and, where it isn't stale, what stands in its tables, lent.
+
+ghost use Rattle.std.specs.Prelude.{◌≡◌, ℕ, List, Some, IsSome, false, map};
+ghost use Rattle.std.specs.BTreeMap.{get};
+ghost use Rattle.std.specs.List.Sorted.{IsPermutation};
+ghost use Rattle.ctl_relation.specs.Parts.{OfferParts};
+ghost use Rattle.ctl_store.specs.declared.stanza_key.StanzaKey.{StanzaKey};
+ghost use Rattle.ctl_store.specs.Keys.{AreHeld};
+ghost use Rattle.ctl_store.specs.Held.{keyed_of, state_of};
+ghost use Rattle.ctl_index.specs.Clauses.{clause_cmp, clause_at, number_at, unmet_clauses};
+ghost use Rattle.ctl_index.specs.Held.{standing};
+ghost use Rattle.ctl_index.specs.Names.{known_names, namers_named};
+ghost use Rattle.ctl_index.specs.Offers.{offers_named};
+ghost use Rattle.ctl_index.specs.Work.{stanzas_of_state};
+
+use crate::cache::Cache;
+use crate::keys::{AtomKey, ClauseKey, OfferKey};
+use crate::named::Named;
+use crate::sight::{Sight, offer_at};
+use ctl_relation::Offer;
+use ctl_store::{StanzaKey, Store};
+use std::collections::{BTreeMap, btree_map, btree_set};
+use std::marker::Model;
+
+/// The names that are known, by [`Cache::names`], in the order of their bytes.
+#[derive(Drop)]
+pub struct Names<'a> {
+    keys: btree_map::Keys<'a, Vec<u8>, Named>,
+}
+
+impl<'a> Model for Names<'a> {
+    ghost use Rattle.std.specs.Prelude.{ℕ, List, map};
+
+    ghost Value = { List (List ℕ) };
+
+    ghost view = { λ it. map (λ key. key.items) it.keys };
+}
+
+impl<'a> Iterator for Names<'a> {
+    ghost use Rattle.std.specs.Iterator.{YieldsFirstBy, item_count};
+
+    ghost next_gives = { YieldsFirstBy (λ item. item.now) (λ rest. rest) };
+
+    ghost remaining = { item_count (λ rest. rest) };
+
+    type Item = &'a [u8];
+
+    fn next(&mut self) -> Option<&'a [u8]> {
+        match self.keys.next() {
+            Some(key) => Some(key),
+            None => None,
+        }
+    }
+}
+
+/// The offers of a name, by [`Cache::offers`], each with the key of its stanza.
+#[derive(Drop)]
+pub struct Offers<'a> {
+    store: &'a Store,
+    keys: &'a [OfferKey],
+}
+
+impl<'a> Model for Offers<'a> {
+    ghost use Rattle.std.specs.Prelude.{List, map};
+    ghost use Rattle.ctl_relation.specs.Parts.{OfferParts};
+    ghost use Rattle.ctl_store.specs.declared.stanza_key.StanzaKey.{StanzaKey};
+    ghost use Rattle.ctl_index.specs.TablesViews.{offer_found, AreFound};
+
+    ghost Value = { List (StanzaKey × OfferParts) };
+
+    ghost view = { λ it. map (offer_found it.store.now) it.keys.now };
+
+    ghost invariant = { λ it. AreFound it.store.now it.keys.now };
+}
+
+impl<'a> Iterator for Offers<'a> {
+    ghost use Rattle.std.specs.Iterator.{YieldsFirstBy, item_count};
+
+    ghost next_gives = { YieldsFirstBy (λ item. (item.0, item.1.now)) (λ rest. rest) };
+
+    ghost remaining = { item_count (λ rest. rest) };
+
+    type Item = (StanzaKey, &'a Offer);
+
+    fn next(&mut self) -> Option<(StanzaKey, &'a Offer)> {
+        let (key, rest) = self.keys.split_first()?;
+        let sight = Sight {
+            store: self.store,
+            plan: None,
+        };
+        match offer_at(&sight, *key) {
+            Some(offer) => {
+                self.keys = rest;
+                Some((key.stanza, offer))
+            }
+            None => unreachable!(),
+        }
+    }
+}
+
+/// The atoms that name a name, by [`Cache::namers`].
+#[derive(Drop)]
+pub struct Namers<'a> {
+    keys: &'a [AtomKey],
+}
+
+impl<'a> Model for Namers<'a> {
+    ghost use Rattle.std.specs.Prelude.{List};
+    ghost use Rattle.ctl_index.specs.declared.keys.AtomKey.{AtomKey};
+
+    ghost Value = { List AtomKey };
+
+    ghost view = { λ it. it.keys.now };
+}
+
+impl<'a> Iterator for Namers<'a> {
+    ghost use Rattle.std.specs.Iterator.{YieldsFirst, item_count};
+
+    ghost next_gives = { YieldsFirst (λ rest. rest) };
+
+    ghost remaining = { item_count (λ rest. rest) };
+
+    type Item = AtomKey;
+
+    fn next(&mut self) -> Option<AtomKey> {
+        let (key, rest) = self.keys.split_first()?;
+        self.keys = rest;
+        Some(*key)
+    }
+}
+
+/// The clauses that no offer meets, by [`Cache::unmet_clauses`], in order.
+#[derive(Drop)]
+pub struct UnmetClauses<'a> {
+    keys: btree_set::Iter<'a, ClauseKey>,
+}
+
+impl<'a> Model for UnmetClauses<'a> {
+    ghost use Rattle.std.specs.Prelude.{List};
+    ghost use Rattle.ctl_index.specs.declared.keys.ClauseKey.{ClauseKey};
+
+    ghost Value = { List ClauseKey };
+
+    ghost view = { λ it. it.keys };
+}
+
+impl<'a> Iterator for UnmetClauses<'a> {
+    ghost use Rattle.std.specs.Iterator.{YieldsFirst, item_count};
+
+    ghost next_gives = { YieldsFirst (λ rest. rest) };
+
+    ghost remaining = { item_count (λ rest. rest) };
+
+    type Item = ClauseKey;
+
+    fn next(&mut self) -> Option<ClauseKey> {
+        match self.keys.next() {
+            Some(key) => Some(*key),
+            None => None,
+        }
+    }
+}
+
+impl Cache {
+    /// The store.
+    pub fn store(&self) -> &Store
+        ensures { result.now ≡ self.now.store }
+    {
+        &self.store
+    }
+
+    /// Whether an edit found no memory in the middle, so that the tables are to be made anew.
+    pub fn is_stale(&self) -> bool
+        ensures { result ≡ self.now.stale }
+    {
+        self.stale
+    }
+
+    /// How many tests of an offer against an atom were made by [`apply`](Cache::apply) and [`recover`](Cache::recover).
+    pub fn steps(&self) -> u128
+        ensures { result ≡ self.now.steps }
+    {
+        self.steps.count()
+    }
+
+    /// The names that are known, in the order of their bytes, each once: those that are offered, and those that an atom names.
+    pub fn names(&self) -> Names<'_>
+        requires { self.now.stale ≡ false }
+        ensures { result ≡ known_names (stanzas_of_state (state_of self.now.store)) }
+    {
+        Names {
+            keys: self.tables.names.keys(),
+        }
+    }
+
+    /// The offers of a name, in any order.
+    pub fn offers(&self, name: &[u8]) -> Offers<'_>
+        requires { self.now.stale ≡ false }
+        ensures offers { IsPermutation (offers_named name.now (standing self.now.store)) result }
+        ensures held { AreHeld (map (λ offer. offer.0) result) (keyed_of self.now.store).lists }
+    {
+        // That the keys rise is said here.
+        let _counts = self.store.counts();
+        Offers {
+            store: &self.store,
+            keys: self.tables.names.offers(name),
+        }
+    }
+
+    /// The atoms of the eight fields that name a name, in any order.
+    pub fn namers(&self, name: &[u8]) -> Namers<'_>
+        requires { self.now.stale ≡ false }
+        ensures namers { IsPermutation (namers_named name.now (standing self.now.store)) result }
+        ensures held { AreHeld (map (λ key. key.stanza) result) (keyed_of self.now.store).lists }
+    {
+        // That the keys rise is said here.
+        let _counts = self.store.counts();
+        Namers {
+            keys: self.tables.names.namers(name),
+        }
+    }
+
+    /// The number of a clause, which is one of the store: how many pairs of one of its atoms and an offer meet.
+    #[tactic(auto, using(crate::proofs::ViewLemmas::has_number))]
+    pub fn satisfiers(&self, clause: ClauseKey) -> u128
+        requires fresh { self.now.stale ≡ false }
+        requires clause { IsSome (clause_at clause (standing self.now.store)) }
+        ensures { Some result ≡ number_at clause (standing self.now.store) }
+    {
+        match self.tables.counters.number(clause) {
+            Some(number) => number,
+            None => unreachable!(),
+        }
+    }
+
+    /// The clauses that no offer meets, in order.
+    pub fn unmet_clauses(&self) -> UnmetClauses<'_>
+        requires { self.now.stale ≡ false }
+        ensures { result ≡ unmet_clauses (standing self.now.store) }
+    {
+        // That the keys rise is said here.
+        let _counts = self.store.counts();
+        UnmetClauses {
+            keys: self.tables.counters.unmet().iter(),
+        }
+    }
+
+    /// The number of each clause.
+    pub fn counters(&self) -> &BTreeMap<ClauseKey, u128>
+        requires { self.now.stale ≡ false }
+        ensures { (k : ClauseKey) → get clause_cmp result.now k ≡ number_at k (standing self.now.store) }
+    {
+        self.tables.counters.numbers()
+    }
+}

@@ -1,0 +1,255 @@
+//! Stanzas come: their offers first, and then their atoms, so that a pair of their own is tested once.
+
+ghost use Rattle.std.specs.Prelude.{◌≡◌, ◌+◌, ◌≤◌, ◌<◌, ◌^◌, ℕ, List, OnOk, IfOk, Some, length, if◌then◌else◌};
+ghost use Rattle.std.specs.BTreeMap.{get};
+ghost use Rattle.std.specs.List.{All};
+ghost use Rattle.ctl_relation.specs.Bounds.{atom_count};
+ghost use Rattle.ctl_index.specs.Clauses.{clause_cmp};
+ghost use Rattle.ctl_index.specs.Names.{naming_fields};
+ghost use Rattle.ctl_index.specs.TablesByName.{offers_under, namers_under};
+ghost use Rattle.ctl_index.specs.TablesSight.{seen};
+ghost use Rattle.ctl_index.specs.TablesSteps.{listed_offers, listed_group, listed_groups, listed_fields, group_met, group_tested, groups_tested, fields_tested, is_clause, entered_groups, entered_fields, raised, all_tested, with_found, with_each, of_found, put_offers_step, put_atoms_step, raise_step, enter_step, offers_tests, offers_tested, atoms_tested};
+ghost use Rattle.ctl_index.specs.Work.{more_by};
+ghost use Rattle.ctl_stanza.specs.Content.{groups_of};
+
+use crate::counters::Counters;
+use crate::counting::is_clause_field;
+use crate::fields::naming_fields;
+use crate::keys::{AtomKey, ClauseKey, OfferKey};
+use crate::name_table::NameTable;
+use crate::sight::{Sight, stanza_at};
+use crate::tables::Tables;
+use ctl_relation::{Atom, FieldKind, Group, Offer, Steps};
+use ctl_stanza::Stanza;
+use ctl_store::StanzaKey;
+use std::alloc::{AllocError, Global};
+
+// What a stanza offers.
+fn put_offers_of(
+    alloc: Global,
+    sight: &Sight<'_>,
+    key: StanzaKey,
+    offers: &[Offer],
+    tables: &mut Tables,
+    steps: &mut Steps,
+) -> Result<(), AllocError>
+    requires { length offers.now < 2 ^ 32 }
+    ensures offers { OnOk result ((q : List ℕ) → offers_under tables.new.names.map q ≡ listed_offers key q 0 offers.now (offers_under tables.old.names.map q)) }
+    ensures namers { OnOk result (namers_under tables.new.names.map ≡ namers_under tables.old.names.map) }
+    ensures counts { OnOk result ((k : ClauseKey) → get clause_cmp tables.new.counters.numbers k ≡ raised sight.now (namers_under tables.old.names.map) offers.now k (get clause_cmp tables.old.counters.numbers k)) }
+    ensures steps { OnOk result (steps.new ≡ more_by (all_tested sight.now (namers_under tables.old.names.map) offers.now) steps.old) }
+    ensures most { steps.new ≤ more_by (all_tested sight.now (namers_under tables.old.names.map) offers.now) steps.old }
+{
+    let _count = steps.count();
+    for i in 0..offers.len() {
+        let entry = OfferKey {
+            stanza: key,
+            place: i as u32,
+        };
+        let counters = &mut tables.counters;
+        tables
+            .names
+            .put_offer(alloc, sight, entry, &offers[i], counters, steps)?;
+    }
+    Ok(())
+}
+
+// What the stanza under a key offers, if there is one.
+fn put_offers_at(
+    alloc: Global,
+    sight: &Sight<'_>,
+    key: StanzaKey,
+    tables: &mut Tables,
+    steps: &mut Steps,
+) -> Result<(), AllocError>
+    ensures offers { OnOk result ((q : List ℕ) → offers_under tables.new.names.map q ≡ with_found (seen sight.now) (put_offers_step q) key (offers_under tables.old.names.map q)) }
+    ensures namers { OnOk result (namers_under tables.new.names.map ≡ namers_under tables.old.names.map) }
+    ensures counts { OnOk result ((k : ClauseKey) → get clause_cmp tables.new.counters.numbers k ≡ with_found (seen sight.now) (raise_step sight.now (namers_under tables.old.names.map) k) key (get clause_cmp tables.old.counters.numbers k)) }
+    ensures steps { OnOk result (steps.new ≡ more_by (of_found (seen sight.now) (offers_tests sight.now (namers_under tables.old.names.map)) key) steps.old) }
+    ensures most { steps.new ≤ more_by (of_found (seen sight.now) (offers_tests sight.now (namers_under tables.old.names.map)) key) steps.old }
+{
+    let _count = steps.count();
+    match stanza_at(sight, key) {
+        Some(stanza) => put_offers_of(alloc, sight, key, stanza.offers(), tables, steps),
+        None => Ok(()),
+    }
+}
+
+/// What the stanzas under these keys offer. It is listed, and tested against the clauses that name it.
+pub(crate) fn put_offers(
+    alloc: Global,
+    sight: &Sight<'_>,
+    keys: &[StanzaKey],
+    tables: &mut Tables,
+    steps: &mut Steps,
+) -> Result<(), AllocError>
+    ensures offers { OnOk result ((q : List ℕ) → offers_under tables.new.names.map q ≡ with_each (seen sight.now) (put_offers_step q) keys.now (offers_under tables.old.names.map q)) }
+    ensures namers { OnOk result (namers_under tables.new.names.map ≡ namers_under tables.old.names.map) }
+    ensures counts { OnOk result ((k : ClauseKey) → get clause_cmp tables.new.counters.numbers k ≡ with_each (seen sight.now) (raise_step sight.now (namers_under tables.old.names.map) k) keys.now (get clause_cmp tables.old.counters.numbers k)) }
+    ensures steps { OnOk result (steps.new ≡ more_by (offers_tested sight.now (namers_under tables.old.names.map) keys.now) steps.old) }
+    ensures most { steps.new ≤ more_by (offers_tested sight.now (namers_under tables.old.names.map) keys.now) steps.old }
+{
+    let _count = steps.count();
+    for key in keys {
+        put_offers_at(alloc, sight, *key, tables, steps)?;
+    }
+    Ok(())
+}
+
+// The atoms of a group. It tells how many offers meet them, where the group is a clause.
+fn put_group(
+    alloc: Global,
+    sight: &Sight<'_>,
+    clause: ClauseKey,
+    atoms: &[Atom],
+    names: &mut NameTable,
+    steps: &mut Steps,
+) -> Result<u128, AllocError>
+    requires { length atoms.now < 2 ^ 32 }
+    ensures namers { OnOk result ((q : List ℕ) → namers_under names.new.map q ≡ listed_group clause.stanza clause.field clause.group q 0 atoms.now (namers_under names.old.map q)) }
+    ensures offers { OnOk result (offers_under names.new.map ≡ offers_under names.old.map) }
+    ensures met { IfOk result (λ met. met ≡ group_met sight.now clause.field (offers_under names.old.map) atoms.now) }
+    ensures steps { OnOk result (steps.new ≡ more_by (group_tested sight.now clause.field (offers_under names.old.map) atoms.now) steps.old) }
+    ensures most { steps.new ≤ more_by (group_tested sight.now clause.field (offers_under names.old.map) atoms.now) steps.old }
+{
+    let _count = steps.count();
+    let mut met: u128 = 0;
+    for i in 0..atoms.len() {
+        let key = AtomKey {
+            stanza: clause.stanza,
+            field: clause.field,
+            group: clause.group,
+            atom: i as u32,
+        };
+        met += names.put_atom(alloc, sight, key, &atoms[i], steps)? as u128;
+    }
+    Ok(met)
+}
+
+// The counter of a group with this number, where the group is a clause.
+fn enter(counters: &mut Counters, clause: ClauseKey, number: u128) -> Result<(), AllocError>
+    ensures { OnOk result ((k : ClauseKey) → get clause_cmp counters.new.numbers k ≡ (if is_clause clause k then Some number else get clause_cmp counters.old.numbers k)) }
+{
+    if is_clause_field(clause.field) {
+        counters.enter(clause, number)
+    } else {
+        Ok(())
+    }
+}
+
+fn put_groups(
+    alloc: Global,
+    sight: &Sight<'_>,
+    key: StanzaKey,
+    field: FieldKind,
+    groups: &[Group],
+    tables: &mut Tables,
+    steps: &mut Steps,
+) -> Result<(), AllocError>
+    requires some { All (λ group. 0 < length group) groups.now }
+    requires few { atom_count groups.now < 2 ^ 32 }
+    ensures namers { OnOk result ((q : List ℕ) → namers_under tables.new.names.map q ≡ listed_groups key field q 0 groups.now (namers_under tables.old.names.map q)) }
+    ensures offers { OnOk result (offers_under tables.new.names.map ≡ offers_under tables.old.names.map) }
+    ensures counts { OnOk result ((k : ClauseKey) → get clause_cmp tables.new.counters.numbers k ≡ entered_groups sight.now (offers_under tables.old.names.map) key field 0 groups.now k (get clause_cmp tables.old.counters.numbers k)) }
+    ensures steps { OnOk result (steps.new ≡ more_by (groups_tested sight.now field (offers_under tables.old.names.map) groups.now) steps.old) }
+    ensures most { steps.new ≤ more_by (groups_tested sight.now field (offers_under tables.old.names.map) groups.now) steps.old }
+{
+    let _count = steps.count();
+    for i in 0..groups.len() {
+        let clause = ClauseKey {
+            stanza: key,
+            field,
+            group: i as u32,
+        };
+        let atoms = groups[i].atoms();
+        let met = put_group(alloc, sight, clause, atoms, &mut tables.names, steps)?;
+        enter(&mut tables.counters, clause, met)?;
+    }
+    Ok(())
+}
+
+// The groups of one field.
+fn put_field(
+    alloc: Global,
+    sight: &Sight<'_>,
+    key: StanzaKey,
+    stanza: &Stanza,
+    field: FieldKind,
+    tables: &mut Tables,
+    steps: &mut Steps,
+) -> Result<(), AllocError>
+    ensures namers { OnOk result ((q : List ℕ) → namers_under tables.new.names.map q ≡ listed_groups key field q 0 (groups_of field stanza.now) (namers_under tables.old.names.map q)) }
+    ensures offers { OnOk result (offers_under tables.new.names.map ≡ offers_under tables.old.names.map) }
+    ensures counts { OnOk result ((k : ClauseKey) → get clause_cmp tables.new.counters.numbers k ≡ entered_groups sight.now (offers_under tables.old.names.map) key field 0 (groups_of field stanza.now) k (get clause_cmp tables.old.counters.numbers k)) }
+    ensures steps { OnOk result (steps.new ≡ more_by (groups_tested sight.now field (offers_under tables.old.names.map) (groups_of field stanza.now)) steps.old) }
+    ensures most { steps.new ≤ more_by (groups_tested sight.now field (offers_under tables.old.names.map) (groups_of field stanza.now)) steps.old }
+{
+    let groups = stanza.groups(field);
+    put_groups(alloc, sight, key, field, groups, tables, steps)
+}
+
+// The groups of these fields.
+fn put_fields(
+    alloc: Global,
+    sight: &Sight<'_>,
+    key: StanzaKey,
+    stanza: &Stanza,
+    fields: &[FieldKind],
+    tables: &mut Tables,
+    steps: &mut Steps,
+) -> Result<(), AllocError>
+    ensures namers { OnOk result ((q : List ℕ) → namers_under tables.new.names.map q ≡ listed_fields key stanza.now q fields.now (namers_under tables.old.names.map q)) }
+    ensures offers { OnOk result (offers_under tables.new.names.map ≡ offers_under tables.old.names.map) }
+    ensures counts { OnOk result ((k : ClauseKey) → get clause_cmp tables.new.counters.numbers k ≡ entered_fields sight.now (offers_under tables.old.names.map) key stanza.now fields.now k (get clause_cmp tables.old.counters.numbers k)) }
+    ensures steps { OnOk result (steps.new ≡ more_by (fields_tested sight.now (offers_under tables.old.names.map) fields.now stanza.now) steps.old) }
+    ensures most { steps.new ≤ more_by (fields_tested sight.now (offers_under tables.old.names.map) fields.now stanza.now) steps.old }
+{
+    let _count = steps.count();
+    for field in fields {
+        put_field(alloc, sight, key, stanza, *field, tables, steps)?;
+    }
+    Ok(())
+}
+
+// The atoms of the stanza under a key, if there is one.
+fn put_atoms_at(
+    alloc: Global,
+    sight: &Sight<'_>,
+    key: StanzaKey,
+    tables: &mut Tables,
+    steps: &mut Steps,
+) -> Result<(), AllocError>
+    ensures namers { OnOk result ((q : List ℕ) → namers_under tables.new.names.map q ≡ with_found (seen sight.now) (put_atoms_step q) key (namers_under tables.old.names.map q)) }
+    ensures offers { OnOk result (offers_under tables.new.names.map ≡ offers_under tables.old.names.map) }
+    ensures counts { OnOk result ((k : ClauseKey) → get clause_cmp tables.new.counters.numbers k ≡ with_found (seen sight.now) (enter_step sight.now (offers_under tables.old.names.map) k) key (get clause_cmp tables.old.counters.numbers k)) }
+    ensures steps { OnOk result (steps.new ≡ more_by (of_found (seen sight.now) (fields_tested sight.now (offers_under tables.old.names.map) naming_fields) key) steps.old) }
+    ensures most { steps.new ≤ more_by (of_found (seen sight.now) (fields_tested sight.now (offers_under tables.old.names.map) naming_fields) key) steps.old }
+{
+    let _count = steps.count();
+    match stanza_at(sight, key) {
+        Some(stanza) => put_fields(alloc, sight, key, stanza, naming_fields(), tables, steps),
+        None => Ok(()),
+    }
+}
+
+/// The atoms of the stanzas under these keys, whose offers are listed. They are listed, and each clause comes with the number of
+/// listed offers that meet its atoms.
+pub(crate) fn put_atoms(
+    alloc: Global,
+    sight: &Sight<'_>,
+    keys: &[StanzaKey],
+    tables: &mut Tables,
+    steps: &mut Steps,
+) -> Result<(), AllocError>
+    ensures namers { OnOk result ((q : List ℕ) → namers_under tables.new.names.map q ≡ with_each (seen sight.now) (put_atoms_step q) keys.now (namers_under tables.old.names.map q)) }
+    ensures offers { OnOk result (offers_under tables.new.names.map ≡ offers_under tables.old.names.map) }
+    ensures counts { OnOk result ((k : ClauseKey) → get clause_cmp tables.new.counters.numbers k ≡ with_each (seen sight.now) (enter_step sight.now (offers_under tables.old.names.map) k) keys.now (get clause_cmp tables.old.counters.numbers k)) }
+    ensures steps { OnOk result (steps.new ≡ more_by (atoms_tested sight.now (offers_under tables.old.names.map) keys.now) steps.old) }
+    ensures most { steps.new ≤ more_by (atoms_tested sight.now (offers_under tables.old.names.map) keys.now) steps.old }
+{
+    let _count = steps.count();
+    for key in keys {
+        put_atoms_at(alloc, sight, *key, tables, steps)?;
+    }
+    Ok(())
+}

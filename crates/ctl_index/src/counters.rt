@@ -1,0 +1,158 @@
+//! The number of each clause, and the clauses at 0.
+
+ghost use Rattle.std.specs.Prelude.{◌≡◌, ◌+◌, ◌-◌, ℕ, None, Some, false, OnOk, OnErr, option_map, if◌then◌else◌};
+ghost use Rattle.std.specs.BTreeMap.{get, IsEmpty};
+ghost use Rattle.std.specs.BTreeSet.{contains};
+ghost use Rattle.std.specs.Ordering.{is_eq};
+ghost use Rattle.ctl_index.specs.Clauses.{clause_cmp};
+ghost use Rattle.ctl_index.specs.TablesCounters.{AreUnmet};
+
+use crate::keys::ClauseKey;
+use std::alloc::{AllocError, Global};
+use std::collections::{BTreeMap, BTreeSet};
+
+/// The number of each clause, with those at 0 beside.
+#[derive(Drop)]
+pub(crate) struct Counters {
+    numbers: BTreeMap<ClauseKey, u128>,
+    unmet: BTreeSet<ClauseKey>,
+    ghost at_zero: { AreUnmet numbers unmet },
+}
+
+// Notes whether a clause is among those at 0.
+fn mark(unmet: &mut BTreeSet<ClauseKey>, key: ClauseKey, is_unmet: bool) -> Result<(), AllocError>
+    ensures ok { OnOk result ((k : ClauseKey) → contains clause_cmp unmet.new k ≡ (if is_eq (clause_cmp key k) then is_unmet else contains clause_cmp unmet.old k)) }
+    ensures err { OnErr result ((k : ClauseKey) → contains clause_cmp unmet.new k ≡ contains clause_cmp unmet.old k) }
+{
+    if is_unmet {
+        unmet.insert(key)?;
+    } else {
+        let _ = unmet.remove(&key);
+    }
+    Ok(())
+}
+
+// Notes whether a clause is among those at 0, where that has changed.
+#[tactic(auto, using(crate::proofs::CounterLemmas::marked_already))]
+fn note(
+    unmet: &mut BTreeSet<ClauseKey>,
+    key: ClauseKey,
+    was_unmet: bool,
+    is_unmet: bool,
+) -> Result<(), AllocError>
+    requires { contains clause_cmp unmet.old key ≡ was_unmet }
+    ensures ok { OnOk result ((k : ClauseKey) → contains clause_cmp unmet.new k ≡ (if is_eq (clause_cmp key k) then is_unmet else contains clause_cmp unmet.old k)) }
+    ensures err { OnErr result ((k : ClauseKey) → contains clause_cmp unmet.new k ≡ contains clause_cmp unmet.old k) }
+{
+    if was_unmet == is_unmet {
+        return Ok(());
+    }
+    mark(unmet, key, is_unmet)
+}
+
+// Takes a clause from those at 0, where it is one.
+#[tactic(auto, using(crate::proofs::CounterLemmas::marked_already))]
+fn unmark(unmet: &mut BTreeSet<ClauseKey>, key: ClauseKey, was_unmet: bool)
+    requires { contains clause_cmp unmet.old key ≡ was_unmet }
+    ensures { (k : ClauseKey) → contains clause_cmp unmet.new k ≡ (if is_eq (clause_cmp key k) then false else contains clause_cmp unmet.old k) }
+{
+    if was_unmet {
+        let _ = unmet.remove(&key);
+    }
+}
+
+// Takes a clause out.
+fn forget(numbers: &mut BTreeMap<ClauseKey, u128>, unmet: &mut BTreeSet<ClauseKey>, key: ClauseKey)
+    ensures numbers { (k : ClauseKey) → get clause_cmp numbers.new k ≡ (if is_eq (clause_cmp key k) then None else get clause_cmp numbers.old k) }
+    ensures unmet { (k : ClauseKey) → contains clause_cmp unmet.new k ≡ (if is_eq (clause_cmp key k) then false else contains clause_cmp unmet.old k) }
+{
+    let _ = numbers.remove(&key);
+    let _ = unmet.remove(&key);
+}
+
+impl Counters {
+    /// No clause. It takes no memory.
+    pub(crate) fn new(alloc: Global) -> Counters
+        ensures { IsEmpty result.numbers }
+    {
+        Counters {
+            numbers: BTreeMap::new(alloc),
+            unmet: BTreeSet::new(alloc),
+        }
+    }
+
+    /// The number of each clause.
+    pub(crate) fn numbers(&self) -> &BTreeMap<ClauseKey, u128>
+        ensures { result.now ≡ self.now.numbers }
+    {
+        &self.numbers
+    }
+
+    /// The number of a clause, if it is there.
+    pub(crate) fn number(&self, key: ClauseKey) -> Option<u128>
+        ensures { result ≡ get clause_cmp self.now.numbers key }
+    {
+        self.numbers.get(&key).copied()
+    }
+
+    /// The clauses at 0, in order.
+    pub(crate) fn unmet(&self) -> &BTreeSet<ClauseKey>
+        ensures { AreUnmet self.now.numbers result.now }
+    {
+        &self.unmet
+    }
+
+    /// The clause comes, with this number.
+    pub(crate) fn enter(&mut self, key: ClauseKey, number: u128) -> Result<(), AllocError>
+        ensures { OnOk result ((k : ClauseKey) → get clause_cmp self.new.numbers k ≡ (if is_eq (clause_cmp key k) then Some number else get clause_cmp self.old.numbers k)) }
+    {
+        let old = self.numbers.insert(key, number)?;
+        match note(&mut self.unmet, key, matches!(old, Some(0)), number == 0) {
+            Ok(()) => Ok(()),
+            Err(error) => {
+                forget(&mut self.numbers, &mut self.unmet, key);
+                Err(error)
+            }
+        }
+    }
+
+    /// The clause goes.
+    pub(crate) fn remove(&mut self, key: ClauseKey)
+        ensures { (k : ClauseKey) → get clause_cmp self.new.numbers k ≡ (if is_eq (clause_cmp key k) then None else get clause_cmp self.old.numbers k) }
+    {
+        let gone = self.numbers.remove(&key);
+        unmark(&mut self.unmet, key, matches!(gone, Some(0)));
+    }
+
+    /// The clause, if it is there, counts one more. One that would pass a u128 is taken for want of memory.
+    pub(crate) fn raise(&mut self, key: ClauseKey) -> Result<(), AllocError>
+        ensures { OnOk result ((k : ClauseKey) → get clause_cmp self.new.numbers k ≡ option_map (λ n. n + (if is_eq (clause_cmp key k) then 1 else 0)) (get clause_cmp self.old.numbers k)) }
+    {
+        match self.numbers.get_mut(&key) {
+            Some(n) => {
+                let Some(more) = n.checked_add(1) else {
+                    return Err(AllocError);
+                };
+                note(&mut self.unmet, key, *n == 0, false)?;
+                *n = more;
+                Ok(())
+            }
+            None => Ok(()),
+        }
+    }
+
+    /// The clause, if it is there, counts one less.
+    pub(crate) fn lower(&mut self, key: ClauseKey) -> Result<(), AllocError>
+        ensures { OnOk result ((k : ClauseKey) → get clause_cmp self.new.numbers k ≡ option_map (λ n. n - (if is_eq (clause_cmp key k) then 1 else 0)) (get clause_cmp self.old.numbers k)) }
+    {
+        match self.numbers.get_mut(&key) {
+            Some(n) => {
+                let less = n.saturating_sub(1);
+                note(&mut self.unmet, key, *n == 0, less == 0)?;
+                *n = less;
+                Ok(())
+            }
+            None => Ok(()),
+        }
+    }
+}
