@@ -59,6 +59,7 @@ bench: $(PROGRAM)
 	python3 bench/refusals.py $(PROGRAM)
 	cd crates/probe && rt run < stdin > /dev/null
 	python3 bench/texts.py $(FILE)
+	python3 bench/index.py $(FILE)
 ifdef FILE
 	python3 bench/relations.py $(FILE)
 endif

@@ -88,21 +88,32 @@ SHAPES = [
 ]
 
 
-class Held:
-    """A program that runs with the library that counts."""
+def built_library(folder):
+    """The library that counts, built in a folder."""
+    library = os.path.join(folder, "held_memory.so")
+    subprocess.run(["cc", "-shared", "-fPIC", "-O1", "-o", library, str(HERE / "held_memory.c"), "-ldl"], check=True)
+    return library
 
-    def __init__(self, program, library, folder):
+
+class Held:
+    """A program that runs with the library that counts. `refused` is a command that it refuses, and how its answer begins."""
+
+    def __init__(self, words, library, folder, refused=(b"unmark no-such-package\n", b"E: ")):
         self.count = os.path.join(folder, "count")
+        self.refused = refused
         settings = dict(os.environ, LD_PRELOAD=library, HELD_COUNT=self.count)
-        self.running = subprocess.Popen([program], stdin=subprocess.PIPE, stdout=subprocess.PIPE, env=settings)
+        self.running = subprocess.Popen(words, stdin=subprocess.PIPE, stdout=subprocess.PIPE, env=settings)
 
     def after(self, script):
-        """What is held after a script, at the answer to a command that is refused."""
-        self.running.stdin.write(script + b"unmark no-such-package\n")
+        """What is held after a script, at the answer to a command that is refused. Answers before that are passed over."""
+        command, front = self.refused
+        self.running.stdin.write(script + command)
         self.running.stdin.flush()
         answer = self.running.stdout.readline()
-        if not answer.startswith(b"E: "):
-            raise SystemExit("another answer: %r" % answer)
+        while answer and not answer.startswith(front):
+            answer = self.running.stdout.readline()
+        if not answer:
+            raise SystemExit("no answer that begins with %r" % front)
         if os.path.exists(self.count):
             os.remove(self.count)
         self.running.send_signal(signal.SIGUSR1)
@@ -122,12 +133,11 @@ def main(words):
     if len(words) != 1:
         raise SystemExit(__doc__)
     with tempfile.TemporaryDirectory() as folder:
-        library = os.path.join(folder, "held_memory.so")
-        subprocess.run(["cc", "-shared", "-fPIC", "-O1", "-o", library, str(HERE / "held_memory.c"), "-ldl"], check=True)
+        library = built_library(folder)
         for name, make in SHAPES:
             script, stanzas = make()
             text = sum(len(stanza) for stanza in stanzas)
-            held = Held(os.path.abspath(words[0]), library, folder)
+            held = Held([os.path.abspath(words[0])], library, folder)
             before = held.after(b"")
             taken = held.after(script) - before
             held.end()

@@ -113,14 +113,14 @@ def show(ways, size):
         print("%-20s %6.0f ms, peak memory %6.1f MB, %.2f times the text"
               % (name, way.time() * 1000, way.peak() / 1e6, way.peak() / size))
     by_file, by_body = ways["-l"], ways["body"]
-    rows = [("peak memory by -l to the text", by_file.peak() / size, 4)]
+    rows = [("peak memory by -l to the text", by_file.peak() / size, 6)]
     if "grep-dctrl -c ''" in ways:
-        rows.append(("time by -l to grep-dctrl -c ''", by_file.time() / ways["grep-dctrl -c ''"].time(), 5))
+        rows.append(("time by -l to grep-dctrl -c ''", by_file.time() / ways["grep-dctrl -c ''"].time(), 4.5))
     rows.append(("time as body to -l", by_body.time() / by_file.time(), 1.3))
     if "apt-cache gencaches" in ways:
-        rows.append(("time by -l to apt-cache gencaches", by_file.time() / ways["apt-cache gencaches"].time(), None))
+        rows.append(("time by -l to apt-cache gencaches", by_file.time() / ways["apt-cache gencaches"].time(), 1.6))
     for name, ratio, limit in rows:
-        print("%-34s %5.2f%s" % (name, ratio, "" if limit is None else "  (at most %s)" % limit))
+        print("%-34s %5.2f  (at most %s)" % (name, ratio, limit))
 
 
 def main(words):

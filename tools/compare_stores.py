@@ -12,192 +12,17 @@ takes over its key. Each twentieth sequence puts and removes stanzas of one list
 the state is compared now and then. `rt run` in crates/probe builds the program that is compared.
 """
 
-import pathlib
 import random
-import subprocess
 import sys
 
 from answers import compare, tell
+from edit_sequences import GROWTH, LISTS, LONG_NAMES, PACKAGES, Keys, generate_change, generate_edit, named_stanza, probe, read, selector_words
 
-PROBE = pathlib.Path(__file__).resolve().parent.parent / "crates/probe/out/probe"
 SEQUENCES = 600
 SEED = 20250311
 
-# How many names a long sequence has, and how many edits there are between two looks at the state.
-LONG_NAMES = 300
+# How many edits of a long sequence there are between two looks at the state.
 LONG_EDITS = 100
-
-LISTS = [b"main", b"extra", b"back", b"dpkg", b"main2"]
-PACKAGES = [b"a", b"b", b"ab", b"libc6"]
-# The first six are equal.
-VERSIONS = [b"1.0", b"1.0-0", b"0:1.0", b"1.00", b"1.0-00", b"00:1.0-0", b"1.0-1", b"2", b"1.0~rc1", b"1:0.5", b"10.0"]
-PIN_VERSIONS = VERSIONS + [b"1.*", b"*", b"1.0*", b"2:*"]
-STATES = ["installed", "unpacked", "half-configured", "not-installed", "config-files", "half-installed"]
-PRIORITIES = [-32768, -1, 1, 99, 500, 990, 1000, 32767]
-CLASSES = ["plain", "plain", "notauto", "butauto"]
-COMMON = ["put"] * 7 + ["remove"] * 5 + ["add-list"] * 3 + ["mark"] * 2 + ["unmark"] * 2 + ["pin"] * 3 + ["unpin"] * 2
-EDITS = COMMON + ["drop-list", "target", "prefs"]
-
-
-def generate_stanza(source, kind):
-    """A stanza. One of a status list that is not live may have no version."""
-    state = source.choice(STATES)
-    lines = ["Package: " + source.choice(PACKAGES).decode()]
-    if kind == "packages" or state not in STATES[3:] or source.random() < 0.5:
-        lines.append("Version: " + source.choice(VERSIONS).decode())
-    if kind == "status":
-        lines.append("Status: install ok " + state)
-    if source.random() < 0.3:
-        lines.append("Depends: b (>= 1) | ab")
-    lines.append(f"Note: {source.randrange(1000)}")
-    source.shuffle(lines)
-    return "\n".join(lines) + "\n"
-
-
-def generate_selector(source):
-    """A selector of one of the three kinds."""
-    way = source.randrange(3)
-    if way == 0:
-        return ("version", source.choice(PACKAGES), source.choice(PIN_VERSIONS))
-    return ("release", source.choice(PACKAGES) if way == 1 else None, source.choice(LISTS))
-
-
-def generate_settings(source):
-    """Pin settings, each of a selector of its own."""
-    settings = {generate_selector(source): source.choice(PRIORITIES) for _ in range(source.randrange(6))}
-    return list(settings.items())
-
-
-def read(oracle, text, kind):
-    return oracle.read_stanzas(text.encode(), 1, oracle.PACKAGES if kind == "packages" else oracle.STATUS)
-
-
-def choose_list(source, state):
-    """The name of a list, most often of one that is there."""
-    if state.lists and source.random() < 0.85:
-        return source.choice(state.lists).name
-    return source.choice(LISTS)
-
-
-def generate_remove(source, oracle, state):
-    """A stanza that goes; most often one is there, at times under another version that is equal."""
-    name = choose_list(source, state)
-    package = source.choice(PACKAGES)
-    version = oracle.Version(source.choice(VERSIONS))
-    entry = state.find(name)
-    if entry is not None and entry.stanzas and source.random() < 0.6:
-        stanza = source.choice(entry.stanzas)
-        package = stanza.package
-        if stanza.version is not None and not (stanza.version.equals(oracle.Version(VERSIONS[0])) and version.text in VERSIONS[:6]):
-            version = stanza.version
-    return ("remove", name, package, version), ["remove", name.hex(), package.hex(), version.text.hex()]
-
-
-def generate_list(source, oracle):
-    """A new list, as an edit and as its line."""
-    kind = source.choice(["packages", "packages", "status"])
-    name = source.choice(LISTS)
-    label = source.choice(CLASSES) if kind == "packages" else "plain"
-    text = "\n".join(generate_stanza(source, kind) for _ in range(source.randrange(6)))
-    kind_of_list = oracle.PACKAGES if kind == "packages" else oracle.STATUS
-    edit = ("add-list", name, kind_of_list, label, read(oracle, text, kind))
-    return edit, ["add-list", name.hex(), kind, label, text.encode().hex()]
-
-
-def generate_put(source, oracle, state):
-    """A stanza for a list, of the kind of that list where it is there."""
-    name = choose_list(source, state)
-    entry = state.find(name)
-    kind = "packages" if entry is None or entry.kind == oracle.PACKAGES else "status"
-    text = generate_stanza(source, kind)
-    return ("put", name, read(oracle, text, kind)[0]), ["put", name.hex(), kind, text.encode().hex()]
-
-
-def selector_words(selector):
-    form, package, value = selector
-    return [form, "-" if package is None else package.hex(), value.hex()]
-
-
-def generate_pin(source, state, what):
-    """A pin setting that comes or goes; most often one that is there goes."""
-    selector = generate_selector(source)
-    if state.pins and source.random() < 0.5:
-        selector = source.choice(state.pins)[0]
-    if what == "unpin":
-        return ("unpin", selector), ["unpin", *selector_words(selector)]
-    priority = source.choice(PRIORITIES)
-    return ("pin", selector, priority), ["pin", *selector_words(selector), str(priority)]
-
-
-def generate_edit(source, oracle, state):
-    """An edit for the reference program, and the words of its line for the probe."""
-    what = source.choice(EDITS)
-    name = choose_list(source, state)
-    package = source.choice(PACKAGES)
-    version = oracle.Version(source.choice(VERSIONS))
-    if what == "add-list":
-        return generate_list(source, oracle)
-    if what == "put":
-        return generate_put(source, oracle, state)
-    if what == "drop-list":
-        return ("drop-list", name), ["drop-list", name.hex()]
-    if what == "remove":
-        return generate_remove(source, oracle, state)
-    if what == "mark":
-        mark = None if source.random() < 0.3 else version
-        return ("mark", package, mark), ["mark", package.hex(), "-" if mark is None else version.text.hex()]
-    if what == "unmark":
-        return ("unmark", package), ["unmark", package.hex()]
-    if what == "target":
-        target = None if source.random() < 0.3 else name
-        return ("target", target), ["target", "-" if target is None else name.hex()]
-    if what == "prefs":
-        settings = generate_settings(source)
-        words = [word for selector, priority in settings for word in [*selector_words(selector), str(priority)]]
-        return ("prefs", settings), ["prefs", *words]
-    return generate_pin(source, state, what)
-
-
-class Keys:
-    """The keys of the stanzas of each list, by name."""
-
-    def __init__(self):
-        self.lists = {}
-        self.next_list = 0
-
-    def after(self, oracle, edit, state):
-        """Makes an edit that is accepted in this state, and gives the keys that go and those that come."""
-        if edit[0] == "add-list":
-            self.lists[edit[1]] = (self.next_list, list(range(len(edit[4]))), len(edit[4]))
-            self.next_list += 1
-            return [], self.of(edit[1])
-        if edit[0] == "drop-list":
-            gone = self.of(edit[1])
-            del self.lists[edit[1]]
-            return gone, []
-        if edit[0] in ("put", "remove"):
-            return self.at_place(oracle, edit, state)
-        return [], []
-
-    def at_place(self, oracle, edit, state):
-        """A put or a remove."""
-        entry = state.find(edit[1])
-        serial, rows, following = self.lists[edit[1]]
-        find = oracle.find_put_place if edit[0] == "put" else oracle.find_remove_place
-        place = find(entry, *edit[2:])
-        if place is None:
-            rows.append(following)
-            self.lists[edit[1]] = (serial, rows, following + 1)
-            return [], [f"{serial}.{following}"]
-        key = f"{serial}.{rows[place]}"
-        if edit[0] == "put":
-            return [key], [key]
-        del rows[place]
-        return [key], []
-
-    def of(self, name):
-        serial, rows, _ = self.lists[name]
-        return [f"{serial}.{row}" for row in rows]
 
 
 def state_words(oracle, state, keys, limits):
@@ -249,24 +74,6 @@ def generate_sequence(source, oracle):
     return told
 
 
-def named_stanza(source, names):
-    """A stanza of one of these names, of one of two versions."""
-    return f"Package: {source.choice(names)}\nVersion: {source.choice(['1', '2'])}\nNote: {source.randrange(1000)}\n"
-
-
-def generate_change(source, oracle, state, names, growth):
-    """A stanza that is put into the first list, or one of it that is removed."""
-    entry = state.lists[0]
-    if not entry.stanzas or source.random() < growth:
-        text = named_stanza(source, names)
-        return ("put", entry.name, read(oracle, text, "packages")[0]), ["put", entry.name.hex(), "packages", text.encode().hex()]
-    stanza = source.choice(entry.stanzas)
-    return (
-        ("remove", entry.name, stanza.package, stanza.version),
-        ["remove", entry.name.hex(), stanza.package.hex(), stanza.version.text.hex()],
-    )
-
-
 def generate_long_sequence(source, oracle):
     """The lines of many edits of one list, which grows, shrinks to a few stanzas and grows again."""
     limits = oracle.Limits(4_294_967_295, 4_294_967_295)
@@ -278,7 +85,7 @@ def generate_long_sequence(source, oracle):
     edit = ("add-list", LISTS[0], oracle.PACKAGES, "plain", read(oracle, text, "packages"))
     words = ["add-list", LISTS[0].hex(), "packages", "plain", text.encode().hex()]
     told = [(f"limits\t{limits.stanzas}\t{limits.edits}", "new")]
-    for growth in [1.0, 1.0, 0.5, 0.5] + [0.02] * 6 + [0.9, 0.5]:
+    for growth in GROWTH:
         for _ in range(LONG_EDITS):
             gone, come = keys.after(oracle, edit, state)
             state = oracle.step(state, limits, edit)
@@ -286,14 +93,6 @@ def generate_long_sequence(source, oracle):
             edit, words = generate_change(source, oracle, state, names, growth)
         told.append((dump, state_words(oracle, state, keys, limits)))
     return told
-
-
-def probe(lines):
-    """What the built program crates/probe prints for these lines."""
-    if not PROBE.exists():
-        raise SystemExit(f"{PROBE} is missing: build it with `rt run` in crates/probe")
-    done = subprocess.run([PROBE, "store"], input="".join(f"{line}\n" for line in lines).encode(), stdout=subprocess.PIPE, check=True)
-    return done.stdout.decode().split("\n")[:-1]
 
 
 def outcome_of(line, wanted):
@@ -316,7 +115,7 @@ def main():
     for number in range(count):
         generate = generate_long_sequence if number % 20 == 19 else generate_sequence
         told += generate(source, oracle)
-    answers = probe(line for line, _ in told)
+    answers = probe("store", (line for line, _ in told))
     outcomes, wrong = compare(told, answers, outcome_of)
     tell(outcomes, f"{count} sequences, {sum(outcomes.values())} edits, {wrong} answers are others", wrong)
 

@@ -24,6 +24,7 @@ HERE = os.path.dirname(os.path.abspath(__file__))
 BODIES = (b"add-list", b"put", b"prefs")
 REFUSED = re.compile(rb"E: line (\d+): out of memory\n")
 PATIENCE = 60
+SUBJECTS = (b"relation", b"text", b"store", b"index")
 
 
 class Case:
@@ -49,6 +50,15 @@ def run(program, words, script, settings=None):
     done = subprocess.run([program] + words, input=script, env=environment, timeout=PATIENCE,
                           stdout=subprocess.PIPE, stderr=subprocess.PIPE)
     return done.returncode, done.stdout, done.stderr
+
+
+def lines_of(lines, subject):
+    """The lines of the probe of one subject: those behind the word, up to the next such word. Without that word all are."""
+    if subject not in lines:
+        return lines
+    behind = lines[lines.index(subject) + 1:]
+    ends = [at for at, line in enumerate(behind) if line in SUBJECTS]
+    return behind[:ends[0]] if ends else behind
 
 
 def without(script, numbers):

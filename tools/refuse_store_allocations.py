@@ -15,17 +15,12 @@ import os
 import sys
 import tempfile
 
-from refuse_allocations import HERE, library, run
+from refuse_allocations import HERE, library, lines_of, run
 
 PROBE = os.path.join(HERE, "../crates/probe/out/probe")
 LINES = os.path.join(HERE, "../crates/probe/stdin")
 DUMP = b"dump\t61\t62\t6162\t6c69626336"
 REFUSED = b"refused 22 "
-
-
-def lines_of_store(lines):
-    """The lines behind the word `store`, where there is one."""
-    return lines[lines.index(b"store") + 1:] if b"store" in lines else lines
 
 
 def with_dumps(lines):
@@ -75,7 +70,7 @@ def check(preload, folder, lines, more):
 
 def main(words):
     with open(words[0] if words else LINES, "rb") as file:
-        lines = with_dumps(lines_of_store(file.read().split(b"\n")[:-1]))
+        lines = with_dumps(lines_of(file.read().split(b"\n")[:-1], b"store"))
     with tempfile.TemporaryDirectory() as folder:
         preload = library(folder)
         for what, more in (("refused in turn", {}), ("refused with all after it", {"REFUSE_ALL": "1"})):

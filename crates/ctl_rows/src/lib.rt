@@ -12,7 +12,13 @@ use ctl_session::{Fault, FromRead, FromWrite, Session, Summary};
 use std::alloc::Global;
 
 #[cfg(test)]
+mod asked;
+#[cfg(test)]
 mod bodies;
+#[cfg(test)]
+mod cache;
+#[cfg(test)]
+mod cache_shown;
 #[cfg(test)]
 mod control_text;
 #[cfg(test)]
@@ -47,6 +53,8 @@ mod program;
 mod records;
 #[cfg(test)]
 mod refused;
+#[cfg(test)]
+mod refused_cache;
 #[cfg(test)]
 mod relations;
 #[cfg(test)]

@@ -18,10 +18,14 @@ pub fn version(alloc: Global, text: &str) -> Option<Version> {
     Version::parse(alloc, text.as_bytes()).ok()
 }
 
-pub fn stanzas(alloc: Global, text: &str) -> Option<Vec<Box<Stanza>>> {
+fn stanzas_of(alloc: Global, text: &str, kind: ListKind) -> Option<Vec<Box<Stanza>>> {
     lines_take_bytes();
-    let read = read_stanzas(alloc, text.as_bytes(), 1, ListKind::Packages).ok()?;
+    let read = read_stanzas(alloc, text.as_bytes(), 1, kind).ok()?;
     boxed(alloc, read).ok()
+}
+
+pub fn stanzas(alloc: Global, text: &str) -> Option<Vec<Box<Stanza>>> {
+    stanzas_of(alloc, text, ListKind::Packages)
 }
 
 pub fn selector(alloc: Global, package: &str, version: &str) -> Option<Selector> {
@@ -47,18 +51,38 @@ pub fn add_list_named(alloc: Global, list: &str, text: &str) -> Option<Edit> {
     })
 }
 
+/// The edit that adds a status list, of its own name.
+pub fn add_status(alloc: Global, text: &str) -> Option<Edit> {
+    Some(Edit::AddList {
+        name: name(alloc, "status")?,
+        kind: ListKind::Status,
+        class: ListClass::Plain,
+        stanzas: stanzas_of(alloc, text, ListKind::Status)?,
+    })
+}
+
 /// The edit that drops the list `m`.
 pub fn drop_list(alloc: Global) -> Option<Edit> {
+    drop_list_named(alloc, "m")
+}
+
+/// The edit that drops the list of a name.
+pub fn drop_list_named(alloc: Global, list: &str) -> Option<Edit> {
     Some(Edit::DropList {
-        name: name(alloc, "m")?,
+        name: name(alloc, list)?,
     })
 }
 
 /// The edit that puts a stanza into the list `m`.
 pub fn put(alloc: Global, text: &str) -> Option<Edit> {
+    put_into(alloc, "m", text)
+}
+
+/// The edit that puts a stanza into the list of a name.
+pub fn put_into(alloc: Global, list: &str, text: &str) -> Option<Edit> {
     let stanza = stanzas(alloc, text)?.pop()?;
     Some(Edit::Put {
-        list: name(alloc, "m")?,
+        list: name(alloc, list)?,
         stanza,
     })
 }

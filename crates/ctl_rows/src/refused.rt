@@ -53,7 +53,7 @@ fn numbered(alloc: Global, number: u8) -> Option<Edit> {
 }
 
 /// What the store holds, and the keys of its stanzas.
-fn held(alloc: Global, store: &Store) -> Result<Vec<u8>, AllocError> {
+pub fn held(alloc: Global, store: &Store) -> Result<Vec<u8>, AllocError> {
     let mut all = state(alloc, store)?;
     let keys = keys(alloc, store)?;
     all.extend_from_slice(&keys)?;
@@ -73,7 +73,7 @@ fn refusal(store: &mut Store, edit: Edit) -> Option<Refusal> {
 
 /// What came of an edit.
 #[derive(Clone, Copy, Debug, PartialEq, Eq)]
-enum Outcome {
+pub enum Outcome {
     Accepted,
     /// For want of memory. The store held what it held before, and then accepted the edit.
     Refused,
@@ -108,7 +108,7 @@ fn made(alloc: Global, store: &mut Store, number: u8) -> Option<Outcome> {
 }
 
 /// Ends the test where an edit was refused for another cause than memory, or changed what the store holds.
-fn judge(rt: &impl Abort, number: u8, outcome: Outcome) {
+pub fn judge(rt: &impl Abort, number: u8, outcome: Outcome) {
     let is_right = outcome == Outcome::Accepted || outcome == Outcome::Refused;
     assert!(rt; is_right, "edit {number}: {outcome:?}");
 }

@@ -2,9 +2,8 @@
 //!
 //! A store is made and dropped in one function, and all others have it lent, so that each is proved in a second or two.
 
-use crate::made::{
-    add_list, add_list_named, drop_list, edited, given, mark, mark_none, pin, put, remove,
-};
+use crate::asked::{Asked, edit_asked};
+use crate::made::{add_list, edited, given};
 use crate::shown::state;
 use crate::tables::{agree, same};
 use ctl_stanza::ListKind;
@@ -20,37 +19,6 @@ const LIST: &str = "Package: a\nVersion: 1\n\nPackage: b\nVersion: 2\n";
 
 /// The same as an edit.
 const ADD: Asked<'static> = Asked::AddList("m", LIST);
-
-/// An edit that is asked for.
-#[derive(Clone, Copy)]
-enum Asked<'a> {
-    /// A list of this name and text.
-    AddList(&'a str, &'a str),
-    /// The list `m`.
-    DropList,
-    /// A stanza of this text into the list `m`.
-    Put(&'a str),
-    /// The stanza of this package and version out of the list `m`.
-    Remove(&'a str, &'a str),
-    /// This version as that of a package.
-    Mark(&'a str, &'a str),
-    /// No version of a package.
-    MarkNone(&'a str),
-    /// This version of a package with a priority.
-    Pin(&'a str, &'a str, i16),
-}
-
-fn edit_asked(alloc: Global, asked: Asked<'_>) -> Option<Edit> {
-    match asked {
-        Asked::AddList(name, text) => add_list_named(alloc, name, text),
-        Asked::DropList => drop_list(alloc),
-        Asked::Put(text) => put(alloc, text),
-        Asked::Remove(package, version) => remove(alloc, package, version),
-        Asked::Mark(package, version) => mark(alloc, package, version),
-        Asked::MarkNone(package) => mark_none(alloc, package),
-        Asked::Pin(package, version, priority) => pin(alloc, package, version, priority),
-    }
-}
 
 /// What is done with a store.
 #[derive(Clone, Copy)]

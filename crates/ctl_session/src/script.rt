@@ -7,6 +7,7 @@ ghost use Rattle.ctl_session.specs.Streams.{counted};
 ghost use Rattle.ctl_session.specs.declared.fault.ReadingFault.TheVariants.{ReadFailed};
 ghost use Rattle.ctl_session.specs.LineReading.{is_failed_read};
 ghost use Rattle.ctl_session.specs.Reading.{HoldsBody, ReadsBody, ReadsHead, ReadsNext, StopsInBody, StopsReading};
+ghost use Rattle.ctl_session.specs.State.{cache_state};
 ghost use Rattle.ctl_session.specs.BodyNeed.{KeepsWhatIsNeeded};
 
 use crate::body_need::needs_body;

@@ -3,6 +3,7 @@
 use crate::texts::list_kind_named;
 use crate::words::Words;
 use anyhow::{Context, Result, bail};
+use ctl_relation::Bytes;
 use ctl_stanza::{ListKind, Stanza, lines_take_bytes, read_stanzas};
 use ctl_store::{Edit, ListClass, PinSetting, PinSettings, PinVersion, Selector, boxed};
 use std::alloc::Global;
@@ -20,14 +21,29 @@ fn kind(words: &mut Words<'_>) -> Result<ListKind> {
     list_kind_named(words.word()?).context("a kind that is not known")
 }
 
-// The stanzas of the next word, which is a text of a list of this kind.
-fn stanzas(alloc: Global, words: &mut Words<'_>, kind: ListKind) -> Result<Vec<Box<Stanza>>> {
-    let text = words.bytes()?;
+// The stanzas of a text of a list of this kind.
+fn stanzas_of(alloc: Global, text: &[u8], kind: ListKind) -> Result<Vec<Box<Stanza>>> {
     lines_take_bytes();
-    let read = read_stanzas(alloc, text.as_slice(), 1, kind)
+    let read = read_stanzas(alloc, text, 1, kind)
         .ok()
         .context("a text with a fault")?;
     Ok(boxed(alloc, read)?)
+}
+
+// Those of the text that the next word gives.
+fn stanzas(alloc: Global, words: &mut Words<'_>, kind: ListKind) -> Result<Vec<Box<Stanza>>> {
+    let text = words.bytes()?;
+    stanzas_of(alloc, text.as_slice(), kind)
+}
+
+/// The edit that adds a text as the list `main`.
+pub fn main_list(alloc: Global, text: &[u8], kind: ListKind) -> Result<Edit> {
+    Ok(Edit::AddList {
+        name: Bytes::from_slice(alloc, b"main")?,
+        kind,
+        class: ListClass::Plain,
+        stanzas: stanzas_of(alloc, text, kind)?,
+    })
 }
 
 fn add_list(alloc: Global, words: &mut Words<'_>) -> Result<Edit> {

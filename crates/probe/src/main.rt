@@ -1,5 +1,5 @@
 //! Shows what the lower crates make of the lines of standard input, for comparisons and measurements. Each line is answered
-//! by one line. Its first argument says what the lines are, and so does a line that is such a word alone, for those behind it:
+//! at once by one line. Its first argument says what the lines are, and so does a line that is such a word alone, for those behind it:
 //!
 //! - `relation`: a relation field, which is its name, a tab, and its body in hexadecimal digits; it is answered by its groups in
 //!   their printed form, or by its fault. With a second argument `measure`, how much time the reading of all of them takes
@@ -7,13 +7,21 @@
 //! - `text`: `packages`, `status` or `records`, a tab, and a text in hexadecimal digits; it is answered by its stanzas or
 //!   records with all their parts, or by its fault. With one of these words as second argument the whole of standard input is
 //!   one such text, and how many stanzas or records it has is printed instead.
+//! - `index`: the same edits of a kept cache; each is answered by `ok`, or `refused` and the number of the refusal, and then the
+//!   count of tests. `limits` begins with a new cache; `views` is answered by all that the tables tell, which are made anew
+//!   before that where they are stale; `packages`, with a prefix, by the names of packages that begin so; `steps` by the count of tests and whether the tables are stale; and `dump` as of a store.
+//!   With a second argument `measure` each edit is answered by what came of it, the count of tests and how long it took.
 //! - `store`: an edit, by its name and its parts with tabs between them, in which bytes stand as hexadecimal digits; it is
 //!   answered by `ok`, the keys that went and came and the text of the first stanza that came, or by `foretold` and the number
 //!   of the refusal that is foretold, and `refused` and the number of that which comes. `limits`, with how many stanzas and
 //!   edits, begins with a new store, and `dump`, with the names of packages, is answered by all that the store holds and the
 //!   marks of these packages.
+//!
+//! With `packages` or `status` as second argument of `store` or `index` the whole of standard input is one such list, which is
+//! added, and how many stanzas there are is printed.
 #![tactic(auto)]
 
+mod caches;
 mod edits;
 mod hexadecimal;
 mod measure;
@@ -25,13 +33,17 @@ mod texts;
 mod words;
 
 use anyhow::{Context, Result};
+use caches::append_followed;
+use ctl_index::Cache;
+use ctl_stanza::ListKind;
 use ctl_store::Store;
+use edits::main_list;
 use relations::{Field, append_field, field_of};
 use std::alloc::Global;
-use std::io::{BufRead, BufReader, BufWriter, Read, Write};
+use std::io::{BufRead, BufReader, Read, Write};
 use std::{env, io};
 use stores::append_change;
-use texts::{TextKind, append_count, append_text, text_kind_named};
+use texts::{TextKind, append_count, append_text, list_kind_named, text_kind_named};
 
 /// What a line is.
 #[derive(Clone, Copy)]
@@ -39,6 +51,7 @@ enum Subject {
     Relation,
     Text,
     Store,
+    Index,
 }
 
 fn subject_named(word: &str) -> Option<Subject> {
@@ -46,8 +59,20 @@ fn subject_named(word: &str) -> Option<Subject> {
         "relation" => Some(Subject::Relation),
         "text" => Some(Subject::Text),
         "store" => Some(Subject::Store),
+        "index" => Some(Subject::Index),
         _ => None,
     }
+}
+
+fn kind_named(word: &str) -> Result<ListKind> {
+    list_kind_named(word).context("a kind that is not known")
+}
+
+/// What edits are made of.
+#[derive(Drop)]
+struct Kept {
+    store: Store,
+    cache: Cache,
 }
 
 /// What the arguments ask for.
@@ -58,6 +83,12 @@ enum Asked {
     Costs,
     /// What one text of this kind has.
     Count(TextKind),
+    /// What a store holds of one list of this kind.
+    Held(ListKind),
+    /// What a cache follows of one list of this kind.
+    Followed(ListKind),
+    /// How long edits of a cache take.
+    Times,
 }
 
 fn read_arguments(rt: &HostRuntime) -> Result<Asked> {
@@ -72,6 +103,9 @@ fn read_arguments(rt: &HostRuntime) -> Result<Asked> {
             let kind = text_kind_named(word.as_str()).context("a kind that is not known")?;
             Ok(Asked::Count(kind))
         }
+        (Subject::Store, Some(word)) => Ok(Asked::Held(kind_named(word.as_str())?)),
+        (Subject::Index, Some(word)) if word.as_str() == "measure" => Ok(Asked::Times),
+        (Subject::Index, Some(word)) => Ok(Asked::Followed(kind_named(word.as_str())?)),
         (subject, _) => Ok(Asked::Answers(subject)),
     }
 }
@@ -79,7 +113,7 @@ fn read_arguments(rt: &HostRuntime) -> Result<Asked> {
 // The answer to a line.
 fn append_answer(
     alloc: Global,
-    store: &mut Store,
+    kept: &mut Kept,
     subject: Subject,
     line: &str,
     answer: &mut Vec<u8>,
@@ -87,29 +121,28 @@ fn append_answer(
     match subject {
         Subject::Relation => append_field(alloc, line, answer)?,
         Subject::Text => append_text(alloc, line, answer)?,
-        Subject::Store => append_change(alloc, store, line, answer)?,
+        Subject::Store => append_change(alloc, &mut kept.store, line, answer)?,
+        Subject::Index => append_followed(alloc, &mut kept.cache, line, answer)?,
     }
     answer.push(b'\n')?;
     Ok(())
 }
 
-fn answer_lines(rt: &HostRuntime, store: &mut Store, first: Subject) -> Result<()> {
+fn answer_lines(rt: &HostRuntime, kept: &mut Kept, first: Subject) -> Result<()> {
     let alloc = rt.alloc();
     let mut subject = first;
-    let mut answer = Vec::new(alloc);
-    let mut out = BufWriter::new(alloc, io::writer(rt))?;
+    let mut out = io::writer(rt);
     for line in BufReader::new(alloc, rt.reader())?.lines(alloc) {
         let line = line?;
         match subject_named(line.as_str()) {
             Some(named) => subject = named,
             None => {
-                answer.clear();
-                append_answer(alloc, store, subject, line.as_str(), &mut answer)?;
+                let mut answer = Vec::new(alloc);
+                append_answer(alloc, kept, subject, line.as_str(), &mut answer)?;
                 out.write_all(&answer)?;
             }
         }
     }
-    out.flush()?;
     Ok(())
 }
 
@@ -123,11 +156,17 @@ fn read_fields(rt: &HostRuntime) -> Result<Vec<Field>> {
     Ok(fields)
 }
 
-fn count_parts(rt: &HostRuntime, kind: TextKind) -> Result<()> {
-    let alloc = rt.alloc();
-    let mut text = Vec::new(alloc);
+// The whole of standard input.
+fn read_all(rt: &HostRuntime) -> Result<Vec<u8>> {
+    let mut text = Vec::new(rt.alloc());
     rt.reader().read_to_end(&mut text)?;
     text.shrink_to_fit();
+    Ok(text)
+}
+
+fn count_parts(rt: &HostRuntime, kind: TextKind) -> Result<()> {
+    let alloc = rt.alloc();
+    let text = read_all(rt)?;
     let mut answer = Vec::new(alloc);
     append_count(alloc, kind, &text, &mut answer)?;
     answer.push(b'\n')?;
@@ -135,10 +174,44 @@ fn count_parts(rt: &HostRuntime, kind: TextKind) -> Result<()> {
     Ok(())
 }
 
+// The same with a new store and a new cache.
+fn answer_anew(rt: &HostRuntime, first: Subject) -> Result<()> {
+    let mut kept = Kept {
+        store: Store::new(rt.alloc()),
+        cache: Cache::new(rt.alloc()),
+    };
+    answer_lines(rt, &mut kept, first)
+}
+
+fn hold_list(rt: &HostRuntime, kind: ListKind) -> Result<()> {
+    let alloc = rt.alloc();
+    let text = read_all(rt)?;
+    let mut store = Store::new(alloc);
+    stores::make(&mut store, main_list(alloc, &text, kind)?)?;
+    println!(rt; "stanzas {}", store.counts().stanzas)?;
+    Ok(())
+}
+
+fn follow_list(rt: &HostRuntime, kind: ListKind) -> Result<()> {
+    let alloc = rt.alloc();
+    let text = read_all(rt)?;
+    let mut cache = Cache::new(alloc);
+    caches::make(&mut cache, main_list(alloc, &text, kind)?)?;
+    println!(rt;
+        "stanzas {} tests {}",
+        cache.store().counts().stanzas,
+        cache.steps()
+    )?;
+    Ok(())
+}
+
 fn main(rt: HostRuntime) -> Result<()> {
     match read_arguments(&rt)? {
-        Asked::Answers(subject) => answer_lines(&rt, &mut Store::new(rt.alloc()), subject),
+        Asked::Answers(subject) => answer_anew(&rt, subject),
         Asked::Costs => measure::measure(&rt, &read_fields(&rt)?),
         Asked::Count(kind) => count_parts(&rt, kind),
+        Asked::Held(kind) => hold_list(&rt, kind),
+        Asked::Followed(kind) => follow_list(&rt, kind),
+        Asked::Times => measure::measure_edits(&rt),
     }
 }

@@ -1,10 +1,15 @@
-//! How much time and memory the reading of fields takes.
+//! How much time and memory the reading of fields takes, and how much time edits of a cache take.
 
+use crate::caches::apply;
+use crate::edits::edit_named;
 use crate::relations::Field;
+use crate::words::Words;
 use anyhow::{Context, Result};
+use ctl_index::Cache;
 use ctl_relation::{Relations, parse_relations};
 use std::alloc::{AllocError, Global};
 use std::fs;
+use std::io::{BufRead, BufReader};
 use std::rt::{Clock, Files};
 use std::time::Instant;
 
@@ -41,6 +46,34 @@ fn atom_count(relations: &[Relations<'_>]) -> u64 {
         }
     }
     count
+}
+
+// Makes the edit of a line, and prints what comes of it, the count of tests and the nanoseconds that it took.
+fn measure_edit(rt: &HostRuntime, cache: &mut Cache, line: &str) -> Result<()> {
+    let mut words = Words::new(rt.alloc(), line);
+    let word = words.word()?;
+    let edit = edit_named(rt.alloc(), word, &mut words)?;
+    let start = Instant::now(rt)?;
+    let refused = apply(cache, edit).is_err();
+    let nanoseconds = start.elapsed(rt)?.as_nanos();
+    let outcome = if refused { "refused" } else { "ok" };
+    let tests = cache.steps();
+    println!(rt; "{word} {outcome} tests {tests} nanoseconds {nanoseconds}")?;
+    Ok(())
+}
+
+fn measure_lines(rt: &HostRuntime, cache: &mut Cache) -> Result<()> {
+    let alloc = rt.alloc();
+    for line in BufReader::new(alloc, rt.reader())?.lines(alloc) {
+        measure_edit(rt, cache, line?.as_str())?;
+    }
+    Ok(())
+}
+
+/// Makes the edits of standard input in a new cache, and prints a line for each.
+pub fn measure_edits(rt: &HostRuntime) -> Result<()> {
+    let mut cache = Cache::new(rt.alloc());
+    measure_lines(rt, &mut cache)
 }
 
 /// Prints how many of the fields are read and their atoms, and how many bytes and nanoseconds they took.

@@ -32,7 +32,8 @@ fn append_groups(
     Ok(())
 }
 
-fn append_version(
+/// A version behind `@`, or `-` where there is none.
+pub fn append_version(
     alloc: Global,
     version: Option<&Version>,
     line: &mut Vec<u8>,

@@ -6,8 +6,8 @@ use crate::edits::edit_named;
 use crate::hexadecimal::append_word;
 use crate::state::{append_key, append_state};
 use crate::words::Words;
-use anyhow::Result;
-use ctl_store::{Edit, Limits, Plan, Refusal, Store};
+use anyhow::{Result, bail};
+use ctl_store::{Edit, Plan, Refusal, Store};
 use std::alloc::{AllocError, Global};
 
 // The text of the first stanza that comes.
@@ -82,11 +82,15 @@ fn append_foretold(
     }
 }
 
-fn limits(words: &mut Words<'_>) -> Result<Limits> {
-    Ok(Limits {
-        stanzas: words.number()?,
-        edits: words.number()?,
-    })
+/// Makes an edit that the store accepts.
+pub fn make(store: &mut Store, edit: Edit) -> Result<()> {
+    match store.prepare(edit) {
+        Ok(plan) => {
+            store.commit(plan);
+            Ok(())
+        }
+        Err(_) => bail!("an edit that is refused"),
+    }
 }
 
 /// Changes the store by a line, or shows what it holds.
@@ -99,7 +103,7 @@ pub fn append_change(
     let mut words = Words::new(alloc, text);
     match words.word()? {
         "limits" => {
-            *store = Store::with_limits(alloc, limits(&mut words)?);
+            *store = Store::with_limits(alloc, words.limits()?);
             line.extend_from_slice(b"new")?;
         }
         "dump" => append_state(alloc, store, &mut words, line)?,

@@ -2,6 +2,7 @@
 
 use anyhow::{Context, Result};
 use ctl_relation::{Bytes, Version};
+use ctl_store::Limits;
 use std::alloc::Global;
 
 /// The words of a line that are left, with tabs between them.
@@ -70,6 +71,13 @@ impl<'a> Words<'a> {
 
     pub fn number(&mut self) -> Result<u32> {
         Ok(self.word()?.parse::<u32>()?)
+    }
+
+    pub fn limits(&mut self) -> Result<Limits> {
+        Ok(Limits {
+            stanzas: self.number()?,
+            edits: self.number()?,
+        })
     }
 
     pub fn priority(&mut self) -> Result<i16> {

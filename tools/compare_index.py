@@ -1,0 +1,226 @@
+#!/usr/bin/env python3
+"""Compares what a kept cache tells after edits with a reference program.
+
+    tools/compare_index.py FOLDER [SEQUENCES]
+
+FOLDER holds the reference program `oracle.py`, which says what an edit makes of a state, how many tests of an offer against an
+atom it takes (`pairs`), and which names are known, offers stand and atoms are met in a state. The edits are generated:
+sequences of them over few names, which depend on each other in all fields, with small limits at times. After each edit the
+names, the offers and the namers of each name, the numbers of all clauses, those at 0, the names of packages with some prefix and the
+count of tests are compared.
+Each twentieth sequence puts and removes stanzas of one list beside one that stays, of which the first grows to hundreds and
+shrinks; there the count of tests is compared after each edit, and the rest now and then. `rt run` in crates/probe builds the
+program that is compared.
+"""
+
+import random
+import sys
+
+from answers import compare, tell
+from edit_sequences import GROWTH, LISTS, PACKAGES, STATES, VERSIONS, Keys, generate_change, generate_edit, probe, read
+
+SEQUENCES = 1000
+SEED = 20261123
+
+# How many names a long sequence has, and how many edits there are between two looks at the tables.
+LONG_NAMES = 120
+LONG_EDITS = 40
+
+VIRTUAL = [b"v", b"mta", b"x+y", b"zz"]
+NAMES = PACKAGES + VIRTUAL
+OPERATORS = ["<<", "<=", "=", ">=", ">>"]
+FIELDS = {"Pre-Depends": 0.2, "Depends": 0.7, "Conflicts": 0.2, "Breaks": 0.1, "Recommends": 0.3, "Suggests": 0.2, "Replaces": 0.1, "Enhances": 0.15}
+NO_ALTERNATIVES = ("Conflicts", "Breaks", "Replaces")
+PRINTED = {name.lower().encode(): name.replace("-", "") for name in FIELDS}
+
+
+def generate_atom(source, names):
+    """An atom, at times with a qualifier and a bound."""
+    atom = source.choice(names).decode() + source.choice(["", "", "", ":any"])
+    if source.random() < 0.45:
+        atom += f" ({source.choice(OPERATORS)} {source.choice(VERSIONS).decode()})"
+    return atom
+
+
+def generate_relations(source, names):
+    """The lines of relation fields."""
+    lines = []
+    for field, chance in FIELDS.items():
+        if source.random() < chance:
+            most = 1 if field in NO_ALTERNATIVES else 3
+            groups = [" | ".join(generate_atom(source, names) for _ in range(source.randint(1, most))) for _ in range(source.randint(1, 3))]
+            lines.append(f"{field}: " + ", ".join(groups))
+    if source.random() < 0.6:
+        entries = [source.choice(names).decode() + source.choice(["", "", f" (= {source.choice(VERSIONS).decode()})"]) for _ in range(source.randint(1, 3))]
+        lines.append("Provides: " + ", ".join(entries))
+    return lines
+
+
+def related_stanza(source, kind):
+    """A stanza of a list of this kind. One of a status list that is not live may have no version."""
+    state = source.choice(STATES)
+    lines = ["Package: " + source.choice(PACKAGES).decode()]
+    if kind == "packages" or state not in STATES[3:] or source.random() < 0.5:
+        lines.append("Version: " + source.choice(VERSIONS).decode())
+    if kind == "status":
+        lines.append("Status: install ok " + state)
+    return "\n".join(lines + generate_relations(source, NAMES)) + "\n"
+
+
+def named_related_stanza(source, names):
+    """A stanza of one of these names, of one of two versions, that names some others."""
+    few = [name.encode() for name in source.sample(names, 3)] + VIRTUAL[:1]
+    lines = [f"Package: {source.choice(names)}", f"Version: {source.choice(['1', '2'])}"]
+    return "\n".join(lines + generate_relations(source, few)) + "\n"
+
+
+def keyed_stanzas(state, keys):
+    """The live stanzas under their keys, in order."""
+    for entry in state.lists:
+        for key, stanza in zip(keys.of(entry.name), entry.stanzas, strict=True):
+            if stanza.live:
+                yield key, stanza
+
+
+def offer_words(key, stanza):
+    for offer in stanza.offers:
+        version = "-" if offer.version is None else "@" + offer.version.text.hex()
+        yield f"offer={offer.name.hex()}:{key}{version}"
+
+
+def namer_words(oracle, key, stanza):
+    for field in oracle.EIGHT:
+        for at, group in enumerate(stanza.groups(field)):
+            for place, atom in enumerate(group):
+                yield f"namer={atom.name.hex()}:{key}.{PRINTED[field.lower()]}.{at}.{place}"
+
+
+def tables_words(oracle, state, keys):
+    """The tables of a state as the probe prints them, with offers and namers in the order of their words."""
+    view = oracle.View(state)
+    offers, namers, counters, unmet = [], [], [], []
+    for key, stanza in keyed_stanzas(state, keys):
+        offers += offer_words(key, stanza)
+        namers += namer_words(oracle, key, stanza)
+        for field, at, group in oracle.clauses_of_stanza(stanza):
+            clause = f"{key}.{PRINTED[field.lower()]}.{at}"
+            number = sum(oracle.met_by(atom, offer) for atom in group for _, offer in view.offers(atom.name))
+            counters.append(f"counter={clause}:{number}")
+            if number == 0:
+                unmet.append(f"unmet={clause}")
+    names = [f"name={name.hex()}" for name in view.known_names()]
+    return " ".join(["views", *names, *sorted(offers), *sorted(namers), *counters, *unmet])
+
+
+def in_order(answer):
+    """An answer of the probe, with offers and namers, which come in any order, in the order of their words."""
+    if not answer.startswith("views"):
+        return answer
+    words = answer.split(" ")
+    offers = sorted(word for word in words if word.startswith("offer="))
+    namers = sorted(word for word in words if word.startswith("namer="))
+    first = [word for word in words if word == "views" or word.startswith("name=")]
+    last = [word for word in words if word.startswith(("counter=", "unmet="))]
+    return " ".join(first + offers + namers + last)
+
+
+class Followed:
+    """A state that edits change, with its keys and the count of tests."""
+
+    def __init__(self, oracle, limits):
+        self.oracle = oracle
+        self.limits = limits
+        self.state = oracle.State()
+        self.keys = Keys()
+        self.pairs = 0
+        self.tests = 0
+
+    def outcome(self, edit):
+        """Makes an edit, and gives the answer to it."""
+        try:
+            after = self.oracle.step(self.state, self.limits, edit)
+        except self.oracle.Refused as refused:
+            return f"refused {refused.number} {self.tests}"
+        mid = self.oracle.pairs(self.oracle.without_removed(self.state, edit))
+        pairs = self.oracle.pairs(after)
+        self.tests += self.pairs - mid + pairs - mid
+        self.pairs = pairs
+        self.keys.after(self.oracle, edit, self.state)
+        self.state = after
+        return f"ok {self.tests}"
+
+    def looks(self, source):
+        """What is asked behind an edit, each with its answer."""
+        prefix = source.choice([b"", b"", b"a", b"ab", b"p1", b"v"])
+        packages = [name for name in self.oracle.View(self.state).packages() if name.startswith(prefix)]
+        return [
+            ("views", tables_words(self.oracle, self.state, self.keys)),
+            (f"packages\t{prefix.hex()}", " ".join(["packages"] + [name.hex() for name in packages])),
+        ]
+
+
+def generate_sequence(source, oracle):
+    """The lines of a sequence, each with what is to be printed for it."""
+    small = source.random() < 0.3
+    stanzas = source.randrange(12) if small else 4_294_967_295
+    edits = source.choice([source.randrange(30), 4_294_967_295]) if small else 4_294_967_295
+    followed = Followed(oracle, oracle.Limits(stanzas, edits))
+    told = [(f"limits\t{stanzas}\t{edits}", "new"), *followed.looks(source)]
+    for _ in range(source.randrange(5, 50)):
+        edit, words = generate_edit(source, oracle, followed.state, related_stanza)
+        told.append(("\t".join(words), followed.outcome(edit)))
+        told += followed.looks(source)
+    return told
+
+
+def added(oracle, name, text):
+    """The edit that adds a list, and its words."""
+    return ("add-list", name, oracle.PACKAGES, "plain", read(oracle, text, "packages")), ["add-list", name.hex(), "packages", "plain", text.encode().hex()]
+
+
+def generate_long_sequence(source, oracle):
+    """The lines of many edits of one list, which grows, shrinks to a few stanzas and grows again beside another."""
+    followed = Followed(oracle, oracle.Limits())
+    names = [f"p{number}" for number in range(LONG_NAMES)]
+    texts = ["\n".join(named_related_stanza(source, names) for _ in range(size)) for size in (source.choice([0, 1, 64, 65, 150]), 40)]
+    told = [("limits\t4294967295\t4294967295", "new")]
+    edits = [added(oracle, name, text) for name, text in zip(LISTS, texts)]
+    for growth in GROWTH:
+        for _ in range(LONG_EDITS):
+            edit, words = edits.pop(0) if edits else generate_change(source, oracle, followed.state, names, growth, named_related_stanza)
+            told.append(("\t".join(words), followed.outcome(edit)))
+        told += followed.looks(source)
+    for entry in followed.state.lists:
+        told.append((f"drop-list\t{entry.name.hex()}", followed.outcome(("drop-list", entry.name))))
+        told += followed.looks(source)
+    return told
+
+
+def outcome_of(line, wanted):
+    """The name of an edit, with the number of its refusal or `ok`."""
+    word = line.split("\t")[0]
+    if word in ("limits", "views", "packages"):
+        return None
+    return word, wanted.split(" ")[1] if wanted.startswith("refused") else "ok"
+
+
+def main():
+    if len(sys.argv) not in (2, 3):
+        raise SystemExit(__doc__)
+    sys.path.insert(0, sys.argv[1])
+    import oracle
+
+    source = random.Random(SEED)
+    count = int(sys.argv[2]) if len(sys.argv) == 3 else SEQUENCES
+    told = []
+    for number in range(count):
+        generate = generate_long_sequence if number % 20 == 19 else generate_sequence
+        told += generate(source, oracle)
+    answers = [in_order(answer) for answer in probe("index", (line for line, _ in told))]
+    outcomes, wrong = compare(told, answers, outcome_of)
+    looks = sum(line == "views" for line, _ in told)
+    tell(outcomes, f"{count} sequences, {sum(outcomes.values())} edits, {looks} looks at the tables, {wrong} answers are others", wrong)
+
+
+if __name__ == "__main__":
+    main()
