@@ -7,7 +7,7 @@ As a part ends, a line says how long it took. A part that fails stops the gate, 
 --keep-going is given. The last line is 'N passed, M failed', the sum over all parts that ran; the status is 1 where anything failed.
 
 The proofs are a chain from crate to crate, which keeps some two processors busy. So with four or more the edits are tried
-beside them, each on half of the processors, and what the edits print comes behind what the proofs do."""
+beside them, with what the proofs leave of the processors, and what the edits print comes behind what the proofs do."""
 
 import concurrent.futures
 import dataclasses
@@ -49,13 +49,13 @@ def minutes(seconds):
     return f"{seconds / 60:.1f} min"
 
 
-def run(name, show, settings=()):
-    """Runs a part and hands on its output line by line. One that gives no count, or fails and counts no failure, counts as one
-    failed."""
+def run(name, show, settings=(), before=()):
+    """Runs a part, by a command that stands before make if one is given, and hands on its output line by line. One that gives no
+    count, or fails and counts no failure, counts as one failed."""
     began, counted = time.time(), (0, 1)
     how = {"stdout": subprocess.PIPE, "stderr": subprocess.STDOUT, "text": True, "errors": "replace"}
     how["env"] = {**os.environ, "PYTHONUNBUFFERED": "1"}
-    part = subprocess.Popen(["make", "--no-print-directory", name, *settings], **how)
+    part = subprocess.Popen([*before, "make", "--no-print-directory", name, *settings], **how)
     for line in part.stdout:
         show(line.rstrip("\n"))
         found = COUNT.fullmatch(line.rstrip("\n"))
@@ -81,12 +81,12 @@ def run_stage(parts):
             yield run(name, tell)
         return
     (first, what), others = parts[0], parts[1:]
-    settings = [f"JOBS={processors // len(parts)}", "APART=1"]
+    aside = [f"JOBS={processors // len(parts)}", "APART=1"]
     with concurrent.futures.ThreadPoolExecutor() as pool:
         lines = {name: [] for name, _ in others}
-        beside = [pool.submit(run, name, lines[name].append, settings) for name, _ in others]
+        beside = [pool.submit(run, name, lines[name].append, aside, ["nice"]) for name, _ in others]
         tell(f"== {first}: {what}; beside it {', '.join(name for name, _ in others)}")
-        yield run(first, tell, settings)
+        yield run(first, tell, [f"JOBS={processors - 1}"])
         for (name, what), part in zip(others, beside):
             outcome = part.result()
             tell("\n".join([f"== {name}: {what}", *lines[name]]))
