@@ -2,7 +2,6 @@
 
 ghost use Rattle.std.specs.Prelude.{◌≡◌, ◌+◌, ◌≤◌, ◌<◌, ◌^◌, ℕ, List, OnOk, IfOk, Some, length, if◌then◌else◌};
 ghost use Rattle.std.specs.BTreeMap.{get};
-ghost use Rattle.std.specs.List.{All};
 ghost use Rattle.ctl_relation.specs.Bounds.{atom_count};
 ghost use Rattle.ctl_index.specs.Clauses.{clause_cmp};
 ghost use Rattle.ctl_index.specs.Names.{naming_fields};
@@ -19,7 +18,7 @@ use crate::keys::{AtomKey, ClauseKey, OfferKey};
 use crate::name_table::NameTable;
 use crate::sight::{Sight, stanza_at};
 use crate::tables::Tables;
-use ctl_relation::{Atom, FieldKind, Group, Offer, Steps};
+use ctl_relation::{FieldKind, Group, Groups, Offer, Steps};
 use ctl_stanza::Stanza;
 use ctl_store::StanzaKey;
 use std::alloc::{AllocError, Global};
@@ -101,27 +100,29 @@ fn put_group(
     alloc: Global,
     sight: &Sight<'_>,
     clause: ClauseKey,
-    atoms: &[Atom],
+    group: &Group<'_>,
     names: &mut NameTable,
     steps: &mut Steps,
 ) -> Result<u128, AllocError>
-    requires { length atoms.now < 2 ^ 32 }
-    ensures namers { OnOk result ((q : List ℕ) → namers_under names.new.map q ≡ listed_group clause.stanza clause.field clause.group q 0 atoms.now (namers_under names.old.map q)) }
+    requires { length group.now < 2 ^ 32 }
+    ensures namers { OnOk result ((q : List ℕ) → namers_under names.new.map q ≡ listed_group clause.stanza clause.field clause.group q 0 group.now (namers_under names.old.map q)) }
     ensures offers { OnOk result (offers_under names.new.map ≡ offers_under names.old.map) }
-    ensures met { IfOk result (λ met. met ≡ group_met sight.now clause.field (offers_under names.old.map) atoms.now) }
-    ensures steps { OnOk result (steps.new ≡ more_by (group_tested sight.now clause.field (offers_under names.old.map) atoms.now) steps.old) }
-    ensures most { steps.new ≤ more_by (group_tested sight.now clause.field (offers_under names.old.map) atoms.now) steps.old }
+    ensures met { IfOk result (λ met. met ≡ group_met sight.now clause.field (offers_under names.old.map) group.now) }
+    ensures steps { OnOk result (steps.new ≡ more_by (group_tested sight.now clause.field (offers_under names.old.map) group.now) steps.old) }
+    ensures most { steps.new ≤ more_by (group_tested sight.now clause.field (offers_under names.old.map) group.now) steps.old }
 {
     let _count = steps.count();
     let mut met: u128 = 0;
-    for i in 0..atoms.len() {
+    let mut place = 0;
+    for atom in group.atoms() {
         let key = AtomKey {
             stanza: clause.stanza,
             field: clause.field,
             group: clause.group,
-            atom: i as u32,
+            atom: place,
         };
-        met += names.put_atom(alloc, sight, key, &atoms[i], steps)? as u128;
+        met += names.put_atom(alloc, sight, key, &atom, steps)? as u128;
+        place += 1;
     }
     Ok(met)
 }
@@ -142,28 +143,29 @@ fn put_groups(
     sight: &Sight<'_>,
     key: StanzaKey,
     field: FieldKind,
-    groups: &[Group],
+    groups: Groups<'_>,
     tables: &mut Tables,
     steps: &mut Steps,
 ) -> Result<(), AllocError>
-    requires some { All (λ group. 0 < length group) groups.now }
-    requires few { atom_count groups.now < 2 ^ 32 }
-    ensures namers { OnOk result ((q : List ℕ) → namers_under tables.new.names.map q ≡ listed_groups key field q 0 groups.now (namers_under tables.old.names.map q)) }
+    requires count { length groups < 2 ^ 32 }
+    requires few { atom_count groups < 2 ^ 32 }
+    ensures namers { OnOk result ((q : List ℕ) → namers_under tables.new.names.map q ≡ listed_groups key field q 0 groups.entry (namers_under tables.old.names.map q)) }
     ensures offers { OnOk result (offers_under tables.new.names.map ≡ offers_under tables.old.names.map) }
-    ensures counts { OnOk result ((k : ClauseKey) → get clause_cmp tables.new.counters.numbers k ≡ entered_groups sight.now (offers_under tables.old.names.map) key field 0 groups.now k (get clause_cmp tables.old.counters.numbers k)) }
-    ensures steps { OnOk result (steps.new ≡ more_by (groups_tested sight.now field (offers_under tables.old.names.map) groups.now) steps.old) }
-    ensures most { steps.new ≤ more_by (groups_tested sight.now field (offers_under tables.old.names.map) groups.now) steps.old }
+    ensures counts { OnOk result ((k : ClauseKey) → get clause_cmp tables.new.counters.numbers k ≡ entered_groups sight.now (offers_under tables.old.names.map) key field 0 groups.entry k (get clause_cmp tables.old.counters.numbers k)) }
+    ensures steps { OnOk result (steps.new ≡ more_by (groups_tested sight.now field (offers_under tables.old.names.map) groups.entry) steps.old) }
+    ensures most { steps.new ≤ more_by (groups_tested sight.now field (offers_under tables.old.names.map) groups.entry) steps.old }
 {
     let _count = steps.count();
-    for i in 0..groups.len() {
+    let mut place = 0;
+    for group in groups {
         let clause = ClauseKey {
             stanza: key,
             field,
-            group: i as u32,
+            group: place,
         };
-        let atoms = groups[i].atoms();
-        let met = put_group(alloc, sight, clause, atoms, &mut tables.names, steps)?;
+        let met = put_group(alloc, sight, clause, &group, &mut tables.names, steps)?;
         enter(&mut tables.counters, clause, met)?;
+        place += 1;
     }
     Ok(())
 }

@@ -2,8 +2,6 @@
 
 ghost use Rattle.std.specs.Prelude.{◌≡◌, ◌-◌, ◌≤◌, ◌<◌, ◌^◌, ℕ, List, OnOk, None, length, if◌then◌else◌};
 ghost use Rattle.std.specs.BTreeMap.{get};
-ghost use Rattle.std.specs.List.{All};
-ghost use Rattle.ctl_relation.specs.Bounds.{atom_count};
 ghost use Rattle.ctl_index.specs.Clauses.{clause_cmp};
 ghost use Rattle.ctl_index.specs.Names.{naming_fields};
 ghost use Rattle.ctl_index.specs.TablesByName.{offers_under, namers_under};
@@ -20,7 +18,7 @@ use crate::name_table::NameTable;
 use crate::sight::{Sight, stanza_at};
 use crate::span::Span;
 use crate::tables::Tables;
-use ctl_relation::{Atom, FieldKind, Group, Offer, Steps};
+use ctl_relation::{FieldKind, Group, Groups, Offer, Steps};
 use ctl_stanza::Stanza;
 use ctl_store::StanzaKey;
 use std::alloc::AllocError;
@@ -30,17 +28,17 @@ fn take_group(
     sight: &Sight<'_>,
     span: Span,
     field: FieldKind,
-    atoms: &[Atom],
+    group: &Group<'_>,
     names: &mut NameTable,
     steps: &mut Steps,
 )
-    ensures namers { (q : List ℕ) → namers_under names.new.map q ≡ left_group span q atoms.now (namers_under names.old.map q) }
+    ensures namers { (q : List ℕ) → namers_under names.new.map q ≡ left_group span q group.now (namers_under names.old.map q) }
     ensures offers { offers_under names.new.map ≡ offers_under names.old.map }
-    ensures steps { steps.new ≡ more_by (group_tested sight.now field (offers_under names.old.map) atoms.now) steps.old }
+    ensures steps { steps.new ≡ more_by (group_tested sight.now field (offers_under names.old.map) group.now) steps.old }
 {
     let _count = steps.count();
-    for atom in atoms {
-        names.take_atom(sight, span, field, atom, steps);
+    for atom in group.atoms() {
+        names.take_atom(sight, span, field, &atom, steps);
     }
 }
 
@@ -58,33 +56,27 @@ fn take_groups(
     span: Span,
     key: StanzaKey,
     field: FieldKind,
-    groups: &[Group],
+    groups: Groups<'_>,
     tables: &mut Tables,
     steps: &mut Steps,
 )
-    requires some { All (λ group. 0 < length group) groups.now }
-    requires few { atom_count groups.now < 2 ^ 32 }
-    ensures namers { (q : List ℕ) → namers_under tables.new.names.map q ≡ left_groups span q groups.now (namers_under tables.old.names.map q) }
+    requires { length groups < 2 ^ 32 }
+    ensures namers { (q : List ℕ) → namers_under tables.new.names.map q ≡ left_groups span q groups.entry (namers_under tables.old.names.map q) }
     ensures offers { offers_under tables.new.names.map ≡ offers_under tables.old.names.map }
-    ensures counts { (k : ClauseKey) → get clause_cmp tables.new.counters.numbers k ≡ dropped_groups key field 0 groups.now k (get clause_cmp tables.old.counters.numbers k) }
-    ensures steps { steps.new ≡ more_by (groups_tested sight.now field (offers_under tables.old.names.map) groups.now) steps.old }
+    ensures counts { (k : ClauseKey) → get clause_cmp tables.new.counters.numbers k ≡ dropped_groups key field 0 groups.entry k (get clause_cmp tables.old.counters.numbers k) }
+    ensures steps { steps.new ≡ more_by (groups_tested sight.now field (offers_under tables.old.names.map) groups.entry) steps.old }
 {
     let _count = steps.count();
-    for i in 0..groups.len() {
+    let mut place = 0;
+    for group in groups {
         let clause = ClauseKey {
             stanza: key,
             field,
-            group: i as u32,
+            group: place,
         };
-        take_group(
-            sight,
-            span,
-            field,
-            groups[i].atoms(),
-            &mut tables.names,
-            steps,
-        );
+        take_group(sight, span, field, &group, &mut tables.names, steps);
         drop_counter(&mut tables.counters, clause);
+        place += 1;
     }
 }
 

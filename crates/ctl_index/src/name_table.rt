@@ -129,7 +129,7 @@ impl NameTable {
         alloc: Global,
         sight: &Sight<'_>,
         key: AtomKey,
-        atom: &Atom,
+        atom: &Atom<'_>,
         steps: &mut Steps,
     ) -> Result<usize, AllocError>
         ensures namers { OnOk result ((q : List ℕ) → namers_under self.new.map q ≡ (if bytes_eq atom.now.name q then put_in_order atom_stanza key (namers_under self.old.map q) else namers_under self.old.map q)) }
@@ -163,7 +163,7 @@ impl NameTable {
         sight: &Sight<'_>,
         span: Span,
         field: FieldKind,
-        atom: &Atom,
+        atom: &Atom<'_>,
         steps: &mut Steps,
     )
         ensures namers { (q : List ℕ) → namers_under self.new.map q ≡ (if bytes_eq atom.now.name q then others atom_stanza span (namers_under self.old.map q) else namers_under self.old.map q) }
