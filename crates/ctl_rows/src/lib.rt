@@ -46,6 +46,10 @@ mod pin_settings;
 #[cfg(test)]
 mod pins;
 #[cfg(test)]
+mod policies;
+#[cfg(test)]
+mod policy;
+#[cfg(test)]
 mod preferences;
 #[cfg(test)]
 mod program;

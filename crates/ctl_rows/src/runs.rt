@@ -4,6 +4,7 @@
 
 ghost use Rattle.std.specs.Prelude.{None};
 
+use crate::policy::append_policy;
 use crate::run_script;
 use crate::shown::state;
 use ctl_index::Cache;
@@ -31,6 +32,8 @@ pub enum Act<'a> {
     Load(&'a [u8], &'a [u8]),
     /// Shows what the store holds.
     Held,
+    /// Shows the policy of a package.
+    Policy(&'a [u8]),
 }
 
 /// A reader that gives these bytes, and then fails, or gives them again and again.
@@ -213,6 +216,7 @@ fn append_act(
         Act::Until(script, before) => append_until(alloc, session, script, *before, all),
         Act::Load(name, text) => append_load(alloc, session, name, text, all),
         Act::Held => append_held(alloc, session, all),
+        Act::Policy(name) => append_policy(alloc, session.cache().store(), name, all),
     }
 }
 

@@ -1,0 +1,17 @@
+pub mod KeyLemmas
+pub mod SetLemmas
+pub mod RowLemmas
+pub mod FormLemmas
+pub mod AlikeLemmas
+pub mod ShownLemmas
+pub mod ChosenLemmas
+pub mod ByNameLemmas
+pub mod DefinedLemmas
+pub mod KeptLemmas
+pub mod HeldLemmas
+pub mod OwnLemmas
+pub mod StatusLemmas
+pub mod ChoiceLemmas
+pub mod RestLemmas
+pub mod TouchLemmas
+pub mod ReadLemmas

@@ -1,0 +1,7 @@
+use Rattle.std.proofs.Common.{◌≡◌, None}
+use Rattle.ctl_store.specs.Held.{keyed_of}
+use Rattle.ctl_policy.specs.HeldWalk.{AreHeldIn, lowest_status}
+use Rattle.ctl_policy.proofs.status.lowest_status.Given as goal
+
+abbrev pub invariant-rows : goal.invariant-rows
+invariant-rows l = AreHeldIn (keyed_of l.store).lists l.left × (lowest_status (keyed_of l.store).lists l.lowest l.left ≡ lowest_status (keyed_of l.fn.store).lists None l.fn.rows.entries)

@@ -1,0 +1,85 @@
+-- How the rows of one name are held: most names have one row of one stanza, for which there is no map.
+use Rattle.std.specs.Prelude.{◌≡◌, ℕ, List, [], ◌∷◌, map, Option, None, Some, option_map, Vec, if◌then◌else◌}
+use Rattle.std.proofs.Common.{Global}
+use Rattle.std.proofs.Common.{refl}
+use Rattle.std.specs.Coded.{Coded, code_by, coded×, coded_list, coded_ℕ}
+use Rattle.std.specs.Ordering.{is_eq}
+use Rattle.std.specs.BTreeMap.{BTreeMap, get, IsOrdered}
+use Rattle.std.specs.FinMap as fin
+use Rattle.ctl_relation.specs.Version.{Triple, triple_of, version_cmp}
+use Rattle.ctl_store.specs.declared.stanza_key.StanzaKey.{StanzaKey}
+use Rattle.ctl_store.specs.Keys.{AreRising}
+use Rattle.ctl_policy.specs.declared.form.Form.{Form}
+use Rattle.ctl_policy.specs.declared.form.Form.TheVariants.{Empty, One, Many}
+use Rattle.ctl_policy.specs.Keys.{with_key, without_key, or_none, some_keys}
+use Rattle.ctl_policy.specs.Rows.{Rows, Row, lead_of}
+
+-- a map of rows
+abbrev pub Shelf : Type 0
+Shelf = BTreeMap (List ℕ) (Vec StanzaKey Global)
+
+-- the row of a version in a map
+abbrev pub row_at : Shelf → List ℕ → Option (List StanzaKey)
+row_at shelf version = option_map (λ (keys : Vec StanzaKey Global). keys.items) (get version_cmp shelf version)
+
+-- each row is in order
+abbrev pub AreRows : Shelf → Type 0
+AreRows shelf = (version : List ℕ) → AreRising (or_none (row_at shelf version))
+
+-- the row of a version, where one stanza is all
+abbrev pub one_at : List ℕ → StanzaKey → List ℕ → Option (List StanzaKey)
+one_at version key v = if is_eq (version_cmp version v) then Some (key ∷ []) else None
+
+abbrev pub form_at : Form → List ℕ → Option (List StanzaKey)
+form_at Empty v = None
+form_at (One version key) v = one_at version key v
+form_at (Many shelf) v = row_at shelf v
+
+abbrev pub IsFormed : Form → Type 0
+IsFormed form = (v : List ℕ) → AreRising (or_none (form_at form v))
+
+-- a key more under a version, and a key less
+abbrev pub form_with : List ℕ → StanzaKey → (List ℕ → Option (List StanzaKey)) → List ℕ → Option (List StanzaKey)
+form_with version key at v = if is_eq (version_cmp version v) then Some (with_key key (or_none (at version))) else at v
+
+abbrev pub form_without : List ℕ → StanzaKey → (List ℕ → Option (List StanzaKey)) → List ℕ → Option (List StanzaKey)
+form_without version key at v = if is_eq (version_cmp version v) then some_keys (without_key key (or_none (at version))) else at v
+
+-- a code of rows, by which a proof tells them apart
+abbrev key_code : Coded StanzaKey
+key_code = code_by (ℕ × ℕ) (coded× coded_ℕ coded_ℕ) (λ k. (k.list, k.stanza)) (λ p. record { list = p.0; stanza = p.1 }) (λ _. refl)
+
+abbrev pub rows_code : Coded Rows
+rows_code = fin.code (coded_list coded_ℕ) (coded_list key_code)
+
+-- a row of a map with its version
+abbrev pub with_items : List ℕ × Vec StanzaKey Global → List ℕ × List StanzaKey
+with_items e = (e.0, e.1.items)
+
+abbrev pub shown_row : List ℕ × Vec StanzaKey Global → Row
+shown_row e = (triple_of e.0, e.1.items)
+
+-- the rows that are held
+abbrev pub rows_of_form : Form → Rows
+rows_of_form Empty = fin.empty
+rows_of_form (One version key) = fin.insert fin.empty version (key ∷ [])
+rows_of_form (Many shelf) = fin.from_entries (map with_items shelf.entries)
+
+-- the keys of a map rise, as they do in each
+abbrev pub IsOrderedForm : Form → Type 0
+IsOrderedForm Empty = Unit {0}
+IsOrderedForm (One version key) = Unit {0}
+IsOrderedForm (Many shelf) = IsOrdered version_cmp shelf
+
+-- what is held are the rows of a name
+abbrev pub IsFormOf : Form → Rows → Type 0
+IsFormOf form rows = (version : List ℕ) → form_at form version ≡ fin.get rows version
+
+-- the lead of a version, and the version where there is a row of it
+abbrev pub lead_in : Form → Option (List ℕ) → Option StanzaKey
+lead_in form None = None
+lead_in form (Some version) = lead_of (or_none (form_at form version))
+
+abbrev pub version_in_form : Form → Option (List ℕ) → Option Triple
+version_in_form form None = None
+version_in_form form (Some version) = option_map (λ (keys : List StanzaKey). triple_of version) (form_at form version)

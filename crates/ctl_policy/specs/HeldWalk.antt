@@ -1,0 +1,61 @@
+-- How the rows of a name are walked, from the oldest to the newest.
+use Rattle.std.specs.Prelude.{ℕ, ℤ, Bool, false, List, [], ◌∷◌, Option, None, Some, Vec, if◌then◌else◌}
+use Rattle.std.proofs.Common.{Global}
+use Rattle.std.specs.List.{AllByRecursion}
+use Rattle.std.specs.Option.{option_map_or}
+use Rattle.std.specs.Ordering.{is_lt}
+use Rattle.ctl_relation.specs.Version.{Triple, triple_of}
+use Rattle.ctl_stanza.specs.Content.{Content}
+use Rattle.ctl_store.specs.declared.stanza_key.StanzaKey.{StanzaKey}
+use Rattle.ctl_store.specs.Step.{is_status}
+use Rattle.ctl_store.specs.Keys.{AreHeld, stanza_at, key_cmp}
+use Rattle.ctl_policy.specs.Rows.{Lists, Row, lead_of}
+use Rattle.ctl_policy.specs.Candidate.{Choice, better, may_be_taken}
+use Rattle.ctl_policy.specs.declared.form.Form.{Form}
+use Rattle.ctl_policy.specs.declared.form.Form.TheVariants.{Empty, One, Many}
+use Rattle.ctl_policy.specs.HeldRows.{shown_row}
+
+-- each stanza of each row stands in the lists
+abbrev pub AreHeldIn : Lists → List (List ℕ × Vec StanzaKey Global) → Type 0
+AreHeldIn lists es = AllByRecursion (λ (e : List ℕ × Vec StanzaKey Global). AreHeld e.1.items lists) es
+
+abbrev pub IsHeldForm : Lists → Form → Type 0
+IsHeldForm lists Empty = Unit {0}
+IsHeldForm lists (One version key) = AreHeld (key ∷ []) lists
+IsHeldForm lists (Many shelf) = AreHeldIn lists shelf.entries
+
+-- a choice, once a newer row was considered
+abbrev pub considered : ℤ → Triple → Option StanzaKey → Option Triple → Choice → Choice
+considered priority version lead installed choice = if may_be_taken priority version installed then better (priority, lead) choice else choice
+
+-- a choice, once these rows were considered, the oldest first
+abbrev pub carried : (List StanzaKey → ℤ) → Option Triple → Choice → List (List ℕ × Vec StanzaKey Global) → Choice
+carried priority installed choice [] = choice
+carried priority installed choice (e ∷ es) = carried priority installed (considered (priority e.1.items) (shown_row e).0 (lead_of e.1.items) installed choice) es
+
+-- ---- the first stanza of the status list
+
+-- whether a stanza of the status list stands under a key
+abbrev pub is_status_key : Lists → StanzaKey → Bool
+is_status_key lists k = option_map_or (λ (x : Content). is_status x.kind) (stanza_at k lists) false
+
+-- the first such key of a row
+abbrev pub first_status : Lists → List StanzaKey → Option StanzaKey
+first_status lists [] = None
+first_status lists (k ∷ keys) = if is_status_key lists k then Some k else first_status lists keys
+
+-- the lower of two keys
+abbrev pub lower : Option StanzaKey → Option StanzaKey → Option StanzaKey
+lower None other = other
+lower (Some k) None = Some k
+lower (Some k) (Some other) = if is_lt (key_cmp other k) then Some other else Some k
+
+-- the lowest of such keys of rows, and of one key
+abbrev pub lowest_status : Lists → Option StanzaKey → List (List ℕ × Vec StanzaKey Global) → Option StanzaKey
+lowest_status lists found [] = found
+lowest_status lists found (e ∷ es) = lowest_status lists (lower found (first_status lists e.1.items)) es
+
+abbrev pub status_key : Lists → Form → Option StanzaKey
+status_key lists Empty = None
+status_key lists (One version key) = first_status lists (key ∷ [])
+status_key lists (Many shelf) = lowest_status lists None shelf.entries

@@ -1,0 +1,11 @@
+pub mod Keys
+pub mod Rows
+pub mod Priority
+pub mod Candidate
+pub mod Kept
+pub mod Chosen
+pub mod Laws
+pub mod HeldRows
+pub mod HeldWalk
+pub mod HeldRead
+pub mod HeldIter

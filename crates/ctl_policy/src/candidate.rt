@@ -1,0 +1,120 @@
+//! The candidate among the rows of a name.
+
+ghost use Rattle.std.specs.Prelude.{◌≡◌, ◌∷◌, [], None, Some, option_copied, option_map, map, reverse};
+ghost use Rattle.ctl_relation.specs.Version.{triple_of};
+ghost use Rattle.ctl_store.specs.Keys.{AreHeld};
+ghost use Rattle.ctl_store.specs.Held.{keyed_of};
+ghost use Rattle.ctl_policy.specs.Rows.{newest_first};
+ghost use Rattle.ctl_policy.specs.Priority.{world_of, row_priority};
+ghost use Rattle.ctl_policy.specs.Candidate.{may_be_taken, is_upgrade, better, best_of};
+ghost use Rattle.ctl_policy.specs.HeldRows.{shown_row, rows_of_form, IsOrderedForm};
+ghost use Rattle.ctl_policy.specs.HeldWalk.{AreHeldIn, IsHeldForm, considered};
+
+use crate::by_version::ByVersion;
+use crate::form::Form;
+use crate::priority::row_priority;
+use ctl_relation::Version;
+use ctl_store::{StanzaKey, Store};
+use std::slice;
+
+/// A row that may be taken: its priority and its lead.
+pub type Choice = (i16, Option<StanzaKey>);
+
+fn is_upgrade(priority: i16, version: &Version, installed: Option<&Version>) -> bool
+    ensures { result ≡ is_upgrade priority (triple_of version.now) (option_map triple_of (option_copied installed.entry)) }
+{
+    match installed {
+        None => true,
+        Some(installed) => priority >= 1000 || version.cmp(installed).is_ge(),
+    }
+}
+
+fn may_be_taken(priority: i16, version: &Version, installed: Option<&Version>) -> bool
+    ensures { result ≡ may_be_taken priority (triple_of version.now) (option_map triple_of (option_copied installed.entry)) }
+{
+    priority > 0 && is_upgrade(priority, version, installed)
+}
+
+fn better(newer: Choice, older: Option<Choice>) -> Option<Choice>
+    ensures { result ≡ better newer older }
+{
+    match older {
+        Some(older) => {
+            if newer.0 < older.0 {
+                Some(older)
+            } else {
+                Some(newer)
+            }
+        }
+        None => Some(newer),
+    }
+}
+
+fn considered(
+    priority: i16,
+    version: &Version,
+    lead: Option<StanzaKey>,
+    installed: Option<&Version>,
+    choice: Option<Choice>,
+) -> Option<Choice>
+    ensures { result ≡ considered priority (triple_of version.now) lead (option_map triple_of (option_copied installed.entry)) choice }
+{
+    if may_be_taken(priority, version, installed) {
+        better((priority, lead), choice)
+    } else {
+        choice
+    }
+}
+
+// The row to be taken of a map of rows of a name, where this version is installed.
+#[tactic(auto, using(crate::proofs::ChosenLemmas::best_carried))]
+fn best_in_map(
+    store: &Store,
+    name: &[u8],
+    installed: Option<&Version>,
+    rows: &ByVersion,
+) -> Option<Choice>
+    requires { AreHeldIn (keyed_of store.now).lists rows.now.entries }
+    ensures { result ≡ best_of (row_priority name.now (world_of store.now)) (option_map triple_of (option_copied installed.entry)) (reverse (map shown_row rows.now.entries)) }
+{
+    let mut choice = None;
+    let mut left = rows.iter();
+    'rows: while let Some((version, keys)) = left.next() {
+        let priority = row_priority(store, name, keys);
+        choice = considered(priority, version, keys.first().copied(), installed, choice);
+    }
+    choice
+}
+
+// The row of one stanza, if it may be taken.
+fn best_of_one(
+    store: &Store,
+    name: &[u8],
+    installed: Option<&Version>,
+    version: &Version,
+    key: &StanzaKey,
+) -> Option<Choice>
+    requires { AreHeld (key.now ∷ []) (keyed_of store.now).lists }
+    ensures { result ≡ considered (row_priority name.now (world_of store.now) (key.now ∷ [])) (triple_of version.now) (Some key.now) (option_map triple_of (option_copied installed.entry)) None }
+{
+    let priority = row_priority(store, name, slice::from_ref(key));
+    considered(priority, version, Some(*key), installed, None)
+}
+
+/// The row to be taken of a name, of which these are the rows, where this version is installed.
+pub(crate) fn best(
+    store: &Store,
+    name: &[u8],
+    installed: Option<&Version>,
+    rows: &Form,
+) -> Option<Choice>
+    requires held { IsHeldForm (keyed_of store.now).lists rows.now }
+    requires ordered { IsOrderedForm rows.now }
+    ensures { result ≡ best_of (row_priority name.now (world_of store.now)) (option_map triple_of (option_copied installed.entry)) (newest_first (rows_of_form rows.now)) }
+{
+    match rows {
+        Form::Empty => None,
+        Form::One(version, key) => best_of_one(store, name, installed, version, key),
+        Form::Many(map) => best_in_map(store, name, installed, map),
+    }
+}

@@ -1,0 +1,27 @@
+//! The versions of a package, where they come from, which is installed and which would be, by apt_preferences(5): for one
+//! name at a time, over a store.
+#![tactic(auto)]
+
+mod by_version;
+mod candidate;
+mod chosen;
+mod form;
+mod keys;
+mod laws;
+mod newest;
+mod priority;
+mod rows;
+mod status;
+mod walk;
+
+pub use chosen::{Chosen, choose, renew};
+pub use laws::{
+    edits_of_one_name, general_pins_leave_other_names, marks_leave_other_names, one_name_is_enough,
+    preferences_leave_other_names, rows_are_classes, rows_are_held, rows_are_kept,
+    rows_follow_stanzas, sources_hold_stanzas, specific_pins_leave_other_names,
+    stanzas_leave_other_names, targets_leave_other_names, worlds_move,
+};
+pub use newest::NewestFirst;
+pub use priority::{is_source, list_priority, row_priority, specific_pin};
+pub use rows::Rows;
+pub use walk::read_rows;

@@ -1,0 +1,183 @@
+//! The priority of a list and of a row (apt_preferences(5)).
+
+ghost use Rattle.std.specs.Prelude.{◌≡◌, Some, option_copied, pos};
+ghost use Rattle.std.specs.Int.{int_max};
+ghost use Rattle.ctl_store.specs.Keys.{AreHeld, stanza_at, holder_of};
+ghost use Rattle.ctl_store.specs.Held.{keyed_of};
+ghost use Rattle.std.specs.Prelude.{IsSome};
+ghost use Rattle.ctl_policy.specs.Rows.{lead_of, version_under, is_source};
+ghost use Rattle.ctl_policy.specs.Priority.{world_of, own_priority, is_target, list_priority, priority_found, matches_text, matches_row, specific_pin, greatest, greatest_with, source_priorities, row_priority};
+
+use ctl_relation::Version;
+use ctl_stanza::ListKind;
+use ctl_store::{ListClass, PackagePins, PinVersion, Selector, StanzaKey, Store};
+
+fn own_priority(kind: ListKind, class: ListClass) -> i16
+    ensures { result ≡ own_priority kind class }
+{
+    match kind {
+        ListKind::Status => 100,
+        ListKind::Packages => match class {
+            ListClass::Plain => 500,
+            ListClass::NotAutomatic => 1,
+            ListClass::ButAutomatic => 100,
+        },
+    }
+}
+
+fn is_target(target: Option<&[u8]>, list: &[u8], kind: ListKind) -> bool
+    ensures { result ≡ is_target (option_copied target.entry) list.now kind }
+{
+    match target {
+        Some(target) => match kind {
+            ListKind::Packages => target == list,
+            ListKind::Status => false,
+        },
+        None => false,
+    }
+}
+
+/// The priority of a list, if there is a list of this name: 990 for the target release, else that of its general pin,
+/// else its own.
+pub fn list_priority(store: &Store, list: &[u8]) -> Option<i16>
+    ensures { result ≡ list_priority list.now (world_of store.now) }
+{
+    let (kind, class) = store.list(list)?;
+    if is_target(store.target(), list, kind) {
+        return Some(990);
+    }
+    match store.general_pin(list) {
+        Some(priority) => Some(priority),
+        None => Some(own_priority(kind, class)),
+    }
+}
+
+// The priority of the list that holds a stanza.
+fn source_priority(store: &Store, key: StanzaKey) -> i16
+    requires { IsSome (stanza_at key (keyed_of store.now).lists) }
+    ensures { result ≡ priority_found (world_of store.now) (holder_of key (keyed_of store.now).lists) }
+{
+    match list_priority(store, store.list_of(key)) {
+        Some(priority) => priority,
+        None => 0,
+    }
+}
+
+fn larger(one: i16, other: i16) -> i16
+    ensures { result ≡ int_max one other }
+{
+    if other < one { one } else { other }
+}
+
+// The greatest priority of the lists that hold these stanzas, beside one priority.
+fn greatest_with(store: &Store, priority: i16, keys: &[StanzaKey]) -> i16
+    requires { AreHeld keys.now (keyed_of store.now).lists }
+    ensures { result ≡ greatest_with priority (source_priorities (world_of store.now) keys.now) }
+{
+    let mut greatest = priority;
+    let mut left = keys;
+    'keys: while let Some((key, rest)) = left.split_first() {
+        greatest = larger(greatest, source_priority(store, *key));
+        left = rest;
+    }
+    greatest
+}
+
+fn greatest(store: &Store, keys: &[StanzaKey]) -> i16
+    requires { AreHeld keys.now (keyed_of store.now).lists }
+    ensures { result ≡ greatest (source_priorities (world_of store.now) keys.now) }
+{
+    match keys.split_first() {
+        Some((key, rest)) => greatest_with(store, source_priority(store, *key), rest),
+        None => 0,
+    }
+}
+
+/// Whether the list of a name is a source of a row, which has these stanzas.
+pub fn is_source(store: &Store, list: &[u8], keys: &[StanzaKey]) -> bool
+    requires { AreHeld keys.now (keyed_of store.now).lists }
+    ensures { result ≡ is_source list.now (keyed_of store.now).lists keys.now }
+{
+    let mut left = keys;
+    'keys: while let Some((key, rest)) = left.split_first() {
+        if store.list_of(*key) == list {
+            return true;
+        }
+        left = rest;
+    }
+    false
+}
+
+// The version of the lead of a row.
+fn version_of<'a>(store: &'a Store, keys: &[StanzaKey]) -> Option<&'a Version>
+    requires { AreHeld keys.now (keyed_of store.now).lists }
+    ensures { option_copied result ≡ version_under (keyed_of store.now).lists (lead_of keys.now) }
+{
+    match keys.split_first() {
+        Some((lead, _)) => store.stanza(*lead).version(),
+        None => None,
+    }
+}
+
+fn matches_text(wanted: &PinVersion, version: Option<&Version>) -> bool
+    ensures { result ≡ matches_text wanted.now (option_copied version.entry) }
+{
+    match version {
+        Some(version) => wanted.matches(version),
+        None => false,
+    }
+}
+
+fn matches_row(store: &Store, name: &[u8], keys: &[StanzaKey], selector: &Selector) -> bool
+    requires { AreHeld keys.now (keyed_of store.now).lists }
+    ensures { result ≡ matches_row name.now (keyed_of store.now).lists keys.now selector.now }
+{
+    match selector {
+        Selector::Version { package, version } => {
+            package.as_slice() == name && matches_text(version, version_of(store, keys))
+        }
+        Selector::Release {
+            package: Some(package),
+            list,
+        } => { package.as_slice() == name && is_source(store, list.as_slice(), keys) }
+        Selector::Release {
+            package: None,
+            list: _,
+        } => false,
+    }
+}
+
+// The priority of the first of these settings that is one of a name and matches a row of it.
+fn first_match(store: &Store, name: &[u8], keys: &[StanzaKey], pins: PackagePins<'_>) -> Option<i16>
+    requires { AreHeld keys.now (keyed_of store.now).lists }
+    ensures { result ≡ specific_pin name.now (keyed_of store.now).lists keys.now pins.entry }
+{
+    let mut left = pins;
+    'pins: while let Some((selector, priority)) = left.next() {
+        if matches_row(store, name, keys, selector) {
+            return Some(priority);
+        }
+    }
+    None
+}
+
+/// The priority of the first specific pin that matches a row of a name, which has these stanzas, if there is one.
+#[tactic(auto, using(crate::proofs::OwnLemmas::own_pins))]
+pub fn specific_pin(store: &Store, name: &[u8], keys: &[StanzaKey]) -> Option<i16>
+    requires { AreHeld keys.now (keyed_of store.now).lists }
+    ensures { result ≡ specific_pin name.now (keyed_of store.now).lists keys.now (world_of store.now).pins }
+{
+    first_match(store, name, keys, store.pins_of(name))
+}
+
+/// The priority of a row of a name, which has these stanzas: that of the first specific pin that matches it, else the
+/// greatest of its sources.
+pub fn row_priority(store: &Store, name: &[u8], keys: &[StanzaKey]) -> i16
+    requires { AreHeld keys.now (keyed_of store.now).lists }
+    ensures { result ≡ row_priority name.now (world_of store.now) keys.now }
+{
+    match specific_pin(store, name, keys) {
+        Some(priority) => priority,
+        None => greatest(store, keys),
+    }
+}

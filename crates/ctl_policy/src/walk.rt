@@ -1,0 +1,51 @@
+//! The rows of a name, read from the stanzas of a store.
+
+ghost use Rattle.std.specs.Prelude.{◌≡◌, ℕ, List, Some, option_copied, IfOk, OnOk, if◌then◌else◌};
+ghost use Rattle.std.specs.FinMap as fin;
+ghost use Rattle.ctl_store.specs.Held.{keyed_of};
+ghost use Rattle.ctl_policy.specs.Keys.{with_key};
+ghost use Rattle.ctl_policy.specs.Rows.{keys_at, version_in, is_in_row, AreRowsOf};
+
+use crate::rows::Rows;
+use ctl_relation::Version;
+use ctl_stanza::Stanza;
+use ctl_store::{StanzaKey, Store};
+use std::alloc::{AllocError, Global};
+
+// The version of a stanza, if it is a live one of a name.
+fn version_in<'a>(name: &[u8], stanza: &'a Stanza) -> Option<&'a Version>
+    ensures { option_copied result ≡ version_in name.now stanza.now }
+{
+    if stanza.package() == name {
+        stanza.version()
+    } else {
+        None
+    }
+}
+
+// Puts the key of a stanza into the rows of a name, if it is a live one of it.
+fn put_stanza(
+    rows: &mut Rows,
+    name: &[u8],
+    key: StanzaKey,
+    stanza: &Stanza,
+) -> Result<(), AllocError>
+    ensures { OnOk result ((v : List ℕ) → fin.get rows.new v ≡ (if is_in_row name.now v stanza.now then Some (with_key key (keys_at rows.old v)) else fin.get rows.old v)) }
+{
+    match version_in(name, stanza) {
+        Some(version) => rows.put(version, key),
+        None => Ok(()),
+    }
+}
+
+/// The rows of a name, by a walk over all stanzas of a store.
+pub fn read_rows(alloc: Global, store: &Store, name: &[u8]) -> Result<Rows, AllocError>
+    ensures { IfOk result (λ rows. AreRowsOf rows name.now (keyed_of store.now).lists) }
+{
+    let mut rows = Rows::new(alloc);
+    let mut left = store.entries();
+    'entries: while let Some((key, stanza)) = left.next() {
+        put_stanza(&mut rows, name, key, stanza)?;
+    }
+    Ok(rows)
+}
