@@ -1,7 +1,7 @@
 //! Edits of the store by commands.
 
 ghost use Rattle.std.specs.Prelude.{◌≡◌, false, OnErr};
-ghost use Rattle.ctl_store.specs.Edits.{edit_of};
+ghost use Rattle.ctl_store.specs.Edits.{edit_of, Put};
 ghost use Rattle.ctl_store.specs.declared.refusal.Refusal.TheVariants.{Memory};
 ghost use Rattle.ctl_session.specs.Effect.{refusal_by, edited, list_added, put_in_list, prefs_set};
 ghost use Rattle.ctl_session.specs.Replies.{CameTo, IsRefusalOf};
@@ -10,7 +10,7 @@ ghost use Rattle.ctl_session.specs.State.{cache_state};
 use crate::refusal_at::RefusalAt;
 use ctl_index::Cache;
 use ctl_relation::Bytes;
-use ctl_stanza::{Cause, ListKind, TextFault, lines_take_bytes, read_stanzas};
+use ctl_stanza::{Cause, ListKind, Stanza, TextFault, lines_take_bytes, read_stanzas};
 use ctl_store::{Edit, ListClass, Refusal, boxed, read_prefs};
 use std::alloc::Global;
 
@@ -104,6 +104,27 @@ pub(crate) fn add_list(
     )
 }
 
+/// Puts a stanza into a list.
+fn put_stanza(
+    alloc: Global,
+    cache: &mut Cache,
+    list: &[u8],
+    stanza: Stanza,
+    number: u32,
+) -> Result<(), RefusalAt>
+    requires { cache.old.stale ≡ false }
+    ensures outcome { CameTo number result (cache_state cache.new) (edited (cache_state cache.old) number (Put list.now stanza)) }
+    ensures err { OnErr result (cache_state cache.new ≡ cache_state cache.old) }
+{
+    let Ok(list) = Bytes::from_slice(alloc, list) else {
+        return Err(refused(number, Refusal::Memory));
+    };
+    let Ok(stanza) = Box::new(alloc, stanza) else {
+        return Err(refused(number, Refusal::Memory));
+    };
+    edit(cache, Edit::Put { list, stanza }, number)
+}
+
 /// Puts the one stanza of a text into a list.
 pub(crate) fn put(
     alloc: Global,
@@ -130,13 +151,7 @@ pub(crate) fn put(
     let Some(stanza) = stanzas.pop() else {
         unreachable!("there is one stanza");
     };
-    let Ok(list) = Bytes::from_slice(alloc, name) else {
-        return Err(refused(number, Refusal::Memory));
-    };
-    let Ok(stanza) = Box::new(alloc, stanza) else {
-        return Err(refused(number, Refusal::Memory));
-    };
-    edit(cache, Edit::Put { list, stanza }, number)
+    put_stanza(alloc, cache, name, stanza, number)
 }
 
 /// Lets the pin settings of a text take the place of all.
