@@ -22,4 +22,5 @@ pub mod OneListLemmas
 pub mod RecordRunLemmas
 pub mod ProvidesLemmas
 pub mod SoundLemmas
+pub mod PairLemmas
 pub mod ReadLemmas
