@@ -12,6 +12,7 @@ pub mod ByPieces
 pub mod KeepLemmas
 pub mod CauseLemmas
 pub mod WholeLemmas
+pub mod FieldOrderLemmas
 pub mod PlaceLemmas
 pub mod FaultlessLemmas
 pub mod LawLemmas

@@ -7,7 +7,7 @@ ghost use Rattle.ctl_stanza.specs.Records.{records_before_fault};
 ghost use Rattle.ctl_stanza.specs.Content.{Content};
 ghost use Rattle.ctl_stanza.specs.FieldLines.{FieldLinesAreTaken, FieldLinesAreKnown};
 ghost use Rattle.ctl_stanza.specs.Lines.{lines_of};
-ghost use Rattle.ctl_stanza.specs.Laws.{BodiesAreCounted, IsFaultless, ReadsOrTells, KeepsLines, ReadsStanzas, StanzasAreOneList};
+ghost use Rattle.ctl_stanza.specs.Laws.{BodiesAreCounted, FieldsRise, IsFaultless, ReadsOrTells, KeepsLines, ReadsStanzas, StanzasAreOneList};
 ghost use Rattle.ctl_stanza.specs.Sound.{IsWhole, IsSound, PairsFit};
 
 use ctl_relation::{fields_bound_atoms, reading_is_the_grammar};
@@ -29,6 +29,11 @@ pub fn stanzas_keep_lines()
 pub fn field_lines_have_names_and_values()
     ensures taken { FieldLinesAreTaken }
     ensures known { FieldLinesAreKnown }
+{}
+
+/// The fields of a stanza stand in the order of the lines at which they begin, and these are lines of the stanza.
+pub fn fields_stand_in_order()
+    ensures { (stanza : List (List ℕ)) → FieldsRise stanza }
 {}
 
 /// The bytes that are counted for the limit of a body are those of the body: its value, and the lines that continue it,
