@@ -8,9 +8,10 @@ use ctl_relation::{
 };
 use ctl_session::commands_come_to_one_outcome;
 use ctl_stanza::{
-    bodies_are_counted, field_lines_have_names_and_values, lines_have_one_list_of_stanzas,
-    lines_take_bytes, records_are_runs, stanzas_are_runs, stanzas_keep_lines, told_fault_is_least,
-    told_record_fault_is_least, whole_stanzas_are_faultless, whole_stanzas_are_sound,
+    bodies_are_counted, field_lines_have_names_and_values, fields_stand_in_order,
+    lines_have_one_list_of_stanzas, lines_take_bytes, pairs_of_stanzas_fit, records_are_runs,
+    stanzas_are_runs, stanzas_keep_lines, told_fault_is_least, told_record_fault_is_least,
+    whole_stanzas_are_faultless, whole_stanzas_are_sound,
 };
 
 #[test]
@@ -20,8 +21,10 @@ fn laws_can_be_called() {
     stanzas_are_runs();
     told_record_fault_is_least();
     whole_stanzas_are_sound();
+    pairs_of_stanzas_fit();
     lines_take_bytes();
     bodies_are_counted();
+    fields_stand_in_order();
     field_lines_have_names_and_values();
     lines_have_one_list_of_stanzas();
     records_are_runs();

@@ -1,7 +1,10 @@
 //! Pin settings, in order and by what they are for.
 
 use crate::made::{edited, given, pin, prefs, selector, unpin};
-use ctl_store::{PinSetting, PinSettings, Store, first_setting_counts, settings_by_package};
+use ctl_store::{
+    PinSetting, PinSettings, Store, first_setting_counts, settings_by_package,
+    told_prefs_fault_is_least,
+};
 use std::alloc::{AllocError, Global};
 use std::test::Fail;
 
@@ -70,4 +73,5 @@ fn pins_that_are_left_keep_their_order(rt: HostRuntime) -> Result<(), Fail> {
 fn laws_of_pins_can_be_called() {
     first_setting_counts();
     settings_by_package();
+    told_prefs_fault_is_least();
 }

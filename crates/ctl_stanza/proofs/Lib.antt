@@ -12,6 +12,7 @@ pub mod ByPieces
 pub mod KeepLemmas
 pub mod CauseLemmas
 pub mod WholeLemmas
+pub mod FieldOrderLemmas
 pub mod PlaceLemmas
 pub mod FaultlessLemmas
 pub mod LawLemmas
@@ -22,4 +23,5 @@ pub mod OneListLemmas
 pub mod RecordRunLemmas
 pub mod ProvidesLemmas
 pub mod SoundLemmas
+pub mod PairLemmas
 pub mod ReadLemmas

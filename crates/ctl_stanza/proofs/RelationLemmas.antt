@@ -17,7 +17,7 @@ use Rattle.ctl_stanza.specs.RelationFields.{name_of, relation_kind}
 use Rattle.ctl_stanza.specs.Faults.{or_else}
 use Rattle.ctl_stanza.specs.declared.fields.Span.{Span}
 use Rattle.ctl_stanza.specs.HeldFields.{shown}
-use Rattle.ctl_stanza.specs.HeldStanza.{kept_groups, version_given, AreKeptIn, IsKeptIn, Keeps, KeepsIfRelation}
+use Rattle.ctl_stanza.specs.HeldStanza.{kept_groups, version_given, AreKeptIn, IsKeptIn, KeepsIfRelation}
 
 -- ---- names without regard to case
 

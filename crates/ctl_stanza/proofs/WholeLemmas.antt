@@ -26,7 +26,7 @@ use Rattle.ctl_stanza.proofs.CauseLemmas.{IsAtMost, TellsLeast, HasFaultyLine, l
 
 -- ---- the lines of fields rise
 
-abbrev Rise : ℕ → List FieldText → Type 0
+abbrev pub Rise : ℕ → List FieldText → Type 0
 Rise m [] = ⊤
 Rise m (f ∷ fs) = (m ≤ f.line) × Rise (suc f.line) fs
 
@@ -40,7 +40,7 @@ rise-at i Blank l behind fs rise = rise-less i (suc i) fs (omega arith) rise
 rise-at i Continuation l behind fs rise = rise-less i (suc i) fs (omega arith) rise
 rise-at i Faulty l behind fs rise = rise-less i (suc i) fs (omega arith) rise
 
-rise-from : (i : ℕ) (ls : List (List ℕ)) → Rise i (fields_from i ls)
+pub rise-from : (i : ℕ) (ls : List (List ℕ)) → Rise i (fields_from i ls)
 rise-from i [] = tt
 rise-from i (l ∷ ls) = rise-at i (kind_of l) l ls (fields_from (suc i) ls) (rise-from (suc i) ls)
 
@@ -51,7 +51,7 @@ rise-reach m (g ∷ fs) (suc k) f rise lt is = omega (arith, rise.0, rise-reach 
 
 -- ---- and lie within the lines
 
-abbrev Below : ℕ → List FieldText → Type 0
+abbrev pub Below : ℕ → List FieldText → Type 0
 Below m [] = ⊤
 Below m (f ∷ fs) = (f.line < m) × Below m fs
 
@@ -61,7 +61,7 @@ below-at i m Blank l behind fs lt below = below
 below-at i m Continuation l behind fs lt below = below
 below-at i m Faulty l behind fs lt below = below
 
-below-from : (i m : ℕ) (ls : List (List ℕ)) → i + length ls ≤ m → Below m (fields_from i ls)
+pub below-from : (i m : ℕ) (ls : List (List ℕ)) → i + length ls ≤ m → Below m (fields_from i ls)
 below-from i m [] le = tt
 below-from i m (l ∷ ls) le = below-at i m (kind_of l) l ls (fields_from (suc i) ls) (omega arith) (below-from (suc i) m ls (omega arith))
 

@@ -1,6 +1,7 @@
 -- The faults of a text, each at the index of its line, told apart from how the text is read.
 use Rattle.std.specs.Prelude.{◌≡◌, ◌≢◌, ◌+◌, ◌<◌, ◌≤◌, ℕ, true, false, not, ◌⊎◌, List, [], ◌∷◌, ◌++◌, length, map, take, filter, flat_map, Contains, Some, None, is_none, Ok, Err}
-use Rattle.std.specs.List.{list_all, after_last}
+use Rattle.std.specs.List.{All, list_all, after_last}
+use Rattle.std.specs.List.Sorted.{IsStrictlyIncreasing}
 use Rattle.ctl_relation.specs.declared.field_kind.FieldKind.{FieldKind}
 use Rattle.ctl_relation.specs.Names.{is_name}
 use Rattle.ctl_relation.specs.Version.{fault_of}
@@ -139,6 +140,11 @@ HasWholeFault kind stanza i causes.Memory = ⊥
 pub record IsFaultless (kind : ListKind) (stanza : List (List ℕ)) : Type 0 where
   pub good_lines : HasNoFaultyLine stanza
   pub good_parts : (i : ℕ) (cause : Cause) → HasWholeFault kind stanza i cause → ⊥
+
+-- the lines at which the fields of a stanza begin rise, and are lines of it
+pub record FieldsRise (stanza : List (List ℕ)) : Type 0 where
+  pub rise : IsStrictlyIncreasing (map (λ (field : FieldText). field.line) (fields_of_lines stanza))
+  pub within : All (λ (field : FieldText). field.line < length stanza) (fields_of_lines stanza)
 
 -- ---- the lines of a text
 

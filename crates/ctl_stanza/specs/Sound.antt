@@ -1,5 +1,5 @@
 -- What holds of a stanza without a fault.
-use Rattle.std.specs.Prelude.{◌≡◌, ◌<◌, ◌^◌, ℕ, true, List, length, None, IsSome}
+use Rattle.std.specs.Prelude.{◌≡◌, ◌*◌, ◌<◌, ◌^◌, ℕ, true, List, length, None, IsSome}
 use Rattle.std.specs.List.{All, sum_by}
 use Rattle.ctl_relation.specs.declared.field_kind.FieldKind.{FieldKind}
 use Rattle.ctl_relation.specs.Bounds.{atom_count}
@@ -40,3 +40,9 @@ pub record IsSound (content : Content) : Type 0 where
   pub sizes : (kind : FieldKind) → All IsSmallGroup (relations_of_kind kind content)
   pub all_atoms : atoms_of content < 2 ^ 32
   pub offers : length (offers_of content) < 2 ^ 32
+
+-- The atoms in the relation fields of less than 2^32 stanzas, and what these offer, make so many pairs that 128 bits hold their
+-- number.
+abbrev pub PairsFit : Type 0
+PairsFit = (contents : List Content) → length contents < 2 ^ 32 → All IsWhole contents
+    → sum_by atoms_of contents * sum_by (λ content. length (offers_of content)) contents < 2 ^ 128

@@ -7,8 +7,8 @@ ghost use Rattle.ctl_stanza.specs.Records.{records_before_fault};
 ghost use Rattle.ctl_stanza.specs.Content.{Content};
 ghost use Rattle.ctl_stanza.specs.FieldLines.{FieldLinesAreTaken, FieldLinesAreKnown};
 ghost use Rattle.ctl_stanza.specs.Lines.{lines_of};
-ghost use Rattle.ctl_stanza.specs.Laws.{BodiesAreCounted, IsFaultless, ReadsOrTells, KeepsLines, ReadsStanzas, StanzasAreOneList};
-ghost use Rattle.ctl_stanza.specs.Sound.{IsWhole, IsSound};
+ghost use Rattle.ctl_stanza.specs.Laws.{BodiesAreCounted, FieldsRise, IsFaultless, ReadsOrTells, KeepsLines, ReadsStanzas, StanzasAreOneList};
+ghost use Rattle.ctl_stanza.specs.Sound.{IsWhole, IsSound, PairsFit};
 
 use ctl_relation::{fields_bound_atoms, reading_is_the_grammar};
 
@@ -29,6 +29,11 @@ pub fn stanzas_keep_lines()
 pub fn field_lines_have_names_and_values()
     ensures taken { FieldLinesAreTaken }
     ensures known { FieldLinesAreKnown }
+{}
+
+/// The fields of a stanza stand in the order of the lines at which they begin, and these are lines of the stanza.
+pub fn fields_stand_in_order()
+    ensures { (stanza : List (List ℕ)) → FieldsRise stanza }
 {}
 
 /// The bytes that are counted for the limit of a body are those of the body: its value, and the lines that continue it,
@@ -61,13 +66,20 @@ pub fn records_are_runs()
 {}
 
 /// A stanza without a fault has a name, and where it is live a version. Each group of its relation fields has an atom, an
-/// entry of Provides has one alone, and the groups and the atoms of a field, and what the stanza offers, are less than
-/// 2^32.
+/// entry of Provides has one alone. The groups and the atoms of a field, the atoms of all fields together, and what the
+/// stanza offers, are less than 2^32.
 pub fn whole_stanzas_are_sound()
     ensures { (content : Content) → IsWhole content → IsSound content }
 {
     reading_is_the_grammar();
     fields_bound_atoms();
+}
+
+/// Pairs of an atom and an offer of less than 2^32 stanzas are less than 2^128.
+pub fn pairs_of_stanzas_fit()
+    ensures { PairsFit }
+{
+    whole_stanzas_are_sound();
 }
 
 /// A stanza that is whole has no faulty line and no other fault, line by line and field by field.

@@ -32,6 +32,9 @@ pub mod FindLemmas
 pub mod WordLemmas
 pub mod PrefsLemmas
 pub mod FirstLemmas
+pub mod WrongFieldLemmas
+pub mod OwnFaultLemmas
+pub mod PrefsFaultLemmas
 pub mod OwnLemmas
 pub mod ChangeLemmas
 pub mod EntryLemmas

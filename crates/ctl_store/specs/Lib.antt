@@ -12,6 +12,7 @@ pub mod Named
 pub mod State
 pub mod Prefs
 pub mod PrefsLaws
+pub mod PrefsFaults
 pub mod Edits
 pub mod Places
 pub mod Step

@@ -1,4 +1,5 @@
--- Preferences, and the pin settings that they make (apt_preferences(5)).
+-- Preferences, and the pin settings that they make (apt_preferences(5)), as a function. PrefsFaults and PrefsLaws say in plain
+-- words what it gives; `told_prefs_fault_is_least` and `first_setting_counts` that it gives them.
 use Rattle.std.specs.Prelude.{ℕ, ℤ, ◌==◌, ◌&&◌, ◌||◌, not, nat_eq, Bool, false, List, [], ◌∷◌, ◌++◌, map, drop, length, codes, Option, Some, None, is_some, Result, Ok, unwrap_or, if◌then◌else◌}
 use Rattle.std.specs.Str.{bytes_eq}
 use Rattle.std.specs.List.{list_all, starts_with}

@@ -29,7 +29,7 @@ mod table;
 mod words;
 
 pub use edit::{Edit, boxed};
-pub use laws::{first_setting_counts, settings_by_package};
+pub use laws::{first_setting_counts, settings_by_package, told_prefs_fault_is_least};
 pub use limits::{Counts, Limits};
 pub use list_class::ListClass;
 pub use pin_settings::PinSettings;

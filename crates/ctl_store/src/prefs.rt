@@ -4,13 +4,16 @@ ghost use Rattle.std.specs.Prelude.{◌≡◌, ◌≢◌, ◌+◌, ◌<◌, ◌�
 ghost use Rattle.ctl_stanza.specs.declared.fault.Cause.TheVariants as causes;
 ghost use Rattle.ctl_stanza.specs.Faults.{IsMemoryAtZero, Tells, is_empty_body};
 ghost use Rattle.ctl_stanza.specs.Lines.{lines_of};
-ghost use Rattle.ctl_stanza.specs.Records.{parts_of_fields};
+ghost use Rattle.ctl_stanza.specs.Records.{parts_of_fields, records_before_fault};
 ghost use Rattle.ctl_store.specs.declared.selector.Selector.TheVariants as selectors;
 ghost use Rattle.ctl_store.specs.PinVersions.{is_pin_version};
+ghost use Rattle.ctl_store.specs.PrefsFaults.{HasNoPrefsFault, TellsLeastPrefsFault};
+ghost use Rattle.ctl_store.specs.PrefsLaws.{SetsFirst};
 ghost use Rattle.ctl_store.specs.Priority.{priority_of};
 ghost use Rattle.ctl_store.specs.Prefs.{words_of, is_general as is_general_of, version_asked as version_asked_of, list_asked as list_asked_of, body_in, is_missing, field_cause, package_cause, pin_cause, asked_cause, priority_cause, first_wrong, words_in, own_fault, first_own_fault, all_settings, record_settings, selectors_of, with_priority, keep_first, first_settings, read_prefs_text};
 ghost use Rattle.ctl_stanza.specs.Fields.{package_name};
 
+use crate::laws::{first_setting_counts, told_prefs_fault_is_least};
 use crate::pin_settings::PinSettings;
 use crate::pin_version::PinVersion;
 use crate::priority::read_priority;
@@ -299,6 +302,22 @@ fn keep_records(alloc: Global, kept: &mut PinSettings, records: &[Record]) -> Re
     Ok(())
 }
 
+// Reads preferences as their definition says.
+fn read_settings(alloc: Global, text: &[u8], first_line: u64) -> Result<PinSettings, TextFault>
+    requires lines { first_line + length (lines_of text.now) < 2 ^ 64 }
+    ensures ok { IfOk result (λ settings. read_prefs_text first_line text.now ≡ Ok settings.pins) }
+    ensures err { IfErr result (λ fault. fault.cause ≢ causes.Memory → read_prefs_text first_line text.now ≡ Err fault) }
+    ensures memory { IfErr result IsMemoryAtZero }
+{
+    let RecordsBeforeFault { records, fault } = read_records_before_fault(alloc, text, first_line)?;
+    let mut kept = PinSettings::new(alloc);
+    keep_records(alloc, &mut kept, &records)?;
+    if let Some(fault) = fault {
+        return Err(fault);
+    }
+    Ok(kept)
+}
+
 /// Reads preferences, whose lines count from `first_line`, to the pin settings that they make. Of two settings of one
 /// selector the first counts.
 ///
@@ -312,15 +331,14 @@ fn keep_records(alloc: Global, kept: &mut PinSettings, records: &[Record]) -> Re
 /// [`Cause::Memory`](ctl_stanza::Cause::Memory) and the line is 0.
 pub fn read_prefs(alloc: Global, text: &[u8], first_line: u64) -> Result<PinSettings, TextFault>
     requires lines { first_line + length (lines_of text.now) < 2 ^ 64 }
+    ensures first { IfOk result (λ settings. SetsFirst (records_before_fault first_line text.now).0 settings.pins) }
+    ensures no_fault { OnOk result (HasNoPrefsFault first_line text.now) }
+    ensures least { IfErr result (TellsLeastPrefsFault first_line text.now) }
     ensures ok { IfOk result (λ settings. read_prefs_text first_line text.now ≡ Ok settings.pins) }
     ensures err { IfErr result (λ fault. fault.cause ≢ causes.Memory → read_prefs_text first_line text.now ≡ Err fault) }
     ensures memory { IfErr result IsMemoryAtZero }
 {
-    let RecordsBeforeFault { records, fault } = read_records_before_fault(alloc, text, first_line)?;
-    let mut kept = PinSettings::new(alloc);
-    keep_records(alloc, &mut kept, &records)?;
-    if let Some(fault) = fault {
-        return Err(fault);
-    }
-    Ok(kept)
+    first_setting_counts();
+    told_prefs_fault_is_least();
+    read_settings(alloc, text, first_line)
 }

@@ -1,4 +1,4 @@
-use Rattle.std.proofs.Common.{◌∙◌, sym, ap, refl}
+use Rattle.std.proofs.Common.{sym, ap, refl}
 use Rattle.ctl_relation.specs.Reading.{groups_or_none}
 use Rattle.ctl_stanza.proofs.live.read_relations.Goals as goal
 
