@@ -1,7 +1,7 @@
 //! Control text: stanzas, their fields and faults (Debian Policy 5.1, deb822(5)).
 
 use crate::tables::{agree, same};
-use ctl_relation::FieldKind;
+use ctl_relation::{FieldKind, Offer};
 use ctl_stanza::{Cause, ListKind, MAX_LINE, Stanza, TextFault, lines_take_bytes, read_stanzas};
 use std::alloc::{AllocError, Global};
 use std::process::Abort;
@@ -475,17 +475,23 @@ fn groups_are(
     Ok(())
 }
 
-/// The offers of a stanza, each in brackets.
+/// An offer in brackets.
+fn append_offer(offer: &Offer, all: &mut Vec<u8>) -> Result<(), AllocError> {
+    all.push(b'[')?;
+    all.extend_from_slice(offer.name())?;
+    if let Some(version) = offer.version() {
+        all.push(b'=')?;
+        all.extend_from_slice(version.text())?;
+    }
+    all.push(b']')?;
+    Ok(())
+}
+
+/// The offers of a stanza, one behind another.
 fn offers_of(alloc: Global, stanza: &Stanza) -> Result<Vec<u8>, AllocError> {
     let mut all = Vec::new(alloc);
     for offer in stanza.offers() {
-        all.push(b'[')?;
-        all.extend_from_slice(offer.name())?;
-        if let Some(version) = offer.version() {
-            all.push(b'=')?;
-            all.extend_from_slice(version.text())?;
-        }
-        all.push(b']')?;
+        append_offer(offer, &mut all)?;
     }
     Ok(all)
 }

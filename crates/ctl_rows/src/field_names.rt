@@ -1,5 +1,6 @@
 //! The relation fields in their order, and what they are called.
 
+use crate::tables::same;
 use ctl_relation::FieldKind;
 
 #[test]
@@ -18,21 +19,26 @@ fn relation_fields_have_names(rt: HostRuntime) {
     let fields = FieldKind::nine();
     assert_eq!(rt; fields.len(), rows.len());
     for (field, (key, printed)) in fields.iter().zip(rows.iter()) {
-        let same = field.key() == key.as_bytes() && field.printed_name() == printed.as_bytes();
-        assert!(rt; same, "{key}");
+        same(&rt, key.as_bytes(), field.key(), key.as_bytes());
+        same(
+            &rt,
+            key.as_bytes(),
+            field.printed_name(),
+            printed.as_bytes(),
+        );
     }
 }
 
 #[test]
 fn eight_fields_name_packages_and_four_are_wanted(rt: HostRuntime) {
-    let same = FieldKind::eight() == FieldKind::nine().split_at(8).0;
-    assert!(rt; same);
+    let is_same = FieldKind::eight() == FieldKind::nine().split_at(8).0;
+    assert!(rt; is_same);
     let wanted = [
         FieldKind::PreDepends,
         FieldKind::Depends,
         FieldKind::Recommends,
         FieldKind::Suggests,
     ];
-    let same = FieldKind::four() == wanted.as_slice();
-    assert!(rt; same);
+    let is_same = FieldKind::four() == wanted.as_slice();
+    assert!(rt; is_same);
 }

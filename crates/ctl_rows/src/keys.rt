@@ -1,6 +1,7 @@
 //! The views of a store by keys, and copies of its settings.
 
 use crate::made::{add_list, edited, given, put, selector, version};
+use crate::tables::same;
 use ctl_stanza::Stanza;
 use ctl_store::{Edit, PinSetting, Selector, StanzaKey, Store};
 use std::alloc::Global;
@@ -97,12 +98,16 @@ fn a_plan_finds_what_comes(rt: HostRuntime) -> Result<(), Fail> {
     Ok(())
 }
 
+/// The text of a copy of a version.
+fn copied(alloc: Global, text: &str) -> Option<Vec<u8>> {
+    let copy = version(alloc, text)?.try_clone(alloc).ok()?;
+    Vec::from_slice(alloc, copy.text()).ok()
+}
+
 #[test]
 fn a_version_is_copied(rt: HostRuntime) -> Result<(), Fail> {
-    let one = given(version(rt.alloc(), "1.0-2"))?;
-    let copy = one.try_clone(rt.alloc())?;
-    let same = copy.text() == one.text();
-    assert!(rt; same);
+    let came = given(copied(rt.alloc(), "1.0-2"))?;
+    same(&rt, b"a copy", &came, b"1.0-2");
     Ok(())
 }
 
@@ -127,10 +132,10 @@ fn a_setting_is_copied(rt: HostRuntime) -> Result<(), Fail> {
             priority: 7,
         };
         let copy = setting.try_clone(rt.alloc())?;
-        let same = copy.selector == setting.selector && copy.priority == 7;
+        let is_equal = copy.selector == setting.selector && copy.priority == 7;
         let is_it = is_selector(&copy.selector, b"a", text.as_bytes());
-        assert!(rt; same);
-        assert!(rt; is_it);
+        assert!(rt; is_equal, "{text}");
+        assert!(rt; is_it, "{text}");
     }
     Ok(())
 }

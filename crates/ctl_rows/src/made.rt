@@ -5,7 +5,8 @@ ghost use Rattle.std.specs.Prelude.{◌≡◌, Some, IfOk};
 use ctl_relation::{Bytes, Version};
 use ctl_stanza::{ListKind, Stanza, lines_take_bytes, read_stanzas};
 use ctl_store::{
-    Edit, ListClass, PinSetting, PinSettings, PinVersion, Selector, Store, boxed, read_prefs,
+    Edit, ListClass, PinSetting, PinSettings, PinVersion, Refusal, Selector, Store, boxed,
+    read_prefs,
 };
 use std::alloc::Global;
 use std::test::Fail;
@@ -165,13 +166,21 @@ pub fn given<T>(made: Option<T>) -> Result<T, Fail>
     }
 }
 
-/// Makes an edit that the store accepts.
-pub fn edited(store: &mut Store, edit: Edit) -> Result<(), Fail> {
+/// Makes an edit, or gives its refusal.
+pub fn refusal(store: &mut Store, edit: Edit) -> Option<Refusal> {
     match store.prepare(edit) {
         Ok(plan) => {
             store.commit(plan);
-            Ok(())
+            None
         }
-        Err(_) => Err(Fail::from("a refused edit")),
+        Err((_, why)) => Some(why),
+    }
+}
+
+/// Makes an edit that the store accepts.
+pub fn edited(store: &mut Store, edit: Edit) -> Result<(), Fail> {
+    match refusal(store, edit) {
+        None => Ok(()),
+        Some(why) => Err(Fail::new(format_args!("a refused edit: {}", why.text()))),
     }
 }

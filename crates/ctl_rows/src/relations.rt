@@ -196,8 +196,9 @@ fn bare_atom(rt: HostRuntime) -> Result<(), Fail> {
 fn order_of_fields(rt: HostRuntime) {
     for (i, kind) in NINE.iter().enumerate() {
         for (j, other) in NINE.iter().enumerate() {
-            let is_right = kind.cmp(other) == i.cmp(&j) && (*kind == *other) == (i == j);
-            assert!(rt; is_right, "fields {i} and {j}");
+            let (order, is_equal) = (kind.cmp(other), *kind == *other);
+            let is_right = order == i.cmp(&j) && is_equal == (i == j);
+            assert!(rt; is_right, "fields {i} and {j}: {order:?}, {is_equal}");
         }
     }
 }
@@ -274,14 +275,25 @@ fn tests_are_counted(rt: HostRuntime) -> Result<(), Fail> {
     Ok(())
 }
 
+/// The name of an offer, and its version where it has one.
+fn offer_words(alloc: Global, name: &[u8], version: Option<&[u8]>) -> Result<Vec<u8>, Fail> {
+    let offer = offer_of(alloc, name, version)?;
+    Ok(parts_of(alloc, &offer)?)
+}
+
+fn parts_of(alloc: Global, offer: &Offer) -> Result<Vec<u8>, AllocError> {
+    match offer.version() {
+        Some(version) => pair(alloc, offer.name(), version.text()),
+        None => Vec::from_slice(alloc, offer.name()),
+    }
+}
+
 #[test]
 fn an_offer_has_its_parts(rt: HostRuntime) -> Result<(), Fail> {
-    let offer = offer_of(rt.alloc(), b"baz", Some(b"1-0"))?;
-    same(&rt, b"name", offer.name(), b"baz");
-    let version = offer.version().ok_or("a version is missing")?;
-    same(&rt, b"version", version.text(), b"1-0");
-    let offer = offer_of(rt.alloc(), b"baz", None)?;
-    assert!(rt; offer.version().is_none());
+    let came = offer_words(rt.alloc(), b"baz", Some(b"1-0"))?;
+    same(&rt, b"with a version", &came, b"baz and 1-0");
+    let came = offer_words(rt.alloc(), b"baz", None)?;
+    same(&rt, b"without", &came, b"baz");
     Ok(())
 }
 

@@ -5,7 +5,7 @@
 use crate::asked::{Asked, edit_asked};
 use crate::made::{add_list, edited, given};
 use crate::shown::state;
-use crate::tables::{agree, same};
+use crate::tables::same;
 use ctl_stanza::ListKind;
 use ctl_store::{
     CommittedKeys, Edit, Limits, ListClass, Plan, Refusal, StanzaKey, Store, compare_keys,
@@ -173,25 +173,27 @@ fn append_removal(edit: &Edit, all: &mut Vec<u8>) -> Result<(), AllocError> {
     all.extend_from_slice(version)
 }
 
-/// Why an edit is refused, as it is foretold and as it comes, and the edit that comes back.
-fn append_refused(
-    store: &mut Store,
-    edit: Edit,
-    all: &mut Vec<u8>,
-) -> Result<Option<Edit>, AllocError> {
-    if let Err(why) = store.check(&edit) {
-        all.extend_from_slice(why.text().as_bytes())?;
+/// Why an edit would be refused, if it would be.
+fn append_foretold(store: &Store, edit: &Edit, all: &mut Vec<u8>) -> Result<(), AllocError> {
+    match store.check(edit) {
+        Ok(()) => Ok(()),
+        Err(why) => all.extend_from_slice(why.text().as_bytes()),
     }
+}
+
+/// The edit that comes back, and why.
+fn handed_back(store: &mut Store, edit: Edit) -> Option<(Edit, Refusal)> {
     match store.prepare(edit) {
-        Ok(_) => Ok(None),
-        Err((edit, why)) => {
-            all.push(b',')?;
-            all.extend_from_slice(why.text().as_bytes())?;
-            all.push(b':')?;
-            append_removal(&edit, all)?;
-            Ok(Some(edit))
-        }
+        Ok(_) => None,
+        Err(refused) => Some(refused),
     }
+}
+
+fn append_back(edit: &Edit, why: Refusal, all: &mut Vec<u8>) -> Result<(), AllocError> {
+    all.push(b',')?;
+    all.extend_from_slice(why.text().as_bytes())?;
+    all.push(b':')?;
+    append_removal(edit, all)
 }
 
 fn append_late(
@@ -200,8 +202,9 @@ fn append_late(
     edit: Edit,
     all: &mut Vec<u8>,
 ) -> Result<(), Fail> {
-    let back = append_refused(store, edit, all)?;
-    let edit = given(back)?;
+    append_foretold(store, &edit, all)?;
+    let (edit, why) = given(handed_back(store, edit))?;
+    append_back(&edit, why, all)?;
     make_late(alloc, store, edit, all)
 }
 
@@ -548,7 +551,7 @@ fn refusals_have_numbers_and_words(rt: HostRuntime) {
         (Refusal::Form, 23, b"bad pin record"),
     ];
     for (refusal, number, words) in &rows {
-        agree(&rt, words, refusal.number() == *number, true);
+        assert_eq!(rt; refusal.number(), *number);
         same(&rt, words, refusal.text().as_bytes(), words);
     }
 }

@@ -38,13 +38,23 @@ fn pair_of(line: &[u8]) -> Option<(&[u8], &[u8], Ordering)> {
     Some((one, other, order))
 }
 
-fn judge_pair(rt: &(impl Abort + AllocGlobal), line: &[u8]) -> Result<(), Fail> {
-    let (one, other, judged) = pair_of(line).ok_or("no pair")?;
+/// Compares how two versions of a line are ordered.
+fn judge(
+    rt: &(impl Abort + AllocGlobal),
+    line: &[u8],
+    one: &[u8],
+    other: &[u8],
+    judged: Ordering,
+) -> Result<(), VersionFault> {
     let found = order(rt.alloc(), one, other)?;
     same(rt, line, sign_of(found), sign_of(judged));
-    let turned = order(rt.alloc(), other, one)?;
-    same(rt, line, sign_of(turned), sign_of(judged.reverse()));
     Ok(())
+}
+
+fn judge_pair(rt: &(impl Abort + AllocGlobal), line: &[u8]) -> Result<(), Fail> {
+    let (one, other, judged) = pair_of(line).ok_or("no pair")?;
+    judge(rt, line, one, other, judged)?;
+    Ok(judge(rt, line, other, one, judged.reverse())?)
 }
 
 /// Compares how the pairs of these lines are ordered, and counts them.
