@@ -79,7 +79,8 @@ fn append_selector(selector: &Selector, all: &mut Vec<u8>) -> Result<(), AllocEr
     }
 }
 
-fn append_pin(
+/// A pin, on a line.
+pub fn append_pin(
     alloc: Global,
     selector: &Selector,
     priority: i16,

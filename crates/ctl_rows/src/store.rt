@@ -4,7 +4,7 @@
 
 use crate::asked::{Asked, edit_asked};
 use crate::made::{add_list, edited, given};
-use crate::shown::state;
+use crate::shown::{append_pin, state};
 use crate::tables::same;
 use ctl_stanza::ListKind;
 use ctl_store::{
@@ -43,6 +43,8 @@ enum Act<'a> {
     MarkOf(&'a [u8]),
     /// Shows the priority of the first pin.
     FirstPriority,
+    /// Shows the specific pins of a package.
+    PinsOf(&'a [u8]),
 }
 
 /// A key, behind a byte.
@@ -262,6 +264,18 @@ fn append_first_priority(
     }
 }
 
+fn append_pins_of(
+    alloc: Global,
+    store: &Store,
+    package: &[u8],
+    all: &mut Vec<u8>,
+) -> Result<(), AllocError> {
+    for (selector, priority) in store.pins_of(package) {
+        append_pin(alloc, selector, priority, all)?;
+    }
+    Ok(())
+}
+
 /// Shows something of what a store holds.
 fn append_view(
     alloc: Global,
@@ -276,6 +290,7 @@ fn append_view(
         Act::List(name) => all.extend_from_slice(list_words(store, name)),
         Act::MarkOf(package) => all.extend_from_slice(mark_words(store, package)),
         Act::FirstPriority => append_first_priority(alloc, store, all),
+        Act::PinsOf(package) => append_pins_of(alloc, store, package, all),
         _ => Ok(()),
     }
 }
@@ -504,6 +519,46 @@ fn a_mark_is_a_version_or_none(rt: HostRuntime) -> Result<(), Fail> {
     ];
     let text = came(rt.alloc(), &acts)?;
     same(&rt, b"marks", &text, b"1noneno mark");
+    Ok(())
+}
+
+/// Pins of two packages, and a general one among them.
+const PINS: &str =
+    "Package: b a\nPin: version 1\nPin-Priority: 7\n\nPackage: *\nPin: release a=m\nPin-Priority: 5\n\n\
+     Package: a\nPin: release a=m\nPin-Priority: 6\n\nPackage: ab a\nPin: version 2.*\nPin-Priority: -1\n";
+
+#[test]
+fn specific_pins_of_a_package_are_given_in_order(rt: HostRuntime) -> Result<(), Fail> {
+    let prefs = Act::Make(Asked::Prefs(PINS));
+    let rows: [(&[u8], &[Act<'_>], &[u8]); 5] = [
+        (b"no pins", &[Act::PinsOf(b"a")], b""),
+        (
+            b"a version, a release and a prefix",
+            &[prefs, Act::PinsOf(b"a")],
+            b"pin a version 1 7\npin a release m 6\npin a version 2.* -1\n",
+        ),
+        (b"one", &[prefs, Act::PinsOf(b"b")], b"pin b version 1 7\n"),
+        (
+            b"a general one",
+            &[prefs, Act::PinsOf(b"*"), Act::PinsOf(b"")],
+            b"",
+        ),
+        (
+            b"set again, and taken out and set again",
+            &[
+                prefs,
+                Act::Make(Asked::Pin("a", "2.*", 9)),
+                Act::Make(Asked::Unpin("a", "1")),
+                Act::Make(Asked::Pin("a", "1", 8)),
+                Act::PinsOf(b"a"),
+            ],
+            b"pin a release m 6\npin a version 2.* 9\npin a version 1 8\n",
+        ),
+    ];
+    for (name, acts, wanted) in &rows {
+        let text = came(rt.alloc(), acts)?;
+        same(&rt, name, &text, wanted);
+    }
     Ok(())
 }
 
