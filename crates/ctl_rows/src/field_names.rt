@@ -2,6 +2,12 @@
 
 use crate::tables::same;
 use ctl_relation::FieldKind;
+use std::process::Abort;
+
+fn is_named(rt: &impl Abort, field: FieldKind, key: &[u8], printed: &[u8]) {
+    same(rt, key, field.key(), key);
+    same(rt, key, field.printed_name(), printed);
+}
 
 #[test]
 fn relation_fields_have_names(rt: HostRuntime) {
@@ -19,13 +25,7 @@ fn relation_fields_have_names(rt: HostRuntime) {
     let fields = FieldKind::nine();
     assert_eq!(rt; fields.len(), rows.len());
     for (field, (key, printed)) in fields.iter().zip(rows.iter()) {
-        same(&rt, key.as_bytes(), field.key(), key.as_bytes());
-        same(
-            &rt,
-            key.as_bytes(),
-            field.printed_name(),
-            printed.as_bytes(),
-        );
+        is_named(&rt, *field, key.as_bytes(), printed.as_bytes());
     }
 }
 

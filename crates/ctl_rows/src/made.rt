@@ -118,13 +118,15 @@ pub fn unmark(alloc: Global, package: &str) -> Option<Edit> {
     })
 }
 
+/// The setting of a priority for a version of a package.
+pub fn setting(alloc: Global, package: &str, version: &str, priority: i16) -> Option<PinSetting> {
+    let selector = selector(alloc, package, version)?;
+    Some(PinSetting { selector, priority })
+}
+
 pub fn pin(alloc: Global, package: &str, version: &str, priority: i16) -> Option<Edit> {
-    Some(Edit::Pin {
-        setting: PinSetting {
-            selector: selector(alloc, package, version)?,
-            priority,
-        },
-    })
+    let setting = setting(alloc, package, version, priority)?;
+    Some(Edit::Pin { setting })
 }
 
 pub fn unpin(alloc: Global, package: &str, version: &str) -> Option<Edit> {
@@ -166,14 +168,22 @@ pub fn given<T>(made: Option<T>) -> Result<T, Fail>
     }
 }
 
-/// Makes an edit, or gives its refusal.
-pub fn refusal(store: &mut Store, edit: Edit) -> Option<Refusal> {
+/// Makes an edit, or gives it back with its refusal.
+fn made(store: &mut Store, edit: Edit) -> Option<(Edit, Refusal)> {
     match store.prepare(edit) {
         Ok(plan) => {
             store.commit(plan);
             None
         }
-        Err((_, why)) => Some(why),
+        Err(refused) => Some(refused),
+    }
+}
+
+/// Makes an edit, or gives its refusal.
+pub fn refusal(store: &mut Store, edit: Edit) -> Option<Refusal> {
+    match made(store, edit) {
+        None => None,
+        Some((_, why)) => Some(why),
     }
 }
 
@@ -181,6 +191,6 @@ pub fn refusal(store: &mut Store, edit: Edit) -> Option<Refusal> {
 pub fn edited(store: &mut Store, edit: Edit) -> Result<(), Fail> {
     match refusal(store, edit) {
         None => Ok(()),
-        Some(why) => Err(Fail::new(format_args!("a refused edit: {}", why.text()))),
+        Some(why) => Err(Fail::from(why.text())),
     }
 }

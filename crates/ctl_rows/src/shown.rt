@@ -92,7 +92,8 @@ pub fn append_pin(
     all.extend_from_slice(told.as_bytes())
 }
 
-fn append_pins(alloc: Global, store: &Store, all: &mut Vec<u8>) -> Result<(), AllocError> {
+/// All pins, a line for each.
+pub fn append_pins(alloc: Global, store: &Store, all: &mut Vec<u8>) -> Result<(), AllocError> {
     for (selector, priority) in store.pins() {
         append_pin(alloc, selector, priority, all)?;
     }

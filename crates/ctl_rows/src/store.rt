@@ -4,7 +4,7 @@
 
 use crate::asked::{Asked, edit_asked};
 use crate::made::{add_list, edited, given};
-use crate::shown::{append_pin, state};
+use crate::shown::{append_pin, append_pins, state};
 use crate::tables::same;
 use ctl_stanza::ListKind;
 use ctl_store::{
@@ -22,7 +22,7 @@ const ADD: Asked<'static> = Asked::AddList("m", LIST);
 
 /// What is done with a store.
 #[derive(Clone, Copy)]
-enum Act<'a> {
+pub enum Act<'a> {
     /// Makes an edit.
     Make(Asked<'a>),
     /// Makes an edit, and shows the keys that are handed back.
@@ -45,6 +45,18 @@ enum Act<'a> {
     FirstPriority,
     /// Shows the specific pins of a package.
     PinsOf(&'a [u8]),
+    /// Shows all pins.
+    Pins,
+    /// Shows the priority of the general pin on a list.
+    GeneralPin(&'a [u8]),
+    /// Shows each key with the package of its stanza.
+    InOrder,
+    /// Shows the keys of a list by name and version.
+    ByName(&'a [u8]),
+    /// Shows the serial number of a list.
+    SerialOf(&'a [u8]),
+    /// Plans an edit, and shows the stanza that the plan has under a key.
+    PlanFinds(Asked<'a>, StanzaKey),
 }
 
 /// A key, behind a byte.
@@ -117,16 +129,39 @@ fn append_plan(alloc: Global, plan: &Plan, all: &mut Vec<u8>) -> Result<(), Allo
     Ok(())
 }
 
+fn planned(store: &mut Store, edit: Edit) -> Result<Plan, Fail> {
+    match store.prepare(edit) {
+        Ok(plan) => Ok(plan),
+        Err(_) => Err(Fail::from("a refused edit")),
+    }
+}
+
 fn append_planned(
     alloc: Global,
     store: &mut Store,
     edit: Edit,
     all: &mut Vec<u8>,
-) -> Result<(), AllocError> {
-    match store.prepare(edit) {
-        Ok(plan) => append_plan(alloc, &plan, all),
-        Err(_) => all.extend_from_slice(b"refused"),
+) -> Result<(), Fail> {
+    let plan = planned(store, edit)?;
+    Ok(append_plan(alloc, &plan, all)?)
+}
+
+/// The stanza that a plan has under a key, if there is one.
+fn append_come(plan: &Plan, key: StanzaKey, all: &mut Vec<u8>) -> Result<(), AllocError> {
+    match plan.find(key) {
+        Some(stanza) => all.extend_from_slice(stanza.text()),
+        None => all.extend_from_slice(b"none\n"),
     }
+}
+
+fn append_plan_finds(
+    store: &mut Store,
+    edit: Edit,
+    key: StanzaKey,
+    all: &mut Vec<u8>,
+) -> Result<(), Fail> {
+    let plan = planned(store, edit)?;
+    Ok(append_come(&plan, key, all)?)
 }
 
 fn append_committed(
@@ -198,6 +233,13 @@ fn append_back(edit: &Edit, why: Refusal, all: &mut Vec<u8>) -> Result<(), Alloc
     append_removal(edit, all)
 }
 
+/// The edit that comes back. It is shown with why it is refused.
+fn shown_back(store: &mut Store, edit: Edit, all: &mut Vec<u8>) -> Result<Edit, Fail> {
+    let (edit, why) = given(handed_back(store, edit))?;
+    append_back(&edit, why, all)?;
+    Ok(edit)
+}
+
 fn append_late(
     alloc: Global,
     store: &mut Store,
@@ -205,8 +247,7 @@ fn append_late(
     all: &mut Vec<u8>,
 ) -> Result<(), Fail> {
     append_foretold(store, &edit, all)?;
-    let (edit, why) = given(handed_back(store, edit))?;
-    append_back(&edit, why, all)?;
+    let edit = shown_back(store, edit, all)?;
     make_late(alloc, store, edit, all)
 }
 
@@ -276,6 +317,51 @@ fn append_pins_of(
     Ok(())
 }
 
+fn append_general(
+    alloc: Global,
+    priority: Option<i16>,
+    all: &mut Vec<u8>,
+) -> Result<(), AllocError> {
+    match priority {
+        Some(priority) => {
+            let told = format!(in alloc; "{priority}\n")?;
+            all.extend_from_slice(told.as_bytes())
+        }
+        None => all.extend_from_slice(b"none\n"),
+    }
+}
+
+fn append_in_order(alloc: Global, store: &Store, all: &mut Vec<u8>) -> Result<(), AllocError> {
+    for (key, stanza) in store.entries() {
+        append_key(alloc, b'#', key, all)?;
+        all.extend_from_slice(stanza.package())?;
+    }
+    Ok(())
+}
+
+fn append_by_name(
+    alloc: Global,
+    store: &Store,
+    list: &[u8],
+    all: &mut Vec<u8>,
+) -> Result<(), AllocError> {
+    for key in store.by_name(list) {
+        append_key(alloc, b'#', key, all)?;
+    }
+    all.push(b'\n')?;
+    Ok(())
+}
+
+fn append_serial(alloc: Global, serial: Option<u32>, all: &mut Vec<u8>) -> Result<(), AllocError> {
+    match serial {
+        Some(serial) => {
+            let told = format!(in alloc; "{serial}\n")?;
+            all.extend_from_slice(told.as_bytes())
+        }
+        None => all.extend_from_slice(b"none\n"),
+    }
+}
+
 /// Shows something of what a store holds.
 fn append_view(
     alloc: Global,
@@ -291,7 +377,41 @@ fn append_view(
         Act::MarkOf(package) => all.extend_from_slice(mark_words(store, package)),
         Act::FirstPriority => append_first_priority(alloc, store, all),
         Act::PinsOf(package) => append_pins_of(alloc, store, package, all),
+        Act::Pins => append_pins(alloc, store, all),
+        Act::GeneralPin(list) => append_general(alloc, store.general_pin(list), all),
+        Act::InOrder => append_in_order(alloc, store, all),
+        Act::ByName(list) => append_by_name(alloc, store, list, all),
+        Act::SerialOf(list) => append_serial(alloc, store.serial(list), all),
         _ => Ok(()),
+    }
+}
+
+/// The edit that is asked for, where one is.
+fn asked_by<'a>(act: Act<'a>) -> Option<Asked<'a>> {
+    match act {
+        Act::Make(asked)
+        | Act::MakeWithKeys(asked)
+        | Act::Plan(asked)
+        | Act::MakeLate(asked)
+        | Act::PlanFinds(asked, _) => Some(asked),
+        _ => None,
+    }
+}
+
+/// Does with an edit what is asked for.
+fn append_edit(
+    alloc: Global,
+    store: &mut Store,
+    act: Act<'_>,
+    edit: Edit,
+    all: &mut Vec<u8>,
+) -> Result<(), Fail> {
+    match act {
+        Act::MakeWithKeys(_) => Ok(append_made(alloc, store, edit, all)?),
+        Act::Plan(_) => append_planned(alloc, store, edit, all),
+        Act::MakeLate(_) => append_late(alloc, store, edit, all),
+        Act::PlanFinds(_, key) => append_plan_finds(store, edit, key, all),
+        _ => edited(store, edit),
     }
 }
 
@@ -301,16 +421,12 @@ fn append_act(
     act: Act<'_>,
     all: &mut Vec<u8>,
 ) -> Result<(), Fail> {
-    match act {
-        Act::Make(asked) => edited(store, given(edit_asked(alloc, asked))?),
-        Act::MakeWithKeys(asked) => {
-            Ok(append_made(alloc, store, given(edit_asked(alloc, asked))?, all)?)
+    match asked_by(act) {
+        Some(asked) => {
+            let edit = given(edit_asked(alloc, asked))?;
+            append_edit(alloc, store, act, edit, all)
         }
-        Act::Plan(asked) => {
-            Ok(append_planned(alloc, store, given(edit_asked(alloc, asked))?, all)?)
-        }
-        Act::MakeLate(asked) => append_late(alloc, store, given(edit_asked(alloc, asked))?, all),
-        _ => Ok(append_view(alloc, store, act, all)?),
+        None => Ok(append_view(alloc, store, act, all)?),
     }
 }
 
@@ -329,7 +445,7 @@ fn came_under(alloc: Global, limits: Limits, acts: &[Act<'_>]) -> Result<Vec<u8>
 }
 
 /// The same without limits.
-fn came(alloc: Global, acts: &[Act<'_>]) -> Result<Vec<u8>, Fail> {
+pub fn came(alloc: Global, acts: &[Act<'_>]) -> Result<Vec<u8>, Fail> {
     came_under(alloc, Limits::MOST, acts)
 }
 

@@ -213,29 +213,39 @@ fn digits(alloc: Global, first: u8, others: u8, count: usize) -> Result<Vec<u8>,
     Ok(text)
 }
 
-/// How a number of one digit less, one that is higher by one, and the same behind zeros stand to the power of ten.
-fn orders_beside_power(alloc: Global, count: usize) -> Result<[Ordering; 3], Fail>
+/// How a number of one digit less stands to the power of ten.
+fn below_power(alloc: Global, count: usize, power: &[u8]) -> Result<Ordering, Fail>
     requires { 0 < count }
 {
-    let power = digits(alloc, b'1', b'0', count)?;
     let nines = digits(alloc, b'9', b'9', count - 1)?;
+    Ok(order(alloc, &nines, power)?)
+}
+
+/// How a number that is higher by one stands to it.
+fn above_power(alloc: Global, count: usize, power: &[u8]) -> Result<Ordering, Fail>
+    requires { 0 < count }
+{
     let mut next = digits(alloc, b'1', b'0', count - 1)?;
     next.push(b'1')?;
+    Ok(order(alloc, &next, power)?)
+}
+
+/// How it stands to itself behind zeros.
+fn behind_zeros(alloc: Global, count: usize, power: &[u8]) -> Result<Ordering, Fail> {
     let mut long = digits(alloc, b'0', b'0', count)?;
-    long.extend_from_slice(&power)?;
-    Ok([
-        order(alloc, &nines, &power)?,
-        order(alloc, &next, &power)?,
-        order(alloc, &long, &power)?,
-    ])
+    long.extend_from_slice(power)?;
+    Ok(order(alloc, &long, power)?)
 }
 
 #[test]
 fn compares_numbers_of_any_size(rt: HostRuntime) -> Result<(), Fail> {
     for count in [49, 99_999] {
-        let [below, above, alike] = orders_beside_power(rt.alloc(), count)?;
+        let power = digits(rt.alloc(), b'1', b'0', count)?;
+        let below = below_power(rt.alloc(), count, &power)?;
         same(&rt, b"below", sign_of(below), b"<");
+        let above = above_power(rt.alloc(), count, &power)?;
         same(&rt, b"above", sign_of(above), b">");
+        let alike = behind_zeros(rt.alloc(), count, &power)?;
         same(&rt, b"alike", sign_of(alike), b"=");
     }
     Ok(())
