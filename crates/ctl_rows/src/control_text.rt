@@ -1,7 +1,7 @@
 //! Control text: stanzas, their fields and faults (Debian Policy 5.1, deb822(5)).
 
 use crate::tables::{agree, same};
-use ctl_relation::FieldKind;
+use ctl_relation::{FieldKind, Offer};
 use ctl_stanza::{Cause, ListKind, MAX_LINE, Stanza, TextFault, lines_take_bytes, read_stanzas};
 use std::alloc::{AllocError, Global};
 use std::process::Abort;
@@ -270,32 +270,27 @@ fn has_nothing_live(stanza: &Stanza) -> bool {
 #[test]
 fn little_is_asked_of_stanzas_that_are_not_live(rt: HostRuntime) -> Result<(), Fail> {
     // No version is asked for, and neither it nor the relation fields are checked.
-    let stanza = lone_stanza(
-        rt.alloc(),
-        ListKind::Status,
-        b"Package: a\nStatus: purge ok not-installed",
-    )?;
-    assert!(rt; has_nothing_live(&stanza));
-    same(&rt, b"package", stanza.package(), b"a");
-    let stanza = lone_stanza(
-        rt.alloc(),
-        ListKind::Status,
-        b"Package: b\nStatus: deinstall ok config-files\nVersion: 1_0\nDepends: a [x]",
-    )?;
-    assert!(rt; has_nothing_live(&stanza));
-    same(
-        &rt,
-        b"version",
-        stanza.field(b"Version").unwrap_or(b""),
-        b"1_0",
-    );
-    list_comes_to(
+    let text: &[u8] = b"Package: a\nStatus: purge ok not-installed";
+    let rows: [(Part<'_>, &[u8]); 2] = [
+        (Part::Live, b"nothing of a live stanza"),
+        (Part::Package, b"a"),
+    ];
+    parts_come_to(&rt, ListKind::Status, text, &rows)?;
+    let text: &[u8] =
+        b"Package: b\nStatus: deinstall ok config-files\nVersion: 1_0\nDepends: a [x]";
+    let rows: [(Part<'_>, &[u8]); 2] = [
+        (Part::Live, b"nothing of a live stanza"),
+        (Part::Field(b"Version"), b"1_0"),
+    ];
+    parts_come_to(&rt, ListKind::Status, text, &rows)?;
+    each_list_comes_to(
         &rt,
         ListKind::Status,
-        b"Package: a\nStatus: purge ok not-installed\n\nPackage: b\nStatus: deinstall ok config-files\nVersion: 1_0\nDepends: a [x]",
-        b"2 stanzas",
-    )?;
-    Ok(())
+        &[(
+            b"Package: a\nStatus: purge ok not-installed\n\nPackage: b\nStatus: deinstall ok config-files\nVersion: 1_0\nDepends: a [x]",
+            b"2 stanzas",
+        )],
+    )
 }
 
 #[test]
@@ -404,53 +399,127 @@ fn fields_of(alloc: Global, stanza: &Stanza) -> Result<Vec<u8>, AllocError> {
     Ok(all)
 }
 
-/// Compares the body of a field, which is to be there.
-fn field_is(rt: &(impl Abort + AllocGlobal), stanza: &Stanza, name: &[u8], wanted: &[u8]) {
-    match stanza.field(name) {
-        Some(body) => same(rt, name, body, wanted),
-        None => same(rt, name, b"no such field", wanted),
+/// A part of a stanza.
+#[derive(Clone, Copy)]
+enum Part<'a> {
+    Text,
+    Package,
+    /// The version, of a live stanza.
+    Version,
+    /// The body of a field of this name.
+    Field(&'a [u8]),
+    /// The fields, and how many there are.
+    Fields,
+    /// The groups of a field.
+    Groups(FieldKind),
+    /// The offers, and how many atoms Provides has.
+    Offers,
+    /// Whether it is live and of a packages list, or has nothing of a live one.
+    Live,
+}
+
+fn version_words(stanza: &Stanza) -> &[u8] {
+    match stanza.version() {
+        Some(version) => version.text(),
+        None => b"no version",
     }
+}
+
+fn field_words<'a>(stanza: &'a Stanza, name: &[u8]) -> &'a [u8] {
+    match stanza.field(name) {
+        Some(body) => body,
+        None => b"no such field",
+    }
+}
+
+fn live_words(stanza: &Stanza) -> &'static [u8] {
+    if has_nothing_live(stanza) {
+        b"nothing of a live stanza"
+    } else if stanza.is_live() && stanza.kind() == ListKind::Packages {
+        b"a live package"
+    } else {
+        b"another stanza"
+    }
+}
+
+fn numbered(alloc: Global, mut words: Vec<u8>, count: usize) -> Result<Vec<u8>, AllocError> {
+    let told = format!(in alloc; " {count}")?;
+    words.extend_from_slice(told.as_bytes())?;
+    Ok(words)
+}
+
+fn part_words(alloc: Global, stanza: &Stanza, part: Part<'_>) -> Result<Vec<u8>, AllocError> {
+    match part {
+        Part::Text => Vec::from_slice(alloc, stanza.text()),
+        Part::Package => Vec::from_slice(alloc, stanza.package()),
+        Part::Version => Vec::from_slice(alloc, version_words(stanza)),
+        Part::Field(name) => Vec::from_slice(alloc, field_words(stanza, name)),
+        Part::Fields => {
+            numbered(
+                alloc,
+                fields_of(alloc, stanza)?,
+                stanza.fields().size_hint().0,
+            )
+        }
+        Part::Groups(kind) => groups_of(alloc, stanza, kind),
+        Part::Offers => numbered(alloc, offers_of(alloc, stanza)?, stanza.provides().len()),
+        Part::Live => Vec::from_slice(alloc, live_words(stanza)),
+    }
+}
+
+/// Compares parts of the only stanza of a list.
+fn parts_come_to(
+    rt: &(impl Abort + AllocGlobal),
+    kind: ListKind,
+    text: &[u8],
+    rows: &[(Part<'_>, &[u8])],
+) -> Result<(), Fail> {
+    let stanza = lone_stanza(rt.alloc(), kind, text)?;
+    for (part, wanted) in rows {
+        let came = part_words(rt.alloc(), &stanza, *part)?;
+        same(rt, text, &came, wanted);
+    }
+    Ok(())
 }
 
 #[test]
 fn parts_are_lent(rt: HostRuntime) -> Result<(), Fail> {
     let text: &[u8] = b"\nPACKAGE:  a \nVersion: 1:2\nEmpty:\nRaw:\xff \xfe\t";
-    let stanza = lone_stanza(rt.alloc(), ListKind::Packages, text)?;
-    same(
-        &rt,
-        b"text",
-        stanza.text(),
-        b"PACKAGE:  a \nVersion: 1:2\nEmpty:\nRaw:\xff \xfe\t\n",
-    );
-    assert!(rt; stanza.kind() == ListKind::Packages);
-    same(&rt, b"package", stanza.package(), b"a");
-    field_is(&rt, &stanza, b"package", b"a");
-    field_is(&rt, &stanza, b"raw", b"\xff \xfe");
-    field_is(&rt, &stanza, b"Empty", b"");
-    assert!(rt; stanza.field(b"Nothing").is_none());
-    let fields = fields_of(rt.alloc(), &stanza)?;
-    same(
-        &rt,
-        b"fields",
-        &fields,
-        b"[PACKAGE=a][Version=1:2][Empty=][Raw=\xff \xfe]",
-    );
-    assert!(rt; stanza.fields().size_hint().0 == 4);
-    Ok(())
+    let rows: [(Part<'_>, &[u8]); 8] = [
+        (
+            Part::Text,
+            b"PACKAGE:  a \nVersion: 1:2\nEmpty:\nRaw:\xff \xfe\t\n",
+        ),
+        (Part::Live, b"a live package"),
+        (Part::Package, b"a"),
+        (Part::Field(b"package"), b"a"),
+        (Part::Field(b"raw"), b"\xff \xfe"),
+        (Part::Field(b"Empty"), b""),
+        (Part::Field(b"Nothing"), b"no such field"),
+        (
+            Part::Fields,
+            b"[PACKAGE=a][Version=1:2][Empty=][Raw=\xff \xfe] 4",
+        ),
+    ];
+    parts_come_to(&rt, ListKind::Packages, text, &rows)
 }
 
 #[test]
 fn bodies_are_their_lines(rt: HostRuntime) -> Result<(), Fail> {
     let text: &[u8] =
         b"Package: a\nVersion: 1\nOne: x\n y \n\t.\nTwo: x \t\n y\nThree:\n z\nFour:  \n z\n w\nFive: v ";
-    let stanza = lone_stanza(rt.alloc(), ListKind::Packages, text)?;
-    field_is(&rt, &stanza, b"one", b"x\n y \n\t.");
-    field_is(&rt, &stanza, b"two", b"x\n y");
-    field_is(&rt, &stanza, b"three", b"\n z");
-    field_is(&rt, &stanza, b"four", b"\n z\n w");
-    field_is(&rt, &stanza, b"five", b"v");
-    assert!(rt; stanza.text().len() == text.len() + 1);
-    Ok(())
+    let rows: [(Part<'_>, &[u8]); 6] = [
+        (Part::Field(b"one"), b"x\n y \n\t."),
+        (Part::Field(b"two"), b"x\n y"),
+        (Part::Field(b"three"), b"\n z"),
+        (Part::Field(b"four"), b"\n z\n w"),
+        (Part::Field(b"five"), b"v"),
+        (
+            Part::Text,
+            b"Package: a\nVersion: 1\nOne: x\n y \n\t.\nTwo: x \t\n y\nThree:\n z\nFour:  \n z\n w\nFive: v \n",
+        ),
+    ];
+    parts_come_to(&rt, ListKind::Packages, text, &rows)
 }
 
 /// The groups of a field in their printed form, each behind a bar.
@@ -463,29 +532,23 @@ fn groups_of(alloc: Global, stanza: &Stanza, kind: FieldKind) -> Result<Vec<u8>,
     Ok(all)
 }
 
-/// Compares the groups of a field.
-fn groups_are(
-    rt: &(impl Abort + AllocGlobal),
-    stanza: &Stanza,
-    kind: FieldKind,
-    wanted: &[u8],
-) -> Result<(), AllocError> {
-    let came = groups_of(rt.alloc(), stanza, kind)?;
-    same(rt, b"groups", &came, wanted);
+/// An offer in brackets.
+fn append_offer(offer: &Offer, all: &mut Vec<u8>) -> Result<(), AllocError> {
+    all.push(b'[')?;
+    all.extend_from_slice(offer.name())?;
+    if let Some(version) = offer.version() {
+        all.push(b'=')?;
+        all.extend_from_slice(version.text())?;
+    }
+    all.push(b']')?;
     Ok(())
 }
 
-/// The offers of a stanza, each in brackets.
+/// The offers of a stanza, one behind another.
 fn offers_of(alloc: Global, stanza: &Stanza) -> Result<Vec<u8>, AllocError> {
     let mut all = Vec::new(alloc);
     for offer in stanza.offers() {
-        all.push(b'[')?;
-        all.extend_from_slice(offer.name())?;
-        if let Some(version) = offer.version() {
-            all.push(b'=')?;
-            all.extend_from_slice(version.text())?;
-        }
-        all.push(b']')?;
+        append_offer(offer, &mut all)?;
     }
     Ok(all)
 }
@@ -494,26 +557,23 @@ fn offers_of(alloc: Global, stanza: &Stanza) -> Result<Vec<u8>, AllocError> {
 fn relations_are_lent(rt: HostRuntime) -> Result<(), Fail> {
     let text: &[u8] =
         b"Package: a\nDEPENDS: b | c (>= 1),\n d\nVersion: 1:2\nProvides: e, f (= 3)\nBreaks: g";
-    let stanza = lone_stanza(rt.alloc(), ListKind::Packages, text)?;
-    assert!(rt; stanza.is_live());
-    let version = stanza.version().ok_or("no version")?;
-    same(&rt, b"version", version.text(), b"1:2");
-    groups_are(&rt, &stanza, FieldKind::Depends, b"&b | c (>= 1)&d")?;
-    groups_are(&rt, &stanza, FieldKind::Breaks, b"&g")?;
-    groups_are(&rt, &stanza, FieldKind::Suggests, b"")?;
-    groups_are(&rt, &stanza, FieldKind::Provides, b"")?;
-    assert!(rt; stanza.provides().len() == 2);
-    let offers = offers_of(rt.alloc(), &stanza)?;
-    same(&rt, b"offers", &offers, b"[a=1:2][e][f=3]");
-    Ok(())
+    let rows: [(Part<'_>, &[u8]); 7] = [
+        (Part::Live, b"a live package"),
+        (Part::Version, b"1:2"),
+        (Part::Groups(FieldKind::Depends), b"&b | c (>= 1)&d"),
+        (Part::Groups(FieldKind::Breaks), b"&g"),
+        (Part::Groups(FieldKind::Suggests), b""),
+        (Part::Groups(FieldKind::Provides), b""),
+        (Part::Offers, b"[a=1:2][e][f=3] 2"),
+    ];
+    parts_come_to(&rt, ListKind::Packages, text, &rows)
 }
 
 #[test]
 fn relations_go_on_over_lines(rt: HostRuntime) -> Result<(), Fail> {
     let text: &[u8] = b"Package: a\nVersion: 1\nDepends:\n x (>=\n  1) |\n y\n";
-    let stanza = lone_stanza(rt.alloc(), ListKind::Packages, text)?;
-    groups_are(&rt, &stanza, FieldKind::Depends, b"&x (>= 1) | y")?;
-    Ok(())
+    let rows: [(Part<'_>, &[u8]); 1] = [(Part::Groups(FieldKind::Depends), b"&x (>= 1) | y")];
+    parts_come_to(&rt, ListKind::Packages, text, &rows)
 }
 
 #[test]

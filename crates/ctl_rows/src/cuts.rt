@@ -1,13 +1,344 @@
-//! Writes that fail at each byte of what a script with edits between its queries writes: the store afterwards is that of
-//! the commands done.
+//! Writes that fail at each byte of what scripts with edits between their queries write: the text before, and then the store
+//! of the commands done. The last of them is the one whose text was being written.
 
-ghost use Rattle.std.specs.Prelude.{None};
-
-use crate::run_script;
-use ctl_index::Cache;
-use ctl_session::{Failed, Fault, FromRead, Session, Sink};
-use std::alloc::Global;
+use crate::runs::{Act, came};
+use crate::tables::{front, joined, same, written};
+use std::alloc::{AllocError, Global};
+use std::process::Abort;
 use std::test::Fail;
+
+/// Worked scripts. A line behind `> ` is one that the command above writes.
+const WORKED: [&[u8]; 11] = [
+    b"\
+add-list main packages
+Package: foo
+Version: 1.0-1
+Depends: bar (>= 2), baz | qux
+
+Package: bar
+Version: 2.0
+.
+pkgnames
+> bar
+> foo
+put main
+Package: quux
+Version: 1
+Provides: baz
+.
+pkgnames
+> bar
+> foo
+> quux
+remove main quux 1
+pkgnames
+> bar
+> foo
+drop-list main
+drop-list main
+> E: line 19: no such list
+",
+    b"\
+add-list m packages
+Package: sl
+Version: 5.02-1
+.
+put m
+Package: sl
+Version: 5.02-1+b1
+.
+remove m sl 5.02-1
+pkgnames s
+> sl
+put m
+Package: sl
+Version: 0:5.02-1+b1
+Section: games
+.
+remove m sl 5.02-1
+> E: line 16: no such stanza
+remove m sl 5.02-1+b1
+pkgnames s
+remove m sl 5.02-1+b1
+> E: line 19: no such stanza
+",
+    b"\
+add-list A packages
+Package: foo
+Version: 1.0
+.
+add-list B packages notauto
+Package: foo
+Version: 1.0-0
+.
+drop-list A
+pkgnames
+> foo
+drop-list B
+add-list C packages butauto
+Package: bar
+Version: 1
+.
+pkgnames
+> bar
+drop-list A
+> E: line 17: no such list
+",
+    b"\
+add-list status status
+Package: perl
+Status: install ok installed
+Version: 5.36.0-7
+
+Package: old
+Status: deinstall ok config-files
+Version: 1
+.
+mark a 5.36.0-7
+mark b none
+pkgnames
+> perl
+mark a 2:1-1
+unmark b
+unmark b
+> E: line 15: no such mark
+put status
+Package: old
+Status: install ok installed
+Version: 1
+.
+pkgnames
+> old
+> perl
+unmark a
+unmark a
+> E: line 23: no such mark
+add-list other status
+.
+> E: line 24: a status list is already present
+",
+    b"\
+pin dgit version 10.* 990
+pin perl version 5.36.0-7 -1
+unpin dgit version 10.7*
+> E: line 3: no such pin
+pin dgit version 10.* 100
+unpin perl version 5.36.0-7
+unpin perl version 5.36.0-7
+> E: line 6: no such pin
+pin perl version 5.36.0-7 1001
+pin dgit version 10.* 0
+> E: line 8: bad priority
+",
+    b"\
+target sid
+pin * release sid 100
+pin a release main 5
+pkgnames a b
+> E: line 4: bad arguments
+target main
+unpin a release main
+unpin a release main
+> E: line 7: no such pin
+target none
+unpin * release main
+> E: line 9: no such pin
+",
+    b"\
+pin a version 1 5
+target sid
+prefs
+Package: *
+Pin: release a=sid
+Pin-Priority: 100
+
+Package: perl perl-base
+Pin: version 5.36*
+Pin-Priority: 1001
+.
+unpin a version 1
+> E: line 12: no such pin
+unpin perl version 5.36*
+unpin perl version 5.36*
+> E: line 14: no such pin
+prefs
+Package: *
+Pin: origin x
+Pin-Priority: 900
+.
+> E: line 17: bad pin record
+prefs
+.
+unpin * release sid
+> E: line 22: no such pin
+",
+    b"\
+add-list main packages
+Package: hello
+Version: 2.10-3
+.
+add-list extra packages
+Package: a
+Version: 1
+
+Package: b
+.
+> E: line 9: required field missing
+put main
+Package: a
+Version: 1
+Depends: libc6 (>= 2.36
+.
+> E: line 14: bad relation field
+put main
+Package: a
+Version: 1
+.
+pkgnames
+> a
+> hello
+add-list main packages
+.
+> E: line 21: list already present
+",
+    b"\
+add-list m packages
+Package: a
+Version: 1
+.
+mark a 1
+pin a version 1 5
+drop-list m
+pkgnames
+add-list m packages
+Package: b
+Version: 2
+.
+pkgnames
+> b
+unmark a
+unpin a version 1
+put m
+Package: a
+Version: 2
+.
+pkgnames a
+> a
+frob
+> E: line 21: unknown command
+",
+    b"\
+mark 'a' '1.0'
+  pin 'a' version '*' 7
+pin b release -x 7
+> E: line 3: bad name
+unmark a
+unmark \"a\"
+> E: line 5: bad name
+target 'none'
+mark a 1_0
+> E: line 7: bad version
+mark a 1
+drop-list
+> E: line 9: bad arguments
+",
+    b"\
+# comments and blank lines are lines
+
+add-list m packages
+Package: a
+Version: 1
+.
+mark a none
+pkgnames
+> a
+
+# a body without its end
+put m
+Package: b
+Version: 1
+> E: line 13: body has no end
+",
+];
+
+/// The script of a worked one.
+fn script_of(alloc: Global, worked: &[u8]) -> Result<Vec<u8>, AllocError> {
+    let mut script = Vec::new(alloc);
+    for line in worked.split_inclusive(|byte| *byte == b'\n') {
+        if !line.starts_with(b"> ") {
+            script.extend_from_slice(line)?;
+        }
+    }
+    Ok(script)
+}
+
+/// What the store holds behind commands that write this text.
+fn held_behind(alloc: Global, commands: &[u8], text: &[u8]) -> Result<Vec<u8>, AllocError> {
+    let all = came(alloc, &[Act::Script(commands), Act::Held])?;
+    match all.strip_prefix(text) {
+        Some(held) => Vec::from_slice(alloc, held),
+        None => Vec::from_slice(alloc, b"another text"),
+    }
+}
+
+/// Compares what a script comes to whose write fails behind this text, where this is held then.
+fn write_may_fail(
+    rt: &(impl Abort + AllocGlobal),
+    script: &[u8],
+    text: &[u8],
+    held: &[u8],
+) -> Result<(), Fail> {
+    let wanted = joined(rt.alloc(), text, b"! write failed\n", held)?;
+    let came = came(rt.alloc(), &[Act::Until(script, text.len()), Act::Held])?;
+    same(rt, script, &came, &wanted);
+    Ok(())
+}
+
+/// Compares what writes come to that fail in the text of the last of a script's first commands. It begins at a byte of theirs.
+fn writes_may_fail(
+    rt: &(impl Abort + AllocGlobal),
+    script: &[u8],
+    commands: &[u8],
+    text: &[u8],
+    from: usize,
+) -> Result<(), Fail> {
+    let told = written(rt.alloc(), commands)?;
+    same(rt, commands, &told, text);
+    let held = held_behind(rt.alloc(), commands, text)?;
+    for byte in from..text.len() {
+        write_may_fail(rt, script, front(text, byte), &held)?;
+    }
+    Ok(())
+}
+
+/// Cuts a worked script at each byte that it writes.
+fn cut(rt: &(impl Abort + AllocGlobal), worked: &[u8]) -> Result<(), Fail> {
+    let script = script_of(rt.alloc(), worked)?;
+    let mut commands = Vec::new(rt.alloc());
+    let mut text = Vec::new(rt.alloc());
+    let mut from: usize = 0;
+    for line in worked.split_inclusive(|byte| *byte == b'\n') {
+        match line.strip_prefix(b"> ") {
+            Some(told) => text.extend_from_slice(told)?,
+            None => {
+                if from < text.len() {
+                    writes_may_fail(rt, &script, &commands, &text, from)?;
+                    from = text.len();
+                }
+                commands.extend_from_slice(line)?;
+            }
+        }
+    }
+    writes_may_fail(rt, &script, &commands, &text, from)
+}
+
+#[test]
+fn a_write_may_fail_at_each_byte_of_worked_scripts(rt: HostRuntime) -> Result<(), Fail> {
+    for worked in &WORKED {
+        cut(&rt, worked)?;
+    }
+    Ok(())
+}
 
 /// Commands, the text of the last of them, which alone writes, and what [`PROBE`] then shows.
 type Step = (&'static [u8], &'static [u8], &'static [u8]);
@@ -38,70 +369,15 @@ const STEPS: [Step; 4] = [
 /// Shows the names of packages, a mark, a pin and a stanza by what is refused.
 const PROBE: &[u8] = b"pkgnames\nunmark foo\nunpin * release main\nremove main foo 1\n";
 
-/// A writer that takes so many bytes, and then fails.
-#[derive(Drop)]
-struct CutWriter {
-    taken: Vec<u8>,
-    room: usize,
-    failures: u64,
-}
-
-impl Sink for CutWriter {
-    ghost taken = { λ s. None };
-
-    ghost failures = { λ s. s.failures };
-
-    fn write(&mut self, buf: &[u8]) -> Result<usize, Failed> {
-        let count = buf.len().min(self.room);
-        if (count > 0 || buf.is_empty()) && self.taken.extend_from_slice(&buf[..count]).is_ok() {
-            self.room -= count;
-            return Ok(count);
-        }
-        self.failures = self.failures.saturating_add(1);
-        Err(Failed)
-    }
-}
-
-/// What a run came to: whether a failed write stopped it, what was written, and what the probe then shows.
-#[derive(Drop)]
-struct CutRun {
-    is_stopped: bool,
-    written: Vec<u8>,
-    shown: Vec<u8>,
-}
-
-/// Runs a script whose writer fails behind so many bytes, and then the probe.
-fn cut_run(alloc: Global, script: &[u8], room: usize) -> Option<CutRun> {
-    let Ok(mut session) = Session::new(alloc, Cache::new(alloc)) else {
-        return None;
-    };
-    let mut reader = FromRead::new(script);
-    let mut writer = CutWriter {
-        taken: Vec::new(alloc),
-        room,
-        failures: 0,
-    };
-    let outcome = session.run(&mut reader, &mut writer);
-    let _ = reader.into_inner();
-    let (Ok(_), shown) = run_script(alloc, &mut session, PROBE) else {
-        return None;
-    };
-    Some(CutRun {
-        is_stopped: outcome == Err(Fault::Write),
-        written: writer.taken,
-        shown,
-    })
-}
-
 /// The script of all steps, and what it writes.
-fn all_steps(alloc: Global) -> Option<(Vec<u8>, Vec<u8>)> {
+fn all_steps(alloc: Global) -> Result<(Vec<u8>, Vec<u8>), AllocError> {
     let mut script = Vec::new(alloc);
     let mut text = Vec::new(alloc);
     for (commands, answer, _) in STEPS {
-        script.extend_from_slice(commands).ok()?;
-        text.extend_from_slice(answer).ok()?;
+        script.extend_from_slice(commands)?;
+        text.extend_from_slice(answer)?;
     }
-    Some((script, text))
+    Ok((script, text))
 }
 
 /// What the probe shows after the step in whose text this byte stands.
@@ -118,33 +394,28 @@ fn shown_at(byte: usize) -> &'static [u8] {
 
 #[test]
 fn a_write_may_fail_at_each_byte_between_edits(rt: HostRuntime) -> Result<(), Fail> {
-    let Some((script, text)) = all_steps(rt.alloc()) else {
-        return Err(Fail::from("no memory"));
-    };
+    let (script, text) = all_steps(rt.alloc())?;
     for byte in 0..text.len() {
-        let Some(run) = cut_run(rt.alloc(), &script, byte) else {
-            return Err(Fail::from("no run"));
-        };
-        assert!(rt; run.is_stopped);
-        assert!(rt; Some(run.written.as_slice()) == text.get(..byte));
-        assert_eq!(rt; run.shown.as_slice(), shown_at(byte));
+        let wanted = joined(
+            rt.alloc(),
+            &text[..byte],
+            b"! write failed\n",
+            shown_at(byte),
+        )?;
+        let acts = [Act::Until(&script, byte), Act::Script(PROBE)];
+        let came = came(rt.alloc(), &acts)?;
+        same(&rt, &text[..byte], &came, &wanted);
     }
     Ok(())
 }
 
 #[test]
 fn the_steps_are_written_whole_where_there_is_room(rt: HostRuntime) -> Result<(), Fail> {
-    let Some((script, text)) = all_steps(rt.alloc()) else {
-        return Err(Fail::from("no memory"));
-    };
-    let Some(run) = cut_run(rt.alloc(), &script, 1000) else {
-        return Err(Fail::from("no run"));
-    };
-    assert!(rt; !run.is_stopped);
-    assert_eq!(rt; run.written.as_slice(), text.as_slice());
-    assert_eq!(rt;
-        run.shown.as_slice(),
-        b"E: line 2: no such mark\nE: line 4: no such list\n".as_slice()
-    );
+    let (script, text) = all_steps(rt.alloc())?;
+    let shown: &[u8] = b"E: line 2: no such mark\nE: line 4: no such list\n";
+    let wanted = joined(rt.alloc(), &text, b"", shown)?;
+    let acts = [Act::Until(&script, 1000), Act::Script(PROBE)];
+    let came = came(rt.alloc(), &acts)?;
+    same(&rt, b"room enough", &came, &wanted);
     Ok(())
 }

@@ -99,25 +99,15 @@ fn each_edit_has_its_refusals(rt: HostRuntime) -> Result<(), Fail> {
             (b"remove main a 1_0\n", b"E: line 1: bad version\n"),
             (b"remove main a! 1_0\n", b"E: line 1: bad name\n"),
             (b"remove main a\n", b"E: line 1: bad arguments\n"),
-            (b"unmark a\n", b"E: line 1: no such mark\n"),
-            (b"mark a 1_0\n", b"E: line 1: bad version\n"),
-            (b"mark a! none\n", b"E: line 1: bad name\n"),
-            (b"mark a\n", b"E: line 1: bad arguments\n"),
-            (b"pin a version 1\n", b"E: line 1: bad arguments\n"),
-            (b"pin a version 1 0\n", b"E: line 1: bad priority\n"),
-            (b"pin a version 1 32768\n", b"E: line 1: bad priority\n"),
-            (b"pin a version 1 -32768\n", b""),
-            (b"pin a version 1_* 5\n", b"E: line 1: bad version\n"),
-            (b"pin '*' version 1 5\n", b"E: line 1: bad arguments\n"),
-            (b"pin a release m! 5\n", b"E: line 1: bad name\n"),
-            (b"pin a origin x 5\n", b"E: line 1: bad arguments\n"),
-            (b"pin a! version 1_ 0\n", b"E: line 1: bad name\n"),
-            (b"unpin a version 1\n", b"E: line 1: no such pin\n"),
-            (b"unpin a version 1 5\n", b"E: line 1: bad arguments\n"),
-            (b"unpin '*' version 1\n", b"E: line 1: bad arguments\n"),
-            (b"target\n", b"E: line 1: bad arguments\n"),
-            (b"target m!\n", b"E: line 1: bad name\n"),
-            (b"target a b\n", b"E: line 1: bad arguments\n"),
+        ],
+    )
+}
+
+#[test]
+fn status_lists_have_their_refusals(rt: HostRuntime) -> Result<(), Fail> {
+    each_writes(
+        &rt,
+        &[
             (
                 b"add-list status status\nPackage: c\nStatus: install ok installed\nVersion: 1\n\nPackage: d\nStatus: deinstall ok config-files\n.\nadd-list other status\n.\n",
                 b"E: line 9: a status list is already present\n",
@@ -142,6 +132,34 @@ fn each_edit_has_its_refusals(rt: HostRuntime) -> Result<(), Fail> {
                 b"add-list s status\nPackage: a\nStatus: install ok installed\n.\n",
                 b"E: line 2: required field missing\n",
             ),
+        ],
+    )
+}
+
+#[test]
+fn each_setting_has_its_refusals(rt: HostRuntime) -> Result<(), Fail> {
+    each_writes(
+        &rt,
+        &[
+            (b"unmark a\n", b"E: line 1: no such mark\n"),
+            (b"mark a 1_0\n", b"E: line 1: bad version\n"),
+            (b"mark a! none\n", b"E: line 1: bad name\n"),
+            (b"mark a\n", b"E: line 1: bad arguments\n"),
+            (b"pin a version 1\n", b"E: line 1: bad arguments\n"),
+            (b"pin a version 1 0\n", b"E: line 1: bad priority\n"),
+            (b"pin a version 1 32768\n", b"E: line 1: bad priority\n"),
+            (b"pin a version 1 -32768\n", b""),
+            (b"pin a version 1_* 5\n", b"E: line 1: bad version\n"),
+            (b"pin '*' version 1 5\n", b"E: line 1: bad arguments\n"),
+            (b"pin a release m! 5\n", b"E: line 1: bad name\n"),
+            (b"pin a origin x 5\n", b"E: line 1: bad arguments\n"),
+            (b"pin a! version 1_ 0\n", b"E: line 1: bad name\n"),
+            (b"unpin a version 1\n", b"E: line 1: no such pin\n"),
+            (b"unpin a version 1 5\n", b"E: line 1: bad arguments\n"),
+            (b"unpin '*' version 1\n", b"E: line 1: bad arguments\n"),
+            (b"target\n", b"E: line 1: bad arguments\n"),
+            (b"target m!\n", b"E: line 1: bad name\n"),
+            (b"target a b\n", b"E: line 1: bad arguments\n"),
             (b"prefs x\n.\n", b"E: line 1: bad arguments\n"),
             (
                 b"prefs\nPackage: a\nPin: version 1\n.\n",

@@ -1,7 +1,7 @@
 //! Runs that stop before their end.
 
 use crate::runs::{Act, came, came_of, fault_words};
-use crate::tables::same;
+use crate::tables::{joined, same};
 use ctl_session::Fault;
 use ctl_store::Limits;
 use std::alloc::{AllocError, Global};
@@ -44,14 +44,6 @@ const THREE_LISTS: &[u8] =
 
 /// Asks for the names, and drops the three lists.
 const DROPS: &[u8] = b"pkgnames\ndrop-list main\ndrop-list sid\ndrop-list status\n";
-
-/// Three texts, one behind another.
-fn joined(alloc: Global, first: &[u8], second: &[u8], third: &[u8]) -> Result<Vec<u8>, AllocError> {
-    let mut all = Vec::from_slice(alloc, first)?;
-    all.extend_from_slice(second)?;
-    all.extend_from_slice(third)?;
-    Ok(all)
-}
 
 #[test]
 fn a_write_may_fail_at_each_byte(rt: HostRuntime) -> Result<(), Fail> {

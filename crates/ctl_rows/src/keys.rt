@@ -1,136 +1,105 @@
 //! The views of a store by keys, and copies of its settings.
 
-use crate::made::{add_list, edited, given, put, selector, version};
-use ctl_stanza::Stanza;
-use ctl_store::{Edit, PinSetting, Selector, StanzaKey, Store};
-use std::alloc::Global;
+use crate::asked::Asked;
+use crate::made::{given, setting, version};
+use crate::shown::append_pin;
+use crate::store::{Act, came};
+use crate::tables::same;
+use ctl_store::{PinSetting, StanzaKey};
+use std::alloc::{AllocError, Global};
 use std::test::Fail;
 
 /// The list `m` that the tests begin with.
-const LIST: &str = "Package: b\nVersion: 1\n\nPackage: a\nVersion: 2\n\nPackage: a\nVersion: 1\n";
+const ADD: Act<'static> = Act::Make(Asked::AddList(
+    "m",
+    "Package: b\nVersion: 1\n\nPackage: a\nVersion: 2\n\nPackage: a\nVersion: 1\n",
+));
 
-/// A store with the list `m`.
-fn with_list(alloc: Global) -> Result<Store, Fail> {
-    let mut store = Store::new(alloc);
-    edited(&mut store, given(add_list(alloc, LIST))?)?;
-    Ok(store)
-}
-
-/// Whether a stanza is of this package and version.
-fn is_of(stanza: Option<&Stanza>, package: &[u8], text: &[u8]) -> bool {
-    match stanza {
-        Some(stanza) => {
-            stanza.package() == package
-                && match stanza.version() {
-                    Some(version) => version.text() == text,
-                    None => false,
-                }
-        }
-        None => false,
-    }
-}
-
-/// Whether the next entry has this serial and is of this package.
-fn is_entry(entry: Option<(StanzaKey, &Stanza)>, serial: u64, package: &[u8]) -> bool {
-    match entry {
-        Some((key, stanza)) => key.stanza == serial && stanza.package() == package,
-        None => false,
-    }
+/// The key of a stanza of the first list.
+const fn key(stanza: u64) -> StanzaKey {
+    StanzaKey { list: 0, stanza }
 }
 
 #[test]
 fn entries_stand_in_order(rt: HostRuntime) -> Result<(), Fail> {
-    let store = with_list(rt.alloc())?;
-    let mut entries = store.entries();
-    let first = is_entry(entries.next(), 0, b"b");
-    let second = is_entry(entries.next(), 1, b"a");
-    let third = is_entry(entries.next(), 2, b"a");
-    assert!(rt; first);
-    assert!(rt; second);
-    assert!(rt; third);
-    assert!(rt; entries.next().is_none());
+    let text = came(rt.alloc(), &[ADD, Act::InOrder])?;
+    same(&rt, b"m", &text, b"#0.0b#0.1a#0.2a");
     Ok(())
 }
 
 #[test]
 fn keys_by_name_go_by_versions_too(rt: HostRuntime) -> Result<(), Fail> {
-    let store = with_list(rt.alloc())?;
-    let mut keys = store.by_name(b"m");
-    for serial in [2, 1, 0] {
-        let key = StanzaKey {
-            list: 0,
-            stanza: serial,
-        };
-        assert_eq!(rt; keys.next(), Some(key));
-    }
-    assert_eq!(rt; keys.next(), None);
-    assert_eq!(rt; store.by_name(b"n").next(), None);
+    let text = came(rt.alloc(), &[ADD, Act::ByName(b"m"), Act::ByName(b"n")])?;
+    same(&rt, b"m and n", &text, b"#0.2#0.1#0.0\n\n");
     Ok(())
 }
 
 #[test]
 fn a_list_has_a_serial(rt: HostRuntime) -> Result<(), Fail> {
-    let store = with_list(rt.alloc())?;
-    assert_eq!(rt; store.serial(b"m"), Some(0));
-    assert_eq!(rt; store.serial(b"n"), None);
+    let text = came(rt.alloc(), &[ADD, Act::SerialOf(b"m"), Act::SerialOf(b"n")])?;
+    same(&rt, b"m and n", &text, b"0\nnone\n");
     Ok(())
-}
-
-/// Whether the plan that the store makes has a stanza of package c under the next key alone.
-fn plans_c(store: &mut Store, edit: Edit) -> bool {
-    match store.prepare(edit) {
-        Ok(plan) => {
-            let next = StanzaKey { list: 0, stanza: 3 };
-            let last = StanzaKey { list: 0, stanza: 2 };
-            is_of(plan.find(next), b"c", b"4") && plan.find(last).is_none()
-        }
-        Err(_) => false,
-    }
 }
 
 #[test]
 fn a_plan_finds_what_comes(rt: HostRuntime) -> Result<(), Fail> {
-    let mut store = with_list(rt.alloc())?;
-    let edit = given(put(rt.alloc(), "Package: c\nVersion: 4\n"))?;
-    let planned = plans_c(&mut store, edit);
-    assert!(rt; planned);
+    let put = Asked::Put("Package: c\nVersion: 4\n");
+    let acts = [
+        ADD,
+        Act::PlanFinds(put, key(3)),
+        Act::PlanFinds(put, key(2)),
+    ];
+    let text = came(rt.alloc(), &acts)?;
+    same(
+        &rt,
+        b"the next key and the last",
+        &text,
+        b"Package: c\nVersion: 4\nnone\n",
+    );
     Ok(())
+}
+
+/// The text of a copy of a version.
+fn copied(alloc: Global, text: &str) -> Option<Vec<u8>> {
+    let copy = version(alloc, text)?.try_clone(alloc).ok()?;
+    Vec::from_slice(alloc, copy.text()).ok()
 }
 
 #[test]
 fn a_version_is_copied(rt: HostRuntime) -> Result<(), Fail> {
-    let one = given(version(rt.alloc(), "1.0-2"))?;
-    let copy = one.try_clone(rt.alloc())?;
-    let same = copy.text() == one.text();
-    assert!(rt; same);
+    let came = given(copied(rt.alloc(), "1.0-2"))?;
+    same(&rt, b"a copy", &came, b"1.0-2");
     Ok(())
 }
 
-/// Whether a selector is of this package and version pin.
-fn is_selector(selector: &Selector, name: &[u8], text: &[u8]) -> bool {
-    match selector {
-        Selector::Version { package, version } => {
-            package.as_slice() == name && version.text() == text
-        }
-        Selector::Release {
-            package: _,
-            list: _,
-        } => false,
+/// A copy of a setting for a version of package a.
+fn setting_copied(alloc: Global, text: &str) -> Option<PinSetting> {
+    let setting = setting(alloc, "a", text, 7)?;
+    setting.try_clone(alloc).ok()
+}
+
+/// Whether two settings have equal selectors, and the first of them as a line.
+fn compared(alloc: Global, one: &PinSetting, other: &PinSetting) -> Result<Vec<u8>, AllocError> {
+    let mut all = Vec::new(alloc);
+    if one.selector == other.selector {
+        all.extend_from_slice(b"equal ")?;
     }
+    append_pin(alloc, &one.selector, one.priority, &mut all)?;
+    Ok(all)
+}
+
+/// What comes of a copy of a setting, compared with the setting.
+fn copy_words(alloc: Global, text: &str) -> Result<Vec<u8>, Fail> {
+    let copy = given(setting_copied(alloc, text))?;
+    let made = given(setting(alloc, "a", text, 7))?;
+    Ok(compared(alloc, &copy, &made)?)
 }
 
 #[test]
 fn a_setting_is_copied(rt: HostRuntime) -> Result<(), Fail> {
-    for text in ["1.0-2", "1.*"] {
-        let setting = PinSetting {
-            selector: given(selector(rt.alloc(), "a", text))?,
-            priority: 7,
-        };
-        let copy = setting.try_clone(rt.alloc())?;
-        let same = copy.selector == setting.selector && copy.priority == 7;
-        let is_it = is_selector(&copy.selector, b"a", text.as_bytes());
-        assert!(rt; same);
-        assert!(rt; is_it);
-    }
+    let came = copy_words(rt.alloc(), "1.0-2")?;
+    same(&rt, b"a version", &came, b"equal pin a version 1.0-2 7\n");
+    let came = copy_words(rt.alloc(), "1.*")?;
+    same(&rt, b"a prefix", &came, b"equal pin a version 1.* 7\n");
     Ok(())
 }

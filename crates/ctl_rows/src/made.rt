@@ -5,7 +5,8 @@ ghost use Rattle.std.specs.Prelude.{◌≡◌, Some, IfOk};
 use ctl_relation::{Bytes, Version};
 use ctl_stanza::{ListKind, Stanza, lines_take_bytes, read_stanzas};
 use ctl_store::{
-    Edit, ListClass, PinSetting, PinSettings, PinVersion, Selector, Store, boxed, read_prefs,
+    Edit, ListClass, PinSetting, PinSettings, PinVersion, Refusal, Selector, Store, boxed,
+    read_prefs,
 };
 use std::alloc::Global;
 use std::test::Fail;
@@ -117,13 +118,15 @@ pub fn unmark(alloc: Global, package: &str) -> Option<Edit> {
     })
 }
 
+/// The setting of a priority for a version of a package.
+pub fn setting(alloc: Global, package: &str, version: &str, priority: i16) -> Option<PinSetting> {
+    let selector = selector(alloc, package, version)?;
+    Some(PinSetting { selector, priority })
+}
+
 pub fn pin(alloc: Global, package: &str, version: &str, priority: i16) -> Option<Edit> {
-    Some(Edit::Pin {
-        setting: PinSetting {
-            selector: selector(alloc, package, version)?,
-            priority,
-        },
-    })
+    let setting = setting(alloc, package, version, priority)?;
+    Some(Edit::Pin { setting })
 }
 
 pub fn unpin(alloc: Global, package: &str, version: &str) -> Option<Edit> {
@@ -165,13 +168,29 @@ pub fn given<T>(made: Option<T>) -> Result<T, Fail>
     }
 }
 
-/// Makes an edit that the store accepts.
-pub fn edited(store: &mut Store, edit: Edit) -> Result<(), Fail> {
+/// Makes an edit, or gives it back with its refusal.
+fn made(store: &mut Store, edit: Edit) -> Option<(Edit, Refusal)> {
     match store.prepare(edit) {
         Ok(plan) => {
             store.commit(plan);
-            Ok(())
+            None
         }
-        Err(_) => Err(Fail::from("a refused edit")),
+        Err(refused) => Some(refused),
+    }
+}
+
+/// Makes an edit, or gives its refusal.
+pub fn refusal(store: &mut Store, edit: Edit) -> Option<Refusal> {
+    match made(store, edit) {
+        None => None,
+        Some((_, why)) => Some(why),
+    }
+}
+
+/// Makes an edit that the store accepts.
+pub fn edited(store: &mut Store, edit: Edit) -> Result<(), Fail> {
+    match refusal(store, edit) {
+        None => Ok(()),
+        Some(why) => Err(Fail::from(why.text())),
     }
 }

@@ -1,9 +1,11 @@
 //! Pin settings, in order and by what they are for.
 
-use crate::made::{edited, given, pin, prefs, selector, unpin};
+use crate::asked::Asked;
+use crate::made::{given, selector};
+use crate::store::{Act, came};
+use crate::tables::same;
 use ctl_store::{
-    PinSetting, PinSettings, Store, first_setting_counts, settings_by_package,
-    told_prefs_fault_is_least,
+    PinSetting, PinSettings, first_setting_counts, settings_by_package, told_prefs_fault_is_least,
 };
 use std::alloc::{AllocError, Global};
 use std::test::Fail;
@@ -20,52 +22,80 @@ fn set(
     Ok(())
 }
 
+/// Settings of packages b, a and b again.
+fn set_thrice(alloc: Global) -> Result<PinSettings, Fail> {
+    let mut settings = PinSettings::new(alloc);
+    set(alloc, &mut settings, "b", 5)?;
+    set(alloc, &mut settings, "a", 6)?;
+    set(alloc, &mut settings, "b", 7)?;
+    Ok(settings)
+}
+
+/// The priorities of settings, in order.
+fn priorities(alloc: Global, settings: &PinSettings) -> Result<Vec<i16>, AllocError> {
+    let shown = settings.iter().map(|(_selector, priority)| priority);
+    shown.collect(alloc)
+}
+
+fn priorities_of_thrice(alloc: Global) -> Result<Vec<i16>, Fail> {
+    let settings = set_thrice(alloc)?;
+    Ok(priorities(alloc, &settings)?)
+}
+
+/// The priority that settings have for a version of package a.
+fn found(alloc: Global, settings: &PinSettings, version: &str) -> Option<Option<i16>> {
+    let selector = selector(alloc, "a", version)?;
+    Some(settings.get(&selector))
+}
+
+fn found_of_thrice(alloc: Global, version: &str) -> Result<Option<i16>, Fail> {
+    let settings = set_thrice(alloc)?;
+    given(found(alloc, &settings, version))
+}
+
 #[test]
 fn a_setting_that_is_set_again_keeps_its_place(rt: HostRuntime) -> Result<(), Fail> {
-    let mut settings = PinSettings::new(rt.alloc());
-    set(rt.alloc(), &mut settings, "b", 5)?;
-    set(rt.alloc(), &mut settings, "a", 6)?;
-    set(rt.alloc(), &mut settings, "b", 7)?;
-    let priorities = settings.iter().map(|(_selector, priority)| priority);
-    let shown: Vec<i16> = priorities.collect(rt.alloc())?;
+    let shown = priorities_of_thrice(rt.alloc())?;
     assert_eq!(rt; shown.as_slice(), [7, 6].as_slice());
-    let found = settings.get(&given(selector(rt.alloc(), "a", "1"))?);
-    assert_eq!(rt; found, Some(6));
-    let other = settings.get(&given(selector(rt.alloc(), "a", "2"))?);
-    assert_eq!(rt; other, None);
+    assert_eq!(rt; found_of_thrice(rt.alloc(), "1")?, Some(6));
+    assert_eq!(rt; found_of_thrice(rt.alloc(), "2")?, None);
     Ok(())
 }
 
 #[test]
 fn a_general_pin_is_that_of_its_list(rt: HostRuntime) -> Result<(), Fail> {
-    let mut store = Store::new(rt.alloc());
     let text =
         "Package: a\nPin: release a=main\nPin-Priority: 7\n\nPackage: *\nPin: release a=sid\nPin-Priority: 100\n";
-    edited(&mut store, given(prefs(rt.alloc(), text))?)?;
-    assert_eq!(rt; store.general_pin(b"sid"), Some(100));
-    assert_eq!(rt; store.general_pin(b"main"), None);
+    let acts = [
+        Act::Make(Asked::Prefs(text)),
+        Act::GeneralPin(b"sid"),
+        Act::GeneralPin(b"main"),
+    ];
+    let came = came(rt.alloc(), &acts)?;
+    same(&rt, text.as_bytes(), &came, b"100\nnone\n");
     Ok(())
-}
-
-/// The priorities of a store's pins, in order.
-fn priorities(alloc: Global, store: &Store) -> Result<Vec<i16>, AllocError> {
-    let shown = store.pins().map(|(_selector, priority)| priority);
-    shown.collect(alloc)
 }
 
 #[test]
 fn pins_that_are_left_keep_their_order(rt: HostRuntime) -> Result<(), Fail> {
-    let rows = [("d", 1), ("b", 2), ("e", 3), ("a", 4), ("c", 5)];
-    let mut store = Store::new(rt.alloc());
-    for (name, priority) in rows {
-        edited(&mut store, given(pin(rt.alloc(), name, "1", priority))?)?;
-    }
-    for name in ["d", "a"] {
-        edited(&mut store, given(unpin(rt.alloc(), name, "1"))?)?;
-    }
-    edited(&mut store, given(pin(rt.alloc(), "d", "1", 8))?)?;
-    let left = priorities(rt.alloc(), &store)?;
-    assert_eq!(rt; left.as_slice(), [2, 3, 5, 8].as_slice());
+    let acts = [
+        Act::Make(Asked::Pin("d", "1", 1)),
+        Act::Make(Asked::Pin("b", "1", 2)),
+        Act::Make(Asked::Pin("e", "1", 3)),
+        Act::Make(Asked::Pin("a", "1", 4)),
+        Act::Make(Asked::Pin("c", "1", 5)),
+        Act::Make(Asked::Unpin("d", "1")),
+        Act::Make(Asked::Unpin("a", "1")),
+        Act::Make(Asked::Pin("d", "1", 8)),
+        Act::Pins,
+    ];
+    let came = came(rt.alloc(), &acts)?;
+    same(
+        &rt,
+        b"pins",
+        &came,
+        b"pin b version 1 2\npin e version 1 3\npin c version 1 5\npin d version 1 8\n",
+    );
     Ok(())
 }
 

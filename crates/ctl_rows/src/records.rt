@@ -9,18 +9,30 @@ use std::alloc::{AllocError, Global};
 use std::process::Abort;
 use std::test::Fail;
 
-/// A record: the number of its first line, and its fields with the numbers of theirs, each in brackets.
+/// A field with the number of its line, in brackets.
+fn append_field(
+    alloc: Global,
+    name: &[u8],
+    body: &[u8],
+    line: u64,
+    all: &mut Vec<u8>,
+) -> Result<(), AllocError> {
+    let number = format!(in alloc; "[{line} ")?;
+    all.extend_from_slice(number.as_bytes())?;
+    all.extend_from_slice(name)?;
+    all.push(b'=')?;
+    all.extend_from_slice(body)?;
+    all.push(b']')?;
+    Ok(())
+}
+
+/// A record: the number of its first line, how many fields it has, and these.
 fn append_record(alloc: Global, record: &Record, all: &mut Vec<u8>) -> Result<(), AllocError> {
     let fields = record.fields().size_hint().0;
     let first = format!(in alloc; "{}, {fields} fields: ", record.first_line())?;
     all.extend_from_slice(first.as_bytes())?;
     for (name, body, line) in record.fields() {
-        let number = format!(in alloc; "[{line} ")?;
-        all.extend_from_slice(number.as_bytes())?;
-        all.extend_from_slice(name)?;
-        all.push(b'=')?;
-        all.extend_from_slice(body)?;
-        all.push(b']')?;
+        append_field(alloc, name, body, line, all)?;
     }
     all.push(b'\n')?;
     Ok(())

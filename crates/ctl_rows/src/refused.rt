@@ -5,8 +5,8 @@
 //! a vector gives room back. What it asserts holds at each request.
 
 use crate::made::{
-    add_list, drop_list, mark, mark_none, pin, prefs, put, remove, target, target_none, unmark,
-    unpin,
+    add_list, drop_list, mark, mark_none, pin, prefs, put, refusal, remove, target, target_none,
+    unmark, unpin,
 };
 use crate::shown::{keys, state};
 use crate::tables::same;
@@ -58,17 +58,6 @@ pub fn held(alloc: Global, store: &Store) -> Result<Vec<u8>, AllocError> {
     let keys = keys(alloc, store)?;
     all.extend_from_slice(&keys)?;
     Ok(all)
-}
-
-/// Makes an edit, or gives its refusal.
-fn refusal(store: &mut Store, edit: Edit) -> Option<Refusal> {
-    match store.prepare(edit) {
-        Ok(plan) => {
-            store.commit(plan);
-            None
-        }
-        Err((_, why)) => Some(why),
-    }
 }
 
 /// What came of an edit.

@@ -2,7 +2,7 @@
 
 use crate::tables::{agree, pair, same};
 use ctl_relation::{
-    Atom, FieldKind, Groups, Offer, Operator, RelationFault, Relations, Steps, Version,
+    Atom, FieldKind, Group, Groups, Offer, Operator, RelationFault, Relations, Steps, Version,
     parse_relations, read_places,
 };
 use std::alloc::{AllocError, Global};
@@ -165,30 +165,58 @@ fn lone_atom<'a>(relations: &'a Relations<'_>) -> Result<Atom<'a>, Fail> {
     Ok(group.get(0).ok_or("an atom is missing")?)
 }
 
+/// The name, the qualifier, the operator and the version of an atom, each in brackets.
+fn atom_words(alloc: Global, atom: &Atom<'_>) -> Result<Vec<u8>, AllocError> {
+    let mut all = Vec::new(alloc);
+    append_word(atom.name(), &mut all)?;
+    if let Some(qualifier) = atom.qualifier() {
+        append_word(qualifier, &mut all)?;
+    }
+    if let Some((operator, version)) = atom.bound() {
+        append_word(operator.text(), &mut all)?;
+        append_word(version, &mut all)?;
+    }
+    Ok(all)
+}
+
+fn append_word(word: &[u8], all: &mut Vec<u8>) -> Result<(), AllocError> {
+    all.push(b'[')?;
+    all.extend_from_slice(word)?;
+    all.push(b']')?;
+    Ok(())
+}
+
+/// The parts of the only atom of a field.
+fn lone_words(alloc: Global, kind: FieldKind, body: &[u8]) -> Result<Vec<u8>, Fail> {
+    let relations = parse_relations(alloc, body, kind)?;
+    let atom = lone_atom(&relations)?;
+    Ok(atom_words(alloc, &atom)?)
+}
+
+/// The only atom of a field in its printed form, behind a text.
+fn lone_printed(alloc: Global, kind: FieldKind, body: &[u8]) -> Result<Vec<u8>, Fail> {
+    let relations = parse_relations(alloc, body, kind)?;
+    let atom = lone_atom(&relations)?;
+    let mut out = Vec::from_slice(alloc, b"Depends: ")?;
+    atom.append_to(&mut out)?;
+    Ok(out)
+}
+
 #[test]
 fn parts_of_an_atom(rt: HostRuntime) -> Result<(), Fail> {
-    let relations = parse_relations(rt.alloc(), b" python3:any ( >= 3.1~ ) ", FieldKind::Depends)?;
-    let atom = lone_atom(&relations)?;
-    same(&rt, b"name", atom.name(), b"python3");
-    let qualifier = atom.qualifier().ok_or("a qualifier is missing")?;
-    same(&rt, b"qualifier", qualifier, b"any");
-    let (operator, version) = atom.bound().ok_or("a bound is missing")?;
-    assert!(rt; operator == Operator::LaterOrEqual);
-    same(&rt, b"operator", operator.text(), b">=");
-    same(&rt, b"version", version, b"3.1~");
-    let mut out = Vec::from_slice(rt.alloc(), b"Depends: ")?;
-    atom.append_to(&mut out)?;
-    same(&rt, b"printed", &out, b"Depends: python3:any (>= 3.1~)");
+    let body: &[u8] = b" python3:any ( >= 3.1~ ) ";
+    let came = lone_words(rt.alloc(), FieldKind::Depends, body)?;
+    same(&rt, body, &came, b"[python3][any][>=][3.1~]");
+    let came = lone_printed(rt.alloc(), FieldKind::Depends, body)?;
+    same(&rt, body, &came, b"Depends: python3:any (>= 3.1~)");
+    same(&rt, b"operator", Operator::LaterOrEqual.text(), b">=");
     Ok(())
 }
 
 #[test]
 fn bare_atom(rt: HostRuntime) -> Result<(), Fail> {
-    let relations = parse_relations(rt.alloc(), b"a", FieldKind::Provides)?;
-    let atom = lone_atom(&relations)?;
-    same(&rt, b"name", atom.name(), b"a");
-    assert!(rt; atom.qualifier().is_none());
-    assert!(rt; atom.bound().is_none());
+    let came = lone_words(rt.alloc(), FieldKind::Provides, b"a")?;
+    same(&rt, b"a", &came, b"[a]");
     Ok(())
 }
 
@@ -196,8 +224,9 @@ fn bare_atom(rt: HostRuntime) -> Result<(), Fail> {
 fn order_of_fields(rt: HostRuntime) {
     for (i, kind) in NINE.iter().enumerate() {
         for (j, other) in NINE.iter().enumerate() {
-            let is_right = kind.cmp(other) == i.cmp(&j) && (*kind == *other) == (i == j);
-            assert!(rt; is_right, "fields {i} and {j}");
+            let (order, is_equal) = (kind.cmp(other), *kind == *other);
+            let is_right = order == i.cmp(&j) && is_equal == (i == j);
+            assert!(rt; is_right, "fields {i} and {j}: {order:?}, {is_equal}");
         }
     }
 }
@@ -274,14 +303,25 @@ fn tests_are_counted(rt: HostRuntime) -> Result<(), Fail> {
     Ok(())
 }
 
+/// The name of an offer, and its version where it has one.
+fn offer_words(alloc: Global, name: &[u8], version: Option<&[u8]>) -> Result<Vec<u8>, Fail> {
+    let offer = offer_of(alloc, name, version)?;
+    Ok(parts_of(alloc, &offer)?)
+}
+
+fn parts_of(alloc: Global, offer: &Offer) -> Result<Vec<u8>, AllocError> {
+    match offer.version() {
+        Some(version) => pair(alloc, offer.name(), version.text()),
+        None => Vec::from_slice(alloc, offer.name()),
+    }
+}
+
 #[test]
 fn an_offer_has_its_parts(rt: HostRuntime) -> Result<(), Fail> {
-    let offer = offer_of(rt.alloc(), b"baz", Some(b"1-0"))?;
-    same(&rt, b"name", offer.name(), b"baz");
-    let version = offer.version().ok_or("a version is missing")?;
-    same(&rt, b"version", version.text(), b"1-0");
-    let offer = offer_of(rt.alloc(), b"baz", None)?;
-    assert!(rt; offer.version().is_none());
+    let came = offer_words(rt.alloc(), b"baz", Some(b"1-0"))?;
+    same(&rt, b"with a version", &came, b"baz and 1-0");
+    let came = offer_words(rt.alloc(), b"baz", None)?;
+    same(&rt, b"without", &came, b"baz");
     Ok(())
 }
 
@@ -312,22 +352,34 @@ fn groups_are_given_in_order(rt: HostRuntime) -> Result<(), Fail> {
     Ok(())
 }
 
+/// The names of the atoms by their numbers, up to the first that isn't there.
+fn append_numbered_atoms(group: &Group<'_>, all: &mut Vec<u8>) -> Result<(), AllocError> {
+    for j in 0..group.len().saturating_add(1) {
+        match group.get(j) {
+            Some(atom) => all.extend_from_slice(atom.name())?,
+            None => all.push(b'.')?,
+        }
+    }
+    Ok(())
+}
+
+/// The same of the groups.
+fn numbered_names(alloc: Global, groups: Groups<'_>) -> Result<Vec<u8>, AllocError> {
+    let mut all = Vec::new(alloc);
+    for i in 0..groups.len().saturating_add(1) {
+        match groups.get(i) {
+            Some(group) => append_numbered_atoms(&group, &mut all)?,
+            None => all.push(b'!')?,
+        }
+    }
+    Ok(all)
+}
+
 #[test]
 fn groups_and_atoms_have_their_numbers(rt: HostRuntime) -> Result<(), Fail> {
     let relations = parse_relations(rt.alloc(), MIXED, FieldKind::Depends)?;
-    let groups = relations.groups();
-    let wanted: [&[u8]; 5] = [b"a", b"bc", b"d", b"efg", b"h"];
-    assert_eq!(rt; groups.len(), 5);
-    for (i, names) in wanted.iter().enumerate() {
-        let group = groups.get(i).ok_or("a group is missing")?;
-        assert_eq!(rt; group.len(), names.len());
-        for j in 0..group.len() {
-            let atom = group.get(j).ok_or("an atom is missing")?;
-            assert!(rt; Some(atom.name()) == names.get(j..j + 1));
-        }
-        assert!(rt; group.get(group.len()).is_none());
-    }
-    assert!(rt; groups.get(5).is_none());
+    let came = numbered_names(rt.alloc(), relations.groups())?;
+    same(&rt, MIXED, &came, b"a.bc.d.efg.h.!");
     Ok(())
 }
 

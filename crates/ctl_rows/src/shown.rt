@@ -79,12 +79,23 @@ fn append_selector(selector: &Selector, all: &mut Vec<u8>) -> Result<(), AllocEr
     }
 }
 
-fn append_pins(alloc: Global, store: &Store, all: &mut Vec<u8>) -> Result<(), AllocError> {
+/// A pin, on a line.
+pub fn append_pin(
+    alloc: Global,
+    selector: &Selector,
+    priority: i16,
+    all: &mut Vec<u8>,
+) -> Result<(), AllocError> {
+    all.extend_from_slice(b"pin ")?;
+    append_selector(selector, all)?;
+    let told = format!(in alloc; " {priority}\n")?;
+    all.extend_from_slice(told.as_bytes())
+}
+
+/// All pins, a line for each.
+pub fn append_pins(alloc: Global, store: &Store, all: &mut Vec<u8>) -> Result<(), AllocError> {
     for (selector, priority) in store.pins() {
-        all.extend_from_slice(b"pin ")?;
-        append_selector(selector, all)?;
-        let told = format!(in alloc; " {priority}\n")?;
-        all.extend_from_slice(told.as_bytes())?;
+        append_pin(alloc, selector, priority, all)?;
     }
     Ok(())
 }

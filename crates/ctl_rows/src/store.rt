@@ -4,8 +4,8 @@
 
 use crate::asked::{Asked, edit_asked};
 use crate::made::{add_list, edited, given};
-use crate::shown::state;
-use crate::tables::{agree, same};
+use crate::shown::{append_pin, append_pins, state};
+use crate::tables::same;
 use ctl_stanza::ListKind;
 use ctl_store::{
     CommittedKeys, Edit, Limits, ListClass, Plan, Refusal, StanzaKey, Store, compare_keys,
@@ -22,7 +22,7 @@ const ADD: Asked<'static> = Asked::AddList("m", LIST);
 
 /// What is done with a store.
 #[derive(Clone, Copy)]
-enum Act<'a> {
+pub enum Act<'a> {
     /// Makes an edit.
     Make(Asked<'a>),
     /// Makes an edit, and shows the keys that are handed back.
@@ -43,6 +43,20 @@ enum Act<'a> {
     MarkOf(&'a [u8]),
     /// Shows the priority of the first pin.
     FirstPriority,
+    /// Shows the specific pins of a package.
+    PinsOf(&'a [u8]),
+    /// Shows all pins.
+    Pins,
+    /// Shows the priority of the general pin on a list.
+    GeneralPin(&'a [u8]),
+    /// Shows each key with the package of its stanza.
+    InOrder,
+    /// Shows the keys of a list by name and version.
+    ByName(&'a [u8]),
+    /// Shows the serial number of a list.
+    SerialOf(&'a [u8]),
+    /// Plans an edit, and shows the stanza that the plan has under a key.
+    PlanFinds(Asked<'a>, StanzaKey),
 }
 
 /// A key, behind a byte.
@@ -115,16 +129,39 @@ fn append_plan(alloc: Global, plan: &Plan, all: &mut Vec<u8>) -> Result<(), Allo
     Ok(())
 }
 
+fn planned(store: &mut Store, edit: Edit) -> Result<Plan, Fail> {
+    match store.prepare(edit) {
+        Ok(plan) => Ok(plan),
+        Err(_) => Err(Fail::from("a refused edit")),
+    }
+}
+
 fn append_planned(
     alloc: Global,
     store: &mut Store,
     edit: Edit,
     all: &mut Vec<u8>,
-) -> Result<(), AllocError> {
-    match store.prepare(edit) {
-        Ok(plan) => append_plan(alloc, &plan, all),
-        Err(_) => all.extend_from_slice(b"refused"),
+) -> Result<(), Fail> {
+    let plan = planned(store, edit)?;
+    Ok(append_plan(alloc, &plan, all)?)
+}
+
+/// The stanza that a plan has under a key, if there is one.
+fn append_come(plan: &Plan, key: StanzaKey, all: &mut Vec<u8>) -> Result<(), AllocError> {
+    match plan.find(key) {
+        Some(stanza) => all.extend_from_slice(stanza.text()),
+        None => all.extend_from_slice(b"none\n"),
     }
+}
+
+fn append_plan_finds(
+    store: &mut Store,
+    edit: Edit,
+    key: StanzaKey,
+    all: &mut Vec<u8>,
+) -> Result<(), Fail> {
+    let plan = planned(store, edit)?;
+    Ok(append_come(&plan, key, all)?)
 }
 
 fn append_committed(
@@ -173,25 +210,34 @@ fn append_removal(edit: &Edit, all: &mut Vec<u8>) -> Result<(), AllocError> {
     all.extend_from_slice(version)
 }
 
-/// Why an edit is refused, as it is foretold and as it comes, and the edit that comes back.
-fn append_refused(
-    store: &mut Store,
-    edit: Edit,
-    all: &mut Vec<u8>,
-) -> Result<Option<Edit>, AllocError> {
-    if let Err(why) = store.check(&edit) {
-        all.extend_from_slice(why.text().as_bytes())?;
+/// Why an edit would be refused, if it would be.
+fn append_foretold(store: &Store, edit: &Edit, all: &mut Vec<u8>) -> Result<(), AllocError> {
+    match store.check(edit) {
+        Ok(()) => Ok(()),
+        Err(why) => all.extend_from_slice(why.text().as_bytes()),
     }
+}
+
+/// The edit that comes back, and why.
+fn handed_back(store: &mut Store, edit: Edit) -> Option<(Edit, Refusal)> {
     match store.prepare(edit) {
-        Ok(_) => Ok(None),
-        Err((edit, why)) => {
-            all.push(b',')?;
-            all.extend_from_slice(why.text().as_bytes())?;
-            all.push(b':')?;
-            append_removal(&edit, all)?;
-            Ok(Some(edit))
-        }
+        Ok(_) => None,
+        Err(refused) => Some(refused),
     }
+}
+
+fn append_back(edit: &Edit, why: Refusal, all: &mut Vec<u8>) -> Result<(), AllocError> {
+    all.push(b',')?;
+    all.extend_from_slice(why.text().as_bytes())?;
+    all.push(b':')?;
+    append_removal(edit, all)
+}
+
+/// The edit that comes back. It is shown with why it is refused.
+fn shown_back(store: &mut Store, edit: Edit, all: &mut Vec<u8>) -> Result<Edit, Fail> {
+    let (edit, why) = given(handed_back(store, edit))?;
+    append_back(&edit, why, all)?;
+    Ok(edit)
 }
 
 fn append_late(
@@ -200,8 +246,8 @@ fn append_late(
     edit: Edit,
     all: &mut Vec<u8>,
 ) -> Result<(), Fail> {
-    let back = append_refused(store, edit, all)?;
-    let edit = given(back)?;
+    append_foretold(store, &edit, all)?;
+    let edit = shown_back(store, edit, all)?;
     make_late(alloc, store, edit, all)
 }
 
@@ -259,6 +305,63 @@ fn append_first_priority(
     }
 }
 
+fn append_pins_of(
+    alloc: Global,
+    store: &Store,
+    package: &[u8],
+    all: &mut Vec<u8>,
+) -> Result<(), AllocError> {
+    for (selector, priority) in store.pins_of(package) {
+        append_pin(alloc, selector, priority, all)?;
+    }
+    Ok(())
+}
+
+fn append_general(
+    alloc: Global,
+    priority: Option<i16>,
+    all: &mut Vec<u8>,
+) -> Result<(), AllocError> {
+    match priority {
+        Some(priority) => {
+            let told = format!(in alloc; "{priority}\n")?;
+            all.extend_from_slice(told.as_bytes())
+        }
+        None => all.extend_from_slice(b"none\n"),
+    }
+}
+
+fn append_in_order(alloc: Global, store: &Store, all: &mut Vec<u8>) -> Result<(), AllocError> {
+    for (key, stanza) in store.entries() {
+        append_key(alloc, b'#', key, all)?;
+        all.extend_from_slice(stanza.package())?;
+    }
+    Ok(())
+}
+
+fn append_by_name(
+    alloc: Global,
+    store: &Store,
+    list: &[u8],
+    all: &mut Vec<u8>,
+) -> Result<(), AllocError> {
+    for key in store.by_name(list) {
+        append_key(alloc, b'#', key, all)?;
+    }
+    all.push(b'\n')?;
+    Ok(())
+}
+
+fn append_serial(alloc: Global, serial: Option<u32>, all: &mut Vec<u8>) -> Result<(), AllocError> {
+    match serial {
+        Some(serial) => {
+            let told = format!(in alloc; "{serial}\n")?;
+            all.extend_from_slice(told.as_bytes())
+        }
+        None => all.extend_from_slice(b"none\n"),
+    }
+}
+
 /// Shows something of what a store holds.
 fn append_view(
     alloc: Global,
@@ -273,7 +376,42 @@ fn append_view(
         Act::List(name) => all.extend_from_slice(list_words(store, name)),
         Act::MarkOf(package) => all.extend_from_slice(mark_words(store, package)),
         Act::FirstPriority => append_first_priority(alloc, store, all),
+        Act::PinsOf(package) => append_pins_of(alloc, store, package, all),
+        Act::Pins => append_pins(alloc, store, all),
+        Act::GeneralPin(list) => append_general(alloc, store.general_pin(list), all),
+        Act::InOrder => append_in_order(alloc, store, all),
+        Act::ByName(list) => append_by_name(alloc, store, list, all),
+        Act::SerialOf(list) => append_serial(alloc, store.serial(list), all),
         _ => Ok(()),
+    }
+}
+
+/// The edit that is asked for, where one is.
+fn asked_by<'a>(act: Act<'a>) -> Option<Asked<'a>> {
+    match act {
+        Act::Make(asked)
+        | Act::MakeWithKeys(asked)
+        | Act::Plan(asked)
+        | Act::MakeLate(asked)
+        | Act::PlanFinds(asked, _) => Some(asked),
+        _ => None,
+    }
+}
+
+/// Does with an edit what is asked for.
+fn append_edit(
+    alloc: Global,
+    store: &mut Store,
+    act: Act<'_>,
+    edit: Edit,
+    all: &mut Vec<u8>,
+) -> Result<(), Fail> {
+    match act {
+        Act::MakeWithKeys(_) => Ok(append_made(alloc, store, edit, all)?),
+        Act::Plan(_) => append_planned(alloc, store, edit, all),
+        Act::MakeLate(_) => append_late(alloc, store, edit, all),
+        Act::PlanFinds(_, key) => append_plan_finds(store, edit, key, all),
+        _ => edited(store, edit),
     }
 }
 
@@ -283,16 +421,12 @@ fn append_act(
     act: Act<'_>,
     all: &mut Vec<u8>,
 ) -> Result<(), Fail> {
-    match act {
-        Act::Make(asked) => edited(store, given(edit_asked(alloc, asked))?),
-        Act::MakeWithKeys(asked) => {
-            Ok(append_made(alloc, store, given(edit_asked(alloc, asked))?, all)?)
+    match asked_by(act) {
+        Some(asked) => {
+            let edit = given(edit_asked(alloc, asked))?;
+            append_edit(alloc, store, act, edit, all)
         }
-        Act::Plan(asked) => {
-            Ok(append_planned(alloc, store, given(edit_asked(alloc, asked))?, all)?)
-        }
-        Act::MakeLate(asked) => append_late(alloc, store, given(edit_asked(alloc, asked))?, all),
-        _ => Ok(append_view(alloc, store, act, all)?),
+        None => Ok(append_view(alloc, store, act, all)?),
     }
 }
 
@@ -311,7 +445,7 @@ fn came_under(alloc: Global, limits: Limits, acts: &[Act<'_>]) -> Result<Vec<u8>
 }
 
 /// The same without limits.
-fn came(alloc: Global, acts: &[Act<'_>]) -> Result<Vec<u8>, Fail> {
+pub fn came(alloc: Global, acts: &[Act<'_>]) -> Result<Vec<u8>, Fail> {
     came_under(alloc, Limits::MOST, acts)
 }
 
@@ -504,6 +638,46 @@ fn a_mark_is_a_version_or_none(rt: HostRuntime) -> Result<(), Fail> {
     Ok(())
 }
 
+/// Pins of two packages, and a general one among them.
+const PINS: &str =
+    "Package: b a\nPin: version 1\nPin-Priority: 7\n\nPackage: *\nPin: release a=m\nPin-Priority: 5\n\n\
+     Package: a\nPin: release a=m\nPin-Priority: 6\n\nPackage: ab a\nPin: version 2.*\nPin-Priority: -1\n";
+
+#[test]
+fn specific_pins_of_a_package_are_given_in_order(rt: HostRuntime) -> Result<(), Fail> {
+    let prefs = Act::Make(Asked::Prefs(PINS));
+    let rows: [(&[u8], &[Act<'_>], &[u8]); 5] = [
+        (b"no pins", &[Act::PinsOf(b"a")], b""),
+        (
+            b"a version, a release and a prefix",
+            &[prefs, Act::PinsOf(b"a")],
+            b"pin a version 1 7\npin a release m 6\npin a version 2.* -1\n",
+        ),
+        (b"one", &[prefs, Act::PinsOf(b"b")], b"pin b version 1 7\n"),
+        (
+            b"a general one",
+            &[prefs, Act::PinsOf(b"*"), Act::PinsOf(b"")],
+            b"",
+        ),
+        (
+            b"set again, and taken out and set again",
+            &[
+                prefs,
+                Act::Make(Asked::Pin("a", "2.*", 9)),
+                Act::Make(Asked::Unpin("a", "1")),
+                Act::Make(Asked::Pin("a", "1", 8)),
+                Act::PinsOf(b"a"),
+            ],
+            b"pin a release m 6\npin a version 2.* 9\npin a version 1 8\n",
+        ),
+    ];
+    for (name, acts, wanted) in &rows {
+        let text = came(rt.alloc(), acts)?;
+        same(&rt, name, &text, wanted);
+    }
+    Ok(())
+}
+
 #[test]
 fn a_pin_has_its_priority(rt: HostRuntime) -> Result<(), Fail> {
     let acts = [
@@ -548,7 +722,7 @@ fn refusals_have_numbers_and_words(rt: HostRuntime) {
         (Refusal::Form, 23, b"bad pin record"),
     ];
     for (refusal, number, words) in &rows {
-        agree(&rt, words, refusal.number() == *number, true);
+        assert_eq!(rt; refusal.number(), *number);
         same(&rt, words, refusal.text().as_bytes(), words);
     }
 }

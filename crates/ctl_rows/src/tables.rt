@@ -9,12 +9,17 @@ use std::test::Fail;
 /// How many bytes of a text are shown where a row fails.
 const SHOWN: usize = 4096;
 
-/// The beginning of a text, as much as is shown of it.
-fn beginning(text: &[u8]) -> &[u8] {
-    match text.get(..SHOWN) {
+/// The first bytes of a text, up to so many.
+pub fn front(text: &[u8], count: usize) -> &[u8] {
+    match text.get(..count) {
         Some(front) => front,
         None => text,
     }
+}
+
+/// The beginning of a text, as much as is shown of it.
+fn beginning(text: &[u8]) -> &[u8] {
+    front(text, SHOWN)
 }
 
 /// Ends the test where a row came to another text than was wanted, and shows the row and both texts.
@@ -37,6 +42,19 @@ pub fn pair(alloc: Global, one: &[u8], other: &[u8]) -> Result<Vec<u8>, AllocErr
     Ok(row)
 }
 
+/// Three texts, one behind another.
+pub fn joined(
+    alloc: Global,
+    first: &[u8],
+    second: &[u8],
+    third: &[u8],
+) -> Result<Vec<u8>, AllocError> {
+    let mut all = Vec::from_slice(alloc, first)?;
+    all.extend_from_slice(second)?;
+    all.extend_from_slice(third)?;
+    Ok(all)
+}
+
 /// Ends the test where a row came to another truth than was wanted.
 pub fn agree(rt: &impl Abort, row: &[u8], came: bool, wanted: bool) {
     same(rt, row, truth(came), truth(wanted));
@@ -56,11 +74,21 @@ pub fn left_under(alloc: Global, limits: Limits, script: &[u8]) -> Result<Vec<u8
     came_of(alloc, limits, u32::MAX, &[Act::Script(script), Act::Held])
 }
 
-/// Runs each script on an empty session, and compares what it writes.
+/// Runs a script on an empty session, and compares what it writes.
+fn script_writes(
+    rt: &(impl Abort + AllocGlobal),
+    script: &[u8],
+    wanted: &[u8],
+) -> Result<(), Fail> {
+    let came = written(rt.alloc(), script)?;
+    same(rt, script, &came, wanted);
+    Ok(())
+}
+
+/// The same for each of several scripts.
 pub fn each_writes(rt: &(impl Abort + AllocGlobal), rows: &[(&[u8], &[u8])]) -> Result<(), Fail> {
     for (script, wanted) in rows {
-        let came = written(rt.alloc(), script)?;
-        same(rt, script, &came, wanted);
+        script_writes(rt, script, wanted)?;
     }
     Ok(())
 }
@@ -74,8 +102,7 @@ pub fn each_writes_behind(
     for (behind, wanted) in rows {
         let mut script = Vec::from_slice(rt.alloc(), front)?;
         script.extend_from_slice(behind)?;
-        let came = written(rt.alloc(), &script)?;
-        same(rt, behind, &came, wanted);
+        script_writes(rt, &script, wanted)?;
     }
     Ok(())
 }

@@ -38,13 +38,23 @@ fn pair_of(line: &[u8]) -> Option<(&[u8], &[u8], Ordering)> {
     Some((one, other, order))
 }
 
-fn judge_pair(rt: &(impl Abort + AllocGlobal), line: &[u8]) -> Result<(), Fail> {
-    let (one, other, judged) = pair_of(line).ok_or("no pair")?;
+/// Compares how two versions of a line are ordered.
+fn judge(
+    rt: &(impl Abort + AllocGlobal),
+    line: &[u8],
+    one: &[u8],
+    other: &[u8],
+    judged: Ordering,
+) -> Result<(), VersionFault> {
     let found = order(rt.alloc(), one, other)?;
     same(rt, line, sign_of(found), sign_of(judged));
-    let turned = order(rt.alloc(), other, one)?;
-    same(rt, line, sign_of(turned), sign_of(judged.reverse()));
     Ok(())
+}
+
+fn judge_pair(rt: &(impl Abort + AllocGlobal), line: &[u8]) -> Result<(), Fail> {
+    let (one, other, judged) = pair_of(line).ok_or("no pair")?;
+    judge(rt, line, one, other, judged)?;
+    Ok(judge(rt, line, other, one, judged.reverse())?)
 }
 
 /// Compares how the pairs of these lines are ordered, and counts them.
@@ -203,29 +213,39 @@ fn digits(alloc: Global, first: u8, others: u8, count: usize) -> Result<Vec<u8>,
     Ok(text)
 }
 
-/// How a number of one digit less, one that is higher by one, and the same behind zeros stand to the power of ten.
-fn orders_beside_power(alloc: Global, count: usize) -> Result<[Ordering; 3], Fail>
+/// How a number of one digit less stands to the power of ten.
+fn below_power(alloc: Global, count: usize, power: &[u8]) -> Result<Ordering, Fail>
     requires { 0 < count }
 {
-    let power = digits(alloc, b'1', b'0', count)?;
     let nines = digits(alloc, b'9', b'9', count - 1)?;
+    Ok(order(alloc, &nines, power)?)
+}
+
+/// How a number that is higher by one stands to it.
+fn above_power(alloc: Global, count: usize, power: &[u8]) -> Result<Ordering, Fail>
+    requires { 0 < count }
+{
     let mut next = digits(alloc, b'1', b'0', count - 1)?;
     next.push(b'1')?;
+    Ok(order(alloc, &next, power)?)
+}
+
+/// How it stands to itself behind zeros.
+fn behind_zeros(alloc: Global, count: usize, power: &[u8]) -> Result<Ordering, Fail> {
     let mut long = digits(alloc, b'0', b'0', count)?;
-    long.extend_from_slice(&power)?;
-    Ok([
-        order(alloc, &nines, &power)?,
-        order(alloc, &next, &power)?,
-        order(alloc, &long, &power)?,
-    ])
+    long.extend_from_slice(power)?;
+    Ok(order(alloc, &long, power)?)
 }
 
 #[test]
 fn compares_numbers_of_any_size(rt: HostRuntime) -> Result<(), Fail> {
     for count in [49, 99_999] {
-        let [below, above, alike] = orders_beside_power(rt.alloc(), count)?;
+        let power = digits(rt.alloc(), b'1', b'0', count)?;
+        let below = below_power(rt.alloc(), count, &power)?;
         same(&rt, b"below", sign_of(below), b"<");
+        let above = above_power(rt.alloc(), count, &power)?;
         same(&rt, b"above", sign_of(above), b">");
+        let alike = behind_zeros(rt.alloc(), count, &power)?;
         same(&rt, b"alike", sign_of(alike), b"=");
     }
     Ok(())
