@@ -1,11 +1,11 @@
 -- Stanzas that come or go: the tables hold what the stanzas then have, and the tests are the pairs that come or go.
-use Rattle.std.proofs.Common.{◌≡◌, ℕ, ◌+◌, ◌-◌, ◌≤◌, Bool, true, false, cond, List, [], ◌∷◌, ◌++◌, Option, Some, None, refl, ap, sym, ◌∙◌, arith}
+use Rattle.std.proofs.Common.{◌≡◌, ℕ, ◌+◌, ◌-◌, ◌≤◌, true, false, cond, List, Option, Some, None, refl, ap, sym, ◌∙◌, arith}
 use Rattle.std.specs.List.{sum_by, flat_map, AllByRecursion, count_by}
 use Rattle.std.specs.Option.{option_map, option_map_or, option_or, option_and_then}
 use Rattle.std.specs.Str.{bytes_eq}
 use Rattle.std.specs.BTreeMap.{get}
 use Rattle.ctl_relation.specs.Parts.{AtomParts, OfferParts}
-use Rattle.ctl_relation.specs.Met.{met, met_count, met_pairs}
+use Rattle.ctl_relation.specs.Met.{met, met_pairs}
 use Rattle.ctl_stanza.specs.Content.{Content, offers_of}
 use Rattle.ctl_store.specs.declared.stanza_key.StanzaKey.{StanzaKey}
 use Rattle.ctl_store.specs.Entries.{Entry, entries_by}
@@ -19,9 +19,9 @@ use Rattle.ctl_index.specs.Offers.{offers_among, contents}
 use Rattle.ctl_index.specs.TablesByName.{offers_under, namers_under}
 use Rattle.ctl_index.specs.TablesIndexed.{atom_named, IsIndexed, IsPutIn, IsTakenOut, offers_put, namers_taken, tests_put_in, tests_taken_out}
 use Rattle.ctl_index.specs.TablesParts.{IsJoined}
-use Rattle.ctl_index.specs.TablesSight.{Seen, seen, hit, AreSeen}
+use Rattle.ctl_index.specs.TablesSight.{Seen, seen, AreSeen}
 use Rattle.ctl_index.specs.TablesOrder.{is_within}
-use Rattle.ctl_index.specs.TablesSteps.{group_met, span_of, with_each, raise_step, lower_step, enter_step, drop_step}
+use Rattle.ctl_index.specs.TablesSteps.{group_met, span_of, with_each, raise_step, drop_step}
 use Rattle.ctl_index.specs.Work.{named_pairs, pairs}
 use Rattle.ctl_index.proofs.SumLemmas.{sum-cong, sum-plus, sum-swap, sum-flat_map, sum-map, sum-zero}
 use Rattle.ctl_index.proofs.TableLemmas.{put_offers, put_namers, take_offers, take_namers}

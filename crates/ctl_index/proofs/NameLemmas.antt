@@ -1,5 +1,5 @@
 -- The table of names, by the bytes of the names: what a write at the bytes bs leaves under any name.
-use Rattle.std.proofs.Common.{◌≡◌, ◌+◌, ℕ, Bool, true, false, cond, not, nat_eq, ◌&&◌, length, List, [], ◌∷◌, ◌++◌, Option, None, Some, Vec, Global, Result, Ok, Err, OnOk, OnErr, refl, ap, sym, subst, ◌∙◌, arith, length-append}
+use Rattle.std.proofs.Common.{◌≡◌, ◌+◌, ℕ, Bool, true, false, cond, not, nat_eq, ◌&&◌, length, List, [], ◌∷◌, Option, None, Some, Vec, Global, Result, Ok, Err, OnOk, OnErr, refl, ap, sym, subst, ◌∙◌, arith}
 use Rattle.std.specs.Str.{bytes_eq}
 use Rattle.std.specs.Ordering.{nat_cmp, is_eq}
 use Rattle.std.specs.Cmp.{eq_by_cmp_equiv}
@@ -14,8 +14,6 @@ use Rattle.std.proofs.lemmas.List.{nil_from_length}
 use Rattle.ctl_index.specs.declared.named.Named.{Named}
 use Rattle.ctl_store.specs.declared.stanza_key.StanzaKey.{StanzaKey}
 use Rattle.ctl_index.specs.TablesOrder.{put_in_order, is_through}
-use Rattle.ctl_index.specs.declared.keys.AtomKey.{AtomKey}
-use Rattle.ctl_index.specs.declared.keys.OfferKey.{OfferKey}
 use Rattle.ctl_index.specs.TablesByName.{NameMap, named_offers, named_namers, at_bytes, part_under, is_used, AreUsed}
 
 apart : (bs cs ks : List ℕ) → bytes_eq bs cs ≡ false → is_eq (slice_cmp nat_cmp bs ks) ≡ true → is_eq (slice_cmp nat_cmp cs ks) ≡ false

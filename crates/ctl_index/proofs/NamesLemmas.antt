@@ -1,5 +1,5 @@
 -- The names of the table are the known names.
-use Rattle.std.proofs.Common.{◌≡◌, ℕ, suc, ◌+◌, Bool, true, false, cond, not, nat_eq, ◌&&◌, ◌||◌, List, [], ◌∷◌, ◌++◌, map, length, Option, Some, None, is_some, Vec, Global, refl, ap, sym, ◌∙◌, arith}
+use Rattle.std.proofs.Common.{◌≡◌, ℕ, suc, ◌+◌, Bool, true, false, cond, not, nat_eq, ◌&&◌, ◌||◌, List, [], ◌∷◌, map, length, Option, Some, None, is_some, Vec, Global, refl, ap, sym, ◌∙◌, arith}
 use Rattle.std.specs.List.{sum_by, flat_map, list_any, AllByRecursion}
 use Rattle.std.specs.List.Sorted.{IsStrictlySortedBy}
 use Rattle.std.specs.Map.{lookup}
@@ -17,8 +17,6 @@ use Rattle.ctl_relation.specs.Parts.{AtomParts, OfferParts}
 use Rattle.ctl_stanza.specs.Content.{Content, groups_of, offers_of}
 use Rattle.ctl_store.specs.declared.stanza_key.StanzaKey.{StanzaKey}
 use Rattle.ctl_store.specs.Entries.{Entry}
-use Rattle.ctl_index.specs.declared.keys.AtomKey.{AtomKey}
-use Rattle.ctl_index.specs.declared.keys.OfferKey.{OfferKey}
 use Rattle.ctl_index.specs.declared.named.Named.{Named}
 use Rattle.ctl_index.specs.declared.tables.Tables.{Tables}
 use Rattle.ctl_index.specs.Names.{naming_fields, naming_atoms, names_of, known_names, keyed_group, keyed_groups, keyed_atoms}

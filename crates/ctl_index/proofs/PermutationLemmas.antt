@@ -1,10 +1,9 @@
 -- Lists over which all sums are the same have the same elements.
-use Rattle.std.proofs.Common.{◌≡◌, ℕ, suc, ◌+◌, ◌<◌, ◌≤◌, Bool, true, false, cond, nat_eq, ◌&&◌, List, [], ◌∷◌, ◌++◌, map, filter, length, get_or, refl, ap, sym, subst, ◌∙◌, arith}
-use Rattle.std.specs.List.{sum_by, flat_map, remove, AllByRecursion}
+use Rattle.std.proofs.Common.{◌≡◌, ℕ, suc, ◌<◌, ◌≤◌, Bool, true, false, cond, List, [], ◌∷◌, length, get_or, refl, ap, sym, subst, arith}
+use Rattle.std.specs.List.{sum_by, remove}
 use Rattle.std.specs.List.Sorted.{IsPermutation}
 use Rattle.std.proofs.lemmas.List.Sums.{sum_by-cons, sum_by-remove}
 use Rattle.std.proofs.lemmas.List.Sorted.{IsPermutation-refl, IsPermutation-sym, IsPermutation-cons, IsPermutation-trans, IsPermutation-remove}
-use Rattle.ctl_index.proofs.SumLemmas.{sum-zero}
 
 -- where an element stands
 abbrev Stands : {X : Type 0} → X → List X → Type 0

@@ -1,5 +1,5 @@
 -- Stanzas under keys: what stands under a key, keys that stand apart, and those of a store.
-use Rattle.std.proofs.Common.{◌≡◌, ℕ, ◌+◌, Bool, true, false, cond, not, nat_eq, ◌&&◌, ◌||◌, List, [], ◌∷◌, ◌++◌, map, Option, Some, None, option_map, refl, ap, sym, subst, ◌∙◌, arith, nat_cmp}
+use Rattle.std.proofs.Common.{◌≡◌, ℕ, Bool, true, false, cond, not, nat_eq, ◌&&◌, ◌||◌, List, [], ◌∷◌, ◌++◌, map, Option, Some, None, option_map, refl, ap, sym, subst, ◌∙◌, arith, nat_cmp}
 use Rattle.std.specs.List.{list_any, cons_option, AllByRecursion}
 use Rattle.std.specs.Map.{lookup}
 use Rattle.std.specs.Option.{option_or}
@@ -10,7 +10,7 @@ use Rattle.std.proofs.lemmas.List.{map-append}
 use Rattle.ctl_stanza.specs.Content.{Content}
 use Rattle.ctl_store.specs.declared.stanza_key.StanzaKey.{StanzaKey}
 use Rattle.ctl_store.specs.Keys.{KeyedList, key_of, key_cmp, key_is, all_keys, AreRising, stanza_at}
-use Rattle.ctl_store.specs.Entries.{Entry, rows_under, entries_in, entries_of, entry_keys, is_among, without_keys, entries_by}
+use Rattle.ctl_store.specs.Entries.{Entry, entries_in, entries_of, entry_keys, is_among, without_keys, entries_by}
 use Rattle.ctl_store.specs.Held.{Held, keyed_of}
 use Rattle.ctl_store.specs.Followed.{under, AreApart}
 use Rattle.ctl_index.specs.TablesSight.{seen, AreSeen, in_store}

@@ -1,5 +1,5 @@
 -- The clauses at 0, in order, are those that no offer meets.
-use Rattle.std.proofs.Common.{◌≡◌, ℕ, zero, suc, ◌+◌, ◌<◌, Bool, true, false, cond, nat_eq, ◌&&◌, ◌||◌, List, [], ◌∷◌, ◌++◌, filter, Option, Some, None, is_some, refl, ap, sym, subst, ◌∙◌, arith, nat_cmp}
+use Rattle.std.proofs.Common.{◌≡◌, ℕ, suc, ◌<◌, Bool, true, false, cond, nat_eq, ◌&&◌, ◌||◌, List, [], ◌∷◌, ◌++◌, filter, Option, Some, None, is_some, refl, ap, sym, ◌∙◌, arith, nat_cmp}
 use Rattle.std.specs.Prelude.{slice_get}
 use Rattle.std.specs.List.{flat_map, list_any, AllByRecursion}
 use Rattle.std.specs.List.Sorted.{IsStrictlySortedBy}
@@ -21,7 +21,7 @@ use Rattle.ctl_store.specs.Keys.{key_cmp, key_is, AreRising}
 use Rattle.ctl_store.specs.Entries.{Entry, entry_keys}
 use Rattle.ctl_store.specs.Followed.{under, AreApart}
 use Rattle.ctl_index.specs.declared.keys.ClauseKey.{ClauseKey}
-use Rattle.ctl_index.specs.Clauses.{clause_fields, is_clause_field, clause_cmp, clause_of, clause_at, number_at, is_unmet, group_keys, clauses_of, clauses, unmet_clauses}
+use Rattle.ctl_index.specs.Clauses.{clause_fields, is_clause_field, clause_cmp, clause_of, clause_at, is_unmet, group_keys, clauses_of, clauses, unmet_clauses}
 use Rattle.ctl_index.proofs.ClauseLemmas.{tie_is, same_stanza, same_field, at_from, at_from-start}
 use Rattle.ctl_index.proofs.CounterLemmas.{clauses_total, exact_clauses, same_clause}
 use Rattle.ctl_index.proofs.SeenLemmas.{key_is-same, none_under}

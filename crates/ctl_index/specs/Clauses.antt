@@ -1,6 +1,6 @@
 -- Clauses: the groups of the four fields that ask for packages, each a list of alternatives (Debian Policy 7.1, 7.2). A clause is met
 -- by what packages are and what they provide (7.5).
-use Rattle.std.specs.Prelude.{ℕ, suc, Bool, true, false, List, [], ◌∷◌, ◌++◌, map, flat_map, filter, slice_get, nat_eq, Option, None, if◌then◌else◌}
+use Rattle.std.specs.Prelude.{ℕ, suc, Bool, true, false, List, [], ◌∷◌, flat_map, filter, slice_get, nat_eq, Option, None, if◌then◌else◌}
 use Rattle.std.specs.Option.{option_map, option_map_or, option_and_then}
 use Rattle.std.specs.Ordering.{nat_cmp, ordering_then}
 use Rattle.std.specs.declared.cmp.Ordering.{Ordering}

@@ -1,5 +1,5 @@
 -- What stanzas offer: a package its own name, and those of its Provides (Debian Policy 7.5).
-use Rattle.std.specs.Prelude.{ℕ, suc, List, [], ◌∷◌, map, filter, flat_map}
+use Rattle.std.specs.Prelude.{ℕ, List, map, filter, flat_map}
 use Rattle.std.specs.Str.{bytes_eq}
 use Rattle.ctl_relation.specs.Parts.{OfferParts}
 use Rattle.ctl_stanza.specs.Content.{Content, offers_of}

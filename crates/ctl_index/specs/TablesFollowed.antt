@@ -1,7 +1,6 @@
 -- Of the tables alone: what an accepted plan makes of the stanzas under keys.
-use Rattle.std.specs.Prelude.{◌≡◌, ℕ, ◌+◌, ◌-◌, true, false, List}
+use Rattle.std.specs.Prelude.{◌≡◌, ℕ, ◌-◌, true, false, List}
 use Rattle.std.specs.List.{AllByRecursion}
-use Rattle.ctl_store.specs.Edits.{Edit}
 use Rattle.ctl_store.specs.Keys.{keyed_after}
 use Rattle.ctl_store.specs.Entries.{Entry, entries_of, entries_by, without_keys}
 use Rattle.ctl_store.specs.Held.{Held, Planned, keyed_of}

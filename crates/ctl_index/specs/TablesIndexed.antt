@@ -4,7 +4,7 @@ use Rattle.std.specs.List.{sum_by}
 use Rattle.std.specs.Str.{bytes_eq}
 use Rattle.std.specs.BTreeMap.{get}
 use Rattle.ctl_relation.specs.Parts.{AtomParts, OfferParts}
-use Rattle.ctl_stanza.specs.Content.{Content, offers_of}
+use Rattle.ctl_stanza.specs.Content.{offers_of}
 use Rattle.ctl_store.specs.declared.stanza_key.StanzaKey.{StanzaKey}
 use Rattle.ctl_store.specs.Entries.{Entry}
 use Rattle.ctl_index.specs.declared.keys.ClauseKey.{ClauseKey}

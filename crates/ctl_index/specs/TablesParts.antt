@@ -1,10 +1,9 @@
 -- Of the tables alone: stanzas under their keys, in parts.
-use Rattle.std.specs.Prelude.{◌≡◌, ℕ, ◌+◌, false, List, [], ◌∷◌, None, Some}
-use Rattle.std.specs.List.{AllByRecursion, sum_by}
+use Rattle.std.specs.Prelude.{◌≡◌, ℕ, ◌+◌, List, None, Some}
+use Rattle.std.specs.List.{sum_by}
 use Rattle.std.specs.Option.{option_or}
 use Rattle.ctl_stanza.specs.Content.{Content}
 use Rattle.ctl_store.specs.declared.stanza_key.StanzaKey.{StanzaKey}
-use Rattle.ctl_store.specs.Keys.{key_is}
 use Rattle.ctl_store.specs.Entries.{Entry}
 use Rattle.ctl_store.specs.Followed.{under}
 

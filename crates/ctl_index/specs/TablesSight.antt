@@ -1,5 +1,5 @@
 -- Of the tables alone: which stanza stands under a key while an edit is followed. One that comes with a plan, else one of the store.
-use Rattle.std.specs.Prelude.{ℕ, ◌+◌, ◌-◌, ◌^◌, min, ◌&&◌, ◌≡◌, List, [], ◌∷◌, slice_get, nat_eq, Option, None, Some, if◌then◌else◌}
+use Rattle.std.specs.Prelude.{ℕ, ◌&&◌, ◌≡◌, List, slice_get, Option, None, Some, if◌then◌else◌}
 use Rattle.std.specs.List.{sum_by, AllByRecursion}
 use Rattle.ctl_relation.specs.declared.field_kind.FieldKind.{FieldKind}
 use Rattle.std.specs.Option.{option_and_then, option_map_or, option_or}

@@ -1,10 +1,10 @@
-use Rattle.std.proofs.Common.{◌≡◌, ◌-◌, ◌≤◌, ℕ, [], ap, refl, ◌∙◌, arith}
+use Rattle.std.proofs.Common.{◌≡◌, ◌-◌, [], refl, arith}
 use Rattle.ctl_store.specs.Held.{keyed_of}
 use Rattle.ctl_index.specs.Held.{standing}
 use Rattle.ctl_index.specs.Offers.{contents}
 use Rattle.ctl_index.specs.TablesIndexed.{tests_put_in}
 use Rattle.ctl_index.specs.TablesSight.{in_store}
-use Rattle.ctl_index.specs.Work.{pairs, more_by}
+use Rattle.ctl_index.specs.Work.{pairs}
 use Rattle.ctl_index.proofs.JoinLemmas.{put_law, put_tests}
 use Rattle.ctl_index.proofs.StoreLemmas.{rising_apart, store_seen}
 use Rattle.ctl_index.proofs.RecoverLemmas.{joined_all, come_apart}

@@ -2,7 +2,6 @@ use Rattle.std.proofs.Common.{◌≡◌, ℕ, List, drop, take}
 use Rattle.std.specs.BTreeMap.{get}
 use Rattle.ctl_index.specs.declared.keys.ClauseKey.{ClauseKey}
 use Rattle.ctl_index.specs.Clauses.{clause_cmp}
-use Rattle.ctl_index.specs.Names.{naming_fields}
 use Rattle.ctl_index.specs.TablesByName.{offers_under, namers_under}
 use Rattle.ctl_index.specs.TablesSight.{seen}
 use Rattle.ctl_index.specs.TablesSteps.{with_each, put_offers_step, raise_step, offers_tested}

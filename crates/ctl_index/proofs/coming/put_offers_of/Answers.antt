@@ -1,4 +1,4 @@
-use Rattle.std.proofs.Common.{◌≡◌, ℕ, suc, [], ◌∷◌, ◌++◌, List, cond, ap, sym, ◌∙◌, ◌+◌, ◌<◌, length, take, drop, option_map, arith, get_or, rules}
+use Rattle.std.proofs.Common.{◌≡◌, ℕ, suc, List, cond, ap, sym, ◌∙◌, ◌+◌, ◌<◌, length, take, drop, option_map, arith, get_or, rules}
 use Rattle.std.specs.List.{sum_by}
 use Rattle.std.specs.Str.{bytes_eq}
 use Rattle.std.specs.BTreeMap.{get}
@@ -13,7 +13,7 @@ use Rattle.ctl_index.specs.TablesSight.{hit, tested}
 use Rattle.ctl_index.specs.TablesOrder.{offer_stanza, put_in_order}
 use Rattle.ctl_index.specs.TablesSteps.{listed_offers, raised, all_tested}
 use Rattle.ctl_index.specs.Work.{more_by}
-use Rattle.ctl_index.proofs.CounterLemmas.{more_by_twice, more_most}
+use Rattle.ctl_index.proofs.CounterLemmas.{more_by_twice}
 use Rattle.ctl_index.proofs.coming.put_offers_of.Goals as goal
 
 pub loop-i-preserved : goal.loop-i-preserved

@@ -10,7 +10,7 @@ use Rattle.ctl_index.specs.declared.keys.OfferKey.{OfferKey}
 use Rattle.ctl_index.specs.Clauses.{clause_cmp}
 use Rattle.ctl_index.specs.TablesByName.{offers_under, namers_under}
 use Rattle.ctl_index.specs.TablesSight.{hit, tested}
-use Rattle.ctl_index.specs.TablesOrder.{others, offer_stanza, put_in_order}
+use Rattle.ctl_index.specs.TablesOrder.{others, offer_stanza}
 use Rattle.ctl_index.specs.TablesSteps.{left_offers, lowered, all_tested}
 use Rattle.ctl_index.specs.Work.{more_by}
 use Rattle.ctl_index.proofs.CounterLemmas.{more_by_twice}

@@ -2,9 +2,7 @@ use Rattle.std.proofs.Common.{◌≡◌, ℕ, List, drop, take}
 use Rattle.std.specs.BTreeMap.{get}
 use Rattle.ctl_index.specs.declared.keys.ClauseKey.{ClauseKey}
 use Rattle.ctl_index.specs.Clauses.{clause_cmp}
-use Rattle.ctl_index.specs.Names.{naming_fields}
 use Rattle.ctl_index.specs.TablesByName.{offers_under, namers_under}
-use Rattle.ctl_index.specs.TablesSight.{seen}
 use Rattle.ctl_index.specs.TablesSteps.{left_offers, lowered, all_tested}
 use Rattle.ctl_index.specs.Work.{more_by}
 use Rattle.ctl_index.proofs.going.take_offers_of.Given as goal

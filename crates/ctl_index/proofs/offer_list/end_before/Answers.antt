@@ -1,4 +1,4 @@
-use Rattle.std.proofs.Common.{rules, of_calls, sym, ◌∙◌}
+use Rattle.std.proofs.Common.{rules, of_calls}
 use Rattle.std.proofs.lemmas.Fn.{always_returns_same}
 use Rattle.ctl_index.specs.TablesOrder.{offer_stanza, is_before}
 use Rattle.ctl_index.proofs.ListLemmas.{parted_before}

@@ -1,6 +1,6 @@
-use Rattle.std.proofs.Common.{◌≡◌, ℕ, List, ap, ◌∙◌, arith}
+use Rattle.std.proofs.Common.{ℕ, List, ap, ◌∙◌, arith}
 use Rattle.ctl_index.specs.declared.keys.OfferKey.{OfferKey}
-use Rattle.ctl_index.specs.TablesByName.{offers_under, namers_under}
+use Rattle.ctl_index.specs.TablesByName.{namers_under}
 use Rattle.ctl_index.specs.TablesIndexed.{offers_put}
 use Rattle.ctl_index.specs.TablesSight.{seen}
 use Rattle.ctl_index.specs.TablesSteps.{with_each, put_atoms_step, enter_step, offers_tested, atoms_tested}

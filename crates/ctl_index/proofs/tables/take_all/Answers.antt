@@ -1,11 +1,9 @@
-use Rattle.std.proofs.Common.{◌≡◌, ℕ, List, ap, sym, subst, refl, ◌∙◌, ◌≤◌, arith}
-use Rattle.ctl_store.specs.declared.stanza_key.StanzaKey.{StanzaKey}
+use Rattle.std.proofs.Common.{◌≡◌, ℕ, List, ap, ◌∙◌, arith}
 use Rattle.ctl_index.specs.declared.keys.AtomKey.{AtomKey}
-use Rattle.ctl_index.specs.declared.span.Span.{Span}
 use Rattle.ctl_index.specs.TablesByName.{offers_under, namers_under}
-use Rattle.ctl_index.specs.TablesIndexed.{namers_taken, IsTakenOut, tests_taken_out}
+use Rattle.ctl_index.specs.TablesIndexed.{namers_taken}
 use Rattle.ctl_index.specs.TablesSight.{seen}
-use Rattle.ctl_index.specs.TablesSteps.{with_each, span_of, take_offers_step, take_atoms_step, lower_step, drop_step, offers_tested, atoms_tested}
+use Rattle.ctl_index.specs.TablesSteps.{with_each, span_of, take_offers_step, take_atoms_step, lower_step, offers_tested, atoms_tested}
 use Rattle.ctl_index.specs.Work.{more_by}
 use Rattle.ctl_index.proofs.CounterLemmas.{more_by_twice}
 use Rattle.ctl_index.proofs.tables.take_all.Goals as goal

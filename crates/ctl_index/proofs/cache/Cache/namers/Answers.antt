@@ -1,5 +1,5 @@
-use Rattle.std.proofs.Common.{◌≡◌, true, is_some, List, map, ap, sym, subst, ◌∙◌}
-use Rattle.ctl_store.specs.Held.{keyed_of, state_of}
+use Rattle.std.proofs.Common.{◌≡◌, true, is_some, map, ap, sym, subst, ◌∙◌}
+use Rattle.ctl_store.specs.Held.{keyed_of}
 use Rattle.ctl_index.specs.Held.{HeldCache, standing}
 use Rattle.std.specs.List.{AllByRecursion}
 use Rattle.std.specs.List.Sorted.{IsPermutation}

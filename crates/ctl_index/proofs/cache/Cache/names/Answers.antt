@@ -1,4 +1,4 @@
-use Rattle.std.proofs.Common.{List, map, Vec, ℕ, Global, ap, ◌∙◌}
+use Rattle.std.proofs.Common.{map, Vec, ℕ, Global, ap, ◌∙◌}
 use Rattle.ctl_store.specs.Held.{keyed_of, state_of}
 use Rattle.ctl_index.specs.Held.{HeldCache, standing}
 use Rattle.ctl_index.specs.Names.{known_names}

@@ -1,5 +1,5 @@
 use Rattle.std.proofs.Common.{List, map, ap, sym, subst, ◌∙◌}
-use Rattle.ctl_store.specs.Held.{keyed_of, state_of}
+use Rattle.ctl_store.specs.Held.{keyed_of}
 use Rattle.ctl_index.specs.Held.{HeldCache, standing}
 use Rattle.std.specs.List.Sorted.{IsPermutation}
 use Rattle.ctl_relation.specs.Parts.{OfferParts}

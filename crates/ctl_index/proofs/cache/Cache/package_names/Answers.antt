@@ -1,4 +1,4 @@
-use Rattle.std.proofs.Common.{◌≡◌, ◌&&◌, List, nat_eq, ap, sym, subst, ◌∙◌}
+use Rattle.std.proofs.Common.{◌&&◌, List, nat_eq, ap, sym, subst, ◌∙◌}
 use Rattle.std.specs.List.{list_any, starts_with}
 use Rattle.std.specs.Str.{bytes_eq}
 use Rattle.ctl_store.specs.Held.{keyed_of, state_of}

@@ -1,4 +1,4 @@
-use Rattle.std.proofs.Common.{List, refl, ap, ◌∙◌, cond}
+use Rattle.std.proofs.Common.{refl, ap, ◌∙◌, cond}
 use Rattle.std.specs.Str.{bytes_eq}
 use Rattle.ctl_index.specs.TablesByName.{offers_under, namers_under, named_offers, named_namers}
 use Rattle.ctl_index.proofs.NameLemmas.{changed, used_either}

@@ -1,8 +1,8 @@
-use Rattle.std.proofs.Common.{[], ◌∷◌, ◌++◌, List, length, nat_eq, ◌&&◌, not, cond, ap, ◌∙◌, rules}
+use Rattle.std.proofs.Common.{List, length, nat_eq, ◌&&◌, not, cond, ap, ◌∙◌, rules}
 use Rattle.std.specs.Str.{bytes_eq}
 use Rattle.ctl_index.specs.declared.keys.AtomKey.{AtomKey}
 use Rattle.ctl_index.specs.declared.named.Named.{Named}
-use Rattle.ctl_index.specs.TablesByName.{offers_under, namers_under, named_offers, named_namers}
+use Rattle.ctl_index.specs.TablesByName.{namers_under, named_offers, named_namers}
 use Rattle.ctl_index.specs.TablesOrder.{atom_stanza, put_in_order}
 use Rattle.ctl_index.proofs.NameLemmas.{changed, unchanged, part-found, used_written, used_found, used_more_too}
 use Rattle.ctl_index.proofs.name_table.NameTable.put_atom.Goals as goal

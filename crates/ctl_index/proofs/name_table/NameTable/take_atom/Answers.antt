@@ -1,16 +1,10 @@
-use Rattle.std.proofs.Common.{◌≡◌, ◌-◌, ℕ, [], List, Some, None, cond, option_map, ap, sym, subst, ◌∙◌, rules}
-use Rattle.std.specs.BTreeMap.{get}
-use Rattle.std.specs.List.{sum_by}
+use Rattle.std.proofs.Common.{◌≡◌, ℕ, [], List, Some, None, cond, ap, sym, subst, ◌∙◌, rules}
 use Rattle.std.specs.Str.{bytes_eq}
-use Rattle.ctl_index.specs.declared.keys.AtomKey.{AtomKey}
-use Rattle.ctl_index.specs.declared.keys.ClauseKey.{ClauseKey}
 use Rattle.ctl_index.specs.declared.keys.OfferKey.{OfferKey}
 use Rattle.ctl_index.specs.declared.named.Named.{Named}
-use Rattle.ctl_index.specs.Clauses.{clause_cmp}
 use Rattle.ctl_index.specs.TablesByName.{offers_under, namers_under, named_offers, named_namers}
-use Rattle.ctl_index.specs.TablesSight.{hit}
-use Rattle.ctl_index.specs.TablesOrder.{others, atom_stanza, put_in_order}
-use Rattle.ctl_index.proofs.NameLemmas.{Writes, changed, unchanged, replaced, part-found, used_written, used_found, used_replaced, nothing_left, same_either}
+use Rattle.ctl_index.specs.TablesOrder.{others, atom_stanza}
+use Rattle.ctl_index.proofs.NameLemmas.{Writes, changed, unchanged, replaced, part-found, used_written, used_replaced, nothing_left, same_either}
 use Rattle.ctl_index.proofs.name_table.NameTable.take_atom.Goals as goal
 
 pub invariant_of-self-then-not-is_used : goal.invariant_of-self-then-not-is_used

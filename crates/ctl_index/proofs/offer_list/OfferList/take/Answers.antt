@@ -1,4 +1,4 @@
-use Rattle.std.proofs.Common.{◌≡◌, ◌≤◌, ◌++◌, true, false, List, not, filter, length, take, drop, ap, sym, subst, ◌∙◌, arith}
+use Rattle.std.proofs.Common.{◌≡◌, ◌≤◌, true, false, List, not, length, ap, sym, subst, ◌∙◌, arith}
 use Rattle.std.specs.List.Sorted.{IsPartitionPoint}
 use Rattle.ctl_index.specs.declared.keys.OfferKey.{OfferKey}
 use Rattle.ctl_index.specs.TablesOrder.{InOrder, offer_stanza, is_within, is_before, is_through, others}
