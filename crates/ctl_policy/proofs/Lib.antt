@@ -19,3 +19,4 @@ pub mod SettingLemmas
 pub mod StepLemmas
 pub mod StepListLemmas
 pub mod TouchedLemmas
+pub mod NamesLemmas

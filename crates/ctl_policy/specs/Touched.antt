@@ -1,7 +1,7 @@
 -- Which names an accepted edit touches.
-use Rattle.std.specs.Prelude.{◌≡◌, ◌⊎◌, ℕ, true, false, List, Option, None, Some}
+use Rattle.std.specs.Prelude.{◌≡◌, ◌⊎◌, ℕ, Bool, true, false, List, Option, None, Some}
 use Rattle.std.specs.Str.{bytes_eq}
-use Rattle.std.specs.List.{IsDistinct}
+use Rattle.std.specs.List.{IsDistinct, list_any}
 use Rattle.std.specs.Map.{keys_of as names_of}
 use Rattle.ctl_stanza.specs.Content.{Content}
 use Rattle.ctl_store.specs.declared.stanza_key.StanzaKey.{StanzaKey}
@@ -59,6 +59,14 @@ IsNotTouched name h (Unpin s) = SelectsNone s name (keyed_of h).lists
 IsNotTouched name h (Target list) = TargetHoldsNone h.target name (keyed_of h).lists × TargetHoldsNone list name (keyed_of h).lists
 IsNotTouched name h (Prefs pins) = LeavePins pins name (world_of h)
 IsNotTouched name h edit = LeavesStanzas name h edit
+
+-- whether a name is one of some
+abbrev pub is_one_of : List ℕ → List (List ℕ) → Bool
+is_one_of name names = list_any (λ other. bytes_eq other name) names
+
+-- an edit touches no name but these
+abbrev pub TouchesAlone : List (List ℕ) → Held → Edit → Type 0
+TouchesAlone names h edit = (name : List ℕ) → is_one_of name names ≡ false → IsNotTouched name h edit
 
 -- what a store says of itself and of an edit that it accepts
 pub record IsAccepted (h : Held) (edit : Edit) : Type 0 where
