@@ -1,5 +1,5 @@
 -- Every edit leaves names that it doesn't touch, and choices that are renewed for the others are right.
-use Rattle.std.proofs.Common.{◌≡◌, ℕ, ℤ, Bool, true, false, cond, List, Option, None, Some, refl, sym, subst, ◌∙◌, Vec, Global}
+use Rattle.std.proofs.Common.{◌≡◌, ℕ, ℤ, Bool, true, false, cond, List, None, Some, refl, sym, subst, ◌∙◌, Vec, Global}
 use Rattle.std.specs.Str.{bytes_eq}
 use Rattle.std.specs.List.{IsDistinct}
 use Rattle.std.specs.Map.{keys_of as names_of}
@@ -8,7 +8,7 @@ use Rattle.std.proofs.lemmas.Slice.Eq.{bytes_eq-Decides}
 use Rattle.ctl_store.specs.declared.selector.Selector.{Selector}
 use Rattle.ctl_store.specs.declared.selector.Selector.TheVariants.{Version, Release}
 use Rattle.ctl_store.specs.Edits.{Edit, AddList, DropList, Put, Remove, Mark, Unmark, Pin, Unpin, Target, Prefs}
-use Rattle.ctl_store.specs.Keys.{all_keys, AreRising, AreCome, AreNew, keyed_after, removed_of, added_of}
+use Rattle.ctl_store.specs.Keys.{all_keys, AreRising, AreCome, AreNew, keyed_after, added_of}
 use Rattle.ctl_store.specs.Entries.{IsChange}
 use Rattle.ctl_store.specs.Held.{Held, Planned, IsReady, keyed_of, state_of}
 use Rattle.ctl_policy.specs.declared.chosen.Chosen.{Chosen}

@@ -1,5 +1,5 @@
 -- Stanzas that stay under their keys stay in lists of the same names and priorities.
-use Rattle.std.proofs.Common.{◌≡◌, ◌⊎◌, inl, inr, ℕ, ℤ, pos, Bool, true, false, cond, ◌||◌, nat_eq, List, [], ◌∷◌, ◌++◌, Option, None, Some, is_some, option_map, unwrap_or, refl, ap, sym, subst, ◌∙◌}
+use Rattle.std.proofs.Common.{◌≡◌, ℕ, ℤ, pos, Bool, true, false, cond, ◌||◌, nat_eq, List, [], ◌∷◌, ◌++◌, Option, None, Some, is_some, option_map, unwrap_or, refl, ap, sym, subst, ◌∙◌}
 use Rattle.std.specs.Str.{bytes_eq}
 use Rattle.std.specs.List.{AllByRecursion, IsDistinct}
 use Rattle.std.specs.Map.{keys_of as names_of}
@@ -17,7 +17,7 @@ use Rattle.ctl_store.specs.Keys.{KeyedList, stanza_list, stanza_lists, key_is, k
 use Rattle.ctl_store.specs.Entries.{Entry, entries_of, entries_in, entry_keys}
 use Rattle.ctl_policy.specs.Keys.{has_key}
 use Rattle.ctl_policy.specs.Rows.{Lists}
-use Rattle.ctl_policy.specs.Priority.{World, is_target, own_priority, priority_of_list, list_priority, priority_found}
+use Rattle.ctl_policy.specs.Priority.{World, is_target, own_priority, priority_of_list, list_priority}
 use Rattle.ctl_policy.specs.Laws.{with_lists}
 use Rattle.ctl_policy.proofs.SetLemmas.{key_is-same, below_absent}
 use Rattle.ctl_policy.proofs.DefinedLemmas.{placed_rows, keys_are, find_in, find_in-rows, find_placed}

@@ -1,9 +1,8 @@
 -- An accepted edit leaves names that it doesn't touch.
-use Rattle.std.proofs.Common.{◌≡◌, ◌⊎◌, inl, inr, ℕ, ℤ, Bool, pos, true, false, List, [], ◌∷◌, ◌++◌, Option, None, Some, is_some, unwrap_or, refl, ap, sym, subst, ◌∙◌}
+use Rattle.std.proofs.Common.{◌≡◌, ◌⊎◌, inl, inr, ℕ, Bool, pos, true, false, List, [], ◌∷◌, ◌++◌, Option, None, Some, is_some, unwrap_or, refl, ap, sym, subst, ◌∙◌}
 use Rattle.std.specs.Str.{bytes_eq}
 use Rattle.std.specs.List.{IsDistinct}
 use Rattle.std.specs.Map.{keys_of as names_of}
-use Rattle.std.proofs.lemmas.Bool.{false≢true}
 use Rattle.std.proofs.lemmas.Slice.Eq.{bytes_eq-Decides}
 use Rattle.ctl_stanza.specs.declared.list_kind.ListKind.{ListKind}
 use Rattle.ctl_stanza.specs.Content.{Content}
@@ -11,13 +10,11 @@ use Rattle.ctl_store.specs.declared.list_class.ListClass.{ListClass}
 use Rattle.ctl_store.specs.declared.stanza_key.StanzaKey.{StanzaKey}
 use Rattle.ctl_store.specs.Named.{change_named, without_name}
 use Rattle.ctl_store.specs.Edits.{Edit, AddList, DropList, Put, Remove}
-use Rattle.ctl_store.specs.Keys.{KeyedList, stanza_at, stanza_lists, holder_of, all_in, all_keys, AreRising, AreCome, AreNew, coming, keyed_after, put_keyed, remove_keyed, removed_of, added_of, list_of_stanzas}
-use Rattle.ctl_store.specs.Entries.{IsChange}
-use Rattle.ctl_store.specs.Held.{Held, keyed_of, state_of}
-use Rattle.ctl_policy.specs.Keys.{has_key}
+use Rattle.ctl_store.specs.Keys.{KeyedList, stanza_at, stanza_lists, holder_of, all_in, all_keys, AreRising, keyed_after, put_keyed, remove_keyed, removed_of, added_of, list_of_stanzas}
+use Rattle.ctl_store.specs.Held.{Held, keyed_of}
 use Rattle.ctl_policy.specs.Rows.{Lists}
-use Rattle.ctl_policy.specs.Priority.{World, world_of, list_priority, priority_found}
-use Rattle.ctl_policy.specs.Laws.{Stays, with_lists, version_found, IsUntouched, AreSameLists, world_after}
+use Rattle.ctl_policy.specs.Priority.{World, world_of, priority_found}
+use Rattle.ctl_policy.specs.Laws.{Stays, with_lists, version_found, IsUntouched, world_after}
 use Rattle.ctl_policy.specs.Touched.{HasNoneOf, LeavesStanzas, IsAccepted}
 use Rattle.ctl_policy.proofs.TouchLemmas.{stanza_others}
 use Rattle.ctl_policy.proofs.StepLemmas.{untouched}
