@@ -51,7 +51,7 @@ class_named q v (s ∷ ss) = by (version_in q s.1) (class_named q v ss)
 
 -- ---- the keys of what is placed
 
-placed_rows : (serial : ℕ) (rows : List (ℕ × Content)) → entry_keys (map (λ (row : ℕ × Content). (key_of serial row.0, row.1)) rows) ≡ map (λ (row : ℕ × Content). key_of serial row.0) rows
+pub placed_rows : (serial : ℕ) (rows : List (ℕ × Content)) → entry_keys (map (λ (row : ℕ × Content). (key_of serial row.0, row.1)) rows) ≡ map (λ (row : ℕ × Content). key_of serial row.0) rows
 placed_rows serial [] = refl
 placed_rows serial (r ∷ rows) = ap (λ l. key_of serial r.0 ∷ l) (placed_rows serial rows)
 
@@ -92,7 +92,7 @@ find_in-append k (s ∷ ss) ts = by (key_is k s.0) (find_in-append k ss ts)
     by true e = refl
     by false e = e
 
-find_in-rows : (k : StanzaKey) (serial : ℕ) (rows : List (ℕ × Content)) (b : Bool) → nat_eq serial k.list ≡ b → find_in k (map (λ (row : ℕ × Content). (key_of serial row.0, row.1)) rows) ≡ cond b (lookup (λ s. nat_eq s k.stanza) rows) None
+pub find_in-rows : (k : StanzaKey) (serial : ℕ) (rows : List (ℕ × Content)) (b : Bool) → nat_eq serial k.list ≡ b → find_in k (map (λ (row : ℕ × Content). (key_of serial row.0, row.1)) rows) ≡ cond b (lookup (λ s. nat_eq s k.stanza) rows) None
 find_in-rows k serial [] true e = refl
 find_in-rows k serial [] false e = refl
 find_in-rows k serial (r ∷ rows) true e = λ i. cond (e i && nat_eq r.0 k.stanza) (Some r.1) (find_in-rows k serial rows true e i)

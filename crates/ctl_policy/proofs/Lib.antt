@@ -15,3 +15,8 @@ pub mod ChoiceLemmas
 pub mod RestLemmas
 pub mod TouchLemmas
 pub mod ReadLemmas
+pub mod SettingLemmas
+pub mod StepLemmas
+pub mod StepListLemmas
+pub mod TouchedLemmas
+pub mod NamesLemmas

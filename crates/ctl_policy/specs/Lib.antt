@@ -5,6 +5,7 @@ pub mod Candidate
 pub mod Kept
 pub mod Chosen
 pub mod Laws
+pub mod Touched
 pub mod HeldRows
 pub mod HeldWalk
 pub mod HeldRead

@@ -1,0 +1,77 @@
+//! Laws on the names that an edit of the store touches: all others stay.
+
+ghost use Rattle.std.specs.Prelude.{◌≡◌, ℕ, ℤ, List, Option, None, Vec, if◌then◌else◌};
+ghost use Rattle.std.proofs.Common.{Global};
+ghost use Rattle.std.specs.Str.{bytes_eq};
+ghost use Rattle.std.specs.List.{IsDistinct};
+ghost use Rattle.std.specs.Map.{keys_of as names_of};
+ghost use Rattle.std.specs.BTreeMap.{BTreeMap};
+ghost use Rattle.ctl_stanza.specs.declared.list_kind.ListKind.{ListKind};
+ghost use Rattle.ctl_stanza.specs.Content.{Content};
+ghost use Rattle.ctl_store.specs.declared.list_class.ListClass.{ListClass};
+ghost use Rattle.ctl_store.specs.declared.selector.Selector.TheVariants.{Release};
+ghost use Rattle.ctl_store.specs.Edits.{Edit, AddList, DropList, Put, Remove, Pin, Unpin, Target, Prefs};
+ghost use Rattle.ctl_store.specs.Keys.{all_keys, AreRising, AreCome, keyed_after};
+ghost use Rattle.ctl_store.specs.Entries.{IsChange};
+ghost use Rattle.ctl_store.specs.Held.{Held, Planned, IsReady, keyed_of, state_of};
+ghost use Rattle.ctl_policy.specs.declared.chosen.Chosen.{Chosen};
+ghost use Rattle.ctl_policy.specs.Chosen.{at_bytes, kept_of, AreChosen};
+ghost use Rattle.ctl_policy.specs.Priority.{Settings, world_of};
+ghost use Rattle.ctl_policy.specs.Laws.{Stays, HoldsNone, world_after};
+ghost use Rattle.ctl_policy.specs.Touched.{TargetHoldsNone, LeavePins, LeavesStanzas, IsNotTouched, IsAccepted, TouchesAlone, is_one_of};
+
+use crate::laws::general_pins_leave_other_names;
+use ctl_store::settings_by_package;
+
+/// A general pin of the store leaves names of which its list holds no live stanza.
+pub fn edits_of_general_pins()
+    ensures pin { (old : Held) → (list : List ℕ) → (p : ℤ) → (name : List ℕ) → AreRising (all_keys (keyed_of old).lists) → HoldsNone list name (keyed_of old).lists → Stays name (world_of old) (world_after old (Pin (Release None list) p)) }
+    ensures unpin { (old : Held) → (list : List ℕ) → (name : List ℕ) → AreRising (all_keys (keyed_of old).lists) → HoldsNone list name (keyed_of old).lists → Stays name (world_of old) (world_after old (Unpin (Release None list))) }
+{
+    general_pins_leave_other_names();
+}
+
+/// Another target of the store leaves names of which neither the list of the old one nor that of the new one holds a live
+/// stanza.
+#[tactic(auto, using(crate::proofs::SettingLemmas::target_untouched))]
+pub fn edits_of_targets()
+    ensures { (old : Held) → (target : Option (List ℕ)) → (name : List ℕ) → AreRising (all_keys (keyed_of old).lists) → TargetHoldsNone old.target name (keyed_of old).lists → TargetHoldsNone target name (keyed_of old).lists → Stays name (world_of old) (world_after old (Target target)) }
+{}
+
+/// Preferences of the store leave names whose specific pins stay, and of which no list whose priority changes holds a
+/// live stanza.
+#[tactic(auto, using(crate::proofs::SettingLemmas::prefs_untouched))]
+pub fn edits_of_preferences()
+    ensures { (old : Held) → (pins : Settings) → (name : List ℕ) → AreRising (all_keys (keyed_of old).lists) → LeavePins pins name (world_of old) → Stays name (world_of old) (world_after old (Prefs pins)) }
+{}
+
+/// A stanza that is put or removed leaves names of which no live stanza goes or comes.
+pub fn edits_of_stanzas()
+    ensures put { (old : Held) → (name : List ℕ) → (list : List ℕ) → (x : Content) → IsAccepted old (Put list x) → LeavesStanzas name old (Put list x) → Stays name (world_of old) (world_after old (Put list x)) }
+    ensures remove { (old : Held) → (name : List ℕ) → (list : List ℕ) → (removed : List ℕ) → (version : List ℕ) → IsAccepted old (Remove list removed version) → LeavesStanzas name old (Remove list removed version) → Stays name (world_of old) (world_after old (Remove list removed version)) }
+{}
+
+/// A list that comes or goes leaves names of which it holds no live stanza.
+pub fn edits_of_lists()
+    ensures add { (old : Held) → (name : List ℕ) → (list : List ℕ) → (kind : ListKind) → (class : ListClass) → (stanzas : List Content) → IsAccepted old (AddList list kind class stanzas) → LeavesStanzas name old (AddList list kind class stanzas) → Stays name (world_of old) (world_after old (AddList list kind class stanzas)) }
+    ensures drop { (old : Held) → (name : List ℕ) → (list : List ℕ) → IsAccepted old (DropList list) → LeavesStanzas name old (DropList list) → Stays name (world_of old) (world_after old (DropList list)) }
+{}
+
+/// An accepted edit of the store leaves each name that it doesn't touch.
+pub fn untouched_names_stay()
+    ensures { (old : Held) → (edit : Edit) → (name : List ℕ) → IsAccepted old edit → IsNotTouched name old edit → Stays name (world_of old) (world_after old edit) }
+{
+    settings_by_package();
+}
+
+/// After an accepted edit the names that it touches are chosen anew, and all are right.
+pub fn touched_names_are_enough()
+    ensures { (old : BTreeMap (Vec ℕ Global) Chosen) → (new : BTreeMap (Vec ℕ Global) Chosen) → (names : List (List ℕ)) → (h : Held) → (edit : Edit) → IsAccepted h edit → TouchesAlone names h edit → AreChosen old (world_of h) → ((q : List ℕ) → at_bytes new q ≡ (if is_one_of q names then kept_of q (world_after h edit) else at_bytes old q)) → AreChosen new (world_after h edit) }
+{
+    untouched_names_stay();
+}
+
+/// What a plan of the store promises is what the laws on touched names want.
+pub fn plans_are_accepted()
+    ensures { (h : Held) → (plan : Planned) → IsReady h plan → AreRising (all_keys (keyed_of h).lists) → IsDistinct bytes_eq (names_of (state_of h).lists) → IsChange (keyed_of h).lists (keyed_after (keyed_of h) plan.edit).lists plan.removed plan.added plan.edit → AreCome plan.added plan.edit (keyed_after (keyed_of h) plan.edit).lists → IsAccepted h plan.edit }
+{}
