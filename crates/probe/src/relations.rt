@@ -56,9 +56,11 @@ pub fn append_field(alloc: Global, line: &str, answer: &mut Vec<u8>) -> Result<(
         }
         Ok(relations) => {
             answer.extend_from_slice(b"groups:")?;
-            for (index, group) in relations.groups().enumerate() {
-                answer.extend_from_slice(if index == 0 { b" " } else { b", " })?;
+            let mut between: &[u8] = b" ";
+            for group in relations.groups() {
+                answer.extend_from_slice(between)?;
                 group.append_to(answer)?;
+                between = b", ";
             }
         }
     }
