@@ -1,5 +1,5 @@
 -- The order of pin settings by their packages, while one is set or taken out.
-use Rattle.std.proofs.Common.{◌≡◌, ℕ, zero, suc, ◌+◌, ◌<◌, ◌≤◌, Bool, true, false, cond, List, [], ◌∷◌, ◌++◌, length, get_or, Vec, Option, Some, None, option_map, refl, ap, sym, subst, ◌∙◌, arith}
+use Rattle.std.proofs.Common.{◌≡◌, ℕ, zero, suc, ◌<◌, Bool, true, false, cond, List, [], ◌∷◌, ◌++◌, length, get_or, Vec, Some, None, option_map, refl, ap, sym, ◌∙◌, arith}
 use Rattle.std.specs.List.{insert, remove}
 use Rattle.std.specs.Ordering.{is_eq, ordering_reverse}
 use Rattle.std.specs.declared.cmp.Ordering.{Ordering}
@@ -7,8 +7,8 @@ use Rattle.std.specs.declared.cmp.Ordering.TheVariants.{Less, Equal, Greater}
 use Rattle.ctl_store.specs.declared.selector.Selector.{Selector}
 use Rattle.ctl_store.specs.declared.selector.Selector.TheVariants.{Version, Release}
 use Rattle.ctl_store.specs.declared.selector.PinSetting.{PinSetting}
-use Rattle.ctl_store.specs.Rows.{Rises, replace_at, remove_row_at}
-use Rattle.ctl_store.specs.Ranks.{Label, label_cmp, labels_of, sorted_labels, labels_below, ranked_serials, has_label, label_place, put_item_at, selector_label, setting_row, IsRanked}
+use Rattle.ctl_store.specs.Rows.{Rises, replace_at}
+use Rattle.ctl_store.specs.Ranks.{Label, label_cmp, labels_of, sorted_labels, labels_below, ranked_serials, has_label, label_place, selector_label, setting_row, IsRanked}
 use Rattle.ctl_store.specs.declared.pieces.Spot.{Spot}
 use Rattle.ctl_store.specs.Pieces.{joined, stands_at, place_of_spot, IsSpot, IsSpotOrEnd, HasRoomFor, IsFit}
 use Rattle.ctl_store.specs.HeldPins.{own_label, own_row, own_room, AreByPackage}

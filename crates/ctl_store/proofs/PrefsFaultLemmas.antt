@@ -1,5 +1,5 @@
 -- The fault that is told of preferences is the least of their faults.
-use Rattle.std.proofs.Common.{◌≡◌, ◌⊎◌, ◌∙◌, ◌+◌, ◌-◌, ◌<◌, ◌≤◌, ℕ, ℤ, zero, suc, true, false, List, [], ◌∷◌, length, map, take, drop, get_or, slice_index, Option, Some, None, Ok, Err, refl, sym, ap, ap₂, subst, arith, inl, inr, ⊎_elim}
+use Rattle.std.proofs.Common.{◌≡◌, ◌∙◌, ◌+◌, ◌-◌, ◌<◌, ◌≤◌, ℕ, ℤ, zero, suc, true, false, List, [], ◌∷◌, length, map, take, drop, get_or, slice_index, Option, Some, None, Ok, Err, refl, sym, ap, subst, arith, inl, inr, ⊎_elim}
 use Rattle.std.proofs.lemmas.Bool.{cases_lt}
 use Rattle.std.proofs.lemmas.List.{get_or-map, get_or-take, get_or-drop, length-map}
 use Rattle.std.specs.List.{Contains}
@@ -7,14 +7,13 @@ use Rattle.std.specs.List.Sorted.{IsStrictlyIncreasing}
 use Rattle.ctl_stanza.specs.declared.fault.TextFault.{TextFault}
 use Rattle.ctl_stanza.specs.declared.fault.Cause.{Cause}
 use Rattle.ctl_stanza.specs.Faults.{number_of, or_else}
-use Rattle.ctl_stanza.specs.Lines.{is_blank}
-use Rattle.ctl_stanza.specs.LineRuns.{line_at, IsStanzaAt, Run, AreStanzasBefore}
+use Rattle.ctl_stanza.specs.LineRuns.{IsStanzaAt, Run, AreStanzasBefore}
 use Rattle.ctl_stanza.specs.Text.{or_fault}
-use Rattle.ctl_stanza.specs.RecordLaws.{HasRecordFault, HasNoRecordFault, AreRecordsUpTo, AreRecordsBefore, IsLeastFaultOf, lines_kept, numbers_kept, record_at}
+use Rattle.ctl_stanza.specs.RecordLaws.{HasRecordFault, HasNoRecordFault, AreRecordsUpTo, IsLeastFaultOf, lines_kept, numbers_kept, record_at}
 use Rattle.ctl_stanza.specs.Records.{RecordText, records_before_fault}
 use Rattle.ctl_store.specs.declared.selector.Selector.{Selector}
 use Rattle.ctl_store.specs.Prefs.{own_fault, first_own_fault, first_settings, all_settings, settings_or_fault, read_prefs_text}
-use Rattle.ctl_store.specs.PrefsFaults.{HasOwnFault, IsGoodRecordAt, HasOwnFaultAt, HasPrefsFault, HasNoPrefsFault, IsLeastPrefsFault, ReadsPrefsOrTells}
+use Rattle.ctl_store.specs.PrefsFaults.{HasOwnFault, HasOwnFaultAt, HasNoPrefsFault, IsLeastPrefsFault, ReadsPrefsOrTells}
 use Rattle.ctl_store.proofs.OwnFaultLemmas.{AllRise, own-within, TellsOwn, own-tells, own-none}
 
 abbrev starts : List Run → List ℕ

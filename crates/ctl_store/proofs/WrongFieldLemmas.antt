@@ -1,5 +1,5 @@
 -- What is told of a field of preferences is wrong with it, and the lowest of what is wrong.
-use Rattle.std.proofs.Common.{◌≡◌, ◌⊎◌, ◌∙◌, ◌≤◌, ◌++◌, ◌||◌, ◌&&◌, ℕ, ℤ, Bool, true, false, cond, List, [], ◌∷◌, drop, codes, nat_eq, Option, Some, None, is_some, refl, sym, ap, ap₂, subst, arith, inl, inr, ⊎_elim}
+use Rattle.std.proofs.Common.{◌≡◌, ◌∙◌, ◌≤◌, ◌++◌, ◌||◌, ◌&&◌, ℕ, ℤ, Bool, true, false, cond, List, [], ◌∷◌, drop, codes, nat_eq, Option, Some, None, is_some, refl, sym, ap, ap₂, subst, arith, inl, inr, ⊎_elim}
 use Rattle.std.proofs.lemmas.Bool.{cases_Bool, cond-true, cond-false, eqb-true}
 use Rattle.std.proofs.lemmas.Slice.Eq.{bytes_eq-Decides}
 use Rattle.std.specs.List.{starts_with}
@@ -12,7 +12,7 @@ use Rattle.ctl_stanza.specs.Fields.{is_same_name, package_name}
 use Rattle.ctl_store.specs.PinVersions.{is_pin_version}
 use Rattle.ctl_store.specs.Priority.{priority_of}
 use Rattle.ctl_store.specs.Prefs.{words_of, pin_name, priority_name, is_general, are_names, version_asked, list_asked, package_cause, asked_cause, pin_cause, priority_cause, field_cause}
-use Rattle.ctl_store.specs.PrefsFaults.{AsksForVersion, AsksForList, HasNoNames, IsBadList, IsBadVersion, IsVersionOfAny, AsksForNothing, IsBadPriority, IsWrongField}
+use Rattle.ctl_store.specs.PrefsFaults.{AsksForVersion, HasNoNames, IsBadList, IsBadVersion, IsVersionOfAny, AsksForNothing, IsBadPriority, IsWrongField}
 
 -- ---- names without regard to case
 

@@ -1,5 +1,4 @@
-use Rattle.std.proofs.Common.{◌≡◌, ◌∙◌, ℕ, Some, None, ap, sym}
-use Rattle.ctl_store.specs.declared.selector.PinSetting.{PinSetting}
+use Rattle.std.proofs.Common.{◌≡◌, ◌∙◌, Some, None, ap, sym}
 use Rattle.ctl_store.specs.Pieces.{joined, place_of_spot}
 use Rattle.ctl_store.specs.Ranks.{IsRanked, label_place, labels_of, sorted_labels, labels_below, put_item_at, ranked_serials, selector_label, setting_row}
 use Rattle.ctl_store.specs.HeldPins.{own_row}
