@@ -20,3 +20,4 @@ pub mod StepLemmas
 pub mod StepListLemmas
 pub mod TouchedLemmas
 pub mod NamesLemmas
+pub mod PackageLemmas

@@ -72,11 +72,11 @@ ranked name w u l t g = ap (option_map (priority_of_list name u)) l ∙ by (at_n
 
 -- ---- worlds with the same lists
 
-or_first : (a b : Bool) → (a || b) ≡ false → a ≡ false
+pub or_first : (a b : Bool) → (a || b) ≡ false → a ≡ false
 or_first true b e = cc
 or_first false b e = refl
 
-or_second : (a b : Bool) → (a || b) ≡ false → b ≡ false
+pub or_second : (a b : Bool) → (a || b) ≡ false → b ≡ false
 or_second true b e = cc
 or_second false b e = e
 

@@ -72,7 +72,7 @@ module _ (q : List ℕ) (w : World) (rising : AreRising (all_keys w.lists)) wher
       (λ k live there e. add_holder k w.lists new there)
       (λ k live name h. add_sort k name w.lists new h)
 
-names_same : (ls : Lists) → names_of (stanza_lists ls) ≡ names_of ls
+pub names_same : (ls : Lists) → names_of (stanza_lists ls) ≡ names_of ls
 names_same [] = refl
 names_same (l ∷ ls) = ap (λ names. l.0 ∷ names) (names_same ls)
 

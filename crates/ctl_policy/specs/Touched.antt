@@ -1,9 +1,10 @@
 -- Which names an accepted edit touches.
-use Rattle.std.specs.Prelude.{◌≡◌, ◌⊎◌, ℕ, Bool, true, false, List, Option, None, Some}
+use Rattle.std.specs.Prelude.{◌≡◌, ◌⊎◌, ℕ, Bool, true, false, List, [], ◌∷◌, Option, None, Some}
 use Rattle.std.specs.Str.{bytes_eq}
 use Rattle.std.specs.List.{IsDistinct, list_any}
+use Rattle.std.specs.Option.{option_map_or}
 use Rattle.std.specs.Map.{keys_of as names_of}
-use Rattle.ctl_stanza.specs.Content.{Content}
+use Rattle.ctl_stanza.specs.Content.{Content, package_of}
 use Rattle.ctl_store.specs.declared.stanza_key.StanzaKey.{StanzaKey}
 use Rattle.ctl_store.specs.declared.selector.Selector.{Selector}
 use Rattle.ctl_store.specs.declared.selector.Selector.TheVariants.{Version, Release}
@@ -63,6 +64,11 @@ IsNotTouched name h edit = LeavesStanzas name h edit
 -- whether a name is one of some
 abbrev pub is_one_of : List ℕ → List (List ℕ) → Bool
 is_one_of name names = list_any (λ other. bytes_eq other name) names
+
+-- the packages of the stanzas that are found under keys
+abbrev pub packages_at : List StanzaKey → (StanzaKey → Option Content) → List (List ℕ)
+packages_at [] find = []
+packages_at (k ∷ ks) find = option_map_or (λ x. package_of x ∷ packages_at ks find) (find k) (packages_at ks find)
 
 -- an edit touches no name but these
 abbrev pub TouchesAlone : List (List ℕ) → Held → Edit → Type 0

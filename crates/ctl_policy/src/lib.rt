@@ -27,6 +27,7 @@ pub use priority::{is_source, list_priority, row_priority, specific_pin};
 pub use rows::Rows;
 pub use touched::{
     edits_of_general_pins, edits_of_lists, edits_of_preferences, edits_of_stanzas,
-    edits_of_targets, plans_are_accepted, touched_names_are_enough, untouched_names_stay,
+    edits_of_targets, packages_tell_live_stanzas, plans_are_accepted, touched_names_are_enough,
+    untouched_names_stay,
 };
 pub use walk::read_rows;

@@ -1,6 +1,6 @@
 //! Laws on the names that an edit of the store touches: all others stay.
 
-ghost use Rattle.std.specs.Prelude.{◌≡◌, ℕ, ℤ, List, Option, None, Vec, if◌then◌else◌};
+ghost use Rattle.std.specs.Prelude.{◌≡◌, ℕ, ℤ, false, List, Option, None, Vec, if◌then◌else◌};
 ghost use Rattle.std.proofs.Common.{Global};
 ghost use Rattle.std.specs.Str.{bytes_eq};
 ghost use Rattle.std.specs.List.{IsDistinct};
@@ -10,15 +10,16 @@ ghost use Rattle.ctl_stanza.specs.declared.list_kind.ListKind.{ListKind};
 ghost use Rattle.ctl_stanza.specs.Content.{Content};
 ghost use Rattle.ctl_store.specs.declared.list_class.ListClass.{ListClass};
 ghost use Rattle.ctl_store.specs.declared.selector.Selector.TheVariants.{Release};
+ghost use Rattle.ctl_store.specs.declared.stanza_key.StanzaKey.{StanzaKey};
 ghost use Rattle.ctl_store.specs.Edits.{Edit, AddList, DropList, Put, Remove, Pin, Unpin, Target, Prefs};
-ghost use Rattle.ctl_store.specs.Keys.{all_keys, AreRising, AreCome, keyed_after};
+ghost use Rattle.ctl_store.specs.Keys.{stanza_at, all_in, all_keys, AreRising, AreCome, keyed_after};
 ghost use Rattle.ctl_store.specs.Entries.{IsChange};
 ghost use Rattle.ctl_store.specs.Held.{Held, Planned, IsReady, keyed_of, state_of};
 ghost use Rattle.ctl_policy.specs.declared.chosen.Chosen.{Chosen};
 ghost use Rattle.ctl_policy.specs.Chosen.{at_bytes, kept_of, AreChosen};
 ghost use Rattle.ctl_policy.specs.Priority.{Settings, world_of};
 ghost use Rattle.ctl_policy.specs.Laws.{Stays, HoldsNone, world_after};
-ghost use Rattle.ctl_policy.specs.Touched.{TargetHoldsNone, LeavePins, LeavesStanzas, IsNotTouched, IsAccepted, TouchesAlone, is_one_of};
+ghost use Rattle.ctl_policy.specs.Touched.{TargetHoldsNone, LeavePins, LeavesStanzas, IsNotTouched, IsAccepted, TouchesAlone, HasNoneOf, is_one_of, packages_at};
 
 use crate::laws::general_pins_leave_other_names;
 use ctl_store::settings_by_package;
@@ -74,4 +75,11 @@ pub fn touched_names_are_enough()
 /// What a plan of the store promises is what the laws on touched names want.
 pub fn plans_are_accepted()
     ensures { (h : Held) → (plan : Planned) → IsReady h plan → AreRising (all_keys (keyed_of h).lists) → IsDistinct bytes_eq (names_of (state_of h).lists) → IsChange (keyed_of h).lists (keyed_after (keyed_of h) plan.edit).lists plan.removed plan.added plan.edit → AreCome plan.added plan.edit (keyed_after (keyed_of h) plan.edit).lists → IsAccepted h plan.edit }
+{}
+
+/// A name that is the package of no stanza under some keys has no live one under them; and where they are all keys of a
+/// list, that list holds none.
+pub fn packages_tell_live_stanzas()
+    ensures keys { (name : List ℕ) → (find : StanzaKey → Option Content) → (keys : List StanzaKey) → is_one_of name (packages_at keys find) ≡ false → HasNoneOf name keys find }
+    ensures list { (name : List ℕ) → (list : List ℕ) → (h : Held) → IsDistinct bytes_eq (names_of (state_of h).lists) → is_one_of name (packages_at (all_in list (keyed_of h).lists) (λ k. stanza_at k (keyed_of h).lists)) ≡ false → HoldsNone list name (keyed_of h).lists }
 {}

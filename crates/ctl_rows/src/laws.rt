@@ -3,10 +3,11 @@
 use ctl_policy::{
     edits_of_general_pins, edits_of_lists, edits_of_one_name, edits_of_preferences,
     edits_of_stanzas, edits_of_targets, general_pins_leave_other_names, marks_leave_other_names,
-    one_name_is_enough, plans_are_accepted, preferences_leave_other_names, rows_are_classes,
-    rows_are_held, rows_are_kept, rows_follow_stanzas, sources_hold_stanzas,
-    specific_pins_leave_other_names, stanzas_leave_other_names, targets_leave_other_names,
-    touched_names_are_enough, untouched_names_stay, worlds_move,
+    one_name_is_enough, packages_tell_live_stanzas, plans_are_accepted,
+    preferences_leave_other_names, rows_are_classes, rows_are_held, rows_are_kept,
+    rows_follow_stanzas, sources_hold_stanzas, specific_pins_leave_other_names,
+    stanzas_leave_other_names, targets_leave_other_names, touched_names_are_enough,
+    untouched_names_stay, worlds_move,
 };
 use ctl_relation::{
     equal_versions, fields_bound_atoms, fields_have_one_fault, fields_have_places,
@@ -84,5 +85,6 @@ fn laws_of_policies_can_be_called() {
     edits_of_lists();
     untouched_names_stay();
     touched_names_are_enough();
+    packages_tell_live_stanzas();
     plans_are_accepted();
 }
