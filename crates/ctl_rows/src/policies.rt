@@ -11,9 +11,11 @@ use std::process::Abort;
 use std::test::Fail;
 
 /// `foo` 1.0-1 in `main` and installed, 2.0-1 in `sid`.
-const FRONT: &[u8] = b"add-list main packages\nPackage: foo\nVersion: 1.0-1\n.\nadd-list sid packages\nPackage: foo\nVersion: 2.0-1\n.\nadd-list status status\nPackage: foo\nStatus: install ok installed\nVersion: 1.0-1\n.\n";
+const FRONT: &[u8] =
+    b"add-list main packages\nPackage: foo\nVersion: 1.0-1\n.\nadd-list sid packages\nPackage: foo\nVersion: 2.0-1\n.\nadd-list status status\nPackage: foo\nStatus: install ok installed\nVersion: 1.0-1\n.\n";
 
-const FRONT_POLICY: &[u8] = b"  Installed: 1.0-1\n  Candidate: 2.0-1\n     2.0-1 500\n        500 sid\n *** 1.0-1 500\n        500 main\n        100 status\n";
+const FRONT_POLICY: &[u8] =
+    b"  Installed: 1.0-1\n  Candidate: 2.0-1\n     2.0-1 500\n        500 sid\n *** 1.0-1 500\n        500 main\n        100 status\n";
 
 /// Runs each script, and compares what it writes and then the policy of `foo`.
 fn each_has(

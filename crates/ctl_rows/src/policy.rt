@@ -71,8 +71,16 @@ fn append_row(
     requires { AreHeld keys.now (keyed_of store.now).lists }
 {
     let lead = keys.first().copied();
-    let front: &[u8] = if lead == installed { b" *** " } else { b"     " };
-    let pinned = if is_pinned(store, name, keys) { "!" } else { "" };
+    let front: &[u8] = if lead == installed {
+        b" *** "
+    } else {
+        b"     "
+    };
+    let pinned = if is_pinned(store, name, keys) {
+        "!"
+    } else {
+        ""
+    };
     let told = format!(in alloc; " {}{pinned}", row_priority(store, name, keys))?;
     all.extend_from_slice(front)?;
     append_line(version_text(store, lead), told.as_bytes(), all)?;
