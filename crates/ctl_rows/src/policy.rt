@@ -95,7 +95,7 @@ fn append_rows(
     installed: Option<StanzaKey>,
     all: &mut Vec<u8>,
 ) -> Result<(), AllocError>
-    requires { AllByRecursion (λ keys. AreHeld keys (keyed_of store.now).lists) rows.entry }
+    requires { AllByRecursion (λ keys. AreHeld keys (keyed_of store.now).lists) rows }
 {
     let mut left = rows;
     'rows: while let Some(keys) = left.next() {
