@@ -195,18 +195,6 @@ fn came(alloc: Global, acts: &[Act<'_>]) -> Result<Vec<u8>, Fail> {
     came_in(alloc, &mut cache, acts)
 }
 
-/// Does the acts of each row with a new cache, and compares what comes of them.
-fn each_comes_to(
-    rt: &(impl Abort + AllocGlobal),
-    rows: &[(&[u8], &[Act<'_>], &[u8])],
-) -> Result<(), Fail> {
-    for (name, acts, wanted) in rows {
-        let text = came(rt.alloc(), acts)?;
-        same(rt, name, &text, wanted);
-    }
-    Ok(())
-}
-
 /// A clause of Depends of the first list.
 const fn depends(stanza: u64, group: u32) -> ClauseKey {
     ClauseKey {
@@ -230,7 +218,11 @@ fn a_new_cache_is_empty(rt: HostRuntime) -> Result<(), Fail> {
         ],
         b"+0|\n\n|0|0 of 4294967295 stanzas, 0 of 4294967295 edits|||",
     )];
-    each_comes_to(&rt, &rows)
+    for (name, acts, wanted) in &rows {
+        let text = came(rt.alloc(), acts)?;
+        same(&rt, name, &text, wanted);
+    }
+    Ok(())
 }
 
 #[test]
@@ -336,7 +328,11 @@ fn an_edit_takes_its_own_tests(rt: HostRuntime) -> Result<(), Fail> {
               +12|1.0 Depends 0: 2;1.1 Depends 0: 2;|+4||",
         ),
     ];
-    each_comes_to(&rt, &rows)
+    for (name, acts, wanted) in &rows {
+        let text = came(rt.alloc(), acts)?;
+        same(&rt, name, &text, wanted);
+    }
+    Ok(())
 }
 
 #[test]
@@ -378,7 +374,11 @@ fn other_edits_take_no_tests(rt: HostRuntime) -> Result<(), Fail> {
               0.0 Depends 0: 2;0.1 Depends 0: 2;\n\n|4|",
         ),
     ];
-    each_comes_to(&rt, &rows)
+    for (name, acts, wanted) in &rows {
+        let text = came(rt.alloc(), acts)?;
+        same(&rt, name, &text, wanted);
+    }
+    Ok(())
 }
 
 #[test]
@@ -433,7 +433,11 @@ fn names_are_known_by_offers_and_by_atoms(rt: HostRuntime) -> Result<(), Fail> {
             b"+0| foo old|0.1 Depends 0: 0;|||",
         ),
     ];
-    each_comes_to(&rt, &rows)
+    for (name, acts, wanted) in &rows {
+        let text = came(rt.alloc(), acts)?;
+        same(&rt, name, &text, wanted);
+    }
+    Ok(())
 }
 
 #[test]
@@ -474,7 +478,11 @@ fn packages_begin_with_a_prefix(rt: HostRuntime) -> Result<(), Fail> {
             b"+0| foo|",
         ),
     ];
-    each_comes_to(&rt, &rows)
+    for (name, acts, wanted) in &rows {
+        let text = came(rt.alloc(), acts)?;
+        same(&rt, name, &text, wanted);
+    }
+    Ok(())
 }
 
 #[test]
@@ -509,7 +517,11 @@ fn offers_have_their_stanzas_and_versions(rt: HostRuntime) -> Result<(), Fail> {
               +0|1.0 x 1-0;|",
         ),
     ];
-    each_comes_to(&rt, &rows)
+    for (name, acts, wanted) in &rows {
+        let text = came(rt.alloc(), acts)?;
+        same(&rt, name, &text, wanted);
+    }
+    Ok(())
 }
 
 #[test]
@@ -551,7 +563,11 @@ fn namers_are_atoms_of_eight_fields(rt: HostRuntime) -> Result<(), Fail> {
               +0|0.1 Depends 0 0;0.1 Conflicts 0 0;|",
         ),
     ];
-    each_comes_to(&rt, &rows)
+    for (name, acts, wanted) in &rows {
+        let text = came(rt.alloc(), acts)?;
+        same(&rt, name, &text, wanted);
+    }
+    Ok(())
 }
 
 #[test]
@@ -588,7 +604,11 @@ fn a_clause_has_the_number_of_its_pairs(rt: HostRuntime) -> Result<(), Fail> {
             b"+10|0|1|5|0.0 Depends 0;|",
         ),
     ];
-    each_comes_to(&rt, &rows)
+    for (name, acts, wanted) in &rows {
+        let text = came(rt.alloc(), acts)?;
+        same(&rt, name, &text, wanted);
+    }
+    Ok(())
 }
 
 #[test]
@@ -609,7 +629,11 @@ fn recovery_of_a_cache_that_is_not_stale_does_nothing(rt: HostRuntime) -> Result
         b"+0|+4|+0|0.0 Depends 0: 2;0.1 Depends 0: 2;|+4|+0|0.1 Depends 0: 0;|8|\
           1 of 4294967295 stanzas, 2 of 4294967295 edits|",
     )];
-    each_comes_to(&rt, &rows)
+    for (name, acts, wanted) in &rows {
+        let text = came(rt.alloc(), acts)?;
+        same(&rt, name, &text, wanted);
+    }
+    Ok(())
 }
 
 #[test]
