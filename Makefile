@@ -62,6 +62,7 @@ bench: $(PROGRAM)
 	python3 bench/index.py $(FILE)
 ifdef FILE
 	python3 bench/relations.py $(FILE)
+	python3 bench/policies.py main=$(FILE)
 endif
 
 install: $(PROGRAM)

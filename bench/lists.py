@@ -100,7 +100,7 @@ def peers(packages, folder):
     else:
         print("grep-dctrl isn't installed")
     if shutil.which("apt-cache") and shutil.which("apt-get"):
-        apt = AptFolder(os.path.join(folder, "apt"), packages)
+        apt = AptFolder(os.path.join(folder, "apt"), {"main": packages})
         found["apt-cache gencaches"] = Way(["apt-cache", "-qq", "gencaches"], before=apt.forget, environment=apt.environment)
     else:
         print("apt-cache isn't installed")

@@ -6,18 +6,16 @@
 FOLDER holds the reference program `oracle.py`, which says what an edit makes of a state, how many tests of an offer against an
 atom it takes (`pairs`), and which names are known, offers stand and atoms are met in a state. The edits are generated:
 sequences of them over few names, which depend on each other in all fields, with small limits at times. After each edit the
-names, the offers and the namers of each name, the numbers of all clauses, those at 0, the names of packages with some prefix and the
-count of tests are compared.
+names, the offers and the namers of each name, the numbers of all clauses, those at 0, the names of packages with some prefix, the
+rows of each package with their priorities, what is installed and would be, and the count of tests are compared.
 Each twentieth sequence puts and removes stanzas of one list beside one that stays, of which the first grows to hundreds and
 shrinks; there the count of tests is compared after each edit, and the rest now and then. `rt run` in crates/probe builds the
 program that is compared.
 """
 
-import random
-import sys
-
 from answers import compare, tell
-from edit_sequences import GROWTH, LISTS, PACKAGES, STATES, VERSIONS, Keys, generate_change, generate_edit, probe, read
+from edit_sequences import GROWTH, LISTS, PACKAGES, VERSIONS, Keys
+from edit_sequences import generate_change, generate_edit, generate_sequences, head_lines, outcome_of, probe, read, read_words
 
 SEQUENCES = 1000
 SEED = 20261123
@@ -57,14 +55,8 @@ def generate_relations(source, names):
 
 
 def related_stanza(source, kind):
-    """A stanza of a list of this kind. One of a status list that is not live may have no version."""
-    state = source.choice(STATES)
-    lines = ["Package: " + source.choice(PACKAGES).decode()]
-    if kind == "packages" or state not in STATES[3:] or source.random() < 0.5:
-        lines.append("Version: " + source.choice(VERSIONS).decode())
-    if kind == "status":
-        lines.append("Status: install ok " + state)
-    return "\n".join(lines + generate_relations(source, NAMES)) + "\n"
+    """A stanza with relation fields."""
+    return "\n".join(head_lines(source, kind) + generate_relations(source, NAMES)) + "\n"
 
 
 def named_related_stanza(source, names):
@@ -112,6 +104,34 @@ def tables_words(oracle, state, keys):
     return " ".join(["views", *names, *sorted(offers), *sorted(namers), *counters, *unmet])
 
 
+def rows_by_class(state, keys):
+    """The keys of the stanzas of each row, by its package and the key of its version."""
+    rows = {}
+    for key, stanza in keyed_stanzas(state, keys):
+        rows.setdefault((stanza.package, stanza.version.key), []).append(key)
+    return rows
+
+
+def policies_words(oracle, state, keys):
+    """The policies of a state as the probe prints them."""
+    view = oracle.View(state)
+    rows = rows_by_class(state, keys)
+
+    def lead(package, row):
+        return "-" if row is None else rows[package, row.version.key][0]
+
+    packages, chosen = [], []
+    for name in view.packages():
+        choice = f"{name.hex()}:{lead(name, view.installed(name))}:{lead(name, view.candidate(name))}"
+        packages.append(f"package={choice}")
+        chosen.append(f"chosen={choice}")
+        for row in view.rows(name):
+            priority, pinned = view.row_priority(row)
+            packages.append(f"row={'+'.join(rows[name, row.version.key])}:{priority}{'!' if pinned else ''}")
+    lists = [f"list={entry.name.hex()}:{view.list_priority(entry)}" for entry in state.lists]
+    return " ".join(["policies", *lists, *packages, *chosen])
+
+
 def in_order(answer):
     """An answer of the probe, with offers and namers, which come in any order, in the order of their words."""
     if not answer.startswith("views"):
@@ -155,6 +175,7 @@ class Followed:
         packages = [name for name in self.oracle.View(self.state).packages() if name.startswith(prefix)]
         return [
             ("views", tables_words(self.oracle, self.state, self.keys)),
+            ("policies", policies_words(self.oracle, self.state, self.keys)),
             (f"packages\t{prefix.hex()}", " ".join(["packages"] + [name.hex() for name in packages])),
         ]
 
@@ -196,28 +217,11 @@ def generate_long_sequence(source, oracle):
     return told
 
 
-def outcome_of(line, wanted):
-    """The name of an edit, with the number of its refusal or `ok`."""
-    word = line.split("\t")[0]
-    if word in ("limits", "views", "packages"):
-        return None
-    return word, wanted.split(" ")[1] if wanted.startswith("refused") else "ok"
-
-
 def main():
-    if len(sys.argv) not in (2, 3):
-        raise SystemExit(__doc__)
-    sys.path.insert(0, sys.argv[1])
-    import oracle
-
-    source = random.Random(SEED)
-    count = int(sys.argv[2]) if len(sys.argv) == 3 else SEQUENCES
-    told = []
-    for number in range(count):
-        generate = generate_long_sequence if number % 20 == 19 else generate_sequence
-        told += generate(source, oracle)
+    oracle, count = read_words(__doc__, SEQUENCES)
+    told = generate_sequences(oracle, SEED, count, generate_sequence, generate_long_sequence)
     answers = [in_order(answer) for answer in probe("index", (line for line, _ in told))]
-    outcomes, wrong = compare(told, answers, outcome_of)
+    outcomes, wrong = compare(told, answers, lambda line, wanted: outcome_of(line, wanted, ("limits", "views", "policies", "packages"), "refused"))
     looks = sum(line == "views" for line, _ in told)
     tell(outcomes, f"{count} sequences, {sum(outcomes.values())} edits, {looks} looks at the tables, {wrong} answers are others", wrong)
 

@@ -37,7 +37,7 @@ def main(words):
     same = True
     with tempfile.TemporaryDirectory() as folder:
         os.chmod(folder, 0o755)
-        apt = AptFolder(os.path.join(folder, "apt"), packages)
+        apt = AptFolder(os.path.join(folder, "apt"), {"main": packages})
         for prefix in [""] + words[2:]:
             ours = answer([program, "-l", "main=" + packages], b"pkgnames '%s'\n" % prefix.encode())
             theirs = answer(["apt-cache", "-o", "APT::Cache::AllNames=0", "pkgnames"] + ([prefix] if prefix else []),

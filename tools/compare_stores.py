@@ -12,11 +12,9 @@ takes over its key. Each twentieth sequence puts and removes stanzas of one list
 the state is compared now and then. `rt run` in crates/probe builds the program that is compared.
 """
 
-import random
-import sys
-
 from answers import compare, tell
-from edit_sequences import GROWTH, LISTS, LONG_NAMES, PACKAGES, Keys, generate_change, generate_edit, named_stanza, probe, read, selector_words
+from edit_sequences import GROWTH, LISTS, LONG_NAMES, PACKAGES, Keys
+from edit_sequences import generate_change, generate_edit, generate_sequences, named_stanza, outcome_of, probe, read, read_words, selector_words
 
 SEQUENCES = 600
 SEED = 20250311
@@ -95,28 +93,11 @@ def generate_long_sequence(source, oracle):
     return told
 
 
-def outcome_of(line, wanted):
-    """The name of an edit, with the number of its refusal or `ok`."""
-    word = line.split("\t")[0]
-    if word in ("limits", "dump"):
-        return None
-    return word, wanted.split(" ")[1] if wanted.startswith("foretold") else "ok"
-
-
 def main():
-    if len(sys.argv) not in (2, 3):
-        raise SystemExit(__doc__)
-    sys.path.insert(0, sys.argv[1])
-    import oracle
-
-    source = random.Random(SEED)
-    count = int(sys.argv[2]) if len(sys.argv) == 3 else SEQUENCES
-    told = []
-    for number in range(count):
-        generate = generate_long_sequence if number % 20 == 19 else generate_sequence
-        told += generate(source, oracle)
+    oracle, count = read_words(__doc__, SEQUENCES)
+    told = generate_sequences(oracle, SEED, count, generate_sequence, generate_long_sequence)
     answers = probe("store", (line for line, _ in told))
-    outcomes, wrong = compare(told, answers, outcome_of)
+    outcomes, wrong = compare(told, answers, lambda line, wanted: outcome_of(line, wanted, ("limits", "dump"), "foretold"))
     tell(outcomes, f"{count} sequences, {sum(outcomes.values())} edits, {wrong} answers are others", wrong)
 
 

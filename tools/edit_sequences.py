@@ -5,7 +5,9 @@ gives the state after an edit or raises `Refused` with a number. An edit is made
 and as the words of a line for the probe."""
 
 import pathlib
+import random
 import subprocess
+import sys
 
 PROBE = pathlib.Path(__file__).resolve().parent.parent / "crates/probe/out/probe"
 
@@ -27,14 +29,20 @@ COMMON = ["put"] * 7 + ["remove"] * 5 + ["add-list"] * 3 + ["mark"] * 2 + ["unma
 EDITS = COMMON + ["drop-list", "target", "prefs"]
 
 
-def generate_stanza(source, kind):
-    """A stanza. One of a status list that is not live may have no version."""
+def head_lines(source, kind):
+    """The lines by which a stanza is found. One of a status list that is not live may have no version."""
     state = source.choice(STATES)
     lines = ["Package: " + source.choice(PACKAGES).decode()]
     if kind == "packages" or state not in STATES[3:] or source.random() < 0.5:
         lines.append("Version: " + source.choice(VERSIONS).decode())
     if kind == "status":
         lines.append("Status: install ok " + state)
+    return lines
+
+
+def generate_stanza(source, kind):
+    """A stanza."""
+    lines = head_lines(source, kind)
     if source.random() < 0.3:
         lines.append("Depends: b (>= 1) | ab")
     lines.append(f"Note: {source.randrange(1000)}")
@@ -212,3 +220,32 @@ def probe(subject, lines):
         raise SystemExit(f"{PROBE} is missing: build it with `rt run` in crates/probe")
     done = subprocess.run([PROBE, subject], input="".join(f"{line}\n" for line in lines).encode(), stdout=subprocess.PIPE, check=True)
     return done.stdout.decode().split("\n")[:-1]
+
+
+def read_words(usage, sequences):
+    """The reference program's module, and how many sequences are asked for, by the words of a command: a folder, and a number if
+    it isn't this one."""
+    if len(sys.argv) not in (2, 3):
+        raise SystemExit(usage)
+    sys.path.insert(0, sys.argv[1])
+    import oracle
+
+    return oracle, int(sys.argv[2]) if len(sys.argv) == 3 else sequences
+
+
+def generate_sequences(oracle, seed, count, generate, generate_long):
+    """The lines of some sequences, each with what is to be printed for it. Each twentieth sequence is a long one."""
+    source = random.Random(seed)
+    told = []
+    for number in range(count):
+        told += (generate_long if number % 20 == 19 else generate)(source, oracle)
+    return told
+
+
+def outcome_of(line, wanted, looks, refused):
+    """The name of an edit, with the number of its refusal or `ok`; nothing for a look at the state. An answer that begins with
+    `refused` is a refusal."""
+    word = line.split("\t")[0]
+    if word in looks:
+        return None
+    return word, wanted.split(" ")[1] if wanted.startswith(refused) else "ok"

@@ -19,6 +19,7 @@ use Rattle.ctl_index.specs.Offers.{offers_among, contents}
 use Rattle.ctl_index.specs.TablesByName.{offers_under, namers_under}
 use Rattle.ctl_index.specs.TablesIndexed.{atom_named, IsIndexed, IsPutIn, IsTakenOut, offers_put, namers_taken, tests_put_in, tests_taken_out}
 use Rattle.ctl_index.specs.TablesParts.{IsJoined}
+use Rattle.ctl_index.specs.TablesRows.{RowsCome, RowsGo}
 use Rattle.ctl_index.specs.TablesSight.{Seen, seen, AreSeen}
 use Rattle.ctl_index.specs.TablesOrder.{is_within}
 use Rattle.ctl_index.specs.TablesSteps.{group_met, span_of, with_each, raise_step, drop_step}
@@ -124,11 +125,12 @@ module _ (s : Seen) (keys : List StanzaKey) (all rest : List Entry) (old new : T
           ap (λ (z : Option Content). option_or (number all (clause_of k x)) (option_map (λ n. n + hits_of (offers_among (contents come)) (option_and_then (clause_of k) z)) (number rest (option_and_then (clause_of k) z)))) (none x refl)
           ∙ or_none (number all (clause_of k x))
 
-  pub put_law : IsPutIn s keys old new → IsIndexed all new
-  put_law step = record {
+  pub put_law : RowsCome → IsPutIn s keys old new → IsIndexed all new
+  put_law follow step = record {
     offers = λ q f. ap (sum_by f) (step.offers q) ∙ put_offers s keys all rest old joined was q f;
     namers = λ q f. ap (sum_by f) (step.namers q) ∙ put_namers s keys all rest old joined was q f;
     counters = put_number step;
+    rows = follow s keys all rest old.names.map new.names.map joined apart_new was.rows step.rows;
   }
 
   put_counted : tests_put_in s keys old ≡ named_pairs (flat_map clause_atoms (contents rest)) (offers_among (contents come)) + named_pairs (flat_map clause_atoms (contents come)) (offers_among (contents all))
@@ -176,11 +178,12 @@ module _ (s : Seen) (keys : List StanzaKey) (all rest : List Entry) (old new : T
           ap (option_map (λ n. n - hits_of (offers_among (contents going)) (option_and_then (clause_of k) d))) (all_gone (clause_of k x))
           ∙ sym (ap (λ z. number_of rest (option_and_then (clause_of k) z)) (none x refl))
 
-  pub take_law : IsTakenOut s keys old new → IsIndexed rest new
-  take_law step = record {
+  pub take_law : RowsGo → IsTakenOut s keys old new → IsIndexed rest new
+  take_law follow step = record {
     offers = λ q f. ap (sum_by f) (step.offers q) ∙ take_offers s keys all rest old joined was outside inside q f;
     namers = λ q f. ap (sum_by f) (step.namers q) ∙ left_namers q f;
     counters = take_number step;
+    rows = follow s keys all rest old.names.map new.names.map joined apart_gone was.rows step.rows;
   }
 
   take_counted : tests_taken_out s keys old ≡ named_pairs (flat_map clause_atoms (contents going)) (offers_among (contents all)) + named_pairs (flat_map clause_atoms (contents rest)) (offers_among (contents going))

@@ -2,6 +2,7 @@
 use Rattle.std.proofs.Common.{◌≡◌, ◌+◌, ℕ, Bool, true, false, cond, not, nat_eq, ◌&&◌, length, List, [], ◌∷◌, Option, None, Some, Vec, Global, Result, Ok, Err, OnOk, OnErr, refl, ap, sym, subst, ◌∙◌, arith}
 use Rattle.std.specs.Str.{bytes_eq}
 use Rattle.std.specs.Ordering.{nat_cmp, is_eq}
+use Rattle.std.specs.FinMap as fin
 use Rattle.std.specs.Cmp.{eq_by_cmp_equiv}
 use Rattle.std.specs.Cmp.Lexicographic.{slice_cmp, nat_list_cmp_total, nat_list_eq_equiv}
 use Rattle.std.specs.Option.{option_map_or}
@@ -14,7 +15,11 @@ use Rattle.std.proofs.lemmas.List.{nil_from_length}
 use Rattle.ctl_index.specs.declared.named.Named.{Named}
 use Rattle.ctl_store.specs.declared.stanza_key.StanzaKey.{StanzaKey}
 use Rattle.ctl_index.specs.TablesOrder.{put_in_order, is_through}
-use Rattle.ctl_index.specs.TablesByName.{NameMap, named_offers, named_namers, at_bytes, part_under, is_used, AreUsed}
+use Rattle.ctl_policy.specs.Chosen.{at_bytes}
+use Rattle.ctl_policy.specs.Kept.{HasPut, HasSame, OthersStay}
+use Rattle.ctl_policy.specs.Rows.{Rows}
+use Rattle.ctl_index.specs.TablesByName.{NameMap, named_offers, named_namers, named_rows, rows_under, part_under, is_used, AreUsed}
+use Rattle.ctl_index.proofs.RowLemmas.{none_there, put_there, same_there}
 
 apart : (bs cs ks : List ℕ) → bytes_eq bs cs ≡ false → is_eq (slice_cmp nat_cmp bs ks) ≡ true → is_eq (slice_cmp nat_cmp cs ks) ≡ false
 apart bs cs ks n y = is_eq-slice_cmp cs ks ∙ nat_list_eq_equiv.symm cs ks ∙ sym (nat_list_eq_equiv.congr bs ks cs (sym (is_eq-slice_cmp bs ks) ∙ y)) ∙ n
@@ -37,39 +42,27 @@ updates_bytes bs m n w h cs = by (bytes_eq bs cs) refl
 abbrev pub Writes : List ℕ → NameMap → NameMap → Option Named → Type 0
 Writes bs m n w = UpdatesBy (λ x y. slice_cmp nat_cmp x.items y.items) (λ k. slice_cmp nat_cmp bs k.items) m n w
 
-module _ {T : Type 0} (part : Named → List T) (bs : List ℕ) (m n : NameMap) where
+module _ {T : Type 0} (part : Named → T) (none : T) (bs : List ℕ) (m n : NameMap) where
   -- a part under all names after a write of w, where f was made of what was there
-  pub changed : (w : Named) (f : List T → List T) → Writes bs m n (Some w) → part w ≡ f (part_under part m bs)
-      → (cs : List ℕ) → part_under part n cs ≡ cond (bytes_eq bs cs) (f (part_under part m cs)) (part_under part m cs)
-  changed w f h is cs = ap (λ o. option_map_or part o []) (updates_bytes bs m n (Some w) h cs) ∙ by (bytes_eq bs cs) refl
+  pub changed : (w : Named) (f : T → T) → Writes bs m n (Some w) → part w ≡ f (part_under part none m bs)
+      → (cs : List ℕ) → part_under part none n cs ≡ cond (bytes_eq bs cs) (f (part_under part none m cs)) (part_under part none m cs)
+  changed w f h is cs = ap (λ o. option_map_or part o none) (updates_bytes bs m n (Some w) h cs) ∙ by (bytes_eq bs cs) refl
     where
-      by : (b : Bool) → bytes_eq bs cs ≡ b → option_map_or part (cond b (Some w) (at_bytes m cs)) [] ≡ cond b (f (part_under part m cs)) (part_under part m cs)
-      by true e = is ∙ ap (λ l. f (part_under part m l)) ((bytes_eq-Decides bs cs).0 e)
+      by : (b : Bool) → bytes_eq bs cs ≡ b → option_map_or part (cond b (Some w) (at_bytes m cs)) none ≡ cond b (f (part_under part none m cs)) (part_under part none m cs)
+      by true e = is ∙ ap (λ l. f (part_under part none m l)) ((bytes_eq-Decides bs cs).0 e)
       by false e = refl
 
   -- the same part
-  pub unchanged : (w : Named) → Writes bs m n (Some w) → part w ≡ part_under part m bs → (cs : List ℕ) → part_under part n cs ≡ part_under part m cs
+  pub unchanged : (w : Named) → Writes bs m n (Some w) → part w ≡ part_under part none m bs → (cs : List ℕ) → part_under part none n cs ≡ part_under part none m cs
   unchanged w h is cs = changed w (λ l. l) h is cs ∙ by (bytes_eq bs cs)
     where
-      by : (b : Bool) → cond b (part_under part m cs) (part_under part m cs) ≡ part_under part m cs
+      by : (b : Bool) → cond b (part_under part none m cs) (part_under part none m cs) ≡ part_under part none m cs
       by true = refl
       by false = refl
 
 -- a part at a key that was read
-pub part-found : {T : Type 0} (part : Named → List T) (bs : List ℕ) (m : NameMap) (o : Option Named) → o ≡ at_bytes m bs → option_map_or part o [] ≡ part_under part m bs
-part-found part bs m o e = ap (λ o. option_map_or part o []) e
-
--- nothing under a name, and so nothing to change
-pub none_to_change : {T : Type 0} (part : Named → List T) (bs : List ℕ) (m : NameMap) (f : List T → List T) → f [] ≡ [] → None ≡ at_bytes m bs
-    → (cs : List ℕ) → part_under part m cs ≡ cond (bytes_eq bs cs) (f (part_under part m cs)) (part_under part m cs)
-none_to_change part bs m f z e cs = by (bytes_eq bs cs) refl
-  where
-    none : part_under part m bs ≡ []
-    none = ap (λ o. option_map_or part o []) (sym e)
-
-    by : (b : Bool) → bytes_eq bs cs ≡ b → part_under part m cs ≡ cond b (f (part_under part m cs)) (part_under part m cs)
-    by true t = let s : bs ≡ cs = (bytes_eq-Decides bs cs).0 t in subst (λ l. part_under part m l ≡ f (part_under part m l)) s (none ∙ sym z ∙ ap f (sym none))
-    by false t = refl
+pub part-found : {T : Type 0} (part : Named → T) (none : T) (bs : List ℕ) (m : NameMap) (o : Option Named) → o ≡ at_bytes m bs → option_map_or part o none ≡ part_under part none m bs
+part-found part none bs m o e = ap (λ o. option_map_or part o none) e
 
 -- ---- names under which something stands
 
@@ -117,36 +110,54 @@ not_empty : {T : Type 0} (g : T → StanzaKey) (xs : List T) (x : T) → nat_eq 
 not_empty g xs x = let more : length (put_in_order g x xs) ≡ length xs + 1 = longer g x xs in grind (arith, nat_tests)
 
 -- an entry more
-pub used_more : {T : Type 0} (g : T → StanzaKey) (xs : List T) (x : T) (b : Bool) → not (nat_eq (length (put_in_order g x xs)) 0 && b) ≡ true
-used_more g xs x b = ap (λ z. not (z && b)) (not_empty g xs x)
+pub used_more : {T : Type 0} (g : T → StanzaKey) (xs : List T) (x : T) (b d : Bool) → not ((nat_eq (length (put_in_order g x xs)) 0 && b) && d) ≡ true
+used_more g xs x b d = ap (λ z. not ((z && b) && d)) (not_empty g xs x)
 
-pub used_more_too : {T : Type 0} (g : T → StanzaKey) (xs : List T) (x : T) (b : Bool) → not (b && nat_eq (length (put_in_order g x xs)) 0) ≡ true
-used_more_too g xs x b = ap (λ z. not (b && z)) (not_empty g xs x) ∙ by b
+pub used_more_too : {T : Type 0} (g : T → StanzaKey) (xs : List T) (x : T) (b d : Bool) → not ((b && nat_eq (length (put_in_order g x xs)) 0) && d) ≡ true
+used_more_too g xs x b d = ap (λ z. not ((b && z) && d)) (not_empty g xs x) ∙ by b
   where
-    by : (d : Bool) → not (d && false) ≡ true
+    by : (b : Bool) → not ((b && false) && d) ≡ true
     by true = refl
     by false = refl
 
-empty_is : {T : Type 0} (xs : List T) → nat_eq (length xs) 0 ≡ true → xs ≡ []
-empty_is xs h = nil_from_length xs (let z : length xs ≡ 0 = grind (arith, nat_tests) in z)
+-- a row
+pub used_rows : (v : Named) → nat_eq (fin.len (named_rows v)) 0 ≡ false → is_used v ≡ true
+used_rows v h = ap (λ z. not ((nat_eq (length (named_offers v)) 0 && nat_eq (length (named_namers v)) 0) && z)) h ∙ by (nat_eq (length (named_offers v)) 0 && nat_eq (length (named_namers v)) 0)
+  where
+    by : (b : Bool) → not (b && false) ≡ true
+    by true = refl
+    by false = refl
+
+none_is : (n : ℕ) → nat_eq n 0 ≡ true → n ≡ 0
+none_is n h = grind (arith, nat_tests)
+
+pub record NothingLeft (v : Named) : Type 0 where
+  pub offers : named_offers v ≡ []
+  pub namers : named_namers v ≡ []
+  pub rows : named_rows v ≡ fin.empty
 
 -- nothing is left under a name that is not used
-pub nothing_left : (v : Named) → is_used v ≡ false → (named_offers v ≡ []) × (named_namers v ≡ [])
-nothing_left v h = (empty_is (named_offers v) (both (nat_eq (length (named_offers v)) 0) (nat_eq (length (named_namers v)) 0) h).0, empty_is (named_namers v) (both (nat_eq (length (named_offers v)) 0) (nat_eq (length (named_namers v)) 0) h).1)
+pub nothing_left : (v : Named) → is_used v ≡ false → NothingLeft v
+nothing_left v h = by (nat_eq (length (named_offers v)) 0) (nat_eq (length (named_namers v)) 0) (nat_eq (fin.len (named_rows v)) 0) refl refl refl h
   where
-    both : (a b : Bool) → not (a && b) ≡ false → (a ≡ true) × (b ≡ true)
-    both true true h = (refl, refl)
-    both true false h = absurd (let z : ⊥ = cc in z)
-    both false b h = absurd (let z : ⊥ = cc in z)
+    by : (a b d : Bool) → nat_eq (length (named_offers v)) 0 ≡ a → nat_eq (length (named_namers v)) 0 ≡ b → nat_eq (fin.len (named_rows v)) 0 ≡ d → not ((a && b) && d) ≡ false → NothingLeft v
+    by true true true e f g h = record {
+      offers = nil_from_length (named_offers v) (none_is (length (named_offers v)) e);
+      namers = nil_from_length (named_namers v) (none_is (length (named_namers v)) f);
+      rows = fin.empty_of_len (named_rows v) (none_is (fin.len (named_rows v)) g);
+    }
+    by true true false e f g h = absurd (let z : ⊥ = cc in z)
+    by true false d e f g h = absurd (let z : ⊥ = cc in z)
+    by false b d e f g h = absurd (let z : ⊥ = cc in z)
 
 -- a part after a write and a removal, where nothing of it was left
-pub replaced : {T : Type 0} (part : Named → List T) (bs : List ℕ) (m n o : NameMap) (w : Named) (f : List T → List T) → Writes bs m n (Some w) → Writes bs n o None → f (part_under part m bs) ≡ []
-    → (cs : List ℕ) → part_under part o cs ≡ cond (bytes_eq bs cs) (f (part_under part m cs)) (part_under part m cs)
-replaced part bs m n o w f h g none cs =
-    ap (λ z. option_map_or part z []) (updates_bytes bs n o None g cs ∙ ap (cond (bytes_eq bs cs) None) (updates_bytes bs m n (Some w) h cs)) ∙ by (bytes_eq bs cs) refl
+pub replaced : {T : Type 0} (part : Named → T) (none : T) (bs : List ℕ) (m n o : NameMap) (w : Named) (f : T → T) → Writes bs m n (Some w) → Writes bs n o None → f (part_under part none m bs) ≡ none
+    → (cs : List ℕ) → part_under part none o cs ≡ cond (bytes_eq bs cs) (f (part_under part none m cs)) (part_under part none m cs)
+replaced part none bs m n o w f h g gone cs =
+    ap (λ z. option_map_or part z none) (updates_bytes bs n o None g cs ∙ ap (cond (bytes_eq bs cs) None) (updates_bytes bs m n (Some w) h cs)) ∙ by (bytes_eq bs cs) refl
   where
-    by : (b : Bool) → bytes_eq bs cs ≡ b → option_map_or part (cond b None (cond b (Some w) (at_bytes m cs))) [] ≡ cond b (f (part_under part m cs)) (part_under part m cs)
-    by true e = sym (ap (λ l. f (part_under part m l)) (sym ((bytes_eq-Decides bs cs).0 e)) ∙ none)
+    by : (b : Bool) → bytes_eq bs cs ≡ b → option_map_or part (cond b None (cond b (Some w) (at_bytes m cs))) none ≡ cond b (f (part_under part none m cs)) (part_under part none m cs)
+    by true e = sym (ap (λ l. f (part_under part none m l)) (sym ((bytes_eq-Decides bs cs).0 e)) ∙ gone)
     by false e = refl
 
 pub same_either : {X : Type 0} (b : Bool) (x : X) → cond b x x ≡ x
@@ -156,3 +167,50 @@ same_either false x = refl
 pub on_ok : {X E : Type 0} (r : Result X E) {P : Type 0} → P → OnOk r P
 on_ok (Ok x) p = p
 on_ok (Err e) p = tt
+
+-- ---- rows under names
+
+-- a part of a name that isn't there
+pub none_under : {T : Type 0} (part : Named → T) (none : T) (bs : List ℕ) (m : NameMap) → None ≡ at_bytes m bs → part_under part none m bs ≡ none
+none_under part none bs m e = sym (ap (λ o. option_map_or part o none) e)
+
+-- no rows under a name that wasn't there change nothing
+pub none_new : (bs : List ℕ) (m : NameMap) (r : Rows) → None ≡ at_bytes m bs → ((v : List ℕ) → fin.get r v ≡ None) → (q : List ℕ) → cond (bytes_eq bs q) r (rows_under m q) ≡ rows_under m q
+none_new bs m r e none q = by (bytes_eq bs q) refl
+  where
+    by : (b : Bool) → bytes_eq bs q ≡ b → cond b r (rows_under m q) ≡ rows_under m q
+    by true t = none_there r none ∙ sym (none_under named_rows fin.empty bs m e) ∙ ap (rows_under m) ((bytes_eq-Decides bs q).0 t)
+    by false t = refl
+
+-- what stands under its own name
+pub own_rows : (bs : List ℕ) (r o : Rows) → cond (bytes_eq bs bs) r o ≡ r
+own_rows bs r o = ap (λ b. cond b r o) ((bytes_eq-Decides bs bs).1 refl)
+
+-- other names keep their rows after a write
+pub rows_others : (bs : List ℕ) (m n : NameMap) (w : Named) → Writes bs m n (Some w) → OthersStay bs (rows_under m) (rows_under n)
+rows_others bs m n w writes q h v =
+    ap (λ (r : Rows). fin.get r v) (changed named_rows fin.empty bs m n w (λ _. named_rows w) writes refl q ∙ ap (λ b. cond b (named_rows w) (rows_under m q)) h)
+
+-- the rows that were written
+pub rows_own : (bs : List ℕ) (m n : NameMap) (w : Named) → Writes bs m n (Some w) → rows_under n bs ≡ named_rows w
+rows_own bs m n w writes = changed named_rows fin.empty bs m n w (λ _. named_rows w) writes refl bs ∙ own_rows bs (named_rows w) (rows_under m bs)
+
+-- the same after a write and a removal of a name without rows
+all_replaced : (bs : List ℕ) (m n o : NameMap) (w : Named) → Writes bs m n (Some w) → Writes bs n o None → named_rows w ≡ fin.empty → (q : List ℕ) → rows_under o q ≡ cond (bytes_eq bs q) (named_rows w) (rows_under m q)
+all_replaced bs m n o w writes removes none q = replaced named_rows fin.empty bs m n o w (λ _. named_rows w) writes removes none q
+
+pub others_replaced : (bs : List ℕ) (m n o : NameMap) (w : Named) → Writes bs m n (Some w) → Writes bs n o None → named_rows w ≡ fin.empty → OthersStay bs (rows_under m) (rows_under o)
+others_replaced bs m n o w writes removes none q h v = ap (λ (r : Rows). fin.get r v) (all_replaced bs m n o w writes removes none q ∙ ap (λ b. cond b (named_rows w) (rows_under m q)) h)
+
+pub rows_replaced : (bs : List ℕ) (m n o : NameMap) (w : Named) → Writes bs m n (Some w) → Writes bs n o None → named_rows w ≡ fin.empty → rows_under o bs ≡ named_rows w
+rows_replaced bs m n o w writes removes none = all_replaced bs m n o w writes removes none bs ∙ own_rows bs (named_rows w) (rows_under m bs)
+
+-- a name has rows, or what it had, once a key was put that may have been refused
+pub put_used : {O E : Type 0} (r : Result O E) (version : List ℕ) (key : StanzaKey) (v : Named) (new : Rows) → OnOk r (HasPut version key (named_rows v) new) → OnErr r (HasSame (named_rows v) new) → is_used v ≡ true
+    → is_used (record { offers = v.offers; namers = v.namers; rows = new }) ≡ true
+put_used (Ok x) version key v new put same used = used_rows (record { offers = v.offers; namers = v.namers; rows = new }) (put_there version key (named_rows v) new put)
+put_used (Err e) version key v new put same used = ap (λ b. not ((nat_eq (length (named_offers v)) 0 && nat_eq (length (named_namers v)) 0) && b)) (same_there (named_rows v) new same) ∙ used
+
+pub on_ok_map : {X E : Type 0} (r : Result X E) {P Q : Type 0} → (P → Q) → OnOk r P → OnOk r Q
+on_ok_map (Ok x) f p = f p
+on_ok_map (Err e) f p = tt

@@ -12,6 +12,7 @@ use Rattle.std.specs.Str.{bytes_eq}
 use Rattle.std.proofs.lemmas.Bool.Decides.{nat_tests}
 use Rattle.std.proofs.lemmas.List.Sums.{sum_by-append, sum_by-cons}
 use Rattle.std.proofs.lemmas.Map.Text.{is_eq-slice_cmp}
+use Rattle.std.specs.FinMap as fin
 use Rattle.ctl_relation.specs.declared.field_kind.FieldKind.{FieldKind}
 use Rattle.ctl_relation.specs.Parts.{AtomParts, OfferParts}
 use Rattle.ctl_stanza.specs.Content.{Content, groups_of, offers_of}
@@ -21,9 +22,10 @@ use Rattle.ctl_index.specs.declared.named.Named.{Named}
 use Rattle.ctl_index.specs.declared.tables.Tables.{Tables}
 use Rattle.ctl_index.specs.Names.{naming_fields, naming_atoms, names_of, known_names, keyed_group, keyed_groups, keyed_atoms}
 use Rattle.ctl_index.specs.Offers.{contents}
-use Rattle.ctl_index.specs.TablesByName.{NameMap, at_bytes, offers_under, namers_under, named_offers, named_namers, is_used, AreUsed}
+use Rattle.ctl_policy.specs.Chosen.{at_bytes}
+use Rattle.ctl_index.specs.TablesByName.{NameMap, offers_under, namers_under, rows_under, named_offers, named_namers, named_rows, is_used, AreUsed}
 use Rattle.ctl_index.specs.TablesIndexed.{IsIndexed, keyed_offers_from, keyed_offers, offer_named, atom_named}
-use Rattle.ctl_index.proofs.OrderLemmas.{is_among, is_in_order}
+use Rattle.ctl_index.proofs.OrderLemmas.{is_among, is_in_order, among_in_order}
 use Rattle.ctl_index.proofs.SumLemmas.{sum-cong, sum-plus, sum-flat_map, sum-map}
 
 -- ---- a test that passes somewhere
@@ -91,23 +93,43 @@ module _ (q : List ℕ) where
 
 -- ---- the names of the table
 
-used-sum : (a b : ℕ) → not (nat_eq a 0 && nat_eq b 0) ≡ not (nat_eq (a + b) 0)
-used-sum a b = grind (arith, nat_tests)
+-- what has rows has offers
+abbrev pub HasOffers : NameMap → List ℕ → Type 0
+HasOffers m q = nat_eq (fin.len (rows_under m q)) 0 ≡ false → nat_eq (length (offers_under m q)) 0 ≡ false
+
+used-sum : (a b r : ℕ) → (nat_eq r 0 ≡ false → nat_eq a 0 ≡ false) → not ((nat_eq a 0 && nat_eq b 0) && nat_eq r 0) ≡ not (nat_eq (a + b) 0)
+used-sum a b r h = by (nat_eq a 0) (nat_eq b 0) (nat_eq r 0) refl refl h
+  where
+    none : nat_eq a 0 ≡ true → nat_eq b 0 ≡ true → nat_eq (a + b) 0 ≡ true
+    none e f = grind (arith, nat_tests)
+
+    first : nat_eq a 0 ≡ false → nat_eq (a + b) 0 ≡ false
+    first e = grind (arith, nat_tests)
+
+    second : nat_eq b 0 ≡ false → nat_eq (a + b) 0 ≡ false
+    second e = grind (arith, nat_tests)
+
+    by : (x y z : Bool) → nat_eq a 0 ≡ x → nat_eq b 0 ≡ y → (z ≡ false → x ≡ false) → not ((x && y) && z) ≡ not (nat_eq (a + b) 0)
+    by true true true e f h = sym (ap not (none e f))
+    by true true false e f h = absurd (let z : true ≡ false = h refl in let y : ⊥ = cc in y)
+    by true false z e f h = sym (ap not (second f))
+    by false y z e f h = sym (ap not (first e))
 
 -- a name is there where something stands under it
-there-used : (m : NameMap) (q : List ℕ) → AreUsed m → is_some (at_bytes m q) ≡ not (nat_eq (length (offers_under m q) + length (namers_under m q)) 0)
-there-used m q used = by (at_bytes m q) (used q)
+there-used : (m : NameMap) (q : List ℕ) → AreUsed m → HasOffers m q → is_some (at_bytes m q) ≡ not (nat_eq (length (offers_under m q) + length (namers_under m q)) 0)
+there-used m q used offered = by (at_bytes m q) (used q) offered
   where
-    by : (o : Option Named) → option_map_or is_used o true ≡ true → is_some o ≡ not (nat_eq (length (option_map_or named_offers o []) + length (option_map_or named_namers o [])) 0)
-    by None u = refl
-    by (Some v) u = sym u ∙ used-sum (length (named_offers v)) (length (named_namers v))
+    by : (o : Option Named) → option_map_or is_used o true ≡ true → (nat_eq (fin.len (option_map_or named_rows o fin.empty)) 0 ≡ false → nat_eq (length (option_map_or named_offers o [])) 0 ≡ false)
+        → is_some o ≡ not (nat_eq (length (option_map_or named_offers o []) + length (option_map_or named_namers o [])) 0)
+    by None u offered = refl
+    by (Some v) u offered = sym u ∙ used-sum (length (named_offers v)) (length (named_namers v)) (fin.len (named_rows v)) offered
 
-looked-up : (q : List ℕ) (es : List (Vec ℕ Global × Named)) → is_some (lookup (λ k. is_eq (slice_cmp nat_cmp q k.items)) es) ≡ is_among (map (λ (k : Vec ℕ Global). k.items) (map (λ (e : Vec ℕ Global × Named). e.0) es)) q
+pub looked-up : {V : Type 0} (q : List ℕ) (es : List (Vec ℕ Global × V)) → is_some (lookup (λ k. is_eq (slice_cmp nat_cmp q k.items)) es) ≡ is_among (map (λ (k : Vec ℕ Global). k.items) (map (λ (e : Vec ℕ Global × V). e.0) es)) q
 looked-up q [] = refl
-looked-up q (e ∷ es) = by (is_eq (slice_cmp nat_cmp q e.0.items)) (looked-up q es) ∙ ap (λ b. b || is_among (map (λ (k : Vec ℕ Global). k.items) (map (λ (d : Vec ℕ Global × Named). d.0) es)) q) (is_eq-slice_cmp q e.0.items)
+looked-up {V} q (e ∷ es) = by (is_eq (slice_cmp nat_cmp q e.0.items)) (looked-up q es) ∙ ap (λ b. b || is_among (map (λ (k : Vec ℕ Global). k.items) (map (λ (d : Vec ℕ Global × V). d.0) es)) q) (is_eq-slice_cmp q e.0.items)
   where
-    by : (b : Bool) → is_some (lookup (λ k. is_eq (slice_cmp nat_cmp q k.items)) es) ≡ is_among (map (λ (k : Vec ℕ Global). k.items) (map (λ (d : Vec ℕ Global × Named). d.0) es)) q
-        → is_some (cond b (Some e.1) (lookup (λ k. is_eq (slice_cmp nat_cmp q k.items)) es)) ≡ (b || is_among (map (λ (k : Vec ℕ Global). k.items) (map (λ (d : Vec ℕ Global × Named). d.0) es)) q)
+    by : (b : Bool) → is_some (lookup (λ k. is_eq (slice_cmp nat_cmp q k.items)) es) ≡ is_among (map (λ (k : Vec ℕ Global). k.items) (map (λ (d : Vec ℕ Global × V). d.0) es)) q
+        → is_some (cond b (Some e.1) (lookup (λ k. is_eq (slice_cmp nat_cmp q k.items)) es)) ≡ (b || is_among (map (λ (k : Vec ℕ Global). k.items) (map (λ (d : Vec ℕ Global × V). d.0) es)) q)
     by true rest = refl
     by false rest = rest
 
@@ -115,14 +137,20 @@ below-items : (k : Vec ℕ Global) (ks : List (Vec ℕ Global)) → AllByRecursi
 below-items k [] h = tt
 below-items k (j ∷ ks) h = (h.0, below-items k ks h.1)
 
-sorted-items : (ks : List (Vec ℕ Global)) → IsStrictlySortedBy (λ (x y : Vec ℕ Global). slice_cmp nat_cmp x.items y.items) ks → IsStrictlySortedBy (slice_cmp nat_cmp) (map (λ (k : Vec ℕ Global). k.items) ks)
+pub sorted-items : (ks : List (Vec ℕ Global)) → IsStrictlySortedBy (λ (x y : Vec ℕ Global). slice_cmp nat_cmp x.items y.items) ks → IsStrictlySortedBy (slice_cmp nat_cmp) (map (λ (k : Vec ℕ Global). k.items) ks)
 unfolding IsStrictlySortedBy
 sorted-items [] h = tt
 sorted-items (k ∷ ks) h = (below-items k ks h.0, sorted-items ks h.1)
 
-pub known_is : (es : List Entry) (t : Tables) → IsIndexed es t → AreUsed t.names.map → IsOrdered (λ (x y : Vec ℕ Global). slice_cmp nat_cmp x.items y.items) t.names.map
+pub known_is : (es : List Entry) (t : Tables) → IsIndexed es t → AreUsed t.names.map → ((q : List ℕ) → HasOffers t.names.map q) → IsOrdered (λ (x y : Vec ℕ Global). slice_cmp nat_cmp x.items y.items) t.names.map
     → map (λ (k : Vec ℕ Global). k.items) (keys t.names.map) ≡ known_names (contents es)
 unfolding known_names
-known_is es t was used ordered =
+known_is es t was used offered ordered =
     is_in_order (map (λ (k : Vec ℕ Global). k.items) (keys t.names.map)) (flat_map names_of (contents es)) (sorted-items (keys t.names.map) ordered)
-    (λ q. sym (looked-up q t.names.map.entries) ∙ there-used t.names.map q used ∙ ap (λ n. not (nat_eq n 0)) (sym (listed-sum q es t was)) ∙ sym (any-counted (bytes_eq q) (flat_map names_of (contents es))))
+    (λ q. sym (looked-up q t.names.map.entries) ∙ there-used t.names.map q used (offered q) ∙ ap (λ n. not (nat_eq n 0)) (sym (listed-sum q es t was)) ∙ sym (any-counted (bytes_eq q) (flat_map names_of (contents es))))
+
+-- a name stands in the table where it is known
+pub known_there : (q : List ℕ) (es : List Entry) (t : Tables) → IsIndexed es t → AreUsed t.names.map → HasOffers t.names.map q → is_some (at_bytes t.names.map q) ≡ list_any (bytes_eq q) (known_names (contents es))
+unfolding known_names
+known_there q es t was used offered =
+    there-used t.names.map q used offered ∙ ap (λ n. not (nat_eq n 0)) (sym (listed-sum q es t was)) ∙ sym (any-counted (bytes_eq q) (flat_map names_of (contents es))) ∙ sym (among_in_order q (flat_map names_of (contents es)))

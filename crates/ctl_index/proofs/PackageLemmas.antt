@@ -25,7 +25,8 @@ use Rattle.ctl_index.specs.declared.tables.Tables.{Tables}
 use Rattle.ctl_index.specs.Names.{is_package}
 use Rattle.ctl_index.specs.Offers.{contents}
 use Rattle.ctl_index.specs.declared.named.Named.{Named}
-use Rattle.ctl_index.specs.TablesByName.{NameMap, at_bytes, offers_under, named_offers}
+use Rattle.ctl_policy.specs.Chosen.{at_bytes}
+use Rattle.ctl_index.specs.TablesByName.{NameMap, offers_under, named_offers}
 use Rattle.ctl_index.specs.TablesIndexed.{IsIndexed, keyed_offers, keyed_offers_from, offer_named}
 use Rattle.ctl_index.specs.TablesViews.{NamedEntry, is_own, has_own, entry_names, packages_with, AreFrom}
 use Rattle.ctl_index.proofs.NamesLemmas.{any-counted}
@@ -292,7 +293,7 @@ module _ (q : List ℕ) where
           ∙ (λ i. cond (nat_list_eq_equiv.symm (package_of e.1) q i) 1 0 + none_behind e.0 0 (offers_in (provides_of e.1)) i) ∙ and_none (cond (bytes_eq q (package_of e.1)) 1 0)
       by false = refl
 
-  own_under : (es : List Entry) (t : Tables) → IsIndexed es t → list_any is_own (offers_under t.names.map q) ≡ is_package (contents es) q
+  pub own_under : (es : List Entry) (t : Tables) → IsIndexed es t → list_any is_own (offers_under t.names.map q) ≡ is_package (contents es) q
   own_under es t was =
       any-counted is_own (offers_under t.names.map q)
       ∙ ap (λ n. not (nat_eq n 0)) (was.offers q own_number ∙ sum-cong _ _ own_sum es ∙ sym (sum-map (λ x. cond (describes x) 1 0) (λ (e : Entry). e.1) es))

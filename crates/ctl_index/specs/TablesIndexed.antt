@@ -14,6 +14,7 @@ use Rattle.ctl_index.specs.declared.tables.Tables.{Tables}
 use Rattle.ctl_index.specs.Clauses.{clause_cmp, number_at}
 use Rattle.ctl_index.specs.Names.{keyed_atoms}
 use Rattle.ctl_index.specs.TablesByName.{offers_under, namers_under}
+use Rattle.ctl_index.specs.TablesRows.{AreKept, AreRowsPut, AreRowsTaken}
 use Rattle.ctl_index.specs.TablesSight.{Seen, seen}
 use Rattle.ctl_index.specs.TablesSteps.{with_each, span_of, put_offers_step, put_atoms_step, take_offers_step, take_atoms_step, raise_step, lower_step, enter_step, drop_step, offers_tested, atoms_tested}
 
@@ -33,11 +34,12 @@ abbrev pub atom_named : List ℕ → (AtomKey → ℕ) → AtomKey × AtomParts 
 atom_named q f x = if bytes_eq x.1.name q then f x.0 else 0
 
 -- Under each name stand the keys of its offers and of its atoms, each as often as it is there, in any order: any sum over
--- them is that over the stanzas. Each clause has its number, and no other key has one.
+-- them is that over the stanzas. Each clause has its number, and no other key has one. The rows are those of the stanzas.
 pub record IsIndexed (es : List Entry) (t : Tables) : Type 0 where
   pub offers : (q : List ℕ) (f : OfferKey → ℕ) → sum_by f (offers_under t.names.map q) ≡ sum_by (λ (e : Entry). sum_by (offer_named q f) (keyed_offers e)) es
   pub namers : (q : List ℕ) (f : AtomKey → ℕ) → sum_by f (namers_under t.names.map q) ≡ sum_by (λ (e : Entry). sum_by (atom_named q f) (keyed_atoms e)) es
   pub counters : (k : ClauseKey) → get clause_cmp t.counters.numbers k ≡ number_at k es
+  pub rows : AreKept es t.names.map
 
 -- ---- stanzas that come
 
@@ -56,6 +58,7 @@ pub record IsPutIn (s : Seen) (keys : List StanzaKey) (old new : Tables) : Type 
   pub offers : (q : List ℕ) → offers_under new.names.map q ≡ offers_put s keys old q
   pub namers : (q : List ℕ) → namers_under new.names.map q ≡ namers_put s keys old q
   pub counters : (k : ClauseKey) → get clause_cmp new.counters.numbers k ≡ number_put s keys old k
+  pub rows : AreRowsPut s keys old.names.map new.names.map
 
 -- how many tests are made
 abbrev pub tests_put_in : Seen → List StanzaKey → Tables → ℕ
@@ -78,6 +81,7 @@ pub record IsTakenOut (s : Seen) (keys : List StanzaKey) (old new : Tables) : Ty
   pub offers : (q : List ℕ) → offers_under new.names.map q ≡ offers_taken s keys old q
   pub namers : (q : List ℕ) → namers_under new.names.map q ≡ namers_taken s keys old q
   pub counters : (k : ClauseKey) → get clause_cmp new.counters.numbers k ≡ number_taken s keys old k
+  pub rows : AreRowsTaken s keys old.names.map new.names.map
 
 abbrev pub tests_taken_out : Seen → List StanzaKey → Tables → ℕ
 tests_taken_out s keys old = atoms_tested s (offers_under old.names.map) keys + offers_tested s (namers_taken s keys old) keys

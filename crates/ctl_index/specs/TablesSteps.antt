@@ -9,6 +9,8 @@ use Rattle.ctl_relation.specs.Parts.{AtomParts, OfferParts}
 use Rattle.ctl_stanza.specs.Content.{Content, groups_of, offers_of}
 use Rattle.ctl_store.specs.declared.stanza_key.StanzaKey.{StanzaKey}
 use Rattle.ctl_store.specs.Keys.{key_of}
+use Rattle.ctl_policy.specs.Keys.{with_key, without_key, or_none, some_keys}
+use Rattle.ctl_policy.specs.Rows.{is_in_row}
 use Rattle.ctl_index.specs.declared.keys.ClauseKey.{ClauseKey}
 use Rattle.ctl_index.specs.declared.keys.AtomKey.{AtomKey}
 use Rattle.ctl_index.specs.declared.keys.OfferKey.{OfferKey}
@@ -128,6 +130,13 @@ take_offers_step span q key x xs = left_offers span q (offers_of x) xs
 
 abbrev pub take_atoms_step : Span → List ℕ → StanzaKey → Content → List AtomKey → List AtomKey
 take_atoms_step span q key x xs = left_fields span x q naming_fields xs
+
+-- The row of a version of a name, where the key of a stanza comes or goes: a live one of the name and the version changes it.
+abbrev pub put_rows_step : List ℕ → List ℕ → StanzaKey → Content → Option (List StanzaKey) → Option (List StanzaKey)
+put_rows_step q version key x row = if is_in_row q version x then Some (with_key key (or_none row)) else row
+
+abbrev pub take_rows_step : List ℕ → List ℕ → StanzaKey → Content → Option (List StanzaKey) → Option (List StanzaKey)
+take_rows_step q version key x row = if is_in_row q version x then some_keys (without_key key (or_none row)) else row
 
 abbrev pub raise_step : Seen → (List ℕ → List AtomKey) → ClauseKey → StanzaKey → Content → Option ℕ → Option ℕ
 raise_step s atoms k key x old = raised s atoms (offers_of x) k old

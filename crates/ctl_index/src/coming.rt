@@ -5,7 +5,7 @@ ghost use Rattle.std.specs.BTreeMap.{get};
 ghost use Rattle.ctl_relation.specs.Bounds.{atom_count};
 ghost use Rattle.ctl_index.specs.Clauses.{clause_cmp};
 ghost use Rattle.ctl_index.specs.Names.{naming_fields};
-ghost use Rattle.ctl_index.specs.TablesByName.{offers_under, namers_under};
+ghost use Rattle.ctl_index.specs.TablesByName.{offers_under, namers_under, rows_under};
 ghost use Rattle.ctl_index.specs.TablesSight.{seen};
 ghost use Rattle.ctl_index.specs.TablesSteps.{listed_offers, listed_group, listed_groups, listed_fields, group_met, group_tested, groups_tested, fields_tested, is_clause, entered_groups, entered_fields, raised, all_tested, with_found, with_each, of_found, put_offers_step, put_atoms_step, raise_step, enter_step, offers_tests, offers_tested, atoms_tested};
 ghost use Rattle.ctl_index.specs.Work.{more_by};
@@ -35,6 +35,7 @@ fn put_offers_of(
     requires { length offers.now < 2 ^ 32 }
     ensures offers { OnOk result ((q : List ℕ) → offers_under tables.new.names.map q ≡ listed_offers key q 0 offers.now (offers_under tables.old.names.map q)) }
     ensures namers { OnOk result (namers_under tables.new.names.map ≡ namers_under tables.old.names.map) }
+    ensures rows { OnOk result (rows_under tables.new.names.map ≡ rows_under tables.old.names.map) }
     ensures counts { OnOk result ((k : ClauseKey) → get clause_cmp tables.new.counters.numbers k ≡ raised sight.now (namers_under tables.old.names.map) offers.now k (get clause_cmp tables.old.counters.numbers k)) }
     ensures steps { OnOk result (steps.new ≡ more_by (all_tested sight.now (namers_under tables.old.names.map) offers.now) steps.old) }
     ensures most { steps.new ≤ more_by (all_tested sight.now (namers_under tables.old.names.map) offers.now) steps.old }
@@ -63,6 +64,7 @@ fn put_offers_at(
 ) -> Result<(), AllocError>
     ensures offers { OnOk result ((q : List ℕ) → offers_under tables.new.names.map q ≡ with_found (seen sight.now) (put_offers_step q) key (offers_under tables.old.names.map q)) }
     ensures namers { OnOk result (namers_under tables.new.names.map ≡ namers_under tables.old.names.map) }
+    ensures rows { OnOk result (rows_under tables.new.names.map ≡ rows_under tables.old.names.map) }
     ensures counts { OnOk result ((k : ClauseKey) → get clause_cmp tables.new.counters.numbers k ≡ with_found (seen sight.now) (raise_step sight.now (namers_under tables.old.names.map) k) key (get clause_cmp tables.old.counters.numbers k)) }
     ensures steps { OnOk result (steps.new ≡ more_by (of_found (seen sight.now) (offers_tests sight.now (namers_under tables.old.names.map)) key) steps.old) }
     ensures most { steps.new ≤ more_by (of_found (seen sight.now) (offers_tests sight.now (namers_under tables.old.names.map)) key) steps.old }
@@ -84,6 +86,7 @@ pub(crate) fn put_offers(
 ) -> Result<(), AllocError>
     ensures offers { OnOk result ((q : List ℕ) → offers_under tables.new.names.map q ≡ with_each (seen sight.now) (put_offers_step q) keys.now (offers_under tables.old.names.map q)) }
     ensures namers { OnOk result (namers_under tables.new.names.map ≡ namers_under tables.old.names.map) }
+    ensures rows { OnOk result (rows_under tables.new.names.map ≡ rows_under tables.old.names.map) }
     ensures counts { OnOk result ((k : ClauseKey) → get clause_cmp tables.new.counters.numbers k ≡ with_each (seen sight.now) (raise_step sight.now (namers_under tables.old.names.map) k) keys.now (get clause_cmp tables.old.counters.numbers k)) }
     ensures steps { OnOk result (steps.new ≡ more_by (offers_tested sight.now (namers_under tables.old.names.map) keys.now) steps.old) }
     ensures most { steps.new ≤ more_by (offers_tested sight.now (namers_under tables.old.names.map) keys.now) steps.old }
@@ -107,6 +110,7 @@ fn put_group(
     requires { length group.now < 2 ^ 32 }
     ensures namers { OnOk result ((q : List ℕ) → namers_under names.new.map q ≡ listed_group clause.stanza clause.field clause.group q 0 group.now (namers_under names.old.map q)) }
     ensures offers { OnOk result (offers_under names.new.map ≡ offers_under names.old.map) }
+    ensures rows { OnOk result (rows_under names.new.map ≡ rows_under names.old.map) }
     ensures met { IfOk result (λ met. met ≡ group_met sight.now clause.field (offers_under names.old.map) group.now) }
     ensures steps { OnOk result (steps.new ≡ more_by (group_tested sight.now clause.field (offers_under names.old.map) group.now) steps.old) }
     ensures most { steps.new ≤ more_by (group_tested sight.now clause.field (offers_under names.old.map) group.now) steps.old }
@@ -151,6 +155,7 @@ fn put_groups(
     requires few { atom_count groups < 2 ^ 32 }
     ensures namers { OnOk result ((q : List ℕ) → namers_under tables.new.names.map q ≡ listed_groups key field q 0 groups.entry (namers_under tables.old.names.map q)) }
     ensures offers { OnOk result (offers_under tables.new.names.map ≡ offers_under tables.old.names.map) }
+    ensures rows { OnOk result (rows_under tables.new.names.map ≡ rows_under tables.old.names.map) }
     ensures counts { OnOk result ((k : ClauseKey) → get clause_cmp tables.new.counters.numbers k ≡ entered_groups sight.now (offers_under tables.old.names.map) key field 0 groups.entry k (get clause_cmp tables.old.counters.numbers k)) }
     ensures steps { OnOk result (steps.new ≡ more_by (groups_tested sight.now field (offers_under tables.old.names.map) groups.entry) steps.old) }
     ensures most { steps.new ≤ more_by (groups_tested sight.now field (offers_under tables.old.names.map) groups.entry) steps.old }
@@ -182,6 +187,7 @@ fn put_field(
 ) -> Result<(), AllocError>
     ensures namers { OnOk result ((q : List ℕ) → namers_under tables.new.names.map q ≡ listed_groups key field q 0 (groups_of field stanza.now) (namers_under tables.old.names.map q)) }
     ensures offers { OnOk result (offers_under tables.new.names.map ≡ offers_under tables.old.names.map) }
+    ensures rows { OnOk result (rows_under tables.new.names.map ≡ rows_under tables.old.names.map) }
     ensures counts { OnOk result ((k : ClauseKey) → get clause_cmp tables.new.counters.numbers k ≡ entered_groups sight.now (offers_under tables.old.names.map) key field 0 (groups_of field stanza.now) k (get clause_cmp tables.old.counters.numbers k)) }
     ensures steps { OnOk result (steps.new ≡ more_by (groups_tested sight.now field (offers_under tables.old.names.map) (groups_of field stanza.now)) steps.old) }
     ensures most { steps.new ≤ more_by (groups_tested sight.now field (offers_under tables.old.names.map) (groups_of field stanza.now)) steps.old }
@@ -202,6 +208,7 @@ fn put_fields(
 ) -> Result<(), AllocError>
     ensures namers { OnOk result ((q : List ℕ) → namers_under tables.new.names.map q ≡ listed_fields key stanza.now q fields.now (namers_under tables.old.names.map q)) }
     ensures offers { OnOk result (offers_under tables.new.names.map ≡ offers_under tables.old.names.map) }
+    ensures rows { OnOk result (rows_under tables.new.names.map ≡ rows_under tables.old.names.map) }
     ensures counts { OnOk result ((k : ClauseKey) → get clause_cmp tables.new.counters.numbers k ≡ entered_fields sight.now (offers_under tables.old.names.map) key stanza.now fields.now k (get clause_cmp tables.old.counters.numbers k)) }
     ensures steps { OnOk result (steps.new ≡ more_by (fields_tested sight.now (offers_under tables.old.names.map) fields.now stanza.now) steps.old) }
     ensures most { steps.new ≤ more_by (fields_tested sight.now (offers_under tables.old.names.map) fields.now stanza.now) steps.old }
@@ -223,6 +230,7 @@ fn put_atoms_at(
 ) -> Result<(), AllocError>
     ensures namers { OnOk result ((q : List ℕ) → namers_under tables.new.names.map q ≡ with_found (seen sight.now) (put_atoms_step q) key (namers_under tables.old.names.map q)) }
     ensures offers { OnOk result (offers_under tables.new.names.map ≡ offers_under tables.old.names.map) }
+    ensures rows { OnOk result (rows_under tables.new.names.map ≡ rows_under tables.old.names.map) }
     ensures counts { OnOk result ((k : ClauseKey) → get clause_cmp tables.new.counters.numbers k ≡ with_found (seen sight.now) (enter_step sight.now (offers_under tables.old.names.map) k) key (get clause_cmp tables.old.counters.numbers k)) }
     ensures steps { OnOk result (steps.new ≡ more_by (of_found (seen sight.now) (fields_tested sight.now (offers_under tables.old.names.map) naming_fields) key) steps.old) }
     ensures most { steps.new ≤ more_by (of_found (seen sight.now) (fields_tested sight.now (offers_under tables.old.names.map) naming_fields) key) steps.old }
@@ -245,6 +253,7 @@ pub(crate) fn put_atoms(
 ) -> Result<(), AllocError>
     ensures namers { OnOk result ((q : List ℕ) → namers_under tables.new.names.map q ≡ with_each (seen sight.now) (put_atoms_step q) keys.now (namers_under tables.old.names.map q)) }
     ensures offers { OnOk result (offers_under tables.new.names.map ≡ offers_under tables.old.names.map) }
+    ensures rows { OnOk result (rows_under tables.new.names.map ≡ rows_under tables.old.names.map) }
     ensures counts { OnOk result ((k : ClauseKey) → get clause_cmp tables.new.counters.numbers k ≡ with_each (seen sight.now) (enter_step sight.now (offers_under tables.old.names.map) k) keys.now (get clause_cmp tables.old.counters.numbers k)) }
     ensures steps { OnOk result (steps.new ≡ more_by (atoms_tested sight.now (offers_under tables.old.names.map) keys.now) steps.old) }
     ensures most { steps.new ≤ more_by (atoms_tested sight.now (offers_under tables.old.names.map) keys.now) steps.old }

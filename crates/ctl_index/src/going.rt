@@ -4,7 +4,7 @@ ghost use Rattle.std.specs.Prelude.{◌≡◌, ◌-◌, ◌≤◌, ◌<◌, ◌^
 ghost use Rattle.std.specs.BTreeMap.{get};
 ghost use Rattle.ctl_index.specs.Clauses.{clause_cmp};
 ghost use Rattle.ctl_index.specs.Names.{naming_fields};
-ghost use Rattle.ctl_index.specs.TablesByName.{offers_under, namers_under};
+ghost use Rattle.ctl_index.specs.TablesByName.{offers_under, namers_under, rows_under};
 ghost use Rattle.ctl_index.specs.TablesSight.{seen};
 ghost use Rattle.ctl_index.specs.TablesSteps.{left_offers, left_group, left_groups, left_fields, group_tested, groups_tested, fields_tested, is_clause, dropped_groups, dropped_fields, lowered, all_tested, with_found, with_each, of_found, take_offers_step, take_atoms_step, lower_step, drop_step, offers_tests, offers_tested, atoms_tested};
 ghost use Rattle.ctl_index.specs.Work.{more_by};
@@ -34,6 +34,7 @@ fn take_group(
 )
     ensures namers { (q : List ℕ) → namers_under names.new.map q ≡ left_group span q group.now (namers_under names.old.map q) }
     ensures offers { offers_under names.new.map ≡ offers_under names.old.map }
+    ensures rows { rows_under names.new.map ≡ rows_under names.old.map }
     ensures steps { steps.new ≡ more_by (group_tested sight.now field (offers_under names.old.map) group.now) steps.old }
 {
     let _count = steps.count();
@@ -63,6 +64,7 @@ fn take_groups(
     requires { length groups < 2 ^ 32 }
     ensures namers { (q : List ℕ) → namers_under tables.new.names.map q ≡ left_groups span q groups.entry (namers_under tables.old.names.map q) }
     ensures offers { offers_under tables.new.names.map ≡ offers_under tables.old.names.map }
+    ensures rows { rows_under tables.new.names.map ≡ rows_under tables.old.names.map }
     ensures counts { (k : ClauseKey) → get clause_cmp tables.new.counters.numbers k ≡ dropped_groups key field 0 groups.entry k (get clause_cmp tables.old.counters.numbers k) }
     ensures steps { steps.new ≡ more_by (groups_tested sight.now field (offers_under tables.old.names.map) groups.entry) steps.old }
 {
@@ -92,6 +94,7 @@ fn take_field(
 )
     ensures namers { (q : List ℕ) → namers_under tables.new.names.map q ≡ left_groups span q (groups_of field stanza.now) (namers_under tables.old.names.map q) }
     ensures offers { offers_under tables.new.names.map ≡ offers_under tables.old.names.map }
+    ensures rows { rows_under tables.new.names.map ≡ rows_under tables.old.names.map }
     ensures counts { (k : ClauseKey) → get clause_cmp tables.new.counters.numbers k ≡ dropped_groups key field 0 (groups_of field stanza.now) k (get clause_cmp tables.old.counters.numbers k) }
     ensures steps { steps.new ≡ more_by (groups_tested sight.now field (offers_under tables.old.names.map) (groups_of field stanza.now)) steps.old }
 {
@@ -111,6 +114,7 @@ fn take_fields(
 )
     ensures namers { (q : List ℕ) → namers_under tables.new.names.map q ≡ left_fields span stanza.now q fields.now (namers_under tables.old.names.map q) }
     ensures offers { offers_under tables.new.names.map ≡ offers_under tables.old.names.map }
+    ensures rows { rows_under tables.new.names.map ≡ rows_under tables.old.names.map }
     ensures counts { (k : ClauseKey) → get clause_cmp tables.new.counters.numbers k ≡ dropped_fields key stanza.now fields.now k (get clause_cmp tables.old.counters.numbers k) }
     ensures steps { steps.new ≡ more_by (fields_tested sight.now (offers_under tables.old.names.map) fields.now stanza.now) steps.old }
 {
@@ -130,6 +134,7 @@ fn take_atoms_at(
 )
     ensures namers { (q : List ℕ) → namers_under tables.new.names.map q ≡ with_found (seen sight.now) (take_atoms_step span q) key (namers_under tables.old.names.map q) }
     ensures offers { offers_under tables.new.names.map ≡ offers_under tables.old.names.map }
+    ensures rows { rows_under tables.new.names.map ≡ rows_under tables.old.names.map }
     ensures counts { (k : ClauseKey) → get clause_cmp tables.new.counters.numbers k ≡ with_found (seen sight.now) (drop_step k) key (get clause_cmp tables.old.counters.numbers k) }
     ensures steps { steps.new ≡ more_by (of_found (seen sight.now) (fields_tested sight.now (offers_under tables.old.names.map) naming_fields) key) steps.old }
 {
@@ -151,6 +156,7 @@ pub(crate) fn take_atoms(
 )
     ensures namers { (q : List ℕ) → namers_under tables.new.names.map q ≡ with_each (seen sight.now) (take_atoms_step span q) keys.now (namers_under tables.old.names.map q) }
     ensures offers { offers_under tables.new.names.map ≡ offers_under tables.old.names.map }
+    ensures rows { rows_under tables.new.names.map ≡ rows_under tables.old.names.map }
     ensures counts { (k : ClauseKey) → get clause_cmp tables.new.counters.numbers k ≡ with_each (seen sight.now) (drop_step k) keys.now (get clause_cmp tables.old.counters.numbers k) }
     ensures steps { steps.new ≡ more_by (atoms_tested sight.now (offers_under tables.old.names.map) keys.now) steps.old }
 {
@@ -170,6 +176,7 @@ fn take_offers_of(
 ) -> Result<(), AllocError>
     ensures offers { OnOk result ((q : List ℕ) → offers_under tables.new.names.map q ≡ left_offers span q offers.now (offers_under tables.old.names.map q)) }
     ensures namers { OnOk result (namers_under tables.new.names.map ≡ namers_under tables.old.names.map) }
+    ensures rows { OnOk result (rows_under tables.new.names.map ≡ rows_under tables.old.names.map) }
     ensures counts { OnOk result ((k : ClauseKey) → get clause_cmp tables.new.counters.numbers k ≡ lowered sight.now (namers_under tables.old.names.map) offers.now k (get clause_cmp tables.old.counters.numbers k)) }
     ensures steps { OnOk result (steps.new ≡ more_by (all_tested sight.now (namers_under tables.old.names.map) offers.now) steps.old) }
     ensures most { steps.new ≤ more_by (all_tested sight.now (namers_under tables.old.names.map) offers.now) steps.old }
@@ -194,6 +201,7 @@ fn take_offers_at(
 ) -> Result<(), AllocError>
     ensures offers { OnOk result ((q : List ℕ) → offers_under tables.new.names.map q ≡ with_found (seen sight.now) (take_offers_step span q) key (offers_under tables.old.names.map q)) }
     ensures namers { OnOk result (namers_under tables.new.names.map ≡ namers_under tables.old.names.map) }
+    ensures rows { OnOk result (rows_under tables.new.names.map ≡ rows_under tables.old.names.map) }
     ensures counts { OnOk result ((k : ClauseKey) → get clause_cmp tables.new.counters.numbers k ≡ with_found (seen sight.now) (lower_step sight.now (namers_under tables.old.names.map) k) key (get clause_cmp tables.old.counters.numbers k)) }
     ensures steps { OnOk result (steps.new ≡ more_by (of_found (seen sight.now) (offers_tests sight.now (namers_under tables.old.names.map)) key) steps.old) }
     ensures most { steps.new ≤ more_by (of_found (seen sight.now) (offers_tests sight.now (namers_under tables.old.names.map)) key) steps.old }
@@ -215,6 +223,7 @@ pub(crate) fn take_offers(
 ) -> Result<(), AllocError>
     ensures offers { OnOk result ((q : List ℕ) → offers_under tables.new.names.map q ≡ with_each (seen sight.now) (take_offers_step span q) keys.now (offers_under tables.old.names.map q)) }
     ensures namers { OnOk result (namers_under tables.new.names.map ≡ namers_under tables.old.names.map) }
+    ensures rows { OnOk result (rows_under tables.new.names.map ≡ rows_under tables.old.names.map) }
     ensures counts { OnOk result ((k : ClauseKey) → get clause_cmp tables.new.counters.numbers k ≡ with_each (seen sight.now) (lower_step sight.now (namers_under tables.old.names.map) k) keys.now (get clause_cmp tables.old.counters.numbers k)) }
     ensures steps { OnOk result (steps.new ≡ more_by (offers_tested sight.now (namers_under tables.old.names.map) keys.now) steps.old) }
     ensures most { steps.new ≤ more_by (offers_tested sight.now (namers_under tables.old.names.map) keys.now) steps.old }

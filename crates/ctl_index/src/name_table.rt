@@ -1,31 +1,35 @@
-//! The table of names: who offers each name, and the atoms that name it.
+//! The table of names: who offers each name, the atoms that name it, and its rows.
 
-ghost use Rattle.std.specs.Prelude.{◌≡◌, ◌≤◌, ◌<◌, ◌^◌, ◌∷◌, ◌++◌, ◌+◌, ◌-◌, ℕ, [], List, OnOk, OnErr, IfOk, option_map, filter, ◌&&◌, true, if◌then◌else◌};
+ghost use Rattle.std.specs.Prelude.{◌≡◌, ◌≤◌, ◌<◌, ◌^◌, ◌∷◌, ◌++◌, ◌+◌, ◌-◌, ℕ, [], List, OnOk, OnErr, IfOk, IfSome, IfNone, is_some, option_map, filter, ◌&&◌, true, if◌then◌else◌};
+ghost use Rattle.ctl_policy.specs.Chosen.{at_bytes};
 ghost use Rattle.std.specs.BTreeMap.{get, keys, IsEmpty, IsOrdered};
 ghost use Rattle.std.specs.Cmp.Lexicographic.{slice_cmp};
+ghost use Rattle.std.specs.FinMap as fin;
 ghost use Rattle.std.specs.Ordering.{nat_cmp, is_le};
 ghost use Rattle.std.specs.List.{sum_by};
 ghost use Rattle.std.specs.Str.{bytes_eq};
+ghost use Rattle.ctl_policy.specs.Kept.{HasPut, HasTaken, OthersStay};
 ghost use Rattle.ctl_index.specs.Clauses.{clause_cmp};
-ghost use Rattle.ctl_index.specs.TablesByName.{offers_under, namers_under, AreUsed, is_used, named_offers, named_namers};
+ghost use Rattle.ctl_index.specs.TablesByName.{offers_under, namers_under, rows_under, AreUsed, is_used, named_offers, named_namers, named_rows};
 ghost use Rattle.ctl_index.specs.TablesSight.{hit, tested, atom_met, atom_tested};
 ghost use Rattle.ctl_index.specs.TablesOrder.{others, offer_stanza, put_in_order, atom_stanza};
 ghost use Rattle.ctl_index.specs.Work.{more_by};
 ghost use Rattle.ctl_index.specs.declared.keys.ClauseKey.{ClauseKey};
 
-use crate::atom_list::AtomList;
 use crate::counters::Counters;
 use crate::counting::{count_tested, meet, part};
+use crate::key_list::KeyList;
 use crate::keys::{AtomKey, OfferKey};
 use crate::named::{Named, is_used};
-use crate::offer_list::OfferList;
 use crate::sight::Sight;
 use crate::span::Span;
-use ctl_relation::{Atom, FieldKind, Offer, Steps};
+use ctl_policy::Rows;
+use ctl_relation::{Atom, FieldKind, Offer, Steps, Version};
+use ctl_store::StanzaKey;
 use std::alloc::{AllocError, Global};
 use std::collections::{BTreeMap, btree_map};
 
-/// The offers and the namers of each name, names under which nothing stands left out.
+/// The offers, the namers and the rows of each name, names under which nothing stands left out.
 #[derive(Drop)]
 pub(crate) struct NameTable {
     map: BTreeMap<Vec<u8>, Named>,
@@ -79,11 +83,31 @@ impl NameTable {
         }
     }
 
+    /// The rows of a name, if it is there.
+    pub(crate) fn rows(&self, name: &[u8]) -> Option<&Rows>
+        ensures some { IfSome result (λ rows. rows.now ≡ rows_under self.now.map name.now) }
+        ensures none { IfNone result (rows_under self.now.map name.now ≡ fin.empty) }
+    {
+        match self.map.get(name) {
+            Some(named) => Some(&named.rows),
+            None => None,
+        }
+    }
+
+    /// Whether anything stands under a name.
+    pub(crate) fn contains(&self, name: &[u8]) -> bool
+        ensures there { result ≡ is_some (at_bytes self.now.map name.now) }
+        ensures used { AreUsed self.now.map }
+    {
+        self.map.contains_key(name)
+    }
+
     // What stands under a name that isn't there yet.
     fn insert(&mut self, alloc: Global, name: &[u8], named: Named) -> Result<(), AllocError>
         requires { is_used named ≡ true }
         ensures offers { OnOk result ((q : List ℕ) → offers_under self.new.map q ≡ (if bytes_eq name.now q then named_offers named else offers_under self.old.map q)) }
         ensures namers { OnOk result ((q : List ℕ) → namers_under self.new.map q ≡ (if bytes_eq name.now q then named_namers named else namers_under self.old.map q)) }
+        ensures rows { OnOk result ((q : List ℕ) → rows_under self.new.map q ≡ (if bytes_eq name.now q then named_rows named else rows_under self.old.map q)) }
     {
         let key = Vec::from_slice(alloc, name)?;
         self.map.insert(key, named)?;
@@ -102,6 +126,7 @@ impl NameTable {
     ) -> Result<(), AllocError>
         ensures offers { OnOk result ((q : List ℕ) → offers_under self.new.map q ≡ (if bytes_eq offer.now.name q then put_in_order offer_stanza key (offers_under self.old.map q) else offers_under self.old.map q)) }
         ensures namers { OnOk result ((q : List ℕ) → namers_under self.new.map q ≡ namers_under self.old.map q) }
+        ensures rows { OnOk result ((q : List ℕ) → rows_under self.new.map q ≡ rows_under self.old.map q) }
         ensures counts { OnOk result ((k : ClauseKey) → get clause_cmp counters.new.numbers k ≡ option_map (λ n. n + sum_by (hit sight.now offer.now k) (namers_under self.old.map offer.now.name)) (get clause_cmp counters.old.numbers k)) }
         ensures steps { OnOk result (steps.new ≡ more_by (sum_by (tested sight.now) (namers_under self.old.map offer.now.name)) steps.old) }
         ensures most { steps.new ≤ more_by (sum_by (tested sight.now) (namers_under self.old.map offer.now.name)) steps.old }
@@ -114,8 +139,9 @@ impl NameTable {
             }
             None => {
                 let named = Named {
-                    offers: OfferList::of_one(alloc, key)?,
-                    namers: AtomList::new(alloc),
+                    offers: KeyList::of_one(alloc, key)?,
+                    namers: KeyList::new(alloc),
+                    rows: Rows::new(alloc),
                 };
                 self.insert(alloc, offer.name(), named)
             }
@@ -134,6 +160,7 @@ impl NameTable {
     ) -> Result<usize, AllocError>
         ensures namers { OnOk result ((q : List ℕ) → namers_under self.new.map q ≡ (if bytes_eq atom.now.name q then put_in_order atom_stanza key (namers_under self.old.map q) else namers_under self.old.map q)) }
         ensures offers { OnOk result ((q : List ℕ) → offers_under self.new.map q ≡ offers_under self.old.map q) }
+        ensures rows { OnOk result ((q : List ℕ) → rows_under self.new.map q ≡ rows_under self.old.map q) }
         ensures met { IfOk result (λ met. met ≡ atom_met sight.now key.field atom.now (offers_under self.old.map atom.now.name)) }
         ensures few { IfOk result (λ met. met < 2 ^ 64) }
         ensures steps { OnOk result (steps.new ≡ more_by (atom_tested sight.now key.field (offers_under self.old.map atom.now.name)) steps.old) }
@@ -147,8 +174,9 @@ impl NameTable {
             }
             None => {
                 let named = Named {
-                    offers: OfferList::new(alloc),
-                    namers: AtomList::of_one(alloc, key)?,
+                    offers: KeyList::new(alloc),
+                    namers: KeyList::of_one(alloc, key)?,
+                    rows: Rows::new(alloc),
                 };
                 self.insert(alloc, atom.name(), named)?;
                 Ok(0)
@@ -168,6 +196,7 @@ impl NameTable {
     )
         ensures namers { (q : List ℕ) → namers_under self.new.map q ≡ (if bytes_eq atom.now.name q then others atom_stanza span (namers_under self.old.map q) else namers_under self.old.map q) }
         ensures offers { (q : List ℕ) → offers_under self.new.map q ≡ offers_under self.old.map q }
+        ensures rows { (q : List ℕ) → rows_under self.new.map q ≡ rows_under self.old.map q }
         ensures steps { steps.new ≡ more_by (atom_tested sight.now field (offers_under self.old.map atom.now.name)) steps.old }
     {
         let _count = steps.count();
@@ -192,6 +221,7 @@ impl NameTable {
     ) -> Result<(), AllocError>
         ensures offers { OnOk result ((q : List ℕ) → offers_under self.new.map q ≡ (if bytes_eq offer.now.name q then others offer_stanza span (offers_under self.old.map q) else offers_under self.old.map q)) }
         ensures namers { OnOk result ((q : List ℕ) → namers_under self.new.map q ≡ namers_under self.old.map q) }
+        ensures rows { OnOk result ((q : List ℕ) → rows_under self.new.map q ≡ rows_under self.old.map q) }
         ensures counts { OnOk result ((k : ClauseKey) → get clause_cmp counters.new.numbers k ≡ option_map (λ n. n - sum_by (hit sight.now offer.now k) (namers_under self.old.map offer.now.name)) (get clause_cmp counters.old.numbers k)) }
         ensures steps { OnOk result (steps.new ≡ more_by (sum_by (tested sight.now) (namers_under self.old.map offer.now.name)) steps.old) }
         ensures most { steps.new ≤ more_by (sum_by (tested sight.now) (namers_under self.old.map offer.now.name)) steps.old }
@@ -206,5 +236,48 @@ impl NameTable {
             let _ = self.map.remove(offer.name());
         }
         Ok(())
+    }
+    /// A row gets the key of a stanza: that of its version, under the name of its package.
+    pub(crate) fn put_row(
+        &mut self,
+        alloc: Global,
+        name: &[u8],
+        version: &Version,
+        key: StanzaKey,
+    ) -> Result<(), AllocError>
+        ensures row { OnOk result (HasPut version.now key (rows_under self.old.map name.now) (rows_under self.new.map name.now)) }
+        ensures others { OnOk result (OthersStay name.now (rows_under self.old.map) (rows_under self.new.map)) }
+        ensures offers { OnOk result ((q : List ℕ) → offers_under self.new.map q ≡ offers_under self.old.map q) }
+        ensures namers { OnOk result ((q : List ℕ) → namers_under self.new.map q ≡ namers_under self.old.map q) }
+    {
+        match self.map.get_mut(name) {
+            Some(named) => named.rows.put(version, key),
+            None => {
+                let mut rows = Rows::new(alloc);
+                rows.put(version, key)?;
+                let named = Named {
+                    offers: KeyList::new(alloc),
+                    namers: KeyList::new(alloc),
+                    rows,
+                };
+                self.insert(alloc, name, named)
+            }
+        }
+    }
+
+    /// A row loses the key of a stanza, and goes with its last.
+    pub(crate) fn take_row(&mut self, name: &[u8], version: &Version, key: StanzaKey)
+        ensures row { HasTaken version.now key (rows_under self.old.map name.now) (rows_under self.new.map name.now) }
+        ensures others { OthersStay name.now (rows_under self.old.map) (rows_under self.new.map) }
+        ensures offers { (q : List ℕ) → offers_under self.new.map q ≡ offers_under self.old.map q }
+        ensures namers { (q : List ℕ) → namers_under self.new.map q ≡ namers_under self.old.map q }
+    {
+        let Some(named) = self.map.get_mut(name) else {
+            return;
+        };
+        named.rows.take(version, key);
+        if !is_used(named) {
+            let _ = self.map.remove(name);
+        }
     }
 }

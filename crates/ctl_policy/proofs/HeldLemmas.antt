@@ -3,18 +3,18 @@ use Rattle.std.proofs.Common.{◌≡◌, ℕ, Bool, true, false, cond, ◌||◌,
 use Rattle.std.specs.Ordering.{is_eq}
 use Rattle.std.specs.List.{AllByRecursion}
 use Rattle.std.specs.Map.{lookup, keys_of}
-use Rattle.std.specs.BTreeMap.{is_at, IsOrdered}
+use Rattle.std.specs.BTreeMap.{is_at}
 use Rattle.std.proofs.lemmas.Cmp.{tied_itself}
 use Rattle.ctl_relation.specs.Version.{version_cmp}
 use Rattle.ctl_relation.specs.Orders.Versions.{version_total}
 use Rattle.ctl_store.specs.declared.stanza_key.StanzaKey.{StanzaKey}
 use Rattle.ctl_store.specs.Keys.{key_is, stanza_at, AreHeld}
 use Rattle.ctl_policy.specs.Keys.{has_key, or_none}
-use Rattle.ctl_policy.specs.Rows.{Lists, rows_named, keys_at}
+use Rattle.ctl_policy.specs.Rows.{Lists, rows_named}
 use Rattle.ctl_policy.specs.declared.form.Form.{Form}
 use Rattle.ctl_policy.specs.declared.form.Form.TheVariants.{Empty, One, Many}
-use Rattle.ctl_policy.specs.HeldRows.{form_at, row_at, IsOrderedForm, IsFormOf}
-use Rattle.ctl_policy.specs.HeldWalk.{AreHeldIn, IsHeldForm}
+use Rattle.ctl_policy.specs.HeldRows.{row_at, IsOrderedForm, IsFormOf}
+use Rattle.ctl_policy.specs.HeldWalk.{IsHeldForm}
 use Rattle.ctl_policy.proofs.RowLemmas.{eq_is}
 use Rattle.ctl_policy.proofs.SetLemmas.{key_is-itself}
 use Rattle.ctl_policy.proofs.AlikeLemmas.{IsUnder, IsRising, rising_is}

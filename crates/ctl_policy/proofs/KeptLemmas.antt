@@ -11,7 +11,7 @@ use Rattle.ctl_stanza.specs.Content.{Content, package_of, version_of}
 use Rattle.ctl_store.specs.declared.stanza_key.StanzaKey.{StanzaKey}
 use Rattle.ctl_store.specs.Keys.{key_cmp, key_is, AreRising}
 use Rattle.ctl_policy.specs.Keys.{with_key, without_key, has_key, or_none, some_keys}
-use Rattle.ctl_policy.specs.Rows.{Rows, keys_at, is_of_version, is_in_row}
+use Rattle.ctl_policy.specs.Rows.{is_of_version, is_in_row}
 use Rattle.ctl_policy.specs.Kept.{RowsByName, Stanzas, with_stanza, without_stanza, IsKept, HasPut, HasTaken, OthersStay}
 use Rattle.ctl_policy.proofs.RowLemmas.{eq_is}
 use Rattle.ctl_policy.proofs.SetLemmas.{key_is-same, has_key-with, rises-with, has_key-without, rises-without}

@@ -21,3 +21,6 @@ pub mod StepListLemmas
 pub mod TouchedLemmas
 pub mod NamesLemmas
 pub mod PackageLemmas
+pub mod TouchedNamesLemmas
+pub mod PlaceLemmas
+pub mod WithoutLemmas

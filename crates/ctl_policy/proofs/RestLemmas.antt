@@ -27,7 +27,7 @@ use Rattle.ctl_store.specs.Step.{after}
 use Rattle.ctl_store.specs.Keys.{stanza_lists, holder_of, keyed_after}
 use Rattle.ctl_store.specs.Held.{Held, keyed_of, state_of}
 use Rattle.ctl_policy.specs.declared.chosen.Chosen.{Chosen}
-use Rattle.ctl_policy.specs.Rows.{Lists, Row, rows_named, lead_of, lead_at, is_called, is_source}
+use Rattle.ctl_policy.specs.Rows.{Row, rows_named, lead_of, lead_at, is_called, is_source}
 use Rattle.ctl_policy.specs.Priority.{Settings, World, world_in, world_of, is_target, own_priority, priority_of_list, list_priority, specific_pin, priority_found, source_priorities, greatest, row_priority}
 use Rattle.ctl_policy.specs.Candidate.{Choice, status_version, wanted_version, version_if_row, may_be_taken, better, best_of, choice_of, installed_of, lead_of_choice}
 use Rattle.ctl_policy.specs.Chosen.{if_rows, choice_in, kept_of, at_bytes, AreChosen}

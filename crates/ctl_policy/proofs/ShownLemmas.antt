@@ -1,5 +1,5 @@
 -- What the form of a name's rows shows.
-use Rattle.std.proofs.Common.{◌≡◌, ◌↔◌, ℕ, Bool, true, false, cond, ◌&&◌, T, List, [], ◌∷◌, ◌++◌, length, arith, map, reverse, Option, None, Some, option_map, Vec, Global, refl, ap, sym, subst, ◌∙◌, Ordering, Less, Equal, Greater, Result, Ok, Err, OnOk, OnErr}
+use Rattle.std.proofs.Common.{◌≡◌, ◌↔◌, ℕ, Bool, true, false, cond, ◌&&◌, T, List, [], ◌∷◌, ◌++◌, length, arith, map, reverse, None, Some, option_map, Vec, Global, refl, ap, sym, subst, ◌∙◌, Ordering, Less, Equal, Greater, Result, Ok, Err, OnOk, OnErr}
 use Rattle.std.specs.Ordering.{is_eq, is_lt}
 use Rattle.std.specs.Map.{lookup, keys_of}
 use Rattle.std.specs.FinMap as fin

@@ -1,21 +1,20 @@
 -- The first stanza of a name in the status list is the lowest of such keys in its rows.
-use Rattle.std.proofs.Common.{◌≡◌, ℕ, Bool, true, false, cond, ◌&&◌, ◌||◌, List, [], ◌∷◌, Option, None, Some, IfSome, option_map, is_some, Vec, Global, refl, ap, sym, subst, ◌∙◌, Ordering, Less, Equal, Greater}
+use Rattle.std.proofs.Common.{◌≡◌, ℕ, Bool, true, false, cond, ◌&&◌, ◌||◌, List, [], ◌∷◌, Option, None, Some, option_map, is_some, Vec, Global, refl, ap, sym, subst, ◌∙◌, Ordering, Less, Equal, Greater}
 use Rattle.std.specs.Ordering.{is_lt, is_eq, ordering_reverse}
 use Rattle.std.specs.Option.{option_map_or}
 use Rattle.std.specs.List.{AllByRecursion}
 use Rattle.std.specs.Map.{lookup, keys_of}
 use Rattle.std.specs.BTreeMap.{is_at}
-use Rattle.std.specs.Str.{bytes_eq}
 use Rattle.std.proofs.lemmas.Bool.{false≢true}
 use Rattle.std.proofs.lemmas.Cmp.{tied_itself}
 use Rattle.ctl_relation.specs.Version.{version_cmp}
 use Rattle.ctl_relation.specs.Orders.Versions.{version_total}
-use Rattle.ctl_stanza.specs.Content.{Content, package_of, version_of}
+use Rattle.ctl_stanza.specs.Content.{Content}
 use Rattle.ctl_store.specs.declared.stanza_key.StanzaKey.{StanzaKey}
 use Rattle.ctl_store.specs.Step.{is_status}
 use Rattle.ctl_store.specs.Keys.{key_cmp, key_is, stanza_at, all_keys, AreRising}
 use Rattle.ctl_store.specs.Entries.{entries_of, entry_keys}
-use Rattle.ctl_policy.specs.Keys.{has_key, or_none, some_keys}
+use Rattle.ctl_policy.specs.Keys.{has_key, or_none}
 use Rattle.ctl_policy.specs.Rows.{Lists, version_in, is_of_version, is_in_row, keys_with, keys_at, rows_named, lead_of, version_under}
 use Rattle.ctl_policy.specs.Candidate.{is_status_of, status_version}
 use Rattle.ctl_policy.specs.declared.form.Form.{Form}
@@ -24,7 +23,7 @@ use Rattle.ctl_policy.specs.HeldRows.{Shelf, IsOrderedForm, IsFormOf}
 use Rattle.ctl_policy.specs.HeldWalk.{is_status_key, first_status, lower, lowest_status, status_key}
 use Rattle.ctl_policy.proofs.KeyLemmas.{key_total}
 use Rattle.ctl_policy.proofs.SetLemmas.{same_key, key_is-same, key_is-itself, below_absent, below_further}
-use Rattle.ctl_policy.proofs.AlikeLemmas.{IsRising, rising_is}
+use Rattle.ctl_policy.proofs.AlikeLemmas.{rising_is}
 use Rattle.ctl_policy.proofs.DefinedLemmas.{or_none-some, keys_are, with_rises, find_placed, has_key-placed, row_defined}
 use Rattle.ctl_policy.proofs.HeldLemmas.{each_row}
 

@@ -15,9 +15,9 @@ use Rattle.ctl_store.specs.Step.{is_status}
 use Rattle.ctl_store.specs.Keys.{key_is, stanza_at, holder_of, all_keys, AreHeld, AreRising}
 use Rattle.ctl_store.specs.Entries.{entries_of}
 use Rattle.ctl_policy.specs.Keys.{has_key, or_none, some_keys}
-use Rattle.ctl_policy.specs.Rows.{Lists, Rows, Row, keys_at, keys_of_row, AreRowsOf, version_in, is_of_version, is_in_row, keys_with, rows_named, newest_first, lead_of, lead_at, version_under, is_called, is_source}
+use Rattle.ctl_policy.specs.Rows.{Lists, Rows, Row, keys_at, keys_of_row, AreRowsOf, is_of_version, is_in_row, keys_with, rows_named, newest_first, lead_of, lead_at, version_under, is_called, is_source}
 use Rattle.ctl_policy.specs.Priority.{Settings, World, matches_text, matches_row, specific_pin, priority_found, source_priorities, greatest, row_priority}
-use Rattle.ctl_policy.specs.Candidate.{is_status_of, status_version, wanted_version, version_if_row}
+use Rattle.ctl_policy.specs.Candidate.{is_status_of, wanted_version, version_if_row}
 use Rattle.ctl_policy.specs.Laws.{rows_in, with_lists, version_found, Stays, IsUntouched, AreSameLists, IsNoSource, HoldsNone}
 use Rattle.ctl_policy.proofs.SetLemmas.{same_keys, key_is-itself}
 use Rattle.ctl_policy.proofs.DefinedLemmas.{or_none-some, key_held, keys_are, with_rises, find_placed, has_key-placed, row_defined}

@@ -21,6 +21,15 @@ if_rows (row ∷ rows) choice = Some choice
 abbrev pub kept_of : List ℕ → World → Option Chosen
 kept_of name w = if_rows (newest_first (rows_named name w.lists)) (choice_in name w)
 
+-- neither is chosen
+abbrev pub no_choice : Chosen
+no_choice = record { installed = None; candidate = None }
+
+-- the place of a name, where there may be one already
+abbrev pub place_of : Option Chosen → Option Chosen
+place_of None = Some no_choice
+place_of (Some choice) = Some choice
+
 -- ---- maps by name
 
 -- the value at the key whose bytes are these

@@ -4,12 +4,12 @@ use Rattle.std.proofs.Common.{Global}
 use Rattle.std.specs.List.{AllByRecursion}
 use Rattle.std.specs.Option.{option_map_or}
 use Rattle.std.specs.Ordering.{is_lt}
-use Rattle.ctl_relation.specs.Version.{Triple, triple_of}
+use Rattle.ctl_relation.specs.Version.{Triple}
 use Rattle.ctl_stanza.specs.Content.{Content}
 use Rattle.ctl_store.specs.declared.stanza_key.StanzaKey.{StanzaKey}
 use Rattle.ctl_store.specs.Step.{is_status}
 use Rattle.ctl_store.specs.Keys.{AreHeld, stanza_at, key_cmp}
-use Rattle.ctl_policy.specs.Rows.{Lists, Row, lead_of}
+use Rattle.ctl_policy.specs.Rows.{Lists, lead_of}
 use Rattle.ctl_policy.specs.Candidate.{Choice, better, may_be_taken}
 use Rattle.ctl_policy.specs.declared.form.Form.{Form}
 use Rattle.ctl_policy.specs.declared.form.Form.TheVariants.{Empty, One, Many}

@@ -1,5 +1,5 @@
 -- Which names an edit can change.
-use Rattle.std.specs.Prelude.{◌≡◌, ◌⊎◌, ℕ, ℤ, true, false, List, Option, None, Some}
+use Rattle.std.specs.Prelude.{◌≡◌, ◌⊎◌, ℕ, true, false, List, Option, None, Some}
 use Rattle.std.specs.List.{AllByRecursion}
 use Rattle.std.specs.Option.{option_map_or}
 use Rattle.std.specs.Str.{bytes_eq}
@@ -8,7 +8,6 @@ use Rattle.ctl_store.specs.declared.stanza_key.StanzaKey.{StanzaKey}
 use Rattle.ctl_store.specs.State.{Marks}
 use Rattle.ctl_store.specs.Edits.{Edit}
 use Rattle.ctl_store.specs.Step.{after}
-use Rattle.ctl_store.specs.Pins.{own_settings}
 use Rattle.ctl_store.specs.Keys.{stanza_at, holder_of, all_keys, AreRising, keyed_after}
 use Rattle.ctl_store.specs.Held.{Held, keyed_of, state_of}
 use Rattle.ctl_policy.specs.Rows.{Lists, Row, rows_named, newest_first, version_in, is_called, is_source}

@@ -6,6 +6,7 @@ pub mod Kept
 pub mod Chosen
 pub mod Laws
 pub mod Touched
+pub mod TouchedNames
 pub mod HeldRows
 pub mod HeldWalk
 pub mod HeldRead

@@ -1,5 +1,5 @@
 -- The rows of a name: its versions as `apt-cache policy` lists them (apt-cache(8)), their leads and their sources.
-use Rattle.std.specs.Prelude.{◌≡◌, ℕ, Bool, false, ◌||◌, List, [], ◌∷◌, map, filter, reverse, Option, None, Some, if◌then◌else◌}
+use Rattle.std.specs.Prelude.{◌≡◌, ℕ, Bool, true, false, ◌||◌, List, [], ◌∷◌, map, filter, reverse, Option, None, Some, if◌then◌else◌}
 use Rattle.std.specs.Prelude.{slice_get}
 use Rattle.std.specs.Map.{keys_of as names_of}
 use Rattle.std.specs.Option.{option_map_or}
@@ -74,6 +74,15 @@ keys_of_row row = row.1
 -- the rows, newest first
 abbrev pub newest_first : Rows → List Row
 newest_first rows = reverse (map (λ (row : List ℕ × List StanzaKey). (triple_of row.0, row.1)) (fin.entries rows))
+
+-- whether there is a row among these
+abbrev pub is_any_row : List Row → Bool
+is_any_row [] = false
+is_any_row (row ∷ rows) = true
+
+-- whether a name has a row
+abbrev pub has_row : List ℕ → Lists → Bool
+has_row name lists = is_any_row (newest_first (rows_named name lists))
 
 -- ---- leads and sources
 

@@ -1,6 +1,6 @@
 //! Laws, each a function whose contract says it.
 
-ghost use Rattle.std.specs.Prelude.{◌≡◌, ℕ, ℤ, List, Option, None, Some, Vec, map, true, false, if◌then◌else◌};
+ghost use Rattle.std.specs.Prelude.{◌≡◌, ℕ, ℤ, List, [], Option, None, Some, Vec, map, true, false, if◌then◌else◌};
 ghost use Rattle.std.proofs.Common.{Global};
 ghost use Rattle.std.specs.Str.{bytes_eq};
 ghost use Rattle.std.specs.List.{AllByRecursion};
@@ -23,7 +23,7 @@ ghost use Rattle.ctl_policy.specs.Keys.{some_keys};
 ghost use Rattle.ctl_policy.specs.Rows.{Lists, Rows, rows_named, is_in_row, keys_at, keys_with, keys_of_row, newest_first, AreRowsOf};
 ghost use Rattle.ctl_policy.specs.Priority.{World, Settings, world_of};
 ghost use Rattle.ctl_policy.specs.Kept.{RowsByName, Stanzas, IsKept, OthersStay, HasPut, HasTaken, stanzas_in, with_stanza, without_stanza};
-ghost use Rattle.ctl_policy.specs.Chosen.{at_bytes, kept_of, AreChosen};
+ghost use Rattle.ctl_policy.specs.Chosen.{at_bytes, choice_in, no_choice, kept_of, AreChosen};
 ghost use Rattle.ctl_policy.specs.Laws.{Stays, IsOfName, IsNoSource, IsNoTarget, AreRankedAlike, HoldsNone, IsUntouched, AreSameLists, with_marks, with_pins, with_target, with_lists, world_after};
 
 use ctl_store::settings_by_package;
@@ -44,6 +44,22 @@ pub fn rows_are_kept()
 pub fn rows_are_held()
     ensures rows { (rows : Rows) → (name : List ℕ) → (lists : Lists) → AreRowsOf rows name lists → AllByRecursion (λ keys. AreHeld keys lists) (map keys_of_row (newest_first rows)) }
     ensures version { (rows : Rows) → (name : List ℕ) → (lists : Lists) → AreRowsOf rows name lists → (version : List ℕ) → AreHeld (keys_at rows version) lists }
+{}
+
+/// Rows that are those of a name are shown as the definition shows them, and no rows as none.
+#[tactic(auto, using(crate::proofs::ChoiceLemmas::shown_alike, crate::proofs::WithoutLemmas::none_shown))]
+pub fn rows_are_shown()
+    ensures alike { (rows : Rows) → (name : List ℕ) → (lists : Lists) → AreRowsOf rows name lists → newest_first rows ≡ newest_first (rows_named name lists) }
+    ensures none { newest_first fin.empty ≡ [] }
+{}
+
+/// Of a name without rows neither a row is installed nor a candidate, and nothing is to be kept. Of another what is chosen is
+/// to be kept.
+#[tactic(auto, using(crate::proofs::WithoutLemmas::not_chosen, crate::proofs::WithoutLemmas::not_kept, crate::proofs::WithoutLemmas::is_kept))]
+pub fn names_with_rows_are_kept()
+    ensures choice { (name : List ℕ) → (w : World) → newest_first (rows_named name w.lists) ≡ [] → choice_in name w ≡ no_choice }
+    ensures none { (name : List ℕ) → (w : World) → newest_first (rows_named name w.lists) ≡ [] → kept_of name w ≡ None }
+    ensures kept { (name : List ℕ) → (w : World) → (newest_first (rows_named name w.lists) ≡ [] → ⊥) → kept_of name w ≡ Some (choice_in name w) }
 {}
 
 /// Rows follow a stanza that comes where its key is put into the rows of its name, and one that goes where it is taken

@@ -9,20 +9,24 @@ mod form;
 mod keys;
 mod laws;
 mod newest;
+mod places;
 mod priority;
 mod rows;
 mod status;
 mod touched;
+mod touching;
 mod walk;
 
 pub use chosen::{Chosen, choose, renew};
 pub use laws::{
-    edits_of_one_name, general_pins_leave_other_names, marks_leave_other_names, one_name_is_enough,
-    preferences_leave_other_names, rows_are_classes, rows_are_held, rows_are_kept,
-    rows_follow_stanzas, sources_hold_stanzas, specific_pins_leave_other_names,
-    stanzas_leave_other_names, targets_leave_other_names, worlds_move,
+    edits_of_one_name, general_pins_leave_other_names, marks_leave_other_names,
+    names_with_rows_are_kept, one_name_is_enough, preferences_leave_other_names, rows_are_classes,
+    rows_are_held, rows_are_kept, rows_are_shown, rows_follow_stanzas, sources_hold_stanzas,
+    specific_pins_leave_other_names, stanzas_leave_other_names, targets_leave_other_names,
+    worlds_move,
 };
 pub use newest::NewestFirst;
+pub use places::make_places;
 pub use priority::{is_source, list_priority, row_priority, specific_pin};
 pub use rows::Rows;
 pub use touched::{
@@ -30,4 +34,5 @@ pub use touched::{
     edits_of_targets, packages_tell_live_stanzas, plans_are_accepted, touched_names_are_enough,
     untouched_names_stay,
 };
+pub use touching::{packages_of_store, touched_names};
 pub use walk::read_rows;

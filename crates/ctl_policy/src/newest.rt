@@ -1,6 +1,6 @@
 //! Rows, lent from the newest to the oldest.
 
-ghost use Rattle.std.specs.Prelude.{◌≡◌, map};
+ghost use Rattle.std.specs.Prelude.{◌≡◌, [], map};
 ghost use Rattle.ctl_policy.specs.Rows.{newest_first, keys_of_row};
 ghost use Rattle.ctl_policy.specs.HeldRows.{rows_of_form, IsOrderedForm};
 
@@ -35,6 +35,14 @@ impl<'a> Model for NewestFirst<'a> {
 }
 
 impl<'a> NewestFirst<'a> {
+    /// No rows.
+    pub fn none() -> NewestFirst<'a>
+        ensures { result ≡ [] }
+    {
+        let left = Left::One(None);
+        NewestFirst { left }
+    }
+
     /// Those of a form.
     pub(crate) fn new(form: &'a Form) -> NewestFirst<'a>
         requires { IsOrderedForm form.now }

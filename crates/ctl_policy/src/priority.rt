@@ -5,12 +5,15 @@ ghost use Rattle.std.specs.Int.{int_max};
 ghost use Rattle.ctl_store.specs.Keys.{AreHeld, stanza_at, holder_of};
 ghost use Rattle.ctl_store.specs.Held.{keyed_of};
 ghost use Rattle.std.specs.Prelude.{IsSome};
+ghost use Rattle.ctl_store.specs.Pins.{general_pin};
 ghost use Rattle.ctl_policy.specs.Rows.{lead_of, version_under, is_source};
-ghost use Rattle.ctl_policy.specs.Priority.{world_of, own_priority, is_target, list_priority, priority_found, matches_text, matches_row, specific_pin, greatest, greatest_with, source_priorities, row_priority};
+ghost use Rattle.ctl_policy.specs.Laws.{with_pins};
+ghost use Rattle.ctl_policy.specs.TouchedNames.{is_same_priority, keeps_priority};
+ghost use Rattle.ctl_policy.specs.Priority.{Settings, world_of, own_priority, is_target, list_priority, priority_found, matches_text, matches_row, specific_pin, greatest, greatest_with, source_priorities, row_priority};
 
 use ctl_relation::Version;
 use ctl_stanza::ListKind;
-use ctl_store::{ListClass, PackagePins, PinVersion, Selector, StanzaKey, Store};
+use ctl_store::{ListClass, PackagePins, PinSettings, PinVersion, Selector, StanzaKey, Store};
 
 fn own_priority(kind: ListKind, class: ListClass) -> i16
     ensures { result ≡ own_priority kind class }
@@ -37,19 +40,46 @@ fn is_target(target: Option<&[u8]>, list: &[u8], kind: ListKind) -> bool
     }
 }
 
-/// The priority of a list, if there is a list of this name: 990 for the target release, else that of its general pin,
-/// else its own.
-pub fn list_priority(store: &Store, list: &[u8]) -> Option<i16>
-    ensures { result ≡ list_priority list.now (world_of store.now) }
+// The priority of a list, if there is a list of this name, where this is the priority of its general pin.
+fn priority_where_pinned(store: &Store, list: &[u8], pin: Option<i16>) -> Option<i16>
+    ensures { (pins : Settings) → pin ≡ general_pin list.now pins → result ≡ list_priority list.now (with_pins pins (world_of store.now)) }
 {
     let (kind, class) = store.list(list)?;
     if is_target(store.target(), list, kind) {
         return Some(990);
     }
-    match store.general_pin(list) {
+    match pin {
         Some(priority) => Some(priority),
         None => Some(own_priority(kind, class)),
     }
+}
+
+/// The priority of a list, if there is a list of this name: 990 for the target release, else that of its general pin,
+/// else its own.
+pub fn list_priority(store: &Store, list: &[u8]) -> Option<i16>
+    ensures { result ≡ list_priority list.now (world_of store.now) }
+{
+    priority_where_pinned(store, list, store.general_pin(list))
+}
+
+fn is_same_priority(one: Option<i16>, other: Option<i16>) -> bool
+    ensures { result ≡ is_same_priority one other }
+{
+    match one {
+        Some(one) => match other {
+            Some(other) => one == other,
+            None => false,
+        },
+        None => other.is_none(),
+    }
+}
+
+/// Whether a list has the priority that it has, once these settings take the place of all.
+pub(crate) fn keeps_priority(store: &Store, settings: &PinSettings, list: &[u8]) -> bool
+    ensures { result ≡ keeps_priority settings.now.pins (world_of store.now) list.now }
+{
+    let then = priority_where_pinned(store, list, settings.general(list));
+    is_same_priority(list_priority(store, list), then)
 }
 
 // The priority of the list that holds a stanza.

@@ -1,6 +1,6 @@
 -- A group is read from the end of a body, atom by atom, and a field group by group.
-use Rattle.std.proofs.Common.{◌≡◌, ◌∙◌, ◌+◌, ◌-◌, ◌<◌, ◌≤◌, ◌^◌, ℕ, suc, ◌==◌, Bool, true, false, cond, List, [], ◌∷◌, ◌++◌, length, length-append, length-drop, map, take, drop, Option, Some, None, Result, Ok, Err, refl, sym, ap, ap₂, subst, arith, append_assoc, take-append-drop}
-use Rattle.std.specs.List.{All, prefix_len}
+use Rattle.std.proofs.Common.{◌≡◌, ◌∙◌, ◌+◌, ◌-◌, ◌<◌, ◌≤◌, ◌^◌, ℕ, suc, ◌==◌, Bool, true, false, cond, List, [], ◌∷◌, ◌++◌, length, length-append, length-drop, drop, Some, None, Result, Ok, Err, refl, sym, ap, ap₂, subst, arith, append_assoc, take-append-drop}
+use Rattle.std.specs.List.{prefix_len}
 use Rattle.std.proofs.lemmas.List.Elements.{All-nil, All-head, All-tail, All-push, All-append}
 use Rattle.ctl_relation.specs.declared.field_kind.FieldKind.{FieldKind}
 use Rattle.ctl_relation.specs.declared.relation_fault.RelationFault.{RelationFault}
@@ -12,7 +12,7 @@ use Rattle.ctl_relation.specs.Parts.{AtomParts}
 use Rattle.ctl_relation.specs.FieldKind.{has_alternatives}
 use Rattle.ctl_relation.specs.Reading.{behind_byte, atom_at, group_at, groups_at, relations_of}
 use Rattle.ctl_relation.specs.HeldPlaces.{atom_read, atom_held, atoms_held, groups_held, HasAtom, HaveAtoms, Rise, AreHeld, IsEnd, place_of, ReadsGroup, ReadsField}
-use Rattle.ctl_relation.proofs.Found.{atom_found, behind_found, groups_found}
+use Rattle.ctl_relation.proofs.Found.{atom_found, behind_found}
 use Rattle.ctl_relation.proofs.TurnsOfReading.{with_front, behind, group_ends, group_goes_on, groups_fail, groups_end, groups_go_on, groups_done, groups_skip}
 use Rattle.ctl_relation.proofs.PlaceLemmas.{rise-bounds, rise-low, rise-high, rise-append, rise-length, held-push}
 

@@ -1,12 +1,11 @@
 -- Places that rise, and the groups that are held at them.
-use Rattle.std.proofs.Common.{◌≡◌, ◌∙◌, ◌⊎◌, ◌+◌, ◌-◌, ◌<◌, ◌≤◌, ◌^◌, ℕ, zero, suc, Bool, true, false, cond, nat_lt, List, [], ◌∷◌, ◌++◌, length, length-append, length-drop, map, take, drop, get_or, slice_get, Option, None, Some, MatchOption, inl, inr, refl, sym, ap, ap₂, subst, arith, ⊎_elim, drop-drop, take_all, ltb-true, ltb-false, lt-ltb, le-ltb}
+use Rattle.std.proofs.Common.{◌≡◌, ◌∙◌, ◌⊎◌, ◌+◌, ◌<◌, ◌≤◌, ◌^◌, ℕ, zero, suc, true, false, cond, nat_lt, List, [], ◌∷◌, ◌++◌, length, length-drop, take, drop, get_or, slice_get, Option, None, Some, MatchOption, inl, inr, refl, sym, ap, ap₂, subst, arith, ⊎_elim, drop-drop, take_all, ltb-true, ltb-false, lt-ltb, le-ltb}
 use lib.Seq.{take-append-le, drop-append-le}
 use Rattle.std.proofs.lemmas.Bool.{cases_Bool, cond-true, cond-false}
 use Rattle.std.proofs.lemmas.List.Elements.{All-tail, All-drop}
 use Rattle.std.specs.List.Sorted.{IsNonDecreasing}
 use Rattle.ctl_relation.specs.declared.field_kind.FieldKind.{FieldKind}
 use Rattle.std.specs.List.{flat_map}
-use Rattle.ctl_relation.specs.Parts.{AtomParts}
 use Rattle.ctl_relation.specs.Printed.{alternative_text}
 use Rattle.ctl_relation.specs.HeldPlaces.{HasAtom, HaveAtoms, AreHeld, atom_held, atoms_held, behind_earlier, count_below, count_before, groups_held, places_left, Rise}
 

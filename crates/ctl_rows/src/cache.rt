@@ -5,6 +5,10 @@
 ghost use Rattle.std.specs.Prelude.{◌≡◌, false};
 
 use crate::asked::{Asked, edit_asked};
+use crate::cache_rows::{
+    append_candidates, append_chosen, append_known, append_lead_of, append_names_with_rows,
+    append_rows,
+};
 use crate::cache_shown::{
     append_counters, append_namers, append_names, append_offers, append_packages,
     append_satisfiers, append_unmet, tables,
@@ -50,7 +54,7 @@ const STATUS: &str =
 
 /// What is done with a cache.
 #[derive(Clone, Copy)]
-enum Act<'a> {
+pub enum Act<'a> {
     /// Makes an edit, and shows how many tests it took; or why it is refused, too.
     Make(Asked<'a>),
     /// Recovers, and shows how many tests that took.
@@ -71,6 +75,18 @@ enum Act<'a> {
     Unmet,
     /// Shows all of these.
     Tables,
+    /// Shows the rows of a name.
+    Rows(&'a [u8]),
+    /// Shows the lead of a name and a version.
+    Lead(&'a [u8], &'a [u8]),
+    /// Shows what is chosen of a name.
+    Chosen(&'a [u8]),
+    /// Shows what is chosen of all names.
+    Candidates,
+    /// Shows the names that have a row.
+    NamesWithRows,
+    /// Shows whether a name is known, and has a row.
+    Known(&'a [u8]),
     /// Shows the count of tests.
     Steps,
     /// Shows the numbers of what the store holds, and its limits.
@@ -149,6 +165,12 @@ fn append_view(
         Act::Counters => append_counters(alloc, cache, all),
         Act::Unmet => append_unmet(alloc, cache, all),
         Act::Tables => append_tables(alloc, cache, all),
+        Act::Rows(name) => append_rows(alloc, cache, name, all),
+        Act::Lead(name, version) => append_lead_of(alloc, cache, name, version, all),
+        Act::Chosen(name) => append_chosen(alloc, cache, name, all),
+        Act::Candidates => append_candidates(alloc, cache, all),
+        Act::NamesWithRows => append_names_with_rows(cache, all),
+        Act::Known(name) => append_known(cache, name, all),
         Act::Steps => append_steps(alloc, cache, all),
         Act::Numbers => append_numbers(alloc, cache.store(), all),
         _ => Ok(()),
@@ -190,7 +212,7 @@ fn came_under(alloc: Global, limits: Limits, acts: &[Act<'_>]) -> Result<Vec<u8>
 }
 
 /// The same without limits.
-fn came(alloc: Global, acts: &[Act<'_>]) -> Result<Vec<u8>, Fail> {
+pub fn came(alloc: Global, acts: &[Act<'_>]) -> Result<Vec<u8>, Fail> {
     let mut cache = Cache::new(alloc);
     came_in(alloc, &mut cache, acts)
 }

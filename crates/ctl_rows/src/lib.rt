@@ -18,7 +18,9 @@ mod bodies;
 #[cfg(test)]
 mod cache;
 #[cfg(test)]
+mod cache_rows;
 mod cache_shown;
+mod candidates;
 #[cfg(test)]
 mod control_text;
 #[cfg(test)]
@@ -73,6 +75,8 @@ mod states;
 mod store;
 #[cfg(test)]
 mod tables;
+#[cfg(test)]
+mod touched;
 #[cfg(test)]
 mod version_table;
 #[cfg(test)]

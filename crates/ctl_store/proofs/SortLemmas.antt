@@ -1,6 +1,7 @@
 -- Sorting the serials of new rows gives the order that is kept.
-use Rattle.std.proofs.Common.{◌≡◌, ℕ, zero, suc, Box, ◌+◌, ◌<◌, ◌≤◌, Bool, true, false, cond, nat_eq, List, [], ◌∷◌, length, map, get_or, Some, option_map, refl, ap, sym, subst, ◌∙◌, arith, sum_by}
-use Rattle.std.specs.List.{AllByRecursion, slice_get}
+use Rattle.std.proofs.Common.{◌≡◌, ℕ, zero, suc, Box, ◌+◌, ◌<◌, ◌≤◌, Bool, true, false, cond, not, nat_eq, List, [], ◌∷◌, length, map, get_or, Some, option_map, refl, ap, sym, subst, ◌∙◌, arith, sum_by}
+use Rattle.std.specs.Bool.{OnTrue}
+use Rattle.std.specs.List.{AllByRecursion, IsAllAdjacentAnswer, slice_get}
 use Rattle.std.specs.List.Sorted.{IsPermutation, IsSortedBy}
 use Rattle.std.specs.Cmp.{IsTotalOrder, nat_cmp_total}
 use Rattle.std.specs.Cmp.Lexicographic.{options_total}
@@ -220,3 +221,14 @@ pub id_at_stanza : {A : Type 0} (n : ℕ) (xs : List (Box Content A)) (k : ℕ) 
 id_at_stanza n [] k = refl
 id_at_stanza n (x ∷ xs) zero = refl
 id_at_stanza n (x ∷ xs) (suc k) = id_at_stanza (suc n) xs k
+
+-- ---- places that stand in order already
+
+not_false : (b : Bool) → true ≡ not b → b ≡ false
+not_false false e = refl
+not_false true e = e
+
+-- what a test of each place and the next one says
+pub in_order : (lt : ℕ → ℕ → Bool) (xs : List ℕ) (r : Bool) → IsAllAdjacentAnswer (λ x y b. b ≡ not (lt y x)) xs r → OnTrue r (IsSortedBy lt xs)
+in_order lt xs true h = λ k d low high. not_false _ (h k d high)
+in_order lt xs false h = tt

@@ -1,6 +1,8 @@
 //! The order of names and versions, by which the stanzas of a list are found.
 
 ghost use Rattle.std.specs.Prelude.{◌≡◌, ◌<◌, ◌≤◌, ℕ, [], IfSome, length, map, option_map, option_copied};
+ghost use Rattle.std.specs.Bool.{OnTrue};
+ghost use Rattle.std.specs.List.Sorted.{IsSortedBy};
 ghost use Rattle.std.specs.Vec.{vec_capacity};
 ghost use Rattle.std.specs.Option.{option_cmp};
 ghost use Rattle.ctl_store.specs.Step.{place};
@@ -95,6 +97,13 @@ fn push_places(order: &mut Vec<u64>, stanzas: &[Box<Stanza>])
     }
 }
 
+// Whether places stand in the order of names and versions already, as those of an archive's list do.
+fn are_in_order(stanzas: &[Box<Stanza>], order: &[u64]) -> bool
+    ensures { OnTrue result (IsSortedBy (λ one other. is_lt (place_cmp (rows_from 0 (map (λ stanza. stanza.value) stanzas.now)) one other)) order.now) }
+{
+    order.is_sorted_by(|one, other| !compare_places(stanzas, *other, *one).is_lt())
+}
+
 /// The serials of stanzas, which are their places, in the order of names and versions. There is room for them.
 pub(crate) fn sort_serials(stanzas: &[Box<Stanza>], order: &mut Vec<u64>)
     requires none { order.old.items ≡ [] }
@@ -102,6 +111,9 @@ pub(crate) fn sort_serials(stanzas: &[Box<Stanza>], order: &mut Vec<u64>)
     ensures { order.new.items ≡ sorted_serials (rows_from 0 (map (λ stanza. stanza.value) stanzas.now)) }
 {
     push_places(order, stanzas);
+    if are_in_order(stanzas, order) {
+        return;
+    }
     order.sort_unstable_by(|one, other| compare_places(stanzas, *one, *other));
 }
 

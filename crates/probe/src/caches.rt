@@ -5,6 +5,7 @@ ghost use Rattle.std.specs.Prelude.{◌≡◌, false};
 use crate::edits::edit_named;
 use crate::hexadecimal::append_word;
 use crate::parts::append_version;
+use crate::policies::append_policies;
 use crate::state::{append_key, append_state};
 use crate::words::Words;
 use anyhow::{Result, bail};
@@ -145,6 +146,17 @@ fn append_recovered(
     append_views(alloc, cache, line)
 }
 
+fn append_kept_policies(
+    alloc: Global,
+    cache: &Cache,
+    line: &mut Vec<u8>,
+) -> Result<(), AllocError> {
+    if cache.is_stale() {
+        return line.extend_from_slice(b"stale");
+    }
+    append_policies(alloc, cache, line)
+}
+
 fn append_packages_of_word(
     alloc: Global,
     cache: &Cache,
@@ -218,6 +230,7 @@ pub fn append_followed(
             line.extend_from_slice(b"new")?;
         }
         "views" => append_recovered(alloc, cache, line)?,
+        "policies" => append_kept_policies(alloc, cache, line)?,
         "packages" => append_packages_of_word(alloc, cache, &mut words, line)?,
         "steps" => append_steps(alloc, cache, line)?,
         "dump" => append_state(alloc, cache.store(), &mut words, line)?,

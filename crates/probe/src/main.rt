@@ -9,7 +9,8 @@
 //!   one such text, and how many stanzas or records it has is printed instead.
 //! - `index`: the same edits of a kept cache; each is answered by `ok`, or `refused` and the number of the refusal, and then the
 //!   count of tests. `limits` begins with a new cache; `views` is answered by all that the tables tell, which are made anew
-//!   before that where they are stale; `packages`, with a prefix, by the names of packages that begin so; `steps` by the count of tests and whether the tables are stale; and `dump` as of a store.
+//!   before that where they are stale; `packages`, with a prefix, by the names of packages that begin so; `policies` by the priorities of lists, the rows of each package
+//!   with theirs, and what is chosen; `steps` by the count of tests and whether the tables are stale; and `dump` as of a store.
 //!   With a second argument `measure` each edit is answered by what came of it, the count of tests and how long it took.
 //! - `store`: an edit, by its name and its parts with tabs between them, in which bytes stand as hexadecimal digits; it is
 //!   answered by `ok`, the keys that went and came and the text of the first stanza that came, or by `foretold` and the number
@@ -26,6 +27,7 @@ mod edits;
 mod hexadecimal;
 mod measure;
 mod parts;
+mod policies;
 mod relations;
 mod state;
 mod stores;

@@ -15,7 +15,7 @@ returns-clause-tables c =
     let h = c.args.store.now in
     let keys = c.args.keys.now in
     put_law (in_store h) keys (standing h) [] c.args.tables.now c.put_all.new.tables (joined_all h keys c.requires.keys c.requires.found) c.requires.empty tt (come_apart h keys c.requires.keys c.requires.found c.requires.rising) tt
-    (store_seen h (rising_apart (keyed_of h).lists c.requires.rising)) c.in_ok-put_all.ensures.tables
+    (store_seen h (rising_apart (keyed_of h).lists c.requires.rising)) c.rows_follow_keys.ensures.come c.in_ok-put_all.ensures.tables
 
 pub returns-clause-steps : goal.returns-clause-steps
 returns-clause-steps c =

@@ -2,7 +2,7 @@ use Rattle.std.proofs.Common.{◌≡◌, ℕ, List, drop, take}
 use Rattle.std.specs.BTreeMap.{get}
 use Rattle.ctl_index.specs.declared.keys.ClauseKey.{ClauseKey}
 use Rattle.ctl_index.specs.Clauses.{clause_cmp}
-use Rattle.ctl_index.specs.TablesByName.{offers_under, namers_under}
+use Rattle.ctl_index.specs.TablesByName.{offers_under, namers_under, rows_under}
 use Rattle.ctl_index.specs.TablesSight.{seen}
 use Rattle.ctl_index.specs.TablesSteps.{with_each, put_atoms_step, enter_step, atoms_tested}
 use Rattle.ctl_index.specs.Work.{more_by}
@@ -12,6 +12,7 @@ abbrev pub invariant-loop-key : goal.invariant-loop-key
 invariant-loop-key l = record {
   namers : (q : List ℕ) → with_each (seen l.fn.sight) (put_atoms_step q) (drop l.key-index l.fn.keys) (namers_under l.tables.names.map q) ≡ with_each (seen l.fn.sight) (put_atoms_step q) l.fn.keys (namers_under l.fn.tables.names.map q);
   offers : offers_under l.tables.names.map ≡ offers_under l.fn.tables.names.map;
+  rows : rows_under l.tables.names.map ≡ rows_under l.fn.tables.names.map;
   counts : (k : ClauseKey) → with_each (seen l.fn.sight) (enter_step l.fn.sight (offers_under l.fn.tables.names.map) k) (drop l.key-index l.fn.keys) (get clause_cmp l.tables.counters.numbers k) ≡ with_each (seen l.fn.sight) (enter_step l.fn.sight (offers_under l.fn.tables.names.map) k) l.fn.keys (get clause_cmp l.fn.tables.counters.numbers k);
   steps : l.steps ≡ more_by (atoms_tested l.fn.sight (offers_under l.fn.tables.names.map) (take l.key-index l.fn.keys)) l.fn.steps;
 }

@@ -32,6 +32,7 @@ loop-atom-preserved c =
           ∙ ap (listed_group k.stanza k.field k.group q (suc p) rest) (c.in_ok-met.ensures.namers q)
           ∙ sym (ap (λ ps. listed_group k.stanza k.field k.group q p ps now) left) ∙ c.loop-atom.invariant.namers q;
       offers = (λ j q. c.in_ok-met.ensures.offers q j) ∙ c.loop-atom.invariant.offers;
+      rows = (λ j q. c.in_ok-met.ensures.rows q j) ∙ c.loop-atom.invariant.rows;
       met = omega (arith, met, one_met, c.in_ok-met.ensures.met, c.loop-atom.invariant.met);
       few = omega (arith, c.loop-atom.invariant.few, c.in_ok-met.ensures.few);
       places = omega (arith, ap length left, c.loop-atom.invariant.places);

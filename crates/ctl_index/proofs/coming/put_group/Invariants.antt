@@ -1,5 +1,5 @@
 use Rattle.std.proofs.Common.{◌≡◌, ◌≤◌, ◌+◌, ◌-◌, ◌*◌, ◌^◌, ℕ, List, length}
-use Rattle.ctl_index.specs.TablesByName.{offers_under, namers_under}
+use Rattle.ctl_index.specs.TablesByName.{offers_under, namers_under, rows_under}
 use Rattle.ctl_index.specs.TablesSteps.{listed_group, group_met, group_tested}
 use Rattle.ctl_index.specs.Work.{more_by}
 use Rattle.ctl_index.proofs.coming.put_group.Given as goal
@@ -9,6 +9,7 @@ abbrev pub invariant-loop-atom : goal.invariant-loop-atom
 invariant-loop-atom l = record {
   namers : (q : List ℕ) → listed_group l.fn.clause.stanza l.fn.clause.field l.fn.clause.group q l.place l.atom-iterator (namers_under l.names.map q) ≡ listed_group l.fn.clause.stanza l.fn.clause.field l.fn.clause.group q 0 l.fn.group (namers_under l.fn.names.map q);
   offers : offers_under l.names.map ≡ offers_under l.fn.names.map;
+  rows : rows_under l.names.map ≡ rows_under l.fn.names.map;
   met : l.met + group_met l.fn.sight l.fn.clause.field (offers_under l.fn.names.map) l.atom-iterator ≡ group_met l.fn.sight l.fn.clause.field (offers_under l.fn.names.map) l.fn.group;
   few : l.met ≤ l.place * 2 ^ 64;
   places : l.place + length l.atom-iterator ≡ length l.fn.group;

@@ -3,7 +3,7 @@ use Rattle.std.specs.BTreeMap.{get}
 use Rattle.ctl_relation.specs.Bounds.{atom_count}
 use Rattle.ctl_index.specs.declared.keys.ClauseKey.{ClauseKey}
 use Rattle.ctl_index.specs.Clauses.{clause_cmp}
-use Rattle.ctl_index.specs.TablesByName.{offers_under, namers_under}
+use Rattle.ctl_index.specs.TablesByName.{offers_under, namers_under, rows_under}
 use Rattle.ctl_index.specs.TablesSteps.{listed_groups, entered_groups, groups_tested}
 use Rattle.ctl_index.specs.Work.{more_by}
 use Rattle.ctl_index.proofs.coming.put_groups.Given as goal
@@ -13,6 +13,7 @@ abbrev pub invariant-loop-group : goal.invariant-loop-group
 invariant-loop-group l = record {
   namers : (q : List ℕ) → listed_groups l.fn.key l.fn.field q l.place l.group-iterator (namers_under l.tables.names.map q) ≡ listed_groups l.fn.key l.fn.field q 0 l.fn.groups (namers_under l.fn.tables.names.map q);
   offers : offers_under l.tables.names.map ≡ offers_under l.fn.tables.names.map;
+  rows : rows_under l.tables.names.map ≡ rows_under l.fn.tables.names.map;
   counts : (k : ClauseKey) → entered_groups l.fn.sight (offers_under l.fn.tables.names.map) l.fn.key l.fn.field l.place l.group-iterator k (get clause_cmp l.tables.counters.numbers k) ≡ entered_groups l.fn.sight (offers_under l.fn.tables.names.map) l.fn.key l.fn.field 0 l.fn.groups k (get clause_cmp l.fn.tables.counters.numbers k);
   places : l.place + length l.group-iterator ≡ length l.fn.groups;
   few : atom_count l.group-iterator < 2 ^ 32;

@@ -34,6 +34,7 @@ loop-i-preserved c =
           ∙ ap (listed_offers c.args.key q (suc i) (drop (i + 1) os)) (c.in_ok-put_offer.ensures.offers q ∙ ap put item)
           ∙ sym (at_drop_more (λ ps. listed_offers c.args.key q i ps now) os i o below) ∙ c.loop-i.invariant.offers q;
       namers = (λ j q. c.in_ok-put_offer.ensures.namers q j) ∙ c.loop-i.invariant.namers;
+      rows = (λ j q. c.in_ok-put_offer.ensures.rows q j) ∙ c.loop-i.invariant.rows;
       counts = λ k.
           let now = get clause_cmp c.loop-i.tables.counters.numbers k in
           ap (raised s t (drop (i + 1) os) k) (c.in_ok-put_offer.ensures.counts k ∙ ap (λ (u : List ℕ → List AtomKey). option_map (λ (n : ℕ). n + sum_by (hit s o k) (u o.name)) now) c.loop-i.invariant.namers ∙ ap (λ (p : OfferParts). option_map (λ (n : ℕ). n + sum_by (hit s p k) (t p.name)) now) item)

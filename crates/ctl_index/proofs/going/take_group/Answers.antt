@@ -22,6 +22,7 @@ loop-atom-preserved c =
           ap (left_group c.args.span q rest) (c.take_atom.ensures.namers q)
           ∙ sym (ap (λ ps. left_group c.args.span q ps (namers_under c.loop-atom.names.map q)) left) ∙ c.loop-atom.invariant.namers q;
       offers = (λ j q. c.take_atom.ensures.offers q j) ∙ c.loop-atom.invariant.offers;
+      rows = (λ j q. c.take_atom.ensures.rows q j) ∙ c.loop-atom.invariant.rows;
       steps = omega (arith, tests, one, c.take_atom.ensures.steps, c.loop-atom.invariant.steps);
       counted = omega (arith, c.take_atom.ensures.steps);
     }

@@ -32,6 +32,7 @@ loop-offer-preserved c =
           ap (left_offers c.args.span q (drop (i + 1) os)) (c.in_ok-take_offer.ensures.offers q ∙ ap taken item)
           ∙ sym (at_drop_more (λ ps. left_offers c.args.span q ps now) os i o below) ∙ c.loop-offer.invariant.offers q;
       namers = (λ j q. c.in_ok-take_offer.ensures.namers q j) ∙ c.loop-offer.invariant.namers;
+      rows = (λ j q. c.in_ok-take_offer.ensures.rows q j) ∙ c.loop-offer.invariant.rows;
       counts = λ k.
           let now = get clause_cmp c.loop-offer.tables.counters.numbers k in
           ap (lowered s t (drop (i + 1) os) k) (c.in_ok-take_offer.ensures.counts k ∙ ap (λ (u : List ℕ → List AtomKey). option_map (λ (n : ℕ). n - sum_by (hit s o k) (u o.name)) now) c.loop-offer.invariant.namers ∙ ap (λ (p : OfferParts). option_map (λ (n : ℕ). n - sum_by (hit s p k) (t p.name)) now) item)

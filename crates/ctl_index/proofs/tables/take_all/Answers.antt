@@ -1,9 +1,10 @@
 use Rattle.std.proofs.Common.{◌≡◌, ℕ, List, ap, ◌∙◌, arith}
+use Rattle.std.specs.FinMap as fin
 use Rattle.ctl_index.specs.declared.keys.AtomKey.{AtomKey}
 use Rattle.ctl_index.specs.TablesByName.{offers_under, namers_under}
 use Rattle.ctl_index.specs.TablesIndexed.{namers_taken}
 use Rattle.ctl_index.specs.TablesSight.{seen}
-use Rattle.ctl_index.specs.TablesSteps.{with_each, span_of, take_offers_step, take_atoms_step, lower_step, offers_tested, atoms_tested}
+use Rattle.ctl_index.specs.TablesSteps.{with_each, span_of, take_offers_step, take_atoms_step, take_rows_step, lower_step, offers_tested, atoms_tested}
 use Rattle.ctl_index.specs.Work.{more_by}
 use Rattle.ctl_index.proofs.CounterLemmas.{more_by_twice}
 use Rattle.ctl_index.proofs.tables.take_all.Goals as goal
@@ -17,9 +18,12 @@ returns-clause-tables c =
     let left : (q : List ℕ) → namers_under c.take_atoms.new.tables.names.map q ≡ namers_taken s keys old q =
     λ q. c.take_atoms.ensures.namers q ∙ (λ i. with_each (seen s) (take_atoms_step (span i) q) keys (namers_under old.names.map q)) in
     record {
-      offers = λ q. c.in_ok-take_offers.ensures.offers q ∙ (λ i. with_each (seen s) (take_offers_step (span i) q) keys (c.take_atoms.ensures.offers i q));
-      namers = λ q. (λ i. c.in_ok-take_offers.ensures.namers i q) ∙ left q;
+      offers = λ q. (λ i. c.take_rows.ensures.offers i q) ∙ c.in_ok-take_offers.ensures.offers q ∙ (λ i. with_each (seen s) (take_offers_step (span i) q) keys (c.take_atoms.ensures.offers i q));
+      namers = λ q. (λ i. c.take_rows.ensures.namers i q) ∙ (λ i. c.in_ok-take_offers.ensures.namers i q) ∙ left q;
       counters = λ k. c.in_ok-take_offers.ensures.counts k ∙ (λ i. with_each (seen s) (lower_step s (λ q. left q i) k) keys (c.take_atoms.ensures.counts k i));
+      rows = λ q version.
+          c.take_rows.ensures.rows q version
+          ∙ (λ i. with_each (seen s) (take_rows_step q version) keys (fin.get ((c.in_ok-take_offers.ensures.rows ∙ c.take_atoms.ensures.rows) i q) version));
     }
 
 pub returns-clause-steps : goal.returns-clause-steps

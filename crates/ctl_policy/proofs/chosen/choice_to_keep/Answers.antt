@@ -1,7 +1,7 @@
 use Rattle.std.proofs.Common.{Some, ap, sym, ◌∙◌}
 use Rattle.ctl_policy.specs.Rows.{newest_first, rows_named}
 use Rattle.ctl_policy.specs.Priority.{world_of}
-use Rattle.ctl_policy.specs.Chosen.{choice_in, if_rows}
+use Rattle.ctl_policy.specs.Chosen.{choice_in}
 use Rattle.ctl_policy.proofs.ChoiceLemmas.{shown_alike, no_rows, some_rows}
 use Rattle.ctl_policy.proofs.chosen.choice_to_keep.Goals as goal
 

@@ -1,4 +1,4 @@
-use Rattle.std.proofs.Common.{Option, None, option_copied, option_map, ap, sym, ◌∙◌}
+use Rattle.std.proofs.Common.{Option, None, option_copied, option_map, ap, ◌∙◌}
 use Rattle.std.specs.Option.{option_map_or}
 use Rattle.ctl_relation.specs.Version.{triple_of}
 use Rattle.ctl_store.specs.declared.stanza_key.StanzaKey.{StanzaKey}

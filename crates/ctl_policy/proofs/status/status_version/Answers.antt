@@ -1,4 +1,4 @@
-use Rattle.std.proofs.Common.{None, ap, sym, ◌∙◌}
+use Rattle.std.proofs.Common.{None, ap, ◌∙◌}
 use Rattle.std.specs.Option.{option_map_or}
 use Rattle.ctl_stanza.specs.Content.{version_of}
 use Rattle.ctl_store.specs.Held.{keyed_of}

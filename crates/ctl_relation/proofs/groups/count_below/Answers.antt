@@ -1,4 +1,4 @@
-use Rattle.std.proofs.Common.{sym, nat_lt, ltb, arith, rules, length}
+use Rattle.std.proofs.Common.{sym, nat_lt, arith, rules}
 use Rattle.std.proofs.lemmas.List.Sums.{prefix_len_is}
 use Rattle.std.proofs.lemmas.List.Sorted.{IsPartitionPoint-from_clause, IsPartitionedBy-ltb}
 use Rattle.ctl_relation.proofs.PlaceLemmas.{rise-sorted}

@@ -1,4 +1,4 @@
-use Rattle.std.proofs.Common.{◌≡◌, ◌∙◌, ◌++◌, ◌∷◌, [], ap, sym}
+use Rattle.std.proofs.Common.{◌∙◌, ◌++◌, ◌∷◌, [], ap, sym}
 use Rattle.std.proofs.lemmas.Result.{err_from_is_err_and}
 use Rattle.ctl_relation.proofs.GroupLemmas.{at_start, end-blanks, group_fault, group_last, last_read, next_group, no_more, skip_comma}
 use Rattle.ctl_relation.proofs.reading.read_groups.Goals as goal

@@ -15,7 +15,7 @@ pub returns-clause-namers : goal.returns-clause-namers
 returns-clause-namers c =
     let h = c.self.inside.store in
     let fresh = ap (λ w. w.stale) c.self.view_is ∙ c.requires in
-    let was = c.self.invariant fresh in
+    let was = (c.self.invariant fresh).0 in
     let sees : AreSeen (in_store h) (standing h) = store_seen h (rising_apart (keyed_of h).lists c.counts-counts.ensures.order) in
     subst (λ (w : HeldCache). IsPermutation (namers_named c.args.name.now (standing w.store)) c.namers.result.now) c.self.view_is
     (subst (IsPermutation (namers_named c.args.name.now (standing h))) (sym c.namers.ensures) (namers_permuted h (standing h) c.self.inside.tables was sees c.args.name.now))
@@ -24,7 +24,7 @@ pub returns-clause-held : goal.returns-clause-held
 returns-clause-held c =
     let h = c.self.inside.store in
     let fresh = ap (λ w. w.stale) c.self.view_is ∙ c.requires in
-    let was = c.self.invariant fresh in
+    let was = (c.self.invariant fresh).0 in
     let sees : AreSeen (in_store h) (standing h) = store_seen h (rising_apart (keyed_of h).lists c.counts-counts.ensures.order) in
     subst (λ (w : HeldCache). AreHeld (map (λ (k : AtomKey). k.stanza) c.namers.result.now) (keyed_of w.store).lists) c.self.view_is
     (keys_held h c.namers.result.now (subst (AllByRecursion (λ (k : AtomKey). is_some (stanza_at k.stanza (keyed_of h).lists) ≡ true)) (sym c.namers.ensures) (namers_held h (standing h) c.self.inside.tables was sees c.args.name.now)))

@@ -5,11 +5,12 @@ use Rattle.ctl_index.specs.Names.{known_names}
 use Rattle.ctl_index.specs.Work.{stanzas_of_state}
 use Rattle.ctl_index.proofs.LawLemmas.{contents_of_state}
 use Rattle.ctl_index.proofs.NamesLemmas.{known_is}
+use Rattle.ctl_index.proofs.OfferedLemmas.{rows_offered}
 use Rattle.ctl_index.proofs.cache.Cache.names.Goals as goal
 
 pub returns : goal.returns
 returns c =
     let h = c.self.inside.store in
     let fresh = ap (λ w. w.stale) c.self.view_is ∙ c.requires in
-    ap (map (λ (k : Vec ℕ Global). k.items)) c.keys.ensures.keys ∙ known_is (standing h) c.self.inside.tables (c.self.invariant fresh) c.keys.ensures.used c.keys.ensures.ordered
+    ap (map (λ (k : Vec ℕ Global). k.items)) c.keys.ensures.keys ∙ known_is (standing h) c.self.inside.tables (c.self.invariant fresh).0 c.keys.ensures.used (rows_offered (standing h) c.self.inside.tables (c.self.invariant fresh).0) c.keys.ensures.ordered
     ∙ ap known_names (contents_of_state (keyed_of h).lists) ∙ ap (λ (w : HeldCache). known_names (stanzas_of_state (state_of w.store))) c.self.view_is

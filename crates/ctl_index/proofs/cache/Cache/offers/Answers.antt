@@ -17,7 +17,7 @@ pub invariant_of-result : goal.invariant_of-result
 invariant_of-result c =
     let h = c.self.inside.store in
     let fresh = ap (λ w. w.stale) c.self.view_is ∙ c.requires in
-    let was = c.self.invariant fresh in
+    let was = (c.self.invariant fresh).0 in
     let sees : AreSeen (in_store h) (standing h) = store_seen h (rising_apart (keyed_of h).lists c.counts-counts.ensures.order) in
     subst (AreFound h) (sym c.offers.ensures) (offers_found h (standing h) c.self.inside.tables was sees c.args.name.now)
 
@@ -25,7 +25,7 @@ pub returns-clause-offers : goal.returns-clause-offers
 returns-clause-offers c =
     let h = c.self.inside.store in
     let fresh = ap (λ w. w.stale) c.self.view_is ∙ c.requires in
-    let was = c.self.invariant fresh in
+    let was = (c.self.invariant fresh).0 in
     let sees : AreSeen (in_store h) (standing h) = store_seen h (rising_apart (keyed_of h).lists c.counts-counts.ensures.order) in
     subst (λ (w : HeldCache). IsPermutation (offers_named c.args.name.now (standing w.store)) (map (offer_found h) c.offers.result.now)) c.self.view_is
     (subst (λ (ks : List OfferKey). IsPermutation (offers_named c.args.name.now (standing h)) (map (offer_found h) ks)) (sym c.offers.ensures) (offers_permuted h (standing h) c.self.inside.tables was sees c.args.name.now))
@@ -34,7 +34,7 @@ pub returns-clause-held : goal.returns-clause-held
 returns-clause-held c =
     let h = c.self.inside.store in
     let fresh = ap (λ w. w.stale) c.self.view_is ∙ c.requires in
-    let was = c.self.invariant fresh in
+    let was = (c.self.invariant fresh).0 in
     let sees : AreSeen (in_store h) (standing h) = store_seen h (rising_apart (keyed_of h).lists c.counts-counts.ensures.order) in
     subst (λ (w : HeldCache). AreHeld (map (λ (o : StanzaKey × OfferParts). o.0) (map (offer_found h) c.offers.result.now)) (keyed_of w.store).lists) c.self.view_is
     (found_held h c.offers.result.now (subst (AreFound h) (sym c.offers.ensures) (offers_found h (standing h) c.self.inside.tables was sees c.args.name.now)))

@@ -28,7 +28,7 @@ returns-clause-members c = λ name.
     let es = c.self.inside.tables.names.map.entries in
     let fresh = ap (λ w. w.stale) c.self.view_is ∙ c.requires in
     ap (λ (ds : List NamedEntry). list_any (bytes_eq name) (packages_with p ds)) c.range_from-entries.ensures.entries ∙ ap (list_any (bytes_eq name)) (range_with p es)
-    ∙ packages_are name p (standing h) c.self.inside.tables (c.self.invariant fresh) (entries_sorted es c.range_from-entries.ensures.ordered)
+    ∙ packages_are name p (standing h) c.self.inside.tables (c.self.invariant fresh).0 (entries_sorted es c.range_from-entries.ensures.ordered)
     ∙ ap (λ t. starts_with nat_eq name t && is_package (contents (standing h)) name) c.in_ok-prefix.ensures.items
     ∙ ap (λ xs. starts_with nat_eq name c.args.prefix.now && is_package xs name) (contents_of_state (keyed_of h).lists)
     ∙ ap (λ (w : HeldCache). starts_with nat_eq name c.args.prefix.now && is_package (stanzas_of_state (state_of w.store)) name) c.self.view_is

@@ -1,57 +1,75 @@
-use Rattle.std.proofs.Common.{◌≡◌, ◌+◌, ℕ, List, length, nat_eq, ◌&&◌, not, cond, option_map, ap, subst, ◌∙◌, rules, OnOk}
+use Rattle.std.proofs.Common.{[], ◌≡◌, ◌+◌, ℕ, List, length, nat_eq, ◌&&◌, not, cond, option_map, ap, sym, subst, ◌∙◌, rules, OnOk}
 use Rattle.std.specs.BTreeMap.{get}
 use Rattle.std.specs.List.{sum_by}
 use Rattle.std.specs.Str.{bytes_eq}
+use Rattle.ctl_policy.specs.Chosen.{at_bytes}
 use Rattle.ctl_index.specs.declared.keys.AtomKey.{AtomKey}
 use Rattle.ctl_index.specs.declared.keys.ClauseKey.{ClauseKey}
 use Rattle.ctl_index.specs.declared.keys.OfferKey.{OfferKey}
 use Rattle.ctl_index.specs.declared.named.Named.{Named}
 use Rattle.ctl_index.specs.Clauses.{clause_cmp}
-use Rattle.ctl_index.specs.TablesByName.{offers_under, namers_under, named_offers, named_namers}
+use Rattle.std.specs.FinMap as fin
+use Rattle.ctl_index.specs.TablesByName.{rows_under, named_rows, offers_under, namers_under, named_offers, named_namers}
 use Rattle.ctl_index.specs.TablesSight.{hit}
 use Rattle.ctl_index.specs.TablesOrder.{offer_stanza, put_in_order}
-use Rattle.ctl_index.proofs.NameLemmas.{changed, unchanged, part-found, used_written, used_found, used_more, on_ok}
+use Rattle.ctl_index.proofs.NameLemmas.{on_ok_map, none_new, changed, unchanged, part-found, used_written, used_found, used_more, on_ok}
 use Rattle.ctl_index.proofs.name_table.NameTable.put_offer.Goals as goal
 
 pub invariant_of-self : goal.invariant_of-self
 invariant_of-self c =
     let m = c.args.self.now.map in
     let v = c.in-Some.named.now in
-    let w : Named = record { offers = c.put.new.self; namers = v.namers } in
+    let w : Named = record { offers = c.put.new.self; namers = v.namers; rows = v.rows } in
     record {
       used = used_written c.name.result.now m (c.get_mut.follows.lender w) w ((c.get_mut.follows.holds w).3 (search rules))
-          (ap (λ (os : List OfferKey). not (nat_eq (length os) 0 && nat_eq (length (named_namers v)) 0)) c.in_err-put-in-Some.ensures.err ∙ used_found m c.name.result.now v c.in-Some.ensures.value c.args.self.now.used) c.args.self.now.used;
+          (ap (λ (os : List OfferKey). not ((nat_eq (length os) 0 && nat_eq (length (named_namers v)) 0) && nat_eq (fin.len (named_rows v)) 0)) c.in_err-put-in-Some.ensures.err ∙ used_found m c.name.result.now v c.in-Some.ensures.value c.args.self.now.used) c.args.self.now.used;
     }
 
 pub invariant_of-self-in-Some : goal.invariant_of-self-in-Some
 invariant_of-self-in-Some c =
     let m = c.args.self.now.map in
     let v = c.in-Some.named.now in
-    let w : Named = record { offers = c.put.new.self; namers = v.namers } in
+    let w : Named = record { offers = c.put.new.self; namers = v.namers; rows = v.rows } in
     record {
       used = used_written c.name.result.now m (c.get_mut.follows.lender w) w ((c.get_mut.follows.holds w).3 (search rules))
-          (ap (λ (os : List OfferKey). not (nat_eq (length os) 0 && nat_eq (length (named_namers v)) 0)) c.in_ok-put-in-Some.ensures.ok ∙ used_more offer_stanza (named_offers v) c.args.key (nat_eq (length (named_namers v)) 0)) c.args.self.now.used;
+          (ap (λ (os : List OfferKey). not ((nat_eq (length os) 0 && nat_eq (length (named_namers v)) 0) && nat_eq (fin.len (named_rows v)) 0)) c.in_ok-put-in-Some.ensures.ok ∙ used_more offer_stanza (named_offers v) c.args.key (nat_eq (length (named_namers v)) 0) (nat_eq (fin.len (named_rows v)) 0)) c.args.self.now.used;
     }
 
 pub returns-in_ok-put-in-Some-clause-offers : goal.returns-in_ok-put-in-Some-clause-offers
 returns-in_ok-put-in-Some-clause-offers c =
     let m = c.args.self.now.map in
     let v = c.in-Some.named.now in
-    let w : Named = record { offers = c.put.new.self; namers = v.namers } in
+    let w : Named = record { offers = c.put.new.self; namers = v.namers; rows = v.rows } in
     let f : List OfferKey → List OfferKey = λ l. put_in_order offer_stanza c.args.key l in
     on_ok c.meet.result (λ q.
-    changed named_offers c.name.result.now m (c.get_mut.follows.lender w) w f ((c.get_mut.follows.holds w).3 (search rules)) (c.in_ok-put-in-Some.ensures.ok ∙ ap f (part-found named_offers c.name.result.now m _ c.in-Some.ensures.value)) q
+    changed named_offers [] c.name.result.now m (c.get_mut.follows.lender w) w f ((c.get_mut.follows.holds w).3 (search rules)) (c.in_ok-put-in-Some.ensures.ok ∙ ap f (part-found named_offers [] c.name.result.now m _ c.in-Some.ensures.value)) q
     ∙ ap (λ b. cond (bytes_eq b q) (f (offers_under m q)) (offers_under m q)) c.name.ensures)
 
 pub returns-in_ok-put-in-Some-clause-namers : goal.returns-in_ok-put-in-Some-clause-namers
 returns-in_ok-put-in-Some-clause-namers c =
     let m = c.args.self.now.map in
     let v = c.in-Some.named.now in
-    let w : Named = record { offers = c.put.new.self; namers = v.namers } in
-    on_ok c.meet.result (unchanged named_namers c.name.result.now m (c.get_mut.follows.lender w) w ((c.get_mut.follows.holds w).3 (search rules)) (part-found named_namers c.name.result.now m _ c.in-Some.ensures.value))
+    let w : Named = record { offers = c.put.new.self; namers = v.namers; rows = v.rows } in
+    on_ok c.meet.result (unchanged named_namers [] c.name.result.now m (c.get_mut.follows.lender w) w ((c.get_mut.follows.holds w).3 (search rules)) (part-found named_namers [] c.name.result.now m _ c.in-Some.ensures.value))
 
 pub returns-in_ok-put-in-Some-clause-counts : goal.returns-in_ok-put-in-Some-clause-counts
 returns-in_ok-put-in-Some-clause-counts c =
     let m = c.args.self.now.map in
-    let same : c.as_slice.result.now ≡ namers_under m c.args.offer.now.name = c.as_slice.ensures ∙ part-found named_namers c.name.result.now m _ c.in-Some.ensures.value ∙ ap (namers_under m) c.name.ensures in
+    let same : c.as_slice.result.now ≡ namers_under m c.args.offer.now.name = c.as_slice.ensures ∙ part-found named_namers [] c.name.result.now m _ c.in-Some.ensures.value ∙ ap (namers_under m) c.name.ensures in
     subst (λ (xs : List AtomKey). OnOk c.meet.result ((k : ClauseKey) → get clause_cmp c.meet.new.counters.numbers k ≡ option_map (λ (n : ℕ). n + sum_by (hit c.args.sight.now c.args.offer.now k) xs) (get clause_cmp c.args.counters.now.numbers k))) same c.meet.ensures.counts
+
+pub returns-in_ok-put-in-Some-clause-rows : goal.returns-in_ok-put-in-Some-clause-rows
+returns-in_ok-put-in-Some-clause-rows c =
+    let m = c.args.self.now.map in
+    let v = c.in-Some.named.now in
+    let w : Named = record { offers = c.put.new.self; namers = v.namers; rows = v.rows } in
+    on_ok c.meet.result (unchanged named_rows fin.empty c.name.result.now m (c.get_mut.follows.lender w) w ((c.get_mut.follows.holds w).3 (search rules)) (part-found named_rows fin.empty c.name.result.now m _ c.in-Some.ensures.value))
+
+pub returns-in_ok-of_one-in-None-clause-rows : goal.returns-in_ok-of_one-in-None-clause-rows
+returns-in_ok-of_one-in-None-clause-rows c =
+    let m = c.args.self.now.map in
+    let bs = c.name-in-None.result.now in
+    let same : (q : List ℕ) → rows_under c.get_mut.follows.lender-at-none q ≡ rows_under m q = λ q. search rules in
+    on_ok_map c.insert.result (λ h q.
+    h q ∙ ap (cond (bytes_eq bs q) c.new-in-None.result) (same q)
+    ∙ none_new bs m c.new-in-None.result (c.in-None.ensures.value ∙ ap (at_bytes m) (c.name.ensures ∙ sym c.name-in-None.ensures)) c.new-in-None.ensures q) c.insert.ensures.rows

@@ -1,8 +1,10 @@
 use Rattle.std.proofs.Common.{◌≡◌, ℕ, [], List, Some, None, cond, ap, sym, subst, ◌∙◌, rules}
 use Rattle.std.specs.Str.{bytes_eq}
 use Rattle.ctl_index.specs.declared.keys.OfferKey.{OfferKey}
+use Rattle.ctl_policy.specs.Rows.{Rows}
 use Rattle.ctl_index.specs.declared.named.Named.{Named}
-use Rattle.ctl_index.specs.TablesByName.{offers_under, namers_under, named_offers, named_namers}
+use Rattle.std.specs.FinMap as fin
+use Rattle.ctl_index.specs.TablesByName.{rows_under, named_rows, offers_under, namers_under, named_offers, named_namers}
 use Rattle.ctl_index.specs.TablesOrder.{others, atom_stanza}
 use Rattle.ctl_index.proofs.NameLemmas.{Writes, changed, unchanged, replaced, part-found, used_written, used_replaced, nothing_left, same_either}
 use Rattle.ctl_index.proofs.name_table.NameTable.take_atom.Goals as goal
@@ -11,7 +13,7 @@ pub invariant_of-self-then-not-is_used : goal.invariant_of-self-then-not-is_used
 invariant_of-self-then-not-is_used c =
     let m = c.args.self.now.map in
     let v = c.in-Some.named.now in
-    let w : Named = record { offers = v.offers; namers = c.take.new.self } in
+    let w : Named = record { offers = v.offers; namers = c.take.new.self; rows = v.rows } in
     let bs = c.name.result.now in
     let n = c.get_mut.follows.lender w in
     let writes : Writes bs m n (Some w) = (c.get_mut.follows.holds w).3 (search rules) in
@@ -22,7 +24,7 @@ pub invariant_of-self-else-not-is_used : goal.invariant_of-self-else-not-is_used
 invariant_of-self-else-not-is_used c =
     let m = c.args.self.now.map in
     let v = c.in-Some.named.now in
-    let w : Named = record { offers = v.offers; namers = c.take.new.self } in
+    let w : Named = record { offers = v.offers; namers = c.take.new.self; rows = v.rows } in
     let bs = c.name.result.now in
     let n = c.get_mut.follows.lender w in
     let writes : Writes bs m n (Some w) = (c.get_mut.follows.holds w).3 (search rules) in
@@ -32,48 +34,71 @@ pub returns-then-not-is_used-clause-namers : goal.returns-then-not-is_used-claus
 returns-then-not-is_used-clause-namers c =
     let m = c.args.self.now.map in
     let v = c.in-Some.named.now in
-    let w : Named = record { offers = v.offers; namers = c.take.new.self } in
+    let w : Named = record { offers = v.offers; namers = c.take.new.self; rows = v.rows } in
     let bs = c.name.result.now in
     let n = c.get_mut.follows.lender w in
     let writes : Writes bs m n (Some w) = (c.get_mut.follows.holds w).3 (search rules) in
     let removes : Writes bs n c.remove.new.self None = subst (λ (b : List ℕ). Writes b n c.remove.new.self None) (c.name-then-not-is_used.ensures ∙ sym c.name.ensures) c.remove.ensures.updates in
     let left = nothing_left w (sym c.is_used.ensures ∙ c.if-not-is_used.true) in
-    let none : others atom_stanza c.args.span (namers_under m bs) ≡ [] = sym (c.take.ensures ∙ ap (others atom_stanza c.args.span) (part-found named_namers bs m _ c.in-Some.ensures.value)) ∙ left.1 in
+    let none : others atom_stanza c.args.span (namers_under m bs) ≡ [] = sym (c.take.ensures ∙ ap (others atom_stanza c.args.span) (part-found named_namers [] bs m _ c.in-Some.ensures.value)) ∙ left.namers in
     λ q.
-    replaced named_namers bs m n c.remove.new.self w (others atom_stanza c.args.span) writes removes none q
+    replaced named_namers [] bs m n c.remove.new.self w (others atom_stanza c.args.span) writes removes none q
     ∙ ap (λ b. cond (bytes_eq b q) (others atom_stanza c.args.span (namers_under m q)) (namers_under m q)) c.name.ensures
 
 pub returns-then-not-is_used-clause-offers : goal.returns-then-not-is_used-clause-offers
 returns-then-not-is_used-clause-offers c =
     let m = c.args.self.now.map in
     let v = c.in-Some.named.now in
-    let w : Named = record { offers = v.offers; namers = c.take.new.self } in
+    let w : Named = record { offers = v.offers; namers = c.take.new.self; rows = v.rows } in
     let bs = c.name.result.now in
     let n = c.get_mut.follows.lender w in
     let writes : Writes bs m n (Some w) = (c.get_mut.follows.holds w).3 (search rules) in
     let removes : Writes bs n c.remove.new.self None = subst (λ (b : List ℕ). Writes b n c.remove.new.self None) (c.name-then-not-is_used.ensures ∙ sym c.name.ensures) c.remove.ensures.updates in
     let left = nothing_left w (sym c.is_used.ensures ∙ c.if-not-is_used.true) in
     let f : List OfferKey → List OfferKey = λ l. l in
-    λ q. replaced named_offers bs m n c.remove.new.self w f writes removes (sym (part-found named_offers bs m _ c.in-Some.ensures.value) ∙ left.0) q ∙ same_either (bytes_eq bs q) (offers_under m q)
+    λ q. replaced named_offers [] bs m n c.remove.new.self w f writes removes (sym (part-found named_offers [] bs m _ c.in-Some.ensures.value) ∙ left.offers) q ∙ same_either (bytes_eq bs q) (offers_under m q)
 
 pub returns-else-not-is_used-clause-namers : goal.returns-else-not-is_used-clause-namers
 returns-else-not-is_used-clause-namers c =
     let m = c.args.self.now.map in
     let v = c.in-Some.named.now in
-    let w : Named = record { offers = v.offers; namers = c.take.new.self } in
+    let w : Named = record { offers = v.offers; namers = c.take.new.self; rows = v.rows } in
     let bs = c.name.result.now in
     let n = c.get_mut.follows.lender w in
     let writes : Writes bs m n (Some w) = (c.get_mut.follows.holds w).3 (search rules) in
     λ q.
-    changed named_namers bs m n w (others atom_stanza c.args.span) writes (c.take.ensures ∙ ap (others atom_stanza c.args.span) (part-found named_namers bs m _ c.in-Some.ensures.value)) q
+    changed named_namers [] bs m n w (others atom_stanza c.args.span) writes (c.take.ensures ∙ ap (others atom_stanza c.args.span) (part-found named_namers [] bs m _ c.in-Some.ensures.value)) q
     ∙ ap (λ b. cond (bytes_eq b q) (others atom_stanza c.args.span (namers_under m q)) (namers_under m q)) c.name.ensures
 
 pub returns-else-not-is_used-clause-offers : goal.returns-else-not-is_used-clause-offers
 returns-else-not-is_used-clause-offers c =
     let m = c.args.self.now.map in
     let v = c.in-Some.named.now in
-    let w : Named = record { offers = v.offers; namers = c.take.new.self } in
+    let w : Named = record { offers = v.offers; namers = c.take.new.self; rows = v.rows } in
     let bs = c.name.result.now in
     let n = c.get_mut.follows.lender w in
     let writes : Writes bs m n (Some w) = (c.get_mut.follows.holds w).3 (search rules) in
-    unchanged named_offers bs m n w writes (part-found named_offers bs m _ c.in-Some.ensures.value)
+    unchanged named_offers [] bs m n w writes (part-found named_offers [] bs m _ c.in-Some.ensures.value)
+
+pub returns-then-not-is_used-clause-rows : goal.returns-then-not-is_used-clause-rows
+returns-then-not-is_used-clause-rows c =
+    let m = c.args.self.now.map in
+    let v = c.in-Some.named.now in
+    let w : Named = record { offers = v.offers; namers = c.take.new.self; rows = v.rows } in
+    let bs = c.name.result.now in
+    let n = c.get_mut.follows.lender w in
+    let writes : Writes bs m n (Some w) = (c.get_mut.follows.holds w).3 (search rules) in
+    let removes : Writes bs n c.remove.new.self None = subst (λ (b : List ℕ). Writes b n c.remove.new.self None) (c.name-then-not-is_used.ensures ∙ sym c.name.ensures) c.remove.ensures.updates in
+    let left = nothing_left w (sym c.is_used.ensures ∙ c.if-not-is_used.true) in
+    let f : Rows → Rows = λ l. l in
+    λ q. replaced named_rows fin.empty bs m n c.remove.new.self w f writes removes (sym (part-found named_rows fin.empty bs m _ c.in-Some.ensures.value) ∙ left.rows) q ∙ same_either (bytes_eq bs q) (rows_under m q)
+
+pub returns-else-not-is_used-clause-rows : goal.returns-else-not-is_used-clause-rows
+returns-else-not-is_used-clause-rows c =
+    let m = c.args.self.now.map in
+    let v = c.in-Some.named.now in
+    let w : Named = record { offers = v.offers; namers = c.take.new.self; rows = v.rows } in
+    let bs = c.name.result.now in
+    let n = c.get_mut.follows.lender w in
+    let writes : Writes bs m n (Some w) = (c.get_mut.follows.holds w).3 (search rules) in
+    unchanged named_rows fin.empty bs m n w writes (part-found named_rows fin.empty bs m _ c.in-Some.ensures.value)

@@ -3,9 +3,11 @@ use Rattle.std.specs.BTreeMap.{get}
 use Rattle.std.specs.List.{sum_by}
 use Rattle.std.specs.Str.{bytes_eq}
 use Rattle.ctl_index.specs.declared.keys.AtomKey.{AtomKey}
+use Rattle.ctl_policy.specs.Rows.{Rows}
 use Rattle.ctl_index.specs.declared.named.Named.{Named}
 use Rattle.ctl_index.specs.Clauses.{clause_cmp}
-use Rattle.ctl_index.specs.TablesByName.{offers_under, namers_under, named_offers, named_namers}
+use Rattle.std.specs.FinMap as fin
+use Rattle.ctl_index.specs.TablesByName.{rows_under, named_rows, offers_under, namers_under, named_offers, named_namers}
 use Rattle.ctl_index.specs.TablesSight.{hit}
 use Rattle.ctl_index.specs.TablesOrder.{others, offer_stanza}
 use Rattle.ctl_index.proofs.NameLemmas.{Writes, changed, unchanged, replaced, part-found, used_written, used_found, used_replaced, nothing_left, same_either}
@@ -21,7 +23,7 @@ pub invariant_of-self-then-not-is_used : goal.invariant_of-self-then-not-is_used
 invariant_of-self-then-not-is_used c =
     let m = c.args.self.now.map in
     let v = c.in-Some.named.now in
-    let w : Named = record { offers = c.take.new.self; namers = v.namers } in
+    let w : Named = record { offers = c.take.new.self; namers = v.namers; rows = v.rows } in
     let bs = c.name.result.now in
     let n = c.get_mut.follows.lender w in
     let writes : Writes bs m n (Some w) = (c.get_mut.follows.holds w).3 (search rules) in
@@ -32,7 +34,7 @@ pub invariant_of-self-else-not-is_used : goal.invariant_of-self-else-not-is_used
 invariant_of-self-else-not-is_used c =
     let m = c.args.self.now.map in
     let v = c.in-Some.named.now in
-    let w : Named = record { offers = c.take.new.self; namers = v.namers } in
+    let w : Named = record { offers = c.take.new.self; namers = v.namers; rows = v.rows } in
     let bs = c.name.result.now in
     let n = c.get_mut.follows.lender w in
     let writes : Writes bs m n (Some w) = (c.get_mut.follows.holds w).3 (search rules) in
@@ -42,60 +44,83 @@ pub returns-then-not-is_used-clause-offers : goal.returns-then-not-is_used-claus
 returns-then-not-is_used-clause-offers c =
     let m = c.args.self.now.map in
     let v = c.in-Some.named.now in
-    let w : Named = record { offers = c.take.new.self; namers = v.namers } in
+    let w : Named = record { offers = c.take.new.self; namers = v.namers; rows = v.rows } in
     let bs = c.name.result.now in
     let n = c.get_mut.follows.lender w in
     let writes : Writes bs m n (Some w) = (c.get_mut.follows.holds w).3 (search rules) in
     let removes : Writes bs n c.remove.new.self None = subst (λ (b : List ℕ). Writes b n c.remove.new.self None) (c.name-then-not-is_used.ensures ∙ sym c.name.ensures) c.remove.ensures.updates in
     let left = nothing_left w (sym c.is_used.ensures ∙ c.if-not-is_used.true) in
-    let none : others offer_stanza c.args.span (offers_under m bs) ≡ [] = sym (c.take.ensures ∙ ap (others offer_stanza c.args.span) (part-found named_offers bs m _ c.in-Some.ensures.value)) ∙ left.0 in
+    let none : others offer_stanza c.args.span (offers_under m bs) ≡ [] = sym (c.take.ensures ∙ ap (others offer_stanza c.args.span) (part-found named_offers [] bs m _ c.in-Some.ensures.value)) ∙ left.offers in
     λ q.
-    replaced named_offers bs m n c.remove.new.self w (others offer_stanza c.args.span) writes removes none q
+    replaced named_offers [] bs m n c.remove.new.self w (others offer_stanza c.args.span) writes removes none q
     ∙ ap (λ b. cond (bytes_eq b q) (others offer_stanza c.args.span (offers_under m q)) (offers_under m q)) c.name.ensures
 
 pub returns-then-not-is_used-clause-namers : goal.returns-then-not-is_used-clause-namers
 returns-then-not-is_used-clause-namers c =
     let m = c.args.self.now.map in
     let v = c.in-Some.named.now in
-    let w : Named = record { offers = c.take.new.self; namers = v.namers } in
+    let w : Named = record { offers = c.take.new.self; namers = v.namers; rows = v.rows } in
     let bs = c.name.result.now in
     let n = c.get_mut.follows.lender w in
     let writes : Writes bs m n (Some w) = (c.get_mut.follows.holds w).3 (search rules) in
     let removes : Writes bs n c.remove.new.self None = subst (λ (b : List ℕ). Writes b n c.remove.new.self None) (c.name-then-not-is_used.ensures ∙ sym c.name.ensures) c.remove.ensures.updates in
     let left = nothing_left w (sym c.is_used.ensures ∙ c.if-not-is_used.true) in
     let f : List AtomKey → List AtomKey = λ l. l in
-    λ q. replaced named_namers bs m n c.remove.new.self w f writes removes (sym (part-found named_namers bs m _ c.in-Some.ensures.value) ∙ left.1) q ∙ same_either (bytes_eq bs q) (namers_under m q)
+    λ q. replaced named_namers [] bs m n c.remove.new.self w f writes removes (sym (part-found named_namers [] bs m _ c.in-Some.ensures.value) ∙ left.namers) q ∙ same_either (bytes_eq bs q) (namers_under m q)
 
 pub returns-else-not-is_used-clause-offers : goal.returns-else-not-is_used-clause-offers
 returns-else-not-is_used-clause-offers c =
     let m = c.args.self.now.map in
     let v = c.in-Some.named.now in
-    let w : Named = record { offers = c.take.new.self; namers = v.namers } in
+    let w : Named = record { offers = c.take.new.self; namers = v.namers; rows = v.rows } in
     let bs = c.name.result.now in
     let n = c.get_mut.follows.lender w in
     let writes : Writes bs m n (Some w) = (c.get_mut.follows.holds w).3 (search rules) in
     λ q.
-    changed named_offers bs m n w (others offer_stanza c.args.span) writes (c.take.ensures ∙ ap (others offer_stanza c.args.span) (part-found named_offers bs m _ c.in-Some.ensures.value)) q
+    changed named_offers [] bs m n w (others offer_stanza c.args.span) writes (c.take.ensures ∙ ap (others offer_stanza c.args.span) (part-found named_offers [] bs m _ c.in-Some.ensures.value)) q
     ∙ ap (λ b. cond (bytes_eq b q) (others offer_stanza c.args.span (offers_under m q)) (offers_under m q)) c.name.ensures
 
 pub returns-else-not-is_used-clause-namers : goal.returns-else-not-is_used-clause-namers
 returns-else-not-is_used-clause-namers c =
     let m = c.args.self.now.map in
     let v = c.in-Some.named.now in
-    let w : Named = record { offers = c.take.new.self; namers = v.namers } in
+    let w : Named = record { offers = c.take.new.self; namers = v.namers; rows = v.rows } in
     let bs = c.name.result.now in
     let n = c.get_mut.follows.lender w in
     let writes : Writes bs m n (Some w) = (c.get_mut.follows.holds w).3 (search rules) in
-    unchanged named_namers bs m n w writes (part-found named_namers bs m _ c.in-Some.ensures.value)
+    unchanged named_namers [] bs m n w writes (part-found named_namers [] bs m _ c.in-Some.ensures.value)
 
 pub returns-then-not-is_used-clause-counts : goal.returns-then-not-is_used-clause-counts
 returns-then-not-is_used-clause-counts c = λ k.
     let m = c.args.self.now.map in
-    let same : c.as_slice.result.now ≡ namers_under m c.args.offer.now.name = c.as_slice.ensures ∙ part-found named_namers c.name.result.now m _ c.in-Some.ensures.value ∙ ap (namers_under m) c.name.ensures in
+    let same : c.as_slice.result.now ≡ namers_under m c.args.offer.now.name = c.as_slice.ensures ∙ part-found named_namers [] c.name.result.now m _ c.in-Some.ensures.value ∙ ap (namers_under m) c.name.ensures in
     c.in_ok-part.ensures.counts k ∙ ap (λ (xs : List AtomKey). option_map (λ (n : ℕ). n - sum_by (hit c.args.sight.now c.args.offer.now k) xs) (get clause_cmp c.args.counters.now.numbers k)) same
 
 pub returns-else-not-is_used-clause-counts : goal.returns-else-not-is_used-clause-counts
 returns-else-not-is_used-clause-counts c = λ k.
     let m = c.args.self.now.map in
-    let same : c.as_slice.result.now ≡ namers_under m c.args.offer.now.name = c.as_slice.ensures ∙ part-found named_namers c.name.result.now m _ c.in-Some.ensures.value ∙ ap (namers_under m) c.name.ensures in
+    let same : c.as_slice.result.now ≡ namers_under m c.args.offer.now.name = c.as_slice.ensures ∙ part-found named_namers [] c.name.result.now m _ c.in-Some.ensures.value ∙ ap (namers_under m) c.name.ensures in
     c.in_ok-part.ensures.counts k ∙ ap (λ (xs : List AtomKey). option_map (λ (n : ℕ). n - sum_by (hit c.args.sight.now c.args.offer.now k) xs) (get clause_cmp c.args.counters.now.numbers k)) same
+
+pub returns-then-not-is_used-clause-rows : goal.returns-then-not-is_used-clause-rows
+returns-then-not-is_used-clause-rows c =
+    let m = c.args.self.now.map in
+    let v = c.in-Some.named.now in
+    let w : Named = record { offers = c.take.new.self; namers = v.namers; rows = v.rows } in
+    let bs = c.name.result.now in
+    let n = c.get_mut.follows.lender w in
+    let writes : Writes bs m n (Some w) = (c.get_mut.follows.holds w).3 (search rules) in
+    let removes : Writes bs n c.remove.new.self None = subst (λ (b : List ℕ). Writes b n c.remove.new.self None) (c.name-then-not-is_used.ensures ∙ sym c.name.ensures) c.remove.ensures.updates in
+    let left = nothing_left w (sym c.is_used.ensures ∙ c.if-not-is_used.true) in
+    let f : Rows → Rows = λ l. l in
+    λ q. replaced named_rows fin.empty bs m n c.remove.new.self w f writes removes (sym (part-found named_rows fin.empty bs m _ c.in-Some.ensures.value) ∙ left.rows) q ∙ same_either (bytes_eq bs q) (rows_under m q)
+
+pub returns-else-not-is_used-clause-rows : goal.returns-else-not-is_used-clause-rows
+returns-else-not-is_used-clause-rows c =
+    let m = c.args.self.now.map in
+    let v = c.in-Some.named.now in
+    let w : Named = record { offers = c.take.new.self; namers = v.namers; rows = v.rows } in
+    let bs = c.name.result.now in
+    let n = c.get_mut.follows.lender w in
+    let writes : Writes bs m n (Some w) = (c.get_mut.follows.holds w).3 (search rules) in
+    unchanged named_rows fin.empty bs m n w writes (part-found named_rows fin.empty bs m _ c.in-Some.ensures.value)

@@ -1,4 +1,3 @@
-use Rattle.std.proofs.Common.{sym}
 use Rattle.ctl_relation.proofs.PlaceLemmas.{atoms-left, atoms-left-further}
 use Rattle.ctl_relation.proofs.group.AtomsIterator.next.Goals as goal
 

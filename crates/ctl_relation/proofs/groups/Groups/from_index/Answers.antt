@@ -1,6 +1,5 @@
-use Rattle.std.proofs.Common.{◌≡◌, ◌∙◌, List, length, drop, ap, sym, arith}
+use Rattle.std.proofs.Common.{◌∙◌, List, length, drop, ap, arith}
 use Rattle.ctl_relation.specs.Parts.{AtomParts}
-use Rattle.ctl_relation.specs.HeldPlaces.{AreHeld, groups_held}
 use Rattle.ctl_relation.proofs.PlaceLemmas.{held-length, held-from, are-held-from}
 use Rattle.ctl_relation.proofs.groups.Groups.from_index.Goals as goal
 

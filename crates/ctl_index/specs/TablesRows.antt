@@ -1,0 +1,32 @@
+-- Of the tables alone: the rows under the names follow stanzas that come and go.
+use Rattle.std.specs.Prelude.{◌≡◌, ℕ, List}
+use Rattle.ctl_store.specs.declared.stanza_key.StanzaKey.{StanzaKey}
+use Rattle.ctl_store.specs.Entries.{Entry, entries_by}
+use Rattle.ctl_store.specs.Followed.{under, AreApart}
+use Rattle.ctl_policy.specs.Kept.{IsKept}
+use Rattle.ctl_index.specs.TablesByName.{NameMap, rows_under, row_under}
+use Rattle.ctl_index.specs.TablesParts.{IsJoined}
+use Rattle.ctl_index.specs.TablesSight.{Seen, seen}
+use Rattle.ctl_index.specs.TablesSteps.{with_each, put_rows_step, take_rows_step}
+
+-- in the row of each name and version stand the keys of its live stanzas, in order
+abbrev pub AreKept : List Entry → NameMap → Type 0
+AreKept es m = IsKept (rows_under m) (λ k. under k es)
+
+-- each row is what it was with those of these keys, or without them
+abbrev pub AreRowsPut : Seen → List StanzaKey → NameMap → NameMap → Type 0
+AreRowsPut s keys old new = (q : List ℕ) → (version : List ℕ) → row_under new q version ≡ with_each (seen s) (put_rows_step q version) keys (row_under old q version)
+
+abbrev pub AreRowsTaken : Seen → List StanzaKey → NameMap → NameMap → Type 0
+AreRowsTaken s keys old new = (q : List ℕ) → (version : List ℕ) → row_under new q version ≡ with_each (seen s) (take_rows_step q version) keys (row_under old q version)
+
+-- rows that were put so are those of the stanzas with those that came, and rows that were taken so are those of the stanzas that stay
+abbrev pub RowsCome : Type 0
+RowsCome =
+    (s : Seen) → (keys : List StanzaKey) → (all : List Entry) → (rest : List Entry) → (old : NameMap) → (new : NameMap)
+    → IsJoined all rest (entries_by (seen s) keys) → AreApart (entries_by (seen s) keys) → AreKept rest old → AreRowsPut s keys old new → AreKept all new
+
+abbrev pub RowsGo : Type 0
+RowsGo =
+    (s : Seen) → (keys : List StanzaKey) → (all : List Entry) → (rest : List Entry) → (old : NameMap) → (new : NameMap)
+    → IsJoined all rest (entries_by (seen s) keys) → AreApart (entries_by (seen s) keys) → AreKept all old → AreRowsTaken s keys old new → AreKept rest new

@@ -1,0 +1,157 @@
+//! What a cache tells, where it isn't stale, of the rows of names, of which is installed, and of the candidates.
+
+ghost use Rattle.std.specs.Prelude.{◌≡◌, ℕ, List, false, map};
+ghost use Rattle.std.specs.List.{AllByRecursion, list_any};
+ghost use Rattle.std.specs.List.Sorted.{IsStrictlySortedBy};
+ghost use Rattle.std.specs.Cmp.Lexicographic.{slice_cmp};
+ghost use Rattle.std.specs.Ordering.{nat_cmp};
+ghost use Rattle.std.specs.Str.{bytes_eq};
+ghost use Rattle.ctl_store.specs.Keys.{AreHeld};
+ghost use Rattle.ctl_store.specs.Held.{keyed_of, state_of};
+ghost use Rattle.ctl_policy.specs.Rows.{rows_named, newest_first, keys_of_row, lead_at, has_row};
+ghost use Rattle.ctl_policy.specs.Priority.{world_of};
+ghost use Rattle.ctl_policy.specs.Candidate.{installed_of, candidate_of};
+ghost use Rattle.ctl_policy.specs.Chosen.{AreChosen, choice_in};
+ghost use Rattle.ctl_index.specs.Names.{known_names};
+ghost use Rattle.ctl_index.specs.Work.{stanzas_of_state};
+
+use crate::cache::Cache;
+use crate::rows::rows_are_defined;
+use ctl_policy::{Chosen, NewestFirst, names_with_rows_are_kept, rows_are_held, rows_are_shown};
+use ctl_relation::Version;
+use ctl_store::StanzaKey;
+use std::collections::{BTreeMap, btree_map};
+use std::marker::Model;
+
+/// The names that have a row, by [`Cache::packages`], in the order of their bytes.
+#[derive(Drop)]
+pub struct Packages<'a> {
+    keys: btree_map::Keys<'a, Vec<u8>, Chosen>,
+}
+
+impl<'a> Model for Packages<'a> {
+    ghost use Rattle.std.specs.Prelude.{ℕ, List, map};
+
+    ghost Value = { List (List ℕ) };
+
+    ghost view = { λ it. map (λ key. key.items) it.keys };
+}
+
+impl<'a> Iterator for Packages<'a> {
+    ghost use Rattle.std.specs.Iterator.{YieldsFirstBy, item_count};
+
+    ghost next_gives = { YieldsFirstBy (λ item. item.now) (λ rest. rest) };
+
+    ghost remaining = { item_count (λ rest. rest) };
+
+    type Item = &'a [u8];
+
+    fn next(&mut self) -> Option<&'a [u8]> {
+        match self.keys.next() {
+            Some(key) => Some(key),
+            None => None,
+        }
+    }
+}
+
+impl Cache {
+    /// The rows of a name, newest first: the keys of the stanzas of each, in the order of all stanzas. There is none where the
+    /// name has no row.
+    pub fn rows(&self, name: &[u8]) -> NewestFirst<'_>
+        requires { self.now.stale ≡ false }
+        ensures rows { result ≡ map keys_of_row (newest_first (rows_named name.now (keyed_of self.now.store).lists)) }
+        ensures held { AllByRecursion (λ row. AreHeld row (keyed_of self.now.store).lists) result }
+    {
+        rows_are_defined();
+        rows_are_shown();
+        rows_are_held();
+        // That the keys rise is said here.
+        let _counts = self.store.counts();
+        match self.tables.names.rows(name) {
+            Some(rows) => rows.iter(),
+            None => NewestFirst::none(),
+        }
+    }
+
+    /// The key of the lead of the row of a name whose version is equal to this one, if there is one.
+    pub fn lead(&self, name: &[u8], version: &Version) -> Option<StanzaKey>
+        requires { self.now.stale ≡ false }
+        ensures { result ≡ lead_at (rows_named name.now (keyed_of self.now.store).lists) version.now }
+    {
+        rows_are_defined();
+        // That the keys rise is said here.
+        let _counts = self.store.counts();
+        match self.tables.names.rows(name) {
+            Some(rows) => rows.lead(version),
+            None => None,
+        }
+    }
+
+    /// Whether a name has a row.
+    pub fn has_row(&self, name: &[u8]) -> bool
+        requires { self.now.stale ≡ false }
+        ensures { result ≡ has_row name.now (keyed_of self.now.store).lists }
+    {
+        names_with_rows_are_kept();
+        self.chosen.contains_key(name)
+    }
+
+    /// Whether a name is known: one that is offered, or that an atom names.
+    pub fn is_known(&self, name: &[u8]) -> bool
+        requires { self.now.stale ≡ false }
+        ensures { result ≡ list_any (bytes_eq name.now) (known_names (stanzas_of_state (state_of self.now.store))) }
+    {
+        self.tables.names.contains(name)
+    }
+
+    /// The names that have a row, in the order of their bytes, each once.
+    pub fn packages(&self) -> Packages<'_>
+        requires { self.now.stale ≡ false }
+        ensures order { IsStrictlySortedBy (slice_cmp nat_cmp) result }
+        ensures members { (name : List ℕ) → list_any (bytes_eq name) result ≡ has_row name (keyed_of self.now.store).lists }
+    {
+        names_with_rows_are_kept();
+        Packages {
+            keys: self.chosen.keys(),
+        }
+    }
+
+    /// What is chosen of a name: the leads of the row that is installed and of the candidate.
+    pub fn chosen(&self, name: &[u8]) -> Chosen
+        requires { self.now.stale ≡ false }
+        ensures { result ≡ choice_in name.now (world_of self.now.store) }
+    {
+        names_with_rows_are_kept();
+        match self.chosen.get(name) {
+            Some(chosen) => *chosen,
+            None => Chosen {
+                installed: None,
+                candidate: None,
+            },
+        }
+    }
+
+    /// The lead of the row of a name that is installed, by its mark or by the status list.
+    pub fn installed(&self, name: &[u8]) -> Option<StanzaKey>
+        requires { self.now.stale ≡ false }
+        ensures { result ≡ installed_of name.now (world_of self.now.store) }
+    {
+        self.chosen(name).installed
+    }
+
+    /// The lead of the candidate of a name, by the priorities of its rows (apt_preferences(5)).
+    pub fn candidate(&self, name: &[u8]) -> Option<StanzaKey>
+        requires { self.now.stale ≡ false }
+        ensures { result ≡ candidate_of name.now (world_of self.now.store) }
+    {
+        self.chosen(name).candidate
+    }
+
+    /// What is chosen of each name that has a row.
+    pub fn candidates(&self) -> &BTreeMap<Vec<u8>, Chosen>
+        requires { self.now.stale ≡ false }
+        ensures { AreChosen result.now (world_of self.now.store) }
+    {
+        &self.chosen
+    }
+}

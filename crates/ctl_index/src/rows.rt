@@ -1,0 +1,119 @@
+//! The rows of names follow the stanzas that come and go.
+
+ghost use Rattle.std.specs.Prelude.{◌≡◌, ℕ, List, OnOk};
+ghost use Rattle.ctl_store.specs.Held.{Held, keyed_of};
+ghost use Rattle.ctl_store.specs.Keys.{AreRising, all_keys};
+ghost use Rattle.ctl_policy.specs.Rows.{AreRowsOf};
+ghost use Rattle.ctl_index.specs.Held.{standing};
+ghost use Rattle.ctl_index.specs.TablesByName.{NameMap, offers_under, namers_under, rows_under, row_under};
+ghost use Rattle.ctl_index.specs.TablesRows.{AreKept, AreRowsPut, AreRowsTaken, RowsCome, RowsGo};
+ghost use Rattle.ctl_index.specs.TablesSight.{seen};
+ghost use Rattle.ctl_index.specs.TablesSteps.{with_found, put_rows_step, take_rows_step};
+
+use crate::name_table::NameTable;
+use crate::sight::{Sight, stanza_at};
+use ctl_policy::{rows_are_kept, rows_follow_stanzas};
+use ctl_stanza::Stanza;
+use ctl_store::StanzaKey;
+use std::alloc::{AllocError, Global};
+
+// The row of a stanza, where it is live.
+fn put_row_of(
+    alloc: Global,
+    key: StanzaKey,
+    stanza: &Stanza,
+    names: &mut NameTable,
+) -> Result<(), AllocError>
+    ensures rows { OnOk result ((q : List ℕ) → (version : List ℕ) → row_under names.new.map q version ≡ put_rows_step q version key stanza.now (row_under names.old.map q version)) }
+    ensures offers { OnOk result (offers_under names.new.map ≡ offers_under names.old.map) }
+    ensures namers { OnOk result (namers_under names.new.map ≡ namers_under names.old.map) }
+{
+    match stanza.version() {
+        Some(version) => names.put_row(alloc, stanza.package(), version, key),
+        None => Ok(()),
+    }
+}
+
+// The row of the stanza under a key, if there is one.
+fn put_row_at(
+    alloc: Global,
+    sight: &Sight<'_>,
+    key: StanzaKey,
+    names: &mut NameTable,
+) -> Result<(), AllocError>
+    ensures rows { OnOk result ((q : List ℕ) → (version : List ℕ) → row_under names.new.map q version ≡ with_found (seen sight.now) (put_rows_step q version) key (row_under names.old.map q version)) }
+    ensures offers { OnOk result (offers_under names.new.map ≡ offers_under names.old.map) }
+    ensures namers { OnOk result (namers_under names.new.map ≡ namers_under names.old.map) }
+{
+    match stanza_at(sight, key) {
+        Some(stanza) => put_row_of(alloc, key, stanza, names),
+        None => Ok(()),
+    }
+}
+
+/// The keys of the live stanzas among these come into their rows.
+pub(crate) fn put_rows(
+    alloc: Global,
+    sight: &Sight<'_>,
+    keys: &[StanzaKey],
+    names: &mut NameTable,
+) -> Result<(), AllocError>
+    ensures rows { OnOk result (AreRowsPut sight.now keys.now names.old.map names.new.map) }
+    ensures offers { OnOk result (offers_under names.new.map ≡ offers_under names.old.map) }
+    ensures namers { OnOk result (namers_under names.new.map ≡ namers_under names.old.map) }
+{
+    for key in keys {
+        put_row_at(alloc, sight, *key, names)?;
+    }
+    Ok(())
+}
+
+// The row of a stanza, where it is live.
+fn take_row_of(key: StanzaKey, stanza: &Stanza, names: &mut NameTable)
+    ensures rows { (q : List ℕ) → (version : List ℕ) → row_under names.new.map q version ≡ take_rows_step q version key stanza.now (row_under names.old.map q version) }
+    ensures offers { offers_under names.new.map ≡ offers_under names.old.map }
+    ensures namers { namers_under names.new.map ≡ namers_under names.old.map }
+{
+    match stanza.version() {
+        Some(version) => names.take_row(stanza.package(), version, key),
+        None => {}
+    }
+}
+
+// The row of the stanza under a key, if there is one.
+fn take_row_at(sight: &Sight<'_>, key: StanzaKey, names: &mut NameTable)
+    ensures rows { (q : List ℕ) → (version : List ℕ) → row_under names.new.map q version ≡ with_found (seen sight.now) (take_rows_step q version) key (row_under names.old.map q version) }
+    ensures offers { offers_under names.new.map ≡ offers_under names.old.map }
+    ensures namers { namers_under names.new.map ≡ namers_under names.old.map }
+{
+    match stanza_at(sight, key) {
+        Some(stanza) => take_row_of(key, stanza, names),
+        None => {}
+    }
+}
+
+/// The keys of the live stanzas among these go from their rows. It takes no memory.
+pub(crate) fn take_rows(sight: &Sight<'_>, keys: &[StanzaKey], names: &mut NameTable)
+    ensures rows { AreRowsTaken sight.now keys.now names.old.map names.new.map }
+    ensures offers { offers_under names.new.map ≡ offers_under names.old.map }
+    ensures namers { namers_under names.new.map ≡ namers_under names.old.map }
+{
+    for key in keys {
+        take_row_at(sight, *key, names);
+    }
+}
+
+/// Rows follow the stanzas of several keys, as they do one.
+pub(crate) fn rows_follow_keys()
+    ensures come { RowsCome }
+    ensures go { RowsGo }
+{
+    rows_follow_stanzas();
+}
+
+/// The rows that are kept of the stanzas of a store are those of the definition.
+pub(crate) fn rows_are_defined()
+    ensures { (h : Held) → (m : NameMap) → AreRising (all_keys (keyed_of h).lists) → AreKept (standing h) m → (name : List ℕ) → AreRowsOf (rows_under m name) name (keyed_of h).lists }
+{
+    rows_are_kept();
+}

@@ -1,0 +1,9 @@
+use Rattle.std.proofs.Common.{◌≡◌, ◌++◌}
+use Rattle.ctl_store.specs.Held.{keyed_of}
+use Rattle.ctl_store.specs.Keys.{stanza_at}
+use Rattle.ctl_policy.specs.Touched.{packages_at}
+use Rattle.ctl_policy.specs.TouchedNames.{packages_in}
+use Rattle.ctl_policy.proofs.touching.push_list.Given as goal
+
+abbrev pub invariant-keys : goal.invariant-keys
+invariant-keys l = l.names.items ++ packages_at l.left (λ k. stanza_at k (keyed_of l.fn.store).lists) ≡ l.fn.names.items ++ packages_in l.fn.list (keyed_of l.fn.store).lists

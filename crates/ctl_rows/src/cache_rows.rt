@@ -1,0 +1,128 @@
+//! What a kept cache tells of the rows of names, and of what is chosen of them, as text.
+
+ghost use Rattle.std.specs.Prelude.{◌≡◌, false};
+
+use ctl_index::Cache;
+use ctl_policy::Chosen;
+use ctl_relation::Version;
+use ctl_store::StanzaKey;
+use std::alloc::{AllocError, Global};
+
+/// The key of a lead, or `-`, behind a space.
+fn append_lead(
+    alloc: Global,
+    lead: Option<StanzaKey>,
+    all: &mut Vec<u8>,
+) -> Result<(), AllocError> {
+    match lead {
+        Some(key) => {
+            let told = format!(in alloc; " {}.{}", key.list, key.stanza)?;
+            all.extend_from_slice(told.as_bytes())
+        }
+        None => all.extend_from_slice(b" -"),
+    }
+}
+
+/// The keys of a row, each behind a space, and a semicolon.
+fn append_keys(alloc: Global, keys: &[StanzaKey], all: &mut Vec<u8>) -> Result<(), AllocError> {
+    for key in keys {
+        append_lead(alloc, Some(*key), all)?;
+    }
+    all.push(b';')?;
+    Ok(())
+}
+
+/// The rows of a name, newest first.
+pub fn append_rows(
+    alloc: Global,
+    cache: &Cache,
+    name: &[u8],
+    all: &mut Vec<u8>,
+) -> Result<(), AllocError>
+    requires { cache.now.stale ≡ false }
+{
+    for keys in cache.rows(name) {
+        append_keys(alloc, keys, all)?;
+    }
+    Ok(())
+}
+
+/// The lead of a version of a name.
+pub fn append_lead_of(
+    alloc: Global,
+    cache: &Cache,
+    name: &[u8],
+    version: &[u8],
+    all: &mut Vec<u8>,
+) -> Result<(), AllocError>
+    requires { cache.now.stale ≡ false }
+{
+    match Version::parse(alloc, version) {
+        Ok(version) => append_lead(alloc, cache.lead(name, &version), all),
+        Err(_) => all.extend_from_slice(b"no version"),
+    }
+}
+
+fn append_choice(
+    alloc: Global,
+    name: &[u8],
+    chosen: Chosen,
+    all: &mut Vec<u8>,
+) -> Result<(), AllocError> {
+    all.extend_from_slice(name)?;
+    append_lead(alloc, chosen.installed, all)?;
+    append_lead(alloc, chosen.candidate, all)?;
+    all.push(b';')?;
+    Ok(())
+}
+
+/// What is chosen of a name, by the one call and by the two.
+pub fn append_chosen(
+    alloc: Global,
+    cache: &Cache,
+    name: &[u8],
+    all: &mut Vec<u8>,
+) -> Result<(), AllocError>
+    requires { cache.now.stale ≡ false }
+{
+    append_choice(alloc, name, cache.chosen(name), all)?;
+    append_lead(alloc, cache.installed(name), all)?;
+    append_lead(alloc, cache.candidate(name), all)
+}
+
+/// All that is chosen, in the order of names.
+pub fn append_candidates(alloc: Global, cache: &Cache, all: &mut Vec<u8>) -> Result<(), AllocError>
+    requires { cache.now.stale ≡ false }
+{
+    for (name, chosen) in cache.candidates() {
+        append_choice(alloc, name, *chosen, all)?;
+    }
+    Ok(())
+}
+
+/// The names that have a row, each behind a space.
+pub fn append_names_with_rows(cache: &Cache, all: &mut Vec<u8>) -> Result<(), AllocError>
+    requires { cache.now.stale ≡ false }
+{
+    for name in cache.packages() {
+        all.push(b' ')?;
+        all.extend_from_slice(name)?;
+    }
+    Ok(())
+}
+
+/// Whether a name is known, and whether it has a row.
+pub fn append_known(cache: &Cache, name: &[u8], all: &mut Vec<u8>) -> Result<(), AllocError>
+    requires { cache.now.stale ≡ false }
+{
+    all.extend_from_slice(if cache.is_known(name) {
+        b"known"
+    } else {
+        b"unknown"
+    })?;
+    all.extend_from_slice(if cache.has_row(name) {
+        b" with a row"
+    } else {
+        b" without a row"
+    })
+}
