@@ -24,7 +24,7 @@ from refuse_allocations import HERE, library, lines_of, run
 
 PROBE = os.path.join(HERE, "../crates/probe/out/probe")
 LINES = os.path.join(HERE, "../crates/probe/stdin")
-LOOKS = [b"steps", b"dump\t61\t62\t6162\t6c69626336", b"views", b"views", b"steps"]
+LOOKS = [b"steps", b"dump\t61\t62\t6162\t6c69626336", b"views", b"views", b"policies", b"steps"]
 STEP = 1 + len(LOOKS)
 FORMS = {b"add-list", b"drop-list", b"put", b"remove", b"mark", b"unmark", b"pin", b"unpin", b"target", b"prefs"}
 CLAUSES = {b"PreDepends", b"Depends", b"Recommends", b"Suggests"}
@@ -110,9 +110,10 @@ class Run:
         self.failed += STALE in looks[2:4]
         right = looks[0] == b"steps %d" % count + (b" stale" if was_stale else b"") and looks[1:2] in ([], wanted[1:2])
         right = right and all(look == views or (was_stale and look == STALE) for look in looks[2:4])
+        right = right and looks[4:5] in ([], [STALE if looks[3:4] == [STALE] else wanted[4]])
         if len(looks) < len(LOOKS):
             return right
-        self.count = count_of(looks[4])
+        self.count = count_of(looks[-1])
         most = 2 * pairs_of(views) if looks[2] == STALE else pairs_of(views)
         return right and 0 <= self.count - count <= (most if was_stale else 0)
 
