@@ -125,18 +125,30 @@ class Crate:
     def uncovered(self):
         """Returns the public functions that no edit changes, but for laws and tests."""
         changed = {function for edit in self.edits for function in edit.functions}
+        inner = {it for _, text in self.sources() for it in re.findall(r"^(?:pub\([^)]*\) )?trait (\w+)", text, re.M)}
         found = []
         for path, text in self.sources():
             for it in layout.functions(path, text):
                 is_test = "#[cfg(test)]" in text[: it.start] or re.search(r"#\[test\][^\n]*\n\Z", text[: it.start])
-                if it not in changed and is_public(it, text) and not is_test and not is_law(it, text):
+                if it not in changed and is_public(it, text, inner) and not is_test and not is_law(it, text):
                     found.append(it)
         return found
 
 
-def is_public(function, text):
-    """A function of an impl of a trait is as public as the trait."""
-    return re.match(r" *pub ", text[function.start :]) or re.match(r"impl\b.* for ", function.block)
+def is_public(function, text, inner):
+    """A function of an impl of a trait is as public as the trait: `inner` are those of the crate alone."""
+    return re.match(r" *pub ", text[function.start :]) or trait_of(function.block) not in {None, *inner}
+
+
+def trait_of(block):
+    """Returns the name of the trait of an impl, if it is of one."""
+    found = re.match(r"impl\b(.*) for ", block)
+    if not found:
+        return None
+    name, count = found[1], 1
+    while count:
+        name, count = re.subn(r"<[^<>]*>", "", name)
+    return name.split("::")[-1].strip()
 
 
 def is_law(function, text):

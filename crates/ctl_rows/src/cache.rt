@@ -7,7 +7,7 @@ ghost use Rattle.std.specs.Prelude.{◌≡◌, false};
 use crate::asked::{Asked, edit_asked};
 use crate::cache_rows::{
     append_candidates, append_chosen, append_known, append_lead_of, append_names_with_rows,
-    append_rows,
+    append_row_of, append_rows,
 };
 use crate::cache_shown::{
     append_counters, append_namers, append_names, append_offers, append_packages,
@@ -79,6 +79,8 @@ pub enum Act<'a> {
     Rows(&'a [u8]),
     /// Shows the lead of a name and a version.
     Lead(&'a [u8], &'a [u8]),
+    /// Shows the row of a name and a version, its priority and its sources.
+    Row(&'a [u8], &'a [u8]),
     /// Shows what is chosen of a name.
     Chosen(&'a [u8]),
     /// Shows what is chosen of all names.
@@ -167,6 +169,7 @@ fn append_view(
         Act::Tables => append_tables(alloc, cache, all),
         Act::Rows(name) => append_rows(alloc, cache, name, all),
         Act::Lead(name, version) => append_lead_of(alloc, cache, name, version, all),
+        Act::Row(name, version) => append_row_of(alloc, cache, name, version, all),
         Act::Chosen(name) => append_chosen(alloc, cache, name, all),
         Act::Candidates => append_candidates(alloc, cache, all),
         Act::NamesWithRows => append_names_with_rows(cache, all),

@@ -63,6 +63,58 @@ pub fn append_lead_of(
     }
 }
 
+fn append_priority(
+    alloc: Global,
+    priority: Option<i16>,
+    all: &mut Vec<u8>,
+) -> Result<(), AllocError> {
+    match priority {
+        Some(priority) => {
+            let told = format!(in alloc; " {priority}")?;
+            all.extend_from_slice(told.as_bytes())
+        }
+        None => all.extend_from_slice(b" none"),
+    }
+}
+
+fn append_sources(
+    cache: &Cache,
+    lead: Option<StanzaKey>,
+    all: &mut Vec<u8>,
+) -> Result<(), AllocError>
+    requires { cache.now.stale ≡ false }
+{
+    let Some(lead) = lead else {
+        return Ok(());
+    };
+    for list in cache.sources(lead) {
+        all.push(b' ')?;
+        all.extend_from_slice(list)?;
+    }
+    Ok(())
+}
+
+/// The keys of the row of a version of a name, its priority, and the lists that hold it.
+pub fn append_row_of(
+    alloc: Global,
+    cache: &Cache,
+    name: &[u8],
+    version: &[u8],
+    all: &mut Vec<u8>,
+) -> Result<(), AllocError>
+    requires { cache.now.stale ≡ false }
+{
+    match Version::parse(alloc, version) {
+        Ok(version) => {
+            let row = cache.row(name, &version);
+            append_keys(alloc, row, all)?;
+            append_priority(alloc, cache.priority(name, &version), all)?;
+            append_sources(cache, row.first().copied(), all)
+        }
+        Err(_) => all.extend_from_slice(b"no version"),
+    }
+}
+
 fn append_choice(
     alloc: Global,
     name: &[u8],

@@ -68,6 +68,35 @@ fn equal_versions_share_a_row(rt: HostRuntime) -> Result<(), Fail> {
 }
 
 #[test]
+fn a_row_has_a_priority_and_sources(rt: HostRuntime) -> Result<(), Fail> {
+    let acts = [
+        Act::Make(Asked::AddList("main", MAIN)),
+        Act::Make(Asked::AddList("sid", SID)),
+        Act::Row(b"foo", b"1.00"),
+        Act::Row(b"foo", b"2.0"),
+        Act::Row(b"foo", b"3"),
+        Act::Row(b"baz", b"1"),
+        Act::Make(Asked::AddStatus(STATUS)),
+        Act::Row(b"foo", b"1.0"),
+        Act::Make(Asked::Pin("foo", "1.0*", -5)),
+        Act::Row(b"foo", b"1.0"),
+        Act::Make(Asked::Target("sid")),
+        Act::Row(b"foo", b"2.0"),
+        Act::Make(Asked::DropNamed("main")),
+        Act::Row(b"foo", b"1.0"),
+    ];
+    let text = came(rt.alloc(), &acts)?;
+    same(
+        &rt,
+        b"of two lists, one of them installed and pinned",
+        &text,
+        b"+0|+0| 0.0 1.1; 1 main sid| 1.0; 1 sid|; none|; none|+0| 0.0 1.1 2.0; 100 main sid status|\
+          +0| 0.0 1.1 2.0; -5 main sid status|+0| 1.0; 990 sid|+0| 1.1 2.0; -5 sid status|",
+    );
+    Ok(())
+}
+
+#[test]
 fn names_are_known_with_and_without_rows(rt: HostRuntime) -> Result<(), Fail> {
     let acts = [
         Act::NamesWithRows,

@@ -8,16 +8,19 @@ ghost use Rattle.std.specs.Ordering.{nat_cmp};
 ghost use Rattle.std.specs.Str.{bytes_eq};
 ghost use Rattle.ctl_store.specs.Keys.{AreHeld};
 ghost use Rattle.ctl_store.specs.Held.{keyed_of, state_of};
-ghost use Rattle.ctl_policy.specs.Rows.{rows_named, newest_first, keys_of_row, lead_at, has_row};
+ghost use Rattle.ctl_policy.specs.Rows.{rows_named, newest_first, keys_of_row, lead_at, has_row, sources_of};
 ghost use Rattle.ctl_policy.specs.Priority.{world_of};
 ghost use Rattle.ctl_policy.specs.Candidate.{installed_of, candidate_of};
 ghost use Rattle.ctl_policy.specs.Chosen.{AreChosen, choice_in};
 ghost use Rattle.ctl_index.specs.Names.{known_names};
+ghost use Rattle.ctl_index.specs.RowsTold.{row_at, priority_at, row_under};
 ghost use Rattle.ctl_index.specs.Work.{stanzas_of_state};
 
-use crate::cache::Cache;
+use crate::cache::{Cache, Sources};
 use crate::rows::rows_are_defined;
-use ctl_policy::{Chosen, NewestFirst, names_with_rows_are_kept, rows_are_held, rows_are_shown};
+use ctl_policy::{
+    Chosen, NewestFirst, names_with_rows_are_kept, row_priority, rows_are_held, rows_are_shown,
+};
 use ctl_relation::Version;
 use ctl_store::StanzaKey;
 use std::collections::{BTreeMap, btree_map};
@@ -73,18 +76,63 @@ impl Cache {
         }
     }
 
+    /// The row of a name whose version is equal to this one: the keys of its stanzas, in the order of all stanzas, of which the
+    /// first is the lead. There is none where no row has such a version.
+    pub fn row(&self, name: &[u8], version: &Version) -> &[StanzaKey]
+        requires { self.now.stale ≡ false }
+        ensures row { result.now ≡ row_at name.now version.now (keyed_of self.now.store).lists }
+        ensures held { AreHeld result.now (keyed_of self.now.store).lists }
+    {
+        rows_are_defined();
+        rows_are_held();
+        // That the keys rise is said here.
+        let _counts = self.store.counts();
+        match self.tables.names.rows(name) {
+            Some(rows) => rows.keys(version),
+            None => &[],
+        }
+    }
+
     /// The key of the lead of the row of a name whose version is equal to this one, if there is one.
     pub fn lead(&self, name: &[u8], version: &Version) -> Option<StanzaKey>
         requires { self.now.stale ≡ false }
         ensures { result ≡ lead_at (rows_named name.now (keyed_of self.now.store).lists) version.now }
     {
-        rows_are_defined();
-        // That the keys rise is said here.
-        let _counts = self.store.counts();
-        match self.tables.names.rows(name) {
-            Some(rows) => rows.lead(version),
-            None => None,
+        self.row(name, version).first().copied()
+    }
+
+    /// The priority of the row of a name whose version is equal to this one, if there is one (apt_preferences(5)).
+    pub fn priority(&self, name: &[u8], version: &Version) -> Option<i16>
+        requires { self.now.stale ≡ false }
+        ensures { result ≡ priority_at name.now version.now (world_of self.now.store) }
+    {
+        match self.row(name, version) {
+            [] => None,
+            keys => Some(row_priority(&self.store, name, keys)),
         }
+    }
+
+    // The row in which a stanza stands, if it is live.
+    fn row_with(&self, key: StanzaKey) -> &[StanzaKey]
+        requires { self.now.stale ≡ false }
+        ensures row { result.now ≡ row_under key (keyed_of self.now.store).lists }
+        ensures held { AreHeld result.now (keyed_of self.now.store).lists }
+    {
+        match self.store.find(key) {
+            Some(stanza) => match stanza.version() {
+                Some(version) => self.row(stanza.package(), version),
+                None => &[],
+            },
+            None => &[],
+        }
+    }
+
+    /// The sources of the row with this lead: the lists that hold a stanza of it, in the order of lists.
+    pub fn sources(&self, lead: StanzaKey) -> Sources<'_>
+        requires { self.now.stale ≡ false }
+        ensures { result ≡ sources_of (row_under lead (keyed_of self.now.store).lists) (keyed_of self.now.store).lists }
+    {
+        Sources::new(&self.store, self.row_with(lead))
     }
 
     /// Whether a name has a row.
