@@ -19,7 +19,9 @@ mod bodies;
 mod cache;
 #[cfg(test)]
 mod cache_rows;
+#[cfg(test)]
 mod cache_shown;
+#[cfg(test)]
 mod candidates;
 #[cfg(test)]
 mod control_text;
