@@ -29,8 +29,8 @@ MEMORY_OF_A_CHECK = 3 << 30
 JOBS = "so many checks at a time, each of about 3 GB (else as many as processors and free memory allow)"
 APART = "neither start over what is kept in out/ of the crates nor leave anything there, where something else may be at work"
 PLAN = "list the batches and the edits that cannot be applied, and check nothing"
-UNCOVERED = """list the public functions of libraries that no edit changes, and check nothing. Programs are left out, and
-crates that no crate stands on. So are laws, which have neither parameter nor result, or an empty body: no edit can change
+UNCOVERED = """list the public functions of libraries that no edit changes, and check nothing. Programs are left out, and crates of
+tests, and those that no crate stands on. So are laws, which have neither parameter nor result, or an empty body: no edit can change
 what they do"""
 
 
@@ -43,7 +43,7 @@ def main():
             sys.exit(f"crates.txt names no crate {it}")
     crates = [Crate(root, it, libraries) for it, libraries in below.items() if not given.crates or it in given.crates]
     if given.uncovered:
-        return list_uncovered([it for it in crates if any(it.name in libraries for libraries in below.values())])
+        return list_uncovered([it for it in crates if any(it.name in libraries for libraries in below.values()) and not it.has_tests()])
     if given.edits:
         unknown = {*given.edits} - {name for crate in crates for name in crate.names()}
         if unknown:

@@ -86,7 +86,7 @@ def run_stage(parts):
         lines = {name: [] for name, _ in others}
         beside = [pool.submit(run, name, lines[name].append, aside, ["nice"]) for name, _ in others]
         tell(f"== {first}: {what}; beside it {', '.join(name for name, _ in others)}")
-        yield run(first, tell, [f"JOBS={processors - 1}"])
+        yield run(first, tell, [f"JOBS={processors}"])
         for (name, what), part in zip(others, beside):
             outcome = part.result()
             tell("\n".join([f"== {name}: {what}", *lines[name]]))

@@ -1,7 +1,7 @@
 #!/usr/bin/env python3
 """Writes the table of pairs of versions that a test reads, each judged by dpkg.
 
-    tools/version_pairs.py > crates/ctl_rows/src/version_table.rt
+    tools/version_pairs.py > crates/ctl_calls/src/version_table.rt
 
 Each pair is put to `dpkg --compare-versions`. The pairs are chosen ones and random ones, the same in each run. Both
 texts of a pair are versions by Debian Policy 5.6.12, apart from beginning with a digit, of which dpkg only warns.

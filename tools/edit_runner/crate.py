@@ -122,6 +122,9 @@ class Crate:
         """Returns what no two functions of one batch may share, since the lines of a check could not tell them apart."""
         return layout.block_names(function.block)[2] if function.block else function.modules, function.name
 
+    def has_tests(self):
+        return any("#[test]" in text for _, text in self.sources())
+
     def uncovered(self):
         """Returns the public functions that no edit changes, but for laws and tests."""
         changed = {function for edit in self.edits for function in edit.functions}

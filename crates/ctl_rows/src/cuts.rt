@@ -2,7 +2,8 @@
 //! of the commands done. The last of them is the one whose text was being written.
 
 use crate::runs::{Act, came};
-use crate::tables::{front, joined, same, written};
+use crate::tables::written;
+use ctl_calls::tables::{front, joined, same};
 use std::alloc::{AllocError, Global};
 use std::process::Abort;
 use std::test::Fail;

@@ -1,5 +1,4 @@
-//! Every test: worked scripts and texts and what they come to, runs that stop early, and each public call of the crates
-//! below once.
+//! Tests of scripts: worked scripts and what they come to, loads, runs that stop early, and the laws.
 #![tactic(auto)]
 
 ghost use Rattle.std.specs.Prelude.{◌≡◌, List, IfOk};
@@ -12,19 +11,7 @@ use ctl_session::{Fault, FromRead, FromWrite, Session, Summary};
 use std::alloc::Global;
 
 #[cfg(test)]
-mod asked;
-#[cfg(test)]
 mod bodies;
-#[cfg(test)]
-mod cache;
-#[cfg(test)]
-mod cache_rows;
-#[cfg(test)]
-mod cache_shown;
-#[cfg(test)]
-mod candidates;
-#[cfg(test)]
-mod control_text;
 #[cfg(test)]
 mod cuts;
 #[cfg(test)]
@@ -32,57 +19,25 @@ mod edits;
 #[cfg(test)]
 mod faults;
 #[cfg(test)]
-mod field_names;
-#[cfg(test)]
-mod keys;
-#[cfg(test)]
 mod laws;
 #[cfg(test)]
 mod limits;
 #[cfg(test)]
 mod loads;
 #[cfg(test)]
-mod made;
-#[cfg(test)]
-mod names;
-#[cfg(test)]
-mod pin_settings;
-#[cfg(test)]
-mod pins;
-#[cfg(test)]
 mod policies;
-#[cfg(test)]
-mod policy;
 #[cfg(test)]
 mod preferences;
 #[cfg(test)]
 mod program;
 #[cfg(test)]
-mod records;
-#[cfg(test)]
-mod refused;
-#[cfg(test)]
-mod refused_cache;
-#[cfg(test)]
-mod relations;
-#[cfg(test)]
 mod runs;
 #[cfg(test)]
 mod scripts;
 #[cfg(test)]
-mod shown;
-#[cfg(test)]
 mod states;
 #[cfg(test)]
-mod store;
-#[cfg(test)]
 mod tables;
-#[cfg(test)]
-mod touched;
-#[cfg(test)]
-mod version_table;
-#[cfg(test)]
-mod versions;
 #[cfg(test)]
 mod words;
 

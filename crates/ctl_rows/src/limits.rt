@@ -1,6 +1,7 @@
 //! Lines and bodies of fields at the limit of their bytes.
 
-use crate::tables::{same, written};
+use crate::tables::written;
+use ctl_calls::tables::same;
 use std::alloc::Global;
 use std::process::Abort;
 use std::test::Fail;

@@ -4,9 +4,9 @@
 
 ghost use Rattle.std.specs.Prelude.{None};
 
-use crate::policy::append_policy;
 use crate::run_script;
-use crate::shown::state;
+use ctl_calls::policy::append_policy;
+use ctl_calls::shown::state;
 use ctl_index::Cache;
 use ctl_session::{Failed, Fault, FromRead, FromWrite, Session, Sink, Source, Summary};
 use ctl_stanza::ListKind;

@@ -1,7 +1,8 @@
 //! Scripts and what they write.
 
 use crate::runs::{Act, came, came_of};
-use crate::tables::{each_writes, each_writes_behind, same};
+use crate::tables::{each_writes, each_writes_behind};
+use ctl_calls::tables::same;
 use ctl_store::Limits;
 use std::test::Fail;
 

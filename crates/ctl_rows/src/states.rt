@@ -1,6 +1,7 @@
 //! What scripts leave in the store.
 
-use crate::tables::{each_leaves, left_under, same};
+use crate::tables::{each_leaves, left_under};
+use ctl_calls::tables::same;
 use ctl_store::Limits;
 use std::test::Fail;
 
