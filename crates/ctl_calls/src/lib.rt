@@ -36,7 +36,9 @@ mod relations;
 pub mod shown;
 #[cfg(test)]
 mod store;
-pub mod tables;
+#[cfg(test)]
+mod tables;
+pub mod texts;
 #[cfg(test)]
 mod touched;
 #[cfg(test)]

@@ -2,8 +2,8 @@
 //! of the commands done. The last of them is the one whose text was being written.
 
 use crate::runs::{Act, came};
-use crate::tables::written;
-use ctl_calls::tables::{front, joined, same};
+use crate::tables::{joined, same, written};
+use ctl_calls::texts::front;
 use std::alloc::{AllocError, Global};
 use std::process::Abort;
 use std::test::Fail;

@@ -1,7 +1,7 @@
 //! Runs that stop before their end.
 
 use crate::runs::{Act, came, came_of, fault_words};
-use ctl_calls::tables::{joined, same};
+use crate::tables::{joined, same};
 use ctl_session::Fault;
 use ctl_store::Limits;
 use std::alloc::{AllocError, Global};

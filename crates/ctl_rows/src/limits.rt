@@ -1,7 +1,6 @@
 //! Lines and bodies of fields at the limit of their bytes.
 
-use crate::tables::written;
-use ctl_calls::tables::same;
+use crate::tables::{same, written};
 use std::alloc::Global;
 use std::process::Abort;
 use std::test::Fail;

@@ -1,7 +1,7 @@
 //! Lists that are loaded without a script.
 
 use crate::runs::{Act, came};
-use ctl_calls::tables::same;
+use crate::tables::same;
 use std::test::Fail;
 
 #[test]

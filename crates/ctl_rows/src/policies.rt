@@ -1,8 +1,8 @@
 //! Policies behind scripts: rows, priorities, what is installed and what would be.
 
 use crate::runs::{Act, came};
+use crate::tables::{agree, same};
 use ctl_calls::made::{given, version};
-use ctl_calls::tables::{agree, same};
 use ctl_policy::{Chosen, Rows, read_rows, renew};
 use ctl_store::{StanzaKey, Store};
 use std::alloc::{AllocError, Global};

@@ -1,6 +1,6 @@
 //! The words of the program.
 
-use ctl_calls::tables::same;
+use crate::tables::same;
 use ctl_session::{Arguments, arguments};
 use std::alloc::{AllocError, Global};
 use std::process::Abort;

@@ -1,8 +1,7 @@
 //! Scripts and what they write.
 
 use crate::runs::{Act, came, came_of};
-use crate::tables::{each_writes, each_writes_behind};
-use ctl_calls::tables::same;
+use crate::tables::{each_writes, each_writes_behind, same};
 use ctl_store::Limits;
 use std::test::Fail;
 

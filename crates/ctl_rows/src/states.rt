@@ -1,7 +1,6 @@
 //! What scripts leave in the store.
 
-use crate::tables::{each_leaves, left_under};
-use ctl_calls::tables::same;
+use crate::tables::{each_leaves, left_under, same};
 use ctl_store::Limits;
 use std::test::Fail;
 

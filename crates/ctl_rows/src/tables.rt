@@ -1,11 +1,41 @@
 //! Tables of scripts, each with what it writes.
 
 use crate::runs::{Act, came, came_of};
-use ctl_calls::tables::same;
+use ctl_calls::texts::{beginning, truth};
 use ctl_store::Limits;
 use std::alloc::{AllocError, Global};
 use std::process::Abort;
 use std::test::Fail;
+
+/// Ends the test where a row came to another text than was wanted, and shows the row and both texts.
+pub fn same(rt: &impl Abort, row: &[u8], came: &[u8], wanted: &[u8]) {
+    let row = beginning(row).escape_ascii();
+    let is_same = came == wanted;
+    let came = beginning(came).escape_ascii();
+    let wanted = beginning(wanted).escape_ascii();
+    assert!(rt;
+        is_same,
+        "at \"{row}\"\n  came   \"{came}\"\n  wanted \"{wanted}\""
+    );
+}
+
+/// Ends the test where a row came to another truth than was wanted.
+pub fn agree(rt: &impl Abort, row: &[u8], came: bool, wanted: bool) {
+    same(rt, row, truth(came), truth(wanted));
+}
+
+/// Three texts, one behind another.
+pub fn joined(
+    alloc: Global,
+    first: &[u8],
+    second: &[u8],
+    third: &[u8],
+) -> Result<Vec<u8>, AllocError> {
+    let mut all = Vec::from_slice(alloc, first)?;
+    all.extend_from_slice(second)?;
+    all.extend_from_slice(third)?;
+    Ok(all)
+}
 
 /// What a script writes on an empty session.
 pub fn written(alloc: Global, script: &[u8]) -> Result<Vec<u8>, AllocError> {

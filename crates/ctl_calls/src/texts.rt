@@ -1,0 +1,22 @@
+//! How much of a text is shown where a row of a table fails.
+
+/// How many bytes of a text are shown where a row fails.
+const SHOWN: usize = 4096;
+
+/// The first bytes of a text, up to so many.
+pub fn front(text: &[u8], count: usize) -> &[u8] {
+    match text.get(..count) {
+        Some(front) => front,
+        None => text,
+    }
+}
+
+/// The beginning of a text, as much as is shown of it.
+pub fn beginning(text: &[u8]) -> &[u8] {
+    front(text, SHOWN)
+}
+
+/// The word for a truth.
+pub fn truth(holds: bool) -> &'static [u8] {
+    if holds { b"true" } else { b"false" }
+}
