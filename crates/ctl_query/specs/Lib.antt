@@ -1,0 +1,14 @@
+pub mod Packages
+pub mod Texts
+pub mod PackageNames
+pub mod Show
+pub mod Depends
+pub mod ReverseDepends
+pub mod Unmet
+pub mod Policy
+pub mod ShowPackage
+pub mod Words
+pub mod Asked
+pub mod Query
+pub mod QueryRead
+pub mod Answer

@@ -1,0 +1,234 @@
+//! The lines of `policy`.
+
+ghost use Rattle.std.specs.Prelude.{◌≡◌, ◌++◌, OnOk, flat_map};
+ghost use Rattle.std.specs.List.{AllByRecursion};
+ghost use Rattle.ctl_store.specs.Held.{keyed_of};
+ghost use Rattle.ctl_store.specs.Keys.{AreHeld};
+ghost use Rattle.ctl_policy.specs.Rows.{sources_of};
+ghost use Rattle.ctl_policy.specs.Priority.{world_of};
+ghost use Rattle.ctl_query.specs.Policy.{priority_of, row_version, version_or_none, is_led_by, row_mark, row_line, source_line, row_lines, policy_one, list_line, line_if_pinned, pinned_line};
+ghost use Rattle.ctl_query.specs.Packages.{rows_of};
+ghost use Rattle.ctl_policy.specs.Chosen.{choice_in};
+
+use crate::leads::version_under;
+use crate::text::{append_line, append_parts, append_right_four};
+use ctl_policy::{Chosen, NewestFirst, is_source, list_priority, row_priority, specific_pin};
+use ctl_store::{StanzaKey, Store};
+use std::alloc::{AllocError, Global};
+
+fn priority_of(store: &Store, list: &[u8]) -> i16
+    ensures { result ≡ priority_of (world_of store.now) list.now }
+{
+    match list_priority(store, list) {
+        Some(priority) => priority,
+        None => 0,
+    }
+}
+
+/// The version of a row, by its lead.
+pub(crate) fn row_version<'a>(store: &'a Store, row: &[StanzaKey]) -> &'a [u8]
+    ensures { result.now ≡ row_version (world_of store.now) row.now }
+{
+    match version_under(store, row.first().copied()) {
+        Some(version) => version.text(),
+        None => &[],
+    }
+}
+
+/// The version of a lead, if there is one.
+pub(crate) fn version_or_none(store: &Store, lead: Option<StanzaKey>) -> &[u8]
+    ensures { result.now ≡ version_or_none (world_of store.now) lead }
+{
+    match version_under(store, lead) {
+        Some(version) => version.text(),
+        None => b"(none)",
+    }
+}
+
+fn is_led_by(lead: Option<StanzaKey>, row: &[StanzaKey]) -> bool
+    ensures { result ≡ is_led_by lead row.now }
+{
+    match lead {
+        Some(key) => match row.first().copied() {
+            Some(first) => first.list == key.list && first.stanza == key.stanza,
+            None => false,
+        },
+        None => false,
+    }
+}
+
+/// What stands before a row: a star where it is the installed one.
+fn row_mark(installed: bool) -> &'static [u8]
+    ensures { result.now ≡ row_mark installed }
+{
+    if installed { b" *** " } else { b"     " }
+}
+
+/// Appends the line of a list that holds a row.
+#[tactic(auto, unfolding(crate::specs::Texts::line))]
+fn append_source(
+    alloc: Global,
+    store: &Store,
+    list: &[u8],
+    out: &mut Vec<u8>,
+) -> Result<(), AllocError>
+    ensures { OnOk result (out.new.items ≡ out.old.items ++ source_line (world_of store.now) list.now) }
+{
+    out.extend_from_slice(b"       ")?;
+    append_right_four(alloc, out, priority_of(store, list))?;
+    append_line(out, &[b" ", list])?;
+    Ok(())
+}
+
+/// Appends the sources of a row, which has these stanzas.
+#[tactic(auto, using(crate::proofs::ListLemmas::names_shown))]
+fn append_sources(
+    alloc: Global,
+    store: &Store,
+    row: &[StanzaKey],
+    out: &mut Vec<u8>,
+) -> Result<(), AllocError>
+    requires { AreHeld row.now (keyed_of store.now).lists }
+    ensures { OnOk result (out.new.items ≡ out.old.items ++ flat_map (source_line (world_of store.now)) (sources_of row.now (keyed_of store.now).lists)) }
+{
+    'lists: for list in store.lists() {
+        if is_source(store, list.0, row) {
+            append_source(alloc, store, list.0, out)?;
+        }
+    }
+    Ok(())
+}
+
+#[tactic(auto, unfolding(crate::specs::Texts::line))]
+fn append_row_line(
+    alloc: Global,
+    store: &Store,
+    name: &[u8],
+    installed: Option<StanzaKey>,
+    row: &[StanzaKey],
+    out: &mut Vec<u8>,
+) -> Result<(), AllocError>
+    requires { AreHeld row.now (keyed_of store.now).lists }
+    ensures { OnOk result (out.new.items ≡ out.old.items ++ row_line (world_of store.now) installed name.now row.now) }
+{
+    let priority = row_priority(store, name, row).to_string(alloc)?;
+    out.extend_from_slice(row_mark(is_led_by(installed, row)))?;
+    out.extend_from_slice(row_version(store, row))?;
+    append_line(out, &[b" ", priority.as_bytes()])?;
+    Ok(())
+}
+
+/// Appends a row of a name, which has these stanzas, and under it its sources.
+#[tactic(auto, unfolding(crate::specs::Policy::row_lines))]
+fn append_row(
+    alloc: Global,
+    store: &Store,
+    name: &[u8],
+    installed: Option<StanzaKey>,
+    row: &[StanzaKey],
+    out: &mut Vec<u8>,
+) -> Result<(), AllocError>
+    requires { AreHeld row.now (keyed_of store.now).lists }
+    ensures { OnOk result (out.new.items ≡ out.old.items ++ row_lines (world_of store.now) installed name.now row.now) }
+{
+    append_row_line(alloc, store, name, installed, row, out)?;
+    append_sources(alloc, store, row, out)?;
+    Ok(())
+}
+
+/// Appends the version table: the rows of a name.
+pub(crate) fn append_table(
+    alloc: Global,
+    store: &Store,
+    name: &[u8],
+    installed: Option<StanzaKey>,
+    rows: NewestFirst<'_>,
+    out: &mut Vec<u8>,
+) -> Result<(), AllocError>
+    requires { AllByRecursion (λ row. AreHeld row (keyed_of store.now).lists) rows.entry }
+    ensures { OnOk result (out.new.items ≡ out.old.items ++ flat_map (row_lines (world_of store.now) installed name.now) rows.entry) }
+{
+    'rows: for row in rows {
+        append_row(alloc, store, name, installed, row, out)?;
+    }
+    Ok(())
+}
+
+/// Appends the answer on a known name: what is chosen of it, and its rows.
+#[tactic(auto, unfolding(crate::specs::Policy::policy_one))]
+pub(crate) fn append_known(
+    alloc: Global,
+    store: &Store,
+    name: &[u8],
+    chosen: Chosen,
+    rows: NewestFirst<'_>,
+    out: &mut Vec<u8>,
+) -> Result<(), AllocError>
+    requires chosen { chosen ≡ choice_in name.now (world_of store.now) }
+    requires rows { rows.entry ≡ rows_of (world_of store.now) name.now }
+    requires held { AllByRecursion (λ row. AreHeld row (keyed_of store.now).lists) rows.entry }
+    ensures { OnOk result (out.new.items ≡ out.old.items ++ policy_one (world_of store.now) name.now) }
+{
+    append_line(out, &[name, b":"])?;
+    append_line(
+        out,
+        &[b"  Installed: ", version_or_none(store, chosen.installed)],
+    )?;
+    append_line(
+        out,
+        &[b"  Candidate: ", version_or_none(store, chosen.candidate)],
+    )?;
+    append_line(out, &[b"  Version table:"])?;
+    append_table(alloc, store, name, chosen.installed, rows, out)?;
+    Ok(())
+}
+
+/// Appends the line of a list among all.
+#[tactic(auto, unfolding(crate::specs::Texts::line))]
+pub(crate) fn append_list(
+    alloc: Global,
+    store: &Store,
+    list: &[u8],
+    out: &mut Vec<u8>,
+) -> Result<(), AllocError>
+    ensures { OnOk result (out.new.items ≡ out.old.items ++ list_line (world_of store.now) list.now) }
+{
+    append_right_four(alloc, out, priority_of(store, list))?;
+    append_line(out, &[b" ", list])?;
+    Ok(())
+}
+
+#[tactic(auto, unfolding(crate::specs::Texts::line))]
+fn append_pinned_line(
+    alloc: Global,
+    store: &Store,
+    name: &[u8],
+    row: &[StanzaKey],
+    priority: i16,
+    out: &mut Vec<u8>,
+) -> Result<(), AllocError>
+    ensures { OnOk result (out.new.items ≡ out.old.items ++ pinned_line (world_of store.now) name.now row.now priority) }
+{
+    let priority = priority.to_string(alloc)?;
+    append_parts(out, &[b"     ", name, b" -> "])?;
+    out.extend_from_slice(row_version(store, row))?;
+    append_line(out, &[b" with priority ", priority.as_bytes()])?;
+    Ok(())
+}
+
+/// Appends the line of a row of a name whose priority comes from a specific pin; nothing of another row.
+pub(crate) fn append_pinned(
+    alloc: Global,
+    store: &Store,
+    name: &[u8],
+    row: &[StanzaKey],
+    out: &mut Vec<u8>,
+) -> Result<(), AllocError>
+    requires { AreHeld row.now (keyed_of store.now).lists }
+    ensures { OnOk result (out.new.items ≡ out.old.items ++ line_if_pinned (world_of store.now) name.now row.now) }
+{
+    match specific_pin(store, name, row) {
+        Some(priority) => append_pinned_line(alloc, store, name, row, priority, out),
+        None => Ok(()),
+    }
+}
