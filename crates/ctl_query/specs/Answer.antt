@@ -10,14 +10,18 @@ use Rattle.ctl_query.specs.Unmet.{unmet_text}
 use Rattle.ctl_query.specs.Policy.{policy_text, policy_of_all}
 use Rattle.ctl_query.specs.ShowPackage.{show_package_text}
 
+-- with names of each, without of all
+abbrev pub policy_answer : World → List (List ℕ) → List ℕ
+policy_answer world [] = policy_of_all world
+policy_answer world (name ∷ names) = policy_text world (name ∷ names)
+
 abbrev pub answer_text : World → Query → List ℕ
 answer_text world (PackageNames all prefix) = package_names_text world all prefix
 answer_text world (Show all asked) = show_text world all asked
 answer_text world (Depends important installed names) = depends_text world important installed names
 answer_text world (ReverseDepends installed names) = reverse_depends_text world installed names
 answer_text world (Unmet important) = unmet_text world important
-answer_text world (Policy []) = policy_of_all world
-answer_text world (Policy (name ∷ names)) = policy_text world (name ∷ names)
+answer_text world (Policy names) = policy_answer world names
 answer_text world (ShowPackage names) = show_package_text world names
 
 -- how many tests an answer may make

@@ -1,5 +1,5 @@
 -- The packages of a store and their rows, as the answers of apt-cache(8) go through them.
-use Rattle.std.specs.Prelude.{ℕ, Bool, true, false, not, List, [], ◌∷◌, map, filter, flat_map, Option, None, Some, is_some, unwrap_or}
+use Rattle.std.specs.Prelude.{ℕ, Bool, true, false, List, [], ◌∷◌, map, filter, flat_map, Option, None, Some, is_some, unwrap_or}
 use Rattle.std.specs.List.{list_any}
 use Rattle.std.specs.Option.{option_map_or}
 use Rattle.std.specs.Str.{bytes_eq}
@@ -8,7 +8,7 @@ use Rattle.ctl_store.specs.declared.stanza_key.StanzaKey.{StanzaKey}
 use Rattle.ctl_store.specs.Keys.{stanza_lists, stanza_at}
 use Rattle.ctl_store.specs.Entries.{stanzas_in_order}
 use Rattle.ctl_index.specs.Names.{known_names}
-use Rattle.ctl_policy.specs.Rows.{lead_of, rows_named, newest_first, keys_of_row}
+use Rattle.ctl_policy.specs.Rows.{lead_of, rows_named, newest_first, keys_of_row, has_row as has_row_in}
 use Rattle.ctl_policy.specs.Priority.{World}
 use Rattle.ctl_policy.specs.Candidate.{installed_of}
 
@@ -35,8 +35,8 @@ is_known world name = list_any (bytes_eq name) (names_known world)
 unfoldable pub rows_of : World → List ℕ → List (List StanzaKey)
 rows_of world name = map keys_of_row (newest_first (rows_named name world.lists))
 
-unfoldable pub has_row : World → List ℕ → Bool
-has_row world name = not (is_none_of (rows_of world name))
+abbrev pub has_row : World → List ℕ → Bool
+has_row world name = has_row_in name world.lists
 
 -- the names that have a row, in the order of their bytes
 unfoldable pub packages_of : World → List (List ℕ)

@@ -20,10 +20,14 @@ lead_text lead = line (lead.text ∷ [])
 abbrev pub not_found_line : List ℕ → List ℕ → List ℕ
 not_found_line name version = line (codes "N: Version " ∷ version ∷ codes " of " ∷ name ∷ codes " was not found" ∷ [])
 
+-- the row of an equal version, or that there is none
+abbrev pub version_shown : World → List ℕ → List ℕ → List ℕ
+version_shown world name version =
+    option_map_or lead_text (stanza_under world (lead_at (rows_named name world.lists) version)) (not_found_line name version)
+
 -- The row of an equal version alone; or each row, newest first; or the candidate's row alone, if there is one.
 abbrev pub rows_shown : World → Bool → List ℕ → Option (List ℕ) → List ℕ
-rows_shown world all name (Some version) =
-    option_map_or lead_text (stanza_under world (lead_at (rows_named name world.lists) version)) (not_found_line name version)
+rows_shown world all name (Some version) = version_shown world name version
 rows_shown world true name None = of_rows world lead_text name
 rows_shown world false name None = told lead_text (stanza_under world (candidate_of name world))
 

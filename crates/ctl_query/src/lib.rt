@@ -1,16 +1,23 @@
 //! The queries of apt-cache(8) over a kept cache: words to a query, a query to its text.
 #![tactic(auto)]
 
+mod answering;
+mod depends;
 mod fields;
 mod leads;
+mod package_names;
 mod parsing;
 mod policy;
+mod providers;
 mod query;
 mod query_name;
 mod relation_lines;
+mod reverse_depends;
 mod show;
 mod show_package;
 mod text;
+mod unmet;
 
-pub use parsing::{is_query, read_query};
+pub use answering::answer;
+pub use parsing::{is_query, parse_query};
 pub use query::{AskedRow, Query};

@@ -305,7 +305,7 @@ pub fn is_query(name: &[u8]) -> bool
 /// The first of these: [`Refusal::Command`], where there are no words or the first is no query's name; [`Refusal::Usage`], where
 /// an option is not one of the query's, or there are too many or too few arguments; and, argument by argument from the left,
 /// [`Refusal::Name`] and [`Refusal::Version`], where one is no name or version. [`Refusal::Memory`] where memory is refused.
-pub fn read_query(alloc: Global, words: &[Bytes]) -> Result<Query, Refusal>
+pub fn parse_query(alloc: Global, words: &[Bytes]) -> Result<Query, Refusal>
     ensures { Reads query_text result (query_of words.now) }
 {
     let [name, words @ ..] = words else {

@@ -1,18 +1,22 @@
 //! The lines of `policy`.
 
-ghost use Rattle.std.specs.Prelude.{◌≡◌, ◌++◌, OnOk, flat_map};
+ghost use Rattle.std.specs.Prelude.{◌≡◌, ◌++◌, OnOk, false, filter, flat_map, map};
 ghost use Rattle.std.specs.List.{AllByRecursion};
+ghost use Rattle.std.specs.Map.{keys_of as names_of};
 ghost use Rattle.ctl_store.specs.Held.{keyed_of};
 ghost use Rattle.ctl_store.specs.Keys.{AreHeld};
 ghost use Rattle.ctl_policy.specs.Rows.{sources_of};
 ghost use Rattle.ctl_policy.specs.Priority.{world_of};
-ghost use Rattle.ctl_query.specs.Policy.{priority_of, row_version, version_or_none, is_led_by, row_mark, row_line, source_line, row_lines, policy_one, list_line, line_if_pinned, pinned_line};
+ghost use Rattle.ctl_query.specs.Policy.{priority_of, row_version, version_or_none, is_led_by, row_mark, row_line, source_line, row_lines, policy_one, list_line, line_if_pinned, pinned_line, pinned_lines, policy_of_all, policy_text};
+ghost use Rattle.ctl_query.specs.Texts.{if_known};
 ghost use Rattle.ctl_query.specs.Packages.{rows_of};
 ghost use Rattle.ctl_policy.specs.Chosen.{choice_in};
 
 use crate::leads::version_under;
-use crate::text::{append_line, append_parts, append_right_four};
+use crate::text::{append_line, append_parts, append_right_four, append_unknown};
+use ctl_index::{Cache, Packages};
 use ctl_policy::{Chosen, NewestFirst, is_source, list_priority, row_priority, specific_pin};
+use ctl_relation::Bytes;
 use ctl_store::{StanzaKey, Store};
 use std::alloc::{AllocError, Global};
 
@@ -156,7 +160,7 @@ pub(crate) fn append_table(
 
 /// Appends the answer on a known name: what is chosen of it, and its rows.
 #[tactic(auto, unfolding(crate::specs::Policy::policy_one))]
-pub(crate) fn append_known(
+fn append_known(
     alloc: Global,
     store: &Store,
     name: &[u8],
@@ -185,7 +189,7 @@ pub(crate) fn append_known(
 
 /// Appends the line of a list among all.
 #[tactic(auto, unfolding(crate::specs::Texts::line))]
-pub(crate) fn append_list(
+fn append_list(
     alloc: Global,
     store: &Store,
     list: &[u8],
@@ -217,7 +221,7 @@ fn append_pinned_line(
 }
 
 /// Appends the line of a row of a name whose priority comes from a specific pin; nothing of another row.
-pub(crate) fn append_pinned(
+fn append_pinned(
     alloc: Global,
     store: &Store,
     name: &[u8],
@@ -231,4 +235,102 @@ pub(crate) fn append_pinned(
         Some(priority) => append_pinned_line(alloc, store, name, row, priority, out),
         None => Ok(()),
     }
+}
+
+/// Appends the lines of those rows of a name whose priority comes from a specific pin.
+#[tactic(auto, unfolding(crate::specs::Policy::pinned_lines))]
+fn append_pinned_rows(
+    alloc: Global,
+    cache: &Cache,
+    name: &[u8],
+    out: &mut Vec<u8>,
+) -> Result<(), AllocError>
+    requires { cache.now.stale ≡ false }
+    ensures { OnOk result (out.new.items ≡ out.old.items ++ pinned_lines (world_of cache.now.store) name.now) }
+{
+    let store = cache.store();
+    'rows: for row in cache.rows(name) {
+        append_pinned(alloc, store, name, row, out)?;
+    }
+    Ok(())
+}
+
+/// Appends the lists, each with its priority.
+fn append_lists(alloc: Global, store: &Store, out: &mut Vec<u8>) -> Result<(), AllocError>
+    ensures { OnOk result (out.new.items ≡ out.old.items ++ flat_map (list_line (world_of store.now)) (names_of (world_of store.now).lists)) }
+{
+    'lists: for list in store.lists() {
+        append_list(alloc, store, list.0, out)?;
+    }
+    Ok(())
+}
+
+/// Appends the pinned rows of packages.
+fn append_all_pinned(
+    alloc: Global,
+    cache: &Cache,
+    packages: Packages<'_>,
+    out: &mut Vec<u8>,
+) -> Result<(), AllocError>
+    requires { cache.now.stale ≡ false }
+    ensures { OnOk result (out.new.items ≡ out.old.items ++ flat_map (pinned_lines (world_of cache.now.store)) packages.entry) }
+{
+    'packages: for name in packages {
+        append_pinned_rows(alloc, cache, name, out)?;
+    }
+    Ok(())
+}
+
+/// Appends the answer to `policy` without a name: the lists, and the rows whose priority comes from a specific pin.
+pub(crate) fn append_policy_of_all(
+    alloc: Global,
+    cache: &Cache,
+    out: &mut Vec<u8>,
+) -> Result<(), AllocError>
+    requires { cache.now.stale ≡ false }
+    ensures { OnOk result (out.new.items ≡ out.old.items ++ policy_of_all (world_of cache.now.store)) }
+{
+    append_line(out, &[b"Package files:"])?;
+    append_lists(alloc, cache.store(), out)?;
+    append_line(out, &[b"Pinned packages:"])?;
+    append_all_pinned(alloc, cache, cache.packages(), out)?;
+    Ok(())
+}
+
+fn append_one(
+    alloc: Global,
+    cache: &Cache,
+    name: &[u8],
+    out: &mut Vec<u8>,
+) -> Result<(), AllocError>
+    requires { cache.now.stale ≡ false }
+    ensures { OnOk result (out.new.items ≡ out.old.items ++ if_known (world_of cache.now.store) (policy_one (world_of cache.now.store)) name.now) }
+{
+    if !cache.is_known(name) {
+        return append_unknown(out, name);
+    }
+    append_known(
+        alloc,
+        cache.store(),
+        name,
+        cache.chosen(name),
+        cache.rows(name),
+        out,
+    )
+}
+
+/// Appends the answer to `policy` of names.
+pub(crate) fn append_policy(
+    alloc: Global,
+    cache: &Cache,
+    names: &[Bytes],
+    out: &mut Vec<u8>,
+) -> Result<(), AllocError>
+    requires { cache.now.stale ≡ false }
+    ensures { OnOk result (out.new.items ≡ out.old.items ++ policy_text (world_of cache.now.store) names.now) }
+{
+    for name in names {
+        append_one(alloc, cache, name.as_slice(), out)?;
+    }
+    Ok(())
 }

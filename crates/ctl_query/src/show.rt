@@ -1,12 +1,15 @@
 //! The lines of `show`.
 
-ghost use Rattle.std.specs.Prelude.{◌≡◌, ◌++◌, OnOk, flat_map, option_copied};
+ghost use Rattle.std.specs.Prelude.{◌≡◌, ◌++◌, OnOk, false, flat_map, map, option_copied};
 ghost use Rattle.ctl_policy.specs.Priority.{world_of};
+ghost use Rattle.ctl_query.specs.Asked.{asked_row};
 ghost use Rattle.ctl_query.specs.Packages.{told, told_of_row};
-ghost use Rattle.ctl_query.specs.Show.{lead_text, not_found_line};
+ghost use Rattle.ctl_query.specs.Show.{lead_text, not_found_line, rows_shown, show_one, show_text, version_shown};
 
-use crate::leads::lead_in;
-use crate::text::append_line;
+use crate::leads::{lead_in, stanza_under};
+use crate::query::AskedRow;
+use crate::text::{append_line, append_unknown};
+use ctl_index::Cache;
 use ctl_policy::NewestFirst;
 use ctl_relation::Version;
 use ctl_stanza::Stanza;
@@ -14,7 +17,7 @@ use ctl_store::{StanzaKey, Store};
 use std::alloc::AllocError;
 
 /// Appends the text of a lead and an empty line; nothing where there is none.
-pub(crate) fn append_lead(lead: Option<&Stanza>, out: &mut Vec<u8>) -> Result<(), AllocError>
+fn append_lead(lead: Option<&Stanza>, out: &mut Vec<u8>) -> Result<(), AllocError>
     ensures { OnOk result (out.new.items ≡ out.old.items ++ told lead_text (option_copied lead.entry)) }
 {
     match lead {
@@ -31,7 +34,7 @@ fn append_row(store: &Store, row: &[StanzaKey], out: &mut Vec<u8>) -> Result<(),
 }
 
 /// Appends each of some rows.
-pub(crate) fn append_rows(
+fn append_rows(
     store: &Store,
     rows: NewestFirst<'_>,
     out: &mut Vec<u8>,
@@ -45,7 +48,7 @@ pub(crate) fn append_rows(
 }
 
 /// Appends what stands in place of a row that is not there.
-pub(crate) fn append_not_found(
+fn append_not_found(
     name: &[u8],
     version: &Version,
     out: &mut Vec<u8>,
@@ -57,4 +60,77 @@ pub(crate) fn append_not_found(
         out,
         &[b"N: Version ", version, b" of ", name, b" was not found"],
     )
+}
+
+/// Appends the row of a name whose version is equal to this one, or that there is none.
+fn append_version(
+    cache: &Cache,
+    name: &[u8],
+    version: &Version,
+    out: &mut Vec<u8>,
+) -> Result<(), AllocError>
+    requires { cache.now.stale ≡ false }
+    ensures { OnOk result (out.new.items ≡ out.old.items ++ version_shown (world_of cache.now.store) name.now version.now) }
+{
+    match stanza_under(cache.store(), cache.lead(name, version)) {
+        Some(lead) => append_line(out, &[lead.text()]),
+        None => append_not_found(name, version, out),
+    }
+}
+
+/// Appends what is shown of a name that has a row.
+fn append_shown(
+    cache: &Cache,
+    all: bool,
+    name: &[u8],
+    version: &Option<Version>,
+    out: &mut Vec<u8>,
+) -> Result<(), AllocError>
+    requires { cache.now.stale ≡ false }
+    ensures { OnOk result (out.new.items ≡ out.old.items ++ rows_shown (world_of cache.now.store) all name.now version.now) }
+{
+    match version {
+        Some(version) => append_version(cache, name, version, out),
+        None => {
+            if all {
+                append_rows(cache.store(), cache.rows(name), out)?;
+                return Ok(());
+            }
+            append_lead(stanza_under(cache.store(), cache.candidate(name)), out)?;
+            Ok(())
+        }
+    }
+}
+
+fn append_one(
+    cache: &Cache,
+    all: bool,
+    asked: &AskedRow,
+    out: &mut Vec<u8>,
+) -> Result<(), AllocError>
+    requires { cache.now.stale ≡ false }
+    ensures { OnOk result (out.new.items ≡ out.old.items ++ show_one (world_of cache.now.store) all (asked_row asked.now)) }
+{
+    let name = asked.name.as_slice();
+    if cache.has_row(name) {
+        append_shown(cache, all, name, &asked.version, out)
+    } else {
+        append_unknown(out, name)
+    }
+}
+
+/// Appends the answer to `show`.
+pub(crate) fn append_show(
+    cache: &Cache,
+    all: bool,
+    asked: &[AskedRow],
+    out: &mut Vec<u8>,
+) -> Result<(), AllocError>
+    requires { cache.now.stale ≡ false }
+    ensures { OnOk result (out.new.items ≡ out.old.items ++ show_text (world_of cache.now.store) all (map asked_row asked.now)) }
+{
+    for one in asked {
+        append_one(cache, all, one, out)?;
+    }
+    Ok(())
 }

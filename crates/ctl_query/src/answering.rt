@@ -1,0 +1,96 @@
+//! A query to its text.
+
+ghost use Rattle.std.specs.Prelude.{◌≡◌, ◌++◌, ◌+◌, ◌≤◌, OnOk, OnErr, false};
+ghost use Rattle.ctl_policy.specs.Priority.{world_of};
+ghost use Rattle.ctl_query.specs.Answer.{answer_text, answer_pairs, policy_answer};
+ghost use Rattle.ctl_query.specs.QueryRead.{query_text};
+
+use crate::depends::append_depends;
+use crate::package_names::append_package_names;
+use crate::policy::{append_policy, append_policy_of_all};
+use crate::query::Query;
+use crate::reverse_depends::append_reverse_depends;
+use crate::show::append_show;
+use crate::show_package::append_show_package;
+use crate::unmet::append_unmet;
+use ctl_index::Cache;
+use ctl_relation::{Bytes, Steps};
+use std::alloc::{AllocError, Global};
+
+/// Appends the answer to `policy`, with or without names.
+fn append_any_policy(
+    alloc: Global,
+    cache: &Cache,
+    names: &[Bytes],
+    out: &mut Vec<u8>,
+) -> Result<(), AllocError>
+    requires { cache.now.stale ≡ false }
+    ensures { OnOk result (out.new.items ≡ out.old.items ++ policy_answer (world_of cache.now.store) names.now) }
+{
+    if names.is_empty() {
+        append_policy_of_all(alloc, cache, out)
+    } else {
+        append_policy(alloc, cache, names, out)
+    }
+}
+
+/// Appends the answer to a query. After want of memory a part of it may stand there.
+fn append_answer(
+    alloc: Global,
+    cache: &Cache,
+    query: &Query,
+    out: &mut Vec<u8>,
+    steps: &mut Steps,
+) -> Result<(), AllocError>
+    requires { cache.now.stale ≡ false }
+    ensures text { OnOk result (out.new.items ≡ out.old.items ++ answer_text (world_of cache.now.store) (query_text query.now)) }
+    ensures steps { steps.new ≤ steps.old + answer_pairs (world_of cache.now.store) (query_text query.now) }
+{
+    match query {
+        Query::PackageNames(all, prefix) => {
+            append_package_names(cache, *all, prefix.as_slice(), out)
+        }
+        Query::Show(all, rows) => append_show(cache, *all, rows, out),
+        Query::Depends(important, installed, names) => {
+            append_depends(alloc, cache, *important, *installed, names, out, steps)
+        }
+        Query::ReverseDepends(installed, names) => {
+            append_reverse_depends(alloc, cache, *installed, names, out)
+        }
+        Query::Unmet(important) => append_unmet(alloc, cache, *important, out),
+        Query::Policy(names) => append_any_policy(alloc, cache, names, out),
+        Query::ShowPackage(names) => append_show_package(alloc, cache, names, out),
+    }
+}
+
+/// Appends the answer to a query (apt-cache(8)) on a cache that isn't stale. It makes no test of an offer against an atom but
+/// for `depends`: there it makes at most one for each pair of an atom of a lead that is shown and an offer of its name.
+///
+/// # Errors
+///
+/// Want of memory. Then the text is as before.
+pub fn answer(
+    alloc: Global,
+    cache: &Cache,
+    query: &Query,
+    out: &mut Vec<u8>,
+    steps: &mut Steps,
+) -> Result<(), AllocError>
+    requires { cache.now.stale ≡ false }
+    ensures ok { OnOk result (out.new.items ≡ out.old.items ++ answer_text (world_of cache.now.store) (query_text query.now)) }
+    ensures err { OnErr result (out.new.items ≡ out.old.items) }
+    ensures steps { steps.new ≤ steps.old + answer_pairs (world_of cache.now.store) (query_text query.now) }
+{
+    if out.is_empty() {
+        return match append_answer(alloc, cache, query, out, steps) {
+            Ok(()) => Ok(()),
+            Err(error) => {
+                out.clear();
+                Err(error)
+            }
+        };
+    }
+    let mut text = Vec::new(alloc);
+    append_answer(alloc, cache, query, &mut text, steps)?;
+    out.extend_from_slice(&text)
+}
