@@ -1,18 +1,17 @@
 -- The answer to `depends`.
 use Rattle.std.specs.Prelude.{ℕ, Bool, not, ◌||◌, List, [], ◌∷◌, ◌++◌, map, filter, flat_map, codes, Option, None, if◌then◌else◌}
-use Rattle.std.specs.List.{list_any, sum_by}
+use Rattle.std.specs.List.{list_any, count_by, sum_by}
 use Rattle.std.specs.Option.{option_or, option_map_or}
 use Rattle.std.specs.Str.{bytes_eq}
 use Rattle.ctl_relation.specs.declared.field_kind.FieldKind.{FieldKind}
 use Rattle.ctl_relation.specs.declared.field_kind.FieldKind.TheVariants.{PreDepends, Depends}
 use Rattle.ctl_relation.specs.Met.{met}
-use Rattle.ctl_relation.specs.Parts.{AtomParts}
+use Rattle.ctl_relation.specs.Parts.{AtomParts, OfferParts}
 use Rattle.ctl_relation.specs.Printed.{qualifier_text}
 use Rattle.ctl_stanza.specs.Content.{Content, package_of, groups_of, offers_of}
 use Rattle.ctl_store.specs.declared.stanza_key.StanzaKey.{StanzaKey}
 use Rattle.ctl_index.specs.Names.{in_order, naming_fields}
 use Rattle.ctl_index.specs.Offers.{offers_among}
-use Rattle.ctl_index.specs.Work.{named_pairs}
 use Rattle.ctl_policy.specs.Rows.{lead_of}
 use Rattle.ctl_policy.specs.Priority.{World}
 use Rattle.ctl_policy.specs.Candidate.{candidate_of}
@@ -108,9 +107,12 @@ depends_text world important installed names = flat_map (if_known world (depends
 
 -- ---- the tests that it may make
 
--- the pairs of an atom of a group and an offer of its name
+-- how many offers there are of the name of an atom
+unfoldable pub atom_pairs : World → AtomParts → ℕ
+atom_pairs world atom = count_by (λ (offer : OfferParts). bytes_eq atom.name offer.name) (offers_among (stanzas_of world))
+
 unfoldable pub group_pairs : World → List AtomParts → ℕ
-group_pairs world group = named_pairs group (offers_among (stanzas_of world))
+group_pairs world group = sum_by (atom_pairs world) group
 
 unfoldable pub field_pairs : World → Content → FieldKind → ℕ
 field_pairs world lead field = sum_by (group_pairs world) (groups_of field lead)

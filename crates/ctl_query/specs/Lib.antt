@@ -12,3 +12,7 @@ pub mod Asked
 pub mod Query
 pub mod QueryRead
 pub mod Answer
+pub mod NameSet
+pub mod Interest
+pub mod Providers
+pub mod NamingRead

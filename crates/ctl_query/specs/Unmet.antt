@@ -26,10 +26,12 @@ clause_line field clause = line (codes " " ∷ field_label field ∷ codes ": " 
 abbrev pub line_if_unmet : World → FieldKind → List AtomParts → List ℕ
 line_if_unmet world field clause = if is_unmet world clause then clause_line field clause else []
 
+abbrev pub unmet_in_field : World → Content → FieldKind → List ℕ
+unmet_in_field world lead field = flat_map (line_if_unmet world field) (groups_of field lead)
+
 -- the clauses of a lead that are not met
 unfoldable pub clause_lines : World → Bool → Content → List ℕ
-clause_lines world important lead =
-    flat_map (λ field. flat_map (line_if_unmet world field) (groups_of field lead)) (fields_considered important)
+clause_lines world important lead = flat_map (unmet_in_field world lead) (fields_considered important)
 
 abbrev pub unmet_heading : Content → List ℕ
 unmet_heading lead = line (codes "Package " ∷ package_of lead ∷ codes " version " ∷ version_text lead ∷ codes " has an unmet dep:" ∷ [])

@@ -4,7 +4,10 @@
 mod answering;
 mod depends;
 mod fields;
+mod interest;
+mod lead_lines;
 mod leads;
+mod name_set;
 mod package_names;
 mod parsing;
 mod policy;

@@ -1,184 +1,273 @@
-//! The lines of `showpkg` that one lead gives.
+//! The answer to `showpkg`.
 
-ghost use Rattle.std.specs.Prelude.{◌≡◌, ◌++◌, OnOk, flat_map};
-ghost use Rattle.ctl_query.specs.ShowPackage.{asker, naming_line, line_if_naming, naming_lines, naming_in, relation_line, relations_in, relation_lines, entry_line, entry_lines, has_name, providing_line, line_if_providing, providing_lines};
+ghost use Rattle.std.specs.Prelude.{◌≡◌, ◌++◌, OnOk, false, flat_map};
+ghost use Rattle.ctl_store.specs.Held.{keyed_of};
+ghost use Rattle.ctl_store.specs.Keys.{AreHeld};
+ghost use Rattle.ctl_policy.specs.Priority.{world_of};
+ghost use Rattle.ctl_policy.specs.Rows.{sources_of};
+ghost use Rattle.ctl_query.specs.Packages.{rows_of, of_rows, of_all_rows, told_of_row};
+ghost use Rattle.ctl_query.specs.ShowPackage.{source_mark, version_line, naming_lines, relation_lines, entry_lines, providing_lines, show_package_one, show_package_text};
+ghost use Rattle.ctl_query.specs.Texts.{if_known};
 
-use crate::fields::depends_fields;
-use crate::text::{append_line, append_parts, field_label, version_text};
-use ctl_relation::{Atom, FieldKind, Group};
-use ctl_stanza::Stanza;
-use std::alloc::AllocError;
+use crate::interest::{packages_naming, packages_offering};
+use crate::leads::lead_in;
+use crate::policy::row_version;
+use crate::lead_lines::{
+    append_entry_lines, append_naming_lines, append_providing_lines, append_relation_lines,
+};
+use crate::text::{append_line, append_parts, append_unknown};
+use ctl_index::Cache;
+use ctl_policy::is_source;
+use ctl_relation::Bytes;
+use ctl_store::{StanzaKey, Store};
+use std::alloc::{AllocError, Global};
 
-/// Appends what stands before a relation or an entry of another package.
-fn append_asker(lead: &Stanza, out: &mut Vec<u8>) -> Result<(), AllocError>
-    ensures { OnOk result (out.new.items ≡ out.old.items ++ asker lead.now) }
+// ---- its versions
+
+/// Appends the lists that hold a row, which has these stanzas.
+#[tactic(auto, using(crate::proofs::ListLemmas::names_shown))]
+fn append_sources(
+    store: &Store,
+    row: &[StanzaKey],
+    out: &mut Vec<u8>,
+) -> Result<(), AllocError>
+    requires { AreHeld row.now (keyed_of store.now).lists }
+    ensures { OnOk result (out.new.items ≡ out.old.items ++ flat_map source_mark (sources_of row.now (keyed_of store.now).lists)) }
 {
-    append_parts(out, &[b"  ", lead.package(), b" ", version_text(lead), b" "])?;
+    'lists: for list in store.lists() {
+        if is_source(store, list.0, row) {
+            append_parts(out, &[b" (", list.0, b")"])?;
+        }
+    }
     Ok(())
 }
 
+/// Appends a row with the lists that hold it.
 #[tactic(auto, unfolding(crate::specs::Texts::line))]
+fn append_version(
+    store: &Store,
+    row: &[StanzaKey],
+    out: &mut Vec<u8>,
+) -> Result<(), AllocError>
+    requires { AreHeld row.now (keyed_of store.now).lists }
+    ensures { OnOk result (out.new.items ≡ out.old.items ++ version_line (world_of store.now) row.now) }
+{
+    out.extend_from_slice(row_version(store, row))?;
+    append_sources(store, row, out)?;
+    out.extend_from_slice(b"\n")?;
+    Ok(())
+}
+
+fn append_versions(cache: &Cache, name: &[u8], out: &mut Vec<u8>) -> Result<(), AllocError>
+    requires { cache.now.stale ≡ false }
+    ensures { OnOk result (out.new.items ≡ out.old.items ++ flat_map (version_line (world_of cache.now.store)) (rows_of (world_of cache.now.store) name.now)) }
+{
+    'rows: for row in cache.rows(name) {
+        append_version(cache.store(), row, out)?;
+    }
+    Ok(())
+}
+
+// ---- who names it
+
+fn append_naming_row(
+    store: &Store,
+    name: &[u8],
+    row: &[StanzaKey],
+    out: &mut Vec<u8>,
+) -> Result<(), AllocError>
+    ensures { OnOk result (out.new.items ≡ out.old.items ++ told_of_row (world_of store.now) (naming_lines name.now) row.now) }
+{
+    match lead_in(store, row) {
+        Some(lead) => append_naming_lines(name, lead, out),
+        None => Ok(()),
+    }
+}
+
+fn append_naming_rows(
+    cache: &Cache,
+    name: &[u8],
+    asker: &[u8],
+    out: &mut Vec<u8>,
+) -> Result<(), AllocError>
+    requires { cache.now.stale ≡ false }
+    ensures { OnOk result (out.new.items ≡ out.old.items ++ of_rows (world_of cache.now.store) (naming_lines name.now) asker.now) }
+{
+    'rows: for row in cache.rows(asker) {
+        append_naming_row(cache.store(), name, row, out)?;
+    }
+    Ok(())
+}
+
+/// Appends the atoms that name a name. The packages with such an atom are enough.
 fn append_naming(
-    lead: &Stanza,
-    field: FieldKind,
-    atom: &Atom,
-    out: &mut Vec<u8>,
-) -> Result<(), AllocError>
-    ensures { OnOk result (out.new.items ≡ out.old.items ++ naming_line lead.now field atom.now) }
-{
-    append_asker(lead, out)?;
-    append_parts(out, &[field_label(field), b": "])?;
-    atom.append_to(out)?;
-    out.extend_from_slice(b"\n")?;
-    Ok(())
-}
-
-/// Appends the atoms of a group of a lead that name a name.
-fn append_naming_group(
+    alloc: Global,
+    cache: &Cache,
     name: &[u8],
-    lead: &Stanza,
-    field: FieldKind,
-    atoms: &[Atom],
     out: &mut Vec<u8>,
 ) -> Result<(), AllocError>
-    ensures { OnOk result (out.new.items ≡ out.old.items ++ flat_map (line_if_naming name.now lead.now field) atoms.now) }
+    requires { cache.now.stale ≡ false }
+    ensures { OnOk result (out.new.items ≡ out.old.items ++ of_all_rows (world_of cache.now.store) (naming_lines name.now)) }
 {
-    for atom in atoms {
-        if atom.name() == name {
-            append_naming(lead, field, atom, out)?;
-        }
+    let askers = packages_naming(alloc, cache, name)?;
+    'askers: for asker in &askers {
+        append_naming_rows(cache, name, asker, out)?;
     }
     Ok(())
 }
 
-fn append_naming_field(
+// ---- what it names
+
+fn append_relation_row(
+    store: &Store,
+    row: &[StanzaKey],
+    out: &mut Vec<u8>,
+) -> Result<(), AllocError>
+    ensures { OnOk result (out.new.items ≡ out.old.items ++ told_of_row (world_of store.now) relation_lines row.now) }
+{
+    match lead_in(store, row) {
+        Some(lead) => append_relation_lines(lead, out),
+        None => Ok(()),
+    }
+}
+
+fn append_relations(cache: &Cache, name: &[u8], out: &mut Vec<u8>) -> Result<(), AllocError>
+    requires { cache.now.stale ≡ false }
+    ensures { OnOk result (out.new.items ≡ out.old.items ++ of_rows (world_of cache.now.store) relation_lines name.now) }
+{
+    'rows: for row in cache.rows(name) {
+        append_relation_row(cache.store(), row, out)?;
+    }
+    Ok(())
+}
+
+// ---- what it provides, and who provides it
+
+fn append_entry_row(
+    store: &Store,
+    row: &[StanzaKey],
+    out: &mut Vec<u8>,
+) -> Result<(), AllocError>
+    ensures { OnOk result (out.new.items ≡ out.old.items ++ told_of_row (world_of store.now) entry_lines row.now) }
+{
+    match lead_in(store, row) {
+        Some(lead) => append_entry_lines(lead, out),
+        None => Ok(()),
+    }
+}
+
+fn append_entries(cache: &Cache, name: &[u8], out: &mut Vec<u8>) -> Result<(), AllocError>
+    requires { cache.now.stale ≡ false }
+    ensures { OnOk result (out.new.items ≡ out.old.items ++ of_rows (world_of cache.now.store) entry_lines name.now) }
+{
+    'rows: for row in cache.rows(name) {
+        append_entry_row(cache.store(), row, out)?;
+    }
+    Ok(())
+}
+
+fn append_providing_row(
+    store: &Store,
     name: &[u8],
-    lead: &Stanza,
-    field: FieldKind,
+    row: &[StanzaKey],
     out: &mut Vec<u8>,
 ) -> Result<(), AllocError>
-    ensures { OnOk result (out.new.items ≡ out.old.items ++ naming_in name.now lead.now field) }
+    ensures { OnOk result (out.new.items ≡ out.old.items ++ told_of_row (world_of store.now) (providing_lines name.now) row.now) }
 {
-    let groups = lead.groups(field);
-    for group in groups {
-        append_naming_group(name, lead, field, group.atoms(), out)?;
+    match lead_in(store, row) {
+        Some(lead) => append_providing_lines(name, lead, out),
+        None => Ok(()),
     }
-    Ok(())
 }
 
-/// Appends the atoms of the eight fields of a lead that name a name.
-#[tactic(auto, unfolding(crate::specs::ShowPackage::naming_lines))]
-pub(crate) fn append_naming_lines(
+fn append_providing_rows(
+    cache: &Cache,
     name: &[u8],
-    lead: &Stanza,
+    asker: &[u8],
     out: &mut Vec<u8>,
 ) -> Result<(), AllocError>
-    ensures { OnOk result (out.new.items ≡ out.old.items ++ naming_lines name.now lead.now) }
+    requires { cache.now.stale ≡ false }
+    ensures { OnOk result (out.new.items ≡ out.old.items ++ of_rows (world_of cache.now.store) (providing_lines name.now) asker.now) }
 {
-    let fields = depends_fields(false);
-    for field in fields {
-        append_naming_field(name, lead, *field, out)?;
+    'rows: for row in cache.rows(asker) {
+        append_providing_row(cache.store(), name, row, out)?;
     }
     Ok(())
 }
 
-#[tactic(auto, unfolding(crate::specs::Texts::line))]
-fn append_relation(
-    lead: &Stanza,
-    field: FieldKind,
-    group: &Group,
-    out: &mut Vec<u8>,
-) -> Result<(), AllocError>
-    ensures { OnOk result (out.new.items ≡ out.old.items ++ relation_line lead.now field group.now) }
-{
-    append_parts(out, &[version_text(lead), b" "])?;
-    append_parts(out, &[field_label(field), b": "])?;
-    group.append_to(out)?;
-    out.extend_from_slice(b"\n")?;
-    Ok(())
-}
-
-fn append_relations_in(
-    lead: &Stanza,
-    field: FieldKind,
-    out: &mut Vec<u8>,
-) -> Result<(), AllocError>
-    ensures { OnOk result (out.new.items ≡ out.old.items ++ relations_in lead.now field) }
-{
-    let groups = lead.groups(field);
-    for group in groups {
-        append_relation(lead, field, group, out)?;
-    }
-    Ok(())
-}
-
-/// Appends the groups of the eight fields of a lead.
-#[tactic(auto, unfolding(crate::specs::ShowPackage::relation_lines))]
-pub(crate) fn append_relation_lines(lead: &Stanza, out: &mut Vec<u8>) -> Result<(), AllocError>
-    ensures { OnOk result (out.new.items ≡ out.old.items ++ relation_lines lead.now) }
-{
-    let fields = depends_fields(false);
-    for field in fields {
-        append_relations_in(lead, *field, out)?;
-    }
-    Ok(())
-}
-
-#[tactic(auto, unfolding(crate::specs::Texts::line))]
-fn append_entry(lead: &Stanza, entry: &Group, out: &mut Vec<u8>) -> Result<(), AllocError>
-    ensures { OnOk result (out.new.items ≡ out.old.items ++ entry_line lead.now entry.now) }
-{
-    append_parts(out, &[version_text(lead), b" "])?;
-    entry.append_to(out)?;
-    out.extend_from_slice(b"\n")?;
-    Ok(())
-}
-
-/// Appends the entries of a lead's Provides.
-#[tactic(auto, unfolding(crate::specs::ShowPackage::entry_lines))]
-pub(crate) fn append_entry_lines(lead: &Stanza, out: &mut Vec<u8>) -> Result<(), AllocError>
-    ensures { OnOk result (out.new.items ≡ out.old.items ++ entry_lines lead.now) }
-{
-    let entries = lead.provides();
-    for entry in entries {
-        append_entry(lead, entry, out)?;
-    }
-    Ok(())
-}
-
-fn has_name(name: &[u8], entry: &Group) -> bool
-    ensures { result ≡ has_name name.now entry.now }
-{
-    match entry.atoms() {
-        [] => false,
-        [atom, ..] => atom.name() == name,
-    }
-}
-
-#[tactic(auto, unfolding(crate::specs::Texts::line))]
-fn append_providing(lead: &Stanza, entry: &Group, out: &mut Vec<u8>) -> Result<(), AllocError>
-    ensures { OnOk result (out.new.items ≡ out.old.items ++ providing_line lead.now entry.now) }
-{
-    append_asker(lead, out)?;
-    entry.append_to(out)?;
-    out.extend_from_slice(b"\n")?;
-    Ok(())
-}
-
-/// Appends the entries of a lead's Provides with a name.
-#[tactic(auto, unfolding(crate::specs::ShowPackage::providing_lines))]
-pub(crate) fn append_providing_lines(
+/// Appends the entries of Provides with a name. The packages that offer it are enough.
+fn append_providing(
+    alloc: Global,
+    cache: &Cache,
     name: &[u8],
-    lead: &Stanza,
     out: &mut Vec<u8>,
 ) -> Result<(), AllocError>
-    ensures { OnOk result (out.new.items ≡ out.old.items ++ providing_lines name.now lead.now) }
+    requires { cache.now.stale ≡ false }
+    ensures { OnOk result (out.new.items ≡ out.old.items ++ of_all_rows (world_of cache.now.store) (providing_lines name.now)) }
 {
-    let entries = lead.provides();
-    for entry in entries {
-        if has_name(name, entry) {
-            append_providing(lead, entry, out)?;
-        }
+    let askers = packages_offering(alloc, cache, name)?;
+    'askers: for asker in &askers {
+        append_providing_rows(cache, name, asker, out)?;
+    }
+    Ok(())
+}
+
+// ---- all of it
+
+/// Appends the answer on a known name.
+#[tactic(auto, unfolding(crate::specs::ShowPackage::show_package_one))]
+fn append_known(
+    alloc: Global,
+    cache: &Cache,
+    name: &[u8],
+    out: &mut Vec<u8>,
+) -> Result<(), AllocError>
+    requires { cache.now.stale ≡ false }
+    ensures { OnOk result (out.new.items ≡ out.old.items ++ show_package_one (world_of cache.now.store) name.now) }
+{
+    append_line(out, &[b"Package: ", name])?;
+    append_line(out, &[b"Versions:"])?;
+    append_versions(cache, name, out)?;
+    append_line(out, &[])?;
+    append_line(out, &[b"Reverse Depends:"])?;
+    append_naming(alloc, cache, name, out)?;
+    append_line(out, &[b"Dependencies:"])?;
+    append_relations(cache, name, out)?;
+    append_line(out, &[b"Provides:"])?;
+    append_entries(cache, name, out)?;
+    append_line(out, &[b"Reverse Provides:"])?;
+    append_providing(alloc, cache, name, out)?;
+    Ok(())
+}
+
+fn append_one(
+    alloc: Global,
+    cache: &Cache,
+    name: &[u8],
+    out: &mut Vec<u8>,
+) -> Result<(), AllocError>
+    requires { cache.now.stale ≡ false }
+    ensures { OnOk result (out.new.items ≡ out.old.items ++ if_known (world_of cache.now.store) (show_package_one (world_of cache.now.store)) name.now) }
+{
+    if !cache.is_known(name) {
+        append_unknown(out, name)?;
+        return Ok(());
+    }
+    append_known(alloc, cache, name, out)
+}
+
+/// Appends the answer to `showpkg`.
+pub(crate) fn append_show_package(
+    alloc: Global,
+    cache: &Cache,
+    names: &[Bytes],
+    out: &mut Vec<u8>,
+) -> Result<(), AllocError>
+    requires { cache.now.stale ≡ false }
+    ensures { OnOk result (out.new.items ≡ out.old.items ++ show_package_text (world_of cache.now.store) names.now) }
+{
+    for name in names {
+        append_one(alloc, cache, name.as_slice(), out)?;
     }
     Ok(())
 }

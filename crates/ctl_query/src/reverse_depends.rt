@@ -1,0 +1,190 @@
+//! The answer to `rdepends`.
+
+ghost use Rattle.std.specs.Prelude.{◌≡◌, ◌++◌, OnOk, false, flat_map, None};
+ghost use Rattle.ctl_policy.specs.Priority.{world_of};
+ghost use Rattle.ctl_query.specs.NamingRead.{with_naming, with_all};
+ghost use Rattle.ctl_query.specs.ReverseDepends.{naming_in_group, naming_in_field, naming_in_lead, naming_in_row, naming, asker_line, asking_line, reverse_depends_one, reverse_depends_text};
+ghost use Rattle.ctl_query.specs.Packages.{packages_of};
+ghost use Rattle.ctl_query.specs.Texts.{if_known};
+
+use crate::fields::depends_fields;
+use crate::interest::packages_naming;
+use crate::leads::lead_in;
+use crate::relation_lines::mark;
+use crate::text::{append_line, append_unknown};
+use ctl_index::Cache;
+use ctl_relation::{Bytes, FieldKind, Group};
+use ctl_stanza::Stanza;
+use ctl_store::{StanzaKey, Store};
+use std::alloc::{AllocError, Global};
+
+/// One atom more that names a name: whether a further alternative follows each of them.
+fn with_naming(naming: Option<bool>, further: bool) -> Option<bool>
+    ensures { result ≡ with_naming naming further }
+{
+    match naming {
+        Some(all) => Some(all && further),
+        None => Some(further),
+    }
+}
+
+/// The atoms of a group are taken in.
+fn with_group(name: &[u8], group: &Group<'_>, naming: Option<bool>) -> Option<bool>
+    ensures { result ≡ with_all naming (naming_in_group name.now group.now) }
+{
+    let mut naming = naming;
+    let mut left = group.len();
+    'atoms: for atom in group.atoms() {
+        left -= 1;
+        if atom.name() == name {
+            naming = with_naming(naming, left > 0);
+        }
+    }
+    naming
+}
+
+fn with_field(name: &[u8], lead: &Stanza, field: FieldKind, naming: Option<bool>) -> Option<bool>
+    ensures { result ≡ with_all naming (naming_in_field name.now lead.now field) }
+{
+    let mut naming = naming;
+    'groups: for group in lead.groups(field) {
+        naming = with_group(name, &group, naming);
+    }
+    naming
+}
+
+/// The atoms of the eight fields of a lead are.
+fn with_lead(name: &[u8], lead: &Stanza, naming: Option<bool>) -> Option<bool>
+    ensures { result ≡ with_all naming (naming_in_lead name.now lead.now) }
+{
+    let mut naming = naming;
+    let fields = depends_fields(false);
+    for field in fields {
+        naming = with_field(name, lead, *field, naming);
+    }
+    naming
+}
+
+fn with_row(store: &Store, name: &[u8], row: &[StanzaKey], naming: Option<bool>) -> Option<bool>
+    ensures { result ≡ with_all naming (naming_in_row (world_of store.now) name.now row.now) }
+{
+    match lead_in(store, row) {
+        Some(lead) => with_lead(name, lead, naming),
+        None => naming,
+    }
+}
+
+/// Whether a further alternative follows each atom of a package's leads that names a name; none where no atom does.
+fn naming_of(cache: &Cache, name: &[u8], asker: &[u8]) -> Option<bool>
+    requires { cache.now.stale ≡ false }
+    ensures { result ≡ with_all None (naming (world_of cache.now.store) name.now asker.now) }
+{
+    let mut naming = None;
+    'rows: for row in cache.rows(asker) {
+        naming = with_row(cache.store(), name, row, naming);
+    }
+    naming
+}
+
+/// Appends the line of a package, if an atom of its leads names the name.
+fn append_asker(
+    cache: &Cache,
+    name: &[u8],
+    asker: &[u8],
+    out: &mut Vec<u8>,
+) -> Result<(), AllocError>
+    requires { cache.now.stale ≡ false }
+    ensures { OnOk result (out.new.items ≡ out.old.items ++ asker_line asker.now (naming (world_of cache.now.store) name.now asker.now)) }
+{
+    match naming_of(cache, name, asker) {
+        Some(all) => append_line(out, &[mark(all), asker]),
+        None => Ok(()),
+    }
+}
+
+/// The same, with `--installed` of a package of which a row is installed alone.
+fn append_asking(
+    cache: &Cache,
+    installed: bool,
+    name: &[u8],
+    asker: &[u8],
+    out: &mut Vec<u8>,
+) -> Result<(), AllocError>
+    requires { cache.now.stale ≡ false }
+    ensures { OnOk result (out.new.items ≡ out.old.items ++ asking_line (world_of cache.now.store) installed name.now asker.now) }
+{
+    if installed && cache.installed(asker).is_none() {
+        return Ok(());
+    }
+    append_asker(cache, name, asker, out)
+}
+
+/// Appends the lines of all packages: those of the packages with an atom of the name are enough.
+fn append_askers(
+    alloc: Global,
+    cache: &Cache,
+    installed: bool,
+    name: &[u8],
+    out: &mut Vec<u8>,
+) -> Result<(), AllocError>
+    requires { cache.now.stale ≡ false }
+    ensures { OnOk result (out.new.items ≡ out.old.items ++ flat_map (asking_line (world_of cache.now.store) installed name.now) (packages_of (world_of cache.now.store))) }
+{
+    let askers = packages_naming(alloc, cache, name)?;
+    'askers: for asker in &askers {
+        append_asking(cache, installed, name, asker, out)?;
+    }
+    Ok(())
+}
+
+/// Appends the answer on a known name.
+#[tactic(auto, unfolding(crate::specs::ReverseDepends::reverse_depends_one))]
+fn append_known(
+    alloc: Global,
+    cache: &Cache,
+    installed: bool,
+    name: &[u8],
+    out: &mut Vec<u8>,
+) -> Result<(), AllocError>
+    requires { cache.now.stale ≡ false }
+    ensures { OnOk result (out.new.items ≡ out.old.items ++ reverse_depends_one (world_of cache.now.store) installed name.now) }
+{
+    append_line(out, &[name])?;
+    append_line(out, &[b"Reverse Depends:"])?;
+    append_askers(alloc, cache, installed, name, out)?;
+    Ok(())
+}
+
+fn append_one(
+    alloc: Global,
+    cache: &Cache,
+    installed: bool,
+    name: &[u8],
+    out: &mut Vec<u8>,
+) -> Result<(), AllocError>
+    requires { cache.now.stale ≡ false }
+    ensures { OnOk result (out.new.items ≡ out.old.items ++ if_known (world_of cache.now.store) (reverse_depends_one (world_of cache.now.store) installed) name.now) }
+{
+    if !cache.is_known(name) {
+        append_unknown(out, name)?;
+        return Ok(());
+    }
+    append_known(alloc, cache, installed, name, out)
+}
+
+/// Appends the answer to `rdepends`.
+pub(crate) fn append_reverse_depends(
+    alloc: Global,
+    cache: &Cache,
+    installed: bool,
+    names: &[Bytes],
+    out: &mut Vec<u8>,
+) -> Result<(), AllocError>
+    requires { cache.now.stale ≡ false }
+    ensures { OnOk result (out.new.items ≡ out.old.items ++ reverse_depends_text (world_of cache.now.store) installed names.now) }
+{
+    for name in names {
+        append_one(alloc, cache, installed, name.as_slice(), out)?;
+    }
+    Ok(())
+}
