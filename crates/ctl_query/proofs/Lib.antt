@@ -1,2 +1,10 @@
+pub mod AnewLemmas
+pub mod ClassLemmas
+pub mod EntryLemmas
+pub mod InterestLemmas
+pub mod KnownLemmas
 pub mod ListLemmas
+pub mod NameLemmas
+pub mod OrderLemmas
 pub mod RowLemmas
+pub mod SilentLemmas
