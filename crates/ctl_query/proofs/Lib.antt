@@ -1,3 +1,11 @@
-pub mod ListLemmas
-pub mod RowLemmas
 pub mod AnewLemmas
+pub mod ClassLemmas
+pub mod EntryLemmas
+pub mod InterestLemmas
+pub mod KnownLemmas
+pub mod ListLemmas
+pub mod NameLemmas
+pub mod OrderLemmas
+pub mod PackageLemmas
+pub mod RowLemmas
+pub mod SilentLemmas

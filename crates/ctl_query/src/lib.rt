@@ -9,6 +9,7 @@ mod lead_lines;
 mod leads;
 mod name_set;
 mod package_names;
+mod packages;
 mod parsing;
 mod policy;
 mod providers;

@@ -7,12 +7,13 @@ ghost use Rattle.ctl_store.specs.Held.{keyed_of};
 ghost use Rattle.ctl_store.specs.Keys.{AreHeld};
 ghost use Rattle.ctl_policy.specs.Rows.{sources_of};
 ghost use Rattle.ctl_policy.specs.Priority.{world_of};
-ghost use Rattle.ctl_query.specs.Policy.{priority_of, row_version, version_or_none, is_led_by, row_mark, row_line, source_line, row_lines, policy_one, list_line, line_if_pinned, pinned_line, pinned_lines, policy_of_all, policy_text};
+ghost use Rattle.ctl_query.specs.Policy.{priority_of, row_version, version_or_none, are_of_one_row, row_mark, row_line, source_line, row_lines, policy_one, list_line, line_if_pinned, pinned_line, pinned_lines, policy_of_all, policy_text};
 ghost use Rattle.ctl_query.specs.Texts.{if_known};
 ghost use Rattle.ctl_query.specs.Packages.{rows_of};
 ghost use Rattle.ctl_policy.specs.Chosen.{choice_in};
 
 use crate::leads::version_under;
+use crate::packages::packages_of;
 use crate::text::{append_line, append_parts, append_right_four, append_unknown};
 use ctl_index::{Cache, Packages};
 use ctl_policy::{Chosen, NewestFirst, is_source, list_priority, row_priority, specific_pin};
@@ -49,12 +50,13 @@ pub(crate) fn version_or_none(store: &Store, lead: Option<StanzaKey>) -> &[u8]
     }
 }
 
-fn is_led_by(lead: Option<StanzaKey>, row: &[StanzaKey]) -> bool
-    ensures { result ≡ is_led_by lead row.now }
+/// Whether two leads, if they are there, are of equal versions.
+fn are_of_one_row(store: &Store, lead: Option<StanzaKey>, other: Option<StanzaKey>) -> bool
+    ensures { result ≡ are_of_one_row (world_of store.now) lead other }
 {
-    match lead {
-        Some(key) => match row.first().copied() {
-            Some(first) => first.list == key.list && first.stanza == key.stanza,
+    match version_under(store, lead) {
+        Some(version) => match version_under(store, other) {
+            Some(other) => version == other,
             None => false,
         },
         None => false,
@@ -116,7 +118,8 @@ fn append_row_line(
     ensures { OnOk result (out.new.items ≡ out.old.items ++ row_line (world_of store.now) installed name.now row.now) }
 {
     let priority = row_priority(store, name, row).to_string(alloc)?;
-    out.extend_from_slice(row_mark(is_led_by(installed, row)))?;
+    let is_installed = are_of_one_row(store, installed, row.first().copied());
+    out.extend_from_slice(row_mark(is_installed))?;
     out.extend_from_slice(row_version(store, row))?;
     append_line(out, &[b" ", priority.as_bytes()])?;
     Ok(())
@@ -238,7 +241,7 @@ fn append_pinned(
 }
 
 /// Appends the lines of those rows of a name whose priority comes from a specific pin.
-#[tactic(auto, unfolding(crate::specs::Policy::pinned_lines))]
+#[tactic(auto, unfolding(crate::specs::Policy::pinned_lines, crate::specs::Packages::rows_of))]
 fn append_pinned_rows(
     alloc: Global,
     cache: &Cache,
@@ -256,6 +259,7 @@ fn append_pinned_rows(
 }
 
 /// Appends the lists, each with its priority.
+#[tactic(auto, using(crate::proofs::ListLemmas::names_shown))]
 fn append_lists(alloc: Global, store: &Store, out: &mut Vec<u8>) -> Result<(), AllocError>
     ensures { OnOk result (out.new.items ≡ out.old.items ++ flat_map (list_line (world_of store.now)) (names_of (world_of store.now).lists)) }
 {
@@ -282,6 +286,7 @@ fn append_all_pinned(
 }
 
 /// Appends the answer to `policy` without a name: the lists, and the rows whose priority comes from a specific pin.
+#[tactic(auto, unfolding(crate::specs::Policy::policy_of_all))]
 pub(crate) fn append_policy_of_all(
     alloc: Global,
     cache: &Cache,
@@ -293,10 +298,11 @@ pub(crate) fn append_policy_of_all(
     append_line(out, &[b"Package files:"])?;
     append_lists(alloc, cache.store(), out)?;
     append_line(out, &[b"Pinned packages:"])?;
-    append_all_pinned(alloc, cache, cache.packages(), out)?;
+    append_all_pinned(alloc, cache, packages_of(cache), out)?;
     Ok(())
 }
 
+#[tactic(auto, unfolding(crate::specs::Packages::rows_of, crate::specs::Packages::is_known))]
 fn append_one(
     alloc: Global,
     cache: &Cache,

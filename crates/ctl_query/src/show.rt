@@ -79,6 +79,7 @@ fn append_version(
 }
 
 /// Appends what is shown of a name that has a row.
+#[tactic(auto, unfolding(crate::specs::Packages::rows_of))]
 fn append_shown(
     cache: &Cache,
     all: bool,
