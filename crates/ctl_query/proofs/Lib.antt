@@ -9,3 +9,5 @@ pub mod OrderLemmas
 pub mod PackageLemmas
 pub mod RowLemmas
 pub mod SilentLemmas
+pub mod TwinLemmas
+pub mod AnswerLemmas

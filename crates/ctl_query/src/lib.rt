@@ -6,6 +6,7 @@ mod depends;
 mod fields;
 mod interest;
 mod lead_lines;
+mod laws;
 mod leads;
 mod name_set;
 mod package_names;
@@ -23,5 +24,6 @@ mod text;
 mod unmet;
 
 pub use answering::answer;
+pub use laws::answers_are_as_if_built_anew;
 pub use parsing::{is_query, parse_query};
 pub use query::{AskedRow, Query};

@@ -13,7 +13,7 @@ ghost use Rattle.ctl_query.specs.Packages.{rows_of};
 ghost use Rattle.ctl_policy.specs.Chosen.{choice_in};
 
 use crate::leads::version_under;
-use crate::packages::packages_of;
+use crate::packages::{is_known, packages_of, rows_of};
 use crate::text::{append_line, append_parts, append_right_four, append_unknown};
 use ctl_index::{Cache, Packages};
 use ctl_policy::{Chosen, NewestFirst, is_source, list_priority, row_priority, specific_pin};
@@ -241,7 +241,7 @@ fn append_pinned(
 }
 
 /// Appends the lines of those rows of a name whose priority comes from a specific pin.
-#[tactic(auto, unfolding(crate::specs::Policy::pinned_lines, crate::specs::Packages::rows_of))]
+#[tactic(auto, unfolding(crate::specs::Policy::pinned_lines))]
 fn append_pinned_rows(
     alloc: Global,
     cache: &Cache,
@@ -252,7 +252,7 @@ fn append_pinned_rows(
     ensures { OnOk result (out.new.items ≡ out.old.items ++ pinned_lines (world_of cache.now.store) name.now) }
 {
     let store = cache.store();
-    'rows: for row in cache.rows(name) {
+    'rows: for row in rows_of(cache, name) {
         append_pinned(alloc, store, name, row, out)?;
     }
     Ok(())
@@ -302,7 +302,6 @@ pub(crate) fn append_policy_of_all(
     Ok(())
 }
 
-#[tactic(auto, unfolding(crate::specs::Packages::rows_of, crate::specs::Packages::is_known))]
 fn append_one(
     alloc: Global,
     cache: &Cache,
@@ -312,7 +311,7 @@ fn append_one(
     requires { cache.now.stale ≡ false }
     ensures { OnOk result (out.new.items ≡ out.old.items ++ if_known (world_of cache.now.store) (policy_one (world_of cache.now.store)) name.now) }
 {
-    if !cache.is_known(name) {
+    if !is_known(cache, name) {
         return append_unknown(out, name);
     }
     append_known(
@@ -320,7 +319,7 @@ fn append_one(
         cache.store(),
         name,
         cache.chosen(name),
-        cache.rows(name),
+        rows_of(cache, name),
         out,
     )
 }
