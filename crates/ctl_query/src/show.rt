@@ -36,11 +36,7 @@ fn append_row(store: &Store, row: &[StanzaKey], out: &mut Vec<u8>) -> Result<(),
 }
 
 /// Appends each of some rows.
-fn append_rows(
-    store: &Store,
-    rows: NewestFirst<'_>,
-    out: &mut Vec<u8>,
-) -> Result<(), AllocError>
+fn append_rows(store: &Store, rows: NewestFirst<'_>, out: &mut Vec<u8>) -> Result<(), AllocError>
     ensures { OnOk result (out.new.items ≡ out.old.items ++ flat_map (told_of_row (world_of store.now) lead_text) rows.entry) }
 {
     'rows: for row in rows {
@@ -50,11 +46,7 @@ fn append_rows(
 }
 
 /// Appends what stands in place of a row that is not there.
-fn append_not_found(
-    name: &[u8],
-    version: &Version,
-    out: &mut Vec<u8>,
-) -> Result<(), AllocError>
+fn append_not_found(name: &[u8], version: &Version, out: &mut Vec<u8>) -> Result<(), AllocError>
     ensures { OnOk result (out.new.items ≡ out.old.items ++ not_found_line name.now version.now) }
 {
     let version = version.text();
