@@ -16,3 +16,5 @@ pub mod NameSet
 pub mod Interest
 pub mod Providers
 pub mod NamingRead
+pub mod Holdings
+pub mod Anew
