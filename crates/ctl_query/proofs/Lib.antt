@@ -5,6 +5,10 @@ pub mod InterestLemmas
 pub mod KnownLemmas
 pub mod ListLemmas
 pub mod NameLemmas
+pub mod NamingLemmas
+pub mod OfferingLemmas
 pub mod OrderLemmas
+pub mod ProviderLemmas
 pub mod RowLemmas
 pub mod SilentLemmas
+pub mod UnmetLemmas

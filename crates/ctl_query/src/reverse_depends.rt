@@ -8,11 +8,12 @@ ghost use Rattle.ctl_query.specs.Packages.{packages_of};
 ghost use Rattle.ctl_query.specs.Texts.{if_known};
 
 use crate::fields::depends_fields;
-use crate::interest::packages_naming;
+use crate::interest::{packages_naming, stanzas_are_found};
 use crate::leads::lead_in;
 use crate::relation_lines::mark;
 use crate::text::{append_line, append_unknown};
 use ctl_index::Cache;
+use ctl_policy::rows_are_classes;
 use ctl_relation::{Bytes, FieldKind, Group};
 use ctl_stanza::Stanza;
 use ctl_store::{StanzaKey, Store};
@@ -87,6 +88,7 @@ fn naming_of(cache: &Cache, name: &[u8], asker: &[u8]) -> Option<bool>
 }
 
 /// Appends the line of a package, if an atom of its leads names the name.
+#[tactic(auto, unfolding(crate::specs::Texts::line))]
 fn append_asker(
     cache: &Cache,
     name: &[u8],
@@ -97,7 +99,11 @@ fn append_asker(
     ensures { OnOk result (out.new.items ≡ out.old.items ++ asker_line asker.now (naming (world_of cache.now.store) name.now asker.now)) }
 {
     match naming_of(cache, name, asker) {
-        Some(all) => append_line(out, &[mark(all), asker]),
+        Some(all) => {
+            out.extend_from_slice(mark(all))?;
+            append_line(out, &[asker])?;
+            Ok(())
+        }
         None => Ok(()),
     }
 }
@@ -130,6 +136,8 @@ fn append_askers(
     requires { cache.now.stale ≡ false }
     ensures { OnOk result (out.new.items ≡ out.old.items ++ flat_map (asking_line (world_of cache.now.store) installed name.now) (packages_of (world_of cache.now.store))) }
 {
+    rows_are_classes();
+    stanzas_are_found(cache.store());
     let askers = packages_naming(alloc, cache, name)?;
     'askers: for asker in &askers {
         append_asking(cache, installed, name, asker, out)?;

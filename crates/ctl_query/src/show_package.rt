@@ -9,7 +9,7 @@ ghost use Rattle.ctl_query.specs.Packages.{rows_of, of_rows, of_all_rows, told_o
 ghost use Rattle.ctl_query.specs.ShowPackage.{source_mark, version_line, naming_lines, relation_lines, entry_lines, providing_lines, show_package_one, show_package_text};
 ghost use Rattle.ctl_query.specs.Texts.{if_known};
 
-use crate::interest::{packages_naming, packages_offering};
+use crate::interest::{packages_naming, packages_offering, stanzas_are_found};
 use crate::leads::lead_in;
 use crate::policy::row_version;
 use crate::lead_lines::{
@@ -17,7 +17,7 @@ use crate::lead_lines::{
 };
 use crate::text::{append_line, append_parts, append_unknown};
 use ctl_index::Cache;
-use ctl_policy::is_source;
+use ctl_policy::{is_source, rows_are_classes};
 use ctl_relation::Bytes;
 use ctl_store::{StanzaKey, Store};
 use std::alloc::{AllocError, Global};
@@ -109,6 +109,8 @@ fn append_naming(
     requires { cache.now.stale ≡ false }
     ensures { OnOk result (out.new.items ≡ out.old.items ++ of_all_rows (world_of cache.now.store) (naming_lines name.now)) }
 {
+    rows_are_classes();
+    stanzas_are_found(cache.store());
     let askers = packages_naming(alloc, cache, name)?;
     'askers: for asker in &askers {
         append_naming_rows(cache, name, asker, out)?;
@@ -205,6 +207,8 @@ fn append_providing(
     requires { cache.now.stale ≡ false }
     ensures { OnOk result (out.new.items ≡ out.old.items ++ of_all_rows (world_of cache.now.store) (providing_lines name.now)) }
 {
+    rows_are_classes();
+    stanzas_are_found(cache.store());
     let askers = packages_offering(alloc, cache, name)?;
     'askers: for asker in &askers {
         append_providing_rows(cache, name, asker, out)?;

@@ -9,9 +9,10 @@ ghost use Rattle.ctl_query.specs.Packages.{of_rows, told_of_row};
 ghost use Rattle.ctl_query.specs.Unmet.{is_unmet, clause_line, line_if_unmet, unmet_in_field, clause_lines, unmet_heading, unmet_lead, unmet_text};
 
 use crate::fields::clause_fields;
-use crate::interest::packages_with_unmet;
+use crate::interest::{packages_with_unmet, stanzas_are_found};
 use crate::text::{append_line, append_parts, field_label, version_text};
 use ctl_index::{Cache, ClauseKey};
+use ctl_policy::rows_are_classes;
 use ctl_relation::{FieldKind, Group};
 use ctl_stanza::Stanza;
 use ctl_store::StanzaKey;
@@ -188,6 +189,8 @@ pub(crate) fn append_unmet(
     requires { cache.now.stale ≡ false }
     ensures { OnOk result (out.new.items ≡ out.old.items ++ unmet_text (world_of cache.now.store) important) }
 {
+    rows_are_classes();
+    stanzas_are_found(cache.store());
     let names = packages_with_unmet(alloc, cache)?;
     'names: for name in &names {
         append_rows(cache, important, name, out)?;
