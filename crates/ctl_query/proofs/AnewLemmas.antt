@@ -247,6 +247,7 @@ entry_keys_are (l ∷ ls) = both (entries_in l.1) (entries_of ls) ∙ (λ i. row
     both : (xs ys : List Entry) → map (λ (e : Entry). e.0) (xs ++ ys) ≡ map (λ (e : Entry). e.0) xs ++ map (λ (e : Entry). e.0) ys
     both [] ys = refl
     both (x ∷ xs) ys = ap (λ ks. x.0 ∷ ks) (both xs ys)
+
     rows_keys : (serial : ℕ) (rows : List (ℕ × Content)) → map (λ (e : Entry). e.0) (rows_under serial rows) ≡ map (λ (row : ℕ × Content). key_of serial row.0) rows
     rows_keys serial [] = refl
     rows_keys serial (row ∷ rows) = ap (λ ks. key_of serial row.0 ∷ ks) (rows_keys serial rows)

@@ -1,4 +1,5 @@
 pub mod AnewLemmas
+pub mod AnswerLemmas
 pub mod ClassLemmas
 pub mod EntryLemmas
 pub mod InterestLemmas
@@ -8,7 +9,9 @@ pub mod NameLemmas
 pub mod NamingLemmas
 pub mod OfferingLemmas
 pub mod OrderLemmas
+pub mod PackageLemmas
 pub mod ProviderLemmas
 pub mod RowLemmas
 pub mod SilentLemmas
+pub mod TwinLemmas
 pub mod UnmetLemmas

@@ -3,8 +3,9 @@ use Rattle.std.specs.Prelude.{ℕ, ℤ, pos, Bool, false, List, [], ◌∷◌, �
 use Rattle.std.specs.Fmt.{signed_decimal}
 use Rattle.std.specs.Map.{keys_of as names_of}
 use Rattle.std.specs.Option.{option_map_or}
+use Rattle.std.specs.Ordering.{is_eq}
+use Rattle.ctl_relation.specs.Version.{version_cmp}
 use Rattle.ctl_store.specs.declared.stanza_key.StanzaKey.{StanzaKey}
-use Rattle.ctl_store.specs.Keys.{key_is}
 use Rattle.ctl_policy.specs.Rows.{lead_of, version_under, sources_of}
 use Rattle.ctl_policy.specs.Priority.{World, list_priority, row_priority, specific_pin}
 use Rattle.ctl_policy.specs.Candidate.{installed_of, candidate_of}
@@ -25,10 +26,15 @@ row_version world row = unwrap_or (version_under world.lists (lead_of row)) []
 abbrev pub version_or_none : World → Option StanzaKey → List ℕ
 version_or_none world lead = unwrap_or (version_under world.lists lead) (codes "(none)")
 
--- whether a row has this lead
-abbrev pub is_led_by : Option StanzaKey → List StanzaKey → Bool
-is_led_by None row = false
-is_led_by (Some key) row = option_map_or (key_is key) (lead_of row) false
+-- whether two versions, if they are there, are equal
+abbrev pub are_equal : Option (List ℕ) → Option (List ℕ) → Bool
+are_equal None other = false
+are_equal (Some version) None = false
+are_equal (Some version) (Some other) = is_eq (version_cmp version other)
+
+-- Whether two leads of one name, if they are there, are of one row: their versions are equal.
+abbrev pub are_of_one_row : World → Option StanzaKey → Option StanzaKey → Bool
+are_of_one_row world lead other = are_equal (version_under world.lists lead) (version_under world.lists other)
 
 -- a star for the installed row
 abbrev pub row_mark : Bool → List ℕ
@@ -36,7 +42,7 @@ row_mark installed = if installed then codes " *** " else codes "     "
 
 abbrev pub row_line : World → Option StanzaKey → List ℕ → List StanzaKey → List ℕ
 row_line world installed name row =
-    line (row_mark (is_led_by installed row) ∷ row_version world row ∷ codes " " ∷ signed_decimal (row_priority name world row) ∷ [])
+    line (row_mark (are_of_one_row world installed (lead_of row)) ∷ row_version world row ∷ codes " " ∷ signed_decimal (row_priority name world row) ∷ [])
 
 abbrev pub source_line : World → List ℕ → List ℕ
 source_line world list = line (codes "       " ∷ right_four (priority_of world list) ∷ codes " " ∷ list ∷ [])

@@ -18,19 +18,14 @@ use ctl_relation::{Bytes, Steps};
 use std::alloc::{AllocError, Global};
 
 /// Appends the answer to `policy`, with or without names.
-fn append_any_policy(
-    alloc: Global,
-    cache: &Cache,
-    names: &[Bytes],
-    out: &mut Vec<u8>,
-) -> Result<(), AllocError>
+fn append_any_policy(cache: &Cache, names: &[Bytes], out: &mut Vec<u8>) -> Result<(), AllocError>
     requires { cache.now.stale ≡ false }
     ensures { OnOk result (out.new.items ≡ out.old.items ++ policy_answer (world_of cache.now.store) names.now) }
 {
     if names.is_empty() {
-        append_policy_of_all(alloc, cache, out)
+        append_policy_of_all(cache, out)
     } else {
-        append_policy(alloc, cache, names, out)
+        append_policy(cache, names, out)
     }
 }
 
@@ -58,7 +53,7 @@ fn append_answer(
             append_reverse_depends(alloc, cache, *installed, names, out)
         }
         Query::Unmet(important) => append_unmet(alloc, cache, *important, out),
-        Query::Policy(names) => append_any_policy(alloc, cache, names, out),
+        Query::Policy(names) => append_any_policy(cache, names, out),
         Query::ShowPackage(names) => append_show_package(alloc, cache, names, out),
     }
 }

@@ -4,6 +4,7 @@ ghost use Rattle.std.specs.Prelude.{◌≡◌, ◌++◌, OnOk, false, filter, fl
 ghost use Rattle.ctl_policy.specs.Priority.{world_of};
 ghost use Rattle.ctl_query.specs.PackageNames.{begins_with, name_line, package_names_text};
 
+use crate::packages::packages_of;
 use crate::text::append_line;
 use ctl_index::{Cache, Names, Packages};
 use std::alloc::AllocError;
@@ -50,6 +51,6 @@ pub(crate) fn append_package_names(
         append_names(cache.names(), prefix, out)?;
         return Ok(());
     }
-    append_packages(cache.packages(), prefix, out)?;
+    append_packages(packages_of(cache), prefix, out)?;
     Ok(())
 }

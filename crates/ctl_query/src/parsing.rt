@@ -228,10 +228,7 @@ fn query_by(
             if arguments.is_empty() {
                 return Err(Refusal::Usage);
             }
-            Ok(Query::Show(
-                shows_all(options),
-                rows_asked(alloc, &arguments)?,
-            ))
+            Ok(Query::Show(shows_all(options), rows_asked(alloc, &arguments)?))
         }
         QueryName::Depends => {
             some_names(&arguments)?;
@@ -243,10 +240,7 @@ fn query_by(
         }
         QueryName::ReverseDepends => {
             some_names(&arguments)?;
-            Ok(Query::ReverseDepends(
-                is_installed_alone(options),
-                arguments,
-            ))
+            Ok(Query::ReverseDepends(is_installed_alone(options), arguments))
         }
         QueryName::Unmet => {
             if !arguments.is_empty() {

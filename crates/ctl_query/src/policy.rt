@@ -7,18 +7,19 @@ ghost use Rattle.ctl_store.specs.Held.{keyed_of};
 ghost use Rattle.ctl_store.specs.Keys.{AreHeld};
 ghost use Rattle.ctl_policy.specs.Rows.{sources_of};
 ghost use Rattle.ctl_policy.specs.Priority.{world_of};
-ghost use Rattle.ctl_query.specs.Policy.{priority_of, row_version, version_or_none, is_led_by, row_mark, row_line, source_line, row_lines, policy_one, list_line, line_if_pinned, pinned_line, pinned_lines, policy_of_all, policy_text};
+ghost use Rattle.ctl_query.specs.Policy.{priority_of, row_version, version_or_none, are_of_one_row, row_mark, row_line, source_line, row_lines, policy_one, list_line, line_if_pinned, pinned_line, pinned_lines, policy_of_all, policy_text};
 ghost use Rattle.ctl_query.specs.Texts.{if_known};
 ghost use Rattle.ctl_query.specs.Packages.{rows_of};
 ghost use Rattle.ctl_policy.specs.Chosen.{choice_in};
 
 use crate::leads::version_under;
-use crate::text::{append_line, append_parts, append_right_four, append_unknown};
+use crate::packages::{is_known, packages_of, rows_of};
+use crate::text::{append_line, append_number, append_parts, append_right_four, append_unknown};
 use ctl_index::{Cache, Packages};
 use ctl_policy::{Chosen, NewestFirst, is_source, list_priority, row_priority, specific_pin};
 use ctl_relation::Bytes;
 use ctl_store::{StanzaKey, Store};
-use std::alloc::{AllocError, Global};
+use std::alloc::AllocError;
 
 fn priority_of(store: &Store, list: &[u8]) -> i16
     ensures { result ≡ priority_of (world_of store.now) list.now }
@@ -49,12 +50,13 @@ pub(crate) fn version_or_none(store: &Store, lead: Option<StanzaKey>) -> &[u8]
     }
 }
 
-fn is_led_by(lead: Option<StanzaKey>, row: &[StanzaKey]) -> bool
-    ensures { result ≡ is_led_by lead row.now }
+/// Whether two leads, if they are there, are of equal versions.
+fn are_of_one_row(store: &Store, lead: Option<StanzaKey>, other: Option<StanzaKey>) -> bool
+    ensures { result ≡ are_of_one_row (world_of store.now) lead other }
 {
-    match lead {
-        Some(key) => match row.first().copied() {
-            Some(first) => first.list == key.list && first.stanza == key.stanza,
+    match version_under(store, lead) {
+        Some(version) => match version_under(store, other) {
+            Some(other) => version == other,
             None => false,
         },
         None => false,
@@ -70,34 +72,24 @@ fn row_mark(installed: bool) -> &'static [u8]
 
 /// Appends the line of a list that holds a row.
 #[tactic(auto, unfolding(crate::specs::Texts::line))]
-fn append_source(
-    alloc: Global,
-    store: &Store,
-    list: &[u8],
-    out: &mut Vec<u8>,
-) -> Result<(), AllocError>
+fn append_source(store: &Store, list: &[u8], out: &mut Vec<u8>) -> Result<(), AllocError>
     ensures { OnOk result (out.new.items ≡ out.old.items ++ source_line (world_of store.now) list.now) }
 {
     out.extend_from_slice(b"       ")?;
-    append_right_four(alloc, out, priority_of(store, list))?;
+    append_right_four(out, priority_of(store, list))?;
     append_line(out, &[b" ", list])?;
     Ok(())
 }
 
 /// Appends the sources of a row, which has these stanzas.
 #[tactic(auto, using(crate::proofs::ListLemmas::names_shown))]
-fn append_sources(
-    alloc: Global,
-    store: &Store,
-    row: &[StanzaKey],
-    out: &mut Vec<u8>,
-) -> Result<(), AllocError>
+fn append_sources(store: &Store, row: &[StanzaKey], out: &mut Vec<u8>) -> Result<(), AllocError>
     requires { AreHeld row.now (keyed_of store.now).lists }
     ensures { OnOk result (out.new.items ≡ out.old.items ++ flat_map (source_line (world_of store.now)) (sources_of row.now (keyed_of store.now).lists)) }
 {
     'lists: for list in store.lists() {
         if is_source(store, list.0, row) {
-            append_source(alloc, store, list.0, out)?;
+            append_source(store, list.0, out)?;
         }
     }
     Ok(())
@@ -105,7 +97,6 @@ fn append_sources(
 
 #[tactic(auto, unfolding(crate::specs::Texts::line))]
 fn append_row_line(
-    alloc: Global,
     store: &Store,
     name: &[u8],
     installed: Option<StanzaKey>,
@@ -115,17 +106,18 @@ fn append_row_line(
     requires { AreHeld row.now (keyed_of store.now).lists }
     ensures { OnOk result (out.new.items ≡ out.old.items ++ row_line (world_of store.now) installed name.now row.now) }
 {
-    let priority = row_priority(store, name, row).to_string(alloc)?;
-    out.extend_from_slice(row_mark(is_led_by(installed, row)))?;
+    let is_installed = are_of_one_row(store, installed, row.first().copied());
+    out.extend_from_slice(row_mark(is_installed))?;
     out.extend_from_slice(row_version(store, row))?;
-    append_line(out, &[b" ", priority.as_bytes()])?;
+    out.extend_from_slice(b" ")?;
+    append_number(out, row_priority(store, name, row))?;
+    out.extend_from_slice(b"\n")?;
     Ok(())
 }
 
 /// Appends a row of a name, which has these stanzas, and under it its sources.
 #[tactic(auto, unfolding(crate::specs::Policy::row_lines))]
 fn append_row(
-    alloc: Global,
     store: &Store,
     name: &[u8],
     installed: Option<StanzaKey>,
@@ -135,14 +127,13 @@ fn append_row(
     requires { AreHeld row.now (keyed_of store.now).lists }
     ensures { OnOk result (out.new.items ≡ out.old.items ++ row_lines (world_of store.now) installed name.now row.now) }
 {
-    append_row_line(alloc, store, name, installed, row, out)?;
-    append_sources(alloc, store, row, out)?;
+    append_row_line(store, name, installed, row, out)?;
+    append_sources(store, row, out)?;
     Ok(())
 }
 
 /// Appends the version table: the rows of a name.
 pub(crate) fn append_table(
-    alloc: Global,
     store: &Store,
     name: &[u8],
     installed: Option<StanzaKey>,
@@ -153,7 +144,7 @@ pub(crate) fn append_table(
     ensures { OnOk result (out.new.items ≡ out.old.items ++ flat_map (row_lines (world_of store.now) installed name.now) rows.entry) }
 {
     'rows: for row in rows {
-        append_row(alloc, store, name, installed, row, out)?;
+        append_row(store, name, installed, row, out)?;
     }
     Ok(())
 }
@@ -161,7 +152,6 @@ pub(crate) fn append_table(
 /// Appends the answer on a known name: what is chosen of it, and its rows.
 #[tactic(auto, unfolding(crate::specs::Policy::policy_one))]
 fn append_known(
-    alloc: Global,
     store: &Store,
     name: &[u8],
     chosen: Chosen,
@@ -183,28 +173,22 @@ fn append_known(
         &[b"  Candidate: ", version_or_none(store, chosen.candidate)],
     )?;
     append_line(out, &[b"  Version table:"])?;
-    append_table(alloc, store, name, chosen.installed, rows, out)?;
+    append_table(store, name, chosen.installed, rows, out)?;
     Ok(())
 }
 
 /// Appends the line of a list among all.
 #[tactic(auto, unfolding(crate::specs::Texts::line))]
-fn append_list(
-    alloc: Global,
-    store: &Store,
-    list: &[u8],
-    out: &mut Vec<u8>,
-) -> Result<(), AllocError>
+fn append_list(store: &Store, list: &[u8], out: &mut Vec<u8>) -> Result<(), AllocError>
     ensures { OnOk result (out.new.items ≡ out.old.items ++ list_line (world_of store.now) list.now) }
 {
-    append_right_four(alloc, out, priority_of(store, list))?;
+    append_right_four(out, priority_of(store, list))?;
     append_line(out, &[b" ", list])?;
     Ok(())
 }
 
 #[tactic(auto, unfolding(crate::specs::Texts::line))]
 fn append_pinned_line(
-    alloc: Global,
     store: &Store,
     name: &[u8],
     row: &[StanzaKey],
@@ -213,16 +197,15 @@ fn append_pinned_line(
 ) -> Result<(), AllocError>
     ensures { OnOk result (out.new.items ≡ out.old.items ++ pinned_line (world_of store.now) name.now row.now priority) }
 {
-    let priority = priority.to_string(alloc)?;
     append_parts(out, &[b"     ", name, b" -> "])?;
-    out.extend_from_slice(row_version(store, row))?;
-    append_line(out, &[b" with priority ", priority.as_bytes()])?;
+    append_parts(out, &[row_version(store, row), b" with priority "])?;
+    append_number(out, priority)?;
+    out.extend_from_slice(b"\n")?;
     Ok(())
 }
 
 /// Appends the line of a row of a name whose priority comes from a specific pin; nothing of another row.
 fn append_pinned(
-    alloc: Global,
     store: &Store,
     name: &[u8],
     row: &[StanzaKey],
@@ -232,42 +215,37 @@ fn append_pinned(
     ensures { OnOk result (out.new.items ≡ out.old.items ++ line_if_pinned (world_of store.now) name.now row.now) }
 {
     match specific_pin(store, name, row) {
-        Some(priority) => append_pinned_line(alloc, store, name, row, priority, out),
+        Some(priority) => append_pinned_line(store, name, row, priority, out),
         None => Ok(()),
     }
 }
 
 /// Appends the lines of those rows of a name whose priority comes from a specific pin.
 #[tactic(auto, unfolding(crate::specs::Policy::pinned_lines))]
-fn append_pinned_rows(
-    alloc: Global,
-    cache: &Cache,
-    name: &[u8],
-    out: &mut Vec<u8>,
-) -> Result<(), AllocError>
+fn append_pinned_rows(cache: &Cache, name: &[u8], out: &mut Vec<u8>) -> Result<(), AllocError>
     requires { cache.now.stale ≡ false }
     ensures { OnOk result (out.new.items ≡ out.old.items ++ pinned_lines (world_of cache.now.store) name.now) }
 {
     let store = cache.store();
-    'rows: for row in cache.rows(name) {
-        append_pinned(alloc, store, name, row, out)?;
+    'rows: for row in rows_of(cache, name) {
+        append_pinned(store, name, row, out)?;
     }
     Ok(())
 }
 
 /// Appends the lists, each with its priority.
-fn append_lists(alloc: Global, store: &Store, out: &mut Vec<u8>) -> Result<(), AllocError>
+#[tactic(auto, using(crate::proofs::ListLemmas::names_shown))]
+fn append_lists(store: &Store, out: &mut Vec<u8>) -> Result<(), AllocError>
     ensures { OnOk result (out.new.items ≡ out.old.items ++ flat_map (list_line (world_of store.now)) (names_of (world_of store.now).lists)) }
 {
     'lists: for list in store.lists() {
-        append_list(alloc, store, list.0, out)?;
+        append_list(store, list.0, out)?;
     }
     Ok(())
 }
 
 /// Appends the pinned rows of packages.
 fn append_all_pinned(
-    alloc: Global,
     cache: &Cache,
     packages: Packages<'_>,
     out: &mut Vec<u8>,
@@ -276,52 +254,42 @@ fn append_all_pinned(
     ensures { OnOk result (out.new.items ≡ out.old.items ++ flat_map (pinned_lines (world_of cache.now.store)) packages.entry) }
 {
     'packages: for name in packages {
-        append_pinned_rows(alloc, cache, name, out)?;
+        append_pinned_rows(cache, name, out)?;
     }
     Ok(())
 }
 
 /// Appends the answer to `policy` without a name: the lists, and the rows whose priority comes from a specific pin.
-pub(crate) fn append_policy_of_all(
-    alloc: Global,
-    cache: &Cache,
-    out: &mut Vec<u8>,
-) -> Result<(), AllocError>
+#[tactic(auto, unfolding(crate::specs::Policy::policy_of_all))]
+pub(crate) fn append_policy_of_all(cache: &Cache, out: &mut Vec<u8>) -> Result<(), AllocError>
     requires { cache.now.stale ≡ false }
     ensures { OnOk result (out.new.items ≡ out.old.items ++ policy_of_all (world_of cache.now.store)) }
 {
     append_line(out, &[b"Package files:"])?;
-    append_lists(alloc, cache.store(), out)?;
+    append_lists(cache.store(), out)?;
     append_line(out, &[b"Pinned packages:"])?;
-    append_all_pinned(alloc, cache, cache.packages(), out)?;
+    append_all_pinned(cache, packages_of(cache), out)?;
     Ok(())
 }
 
-fn append_one(
-    alloc: Global,
-    cache: &Cache,
-    name: &[u8],
-    out: &mut Vec<u8>,
-) -> Result<(), AllocError>
+fn append_one(cache: &Cache, name: &[u8], out: &mut Vec<u8>) -> Result<(), AllocError>
     requires { cache.now.stale ≡ false }
     ensures { OnOk result (out.new.items ≡ out.old.items ++ if_known (world_of cache.now.store) (policy_one (world_of cache.now.store)) name.now) }
 {
-    if !cache.is_known(name) {
+    if !is_known(cache, name) {
         return append_unknown(out, name);
     }
     append_known(
-        alloc,
         cache.store(),
         name,
         cache.chosen(name),
-        cache.rows(name),
+        rows_of(cache, name),
         out,
     )
 }
 
 /// Appends the answer to `policy` of names.
 pub(crate) fn append_policy(
-    alloc: Global,
     cache: &Cache,
     names: &[Bytes],
     out: &mut Vec<u8>,
@@ -330,7 +298,7 @@ pub(crate) fn append_policy(
     ensures { OnOk result (out.new.items ≡ out.old.items ++ policy_text (world_of cache.now.store) names.now) }
 {
     for name in names {
-        append_one(alloc, cache, name.as_slice(), out)?;
+        append_one(cache, name.as_slice(), out)?;
     }
     Ok(())
 }

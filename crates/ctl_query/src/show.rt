@@ -1,12 +1,14 @@
 //! The lines of `show`.
 
 ghost use Rattle.std.specs.Prelude.{◌≡◌, ◌++◌, OnOk, false, flat_map, map, option_copied};
+ghost use Rattle.ctl_policy.specs.Candidate.{candidate_of};
 ghost use Rattle.ctl_policy.specs.Priority.{world_of};
 ghost use Rattle.ctl_query.specs.Asked.{asked_row};
-ghost use Rattle.ctl_query.specs.Packages.{told, told_of_row};
+ghost use Rattle.ctl_query.specs.Packages.{of_rows, stanza_under, told, told_of_row};
 ghost use Rattle.ctl_query.specs.Show.{lead_text, not_found_line, rows_shown, show_one, show_text, version_shown};
 
 use crate::leads::{lead_in, stanza_under};
+use crate::packages::rows_of;
 use crate::query::AskedRow;
 use crate::text::{append_line, append_unknown};
 use ctl_index::Cache;
@@ -34,11 +36,7 @@ fn append_row(store: &Store, row: &[StanzaKey], out: &mut Vec<u8>) -> Result<(),
 }
 
 /// Appends each of some rows.
-fn append_rows(
-    store: &Store,
-    rows: NewestFirst<'_>,
-    out: &mut Vec<u8>,
-) -> Result<(), AllocError>
+fn append_rows(store: &Store, rows: NewestFirst<'_>, out: &mut Vec<u8>) -> Result<(), AllocError>
     ensures { OnOk result (out.new.items ≡ out.old.items ++ flat_map (told_of_row (world_of store.now) lead_text) rows.entry) }
 {
     'rows: for row in rows {
@@ -48,18 +46,15 @@ fn append_rows(
 }
 
 /// Appends what stands in place of a row that is not there.
-fn append_not_found(
-    name: &[u8],
-    version: &Version,
-    out: &mut Vec<u8>,
-) -> Result<(), AllocError>
+fn append_not_found(name: &[u8], version: &Version, out: &mut Vec<u8>) -> Result<(), AllocError>
     ensures { OnOk result (out.new.items ≡ out.old.items ++ not_found_line name.now version.now) }
 {
     let version = version.text();
     append_line(
         out,
         &[b"N: Version ", version, b" of ", name, b" was not found"],
-    )
+    )?;
+    Ok(())
 }
 
 /// Appends the row of a name whose version is equal to this one, or that there is none.
@@ -78,6 +73,24 @@ fn append_version(
     }
 }
 
+/// Appends each row of a name.
+fn append_all(cache: &Cache, name: &[u8], out: &mut Vec<u8>) -> Result<(), AllocError>
+    requires { cache.now.stale ≡ false }
+    ensures { OnOk result (out.new.items ≡ out.old.items ++ of_rows (world_of cache.now.store) lead_text name.now) }
+{
+    append_rows(cache.store(), rows_of(cache, name), out)?;
+    Ok(())
+}
+
+/// Appends the row of the candidate, if there is one.
+fn append_candidate(cache: &Cache, name: &[u8], out: &mut Vec<u8>) -> Result<(), AllocError>
+    requires { cache.now.stale ≡ false }
+    ensures { OnOk result (out.new.items ≡ out.old.items ++ told lead_text (stanza_under (world_of cache.now.store) (candidate_of name.now (world_of cache.now.store)))) }
+{
+    append_lead(stanza_under(cache.store(), cache.candidate(name)), out)?;
+    Ok(())
+}
+
 /// Appends what is shown of a name that has a row.
 fn append_shown(
     cache: &Cache,
@@ -93,11 +106,10 @@ fn append_shown(
         Some(version) => append_version(cache, name, version, out),
         None => {
             if all {
-                append_rows(cache.store(), cache.rows(name), out)?;
-                return Ok(());
+                append_all(cache, name, out)
+            } else {
+                append_candidate(cache, name, out)
             }
-            append_lead(stanza_under(cache.store(), cache.candidate(name)), out)?;
-            Ok(())
         }
     }
 }

@@ -7,7 +7,8 @@ ghost use Rattle.ctl_query.specs.Packages.{version_text};
 
 use ctl_relation::FieldKind;
 use ctl_stanza::Stanza;
-use std::alloc::{AllocError, Global};
+use itoa::Buffer;
+use std::alloc::AllocError;
 
 /// Appends parts, one after another.
 pub(crate) fn append_parts(out: &mut Vec<u8>, parts: &[&[u8]]) -> Result<(), AllocError>
@@ -36,18 +37,25 @@ pub(crate) fn append_unknown(out: &mut Vec<u8>, name: &[u8]) -> Result<(), Alloc
     append_line(out, &[b"N: Unable to locate package ", name])
 }
 
+/// Appends a number.
+pub(crate) fn append_number(out: &mut Vec<u8>, number: i16) -> Result<(), AllocError>
+    ensures { OnOk result (out.new.items ≡ out.old.items ++ signed_decimal number) }
+{
+    let mut digits = Buffer::new();
+    out.extend_from_slice(digits.format(number).as_bytes())?;
+    Ok(())
+}
+
 /// Appends a number, right in four places, wider where it doesn't fit.
-pub(crate) fn append_right_four(
-    alloc: Global,
-    out: &mut Vec<u8>,
-    number: i16,
-) -> Result<(), AllocError>
+pub(crate) fn append_right_four(out: &mut Vec<u8>, number: i16) -> Result<(), AllocError>
     ensures { OnOk result (out.new.items ≡ out.old.items ++ right_four number) }
 {
-    let digits = number.to_string(alloc)?;
+    let mut digits = Buffer::new();
+    let digits = digits.format(number).as_bytes();
     let blanks = b"    ";
     out.extend_from_slice(&blanks[..4usize.saturating_sub(digits.len())])?;
-    out.extend_from_slice(digits.as_bytes())
+    out.extend_from_slice(digits)?;
+    Ok(())
 }
 
 /// A relation field as it is printed.

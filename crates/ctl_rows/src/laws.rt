@@ -9,6 +9,7 @@ use ctl_policy::{
     stanzas_leave_other_names, targets_leave_other_names, touched_names_are_enough,
     untouched_names_stay, worlds_move,
 };
+use ctl_query::answers_are_as_if_built_anew;
 use ctl_relation::{
     equal_versions, fields_bound_atoms, fields_have_one_fault, fields_have_places,
     keys_go_by_turns, met_by_name, met_counts_add_up, names_by_their_bytes,
@@ -60,6 +61,7 @@ fn laws_of_relations_can_be_called() {
 #[test]
 fn laws_of_commands_can_be_called() {
     commands_come_to_one_outcome();
+    answers_are_as_if_built_anew();
 }
 
 #[test]

@@ -12,7 +12,11 @@ use ctl_session::{Fault, FromRead, FromWrite, Session, Summary};
 use std::alloc::Global;
 
 #[cfg(test)]
+mod answers;
+#[cfg(test)]
 mod asked;
+#[cfg(test)]
+mod asking;
 #[cfg(test)]
 mod bodies;
 #[cfg(test)]

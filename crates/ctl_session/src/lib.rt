@@ -32,7 +32,7 @@ mod words;
 pub use command_line::arguments;
 pub use failed::Failed;
 pub use fault::Fault;
-pub use laws::{commands_come_to_one_outcome, queries_have_one_answer};
+pub use laws::commands_come_to_one_outcome;
 pub use load_fault::LoadFault;
 pub use program_words::{Arguments, ArgumentsFault};
 pub use session::Session;
