@@ -1,7 +1,9 @@
 pub mod AnewLemmas
 pub mod AnswerLemmas
 pub mod ClassLemmas
+pub mod EnoughLemmas
 pub mod EntryLemmas
+pub mod GroupLemmas
 pub mod InterestLemmas
 pub mod KnownLemmas
 pub mod ListLemmas

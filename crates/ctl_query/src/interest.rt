@@ -16,11 +16,11 @@ use ctl_store::{StanzaKey, Store};
 use std::alloc::{AllocError, Global};
 use std::collections::BTreeSet;
 
-/// Each stanza of a store is found by its key.
-pub(crate) fn stanzas_are_found(store: &Store)
-    ensures { AreAt (standing store.now) (keyed_of store.now).lists }
+/// Each stanza of a cache is found by its key.
+pub(crate) fn stanzas_are_found(cache: &Cache)
+    ensures { AreAt (standing cache.now.store) (keyed_of cache.now.store).lists }
 {
-    let _entries = store.entries();
+    let _entries = cache.store().entries();
 }
 
 /// Adds the package of the stanza of a key.

@@ -46,8 +46,8 @@ pub(crate) fn providers<'a>(
     ensures names { IfOk result (λ names. lent_names names.keys ≡ providers (world_of cache.now.store) atom.now) }
     ensures steps { steps.new ≤ steps.old + atom_pairs (world_of cache.now.store) atom.now }
 {
+    stanzas_are_found(cache);
     let store = cache.store();
-    stanzas_are_found(store);
     let mut names = BTreeSet::new(alloc);
     'offers: for (key, offer) in cache.offers(atom.name()) {
         let stanza = store.stanza(key);

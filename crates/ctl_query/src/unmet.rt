@@ -1,15 +1,17 @@
 //! The answer to `unmet`.
 
-ghost use Rattle.std.specs.Prelude.{◌≡◌, ◌++◌, OnOk, Some, true, false};
+ghost use Rattle.std.specs.Prelude.{◌≡◌, ◌++◌, OnOk, Some, flat_map, true, false};
 ghost use Rattle.ctl_store.specs.Followed.{under as found_under};
 ghost use Rattle.ctl_index.specs.Clauses.{is_clause_field, clause_at};
 ghost use Rattle.ctl_index.specs.Held.{standing};
 ghost use Rattle.ctl_policy.specs.Priority.{world_of};
+ghost use Rattle.ctl_query.specs.NameSet.{lent_names};
 ghost use Rattle.ctl_query.specs.Packages.{of_rows, told_of_row};
 ghost use Rattle.ctl_query.specs.Unmet.{is_unmet, clause_line, line_if_unmet, unmet_in_field, clause_lines, unmet_heading, unmet_lead, unmet_text};
 
 use crate::fields::clause_fields;
 use crate::interest::{packages_with_unmet, stanzas_are_found};
+use crate::packages::rows_of;
 use crate::text::{append_line, append_parts, field_label, version_text};
 use ctl_index::{Cache, ClauseKey};
 use ctl_policy::rows_are_classes;
@@ -17,6 +19,7 @@ use ctl_relation::{FieldKind, Group};
 use ctl_stanza::Stanza;
 use ctl_store::StanzaKey;
 use std::alloc::{AllocError, Global};
+use std::collections::BTreeSet;
 
 /// Whether no offer meets a clause, which has these atoms. The cache keeps the number of those that do, so none is tested.
 fn is_unmet(cache: &Cache, key: ClauseKey, clause: &Group<'_>) -> bool
@@ -173,8 +176,23 @@ fn append_rows(
     requires { cache.now.stale ≡ false }
     ensures { OnOk result (out.new.items ≡ out.old.items ++ of_rows (world_of cache.now.store) (unmet_lead (world_of cache.now.store) important) name.now) }
 {
-    'rows: for row in cache.rows(name) {
+    'rows: for row in rows_of(cache, name) {
         append_row(cache, important, row, out)?;
+    }
+    Ok(())
+}
+
+fn append_each(
+    cache: &Cache,
+    important: bool,
+    names: &BTreeSet<&[u8]>,
+    out: &mut Vec<u8>,
+) -> Result<(), AllocError>
+    requires { cache.now.stale ≡ false }
+    ensures { OnOk result (out.new.items ≡ out.old.items ++ flat_map (of_rows (world_of cache.now.store) (unmet_lead (world_of cache.now.store) important)) (lent_names names.now.keys)) }
+{
+    'names: for name in names {
+        append_rows(cache, important, name, out)?;
     }
     Ok(())
 }
@@ -190,10 +208,8 @@ pub(crate) fn append_unmet(
     ensures { OnOk result (out.new.items ≡ out.old.items ++ unmet_text (world_of cache.now.store) important) }
 {
     rows_are_classes();
-    stanzas_are_found(cache.store());
+    stanzas_are_found(cache);
     let names = packages_with_unmet(alloc, cache)?;
-    'names: for name in &names {
-        append_rows(cache, important, name, out)?;
-    }
+    append_each(cache, important, &names, out)?;
     Ok(())
 }

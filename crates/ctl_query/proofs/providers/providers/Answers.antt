@@ -35,7 +35,7 @@ returns-clause-steps c =
 pub returns-clause-names : goal.returns-clause-names
 returns-clause-names c =
     providers_are c.args.cache.now.store c.args.atom.now c.into_iter-key-iterator.result (lent_names c.offers.names.keys)
-    (rw c.store-store.ensures at c.stanzas_are_found.ensures)
+    c.stanzas_are_found.ensures
     (rw (c.into_iter-key-iterator.ensures.into_iter_gives, ← c.name.ensures) c.offers-key-items.ensures.offers)
     (increasing_lent c.offers.names.keys c.len-count.ensures.ordered)
     (λ name. ap (λ xs. list_any (gives_at c.args.cache.now.store c.args.atom.now name) xs || is_among (lent_names c.offers.names.keys) name) (sym c.in-None.ensures.steps.0) ∙ c.offers.invariant.names name)

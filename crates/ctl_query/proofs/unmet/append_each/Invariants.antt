@@ -3,7 +3,7 @@ use Rattle.ctl_policy.specs.Priority.{world_of}
 use Rattle.ctl_query.specs.NameSet.{lent_names}
 use Rattle.ctl_query.specs.Packages.{of_rows}
 use Rattle.ctl_query.specs.Unmet.{unmet_lead}
-use Rattle.ctl_query.proofs.unmet.append_unmet.Given as goal
+use Rattle.ctl_query.proofs.unmet.append_each.Given as goal
 
 -- what was written, and the packages that are left, are what there was and all of them
 abbrev pub invariant-names : goal.invariant-names
