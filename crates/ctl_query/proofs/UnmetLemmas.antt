@@ -1,5 +1,5 @@
 -- Of a package of which each clause is met there is nothing to tell.
-use Rattle.std.proofs.Common.{◌≡◌, ◌∙◌, ℕ, ◌+◌, suc, Bool, true, false, cond, ◌&&◌, ◌||◌, List, [], ◌∷◌, ◌++◌, map, flat_map, nat_eq, Option, Some, None, refl, sym, ap, arith}
+use Rattle.std.proofs.Common.{◌≡◌, ◌∙◌, ℕ, ◌+◌, suc, Bool, true, false, cond, ◌&&◌, ◌||◌, List, [], ◌∷◌, ◌++◌, map, flat_map, nat_eq, Option, Some, None, length, take, drop, append_assoc, refl, sym, ap, arith}
 use Rattle.std.specs.Prelude.{slice_get}
 use Rattle.std.specs.List.{AllByRecursion, list_any, filter}
 use Rattle.std.specs.Option.{option_map, option_map_or, option_and_then}
@@ -141,3 +141,44 @@ pub unmet_silent : (store : Held) (important : Bool) (asker : List ℕ) → AreA
 unfolding unmet_clauses
 unmet_silent store important asker at none =
     silent_from store important asker (standing store) at (in_entries (standing store) (is_of_package store asker) (standing store) (own_under (keyed_of store).lists at) none)
+
+-- ---- a clause that is passed
+
+-- what is left of a list from a place on begins with what stands there
+pub at_place : {A : Type 0} (xs its rest : List A) (n : ℕ) (x : A) → its ≡ drop n xs → its ≡ x ∷ rest → slice_get xs n ≡ Some x
+at_place [] its rest zero x e f = absurd (let z : x ∷ rest ≡ [] = sym f ∙ e in let w : ⊥ = cc in w)
+at_place [] its rest (suc n) x e f = absurd (let z : x ∷ rest ≡ [] = sym f ∙ e in let w : ⊥ = cc in w)
+at_place (y ∷ xs) its rest zero x e f = let z : y ∷ xs ≡ x ∷ rest = sym e ∙ f in let same : y ≡ x = cc in ap (λ v. Some v) same
+at_place (y ∷ xs) its rest (suc n) x e f = at_place xs its rest n x e f
+
+pub behind_place : {A : Type 0} (xs its rest : List A) (n : ℕ) (x : A) → its ≡ drop n xs → its ≡ x ∷ rest → rest ≡ drop (suc n) xs
+behind_place [] its rest zero x e f = absurd (let z : x ∷ rest ≡ [] = sym f ∙ e in let w : ⊥ = cc in w)
+behind_place [] its rest (suc n) x e f = absurd (let z : x ∷ rest ≡ [] = sym f ∙ e in let w : ⊥ = cc in w)
+behind_place (y ∷ xs) its rest zero x e f = let z : x ∷ rest ≡ y ∷ xs = sym f ∙ e in let same : rest ≡ xs = cc in same
+behind_place (y ∷ xs) its rest (suc n) x e f = behind_place xs its rest n x e f
+
+-- ---- a heading with nothing under it
+
+append_none : (xs : List ℕ) → xs ++ [] ≡ xs
+append_none [] = refl
+append_none (x ∷ xs) = ap (λ ys. x ∷ ys) (append_none xs)
+
+take_front : (xs ys : List ℕ) → take (length xs) (xs ++ ys) ≡ xs
+take_front [] ys = refl
+take_front (x ∷ xs) ys = ap (λ zs. x ∷ zs) (take_front xs ys)
+
+none_behind : (xs text : List ℕ) → length (xs ++ text) ≡ length xs → text ≡ []
+none_behind [] [] h = refl
+none_behind [] (b ∷ text) h = absurd (let z : ⊥ = cc in z)
+none_behind (x ∷ xs) text h = none_behind xs text (let z : length (xs ++ text) ≡ length xs = cc in z)
+
+pub taken_off : (before heading text old : List ℕ) (start headed : ℕ) → length before ≡ start → length (before ++ heading) ≡ headed → old ≡ (before ++ heading) ++ text → length old ≡ headed →
+    take start old ≡ before ++ under_heading heading text
+taken_off before heading text old start headed s h e l =
+    let none : text ≡ [] = none_behind (before ++ heading) text (ap length (sym e) ∙ l ∙ sym h) in
+    ap (λ n. take n old) (sym s) ∙ ap (take (length before)) (e ∙ append_assoc before heading text) ∙ take_front before (heading ++ text)
+    ∙ sym (ap (λ t. before ++ under_heading heading t) none ∙ append_none before)
+
+pub left_there : (before heading text old : List ℕ) (headed : ℕ) → length (before ++ heading) ≡ headed → old ≡ (before ++ heading) ++ text → (length old ≡ headed → ⊥) → old ≡ before ++ under_heading heading text
+left_there before heading [] old headed h e l = absurd (l (ap length (e ∙ append_none (before ++ heading)) ∙ h))
+left_there before heading (b ∷ text) old headed h e l = e ∙ append_assoc before heading (b ∷ text)

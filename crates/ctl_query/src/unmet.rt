@@ -1,13 +1,13 @@
 //! The answer to `unmet`.
 
-ghost use Rattle.std.specs.Prelude.{◌≡◌, ◌++◌, OnOk, Some, flat_map, true, false};
+ghost use Rattle.std.specs.Prelude.{◌≡◌, ◌++◌, ℕ, List, OnOk, Some, flat_map, length, true, false};
 ghost use Rattle.ctl_store.specs.Followed.{under as found_under};
 ghost use Rattle.ctl_index.specs.Clauses.{is_clause_field, clause_at};
 ghost use Rattle.ctl_index.specs.Held.{standing};
 ghost use Rattle.ctl_policy.specs.Priority.{world_of};
 ghost use Rattle.ctl_query.specs.NameSet.{lent_names};
 ghost use Rattle.ctl_query.specs.Packages.{of_rows, told_of_row};
-ghost use Rattle.ctl_query.specs.Unmet.{is_unmet, clause_line, line_if_unmet, unmet_in_field, clause_lines, unmet_heading, unmet_lead, unmet_text};
+ghost use Rattle.ctl_query.specs.Unmet.{is_unmet, clause_line, line_if_unmet, unmet_in_field, clause_lines, unmet_heading, under, unmet_lead, unmet_text};
 
 use crate::fields::clause_fields;
 use crate::interest::{packages_with_unmet, stanzas_are_found};
@@ -63,6 +63,7 @@ fn append_if_unmet(
 }
 
 /// Appends the clauses of a field of a lead that are not met.
+#[tactic(auto, using(crate::proofs::UnmetLemmas::behind_place))]
 fn append_field(
     cache: &Cache,
     stanza: StanzaKey,
@@ -126,8 +127,16 @@ fn append_heading(lead: &Stanza, out: &mut Vec<u8>) -> Result<(), AllocError>
     Ok(())
 }
 
+/// Takes a heading off again where nothing stands behind it. Before it stood so many bytes, and with it so many.
+fn close_heading(start: usize, headed: usize, out: &mut Vec<u8>)
+    ensures { (before : List ℕ) → (heading : List ℕ) → (text : List ℕ) → length before ≡ start → length (before ++ heading) ≡ headed → out.old.items ≡ (before ++ heading) ++ text → out.new.items ≡ before ++ under heading text }
+{
+    if out.len() == headed {
+        out.truncate(start);
+    }
+}
+
 /// Appends the clauses of a lead that are not met under their heading; nothing where there is none.
-#[tactic(auto, unfolding(crate::specs::Unmet::unmet_lead))]
 fn append_lead(
     cache: &Cache,
     important: bool,
@@ -143,9 +152,7 @@ fn append_lead(
     append_heading(lead, out)?;
     let headed = out.len();
     append_clauses(cache, important, stanza, lead, out)?;
-    if out.len() == headed {
-        out.truncate(start);
-    }
+    close_heading(start, headed, out);
     Ok(())
 }
 
