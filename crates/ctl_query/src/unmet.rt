@@ -9,7 +9,6 @@ ghost use Rattle.ctl_query.specs.NameSet.{lent_names};
 ghost use Rattle.ctl_query.specs.Packages.{of_rows, told_of_row};
 ghost use Rattle.ctl_query.specs.Unmet.{is_unmet, clause_line, line_if_unmet, unmet_in_field, clause_lines, unmet_heading, under, unmet_lead, unmet_text};
 
-use crate::fields::clause_fields;
 use crate::interest::{packages_with_unmet, stanzas_are_found};
 use crate::packages::rows_of;
 use crate::text::{append_line, append_parts, field_label, version_text};
@@ -103,10 +102,13 @@ fn append_clauses(
     requires lead { found_under stanza (standing cache.now.store) ≡ Some lead.now }
     ensures { OnOk result (out.new.items ≡ out.old.items ++ clause_lines (world_of cache.now.store) important lead.now) }
 {
-    let fields = clause_fields(important);
-    for field in fields {
-        append_field(cache, stanza, lead, *field, out)?;
+    append_field(cache, stanza, lead, FieldKind::PreDepends, out)?;
+    append_field(cache, stanza, lead, FieldKind::Depends, out)?;
+    if important {
+        return Ok(());
     }
+    append_field(cache, stanza, lead, FieldKind::Recommends, out)?;
+    append_field(cache, stanza, lead, FieldKind::Suggests, out)?;
     Ok(())
 }
 
