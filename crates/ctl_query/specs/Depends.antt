@@ -109,7 +109,7 @@ depends_text world important installed names = flat_map (if_known world (depends
 
 -- how many offers there are of the name of an atom
 unfoldable pub atom_pairs : World → AtomParts → ℕ
-atom_pairs world atom = count_by (λ (offer : OfferParts). bytes_eq atom.name offer.name) (offers_among (stanzas_of world))
+atom_pairs world atom = count_by (λ (offer : OfferParts). bytes_eq offer.name atom.name) (offers_among (stanzas_of world))
 
 unfoldable pub group_pairs : World → List AtomParts → ℕ
 group_pairs world group = sum_by (atom_pairs world) group

@@ -2,14 +2,14 @@
 
 ghost use Rattle.std.specs.Prelude.{◌≡◌, ◌++◌, ◌+◌, ◌≤◌, OnOk, false, option_copied};
 ghost use Rattle.ctl_policy.specs.Priority.{world_of};
-ghost use Rattle.ctl_query.specs.Depends.{atom_lines, group_lines, field_lines, lead_lines, has_lines, first_lead, lead_shown, depends_one, depends_text, atom_pairs, group_pairs, field_pairs, lead_pairs, one_pairs, depends_pairs, providers_kept};
+ghost use Rattle.ctl_query.specs.Depends.{atom_lines, group_lines, field_lines, lead_lines, has_lines, first_lead, lead_shown, depends_one, depends_text, atom_pairs, group_pairs, field_pairs, lead_pairs, one_pairs, depends_pairs, providers};
 ghost use Rattle.ctl_query.specs.NameSet.{lent_names};
 ghost use Rattle.ctl_query.specs.Packages.{rows_of};
 ghost use Rattle.ctl_query.specs.Texts.{if_known};
-ghost use Rattle.ctl_query.specs.Depends as definition;
 
 use crate::fields::depends_fields;
 use crate::leads::stanza_under;
+use crate::packages::{is_known, rows_of};
 use crate::providers::{append_providers, is_any_kept, providers};
 use crate::relation_lines::append_atom_line;
 use crate::text::{append_line, append_unknown};
@@ -23,7 +23,7 @@ use std::collections::BTreeSet;
 /// Whether an atom, which has these providers, has lines.
 fn has_lines(cache: &Cache, installed: bool, atom: &Atom<'_>, names: &BTreeSet<&[u8]>) -> bool
     requires fresh { cache.now.stale ≡ false }
-    requires names { lent_names names.now.keys ≡ definition.providers (world_of cache.now.store) atom.now }
+    requires names { lent_names names.now.keys ≡ providers (world_of cache.now.store) atom.now }
     ensures { result ≡ has_lines (world_of cache.now.store) installed atom.now }
 {
     !installed
@@ -57,7 +57,7 @@ fn append_atom(
 }
 
 /// Appends the lines of a group.
-#[tactic(auto, unfolding(crate::specs::Depends::group_lines, crate::specs::Depends::group_pairs))]
+#[tactic(auto, using(crate::proofs::GroupLemmas::is_followed), unfolding(crate::specs::Depends::group_lines, crate::specs::Depends::group_pairs))]
 fn append_group(
     alloc: Global,
     cache: &Cache,
@@ -127,7 +127,7 @@ fn first_lead(cache: &Cache, name: &[u8]) -> Option<StanzaKey>
     requires { cache.now.stale ≡ false }
     ensures { result ≡ first_lead (rows_of (world_of cache.now.store) name.now) }
 {
-    match cache.rows(name).next() {
+    match rows_of(cache, name).next() {
         Some(row) => row.first().copied(),
         None => None,
     }
@@ -185,7 +185,7 @@ fn append_one(
     ensures text { OnOk result (out.new.items ≡ out.old.items ++ if_known (world_of cache.now.store) (depends_one (world_of cache.now.store) important installed) name.now) }
     ensures steps { steps.new ≤ steps.old + one_pairs (world_of cache.now.store) important name.now }
 {
-    if !cache.is_known(name) {
+    if !is_known(cache, name) {
         append_unknown(out, name)?;
         return Ok(());
     }

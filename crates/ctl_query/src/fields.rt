@@ -2,7 +2,6 @@
 
 ghost use Rattle.std.specs.Prelude.{◌≡◌};
 ghost use Rattle.ctl_query.specs.Depends.{depends_fields};
-ghost use Rattle.ctl_query.specs.Unmet.{fields_considered};
 
 use ctl_relation::FieldKind;
 
@@ -22,22 +21,6 @@ pub(crate) fn depends_fields(important: bool) -> &'static [FieldKind]
             FieldKind::Suggests,
             FieldKind::Replaces,
             FieldKind::Enhances,
-        ]
-    }
-}
-
-/// The four fields whose groups are clauses, or with `-i` the first two.
-pub(crate) fn clause_fields(important: bool) -> &'static [FieldKind]
-    ensures { result.now ≡ fields_considered important }
-{
-    if important {
-        &[FieldKind::PreDepends, FieldKind::Depends]
-    } else {
-        &[
-            FieldKind::PreDepends,
-            FieldKind::Depends,
-            FieldKind::Recommends,
-            FieldKind::Suggests,
         ]
     }
 }

@@ -4,6 +4,9 @@ ghost use Rattle.std.specs.Prelude.{◌≡◌, ◌||◌, ℕ, List, OnOk, IfOk, 
 ghost use Rattle.std.specs.Cmp.Lexicographic.{slice_cmp};
 ghost use Rattle.std.specs.List.Sorted.{IsStrictlySortedBy};
 ghost use Rattle.std.specs.Ordering.{nat_cmp};
+ghost use Rattle.ctl_store.specs.Entries.{AreAt};
+ghost use Rattle.ctl_store.specs.Held.{keyed_of};
+ghost use Rattle.ctl_index.specs.Held.{standing};
 ghost use Rattle.ctl_query.specs.Interest.{is_of_package, names_it, offers_it, has_unmet};
 ghost use Rattle.ctl_query.specs.NameSet.{lent_names, is_among};
 
@@ -12,6 +15,13 @@ use ctl_index::Cache;
 use ctl_store::{StanzaKey, Store};
 use std::alloc::{AllocError, Global};
 use std::collections::BTreeSet;
+
+/// Each stanza of a cache is found by its key.
+pub(crate) fn stanzas_are_found(cache: &Cache)
+    ensures { AreAt (standing cache.now.store) (keyed_of cache.now.store).lists }
+{
+    let _entries = cache.store().entries();
+}
 
 /// Adds the package of the stanza of a key.
 fn add_package<'a>(

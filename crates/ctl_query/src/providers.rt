@@ -8,6 +8,7 @@ ghost use Rattle.ctl_query.specs.NameSet.{lent_names, is_among};
 ghost use Rattle.ctl_query.specs.Packages.{is_none_of};
 ghost use Rattle.ctl_query.specs.Providers.{gives};
 
+use crate::interest::stanzas_are_found;
 use crate::name_set::add_name;
 use crate::text::append_line;
 use ctl_index::Cache;
@@ -45,6 +46,7 @@ pub(crate) fn providers<'a>(
     ensures names { IfOk result (λ names. lent_names names.keys ≡ providers (world_of cache.now.store) atom.now) }
     ensures steps { steps.new ≤ steps.old + atom_pairs (world_of cache.now.store) atom.now }
 {
+    stanzas_are_found(cache);
     let store = cache.store();
     let mut names = BTreeSet::new(alloc);
     'offers: for (key, offer) in cache.offers(atom.name()) {

@@ -2,21 +2,25 @@
 
 ghost use Rattle.std.specs.Prelude.{◌≡◌, ◌++◌, OnOk, false, flat_map, None};
 ghost use Rattle.ctl_policy.specs.Priority.{world_of};
-ghost use Rattle.ctl_query.specs.NamingRead.{with_naming, with_all};
+ghost use Rattle.ctl_query.specs.NameSet.{lent_names};
+ghost use Rattle.ctl_query.specs.NamingRead.{naming_line, with_all, with_naming};
 ghost use Rattle.ctl_query.specs.ReverseDepends.{naming_in_group, naming_in_field, naming_in_lead, naming_in_row, naming, asker_line, asking_line, reverse_depends_one, reverse_depends_text};
 ghost use Rattle.ctl_query.specs.Packages.{packages_of};
 ghost use Rattle.ctl_query.specs.Texts.{if_known};
 
 use crate::fields::depends_fields;
-use crate::interest::packages_naming;
+use crate::interest::{packages_naming, stanzas_are_found};
 use crate::leads::lead_in;
+use crate::packages::{is_known, rows_of};
 use crate::relation_lines::mark;
 use crate::text::{append_line, append_unknown};
 use ctl_index::Cache;
+use ctl_policy::rows_are_classes;
 use ctl_relation::{Bytes, FieldKind, Group};
 use ctl_stanza::Stanza;
 use ctl_store::{StanzaKey, Store};
 use std::alloc::{AllocError, Global};
+use std::collections::BTreeSet;
 
 /// One atom more that names a name: whether a further alternative follows each of them.
 fn with_naming(naming: Option<bool>, further: bool) -> Option<bool>
@@ -29,6 +33,7 @@ fn with_naming(naming: Option<bool>, further: bool) -> Option<bool>
 }
 
 /// The atoms of a group are taken in.
+#[tactic(auto, using(crate::proofs::GroupLemmas::is_followed), unfolding(crate::specs::ReverseDepends::naming_in_group, crate::specs::NamingRead::with_all))]
 fn with_group(name: &[u8], group: &Group<'_>, naming: Option<bool>) -> Option<bool>
     ensures { result ≡ with_all naming (naming_in_group name.now group.now) }
 {
@@ -43,6 +48,7 @@ fn with_group(name: &[u8], group: &Group<'_>, naming: Option<bool>) -> Option<bo
     naming
 }
 
+#[tactic(auto, using(crate::proofs::GroupLemmas::with_append), unfolding(crate::specs::NamingRead::with_all))]
 fn with_field(name: &[u8], lead: &Stanza, field: FieldKind, naming: Option<bool>) -> Option<bool>
     ensures { result ≡ with_all naming (naming_in_field name.now lead.now field) }
 {
@@ -54,6 +60,7 @@ fn with_field(name: &[u8], lead: &Stanza, field: FieldKind, naming: Option<bool>
 }
 
 /// The atoms of the eight fields of a lead are.
+#[tactic(auto, using(crate::proofs::GroupLemmas::with_append), unfolding(crate::specs::ReverseDepends::naming_in_lead, crate::specs::NamingRead::with_all))]
 fn with_lead(name: &[u8], lead: &Stanza, naming: Option<bool>) -> Option<bool>
     ensures { result ≡ with_all naming (naming_in_lead name.now lead.now) }
 {
@@ -65,6 +72,7 @@ fn with_lead(name: &[u8], lead: &Stanza, naming: Option<bool>) -> Option<bool>
     naming
 }
 
+#[tactic(auto, unfolding(crate::specs::NamingRead::with_all))]
 fn with_row(store: &Store, name: &[u8], row: &[StanzaKey], naming: Option<bool>) -> Option<bool>
     ensures { result ≡ with_all naming (naming_in_row (world_of store.now) name.now row.now) }
 {
@@ -75,18 +83,35 @@ fn with_row(store: &Store, name: &[u8], row: &[StanzaKey], naming: Option<bool>)
 }
 
 /// Whether a further alternative follows each atom of a package's leads that names a name; none where no atom does.
+#[tactic(auto, using(crate::proofs::GroupLemmas::with_append), unfolding(crate::specs::ReverseDepends::naming, crate::specs::NamingRead::with_all))]
 fn naming_of(cache: &Cache, name: &[u8], asker: &[u8]) -> Option<bool>
     requires { cache.now.stale ≡ false }
     ensures { result ≡ with_all None (naming (world_of cache.now.store) name.now asker.now) }
 {
     let mut naming = None;
-    'rows: for row in cache.rows(asker) {
+    'rows: for row in rows_of(cache, asker) {
         naming = with_row(cache.store(), name, row, naming);
     }
     naming
 }
 
+/// Appends the line of a package, where an atom was found that names the name.
+#[tactic(auto, unfolding(crate::specs::Texts::line))]
+fn append_naming(asker: &[u8], naming: Option<bool>, out: &mut Vec<u8>) -> Result<(), AllocError>
+    ensures { OnOk result (out.new.items ≡ out.old.items ++ naming_line asker.now naming) }
+{
+    match naming {
+        Some(all) => {
+            out.extend_from_slice(mark(all))?;
+            append_line(out, &[asker])?;
+            Ok(())
+        }
+        None => Ok(()),
+    }
+}
+
 /// Appends the line of a package, if an atom of its leads names the name.
+#[tactic(auto, using(crate::proofs::GroupLemmas::line_of_naming))]
 fn append_asker(
     cache: &Cache,
     name: &[u8],
@@ -96,13 +121,12 @@ fn append_asker(
     requires { cache.now.stale ≡ false }
     ensures { OnOk result (out.new.items ≡ out.old.items ++ asker_line asker.now (naming (world_of cache.now.store) name.now asker.now)) }
 {
-    match naming_of(cache, name, asker) {
-        Some(all) => append_line(out, &[mark(all), asker]),
-        None => Ok(()),
-    }
+    append_naming(asker, naming_of(cache, name, asker), out)?;
+    Ok(())
 }
 
 /// The same, with `--installed` of a package of which a row is installed alone.
+#[tactic(auto, unfolding(crate::specs::ReverseDepends::asking_line))]
 fn append_asking(
     cache: &Cache,
     installed: bool,
@@ -119,6 +143,23 @@ fn append_asking(
     append_asker(cache, name, asker, out)
 }
 
+/// Appends the lines of some packages.
+fn append_each(
+    cache: &Cache,
+    installed: bool,
+    name: &[u8],
+    askers: &BTreeSet<&[u8]>,
+    out: &mut Vec<u8>,
+) -> Result<(), AllocError>
+    requires { cache.now.stale ≡ false }
+    ensures { OnOk result (out.new.items ≡ out.old.items ++ flat_map (asking_line (world_of cache.now.store) installed name.now) (lent_names askers.now.keys)) }
+{
+    'askers: for asker in askers {
+        append_asking(cache, installed, name, asker, out)?;
+    }
+    Ok(())
+}
+
 /// Appends the lines of all packages: those of the packages with an atom of the name are enough.
 fn append_askers(
     alloc: Global,
@@ -130,10 +171,10 @@ fn append_askers(
     requires { cache.now.stale ≡ false }
     ensures { OnOk result (out.new.items ≡ out.old.items ++ flat_map (asking_line (world_of cache.now.store) installed name.now) (packages_of (world_of cache.now.store))) }
 {
+    rows_are_classes();
+    stanzas_are_found(cache);
     let askers = packages_naming(alloc, cache, name)?;
-    'askers: for asker in &askers {
-        append_asking(cache, installed, name, asker, out)?;
-    }
+    append_each(cache, installed, name, &askers, out)?;
     Ok(())
 }
 
@@ -165,7 +206,7 @@ fn append_one(
     requires { cache.now.stale ≡ false }
     ensures { OnOk result (out.new.items ≡ out.old.items ++ if_known (world_of cache.now.store) (reverse_depends_one (world_of cache.now.store) installed) name.now) }
 {
-    if !cache.is_known(name) {
+    if !is_known(cache, name) {
         append_unknown(out, name)?;
         return Ok(());
     }

@@ -5,22 +5,25 @@ ghost use Rattle.ctl_store.specs.Held.{keyed_of};
 ghost use Rattle.ctl_store.specs.Keys.{AreHeld};
 ghost use Rattle.ctl_policy.specs.Priority.{world_of};
 ghost use Rattle.ctl_policy.specs.Rows.{sources_of};
+ghost use Rattle.ctl_query.specs.NameSet.{lent_names};
 ghost use Rattle.ctl_query.specs.Packages.{rows_of, of_rows, of_all_rows, told_of_row};
 ghost use Rattle.ctl_query.specs.ShowPackage.{source_mark, version_line, naming_lines, relation_lines, entry_lines, providing_lines, show_package_one, show_package_text};
 ghost use Rattle.ctl_query.specs.Texts.{if_known};
 
-use crate::interest::{packages_naming, packages_offering};
+use crate::interest::{packages_naming, packages_offering, stanzas_are_found};
 use crate::leads::lead_in;
+use crate::packages::{is_known, rows_of};
 use crate::policy::row_version;
 use crate::lead_lines::{
     append_entry_lines, append_naming_lines, append_providing_lines, append_relation_lines,
 };
 use crate::text::{append_line, append_parts, append_unknown};
 use ctl_index::Cache;
-use ctl_policy::is_source;
+use ctl_policy::{is_source, rows_are_classes};
 use ctl_relation::Bytes;
 use ctl_store::{StanzaKey, Store};
 use std::alloc::{AllocError, Global};
+use std::collections::BTreeSet;
 
 // ---- its versions
 
@@ -62,7 +65,7 @@ fn append_versions(cache: &Cache, name: &[u8], out: &mut Vec<u8>) -> Result<(), 
     requires { cache.now.stale ≡ false }
     ensures { OnOk result (out.new.items ≡ out.old.items ++ flat_map (version_line (world_of cache.now.store)) (rows_of (world_of cache.now.store) name.now)) }
 {
-    'rows: for row in cache.rows(name) {
+    'rows: for row in rows_of(cache, name) {
         append_version(cache.store(), row, out)?;
     }
     Ok(())
@@ -93,8 +96,23 @@ fn append_naming_rows(
     requires { cache.now.stale ≡ false }
     ensures { OnOk result (out.new.items ≡ out.old.items ++ of_rows (world_of cache.now.store) (naming_lines name.now) asker.now) }
 {
-    'rows: for row in cache.rows(asker) {
+    'rows: for row in rows_of(cache, asker) {
         append_naming_row(cache.store(), name, row, out)?;
+    }
+    Ok(())
+}
+
+fn append_each_naming(
+    cache: &Cache,
+    name: &[u8],
+    askers: &BTreeSet<&[u8]>,
+    out: &mut Vec<u8>,
+) -> Result<(), AllocError>
+    requires { cache.now.stale ≡ false }
+    ensures { OnOk result (out.new.items ≡ out.old.items ++ flat_map (of_rows (world_of cache.now.store) (naming_lines name.now)) (lent_names askers.now.keys)) }
+{
+    'askers: for asker in askers {
+        append_naming_rows(cache, name, asker, out)?;
     }
     Ok(())
 }
@@ -109,10 +127,10 @@ fn append_naming(
     requires { cache.now.stale ≡ false }
     ensures { OnOk result (out.new.items ≡ out.old.items ++ of_all_rows (world_of cache.now.store) (naming_lines name.now)) }
 {
+    rows_are_classes();
+    stanzas_are_found(cache);
     let askers = packages_naming(alloc, cache, name)?;
-    'askers: for asker in &askers {
-        append_naming_rows(cache, name, asker, out)?;
-    }
+    append_each_naming(cache, name, &askers, out)?;
     Ok(())
 }
 
@@ -135,7 +153,7 @@ fn append_relations(cache: &Cache, name: &[u8], out: &mut Vec<u8>) -> Result<(),
     requires { cache.now.stale ≡ false }
     ensures { OnOk result (out.new.items ≡ out.old.items ++ of_rows (world_of cache.now.store) relation_lines name.now) }
 {
-    'rows: for row in cache.rows(name) {
+    'rows: for row in rows_of(cache, name) {
         append_relation_row(cache.store(), row, out)?;
     }
     Ok(())
@@ -160,7 +178,7 @@ fn append_entries(cache: &Cache, name: &[u8], out: &mut Vec<u8>) -> Result<(), A
     requires { cache.now.stale ≡ false }
     ensures { OnOk result (out.new.items ≡ out.old.items ++ of_rows (world_of cache.now.store) entry_lines name.now) }
 {
-    'rows: for row in cache.rows(name) {
+    'rows: for row in rows_of(cache, name) {
         append_entry_row(cache.store(), row, out)?;
     }
     Ok(())
@@ -189,8 +207,23 @@ fn append_providing_rows(
     requires { cache.now.stale ≡ false }
     ensures { OnOk result (out.new.items ≡ out.old.items ++ of_rows (world_of cache.now.store) (providing_lines name.now) asker.now) }
 {
-    'rows: for row in cache.rows(asker) {
+    'rows: for row in rows_of(cache, asker) {
         append_providing_row(cache.store(), name, row, out)?;
+    }
+    Ok(())
+}
+
+fn append_each_providing(
+    cache: &Cache,
+    name: &[u8],
+    askers: &BTreeSet<&[u8]>,
+    out: &mut Vec<u8>,
+) -> Result<(), AllocError>
+    requires { cache.now.stale ≡ false }
+    ensures { OnOk result (out.new.items ≡ out.old.items ++ flat_map (of_rows (world_of cache.now.store) (providing_lines name.now)) (lent_names askers.now.keys)) }
+{
+    'askers: for asker in askers {
+        append_providing_rows(cache, name, asker, out)?;
     }
     Ok(())
 }
@@ -205,10 +238,10 @@ fn append_providing(
     requires { cache.now.stale ≡ false }
     ensures { OnOk result (out.new.items ≡ out.old.items ++ of_all_rows (world_of cache.now.store) (providing_lines name.now)) }
 {
+    rows_are_classes();
+    stanzas_are_found(cache);
     let askers = packages_offering(alloc, cache, name)?;
-    'askers: for asker in &askers {
-        append_providing_rows(cache, name, asker, out)?;
-    }
+    append_each_providing(cache, name, &askers, out)?;
     Ok(())
 }
 
@@ -249,7 +282,7 @@ fn append_one(
     requires { cache.now.stale ≡ false }
     ensures { OnOk result (out.new.items ≡ out.old.items ++ if_known (world_of cache.now.store) (show_package_one (world_of cache.now.store)) name.now) }
 {
-    if !cache.is_known(name) {
+    if !is_known(cache, name) {
         append_unknown(out, name)?;
         return Ok(());
     }

@@ -1,21 +1,24 @@
 //! The answer to `unmet`.
 
-ghost use Rattle.std.specs.Prelude.{◌≡◌, ◌++◌, OnOk, Some, true, false};
+ghost use Rattle.std.specs.Prelude.{◌≡◌, ◌++◌, ℕ, List, OnOk, Some, flat_map, length, true, false};
 ghost use Rattle.ctl_store.specs.Followed.{under as found_under};
 ghost use Rattle.ctl_index.specs.Clauses.{is_clause_field, clause_at};
 ghost use Rattle.ctl_index.specs.Held.{standing};
 ghost use Rattle.ctl_policy.specs.Priority.{world_of};
+ghost use Rattle.ctl_query.specs.NameSet.{lent_names};
 ghost use Rattle.ctl_query.specs.Packages.{of_rows, told_of_row};
-ghost use Rattle.ctl_query.specs.Unmet.{is_unmet, clause_line, line_if_unmet, unmet_in_field, clause_lines, unmet_heading, unmet_lead, unmet_text};
+ghost use Rattle.ctl_query.specs.Unmet.{is_unmet, clause_line, line_if_unmet, unmet_in_field, clause_lines, unmet_heading, under, unmet_lead, unmet_text};
 
-use crate::fields::clause_fields;
-use crate::interest::packages_with_unmet;
+use crate::interest::{packages_with_unmet, stanzas_are_found};
+use crate::packages::rows_of;
 use crate::text::{append_line, append_parts, field_label, version_text};
 use ctl_index::{Cache, ClauseKey};
+use ctl_policy::rows_are_classes;
 use ctl_relation::{FieldKind, Group};
 use ctl_stanza::Stanza;
 use ctl_store::StanzaKey;
 use std::alloc::{AllocError, Global};
+use std::collections::BTreeSet;
 
 /// Whether no offer meets a clause, which has these atoms. The cache keeps the number of those that do, so none is tested.
 fn is_unmet(cache: &Cache, key: ClauseKey, clause: &Group<'_>) -> bool
@@ -59,6 +62,7 @@ fn append_if_unmet(
 }
 
 /// Appends the clauses of a field of a lead that are not met.
+#[tactic(auto, using(crate::proofs::UnmetLemmas::behind_place))]
 fn append_field(
     cache: &Cache,
     stanza: StanzaKey,
@@ -98,10 +102,13 @@ fn append_clauses(
     requires lead { found_under stanza (standing cache.now.store) ≡ Some lead.now }
     ensures { OnOk result (out.new.items ≡ out.old.items ++ clause_lines (world_of cache.now.store) important lead.now) }
 {
-    let fields = clause_fields(important);
-    for field in fields {
-        append_field(cache, stanza, lead, *field, out)?;
+    append_field(cache, stanza, lead, FieldKind::PreDepends, out)?;
+    append_field(cache, stanza, lead, FieldKind::Depends, out)?;
+    if important {
+        return Ok(());
     }
+    append_field(cache, stanza, lead, FieldKind::Recommends, out)?;
+    append_field(cache, stanza, lead, FieldKind::Suggests, out)?;
     Ok(())
 }
 
@@ -122,8 +129,16 @@ fn append_heading(lead: &Stanza, out: &mut Vec<u8>) -> Result<(), AllocError>
     Ok(())
 }
 
+/// Takes a heading off again where nothing stands behind it. Before it stood so many bytes, and with it so many.
+fn close_heading(start: usize, headed: usize, out: &mut Vec<u8>)
+    ensures { (before : List ℕ) → (heading : List ℕ) → (text : List ℕ) → length before ≡ start → length (before ++ heading) ≡ headed → out.old.items ≡ (before ++ heading) ++ text → out.new.items ≡ before ++ under heading text }
+{
+    if out.len() == headed {
+        out.truncate(start);
+    }
+}
+
 /// Appends the clauses of a lead that are not met under their heading; nothing where there is none.
-#[tactic(auto, unfolding(crate::specs::Unmet::unmet_lead))]
 fn append_lead(
     cache: &Cache,
     important: bool,
@@ -139,9 +154,7 @@ fn append_lead(
     append_heading(lead, out)?;
     let headed = out.len();
     append_clauses(cache, important, stanza, lead, out)?;
-    if out.len() == headed {
-        out.truncate(start);
-    }
+    close_heading(start, headed, out);
     Ok(())
 }
 
@@ -172,8 +185,23 @@ fn append_rows(
     requires { cache.now.stale ≡ false }
     ensures { OnOk result (out.new.items ≡ out.old.items ++ of_rows (world_of cache.now.store) (unmet_lead (world_of cache.now.store) important) name.now) }
 {
-    'rows: for row in cache.rows(name) {
+    'rows: for row in rows_of(cache, name) {
         append_row(cache, important, row, out)?;
+    }
+    Ok(())
+}
+
+fn append_each(
+    cache: &Cache,
+    important: bool,
+    names: &BTreeSet<&[u8]>,
+    out: &mut Vec<u8>,
+) -> Result<(), AllocError>
+    requires { cache.now.stale ≡ false }
+    ensures { OnOk result (out.new.items ≡ out.old.items ++ flat_map (of_rows (world_of cache.now.store) (unmet_lead (world_of cache.now.store) important)) (lent_names names.now.keys)) }
+{
+    'names: for name in names {
+        append_rows(cache, important, name, out)?;
     }
     Ok(())
 }
@@ -188,9 +216,9 @@ pub(crate) fn append_unmet(
     requires { cache.now.stale ≡ false }
     ensures { OnOk result (out.new.items ≡ out.old.items ++ unmet_text (world_of cache.now.store) important) }
 {
+    rows_are_classes();
+    stanzas_are_found(cache);
     let names = packages_with_unmet(alloc, cache)?;
-    'names: for name in &names {
-        append_rows(cache, important, name, out)?;
-    }
+    append_each(cache, important, &names, out)?;
     Ok(())
 }
