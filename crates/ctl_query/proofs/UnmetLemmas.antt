@@ -89,9 +89,10 @@ module _ (es : List Entry) (p : StanzaKey → Bool) where
       let parts = sym (hits_append (clause key field n ∷ []) (group_keys key field (suc n) groups)) ∙ none in
       let own : slice_get (groups_of field x) n ≡ Some group = ap (slice_get (groups_of field x)) (let z : n ≡ n + 0 = omega arith in z) ∙ at 0 in
       let found = clause_found es key x field n group there is own in
-      let unmet = one_met (clause key field n) true [] (is_unmet es (clause key field n)) refl of (left_false _ _ parts) in
-      (sym (numbered es (clause_at (clause key field n) es) group found) ∙ unmet,
-       in_groups key x field (suc n) groups there is of (λ i. ap (slice_get (groups_of field x)) (let z : suc n + i ≡ n + suc i = omega arith in z) ∙ at (suc i)) (right_false _ _ parts))
+      let unmet = one_met (clause key field n) true [] (is_unmet es (clause key field n)) refl of (left_false _ _ parts) in (
+        sym (numbered es (clause_at (clause key field n) es) group found) ∙ unmet,
+        in_groups key x field (suc n) groups there is of (λ i. ap (slice_get (groups_of field x)) (let z : suc n + i ≡ n + suc i = omega arith in z) ∙ at (suc i)) (right_false _ _ parts),
+      )
 
   in_fields : (key : StanzaKey) (x : Content) (fields : List FieldKind) → under key es ≡ Some x → AllByRecursion (λ field. is_clause_field field ≡ true) fields → p key ≡ true →
       list_any hit (filter (is_unmet es) (flat_map (λ field. group_keys key field 0 (groups_of field x)) fields)) ≡ false → AllByRecursion (λ field. AllByRecursion IsMet (groups_of field x)) fields
