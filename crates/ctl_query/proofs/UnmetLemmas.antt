@@ -75,9 +75,9 @@ module _ (es : List Entry) (p : StanzaKey → Bool) where
       by false rest = rest
 
   -- one clause that is not taken is met
-  one_met : (key : ClauseKey) (rest : Bool) (later : List ClauseKey) (b : Bool) → is_unmet es key ≡ b → p key.stanza ≡ true → list_any hit (cond b (key ∷ later) later) ≡ false → is_unmet es key ≡ false
-  one_met key rest later true e is none = absurd (let first : p key.stanza ≡ false = left_false (p key.stanza) (list_any hit later) none in let z : true ≡ false = sym is ∙ first in let w : ⊥ = cc in w)
-  one_met key rest later false e is none = e
+  one_met : (key : ClauseKey) (later : List ClauseKey) (b : Bool) → is_unmet es key ≡ b → p key.stanza ≡ true → list_any hit (cond b (key ∷ later) later) ≡ false → is_unmet es key ≡ false
+  one_met key later true e is none = absurd (let first : p key.stanza ≡ false = left_false (p key.stanza) (list_any hit later) none in let z : true ≡ false = sym is ∙ first in let w : ⊥ = cc in w)
+  one_met key later false e is none = e
 
   abbrev IsMet : List AtomParts → Type 0
   IsMet atoms = nat_eq (number es atoms) 0 ≡ false
@@ -89,7 +89,7 @@ module _ (es : List Entry) (p : StanzaKey → Bool) where
       let parts = sym (hits_append (clause key field n ∷ []) (group_keys key field (suc n) groups)) ∙ none in
       let own : slice_get (groups_of field x) n ≡ Some group = ap (slice_get (groups_of field x)) (let z : n ≡ n + 0 = omega arith in z) ∙ at 0 in
       let found = clause_found es key x field n group there is own in
-      let unmet = one_met (clause key field n) true [] (is_unmet es (clause key field n)) refl of (left_false _ _ parts) in
+      let unmet = one_met (clause key field n) [] (is_unmet es (clause key field n)) refl of (left_false _ _ parts) in
       (sym (numbered es (clause_at (clause key field n) es) group found) ∙ unmet,
        in_groups key x field (suc n) groups there is of (λ i. ap (slice_get (groups_of field x)) (let z : suc n + i ≡ n + suc i = omega arith in z) ∙ at (suc i)) (right_false _ _ parts))
 
