@@ -5,6 +5,7 @@ use Rattle.std.specs.List.{AllByRecursion, list_any, filter}
 use Rattle.std.specs.Option.{option_map, option_map_or, option_and_then}
 use Rattle.std.proofs.lemmas.List.Folds.{list_any-append}
 use Rattle.ctl_relation.specs.declared.field_kind.FieldKind.{FieldKind}
+use Rattle.ctl_relation.specs.declared.field_kind.FieldKind.TheVariants.{PreDepends, Depends, Recommends, Suggests}
 use Rattle.ctl_relation.specs.Met.{met_pairs}
 use Rattle.ctl_relation.specs.Parts.{AtomParts}
 use Rattle.ctl_stanza.specs.Content.{Content, groups_of}
@@ -126,10 +127,10 @@ module _ (store : Held) (p : StanzaKey → Bool) where
 
   lead_none : (important : Bool) (x : Content) → AreMet (standing store) p x → unmet_lead (world_of store) important x ≡ []
   unfolding unmet_lead clause_lines
-  lead_none true x h = ap (under_heading (unmet_heading x)) (flat_none (unmet_in_field (world_of store) x) (fields_considered true) (field_none x _ h.0, (field_none x _ h.1.0, tt)))
+  lead_none true x h = ap (under_heading (unmet_heading x)) (flat_none (unmet_in_field (world_of store) x) (fields_considered true) (field_none x PreDepends h.0, (field_none x Depends h.1.0, tt)))
   lead_none false x h =
       ap (under_heading (unmet_heading x)) (flat_none (unmet_in_field (world_of store) x) (fields_considered false)
-      (field_none x _ h.0, (field_none x _ h.1.0, (field_none x _ h.1.1.0, (field_none x _ h.1.1.1.0, tt)))))
+      (field_none x PreDepends h.0, (field_none x Depends h.1.0, (field_none x Recommends h.1.1.0, (field_none x Suggests h.1.1.1.0, tt)))))
 
 silent_from : (store : Held) (important : Bool) (asker : List ℕ) (es : List Entry) → AreAt es (keyed_of store).lists →
     AllByRecursion (λ (e : Entry). is_of_package store asker e.0 ≡ true → AreMet (standing store) (is_of_package store asker) e.1) es → IsSilent (unmet_lead (world_of store) important) asker es
