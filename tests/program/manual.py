@@ -1,6 +1,7 @@
 """The examples of the manual, two indented blocks with the word `prints` between them; the manual page, and whether both
 say what the program does."""
 
+import itertools
 import os
 import re
 import shutil
@@ -83,25 +84,38 @@ def differences(text, page):
     return sorted(set(ours) ^ set(theirs)) + [form for forms in (ours, theirs) for form in sorted(set(forms)) if forms.count(form) > 1]
 
 
+PLACES = {"NAME": "main", "PKG": "foo", "VERSION": "1", "LIST": "main", "V": "1*", "P": "990", "PREFIX": "fo"}
+
+
+def choices(word):
+    """What may stand for a word of a form: for `[A|B]` nothing or one of them, for `PKG[=VERSION]` it with and without."""
+    word = word.removesuffix("...")
+    if word.startswith("["):
+        return [""] + [choice for part in word[1:-1].split("|") for choice in choices(part)]
+    name, _, behind = word.partition("[")
+    plain = PLACES.get(name, name)
+    return [plain, plain + behind[0] + PLACES[behind[1:-1]]] if behind else [plain]
+
+
 def instances(form):
     """Scripts that call a command by its form, with each of its optional words and without."""
-    places = {"NAME": "main", "PKG": "foo", "VERSION": "1", "LIST": "main", "V": "1*", "P": "990", "PREFIX": "fo"}
-    optional = re.search(r" \[([^]]*)\]", form)
-    calls = [form]
-    if optional:
-        calls = [form.replace(optional[0], "")] + [form.replace(optional[0], " " + word) for word in optional[1].split("|")]
-    return [" ".join(places.get(word, word) for word in call.split()) for call in calls]
+    return [" ".join(word for word in words if word) for words in itertools.product(*map(choices, form.split(" ")))]
+
+
+def wrong_words(form):
+    """Words that are too many for a form; behind one that takes any number of names, an option that it hasn't."""
+    return " -x" if "..." in form else " x y z"
 
 
 def test_commands(tests):
     """The manual and its page have the same commands, a missing one is seen, and the program takes each in its form alone."""
     page, text = contents(PAGE), contents(MANUAL)
     forms = manual_commands(text)
-    tests.same("the commands of the manual and of its page", (differences(text, page), "pkgnames [PREFIX]" in forms), ([], True))
+    tests.same("the commands of the manual and of its page", (differences(text, page), "pkgnames [--all-names] [PREFIX]" in forms), ([], True))
     for form in forms:
         tests.same("the manual without %s" % form, differences(text.replace("- `%s`\n" % form, ""), page), [form])
         for call in instances(form):
-            for words, wanted in ((call, False), (call + " x y z", True)):
+            for words, wanted in ((call, False), (call + wrong_words(form), True)):
                 answer = tests.run([], words.encode() + b"\n.\n")[1]
                 got = b"E: line 1: unknown command" in answer, b"E: line 1: bad arguments" in answer
                 tests.same("the words %s" % words, got, (False, wanted))

@@ -22,8 +22,6 @@ eq_is a b e = grind (arith, nat_tests)
 lt_ne : (a b : ℕ) → a < b → nat_eq a b ≡ false
 lt_ne a b l = grind (arith, nat_tests)
 
-gt_ne : (a b : ℕ) → b < a → nat_eq a b ≡ false
-gt_ne a b l = grind (arith, nat_tests)
 
 -- ---- the place of a serial
 
@@ -192,8 +190,22 @@ counted n l others m (row ∷ rows) h =
 abbrev IsUnder : StanzaKey → List StanzaKey → Type 0
 IsUnder key keys = AllByRecursion (λ q. key_cmp key q ≡ Less) keys
 
+then_less : (first second : Ordering) → first ≡ Equal → ordering_then first second ≡ Less → second ≡ Less
+then_less Less second e h = absurd (cc e)
+then_less Equal second e h = h
+then_less Greater second e h = absurd (cc e)
+
+same_list : (a b : ℕ) → a ≡ b → nat_cmp a b ≡ Equal
+same_list a b e = grind (arith, nat_tests)
+
+less_than : (a b : ℕ) → nat_cmp a b ≡ Less → a < b
+less_than a b h = grind (arith, nat_tests)
+
+true_is : (a b : ℕ) → nat_eq a b ≡ true → a ≡ b
+true_is a b e = grind (arith, nat_tests)
+
 serial_less : (list a b : ℕ) → key_cmp (key_of list a) (key_of list b) ≡ Less → a < b
-serial_less list a b h = grind (arith, nat_tests)
+serial_less list a b h = less_than a b (then_less (nat_cmp list list) (nat_cmp a b) (same_list list list refl) h)
 
 under_rows : (serial a : ℕ) (rows : List (ℕ × Content)) (keys : List StanzaKey) → IsUnder (key_of serial a) (map (λ (row : ℕ × Content). key_of serial row.0) rows ++ keys) → IsBelow a rows
 under_rows serial a [] keys h = tt
@@ -213,7 +225,7 @@ rise_behind (x ∷ xs) ys h = rise_behind xs ys h.1
 
 -- no key of a list is among those behind it
 key_not : (list a : ℕ) (key : StanzaKey) → key_cmp (key_of list a) key ≡ Less → nat_eq list key.list ≡ true → nat_eq a key.stanza ≡ false
-key_not list a key h e = grind (arith, nat_tests)
+key_not list a key h e = lt_ne a key.stanza (less_than a key.stanza (then_less (nat_cmp list key.list) (nat_cmp a key.stanza) (same_list list key.list (true_is list key.list e)) h))
 
 not_there : (serial : ℕ) (rows : List (ℕ × Content)) (key : StanzaKey) → nat_eq serial key.list ≡ true → AllByRecursion (λ (row : ℕ × Content). key_cmp (key_of serial row.0) key ≡ Less) rows → lookup (λ s. nat_eq s key.stanza) rows ≡ None
 not_there serial [] key e h = refl

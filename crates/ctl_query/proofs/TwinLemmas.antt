@@ -1,7 +1,7 @@
 -- What is told of stanzas under other keys: the same, where the keys alone differ.
 use Rattle.std.proofs.Common.{◌≡◌, ◌∙◌, ℕ, ℤ, pos, Bool, true, false, cond, ◌&&◌, ◌||◌, T, int_lt, List, [], ◌∷◌, ◌++◌, map, filter, reverse, Option, None, Some, is_some, option_map, unwrap_or, refl, sym, ap, subst}
 use Rattle.std.specs.FinMap as fin
-use Rattle.std.specs.FinMap.Entries.{below_all, is_sorted}
+use Rattle.std.specs.FinMap.Entries.{below_all}
 use Rattle.std.specs.Int.{int_max}
 use Rattle.std.specs.Map.{keys_of as names_of}
 use Rattle.std.specs.Option.{option_map_or}
@@ -79,7 +79,7 @@ module _ (f : StanzaKey → StanzaKey) where
   below_moved v [] = refl
   below_moved v (e ∷ es) = ap (λ b. is_lt (version_cmp v e.0) && b) (below_moved v es)
 
-  sorted_moved : (es : List (List ℕ × List StanzaKey)) → is_sorted version_cmp (map entry_of_rows es) ≡ is_sorted version_cmp es
+  sorted_moved : (es : List (List ℕ × List StanzaKey)) → fin.is_sorted version_cmp (map entry_of_rows es) ≡ fin.is_sorted version_cmp es
   sorted_moved [] = refl
   sorted_moved (e ∷ es) = λ i. below_moved e.0 es i && sorted_moved es i
 
@@ -90,7 +90,7 @@ module _ (f : StanzaKey → StanzaKey) where
   rows_moved : Rows → Rows
   rows_moved rows = fin.from_sorted (map entry_of_rows (fin.entries rows))
 
-  is_sorted_moved : (rows : Rows) → T (is_sorted version_cmp (map entry_of_rows (fin.entries rows)))
+  is_sorted_moved : (rows : Rows) → T (fin.is_sorted version_cmp (map entry_of_rows (fin.entries rows)))
   is_sorted_moved rows = subst T (sym (sorted_moved (fin.entries rows))) (fin.entries_sorted rows)
 
   get_rows_moved : (rows : Rows) (v : List ℕ) → fin.get (rows_moved rows) v ≡ option_map (map f) (fin.get rows v)
@@ -159,7 +159,7 @@ module _ (classes : AreClasses) (shown : AreShown) (f : StanzaKey → StanzaKey)
   same_names = sym (names_in ls) ∙ ap (map (λ (l : List ℕ × StanzaList). l.0)) m.lists ∙ names_in w.lists
 
   pub same_list_priority : (list : List ℕ) → list_priority list other_world ≡ list_priority list w
-  same_list_priority list = ap (λ lists. option_map (priority_of_list list w) (at_name list lists)) m.lists
+  same_list_priority list = ap (λ lists. option_map (λ (l : StanzaList). priority_of_list list w l) (at_name list lists)) m.lists
 
   -- ---- what is told of a key
 

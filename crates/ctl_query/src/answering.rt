@@ -1,6 +1,6 @@
 //! A query to its text.
 
-ghost use Rattle.std.specs.Prelude.{◌≡◌, ◌++◌, ◌+◌, ◌≤◌, OnOk, OnErr, false};
+ghost use Rattle.std.specs.Prelude.{◌≡◌, ◌++◌, ◌+◌, ◌≤◌, [], OnOk, OnErr, false};
 ghost use Rattle.ctl_policy.specs.Priority.{world_of};
 ghost use Rattle.ctl_query.specs.Answer.{answer_text, answer_pairs, policy_answer};
 ghost use Rattle.ctl_query.specs.QueryRead.{query_text};
@@ -58,6 +58,47 @@ fn append_answer(
     }
 }
 
+/// Puts the answer to a query into an empty buffer, which stays empty where memory runs out.
+fn answer_alone(
+    alloc: Global,
+    cache: &Cache,
+    query: &Query,
+    out: &mut Vec<u8>,
+    steps: &mut Steps,
+) -> Result<(), AllocError>
+    requires fresh { cache.now.stale ≡ false }
+    requires empty { out.old.items ≡ [] }
+    ensures ok { OnOk result (out.new.items ≡ answer_text (world_of cache.now.store) (query_text query.now)) }
+    ensures err { OnErr result (out.new.items ≡ []) }
+    ensures steps { steps.new ≤ steps.old + answer_pairs (world_of cache.now.store) (query_text query.now) }
+{
+    match append_answer(alloc, cache, query, out, steps) {
+        Ok(()) => Ok(()),
+        Err(error) => {
+            out.clear();
+            Err(error)
+        }
+    }
+}
+
+/// Appends the answer to a query to what is there, which alone stays where memory runs out.
+fn answer_behind(
+    alloc: Global,
+    cache: &Cache,
+    query: &Query,
+    out: &mut Vec<u8>,
+    steps: &mut Steps,
+) -> Result<(), AllocError>
+    requires { cache.now.stale ≡ false }
+    ensures ok { OnOk result (out.new.items ≡ out.old.items ++ answer_text (world_of cache.now.store) (query_text query.now)) }
+    ensures err { OnErr result (out.new.items ≡ out.old.items) }
+    ensures steps { steps.new ≤ steps.old + answer_pairs (world_of cache.now.store) (query_text query.now) }
+{
+    let mut text = Vec::new(alloc);
+    answer_alone(alloc, cache, query, &mut text, steps)?;
+    out.extend_from_slice(&text)
+}
+
 /// Appends the answer to a query (apt-cache(8)) on a cache that isn't stale. It makes no test of an offer against an atom but
 /// for `depends`: there it makes at most one for each pair of an atom of a lead that is shown and an offer of its name.
 ///
@@ -77,15 +118,8 @@ pub fn answer(
     ensures steps { steps.new ≤ steps.old + answer_pairs (world_of cache.now.store) (query_text query.now) }
 {
     if out.is_empty() {
-        return match append_answer(alloc, cache, query, out, steps) {
-            Ok(()) => Ok(()),
-            Err(error) => {
-                out.clear();
-                Err(error)
-            }
-        };
+        answer_alone(alloc, cache, query, out, steps)
+    } else {
+        answer_behind(alloc, cache, query, out, steps)
     }
-    let mut text = Vec::new(alloc);
-    append_answer(alloc, cache, query, &mut text, steps)?;
-    out.extend_from_slice(&text)
 }
