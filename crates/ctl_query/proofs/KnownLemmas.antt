@@ -73,6 +73,6 @@ row_known classes world name row = by (is_among (names_known world) name) refl
     by true e = e
     by false e =
         let out : is_among (flat_map names_of (contents (entries_of world.lists))) name ≡ false =
-            ap (λ xs. is_among (flat_map names_of xs) name) (contents_are world.lists) ∙ sym (among_in_order name (flat_map names_of (stanzas_of world))) ∙ ap (λ xs. is_among xs name) (sym (known_are world)) ∙ e in
+        ap (λ xs. is_among (flat_map names_of xs) name) (contents_are world.lists) ∙ sym (among_in_order name (flat_map names_of (stanzas_of world))) ∙ ap (λ xs. is_among xs name) (sym (known_are world)) ∙ e in
         let none = no_row (newest_first (rows_named name world.lists)) (each_class classes (λ keys. ⊥) name world.lists (λ version. none_some _ (no_keys name version (entries_of world.lists) out))) in
         absurd (let z : true ≡ false = sym row ∙ none in let w : ⊥ = cc in w)

@@ -1,5 +1,5 @@
 -- Of a package of which each clause is met there is nothing to tell.
-use Rattle.std.proofs.Common.{◌≡◌, ◌∙◌, ℕ, ◌+◌, suc, Bool, true, false, cond, ◌&&◌, ◌||◌, List, [], ◌∷◌, ◌++◌, map, flat_map, nat_eq, Option, Some, None, length, take, drop, append_assoc, refl, sym, ap, arith}
+use Rattle.std.proofs.Common.{◌≡◌, ◌∙◌, ℕ, ◌+◌, suc, Bool, true, false, cond, ◌&&◌, ◌||◌, List, [], ◌∷◌, ◌++◌, map, flat_map, nat_eq, Option, Some, None, zero, length, take, drop, append_assoc, refl, sym, ap, arith}
 use Rattle.std.specs.Prelude.{slice_get}
 use Rattle.std.specs.List.{AllByRecursion, list_any, filter}
 use Rattle.std.specs.Option.{option_map, option_map_or, option_and_then}
@@ -90,9 +90,10 @@ module _ (es : List Entry) (p : StanzaKey → Bool) where
       let parts = sym (hits_append (clause key field n ∷ []) (group_keys key field (suc n) groups)) ∙ none in
       let own : slice_get (groups_of field x) n ≡ Some group = ap (slice_get (groups_of field x)) (let z : n ≡ n + 0 = omega arith in z) ∙ at 0 in
       let found = clause_found es key x field n group there is own in
-      let unmet = one_met (clause key field n) [] (is_unmet es (clause key field n)) refl of (left_false _ _ parts) in
-      (sym (numbered es (clause_at (clause key field n) es) group found) ∙ unmet,
-       in_groups key x field (suc n) groups there is of (λ i. ap (slice_get (groups_of field x)) (let z : suc n + i ≡ n + suc i = omega arith in z) ∙ at (suc i)) (right_false _ _ parts))
+      let unmet = one_met (clause key field n) [] (is_unmet es (clause key field n)) refl of (left_false _ _ parts) in (
+        sym (numbered es (clause_at (clause key field n) es) group found) ∙ unmet,
+        in_groups key x field (suc n) groups there is of (λ i. ap (slice_get (groups_of field x)) (let z : suc n + i ≡ n + suc i = omega arith in z) ∙ at (suc i)) (right_false _ _ parts),
+      )
 
   in_fields : (key : StanzaKey) (x : Content) (fields : List FieldKind) → under key es ≡ Some x → AllByRecursion (λ field. is_clause_field field ≡ true) fields → p key ≡ true →
       list_any hit (filter (is_unmet es) (flat_map (λ field. group_keys key field 0 (groups_of field x)) fields)) ≡ false → AllByRecursion (λ field. AllByRecursion IsMet (groups_of field x)) fields
@@ -152,11 +153,16 @@ at_place [] its rest (suc n) x e f = absurd (let z : x ∷ rest ≡ [] = sym f �
 at_place (y ∷ xs) its rest zero x e f = let z : y ∷ xs ≡ x ∷ rest = sym e ∙ f in let same : y ≡ x = cc in ap (λ v. Some v) same
 at_place (y ∷ xs) its rest (suc n) x e f = at_place xs its rest n x e f
 
-pub behind_place : {A : Type 0} (xs its rest : List A) (n : ℕ) (x : A) → its ≡ drop n xs → its ≡ x ∷ rest → rest ≡ drop (suc n) xs
+pub behind_place : {A : Type 0} (xs its rest : List A) (n : ℕ) (x : A) → its ≡ drop n xs → its ≡ x ∷ rest → rest ≡ drop (n + 1) xs
 behind_place [] its rest zero x e f = absurd (let z : x ∷ rest ≡ [] = sym f ∙ e in let w : ⊥ = cc in w)
 behind_place [] its rest (suc n) x e f = absurd (let z : x ∷ rest ≡ [] = sym f ∙ e in let w : ⊥ = cc in w)
 behind_place (y ∷ xs) its rest zero x e f = let z : x ∷ rest ≡ y ∷ xs = sym f ∙ e in let same : rest ≡ xs = cc in same
 behind_place (y ∷ xs) its rest (suc n) x e f = behind_place xs its rest n x e f
+
+-- what is told of one more, and of those that are left
+pub one_passed : {A : Type 0} (f : A → List ℕ) (its rest : List A) (x : A) (out new all : List ℕ) → its ≡ x ∷ rest → new ≡ out ++ f x → out ++ flat_map f its ≡ all → new ++ flat_map f rest ≡ all
+one_passed f its rest x out new all are grown before =
+    ap (λ text. text ++ flat_map f rest) grown ∙ append_assoc out (f x) (flat_map f rest) ∙ ap (λ xs. out ++ flat_map f xs) (sym are) ∙ before
 
 -- ---- a heading with nothing under it
 

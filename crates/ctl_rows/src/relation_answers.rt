@@ -254,18 +254,17 @@ fn the_newest_row_where_there_is_no_candidate(rt: HostRuntime) -> Result<(), Fai
 fn words_of_relations(rt: HostRuntime) -> Result<(), Fail> {
     each_writes(
         &rt,
-        &[
-            (
-                b"depends\ndepends -i\ndepends a!\ndepends --installe a\nrdepends\nrdepends -i a\nunmet a\nunmet --installed\nshowpkg\nshowpkg -i a\nunmet -i --important\ndepends -i -i a\n",
-                b"E: line 1: bad arguments\nE: line 2: bad arguments\nE: line 3: bad name\nE: line 4: bad arguments\nE: line 5: bad arguments\nE: line 6: bad arguments\nE: line 7: bad arguments\nE: line 8: bad arguments\nE: line 9: bad arguments\nE: line 10: bad arguments\nN: Unable to locate package a\n",
-            ),
-        ],
+        &[(
+            b"depends\ndepends -i\ndepends a!\ndepends --installe a\nrdepends\nrdepends -i a\nunmet a\nunmet --installed\nshowpkg\nshowpkg -i a\nunmet -i --important\ndepends -i -i a\n",
+            b"E: line 1: bad arguments\nE: line 2: bad arguments\nE: line 3: bad name\nE: line 4: bad arguments\nE: line 5: bad arguments\nE: line 6: bad arguments\nE: line 7: bad arguments\nE: line 8: bad arguments\nE: line 9: bad arguments\nE: line 10: bad arguments\nN: Unable to locate package a\n",
+        )],
     )
 }
 
 #[test]
 fn tests_are_made_for_depends_alone(rt: HostRuntime) -> Result<(), Fail> {
-    let list: &[u8] = b"add-list m packages\nPackage: a\nVersion: 1\nDepends: v | b, w\n\nPackage: b\nVersion: 1\nProvides: v, v (= 2)\n\nPackage: v\nVersion: 3\n.\n";
+    let list: &[u8] =
+        b"add-list m packages\nPackage: a\nVersion: 1\nDepends: v | b, w\n\nPackage: b\nVersion: 1\nProvides: v, v (= 2)\n\nPackage: v\nVersion: 3\n.\n";
     let acts = [
         Act::Script(list),
         Act::Ask(&[b"depends", b"a"]),
