@@ -1,5 +1,5 @@
-"""The examples of the manual, two indented blocks with the word `prints` between them; the manual page, and whether both
-say what the program does."""
+"""The examples of the manual and of the differences from apt-cache, two indented blocks with the word `prints` between
+them; the manual page, and whether both say what the program does."""
 
 import itertools
 import os
@@ -9,6 +9,7 @@ import subprocess
 
 TOP = os.path.join(os.path.dirname(os.path.abspath(__file__)), "..", "..")
 MANUAL = os.path.join(TOP, "docs", "MANUAL.md")
+DIFFERENCES = os.path.join(TOP, "docs", "DIFFERENCES.md")
 PAGE = os.path.join(TOP, "man", "dctrl-cache.1")
 INDENT = "    "
 
@@ -170,17 +171,17 @@ def test_page(tests):
     tests.same("dots that meet", b" .. " in words, False)
 
 
-def test_examples_of_manual(tests):
-    text = contents(MANUAL)
+def test_examples_of(tests, what, text):
     found = list(examples(text))
-    tests.same("the examples of the manual", (len(found), len(found) > 0), (text.count("\nprints\n"), True))
+    tests.same("the examples of %s" % what, (len(found), len(found) > 0), (text.count("\nprints\n"), True))
     for number, (script, wanted) in enumerate(found, 1):
         status = 1 if b"E: line " in wanted else 0
-        tests.same("example %d of the manual" % number, tests.run([], script), (status, wanted, b""))
+        tests.same("example %d of %s" % (number, what), tests.run([], script), (status, wanted, b""))
 
 
 def test_manual(tests):
-    test_examples_of_manual(tests)
+    test_examples_of(tests, "the manual", contents(MANUAL))
+    test_examples_of(tests, "the differences", contents(DIFFERENCES))
     test_synopsis(tests)
     test_commands(tests)
     test_refusals(tests)
