@@ -63,6 +63,7 @@ bench: $(PROGRAM)
 ifdef FILE
 	python3 bench/relations.py $(FILE)
 	python3 bench/policies.py main=$(FILE)
+	python3 bench/answers.py $(PROGRAM) main=$(FILE)
 endif
 
 install: $(PROGRAM)

@@ -27,6 +27,10 @@ right_false : (a b : Bool) → (a || b) ≡ false → b ≡ false
 right_false true b h = absurd (let z : ⊥ = cc in z)
 right_false false b h = h
 
+true_first : (a b : Bool) → a ≡ true → (a || b) ≡ true
+true_first true b e = refl
+true_first false b e = absurd (let z : ⊥ = cc in z)
+
 -- a stanza of a row of a name offers this name
 offered : (name version : List ℕ) (x : Content) → is_in_row name version x ≡ true → is_among (names_of x) name ≡ true
 offered name version x h = by (is_live x) refl
@@ -36,7 +40,7 @@ offered name version x h = by (is_live x) refl
     none false e = cc
 
     by : (b : Bool) → is_live x ≡ b → is_among (names_of x) name ≡ true
-    by true live = rw live (ap (λ b. b || is_among _ name) (of_name name version x h))
+    by true live = rw live (true_first _ _ (of_name name version x h))
     by false live = absurd (none (bytes_eq (package_of x) name) (rw live at h))
 
 no_keys : (name version : List ℕ) (es : List Entry) → is_among (flat_map names_of (contents es)) name ≡ false → keys_with (is_in_row name version) es ≡ []
@@ -58,14 +62,17 @@ no_row : (rows : List Row) → AllByRecursion (λ (row : Row). ⊥) rows → is_
 no_row [] h = refl
 no_row (row ∷ rows) h = absurd h.0
 
-pub row_known : AreClasses → (world : World) (name : List ℕ) → has_row world name ≡ true → is_among (names_known world) name ≡ true
+known_are : (world : World) → names_known world ≡ in_order (flat_map names_of (stanzas_of world))
 unfolding known_names
+known_are world = refl
+
+pub row_known : AreClasses → (world : World) (name : List ℕ) → has_row world name ≡ true → is_among (names_known world) name ≡ true
 row_known classes world name row = by (is_among (names_known world) name) refl
   where
     by : (b : Bool) → is_among (names_known world) name ≡ b → is_among (names_known world) name ≡ true
     by true e = e
     by false e =
         let out : is_among (flat_map names_of (contents (entries_of world.lists))) name ≡ false =
-            ap (λ xs. is_among (flat_map names_of xs) name) (contents_are world.lists) ∙ sym (among_in_order name (flat_map names_of (stanzas_of world))) ∙ e in
+        ap (λ xs. is_among (flat_map names_of xs) name) (contents_are world.lists) ∙ sym (among_in_order name (flat_map names_of (stanzas_of world))) ∙ ap (λ xs. is_among xs name) (sym (known_are world)) ∙ e in
         let none = no_row (newest_first (rows_named name world.lists)) (each_class classes (λ keys. ⊥) name world.lists (λ version. none_some _ (no_keys name version (entries_of world.lists) out))) in
         absurd (let z : true ≡ false = sym row ∙ none in let w : ⊥ = cc in w)

@@ -71,13 +71,13 @@ module _ (p : StanzaKey → Bool) (name : List ℕ) where
 
   in_group : (key : StanzaKey) (field : FieldKind) (n m : ℕ) (atoms : List AtomParts) → p key ≡ true → hits (keyed_group key field n m atoms) ≡ false → IsUnnamed name atoms
   in_group key field n m [] is none = tt
-  in_group key field n m (atom ∷ atoms) is none = by (bytes_eq atom.name name) refl none
+  in_group key field n m (atom ∷ atoms) is none = by (bytes_eq atom.name name) refl (λ later. in_group key field n (suc m) atoms is later) none
     where
-      by : (b : Bool) → bytes_eq atom.name name ≡ b →
+      by : (b : Bool) → bytes_eq atom.name name ≡ b → (hits (keyed_group key field n (suc m) atoms) ≡ false → IsUnnamed name atoms) →
           any (cond b ((record { stanza = key; field = field; group = n; atom = m }, atom) ∷ kept (keyed_group key field n (suc m) atoms)) (kept (keyed_group key field n (suc m) atoms))) ≡ false →
           IsUnnamed name (atom ∷ atoms)
-      by true e h = absurd (true_or (p key) (hits (keyed_group key field n (suc m) atoms)) is h)
-      by false e h = (e, in_group key field n (suc m) atoms is h)
+      by true e rest h = absurd (true_or (p key) (hits (keyed_group key field n (suc m) atoms)) is h)
+      by false e rest h = (e, rest h)
 
   in_groups : (key : StanzaKey) (field : FieldKind) (n : ℕ) (groups : List (List AtomParts)) → p key ≡ true → hits (keyed_groups key field n groups) ≡ false → AllByRecursion (IsUnnamed name) groups
   in_groups key field n [] is none = tt
@@ -113,8 +113,8 @@ in_lead_none : (name : List ℕ) (lead : Content) → AreUnnamed name lead → n
 unfolding naming_in_lead
 in_lead_none name lead h =
     flat_none (naming_in_field name lead) naming_fields
-    (all_turned (λ field. AllByRecursion (IsUnnamed name) (groups_of field lead)) (λ field. naming_in_field name lead field ≡ []) naming_fields
-    (λ field none. flat_none (naming_in_group name) (groups_of field lead) (all_turned (IsUnnamed name) (λ group. naming_in_group name group ≡ []) (groups_of field lead) (in_group_none name) none)) h)
+    (all_turned (λ (field : FieldKind). AllByRecursion (IsUnnamed name) (groups_of field lead)) (λ (field : FieldKind). naming_in_field name lead field ≡ []) naming_fields
+    (λ field none. flat_none (naming_in_group name) (groups_of field lead) (all_turned (IsUnnamed name) (λ (group : List AtomParts). naming_in_group name group ≡ []) (groups_of field lead) (in_group_none name) none)) h)
 
 line_none : (name : List ℕ) (lead : Content) (field : FieldKind) (atom : AtomParts) → bytes_eq atom.name name ≡ false → line_if_naming name lead field atom ≡ []
 line_none name lead field atom e = rw e refl
@@ -123,9 +123,9 @@ lines_none : (name : List ℕ) (lead : Content) → AreUnnamed name lead → nam
 unfolding naming_lines
 lines_none name lead h =
     flat_none (naming_in name lead) naming_fields
-    (all_turned (λ field. AllByRecursion (IsUnnamed name) (groups_of field lead)) (λ field. naming_in name lead field ≡ []) naming_fields
-    (λ field none. flat_none (flat_map (line_if_naming name lead field)) (groups_of field lead) (all_turned (IsUnnamed name) (λ group. flat_map (line_if_naming name lead field) group ≡ []) (groups_of field lead)
-    (λ group unnamed. flat_none (line_if_naming name lead field) group (all_turned (λ (atom : AtomParts). bytes_eq atom.name name ≡ false) (λ atom. line_if_naming name lead field atom ≡ []) group (line_none name lead field) unnamed)) none)) h)
+    (all_turned (λ (field : FieldKind). AllByRecursion (IsUnnamed name) (groups_of field lead)) (λ (field : FieldKind). naming_in name lead field ≡ []) naming_fields
+    (λ field none. flat_none (flat_map (line_if_naming name lead field)) (groups_of field lead) (all_turned (IsUnnamed name) (λ (group : List AtomParts). flat_map (line_if_naming name lead field) group ≡ []) (groups_of field lead)
+    (λ group unnamed. flat_none (line_if_naming name lead field) group (all_turned (λ (atom : AtomParts). bytes_eq atom.name name ≡ false) (λ (atom : AtomParts). line_if_naming name lead field atom ≡ []) group (line_none name lead field) unnamed)) none)) h)
 
 -- Nothing is told of who names a name by a package no stanza of which does.
 pub naming_silent : (store : Held) (name asker : List ℕ) → AreAt (standing store) (keyed_of store).lists → names_it store name asker ≡ false → IsSilent (naming_in_lead name) asker (standing store)

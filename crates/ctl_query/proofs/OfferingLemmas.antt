@@ -29,11 +29,11 @@ module _ (p : StanzaKey → Bool) (name : List ℕ) where
 
   in_stanza : (key : StanzaKey) (offers : List OfferParts) → p key ≡ true → list_any hit (map (λ (offer : OfferParts). (key, offer)) (kept offers)) ≡ false → AreOthers name offers
   in_stanza key [] is none = tt
-  in_stanza key (offer ∷ offers) is none = by (bytes_eq offer.name name) refl none
+  in_stanza key (offer ∷ offers) is none = by (bytes_eq offer.name name) refl (λ later. in_stanza key offers is later) none
     where
-      by : (b : Bool) → bytes_eq offer.name name ≡ b → list_any hit (map (λ (offer : OfferParts). (key, offer)) (cond b (offer ∷ kept offers) (kept offers))) ≡ false → AreOthers name (offer ∷ offers)
-      by true e h = absurd (true_or (p key) (list_any hit (map (λ (offer : OfferParts). (key, offer)) (kept offers))) is h)
-      by false e h = (e, in_stanza key offers is h)
+      by : (b : Bool) → bytes_eq offer.name name ≡ b → (list_any hit (map (λ (offer : OfferParts). (key, offer)) (kept offers)) ≡ false → AreOthers name offers) → list_any hit (map (λ (offer : OfferParts). (key, offer)) (cond b (offer ∷ kept offers) (kept offers))) ≡ false → AreOthers name (offer ∷ offers)
+      by true e rest h = absurd (true_or (p key) (list_any hit (map (λ (offer : OfferParts). (key, offer)) (kept offers))) is h)
+      by false e rest h = (e, rest h)
 
   in_entries : (es : List Entry) → list_any hit (offers_named name es) ≡ false → AllByRecursion (λ (e : Entry). p e.0 ≡ true → AreOthers name (offers_of e.1)) es
   in_entries [] none = tt

@@ -7,6 +7,7 @@ use Rattle.std.specs.Option.{option_map_or}
 use Rattle.std.specs.Ordering.{nat_cmp}
 use Rattle.std.specs.Str.{bytes_eq}
 use Rattle.std.proofs.lemmas.List.Folds.{list_any-append}
+use Rattle.std.proofs.lemmas.List.Sums.{length-filter, sum_by-append}
 use Rattle.std.proofs.lemmas.List.Sorted.{list_any-IsPermutation, length_permutation}
 use Rattle.ctl_relation.specs.Met.{met, bound_met}
 use Rattle.ctl_relation.specs.Parts.{AtomParts, OfferParts}
@@ -120,36 +121,28 @@ providers_are store atom offers names at are sorted given =
 
 -- ---- how many there are
 
-count_append : {X : Type 0} (p : X → Bool) (xs ys : List X) → count_by p (xs ++ ys) ≡ count_by p xs + count_by p ys
-count_append p [] ys = refl
-count_append p (x ∷ xs) ys = by (p x) (count_append p xs ys)
-  where
-    by : (b : Bool) → count_by p (xs ++ ys) ≡ count_by p xs + count_by p ys → cond b (1 + count_by p (xs ++ ys)) (count_by p (xs ++ ys)) ≡ cond b (1 + count_by p xs) (count_by p xs) + count_by p ys
-    by true rest = ap suc rest
-    by false rest = rest
-
-kept_count : {X Y : Type 0} (p : X → Bool) (f : X → Y) (xs : List X) → length (map f (filter p xs)) ≡ count_by p xs
-kept_count p f [] = refl
-kept_count p f (x ∷ xs) = by (p x) (kept_count p f xs)
-  where
-    by : (b : Bool) → length (map f (filter p xs)) ≡ count_by p xs → length (map f (cond b (x ∷ filter p xs) (filter p xs))) ≡ cond b (1 + count_by p xs) (count_by p xs)
-    by true rest = ap suc rest
-    by false rest = rest
+length_map : {X Y : Type 0} (f : X → Y) (xs : List X) → length (map f xs) ≡ length xs
+length_map f [] = refl
+length_map f (x ∷ xs) = ap suc (length_map f xs)
 
 length_append : {X : Type 0} (xs ys : List X) → length (xs ++ ys) ≡ length xs + length ys
 length_append [] ys = refl
 length_append (x ∷ xs) ys = ap suc (length_append xs ys)
 
-counted : (name : List ℕ) (es : List Entry) → length (offers_named name es) ≡ count_by (λ (offer : OfferParts). bytes_eq offer.name name) (offers_among (contents es))
+-- whether an offer is of a name
+abbrev is_of : List ℕ → OfferParts → Bool
+is_of name offer = bytes_eq offer.name name
+
+counted : (name : List ℕ) (es : List Entry) → length (offers_named name es) ≡ count_by (is_of name) (offers_among (contents es))
 counted name [] = refl
 counted name (e ∷ es) =
-    length_append (map (λ (offer : OfferParts). (e.0, offer)) (filter (λ (offer : OfferParts). bytes_eq offer.name name) (offers_of e.1))) (offers_named name es)
-    ∙ (λ i. kept_count (λ (offer : OfferParts). bytes_eq offer.name name) (λ (offer : OfferParts). (e.0, offer)) (offers_of e.1) i + counted name es i)
-    ∙ sym (count_append (λ (offer : OfferParts). bytes_eq offer.name name) (offers_of e.1) (offers_among (contents es)))
+    length_append (map (λ (offer : OfferParts). (e.0, offer)) (filter (is_of name) (offers_of e.1))) (offers_named name es)
+    ∙ (λ i. (length_map (λ (offer : OfferParts). (e.0, offer)) (filter (is_of name) (offers_of e.1)) ∙ length-filter (is_of name) (offers_of e.1)) i + counted name es i)
+    ∙ sym (sum_by-append (λ (offer : OfferParts). cond (is_of name offer) 1 0) (offers_of e.1) (offers_among (contents es)))
 
 -- there are as many offers of the name of an atom as the definition counts
 pub as_many : (store : Held) (atom : AtomParts) (offers : List (StanzaKey × OfferParts)) → IsPermutation (offers_named atom.name (standing store)) offers → length offers ≡ atom_pairs (world_of store) atom
 unfolding atom_pairs
 as_many store atom offers are =
-    sym (length_permutation (offers_named atom.name (standing store)) offers are) ∙ counted atom.name (standing store)
-    ∙ ap (λ xs. count_by (λ (offer : OfferParts). bytes_eq offer.name atom.name) (offers_among xs)) (contents_are (keyed_of store).lists)
+    length_permutation (offers_named atom.name (standing store)) offers are ∙ counted atom.name (standing store)
+    ∙ ap (λ xs. count_by (is_of atom.name) (offers_among xs)) (contents_are (keyed_of store).lists)

@@ -1,10 +1,11 @@
 -- Of a package of which each clause is met there is nothing to tell.
-use Rattle.std.proofs.Common.{◌≡◌, ◌∙◌, ℕ, ◌+◌, suc, Bool, true, false, cond, ◌&&◌, ◌||◌, List, [], ◌∷◌, ◌++◌, map, flat_map, nat_eq, Option, Some, None, length, take, drop, append_assoc, refl, sym, ap, arith}
+use Rattle.std.proofs.Common.{◌≡◌, ◌∙◌, ℕ, ◌+◌, suc, Bool, true, false, cond, ◌&&◌, ◌||◌, List, [], ◌∷◌, ◌++◌, map, flat_map, nat_eq, Option, Some, None, zero, length, take, drop, append_assoc, refl, sym, ap, arith}
 use Rattle.std.specs.Prelude.{slice_get}
 use Rattle.std.specs.List.{AllByRecursion, list_any, filter}
 use Rattle.std.specs.Option.{option_map, option_map_or, option_and_then}
 use Rattle.std.proofs.lemmas.List.Folds.{list_any-append}
 use Rattle.ctl_relation.specs.declared.field_kind.FieldKind.{FieldKind}
+use Rattle.ctl_relation.specs.declared.field_kind.FieldKind.TheVariants.{PreDepends, Depends, Recommends, Suggests}
 use Rattle.ctl_relation.specs.Met.{met_pairs}
 use Rattle.ctl_relation.specs.Parts.{AtomParts}
 use Rattle.ctl_stanza.specs.Content.{Content, groups_of}
@@ -75,9 +76,9 @@ module _ (es : List Entry) (p : StanzaKey → Bool) where
       by false rest = rest
 
   -- one clause that is not taken is met
-  one_met : (key : ClauseKey) (rest : Bool) (later : List ClauseKey) (b : Bool) → is_unmet es key ≡ b → p key.stanza ≡ true → list_any hit (cond b (key ∷ later) later) ≡ false → is_unmet es key ≡ false
-  one_met key rest later true e is none = absurd (let first : p key.stanza ≡ false = left_false (p key.stanza) (list_any hit later) none in let z : true ≡ false = sym is ∙ first in let w : ⊥ = cc in w)
-  one_met key rest later false e is none = e
+  one_met : (key : ClauseKey) (later : List ClauseKey) (b : Bool) → is_unmet es key ≡ b → p key.stanza ≡ true → list_any hit (cond b (key ∷ later) later) ≡ false → is_unmet es key ≡ false
+  one_met key later true e is none = absurd (let first : p key.stanza ≡ false = left_false (p key.stanza) (list_any hit later) none in let z : true ≡ false = sym is ∙ first in let w : ⊥ = cc in w)
+  one_met key later false e is none = e
 
   abbrev IsMet : List AtomParts → Type 0
   IsMet atoms = nat_eq (number es atoms) 0 ≡ false
@@ -89,7 +90,7 @@ module _ (es : List Entry) (p : StanzaKey → Bool) where
       let parts = sym (hits_append (clause key field n ∷ []) (group_keys key field (suc n) groups)) ∙ none in
       let own : slice_get (groups_of field x) n ≡ Some group = ap (slice_get (groups_of field x)) (let z : n ≡ n + 0 = omega arith in z) ∙ at 0 in
       let found = clause_found es key x field n group there is own in
-      let unmet = one_met (clause key field n) true [] (is_unmet es (clause key field n)) refl of (left_false _ _ parts) in (
+      let unmet = one_met (clause key field n) [] (is_unmet es (clause key field n)) refl of (left_false _ _ parts) in (
         sym (numbered es (clause_at (clause key field n) es) group found) ∙ unmet,
         in_groups key x field (suc n) groups there is of (λ i. ap (slice_get (groups_of field x)) (let z : suc n + i ≡ n + suc i = omega arith in z) ∙ at (suc i)) (right_false _ _ parts),
       )
@@ -127,10 +128,10 @@ module _ (store : Held) (p : StanzaKey → Bool) where
 
   lead_none : (important : Bool) (x : Content) → AreMet (standing store) p x → unmet_lead (world_of store) important x ≡ []
   unfolding unmet_lead clause_lines
-  lead_none true x h = ap (under_heading (unmet_heading x)) (flat_none (unmet_in_field (world_of store) x) (fields_considered true) (field_none x _ h.0, (field_none x _ h.1.0, tt)))
+  lead_none true x h = ap (under_heading (unmet_heading x)) (flat_none (unmet_in_field (world_of store) x) (fields_considered true) (field_none x PreDepends h.0, (field_none x Depends h.1.0, tt)))
   lead_none false x h =
       ap (under_heading (unmet_heading x)) (flat_none (unmet_in_field (world_of store) x) (fields_considered false)
-      (field_none x _ h.0, (field_none x _ h.1.0, (field_none x _ h.1.1.0, (field_none x _ h.1.1.1.0, tt)))))
+      (field_none x PreDepends h.0, (field_none x Depends h.1.0, (field_none x Recommends h.1.1.0, (field_none x Suggests h.1.1.1.0, tt)))))
 
 silent_from : (store : Held) (important : Bool) (asker : List ℕ) (es : List Entry) → AreAt es (keyed_of store).lists →
     AllByRecursion (λ (e : Entry). is_of_package store asker e.0 ≡ true → AreMet (standing store) (is_of_package store asker) e.1) es → IsSilent (unmet_lead (world_of store) important) asker es
@@ -152,11 +153,16 @@ at_place [] its rest (suc n) x e f = absurd (let z : x ∷ rest ≡ [] = sym f �
 at_place (y ∷ xs) its rest zero x e f = let z : y ∷ xs ≡ x ∷ rest = sym e ∙ f in let same : y ≡ x = cc in ap (λ v. Some v) same
 at_place (y ∷ xs) its rest (suc n) x e f = at_place xs its rest n x e f
 
-pub behind_place : {A : Type 0} (xs its rest : List A) (n : ℕ) (x : A) → its ≡ drop n xs → its ≡ x ∷ rest → rest ≡ drop (suc n) xs
+pub behind_place : {A : Type 0} (xs its rest : List A) (n : ℕ) (x : A) → its ≡ drop n xs → its ≡ x ∷ rest → rest ≡ drop (n + 1) xs
 behind_place [] its rest zero x e f = absurd (let z : x ∷ rest ≡ [] = sym f ∙ e in let w : ⊥ = cc in w)
 behind_place [] its rest (suc n) x e f = absurd (let z : x ∷ rest ≡ [] = sym f ∙ e in let w : ⊥ = cc in w)
 behind_place (y ∷ xs) its rest zero x e f = let z : x ∷ rest ≡ y ∷ xs = sym f ∙ e in let same : rest ≡ xs = cc in same
 behind_place (y ∷ xs) its rest (suc n) x e f = behind_place xs its rest n x e f
+
+-- what is told of one more, and of those that are left
+pub one_passed : {A : Type 0} (f : A → List ℕ) (its rest : List A) (x : A) (out new all : List ℕ) → its ≡ x ∷ rest → new ≡ out ++ f x → out ++ flat_map f its ≡ all → new ++ flat_map f rest ≡ all
+one_passed f its rest x out new all are grown before =
+    ap (λ text. text ++ flat_map f rest) grown ∙ append_assoc out (f x) (flat_map f rest) ∙ ap (λ xs. out ++ flat_map f xs) (sym are) ∙ before
 
 -- ---- a heading with nothing under it
 

@@ -26,9 +26,7 @@ fn has_lines(cache: &Cache, installed: bool, atom: &Atom<'_>, names: &BTreeSet<&
     requires names { lent_names names.now.keys ≡ providers (world_of cache.now.store) atom.now }
     ensures { result ≡ has_lines (world_of cache.now.store) installed atom.now }
 {
-    !installed
-        || cache.installed(atom.name()).is_some()
-        || is_any_kept(cache, installed, names)
+    !installed || cache.installed(atom.name()).is_some() || is_any_kept(cache, installed, names)
 }
 
 /// Appends the line of an atom, and under it one for each provider that is kept.

@@ -13,7 +13,10 @@ use std::alloc::AllocError;
 fn append_asker(lead: &Stanza, out: &mut Vec<u8>) -> Result<(), AllocError>
     ensures { OnOk result (out.new.items ≡ out.old.items ++ asker lead.now) }
 {
-    append_parts(out, &[b"  ", lead.package(), b" ", version_text(lead), b" "])?;
+    append_parts(
+        out,
+        &[b"  ", lead.package(), b" ", version_text(lead), b" "],
+    )?;
     Ok(())
 }
 
@@ -97,11 +100,7 @@ fn append_relation(
     Ok(())
 }
 
-fn append_relations_in(
-    lead: &Stanza,
-    field: FieldKind,
-    out: &mut Vec<u8>,
-) -> Result<(), AllocError>
+fn append_relations_in(lead: &Stanza, field: FieldKind, out: &mut Vec<u8>) -> Result<(), AllocError>
     ensures { OnOk result (out.new.items ≡ out.old.items ++ relations_in lead.now field) }
 {
     'groups: for group in lead.groups(field) {

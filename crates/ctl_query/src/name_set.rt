@@ -8,10 +8,7 @@ use std::alloc::AllocError;
 use std::collections::BTreeSet;
 
 /// Adds a name.
-pub(crate) fn add_name<'a>(
-    names: &mut BTreeSet<&'a [u8]>,
-    name: &'a [u8],
-) -> Result<(), AllocError>
+pub(crate) fn add_name<'a>(names: &mut BTreeSet<&'a [u8]>, name: &'a [u8]) -> Result<(), AllocError>
     ensures { OnOk result ((other : List ℕ) → is_among (lent_names names.new.keys) other ≡ (bytes_eq other name.now || is_among (lent_names names.old.keys) other)) }
 {
     names.insert(name)?;

@@ -24,11 +24,7 @@ fn append_named(atom: &Atom<'_>, out: &mut Vec<u8>) -> Result<(), AllocError>
 }
 
 /// Appends the name of an atom with its qualifier, in angle brackets where the name has no row.
-fn append_named_shown(
-    with_row: bool,
-    atom: &Atom<'_>,
-    out: &mut Vec<u8>,
-) -> Result<(), AllocError>
+fn append_named_shown(with_row: bool, atom: &Atom<'_>, out: &mut Vec<u8>) -> Result<(), AllocError>
     ensures { OnOk result (out.new.items ≡ out.old.items ++ named_shown with_row atom.now) }
 {
     if with_row {

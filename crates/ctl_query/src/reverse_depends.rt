@@ -23,10 +23,10 @@ use std::alloc::{AllocError, Global};
 use std::collections::BTreeSet;
 
 /// One atom more that names a name: whether a further alternative follows each of them.
-fn with_naming(naming: Option<bool>, further: bool) -> Option<bool>
-    ensures { result ≡ with_naming naming further }
+fn with_naming(found: Option<bool>, further: bool) -> Option<bool>
+    ensures { result ≡ with_naming found further }
 {
-    match naming {
+    match found {
         Some(all) => Some(all && further),
         None => Some(further),
     }
@@ -34,51 +34,51 @@ fn with_naming(naming: Option<bool>, further: bool) -> Option<bool>
 
 /// The atoms of a group are taken in.
 #[tactic(auto, using(crate::proofs::GroupLemmas::is_followed), unfolding(crate::specs::ReverseDepends::naming_in_group, crate::specs::NamingRead::with_all))]
-fn with_group(name: &[u8], group: &Group<'_>, naming: Option<bool>) -> Option<bool>
-    ensures { result ≡ with_all naming (naming_in_group name.now group.now) }
+fn with_group(name: &[u8], group: &Group<'_>, found: Option<bool>) -> Option<bool>
+    ensures { result ≡ with_all found (naming_in_group name.now group.now) }
 {
-    let mut naming = naming;
+    let mut found = found;
     let mut left = group.len();
     'atoms: for atom in group.atoms() {
         left -= 1;
         if atom.name() == name {
-            naming = with_naming(naming, left > 0);
+            found = with_naming(found, left > 0);
         }
     }
-    naming
+    found
 }
 
 #[tactic(auto, using(crate::proofs::GroupLemmas::with_append), unfolding(crate::specs::NamingRead::with_all))]
-fn with_field(name: &[u8], lead: &Stanza, field: FieldKind, naming: Option<bool>) -> Option<bool>
-    ensures { result ≡ with_all naming (naming_in_field name.now lead.now field) }
+fn with_field(name: &[u8], lead: &Stanza, field: FieldKind, found: Option<bool>) -> Option<bool>
+    ensures { result ≡ with_all found (naming_in_field name.now lead.now field) }
 {
-    let mut naming = naming;
+    let mut found = found;
     'groups: for group in lead.groups(field) {
-        naming = with_group(name, &group, naming);
+        found = with_group(name, &group, found);
     }
-    naming
+    found
 }
 
 /// The atoms of the eight fields of a lead are.
 #[tactic(auto, using(crate::proofs::GroupLemmas::with_append), unfolding(crate::specs::ReverseDepends::naming_in_lead, crate::specs::NamingRead::with_all))]
-fn with_lead(name: &[u8], lead: &Stanza, naming: Option<bool>) -> Option<bool>
-    ensures { result ≡ with_all naming (naming_in_lead name.now lead.now) }
+fn with_lead(name: &[u8], lead: &Stanza, found: Option<bool>) -> Option<bool>
+    ensures { result ≡ with_all found (naming_in_lead name.now lead.now) }
 {
-    let mut naming = naming;
+    let mut found = found;
     let fields = depends_fields(false);
     for field in fields {
-        naming = with_field(name, lead, *field, naming);
+        found = with_field(name, lead, *field, found);
     }
-    naming
+    found
 }
 
 #[tactic(auto, unfolding(crate::specs::NamingRead::with_all))]
-fn with_row(store: &Store, name: &[u8], row: &[StanzaKey], naming: Option<bool>) -> Option<bool>
-    ensures { result ≡ with_all naming (naming_in_row (world_of store.now) name.now row.now) }
+fn with_row(store: &Store, name: &[u8], row: &[StanzaKey], found: Option<bool>) -> Option<bool>
+    ensures { result ≡ with_all found (naming_in_row (world_of store.now) name.now row.now) }
 {
     match lead_in(store, row) {
-        Some(lead) => with_lead(name, lead, naming),
-        None => naming,
+        Some(lead) => with_lead(name, lead, found),
+        None => found,
     }
 }
 
@@ -88,19 +88,19 @@ fn naming_of(cache: &Cache, name: &[u8], asker: &[u8]) -> Option<bool>
     requires { cache.now.stale ≡ false }
     ensures { result ≡ with_all None (naming (world_of cache.now.store) name.now asker.now) }
 {
-    let mut naming = None;
+    let mut found = None;
     'rows: for row in rows_of(cache, asker) {
-        naming = with_row(cache.store(), name, row, naming);
+        found = with_row(cache.store(), name, row, found);
     }
-    naming
+    found
 }
 
 /// Appends the line of a package, where an atom was found that names the name.
 #[tactic(auto, unfolding(crate::specs::Texts::line))]
-fn append_naming(asker: &[u8], naming: Option<bool>, out: &mut Vec<u8>) -> Result<(), AllocError>
-    ensures { OnOk result (out.new.items ≡ out.old.items ++ naming_line asker.now naming) }
+fn append_naming(asker: &[u8], found: Option<bool>, out: &mut Vec<u8>) -> Result<(), AllocError>
+    ensures { OnOk result (out.new.items ≡ out.old.items ++ naming_line asker.now found) }
 {
-    match naming {
+    match found {
         Some(all) => {
             out.extend_from_slice(mark(all))?;
             append_line(out, &[asker])?;

@@ -11,12 +11,12 @@ ghost use Rattle.ctl_query.specs.ShowPackage.{source_mark, version_line, naming_
 ghost use Rattle.ctl_query.specs.Texts.{if_known};
 
 use crate::interest::{packages_naming, packages_offering, stanzas_are_found};
-use crate::leads::lead_in;
-use crate::packages::{is_known, rows_of};
-use crate::policy::row_version;
 use crate::lead_lines::{
     append_entry_lines, append_naming_lines, append_providing_lines, append_relation_lines,
 };
+use crate::leads::lead_in;
+use crate::packages::{is_known, rows_of};
+use crate::policy::row_version;
 use crate::text::{append_line, append_parts, append_unknown};
 use ctl_index::Cache;
 use ctl_policy::{is_source, rows_are_classes};
@@ -29,11 +29,7 @@ use std::collections::BTreeSet;
 
 /// Appends the lists that hold a row, which has these stanzas.
 #[tactic(auto, using(crate::proofs::ListLemmas::names_shown))]
-fn append_sources(
-    store: &Store,
-    row: &[StanzaKey],
-    out: &mut Vec<u8>,
-) -> Result<(), AllocError>
+fn append_sources(store: &Store, row: &[StanzaKey], out: &mut Vec<u8>) -> Result<(), AllocError>
     requires { AreHeld row.now (keyed_of store.now).lists }
     ensures { OnOk result (out.new.items ≡ out.old.items ++ flat_map source_mark (sources_of row.now (keyed_of store.now).lists)) }
 {
@@ -47,11 +43,7 @@ fn append_sources(
 
 /// Appends a row with the lists that hold it.
 #[tactic(auto, unfolding(crate::specs::Texts::line))]
-fn append_version(
-    store: &Store,
-    row: &[StanzaKey],
-    out: &mut Vec<u8>,
-) -> Result<(), AllocError>
+fn append_version(store: &Store, row: &[StanzaKey], out: &mut Vec<u8>) -> Result<(), AllocError>
     requires { AreHeld row.now (keyed_of store.now).lists }
     ensures { OnOk result (out.new.items ≡ out.old.items ++ version_line (world_of store.now) row.now) }
 {
@@ -161,11 +153,7 @@ fn append_relations(cache: &Cache, name: &[u8], out: &mut Vec<u8>) -> Result<(),
 
 // ---- what it provides, and who provides it
 
-fn append_entry_row(
-    store: &Store,
-    row: &[StanzaKey],
-    out: &mut Vec<u8>,
-) -> Result<(), AllocError>
+fn append_entry_row(store: &Store, row: &[StanzaKey], out: &mut Vec<u8>) -> Result<(), AllocError>
     ensures { OnOk result (out.new.items ≡ out.old.items ++ told_of_row (world_of store.now) entry_lines row.now) }
 {
     match lead_in(store, row) {

@@ -31,11 +31,7 @@ fn is_unmet(cache: &Cache, key: ClauseKey, clause: &Group<'_>) -> bool
 
 /// Appends the line of a clause that is not met.
 #[tactic(auto, unfolding(crate::specs::Texts::line))]
-fn append_clause(
-    field: FieldKind,
-    clause: &Group<'_>,
-    out: &mut Vec<u8>,
-) -> Result<(), AllocError>
+fn append_clause(field: FieldKind, clause: &Group<'_>, out: &mut Vec<u8>) -> Result<(), AllocError>
     ensures { OnOk result (out.new.items ≡ out.old.items ++ clause_line field clause.now) }
 {
     append_parts(out, &[b" ", field_label(field), b": "])?;
@@ -62,7 +58,6 @@ fn append_if_unmet(
 }
 
 /// Appends the clauses of a field of a lead that are not met.
-#[tactic(auto, using(crate::proofs::UnmetLemmas::behind_place))]
 fn append_field(
     cache: &Cache,
     stanza: StanzaKey,

@@ -66,6 +66,8 @@ mod refused;
 #[cfg(test)]
 mod refused_cache;
 #[cfg(test)]
+mod relation_answers;
+#[cfg(test)]
 mod relations;
 #[cfg(test)]
 mod runs;

@@ -7,5 +7,5 @@ use Rattle.ctl_query.proofs.reverse_depends.with_group.Given as goal
 abbrev pub invariant-atoms : goal.invariant-atoms
 invariant-atoms l = record {
   left : l.left ≡ length l.atom-iterator;
-  naming : with_all l.naming (naming_in_group l.name l.atom-iterator) ≡ with_all l.initial.naming (naming_in_group l.name l.initial.atom-iterator);
+  found : with_all l.found (naming_in_group l.name l.atom-iterator) ≡ with_all l.initial.found (naming_in_group l.name l.initial.atom-iterator);
 }
