@@ -39,7 +39,7 @@ query_named word =
     if bytes_eq word (codes "showpkg") then Some name.ShowPackage else None))))))
 
 -- whether a command of this name is a query
-abbrev pub is_query : List ℕ → Bool
+unfoldable pub is_query : List ℕ → Bool
 is_query name = is_some (query_named name)
 
 -- the options of each query

@@ -2,10 +2,14 @@
 
 ghost use Rattle.std.specs.Prelude.{◌≡◌, ◌++◌, ◌+◌, ◌≤◌, [], OnOk, OnErr, false};
 ghost use Rattle.ctl_policy.specs.Priority.{world_of};
+ghost use Rattle.ctl_store.specs.Held.{state_of};
+ghost use Rattle.ctl_query.specs.Anew.{answer_anew};
 ghost use Rattle.ctl_query.specs.Answer.{answer_text, answer_pairs, policy_answer};
+ghost use Rattle.ctl_query.specs.Holdings.{holdings_of};
 ghost use Rattle.ctl_query.specs.QueryRead.{query_text};
 
 use crate::depends::append_depends;
+use crate::laws::answers_are_as_if_built_anew;
 use crate::package_names::append_package_names;
 use crate::policy::{append_policy, append_policy_of_all};
 use crate::query::Query;
@@ -128,13 +132,18 @@ pub fn answer(
     steps: &mut Steps,
 ) -> Result<(), AllocError>
     requires { cache.now.stale ≡ false }
-    ensures ok { OnOk result (out.new.items ≡ out.old.items ++ answer_text (world_of cache.now.store) (query_text query.now)) }
+    ensures ok { OnOk result (out.new.items ≡ out.old.items ++ answer_anew (holdings_of (state_of cache.now.store)) (query_text query.now)) }
     ensures err { OnErr result (out.new.items ≡ out.old.items) }
     ensures steps { steps.new ≤ steps.old + answer_pairs (world_of cache.now.store) (query_text query.now) }
 {
+    answers_are_as_if_built_anew();
+    // That the keys rise is said here.
+    let _counts = cache.store().counts();
     if out.is_empty() {
-        answer_alone(alloc, cache, query, out, steps)
+        answer_alone(alloc, cache, query, out, steps)?;
+        Ok(())
     } else {
-        answer_behind(alloc, cache, query, out, steps)
+        answer_behind(alloc, cache, query, out, steps)?;
+        Ok(())
     }
 }

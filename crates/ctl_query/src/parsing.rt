@@ -286,6 +286,7 @@ fn query_in(alloc: Global, name: QueryName, words: &[Bytes]) -> Result<Query, Re
 }
 
 /// Whether a command of this name is a query.
+#[tactic(auto, unfolding(crate::specs::Query::is_query))]
 pub fn is_query(name: &[u8]) -> bool
     ensures { result ≡ is_query name.now }
 {

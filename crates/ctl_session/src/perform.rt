@@ -1,11 +1,7 @@
 //! Doing what a command asks for.
 
-ghost use Rattle.std.specs.Prelude.{◌≡◌, ℕ, List, OnOk, false, []};
+ghost use Rattle.std.specs.Prelude.{◌≡◌, ℕ, List, false, []};
 ghost use Rattle.ctl_stanza.specs.Lines.{text_of_lines};
-ghost use Rattle.ctl_store.specs.Held.{state_of};
-ghost use Rattle.ctl_query.specs.Anew.{answer_anew};
-ghost use Rattle.ctl_query.specs.Holdings.{holdings_of};
-ghost use Rattle.ctl_query.specs.QueryRead.{query_text};
 ghost use Rattle.ctl_session.specs.Script.{Command};
 ghost use Rattle.ctl_session.specs.Reading.{Describes};
 ghost use Rattle.ctl_session.specs.Outcome.{state_after};
@@ -21,10 +17,10 @@ use crate::reply::Reply;
 use crate::request::{Request, command_words, request_by};
 use crate::script::{Body, CommandRead};
 use ctl_index::Cache;
-use ctl_query::{Query, answer, answers_are_as_if_built_anew};
+use ctl_query::answer;
 use ctl_relation::Steps;
 use ctl_store::Refusal;
-use std::alloc::{AllocError, Global};
+use std::alloc::Global;
 
 /// What an edit came to.
 fn reply_of_edit(edited: Result<(), RefusalAt>) -> Reply
@@ -34,24 +30,6 @@ fn reply_of_edit(edited: Result<(), RefusalAt>) -> Reply
         Ok(()) => Reply::Changed,
         Err(refused) => Reply::Refused(refused),
     }
-}
-
-/// Puts the answer to a query into an empty buffer.
-fn put_answer(
-    alloc: Global,
-    cache: &Cache,
-    query: &Query,
-    out: &mut Vec<u8>,
-) -> Result<(), AllocError>
-    requires fresh { cache.now.stale ≡ false }
-    requires empty { out.old.items ≡ [] }
-    ensures { OnOk result (out.new.items ≡ answer_anew (holdings_of (state_of cache.now.store)) (query_text query.now)) }
-{
-    answers_are_as_if_built_anew();
-    // That the keys rise is said here.
-    let _counts = cache.store().counts();
-    answer(alloc, cache, query, out, &mut Steps::new())?;
-    Ok(())
 }
 
 /// Does what a request asks for, with what was read of the command's body, and the text of an answer in the buffer.
@@ -86,7 +64,7 @@ fn do_request(
         Request::Put(name) => reply_of_edit(put(alloc, cache, name, text, number)),
         Request::Prefs => reply_of_edit(set_prefs(alloc, cache, text, number)),
         Request::Change(change) => reply_of_edit(edit(cache, change, number)),
-        Request::Ask(query) => match put_answer(alloc, cache, &query, out) {
+        Request::Ask(query) => match answer(alloc, cache, &query, out, &mut Steps::new()) {
             Ok(()) => Reply::Answered,
             Err(_) => Reply::Refused(refused(number, Refusal::Memory)),
         },
