@@ -1,5 +1,5 @@
 -- Each answer is the same where the keys of the stanzas alone differ.
-use Rattle.std.proofs.Common.{◌≡◌, ◌∙◌, ℕ, Bool, true, false, cond, not, ◌&&◌, ◌||◌, List, [], ◌∷◌, ◌++◌, map, filter, flat_map, codes, nat_eq, pos, Option, None, Some, is_some, option_map, unwrap_or, refl, sym, ap}
+use Rattle.std.proofs.Common.{◌≡◌, ◌∙◌, ℕ, Bool, true, false, cond, not, ◌&&◌, ◌||◌, List, [], ◌∷◌, ◌++◌, map, filter, flat_map, codes, nat_eq, pos, Option, None, Some, is_some, option_map, unwrap_or, refl, sym, ap, subst}
 use Rattle.std.specs.List.{list_any}
 use Rattle.std.specs.Option.{option_or, option_map_or}
 use Rattle.std.specs.Str.{bytes_eq}
@@ -10,12 +10,13 @@ use Rattle.ctl_relation.specs.Met.{met_pairs}
 use Rattle.ctl_relation.specs.Parts.{AtomParts}
 use Rattle.ctl_stanza.specs.Content.{Content, package_of, groups_of}
 use Rattle.ctl_store.specs.declared.stanza_key.StanzaKey.{StanzaKey}
-use Rattle.ctl_store.specs.Keys.{stanza_at}
+use Rattle.ctl_store.specs.Held.{Held, keyed_of, state_of}
+use Rattle.ctl_store.specs.Keys.{AreRising, all_keys, stanza_at}
 use Rattle.ctl_store.specs.Entries.{stanzas_in_order}
 use Rattle.ctl_index.specs.Names.{in_order, known_names, naming_fields}
 use Rattle.ctl_index.specs.Offers.{offers_among}
 use Rattle.ctl_policy.specs.Rows.{Lists, keys_of_row, newest_first, rows_named, lead_of, lead_at, version_under, sources_of}
-use Rattle.ctl_policy.specs.Priority.{World, row_priority, list_priority, specific_pin}
+use Rattle.ctl_policy.specs.Priority.{World, world_of, row_priority, list_priority, specific_pin}
 use Rattle.ctl_policy.specs.Candidate.{installed_of, candidate_of}
 use Rattle.ctl_query.specs.Packages.{is_none_of, stanzas_of, names_known, is_known, rows_of, has_row, packages_of, is_installed, stanza_under, lead_in, told, told_of_row, of_rows, of_all_rows}
 use Rattle.ctl_query.specs.Texts.{line, if_known, unknown_line, right_four}
@@ -28,6 +29,8 @@ use Rattle.ctl_query.specs.Unmet.{is_unmet, clause_line, line_if_unmet, unmet_in
 use Rattle.ctl_query.specs.ShowPackage.{source_mark, version_line, naming_lines, relation_lines, entry_lines, providing_lines, show_package_one, show_package_text}
 use Rattle.ctl_query.specs.Query.{Query, PackageNames, Show, Depends, ReverseDepends, Unmet, Policy, ShowPackage}
 use Rattle.ctl_query.specs.Answer.{policy_answer, answer_text}
+use Rattle.ctl_query.specs.Anew.{answer_anew}
+use Rattle.ctl_query.specs.Holdings.{holdings_of}
 use Rattle.ctl_query.proofs.ClassLemmas.{AreClasses}
 use Rattle.ctl_query.proofs.TwinLemmas as twin
 use Rattle.ctl_query.proofs.TwinLemmas.{IsMoved, AreShown}
@@ -262,3 +265,10 @@ module _ (classes : AreClasses) (shown : AreShown) (f : StanzaKey → StanzaKey)
   same_answer (Unmet important) = same_unmet important
   same_answer (Policy names) = same_policy names
   same_answer (ShowPackage names) = same_of_names (show_package_one w) (show_package_one u) same_show_package_one names
+
+-- a text that ends with the answer of a store ends with that of a store that was built anew
+pub ends_anew : ((store : Held) → (query : Query) → AreRising (all_keys (keyed_of store).lists) → answer_text (world_of store) query ≡ answer_anew (holdings_of (state_of store)) query) →
+    (store seen : Held) (query : Query) (before after : List ℕ) → seen ≡ store → AreRising (all_keys (keyed_of seen).lists) → after ≡ before ++ answer_text (world_of store) query →
+    after ≡ before ++ answer_anew (holdings_of (state_of store)) query
+ends_anew law store seen query before after same rising is =
+    is ∙ ap (λ text. before ++ text) (law store query (subst (λ s. AreRising (all_keys (keyed_of s).lists)) same rising))

@@ -195,7 +195,7 @@ fn answers_stand_behind_what_is_there(rt: HostRuntime) -> Result<(), Fail> {
         list,
         &came,
         b"a\nb\n0 tests\na\nb\nv\n0 tests\nPackage files:\n 500 m\nPinned packages:\n0 tests\n\
-        a\n |Depends: <v>\n    b\n  Depends: b\n2 tests\nnumber 9, a query: true\nnumber 1, a query: false\nnumber 1, a query: false\n",
+        a\n |Depends: <v>\n    b\n  Depends: b\n2 tests\nnumber 9, a query\nnumber 1, no query\nnumber 1, no query\n",
     );
     Ok(())
 }

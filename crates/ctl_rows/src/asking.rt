@@ -20,11 +20,11 @@ fn append_refusal(
     refusal: Refusal,
     all: &mut Vec<u8>,
 ) -> Result<(), AllocError> {
-    let is_query = match texts {
-        [name, ..] => is_query(name),
-        [] => false,
+    let kind = match texts {
+        [name, ..] if is_query(name) => "a query",
+        _ => "no query",
     };
-    let words = format!(in alloc; "number {}, a query: {}\n", refusal.number(), is_query)?;
+    let words = format!(in alloc; "number {}, {}\n", refusal.number(), kind)?;
     all.extend_from_slice(words.as_bytes())
 }
 
