@@ -22,7 +22,6 @@ eq_is a b e = grind (arith, nat_tests)
 lt_ne : (a b : ℕ) → a < b → nat_eq a b ≡ false
 lt_ne a b l = grind (arith, nat_tests)
 
-
 -- ---- the place of a serial
 
 -- the place of a serial among rows; behind all where it isn't there
@@ -49,8 +48,8 @@ abbrev pub moved_in : ℕ → KeyedList → (StanzaKey → StanzaKey) → Stanza
 moved_in n l others key = cond (is_some (in_rows key l)) (key_of n (place_in key.stanza l.rows)) (others key)
 
 abbrev pub moved : ℕ → Lists → StanzaKey → StanzaKey
-moved n [] key = key_of n 0
-moved n (l ∷ ls) key = moved_in n l.1 (moved (suc n) ls) key
+moved n [] = λ (key : StanzaKey). key_of n 0
+moved n (l ∷ ls) = moved_in n l.1 (moved (suc n) ls)
 
 pub moved_above : (n : ℕ) (ls : Lists) (key : StanzaKey) → n ≤ (moved n ls key).list
 moved_above n [] key = omega arith
@@ -75,7 +74,7 @@ own_serial l key false e there = let none : in_rows key l ≡ None = ap (λ b. c
 own_list : (n : ℕ) (l : KeyedList) (key : StanzaKey) → is_some (in_rows key l) ≡ true → in_rows (key_of n (place_in key.stanza l.rows)) (anew n l) ≡ in_rows key l
 own_list n l key there =
     ap (λ b. cond b (lookup (λ s. nat_eq s (place_in key.stanza l.rows)) (rows_from 0 (stanzas_of l.rows))) None) (eq_is n n refl)
-    ∙ found_at_place key.stanza 0 (place_in key.stanza l.rows) l.rows refl
+    ∙ found_at_place key.stanza 0 (place_in key.stanza l.rows) l.rows (omega arith)
     ∙ own_serial l key (nat_eq l.serial key.list) refl there
 
 module _ {A : Type 0} where

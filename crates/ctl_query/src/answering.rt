@@ -43,18 +43,33 @@ fn append_answer(
 {
     match query {
         Query::PackageNames(all, prefix) => {
-            append_package_names(cache, *all, prefix.as_slice(), out)
+            append_package_names(cache, *all, prefix.as_slice(), out)?;
+            Ok(())
         }
-        Query::Show(all, rows) => append_show(cache, *all, rows, out),
+        Query::Show(all, rows) => {
+            append_show(cache, *all, rows, out)?;
+            Ok(())
+        }
         Query::Depends(important, installed, names) => {
-            append_depends(alloc, cache, *important, *installed, names, out, steps)
+            append_depends(alloc, cache, *important, *installed, names, out, steps)?;
+            Ok(())
         }
         Query::ReverseDepends(installed, names) => {
-            append_reverse_depends(alloc, cache, *installed, names, out)
+            append_reverse_depends(alloc, cache, *installed, names, out)?;
+            Ok(())
         }
-        Query::Unmet(important) => append_unmet(alloc, cache, *important, out),
-        Query::Policy(names) => append_any_policy(cache, names, out),
-        Query::ShowPackage(names) => append_show_package(alloc, cache, names, out),
+        Query::Unmet(important) => {
+            append_unmet(alloc, cache, *important, out)?;
+            Ok(())
+        }
+        Query::Policy(names) => {
+            append_any_policy(cache, names, out)?;
+            Ok(())
+        }
+        Query::ShowPackage(names) => {
+            append_show_package(alloc, cache, names, out)?;
+            Ok(())
+        }
     }
 }
 

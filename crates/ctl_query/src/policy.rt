@@ -276,16 +276,14 @@ fn append_one(cache: &Cache, name: &[u8], out: &mut Vec<u8>) -> Result<(), Alloc
     requires { cache.now.stale ≡ false }
     ensures { OnOk result (out.new.items ≡ out.old.items ++ if_known (world_of cache.now.store) (policy_one (world_of cache.now.store)) name.now) }
 {
-    if !is_known(cache, name) {
-        return append_unknown(out, name);
+    if is_known(cache, name) {
+        let chosen = cache.chosen(name);
+        append_known(cache.store(), name, chosen, rows_of(cache, name), out)?;
+        Ok(())
+    } else {
+        append_unknown(out, name)?;
+        Ok(())
     }
-    append_known(
-        cache.store(),
-        name,
-        cache.chosen(name),
-        rows_of(cache, name),
-        out,
-    )
 }
 
 /// Appends the answer to `policy` of names.

@@ -68,7 +68,10 @@ fn append_version(
     ensures { OnOk result (out.new.items ≡ out.old.items ++ version_shown (world_of cache.now.store) name.now version.now) }
 {
     match stanza_under(cache.store(), cache.lead(name, version)) {
-        Some(lead) => append_line(out, &[lead.text()]),
+        Some(lead) => {
+            append_line(out, &[lead.text()])?;
+            Ok(())
+        }
         None => append_not_found(name, version, out),
     }
 }
@@ -125,9 +128,11 @@ fn append_one(
 {
     let name = asked.name.as_slice();
     if cache.has_row(name) {
-        append_shown(cache, all, name, &asked.version, out)
+        append_shown(cache, all, name, &asked.version, out)?;
+        Ok(())
     } else {
-        append_unknown(out, name)
+        append_unknown(out, name)?;
+        Ok(())
     }
 }
 
