@@ -187,7 +187,8 @@ fn append_one(
         append_unknown(out, name)?;
         return Ok(());
     }
-    append_known(alloc, cache, important, installed, name, out, steps)
+    append_known(alloc, cache, important, installed, name, out, steps)?;
+    Ok(())
 }
 
 /// Appends the answer to `depends`. It makes at most one test for each pair of an atom of a lead that is shown and an offer

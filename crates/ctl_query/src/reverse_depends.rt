@@ -140,7 +140,8 @@ fn append_asking(
     if installed && cache.installed(asker).is_none() {
         return Ok(());
     }
-    append_asker(cache, name, asker, out)
+    append_asker(cache, name, asker, out)?;
+    Ok(())
 }
 
 /// Appends the lines of some packages.
@@ -210,7 +211,8 @@ fn append_one(
         append_unknown(out, name)?;
         return Ok(());
     }
-    append_known(alloc, cache, installed, name, out)
+    append_known(alloc, cache, installed, name, out)?;
+    Ok(())
 }
 
 /// Appends the answer to `rdepends`.

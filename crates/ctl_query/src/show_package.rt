@@ -74,7 +74,10 @@ fn append_naming_row(
     ensures { OnOk result (out.new.items ≡ out.old.items ++ told_of_row (world_of store.now) (naming_lines name.now) row.now) }
 {
     match lead_in(store, row) {
-        Some(lead) => append_naming_lines(name, lead, out),
+        Some(lead) => {
+            append_naming_lines(name, lead, out)?;
+            Ok(())
+        }
         None => Ok(()),
     }
 }
@@ -136,7 +139,10 @@ fn append_relation_row(
     ensures { OnOk result (out.new.items ≡ out.old.items ++ told_of_row (world_of store.now) relation_lines row.now) }
 {
     match lead_in(store, row) {
-        Some(lead) => append_relation_lines(lead, out),
+        Some(lead) => {
+            append_relation_lines(lead, out)?;
+            Ok(())
+        }
         None => Ok(()),
     }
 }
@@ -157,7 +163,10 @@ fn append_entry_row(store: &Store, row: &[StanzaKey], out: &mut Vec<u8>) -> Resu
     ensures { OnOk result (out.new.items ≡ out.old.items ++ told_of_row (world_of store.now) entry_lines row.now) }
 {
     match lead_in(store, row) {
-        Some(lead) => append_entry_lines(lead, out),
+        Some(lead) => {
+            append_entry_lines(lead, out)?;
+            Ok(())
+        }
         None => Ok(()),
     }
 }
@@ -181,7 +190,10 @@ fn append_providing_row(
     ensures { OnOk result (out.new.items ≡ out.old.items ++ told_of_row (world_of store.now) (providing_lines name.now) row.now) }
 {
     match lead_in(store, row) {
-        Some(lead) => append_providing_lines(name, lead, out),
+        Some(lead) => {
+            append_providing_lines(name, lead, out)?;
+            Ok(())
+        }
         None => Ok(()),
     }
 }
@@ -274,7 +286,8 @@ fn append_one(
         append_unknown(out, name)?;
         return Ok(());
     }
-    append_known(alloc, cache, name, out)
+    append_known(alloc, cache, name, out)?;
+    Ok(())
 }
 
 /// Appends the answer to `showpkg`.

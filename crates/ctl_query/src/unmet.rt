@@ -166,7 +166,10 @@ fn append_row(
         return Ok(());
     };
     match cache.store().find(key) {
-        Some(lead) => append_lead(cache, important, key, lead, out),
+        Some(lead) => {
+            append_lead(cache, important, key, lead, out)?;
+            Ok(())
+        }
         None => Ok(()),
     }
 }
