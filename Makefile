@@ -25,7 +25,7 @@ demo:
 	  cp "$$script" "$$work/scripts/"; \
 	  echo "== $$(basename "$$script")" >> "$$work/expected"; cat "$${script%.script}.expected" >> "$$work/expected"; \
 	done; \
-	cat examples/names.script; \
+	cat examples/upload.script; \
 	(cd crates/dctrl_cache && rt try --cases "$$work/scripts" 2> "$$work/log" > "$$work/answers" || { cat "$$work/log"; exit 1; }); \
 	cat "$$work/answers"; \
 	diff "$$work/expected" "$$work/answers"; \
@@ -63,6 +63,7 @@ bench: $(PROGRAM)
 ifdef FILE
 	python3 bench/relations.py $(FILE)
 	python3 bench/policies.py main=$(FILE)
+	python3 bench/answers.py $(PROGRAM) main=$(FILE)
 endif
 
 install: $(PROGRAM)

@@ -1,6 +1,7 @@
-"""The examples of the manual, two indented blocks with the word `prints` between them; the manual page, and whether both
-say what the program does."""
+"""The examples of the manual and of the differences from apt-cache, two indented blocks with the word `prints` between
+them; the manual page, and whether both say what the program does."""
 
+import itertools
 import os
 import re
 import shutil
@@ -8,6 +9,7 @@ import subprocess
 
 TOP = os.path.join(os.path.dirname(os.path.abspath(__file__)), "..", "..")
 MANUAL = os.path.join(TOP, "docs", "MANUAL.md")
+DIFFERENCES = os.path.join(TOP, "docs", "DIFFERENCES.md")
 PAGE = os.path.join(TOP, "man", "dctrl-cache.1")
 INDENT = "    "
 
@@ -83,25 +85,38 @@ def differences(text, page):
     return sorted(set(ours) ^ set(theirs)) + [form for forms in (ours, theirs) for form in sorted(set(forms)) if forms.count(form) > 1]
 
 
+PLACES = {"NAME": "main", "PKG": "foo", "VERSION": "1", "LIST": "main", "V": "1*", "P": "990", "PREFIX": "fo"}
+
+
+def choices(word):
+    """What may stand for a word of a form: for `[A|B]` nothing or one of them, for `PKG[=VERSION]` it with and without."""
+    word = word.removesuffix("...")
+    if word.startswith("["):
+        return [""] + [choice for part in word[1:-1].split("|") for choice in choices(part)]
+    name, _, behind = word.partition("[")
+    plain = PLACES.get(name, name)
+    return [plain, plain + behind[0] + PLACES[behind[1:-1]]] if behind else [plain]
+
+
 def instances(form):
     """Scripts that call a command by its form, with each of its optional words and without."""
-    places = {"NAME": "main", "PKG": "foo", "VERSION": "1", "LIST": "main", "V": "1*", "P": "990", "PREFIX": "fo"}
-    optional = re.search(r" \[([^]]*)\]", form)
-    calls = [form]
-    if optional:
-        calls = [form.replace(optional[0], "")] + [form.replace(optional[0], " " + word) for word in optional[1].split("|")]
-    return [" ".join(places.get(word, word) for word in call.split()) for call in calls]
+    return [" ".join(word for word in words if word) for words in itertools.product(*map(choices, form.split(" ")))]
+
+
+def wrong_words(form):
+    """Words that are too many for a form; behind one that takes any number of names, an option that it hasn't."""
+    return " -x" if "..." in form else " x y z"
 
 
 def test_commands(tests):
     """The manual and its page have the same commands, a missing one is seen, and the program takes each in its form alone."""
     page, text = contents(PAGE), contents(MANUAL)
     forms = manual_commands(text)
-    tests.same("the commands of the manual and of its page", (differences(text, page), "pkgnames [PREFIX]" in forms), ([], True))
+    tests.same("the commands of the manual and of its page", (differences(text, page), "pkgnames [--all-names] [PREFIX]" in forms), ([], True))
     for form in forms:
         tests.same("the manual without %s" % form, differences(text.replace("- `%s`\n" % form, ""), page), [form])
         for call in instances(form):
-            for words, wanted in ((call, False), (call + " x y z", True)):
+            for words, wanted in ((call, False), (call + wrong_words(form), True)):
                 answer = tests.run([], words.encode() + b"\n.\n")[1]
                 got = b"E: line 1: unknown command" in answer, b"E: line 1: bad arguments" in answer
                 tests.same("the words %s" % words, got, (False, wanted))
@@ -156,17 +171,17 @@ def test_page(tests):
     tests.same("dots that meet", b" .. " in words, False)
 
 
-def test_examples_of_manual(tests):
-    text = contents(MANUAL)
+def test_examples_of(tests, what, text):
     found = list(examples(text))
-    tests.same("the examples of the manual", (len(found), len(found) > 0), (text.count("\nprints\n"), True))
+    tests.same("the examples of %s" % what, (len(found), len(found) > 0), (text.count("\nprints\n"), True))
     for number, (script, wanted) in enumerate(found, 1):
         status = 1 if b"E: line " in wanted else 0
-        tests.same("example %d of the manual" % number, tests.run([], script), (status, wanted, b""))
+        tests.same("example %d of %s" % (number, what), tests.run([], script), (status, wanted, b""))
 
 
 def test_manual(tests):
-    test_examples_of_manual(tests)
+    test_examples_of(tests, "the manual", contents(MANUAL))
+    test_examples_of(tests, "the differences", contents(DIFFERENCES))
     test_synopsis(tests)
     test_commands(tests)
     test_refusals(tests)

@@ -1,6 +1,6 @@
 //! Edits and their parts, made of texts. None comes where memory is refused, or where a text is not well formed.
 
-ghost use Rattle.std.specs.Prelude.{◌≡◌, Some, IfOk};
+ghost use Rattle.std.specs.Prelude.{◌≡◌, Some, IfOk, is_ok, is_some};
 
 use ctl_relation::{Bytes, Version};
 use ctl_stanza::{ListKind, Stanza, lines_take_bytes, read_stanzas};
@@ -160,7 +160,8 @@ pub fn prefs(alloc: Global, text: &str) -> Option<Edit> {
 
 /// What a test is to begin with.
 pub fn given<T>(made: Option<T>) -> Result<T, Fail>
-    ensures { IfOk result (λ it. made ≡ Some it) }
+    ensures given { IfOk result (λ it. made ≡ Some it) }
+    ensures all { is_ok result ≡ is_some made }
 {
     match made {
         Some(it) => Ok(it),

@@ -1,11 +1,10 @@
 -- On what the choice of a name rests, and which marks, pins and targets leave it.
-use Rattle.std.proofs.Common.{◌≡◌, ◌⊎◌, inl, inr, ℕ, ℤ, pos, Bool, true, false, cond, ◌||◌, List, [], ◌∷◌, Option, None, Some, option_map, unwrap_or, refl, ap, sym, subst, ◌∙◌, Vec, Global}
+use Rattle.std.proofs.Common.{◌≡◌, ◌⊎◌, inl, inr, ℕ, ℤ, pos, Bool, true, false, cond, ◌||◌, List, [], ◌∷◌, Option, None, Some, option_map, unwrap_or, refl, ap, sym, subst, ◌∙◌}
 use Rattle.std.specs.Str.{bytes_eq}
 use Rattle.std.specs.Ordering.{is_eq, nat_cmp}
 use Rattle.std.specs.Option.{option_map_or}
 use Rattle.std.specs.List.{AllByRecursion}
 use Rattle.std.specs.Map.{lookup, remove_entry}
-use Rattle.std.specs.BTreeMap.{BTreeMap}
 use Rattle.std.specs.FinMap as fin
 use Rattle.std.specs.Cmp.Lexicographic.{slice_cmp, nat_list_cmp_total, nat_list_eq_equiv}
 use Rattle.std.proofs.lemmas.Bool.{false≢true}
@@ -30,7 +29,7 @@ use Rattle.ctl_policy.specs.declared.chosen.Chosen.{Chosen}
 use Rattle.ctl_policy.specs.Rows.{Row, rows_named, lead_of, lead_at, is_called, is_source}
 use Rattle.ctl_policy.specs.Priority.{Settings, World, world_in, world_of, is_target, own_priority, priority_of_list, list_priority, specific_pin, priority_found, source_priorities, greatest, row_priority}
 use Rattle.ctl_policy.specs.Candidate.{Choice, status_version, wanted_version, version_if_row, may_be_taken, better, best_of, choice_of, installed_of, lead_of_choice}
-use Rattle.ctl_policy.specs.Chosen.{if_rows, choice_in, kept_of, at_bytes, AreChosen}
+use Rattle.ctl_policy.specs.Chosen.{if_rows, choice_in, kept_of}
 use Rattle.ctl_policy.specs.Laws.{rows_in, with_marks, with_pins, with_target, Stays, IsOfName, IsNoSource, IsNoTarget, AreRankedAlike, world_after}
 use Rattle.ctl_policy.proofs.OwnLemmas.{own_pins}
 
@@ -241,15 +240,7 @@ target_others w other q old new = others w w.marks w.pins other q refl (λ l. by
     by l (inl h) (inr n) = inr n
     by l (inl h) (inl k) = inl (ranked l w (with_target other w) refl (λ kind. k kind ∙ sym (h kind)) refl)
 
--- ---- kept choices
-
--- one name is chosen anew, after an edit that leaves the others
-pub renewed : (old new : BTreeMap (Vec ℕ Global) Chosen) (name : List ℕ) (w u : World) → AreChosen old w → IsOfName name w u → ((q : List ℕ) → at_bytes new q ≡ cond (bytes_eq name q) (kept_of name u) (at_bytes old q)) → AreChosen new u
-renewed old new name w u kept others h q = h q ∙ by (bytes_eq name q) refl
-  where
-    by : (b : Bool) → bytes_eq name q ≡ b → cond b (kept_of name u) (at_bytes old q) ≡ kept_of q u
-    by true e = ap (λ l. kept_of l u) (same_name name q e)
-    by false e = kept q ∙ sym (others q e).kept
+-- ---- the store
 
 pub world_moves : (old new : Held) (edit : Edit) → keyed_of new ≡ keyed_after (keyed_of old) edit → state_of new ≡ after (state_of old) edit → world_of new ≡ world_after old edit
 world_moves old new edit k s = λ i. world_in (k i) (s i)

@@ -3,7 +3,8 @@ use Rattle.std.proofs.Common.{◌≡◌, ◌⊎◌, inl, inr, ℕ, ℤ, Bool, tr
 use Rattle.std.specs.Str.{bytes_eq}
 use Rattle.std.specs.List.{IsDistinct}
 use Rattle.std.specs.Map.{keys_of as names_of}
-use Rattle.std.specs.Option.{option_map_or}
+use Rattle.std.specs.Option.{option_map_or, option_eq}
+use Rattle.std.specs.Ordering.{int_eq}
 use Rattle.std.specs.Cmp.{signed_Decides}
 use Rattle.std.proofs.lemmas.Slice.Eq.{bytes_eq-Decides}
 use Rattle.ctl_stanza.specs.Content.{package_of, version_of}
@@ -21,7 +22,7 @@ use Rattle.ctl_policy.specs.Priority.{World, Settings, world_of, list_priority, 
 use Rattle.ctl_policy.specs.Chosen.{choice_in, if_rows, kept_of}
 use Rattle.ctl_policy.specs.Laws.{HoldsNone, with_pins}
 use Rattle.ctl_policy.specs.Touched.{TargetHoldsNone, LeavePins, HasNoneOf, LeavesStanzas, is_one_of, packages_at}
-use Rattle.ctl_policy.specs.TouchedNames.{packages_among, packages_in, target_packages, selected_package, pinned_packages, is_same_priority, keeps_priority, repinned_packages}
+use Rattle.ctl_policy.specs.TouchedNames.{packages_among, packages_in, target_packages, selected_package, pinned_packages, keeps_priority, repinned_packages}
 use Rattle.ctl_policy.proofs.RestLemmas.{or_first, or_second}
 use Rattle.ctl_policy.proofs.PackageLemmas.{none_under, none_held}
 use Rattle.ctl_policy.proofs.ShownLemmas.{rows_shown}
@@ -69,7 +70,7 @@ module _ (q : List ℕ) where
       ap (λ b. cond b (s ∷ own_settings q pins) (own_settings q pins)) (not_selected s.0 (not_front (selected_package s.0) (pinned_packages pins) e))
       ∙ no_own pins (not_back (selected_package s.0) (pinned_packages pins) e)
 
-  same_priority : (a b : Option ℤ) → is_same_priority a b ≡ true → a ≡ b
+  same_priority : (a b : Option ℤ) → option_eq int_eq a b ≡ true → a ≡ b
   same_priority None None e = refl
   same_priority None (Some b) e = cc
   same_priority (Some a) None e = cc

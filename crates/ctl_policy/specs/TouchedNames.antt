@@ -1,5 +1,6 @@
 -- The packages that stand under what an edit touches.
-use Rattle.std.specs.Prelude.{◌≡◌, ℕ, ℤ, Bool, true, false, ◌++◌, List, [], ◌∷◌, map, Option, None, Some, if◌then◌else◌}
+use Rattle.std.specs.Prelude.{◌≡◌, ℕ, Bool, false, ◌++◌, List, [], ◌∷◌, map, Option, None, Some, if◌then◌else◌}
+use Rattle.std.specs.Option.{option_eq}
 use Rattle.std.specs.Ordering.{int_eq}
 use Rattle.ctl_stanza.specs.declared.list_kind.ListKind.{ListKind}
 use Rattle.ctl_stanza.specs.Content.{Content, package_of}
@@ -46,16 +47,9 @@ abbrev pub pinned_packages : Settings → List (List ℕ)
 pinned_packages [] = []
 pinned_packages (s ∷ settings) = selected_package s.0 ++ pinned_packages settings
 
--- the same priority, or none at both
-abbrev pub is_same_priority : Option ℤ → Option ℤ → Bool
-is_same_priority None None = true
-is_same_priority None (Some q) = false
-is_same_priority (Some p) None = false
-is_same_priority (Some p) (Some q) = int_eq p q
-
 -- a list has the priority that it has, once these settings take the place of all
 abbrev pub keeps_priority : Settings → World → List ℕ → Bool
-keeps_priority pins w list = is_same_priority (list_priority list w) (list_priority list (with_pins pins w))
+keeps_priority pins w list = option_eq int_eq (list_priority list w) (list_priority list (with_pins pins w))
 
 -- the packages of the lists that don't keep theirs
 abbrev pub repinned_packages : Settings → World → List (List ℕ × ListKind × ListClass) → List (List ℕ)

@@ -1,11 +1,8 @@
 //! Laws, each a function whose contract says it.
 
-ghost use Rattle.std.specs.Prelude.{◌≡◌, ℕ, ℤ, List, [], Option, None, Some, Vec, map, true, false, if◌then◌else◌};
-ghost use Rattle.std.proofs.Common.{Global};
-ghost use Rattle.std.specs.Str.{bytes_eq};
+ghost use Rattle.std.specs.Prelude.{◌≡◌, ℕ, ℤ, List, [], Option, None, Some, map, true};
 ghost use Rattle.std.specs.List.{AllByRecursion};
 ghost use Rattle.std.specs.Map.{remove_entry};
-ghost use Rattle.std.specs.BTreeMap.{BTreeMap};
 ghost use Rattle.std.specs.FinMap as fin;
 ghost use Rattle.indexmap.specs.IndexMap.{insert_entry};
 ghost use Rattle.ctl_stanza.specs.Content.{Content, package_of, version_of};
@@ -18,12 +15,11 @@ ghost use Rattle.ctl_store.specs.Step.{after};
 ghost use Rattle.ctl_store.specs.Keys.{keyed_after, AreHeld, AreRising, all_keys};
 ghost use Rattle.ctl_store.specs.Entries.{entries_of};
 ghost use Rattle.ctl_store.specs.Held.{Held, keyed_of, state_of};
-ghost use Rattle.ctl_policy.specs.declared.chosen.Chosen.{Chosen};
 ghost use Rattle.ctl_policy.specs.Keys.{some_keys};
 ghost use Rattle.ctl_policy.specs.Rows.{Lists, Rows, rows_named, is_in_row, keys_at, keys_with, keys_of_row, newest_first, AreRowsOf};
 ghost use Rattle.ctl_policy.specs.Priority.{World, Settings, world_of};
 ghost use Rattle.ctl_policy.specs.Kept.{RowsByName, Stanzas, IsKept, OthersStay, HasPut, HasTaken, stanzas_in, with_stanza, without_stanza};
-ghost use Rattle.ctl_policy.specs.Chosen.{at_bytes, choice_in, no_choice, kept_of, AreChosen};
+ghost use Rattle.ctl_policy.specs.Chosen.{choice_in, no_choice, kept_of};
 ghost use Rattle.ctl_policy.specs.Laws.{Stays, IsOfName, IsNoSource, IsNoTarget, AreRankedAlike, HoldsNone, IsUntouched, AreSameLists, with_marks, with_pins, with_target, with_lists, world_after};
 
 use ctl_store::settings_by_package;
@@ -117,12 +113,6 @@ pub fn stanzas_leave_other_names()
 #[tactic(auto, using(crate::proofs::TouchLemmas::no_source))]
 pub fn sources_hold_stanzas()
     ensures { (list : List ℕ) → (name : List ℕ) → (w : World) → AreRising (all_keys w.lists) → HoldsNone list name w.lists → IsNoSource list name w }
-{}
-
-/// After an edit that leaves other names, one name is chosen anew, and all are right.
-#[tactic(auto, using(crate::proofs::RestLemmas::renewed))]
-pub fn one_name_is_enough()
-    ensures { (old : BTreeMap (Vec ℕ Global) Chosen) → (new : BTreeMap (Vec ℕ Global) Chosen) → (name : List ℕ) → (w : World) → (u : World) → AreChosen old w → IsOfName name w u → ((q : List ℕ) → at_bytes new q ≡ (if bytes_eq name q then kept_of name u else at_bytes old q)) → AreChosen new u }
 {}
 
 /// What the policy rests on moves with the store.

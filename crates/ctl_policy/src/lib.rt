@@ -5,6 +5,7 @@
 mod by_version;
 mod candidate;
 mod chosen;
+mod edit_laws;
 mod form;
 mod keys;
 mod laws;
@@ -13,15 +14,19 @@ mod places;
 mod priority;
 mod rows;
 mod status;
-mod touched;
 mod touching;
 mod walk;
 
 pub use chosen::{Chosen, choose, renew};
+pub use edit_laws::{
+    edits_of_general_pins, edits_of_lists, edits_of_preferences, edits_of_stanzas,
+    edits_of_targets, packages_tell_live_stanzas, plans_are_accepted, touched_names_are_enough,
+    untouched_names_stay,
+};
 pub use laws::{
     edits_of_one_name, general_pins_leave_other_names, marks_leave_other_names,
-    names_with_rows_are_kept, one_name_is_enough, preferences_leave_other_names, rows_are_classes,
-    rows_are_held, rows_are_kept, rows_are_shown, rows_follow_stanzas, sources_hold_stanzas,
+    names_with_rows_are_kept, preferences_leave_other_names, rows_are_classes, rows_are_held,
+    rows_are_kept, rows_are_shown, rows_follow_stanzas, sources_hold_stanzas,
     specific_pins_leave_other_names, stanzas_leave_other_names, targets_leave_other_names,
     worlds_move,
 };
@@ -29,10 +34,5 @@ pub use newest::NewestFirst;
 pub use places::make_places;
 pub use priority::{is_source, list_priority, row_priority, specific_pin};
 pub use rows::Rows;
-pub use touched::{
-    edits_of_general_pins, edits_of_lists, edits_of_preferences, edits_of_stanzas,
-    edits_of_targets, packages_tell_live_stanzas, plans_are_accepted, touched_names_are_enough,
-    untouched_names_stay,
-};
 pub use touching::{packages_of_store, touched_names};
 pub use walk::read_rows;

@@ -1,6 +1,6 @@
 //! The priority of a list and of a row (apt_preferences(5)).
 
-ghost use Rattle.std.specs.Prelude.{◌≡◌, Some, option_copied, pos};
+ghost use Rattle.std.specs.Prelude.{◌≡◌, Some, option_copied};
 ghost use Rattle.std.specs.Int.{int_max};
 ghost use Rattle.ctl_store.specs.Keys.{AreHeld, stanza_at, holder_of};
 ghost use Rattle.ctl_store.specs.Held.{keyed_of};
@@ -8,7 +8,7 @@ ghost use Rattle.std.specs.Prelude.{IsSome};
 ghost use Rattle.ctl_store.specs.Pins.{general_pin};
 ghost use Rattle.ctl_policy.specs.Rows.{lead_of, version_under, is_source};
 ghost use Rattle.ctl_policy.specs.Laws.{with_pins};
-ghost use Rattle.ctl_policy.specs.TouchedNames.{is_same_priority, keeps_priority};
+ghost use Rattle.ctl_policy.specs.TouchedNames.{keeps_priority};
 ghost use Rattle.ctl_policy.specs.Priority.{Settings, world_of, own_priority, is_target, list_priority, priority_found, matches_text, matches_row, specific_pin, greatest, greatest_with, source_priorities, row_priority};
 
 use ctl_relation::Version;
@@ -62,24 +62,12 @@ pub fn list_priority(store: &Store, list: &[u8]) -> Option<i16>
     priority_where_pinned(store, list, store.general_pin(list))
 }
 
-fn is_same_priority(one: Option<i16>, other: Option<i16>) -> bool
-    ensures { result ≡ is_same_priority one other }
-{
-    match one {
-        Some(one) => match other {
-            Some(other) => one == other,
-            None => false,
-        },
-        None => other.is_none(),
-    }
-}
-
 /// Whether a list has the priority that it has, once these settings take the place of all.
 pub(crate) fn keeps_priority(store: &Store, settings: &PinSettings, list: &[u8]) -> bool
     ensures { result ≡ keeps_priority settings.now.pins (world_of store.now) list.now }
 {
     let then = priority_where_pinned(store, list, settings.general(list));
-    is_same_priority(list_priority(store, list), then)
+    list_priority(store, list) == then
 }
 
 // The priority of the list that holds a stanza.

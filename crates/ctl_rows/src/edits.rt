@@ -181,8 +181,8 @@ fn each_setting_has_its_refusals(rt: HostRuntime) -> Result<(), Fail> {
                 b"prefs\nPackage: a\nPin: version 1\nPin-Priority: 5\n\noops\n.\nunpin a version 1\n",
                 b"E: line 6: not a control line\nE: line 8: no such pin\n",
             ),
-            (b"show a\n", b"E: line 1: unknown command\n"),
-            (b"policy\n", b"E: line 1: unknown command\n"),
+            (b"shows a\n", b"E: line 1: unknown command\n"),
+            (b"Policy\n", b"E: line 1: unknown command\n"),
         ],
     )
 }

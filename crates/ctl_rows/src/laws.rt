@@ -3,12 +3,13 @@
 use ctl_policy::{
     edits_of_general_pins, edits_of_lists, edits_of_one_name, edits_of_preferences,
     edits_of_stanzas, edits_of_targets, general_pins_leave_other_names, marks_leave_other_names,
-    one_name_is_enough, packages_tell_live_stanzas, plans_are_accepted,
+    packages_tell_live_stanzas, plans_are_accepted,
     preferences_leave_other_names, rows_are_classes, rows_are_held, rows_are_kept,
     rows_follow_stanzas, sources_hold_stanzas, specific_pins_leave_other_names,
     stanzas_leave_other_names, targets_leave_other_names, touched_names_are_enough,
     untouched_names_stay, worlds_move,
 };
+use ctl_query::answers_are_as_if_built_anew;
 use ctl_relation::{
     equal_versions, fields_bound_atoms, fields_have_one_fault, fields_have_places,
     keys_go_by_turns, met_by_name, met_counts_add_up, names_by_their_bytes,
@@ -60,6 +61,7 @@ fn laws_of_relations_can_be_called() {
 #[test]
 fn laws_of_commands_can_be_called() {
     commands_come_to_one_outcome();
+    answers_are_as_if_built_anew();
 }
 
 #[test]
@@ -75,7 +77,6 @@ fn laws_of_policies_can_be_called() {
     targets_leave_other_names();
     stanzas_leave_other_names();
     sources_hold_stanzas();
-    one_name_is_enough();
     worlds_move();
     edits_of_one_name();
     edits_of_general_pins();

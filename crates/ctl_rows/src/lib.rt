@@ -11,6 +11,10 @@ use ctl_session::{Fault, FromRead, FromWrite, Session, Summary};
 use std::alloc::Global;
 
 #[cfg(test)]
+mod answers;
+#[cfg(test)]
+mod asking;
+#[cfg(test)]
 mod bodies;
 #[cfg(test)]
 mod cuts;
@@ -30,6 +34,8 @@ mod policies;
 mod preferences;
 #[cfg(test)]
 mod program;
+#[cfg(test)]
+mod relation_answers;
 #[cfg(test)]
 mod runs;
 #[cfg(test)]

@@ -4,6 +4,7 @@
 
 ghost use Rattle.std.specs.Prelude.{None};
 
+use crate::asking::append_asked;
 use crate::run_script;
 use ctl_calls::policy::append_policy;
 use ctl_calls::shown::state;
@@ -34,6 +35,8 @@ pub enum Act<'a> {
     Held,
     /// Shows the policy of a package.
     Policy(&'a [u8]),
+    /// Asks a query by its words.
+    Ask(&'a [&'a [u8]]),
 }
 
 /// A reader that gives these bytes, and then fails, or gives them again and again.
@@ -217,6 +220,7 @@ fn append_act(
         Act::Load(name, text) => append_load(alloc, session, name, text, all),
         Act::Held => append_held(alloc, session, all),
         Act::Policy(name) => append_policy(alloc, session.cache().store(), name, all),
+        Act::Ask(words) => append_asked(alloc, session.cache(), words, all),
     }
 }
 

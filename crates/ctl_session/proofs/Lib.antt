@@ -8,7 +8,5 @@ pub mod RunLemmas
 pub mod RequestLemmas
 pub mod PerformLemmas
 pub mod BodyNeedLemmas
-pub mod NameLemmas
-pub mod OneAnswerLemmas
 pub mod OneOutcomeLemmas
 pub mod WordLemmas

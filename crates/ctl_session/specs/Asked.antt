@@ -5,11 +5,11 @@ use Rattle.ctl_store.specs.declared.selector.Selector.{Selector}
 use Rattle.ctl_store.specs.declared.refusal.Refusal.{Refusal}
 use Rattle.ctl_store.specs.declared.refusal.Refusal.TheVariants as refusal
 use Rattle.ctl_store.specs.Edits.{edit_of}
+use Rattle.ctl_query.specs.QueryRead.{query_text}
 use Rattle.ctl_session.specs.Request.{Request as RequestText, AddList as AddListText, Put as PutText, Prefs as PrefsText, Change as ChangeText, Ask as AskText, request_by, request_of, refused_at, takes_memory}
 use Rattle.ctl_session.specs.Script.{Command}
 use Rattle.ctl_session.specs.declared.request.Request.{Request}
 use Rattle.ctl_session.specs.declared.request.Request.TheVariants.{AddList, Put, Prefs, Change, Ask}
-use Rattle.ctl_session.specs.Query.{query_text}
 use Rattle.ctl_session.specs.declared.request.CommandWords.{CommandWords}
 use Rattle.ctl_session.specs.declared.refusal_at.RefusalAt.{RefusalAt}
 

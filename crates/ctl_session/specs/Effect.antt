@@ -18,9 +18,9 @@ use Rattle.ctl_store.specs.Named.{at_name}
 use Rattle.ctl_store.specs.Prefs.{read_prefs_text}
 use Rattle.ctl_store.specs.State.{StanzaList}
 use Rattle.ctl_store.specs.Step.{after, refusal_of}
+use Rattle.ctl_query.specs.Anew.{answer_anew}
+use Rattle.ctl_query.specs.Holdings.{holdings_of}
 use Rattle.ctl_session.specs.State.{CacheState}
-use Rattle.ctl_session.specs.Holdings.{holdings_of}
-use Rattle.ctl_session.specs.Query.{IsAnswer}
 use Rattle.ctl_session.specs.Script.{Command}
 use Rattle.ctl_session.specs.Request.{Request, AddList, Put, Prefs, Change, Ask, request_of, takes_memory}
 use Rattle.ctl_session.specs.Outcome.{Outcome, Refused, Answered, Changed}
@@ -91,7 +91,7 @@ Does cache command (AddList name kind class) outcome = outcome ≡ list_added ca
 Does cache command (Put name) outcome = outcome ≡ put_in_list cache command.number name (text_of_lines command.body)
 Does cache command Prefs outcome = outcome ≡ prefs_set cache command.number (text_of_lines command.body)
 Does cache command (Change edit) outcome = outcome ≡ edited cache command.number edit
-Does cache command (Ask query) outcome = (text : List ℕ) × IsAnswer (holdings_of cache.store) query text × (outcome ≡ Answered text)
+Does cache command (Ask query) outcome = outcome ≡ Answered (answer_anew (holdings_of cache.store) query)
 
 abbrev pub DoesWhatIsAsked : CacheState → Command → Result Request RefusalAt → Outcome → Type 0
 DoesWhatIsAsked cache command (Err refused) outcome = outcome ≡ Refused refused.line refused.cause

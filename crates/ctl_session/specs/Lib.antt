@@ -11,10 +11,6 @@ pub mod Words
 pub mod WordsRead
 pub mod Reading
 pub mod State
-pub mod Holdings
-pub mod PackageNames
-pub mod Query
-pub mod Queries
 pub mod Request
 pub mod Outcome
 pub mod Effect

@@ -17,7 +17,7 @@ use Rattle.ctl_store.specs.PinVersions.{is_pin_version}
 use Rattle.ctl_store.specs.Priority.{priority_of}
 use Rattle.ctl_session.specs.Script.{Command, first_long, name_of}
 use Rattle.ctl_session.specs.Words.{words_of, behind_name}
-use Rattle.ctl_session.specs.Query.{Query, is_query, query_of}
+use Rattle.ctl_query.specs.Query.{Query, is_query, query_of}
 use Rattle.ctl_session.specs.declared.refusal_at.RefusalAt.{RefusalAt}
 use Rattle.ctl_session.specs.declared.command_name.CommandName.{CommandName}
 use Rattle.ctl_session.specs.declared.command_name.CommandName.TheVariants as command

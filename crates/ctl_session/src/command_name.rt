@@ -2,7 +2,7 @@
 
 ghost use Rattle.std.specs.Prelude.{◌≡◌};
 
-use crate::query::is_query;
+use ctl_query::is_query;
 
 /// A command of a script.
 #[derive(Clone, Copy, Debug, PartialEq, Eq)]

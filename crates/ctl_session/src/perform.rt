@@ -12,12 +12,13 @@ ghost use Rattle.ctl_session.specs.Replies.{outcome_from, outcome_of_edit, MayDo
 
 use crate::body_need::uses_body;
 use crate::edits::{add_list, edit, put, refused, set_prefs};
-use crate::query::answer;
 use crate::refusal_at::RefusalAt;
 use crate::reply::Reply;
 use crate::request::{Request, command_words, request_by};
 use crate::script::{Body, CommandRead};
 use ctl_index::Cache;
+use ctl_query::answer;
+use ctl_relation::Steps;
 use ctl_store::Refusal;
 use std::alloc::Global;
 
@@ -63,7 +64,7 @@ fn do_request(
         Request::Put(name) => reply_of_edit(put(alloc, cache, name, text, number)),
         Request::Prefs => reply_of_edit(set_prefs(alloc, cache, text, number)),
         Request::Change(change) => reply_of_edit(edit(cache, change, number)),
-        Request::Ask(query) => match answer(cache, &query, out) {
+        Request::Ask(query) => match answer(alloc, cache, &query, out, &mut Steps::new()) {
             Ok(()) => Reply::Answered,
             Err(_) => Reply::Refused(refused(number, Refusal::Memory)),
         },

@@ -15,10 +15,10 @@ use crate::list_words::{
     add_list_request, drop_list_request, prefs_request, put_request, unmark_request,
 };
 use crate::pin_words::{pin_request, unpin_request};
-use crate::query::{Query, parse_query};
 use crate::refusal_at::RefusalAt;
 use crate::script::CommandRead;
 use crate::words::words;
+use ctl_query::{Query, parse_query};
 use ctl_relation::Bytes;
 use ctl_stanza::ListKind;
 use ctl_store::{Edit, ListClass, Refusal};

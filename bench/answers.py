@@ -1,0 +1,139 @@
+#!/usr/bin/env python3
+"""Measures what queries take in a session that runs, beside processes of apt-cache on the same lists.
+
+    bench/answers.py PROGRAM [--status STATUS] NAME=PACKAGES...
+
+The session has read the lists; apt-cache has made its caches. A query's time in the session goes from the first byte that is written
+to it to the last that it answers, and ends where a line that is no command is refused behind it. The times are the least of some rounds, in
+each of which the session and apt-cache are asked once, so that a machine that is busy is busy for both. Of one name each round asks
+many times. The limits are printed beside the ratios. Nothing is refused by them: a busy machine passes them at times."""
+
+import argparse
+import os
+import subprocess
+import sys
+import tempfile
+import threading
+import time
+
+from apt_folder import AptFolder
+
+ROUNDS = 5
+ASKED_ONCE = 200
+
+# How many names one command asks for: a line has at most 1 MiB.
+NAMES_AT_ONCE = 20_000
+
+ONE = "bash"
+
+
+class Session:
+    """The program, which is asked line by line."""
+
+    def __init__(self, program, words):
+        self.running = subprocess.Popen([program, *words], stdin=subprocess.PIPE, stdout=subprocess.PIPE, bufsize=0)
+        self.lines = 0
+
+    def ask(self, script):
+        """The time that commands take, and what they answer."""
+        text = script + b"frob\n"
+        self.lines += text.count(b"\n")
+        end = b"E: line %d: unknown command\n" % self.lines
+        answer = bytearray()
+        start = time.monotonic()
+        writing = threading.Thread(target=self.running.stdin.write, args=(text,))
+        writing.start()
+        while not answer.endswith(end):
+            piece = os.read(self.running.stdout.fileno(), 1 << 20)
+            if not piece:
+                raise SystemExit("the program ended early")
+            answer += piece
+        taken = time.monotonic() - start
+        writing.join()
+        return taken, bytes(answer[: -len(end)])
+
+    def close(self):
+        self.running.stdin.close()
+        self.running.wait()
+
+
+class Peer:
+    """apt-cache, a process for each question."""
+
+    def __init__(self, environment):
+        self.environment = environment
+
+    def ask(self, *words):
+        start = time.monotonic()
+        subprocess.run(["apt-cache", *words], env=self.environment, stdout=subprocess.DEVNULL, stderr=subprocess.DEVNULL, check=False)
+        return time.monotonic() - start
+
+
+def commands(query, names):
+    """A query of many names, in as many lines as it takes."""
+    parts = (names[first : first + NAMES_AT_ONCE] for first in range(0, len(names), NAMES_AT_ONCE))
+    return b"".join(("%s %s\n" % (query, " ".join(part))).encode() for part in parts)
+
+
+def least(ways):
+    """The least times of some ways, each of which is gone once a round."""
+    times = [[way() for way in ways] for _ in range(ROUNDS)]
+    return [min(column) for column in zip(*times)]
+
+
+def tell(what, ours, theirs, limit):
+    print("%-40s %9.5f s, apt-cache %9.5f s, ratio %8.5f  (at most %g)" % (what, ours, theirs, ours / theirs, limit))
+
+
+def of_all(session, peer, names):
+    for query in ("policy", "showpkg", "depends", "rdepends"):
+        script = commands(query, names)
+        ours, theirs = least((lambda: session.ask(script)[0], lambda: peer.ask(query, *names)))
+        tell("%s of %d names" % (query, len(names)), ours, theirs, 0.5)
+    ours, theirs = least((lambda: session.ask(b"unmet\n")[0], lambda: peer.ask("unmet")))
+    tell("unmet", ours, theirs, 0.1)
+
+
+def of_one(session, peer, name):
+    for query in ("policy", "show", "showpkg", "depends"):
+        script = b"%s %s\n" % (query.encode(), name.encode())
+        ours, theirs = least((lambda: session.ask(script * ASKED_ONCE)[0] / ASKED_ONCE, lambda: peer.ask(query, name)))
+        tell("%s %s" % (query, name), ours, theirs, 0.01)
+
+
+def edited(session, peer, apt, list_name, name):
+    """One stanza is put again, and its policy asked for; apt-cache makes its caches anew."""
+    text = session.ask(b"show --no-all-versions %s\n" % name.encode())[1]
+    script = b"put %s\n%s\n.\npolicy %s\n" % (list_name.encode(), text.strip(b"\n"), name.encode())
+
+    def again():
+        apt.forget()
+        return peer.ask("gencaches") + peer.ask("policy", name)
+
+    ours, theirs = least((lambda: session.ask(script * ASKED_ONCE)[0] / ASKED_ONCE, again))
+    tell("one stanza put, and its policy", ours, theirs, 0.001)
+
+
+def main():
+    asked = argparse.ArgumentParser(description=__doc__, formatter_class=argparse.RawDescriptionHelpFormatter)
+    asked.add_argument("program")
+    asked.add_argument("--status")
+    asked.add_argument("lists", nargs="+", metavar="NAME=PACKAGES")
+    words = asked.parse_args()
+    files = dict(word.split("=", 1) for word in words.lists)
+    given = [part for word in words.lists for part in ("-l", word)] + (["--status", words.status] if words.status else [])
+    with tempfile.TemporaryDirectory() as folder:
+        os.chmod(folder, 0o755)
+        apt = AptFolder(os.path.join(folder, "apt"), files, words.status)
+        peer = Peer(apt.environment)
+        session = Session(os.path.abspath(words.program), given)
+        names = session.ask(b"pkgnames\n")[1].decode().split()
+        of_all(session, peer, names)
+        one = ONE if ONE in names else names[0]
+        of_one(session, peer, one)
+        edited(session, peer, apt, next(iter(files)), one)
+        session.close()
+
+
+if __name__ == "__main__":
+    sys.exit(main())

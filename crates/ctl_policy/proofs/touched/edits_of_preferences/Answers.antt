@@ -1,5 +1,0 @@
-use Rattle.ctl_policy.proofs.SettingLemmas.{prefs_untouched}
-use Rattle.ctl_policy.proofs.touched.edits_of_preferences.Goals as goal
-
-pub returns : goal.returns
-returns c = prefs_untouched

@@ -1,5 +1,0 @@
-use Rattle.ctl_policy.proofs.NamesLemmas.{plan_accepted}
-use Rattle.ctl_policy.proofs.touched.plans_are_accepted.Goals as goal
-
-pub returns : goal.returns
-returns c = plan_accepted

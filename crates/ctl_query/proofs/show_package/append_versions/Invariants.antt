@@ -1,0 +1,14 @@
+use Rattle.std.proofs.Common.{◌≡◌, ◌++◌, flat_map}
+use Rattle.std.specs.List.{AllByRecursion}
+use Rattle.ctl_store.specs.Held.{keyed_of}
+use Rattle.ctl_store.specs.Keys.{AreHeld}
+use Rattle.ctl_policy.specs.Priority.{world_of}
+use Rattle.ctl_query.specs.ShowPackage.{version_line}
+use Rattle.ctl_query.proofs.show_package.append_versions.Given as goal
+
+-- what was written, and the rows that are left, are what there was and all rows
+abbrev pub invariant-rows : goal.invariant-rows
+invariant-rows l = record {
+  held : AllByRecursion (λ row. AreHeld row (keyed_of l.cache.store).lists) l.row-iterator;
+  text : l.out.items ++ flat_map (version_line (world_of l.cache.store)) l.row-iterator ≡ l.initial.out.items ++ flat_map (version_line (world_of l.cache.store)) l.initial.row-iterator;
+}

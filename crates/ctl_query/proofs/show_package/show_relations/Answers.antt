@@ -1,0 +1,13 @@
+use Rattle.std.proofs.Common.{◌∙◌, ◌++◌, [], ◌∷◌, append_assoc, ap, codes}
+use Rattle.ctl_policy.specs.Priority.{world_of}
+use Rattle.ctl_query.specs.Packages.{of_rows}
+use Rattle.ctl_query.specs.ShowPackage.{relation_lines}
+use Rattle.ctl_query.specs.Texts.{line}
+use Rattle.ctl_query.proofs.show_package.show_relations.Goals as goal
+
+-- the heading, and the lines behind it
+pub returns : goal.returns
+returns c =
+    c.in_ok-append_relations.ensures
+    ∙ ap (λ text. text ++ of_rows (world_of c.args.cache.now.store) relation_lines c.args.name.now) c.in_ok-append_line.ensures
+    ∙ append_assoc c.args.out.now.items (line (codes "Dependencies:" ∷ [])) (of_rows (world_of c.args.cache.now.store) relation_lines c.args.name.now)

@@ -1,0 +1,40 @@
+-- What the answers have in common: lines, and names that are not known.
+use Rattle.std.specs.Prelude.{ℕ, ℤ, ◌-◌, List, [], ◌∷◌, ◌++◌, length, take, codes, flat_map, if◌then◌else◌}
+use Rattle.std.specs.Fmt.{signed_decimal}
+use Rattle.ctl_relation.specs.declared.field_kind.FieldKind.{FieldKind}
+use Rattle.ctl_relation.specs.declared.field_kind.FieldKind.TheVariants.{PreDepends, Depends, Conflicts, Breaks, Recommends, Suggests, Replaces, Enhances, Provides}
+use Rattle.ctl_relation.specs.Bytes.{newline}
+use Rattle.ctl_policy.specs.Priority.{World}
+use Rattle.ctl_query.specs.Packages.{is_known}
+
+-- parts, one after another
+abbrev pub joined : List (List ℕ) → List ℕ
+joined parts = flat_map (λ part. part) parts
+
+-- a line: its parts and a newline
+unfoldable pub line : List (List ℕ) → List ℕ
+line parts = joined parts ++ newline ∷ []
+
+-- what stands in place of the answer on a name that is not known
+abbrev pub unknown_line : List ℕ → List ℕ
+unknown_line name = line (codes "N: Unable to locate package " ∷ name ∷ [])
+
+-- the answer on a name, if it is known
+abbrev pub if_known : World → (List ℕ → List ℕ) → List ℕ → List ℕ
+if_known world answer name = if is_known world name then answer name else unknown_line name
+
+-- the relation fields, as they are printed
+abbrev pub field_label : FieldKind → List ℕ
+field_label PreDepends = codes "PreDepends"
+field_label Depends = codes "Depends"
+field_label Conflicts = codes "Conflicts"
+field_label Breaks = codes "Breaks"
+field_label Recommends = codes "Recommends"
+field_label Suggests = codes "Suggests"
+field_label Replaces = codes "Replaces"
+field_label Enhances = codes "Enhances"
+field_label Provides = codes "Provides"
+
+-- a number, right in four places, wider where it doesn't fit
+abbrev pub right_four : ℤ → List ℕ
+right_four n = take (4 - length (signed_decimal n)) (codes "    ") ++ signed_decimal n

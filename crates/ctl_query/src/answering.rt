@@ -1,0 +1,149 @@
+//! A query to its text.
+
+ghost use Rattle.std.specs.Prelude.{◌≡◌, ◌++◌, ◌+◌, ◌≤◌, [], OnOk, OnErr, false};
+ghost use Rattle.ctl_policy.specs.Priority.{world_of};
+ghost use Rattle.ctl_store.specs.Held.{state_of};
+ghost use Rattle.ctl_query.specs.Anew.{answer_anew};
+ghost use Rattle.ctl_query.specs.Answer.{answer_text, answer_pairs, policy_answer};
+ghost use Rattle.ctl_query.specs.Holdings.{holdings_of};
+ghost use Rattle.ctl_query.specs.QueryRead.{query_text};
+
+use crate::depends::append_depends;
+use crate::laws::answers_are_as_if_built_anew;
+use crate::package_names::append_package_names;
+use crate::policy::{append_policy, append_policy_of_all};
+use crate::query::Query;
+use crate::reverse_depends::append_reverse_depends;
+use crate::show::append_show;
+use crate::show_package::append_show_package;
+use crate::unmet::append_unmet;
+use ctl_index::Cache;
+use ctl_relation::{Bytes, Steps};
+use std::alloc::{AllocError, Global};
+
+/// Appends the answer to `policy`, with or without names.
+fn append_any_policy(cache: &Cache, names: &[Bytes], out: &mut Vec<u8>) -> Result<(), AllocError>
+    requires { cache.now.stale ≡ false }
+    ensures { OnOk result (out.new.items ≡ out.old.items ++ policy_answer (world_of cache.now.store) names.now) }
+{
+    if names.is_empty() {
+        append_policy_of_all(cache, out)
+    } else {
+        append_policy(cache, names, out)
+    }
+}
+
+/// Appends the answer to a query. After want of memory a part of it may stand there.
+fn append_answer(
+    alloc: Global,
+    cache: &Cache,
+    query: &Query,
+    out: &mut Vec<u8>,
+    steps: &mut Steps,
+) -> Result<(), AllocError>
+    requires { cache.now.stale ≡ false }
+    ensures text { OnOk result (out.new.items ≡ out.old.items ++ answer_text (world_of cache.now.store) (query_text query.now)) }
+    ensures steps { steps.new ≤ steps.old + answer_pairs (world_of cache.now.store) (query_text query.now) }
+{
+    match query {
+        Query::PackageNames(all, prefix) => {
+            append_package_names(cache, *all, prefix.as_slice(), out)?;
+            Ok(())
+        }
+        Query::Show(all, rows) => {
+            append_show(cache, *all, rows, out)?;
+            Ok(())
+        }
+        Query::Depends(important, installed, names) => {
+            append_depends(alloc, cache, *important, *installed, names, out, steps)?;
+            Ok(())
+        }
+        Query::ReverseDepends(installed, names) => {
+            append_reverse_depends(alloc, cache, *installed, names, out)?;
+            Ok(())
+        }
+        Query::Unmet(important) => {
+            append_unmet(alloc, cache, *important, out)?;
+            Ok(())
+        }
+        Query::Policy(names) => {
+            append_any_policy(cache, names, out)?;
+            Ok(())
+        }
+        Query::ShowPackage(names) => {
+            append_show_package(alloc, cache, names, out)?;
+            Ok(())
+        }
+    }
+}
+
+/// Puts the answer to a query into an empty buffer, which stays empty where memory runs out.
+fn answer_alone(
+    alloc: Global,
+    cache: &Cache,
+    query: &Query,
+    out: &mut Vec<u8>,
+    steps: &mut Steps,
+) -> Result<(), AllocError>
+    requires fresh { cache.now.stale ≡ false }
+    requires empty { out.old.items ≡ [] }
+    ensures ok { OnOk result (out.new.items ≡ answer_text (world_of cache.now.store) (query_text query.now)) }
+    ensures err { OnErr result (out.new.items ≡ []) }
+    ensures steps { steps.new ≤ steps.old + answer_pairs (world_of cache.now.store) (query_text query.now) }
+{
+    match append_answer(alloc, cache, query, out, steps) {
+        Ok(()) => Ok(()),
+        Err(error) => {
+            out.clear();
+            Err(error)
+        }
+    }
+}
+
+/// Appends the answer to a query to what is there, which alone stays where memory runs out.
+fn answer_behind(
+    alloc: Global,
+    cache: &Cache,
+    query: &Query,
+    out: &mut Vec<u8>,
+    steps: &mut Steps,
+) -> Result<(), AllocError>
+    requires { cache.now.stale ≡ false }
+    ensures ok { OnOk result (out.new.items ≡ out.old.items ++ answer_text (world_of cache.now.store) (query_text query.now)) }
+    ensures err { OnErr result (out.new.items ≡ out.old.items) }
+    ensures steps { steps.new ≤ steps.old + answer_pairs (world_of cache.now.store) (query_text query.now) }
+{
+    let mut text = Vec::new(alloc);
+    answer_alone(alloc, cache, query, &mut text, steps)?;
+    out.extend_from_slice(&text)
+}
+
+/// Appends the answer to a query (apt-cache(8)) on a cache that isn't stale. It makes no test of an offer against an atom but
+/// for `depends`: there it makes at most one for each pair of an atom of a lead that is shown and an offer of its name.
+///
+/// # Errors
+///
+/// Want of memory. Then the text is as before.
+pub fn answer(
+    alloc: Global,
+    cache: &Cache,
+    query: &Query,
+    out: &mut Vec<u8>,
+    steps: &mut Steps,
+) -> Result<(), AllocError>
+    requires { cache.now.stale ≡ false }
+    ensures ok { OnOk result (out.new.items ≡ out.old.items ++ answer_anew (holdings_of (state_of cache.now.store)) (query_text query.now)) }
+    ensures err { OnErr result (out.new.items ≡ out.old.items) }
+    ensures steps { steps.new ≤ steps.old + answer_pairs (world_of cache.now.store) (query_text query.now) }
+{
+    answers_are_as_if_built_anew();
+    // That the keys rise is said here.
+    let _counts = cache.store().counts();
+    if out.is_empty() {
+        answer_alone(alloc, cache, query, out, steps)?;
+        Ok(())
+    } else {
+        answer_behind(alloc, cache, query, out, steps)?;
+        Ok(())
+    }
+}

@@ -1,0 +1,94 @@
+//! The packages that an answer on all packages has to look at: those that the cache's tables name.
+
+ghost use Rattle.std.specs.Prelude.{◌≡◌, ◌||◌, ℕ, List, OnOk, IfOk, false};
+ghost use Rattle.std.specs.Cmp.Lexicographic.{slice_cmp};
+ghost use Rattle.std.specs.List.Sorted.{IsStrictlySortedBy};
+ghost use Rattle.std.specs.Ordering.{nat_cmp};
+ghost use Rattle.ctl_store.specs.Entries.{AreAt};
+ghost use Rattle.ctl_store.specs.Held.{keyed_of};
+ghost use Rattle.ctl_index.specs.Held.{standing};
+ghost use Rattle.ctl_query.specs.Interest.{is_of_package, names_it, offers_it, has_unmet};
+ghost use Rattle.ctl_query.specs.NameSet.{lent_names, is_among};
+
+use crate::name_set::add_name;
+use ctl_index::Cache;
+use ctl_store::{StanzaKey, Store};
+use std::alloc::{AllocError, Global};
+use std::collections::BTreeSet;
+
+/// Each stanza of a cache is found by its key.
+pub(crate) fn stanzas_are_found(cache: &Cache)
+    ensures { AreAt (standing cache.now.store) (keyed_of cache.now.store).lists }
+{
+    let _entries = cache.store().entries();
+}
+
+/// Adds the package of the stanza of a key.
+fn add_package<'a>(
+    names: &mut BTreeSet<&'a [u8]>,
+    store: &'a Store,
+    key: StanzaKey,
+) -> Result<(), AllocError>
+    ensures { OnOk result ((name : List ℕ) → is_among (lent_names names.new.keys) name ≡ (is_of_package store.now name key || is_among (lent_names names.old.keys) name)) }
+{
+    match store.find(key) {
+        Some(stanza) => add_name(names, stanza.package()),
+        None => Ok(()),
+    }
+}
+
+/// The packages of the stanzas with an atom that names a name, each once, in the order of their bytes.
+pub(crate) fn packages_naming<'a>(
+    alloc: Global,
+    cache: &'a Cache,
+    name: &[u8],
+) -> Result<BTreeSet<&'a [u8]>, AllocError>
+    requires { cache.now.stale ≡ false }
+    ensures order { IfOk result (λ names. IsStrictlySortedBy (slice_cmp nat_cmp) (lent_names names.keys)) }
+    ensures members { IfOk result (λ names. (asker : List ℕ) → is_among (lent_names names.keys) asker ≡ names_it cache.now.store name.now asker) }
+{
+    let store = cache.store();
+    let mut names = BTreeSet::new(alloc);
+    'namers: for key in cache.namers(name) {
+        add_package(&mut names, store, key.stanza)?;
+    }
+    let _count = names.len();
+    Ok(names)
+}
+
+/// The packages of the stanzas that offer a name, each once, in the order of their bytes.
+pub(crate) fn packages_offering<'a>(
+    alloc: Global,
+    cache: &'a Cache,
+    name: &[u8],
+) -> Result<BTreeSet<&'a [u8]>, AllocError>
+    requires { cache.now.stale ≡ false }
+    ensures order { IfOk result (λ names. IsStrictlySortedBy (slice_cmp nat_cmp) (lent_names names.keys)) }
+    ensures members { IfOk result (λ names. (asker : List ℕ) → is_among (lent_names names.keys) asker ≡ offers_it cache.now.store name.now asker) }
+{
+    let store = cache.store();
+    let mut names = BTreeSet::new(alloc);
+    'offers: for (key, _offer) in cache.offers(name) {
+        add_package(&mut names, store, key)?;
+    }
+    let _count = names.len();
+    Ok(names)
+}
+
+/// The packages of the stanzas with a clause that no offer meets, each once, in the order of their bytes.
+pub(crate) fn packages_with_unmet<'a>(
+    alloc: Global,
+    cache: &'a Cache,
+) -> Result<BTreeSet<&'a [u8]>, AllocError>
+    requires { cache.now.stale ≡ false }
+    ensures order { IfOk result (λ names. IsStrictlySortedBy (slice_cmp nat_cmp) (lent_names names.keys)) }
+    ensures members { IfOk result (λ names. (asker : List ℕ) → is_among (lent_names names.keys) asker ≡ has_unmet cache.now.store asker) }
+{
+    let store = cache.store();
+    let mut names = BTreeSet::new(alloc);
+    'clauses: for key in cache.unmet_clauses() {
+        add_package(&mut names, store, key.stanza)?;
+    }
+    let _count = names.len();
+    Ok(names)
+}

@@ -1,0 +1,179 @@
+//! The lines of `showpkg` that one lead gives.
+
+ghost use Rattle.std.specs.Prelude.{◌≡◌, ◌++◌, OnOk, flat_map};
+ghost use Rattle.ctl_query.specs.ShowPackage.{asker, naming_line, line_if_naming, naming_lines, naming_in, relation_line, relations_in, relation_lines, entry_line, entry_lines, has_name, providing_line, line_if_providing, providing_lines};
+
+use crate::fields::depends_fields;
+use crate::text::{append_line, append_parts, field_label, version_text};
+use ctl_relation::{Atom, FieldKind, Group};
+use ctl_stanza::Stanza;
+use std::alloc::AllocError;
+
+/// Appends what stands before a relation or an entry of another package.
+fn append_asker(lead: &Stanza, out: &mut Vec<u8>) -> Result<(), AllocError>
+    ensures { OnOk result (out.new.items ≡ out.old.items ++ asker lead.now) }
+{
+    append_parts(
+        out,
+        &[b"  ", lead.package(), b" ", version_text(lead), b" "],
+    )?;
+    Ok(())
+}
+
+#[tactic(auto, unfolding(crate::specs::Texts::line))]
+fn append_naming(
+    lead: &Stanza,
+    field: FieldKind,
+    atom: &Atom<'_>,
+    out: &mut Vec<u8>,
+) -> Result<(), AllocError>
+    ensures { OnOk result (out.new.items ≡ out.old.items ++ naming_line lead.now field atom.now) }
+{
+    append_asker(lead, out)?;
+    append_parts(out, &[field_label(field), b": "])?;
+    atom.append_to(out)?;
+    out.extend_from_slice(b"\n")?;
+    Ok(())
+}
+
+/// Appends the atoms of a group of a lead that name a name.
+fn append_naming_group(
+    name: &[u8],
+    lead: &Stanza,
+    field: FieldKind,
+    group: &Group<'_>,
+    out: &mut Vec<u8>,
+) -> Result<(), AllocError>
+    ensures { OnOk result (out.new.items ≡ out.old.items ++ flat_map (line_if_naming name.now lead.now field) group.now) }
+{
+    'atoms: for atom in group.atoms() {
+        if atom.name() == name {
+            append_naming(lead, field, &atom, out)?;
+        }
+    }
+    Ok(())
+}
+
+fn append_naming_field(
+    name: &[u8],
+    lead: &Stanza,
+    field: FieldKind,
+    out: &mut Vec<u8>,
+) -> Result<(), AllocError>
+    ensures { OnOk result (out.new.items ≡ out.old.items ++ naming_in name.now lead.now field) }
+{
+    'groups: for group in lead.groups(field) {
+        append_naming_group(name, lead, field, &group, out)?;
+    }
+    Ok(())
+}
+
+/// Appends the atoms of the eight fields of a lead that name a name.
+#[tactic(auto, unfolding(crate::specs::ShowPackage::naming_lines))]
+pub(crate) fn append_naming_lines(
+    name: &[u8],
+    lead: &Stanza,
+    out: &mut Vec<u8>,
+) -> Result<(), AllocError>
+    ensures { OnOk result (out.new.items ≡ out.old.items ++ naming_lines name.now lead.now) }
+{
+    let fields = depends_fields(false);
+    for field in fields {
+        append_naming_field(name, lead, *field, out)?;
+    }
+    Ok(())
+}
+
+#[tactic(auto, unfolding(crate::specs::Texts::line))]
+fn append_relation(
+    lead: &Stanza,
+    field: FieldKind,
+    group: &Group<'_>,
+    out: &mut Vec<u8>,
+) -> Result<(), AllocError>
+    ensures { OnOk result (out.new.items ≡ out.old.items ++ relation_line lead.now field group.now) }
+{
+    append_parts(out, &[version_text(lead), b" "])?;
+    append_parts(out, &[field_label(field), b": "])?;
+    group.append_to(out)?;
+    out.extend_from_slice(b"\n")?;
+    Ok(())
+}
+
+fn append_relations_in(lead: &Stanza, field: FieldKind, out: &mut Vec<u8>) -> Result<(), AllocError>
+    ensures { OnOk result (out.new.items ≡ out.old.items ++ relations_in lead.now field) }
+{
+    'groups: for group in lead.groups(field) {
+        append_relation(lead, field, &group, out)?;
+    }
+    Ok(())
+}
+
+/// Appends the groups of the eight fields of a lead.
+#[tactic(auto, unfolding(crate::specs::ShowPackage::relation_lines))]
+pub(crate) fn append_relation_lines(lead: &Stanza, out: &mut Vec<u8>) -> Result<(), AllocError>
+    ensures { OnOk result (out.new.items ≡ out.old.items ++ relation_lines lead.now) }
+{
+    let fields = depends_fields(false);
+    for field in fields {
+        append_relations_in(lead, *field, out)?;
+    }
+    Ok(())
+}
+
+#[tactic(auto, unfolding(crate::specs::Texts::line))]
+fn append_entry(lead: &Stanza, entry: &Group<'_>, out: &mut Vec<u8>) -> Result<(), AllocError>
+    ensures { OnOk result (out.new.items ≡ out.old.items ++ entry_line lead.now entry.now) }
+{
+    append_parts(out, &[version_text(lead), b" "])?;
+    entry.append_to(out)?;
+    out.extend_from_slice(b"\n")?;
+    Ok(())
+}
+
+/// Appends the entries of a lead's Provides.
+#[tactic(auto, unfolding(crate::specs::ShowPackage::entry_lines))]
+pub(crate) fn append_entry_lines(lead: &Stanza, out: &mut Vec<u8>) -> Result<(), AllocError>
+    ensures { OnOk result (out.new.items ≡ out.old.items ++ entry_lines lead.now) }
+{
+    'entries: for entry in lead.provides() {
+        append_entry(lead, &entry, out)?;
+    }
+    Ok(())
+}
+
+fn has_name(name: &[u8], entry: &Group<'_>) -> bool
+    ensures { result ≡ has_name name.now entry.now }
+{
+    match entry.get(0) {
+        Some(atom) => atom.name() == name,
+        None => false,
+    }
+}
+
+#[tactic(auto, unfolding(crate::specs::Texts::line))]
+fn append_providing(lead: &Stanza, entry: &Group<'_>, out: &mut Vec<u8>) -> Result<(), AllocError>
+    ensures { OnOk result (out.new.items ≡ out.old.items ++ providing_line lead.now entry.now) }
+{
+    append_asker(lead, out)?;
+    entry.append_to(out)?;
+    out.extend_from_slice(b"\n")?;
+    Ok(())
+}
+
+/// Appends the entries of a lead's Provides with a name.
+#[tactic(auto, unfolding(crate::specs::ShowPackage::providing_lines))]
+pub(crate) fn append_providing_lines(
+    name: &[u8],
+    lead: &Stanza,
+    out: &mut Vec<u8>,
+) -> Result<(), AllocError>
+    ensures { OnOk result (out.new.items ≡ out.old.items ++ providing_lines name.now lead.now) }
+{
+    'entries: for entry in lead.provides() {
+        if has_name(name, &entry) {
+            append_providing(lead, &entry, out)?;
+        }
+    }
+    Ok(())
+}

@@ -1,0 +1,29 @@
+//! The queries of apt-cache(8) over a kept cache: words to a query, a query to its text.
+#![tactic(auto)]
+
+mod answering;
+mod depends;
+mod fields;
+mod interest;
+mod laws;
+mod lead_lines;
+mod leads;
+mod name_set;
+mod package_names;
+mod packages;
+mod parsing;
+mod policy;
+mod providers;
+mod query;
+mod query_name;
+mod relation_lines;
+mod reverse_depends;
+mod show;
+mod show_package;
+mod text;
+mod unmet;
+
+pub use answering::answer;
+pub use laws::answers_are_as_if_built_anew;
+pub use parsing::{is_query, parse_query};
+pub use query::{AskedRow, Query};

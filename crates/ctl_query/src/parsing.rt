@@ -1,0 +1,313 @@
+//! Words to a query.
+
+ghost use Rattle.std.specs.Prelude.{◌≡◌, ◌≤◌, ◌++◌, ◌∷◌, [], ℕ, List, IfOk, OnOk, IfErr, map, filter, length, not, codes, Ok};
+ghost use Rattle.std.specs.Str.{bytes_eq};
+ghost use Rattle.std.specs.List.{list_all, prefix_len};
+ghost use Rattle.ctl_relation.specs.Names.{is_name};
+ghost use Rattle.ctl_store.specs.declared.refusal.Refusal.TheVariants as refusal;
+ghost use Rattle.ctl_query.specs.Words.{is_among};
+ghost use Rattle.ctl_query.specs.Asked.{asked_row};
+ghost use Rattle.ctl_query.specs.Query.{Query as Asked, is_option, is_argument, is_important, is_installed_alone, shows_all, is_before_equals, options_of, version_asked, row_of_parts, row_asked, rows_asked, some_names_asked, query_by, query_in, query_of, is_query};
+ghost use Rattle.ctl_query.specs.QueryRead.{Reads, query_text};
+
+use crate::query::{AskedRow, Query};
+use crate::query_name::QueryName;
+use ctl_relation::{Bytes, Version, VersionFault, is_name};
+use ctl_store::Refusal;
+use std::alloc::{AllocError, Global};
+
+fn is_option(word: &[u8]) -> bool
+    ensures { result ≡ is_option word.now }
+{
+    match word {
+        [] => false,
+        [byte, ..] => *byte == b'-',
+    }
+}
+
+/// The words that are options.
+fn options_in(alloc: Global, words: &[Bytes]) -> Result<Vec<Bytes>, AllocError>
+    ensures { IfOk result (λ options. options.items ≡ filter is_option words.now) }
+{
+    let mut options = Vec::new(alloc);
+    for word in words {
+        if is_option(word.as_slice()) {
+            options.push(Bytes::from_slice(alloc, word.as_slice())?)?;
+        }
+    }
+    Ok(options)
+}
+
+/// The words that are none.
+fn arguments_in(alloc: Global, words: &[Bytes]) -> Result<Vec<Bytes>, AllocError>
+    ensures { IfOk result (λ arguments. arguments.items ≡ filter is_argument words.now) }
+{
+    let mut arguments = Vec::new(alloc);
+    for word in words {
+        if !is_option(word.as_slice()) {
+            arguments.push(Bytes::from_slice(alloc, word.as_slice())?)?;
+        }
+    }
+    Ok(arguments)
+}
+
+fn are_options_of(name: QueryName, options: &[Bytes]) -> bool
+    ensures { result ≡ list_all (is_among (options_of name)) options.now }
+{
+    for option in options {
+        if !name.has_option(option.as_slice()) {
+            return false;
+        }
+    }
+    true
+}
+
+fn has_word(words: &[Bytes], word: &[u8]) -> bool
+    ensures { result ≡ is_among words.now word.now }
+{
+    for other in words {
+        if word == other.as_slice() {
+            return true;
+        }
+    }
+    false
+}
+
+fn are_names(words: &[Bytes]) -> bool
+    ensures { result ≡ list_all is_name words.now }
+{
+    for word in words {
+        if !is_name(word.as_slice()) {
+            return false;
+        }
+    }
+    true
+}
+
+fn is_important(options: &[Bytes]) -> bool
+    ensures { result ≡ is_important options.now }
+{
+    has_word(options, b"-i") || has_word(options, b"--important")
+}
+
+fn is_installed_alone(options: &[Bytes]) -> bool
+    ensures { result ≡ is_installed_alone options.now }
+{
+    has_word(options, b"--installed")
+}
+
+fn is_all(option: &[u8]) -> bool
+    ensures { result ≡ not (bytes_eq option.now (codes "--no-all-versions")) }
+{
+    option != b"--no-all-versions".as_slice()
+}
+
+/// Of the options of `show` the last one counts.
+fn shows_all(options: &[Bytes]) -> bool
+    ensures { result ≡ shows_all options.now }
+{
+    let mut all = true;
+    for option in options {
+        all = is_all(option.as_slice());
+    }
+    all
+}
+
+// How many bytes stand before the first `=`.
+fn name_len(word: &[u8]) -> usize
+    ensures len { result ≡ prefix_len is_before_equals word.now }
+    ensures within { result ≤ length word.now }
+{
+    for (i, byte) in word.iter().enumerate() {
+        if *byte == b'=' {
+            return i;
+        }
+    }
+    word.len()
+}
+
+fn read_version(alloc: Global, text: &[u8]) -> Result<Version, Refusal>
+    ensures { Reads (λ version. version) result (version_asked text.now) }
+{
+    match Version::parse(alloc, text) {
+        Ok(version) => Ok(version),
+        Err(VersionFault::Memory) => Err(Refusal::Memory),
+        Err(_) => Err(Refusal::Version),
+    }
+}
+
+fn copied(alloc: Global, text: &[u8]) -> Result<Bytes, Refusal>
+    ensures { Reads (λ copy. copy) result (Ok text.now) }
+{
+    match Bytes::from_slice(alloc, text) {
+        Ok(copy) => Ok(copy),
+        Err(_) => Err(Refusal::Memory),
+    }
+}
+
+fn row_of_parts(alloc: Global, name: &[u8], behind: &[u8]) -> Result<AskedRow, Refusal>
+    ensures { Reads asked_row result (row_of_parts name.now behind.now) }
+{
+    let version = match behind {
+        [] => None,
+        [_, version @ ..] => Some(read_version(alloc, version)?),
+    };
+    let name = copied(alloc, name)?;
+    Ok(AskedRow { name, version })
+}
+
+/// `NAME`, or `NAME=VERSION` cut at the first `=`.
+fn row_asked(alloc: Global, word: &[u8]) -> Result<AskedRow, Refusal>
+    ensures { Reads asked_row result (row_asked word.now) }
+{
+    let (name, behind) = word.split_at(name_len(word));
+    if !is_name(name) {
+        return Err(Refusal::Name);
+    }
+    row_of_parts(alloc, name, behind)
+}
+
+fn push_row(rows: &mut Vec<AskedRow>, row: AskedRow) -> Result<(), Refusal>
+    ensures ok { OnOk result (rows.new.items ≡ rows.old.items ++ row ∷ []) }
+    ensures err { IfErr result (λ cause. cause ≡ refusal.Memory) }
+{
+    match rows.push(row) {
+        Ok(()) => Ok(()),
+        Err(_) => Err(Refusal::Memory),
+    }
+}
+
+/// The first refusal counts, from left to right.
+fn rows_asked(alloc: Global, words: &[Bytes]) -> Result<Vec<AskedRow>, Refusal>
+    ensures { Reads (λ rows. map asked_row rows.items) result (rows_asked words.now) }
+{
+    let mut rows = Vec::new(alloc);
+    let mut rest = words;
+    'words: while let Some((word, others)) = rest.split_first() {
+        let row = row_asked(alloc, word.as_slice())?;
+        push_row(&mut rows, row)?;
+        rest = others;
+    }
+    Ok(rows)
+}
+
+fn some_names(words: &[Bytes]) -> Result<(), Refusal>
+    ensures { (query : List (List ℕ) → Asked) → Reads (λ _. query words.now) result (some_names_asked query words.now) }
+{
+    if words.is_empty() {
+        return Err(Refusal::Usage);
+    }
+    if !are_names(words) {
+        return Err(Refusal::Name);
+    }
+    Ok(())
+}
+
+/// What a query asks for by its options, which are its own, and its arguments.
+fn query_by(
+    alloc: Global,
+    name: QueryName,
+    options: &[Bytes],
+    arguments: Vec<Bytes>,
+) -> Result<Query, Refusal>
+    ensures { Reads query_text result (query_by name options.now arguments.items) }
+{
+    match name {
+        QueryName::PackageNames => match arguments.as_slice() {
+            [] => Ok(Query::PackageNames(
+                has_word(options, b"--all-names"),
+                Bytes::from_vec(Vec::new(alloc)),
+            )),
+            [prefix] => Ok(Query::PackageNames(
+                has_word(options, b"--all-names"),
+                copied(alloc, prefix.as_slice())?,
+            )),
+            _ => Err(Refusal::Usage),
+        },
+        QueryName::Show => {
+            if arguments.is_empty() {
+                return Err(Refusal::Usage);
+            }
+            Ok(Query::Show(shows_all(options), rows_asked(alloc, &arguments)?))
+        }
+        QueryName::Depends => {
+            some_names(&arguments)?;
+            Ok(Query::Depends(
+                is_important(options),
+                is_installed_alone(options),
+                arguments,
+            ))
+        }
+        QueryName::ReverseDepends => {
+            some_names(&arguments)?;
+            Ok(Query::ReverseDepends(is_installed_alone(options), arguments))
+        }
+        QueryName::Unmet => {
+            if !arguments.is_empty() {
+                return Err(Refusal::Usage);
+            }
+            Ok(Query::Unmet(is_important(options)))
+        }
+        QueryName::Policy => {
+            if !are_names(&arguments) {
+                return Err(Refusal::Name);
+            }
+            Ok(Query::Policy(arguments))
+        }
+        QueryName::ShowPackage => {
+            some_names(&arguments)?;
+            Ok(Query::ShowPackage(arguments))
+        }
+    }
+}
+
+/// The options and the arguments among words.
+fn split_words(alloc: Global, words: &[Bytes]) -> Result<(Vec<Bytes>, Vec<Bytes>), Refusal>
+    ensures ok { IfOk result (λ s. (s.0.items ≡ filter is_option words.now) × (s.1.items ≡ filter is_argument words.now)) }
+    ensures err { IfErr result (λ cause. cause ≡ refusal.Memory) }
+{
+    let Ok(options) = options_in(alloc, words) else {
+        return Err(Refusal::Memory);
+    };
+    let Ok(arguments) = arguments_in(alloc, words) else {
+        return Err(Refusal::Memory);
+    };
+    Ok((options, arguments))
+}
+
+fn query_in(alloc: Global, name: QueryName, words: &[Bytes]) -> Result<Query, Refusal>
+    ensures { Reads query_text result (query_in name words.now) }
+{
+    let (options, arguments) = split_words(alloc, words)?;
+    if !are_options_of(name, &options) {
+        return Err(Refusal::Usage);
+    }
+    query_by(alloc, name, &options, arguments)
+}
+
+/// Whether a command of this name is a query.
+#[tactic(auto, unfolding(crate::specs::Query::is_query))]
+pub fn is_query(name: &[u8]) -> bool
+    ensures { result ≡ is_query name.now }
+{
+    QueryName::read(name).is_some()
+}
+
+/// What words ask for: the name of a query, its options and its arguments (apt-cache(8)).
+///
+/// # Errors
+///
+/// The first of these: [`Refusal::Command`], where there are no words or the first is no query's name; [`Refusal::Usage`], where
+/// an option is not one of the query's, or there are too many or too few arguments; and, argument by argument from the left,
+/// [`Refusal::Name`] and [`Refusal::Version`], where one is no name or version. [`Refusal::Memory`] where memory is refused.
+pub fn parse_query(alloc: Global, words: &[Bytes]) -> Result<Query, Refusal>
+    ensures { Reads query_text result (query_of words.now) }
+{
+    let [name, words @ ..] = words else {
+        return Err(Refusal::Command);
+    };
+    let Some(name) = QueryName::read(name.as_slice()) else {
+        return Err(Refusal::Command);
+    };
+    query_in(alloc, name, words)
+}

@@ -1,0 +1,301 @@
+//! The lines of `policy`.
+
+ghost use Rattle.std.specs.Prelude.{◌≡◌, ◌++◌, OnOk, false, filter, flat_map, map};
+ghost use Rattle.std.specs.List.{AllByRecursion};
+ghost use Rattle.std.specs.Map.{keys_of as names_of};
+ghost use Rattle.ctl_store.specs.Held.{keyed_of};
+ghost use Rattle.ctl_store.specs.Keys.{AreHeld};
+ghost use Rattle.ctl_policy.specs.Rows.{sources_of};
+ghost use Rattle.ctl_policy.specs.Priority.{world_of};
+ghost use Rattle.ctl_query.specs.Policy.{priority_of, row_version, version_or_none, are_of_one_row, row_mark, row_line, source_line, row_lines, policy_one, list_line, line_if_pinned, pinned_line, pinned_lines, policy_of_all, policy_text};
+ghost use Rattle.ctl_query.specs.Texts.{if_known};
+ghost use Rattle.ctl_query.specs.Packages.{rows_of};
+ghost use Rattle.ctl_policy.specs.Chosen.{choice_in};
+
+use crate::leads::version_under;
+use crate::packages::{is_known, packages_of, rows_of};
+use crate::text::{append_line, append_number, append_parts, append_right_four, append_unknown};
+use ctl_index::{Cache, Packages};
+use ctl_policy::{Chosen, NewestFirst, is_source, list_priority, row_priority, specific_pin};
+use ctl_relation::Bytes;
+use ctl_store::{StanzaKey, Store};
+use std::alloc::AllocError;
+
+fn priority_of(store: &Store, list: &[u8]) -> i16
+    ensures { result ≡ priority_of (world_of store.now) list.now }
+{
+    match list_priority(store, list) {
+        Some(priority) => priority,
+        None => 0,
+    }
+}
+
+/// The version of a row, by its lead.
+pub(crate) fn row_version<'a>(store: &'a Store, row: &[StanzaKey]) -> &'a [u8]
+    ensures { result.now ≡ row_version (world_of store.now) row.now }
+{
+    match version_under(store, row.first().copied()) {
+        Some(version) => version.text(),
+        None => &[],
+    }
+}
+
+/// The version of a lead, if there is one.
+pub(crate) fn version_or_none(store: &Store, lead: Option<StanzaKey>) -> &[u8]
+    ensures { result.now ≡ version_or_none (world_of store.now) lead }
+{
+    match version_under(store, lead) {
+        Some(version) => version.text(),
+        None => b"(none)",
+    }
+}
+
+/// Whether two leads, if they are there, are of equal versions.
+fn are_of_one_row(store: &Store, lead: Option<StanzaKey>, other: Option<StanzaKey>) -> bool
+    ensures { result ≡ are_of_one_row (world_of store.now) lead other }
+{
+    match version_under(store, lead) {
+        Some(version) => match version_under(store, other) {
+            Some(other) => version == other,
+            None => false,
+        },
+        None => false,
+    }
+}
+
+/// What stands before a row: a star where it is the installed one.
+fn row_mark(installed: bool) -> &'static [u8]
+    ensures { result.now ≡ row_mark installed }
+{
+    if installed { b" *** " } else { b"     " }
+}
+
+/// Appends the line of a list that holds a row.
+#[tactic(auto, unfolding(crate::specs::Texts::line))]
+fn append_source(store: &Store, list: &[u8], out: &mut Vec<u8>) -> Result<(), AllocError>
+    ensures { OnOk result (out.new.items ≡ out.old.items ++ source_line (world_of store.now) list.now) }
+{
+    out.extend_from_slice(b"       ")?;
+    append_right_four(out, priority_of(store, list))?;
+    append_line(out, &[b" ", list])?;
+    Ok(())
+}
+
+/// Appends the sources of a row, which has these stanzas.
+fn append_sources(store: &Store, row: &[StanzaKey], out: &mut Vec<u8>) -> Result<(), AllocError>
+    requires { AreHeld row.now (keyed_of store.now).lists }
+    ensures { OnOk result (out.new.items ≡ out.old.items ++ flat_map (source_line (world_of store.now)) (sources_of row.now (keyed_of store.now).lists)) }
+{
+    'lists: for list in store.lists() {
+        if is_source(store, list.0, row) {
+            append_source(store, list.0, out)?;
+        }
+    }
+    Ok(())
+}
+
+#[tactic(auto, unfolding(crate::specs::Texts::line))]
+fn append_row_line(
+    store: &Store,
+    name: &[u8],
+    installed: Option<StanzaKey>,
+    row: &[StanzaKey],
+    out: &mut Vec<u8>,
+) -> Result<(), AllocError>
+    requires { AreHeld row.now (keyed_of store.now).lists }
+    ensures { OnOk result (out.new.items ≡ out.old.items ++ row_line (world_of store.now) installed name.now row.now) }
+{
+    let is_installed = are_of_one_row(store, installed, row.first().copied());
+    out.extend_from_slice(row_mark(is_installed))?;
+    out.extend_from_slice(row_version(store, row))?;
+    out.extend_from_slice(b" ")?;
+    append_number(out, row_priority(store, name, row))?;
+    out.extend_from_slice(b"\n")?;
+    Ok(())
+}
+
+/// Appends a row of a name, which has these stanzas, and under it its sources.
+#[tactic(auto, unfolding(crate::specs::Policy::row_lines))]
+fn append_row(
+    store: &Store,
+    name: &[u8],
+    installed: Option<StanzaKey>,
+    row: &[StanzaKey],
+    out: &mut Vec<u8>,
+) -> Result<(), AllocError>
+    requires { AreHeld row.now (keyed_of store.now).lists }
+    ensures { OnOk result (out.new.items ≡ out.old.items ++ row_lines (world_of store.now) installed name.now row.now) }
+{
+    append_row_line(store, name, installed, row, out)?;
+    append_sources(store, row, out)?;
+    Ok(())
+}
+
+/// Appends the version table: the rows of a name.
+pub(crate) fn append_table(
+    store: &Store,
+    name: &[u8],
+    installed: Option<StanzaKey>,
+    rows: NewestFirst<'_>,
+    out: &mut Vec<u8>,
+) -> Result<(), AllocError>
+    requires { AllByRecursion (λ row. AreHeld row (keyed_of store.now).lists) rows }
+    ensures { OnOk result (out.new.items ≡ out.old.items ++ flat_map (row_lines (world_of store.now) installed name.now) rows.entry) }
+{
+    'rows: for row in rows {
+        append_row(store, name, installed, row, out)?;
+    }
+    Ok(())
+}
+
+/// Appends the answer on a known name: what is chosen of it, and its rows.
+#[tactic(auto, unfolding(crate::specs::Policy::policy_one))]
+fn append_known(
+    store: &Store,
+    name: &[u8],
+    chosen: Chosen,
+    rows: NewestFirst<'_>,
+    out: &mut Vec<u8>,
+) -> Result<(), AllocError>
+    requires chosen { chosen ≡ choice_in name.now (world_of store.now) }
+    requires rows { rows ≡ rows_of (world_of store.now) name.now }
+    requires held { AllByRecursion (λ row. AreHeld row (keyed_of store.now).lists) rows }
+    ensures { OnOk result (out.new.items ≡ out.old.items ++ policy_one (world_of store.now) name.now) }
+{
+    append_line(out, &[name, b":"])?;
+    append_line(
+        out,
+        &[b"  Installed: ", version_or_none(store, chosen.installed)],
+    )?;
+    append_line(
+        out,
+        &[b"  Candidate: ", version_or_none(store, chosen.candidate)],
+    )?;
+    append_line(out, &[b"  Version table:"])?;
+    append_table(store, name, chosen.installed, rows, out)?;
+    Ok(())
+}
+
+/// Appends the line of a list among all.
+#[tactic(auto, unfolding(crate::specs::Texts::line))]
+fn append_list(store: &Store, list: &[u8], out: &mut Vec<u8>) -> Result<(), AllocError>
+    ensures { OnOk result (out.new.items ≡ out.old.items ++ list_line (world_of store.now) list.now) }
+{
+    append_right_four(out, priority_of(store, list))?;
+    append_line(out, &[b" ", list])?;
+    Ok(())
+}
+
+#[tactic(auto, unfolding(crate::specs::Texts::line))]
+fn append_pinned_line(
+    store: &Store,
+    name: &[u8],
+    row: &[StanzaKey],
+    priority: i16,
+    out: &mut Vec<u8>,
+) -> Result<(), AllocError>
+    ensures { OnOk result (out.new.items ≡ out.old.items ++ pinned_line (world_of store.now) name.now row.now priority) }
+{
+    append_parts(out, &[b"     ", name, b" -> "])?;
+    append_parts(out, &[row_version(store, row), b" with priority "])?;
+    append_number(out, priority)?;
+    out.extend_from_slice(b"\n")?;
+    Ok(())
+}
+
+/// Appends the line of a row of a name whose priority comes from a specific pin; nothing of another row.
+fn append_pinned(
+    store: &Store,
+    name: &[u8],
+    row: &[StanzaKey],
+    out: &mut Vec<u8>,
+) -> Result<(), AllocError>
+    requires { AreHeld row.now (keyed_of store.now).lists }
+    ensures { OnOk result (out.new.items ≡ out.old.items ++ line_if_pinned (world_of store.now) name.now row.now) }
+{
+    match specific_pin(store, name, row) {
+        Some(priority) => append_pinned_line(store, name, row, priority, out),
+        None => Ok(()),
+    }
+}
+
+/// Appends the lines of those rows of a name whose priority comes from a specific pin.
+#[tactic(auto, unfolding(crate::specs::Policy::pinned_lines))]
+fn append_pinned_rows(cache: &Cache, name: &[u8], out: &mut Vec<u8>) -> Result<(), AllocError>
+    requires { cache.now.stale ≡ false }
+    ensures { OnOk result (out.new.items ≡ out.old.items ++ pinned_lines (world_of cache.now.store) name.now) }
+{
+    let store = cache.store();
+    'rows: for row in rows_of(cache, name) {
+        append_pinned(store, name, row, out)?;
+    }
+    Ok(())
+}
+
+/// Appends the lists, each with its priority.
+#[tactic(auto, using(crate::proofs::ListLemmas::names_shown))]
+fn append_lists(store: &Store, out: &mut Vec<u8>) -> Result<(), AllocError>
+    ensures { OnOk result (out.new.items ≡ out.old.items ++ flat_map (list_line (world_of store.now)) (names_of (world_of store.now).lists)) }
+{
+    'lists: for list in store.lists() {
+        append_list(store, list.0, out)?;
+    }
+    Ok(())
+}
+
+/// Appends the pinned rows of packages.
+fn append_all_pinned(
+    cache: &Cache,
+    packages: Packages<'_>,
+    out: &mut Vec<u8>,
+) -> Result<(), AllocError>
+    requires { cache.now.stale ≡ false }
+    ensures { OnOk result (out.new.items ≡ out.old.items ++ flat_map (pinned_lines (world_of cache.now.store)) packages.entry) }
+{
+    'packages: for name in packages {
+        append_pinned_rows(cache, name, out)?;
+    }
+    Ok(())
+}
+
+/// Appends the answer to `policy` without a name: the lists, and the rows whose priority comes from a specific pin.
+#[tactic(auto, unfolding(crate::specs::Policy::policy_of_all))]
+pub(crate) fn append_policy_of_all(cache: &Cache, out: &mut Vec<u8>) -> Result<(), AllocError>
+    requires { cache.now.stale ≡ false }
+    ensures { OnOk result (out.new.items ≡ out.old.items ++ policy_of_all (world_of cache.now.store)) }
+{
+    append_line(out, &[b"Package files:"])?;
+    append_lists(cache.store(), out)?;
+    append_line(out, &[b"Pinned packages:"])?;
+    append_all_pinned(cache, packages_of(cache), out)?;
+    Ok(())
+}
+
+fn append_one(cache: &Cache, name: &[u8], out: &mut Vec<u8>) -> Result<(), AllocError>
+    requires { cache.now.stale ≡ false }
+    ensures { OnOk result (out.new.items ≡ out.old.items ++ if_known (world_of cache.now.store) (policy_one (world_of cache.now.store)) name.now) }
+{
+    if is_known(cache, name) {
+        let chosen = cache.chosen(name);
+        append_known(cache.store(), name, chosen, rows_of(cache, name), out)?;
+        Ok(())
+    } else {
+        append_unknown(out, name)?;
+        Ok(())
+    }
+}
+
+/// Appends the answer to `policy` of names.
+pub(crate) fn append_policy(
+    cache: &Cache,
+    names: &[Bytes],
+    out: &mut Vec<u8>,
+) -> Result<(), AllocError>
+    requires { cache.now.stale ≡ false }
+    ensures { OnOk result (out.new.items ≡ out.old.items ++ policy_text (world_of cache.now.store) names.now) }
+{
+    for name in names {
+        append_one(cache, name.as_slice(), out)?;
+    }
+    Ok(())
+}

@@ -1,0 +1,97 @@
+//! The packages whose offers meet an atom.
+
+ghost use Rattle.std.specs.Prelude.{◌≡◌, ◌++◌, ◌+◌, ◌≤◌, ◌||◌, ℕ, List, OnOk, IfOk, false, not, flat_map, count_by};
+ghost use Rattle.std.specs.Str.{bytes_eq};
+ghost use Rattle.ctl_policy.specs.Priority.{world_of};
+ghost use Rattle.ctl_query.specs.Depends.{is_kept, kept_of, providers, atom_pairs, provider_line};
+ghost use Rattle.ctl_query.specs.NameSet.{lent_names, is_among};
+ghost use Rattle.ctl_query.specs.Packages.{is_none_of};
+ghost use Rattle.ctl_query.specs.Providers.{gives};
+
+use crate::interest::stanzas_are_found;
+use crate::name_set::add_name;
+use crate::text::append_line;
+use ctl_index::Cache;
+use ctl_relation::{Atom, Offer, Steps};
+use ctl_stanza::Stanza;
+use std::alloc::{AllocError, Global};
+use std::collections::BTreeSet;
+
+/// Adds the package of a stanza, if it has another name and the offer meets the atom.
+fn add_provider<'a>(
+    names: &mut BTreeSet<&'a [u8]>,
+    stanza: &'a Stanza,
+    offer: &Offer,
+    atom: &Atom<'_>,
+    steps: &mut Steps,
+) -> Result<(), AllocError>
+    ensures names { OnOk result ((other : List ℕ) → is_among (lent_names names.new.keys) other ≡ (gives atom.now other stanza.now offer.now || is_among (lent_names names.old.keys) other)) }
+    ensures steps { steps.new ≤ steps.old + 1 }
+{
+    let package = stanza.package();
+    if package != atom.name() && atom.met_by(offer, steps) {
+        add_name(names, package)?;
+    }
+    Ok(())
+}
+
+/// The packages, other than the one of the atom's name, with an offer that meets the atom: each once, in the order of their bytes.
+pub(crate) fn providers<'a>(
+    alloc: Global,
+    cache: &'a Cache,
+    atom: &Atom<'_>,
+    steps: &mut Steps,
+) -> Result<BTreeSet<&'a [u8]>, AllocError>
+    requires { cache.now.stale ≡ false }
+    ensures names { IfOk result (λ names. lent_names names.keys ≡ providers (world_of cache.now.store) atom.now) }
+    ensures steps { steps.new ≤ steps.old + atom_pairs (world_of cache.now.store) atom.now }
+{
+    stanzas_are_found(cache);
+    let store = cache.store();
+    let mut names = BTreeSet::new(alloc);
+    'offers: for (key, offer) in cache.offers(atom.name()) {
+        let stanza = store.stanza(key);
+        add_provider(&mut names, stanza, offer, atom, steps)?;
+    }
+    let _count = names.len();
+    Ok(names)
+}
+
+/// Whether a name is kept: with `--installed` where a row of it is installed.
+fn is_kept(cache: &Cache, installed: bool, name: &[u8]) -> bool
+    requires { cache.now.stale ≡ false }
+    ensures { result ≡ is_kept (world_of cache.now.store) installed name.now }
+{
+    !installed || cache.installed(name).is_some()
+}
+
+/// Whether any of some names is kept.
+pub(crate) fn is_any_kept(cache: &Cache, installed: bool, names: &BTreeSet<&[u8]>) -> bool
+    requires { cache.now.stale ≡ false }
+    ensures { result ≡ not (is_none_of (kept_of (world_of cache.now.store) installed (lent_names names.now.keys))) }
+{
+    'names: for name in names {
+        if is_kept(cache, installed, name) {
+            return true;
+        }
+    }
+    false
+}
+
+/// Appends a line for each of some names that is kept.
+pub(crate) fn append_providers(
+    cache: &Cache,
+    installed: bool,
+    names: &BTreeSet<&[u8]>,
+    out: &mut Vec<u8>,
+) -> Result<(), AllocError>
+    requires { cache.now.stale ≡ false }
+    ensures { OnOk result (out.new.items ≡ out.old.items ++ flat_map provider_line (kept_of (world_of cache.now.store) installed (lent_names names.now.keys))) }
+{
+    'names: for name in names {
+        if is_kept(cache, installed, name) {
+            append_line(out, &[b"    ", name])?;
+        }
+    }
+    Ok(())
+}

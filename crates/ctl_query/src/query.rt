@@ -1,0 +1,29 @@
+//! Queries: what their words ask for.
+
+use ctl_relation::{Bytes, Version};
+
+/// A word of `show`: a name, and a version if it has one.
+#[derive(Drop)]
+pub struct AskedRow {
+    pub name: Bytes,
+    pub version: Option<Version>,
+}
+
+/// A query of apt-cache(8).
+#[derive(Drop)]
+pub enum Query {
+    /// `pkgnames`: whether all known names are asked for, and the prefix.
+    PackageNames(bool, Bytes),
+    /// `show`: whether all versions are, and the rows.
+    Show(bool, Vec<AskedRow>),
+    /// `depends`: whether important dependencies alone are, whether what is installed alone is, and the names.
+    Depends(bool, bool, Vec<Bytes>),
+    /// `rdepends`: whether what is installed alone is, and the names.
+    ReverseDepends(bool, Vec<Bytes>),
+    /// `unmet`: whether important dependencies alone are.
+    Unmet(bool),
+    /// `policy`: the names; all packages are asked for where there is none.
+    Policy(Vec<Bytes>),
+    /// `showpkg`: the names.
+    ShowPackage(Vec<Bytes>),
+}

@@ -1,0 +1,153 @@
+//! The lines of `show`.
+
+ghost use Rattle.std.specs.Prelude.{◌≡◌, ◌++◌, OnOk, false, flat_map, map, option_copied};
+ghost use Rattle.ctl_policy.specs.Candidate.{candidate_of};
+ghost use Rattle.ctl_policy.specs.Priority.{world_of};
+ghost use Rattle.ctl_query.specs.Asked.{asked_row};
+ghost use Rattle.ctl_query.specs.Packages.{of_rows, stanza_under, told, told_of_row};
+ghost use Rattle.ctl_query.specs.Show.{lead_text, not_found_line, rows_shown, show_one, show_text, version_shown};
+
+use crate::leads::{lead_in, stanza_under};
+use crate::packages::rows_of;
+use crate::query::AskedRow;
+use crate::text::{append_line, append_unknown};
+use ctl_index::Cache;
+use ctl_policy::NewestFirst;
+use ctl_relation::Version;
+use ctl_stanza::Stanza;
+use ctl_store::{StanzaKey, Store};
+use std::alloc::AllocError;
+
+/// Appends the text of a lead and an empty line; nothing where there is none.
+fn append_lead(lead: Option<&Stanza>, out: &mut Vec<u8>) -> Result<(), AllocError>
+    ensures { OnOk result (out.new.items ≡ out.old.items ++ told lead_text (option_copied lead.entry)) }
+{
+    match lead {
+        Some(lead) => append_line(out, &[lead.text()]),
+        None => Ok(()),
+    }
+}
+
+fn append_row(store: &Store, row: &[StanzaKey], out: &mut Vec<u8>) -> Result<(), AllocError>
+    ensures { OnOk result (out.new.items ≡ out.old.items ++ told_of_row (world_of store.now) lead_text row.now) }
+{
+    append_lead(lead_in(store, row), out)?;
+    Ok(())
+}
+
+/// Appends each of some rows.
+fn append_rows(store: &Store, rows: NewestFirst<'_>, out: &mut Vec<u8>) -> Result<(), AllocError>
+    ensures { OnOk result (out.new.items ≡ out.old.items ++ flat_map (told_of_row (world_of store.now) lead_text) rows.entry) }
+{
+    'rows: for row in rows {
+        append_row(store, row, out)?;
+    }
+    Ok(())
+}
+
+/// Appends what stands in place of a row that is not there.
+fn append_not_found(name: &[u8], version: &Version, out: &mut Vec<u8>) -> Result<(), AllocError>
+    ensures { OnOk result (out.new.items ≡ out.old.items ++ not_found_line name.now version.now) }
+{
+    let version = version.text();
+    append_line(
+        out,
+        &[b"N: Version ", version, b" of ", name, b" was not found"],
+    )?;
+    Ok(())
+}
+
+/// Appends the row of a name whose version is equal to this one, or that there is none.
+fn append_version(
+    cache: &Cache,
+    name: &[u8],
+    version: &Version,
+    out: &mut Vec<u8>,
+) -> Result<(), AllocError>
+    requires { cache.now.stale ≡ false }
+    ensures { OnOk result (out.new.items ≡ out.old.items ++ version_shown (world_of cache.now.store) name.now version.now) }
+{
+    match stanza_under(cache.store(), cache.lead(name, version)) {
+        Some(lead) => {
+            append_line(out, &[lead.text()])?;
+            Ok(())
+        }
+        None => append_not_found(name, version, out),
+    }
+}
+
+/// Appends each row of a name.
+fn append_all(cache: &Cache, name: &[u8], out: &mut Vec<u8>) -> Result<(), AllocError>
+    requires { cache.now.stale ≡ false }
+    ensures { OnOk result (out.new.items ≡ out.old.items ++ of_rows (world_of cache.now.store) lead_text name.now) }
+{
+    append_rows(cache.store(), rows_of(cache, name), out)?;
+    Ok(())
+}
+
+/// Appends the row of the candidate, if there is one.
+fn append_candidate(cache: &Cache, name: &[u8], out: &mut Vec<u8>) -> Result<(), AllocError>
+    requires { cache.now.stale ≡ false }
+    ensures { OnOk result (out.new.items ≡ out.old.items ++ told lead_text (stanza_under (world_of cache.now.store) (candidate_of name.now (world_of cache.now.store)))) }
+{
+    append_lead(stanza_under(cache.store(), cache.candidate(name)), out)?;
+    Ok(())
+}
+
+/// Appends what is shown of a name that has a row.
+fn append_shown(
+    cache: &Cache,
+    all: bool,
+    name: &[u8],
+    version: &Option<Version>,
+    out: &mut Vec<u8>,
+) -> Result<(), AllocError>
+    requires { cache.now.stale ≡ false }
+    ensures { OnOk result (out.new.items ≡ out.old.items ++ rows_shown (world_of cache.now.store) all name.now version.now) }
+{
+    match version {
+        Some(version) => append_version(cache, name, version, out),
+        None => {
+            if all {
+                append_all(cache, name, out)
+            } else {
+                append_candidate(cache, name, out)
+            }
+        }
+    }
+}
+
+fn append_one(
+    cache: &Cache,
+    all: bool,
+    asked: &AskedRow,
+    out: &mut Vec<u8>,
+) -> Result<(), AllocError>
+    requires { cache.now.stale ≡ false }
+    ensures { OnOk result (out.new.items ≡ out.old.items ++ show_one (world_of cache.now.store) all (asked_row asked.now)) }
+{
+    let name = asked.name.as_slice();
+    if cache.has_row(name) {
+        append_shown(cache, all, name, &asked.version, out)?;
+        Ok(())
+    } else {
+        append_unknown(out, name)?;
+        Ok(())
+    }
+}
+
+/// Appends the answer to `show`.
+pub(crate) fn append_show(
+    cache: &Cache,
+    all: bool,
+    asked: &[AskedRow],
+    out: &mut Vec<u8>,
+) -> Result<(), AllocError>
+    requires { cache.now.stale ≡ false }
+    ensures { OnOk result (out.new.items ≡ out.old.items ++ show_text (world_of cache.now.store) all (map asked_row asked.now)) }
+{
+    for one in asked {
+        append_one(cache, all, one, out)?;
+    }
+    Ok(())
+}

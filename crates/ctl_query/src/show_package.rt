@@ -1,0 +1,356 @@
+//! The answer to `showpkg`.
+
+ghost use Rattle.std.specs.Prelude.{◌≡◌, ◌++◌, ◌∷◌, [], OnOk, codes, false, flat_map};
+ghost use Rattle.ctl_store.specs.Held.{keyed_of};
+ghost use Rattle.ctl_store.specs.Keys.{AreHeld};
+ghost use Rattle.ctl_policy.specs.Priority.{world_of};
+ghost use Rattle.ctl_policy.specs.Rows.{sources_of};
+ghost use Rattle.ctl_query.specs.NameSet.{lent_names};
+ghost use Rattle.ctl_query.specs.Packages.{rows_of, of_rows, of_all_rows, told_of_row};
+ghost use Rattle.ctl_query.specs.ShowPackage.{source_mark, version_line, naming_lines, relation_lines, entry_lines, providing_lines, show_package_one, show_package_text};
+ghost use Rattle.ctl_query.specs.Texts.{line, if_known};
+
+use crate::interest::{packages_naming, packages_offering, stanzas_are_found};
+use crate::lead_lines::{
+    append_entry_lines, append_naming_lines, append_providing_lines, append_relation_lines,
+};
+use crate::leads::lead_in;
+use crate::packages::{is_known, rows_of};
+use crate::policy::row_version;
+use crate::text::{append_line, append_parts, append_unknown};
+use ctl_index::Cache;
+use ctl_policy::{is_source, rows_are_classes};
+use ctl_relation::Bytes;
+use ctl_store::{StanzaKey, Store};
+use std::alloc::{AllocError, Global};
+use std::collections::BTreeSet;
+
+// ---- its versions
+
+/// Appends the lists that hold a row, which has these stanzas.
+fn append_sources(store: &Store, row: &[StanzaKey], out: &mut Vec<u8>) -> Result<(), AllocError>
+    requires { AreHeld row.now (keyed_of store.now).lists }
+    ensures { OnOk result (out.new.items ≡ out.old.items ++ flat_map source_mark (sources_of row.now (keyed_of store.now).lists)) }
+{
+    'lists: for list in store.lists() {
+        if is_source(store, list.0, row) {
+            append_parts(out, &[b" (", list.0, b")"])?;
+        }
+    }
+    Ok(())
+}
+
+/// Appends a row with the lists that hold it.
+#[tactic(auto, unfolding(crate::specs::Texts::line))]
+fn append_version(store: &Store, row: &[StanzaKey], out: &mut Vec<u8>) -> Result<(), AllocError>
+    requires { AreHeld row.now (keyed_of store.now).lists }
+    ensures { OnOk result (out.new.items ≡ out.old.items ++ version_line (world_of store.now) row.now) }
+{
+    out.extend_from_slice(row_version(store, row))?;
+    append_sources(store, row, out)?;
+    out.extend_from_slice(b"\n")?;
+    Ok(())
+}
+
+fn append_versions(cache: &Cache, name: &[u8], out: &mut Vec<u8>) -> Result<(), AllocError>
+    requires { cache.now.stale ≡ false }
+    ensures { OnOk result (out.new.items ≡ out.old.items ++ flat_map (version_line (world_of cache.now.store)) (rows_of (world_of cache.now.store) name.now)) }
+{
+    'rows: for row in rows_of(cache, name) {
+        append_version(cache.store(), row, out)?;
+    }
+    Ok(())
+}
+
+// ---- who names it
+
+fn append_naming_row(
+    store: &Store,
+    name: &[u8],
+    row: &[StanzaKey],
+    out: &mut Vec<u8>,
+) -> Result<(), AllocError>
+    ensures { OnOk result (out.new.items ≡ out.old.items ++ told_of_row (world_of store.now) (naming_lines name.now) row.now) }
+{
+    match lead_in(store, row) {
+        Some(lead) => {
+            append_naming_lines(name, lead, out)?;
+            Ok(())
+        }
+        None => Ok(()),
+    }
+}
+
+fn append_naming_rows(
+    cache: &Cache,
+    name: &[u8],
+    asker: &[u8],
+    out: &mut Vec<u8>,
+) -> Result<(), AllocError>
+    requires { cache.now.stale ≡ false }
+    ensures { OnOk result (out.new.items ≡ out.old.items ++ of_rows (world_of cache.now.store) (naming_lines name.now) asker.now) }
+{
+    'rows: for row in rows_of(cache, asker) {
+        append_naming_row(cache.store(), name, row, out)?;
+    }
+    Ok(())
+}
+
+fn append_each_naming(
+    cache: &Cache,
+    name: &[u8],
+    askers: &BTreeSet<&[u8]>,
+    out: &mut Vec<u8>,
+) -> Result<(), AllocError>
+    requires { cache.now.stale ≡ false }
+    ensures { OnOk result (out.new.items ≡ out.old.items ++ flat_map (of_rows (world_of cache.now.store) (naming_lines name.now)) (lent_names askers.now.keys)) }
+{
+    'askers: for asker in askers {
+        append_naming_rows(cache, name, asker, out)?;
+    }
+    Ok(())
+}
+
+/// Appends the atoms that name a name. The packages with such an atom are enough.
+fn append_naming(
+    alloc: Global,
+    cache: &Cache,
+    name: &[u8],
+    out: &mut Vec<u8>,
+) -> Result<(), AllocError>
+    requires { cache.now.stale ≡ false }
+    ensures { OnOk result (out.new.items ≡ out.old.items ++ of_all_rows (world_of cache.now.store) (naming_lines name.now)) }
+{
+    rows_are_classes();
+    stanzas_are_found(cache);
+    let askers = packages_naming(alloc, cache, name)?;
+    append_each_naming(cache, name, &askers, out)?;
+    Ok(())
+}
+
+// ---- what it names
+
+fn append_relation_row(
+    store: &Store,
+    row: &[StanzaKey],
+    out: &mut Vec<u8>,
+) -> Result<(), AllocError>
+    ensures { OnOk result (out.new.items ≡ out.old.items ++ told_of_row (world_of store.now) relation_lines row.now) }
+{
+    match lead_in(store, row) {
+        Some(lead) => {
+            append_relation_lines(lead, out)?;
+            Ok(())
+        }
+        None => Ok(()),
+    }
+}
+
+fn append_relations(cache: &Cache, name: &[u8], out: &mut Vec<u8>) -> Result<(), AllocError>
+    requires { cache.now.stale ≡ false }
+    ensures { OnOk result (out.new.items ≡ out.old.items ++ of_rows (world_of cache.now.store) relation_lines name.now) }
+{
+    'rows: for row in rows_of(cache, name) {
+        append_relation_row(cache.store(), row, out)?;
+    }
+    Ok(())
+}
+
+// ---- what it provides, and who provides it
+
+fn append_entry_row(store: &Store, row: &[StanzaKey], out: &mut Vec<u8>) -> Result<(), AllocError>
+    ensures { OnOk result (out.new.items ≡ out.old.items ++ told_of_row (world_of store.now) entry_lines row.now) }
+{
+    match lead_in(store, row) {
+        Some(lead) => {
+            append_entry_lines(lead, out)?;
+            Ok(())
+        }
+        None => Ok(()),
+    }
+}
+
+fn append_entries(cache: &Cache, name: &[u8], out: &mut Vec<u8>) -> Result<(), AllocError>
+    requires { cache.now.stale ≡ false }
+    ensures { OnOk result (out.new.items ≡ out.old.items ++ of_rows (world_of cache.now.store) entry_lines name.now) }
+{
+    'rows: for row in rows_of(cache, name) {
+        append_entry_row(cache.store(), row, out)?;
+    }
+    Ok(())
+}
+
+fn append_providing_row(
+    store: &Store,
+    name: &[u8],
+    row: &[StanzaKey],
+    out: &mut Vec<u8>,
+) -> Result<(), AllocError>
+    ensures { OnOk result (out.new.items ≡ out.old.items ++ told_of_row (world_of store.now) (providing_lines name.now) row.now) }
+{
+    match lead_in(store, row) {
+        Some(lead) => {
+            append_providing_lines(name, lead, out)?;
+            Ok(())
+        }
+        None => Ok(()),
+    }
+}
+
+fn append_providing_rows(
+    cache: &Cache,
+    name: &[u8],
+    asker: &[u8],
+    out: &mut Vec<u8>,
+) -> Result<(), AllocError>
+    requires { cache.now.stale ≡ false }
+    ensures { OnOk result (out.new.items ≡ out.old.items ++ of_rows (world_of cache.now.store) (providing_lines name.now) asker.now) }
+{
+    'rows: for row in rows_of(cache, asker) {
+        append_providing_row(cache.store(), name, row, out)?;
+    }
+    Ok(())
+}
+
+fn append_each_providing(
+    cache: &Cache,
+    name: &[u8],
+    askers: &BTreeSet<&[u8]>,
+    out: &mut Vec<u8>,
+) -> Result<(), AllocError>
+    requires { cache.now.stale ≡ false }
+    ensures { OnOk result (out.new.items ≡ out.old.items ++ flat_map (of_rows (world_of cache.now.store) (providing_lines name.now)) (lent_names askers.now.keys)) }
+{
+    'askers: for asker in askers {
+        append_providing_rows(cache, name, asker, out)?;
+    }
+    Ok(())
+}
+
+/// Appends the entries of Provides with a name. The packages that offer it are enough.
+fn append_providing(
+    alloc: Global,
+    cache: &Cache,
+    name: &[u8],
+    out: &mut Vec<u8>,
+) -> Result<(), AllocError>
+    requires { cache.now.stale ≡ false }
+    ensures { OnOk result (out.new.items ≡ out.old.items ++ of_all_rows (world_of cache.now.store) (providing_lines name.now)) }
+{
+    rows_are_classes();
+    stanzas_are_found(cache);
+    let askers = packages_offering(alloc, cache, name)?;
+    append_each_providing(cache, name, &askers, out)?;
+    Ok(())
+}
+
+// ---- all of it, heading by heading
+
+fn show_versions(cache: &Cache, name: &[u8], out: &mut Vec<u8>) -> Result<(), AllocError>
+    requires { cache.now.stale ≡ false }
+    ensures { OnOk result (out.new.items ≡ out.old.items ++ (line (codes "Versions:" ∷ []) ++ (flat_map (version_line (world_of cache.now.store)) (rows_of (world_of cache.now.store) name.now) ++ line []))) }
+{
+    append_line(out, &[b"Versions:"])?;
+    append_versions(cache, name, out)?;
+    append_line(out, &[])?;
+    Ok(())
+}
+
+fn show_namers(
+    alloc: Global,
+    cache: &Cache,
+    name: &[u8],
+    out: &mut Vec<u8>,
+) -> Result<(), AllocError>
+    requires { cache.now.stale ≡ false }
+    ensures { OnOk result (out.new.items ≡ out.old.items ++ (line (codes "Reverse Depends:" ∷ []) ++ of_all_rows (world_of cache.now.store) (naming_lines name.now))) }
+{
+    append_line(out, &[b"Reverse Depends:"])?;
+    append_naming(alloc, cache, name, out)?;
+    Ok(())
+}
+
+fn show_relations(cache: &Cache, name: &[u8], out: &mut Vec<u8>) -> Result<(), AllocError>
+    requires { cache.now.stale ≡ false }
+    ensures { OnOk result (out.new.items ≡ out.old.items ++ (line (codes "Dependencies:" ∷ []) ++ of_rows (world_of cache.now.store) relation_lines name.now)) }
+{
+    append_line(out, &[b"Dependencies:"])?;
+    append_relations(cache, name, out)?;
+    Ok(())
+}
+
+fn show_entries(cache: &Cache, name: &[u8], out: &mut Vec<u8>) -> Result<(), AllocError>
+    requires { cache.now.stale ≡ false }
+    ensures { OnOk result (out.new.items ≡ out.old.items ++ (line (codes "Provides:" ∷ []) ++ of_rows (world_of cache.now.store) entry_lines name.now)) }
+{
+    append_line(out, &[b"Provides:"])?;
+    append_entries(cache, name, out)?;
+    Ok(())
+}
+
+fn show_providers(
+    alloc: Global,
+    cache: &Cache,
+    name: &[u8],
+    out: &mut Vec<u8>,
+) -> Result<(), AllocError>
+    requires { cache.now.stale ≡ false }
+    ensures { OnOk result (out.new.items ≡ out.old.items ++ (line (codes "Reverse Provides:" ∷ []) ++ of_all_rows (world_of cache.now.store) (providing_lines name.now))) }
+{
+    append_line(out, &[b"Reverse Provides:"])?;
+    append_providing(alloc, cache, name, out)?;
+    Ok(())
+}
+
+/// Appends the answer on a known name.
+#[tactic(auto, unfolding(crate::specs::ShowPackage::show_package_one))]
+fn append_known(
+    alloc: Global,
+    cache: &Cache,
+    name: &[u8],
+    out: &mut Vec<u8>,
+) -> Result<(), AllocError>
+    requires { cache.now.stale ≡ false }
+    ensures { OnOk result (out.new.items ≡ out.old.items ++ show_package_one (world_of cache.now.store) name.now) }
+{
+    append_line(out, &[b"Package: ", name])?;
+    show_versions(cache, name, out)?;
+    show_namers(alloc, cache, name, out)?;
+    show_relations(cache, name, out)?;
+    show_entries(cache, name, out)?;
+    show_providers(alloc, cache, name, out)?;
+    Ok(())
+}
+
+fn append_one(
+    alloc: Global,
+    cache: &Cache,
+    name: &[u8],
+    out: &mut Vec<u8>,
+) -> Result<(), AllocError>
+    requires { cache.now.stale ≡ false }
+    ensures { OnOk result (out.new.items ≡ out.old.items ++ if_known (world_of cache.now.store) (show_package_one (world_of cache.now.store)) name.now) }
+{
+    if !is_known(cache, name) {
+        append_unknown(out, name)?;
+        return Ok(());
+    }
+    append_known(alloc, cache, name, out)?;
+    Ok(())
+}
+
+/// Appends the answer to `showpkg`.
+pub(crate) fn append_show_package(
+    alloc: Global,
+    cache: &Cache,
+    names: &[Bytes],
+    out: &mut Vec<u8>,
+) -> Result<(), AllocError>
+    requires { cache.now.stale ≡ false }
+    ensures { OnOk result (out.new.items ≡ out.old.items ++ show_package_text (world_of cache.now.store) names.now) }
+{
+    for name in names {
+        append_one(alloc, cache, name.as_slice(), out)?;
+    }
+    Ok(())
+}

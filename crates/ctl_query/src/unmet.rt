@@ -1,0 +1,222 @@
+//! The answer to `unmet`.
+
+ghost use Rattle.std.specs.Prelude.{◌≡◌, ◌++◌, ℕ, List, OnOk, Some, flat_map, length, true, false};
+ghost use Rattle.ctl_store.specs.Followed.{under as found_under};
+ghost use Rattle.ctl_index.specs.Clauses.{is_clause_field, clause_at};
+ghost use Rattle.ctl_index.specs.Held.{standing};
+ghost use Rattle.ctl_policy.specs.Priority.{world_of};
+ghost use Rattle.ctl_query.specs.NameSet.{lent_names};
+ghost use Rattle.ctl_query.specs.Packages.{of_rows, told_of_row};
+ghost use Rattle.ctl_query.specs.Unmet.{is_unmet, clause_line, line_if_unmet, unmet_in_field, clause_lines, unmet_heading, under, unmet_lead, unmet_text};
+
+use crate::interest::{packages_with_unmet, stanzas_are_found};
+use crate::packages::rows_of;
+use crate::text::{append_line, append_parts, field_label, version_text};
+use ctl_index::{Cache, ClauseKey};
+use ctl_policy::rows_are_classes;
+use ctl_relation::{FieldKind, Group};
+use ctl_stanza::Stanza;
+use ctl_store::StanzaKey;
+use std::alloc::{AllocError, Global};
+use std::collections::BTreeSet;
+
+/// Whether no offer meets a clause, which has these atoms. The cache keeps the number of those that do, so none is tested.
+fn is_unmet(cache: &Cache, key: ClauseKey, clause: &Group<'_>) -> bool
+    requires fresh { cache.now.stale ≡ false }
+    requires clause { clause_at key (standing cache.now.store) ≡ Some clause.now }
+    ensures { result ≡ is_unmet (world_of cache.now.store) clause.now }
+{
+    cache.satisfiers(key) == 0
+}
+
+/// Appends the line of a clause that is not met.
+#[tactic(auto, unfolding(crate::specs::Texts::line))]
+fn append_clause(field: FieldKind, clause: &Group<'_>, out: &mut Vec<u8>) -> Result<(), AllocError>
+    ensures { OnOk result (out.new.items ≡ out.old.items ++ clause_line field clause.now) }
+{
+    append_parts(out, &[b" ", field_label(field), b": "])?;
+    clause.append_to(out)?;
+    out.extend_from_slice(b"\n")?;
+    Ok(())
+}
+
+/// The same, of a clause that may be met.
+fn append_if_unmet(
+    cache: &Cache,
+    key: ClauseKey,
+    clause: &Group<'_>,
+    out: &mut Vec<u8>,
+) -> Result<(), AllocError>
+    requires fresh { cache.now.stale ≡ false }
+    requires clause { clause_at key (standing cache.now.store) ≡ Some clause.now }
+    ensures { OnOk result (out.new.items ≡ out.old.items ++ line_if_unmet (world_of cache.now.store) key.field clause.now) }
+{
+    if is_unmet(cache, key, clause) {
+        append_clause(key.field, clause, out)?;
+    }
+    Ok(())
+}
+
+/// Appends the clauses of a field of a lead that are not met.
+fn append_field(
+    cache: &Cache,
+    stanza: StanzaKey,
+    lead: &Stanza,
+    field: FieldKind,
+    out: &mut Vec<u8>,
+) -> Result<(), AllocError>
+    requires fresh { cache.now.stale ≡ false }
+    requires lead { found_under stanza (standing cache.now.store) ≡ Some lead.now }
+    requires field { is_clause_field field ≡ true }
+    ensures { OnOk result (out.new.items ≡ out.old.items ++ unmet_in_field (world_of cache.now.store) lead.now field) }
+{
+    let groups = lead.groups(field);
+    let mut group = 0u32;
+    'clauses: for clause in groups {
+        let key = ClauseKey {
+            stanza,
+            field,
+            group,
+        };
+        append_if_unmet(cache, key, &clause, out)?;
+        group += 1;
+    }
+    Ok(())
+}
+
+/// Appends the clauses of a lead that are not met.
+#[tactic(auto, unfolding(crate::specs::Unmet::clause_lines))]
+fn append_clauses(
+    cache: &Cache,
+    important: bool,
+    stanza: StanzaKey,
+    lead: &Stanza,
+    out: &mut Vec<u8>,
+) -> Result<(), AllocError>
+    requires fresh { cache.now.stale ≡ false }
+    requires lead { found_under stanza (standing cache.now.store) ≡ Some lead.now }
+    ensures { OnOk result (out.new.items ≡ out.old.items ++ clause_lines (world_of cache.now.store) important lead.now) }
+{
+    append_field(cache, stanza, lead, FieldKind::PreDepends, out)?;
+    append_field(cache, stanza, lead, FieldKind::Depends, out)?;
+    if important {
+        return Ok(());
+    }
+    append_field(cache, stanza, lead, FieldKind::Recommends, out)?;
+    append_field(cache, stanza, lead, FieldKind::Suggests, out)?;
+    Ok(())
+}
+
+/// Appends the heading of the clauses of a lead that are not met.
+fn append_heading(lead: &Stanza, out: &mut Vec<u8>) -> Result<(), AllocError>
+    ensures { OnOk result (out.new.items ≡ out.old.items ++ unmet_heading lead.now) }
+{
+    append_line(
+        out,
+        &[
+            b"Package ",
+            lead.package(),
+            b" version ",
+            version_text(lead),
+            b" has an unmet dep:",
+        ],
+    )?;
+    Ok(())
+}
+
+/// Takes a heading off again where nothing stands behind it. Before it stood so many bytes, and with it so many.
+fn close_heading(start: usize, headed: usize, out: &mut Vec<u8>)
+    ensures { (before : List ℕ) → (heading : List ℕ) → (text : List ℕ) → length before ≡ start → length (before ++ heading) ≡ headed → out.old.items ≡ (before ++ heading) ++ text → out.new.items ≡ before ++ under heading text }
+{
+    if out.len() == headed {
+        out.truncate(start);
+    }
+}
+
+/// Appends the clauses of a lead that are not met under their heading; nothing where there is none.
+fn append_lead(
+    cache: &Cache,
+    important: bool,
+    stanza: StanzaKey,
+    lead: &Stanza,
+    out: &mut Vec<u8>,
+) -> Result<(), AllocError>
+    requires fresh { cache.now.stale ≡ false }
+    requires lead { found_under stanza (standing cache.now.store) ≡ Some lead.now }
+    ensures { OnOk result (out.new.items ≡ out.old.items ++ unmet_lead (world_of cache.now.store) important lead.now) }
+{
+    let start = out.len();
+    append_heading(lead, out)?;
+    let headed = out.len();
+    append_clauses(cache, important, stanza, lead, out)?;
+    close_heading(start, headed, out);
+    Ok(())
+}
+
+fn append_row(
+    cache: &Cache,
+    important: bool,
+    row: &[StanzaKey],
+    out: &mut Vec<u8>,
+) -> Result<(), AllocError>
+    requires { cache.now.stale ≡ false }
+    ensures { OnOk result (out.new.items ≡ out.old.items ++ told_of_row (world_of cache.now.store) (unmet_lead (world_of cache.now.store) important) row.now) }
+{
+    let Some(key) = row.first().copied() else {
+        return Ok(());
+    };
+    match cache.store().find(key) {
+        Some(lead) => {
+            append_lead(cache, important, key, lead, out)?;
+            Ok(())
+        }
+        None => Ok(()),
+    }
+}
+
+fn append_rows(
+    cache: &Cache,
+    important: bool,
+    name: &[u8],
+    out: &mut Vec<u8>,
+) -> Result<(), AllocError>
+    requires { cache.now.stale ≡ false }
+    ensures { OnOk result (out.new.items ≡ out.old.items ++ of_rows (world_of cache.now.store) (unmet_lead (world_of cache.now.store) important) name.now) }
+{
+    'rows: for row in rows_of(cache, name) {
+        append_row(cache, important, row, out)?;
+    }
+    Ok(())
+}
+
+fn append_each(
+    cache: &Cache,
+    important: bool,
+    names: &BTreeSet<&[u8]>,
+    out: &mut Vec<u8>,
+) -> Result<(), AllocError>
+    requires { cache.now.stale ≡ false }
+    ensures { OnOk result (out.new.items ≡ out.old.items ++ flat_map (of_rows (world_of cache.now.store) (unmet_lead (world_of cache.now.store) important)) (lent_names names.now.keys)) }
+{
+    'names: for name in names {
+        append_rows(cache, important, name, out)?;
+    }
+    Ok(())
+}
+
+/// Appends the answer to `unmet`. The packages of the clauses that no offer meets are enough.
+pub(crate) fn append_unmet(
+    alloc: Global,
+    cache: &Cache,
+    important: bool,
+    out: &mut Vec<u8>,
+) -> Result<(), AllocError>
+    requires { cache.now.stale ≡ false }
+    ensures { OnOk result (out.new.items ≡ out.old.items ++ unmet_text (world_of cache.now.store) important) }
+{
+    rows_are_classes();
+    stanzas_are_found(cache);
+    let names = packages_with_unmet(alloc, cache)?;
+    append_each(cache, important, &names, out)?;
+    Ok(())
+}
