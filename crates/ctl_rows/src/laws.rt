@@ -3,11 +3,10 @@
 use ctl_policy::{
     edits_of_general_pins, edits_of_lists, edits_of_one_name, edits_of_preferences,
     edits_of_stanzas, edits_of_targets, general_pins_leave_other_names, marks_leave_other_names,
-    packages_tell_live_stanzas, plans_are_accepted,
-    preferences_leave_other_names, rows_are_classes, rows_are_held, rows_are_kept,
-    rows_follow_stanzas, sources_hold_stanzas, specific_pins_leave_other_names,
-    stanzas_leave_other_names, targets_leave_other_names, touched_names_are_enough,
-    untouched_names_stay, worlds_move,
+    packages_tell_live_stanzas, plans_are_accepted, preferences_leave_other_names,
+    rows_are_classes, rows_are_held, rows_are_kept, rows_follow_stanzas, sources_hold_stanzas,
+    specific_pins_leave_other_names, stanzas_leave_other_names, targets_leave_other_names,
+    touched_names_are_enough, untouched_names_stay, worlds_move,
 };
 use ctl_query::answers_are_as_if_built_anew;
 use ctl_relation::{
