@@ -8,16 +8,72 @@ use std::test::Fail;
 fn rows_are_shown_newest_first(rt: HostRuntime) -> Result<(), Fail> {
     each_writes(
         &rt,
-        &[
-            (
-                b"add-list main packages\nPackage: v\nVersion: 1.0~rc1\n\nPackage: v\nVersion: 1.0-0\n\nPackage: v\nVersion: 1.0\n\nPackage: v\nVersion: 1.0+b1\n\nPackage: v\nVersion: 1:0.1\n\nPackage: v\nVersion: 12345678901234567890123456789012345678901234567890\n.\npolicy v\n",
-                b"v:\n  Installed: (none)\n  Candidate: 1:0.1\n  Version table:\n     1:0.1 500\n        500 main\n     12345678901234567890123456789012345678901234567890 500\n        500 main\n     1.0+b1 500\n        500 main\n     1.0-0 500\n        500 main\n     1.0~rc1 500\n        500 main\n",
-            ),
-            (
-                b"add-list A packages\nPackage: foo\nVersion: 1.0\nDepends: a\n.\nadd-list B packages\nPackage: foo\nVersion: 1.0-0\nDepends: b\n.\nshow foo\nunmet\ndrop-list A\nshow foo\nunmet\n",
-                b"Package: foo\nVersion: 1.0\nDepends: a\n\nPackage foo version 1.0 has an unmet dep:\n Depends: a\nPackage: foo\nVersion: 1.0-0\nDepends: b\n\nPackage foo version 1.0-0 has an unmet dep:\n Depends: b\n",
-            ),
-        ],
+        b"
+add-list main packages
+Package: v
+Version: 1.0~rc1
+
+Package: v
+Version: 1.0-0
+
+Package: v
+Version: 1.0
+
+Package: v
+Version: 1.0+b1
+
+Package: v
+Version: 1:0.1
+
+Package: v
+Version: 12345678901234567890123456789012345678901234567890
+.
+policy v
+=>
+v:
+  Installed: (none)
+  Candidate: 1:0.1
+  Version table:
+     1:0.1 500
+        500 main
+     12345678901234567890123456789012345678901234567890 500
+        500 main
+     1.0+b1 500
+        500 main
+     1.0-0 500
+        500 main
+     1.0~rc1 500
+        500 main
+--
+add-list A packages
+Package: foo
+Version: 1.0
+Depends: a
+.
+add-list B packages
+Package: foo
+Version: 1.0-0
+Depends: b
+.
+show foo
+unmet
+drop-list A
+show foo
+unmet
+=>
+Package: foo
+Version: 1.0
+Depends: a
+
+Package foo version 1.0 has an unmet dep:
+ Depends: a
+Package: foo
+Version: 1.0-0
+Depends: b
+
+Package foo version 1.0-0 has an unmet dep:
+ Depends: b
+",
     )
 }
 
@@ -26,40 +82,105 @@ fn worked_policies(rt: HostRuntime) -> Result<(), Fail> {
     each_writes_behind(
         &rt,
         b"add-list main packages\nPackage: foo\nVersion: 1.0-1\n.\nadd-list sid packages\nPackage: foo\nVersion: 2.0-1\n.\nadd-list status status\nPackage: foo\nStatus: install ok installed\nVersion: 1.0-1\n.\n",
-        &[
-            (
-                b"policy foo\n",
-                b"foo:\n  Installed: 1.0-1\n  Candidate: 2.0-1\n  Version table:\n     2.0-1 500\n        500 sid\n *** 1.0-1 500\n        500 main\n        100 status\n",
-            ),
-            (
-                b"pin foo version 1.0* 999\npolicy foo\n",
-                b"foo:\n  Installed: 1.0-1\n  Candidate: 1.0-1\n  Version table:\n     2.0-1 500\n        500 sid\n *** 1.0-1 999\n        500 main\n        100 status\n",
-            ),
-            (
-                b"pin foo version 1.0* 1000\nremove status foo 1.0-1\nmark foo 2.0-1\npolicy foo\n",
-                b"foo:\n  Installed: 2.0-1\n  Candidate: 1.0-1\n  Version table:\n *** 2.0-1 500\n        500 sid\n     1.0-1 1000\n        500 main\n",
-            ),
-            (
-                b"pin foo version 1.0* 999\nremove status foo 1.0-1\nmark foo 2.0-1\npolicy foo\n",
-                b"foo:\n  Installed: 2.0-1\n  Candidate: 2.0-1\n  Version table:\n *** 2.0-1 500\n        500 sid\n     1.0-1 999\n        500 main\n",
-            ),
-            (
-                b"pin '*' release sid 100\npin foo release main 700\npolicy\n",
-                b"Package files:\n 500 main\n 100 sid\n 100 status\nPinned packages:\n     foo -> 1.0-1 with priority 700\n",
-            ),
-            (
-                b"show foo=1.0-1 nope foo=9\n",
-                b"Package: foo\nVersion: 1.0-1\n\nN: Unable to locate package nope\nN: Version 9 of foo was not found\n",
-            ),
-            (
-                b"show --no-all-versions foo\n",
-                b"Package: foo\nVersion: 2.0-1\n\n",
-            ),
-            (
-                b"show -a --no-all-versions foo\nshow --no-all-versions foo --all-versions\nshow foo -a\n",
-                b"Package: foo\nVersion: 2.0-1\n\nPackage: foo\nVersion: 2.0-1\n\nPackage: foo\nVersion: 1.0-1\n\nPackage: foo\nVersion: 2.0-1\n\nPackage: foo\nVersion: 1.0-1\n\n",
-            ),
-        ],
+        b"
+policy foo
+=>
+foo:
+  Installed: 1.0-1
+  Candidate: 2.0-1
+  Version table:
+     2.0-1 500
+        500 sid
+ *** 1.0-1 500
+        500 main
+        100 status
+--
+pin foo version 1.0* 999
+policy foo
+=>
+foo:
+  Installed: 1.0-1
+  Candidate: 1.0-1
+  Version table:
+     2.0-1 500
+        500 sid
+ *** 1.0-1 999
+        500 main
+        100 status
+--
+pin foo version 1.0* 1000
+remove status foo 1.0-1
+mark foo 2.0-1
+policy foo
+=>
+foo:
+  Installed: 2.0-1
+  Candidate: 1.0-1
+  Version table:
+ *** 2.0-1 500
+        500 sid
+     1.0-1 1000
+        500 main
+--
+pin foo version 1.0* 999
+remove status foo 1.0-1
+mark foo 2.0-1
+policy foo
+=>
+foo:
+  Installed: 2.0-1
+  Candidate: 2.0-1
+  Version table:
+ *** 2.0-1 500
+        500 sid
+     1.0-1 999
+        500 main
+--
+pin '*' release sid 100
+pin foo release main 700
+policy
+=>
+Package files:
+ 500 main
+ 100 sid
+ 100 status
+Pinned packages:
+     foo -> 1.0-1 with priority 700
+--
+show foo=1.0-1 nope foo=9
+=>
+Package: foo
+Version: 1.0-1
+
+N: Unable to locate package nope
+N: Version 9 of foo was not found
+--
+show --no-all-versions foo
+=>
+Package: foo
+Version: 2.0-1
+
+--
+show -a --no-all-versions foo
+show --no-all-versions foo --all-versions
+show foo -a
+=>
+Package: foo
+Version: 2.0-1
+
+Package: foo
+Version: 2.0-1
+
+Package: foo
+Version: 1.0-1
+
+Package: foo
+Version: 2.0-1
+
+Package: foo
+Version: 1.0-1
+
+",
     )
 }
 
@@ -67,16 +188,70 @@ fn worked_policies(rt: HostRuntime) -> Result<(), Fail> {
 fn a_list_that_goes_takes_its_rows_along(rt: HostRuntime) -> Result<(), Fail> {
     each_writes(
         &rt,
-        &[
-            (
-                b"add-list sid packages\nPackage: foo\nVersion: 2.0-1\n.\nadd-list main packages\nPackage: foo\nVersion: 1.0-1\n.\nmark foo 1.0-1\npolicy foo\ndrop-list main\npolicy foo\nadd-list main packages\nPackage: foo\nVersion: 1.0-1\n.\npolicy foo\n",
-                b"foo:\n  Installed: 1.0-1\n  Candidate: 2.0-1\n  Version table:\n     2.0-1 500\n        500 sid\n *** 1.0-1 500\n        500 main\nfoo:\n  Installed: (none)\n  Candidate: 2.0-1\n  Version table:\n     2.0-1 500\n        500 sid\nfoo:\n  Installed: 1.0-1\n  Candidate: 2.0-1\n  Version table:\n     2.0-1 500\n        500 sid\n *** 1.0-1 500\n        500 main\n",
-            ),
-            (
-                b"add-list status status\nPackage: old\nStatus: deinstall ok config-files\n\nPackage: foo\nStatus: install ok installed\nVersion: 1\n.\npkgnames\npkgnames --all-names\npolicy old foo\n",
-                b"foo\nfoo\nN: Unable to locate package old\nfoo:\n  Installed: 1\n  Candidate: 1\n  Version table:\n *** 1 100\n        100 status\n",
-            ),
-        ],
+        b"
+add-list sid packages
+Package: foo
+Version: 2.0-1
+.
+add-list main packages
+Package: foo
+Version: 1.0-1
+.
+mark foo 1.0-1
+policy foo
+drop-list main
+policy foo
+add-list main packages
+Package: foo
+Version: 1.0-1
+.
+policy foo
+=>
+foo:
+  Installed: 1.0-1
+  Candidate: 2.0-1
+  Version table:
+     2.0-1 500
+        500 sid
+ *** 1.0-1 500
+        500 main
+foo:
+  Installed: (none)
+  Candidate: 2.0-1
+  Version table:
+     2.0-1 500
+        500 sid
+foo:
+  Installed: 1.0-1
+  Candidate: 2.0-1
+  Version table:
+     2.0-1 500
+        500 sid
+ *** 1.0-1 500
+        500 main
+--
+add-list status status
+Package: old
+Status: deinstall ok config-files
+
+Package: foo
+Status: install ok installed
+Version: 1
+.
+pkgnames
+pkgnames --all-names
+policy old foo
+=>
+foo
+foo
+N: Unable to locate package old
+foo:
+  Installed: 1
+  Candidate: 1
+  Version table:
+ *** 1 100
+        100 status
+",
     )
 }
 
@@ -84,10 +259,41 @@ fn a_list_that_goes_takes_its_rows_along(rt: HostRuntime) -> Result<(), Fail> {
 fn names_that_are_not_known_do_not_stop_the_others(rt: HostRuntime) -> Result<(), Fail> {
     each_writes(
         &rt,
-        &[(
-            b"add-list m packages\nPackage: a\nVersion: 1\nEnhances: e\nProvides: v\n.\nshow v v=1 a=2-\nshow v v=1 a=02 a\nshow u\npolicy u a e u\n",
-            b"E: line 7: bad version\nN: Unable to locate package v\nN: Unable to locate package v\nN: Version 02 of a was not found\nPackage: a\nVersion: 1\nEnhances: e\nProvides: v\n\nN: Unable to locate package u\nN: Unable to locate package u\na:\n  Installed: (none)\n  Candidate: 1\n  Version table:\n     1 500\n        500 m\ne:\n  Installed: (none)\n  Candidate: (none)\n  Version table:\nN: Unable to locate package u\n",
-        )],
+        b"
+add-list m packages
+Package: a
+Version: 1
+Enhances: e
+Provides: v
+.
+show v v=1 a=2-
+show v v=1 a=02 a
+show u
+policy u a e u
+=>
+E: line 7: bad version
+N: Unable to locate package v
+N: Unable to locate package v
+N: Version 02 of a was not found
+Package: a
+Version: 1
+Enhances: e
+Provides: v
+
+N: Unable to locate package u
+N: Unable to locate package u
+a:
+  Installed: (none)
+  Candidate: 1
+  Version table:
+     1 500
+        500 m
+e:
+  Installed: (none)
+  Candidate: (none)
+  Version table:
+N: Unable to locate package u
+",
     )
 }
 
@@ -95,20 +301,48 @@ fn names_that_are_not_known_do_not_stop_the_others(rt: HostRuntime) -> Result<()
 fn words_of_queries(rt: HostRuntime) -> Result<(), Fail> {
     each_writes(
         &rt,
-        &[
-            (
-                b"show\nshow -\nshow a -x\nshow a! b\nshow a=\nshow a=1_0 b!\nshow b!=1_0\nshow =1\n",
-                b"E: line 1: bad arguments\nE: line 2: bad arguments\nE: line 3: bad arguments\nE: line 4: bad name\nE: line 5: bad version\nE: line 6: bad version\nE: line 7: bad name\nE: line 8: bad name\n",
-            ),
-            (
-                b"policy --\npolicy -a\npolicy a!\npolicy ''\npkgnames a b\npkgnames --all\npkgnames --all-names --all-names a b\n",
-                b"E: line 1: bad arguments\nE: line 2: bad arguments\nE: line 3: bad name\nE: line 4: bad name\nE: line 5: bad arguments\nE: line 6: bad arguments\nE: line 7: bad arguments\n",
-            ),
-            (
-                b"pkgnames 'a!'\npkgnames ''\npkgnames --all-names ' '\nshow a=1=2\n",
-                b"E: line 4: bad version\n",
-            ),
-        ],
+        b"
+show
+show -
+show a -x
+show a! b
+show a=
+show a=1_0 b!
+show b!=1_0
+show =1
+=>
+E: line 1: bad arguments
+E: line 2: bad arguments
+E: line 3: bad arguments
+E: line 4: bad name
+E: line 5: bad version
+E: line 6: bad version
+E: line 7: bad name
+E: line 8: bad name
+--
+policy --
+policy -a
+policy a!
+policy ''
+pkgnames a b
+pkgnames --all
+pkgnames --all-names --all-names a b
+=>
+E: line 1: bad arguments
+E: line 2: bad arguments
+E: line 3: bad name
+E: line 4: bad name
+E: line 5: bad arguments
+E: line 6: bad arguments
+E: line 7: bad arguments
+--
+pkgnames 'a!'
+pkgnames ''
+pkgnames --all-names ' '
+show a=1=2
+=>
+E: line 4: bad version
+",
     )
 }
 
@@ -117,15 +351,41 @@ fn names_with_options(rt: HostRuntime) -> Result<(), Fail> {
     each_writes_behind(
         &rt,
         b"add-list m packages\nPackage: b\nVersion: 1\nDepends: bb | c\nProvides: ba (= 1)\n\nPackage: a\nVersion: 1\nSuggests: d:any\n.\n",
-        &[
-            (b"pkgnames\n", b"a\nb\n"),
-            (b"pkgnames b\n", b"b\n"),
-            (b"pkgnames --all-names\n", b"a\nb\nba\nbb\nc\nd\n"),
-            (b"pkgnames b --all-names\n", b"b\nba\nbb\n"),
-            (b"pkgnames --all-names bb\n", b"bb\n"),
-            (b"pkgnames --all-names x\n", b""),
-            (b"pkgnames ba\n", b""),
-        ],
+        b"
+pkgnames
+=>
+a
+b
+--
+pkgnames b
+=>
+b
+--
+pkgnames --all-names
+=>
+a
+b
+ba
+bb
+c
+d
+--
+pkgnames b --all-names
+=>
+b
+ba
+bb
+--
+pkgnames --all-names bb
+=>
+bb
+--
+pkgnames --all-names x
+=>
+--
+pkgnames ba
+=>
+",
     )
 }
 
@@ -133,16 +393,63 @@ fn names_with_options(rt: HostRuntime) -> Result<(), Fail> {
 fn priorities_stand_in_four_places(rt: HostRuntime) -> Result<(), Fail> {
     each_writes(
         &rt,
-        &[
-            (
-                b"add-list none packages notauto\nPackage: a\nVersion: 1\n.\nadd-list s status\nPackage: a\nStatus: x x installed\nVersion: 1\n.\ntarget none\npolicy\ntarget s\npin * release s -10000\npolicy\npin a release none 3\npolicy a\n",
-                b"Package files:\n   1 none\n 100 s\nPinned packages:\nPackage files:\n   1 none\n-10000 s\nPinned packages:\na:\n  Installed: 1\n  Candidate: 1\n  Version table:\n *** 1 3\n          1 none\n       -10000 s\n",
-            ),
-            (
-                b"add-list m packages\nPackage: a\nVersion: 1\nDepends: x\n\nPackage: a\nVersion: 2\nDepends: y\n.\nmark a 1\npin * release m -5\npolicy a\nshow --no-all-versions a\n",
-                b"a:\n  Installed: 1\n  Candidate: (none)\n  Version table:\n     2 -5\n         -5 m\n *** 1 -5\n         -5 m\n",
-            ),
-        ],
+        b"
+add-list none packages notauto
+Package: a
+Version: 1
+.
+add-list s status
+Package: a
+Status: x x installed
+Version: 1
+.
+target none
+policy
+target s
+pin * release s -10000
+policy
+pin a release none 3
+policy a
+=>
+Package files:
+   1 none
+ 100 s
+Pinned packages:
+Package files:
+   1 none
+-10000 s
+Pinned packages:
+a:
+  Installed: 1
+  Candidate: 1
+  Version table:
+ *** 1 3
+          1 none
+       -10000 s
+--
+add-list m packages
+Package: a
+Version: 1
+Depends: x
+
+Package: a
+Version: 2
+Depends: y
+.
+mark a 1
+pin * release m -5
+policy a
+show --no-all-versions a
+=>
+a:
+  Installed: 1
+  Candidate: (none)
+  Version table:
+     2 -5
+         -5 m
+ *** 1 -5
+         -5 m
+",
     )
 }
 
@@ -150,17 +457,52 @@ fn priorities_stand_in_four_places(rt: HostRuntime) -> Result<(), Fail> {
 fn pinned_rows_are_told(rt: HostRuntime) -> Result<(), Fail> {
     each_writes(
         &rt,
-        &[
-            (
-                b"add-list m packages\nPackage: a\nVersion: 1\n.\npin a version 1* 5\npin a version 1 7\npin a version 1* 9\npolicy\n",
-                b"Package files:\n 500 m\nPinned packages:\n     a -> 1 with priority 9\n",
-            ),
-            (
-                b"add-list A packages\n.\nadd-list B packages\nPackage: f\nVersion: 1.0-0\n.\npin f version 1.0-* 7\npin f version 0:1.00 8\npolicy\nput A\nPackage: f\nVersion: 1.0\n.\npolicy\n",
-                b"Package files:\n 500 A\n 500 B\nPinned packages:\n     f -> 1.0-0 with priority 7\nPackage files:\n 500 A\n 500 B\nPinned packages:\n     f -> 1.0 with priority 8\n",
-            ),
-            (b"policy\n", b"Package files:\nPinned packages:\n"),
-        ],
+        b"
+add-list m packages
+Package: a
+Version: 1
+.
+pin a version 1* 5
+pin a version 1 7
+pin a version 1* 9
+policy
+=>
+Package files:
+ 500 m
+Pinned packages:
+     a -> 1 with priority 9
+--
+add-list A packages
+.
+add-list B packages
+Package: f
+Version: 1.0-0
+.
+pin f version 1.0-* 7
+pin f version 0:1.00 8
+policy
+put A
+Package: f
+Version: 1.0
+.
+policy
+=>
+Package files:
+ 500 A
+ 500 B
+Pinned packages:
+     f -> 1.0-0 with priority 7
+Package files:
+ 500 A
+ 500 B
+Pinned packages:
+     f -> 1.0 with priority 8
+--
+policy
+=>
+Package files:
+Pinned packages:
+",
     )
 }
 
@@ -168,10 +510,38 @@ fn pinned_rows_are_told(rt: HostRuntime) -> Result<(), Fail> {
 fn a_mark_does_not_give_way_to_the_status_list(rt: HostRuntime) -> Result<(), Fail> {
     each_writes(
         &rt,
-        &[(
-            b"add-list status status\nPackage: a\nStatus: x x installed\nVersion: 1.0\n.\nmark a 9\npolicy a\nmark a 0:1.0-0\npolicy a\nmark a none\npolicy a\n",
-            b"a:\n  Installed: (none)\n  Candidate: 1.0\n  Version table:\n     1.0 100\n        100 status\na:\n  Installed: 1.0\n  Candidate: 1.0\n  Version table:\n *** 1.0 100\n        100 status\na:\n  Installed: (none)\n  Candidate: 1.0\n  Version table:\n     1.0 100\n        100 status\n",
-        )],
+        b"
+add-list status status
+Package: a
+Status: x x installed
+Version: 1.0
+.
+mark a 9
+policy a
+mark a 0:1.0-0
+policy a
+mark a none
+policy a
+=>
+a:
+  Installed: (none)
+  Candidate: 1.0
+  Version table:
+     1.0 100
+        100 status
+a:
+  Installed: 1.0
+  Candidate: 1.0
+  Version table:
+ *** 1.0 100
+        100 status
+a:
+  Installed: (none)
+  Candidate: 1.0
+  Version table:
+     1.0 100
+        100 status
+",
     )
 }
 

@@ -7,31 +7,48 @@ use std::test::Fail;
 fn bodies_are_bytes(rt: HostRuntime) -> Result<(), Fail> {
     each_writes(
         &rt,
-        &[
-            // a carriage return is a byte like any other
-            (
-                b"add-list m packages\nPackage: a\r\nVersion: 1\n.\n",
-                b"E: line 2: bad name\n",
-            ),
-            (
-                b"add-list m packages\nPackage: a\nVersion: 1\n.\r\n.\n",
-                b"E: line 4: not a control line\n",
-            ),
-            // only a line that is exactly a dot ends a body
-            (
-                b"add-list m packages\nPackage: a\nVersion: 1\n. \n.\n",
-                b"E: line 4: not a control line\n",
-            ),
-            // bodies are no text in UTF-8
-            (
-                b"add-list m packages\nPackage: a\nVersion: 1\nX: \xff\xfe\n.\npkgnames",
-                b"a\n",
-            ),
-            (
-                b"add-list m packages\nPackage: \xff\nVersion: 1\n.\npkgnames",
-                b"E: line 2: bad name\n",
-            ),
-        ],
+        b"
+-- a carriage return is a byte like any other
+add-list m packages
+Package: a\r
+Version: 1
+.
+=>
+E: line 2: bad name
+--
+add-list m packages
+Package: a
+Version: 1
+.\r
+.
+=>
+E: line 4: not a control line
+-- only a line that is exactly a dot ends a body
+add-list m packages
+Package: a
+Version: 1
+.\x20
+.
+=>
+E: line 4: not a control line
+-- bodies are no text in UTF-8
+add-list m packages
+Package: a
+Version: 1
+X: \xff\xfe
+.
+pkgnames
+->
+a
+--
+add-list m packages
+Package: \xff
+Version: 1
+.
+pkgnames
+->
+E: line 2: bad name
+",
     )
 }
 
@@ -39,34 +56,63 @@ fn bodies_are_bytes(rt: HostRuntime) -> Result<(), Fail> {
 fn a_body_is_taken_in_whatever_the_words_are(rt: HostRuntime) -> Result<(), Fail> {
     each_writes(
         &rt,
-        &[
-            (
-                b"add-list 'm packages\npkgnames\n.\nput\nfrob\n.\nprefs x\nfrob\n.\n",
-                b"E: line 1: bad arguments\nE: line 4: bad arguments\nE: line 7: bad arguments\n",
-            ),
-            (
-                b"add-list 'open\nPackage: a\n\n\n",
-                b"E: line 4: body has no end\n",
-            ),
-            (b"prefs", b"E: line 1: body has no end\n"),
-            (
-                b"add-list m packages\n# x\n.\n",
-                b"E: line 2: not a control line\n",
-            ),
-            // no command but the three has a body
-            (
-                b"drop-list m\nPackage: a\n.\n",
-                b"E: line 1: no such list\nE: line 2: unknown command\nE: line 3: unknown command\n",
-            ),
-            (
-                b"add-list m packages\nPackage: a\nVersion: 1\nDescription: x\n .\n.\r\n.\npkgnames\n",
-                b"E: line 6: not a control line\n",
-            ),
-            (
-                b"add-lists m packages\n.\n",
-                b"E: line 1: unknown command\nE: line 2: unknown command\n",
-            ),
-        ],
+        b"
+add-list 'm packages
+pkgnames
+.
+put
+frob
+.
+prefs x
+frob
+.
+=>
+E: line 1: bad arguments
+E: line 4: bad arguments
+E: line 7: bad arguments
+--
+add-list 'open
+Package: a
+
+
+=>
+E: line 4: body has no end
+--
+prefs
+->
+E: line 1: body has no end
+--
+add-list m packages
+# x
+.
+=>
+E: line 2: not a control line
+-- no command but the three has a body
+drop-list m
+Package: a
+.
+=>
+E: line 1: no such list
+E: line 2: unknown command
+E: line 3: unknown command
+--
+add-list m packages
+Package: a
+Version: 1
+Description: x
+ .
+.\r
+.
+pkgnames
+=>
+E: line 6: not a control line
+--
+add-lists m packages
+.
+=>
+E: line 1: unknown command
+E: line 2: unknown command
+",
     )
 }
 
@@ -74,10 +120,20 @@ fn a_body_is_taken_in_whatever_the_words_are(rt: HostRuntime) -> Result<(), Fail
 fn a_refused_body_adds_nothing(rt: HostRuntime) -> Result<(), Fail> {
     each_writes(
         &rt,
-        &[(
-            b"add-list main packages\nPackage: a\nVersion: 1\n\nPackage: b\nVersion: 1\n\nPackage: c\n.\npkgnames\n",
-            b"E: line 8: required field missing\n",
-        )],
+        b"
+add-list main packages
+Package: a
+Version: 1
+
+Package: b
+Version: 1
+
+Package: c
+.
+pkgnames
+=>
+E: line 8: required field missing
+",
     )
 }
 
@@ -85,28 +141,52 @@ fn a_refused_body_adds_nothing(rt: HostRuntime) -> Result<(), Fail> {
 fn real_control_text_is_read(rt: HostRuntime) -> Result<(), Fail> {
     each_writes(
         &rt,
-        &[
-            (
-                b"add-list m packages\nPackage: a\nVersion: 1\nDescription: x\n more\n .\n\tlast\n.\npkgnames\n",
-                b"a\n",
-            ),
-            (
-                b"add-list m packages\n more\nPackage: a\nVersion: 1\n.\n",
-                b"E: line 2: not a control line\n",
-            ),
-            (
-                b"add-list m packages\nPackage: a\nVersion: 1\nDepends: b (>= 1), c | d:any\n.\npkgnames\n",
-                b"a\n",
-            ),
-            (
-                b"add-list m packages\nPackage: a\nVersion: 1\nDepends: b (>= 1\n.\n",
-                b"E: line 4: bad relation field\n",
-            ),
-            (
-                b"add-list m packages\nPackage: a\nVersion: 1 2\nDepends: b (\n.\n",
-                b"E: line 3: bad version\n",
-            ),
-        ],
+        b"
+add-list m packages
+Package: a
+Version: 1
+Description: x
+ more
+ .
+\tlast
+.
+pkgnames
+=>
+a
+--
+add-list m packages
+ more
+Package: a
+Version: 1
+.
+=>
+E: line 2: not a control line
+--
+add-list m packages
+Package: a
+Version: 1
+Depends: b (>= 1), c | d:any
+.
+pkgnames
+=>
+a
+--
+add-list m packages
+Package: a
+Version: 1
+Depends: b (>= 1
+.
+=>
+E: line 4: bad relation field
+--
+add-list m packages
+Package: a
+Version: 1 2
+Depends: b (
+.
+=>
+E: line 3: bad version
+",
     )
 }
 
@@ -114,55 +194,105 @@ fn real_control_text_is_read(rt: HostRuntime) -> Result<(), Fail> {
 fn the_least_faulty_line_is_told(rt: HostRuntime) -> Result<(), Fail> {
     each_writes(
         &rt,
-        &[
-            // a stanza with a faulty line has no other fault
-            (
-                b"add-list m packages\nPackage: a!\nVersion: 1_\noops\n.\n",
-                b"E: line 4: not a control line\n",
-            ),
-            // a field that is continued is not empty
-            (
-                b"add-list m packages\nPackage: a\nVersion:\n 1\n.\n",
-                b"E: line 3: bad version\n",
-            ),
-            (
-                b"add-list m packages\nPackage:\n a\nVersion: 1\n.\n",
-                b"E: line 2: bad name\n",
-            ),
-            (
-                b"add-list m packages\nPackage: a\nVersion: \t\n.\n",
-                b"E: line 2: required field missing\n",
-            ),
-            // the line of a relation field is its first one
-            (
-                b"add-list m packages\nPackage: a\nVersion: 1\nDepends:\n x (>=\n 1),\n y z\n.\n",
-                b"E: line 4: bad relation field\n",
-            ),
-            (
-                b"add-list m packages\nPackage: a\nVersion: 1\nDepends:\n x (>=\n  1) |\n y\n.\npkgnames\n",
-                b"a\n",
-            ),
-            (
-                b"add-list m packages\nPackage: a\nVersion: 1\nDepends: b [amd64]\n.\n",
-                b"E: line 4: bad relation field\n",
-            ),
-            (
-                b"add-list m packages\nPackage: a\nVersion: 1_0\n.\n",
-                b"E: line 3: bad version\n",
-            ),
-            (
-                b"add-list m packages\nPackage: a\nVersion: 1\nConflicts: b | c\n.\n",
-                b"E: line 4: bad relation field\n",
-            ),
-            (
-                b"add-list m packages\nPackage: a\nVersion: 1\nEnhances: b | c\nProvides: v:any (= 1)\n.\npkgnames\n",
-                b"a\n",
-            ),
-            (
-                b"add-list m packages\nPackage: a!\nVersion: 1\n\nPackage: b\nPACKAGE: b\n.\n",
-                b"E: line 2: bad name\n",
-            ),
-        ],
+        b"
+-- a stanza with a faulty line has no other fault
+add-list m packages
+Package: a!
+Version: 1_
+oops
+.
+=>
+E: line 4: not a control line
+-- a field that is continued is not empty
+add-list m packages
+Package: a
+Version:
+ 1
+.
+=>
+E: line 3: bad version
+--
+add-list m packages
+Package:
+ a
+Version: 1
+.
+=>
+E: line 2: bad name
+--
+add-list m packages
+Package: a
+Version: \t
+.
+=>
+E: line 2: required field missing
+-- the line of a relation field is its first one
+add-list m packages
+Package: a
+Version: 1
+Depends:
+ x (>=
+ 1),
+ y z
+.
+=>
+E: line 4: bad relation field
+--
+add-list m packages
+Package: a
+Version: 1
+Depends:
+ x (>=
+  1) |
+ y
+.
+pkgnames
+=>
+a
+--
+add-list m packages
+Package: a
+Version: 1
+Depends: b [amd64]
+.
+=>
+E: line 4: bad relation field
+--
+add-list m packages
+Package: a
+Version: 1_0
+.
+=>
+E: line 3: bad version
+--
+add-list m packages
+Package: a
+Version: 1
+Conflicts: b | c
+.
+=>
+E: line 4: bad relation field
+--
+add-list m packages
+Package: a
+Version: 1
+Enhances: b | c
+Provides: v:any (= 1)
+.
+pkgnames
+=>
+a
+--
+add-list m packages
+Package: a!
+Version: 1
+
+Package: b
+PACKAGE: b
+.
+=>
+E: line 2: bad name
+",
     )
 }
 
@@ -170,33 +300,65 @@ fn the_least_faulty_line_is_told(rt: HostRuntime) -> Result<(), Fail> {
 fn little_is_asked_of_what_is_not_live(rt: HostRuntime) -> Result<(), Fail> {
     each_writes(
         &rt,
-        &[
-            (
-                b"add-list status status\nPackage: old\nStatus: deinstall ok config-files\n\nPackage: foo\nStatus: install ok installed\nVersion: 1\n.\npkgnames\n",
-                b"foo\n",
-            ),
-            // it has no version, so none is found
-            (
-                b"add-list status status\nPackage: old\nStatus: deinstall ok config-files\nVersion: 1_0\nDepends: a [x]\n.\npkgnames\nremove status old 1\n",
-                b"E: line 8: no such stanza\n",
-            ),
-            (
-                b"add-list s status\nPackage: a\nStatus: x x half-installed\n\nPackage: b\nStatus: x x triggers-pending\nVersion: 1\n.\npkgnames\n",
-                b"b\n",
-            ),
-            (
-                b"add-list s status\nPackage: a\nStatus: x x odd\nVersion: 1\n.\n",
-                b"E: line 2: required field missing\n",
-            ),
-            (
-                b"add-list s status\nVersion: 1\nPackage: a\nStatus: installed\n.\n",
-                b"E: line 2: required field missing\n",
-            ),
-            (
-                b"add-list s status\nPackage: a!\nStatus: x x config-files\n.\n",
-                b"E: line 2: bad name\n",
-            ),
-        ],
+        b"
+add-list status status
+Package: old
+Status: deinstall ok config-files
+
+Package: foo
+Status: install ok installed
+Version: 1
+.
+pkgnames
+=>
+foo
+-- it has no version, so none is found
+add-list status status
+Package: old
+Status: deinstall ok config-files
+Version: 1_0
+Depends: a [x]
+.
+pkgnames
+remove status old 1
+=>
+E: line 8: no such stanza
+--
+add-list s status
+Package: a
+Status: x x half-installed
+
+Package: b
+Status: x x triggers-pending
+Version: 1
+.
+pkgnames
+=>
+b
+--
+add-list s status
+Package: a
+Status: x x odd
+Version: 1
+.
+=>
+E: line 2: required field missing
+--
+add-list s status
+Version: 1
+Package: a
+Status: installed
+.
+=>
+E: line 2: required field missing
+--
+add-list s status
+Package: a!
+Status: x x config-files
+.
+=>
+E: line 2: bad name
+",
     )
 }
 
@@ -204,11 +366,40 @@ fn little_is_asked_of_what_is_not_live(rt: HostRuntime) -> Result<(), Fail> {
 fn lists_come_before_bodies_and_bodies_before_their_count(rt: HostRuntime) -> Result<(), Fail> {
     each_writes(
         &rt,
-        &[(
-            b"put nope\noops\n.\nadd-list m packages\n.\nadd-list m packages\noops\n.\nput m\nPackage: a\nVersion: 1\n\n\
-         Package: b\n.\nput m\n.\nput m\nPackage: a\nVersion: 1\n\nPackage: a\nVersion: 1\n.\nadd-list m status\nPackage: a\n.\n",
-            b"E: line 1: no such list\nE: line 7: not a control line\nE: line 13: required field missing\n\
-        E: line 15: body is not one stanza\nE: line 17: body is not one stanza\nE: line 25: required field missing\n",
-        )],
+        b"
+put nope
+oops
+.
+add-list m packages
+.
+add-list m packages
+oops
+.
+put m
+Package: a
+Version: 1
+
+Package: b
+.
+put m
+.
+put m
+Package: a
+Version: 1
+
+Package: a
+Version: 1
+.
+add-list m status
+Package: a
+.
+=>
+E: line 1: no such list
+E: line 7: not a control line
+E: line 13: required field missing
+E: line 15: body is not one stanza
+E: line 17: body is not one stanza
+E: line 25: required field missing
+",
     )
 }

@@ -7,53 +7,109 @@ use std::test::Fail;
 fn comments_of_preferences_are_as_if_not_there(rt: HostRuntime) -> Result<(), Fail> {
     each_writes(
         &rt,
-        &[
-            (
-                b"prefs\nPackage: a\n# x\n b\nPin: version 1\nPin-Priority: 5\n#\nPackage: c\nPin: version 1\nPin-Priority: 5\n.\n",
-                b"E: line 8: field given twice\n",
-            ),
-            (
-                b"prefs\n# x\nPackage: a\nPin: version 1\n.\n",
-                b"E: line 3: required field missing\n",
-            ),
-            (
-                b"prefs\nPackage: a\n# x\n b\nPin: version 1\nPin-Priority: 5\n.\nunpin b version 1\nunpin a version 1\n",
-                b"",
-            ),
-            (
-                b"prefs\nPackage: *\nPin: version 1\nPin-Priority: 5\n.\n",
-                b"E: line 3: bad pin record\n",
-            ),
-            // a version that is none comes before the form
-            (
-                b"prefs\nPackage: *\nPin: version 1_\nPin-Priority: 5\n.\n",
-                b"E: line 3: bad version\n",
-            ),
-            (
-                b"prefs\nPackage: a\nPin: release a=\nPin-Priority: 0\n\noops\n.\n",
-                b"E: line 3: bad name\n",
-            ),
-            (
-                b"prefs\nPin-Priority: 0\nPackage: a !\nPin: x\n.\n",
-                b"E: line 2: bad priority\n",
-            ),
-            (
-                b"prefs\nPackage: a *\nPin: version 1\nPin-Priority: 5\n.\n",
-                b"E: line 2: bad name\n",
-            ),
-            (
-                b"prefs\nPackage: a\nPin: release a=m\nPin-Priority: 5\nX: 1\nX: 2\n.\n",
-                b"E: line 6: field given twice\n",
-            ),
-            (
-                b"prefs\nPackage: a\nPin: release  a=m\nPin-Priority: -5\nUnknown: x\n.\nunpin a release m\n",
-                b"",
-            ),
-            (
-                b"prefs\nPackage: a\nPin: release o=Debian\nPin-Priority: 5\n.\n",
-                b"E: line 3: bad pin record\n",
-            ),
-        ],
+        b"
+prefs
+Package: a
+# x
+ b
+Pin: version 1
+Pin-Priority: 5
+#
+Package: c
+Pin: version 1
+Pin-Priority: 5
+.
+=>
+E: line 8: field given twice
+--
+prefs
+# x
+Package: a
+Pin: version 1
+.
+=>
+E: line 3: required field missing
+--
+prefs
+Package: a
+# x
+ b
+Pin: version 1
+Pin-Priority: 5
+.
+unpin b version 1
+unpin a version 1
+=>
+--
+prefs
+Package: *
+Pin: version 1
+Pin-Priority: 5
+.
+=>
+E: line 3: bad pin record
+-- a version that is none comes before the form
+prefs
+Package: *
+Pin: version 1_
+Pin-Priority: 5
+.
+=>
+E: line 3: bad version
+--
+prefs
+Package: a
+Pin: release a=
+Pin-Priority: 0
+
+oops
+.
+=>
+E: line 3: bad name
+--
+prefs
+Pin-Priority: 0
+Package: a !
+Pin: x
+.
+=>
+E: line 2: bad priority
+--
+prefs
+Package: a *
+Pin: version 1
+Pin-Priority: 5
+.
+=>
+E: line 2: bad name
+--
+prefs
+Package: a
+Pin: release a=m
+Pin-Priority: 5
+X: 1
+X: 2
+.
+=>
+E: line 6: field given twice
+--
+prefs
+Package: a
+Pin: release  a=m
+Pin-Priority: -5
+Unknown: x
+.
+unpin a release m
+=>
+--
+prefs
+Package: a
+Pin: release o=Debian
+Pin-Priority: 5
+.
+=>
+E: line 3: bad pin record
+",
     )
 }
 
@@ -61,30 +117,98 @@ fn comments_of_preferences_are_as_if_not_there(rt: HostRuntime) -> Result<(), Fa
 fn preferences_take_the_place_of_all_pins(rt: HostRuntime) -> Result<(), Fail> {
     each_leaves(
         &rt,
-        &[
-            (
-                b"target main\npin a version 1 7\n\
-             prefs\nExplanation: keep\nExplanation: the old one\nPackage: foo bar\nPin: version 1.0*\nPin-Priority: 1001\n\n\
-             Package: *\nPin: release a=sid\nPin-Priority: 50\n\nPackage: foo\nPin: version 1.0*\nPin-Priority: 1\n.\n",
-                b"pin foo version 1.0* 1001\npin bar version 1.0* 1001\npin * release sid 50\ntarget main\n0 stanzas, 3 edits\n",
-            ),
-            // the first of two records counts
-            (
-                b"prefs\nPackage: a a\nPin: release a=m\nPin-Priority: 5\n\nPackage: a\nPin: release a=m\nPin-Priority: 6\n\n\
-             Package: a\nPin: version 1\nPin-Priority: 8\n.\n",
-                b"pin a release m 5\npin a version 1 8\n0 stanzas, 1 edits\n",
-            ),
-            (b"pin a version 1 7\nprefs\n.\n", b"0 stanzas, 2 edits\n"),
-            // those that are refused change nothing
-            (
-                b"pin a version 1 7\n\
-             prefs\nPackage: bar\nPin: version 2\nPin-Priority: 5\n\nPackage: foo\nPin: origin x\nPin-Priority: 500\n.\n\
-             prefs\nPackage: bar\nPin: version 2\nPin-Priority: 5\n\nPackage: foo\nPin: release a=a/b\nPin-Priority: 500\n.\n\
-             prefs\nPackage: bar\nPin: version 2\nPin-Priority: 5\n\nPackage: foo\nPin: version 1\nPin-Priority: 0\n.\n\
-             prefs\nPackage: bar\nPin: version 2\nPin-Priority: 5\n\nPackage: foo\nPin-Priority: 500\n.\n",
-                b"E: line 8: bad pin record\nE: line 17: bad name\nE: line 27: bad priority\nE: line 34: required field missing\n\
-             pin a version 1 7\n0 stanzas, 1 edits\n",
-            ),
-        ],
+        b"
+target main
+pin a version 1 7
+prefs
+Explanation: keep
+Explanation: the old one
+Package: foo bar
+Pin: version 1.0*
+Pin-Priority: 1001
+
+Package: *
+Pin: release a=sid
+Pin-Priority: 50
+
+Package: foo
+Pin: version 1.0*
+Pin-Priority: 1
+.
+=>
+pin foo version 1.0* 1001
+pin bar version 1.0* 1001
+pin * release sid 50
+target main
+0 stanzas, 3 edits
+-- the first of two records counts
+prefs
+Package: a a
+Pin: release a=m
+Pin-Priority: 5
+
+Package: a
+Pin: release a=m
+Pin-Priority: 6
+
+Package: a
+Pin: version 1
+Pin-Priority: 8
+.
+=>
+pin a release m 5
+pin a version 1 8
+0 stanzas, 1 edits
+--
+pin a version 1 7
+prefs
+.
+=>
+0 stanzas, 2 edits
+-- those that are refused change nothing
+pin a version 1 7
+prefs
+Package: bar
+Pin: version 2
+Pin-Priority: 5
+
+Package: foo
+Pin: origin x
+Pin-Priority: 500
+.
+prefs
+Package: bar
+Pin: version 2
+Pin-Priority: 5
+
+Package: foo
+Pin: release a=a/b
+Pin-Priority: 500
+.
+prefs
+Package: bar
+Pin: version 2
+Pin-Priority: 5
+
+Package: foo
+Pin: version 1
+Pin-Priority: 0
+.
+prefs
+Package: bar
+Pin: version 2
+Pin-Priority: 5
+
+Package: foo
+Pin-Priority: 500
+.
+=>
+E: line 8: bad pin record
+E: line 17: bad name
+E: line 27: bad priority
+E: line 34: required field missing
+pin a version 1 7
+0 stanzas, 1 edits
+",
     )
 }

@@ -8,24 +8,83 @@ use std::test::Fail;
 fn clauses_that_are_not_met_follow_edits(rt: HostRuntime) -> Result<(), Fail> {
     each_writes(
         &rt,
-        &[
-            (
-                b"add-list main packages\nPackage: foo\nVersion: 1.0-1\nDepends: bar (>= 2), baz | qux\n\nPackage: bar\nVersion: 2.0\n.\nunmet\nput main\nPackage: quux\nVersion: 1\nProvides: baz\n.\nunmet\nremove main quux 1\nunmet\n",
-                b"Package foo version 1.0-1 has an unmet dep:\n Depends: baz | qux\nPackage foo version 1.0-1 has an unmet dep:\n Depends: baz | qux\n",
-            ),
-            (
-                b"add-list main packages\nPackage: u\nVersion: 1\nDepends: baz (>= 1)\n\nPackage: p\nVersion: 7\nProvides: baz\n.\nunmet\nput main\nPackage: p\nVersion: 7\nProvides: baz (= 1)\n.\nunmet\n",
-                b"Package u version 1 has an unmet dep:\n Depends: baz (>= 1)\n",
-            ),
-            (
-                b"add-list main packages\nPackage: s\nVersion: 1\nDepends: x\nProvides: x, x\n\nPackage: t\nVersion: 1\nDepends: x\n.\nunmet\nput main\nPackage: s\nVersion: 1\nDepends: x\nProvides: x, x\n.\nunmet\nremove main s 1\nunmet\n",
-                b"Package t version 1 has an unmet dep:\n Depends: x\n",
-            ),
-            (
-                b"add-list main packages\nPackage: m\nVersion: 1\nDepends: gone\n.\ndrop-list main\nunmet\n",
-                b"",
-            ),
-        ],
+        b"
+add-list main packages
+Package: foo
+Version: 1.0-1
+Depends: bar (>= 2), baz | qux
+
+Package: bar
+Version: 2.0
+.
+unmet
+put main
+Package: quux
+Version: 1
+Provides: baz
+.
+unmet
+remove main quux 1
+unmet
+=>
+Package foo version 1.0-1 has an unmet dep:
+ Depends: baz | qux
+Package foo version 1.0-1 has an unmet dep:
+ Depends: baz | qux
+--
+add-list main packages
+Package: u
+Version: 1
+Depends: baz (>= 1)
+
+Package: p
+Version: 7
+Provides: baz
+.
+unmet
+put main
+Package: p
+Version: 7
+Provides: baz (= 1)
+.
+unmet
+=>
+Package u version 1 has an unmet dep:
+ Depends: baz (>= 1)
+--
+add-list main packages
+Package: s
+Version: 1
+Depends: x
+Provides: x, x
+
+Package: t
+Version: 1
+Depends: x
+.
+unmet
+put main
+Package: s
+Version: 1
+Depends: x
+Provides: x, x
+.
+unmet
+remove main s 1
+unmet
+=>
+Package t version 1 has an unmet dep:
+ Depends: x
+--
+add-list main packages
+Package: m
+Version: 1
+Depends: gone
+.
+drop-list main
+unmet
+=>
+",
     )
 }
 
@@ -34,40 +93,85 @@ fn worked_relations(rt: HostRuntime) -> Result<(), Fail> {
     each_writes_behind(
         &rt,
         b"add-list main packages\nPackage: m\nVersion: 1\nPre-Depends: mta\nDepends: m2 (<= 3)\nConflicts: mta\n\nPackage: exim\nVersion: 4\nProvides: mta\n\nPackage: m2\nVersion: 3.0\n.\n",
-        &[
-            (
-                b"depends m\n",
-                b"m\n  PreDepends: <mta>\n    exim\n  Depends: m2\n  Conflicts: <mta>\n    exim\n",
-            ),
-            (
-                b"depends -i m\n",
-                b"m\n  PreDepends: <mta>\n    exim\n  Depends: m2\n",
-            ),
-            (
-                b"depends m --important\n",
-                b"m\n  PreDepends: <mta>\n    exim\n  Depends: m2\n",
-            ),
-            (
-                b"showpkg mta\n",
-                b"Package: mta\nVersions:\n\nReverse Depends:\n  m 1 PreDepends: mta\n  m 1 Conflicts: mta\nDependencies:\nProvides:\nReverse Provides:\n  exim 4 mta\n",
-            ),
-            (
-                b"showpkg m exim\n",
-                b"Package: m\nVersions:\n1 (main)\n\nReverse Depends:\nDependencies:\n1 PreDepends: mta\n1 Depends: m2 (<= 3)\n1 Conflicts: mta\nProvides:\nReverse Provides:\nPackage: exim\nVersions:\n4 (main)\n\nReverse Depends:\nDependencies:\nProvides:\n4 mta\nReverse Provides:\n",
-            ),
-            (
-                b"unmet\n",
-                b"Package m version 1 has an unmet dep:\n Depends: m2 (<= 3)\n",
-            ),
-            (
-                b"rdepends mta m2\n",
-                b"mta\nReverse Depends:\n  m\nm2\nReverse Depends:\n  m\n",
-            ),
-            (
-                b"unmet -i\n",
-                b"Package m version 1 has an unmet dep:\n Depends: m2 (<= 3)\n",
-            ),
-        ],
+        b"
+depends m
+=>
+m
+  PreDepends: <mta>
+    exim
+  Depends: m2
+  Conflicts: <mta>
+    exim
+--
+depends -i m
+=>
+m
+  PreDepends: <mta>
+    exim
+  Depends: m2
+--
+depends m --important
+=>
+m
+  PreDepends: <mta>
+    exim
+  Depends: m2
+--
+showpkg mta
+=>
+Package: mta
+Versions:
+
+Reverse Depends:
+  m 1 PreDepends: mta
+  m 1 Conflicts: mta
+Dependencies:
+Provides:
+Reverse Provides:
+  exim 4 mta
+--
+showpkg m exim
+=>
+Package: m
+Versions:
+1 (main)
+
+Reverse Depends:
+Dependencies:
+1 PreDepends: mta
+1 Depends: m2 (<= 3)
+1 Conflicts: mta
+Provides:
+Reverse Provides:
+Package: exim
+Versions:
+4 (main)
+
+Reverse Depends:
+Dependencies:
+Provides:
+4 mta
+Reverse Provides:
+--
+unmet
+=>
+Package m version 1 has an unmet dep:
+ Depends: m2 (<= 3)
+--
+rdepends mta m2
+=>
+mta
+Reverse Depends:
+  m
+m2
+Reverse Depends:
+  m
+--
+unmet -i
+=>
+Package m version 1 has an unmet dep:
+ Depends: m2 (<= 3)
+",
     )
 }
 
@@ -76,24 +180,41 @@ fn alternatives_that_follow(rt: HostRuntime) -> Result<(), Fail> {
     each_writes_behind(
         &rt,
         b"add-list main packages\nPackage: p1\nVersion: 1\nDepends: python3:any | q, python3:any | r\n\nPackage: p2\nVersion: 1\nDepends: python3 | q\nConflicts: python3 (<< 2)\n\nPackage: p3\nVersion: 1\nDepends: q | python3\n.\n",
-        &[
-            (
-                b"rdepends python3\n",
-                b"python3\nReverse Depends:\n |p1\n  p2\n  p3\n",
-            ),
-            (
-                b"depends p1\n",
-                b"p1\n |Depends: <python3:any>\n  Depends: <q>\n |Depends: <python3:any>\n  Depends: <r>\n",
-            ),
-            (
-                b"rdepends q r\n",
-                b"q\nReverse Depends:\n  p1\n  p2\n |p3\nr\nReverse Depends:\n  p1\n",
-            ),
-            (
-                b"mark p1 1\nrdepends --installed q\n",
-                b"q\nReverse Depends:\n  p1\n",
-            ),
-        ],
+        b"
+rdepends python3
+=>
+python3
+Reverse Depends:
+ |p1
+  p2
+  p3
+--
+depends p1
+=>
+p1
+ |Depends: <python3:any>
+  Depends: <q>
+ |Depends: <python3:any>
+  Depends: <r>
+--
+rdepends q r
+=>
+q
+Reverse Depends:
+  p1
+  p2
+ |p3
+r
+Reverse Depends:
+  p1
+--
+mark p1 1
+rdepends --installed q
+=>
+q
+Reverse Depends:
+  p1
+",
     )
 }
 
@@ -102,20 +223,33 @@ fn what_is_installed(rt: HostRuntime) -> Result<(), Fail> {
     each_writes_behind(
         &rt,
         b"add-list main packages\nPackage: m\nVersion: 1\nDepends: mta, m2\n\nPackage: exim\nVersion: 4\nProvides: mta\n\nPackage: m2\nVersion: 3.0\n.\n",
-        &[
-            (
-                b"mark exim 4\ndepends --installed m\nrdepends --installed mta\n",
-                b"m\n  Depends: <mta>\n    exim\nmta\nReverse Depends:\n",
-            ),
-            (
-                b"mark m 1\ndepends --installed m\nrdepends --installed mta\n",
-                b"m\nmta\nReverse Depends:\n  m\n",
-            ),
-            (
-                b"mark m 1\nmark m2 3\nmark exim 9\ndepends m --installed\n",
-                b"m\n",
-            ),
-        ],
+        b"
+mark exim 4
+depends --installed m
+rdepends --installed mta
+=>
+m
+  Depends: <mta>
+    exim
+mta
+Reverse Depends:
+--
+mark m 1
+depends --installed m
+rdepends --installed mta
+=>
+m
+mta
+Reverse Depends:
+  m
+--
+mark m 1
+mark m2 3
+mark exim 9
+depends m --installed
+=>
+m
+",
     )
 }
 
@@ -123,16 +257,48 @@ fn what_is_installed(rt: HostRuntime) -> Result<(), Fail> {
 fn bars_go_by_the_group_as_written(rt: HostRuntime) -> Result<(), Fail> {
     each_writes(
         &rt,
-        &[
-            (
-                b"add-list m packages\nPackage: a\nVersion: 1\nDepends: x | y, z\n\nPackage: x\nVersion: 1\n.\nmark x 1\ndepends --installed a\n",
-                b"a\n |Depends: x\n",
-            ),
-            (
-                b"add-list m packages\nPackage: a\nVersion: 1\nDepends: x | y | z\n\nPackage: z\nVersion: 1\n\nPackage: p\nVersion: 1\nProvides: y\n.\nmark z 1\nmark p 1\ndepends --installed a\ndepends a\n",
-                b"a\n |Depends: <y>\n    p\n  Depends: z\na\n |Depends: <x>\n |Depends: <y>\n    p\n  Depends: z\n",
-            ),
-        ],
+        b"
+add-list m packages
+Package: a
+Version: 1
+Depends: x | y, z
+
+Package: x
+Version: 1
+.
+mark x 1
+depends --installed a
+=>
+a
+ |Depends: x
+--
+add-list m packages
+Package: a
+Version: 1
+Depends: x | y | z
+
+Package: z
+Version: 1
+
+Package: p
+Version: 1
+Provides: y
+.
+mark z 1
+mark p 1
+depends --installed a
+depends a
+=>
+a
+ |Depends: <y>
+    p
+  Depends: z
+a
+ |Depends: <x>
+ |Depends: <y>
+    p
+  Depends: z
+",
     )
 }
 
@@ -140,16 +306,58 @@ fn bars_go_by_the_group_as_written(rt: HostRuntime) -> Result<(), Fail> {
 fn providers_are_told_once(rt: HostRuntime) -> Result<(), Fail> {
     each_writes(
         &rt,
-        &[
-            (
-                b"add-list m packages\nPackage: q\nVersion: 1\nProvides: v (= 1), v (= 2), q\nDepends: v:any (>= 2) | q\n\nPackage: b\nVersion: 1\nProvides: v\n.\ndepends q\n",
-                b"q\n |Depends: <v:any>\n    q\n  Depends: q\n",
-            ),
-            (
-                b"add-list m packages\nPackage: a\nVersion: 1\nDepends: v\n\nPackage: c\nVersion: 1\nProvides: v, v\n\nPackage: b\nVersion: 2\nProvides: v\n\nPackage: b\nVersion: 1\nProvides: v\n.\nadd-list s status\nPackage: c\nStatus: x x installed\nVersion: 1-0\nProvides: v\n\nPackage: d\nStatus: x x config-files\nProvides: v\n.\ndepends a\n",
-                b"a\n  Depends: <v>\n    b\n    c\n",
-            ),
-        ],
+        b"
+add-list m packages
+Package: q
+Version: 1
+Provides: v (= 1), v (= 2), q
+Depends: v:any (>= 2) | q
+
+Package: b
+Version: 1
+Provides: v
+.
+depends q
+=>
+q
+ |Depends: <v:any>
+    q
+  Depends: q
+--
+add-list m packages
+Package: a
+Version: 1
+Depends: v
+
+Package: c
+Version: 1
+Provides: v, v
+
+Package: b
+Version: 2
+Provides: v
+
+Package: b
+Version: 1
+Provides: v
+.
+add-list s status
+Package: c
+Status: x x installed
+Version: 1-0
+Provides: v
+
+Package: d
+Status: x x config-files
+Provides: v
+.
+depends a
+=>
+a
+  Depends: <v>
+    b
+    c
+",
     )
 }
 
@@ -157,16 +365,56 @@ fn providers_are_told_once(rt: HostRuntime) -> Result<(), Fail> {
 fn packages_that_ask(rt: HostRuntime) -> Result<(), Fail> {
     each_writes(
         &rt,
-        &[
-            (
-                b"add-list m packages\nPackage: a\nVersion: 2\nDepends: x | y\n\nPackage: a\nVersion: 1\nSuggests: x\n\nPackage: b\nVersion: 1\nDepends: x | y, x | x | z\n\nPackage: c\nVersion: 1.0\n\nPackage: c\nVersion: 1.0-0\nDepends: x\n.\nrdepends x\n",
-                b"x\nReverse Depends:\n  a\n |b\n",
-            ),
-            (
-                b"add-list s status\nPackage: a\nStatus: x x installed\nVersion: 1.0\nDepends: a\n.\nmark a 9\nrdepends --installed a\ndepends --installed a\nunmark a\nrdepends --installed a\ndepends --installed a\n",
-                b"a\nReverse Depends:\na\na\nReverse Depends:\n  a\na\n  Depends: a\n",
-            ),
-        ],
+        b"
+add-list m packages
+Package: a
+Version: 2
+Depends: x | y
+
+Package: a
+Version: 1
+Suggests: x
+
+Package: b
+Version: 1
+Depends: x | y, x | x | z
+
+Package: c
+Version: 1.0
+
+Package: c
+Version: 1.0-0
+Depends: x
+.
+rdepends x
+=>
+x
+Reverse Depends:
+  a
+ |b
+--
+add-list s status
+Package: a
+Status: x x installed
+Version: 1.0
+Depends: a
+.
+mark a 9
+rdepends --installed a
+depends --installed a
+unmark a
+rdepends --installed a
+depends --installed a
+=>
+a
+Reverse Depends:
+a
+a
+Reverse Depends:
+  a
+a
+  Depends: a
+",
     )
 }
 
@@ -174,20 +422,63 @@ fn packages_that_ask(rt: HostRuntime) -> Result<(), Fail> {
 fn offers_of_every_live_stanza(rt: HostRuntime) -> Result<(), Fail> {
     each_writes(
         &rt,
-        &[
-            (
-                b"add-list A packages\nPackage: f\nVersion: 1.0\nDepends: v, own (= 2), w\nProvides: own (= 2)\n.\nadd-list B packages\nPackage: f\nVersion: 1.0-0\nProvides: v\nDepends: nope\n.\nunmet\n",
-                b"Package f version 1.0 has an unmet dep:\n Depends: w\n",
-            ),
-            (
-                b"add-list m packages\nPackage: x\nVersion: 2\nProvides: x, y\nDepends: x (<< 1) | y (>= 0~), x (= 2)\n.\nunmet\n",
-                b"Package x version 2 has an unmet dep:\n Depends: x (<< 1) | y (>= 0~)\n",
-            ),
-            (
-                b"add-list s status\nPackage: f\nStatus: x x unpacked\nVersion: 1\nProvides: v\n\nPackage: g\nStatus: x x half-installed\nVersion: 1\nProvides: w\n.\nadd-list m packages\nPackage: a\nVersion: 1\nPre-Depends: w\nRecommends: v\nSuggests: u\nEnhances: t\n.\nunmet\nunmet -i\n",
-                b"Package a version 1 has an unmet dep:\n PreDepends: w\n Suggests: u\nPackage a version 1 has an unmet dep:\n PreDepends: w\n",
-            ),
-        ],
+        b"
+add-list A packages
+Package: f
+Version: 1.0
+Depends: v, own (= 2), w
+Provides: own (= 2)
+.
+add-list B packages
+Package: f
+Version: 1.0-0
+Provides: v
+Depends: nope
+.
+unmet
+=>
+Package f version 1.0 has an unmet dep:
+ Depends: w
+--
+add-list m packages
+Package: x
+Version: 2
+Provides: x, y
+Depends: x (<< 1) | y (>= 0~), x (= 2)
+.
+unmet
+=>
+Package x version 2 has an unmet dep:
+ Depends: x (<< 1) | y (>= 0~)
+--
+add-list s status
+Package: f
+Status: x x unpacked
+Version: 1
+Provides: v
+
+Package: g
+Status: x x half-installed
+Version: 1
+Provides: w
+.
+add-list m packages
+Package: a
+Version: 1
+Pre-Depends: w
+Recommends: v
+Suggests: u
+Enhances: t
+.
+unmet
+unmet -i
+=>
+Package a version 1 has an unmet dep:
+ PreDepends: w
+ Suggests: u
+Package a version 1 has an unmet dep:
+ PreDepends: w
+",
     )
 }
 
@@ -195,16 +486,55 @@ fn offers_of_every_live_stanza(rt: HostRuntime) -> Result<(), Fail> {
 fn names_without_a_row(rt: HostRuntime) -> Result<(), Fail> {
     each_writes(
         &rt,
-        &[
-            (
-                b"add-list m packages\nPackage: a\nVersion: 1\nEnhances: e\nProvides: v\n.\ndepends v u a\nrdepends e v u\nshowpkg v\nshowpkg u e\n",
-                b"<v>\nN: Unable to locate package u\na\n  Enhances: <e>\ne\nReverse Depends:\n  a\nv\nReverse Depends:\nN: Unable to locate package u\nPackage: v\nVersions:\n\nReverse Depends:\nDependencies:\nProvides:\nReverse Provides:\n  a 1 v\nN: Unable to locate package u\nPackage: e\nVersions:\n\nReverse Depends:\n  a 1 Enhances: e\nDependencies:\nProvides:\nReverse Provides:\n",
-            ),
-            (
-                b"depends a\nrdepends a\nunmet\nshowpkg a\n",
-                b"N: Unable to locate package a\nN: Unable to locate package a\nN: Unable to locate package a\n",
-            ),
-        ],
+        b"
+add-list m packages
+Package: a
+Version: 1
+Enhances: e
+Provides: v
+.
+depends v u a
+rdepends e v u
+showpkg v
+showpkg u e
+=>
+<v>
+N: Unable to locate package u
+a
+  Enhances: <e>
+e
+Reverse Depends:
+  a
+v
+Reverse Depends:
+N: Unable to locate package u
+Package: v
+Versions:
+
+Reverse Depends:
+Dependencies:
+Provides:
+Reverse Provides:
+  a 1 v
+N: Unable to locate package u
+Package: e
+Versions:
+
+Reverse Depends:
+  a 1 Enhances: e
+Dependencies:
+Provides:
+Reverse Provides:
+--
+depends a
+rdepends a
+unmet
+showpkg a
+=>
+N: Unable to locate package a
+N: Unable to locate package a
+N: Unable to locate package a
+",
     )
 }
 
@@ -212,24 +542,98 @@ fn names_without_a_row(rt: HostRuntime) -> Result<(), Fail> {
 fn entries_and_relations_of_a_package(rt: HostRuntime) -> Result<(), Fail> {
     each_writes(
         &rt,
-        &[
-            (
-                b"add-list m packages\nPackage: a\nVersion: 1\nProvides: v:any (=0:2)\nEnhances: x(<1)|y\n.\nshowpkg a\n",
-                b"Package: a\nVersions:\n1 (m)\n\nReverse Depends:\nDependencies:\n1 Enhances: x (<= 1) | y\nProvides:\n1 v:any (= 0:2)\nReverse Provides:\n",
-            ),
-            (
-                b"add-list A packages\nPackage: x\nVersion: 1\n.\nadd-list B packages\nPackage: x\nVersion: 0:1\n\nPackage: x\nVersion: 1-0\n.\nshowpkg x\n",
-                b"Package: x\nVersions:\n1 (A) (B)\n\nReverse Depends:\nDependencies:\nProvides:\nReverse Provides:\n",
-            ),
-            (
-                b"add-list m packages\nPackage: a\nVersion: 1\nDepends:\n x (>=\n  1) |\n y\n.\nunmet\nshowpkg y\n",
-                b"Package a version 1 has an unmet dep:\n Depends: x (>= 1) | y\nPackage: y\nVersions:\n\nReverse Depends:\n  a 1 Depends: y\nDependencies:\nProvides:\nReverse Provides:\n",
-            ),
-            (
-                b"add-list m packages\nPackage: v\nVersion: 1~\nDepends: v (>> 1)\n\nPackage: v\nVersion: 1\nProvides: v (= 3)\n.\nshowpkg v\ndepends v\nunmet\n",
-                b"Package: v\nVersions:\n1 (m)\n1~ (m)\n\nReverse Depends:\n  v 1~ Depends: v (>> 1)\nDependencies:\n1~ Depends: v (>> 1)\nProvides:\n1 v (= 3)\nReverse Provides:\n  v 1 v (= 3)\nv\n",
-            ),
-        ],
+        b"
+add-list m packages
+Package: a
+Version: 1
+Provides: v:any (=0:2)
+Enhances: x(<1)|y
+.
+showpkg a
+=>
+Package: a
+Versions:
+1 (m)
+
+Reverse Depends:
+Dependencies:
+1 Enhances: x (<= 1) | y
+Provides:
+1 v:any (= 0:2)
+Reverse Provides:
+--
+add-list A packages
+Package: x
+Version: 1
+.
+add-list B packages
+Package: x
+Version: 0:1
+
+Package: x
+Version: 1-0
+.
+showpkg x
+=>
+Package: x
+Versions:
+1 (A) (B)
+
+Reverse Depends:
+Dependencies:
+Provides:
+Reverse Provides:
+--
+add-list m packages
+Package: a
+Version: 1
+Depends:
+ x (>=
+  1) |
+ y
+.
+unmet
+showpkg y
+=>
+Package a version 1 has an unmet dep:
+ Depends: x (>= 1) | y
+Package: y
+Versions:
+
+Reverse Depends:
+  a 1 Depends: y
+Dependencies:
+Provides:
+Reverse Provides:
+--
+add-list m packages
+Package: v
+Version: 1~
+Depends: v (>> 1)
+
+Package: v
+Version: 1
+Provides: v (= 3)
+.
+showpkg v
+depends v
+unmet
+=>
+Package: v
+Versions:
+1 (m)
+1~ (m)
+
+Reverse Depends:
+  v 1~ Depends: v (>> 1)
+Dependencies:
+1~ Depends: v (>> 1)
+Provides:
+1 v (= 3)
+Reverse Provides:
+  v 1 v (= 3)
+v
+",
     )
 }
 
@@ -237,16 +641,38 @@ fn entries_and_relations_of_a_package(rt: HostRuntime) -> Result<(), Fail> {
 fn the_newest_row_where_there_is_no_candidate(rt: HostRuntime) -> Result<(), Fail> {
     each_writes(
         &rt,
-        &[
-            (
-                b"add-list m packages\nPackage: a\nVersion: 1\nDepends: x\n\nPackage: a\nVersion: 2\nDepends: y\n.\nmark a 1\npin '*' release m -5\ndepends a\n",
-                b"a\n  Depends: <y>\n",
-            ),
-            (
-                b"add-list m packages\nPackage: a\nVersion: 1\nDepends: x\n\nPackage: a\nVersion: 2\nDepends: y\n.\npin a version 1 600\ndepends a\n",
-                b"a\n  Depends: <x>\n",
-            ),
-        ],
+        b"
+add-list m packages
+Package: a
+Version: 1
+Depends: x
+
+Package: a
+Version: 2
+Depends: y
+.
+mark a 1
+pin '*' release m -5
+depends a
+=>
+a
+  Depends: <y>
+--
+add-list m packages
+Package: a
+Version: 1
+Depends: x
+
+Package: a
+Version: 2
+Depends: y
+.
+pin a version 1 600
+depends a
+=>
+a
+  Depends: <x>
+",
     )
 }
 
@@ -254,10 +680,32 @@ fn the_newest_row_where_there_is_no_candidate(rt: HostRuntime) -> Result<(), Fai
 fn words_of_relations(rt: HostRuntime) -> Result<(), Fail> {
     each_writes(
         &rt,
-        &[(
-            b"depends\ndepends -i\ndepends a!\ndepends --installe a\nrdepends\nrdepends -i a\nunmet a\nunmet --installed\nshowpkg\nshowpkg -i a\nunmet -i --important\ndepends -i -i a\n",
-            b"E: line 1: bad arguments\nE: line 2: bad arguments\nE: line 3: bad name\nE: line 4: bad arguments\nE: line 5: bad arguments\nE: line 6: bad arguments\nE: line 7: bad arguments\nE: line 8: bad arguments\nE: line 9: bad arguments\nE: line 10: bad arguments\nN: Unable to locate package a\n",
-        )],
+        b"
+depends
+depends -i
+depends a!
+depends --installe a
+rdepends
+rdepends -i a
+unmet a
+unmet --installed
+showpkg
+showpkg -i a
+unmet -i --important
+depends -i -i a
+=>
+E: line 1: bad arguments
+E: line 2: bad arguments
+E: line 3: bad name
+E: line 4: bad arguments
+E: line 5: bad arguments
+E: line 6: bad arguments
+E: line 7: bad arguments
+E: line 8: bad arguments
+E: line 9: bad arguments
+E: line 10: bad arguments
+N: Unable to locate package a
+",
     )
 }
 

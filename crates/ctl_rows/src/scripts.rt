@@ -9,18 +9,32 @@ use std::test::Fail;
 fn worked_scripts(rt: HostRuntime) -> Result<(), Fail> {
     each_writes(
         &rt,
-        &[
-            (b"", b""),
-            (
-                b"add-list main packages\nPackage: foo\nVersion: 1.0-1\n\nPackage: bar\nVersion: 2.0\n.\npkgnames\n",
-                b"bar\nfoo\n",
-            ),
-            (b"frob x\npkgnames\n", b"E: line 1: unknown command\n"),
-            (
-                b"add-list main packages\nPackage: foo\nVersion: 1\n",
-                b"E: line 3: body has no end\n",
-            ),
-        ],
+        b"
+=>
+--
+add-list main packages
+Package: foo
+Version: 1.0-1
+
+Package: bar
+Version: 2.0
+.
+pkgnames
+=>
+bar
+foo
+--
+frob x
+pkgnames
+=>
+E: line 1: unknown command
+--
+add-list main packages
+Package: foo
+Version: 1
+=>
+E: line 3: body has no end
+",
     )
 }
 
@@ -28,47 +42,109 @@ fn worked_scripts(rt: HostRuntime) -> Result<(), Fail> {
 fn each_refusal_names_its_line(rt: HostRuntime) -> Result<(), Fail> {
     each_writes(
         &rt,
-        &[
-            (b"\n # x\n\t\nfrob\n", b"E: line 4: unknown command\n"),
-            (b"put main\nPackage: a\n.\n", b"E: line 1: no such list\n"),
-            (b"put main\nPackage: a\n", b"E: line 2: body has no end\n"),
-            (b"add-list\n.\n", b"E: line 1: bad arguments\n"),
-            (b"add-list main\n.\n", b"E: line 1: bad arguments\n"),
-            (b"add-list main other\n.\n", b"E: line 1: bad arguments\n"),
-            (
-                b"add-list main packages x\n.\n",
-                b"E: line 1: bad arguments\n",
-            ),
-            (
-                b"add-list 'main packages\n.\n",
-                b"E: line 1: bad arguments\n",
-            ),
-            (b"add-list -x packages\n.\n", b"E: line 1: bad name\n"),
-            (b"add-list m! packages\noops\n.\n", b"E: line 1: bad name\n"),
-            (b"pkgnames a b\n", b"E: line 1: bad arguments\n"),
-            (b"pkgnames -a\n", b"E: line 1: bad arguments\n"),
-            (b"pkgnames\r\n", b"E: line 1: unknown command\n"),
-            (
-                b"add-list m packages\noops\n.\n",
-                b"E: line 2: not a control line\n",
-            ),
-            (
-                b"add-list m packages\nA: 1\na: 2\n.\n",
-                b"E: line 3: field given twice\n",
-            ),
-            (
-                b"add-list m packages\n\nPackage: a!\nVersion: 1\n.\n",
-                b"E: line 3: bad name\n",
-            ),
-            (
-                b"add-list m packages\n.\nadd-list m packages\n.\n",
-                b"E: line 3: list already present\n",
-            ),
-            (
-                b"add-list m packages\n.\nadd-list m packages\noops\n.\n",
-                b"E: line 4: not a control line\n",
-            ),
-        ],
+        b"
+
+ # x
+\t
+frob
+=>
+E: line 4: unknown command
+--
+put main
+Package: a
+.
+=>
+E: line 1: no such list
+--
+put main
+Package: a
+=>
+E: line 2: body has no end
+--
+add-list
+.
+=>
+E: line 1: bad arguments
+--
+add-list main
+.
+=>
+E: line 1: bad arguments
+--
+add-list main other
+.
+=>
+E: line 1: bad arguments
+--
+add-list main packages x
+.
+=>
+E: line 1: bad arguments
+--
+add-list 'main packages
+.
+=>
+E: line 1: bad arguments
+--
+add-list -x packages
+.
+=>
+E: line 1: bad name
+--
+add-list m! packages
+oops
+.
+=>
+E: line 1: bad name
+--
+pkgnames a b
+=>
+E: line 1: bad arguments
+--
+pkgnames -a
+=>
+E: line 1: bad arguments
+--
+pkgnames\r
+=>
+E: line 1: unknown command
+--
+add-list m packages
+oops
+.
+=>
+E: line 2: not a control line
+--
+add-list m packages
+A: 1
+a: 2
+.
+=>
+E: line 3: field given twice
+--
+add-list m packages
+
+Package: a!
+Version: 1
+.
+=>
+E: line 3: bad name
+--
+add-list m packages
+.
+add-list m packages
+.
+=>
+E: line 3: list already present
+--
+add-list m packages
+.
+add-list m packages
+oops
+.
+=>
+E: line 4: not a control line
+",
     )
 }
 
@@ -78,13 +154,33 @@ fn names_are_in_the_order_of_their_bytes_and_each_once(rt: HostRuntime) -> Resul
         &rt,
         b"add-list one packages\nPackage: b\nVersion: 1\n\nPackage: B\nVersion: 1\n\nPackage: b\nVersion: 2\n.\n\
         add-list two packages\nPackage: a+\nVersion: 1\n\nPackage: a\nVersion: 1\n\nPackage: b\nVersion: 1\n.\n",
-        &[
-            (b"pkgnames\n", b"B\na\na+\nb\n"),
-            (b"pkgnames a\n", b"a\na+\n"),
-            (b"  pkgnames \t a+ \n", b"a+\n"),
-            (b"pkgnames ab\n", b""),
-            (b"pkgnames a\npkgnames b", b"a\na+\nb\n"),
-        ],
+        b"
+pkgnames
+=>
+B
+a
+a+
+b
+--
+pkgnames a
+=>
+a
+a+
+--
+  pkgnames \t a+\x20
+=>
+a+
+--
+pkgnames ab
+=>
+--
+pkgnames a
+pkgnames b
+->
+a
+a+
+b
+",
     )
 }
 
@@ -92,29 +188,79 @@ fn names_are_in_the_order_of_their_bytes_and_each_once(rt: HostRuntime) -> Resul
 fn lists_are_edited_between_questions(rt: HostRuntime) -> Result<(), Fail> {
     each_writes(
         &rt,
-        &[
-            (
-                b"add-list main packages\nPackage: foo\nVersion: 1.0-1\nDepends: bar (>= 2), baz | qux\n\nPackage: bar\nVersion: 2.0\n.\n\
-             put main\nPackage: quux\nVersion: 1\nProvides: baz\n.\npkgnames\nremove main quux 1\npkgnames\n",
-                b"bar\nfoo\nquux\nbar\nfoo\n",
-            ),
-            // an equal version stands in two lists, of which one goes
-            (
-                b"add-list A packages\nPackage: foo\nVersion: 1.0\n.\nadd-list B packages\nPackage: foo\nVersion: 1.0-0\n.\n\
-             drop-list A\npkgnames\ndrop-list B\npkgnames\n",
-                b"foo\n",
-            ),
-            (
-                b"add-list sid packages\nPackage: foo\nVersion: 2.0-1\n.\nadd-list main packages\nPackage: bar\nVersion: 1.0-1\n.\n\
-             mark foo 1.0-1\npkgnames\ndrop-list main\npkgnames\nadd-list main packages\nPackage: bar\nVersion: 1.0-1\n.\npkgnames\n",
-                b"bar\nfoo\nfoo\nbar\nfoo\n",
-            ),
-            // marks and pins name packages that no list has
-            (
-                b"mark a 1\npin b version 1 5\nprefs\nPackage: c\nPin: version 1\nPin-Priority: 5\n.\npkgnames\n",
-                b"",
-            ),
-        ],
+        b"
+add-list main packages
+Package: foo
+Version: 1.0-1
+Depends: bar (>= 2), baz | qux
+
+Package: bar
+Version: 2.0
+.
+put main
+Package: quux
+Version: 1
+Provides: baz
+.
+pkgnames
+remove main quux 1
+pkgnames
+=>
+bar
+foo
+quux
+bar
+foo
+-- an equal version stands in two lists, of which one goes
+add-list A packages
+Package: foo
+Version: 1.0
+.
+add-list B packages
+Package: foo
+Version: 1.0-0
+.
+drop-list A
+pkgnames
+drop-list B
+pkgnames
+=>
+foo
+--
+add-list sid packages
+Package: foo
+Version: 2.0-1
+.
+add-list main packages
+Package: bar
+Version: 1.0-1
+.
+mark foo 1.0-1
+pkgnames
+drop-list main
+pkgnames
+add-list main packages
+Package: bar
+Version: 1.0-1
+.
+pkgnames
+=>
+bar
+foo
+foo
+bar
+foo
+-- marks and pins name packages that no list has
+mark a 1
+pin b version 1 5
+prefs
+Package: c
+Pin: version 1
+Pin-Priority: 5
+.
+pkgnames
+=>
+",
     )
 }
 

@@ -33,32 +33,113 @@ fn edits_and_stanzas_have_their_limits(rt: HostRuntime) -> Result<(), Fail> {
 fn a_stanza_takes_the_place_of_an_equal_one(rt: HostRuntime) -> Result<(), Fail> {
     each_leaves(
         &rt,
-        &[
-            (
-                b"add-list m packages\nPackage: a\nVersion: 1\n\nPackage: b\nVersion: 1\n.\nput m\nPackage: a\nVersion: 1-0\n.\n",
-                b"list m packages plain\nPackage: a\nVersion: 1-0\n|Package: b\nVersion: 1\n|2 stanzas, 2 edits\n",
-            ),
-            (
-                b"add-list m packages\nPackage: a\nVersion: 1\n\nPackage: b\nVersion: 1\n.\nput m\nPackage: a\nVersion: 2\n.\n",
-                b"list m packages plain\nPackage: a\nVersion: 1\n|Package: b\nVersion: 1\n|Package: a\nVersion: 2\n|3 stanzas, 2 edits\n",
-            ),
-            // the first of two equal ones
-            (
-                b"add-list m packages\nPackage: a\nVersion: 1\n\nPackage: a\nVersion: 0:1\n.\nput m\nPackage: a\nVersion: 1-0\n.\nremove m a 1\n",
-                b"list m packages plain\nPackage: a\nVersion: 0:1\n|1 stanzas, 3 edits\n",
-            ),
-            // of a package that isn't live, one that isn't either
-            (
-                b"add-list m status\nPackage: a\nStatus: x x config-files\n.\nput m\nPackage: a\nStatus: x x installed\nVersion: 1\n.\n\
-             put m\nPackage: a\nStatus: x x not-installed\nVersion: 1\n.\n",
-                b"list m status plain\nPackage: a\nStatus: x x not-installed\nVersion: 1\n|Package: a\nStatus: x x installed\nVersion: 1\n|2 stanzas, 3 edits\n",
-            ),
-            (
-                b"add-list m packages\nPackage: s\nVersion: 1\nDepends: x\nProvides: x, x\n\nPackage: t\nVersion: 1\nDepends: x\n.\n\
-             put m\nPackage: s\nVersion: 1\nDepends: x\nProvides: x, x\n.\nremove m s 1\n",
-                b"list m packages plain\nPackage: t\nVersion: 1\nDepends: x\n|1 stanzas, 3 edits\n",
-            ),
-        ],
+        b"
+add-list m packages
+Package: a
+Version: 1
+
+Package: b
+Version: 1
+.
+put m
+Package: a
+Version: 1-0
+.
+=>
+list m packages plain
+Package: a
+Version: 1-0
+|Package: b
+Version: 1
+|2 stanzas, 2 edits
+--
+add-list m packages
+Package: a
+Version: 1
+
+Package: b
+Version: 1
+.
+put m
+Package: a
+Version: 2
+.
+=>
+list m packages plain
+Package: a
+Version: 1
+|Package: b
+Version: 1
+|Package: a
+Version: 2
+|3 stanzas, 2 edits
+-- the first of two equal ones
+add-list m packages
+Package: a
+Version: 1
+
+Package: a
+Version: 0:1
+.
+put m
+Package: a
+Version: 1-0
+.
+remove m a 1
+=>
+list m packages plain
+Package: a
+Version: 0:1
+|1 stanzas, 3 edits
+-- of a package that isn't live, one that isn't either
+add-list m status
+Package: a
+Status: x x config-files
+.
+put m
+Package: a
+Status: x x installed
+Version: 1
+.
+put m
+Package: a
+Status: x x not-installed
+Version: 1
+.
+=>
+list m status plain
+Package: a
+Status: x x not-installed
+Version: 1
+|Package: a
+Status: x x installed
+Version: 1
+|2 stanzas, 3 edits
+--
+add-list m packages
+Package: s
+Version: 1
+Depends: x
+Provides: x, x
+
+Package: t
+Version: 1
+Depends: x
+.
+put m
+Package: s
+Version: 1
+Depends: x
+Provides: x, x
+.
+remove m s 1
+=>
+list m packages plain
+Package: t
+Version: 1
+Depends: x
+|1 stanzas, 3 edits
+",
     )
 }
 
@@ -66,24 +147,55 @@ fn a_stanza_takes_the_place_of_an_equal_one(rt: HostRuntime) -> Result<(), Fail>
 fn lists_keep_their_order_and_their_classes(rt: HostRuntime) -> Result<(), Fail> {
     each_leaves(
         &rt,
-        &[
-            (
-                b"add-list b packages\n.\nadd-list a packages\n.\n",
-                b"list b packages plain\nlist a packages plain\n0 stanzas, 2 edits\n",
-            ),
-            (
-                b"add-list b packages\n.\nadd-list a packages\n.\ndrop-list b\nadd-list b status\n.\n",
-                b"list a packages plain\nlist b status plain\n0 stanzas, 4 edits\n",
-            ),
-            (
-                b"add-list c packages\n.\nadd-list b packages\n.\nadd-list a packages\n.\ndrop-list b\n",
-                b"list c packages plain\nlist a packages plain\n0 stanzas, 4 edits\n",
-            ),
-            (
-                b"add-list a packages\n.\nadd-list b packages notauto\n.\nadd-list c packages butauto\n.\nadd-list d status\n.\n",
-                b"list a packages plain\nlist b packages notauto\nlist c packages butauto\nlist d status plain\n0 stanzas, 4 edits\n",
-            ),
-        ],
+        b"
+add-list b packages
+.
+add-list a packages
+.
+=>
+list b packages plain
+list a packages plain
+0 stanzas, 2 edits
+--
+add-list b packages
+.
+add-list a packages
+.
+drop-list b
+add-list b status
+.
+=>
+list a packages plain
+list b status plain
+0 stanzas, 4 edits
+--
+add-list c packages
+.
+add-list b packages
+.
+add-list a packages
+.
+drop-list b
+=>
+list c packages plain
+list a packages plain
+0 stanzas, 4 edits
+--
+add-list a packages
+.
+add-list b packages notauto
+.
+add-list c packages butauto
+.
+add-list d status
+.
+=>
+list a packages plain
+list b packages notauto
+list c packages butauto
+list d status plain
+0 stanzas, 4 edits
+",
     )
 }
 
@@ -91,42 +203,66 @@ fn lists_keep_their_order_and_their_classes(rt: HostRuntime) -> Result<(), Fail>
 fn pins_keep_their_place_and_have_the_priority_set_last(rt: HostRuntime) -> Result<(), Fail> {
     each_leaves(
         &rt,
-        &[
-            (
-                b"pin a version 1 1\npin b version 1 2\npin a version 1 3\n",
-                b"pin a version 1 3\npin b version 1 2\n0 stanzas, 3 edits\n",
-            ),
-            (
-                b"pin a version 1* 5\npin a version 1 7\npin a version 1* 9\n",
-                b"pin a version 1* 9\npin a version 1 7\n0 stanzas, 3 edits\n",
-            ),
-            // equal versions in other words are other pins
-            (
-                b"pin a version 1.0 5\npin a version 1.0-0 5\nunpin a version 1.0\n",
-                b"pin a version 1.0-0 5\n0 stanzas, 3 edits\n",
-            ),
-            (
-                b"pin '*' release m 1\npin a release m 2\npin a release m 3\n",
-                b"pin * release m 1\npin a release m 3\n0 stanzas, 3 edits\n",
-            ),
-            // a pin that was taken out comes back last
-            (
-                b"pin a version 1 1\npin b version 1 1\nunpin a version 1\npin a version 1 1\n",
-                b"pin b version 1 1\npin a version 1 1\n0 stanzas, 4 edits\n",
-            ),
-            (
-                b"pin a version * 5\n",
-                b"pin a version * 5\n0 stanzas, 1 edits\n",
-            ),
-            (
-                b"pin a version 1 007\npin b version 1 -0032768\n",
-                b"pin a version 1 7\npin b version 1 -32768\n0 stanzas, 2 edits\n",
-            ),
-            (
-                b"pin '*' release m 32767\npin a release m -1\n",
-                b"pin * release m 32767\npin a release m -1\n0 stanzas, 2 edits\n",
-            ),
-        ],
+        b"
+pin a version 1 1
+pin b version 1 2
+pin a version 1 3
+=>
+pin a version 1 3
+pin b version 1 2
+0 stanzas, 3 edits
+--
+pin a version 1* 5
+pin a version 1 7
+pin a version 1* 9
+=>
+pin a version 1* 9
+pin a version 1 7
+0 stanzas, 3 edits
+-- equal versions in other words are other pins
+pin a version 1.0 5
+pin a version 1.0-0 5
+unpin a version 1.0
+=>
+pin a version 1.0-0 5
+0 stanzas, 3 edits
+--
+pin '*' release m 1
+pin a release m 2
+pin a release m 3
+=>
+pin * release m 1
+pin a release m 3
+0 stanzas, 3 edits
+-- a pin that was taken out comes back last
+pin a version 1 1
+pin b version 1 1
+unpin a version 1
+pin a version 1 1
+=>
+pin b version 1 1
+pin a version 1 1
+0 stanzas, 4 edits
+--
+pin a version * 5
+=>
+pin a version * 5
+0 stanzas, 1 edits
+--
+pin a version 1 007
+pin b version 1 -0032768
+=>
+pin a version 1 7
+pin b version 1 -32768
+0 stanzas, 2 edits
+--
+pin '*' release m 32767
+pin a release m -1
+=>
+pin * release m 32767
+pin a release m -1
+0 stanzas, 2 edits
+",
     )
 }
 
@@ -134,20 +270,34 @@ fn pins_keep_their_place_and_have_the_priority_set_last(rt: HostRuntime) -> Resu
 fn a_target_is_set_and_taken_out(rt: HostRuntime) -> Result<(), Fail> {
     each_leaves(
         &rt,
-        &[
-            (b"", b"0 stanzas, 0 edits\n"),
-            (b"target sid\n", b"target sid\n0 stanzas, 1 edits\n"),
-            (
-                b"target sid\ntarget main\n",
-                b"target main\n0 stanzas, 2 edits\n",
-            ),
-            (b"target sid\ntarget none\n", b"0 stanzas, 2 edits\n"),
-            // a list of the name `none` is no target
-            (
-                b"target sid\nadd-list none packages\n.\ntarget none\n",
-                b"list none packages plain\n0 stanzas, 3 edits\n",
-            ),
-        ],
+        b"
+=>
+0 stanzas, 0 edits
+--
+target sid
+=>
+target sid
+0 stanzas, 1 edits
+--
+target sid
+target main
+=>
+target main
+0 stanzas, 2 edits
+--
+target sid
+target none
+=>
+0 stanzas, 2 edits
+-- a list of the name `none` is no target
+target sid
+add-list none packages
+.
+target none
+=>
+list none packages plain
+0 stanzas, 3 edits
+",
     )
 }
 
@@ -155,14 +305,24 @@ fn a_target_is_set_and_taken_out(rt: HostRuntime) -> Result<(), Fail> {
 fn marks_are_set_and_taken_out(rt: HostRuntime) -> Result<(), Fail> {
     each_leaves(
         &rt,
-        &[
-            (
-                b"mark a 1\nmark a 2-1\nmark b none\n",
-                b"mark a 2-1\nmark b none\n0 stanzas, 3 edits\n",
-            ),
-            // a version, and not the word
-            (b"mark c 0:none\n", b"mark c 0:none\n0 stanzas, 1 edits\n"),
-            (b"mark a 1\nunmark a\n", b"0 stanzas, 2 edits\n"),
-        ],
+        b"
+mark a 1
+mark a 2-1
+mark b none
+=>
+mark a 2-1
+mark b none
+0 stanzas, 3 edits
+-- a version, and not the word
+mark c 0:none
+=>
+mark c 0:none
+0 stanzas, 1 edits
+--
+mark a 1
+unmark a
+=>
+0 stanzas, 2 edits
+",
     )
 }
