@@ -1,6 +1,8 @@
 //! `dctrl-cache`: runs a script over a package cache in memory.
 #![tactic(auto)]
 
+ghost use Rattle.std.specs.Prelude.{◌≡◌};
+
 use clap::error::ErrorKind as WordsFault;
 use ctl_index::Cache;
 use ctl_session::{
@@ -36,6 +38,8 @@ enum Failure {
 }
 
 impl From<AllocError> for Failure {
+    ghost from_gives = { λ _ failure. failure ≡ Memory };
+
     fn from(_error: AllocError) -> Failure {
         Failure::Memory
     }
