@@ -45,11 +45,11 @@ fn append_atom(
     ensures text { OnOk result (out.new.items ≡ out.old.items ++ atom_lines (world_of cache.now.store) installed field further atom.now) }
     ensures steps { steps.new ≤ steps.old + atom_pairs (world_of cache.now.store) atom.now }
 {
-    let names = providers(alloc, cache, atom, steps)?;
+    let (names, with_row) = providers(alloc, cache, atom, steps)?;
     if !has_lines(cache, installed, atom, &names) {
         return Ok(());
     }
-    append_atom_line(cache.has_row(atom.name()), field, further, atom, out)?;
+    append_atom_line(with_row, field, further, atom, out)?;
     append_providers(cache, installed, &names, out)?;
     Ok(())
 }
