@@ -12,7 +12,7 @@ use Rattle.ctl_policy.specs.Keys.{some_keys}
 use Rattle.ctl_policy.specs.Rows.{Row, is_of_version, is_in_row, keys_with, rows_named, newest_first, is_any_row}
 use Rattle.ctl_policy.specs.Priority.{World}
 use Rattle.ctl_query.specs.NameSet.{is_among}
-use Rattle.ctl_query.specs.Packages.{has_row, stanzas_of, names_known}
+use Rattle.ctl_query.specs.Packages.{has_row, stanzas_of, names_known, is_known}
 use Rattle.ctl_query.proofs.ClassLemmas.{AreClasses, each_class}
 use Rattle.ctl_query.proofs.EntryLemmas.{contents_are}
 use Rattle.ctl_query.proofs.OrderLemmas.{among_in_order}
@@ -75,3 +75,7 @@ row_known classes world name row = by (is_among (names_known world) name) refl
         ap (λ xs. is_among (flat_map names_of xs) name) (contents_are world.lists) ∙ sym (among_in_order name (flat_map names_of (stanzas_of world))) ∙ ap (λ xs. is_among xs name) (sym (known_are world)) ∙ e in
         let none = no_row (newest_first (rows_named name world.lists)) (each_class classes (λ keys. ⊥) name world.lists (λ version. none_some _ (no_keys name version (entries_of world.lists) out))) in
         absurd (let z : true ≡ false = sym row ∙ none in let w : ⊥ = cc in w)
+
+pub row_is_known : AreClasses → (world : World) (name : List ℕ) → has_row world name ≡ true → is_known world name ≡ true
+unfolding is_known
+row_is_known classes world name row = row_known classes world name row

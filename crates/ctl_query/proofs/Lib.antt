@@ -14,6 +14,7 @@ pub mod OrderLemmas
 pub mod PackageLemmas
 pub mod ProviderLemmas
 pub mod RowLemmas
+pub mod RowOfferLemmas
 pub mod SilentLemmas
 pub mod TwinLemmas
 pub mod UnmetLemmas

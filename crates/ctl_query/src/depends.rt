@@ -9,7 +9,7 @@ ghost use Rattle.ctl_query.specs.Texts.{if_known};
 
 use crate::fields::depends_fields;
 use crate::leads::stanza_under;
-use crate::packages::{is_known, rows_of};
+use crate::packages::{is_known_by_row, rows_of};
 use crate::providers::{append_providers, is_any_kept, providers};
 use crate::relation_lines::append_atom_line;
 use crate::text::{append_line, append_unknown};
@@ -45,11 +45,11 @@ fn append_atom(
     ensures text { OnOk result (out.new.items ≡ out.old.items ++ atom_lines (world_of cache.now.store) installed field further atom.now) }
     ensures steps { steps.new ≤ steps.old + atom_pairs (world_of cache.now.store) atom.now }
 {
-    let names = providers(alloc, cache, atom, steps)?;
+    let (names, with_row) = providers(alloc, cache, atom, steps)?;
     if !has_lines(cache, installed, atom, &names) {
         return Ok(());
     }
-    append_atom_line(cache.has_row(atom.name()), field, further, atom, out)?;
+    append_atom_line(with_row, field, further, atom, out)?;
     append_providers(cache, installed, &names, out)?;
     Ok(())
 }
@@ -183,7 +183,7 @@ fn append_one(
     ensures text { OnOk result (out.new.items ≡ out.old.items ++ if_known (world_of cache.now.store) (depends_one (world_of cache.now.store) important installed) name.now) }
     ensures steps { steps.new ≤ steps.old + one_pairs (world_of cache.now.store) important name.now }
 {
-    if !is_known(cache, name) {
+    if !is_known_by_row(cache, name) {
         append_unknown(out, name)?;
         return Ok(());
     }

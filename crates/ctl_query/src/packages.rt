@@ -37,3 +37,12 @@ pub(crate) fn is_known(cache: &Cache, name: &[u8]) -> bool
 {
     cache.is_known(name)
 }
+
+/// Whether a name is known, where its row is looked for first and is then near: a name with a row is known.
+pub(crate) fn is_known_by_row(cache: &Cache, name: &[u8]) -> bool
+    requires { cache.now.stale ≡ false }
+    ensures { result ≡ is_known (world_of cache.now.store) name.now }
+{
+    rows_are_classes();
+    cache.has_row(name) || is_known(cache, name)
+}

@@ -1,12 +1,12 @@
-//! The packages whose offers meet an atom.
+//! What the offers of an atom's name tell: the packages whose offers meet the atom, and whether the name has a row.
 
 ghost use Rattle.std.specs.Prelude.{◌≡◌, ◌++◌, ◌+◌, ◌≤◌, ◌||◌, ℕ, List, OnOk, IfOk, false, not, flat_map, count_by};
 ghost use Rattle.std.specs.Str.{bytes_eq};
 ghost use Rattle.ctl_policy.specs.Priority.{world_of};
 ghost use Rattle.ctl_query.specs.Depends.{is_kept, kept_of, providers, atom_pairs, provider_line};
 ghost use Rattle.ctl_query.specs.NameSet.{lent_names, is_among};
-ghost use Rattle.ctl_query.specs.Packages.{is_none_of};
-ghost use Rattle.ctl_query.specs.Providers.{gives};
+ghost use Rattle.ctl_query.specs.Packages.{has_row, is_none_of};
+ghost use Rattle.ctl_query.specs.Providers.{gives, makes_row};
 
 use crate::interest::stanzas_are_found;
 use crate::name_set::add_name;
@@ -35,26 +35,37 @@ fn add_provider<'a>(
     Ok(())
 }
 
+/// Whether a row of an atom's name was found, or a stanza is a live one of that name, which has a row then.
+fn with_row_of(found: bool, stanza: &Stanza, atom: &Atom<'_>) -> bool
+    ensures { result ≡ (found || makes_row atom.now.name stanza.now) }
+{
+    found || (stanza.package() == atom.name() && stanza.version().is_some())
+}
+
 /// The packages, other than the one of the atom's name, with an offer that meets the atom: each once, in the order of their bytes.
+/// And whether the atom's name has a row: then one of its offers is that of its package.
 pub(crate) fn providers<'a>(
     alloc: Global,
     cache: &'a Cache,
     atom: &Atom<'_>,
     steps: &mut Steps,
-) -> Result<BTreeSet<&'a [u8]>, AllocError>
+) -> Result<(BTreeSet<&'a [u8]>, bool), AllocError>
     requires { cache.now.stale ≡ false }
-    ensures names { IfOk result (λ names. lent_names names.keys ≡ providers (world_of cache.now.store) atom.now) }
+    ensures names { IfOk result (λ found. lent_names found.0.keys ≡ providers (world_of cache.now.store) atom.now) }
+    ensures row { IfOk result (λ found. found.1 ≡ has_row (world_of cache.now.store) atom.now.name) }
     ensures steps { steps.new ≤ steps.old + atom_pairs (world_of cache.now.store) atom.now }
 {
     stanzas_are_found(cache);
     let store = cache.store();
     let mut names = BTreeSet::new(alloc);
+    let mut with_row = false;
     'offers: for (key, offer) in cache.offers(atom.name()) {
         let stanza = store.stanza(key);
+        with_row = with_row_of(with_row, stanza, atom);
         add_provider(&mut names, stanza, offer, atom, steps)?;
     }
     let _count = names.len();
-    Ok(names)
+    Ok((names, with_row))
 }
 
 /// Whether a name is kept: with `--installed` where a row of it is installed.
