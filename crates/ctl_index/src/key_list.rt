@@ -38,7 +38,7 @@ fn ends_behind<K: OfStanza>(keys: &[K], stanza: StanzaKey) -> bool
 }
 
 // Where those of earlier stanzas end.
-fn end_before<K: OfStanza>(keys: &[K], stanza: StanzaKey) -> usize
+pub(crate) fn end_before<K: OfStanza>(keys: &[K], stanza: StanzaKey) -> usize
     requires { InOrder K.stanza keys.now }
     ensures bound { result ≤ length keys.now }
     ensures point { IsPartitionPoint (λ key. is_before K.stanza stanza key ≡ true) (λ key. is_before K.stanza stanza key ≡ false) keys.now result }
@@ -47,7 +47,7 @@ fn end_before<K: OfStanza>(keys: &[K], stanza: StanzaKey) -> usize
 }
 
 // Where those of the stanza and of earlier ones end: mostly at the end.
-fn end_through<K: OfStanza>(keys: &[K], stanza: StanzaKey) -> usize
+pub(crate) fn end_through<K: OfStanza>(keys: &[K], stanza: StanzaKey) -> usize
     requires { InOrder K.stanza keys.now }
     ensures bound { result ≤ length keys.now }
     ensures point { IsPartitionPoint (λ key. is_through K.stanza stanza key ≡ true) (λ key. is_through K.stanza stanza key ≡ false) keys.now result }

@@ -21,7 +21,7 @@ fn append_asker(lead: &Stanza, out: &mut Vec<u8>) -> Result<(), AllocError>
 }
 
 #[tactic(auto, unfolding(crate::specs::Texts::line))]
-fn append_naming(
+pub(crate) fn append_naming_one(
     lead: &Stanza,
     field: FieldKind,
     atom: &Atom<'_>,
@@ -48,7 +48,7 @@ fn append_naming_group(
 {
     'atoms: for atom in group.atoms() {
         if atom.name() == name {
-            append_naming(lead, field, &atom, out)?;
+            append_naming_one(lead, field, &atom, out)?;
         }
     }
     Ok(())

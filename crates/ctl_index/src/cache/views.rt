@@ -14,6 +14,7 @@ ghost use Rattle.ctl_index.specs.Offers.{offers_named};
 ghost use Rattle.ctl_index.specs.Work.{stanzas_of_state};
 
 use crate::cache::Cache;
+use crate::key_list::{end_before, end_through};
 use crate::keys::{AtomKey, ClauseKey, OfferKey};
 use crate::named::Named;
 use crate::sight::{Sight, offer_at};
@@ -126,6 +127,20 @@ impl<'a> Iterator for Namers<'a> {
         let (key, rest) = self.keys.split_first()?;
         self.keys = rest;
         Some(*key)
+    }
+}
+
+impl<'a> Namers<'a> {
+    /// Those of a stanza.
+    pub fn of(&self, stanza: StanzaKey) -> Namers<'a> {
+        let keys = self.keys;
+        let start = end_before(keys, stanza);
+        let keys = &keys[start..];
+        let mut end = 0;
+        'same: while end < keys.len() && keys[end].stanza == stanza {
+            end += 1;
+        }
+        Namers { keys: &keys[..end] }
     }
 }
 
