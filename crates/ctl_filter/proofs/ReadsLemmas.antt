@@ -1,5 +1,5 @@
 -- What each step of the reader has read.
-use Rattle.std.proofs.Common.{◌≡◌, ◌∙◌, ◌≤◌, ◌<◌, ◌-◌, ℕ, suc, max, Result, Ok, Err, List, [], ◌∷◌, ◌++◌, refl, sym, ap, arith, append_assoc}
+use Rattle.std.proofs.Common.{◌≡◌, ◌∙◌, ◌≤◌, ◌<◌, ◌-◌, ◌==◌, true, false, length, ℕ, suc, max, Result, Ok, Err, List, [], ◌∷◌, ◌++◌, refl, sym, ap, arith, append_assoc}
 use Rattle.ctl_filter.specs.declared.token.Token.{Token}
 use Rattle.ctl_filter.specs.declared.token.Token.TheVariants.{Bang, Open, Close, And, Or, Atom}
 use Rattle.ctl_filter.specs.declared.token.Step.{Step}
@@ -85,16 +85,24 @@ reads-or depth tokens before more rest old mid late new r is s e = record {
 
 -- ---- all words
 
-pub truth-read : (tokens rest : List Token) (old new : List Step) → ReadsPred most_nested tokens rest old new → old ≡ [] → rest ≡ []
+none-left : (rest : List Token) → (length rest == 0) ≡ true → rest ≡ []
+none-left [] e = refl
+none-left (t ∷ rest) e = absurd (cc)
+
+some-left : (rest : List Token) → (length rest == 0) ≡ false → rest ≡ [] → ⊥
+some-left [] e is = absurd (cc)
+some-left (t ∷ rest) e is = absurd (cc)
+
+pub truth-read : (tokens rest : List Token) (old new : List Step) → ReadsPred most_nested tokens rest old new → old ≡ [] → (length rest == 0) ≡ true
     → (truth : Truth) × (truth_of tokens ≡ Ok truth) × Makes new truth
 truth-read tokens rest old new r none all = (
   truth_of_pred r.read,
-  ap truth_if (tree-found tokens r.read (r.spelled ∙ ap (spell_pred r.read) all, r.nested)),
+  ap truth_if (tree-found tokens r.read (r.spelled ∙ ap (spell_pred r.read) (none-left rest all), r.nested)),
   λ stack. ap (λ steps. built steps stack) (r.added ∙ ap (λ front. front ++ r.steps) none) ∙ r.makes stack,
 )
 
-pub words-left : (tokens rest : List Token) (old new : List Step) → ReadsPred most_nested tokens rest old new → NoMore rest → (rest ≡ [] → ⊥) → truth_of tokens ≡ Err refusal.Filter
-words-left tokens rest old new r more left = ap truth_if (no-tree tokens (λ p h. no-whole tokens rest r.read r.spelled more left p h.0))
+pub words-left : (tokens rest : List Token) (old new : List Step) → ReadsPred most_nested tokens rest old new → NoMore rest → (length rest == 0) ≡ false → truth_of tokens ≡ Err refusal.Filter
+words-left tokens rest old new r more left = ap truth_if (no-tree tokens (λ p h. no-whole tokens rest r.read r.spelled more (some-left rest left) p h.0))
 
 pub none-read : (tokens : List Token) → IsNoPred most_nested tokens → truth_of tokens ≡ Err refusal.Filter
 none-read tokens none = ap truth_if (no-tree tokens (λ p h. none p [] ends h.1 h.0))

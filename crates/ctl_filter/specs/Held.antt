@@ -5,6 +5,8 @@ use Rattle.std.specs.Option.{option_map}
 use Rattle.regex.specs.Patterns.{Re}
 use Rattle.regex.specs.Bytes.{matcher_pattern}
 use Rattle.regex.specs.declared.bytes.matcher.Matcher.{Matcher}
+use Rattle.ctl_stanza.specs.Content.{Content}
+use Rattle.ctl_store.specs.Entries.{Entry}
 use Rattle.ctl_store.specs.declared.refusal.Refusal.{Refusal}
 use Rattle.ctl_store.specs.declared.refusal.Refusal.TheVariants as refusal
 use Rattle.ctl_filter.specs.declared.piece.Piece.{Piece}
@@ -77,6 +79,10 @@ query_of q = record {
   shown = q.shown;
   filter = record { atoms = q.atoms; truth = made_by q.steps };
 }
+
+-- the stanzas of entries
+abbrev pub without_keys : List Entry → List Content
+without_keys entries = map (λ (e : Entry). e.1) entries
 
 -- an entry that is lent
 abbrev pub lent_entry : Bor (List ℕ) × Bor (List ℕ) → List ℕ × List ℕ

@@ -9,6 +9,7 @@ ghost use Rattle.ctl_filter.specs.Held.{shown_of, query_of};
 
 use crate::printing::append_stanza;
 use crate::query::{FilterQuery, Shown};
+use crate::stanzas::stanzas_of;
 use crate::taking::Taker;
 use crate::text::append_line;
 use ctl_store::Store;
@@ -18,10 +19,8 @@ use std::alloc::{AllocError, Global};
 fn count_taken(alloc: Global, store: &Store, taker: &mut Taker<'_>) -> Result<u64, AllocError>
     ensures { IfOk result (λ count. count ≡ length (taken_of (stanzas_in_order (state_of store.now).lists) (query_of taker.old))) }
 {
-    // That they are fewer than 2^32 is said here.
-    let _counts = store.counts();
     let mut count: u64 = 0;
-    'stanzas: for (_, stanza) in store.entries() {
+    'stanzas: for stanza in stanzas_of(store) {
         if taker.takes(alloc, stanza)? {
             count += 1;
         }
@@ -38,7 +37,7 @@ fn append_taken(
 ) -> Result<(), AllocError>
     ensures { OnOk result (out.new.items ≡ out.old.items ++ flat_map (stanza_shown (shown_of shown.now)) (taken_of (stanzas_in_order (state_of store.now).lists) (query_of taker.old))) }
 {
-    'stanzas: for (_, stanza) in store.entries() {
+    'stanzas: for stanza in stanzas_of(store) {
         if taker.takes(alloc, stanza)? {
             append_stanza(shown, stanza, out)?;
         }

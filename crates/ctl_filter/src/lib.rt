@@ -15,6 +15,7 @@ mod printing;
 mod query;
 mod reading;
 mod running;
+mod stanzas;
 mod taking;
 mod text;
 mod token;

@@ -1,4 +1,4 @@
-use Rattle.std.proofs.Common.{◌≡◌, ◌+◌, length, map}
+use Rattle.std.proofs.Common.{◌≡◌, ◌+◌, length}
 use Rattle.std.specs.List.{filter}
 use Rattle.ctl_filter.specs.Grep.{is_taken}
 use Rattle.ctl_filter.specs.Held.{query_of}
@@ -8,6 +8,6 @@ use Rattle.ctl_filter.proofs.answering.count_taken.Given as goal
 abbrev pub invariant-stanzas : goal.invariant-stanzas
 invariant-stanzas l = record {
   same : l.taker ≡ l.fn.taker;
-  count : l.count + length (filter (is_taken (query_of l.fn.taker)) (map (λ entry. entry.1) l.stanza-iterator))
-      ≡ length (filter (is_taken (query_of l.fn.taker)) (map (λ entry. entry.1) l.initial.stanza-iterator));
+  count : l.count + length (filter (is_taken (query_of l.fn.taker)) l.stanza-iterator)
+      ≡ length (filter (is_taken (query_of l.fn.taker)) l.initial.stanza-iterator);
 }
