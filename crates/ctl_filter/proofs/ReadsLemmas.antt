@@ -12,6 +12,7 @@ use Rattle.ctl_filter.specs.Filter.{Truth, Not}
 use Rattle.ctl_filter.specs.Trees.{truth_of_neg, truth_of_conj, truth_of_pred, truth_if, truth_of}
 use Rattle.ctl_filter.specs.Steps.{Makes, built, built_by}
 use Rattle.ctl_filter.specs.Reads.{ReadsNeg, ReadsConj, ReadsPred}
+use Rattle.std.proofs.lemmas.Bool.{eqb-true}
 use Rattle.ctl_store.specs.declared.refusal.Refusal.TheVariants as refusal
 use Rattle.ctl_filter.proofs.GrammarLemmas.{ends, no-whole}
 use Rattle.ctl_filter.proofs.TreeLemmas.{tree-found, no-tree}
@@ -87,7 +88,7 @@ reads-or depth tokens before more rest old mid late new r is s e = record {
 
 none-left : (rest : List Token) → (length rest == 0) ≡ true → rest ≡ []
 none-left [] e = refl
-none-left (t ∷ rest) e = absurd (cc)
+none-left (t ∷ rest) e = absurd (omega (arith, eqb-true (length (t ∷ rest)) 0 e))
 
 some-left : (rest : List Token) → (length rest == 0) ≡ false → rest ≡ [] → ⊥
 some-left [] e is = absurd (cc)

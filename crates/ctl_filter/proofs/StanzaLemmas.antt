@@ -1,5 +1,6 @@
 -- The stanzas of a store, without their keys.
-use Rattle.std.proofs.Common.{◌≡◌, ◌∙◌, ◌+◌, ℕ, List, [], ◌∷◌, ◌++◌, map, length, refl, ap, sym, length-append}
+use Rattle.std.proofs.Common.{◌≡◌, ◌∙◌, ◌+◌, ◌≤◌, ℕ, suc, Bool, true, false, cond, arith, List, [], ◌∷◌, ◌++◌, map, length, refl, ap, sym, length-append}
+use Rattle.std.specs.List.{filter}
 use Rattle.std.proofs.lemmas.List.{map-append}
 use Rattle.ctl_stanza.specs.Content.{Content}
 use Rattle.ctl_store.specs.Entries.{Entry, rows_under, entries_in, entries_of, stanzas_in_order}
@@ -17,3 +18,11 @@ plain_entries (l ∷ ls) = map-append (λ (e : Entry). e.1) (entries_in l.1) (en
 pub stanzas_counted : (ls : List (List ℕ × StanzaList)) → length (stanzas_in_order ls) ≡ stanza_count ls
 stanzas_counted [] = refl
 stanzas_counted (l ∷ ls) = length-append l.1.stanzas (stanzas_in_order ls) ∙ ap (λ n. length l.1.stanzas + n) (stanzas_counted ls)
+
+pub filtered : {X : Type 0} (p : X → Bool) (xs : List X) → length (filter p xs) ≤ length xs
+filtered p [] = omega arith
+filtered p (x ∷ xs) = by (p x) (filtered p xs)
+  where
+    by : (b : Bool) → length (filter p xs) ≤ length xs → length (cond b (x ∷ filter p xs) (filter p xs)) ≤ suc (length xs)
+    by true less = omega (arith, less)
+    by false less = omega (arith, less)

@@ -98,7 +98,11 @@ fn take_pattern(pattern: Bytes, gathered: &mut Gathered) -> Result<(), Refusal>
 }
 
 /// The names of FIELDS behind those before.
-fn more_fields(alloc: Global, fields: Option<Vec<Bytes>>, text: &[u8]) -> Result<Vec<Bytes>, Refusal>
+fn more_fields(
+    alloc: Global,
+    fields: Option<Vec<Bytes>>,
+    text: &[u8],
+) -> Result<Vec<Bytes>, Refusal>
     ensures ok { IfOk result (λ names. names.items ≡ more_fields (option_map (λ names. names.items) fields) (names_in text.now)) }
     ensures err { IfErr result (λ cause. cause ≡ refusal.Memory) }
 {

@@ -21,8 +21,6 @@ mod text;
 mod token;
 
 pub use answering::append_filter;
-pub use laws::{
-    filters_have_one_tree, substrings_are_parts, truths_are_by_cases,
-};
+pub use laws::{filters_have_one_tree, substrings_are_parts, truths_are_by_cases};
 pub use parsing::parse_filter;
 pub use query::FilterQuery;

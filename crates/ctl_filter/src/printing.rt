@@ -57,7 +57,11 @@ fn body_shown<'a>(shown: &Shown, name: &[u8], body: &'a [u8]) -> &'a [u8]
 fn gap(body: &[u8]) -> &'static [u8]
     ensures { result.now ≡ gap body.now }
 {
-    if first_line(body).is_empty() { b"" } else { b" " }
+    if first_line(body).is_empty() {
+        b""
+    } else {
+        b" "
+    }
 }
 
 #[tactic(auto, unfolding(crate::specs::Texts::line))]
@@ -131,7 +135,11 @@ fn append_fields(
 
 /// Appends a stanza as it is to be shown.
 #[tactic(auto, unfolding(crate::specs::Grep::stanza_shown))]
-pub(crate) fn append_stanza(shown: &Shown, stanza: &Stanza, out: &mut Vec<u8>) -> Result<(), AllocError>
+pub(crate) fn append_stanza(
+    shown: &Shown,
+    stanza: &Stanza,
+    out: &mut Vec<u8>,
+) -> Result<(), AllocError>
     ensures { OnOk result (out.new.items ≡ out.old.items ++ stanza_shown (shown_of shown.now) stanza.now) }
 {
     match &shown.fields {

@@ -24,14 +24,22 @@ impl<'a> Model for Stanzas<'a> {
     ghost view = { λ it. without_keys it.entries };
 }
 
+// How many they are.
+#[tactic(auto, using(crate::proofs::StanzaLemmas::stanzas_counted))]
+fn stanza_count(store: &Store) -> u32
+    ensures { result ≡ length (stanzas_in_order (state_of store.now).lists) }
+{
+    store.counts().stanzas
+}
+
 /// All stanzas of a store, list by list, live or not.
-#[tactic(auto, using(crate::proofs::StanzaLemmas::plain_entries, crate::proofs::StanzaLemmas::stanzas_counted))]
+#[tactic(auto, using(crate::proofs::StanzaLemmas::plain_entries))]
 pub(crate) fn stanzas_of(store: &Store) -> Stanzas<'_>
     ensures stanzas { result ≡ stanzas_in_order (state_of store.now).lists }
     ensures few { length result < 2 ^ 32 }
 {
-    // How many they are is said here.
-    let _counts = store.counts();
+    // That they are fewer than 2^32 is said here.
+    let _count = stanza_count(store);
     Stanzas {
         entries: store.entries(),
     }
