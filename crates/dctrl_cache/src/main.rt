@@ -2,6 +2,7 @@
 #![tactic(auto)]
 
 ghost use Rattle.std.specs.Prelude.{◌≡◌};
+ghost use Rattle.dctrl_cache.specs.declared.Failure.TheVariants.{Memory};
 
 use clap::error::ErrorKind as WordsFault;
 use ctl_index::Cache;
