@@ -6,7 +6,7 @@ DESTDIR ?=
 PROGRAM := crates/dctrl_cache/out/dctrl_cache
 EXAMPLES := $(sort $(wildcard examples/*.script))
 
-.PHONY: help demo build test prove test-program test-tools edits bench install clean
+.PHONY: help demo build test prove test-program test-tools edits bench deb install clean
 
 help:
 	@echo 'make demo      runs the examples with an unproved quick build, and compares what they print'
@@ -15,7 +15,8 @@ help:
 	@echo 'make prove     every proof from nothing, the named wrong bodies, the tests, the programs'
 	@echo 'make edits     the edits that must fail, many in one check; CRATES=".." and EDITS=".." name some, JOBS=N sets how many checks run at once'
 	@echo 'make bench     measures time and memory beside grep-dctrl and apt-cache; FILE=.. names a Packages file'
-	@echo 'make install   puts the program and its manual page below DESTDIR and PREFIX ($(PREFIX))'
+	@echo 'make deb       makes the Debian package, in out/'
+	@echo 'make install   puts the programs, their manual pages, the completion and the examples below DESTDIR and PREFIX ($(PREFIX))'
 	@echo 'make clean     removes what was made'
 
 # `rt try` builds the program without any proof, and runs it on each script.
@@ -67,8 +68,11 @@ ifdef FILE
 endif
 
 install: $(PROGRAM)
-	install -D -m 755 $(PROGRAM) $(DESTDIR)$(PREFIX)/bin/dctrl-cache
-	install -D -m 644 man/dctrl-cache.1 $(DESTDIR)$(PREFIX)/share/man/man1/dctrl-cache.1
+	packaging/install-files $(PROGRAM) '$(DESTDIR)' '$(PREFIX)'
+
+deb: $(PROGRAM)
+	mkdir -p out
+	packaging/build-deb $(PROGRAM) out
 
 clean:
-	rm -rf crates/*/out
+	rm -rf crates/*/out out

@@ -9,12 +9,14 @@ package. The last line is the count."""
 import os
 import sys
 
+from completion import test_completion
 from cuts import test_cuts
 from edits import test_edits
 from examples import test_examples
 from files import test_files
 from harness import Tests
 from manual import test_manual
+from package import test_package
 from scripts import test_scripts
 from talk import test_talk
 from words import test_words
@@ -36,6 +38,8 @@ def main(words):
     test_cuts(tests, words[1])
     test_manual(tests)
     test_wrapper(tests)
+    test_completion(tests)
+    test_package(tests)
     print("%d passed, %d failed" % (tests.passed, tests.failed))
     return 0 if tests.failed == 0 else 1
 
