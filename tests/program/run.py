@@ -9,6 +9,7 @@ package. The last line is the count."""
 import os
 import sys
 
+from bench import test_bench
 from completion import test_completion
 from cuts import test_cuts
 from edits import test_edits
@@ -40,6 +41,7 @@ def main(words):
     test_wrapper(tests)
     test_completion(tests)
     test_package(tests)
+    test_bench(tests)
     print("%d passed, %d failed" % (tests.passed, tests.failed))
     return 0 if tests.failed == 0 else 1
 

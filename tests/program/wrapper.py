@@ -219,7 +219,8 @@ def test_words(tests):
         status, output, errors = finished([WRAPPER, "--help"])
         tests.same("the wrapper's help", (status, output.startswith(b"Usage: dctrl-cache-apt [--root DIR] COMMAND"), errors), (0, True, b""))
         tests.same("the wrapper's version", finished([WRAPPER, "--version"]), (0, b"dctrl-cache-apt 0.1.0\n", b""))
-        tests.same("--root without a folder", finished([WRAPPER, "--root"]), (2, b"", b"dctrl-cache-apt: --root: no folder is named\n"))
+        for words in (["--root"], ["--root", ""], ["--root=", "policy"]):
+            tests.same("%r without a folder" % words, finished([WRAPPER, *words]), (2, b"", b"dctrl-cache-apt: --root: no folder is named\n"))
 
 
 def test_faults(tests):
@@ -297,6 +298,31 @@ def test_names_of_lists(tests):
         tests.same("a list of the script", b"     2 500\n        500 main\n" in got[1], True)
 
 
+def test_long_lines(tests):
+    """Answers are handed on as they are: long lines, and bytes that are no text."""
+    body = b"Package: foo\nVersion: 1\nArchitecture: amd64\nDescription: " + b"x y" * 300_000 + b"\n \xff\xfe\x01 \\ & \t%s\n"
+    with AptRoot() as root:
+        root.add_release("stable", {"main": ""}, packed_lists={"main": body})
+        for what, words, script in (("a command", ["show", "foo"], b""), ("a script", [], b"show foo\n")):
+            tests.same("long lines of %s" % what, ask(tests, root, words, script) == (0, body + b"\n", b""), True)
+
+
+def test_writers(tests):
+    """An answer that can't be written ends the run."""
+    with AptRoot() as root:
+        root.add_release("stable", {"main": "".join(stanza("foo%d" % number, "1") for number in range(3000))})
+        environment = {**os.environ, "DCTRL_CACHE": tests.program}
+        for words, script in ((["pkgnames"], b""), ([], b"pkgnames\n" * 9)):
+            with open("/dev/full", "wb") as full:
+                got = finished([WRAPPER, "--root", root.folder, *words], input=script, stdout=full, env=environment)
+            tests.same("a full device", (got[0], got[2]), (2, b"dctrl-cache-apt: write failed\n"))
+        command = 'printf "pkgnames\\npkgnames\\npkgnames\\n" | "$0" --root "$1" | head -n 1'
+        status, output, errors = finished(["sh", "-c", command, WRAPPER, root.folder], env=environment)
+        tests.same("a reader that stops", (status, output, errors), (0, b"dpkg\n", b"dctrl-cache-apt: write failed\n"))
+        got = finished(["sh", "-c", '"$0" --root "$1" pkgnames dpk <&-', WRAPPER, root.folder], env=environment)
+        tests.same("a command without standard input", got, (0, b"dpkg\n", b""))
+
+
 def test_wrapper(tests):
     if shutil.which("apt-config") is None or shutil.which("apt-get") is None or shutil.which("apt-cache") is None:
         tests.skip("the wrapper", "apt isn't installed")
@@ -313,3 +339,5 @@ def test_wrapper(tests):
     test_architectures(tests)
     test_no_sources(tests)
     test_names_of_lists(tests)
+    test_long_lines(tests)
+    test_writers(tests)
