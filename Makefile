@@ -6,7 +6,7 @@ DESTDIR ?=
 PROGRAM := crates/dctrl_cache/out/dctrl_cache
 EXAMPLES := $(sort $(wildcard examples/*.script))
 
-.PHONY: help demo build test prove test-program test-tools edits bench install clean
+.PHONY: help demo build test prove test-program test-tools edits bench bench-parts deb install clean
 
 help:
 	@echo 'make demo      runs the examples with an unproved quick build, and compares what they print'
@@ -14,8 +14,10 @@ help:
 	@echo 'make test      the whole gate: demo, test-tools, prove, test-program and edits, up to the first that fails; KEEP_GOING=1 runs all'
 	@echo 'make prove     every proof from nothing, the named wrong bodies, the tests, the programs'
 	@echo 'make edits     the edits that must fail, many in one check; CRATES=".." and EDITS=".." name some, JOBS=N sets how many checks run at once'
-	@echo 'make bench     measures time and memory beside grep-dctrl and apt-cache; FILE=.. names a Packages file'
-	@echo 'make install   puts the program and its manual page below DESTDIR and PREFIX ($(PREFIX))'
+	@echo 'make bench     measures time and memory beside apt-cache, grep-dctrl and python-apt; FILE=.. names a Packages file, TIMES=1,2 how often it is taken'
+	@echo 'make bench-parts  measures the parts: reading, edits, tables, refusals; FILE=.. as above'
+	@echo 'make deb       makes the Debian package, in out/'
+	@echo 'make install   puts the programs, their manual pages, the completion and the examples below DESTDIR and PREFIX ($(PREFIX))'
 	@echo 'make clean     removes what was made'
 
 # `rt try` builds the program without any proof, and runs it on each script.
@@ -54,6 +56,10 @@ edits:
 	python3 tools/batch_edits.py $(if $(CRATES),--crates $(CRATES)) $(if $(EDITS),--edits $(EDITS)) $(if $(JOBS),--jobs $(JOBS)) $(if $(APART),--apart)
 
 bench: $(PROGRAM)
+	mkdir -p out
+	python3 bench/table.py $(PROGRAM) $(if $(FILE),--list $(FILE)) $(if $(TIMES),--times $(TIMES)) --results out/bench.json --chart out/growth.svg
+
+bench-parts: $(PROGRAM)
 	python3 bench/lists.py $(PROGRAM) $(FILE)
 	python3 bench/stores.py $(PROGRAM) $(FILE)
 	python3 bench/refusals.py $(PROGRAM)
@@ -67,8 +73,11 @@ ifdef FILE
 endif
 
 install: $(PROGRAM)
-	install -D -m 755 $(PROGRAM) $(DESTDIR)$(PREFIX)/bin/dctrl-cache
-	install -D -m 644 man/dctrl-cache.1 $(DESTDIR)$(PREFIX)/share/man/man1/dctrl-cache.1
+	packaging/install-files $(PROGRAM) '$(DESTDIR)' '$(PREFIX)'
+
+deb: $(PROGRAM)
+	mkdir -p out
+	packaging/build-deb $(PROGRAM) out
 
 clean:
-	rm -rf crates/*/out
+	rm -rf crates/*/out out

@@ -11,6 +11,7 @@ TOP = os.path.join(os.path.dirname(os.path.abspath(__file__)), "..", "..")
 MANUAL = os.path.join(TOP, "docs", "MANUAL.md")
 DIFFERENCES = os.path.join(TOP, "docs", "DIFFERENCES.md")
 PAGE = os.path.join(TOP, "man", "dctrl-cache.1")
+WRAPPERS_PAGE = os.path.join(TOP, "man", "dctrl-cache-apt.1")
 INDENT = "    "
 
 
@@ -156,19 +157,28 @@ def rendered(page):
     return None, b""
 
 
-def test_page(tests):
-    """The manual page renders without a complaint, and reads as it should."""
-    seen, wrong = rendered(PAGE)
+def words_of_page(tests, page):
+    """The words of a page as a reader sees it, which has to render without a complaint; nothing where no program for that is there."""
+    seen, wrong = rendered(page)
     if seen is None:
-        tests.skip("the rendering of the manual page", "neither mandoc nor groff is installed")
-        return
-    tests.same("complaints of the manual page", wrong, b"")
+        tests.skip("the rendering of %s" % os.path.basename(page), "neither mandoc nor groff is installed")
+        return None
+    tests.same("complaints of %s" % os.path.basename(page), wrong, b"")
     # Bold and underlined letters are overprinted, or have escapes.
-    plain = re.sub(rb"\x1b\[[0-9;]*m|.\x08", b"", seen)
-    words = b" ".join(plain.split())
-    for wanted in (b"a single dot", b"dctrl-cache [-l NAME=FILE]... [--status FILE] [SCRIPT]", b"pin * release LIST P", b"/usr/lib/apt/apt-helper cat-file"):
-        tests.same("%r in the manual page" % wanted, wanted in words, True)
-    tests.same("dots that meet", b" .. " in words, False)
+    words = b" ".join(re.sub(rb"\x1b\[[0-9;]*m|.\x08", b"", seen).split())
+    tests.same("dots that meet in %s" % os.path.basename(page), b" .. " in words, False)
+    return words
+
+
+def test_pages(tests):
+    """The manual pages render without a complaint, and read as they should."""
+    for page, texts in (
+        (PAGE, (b"a single dot", b"dctrl-cache [-l NAME=FILE]... [--status FILE] [SCRIPT]", b"pin * release LIST P", b"/usr/lib/apt/apt-helper cat-file")),
+        (WRAPPERS_PAGE, (b"dctrl-cache-apt [--root DIR] COMMAND [WORD]...", b"dctrl-cache-apt [--root DIR] < SCRIPT", b"--lists Prints the lists")),
+    ):
+        words = words_of_page(tests, page)
+        for wanted in texts if words is not None else ():
+            tests.same("%r in %s" % (wanted, os.path.basename(page)), wanted in words, True)
 
 
 def test_examples_of(tests, what, text):
@@ -185,4 +195,4 @@ def test_manual(tests):
     test_synopsis(tests)
     test_commands(tests)
     test_refusals(tests)
-    test_page(tests)
+    test_pages(tests)

@@ -3,20 +3,25 @@
 
 Tests the program from outside: its words, its exit statuses, lists from files, what it writes to standard output and
 standard error, many edits of one list, a full device, a closed pipe, a reader that stops, a talk command by command, the
-examples and those of the manual, also cut at each byte. The last line is the count."""
+examples and those of the manual, also cut at each byte; and what is installed beside it: the wrapper, its completion and the
+package. The last line is the count."""
 
 import os
 import sys
 
+from bench import test_bench
+from completion import test_completion
 from cuts import test_cuts
 from edits import test_edits
 from examples import test_examples
 from files import test_files
 from harness import Tests
 from manual import test_manual
+from package import test_package
 from scripts import test_scripts
 from talk import test_talk
 from words import test_words
+from wrapper import test_wrapper
 from writers import test_writers
 
 
@@ -33,6 +38,10 @@ def main(words):
     test_examples(tests, words[1])
     test_cuts(tests, words[1])
     test_manual(tests)
+    test_wrapper(tests)
+    test_completion(tests)
+    test_package(tests)
+    test_bench(tests)
     print("%d passed, %d failed" % (tests.passed, tests.failed))
     return 0 if tests.failed == 0 else 1
 
