@@ -12,6 +12,7 @@ use ctl_store::{
 };
 use std::alloc::{AllocError, Global};
 use std::cmp::Ordering;
+use std::process::Abort;
 use std::test::Fail;
 
 /// The list `m` that most tests begin with.
@@ -449,6 +450,18 @@ pub fn came(alloc: Global, acts: &[Act<'_>]) -> Result<Vec<u8>, Fail> {
     came_under(alloc, Limits::MOST, acts)
 }
 
+/// Compares what comes of acts with a new store, which are told by a name.
+fn judge(
+    rt: &(impl Abort + AllocGlobal),
+    name: &[u8],
+    acts: &[Act<'_>],
+    wanted: &[u8],
+) -> Result<(), Fail> {
+    let text = came(rt.alloc(), acts)?;
+    same(rt, name, &text, wanted);
+    Ok(())
+}
+
 /// What a new store holds: no list, no pin and no target.
 fn new_state(alloc: Global) -> Result<Vec<u8>, AllocError> {
     let store = Store::new(alloc);
@@ -646,35 +659,37 @@ const PINS: &str =
 #[test]
 fn specific_pins_of_a_package_are_given_in_order(rt: HostRuntime) -> Result<(), Fail> {
     let prefs = Act::Make(Asked::Prefs(PINS));
-    let rows: [(&[u8], &[Act<'_>], &[u8]); 5] = [
-        (b"no pins", &[Act::PinsOf(b"a")], b""),
-        (
-            b"a version, a release and a prefix",
-            &[prefs, Act::PinsOf(b"a")],
-            b"pin a version 1 7\npin a release m 6\npin a version 2.* -1\n",
-        ),
-        (b"one", &[prefs, Act::PinsOf(b"b")], b"pin b version 1 7\n"),
-        (
-            b"a general one",
-            &[prefs, Act::PinsOf(b"*"), Act::PinsOf(b"")],
-            b"",
-        ),
-        (
-            b"set again, and taken out and set again",
-            &[
-                prefs,
-                Act::Make(Asked::Pin("a", "2.*", 9)),
-                Act::Make(Asked::Unpin("a", "1")),
-                Act::Make(Asked::Pin("a", "1", 8)),
-                Act::PinsOf(b"a"),
-            ],
-            b"pin a release m 6\npin a version 2.* 9\npin a version 1 8\n",
-        ),
-    ];
-    for (name, acts, wanted) in &rows {
-        let text = came(rt.alloc(), acts)?;
-        same(&rt, name, &text, wanted);
-    }
+    judge(&rt, b"no pins", &[Act::PinsOf(b"a")], b"")?;
+    judge(
+        &rt,
+        b"a version, a release and a prefix",
+        &[prefs, Act::PinsOf(b"a")],
+        b"pin a version 1 7\npin a release m 6\npin a version 2.* -1\n",
+    )?;
+    judge(
+        &rt,
+        b"one",
+        &[prefs, Act::PinsOf(b"b")],
+        b"pin b version 1 7\n",
+    )?;
+    judge(
+        &rt,
+        b"a general one",
+        &[prefs, Act::PinsOf(b"*"), Act::PinsOf(b"")],
+        b"",
+    )?;
+    judge(
+        &rt,
+        b"set again, and taken out and set again",
+        &[
+            prefs,
+            Act::Make(Asked::Pin("a", "2.*", 9)),
+            Act::Make(Asked::Unpin("a", "1")),
+            Act::Make(Asked::Pin("a", "1", 8)),
+            Act::PinsOf(b"a"),
+        ],
+        b"pin a release m 6\npin a version 2.* 9\npin a version 1 8\n",
+    )?;
     Ok(())
 }
 
