@@ -15,6 +15,7 @@ use Rattle.ctl_index.specs.Offers.{offers_among}
 use Rattle.ctl_policy.specs.Rows.{Lists, keys_of_row, newest_first, rows_named, lead_of, lead_at, version_under}
 use Rattle.ctl_policy.specs.Priority.{World}
 use Rattle.ctl_policy.specs.Candidate.{installed_of, candidate_of}
+use Rattle.ctl_filter.specs.Grep.{filter_text}
 use Rattle.ctl_query.specs.Packages.{is_none_of, stanzas_of, names_known, is_known, rows_of, has_row, packages_of, is_installed, stanza_under, lead_in, told, told_of_row, of_rows, of_all_rows}
 use Rattle.ctl_query.specs.Texts.{line, if_known, unknown_line, right_four}
 use Rattle.ctl_query.specs.PackageNames.{package_names_text, name_line, begins_with}
@@ -24,7 +25,7 @@ use Rattle.ctl_query.specs.Depends.{first_lead, lead_shown, providers, is_met_by
 use Rattle.ctl_query.specs.ReverseDepends.{naming_in_lead, naming, asker_line, asking_line, reverse_depends_one}
 use Rattle.ctl_query.specs.Unmet.{is_unmet, clause_line, clause_lines, fields_considered, under, unmet_heading, unmet_lead, unmet_text}
 use Rattle.ctl_query.specs.ShowPackage.{source_mark, version_line, naming_lines, relation_lines, entry_lines, providing_lines, show_package_one}
-use Rattle.ctl_query.specs.Query.{Query, PackageNames, Show, Depends, ReverseDepends, Unmet, Policy, ShowPackage}
+use Rattle.ctl_query.specs.Query.{Query, PackageNames, Show, Depends, ReverseDepends, Unmet, Policy, ShowPackage, Filter}
 use Rattle.ctl_query.specs.Answer.{policy_answer, answer_text}
 use Rattle.ctl_query.proofs.ClassLemmas.{AreClasses}
 use Rattle.ctl_query.proofs.TwinLemmas as twin
@@ -260,3 +261,4 @@ module _ (classes : AreClasses) (shown : AreShown) (f : StanzaKey → StanzaKey)
   same_answer (Unmet important) = same_unmet important
   same_answer (Policy names) = same_policy names
   same_answer (ShowPackage names) = same_of_names (show_package_one w) (show_package_one u) same_show_package_one names
+  same_answer (Filter asked) = ap (λ stanzas. filter_text stanzas asked) same_stanzas

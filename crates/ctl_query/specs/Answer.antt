@@ -1,7 +1,9 @@
 -- The answer to a query.
 use Rattle.std.specs.Prelude.{ℕ, List, [], ◌∷◌}
 use Rattle.ctl_policy.specs.Priority.{World}
-use Rattle.ctl_query.specs.Query.{Query, PackageNames, Show, Depends, ReverseDepends, Unmet, Policy, ShowPackage}
+use Rattle.ctl_query.specs.Query.{Query, PackageNames, Show, Depends, ReverseDepends, Unmet, Policy, ShowPackage, Filter}
+use Rattle.ctl_filter.specs.Grep.{filter_text}
+use Rattle.ctl_query.specs.Packages.{stanzas_of}
 use Rattle.ctl_query.specs.PackageNames.{package_names_text}
 use Rattle.ctl_query.specs.Show.{show_text}
 use Rattle.ctl_query.specs.Depends.{depends_text, depends_pairs}
@@ -23,6 +25,7 @@ answer_text world (ReverseDepends installed names) = reverse_depends_text world 
 answer_text world (Unmet important) = unmet_text world important
 answer_text world (Policy names) = policy_answer world names
 answer_text world (ShowPackage names) = show_package_text world names
+answer_text world (Filter filter) = filter_text (stanzas_of world) filter
 
 -- how many tests an answer may make
 abbrev pub answer_pairs : World → Query → ℕ
@@ -33,3 +36,4 @@ answer_pairs world (ReverseDepends installed names) = 0
 answer_pairs world (Unmet important) = 0
 answer_pairs world (Policy names) = 0
 answer_pairs world (ShowPackage names) = 0
+answer_pairs world (Filter filter) = 0

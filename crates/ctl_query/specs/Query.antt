@@ -7,6 +7,7 @@ use Rattle.ctl_relation.specs.Names.{is_name}
 use Rattle.ctl_store.specs.PinVersions.{is_version}
 use Rattle.ctl_store.specs.declared.refusal.Refusal.{Refusal}
 use Rattle.ctl_store.specs.declared.refusal.Refusal.TheVariants as refusal
+use Rattle.ctl_filter.specs.Query.{FilterQuery, filter_of}
 use Rattle.ctl_query.specs.Words.{is_among}
 use Rattle.ctl_query.specs.Show.{AskedRow}
 use Rattle.ctl_query.specs.declared.query_name.QueryName.{QueryName}
@@ -25,6 +26,8 @@ pub data Query : Type 0 where
   Unmet : Bool → Query
   Policy : List (List ℕ) → Query
   ShowPackage : List (List ℕ) → Query
+  -- what grep-dctrl(1) is asked for
+  Filter : FilterQuery → Query
 
 -- ---- names and options
 
@@ -38,9 +41,13 @@ query_named word =
     if bytes_eq word (codes "policy") then Some name.Policy else (
     if bytes_eq word (codes "showpkg") then Some name.ShowPackage else None))))))
 
+-- the query of grep-dctrl(1), whose words are its own
+unfoldable pub is_filter_name : List ℕ → Bool
+is_filter_name word = bytes_eq word (codes "grep-dctrl")
+
 -- whether a command of this name is a query
 unfoldable pub is_query : List ℕ → Bool
-is_query name = is_some (query_named name)
+is_query name = is_filter_name name || is_some (query_named name)
 
 -- the options of each query
 abbrev pub options_of : QueryName → List (List ℕ)
@@ -148,8 +155,13 @@ abbrev pub query_if : Option QueryName → List (List ℕ) → Result Query Refu
 query_if None words = Err refusal.Command
 query_if (Some name) words = query_in name words
 
+abbrev pub asked_filter : Result FilterQuery Refusal → Result Query Refusal
+asked_filter (Ok filter) = Ok (Filter filter)
+asked_filter (Err cause) = Err cause
+
 -- What words ask for, or the first of these refusals: a name that is no query's; an option that is not the
--- query's, or a wrong number of arguments; and, argument by argument from the left, a bad name or version.
+-- query's, or a wrong number of arguments; and, argument by argument from the left, a bad name or version. Of grep-dctrl
+-- what its filter is refused for.
 abbrev pub query_of : List (List ℕ) → Result Query Refusal
 query_of [] = Err refusal.Command
-query_of (word ∷ words) = query_if (query_named word) words
+query_of (word ∷ words) = if is_filter_name word then asked_filter (filter_of words) else query_if (query_named word) words

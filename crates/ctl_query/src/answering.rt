@@ -17,6 +17,7 @@ use crate::reverse_depends::append_reverse_depends;
 use crate::show::append_show;
 use crate::show_package::append_show_package;
 use crate::unmet::append_unmet;
+use ctl_filter::append_filter;
 use ctl_index::Cache;
 use ctl_relation::{Bytes, Steps};
 use std::alloc::{AllocError, Global};
@@ -74,6 +75,10 @@ fn append_answer(
             append_show_package(alloc, cache, names, out)?;
             Ok(())
         }
+        Query::Filter(filter) => {
+            append_filter(alloc, cache.store(), filter, out)?;
+            Ok(())
+        }
     }
 }
 
@@ -118,7 +123,7 @@ fn answer_behind(
     out.extend_from_slice(&text)
 }
 
-/// Appends the answer to a query (apt-cache(8)) on a cache that isn't stale. It makes no test of an offer against an atom but
+/// Appends the answer to a query (apt-cache(8), grep-dctrl(1)) on a cache that isn't stale. It makes no test of an offer against an atom but
 /// for `depends`: there it makes at most one for each pair of an atom of a lead that is shown and an offer of its name.
 ///
 /// # Errors

@@ -5,13 +5,15 @@ ghost use Rattle.std.specs.Str.{bytes_eq};
 ghost use Rattle.std.specs.List.{list_all, prefix_len};
 ghost use Rattle.ctl_relation.specs.Names.{is_name};
 ghost use Rattle.ctl_store.specs.declared.refusal.Refusal.TheVariants as refusal;
+ghost use Rattle.ctl_filter.specs.Query.{filter_of};
 ghost use Rattle.ctl_query.specs.Words.{is_among};
 ghost use Rattle.ctl_query.specs.Asked.{asked_row};
-ghost use Rattle.ctl_query.specs.Query.{Query as Asked, is_option, is_argument, is_important, is_installed_alone, shows_all, is_before_equals, options_of, version_asked, row_of_parts, row_asked, rows_asked, some_names_asked, query_by, query_in, query_of, is_query};
-ghost use Rattle.ctl_query.specs.QueryRead.{Reads, query_text};
+ghost use Rattle.ctl_query.specs.Query.{Query as Asked, is_option, is_argument, is_important, is_installed_alone, shows_all, is_before_equals, options_of, version_asked, row_of_parts, row_asked, rows_asked, some_names_asked, query_by, query_in, asked_filter, query_of, is_filter_name, is_query};
+ghost use Rattle.ctl_query.specs.QueryRead.{Reads, ReadsQuery, query_text};
 
 use crate::query::{AskedRow, Query};
 use crate::query_name::QueryName;
+use ctl_filter::parse_filter;
 use ctl_relation::{Bytes, Version, VersionFault, is_name};
 use ctl_store::Refusal;
 use std::alloc::{AllocError, Global};
@@ -290,24 +292,46 @@ fn query_in(alloc: Global, name: QueryName, words: &[Bytes]) -> Result<Query, Re
 pub fn is_query(name: &[u8]) -> bool
     ensures { result ≡ is_query name.now }
 {
-    QueryName::read(name).is_some()
+    is_filter_name(name) || QueryName::read(name).is_some()
 }
 
-/// What words ask for: the name of a query, its options and its arguments (apt-cache(8)).
+/// Whether it is the query of grep-dctrl(1), whose words are its own.
+#[tactic(auto, unfolding(crate::specs::Query::is_filter_name))]
+fn is_filter_name(word: &[u8]) -> bool
+    ensures { result ≡ is_filter_name word.now }
+{
+    word == b"grep-dctrl".as_slice()
+}
+
+/// What the words of grep-dctrl(1) ask for.
+fn filter_asked(alloc: Global, words: &[Bytes]) -> Result<Query, Refusal>
+    ensures { ReadsQuery result (asked_filter (filter_of words.now)) }
+{
+    let filter = parse_filter(alloc, words)?;
+    Ok(Query::Filter(filter))
+}
+
+/// What words ask for: the name of a query, its options and its arguments (apt-cache(8)), or the words of a filter
+/// (grep-dctrl(1)).
 ///
 /// # Errors
 ///
 /// The first of these: [`Refusal::Command`], where there are no words or the first is no query's name; [`Refusal::Usage`], where
 /// an option is not one of the query's, or there are too many or too few arguments; and, argument by argument from the left,
-/// [`Refusal::Name`] and [`Refusal::Version`], where one is no name or version. [`Refusal::Memory`] where memory is refused.
+/// [`Refusal::Name`] and [`Refusal::Version`], where one is no name or version. Those of a filter are told at
+/// [`parse_filter`]. [`Refusal::Memory`] where memory is refused.
 pub fn parse_query(alloc: Global, words: &[Bytes]) -> Result<Query, Refusal>
-    ensures { Reads query_text result (query_of words.now) }
+    ensures { ReadsQuery result (query_of words.now) }
 {
     let [name, words @ ..] = words else {
         return Err(Refusal::Command);
     };
+    if is_filter_name(name.as_slice()) {
+        return filter_asked(alloc, words);
+    }
     let Some(name) = QueryName::read(name.as_slice()) else {
         return Err(Refusal::Command);
     };
-    query_in(alloc, name, words)
+    let query = query_in(alloc, name, words)?;
+    Ok(query)
 }

@@ -1,5 +1,6 @@
 //! Queries: what their words ask for.
 
+use ctl_filter::FilterQuery;
 use ctl_relation::{Bytes, Version};
 
 /// A word of `show`: a name, and a version if it has one.
@@ -9,7 +10,7 @@ pub struct AskedRow {
     pub version: Option<Version>,
 }
 
-/// A query of apt-cache(8).
+/// A query of apt-cache(8), or of grep-dctrl(1).
 #[derive(Drop)]
 pub enum Query {
     /// `pkgnames`: whether all known names are asked for, and the prefix.
@@ -26,4 +27,6 @@ pub enum Query {
     Policy(Vec<Bytes>),
     /// `showpkg`: the names.
     ShowPackage(Vec<Bytes>),
+    /// `grep-dctrl`: a filter.
+    Filter(FilterQuery),
 }

@@ -23,6 +23,8 @@ mod edits;
 #[cfg(test)]
 mod faults;
 #[cfg(test)]
+mod filters;
+#[cfg(test)]
 mod laws;
 #[cfg(test)]
 mod limits;

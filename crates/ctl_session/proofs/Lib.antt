@@ -1,3 +1,4 @@
+pub mod AskingLemmas
 pub mod Written
 pub mod LineLemmas
 pub mod ScriptLemmas

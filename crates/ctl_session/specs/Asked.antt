@@ -7,6 +7,7 @@ use Rattle.ctl_store.specs.declared.refusal.Refusal.TheVariants as refusal
 use Rattle.ctl_store.specs.Edits.{edit_of}
 use Rattle.ctl_query.specs.QueryRead.{query_text}
 use Rattle.ctl_session.specs.Request.{Request as RequestText, AddList as AddListText, Put as PutText, Prefs as PrefsText, Change as ChangeText, Ask as AskText, request_by, request_of, refused_at, takes_memory}
+use Rattle.ctl_session.specs.Patterns.{AsksPattern}
 use Rattle.ctl_session.specs.Script.{Command}
 use Rattle.ctl_session.specs.declared.request.Request.{Request}
 use Rattle.ctl_session.specs.declared.request.Request.TheVariants.{AddList, Put, Prefs, Change, Ask}
@@ -25,6 +26,11 @@ request_text (Ask query) = AskText (query_text query)
 abbrev pub Asks : Result Request Refusal → Result RequestText Refusal → Type 0
 Asks (Ok request) asked = asked ≡ Ok (request_text request)
 Asks (Err cause) asked = (asked ≡ Err cause) ⊎ (cause ≡ refusal.Memory)
+
+-- The same of all commands: one that asks with a pattern of `--rx` may also be refused for it, where `regex` can't build it.
+abbrev pub MayAsk : Result Request Refusal → Result RequestText Refusal → Type 0
+MayAsk (Ok request) asked = asked ≡ Ok (request_text request)
+MayAsk (Err cause) asked = (asked ≡ Err cause) ⊎ ((cause ≡ refusal.Memory) ⊎ ((cause ≡ refusal.Pattern) × AsksPattern asked))
 
 -- the same of a selector
 abbrev pub ReadsSelector : Result Selector Refusal → Result Selector Refusal → Type 0

@@ -23,6 +23,7 @@ use Rattle.ctl_query.specs.Holdings.{holdings_of}
 use Rattle.ctl_session.specs.State.{CacheState}
 use Rattle.ctl_session.specs.Script.{Command}
 use Rattle.ctl_session.specs.Request.{Request, AddList, Put, Prefs, Change, Ask, request_of, takes_memory}
+use Rattle.ctl_session.specs.Patterns.{AsksPattern}
 use Rattle.ctl_session.specs.Outcome.{Outcome, Refused, Answered, Changed}
 use Rattle.ctl_session.specs.declared.refusal_at.RefusalAt.{RefusalAt}
 
@@ -97,10 +98,14 @@ abbrev pub DoesWhatIsAsked : CacheState → Command → Result Request RefusalAt
 DoesWhatIsAsked cache command (Err refused) outcome = outcome ≡ Refused refused.line refused.cause
 DoesWhatIsAsked cache command (Ok request) outcome = Does cache command request outcome
 
--- what a command comes to, where no growth is refused
+-- what a command comes to, where no growth is refused and each pattern of `--rx` can be built
 abbrev pub ComesTo : CacheState → Command → Outcome → Type 0
 ComesTo cache command outcome = DoesWhatIsAsked cache command (request_of command) outcome
 
--- what a command may come to: where a growth was refused, one that takes memory may be refused for that
+-- What a command may come to: where a growth was refused, one that takes memory may be refused for that; and where `regex`
+-- can't build a pattern of `--rx`, a command that asks with one is refused for it.
 abbrev pub MayCome : CacheState → Command → Outcome → Type 0
-MayCome cache command outcome = ComesTo cache command outcome ⊎ ((takes_memory command ≡ true) × (outcome ≡ Refused command.number refusal.Memory))
+MayCome cache command outcome =
+    ComesTo cache command outcome
+    ⊎ (((takes_memory command ≡ true) × (outcome ≡ Refused command.number refusal.Memory))
+    ⊎ (AsksPattern (request_of command) × (outcome ≡ Refused command.number refusal.Pattern)))

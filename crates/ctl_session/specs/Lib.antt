@@ -12,6 +12,7 @@ pub mod WordsRead
 pub mod Reading
 pub mod State
 pub mod Request
+pub mod Patterns
 pub mod Outcome
 pub mod Effect
 pub mod BodyNeed

@@ -4,9 +4,10 @@ ghost use Rattle.std.specs.Prelude.{◌≡◌, IfOk, OnOk, Err, None, is_some, f
 ghost use Rattle.ctl_store.specs.declared.refusal.Refusal.TheVariants.{Command as UnknownCommand};
 ghost use Rattle.ctl_session.specs.Script.{Command as CommandText, name_of};
 ghost use Rattle.ctl_session.specs.Words.{behind_name};
-ghost use Rattle.ctl_session.specs.Request.{command_named, request_by, request_named, words_by};
+ghost use Rattle.ctl_session.specs.Request.{asking, command_named, request_by, request_named, words_by};
 ghost use Rattle.ctl_session.specs.Reading.{Describes};
-ghost use Rattle.ctl_session.specs.Asked.{Asks, GivesWords, GivesWordsOf};
+ghost use Rattle.ctl_session.specs.Asked.{MayAsk, GivesWords, GivesWordsOf};
+ghost use Rattle.ctl_query.specs.Query.{query_of};
 
 use crate::command_name::CommandName;
 use crate::edit_words::{mark_request, remove_request, target_request};
@@ -114,13 +115,25 @@ pub(crate) fn command_words(
     }
 }
 
+/// What the words of a query ask for.
+#[tactic(auto, using(crate::proofs::AskingLemmas::query_may))]
+fn query_request(alloc: Global, words: &[Bytes]) -> Result<Request<'_>, Refusal>
+    ensures asks { MayAsk result (asking (query_of words.now)) }
+{
+    match parse_query(alloc, words) {
+        Ok(query) => Ok(Request::Ask(query)),
+        Err(cause) => Err(cause),
+    }
+}
+
 /// What the words of a command ask for.
+#[tactic(auto, using(crate::proofs::AskingLemmas::asks_may))]
 pub(crate) fn request_by(
     alloc: Global,
     name: CommandName,
     words: &[Bytes],
 ) -> Result<Request<'_>, Refusal>
-    ensures asks { Asks result (request_by name words.now) }
+    ensures asks { MayAsk result (request_by name words.now) }
 {
     match name {
         CommandName::AddList => add_list_request(words),
@@ -133,9 +146,6 @@ pub(crate) fn request_by(
         CommandName::Unpin => unpin_request(alloc, words),
         CommandName::Target => target_request(alloc, words),
         CommandName::Prefs => prefs_request(words),
-        CommandName::Query => match parse_query(alloc, words) {
-            Ok(query) => Ok(Request::Ask(query)),
-            Err(cause) => Err(cause),
-        },
+        CommandName::Query => query_request(alloc, words),
     }
 }

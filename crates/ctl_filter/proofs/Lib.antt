@@ -1,0 +1,10 @@
+pub mod SubstringLemmas
+pub mod RxLemmas
+pub mod GrammarLemmas
+pub mod TreeLemmas
+pub mod FrontLemmas
+pub mod ReadsLemmas
+pub mod StepLemmas
+pub mod StanzaLemmas
+pub mod WordLemmas
+pub mod CaseLemmas

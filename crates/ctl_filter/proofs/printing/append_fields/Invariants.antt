@@ -1,0 +1,7 @@
+use Rattle.std.proofs.Common.{◌≡◌, ◌++◌, take, flat_map}
+use Rattle.ctl_filter.specs.Grep.{field_line}
+use Rattle.ctl_filter.specs.Held.{shown_of}
+use Rattle.ctl_filter.proofs.printing.append_fields.Given as goal
+
+abbrev pub invariant-loop-name : goal.invariant-loop-name
+invariant-loop-name l = l.out.items ≡ l.initial.out.items ++ flat_map (field_line (shown_of l.shown) l.stanza) (take l.name-index l.names)

@@ -1,0 +1,19 @@
+-- Filters as grep-dctrl(1) has them. A caller reads Query: what words ask for; Grammar and Laws: which words are a filter,
+-- and its truth; Filter: what an atom asks of a stanza; Grep: the answer. Trees is Grammar again as a function.
+pub mod Substring
+pub mod Rx
+pub mod Filter
+pub mod Words
+pub mod Names
+pub mod Atoms
+pub mod Grammar
+pub mod Trees
+pub mod Laws
+pub mod Texts
+pub mod Query
+pub mod Grep
+-- How the code holds what it has read. Not for callers.
+pub mod Steps
+pub mod Reads
+pub mod Views
+pub mod Held

@@ -1,0 +1,26 @@
+//! Filters over stanzas as grep-dctrl(1) has them: words to a filter, a filter to the text that it takes of a store.
+#![tactic(auto)]
+
+mod answering;
+mod atom;
+mod cluster;
+mod expression;
+mod gathering;
+mod laws;
+mod names;
+mod options;
+mod parsing;
+mod piece;
+mod printing;
+mod query;
+mod reading;
+mod running;
+mod stanzas;
+mod taking;
+mod text;
+mod token;
+
+pub use answering::append_filter;
+pub use laws::{filters_have_one_tree, substrings_are_parts, truths_are_by_cases};
+pub use parsing::parse_filter;
+pub use query::FilterQuery;

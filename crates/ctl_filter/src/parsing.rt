@@ -1,0 +1,167 @@
+//! Words to a filter.
+
+ghost use Rattle.std.specs.Prelude.{◌≡◌, ◌⊎◌, ◌++◌, ◌∷◌, [], OnOk, IfOk, IfErr, Ok, map, true, false};
+ghost use Rattle.std.specs.List.{list_all, list_any};
+ghost use Rattle.ctl_store.specs.declared.refusal.Refusal.TheVariants as refusal;
+ghost use Rattle.ctl_filter.specs.Filter.{is_text, is_utf8, has_expression};
+ghost use Rattle.ctl_filter.specs.Filter as asked;
+ghost use Rattle.ctl_filter.specs.Held.{asked_atom, atom_of, test_of, shown_of, AreOptionsOf, IsAskedBy};
+ghost use Rattle.ctl_filter.specs.Names.{are_field_names};
+ghost use Rattle.ctl_filter.specs.Atoms.{names_shown};
+ghost use Rattle.ctl_filter.specs.Query.{shown_by, if_pieces, filter_of};
+
+use crate::atom::{Atom, Test};
+use crate::cluster::pieces_of;
+use crate::expression::{Expression, PatternFault};
+use crate::gathering::{AskedAtom, Gathered, Modifiers, parts_of};
+use crate::names::are_field_names;
+use crate::options::{fields_shown, is_given, names_shown};
+use crate::piece::{Manner, Piece};
+use crate::query::{FilterQuery, Shown};
+use crate::reading::steps_of;
+use ctl_relation::Bytes;
+use ctl_store::Refusal;
+use std::alloc::Global;
+
+fn expression_of(alloc: Global, pattern: &[u8], any_case: bool) -> Result<Test, Refusal>
+    ensures ok { IfOk result (λ test. (test_of test ≡ asked.Expression any_case pattern.now) × (is_utf8 pattern.now ≡ true)) }
+    ensures err { IfErr result (λ cause. (cause ≡ refusal.Pattern) ⊎ (cause ≡ refusal.Memory)) }
+{
+    match Expression::new(alloc, pattern, any_case) {
+        Ok(expression) => Ok(Test::Expression(expression)),
+        Err(PatternFault::Refused) => Err(Refusal::Pattern),
+        Err(PatternFault::Memory) => Err(Refusal::Memory),
+    }
+}
+
+/// Builds an atom. Its pattern is built where it is one of `--rx`.
+fn built_atom(alloc: Global, asked: AskedAtom) -> Result<Atom, Refusal>
+    ensures ok { IfOk result (λ atom. (atom_of atom ≡ asked_atom asked) × (is_text (asked_atom asked) ≡ true)) }
+    ensures err { IfErr result (λ cause. ((cause ≡ refusal.Pattern) × (has_expression (asked_atom asked) ≡ true)) ⊎ (cause ≡ refusal.Memory)) }
+{
+    let AskedAtom { modifiers, pattern } = asked;
+    let Modifiers {
+        fields,
+        any_case,
+        manner,
+    } = modifiers;
+    let test = match manner {
+        None => Test::Substring(any_case, pattern),
+        Some(Manner::Exact) => Test::Exact(any_case, pattern),
+        Some(Manner::Rx) => expression_of(alloc, pattern.as_slice(), any_case)?,
+        Some(Manner::Compare(operator)) => Test::Compare(operator, pattern),
+    };
+    Ok(Atom { fields, test })
+}
+
+fn push_atom(atoms: &mut Vec<Atom>, atom: Atom) -> Result<(), Refusal>
+    ensures ok { OnOk result (map atom_of atoms.new.items ≡ map atom_of atoms.old.items ++ atom_of atom ∷ []) }
+    ensures err { IfErr result (λ cause. cause ≡ refusal.Memory) }
+{
+    match atoms.push(atom) {
+        Ok(()) => Ok(()),
+        Err(_) => Err(Refusal::Memory),
+    }
+}
+
+/// Builds atoms.
+fn built_atoms(alloc: Global, asked: Vec<AskedAtom>) -> Result<Vec<Atom>, Refusal>
+    ensures ok { IfOk result (λ atoms. (map atom_of atoms.items ≡ map asked_atom asked.items) × (list_all is_text (map asked_atom asked.items) ≡ true)) }
+    ensures err { IfErr result (λ cause. ((cause ≡ refusal.Pattern) × (list_any has_expression (map asked_atom asked.items) ≡ true)) ⊎ (cause ≡ refusal.Memory)) }
+{
+    let mut atoms = Vec::new(alloc);
+    'atoms: for one in asked {
+        push_atom(&mut atoms, built_atom(alloc, one)?)?;
+    }
+    Ok(atoms)
+}
+
+/// The names of `-s`, which are fields.
+fn names_asked(alloc: Global, pieces: &[Piece]) -> Result<Vec<Bytes>, Refusal>
+    ensures ok { IfOk result (λ names. (names.items ≡ names_shown pieces.now) × (are_field_names (names_shown pieces.now) ≡ true)) }
+    ensures err { IfErr result (λ cause. ((cause ≡ refusal.Filter) × (are_field_names (names_shown pieces.now) ≡ false)) ⊎ (cause ≡ refusal.Memory)) }
+{
+    let Ok(names) = names_shown(alloc, pieces) else {
+        return Err(Refusal::Memory);
+    };
+    if are_field_names(&names) {
+        Ok(names)
+    } else {
+        Err(Refusal::Filter)
+    }
+}
+
+/// What is to be shown.
+fn shown_by(alloc: Global, pieces: &[Piece], names: Vec<Bytes>) -> Result<Shown, Refusal>
+    requires { names.items ≡ names_shown pieces.now }
+    ensures ok { IfOk result (λ shown. shown_of shown ≡ shown_by pieces.now) }
+    ensures err { IfErr result (λ cause. cause ≡ refusal.Memory) }
+{
+    let first_line_alone = is_given(b'd', pieces);
+    match fields_shown(alloc, first_line_alone, names) {
+        Ok(fields) => Ok(Shown {
+            bodies_alone: is_given(b'n', pieces),
+            first_line_alone,
+            fields,
+        }),
+        Err(_) => Err(Refusal::Memory),
+    }
+}
+
+/// The options of a filter: `-v`, `-c`, and what is to be shown.
+#[derive(Drop)]
+struct Options {
+    inverted: bool,
+    counted: bool,
+    shown: Shown,
+}
+
+fn options_of(alloc: Global, pieces: &[Piece]) -> Result<Options, Refusal>
+    ensures ok { IfOk result (λ options. AreOptionsOf options pieces.now × (are_field_names (names_shown pieces.now) ≡ true)) }
+    ensures err { IfErr result (λ cause. ((cause ≡ refusal.Filter) × (are_field_names (names_shown pieces.now) ≡ false)) ⊎ (cause ≡ refusal.Memory)) }
+{
+    let names = names_asked(alloc, pieces)?;
+    let shown = shown_by(alloc, pieces, names)?;
+    Ok(Options {
+        inverted: is_given(b'v', pieces),
+        counted: is_given(b'c', pieces),
+        shown,
+    })
+}
+
+/// The filter of pieces.
+fn query_in(alloc: Global, pieces: Vec<Piece>) -> Result<FilterQuery, Refusal>
+    ensures { IsAskedBy result (if_pieces (Ok pieces.items)) }
+{
+    let Options {
+        inverted,
+        counted,
+        shown,
+    } = options_of(alloc, &pieces)?;
+    let Gathered { tokens, atoms, .. } = parts_of(alloc, pieces)?;
+    let steps = steps_of(alloc, &tokens)?;
+    let atoms = built_atoms(alloc, atoms)?;
+    Ok(FilterQuery {
+        inverted,
+        counted,
+        shown,
+        atoms,
+        steps,
+    })
+}
+
+/// What the words of a filter ask for (grep-dctrl(1)), those behind its name.
+///
+/// # Errors
+///
+/// The first of these: [`Refusal::Usage`], where a word is none of grep-dctrl's, or an option is without its argument;
+/// [`Refusal::Filter`], where FIELDS are no names of fields, an atom has two of `-X`, `--rx` and the comparisons, or the words
+/// are no expression of which `(` and `!` nest 100 deep at most; [`Refusal::Pattern`], where a pattern of `--rx` isn't UTF-8,
+/// or is refused by `regex`. [`Refusal::Memory`] where memory is refused.
+#[tactic(auto, unfolding(crate::specs::Query::filter_of))]
+pub fn parse_filter(alloc: Global, words: &[Bytes]) -> Result<FilterQuery, Refusal>
+    ensures { IsAskedBy result (filter_of words.now) }
+{
+    let pieces = pieces_of(alloc, words)?;
+    query_in(alloc, pieces)
+}
