@@ -21,12 +21,12 @@ import sys
 
 sys.dont_write_bytecode = True
 
+from edit_runner import memory  # noqa: E402
 from edit_runner.batches import batches_of  # noqa: E402
 from edit_runner.crate import Crate, crates_of  # noqa: E402
 from edit_runner.runner import Runner, good  # noqa: E402
 
-MEMORY_OF_A_CHECK = 3 << 30
-JOBS = "so many checks at a time, each of about 3 GB (else as many as processors and free memory allow)"
+JOBS = "at most so many checks at a time, each of about 3 GB, and never more than free memory allows (else as many as processors)"
 APART = "neither start over what is kept in out/ of the crates nor leave anything there, where something else may be at work"
 PLAN = "list the batches and the edits that cannot be applied, and check nothing"
 UNCOVERED = """list the public functions of libraries that no edit changes, and check nothing. Programs are left out, and crates of
@@ -66,13 +66,6 @@ def read_words():
     return words.parse_args()
 
 
-def jobs_that_fit():
-    processors = len(os.sched_getaffinity(0))
-    with open("/proc/meminfo", encoding="utf-8") as it:
-        free = next(int(line.split()[1]) << 10 for line in it if line.startswith("MemAvailable:"))
-    return max(1, min(processors, free // MEMORY_OF_A_CHECK))
-
-
 def place_of(function):
     return f"{function.block or function.modules} {function.name}" if function else "-"
 
@@ -103,7 +96,7 @@ def list_plan(crates):
 
 def try_all(root, crates, given):
     signal.signal(signal.SIGTERM, lambda *_: sys.exit(1))
-    runner = Runner(root, crates, given.jobs or jobs_that_fit(), given.apart)
+    runner = Runner(root, crates, given.jobs or len(os.sched_getaffinity(0)), memory.is_enough, given.apart)
     passed = failed = 0
     for crate in runner.run():
         for it in crate.edits:

@@ -7,7 +7,7 @@ As a part ends, a line says how long it took. A part that fails stops the gate, 
 --keep-going is given. The last line is 'N passed, M failed', the sum over all parts that ran; the status is 1 where anything failed.
 
 The proofs are a chain from crate to crate, which keeps some two processors busy. So with four or more the edits are tried
-beside them, with what the proofs leave of the processors, and what the edits print comes behind what the proofs do."""
+beside them, with what the proofs leave of the processors and of the memory, and what the edits print comes behind what the proofs do."""
 
 import concurrent.futures
 import dataclasses
@@ -81,7 +81,7 @@ def run_stage(parts):
             yield run(name, tell)
         return
     (first, what), others = parts[0], parts[1:]
-    aside = [f"JOBS={processors // len(parts)}", "APART=1"]
+    aside = [f"JOBS={processors - 1}", "APART=1"]
     with concurrent.futures.ThreadPoolExecutor() as pool:
         lines = {name: [] for name, _ in others}
         beside = [pool.submit(run, name, lines[name].append, aside, ["nice"]) for name, _ in others]

@@ -75,7 +75,9 @@ class Checks:
                 if self.is_stopped:
                     raise RuntimeError("stopped")
                 how = {"cwd": folder, "stdin": subprocess.DEVNULL, "stdout": out, "stderr": subprocess.STDOUT}
-                child = subprocess.Popen(["rt", *words], start_new_session=True, **how)
+                # A process group of its own, to be ended by, and not a session: Linux shares the processors out among
+                # sessions (sched(7), autogroup), so that a check with one of its own would not be nice to others.
+                child = subprocess.Popen(["rt", *words], process_group=0, **how)
                 self.running.add(child.pid)
             alarm = threading.Timer(LONGEST, os.killpg, (child.pid, signal.SIGKILL))
             alarm.daemon = True

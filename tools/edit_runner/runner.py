@@ -20,12 +20,12 @@ def tell(text):
 
 
 class Runner:
-    """Has as many checks at a time as jobs. Each crate is proved as it stands in a copy of the repository, the base. A batch
-    is checked in a room, a copy for one crate, over the kept work of the base. One that is apart neither takes nor leaves kept
-    work of the repository."""
+    """Has as many checks at a time as jobs, but begins one beside others only where there is room for it. Each crate is proved as it
+    stands in a copy of the repository, the base. A batch is checked in a room, a copy for one crate, over the kept work of the
+    base. One that is apart neither takes nor leaves kept work of the repository."""
 
-    def __init__(self, root, crates, jobs, is_apart=False):
-        self.root, self.crates, self.jobs, self.is_apart = root, crates, jobs, is_apart
+    def __init__(self, root, crates, jobs, has_room=lambda: True, is_apart=False):
+        self.root, self.crates, self.jobs, self.has_room, self.is_apart = root, crates, jobs, has_room, is_apart
         self.checks = checks.Checks()
         self.judgements = {}
         self.own_cpu = {}
@@ -60,13 +60,16 @@ class Runner:
         unproved, ready, running = collections.deque(self.crates), [], {}
         left = {it: len(batches.batches_of(good(it))) for it in self.crates}
 
+        def may_start():
+            return len(running) < self.jobs and (not running or self.has_room())
+
         def start():
             # One crate at a time is proved as it stands, the lowest first: two at once would build the same library.
-            if unproved and not any(batch is None for _, batch in running.values()):
+            if unproved and not any(batch is None for _, batch in running.values()) and may_start():
                 crate = unproved.popleft()
                 idle = self.jobs - len(running) - len(ready)
                 running[pool.submit(self.prove, crate, max(1, idle))] = crate, None
-            while ready and len(running) < self.jobs:
+            while ready and may_start():
                 crate, batch = ready.pop(0)
                 running[pool.submit(self.try_batch, crate, batch)] = crate, batch
 
