@@ -11,6 +11,7 @@ are undone:
 - patterns of `--rx` are patterns of its `-e`: only such are made as mean the same in both, over fields of one line;
 - a field whose body is empty is none to it: it isn't shown;
 - it puts a space behind a colon before an empty first line;
+- blanks behind a value belong to it;
 - of several fields to show it puts an empty line also where a stanza has none of them.
 
 `make build` makes the program, and the list is that of an archive, as of `/usr/lib/apt/apt-helper cat-file`. It is no part of the gate."""
@@ -198,6 +199,11 @@ def without_space_before_empty_line(text):
     return re.sub(rb"(?m)^([!-9;-~]+:) $", rb"\1", text)
 
 
+def without_blanks_behind_values(text):
+    """Theirs keeps them."""
+    return re.sub(rb"(?m)^([^ \t\n].*?)[ \t]+$", rb"\1", text)
+
+
 def without_lines_of_nothing(text):
     """Theirs ends also what shows nothing."""
     return re.sub(rb"\n\n+", b"\n\n", text).lstrip(b"\n")
@@ -206,6 +212,7 @@ def without_lines_of_nothing(text):
 UNDONE = {
     "of ours, fields that are empty": (without_empty_fields, None),
     "of theirs, spaces before an empty first line": (None, without_space_before_empty_line),
+    "of theirs, blanks behind a value": (None, without_blanks_behind_values),
     "lines where nothing is shown": (without_lines_of_nothing, without_lines_of_nothing),
 }
 
@@ -240,7 +247,8 @@ def compare(program, path, count, seed):
             others += 1
             print("%r\n  ours   %r\n  theirs %r" % ([options, spelled(tree, False)], *first_difference(mine, other)))
     for name, times in sorted(counts.items()):
-        print(f"undone: {name}, in {times} answers")
+        if times:
+            print(f"undone: {name}, in {times} answers")
     print(f"{count} filters, {taken} that take a stanza, {others} answers are others")
     return others
 
