@@ -3,7 +3,7 @@
 
 Runs PROGRAM on each script with the first request for memory refused, then the second, and so on until none is; and then
 the same with the Nth request and all after it refused. Without a script these are the worked ones in refused_scripts.py,
-of all edits and of lists by -l and --status.
+of all edits, of filters, and of lists by -l and --status.
 
 A run may end with status 2, without an answer and with one line on standard error: `dctrl-cache: out of memory`, or
 `dctrl-cache: FILE: out of memory` of a file that is loaded. In any other run the commands that print

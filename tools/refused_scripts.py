@@ -1,4 +1,4 @@
-"""Worked scripts for refuse_allocations.py: every edit, its refusals, and questions that show what the edits left.
+"""Worked scripts for refuse_allocations.py: every edit, its refusals, and questions that show what the edits left; filters.
 
 What no query shows yet, as a mark or a pin, is shown by taking it out, which is refused where it isn't there."""
 
@@ -158,6 +158,17 @@ pkgnames 'f
 pkgnames
 """
 
+FILTERS = b"""grep-dctrl -sPackage ''
+grep-dctrl -c -F Depends,Pre-Depends --rx '[xy]+' -a ! -P -X t
+grep-dctrl -i -F description 'A STANZA' -o ( --eq 1 -o -F Version --lt 1:2.0-2 )
+grep-dctrl -v -dns Package,Version --rx -i '^PACKAGE: [fg]' -o -P --pattern=-
+grep-dctrl -c -F Version --ge 1:2.0-1 -o -F Version --le 0:1.0000000000000000000000-1
+grep-dctrl -F Depends --rx 'x('
+grep-dctrl ( x
+grep-dctrl -F a, x
+grep-dctrl -z x
+"""
+
 FILES = {
     "main": b"Package: s\nVersion: 1\nDepends: x, y (>= 1) | z:any\nProvides: x\n\nPackage: t\nVersion: 1:2.0-1\nX: y\n z\n",
     "sid": b"Package: foo\nVersion: 2.0-1\n",
@@ -170,5 +181,6 @@ LOADED = ["-l", "main={0}/main", "-l", "sid={0}/sid", "--status", "{0}/status"]
 SCRIPTS = [
     ("lists and stanzas", LISTS + STANZAS, []),
     ("marks, pins, target and preferences", SETTINGS, []),
+    ("filters", LISTS + FILTERS, []),
     ("all edits over lists of -l and --status", b"pkgnames\n" + STANZAS + SETTINGS, LOADED),
 ]

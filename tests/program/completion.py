@@ -34,7 +34,7 @@ def test_words(tests):
     for words, wanted in [
         (["p"], ["pkgnames", "policy"]),
         (["--"], ["--help", "--lists", "--root", "--version"]),
-        ([""], ["--help", "--lists", "--root", "--version", "depends", "pkgnames", "policy", "rdepends", "show", "showpkg", "unmet"]),
+        ([""], ["--help", "--lists", "--root", "--version", "depends", "grep-dctrl", "pkgnames", "policy", "rdepends", "show", "showpkg", "unmet"]),
         (["frob"], []),
         (["show", "-"], ["--all-versions", "--no-all-versions", "-a"]),
         (["depends", "--i"], ["--important", "--installed"]),
@@ -43,6 +43,11 @@ def test_words(tests):
         (["unmet", "b"], []),
         (["policy", "-"], []),
         (["pkgnames", "--"], ["--all-names"]),
+        (["g"], ["grep-dctrl"]),
+        (["grep-dctrl", "--l"], ["--le", "--lt"]),
+        (["grep-dctrl", "-P", "bash", "-"], ["--eq", "--ge", "--gt", "--le", "--lt", "--pattern=", "--rx", "-F", "-P", "-X", "-a", "-c", "-d", "-i", "-n",
+                                             "-o", "-s", "-v"]),
+        (["grep-dctrl", "b"], []),
     ]:
         tests.same("the completion of %r" % words, completed(tests, [WRAPPER, *words]), (0, wanted, b""))
 

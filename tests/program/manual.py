@@ -1,4 +1,4 @@
-"""The examples of the manual and of the differences from apt-cache, two indented blocks with the word `prints` between
+"""The examples of the manual and of the differences from other programs, two indented blocks with the word `prints` between
 them; the manual page, and whether both say what the program does."""
 
 import itertools
@@ -105,8 +105,8 @@ def instances(form):
 
 
 def wrong_words(form):
-    """Words that are too many for a form; behind one that takes any number of names, an option that it hasn't."""
-    return " -x" if "..." in form else " x y z"
+    """Words that are too many for a form; behind one that takes any number of names or an expression, an option that it hasn't."""
+    return " -x" if form.endswith(("...", "...]", "EXPRESSION")) else " x y z"
 
 
 def test_commands(tests):
@@ -139,7 +139,7 @@ def test_refusals(tests):
     """The page has each refusal of the program, and no other. The examples of the manual meet all but those for want of room."""
     page, text = contents(PAGE), contents(MANUAL)
     source = contents(os.path.join(TOP, "crates", "ctl_store", "src", "refusal.rt"))
-    known = set(re.findall(r'=> "([^"]*)"', source)) - {"bad filter", "bad pattern"}
+    known = set(re.findall(r'=> "([^"]*)"', source))
     told = {words for tag in tags(section(page, "REFUSALS")) for words in tag.split(", ")}
     tests.same("the refusals of the manual page", sorted(told ^ known), [])
     met = set(re.findall(r"^    E: line [0-9]+: (.*)$", text, re.M))

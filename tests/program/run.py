@@ -2,7 +2,7 @@
 """run.py PROGRAM EXAMPLES
 
 Tests the program from outside: its words, its exit statuses, lists from files, what it writes to standard output and
-standard error, many edits of one list, a full device, a closed pipe, a reader that stops, a talk command by command, the
+standard error, many edits of one list, hostile filters, a full device, a closed pipe, a reader that stops, a talk command by command, the
 examples and those of the manual, also cut at each byte; and what is installed beside it: the wrapper, its completion and the
 package. The last line is the count."""
 
@@ -15,6 +15,7 @@ from cuts import test_cuts
 from edits import test_edits
 from examples import test_examples
 from files import test_files
+from filters import test_filters
 from harness import Tests
 from manual import test_manual
 from package import test_package
@@ -33,6 +34,7 @@ def main(words):
     test_edits(tests)
     test_words(tests)
     test_files(tests)
+    test_filters(tests)
     test_writers(tests)
     test_talk(tests)
     test_examples(tests, words[1])

@@ -16,6 +16,8 @@ mod control_text;
 #[cfg(test)]
 mod field_names;
 #[cfg(test)]
+mod filtered;
+#[cfg(test)]
 mod keys;
 pub mod made;
 #[cfg(test)]

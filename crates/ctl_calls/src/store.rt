@@ -3,6 +3,7 @@
 //! A store is made and dropped in one function, and all others have it lent, so that each is proved in a second or two.
 
 use crate::asked::{Asked, edit_asked};
+use crate::filtered::append_filtered;
 use crate::made::{add_list, edited, given};
 use crate::shown::{append_pin, append_pins, state};
 use crate::tables::same;
@@ -56,6 +57,8 @@ pub enum Act<'a> {
     ByName(&'a [u8]),
     /// Shows the serial number of a list.
     SerialOf(&'a [u8]),
+    /// Shows what a filter of these words takes, or why they are refused.
+    Filtered(&'a [&'a [u8]]),
     /// Plans an edit, and shows the stanza that the plan has under a key.
     PlanFinds(Asked<'a>, StanzaKey),
 }
@@ -383,6 +386,7 @@ fn append_view(
         Act::InOrder => append_in_order(alloc, store, all),
         Act::ByName(list) => append_by_name(alloc, store, list, all),
         Act::SerialOf(list) => append_serial(alloc, store.serial(list), all),
+        Act::Filtered(words) => append_filtered(alloc, store, words, all),
         _ => Ok(()),
     }
 }

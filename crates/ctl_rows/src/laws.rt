@@ -1,5 +1,6 @@
 //! The laws, each called once: what calls one is proved from what it says.
 
+use ctl_filter::{filters_have_one_tree, substrings_are_parts, truths_are_by_cases};
 use ctl_policy::{
     edits_of_general_pins, edits_of_lists, edits_of_one_name, edits_of_preferences,
     edits_of_stanzas, edits_of_targets, general_pins_leave_other_names, marks_leave_other_names,
@@ -61,6 +62,13 @@ fn laws_of_relations_can_be_called() {
 fn laws_of_commands_can_be_called() {
     commands_come_to_one_outcome();
     answers_are_as_if_built_anew();
+}
+
+#[test]
+fn laws_of_filters_can_be_called() {
+    filters_have_one_tree();
+    truths_are_by_cases();
+    substrings_are_parts();
 }
 
 #[test]
