@@ -70,6 +70,7 @@ ifdef FILE
 	python3 bench/relations.py $(FILE)
 	python3 bench/policies.py main=$(FILE)
 	python3 bench/answers.py $(PROGRAM) main=$(FILE)
+	python3 bench/filters.py $(PROGRAM) $(FILE)
 endif
 
 install: $(PROGRAM)
