@@ -62,6 +62,7 @@ bench: $(PROGRAM)
 
 # It makes no measurement: `make bench` on a machine that does nothing else comes first.
 bench-report:
+	@test -f out/bench.json || { echo 'out/bench.json is not there: make bench comes first' >&2; exit 1; }
 	python3 bench/report.py out/bench.json docs/PERFORMANCE.md
 	cp out/growth.svg docs/growth.svg
 
