@@ -6,7 +6,7 @@ DESTDIR ?=
 PROGRAM := crates/dctrl_cache/out/dctrl_cache
 EXAMPLES := $(sort $(wildcard examples/*.script))
 
-.PHONY: help demo build test prove test-program test-tools edits bench bench-parts deb install clean
+.PHONY: help demo build test prove test-program test-tools edits bench bench-report bench-parts deb install clean
 
 help:
 	@echo 'make demo      runs the examples with an unproved quick build, and compares what they print'
@@ -15,6 +15,7 @@ help:
 	@echo 'make prove     every proof from nothing, the named wrong bodies, the tests, the programs'
 	@echo 'make edits     the edits that must fail, many in one check; CRATES=".." and EDITS=".." name some, JOBS=N sets how many checks run at once'
 	@echo 'make bench     measures time and memory beside apt-cache, grep-dctrl and python-apt; FILE=.. names a Packages file, TIMES=1,2 how often it is taken'
+	@echo 'make bench-report  puts the table and the chart of the last make bench into docs/'
 	@echo 'make bench-parts  measures the parts: reading, edits, tables, refusals; FILE=.. as above'
 	@echo 'make deb       makes the Debian package, in out/'
 	@echo 'make install   puts the programs, their manual pages, the completion and the examples below DESTDIR and PREFIX ($(PREFIX))'
@@ -58,6 +59,12 @@ edits:
 bench: $(PROGRAM)
 	mkdir -p out
 	python3 bench/table.py $(PROGRAM) $(if $(FILE),--list $(FILE)) $(if $(TIMES),--times $(TIMES)) --results out/bench.json --chart out/growth.svg
+
+# It makes no measurement: `make bench` on a machine that does nothing else comes first.
+bench-report:
+	@test -f out/bench.json || { echo 'out/bench.json is not there: make bench comes first' >&2; exit 1; }
+	python3 bench/report.py out/bench.json docs/PERFORMANCE.md
+	cp out/growth.svg docs/growth.svg
 
 bench-parts: $(PROGRAM)
 	python3 bench/lists.py $(PROGRAM) $(FILE)

@@ -4,31 +4,36 @@
     bench/table.py PROGRAM [--list PACKAGES] [--times 1,2,5,10] [--results FILE] [--chart FILE]
 
 docs/PERFORMANCE.md says what each row means. Without --list a list of 60,000 stanzas is made. Each time is the least of some rounds, in
-each of which every program is asked once, so that a machine that is busy is busy for all. A program that isn't installed has no
-column of numbers. The results are written as JSON too, and as a chart."""
+each of which every program is asked once, so that a machine that is busy is busy for all; what takes long has fewer rounds. A program that
+isn't installed has no column of numbers. The results are written as JSON too, and as a chart; bench/report.py puts them into a document."""
 
 import argparse
 import json
 import os
+import re
 import shutil
 import subprocess
 import sys
 import tempfile
+import time
 
 import chart
+import report
 from answers import Session, commands
 from apt_folder import AptFolder
 from grown import Grown
 from lists import made_list
 from processes import peak_of, process, processors
 
+# A row has so many rounds, but none begins once it has taken so many seconds.
 ROUNDS = 3
+PATIENCE = 12
 ASKED_ONCE = 100
 # How many bytes of names a process of apt-cache is given.
 NAMES_OF_A_CALL = 1_000_000
 SYSTEM_PYTHON = "/usr/bin/python3"
 HERE = os.path.dirname(os.path.abspath(__file__))
-PROGRAMS = ["dctrl-cache", "apt-cache", "grep-dctrl", "python-apt"]
+PACKAGES = ["apt", "dctrl-tools", "python3-apt"]
 
 
 def calls(names):
@@ -84,36 +89,26 @@ class Table:
 
     def __init__(self):
         self.rows = []
+        # The bytes of the list at each size, and how long each row of times took to measure.
+        self.sizes = {}
+        self.spent = []
 
     def time(self, what, times, ways):
         """Goes each way once a round, and keeps the least times."""
-        rounds = [{name: way() for name, way in ways.items()} for _ in range(ROUNDS)]
+        start, rounds = time.monotonic(), []
+        while not rounds or len(rounds) < ROUNDS and time.monotonic() - start < PATIENCE:
+            rounds.append({name: way() for name, way in ways.items()})
+        self.spent.append((time.monotonic() - start, what, times, len(rounds)))
         self.add(what, times, {name: min(row[name] for row in rounds) for name in ways}, "s")
 
     def add(self, what, times, taken, unit):
         self.rows.append({"what": what, "times": times, "unit": unit, "taken": taken})
-        self.show(self.rows[-1])
+        print("\n".join(report.lines(self.rows[-1], self.sizes)), flush=True)
 
-    def head(self):
-        print("%-34s %5s %12s" % ("", "times", "dctrl-cache") + "".join("%12s %7s" % (name, "ratio") for name in PROGRAMS[1:]))
-
-    def show(self, row):
-        ours = row["taken"]["dctrl-cache"]
-        line = "%-34s %5d %12s" % (row["what"], row["times"], number(ours, row["unit"]))
-        for name in PROGRAMS[1:]:
-            theirs = row["taken"].get(name)
-            line += "%12s %7s" % (("-", "-") if theirs is None else (number(theirs, row["unit"]), "%.3g" % (ours / theirs)))
-        print(line, flush=True)
-
-
-def number(value, unit):
-    """A number as it is printed: seconds, or bytes as MB."""
-    if unit == "MB":
-        return "%.1f MB" % (value / 1e6)
-    for size, name in ((0.1, "s"), (1e-4, "ms")):
-        if value >= size:
-            return "%.2f %s" % (value / (1 if name == "s" else 1e-3), name)
-    return "%.1f us" % (value * 1e6)
+    def show_longest(self):
+        """The rows that took the longest to measure."""
+        for seconds, what, times, rounds in sorted(self.spent, reverse=True)[:5]:
+            print("  %5.1f s in %d rounds: %s at %d times" % (seconds, rounds, what, times))
 
 
 class Measuring:
@@ -154,10 +149,8 @@ class Measuring:
         self.table.time("ready", self.times, {name: keep(name, way) for name, way in ways.items()})
         # The helper's own memory hides what grep-dctrl takes.
         peaks.pop("grep-dctrl", None)
+        self.table.sizes[str(self.times)] = os.path.getsize(self.grown.path)
         self.table.add("peak memory", self.times, peaks, "MB")
-        size = os.path.getsize(self.grown.path)
-        print("%-34s %5d %12s%s" % ("  as times the text of %.1f MB" % (size / 1e6), self.times, "%.2f" % (peaks["dctrl-cache"] / size),
-                                    "".join("%12s %7s" % ("%.2f" % (peaks[name] / size) if name in peaks else "-", "") for name in PROGRAMS[1:])))
 
     def session(self, whole):
         """What is asked of a session that runs."""
@@ -215,25 +208,39 @@ def list_text(path):
         return file.read()
 
 
+def versions():
+    """The other programs, by the packages that have them."""
+    if shutil.which("dpkg-query") is None:
+        return []
+    told = subprocess.run(["dpkg-query", "-W", "-f", "${db:Status-Status} ${Package} ${Version}\n", *PACKAGES], stdout=subprocess.PIPE,
+                          stderr=subprocess.DEVNULL, check=False, text=True).stdout
+    return [line.partition(" ")[2] for line in told.splitlines() if line.startswith("installed ")]
+
+
 def main():
     words = read_words()
     program, table = os.path.abspath(words.program), Table()
     count, load = processors()
+    start = time.monotonic()
     print("%d processors, load %.1f at the start" % (count, load))
     with tempfile.TemporaryDirectory() as folder:
         os.chmod(folder, 0o755)
-        grown = Grown(list_text(words.list), os.path.join(folder, "Packages"))
-        table.head()
+        text = list_text(words.list)
+        grown = Grown(text, os.path.join(folder, "Packages"))
+        print(report.head())
         for times in map(int, words.times.split(",")):
             grown.grow(times)
             measuring = Measuring(table, program, grown, os.path.join(folder, "apt%d" % times))
             measuring.ready()
             measuring.session(times == 1)
             shutil.rmtree(os.path.join(folder, "apt%d" % times), ignore_errors=True)
-    print("load %.1f at the end" % processors()[1])
+    seconds, load_then = time.monotonic() - start, processors()[1]
+    print("load %.1f at the end; it took %d s, most of them:" % (load_then, seconds))
+    table.show_longest()
     if words.results:
         with open(words.results, "w", encoding="ascii") as file:
-            json.dump({"rows": table.rows}, file, indent=1)
+            json.dump({"processors": count, "load": [load, load_then], "seconds": seconds, "stanzas": len(re.findall(rb"^Package:", text, re.M | re.I)),
+                       "versions": versions(), "sizes": table.sizes, "rows": table.rows}, file, indent=1)
     if words.chart:
         chart.write(table.rows, words.chart)
 

@@ -11,8 +11,10 @@ from harness import Files, finished
 
 TOP = os.path.join(os.path.dirname(os.path.abspath(__file__)), "..", "..")
 TABLE = os.path.join(TOP, "bench", "table.py")
+REPORT = os.path.join(TOP, "bench", "report.py")
 sys.path.insert(0, os.path.join(TOP, "bench"))
 
+import report  # noqa: E402
 from grown import Grown  # noqa: E402
 
 ONCE = ["pkgnames", "showpkg of all names", "depends of all names", "rdepends of all names", "show of one name", "showpkg of one name",
@@ -61,6 +63,16 @@ def test_table(tests):
                 tests.skip("the rows of %s" % name, "it isn't installed")
                 continue
             tests.same("the rows of %s" % name, sorted({row["what"] for row in rows if row["taken"].get(name, 0) > 0}), wanted)
+        page = files.write("page.md", ("before\n%sold\n%sbehind\n" % (report.BEGINS, report.ENDS)).encode())
+        status, told, errors = finished([sys.executable, REPORT, results, page])
+        tests.same("the table is put into a page", (status, errors, told.count(b"\n")), (0, b"", len(ONCE + GROWING)))
+        with open(page, encoding="utf-8") as file:
+            text = file.read()
+        shown = [line.strip() for line in output.decode().split("\n") if line.startswith(tuple(ONCE + GROWING))]
+        tests.same("the page around the table", (text.startswith("before\n" + report.BEGINS + "\nMeasured on "), text.endswith("\n\n" + report.ENDS + "behind\n")), (True, True))
+        tests.same("the table of the page", (len(shown), [line for line in shown if "    %s\n" % line not in text]), (len(rows), []))
+        wrong = finished([sys.executable, REPORT, results, files.write("other.md", b"no marks\n")])
+        tests.same("a page without marks", (wrong[0], wrong[2]), (1, b"the document has no two marks\n"))
         drawing = xml.etree.ElementTree.parse(picture).getroot()
         curves = [part for part in drawing if part.tag.endswith("polyline") and part.get("stroke") == "#d70751"]
         tests.same("the curves of dctrl-cache", len(curves), 6)

@@ -296,6 +296,35 @@ def test_names_of_lists(tests):
         got = ask(tests, root, [], b"add-list main packages\nPackage: foo\nVersion: 2\n.\nshow foo=1\npolicy foo\n")
         tests.same("a description with the row of a list", b"Description: x\n  500 main\n 500 nosuch_list\n\n" in got[1], True)
         tests.same("a list of the script", b"     2 500\n        500 main\n" in got[1], True)
+    text = stanza("foo", "1", "Description: foo (status)", " 100 status")
+    with AptRoot() as root:
+        root.add_release("stable", {"main": text})
+        tests.same("a text that names a list", ask(tests, root, ["show", "foo"]), (0, text.encode(), b""))
+
+
+def test_filters(tests):
+    """The words of a filter reach the program as they are, signs of the shell among them, and what it takes is handed on."""
+    with AptRoot() as root:
+        root.add_release("stable", {"main": FOO})
+        script = root.path("script")
+        stub = root.write("stub", "#!/bin/sh\ncat > '%s'\nprintf 'status (status)\\n 100 status\\n'\n" % script)
+        os.chmod(stub, 0o755)
+        words = ["grep-dctrl", "-ns", "Package", "-F", "Depends", "--rx", "ba[rz]", "-a", "!", "(", "-P", "-X", "foo", "-o", "--pattern=-a b", ")"]
+        tests.same("a filter", ask(tests, root, words, DCTRL_CACHE=stub), (0, b"status (status)\n 100 status\n", b""))
+        with open(script, "rb") as file:
+            got = file.read().split(b"\n")[-2]
+        tests.same("the words of a filter", got, b"grep-dctrl -ns Package -F Depends --rx 'ba[rz]' -a '!' '(' -P -X foo -o '--pattern=-a b' ')'")
+
+
+def test_phased(tests):
+    """A phased update is told as any other is, without how far it is phased."""
+    with AptRoot() as root:
+        root.add_release("stable", {"main": stanza("foo", "1")})
+        root.add_release("updates", {"main": stanza("foo", "2", "Phased-Update-Percentage: 10")})
+        root.status(installed("foo", "1"))
+        wanted = root.apt_cache("policy", "foo")[1].replace(b" (phased 10%)", b"")
+        tests.same("a phased update", ask(tests, root, ["policy", "foo"]), (0, wanted, b""))
+        tests.same("the candidate of a phased update", b"  Candidate: 2\n" in wanted, True)
 
 
 def test_long_lines(tests):
@@ -339,5 +368,7 @@ def test_wrapper(tests):
     test_architectures(tests)
     test_no_sources(tests)
     test_names_of_lists(tests)
+    test_filters(tests)
+    test_phased(tests)
     test_long_lines(tests)
     test_writers(tests)
