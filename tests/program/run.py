@@ -15,7 +15,7 @@ from cuts import test_cuts
 from edits import test_edits
 from examples import test_examples
 from files import test_files
-from filters import test_filters
+from filter_words import test_filters
 from harness import Tests
 from manual import test_manual
 from package import test_package
