@@ -3,15 +3,15 @@
 ghost use Rattle.std.specs.Prelude.{◌≡◌, IfOk, map, take, false, option_map};
 ghost use Rattle.std.specs.List.{list_any};
 ghost use Rattle.std.specs.Str.{str_eq_ignore_ascii_case};
-ghost use Rattle.ctl_relation.specs.Met.{relates};
 ghost use Rattle.regex.specs.Bytes.{matcher_pattern};
 ghost use Rattle.ctl_filter.specs.Substring.{contains, begins_in_any_case, contains_in_any_case};
-ghost use Rattle.ctl_filter.specs.Filter.{version_in, are_related, text_passes, field_passes, atom_passes};
+ghost use Rattle.ctl_filter.specs.Filter.{text_passes, field_passes, atom_passes};
 ghost use Rattle.ctl_filter.specs.Held.{test_of, atom_of, Fits};
 
+use crate::comparison::Bound;
 use crate::expression::Expression;
 use bstr::ByteSlice;
-use ctl_relation::{Bytes, Operator, Version, VersionFault};
+use ctl_relation::{Bytes, Operator};
 use ctl_stanza::Stanza;
 use regex::bytes::Matcher;
 use std::alloc::{AllocError, Global};
@@ -23,7 +23,7 @@ pub(crate) enum Test {
     Substring(bool, Bytes),
     Exact(bool, Bytes),
     Expression(Expression),
-    Compare(Operator, Bytes),
+    Compare(Operator, Bound),
 }
 
 /// An atom of a filter: the fields whose bodies are its texts, or none where it is the whole stanza's.
@@ -70,52 +70,6 @@ fn has_pattern_in_any_case(pattern: &[u8], text: &[u8]) -> bool
     begins_in_any_case(pattern, rest)
 }
 
-/// A version, if the text is one. One of few bytes takes no memory.
-fn version_in(alloc: Global, text: &[u8]) -> Result<Option<Version>, AllocError>
-    ensures { IfOk result (λ version. version ≡ version_in text.now) }
-{
-    match Version::parse(alloc, text) {
-        Ok(version) => Ok(Some(version)),
-        Err(VersionFault::Memory) => Err(AllocError),
-        Err(_) => Ok(None),
-    }
-}
-
-fn relates(operator: Operator, version: &Version, bound: &Version) -> bool
-    ensures { result ≡ relates operator version.now bound.now }
-{
-    let order = version.cmp(bound);
-    match operator {
-        Operator::Earlier => order.is_lt(),
-        Operator::EarlierOrEqual => order.is_le(),
-        Operator::Equal => order.is_eq(),
-        Operator::LaterOrEqual => order.is_ge(),
-        Operator::Later => order.is_gt(),
-    }
-}
-
-fn are_related(operator: Operator, version: &Option<Version>, bound: &Option<Version>) -> bool
-    ensures { result ≡ are_related operator version.now bound.now }
-{
-    match (version, bound) {
-        (Some(version), Some(bound)) => relates(operator, version, bound),
-        _ => false,
-    }
-}
-
-fn is_related(
-    alloc: Global,
-    operator: Operator,
-    text: &[u8],
-    pattern: &[u8],
-) -> Result<bool, AllocError>
-    ensures { IfOk result (λ related. related ≡ are_related operator (version_in text.now) (version_in pattern.now)) }
-{
-    let version = version_in(alloc, text)?;
-    let bound = version_in(alloc, pattern)?;
-    Ok(are_related(operator, &version, &bound))
-}
-
 /// Whether a text passes a test, by the test's own matcher.
 pub(crate) fn text_passes(
     alloc: Global,
@@ -136,7 +90,7 @@ pub(crate) fn text_passes(
             Some(matcher) => Ok(expression.is_match(matcher, text)),
             None => Ok(false),
         },
-        Test::Compare(operator, pattern) => is_related(alloc, *operator, text, pattern.as_slice()),
+        Test::Compare(operator, bound) => bound.is_met_by(alloc, *operator, text),
     }
 }
 

@@ -4,6 +4,7 @@
 mod answering;
 mod atom;
 mod cluster;
+mod comparison;
 mod expression;
 mod gathering;
 mod laws;

@@ -12,6 +12,7 @@ ghost use Rattle.ctl_filter.specs.Query.{shown_by, if_pieces, filter_of};
 
 use crate::atom::{Atom, Test};
 use crate::cluster::pieces_of;
+use crate::comparison::Bound;
 use crate::expression::{Expression, PatternFault};
 use crate::gathering::{AskedAtom, Gathered, Modifiers, parts_of};
 use crate::names::are_field_names;
@@ -19,7 +20,7 @@ use crate::options::{fields_shown, is_given, names_shown};
 use crate::piece::{Manner, Piece};
 use crate::query::{FilterQuery, Shown};
 use crate::reading::steps_of;
-use ctl_relation::Bytes;
+use ctl_relation::{Bytes, Operator};
 use ctl_store::Refusal;
 use std::alloc::Global;
 
@@ -31,6 +32,16 @@ fn expression_of(alloc: Global, pattern: &[u8], any_case: bool) -> Result<Test, 
         Ok(expression) => Ok(Test::Expression(expression)),
         Err(PatternFault::Refused) => Err(Refusal::Pattern),
         Err(PatternFault::Memory) => Err(Refusal::Memory),
+    }
+}
+
+fn comparison_of(alloc: Global, operator: Operator, pattern: Bytes) -> Result<Test, Refusal>
+    ensures ok { IfOk result (λ test. test_of test ≡ asked.Compare operator pattern) }
+    ensures err { IfErr result (λ cause. cause ≡ refusal.Memory) }
+{
+    match Bound::new(alloc, pattern) {
+        Ok(bound) => Ok(Test::Compare(operator, bound)),
+        Err(_) => Err(Refusal::Memory),
     }
 }
 
@@ -49,7 +60,7 @@ fn built_atom(alloc: Global, asked: AskedAtom) -> Result<Atom, Refusal>
         None => Test::Substring(any_case, pattern),
         Some(Manner::Exact) => Test::Exact(any_case, pattern),
         Some(Manner::Rx) => expression_of(alloc, pattern.as_slice(), any_case)?,
-        Some(Manner::Compare(operator)) => Test::Compare(operator, pattern),
+        Some(Manner::Compare(operator)) => comparison_of(alloc, operator, pattern)?,
     };
     Ok(Atom { fields, test })
 }
