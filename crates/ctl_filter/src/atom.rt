@@ -1,6 +1,6 @@
 //! Filters: their atoms, and the truth of each on a stanza.
 
-ghost use Rattle.std.specs.Prelude.{◌≡◌, IfOk, map, take, false, option_map};
+ghost use Rattle.std.specs.Prelude.{◌≡◌, IfOk, IfSome, map, take, false, option_map};
 ghost use Rattle.std.specs.List.{list_any};
 ghost use Rattle.std.specs.Str.{str_eq_ignore_ascii_case};
 ghost use Rattle.regex.specs.Bytes.{matcher_pattern};
@@ -11,7 +11,7 @@ ghost use Rattle.ctl_filter.specs.Held.{test_of, atom_of, Fits};
 use crate::comparison::Bound;
 use crate::expression::Expression;
 use bstr::ByteSlice;
-use ctl_relation::{Bytes, Operator};
+use ctl_relation::{Bytes, Operator, Version};
 use ctl_stanza::Stanza;
 use regex::bytes::Matcher;
 use std::alloc::{AllocError, Global};
@@ -94,6 +94,38 @@ pub(crate) fn text_passes(
     }
 }
 
+/// The version of a stanza, if the text is that.
+fn version_of<'a>(stanza: &'a Stanza, text: &[u8]) -> Option<&'a Version>
+    ensures { IfSome result (λ version. version.now ≡ text.now) }
+{
+    let version = stanza.version()?;
+    if version.text() == text {
+        Some(version)
+    } else {
+        None
+    }
+}
+
+/// Whether a body of a stanza passes a test. One that is the stanza's version is not read anew, which could take memory.
+fn body_passes(
+    alloc: Global,
+    test: &Test,
+    matcher: &mut Option<Matcher<'_>>,
+    stanza: &Stanza,
+    body: &[u8],
+) -> Result<bool, AllocError>
+    requires { Fits test.now matcher.old }
+    ensures passes { IfOk result (λ passes. passes ≡ text_passes (test_of test.now) body.now) }
+    ensures same { option_map matcher_pattern matcher.new ≡ option_map matcher_pattern matcher.old }
+{
+    if let Test::Compare(operator, bound) = test {
+        if let Some(version) = version_of(stanza, body) {
+            return Ok(bound.is_met_by_version(*operator, version));
+        }
+    }
+    text_passes(alloc, test, matcher, body)
+}
+
 fn field_passes(
     alloc: Global,
     test: &Test,
@@ -106,7 +138,7 @@ fn field_passes(
     ensures same { option_map matcher_pattern matcher.new ≡ option_map matcher_pattern matcher.old }
 {
     match stanza.field(name) {
-        Some(body) => text_passes(alloc, test, matcher, body),
+        Some(body) => body_passes(alloc, test, matcher, stanza, body),
         None => Ok(false),
     }
 }

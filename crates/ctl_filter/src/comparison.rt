@@ -67,6 +67,18 @@ impl Bound {
         Ok(Bound { pattern, version })
     }
 
+    /// Whether the pattern is a version, and this one stands so to it.
+    pub(crate) fn is_met_by_version(&self, operator: Operator, version: &Version) -> bool
+        ensures { result ≡ are_related operator (version_in version.now) (version_in self.now) }
+    {
+        // That it has no fault is said here.
+        let _text = version.text();
+        match &self.version {
+            Some(bound) => relates(operator, version, bound),
+            None => false,
+        }
+    }
+
     /// Whether both are versions, and the text stands so to the pattern.
     pub(crate) fn is_met_by(
         &self,
