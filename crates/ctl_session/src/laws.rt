@@ -6,7 +6,8 @@ ghost use Rattle.ctl_session.specs.Script.{Command};
 ghost use Rattle.ctl_session.specs.Outcome.{Outcome};
 ghost use Rattle.ctl_session.specs.Effect.{ComesTo};
 
-/// Where no growth is refused, a command comes to one outcome over a state: its text and what it leaves are settled.
+/// Where neither a growth nor a pattern of `--rx` is refused, a command comes to one outcome over a state: its text and what it
+/// leaves are settled.
 pub fn commands_come_to_one_outcome()
     ensures { (state : CacheState) (command : Command) (first second : Outcome) → ComesTo state command first → ComesTo state command second → first ≡ second }
 {}
