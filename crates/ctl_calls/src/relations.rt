@@ -383,6 +383,42 @@ fn groups_and_atoms_have_their_numbers(rt: HostRuntime) -> Result<(), Fail> {
     Ok(())
 }
 
+/// Whether an atom of a field has a name, and then for each group whether one of its atoms has.
+fn named(alloc: Global, kind: FieldKind, body: &[u8], name: &[u8]) -> Result<Vec<u8>, Fail> {
+    let relations = parse_relations(alloc, body, kind)?;
+    let mut all = Vec::new(alloc);
+    all.push(if relations.groups().have_name(name) {
+        b'+'
+    } else {
+        b'-'
+    })?;
+    for group in relations.groups() {
+        all.push(if group.has_name(name) { b'+' } else { b'-' })?;
+    }
+    Ok(all)
+}
+
+#[test]
+fn names_are_found_in_groups(rt: HostRuntime) -> Result<(), Fail> {
+    let rows: [(&[u8], &[u8], &[u8]); 9] = [
+        (MIXED, b"a", b"++----"),
+        (MIXED, b"c", b"+-+---"),
+        (MIXED, b"g", b"+---+-"),
+        (MIXED, b"h", b"+----+"),
+        (MIXED, b"any", b"------"),
+        (MIXED, b"", b"------"),
+        (b"", b"a", b"-"),
+        (b"liba, lib (= 1)", b"lib", b"+-+"),
+        (b"li, a:lib (= 1)", b"lib", b"---"),
+    ];
+    for (body, name, wanted) in &rows {
+        let came = named(rt.alloc(), FieldKind::Depends, body, name)?;
+        let row = pair(rt.alloc(), body, name)?;
+        same(&rt, &row, &came, wanted);
+    }
+    Ok(())
+}
+
 #[test]
 fn places_are_kept_of_a_field(rt: HostRuntime) -> Result<(), Fail> {
     let places = read_places(rt.alloc(), MIXED, FieldKind::Depends)?;
