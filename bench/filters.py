@@ -4,7 +4,7 @@
     bench/filters.py PROGRAM PACKAGES
 
 A filter's time in the session goes from the first byte that is written to it to the last that it answers, and ends where a line that is
-no command is refused behind it. The times are the least of some rounds, in each of which the session and grep-dctrl are asked once, so
+no command is refused behind it. Both are read over a pipe. The times are the least of some rounds, in each of which the session and grep-dctrl are asked once, so
 that a machine that is busy is busy for both. The limits are printed beside the ratios; nothing is refused by them. At last a line of
 ever more `-o` is asked of a session without a list: its time for each has to stay."""
 
@@ -33,7 +33,7 @@ SIGNS = (25_000, 50_000, 100_000, 200_000)
 
 def grep(words, packages):
     start = time.monotonic()
-    subprocess.run(["grep-dctrl", *words, packages], stdout=subprocess.DEVNULL, check=False)
+    subprocess.run(["grep-dctrl", *words, packages], stdout=subprocess.PIPE, check=False)
     return time.monotonic() - start
 
 
