@@ -9,7 +9,7 @@ import subprocess
 
 TOP = os.path.join(os.path.dirname(os.path.abspath(__file__)), "..", "..")
 MANUAL = os.path.join(TOP, "docs", "MANUAL.md")
-DIFFERENCES = os.path.join(TOP, "docs", "DIFFERENCES.md")
+DIFFERENCES = [os.path.join(TOP, "docs", name) for name in ("DIFFERENCES.md", "DIFFERENCES-RELATIONS.md", "DIFFERENCES-GREP-DCTRL.md")]
 PAGE = os.path.join(TOP, "man", "dctrl-cache.1")
 WRAPPERS_PAGE = os.path.join(TOP, "man", "dctrl-cache-apt.1")
 INDENT = "    "
@@ -191,7 +191,8 @@ def test_examples_of(tests, what, text):
 
 def test_manual(tests):
     test_examples_of(tests, "the manual", contents(MANUAL))
-    test_examples_of(tests, "the differences", contents(DIFFERENCES))
+    for page in DIFFERENCES:
+        test_examples_of(tests, os.path.basename(page), contents(page))
     test_synopsis(tests)
     test_commands(tests)
     test_refusals(tests)

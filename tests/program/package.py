@@ -18,7 +18,7 @@ INSTALL = os.path.join(TOP, "packaging", "install-files")
 DOCUMENTS = "usr/share/doc/dctrl-cache/"
 PAGES = {"usr/share/man/man1/%s.gz" % os.path.basename(page) for page in glob.glob(os.path.join(TOP, "man", "*.1"))}
 COMPLETIONS = {"usr/share/bash-completion/completions/" + name for name in ("dctrl-cache", "dctrl-cache-apt")}
-TEXTS = {DOCUMENTS + name for name in ("copyright", "changelog.gz", "MANUAL.md", "DIFFERENCES.md")}
+TEXTS = {DOCUMENTS + name for name in ("copyright", "changelog.gz", "MANUAL.md", "DIFFERENCES.md", "DIFFERENCES-RELATIONS.md", "DIFFERENCES-GREP-DCTRL.md")}
 
 
 def examples():
