@@ -9,6 +9,7 @@ pub mod KnownLemmas
 pub mod ListLemmas
 pub mod NameLemmas
 pub mod NamingLemmas
+pub mod NoNameLemmas
 pub mod OfferingLemmas
 pub mod OrderLemmas
 pub mod PackageLemmas

@@ -36,7 +36,7 @@ fn append_naming(
     Ok(())
 }
 
-/// Appends the atoms of a group of a lead that name a name.
+/// Appends the atoms of a group of a lead that name a name. Most groups have none, and are not read.
 fn append_naming_group(
     name: &[u8],
     lead: &Stanza,
@@ -46,6 +46,9 @@ fn append_naming_group(
 ) -> Result<(), AllocError>
     ensures { OnOk result (out.new.items ≡ out.old.items ++ flat_map (line_if_naming name.now lead.now field) group.now) }
 {
+    if !group.has_name(name) {
+        return Ok(());
+    }
     'atoms: for atom in group.atoms() {
         if atom.name() == name {
             append_naming(lead, field, &atom, out)?;
@@ -54,6 +57,7 @@ fn append_naming_group(
     Ok(())
 }
 
+// Most fields have no such atom, and their groups are not gone through.
 fn append_naming_field(
     name: &[u8],
     lead: &Stanza,
@@ -62,7 +66,11 @@ fn append_naming_field(
 ) -> Result<(), AllocError>
     ensures { OnOk result (out.new.items ≡ out.old.items ++ naming_in name.now lead.now field) }
 {
-    'groups: for group in lead.groups(field) {
+    let groups = lead.groups(field);
+    if !groups.have_name(name) {
+        return Ok(());
+    }
+    'groups: for group in groups {
         append_naming_group(name, lead, field, &group, out)?;
     }
     Ok(())
@@ -142,9 +150,14 @@ pub(crate) fn append_entry_lines(lead: &Stanza, out: &mut Vec<u8>) -> Result<(),
     Ok(())
 }
 
+// Whether an entry has a name; it is read only where its name alone says so.
+#[tactic(auto, using(crate::proofs::NoNameLemmas::no_first_name))]
 fn has_name(name: &[u8], entry: &Group<'_>) -> bool
     ensures { result ≡ has_name name.now entry.now }
 {
+    if !entry.has_name(name) {
+        return false;
+    }
     match entry.get(0) {
         Some(atom) => atom.name() == name,
         None => false,

@@ -32,11 +32,14 @@ fn with_naming(found: Option<bool>, further: bool) -> Option<bool>
     }
 }
 
-/// The atoms of a group are taken in.
-#[tactic(auto, using(crate::proofs::GroupLemmas::is_followed), unfolding(crate::specs::ReverseDepends::naming_in_group, crate::specs::NamingRead::with_all))]
+/// The atoms of a group are taken in. Most groups have none with the name, and are not read.
+#[tactic(auto, using(crate::proofs::GroupLemmas::is_followed, crate::proofs::NoNameLemmas::no_naming), unfolding(crate::specs::ReverseDepends::naming_in_group, crate::specs::NamingRead::with_all))]
 fn with_group(name: &[u8], group: &Group<'_>, found: Option<bool>) -> Option<bool>
     ensures { result ≡ with_all found (naming_in_group name.now group.now) }
 {
+    if !group.has_name(name) {
+        return found;
+    }
     let mut found = found;
     let mut left = group.len();
     'atoms: for atom in group.atoms() {
@@ -48,12 +51,16 @@ fn with_group(name: &[u8], group: &Group<'_>, found: Option<bool>) -> Option<boo
     found
 }
 
-#[tactic(auto, using(crate::proofs::GroupLemmas::with_append), unfolding(crate::specs::NamingRead::with_all))]
+#[tactic(auto, using(crate::proofs::GroupLemmas::with_append, crate::proofs::NoNameLemmas::no_naming_in_groups), unfolding(crate::specs::NamingRead::with_all))]
 fn with_field(name: &[u8], lead: &Stanza, field: FieldKind, found: Option<bool>) -> Option<bool>
     ensures { result ≡ with_all found (naming_in_field name.now lead.now field) }
 {
+    let groups = lead.groups(field);
+    if !groups.have_name(name) {
+        return found;
+    }
     let mut found = found;
-    'groups: for group in lead.groups(field) {
+    'groups: for group in groups {
         found = with_group(name, &group, found);
     }
     found

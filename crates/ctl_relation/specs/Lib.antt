@@ -6,6 +6,7 @@ pub mod KeyTurns
 pub mod Version
 pub mod VersionText
 pub mod Parts
+pub mod Named
 pub mod Lent
 pub mod FieldKind
 pub mod Printed

@@ -3,11 +3,12 @@
 ghost use Rattle.std.specs.Prelude.{◌≡◌, ◌≤◌, ◌^◌, ◌++◌, ◌∷◌, length, OnOk, OnErr, take, vec_len, slice_get, slice_index};
 ghost use Rattle.std.specs.List.{flat_map};
 ghost use Rattle.ctl_relation.specs.HeldPlaces.{HasAtom, HaveAtoms, atom_held, atoms_held};
+ghost use Rattle.ctl_relation.specs.Named.{group_names};
 ghost use Rattle.ctl_relation.specs.Printed.{alternative_text, group_text};
 
 use crate::atom::Atom;
 use crate::field_kind::FieldKind;
-use crate::reading::atom_at_place;
+use crate::reading::{atom_at_place, is_named_at};
 use std::alloc::AllocError;
 use std::marker::Model;
 
@@ -44,6 +45,19 @@ fn place_at(first: u32, further: &[u32], index: usize) -> u32
     } else {
         further[index - 1]
     }
+}
+
+/// Whether an atom at one of these places of a body has a name.
+pub(crate) fn is_named_among(kind: FieldKind, body: &[u8], places: &[u32], name: &[u8]) -> bool
+    requires { HaveAtoms kind body.now places.now }
+    ensures { result ≡ group_names name.now (atoms_held kind body.now places.now) }
+{
+    for place in places {
+        if is_named_at(kind, body, *place, name) {
+            return true;
+        }
+    }
+    false
 }
 
 impl<'a> Group<'a> {
@@ -90,6 +104,14 @@ impl<'a> Group<'a> {
             first: Some(self.first),
             further: self.further,
         }
+    }
+
+    /// Whether an atom has a name. No more is read of atoms than their names.
+    pub fn has_name(&self, name: &[u8]) -> bool
+        ensures { result ≡ group_names name.now self.now }
+    {
+        is_named_at(self.kind, self.body, self.first, name)
+            || is_named_among(self.kind, self.body, self.further, name)
     }
 
     /// Appends the printed form of the group to `out`: its atoms joined by ` | `. The only error is want of memory,

@@ -2,9 +2,10 @@
 
 ghost use Rattle.std.specs.Prelude.{◌≡◌, ◌≤◌, ◌<◌, ◌^◌, ◌==◌, [], length, drop, slice_get};
 ghost use Rattle.ctl_relation.specs.HeldPlaces.{AreHeld, Rise, groups_held, count_below, count_before, behind_earlier};
+ghost use Rattle.ctl_relation.specs.Named.{groups_name};
 
 use crate::field_kind::FieldKind;
-use crate::group::Group;
+use crate::group::{Group, is_named_among};
 use std::marker::Model;
 
 /// The groups of a field, all of which are to be met: seen as their list, each as the list of its atoms.
@@ -103,6 +104,17 @@ impl<'a> Groups<'a> {
         ensures { result ≡ (length self.now == 0) }
     {
         self.starts.is_empty()
+    }
+
+    /// Whether an atom of a group has a name. No more is read of atoms than their names.
+    pub fn have_name(&self, name: &[u8]) -> bool
+        ensures { result ≡ groups_name name.now self.now }
+    {
+        if self.starts.is_empty() {
+            return false;
+        }
+        is_named_among(self.kind, self.body, self.starts, name)
+            || is_named_among(self.kind, self.body, self.further, name)
     }
 
     // The groups from this one on.

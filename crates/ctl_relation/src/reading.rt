@@ -4,6 +4,7 @@ ghost use Rattle.std.specs.Prelude.{◌≡◌, ◌≢◌, ◌≤◌, ◌<◌, �
 ghost use Rattle.ctl_relation.specs.declared.relation_fault.RelationFault.TheVariants as relation;
 ghost use Rattle.ctl_relation.specs.HeldPlaces.{ArePlacesIn, HasAtom, IsEnd, ReadsField, ReadsGroup, atom_held, groups_kept, place_of};
 ghost use Rattle.ctl_relation.specs.Lent.{lent_bound};
+ghost use Rattle.ctl_relation.specs.Named.{atom_names};
 ghost use Rattle.ctl_relation.specs.Reading.{Gives, GivesAlways, parenthesized_at, bound_at, atom_at, group_at, relations_of};
 ghost use Rattle.ctl_relation.specs.Version.{fault_of};
 
@@ -71,6 +72,21 @@ pub(crate) fn atom_at_place(kind: FieldKind, body: &[u8], place: u32) -> Atom<'_
     let (_, text) = body.split_at(place as usize);
     match atom_of(kind, text) {
         Ok((atom, _)) => atom,
+        Err(_) => unreachable!("an atom begins there"),
+    }
+}
+
+/// Whether the atom that begins at a place of a body has a name. No more of it is read.
+pub(crate) fn is_named_at(_kind: FieldKind, body: &[u8], place: u32, name: &[u8]) -> bool
+    requires { HasAtom _kind body.now place }
+    ensures { result ≡ atom_names name.now (atom_held _kind body.now place) }
+{
+    let (_, text) = body.split_at(place as usize);
+    if !text.starts_with(name) {
+        return false;
+    }
+    match name_of(text) {
+        Ok((own, _)) => own == name,
         Err(_) => unreachable!("an atom begins there"),
     }
 }
