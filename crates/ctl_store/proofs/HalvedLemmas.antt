@@ -3,7 +3,7 @@ use Rattle.std.proofs.Common.{◌≡◌, ℕ, zero, suc, ◌<◌, ◌≤◌, Boo
 use Rattle.std.specs.List.Sorted.{IsPartitionedBy}
 use Rattle.std.proofs.lemmas.Bool.Decides.{nat_tests}
 use Rattle.ctl_store.specs.Held.{Sheet, lists_of, InOrder, entry_of}
-use Rattle.ctl_store.specs.Ranks.{items_of}
+use Rattle.ctl_store.specs.HeldRanks.{items_of}
 use Rattle.ctl_store.proofs.PlaceLemmas.{eq_is, lt_ne, if_cases}
 use Rattle.ctl_store.proofs.PointLemmas.{IsEnd}
 

@@ -13,8 +13,8 @@ use Rattle.ctl_store.specs.Named.{at_name, put_named, without_name, set_named, c
 use Rattle.ctl_store.specs.Rows.{replace_at, remove_row_at}
 use Rattle.ctl_store.specs.Keys.{KeyedList}
 use Rattle.ctl_store.specs.Held.{Sheet, lists_of, HasChanged}
-use Rattle.ctl_store.specs.Ranks.{has_label, label_place, label_item, put_item_at, items_of, name_label, named_row, AreApart, IsTable}
-use Rattle.ctl_store.specs.Pieces.{joined, IsFit}
+use Rattle.ctl_store.specs.HeldRanks.{has_label, label_place, label_item, put_item_at, items_of, name_label, named_row, AreApart, IsTable}
+use Rattle.ctl_store.specs.HeldPieces.{joined, IsFit}
 use Rattle.ctl_store.proofs.NamedLemmas.{some_is, at_name-set_named}
 use Rattle.ctl_store.proofs.ListedLemmas.{set_named-change, set_named-same}
 use Rattle.ctl_store.proofs.TableLemmas.{item_there, item_nowhere, entry_found, entry_removed, entry_put, entries_distinct, table_written}

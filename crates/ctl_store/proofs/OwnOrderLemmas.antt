@@ -8,9 +8,9 @@ use Rattle.ctl_store.specs.declared.selector.Selector.{Selector}
 use Rattle.ctl_store.specs.declared.selector.Selector.TheVariants.{Version, Release}
 use Rattle.ctl_store.specs.declared.selector.PinSetting.{PinSetting}
 use Rattle.ctl_store.specs.Rows.{Rises, replace_at}
-use Rattle.ctl_store.specs.Ranks.{Label, label_cmp, labels_of, sorted_labels, labels_below, ranked_serials, has_label, label_place, selector_label, setting_row, IsRanked}
+use Rattle.ctl_store.specs.HeldRanks.{Label, label_cmp, labels_of, sorted_labels, labels_below, ranked_serials, has_label, label_place, selector_label, setting_row, IsRanked}
 use Rattle.ctl_store.specs.declared.pieces.Spot.{Spot}
-use Rattle.ctl_store.specs.Pieces.{joined, stands_at, place_of_spot, IsSpot, IsSpotOrEnd, HasRoomFor, IsFit}
+use Rattle.ctl_store.specs.HeldPieces.{joined, stands_at, place_of_spot, IsSpot, IsSpotOrEnd, HasRoomFor, IsFit}
 use Rattle.ctl_store.specs.HeldPins.{own_label, own_row, own_room, AreByPackage}
 use Rattle.ctl_store.proofs.PlaceLemmas.{Rises-from, Rises-end, place_within, place_passes}
 use Rattle.ctl_store.proofs.PointLemmas.{stands_end}

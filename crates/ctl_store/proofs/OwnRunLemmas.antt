@@ -18,8 +18,8 @@ use Rattle.ctl_store.specs.declared.selector.Selector.TheVariants.{Version, Rele
 use Rattle.ctl_store.specs.declared.selector.PinSetting.{PinSetting}
 use Rattle.ctl_store.specs.Pins.{settings_of, is_of, own_settings}
 use Rattle.ctl_store.specs.Rows.{Rises}
-use Rattle.ctl_store.specs.Pieces.{joined, stands_at}
-use Rattle.ctl_store.specs.Ranks.{Label, label_cmp, insert_label, labels_of, sorted_labels, labels_below, ranked_serials, items_of}
+use Rattle.ctl_store.specs.HeldPieces.{joined, stands_at}
+use Rattle.ctl_store.specs.HeldRanks.{Label, label_cmp, insert_label, labels_of, sorted_labels, labels_below, ranked_serials, items_of}
 use Rattle.ctl_store.specs.HeldPins.{own_label, own_row, own_start, own_one, own_run}
 use Rattle.ctl_store.proofs.PiecesLemmas.{plus_one, stands_next}
 use Rattle.ctl_store.proofs.PlaceLemmas.{eq_is, lt_ne, is_eq_from}

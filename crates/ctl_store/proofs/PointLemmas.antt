@@ -7,7 +7,7 @@ use Rattle.std.proofs.lemmas.List.{length-append, get_or-append-add, get_or_appe
 use Rattle.std.proofs.lemmas.Bool.Decides.{nat_tests}
 use Rattle.ctl_store.specs.Step.{place}
 use Rattle.ctl_store.specs.Rows.{has_serial, Rises, replace_at}
-use Rattle.ctl_store.specs.Pieces.{joined, length_at, stands_at, last_passes, ArePieces}
+use Rattle.ctl_store.specs.HeldPieces.{joined, length_at, stands_at, last_passes, ArePieces}
 use Rattle.ctl_store.proofs.PlaceLemmas.{Rises-up, place_at, place_none}
 use Rattle.ctl_store.proofs.PiecesLemmas.{stands_next}
 

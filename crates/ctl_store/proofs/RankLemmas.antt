@@ -9,7 +9,7 @@ use Rattle.std.specs.Cmp.Lexicographic.{nat_list_cmp_total}
 use Rattle.std.proofs.lemmas.Cmp.{upto, on_total, then_total}
 use Rattle.ctl_store.specs.Step.{place}
 use Rattle.ctl_store.specs.Rows.{has_serial, Rises}
-use Rattle.ctl_store.specs.Ranks.{Label, label_cmp, insert_label, sorted_labels, labels_below}
+use Rattle.ctl_store.specs.HeldRanks.{Label, label_cmp, insert_label, sorted_labels, labels_below}
 use Rattle.ctl_store.proofs.PlaceLemmas.{some_is, eq_is, lt_ne}
 
 pub label_total : IsTotalOrder label_cmp

@@ -9,7 +9,7 @@ use Rattle.std.specs.declared.cmp.Ordering.TheVariants.{Less}
 use Rattle.std.proofs.lemmas.Option.{slice_get-get_or}
 use Rattle.ctl_store.specs.Step.{place}
 use Rattle.ctl_store.specs.Rows.{has_serial, Rises, replace_at}
-use Rattle.ctl_store.specs.Ranks.{Label, label_cmp, labels_of, sorted_labels, labels_below, has_label, label_order, label_place, IsRanked}
+use Rattle.ctl_store.specs.HeldRanks.{Label, label_cmp, labels_of, sorted_labels, labels_below, has_label, label_order, label_place, IsRanked}
 use Rattle.ctl_store.proofs.PlaceLemmas.{some_is, eq_is, lt_ne, place_within, is_eq_from, Rises-push, Rises-replace, Rises-remove}
 use Rattle.ctl_store.proofs.RankLemmas.{all_map, all_sorted, all_get, found, if_at, sorted-append, sorted-remove, place-find, place-find_none, find-place_none, before_lower, from_lower, lower_within}
 

@@ -14,7 +14,7 @@ use Rattle.ctl_store.specs.declared.selector.PinSetting.{PinSetting}
 use Rattle.ctl_store.specs.Pins.{selector_eq, settings_of, is_general_on, general_pin, AreDistinct}
 use Rattle.ctl_store.specs.SelectorLaws.{selector_equiv, selector_eq-Decides}
 use Rattle.ctl_store.specs.Rows.{remove_row_at}
-use Rattle.ctl_store.specs.Ranks.{label_cmp, has_label, label_place, label_item, put_item_at, items_of, selector_label, setting_row, AreApart}
+use Rattle.ctl_store.specs.HeldRanks.{label_cmp, has_label, label_place, label_item, put_item_at, items_of, selector_label, setting_row, AreApart}
 use Rattle.ctl_store.proofs.TableLemmas.{entries, entry_found, entry_removed, entry_put, entries_distinct}
 
 -- ---- selectors and their labels

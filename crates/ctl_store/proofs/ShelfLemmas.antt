@@ -6,7 +6,7 @@ use Rattle.std.specs.Ordering.{is_gt}
 use Rattle.ctl_stanza.specs.Content.{Content, package_of, version_of}
 use Rattle.ctl_store.specs.Step.{place}
 use Rattle.ctl_store.specs.Rows.{Id, id, id_of, id_cmp, insert_id, ids_of, sorted_ids, sorted_serials, lower, IsKept, Rises, by_name_and_version, replace_at, rows_from}
-use Rattle.ctl_store.specs.Pieces.{joined, ArePieces, IsFit}
+use Rattle.ctl_store.specs.HeldPieces.{joined, ArePieces, IsFit}
 use Rattle.ctl_store.specs.Keys.{KeyedList, key_of, key_at}
 use Rattle.ctl_store.specs.Held.{IsShelved}
 use Rattle.ctl_store.proofs.PlaceLemmas.{Rises-rows_from}

@@ -11,8 +11,8 @@ use Rattle.std.proofs.lemmas.Cmp.{ranked}
 use Rattle.std.proofs.lemmas.Map.Text.{is_eq-slice_cmp}
 use Rattle.std.proofs.lemmas.Slice.Eq.{bytes_eq-Decides}
 use Rattle.ctl_store.specs.Rows.{Rises, replace_at, remove_row_at}
-use Rattle.ctl_store.specs.Pieces.{joined, IsFit}
-use Rattle.ctl_store.specs.Ranks.{Label, label_cmp, labels_of, sorted_labels, labels_below, ranked_serials, has_label, label_place, label_item, put_item_at, IsRanked, AreApart, IsTable}
+use Rattle.ctl_store.specs.HeldPieces.{joined, IsFit}
+use Rattle.ctl_store.specs.HeldRanks.{Label, label_cmp, labels_of, sorted_labels, labels_below, ranked_serials, has_label, label_place, label_item, put_item_at, IsRanked, AreApart, IsTable}
 use Rattle.ctl_store.proofs.PlaceLemmas.{some_is, place_within, place_passes}
 use Rattle.ctl_store.proofs.RankLemmas.{label_total}
 use Rattle.ctl_store.proofs.RankedLemmas.{ranked_replace, ranked_push, ranked_remove}

@@ -14,7 +14,7 @@ use Rattle.ctl_store.specs.State.{State, stanza_count, status_count}
 use Rattle.ctl_store.specs.Edits.{Edit, AddList, Put, Mark, Pin}
 use Rattle.ctl_store.specs.Step.{refusal_of}
 use Rattle.ctl_store.specs.Rows.{Rises, IsKept, replace_at}
-use Rattle.ctl_store.specs.Pieces.{most_in_piece, joined, IsFit}
+use Rattle.ctl_store.specs.HeldPieces.{most_in_piece, joined, IsFit}
 use Rattle.ctl_store.specs.Keys.{KeyedList, Keyed, stanza_lists, removed_of, added_of, coming, AreComing, AreHeld, AreNew}
 use Rattle.ctl_store.specs.Followed.{coming_under}
 

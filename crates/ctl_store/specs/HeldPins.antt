@@ -6,8 +6,8 @@ use Rattle.ctl_store.specs.declared.selector.Selector.{Selector}
 use Rattle.ctl_store.specs.declared.selector.Selector.TheVariants.{Version, Release}
 use Rattle.ctl_store.specs.declared.selector.PinSetting.{PinSetting}
 use Rattle.ctl_store.specs.Pins.{is_of}
-use Rattle.ctl_store.specs.Pieces.{most_in_piece, room_of_last, joined, IsFit}
-use Rattle.ctl_store.specs.Ranks.{Label, ranked_serials}
+use Rattle.ctl_store.specs.HeldPieces.{most_in_piece, room_of_last, joined, IsFit}
+use Rattle.ctl_store.specs.HeldRanks.{Label, ranked_serials}
 
 -- where a setting of this serial stands: by its package, and for one package by the serial
 abbrev pub own_label : ℕ → Selector → Label

@@ -17,8 +17,8 @@ pub mod Edits
 pub mod Places
 pub mod Step
 pub mod Rows
-pub mod Pieces
-pub mod Ranks
+pub mod HeldPieces
+pub mod HeldRanks
 pub mod HeldPins
 pub mod Keys
 pub mod Entries

@@ -1,8 +1,8 @@
 //! The items of a table, lent.
 
 ghost use Rattle.std.specs.Prelude.{◌≡◌};
-ghost use Rattle.ctl_store.specs.Pieces.{joined, ArePieces};
-ghost use Rattle.ctl_store.specs.Ranks.{items_of};
+ghost use Rattle.ctl_store.specs.HeldPieces.{joined, ArePieces};
+ghost use Rattle.ctl_store.specs.HeldRanks.{items_of};
 
 use crate::numbered::Numbered;
 use std::marker::Model;
@@ -17,8 +17,8 @@ pub(crate) struct Items<'a, T> {
 
 impl<'a, T> Model for Items<'a, T> {
     ghost use Rattle.std.specs.Prelude.{List, ◌++◌};
-    ghost use Rattle.ctl_store.specs.Pieces.{joined, ArePieces};
-    ghost use Rattle.ctl_store.specs.Ranks.{items_of};
+    ghost use Rattle.ctl_store.specs.HeldPieces.{joined, ArePieces};
+    ghost use Rattle.ctl_store.specs.HeldRanks.{items_of};
 
     ghost Value = { List T };
 

@@ -3,7 +3,7 @@
 ghost use Rattle.std.specs.Prelude.{◌≡◌, ℕ};
 ghost use Rattle.std.specs.Ordering.{nat_cmp, ordering_then};
 ghost use Rattle.std.specs.Cmp.Lexicographic.{slice_cmp};
-ghost use Rattle.ctl_store.specs.Ranks.{label_cmp};
+ghost use Rattle.ctl_store.specs.HeldRanks.{label_cmp};
 
 use std::cmp::Ordering;
 use std::marker::Model;
@@ -18,7 +18,7 @@ pub(crate) struct Label<'a> {
 }
 
 impl<'a> Model for Label<'a> {
-    ghost use Rattle.ctl_store.specs.Ranks.{Label};
+    ghost use Rattle.ctl_store.specs.HeldRanks.{Label};
 
     ghost Value = { Label };
 
@@ -27,7 +27,7 @@ impl<'a> Model for Label<'a> {
 
 /// What has a label, as an item of a row.
 pub(crate) trait Labelled {
-    ghost use Rattle.ctl_store.specs.Ranks.{Label};
+    ghost use Rattle.ctl_store.specs.HeldRanks.{Label};
 
     ghost label: { Self → Label };
 

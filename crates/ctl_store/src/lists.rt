@@ -2,8 +2,8 @@
 
 ghost use Rattle.std.specs.Prelude.{◌≡◌, ◌≤◌, ℕ, nat_lt, true, false, option_map};
 ghost use Rattle.std.specs.List.Sorted.{IsPartitionPoint};
-ghost use Rattle.ctl_store.specs.Pieces.{joined, last_passes, place_of_spot, ArePieces, IsSpotOrEnd};
-ghost use Rattle.ctl_store.specs.Ranks.{items_of};
+ghost use Rattle.ctl_store.specs.HeldPieces.{joined, last_passes, place_of_spot, ArePieces, IsSpotOrEnd};
+ghost use Rattle.ctl_store.specs.HeldRanks.{items_of};
 ghost use Rattle.ctl_store.specs.Held.{lists_of, InOrder, entry_of};
 
 use crate::numbered::{Numbered, row_at};

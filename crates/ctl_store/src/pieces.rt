@@ -3,7 +3,7 @@
 ghost use Rattle.std.specs.Prelude.{◌≡◌, ◌+◌, ◌-◌, ◌^◌, ◌<◌, ◌≤◌, ◌∷◌, ◌++◌, [], ℕ, true, min, length, drop, vec_len, insert, OnOk, IfOk};
 ghost use Rattle.std.specs.List.{remove};
 ghost use Rattle.std.specs.Vec.{vec_capacity};
-ghost use Rattle.ctl_store.specs.Pieces.{most_in_piece, least_room, joined, length_at, room_in, room_at, stands_at, place_of_spot, IsSpot, IsSpotOrEnd, IsFit, IsReadyPiece, ArePieces, AreReady, HasRoomFor, free_at_end, room_of_all, room_of_last, room_at_end};
+ghost use Rattle.ctl_store.specs.HeldPieces.{most_in_piece, least_room, joined, length_at, room_in, room_at, stands_at, place_of_spot, IsSpot, IsSpotOrEnd, IsFit, IsReadyPiece, ArePieces, AreReady, HasRoomFor, free_at_end, room_of_all, room_of_last, room_at_end};
 
 use std::alloc::{AllocError, Global};
 

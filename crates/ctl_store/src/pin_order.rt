@@ -6,10 +6,10 @@ ghost use Rattle.std.specs.List.{remove};
 ghost use Rattle.std.specs.Prelude.{nat_eq};
 ghost use Rattle.std.specs.Ordering.{is_lt};
 ghost use Rattle.ctl_store.specs.Rows.{Rises, remove_row_at};
-ghost use Rattle.ctl_store.specs.Ranks.{IsRanked, IsTable, labels_of, sorted_labels, labels_below, ranked_serials, label_order, label_place, put_item_at, selector_label, setting_row};
+ghost use Rattle.ctl_store.specs.HeldRanks.{IsRanked, IsTable, labels_of, sorted_labels, labels_below, ranked_serials, label_order, label_place, put_item_at, selector_label, setting_row};
 ghost use Rattle.ctl_store.specs.Pins.{is_of};
 ghost use Rattle.ctl_store.specs.HeldPins.{AreByPackage, own_row, own_start, own_one};
-ghost use Rattle.ctl_store.specs.Pieces.{joined, last_passes, place_of_spot, ArePieces, HasRoomFor, IsSpot, IsSpotOrEnd};
+ghost use Rattle.ctl_store.specs.HeldPieces.{joined, last_passes, place_of_spot, ArePieces, HasRoomFor, IsSpot, IsSpotOrEnd};
 
 use crate::label::{Label, Labelled, compare};
 use crate::numbered::{Numbered, item_of, row_at};

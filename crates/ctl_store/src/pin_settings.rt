@@ -5,7 +5,7 @@ ghost use Rattle.std.specs.Map.{lookup, remove_entry};
 ghost use Rattle.indexmap.specs.IndexMap.{insert_entry};
 ghost use Rattle.ctl_store.specs.declared.selector.Selector.TheVariants as selectors;
 ghost use Rattle.ctl_store.specs.Pins.{selector_eq, general_pin, own_settings, AreDistinct};
-ghost use Rattle.ctl_store.specs.Ranks.{selector_label};
+ghost use Rattle.ctl_store.specs.HeldRanks.{selector_label};
 
 use crate::items::Items;
 use crate::label::{Label, Labelled};
@@ -19,7 +19,7 @@ use std::alloc::{AllocError, Global};
 use std::marker::Model;
 
 impl Labelled for PinSetting {
-    ghost use Rattle.ctl_store.specs.Ranks.{selector_label};
+    ghost use Rattle.ctl_store.specs.HeldRanks.{selector_label};
 
     ghost label = { λ s. selector_label s.selector };
 
@@ -78,10 +78,10 @@ pub struct PinSettings {
 }
 
 impl Model for PinSettings {
-    ghost use Rattle.ctl_store.specs.Pieces.{joined};
+    ghost use Rattle.ctl_store.specs.HeldPieces.{joined};
     ghost use Rattle.ctl_store.specs.Pins.{Settings, settings_of};
     ghost use Rattle.std.specs.Prelude.{min};
-    ghost use Rattle.ctl_store.specs.Ranks.{IsTable, setting_row, items_of, room_of};
+    ghost use Rattle.ctl_store.specs.HeldRanks.{IsTable, setting_row, items_of, room_of};
     ghost use Rattle.ctl_store.specs.HeldPins.{AreByPackage, own_room};
 
     ghost Value = { Settings };

@@ -3,8 +3,8 @@
 
 ghost use Rattle.std.specs.Prelude.{◌≡◌, ◌<◌, ◌+◌, ◌^◌, ℕ, OnOk, option_copied, option_map, IfSome};
 ghost use Rattle.ctl_store.specs.Rows.{remove_row_at};
-ghost use Rattle.ctl_store.specs.Ranks.{IsTable, IsFoundIn, label_item, label_place, put_item_at, room_of};
-ghost use Rattle.ctl_store.specs.Pieces.{joined, place_of_spot, IsSpot};
+ghost use Rattle.ctl_store.specs.HeldRanks.{IsTable, IsFoundIn, label_item, label_place, put_item_at, room_of};
+ghost use Rattle.ctl_store.specs.HeldPieces.{joined, place_of_spot, IsSpot};
 
 use crate::label::{Label, Labelled};
 use crate::numbered::{Numbered, replace_row, row_at};

@@ -3,8 +3,8 @@
 ghost use Rattle.std.specs.Prelude.{◌≡◌, ◌<◌, ◌≤◌, ℕ, IfSome, option_map};
 ghost use Rattle.std.specs.Ordering.{is_lt};
 ghost use Rattle.ctl_store.specs.Rows.{Rises};
-ghost use Rattle.ctl_store.specs.Ranks.{IsRanked, labels_of, sorted_labels, labels_below, label_order, label_place};
-ghost use Rattle.ctl_store.specs.Pieces.{joined, last_passes, place_of_spot, ArePieces, IsSpot, IsSpotOrEnd};
+ghost use Rattle.ctl_store.specs.HeldRanks.{IsRanked, labels_of, sorted_labels, labels_below, label_order, label_place};
+ghost use Rattle.ctl_store.specs.HeldPieces.{joined, last_passes, place_of_spot, ArePieces, IsSpot, IsSpotOrEnd};
 
 use crate::label::{Label, Labelled, compare};
 use crate::numbered::{Numbered, item_of, spot_of};

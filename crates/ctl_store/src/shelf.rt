@@ -6,7 +6,7 @@ ghost use Rattle.std.specs.Option.{option_to_list};
 ghost use Rattle.std.specs.Vec.{vec_capacity};
 ghost use Rattle.ctl_store.specs.Step.{place};
 ghost use Rattle.ctl_store.specs.Rows.{by_name_and_version, put_row, next_after_put, remove_row, rows_from};
-ghost use Rattle.ctl_store.specs.Pieces.{most_in_piece, joined, IsFit, HasRoomFor, room_at_end};
+ghost use Rattle.ctl_store.specs.HeldPieces.{most_in_piece, joined, IsFit, HasRoomFor, room_at_end};
 ghost use Rattle.ctl_store.specs.Keys.{keys_of, found_key};
 ghost use Rattle.ctl_store.specs.Entries.{entries_in};
 ghost use Rattle.ctl_store.specs.ByName.{keys_by_name};
@@ -37,7 +37,7 @@ pub(crate) struct Shelf {
 
 impl Model for Shelf {
     ghost use Rattle.std.specs.Prelude.{vec_len};
-    ghost use Rattle.ctl_store.specs.Pieces.{joined, room_of_last};
+    ghost use Rattle.ctl_store.specs.HeldPieces.{joined, room_of_last};
     ghost use Rattle.ctl_store.specs.Held.{Sheet, IsShelved};
 
     ghost Value = { Sheet };
@@ -57,7 +57,7 @@ pub(crate) struct ListRoom {
 
 impl Model for ListRoom {
     ghost use Rattle.std.specs.Vec.{vec_capacity};
-    ghost use Rattle.ctl_store.specs.Pieces.{room_at_end};
+    ghost use Rattle.ctl_store.specs.HeldPieces.{room_at_end};
     ghost use Rattle.ctl_store.specs.Held.{ListRoom, IsBare};
 
     ghost Value = { ListRoom };

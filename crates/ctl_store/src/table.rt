@@ -8,8 +8,8 @@ ghost use Rattle.ctl_store.specs.Named.{at_name, put_named, without_name, change
 ghost use Rattle.ctl_store.specs.Keys.{put_keyed, remove_keyed};
 ghost use Rattle.ctl_store.specs.Held.{lists_of, keyed_list, HasRoomInList, HasChanged, TakesOne};
 ghost use Rattle.std.specs.Vec.{vec_capacity};
-ghost use Rattle.ctl_store.specs.Ranks.{IsTable, named_row, name_label, items_of};
-ghost use Rattle.ctl_store.specs.Pieces.{joined, place_of_spot, ArePieces, IsSpot};
+ghost use Rattle.ctl_store.specs.HeldRanks.{IsTable, named_row, name_label, items_of};
+ghost use Rattle.ctl_store.specs.HeldPieces.{joined, place_of_spot, ArePieces, IsSpot};
 
 use crate::items::Items;
 use crate::label::{Label, Labelled};
@@ -52,7 +52,7 @@ impl<V> Named<V> {
 }
 
 impl<V> Labelled for Named<V> {
-    ghost use Rattle.ctl_store.specs.Ranks.{name_label};
+    ghost use Rattle.ctl_store.specs.HeldRanks.{name_label};
 
     ghost label = { λ n. name_label n.0 };
 
@@ -84,8 +84,8 @@ pub(crate) struct Table<V> {
 
 impl<V> Model for Table<V> {
     ghost use Rattle.std.specs.Prelude.{List, ℕ};
-    ghost use Rattle.ctl_store.specs.Pieces.{joined, place_of_spot, ArePieces, IsSpot};
-    ghost use Rattle.ctl_store.specs.Ranks.{IsTable, named_row, items_of, room_of};
+    ghost use Rattle.ctl_store.specs.HeldPieces.{joined, place_of_spot, ArePieces, IsSpot};
+    ghost use Rattle.ctl_store.specs.HeldRanks.{IsTable, named_row, items_of, room_of};
 
     ghost Value = { List (List ℕ × V) × ℕ };
 

@@ -1,7 +1,7 @@
 //! The keys of a list in the order of names and versions.
 
 ghost use Rattle.std.specs.Prelude.{◌≡◌, map};
-ghost use Rattle.ctl_store.specs.Pieces.{joined, ArePieces};
+ghost use Rattle.ctl_store.specs.HeldPieces.{joined, ArePieces};
 ghost use Rattle.ctl_store.specs.Keys.{key_of};
 
 use crate::stanza_key::StanzaKey;
@@ -20,7 +20,7 @@ impl<'a> Model for ByName<'a> {
     ghost use Rattle.std.specs.Prelude.{List, map, ◌++◌};
     ghost use Rattle.ctl_store.specs.declared.stanza_key.StanzaKey.{StanzaKey};
     ghost use Rattle.ctl_store.specs.Keys.{key_of};
-    ghost use Rattle.ctl_store.specs.Pieces.{joined, ArePieces};
+    ghost use Rattle.ctl_store.specs.HeldPieces.{joined, ArePieces};
 
     ghost Value = { List StanzaKey };
 

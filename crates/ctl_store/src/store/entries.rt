@@ -1,7 +1,7 @@
 //! The stanzas of a store with their keys, lent in order.
 
 ghost use Rattle.std.specs.Prelude.{◌≡◌, ◌++◌, ◌∷◌, IfSome, IfNone, []};
-ghost use Rattle.ctl_store.specs.Pieces.{joined, ArePieces};
+ghost use Rattle.ctl_store.specs.HeldPieces.{joined, ArePieces};
 ghost use Rattle.ctl_store.specs.Entries.{rows_under, entries_of, entry_keys};
 ghost use Rattle.ctl_store.specs.Held.{lists_of};
 
@@ -24,7 +24,7 @@ pub(crate) struct ListEntries<'a> {
 
 impl<'a> Model for ListEntries<'a> {
     ghost use Rattle.std.specs.Prelude.{List, ◌++◌};
-    ghost use Rattle.ctl_store.specs.Pieces.{joined, ArePieces};
+    ghost use Rattle.ctl_store.specs.HeldPieces.{joined, ArePieces};
     ghost use Rattle.ctl_store.specs.Entries.{Entry, rows_under};
 
     ghost Value = { List Entry };

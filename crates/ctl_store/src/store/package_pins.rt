@@ -2,7 +2,7 @@
 
 ghost use Rattle.std.specs.Prelude.{◌≡◌, ◌++◌, ℕ};
 ghost use Rattle.ctl_store.specs.Rows.{Rises};
-ghost use Rattle.ctl_store.specs.Pieces.{joined, ArePieces};
+ghost use Rattle.ctl_store.specs.HeldPieces.{joined, ArePieces};
 ghost use Rattle.ctl_store.specs.Pins.{settings_of};
 ghost use Rattle.ctl_store.specs.HeldPins.{own_run};
 
@@ -26,7 +26,7 @@ impl<'a> Model for PackagePins<'a> {
     ghost use Rattle.std.specs.Prelude.{List, ℤ, ℕ, ◌++◌};
     ghost use Rattle.ctl_store.specs.declared.selector.Selector.{Selector};
     ghost use Rattle.ctl_store.specs.Rows.{Rises};
-    ghost use Rattle.ctl_store.specs.Pieces.{joined, ArePieces};
+    ghost use Rattle.ctl_store.specs.HeldPieces.{joined, ArePieces};
     ghost use Rattle.ctl_store.specs.Pins.{settings_of};
     ghost use Rattle.ctl_store.specs.HeldPins.{own_run};
 

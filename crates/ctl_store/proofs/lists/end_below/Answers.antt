@@ -1,6 +1,6 @@
 use Rattle.std.proofs.Common.{rules, of_calls, ◌<◌, ◌≡◌, length, arith}
 use Rattle.std.proofs.lemmas.Fn.{always_returns_same}
-use Rattle.ctl_store.specs.Pieces.{joined, last_passes, stands_at, length_at}
+use Rattle.ctl_store.specs.HeldPieces.{joined, last_passes, stands_at, length_at}
 use Rattle.ctl_store.proofs.HalvedLemmas.{serial_in, is_under, lists_rise, parted_by}
 use Rattle.ctl_store.proofs.PointLemmas.{IsEnd, parted_last, end_found, end_past}
 use Rattle.ctl_store.proofs.lists.end_below.Goals as goal

@@ -1,6 +1,6 @@
 use Rattle.std.proofs.Common.{◌≡◌, ◌∙◌, ◌<◌, ℕ, List, Some, option_map, sym, ap, arith, length}
 use Rattle.ctl_store.specs.Held.{Sheet}
-use Rattle.ctl_store.specs.Pieces.{joined, place_of_spot, stands_at, IsSpot}
+use Rattle.ctl_store.specs.HeldPieces.{joined, place_of_spot, stands_at, IsSpot}
 use Rattle.ctl_store.proofs.HalvedLemmas.{serial_in, lists_rise, first_at, first_nowhere, entry_first}
 use Rattle.ctl_store.proofs.PointLemmas.{stands_end, stands_within}
 use Rattle.ctl_store.proofs.lists.entry_of.Goals as goal

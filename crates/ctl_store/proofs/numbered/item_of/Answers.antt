@@ -1,7 +1,7 @@
 use Rattle.std.proofs.Common.{◌≡◌, ◌∙◌, ℕ, Some, sym, ap}
 use Rattle.ctl_store.specs.Rows.{has_serial}
 use Rattle.ctl_store.specs.Step.{place}
-use Rattle.ctl_store.specs.Pieces.{joined, place_of_spot}
+use Rattle.ctl_store.specs.HeldPieces.{joined, place_of_spot}
 use Rattle.ctl_store.proofs.PlaceLemmas.{lookup-place, lookup-place_none}
 use Rattle.ctl_store.proofs.numbered.item_of.Goals as goal
 

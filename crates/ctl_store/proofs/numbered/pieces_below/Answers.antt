@@ -1,6 +1,6 @@
 use Rattle.std.proofs.Common.{ℕ, rules, of_calls, ◌<◌, ◌≡◌, ◌∙◌, ◌-◌, Bool, true, false, length, get_or, ap, sym, Vec, Global, arith}
 use Rattle.std.proofs.lemmas.Fn.{always_returns_same}
-use Rattle.ctl_store.specs.Pieces.{joined, last_passes}
+use Rattle.ctl_store.specs.HeldPieces.{joined, last_passes}
 use Rattle.ctl_store.proofs.PointLemmas.{is_below, parted_serials, parted_last, end_between, read_passes}
 use Rattle.ctl_store.proofs.numbered.pieces_below.Goals.{then-likely-eq0, else-likely-eq0}
 use Rattle.ctl_store.proofs.numbered.pieces_below.Goals as goal

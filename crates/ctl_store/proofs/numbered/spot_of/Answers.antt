@@ -1,5 +1,5 @@
 use Rattle.std.proofs.Common.{◌≡◌, ◌∙◌, ◌<◌, ℕ, sym, ap, arith, length}
-use Rattle.ctl_store.specs.Pieces.{joined, place_of_spot, stands_at, IsSpot}
+use Rattle.ctl_store.specs.HeldPieces.{joined, place_of_spot, stands_at, IsSpot}
 use Rattle.ctl_store.proofs.PointLemmas.{stands_end, stands_within, place_there, place_nowhere}
 use Rattle.ctl_store.proofs.numbered.spot_of.Goals as goal
 

@@ -4,7 +4,7 @@ use Rattle.ctl_store.specs.Step.{place}
 use Rattle.ctl_store.specs.Rows.{IsKept, id, ids_of, sorted_ids, lower, has_serial, order_at, by_name_and_version}
 use Rattle.ctl_stanza.specs.Content.{Content}
 use Rattle.ctl_store.specs.declared.pieces.Spot.{Spot}
-use Rattle.ctl_store.specs.Pieces.{joined, stands_at, place_of_spot, IsSpot}
+use Rattle.ctl_store.specs.HeldPieces.{joined, stands_at, place_of_spot, IsSpot}
 use Rattle.ctl_store.proofs.OrderLemmas.{found_here, found_past}
 use Rattle.ctl_store.proofs.PiecesLemmas.{length_read}
 use Rattle.ctl_store.proofs.PointLemmas.{get_joined, stands_within, stands_end}

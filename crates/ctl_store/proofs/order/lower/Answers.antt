@@ -2,7 +2,7 @@ use Rattle.std.proofs.Common.{rules, of_calls, ℕ, Bool, ◌<◌, ◌≡◌, le
 use Rattle.std.proofs.lemmas.Fn.{always_returns_same}
 use Rattle.std.specs.Ordering.{is_lt}
 use Rattle.ctl_store.specs.Rows.{id, order_at}
-use Rattle.ctl_store.specs.Pieces.{joined, last_passes, stands_at, length_at}
+use Rattle.ctl_store.specs.HeldPieces.{joined, last_passes, stands_at, length_at}
 use Rattle.ctl_store.proofs.OrderLemmas.{parted, lower_is}
 use Rattle.ctl_store.proofs.PointLemmas.{IsEnd, parted_last, end_found, end_past, stands_within, stands_end}
 use Rattle.ctl_store.proofs.order.lower.Goals as goal

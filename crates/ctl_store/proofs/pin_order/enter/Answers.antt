@@ -1,6 +1,6 @@
 use Rattle.std.proofs.Common.{◌≡◌, ◌∙◌, Some, None, ap, sym}
-use Rattle.ctl_store.specs.Pieces.{joined, place_of_spot}
-use Rattle.ctl_store.specs.Ranks.{IsRanked, label_place, labels_of, sorted_labels, labels_below, put_item_at, ranked_serials, selector_label, setting_row}
+use Rattle.ctl_store.specs.HeldPieces.{joined, place_of_spot}
+use Rattle.ctl_store.specs.HeldRanks.{IsRanked, label_place, labels_of, sorted_labels, labels_below, put_item_at, ranked_serials, selector_label, setting_row}
 use Rattle.ctl_store.specs.HeldPins.{own_row}
 use Rattle.ctl_store.proofs.OwnOrderLemmas.{own_replace, own_push}
 use Rattle.ctl_store.proofs.pin_order.enter.Goals as goal

@@ -1,8 +1,8 @@
 use Rattle.std.proofs.Common.{◌≡◌, ◌∙◌, Some, ap, subst, sym}
 use Rattle.std.specs.List.{remove}
 use Rattle.ctl_store.specs.Rows.{remove_row_at}
-use Rattle.ctl_store.specs.Pieces.{joined, place_of_spot, IsSpot}
-use Rattle.ctl_store.specs.Ranks.{label_place, ranked_serials, setting_row}
+use Rattle.ctl_store.specs.HeldPieces.{joined, place_of_spot, IsSpot}
+use Rattle.ctl_store.specs.HeldRanks.{label_place, ranked_serials, setting_row}
 use Rattle.ctl_store.specs.HeldPins.{own_row}
 use Rattle.ctl_store.proofs.pin_order.leave.Goals as goal
 

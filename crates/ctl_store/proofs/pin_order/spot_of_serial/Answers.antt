@@ -1,7 +1,7 @@
 use Rattle.std.proofs.Common.{◌≡◌, ◌∙◌, ◌<◌, ℕ, List, refl, ap, length, get_or}
 use Rattle.ctl_store.specs.declared.selector.PinSetting.{PinSetting}
-use Rattle.ctl_store.specs.Pieces.{joined, place_of_spot}
-use Rattle.ctl_store.specs.Ranks.{labels_of, sorted_labels, labels_below}
+use Rattle.ctl_store.specs.HeldPieces.{joined, place_of_spot}
+use Rattle.ctl_store.specs.HeldRanks.{labels_of, sorted_labels, labels_below}
 use Rattle.ctl_store.specs.HeldPins.{own_row}
 use Rattle.ctl_store.proofs.PointLemmas.{stands_within}
 use Rattle.ctl_store.proofs.OwnOrderLemmas.{own_remove_at, own_spot}

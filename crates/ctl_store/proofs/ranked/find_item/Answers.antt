@@ -1,6 +1,6 @@
 use Rattle.std.proofs.Common.{ℕ, ◌∙◌, Some, sym, ap}
 use Rattle.std.specs.List.{slice_index_or}
-use Rattle.ctl_store.specs.Pieces.{joined, place_of_spot}
+use Rattle.ctl_store.specs.HeldPieces.{joined, place_of_spot}
 use Rattle.ctl_store.proofs.TableLemmas.{item_there, item_nowhere}
 use Rattle.ctl_store.proofs.ranked.find_item.Goals as goal
 

@@ -1,7 +1,7 @@
 use Rattle.std.proofs.Common.{ℕ, ◌≡◌, ◌∙◌, sym, ap, refl, arith, ◌++◌, ◌∷◌, [], None, Some, option_map}
-use Rattle.ctl_store.specs.Ranks.{label_place}
+use Rattle.ctl_store.specs.HeldRanks.{label_place}
 use Rattle.ctl_store.specs.declared.pieces.Spot.{Spot}
-use Rattle.ctl_store.specs.Pieces.{joined, place_of_spot}
+use Rattle.ctl_store.specs.HeldPieces.{joined, place_of_spot}
 use Rattle.ctl_store.proofs.PiecesLemmas.{ready_room}
 use Rattle.ctl_store.proofs.ShelfLemmas.{fit_written}
 use Rattle.ctl_store.proofs.TableLemmas.{table_replace, table_push}

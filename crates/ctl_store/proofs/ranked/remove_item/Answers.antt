@@ -1,7 +1,7 @@
 use Rattle.std.proofs.Common.{ℕ, ◌≡◌, ◌∙◌, sym, ap, Some, option_map}
-use Rattle.ctl_store.specs.Ranks.{label_place, labels_of, sorted_labels, labels_below}
+use Rattle.ctl_store.specs.HeldRanks.{label_place, labels_of, sorted_labels, labels_below}
 use Rattle.ctl_store.specs.declared.pieces.Spot.{Spot}
-use Rattle.ctl_store.specs.Pieces.{joined, place_of_spot}
+use Rattle.ctl_store.specs.HeldPieces.{joined, place_of_spot}
 use Rattle.ctl_store.proofs.TableLemmas.{table_remove}
 use Rattle.ctl_store.proofs.ranked.remove_item.Goals as goal
 

@@ -2,9 +2,9 @@ use Rattle.std.proofs.Common.{Bool, List, Vec, Global, None, ◌≡◌, ◌∙�
 use Rattle.std.specs.Ordering.{is_eq}
 use Rattle.ctl_store.specs.Step.{place}
 use Rattle.ctl_store.specs.Rows.{has_serial}
-use Rattle.ctl_store.specs.Ranks.{Label, IsRanked, labels_of, sorted_labels, labels_below, label_order, label_place}
+use Rattle.ctl_store.specs.HeldRanks.{Label, IsRanked, labels_of, sorted_labels, labels_below, label_order, label_place}
 use Rattle.ctl_store.specs.declared.pieces.Spot.{Spot}
-use Rattle.ctl_store.specs.Pieces.{joined, stands_at, place_of_spot, IsSpot}
+use Rattle.ctl_store.specs.HeldPieces.{joined, stands_at, place_of_spot, IsSpot}
 use Rattle.ctl_store.proofs.RankedLemmas.{found_here, found_past}
 use Rattle.ctl_store.proofs.PiecesLemmas.{length_read}
 use Rattle.ctl_store.proofs.PointLemmas.{get_joined, stands_within, stands_end}

@@ -1,8 +1,8 @@
 use Rattle.std.proofs.Common.{rules, of_calls, ℕ, Bool, ◌<◌, ◌≡◌, length, arith}
 use Rattle.std.proofs.lemmas.Fn.{always_returns_same}
 use Rattle.std.specs.Ordering.{is_lt}
-use Rattle.ctl_store.specs.Ranks.{label_order}
-use Rattle.ctl_store.specs.Pieces.{joined, last_passes, stands_at, length_at}
+use Rattle.ctl_store.specs.HeldRanks.{label_order}
+use Rattle.ctl_store.specs.HeldPieces.{joined, last_passes, stands_at, length_at}
 use Rattle.ctl_store.proofs.RankedLemmas.{parted, below_is}
 use Rattle.ctl_store.proofs.PointLemmas.{IsEnd, parted_last, end_found, end_past, stands_within, stands_end}
 use Rattle.ctl_store.proofs.ranks.lower.Given as given

@@ -1,6 +1,6 @@
 use Rattle.std.proofs.Common.{rules, of_calls, ◌<◌, ◌≡◌, length, arith}
 use Rattle.std.proofs.lemmas.Fn.{always_returns_same}
-use Rattle.ctl_store.specs.Pieces.{joined, stands_at, length_at}
+use Rattle.ctl_store.specs.HeldPieces.{joined, stands_at, length_at}
 use Rattle.ctl_store.proofs.PointLemmas.{IsEnd, is_below, parted_serials, end_found, end_past}
 use Rattle.ctl_store.proofs.rows.end_below.Goals as goal
 

@@ -1,8 +1,8 @@
 use Rattle.std.proofs.Common.{◌≡◌, ◌∙◌, ◌<◌, ◌+◌, Some, ap, sym, subst, IfSome}
 use Rattle.ctl_store.specs.Keys.{put_keyed}
 use Rattle.ctl_store.specs.Held.{HasRoomInList, Sheet}
-use Rattle.ctl_store.specs.Ranks.{label_place, named_row, name_label, items_of}
-use Rattle.ctl_store.specs.Pieces.{joined, place_of_spot}
+use Rattle.ctl_store.specs.HeldRanks.{label_place, named_row, name_label, items_of}
+use Rattle.ctl_store.specs.HeldPieces.{joined, place_of_spot}
 use Rattle.ctl_store.proofs.ListedLemmas.{change_named-none}
 use Rattle.ctl_store.proofs.NamedRowLemmas.{list_changed, named_there, named_nowhere, table_listed}
 use Rattle.ctl_store.proofs.ShelfLemmas.{fit_written}

@@ -1,7 +1,7 @@
 use Rattle.std.proofs.Common.{ℕ, ◌≡◌, ◌∙◌, List, Some, ap, sym, arith, set, get_or}
 use Rattle.ctl_store.specs.Keys.{remove_keyed}
 use Rattle.ctl_store.specs.Held.{Sheet, keyed_list}
-use Rattle.ctl_store.specs.Pieces.{joined, place_of_spot}
+use Rattle.ctl_store.specs.HeldPieces.{joined, place_of_spot}
 use Rattle.ctl_store.proofs.PiecesLemmas.{length_read, spot_within}
 use Rattle.ctl_store.proofs.PointLemmas.{replace_joined, get_joined}
 use Rattle.ctl_store.proofs.table.remove_spot.Goals as goal

@@ -1,7 +1,7 @@
 use Rattle.std.proofs.Common.{◌≡◌, ◌∙◌, Some, ap, sym, subst, IfSome, OnOk}
 use Rattle.ctl_store.specs.Held.{HasRoomInList}
-use Rattle.ctl_store.specs.Ranks.{label_place, named_row, name_label}
-use Rattle.ctl_store.specs.Pieces.{joined, place_of_spot}
+use Rattle.ctl_store.specs.HeldRanks.{label_place, named_row, name_label}
+use Rattle.ctl_store.specs.HeldPieces.{joined, place_of_spot}
 use Rattle.ctl_store.proofs.NamedRowLemmas.{list_same, list_at, named_nowhere, table_listed}
 use Rattle.ctl_store.proofs.ShelfLemmas.{fit_written}
 use Rattle.ctl_store.proofs.table.reserve_at.Goals as goal

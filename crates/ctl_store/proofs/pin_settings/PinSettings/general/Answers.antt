@@ -1,8 +1,8 @@
 use Rattle.std.proofs.Common.{rules, ◌≡◌, ◌∙◌, Some, ap, option_map}
 use Rattle.ctl_store.specs.declared.selector.PinSetting.{PinSetting}
 use Rattle.ctl_store.specs.Pins.{general_pin}
-use Rattle.ctl_store.specs.Pieces.{joined}
-use Rattle.ctl_store.specs.Ranks.{label_item, setting_row}
+use Rattle.ctl_store.specs.HeldPieces.{joined}
+use Rattle.ctl_store.specs.HeldRanks.{label_item, setting_row}
 use Rattle.ctl_store.proofs.SettingLemmas.{general_found}
 use Rattle.ctl_store.proofs.pin_settings.PinSettings.general.Goals as goal
 

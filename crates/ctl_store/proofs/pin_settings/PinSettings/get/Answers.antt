@@ -2,8 +2,8 @@ use Rattle.std.proofs.Common.{rules, ◌≡◌, ◌∙◌, Some, ap, option_map}
 use Rattle.std.specs.Map.{lookup}
 use Rattle.ctl_store.specs.declared.selector.PinSetting.{PinSetting}
 use Rattle.ctl_store.specs.Pins.{selector_eq}
-use Rattle.ctl_store.specs.Pieces.{joined}
-use Rattle.ctl_store.specs.Ranks.{label_item, setting_row}
+use Rattle.ctl_store.specs.HeldPieces.{joined}
+use Rattle.ctl_store.specs.HeldRanks.{label_item, setting_row}
 use Rattle.ctl_store.proofs.SettingLemmas.{setting_found}
 use Rattle.ctl_store.proofs.pin_settings.PinSettings.get.Goals as goal
 

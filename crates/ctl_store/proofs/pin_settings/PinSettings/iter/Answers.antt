@@ -1,7 +1,7 @@
 use Rattle.std.proofs.Common.{◌∙◌, ap, subst, sym}
 use Rattle.ctl_store.specs.Pins.{settings_of, AreDistinct}
-use Rattle.ctl_store.specs.Pieces.{joined, ArePieces}
-use Rattle.ctl_store.specs.Ranks.{items_of}
+use Rattle.ctl_store.specs.HeldPieces.{joined, ArePieces}
+use Rattle.ctl_store.specs.HeldRanks.{items_of}
 use Rattle.ctl_store.proofs.SettingLemmas.{settings_distinct}
 use Rattle.ctl_store.proofs.pin_settings.PinSettings.iter.Goals as goal
 

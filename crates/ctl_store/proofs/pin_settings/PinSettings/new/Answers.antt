@@ -1,6 +1,6 @@
 use Rattle.std.proofs.Common.{◌∙◌, ap, sym}
-use Rattle.ctl_store.specs.Pieces.{joined}
-use Rattle.ctl_store.specs.Ranks.{ranked_serials, setting_row}
+use Rattle.ctl_store.specs.HeldPieces.{joined}
+use Rattle.ctl_store.specs.HeldRanks.{ranked_serials, setting_row}
 use Rattle.ctl_store.specs.HeldPins.{own_row}
 use Rattle.ctl_store.proofs.TableLemmas.{table_empty}
 use Rattle.ctl_store.proofs.pin_settings.PinSettings.new.Goals as goal

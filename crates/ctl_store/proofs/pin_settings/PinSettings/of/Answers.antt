@@ -1,7 +1,7 @@
 use Rattle.std.proofs.Common.{◌≡◌, ◌∙◌, ap, sym, drop}
 use Rattle.ctl_store.specs.Pins.{settings_of, own_settings}
-use Rattle.ctl_store.specs.Pieces.{joined, place_of_spot}
-use Rattle.ctl_store.specs.Ranks.{labels_of, sorted_labels, labels_below}
+use Rattle.ctl_store.specs.HeldPieces.{joined, place_of_spot}
+use Rattle.ctl_store.specs.HeldRanks.{labels_of, sorted_labels, labels_below}
 use Rattle.ctl_store.specs.HeldPins.{own_row, own_start, own_run}
 use Rattle.ctl_store.proofs.OwnRunLemmas.{own_found}
 use Rattle.ctl_store.proofs.pin_settings.PinSettings.of.Goals as goal

@@ -1,8 +1,8 @@
 use Rattle.std.proofs.Common.{◌∙◌, ap}
 use Rattle.indexmap.specs.IndexMap.{insert_entry}
 use Rattle.ctl_store.specs.Pins.{selector_eq, settings_of}
-use Rattle.ctl_store.specs.Pieces.{joined}
-use Rattle.ctl_store.specs.Ranks.{items_of, label_place, put_item_at, selector_label, setting_row}
+use Rattle.ctl_store.specs.HeldPieces.{joined}
+use Rattle.ctl_store.specs.HeldRanks.{items_of, label_place, put_item_at, selector_label, setting_row}
 use Rattle.ctl_store.proofs.SettingLemmas.{setting_put}
 use Rattle.ctl_store.proofs.OwnOrderLemmas.{own_same}
 use Rattle.ctl_store.proofs.pin_settings.PinSettings.put.Goals as goal

@@ -2,8 +2,8 @@ use Rattle.std.proofs.Common.{◌∙◌, ap}
 use Rattle.std.specs.Map.{remove_entry}
 use Rattle.ctl_store.specs.Pins.{selector_eq, settings_of}
 use Rattle.ctl_store.specs.Rows.{remove_row_at}
-use Rattle.ctl_store.specs.Pieces.{joined}
-use Rattle.ctl_store.specs.Ranks.{items_of, label_place, setting_row}
+use Rattle.ctl_store.specs.HeldPieces.{joined}
+use Rattle.ctl_store.specs.HeldRanks.{items_of, label_place, setting_row}
 use Rattle.ctl_store.proofs.SettingLemmas.{setting_removed}
 use Rattle.ctl_store.proofs.pin_settings.PinSettings.remove.Goals as goal
 

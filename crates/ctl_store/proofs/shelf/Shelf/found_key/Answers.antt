@@ -1,7 +1,7 @@
 use Rattle.std.proofs.Common.{◌≡◌, ◌∙◌, Some, ◌∷◌, [], sym, ap, option_copied, option_map}
 use Rattle.ctl_store.specs.Step.{place}
 use Rattle.ctl_store.specs.Rows.{by_name_and_version}
-use Rattle.ctl_store.specs.Pieces.{joined, place_of_spot}
+use Rattle.ctl_store.specs.HeldPieces.{joined, place_of_spot}
 use Rattle.ctl_store.specs.Keys.{KeyedList, found_key, key_at, key_of, new_list}
 use Rattle.ctl_store.specs.Held.{keyed_list}
 use Rattle.ctl_store.proofs.PlaceLemmas.{place_within}

@@ -1,6 +1,6 @@
 use Rattle.std.proofs.Common.{◌∙◌, ◌++◌, map, length, ap, arith}
 use Rattle.ctl_store.specs.Rows.{rows_from, sorted_serials}
-use Rattle.ctl_store.specs.Pieces.{joined}
+use Rattle.ctl_store.specs.HeldPieces.{joined}
 use Rattle.ctl_store.specs.Held.{ListRoom}
 use Rattle.ctl_store.proofs.ShelfLemmas.{same_length, length-serials, shelved_sorted}
 use Rattle.ctl_store.proofs.shelf.Shelf.new.Goals as goal

@@ -1,5 +1,5 @@
 use Rattle.std.proofs.Common.{length, ap, arith}
-use Rattle.ctl_store.specs.Pieces.{joined}
+use Rattle.ctl_store.specs.HeldPieces.{joined}
 use Rattle.ctl_store.proofs.ShelfLemmas.{length-order}
 use Rattle.ctl_store.proofs.ListedLemmas.{on_ok_map}
 use Rattle.ctl_store.proofs.shelf.Shelf.reserve_one.Goals as goal

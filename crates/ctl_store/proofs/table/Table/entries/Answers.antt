@@ -2,8 +2,8 @@ use Rattle.std.proofs.Common.{◌∙◌, ap, subst, sym}
 use Rattle.std.specs.List.{IsDistinct}
 use Rattle.std.specs.Map.{keys_of}
 use Rattle.std.specs.Str.{bytes_eq}
-use Rattle.ctl_store.specs.Pieces.{joined, ArePieces}
-use Rattle.ctl_store.specs.Ranks.{items_of}
+use Rattle.ctl_store.specs.HeldPieces.{joined, ArePieces}
+use Rattle.ctl_store.specs.HeldRanks.{items_of}
 use Rattle.ctl_store.proofs.NamedRowLemmas.{named_distinct}
 use Rattle.ctl_store.proofs.table.Table.entries.Goals as goal
 

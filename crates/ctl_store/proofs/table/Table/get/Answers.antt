@@ -1,7 +1,7 @@
 use Rattle.std.proofs.Common.{◌∙◌, ap, Some, option_map, ℕ, List}
 use Rattle.ctl_store.specs.Named.{at_name}
-use Rattle.ctl_store.specs.Pieces.{joined}
-use Rattle.ctl_store.specs.Ranks.{label_item, named_row}
+use Rattle.ctl_store.specs.HeldPieces.{joined}
+use Rattle.ctl_store.specs.HeldRanks.{label_item, named_row}
 use Rattle.ctl_store.proofs.NamedRowLemmas.{named_found}
 use Rattle.ctl_store.proofs.table.Table.get.Goals as goal
 

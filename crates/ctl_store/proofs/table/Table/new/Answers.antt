@@ -1,4 +1,4 @@
-use Rattle.ctl_store.specs.Ranks.{named_row}
+use Rattle.ctl_store.specs.HeldRanks.{named_row}
 use Rattle.ctl_store.proofs.TableLemmas.{table_empty}
 use Rattle.ctl_store.proofs.table.Table.new.Goals as goal
 

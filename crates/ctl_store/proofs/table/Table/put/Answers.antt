@@ -1,7 +1,7 @@
 use Rattle.std.proofs.Common.{◌∙◌, ap}
 use Rattle.ctl_store.specs.Named.{put_named}
-use Rattle.ctl_store.specs.Pieces.{joined}
-use Rattle.ctl_store.specs.Ranks.{items_of}
+use Rattle.ctl_store.specs.HeldPieces.{joined}
+use Rattle.ctl_store.specs.HeldRanks.{items_of}
 use Rattle.ctl_store.proofs.NamedRowLemmas.{named_put}
 use Rattle.ctl_store.proofs.table.Table.put.Goals as goal
 

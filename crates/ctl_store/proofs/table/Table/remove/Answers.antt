@@ -4,8 +4,8 @@ use Rattle.std.specs.Map.{keys_of}
 use Rattle.std.specs.Str.{bytes_eq}
 use Rattle.ctl_store.specs.Named.{without_name}
 use Rattle.ctl_store.specs.Rows.{remove_row_at}
-use Rattle.ctl_store.specs.Pieces.{joined}
-use Rattle.ctl_store.specs.Ranks.{items_of, label_place, named_row}
+use Rattle.ctl_store.specs.HeldPieces.{joined}
+use Rattle.ctl_store.specs.HeldRanks.{items_of, label_place, named_row}
 use Rattle.ctl_store.proofs.NamedRowLemmas.{named_removed, named_distinct}
 use Rattle.ctl_store.proofs.table.Table.remove.Goals as goal
 

@@ -11,7 +11,7 @@ use Rattle.ctl_store.specs.declared.selector.Selector.{Selector}
 use Rattle.ctl_store.specs.declared.selector.Selector.TheVariants.{Version, Release}
 use Rattle.ctl_store.specs.declared.selector.PinSetting.{PinSetting}
 use Rattle.ctl_store.specs.Places.{place, Rises, replace_at}
-use Rattle.ctl_store.specs.Pieces.{most_in_piece, room_of_last, joined, place_of_spot, IsSpot, IsSpotOrEnd, IsFit}
+use Rattle.ctl_store.specs.HeldPieces.{most_in_piece, room_of_last, joined, place_of_spot, IsSpot, IsSpotOrEnd, IsFit}
 use Rattle.ctl_store.specs.declared.pieces.Spot.{Spot}
 
 -- what a row is found by
