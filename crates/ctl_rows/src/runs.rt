@@ -193,7 +193,7 @@ fn append_load(
     text: &[u8],
     all: &mut Vec<u8>,
 ) -> Result<(), AllocError> {
-    let words = match session.load(name, ListKind::Packages, text) {
+    let words = match session.load(name, ListKind::Packages, Vec::from_slice(alloc, text)?) {
         Ok(()) => format!(in alloc; "loaded")?,
         Err(fault) => format!(in alloc; "line {}, number {}", fault.line, fault.cause.number())?,
     };

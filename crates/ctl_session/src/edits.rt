@@ -67,25 +67,27 @@ pub(crate) fn edit(cache: &mut Cache, edit: Edit, number: u32) -> Result<(), Ref
     }
 }
 
-/// Adds a list with the stanzas of a text, which is the body of the command at this line.
+/// Adds a list with the stanzas of a text, which is the body of the command at this line. The text is given back as soon as they
+/// are read, so that it isn't there beside the tables that they come into.
 pub(crate) fn add_list(
     alloc: Global,
     cache: &mut Cache,
     name: &[u8],
     kind: ListKind,
     class: ListClass,
-    text: &[u8],
+    text: Vec<u8>,
     number: u32,
 ) -> Result<(), RefusalAt>
     requires { cache.old.stale ≡ false }
-    ensures outcome { CameTo number result (cache_state cache.new) (list_added (cache_state cache.old) number name.now kind class text.now) }
+    ensures outcome { CameTo number result (cache_state cache.new) (list_added (cache_state cache.old) number name.now kind class text.items) }
     ensures err { OnErr result (cache_state cache.new ≡ cache_state cache.old) }
 {
     lines_take_bytes();
-    let stanzas = match read_stanzas(alloc, text, number as u64 + 1, kind) {
+    let stanzas = match read_stanzas(alloc, &text, number as u64 + 1, kind) {
         Ok(stanzas) => stanzas,
         Err(fault) => return Err(refusal_at(fault, number)),
     };
+    drop(text);
     let Ok(name) = Bytes::from_slice(alloc, name) else {
         return Err(refused(number, Refusal::Memory));
     };

@@ -37,12 +37,12 @@ fn do_request(
     alloc: Global,
     cache: &mut Cache,
     request: Request<'_>,
-    body: &Body,
+    body: Body,
     number: u32,
     out: &mut Vec<u8>,
 ) -> Reply
     requires empty { out.old.items ≡ [] }
-    ensures may { (asked : Command) → asked.number ≡ number → (body.now.dropped ≡ false → body.now.text.items ≡ text_of_lines asked.body) →
+    ensures may { (asked : Command) → asked.number ≡ number → (body.dropped ≡ false → body.text.items ≡ text_of_lines asked.body) →
         MayDo (cache_state cache.old) asked (request_text request.entry) (outcome_from result out.new.items (cache_state cache.new)) }
     ensures state { cache_state cache.new ≡ state_after (cache_state cache.old) (outcome_from result out.new.items (cache_state cache.new)) }
 {
@@ -56,13 +56,13 @@ fn do_request(
         Ok(()) => {}
         Err(_) => return Reply::Refused(refused(number, Refusal::Memory)),
     }
-    let text = &body.text;
+    let text = body.text;
     match request {
         Request::AddList(name, kind, class) => {
             reply_of_edit(add_list(alloc, cache, name, kind, class, text, number))
         }
-        Request::Put(name) => reply_of_edit(put(alloc, cache, name, text, number)),
-        Request::Prefs => reply_of_edit(set_prefs(alloc, cache, text, number)),
+        Request::Put(name) => reply_of_edit(put(alloc, cache, name, &text, number)),
+        Request::Prefs => reply_of_edit(set_prefs(alloc, cache, &text, number)),
         Request::Change(change) => reply_of_edit(edit(cache, change, number)),
         Request::Ask(query) => match answer(alloc, cache, &query, out, &mut Steps::new()) {
             Ok(()) => Reply::Answered,
@@ -90,7 +90,7 @@ pub(crate) fn perform(
         Err(refused) => return Reply::Refused(refused),
     };
     match request_by(alloc, read.name, &read.words) {
-        Ok(request) => do_request(alloc, cache, request, &command.body, number, out),
+        Ok(request) => do_request(alloc, cache, request, command.body, number, out),
         Err(cause) => Reply::Refused(refused(number, cause)),
     }
 }

@@ -90,15 +90,15 @@ impl Session {
     }
 
     /// Adds a last list of plain class with the stanzas of a text, as `add-list` does. The lines of the text count
-    /// from 1.
+    /// from 1. The text is given back as soon as its stanzas are read.
     ///
     /// # Errors
     ///
     /// The first of these, and what the cache holds stays: the name is none; the fault of the text, with its line;
     /// there is a list of that name; there is a status list, and this would be another; the cache is full. Each may
     /// be want of memory instead.
-    pub fn load(&mut self, name: &[u8], kind: ListKind, text: &[u8]) -> Result<(), LoadFault>
-        ensures loaded { LoadCameTo result (cache_state self.new.cache) (loaded (cache_state self.old.cache) name.now kind text.now) }
+    pub fn load(&mut self, name: &[u8], kind: ListKind, text: Vec<u8>) -> Result<(), LoadFault>
+        ensures loaded { LoadCameTo result (cache_state self.new.cache) (loaded (cache_state self.old.cache) name.now kind text.items) }
         ensures err { OnErr result (cache_state self.new.cache ≡ cache_state self.old.cache) }
         ensures max_lines { self.new.max_lines ≡ self.old.max_lines }
     {

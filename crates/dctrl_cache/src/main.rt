@@ -87,7 +87,7 @@ fn load(
     path: &str,
 ) -> Result<(), Failure> {
     let text = read_file(rt, path)?;
-    match session.load(name.as_bytes(), kind, &text) {
+    match session.load(name.as_bytes(), kind, text) {
         Ok(()) => Ok(()),
         Err(LoadFault { line: 0, cause }) => Err(Failure::Load(owned(rt, path)?, cause.text())),
         Err(LoadFault { line, cause }) => {
