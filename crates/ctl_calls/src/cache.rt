@@ -67,8 +67,8 @@ pub enum Act<'a> {
     Offers(&'a [u8]),
     /// Shows the atoms that name a name.
     Namers(&'a [u8]),
-    /// Shows the number of a clause.
-    Satisfiers(ClauseKey),
+    /// Shows the number of a clause of Depends of the first list, by its stanza and its group.
+    Satisfiers(u64, u32),
     /// Shows the numbers of all clauses.
     Counters,
     /// Shows the clauses that no offer meets.
@@ -163,7 +163,9 @@ fn append_view(
         Act::Packages(prefix) => append_packages(cache, prefix, all),
         Act::Offers(name) => append_offers(alloc, cache, name, all),
         Act::Namers(name) => append_namers(alloc, cache, name, all),
-        Act::Satisfiers(clause) => append_satisfiers(alloc, cache, clause, all),
+        Act::Satisfiers(stanza, group) => {
+            append_satisfiers(alloc, cache, depends(stanza, group), all)
+        },
         Act::Counters => append_counters(alloc, cache, all),
         Act::Unmet => append_unmet(alloc, cache, all),
         Act::Tables => append_tables(alloc, cache, all),
@@ -220,8 +222,11 @@ pub fn came(alloc: Global, acts: &[Act<'_>]) -> Result<Vec<u8>, Fail> {
     came_in(alloc, &mut cache, acts)
 }
 
+/// A row: what it is called, what is done with a new cache, and what comes of it.
+pub type Row = (&'static [u8], &'static [Act<'static>], &'static [u8]);
+
 /// Compares what comes of acts with a new cache, which are told by a name.
-pub fn judge(
+fn judge(
     rt: &(impl Abort + AllocGlobal),
     name: &[u8],
     acts: &[Act<'_>],
@@ -229,6 +234,14 @@ pub fn judge(
 ) -> Result<(), Fail> {
     let text = came(rt.alloc(), acts)?;
     same(rt, name, &text, wanted);
+    Ok(())
+}
+
+/// Compares what comes of the acts of each row.
+pub fn judge_each(rt: &(impl Abort + AllocGlobal), rows: &[Row]) -> Result<(), Fail> {
+    for (name, acts, wanted) in rows {
+        judge(rt, name, acts, wanted)?;
+    }
     Ok(())
 }
 
@@ -243,8 +256,7 @@ const fn depends(stanza: u64, group: u32) -> ClauseKey {
 
 #[test]
 fn a_new_cache_is_empty(rt: HostRuntime) -> Result<(), Fail> {
-    judge(
-        &rt,
+    const ROWS: &[Row] = &[(
         b"a new cache",
         &[
             Act::Recover,
@@ -255,8 +267,8 @@ fn a_new_cache_is_empty(rt: HostRuntime) -> Result<(), Fail> {
             Act::Namers(b"x"),
         ],
         b"+0|\n\n|0|0 of 4294967295 stanzas, 0 of 4294967295 edits|||",
-    )?;
-    Ok(())
+    )];
+    judge_each(&rt, ROWS)
 }
 
 #[test]
@@ -265,14 +277,14 @@ fn limits_are_those_of_the_store(rt: HostRuntime) -> Result<(), Fail> {
         stanzas: 2,
         edits: 5,
     };
-    let acts = [
+    const ACTS: &[Act<'static>] = &[
         Act::Make(Asked::AddList("m", "Package: a\nVersion: 1\n\nPackage: b\nVersion: 1\n")),
         Act::Make(Asked::Put("Package: b\nVersion: 1-0\n")),
         Act::Make(Asked::Put("Package: c\nVersion: 1\nDepends: a\n")),
         Act::Numbers,
         Act::Names,
     ];
-    let text = came_under(rt.alloc(), limits, &acts)?;
+    let text = came_under(rt.alloc(), limits, ACTS)?;
     same(
         &rt,
         b"limits of 2 and 5",
@@ -284,352 +296,342 @@ fn limits_are_those_of_the_store(rt: HostRuntime) -> Result<(), Fail> {
 
 #[test]
 fn an_edit_takes_its_own_tests(rt: HostRuntime) -> Result<(), Fail> {
-    judge(
-        &rt,
-        b"an offer twice",
-        &[
-            Act::Make(Asked::AddList("m", TWICE)),
-            Act::Unmet,
-            Act::Counters,
-            Act::Make(Asked::Put(FIRST)),
-            Act::Unmet,
-            Act::Counters,
-            Act::Make(Asked::Remove("s", "1")),
-            Act::Unmet,
-            Act::Counters,
-            Act::Steps,
-        ],
-        b"+4||0.0 Depends 0: 2;0.1 Depends 0: 2;|+8||0.0 Depends 0: 2;0.1 Depends 0: 2;|\
+    const ROWS: &[Row] = &[
+        (
+            b"an offer twice",
+            &[
+                Act::Make(Asked::AddList("m", TWICE)),
+                Act::Unmet,
+                Act::Counters,
+                Act::Make(Asked::Put(FIRST)),
+                Act::Unmet,
+                Act::Counters,
+                Act::Make(Asked::Remove("s", "1")),
+                Act::Unmet,
+                Act::Counters,
+                Act::Steps,
+            ],
+            b"+4||0.0 Depends 0: 2;0.1 Depends 0: 2;|+8||0.0 Depends 0: 2;0.1 Depends 0: 2;|\
               +4|0.1 Depends 0;|0.1 Depends 0: 0;|16|",
-    )?;
-    judge(
-        &rt,
-        b"an offer that comes and goes",
-        &[
-            Act::Make(Asked::AddList("m", HALF)),
-            Act::Counters,
-            Act::Make(Asked::Put("Package: quux\nVersion: 1\nProvides: baz\n")),
-            Act::Counters,
-            Act::Unmet,
-            Act::Make(Asked::Remove("quux", "1")),
-            Act::Counters,
-            Act::Unmet,
-        ],
-        b"+1|0.0 Depends 0: 1;0.0 Depends 1: 0;|+1|0.0 Depends 0: 1;0.0 Depends 1: 1;||\
+        ),
+        (
+            b"an offer that comes and goes",
+            &[
+                Act::Make(Asked::AddList("m", HALF)),
+                Act::Counters,
+                Act::Make(Asked::Put("Package: quux\nVersion: 1\nProvides: baz\n")),
+                Act::Counters,
+                Act::Unmet,
+                Act::Make(Asked::Remove("quux", "1")),
+                Act::Counters,
+                Act::Unmet,
+            ],
+            b"+1|0.0 Depends 0: 1;0.0 Depends 1: 0;|+1|0.0 Depends 0: 1;0.0 Depends 1: 1;||\
               +1|0.0 Depends 0: 1;0.0 Depends 1: 0;|0.0 Depends 1;|",
-    )?;
-    judge(
-        &rt,
-        b"an offer without a version",
-        &[
-            Act::Make(Asked::AddList("m", BOUND)),
-            Act::Counters,
-            Act::Make(Asked::Put("Package: p\nVersion: 7\nProvides: baz (= 1)\n")),
-            Act::Counters,
-            Act::Unmet,
-        ],
-        b"+1|0.0 Depends 0: 0;|+2|0.0 Depends 0: 1;||",
-    )?;
-    judge(
-        &rt,
-        b"fields without clauses",
-        &[
-            Act::Make(Asked::AddList("m", MAIL)),
-            Act::Counters,
-            Act::Unmet,
-        ],
-        b"+2|0.0 PreDepends 0: 1;0.0 Depends 0: 0;|0.0 Depends 0;|",
-    )?;
-    judge(
-        &rt,
-        b"a list that goes",
-        &[
-            Act::Make(Asked::AddList("m", TWICE)),
-            Act::Make(Asked::DropList),
-            Act::Tables,
-            Act::Steps,
-        ],
-        b"+4|+4|\n\n|8|",
-    )?;
-    judge(
-        &rt,
-        b"two lists alike",
-        &[
-            Act::Make(Asked::AddList("m", TWICE)),
-            Act::Make(Asked::AddList("n", TWICE)),
-            Act::Counters,
-            Act::Make(Asked::DropNamed("m")),
-            Act::Counters,
-            Act::Make(Asked::DropNamed("n")),
-            Act::Counters,
-        ],
-        b"+4|+12|0.0 Depends 0: 4;0.1 Depends 0: 4;1.0 Depends 0: 4;1.1 Depends 0: 4;|\
+        ),
+        (
+            b"an offer without a version",
+            &[
+                Act::Make(Asked::AddList("m", BOUND)),
+                Act::Counters,
+                Act::Make(Asked::Put("Package: p\nVersion: 7\nProvides: baz (= 1)\n")),
+                Act::Counters,
+                Act::Unmet,
+            ],
+            b"+1|0.0 Depends 0: 0;|+2|0.0 Depends 0: 1;||",
+        ),
+        (
+            b"fields without clauses",
+            &[
+                Act::Make(Asked::AddList("m", MAIL)),
+                Act::Counters,
+                Act::Unmet,
+            ],
+            b"+2|0.0 PreDepends 0: 1;0.0 Depends 0: 0;|0.0 Depends 0;|",
+        ),
+        (
+            b"a list that goes",
+            &[
+                Act::Make(Asked::AddList("m", TWICE)),
+                Act::Make(Asked::DropList),
+                Act::Tables,
+                Act::Steps,
+            ],
+            b"+4|+4|\n\n|8|",
+        ),
+        (
+            b"two lists alike",
+            &[
+                Act::Make(Asked::AddList("m", TWICE)),
+                Act::Make(Asked::AddList("n", TWICE)),
+                Act::Counters,
+                Act::Make(Asked::DropNamed("m")),
+                Act::Counters,
+                Act::Make(Asked::DropNamed("n")),
+                Act::Counters,
+            ],
+            b"+4|+12|0.0 Depends 0: 4;0.1 Depends 0: 4;1.0 Depends 0: 4;1.1 Depends 0: 4;|\
               +12|1.0 Depends 0: 2;1.1 Depends 0: 2;|+4||",
-    )?;
-    Ok(())
+        ),
+    ];
+    judge_each(&rt, ROWS)
 }
 
 #[test]
 fn other_edits_take_no_tests(rt: HostRuntime) -> Result<(), Fail> {
-    judge(
-        &rt,
-        b"marks, pins, preferences and the target",
-        &[
-            Act::Make(Asked::AddList("m", TWICE)),
-            Act::Make(Asked::Mark("s", "1")),
-            Act::Make(Asked::MarkNone("t")),
-            Act::Make(Asked::Unmark("s")),
-            Act::Make(Asked::Pin("s", "1.*", 5)),
-            Act::Make(Asked::Unpin("s", "1.*")),
-            Act::Make(Asked::Target("m")),
-            Act::Make(Asked::TargetNone),
-            Act::Make(Asked::Prefs("Package: s\nPin: version 1\nPin-Priority: 5\n")),
-            Act::Counters,
-            Act::Steps,
-        ],
-        b"+4|+0|+0|+0|+0|+0|+0|+0|+0|0.0 Depends 0: 2;0.1 Depends 0: 2;|4|",
-    )?;
-    judge(
-        &rt,
-        b"refused edits",
-        &[
-            Act::Make(Asked::AddList("m", TWICE)),
-            Act::Make(Asked::AddList("m", TWICE)),
-            Act::Make(Asked::DropNamed("n")),
-            Act::Make(Asked::PutInto("n", FIRST)),
-            Act::Make(Asked::Remove("s", "2")),
-            Act::Make(Asked::Unmark("s")),
-            Act::Make(Asked::Unpin("s", "1")),
-            Act::Tables,
-            Act::Steps,
-        ],
-        b"+4|list already present +0|no such list +0|no such list +0|no such stanza +0|\
+    const ROWS: &[Row] = &[
+        (
+            b"marks, pins, preferences and the target",
+            &[
+                Act::Make(Asked::AddList("m", TWICE)),
+                Act::Make(Asked::Mark("s", "1")),
+                Act::Make(Asked::MarkNone("t")),
+                Act::Make(Asked::Unmark("s")),
+                Act::Make(Asked::Pin("s", "1.*", 5)),
+                Act::Make(Asked::Unpin("s", "1.*")),
+                Act::Make(Asked::Target("m")),
+                Act::Make(Asked::TargetNone),
+                Act::Make(Asked::Prefs("Package: s\nPin: version 1\nPin-Priority: 5\n")),
+                Act::Counters,
+                Act::Steps,
+            ],
+            b"+4|+0|+0|+0|+0|+0|+0|+0|+0|0.0 Depends 0: 2;0.1 Depends 0: 2;|4|",
+        ),
+        (
+            b"refused edits",
+            &[
+                Act::Make(Asked::AddList("m", TWICE)),
+                Act::Make(Asked::AddList("m", TWICE)),
+                Act::Make(Asked::DropNamed("n")),
+                Act::Make(Asked::PutInto("n", FIRST)),
+                Act::Make(Asked::Remove("s", "2")),
+                Act::Make(Asked::Unmark("s")),
+                Act::Make(Asked::Unpin("s", "1")),
+                Act::Tables,
+                Act::Steps,
+            ],
+            b"+4|list already present +0|no such list +0|no such list +0|no such stanza +0|\
               no such mark +0|no such pin +0|s:0.0 s 1;\nt:0.1 t 1;\n\
               x:0.0 x -;0.0 x -;0.0 Depends 0 0;0.1 Depends 0 0;\n\
               0.0 Depends 0: 2;0.1 Depends 0: 2;\n\n|4|",
-    )?;
-    Ok(())
+        ),
+    ];
+    judge_each(&rt, ROWS)
 }
 
 #[test]
 fn names_are_known_by_offers_and_by_atoms(rt: HostRuntime) -> Result<(), Fail> {
-    judge(
-        &rt,
-        b"a clause of two atoms",
-        &[Act::Make(Asked::AddList("m", HALF)), Act::Names],
-        b"+1| bar baz foo qux|",
-    )?;
-    judge(
-        &rt,
-        b"each of nine fields, and none when its stanza is gone",
-        &[
-            Act::Make(Asked::AddList("m", NINE)),
-            Act::Names,
-            Act::Make(Asked::Remove("a", "1")),
-            Act::Names,
-        ],
-        b"+0| a b c d e f g h i j k|+0||",
-    )?;
-    judge(
-        &rt,
-        b"in the order of bytes",
-        &[
-            Act::Make(Asked::AddList(
-                "m",
-                "Package: z.\nVersion: 1\nDepends: ab, x+y, a, lib-x, A, 0ad\n",
-            )),
-            Act::Names,
-        ],
-        b"+0| 0ad A a ab lib-x x+y z.|",
-    )?;
-    judge(
-        &rt,
-        b"a name that another stanza has too",
-        &[
-            Act::Make(Asked::AddList("m", TWICE)),
-            Act::Make(Asked::Remove("s", "1")),
-            Act::Names,
-            Act::Make(Asked::Remove("t", "1")),
-            Act::Names,
-        ],
-        b"+4|+4| t x|+0||",
-    )?;
-    judge(
-        &rt,
-        b"a stanza that isn't live",
-        &[
-            Act::Make(Asked::AddStatus(STATUS)),
-            Act::Names,
-            Act::Counters,
-            Act::Offers(b"old"),
-            Act::Namers(b"gone"),
-        ],
-        b"+0| foo old|0.1 Depends 0: 0;|||",
-    )?;
-    Ok(())
+    const ROWS: &[Row] = &[
+        (
+            b"a clause of two atoms",
+            &[Act::Make(Asked::AddList("m", HALF)), Act::Names],
+            b"+1| bar baz foo qux|",
+        ),
+        (
+            b"each of nine fields, and none when its stanza is gone",
+            &[
+                Act::Make(Asked::AddList("m", NINE)),
+                Act::Names,
+                Act::Make(Asked::Remove("a", "1")),
+                Act::Names,
+            ],
+            b"+0| a b c d e f g h i j k|+0||",
+        ),
+        (
+            b"in the order of bytes",
+            &[
+                Act::Make(Asked::AddList(
+                    "m",
+                    "Package: z.\nVersion: 1\nDepends: ab, x+y, a, lib-x, A, 0ad\n",
+                )),
+                Act::Names,
+            ],
+            b"+0| 0ad A a ab lib-x x+y z.|",
+        ),
+        (
+            b"a name that another stanza has too",
+            &[
+                Act::Make(Asked::AddList("m", TWICE)),
+                Act::Make(Asked::Remove("s", "1")),
+                Act::Names,
+                Act::Make(Asked::Remove("t", "1")),
+                Act::Names,
+            ],
+            b"+4|+4| t x|+0||",
+        ),
+        (
+            b"a stanza that isn't live",
+            &[
+                Act::Make(Asked::AddStatus(STATUS)),
+                Act::Names,
+                Act::Counters,
+                Act::Offers(b"old"),
+                Act::Namers(b"gone"),
+            ],
+            b"+0| foo old|0.1 Depends 0: 0;|||",
+        ),
+    ];
+    judge_each(&rt, ROWS)
 }
 
 #[test]
 fn packages_begin_with_a_prefix(rt: HostRuntime) -> Result<(), Fail> {
-    judge(
-        &rt,
-        b"names that are offered or named alone are none",
-        &[
-            Act::Make(Asked::AddList("m", HALF)),
-            Act::Packages(b""),
-            Act::Packages(b"b"),
-            Act::Packages(b"q"),
-            Act::Make(Asked::Remove("bar", "2.0")),
-            Act::Packages(b""),
-        ],
-        b"+1| bar foo| bar||+1| foo|",
-    )?;
-    judge(
-        &rt,
-        b"names between which others stand, in the order of bytes",
-        &[
-            Act::Make(Asked::AddList(
-                "m",
-                "Package: ab\nVersion: 1\nDepends: aa, abb\n\nPackage: abc\nVersion: 1\n\n\
+    const ROWS: &[Row] = &[
+        (
+            b"names that are offered or named alone are none",
+            &[
+                Act::Make(Asked::AddList("m", HALF)),
+                Act::Packages(b""),
+                Act::Packages(b"b"),
+                Act::Packages(b"q"),
+                Act::Make(Asked::Remove("bar", "2.0")),
+                Act::Packages(b""),
+            ],
+            b"+1| bar foo| bar||+1| foo|",
+        ),
+        (
+            b"names between which others stand, in the order of bytes",
+            &[
+                Act::Make(Asked::AddList(
+                    "m",
+                    "Package: ab\nVersion: 1\nDepends: aa, abb\n\nPackage: abc\nVersion: 1\n\n\
                      Package: ac\nVersion: 1\n\nPackage: ab+\nVersion: 1\nProvides: abd\n\n\
                      Package: ab\nVersion: 2\n",
-            )),
-            Act::Packages(b""),
-            Act::Packages(b"ab"),
-            Act::Packages(b"abc"),
-            Act::Packages(b"abcd"),
-            Act::Packages(b"b"),
-        ],
-        b"+0| ab ab+ abc ac| ab ab+ abc| abc|||",
-    )?;
-    judge(
-        &rt,
-        b"a stanza that isn't live",
-        &[Act::Make(Asked::AddStatus(STATUS)), Act::Packages(b"")],
-        b"+0| foo|",
-    )?;
-    Ok(())
+                )),
+                Act::Packages(b""),
+                Act::Packages(b"ab"),
+                Act::Packages(b"abc"),
+                Act::Packages(b"abcd"),
+                Act::Packages(b"b"),
+            ],
+            b"+0| ab ab+ abc ac| ab ab+ abc| abc|||",
+        ),
+        (
+            b"a stanza that isn't live",
+            &[Act::Make(Asked::AddStatus(STATUS)), Act::Packages(b"")],
+            b"+0| foo|",
+        ),
+    ];
+    judge_each(&rt, ROWS)
 }
 
 #[test]
 fn offers_have_their_stanzas_and_versions(rt: HostRuntime) -> Result<(), Fail> {
-    judge(
-        &rt,
-        b"an offer twice",
-        &[
-            Act::Make(Asked::AddList("m", TWICE)),
-            Act::Offers(b"x"),
-            Act::Offers(b"s"),
-            Act::Offers(b"nope"),
-        ],
-        b"+4|0.0 x -;0.0 x -;|0.0 s 1;||",
-    )?;
-    judge(
-        &rt,
-        b"offers of two lists",
-        &[
-            Act::Make(Asked::AddList(
-                "m",
-                "Package: x\nVersion: 1\n\nPackage: y\nVersion: 2\nProvides: x (= 3)\n",
-            )),
-            Act::Make(Asked::AddList("n", "Package: x\nVersion: 1-0\n")),
-            Act::Make(Asked::Put("Package: z\nVersion: 4\nProvides: x\n")),
-            Act::Offers(b"x"),
-            Act::Make(Asked::Put("Package: x\nVersion: 0:1\n")),
-            Act::Offers(b"x"),
-            Act::Make(Asked::DropList),
-            Act::Offers(b"x"),
-        ],
-        b"+0|+0|+0|0.0 x 1;0.1 x 3;0.2 x -;1.0 x 1-0;|+0|0.0 x 0:1;0.1 x 3;0.2 x -;1.0 x 1-0;|\
+    const ROWS: &[Row] = &[
+        (
+            b"an offer twice",
+            &[
+                Act::Make(Asked::AddList("m", TWICE)),
+                Act::Offers(b"x"),
+                Act::Offers(b"s"),
+                Act::Offers(b"nope"),
+            ],
+            b"+4|0.0 x -;0.0 x -;|0.0 s 1;||",
+        ),
+        (
+            b"offers of two lists",
+            &[
+                Act::Make(Asked::AddList(
+                    "m",
+                    "Package: x\nVersion: 1\n\nPackage: y\nVersion: 2\nProvides: x (= 3)\n",
+                )),
+                Act::Make(Asked::AddList("n", "Package: x\nVersion: 1-0\n")),
+                Act::Make(Asked::Put("Package: z\nVersion: 4\nProvides: x\n")),
+                Act::Offers(b"x"),
+                Act::Make(Asked::Put("Package: x\nVersion: 0:1\n")),
+                Act::Offers(b"x"),
+                Act::Make(Asked::DropList),
+                Act::Offers(b"x"),
+            ],
+            b"+0|+0|+0|0.0 x 1;0.1 x 3;0.2 x -;1.0 x 1-0;|+0|0.0 x 0:1;0.1 x 3;0.2 x -;1.0 x 1-0;|\
               +0|1.0 x 1-0;|",
-    )?;
-    Ok(())
+        ),
+    ];
+    judge_each(&rt, ROWS)
 }
 
 #[test]
 fn namers_are_atoms_of_eight_fields(rt: HostRuntime) -> Result<(), Fail> {
-    judge(
-        &rt,
-        b"two fields",
-        &[
-            Act::Make(Asked::AddList("m", MAIL)),
-            Act::Namers(b"mta"),
-            Act::Namers(b"m2"),
-            Act::Namers(b"exim"),
-        ],
-        b"+2|0.0 PreDepends 0 0;0.0 Conflicts 0 0;|0.0 Depends 0 0;||",
-    )?;
-    judge(
-        &rt,
-        b"each of eight fields, and Provides",
-        &[
-            Act::Make(Asked::AddList("m", NINE)),
-            Act::Namers(b"d"),
-            Act::Namers(b"j"),
-            Act::Namers(b"k"),
-        ],
-        b"+0|0.0 Depends 0 1;|0.0 Enhances 0 0;||",
-    )?;
-    judge(
-        &rt,
-        b"atoms with qualifiers, and one twice",
-        &[
-            Act::Make(Asked::AddList(
-                "m",
-                "Package: p1\nVersion: 1\nDepends: py:any | q, py:any | py\n\n\
+    const ROWS: &[Row] = &[
+        (
+            b"two fields",
+            &[
+                Act::Make(Asked::AddList("m", MAIL)),
+                Act::Namers(b"mta"),
+                Act::Namers(b"m2"),
+                Act::Namers(b"exim"),
+            ],
+            b"+2|0.0 PreDepends 0 0;0.0 Conflicts 0 0;|0.0 Depends 0 0;||",
+        ),
+        (
+            b"each of eight fields, and Provides",
+            &[
+                Act::Make(Asked::AddList("m", NINE)),
+                Act::Namers(b"d"),
+                Act::Namers(b"j"),
+                Act::Namers(b"k"),
+            ],
+            b"+0|0.0 Depends 0 1;|0.0 Enhances 0 0;||",
+        ),
+        (
+            b"atoms with qualifiers, and one twice",
+            &[
+                Act::Make(Asked::AddList(
+                    "m",
+                    "Package: p1\nVersion: 1\nDepends: py:any | q, py:any | py\n\n\
                      Package: p2\nVersion: 1\nDepends: py | q\nConflicts: py (<< 2)\n",
-            )),
-            Act::Namers(b"py"),
-            Act::Make(Asked::Remove("p1", "1")),
-            Act::Namers(b"py"),
-        ],
-        b"+0|0.0 Depends 0 0;0.0 Depends 1 0;0.0 Depends 1 1;0.1 Depends 0 0;0.1 Conflicts 0 0;|\
+                )),
+                Act::Namers(b"py"),
+                Act::Make(Asked::Remove("p1", "1")),
+                Act::Namers(b"py"),
+            ],
+            b"+0|0.0 Depends 0 0;0.0 Depends 1 0;0.0 Depends 1 1;0.1 Depends 0 0;0.1 Conflicts 0 0;|\
               +0|0.1 Depends 0 0;0.1 Conflicts 0 0;|",
-    )?;
-    Ok(())
+        ),
+    ];
+    judge_each(&rt, ROWS)
 }
 
 #[test]
 fn a_clause_has_the_number_of_its_pairs(rt: HostRuntime) -> Result<(), Fail> {
-    judge(
-        &rt,
-        b"an offer twice",
-        &[
-            Act::Make(Asked::AddList("m", TWICE)),
-            Act::Satisfiers(depends(0, 0)),
-            Act::Satisfiers(depends(1, 0)),
-            Act::Make(Asked::Put(FIRST)),
-            Act::Satisfiers(depends(0, 0)),
-            Act::Satisfiers(depends(1, 0)),
-            Act::Make(Asked::Remove("s", "1")),
-            Act::Satisfiers(depends(0, 0)),
-            Act::Satisfiers(depends(1, 0)),
-        ],
-        b"+4|2|2|+8|2|2|+4|no clause|0|",
-    )?;
-    judge(
-        &rt,
-        b"atoms of one clause, each with its offers",
-        &[
-            Act::Make(Asked::AddList(
-                "m",
-                "Package: x\nVersion: 2\nProvides: x, y\n\
+    const ROWS: &[Row] = &[
+        (
+            b"an offer twice",
+            &[
+                Act::Make(Asked::AddList("m", TWICE)),
+                Act::Satisfiers(0, 0),
+                Act::Satisfiers(1, 0),
+                Act::Make(Asked::Put(FIRST)),
+                Act::Satisfiers(0, 0),
+                Act::Satisfiers(1, 0),
+                Act::Make(Asked::Remove("s", "1")),
+                Act::Satisfiers(0, 0),
+                Act::Satisfiers(1, 0),
+            ],
+            b"+4|2|2|+8|2|2|+4|no clause|0|",
+        ),
+        (
+            b"atoms of one clause, each with its offers",
+            &[
+                Act::Make(Asked::AddList(
+                    "m",
+                    "Package: x\nVersion: 2\nProvides: x, y\n\
                      Depends: x (<< 1) | y (>= 0~), x (= 2), x | x | y\n",
-            )),
-            Act::Satisfiers(depends(0, 0)),
-            Act::Satisfiers(depends(0, 1)),
-            Act::Satisfiers(depends(0, 2)),
-            Act::Unmet,
-        ],
-        b"+10|0|1|5|0.0 Depends 0;|",
-    )?;
-    Ok(())
+                )),
+                Act::Satisfiers(0, 0),
+                Act::Satisfiers(0, 1),
+                Act::Satisfiers(0, 2),
+                Act::Unmet,
+            ],
+            b"+10|0|1|5|0.0 Depends 0;|",
+        ),
+    ];
+    judge_each(&rt, ROWS)
 }
 
 #[test]
 fn recovery_of_a_cache_that_is_not_stale_does_nothing(rt: HostRuntime) -> Result<(), Fail> {
-    judge(
-        &rt,
+    const ROWS: &[Row] = &[(
         b"recovery",
         &[
             Act::Recover,
@@ -644,8 +646,8 @@ fn recovery_of_a_cache_that_is_not_stale_does_nothing(rt: HostRuntime) -> Result
         ],
         b"+0|+4|+0|0.0 Depends 0: 2;0.1 Depends 0: 2;|+4|+0|0.1 Depends 0: 0;|8|\
           1 of 4294967295 stanzas, 2 of 4294967295 edits|",
-    )?;
-    Ok(())
+    )];
+    judge_each(&rt, ROWS)
 }
 
 #[test]

@@ -3,7 +3,7 @@
 //! The lists of packages are not automatic, so that without pins they have a priority of 1, and the status list has 100.
 
 use crate::asked::Asked;
-use crate::cache::{Act, came, judge};
+use crate::cache::{Act, Row, came, judge_each};
 use crate::tables::same;
 use std::process::Abort;
 use std::test::Fail;
@@ -19,54 +19,53 @@ const STATUS: &str = "Package: foo\nStatus: install ok installed\nVersion: 1.0\n
 
 #[test]
 fn equal_versions_share_a_row(rt: HostRuntime) -> Result<(), Fail> {
-    judge(
-        &rt,
-        b"of two lists, newest first",
-        &[
-            Act::Make(Asked::AddList("main", MAIN)),
-            Act::Make(Asked::AddList("sid", SID)),
-            Act::Rows(b"foo"),
-            Act::Rows(b"bar"),
-            Act::Rows(b"baz"),
-            Act::Lead(b"foo", b"1.00"),
-            Act::Lead(b"foo", b"2.0-0"),
-            Act::Lead(b"foo", b"3"),
-            Act::Lead(b"baz", b"1"),
-        ],
-        b"+0|+0| 1.0; 0.0 1.1;| 0.1;|| 0.0| 1.0| -| -|",
-    )?;
-    judge(
-        &rt,
-        b"whose lead goes",
-        &[
-            Act::Make(Asked::AddList("main", MAIN)),
-            Act::Make(Asked::AddList("sid", SID)),
-            Act::Make(Asked::DropNamed("main")),
-            Act::Rows(b"foo"),
-            Act::Lead(b"foo", b"1.0"),
-            Act::Rows(b"bar"),
-        ],
-        b"+0|+0|+0| 1.0; 1.1;| 1.1||",
-    )?;
-    judge(
-        &rt,
-        b"of a stanza that isn't live",
-        &[
-            Act::Make(Asked::AddStatus(
-                "Package: old\nStatus: deinstall ok config-files\nVersion: 1\n\n\
+    const ROWS: &[Row] = &[
+        (
+            b"of two lists, newest first",
+            &[
+                Act::Make(Asked::AddList("main", MAIN)),
+                Act::Make(Asked::AddList("sid", SID)),
+                Act::Rows(b"foo"),
+                Act::Rows(b"bar"),
+                Act::Rows(b"baz"),
+                Act::Lead(b"foo", b"1.00"),
+                Act::Lead(b"foo", b"2.0-0"),
+                Act::Lead(b"foo", b"3"),
+                Act::Lead(b"baz", b"1"),
+            ],
+            b"+0|+0| 1.0; 0.0 1.1;| 0.1;|| 0.0| 1.0| -| -|",
+        ),
+        (
+            b"whose lead goes",
+            &[
+                Act::Make(Asked::AddList("main", MAIN)),
+                Act::Make(Asked::AddList("sid", SID)),
+                Act::Make(Asked::DropNamed("main")),
+                Act::Rows(b"foo"),
+                Act::Lead(b"foo", b"1.0"),
+                Act::Rows(b"bar"),
+            ],
+            b"+0|+0|+0| 1.0; 1.1;| 1.1||",
+        ),
+        (
+            b"of a stanza that isn't live",
+            &[
+                Act::Make(Asked::AddStatus(
+                    "Package: old\nStatus: deinstall ok config-files\nVersion: 1\n\n\
                      Package: foo\nStatus: install ok installed\nVersion: 1\n",
-            )),
-            Act::Rows(b"old"),
-            Act::Rows(b"foo"),
-        ],
-        b"+0|| 0.1;|",
-    )?;
-    Ok(())
+                )),
+                Act::Rows(b"old"),
+                Act::Rows(b"foo"),
+            ],
+            b"+0|| 0.1;|",
+        ),
+    ];
+    judge_each(&rt, ROWS)
 }
 
 #[test]
 fn a_row_has_a_priority_and_sources(rt: HostRuntime) -> Result<(), Fail> {
-    let acts = [
+    const ACTS: &[Act<'static>] = &[
         Act::Make(Asked::AddList("main", MAIN)),
         Act::Make(Asked::AddList("sid", SID)),
         Act::Row(b"foo", b"1.00"),
@@ -82,7 +81,7 @@ fn a_row_has_a_priority_and_sources(rt: HostRuntime) -> Result<(), Fail> {
         Act::Make(Asked::DropNamed("main")),
         Act::Row(b"foo", b"1.0"),
     ];
-    let text = came(rt.alloc(), &acts)?;
+    let text = came(rt.alloc(), ACTS)?;
     same(
         &rt,
         b"of two lists, one of them installed and pinned",
@@ -95,7 +94,7 @@ fn a_row_has_a_priority_and_sources(rt: HostRuntime) -> Result<(), Fail> {
 
 #[test]
 fn names_are_known_with_and_without_rows(rt: HostRuntime) -> Result<(), Fail> {
-    let acts = [
+    const ACTS: &[Act<'static>] = &[
         Act::NamesWithRows,
         Act::Known(b"foo"),
         Act::Make(Asked::AddList("main", MAIN)),
@@ -108,7 +107,7 @@ fn names_are_known_with_and_without_rows(rt: HostRuntime) -> Result<(), Fail> {
         Act::Known(b"baz"),
         Act::NamesWithRows,
     ];
-    let text = came(rt.alloc(), &acts)?;
+    let text = came(rt.alloc(), ACTS)?;
     same(
         &rt,
         b"a list that comes and goes",
@@ -121,84 +120,82 @@ fn names_are_known_with_and_without_rows(rt: HostRuntime) -> Result<(), Fail> {
 
 #[test]
 fn what_is_chosen_follows_each_edit(rt: HostRuntime) -> Result<(), Fail> {
-    judge(
-        &rt,
-        b"lists that come and go",
-        &[
-            Act::Candidates,
-            Act::Chosen(b"foo"),
-            Act::Make(Asked::AddList("main", MAIN)),
-            Act::Candidates,
-            Act::Make(Asked::AddList("sid", SID)),
-            Act::Chosen(b"foo"),
-            Act::Make(Asked::AddStatus(STATUS)),
-            Act::Candidates,
-            Act::Make(Asked::DropNamed("sid")),
-            Act::Candidates,
-            Act::Make(Asked::DropNamed("main")),
-            Act::Candidates,
-            Act::Make(Asked::DropNamed("status")),
-            Act::Candidates,
-        ],
-        b"|foo - -; - -|+0|bar - 0.1;foo - 0.0;|+0|foo - 1.0; - 1.0|+0|bar - 0.1;foo 0.0 0.0;|\
+    const ROWS: &[Row] = &[
+        (
+            b"lists that come and go",
+            &[
+                Act::Candidates,
+                Act::Chosen(b"foo"),
+                Act::Make(Asked::AddList("main", MAIN)),
+                Act::Candidates,
+                Act::Make(Asked::AddList("sid", SID)),
+                Act::Chosen(b"foo"),
+                Act::Make(Asked::AddStatus(STATUS)),
+                Act::Candidates,
+                Act::Make(Asked::DropNamed("sid")),
+                Act::Candidates,
+                Act::Make(Asked::DropNamed("main")),
+                Act::Candidates,
+                Act::Make(Asked::DropNamed("status")),
+                Act::Candidates,
+            ],
+            b"|foo - -; - -|+0|bar - 0.1;foo - 0.0;|+0|foo - 1.0; - 1.0|+0|bar - 0.1;foo 0.0 0.0;|\
               +0|bar - 0.1;foo 0.0 0.0;|+0|foo 2.0 2.0;|+0||",
-    )?;
-    judge(
-        &rt,
-        b"marks and specific pins",
-        &[
-            Act::Make(Asked::AddList("main", MAIN)),
-            Act::Make(Asked::AddList("sid", SID)),
-            Act::Make(Asked::Pin("foo", "1.0*", 999)),
-            Act::Chosen(b"foo"),
-            Act::Make(Asked::Mark("foo", "2.0")),
-            Act::Chosen(b"foo"),
-            Act::Make(Asked::Pin("foo", "1.0*", 1000)),
-            Act::Chosen(b"foo"),
-            Act::Make(Asked::MarkNone("foo")),
-            Act::Chosen(b"foo"),
-            Act::Make(Asked::Unpin("foo", "1.0*")),
-            Act::Chosen(b"foo"),
-            Act::Make(Asked::Unmark("foo")),
-            Act::Make(Asked::Mark("foo", "3")),
-            Act::Chosen(b"foo"),
-        ],
-        b"+0|+0|+0|foo - 0.0; - 0.0|+0|foo 1.0 1.0; 1.0 1.0|+0|foo 1.0 0.0; 1.0 0.0|\
+        ),
+        (
+            b"marks and specific pins",
+            &[
+                Act::Make(Asked::AddList("main", MAIN)),
+                Act::Make(Asked::AddList("sid", SID)),
+                Act::Make(Asked::Pin("foo", "1.0*", 999)),
+                Act::Chosen(b"foo"),
+                Act::Make(Asked::Mark("foo", "2.0")),
+                Act::Chosen(b"foo"),
+                Act::Make(Asked::Pin("foo", "1.0*", 1000)),
+                Act::Chosen(b"foo"),
+                Act::Make(Asked::MarkNone("foo")),
+                Act::Chosen(b"foo"),
+                Act::Make(Asked::Unpin("foo", "1.0*")),
+                Act::Chosen(b"foo"),
+                Act::Make(Asked::Unmark("foo")),
+                Act::Make(Asked::Mark("foo", "3")),
+                Act::Chosen(b"foo"),
+            ],
+            b"+0|+0|+0|foo - 0.0; - 0.0|+0|foo 1.0 1.0; 1.0 1.0|+0|foo 1.0 0.0; 1.0 0.0|\
               +0|foo - 0.0; - 0.0|+0|foo - 1.0; - 1.0|+0|+0|foo - 1.0; - 1.0|",
-    )?;
-    judge(
-        &rt,
-        b"the target and preferences",
-        &[
-            Act::Make(Asked::AddList("main", MAIN)),
-            Act::Make(Asked::AddList("sid", SID)),
-            Act::Make(Asked::Target("main")),
-            Act::Candidates,
-            Act::Make(Asked::Target("sid")),
-            Act::Candidates,
-            Act::Make(Asked::Prefs("Package: *\nPin: release a=main\nPin-Priority: 1000\n")),
-            Act::Candidates,
-            Act::Make(Asked::TargetNone),
-            Act::Candidates,
-            Act::Make(Asked::Prefs("")),
-            Act::Candidates,
-        ],
-        b"+0|+0|+0|bar - 0.1;foo - 0.0;|+0|bar - 0.1;foo - 1.0;|+0|bar - 0.1;foo - 0.0;|\
+        ),
+        (
+            b"the target and preferences",
+            &[
+                Act::Make(Asked::AddList("main", MAIN)),
+                Act::Make(Asked::AddList("sid", SID)),
+                Act::Make(Asked::Target("main")),
+                Act::Candidates,
+                Act::Make(Asked::Target("sid")),
+                Act::Candidates,
+                Act::Make(Asked::Prefs("Package: *\nPin: release a=main\nPin-Priority: 1000\n")),
+                Act::Candidates,
+                Act::Make(Asked::TargetNone),
+                Act::Candidates,
+                Act::Make(Asked::Prefs("")),
+                Act::Candidates,
+            ],
+            b"+0|+0|+0|bar - 0.1;foo - 0.0;|+0|bar - 0.1;foo - 1.0;|+0|bar - 0.1;foo - 0.0;|\
               +0|bar - 0.1;foo - 0.0;|+0|bar - 0.1;foo - 1.0;|",
-    )?;
-    judge(
-        &rt,
-        b"a stanza that is put and removed",
-        &[
-            Act::Make(Asked::AddList("m", MAIN)),
-            Act::Make(Asked::Put("Package: foo\nVersion: 3\n")),
-            Act::Candidates,
-            Act::Make(Asked::Remove("foo", "3")),
-            Act::Candidates,
-            Act::Make(Asked::Remove("foo", "1.0")),
-            Act::Candidates,
-        ],
-        b"+0|+0|bar - 0.1;foo - 0.2;|+0|bar - 0.1;foo - 0.0;|+0|bar - 0.1;|",
-    )?;
-    Ok(())
+        ),
+        (
+            b"a stanza that is put and removed",
+            &[
+                Act::Make(Asked::AddList("m", MAIN)),
+                Act::Make(Asked::Put("Package: foo\nVersion: 3\n")),
+                Act::Candidates,
+                Act::Make(Asked::Remove("foo", "3")),
+                Act::Candidates,
+                Act::Make(Asked::Remove("foo", "1.0")),
+                Act::Candidates,
+            ],
+            b"+0|+0|bar - 0.1;foo - 0.2;|+0|bar - 0.1;foo - 0.0;|+0|bar - 0.1;|",
+        ),
+    ];
+    judge_each(&rt, ROWS)
 }

@@ -70,144 +70,135 @@ fn each_list_comes_to(
 
 #[test]
 fn faulty_lines_are_told(rt: HostRuntime) -> Result<(), Fail> {
-    each_list_comes_to(
-        &rt,
-        ListKind::Packages,
-        &[
-            (b"Package: a\npackage: b\nVersion: 1", b"line 2: FieldTwice"),
-            (
-                b"A:\nB:\nC:\nD:\nE:\nF:\nG:\nH:\nI:\nJ:\nK:\nL:\nM:\nN:\nO:\nP:\nQ:\nR:\nq:",
-                b"line 19: FieldTwice",
-            ),
-            (b" x\nPackage: a\nVersion: 1", b"line 1: Line"),
-            (b"Package: a\nVersion: 1\n# c", b"line 3: Line"),
-            (b"Package: a\nVersion: 1\n\n x: y", b"line 4: Line"),
-            (b"Package: a\noops", b"line 2: Line"),
-            // A stanza with a faulty line has no other fault.
-            (b"Package: a!\noops", b"line 2: Line"),
-            (
-                b"Package: a\nVersion: 1\nDescription: x\n y\ndescription: z",
-                b"line 5: FieldTwice",
-            ),
-            // Names are printable, and begin neither with `#` nor with `-`.
-            (b"#x: y", b"line 1: Line"),
-            (b"-x: y", b"line 1: Line"),
-            (b": y", b"line 1: Line"),
-            (b"a b: y", b"line 1: Line"),
-            (b"a\x7f: y", b"line 1: Line"),
-            (b"\xc3\xa4: y", b"line 1: Line"),
-            // A carriage return is a byte like any other: a line with nothing else isn't blank.
-            (
-                b"Package: a\nVersion: 1\n\r\nPackage: b\nVersion: 1",
-                b"line 3: Line",
-            ),
-        ],
-    )
+    const ROWS: &[(&[u8], &[u8])] = &[
+        (b"Package: a\npackage: b\nVersion: 1", b"line 2: FieldTwice"),
+        (
+            b"A:\nB:\nC:\nD:\nE:\nF:\nG:\nH:\nI:\nJ:\nK:\nL:\nM:\nN:\nO:\nP:\nQ:\nR:\nq:",
+            b"line 19: FieldTwice",
+        ),
+        (b" x\nPackage: a\nVersion: 1", b"line 1: Line"),
+        (b"Package: a\nVersion: 1\n# c", b"line 3: Line"),
+        (b"Package: a\nVersion: 1\n\n x: y", b"line 4: Line"),
+        (b"Package: a\noops", b"line 2: Line"),
+        // A stanza with a faulty line has no other fault.
+        (b"Package: a!\noops", b"line 2: Line"),
+        (
+            b"Package: a\nVersion: 1\nDescription: x\n y\ndescription: z",
+            b"line 5: FieldTwice",
+        ),
+        // Names are printable, and begin neither with `#` nor with `-`.
+        (b"#x: y", b"line 1: Line"),
+        (b"-x: y", b"line 1: Line"),
+        (b": y", b"line 1: Line"),
+        (b"a b: y", b"line 1: Line"),
+        (b"a\x7f: y", b"line 1: Line"),
+        (b"\xc3\xa4: y", b"line 1: Line"),
+        // A carriage return is a byte like any other: a line with nothing else isn't blank.
+        (
+            b"Package: a\nVersion: 1\n\r\nPackage: b\nVersion: 1",
+            b"line 3: Line",
+        ),
+    ];
+    each_list_comes_to(&rt, ListKind::Packages, ROWS)
 }
 
 #[test]
 fn faults_of_whole_stanzas_are_told(rt: HostRuntime) -> Result<(), Fail> {
-    each_list_comes_to(
-        &rt,
-        ListKind::Packages,
-        &[
-            (b"Package: a_b!\nVersion: 1", b"line 1: Name"),
-            (b"Version: 1\nX: y\nPackage: a b", b"line 3: Name"),
-            (b"Package: a\r\nVersion: 1\r\n", b"line 1: Name"),
-            (b"Package: a!\nDepends: b", b"line 1: Missing"),
-            (b"Package:\nVersion: 1", b"line 1: Missing"),
-            (b"X: y\nPackage: a\nVersion: \t", b"line 1: Missing"),
-            (
-                b"\n\nPackage: a\nVersion: 1\n\n \nPackage: b\n",
-                b"line 7: Missing",
-            ),
-            // The least line counts, and not the lowest number.
-            (b"Package: a\n\nPackage: b\noops", b"line 1: Missing"),
-            (b"Package: a!\nVersion: 1\n\n# c", b"line 1: Name"),
-            (
-                b"Package: a\nVersion: 1\n\nPackage: a!\nVersion: 1\n\nPackage: b",
-                b"line 4: Name",
-            ),
-            (
-                b"Package: a\nDepends: b [x]\nVersion: 1-",
-                b"line 2: Relation",
-            ),
-            (
-                b"Package: a\nVersion: 1-\nDepends: b [x]",
-                b"line 2: Version",
-            ),
-            (b"Version: 1\nPackage: a\n b", b"line 2: Name"),
-            (b"Version: 1\n 2\nPackage: a", b"line 1: Version"),
-            (
-                b"Package: a\nVersion: 1\nX: y\nProvides: b,\n c (>= 1)",
-                b"line 4: Relation",
-            ),
-            (b"Package: a\nVersion:\n 1\n", b"line 2: Version"),
-            (b"Package:\n a\nVersion: 1\n", b"line 1: Name"),
-            // The line is the first one of the field, also where the fault stands in a line that continues it.
-            (
-                b"Package: a\nVersion: 1\nDepends:\n x (>=\n 1),\n y z\n",
-                b"line 3: Relation",
-            ),
-            // A stanza with a faulty line has no other fault, even at a line before it.
-            (b"Package: a!\nVersion: 1_\noops\n", b"line 3: Line"),
-        ],
-    )
+    const ROWS: &[(&[u8], &[u8])] = &[
+        (b"Package: a_b!\nVersion: 1", b"line 1: Name"),
+        (b"Version: 1\nX: y\nPackage: a b", b"line 3: Name"),
+        (b"Package: a\r\nVersion: 1\r\n", b"line 1: Name"),
+        (b"Package: a!\nDepends: b", b"line 1: Missing"),
+        (b"Package:\nVersion: 1", b"line 1: Missing"),
+        (b"X: y\nPackage: a\nVersion: \t", b"line 1: Missing"),
+        (
+            b"\n\nPackage: a\nVersion: 1\n\n \nPackage: b\n",
+            b"line 7: Missing",
+        ),
+        // The least line counts, and not the lowest number.
+        (b"Package: a\n\nPackage: b\noops", b"line 1: Missing"),
+        (b"Package: a!\nVersion: 1\n\n# c", b"line 1: Name"),
+        (
+            b"Package: a\nVersion: 1\n\nPackage: a!\nVersion: 1\n\nPackage: b",
+            b"line 4: Name",
+        ),
+        (
+            b"Package: a\nDepends: b [x]\nVersion: 1-",
+            b"line 2: Relation",
+        ),
+        (
+            b"Package: a\nVersion: 1-\nDepends: b [x]",
+            b"line 2: Version",
+        ),
+        (b"Version: 1\nPackage: a\n b", b"line 2: Name"),
+        (b"Version: 1\n 2\nPackage: a", b"line 1: Version"),
+        (
+            b"Package: a\nVersion: 1\nX: y\nProvides: b,\n c (>= 1)",
+            b"line 4: Relation",
+        ),
+        (b"Package: a\nVersion:\n 1\n", b"line 2: Version"),
+        (b"Package:\n a\nVersion: 1\n", b"line 1: Name"),
+        // The line is the first one of the field, also where the fault stands in a line that continues it.
+        (
+            b"Package: a\nVersion: 1\nDepends:\n x (>=\n 1),\n y z\n",
+            b"line 3: Relation",
+        ),
+        // A stanza with a faulty line has no other fault, even at a line before it.
+        (b"Package: a!\nVersion: 1_\noops\n", b"line 3: Line"),
+    ];
+    each_list_comes_to(&rt, ListKind::Packages, ROWS)
 }
 
 #[test]
 fn faults_of_status_lists_are_told(rt: HostRuntime) -> Result<(), Fail> {
-    each_list_comes_to(
-        &rt,
-        ListKind::Status,
-        &[
-            (b"Package: a\nVersion: 1", b"line 1: Missing"),
-            (b"Package: a\nStatus:\nVersion: 1", b"line 1: Missing"),
-            // States are told by case.
-            (
-                b"Package: a\nStatus: install ok Installed\nVersion: 1",
-                b"line 1: Missing",
-            ),
-            // A newline is a byte of a word, here the first of four.
-            (
-                b"Package: a\nStatus:\n install ok installed\nVersion: 1",
-                b"line 1: Missing",
-            ),
-            (
-                b"Package: a\nStatus: install ok installed",
-                b"line 1: Missing",
-            ),
-            (
-                b"Package: a\nStatus: install ok odd\nVersion: 1",
-                b"line 1: Missing",
-            ),
-            (
-                b"Package: a\nStatus: install installed\nVersion: 1",
-                b"line 1: Missing",
-            ),
-            (
-                b"Package: a\nStatus: install ok installed x\nVersion: 1",
-                b"line 1: Missing",
-            ),
-            // So it is at the end of a word.
-            (
-                b"Package: a\nStatus: install ok\n\tinstalled\n x\nVersion: 1",
-                b"line 1: Missing",
-            ),
-            (
-                b"Package: a!\nStatus: purge ok not-installed",
-                b"line 1: Name",
-            ),
-            (
-                b"Status: purge ok not-installed\nX: y\n z",
-                b"line 1: Missing",
-            ),
-            (
-                b"Package: a\nStatus: x y unpacked\nVersion: 1_",
-                b"line 3: Version",
-            ),
-        ],
-    )
+    const ROWS: &[(&[u8], &[u8])] = &[
+        (b"Package: a\nVersion: 1", b"line 1: Missing"),
+        (b"Package: a\nStatus:\nVersion: 1", b"line 1: Missing"),
+        // States are told by case.
+        (
+            b"Package: a\nStatus: install ok Installed\nVersion: 1",
+            b"line 1: Missing",
+        ),
+        // A newline is a byte of a word, here the first of four.
+        (
+            b"Package: a\nStatus:\n install ok installed\nVersion: 1",
+            b"line 1: Missing",
+        ),
+        (
+            b"Package: a\nStatus: install ok installed",
+            b"line 1: Missing",
+        ),
+        (
+            b"Package: a\nStatus: install ok odd\nVersion: 1",
+            b"line 1: Missing",
+        ),
+        (
+            b"Package: a\nStatus: install installed\nVersion: 1",
+            b"line 1: Missing",
+        ),
+        (
+            b"Package: a\nStatus: install ok installed x\nVersion: 1",
+            b"line 1: Missing",
+        ),
+        // So it is at the end of a word.
+        (
+            b"Package: a\nStatus: install ok\n\tinstalled\n x\nVersion: 1",
+            b"line 1: Missing",
+        ),
+        (
+            b"Package: a!\nStatus: purge ok not-installed",
+            b"line 1: Name",
+        ),
+        (
+            b"Status: purge ok not-installed\nX: y\n z",
+            b"line 1: Missing",
+        ),
+        (
+            b"Package: a\nStatus: x y unpacked\nVersion: 1_",
+            b"line 3: Version",
+        ),
+    ];
+    each_list_comes_to(&rt, ListKind::Status, ROWS)
 }
 
 /// The stanza of a list with one.
@@ -239,7 +230,7 @@ fn is_live(alloc: Global, state: &[u8]) -> Result<bool, Fail> {
 
 #[test]
 fn states_say_what_is_live(rt: HostRuntime) -> Result<(), Fail> {
-    let rows: [(&[u8], bool); 11] = [
+    const ROWS: &[(&[u8], bool)] = &[
         (b"purge ok not-installed", false),
         (b"deinstall ok config-files", false),
         (b"install reinstreq half-installed", false),
@@ -252,7 +243,7 @@ fn states_say_what_is_live(rt: HostRuntime) -> Result<(), Fail> {
         (b"install ok\n installed", true),
         (b"install ok\n installed ", true),
     ];
-    for (state, wanted) in &rows {
+    for (state, wanted) in ROWS {
         agree(&rt, state, is_live(rt.alloc(), state)?, *wanted);
     }
     Ok(())
@@ -271,53 +262,47 @@ fn has_nothing_live(stanza: &Stanza) -> bool {
 fn little_is_asked_of_stanzas_that_are_not_live(rt: HostRuntime) -> Result<(), Fail> {
     // No version is asked for, and neither it nor the relation fields are checked.
     let text: &[u8] = b"Package: a\nStatus: purge ok not-installed";
-    let rows: [(Part<'_>, &[u8]); 2] = [
+    const ROWS: &[(Part<'static>, &[u8])] = &[
         (Part::Live, b"nothing of a live stanza"),
         (Part::Package, b"a"),
     ];
-    parts_come_to(&rt, ListKind::Status, text, &rows)?;
+    parts_come_to(&rt, ListKind::Status, text, ROWS)?;
     let text: &[u8] =
         b"Package: b\nStatus: deinstall ok config-files\nVersion: 1_0\nDepends: a [x]";
-    let rows: [(Part<'_>, &[u8]); 2] = [
+    const OTHERS: &[(Part<'static>, &[u8])] = &[
         (Part::Live, b"nothing of a live stanza"),
         (Part::Field(b"Version"), b"1_0"),
     ];
-    parts_come_to(&rt, ListKind::Status, text, &rows)?;
-    each_list_comes_to(
-        &rt,
-        ListKind::Status,
-        &[(
-            b"Package: a\nStatus: purge ok not-installed\n\nPackage: b\nStatus: deinstall ok config-files\nVersion: 1_0\nDepends: a [x]",
-            b"2 stanzas",
-        )],
-    )
+    parts_come_to(&rt, ListKind::Status, text, OTHERS)?;
+    const LISTS: &[(&[u8], &[u8])] = &[(
+        b"Package: a\nStatus: purge ok not-installed\n\nPackage: b\nStatus: deinstall ok config-files\nVersion: 1_0\nDepends: a [x]",
+        b"2 stanzas",
+    )];
+    each_list_comes_to(&rt, ListKind::Status, LISTS)
 }
 
 #[test]
 fn stanzas_are_read(rt: HostRuntime) -> Result<(), Fail> {
-    each_list_comes_to(
-        &rt,
-        ListKind::Packages,
-        &[
-            (b"", b"0 stanzas"),
-            (b"\n \n\t\n", b"0 stanzas"),
-            (b" \t", b"0 stanzas"),
-            (
-                b"Package: a\nVersion: 1\n\n\nPackage: b\nVersion: 2",
-                b"2 stanzas",
-            ),
-            (
-                b"\nPackage: a\nVersion: 1\n \t \nVersion: 2\nPackage: b\n",
-                b"2 stanzas",
-            ),
-            (
-                b"Package: a\nVersion: 1\nDepends:\n b,\n c | d\n",
-                b"1 stanzas",
-            ),
-            (b"Package: a\nVersion: 1\nX: \xff\xfe\r", b"1 stanzas"),
-            (b"Package: a\nVersion: 1\n!:\n~: :", b"1 stanzas"),
-        ],
-    )
+    const ROWS: &[(&[u8], &[u8])] = &[
+        (b"", b"0 stanzas"),
+        (b"\n \n\t\n", b"0 stanzas"),
+        (b" \t", b"0 stanzas"),
+        (
+            b"Package: a\nVersion: 1\n\n\nPackage: b\nVersion: 2",
+            b"2 stanzas",
+        ),
+        (
+            b"\nPackage: a\nVersion: 1\n \t \nVersion: 2\nPackage: b\n",
+            b"2 stanzas",
+        ),
+        (
+            b"Package: a\nVersion: 1\nDepends:\n b,\n c | d\n",
+            b"1 stanzas",
+        ),
+        (b"Package: a\nVersion: 1\nX: \xff\xfe\r", b"1 stanzas"),
+        (b"Package: a\nVersion: 1\n!:\n~: :", b"1 stanzas"),
+    ];
+    each_list_comes_to(&rt, ListKind::Packages, ROWS)
 }
 
 /// A text of so many bytes, which begins with this one and goes on with one byte.
@@ -349,7 +334,7 @@ fn lines_have_a_limit(rt: HostRuntime) -> Result<(), AllocError> {
 
 #[test]
 fn faulty_lines_before_the_limit_are_told(rt: HostRuntime) -> Result<(), AllocError> {
-    let rows: [(&[u8], &[u8]); 4] = [
+    const ROWS: &[(&[u8], &[u8])] = &[
         // The least line counts,
         (b"Package: a\noops\nX:", b"line 2: Line"),
         // and on one line the lowest number.
@@ -357,7 +342,7 @@ fn faulty_lines_before_the_limit_are_told(rt: HostRuntime) -> Result<(), AllocEr
         (b"Package: a\n#", b"line 2: TooLong"),
         (b"Package: a\npackage:", b"line 2: TooLong"),
     ];
-    for (front, wanted) in &rows {
+    for (front, wanted) in ROWS {
         let text = filled(rt.alloc(), front, b'y', 2 * MAX_LINE)?;
         list_comes_to(&rt, ListKind::Packages, &text, wanted)?;
     }
@@ -485,7 +470,7 @@ fn parts_come_to(
 #[test]
 fn parts_are_lent(rt: HostRuntime) -> Result<(), Fail> {
     let text: &[u8] = b"\nPACKAGE:  a \nVersion: 1:2\nEmpty:\nRaw:\xff \xfe\t";
-    let rows: [(Part<'_>, &[u8]); 8] = [
+    const ROWS: &[(Part<'static>, &[u8])] = &[
         (
             Part::Text,
             b"PACKAGE:  a \nVersion: 1:2\nEmpty:\nRaw:\xff \xfe\t\n",
@@ -501,14 +486,14 @@ fn parts_are_lent(rt: HostRuntime) -> Result<(), Fail> {
             b"[PACKAGE=a][Version=1:2][Empty=][Raw=\xff \xfe] 4",
         ),
     ];
-    parts_come_to(&rt, ListKind::Packages, text, &rows)
+    parts_come_to(&rt, ListKind::Packages, text, ROWS)
 }
 
 #[test]
 fn bodies_are_their_lines(rt: HostRuntime) -> Result<(), Fail> {
     let text: &[u8] =
         b"Package: a\nVersion: 1\nOne: x\n y \n\t.\nTwo: x \t\n y\nThree:\n z\nFour:  \n z\n w\nFive: v ";
-    let rows: [(Part<'_>, &[u8]); 6] = [
+    const ROWS: &[(Part<'static>, &[u8])] = &[
         (Part::Field(b"one"), b"x\n y \n\t."),
         (Part::Field(b"two"), b"x\n y"),
         (Part::Field(b"three"), b"\n z"),
@@ -519,7 +504,7 @@ fn bodies_are_their_lines(rt: HostRuntime) -> Result<(), Fail> {
             b"Package: a\nVersion: 1\nOne: x\n y \n\t.\nTwo: x \t\n y\nThree:\n z\nFour:  \n z\n w\nFive: v \n",
         ),
     ];
-    parts_come_to(&rt, ListKind::Packages, text, &rows)
+    parts_come_to(&rt, ListKind::Packages, text, ROWS)
 }
 
 /// The groups of a field in their printed form, each behind a bar.
@@ -557,7 +542,7 @@ fn offers_of(alloc: Global, stanza: &Stanza) -> Result<Vec<u8>, AllocError> {
 fn relations_are_lent(rt: HostRuntime) -> Result<(), Fail> {
     let text: &[u8] =
         b"Package: a\nDEPENDS: b | c (>= 1),\n d\nVersion: 1:2\nProvides: e, f (= 3)\nBreaks: g";
-    let rows: [(Part<'_>, &[u8]); 7] = [
+    const ROWS: &[(Part<'static>, &[u8])] = &[
         (Part::Live, b"a live package"),
         (Part::Version, b"1:2"),
         (Part::Groups(FieldKind::Depends), b"&b | c (>= 1)&d"),
@@ -566,14 +551,14 @@ fn relations_are_lent(rt: HostRuntime) -> Result<(), Fail> {
         (Part::Groups(FieldKind::Provides), b""),
         (Part::Offers, b"[a=1:2][e][f=3] 2"),
     ];
-    parts_come_to(&rt, ListKind::Packages, text, &rows)
+    parts_come_to(&rt, ListKind::Packages, text, ROWS)
 }
 
 #[test]
 fn relations_go_on_over_lines(rt: HostRuntime) -> Result<(), Fail> {
     let text: &[u8] = b"Package: a\nVersion: 1\nDepends:\n x (>=\n  1) |\n y\n";
-    let rows: [(Part<'_>, &[u8]); 1] = [(Part::Groups(FieldKind::Depends), b"&x (>= 1) | y")];
-    parts_come_to(&rt, ListKind::Packages, text, &rows)
+    const ROWS: &[(Part<'static>, &[u8])] = &[(Part::Groups(FieldKind::Depends), b"&x (>= 1) | y")];
+    parts_come_to(&rt, ListKind::Packages, text, ROWS)
 }
 
 #[test]

@@ -11,7 +11,7 @@ fn is_named(rt: &impl Abort, field: FieldKind, key: &[u8], printed: &[u8]) {
 
 #[test]
 fn relation_fields_have_names(rt: HostRuntime) {
-    let rows: [(&str, &str); 9] = [
+    const ROWS: &[(&str, &str)] = &[
         ("pre-depends", "PreDepends"),
         ("depends", "Depends"),
         ("conflicts", "Conflicts"),
@@ -23,8 +23,8 @@ fn relation_fields_have_names(rt: HostRuntime) {
         ("provides", "Provides"),
     ];
     let fields = FieldKind::nine();
-    assert_eq!(rt; fields.len(), rows.len());
-    for (field, (key, printed)) in fields.iter().zip(rows.iter()) {
+    assert_eq!(rt; fields.len(), ROWS.len());
+    for (field, (key, printed)) in fields.iter().zip(ROWS.iter()) {
         is_named(&rt, *field, key.as_bytes(), printed.as_bytes());
     }
 }

@@ -8,11 +8,11 @@ use std::test::Fail;
 
 #[test]
 fn knows_names(rt: HostRuntime) {
-    let names: [&[u8]; 7] = [b"a", b"0", b"Z", b"libc6", b"g++-12", b"a.b", b"0ad_data"];
-    for text in &names {
+    const NAMES: &[&[u8]] = &[b"a", b"0", b"Z", b"libc6", b"g++-12", b"a.b", b"0ad_data"];
+    for text in NAMES {
         agree(&rt, text, is_name(text), true);
     }
-    let others: [&[u8]; 8] = [
+    const OTHERS: &[&[u8]] = &[
         b"",
         b"-a",
         b"+",
@@ -22,7 +22,7 @@ fn knows_names(rt: HostRuntime) {
         b"a:any",
         b"\xc3\xa9",
     ];
-    for text in &others {
+    for text in OTHERS {
         agree(&rt, text, is_name(text), false);
     }
 }
@@ -51,9 +51,9 @@ fn compared(
 
 #[test]
 fn orders_by_bytes(rt: HostRuntime) -> Result<(), Fail> {
-    let texts: [&[u8]; 6] = [b"", b"A", b"a", b"aa", b"b", b"\xff"];
-    for (i, one) in texts.iter().enumerate() {
-        for (j, other) in texts.iter().enumerate() {
+    const TEXTS: &[&[u8]] = &[b"", b"A", b"a", b"aa", b"b", b"\xff"];
+    for (i, one) in TEXTS.iter().enumerate() {
+        for (j, other) in TEXTS.iter().enumerate() {
             let (equal, order) = compared(rt.alloc(), one, other)?;
             let row = pair(rt.alloc(), one, other)?;
             agree(&rt, &row, equal, i == j);

@@ -64,21 +64,21 @@ fn a_setting_that_is_set_again_keeps_its_place(rt: HostRuntime) -> Result<(), Fa
 
 #[test]
 fn a_general_pin_is_that_of_its_list(rt: HostRuntime) -> Result<(), Fail> {
-    let text =
+    const TEXT: &str =
         "Package: a\nPin: release a=main\nPin-Priority: 7\n\nPackage: *\nPin: release a=sid\nPin-Priority: 100\n";
-    let acts = [
-        Act::Make(Asked::Prefs(text)),
+    const ACTS: &[Act<'static>] = &[
+        Act::Make(Asked::Prefs(TEXT)),
         Act::GeneralPin(b"sid"),
         Act::GeneralPin(b"main"),
     ];
-    let came = came(rt.alloc(), &acts)?;
-    same(&rt, text.as_bytes(), &came, b"100\nnone\n");
+    let came = came(rt.alloc(), ACTS)?;
+    same(&rt, TEXT.as_bytes(), &came, b"100\nnone\n");
     Ok(())
 }
 
 #[test]
 fn pins_that_are_left_keep_their_order(rt: HostRuntime) -> Result<(), Fail> {
-    let acts = [
+    const ACTS: &[Act<'static>] = &[
         Act::Make(Asked::Pin("d", "1", 1)),
         Act::Make(Asked::Pin("b", "1", 2)),
         Act::Make(Asked::Pin("e", "1", 3)),
@@ -89,7 +89,7 @@ fn pins_that_are_left_keep_their_order(rt: HostRuntime) -> Result<(), Fail> {
         Act::Make(Asked::Pin("d", "1", 8)),
         Act::Pins,
     ];
-    let came = came(rt.alloc(), &acts)?;
+    let came = came(rt.alloc(), ACTS)?;
     same(
         &rt,
         b"pins",

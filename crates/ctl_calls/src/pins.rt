@@ -22,7 +22,7 @@ fn matches(alloc: Global, pin: &str, text: &str) -> Result<bool, Fail> {
 
 #[test]
 fn versions_of_pins_match(rt: HostRuntime) -> Result<(), Fail> {
-    let rows: [(&str, &str, bool); 7] = [
+    const ROWS: &[(&str, &str, bool)] = &[
         ("1.0", "1.0-0", true),
         ("1.0", "1.00", true),
         ("1.0", "1.0-1", false),
@@ -31,7 +31,7 @@ fn versions_of_pins_match(rt: HostRuntime) -> Result<(), Fail> {
         ("1.0*", "0:1.0", false),
         ("*", "0:1.0", true),
     ];
-    for (pin, text, wanted) in &rows {
+    for (pin, text, wanted) in ROWS {
         let row = pair(rt.alloc(), pin.as_bytes(), text.as_bytes())?;
         agree(&rt, &row, matches(rt.alloc(), pin, text)?, *wanted);
     }
@@ -46,8 +46,8 @@ fn is_pin_version(alloc: Global, text: &[u8]) -> Result<bool, AllocError> {
 
 #[test]
 fn some_texts_are_no_versions_of_pins(rt: HostRuntime) -> Result<(), Fail> {
-    let rows: [&[u8]; 5] = [b"", b"a!*", b"1_", b"1**", b"1*x"];
-    for text in &rows {
+    const ROWS: &[&[u8]] = &[b"", b"a!*", b"1_", b"1**", b"1*x"];
+    for text in ROWS {
         agree(&rt, text, is_pin_version(rt.alloc(), text)?, false);
     }
     Ok(())

@@ -79,21 +79,19 @@ fn records_are_read(rt: HostRuntime) -> Result<(), Fail> {
 
 #[test]
 fn faults_of_records_are_told(rt: HostRuntime) -> Result<(), Fail> {
-    each_is_told(
-        &rt,
-        &[
-            (b"# x\nPin: a\n#\npin: b", b"line 4: FieldTwice"),
-            (b"# x\n y\nPin: b", b"line 2: Line"),
-            (b"Pin: x\n\n#\n y", b"line 4: Line"),
-            (b"#\n\n#\noops", b"line 4: Line"),
-            // A comment is a line that begins with `#`, and not with a blank.
-            (b" # x\n", b"line 1: Line"),
-            (
-                b"Explanation: a\nExplanation: b\nPackage: c\nPackage: d\n-: x",
-                b"line 4: FieldTwice",
-            ),
-        ],
-    )
+    const ROWS: &[(&[u8], &[u8])] = &[
+        (b"# x\nPin: a\n#\npin: b", b"line 4: FieldTwice"),
+        (b"# x\n y\nPin: b", b"line 2: Line"),
+        (b"Pin: x\n\n#\n y", b"line 4: Line"),
+        (b"#\n\n#\noops", b"line 4: Line"),
+        // A comment is a line that begins with `#`, and not with a blank.
+        (b" # x\n", b"line 1: Line"),
+        (
+            b"Explanation: a\nExplanation: b\nPackage: c\nPackage: d\n-: x",
+            b"line 4: FieldTwice",
+        ),
+    ];
+    each_is_told(&rt, ROWS)
 }
 
 #[test]

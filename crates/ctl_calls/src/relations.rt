@@ -64,92 +64,84 @@ fn each_is_told(
 
 #[test]
 fn faults(rt: HostRuntime) -> Result<(), Fail> {
-    let depends = FieldKind::Depends;
-    each_is_told(
-        &rt,
-        &[
-            (depends, b"a b", b"fault Name"),
-            (depends, b"a | ", b"fault Name"),
-            (depends, b"a:", b"fault Name"),
-            (depends, b"a [amd64]", b"fault Name"),
-            (depends, b"a : any", b"fault Name"),
-            (depends, b"a (= 1) (= 2)", b"fault Name"),
-            (depends, b"-a", b"fault Name"),
-            (depends, b"a, | b", b"fault Name"),
-            (depends, b"a (1)", b"fault Operator"),
-            (depends, b"a (", b"fault Operator"),
-            (depends, b"a (== 1)", b"fault Version"),
-            (depends, b"a (>= )", b"fault Version"),
-            (depends, b"a (< < 1)", b"fault Version"),
-            (depends, b"a (>= 1", b"fault Close"),
-            (depends, b"a (>= 1 2)", b"fault Close"),
-            (depends, b"a (= 1), b (>= 1]", b"fault Version"),
-        ],
-    )
+    const DEPENDS: FieldKind = FieldKind::Depends;
+    const ROWS: &[(FieldKind, &[u8], &[u8])] = &[
+        (DEPENDS, b"a b", b"fault Name"),
+        (DEPENDS, b"a | ", b"fault Name"),
+        (DEPENDS, b"a:", b"fault Name"),
+        (DEPENDS, b"a [amd64]", b"fault Name"),
+        (DEPENDS, b"a : any", b"fault Name"),
+        (DEPENDS, b"a (= 1) (= 2)", b"fault Name"),
+        (DEPENDS, b"-a", b"fault Name"),
+        (DEPENDS, b"a, | b", b"fault Name"),
+        (DEPENDS, b"a (1)", b"fault Operator"),
+        (DEPENDS, b"a (", b"fault Operator"),
+        (DEPENDS, b"a (== 1)", b"fault Version"),
+        (DEPENDS, b"a (>= )", b"fault Version"),
+        (DEPENDS, b"a (< < 1)", b"fault Version"),
+        (DEPENDS, b"a (>= 1", b"fault Close"),
+        (DEPENDS, b"a (>= 1 2)", b"fault Close"),
+        (DEPENDS, b"a (= 1), b (>= 1]", b"fault Version"),
+    ];
+    each_is_told(&rt, ROWS)
 }
 
 #[test]
 fn faults_of_a_kind(rt: HostRuntime) -> Result<(), Fail> {
-    each_is_told(
-        &rt,
-        &[
-            (FieldKind::Conflicts, b"a | b", b"fault Alternative"),
-            (FieldKind::Breaks, b"a | b", b"fault Alternative"),
-            (FieldKind::Replaces, b"a | b", b"fault Alternative"),
-            (FieldKind::Provides, b"a | b", b"fault Alternative"),
-            (FieldKind::Conflicts, b"| a", b"fault Name"),
-            (FieldKind::Provides, b"x (>= 1)", b"fault ProvidesOperator"),
-            (FieldKind::Provides, b"x (1)", b"fault Operator"),
-        ],
-    )
+    const ROWS: &[(FieldKind, &[u8], &[u8])] = &[
+        (FieldKind::Conflicts, b"a | b", b"fault Alternative"),
+        (FieldKind::Breaks, b"a | b", b"fault Alternative"),
+        (FieldKind::Replaces, b"a | b", b"fault Alternative"),
+        (FieldKind::Provides, b"a | b", b"fault Alternative"),
+        (FieldKind::Conflicts, b"| a", b"fault Name"),
+        (FieldKind::Provides, b"x (>= 1)", b"fault ProvidesOperator"),
+        (FieldKind::Provides, b"x (1)", b"fault Operator"),
+    ];
+    each_is_told(&rt, ROWS)
 }
 
 #[test]
 fn fields_with_alternatives(rt: HostRuntime) -> Result<(), Fail> {
-    each_is_told(
-        &rt,
-        &[
-            (FieldKind::PreDepends, b"a | b", b"a | b\n"),
-            (FieldKind::Depends, b"a | b", b"a | b\n"),
-            (FieldKind::Conflicts, b"a | b", b"fault Alternative"),
-            (FieldKind::Breaks, b"a | b", b"fault Alternative"),
-            (FieldKind::Recommends, b"a | b", b"a | b\n"),
-            (FieldKind::Suggests, b"a | b", b"a | b\n"),
-            (FieldKind::Replaces, b"a | b", b"fault Alternative"),
-            (FieldKind::Enhances, b"a | b", b"a | b\n"),
-            (FieldKind::Provides, b"a | b", b"fault Alternative"),
-        ],
-    )
+    const ROWS: &[(FieldKind, &[u8], &[u8])] = &[
+        (FieldKind::PreDepends, b"a | b", b"a | b\n"),
+        (FieldKind::Depends, b"a | b", b"a | b\n"),
+        (FieldKind::Conflicts, b"a | b", b"fault Alternative"),
+        (FieldKind::Breaks, b"a | b", b"fault Alternative"),
+        (FieldKind::Recommends, b"a | b", b"a | b\n"),
+        (FieldKind::Suggests, b"a | b", b"a | b\n"),
+        (FieldKind::Replaces, b"a | b", b"fault Alternative"),
+        (FieldKind::Enhances, b"a | b", b"a | b\n"),
+        (FieldKind::Provides, b"a | b", b"fault Alternative"),
+    ];
+    each_is_told(&rt, ROWS)
 }
 
 #[test]
 fn groups(rt: HostRuntime) -> Result<(), Fail> {
-    each_is_told(
-        &rt,
-        &[
-            (FieldKind::Depends, b"", b""),
-            (FieldKind::Depends, b" \t\n ", b""),
-            (FieldKind::Depends, b"a, , b (>=1)", b"a\nb (>= 1)\n"),
-            (
-                FieldKind::Depends,
-                b"python3:any (>= 3.1~), x|y",
-                b"python3:any (>= 3.1~)\nx | y\n",
-            ),
-            (FieldKind::Depends, b"a (< 2)", b"a (<= 2)\n"),
-            (
-                FieldKind::Recommends,
-                b"\n a(<<1)|b(<=1) | c\t(=\n1),d ( >=1 ),e(>>1) | f(>1),",
-                b"a (<< 1) | b (<= 1) | c (= 1)\nd (>= 1)\ne (>> 1) | f (>= 1)\n",
-            ),
-            (FieldKind::Enhances, b"a | b", b"a | b\n"),
-            (
-                FieldKind::Conflicts,
-                b"a:i386 (<< 2:1-1)",
-                b"a:i386 (<< 2:1-1)\n",
-            ),
-            (FieldKind::Provides, b"x (= 1), y", b"x (= 1)\ny\n"),
-        ],
-    )
+    const ROWS: &[(FieldKind, &[u8], &[u8])] = &[
+        (FieldKind::Depends, b"", b""),
+        (FieldKind::Depends, b" \t\n ", b""),
+        (FieldKind::Depends, b"a, , b (>=1)", b"a\nb (>= 1)\n"),
+        (
+            FieldKind::Depends,
+            b"python3:any (>= 3.1~), x|y",
+            b"python3:any (>= 3.1~)\nx | y\n",
+        ),
+        (FieldKind::Depends, b"a (< 2)", b"a (<= 2)\n"),
+        (
+            FieldKind::Recommends,
+            b"\n a(<<1)|b(<=1) | c\t(=\n1),d ( >=1 ),e(>>1) | f(>1),",
+            b"a (<< 1) | b (<= 1) | c (= 1)\nd (>= 1)\ne (>> 1) | f (>= 1)\n",
+        ),
+        (FieldKind::Enhances, b"a | b", b"a | b\n"),
+        (
+            FieldKind::Conflicts,
+            b"a:i386 (<< 2:1-1)",
+            b"a:i386 (<< 2:1-1)\n",
+        ),
+        (FieldKind::Provides, b"x (= 1), y", b"x (= 1)\ny\n"),
+    ];
+    each_is_told(&rt, ROWS)
 }
 
 /// The only atom of a field with one.
@@ -256,7 +248,7 @@ fn is_met(
 #[test]
 fn operators_relate(rt: HostRuntime) -> Result<(), Fail> {
     // A field, the version of an offer, which is earlier than that of the bound, equal or later, and whether it meets it.
-    let rows: [(&[u8], &[u8], bool); 15] = [
+    const ROWS: &[(&[u8], &[u8], bool)] = &[
         (b"a (<< 1.0)", b"1.0~rc1", true),
         (b"a (<< 1.0)", b"0:1.0-0", false),
         (b"a (<< 1.0)", b"1.0.1", false),
@@ -274,7 +266,7 @@ fn operators_relate(rt: HostRuntime) -> Result<(), Fail> {
         (b"a (>> 1.0)", b"1.0.1", true),
     ];
     let mut steps = Steps::new();
-    for (field, version, wanted) in &rows {
+    for (field, version, wanted) in ROWS {
         let met = is_met(&rt, field, b"a", Some(*version), &mut steps)?;
         let row = pair(rt.alloc(), field, version)?;
         agree(&rt, &row, met, *wanted);
@@ -284,7 +276,7 @@ fn operators_relate(rt: HostRuntime) -> Result<(), Fail> {
 
 #[test]
 fn tests_are_counted(rt: HostRuntime) -> Result<(), Fail> {
-    let rows: [(&[u8], Option<&[u8]>, bool); 5] = [
+    const ROWS: &[(&[u8], Option<&[u8]>, bool)] = &[
         (b"baz", None, false),
         (b"baz", Some(b"1-0"), true),
         (b"baz", Some(b"2"), true),
@@ -292,7 +284,7 @@ fn tests_are_counted(rt: HostRuntime) -> Result<(), Fail> {
         (b"bar", Some(b"1"), false),
     ];
     let mut steps = Steps::new();
-    for (name, version, wanted) in &rows {
+    for (name, version, wanted) in ROWS {
         let met = is_met(&rt, b"baz:any (>= 1)", name, *version, &mut steps)?;
         agree(&rt, name, met, *wanted);
     }
@@ -380,6 +372,42 @@ fn groups_and_atoms_have_their_numbers(rt: HostRuntime) -> Result<(), Fail> {
     let relations = parse_relations(rt.alloc(), MIXED, FieldKind::Depends)?;
     let came = numbered_names(rt.alloc(), relations.groups())?;
     same(&rt, MIXED, &came, b"a.bc.d.efg.h.!");
+    Ok(())
+}
+
+/// Whether an atom of a field has a name, and then for each group whether one of its atoms has.
+fn named(alloc: Global, kind: FieldKind, body: &[u8], name: &[u8]) -> Result<Vec<u8>, Fail> {
+    let relations = parse_relations(alloc, body, kind)?;
+    let mut all = Vec::new(alloc);
+    all.push(if relations.groups().have_name(name) {
+        b'+'
+    } else {
+        b'-'
+    })?;
+    for group in relations.groups() {
+        all.push(if group.has_name(name) { b'+' } else { b'-' })?;
+    }
+    Ok(all)
+}
+
+#[test]
+fn names_are_found_in_groups(rt: HostRuntime) -> Result<(), Fail> {
+    let rows: [(&[u8], &[u8], &[u8]); 9] = [
+        (MIXED, b"a", b"++----"),
+        (MIXED, b"c", b"+-+---"),
+        (MIXED, b"g", b"+---+-"),
+        (MIXED, b"h", b"+----+"),
+        (MIXED, b"any", b"------"),
+        (MIXED, b"", b"------"),
+        (b"", b"a", b"-"),
+        (b"liba, lib (= 1)", b"lib", b"+-+"),
+        (b"li, a:lib (= 1)", b"lib", b"---"),
+    ];
+    for (body, name, wanted) in &rows {
+        let came = named(rt.alloc(), FieldKind::Depends, body, name)?;
+        let row = pair(rt.alloc(), body, name)?;
+        same(&rt, &row, &came, wanted);
+    }
     Ok(())
 }
 

@@ -454,6 +454,9 @@ pub fn came(alloc: Global, acts: &[Act<'_>]) -> Result<Vec<u8>, Fail> {
     came_under(alloc, Limits::MOST, acts)
 }
 
+/// A row: what it is called, what is done with a new store, and what comes of it.
+type Row = (&'static [u8], &'static [Act<'static>], &'static [u8]);
+
 /// Compares what comes of acts with a new store, which are told by a name.
 fn judge(
     rt: &(impl Abort + AllocGlobal),
@@ -474,8 +477,8 @@ fn new_state(alloc: Global) -> Result<Vec<u8>, AllocError> {
 
 #[test]
 fn a_new_store_is_empty(rt: HostRuntime) -> Result<(), Fail> {
-    let acts = [Act::Numbers, Act::Entries, Act::FirstPriority];
-    let text = came(rt.alloc(), &acts)?;
+    const ACTS: &[Act<'static>] = &[Act::Numbers, Act::Entries, Act::FirstPriority];
+    let text = came(rt.alloc(), ACTS)?;
     same(
         &rt,
         b"a new store",
@@ -502,7 +505,7 @@ fn limits_are_those_handed_in(rt: HostRuntime) -> Result<(), Fail> {
 
 #[test]
 fn limits_may_be_as_large_as_their_numbers(rt: HostRuntime) -> Result<(), Fail> {
-    let rows: [(u32, u32, &[u8]); 2] = [
+    const ROWS: &[(u32, u32, &[u8])] = &[
         (
             16_777_216,
             4_294_967_295,
@@ -514,7 +517,7 @@ fn limits_may_be_as_large_as_their_numbers(rt: HostRuntime) -> Result<(), Fail> 
             b"0 of 4294967295 stanzas, 0 of 16777216 edits",
         ),
     ];
-    for (stanzas, edits, wanted) in &rows {
+    for (stanzas, edits, wanted) in ROWS {
         let limits = Limits {
             stanzas: *stanzas,
             edits: *edits,
@@ -537,14 +540,14 @@ fn a_list_has_a_kind(rt: HostRuntime) -> Result<(), Fail> {
 
 #[test]
 fn keys_rise_from_list_to_list(rt: HostRuntime) -> Result<(), Fail> {
-    let acts = [
+    const ACTS: &[Act<'static>] = &[
         Act::Make(ADD),
         Act::Make(Asked::AddList("a", "Package: a\nVersion: 1\n")),
         // comes after the second list, and stands before it
         Act::Make(Asked::Put("Package: a\nVersion: 3\n")),
         Act::Entries,
     ];
-    let text = came(rt.alloc(), &acts)?;
+    let text = came(rt.alloc(), ACTS)?;
     same(
         &rt,
         b"two lists",
@@ -568,14 +571,14 @@ fn keys_are_ordered_by_their_lists_and_then_by_their_stanzas(rt: HostRuntime) {
 
 #[test]
 fn a_key_finds_its_stanza_while_it_is_there(rt: HostRuntime) -> Result<(), Fail> {
-    let acts = [
+    const ACTS: &[Act<'static>] = &[
         Act::First,
         Act::Make(ADD),
         Act::First,
         Act::Make(Asked::Remove("a", "1")),
         Act::First,
     ];
-    let text = came(rt.alloc(), &acts)?;
+    let text = came(rt.alloc(), ACTS)?;
     same(
         &rt,
         b"0.0",
@@ -587,14 +590,14 @@ fn a_key_finds_its_stanza_while_it_is_there(rt: HostRuntime) -> Result<(), Fail>
 
 #[test]
 fn a_commit_hands_its_keys_back(rt: HostRuntime) -> Result<(), Fail> {
-    let acts = [
+    const ACTS: &[Act<'static>] = &[
         Act::MakeWithKeys(ADD),
         Act::MakeWithKeys(Asked::Put("Package: a\nVersion: 1-0\n")),
         Act::MakeWithKeys(Asked::Put("Package: c\nVersion: 1\n")),
         Act::MakeWithKeys(Asked::Remove("b", "2")),
         Act::MakeWithKeys(Asked::DropList),
     ];
-    let text = came(rt.alloc(), &acts)?;
+    let text = came(rt.alloc(), ACTS)?;
     same(
         &rt,
         b"keys",
@@ -606,12 +609,12 @@ fn a_commit_hands_its_keys_back(rt: HostRuntime) -> Result<(), Fail> {
 
 #[test]
 fn a_plan_has_its_keys_and_stanzas(rt: HostRuntime) -> Result<(), Fail> {
-    let acts = [
+    const ACTS: &[Act<'static>] = &[
         Act::Make(ADD),
         Act::Plan(Asked::Remove("b", "2")),
         Act::Plan(Asked::Put("Package: a\nVersion: 1-0\n")),
     ];
-    let text = came(rt.alloc(), &acts)?;
+    let text = came(rt.alloc(), ACTS)?;
     same(
         &rt,
         b"plans",
@@ -643,14 +646,14 @@ fn a_prepared_edit_that_is_refused_comes_back(rt: HostRuntime) -> Result<(), Fai
 
 #[test]
 fn a_mark_is_a_version_or_none(rt: HostRuntime) -> Result<(), Fail> {
-    let acts = [
+    const ACTS: &[Act<'static>] = &[
         Act::Make(Asked::Mark("a", "1")),
         Act::Make(Asked::MarkNone("b")),
         Act::MarkOf(b"a"),
         Act::MarkOf(b"b"),
         Act::MarkOf(b"c"),
     ];
-    let text = came(rt.alloc(), &acts)?;
+    let text = came(rt.alloc(), ACTS)?;
     same(&rt, b"marks", &text, b"1noneno mark");
     Ok(())
 }
@@ -662,56 +665,53 @@ const PINS: &str =
 
 #[test]
 fn specific_pins_of_a_package_are_given_in_order(rt: HostRuntime) -> Result<(), Fail> {
-    let prefs = Act::Make(Asked::Prefs(PINS));
-    judge(&rt, b"no pins", &[Act::PinsOf(b"a")], b"")?;
-    judge(
-        &rt,
-        b"a version, a release and a prefix",
-        &[prefs, Act::PinsOf(b"a")],
-        b"pin a version 1 7\npin a release m 6\npin a version 2.* -1\n",
-    )?;
-    judge(
-        &rt,
-        b"one",
-        &[prefs, Act::PinsOf(b"b")],
-        b"pin b version 1 7\n",
-    )?;
-    judge(
-        &rt,
-        b"a general one",
-        &[prefs, Act::PinsOf(b"*"), Act::PinsOf(b"")],
-        b"",
-    )?;
-    judge(
-        &rt,
-        b"set again, and taken out and set again",
-        &[
-            prefs,
-            Act::Make(Asked::Pin("a", "2.*", 9)),
-            Act::Make(Asked::Unpin("a", "1")),
-            Act::Make(Asked::Pin("a", "1", 8)),
-            Act::PinsOf(b"a"),
-        ],
-        b"pin a release m 6\npin a version 2.* 9\npin a version 1 8\n",
-    )?;
+    const PREFS: Act<'static> = Act::Make(Asked::Prefs(PINS));
+    const ROWS: &[Row] = &[
+        (b"no pins", &[Act::PinsOf(b"a")], b""),
+        (
+            b"a version, a release and a prefix",
+            &[PREFS, Act::PinsOf(b"a")],
+            b"pin a version 1 7\npin a release m 6\npin a version 2.* -1\n",
+        ),
+        (b"one", &[PREFS, Act::PinsOf(b"b")], b"pin b version 1 7\n"),
+        (
+            b"a general one",
+            &[PREFS, Act::PinsOf(b"*"), Act::PinsOf(b"")],
+            b"",
+        ),
+        (
+            b"set again, and taken out and set again",
+            &[
+                PREFS,
+                Act::Make(Asked::Pin("a", "2.*", 9)),
+                Act::Make(Asked::Unpin("a", "1")),
+                Act::Make(Asked::Pin("a", "1", 8)),
+                Act::PinsOf(b"a"),
+            ],
+            b"pin a release m 6\npin a version 2.* 9\npin a version 1 8\n",
+        ),
+    ];
+    for (name, acts, wanted) in ROWS {
+        judge(&rt, name, acts, wanted)?;
+    }
     Ok(())
 }
 
 #[test]
 fn a_pin_has_its_priority(rt: HostRuntime) -> Result<(), Fail> {
-    let acts = [
+    const ACTS: &[Act<'static>] = &[
         Act::FirstPriority,
         Act::Make(Asked::Pin("a", "1.*", -5)),
         Act::FirstPriority,
     ];
-    let text = came(rt.alloc(), &acts)?;
+    let text = came(rt.alloc(), ACTS)?;
     same(&rt, b"pins", &text, b"no pin-5");
     Ok(())
 }
 
 #[test]
 fn refusals_have_numbers_and_words(rt: HostRuntime) {
-    let rows: [(Refusal, u8, &[u8]); 23] = [
+    const ROWS: &[(Refusal, u8, &[u8])] = &[
         (Refusal::Command, 1, b"unknown command"),
         (Refusal::Usage, 2, b"bad arguments"),
         (Refusal::Unended, 3, b"body has no end"),
@@ -740,7 +740,7 @@ fn refusals_have_numbers_and_words(rt: HostRuntime) {
         (Refusal::Memory, 22, b"out of memory"),
         (Refusal::Form, 23, b"bad pin record"),
     ];
-    for (refusal, number, words) in &rows {
+    for (refusal, number, words) in ROWS {
         assert_eq!(rt; refusal.number(), *number);
         same(&rt, words, refusal.text().as_bytes(), words);
     }

@@ -79,7 +79,7 @@ fn touched_by(alloc: Global, asked: Asked<'_>) -> Result<Vec<u8>, Fail> {
 
 #[test]
 fn edits_touch_names(rt: HostRuntime) -> Result<(), Fail> {
-    let rows: [(&[u8], Asked<'_>, &[u8]); 11] = [
+    const ROWS: &[(&[u8], Asked<'static>, &[u8])] = &[
         (b"mark", Asked::Mark("foo", "1"), b"foo "),
         (b"mark of no package", Asked::MarkNone("qux"), b"qux "),
         (b"pin", Asked::Pin("qux", "1", 100), b"qux "),
@@ -101,7 +101,7 @@ fn edits_touch_names(rt: HostRuntime) -> Result<(), Fail> {
             b"bar foo foo qux ",
         ),
     ];
-    for (name, asked, wanted) in &rows {
+    for (name, asked, wanted) in ROWS {
         let text = touched_by(rt.alloc(), *asked)?;
         same(&rt, name, &text, wanted);
     }

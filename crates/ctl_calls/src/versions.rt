@@ -86,7 +86,8 @@ fn cuts_texts_into_their_parts(rt: HostRuntime) -> Result<(), Fail> {
     )?;
     assert_eq!(rt; count, 24);
     // A part that is there and empty is at fault.
-    each_is_told(&rt, &[(b"1.0-", b"Revision"), (b":1", b"Epoch")])
+    const ROWS: &[(&[u8], &[u8])] = &[(b"1.0-", b"Revision"), (b":1", b"Epoch")];
+    each_is_told(&rt, ROWS)
 }
 
 fn fault_name(fault: VersionFault) -> &'static [u8] {
@@ -118,57 +119,53 @@ fn each_is_told(rt: &(impl Abort + AllocGlobal), rows: &[(&[u8], &[u8])]) -> Res
 
 #[test]
 fn keeps_the_text_of_a_version(rt: HostRuntime) -> Result<(), Fail> {
-    each_is_told(
-        &rt,
-        &[
-            (b"1.0", b"1.0"),
-            (b"1:2.3-4-5", b"1:2.3-4-5"),
-            (b"0000000001:1", b"0000000001:1"),
-            (b"2147483647:1", b"2147483647:1"),
-            (b"0002147483647:1", b"0002147483647:1"),
-            (b"1:2:3", b"1:2:3"),
-            (b"a", b"a"),
-            (b"~", b"~"),
-            (b"1.0-1", b"1.0-1"),
-        ],
-    )
+    const ROWS: &[(&[u8], &[u8])] = &[
+        (b"1.0", b"1.0"),
+        (b"1:2.3-4-5", b"1:2.3-4-5"),
+        (b"0000000001:1", b"0000000001:1"),
+        (b"2147483647:1", b"2147483647:1"),
+        (b"0002147483647:1", b"0002147483647:1"),
+        (b"1:2:3", b"1:2:3"),
+        (b"a", b"a"),
+        (b"~", b"~"),
+        (b"1.0-1", b"1.0-1"),
+    ];
+    each_is_told(&rt, ROWS)
 }
 
 #[test]
 fn refuses_by_the_first_test_that_fails(rt: HostRuntime) -> Result<(), Fail> {
-    each_is_told(
-        &rt,
-        &[
-            (b"", b"Empty"),
-            (b":1", b"Epoch"),
-            (b"a:1", b"Epoch"),
-            (b"2147483648:1", b"Epoch"),
-            (b"1a:1", b"Epoch"),
-            (b":", b"Epoch"),
-            (b"-1:", b"Epoch"),
-            (b"1:", b"Upstream"),
-            (b"-1", b"Upstream"),
-            (b"-", b"Upstream"),
-            (b"1:-_", b"Upstream"),
-            (b"1_0", b"Character"),
-            (b"1.0-1_", b"Character"),
-            (b"1:2-3:4", b"Character"),
-            (b"a b", b"Character"),
-            (b"1_0-", b"Character"),
-            (b"\xff", b"Character"),
-            (b"1.0-", b"Revision"),
-        ],
-    )
+    const ROWS: &[(&[u8], &[u8])] = &[
+        (b"", b"Empty"),
+        (b":1", b"Epoch"),
+        (b"a:1", b"Epoch"),
+        (b"2147483648:1", b"Epoch"),
+        (b"1a:1", b"Epoch"),
+        (b":", b"Epoch"),
+        (b"-1:", b"Epoch"),
+        (b"1:", b"Upstream"),
+        (b"-1", b"Upstream"),
+        (b"-", b"Upstream"),
+        (b"1:-_", b"Upstream"),
+        (b"1_0", b"Character"),
+        (b"1.0-1_", b"Character"),
+        (b"1:2-3:4", b"Character"),
+        (b"a b", b"Character"),
+        (b"1_0-", b"Character"),
+        (b"\xff", b"Character"),
+        (b"1.0-", b"Revision"),
+    ];
+    each_is_told(&rt, ROWS)
 }
 
 #[test]
 fn orders_each_pair_of_the_rising_list(rt: HostRuntime) -> Result<(), Fail> {
-    let texts: [&[u8]; 16] = [
+    const TEXTS: &[&[u8]] = &[
         b"~~", b"~~a", b"~", b"0", b"1", b"1.0~rc1", b"1.0", b"1.0-1", b"1.0+b1", b"1.0.1", b"1.9",
         b"1.10", b"a", b"a+", b"+", b"1:0.1",
     ];
-    for (i, one) in texts.iter().enumerate() {
-        for (j, other) in texts.iter().enumerate() {
+    for (i, one) in TEXTS.iter().enumerate() {
+        for (j, other) in TEXTS.iter().enumerate() {
             let found = order(rt.alloc(), one, other)?;
             let row = pair(rt.alloc(), one, other)?;
             same(&rt, &row, sign_of(found), sign_of(i.cmp(&j)));
@@ -186,9 +183,9 @@ fn are_equal(alloc: Global, one: &[u8], other: &[u8]) -> Result<bool, VersionFau
 
 #[test]
 fn finds_versions_equal_whose_texts_are_not(rt: HostRuntime) -> Result<(), Fail> {
-    let texts: [&[u8]; 5] = [b"1.0", b"0:1.0", b"1.00", b"1.0-0", b"1."];
-    for one in &texts {
-        for other in &texts {
+    const TEXTS: &[&[u8]] = &[b"1.0", b"0:1.0", b"1.00", b"1.0-0", b"1."];
+    for one in TEXTS {
+        for other in TEXTS {
             let row = pair(rt.alloc(), one, other)?;
             agree(&rt, &row, are_equal(rt.alloc(), one, other)?, true);
         }
