@@ -1,6 +1,7 @@
 //! Stanzas under their serial numbers.
 
 ghost use Rattle.std.specs.Prelude.{◌≡◌, ◌<◌, ◌≤◌, ℕ, length, IfSome, nat_lt, vec_len, true, false, option_map, option_copied, nat_eq};
+ghost use Rattle.std.specs.Bool.{OnTrue};
 ghost use Rattle.std.specs.Map.{lookup};
 ghost use Rattle.std.specs.Vec.{vec_capacity};
 ghost use Rattle.std.specs.List.{slice_index_or};
@@ -119,8 +120,15 @@ pub(crate) fn row_at(rows: &[Vec<Row>], spot: Spot) -> &Row
     &rows[spot.piece][spot.at]
 }
 
-/// The spot of the row of a serial, found by halving.
-pub(crate) fn spot_of(rows: &[Vec<Row>], serial: u64) -> Option<Spot>
+// Whether a row stands at a spot.
+fn is_spot(rows: &[Vec<Row>], spot: Spot) -> bool
+    ensures { OnTrue result (IsSpot rows.now spot) }
+{
+    spot.piece < rows.len() && spot.at < rows[spot.piece].len()
+}
+
+// The spot of the row of a serial, found by halving.
+fn halved_spot(rows: &[Vec<Row>], serial: u64) -> Option<Spot>
     requires pieces { ArePieces rows.now }
     requires rises { (n : ℕ) × (m : ℕ) × Rises n (joined rows.now) m }
     ensures place { option_map (λ spot. place_of_spot rows.now spot) result ≡ place (has_serial serial) (joined rows.now) }
@@ -135,6 +143,24 @@ pub(crate) fn spot_of(rows: &[Vec<Row>], serial: u64) -> Option<Spot>
     } else {
         None
     }
+}
+
+/// The spot of the row of a serial. Most pieces are as they were filled, with a row under each serial from a multiple of
+/// their size on: there it is one look.
+pub(crate) fn spot_of(rows: &[Vec<Row>], serial: u64) -> Option<Spot>
+    requires pieces { ArePieces rows.now }
+    requires rises { (n : ℕ) × (m : ℕ) × Rises n (joined rows.now) m }
+    ensures place { option_map (λ spot. place_of_spot rows.now spot) result ≡ place (has_serial serial) (joined rows.now) }
+    ensures within { IfSome result (λ spot. IsSpot rows.now spot) }
+{
+    let likely = Spot {
+        piece: likely_piece(rows, serial),
+        at: (serial % MOST as u64) as usize,
+    };
+    if is_spot(rows, likely) && row_at(rows, likely).serial() == serial {
+        return Some(likely);
+    }
+    halved_spot(rows, serial)
 }
 
 /// Puts a stanza in the place of that of a row.

@@ -1,31 +1,14 @@
-use Rattle.std.proofs.Common.{◌≡◌, ◌∙◌, ◌<◌, ℕ, sym, ap, arith, length}
+use Rattle.std.proofs.Common.{◌∙◌, ◌%◌, ℕ, sym, ap}
 use Rattle.ctl_stanza.specs.Content.{Content}
-use Rattle.ctl_store.specs.HeldPieces.{joined, place_of_spot, stands_at, IsSpot}
-use Rattle.ctl_store.proofs.PointLemmas.{stands_end, stands_within, place_there, place_nowhere}
+use Rattle.ctl_store.specs.HeldPieces.{joined, place_of_spot, IsSpot}
+use Rattle.ctl_store.specs.declared.pieces.Spot.{Spot}
+use Rattle.ctl_store.proofs.PointLemmas.{stands_within, place_there}
 use Rattle.ctl_store.proofs.rows.spot_of.Goals as goal
 
 pub returns-then-serial-clause-place : goal.returns-then-serial-clause-place
 returns-then-serial-clause-place c =
     let ps = c.args.rows.now in
-    let spot = c.end_below-spot.result in
-    let l : spot.piece < length ps = omega (arith, c.if-spot-rows.false) in
-    let there : IsSpot ps spot = c.end_below-spot.ensures.within.item l in
+    let spot : Spot = record { piece = c.likely_piece.result; at = c.args.serial % 64 } in
+    let there : IsSpot ps spot = c.if-is_spot.ensures in
     sym (place_there c.args.serial c.requires.rises.0 (joined ps) c.requires.rises.1 (place_of_spot ps spot) c.requires.rises.2 (stands_within ps spot.piece spot.at there)
     (λ d. ap (λ (r : ℕ × Content). r.0) (c.row_at.ensures d) ∙ sym c.serial.ensures ∙ c.if-serial.true))
-
-pub returns-else-serial-clause-place : goal.returns-else-serial-clause-place
-returns-else-serial-clause-place c =
-    let ps = c.args.rows.now in
-    sym (place_nowhere c.args.serial c.requires.rises.0 (joined ps) c.requires.rises.1 (place_of_spot ps c.end_below-spot.result) c.requires.rises.2 c.end_below-spot.ensures.point
-    (λ w d e. c.if-serial.false (c.serial.ensures ∙ sym (ap (λ (r : ℕ × Content). r.0) (c.row_at.ensures d)) ∙ e)))
-
-pub returns-then-spot-rows-clause-place : goal.returns-then-spot-rows-clause-place
-returns-then-spot-rows-clause-place c =
-    let ps = c.args.rows.now in
-    let spot = c.end_below-spot.result in
-    let within = c.end_below-spot.ensures.within in
-    let last : spot.piece ≡ length ps = omega (arith, within.piece, c.if-spot-rows.true) in
-    let n = stands_end ps 0 in
-    let at : place_of_spot ps spot ≡ length (joined ps) = (λ j. stands_at ps (last j) (within.end last j)) ∙ omega (arith, n) in
-    sym (place_nowhere c.args.serial c.requires.rises.0 (joined ps) c.requires.rises.1 (place_of_spot ps spot) c.requires.rises.2 c.end_below-spot.ensures.point
-    (λ w d e. absurd (omega (arith, w, at))))
