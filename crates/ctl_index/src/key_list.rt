@@ -1,6 +1,6 @@
 //! The keys of what stands under a name, offers or atoms, in the order of their stanzas.
 
-ghost use Rattle.std.specs.Prelude.{◌≡◌, ◌≤◌, ◌∷◌, [], true, false, length, nat_eq, IfOk, OnOk, OnErr};
+ghost use Rattle.std.specs.Prelude.{◌≡◌, ◌≤◌, ◌∷◌, [], true, false, length, nat_eq, vec_len, insert, IfOk, OnOk, OnErr};
 ghost use Rattle.std.specs.List.Sorted.{IsPartitionPoint};
 ghost use Rattle.ctl_index.specs.TablesOrder.{InOrder, is_before, is_through, ends_behind, put_in_order, others};
 
@@ -58,6 +58,20 @@ fn end_through<K: OfStanza>(keys: &[K], stanza: StanzaKey) -> usize
     keys.partition_point(|key| compare_keys(&key.stanza(), &stanza).is_le())
 }
 
+// Inserts a key. A list that is full gets room for an eighth more, and a short one for this key alone: most names have few
+// offers and few atoms, and finished lists are to have little spare room.
+fn insert_exactly<K: OfStanza>(keys: &mut Vec<K>, at: usize, key: K) -> Result<(), AllocError>
+    requires { at ≤ vec_len keys.old }
+    ensures items { OnOk result (keys.new.items ≡ insert keys.old.items at key) }
+    ensures err { OnErr result (keys.new.items ≡ keys.old.items) }
+{
+    if keys.len() == keys.capacity() {
+        keys.reserve_exact((keys.len() / 8).max(1))?;
+    }
+    keys.insert(at, key)?;
+    Ok(())
+}
+
 impl<K: OfStanza> KeyList<K> {
     /// An empty list. It takes no memory.
     pub(crate) fn new(alloc: Global) -> KeyList<K>
@@ -95,7 +109,7 @@ impl<K: OfStanza> KeyList<K> {
         ensures err { OnErr result (self.new ≡ self.old) }
     {
         let at = end_through(&self.keys, key.stanza());
-        self.keys.insert(at, key)?;
+        insert_exactly(&mut self.keys, at, key)?;
         Ok(())
     }
 
