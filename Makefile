@@ -12,8 +12,8 @@ help:
 	@echo 'make demo      runs the examples with an unproved quick build, and compares what they print'
 	@echo 'make build     proves the program and leaves it as $(PROGRAM)'
 	@echo 'make test      the whole gate: demo, test-tools, prove, test-program and edits, up to the first that fails; KEEP_GOING=1 runs all'
-	@echo 'make prove     every proof from nothing, the named wrong bodies, the tests, the programs'
-	@echo 'make edits     the edits that must fail, many in one check; CRATES=".." and EDITS=".." name some, JOBS=N sets how many checks run at once'
+	@echo 'make prove     every proof, the named wrong bodies, the tests, the programs; what this machine has proved of the same files it takes'
+	@echo 'make edits     the edits that must fail, many in one check; CRATES=".." and EDITS=".." name some, JOBS=N sets how many checks run at once, ANEW=1 tries those too that this machine saw refused'
 	@echo 'make bench     measures time and memory beside apt-cache, grep-dctrl and python-apt; FILE=.. names a Packages file, TIMES=1,2 how often it is taken'
 	@echo 'make bench-report  puts the table and the chart of the last make bench into docs/'
 	@echo 'make bench-parts  measures the parts: reading, edits, tables, refusals; FILE=.. as above'
@@ -43,9 +43,10 @@ $(PROGRAM): $(shell find crates \( -name out -o -name edits -o -name must-fail \
 test:
 	python3 tools/gate.py $(if $(KEEP_GOING),--keep-going)
 
-# With RT_JOBS `rt ci` has so many tasks at a time, however much memory it thinks that they take.
+# By itself `rt ci` gives the proofs of the chain of crates the processors that nothing else waits for. With RT_JOBS it has so many
+# tasks of one processor each, however much memory it thinks that they take.
 prove:
-	RT_JOBS=$(or $(JOBS),$$(nproc)) rt ci
+	$(if $(JOBS),RT_JOBS=$(JOBS) )rt ci
 
 test-program: build
 	python3 tests/program/run.py $(PROGRAM) examples
@@ -54,7 +55,7 @@ test-tools:
 	python3 tests/edit_runner.py
 
 edits:
-	python3 tools/batch_edits.py $(if $(CRATES),--crates $(CRATES)) $(if $(EDITS),--edits $(EDITS)) $(if $(JOBS),--jobs $(JOBS)) $(if $(APART),--apart)
+	python3 tools/batch_edits.py $(if $(CRATES),--crates $(CRATES)) $(if $(EDITS),--edits $(EDITS)) $(if $(JOBS),--jobs $(JOBS)) $(if $(APART),--apart) $(if $(ANEW),--anew)
 
 bench: $(PROGRAM)
 	mkdir -p out

@@ -1,7 +1,8 @@
 #!/usr/bin/env python3
 """Tests tools/batch_edits.py on a repository of one small crate, which it makes in a temporary folder. Edits that the
 prover refuses by themselves pass. An edit of a comment, one whose function only calls another that is refused, one that
-doesn't compile and one that can't be applied are told as failed. The last line is the count."""
+doesn't compile and one that can't be applied are told as failed. What was refused is kept, and not tried again. The last line is
+the count."""
 
 import os
 import subprocess
@@ -102,7 +103,7 @@ def make_repository(root, edits):
 
 
 def call(root, *words):
-    how = {"stdout": subprocess.PIPE, "stderr": subprocess.PIPE, "text": True}
+    how = {"stdout": subprocess.PIPE, "stderr": subprocess.PIPE, "text": True, "env": {**os.environ, "XDG_CACHE_HOME": root + "/cache"}}
     done = subprocess.run([sys.executable, TOOL, *words], cwd=root, **how)
     return done.returncode, done.stdout.splitlines(), done.stdout + done.stderr
 
@@ -111,6 +112,7 @@ def test_edits(tests):
     with tempfile.TemporaryDirectory() as root:
         make_repository(root, EDITS)
         status, lines, told = call(root, "--jobs", "1")
+        test_kept_results(tests, root)
     for name, folder, _, _, fault in EDITS:
         said = [it for it in lines if it.startswith("numbers/%s/%s.edit: " % (folder, name)) or "/%s.edit: BAD" % name in it]
         is_well = len(said) == 1 and fault in said[0] if fault else not said
@@ -118,6 +120,23 @@ def test_edits(tests):
     failed = sum(fault is not None for *_, fault in EDITS)
     tests.expect("count", lines[-1:] == ["%d passed, %d failed" % (len(EDITS) - failed, failed)], told)
     tests.expect("status of failed edits", status == 1, told)
+
+
+def test_kept_results(tests, root):
+    """What was refused is not tried again until something changes that it stands on. What failed is."""
+    for name, folder, *_, fault in EDITS:
+        if fault and name != "comment":
+            os.remove("%s/crates/numbers/%s/%s.edit" % (root, folder, name))
+    _, lines, told = call(root)
+    is_well = lines[-2].startswith("numbers: 4 edits, 3 of an earlier run, in 1 checks") and lines[-1] == "3 passed, 1 failed"
+    tests.expect("kept results", is_well, told)
+    os.remove(root + "/crates/numbers/edits/comment.edit")
+    status, lines, told = call(root)
+    is_well = lines == ["numbers: 3 edits, 3 of an earlier run, in 0 checks, 0 CPU s; the crate itself 0 CPU s", "3 passed, 0 failed"]
+    tests.expect("nothing is checked for kept results", status == 0 and is_well, told)
+    write(root + "/crates/numbers/src/lib.rt", SOURCE.replace("Half of", "One half of"))
+    _, lines, told = call(root, "--edits", "lesser")
+    tests.expect("a changed crate", lines[-2].startswith("numbers: 1 edits, 0 of an earlier run, in 1 checks"), told)
 
 
 def test_good_edits(tests):

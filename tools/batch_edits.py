@@ -1,7 +1,7 @@
 #!/usr/bin/env python3
 """Tries the edits that must fail, many in one check: the prover has to refuse each.
 
-    tools/batch_edits.py [--crates NAME..] [--edits NAME..] [--jobs N] [--apart] [--plan | --uncovered]
+    tools/batch_edits.py [--crates NAME..] [--edits NAME..] [--jobs N] [--apart] [--anew] [--plan | --uncovered]
 
 It is called at the top of the repository, and tries crates/NAME/edits/ and crates/NAME/must-fail/. In a copy of the
 repository each crate is proved as it stands; then edits of different functions of a crate make up a batch, which is
@@ -10,6 +10,9 @@ proved`, or `no proof: expected answers in ..`, and not merely `no proof: it cal
 function's body (a constant, a contract, a definition, a proof) goes alone, and has passed where the crate is not proved
 and the prover could read the text. What is not refused in company is tried again alone, and a batch that does not compile
 is halved.
+
+An edit that was refused is kept on this machine, below XDG_CACHE_HOME or ~/.cache, under a sum of all that this stands on: the
+kit, this runner, the crate, those below it, and the edit. A later run, in any checkout, tries only what changed.
 
 On standard error a line for each check. On standard output a line for each edit that was not refused, notes, what each
 crate took, and last 'N passed, M failed'; the status is 1 where any failed."""
@@ -24,10 +27,12 @@ sys.dont_write_bytecode = True
 from edit_runner import memory  # noqa: E402
 from edit_runner.batches import batches_of  # noqa: E402
 from edit_runner.crate import Crate, crates_of  # noqa: E402
+from edit_runner.results import Results, default_folder  # noqa: E402
 from edit_runner.runner import Runner, good  # noqa: E402
 
 JOBS = "at most so many checks at a time, each of about 3 GB, and never more than free memory allows (else as many as processors)"
 APART = "neither start over what is kept in out/ of the crates nor leave anything there, where something else may be at work"
+ANEW = "try all edits, and keep nothing of it"
 PLAN = "list the batches and the edits that cannot be applied, and check nothing"
 UNCOVERED = """list the public functions of libraries that no edit changes, and check nothing. Programs are left out, and crates of
 tests, and those that no crate stands on. So are laws, which have neither parameter nor result, or an empty body: no edit can change
@@ -60,6 +65,7 @@ def read_words():
     words.add_argument("--edits", nargs="+", metavar="NAME", help="only the edits of these names, without .edit")
     words.add_argument("--jobs", type=int, metavar="N", help=JOBS)
     words.add_argument("--apart", action="store_true", help=APART)
+    words.add_argument("--anew", action="store_true", help=ANEW)
     listing = words.add_mutually_exclusive_group()
     listing.add_argument("--plan", action="store_true", help=PLAN)
     listing.add_argument("--uncovered", action="store_true", help=UNCOVERED)
@@ -96,7 +102,8 @@ def list_plan(crates):
 
 def try_all(root, crates, given):
     signal.signal(signal.SIGTERM, lambda *_: sys.exit(1))
-    runner = Runner(root, crates, given.jobs or len(os.sched_getaffinity(0)), memory.is_enough, given.apart)
+    results = Results(root, None if given.anew else default_folder())
+    runner = Runner(root, crates, given.jobs or len(os.sched_getaffinity(0)), results, memory.is_enough, given.apart)
     passed = failed = 0
     for crate in runner.run():
         for it in crate.edits:
@@ -113,8 +120,8 @@ def try_all(root, crates, given):
             print(f"{os.path.relpath(it, root)}: BAD EDIT: {why}")
             failed += 1
         print(
-            f"{crate.name}: {len(crate.edits)} edits in {runner.tried[crate]} checks, {runner.edits_cpu[crate]:.0f} CPU s;"
-            f" the crate itself {runner.own_cpu[crate]:.0f} CPU s",
+            f"{crate.name}: {len(crate.edits)} edits, {len(runner.earlier[crate])} of an earlier run, in {runner.tried[crate]} checks,"
+            f" {runner.edits_cpu[crate]:.0f} CPU s; the crate itself {runner.own_cpu[crate]:.0f} CPU s",
             flush=True,
         )
     print(f"{passed} passed, {failed} failed")

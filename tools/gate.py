@@ -6,8 +6,9 @@
 As a part ends, a line says how long it took. A part that fails stops the gate, once what runs beside it has ended, unless
 --keep-going is given. The last line is 'N passed, M failed', the sum over all parts that ran; the status is 1 where anything failed.
 
-The proofs are a chain from crate to crate, which keeps some two processors busy. So with four or more the edits are tried
-beside them, with what the proofs leave of the processors and of the memory, and what the edits print comes behind what the proofs do."""
+The proofs are a chain from crate to crate. So with four processors or more the edits are tried beside them, with what the proofs
+leave of the processors and of the memory, and what the edits print comes behind what the proofs do. Both parts take what this
+machine has proved or refused of the same files, and do what has changed."""
 
 import concurrent.futures
 import dataclasses
@@ -22,7 +23,7 @@ STAGES = [
     [("demo", "the examples, by an unproved build")],
     [("test-tools", "the tests of the runner of edits")],
     [
-        ("prove", "every proof from nothing, the named wrong bodies, the tests under proof, the programs"),
+        ("prove", "every proof, the named wrong bodies, the tests under proof, the programs"),
         ("edits", "the edits that must fail"),
     ],
     [("test-program", "the program from outside")],
@@ -81,12 +82,12 @@ def run_stage(parts):
             yield run(name, tell)
         return
     (first, what), others = parts[0], parts[1:]
-    aside = [f"JOBS={processors - 1}", "APART=1"]
+    aside = [f"JOBS={processors}", "APART=1"]
     with concurrent.futures.ThreadPoolExecutor() as pool:
         lines = {name: [] for name, _ in others}
         beside = [pool.submit(run, name, lines[name].append, aside, ["nice"]) for name, _ in others]
         tell(f"== {first}: {what}; beside it {', '.join(name for name, _ in others)}")
-        yield run(first, tell, [f"JOBS={processors}"])
+        yield run(first, tell)
         for (name, what), part in zip(others, beside):
             outcome = part.result()
             tell("\n".join([f"== {name}: {what}", *lines[name]]))

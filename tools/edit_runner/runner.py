@@ -22,13 +22,16 @@ def tell(text):
 class Runner:
     """Has as many checks at a time as jobs, but begins one beside others only where there is room for it. Each crate is proved as it
     stands in a copy of the repository, the base. A batch is checked in a room, a copy for one crate, over the kept work of the
-    base. One that is apart neither takes nor leaves kept work of the repository."""
+    base. One that is apart neither takes nor leaves kept work of the repository. An edit that the results of earlier runs have is
+    not tried again, and a crate of which they have all is not proved."""
 
-    def __init__(self, root, crates, jobs, has_room=lambda: True, is_apart=False):
+    def __init__(self, root, crates, jobs, results, has_room=lambda: True, is_apart=False):
         self.root, self.crates, self.jobs, self.has_room, self.is_apart = root, crates, jobs, has_room, is_apart
         self.checks = checks.Checks()
-        self.judgements = {}
-        self.own_cpu = {}
+        self.results = results
+        self.earlier = {it: results.known(it) for it in crates}
+        self.judgements = {edit: judgement for known in self.earlier.values() for edit, judgement in known.items()}
+        self.own_cpu = collections.Counter()
         self.edits_cpu = collections.Counter()
         self.tried = collections.Counter()
         self.rooms, self.lock = collections.defaultdict(list), threading.Lock()
@@ -36,6 +39,9 @@ class Runner:
 
     def run(self):
         """Judges all edits that can be applied, and yields each crate once its edits are judged."""
+        done = [it for it in self.crates if not self.open(it)]
+        yield from done
+        self.crates = [it for it in self.crates if it not in done]
         with tempfile.TemporaryDirectory(prefix="edits-") as self.folder:
             self.base = self.new_folder("base")
             copy_texts(self.root, self.base)
@@ -51,6 +57,10 @@ class Runner:
             for it in self.removals:
                 it.join()
 
+    def open(self, crate):
+        """Returns the edits of a crate that are to be tried."""
+        return [it for it in good(crate) if it not in self.earlier[crate]]
+
     def take_kept(self):
         for name in {it for crate in self.crates for it in (crate.name, *crate.below)}:
             for part in ("rlib", "incremental"):
@@ -58,7 +68,7 @@ class Runner:
 
     def run_in(self, pool):
         unproved, ready, running = collections.deque(self.crates), [], {}
-        left = {it: len(batches.batches_of(good(it))) for it in self.crates}
+        left = {it: len(batches.batches_of(self.open(it))) for it in self.crates}
 
         def may_start():
             return len(running) < self.jobs and (not running or self.has_room())
@@ -81,7 +91,7 @@ class Runner:
                 if batch is not None:
                     left[crate] -= 1
                 elif result:
-                    ready += [(crate, it) for it in batches.batches_of(good(crate))]
+                    ready += [(crate, it) for it in batches.batches_of(self.open(crate))]
                     # The most work first.
                     ready.sort(key=lambda it: -len(it[1]))
                 else:
@@ -106,7 +116,7 @@ class Runner:
             tell("\n".join(answer.lines[-12:]))
         elif not self.is_apart:
             self.hand_over(crate)
-        for it in good(crate):
+        for it in self.open(crate):
             self.judgements[it] = batches.Judgement(False, "not tried: the crate itself is not proved")
         return is_proved
 
@@ -135,6 +145,7 @@ class Runner:
         finally:
             with self.lock:
                 self.rooms[crate].append(room)
+        self.results.keep(crate, found)
         with self.lock:
             self.judgements.update(found)
             self.edits_cpu[crate] += cpu
