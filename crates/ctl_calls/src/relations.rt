@@ -9,7 +9,7 @@ use std::alloc::{AllocError, Global};
 use std::process::Abort;
 use std::test::Fail;
 
-const NINE: [FieldKind; 9] = [
+const NINE: &[FieldKind] = &[
     FieldKind::PreDepends,
     FieldKind::Depends,
     FieldKind::Conflicts,
@@ -392,7 +392,7 @@ fn named(alloc: Global, kind: FieldKind, body: &[u8], name: &[u8]) -> Result<Vec
 
 #[test]
 fn names_are_found_in_groups(rt: HostRuntime) -> Result<(), Fail> {
-    let rows: [(&[u8], &[u8], &[u8]); 9] = [
+    const ROWS: &[(&[u8], &[u8], &[u8])] = &[
         (MIXED, b"a", b"++----"),
         (MIXED, b"c", b"+-+---"),
         (MIXED, b"g", b"+---+-"),
@@ -403,7 +403,7 @@ fn names_are_found_in_groups(rt: HostRuntime) -> Result<(), Fail> {
         (b"liba, lib (= 1)", b"lib", b"+-+"),
         (b"li, a:lib (= 1)", b"lib", b"---"),
     ];
-    for (body, name, wanted) in &rows {
+    for (body, name, wanted) in ROWS {
         let came = named(rt.alloc(), FieldKind::Depends, body, name)?;
         let row = pair(rt.alloc(), body, name)?;
         same(&rt, &row, &came, wanted);
