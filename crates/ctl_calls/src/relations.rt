@@ -6,6 +6,7 @@ use ctl_relation::{
     parse_relations, read_places,
 };
 use std::alloc::{AllocError, Global};
+use std::cmp::Ordering;
 use std::process::Abort;
 use std::test::Fail;
 
@@ -212,13 +213,17 @@ fn bare_atom(rt: HostRuntime) -> Result<(), Fail> {
     Ok(())
 }
 
+/// Whether a field stands so to another, and is equal to it where that is wanted.
+fn stands_so(field: FieldKind, other: FieldKind, wanted: Ordering) -> bool {
+    field.cmp(&other) == wanted && (field == other) == (wanted == Ordering::Equal)
+}
+
 #[test]
 fn order_of_fields(rt: HostRuntime) {
-    for (i, kind) in NINE.iter().enumerate() {
+    for (i, field) in NINE.iter().enumerate() {
         for (j, other) in NINE.iter().enumerate() {
-            let (order, is_equal) = (kind.cmp(other), *kind == *other);
-            let is_right = order == i.cmp(&j) && is_equal == (i == j);
-            assert!(rt; is_right, "fields {i} and {j}: {order:?}, {is_equal}");
+            let is_right = stands_so(*field, *other, i.cmp(&j));
+            assert!(rt; is_right, "fields {i} and {j}");
         }
     }
 }
