@@ -349,18 +349,28 @@ fn faulty_lines_before_the_limit_are_told(rt: HostRuntime) -> Result<(), AllocEr
     Ok(())
 }
 
+/// A list whose last field has as many bytes as one may have, over two lines, and then more.
+fn long_body(alloc: Global, more: &[u8]) -> Result<Vec<u8>, AllocError> {
+    let front: &[u8] = b"Package: a\nVersion: 1\nX: ";
+    let mut text = filled(alloc, front, b'y', 25 + MAX_LINE - 7)?;
+    text.extend_from_slice(b"  \n zzzzz")?;
+    text.extend_from_slice(more)?;
+    Ok(text)
+}
+
+fn long_body_comes_to(
+    rt: &(impl Abort + AllocGlobal),
+    more: &[u8],
+    wanted: &[u8],
+) -> Result<(), AllocError> {
+    let text = long_body(rt.alloc(), more)?;
+    list_comes_to(rt, ListKind::Packages, &text, wanted)
+}
+
 #[test]
 fn bodies_have_a_limit(rt: HostRuntime) -> Result<(), AllocError> {
-    let mut text = filled(
-        rt.alloc(),
-        b"Package: a\nVersion: 1\nX: ",
-        b'y',
-        25 + MAX_LINE - 7,
-    )?;
-    text.extend_from_slice(b"  \n zzzzz")?;
-    list_comes_to(&rt, ListKind::Packages, &text, b"1 stanzas")?;
-    text.extend_from_slice(b"z\noops")?;
-    list_comes_to(&rt, ListKind::Packages, &text, b"line 4: TooLong")
+    long_body_comes_to(&rt, b"", b"1 stanzas")?;
+    long_body_comes_to(&rt, b"z\noops", b"line 4: TooLong")
 }
 
 #[test]
@@ -563,14 +573,19 @@ fn relations_go_on_over_lines(rt: HostRuntime) -> Result<(), Fail> {
 
 #[test]
 fn causes_have_their_numbers(rt: HostRuntime) {
-    assert!(rt; Cause::TooLong.number() == 4);
-    assert!(rt; Cause::Line.number() == 5);
-    assert!(rt; Cause::FieldTwice.number() == 6);
-    assert!(rt; Cause::Missing.number() == 7);
-    assert!(rt; Cause::Name.number() == 8);
-    assert!(rt; Cause::Version.number() == 9);
-    assert!(rt; Cause::Relation.number() == 10);
-    assert!(rt; Cause::Priority.number() == 18);
-    assert!(rt; Cause::Form.number() == 23);
-    assert!(rt; Cause::Memory.number() == 22);
+    const ROWS: &[(Cause, u8)] = &[
+        (Cause::TooLong, 4),
+        (Cause::Line, 5),
+        (Cause::FieldTwice, 6),
+        (Cause::Missing, 7),
+        (Cause::Name, 8),
+        (Cause::Version, 9),
+        (Cause::Relation, 10),
+        (Cause::Priority, 18),
+        (Cause::Form, 23),
+        (Cause::Memory, 22),
+    ];
+    for (cause, number) in ROWS {
+        assert!(rt; cause.number() == *number);
+    }
 }

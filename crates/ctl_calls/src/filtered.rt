@@ -33,7 +33,7 @@ pub fn append_filtered(
 
 #[test]
 fn filters_take_stanzas_of_a_store(rt: HostRuntime) -> Result<(), Fail> {
-    let acts = [
+    const ACTS: &[Act<'static>] = &[
         Act::Filtered(&[b"-c", b""]),
         Act::Make(Asked::AddList(
             "m",
@@ -55,7 +55,7 @@ fn filters_take_stanzas_of_a_store(rt: HostRuntime) -> Result<(), Fail> {
         Act::Filtered(&[b"--rx", b"["]),
         Act::Filtered(&[b"-x"]),
     ];
-    let text = came(rt.alloc(), &acts)?;
+    let text = came(rt.alloc(), ACTS)?;
     same(
         &rt,
         b"filters",

@@ -15,11 +15,6 @@ const ADD: Act<'static> = Act::Make(Asked::AddList(
     "Package: b\nVersion: 1\n\nPackage: a\nVersion: 2\n\nPackage: a\nVersion: 1\n",
 ));
 
-/// The key of a stanza of the first list.
-const fn key(stanza: u64) -> StanzaKey {
-    StanzaKey { list: 0, stanza }
-}
-
 #[test]
 fn entries_stand_in_order(rt: HostRuntime) -> Result<(), Fail> {
     let text = came(rt.alloc(), &[ADD, Act::InOrder])?;
@@ -43,13 +38,11 @@ fn a_list_has_a_serial(rt: HostRuntime) -> Result<(), Fail> {
 
 #[test]
 fn a_plan_finds_what_comes(rt: HostRuntime) -> Result<(), Fail> {
-    let put = Asked::Put("Package: c\nVersion: 4\n");
-    let acts = [
-        ADD,
-        Act::PlanFinds(put, key(3)),
-        Act::PlanFinds(put, key(2)),
-    ];
-    let text = came(rt.alloc(), &acts)?;
+    const PUT: Asked<'static> = Asked::Put("Package: c\nVersion: 4\n");
+    const NEXT: StanzaKey = StanzaKey { list: 0, stanza: 3 };
+    const LAST: StanzaKey = StanzaKey { list: 0, stanza: 2 };
+    const ACTS: &[Act<'static>] = &[ADD, Act::PlanFinds(PUT, NEXT), Act::PlanFinds(PUT, LAST)];
+    let text = came(rt.alloc(), ACTS)?;
     same(
         &rt,
         b"the next key and the last",

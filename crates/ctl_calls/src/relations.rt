@@ -6,10 +6,11 @@ use ctl_relation::{
     parse_relations, read_places,
 };
 use std::alloc::{AllocError, Global};
+use std::cmp::Ordering;
 use std::process::Abort;
 use std::test::Fail;
 
-const NINE: [FieldKind; 9] = [
+const NINE: &[FieldKind] = &[
     FieldKind::PreDepends,
     FieldKind::Depends,
     FieldKind::Conflicts,
@@ -212,13 +213,17 @@ fn bare_atom(rt: HostRuntime) -> Result<(), Fail> {
     Ok(())
 }
 
+/// Whether a field stands so to another, and is equal to it where that is wanted.
+fn stands_so(field: FieldKind, other: FieldKind, wanted: Ordering) -> bool {
+    field.cmp(&other) == wanted && (field == other) == (wanted == Ordering::Equal)
+}
+
 #[test]
 fn order_of_fields(rt: HostRuntime) {
-    for (i, kind) in NINE.iter().enumerate() {
+    for (i, field) in NINE.iter().enumerate() {
         for (j, other) in NINE.iter().enumerate() {
-            let (order, is_equal) = (kind.cmp(other), *kind == *other);
-            let is_right = order == i.cmp(&j) && is_equal == (i == j);
-            assert!(rt; is_right, "fields {i} and {j}: {order:?}, {is_equal}");
+            let is_right = stands_so(*field, *other, i.cmp(&j));
+            assert!(rt; is_right, "fields {i} and {j}");
         }
     }
 }
@@ -392,7 +397,7 @@ fn named(alloc: Global, kind: FieldKind, body: &[u8], name: &[u8]) -> Result<Vec
 
 #[test]
 fn names_are_found_in_groups(rt: HostRuntime) -> Result<(), Fail> {
-    let rows: [(&[u8], &[u8], &[u8]); 9] = [
+    const ROWS: &[(&[u8], &[u8], &[u8])] = &[
         (MIXED, b"a", b"++----"),
         (MIXED, b"c", b"+-+---"),
         (MIXED, b"g", b"+---+-"),
@@ -403,7 +408,7 @@ fn names_are_found_in_groups(rt: HostRuntime) -> Result<(), Fail> {
         (b"liba, lib (= 1)", b"lib", b"+-+"),
         (b"li, a:lib (= 1)", b"lib", b"---"),
     ];
-    for (body, name, wanted) in &rows {
+    for (body, name, wanted) in ROWS {
         let came = named(rt.alloc(), FieldKind::Depends, body, name)?;
         let row = pair(rt.alloc(), body, name)?;
         same(&rt, &row, &came, wanted);

@@ -19,7 +19,7 @@ const BAR: &str = "Package: bar\nVersion: 1\n";
 const TWO: &str = "Package: bar\nVersion: 2\n\nPackage: baz\nVersion: 2\n";
 
 /// `foo` and `bar` in `m`, `bar` and `baz` in `n`, a pin of `foo`; `n` is the target.
-const FRONT: [Asked<'_>; 5] = [
+const FRONT: &[Asked<'static>] = &[
     Asked::AddList("m", FOO),
     Asked::Put(BAR),
     Asked::AddList("n", TWO),
@@ -29,7 +29,7 @@ const FRONT: [Asked<'_>; 5] = [
 
 fn made(alloc: Global) -> Result<Store, Fail> {
     let mut store = Store::new(alloc);
-    for asked in &FRONT {
+    for asked in FRONT {
         edited(&mut store, given(edit_asked(alloc, *asked))?)?;
     }
     Ok(store)

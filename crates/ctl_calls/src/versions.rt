@@ -51,10 +51,23 @@ fn judge(
     Ok(())
 }
 
-fn judge_pair(rt: &(impl Abort + AllocGlobal), line: &[u8]) -> Result<(), Fail> {
-    let (one, other, judged) = pair_of(line).ok_or("no pair")?;
+/// The same both ways.
+fn judge_both(
+    rt: &(impl Abort + AllocGlobal),
+    line: &[u8],
+    one: &[u8],
+    other: &[u8],
+    judged: Ordering,
+) -> Result<(), VersionFault> {
     judge(rt, line, one, other, judged)?;
-    Ok(judge(rt, line, other, one, judged.reverse())?)
+    judge(rt, line, other, one, judged.reverse())
+}
+
+fn judge_pair(rt: &(impl Abort + AllocGlobal), line: &[u8]) -> Result<(), Fail> {
+    match pair_of(line) {
+        Some((one, other, judged)) => Ok(judge_both(rt, line, one, other, judged)?),
+        None => Err(Fail::from("no pair")),
+    }
 }
 
 /// Compares how the pairs of these lines are ordered, and counts them.
@@ -234,16 +247,40 @@ fn behind_zeros(alloc: Global, count: usize, power: &[u8]) -> Result<Ordering, F
     Ok(order(alloc, &long, power)?)
 }
 
+/// How numbers stand to a power of ten: that below it, that above it, and the same behind zeros.
+fn around_power(
+    alloc: Global,
+    count: usize,
+    power: &[u8],
+) -> Result<(Ordering, Ordering, Ordering), Fail>
+    requires { 0 < count }
+{
+    let below = below_power(alloc, count, power)?;
+    let above = above_power(alloc, count, power)?;
+    let alike = behind_zeros(alloc, count, power)?;
+    Ok((below, above, alike))
+}
+
+/// The same of the power with so many zeros.
+fn around(alloc: Global, count: usize) -> Result<(Ordering, Ordering, Ordering), Fail>
+    requires { 0 < count }
+{
+    let power = digits(alloc, b'1', b'0', count)?;
+    around_power(alloc, count, &power)
+}
+
+fn judge_around(rt: &(impl Abort + AllocGlobal), count: usize) -> Result<(), Fail>
+    requires { 0 < count }
+{
+    let (below, above, alike) = around(rt.alloc(), count)?;
+    same(rt, b"below", sign_of(below), b"<");
+    same(rt, b"above", sign_of(above), b">");
+    same(rt, b"alike", sign_of(alike), b"=");
+    Ok(())
+}
+
 #[test]
 fn compares_numbers_of_any_size(rt: HostRuntime) -> Result<(), Fail> {
-    for count in [49, 99_999] {
-        let power = digits(rt.alloc(), b'1', b'0', count)?;
-        let below = below_power(rt.alloc(), count, &power)?;
-        same(&rt, b"below", sign_of(below), b"<");
-        let above = above_power(rt.alloc(), count, &power)?;
-        same(&rt, b"above", sign_of(above), b">");
-        let alike = behind_zeros(rt.alloc(), count, &power)?;
-        same(&rt, b"alike", sign_of(alike), b"=");
-    }
-    Ok(())
+    judge_around(&rt, 49)?;
+    judge_around(&rt, 99_999)
 }
