@@ -14,6 +14,7 @@ pub mod OfferingLemmas
 pub mod OrderLemmas
 pub mod PackageLemmas
 pub mod ProviderLemmas
+pub mod RisingLemmas
 pub mod RowLemmas
 pub mod RowOfferLemmas
 pub mod SilentLemmas

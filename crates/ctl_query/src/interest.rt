@@ -10,11 +10,10 @@ ghost use Rattle.ctl_index.specs.Held.{standing};
 ghost use Rattle.ctl_query.specs.Interest.{is_of_package, names_it, offers_it, has_unmet};
 ghost use Rattle.ctl_query.specs.NameSet.{lent_names, is_among};
 
-use crate::name_set::add_name;
+use crate::name_set::{in_order, push_name};
 use ctl_index::Cache;
 use ctl_store::{StanzaKey, Store};
 use std::alloc::{AllocError, Global};
-use std::collections::BTreeSet;
 
 /// Each stanza of a cache is found by its key.
 pub(crate) fn stanzas_are_found(cache: &Cache)
@@ -25,14 +24,14 @@ pub(crate) fn stanzas_are_found(cache: &Cache)
 
 /// Adds the package of the stanza of a key.
 fn add_package<'a>(
-    names: &mut BTreeSet<&'a [u8]>,
+    names: &mut Vec<&'a [u8]>,
     store: &'a Store,
     key: StanzaKey,
 ) -> Result<(), AllocError>
-    ensures { OnOk result ((name : List ℕ) → is_among (lent_names names.new.keys) name ≡ (is_of_package store.now name key || is_among (lent_names names.old.keys) name)) }
+    ensures { OnOk result ((name : List ℕ) → is_among (lent_names names.new.items) name ≡ (is_of_package store.now name key || is_among (lent_names names.old.items) name)) }
 {
     match store.find(key) {
-        Some(stanza) => add_name(names, stanza.package()),
+        Some(stanza) => push_name(names, stanza.package()),
         None => Ok(()),
     }
 }
@@ -42,17 +41,17 @@ pub(crate) fn packages_naming<'a>(
     alloc: Global,
     cache: &'a Cache,
     name: &[u8],
-) -> Result<BTreeSet<&'a [u8]>, AllocError>
+) -> Result<Vec<&'a [u8]>, AllocError>
     requires { cache.now.stale ≡ false }
-    ensures order { IfOk result (λ names. IsStrictlySortedBy (slice_cmp nat_cmp) (lent_names names.keys)) }
-    ensures members { IfOk result (λ names. (asker : List ℕ) → is_among (lent_names names.keys) asker ≡ names_it cache.now.store name.now asker) }
+    ensures order { IfOk result (λ names. IsStrictlySortedBy (slice_cmp nat_cmp) (lent_names names.items)) }
+    ensures members { IfOk result (λ names. (asker : List ℕ) → is_among (lent_names names.items) asker ≡ names_it cache.now.store name.now asker) }
 {
     let store = cache.store();
-    let mut names = BTreeSet::new(alloc);
+    let mut names = Vec::new(alloc);
     'namers: for key in cache.namers(name) {
         add_package(&mut names, store, key.stanza)?;
     }
-    let _count = names.len();
+    let names = in_order(alloc, names)?;
     Ok(names)
 }
 
@@ -61,17 +60,17 @@ pub(crate) fn packages_offering<'a>(
     alloc: Global,
     cache: &'a Cache,
     name: &[u8],
-) -> Result<BTreeSet<&'a [u8]>, AllocError>
+) -> Result<Vec<&'a [u8]>, AllocError>
     requires { cache.now.stale ≡ false }
-    ensures order { IfOk result (λ names. IsStrictlySortedBy (slice_cmp nat_cmp) (lent_names names.keys)) }
-    ensures members { IfOk result (λ names. (asker : List ℕ) → is_among (lent_names names.keys) asker ≡ offers_it cache.now.store name.now asker) }
+    ensures order { IfOk result (λ names. IsStrictlySortedBy (slice_cmp nat_cmp) (lent_names names.items)) }
+    ensures members { IfOk result (λ names. (asker : List ℕ) → is_among (lent_names names.items) asker ≡ offers_it cache.now.store name.now asker) }
 {
     let store = cache.store();
-    let mut names = BTreeSet::new(alloc);
+    let mut names = Vec::new(alloc);
     'offers: for (key, _offer) in cache.offers(name) {
         add_package(&mut names, store, key)?;
     }
-    let _count = names.len();
+    let names = in_order(alloc, names)?;
     Ok(names)
 }
 
@@ -79,16 +78,16 @@ pub(crate) fn packages_offering<'a>(
 pub(crate) fn packages_with_unmet<'a>(
     alloc: Global,
     cache: &'a Cache,
-) -> Result<BTreeSet<&'a [u8]>, AllocError>
+) -> Result<Vec<&'a [u8]>, AllocError>
     requires { cache.now.stale ≡ false }
-    ensures order { IfOk result (λ names. IsStrictlySortedBy (slice_cmp nat_cmp) (lent_names names.keys)) }
-    ensures members { IfOk result (λ names. (asker : List ℕ) → is_among (lent_names names.keys) asker ≡ has_unmet cache.now.store asker) }
+    ensures order { IfOk result (λ names. IsStrictlySortedBy (slice_cmp nat_cmp) (lent_names names.items)) }
+    ensures members { IfOk result (λ names. (asker : List ℕ) → is_among (lent_names names.items) asker ≡ has_unmet cache.now.store asker) }
 {
     let store = cache.store();
-    let mut names = BTreeSet::new(alloc);
+    let mut names = Vec::new(alloc);
     'clauses: for key in cache.unmet_clauses() {
         add_package(&mut names, store, key.stanza)?;
     }
-    let _count = names.len();
+    let names = in_order(alloc, names)?;
     Ok(names)
 }

@@ -20,7 +20,6 @@ use ctl_relation::{Bytes, FieldKind, Group};
 use ctl_stanza::Stanza;
 use ctl_store::{StanzaKey, Store};
 use std::alloc::{AllocError, Global};
-use std::collections::BTreeSet;
 
 /// One atom more that names a name: whether a further alternative follows each of them.
 fn with_naming(found: Option<bool>, further: bool) -> Option<bool>
@@ -156,13 +155,13 @@ fn append_each(
     cache: &Cache,
     installed: bool,
     name: &[u8],
-    askers: &BTreeSet<&[u8]>,
+    askers: &[&[u8]],
     out: &mut Vec<u8>,
 ) -> Result<(), AllocError>
     requires { cache.now.stale ≡ false }
-    ensures { OnOk result (out.new.items ≡ out.old.items ++ flat_map (asking_line (world_of cache.now.store) installed name.now) (lent_names askers.now.keys)) }
+    ensures { OnOk result (out.new.items ≡ out.old.items ++ flat_map (asking_line (world_of cache.now.store) installed name.now) (lent_names askers.now)) }
 {
-    'askers: for asker in askers {
+    for asker in askers {
         append_asking(cache, installed, name, asker, out)?;
     }
     Ok(())

@@ -23,7 +23,6 @@ use ctl_policy::{is_source, rows_are_classes};
 use ctl_relation::Bytes;
 use ctl_store::{StanzaKey, Store};
 use std::alloc::{AllocError, Global};
-use std::collections::BTreeSet;
 
 // ---- its versions
 
@@ -99,13 +98,13 @@ fn append_naming_rows(
 fn append_each_naming(
     cache: &Cache,
     name: &[u8],
-    askers: &BTreeSet<&[u8]>,
+    askers: &[&[u8]],
     out: &mut Vec<u8>,
 ) -> Result<(), AllocError>
     requires { cache.now.stale ≡ false }
-    ensures { OnOk result (out.new.items ≡ out.old.items ++ flat_map (of_rows (world_of cache.now.store) (naming_lines name.now)) (lent_names askers.now.keys)) }
+    ensures { OnOk result (out.new.items ≡ out.old.items ++ flat_map (of_rows (world_of cache.now.store) (naming_lines name.now)) (lent_names askers.now)) }
 {
-    'askers: for asker in askers {
+    for asker in askers {
         append_naming_rows(cache, name, asker, out)?;
     }
     Ok(())
@@ -215,13 +214,13 @@ fn append_providing_rows(
 fn append_each_providing(
     cache: &Cache,
     name: &[u8],
-    askers: &BTreeSet<&[u8]>,
+    askers: &[&[u8]],
     out: &mut Vec<u8>,
 ) -> Result<(), AllocError>
     requires { cache.now.stale ≡ false }
-    ensures { OnOk result (out.new.items ≡ out.old.items ++ flat_map (of_rows (world_of cache.now.store) (providing_lines name.now)) (lent_names askers.now.keys)) }
+    ensures { OnOk result (out.new.items ≡ out.old.items ++ flat_map (of_rows (world_of cache.now.store) (providing_lines name.now)) (lent_names askers.now)) }
 {
-    'askers: for asker in askers {
+    for asker in askers {
         append_providing_rows(cache, name, asker, out)?;
     }
     Ok(())

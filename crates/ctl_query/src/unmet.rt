@@ -18,7 +18,6 @@ use ctl_relation::{FieldKind, Group};
 use ctl_stanza::Stanza;
 use ctl_store::StanzaKey;
 use std::alloc::{AllocError, Global};
-use std::collections::BTreeSet;
 
 /// Whether no offer meets a clause, which has these atoms. The cache keeps the number of those that do, so none is tested.
 fn is_unmet(cache: &Cache, key: ClauseKey, clause: &Group<'_>) -> bool
@@ -192,13 +191,13 @@ fn append_rows(
 fn append_each(
     cache: &Cache,
     important: bool,
-    names: &BTreeSet<&[u8]>,
+    names: &[&[u8]],
     out: &mut Vec<u8>,
 ) -> Result<(), AllocError>
     requires { cache.now.stale ≡ false }
-    ensures { OnOk result (out.new.items ≡ out.old.items ++ flat_map (of_rows (world_of cache.now.store) (unmet_lead (world_of cache.now.store) important)) (lent_names names.now.keys)) }
+    ensures { OnOk result (out.new.items ≡ out.old.items ++ flat_map (of_rows (world_of cache.now.store) (unmet_lead (world_of cache.now.store) important)) (lent_names names.now)) }
 {
-    'names: for name in names {
+    for name in names {
         append_rows(cache, important, name, out)?;
     }
     Ok(())

@@ -483,6 +483,46 @@ Package a version 1 has an unmet dep:
 }
 
 #[test]
+fn packages_that_ask_out_of_order(rt: HostRuntime) -> Result<(), Fail> {
+    each_writes(
+        &rt,
+        b"
+add-list m packages
+Package: b
+Version: 2
+Depends: x
+
+Package: a
+Version: 1
+Depends: x | y
+.
+add-list n packages
+Package: b
+Version: 1
+Suggests: x
+.
+rdepends x
+showpkg x
+=>
+x
+Reverse Depends:
+ |a
+  b
+Package: x
+Versions:
+
+Reverse Depends:
+  a 1 Depends: x
+  b 2 Depends: x
+  b 1 Suggests: x
+Dependencies:
+Provides:
+Reverse Provides:
+",
+    )
+}
+
+#[test]
 fn names_without_a_row(rt: HostRuntime) -> Result<(), Fail> {
     each_writes(
         &rt,
