@@ -17,8 +17,8 @@ returns-in-Ok-request_by-clause-may c = λ asked describes.
     given.1
     (c.do_request.ensures.may asked (sym describes.at) (λ r. describes.text r c.in-Ok.ensures.fits))
 
-pub returns-clause-may : goal.returns-clause-may
-returns-clause-may c = λ asked describes.
+pub returns-in-Err-request_by-clause-may : goal.returns-in-Err-request_by-clause-may
+returns-in-Err-request_by-clause-may c = λ asked describes.
     let read = c.in-Ok.read in
     let cause = c.in-Err-request_by.cause in
     let may : MayAsk (Err cause) (request_by read.name read.words.items) = subst (λ words. MayAsk (Err cause) (request_by read.name words)) c.deref.ensures.value c.in-Err-request_by.ensures.asks in
