@@ -1,6 +1,7 @@
 //! Reading relation fields from left to right.
 
-ghost use Rattle.std.specs.Prelude.{◌≡◌, ◌≢◌, ◌≤◌, ◌<◌, ◌+◌, ◌^◌, [], None, length, IfOk, IfErr, OnOk, IfSome};
+ghost use Rattle.std.specs.Prelude.{◌≡◌, ◌≢◌, ◌≤◌, ◌<◌, ◌+◌, ◌^◌, [], None, length, nat_eq, IfOk, IfErr, OnOk, IfSome};
+ghost use Rattle.std.specs.List.{starts_with};
 ghost use Rattle.ctl_relation.specs.declared.relation_fault.RelationFault.TheVariants as relation;
 ghost use Rattle.ctl_relation.specs.HeldPlaces.{ArePlacesIn, HasAtom, IsEnd, ReadsField, ReadsGroup, atom_held, groups_kept, place_of};
 ghost use Rattle.ctl_relation.specs.Lent.{lent_bound};
@@ -76,13 +77,23 @@ pub(crate) fn atom_at_place(kind: FieldKind, body: &[u8], place: u32) -> Atom<'_
     }
 }
 
+// Whether a text begins with a name. Most names differ in their first byte, so that is looked at before the others.
+fn begins_with(text: &[u8], name: &[u8]) -> bool
+    ensures { result ≡ starts_with nat_eq text.now name.now }
+{
+    match (text, name) {
+        ([one, ..], [other, ..]) if *one != *other => false,
+        _ => text.starts_with(name),
+    }
+}
+
 /// Whether the atom that begins at a place of a body has a name. No more of it is read.
 pub(crate) fn is_named_at(_kind: FieldKind, body: &[u8], place: u32, name: &[u8]) -> bool
     requires { HasAtom _kind body.now place }
     ensures { result ≡ atom_names name.now (atom_held _kind body.now place) }
 {
     let (_, text) = body.split_at(place as usize);
-    if !text.starts_with(name) {
+    if !begins_with(text, name) {
         return false;
     }
     match name_of(text) {

@@ -1,4 +1,4 @@
-use Rattle.std.proofs.Common.{◌≡◌, ◌∙◌, ◌||◌, Bool, nat_eq, length, false, sym, ap}
+use Rattle.std.proofs.Common.{◌∙◌, ◌||◌, Bool, sym, ap}
 use Rattle.ctl_relation.specs.Named.{groups_name}
 use Rattle.ctl_relation.proofs.NamedLemmas.{any_at, any_of_some}
 use Rattle.ctl_relation.proofs.groups.Groups.have_name.Goals as goal
