@@ -4,6 +4,7 @@ pub mod Priority
 pub mod Candidate
 pub mod Kept
 pub mod Chosen
+pub mod NewPlaces
 pub mod Laws
 pub mod Touched
 pub mod TouchedNames

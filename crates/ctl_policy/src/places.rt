@@ -1,8 +1,9 @@
 //! Places for what is chosen of names.
 
-ghost use Rattle.std.specs.Prelude.{◌≡◌, ℕ, List, false, OnOk, OnErr, if◌then◌else◌};
+ghost use Rattle.std.specs.Prelude.{◌≡◌, ℕ, List, false, OnOk, IfOk, if◌then◌else◌, ◌||◌, ◌&&◌};
 ghost use Rattle.std.specs.Str.{bytes_eq};
 ghost use Rattle.ctl_policy.specs.Chosen.{at_bytes, place_of};
+ghost use Rattle.ctl_policy.specs.NewPlaces.{is_listed, lacks_place, AreUnchosen};
 ghost use Rattle.ctl_policy.specs.Touched.{is_one_of};
 
 use crate::chosen::Chosen;
@@ -10,14 +11,15 @@ use ctl_relation::Bytes;
 use std::alloc::{AllocError, Global};
 use std::collections::BTreeMap;
 
-// Makes a place for a name. One that is there stays.
-fn make_place(
+// Adds a place for a name that has none.
+fn list_place(
     alloc: Global,
-    chosen: &mut BTreeMap<Vec<u8>, Chosen>,
+    chosen: &BTreeMap<Vec<u8>, Chosen>,
     name: &[u8],
+    places: &mut Vec<(Vec<u8>, Chosen)>,
 ) -> Result<(), AllocError>
-    ensures ok { OnOk result ((q : List ℕ) → at_bytes chosen.new q ≡ (if bytes_eq name.now q then place_of (at_bytes chosen.old q) else at_bytes chosen.old q)) }
-    ensures err { OnErr result ((q : List ℕ) → at_bytes chosen.new q ≡ at_bytes chosen.old q) }
+    ensures listed { OnOk result ((q : List ℕ) → is_listed q places.new.items ≡ (is_listed q places.old.items || (bytes_eq name.now q && lacks_place q chosen.now))) }
+    ensures unchosen { OnOk result (AreUnchosen places.old.items → AreUnchosen places.new.items) }
 {
     if chosen.contains_key(name) {
         return Ok(());
@@ -27,8 +29,26 @@ fn make_place(
         installed: None,
         candidate: None,
     };
-    chosen.insert(key, none)?;
+    places.push((key, none))?;
     Ok(())
+}
+
+// A place for each of these names that has none. A name that comes twice has two.
+fn new_places(
+    alloc: Global,
+    chosen: &BTreeMap<Vec<u8>, Chosen>,
+    names: &[Bytes],
+) -> Result<Vec<(Vec<u8>, Chosen)>, AllocError>
+    ensures listed { IfOk result (λ places. (q : List ℕ) → is_listed q places.items ≡ (is_one_of q names.now && lacks_place q chosen.now)) }
+    ensures unchosen { IfOk result (λ places. AreUnchosen places.items) }
+{
+    let mut places = Vec::new(alloc);
+    let mut left = names;
+    'names: while let Some((name, rest)) = left.split_first() {
+        list_place(alloc, chosen, name.as_slice(), &mut places)?;
+        left = rest;
+    }
+    Ok(places)
 }
 
 /// Makes a place for each of these names that has none, so that [`renew`](crate::renew) takes no memory. In a new place neither
@@ -45,10 +65,9 @@ pub fn make_places(
     ensures there { OnOk result ((q : List ℕ) → at_bytes chosen.new q ≡ (if is_one_of q names.now then place_of (at_bytes chosen.old q) else at_bytes chosen.old q)) }
     ensures others { (q : List ℕ) → is_one_of q names.now ≡ false → at_bytes chosen.new q ≡ at_bytes chosen.old q }
 {
-    let mut left = names;
-    'names: while let Some((name, rest)) = left.split_first() {
-        make_place(alloc, chosen, name.as_slice())?;
-        left = rest;
-    }
+    // A map that is made of all its keys at once has full nodes. Keys that are inserted in rising order leave them half full.
+    let places = new_places(alloc, chosen, names)?;
+    let mut coming = BTreeMap::from_iter(alloc, places)?;
+    chosen.append(&mut coming)?;
     Ok(())
 }
