@@ -1,5 +1,5 @@
 -- The sources of a row, among the lists that a store shows.
-use Rattle.std.proofs.Common.{◌≡◌, ℕ, Bool, true, false, cond, List, [], ◌∷◌, refl, ap}
+use Rattle.std.proofs.Common.{◌≡◌, ℕ, cond, List, [], ◌∷◌, refl, ap}
 use Rattle.ctl_store.specs.State.{shown_lists}
 use Rattle.ctl_store.specs.Keys.{stanza_lists}
 use Rattle.ctl_store.specs.declared.stanza_key.StanzaKey.{StanzaKey}

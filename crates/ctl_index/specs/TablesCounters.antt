@@ -1,8 +1,9 @@
 -- Of the tables alone: counters, and the clauses that stand at 0.
-use Rattle.std.specs.Prelude.{◌≡◌, ℕ, false, nat_eq}
+use Rattle.std.specs.Prelude.{◌≡◌, ℕ, Bool, false, nat_eq, List, [], ◌∷◌, Option, Some, if◌then◌else◌}
 use Rattle.std.specs.Option.{option_map_or}
 use Rattle.std.specs.BTreeMap.{BTreeMap, get}
 use Rattle.std.specs.BTreeSet.{BTreeSet, contains}
+use Rattle.std.specs.Ordering.{is_eq}
 use Rattle.ctl_index.specs.declared.keys.ClauseKey.{ClauseKey}
 use Rattle.ctl_index.specs.Clauses.{clause_cmp}
 
@@ -12,3 +13,13 @@ Numbers = BTreeMap ClauseKey ℕ
 -- the clauses whose counters stand at 0, and no others
 abbrev pub AreUnmet : Numbers → BTreeSet ClauseKey → Type 0
 AreUnmet numbers unmet = (k : ClauseKey) → contains clause_cmp unmet k ≡ option_map_or (λ n. nat_eq n 0) (get clause_cmp numbers k) false
+
+-- the number of a clause, once these clauses came in turn, each with its number
+abbrev pub entered : List (ClauseKey × ℕ) → ClauseKey → Option ℕ → Option ℕ
+entered [] k old = old
+entered (clause ∷ clauses) k old = entered clauses k (if is_eq (clause_cmp clause.0 k) then Some clause.1 else old)
+
+-- whether a clause stands at 0, once these clauses came in turn
+abbrev pub marked : List (ClauseKey × ℕ) → ClauseKey → Bool → Bool
+marked [] k old = old
+marked (clause ∷ clauses) k old = marked clauses k (if is_eq (clause_cmp clause.0 k) then nat_eq clause.1 0 else old)

@@ -1,17 +1,17 @@
 //! Stanzas come: their offers first, and then their atoms, so that a pair of their own is tested once.
 
-ghost use Rattle.std.specs.Prelude.{◌≡◌, ◌+◌, ◌≤◌, ◌<◌, ◌^◌, ℕ, List, OnOk, IfOk, Some, length, if◌then◌else◌};
+ghost use Rattle.std.specs.Prelude.{◌≡◌, ◌+◌, ◌≤◌, ◌<◌, ◌^◌, ℕ, List, OnOk, IfOk, Option, Some, length, if◌then◌else◌};
 ghost use Rattle.std.specs.BTreeMap.{get};
 ghost use Rattle.ctl_relation.specs.Bounds.{atom_count};
 ghost use Rattle.ctl_index.specs.Clauses.{clause_cmp};
 ghost use Rattle.ctl_index.specs.Names.{naming_fields};
 ghost use Rattle.ctl_index.specs.TablesByName.{offers_under, namers_under, rows_under};
+ghost use Rattle.ctl_index.specs.TablesCounters.{entered};
 ghost use Rattle.ctl_index.specs.TablesSight.{seen};
 ghost use Rattle.ctl_index.specs.TablesSteps.{listed_offers, listed_group, listed_groups, listed_fields, group_met, group_tested, groups_tested, fields_tested, is_clause, entered_groups, entered_fields, raised, all_tested, with_found, with_each, of_found, put_offers_step, put_atoms_step, raise_step, enter_step, offers_tests, offers_tested, atoms_tested};
 ghost use Rattle.ctl_index.specs.Work.{more_by};
 ghost use Rattle.ctl_stanza.specs.Content.{groups_of};
 
-use crate::counters::Counters;
 use crate::counting::is_clause_field;
 use crate::fields::naming_fields;
 use crate::keys::{AtomKey, ClauseKey, OfferKey};
@@ -131,15 +131,19 @@ fn put_group(
     Ok(met)
 }
 
-// The counter of a group with this number, where the group is a clause.
-fn enter(counters: &mut Counters, clause: ClauseKey, number: u128) -> Result<(), AllocError>
-    ensures { OnOk result ((k : ClauseKey) → get clause_cmp counters.new.numbers k ≡ (if is_clause clause k then Some number else get clause_cmp counters.old.numbers k)) }
+// The counter of a group with this number, where the group is a clause, comes to those that are to be entered.
+#[tactic(auto, using(crate::proofs::CounterLemmas::entered_push))]
+fn list_clause(
+    clauses: &mut Vec<(ClauseKey, u128)>,
+    clause: ClauseKey,
+    number: u128,
+) -> Result<(), AllocError>
+    ensures { OnOk result ((k : ClauseKey) → (o : Option ℕ) → entered clauses.new.items k o ≡ (if is_clause clause k then Some number else entered clauses.old.items k o)) }
 {
     if is_clause_field(clause.field) {
-        counters.enter(clause, number)
-    } else {
-        Ok(())
+        clauses.push((clause, number))?;
     }
+    Ok(())
 }
 
 fn put_groups(
@@ -148,17 +152,18 @@ fn put_groups(
     key: StanzaKey,
     field: FieldKind,
     groups: Groups<'_>,
-    tables: &mut Tables,
+    names: &mut NameTable,
+    clauses: &mut Vec<(ClauseKey, u128)>,
     steps: &mut Steps,
 ) -> Result<(), AllocError>
     requires count { length groups < 2 ^ 32 }
     requires few { atom_count groups < 2 ^ 32 }
-    ensures namers { OnOk result ((q : List ℕ) → namers_under tables.new.names.map q ≡ listed_groups key field q 0 groups.entry (namers_under tables.old.names.map q)) }
-    ensures offers { OnOk result (offers_under tables.new.names.map ≡ offers_under tables.old.names.map) }
-    ensures rows { OnOk result (rows_under tables.new.names.map ≡ rows_under tables.old.names.map) }
-    ensures counts { OnOk result ((k : ClauseKey) → get clause_cmp tables.new.counters.numbers k ≡ entered_groups sight.now (offers_under tables.old.names.map) key field 0 groups.entry k (get clause_cmp tables.old.counters.numbers k)) }
-    ensures steps { OnOk result (steps.new ≡ more_by (groups_tested sight.now field (offers_under tables.old.names.map) groups.entry) steps.old) }
-    ensures most { steps.new ≤ more_by (groups_tested sight.now field (offers_under tables.old.names.map) groups.entry) steps.old }
+    ensures namers { OnOk result ((q : List ℕ) → namers_under names.new.map q ≡ listed_groups key field q 0 groups.entry (namers_under names.old.map q)) }
+    ensures offers { OnOk result (offers_under names.new.map ≡ offers_under names.old.map) }
+    ensures rows { OnOk result (rows_under names.new.map ≡ rows_under names.old.map) }
+    ensures counts { OnOk result ((k : ClauseKey) → (o : Option ℕ) → entered clauses.new.items k o ≡ entered_groups sight.now (offers_under names.old.map) key field 0 groups.entry k (entered clauses.old.items k o)) }
+    ensures steps { OnOk result (steps.new ≡ more_by (groups_tested sight.now field (offers_under names.old.map) groups.entry) steps.old) }
+    ensures most { steps.new ≤ more_by (groups_tested sight.now field (offers_under names.old.map) groups.entry) steps.old }
 {
     let _count = steps.count();
     let mut place = 0;
@@ -168,8 +173,8 @@ fn put_groups(
             field,
             group: place,
         };
-        let met = put_group(alloc, sight, clause, &group, &mut tables.names, steps)?;
-        enter(&mut tables.counters, clause, met)?;
+        let met = put_group(alloc, sight, clause, &group, names, steps)?;
+        list_clause(clauses, clause, met)?;
         place += 1;
     }
     Ok(())
@@ -182,18 +187,19 @@ fn put_field(
     key: StanzaKey,
     stanza: &Stanza,
     field: FieldKind,
-    tables: &mut Tables,
+    names: &mut NameTable,
+    clauses: &mut Vec<(ClauseKey, u128)>,
     steps: &mut Steps,
 ) -> Result<(), AllocError>
-    ensures namers { OnOk result ((q : List ℕ) → namers_under tables.new.names.map q ≡ listed_groups key field q 0 (groups_of field stanza.now) (namers_under tables.old.names.map q)) }
-    ensures offers { OnOk result (offers_under tables.new.names.map ≡ offers_under tables.old.names.map) }
-    ensures rows { OnOk result (rows_under tables.new.names.map ≡ rows_under tables.old.names.map) }
-    ensures counts { OnOk result ((k : ClauseKey) → get clause_cmp tables.new.counters.numbers k ≡ entered_groups sight.now (offers_under tables.old.names.map) key field 0 (groups_of field stanza.now) k (get clause_cmp tables.old.counters.numbers k)) }
-    ensures steps { OnOk result (steps.new ≡ more_by (groups_tested sight.now field (offers_under tables.old.names.map) (groups_of field stanza.now)) steps.old) }
-    ensures most { steps.new ≤ more_by (groups_tested sight.now field (offers_under tables.old.names.map) (groups_of field stanza.now)) steps.old }
+    ensures namers { OnOk result ((q : List ℕ) → namers_under names.new.map q ≡ listed_groups key field q 0 (groups_of field stanza.now) (namers_under names.old.map q)) }
+    ensures offers { OnOk result (offers_under names.new.map ≡ offers_under names.old.map) }
+    ensures rows { OnOk result (rows_under names.new.map ≡ rows_under names.old.map) }
+    ensures counts { OnOk result ((k : ClauseKey) → (o : Option ℕ) → entered clauses.new.items k o ≡ entered_groups sight.now (offers_under names.old.map) key field 0 (groups_of field stanza.now) k (entered clauses.old.items k o)) }
+    ensures steps { OnOk result (steps.new ≡ more_by (groups_tested sight.now field (offers_under names.old.map) (groups_of field stanza.now)) steps.old) }
+    ensures most { steps.new ≤ more_by (groups_tested sight.now field (offers_under names.old.map) (groups_of field stanza.now)) steps.old }
 {
     let groups = stanza.groups(field);
-    put_groups(alloc, sight, key, field, groups, tables, steps)
+    put_groups(alloc, sight, key, field, groups, names, clauses, steps)
 }
 
 // The groups of these fields.
@@ -203,19 +209,20 @@ fn put_fields(
     key: StanzaKey,
     stanza: &Stanza,
     fields: &[FieldKind],
-    tables: &mut Tables,
+    names: &mut NameTable,
+    clauses: &mut Vec<(ClauseKey, u128)>,
     steps: &mut Steps,
 ) -> Result<(), AllocError>
-    ensures namers { OnOk result ((q : List ℕ) → namers_under tables.new.names.map q ≡ listed_fields key stanza.now q fields.now (namers_under tables.old.names.map q)) }
-    ensures offers { OnOk result (offers_under tables.new.names.map ≡ offers_under tables.old.names.map) }
-    ensures rows { OnOk result (rows_under tables.new.names.map ≡ rows_under tables.old.names.map) }
-    ensures counts { OnOk result ((k : ClauseKey) → get clause_cmp tables.new.counters.numbers k ≡ entered_fields sight.now (offers_under tables.old.names.map) key stanza.now fields.now k (get clause_cmp tables.old.counters.numbers k)) }
-    ensures steps { OnOk result (steps.new ≡ more_by (fields_tested sight.now (offers_under tables.old.names.map) fields.now stanza.now) steps.old) }
-    ensures most { steps.new ≤ more_by (fields_tested sight.now (offers_under tables.old.names.map) fields.now stanza.now) steps.old }
+    ensures namers { OnOk result ((q : List ℕ) → namers_under names.new.map q ≡ listed_fields key stanza.now q fields.now (namers_under names.old.map q)) }
+    ensures offers { OnOk result (offers_under names.new.map ≡ offers_under names.old.map) }
+    ensures rows { OnOk result (rows_under names.new.map ≡ rows_under names.old.map) }
+    ensures counts { OnOk result ((k : ClauseKey) → (o : Option ℕ) → entered clauses.new.items k o ≡ entered_fields sight.now (offers_under names.old.map) key stanza.now fields.now k (entered clauses.old.items k o)) }
+    ensures steps { OnOk result (steps.new ≡ more_by (fields_tested sight.now (offers_under names.old.map) fields.now stanza.now) steps.old) }
+    ensures most { steps.new ≤ more_by (fields_tested sight.now (offers_under names.old.map) fields.now stanza.now) steps.old }
 {
     let _count = steps.count();
     for field in fields {
-        put_field(alloc, sight, key, stanza, *field, tables, steps)?;
+        put_field(alloc, sight, key, stanza, *field, names, clauses, steps)?;
     }
     Ok(())
 }
@@ -225,21 +232,54 @@ fn put_atoms_at(
     alloc: Global,
     sight: &Sight<'_>,
     key: StanzaKey,
-    tables: &mut Tables,
+    names: &mut NameTable,
+    clauses: &mut Vec<(ClauseKey, u128)>,
     steps: &mut Steps,
 ) -> Result<(), AllocError>
-    ensures namers { OnOk result ((q : List ℕ) → namers_under tables.new.names.map q ≡ with_found (seen sight.now) (put_atoms_step q) key (namers_under tables.old.names.map q)) }
-    ensures offers { OnOk result (offers_under tables.new.names.map ≡ offers_under tables.old.names.map) }
-    ensures rows { OnOk result (rows_under tables.new.names.map ≡ rows_under tables.old.names.map) }
-    ensures counts { OnOk result ((k : ClauseKey) → get clause_cmp tables.new.counters.numbers k ≡ with_found (seen sight.now) (enter_step sight.now (offers_under tables.old.names.map) k) key (get clause_cmp tables.old.counters.numbers k)) }
-    ensures steps { OnOk result (steps.new ≡ more_by (of_found (seen sight.now) (fields_tested sight.now (offers_under tables.old.names.map) naming_fields) key) steps.old) }
-    ensures most { steps.new ≤ more_by (of_found (seen sight.now) (fields_tested sight.now (offers_under tables.old.names.map) naming_fields) key) steps.old }
+    ensures namers { OnOk result ((q : List ℕ) → namers_under names.new.map q ≡ with_found (seen sight.now) (put_atoms_step q) key (namers_under names.old.map q)) }
+    ensures offers { OnOk result (offers_under names.new.map ≡ offers_under names.old.map) }
+    ensures rows { OnOk result (rows_under names.new.map ≡ rows_under names.old.map) }
+    ensures counts { OnOk result ((k : ClauseKey) → (o : Option ℕ) → entered clauses.new.items k o ≡ with_found (seen sight.now) (enter_step sight.now (offers_under names.old.map) k) key (entered clauses.old.items k o)) }
+    ensures steps { OnOk result (steps.new ≡ more_by (of_found (seen sight.now) (fields_tested sight.now (offers_under names.old.map) naming_fields) key) steps.old) }
+    ensures most { steps.new ≤ more_by (of_found (seen sight.now) (fields_tested sight.now (offers_under names.old.map) naming_fields) key) steps.old }
 {
     let _count = steps.count();
     match stanza_at(sight, key) {
-        Some(stanza) => put_fields(alloc, sight, key, stanza, naming_fields(), tables, steps),
+        Some(stanza) => put_fields(
+            alloc,
+            sight,
+            key,
+            stanza,
+            naming_fields(),
+            names,
+            clauses,
+            steps,
+        ),
         None => Ok(()),
     }
+}
+
+// The atoms of the stanzas under these keys, and the clauses that come with them.
+fn list_atoms(
+    alloc: Global,
+    sight: &Sight<'_>,
+    keys: &[StanzaKey],
+    names: &mut NameTable,
+    clauses: &mut Vec<(ClauseKey, u128)>,
+    steps: &mut Steps,
+) -> Result<(), AllocError>
+    ensures namers { OnOk result ((q : List ℕ) → namers_under names.new.map q ≡ with_each (seen sight.now) (put_atoms_step q) keys.now (namers_under names.old.map q)) }
+    ensures offers { OnOk result (offers_under names.new.map ≡ offers_under names.old.map) }
+    ensures rows { OnOk result (rows_under names.new.map ≡ rows_under names.old.map) }
+    ensures counts { OnOk result ((k : ClauseKey) → (o : Option ℕ) → entered clauses.new.items k o ≡ with_each (seen sight.now) (enter_step sight.now (offers_under names.old.map) k) keys.now (entered clauses.old.items k o)) }
+    ensures steps { OnOk result (steps.new ≡ more_by (atoms_tested sight.now (offers_under names.old.map) keys.now) steps.old) }
+    ensures most { steps.new ≤ more_by (atoms_tested sight.now (offers_under names.old.map) keys.now) steps.old }
+{
+    let _count = steps.count();
+    for key in keys {
+        put_atoms_at(alloc, sight, *key, names, clauses, steps)?;
+    }
+    Ok(())
 }
 
 /// The atoms of the stanzas under these keys, whose offers are listed. They are listed, and each clause comes with the number of
@@ -258,9 +298,7 @@ pub(crate) fn put_atoms(
     ensures steps { OnOk result (steps.new ≡ more_by (atoms_tested sight.now (offers_under tables.old.names.map) keys.now) steps.old) }
     ensures most { steps.new ≤ more_by (atoms_tested sight.now (offers_under tables.old.names.map) keys.now) steps.old }
 {
-    let _count = steps.count();
-    for key in keys {
-        put_atoms_at(alloc, sight, *key, tables, steps)?;
-    }
-    Ok(())
+    let mut clauses = Vec::new(alloc);
+    list_atoms(alloc, sight, keys, &mut tables.names, &mut clauses, steps)?;
+    tables.counters.enter(alloc, clauses)
 }

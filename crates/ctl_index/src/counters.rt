@@ -1,11 +1,11 @@
 //! The number of each clause, and the clauses at 0.
 
-ghost use Rattle.std.specs.Prelude.{◌≡◌, ◌+◌, ◌-◌, ℕ, None, Some, false, OnOk, OnErr, option_map, if◌then◌else◌};
+ghost use Rattle.std.specs.Prelude.{◌≡◌, ◌+◌, ◌-◌, ℕ, None, false, OnOk, OnErr, option_map, if◌then◌else◌};
 ghost use Rattle.std.specs.BTreeMap.{get, IsEmpty};
 ghost use Rattle.std.specs.BTreeSet.{contains};
 ghost use Rattle.std.specs.Ordering.{is_eq};
 ghost use Rattle.ctl_index.specs.Clauses.{clause_cmp};
-ghost use Rattle.ctl_index.specs.TablesCounters.{AreUnmet};
+ghost use Rattle.ctl_index.specs.TablesCounters.{AreUnmet, entered, marked};
 
 use crate::keys::ClauseKey;
 use std::alloc::{AllocError, Global};
@@ -61,13 +61,54 @@ fn unmark(unmet: &mut BTreeSet<ClauseKey>, key: ClauseKey, was_unmet: bool)
     }
 }
 
-// Takes a clause out.
-fn forget(numbers: &mut BTreeMap<ClauseKey, u128>, unmet: &mut BTreeSet<ClauseKey>, key: ClauseKey)
-    ensures numbers { (k : ClauseKey) → get clause_cmp numbers.new k ≡ (if is_eq (clause_cmp key k) then None else get clause_cmp numbers.old k) }
-    ensures unmet { (k : ClauseKey) → contains clause_cmp unmet.new k ≡ (if is_eq (clause_cmp key k) then false else contains clause_cmp unmet.old k) }
+// Notes of each of these clauses in turn whether it is among those at 0.
+fn mark_all(
+    unmet: &mut BTreeSet<ClauseKey>,
+    clauses: &[(ClauseKey, u128)],
+) -> Result<(), AllocError>
+    ensures { OnOk result ((k : ClauseKey) → contains clause_cmp unmet.new k ≡ marked clauses.now k (contains clause_cmp unmet.old k)) }
 {
-    let _ = numbers.remove(&key);
-    let _ = unmet.remove(&key);
+    for clause in clauses {
+        mark(unmet, clause.0, clause.1 == 0)?;
+    }
+    Ok(())
+}
+
+// These clauses come to those that are there.
+fn append_all(
+    alloc: Global,
+    clauses: Vec<(ClauseKey, u128)>,
+    numbers: &mut BTreeMap<ClauseKey, u128>,
+    unmet: &mut BTreeSet<ClauseKey>,
+) -> Result<(), AllocError>
+    ensures numbers { OnOk result ((k : ClauseKey) → get clause_cmp numbers.new k ≡ entered clauses.items k (get clause_cmp numbers.old k)) }
+    ensures unmet { OnOk result (AreUnmet numbers.old unmet.old → AreUnmet numbers.new unmet.new) }
+{
+    mark_all(unmet, &clauses)?;
+    let mut coming = BTreeMap::from_iter(alloc, clauses)?;
+    numbers.append(&mut coming)?;
+    Ok(())
+}
+
+// The same, where no clause is left if memory ends in the middle.
+#[tactic(auto, using(crate::proofs::CounterLemmas::unmet_none))]
+fn enter_all(
+    alloc: Global,
+    clauses: Vec<(ClauseKey, u128)>,
+    numbers: &mut BTreeMap<ClauseKey, u128>,
+    unmet: &mut BTreeSet<ClauseKey>,
+) -> Result<(), AllocError>
+    ensures numbers { OnOk result ((k : ClauseKey) → get clause_cmp numbers.new k ≡ entered clauses.items k (get clause_cmp numbers.old k)) }
+    ensures unmet { AreUnmet numbers.old unmet.old → AreUnmet numbers.new unmet.new }
+{
+    match append_all(alloc, clauses, numbers, unmet) {
+        Ok(()) => Ok(()),
+        Err(error) => {
+            numbers.clear();
+            unmet.clear();
+            Err(error)
+        }
+    }
 }
 
 impl Counters {
@@ -102,18 +143,17 @@ impl Counters {
         &self.unmet
     }
 
-    /// The clause comes, with this number.
-    pub(crate) fn enter(&mut self, key: ClauseKey, number: u128) -> Result<(), AllocError>
-        ensures { OnOk result ((k : ClauseKey) → get clause_cmp self.new.numbers k ≡ (if is_eq (clause_cmp key k) then Some number else get clause_cmp self.old.numbers k)) }
+    /// These clauses come, each with its number. They come together, since a tree that is made of many keys at once has full
+    /// nodes, while one to which keys come one by one in their order has nodes that are half empty. Where memory is refused, no
+    /// clause is left.
+    pub(crate) fn enter(
+        &mut self,
+        alloc: Global,
+        clauses: Vec<(ClauseKey, u128)>,
+    ) -> Result<(), AllocError>
+        ensures { OnOk result ((k : ClauseKey) → get clause_cmp self.new.numbers k ≡ entered clauses.items k (get clause_cmp self.old.numbers k)) }
     {
-        let old = self.numbers.insert(key, number)?;
-        match note(&mut self.unmet, key, matches!(old, Some(0)), number == 0) {
-            Ok(()) => Ok(()),
-            Err(error) => {
-                forget(&mut self.numbers, &mut self.unmet, key);
-                Err(error)
-            }
-        }
+        enter_all(alloc, clauses, &mut self.numbers, &mut self.unmet)
     }
 
     /// The clause goes.

@@ -5,7 +5,7 @@ use Rattle.ctl_store.specs.declared.stanza_key.StanzaKey.{StanzaKey}
 use Rattle.ctl_store.specs.Keys.{AreHeld}
 use Rattle.ctl_store.specs.Held.{keyed_of}
 use Rattle.ctl_policy.specs.Keys.{or_none}
-use Rattle.ctl_policy.specs.Rows.{Rows, rows_named, AreRowsOf}
+use Rattle.ctl_policy.specs.Rows.{Rows, AreRowsOf}
 use Rattle.ctl_index.specs.Held.{HeldCache}
 use Rattle.ctl_index.specs.RowsTold.{row_at}
 use Rattle.ctl_index.proofs.cache.Cache.row.Goals as goal

@@ -1,6 +1,5 @@
-use Rattle.std.proofs.Common.{List, map, ap, sym, subst, ◌∙◌}
+use Rattle.std.proofs.Common.{ap, sym, subst, ◌∙◌}
 use Rattle.std.specs.List.{AllByRecursion}
-use Rattle.ctl_store.specs.declared.stanza_key.StanzaKey.{StanzaKey}
 use Rattle.ctl_store.specs.Keys.{AreHeld}
 use Rattle.ctl_store.specs.Held.{keyed_of}
 use Rattle.ctl_policy.specs.Rows.{Rows, AreRowsOf}
