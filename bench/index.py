@@ -8,22 +8,21 @@ file in the same run; then the memory of the tables, table by table; then a list
 the same stanzas; a stanza of the most named package that is taken out and put in again in turn; and lists with chosen
 names, at half their size and whole, where twice is what a list that costs each stanza the same takes. The times of edits are those of
 the edit alone, without the reading of its stanzas. Each time is the least of some runs. Without PACKAGES a list of 60,000 stanzas is
-made. `rt run` in crates/probe builds the program that is measured.
+made. `rt run` in crates/probe builds the program that is measured; the variable PROBE of the environment names another.
 
 The limits are printed beside the numbers. Nothing is refused by them: a busy machine passes them at times."""
 
 import os
-import pathlib
 import random
 import re
 import subprocess
 import sys
 import tempfile
 
-from held import Held, built_library
+from held import REFUSALS, built_library, held_after
+from list_edits import PROBE, added, dropped, need_probe, put, removed
 from lists import ROUNDS, Way, in_a_process_of_its_own, made_list, peers
 
-PROBE = pathlib.Path(__file__).resolve().parent.parent / "crates/probe/out/probe"
 RUNS = 3
 TURNS = 20
 HALF = 30_000
@@ -39,27 +38,6 @@ def stanzas_of(path):
     """The stanzas of a file, in its order."""
     with open(path, encoding="utf-8", errors="surrogateescape") as file:
         return [stanza.strip("\n") + "\n" for stanza in file.read().split("\n\n") if stanza.strip("\n")]
-
-
-def hexadecimal(text):
-    return text.encode("utf-8", "surrogateescape").hex()
-
-
-def added(name, stanzas):
-    """The line that adds a list."""
-    return f"add-list\t{hexadecimal(name)}\tpackages\tplain\t" + hexadecimal("\n".join(stanzas)) + "\n"
-
-
-def dropped(name):
-    return f"drop-list\t{hexadecimal(name)}\n"
-
-
-def put(name, stanza):
-    return f"put\t{hexadecimal(name)}\tpackages\t{hexadecimal(stanza)}\n"
-
-
-def removed(name, package, version):
-    return f"remove\t{hexadecimal(name)}\t{hexadecimal(package)}\t{hexadecimal(version)}\n"
 
 
 # Loading
@@ -120,12 +98,7 @@ def counts_of(stanzas):
 
 def held_by(subject, stanzas, library, folder):
     """The bytes that a program holds for a list."""
-    refused = (b"unmark\t61\n", b"refused" if subject == "index" else b"foretold")
-    held = Held([str(PROBE), subject], library, folder, refused)
-    before = held.after(b"")
-    taken = held.after(added("main", stanzas).encode()) - before
-    held.end()
-    return taken
+    return held_after([str(PROBE), subject], added("main", stanzas).encode(), library, folder, REFUSALS[subject])
 
 
 def measure_memory(stanzas, folder):
@@ -278,8 +251,7 @@ def write_made(path):
 
 
 def main(words):
-    if not PROBE.exists():
-        raise SystemExit("%s is missing: build it with `rt run` in crates/probe" % PROBE)
+    need_probe()
     with tempfile.TemporaryDirectory() as folder:
         os.chmod(folder, 0o755)
         path = os.path.join(folder, "Packages")

@@ -13,7 +13,8 @@ import os
 import pathlib
 import tempfile
 
-from index import added, hexadecimal, put, removed, times_of
+from index import times_of
+from list_edits import added, hexadecimal, put, removed
 
 TURNS = 500
 VERSIONS = 100_000

@@ -16,7 +16,8 @@
 //!   answered by `ok`, the keys that went and came and the text of the first stanza that came, or by `foretold` and the number
 //!   of the refusal that is foretold, and `refused` and the number of that which comes. `limits`, with how many stanzas and
 //!   edits, begins with a new store, and `dump`, with the names of packages, is answered by all that the store holds and the
-//!   marks of these packages.
+//!   marks of these packages. With a second argument `measure` each edit is answered by what came of it and how long it took,
+//!   without the reading of its line.
 //!
 //! With `packages` or `status` as second argument of `store` or `index` the whole of standard input is one such list, which is
 //! added, and how many stanzas there are is printed.
@@ -89,8 +90,10 @@ enum Asked {
     Held(ListKind),
     /// What a cache follows of one list of this kind.
     Followed(ListKind),
+    /// How long edits of a store take.
+    StoreTimes,
     /// How long edits of a cache take.
-    Times,
+    CacheTimes,
 }
 
 fn read_arguments(rt: &HostRuntime) -> Result<Asked> {
@@ -105,8 +108,9 @@ fn read_arguments(rt: &HostRuntime) -> Result<Asked> {
             let kind = text_kind_named(word.as_str()).context("a kind that is not known")?;
             Ok(Asked::Count(kind))
         }
+        (Subject::Store, Some(word)) if word.as_str() == "measure" => Ok(Asked::StoreTimes),
         (Subject::Store, Some(word)) => Ok(Asked::Held(kind_named(word.as_str())?)),
-        (Subject::Index, Some(word)) if word.as_str() == "measure" => Ok(Asked::Times),
+        (Subject::Index, Some(word)) if word.as_str() == "measure" => Ok(Asked::CacheTimes),
         (Subject::Index, Some(word)) => Ok(Asked::Followed(kind_named(word.as_str())?)),
         (subject, _) => Ok(Asked::Answers(subject)),
     }
@@ -214,6 +218,7 @@ fn main(rt: HostRuntime) -> Result<()> {
         Asked::Count(kind) => count_parts(&rt, kind),
         Asked::Held(kind) => hold_list(&rt, kind),
         Asked::Followed(kind) => follow_list(&rt, kind),
-        Asked::Times => measure::measure_edits(&rt),
+        Asked::StoreTimes => measure::measure_changes(&rt),
+        Asked::CacheTimes => measure::measure_edits(&rt),
     }
 }

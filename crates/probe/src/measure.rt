@@ -1,12 +1,14 @@
-//! How much time and memory the reading of fields takes, and how much time edits of a cache take.
+//! How much time and memory the reading of fields takes, and how much time edits of a store and of a cache take.
 
 use crate::caches::apply;
 use crate::edits::edit_named;
 use crate::relations::Field;
+use crate::stores::change;
 use crate::words::Words;
 use anyhow::{Context, Result};
 use ctl_index::Cache;
 use ctl_relation::{Relations, parse_relations};
+use ctl_store::Store;
 use std::alloc::{AllocError, Global};
 use std::fs;
 use std::io::{BufRead, BufReader};
@@ -48,7 +50,34 @@ fn atom_count(relations: &[Relations<'_>]) -> u64 {
     count
 }
 
-// Makes the edit of a line, and prints what comes of it, the count of tests and the nanoseconds that it took.
+// Makes the edit of a line in a store, and prints what comes of it and the nanoseconds that it took.
+fn measure_change(rt: &HostRuntime, store: &mut Store, line: &str) -> Result<()> {
+    let mut words = Words::new(rt.alloc(), line);
+    let word = words.word()?;
+    let edit = edit_named(rt.alloc(), word, &mut words)?;
+    let start = Instant::now(rt)?;
+    let refused = change(store, edit).is_err();
+    let nanoseconds = start.elapsed(rt)?.as_nanos();
+    let outcome = if refused { "refused" } else { "ok" };
+    println!(rt; "{word} {outcome} nanoseconds {nanoseconds}")?;
+    Ok(())
+}
+
+fn measure_change_lines(rt: &HostRuntime, store: &mut Store) -> Result<()> {
+    let alloc = rt.alloc();
+    for line in BufReader::new(alloc, rt.reader())?.lines(alloc) {
+        measure_change(rt, store, line?.as_str())?;
+    }
+    Ok(())
+}
+
+/// Makes the edits of standard input in a new store, and prints a line for each.
+pub fn measure_changes(rt: &HostRuntime) -> Result<()> {
+    let mut store = Store::new(rt.alloc());
+    measure_change_lines(rt, &mut store)
+}
+
+// Makes the edit of a line in a cache, and prints what comes of it, the count of tests and the nanoseconds that it took.
 fn measure_edit(rt: &HostRuntime, cache: &mut Cache, line: &str) -> Result<()> {
     let mut words = Words::new(rt.alloc(), line);
     let word = words.word()?;

@@ -82,13 +82,21 @@ fn append_foretold(
     }
 }
 
-/// Makes an edit that the store accepts.
-pub fn make(store: &mut Store, edit: Edit) -> Result<()> {
+/// Makes an edit, where the store accepts it.
+pub fn change(store: &mut Store, edit: Edit) -> Result<(), Refusal> {
     match store.prepare(edit) {
         Ok(plan) => {
             store.commit(plan);
             Ok(())
         }
+        Err((_, why)) => Err(why),
+    }
+}
+
+/// Makes an edit that the store accepts.
+pub fn make(store: &mut Store, edit: Edit) -> Result<()> {
+    match change(store, edit) {
+        Ok(()) => Ok(()),
         Err(_) => bail!("an edit that is refused"),
     }
 }
