@@ -68,10 +68,10 @@ bench-report:
 	cp out/growth.svg docs/growth.svg
 
 bench-parts: $(PROGRAM)
+	cd crates/probe && rt run < stdin > /dev/null
 	python3 bench/lists.py $(PROGRAM) $(FILE)
 	python3 bench/stores.py $(PROGRAM) $(FILE)
 	python3 bench/refusals.py $(PROGRAM)
-	cd crates/probe && rt run < stdin > /dev/null
 	python3 bench/texts.py $(FILE)
 	python3 bench/index.py $(FILE)
 ifdef FILE
