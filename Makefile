@@ -12,7 +12,7 @@ help:
 	@echo 'make demo      runs the examples with an unproved quick build, and compares what they print'
 	@echo 'make build     proves the program and leaves it as $(PROGRAM)'
 	@echo 'make test      the whole gate: demo, test-tools, prove, test-program and edits, up to the first that fails; KEEP_GOING=1 runs all'
-	@echo 'make prove     every proof, the named wrong bodies, the tests, the programs; what this machine has proved of the same files it takes'
+	@echo 'make prove     every proof, the named wrong bodies, the tests, the programs'
 	@echo 'make edits     the edits that must fail, many in one check; CRATES=".." and EDITS=".." name some, JOBS=N sets how many checks run at once, ANEW=1 tries those too that this machine saw refused'
 	@echo 'make bench     measures time and memory beside apt-cache, grep-dctrl and python-apt; FILE=.. names a Packages file, TIMES=1,2 how often it is taken'
 	@echo 'make bench-report  puts the table and the chart of the last make bench into docs/'

@@ -7,8 +7,8 @@ As a part ends, a line says how long it took. A part that fails stops the gate, 
 --keep-going is given. The last line is 'N passed, M failed', the sum over all parts that ran; the status is 1 where anything failed.
 
 The proofs are a chain from crate to crate. So with four processors or more the edits are tried beside them, with what the proofs
-leave of the processors and of the memory, and what the edits print comes behind what the proofs do. Both parts take what this
-machine has proved or refused of the same files, and do what has changed."""
+leave of the processors and of the memory, and what the edits print comes behind what the proofs do. The edits that this
+machine has seen refused over the same files are not tried again; whether a proof is made again is the kit's to say."""
 
 import concurrent.futures
 import dataclasses
