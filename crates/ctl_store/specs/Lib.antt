@@ -17,6 +17,7 @@ pub mod Edits
 pub mod Places
 pub mod Step
 pub mod Rows
+pub mod Fronts
 pub mod HeldPieces
 pub mod HeldRanks
 pub mod HeldPins

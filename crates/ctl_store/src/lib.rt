@@ -2,6 +2,7 @@
 #![tactic(auto)]
 
 mod edit;
+mod fronts;
 mod items;
 mod label;
 mod laws;

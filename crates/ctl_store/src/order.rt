@@ -8,10 +8,12 @@ ghost use Rattle.std.specs.Option.{option_cmp};
 ghost use Rattle.ctl_store.specs.Step.{place};
 ghost use Rattle.ctl_store.specs.Rows.{IsKept, Rises, id, id_of, id_cmp, ids_of, sorted_ids, sorted_serials, lower, order_at, place_cmp, rows_from, version_order, version_id, by_name_and_version};
 ghost use Rattle.std.specs.Ordering.{is_lt};
+ghost use Rattle.ctl_store.specs.Fronts.{front_of};
 ghost use Rattle.ctl_store.specs.HeldPieces.{joined, last_passes, place_of_spot, ArePieces, IsSpot, IsSpotOrEnd};
 
+use crate::fronts::{FRONT_LEN, front_of};
 use crate::pieces::Spot;
-use crate::rows::{Row, spot_of, stanza_of};
+use crate::rows::{Row, row_of, spot_of};
 use ctl_relation::Version;
 use ctl_stanza::Stanza;
 use std::cmp::Ordering;
@@ -36,26 +38,57 @@ fn compare(stanza: &Stanza, name: &[u8], version: Option<&Version>) -> Ordering
     }
 }
 
-// How the row of a serial stands to a name and a version.
-fn compare_row(rows: &[Vec<Row>], serial: u64, name: &[u8], version: Option<&Version>) -> Ordering
+// How a row stands to a name, whose front is given, and a version. Where the fronts differ they tell it, and nothing is read
+// of the stanza, which stands elsewhere in memory.
+fn compare_found(
+    row: &Row,
+    front: &[u8; FRONT_LEN],
+    name: &[u8],
+    version: Option<&Version>,
+) -> Ordering
+    requires { front.now ≡ front_of name.now }
+    ensures { result ≡ id_cmp (id_of row.now.1) (id name.now (option_copied version.entry)) }
+{
+    match row.front().cmp(front) {
+        Ordering::Equal => compare(row.stanza(), name, version),
+        unequal => unequal,
+    }
+}
+
+// How the row of a serial stands to a name, whose front is given, and a version.
+fn compare_row(
+    rows: &[Vec<Row>],
+    serial: u64,
+    front: &[u8; FRONT_LEN],
+    name: &[u8],
+    version: Option<&Version>,
+) -> Ordering
     requires pieces { ArePieces rows.now }
     requires rises { (n : ℕ) × (m : ℕ) × Rises n (joined rows.now) m }
+    requires front { front.now ≡ front_of name.now }
     ensures { result ≡ order_at (joined rows.now) (id name.now (option_copied version.entry)) serial }
 {
-    match stanza_of(rows, serial) {
-        Some(stanza) => compare(stanza, name, version),
+    match row_of(rows, serial) {
+        Some(row) => compare_found(row, front, name, version),
         None => Ordering::Less,
     }
 }
 
-// Whether the row of the last of some serials comes before a name and a version.
-fn ends_before(rows: &[Vec<Row>], serials: &[u64], name: &[u8], version: Option<&Version>) -> bool
+// Whether the row of the last of some serials comes before a name, whose front is given, and a version.
+fn ends_before(
+    rows: &[Vec<Row>],
+    serials: &[u64],
+    front: &[u8; FRONT_LEN],
+    name: &[u8],
+    version: Option<&Version>,
+) -> bool
     requires pieces { ArePieces rows.now }
     requires rises { (n : ℕ) × (m : ℕ) × Rises n (joined rows.now) m }
+    requires front { front.now ≡ front_of name.now }
     ensures { result ≡ last_passes (λ serial. is_lt (order_at (joined rows.now) (id name.now (option_copied version.entry)) serial)) serials.now }
 {
     match serials.last() {
-        Some(serial) => compare_row(rows, *serial, name, version).is_lt(),
+        Some(serial) => compare_row(rows, *serial, front, name, version).is_lt(),
         None => false,
     }
 }
@@ -117,19 +150,28 @@ pub(crate) fn sort_serials(stanzas: &[Box<Stanza>], order: &mut Vec<u64>)
     order.sort_unstable_by(|one, other| compare_places(stanzas, *one, *other));
 }
 
-// Where a name and a version stand, or would, in the order of rows.
-fn lower(rows: &[Vec<Row>], order: &[Vec<u64>], name: &[u8], version: Option<&Version>) -> Spot
+// Where a name, whose front is given, and a version stand, or would, in the order of rows.
+fn lower(
+    rows: &[Vec<Row>],
+    order: &[Vec<u64>],
+    front: &[u8; FRONT_LEN],
+    name: &[u8],
+    version: Option<&Version>,
+) -> Spot
     requires rows { ArePieces rows.now }
     requires order { ArePieces order.now }
     requires kept { (next : ℕ) × IsKept (joined rows.now) next (joined order.now) }
+    requires front { front.now ≡ front_of name.now }
     ensures place { place_of_spot order.now result ≡ lower (id name.now (option_copied version.entry)) (sorted_ids (ids_of (joined rows.now))) }
     ensures within { IsSpotOrEnd order.now result }
 {
-    let piece = order.partition_point(|serials| ends_before(rows, serials, name, version));
+    let piece = order.partition_point(|serials| ends_before(rows, serials, front, name, version));
     match order.get(piece) {
         Some(serials) => Spot {
             piece,
-            at: serials.partition_point(|serial| compare_row(rows, *serial, name, version).is_lt()),
+            at: serials.partition_point(|serial| compare_row(
+                rows, *serial, front, name, version,
+            ).is_lt()),
         },
         None => Spot { piece, at: 0 },
     }
@@ -152,12 +194,13 @@ pub(crate) fn look_up(
     // a row that is there is in the order
     ensures found { IfSome result.1 (λ _. IsSpot order.now result.0) }
 {
-    let spot = lower(rows, order, name, version);
+    let front = front_of(name);
+    let spot = lower(rows, order, &front, name, version);
     if spot.piece >= order.len() {
         return (spot, None);
     }
     let serial = order[spot.piece][spot.at];
-    if compare_row(rows, serial, name, version).is_eq() {
+    if compare_row(rows, serial, &front, name, version).is_eq() {
         (spot, spot_of(rows, serial))
     } else {
         (spot, None)

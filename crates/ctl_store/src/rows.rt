@@ -5,12 +5,14 @@ ghost use Rattle.std.specs.Bool.{OnTrue};
 ghost use Rattle.std.specs.Map.{lookup};
 ghost use Rattle.std.specs.Vec.{vec_capacity};
 ghost use Rattle.std.specs.List.{slice_index_or};
-ghost use Rattle.ctl_stanza.specs.Content.{Content};
+ghost use Rattle.ctl_stanza.specs.Content.{Content, package_of};
 ghost use Rattle.std.specs.List.Sorted.{IsPartitionPoint};
 ghost use Rattle.ctl_store.specs.Step.{place};
 ghost use Rattle.ctl_store.specs.Rows.{has_serial, Rises, replace_at};
+ghost use Rattle.ctl_store.specs.Fronts.{front_of};
 ghost use Rattle.ctl_store.specs.HeldPieces.{joined, last_passes, place_of_spot, ArePieces, IsSpot, IsSpotOrEnd};
 
+use crate::fronts::{FRONT_LEN, front_of};
 use crate::pieces::{MOST, Spot};
 use ctl_stanza::Stanza;
 use std::marker::Model;
@@ -19,29 +21,46 @@ use std::marker::Model;
 #[derive(Drop)]
 pub(crate) struct Row {
     serial: u64,
+    // The front of its package's name, by which most comparisons are decided without a look at the stanza.
+    front: [u8; FRONT_LEN],
     stanza: Box<Stanza>,
 }
 
 impl Model for Row {
-    ghost use Rattle.std.specs.Prelude.{ℕ};
-    ghost use Rattle.ctl_stanza.specs.Content.{Content};
+    ghost use Rattle.std.specs.Prelude.{◌≡◌, ℕ};
+    ghost use Rattle.ctl_stanza.specs.Content.{Content, package_of};
+    ghost use Rattle.ctl_store.specs.Fronts.{front_of};
 
     ghost Value = { ℕ × Content };
 
     ghost view = { λ row. (row.serial, row.stanza.value) };
+
+    ghost invariant = { λ row. row.front ≡ front_of (package_of row.stanza.value) };
 }
 
 impl Row {
     pub(crate) fn new(serial: u64, stanza: Box<Stanza>) -> Row
         ensures { result ≡ (serial, stanza.value) }
     {
-        Row { serial, stanza }
+        let front = front_of(stanza.package());
+        Row {
+            serial,
+            front,
+            stanza,
+        }
     }
 
     pub(crate) fn serial(&self) -> u64
         ensures { result ≡ self.now.0 }
     {
         self.serial
+    }
+
+    /// The front of its package's name.
+    pub(crate) fn front(&self) -> &[u8; FRONT_LEN]
+        ensures { result.now ≡ front_of (package_of self.now.1) }
+    {
+        &self.front
     }
 
     pub(crate) fn stanza(&self) -> &Stanza
@@ -53,6 +72,7 @@ impl Row {
     pub(crate) fn replace(&mut self, stanza: Box<Stanza>)
         ensures { self.new ≡ (self.old.0, stanza.value) }
     {
+        self.front = front_of(stanza.package());
         self.stanza = stanza;
     }
 }
@@ -175,14 +195,26 @@ pub(crate) fn replace_row(rows: &mut Vec<Vec<Row>>, spot: Spot, stanza: Box<Stan
     rows[spot.piece][spot.at].replace(stanza);
 }
 
+/// The row of a serial.
+pub(crate) fn row_of(rows: &[Vec<Row>], serial: u64) -> Option<&Row>
+    requires pieces { ArePieces rows.now }
+    requires rises { (n : ℕ) × (m : ℕ) × Rises n (joined rows.now) m }
+    ensures { option_map (λ row. row.1) (option_copied result) ≡ lookup (λ k. nat_eq k serial) (joined rows.now) }
+{
+    match spot_of(rows, serial) {
+        Some(spot) => Some(row_at(rows, spot)),
+        None => None,
+    }
+}
+
 /// The stanza of a serial.
 pub(crate) fn stanza_of(rows: &[Vec<Row>], serial: u64) -> Option<&Stanza>
     requires pieces { ArePieces rows.now }
     requires rises { (n : ℕ) × (m : ℕ) × Rises n (joined rows.now) m }
     ensures { option_copied result ≡ lookup (λ k. nat_eq k serial) (joined rows.now) }
 {
-    match spot_of(rows, serial) {
-        Some(spot) => Some(row_at(rows, spot).stanza()),
+    match row_of(rows, serial) {
+        Some(row) => Some(row.stanza()),
         None => None,
     }
 }

@@ -1,6 +1,6 @@
-use Rattle.std.proofs.Common.{◌≡◌, ◌∙◌, ◌<◌, ◌≤◌, ◌+◌, ◌++◌, List, Vec, ℕ, Global, length, drop, ap, sym, arith}
+use Rattle.std.proofs.Common.{◌∙◌, ◌<◌, ◌≤◌, ◌+◌, ◌++◌, length, drop, ap, arith}
 use Rattle.std.proofs.lemmas.List.{take_rest}
-use Rattle.ctl_store.specs.HeldPieces.{joined, length_at}
+use Rattle.ctl_store.specs.HeldPieces.{joined}
 use Rattle.ctl_store.proofs.PiecesLemmas.{length_read}
 use Rattle.ctl_store.proofs.OwnRunLemmas.{rest_joined}
 use Rattle.ctl_store.proofs.pin_order.rest_of.Goals as goal

@@ -1,5 +1,4 @@
-use Rattle.std.proofs.Common.{◌≡◌, ◌∙◌, ◌<◌, ℕ, List, refl, ap, length, get_or}
-use Rattle.ctl_store.specs.declared.selector.PinSetting.{PinSetting}
+use Rattle.std.proofs.Common.{◌≡◌, ◌∙◌, refl}
 use Rattle.ctl_store.specs.HeldPieces.{joined, place_of_spot}
 use Rattle.ctl_store.specs.HeldRanks.{labels_of, sorted_labels, labels_below}
 use Rattle.ctl_store.specs.HeldPins.{own_row}

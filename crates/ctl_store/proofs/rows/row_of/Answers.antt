@@ -4,14 +4,14 @@ use Rattle.ctl_store.specs.Rows.{has_serial}
 use Rattle.ctl_store.specs.Step.{place}
 use Rattle.ctl_store.specs.HeldPieces.{joined, place_of_spot}
 use Rattle.ctl_store.proofs.PlaceLemmas.{lookup-place, lookup-place_none}
-use Rattle.ctl_store.proofs.rows.stanza_of.Goals as goal
+use Rattle.ctl_store.proofs.rows.row_of.Goals as goal
 
 pub returns-in-Some : goal.returns-in-Some
 returns-in-Some c =
     let rs = joined c.args.rows.now in
     let at = place_of_spot c.args.rows.now c.in-Some.spot in
     let there : place (has_serial c.args.serial) rs ≡ Some at = sym c.in-Some.ensures.place in
-    ap Some (c.stanza.ensures ∙ ap (λ (r : ℕ × Content). r.1) (sym (c.row_at.ensures c.row_at.result.now)))
+    ap Some (ap (λ (r : ℕ × Content). r.1) (sym (c.row_at.ensures c.row_at.result.now)))
     ∙ sym (lookup-place c.args.serial rs at c.row_at.result.now there)
 
 pub returns-in-None : goal.returns-in-None
