@@ -77,12 +77,13 @@ pub(crate) fn atom_at_place(kind: FieldKind, body: &[u8], place: u32) -> Atom<'_
     }
 }
 
-// Whether a text begins with a name. Most names differ in their first byte, so that is looked at before the others.
+// Whether a text begins with a name. Most names differ from it in their last byte, so that is looked at before the others.
 fn begins_with(text: &[u8], name: &[u8]) -> bool
     ensures { result ≡ starts_with nat_eq text.now name.now }
 {
-    match (text, name) {
-        ([one, ..], [other, ..]) if *one != *other => false,
+    let last = name.len().saturating_sub(1);
+    match (text.get(last), name.get(last)) {
+        (Some(one), Some(other)) if *one != *other => false,
         _ => text.starts_with(name),
     }
 }
