@@ -3,6 +3,7 @@ pub mod PiecesLemmas
 pub mod PointLemmas
 pub mod SortedLemmas
 pub mod OrderLemmas
+pub mod NearLemmas
 pub mod FrontLemmas
 pub mod RankLemmas
 pub mod RankedLemmas

@@ -1,6 +1,6 @@
 //! The order of names and versions, by which the stanzas of a list are found.
 
-ghost use Rattle.std.specs.Prelude.{◌≡◌, ◌<◌, ◌≤◌, ℕ, [], IfSome, length, map, option_map, option_copied};
+ghost use Rattle.std.specs.Prelude.{◌≡◌, ◌<◌, ◌≤◌, ◌-◌, ℕ, [], true, IfSome, length, map, slice_index, option_map, option_copied};
 ghost use Rattle.std.specs.Bool.{OnTrue};
 ghost use Rattle.std.specs.List.Sorted.{IsSortedBy};
 ghost use Rattle.std.specs.Vec.{vec_capacity};
@@ -12,7 +12,7 @@ ghost use Rattle.ctl_store.specs.Fronts.{front_of};
 ghost use Rattle.ctl_store.specs.HeldPieces.{joined, last_passes, place_of_spot, ArePieces, IsSpot, IsSpotOrEnd};
 
 use crate::fronts::{FRONT_LEN, front_of};
-use crate::pieces::Spot;
+use crate::pieces::{Spot, is_spot};
 use crate::rows::{Row, row_of, spot_of};
 use ctl_relation::Version;
 use ctl_stanza::Stanza;
@@ -150,10 +150,65 @@ pub(crate) fn sort_serials(stanzas: &[Box<Stanza>], order: &mut Vec<u64>)
     order.sort_unstable_by(|one, other| compare_places(stanzas, *one, *other));
 }
 
-// Where a name, whose front is given, and a version stand, or would, in the order of rows.
+// Whether the row before a spot comes before a name, whose front is given, and a version, or no row is before the spot.
+fn follows_lesser(
+    rows: &[Vec<Row>],
+    order: &[Vec<u64>],
+    spot: Spot,
+    front: &[u8; FRONT_LEN],
+    name: &[u8],
+    version: Option<&Version>,
+) -> bool
+    requires rows { ArePieces rows.now }
+    requires order { ArePieces order.now }
+    requires rises { (n : ℕ) × (m : ℕ) × Rises n (joined rows.now) m }
+    requires front { front.now ≡ front_of name.now }
+    requires spot { IsSpot order.now spot }
+    ensures { OnTrue result (0 < place_of_spot order.now spot → is_lt (order_at (joined rows.now) (id name.now (option_copied version.entry)) (slice_index (joined order.now) (place_of_spot order.now spot - 1))) ≡ true) }
+{
+    if spot.at > 0 {
+        let serial = order[spot.piece][spot.at - 1];
+        return compare_row(rows, serial, front, name, version).is_lt();
+    }
+    if spot.piece == 0 {
+        return true;
+    }
+    ends_before(rows, &order[spot.piece - 1], front, name, version)
+}
+
+// Whether a name, whose front is given, and a version stand, or would, at a spot. The order tells it by two rows: the one
+// there doesn't come before them, and the one before it does. The spot need not be in the order.
+fn is_lower(
+    rows: &[Vec<Row>],
+    order: &[Vec<u64>],
+    likely: Spot,
+    front: &[u8; FRONT_LEN],
+    name: &[u8],
+    version: Option<&Version>,
+) -> bool
+    requires rows { ArePieces rows.now }
+    requires order { ArePieces order.now }
+    requires kept { (next : ℕ) × IsKept (joined rows.now) next (joined order.now) }
+    requires front { front.now ≡ front_of name.now }
+    ensures place { OnTrue result (place_of_spot order.now likely ≡ lower (id name.now (option_copied version.entry)) (sorted_ids (ids_of (joined rows.now)))) }
+    ensures within { OnTrue result (IsSpotOrEnd order.now likely) }
+{
+    if !is_spot(order, likely) {
+        return false;
+    }
+    let serial = order[likely.piece][likely.at];
+    if compare_row(rows, serial, front, name, version).is_lt() {
+        return false;
+    }
+    follows_lesser(rows, order, likely, front, name, version)
+}
+
+// Where a name, whose front is given, and a version stand, or would, in the order of rows. The likely spot is looked at
+// first.
 fn lower(
     rows: &[Vec<Row>],
     order: &[Vec<u64>],
+    likely: Spot,
     front: &[u8; FRONT_LEN],
     name: &[u8],
     version: Option<&Version>,
@@ -165,6 +220,9 @@ fn lower(
     ensures place { place_of_spot order.now result ≡ lower (id name.now (option_copied version.entry)) (sorted_ids (ids_of (joined rows.now))) }
     ensures within { IsSpotOrEnd order.now result }
 {
+    if is_lower(rows, order, likely, front, name, version) {
+        return likely;
+    }
     let piece = order.partition_point(|serials| ends_before(rows, serials, front, name, version));
     match order.get(piece) {
         Some(serials) => Spot {
@@ -177,10 +235,12 @@ fn lower(
     }
 }
 
-/// Where a name and a version stand, or would, in the order of rows, and the spot of the first row that has them.
+/// Where a name and a version stand, or would, in the order of rows, and the spot of the first row that has them. The
+/// answer is the same whatever the likely spot is. Where they stand at it, there is no search.
 pub(crate) fn look_up(
     rows: &[Vec<Row>],
     order: &[Vec<u64>],
+    likely: Spot,
     name: &[u8],
     version: Option<&Version>,
 ) -> (Spot, Option<Spot>)
@@ -195,7 +255,7 @@ pub(crate) fn look_up(
     ensures found { IfSome result.1 (λ _. IsSpot order.now result.0) }
 {
     let front = front_of(name);
-    let spot = lower(rows, order, &front, name, version);
+    let spot = lower(rows, order, likely, &front, name, version);
     if spot.piece >= order.len() {
         return (spot, None);
     }

@@ -1,6 +1,7 @@
 //! Sequences in pieces, so that what comes or goes moves the items of one piece only.
 
 ghost use Rattle.std.specs.Prelude.{◌≡◌, ◌+◌, ◌-◌, ◌^◌, ◌<◌, ◌≤◌, ◌∷◌, ◌++◌, [], ℕ, true, min, length, drop, vec_len, insert, OnOk, IfOk};
+ghost use Rattle.std.specs.Bool.{OnTrue};
 ghost use Rattle.std.specs.List.{remove};
 ghost use Rattle.std.specs.Vec.{vec_capacity};
 ghost use Rattle.ctl_store.specs.HeldPieces.{most_in_piece, least_room, joined, length_at, room_in, room_at, stands_at, place_of_spot, IsSpot, IsSpotOrEnd, IsFit, IsReadyPiece, ArePieces, AreReady, HasRoomFor, free_at_end, room_of_all, room_of_last, room_at_end};
@@ -21,6 +22,13 @@ const JOINED: usize = 32;
 pub(crate) struct Spot {
     pub(crate) piece: usize,
     pub(crate) at: usize,
+}
+
+/// Whether an item stands at a spot.
+pub(crate) fn is_spot<T>(pieces: &[Vec<T>], spot: Spot) -> bool
+    ensures { OnTrue result (IsSpot pieces.now spot) }
+{
+    spot.piece < pieces.len() && spot.at < pieces[spot.piece].len()
 }
 
 /// A sequence in pieces of at most 64 items, none of which is empty. The pieces of a short sequence are small.

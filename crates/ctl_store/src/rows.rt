@@ -1,7 +1,6 @@
 //! Stanzas under their serial numbers.
 
 ghost use Rattle.std.specs.Prelude.{◌≡◌, ◌<◌, ◌≤◌, ℕ, length, IfSome, nat_lt, vec_len, true, false, option_map, option_copied, nat_eq};
-ghost use Rattle.std.specs.Bool.{OnTrue};
 ghost use Rattle.std.specs.Map.{lookup};
 ghost use Rattle.std.specs.Vec.{vec_capacity};
 ghost use Rattle.std.specs.List.{slice_index_or};
@@ -13,7 +12,7 @@ ghost use Rattle.ctl_store.specs.Fronts.{front_of};
 ghost use Rattle.ctl_store.specs.HeldPieces.{joined, last_passes, place_of_spot, ArePieces, IsSpot, IsSpotOrEnd};
 
 use crate::fronts::{FRONT_LEN, front_of};
-use crate::pieces::{MOST, Spot};
+use crate::pieces::{MOST, Spot, is_spot};
 use ctl_stanza::Stanza;
 use std::marker::Model;
 
@@ -138,13 +137,6 @@ pub(crate) fn row_at(rows: &[Vec<Row>], spot: Spot) -> &Row
     ensures { (d : ℕ × Content) → slice_index_or (joined rows.now) (place_of_spot rows.now spot) d ≡ result.now }
 {
     &rows[spot.piece][spot.at]
-}
-
-// Whether a row stands at a spot.
-fn is_spot(rows: &[Vec<Row>], spot: Spot) -> bool
-    ensures { OnTrue result (IsSpot rows.now spot) }
-{
-    spot.piece < rows.len() && spot.at < rows[spot.piece].len()
 }
 
 // The spot of the row of a serial, found by halving.

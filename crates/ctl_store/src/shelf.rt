@@ -14,7 +14,7 @@ ghost use Rattle.ctl_store.specs.Held.{IsShelved, Fits, keyed_list};
 
 use crate::list_class::ListClass;
 use crate::order::{look_up, sort_serials};
-use crate::pieces::Pieces;
+use crate::pieces::{Pieces, Spot};
 use crate::rows::{Row, replace_row, row_at, stanza_of};
 use crate::stanza_key::StanzaKey;
 use crate::store::{ByName, ListEntries, Stanzas};
@@ -33,6 +33,9 @@ pub(crate) struct Shelf {
     next: u64,
     rows: Pieces<Row>,
     order: Pieces<u64>,
+    // Where the last edit was in the order. Edits of one stanza follow each other, and one look beside that spot is cheaper
+    // than a search. It may be out of date or past the end: nothing rests on it.
+    last: Spot,
 }
 
 impl Model for Shelf {
@@ -140,6 +143,7 @@ impl Shelf {
             next,
             rows,
             order,
+            last: Spot { piece: 0, at: 0 },
         }
     }
 
@@ -196,7 +200,7 @@ impl Shelf {
         ensures found { is_some result ≡ is_some (place (by_name_and_version name.now (option_copied version.entry)) self.now.rows) }
     {
         let rows = self.rows.as_slice();
-        match look_up(rows, self.order.as_slice(), name, version) {
+        match look_up(rows, self.order.as_slice(), self.last, name, version) {
             (_, Some(spot)) => Some(StanzaKey {
                 list: self.serial,
                 stanza: row_at(rows, spot).serial(),
@@ -232,7 +236,13 @@ impl Shelf {
         ensures rows { self.new.rows ≡ put_row stanza.value self.old.next self.old.rows }
         ensures next { self.new.next ≡ next_after_put stanza.value self.old.next self.old.rows }
     {
-        put_in(&mut self.rows, &mut self.next, &mut self.order, stanza);
+        put_in(
+            &mut self.rows,
+            &mut self.next,
+            &mut self.order,
+            &mut self.last,
+            stanza,
+        );
         self.rows.forget_room();
         self.order.forget_room();
     }
@@ -245,11 +255,25 @@ impl Shelf {
         ensures rows { self.new.rows ≡ remove_row name.now (option_copied version.entry) self.old.rows }
         ensures next { self.new.next ≡ self.old.next }
     {
-        remove_from(&mut self.rows, self.next, &mut self.order, name, version);
+        remove_from(
+            &mut self.rows,
+            self.next,
+            &mut self.order,
+            &mut self.last,
+            name,
+            version,
+        );
     }
 }
 
-fn put_in(rows: &mut Pieces<Row>, next: &mut u64, order: &mut Pieces<u64>, stanza: Box<Stanza>)
+// Leaves where the stanza stands in the order as the last spot.
+fn put_in(
+    rows: &mut Pieces<Row>,
+    next: &mut u64,
+    order: &mut Pieces<u64>,
+    last: &mut Spot,
+    stanza: Box<Stanza>,
+)
     requires shelved { IsShelved rows.old.pieces rows.old.ready next.old order.old.pieces order.old.ready }
     requires room { 0 < vec_len rows.old.ready }
     requires order { HasRoomFor (length (joined rows.old.pieces.items)) order.old.ready }
@@ -258,26 +282,30 @@ fn put_in(rows: &mut Pieces<Row>, next: &mut u64, order: &mut Pieces<u64>, stanz
     ensures rows { joined rows.new.pieces.items ≡ put_row stanza.value next.old (joined rows.old.pieces.items) }
     ensures next { next.new ≡ next_after_put stanza.value next.old (joined rows.old.pieces.items) }
 {
-    let place = look_up(
+    let (order_spot, place) = look_up(
         rows.as_slice(),
         order.as_slice(),
+        *last,
         stanza.package(),
         stanza.version(),
     );
+    *last = order_spot;
     match place {
-        (_, Some(spot)) => replace_row(&mut rows.pieces, spot, stanza),
-        (spot, None) => {
-            order.insert(spot, *next);
+        Some(spot) => replace_row(&mut rows.pieces, spot, stanza),
+        None => {
+            order.insert(order_spot, *next);
             rows.push(Row::new(*next, stanza));
             *next += 1;
         }
     }
 }
 
+// Leaves where the stanza stood in the order as the last spot.
 fn remove_from(
     rows: &mut Pieces<Row>,
     next: u64,
     order: &mut Pieces<u64>,
+    last: &mut Spot,
     name: &[u8],
     version: Option<&Version>,
 )
@@ -285,11 +313,13 @@ fn remove_from(
     ensures shelved { IsShelved rows.new.pieces rows.new.ready next order.new.pieces order.new.ready }
     ensures rows { joined rows.new.pieces.items ≡ remove_row name.now (option_copied version.entry) (joined rows.old.pieces.items) }
 {
-    match look_up(rows.as_slice(), order.as_slice(), name, version) {
-        (order_spot, Some(spot)) => {
+    let (order_spot, place) = look_up(rows.as_slice(), order.as_slice(), *last, name, version);
+    *last = order_spot;
+    match place {
+        Some(spot) => {
             order.remove(order_spot);
             rows.remove(spot);
         }
-        (_, None) => {}
+        None => {}
     }
 }

@@ -15,20 +15,20 @@ insert-requires-clause-room c =
 pub push-requires-clause-room : goal.push-requires-clause-room
 push-requires-clause-room c = omega (arith, ready_room c.args.rows.now.ready.items c.requires.shelved.rows_fit.ready (omega (arith, c.requires.room)))
 
-pub returns-in_default-Some-clause-shelved : goal.returns-in_default-Some-clause-shelved
-returns-in_default-Some-clause-shelved c =
+pub returns-in-Some-clause-shelved : goal.returns-in-Some-clause-shelved
+returns-in-Some-clause-shelved c =
     let ps = c.args.rows.now.pieces in
     let x = c.args.stanza.value in
-    let spot = c.in_default-Some.spot in
+    let spot = c.in-Some.spot in
     let moved : place (by_name_and_version c.package.result.now (option_copied c.version.result)) (joined c.as_slice.result.now) ≡ place (by_name_and_version (package_of x) (version_of x)) (joined ps.items) = λ j. place (by_name_and_version ((c.package.ensures.body ∙ ap package_of c.deref.ensures) j) ((c.version.ensures.version ∙ ap version_of c.deref-2.ensures) j)) (joined (c.as_slice.ensures j)) in
     let found : place (by_name_and_version (package_of x) (version_of x)) (joined ps.items) ≡ Some (place_of_spot ps.items spot) =
-    sym moved ∙ sym c.look_up-place.ensures.place ∙ ap (option_map (λ s. place_of_spot c.as_slice.result.now s)) c.in_default-Some.is-1 ∙ (λ j. Some (place_of_spot (c.as_slice.ensures j) spot)) in
+    sym moved ∙ sym c.look_up-place.ensures.place ∙ ap (option_map (λ s. place_of_spot c.as_slice.result.now s)) c.in-Some.is ∙ (λ j. Some (place_of_spot (c.as_slice.ensures j) spot)) in
     shelved_replace ps c.args.rows.now.ready c.args.next.now c.args.order.now.pieces c.args.order.now.ready c.requires.shelved x (place_of_spot ps.items spot) c.replace_row.new.rows found
     (fit_written ps c.replace_row.new.rows c.args.rows.now.ready c.requires.shelved.rows_fit c.replace_row.ensures.pieces c.replace_row.ensures.len c.replace_row.ensures.capacity)
     c.replace_row.ensures.rows
 
-pub returns-in_default-None-clause-shelved : goal.returns-in_default-None-clause-shelved
-returns-in_default-None-clause-shelved c =
+pub returns-in-None-clause-shelved : goal.returns-in-None-clause-shelved
+returns-in-None-clause-shelved c =
     let ps = c.args.rows.now.pieces in
     let order = c.args.order.now.pieces in
     let next = c.args.next.now in
@@ -36,7 +36,7 @@ returns-in_default-None-clause-shelved c =
     let spot = c.look_up-place.result.0 in
     let moved : place (by_name_and_version c.package.result.now (option_copied c.version.result)) (joined c.as_slice.result.now) ≡ place (by_name_and_version (package_of x) (version_of x)) (joined ps.items) = λ j. place (by_name_and_version ((c.package.ensures.body ∙ ap package_of c.deref.ensures) j) ((c.version.ensures.version ∙ ap version_of c.deref-2.ensures) j)) (joined (c.as_slice.ensures j)) in
     let none : place (by_name_and_version (package_of x) (version_of x)) (joined ps.items) ≡ None =
-    sym moved ∙ sym c.look_up-place.ensures.place ∙ ap (option_map (λ s. place_of_spot c.as_slice.result.now s)) c.in_default-None.is-1 in
+    sym moved ∙ sym c.look_up-place.ensures.place ∙ ap (option_map (λ s. place_of_spot c.as_slice.result.now s)) c.in-None.is in
     let same : id c.package.result.now (option_copied c.version.result) ≡ id_of x = λ j. id ((c.package.ensures.body ∙ ap package_of c.deref.ensures) j) ((c.version.ensures.version ∙ ap version_of c.deref-2.ensures) j) in
     let at : place_of_spot order.items spot ≡ lower (id_of x) (sorted_ids (ids_of (joined ps.items))) =
     (λ j. place_of_spot (sym c.as_slice-2.ensures j) spot) ∙ c.look_up-place.ensures.order ∙ (λ j. lower (same j) (sorted_ids (ids_of (joined (c.as_slice.ensures j))))) in

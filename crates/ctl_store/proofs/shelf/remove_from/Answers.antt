@@ -5,19 +5,19 @@ use Rattle.ctl_store.specs.HeldPieces.{joined, place_of_spot}
 use Rattle.ctl_store.proofs.ShelfLemmas.{shelved_remove}
 use Rattle.ctl_store.proofs.shelf.remove_from.Goals as goal
 
-pub returns-in_default-Some-clause-shelved : goal.returns-in_default-Some-clause-shelved
-returns-in_default-Some-clause-shelved c =
+pub returns-in-Some-clause-shelved : goal.returns-in-Some-clause-shelved
+returns-in-Some-clause-shelved c =
     let ps = c.args.rows.now.pieces in
     let order = c.args.order.now.pieces in
     let name = c.args.name.now in
     let version = option_copied c.args.version in
-    let spot = c.in_default-Some.spot in
-    let order_spot = c.look_up.result.0 in
+    let spot = c.in-Some.spot in
+    let order_spot = c.look_up-place.result.0 in
     let found : place (by_name_and_version name version) (joined ps.items) ≡ Some (place_of_spot ps.items spot) =
-    ap (λ l. place (by_name_and_version name version) (joined l)) (sym c.as_slice.ensures) ∙ sym c.look_up.ensures.place
-    ∙ ap (option_map (λ s. place_of_spot c.as_slice.result.now s)) c.in_default-Some.is-1 ∙ (λ j. Some (place_of_spot (c.as_slice.ensures j) spot)) in
+    ap (λ l. place (by_name_and_version name version) (joined l)) (sym c.as_slice.ensures) ∙ sym c.look_up-place.ensures.place
+    ∙ ap (option_map (λ s. place_of_spot c.as_slice.result.now s)) c.in-Some.is ∙ (λ j. Some (place_of_spot (c.as_slice.ensures j) spot)) in
     let at : place_of_spot order.items order_spot ≡ lower (id name version) (sorted_ids (ids_of (joined ps.items))) =
-    (λ j. place_of_spot (sym c.as_slice-2.ensures j) order_spot) ∙ c.look_up.ensures.order ∙ (λ j. lower (id name version) (sorted_ids (ids_of (joined (c.as_slice.ensures j))))) in
+    (λ j. place_of_spot (sym c.as_slice-2.ensures j) order_spot) ∙ c.look_up-place.ensures.order ∙ (λ j. lower (id name version) (sorted_ids (ids_of (joined (c.as_slice.ensures j))))) in
     shelved_remove ps c.args.rows.now.ready c.args.next order c.args.order.now.ready c.requires
-    c.remove-in_default-Some.new.self.pieces c.remove-in_default-Some.new.self.ready c.remove.new.self.pieces c.remove.new.self.ready c.remove-in_default-Some.ensures.fit c.remove.ensures.fit
-    name version (place_of_spot ps.items spot) (place_of_spot order.items order_spot) found at c.remove-in_default-Some.ensures.items c.remove.ensures.items
+    c.remove-in-Some.new.self.pieces c.remove-in-Some.new.self.ready c.remove.new.self.pieces c.remove.new.self.ready c.remove-in-Some.ensures.fit c.remove.ensures.fit
+    name version (place_of_spot ps.items spot) (place_of_spot order.items order_spot) found at c.remove-in-Some.ensures.items c.remove.ensures.items
