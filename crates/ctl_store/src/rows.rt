@@ -157,18 +157,28 @@ fn halved_spot(rows: &[Vec<Row>], serial: u64) -> Option<Spot>
     }
 }
 
-/// The spot of the row of a serial. Most pieces are as they were filled, with a row under each serial from a multiple of
-/// their size on: there it is one look.
+// Where the row of a serial most likely stands. Most pieces are as they were filled, with a row under each serial from a
+// multiple of their size on: there it is one look. Where rows have gone from the piece, it is found among those that are left.
+fn likely_spot(rows: &[Vec<Row>], serial: u64) -> Spot {
+    let piece = likely_piece(rows, serial);
+    let at = (serial % MOST as u64) as usize;
+    match rows.get(piece) {
+        Some(rows) if rows.get(at).map_or(0, |row| row.serial()) != serial => Spot {
+            piece,
+            at: rows.partition_point(|row| row.serial() < serial),
+        },
+        _ => Spot { piece, at },
+    }
+}
+
+/// The spot of the row of a serial. The likely spot is looked at before all pieces are searched.
 pub(crate) fn spot_of(rows: &[Vec<Row>], serial: u64) -> Option<Spot>
     requires pieces { ArePieces rows.now }
     requires rises { (n : ℕ) × (m : ℕ) × Rises n (joined rows.now) m }
     ensures place { option_map (λ spot. place_of_spot rows.now spot) result ≡ place (has_serial serial) (joined rows.now) }
     ensures within { IfSome result (λ spot. IsSpot rows.now spot) }
 {
-    let likely = Spot {
-        piece: likely_piece(rows, serial),
-        at: (serial % MOST as u64) as usize,
-    };
+    let likely = likely_spot(rows, serial);
     if is_spot(rows, likely) && row_at(rows, likely).serial() == serial {
         return Some(likely);
     }
