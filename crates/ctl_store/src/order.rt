@@ -7,7 +7,8 @@ ghost use Rattle.std.specs.Vec.{vec_capacity};
 ghost use Rattle.std.specs.Option.{option_cmp};
 ghost use Rattle.ctl_store.specs.Step.{place};
 ghost use Rattle.ctl_store.specs.Rows.{IsKept, Rises, id, id_of, id_cmp, ids_of, sorted_ids, sorted_serials, lower, order_at, place_cmp, rows_from, version_order, version_id, by_name_and_version};
-ghost use Rattle.std.specs.Ordering.{is_lt};
+ghost use Rattle.std.specs.Ordering.{is_lt, nat_cmp};
+ghost use Rattle.std.specs.Cmp.Lexicographic.{slice_cmp};
 ghost use Rattle.ctl_store.specs.Fronts.{front_of};
 ghost use Rattle.ctl_store.specs.HeldPieces.{joined, last_passes, place_of_spot, ArePieces, IsSpot, IsSpotOrEnd};
 
@@ -38,6 +39,16 @@ fn compare(stanza: &Stanza, name: &[u8], version: Option<&Version>) -> Ordering
     }
 }
 
+// How two fronts stand. Most differ in the first byte, which is cheaper to look at than all.
+fn compare_fronts(one: &[u8; FRONT_LEN], other: &[u8; FRONT_LEN]) -> Ordering
+    ensures { result ≡ slice_cmp nat_cmp one.now other.now }
+{
+    match one[0].cmp(&other[0]) {
+        Ordering::Equal => one.cmp(other),
+        unequal => unequal,
+    }
+}
+
 // How a row stands to a name, whose front is given, and a version. Where the fronts differ they tell it, and nothing is read
 // of the stanza, which stands elsewhere in memory.
 fn compare_found(
@@ -49,7 +60,7 @@ fn compare_found(
     requires { front.now ≡ front_of name.now }
     ensures { result ≡ id_cmp (id_of row.now.1) (id name.now (option_copied version.entry)) }
 {
-    match row.front().cmp(front) {
+    match compare_fronts(row.front(), front) {
         Ordering::Equal => compare(row.stanza(), name, version),
         unequal => unequal,
     }

@@ -157,15 +157,27 @@ fn halved_spot(rows: &[Vec<Row>], serial: u64) -> Option<Spot>
     }
 }
 
+// Where a serial stands among rows, from a place on that is near: as far back, and then as far on, as it takes.
+fn near_place(rows: &[Row], place: usize, serial: u64) -> usize {
+    let mut at = place.min(rows.len());
+    'back: while at > 0 && rows[at - 1].serial() >= serial {
+        at -= 1;
+    }
+    'on: while at < rows.len() && rows[at].serial() < serial {
+        at += 1;
+    }
+    at
+}
+
 // Where the row of a serial most likely stands. Most pieces are as they were filled, with a row under each serial from a
-// multiple of their size on: there it is one look. Where rows have gone from the piece, it is found among those that are left.
+// multiple of their size on: there it is one look. Where rows have gone from the piece, they are taken to have gone evenly.
 fn likely_spot(rows: &[Vec<Row>], serial: u64) -> Spot {
     let piece = likely_piece(rows, serial);
     let at = (serial % MOST as u64) as usize;
     match rows.get(piece) {
         Some(rows) if rows.get(at).map_or(0, |row| row.serial()) != serial => Spot {
             piece,
-            at: rows.partition_point(|row| row.serial() < serial),
+            at: near_place(rows, at * rows.len() / MOST, serial),
         },
         _ => Spot { piece, at },
     }

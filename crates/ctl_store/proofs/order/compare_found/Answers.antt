@@ -6,5 +6,5 @@ use Rattle.ctl_store.proofs.order.compare_found.Goals as goal
 
 pub returns-in_default : goal.returns-in_default
 returns-in_default c =
-    front_tells c.args.row.now.1 c.args.name.now (option_copied c.args.version) c.cmp.result
-    (c.cmp.ensures ∙ (λ j. slice_cmp nat_cmp (c.front.ensures j) (c.requires j))) c.in_default.not-Equal
+    front_tells c.args.row.now.1 c.args.name.now (option_copied c.args.version) c.compare_fronts.result
+    (c.compare_fronts.ensures ∙ (λ j. slice_cmp nat_cmp (c.front.ensures j) (c.requires j))) c.in_default.not-Equal
