@@ -3,7 +3,7 @@ use Rattle.std.specs.Prelude.{ℕ, zero, suc, List, [], ◌∷◌}
 
 -- how many bytes a front has
 abbrev pub front_len : ℕ
-front_len = 16
+front_len = 8
 
 -- the first k bytes of a name, filled up with zeros
 abbrev pub filled : ℕ → List ℕ → List ℕ

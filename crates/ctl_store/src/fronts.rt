@@ -3,8 +3,8 @@
 ghost use Rattle.std.specs.Prelude.{◌≡◌};
 ghost use Rattle.ctl_store.specs.Fronts.{front_of};
 
-/// How many bytes a front has. With as many, a row has 32: the more there are, the fewer rows a cache holds.
-pub(crate) const FRONT_LEN: usize = 16;
+/// How many bytes a front has. With as many, a row has 24: the more there are, the fewer rows a cache holds.
+pub(crate) const FRONT_LEN: usize = 8;
 
 /// The first bytes of a name, filled up with zeros: where two fronts differ, their names stand as they do.
 pub(crate) fn front_of(name: &[u8]) -> [u8; FRONT_LEN]

@@ -177,7 +177,7 @@ fn likely_spot(rows: &[Vec<Row>], serial: u64) -> Spot {
     match rows.get(piece) {
         Some(rows) if rows.get(at).map_or(0, |row| row.serial()) != serial => Spot {
             piece,
-            at: near_place(rows, at * rows.len() / MOST, serial),
+            at: near_place(rows, at * rows.len().min(MOST) / MOST, serial),
         },
         _ => Spot { piece, at },
     }
