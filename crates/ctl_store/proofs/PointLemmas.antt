@@ -173,6 +173,12 @@ module _ {X A : Type 0} where
   stands_end (q ∷ ps) j = omega (arith, length-append q.items (joined ps), length-append q.items (joined (take (length ps) ps)), stands_end ps j)
 
 module _ {X A : Type 0} where
+  -- a piece that is written with the items that it had
+  pub joined_same : (ps : List (Vec X A)) (i : ℕ) (p p' : Vec X A) → p ≡ get_or ps i p → p'.items ≡ p.items → joined (set ps i p') ≡ joined ps
+  joined_same [] i p p' e f = refl
+  joined_same (q ∷ ps) zero p p' e f = ap (λ (xs : List X). xs ++ joined ps) (f ∙ ap (λ (v : Vec X A). v.items) e)
+  joined_same (q ∷ ps) (suc i) p p' e f = ap (λ (xs : List X). q.items ++ xs) (joined_same ps i p p' e f)
+
   pub get_joined : (ps : List (Vec X A)) (i j : ℕ) (p : Vec X A) (x d : X) → j < length_at ps i → p ≡ get_or ps i p → x ≡ get_or p.items j x → get_or (joined ps) (stands_at ps i j) d ≡ x
   get_joined [] i j p x d l e f = absurd (omega arith)
   get_joined (q ∷ ps) zero j p x d l e f =

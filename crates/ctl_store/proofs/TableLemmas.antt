@@ -145,6 +145,15 @@ module _ {T : Type 0} (label : ℕ × T → Label) where
       order_fit = h.order_fit;
     }
 
+    -- pieces of which one was written with the items that it had
+    pub table_joined : (rows' : Vec (Vec (ℕ × T) A) B) → IsFit rows' rows_ready → joined rows'.items ≡ joined rows.items → IsTable label rows' rows_ready next order order_ready
+    table_joined rows' fit is = record {
+      ranked = subst (λ l. IsRanked label l next (joined order.items)) (sym is) h.ranked;
+      apart = subst (λ l. AreApart label l) (sym is) h.apart;
+      rows_fit = fit;
+      order_fit = h.order_fit;
+    }
+
     pub table_replace : (same : (m n : ℕ) (x : T) → label (m, x) ≡ label (n, x)) (x : T) (i : ℕ) (rows' : Vec (Vec (ℕ × T) A) B) → label_place label (label (next, x)) (joined rows.items) ≡ Some i
         → IsFit rows' rows_ready → joined rows'.items ≡ replace_at (joined rows.items) i x → IsTable label rows' rows_ready next order order_ready
     table_replace same x i rows' found fit is = table_written x i rows' (place_within (has_label label (label (next, x))) (joined rows.items) i found) (alike same next x (joined rows.items) i found) fit is

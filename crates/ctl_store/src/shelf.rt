@@ -33,8 +33,9 @@ pub(crate) struct Shelf {
     next: u64,
     rows: Pieces<Row>,
     order: Pieces<u64>,
-    // Where the last edit was in the order. Edits of one stanza follow each other, and one look beside that spot is cheaper
-    // than a search. It may be out of date or past the end: nothing rests on it.
+    // Where the edit that was last prepared or made is in the order. A commit follows its prepare, and edits of one stanza
+    // follow each other, and one look beside that spot is cheaper than a search. It may be out of date or past the end:
+    // nothing rests on it.
     last: Spot,
 }
 
@@ -194,19 +195,42 @@ impl Shelf {
         stanza_of(self.rows.as_slice(), serial)
     }
 
+    // The spot in the order where a name and a version stand, or would, and the key of the first stanza that has them.
+    fn key_and_spot(&self, name: &[u8], version: Option<&Version>) -> (Spot, Option<StanzaKey>)
+        ensures key { option_to_list result.1 ≡ found_key name.now (option_copied version.entry) (keyed_list self.now) }
+        ensures found { is_some result.1 ≡ is_some (place (by_name_and_version name.now (option_copied version.entry)) self.now.rows) }
+    {
+        let rows = self.rows.as_slice();
+        match look_up(rows, self.order.as_slice(), self.last, name, version) {
+            (order_spot, Some(spot)) => {
+                let key = StanzaKey {
+                    list: self.serial,
+                    stanza: row_at(rows, spot).serial(),
+                };
+                (order_spot, Some(key))
+            }
+            (order_spot, None) => (order_spot, None),
+        }
+    }
+
     /// The key of the first stanza of this name and an equal version.
     pub(crate) fn found_key(&self, name: &[u8], version: Option<&Version>) -> Option<StanzaKey>
         ensures key { option_to_list result ≡ found_key name.now (option_copied version.entry) (keyed_list self.now) }
         ensures found { is_some result ≡ is_some (place (by_name_and_version name.now (option_copied version.entry)) self.now.rows) }
     {
-        let rows = self.rows.as_slice();
-        match look_up(rows, self.order.as_slice(), self.last, name, version) {
-            (_, Some(spot)) => Some(StanzaKey {
-                list: self.serial,
-                stanza: row_at(rows, spot).serial(),
-            }),
-            (_, None) => None,
-        }
+        self.key_and_spot(name, version).1
+    }
+
+    /// The same key. The next look-up tries the spot that this one found first, so that an edit of what was asked for here
+    /// needs no second search.
+    pub(crate) fn find_key(&mut self, name: &[u8], version: Option<&Version>) -> Option<StanzaKey>
+        ensures same { self.new ≡ self.old }
+        ensures key { option_to_list result ≡ found_key name.now (option_copied version.entry) (keyed_list self.old) }
+        ensures found { is_some result ≡ is_some (place (by_name_and_version name.now (option_copied version.entry)) self.old.rows) }
+    {
+        let (spot, key) = self.key_and_spot(name, version);
+        self.last = spot;
+        key
     }
 
     /// The serial of its next new stanza.

@@ -1,12 +1,15 @@
 //! A table by byte strings, and the lists in it.
-ghost use Rattle.std.specs.Prelude.{IfSome, ◌≡◌, ◌<◌, [], OnOk, None, Some, option_copied, vec_len};
+ghost use Rattle.std.specs.Prelude.{IfSome, ◌≡◌, ◌<◌, [], List, ℕ, false, OnOk, None, Some, is_some, option_copied, slice_index_or, vec_len};
 ghost use Rattle.std.specs.Prelude.{◌+◌, ◌^◌};
 ghost use Rattle.std.specs.List.{IsDistinct};
 ghost use Rattle.std.specs.Map.{keys_of};
 ghost use Rattle.std.specs.Str.{bytes_eq};
 ghost use Rattle.ctl_store.specs.Named.{at_name, put_named, without_name, change_named};
-ghost use Rattle.ctl_store.specs.Keys.{put_keyed, remove_keyed};
-ghost use Rattle.ctl_store.specs.Held.{lists_of, keyed_list, HasRoomInList, HasChanged, TakesOne};
+ghost use Rattle.ctl_store.specs.Step.{place};
+ghost use Rattle.ctl_store.specs.Rows.{by_name_and_version};
+ghost use Rattle.ctl_store.specs.Keys.{found_key, put_keyed, remove_keyed};
+ghost use Rattle.std.specs.Option.{option_map_or, option_to_list};
+ghost use Rattle.ctl_store.specs.Held.{Sheet, lists_of, keyed_list, HasRoomInList, HasChanged, TakesOne};
 ghost use Rattle.std.specs.Vec.{vec_capacity};
 ghost use Rattle.ctl_store.specs.HeldRanks.{IsTable, named_row, name_label, items_of};
 ghost use Rattle.ctl_store.specs.HeldPieces.{joined, place_of_spot, ArePieces, IsSpot};
@@ -17,6 +20,7 @@ use crate::numbered::Numbered;
 use crate::pieces::{Pieces, Spot};
 use crate::ranked::{find_item, find_spot, put_item, remove_item, reserve_item};
 use crate::shelf::Shelf;
+use crate::stanza_key::StanzaKey;
 use ctl_relation::{Bytes, Version};
 use ctl_stanza::Stanza;
 use std::alloc::{AllocError, Global};
@@ -175,6 +179,20 @@ impl Table<Shelf> {
         reserve_at(&mut self.rows, &self.order, self.next, alloc, list)
     }
 
+    /// The key of the first stanza of a name and an equal version in a list. The list's next look-up begins where it stands.
+    pub(crate) fn find_in(
+        &mut self,
+        list: &[u8],
+        name: &[u8],
+        version: Option<&Version>,
+    ) -> Option<StanzaKey>
+        ensures same { self.new ≡ self.old }
+        ensures key { option_to_list result ≡ option_map_or (λ s. found_key name.now (option_copied version.entry) (keyed_list s)) (at_name list.now self.old.0) [] }
+        ensures found { is_some result ≡ option_map_or (λ (s : Sheet). is_some (place (by_name_and_version name.now (option_copied version.entry)) s.rows)) (at_name list.now self.old.0) false }
+    {
+        find_at(&mut self.rows, &self.order, self.next, list, name, version)
+    }
+
     /// Puts a stanza into a list, in the room that `reserve_in` made.
     pub(crate) fn put_in(&mut self, list: &[u8], stanza: Box<Stanza>)
         requires room { IfSome (at_name list.now self.old.0) HasRoomInList }
@@ -193,6 +211,14 @@ impl Table<Shelf> {
 }
 
 impl Named<Shelf> {
+    fn find(&mut self, name: &[u8], version: Option<&Version>) -> Option<StanzaKey>
+        ensures same { self.new ≡ self.old }
+        ensures key { option_to_list result ≡ found_key name.now (option_copied version.entry) (keyed_list self.old.1) }
+        ensures found { is_some result ≡ is_some (place (by_name_and_version name.now (option_copied version.entry)) self.old.1.rows) }
+    {
+        self.value.find_key(name, version)
+    }
+
     fn reserve_one(&mut self, alloc: Global) -> Result<(), AllocError>
         ensures name { self.new.0 ≡ self.old.0 }
         ensures list { keyed_list self.new.1 ≡ keyed_list self.old.1 }
@@ -219,6 +245,14 @@ impl Named<Shelf> {
 }
 
 impl Numbered<Named<Shelf>> {
+    fn find(&mut self, name: &[u8], version: Option<&Version>) -> Option<StanzaKey>
+        ensures same { self.new ≡ self.old }
+        ensures key { option_to_list result ≡ found_key name.now (option_copied version.entry) (keyed_list self.old.1.1) }
+        ensures found { is_some result ≡ is_some (place (by_name_and_version name.now (option_copied version.entry)) self.old.1.1.rows) }
+    {
+        self.item.find(name, version)
+    }
+
     fn reserve_one(&mut self, alloc: Global) -> Result<(), AllocError>
         ensures serial { self.new.0 ≡ self.old.0 }
         ensures name { self.new.1.0 ≡ self.old.1.0 }
@@ -245,6 +279,24 @@ impl Numbered<Named<Shelf>> {
     {
         self.item.remove(name, version);
     }
+}
+
+// The key of the first stanza of a name and an equal version in the list of a spot.
+fn find_in_spot(
+    rows: &mut Vec<Vec<Numbered<Named<Shelf>>>>,
+    spot: Spot,
+    name: &[u8],
+    version: Option<&Version>,
+) -> Option<StanzaKey>
+    requires pieces { ArePieces rows.old.items }
+    requires spot { IsSpot rows.old.items spot }
+    ensures pieces { ArePieces rows.new.items }
+    ensures len { vec_len rows.new ≡ vec_len rows.old }
+    ensures capacity { vec_capacity rows.new ≡ vec_capacity rows.old }
+    ensures rows { joined rows.new.items ≡ joined rows.old.items }
+    ensures list { (s : Sheet) × ((d : ℕ × (List ℕ × Sheet)) → s ≡ (slice_index_or (joined rows.old.items) (place_of_spot rows.old.items spot) d).1.1) × (option_to_list result ≡ found_key name.now (option_copied version.entry) (keyed_list s)) × (is_some result ≡ is_some (place (by_name_and_version name.now (option_copied version.entry)) s.rows)) }
+{
+    rows[spot.piece][spot.at].find(name, version)
 }
 
 // Makes room for one stanza more in the list of a spot.
@@ -291,6 +343,27 @@ fn remove_spot(
     ensures rows { HasChanged (joined rows.old.items) (joined rows.new.items) (place_of_spot rows.old.items spot) (remove_keyed name.now (Some version.now)) (λ room. Unit {0}) }
 {
     rows[spot.piece][spot.at].remove(name, version);
+}
+
+fn find_at(
+    rows: &mut Pieces<Numbered<Named<Shelf>>>,
+    order: &Pieces<u64>,
+    next: u64,
+    list: &[u8],
+    name: &[u8],
+    version: Option<&Version>,
+) -> Option<StanzaKey>
+    requires { IsTable named_row rows.old.pieces rows.old.ready next order.now.pieces order.now.ready }
+    ensures table { IsTable named_row rows.new.pieces rows.new.ready next order.now.pieces order.now.ready }
+    ensures rows { joined rows.new.pieces.items ≡ joined rows.old.pieces.items }
+    ensures ready { rows.new.ready ≡ rows.old.ready }
+    ensures key { option_to_list result ≡ option_map_or (λ s. found_key name.now (option_copied version.entry) (keyed_list s)) (at_name list.now (items_of (joined rows.old.pieces.items))) [] }
+    ensures found { is_some result ≡ option_map_or (λ (s : Sheet). is_some (place (by_name_and_version name.now (option_copied version.entry)) s.rows)) (at_name list.now (items_of (joined rows.old.pieces.items))) false }
+{
+    match find_spot(rows, order, next, &label_of_name(list)) {
+        Some(spot) => find_in_spot(&mut rows.pieces, spot, name, version),
+        None => None,
+    }
 }
 
 fn reserve_at(

@@ -67,6 +67,16 @@ impl Store {
         }
     }
 
+    // The same key as `found_in`. The list's next look-up begins where it stands.
+    #[tactic(auto, using(crate::proofs::ListedLemmas::at_name_lists, crate::proofs::ListedLemmas::has_stanza_held))]
+    fn seek_in(&mut self, list: &[u8], name: &[u8], version: Option<&Version>) -> Option<StanzaKey>
+        ensures same { self.new ≡ self.old }
+        ensures key { option_to_list result ≡ found_in list.now name.now (option_copied version.entry) (keyed_of self.old).lists }
+        ensures there { is_some result ≡ has_stanza list.now name.now (option_copied version.entry) (state_of self.old).lists }
+    {
+        self.lists.find_in(list, name, version)
+    }
+
     // The key of the stanza that an edit takes out or replaces.
     pub(super) fn found(&self, edit: &Edit) -> Option<StanzaKey>
         ensures key { option_to_list result ≡ found_of (keyed_of self.now) (edit_of edit.now) }
@@ -81,6 +91,25 @@ impl Store {
                 package,
                 version,
             } => self.found_in(list.as_slice(), package.as_slice(), Some(version)),
+            _ => None,
+        }
+    }
+
+    /// The same key as `found`, for an edit that is about to be made: its commit finds at one look what this searched for.
+    pub(super) fn seek(&mut self, edit: &Edit) -> Option<StanzaKey>
+        ensures same { self.new ≡ self.old }
+        ensures key { option_to_list result ≡ found_of (keyed_of self.old) (edit_of edit.now) }
+        ensures there { is_some result ≡ is_there (state_of self.old) (edit_of edit.now) }
+    {
+        match edit {
+            Edit::Put { list, stanza } => {
+                self.seek_in(list.as_slice(), stanza.package(), stanza.version())
+            }
+            Edit::Remove {
+                list,
+                package,
+                version,
+            } => self.seek_in(list.as_slice(), package.as_slice(), Some(version)),
             _ => None,
         }
     }

@@ -185,7 +185,7 @@ impl Store {
         ensures back { IfErr result (λ e. e.0 ≡ edit) }
         ensures refused { IfErr result (λ e. e.1 ≢ refusal.Memory → refusal_of self.old.limits (state_of self.old) (edit_of edit) ≡ Some e.1) }
     {
-        let found = self.found(&edit);
+        let found = self.seek(&edit);
         match self.check_found(&edit, found.is_some()) {
             Ok(()) => {}
             Err(why) => return Err((edit, why)),

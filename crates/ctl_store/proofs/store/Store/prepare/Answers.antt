@@ -15,13 +15,13 @@ use Rattle.ctl_store.proofs.store.Store.prepare.Goals as goal
 
 pub invariant_of-result : goal.invariant_of-result
 invariant_of-result c = record {
-  coming = subst (λ ks. AreComing ks (edit_of c.args.edit)) (sym c.in-Ok-added_keys.ensures) (added_come (keyed_of c.args.self.now) (edit_of c.args.edit));
-  among = λ k. subst (λ ks. coming_among (edit_of c.args.edit) ks k ≡ coming_under ks (edit_of c.args.edit) k) (sym c.in-Ok-added_keys.ensures) (comes_among k (keyed_of c.args.self.now) (edit_of c.args.edit));
+  coming = subst (λ ks. AreComing ks (edit_of c.args.edit)) (sym c.in-Ok-added_keys.ensures) (added_come (keyed_of c.seek-found.new.self) (edit_of c.args.edit));
+  among = λ k. subst (λ ks. coming_among (edit_of c.args.edit) ks k ≡ coming_under ks (edit_of c.args.edit) k) (sym c.in-Ok-added_keys.ensures) (comes_among k (keyed_of c.seek-found.new.self) (edit_of c.args.edit));
 }
 
 pub returns-clause-ready : goal.returns-clause-ready
 returns-clause-ready c =
-    let k = keyed_of c.args.self.now in
+    let k = keyed_of c.seek-found.new.self in
     let e = edit_of c.args.edit in
     let s = c.self.inside in
     record {
@@ -38,7 +38,7 @@ returns-clause-ready c =
 
 pub returns-clause-change : goal.returns-clause-change
 returns-clause-change c =
-    let k = keyed_of c.args.self.now in
+    let k = keyed_of c.seek-found.new.self in
     let e = edit_of c.args.edit in
     let s = c.self.inside in
     subst (λ (t : Keyed). IsChange t.lists (keyed_after t e).lists c.in-Ok-removed_keys.keys.items c.in-Ok-added_keys.keys.items e) (sym c.make_room.ensures.keyed)
@@ -48,7 +48,7 @@ returns-clause-change c =
 
 pub returns-clause-followed : goal.returns-clause-followed
 returns-clause-followed c =
-    let k = keyed_of c.args.self.now in
+    let k = keyed_of c.seek-found.new.self in
     let e = edit_of c.args.edit in
     let s = c.self.inside in
     let n = s.limits.stanzas + s.edits in
@@ -60,7 +60,7 @@ returns-clause-followed c =
 
 pub returns-clause-given : goal.returns-clause-given
 returns-clause-given c =
-    let k = keyed_of c.args.self.now in
+    let k = keyed_of c.seek-found.new.self in
     let e = edit_of c.args.edit in
     let s = c.self.inside in
     let n = s.limits.stanzas + s.edits in

@@ -6,7 +6,7 @@ use Rattle.ctl_store.specs.Keys.{KeyedList, found_key, key_at, key_of, new_list}
 use Rattle.ctl_store.specs.Held.{keyed_list}
 use Rattle.ctl_store.proofs.PlaceLemmas.{place_within}
 use Rattle.ctl_store.proofs.ShelfLemmas.{key_read}
-use Rattle.ctl_store.proofs.shelf.Shelf.found_key.Goals as goal
+use Rattle.ctl_store.proofs.shelf.Shelf.key_and_spot.Goals as goal
 
 pub returns-in_default-Some-clause-key : goal.returns-in_default-Some-clause-key
 returns-in_default-Some-clause-key c =
