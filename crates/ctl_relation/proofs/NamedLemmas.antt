@@ -1,6 +1,7 @@
 -- The name of an atom where it is read alone, and the atoms of all groups of a field.
 use Rattle.std.proofs.Common.{◌≡◌, ◌∙◌, ◌||◌, ◌&&◌, ◌<◌, ℕ, zero, suc, Bool, true, false, List, [], ◌∷◌, ◌++◌, length, take, drop, get_or, Option, Result, Ok, Err, nat_eq, refl, sym, ap, arith}
 use Rattle.std.specs.List.{starts_with}
+use Rattle.std.specs.Cmp.{nat_eq_equiv}
 use Rattle.std.proofs.Math.Bool.{and-false}
 use Rattle.std.specs.Str.{bytes_eq}
 use Rattle.std.proofs.lemmas.Bool.Decides.{nat_tests}
@@ -80,14 +81,11 @@ not_in_front [] (b ∷ bs) (suc n) h = refl
 not_in_front (c ∷ cs) (b ∷ bs) zero h = refl
 not_in_front (c ∷ cs) (b ∷ bs) (suc n) h = front_step c b cs bs n h (not_in_front cs bs n) (nat_eq c b) refl
 
-unequal : (x y : ℕ) → nat_eq x y ≡ false → nat_eq y x ≡ false
-unequal x y e = grind (arith, nat_tests)
-
 -- a text that differs from a name at one place of it doesn't begin with it
 pub differs_at : (text name : List ℕ) (i : ℕ) → i < length text → i < length name → nat_eq (get_or text i 0) (get_or name i 0) ≡ false → starts_with nat_eq text name ≡ false
 differs_at [] name i l m n = absurd (omega arith)
 differs_at (c ∷ cs) [] i l m n = absurd (omega arith)
-differs_at (c ∷ cs) (d ∷ ds) zero l m n = ap (λ e. e && starts_with nat_eq cs ds) (unequal c d n)
+differs_at (c ∷ cs) (d ∷ ds) zero l m n = ap (λ e. e && starts_with nat_eq cs ds) (nat_eq_equiv.symm d c ∙ n)
 differs_at (c ∷ cs) (d ∷ ds) (suc i) l m n = ap (λ e. nat_eq d c && e) (differs_at cs ds i (omega arith) (omega arith) n) ∙ and-false (nat_eq d c)
 
 -- ---- the atoms of all groups
