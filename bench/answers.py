@@ -4,9 +4,10 @@
     bench/answers.py PROGRAM [--status STATUS] NAME=PACKAGES...
 
 The session has read the lists; apt-cache has made its caches. A query's time in the session goes from the first byte that is written
-to it to the last that it answers, and ends where a line that is no command is refused behind it. The times are the least of some rounds, in
-each of which the session and apt-cache are asked once, so that a machine that is busy is busy for both. Of one name each round asks
-many times. The limits are printed beside the ratios. Nothing is refused by them: a busy machine passes them at times."""
+to it to the last that it answers, and ends where a line that is no command is refused behind it. What either prints is read over a
+pipe. The times are the least of some rounds, in each of which the session and apt-cache are asked once, so that a machine that is busy
+is busy for both. Of one name each round asks many times. The limits are printed beside the ratios. Nothing is refused by them: a busy
+machine passes them at times."""
 
 import argparse
 import os
@@ -26,6 +27,17 @@ NAMES_AT_ONCE = 20_000
 
 ONE = "bash"
 
+# The most bytes that are read of a pipe at once.
+PIECE = 1 << 20
+
+
+def read_all(pipe):
+    """What comes over a pipe, up to its end."""
+    told = bytearray()
+    while piece := os.read(pipe, PIECE):
+        told += piece
+    return told
+
 
 class Session:
     """The program, which is asked line by line."""
@@ -44,7 +56,7 @@ class Session:
         writing = threading.Thread(target=self.running.stdin.write, args=(text,))
         writing.start()
         while not answer.endswith(end):
-            piece = os.read(self.running.stdout.fileno(), 1 << 20)
+            piece = os.read(self.running.stdout.fileno(), PIECE)
             if not piece:
                 raise SystemExit("the program ended early")
             answer += piece
@@ -65,7 +77,8 @@ class Peer:
 
     def ask(self, *words):
         start = time.monotonic()
-        subprocess.run(["apt-cache", *words], env=self.environment, stdout=subprocess.DEVNULL, stderr=subprocess.DEVNULL, check=False)
+        with subprocess.Popen(["apt-cache", *words], env=self.environment, stdout=subprocess.PIPE, stderr=subprocess.DEVNULL, bufsize=0) as running:
+            read_all(running.stdout.fileno())
         return time.monotonic() - start
 
 

@@ -1,5 +1,5 @@
 """What a process takes: its time and its peak of memory. A small helper starts it, since a process begins with the peak of what
-starts it."""
+starts it, and reads what it prints over a pipe."""
 
 import os
 import subprocess
@@ -8,11 +8,15 @@ import sys
 HELPER = """
 import os, sys, time
 start = time.monotonic()
+told, telling = os.pipe()
 child = os.fork()
 if child == 0:
-    os.dup2(os.open("/dev/null", os.O_WRONLY), 1)
+    os.dup2(telling, 1)
     os.dup2(os.open("/dev/null", os.O_WRONLY), 2)
     os.execvp(sys.argv[1], sys.argv[1:])
+os.close(telling)
+while os.read(told, 1 << 20):
+    pass
 _, status, usage = os.wait4(child, 0)
 print(time.monotonic() - start, usage.ru_maxrss * 1024, os.waitstatus_to_exitcode(status))
 """

@@ -2,9 +2,9 @@
 """run.py PROGRAM EXAMPLES
 
 Tests the program from outside: its words, its exit statuses, lists from files, what it writes to standard output and
-standard error, many edits of one list, hostile filters, a full device, a closed pipe, a reader that stops, a talk command by command, the
-examples and those of the manual, also cut at each byte; and what is installed beside it: the wrapper, its completion and the
-package. The last line is the count."""
+standard error, many edits of one list, answers on many names, hostile filters, a full device, a closed pipe, a reader that stops, a
+talk command by command, the examples and those of the manual, also cut at each byte; and what is installed beside it: the wrapper, its
+completion and the package. The last line is the count."""
 
 import os
 import sys
@@ -18,6 +18,7 @@ from files import test_files
 from filter_words import test_filters
 from harness import Tests
 from manual import test_manual
+from many_names import test_many_names
 from package import test_package
 from scripts import test_scripts
 from talk import test_talk
@@ -32,6 +33,7 @@ def main(words):
     tests = Tests(os.path.abspath(words[0]))
     test_scripts(tests)
     test_edits(tests)
+    test_many_names(tests)
     test_words(tests)
     test_files(tests)
     test_filters(tests)

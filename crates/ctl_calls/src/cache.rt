@@ -6,8 +6,8 @@ ghost use Rattle.std.specs.Prelude.{◌≡◌, false};
 
 use crate::asked::{Asked, edit_asked};
 use crate::cache_rows::{
-    append_candidates, append_chosen, append_known, append_lead_of, append_names_with_rows,
-    append_row_of, append_rows,
+    append_all_rows, append_candidates, append_chosen, append_known, append_lead_of,
+    append_name_view, append_names_with_rows, append_row_of, append_rows,
 };
 use crate::cache_shown::{
     append_counters, append_namers, append_names, append_offers, append_packages,
@@ -77,6 +77,10 @@ pub enum Act<'a> {
     Tables,
     /// Shows the rows of a name.
     Rows(&'a [u8]),
+    /// Shows the rows of all names.
+    AllRows,
+    /// Shows what stands under a name.
+    NameView(&'a [u8]),
     /// Shows the lead of a name and a version.
     Lead(&'a [u8], &'a [u8]),
     /// Shows the row of a name and a version, its priority and its sources.
@@ -170,6 +174,8 @@ fn append_view(
         Act::Unmet => append_unmet(alloc, cache, all),
         Act::Tables => append_tables(alloc, cache, all),
         Act::Rows(name) => append_rows(alloc, cache, name, all),
+        Act::AllRows => append_all_rows(alloc, cache, all),
+        Act::NameView(name) => append_name_view(alloc, cache, name, all),
         Act::Lead(name, version) => append_lead_of(alloc, cache, name, version, all),
         Act::Row(name, version) => append_row_of(alloc, cache, name, version, all),
         Act::Chosen(name) => append_chosen(alloc, cache, name, all),

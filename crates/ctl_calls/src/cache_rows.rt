@@ -2,8 +2,9 @@
 
 ghost use Rattle.std.specs.Prelude.{◌≡◌, false};
 
+use crate::cache_shown::append_atoms;
 use ctl_index::Cache;
-use ctl_policy::Chosen;
+use ctl_policy::{Chosen, NewestFirst};
 use ctl_relation::Version;
 use ctl_store::StanzaKey;
 use std::alloc::{AllocError, Global};
@@ -32,6 +33,48 @@ fn append_keys(alloc: Global, keys: &[StanzaKey], all: &mut Vec<u8>) -> Result<(
     Ok(())
 }
 
+/// Rows, in their order.
+fn append_each_row(
+    alloc: Global,
+    rows: NewestFirst<'_>,
+    all: &mut Vec<u8>,
+) -> Result<(), AllocError> {
+    for keys in rows {
+        append_keys(alloc, keys, all)?;
+    }
+    Ok(())
+}
+
+/// The rows of all names, newest first, and a slash behind those of each name.
+pub fn append_all_rows(alloc: Global, cache: &Cache, all: &mut Vec<u8>) -> Result<(), AllocError>
+    requires { cache.now.stale ≡ false }
+{
+    for rows in cache.all_rows() {
+        append_each_row(alloc, rows, all)?;
+        all.push(b'/')?;
+    }
+    Ok(())
+}
+
+/// What stands under a name: whether it is known, its rows, and the atoms that name it.
+pub fn append_name_view(
+    alloc: Global,
+    cache: &Cache,
+    name: &[u8],
+    all: &mut Vec<u8>,
+) -> Result<(), AllocError>
+    requires { cache.now.stale ≡ false }
+{
+    let view = cache.name_view(name);
+    all.extend_from_slice(if view.is_known() {
+        b"known"
+    } else {
+        b"unknown"
+    })?;
+    append_each_row(alloc, view.rows(), all)?;
+    append_atoms(alloc, view.namers(), all)
+}
+
 /// The rows of a name, newest first.
 pub fn append_rows(
     alloc: Global,
@@ -41,10 +84,7 @@ pub fn append_rows(
 ) -> Result<(), AllocError>
     requires { cache.now.stale ≡ false }
 {
-    for keys in cache.rows(name) {
-        append_keys(alloc, keys, all)?;
-    }
-    Ok(())
+    append_each_row(alloc, cache.rows(name), all)
 }
 
 /// The lead of a version of a name.

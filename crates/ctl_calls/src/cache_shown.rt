@@ -2,7 +2,7 @@
 
 ghost use Rattle.std.specs.Prelude.{◌≡◌, false};
 
-use ctl_index::{AtomKey, Cache, ClauseKey};
+use ctl_index::{AtomKey, Cache, ClauseKey, Namers};
 use ctl_relation::{Offer, Version};
 use ctl_store::StanzaKey;
 use std::alloc::{AllocError, Global};
@@ -102,7 +102,22 @@ pub fn append_offers(
     Ok(())
 }
 
-/// The atoms that name a name, in the order of their keys, each with a semicolon behind it.
+/// Atoms in the order of their keys, each with a semicolon behind it.
+pub fn append_atoms(
+    alloc: Global,
+    namers: Namers<'_>,
+    all: &mut Vec<u8>,
+) -> Result<(), AllocError> {
+    let mut atoms: Vec<AtomKey> = namers.collect(alloc)?;
+    atoms.sort_unstable();
+    for key in &atoms {
+        append_atom(alloc, *key, all)?;
+        all.push(b';')?;
+    }
+    Ok(())
+}
+
+/// The atoms that name a name.
 pub fn append_namers(
     alloc: Global,
     cache: &Cache,
@@ -111,13 +126,7 @@ pub fn append_namers(
 ) -> Result<(), AllocError>
     requires { cache.now.stale ≡ false }
 {
-    let mut atoms: Vec<AtomKey> = cache.namers(name).collect(alloc)?;
-    atoms.sort_unstable();
-    for key in &atoms {
-        append_atom(alloc, *key, all)?;
-        all.push(b';')?;
-    }
-    Ok(())
+    append_atoms(alloc, cache.namers(name), all)
 }
 
 /// Each clause with its number, in order, each with a semicolon behind it.

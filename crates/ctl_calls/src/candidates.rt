@@ -93,6 +93,38 @@ fn a_row_has_a_priority_and_sources(rt: HostRuntime) -> Result<(), Fail> {
 }
 
 #[test]
+fn rows_are_told_by_one_look(rt: HostRuntime) -> Result<(), Fail> {
+    const ROWS: &[Row] = &[
+        (
+            b"of all names in order, and of some",
+            &[
+                Act::Make(Asked::AddList("main", MAIN)),
+                Act::Make(Asked::AddList("sid", SID)),
+                Act::AllRows,
+                Act::NameView(b"foo"),
+                Act::NameView(b"bar"),
+                Act::NameView(b"baz"),
+                Act::NameView(b"fo"),
+            ],
+            b"+0|+0| 0.1;// 1.0; 0.0 1.1;/|known 1.0; 0.0 1.1;|known 0.1;|known0.1 Depends 0 0;|unknown|",
+        ),
+        (
+            b"of a list that goes",
+            &[
+                Act::Make(Asked::AddList("main", MAIN)),
+                Act::Make(Asked::AddList("sid", SID)),
+                Act::Make(Asked::DropNamed("main")),
+                Act::AllRows,
+                Act::NameView(b"foo"),
+                Act::NameView(b"baz"),
+            ],
+            b"+0|+0|+0| 1.0; 1.1;/|known 1.0; 1.1;|unknown|",
+        ),
+    ];
+    judge_each(&rt, ROWS)
+}
+
+#[test]
 fn names_are_known_with_and_without_rows(rt: HostRuntime) -> Result<(), Fail> {
     const ACTS: &[Act<'static>] = &[
         Act::NamesWithRows,

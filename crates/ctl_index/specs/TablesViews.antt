@@ -10,7 +10,8 @@ use Rattle.ctl_store.specs.declared.stanza_key.StanzaKey.{StanzaKey}
 use Rattle.ctl_store.specs.Held.{Held}
 use Rattle.ctl_index.specs.declared.keys.OfferKey.{OfferKey}
 use Rattle.ctl_index.specs.declared.named.Named.{Named}
-use Rattle.ctl_index.specs.TablesByName.{named_offers}
+use Rattle.ctl_policy.specs.Rows.{newest_first, keys_of_row}
+use Rattle.ctl_index.specs.TablesByName.{named_offers, named_rows}
 use Rattle.ctl_index.specs.TablesSight.{offer_seen, in_store}
 
 -- the offer under a key, with the key of its stanza
@@ -36,6 +37,10 @@ NamedEntry = Vec ℕ Global × Named
 
 abbrev pub entry_names : List NamedEntry → List (List ℕ)
 entry_names entries = map (λ (e : NamedEntry). e.0.items) entries
+
+-- the rows that stand under a name, newest first, each by the keys of its stanzas
+abbrev pub entry_rows : NamedEntry → List (List StanzaKey)
+entry_rows e = map keys_of_row (newest_first (named_rows e.1))
 
 -- the names that begin with a prefix, of packages
 abbrev pub packages_with : List ℕ → List NamedEntry → List (List ℕ)

@@ -1,12 +1,12 @@
 //! The table of names: who offers each name, the atoms that name it, and its rows.
 
-ghost use Rattle.std.specs.Prelude.{◌≡◌, ◌≤◌, ◌<◌, ◌^◌, ◌∷◌, ◌++◌, ◌+◌, ◌-◌, ℕ, [], List, OnOk, OnErr, IfOk, IfSome, IfNone, is_some, option_map, filter, ◌&&◌, true, if◌then◌else◌};
+ghost use Rattle.std.specs.Prelude.{◌≡◌, ◌≤◌, ◌<◌, ◌^◌, ◌∷◌, ◌++◌, ◌+◌, ◌-◌, ℕ, [], List, Some, OnOk, OnErr, IfOk, IfSome, IfNone, is_some, option_copied, option_map, filter, ◌&&◌, true, if◌then◌else◌};
 ghost use Rattle.ctl_policy.specs.Chosen.{at_bytes};
 ghost use Rattle.std.specs.BTreeMap.{get, keys, IsEmpty, IsOrdered};
 ghost use Rattle.std.specs.Cmp.Lexicographic.{slice_cmp};
 ghost use Rattle.std.specs.FinMap as fin;
 ghost use Rattle.std.specs.Ordering.{nat_cmp, is_le};
-ghost use Rattle.std.specs.List.{sum_by};
+ghost use Rattle.std.specs.List.{All, sum_by};
 ghost use Rattle.std.specs.Str.{bytes_eq};
 ghost use Rattle.ctl_policy.specs.Kept.{HasPut, HasTaken, OthersStay};
 ghost use Rattle.ctl_index.specs.Clauses.{clause_cmp};
@@ -55,6 +55,16 @@ impl NameTable {
         self.map.keys()
     }
 
+    /// The names, in the order of their bytes, with what stands under them.
+    pub(crate) fn entries(&self) -> btree_map::Iter<'_, Vec<u8>, Named>
+        ensures entries { result ≡ self.now.map.entries }
+        ensures found { All (λ entry. at_bytes self.now.map entry.0.items ≡ Some entry.1) self.now.map.entries }
+        ensures ordered { IsOrdered (λ one other. slice_cmp nat_cmp one.items other.items) self.now.map }
+        ensures used { AreUsed self.now.map }
+    {
+        self.map.iter()
+    }
+
     /// The names from this one on, in the order of their bytes, with what stands under them.
     pub(crate) fn range_from(&self, first: &Vec<u8>) -> btree_map::Range<'_, Vec<u8>, Named>
         ensures entries { result ≡ filter (λ entry. is_le (slice_cmp nat_cmp first.now.items entry.0.items) && true) self.now.map.entries }
@@ -100,6 +110,14 @@ impl NameTable {
         ensures used { AreUsed self.now.map }
     {
         self.map.contains_key(name)
+    }
+
+    /// What stands under a name, if anything does.
+    pub(crate) fn get(&self, name: &[u8]) -> Option<&Named>
+        ensures entry { option_copied result ≡ at_bytes self.now.map name.now }
+        ensures used { AreUsed self.now.map }
+    {
+        self.map.get(name)
     }
 
     // What stands under a name that isn't there yet.

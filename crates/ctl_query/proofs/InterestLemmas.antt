@@ -18,12 +18,12 @@ use Rattle.ctl_query.proofs.OrderLemmas.{in_order_sorted, one_in_order}
 use Rattle.ctl_query.proofs.SilentLemmas.{IsSilent, silent_rows, no_rows}
 
 -- what has no text can be left out
-skip_at : (f : List ℕ → List ℕ) (p : List ℕ → Bool) (x : List ℕ) (xs : List (List ℕ)) → flat_map f xs ≡ flat_map f (filter p xs) → (p x ≡ false → f x ≡ []) →
+skip_at : {A B : Type 0} (f : A → List B) (p : A → Bool) (x : A) (xs : List A) → flat_map f xs ≡ flat_map f (filter p xs) → (p x ≡ false → f x ≡ []) →
     (b : Bool) → p x ≡ b → flat_map f (x ∷ xs) ≡ flat_map f (filter p (x ∷ xs))
 skip_at f p x xs rest none true e = rw e (ap (λ t. f x ++ t) rest)
 skip_at f p x xs rest none false e = rw e (ap (λ t. t ++ flat_map f xs) (none e) ∙ rest)
 
-skip : (f : List ℕ → List ℕ) (p : List ℕ → Bool) → ((x : List ℕ) → p x ≡ false → f x ≡ []) → (xs : List (List ℕ)) → flat_map f xs ≡ flat_map f (filter p xs)
+pub skip : {A B : Type 0} (f : A → List B) (p : A → Bool) → ((x : A) → p x ≡ false → f x ≡ []) → (xs : List A) → flat_map f xs ≡ flat_map f (filter p xs)
 skip f p none [] = refl
 skip f p none (x ∷ xs) = skip_at f p x xs (skip f p none xs) (none x) (p x) refl
 

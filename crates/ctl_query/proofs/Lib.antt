@@ -1,11 +1,17 @@
 pub mod AnewLemmas
 pub mod AnswerLemmas
+pub mod AtomLemmas
+pub mod AtomOrderLemmas
 pub mod ClassLemmas
 pub mod EnoughLemmas
 pub mod EntryLemmas
 pub mod GroupLemmas
 pub mod InterestLemmas
 pub mod KnownLemmas
+pub mod LeadAtomLemmas
+pub mod LeadLemmas
+pub mod LeadNamingLemmas
+pub mod LeadTableLemmas
 pub mod ListLemmas
 pub mod NameLemmas
 pub mod NamingLemmas

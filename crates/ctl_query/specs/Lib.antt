@@ -18,3 +18,5 @@ pub mod Providers
 pub mod NamingRead
 pub mod Holdings
 pub mod Anew
+pub mod Leads
+pub mod LeadTable

@@ -20,8 +20,9 @@ fn append_asker(lead: &Stanza, out: &mut Vec<u8>) -> Result<(), AllocError>
     Ok(())
 }
 
+/// Appends what is told of an atom of a lead that names a name.
 #[tactic(auto, unfolding(crate::specs::Texts::line))]
-fn append_naming(
+pub(crate) fn append_naming_line(
     lead: &Stanza,
     field: FieldKind,
     atom: &Atom<'_>,
@@ -51,7 +52,7 @@ fn append_naming_group(
     }
     'atoms: for atom in group.atoms() {
         if atom.name() == name {
-            append_naming(lead, field, &atom, out)?;
+            append_naming_line(lead, field, &atom, out)?;
         }
     }
     Ok(())

@@ -1,25 +1,32 @@
 //! The answer to `showpkg`.
 
-ghost use Rattle.std.specs.Prelude.{◌≡◌, ◌++◌, ◌∷◌, [], OnOk, codes, false, flat_map};
+ghost use Rattle.std.specs.Prelude.{◌≡◌, ◌++◌, ◌∷◌, [], OnOk, IfOk, IfSome, codes, false, flat_map};
+ghost use Rattle.std.specs.List.{AllByRecursion};
+ghost use Rattle.std.specs.List.Sorted.{IsPermutation};
 ghost use Rattle.ctl_store.specs.Held.{keyed_of};
 ghost use Rattle.ctl_store.specs.Keys.{AreHeld};
+ghost use Rattle.ctl_index.specs.Held.{standing};
+ghost use Rattle.ctl_index.specs.Names.{namers_named};
 ghost use Rattle.ctl_policy.specs.Priority.{world_of};
 ghost use Rattle.ctl_policy.specs.Rows.{sources_of};
+ghost use Rattle.ctl_query.specs.Leads.{leads_of};
 ghost use Rattle.ctl_query.specs.NameSet.{lent_names};
 ghost use Rattle.ctl_query.specs.Packages.{rows_of, of_rows, of_all_rows, told_of_row};
 ghost use Rattle.ctl_query.specs.ShowPackage.{source_mark, version_line, naming_lines, relation_lines, entry_lines, providing_lines, show_package_one, show_package_text};
 ghost use Rattle.ctl_query.specs.Texts.{line, if_known};
 
 use crate::interest::{packages_naming, packages_offering, stanzas_are_found};
+use crate::lead_atoms::{append_atoms, list_atoms};
 use crate::lead_lines::{
     append_entry_lines, append_naming_lines, append_providing_lines, append_relation_lines,
 };
+use crate::lead_table::LeadTable;
 use crate::leads::lead_in;
-use crate::packages::{is_known, rows_of};
+use crate::packages::{rows_of, view_of};
 use crate::policy::row_version;
 use crate::text::{append_line, append_parts, append_unknown};
-use ctl_index::Cache;
-use ctl_policy::{is_source, rows_are_classes};
+use ctl_index::{Cache, NameView, Namers};
+use ctl_policy::{NewestFirst, is_source, rows_are_classes};
 use ctl_relation::Bytes;
 use ctl_store::{StanzaKey, Store};
 use std::alloc::{AllocError, Global};
@@ -51,11 +58,15 @@ fn append_version(store: &Store, row: &[StanzaKey], out: &mut Vec<u8>) -> Result
     Ok(())
 }
 
-fn append_versions(cache: &Cache, name: &[u8], out: &mut Vec<u8>) -> Result<(), AllocError>
-    requires { cache.now.stale ≡ false }
-    ensures { OnOk result (out.new.items ≡ out.old.items ++ flat_map (version_line (world_of cache.now.store)) (rows_of (world_of cache.now.store) name.now)) }
+fn append_versions(
+    cache: &Cache,
+    rows: NewestFirst<'_>,
+    out: &mut Vec<u8>,
+) -> Result<(), AllocError>
+    requires { AllByRecursion (λ row. AreHeld row (keyed_of cache.now.store).lists) rows }
+    ensures { OnOk result (out.new.items ≡ out.old.items ++ flat_map (version_line (world_of cache.now.store)) rows.entry) }
 {
-    'rows: for row in rows_of(cache, name) {
+    'rows: for row in rows {
         append_version(cache.store(), row, out)?;
     }
     Ok(())
@@ -111,7 +122,7 @@ fn append_each_naming(
 }
 
 /// Appends the atoms that name a name. The packages with such an atom are enough.
-fn append_naming(
+fn append_naming_by_askers(
     alloc: Global,
     cache: &Cache,
     name: &[u8],
@@ -127,16 +138,54 @@ fn append_naming(
     Ok(())
 }
 
+/// The same by a table of leads: each atom is gone to by its key, and no name is looked for.
+fn append_naming_by_leads(
+    alloc: Global,
+    _cache: &Cache,
+    table: &LeadTable<'_>,
+    namers: Namers<'_>,
+    name: &[u8],
+    out: &mut Vec<u8>,
+) -> Result<(), AllocError>
+    requires leads { table.now ≡ leads_of (world_of _cache.now.store) }
+    requires namers { IsPermutation (namers_named name.now (standing _cache.now.store)) namers }
+    ensures { OnOk result (out.new.items ≡ out.old.items ++ of_all_rows (world_of _cache.now.store) (naming_lines name.now)) }
+{
+    let atoms = list_atoms(alloc, table, namers)?;
+    append_atoms(table, name, &atoms, out)?;
+    Ok(())
+}
+
+/// Appends the atoms that name a name.
+fn append_naming(
+    alloc: Global,
+    cache: &Cache,
+    table: Option<&LeadTable<'_>>,
+    namers: Namers<'_>,
+    name: &[u8],
+    out: &mut Vec<u8>,
+) -> Result<(), AllocError>
+    requires fresh { cache.now.stale ≡ false }
+    requires leads { IfSome table (λ table. table.now ≡ leads_of (world_of cache.now.store)) }
+    requires namers { IsPermutation (namers_named name.now (standing cache.now.store)) namers }
+    ensures { OnOk result (out.new.items ≡ out.old.items ++ of_all_rows (world_of cache.now.store) (naming_lines name.now)) }
+{
+    match table {
+        Some(table) => { append_naming_by_leads(alloc, cache, table, namers, name, out) }
+        None => append_naming_by_askers(alloc, cache, name, out),
+    }
+}
+
 // ---- what it names
 
 fn append_relation_row(
-    store: &Store,
+    cache: &Cache,
     row: &[StanzaKey],
     out: &mut Vec<u8>,
 ) -> Result<(), AllocError>
-    ensures { OnOk result (out.new.items ≡ out.old.items ++ told_of_row (world_of store.now) relation_lines row.now) }
+    ensures { OnOk result (out.new.items ≡ out.old.items ++ told_of_row (world_of cache.now.store) relation_lines row.now) }
 {
-    match lead_in(store, row) {
+    match lead_in(cache.store(), row) {
         Some(lead) => {
             append_relation_lines(lead, out)?;
             Ok(())
@@ -145,22 +194,25 @@ fn append_relation_row(
     }
 }
 
-fn append_relations(cache: &Cache, name: &[u8], out: &mut Vec<u8>) -> Result<(), AllocError>
-    requires { cache.now.stale ≡ false }
-    ensures { OnOk result (out.new.items ≡ out.old.items ++ of_rows (world_of cache.now.store) relation_lines name.now) }
+fn append_relations(
+    cache: &Cache,
+    rows: NewestFirst<'_>,
+    out: &mut Vec<u8>,
+) -> Result<(), AllocError>
+    ensures { OnOk result (out.new.items ≡ out.old.items ++ flat_map (told_of_row (world_of cache.now.store) relation_lines) rows.entry) }
 {
-    'rows: for row in rows_of(cache, name) {
-        append_relation_row(cache.store(), row, out)?;
+    'rows: for row in rows {
+        append_relation_row(cache, row, out)?;
     }
     Ok(())
 }
 
 // ---- what it provides, and who provides it
 
-fn append_entry_row(store: &Store, row: &[StanzaKey], out: &mut Vec<u8>) -> Result<(), AllocError>
-    ensures { OnOk result (out.new.items ≡ out.old.items ++ told_of_row (world_of store.now) entry_lines row.now) }
+fn append_entry_row(cache: &Cache, row: &[StanzaKey], out: &mut Vec<u8>) -> Result<(), AllocError>
+    ensures { OnOk result (out.new.items ≡ out.old.items ++ told_of_row (world_of cache.now.store) entry_lines row.now) }
 {
-    match lead_in(store, row) {
+    match lead_in(cache.store(), row) {
         Some(lead) => {
             append_entry_lines(lead, out)?;
             Ok(())
@@ -169,12 +221,11 @@ fn append_entry_row(store: &Store, row: &[StanzaKey], out: &mut Vec<u8>) -> Resu
     }
 }
 
-fn append_entries(cache: &Cache, name: &[u8], out: &mut Vec<u8>) -> Result<(), AllocError>
-    requires { cache.now.stale ≡ false }
-    ensures { OnOk result (out.new.items ≡ out.old.items ++ of_rows (world_of cache.now.store) entry_lines name.now) }
+fn append_entries(cache: &Cache, rows: NewestFirst<'_>, out: &mut Vec<u8>) -> Result<(), AllocError>
+    ensures { OnOk result (out.new.items ≡ out.old.items ++ flat_map (told_of_row (world_of cache.now.store) entry_lines) rows.entry) }
 {
-    'rows: for row in rows_of(cache, name) {
-        append_entry_row(cache.store(), row, out)?;
+    'rows: for row in rows {
+        append_entry_row(cache, row, out)?;
     }
     Ok(())
 }
@@ -245,12 +296,12 @@ fn append_providing(
 
 // ---- all of it, heading by heading
 
-fn show_versions(cache: &Cache, name: &[u8], out: &mut Vec<u8>) -> Result<(), AllocError>
-    requires { cache.now.stale ≡ false }
-    ensures { OnOk result (out.new.items ≡ out.old.items ++ (line (codes "Versions:" ∷ []) ++ (flat_map (version_line (world_of cache.now.store)) (rows_of (world_of cache.now.store) name.now) ++ line []))) }
+fn show_versions(cache: &Cache, rows: NewestFirst<'_>, out: &mut Vec<u8>) -> Result<(), AllocError>
+    requires { AllByRecursion (λ row. AreHeld row (keyed_of cache.now.store).lists) rows }
+    ensures { OnOk result (out.new.items ≡ out.old.items ++ (line (codes "Versions:" ∷ []) ++ (flat_map (version_line (world_of cache.now.store)) rows.entry ++ line []))) }
 {
     append_line(out, &[b"Versions:"])?;
-    append_versions(cache, name, out)?;
+    append_versions(cache, rows, out)?;
     append_line(out, &[])?;
     Ok(())
 }
@@ -258,32 +309,34 @@ fn show_versions(cache: &Cache, name: &[u8], out: &mut Vec<u8>) -> Result<(), Al
 fn show_namers(
     alloc: Global,
     cache: &Cache,
+    table: Option<&LeadTable<'_>>,
+    namers: Namers<'_>,
     name: &[u8],
     out: &mut Vec<u8>,
 ) -> Result<(), AllocError>
-    requires { cache.now.stale ≡ false }
+    requires fresh { cache.now.stale ≡ false }
+    requires leads { IfSome table (λ table. table.now ≡ leads_of (world_of cache.now.store)) }
+    requires namers { IsPermutation (namers_named name.now (standing cache.now.store)) namers }
     ensures { OnOk result (out.new.items ≡ out.old.items ++ (line (codes "Reverse Depends:" ∷ []) ++ of_all_rows (world_of cache.now.store) (naming_lines name.now))) }
 {
     append_line(out, &[b"Reverse Depends:"])?;
-    append_naming(alloc, cache, name, out)?;
+    append_naming(alloc, cache, table, namers, name, out)?;
     Ok(())
 }
 
-fn show_relations(cache: &Cache, name: &[u8], out: &mut Vec<u8>) -> Result<(), AllocError>
-    requires { cache.now.stale ≡ false }
-    ensures { OnOk result (out.new.items ≡ out.old.items ++ (line (codes "Dependencies:" ∷ []) ++ of_rows (world_of cache.now.store) relation_lines name.now)) }
+fn show_relations(cache: &Cache, rows: NewestFirst<'_>, out: &mut Vec<u8>) -> Result<(), AllocError>
+    ensures { OnOk result (out.new.items ≡ out.old.items ++ (line (codes "Dependencies:" ∷ []) ++ flat_map (told_of_row (world_of cache.now.store) relation_lines) rows.entry)) }
 {
     append_line(out, &[b"Dependencies:"])?;
-    append_relations(cache, name, out)?;
+    append_relations(cache, rows, out)?;
     Ok(())
 }
 
-fn show_entries(cache: &Cache, name: &[u8], out: &mut Vec<u8>) -> Result<(), AllocError>
-    requires { cache.now.stale ≡ false }
-    ensures { OnOk result (out.new.items ≡ out.old.items ++ (line (codes "Provides:" ∷ []) ++ of_rows (world_of cache.now.store) entry_lines name.now)) }
+fn show_entries(cache: &Cache, rows: NewestFirst<'_>, out: &mut Vec<u8>) -> Result<(), AllocError>
+    ensures { OnOk result (out.new.items ≡ out.old.items ++ (line (codes "Provides:" ∷ []) ++ flat_map (told_of_row (world_of cache.now.store) entry_lines) rows.entry)) }
 {
     append_line(out, &[b"Provides:"])?;
-    append_entries(cache, name, out)?;
+    append_entries(cache, rows, out)?;
     Ok(())
 }
 
@@ -301,22 +354,28 @@ fn show_providers(
     Ok(())
 }
 
-/// Appends the answer on a known name.
+/// Appends the answer on a known name, under which this stands.
 #[tactic(auto, unfolding(crate::specs::ShowPackage::show_package_one))]
 fn append_known(
     alloc: Global,
     cache: &Cache,
+    table: Option<&LeadTable<'_>>,
+    view: &NameView<'_>,
     name: &[u8],
     out: &mut Vec<u8>,
 ) -> Result<(), AllocError>
-    requires { cache.now.stale ≡ false }
+    requires fresh { cache.now.stale ≡ false }
+    requires leads { IfSome table (λ table. table.now ≡ leads_of (world_of cache.now.store)) }
+    requires rows { view.now.rows ≡ rows_of (world_of cache.now.store) name.now }
+    requires held { AllByRecursion (λ row. AreHeld row (keyed_of cache.now.store).lists) view.now.rows }
+    requires namers { IsPermutation (namers_named name.now (standing cache.now.store)) view.now.namers }
     ensures { OnOk result (out.new.items ≡ out.old.items ++ show_package_one (world_of cache.now.store) name.now) }
 {
     append_line(out, &[b"Package: ", name])?;
-    show_versions(cache, name, out)?;
-    show_namers(alloc, cache, name, out)?;
-    show_relations(cache, name, out)?;
-    show_entries(cache, name, out)?;
+    show_versions(cache, view.rows(), out)?;
+    show_namers(alloc, cache, table, view.namers(), name, out)?;
+    show_relations(cache, view.rows(), out)?;
+    show_entries(cache, view.rows(), out)?;
     show_providers(alloc, cache, name, out)?;
     Ok(())
 }
@@ -324,17 +383,55 @@ fn append_known(
 fn append_one(
     alloc: Global,
     cache: &Cache,
+    table: Option<&LeadTable<'_>>,
     name: &[u8],
     out: &mut Vec<u8>,
 ) -> Result<(), AllocError>
-    requires { cache.now.stale ≡ false }
+    requires fresh { cache.now.stale ≡ false }
+    requires leads { IfSome table (λ table. table.now ≡ leads_of (world_of cache.now.store)) }
     ensures { OnOk result (out.new.items ≡ out.old.items ++ if_known (world_of cache.now.store) (show_package_one (world_of cache.now.store)) name.now) }
 {
-    if !is_known(cache, name) {
+    let view = view_of(cache, name);
+    if !view.is_known() {
         append_unknown(out, name)?;
         return Ok(());
     }
-    append_known(alloc, cache, name, out)?;
+    append_known(alloc, cache, table, &view, name, out)?;
+    Ok(())
+}
+
+// How many stanzas there are for each name of a query from which on a table of all leads pays.
+const STANZAS_FOR_A_NAME: usize = 64;
+
+/// A table of leads, where so many names are asked for that it pays.
+fn table_for<'a>(
+    alloc: Global,
+    cache: &'a Cache,
+    names: usize,
+) -> Result<Option<LeadTable<'a>>, AllocError>
+    requires { cache.now.stale ≡ false }
+    ensures { IfOk result (λ table. IfSome table (λ table. table ≡ leads_of (world_of cache.now.store))) }
+{
+    if names <= cache.store().counts().stanzas as usize / STANZAS_FOR_A_NAME {
+        return Ok(None);
+    }
+    LeadTable::new(alloc, cache)
+}
+
+fn append_each(
+    alloc: Global,
+    cache: &Cache,
+    table: Option<&LeadTable<'_>>,
+    names: &[Bytes],
+    out: &mut Vec<u8>,
+) -> Result<(), AllocError>
+    requires fresh { cache.now.stale ≡ false }
+    requires leads { IfSome table (λ table. table.now ≡ leads_of (world_of cache.now.store)) }
+    ensures { OnOk result (out.new.items ≡ out.old.items ++ show_package_text (world_of cache.now.store) names.now) }
+{
+    for name in names {
+        append_one(alloc, cache, table, name.as_slice(), out)?;
+    }
     Ok(())
 }
 
@@ -348,8 +445,8 @@ pub(crate) fn append_show_package(
     requires { cache.now.stale ≡ false }
     ensures { OnOk result (out.new.items ≡ out.old.items ++ show_package_text (world_of cache.now.store) names.now) }
 {
-    for name in names {
-        append_one(alloc, cache, name.as_slice(), out)?;
+    match table_for(alloc, cache, names.len())? {
+        Some(table) => append_each(alloc, cache, Some(&table), names, out),
+        None => append_each(alloc, cache, None, names, out),
     }
-    Ok(())
 }

@@ -14,6 +14,7 @@ use std::alloc::{AllocError, Global};
 use std::env::{self, Args};
 use std::fs::File;
 use std::io::{ErrorKind, Read, Write};
+use std::mem;
 use std::process::ExitCode;
 use thiserror::Error;
 
@@ -125,6 +126,8 @@ fn run_script<R: Read + Drop, W: Write>(
     let mut sink = FromWrite::new(writer);
     let outcome = session.run(&mut source, &mut sink);
     let _ = source.into_inner();
+    // The process ends behind this, and the system takes all its memory back at once.
+    mem::forget(session);
     (outcome, sink.into_inner())
 }
 

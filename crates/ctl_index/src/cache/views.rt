@@ -113,6 +113,15 @@ impl<'a> Model for Namers<'a> {
     ghost view = { λ it. it.keys.now };
 }
 
+impl<'a> Namers<'a> {
+    /// The atoms of these keys.
+    pub(crate) fn new(keys: &'a [AtomKey]) -> Namers<'a>
+        ensures { result ≡ keys.now }
+    {
+        Namers { keys }
+    }
+}
+
 impl<'a> Iterator for Namers<'a> {
     ghost use Rattle.std.specs.Iterator.{YieldsFirst, item_count};
 

@@ -1,6 +1,6 @@
-use Rattle.std.proofs.Common.{◌∙◌, ◌++◌, [], ◌∷◌, append_assoc, ap, codes}
+use Rattle.std.proofs.Common.{◌∙◌, ◌++◌, [], ◌∷◌, append_assoc, flat_map, ap, codes}
 use Rattle.ctl_policy.specs.Priority.{world_of}
-use Rattle.ctl_query.specs.Packages.{of_rows}
+use Rattle.ctl_query.specs.Packages.{told_of_row}
 use Rattle.ctl_query.specs.ShowPackage.{relation_lines}
 use Rattle.ctl_query.specs.Texts.{line}
 use Rattle.ctl_query.proofs.show_package.show_relations.Goals as goal
@@ -9,5 +9,5 @@ use Rattle.ctl_query.proofs.show_package.show_relations.Goals as goal
 pub returns : goal.returns
 returns c =
     c.in_ok-append_relations.ensures
-    ∙ ap (λ text. text ++ of_rows (world_of c.args.cache.now.store) relation_lines c.args.name.now) c.in_ok-append_line.ensures
-    ∙ append_assoc c.args.out.now.items (line (codes "Dependencies:" ∷ [])) (of_rows (world_of c.args.cache.now.store) relation_lines c.args.name.now)
+    ∙ ap (λ text. text ++ flat_map (told_of_row (world_of c.args.cache.now.store) relation_lines) c.args.rows) c.in_ok-append_line.ensures
+    ∙ append_assoc c.args.out.now.items (line (codes "Dependencies:" ∷ [])) (flat_map (told_of_row (world_of c.args.cache.now.store) relation_lines) c.args.rows)

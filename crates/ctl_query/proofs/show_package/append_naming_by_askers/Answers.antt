@@ -5,7 +5,7 @@ use Rattle.std.specs.Ordering.{nat_cmp}
 use Rattle.ctl_query.specs.Interest.{names_it}
 use Rattle.ctl_query.specs.NameSet.{lent_names, is_among}
 use Rattle.ctl_query.proofs.EnoughLemmas.{naming_is_enough}
-use Rattle.ctl_query.proofs.show_package.append_naming.Goals as goal
+use Rattle.ctl_query.proofs.show_package.append_naming_by_askers.Goals as goal
 
 pub returns : goal.returns
 returns c =

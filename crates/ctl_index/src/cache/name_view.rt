@@ -1,0 +1,82 @@
+//! What stands under one name, lent by one look-up.
+
+ghost use Rattle.std.specs.Prelude.{◌≡◌, false, map};
+ghost use Rattle.std.specs.List.{AllByRecursion, list_any};
+ghost use Rattle.std.specs.List.Sorted.{IsPermutation};
+ghost use Rattle.std.specs.Str.{bytes_eq};
+ghost use Rattle.ctl_store.specs.Keys.{AreHeld};
+ghost use Rattle.ctl_store.specs.Held.{keyed_of, state_of};
+ghost use Rattle.ctl_policy.specs.Rows.{rows_named, newest_first, keys_of_row};
+ghost use Rattle.ctl_index.specs.Held.{standing};
+ghost use Rattle.ctl_index.specs.Names.{known_names, namers_named};
+ghost use Rattle.ctl_index.specs.Work.{stanzas_of_state};
+
+use crate::cache::{Cache, Namers};
+use crate::named::Named;
+use crate::rows::rows_are_defined;
+use ctl_policy::{NewestFirst, rows_are_held, rows_are_shown};
+use std::marker::Model;
+
+/// What stands under one name, by [`Cache::name_view`]: the name is looked up once for all of it.
+#[derive(Drop)]
+pub struct NameView<'a> {
+    named: Option<&'a Named>,
+}
+
+impl<'a> Model for NameView<'a> {
+    ghost use Rattle.std.specs.Prelude.{option_copied};
+    ghost use Rattle.ctl_index.specs.NameView.{NameStanding, name_standing};
+
+    ghost Value = { NameStanding };
+
+    ghost view = { λ v. name_standing (option_copied v.named) };
+}
+
+impl<'a> NameView<'a> {
+    /// Whether the name is known: one that is offered, or that an atom names.
+    pub fn is_known(&self) -> bool
+        ensures { result ≡ self.now.is_known }
+    {
+        self.named.is_some()
+    }
+
+    /// The rows of the name, newest first: the keys of the stanzas of each, in the order of all stanzas.
+    pub fn rows(&self) -> NewestFirst<'a>
+        ensures { result ≡ self.now.rows }
+    {
+        match self.named {
+            Some(named) => named.rows.iter(),
+            None => NewestFirst::none(),
+        }
+    }
+
+    /// The atoms of the eight fields that name the name, in any order.
+    pub fn namers(&self) -> Namers<'a>
+        ensures { result ≡ self.now.namers }
+    {
+        match self.named {
+            Some(named) => Namers::new(named.namers.as_slice()),
+            None => Namers::new(&[]),
+        }
+    }
+}
+
+impl Cache {
+    /// What stands under a name. The name is looked up once.
+    pub fn name_view(&self, name: &[u8]) -> NameView<'_>
+        requires { self.now.stale ≡ false }
+        ensures known { result.is_known ≡ list_any (bytes_eq name.now) (known_names (stanzas_of_state (state_of self.now.store))) }
+        ensures rows { result.rows ≡ map keys_of_row (newest_first (rows_named name.now (keyed_of self.now.store).lists)) }
+        ensures held { AllByRecursion (λ row. AreHeld row (keyed_of self.now.store).lists) result.rows }
+        ensures namers { IsPermutation (namers_named name.now (standing self.now.store)) result.namers }
+    {
+        rows_are_defined();
+        rows_are_shown();
+        rows_are_held();
+        // That the keys rise is said here.
+        let _counts = self.store.counts();
+        NameView {
+            named: self.tables.names.get(name),
+        }
+    }
+}

@@ -1,0 +1,89 @@
+-- The leads of all rows: what is told of rows is told of them, and each stands under its key.
+use Rattle.std.proofs.Common.{◌≡◌, ◌∙◌, ℕ, false, List, [], ◌∷◌, ◌++◌, map, flat_map, Option, None, Some, refl, sym, ap, append-nil}
+use Rattle.std.specs.List.{AllByRecursion}
+use Rattle.std.specs.Option.{option_map_or}
+use Rattle.std.proofs.lemmas.Grind.{flat_map-append}
+use Rattle.ctl_stanza.specs.Content.{Content}
+use Rattle.ctl_store.specs.declared.stanza_key.StanzaKey.{StanzaKey}
+use Rattle.ctl_store.specs.Entries.{Entry, AreAt}
+use Rattle.ctl_store.specs.Keys.{stanza_at}
+use Rattle.ctl_index.specs.Names.{known_names}
+use Rattle.ctl_policy.specs.Rows.{Row, rows_named, newest_first, keys_of_row, is_any_row}
+use Rattle.ctl_policy.specs.Priority.{World}
+use Rattle.ctl_query.specs.Packages.{stanzas_of, names_known, has_row, of_all_rows, of_rows, told_of_row, rows_of, packages_of}
+use Rattle.ctl_query.specs.Leads.{keyed_lead, leads_named, leads_of}
+use Rattle.ctl_query.proofs.InterestLemmas.{skip}
+
+-- a `flat_map` after another
+twice : {A B C : Type 0} (f : B → List C) (g : A → List B) (xs : List A) → flat_map f (flat_map g xs) ≡ flat_map (λ x. flat_map f (g x)) xs
+twice f g [] = refl
+twice f g (x ∷ xs) = flat_map-append f (g x) (flat_map g xs) ∙ ap (λ ys. flat_map f (g x) ++ ys) (twice f g xs)
+
+-- by functions with the same values
+alike : {A B : Type 0} (f g : A → List B) → ((x : A) → f x ≡ g x) → (xs : List A) → flat_map f xs ≡ flat_map g xs
+alike f g same [] = refl
+alike f g same (x ∷ xs) = λ i. same x i ++ alike f g same xs i
+
+all_append : {A : Type 0} (P : A → Type 0) (xs ys : List A) → AllByRecursion P xs → AllByRecursion P ys → AllByRecursion P (xs ++ ys)
+all_append P [] ys a b = b
+all_append P (x ∷ xs) ys a b = (a.0, all_append P xs ys a.1 b)
+
+all_of_each : {A B : Type 0} (P : B → Type 0) (f : A → List B) → ((x : A) → AllByRecursion P (f x)) → (xs : List A) → AllByRecursion P (flat_map f xs)
+all_of_each P f each [] = tt
+all_of_each P f each (x ∷ xs) = all_append P (f x) (flat_map f xs) (each x) (all_of_each P f each xs)
+
+module _ (world : World) where
+  -- ---- what is told of rows
+
+  module _ (text : Content → List ℕ) where
+    told_by_lead : (row : List StanzaKey) → told_of_row world text row ≡ flat_map (λ (e : Entry). text e.1) (keyed_lead world row)
+    told_by_lead [] = refl
+    told_by_lead (key ∷ keys) = by (stanza_at key world.lists)
+      where
+        by : (found : Option Content) → option_map_or text found [] ≡ flat_map (λ (e : Entry). text e.1) (option_map_or (λ (x : Content). (key, x) ∷ []) found [])
+        by None = refl
+        by (Some x) = sym (append-nil (text x))
+
+    told_by_leads : (name : List ℕ) → of_rows world text name ≡ flat_map (λ (e : Entry). text e.1) (leads_named world name)
+    told_by_leads name = alike _ _ told_by_lead (rows_of world name) ∙ sym (twice (λ (e : Entry). text e.1) (keyed_lead world) (rows_of world name))
+
+    -- what is told of all rows is told of the leads, one after another
+    pub told_of_leads : of_all_rows world text ≡ flat_map (λ (e : Entry). text e.1) (leads_of world)
+    unfolding leads_of
+    told_of_leads = alike _ _ told_by_leads (packages_of world) ∙ sym (twice (λ (e : Entry). text e.1) (leads_named world) (packages_of world))
+
+  -- ---- where they stand
+
+  lead_at : (row : List StanzaKey) → AreAt (keyed_lead world row) world.lists
+  lead_at [] = tt
+  lead_at (key ∷ keys) = by (stanza_at key world.lists) refl
+    where
+      by : (found : Option Content) → stanza_at key world.lists ≡ found → AreAt (option_map_or (λ (x : Content). (key, x) ∷ []) found []) world.lists
+      by None e = tt
+      by (Some x) e = (e, tt)
+
+  -- each lead is the stanza of its key
+  pub leads_at : AreAt (leads_of world) world.lists
+  unfolding leads_of
+  leads_at = all_of_each _ (leads_named world) (λ name. all_of_each _ (keyed_lead world) lead_at (rows_of world name)) (packages_of world)
+
+  -- ---- of the rows of all names
+
+  no_lead : (rows : List Row) → is_any_row rows ≡ false → flat_map (keyed_lead world) (map keys_of_row rows) ≡ []
+  no_lead [] h = refl
+  no_lead (row ∷ rows) h = absurd (let z : ⊥ = cc in z)
+
+  -- a name without a row has no lead
+  no_leads : (name : List ℕ) → has_row world name ≡ false → leads_named world name ≡ []
+  unfolding rows_of
+  no_leads name h = no_lead (newest_first (rows_named name world.lists)) h
+
+  leads_by_name : (names : List (List ℕ)) → flat_map (flat_map (keyed_lead world)) (map (λ (name : List ℕ). map keys_of_row (newest_first (rows_named name world.lists))) names) ≡ flat_map (leads_named world) names
+  unfolding rows_of
+  leads_by_name [] = refl
+  leads_by_name (name ∷ names) = ap (λ es. leads_named world name ++ es) (leads_by_name names)
+
+  -- the leads of the rows of all known names are those of the packages
+  pub leads_of_known : flat_map (flat_map (keyed_lead world)) (map (λ (name : List ℕ). map keys_of_row (newest_first (rows_named name world.lists))) (known_names (stanzas_of world))) ≡ leads_of world
+  unfolding leads_of packages_of
+  leads_of_known = leads_by_name (names_known world) ∙ skip (leads_named world) (has_row world) no_leads (names_known world)

@@ -1,0 +1,9 @@
+use Rattle.std.proofs.Common.{rules}
+use Rattle.ctl_policy.specs.Priority.{world_of}
+use Rattle.ctl_query.proofs.LeadLemmas.{leads_of_known}
+use Rattle.ctl_query.proofs.lead_table.leads_of.Goals as goal
+
+pub returns : goal.returns
+returns c =
+    let known = leads_of_known (world_of c.args.cache.now.store) in
+    search (rules, known)

@@ -1,0 +1,34 @@
+-- Leads that are lent, and where each stands by its key.
+use Rattle.std.specs.Prelude.{◌≡◌, ℕ, suc, List, [], ◌∷◌, map, Option, Some}
+use Rattle.std.specs.Borrow.{Bor}
+use Rattle.std.specs.BTreeMap.{is_at}
+use Rattle.std.specs.List.Sorted.{IsStrictlySortedBy}
+use Rattle.std.specs.Map.{keys_of, lookup}
+use Rattle.ctl_stanza.specs.Content.{Content}
+use Rattle.ctl_store.specs.declared.stanza_key.StanzaKey.{StanzaKey}
+use Rattle.ctl_store.specs.Entries.{Entry}
+use Rattle.ctl_store.specs.Keys.{key_cmp}
+use Rattle.ctl_query.specs.Leads.{key_at}
+
+-- leads that are lent
+abbrev pub lent_leads : List (StanzaKey × Bor Content) → List Entry
+lent_leads leads = map (λ (l : StanzaKey × Bor Content). (l.0, l.1.now)) leads
+
+-- the place that stands beside a key
+abbrev pub place_under : StanzaKey → List (StanzaKey × ℕ) → Option ℕ
+place_under key places = lookup (is_at (key_cmp key)) places
+
+-- the keys are each below those after it
+abbrev pub AreInKeyOrder : List (StanzaKey × ℕ) → Type 0
+AreInKeyOrder places = IsStrictlySortedBy key_cmp (keys_of places)
+
+-- the key of each lead with its place, counted from n
+abbrev pub numbered_from : ℕ → List Entry → List (StanzaKey × ℕ)
+numbered_from n [] = []
+numbered_from n (e ∷ es) = (e.0, n) ∷ numbered_from (suc n) es
+
+-- beside the key of each lead stands its place, and beside no other key does one
+pub record ArePlaces (leads : List Entry) (places : List (StanzaKey × ℕ)) : Type 0 where
+  pub rising : AreInKeyOrder places
+  pub there : (i : ℕ) (k : StanzaKey) → key_at leads i ≡ Some k → place_under k places ≡ Some i
+  pub no_other : (i : ℕ) (k : StanzaKey) → place_under k places ≡ Some i → key_at leads i ≡ Some k

@@ -1,0 +1,123 @@
+//! The atoms of leads that name a name, in the order in which `showpkg` tells them.
+
+ghost use Rattle.std.specs.Prelude.{◌≡◌, ◌||◌, ◌++◌, OnOk, IfOk, flat_map};
+ghost use Rattle.std.specs.BTreeSet.{contains, IsOrdered};
+ghost use Rattle.std.specs.List.{list_any};
+ghost use Rattle.ctl_index.specs.declared.keys.AtomKey.{AtomKey};
+ghost use Rattle.ctl_query.specs.Leads.{lead_atom_cmp, line_in, line_at, is_at, atom_in};
+
+use crate::lead_lines::append_naming_line;
+use crate::lead_table::LeadTable;
+use ctl_index::{AtomKey, Namers};
+use ctl_relation::{Atom, FieldKind};
+use ctl_stanza::Stanza;
+use std::alloc::{AllocError, Global};
+use std::collections::BTreeSet;
+
+/// Where an atom of a lead stands: the place of its lead among all leads, its field, the place of its group in the field and its
+/// own in the group, counted from 0. They stand in the order of these parts.
+#[derive(Clone, Copy, Debug, PartialEq, Eq, PartialOrd, Ord)]
+pub(crate) struct LeadAtom {
+    pub(crate) place: usize,
+    pub(crate) field: FieldKind,
+    pub(crate) group: u32,
+    pub(crate) atom: u32,
+}
+
+/// Adds the atom that a key names, if its stanza is a lead.
+fn insert_atom(
+    set: &mut BTreeSet<LeadAtom>,
+    table: &LeadTable<'_>,
+    key: AtomKey,
+) -> Result<(), AllocError>
+    ensures { OnOk result ((a : LeadAtom) → contains lead_atom_cmp set.new a ≡ (is_at table.now key a || contains lead_atom_cmp set.old a)) }
+{
+    match table.place(key.stanza) {
+        Some(place) => {
+            set.insert(LeadAtom {
+                place,
+                field: key.field,
+                group: key.group,
+                atom: key.atom,
+            })?;
+            Ok(())
+        }
+        None => Ok(()),
+    }
+}
+
+/// The atoms of leads that name what these keys name.
+pub(crate) fn list_atoms(
+    alloc: Global,
+    table: &LeadTable<'_>,
+    namers: Namers<'_>,
+) -> Result<BTreeSet<LeadAtom>, AllocError>
+    ensures order { IfOk result (λ set. IsOrdered lead_atom_cmp set) }
+    ensures members { IfOk result (λ set. (a : LeadAtom) → contains lead_atom_cmp set a ≡ list_any (λ (k : AtomKey). is_at table.now k a) namers.entry) }
+{
+    let mut set = BTreeSet::new(alloc);
+    'keys: for key in namers {
+        insert_atom(&mut set, table, key)?;
+    }
+    // That they stand in order is said here.
+    let _count = set.len();
+    Ok(set)
+}
+
+/// The atom of a lead, if it is there.
+fn atom_in(lead: &Stanza, atom: LeadAtom) -> Option<Atom<'_>>
+    ensures { result ≡ atom_in atom lead.now }
+{
+    let group = lead.groups(atom.field).get(atom.group as usize)?;
+    group.get(atom.atom as usize)
+}
+
+/// Appends the line of an atom of a lead, if it has the name.
+fn append_atom_in(
+    lead: &Stanza,
+    name: &[u8],
+    atom: LeadAtom,
+    out: &mut Vec<u8>,
+) -> Result<(), AllocError>
+    ensures { OnOk result (out.new.items ≡ out.old.items ++ line_in name.now atom lead.now) }
+{
+    match atom_in(lead, atom) {
+        Some(found) => {
+            if found.name() == name {
+                append_naming_line(lead, atom.field, &found, out)?;
+            }
+            Ok(())
+        }
+        None => Ok(()),
+    }
+}
+
+/// Appends the line of an atom, if it has the name.
+fn append_atom(
+    table: &LeadTable<'_>,
+    name: &[u8],
+    atom: LeadAtom,
+    out: &mut Vec<u8>,
+) -> Result<(), AllocError>
+    ensures { OnOk result (out.new.items ≡ out.old.items ++ line_at table.now name.now atom) }
+{
+    match table.lead(atom.place) {
+        Some(lead) => append_atom_in(lead, name, atom, out),
+        None => Ok(()),
+    }
+}
+
+/// Appends the lines of those of these atoms that have the name.
+pub(crate) fn append_atoms(
+    table: &LeadTable<'_>,
+    name: &[u8],
+    set: &BTreeSet<LeadAtom>,
+    out: &mut Vec<u8>,
+) -> Result<(), AllocError>
+    ensures { OnOk result (out.new.items ≡ out.old.items ++ flat_map (line_at table.now name.now) set.now.keys) }
+{
+    'set: for atom in set {
+        append_atom(table, name, *atom, out)?;
+    }
+    Ok(())
+}

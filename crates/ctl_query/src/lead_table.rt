@@ -1,0 +1,145 @@
+//! The leads of all rows, in the order in which answers on all packages tell of them. An answer that is gathered from the keys
+//! of stanzas, in whatever order they come, finds by the table which of them are leads and where each stands in that order.
+
+ghost use Rattle.std.specs.Prelude.{◌≡◌, ◌++◌, ℕ, true, false, Some, OnOk, IfOk, IfSome, flat_map, option_map, option_copied, slice_get};
+ghost use Rattle.ctl_store.specs.Entries.{Entry};
+ghost use Rattle.ctl_policy.specs.Priority.{world_of};
+ghost use Rattle.ctl_query.specs.Leads.{keyed_lead, key_at, leads_of};
+ghost use Rattle.ctl_query.specs.LeadTable.{lent_leads, place_under, numbered_from, AreInKeyOrder};
+
+use ctl_index::Cache;
+use ctl_policy::NewestFirst;
+use ctl_stanza::Stanza;
+use ctl_store::{StanzaKey, Store, compare_keys};
+use std::alloc::{AllocError, Global};
+use std::marker::Model;
+
+/// The leads of all rows, package by package and of each the newest first, and where each stands by its key.
+#[derive(Drop)]
+pub(crate) struct LeadTable<'a> {
+    leads: Vec<(StanzaKey, &'a Stanza)>,
+    // The place of each among them, in the order of their keys.
+    places: Vec<(StanzaKey, usize)>,
+}
+
+impl<'a> Model for LeadTable<'a> {
+    ghost use Rattle.std.specs.Prelude.{List};
+    ghost use Rattle.ctl_store.specs.Entries.{Entry};
+    ghost use Rattle.ctl_query.specs.LeadTable.{lent_leads, ArePlaces};
+
+    ghost Value = { List Entry };
+
+    ghost view = { λ table. lent_leads table.leads.items };
+
+    ghost invariant = { λ table. ArePlaces (lent_leads table.leads.items) table.places.items };
+}
+
+// Adds the lead of a row, which has these stanzas, under its key.
+fn push_lead<'a>(
+    leads: &mut Vec<(StanzaKey, &'a Stanza)>,
+    store: &'a Store,
+    row: &[StanzaKey],
+) -> Result<(), AllocError>
+    ensures { OnOk result (lent_leads leads.new.items ≡ lent_leads leads.old.items ++ keyed_lead (world_of store.now) row.now) }
+{
+    if let Some(key) = row.first() {
+        if let Some(lead) = store.find(*key) {
+            leads.push((*key, lead))?;
+        }
+    }
+    Ok(())
+}
+
+// Adds the leads of rows.
+fn push_leads<'a>(
+    leads: &mut Vec<(StanzaKey, &'a Stanza)>,
+    store: &'a Store,
+    rows: NewestFirst<'_>,
+) -> Result<(), AllocError>
+    ensures { OnOk result (lent_leads leads.new.items ≡ lent_leads leads.old.items ++ flat_map (keyed_lead (world_of store.now)) rows.entry) }
+{
+    'rows: for row in rows {
+        push_lead(leads, store, row)?;
+    }
+    Ok(())
+}
+
+// The leads of all rows, each under its key. A name without a row has none.
+fn leads_of<'a>(alloc: Global, cache: &'a Cache) -> Result<Vec<(StanzaKey, &'a Stanza)>, AllocError>
+    requires { cache.now.stale ≡ false }
+    ensures { IfOk result (λ leads. lent_leads leads.items ≡ leads_of (world_of cache.now.store)) }
+{
+    let mut leads = Vec::new(alloc);
+    'names: for rows in cache.all_rows() {
+        push_leads(&mut leads, cache.store(), rows)?;
+    }
+    Ok(leads)
+}
+
+// The key of each lead with its place.
+fn numbered(
+    alloc: Global,
+    leads: &[(StanzaKey, &Stanza)],
+) -> Result<Vec<(StanzaKey, usize)>, AllocError>
+    ensures { IfOk result (λ places. places.items ≡ numbered_from 0 (lent_leads leads.now)) }
+{
+    let mut places = Vec::with_capacity(alloc, leads.len())?;
+    for place in 0..leads.len() {
+        places.push((leads[place].0, place))?;
+    }
+    Ok(places)
+}
+
+// Whether each key is below the one that follows it.
+fn are_rising(places: &[(StanzaKey, usize)]) -> bool
+    ensures { result ≡ true → AreInKeyOrder places.now }
+{
+    for place in 1..places.len() {
+        if !compare_keys(&places[place - 1].0, &places[place].0).is_lt() {
+            return false;
+        }
+    }
+    true
+}
+
+// The place beside a key, where keys rise.
+fn place_under(places: &[(StanzaKey, usize)], key: StanzaKey) -> Option<usize>
+    requires { AreInKeyOrder places.now }
+    ensures { result ≡ place_under key places.now }
+{
+    match places.binary_search_by(|pair| compare_keys(&pair.0, &key)) {
+        Ok(at) => Some(places[at].1),
+        Err(_) => None,
+    }
+}
+
+impl<'a> LeadTable<'a> {
+    /// The table of a cache. `None` where two leads had one key, which no cache has.
+    pub(crate) fn new(alloc: Global, cache: &'a Cache) -> Result<Option<LeadTable<'a>>, AllocError>
+        requires { cache.now.stale ≡ false }
+        ensures { IfOk result (λ table. IfSome table (λ t. t ≡ leads_of (world_of cache.now.store))) }
+    {
+        let leads = leads_of(alloc, cache)?;
+        let mut places = numbered(alloc, &leads)?;
+        places.sort_unstable();
+        if !are_rising(&places) {
+            return Ok(None);
+        }
+        Ok(Some(LeadTable { leads, places }))
+    }
+
+    /// The place of the lead of a key, if it is one's.
+    pub(crate) fn place(&self, key: StanzaKey) -> Option<usize>
+        ensures some { IfSome result (λ i. key_at self.now i ≡ Some key) }
+        ensures exact { (i : ℕ) → key_at self.now i ≡ Some key → result ≡ Some i }
+    {
+        place_under(&self.places, key)
+    }
+
+    /// The lead at a place.
+    pub(crate) fn lead(&self, place: usize) -> Option<&'a Stanza>
+        ensures { option_copied result ≡ option_map (λ (e : Entry). e.1) (slice_get self.now place) }
+    {
+        self.leads.get(place).map(|lead| lead.1)
+    }
+}
