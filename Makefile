@@ -6,12 +6,13 @@ DESTDIR ?=
 PROGRAM := crates/dctrl_cache/out/dctrl_cache
 EXAMPLES := $(sort $(wildcard examples/*.script))
 
-.PHONY: help demo build test prove test-program test-tools edits bench bench-report bench-parts deb install clean
+.PHONY: help layout demo build test prove test-program test-tools edits bench bench-report bench-parts deb install clean
 
 help:
 	@echo 'make demo      runs the examples with an unproved quick build, and compares what they print'
 	@echo 'make build     proves the program and leaves it as $(PROGRAM)'
-	@echo 'make test      the whole gate: demo, test-tools, prove, test-program and edits, up to the first that fails; KEEP_GOING=1 runs all'
+	@echo 'make layout    tells in a second which files rt fmt would change; the proofs refuse them'
+	@echo 'make test      the whole gate: layout, demo, test-tools, prove, test-program and edits, up to the first that fails; KEEP_GOING=1 runs all'
 	@echo 'make prove     every proof, the named wrong bodies, the tests, the programs'
 	@echo 'make edits     the edits that must fail, many in one check; CRATES=".." and EDITS=".." name some, JOBS=N sets how many checks run at once, ANEW=1 tries those too that this machine saw refused'
 	@echo 'make bench     measures time and memory beside apt-cache, grep-dctrl and python-apt; FILE=.. names a Packages file, TIMES=1,2 how often it is taken'
@@ -20,6 +21,9 @@ help:
 	@echo 'make deb       makes the Debian package, in out/'
 	@echo 'make install   puts the programs, their manual pages, the completion and the examples below DESTDIR and PREFIX ($(PREFIX))'
 	@echo 'make clean     removes what was made'
+
+layout:
+	python3 tools/layout.py
 
 # `rt try` builds the program without any proof, and runs it on each script.
 demo:
@@ -52,7 +56,7 @@ test-program: build
 	python3 tests/program/run.py $(PROGRAM) examples
 
 test-tools:
-	python3 tests/edit_runner.py
+	python3 tests/tools.py
 
 edits:
 	python3 tools/batch_edits.py $(if $(CRATES),--crates $(CRATES)) $(if $(EDITS),--edits $(EDITS)) $(if $(JOBS),--jobs $(JOBS)) $(if $(APART),--apart) $(if $(ANEW),--anew)

@@ -5,7 +5,7 @@
 
 The session has read the lists; apt-cache has made its caches. A query's time in the session goes from the first byte that is written
 to it to the last that it answers, and ends where a line that is no command is refused behind it. What either prints is read over a
-pipe. The times are the least of some rounds, in each of which the session and apt-cache are asked once, so that a machine that is busy
+pipe and let go. The times are the least of some rounds, in each of which the session and apt-cache are asked once, so that a machine that is busy
 is busy for both. Of one name each round asks many times. The limits are printed beside the ratios. Nothing is refused by them: a busy
 machine passes them at times."""
 
@@ -22,21 +22,13 @@ from apt_folder import AptFolder
 ROUNDS = 5
 ASKED_ONCE = 200
 
-# How many names one command asks for: a line has at most 1 MiB.
-NAMES_AT_ONCE = 20_000
+# The most bytes of a line, its newline not counted.
+LONGEST_LINE = 1 << 20
 
 ONE = "bash"
 
 # The most bytes that are read of a pipe at once.
 PIECE = 1 << 20
-
-
-def read_all(pipe):
-    """What comes over a pipe, up to its end."""
-    told = bytearray()
-    while piece := os.read(pipe, PIECE):
-        told += piece
-    return told
 
 
 class Session:
@@ -46,23 +38,33 @@ class Session:
         self.running = subprocess.Popen([program, *words], stdin=subprocess.PIPE, stdout=subprocess.PIPE, bufsize=0)
         self.lines = 0
 
-    def ask(self, script):
-        """The time that commands take, and what they answer."""
+    def pieces(self, script):
+        """What commands answer, piece by piece, up to the refusal of a line behind them that is no command."""
         text = script + b"frob\n"
         self.lines += text.count(b"\n")
         end = b"E: line %d: unknown command\n" % self.lines
-        answer = bytearray()
-        start = time.monotonic()
         writing = threading.Thread(target=self.running.stdin.write, args=(text,))
         writing.start()
-        while not answer.endswith(end):
+        tail = b""
+        while tail != end:
             piece = os.read(self.running.stdout.fileno(), PIECE)
             if not piece:
                 raise SystemExit("the program ended early")
-            answer += piece
-        taken = time.monotonic() - start
+            yield piece
+            tail = (tail + piece[-len(end) :])[-len(end) :]
         writing.join()
-        return taken, bytes(answer[: -len(end)])
+
+    def ask(self, script):
+        """What commands answer."""
+        told = b"".join(self.pieces(script))
+        return told[: told.rindex(b"E: line ")]
+
+    def time(self, script):
+        """The time that commands take. What they answer is let go."""
+        start = time.monotonic()
+        for _ in self.pieces(script):
+            pass
+        return time.monotonic() - start
 
     def close(self):
         self.running.stdin.close()
@@ -75,17 +77,24 @@ class Peer:
     def __init__(self, environment):
         self.environment = environment
 
-    def ask(self, *words):
+    def time(self, *words):
+        """The time that a process takes. What it prints is let go."""
         start = time.monotonic()
         with subprocess.Popen(["apt-cache", *words], env=self.environment, stdout=subprocess.PIPE, stderr=subprocess.DEVNULL, bufsize=0) as running:
-            read_all(running.stdout.fileno())
+            while os.read(running.stdout.fileno(), PIECE):
+                pass
         return time.monotonic() - start
 
 
 def commands(query, names):
-    """A query of many names, in as many lines as it takes."""
-    parts = (names[first : first + NAMES_AT_ONCE] for first in range(0, len(names), NAMES_AT_ONCE))
-    return b"".join(("%s %s\n" % (query, " ".join(part))).encode() for part in parts)
+    """A query of many names, in as few lines as it takes."""
+    lines, line = [], query
+    for name in names:
+        if len(line) + 1 + len(name) > LONGEST_LINE:
+            lines.append(line)
+            line = query
+        line += " " + name
+    return "".join(line + "\n" for line in [*lines, line]).encode()
 
 
 def least(ways):
@@ -101,29 +110,29 @@ def tell(what, ours, theirs, limit):
 def of_all(session, peer, names):
     for query in ("policy", "showpkg", "depends", "rdepends"):
         script = commands(query, names)
-        ours, theirs = least((lambda: session.ask(script)[0], lambda: peer.ask(query, *names)))
+        ours, theirs = least((lambda: session.time(script), lambda: peer.time(query, *names)))
         tell("%s of %d names" % (query, len(names)), ours, theirs, 0.5)
-    ours, theirs = least((lambda: session.ask(b"unmet\n")[0], lambda: peer.ask("unmet")))
+    ours, theirs = least((lambda: session.time(b"unmet\n"), lambda: peer.time("unmet")))
     tell("unmet", ours, theirs, 0.1)
 
 
 def of_one(session, peer, name):
     for query in ("policy", "show", "showpkg", "depends"):
         script = b"%s %s\n" % (query.encode(), name.encode())
-        ours, theirs = least((lambda: session.ask(script * ASKED_ONCE)[0] / ASKED_ONCE, lambda: peer.ask(query, name)))
+        ours, theirs = least((lambda: session.time(script * ASKED_ONCE) / ASKED_ONCE, lambda: peer.time(query, name)))
         tell("%s %s" % (query, name), ours, theirs, 0.01)
 
 
 def edited(session, peer, apt, list_name, name):
     """One stanza is put again, and its policy asked for; apt-cache makes its caches anew."""
-    text = session.ask(b"show --no-all-versions %s\n" % name.encode())[1]
+    text = session.ask(b"show --no-all-versions %s\n" % name.encode())
     script = b"put %s\n%s\n.\npolicy %s\n" % (list_name.encode(), text.strip(b"\n"), name.encode())
 
     def again():
         apt.forget()
-        return peer.ask("gencaches") + peer.ask("policy", name)
+        return peer.time("gencaches") + peer.time("policy", name)
 
-    ours, theirs = least((lambda: session.ask(script * ASKED_ONCE)[0] / ASKED_ONCE, again))
+    ours, theirs = least((lambda: session.time(script * ASKED_ONCE) / ASKED_ONCE, again))
     tell("one stanza put, and its policy", ours, theirs, 0.001)
 
 
@@ -140,7 +149,7 @@ def main():
         apt = AptFolder(os.path.join(folder, "apt"), files, words.status)
         peer = Peer(apt.environment)
         session = Session(os.path.abspath(words.program), given)
-        names = session.ask(b"pkgnames\n")[1].decode().split()
+        names = session.ask(b"pkgnames\n").decode().split()
         of_all(session, peer, names)
         one = ONE if ONE in names else names[0]
         of_one(session, peer, one)

@@ -9,10 +9,11 @@ that a machine that is busy is busy for both. The limits are printed beside the 
 ever more `-o` is asked of a session without a list: its time for each has to stay."""
 
 import argparse
+import os
 import subprocess
 import time
 
-from answers import Session, least
+from answers import PIECE, Session, least
 
 # A filter, the same for grep-dctrl, and the ratio that it is to have at most.
 ROWS = (
@@ -32,15 +33,18 @@ SIGNS = (25_000, 50_000, 100_000, 200_000)
 
 
 def grep(words, packages):
+    """The time that a process takes. What it prints is let go."""
     start = time.monotonic()
-    subprocess.run(["grep-dctrl", *words, packages], stdout=subprocess.PIPE, check=False)
+    with subprocess.Popen(["grep-dctrl", *words, packages], stdout=subprocess.PIPE, bufsize=0) as running:
+        while os.read(running.stdout.fileno(), PIECE):
+            pass
     return time.monotonic() - start
 
 
 def beside_grep(session, packages):
     for what, ours, theirs, limit in ROWS:
         script = b"grep-dctrl " + ours.encode() + b"\n"
-        mine, other = least((lambda: session.ask(script)[0], lambda: grep(theirs, packages)))
+        mine, other = least((lambda: session.time(script), lambda: grep(theirs, packages)))
         bound = "" if limit is None else "  (at most %g)" % limit
         print("%-30s %9.5f s, grep-dctrl %9.5f s, ratio %8.5f%s" % (what, mine, other, mine / other, bound), flush=True)
 
@@ -48,7 +52,7 @@ def beside_grep(session, packages):
 def of_many_signs(session):
     for count in SIGNS:
         script = b"grep-dctrl -c " + b"x -o " * count + b"x\n"
-        (taken,) = least((lambda: session.ask(script)[0],))
+        (taken,) = least((lambda: session.time(script),))
         print("%7d -o in one line          %9.5f s, %5.2f us each" % (count, taken, taken / count * 1e6), flush=True)
 
 

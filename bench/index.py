@@ -138,14 +138,16 @@ def times_of(lines, folder, runs=RUNS):
 
 
 def measure_turns_of_lists(stanzas, folder):
-    """Prints what a list takes to come and to go, alone and beside another with the same stanzas."""
-    lines = [added("one", stanzas), added("other", stanzas), dropped("one"), added("one", stanzas), dropped("other"), dropped("one")]
-    names = ["a list comes", "the same again", "the first goes", "it comes again", "the other goes", "the last goes"]
+    """Prints what a list takes to come and to go, alone and beside another with the same stanzas. What goes is laid to what came just
+    before it, the same stanzas with as much beside them."""
+    alone, _ = times_of([added("one", stanzas), dropped("one")], folder)
+    lines = [added("one", stanzas), added("other", stanzas), dropped("one"), added("one", stanzas), dropped("other")]
+    names = ["a list comes", "the same again", "the first goes", "it comes again", "the other goes"]
     times, tests = times_of(lines, folder)
     for name, spent, count in zip(names, times, tests):
         print("  %-16s %7.0f ms, %8d tests" % (name, spent * 1e3, count))
-    alike = max(times[2], times[4]) / min(times[1], times[3])
-    print("a list that goes to one that comes   %5.2f beside another, %5.2f alone  (at most 1)" % (alike, times[5] / times[0]))
+    beside = max(times[2] / times[1], times[4] / times[3])
+    print("a list that goes to one that comes   %5.2f beside another, %5.2f alone  (at most 1)" % (beside, alone[1] / alone[0]))
 
 
 def most_named(stanzas):

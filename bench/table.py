@@ -155,7 +155,7 @@ class Measuring:
     def session(self, whole):
         """What is asked of a session that runs."""
         session = Session(self.program, self.words)
-        names = session.ask(b"pkgnames\n")[1].decode().split()
+        names = session.ask(b"pkgnames\n").decode().split()
         one = "bash" if "bash" in names else names[len(names) // 2]
         if self.peers.apt:
             self.peers.apt_cache("-qq", "gencaches")
@@ -167,13 +167,13 @@ class Measuring:
 
     def of_all(self, session, names, queries, whole):
         if whole:
-            self.table.time("pkgnames", self.times, self.with_peers(lambda: session.ask(b"pkgnames\n")[0], lambda: self.peers.apt_cache("pkgnames")[0]))
+            self.table.time("pkgnames", self.times, self.with_peers(lambda: session.time(b"pkgnames\n"), lambda: self.peers.apt_cache("pkgnames")[0]))
         for query in queries:
             script = commands(query, names)
             python = self.peers.python_choosing if query == "policy" else None
             self.table.time("%s of all names" % query, self.times, self.with_peers(
-                lambda: session.ask(script)[0], lambda: self.peers.apt_cache_of_all(query, names), None, python))
-        self.table.time("unmet", self.times, self.with_peers(lambda: session.ask(b"unmet\n")[0], lambda: self.peers.apt_cache("unmet")[0]))
+                lambda: session.time(script), lambda: self.peers.apt_cache_of_all(query, names), None, python))
+        self.table.time("unmet", self.times, self.with_peers(lambda: session.time(b"unmet\n"), lambda: self.peers.apt_cache("unmet")[0]))
 
     def of_one(self, session, name, queries):
         for query in queries:
@@ -181,13 +181,13 @@ class Measuring:
             grep = (lambda: self.peers.grep("-P", "-X", name)[0]) if query == "show" else None
             python = (lambda: self.peers.python_choosing(name)) if query == "policy" else None
             self.table.time("%s of one name" % query, self.times, self.with_peers(
-                lambda: session.ask(script)[0] / ASKED_ONCE, lambda: self.peers.apt_cache(query, name)[0], grep, python))
+                lambda: session.time(script) / ASKED_ONCE, lambda: self.peers.apt_cache(query, name)[0], grep, python))
 
     def edited(self, session, name):
-        text = session.ask(b"show --no-all-versions %s\n" % name.encode())[1].strip(b"\n")
+        text = session.ask(b"show --no-all-versions %s\n" % name.encode()).strip(b"\n")
         script = b"put main\n%s\n.\npolicy %s\n" % (text, name.encode()) * ASKED_ONCE
         self.table.time("one edit, and policy of one name", self.times, self.with_peers(
-            lambda: session.ask(script)[0] / ASKED_ONCE, lambda: self.peers.apt_cache_anew()[0] + self.peers.apt_cache("policy", name)[0],
+            lambda: session.time(script) / ASKED_ONCE, lambda: self.peers.apt_cache_anew()[0] + self.peers.apt_cache("policy", name)[0],
             None, lambda: self.peers.python_anew(name)[0]))
 
 

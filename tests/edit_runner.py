@@ -1,8 +1,6 @@
-#!/usr/bin/env python3
 """Tests tools/batch_edits.py on a repository of one small crate, which it makes in a temporary folder. Edits that the
 prover refuses by themselves pass. An edit of a comment, one whose function only calls another that is refused, one that
-doesn't compile and one that can't be applied are told as failed. What was refused is kept, and not tried again. The last line is
-the count."""
+doesn't compile and one that can't be applied are told as failed. What was refused is kept, and not tried again."""
 
 import os
 import subprocess
@@ -76,16 +74,6 @@ EDITS = [
     ("no-such-text", "edits", "a / 3", "a / 4", "BAD EDIT: an 'old:' text"),
     ("misnamed edit", "edits", "a / 2", "a", "BAD EDIT: an edit's name"),
 ]
-
-
-class Tests:
-    def __init__(self):
-        self.passed, self.failed = 0, 0
-
-    def expect(self, name, is_well, told):
-        self.passed, self.failed = self.passed + is_well, self.failed + (not is_well)
-        if not is_well:
-            print("FAILED: %s\n%s" % (name, told))
 
 
 def write(path, text):
@@ -185,16 +173,9 @@ def test_listings(tests):
         tests.expect("uncovered", status == 0 and [it.split("\t")[2:] for it in lines[:-1]] == [[" least"]], told)
 
 
-def main():
-    tests = Tests()
+def run(tests):
     test_listings(tests)
     test_edits(tests)
     test_good_edits(tests)
     test_apart(tests)
     test_unproved(tests)
-    print("%d passed, %d failed" % (tests.passed, tests.failed))
-    return 1 if tests.failed else 0
-
-
-if __name__ == "__main__":
-    sys.exit(main())

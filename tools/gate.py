@@ -20,8 +20,9 @@ import time
 
 # The program that test-program calls is the one that prove has made. Parts of one row can run beside each other.
 STAGES = [
+    [("layout", "the layout of the files")],
     [("demo", "the examples, by an unproved build")],
-    [("test-tools", "the tests of the runner of edits")],
+    [("test-tools", "the tests of the tools of the gate")],
     [
         ("prove", "every proof, the named wrong bodies, the tests under proof, the programs"),
         ("edits", "the edits that must fail"),

@@ -39,8 +39,15 @@ abbrev pub entry_names : List NamedEntry → List (List ℕ)
 entry_names entries = map (λ (e : NamedEntry). e.0.items) entries
 
 -- the rows that stand under a name, newest first, each by the keys of its stanzas
+abbrev pub shown_rows : Named → List (List StanzaKey)
+shown_rows named = map keys_of_row (newest_first (named_rows named))
+
 abbrev pub entry_rows : NamedEntry → List (List StanzaKey)
-entry_rows e = map keys_of_row (newest_first (named_rows e.1))
+entry_rows e = shown_rows e.1
+
+-- the stanzas that offer a name, by their keys
+abbrev pub offering : List OfferKey → List StanzaKey
+offering keys = map (λ (k : OfferKey). k.stanza) keys
 
 -- the names that begin with a prefix, of packages
 abbrev pub packages_with : List ℕ → List NamedEntry → List (List ℕ)

@@ -1,6 +1,6 @@
 //! The number of each clause, and the clauses at 0.
 
-ghost use Rattle.std.specs.Prelude.{◌≡◌, ◌+◌, ◌-◌, ℕ, None, false, OnOk, OnErr, option_map, if◌then◌else◌};
+ghost use Rattle.std.specs.Prelude.{◌≡◌, ◌+◌, ◌-◌, ℕ, None, true, false, OnOk, OnErr, option_map, if◌then◌else◌};
 ghost use Rattle.std.specs.BTreeMap.{get, IsEmpty};
 ghost use Rattle.std.specs.BTreeSet.{contains};
 ghost use Rattle.std.specs.Ordering.{is_eq};
@@ -19,14 +19,25 @@ pub(crate) struct Counters {
     ghost at_zero: { AreUnmet numbers unmet },
 }
 
+// Whether a clause is above all those at 0, as most are that come behind others.
+fn is_above(unmet: &BTreeSet<ClauseKey>, key: ClauseKey) -> bool
+    ensures { result ≡ true → contains clause_cmp unmet.now key ≡ false }
+{
+    match unmet.last() {
+        Some(last) => *last < key,
+        None => true,
+    }
+}
+
 // Notes whether a clause is among those at 0.
+#[tactic(auto, using(crate::proofs::CounterLemmas::marked_already))]
 fn mark(unmet: &mut BTreeSet<ClauseKey>, key: ClauseKey, is_unmet: bool) -> Result<(), AllocError>
     ensures ok { OnOk result ((k : ClauseKey) → contains clause_cmp unmet.new k ≡ (if is_eq (clause_cmp key k) then is_unmet else contains clause_cmp unmet.old k)) }
     ensures err { OnErr result ((k : ClauseKey) → contains clause_cmp unmet.new k ≡ contains clause_cmp unmet.old k) }
 {
     if is_unmet {
         unmet.insert(key)?;
-    } else {
+    } else if !is_above(unmet, key) {
         let _ = unmet.remove(&key);
     }
     Ok(())

@@ -1,12 +1,9 @@
 -- The atoms of leads: what they print in order, and that what the atoms with a name don't stand for prints nothing.
-use Rattle.std.proofs.Common.{◌≡◌, ◌∙◌, ℕ, zero, suc, ◌+◌, Bool, true, false, cond, nat_eq, ◌&&◌, ◌||◌, List, [], ◌∷◌, ◌++◌, map, slice_get, flat_map, Option, None, Some, refl, sym, ap, subst, option_map, arith}
+use Rattle.std.proofs.Common.{◌≡◌, ◌∙◌, ℕ, zero, suc, ◌+◌, Bool, true, false, cond, ◌&&◌, ◌||◌, List, [], ◌∷◌, ◌++◌, map, slice_get, flat_map, Option, None, Some, refl, sym, ap, subst, option_map, arith}
 use Rattle.std.specs.List.{AllByRecursion, list_any, filter}
 use Rattle.std.specs.Option.{option_map_or, option_and_then}
-use Rattle.std.specs.Ordering.{is_eq, nat_cmp, ordering_then}
-use Rattle.std.specs.declared.cmp.Ordering.{Ordering}
-use Rattle.std.specs.declared.cmp.Ordering.TheVariants.{Less, Equal, Greater}
+use Rattle.std.specs.Ordering.{is_eq}
 use Rattle.std.specs.Str.{bytes_eq}
-use Rattle.std.proofs.lemmas.Bool.Decides.{nat_tests}
 use Rattle.std.proofs.lemmas.Grind.{flat_map-append}
 use Rattle.std.proofs.lemmas.List.{map-append}
 use Rattle.std.proofs.lemmas.List.Folds.{list_any-append}
@@ -27,32 +24,16 @@ use Rattle.ctl_query.specs.declared.lead_atoms.LeadAtom.{LeadAtom}
 use Rattle.ctl_query.specs.Leads.{lead_atom_cmp, atom_in, line_in, line_at, is_key_of, is_at}
 use Rattle.ctl_query.specs.ShowPackage.{line_if_naming, naming_in, naming_lines}
 use Rattle.ctl_query.proofs.EntryLemmas.{stanza_under}
-
--- the atom of a lead at a place that a key names
-abbrev pub lead_atom : ℕ → AtomKey → LeadAtom
-lead_atom i k = record { place = i; field = k.field; group = k.group; atom = k.atom }
+use Rattle.ctl_query.proofs.LeadAtomLemmas.{atom_of, nat_itself, tie_is}
 
 -- all atoms of a lead at a place, in order
 abbrev pub atoms_in : ℕ → Entry → List LeadAtom
-atoms_in i e = map (λ (y : AtomKey × AtomParts). lead_atom i y.0) (keyed_atoms e)
+atoms_in i e = map (λ (y : AtomKey × AtomParts). atom_of y.0 i) (keyed_atoms e)
 
 -- all atoms of leads from a place on
 abbrev pub atoms_from : ℕ → List Entry → List LeadAtom
 atoms_from i [] = []
 atoms_from i (e ∷ es) = atoms_in i e ++ atoms_from (suc i) es
-
--- ---- numbers and orders
-
-is_eq_then : (a b : Ordering) → is_eq (ordering_then a b) ≡ (is_eq a && is_eq b)
-is_eq_then Less b = refl
-is_eq_then Equal b = refl
-is_eq_then Greater b = refl
-
-is_eq_nat : (a b : ℕ) → is_eq (nat_cmp a b) ≡ nat_eq a b
-is_eq_nat a b = grind (arith, nat_tests)
-
-nat_eq-refl : (a : ℕ) → nat_eq a a ≡ true
-nat_eq-refl a = grind (arith, nat_tests)
 
 -- ---- a list from a place on
 
@@ -78,12 +59,12 @@ line_is leads name a e atom at is = ap (λ (o : Option Entry). option_map_or (λ
 
 module _ (leads : List Entry) (name : List ℕ) (i : ℕ) (e : Entry) (at : slice_get leads i ≡ Some e) where
   abbrev text : List (AtomKey × AtomParts) → List ℕ
-  text ys = flat_map (line_at leads name) (map (λ (y : AtomKey × AtomParts). lead_atom i y.0) ys)
+  text ys = flat_map (line_at leads name) (map (λ (y : AtomKey × AtomParts). atom_of y.0 i) ys)
 
   text_append : (xs ys : List (AtomKey × AtomParts)) → text (xs ++ ys) ≡ text xs ++ text ys
   text_append xs ys =
-      ap (flat_map (line_at leads name)) (map-append (λ (y : AtomKey × AtomParts). lead_atom i y.0) xs ys)
-      ∙ flat_map-append (line_at leads name) (map (λ (y : AtomKey × AtomParts). lead_atom i y.0) xs) (map (λ (y : AtomKey × AtomParts). lead_atom i y.0) ys)
+      ap (flat_map (line_at leads name)) (map-append (λ (y : AtomKey × AtomParts). atom_of y.0 i) xs ys)
+      ∙ flat_map-append (line_at leads name) (map (λ (y : AtomKey × AtomParts). atom_of y.0 i) xs) (map (λ (y : AtomKey × AtomParts). atom_of y.0 i) ys)
 
   group_text : (field : FieldKind) (g : ℕ) (group : List AtomParts) → slice_get (groups_of field e.1) g ≡ Some group → (n : ℕ) (atoms : List AtomParts) → IsTail group n atoms →
       text (keyed_group e.0 field g n atoms) ≡ flat_map (line_if_naming name e.1 field) atoms
@@ -221,7 +202,7 @@ module _ (name : List ℕ) (a : LeadAtom) (atom : AtomParts) (named : bytes_eq a
       ∙ any_filter (λ (y : AtomKey × AtomParts). stands y.0) (λ (y : AtomKey × AtomParts). bytes_eq y.1.name name) (keyed_atoms d)
 
   own_passes : (d : Entry) → key_is q d.0 ≡ true → passing (record { stanza = d.0; field = a.field; group = a.group; atom = a.atom }, atom) ≡ true
-  own_passes d is = λ i. named i && (is i && (nat_eq-refl (field_place a.field) i && (nat_eq-refl a.group i && nat_eq-refl a.atom i)))
+  own_passes d is = λ i. named i && (is i && (nat_itself (field_place a.field) i && (nat_itself a.group i && nat_itself a.atom i)))
 
   in_entries : (x : Content) → atom_in a x ≡ Some atom → (es : List Entry) → under q es ≡ Some x → list_any stands (namers_named name es) ≡ true
   in_entries x there [] at = absurd (none_some x at)
@@ -255,17 +236,8 @@ named_is_naming store leads name at a none = by (slice_get leads a.place) refl n
 
 -- ---- what is no atom of the leads
 
-tie_is : (a b : LeadAtom) → is_eq (lead_atom_cmp a b) ≡ (nat_eq a.place b.place && (nat_eq (field_place a.field) (field_place b.field) && (nat_eq a.group b.group && nat_eq a.atom b.atom)))
-tie_is a b =
-    let inner : is_eq (ordering_then (nat_cmp a.group b.group) (nat_cmp a.atom b.atom)) ≡ (nat_eq a.group b.group && nat_eq a.atom b.atom) =
-    is_eq_then (nat_cmp a.group b.group) (nat_cmp a.atom b.atom) ∙ (λ i. is_eq_nat a.group b.group i && is_eq_nat a.atom b.atom i) in
-    let middle : is_eq (ordering_then (nat_cmp (field_place a.field) (field_place b.field)) (ordering_then (nat_cmp a.group b.group) (nat_cmp a.atom b.atom))) ≡ (nat_eq (field_place a.field) (field_place b.field) && (nat_eq a.group b.group && nat_eq a.atom b.atom)) =
-    is_eq_then (nat_cmp (field_place a.field) (field_place b.field)) (ordering_then (nat_cmp a.group b.group) (nat_cmp a.atom b.atom)) ∙ (λ i. is_eq_nat (field_place a.field) (field_place b.field) i && inner i) in
-    is_eq_then (nat_cmp a.place b.place) (ordering_then (nat_cmp (field_place a.field) (field_place b.field)) (ordering_then (nat_cmp a.group b.group) (nat_cmp a.atom b.atom)))
-    ∙ (λ i. is_eq_nat a.place b.place i && middle i)
-
 tie_refl : (a : LeadAtom) → is_eq (lead_atom_cmp a a) ≡ true
-tie_refl a = tie_is a a ∙ (λ i. nat_eq-refl a.place i && (nat_eq-refl (field_place a.field) i && (nat_eq-refl a.group i && nat_eq-refl a.atom i)))
+tie_refl a = tie_is a a ∙ (λ i. nat_itself a.place i && (nat_itself (field_place a.field) i && (nat_itself a.group i && nat_itself a.atom i)))
 
 among_from : (a : LeadAtom) (e : Entry) (atom : AtomParts) → atom_in a e.1 ≡ Some atom → (i : ℕ) (es : List Entry) (j : ℕ) → a.place ≡ i + j → slice_get es j ≡ Some e →
     list_any (λ (b : LeadAtom). is_eq (lead_atom_cmp a b)) (atoms_from i es) ≡ true
@@ -274,8 +246,8 @@ among_from a e atom there i (d ∷ ds) zero at is =
     let same : i ≡ a.place = omega (arith, at) in
     list_any-append (λ (b : LeadAtom). is_eq (lead_atom_cmp a b)) (atoms_in i d) (atoms_from (suc i) ds)
     ∙ or_first _ _ ((λ k. list_any (λ (b : LeadAtom). is_eq (lead_atom_cmp a b)) (atoms_in (same k) (some_is d e is k)))
-    ∙ any_map (λ (b : LeadAtom). is_eq (lead_atom_cmp a b)) (λ (y : AtomKey × AtomParts). lead_atom a.place y.0) (keyed_atoms e)
-    ∙ in_entry e a atom (λ (y : AtomKey × AtomParts). is_eq (lead_atom_cmp a (lead_atom a.place y.0))) (tie_refl a) there)
+    ∙ any_map (λ (b : LeadAtom). is_eq (lead_atom_cmp a b)) (λ (y : AtomKey × AtomParts). atom_of y.0 a.place) (keyed_atoms e)
+    ∙ in_entry e a atom (λ (y : AtomKey × AtomParts). is_eq (lead_atom_cmp a (atom_of y.0 a.place))) (tie_refl a) there)
 among_from a e atom there i (d ∷ ds) (suc j) at is =
     list_any-append (λ (b : LeadAtom). is_eq (lead_atom_cmp a b)) (atoms_in i d) (atoms_from (suc i) ds)
     ∙ or_then _ _ (among_from a e atom there (suc i) ds j (let z : a.place ≡ suc i + j = omega (arith, at) in z) is)

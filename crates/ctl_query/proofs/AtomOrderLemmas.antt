@@ -20,7 +20,9 @@ use Rattle.ctl_index.specs.declared.keys.AtomKey.{AtomKey}
 use Rattle.ctl_index.specs.Names.{naming_fields, keyed_group, keyed_groups, keyed_atoms}
 use Rattle.ctl_query.specs.declared.lead_atoms.LeadAtom.{LeadAtom}
 use Rattle.ctl_query.specs.Leads.{lead_atom_cmp}
-use Rattle.ctl_query.proofs.AtomLemmas.{lead_atom, atoms_in, atoms_from}
+use Rattle.ctl_query.proofs.AtomLemmas.{atoms_in, atoms_from}
+use Rattle.ctl_query.proofs.InterestLemmas.{skip, and_false, turned}
+use Rattle.ctl_query.proofs.LeadAtomLemmas.{atom_of}
 
 -- ---- atoms that compare alike are one
 
@@ -71,26 +73,6 @@ lead_atoms_exact a b h = lead_atoms_exact_cmp a b ((Equal-is (lead_atom_cmp a b)
 abbrev is_in : List LeadAtom → LeadAtom → Bool
 is_in xs a = list_any (λ b. is_eq (lead_atom_cmp a b)) xs
 
--- what has no text can be left out
-skip_at : (f : LeadAtom → List ℕ) (p : LeadAtom → Bool) (x : LeadAtom) (xs : List LeadAtom) → flat_map f xs ≡ flat_map f (filter p xs) → (p x ≡ false → f x ≡ []) →
-    (b : Bool) → p x ≡ b → flat_map f (x ∷ xs) ≡ flat_map f (filter p (x ∷ xs))
-skip_at f p x xs rest none true e = rw e (ap (λ t. f x ++ t) rest)
-skip_at f p x xs rest none false e = rw e (ap (λ t. t ++ flat_map f xs) (none e) ∙ rest)
-
-skip : (f : LeadAtom → List ℕ) (p : LeadAtom → Bool) → ((x : LeadAtom) → p x ≡ false → f x ≡ []) → (xs : List LeadAtom) → flat_map f xs ≡ flat_map f (filter p xs)
-skip f p none [] = refl
-skip f p none (x ∷ xs) = skip_at f p x xs (skip f p none xs) (none x) (p x) refl
-
-and_false : (b : Bool) → false ≡ (b && false)
-and_false true = refl
-and_false false = refl
-
-turned : (a b : Bool) → (a && b) ≡ (b && a)
-turned true true = refl
-turned true false = refl
-turned false true = refl
-turned false false = refl
-
 in_at : (p : LeadAtom → Bool) (x : LeadAtom) (xs : List LeadAtom) (q : LeadAtom) → is_in (filter p xs) q ≡ (p q && is_in xs q) →
     (b : Bool) → p x ≡ b → (s : Bool) → is_eq (lead_atom_cmp q x) ≡ s → is_in (filter p (x ∷ xs)) q ≡ (p q && is_in (x ∷ xs) q)
 in_at p x xs q rest true e true s = let same : p q ≡ true = ap p (lead_atoms_exact q x s) ∙ e in rw (e, s, same) refl
@@ -124,7 +106,7 @@ all_in : {X : Type 0} (P Q : X → Type 0) → ((x : X) → P x → Q x) → (xs
 all_in P Q so [] h = tt
 all_in P Q so (x ∷ xs) h = (so x h.0, all_in P Q so xs h.1)
 
-all_append : {X : Type 0} (P : X → Type 0) (xs ys : List X) → AllByRecursion P xs → AllByRecursion P ys → AllByRecursion P (xs ++ ys)
+pub all_append : {X : Type 0} (P : X → Type 0) (xs ys : List X) → AllByRecursion P xs → AllByRecursion P ys → AllByRecursion P (xs ++ ys)
 all_append P [] ys h k = k
 all_append P (x ∷ xs) ys h k = (h.0, all_append P xs ys h.1 k)
 
@@ -187,7 +169,7 @@ abbrev Keyed : Type 0
 Keyed = AtomKey × AtomParts
 
 abbrev at : ℕ → Keyed → LeadAtom
-at i y = lead_atom i y.0
+at i y = atom_of y.0 i
 
 abbrev keyed_cmp : ℕ → Keyed → Keyed → Ordering
 keyed_cmp i x y = lead_atom_cmp (at i x) (at i y)

@@ -7,7 +7,7 @@ use Rattle.ctl_store.specs.Entries.{AreAt}
 use Rattle.ctl_store.specs.Held.{Held, keyed_of}
 use Rattle.ctl_index.specs.Held.{standing}
 use Rattle.ctl_policy.specs.Priority.{World, world_of}
-use Rattle.ctl_query.specs.Interest.{names_it, offers_it, has_unmet}
+use Rattle.ctl_query.specs.Interest.{names_it, provides_it, has_unmet}
 use Rattle.ctl_query.specs.NameSet.{is_among}
 use Rattle.ctl_query.specs.Packages.{is_installed, packages_of, of_rows, of_all_rows}
 use Rattle.ctl_query.specs.ReverseDepends.{naming_in_lead, naming, asker_line, asking_line}
@@ -42,7 +42,7 @@ module _ (classes : AreClasses) (store : Held) (at : AreAt (standing store) (key
       of_interest (world_of store) (naming_lines name) (of_rows (world_of store) (naming_lines name)) (λ x none. none)
       classes at (row_known classes (world_of store)) askers sorted (λ x out. naming_lines_silent store name x at (sym (members x) ∙ out))
 
-  pub providing_is_enough : (name : List ℕ) (askers : List (List ℕ)) → IsStrictlySortedBy (slice_cmp nat_cmp) askers → ((asker : List ℕ) → is_among askers asker ≡ offers_it store name asker) →
+  pub providing_is_enough : (name : List ℕ) (askers : List (List ℕ)) → IsStrictlySortedBy (slice_cmp nat_cmp) askers → ((asker : List ℕ) → is_among askers asker ≡ provides_it store name asker) →
       flat_map (of_rows (world_of store) (providing_lines name)) askers ≡ of_all_rows (world_of store) (providing_lines name)
   providing_is_enough name askers sorted members =
       of_interest (world_of store) (providing_lines name) (of_rows (world_of store) (providing_lines name)) (λ x none. none)

@@ -27,11 +27,11 @@ pub skip : {A B : Type 0} (f : A → List B) (p : A → Bool) → ((x : A) → p
 skip f p none [] = refl
 skip f p none (x ∷ xs) = skip_at f p x xs (skip f p none xs) (none x) (p x) refl
 
-and_false : (b : Bool) → false ≡ (b && false)
+pub and_false : (b : Bool) → false ≡ (b && false)
 and_false true = refl
 and_false false = refl
 
-turned : (a b : Bool) → (a && b) ≡ (b && a)
+pub turned : (a b : Bool) → (a && b) ≡ (b && a)
 turned true true = refl
 turned true false = refl
 turned false true = refl

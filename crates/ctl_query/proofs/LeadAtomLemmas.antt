@@ -22,7 +22,7 @@ split false q e = absurd cc
 nat_is : (a b : ℕ) → nat_eq a b ≡ true → a ≡ b
 nat_is a b e = grind (arith, nat_tests)
 
-nat_itself : (a : ℕ) → nat_eq a a ≡ true
+pub nat_itself : (a : ℕ) → nat_eq a a ≡ true
 nat_itself a = grind (arith, nat_tests)
 
 nat_turned : (a b : ℕ) → nat_eq a b ≡ nat_eq b a
@@ -50,7 +50,7 @@ eq_nat a b = grind (arith, nat_tests)
 tied : (a b : ℕ) (o : Ordering) (q : Bool) → is_eq o ≡ q → is_eq (ordering_then (nat_cmp a b) o) ≡ nat_eq b a && q
 tied a b o q e = eq_then (nat_cmp a b) o ∙ (λ i. eq_nat a b i && e i)
 
-tie_is : (a b : LeadAtom) → is_eq (lead_atom_cmp a b) ≡ nat_eq b.place a.place && (nat_eq (field_place b.field) (field_place a.field) && (nat_eq b.group a.group && nat_eq b.atom a.atom))
+pub tie_is : (a b : LeadAtom) → is_eq (lead_atom_cmp a b) ≡ nat_eq b.place a.place && (nat_eq (field_place b.field) (field_place a.field) && (nat_eq b.group a.group && nat_eq b.atom a.atom))
 tie_is a b = tied a.place b.place _ _ (tied (field_place a.field) (field_place b.field) _ _ (tied a.group b.group _ _ (eq_nat a.atom b.atom)))
 
 -- ---- the atom that a key names

@@ -12,6 +12,7 @@ use Rattle.ctl_policy.specs.Rows.{Row, rows_named, newest_first, keys_of_row, is
 use Rattle.ctl_policy.specs.Priority.{World}
 use Rattle.ctl_query.specs.Packages.{stanzas_of, names_known, has_row, of_all_rows, of_rows, told_of_row, rows_of, packages_of}
 use Rattle.ctl_query.specs.Leads.{keyed_lead, leads_named, leads_of}
+use Rattle.ctl_query.proofs.AtomOrderLemmas.{all_append}
 use Rattle.ctl_query.proofs.InterestLemmas.{skip}
 
 -- a `flat_map` after another
@@ -23,10 +24,6 @@ twice f g (x ∷ xs) = flat_map-append f (g x) (flat_map g xs) ∙ ap (λ ys. fl
 alike : {A B : Type 0} (f g : A → List B) → ((x : A) → f x ≡ g x) → (xs : List A) → flat_map f xs ≡ flat_map g xs
 alike f g same [] = refl
 alike f g same (x ∷ xs) = λ i. same x i ++ alike f g same xs i
-
-all_append : {A : Type 0} (P : A → Type 0) (xs ys : List A) → AllByRecursion P xs → AllByRecursion P ys → AllByRecursion P (xs ++ ys)
-all_append P [] ys a b = b
-all_append P (x ∷ xs) ys a b = (a.0, all_append P xs ys a.1 b)
 
 all_of_each : {A B : Type 0} (P : B → Type 0) (f : A → List B) → ((x : A) → AllByRecursion P (f x)) → (xs : List A) → AllByRecursion P (flat_map f xs)
 all_of_each P f each [] = tt

@@ -1,11 +1,11 @@
 -- The places of leads, found by their keys.
 use Rattle.std.proofs.Common.{◌≡◌, ◌∙◌, ◌+◌, ◌<◌, ◌≤◌, ℕ, zero, suc, true, List, [], ◌∷◌, ◌++◌, length, take, get_or, slice_get, Option, None, Some, option_map, refl, sym, ap, arith, Bor}
 use Rattle.std.specs.BTreeMap.{is_at}
-use Rattle.std.specs.Cmp.{IsTotalOrder, nat_cmp_total}
+use Rattle.std.specs.Cmp.{IsTotalOrder, Equal-is, nat_cmp_total}
 use Rattle.std.specs.List.{HoldsAt}
 use Rattle.std.specs.List.Sorted.{IsPermutation, IsPartitionPoint, IsNonDecreasingBy}
 use Rattle.std.specs.Map.{keys_of}
-use Rattle.std.specs.Ordering.{nat_cmp, ordering_then, ordering_reverse, ordering_index, is_eq, is_lt}
+use Rattle.std.specs.Ordering.{nat_cmp, ordering_then, ordering_reverse, ordering_index, is_lt}
 use Rattle.std.specs.declared.cmp.Ordering.{Ordering}
 use Rattle.std.specs.declared.cmp.Ordering.TheVariants.{Less, Equal, Greater}
 use Rattle.std.proofs.lemmas.Cmp.{on_total, then_total, eq_by_cmp_equiv, ranked}
@@ -18,6 +18,7 @@ use Rattle.ctl_stanza.specs.Content.{Content}
 use Rattle.ctl_store.specs.declared.stanza_key.StanzaKey.{StanzaKey}
 use Rattle.ctl_store.specs.Entries.{Entry}
 use Rattle.ctl_store.specs.Keys.{key_cmp}
+use Rattle.ctl_query.proofs.RisingLemmas.{less_where}
 use Rattle.ctl_query.specs.Leads.{key_at}
 use Rattle.ctl_query.specs.LeadTable.{lent_leads, place_under, numbered_from, AreInKeyOrder, ArePlaces}
 
@@ -38,16 +39,6 @@ same_key k x e =
     let stanza : k.stanza ≡ x.stanza = ranked k.stanza x.stanza Equal (sym h.1) in
     λ i. record { list = list i; stanza = stanza i }
 
-eq_of : (o : Ordering) → is_eq o ≡ true → o ≡ Equal
-eq_of Less e = cc
-eq_of Equal e = refl
-eq_of Greater e = cc
-
-lt_of : (o : Ordering) → is_lt o ≡ true → o ≡ Less
-lt_of Less e = refl
-lt_of Equal e = cc
-lt_of Greater e = cc
-
 -- ---- a search
 
 key_read : (places : List (StanzaKey × ℕ)) (i : ℕ) (d : StanzaKey × ℕ) → get_or (keys_of places) i d.0 ≡ (get_or places i d).0
@@ -62,7 +53,7 @@ keys_long (p ∷ places) = ap suc (keys_long places)
 -- neighbours that rise
 pub rising_from : (places : List (StanzaKey × ℕ)) (d : StanzaKey × ℕ) → ((k : ℕ) → k + 1 < length places → is_lt (key_cmp (get_or places k d).0 (get_or places (k + 1) d).0) ≡ true) → AreInKeyOrder places
 rising_from places d each = sorted_from_all_adjacent keys_total (keys_of places) d.0 (λ k l.
-    (λ i. key_cmp (key_read places k d i) (key_read places (k + 1) d i)) ∙ lt_of _ (each k (omega (arith, l, keys_long places))))
+    (λ i. key_cmp (key_read places k d i) (key_read places (k + 1) d i)) ∙ less_where _ (each k (omega (arith, l, keys_long places))))
 
 module _ (places : List (StanzaKey × ℕ)) (rising : AreInKeyOrder places) where
   below : (i j : ℕ) (d : StanzaKey × ℕ) → i < j → j < length places → key_cmp (get_or places i d).0 (get_or places j d).0 ≡ Less
@@ -91,7 +82,7 @@ module _ (places : List (StanzaKey × ℕ)) (rising : AreInKeyOrder places) wher
 
 numbered-push : (n : ℕ) (es : List Entry) (e : Entry) → numbered_from n (es ++ e ∷ []) ≡ numbered_from n es ++ (e.0, n + length es) ∷ []
 numbered-push n [] e = ap (λ (m : ℕ). (e.0, m) ∷ []) (omega arith)
-numbered-push n (x ∷ es) e = ap (λ ps. (x.0, n) ∷ ps) (numbered-push (suc n) es e ∙ ap (λ (m : ℕ). numbered_from (suc n) es ++ (e.0, m) ∷ []) (omega arith))
+numbered-push n (x ∷ es) e = ap (λ ps. (x.0, n) ∷ ps) (numbered-push (n + 1) es e ∙ ap (λ (m : ℕ). numbered_from (n + 1) es ++ (e.0, m) ∷ []) (omega arith))
 
 lent-push : (xs : List (StanzaKey × Bor Content)) (x : StanzaKey × Bor Content) → lent_leads (xs ++ x ∷ []) ≡ lent_leads xs ++ (x.0, x.1.now) ∷ []
 lent-push [] x = refl
@@ -115,7 +106,7 @@ numbered_more leads i d l =
 numbered_at : (n : ℕ) (es : List Entry) (i : ℕ) → slice_get (numbered_from n es) i ≡ option_map (λ (k : StanzaKey). (k, n + i)) (key_at es i)
 numbered_at n [] i = refl
 numbered_at n (e ∷ es) zero = ap (λ (m : ℕ). Some (e.0, m)) (omega arith)
-numbered_at n (e ∷ es) (suc i) = numbered_at (suc n) es i ∙ ap (λ (m : ℕ). option_map (λ (k : StanzaKey). (k, m)) (key_at es i)) (omega arith)
+numbered_at n (e ∷ es) (suc i) = numbered_at (n + 1) es i ∙ ap (λ (m : ℕ). option_map (λ (k : StanzaKey). (k, m)) (key_at es i)) (omega arith)
 
 -- the places of leads in the order of their keys
 pub are_places : (leads : List Entry) (places : List (StanzaKey × ℕ)) → IsPermutation (numbered_from 0 leads) places → AreInKeyOrder places → ArePlaces leads places
@@ -140,7 +131,7 @@ are_places leads places moved rising = record { rising = rising; there = there; 
     no_other i k e =
         let at = place_from_lookup (is_at (key_cmp k)) places i e in
         let q = at.1 in
-        let same : k ≡ q = same_key k q (eq_of (key_cmp k q) at.3) in
+        let same : k ≡ q = same_key k q ((Equal-is (key_cmp k q)).0 at.3) in
         let has = Contains-permutation places (numbered_from 0 leads) (q, i) (IsPermutation-sym (numbered_from 0 leads) places moved) (at.0, slice_get_within places at.0 (q, i) at.2, get_or_from_slice_get places at.0 (q, i) (q, i) at.2) in
         let is = read has.0 i q (key_at leads has.0) (sym (numbered has.0) ∙ slice_get-get_or (numbered_from 0 leads) has.0 (q, i) has.1 ∙ ap Some has.2) in
         ap (key_at leads) (sym is.1) ∙ is.0 ∙ ap Some (sym same)

@@ -1,10 +1,10 @@
 -- The packages that an answer on all packages has to look at.
-use Rattle.std.specs.Prelude.{ℕ, Bool, false, List}
+use Rattle.std.specs.Prelude.{ℕ, Bool, false, not, ◌&&◌, List, map}
 use Rattle.std.specs.List.{list_any}
 use Rattle.std.specs.Option.{option_map_or}
 use Rattle.std.specs.Str.{bytes_eq}
 use Rattle.ctl_relation.specs.Parts.{OfferParts}
-use Rattle.ctl_stanza.specs.Content.{package_of}
+use Rattle.ctl_stanza.specs.Content.{package_of, provides_of}
 use Rattle.ctl_store.specs.declared.stanza_key.StanzaKey.{StanzaKey}
 use Rattle.ctl_store.specs.Keys.{stanza_at}
 use Rattle.ctl_store.specs.Held.{Held, keyed_of}
@@ -14,6 +14,7 @@ use Rattle.ctl_index.specs.Clauses.{unmet_clauses}
 use Rattle.ctl_index.specs.Held.{standing}
 use Rattle.ctl_index.specs.Names.{namers_named}
 use Rattle.ctl_index.specs.Offers.{offers_named}
+use Rattle.ctl_query.specs.Packages.{is_none_of}
 
 -- whether the stanza of a key is of this package
 abbrev pub is_of_package : Held → List ℕ → StanzaKey → Bool
@@ -23,9 +24,17 @@ is_of_package store name key = option_map_or (λ stanza. bytes_eq name (package_
 abbrev pub names_it : Held → List ℕ → List ℕ → Bool
 names_it store name asker = list_any (λ (key : AtomKey). is_of_package store asker key.stanza) (namers_named name (standing store))
 
--- whether one offers a name
-abbrev pub offers_it : Held → List ℕ → List ℕ → Bool
-offers_it store name asker = list_any (λ (offer : StanzaKey × OfferParts). is_of_package store asker offer.0) (offers_named name (standing store))
+-- whether the stanza of a key is of this package and has entries of Provides
+abbrev pub is_provider : Held → List ℕ → StanzaKey → Bool
+is_provider store name key = option_map_or (λ stanza. bytes_eq name (package_of stanza) && not (is_none_of (provides_of stanza))) (stanza_at key (keyed_of store).lists) false
+
+-- the stanzas that offer a name, by their keys
+abbrev pub offering_named : Held → List ℕ → List StanzaKey
+offering_named store name = map (λ (offer : StanzaKey × OfferParts). offer.0) (offers_named name (standing store))
+
+-- whether a stanza of a package that has entries of Provides offers a name
+abbrev pub provides_it : Held → List ℕ → List ℕ → Bool
+provides_it store name asker = list_any (is_provider store asker) (offering_named store name)
 
 -- whether one has a clause that no offer meets
 abbrev pub has_unmet : Held → List ℕ → Bool

@@ -1,7 +1,8 @@
 -- Leads that are lent, and where each stands by its key.
-use Rattle.std.specs.Prelude.{◌≡◌, ℕ, suc, List, [], ◌∷◌, map, Option, Some}
+use Rattle.std.specs.Prelude.{◌≡◌, ℕ, List, map, Option, Some}
 use Rattle.std.specs.Borrow.{Bor}
 use Rattle.std.specs.BTreeMap.{is_at}
+use Rattle.std.specs.List.{enumerate_from}
 use Rattle.std.specs.List.Sorted.{IsStrictlySortedBy}
 use Rattle.std.specs.Map.{keys_of, lookup}
 use Rattle.ctl_stanza.specs.Content.{Content}
@@ -24,8 +25,7 @@ AreInKeyOrder places = IsStrictlySortedBy key_cmp (keys_of places)
 
 -- the key of each lead with its place, counted from n
 abbrev pub numbered_from : ℕ → List Entry → List (StanzaKey × ℕ)
-numbered_from n [] = []
-numbered_from n (e ∷ es) = (e.0, n) ∷ numbered_from (suc n) es
+numbered_from n leads = map (λ (p : ℕ × Entry). (p.1.0, p.0)) (enumerate_from n leads)
 
 -- beside the key of each lead stands its place, and beside no other key does one
 pub record ArePlaces (leads : List Entry) (places : List (StanzaKey × ℕ)) : Type 0 where

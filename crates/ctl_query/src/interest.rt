@@ -2,16 +2,17 @@
 
 ghost use Rattle.std.specs.Prelude.{◌≡◌, ◌||◌, ℕ, List, OnOk, IfOk, false};
 ghost use Rattle.std.specs.Cmp.Lexicographic.{slice_cmp};
+ghost use Rattle.std.specs.List.{list_any};
 ghost use Rattle.std.specs.List.Sorted.{IsStrictlySortedBy};
 ghost use Rattle.std.specs.Ordering.{nat_cmp};
 ghost use Rattle.ctl_store.specs.Entries.{AreAt};
 ghost use Rattle.ctl_store.specs.Held.{keyed_of};
 ghost use Rattle.ctl_index.specs.Held.{standing};
-ghost use Rattle.ctl_query.specs.Interest.{is_of_package, names_it, offers_it, has_unmet};
+ghost use Rattle.ctl_query.specs.Interest.{is_of_package, is_provider, names_it, has_unmet};
 ghost use Rattle.ctl_query.specs.NameSet.{lent_names, is_among};
 
 use crate::name_set::{in_order, push_name};
-use ctl_index::Cache;
+use ctl_index::{Cache, Offering};
 use ctl_store::{StanzaKey, Store};
 use std::alloc::{AllocError, Global};
 
@@ -36,6 +37,20 @@ fn add_package<'a>(
     }
 }
 
+/// Adds the package of the stanza of a key, if it has entries of Provides. Most have none, and offer their own name alone.
+fn add_provider<'a>(
+    names: &mut Vec<&'a [u8]>,
+    store: &'a Store,
+    key: StanzaKey,
+) -> Result<(), AllocError>
+    ensures { OnOk result ((name : List ℕ) → is_among (lent_names names.new.items) name ≡ (is_provider store.now name key || is_among (lent_names names.old.items) name)) }
+{
+    match store.find(key) {
+        Some(stanza) if !stanza.provides().is_empty() => push_name(names, stanza.package()),
+        _ => Ok(()),
+    }
+}
+
 /// The packages of the stanzas with an atom that names a name, each once, in the order of their bytes.
 pub(crate) fn packages_naming<'a>(
     alloc: Global,
@@ -55,20 +70,18 @@ pub(crate) fn packages_naming<'a>(
     Ok(names)
 }
 
-/// The packages of the stanzas that offer a name, each once, in the order of their bytes.
-pub(crate) fn packages_offering<'a>(
+/// The packages of those of some stanzas that have entries of Provides, each once, in the order of their bytes.
+pub(crate) fn packages_providing<'a>(
     alloc: Global,
-    cache: &'a Cache,
-    name: &[u8],
+    store: &'a Store,
+    offering: Offering<'_>,
 ) -> Result<Vec<&'a [u8]>, AllocError>
-    requires { cache.now.stale ≡ false }
     ensures order { IfOk result (λ names. IsStrictlySortedBy (slice_cmp nat_cmp) (lent_names names.items)) }
-    ensures members { IfOk result (λ names. (asker : List ℕ) → is_among (lent_names names.items) asker ≡ offers_it cache.now.store name.now asker) }
+    ensures members { IfOk result (λ names. (asker : List ℕ) → is_among (lent_names names.items) asker ≡ list_any (is_provider store.now asker) offering.entry) }
 {
-    let store = cache.store();
     let mut names = Vec::new(alloc);
-    'offers: for (key, _offer) in cache.offers(name) {
-        add_package(&mut names, store, key)?;
+    'offering: for key in offering {
+        add_provider(&mut names, store, key)?;
     }
     let names = in_order(alloc, names)?;
     Ok(names)

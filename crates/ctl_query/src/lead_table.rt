@@ -107,6 +107,12 @@ fn place_under(places: &[(StanzaKey, usize)], key: StanzaKey) -> Option<usize>
     requires { AreInKeyOrder places.now }
     ensures { result ≡ place_under key places.now }
 {
+    // Where each stanza of the first list is a lead, its key stands at its own number.
+    if let Some(likely) = places.get(key.stanza as usize) {
+        if compare_keys(&likely.0, &key).is_eq() {
+            return Some(likely.1);
+        }
+    }
     match places.binary_search_by(|pair| compare_keys(&pair.0, &key)) {
         Ok(at) => Some(places[at].1),
         Err(_) => None,

@@ -8,6 +8,7 @@ ghost use Rattle.ctl_store.specs.Keys.{AreHeld};
 ghost use Rattle.ctl_index.specs.Held.{standing};
 ghost use Rattle.ctl_index.specs.Names.{namers_named};
 ghost use Rattle.ctl_policy.specs.Priority.{world_of};
+ghost use Rattle.ctl_query.specs.Interest.{offering_named};
 ghost use Rattle.ctl_query.specs.Packages.{is_known, packages_of, rows_of};
 
 use ctl_index::{Cache, NameView, Packages};
@@ -39,6 +40,7 @@ pub(crate) fn view_of<'a>(cache: &'a Cache, name: &[u8]) -> NameView<'a>
     ensures known { result.is_known ≡ is_known (world_of cache.now.store) name.now }
     ensures rows { result.rows ≡ rows_of (world_of cache.now.store) name.now }
     ensures held { AllByRecursion (λ row. AreHeld row (keyed_of cache.now.store).lists) result.rows }
+    ensures offering { IsPermutation (offering_named cache.now.store name.now) result.offering }
     ensures namers { IsPermutation (namers_named name.now (standing cache.now.store)) result.namers }
 {
     cache.name_view(name)

@@ -9,13 +9,14 @@ ghost use Rattle.ctl_index.specs.Held.{standing};
 ghost use Rattle.ctl_index.specs.Names.{namers_named};
 ghost use Rattle.ctl_policy.specs.Priority.{world_of};
 ghost use Rattle.ctl_policy.specs.Rows.{sources_of};
+ghost use Rattle.ctl_query.specs.Interest.{offering_named};
 ghost use Rattle.ctl_query.specs.Leads.{leads_of};
 ghost use Rattle.ctl_query.specs.NameSet.{lent_names};
 ghost use Rattle.ctl_query.specs.Packages.{rows_of, of_rows, of_all_rows, told_of_row};
 ghost use Rattle.ctl_query.specs.ShowPackage.{source_mark, version_line, naming_lines, relation_lines, entry_lines, providing_lines, show_package_one, show_package_text};
 ghost use Rattle.ctl_query.specs.Texts.{line, if_known};
 
-use crate::interest::{packages_naming, packages_offering, stanzas_are_found};
+use crate::interest::{packages_naming, packages_providing, stanzas_are_found};
 use crate::lead_atoms::{append_atoms, list_atoms};
 use crate::lead_lines::{
     append_entry_lines, append_naming_lines, append_providing_lines, append_relation_lines,
@@ -25,7 +26,7 @@ use crate::leads::lead_in;
 use crate::packages::{rows_of, view_of};
 use crate::policy::row_version;
 use crate::text::{append_line, append_parts, append_unknown};
-use ctl_index::{Cache, NameView, Namers};
+use ctl_index::{Cache, NameView, Namers, Offering};
 use ctl_policy::{NewestFirst, is_source, rows_are_classes};
 use ctl_relation::Bytes;
 use ctl_store::{StanzaKey, Store};
@@ -138,25 +139,7 @@ fn append_naming_by_askers(
     Ok(())
 }
 
-/// The same by a table of leads: each atom is gone to by its key, and no name is looked for.
-fn append_naming_by_leads(
-    alloc: Global,
-    _cache: &Cache,
-    table: &LeadTable<'_>,
-    namers: Namers<'_>,
-    name: &[u8],
-    out: &mut Vec<u8>,
-) -> Result<(), AllocError>
-    requires leads { table.now ≡ leads_of (world_of _cache.now.store) }
-    requires namers { IsPermutation (namers_named name.now (standing _cache.now.store)) namers }
-    ensures { OnOk result (out.new.items ≡ out.old.items ++ of_all_rows (world_of _cache.now.store) (naming_lines name.now)) }
-{
-    let atoms = list_atoms(alloc, table, namers)?;
-    append_atoms(table, name, &atoms, out)?;
-    Ok(())
-}
-
-/// Appends the atoms that name a name.
+/// Appends the atoms that name a name. By a table of leads each atom is gone to by its key, and no name is looked for.
 fn append_naming(
     alloc: Global,
     cache: &Cache,
@@ -171,7 +154,11 @@ fn append_naming(
     ensures { OnOk result (out.new.items ≡ out.old.items ++ of_all_rows (world_of cache.now.store) (naming_lines name.now)) }
 {
     match table {
-        Some(table) => { append_naming_by_leads(alloc, cache, table, namers, name, out) }
+        Some(table) => {
+            let atoms = list_atoms(alloc, table, namers)?;
+            append_atoms(table, name, &atoms, out)?;
+            Ok(())
+        }
         None => append_naming_by_askers(alloc, cache, name, out),
     }
 }
@@ -277,19 +264,21 @@ fn append_each_providing(
     Ok(())
 }
 
-/// Appends the entries of Provides with a name. The packages that offer it are enough.
+/// Appends the entries of Provides with a name. The packages with entries of Provides that offer it are enough.
 fn append_providing(
     alloc: Global,
     cache: &Cache,
+    offering: Offering<'_>,
     name: &[u8],
     out: &mut Vec<u8>,
 ) -> Result<(), AllocError>
-    requires { cache.now.stale ≡ false }
+    requires fresh { cache.now.stale ≡ false }
+    requires offering { IsPermutation (offering_named cache.now.store name.now) offering }
     ensures { OnOk result (out.new.items ≡ out.old.items ++ of_all_rows (world_of cache.now.store) (providing_lines name.now)) }
 {
     rows_are_classes();
     stanzas_are_found(cache);
-    let askers = packages_offering(alloc, cache, name)?;
+    let askers = packages_providing(alloc, cache.store(), offering)?;
     append_each_providing(cache, name, &askers, out)?;
     Ok(())
 }
@@ -343,14 +332,16 @@ fn show_entries(cache: &Cache, rows: NewestFirst<'_>, out: &mut Vec<u8>) -> Resu
 fn show_providers(
     alloc: Global,
     cache: &Cache,
+    offering: Offering<'_>,
     name: &[u8],
     out: &mut Vec<u8>,
 ) -> Result<(), AllocError>
-    requires { cache.now.stale ≡ false }
+    requires fresh { cache.now.stale ≡ false }
+    requires offering { IsPermutation (offering_named cache.now.store name.now) offering }
     ensures { OnOk result (out.new.items ≡ out.old.items ++ (line (codes "Reverse Provides:" ∷ []) ++ of_all_rows (world_of cache.now.store) (providing_lines name.now))) }
 {
     append_line(out, &[b"Reverse Provides:"])?;
-    append_providing(alloc, cache, name, out)?;
+    append_providing(alloc, cache, offering, name, out)?;
     Ok(())
 }
 
@@ -368,6 +359,7 @@ fn append_known(
     requires leads { IfSome table (λ table. table.now ≡ leads_of (world_of cache.now.store)) }
     requires rows { view.now.rows ≡ rows_of (world_of cache.now.store) name.now }
     requires held { AllByRecursion (λ row. AreHeld row (keyed_of cache.now.store).lists) view.now.rows }
+    requires offering { IsPermutation (offering_named cache.now.store name.now) view.now.offering }
     requires namers { IsPermutation (namers_named name.now (standing cache.now.store)) view.now.namers }
     ensures { OnOk result (out.new.items ≡ out.old.items ++ show_package_one (world_of cache.now.store) name.now) }
 {
@@ -376,7 +368,7 @@ fn append_known(
     show_namers(alloc, cache, table, view.namers(), name, out)?;
     show_relations(cache, view.rows(), out)?;
     show_entries(cache, view.rows(), out)?;
-    show_providers(alloc, cache, name, out)?;
+    show_providers(alloc, cache, view.offering(), name, out)?;
     Ok(())
 }
 

@@ -1,6 +1,6 @@
 //! Reading relation fields from left to right.
 
-ghost use Rattle.std.specs.Prelude.{◌≡◌, ◌≢◌, ◌≤◌, ◌<◌, ◌+◌, ◌^◌, [], None, length, nat_eq, IfOk, IfErr, OnOk, IfSome};
+ghost use Rattle.std.specs.Prelude.{◌≡◌, ◌≢◌, ◌≤◌, ◌<◌, ◌+◌, ◌^◌, [], true, None, length, nat_eq, is_ok, IfOk, IfErr, OnOk, IfSome};
 ghost use Rattle.std.specs.List.{starts_with};
 ghost use Rattle.ctl_relation.specs.declared.relation_fault.RelationFault.TheVariants as relation;
 ghost use Rattle.ctl_relation.specs.HeldPlaces.{ArePlacesIn, HasAtom, IsEnd, ReadsField, ReadsGroup, atom_held, groups_kept, place_of};
@@ -15,7 +15,8 @@ use crate::operator::Operator;
 use crate::places::Places;
 use crate::relation_fault::RelationFault;
 use crate::tokens::{
-    behind_byte, close_of, name_of, operator_of, qualifier_of, version_of, without_whitespace,
+    behind_byte, close_of, held_name, held_version, name_of, operator_of, qualifier_of, version_of,
+    without_whitespace,
 };
 use std::alloc::Global;
 
@@ -65,14 +66,41 @@ fn atom_of(kind: FieldKind, text: &[u8]) -> Result<(Atom<'_>, &[u8]), RelationFa
     Ok((Atom::new(name, qualifier, bound), after))
 }
 
-/// The atom that begins at a place of a body.
+// The operator and the version behind an open parenthesis, where they stand there.
+#[tactic(auto, unfolding(crate::specs::Reading::parenthesized_at))]
+fn held_parenthesized(kind: FieldKind, text: &[u8]) -> (Operator, &[u8])
+    requires { is_ok (parenthesized_at kind text.now) ≡ true }
+    ensures gives { IfOk (parenthesized_at kind text.now) (λ x. x.0 ≡ (result.0, result.1.now)) }
+    ensures version { fault_of result.1.now ≡ None }
+{
+    match operator_of(kind, without_whitespace(text)) {
+        Ok((operator, after)) => (operator, held_version(without_whitespace(after))),
+        Err(_) => unreachable!("an operator stands there"),
+    }
+}
+
+// The bound at the front, if an open parenthesis begins one, where it has no fault.
+fn held_bound(kind: FieldKind, text: &[u8]) -> Option<(Operator, &[u8])>
+    requires { is_ok (bound_at kind text.now) ≡ true }
+    ensures gives { IfOk (bound_at kind text.now) (λ x. x.0 ≡ lent_bound result) }
+    ensures version { IfSome result (λ bound. fault_of bound.1.now ≡ None) }
+{
+    match without_whitespace(text) {
+        [b'(', behind @ ..] => Some(held_parenthesized(kind, behind)),
+        _ => None,
+    }
+}
+
+/// The atom that begins at a place of a body. It was read before, so its name and its version aren't tested again.
+#[tactic(auto, unfolding(crate::specs::Reading::atom_at))]
 pub(crate) fn atom_at_place(kind: FieldKind, body: &[u8], place: u32) -> Atom<'_>
     requires { HasAtom kind body.now place }
     ensures { result ≡ atom_held kind body.now place }
 {
     let (_, text) = body.split_at(place as usize);
-    match atom_of(kind, text) {
-        Ok((atom, _)) => atom,
+    let (name, after) = held_name(text);
+    match qualifier_of(after) {
+        Ok((qualifier, after)) => Atom::new(name, qualifier, held_bound(kind, after)),
         Err(_) => unreachable!("an atom begins there"),
     }
 }

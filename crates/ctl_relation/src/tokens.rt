@@ -1,6 +1,6 @@
 //! The tokens of a relation field: names, qualifiers, operators, versions, and the whitespace between them.
 
-ghost use Rattle.std.specs.Prelude.{◌≡◌, ◌≤◌, ◌<◌, length, None, IfOk, IfSome};
+ghost use Rattle.std.specs.Prelude.{◌≡◌, ◌≤◌, ◌<◌, length, true, None, Ok, is_ok, IfOk, IfSome};
 ghost use Rattle.std.specs.List.{prefix_len};
 ghost use Rattle.std.specs.Option.{option_map};
 ghost use Rattle.ctl_relation.specs.Inside.ByteClass.{class_has};
@@ -11,7 +11,7 @@ ghost use Rattle.ctl_relation.specs.Version.{fault_of};
 
 use crate::cut::version_fault;
 use crate::field_kind::FieldKind;
-use crate::name::{is_name, is_name_byte};
+use crate::name::is_name_byte;
 use crate::operator::Operator;
 use crate::relation_fault::RelationFault;
 
@@ -93,11 +93,19 @@ pub(crate) fn name_of(text: &[u8]) -> Result<(&[u8], &[u8]), RelationFault>
     ensures shorter { IfOk result (λ x. length x.1.now < length text.now) }
 {
     let (name, after) = text.split_at(run_len(ByteClass::Name, text));
-    if is_name(name) {
-        Ok((name, after))
-    } else {
-        Err(RelationFault::Name)
+    // All its bytes may stand in a name, so that the first one tells whether it is one.
+    match name {
+        [first, ..] if first.is_ascii_alphanumeric() => Ok((name, after)),
+        _ => Err(RelationFault::Name),
     }
+}
+
+/// The name at the front, where one stands there, and what follows it. That it is a name isn't looked at again.
+pub(crate) fn held_name(text: &[u8]) -> (&[u8], &[u8])
+    requires { is_ok (name_at text.now) ≡ true }
+    ensures { name_at text.now ≡ Ok (result.0.now, result.1.now) }
+{
+    text.split_at(run_len(ByteClass::Name, text))
 }
 
 /// The qualifier at the front, if a colon begins one, and what follows it.
@@ -159,6 +167,15 @@ pub(crate) fn version_of(text: &[u8]) -> Result<(&[u8], &[u8]), RelationFault>
         None => Ok((version, after)),
         Some(_) => Err(RelationFault::Version),
     }
+}
+
+/// The version at the front, where one stands there. That it is a version isn't looked at again.
+pub(crate) fn held_version(text: &[u8]) -> &[u8]
+    requires { is_ok (version_at text.now) ≡ true }
+    ensures gives { IfOk (version_at text.now) (λ x. x.0 ≡ result.now) }
+    ensures version { fault_of result.now ≡ None }
+{
+    text.split_at(run_len(ByteClass::VersionWord, text)).0
 }
 
 /// What follows the closing parenthesis at the front.

@@ -1,4 +1,5 @@
 pub mod LineLemmas
+pub mod LineStartLemmas
 pub mod FieldLemmas
 pub mod FieldLineLemmas
 pub mod WordLemmas

@@ -1,5 +1,5 @@
 -- The lines of a text (deb822(5)).
-use Rattle.std.specs.Prelude.{◌≡◌, ℕ, Bool, List, [], ◌∷◌, ◌++◌, ◌==◌, ◌||◌, nat_lt, length, map, if◌then◌else◌}
+use Rattle.std.specs.Prelude.{◌≡◌, ℕ, Bool, false, List, [], ◌∷◌, ◌++◌, ◌==◌, ◌||◌, nat_lt, length, map, if◌then◌else◌}
 use Rattle.std.specs.Borrow.{Bor}
 use Rattle.std.specs.List.{list_all}
 use Rattle.ctl_relation.specs.Bytes.{newline, space, tab}
@@ -42,3 +42,7 @@ is_blank_byte b = b == space || b == tab
 -- a line of spaces and tabs alone, or of nothing
 abbrev pub is_blank : List ℕ → Bool
 is_blank line = list_all is_blank_byte line
+
+abbrev pub begins_with_blank : List ℕ → Bool
+begins_with_blank [] = false
+begins_with_blank (byte ∷ line) = is_blank_byte byte

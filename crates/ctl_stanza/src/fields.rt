@@ -9,7 +9,7 @@ ghost use Rattle.ctl_stanza.specs.Fields.{strip_end, value_of, continues, contin
 ghost use Rattle.ctl_stanza.specs.HeldFields.{IsWithin, AreWithin, AreBelow, ArePlacesWithin, StandsAt, Grows, Shows, Adds, shown, shown_fields, place_of, shown_places, body_among};
 
 use crate::line_kind::{LineKind, kind_of};
-use crate::lines::{begins_with_blank, is_blank_byte};
+use crate::lines::{begins_with_blank, is_blank, is_blank_byte};
 use std::alloc::{AllocError, Global};
 use std::mem::size_of;
 
@@ -110,10 +110,12 @@ pub(crate) fn value_len(line: &[u8], n: usize) -> usize
 }
 
 // Whether a line continues the field before it.
+#[tactic(auto, using(crate::proofs::LineStartLemmas::continues_is))]
 fn continues(line: &[u8]) -> bool
     ensures { result ≡ continues (kind_of line.now) }
 {
-    matches!(kind_of(line), LineKind::Continuation)
+    // The name of a field line need not be gone through for this.
+    begins_with_blank(line) && !is_blank(line)
 }
 
 // The bytes of the continuation lines at the front, each with the newline before it.

@@ -2,7 +2,7 @@
 
 ghost use Rattle.std.specs.Prelude.{◌≡◌, ◌<◌, ◌≤◌, ◌+◌, ◌∷◌, ◌++◌, [], ℕ, List, length, IfOk, IfSome, IfNone};
 ghost use Rattle.ctl_relation.specs.Bytes.{newline};
-ghost use Rattle.ctl_stanza.specs.Lines.{lines_of, is_too_long, is_blank_byte, is_blank, text_of_lines, lent_lines};
+ghost use Rattle.ctl_stanza.specs.Lines.{lines_of, is_too_long, is_blank_byte, is_blank, begins_with_blank, text_of_lines, lent_lines};
 
 use bstr::ByteSlice;
 use std::alloc::{AllocError, Global};
@@ -31,7 +31,9 @@ pub(crate) fn is_blank(line: &[u8]) -> bool
 }
 
 /// Whether a line begins with a space or a tab.
-pub(crate) fn begins_with_blank(line: &[u8]) -> bool {
+pub(crate) fn begins_with_blank(line: &[u8]) -> bool
+    ensures { result ≡ begins_with_blank line.now }
+{
     match line {
         [] => false,
         [first, ..] => is_blank_byte(*first),

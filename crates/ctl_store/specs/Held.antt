@@ -86,15 +86,18 @@ pub record IsShelved {A B : Type 0} (rows rows_ready : Vec (Vec (ℕ × Content)
 
 -- ---- plans
 
--- the room for a new list: for its serials while they are put in order, for its rows, and for the order that stays
+-- the room for a new list: for its serials and the fronts of its names while they are put in order, for its rows, and for the
+-- order that stays
 pub record ListRoom : Type 0 where
   pub serials : ℕ
+  pub fronts : ℕ
   pub rows : ℕ
   pub order : ℕ
 
 -- nothing stands yet in the room for a new list
-pub record IsBare {R A B C : Type 0} (serials : Vec ℕ C) (rows rows_ready : Vec (Vec R A) B) (order order_ready : Vec (Vec ℕ A) B) : Type 0 where
+pub record IsBare {R A B C : Type 0} (serials : Vec ℕ C) (fronts : Vec (List ℕ) C) (rows rows_ready : Vec (Vec R A) B) (order order_ready : Vec (Vec ℕ A) B) : Type 0 where
   pub no_serials : serials.items ≡ []
+  pub no_fronts : fronts.items ≡ []
   pub no_rows : rows.items ≡ []
   pub rows_fit : IsFit rows rows_ready
   pub no_order : order.items ≡ []
@@ -103,6 +106,7 @@ pub record IsBare {R A B C : Type 0} (serials : Vec ℕ C) (rows rows_ready : Ve
 -- so many stanzas fit in the room
 pub record Fits (count : ℕ) (room : ListRoom) : Type 0 where
   pub serials : count ≤ room.serials
+  pub fronts : count ≤ room.fronts
   pub rows : count ≤ room.rows
   pub order : count ≤ room.order
 

@@ -6,10 +6,10 @@ ghost use Rattle.std.specs.List.Sorted.{IsSortedBy};
 ghost use Rattle.std.specs.Vec.{vec_capacity};
 ghost use Rattle.std.specs.Option.{option_cmp};
 ghost use Rattle.ctl_store.specs.Step.{place};
-ghost use Rattle.ctl_store.specs.Rows.{IsKept, Rises, id, id_of, id_cmp, ids_of, sorted_ids, sorted_serials, lower, order_at, place_cmp, rows_from, version_order, version_id, by_name_and_version};
+ghost use Rattle.ctl_store.specs.Rows.{IsKept, Rises, id, id_of, id_at, id_cmp, ids_of, sorted_ids, sorted_serials, lower, order_at, place_cmp, rows_from, version_order, version_id, by_name_and_version};
 ghost use Rattle.std.specs.Ordering.{is_lt, nat_cmp};
 ghost use Rattle.std.specs.Cmp.Lexicographic.{slice_cmp};
-ghost use Rattle.ctl_store.specs.Fronts.{front_of};
+ghost use Rattle.ctl_store.specs.Fronts.{front_of, fronts_of};
 ghost use Rattle.ctl_store.specs.HeldPieces.{joined, last_passes, place_of_spot, ArePieces, IsSpot, IsSpotOrEnd};
 
 use crate::fronts::{FRONT_LEN, front_of};
@@ -39,14 +39,17 @@ fn compare(stanza: &Stanza, name: &[u8], version: Option<&Version>) -> Ordering
     }
 }
 
-// How two fronts stand. Most differ in the first byte, which is cheaper to look at than all.
+// How two fronts stand. They have few bytes, so that a loop is cheaper than a call that compares slices.
 fn compare_fronts(one: &[u8; FRONT_LEN], other: &[u8; FRONT_LEN]) -> Ordering
     ensures { result ≡ slice_cmp nat_cmp one.now other.now }
 {
-    match one[0].cmp(&other[0]) {
-        Ordering::Equal => one.cmp(other),
-        unequal => unequal,
+    for i in 0..FRONT_LEN {
+        let order = one[i].cmp(&other[i]);
+        if order.is_ne() {
+            return order;
+        }
     }
+    Ordering::Equal
 }
 
 // How a row stands to a name, whose front is given, and a version. Where the fronts differ they tell it, and nothing is read
@@ -116,11 +119,51 @@ fn compare_stanzas(one: Option<&Box<Stanza>>, other: Option<&Box<Stanza>>) -> Or
     }
 }
 
+// How the stanzas at two places stand, by their names and versions. Where the fronts of their names differ they tell it, and
+// nothing is read of the stanzas, which stand elsewhere in memory.
+fn compare_by_fronts(
+    stanzas: &[Box<Stanza>],
+    fronts: &[[u8; FRONT_LEN]],
+    one: u64,
+    other: u64,
+) -> Ordering
+    requires { fronts.now ≡ fronts_of (map (λ stanza. stanza.value) stanzas.now) }
+    ensures { result ≡ option_cmp id_cmp (id_at (rows_from 0 (map (λ stanza. stanza.value) stanzas.now)) one) (id_at (rows_from 0 (map (λ stanza. stanza.value) stanzas.now)) other) }
+{
+    if let (Some(front), Some(against)) = (fronts.get(one as usize), fronts.get(other as usize)) {
+        let order = compare_fronts(front, against);
+        if order.is_ne() {
+            return order;
+        }
+    }
+    compare_stanzas(stanzas.get(one as usize), stanzas.get(other as usize))
+}
+
 // How the stanzas at two places stand, by their names and versions and then by the places.
-fn compare_places(stanzas: &[Box<Stanza>], one: u64, other: u64) -> Ordering
+fn compare_places(
+    stanzas: &[Box<Stanza>],
+    fronts: &[[u8; FRONT_LEN]],
+    one: u64,
+    other: u64,
+) -> Ordering
+    requires { fronts.now ≡ fronts_of (map (λ stanza. stanza.value) stanzas.now) }
     ensures { result ≡ place_cmp (rows_from 0 (map (λ stanza. stanza.value) stanzas.now)) one other }
 {
-    compare_stanzas(stanzas.get(one as usize), stanzas.get(other as usize)).then(one.cmp(&other))
+    compare_by_fronts(stanzas, fronts, one, other).then(one.cmp(&other))
+}
+
+// The fronts of the names of stanzas, for which there is room.
+fn push_fronts(fronts: &mut Vec<[u8; FRONT_LEN]>, stanzas: &[Box<Stanza>])
+    requires none { fronts.old.items ≡ [] }
+    requires room { length stanzas.now ≤ vec_capacity fronts.old }
+    ensures { fronts.new.items ≡ fronts_of (map (λ stanza. stanza.value) stanzas.now) }
+{
+    'stanzas: for stanza in stanzas {
+        match fronts.push(front_of(stanza.package())) {
+            Ok(()) => {}
+            Err(_) => unreachable!(),
+        }
+    }
 }
 
 // The places of stanzas, for which there is room.
@@ -141,24 +184,34 @@ fn push_places(order: &mut Vec<u64>, stanzas: &[Box<Stanza>])
     }
 }
 
-// Whether places stand in the order of names and versions already, as those of an archive's list do.
-fn are_in_order(stanzas: &[Box<Stanza>], order: &[u64]) -> bool
+// Whether places stand in the order of names and versions already.
+fn are_in_order(stanzas: &[Box<Stanza>], fronts: &[[u8; FRONT_LEN]], order: &[u64]) -> bool
+    requires { fronts.now ≡ fronts_of (map (λ stanza. stanza.value) stanzas.now) }
     ensures { OnTrue result (IsSortedBy (λ one other. is_lt (place_cmp (rows_from 0 (map (λ stanza. stanza.value) stanzas.now)) one other)) order.now) }
 {
-    order.is_sorted_by(|one, other| !compare_places(stanzas, *other, *one).is_lt())
+    order.is_sorted_by(|one, other| !compare_places(stanzas, fronts, *other, *one).is_lt())
 }
 
-/// The serials of stanzas, which are their places, in the order of names and versions. There is room for them.
-pub(crate) fn sort_serials(stanzas: &[Box<Stanza>], order: &mut Vec<u64>)
+/// The serials of stanzas, which are their places, in the order of names and versions. There is room for them, and for the
+/// fronts of the names.
+pub(crate) fn sort_serials(
+    stanzas: &[Box<Stanza>],
+    fronts: &mut Vec<[u8; FRONT_LEN]>,
+    order: &mut Vec<u64>,
+)
     requires none { order.old.items ≡ [] }
     requires room { length stanzas.now ≤ vec_capacity order.old }
+    requires no_fronts { fronts.old.items ≡ [] }
+    requires room_for_fronts { length stanzas.now ≤ vec_capacity fronts.old }
     ensures { order.new.items ≡ sorted_serials (rows_from 0 (map (λ stanza. stanza.value) stanzas.now)) }
 {
+    push_fronts(fronts, stanzas);
     push_places(order, stanzas);
-    if are_in_order(stanzas, order) {
+    let fronts = fronts.as_slice();
+    if are_in_order(stanzas, fronts, order) {
         return;
     }
-    order.sort_unstable_by(|one, other| compare_places(stanzas, *one, *other));
+    order.sort_unstable_by(|one, other| compare_places(stanzas, fronts, *one, *other));
 }
 
 // Whether the row before a spot comes before a name, whose front is given, and a version, or no row is before the spot.

@@ -12,6 +12,7 @@ ghost use Rattle.ctl_store.specs.Entries.{entries_in};
 ghost use Rattle.ctl_store.specs.ByName.{keys_by_name};
 ghost use Rattle.ctl_store.specs.Held.{IsShelved, Fits, keyed_list};
 
+use crate::fronts::FRONT_LEN;
 use crate::list_class::ListClass;
 use crate::order::{look_up, sort_serials};
 use crate::pieces::{Pieces, Spot};
@@ -51,10 +52,12 @@ impl Model for Shelf {
     ghost invariant = { λ s. IsShelved s.rows.pieces s.rows.ready s.next s.order.pieces s.order.ready };
 }
 
-/// The room for a new list: for its serials while they are put in order, for its rows, and for the order that stays.
+/// The room for a new list: for its serials and the fronts of its names while they are put in order, for its rows, and for the
+/// order that stays.
 #[derive(Drop)]
 pub(crate) struct ListRoom {
     serials: Vec<u64>,
+    fronts: Vec<[u8; FRONT_LEN]>,
     rows: Pieces<Row>,
     order: Pieces<u64>,
 }
@@ -66,9 +69,9 @@ impl Model for ListRoom {
 
     ghost Value = { ListRoom };
 
-    ghost view = { λ r. record { serials = vec_capacity r.serials; rows = room_at_end r.rows.pieces r.rows.ready; order = room_at_end r.order.pieces r.order.ready } };
+    ghost view = { λ r. record { serials = vec_capacity r.serials; fronts = vec_capacity r.fronts; rows = room_at_end r.rows.pieces r.rows.ready; order = room_at_end r.order.pieces r.order.ready } };
 
-    ghost invariant = { λ r. IsBare r.serials r.rows.pieces r.rows.ready r.order.pieces r.order.ready };
+    ghost invariant = { λ r. IsBare r.serials r.fronts r.rows.pieces r.rows.ready r.order.pieces r.order.ready };
 }
 
 impl ListRoom {
@@ -76,6 +79,7 @@ impl ListRoom {
     pub(crate) fn new(alloc: Global) -> ListRoom {
         ListRoom {
             serials: Vec::new(alloc),
+            fronts: Vec::new(alloc),
             rows: Pieces::new(alloc),
             order: Pieces::new(alloc),
         }
@@ -87,6 +91,7 @@ impl ListRoom {
     {
         Ok(ListRoom {
             serials: Vec::with_capacity(alloc, stanzas)?,
+            fronts: Vec::with_capacity(alloc, stanzas)?,
             rows: Pieces::with_capacity(alloc, stanzas)?,
             order: Pieces::with_capacity(alloc, stanzas)?,
         })
@@ -129,10 +134,11 @@ impl Shelf {
     {
         let ListRoom {
             mut serials,
+            mut fronts,
             mut rows,
             mut order,
         } = room;
-        sort_serials(&stanzas, &mut serials);
+        sort_serials(&stanzas, &mut fronts, &mut serials);
         order.extend(serials);
         let next = fill_rows(&mut rows, stanzas);
         rows.forget_room();

@@ -55,11 +55,11 @@ fn owned(rt: &HostRuntime, text: &str) -> Result<String, AllocError> {
     String::from_str(rt.alloc(), text)
 }
 
-/// Whether a file is known to have more bytes than it may. Of a pipe it isn't known.
-fn is_too_large(file: &File) -> bool {
+/// How many bytes a file has, as far as it is known: of a pipe it isn't, and none are said.
+fn known_len(file: &File) -> u64 {
     match file.metadata() {
-        Ok(known) => known.len() > MAX_FILE,
-        Err(_) => false,
+        Ok(known) => known.len(),
+        Err(_) => 0,
     }
 }
 
@@ -68,10 +68,12 @@ fn read_file(rt: &HostRuntime, path: &str) -> Result<Vec<u8>, Failure> {
     let Ok(file) = File::open(rt, path) else {
         return Err(Failure::CannotRead(owned(rt, path)?));
     };
-    if is_too_large(&file) {
+    let len = known_len(&file);
+    if len > MAX_FILE {
         return Err(Failure::CannotRead(owned(rt, path)?));
     }
-    let mut bytes = Vec::new(rt.alloc());
+    // With one byte more the end is found without another growth.
+    let mut bytes = Vec::with_capacity(rt.alloc(), len as usize + 1)?;
     match file.take(MAX_FILE + 1).read_to_end(&mut bytes) {
         Ok(_) if bytes.len() as u64 <= MAX_FILE => Ok(bytes),
         Err(error) if error.kind() == ErrorKind::OutOfMemory => Err(Failure::Memory),

@@ -9,9 +9,10 @@ ghost use Rattle.ctl_store.specs.Held.{keyed_of, state_of};
 ghost use Rattle.ctl_policy.specs.Rows.{rows_named, newest_first, keys_of_row};
 ghost use Rattle.ctl_index.specs.Held.{standing};
 ghost use Rattle.ctl_index.specs.Names.{known_names, namers_named};
+ghost use Rattle.ctl_index.specs.Offers.{offers_named};
 ghost use Rattle.ctl_index.specs.Work.{stanzas_of_state};
 
-use crate::cache::{Cache, Namers};
+use crate::cache::{Cache, Namers, Offering};
 use crate::named::Named;
 use crate::rows::rows_are_defined;
 use ctl_policy::{NewestFirst, rows_are_held, rows_are_shown};
@@ -50,6 +51,16 @@ impl<'a> NameView<'a> {
         }
     }
 
+    /// The keys of the stanzas that offer the name, in any order, as often as they do.
+    pub fn offering(&self) -> Offering<'a>
+        ensures { result ≡ self.now.offering }
+    {
+        match self.named {
+            Some(named) => Offering::new(named.offers.as_slice()),
+            None => Offering::new(&[]),
+        }
+    }
+
     /// The atoms of the eight fields that name the name, in any order.
     pub fn namers(&self) -> Namers<'a>
         ensures { result ≡ self.now.namers }
@@ -68,6 +79,7 @@ impl Cache {
         ensures known { result.is_known ≡ list_any (bytes_eq name.now) (known_names (stanzas_of_state (state_of self.now.store))) }
         ensures rows { result.rows ≡ map keys_of_row (newest_first (rows_named name.now (keyed_of self.now.store).lists)) }
         ensures held { AllByRecursion (λ row. AreHeld row (keyed_of self.now.store).lists) result.rows }
+        ensures offering { IsPermutation (map (λ offer. offer.0) (offers_named name.now (standing self.now.store))) result.offering }
         ensures namers { IsPermutation (namers_named name.now (standing self.now.store)) result.namers }
     {
         rows_are_defined();

@@ -11,6 +11,7 @@ ghost use Rattle.ctl_index.specs.Clauses.{clause_cmp, clause_at, number_at, unme
 ghost use Rattle.ctl_index.specs.Held.{standing};
 ghost use Rattle.ctl_index.specs.Names.{known_names, namers_named};
 ghost use Rattle.ctl_index.specs.Offers.{offers_named};
+ghost use Rattle.ctl_index.specs.TablesViews.{offering};
 ghost use Rattle.ctl_index.specs.Work.{stanzas_of_state};
 
 use crate::cache::Cache;
@@ -95,6 +96,47 @@ impl<'a> Iterator for Offers<'a> {
             }
             None => unreachable!(),
         }
+    }
+}
+
+/// The stanzas that offer a name, by [`NameView::offering`](crate::NameView::offering).
+#[derive(Drop)]
+pub struct Offering<'a> {
+    keys: &'a [OfferKey],
+}
+
+impl<'a> Model for Offering<'a> {
+    ghost use Rattle.std.specs.Prelude.{List};
+    ghost use Rattle.ctl_store.specs.declared.stanza_key.StanzaKey.{StanzaKey};
+    ghost use Rattle.ctl_index.specs.TablesViews.{offering};
+
+    ghost Value = { List StanzaKey };
+
+    ghost view = { λ it. offering it.keys.now };
+}
+
+impl<'a> Offering<'a> {
+    /// The stanzas of the offers of these keys.
+    pub(crate) fn new(keys: &'a [OfferKey]) -> Offering<'a>
+        ensures { result ≡ offering keys.now }
+    {
+        Offering { keys }
+    }
+}
+
+impl<'a> Iterator for Offering<'a> {
+    ghost use Rattle.std.specs.Iterator.{YieldsFirst, item_count};
+
+    ghost next_gives = { YieldsFirst (λ rest. rest) };
+
+    ghost remaining = { item_count (λ rest. rest) };
+
+    type Item = StanzaKey;
+
+    fn next(&mut self) -> Option<StanzaKey> {
+        let (key, rest) = self.keys.split_first()?;
+        self.keys = rest;
+        Some(key.stanza)
     }
 }
 

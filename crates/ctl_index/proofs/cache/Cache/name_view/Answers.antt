@@ -10,15 +10,19 @@ use Rattle.ctl_policy.specs.Rows.{rows_named, newest_first, keys_of_row}
 use Rattle.ctl_index.specs.Held.{HeldCache, standing}
 use Rattle.ctl_index.specs.Names.{known_names, namers_named}
 use Rattle.ctl_index.specs.NameView.{name_standing}
-use Rattle.ctl_index.specs.TablesByName.{rows_under}
+use Rattle.ctl_index.specs.TablesByName.{offers_under, rows_under}
+use Rattle.ctl_index.specs.TablesViews.{offering, offer_found}
+use Rattle.ctl_index.specs.Offers.{offers_named}
+use Rattle.ctl_relation.specs.Parts.{OfferParts}
 use Rattle.ctl_index.specs.TablesSight.{AreSeen, in_store}
 use Rattle.ctl_index.specs.Work.{stanzas_of_state}
 use Rattle.ctl_index.proofs.LawLemmas.{contents_of_state}
-use Rattle.ctl_index.proofs.NameViewLemmas.{rows_of_entry}
+use Rattle.ctl_index.proofs.NameViewLemmas.{rows_of_entry, found_offering}
 use Rattle.ctl_index.proofs.NamesLemmas.{known_there}
 use Rattle.ctl_index.proofs.OfferedLemmas.{rows_offered}
 use Rattle.ctl_index.proofs.StoreLemmas.{rising_apart, store_seen}
-use Rattle.ctl_index.proofs.ViewLemmas.{namers_permuted}
+use Rattle.ctl_index.proofs.ViewLemmas.{namers_permuted, offers_permuted}
+use Rattle.std.proofs.lemmas.List.Sorted.{IsPermutation-map}
 use Rattle.ctl_index.proofs.cache.Cache.name_view.Goals as goal
 
 pub returns-clause-known : goal.returns-clause-known
@@ -60,3 +64,19 @@ returns-clause-namers c =
     let sees : AreSeen (in_store h) (standing h) = store_seen h (rising_apart (keyed_of h).lists c.counts-counts.ensures.order) in
     subst (λ (w : HeldCache). IsPermutation (namers_named name (standing w.store)) (name_standing (option_copied c.get.result)).namers) c.self.view_is
     (subst (λ o. IsPermutation (namers_named name (standing h)) (name_standing o).namers) (sym c.get.ensures.entry) (namers_permuted h (standing h) c.self.inside.tables was sees name))
+
+pub returns-clause-offering : goal.returns-clause-offering
+returns-clause-offering c =
+    let h = c.self.inside.store in
+    let t = c.self.inside.tables in
+    let name = c.args.name.now in
+    let fresh = ap (λ w. w.stale) c.self.view_is ∙ c.requires in
+    let was = (c.self.invariant fresh).0 in
+    let sees : AreSeen (in_store h) (standing h) = store_seen h (rising_apart (keyed_of h).lists c.counts-counts.ensures.order) in
+    let keys : List (StanzaKey × OfferParts) → List StanzaKey = map (λ (offer : StanzaKey × OfferParts). offer.0) in
+    let listed = offers_under t.names.map name in
+    let found : IsPermutation (keys (offers_named name (standing h))) (offering listed) =
+    subst (IsPermutation (keys (offers_named name (standing h)))) (found_offering h listed)
+    (IsPermutation-map (λ (offer : StanzaKey × OfferParts). offer.0) (offers_named name (standing h)) (map (offer_found h) listed) (offers_permuted h (standing h) t was sees name)) in
+    subst (λ (w : HeldCache). IsPermutation (keys (offers_named name (standing w.store))) (name_standing (option_copied c.get.result)).offering) c.self.view_is
+    (subst (λ o. IsPermutation (keys (offers_named name (standing h))) (name_standing o).offering) (sym c.get.ensures.entry) found)

@@ -1,0 +1,78 @@
+use Rattle.std.proofs.Common.{◌≤◌, ap, subst, sym, ◌∙◌}
+use Rattle.ctl_store.specs.Keys.{Keyed, AreComing}
+use Rattle.ctl_store.specs.Entries.{entries_of}
+use Rattle.ctl_policy.specs.Priority.{world_of}
+use Rattle.ctl_policy.specs.Chosen.{at_bytes}
+use Rattle.ctl_policy.specs.Touched.{is_one_of}
+use Rattle.ctl_index.specs.Held.{standing}
+use Rattle.ctl_index.specs.TablesChosen.{HasMade, HasRenewed}
+use Rattle.ctl_index.specs.TablesFollowed.{IsFollowed}
+use Rattle.ctl_index.specs.TablesIndexed.{IsIndexed}
+use Rattle.ctl_index.specs.Work.{more_by}
+use Rattle.ctl_index.proofs.ChoosingLemmas.{placed_there}
+use Rattle.ctl_index.proofs.LawLemmas.{followed_law, followed_work}
+use Rattle.ctl_index.proofs.cache.carry_out.Goals as goal
+
+pub returns-clause-indexed : goal.returns-clause-indexed
+returns-clause-indexed c =
+    let h = c.args.store.now in
+    let plan = c.args.plan in
+    let comes : AreComing plan.added plan.edit = subst (λ ks. AreComing ks plan.edit) c.added-added.ensures.keys c.added-added.ensures.coming in
+    let law : IsFollowed h plan = followed_law h plan comes c.counts-counts.ensures.order c.requires.change in
+    subst (λ (k : Keyed). IsIndexed (entries_of k.lists) c.follow.new.tables) (sym c.commit.ensures.keyed) (c.in_ok-follow.ensures.tables law c.requires.indexed)
+
+pub renew_names-requires-clause-rows : goal.renew_names-requires-clause-rows
+renew_names-requires-clause-rows c =
+    let h = c.args.store.now in
+    let plan = c.args.plan in
+    let comes : AreComing plan.added plan.edit = subst (λ ks. AreComing ks plan.edit) c.added-added.ensures.keys c.added-added.ensures.coming in
+    let law : IsFollowed h plan = followed_law h plan comes c.counts-counts.ensures.order c.requires.change in
+    let tables : IsIndexed (standing c.commit.new.self) c.follow.new.tables = subst (λ (k : Keyed). IsIndexed (entries_of k.lists) c.follow.new.tables) (sym c.commit.ensures.keyed) (c.in_ok-follow.ensures.tables law c.requires.indexed) in
+    c.rows_are_defined.ensures c.commit.new.self c.follow.new.tables.names.map c.commit.ensures.change.rises tables.rows
+
+pub renew_names-requires-clause-places : goal.renew_names-requires-clause-places
+renew_names-requires-clause-places c = λ q e.
+    placed_there (is_one_of q c.args.touched.now) (at_bytes c.args.chosen.now q) (at_bytes c.follow.new.chosen q) (c.in_ok-follow.ensures.places q) e
+
+pub returns-clause-chosen : goal.returns-clause-chosen
+returns-clause-chosen c =
+    let h = c.args.store.now in
+    let plan = c.args.plan in
+    let made : HasMade h plan c.commit.new.self = record {
+      ready = c.requires.ready;
+      rising = c.counts-counts.ensures.order;
+      distinct = c.lists-lists.ensures.distinct;
+      change = c.requires.change;
+      come = c.commit.ensures.comes;
+      keyed = c.commit.ensures.keyed;
+      state = c.commit.ensures.state;
+    } in
+    let renewed : HasRenewed c.args.touched.now (world_of c.commit.new.self) c.args.chosen.now c.follow.new.chosen c.renew_names.new.chosen = record {
+      places = c.in_ok-follow.ensures.places;
+      renewed = c.renew_names.ensures;
+    } in
+    c.choices_follow_edits.ensures h plan c.commit.new.self c.args.touched.now c.args.chosen.now c.follow.new.chosen c.renew_names.new.chosen made c.requires.touches c.requires.chosen renewed
+
+pub returns-clause-steps : goal.returns-clause-steps
+returns-clause-steps c =
+    let h = c.args.store.now in
+    let plan = c.args.plan in
+    let comes : AreComing plan.added plan.edit = subst (λ ks. AreComing ks plan.edit) c.added-added.ensures.keys c.added-added.ensures.coming in
+    let law : IsFollowed h plan = followed_law h plan comes c.counts-counts.ensures.order c.requires.change in
+    c.in_ok-follow.ensures.steps law c.requires.indexed ∙ ap (λ n. more_by n c.args.steps.now) (followed_work h plan comes c.counts-counts.ensures.order c.requires.change)
+
+pub returns-clause-most : goal.returns-clause-most
+returns-clause-most c =
+    let h = c.args.store.now in
+    let plan = c.args.plan in
+    let comes : AreComing plan.added plan.edit = subst (λ ks. AreComing ks plan.edit) c.added-added.ensures.keys c.added-added.ensures.coming in
+    let law : IsFollowed h plan = followed_law h plan comes c.counts-counts.ensures.order c.requires.change in
+    subst (λ n. c.follow.new.steps ≤ more_by n c.args.steps.now) (followed_work h plan comes c.counts-counts.ensures.order c.requires.change) (c.follow.ensures.most law c.requires.indexed)
+
+pub returns-in_err-follow-clause-most : goal.returns-in_err-follow-clause-most
+returns-in_err-follow-clause-most c =
+    let h = c.args.store.now in
+    let plan = c.args.plan in
+    let comes : AreComing plan.added plan.edit = subst (λ ks. AreComing ks plan.edit) c.added-added.ensures.keys c.added-added.ensures.coming in
+    let law : IsFollowed h plan = followed_law h plan comes c.counts-counts.ensures.order c.requires.change in
+    subst (λ n. c.follow.new.steps ≤ more_by n c.args.steps.now) (followed_work h plan comes c.counts-counts.ensures.order c.requires.change) (c.follow.ensures.most law c.requires.indexed)
