@@ -11,6 +11,9 @@ import threading
 from . import batches, checks
 from .crate import FOLDERS
 
+# What the name of a kept file ends in that holds a proved module.
+MODULE = ".oantt"
+
 printing = threading.Lock()
 
 
@@ -35,6 +38,7 @@ class Runner:
         self.edits_cpu = collections.Counter()
         self.tried = collections.Counter()
         self.rooms, self.lock = collections.defaultdict(list), threading.Lock()
+        self.modules = {}
         self.removals = []
 
     def run(self):
@@ -116,6 +120,7 @@ class Runner:
             tell("\n".join(answer.lines[-12:]))
         elif not self.is_apart:
             self.hand_over(crate)
+        self.modules[crate] = modules_of(self.kept(crate))
         for it in self.open(crate):
             self.judgements[it] = batches.Judgement(False, "not tried: the crate itself is not proved")
         return is_proved
@@ -126,6 +131,11 @@ class Runner:
         if not os.path.exists(target):
             shutil.copytree(self.kept(crate), f"{target}.new")
             os.rename(f"{target}.new", target)
+
+    def expect_unchanged(self, crate):
+        """Stops where a check wrote into a proved module, of which the rooms have no copies: then nothing that was tried counts."""
+        if self.modules[crate] != modules_of(self.kept(crate)):
+            sys.exit(f"{crate.name}: a check of an edit changed what was proved of the crate as it stands")
 
     def kept(self, crate):
         return f"{self.base}/crates/{crate.name}/out/incremental"
@@ -145,6 +155,7 @@ class Runner:
         finally:
             with self.lock:
                 self.rooms[crate].append(room)
+        self.expect_unchanged(crate)
         self.results.keep(crate, found)
         with self.lock:
             self.judgements.update(found)
@@ -165,7 +176,7 @@ class Runner:
         room = self.new_folder(f"{crate.name}-")
         copy_texts(self.base, room)
         for it in crate.below:
-            shutil.copytree(f"{self.base}/crates/{it}/out/rlib", f"{room}/crates/{it}/out/rlib")
+            shutil.copytree(f"{self.base}/crates/{it}/out/rlib", f"{room}/crates/{it}/out/rlib", copy_function=place)
         return room
 
     def new_folder(self, name):
@@ -202,8 +213,18 @@ def copy_texts(root, to):
                 shutil.copytree(at, into)
 
 
+def place(source, target):
+    """Gives a file a second name, or a copy where that can't be. It is for what was built or proved: rt replaces such a file and never
+    writes into it, and a room with copies of its own takes some gigabytes."""
+    try:
+        os.link(source, target)
+    except OSError:
+        shutil.copy2(source, target)
+
+
 def mirror(kept, to):
-    """Makes a folder equal to another, and copies only the files whose size or time differs."""
+    """Makes a folder of kept work equal to another, and replaces only the files whose size or time differs. What was proved is placed;
+    the one file beside it that a check writes into is copied."""
     there = set()
     for at, _, files in os.walk(kept):
         into = to + at[len(kept) :]
@@ -212,13 +233,27 @@ def mirror(kept, to):
         for it in files:
             there.add(f"{into}/{it}")
             if not is_same(f"{at}/{it}", f"{into}/{it}"):
-                shutil.copy2(f"{at}/{it}", f"{into}/{it}")
+                remove_if_there(f"{into}/{it}")
+                (place if it.endswith(MODULE) else shutil.copy2)(f"{at}/{it}", f"{into}/{it}")
     for at, _, files in os.walk(to, topdown=False):
         for it in files:
             if f"{at}/{it}" not in there:
                 os.remove(f"{at}/{it}")
         if at not in there:
             os.rmdir(at)
+
+
+def modules_of(kept):
+    """Returns the proved modules of a folder of kept work, each with what tells whether something replaced it or wrote into it."""
+    files = [f"{at}/{it}" for at, _, names in os.walk(kept) for it in names if it.endswith(MODULE)]
+    return {it: (found.st_ino, found.st_size, found.st_mtime_ns) for it in files for found in [os.stat(it)]}
+
+
+def remove_if_there(path):
+    try:
+        os.remove(path)
+    except FileNotFoundError:
+        pass
 
 
 def is_same(one, other):
