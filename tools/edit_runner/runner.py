@@ -78,11 +78,12 @@ class Runner:
             return len(running) < self.jobs and (not running or self.has_room())
 
         def start():
-            # One crate at a time is proved as it stands, the lowest first: two at once would build the same library.
+            # One crate at a time is proved as it stands, the lowest first: two at once would build the same library. It has half
+            # of the jobs at least, since those above wait for it.
             if unproved and not any(batch is None for _, batch in running.values()) and may_start():
                 crate = unproved.popleft()
                 idle = self.jobs - len(running) - len(ready)
-                running[pool.submit(self.prove, crate, max(1, idle))] = crate, None
+                running[pool.submit(self.prove, crate, max(1, self.jobs // 2, idle))] = crate, None
             while ready and may_start():
                 crate, batch = ready.pop(0)
                 running[pool.submit(self.try_batch, crate, batch)] = crate, batch
