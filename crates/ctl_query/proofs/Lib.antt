@@ -13,6 +13,7 @@ pub mod LeadLemmas
 pub mod LeadNamingLemmas
 pub mod LeadTableLemmas
 pub mod ListLemmas
+pub mod ListedAtomLemmas
 pub mod NameLemmas
 pub mod NamingLemmas
 pub mod NoNameLemmas

@@ -1,7 +1,8 @@
 -- The leads of all rows by their keys, and the atoms by which they name a name.
 use Rattle.std.specs.Prelude.{ℕ, Bool, false, List, [], ◌∷◌, flat_map, Option, option_map, slice_get, nat_eq, ◌&&◌}
 use Rattle.std.specs.Option.{option_map_or, option_and_then}
-use Rattle.std.specs.Ordering.{nat_cmp, ordering_then}
+use Rattle.std.specs.List.{list_any}
+use Rattle.std.specs.Ordering.{nat_cmp, ordering_then, is_eq}
 use Rattle.std.specs.declared.cmp.Ordering.{Ordering}
 use Rattle.ctl_relation.specs.FieldKind.{field_place}
 use Rattle.ctl_relation.specs.Parts.{AtomParts}
@@ -38,6 +39,10 @@ key_at leads i = option_map (λ (e : Entry). e.0) (slice_get leads i)
 -- lead by lead, and in each by field, by group and by the place in it
 abbrev pub lead_atom_cmp : LeadAtom → LeadAtom → Ordering
 lead_atom_cmp a b = ordering_then (nat_cmp a.place b.place) (ordering_then (nat_cmp (field_place a.field) (field_place b.field)) (ordering_then (nat_cmp a.group b.group) (nat_cmp a.atom b.atom)))
+
+-- whether an atom is one of these
+abbrev pub is_listed : List LeadAtom → LeadAtom → Bool
+is_listed atoms a = list_any (λ b. is_eq (lead_atom_cmp a b)) atoms
 
 -- the atom of a stanza
 abbrev pub atom_in : LeadAtom → Content → Option AtomParts

@@ -1,10 +1,10 @@
 //! The atoms of leads that name a name, in the order in which `showpkg` tells them.
 
 ghost use Rattle.std.specs.Prelude.{◌≡◌, ◌||◌, ◌++◌, OnOk, IfOk, flat_map};
-ghost use Rattle.std.specs.BTreeSet.{contains, IsOrdered};
 ghost use Rattle.std.specs.List.{list_any};
+ghost use Rattle.std.specs.List.Sorted.{IsStrictlySortedBy};
 ghost use Rattle.ctl_index.specs.declared.keys.AtomKey.{AtomKey};
-ghost use Rattle.ctl_query.specs.Leads.{lead_atom_cmp, line_in, line_at, is_at, atom_in};
+ghost use Rattle.ctl_query.specs.Leads.{lead_atom_cmp, is_listed, line_in, line_at, is_at, atom_in};
 
 use crate::lead_lines::append_naming_line;
 use crate::lead_table::LeadTable;
@@ -12,7 +12,6 @@ use ctl_index::{AtomKey, Namers};
 use ctl_relation::{Atom, FieldKind};
 use ctl_stanza::Stanza;
 use std::alloc::{AllocError, Global};
-use std::collections::BTreeSet;
 
 /// Where an atom of a lead stands: the place of its lead among all leads, its field, the place of its group in the field and its
 /// own in the group, counted from 0. They stand in the order of these parts.
@@ -25,16 +24,16 @@ pub(crate) struct LeadAtom {
 }
 
 /// Adds the atom that a key names, if its stanza is a lead.
-fn insert_atom(
-    set: &mut BTreeSet<LeadAtom>,
+fn push_atom(
+    atoms: &mut Vec<LeadAtom>,
     table: &LeadTable<'_>,
     key: AtomKey,
 ) -> Result<(), AllocError>
-    ensures { OnOk result ((a : LeadAtom) → contains lead_atom_cmp set.new a ≡ (is_at table.now key a || contains lead_atom_cmp set.old a)) }
+    ensures { OnOk result ((a : LeadAtom) → is_listed atoms.new.items a ≡ (is_at table.now key a || is_listed atoms.old.items a)) }
 {
     match table.place(key.stanza) {
         Some(place) => {
-            set.insert(LeadAtom {
+            atoms.push(LeadAtom {
                 place,
                 field: key.field,
                 group: key.group,
@@ -46,22 +45,30 @@ fn insert_atom(
     }
 }
 
-/// The atoms of leads that name what these keys name.
+/// Puts atoms in order, each once.
+fn put_in_order(atoms: &mut Vec<LeadAtom>)
+    ensures order { IsStrictlySortedBy lead_atom_cmp atoms.new.items }
+    ensures members { (a : LeadAtom) → is_listed atoms.new.items a ≡ is_listed atoms.old.items a }
+{
+    atoms.sort_unstable();
+    atoms.dedup();
+}
+
+/// The atoms of leads that name what these keys name, in order, each once.
 pub(crate) fn list_atoms(
     alloc: Global,
     table: &LeadTable<'_>,
     namers: Namers<'_>,
-) -> Result<BTreeSet<LeadAtom>, AllocError>
-    ensures order { IfOk result (λ set. IsOrdered lead_atom_cmp set) }
-    ensures members { IfOk result (λ set. (a : LeadAtom) → contains lead_atom_cmp set a ≡ list_any (λ (k : AtomKey). is_at table.now k a) namers.entry) }
+) -> Result<Vec<LeadAtom>, AllocError>
+    ensures order { IfOk result (λ atoms. IsStrictlySortedBy lead_atom_cmp atoms.items) }
+    ensures members { IfOk result (λ atoms. (a : LeadAtom) → is_listed atoms.items a ≡ list_any (λ (k : AtomKey). is_at table.now k a) namers.entry) }
 {
-    let mut set = BTreeSet::new(alloc);
+    let mut atoms = Vec::new(alloc);
     'keys: for key in namers {
-        insert_atom(&mut set, table, key)?;
+        push_atom(&mut atoms, table, key)?;
     }
-    // That they stand in order is said here.
-    let _count = set.len();
-    Ok(set)
+    put_in_order(&mut atoms);
+    Ok(atoms)
 }
 
 /// The atom of a lead, if it is there.
@@ -111,12 +118,12 @@ fn append_atom(
 pub(crate) fn append_atoms(
     table: &LeadTable<'_>,
     name: &[u8],
-    set: &BTreeSet<LeadAtom>,
+    atoms: &[LeadAtom],
     out: &mut Vec<u8>,
 ) -> Result<(), AllocError>
-    ensures { OnOk result (out.new.items ≡ out.old.items ++ flat_map (line_at table.now name.now) set.now.keys) }
+    ensures { OnOk result (out.new.items ≡ out.old.items ++ flat_map (line_at table.now name.now) atoms.now) }
 {
-    'set: for atom in set {
+    for atom in atoms {
         append_atom(table, name, *atom, out)?;
     }
     Ok(())

@@ -1,7 +1,7 @@
-use Rattle.std.proofs.Common.{◌≡◌, ◌++◌, flat_map}
+use Rattle.std.proofs.Common.{◌≡◌, ◌++◌, take, flat_map}
 use Rattle.ctl_query.specs.Leads.{line_at}
 use Rattle.ctl_query.proofs.lead_atoms.append_atoms.Given as goal
 
--- what was written, and the lines of the atoms that are left, are what there was and the lines of all
-abbrev pub invariant-set : goal.invariant-set
-invariant-set l = l.out.items ++ flat_map (line_at l.table l.name) l.atom-iterator ≡ l.initial.out.items ++ flat_map (line_at l.table l.name) l.initial.atom-iterator
+-- what was written, are the lines of the atoms so far
+abbrev pub invariant-loop-atom : goal.invariant-loop-atom
+invariant-loop-atom l = l.out.items ≡ l.initial.out.items ++ flat_map (line_at l.table l.name) (take l.atom-index l.atoms)

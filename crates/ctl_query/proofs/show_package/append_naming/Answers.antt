@@ -19,8 +19,9 @@ returns-in_ok-append_atoms-in-Some c =
     let leads : c.in-Some.table.now ≡ leads_of (world_of store) = subst IsGiven c.in-Some.is c.requires.leads in
     c.in_ok-append_atoms-in-Some.ensures
     ∙ ap (λ text. c.args.out.now.items ++ text)
-    (ap (λ (leads : List Entry). flat_map (line_at leads name) c.in_ok-atoms-in-Some.atoms.keys) leads
-    ∙ atoms_are_enough store name c.in_ok-atoms-in-Some.atoms.keys c.in_ok-atoms-in-Some.ensures.order
+    (ap (flat_map (line_at c.in-Some.table.now name)) c.deref.ensures.value
+    ∙ ap (λ (leads : List Entry). flat_map (line_at leads name) c.in_ok-atoms-in-Some.atoms.items) leads
+    ∙ atoms_are_enough store name c.in_ok-atoms-in-Some.atoms.items c.in_ok-atoms-in-Some.ensures.order
     (λ (a : LeadAtom). c.in_ok-atoms-in-Some.ensures.members a
     ∙ ap (λ (leads : List Entry). list_any (λ (k : AtomKey). is_at leads k a) c.args.namers) leads
     ∙ sym (list_any-IsPermutation (λ (k : AtomKey). is_at (leads_of (world_of store)) k a) (namers_named name (standing store)) c.args.namers c.requires.namers)))
