@@ -1,12 +1,12 @@
 -- The table of names, by the bytes of the names: what a write at the bytes bs leaves under any name.
-use Rattle.std.proofs.Common.{◌≡◌, ◌+◌, ℕ, Bool, true, false, cond, not, nat_eq, ◌&&◌, length, List, [], ◌∷◌, Option, None, Some, Vec, Global, Result, Ok, Err, OnOk, OnErr, refl, ap, sym, subst, ◌∙◌, arith}
+use Rattle.std.proofs.Common.{◌≡◌, ◌+◌, ℕ, Bool, true, false, cond, not, nat_eq, ◌&&◌, length, List, [], ◌∷◌, Option, None, Some, Vec, Global, Result, Ok, Err, OnOk, OnErr, OnSome, refl, ap, sym, subst, ◌∙◌, arith}
 use Rattle.std.specs.Str.{bytes_eq}
 use Rattle.std.specs.Ordering.{nat_cmp, is_eq}
 use Rattle.std.specs.FinMap as fin
 use Rattle.std.specs.Cmp.{eq_by_cmp_equiv}
 use Rattle.std.specs.Cmp.Lexicographic.{slice_cmp, nat_list_cmp_total, nat_list_eq_equiv}
 use Rattle.std.specs.Option.{option_map_or}
-use Rattle.std.specs.BTreeMap.{BTreeMap, UpdatesBy, IsUnchanged, is_at}
+use Rattle.std.specs.BTreeMap.{BTreeMap, UpdatesBy}
 use Rattle.std.specs.Map.{lookup, KeepsOthers, IsKeyTest, AreApart}
 use Rattle.std.proofs.lemmas.Map.Text.{is_eq-slice_cmp}
 use Rattle.std.proofs.lemmas.Slice.Eq.{bytes_eq-Decides}
@@ -18,7 +18,7 @@ use Rattle.ctl_index.specs.TablesOrder.{put_in_order, is_through}
 use Rattle.ctl_policy.specs.Chosen.{at_bytes}
 use Rattle.ctl_policy.specs.Kept.{HasPut, HasSame, OthersStay}
 use Rattle.ctl_policy.specs.Rows.{Rows}
-use Rattle.ctl_index.specs.TablesByName.{NameMap, named_offers, named_namers, named_rows, rows_under, part_under, is_used, AreUsed}
+use Rattle.ctl_index.specs.TablesByName.{NameMap, at_name, IsSetAt, HasSameNames, named_offers, named_namers, named_rows, rows_under, part_under, is_used, AreUsed}
 use Rattle.ctl_index.proofs.RowLemmas.{none_there, put_there, same_there}
 
 apart : (bs cs ks : List ℕ) → bytes_eq bs cs ≡ false → is_eq (slice_cmp nat_cmp bs ks) ≡ true → is_eq (slice_cmp nat_cmp cs ks) ≡ false
@@ -38,22 +38,18 @@ updates_bytes bs m n w h cs = by (bytes_eq bs cs) refl
     by true e = subst (λ l. at_bytes n l ≡ w) ((bytes_eq-Decides bs cs).0 e) h.1
     by false e = others _ _ _ _ h.3 _ (λ x y. (eq_by_cmp_equiv nat_list_cmp_total).congr cs x.items y.items) (λ k. apart bs cs k.items e)
 
--- what a write is, at all bytes
-abbrev pub Writes : List ℕ → NameMap → NameMap → Option Named → Type 0
-Writes bs m n w = UpdatesBy (λ x y. slice_cmp nat_cmp x.items y.items) (λ k. slice_cmp nat_cmp bs k.items) m n w
-
 module _ {T : Type 0} (part : Named → T) (none : T) (bs : List ℕ) (m n : NameMap) where
   -- a part under all names after a write of w, where f was made of what was there
-  pub changed : (w : Named) (f : T → T) → Writes bs m n (Some w) → part w ≡ f (part_under part none m bs)
+  pub changed : (w : Named) (f : T → T) → IsSetAt bs m n (Some w) → part w ≡ f (part_under part none m bs)
       → (cs : List ℕ) → part_under part none n cs ≡ cond (bytes_eq bs cs) (f (part_under part none m cs)) (part_under part none m cs)
-  changed w f h is cs = ap (λ o. option_map_or part o none) (updates_bytes bs m n (Some w) h cs) ∙ by (bytes_eq bs cs) refl
+  changed w f h is cs = ap (λ o. option_map_or part o none) (h cs) ∙ by (bytes_eq bs cs) refl
     where
-      by : (b : Bool) → bytes_eq bs cs ≡ b → option_map_or part (cond b (Some w) (at_bytes m cs)) none ≡ cond b (f (part_under part none m cs)) (part_under part none m cs)
+      by : (b : Bool) → bytes_eq bs cs ≡ b → option_map_or part (cond b (Some w) (at_name m cs)) none ≡ cond b (f (part_under part none m cs)) (part_under part none m cs)
       by true e = is ∙ ap (λ l. f (part_under part none m l)) ((bytes_eq-Decides bs cs).0 e)
       by false e = refl
 
   -- the same part
-  pub unchanged : (w : Named) → Writes bs m n (Some w) → part w ≡ part_under part none m bs → (cs : List ℕ) → part_under part none n cs ≡ part_under part none m cs
+  pub unchanged : (w : Named) → IsSetAt bs m n (Some w) → part w ≡ part_under part none m bs → (cs : List ℕ) → part_under part none n cs ≡ part_under part none m cs
   unchanged w h is cs = changed w (λ l. l) h is cs ∙ by (bytes_eq bs cs)
     where
       by : (b : Bool) → cond b (part_under part none m cs) (part_under part none m cs) ≡ part_under part none m cs
@@ -61,41 +57,41 @@ module _ {T : Type 0} (part : Named → T) (none : T) (bs : List ℕ) (m n : Nam
       by false = refl
 
 -- a part at a key that was read
-pub part-found : {T : Type 0} (part : Named → T) (none : T) (bs : List ℕ) (m : NameMap) (o : Option Named) → o ≡ at_bytes m bs → option_map_or part o none ≡ part_under part none m bs
+pub part-found : {T : Type 0} (part : Named → T) (none : T) (bs : List ℕ) (m : NameMap) (o : Option Named) → o ≡ at_name m bs → option_map_or part o none ≡ part_under part none m bs
 part-found part none bs m o e = ap (λ o. option_map_or part o none) e
 
 -- ---- names under which something stands
 
-pub used_written : (bs : List ℕ) (m n : NameMap) (w : Named) → Writes bs m n (Some w) → is_used w ≡ true → AreUsed m → AreUsed n
-used_written bs m n w h used old q = ap (λ o. option_map_or is_used o true) (updates_bytes bs m n (Some w) h q) ∙ by (bytes_eq bs q)
+pub used_written : (bs : List ℕ) (m n : NameMap) (w : Named) → IsSetAt bs m n (Some w) → is_used w ≡ true → AreUsed m → AreUsed n
+used_written bs m n w h used old q = ap (λ o. option_map_or is_used o true) (h q) ∙ by (bytes_eq bs q)
   where
-    by : (b : Bool) → option_map_or is_used (cond b (Some w) (at_bytes m q)) true ≡ true
+    by : (b : Bool) → option_map_or is_used (cond b (Some w) (at_name m q)) true ≡ true
     by true = used
     by false = old q
 
-pub used_removed : (bs : List ℕ) (m n : NameMap) → Writes bs m n None → AreUsed m → AreUsed n
-used_removed bs m n h old q = ap (λ o. option_map_or is_used o true) (updates_bytes bs m n None h q) ∙ by (bytes_eq bs q)
+pub used_removed : (bs : List ℕ) (m n : NameMap) → IsSetAt bs m n None → AreUsed m → AreUsed n
+used_removed bs m n h old q = ap (λ o. option_map_or is_used o true) (h q) ∙ by (bytes_eq bs q)
   where
-    by : (b : Bool) → option_map_or is_used (cond b None (at_bytes m q)) true ≡ true
+    by : (b : Bool) → option_map_or is_used (cond b None (at_name m q)) true ≡ true
     by true = refl
     by false = old q
 
 -- after a write that may have been refused
-pub used_either : {O E : Type 0} (r : Result O E) (bs : List ℕ) (m n : NameMap) (w : Named) → OnOk r (Writes bs m n (Some w)) → OnErr r (IsUnchanged m n) → is_used w ≡ true → AreUsed m → AreUsed n
+pub used_either : {O E : Type 0} (r : Result O E) (bs : List ℕ) (m n : NameMap) (w : Named) → OnOk r (IsSetAt bs m n (Some w)) → OnErr r (HasSameNames m n) → is_used w ≡ true → AreUsed m → AreUsed n
 used_either (Ok x) bs m n w h same used old = used_written bs m n w h used old
-used_either (Err e) bs m n w h same used old = λ q. ap (λ es. option_map_or is_used (lookup (is_at (λ k. slice_cmp nat_cmp q k.items)) es) true) same ∙ old q
+used_either (Err e) bs m n w h same used old = λ q. ap (λ o. option_map_or is_used o true) (same q) ∙ old q
 
 -- after a write and a removal
-pub used_replaced : (bs : List ℕ) (m n o : NameMap) (w : Named) → Writes bs m n (Some w) → Writes bs n o None → AreUsed m → AreUsed o
+pub used_replaced : (bs : List ℕ) (m n o : NameMap) (w : Named) → IsSetAt bs m n (Some w) → IsSetAt bs n o None → AreUsed m → AreUsed o
 used_replaced bs m n o w h g old q =
-    ap (λ z. option_map_or is_used z true) (updates_bytes bs n o None g q ∙ ap (cond (bytes_eq bs q) None) (updates_bytes bs m n (Some w) h q)) ∙ by (bytes_eq bs q)
+    ap (λ z. option_map_or is_used z true) (g q ∙ ap (cond (bytes_eq bs q) None) (h q)) ∙ by (bytes_eq bs q)
   where
-    by : (b : Bool) → option_map_or is_used (cond b None (cond b (Some w) (at_bytes m q))) true ≡ true
+    by : (b : Bool) → option_map_or is_used (cond b None (cond b (Some w) (at_name m q))) true ≡ true
     by true = refl
     by false = old q
 
 -- what stands under a name that was read
-pub used_found : (m : NameMap) (bs : List ℕ) (v : Named) → Some v ≡ at_bytes m bs → AreUsed m → is_used v ≡ true
+pub used_found : (m : NameMap) (bs : List ℕ) (v : Named) → Some v ≡ at_name m bs → AreUsed m → is_used v ≡ true
 used_found m bs v at old = ap (λ o. option_map_or is_used o true) at ∙ old bs
 
 longer : {T : Type 0} (g : T → StanzaKey) (x : T) (xs : List T) → length (put_in_order g x xs) ≡ length xs + 1
@@ -151,12 +147,12 @@ nothing_left v h = by (nat_eq (length (named_offers v)) 0) (nat_eq (length (name
     by false b d e f g h = absurd (let z : ⊥ = cc in z)
 
 -- a part after a write and a removal, where nothing of it was left
-pub replaced : {T : Type 0} (part : Named → T) (none : T) (bs : List ℕ) (m n o : NameMap) (w : Named) (f : T → T) → Writes bs m n (Some w) → Writes bs n o None → f (part_under part none m bs) ≡ none
+pub replaced : {T : Type 0} (part : Named → T) (none : T) (bs : List ℕ) (m n o : NameMap) (w : Named) (f : T → T) → IsSetAt bs m n (Some w) → IsSetAt bs n o None → f (part_under part none m bs) ≡ none
     → (cs : List ℕ) → part_under part none o cs ≡ cond (bytes_eq bs cs) (f (part_under part none m cs)) (part_under part none m cs)
 replaced part none bs m n o w f h g gone cs =
-    ap (λ z. option_map_or part z none) (updates_bytes bs n o None g cs ∙ ap (cond (bytes_eq bs cs) None) (updates_bytes bs m n (Some w) h cs)) ∙ by (bytes_eq bs cs) refl
+    ap (λ z. option_map_or part z none) (g cs ∙ ap (cond (bytes_eq bs cs) None) (h cs)) ∙ by (bytes_eq bs cs) refl
   where
-    by : (b : Bool) → bytes_eq bs cs ≡ b → option_map_or part (cond b None (cond b (Some w) (at_bytes m cs))) none ≡ cond b (f (part_under part none m cs)) (part_under part none m cs)
+    by : (b : Bool) → bytes_eq bs cs ≡ b → option_map_or part (cond b None (cond b (Some w) (at_name m cs))) none ≡ cond b (f (part_under part none m cs)) (part_under part none m cs)
     by true e = sym (ap (λ l. f (part_under part none m l)) (sym ((bytes_eq-Decides bs cs).0 e)) ∙ gone)
     by false e = refl
 
@@ -171,11 +167,20 @@ on_ok (Err e) p = tt
 -- ---- rows under names
 
 -- a part of a name that isn't there
-pub none_under : {T : Type 0} (part : Named → T) (none : T) (bs : List ℕ) (m : NameMap) → None ≡ at_bytes m bs → part_under part none m bs ≡ none
+pub none_under : {T : Type 0} (part : Named → T) (none : T) (bs : List ℕ) (m : NameMap) → None ≡ at_name m bs → part_under part none m bs ≡ none
 none_under part none bs m e = sym (ap (λ o. option_map_or part o none) e)
 
+-- nothing more under a name that wasn't there changes nothing
+pub none_more : {T : Type 0} (part : Named → T) (none : T) (bs : List ℕ) (m n : NameMap) (x : T) → x ≡ none → None ≡ at_name m bs → HasSameNames m n
+    → (q : List ℕ) → cond (bytes_eq bs q) x (part_under part none n q) ≡ part_under part none m q
+none_more part none bs m n x is e same q = by (bytes_eq bs q) refl
+  where
+    by : (b : Bool) → bytes_eq bs q ≡ b → cond b x (part_under part none n q) ≡ part_under part none m q
+    by true t = is ∙ sym (none_under part none bs m e) ∙ ap (part_under part none m) ((bytes_eq-Decides bs q).0 t)
+    by false t = ap (λ o. option_map_or part o none) (same q)
+
 -- no rows under a name that wasn't there change nothing
-pub none_new : (bs : List ℕ) (m : NameMap) (r : Rows) → None ≡ at_bytes m bs → ((v : List ℕ) → fin.get r v ≡ None) → (q : List ℕ) → cond (bytes_eq bs q) r (rows_under m q) ≡ rows_under m q
+pub none_new : (bs : List ℕ) (m : NameMap) (r : Rows) → None ≡ at_name m bs → ((v : List ℕ) → fin.get r v ≡ None) → (q : List ℕ) → cond (bytes_eq bs q) r (rows_under m q) ≡ rows_under m q
 none_new bs m r e none q = by (bytes_eq bs q) refl
   where
     by : (b : Bool) → bytes_eq bs q ≡ b → cond b r (rows_under m q) ≡ rows_under m q
@@ -187,22 +192,22 @@ pub own_rows : (bs : List ℕ) (r o : Rows) → cond (bytes_eq bs bs) r o ≡ r
 own_rows bs r o = ap (λ b. cond b r o) ((bytes_eq-Decides bs bs).1 refl)
 
 -- other names keep their rows after a write
-pub rows_others : (bs : List ℕ) (m n : NameMap) (w : Named) → Writes bs m n (Some w) → OthersStay bs (rows_under m) (rows_under n)
+pub rows_others : (bs : List ℕ) (m n : NameMap) (w : Named) → IsSetAt bs m n (Some w) → OthersStay bs (rows_under m) (rows_under n)
 rows_others bs m n w writes q h v =
     ap (λ (r : Rows). fin.get r v) (changed named_rows fin.empty bs m n w (λ _. named_rows w) writes refl q ∙ ap (λ b. cond b (named_rows w) (rows_under m q)) h)
 
 -- the rows that were written
-pub rows_own : (bs : List ℕ) (m n : NameMap) (w : Named) → Writes bs m n (Some w) → rows_under n bs ≡ named_rows w
+pub rows_own : (bs : List ℕ) (m n : NameMap) (w : Named) → IsSetAt bs m n (Some w) → rows_under n bs ≡ named_rows w
 rows_own bs m n w writes = changed named_rows fin.empty bs m n w (λ _. named_rows w) writes refl bs ∙ own_rows bs (named_rows w) (rows_under m bs)
 
 -- the same after a write and a removal of a name without rows
-all_replaced : (bs : List ℕ) (m n o : NameMap) (w : Named) → Writes bs m n (Some w) → Writes bs n o None → named_rows w ≡ fin.empty → (q : List ℕ) → rows_under o q ≡ cond (bytes_eq bs q) (named_rows w) (rows_under m q)
+all_replaced : (bs : List ℕ) (m n o : NameMap) (w : Named) → IsSetAt bs m n (Some w) → IsSetAt bs n o None → named_rows w ≡ fin.empty → (q : List ℕ) → rows_under o q ≡ cond (bytes_eq bs q) (named_rows w) (rows_under m q)
 all_replaced bs m n o w writes removes none q = replaced named_rows fin.empty bs m n o w (λ _. named_rows w) writes removes none q
 
-pub others_replaced : (bs : List ℕ) (m n o : NameMap) (w : Named) → Writes bs m n (Some w) → Writes bs n o None → named_rows w ≡ fin.empty → OthersStay bs (rows_under m) (rows_under o)
+pub others_replaced : (bs : List ℕ) (m n o : NameMap) (w : Named) → IsSetAt bs m n (Some w) → IsSetAt bs n o None → named_rows w ≡ fin.empty → OthersStay bs (rows_under m) (rows_under o)
 others_replaced bs m n o w writes removes none q h v = ap (λ (r : Rows). fin.get r v) (all_replaced bs m n o w writes removes none q ∙ ap (λ b. cond b (named_rows w) (rows_under m q)) h)
 
-pub rows_replaced : (bs : List ℕ) (m n o : NameMap) (w : Named) → Writes bs m n (Some w) → Writes bs n o None → named_rows w ≡ fin.empty → rows_under o bs ≡ named_rows w
+pub rows_replaced : (bs : List ℕ) (m n o : NameMap) (w : Named) → IsSetAt bs m n (Some w) → IsSetAt bs n o None → named_rows w ≡ fin.empty → rows_under o bs ≡ named_rows w
 rows_replaced bs m n o w writes removes none = all_replaced bs m n o w writes removes none bs ∙ own_rows bs (named_rows w) (rows_under m bs)
 
 -- a name has rows, or what it had, once a key was put that may have been refused
@@ -210,6 +215,10 @@ pub put_used : {O E : Type 0} (r : Result O E) (version : List ℕ) (key : Stanz
     → is_used (record { offers = v.offers; namers = v.namers; rows = new }) ≡ true
 put_used (Ok x) version key v new put same used = used_rows (record { offers = v.offers; namers = v.namers; rows = new }) (put_there version key (named_rows v) new put)
 put_used (Err e) version key v new put same used = ap (λ b. not ((nat_eq (length (named_offers v)) 0 && nat_eq (length (named_namers v)) 0) && b)) (same_there (named_rows v) new same) ∙ used
+
+-- what holds where something was lent
+pub on_some : {X P : Type 0} {r : Option X} {x : X} → r ≡ Some x → OnSome r P → P
+on_some {P = P} is h = subst (λ o. OnSome o P) is h
 
 pub on_ok_map : {X E : Type 0} (r : Result X E) {P Q : Type 0} → (P → Q) → OnOk r P → OnOk r Q
 on_ok_map (Ok x) f p = f p

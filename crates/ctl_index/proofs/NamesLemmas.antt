@@ -6,11 +6,11 @@ use Rattle.std.specs.Map.{lookup}
 use Rattle.std.specs.Option.{option_map_or}
 use Rattle.std.specs.Ordering.{nat_cmp, is_eq}
 use Rattle.std.specs.declared.cmp.Ordering.TheVariants.{Less}
-use Rattle.std.specs.BTreeMap.{keys, IsOrdered}
 use Rattle.std.specs.Cmp.Lexicographic.{slice_cmp, nat_list_eq_equiv}
 use Rattle.std.specs.Str.{bytes_eq}
 use Rattle.std.proofs.lemmas.Bool.Decides.{nat_tests}
 use Rattle.std.proofs.lemmas.List.Sums.{sum_by-append, sum_by-cons}
+use Rattle.std.proofs.lemmas.Map.Made.{is_some-lookup}
 use Rattle.std.proofs.lemmas.Map.Text.{is_eq-slice_cmp}
 use Rattle.std.specs.FinMap as fin
 use Rattle.ctl_relation.specs.declared.field_kind.FieldKind.{FieldKind}
@@ -22,8 +22,8 @@ use Rattle.ctl_index.specs.declared.named.Named.{Named}
 use Rattle.ctl_index.specs.declared.tables.Tables.{Tables}
 use Rattle.ctl_index.specs.Names.{naming_fields, naming_atoms, names_of, known_names, keyed_group, keyed_groups, keyed_atoms}
 use Rattle.ctl_index.specs.Offers.{contents}
-use Rattle.ctl_policy.specs.Chosen.{at_bytes}
-use Rattle.ctl_index.specs.TablesByName.{NameMap, offers_under, namers_under, rows_under, named_offers, named_namers, named_rows, is_used, AreUsed}
+use Rattle.ctl_index.specs.NameMap.{NamedEntry, entry_names, found_in}
+use Rattle.ctl_index.specs.TablesByName.{NameMap, at_name, offers_under, namers_under, rows_under, named_offers, named_namers, named_rows, is_used, AreUsed}
 use Rattle.ctl_index.specs.TablesIndexed.{IsIndexed, keyed_offers_from, keyed_offers, offer_named, atom_named}
 use Rattle.ctl_index.proofs.OrderLemmas.{is_among, is_in_order, among_in_order}
 use Rattle.ctl_index.proofs.SumLemmas.{sum-cong, sum-plus, sum-flat_map, sum-map}
@@ -116,8 +116,8 @@ used-sum a b r h = by (nat_eq a 0) (nat_eq b 0) (nat_eq r 0) refl refl h
     by false y z e f h = sym (ap not (first e))
 
 -- a name is there where something stands under it
-there-used : (m : NameMap) (q : List ℕ) → AreUsed m → HasOffers m q → is_some (at_bytes m q) ≡ not (nat_eq (length (offers_under m q) + length (namers_under m q)) 0)
-there-used m q used offered = by (at_bytes m q) (used q) offered
+there-used : (m : NameMap) (q : List ℕ) → AreUsed m → HasOffers m q → is_some (at_name m q) ≡ not (nat_eq (length (offers_under m q) + length (namers_under m q)) 0)
+there-used m q used offered = by (at_name m q) (used q) offered
   where
     by : (o : Option Named) → option_map_or is_used o true ≡ true → (nat_eq (fin.len (option_map_or named_rows o fin.empty)) 0 ≡ false → nat_eq (length (option_map_or named_offers o [])) 0 ≡ false)
         → is_some o ≡ not (nat_eq (length (option_map_or named_offers o []) + length (option_map_or named_namers o [])) 0)
@@ -142,15 +142,16 @@ unfolding IsStrictlySortedBy
 sorted-items [] h = tt
 sorted-items (k ∷ ks) h = (below-items k ks h.0, sorted-items ks h.1)
 
-pub known_is : (es : List Entry) (t : Tables) → IsIndexed es t → AreUsed t.names.map → ((q : List ℕ) → HasOffers t.names.map q) → IsOrdered (λ (x y : Vec ℕ Global). slice_cmp nat_cmp x.items y.items) t.names.map
-    → map (λ (k : Vec ℕ Global). k.items) (keys t.names.map) ≡ known_names (contents es)
+-- of entries that are found as a table says, in their order
+pub known_is : (es : List Entry) (t : Tables) → IsIndexed es t → AreUsed t.names.map → ((q : List ℕ) → HasOffers t.names.map q) → (entries : List NamedEntry)
+    → IsStrictlySortedBy (slice_cmp nat_cmp) (entry_names entries) → ((q : List ℕ) → found_in entries q ≡ at_name t.names.map q) → entry_names entries ≡ known_names (contents es)
 unfolding known_names
-known_is es t was used offered ordered =
-    is_in_order (map (λ (k : Vec ℕ Global). k.items) (keys t.names.map)) (flat_map names_of (contents es)) (sorted-items (keys t.names.map) ordered)
-    (λ q. sym (looked-up q t.names.map.entries) ∙ there-used t.names.map q used (offered q) ∙ ap (λ n. not (nat_eq n 0)) (sym (listed-sum q es t was)) ∙ sym (any-counted (bytes_eq q) (flat_map names_of (contents es))))
+known_is es t was used offered entries sorted found =
+    is_in_order (entry_names entries) (flat_map names_of (contents es)) sorted
+    (λ q. sym (is_some-lookup (bytes_eq q) entries) ∙ ap is_some (found q) ∙ there-used t.names.map q used (offered q) ∙ ap (λ n. not (nat_eq n 0)) (sym (listed-sum q es t was)) ∙ sym (any-counted (bytes_eq q) (flat_map names_of (contents es))))
 
 -- a name stands in the table where it is known
-pub known_there : (q : List ℕ) (es : List Entry) (t : Tables) → IsIndexed es t → AreUsed t.names.map → HasOffers t.names.map q → is_some (at_bytes t.names.map q) ≡ list_any (bytes_eq q) (known_names (contents es))
+pub known_there : (q : List ℕ) (es : List Entry) (t : Tables) → IsIndexed es t → AreUsed t.names.map → HasOffers t.names.map q → is_some (at_name t.names.map q) ≡ list_any (bytes_eq q) (known_names (contents es))
 unfolding known_names
 known_there q es t was used offered =
     there-used t.names.map q used offered ∙ ap (λ n. not (nat_eq n 0)) (sym (listed-sum q es t was)) ∙ sym (any-counted (bytes_eq q) (flat_map names_of (contents es))) ∙ sym (among_in_order q (flat_map names_of (contents es)))

@@ -1,8 +1,7 @@
 -- The names of packages that begin with a prefix.
-use Rattle.std.proofs.Common.{◌≡◌, ℕ, suc, ◌+◌, ◌<◌, Bool, true, false, cond, not, nat_eq, ◌&&◌, ◌||◌, List, [], ◌∷◌, map, filter, Option, Some, None, Vec, Global, refl, ap, sym, ◌∙◌, arith, nat_cmp}
+use Rattle.std.proofs.Common.{◌≡◌, ℕ, suc, ◌+◌, ◌<◌, Bool, true, false, cond, not, nat_eq, ◌&&◌, ◌||◌, List, [], ◌∷◌, filter, Option, Some, None, refl, ap, sym, ◌∙◌, arith, nat_cmp}
 use Rattle.std.specs.List.{sum_by, list_any, starts_with, AllByRecursion}
 use Rattle.std.specs.List.Sorted.{IsStrictlySortedBy}
-use Rattle.std.specs.Map.{lookup}
 use Rattle.std.specs.Option.{option_map_or}
 use Rattle.std.specs.Ordering.{ordering_then, is_le, is_eq}
 use Rattle.std.specs.Cmp.{nat_cmp_is}
@@ -25,10 +24,10 @@ use Rattle.ctl_index.specs.declared.tables.Tables.{Tables}
 use Rattle.ctl_index.specs.Names.{is_package}
 use Rattle.ctl_index.specs.Offers.{contents}
 use Rattle.ctl_index.specs.declared.named.Named.{Named}
-use Rattle.ctl_policy.specs.Chosen.{at_bytes}
-use Rattle.ctl_index.specs.TablesByName.{NameMap, offers_under, named_offers}
+use Rattle.ctl_index.specs.TablesByName.{NameMap, at_name, offers_under, named_offers}
 use Rattle.ctl_index.specs.TablesIndexed.{IsIndexed, keyed_offers, keyed_offers_from, offer_named}
-use Rattle.ctl_index.specs.TablesViews.{NamedEntry, is_own, has_own, entry_names, packages_with, AreFrom}
+use Rattle.ctl_index.specs.TablesViews.{is_own, has_own, packages_with, AreFrom}
+use Rattle.ctl_index.specs.NameMap.{NamedEntry, entry_names, found_in}
 use Rattle.ctl_index.proofs.NamesLemmas.{any-counted}
 use Rattle.ctl_index.proofs.ClauseLemmas.{nat_eq-is}
 use Rattle.ctl_index.proofs.SumLemmas.{sum-cong, sum-map}
@@ -92,105 +91,40 @@ prefix_first (a ∷ p) (b ∷ n) h =
 pub none_left : (p n : List ℕ) (es : List NamedEntry) → is_le (slice_cmp nat_cmp p n) ≡ true → starts_with nat_eq n p ≡ false → AllByRecursion (λ m. slice_cmp nat_cmp n m ≡ Less) (entry_names es) → packages_with p es ≡ []
 none_left p n [] from other below = refl
 none_left p n (e ∷ es) from other below =
-    ap (λ b. entry_names (cond (b && has_own e.1) (e ∷ filter (λ (d : NamedEntry). starts_with nat_eq d.0.items p && has_own d.1) es) (filter (λ (d : NamedEntry). starts_with nat_eq d.0.items p && has_own d.1) es)))
-    (none_later p n e.0.items from other below.0)
+    ap (λ b. entry_names (cond (b && has_own e.1) (e ∷ filter (λ (d : NamedEntry). starts_with nat_eq d.0 p && has_own d.1) es) (filter (λ (d : NamedEntry). starts_with nat_eq d.0 p && has_own d.1) es)))
+    (none_later p n e.0 from other below.0)
     ∙ none_left p n es from other below.1
 
 -- at a name that doesn't begin with the prefix they end
-pub stops : (p : List ℕ) (e : NamedEntry) (es : List NamedEntry) → AreFrom p (entry_names (e ∷ es)) → starts_with nat_eq e.0.items p ≡ false → (packages_with p (e ∷ es) ≡ []) × (packages_with p es ≡ [])
+pub stops : (p : List ℕ) (e : NamedEntry) (es : List NamedEntry) → AreFrom p (entry_names (e ∷ es)) → starts_with nat_eq e.0 p ≡ false → (packages_with p (e ∷ es) ≡ []) × (packages_with p es ≡ [])
 unfolding IsStrictlySortedBy
 stops p e es h other =
-    let left = none_left p e.0.items es h.from.0 other h.order.0 in
-    let test : NamedEntry → Bool = λ d. starts_with nat_eq d.0.items p && has_own d.1 in
+    let left = none_left p e.0 es h.from.0 other h.order.0 in
+    let test : NamedEntry → Bool = λ d. starts_with nat_eq d.0 p && has_own d.1 in
     (ap (λ b. entry_names (cond (b && has_own e.1) (e ∷ filter test es) (filter test es))) other ∙ left, left)
 
 pub goes_on : (p : List ℕ) (e : NamedEntry) (es : List NamedEntry) → AreFrom p (entry_names (e ∷ es)) → AreFrom p (entry_names es)
 unfolding IsStrictlySortedBy
 goes_on p e es h = record { order = h.order.1; from = h.from.1 }
 
-pub shows : (p : List ℕ) (e : NamedEntry) (es : List NamedEntry) → starts_with nat_eq e.0.items p ≡ true → has_own e.1 ≡ true → packages_with p (e ∷ es) ≡ e.0.items ∷ packages_with p es
+pub shows : (p : List ℕ) (e : NamedEntry) (es : List NamedEntry) → starts_with nat_eq e.0 p ≡ true → has_own e.1 ≡ true → packages_with p (e ∷ es) ≡ e.0 ∷ packages_with p es
 shows p e es begins own =
-    let test : NamedEntry → Bool = λ d. starts_with nat_eq d.0.items p && has_own d.1 in
+    let test : NamedEntry → Bool = λ d. starts_with nat_eq d.0 p && has_own d.1 in
     (λ i. entry_names (cond (begins i && own i) (e ∷ filter test es) (filter test es)))
 
 pub passes : (p : List ℕ) (e : NamedEntry) (es : List NamedEntry) → has_own e.1 ≡ false → packages_with p (e ∷ es) ≡ packages_with p es
 passes p e es own =
-    let test : NamedEntry → Bool = λ d. starts_with nat_eq d.0.items p && has_own d.1 in
-    ap (λ b. entry_names (cond b (e ∷ filter test es) (filter test es))) (ap (λ b. starts_with nat_eq e.0.items p && b) own ∙ never (starts_with nat_eq e.0.items p))
-
--- the entries of a range that begins with the prefix
-abbrev in_range : List ℕ → NamedEntry → Bool
-in_range p e = is_le (slice_cmp nat_cmp p e.0.items) && true
-
-pub range_with : (p : List ℕ) (es : List NamedEntry) → packages_with p (filter (in_range p) es) ≡ packages_with p es
-range_with p [] = refl
-range_with p (e ∷ es) = by (is_le (slice_cmp nat_cmp p e.0.items)) (starts_with nat_eq e.0.items p) refl refl (range_with p es)
-  where
-    test : NamedEntry → Bool
-    test d = starts_with nat_eq d.0.items p && has_own d.1
-
-    by : (a b : Bool) → is_le (slice_cmp nat_cmp p e.0.items) ≡ a → starts_with nat_eq e.0.items p ≡ b → packages_with p (filter (in_range p) es) ≡ packages_with p es
-        → packages_with p (cond (a && true) (e ∷ filter (in_range p) es) (filter (in_range p) es)) ≡ entry_names (cond (b && has_own e.1) (e ∷ filter test es) (filter test es))
-    by true b i j rest = front b j (has_own e.1) rest
-      where
-        front : (d : Bool) → starts_with nat_eq e.0.items p ≡ d → (own : Bool) → packages_with p (filter (in_range p) es) ≡ packages_with p es
-            → packages_with p (e ∷ filter (in_range p) es) ≡ entry_names (cond (d && has_own e.1) (e ∷ filter test es) (filter test es))
-        front d k own rest' = ap (λ z. entry_names (cond (z && has_own e.1) (e ∷ filter test (filter (in_range p) es)) (filter test (filter (in_range p) es)))) k ∙ inner (d && has_own e.1) rest'
-          where
-            inner : (z : Bool) → packages_with p (filter (in_range p) es) ≡ packages_with p es → entry_names (cond z (e ∷ filter test (filter (in_range p) es)) (filter test (filter (in_range p) es))) ≡ entry_names (cond z (e ∷ filter test es) (filter test es))
-            inner true r = ap (λ names. e.0.items ∷ names) r
-            inner false r = r
-    by false true i j rest = absurd (true≢false (sym (prefix_first p e.0.items j) ∙ i))
-    by false false i j rest = rest
-
--- ---- a range is in order, and begins at the prefix
-
-below_kept : (n : List ℕ) (p : List ℕ) (es : List NamedEntry) → AllByRecursion (λ m. slice_cmp nat_cmp n m ≡ Less) (entry_names es) → AllByRecursion (λ m. slice_cmp nat_cmp n m ≡ Less) (entry_names (filter (in_range p) es))
-below_kept n p [] h = tt
-below_kept n p (e ∷ es) h = by (in_range p e) (below_kept n p es h.1)
-  where
-    by : (b : Bool) → AllByRecursion (λ m. slice_cmp nat_cmp n m ≡ Less) (entry_names (filter (in_range p) es)) → AllByRecursion (λ m. slice_cmp nat_cmp n m ≡ Less) (entry_names (cond b (e ∷ filter (in_range p) es) (filter (in_range p) es)))
-    by true rest = (h.0, rest)
-    by false rest = rest
-
-order_kept : (p : List ℕ) (es : List NamedEntry) → IsStrictlySortedBy (slice_cmp nat_cmp) (entry_names es) → IsStrictlySortedBy (slice_cmp nat_cmp) (entry_names (filter (in_range p) es))
-unfolding IsStrictlySortedBy
-order_kept p [] h = tt
-order_kept p (e ∷ es) h = by (in_range p e) (order_kept p es h.1)
-  where
-    by : (b : Bool) → IsStrictlySortedBy (slice_cmp nat_cmp) (entry_names (filter (in_range p) es)) → IsStrictlySortedBy (slice_cmp nat_cmp) (entry_names (cond b (e ∷ filter (in_range p) es) (filter (in_range p) es)))
-    by true rest = (below_kept e.0.items p es h.0, rest)
-    by false rest = rest
-
-all_from : (p : List ℕ) (es : List NamedEntry) → AllByRecursion (λ name. is_le (slice_cmp nat_cmp p name) ≡ true) (entry_names (filter (in_range p) es))
-all_from p [] = tt
-all_from p (e ∷ es) = by (is_le (slice_cmp nat_cmp p e.0.items)) refl (all_from p es)
-  where
-    by : (b : Bool) → is_le (slice_cmp nat_cmp p e.0.items) ≡ b → AllByRecursion (λ name. is_le (slice_cmp nat_cmp p name) ≡ true) (entry_names (filter (in_range p) es))
-        → AllByRecursion (λ name. is_le (slice_cmp nat_cmp p name) ≡ true) (entry_names (cond (b && true) (e ∷ filter (in_range p) es) (filter (in_range p) es)))
-    by true is rest = (is, rest)
-    by false is rest = rest
-
-entries_below : (k : Vec ℕ Global) (es : List NamedEntry) → AllByRecursion (λ (j : Vec ℕ Global). slice_cmp nat_cmp k.items j.items ≡ Less) (map (λ (e : NamedEntry). e.0) es) → AllByRecursion (λ m. slice_cmp nat_cmp k.items m ≡ Less) (entry_names es)
-entries_below k [] h = tt
-entries_below k (e ∷ es) h = (h.0, entries_below k es h.1)
-
-pub entries_sorted : (es : List NamedEntry) → IsStrictlySortedBy (λ (x y : Vec ℕ Global). slice_cmp nat_cmp x.items y.items) (map (λ (e : NamedEntry). e.0) es) → IsStrictlySortedBy (slice_cmp nat_cmp) (entry_names es)
-unfolding IsStrictlySortedBy
-entries_sorted [] h = tt
-entries_sorted (e ∷ es) h = (entries_below e.0 es h.0, entries_sorted es h.1)
-
-pub range_from : (p : List ℕ) (es : List NamedEntry) → IsStrictlySortedBy (λ (x y : Vec ℕ Global). slice_cmp nat_cmp x.items y.items) (map (λ (e : NamedEntry). e.0) es) → AreFrom p (entry_names (filter (in_range p) es))
-range_from p es h = record { order = order_kept p es (entries_sorted es h); from = all_from p es }
+    let test : NamedEntry → Bool = λ d. starts_with nat_eq d.0 p && has_own d.1 in
+    ap (λ b. entry_names (cond b (e ∷ filter test es) (filter test es))) (ap (λ b. starts_with nat_eq e.0 p && b) own ∙ never (starts_with nat_eq e.0 p))
 
 -- ---- the names are in order
 
 below_shown : (n : List ℕ) (p : List ℕ) (es : List NamedEntry) → AllByRecursion (λ m. slice_cmp nat_cmp n m ≡ Less) (entry_names es) → AllByRecursion (λ m. slice_cmp nat_cmp n m ≡ Less) (packages_with p es)
 below_shown n p [] h = tt
-below_shown n p (e ∷ es) h = by (starts_with nat_eq e.0.items p && has_own e.1) (below_shown n p es h.1)
+below_shown n p (e ∷ es) h = by (starts_with nat_eq e.0 p && has_own e.1) (below_shown n p es h.1)
   where
     test : NamedEntry → Bool
-    test d = starts_with nat_eq d.0.items p && has_own d.1
+    test d = starts_with nat_eq d.0 p && has_own d.1
 
     by : (b : Bool) → AllByRecursion (λ m. slice_cmp nat_cmp n m ≡ Less) (packages_with p es) → AllByRecursion (λ m. slice_cmp nat_cmp n m ≡ Less) (entry_names (cond b (e ∷ filter test es) (filter test es)))
     by true rest = (h.0, rest)
@@ -199,13 +133,13 @@ below_shown n p (e ∷ es) h = by (starts_with nat_eq e.0.items p && has_own e.1
 pub shown_sorted : (p : List ℕ) (es : List NamedEntry) → IsStrictlySortedBy (slice_cmp nat_cmp) (entry_names es) → IsStrictlySortedBy (slice_cmp nat_cmp) (packages_with p es)
 unfolding IsStrictlySortedBy
 shown_sorted p [] h = tt
-shown_sorted p (e ∷ es) h = by (starts_with nat_eq e.0.items p && has_own e.1) (shown_sorted p es h.1)
+shown_sorted p (e ∷ es) h = by (starts_with nat_eq e.0 p && has_own e.1) (shown_sorted p es h.1)
   where
     test : NamedEntry → Bool
-    test d = starts_with nat_eq d.0.items p && has_own d.1
+    test d = starts_with nat_eq d.0 p && has_own d.1
 
     by : (b : Bool) → IsStrictlySortedBy (slice_cmp nat_cmp) (packages_with p es) → IsStrictlySortedBy (slice_cmp nat_cmp) (entry_names (cond b (e ∷ filter test es) (filter test es)))
-    by true rest = (below_shown e.0.items p es h.0, rest)
+    by true rest = (below_shown e.0 p es h.0, rest)
     by false rest = rest
 
 -- ---- which names they are
@@ -217,13 +151,13 @@ module _ (q : List ℕ) where
   -- a name that is below others is none of them
   none_below : (p : List ℕ) (n : List ℕ) (es : List NamedEntry) → bytes_eq q n ≡ true → AllByRecursion (λ m. slice_cmp nat_cmp n m ≡ Less) (entry_names es) → among (packages_with p es) ≡ false
   none_below p n [] is below = refl
-  none_below p n (e ∷ es) is below = by (starts_with nat_eq e.0.items p && has_own e.1) (none_below p n es is below.1)
+  none_below p n (e ∷ es) is below = by (starts_with nat_eq e.0 p && has_own e.1) (none_below p n es is below.1)
     where
       test : NamedEntry → Bool
-      test d = starts_with nat_eq d.0.items p && has_own d.1
+      test d = starts_with nat_eq d.0 p && has_own d.1
 
-      other : bytes_eq q e.0.items ≡ false
-      other = nat_list_eq_equiv.congr q n e.0.items is ∙ sym (is_eq-slice_cmp n e.0.items) ∙ ap is_eq below.0
+      other : bytes_eq q e.0 ≡ false
+      other = nat_list_eq_equiv.congr q n e.0 is ∙ sym (is_eq-slice_cmp n e.0) ∙ ap is_eq below.0
 
       by : (b : Bool) → among (packages_with p es) ≡ false → among (entry_names (cond b (e ∷ filter test es) (filter test es))) ≡ false
       by true rest = (λ i. other i || rest i)
@@ -231,31 +165,30 @@ module _ (q : List ℕ) where
 
   -- the name that is looked up is shown where it begins with the prefix and has an offer of its own
   pub shown_at : (p : List ℕ) (es : List NamedEntry) → IsStrictlySortedBy (slice_cmp nat_cmp) (entry_names es)
-      → among (packages_with p es) ≡ (starts_with nat_eq q p && option_map_or has_own (lookup (λ (k : Vec ℕ Global). is_eq (slice_cmp nat_cmp q k.items)) es) false)
+      → among (packages_with p es) ≡ (starts_with nat_eq q p && option_map_or has_own (found_in es q) false)
   unfolding IsStrictlySortedBy
   shown_at p [] h = sym (never (starts_with nat_eq q p))
-  shown_at p (e ∷ es) h = by (is_eq (slice_cmp nat_cmp q e.0.items)) refl (shown_at p es h.1)
+  shown_at p (e ∷ es) h = by (bytes_eq q e.0) refl (shown_at p es h.1)
     where
       test : NamedEntry → Bool
-      test d = starts_with nat_eq d.0.items p && has_own d.1
+      test d = starts_with nat_eq d.0 p && has_own d.1
 
-      here : (b : Bool) → bytes_eq q e.0.items ≡ true → among (packages_with p es) ≡ false → among (entry_names (cond b (e ∷ filter test es) (filter test es))) ≡ b
+      here : (b : Bool) → bytes_eq q e.0 ≡ true → among (packages_with p es) ≡ false → among (entry_names (cond b (e ∷ filter test es) (filter test es))) ≡ b
       here true is none = ap (λ t. t || among (packages_with p es)) is
       here false is none = none
 
-      there : (b : Bool) → bytes_eq q e.0.items ≡ false → among (entry_names (cond b (e ∷ filter test es) (filter test es))) ≡ among (packages_with p es)
+      there : (b : Bool) → bytes_eq q e.0 ≡ false → among (entry_names (cond b (e ∷ filter test es) (filter test es))) ≡ among (packages_with p es)
       there true is = ap (λ t. t || among (packages_with p es)) is
       there false is = refl
 
-      by : (b : Bool) → is_eq (slice_cmp nat_cmp q e.0.items) ≡ b
-          → among (packages_with p es) ≡ (starts_with nat_eq q p && option_map_or has_own (lookup (λ (k : Vec ℕ Global). is_eq (slice_cmp nat_cmp q k.items)) es) false)
+      by : (b : Bool) → bytes_eq q e.0 ≡ b
+          → among (packages_with p es) ≡ (starts_with nat_eq q p && option_map_or has_own (found_in es q) false)
           → among (entry_names (cond (test e) (e ∷ filter test es) (filter test es)))
-          ≡ (starts_with nat_eq q p && option_map_or has_own (cond b (Some e.1) (lookup (λ (k : Vec ℕ Global). is_eq (slice_cmp nat_cmp q k.items)) es)) false)
+          ≡ (starts_with nat_eq q p && option_map_or has_own (cond b (Some e.1) (found_in es q)) false)
       by true i rest =
-          let is : bytes_eq q e.0.items ≡ true = sym (is_eq-slice_cmp q e.0.items) ∙ i in
-          here (test e) is (none_below p e.0.items es is h.0)
-          ∙ ap (λ n. starts_with nat_eq n p && has_own e.1) (sym ((bytes_eq-Decides q e.0.items).0 is))
-      by false i rest = there (test e) (sym (is_eq-slice_cmp q e.0.items) ∙ i) ∙ rest
+          here (test e) i (none_below p e.0 es i h.0)
+          ∙ ap (λ n. starts_with nat_eq n p && has_own e.1) (sym ((bytes_eq-Decides q e.0).0 i))
+      by false i rest = there (test e) i ∙ rest
 
   -- ---- a name has an offer of its own where a live stanza is of its package
 
@@ -299,13 +232,18 @@ module _ (q : List ℕ) where
       ∙ ap (λ n. not (nat_eq n 0)) (was.offers q own_number ∙ sum-cong _ _ own_sum es ∙ sym (sum-map (λ x. cond (describes x) 1 0) (λ (e : Entry). e.1) es))
       ∙ sym (any-counted describes (contents es))
 
-  own_at : (m : NameMap) → option_map_or has_own (at_bytes m q) false ≡ list_any is_own (offers_under m q)
-  own_at m = by (at_bytes m q)
+  own_at : (m : NameMap) → option_map_or has_own (at_name m q) false ≡ list_any is_own (offers_under m q)
+  own_at m = by (at_name m q)
     where
       by : (o : Option Named) → option_map_or has_own o false ≡ list_any is_own (option_map_or named_offers o [])
       by None = refl
       by (Some v) = refl
 
-  pub packages_are : (p : List ℕ) (es : List Entry) (t : Tables) → IsIndexed es t → IsStrictlySortedBy (slice_cmp nat_cmp) (entry_names t.names.map.entries)
-      → among (packages_with p t.names.map.entries) ≡ (starts_with nat_eq q p && is_package (contents es) q)
-  packages_are p es t was sorted = shown_at p t.names.map.entries sorted ∙ ap (λ b. starts_with nat_eq q p && b) (own_at t.names.map ∙ own_under es t was)
+  -- among entries in order that have what the table has of all names that begin with the prefix
+  pub packages_are : (p : List ℕ) (es : List Entry) (t : Tables) → IsIndexed es t → (entries : List NamedEntry) → IsStrictlySortedBy (slice_cmp nat_cmp) (entry_names entries)
+      → (starts_with nat_eq q p ≡ true → found_in entries q ≡ at_name t.names.map q) → among (packages_with p entries) ≡ (starts_with nat_eq q p && is_package (contents es) q)
+  packages_are p es t was entries sorted found = shown_at p entries sorted ∙ by (starts_with nat_eq q p) refl
+    where
+      by : (b : Bool) → starts_with nat_eq q p ≡ b → (b && option_map_or has_own (found_in entries q) false) ≡ (b && is_package (contents es) q)
+      by true begins = ap (λ o. option_map_or has_own o false) (found begins) ∙ own_at t.names.map ∙ own_under es t was
+      by false begins = refl

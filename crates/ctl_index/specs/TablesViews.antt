@@ -1,6 +1,5 @@
 -- Of the tables alone: what the views lend.
 use Rattle.std.specs.Prelude.{◌≡◌, ℕ, Bool, true, ◌&&◌, List, [], map, filter, nat_eq, None, IsSome, unwrap_or}
-use Rattle.std.proofs.Common.{Vec, Global}
 use Rattle.std.specs.List.{AllByRecursion, list_any, starts_with}
 use Rattle.std.specs.List.Sorted.{IsStrictlySortedBy}
 use Rattle.std.specs.Ordering.{nat_cmp, is_le}
@@ -9,6 +8,7 @@ use Rattle.ctl_relation.specs.Parts.{OfferParts}
 use Rattle.ctl_store.specs.declared.stanza_key.StanzaKey.{StanzaKey}
 use Rattle.ctl_store.specs.Held.{Held}
 use Rattle.ctl_index.specs.declared.keys.OfferKey.{OfferKey}
+use Rattle.ctl_index.specs.NameMap.{NamedEntry, entry_names}
 use Rattle.ctl_index.specs.declared.named.Named.{Named}
 use Rattle.ctl_policy.specs.Rows.{newest_first, keys_of_row}
 use Rattle.ctl_index.specs.TablesByName.{named_offers, named_rows}
@@ -32,12 +32,6 @@ is_own key = nat_eq key.place 0
 abbrev pub has_own : Named → Bool
 has_own named = list_any is_own (named_offers named)
 
-abbrev pub NamedEntry : Type 0
-NamedEntry = Vec ℕ Global × Named
-
-abbrev pub entry_names : List NamedEntry → List (List ℕ)
-entry_names entries = map (λ (e : NamedEntry). e.0.items) entries
-
 -- the rows that stand under a name, newest first, each by the keys of its stanzas
 abbrev pub shown_rows : Named → List (List StanzaKey)
 shown_rows named = map keys_of_row (newest_first (named_rows named))
@@ -51,7 +45,7 @@ offering keys = map (λ (k : OfferKey). k.stanza) keys
 
 -- the names that begin with a prefix, of packages
 abbrev pub packages_with : List ℕ → List NamedEntry → List (List ℕ)
-packages_with prefix entries = entry_names (filter (λ (e : NamedEntry). starts_with nat_eq e.0.items prefix && has_own e.1) entries)
+packages_with prefix entries = entry_names (filter (λ (e : NamedEntry). starts_with nat_eq e.0 prefix && has_own e.1) entries)
 
 -- names in order, none of them before the prefix
 pub record AreFrom (prefix : List ℕ) (names : List (List ℕ)) : Type 0 where

@@ -1,17 +1,19 @@
 //! The table of names: who offers each name, the atoms that name it, and its rows.
 
-ghost use Rattle.std.specs.Prelude.{◌≡◌, ◌≤◌, ◌<◌, ◌^◌, ◌∷◌, ◌++◌, ◌+◌, ◌-◌, ℕ, [], List, Some, OnOk, OnErr, IfOk, IfSome, IfNone, is_some, option_copied, option_map, filter, ◌&&◌, true, if◌then◌else◌};
-ghost use Rattle.ctl_policy.specs.Chosen.{at_bytes};
-ghost use Rattle.std.specs.BTreeMap.{get, keys, IsEmpty, IsOrdered};
+ghost use Rattle.std.specs.Prelude.{◌≡◌, ◌≤◌, ◌<◌, ◌^◌, ◌∷◌, ◌++◌, ◌+◌, ◌-◌, ℕ, [], List, Some, OnOk, IfOk, IfSome, IfNone, is_some, option_copied, option_map, true, nat_eq, if◌then◌else◌};
+ghost use Rattle.std.specs.BTreeMap.{get};
 ghost use Rattle.std.specs.Cmp.Lexicographic.{slice_cmp};
 ghost use Rattle.std.specs.FinMap as fin;
-ghost use Rattle.std.specs.Ordering.{nat_cmp, is_le};
-ghost use Rattle.std.specs.List.{All, sum_by};
+ghost use Rattle.std.specs.Ordering.{nat_cmp};
+ghost use Rattle.std.specs.List.{sum_by, starts_with};
+ghost use Rattle.std.specs.List.Sorted.{IsStrictlySortedBy};
 ghost use Rattle.std.specs.Str.{bytes_eq};
 ghost use Rattle.ctl_policy.specs.Kept.{HasPut, HasTaken, OthersStay};
 ghost use Rattle.ctl_index.specs.Clauses.{clause_cmp};
-ghost use Rattle.ctl_index.specs.TablesByName.{offers_under, namers_under, rows_under, AreUsed, is_used, named_offers, named_namers, named_rows};
+ghost use Rattle.ctl_index.specs.TablesByName.{at_name, HoldsNothing, offers_under, namers_under, rows_under, AreUsed, is_used, named_offers, named_namers, named_rows};
 ghost use Rattle.ctl_index.specs.TablesSight.{hit, tested, atom_met, atom_tested};
+ghost use Rattle.ctl_index.specs.NameMap.{entry_names, found_in};
+ghost use Rattle.ctl_index.specs.TablesViews.{AreFrom};
 ghost use Rattle.ctl_index.specs.TablesOrder.{others, offer_stanza, put_in_order, atom_stanza};
 ghost use Rattle.ctl_index.specs.Work.{more_by};
 ghost use Rattle.ctl_index.specs.declared.keys.ClauseKey.{ClauseKey};
@@ -20,6 +22,8 @@ use crate::counters::Counters;
 use crate::counting::{count_tested, meet, part};
 use crate::key_list::KeyList;
 use crate::keys::{AtomKey, OfferKey};
+use crate::name_entries::NameEntries;
+use crate::name_map::NameMap;
 use crate::named::{Named, is_used};
 use crate::sight::Sight;
 use crate::span::Span;
@@ -27,50 +31,40 @@ use ctl_policy::Rows;
 use ctl_relation::{Atom, FieldKind, Offer, Steps, Version};
 use ctl_store::StanzaKey;
 use std::alloc::{AllocError, Global};
-use std::collections::{BTreeMap, btree_map};
 
 /// The offers, the namers and the rows of each name, names under which nothing stands left out.
 #[derive(Drop)]
 pub(crate) struct NameTable {
-    map: BTreeMap<Vec<u8>, Named>,
+    map: NameMap,
     ghost used: { AreUsed map },
 }
 
 impl NameTable {
     /// No names. It takes no memory.
     pub(crate) fn new(alloc: Global) -> NameTable
-        ensures { IsEmpty result.map }
+        ensures { HoldsNothing result.map }
     {
         NameTable {
-            map: BTreeMap::new(alloc),
+            map: NameMap::new(alloc),
         }
     }
 
-    /// The names, in the order of their bytes.
-    pub(crate) fn keys(&self) -> btree_map::Keys<'_, Vec<u8>, Named>
-        ensures keys { result ≡ keys self.now.map }
-        ensures ordered { IsOrdered (λ one other. slice_cmp nat_cmp one.items other.items) self.now.map }
-        ensures used { AreUsed self.now.map }
-    {
-        self.map.keys()
-    }
-
     /// The names, in the order of their bytes, with what stands under them.
-    pub(crate) fn entries(&self) -> btree_map::Iter<'_, Vec<u8>, Named>
-        ensures entries { result ≡ self.now.map.entries }
-        ensures found { All (λ entry. at_bytes self.now.map entry.0.items ≡ Some entry.1) self.now.map.entries }
-        ensures ordered { IsOrdered (λ one other. slice_cmp nat_cmp one.items other.items) self.now.map }
+    pub(crate) fn entries(&self) -> NameEntries<'_>
+        ensures order { IsStrictlySortedBy (slice_cmp nat_cmp) (entry_names result) }
+        ensures found { (q : List ℕ) → found_in result q ≡ at_name self.now.map q }
         ensures used { AreUsed self.now.map }
     {
-        self.map.iter()
+        self.map.entries()
     }
 
-    /// The names from this one on, in the order of their bytes, with what stands under them.
-    pub(crate) fn range_from(&self, first: &Vec<u8>) -> btree_map::Range<'_, Vec<u8>, Named>
-        ensures entries { result ≡ filter (λ entry. is_le (slice_cmp nat_cmp first.now.items entry.0.items) && true) self.now.map.entries }
-        ensures ordered { IsOrdered (λ one other. slice_cmp nat_cmp one.items other.items) self.now.map }
+    /// The names from a prefix on, in the order of their bytes, with what stands under them. All that begin with the prefix are
+    /// among them.
+    pub(crate) fn entries_from(&self, prefix: &Vec<u8>) -> NameEntries<'_>
+        ensures order { AreFrom prefix.now.items (entry_names result) }
+        ensures found { (q : List ℕ) → starts_with nat_eq q prefix.now.items ≡ true → found_in result q ≡ at_name self.now.map q }
     {
-        self.map.range(first..)
+        self.map.entries_from(prefix)
     }
 
     /// The offers of a name.
@@ -106,15 +100,15 @@ impl NameTable {
 
     /// Whether anything stands under a name.
     pub(crate) fn contains(&self, name: &[u8]) -> bool
-        ensures there { result ≡ is_some (at_bytes self.now.map name.now) }
+        ensures there { result ≡ is_some (at_name self.now.map name.now) }
         ensures used { AreUsed self.now.map }
     {
-        self.map.contains_key(name)
+        self.map.get(name).is_some()
     }
 
     /// What stands under a name, if anything does.
     pub(crate) fn get(&self, name: &[u8]) -> Option<&Named>
-        ensures entry { option_copied result ≡ at_bytes self.now.map name.now }
+        ensures entry { option_copied result ≡ at_name self.now.map name.now }
         ensures used { AreUsed self.now.map }
     {
         self.map.get(name)
@@ -127,9 +121,7 @@ impl NameTable {
         ensures namers { OnOk result ((q : List ℕ) → namers_under self.new.map q ≡ (if bytes_eq name.now q then named_namers named else namers_under self.old.map q)) }
         ensures rows { OnOk result ((q : List ℕ) → rows_under self.new.map q ≡ (if bytes_eq name.now q then named_rows named else rows_under self.old.map q)) }
     {
-        let key = Vec::from_slice(alloc, name)?;
-        self.map.insert(key, named)?;
-        Ok(())
+        self.map.insert(alloc, name, named)
     }
 
     /// An offer comes: it is listed, and tested against the clauses that name it.
@@ -224,7 +216,7 @@ impl NameTable {
         let _ = count_tested(sight, field, atom, named.offers.as_slice(), steps);
         named.namers.take(span);
         if !is_used(named) {
-            let _ = self.map.remove(atom.name());
+            self.map.remove(atom.name());
         }
     }
 
@@ -251,10 +243,11 @@ impl NameTable {
         part(sight, offer, named.namers.as_slice(), counters, steps)?;
         named.offers.take(span);
         if !is_used(named) {
-            let _ = self.map.remove(offer.name());
+            self.map.remove(offer.name());
         }
         Ok(())
     }
+
     /// A row gets the key of a stanza: that of its version, under the name of its package.
     pub(crate) fn put_row(
         &mut self,
@@ -295,7 +288,7 @@ impl NameTable {
         };
         named.rows.take(version, key);
         if !is_used(named) {
-            let _ = self.map.remove(name);
+            self.map.remove(name);
         }
     }
 }

@@ -9,17 +9,16 @@ ghost use Rattle.ctl_index.specs.Names.{known_names};
 ghost use Rattle.ctl_index.specs.Work.{stanzas_of_state};
 
 use crate::cache::Cache;
-use crate::named::Named;
+use crate::name_entries::NameEntries;
 use crate::rows::rows_are_defined;
 use ctl_policy::{NewestFirst, rows_are_held, rows_are_shown};
-use std::collections::btree_map;
 use std::marker::Model;
 
 /// The rows of each known name, by [`Cache::all_rows`], in the order of the names.
 #[derive(Drop)]
 pub struct AllRows<'a> {
     // What is left of the names, with what stands under them.
-    entries: btree_map::Iter<'a, Vec<u8>, Named>,
+    entries: NameEntries<'a>,
 }
 
 impl<'a> Model for AllRows<'a> {

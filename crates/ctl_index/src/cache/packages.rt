@@ -8,26 +8,28 @@ ghost use Rattle.std.specs.Ordering.{nat_cmp};
 ghost use Rattle.std.specs.Str.{bytes_eq};
 ghost use Rattle.ctl_store.specs.Held.{state_of};
 ghost use Rattle.ctl_index.specs.Names.{is_package};
-ghost use Rattle.ctl_index.specs.TablesViews.{packages_with, entry_names, AreFrom};
+ghost use Rattle.ctl_index.specs.NameMap.{entry_names};
+ghost use Rattle.ctl_index.specs.TablesViews.{packages_with, AreFrom};
 ghost use Rattle.ctl_index.specs.Work.{stanzas_of_state};
 
 use crate::cache::Cache;
-use crate::named::{Named, has_own};
+use crate::name_entries::NameEntries;
+use crate::named::has_own;
 use std::alloc::AllocError;
-use std::collections::btree_map;
 use std::marker::Model;
 
 /// The names of packages that begin with a prefix, by [`Cache::package_names`], in the order of their bytes.
 #[derive(Drop)]
 pub struct PackageNames<'a> {
     prefix: Vec<u8>,
-    // What is left of the names that aren't before the prefix.
-    entries: btree_map::Range<'a, Vec<u8>, Named>,
+    // What is left of the names from the prefix on.
+    entries: NameEntries<'a>,
 }
 
 impl<'a> Model for PackageNames<'a> {
     ghost use Rattle.std.specs.Prelude.{ℕ, List};
-    ghost use Rattle.ctl_index.specs.TablesViews.{packages_with, entry_names, AreFrom};
+    ghost use Rattle.ctl_index.specs.NameMap.{entry_names};
+    ghost use Rattle.ctl_index.specs.TablesViews.{packages_with, AreFrom};
 
     ghost Value = { List (List ℕ) };
 
@@ -38,10 +40,7 @@ impl<'a> Model for PackageNames<'a> {
 
 // Takes the names up to the next one that begins with the prefix and is that of a package. Behind a name that doesn't begin
 // with the prefix none does, for they are in order.
-fn next_package<'a>(
-    prefix: &[u8],
-    entries: &mut btree_map::Range<'a, Vec<u8>, Named>,
-) -> Option<&'a [u8]>
+fn next_package<'a>(prefix: &[u8], entries: &mut NameEntries<'a>) -> Option<&'a [u8]>
     requires { AreFrom prefix.now (entry_names entries.old) }
     ensures some { IfSome result (λ name. packages_with prefix.now entries.old ≡ name.now ∷ packages_with prefix.now entries.new) }
     ensures none { IfNone result (packages_with prefix.now entries.old ≡ []) }
@@ -87,7 +86,7 @@ impl Cache {
             ≡ (starts_with nat_eq name prefix.now && is_package (stanzas_of_state (state_of self.now.store)) name)) }
     {
         let prefix = Vec::from_slice(self.alloc, prefix)?;
-        let entries = self.tables.names.range_from(&prefix);
+        let entries = self.tables.names.entries_from(&prefix);
         Ok(PackageNames { prefix, entries })
     }
 }

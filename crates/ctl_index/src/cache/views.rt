@@ -16,25 +16,27 @@ ghost use Rattle.ctl_index.specs.Work.{stanzas_of_state};
 
 use crate::cache::Cache;
 use crate::keys::{AtomKey, ClauseKey, OfferKey};
-use crate::named::Named;
+use crate::name_entries::NameEntries;
 use crate::sight::{Sight, offer_at};
 use ctl_relation::Offer;
 use ctl_store::{StanzaKey, Store};
-use std::collections::{BTreeMap, btree_map, btree_set};
+use std::collections::{BTreeMap, btree_set};
 use std::marker::Model;
 
 /// The names that are known, by [`Cache::names`], in the order of their bytes.
 #[derive(Drop)]
 pub struct Names<'a> {
-    keys: btree_map::Keys<'a, Vec<u8>, Named>,
+    // What is left of the names, with what stands under them.
+    entries: NameEntries<'a>,
 }
 
 impl<'a> Model for Names<'a> {
-    ghost use Rattle.std.specs.Prelude.{ℕ, List, map};
+    ghost use Rattle.std.specs.Prelude.{ℕ, List};
+    ghost use Rattle.ctl_index.specs.NameMap.{entry_names};
 
     ghost Value = { List (List ℕ) };
 
-    ghost view = { λ it. map (λ key. key.items) it.keys };
+    ghost view = { λ it. entry_names it.entries };
 }
 
 impl<'a> Iterator for Names<'a> {
@@ -47,8 +49,8 @@ impl<'a> Iterator for Names<'a> {
     type Item = &'a [u8];
 
     fn next(&mut self) -> Option<&'a [u8]> {
-        match self.keys.next() {
-            Some(key) => Some(key),
+        match self.entries.next() {
+            Some((name, _)) => Some(name),
             None => None,
         }
     }
@@ -240,7 +242,7 @@ impl Cache {
         ensures { result ≡ known_names (stanzas_of_state (state_of self.now.store)) }
     {
         Names {
-            keys: self.tables.names.keys(),
+            entries: self.tables.names.entries(),
         }
     }
 

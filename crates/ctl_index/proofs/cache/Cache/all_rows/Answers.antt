@@ -7,9 +7,8 @@ use Rattle.ctl_policy.specs.Rows.{rows_named}
 use Rattle.ctl_index.specs.Held.{HeldCache, standing}
 use Rattle.ctl_index.specs.Names.{known_names}
 use Rattle.ctl_index.specs.TablesByName.{rows_under}
-use Rattle.ctl_index.specs.TablesViews.{entry_rows}
 use Rattle.ctl_index.specs.Work.{stanzas_of_state}
-use Rattle.ctl_index.proofs.AllRowsLemmas.{rows_told, rows_along, all_held}
+use Rattle.ctl_index.proofs.AllRowsLemmas.{rows_told, rows_along, entries_found, all_held}
 use Rattle.ctl_index.proofs.LawLemmas.{contents_of_state}
 use Rattle.ctl_index.proofs.NamesLemmas.{known_is}
 use Rattle.ctl_index.proofs.OfferedLemmas.{rows_offered}
@@ -23,9 +22,9 @@ returns-clause-rows c =
     let m = t.names.map in
     let fresh = ap (λ w. w.stale) c.self.view_is ∙ c.requires in
     let was = (c.self.invariant fresh).0 in
-    ap (map entry_rows) c.entries.ensures.entries
-    ∙ rows_along m lists (λ name. c.rows_are_shown.ensures.alike (rows_under m name) name lists (c.rows_are_defined.ensures h m c.counts-counts.ensures.order was.rows name)) m.entries c.entries.ensures.found
-    ∙ ap (map (rows_told lists)) (known_is (standing h) t was c.entries.ensures.used (rows_offered (standing h) t was) c.entries.ensures.ordered ∙ ap known_names (contents_of_state lists))
+    rows_along m lists (λ name. c.rows_are_shown.ensures.alike (rows_under m name) name lists (c.rows_are_defined.ensures h m c.counts-counts.ensures.order was.rows name)) c.entries.result
+    (entries_found m c.entries.result c.entries.ensures.order c.entries.ensures.found)
+    ∙ ap (map (rows_told lists)) (known_is (standing h) t was c.entries.ensures.used (rows_offered (standing h) t was) c.entries.result c.entries.ensures.order c.entries.ensures.found ∙ ap known_names (contents_of_state lists))
     ∙ ap (λ (w : HeldCache). map (rows_told (keyed_of w.store).lists) (known_names (stanzas_of_state (state_of w.store)))) c.self.view_is
 
 pub returns-clause-held : goal.returns-clause-held

@@ -5,12 +5,11 @@ use Rattle.std.specs.Str.{bytes_eq}
 use Rattle.ctl_store.specs.declared.stanza_key.StanzaKey.{StanzaKey}
 use Rattle.ctl_store.specs.Keys.{AreHeld}
 use Rattle.ctl_store.specs.Held.{keyed_of, state_of}
-use Rattle.ctl_policy.specs.Chosen.{at_bytes}
 use Rattle.ctl_policy.specs.Rows.{rows_named, newest_first, keys_of_row}
 use Rattle.ctl_index.specs.Held.{HeldCache, standing}
 use Rattle.ctl_index.specs.Names.{known_names, namers_named}
 use Rattle.ctl_index.specs.NameView.{name_standing}
-use Rattle.ctl_index.specs.TablesByName.{offers_under, rows_under}
+use Rattle.ctl_index.specs.TablesByName.{at_name, offers_under, rows_under}
 use Rattle.ctl_index.specs.TablesViews.{offering, offer_found}
 use Rattle.ctl_index.specs.Offers.{offers_named}
 use Rattle.ctl_relation.specs.Parts.{OfferParts}
@@ -44,7 +43,7 @@ returns-clause-rows c =
     let fresh = ap (λ w. w.stale) c.self.view_is ∙ c.requires in
     let are = c.rows_are_defined.ensures h m c.counts-counts.ensures.order (c.self.invariant fresh).0.rows name in
     ap (λ o. (name_standing o).rows) c.get.ensures.entry
-    ∙ rows_of_entry c.rows_are_shown.ensures.none (at_bytes m name)
+    ∙ rows_of_entry c.rows_are_shown.ensures.none (at_name m name)
     ∙ ap (map keys_of_row) (c.rows_are_shown.ensures.alike (rows_under m name) name lists are)
     ∙ ap (λ (w : HeldCache). map keys_of_row (newest_first (rows_named name (keyed_of w.store).lists))) c.self.view_is
 

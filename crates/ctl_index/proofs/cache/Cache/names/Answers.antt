@@ -1,4 +1,4 @@
-use Rattle.std.proofs.Common.{map, Vec, ℕ, Global, ap, ◌∙◌}
+use Rattle.std.proofs.Common.{ap, ◌∙◌}
 use Rattle.ctl_store.specs.Held.{keyed_of, state_of}
 use Rattle.ctl_index.specs.Held.{HeldCache, standing}
 use Rattle.ctl_index.specs.Names.{known_names}
@@ -12,5 +12,6 @@ pub returns : goal.returns
 returns c =
     let h = c.self.inside.store in
     let fresh = ap (λ w. w.stale) c.self.view_is ∙ c.requires in
-    ap (map (λ (k : Vec ℕ Global). k.items)) c.keys.ensures.keys ∙ known_is (standing h) c.self.inside.tables (c.self.invariant fresh).0 c.keys.ensures.used (rows_offered (standing h) c.self.inside.tables (c.self.invariant fresh).0) c.keys.ensures.ordered
+    let was = (c.self.invariant fresh).0 in
+    known_is (standing h) c.self.inside.tables was c.entries.ensures.used (rows_offered (standing h) c.self.inside.tables was) c.entries.result c.entries.ensures.order c.entries.ensures.found
     ∙ ap known_names (contents_of_state (keyed_of h).lists) ∙ ap (λ (w : HeldCache). known_names (stanzas_of_state (state_of w.store))) c.self.view_is

@@ -1,6 +1,7 @@
 use Rattle.std.proofs.Common.{◌≡◌, ◌∷◌, List, false, nat_eq, ap, sym, subst, ◌∙◌}
 use Rattle.std.specs.List.{starts_with}
-use Rattle.ctl_index.specs.TablesViews.{NamedEntry, entry_names, packages_with, has_own, AreFrom}
+use Rattle.ctl_index.specs.NameMap.{NamedEntry, entry_names}
+use Rattle.ctl_index.specs.TablesViews.{packages_with, has_own, AreFrom}
 use Rattle.ctl_index.proofs.PackageLemmas.{stops, goes_on, passes}
 use Rattle.ctl_index.proofs.cache.packages.next_package.Goals as goal
 
@@ -11,7 +12,7 @@ returns-then-not-starts_with-clause-none c =
     let e : NamedEntry = (c.in-Some.name.now, c.in-Some.named.now) in
     let left : c.names.entries ≡ e ∷ new = c.in-Some.ensures.steps in
     let from : AreFrom p (entry_names (e ∷ new)) = subst (λ (es : List NamedEntry). AreFrom p (entry_names es)) left c.names.invariant.from in
-    let other : starts_with nat_eq e.0.items p ≡ false = ap (λ n. starts_with nat_eq n p) (sym c.deref.ensures.value) ∙ sym c.starts_with.ensures.value ∙ c.if-not-starts_with.true in
+    let other : starts_with nat_eq e.0 p ≡ false = sym c.starts_with.ensures.value ∙ c.if-not-starts_with.true in
     sym c.names.invariant.rest ∙ ap (packages_with p) left ∙ (stops p e new from other).0
 
 pub returns-then-not-starts_with-clause-ended : goal.returns-then-not-starts_with-clause-ended
@@ -21,7 +22,7 @@ returns-then-not-starts_with-clause-ended c =
     let e : NamedEntry = (c.in-Some.name.now, c.in-Some.named.now) in
     let left : c.names.entries ≡ e ∷ new = c.in-Some.ensures.steps in
     let from : AreFrom p (entry_names (e ∷ new)) = subst (λ (es : List NamedEntry). AreFrom p (entry_names es)) left c.names.invariant.from in
-    let other : starts_with nat_eq e.0.items p ≡ false = ap (λ n. starts_with nat_eq n p) (sym c.deref.ensures.value) ∙ sym c.starts_with.ensures.value ∙ c.if-not-starts_with.true in
+    let other : starts_with nat_eq e.0 p ≡ false = sym c.starts_with.ensures.value ∙ c.if-not-starts_with.true in
     (stops p e new from other).1
 
 pub returns-then-not-starts_with-clause-from : goal.returns-then-not-starts_with-clause-from

@@ -1,5 +1,6 @@
 use Rattle.std.proofs.Common.{◌≡◌, length}
-use Rattle.ctl_index.specs.TablesViews.{packages_with, entry_names, AreFrom}
+use Rattle.ctl_index.specs.NameMap.{entry_names}
+use Rattle.ctl_index.specs.TablesViews.{packages_with, AreFrom}
 use Rattle.ctl_index.proofs.cache.packages.next_package.Given as goal
 
 abbrev pub invariant-names : goal.invariant-names

@@ -1,18 +1,19 @@
-use Rattle.std.proofs.Common.{[], ◌≡◌, ◌+◌, ℕ, List, length, nat_eq, ◌&&◌, not, cond, option_map, ap, sym, subst, ◌∙◌, rules, OnOk}
+use Rattle.std.proofs.Common.{[], ◌≡◌, ◌+◌, ℕ, List, length, nat_eq, ◌&&◌, not, cond, option_map, ap, sym, subst, ◌∙◌, OnOk}
 use Rattle.std.specs.BTreeMap.{get}
 use Rattle.std.specs.List.{sum_by}
 use Rattle.std.specs.Str.{bytes_eq}
-use Rattle.ctl_policy.specs.Chosen.{at_bytes}
+use Rattle.ctl_index.specs.TablesByName.{at_name}
 use Rattle.ctl_index.specs.declared.keys.AtomKey.{AtomKey}
 use Rattle.ctl_index.specs.declared.keys.ClauseKey.{ClauseKey}
 use Rattle.ctl_index.specs.declared.keys.OfferKey.{OfferKey}
 use Rattle.ctl_index.specs.declared.named.Named.{Named}
 use Rattle.ctl_index.specs.Clauses.{clause_cmp}
 use Rattle.std.specs.FinMap as fin
+use Rattle.std.specs.Option.{option_map_or}
 use Rattle.ctl_index.specs.TablesByName.{rows_under, named_rows, offers_under, namers_under, named_offers, named_namers}
 use Rattle.ctl_index.specs.TablesSight.{hit}
 use Rattle.ctl_index.specs.TablesOrder.{offer_stanza, put_in_order}
-use Rattle.ctl_index.proofs.NameLemmas.{on_ok_map, none_new, changed, unchanged, part-found, used_written, used_found, used_more, on_ok}
+use Rattle.ctl_index.proofs.NameLemmas.{on_some, on_ok_map, none_new, changed, unchanged, part-found, used_written, used_found, used_more, on_ok}
 use Rattle.ctl_index.proofs.name_table.NameTable.put_offer.Goals as goal
 
 pub invariant_of-self : goal.invariant_of-self
@@ -21,7 +22,7 @@ invariant_of-self c =
     let v = c.in-Some.named.now in
     let w : Named = record { offers = c.put.new.self; namers = v.namers; rows = v.rows } in
     record {
-      used = used_written c.name.result.now m (c.get_mut.follows.lender w) w ((c.get_mut.follows.holds w).3 (search rules))
+      used = used_written c.name.result.now m (c.get_mut.follows.lender w) w (on_some c.in-Some.is (c.get_mut.follows.holds w))
           (ap (λ (os : List OfferKey). not ((nat_eq (length os) 0 && nat_eq (length (named_namers v)) 0) && nat_eq (fin.len (named_rows v)) 0)) c.in_err-put-in-Some.ensures.err ∙ used_found m c.name.result.now v c.in-Some.ensures.value c.args.self.now.used) c.args.self.now.used;
     }
 
@@ -31,7 +32,7 @@ invariant_of-self-in-Some c =
     let v = c.in-Some.named.now in
     let w : Named = record { offers = c.put.new.self; namers = v.namers; rows = v.rows } in
     record {
-      used = used_written c.name.result.now m (c.get_mut.follows.lender w) w ((c.get_mut.follows.holds w).3 (search rules))
+      used = used_written c.name.result.now m (c.get_mut.follows.lender w) w (on_some c.in-Some.is (c.get_mut.follows.holds w))
           (ap (λ (os : List OfferKey). not ((nat_eq (length os) 0 && nat_eq (length (named_namers v)) 0) && nat_eq (fin.len (named_rows v)) 0)) c.in_ok-put-in-Some.ensures.ok ∙ used_more offer_stanza (named_offers v) c.args.key (nat_eq (length (named_namers v)) 0) (nat_eq (fin.len (named_rows v)) 0)) c.args.self.now.used;
     }
 
@@ -42,7 +43,7 @@ returns-in_ok-put-in-Some-clause-offers c =
     let w : Named = record { offers = c.put.new.self; namers = v.namers; rows = v.rows } in
     let f : List OfferKey → List OfferKey = λ l. put_in_order offer_stanza c.args.key l in
     on_ok c.meet.result (λ q.
-    changed named_offers [] c.name.result.now m (c.get_mut.follows.lender w) w f ((c.get_mut.follows.holds w).3 (search rules)) (c.in_ok-put-in-Some.ensures.ok ∙ ap f (part-found named_offers [] c.name.result.now m _ c.in-Some.ensures.value)) q
+    changed named_offers [] c.name.result.now m (c.get_mut.follows.lender w) w f (on_some c.in-Some.is (c.get_mut.follows.holds w)) (c.in_ok-put-in-Some.ensures.ok ∙ ap f (part-found named_offers [] c.name.result.now m _ c.in-Some.ensures.value)) q
     ∙ ap (λ b. cond (bytes_eq b q) (f (offers_under m q)) (offers_under m q)) c.name.ensures)
 
 pub returns-in_ok-put-in-Some-clause-namers : goal.returns-in_ok-put-in-Some-clause-namers
@@ -50,7 +51,7 @@ returns-in_ok-put-in-Some-clause-namers c =
     let m = c.args.self.now.map in
     let v = c.in-Some.named.now in
     let w : Named = record { offers = c.put.new.self; namers = v.namers; rows = v.rows } in
-    on_ok c.meet.result (unchanged named_namers [] c.name.result.now m (c.get_mut.follows.lender w) w ((c.get_mut.follows.holds w).3 (search rules)) (part-found named_namers [] c.name.result.now m _ c.in-Some.ensures.value))
+    on_ok c.meet.result (unchanged named_namers [] c.name.result.now m (c.get_mut.follows.lender w) w (on_some c.in-Some.is (c.get_mut.follows.holds w)) (part-found named_namers [] c.name.result.now m _ c.in-Some.ensures.value))
 
 pub returns-in_ok-put-in-Some-clause-counts : goal.returns-in_ok-put-in-Some-clause-counts
 returns-in_ok-put-in-Some-clause-counts c =
@@ -63,13 +64,13 @@ returns-in_ok-put-in-Some-clause-rows c =
     let m = c.args.self.now.map in
     let v = c.in-Some.named.now in
     let w : Named = record { offers = c.put.new.self; namers = v.namers; rows = v.rows } in
-    on_ok c.meet.result (unchanged named_rows fin.empty c.name.result.now m (c.get_mut.follows.lender w) w ((c.get_mut.follows.holds w).3 (search rules)) (part-found named_rows fin.empty c.name.result.now m _ c.in-Some.ensures.value))
+    on_ok c.meet.result (unchanged named_rows fin.empty c.name.result.now m (c.get_mut.follows.lender w) w (on_some c.in-Some.is (c.get_mut.follows.holds w)) (part-found named_rows fin.empty c.name.result.now m _ c.in-Some.ensures.value))
 
 pub returns-in_ok-of_one-in-None-clause-rows : goal.returns-in_ok-of_one-in-None-clause-rows
 returns-in_ok-of_one-in-None-clause-rows c =
     let m = c.args.self.now.map in
     let bs = c.name-in-None.result.now in
-    let same : (q : List ℕ) → rows_under c.get_mut.follows.lender-at-none q ≡ rows_under m q = λ q. search rules in
+    let same : (q : List ℕ) → rows_under c.get_mut.follows.lender-at-none q ≡ rows_under m q = λ q. ap (λ o. option_map_or named_rows o fin.empty) (c.get_mut.follows.holds-at-none q) in
     on_ok_map c.insert.result (λ h q.
     h q ∙ ap (cond (bytes_eq bs q) c.new-in-None.result) (same q)
-    ∙ none_new bs m c.new-in-None.result (c.in-None.ensures.value ∙ ap (at_bytes m) (c.name.ensures ∙ sym c.name-in-None.ensures)) c.new-in-None.ensures q) c.insert.ensures.rows
+    ∙ none_new bs m c.new-in-None.result (c.in-None.ensures.value ∙ ap (at_name m) (c.name.ensures ∙ sym c.name-in-None.ensures)) c.new-in-None.ensures q) c.insert.ensures.rows

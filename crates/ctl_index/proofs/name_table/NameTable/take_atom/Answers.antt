@@ -1,12 +1,12 @@
-use Rattle.std.proofs.Common.{◌≡◌, ℕ, [], List, Some, None, cond, ap, sym, subst, ◌∙◌, rules}
+use Rattle.std.proofs.Common.{◌≡◌, ℕ, [], List, Some, None, cond, ap, sym, subst, ◌∙◌}
 use Rattle.std.specs.Str.{bytes_eq}
 use Rattle.ctl_index.specs.declared.keys.OfferKey.{OfferKey}
 use Rattle.ctl_policy.specs.Rows.{Rows}
 use Rattle.ctl_index.specs.declared.named.Named.{Named}
 use Rattle.std.specs.FinMap as fin
-use Rattle.ctl_index.specs.TablesByName.{rows_under, named_rows, offers_under, namers_under, named_offers, named_namers}
+use Rattle.ctl_index.specs.TablesByName.{IsSetAt, rows_under, named_rows, offers_under, namers_under, named_offers, named_namers}
 use Rattle.ctl_index.specs.TablesOrder.{others, atom_stanza}
-use Rattle.ctl_index.proofs.NameLemmas.{Writes, changed, unchanged, replaced, part-found, used_written, used_replaced, nothing_left, same_either}
+use Rattle.ctl_index.proofs.NameLemmas.{on_some, changed, unchanged, replaced, part-found, used_written, used_replaced, nothing_left, same_either}
 use Rattle.ctl_index.proofs.name_table.NameTable.take_atom.Goals as goal
 
 pub invariant_of-self-then-not-is_used : goal.invariant_of-self-then-not-is_used
@@ -16,8 +16,8 @@ invariant_of-self-then-not-is_used c =
     let w : Named = record { offers = v.offers; namers = c.take.new.self; rows = v.rows } in
     let bs = c.name.result.now in
     let n = c.get_mut.follows.lender w in
-    let writes : Writes bs m n (Some w) = (c.get_mut.follows.holds w).3 (search rules) in
-    let removes : Writes bs n c.remove.new.self None = subst (λ (b : List ℕ). Writes b n c.remove.new.self None) (c.name-then-not-is_used.ensures ∙ sym c.name.ensures) c.remove.ensures.updates in
+    let writes : IsSetAt bs m n (Some w) = on_some c.in-Some.is (c.get_mut.follows.holds w) in
+    let removes : IsSetAt bs n c.remove.new.self None = subst (λ (b : List ℕ). IsSetAt b n c.remove.new.self None) (c.name-then-not-is_used.ensures ∙ sym c.name.ensures) c.remove.ensures in
     record { used = used_replaced bs m n c.remove.new.self w writes removes c.args.self.now.used }
 
 pub invariant_of-self-else-not-is_used : goal.invariant_of-self-else-not-is_used
@@ -27,7 +27,7 @@ invariant_of-self-else-not-is_used c =
     let w : Named = record { offers = v.offers; namers = c.take.new.self; rows = v.rows } in
     let bs = c.name.result.now in
     let n = c.get_mut.follows.lender w in
-    let writes : Writes bs m n (Some w) = (c.get_mut.follows.holds w).3 (search rules) in
+    let writes : IsSetAt bs m n (Some w) = on_some c.in-Some.is (c.get_mut.follows.holds w) in
     record { used = used_written bs m n w writes (sym c.is_used.ensures ∙ c.if-not-is_used.false) c.args.self.now.used }
 
 pub returns-then-not-is_used-clause-namers : goal.returns-then-not-is_used-clause-namers
@@ -37,8 +37,8 @@ returns-then-not-is_used-clause-namers c =
     let w : Named = record { offers = v.offers; namers = c.take.new.self; rows = v.rows } in
     let bs = c.name.result.now in
     let n = c.get_mut.follows.lender w in
-    let writes : Writes bs m n (Some w) = (c.get_mut.follows.holds w).3 (search rules) in
-    let removes : Writes bs n c.remove.new.self None = subst (λ (b : List ℕ). Writes b n c.remove.new.self None) (c.name-then-not-is_used.ensures ∙ sym c.name.ensures) c.remove.ensures.updates in
+    let writes : IsSetAt bs m n (Some w) = on_some c.in-Some.is (c.get_mut.follows.holds w) in
+    let removes : IsSetAt bs n c.remove.new.self None = subst (λ (b : List ℕ). IsSetAt b n c.remove.new.self None) (c.name-then-not-is_used.ensures ∙ sym c.name.ensures) c.remove.ensures in
     let left = nothing_left w (sym c.is_used.ensures ∙ c.if-not-is_used.true) in
     let none : others atom_stanza c.args.span (namers_under m bs) ≡ [] = sym (c.take.ensures ∙ ap (others atom_stanza c.args.span) (part-found named_namers [] bs m _ c.in-Some.ensures.value)) ∙ left.namers in
     λ q.
@@ -52,8 +52,8 @@ returns-then-not-is_used-clause-offers c =
     let w : Named = record { offers = v.offers; namers = c.take.new.self; rows = v.rows } in
     let bs = c.name.result.now in
     let n = c.get_mut.follows.lender w in
-    let writes : Writes bs m n (Some w) = (c.get_mut.follows.holds w).3 (search rules) in
-    let removes : Writes bs n c.remove.new.self None = subst (λ (b : List ℕ). Writes b n c.remove.new.self None) (c.name-then-not-is_used.ensures ∙ sym c.name.ensures) c.remove.ensures.updates in
+    let writes : IsSetAt bs m n (Some w) = on_some c.in-Some.is (c.get_mut.follows.holds w) in
+    let removes : IsSetAt bs n c.remove.new.self None = subst (λ (b : List ℕ). IsSetAt b n c.remove.new.self None) (c.name-then-not-is_used.ensures ∙ sym c.name.ensures) c.remove.ensures in
     let left = nothing_left w (sym c.is_used.ensures ∙ c.if-not-is_used.true) in
     let f : List OfferKey → List OfferKey = λ l. l in
     λ q. replaced named_offers [] bs m n c.remove.new.self w f writes removes (sym (part-found named_offers [] bs m _ c.in-Some.ensures.value) ∙ left.offers) q ∙ same_either (bytes_eq bs q) (offers_under m q)
@@ -65,7 +65,7 @@ returns-else-not-is_used-clause-namers c =
     let w : Named = record { offers = v.offers; namers = c.take.new.self; rows = v.rows } in
     let bs = c.name.result.now in
     let n = c.get_mut.follows.lender w in
-    let writes : Writes bs m n (Some w) = (c.get_mut.follows.holds w).3 (search rules) in
+    let writes : IsSetAt bs m n (Some w) = on_some c.in-Some.is (c.get_mut.follows.holds w) in
     λ q.
     changed named_namers [] bs m n w (others atom_stanza c.args.span) writes (c.take.ensures ∙ ap (others atom_stanza c.args.span) (part-found named_namers [] bs m _ c.in-Some.ensures.value)) q
     ∙ ap (λ b. cond (bytes_eq b q) (others atom_stanza c.args.span (namers_under m q)) (namers_under m q)) c.name.ensures
@@ -77,7 +77,7 @@ returns-else-not-is_used-clause-offers c =
     let w : Named = record { offers = v.offers; namers = c.take.new.self; rows = v.rows } in
     let bs = c.name.result.now in
     let n = c.get_mut.follows.lender w in
-    let writes : Writes bs m n (Some w) = (c.get_mut.follows.holds w).3 (search rules) in
+    let writes : IsSetAt bs m n (Some w) = on_some c.in-Some.is (c.get_mut.follows.holds w) in
     unchanged named_offers [] bs m n w writes (part-found named_offers [] bs m _ c.in-Some.ensures.value)
 
 pub returns-then-not-is_used-clause-rows : goal.returns-then-not-is_used-clause-rows
@@ -87,8 +87,8 @@ returns-then-not-is_used-clause-rows c =
     let w : Named = record { offers = v.offers; namers = c.take.new.self; rows = v.rows } in
     let bs = c.name.result.now in
     let n = c.get_mut.follows.lender w in
-    let writes : Writes bs m n (Some w) = (c.get_mut.follows.holds w).3 (search rules) in
-    let removes : Writes bs n c.remove.new.self None = subst (λ (b : List ℕ). Writes b n c.remove.new.self None) (c.name-then-not-is_used.ensures ∙ sym c.name.ensures) c.remove.ensures.updates in
+    let writes : IsSetAt bs m n (Some w) = on_some c.in-Some.is (c.get_mut.follows.holds w) in
+    let removes : IsSetAt bs n c.remove.new.self None = subst (λ (b : List ℕ). IsSetAt b n c.remove.new.self None) (c.name-then-not-is_used.ensures ∙ sym c.name.ensures) c.remove.ensures in
     let left = nothing_left w (sym c.is_used.ensures ∙ c.if-not-is_used.true) in
     let f : Rows → Rows = λ l. l in
     λ q. replaced named_rows fin.empty bs m n c.remove.new.self w f writes removes (sym (part-found named_rows fin.empty bs m _ c.in-Some.ensures.value) ∙ left.rows) q ∙ same_either (bytes_eq bs q) (rows_under m q)
@@ -100,5 +100,5 @@ returns-else-not-is_used-clause-rows c =
     let w : Named = record { offers = v.offers; namers = c.take.new.self; rows = v.rows } in
     let bs = c.name.result.now in
     let n = c.get_mut.follows.lender w in
-    let writes : Writes bs m n (Some w) = (c.get_mut.follows.holds w).3 (search rules) in
+    let writes : IsSetAt bs m n (Some w) = on_some c.in-Some.is (c.get_mut.follows.holds w) in
     unchanged named_rows fin.empty bs m n w writes (part-found named_rows fin.empty bs m _ c.in-Some.ensures.value)

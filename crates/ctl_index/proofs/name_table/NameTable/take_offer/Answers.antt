@@ -1,4 +1,4 @@
-use Rattle.std.proofs.Common.{◌≡◌, ◌-◌, ℕ, [], List, Some, None, cond, option_map, ap, sym, subst, ◌∙◌, rules}
+use Rattle.std.proofs.Common.{◌≡◌, ◌-◌, ℕ, [], List, Some, None, cond, option_map, ap, sym, subst, ◌∙◌}
 use Rattle.std.specs.BTreeMap.{get}
 use Rattle.std.specs.List.{sum_by}
 use Rattle.std.specs.Str.{bytes_eq}
@@ -7,17 +7,17 @@ use Rattle.ctl_policy.specs.Rows.{Rows}
 use Rattle.ctl_index.specs.declared.named.Named.{Named}
 use Rattle.ctl_index.specs.Clauses.{clause_cmp}
 use Rattle.std.specs.FinMap as fin
-use Rattle.ctl_index.specs.TablesByName.{rows_under, named_rows, offers_under, namers_under, named_offers, named_namers}
+use Rattle.ctl_index.specs.TablesByName.{IsSetAt, rows_under, named_rows, offers_under, namers_under, named_offers, named_namers}
 use Rattle.ctl_index.specs.TablesSight.{hit}
 use Rattle.ctl_index.specs.TablesOrder.{others, offer_stanza}
-use Rattle.ctl_index.proofs.NameLemmas.{Writes, changed, unchanged, replaced, part-found, used_written, used_found, used_replaced, nothing_left, same_either}
+use Rattle.ctl_index.proofs.NameLemmas.{on_some, changed, unchanged, replaced, part-found, used_written, used_found, used_replaced, nothing_left, same_either}
 use Rattle.ctl_index.proofs.name_table.NameTable.take_offer.Goals as goal
 
 pub invariant_of-self-in-Break-1 : goal.invariant_of-self-in-Break-1
 invariant_of-self-in-Break-1 c =
     let m = c.args.self.now.map in
     let v = c.in-Some.named.now in
-    record { used = used_written c.name.result.now m (c.get_mut.follows.lender v) v ((c.get_mut.follows.holds v).3 (search rules)) (used_found m c.name.result.now v c.in-Some.ensures.value c.args.self.now.used) c.args.self.now.used }
+    record { used = used_written c.name.result.now m (c.get_mut.follows.lender v) v (on_some c.in-Some.is (c.get_mut.follows.holds v)) (used_found m c.name.result.now v c.in-Some.ensures.value c.args.self.now.used) c.args.self.now.used }
 
 pub invariant_of-self-then-not-is_used : goal.invariant_of-self-then-not-is_used
 invariant_of-self-then-not-is_used c =
@@ -26,8 +26,8 @@ invariant_of-self-then-not-is_used c =
     let w : Named = record { offers = c.take.new.self; namers = v.namers; rows = v.rows } in
     let bs = c.name.result.now in
     let n = c.get_mut.follows.lender w in
-    let writes : Writes bs m n (Some w) = (c.get_mut.follows.holds w).3 (search rules) in
-    let removes : Writes bs n c.remove.new.self None = subst (λ (b : List ℕ). Writes b n c.remove.new.self None) (c.name-then-not-is_used.ensures ∙ sym c.name.ensures) c.remove.ensures.updates in
+    let writes : IsSetAt bs m n (Some w) = on_some c.in-Some.is (c.get_mut.follows.holds w) in
+    let removes : IsSetAt bs n c.remove.new.self None = subst (λ (b : List ℕ). IsSetAt b n c.remove.new.self None) (c.name-then-not-is_used.ensures ∙ sym c.name.ensures) c.remove.ensures in
     record { used = used_replaced bs m n c.remove.new.self w writes removes c.args.self.now.used }
 
 pub invariant_of-self-else-not-is_used : goal.invariant_of-self-else-not-is_used
@@ -37,7 +37,7 @@ invariant_of-self-else-not-is_used c =
     let w : Named = record { offers = c.take.new.self; namers = v.namers; rows = v.rows } in
     let bs = c.name.result.now in
     let n = c.get_mut.follows.lender w in
-    let writes : Writes bs m n (Some w) = (c.get_mut.follows.holds w).3 (search rules) in
+    let writes : IsSetAt bs m n (Some w) = on_some c.in-Some.is (c.get_mut.follows.holds w) in
     record { used = used_written bs m n w writes (sym c.is_used.ensures ∙ c.if-not-is_used.false) c.args.self.now.used }
 
 pub returns-then-not-is_used-clause-offers : goal.returns-then-not-is_used-clause-offers
@@ -47,8 +47,8 @@ returns-then-not-is_used-clause-offers c =
     let w : Named = record { offers = c.take.new.self; namers = v.namers; rows = v.rows } in
     let bs = c.name.result.now in
     let n = c.get_mut.follows.lender w in
-    let writes : Writes bs m n (Some w) = (c.get_mut.follows.holds w).3 (search rules) in
-    let removes : Writes bs n c.remove.new.self None = subst (λ (b : List ℕ). Writes b n c.remove.new.self None) (c.name-then-not-is_used.ensures ∙ sym c.name.ensures) c.remove.ensures.updates in
+    let writes : IsSetAt bs m n (Some w) = on_some c.in-Some.is (c.get_mut.follows.holds w) in
+    let removes : IsSetAt bs n c.remove.new.self None = subst (λ (b : List ℕ). IsSetAt b n c.remove.new.self None) (c.name-then-not-is_used.ensures ∙ sym c.name.ensures) c.remove.ensures in
     let left = nothing_left w (sym c.is_used.ensures ∙ c.if-not-is_used.true) in
     let none : others offer_stanza c.args.span (offers_under m bs) ≡ [] = sym (c.take.ensures ∙ ap (others offer_stanza c.args.span) (part-found named_offers [] bs m _ c.in-Some.ensures.value)) ∙ left.offers in
     λ q.
@@ -62,8 +62,8 @@ returns-then-not-is_used-clause-namers c =
     let w : Named = record { offers = c.take.new.self; namers = v.namers; rows = v.rows } in
     let bs = c.name.result.now in
     let n = c.get_mut.follows.lender w in
-    let writes : Writes bs m n (Some w) = (c.get_mut.follows.holds w).3 (search rules) in
-    let removes : Writes bs n c.remove.new.self None = subst (λ (b : List ℕ). Writes b n c.remove.new.self None) (c.name-then-not-is_used.ensures ∙ sym c.name.ensures) c.remove.ensures.updates in
+    let writes : IsSetAt bs m n (Some w) = on_some c.in-Some.is (c.get_mut.follows.holds w) in
+    let removes : IsSetAt bs n c.remove.new.self None = subst (λ (b : List ℕ). IsSetAt b n c.remove.new.self None) (c.name-then-not-is_used.ensures ∙ sym c.name.ensures) c.remove.ensures in
     let left = nothing_left w (sym c.is_used.ensures ∙ c.if-not-is_used.true) in
     let f : List AtomKey → List AtomKey = λ l. l in
     λ q. replaced named_namers [] bs m n c.remove.new.self w f writes removes (sym (part-found named_namers [] bs m _ c.in-Some.ensures.value) ∙ left.namers) q ∙ same_either (bytes_eq bs q) (namers_under m q)
@@ -75,7 +75,7 @@ returns-else-not-is_used-clause-offers c =
     let w : Named = record { offers = c.take.new.self; namers = v.namers; rows = v.rows } in
     let bs = c.name.result.now in
     let n = c.get_mut.follows.lender w in
-    let writes : Writes bs m n (Some w) = (c.get_mut.follows.holds w).3 (search rules) in
+    let writes : IsSetAt bs m n (Some w) = on_some c.in-Some.is (c.get_mut.follows.holds w) in
     λ q.
     changed named_offers [] bs m n w (others offer_stanza c.args.span) writes (c.take.ensures ∙ ap (others offer_stanza c.args.span) (part-found named_offers [] bs m _ c.in-Some.ensures.value)) q
     ∙ ap (λ b. cond (bytes_eq b q) (others offer_stanza c.args.span (offers_under m q)) (offers_under m q)) c.name.ensures
@@ -87,7 +87,7 @@ returns-else-not-is_used-clause-namers c =
     let w : Named = record { offers = c.take.new.self; namers = v.namers; rows = v.rows } in
     let bs = c.name.result.now in
     let n = c.get_mut.follows.lender w in
-    let writes : Writes bs m n (Some w) = (c.get_mut.follows.holds w).3 (search rules) in
+    let writes : IsSetAt bs m n (Some w) = on_some c.in-Some.is (c.get_mut.follows.holds w) in
     unchanged named_namers [] bs m n w writes (part-found named_namers [] bs m _ c.in-Some.ensures.value)
 
 pub returns-then-not-is_used-clause-counts : goal.returns-then-not-is_used-clause-counts
@@ -109,8 +109,8 @@ returns-then-not-is_used-clause-rows c =
     let w : Named = record { offers = c.take.new.self; namers = v.namers; rows = v.rows } in
     let bs = c.name.result.now in
     let n = c.get_mut.follows.lender w in
-    let writes : Writes bs m n (Some w) = (c.get_mut.follows.holds w).3 (search rules) in
-    let removes : Writes bs n c.remove.new.self None = subst (λ (b : List ℕ). Writes b n c.remove.new.self None) (c.name-then-not-is_used.ensures ∙ sym c.name.ensures) c.remove.ensures.updates in
+    let writes : IsSetAt bs m n (Some w) = on_some c.in-Some.is (c.get_mut.follows.holds w) in
+    let removes : IsSetAt bs n c.remove.new.self None = subst (λ (b : List ℕ). IsSetAt b n c.remove.new.self None) (c.name-then-not-is_used.ensures ∙ sym c.name.ensures) c.remove.ensures in
     let left = nothing_left w (sym c.is_used.ensures ∙ c.if-not-is_used.true) in
     let f : Rows → Rows = λ l. l in
     λ q. replaced named_rows fin.empty bs m n c.remove.new.self w f writes removes (sym (part-found named_rows fin.empty bs m _ c.in-Some.ensures.value) ∙ left.rows) q ∙ same_either (bytes_eq bs q) (rows_under m q)
@@ -122,5 +122,5 @@ returns-else-not-is_used-clause-rows c =
     let w : Named = record { offers = c.take.new.self; namers = v.namers; rows = v.rows } in
     let bs = c.name.result.now in
     let n = c.get_mut.follows.lender w in
-    let writes : Writes bs m n (Some w) = (c.get_mut.follows.holds w).3 (search rules) in
+    let writes : IsSetAt bs m n (Some w) = on_some c.in-Some.is (c.get_mut.follows.holds w) in
     unchanged named_rows fin.empty bs m n w writes (part-found named_rows fin.empty bs m _ c.in-Some.ensures.value)

@@ -1,0 +1,91 @@
+//! The two trees of names: of short names, which stand in the keys themselves, and of longer ones.
+
+ghost use Rattle.std.specs.Prelude.{◌≡◌, ℕ, List, None, Some, is_some, OnOk, OnErr, option_copied, if◌then◌else◌};
+ghost use Rattle.std.specs.Borrow.{sem};
+ghost use Rattle.std.specs.Option.{option_copied_mut};
+ghost use Rattle.std.specs.Str.{bytes_eq};
+ghost use Rattle.ctl_index.specs.NameMap.{AreApart};
+
+use crate::named::Named;
+use crate::short_name::ShortName;
+use std::alloc::{AllocError, Global};
+use std::collections::BTreeMap;
+
+/// What stands under each name.
+#[derive(Drop)]
+pub(crate) struct NameMap {
+    pub(crate) short: BTreeMap<ShortName, Named>,
+    pub(crate) long: BTreeMap<Vec<u8>, Named>,
+    ghost apart: { AreApart short long },
+}
+
+impl NameMap {
+    ghost use Rattle.ctl_index.specs.TablesByName.{at_name, HoldsNothing, IsSetAt, HasSameNames, LendsNamed};
+
+    /// No names. It takes no memory.
+    pub(crate) fn new(alloc: Global) -> NameMap
+        ensures { HoldsNothing result }
+    {
+        NameMap {
+            short: BTreeMap::new(alloc),
+            long: BTreeMap::new(alloc),
+        }
+    }
+
+    /// What stands under a name, if anything does.
+    pub(crate) fn get(&self, name: &[u8]) -> Option<&Named>
+        ensures { option_copied result ≡ at_name self.now name.now }
+    {
+        match ShortName::of(name) {
+            Some(short) => self.short.get(&short),
+            None => self.long.get(name),
+        }
+    }
+
+    /// The same, to be changed.
+    pub(crate) fn get_mut(&mut self, name: &[u8]) -> Option<&mut Named>
+        ensures* writes_back { sem 𝓛 (LendsNamed self.entry name.now result) }
+        ensures value { option_copied_mut result ≡ at_name self.old name.now }
+    {
+        match ShortName::of(name) {
+            Some(short) => self.short.get_mut(&short),
+            None => self.long.get_mut(name),
+        }
+    }
+
+    /// This stands under a name from now on. After want of memory all is as before.
+    pub(crate) fn insert(
+        &mut self,
+        alloc: Global,
+        name: &[u8],
+        named: Named,
+    ) -> Result<(), AllocError>
+        ensures ok { OnOk result (IsSetAt name.now self.old self.new (Some named)) }
+        ensures err { OnErr result (HasSameNames self.old self.new) }
+    {
+        match ShortName::of(name) {
+            Some(short) => {
+                self.short.insert(short, named)?;
+            }
+            None => {
+                let key = Vec::from_slice(alloc, name)?;
+                self.long.insert(key, named)?;
+            }
+        }
+        Ok(())
+    }
+
+    /// Nothing stands under a name from now on.
+    pub(crate) fn remove(&mut self, name: &[u8])
+        ensures { IsSetAt name.now self.old self.new None }
+    {
+        match ShortName::of(name) {
+            Some(short) => {
+                self.short.remove(&short);
+            }
+            None => {
+                self.long.remove(name);
+            }
+        }
+    }
+}
