@@ -389,6 +389,67 @@ pkgnames ba
     )
 }
 
+// Names of more than 31 bytes stand in a tree of their own, and are shown among the others.
+#[test]
+fn names_of_31_bytes_and_of_more(rt: HostRuntime) -> Result<(), Fail> {
+    each_writes_behind(
+        &rt,
+        b"add-list m packages\nPackage: aaaaaaaaaaaaaaaaaaaaaaaaaaaaaaab\nVersion: 1\nDepends: aaaaaaaaaaaaaaaaaaaaaaaaaaaaaaa-c, aaaaaaaaaaaaaaaaaaaa, aaaaaaaaaaaaaaaaaaaaaaaaaaaaaaaaz\n\nPackage: aaaaaaaaaaaaaaaaaaaaaaaaaaaaaaa\nVersion: 1\n\nPackage: aaaaaaaaaaaaaaaaaaaaaaaaaaaaaaaa\nVersion: 1\nProvides: aaaaaaaaaaaaaaaaaaaaaaaaaaaaaaac\n\nPackage: aaaaaaaaaaaaaaaaaaaaaaaaaaaaaa\nVersion: 1\n\nPackage: aaaaaaaaaaaaaaaaaaaaaaaaaaaaaa0\nVersion: 1\n\nPackage: aaaaaaaaaaaaaaaaaaaaaaaaaaaaaaaa0\nVersion: 1\n\nPackage: aaaaaaaaaaaaaaaaaaaaaaaaaaaaaab\nVersion: 1\n\nPackage: b\nVersion: 1\n\nPackage: aaaaaaaaaaaaaaaaaaaaaaaaaaaaaaa0\nVersion: 1\n.\n",
+        b"
+pkgnames
+=>
+aaaaaaaaaaaaaaaaaaaaaaaaaaaaaa
+aaaaaaaaaaaaaaaaaaaaaaaaaaaaaa0
+aaaaaaaaaaaaaaaaaaaaaaaaaaaaaaa
+aaaaaaaaaaaaaaaaaaaaaaaaaaaaaaa0
+aaaaaaaaaaaaaaaaaaaaaaaaaaaaaaaa
+aaaaaaaaaaaaaaaaaaaaaaaaaaaaaaaa0
+aaaaaaaaaaaaaaaaaaaaaaaaaaaaaaab
+aaaaaaaaaaaaaaaaaaaaaaaaaaaaaab
+b
+--
+pkgnames aaaaaaaaaaaaaaaaaaaaaaaaaaaaaaa
+=>
+aaaaaaaaaaaaaaaaaaaaaaaaaaaaaaa
+aaaaaaaaaaaaaaaaaaaaaaaaaaaaaaa0
+aaaaaaaaaaaaaaaaaaaaaaaaaaaaaaaa
+aaaaaaaaaaaaaaaaaaaaaaaaaaaaaaaa0
+aaaaaaaaaaaaaaaaaaaaaaaaaaaaaaab
+--
+pkgnames aaaaaaaaaaaaaaaaaaaaaaaaaaaaaaaa
+=>
+aaaaaaaaaaaaaaaaaaaaaaaaaaaaaaaa
+aaaaaaaaaaaaaaaaaaaaaaaaaaaaaaaa0
+--
+pkgnames --all-names aaaaaaaaaaaaaaaaaaaaaaaaaaaaaaa
+=>
+aaaaaaaaaaaaaaaaaaaaaaaaaaaaaaa
+aaaaaaaaaaaaaaaaaaaaaaaaaaaaaaa-c
+aaaaaaaaaaaaaaaaaaaaaaaaaaaaaaa0
+aaaaaaaaaaaaaaaaaaaaaaaaaaaaaaaa
+aaaaaaaaaaaaaaaaaaaaaaaaaaaaaaaa0
+aaaaaaaaaaaaaaaaaaaaaaaaaaaaaaaaz
+aaaaaaaaaaaaaaaaaaaaaaaaaaaaaaab
+aaaaaaaaaaaaaaaaaaaaaaaaaaaaaaac
+--
+pkgnames --all-names aaaaaaaaaaaaaaaaaaaaaaaaaaaaaaaa0
+=>
+aaaaaaaaaaaaaaaaaaaaaaaaaaaaaaaa0
+--
+remove m aaaaaaaaaaaaaaaaaaaaaaaaaaaaaaaa 1
+remove m aaaaaaaaaaaaaaaaaaaaaaaaaaaaaaa 1
+pkgnames aaaaaaaaaaaaaaaaaaaaaaaaaaaaaaa
+pkgnames --all-names aaaaaaaaaaaaaaaaaaaaaaaaaaaaaaaa
+=>
+aaaaaaaaaaaaaaaaaaaaaaaaaaaaaaa0
+aaaaaaaaaaaaaaaaaaaaaaaaaaaaaaaa0
+aaaaaaaaaaaaaaaaaaaaaaaaaaaaaaab
+aaaaaaaaaaaaaaaaaaaaaaaaaaaaaaaa0
+aaaaaaaaaaaaaaaaaaaaaaaaaaaaaaaaz
+",
+    )
+}
+
 #[test]
 fn priorities_stand_in_four_places(rt: HostRuntime) -> Result<(), Fail> {
     each_writes(
