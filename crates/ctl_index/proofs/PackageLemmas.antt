@@ -4,7 +4,6 @@ use Rattle.std.specs.List.{sum_by, list_any, starts_with, AllByRecursion}
 use Rattle.std.specs.List.Sorted.{IsStrictlySortedBy}
 use Rattle.std.specs.Option.{option_map_or}
 use Rattle.std.specs.Ordering.{ordering_then, is_le, is_eq}
-use Rattle.std.specs.Cmp.{nat_cmp_is}
 use Rattle.std.specs.Cmp.Lexicographic.{slice_cmp, nat_list_eq_equiv}
 use Rattle.std.specs.Str.{bytes_eq}
 use Rattle.std.specs.declared.cmp.Ordering.{Ordering}
@@ -29,7 +28,6 @@ use Rattle.ctl_index.specs.TablesIndexed.{IsIndexed, keyed_offers, keyed_offers_
 use Rattle.ctl_index.specs.TablesViews.{is_own, has_own, packages_with, AreFrom}
 use Rattle.ctl_index.specs.NameMap.{NamedEntry, entry_names, found_in}
 use Rattle.ctl_index.proofs.NamesLemmas.{any-counted}
-use Rattle.ctl_index.proofs.ClauseLemmas.{nat_eq-is}
 use Rattle.ctl_index.proofs.SumLemmas.{sum-cong, sum-map}
 
 -- ---- names in order that begin with a prefix stand together
@@ -43,14 +41,6 @@ tied a b h = grind (arith, nat_tests, h)
 never : (b : Bool) → (b && false) ≡ false
 never true = refl
 never false = refl
-
-plain : (b : Bool) → (b && true) ≡ b
-plain true = refl
-plain false = refl
-
-both : (a b : Bool) → (a && b) ≡ true → (a ≡ true) × (b ≡ true)
-both true b h = (refl, h)
-both false b h = absurd (true≢false (sym h))
 
 less≢greater : Greater ≡ Less → ⊥
 less≢greater e = let z : ⊥ = cc in z
@@ -76,15 +66,6 @@ none_later (a ∷ p) (b ∷ n) (c ∷ m) from other below = by (nat_cmp a b) ref
         ap (λ t. nat_eq a c && t) (rest from' (sym (ap (λ t. t && starts_with nat_eq n p) (tied a b (ranked a b Equal e))) ∙ other) below') ∙ never (nat_eq a c)
     by Equal e Greater f from' below' rest = absurd (less≢greater below')
     by Greater e r f from' below' rest = absurd (true≢false (sym from'))
-
--- a name that begins with a prefix isn't before it
-prefix_first : (p n : List ℕ) → starts_with nat_eq n p ≡ true → is_le (slice_cmp nat_cmp p n) ≡ true
-prefix_first [] [] h = refl
-prefix_first [] (b ∷ n) h = refl
-prefix_first (a ∷ p) [] h = absurd (true≢false (sym h))
-prefix_first (a ∷ p) (b ∷ n) h =
-    let parts = both (nat_eq a b) (starts_with nat_eq n p) h in
-    ap (λ o. is_le (ordering_then o (slice_cmp nat_cmp p n))) (sym (nat_cmp_is a b Equal (nat_eq-is a b parts.0))) ∙ prefix_first p n parts.1
 
 -- ---- what is left of a range
 

@@ -43,12 +43,17 @@ module _ {K X : Type 0} (eq : K → K → Bool) (test : K → Bool) where
   unfolding KeepsOthers
   others old new h = h
 
-pub long_set : (key name : List ℕ) (old new : Long) (w : Option Named) → key ≡ name → UpdatesBy (λ x y. slice_cmp nat_cmp x.items y.items) (λ k. slice_cmp nat_cmp key k.items) old new w → IsLongSet name old new w
-long_set key name old new w is h q = by (bytes_eq key q) refl ∙ ap (λ k. cond (bytes_eq k q) w (at_bytes old q)) is
+-- a change at the bytes bs: w is there then, and other bytes have what they had
+pub updates_bytes : {X : Type 0} (bs : List ℕ) (m n : BTreeMap (Vec ℕ Global) X) (w : Option X) → UpdatesBy (λ x y. slice_cmp nat_cmp x.items y.items) (λ k. slice_cmp nat_cmp bs k.items) m n w
+    → (cs : List ℕ) → at_bytes n cs ≡ cond (bytes_eq bs cs) w (at_bytes m cs)
+updates_bytes bs m n w h cs = by (bytes_eq bs cs) refl
   where
-    by : (b : Bool) → bytes_eq key q ≡ b → at_bytes new q ≡ cond b w (at_bytes old q)
-    by true e = subst (λ l. at_bytes new l ≡ w) ((bytes_eq-Decides key q).0 e) h.1
-    by false e = others _ _ _ _ h.3 _ (λ x y. (eq_by_cmp_equiv nat_list_cmp_total).congr q x.items y.items) (λ k. parted key q k.items e)
+    by : (b : Bool) → bytes_eq bs cs ≡ b → at_bytes n cs ≡ cond b w (at_bytes m cs)
+    by true e = subst (λ l. at_bytes n l ≡ w) ((bytes_eq-Decides bs cs).0 e) h.1
+    by false e = others _ _ _ _ h.3 _ (λ x y. (eq_by_cmp_equiv nat_list_cmp_total).congr cs x.items y.items) (λ k. parted bs cs k.items e)
+
+pub long_set : (key name : List ℕ) (old new : Long) (w : Option Named) → key ≡ name → UpdatesBy (λ x y. slice_cmp nat_cmp x.items y.items) (λ k. slice_cmp nat_cmp key k.items) old new w → IsLongSet name old new w
+long_set key name old new w is h q = updates_bytes key old new w h q ∙ ap (λ k. cond (bytes_eq k q) w (at_bytes old q)) is
 
 -- ---- both trees
 
