@@ -7,7 +7,8 @@ import subprocess
 import sys
 import tempfile
 
-TOOL = os.path.join(os.path.dirname(os.path.abspath(__file__)), "..", "tools", "batch_edits.py")
+TOOLS = os.path.join(os.path.dirname(os.path.abspath(__file__)), "..", "tools")
+TOOL = os.path.join(TOOLS, "batch_edits.py")
 
 SOURCE = """//! The greater of numbers.
 #![tactic(auto)]
@@ -173,7 +174,71 @@ def test_listings(tests):
         tests.expect("uncovered", status == 0 and [it.split("\t")[2:] for it in lines[:-1]] == [[" least"]], told)
 
 
+# Makes a room's kept work equal to the base's, changes it, and makes it equal again; then writes into a proved module by the room's name for
+# it. A line for each thing that is so. It is a program of its own, since this file has the name of the package that it imports.
+LINKS = """
+import os, sys, types
+from edit_runner import runner
+
+kept, room = sys.argv[1] + "/kept", sys.argv[1] + "/room"
+
+def write(path, text):
+    os.makedirs(os.path.dirname(path), exist_ok=True)
+    with open(path, "w") as file:
+        file.write(text)
+
+def read(path):
+    with open(path) as file:
+        return file.read()
+
+def is_one(path):
+    return os.stat(kept + path).st_ino == os.stat(room + path).st_ino
+
+def says_stop():
+    base = types.SimpleNamespace(modules={crate: before}, kept=lambda crate: kept)
+    try:
+        runner.Runner.expect_unchanged(base, crate)
+    except SystemExit:
+        return True
+    return False
+
+class Crate:
+    name = "numbers"
+
+crate = Crate()
+write(kept + "/deep/proved.oantt", "proved")
+write(kept + "/judged", "judged")
+runner.mirror(kept, room)
+before = runner.modules_of(kept)
+print("a module has two names", is_one("/deep/proved.oantt") and read(room + "/deep/proved.oantt") == "proved")
+print("another file is copied", not is_one("/judged") and read(room + "/judged") == "judged")
+write(room + "/judged", "judged once more")
+write(room + "/deep/own.oantt", "of an edit")
+os.remove(room + "/deep/proved.oantt")
+write(room + "/deep/proved.oantt", "replaced")
+write(room + "/own/own.oantt", "of an edit")
+print("what a room replaces stays in the base", read(kept + "/deep/proved.oantt") == "proved" and not says_stop())
+runner.mirror(kept, room)
+print("a room is made equal again", is_one("/deep/proved.oantt") and read(room + "/judged") == "judged")
+print("what a room had of its own goes", sorted(os.listdir(room)) == ["deep", "judged"] and os.listdir(room + "/deep") == ["proved.oantt"])
+write(room + "/deep/proved.oantt", "written into")
+print("a module that is written into stops the runner", says_stop())
+"""
+
+
+def test_links(tests):
+    """Rooms have proved modules by second names: what a check replaces stays as it was in the base, and one that is written into is told."""
+    with tempfile.TemporaryDirectory() as root:
+        how = {"stdout": subprocess.PIPE, "stderr": subprocess.STDOUT, "text": True, "cwd": root, "env": {**os.environ, "PYTHONPATH": os.path.abspath(TOOLS)}}
+        told = subprocess.run([sys.executable, "-c", LINKS, root], **how).stdout
+    found = [it for it in told.splitlines() if it.endswith((" True", " False"))]
+    for it in found:
+        tests.expect(it.rsplit(" ", 1)[0], it.endswith(" True"), told)
+    tests.expect("all that is asked of links", len(found) == 6, told)
+
+
 def run(tests):
+    test_links(tests)
     test_listings(tests)
     test_edits(tests)
     test_good_edits(tests)
