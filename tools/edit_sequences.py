@@ -18,7 +18,8 @@ LONG_NAMES = 300
 GROWTH = [1.0, 1.0, 0.5, 0.5] + [0.02] * 6 + [0.9, 0.5]
 
 LISTS = [b"main", b"extra", b"back", b"dpkg", b"main2"]
-PACKAGES = [b"a", b"b", b"ab", b"libc6"]
+# Short names stand in one table and those of more than 31 bytes in another.
+PACKAGES = [b"a", b"b", b"ab", b"libc6", b"n" * 31, b"n" * 31 + b"-x"]
 # The first six are equal.
 VERSIONS = [b"1.0", b"1.0-0", b"0:1.0", b"1.00", b"1.0-00", b"00:1.0-0", b"1.0-1", b"2", b"1.0~rc1", b"1:0.5", b"10.0"]
 PIN_VERSIONS = VERSIONS + [b"1.*", b"*", b"1.0*", b"2:*"]
