@@ -1,6 +1,7 @@
 """Tests tools/batch_edits.py on a repository of one small crate, which it makes in a temporary folder. Edits that the
 prover refuses by themselves pass. An edit of a comment, one whose function only calls another that is refused, one that
-doesn't compile and one that can't be applied are told as failed. What was refused is kept, and not tried again."""
+doesn't compile and one that can't be applied are told as failed. What was refused is kept, and not tried again. The rooms in
+which edits are tried have proved modules by second names, and a module that is written into stops the runner."""
 
 import os
 import subprocess
