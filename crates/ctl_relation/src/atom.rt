@@ -35,8 +35,9 @@ impl<'a> Model for Atom<'a> {
 }
 
 impl<'a> Atom<'a> {
-    /// The atom of these parts.
-    pub(crate) fn new(
+    /// The atom of a name, an architecture qualifier and a bound: an operator and a version. It is for those who keep these parts
+    /// themselves; the atoms of a field come by [`Group::atoms`](crate::Group::atoms).
+    pub fn new(
         name: &'a [u8],
         qualifier: Option<&'a [u8]>,
         bound: Option<(Operator, &'a [u8])>,

@@ -107,9 +107,8 @@ impl Store {
         // no name stands twice
         ensures distinct { IsDistinct bytes_eq (names_of (state_of self.now).lists) }
     {
-        Lists {
-            entries: self.lists.entries(),
-        }
+        let entries = self.lists.entries();
+        Lists { entries }
     }
 
     /// The kind of a list, if there is a list of this name.
