@@ -20,8 +20,10 @@ GROWTH = [1.0, 1.0, 0.5, 0.5] + [0.02] * 6 + [0.9, 0.5]
 LISTS = [b"main", b"extra", b"back", b"dpkg", b"main2"]
 # Short names stand in one table and those of more than 31 bytes in another.
 PACKAGES = [b"a", b"b", b"ab", b"libc6", b"n" * 31, b"n" * 31 + b"-x"]
-# The first six are equal.
-VERSIONS = [b"1.0", b"1.0-0", b"0:1.0", b"1.00", b"1.0-00", b"00:1.0-0", b"1.0-1", b"2", b"1.0~rc1", b"1:0.5", b"10.0"]
+# The first six are equal, and so are the last three. A bound is kept beside its atom where its version has at most 12 bytes, and one
+# of these has 12 and one 13.
+VERSIONS = [b"1.0", b"1.0-0", b"0:1.0", b"1.00", b"1.0-00", b"00:1.0-0", b"2", b"1.0~rc1", b"1:0.5", b"10.0"]
+VERSIONS += [b"1.0-1", b"1.0-00000001", b"1.0-000000001"]
 PIN_VERSIONS = VERSIONS + [b"1.*", b"*", b"1.0*", b"2:*"]
 STATES = ["installed", "unpacked", "half-configured", "not-installed", "config-files", "half-installed"]
 PRIORITIES = [-32768, -1, 1, 99, 500, 990, 1000, 32767]

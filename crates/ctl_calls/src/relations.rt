@@ -206,6 +206,31 @@ fn parts_of_an_atom(rt: HostRuntime) -> Result<(), Fail> {
     Ok(())
 }
 
+/// The printed form of an atom that is made of the parts of the only one of a field.
+fn made_again(alloc: Global, kind: FieldKind, body: &[u8]) -> Result<Vec<u8>, Fail> {
+    let relations = parse_relations(alloc, body, kind)?;
+    let atom = lone_atom(&relations)?;
+    let made = Atom::new(atom.name(), atom.qualifier(), atom.bound());
+    let mut out = Vec::new(alloc);
+    made.append_to(&mut out)?;
+    Ok(out)
+}
+
+#[test]
+fn atoms_made_of_their_parts(rt: HostRuntime) -> Result<(), Fail> {
+    const ROWS: &[(&[u8], &[u8])] = &[
+        (b" python3:any ( >= 3.1~ ) ", b"python3:any (>= 3.1~)"),
+        (b"a:amd64", b"a:amd64"),
+        (b"a(=1:2-3)", b"a (= 1:2-3)"),
+        (b"a", b"a"),
+    ];
+    for (body, wanted) in ROWS {
+        let came = made_again(rt.alloc(), FieldKind::Depends, body)?;
+        same(&rt, body, &came, wanted);
+    }
+    Ok(())
+}
+
 #[test]
 fn bare_atom(rt: HostRuntime) -> Result<(), Fail> {
     let came = lone_words(rt.alloc(), FieldKind::Provides, b"a")?;

@@ -10,7 +10,7 @@ use Rattle.ctl_stanza.specs.Content.{Content, offers_of}
 use Rattle.ctl_store.specs.declared.stanza_key.StanzaKey.{StanzaKey}
 use Rattle.ctl_store.specs.Entries.{Entry, entries_by}
 use Rattle.ctl_store.specs.Followed.{under, AreApart}
-use Rattle.ctl_index.specs.declared.keys.AtomKey.{AtomKey}
+use Rattle.ctl_index.specs.declared.keys.Namer.{Namer}
 use Rattle.ctl_index.specs.declared.keys.ClauseKey.{ClauseKey}
 use Rattle.ctl_index.specs.declared.tables.Tables.{Tables}
 use Rattle.ctl_index.specs.Clauses.{clause_atoms, clause_cmp, clause_of, clause_at, number_at}
@@ -68,7 +68,7 @@ abbrev hits_of : List OfferParts → Option (List AtomParts) → ℕ
 hits_of os c = option_map_or (λ atoms. sum_by (λ (o : OfferParts). sum_by (λ (a : AtomParts). cond (met a o) 1 0) atoms) os) c 0
 
 -- what offers hit of a clause of these stanzas, where their atoms are listed
-hits-is : (s : Seen) (atoms : List ℕ → List AtomKey) (es : List Entry) → ((q : List ℕ) (f : AtomKey → ℕ) → sum_by f (atoms q) ≡ sum_by (λ (e : Entry). sum_by (atom_named q f) (keyed_atoms e)) es) → AreSeen s es → AreApart es
+hits-is : (s : Seen) (atoms : List ℕ → List Namer) (es : List Entry) → ((q : List ℕ) (f : Namer → ℕ) → sum_by f (atoms q) ≡ sum_by (λ (e : Entry). sum_by (atom_named q f) (keyed_atoms e)) es) → AreSeen s es → AreApart es
     → (os : List OfferParts) (k : ClauseKey) → all_hits s atoms os k ≡ hits_of os (clause_at k es)
 hits-is s atoms es fact sees apart os k =
     sum-cong _ _ (λ o. listed_hits s atoms es fact sees k o ∙ one_under (λ y. option_map_or (λ group. sum_by (λ a. cond (met a o) 1 0) group) (clause_of k y) 0) k.stanza es apart ∙ join o (under k.stanza es)) os
@@ -149,7 +149,7 @@ module _ (s : Seen) (keys : List StanzaKey) (all rest : List Entry) (old new : T
   abbrev going : List Entry
   going = entries_by (seen s) keys
 
-  left_namers : (q : List ℕ) (f : AtomKey → ℕ) → sum_by f (namers_taken s keys old q) ≡ sum_by (λ (e : Entry). sum_by (atom_named q f) (keyed_atoms e)) rest
+  left_namers : (q : List ℕ) (f : Namer → ℕ) → sum_by f (namers_taken s keys old q) ≡ sum_by (λ (e : Entry). sum_by (atom_named q f) (keyed_atoms e)) rest
   left_namers = take_namers s keys all rest old joined was outside inside
 
   abbrev number_of : List Entry → Option (List AtomParts) → Option ℕ

@@ -12,7 +12,7 @@ use Rattle.ctl_index.specs.TablesOrder.{put_in_order, is_through}
 use Rattle.ctl_policy.specs.Kept.{HasPut, HasSame, OthersStay}
 use Rattle.ctl_policy.specs.Rows.{Rows}
 use Rattle.ctl_index.specs.TablesByName.{NameMap, at_name, IsSetAt, HasSameNames, named_offers, named_namers, named_rows, rows_under, part_under, is_used, AreUsed}
-use Rattle.ctl_index.proofs.RowLemmas.{none_there, put_there, same_there}
+use Rattle.ctl_index.proofs.RowLemmas.{put_there, same_there}
 
 module _ {T : Type 0} (part : Named → T) (none : T) (bs : List ℕ) (m n : NameMap) where
   -- a part under all names after a write of w, where f was made of what was there
@@ -43,13 +43,6 @@ used_written bs m n w h used old q = ap (λ o. option_map_or is_used o true) (h 
   where
     by : (b : Bool) → option_map_or is_used (cond b (Some w) (at_name m q)) true ≡ true
     by true = used
-    by false = old q
-
-pub used_removed : (bs : List ℕ) (m n : NameMap) → IsSetAt bs m n None → AreUsed m → AreUsed n
-used_removed bs m n h old q = ap (λ o. option_map_or is_used o true) (h q) ∙ by (bytes_eq bs q)
-  where
-    by : (b : Bool) → option_map_or is_used (cond b None (at_name m q)) true ≡ true
-    by true = refl
     by false = old q
 
 -- after a write that may have been refused
@@ -154,14 +147,6 @@ none_more part none bs m n x is e same q = by (bytes_eq bs q) refl
     by : (b : Bool) → bytes_eq bs q ≡ b → cond b x (part_under part none n q) ≡ part_under part none m q
     by true t = is ∙ sym (none_under part none bs m e) ∙ ap (part_under part none m) ((bytes_eq-Decides bs q).0 t)
     by false t = ap (λ o. option_map_or part o none) (same q)
-
--- no rows under a name that wasn't there change nothing
-pub none_new : (bs : List ℕ) (m : NameMap) (r : Rows) → None ≡ at_name m bs → ((v : List ℕ) → fin.get r v ≡ None) → (q : List ℕ) → cond (bytes_eq bs q) r (rows_under m q) ≡ rows_under m q
-none_new bs m r e none q = by (bytes_eq bs q) refl
-  where
-    by : (b : Bool) → bytes_eq bs q ≡ b → cond b r (rows_under m q) ≡ rows_under m q
-    by true t = none_there r none ∙ sym (none_under named_rows fin.empty bs m e) ∙ ap (rows_under m) ((bytes_eq-Decides bs q).0 t)
-    by false t = refl
 
 -- what stands under its own name
 pub own_rows : (bs : List ℕ) (r o : Rows) → cond (bytes_eq bs bs) r o ≡ r

@@ -24,6 +24,7 @@ use Rattle.ctl_index.specs.ShortName.{most_short}
 use Rattle.ctl_index.specs.NameMap.{NamedEntry, entry_names, found_in, long_entry, merged}
 use Rattle.ctl_index.specs.TablesByName.{at_name}
 use Rattle.ctl_index.specs.TablesViews.{AreFrom}
+use Rattle.ctl_index.proofs.ClauseLemmas.{nat_eq-is}
 use Rattle.ctl_index.proofs.MergedLemmas.{AreOthers, merged_order, merged_found, merged_all}
 
 -- ---- the names of a part of a tree
@@ -178,6 +179,17 @@ module _ (p : List ℕ → Bool) (m : NameMap) where
       by true few = or_none _ _ (no_long q (at_most (length q) most_short few))
       by false many = none_or _ _ (no_short q (more (length q) most_short many))
 
+  pub both_only : (q : List ℕ) → is_some (found_in (merged from_short from_long) q) ≡ true → found_in (merged from_short from_long) q ≡ at_name m q
+  both_only q h = by (p q) refl
+    where
+      by : (b : Bool) → p q ≡ b → found_in (merged from_short from_long) q ≡ at_name m q
+      by true is = both_found q is
+      by false is =
+          let none : found_in (merged from_short from_long) q ≡ None =
+          merged_found from_short from_long parts_apart q ∙ (λ i. option_or (in_short q i) (in_long q i))
+          ∙ ap (λ (b : Bool). option_or (cond b (get (slice_cmp nat_cmp) m.short q) None) (cond b (at_bytes m.long q) None)) is in
+          absurd (true≢false (sym h ∙ ap (λ (o : Option Named). is_some o) none))
+
   -- ---- of the second tree alone
 
   long_found_alone : (q : List ℕ) → p q ≡ true → most_short < length q → found_in from_long q ≡ at_name m q
@@ -185,14 +197,21 @@ module _ (p : List ℕ → Bool) (m : NameMap) where
       in_long q ∙ ap (λ (b : Bool). cond b (at_bytes m.long q) None) is
       ∙ sym (ap (λ (b : Bool). cond b (get (slice_cmp nat_cmp) m.short q) (at_bytes m.long q)) (not_at_most (length q) most_short many))
 
+  long_only_alone : (q : List ℕ) → is_some (found_in from_long q) ≡ true → found_in from_long q ≡ at_name m q
+  long_only_alone q h = by (p q) refl
+    where
+      in_part : is_some (cond (p q) (at_bytes m.long q) None) ≡ true
+      in_part = sym (ap (λ (o : Option Named). is_some o) (in_long q)) ∙ h
+
+      by : (b : Bool) → p q ≡ b → found_in from_long q ≡ at_name m q
+      by true is = long_found_alone q is (m.apart.longer q (there (p q) (at_bytes m.long q) in_part))
+      by false is = absurd (true≢false (sym in_part ∙ ap (λ (b : Bool). is_some (cond b (at_bytes m.long q) None)) is))
+
 -- ---- from a prefix on
 
 both : (a b : Bool) → (a && b) ≡ true → (a ≡ true) × (b ≡ true)
 both true b h = (refl, h)
 both false b h = absurd (true≢false (sym h))
-
-alike : (a b : ℕ) → nat_eq a b ≡ true → a ≡ b
-alike a b h = grind (arith, nat_tests, h)
 
 -- a name that begins with a prefix isn't before it
 prefix_first : (p n : List ℕ) → starts_with nat_eq n p ≡ true → is_le (slice_cmp nat_cmp p n) ≡ true
@@ -201,7 +220,7 @@ prefix_first [] (b ∷ n) h = refl
 prefix_first (a ∷ p) [] h = absurd (true≢false (sym h))
 prefix_first (a ∷ p) (b ∷ n) h =
     let parts = both (nat_eq a b) (starts_with nat_eq n p) h in
-    ap (λ o. is_le (ordering_then o (slice_cmp nat_cmp p n))) (sym (nat_cmp_is a b Equal (alike a b parts.0))) ∙ prefix_first p n parts.1
+    ap (λ o. is_le (ordering_then o (slice_cmp nat_cmp p n))) (sym (nat_cmp_is a b Equal (nat_eq-is a b parts.0))) ∙ prefix_first p n parts.1
 
 -- and isn't shorter
 prefix_fits : (p n : List ℕ) → starts_with nat_eq n p ≡ true → length p ≤ length n
@@ -233,20 +252,20 @@ module _ (prefix : List ℕ) (m : NameMap) where
 
   -- what `entries_from` promises of entries
   abbrev pub ArePromised : List NamedEntry → Type 0
-  ArePromised es = AreFrom prefix (entry_names es) × ((q : List ℕ) → starts_with nat_eq q prefix ≡ true → found_in es q ≡ at_name m q)
+  ArePromised es = AreFrom prefix (entry_names es) × (((q : List ℕ) → starts_with nat_eq q prefix ≡ true → found_in es q ≡ at_name m q) × ((q : List ℕ) → is_some (found_in es q) ≡ true → found_in es q ≡ at_name m q))
 
   module _ (sorted : AreLongSorted m.long.entries) where
     pub both_promised : (first : List ℕ) → first ≡ prefix → AreSorted m.short.entries → ArePromised (merged (short_range first) long_range)
     both_promised first is short_sorted =
         subst ArePromised (λ i. merged (sym (short_is first is) i) (sym long_is i))
-        (record { order = both_order (is_from prefix) m short_sorted sorted; from = both_pass (is_from prefix) m }, λ q h. both_found (is_from prefix) m q (prefix_first prefix q h))
+        (record { order = both_order (is_from prefix) m short_sorted sorted; from = both_pass (is_from prefix) m }, ((λ q h. both_found (is_from prefix) m q (prefix_first prefix q h)), both_only (is_from prefix) m))
 
     -- with a long prefix no name that begins with it is short
     pub long_promised : most_short < length prefix → ArePromised (merged [] long_range)
     unfolding merged
     long_promised many =
         subst ArePromised (sym long_is)
-        (record { order = long_order (is_from prefix) m sorted; from = long_passes (is_from prefix) m }, λ q h. long_begin q (prefix_fits prefix q h) (prefix_first prefix q h))
+        (record { order = long_order (is_from prefix) m sorted; from = long_passes (is_from prefix) m }, ((λ q h. long_begin q (prefix_fits prefix q h) (prefix_first prefix q h)), long_only_alone (is_from prefix) m))
       where
         long_begin : (q : List ℕ) → length prefix ≤ length q → is_from prefix q ≡ true → found_in (from_long (is_from prefix) m) q ≡ at_name m q
         long_begin q fits from = long_found_alone (is_from prefix) m q from (omega arith)

@@ -25,6 +25,7 @@ use Rattle.ctl_index.specs.Names.{keyed_atoms, namers_named}
 use Rattle.ctl_index.specs.Offers.{offers_named}
 use Rattle.ctl_index.specs.TablesByName.{offers_under, namers_under}
 use Rattle.ctl_index.specs.TablesIndexed.{IsIndexed, keyed_offers, keyed_offers_from, offer_named, atom_named}
+use Rattle.ctl_index.specs.TablesOrder.{namer_key}
 use Rattle.ctl_index.specs.TablesSight.{seen, offer_seen, in_store, AreSeen}
 use Rattle.ctl_index.specs.TablesViews.{offer_found, AreFound}
 use Rattle.ctl_index.proofs.ClauseLemmas.{same_field, nat_eq-is, nat_eq-refl}
@@ -93,23 +94,30 @@ zero_either false = refl
 -- ---- the atoms that name a name
 
 module _ (h : Held) (es : List Entry) (t : Tables) (was : IsIndexed es t) (sees : AreSeen (in_store h) es) (q : List ℕ) where
-  namers-sum : (f : AtomKey → ℕ) → sum_by f (namers_named q es) ≡ sum_by (λ (e : Entry). sum_by (atom_named q f) (keyed_atoms e)) es
+  -- the keys of those that the tables list
+  abbrev pub namer_keys : List AtomKey
+  namer_keys = map namer_key (namers_under t.names.map q)
+
+  keys-sum : (f : AtomKey → ℕ) → sum_by f namer_keys ≡ sum_by (λ (e : Entry). sum_by (atom_named q (λ n. f (namer_key n))) (keyed_atoms e)) es
+  keys-sum f = sum-map f namer_key (namers_under t.names.map q) ∙ was.namers q (λ n. f (namer_key n))
+
+  namers-sum : (f : AtomKey → ℕ) → sum_by f (namers_named q es) ≡ sum_by (λ (e : Entry). sum_by (atom_named q (λ n. f (namer_key n))) (keyed_atoms e)) es
   namers-sum f =
       let named : AtomKey × AtomParts → Bool = λ y. bytes_eq y.1.name q in
       sum-flat_map f (λ (e : Entry). map (λ (y : AtomKey × AtomParts). y.0) (filter named (keyed_atoms e))) es
       ∙ sum-cong _ _ (λ (e : Entry). sum-map f (λ (y : AtomKey × AtomParts). y.0) (filter named (keyed_atoms e)) ∙ sum-filter named (λ (y : AtomKey × AtomParts). f y.0) (keyed_atoms e)) es
 
-  pub namers_permuted : IsPermutation (namers_named q es) (namers_under t.names.map q)
-  namers_permuted = permutation_of_sums atom_same atom_exact atom_own (namers_named q es) (namers_under t.names.map q) (λ f. namers-sum f ∙ sym (was.namers q f))
+  pub namers_permuted : IsPermutation (namers_named q es) namer_keys
+  namers_permuted = permutation_of_sums atom_same atom_exact atom_own (namers_named q es) namer_keys (λ f. namers-sum f ∙ sym (keys-sum f))
 
   -- each is of a stanza that is there
-  pub namers_held : AllByRecursion (λ (k : AtomKey). is_some (stanza_at k.stanza (keyed_of h).lists) ≡ true) (namers_under t.names.map q)
+  pub namers_held : AllByRecursion (λ (k : AtomKey). is_some (stanza_at k.stanza (keyed_of h).lists) ≡ true) namer_keys
   namers_held =
       let there : StanzaKey → Bool = λ s. is_some (stanza_at s (keyed_of h).lists) in
-      all_pass (λ (k : AtomKey). there k.stanza) (namers_under t.names.map q)
-      (was.namers q (λ k. cond (there k.stanza) 0 1)
-      ∙ sum-none (λ (e : Entry). sum_by (atom_named q (λ k. cond (there k.stanza) 0 1)) (keyed_atoms e)) es
-      (all_map (λ (e : Entry). seen (in_store h) e.0 ≡ Some e.1) (λ (e : Entry). sum_by (atom_named q (λ k. cond (there k.stanza) 0 1)) (keyed_atoms e) ≡ 0) es
+      all_pass (λ (k : AtomKey). there k.stanza) namer_keys
+      (keys-sum (λ k. cond (there k.stanza) 0 1)
+      ∙ sum-none (λ (e : Entry). sum_by (atom_named q (λ n. cond (there n.stanza) 0 1)) (keyed_atoms e)) es
+      (all_map (λ (e : Entry). seen (in_store h) e.0 ≡ Some e.1) (λ (e : Entry). sum_by (atom_named q (λ n. cond (there n.stanza) 0 1)) (keyed_atoms e) ≡ 0) es
       (λ e here.
       own_atoms (λ s y. cond (bytes_eq y.1.name q) (cond (there s) 0 1) 0) e.0 e.1
       ∙ ap (λ b. sum_by (λ (y : AtomKey × AtomParts). cond (bytes_eq y.1.name q) (cond b 0 1) 0) (keyed_atoms e)) (ap is_some here)

@@ -1,10 +1,11 @@
 -- What stands under one name, as a caller is told of it.
-use Rattle.std.specs.Prelude.{Bool, List, [], Option, is_some}
+use Rattle.std.specs.Prelude.{Bool, List, [], map, Option, is_some}
 use Rattle.std.specs.Option.{option_map_or}
 use Rattle.ctl_store.specs.declared.stanza_key.StanzaKey.{StanzaKey}
 use Rattle.ctl_index.specs.declared.keys.AtomKey.{AtomKey}
 use Rattle.ctl_index.specs.declared.named.Named.{Named}
 use Rattle.ctl_index.specs.TablesByName.{named_offers, named_namers}
+use Rattle.ctl_index.specs.TablesOrder.{namer_key}
 use Rattle.ctl_index.specs.TablesViews.{shown_rows, offering}
 
 -- whether a name is known, its rows, newest first, each by the keys of its stanzas, the stanzas that offer it, and the atoms that
@@ -17,4 +18,4 @@ pub record NameStanding : Type 0 where
 
 -- what is told of the entry of a name, or of a name that has none
 abbrev pub name_standing : Option Named → NameStanding
-name_standing entry = record { is_known = is_some entry; rows = option_map_or shown_rows entry []; offering = offering (option_map_or named_offers entry []); namers = option_map_or named_namers entry [] }
+name_standing entry = record { is_known = is_some entry; rows = option_map_or shown_rows entry []; offering = offering (option_map_or named_offers entry []); namers = map namer_key (option_map_or named_namers entry []) }

@@ -1,21 +1,16 @@
 -- Short names: how the bytes of a name stand in a value of a fixed size.
-use Rattle.std.specs.Prelude.{◌≡◌, ℕ, zero, suc, ◌+◌, ◌*◌, ◌≤◌, List, [], ◌∷◌, ◌++◌, length, take, drop, slice_index}
+use Rattle.std.specs.Prelude.{◌≡◌, ℕ, ◌+◌, ◌*◌, ◌≤◌, List, [], ◌∷◌, ◌++◌, length, take, drop, slice_index}
+use Rattle.ctl_store.specs.Fronts.{filled}
 
 -- how many bytes a short name has at most
 abbrev pub most_short : ℕ
 most_short = 31
 
--- the bytes of a name in k places, with zeros behind them
-abbrev pub filled : ℕ → List ℕ → List ℕ
-filled zero name = []
-filled (suc k) [] = 0 ∷ filled k []
-filled (suc k) (byte ∷ bytes) = byte ∷ filled k bytes
-
 -- the name in these places, whose last has the number of its bytes
 abbrev pub held_name : List ℕ → List ℕ
 held_name places = take (slice_index places most_short) places
 
--- the places hold a name and the number of its bytes
+-- the places hold a name, with zeros behind it, and the number of its bytes
 pub record IsHeldIn (places name : List ℕ) : Type 0 where
   pub are : places ≡ filled most_short name ++ (length name ∷ [])
   pub few : length name ≤ most_short

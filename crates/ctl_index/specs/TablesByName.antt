@@ -10,7 +10,7 @@ use Rattle.std.specs.Str.{bytes_eq}
 use Rattle.ctl_store.specs.declared.stanza_key.StanzaKey.{StanzaKey}
 use Rattle.ctl_policy.specs.Chosen.{at_bytes}
 use Rattle.ctl_policy.specs.Rows.{Rows}
-use Rattle.ctl_index.specs.declared.keys.AtomKey.{AtomKey}
+use Rattle.ctl_index.specs.declared.keys.Namer.{Namer}
 use Rattle.ctl_index.specs.declared.keys.OfferKey.{OfferKey}
 use Rattle.ctl_index.specs.ShortName.{most_short}
 use Rattle.ctl_index.specs.contracts.name_map.NameMap.{the_row}
@@ -45,7 +45,7 @@ part_under part none m name = option_map_or part (at_name m name) none
 abbrev pub named_offers : Named → List OfferKey
 named_offers v = v.offers
 
-abbrev pub named_namers : Named → List AtomKey
+abbrev pub named_namers : Named → List Namer
 named_namers v = v.namers
 
 abbrev pub named_rows : Named → Rows
@@ -55,7 +55,7 @@ named_rows v = v.rows
 abbrev pub offers_under : NameMap → List ℕ → List OfferKey
 offers_under m name = part_under named_offers [] m name
 
-abbrev pub namers_under : NameMap → List ℕ → List AtomKey
+abbrev pub namers_under : NameMap → List ℕ → List Namer
 namers_under m name = part_under named_namers [] m name
 
 abbrev pub rows_under : NameMap → List ℕ → Rows

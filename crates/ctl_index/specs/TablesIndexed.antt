@@ -9,11 +9,13 @@ use Rattle.ctl_store.specs.declared.stanza_key.StanzaKey.{StanzaKey}
 use Rattle.ctl_store.specs.Entries.{Entry}
 use Rattle.ctl_index.specs.declared.keys.ClauseKey.{ClauseKey}
 use Rattle.ctl_index.specs.declared.keys.AtomKey.{AtomKey}
+use Rattle.ctl_index.specs.declared.keys.Namer.{Namer}
 use Rattle.ctl_index.specs.declared.keys.OfferKey.{OfferKey}
 use Rattle.ctl_index.specs.declared.tables.Tables.{Tables}
 use Rattle.ctl_index.specs.Clauses.{clause_cmp, number_at}
 use Rattle.ctl_index.specs.Names.{keyed_atoms}
 use Rattle.ctl_index.specs.TablesByName.{offers_under, namers_under}
+use Rattle.ctl_index.specs.TablesOrder.{namer_of}
 use Rattle.ctl_index.specs.TablesRows.{AreKept, AreRowsPut, AreRowsTaken}
 use Rattle.ctl_index.specs.TablesSight.{Seen, seen}
 use Rattle.ctl_index.specs.TablesSteps.{with_each, span_of, put_offers_step, put_atoms_step, take_offers_step, take_atoms_step, raise_step, lower_step, enter_step, drop_step, offers_tested, atoms_tested}
@@ -30,14 +32,14 @@ keyed_offers e = keyed_offers_from e.0 0 (offers_of e.1)
 abbrev pub offer_named : List ℕ → (OfferKey → ℕ) → OfferKey × OfferParts → ℕ
 offer_named q f x = if bytes_eq x.1.name q then f x.0 else 0
 
-abbrev pub atom_named : List ℕ → (AtomKey → ℕ) → AtomKey × AtomParts → ℕ
-atom_named q f x = if bytes_eq x.1.name q then f x.0 else 0
+abbrev pub atom_named : List ℕ → (Namer → ℕ) → AtomKey × AtomParts → ℕ
+atom_named q f x = if bytes_eq x.1.name q then f (namer_of x.0 x.1) else 0
 
--- Under each name stand the keys of its offers and of its atoms, each as often as it is there, in any order: any sum over
+-- Under each name stand the keys of its offers, and of its atoms with what is kept of their bounds, each as often as it is there, in any order: any sum over
 -- them is that over the stanzas. Each clause has its number, and no other key has one. The rows are those of the stanzas.
 pub record IsIndexed (es : List Entry) (t : Tables) : Type 0 where
   pub offers : (q : List ℕ) (f : OfferKey → ℕ) → sum_by f (offers_under t.names.map q) ≡ sum_by (λ (e : Entry). sum_by (offer_named q f) (keyed_offers e)) es
-  pub namers : (q : List ℕ) (f : AtomKey → ℕ) → sum_by f (namers_under t.names.map q) ≡ sum_by (λ (e : Entry). sum_by (atom_named q f) (keyed_atoms e)) es
+  pub namers : (q : List ℕ) (f : Namer → ℕ) → sum_by f (namers_under t.names.map q) ≡ sum_by (λ (e : Entry). sum_by (atom_named q f) (keyed_atoms e)) es
   pub counters : (k : ClauseKey) → get clause_cmp t.counters.numbers k ≡ number_at k es
   pub rows : AreKept es t.names.map
 
@@ -47,7 +49,7 @@ pub record IsIndexed (es : List Entry) (t : Tables) : Type 0 where
 abbrev pub offers_put : Seen → List StanzaKey → Tables → List ℕ → List OfferKey
 offers_put s keys old q = with_each (seen s) (put_offers_step q) keys (offers_under old.names.map q)
 
-abbrev pub namers_put : Seen → List StanzaKey → Tables → List ℕ → List AtomKey
+abbrev pub namers_put : Seen → List StanzaKey → Tables → List ℕ → List Namer
 namers_put s keys old q = with_each (seen s) (put_atoms_step q) keys (namers_under old.names.map q)
 
 -- the number of a clause: that of one that stood is raised, and those that come have theirs
@@ -70,7 +72,7 @@ tests_put_in s keys old = offers_tested s (namers_under old.names.map) keys + at
 abbrev pub offers_taken : Seen → List StanzaKey → Tables → List ℕ → List OfferKey
 offers_taken s keys old q = with_each (seen s) (take_offers_step (span_of keys) q) keys (offers_under old.names.map q)
 
-abbrev pub namers_taken : Seen → List StanzaKey → Tables → List ℕ → List AtomKey
+abbrev pub namers_taken : Seen → List StanzaKey → Tables → List ℕ → List Namer
 namers_taken s keys old q = with_each (seen s) (take_atoms_step (span_of keys) q) keys (namers_under old.names.map q)
 
 -- the number of a clause: those of theirs go, and that of one that stays is lowered

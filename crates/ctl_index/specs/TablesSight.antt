@@ -2,7 +2,7 @@
 use Rattle.std.specs.Prelude.{ℕ, ◌&&◌, ◌≡◌, List, slice_get, Option, None, Some, if◌then◌else◌}
 use Rattle.std.specs.List.{sum_by, AllByRecursion}
 use Rattle.ctl_relation.specs.declared.field_kind.FieldKind.{FieldKind}
-use Rattle.std.specs.Option.{option_and_then, option_map_or, option_or}
+use Rattle.std.specs.Option.{option_and_then, option_map, option_map_or, option_or}
 use Rattle.std.specs.Ordering.{is_eq}
 use Rattle.ctl_relation.specs.Parts.{AtomParts, OfferParts}
 use Rattle.ctl_relation.specs.Met.{met}
@@ -14,8 +14,11 @@ use Rattle.ctl_store.specs.Followed.{coming_under}
 use Rattle.ctl_store.specs.Held.{Held, Planned, keyed_of}
 use Rattle.ctl_index.specs.declared.keys.ClauseKey.{ClauseKey}
 use Rattle.ctl_index.specs.declared.keys.AtomKey.{AtomKey}
+use Rattle.ctl_index.specs.declared.keys.Namer.{Namer}
 use Rattle.ctl_index.specs.declared.keys.OfferKey.{OfferKey}
 use Rattle.ctl_index.specs.Clauses.{is_clause_field, clause_cmp}
+use Rattle.ctl_index.specs.KeptBound.{with_bound}
+use Rattle.ctl_index.specs.TablesOrder.{namer_key}
 
 -- a store, and a plan whose stanzas come, if there is one
 pub record Seen : Type 0 where
@@ -49,12 +52,16 @@ atom_tested s field offers = if is_clause_field field then sum_by (tested_by s) 
 abbrev pub clause_key : AtomKey → ClauseKey
 clause_key k = record { stanza = k.stanza; field = k.field; group = k.group }
 
--- whether an atom under a key is of the clause and met by the offer, and whether it is tested, as numbers
-abbrev pub hit : Seen → OfferParts → ClauseKey → AtomKey → ℕ
-hit s offer k a = option_map_or (λ atom. if (is_clause_field a.field && met atom offer) && is_eq (clause_cmp (clause_key a) k) then 1 else 0) (atom_seen s a) 0
+-- The atom of a namer of this name: with the bound that is kept, else the one that is seen. A qualifier plays no part in a test.
+abbrev pub atom_told : Seen → List ℕ → Namer → Option AtomParts
+atom_told s name namer = option_or (option_map (with_bound name) namer.bound) (atom_seen s (namer_key namer))
 
-abbrev pub tested : Seen → AtomKey → ℕ
-tested s a = option_map_or (λ (atom : AtomParts). if is_clause_field a.field then 1 else 0) (atom_seen s a) 0
+-- whether the atom of a namer is of the clause and met by the offer, and whether it is tested against offers of this name, as numbers
+abbrev pub hit : Seen → OfferParts → ClauseKey → Namer → ℕ
+hit s offer k namer = option_map_or (λ atom. if (is_clause_field namer.field && met atom offer) && is_eq (clause_cmp (clause_key (namer_key namer)) k) then 1 else 0) (atom_told s offer.name namer) 0
+
+abbrev pub tested : Seen → List ℕ → Namer → ℕ
+tested s name namer = option_map_or (λ (atom : AtomParts). if is_clause_field namer.field then 1 else 0) (atom_told s name namer) 0
 
 -- ---- a store alone, and with a plan
 

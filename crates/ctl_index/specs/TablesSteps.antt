@@ -12,10 +12,10 @@ use Rattle.ctl_store.specs.Keys.{key_of}
 use Rattle.ctl_policy.specs.Keys.{with_key, without_key, or_none, some_keys}
 use Rattle.ctl_policy.specs.Rows.{is_in_row}
 use Rattle.ctl_index.specs.declared.keys.ClauseKey.{ClauseKey}
-use Rattle.ctl_index.specs.declared.keys.AtomKey.{AtomKey}
+use Rattle.ctl_index.specs.declared.keys.Namer.{Namer}
 use Rattle.ctl_index.specs.declared.keys.OfferKey.{OfferKey}
 use Rattle.ctl_index.specs.declared.span.Span.{Span}
-use Rattle.ctl_index.specs.TablesOrder.{offer_stanza, atom_stanza, put_in_order, others}
+use Rattle.ctl_index.specs.TablesOrder.{offer_stanza, namer_of, namer_stanza, put_in_order, others}
 use Rattle.ctl_index.specs.Clauses.{is_clause_field, clause_cmp}
 use Rattle.ctl_index.specs.Names.{naming_fields}
 use Rattle.ctl_index.specs.TablesSight.{Seen, seen, hit, tested, atom_met, atom_tested}
@@ -26,15 +26,15 @@ abbrev pub listed_offers : StanzaKey → List ℕ → ℕ → List OfferParts �
 listed_offers key q n [] xs = xs
 listed_offers key q n (offer ∷ offers) xs = listed_offers key q (suc n) offers (if bytes_eq offer.name q then put_in_order offer_stanza (record { stanza = key; place = n }) xs else xs)
 
-abbrev pub listed_group : StanzaKey → FieldKind → ℕ → List ℕ → ℕ → List AtomParts → List AtomKey → List AtomKey
+abbrev pub listed_group : StanzaKey → FieldKind → ℕ → List ℕ → ℕ → List AtomParts → List Namer → List Namer
 listed_group key field group q n [] xs = xs
-listed_group key field group q n (atom ∷ atoms) xs = listed_group key field group q (suc n) atoms (if bytes_eq atom.name q then put_in_order atom_stanza (record { stanza = key; field = field; group = group; atom = n }) xs else xs)
+listed_group key field group q n (atom ∷ atoms) xs = listed_group key field group q (suc n) atoms (if bytes_eq atom.name q then put_in_order namer_stanza (namer_of (record { stanza = key; field = field; group = group; atom = n }) atom) xs else xs)
 
-abbrev pub listed_groups : StanzaKey → FieldKind → List ℕ → ℕ → List (List AtomParts) → List AtomKey → List AtomKey
+abbrev pub listed_groups : StanzaKey → FieldKind → List ℕ → ℕ → List (List AtomParts) → List Namer → List Namer
 listed_groups key field q n [] xs = xs
 listed_groups key field q n (group ∷ groups) xs = listed_groups key field q (suc n) groups (listed_group key field n q 0 group xs)
 
-abbrev pub listed_fields : StanzaKey → Content → List ℕ → List FieldKind → List AtomKey → List AtomKey
+abbrev pub listed_fields : StanzaKey → Content → List ℕ → List FieldKind → List Namer → List Namer
 listed_fields key stanza q [] xs = xs
 listed_fields key stanza q (field ∷ fields) xs = listed_fields key stanza q fields (listed_groups key field q 0 (groups_of field stanza) xs)
 
@@ -44,15 +44,15 @@ abbrev pub left_offers : Span → List ℕ → List OfferParts → List OfferKey
 left_offers span q [] xs = xs
 left_offers span q (offer ∷ offers) xs = left_offers span q offers (if bytes_eq offer.name q then others offer_stanza span xs else xs)
 
-abbrev pub left_group : Span → List ℕ → List AtomParts → List AtomKey → List AtomKey
+abbrev pub left_group : Span → List ℕ → List AtomParts → List Namer → List Namer
 left_group span q [] xs = xs
-left_group span q (atom ∷ atoms) xs = left_group span q atoms (if bytes_eq atom.name q then others atom_stanza span xs else xs)
+left_group span q (atom ∷ atoms) xs = left_group span q atoms (if bytes_eq atom.name q then others namer_stanza span xs else xs)
 
-abbrev pub left_groups : Span → List ℕ → List (List AtomParts) → List AtomKey → List AtomKey
+abbrev pub left_groups : Span → List ℕ → List (List AtomParts) → List Namer → List Namer
 left_groups span q [] xs = xs
 left_groups span q (group ∷ groups) xs = left_groups span q groups (left_group span q group xs)
 
-abbrev pub left_fields : Span → Content → List ℕ → List FieldKind → List AtomKey → List AtomKey
+abbrev pub left_fields : Span → Content → List ℕ → List FieldKind → List Namer → List Namer
 left_fields span stanza q [] xs = xs
 left_fields span stanza q (field ∷ fields) xs = left_fields span stanza q fields (left_groups span q (groups_of field stanza) xs)
 
@@ -91,18 +91,18 @@ abbrev pub dropped_fields : StanzaKey → Content → List FieldKind → ClauseK
 dropped_fields key stanza [] k old = old
 dropped_fields key stanza (field ∷ fields) k old = dropped_fields key stanza fields k (dropped_groups key field 0 (groups_of field stanza) k old)
 
--- ---- the counters, where offers come or go and these atoms stand under the names
+-- ---- the counters, where offers come or go and these namers stand under the names
 
-abbrev pub raised : Seen → (List ℕ → List AtomKey) → List OfferParts → ClauseKey → Option ℕ → Option ℕ
-raised s atoms [] k old = old
-raised s atoms (offer ∷ offers) k old = raised s atoms offers k (option_map (λ n. n + sum_by (hit s offer k) (atoms offer.name)) old)
+abbrev pub raised : Seen → (List ℕ → List Namer) → List OfferParts → ClauseKey → Option ℕ → Option ℕ
+raised s namers [] k old = old
+raised s namers (offer ∷ offers) k old = raised s namers offers k (option_map (λ n. n + sum_by (hit s offer k) (namers offer.name)) old)
 
-abbrev pub lowered : Seen → (List ℕ → List AtomKey) → List OfferParts → ClauseKey → Option ℕ → Option ℕ
-lowered s atoms [] k old = old
-lowered s atoms (offer ∷ offers) k old = lowered s atoms offers k (option_map (λ n. n - sum_by (hit s offer k) (atoms offer.name)) old)
+abbrev pub lowered : Seen → (List ℕ → List Namer) → List OfferParts → ClauseKey → Option ℕ → Option ℕ
+lowered s namers [] k old = old
+lowered s namers (offer ∷ offers) k old = lowered s namers offers k (option_map (λ n. n - sum_by (hit s offer k) (namers offer.name)) old)
 
-abbrev pub all_tested : Seen → (List ℕ → List AtomKey) → List OfferParts → ℕ
-all_tested s atoms offers = sum_by (λ (offer : OfferParts). sum_by (tested s) (atoms offer.name)) offers
+abbrev pub all_tested : Seen → (List ℕ → List Namer) → List OfferParts → ℕ
+all_tested s namers offers = sum_by (λ (offer : OfferParts). sum_by (tested s offer.name) (namers offer.name)) offers
 
 -- ---- several stanzas
 
@@ -122,13 +122,13 @@ of_found find f key = option_map_or f (find key) 0
 abbrev pub put_offers_step : List ℕ → StanzaKey → Content → List OfferKey → List OfferKey
 put_offers_step q key x xs = listed_offers key q 0 (offers_of x) xs
 
-abbrev pub put_atoms_step : List ℕ → StanzaKey → Content → List AtomKey → List AtomKey
+abbrev pub put_atoms_step : List ℕ → StanzaKey → Content → List Namer → List Namer
 put_atoms_step q key x xs = listed_fields key x q naming_fields xs
 
 abbrev pub take_offers_step : Span → List ℕ → StanzaKey → Content → List OfferKey → List OfferKey
 take_offers_step span q key x xs = left_offers span q (offers_of x) xs
 
-abbrev pub take_atoms_step : Span → List ℕ → StanzaKey → Content → List AtomKey → List AtomKey
+abbrev pub take_atoms_step : Span → List ℕ → StanzaKey → Content → List Namer → List Namer
 take_atoms_step span q key x xs = left_fields span x q naming_fields xs
 
 -- The row of a version of a name, where the key of a stanza comes or goes: a live one of the name and the version changes it.
@@ -138,11 +138,11 @@ put_rows_step q version key x row = if is_in_row q version x then Some (with_key
 abbrev pub take_rows_step : List ℕ → List ℕ → StanzaKey → Content → Option (List StanzaKey) → Option (List StanzaKey)
 take_rows_step q version key x row = if is_in_row q version x then some_keys (without_key key (or_none row)) else row
 
-abbrev pub raise_step : Seen → (List ℕ → List AtomKey) → ClauseKey → StanzaKey → Content → Option ℕ → Option ℕ
-raise_step s atoms k key x old = raised s atoms (offers_of x) k old
+abbrev pub raise_step : Seen → (List ℕ → List Namer) → ClauseKey → StanzaKey → Content → Option ℕ → Option ℕ
+raise_step s namers k key x old = raised s namers (offers_of x) k old
 
-abbrev pub lower_step : Seen → (List ℕ → List AtomKey) → ClauseKey → StanzaKey → Content → Option ℕ → Option ℕ
-lower_step s atoms k key x old = lowered s atoms (offers_of x) k old
+abbrev pub lower_step : Seen → (List ℕ → List Namer) → ClauseKey → StanzaKey → Content → Option ℕ → Option ℕ
+lower_step s namers k key x old = lowered s namers (offers_of x) k old
 
 abbrev pub enter_step : Seen → (List ℕ → List OfferKey) → ClauseKey → StanzaKey → Content → Option ℕ → Option ℕ
 enter_step s offers k key x old = entered_fields s offers key x naming_fields k old
@@ -151,11 +151,11 @@ abbrev pub drop_step : ClauseKey → StanzaKey → Content → Option ℕ → Op
 drop_step k key x old = dropped_fields key x naming_fields k old
 
 -- how many tests the offers, or the atoms, of these stanzas make
-abbrev pub offers_tests : Seen → (List ℕ → List AtomKey) → Content → ℕ
-offers_tests s atoms x = all_tested s atoms (offers_of x)
+abbrev pub offers_tests : Seen → (List ℕ → List Namer) → Content → ℕ
+offers_tests s namers x = all_tested s namers (offers_of x)
 
-abbrev pub offers_tested : Seen → (List ℕ → List AtomKey) → List StanzaKey → ℕ
-offers_tested s atoms keys = sum_by (of_found (seen s) (offers_tests s atoms)) keys
+abbrev pub offers_tested : Seen → (List ℕ → List Namer) → List StanzaKey → ℕ
+offers_tested s namers keys = sum_by (of_found (seen s) (offers_tests s namers)) keys
 
 abbrev pub atoms_tested : Seen → (List ℕ → List OfferKey) → List StanzaKey → ℕ
 atoms_tested s offers keys = sum_by (of_found (seen s) (fields_tested s offers naming_fields)) keys

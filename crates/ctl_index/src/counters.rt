@@ -184,7 +184,7 @@ impl Counters {
                 let Some(more) = n.checked_add(1) else {
                     return Err(AllocError);
                 };
-                note(&mut self.unmet, key, *n == 0, false)?;
+                unmark(&mut self.unmet, key, *n == 0);
                 *n = more;
                 Ok(())
             }

@@ -1,6 +1,6 @@
 //! Names with what stands under them, lent in order.
 
-ghost use Rattle.std.specs.Prelude.{◌≡◌, ℕ, List, [], true, nat_eq, map, unwrap_or, MatchOption};
+ghost use Rattle.std.specs.Prelude.{◌≡◌, ℕ, List, [], true, is_some, nat_eq, map, unwrap_or, MatchOption};
 ghost use Rattle.std.specs.List.{starts_with};
 ghost use Rattle.std.specs.List.Sorted.{IsStrictlySortedBy};
 ghost use Rattle.std.specs.Cmp.Lexicographic.{slice_cmp};
@@ -114,6 +114,7 @@ impl NameMap {
     pub(crate) fn entries_from(&self, prefix: &Vec<u8>) -> NameEntries<'_>
         ensures order { AreFrom prefix.now.items (entry_names result) }
         ensures found { (q : List ℕ) → starts_with nat_eq q prefix.now.items ≡ true → found_in result q ≡ at_name self.now q }
+        ensures only { (q : List ℕ) → is_some (found_in result q) ≡ true → found_in result q ≡ at_name self.now q }
     {
         let short = match ShortName::of(prefix) {
             Some(first) => Some(self.short.range(&first..)),

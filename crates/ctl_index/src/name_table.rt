@@ -14,14 +14,14 @@ ghost use Rattle.ctl_index.specs.TablesByName.{at_name, HoldsNothing, offers_und
 ghost use Rattle.ctl_index.specs.TablesSight.{hit, tested, atom_met, atom_tested};
 ghost use Rattle.ctl_index.specs.NameMap.{entry_names, found_in};
 ghost use Rattle.ctl_index.specs.TablesViews.{AreFrom};
-ghost use Rattle.ctl_index.specs.TablesOrder.{others, offer_stanza, put_in_order, atom_stanza};
+ghost use Rattle.ctl_index.specs.TablesOrder.{others, offer_stanza, put_in_order, namer_of, namer_stanza};
 ghost use Rattle.ctl_index.specs.Work.{more_by};
 ghost use Rattle.ctl_index.specs.declared.keys.ClauseKey.{ClauseKey};
 
 use crate::counters::Counters;
 use crate::counting::{count_tested, meet, part};
 use crate::key_list::KeyList;
-use crate::keys::{AtomKey, OfferKey};
+use crate::keys::{AtomKey, Namer, OfferKey};
 use crate::name_entries::NameEntries;
 use crate::name_map::NameMap;
 use crate::named::{Named, is_used};
@@ -63,6 +63,7 @@ impl NameTable {
     pub(crate) fn entries_from(&self, prefix: &Vec<u8>) -> NameEntries<'_>
         ensures order { AreFrom prefix.now.items (entry_names result) }
         ensures found { (q : List ℕ) → starts_with nat_eq q prefix.now.items ≡ true → found_in result q ≡ at_name self.now.map q }
+        ensures only { (q : List ℕ) → is_some (found_in result q) ≡ true → found_in result q ≡ at_name self.now.map q }
     {
         self.map.entries_from(prefix)
     }
@@ -78,7 +79,7 @@ impl NameTable {
     }
 
     /// The atoms that name a name.
-    pub(crate) fn namers(&self, name: &[u8]) -> &[AtomKey]
+    pub(crate) fn namers(&self, name: &[u8]) -> &[Namer]
         ensures { result.now ≡ namers_under self.now.map name.now }
     {
         match self.map.get(name) {
@@ -138,8 +139,8 @@ impl NameTable {
         ensures namers { OnOk result ((q : List ℕ) → namers_under self.new.map q ≡ namers_under self.old.map q) }
         ensures rows { OnOk result ((q : List ℕ) → rows_under self.new.map q ≡ rows_under self.old.map q) }
         ensures counts { OnOk result ((k : ClauseKey) → get clause_cmp counters.new.numbers k ≡ option_map (λ n. n + sum_by (hit sight.now offer.now k) (namers_under self.old.map offer.now.name)) (get clause_cmp counters.old.numbers k)) }
-        ensures steps { OnOk result (steps.new ≡ more_by (sum_by (tested sight.now) (namers_under self.old.map offer.now.name)) steps.old) }
-        ensures most { steps.new ≤ more_by (sum_by (tested sight.now) (namers_under self.old.map offer.now.name)) steps.old }
+        ensures steps { OnOk result (steps.new ≡ more_by (sum_by (tested sight.now offer.now.name) (namers_under self.old.map offer.now.name)) steps.old) }
+        ensures most { steps.new ≤ more_by (sum_by (tested sight.now offer.now.name) (namers_under self.old.map offer.now.name)) steps.old }
     {
         let _count = steps.count();
         match self.map.get_mut(offer.name()) {
@@ -168,7 +169,7 @@ impl NameTable {
         atom: &Atom<'_>,
         steps: &mut Steps,
     ) -> Result<usize, AllocError>
-        ensures namers { OnOk result ((q : List ℕ) → namers_under self.new.map q ≡ (if bytes_eq atom.now.name q then put_in_order atom_stanza key (namers_under self.old.map q) else namers_under self.old.map q)) }
+        ensures namers { OnOk result ((q : List ℕ) → namers_under self.new.map q ≡ (if bytes_eq atom.now.name q then put_in_order namer_stanza (namer_of key atom.now) (namers_under self.old.map q) else namers_under self.old.map q)) }
         ensures offers { OnOk result ((q : List ℕ) → offers_under self.new.map q ≡ offers_under self.old.map q) }
         ensures rows { OnOk result ((q : List ℕ) → rows_under self.new.map q ≡ rows_under self.old.map q) }
         ensures met { IfOk result (λ met. met ≡ atom_met sight.now key.field atom.now (offers_under self.old.map atom.now.name)) }
@@ -179,13 +180,13 @@ impl NameTable {
         let _count = steps.count();
         match self.map.get_mut(atom.name()) {
             Some(named) => {
-                named.namers.put(key)?;
+                named.namers.put(Namer::new(key, atom))?;
                 Ok(count_tested(sight, key.field, atom, named.offers.as_slice(), steps))
             }
             None => {
                 let named = Named {
                     offers: KeyList::new(alloc),
-                    namers: KeyList::of_one(alloc, key)?,
+                    namers: KeyList::of_one(alloc, Namer::new(key, atom))?,
                     rows: Rows::new(alloc),
                 };
                 self.insert(alloc, atom.name(), named)?;
@@ -204,7 +205,7 @@ impl NameTable {
         atom: &Atom<'_>,
         steps: &mut Steps,
     )
-        ensures namers { (q : List ℕ) → namers_under self.new.map q ≡ (if bytes_eq atom.now.name q then others atom_stanza span (namers_under self.old.map q) else namers_under self.old.map q) }
+        ensures namers { (q : List ℕ) → namers_under self.new.map q ≡ (if bytes_eq atom.now.name q then others namer_stanza span (namers_under self.old.map q) else namers_under self.old.map q) }
         ensures offers { (q : List ℕ) → offers_under self.new.map q ≡ offers_under self.old.map q }
         ensures rows { (q : List ℕ) → rows_under self.new.map q ≡ rows_under self.old.map q }
         ensures steps { steps.new ≡ more_by (atom_tested sight.now field (offers_under self.old.map atom.now.name)) steps.old }
@@ -233,8 +234,8 @@ impl NameTable {
         ensures namers { OnOk result ((q : List ℕ) → namers_under self.new.map q ≡ namers_under self.old.map q) }
         ensures rows { OnOk result ((q : List ℕ) → rows_under self.new.map q ≡ rows_under self.old.map q) }
         ensures counts { OnOk result ((k : ClauseKey) → get clause_cmp counters.new.numbers k ≡ option_map (λ n. n - sum_by (hit sight.now offer.now k) (namers_under self.old.map offer.now.name)) (get clause_cmp counters.old.numbers k)) }
-        ensures steps { OnOk result (steps.new ≡ more_by (sum_by (tested sight.now) (namers_under self.old.map offer.now.name)) steps.old) }
-        ensures most { steps.new ≤ more_by (sum_by (tested sight.now) (namers_under self.old.map offer.now.name)) steps.old }
+        ensures steps { OnOk result (steps.new ≡ more_by (sum_by (tested sight.now offer.now.name) (namers_under self.old.map offer.now.name)) steps.old) }
+        ensures most { steps.new ≤ more_by (sum_by (tested sight.now offer.now.name) (namers_under self.old.map offer.now.name)) steps.old }
     {
         let _count = steps.count();
         let Some(named) = self.map.get_mut(offer.name()) else {

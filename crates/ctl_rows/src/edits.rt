@@ -1,6 +1,6 @@
 //! Edits, and what scripts with them write.
 
-use crate::tables::each_writes;
+use crate::tables::{each_writes, each_writes_behind};
 use std::test::Fail;
 
 #[test]
@@ -587,6 +587,122 @@ remove m v 1
 remove m v 1~-0
 =>
 E: line 5: no such stanza
+",
+    )
+}
+
+// What is kept of a bound beside its atom is its version of at most 12 bytes.
+#[test]
+fn bounds_of_12_bytes_and_of_more(rt: HostRuntime) -> Result<(), Fail> {
+    each_writes_behind(
+        &rt,
+        b"add-list m packages\nPackage: a\nVersion: 1\nDepends: lib (>= 1.2.3.4.5-67), lib (>= 1.2.3.4.5-678), lib:any (<< 1.2.3.4.5-67)\nRecommends: lib | other (= 1.2.3.4.5-678), other (= 1.2.3.4.5-678) | lib (<= 1.2.3.4.5-67)\n.\n",
+        b"
+unmet
+=>
+Package a version 1 has an unmet dep:
+ Depends: lib (>= 1.2.3.4.5-67)
+ Depends: lib (>= 1.2.3.4.5-678)
+ Depends: lib:any (<< 1.2.3.4.5-67)
+ Recommends: lib | other (= 1.2.3.4.5-678)
+ Recommends: other (= 1.2.3.4.5-678) | lib (<= 1.2.3.4.5-67)
+--
+put m
+Package: lib
+Version: 1.2.3.4.5-66
+.
+unmet
+=>
+Package a version 1 has an unmet dep:
+ Depends: lib (>= 1.2.3.4.5-67)
+ Depends: lib (>= 1.2.3.4.5-678)
+--
+put m
+Package: lib
+Version: 1.2.3.4.5-67
+.
+unmet
+=>
+Package a version 1 has an unmet dep:
+ Depends: lib (>= 1.2.3.4.5-678)
+ Depends: lib:any (<< 1.2.3.4.5-67)
+--
+put m
+Package: lib
+Version: 1.2.3.4.5-678
+.
+unmet
+=>
+Package a version 1 has an unmet dep:
+ Depends: lib:any (<< 1.2.3.4.5-67)
+ Recommends: other (= 1.2.3.4.5-678) | lib (<= 1.2.3.4.5-67)
+--
+put m
+Package: lib
+Version: 1.2.3.4.5-66
+.
+put m
+Package: lib
+Version: 1.2.3.4.5-678
+.
+remove m lib 1.2.3.4.5-66
+unmet
+=>
+Package a version 1 has an unmet dep:
+ Depends: lib:any (<< 1.2.3.4.5-67)
+ Recommends: other (= 1.2.3.4.5-678) | lib (<= 1.2.3.4.5-67)
+--
+put m
+Package: lib
+Version: 1.2.3.4.5-67
+.
+remove m lib 1.2.3.4.5-67
+unmet
+=>
+Package a version 1 has an unmet dep:
+ Depends: lib (>= 1.2.3.4.5-67)
+ Depends: lib (>= 1.2.3.4.5-678)
+ Depends: lib:any (<< 1.2.3.4.5-67)
+ Recommends: lib | other (= 1.2.3.4.5-678)
+ Recommends: other (= 1.2.3.4.5-678) | lib (<= 1.2.3.4.5-67)
+--
+put m
+Package: c
+Version: 1
+Provides: lib (= 1.2.3.4.5-678), other
+.
+unmet
+=>
+Package a version 1 has an unmet dep:
+ Depends: lib:any (<< 1.2.3.4.5-67)
+ Recommends: other (= 1.2.3.4.5-678) | lib (<= 1.2.3.4.5-67)
+--
+put m
+Package: c
+Version: 1
+Provides: lib (= 1.2.3.4.5-678), other
+.
+put m
+Package: lib
+Version: 1.2.3.4.5-66
+.
+unmet
+=>
+--
+put m
+Package: c
+Version: 1
+Provides: lib (= 1.2.3.4.5-678), other
+.
+remove m c 1
+unmet
+=>
+Package a version 1 has an unmet dep:
+ Depends: lib (>= 1.2.3.4.5-67)
+ Depends: lib (>= 1.2.3.4.5-678)
+ Depends: lib:any (<< 1.2.3.4.5-67)
+ Recommends: lib | other (= 1.2.3.4.5-678)
+ Recommends: other (= 1.2.3.4.5-678) | lib (<= 1.2.3.4.5-67)
 ",
     )
 }

@@ -159,9 +159,8 @@ impl Cache {
         ensures members { (name : List ℕ) → list_any (bytes_eq name) result ≡ has_row name (keyed_of self.now.store).lists }
     {
         names_with_rows_are_kept();
-        Packages {
-            keys: self.chosen.keys(),
-        }
+        let keys = self.chosen.keys();
+        Packages { keys }
     }
 
     /// What is chosen of a name: the leads of the row that is installed and of the candidate.

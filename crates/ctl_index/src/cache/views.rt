@@ -11,11 +11,12 @@ ghost use Rattle.ctl_index.specs.Clauses.{clause_cmp, clause_at, number_at, unme
 ghost use Rattle.ctl_index.specs.Held.{standing};
 ghost use Rattle.ctl_index.specs.Names.{known_names, namers_named};
 ghost use Rattle.ctl_index.specs.Offers.{offers_named};
+ghost use Rattle.ctl_index.specs.TablesOrder.{namer_key};
 ghost use Rattle.ctl_index.specs.TablesViews.{offering};
 ghost use Rattle.ctl_index.specs.Work.{stanzas_of_state};
 
 use crate::cache::Cache;
-use crate::keys::{AtomKey, ClauseKey, OfferKey};
+use crate::keys::{AtomKey, ClauseKey, Namer, OfferKey};
 use crate::name_entries::NameEntries;
 use crate::sight::{Sight, offer_at};
 use ctl_relation::Offer;
@@ -145,24 +146,25 @@ impl<'a> Iterator for Offering<'a> {
 /// The atoms that name a name, by [`Cache::namers`].
 #[derive(Drop)]
 pub struct Namers<'a> {
-    keys: &'a [AtomKey],
+    namers: &'a [Namer],
 }
 
 impl<'a> Model for Namers<'a> {
-    ghost use Rattle.std.specs.Prelude.{List};
+    ghost use Rattle.std.specs.Prelude.{List, map};
     ghost use Rattle.ctl_index.specs.declared.keys.AtomKey.{AtomKey};
+    ghost use Rattle.ctl_index.specs.TablesOrder.{namer_key};
 
     ghost Value = { List AtomKey };
 
-    ghost view = { λ it. it.keys.now };
+    ghost view = { λ it. map namer_key it.namers.now };
 }
 
 impl<'a> Namers<'a> {
-    /// The atoms of these keys.
-    pub(crate) fn new(keys: &'a [AtomKey]) -> Namers<'a>
-        ensures { result ≡ keys.now }
+    /// The atoms of these namers.
+    pub(crate) fn new(namers: &'a [Namer]) -> Namers<'a>
+        ensures { result ≡ map namer_key namers.now }
     {
-        Namers { keys }
+        Namers { namers }
     }
 }
 
@@ -176,9 +178,9 @@ impl<'a> Iterator for Namers<'a> {
     type Item = AtomKey;
 
     fn next(&mut self) -> Option<AtomKey> {
-        let (key, rest) = self.keys.split_first()?;
-        self.keys = rest;
-        Some(*key)
+        let (namer, rest) = self.namers.split_first()?;
+        self.namers = rest;
+        Some(namer.key())
     }
 }
 
@@ -241,9 +243,8 @@ impl Cache {
         requires { self.now.stale ≡ false }
         ensures { result ≡ known_names (stanzas_of_state (state_of self.now.store)) }
     {
-        Names {
-            entries: self.tables.names.entries(),
-        }
+        let entries = self.tables.names.entries();
+        Names { entries }
     }
 
     /// The offers of a name, in any order.
@@ -268,9 +269,7 @@ impl Cache {
     {
         // That the keys rise is said here.
         let _counts = self.store.counts();
-        Namers {
-            keys: self.tables.names.namers(name),
-        }
+        Namers::new(self.tables.names.namers(name))
     }
 
     /// The number of a clause, which is one of the store: how many pairs of one of its atoms and an offer meet.
@@ -293,9 +292,8 @@ impl Cache {
     {
         // That the keys rise is said here.
         let _counts = self.store.counts();
-        UnmetClauses {
-            keys: self.tables.counters.unmet().iter(),
-        }
+        let keys = self.tables.counters.unmet().iter();
+        UnmetClauses { keys }
     }
 
     /// The number of each clause.

@@ -1,7 +1,7 @@
 use Rattle.std.proofs.Common.{◌≡◌, ◌<◌, List, ℕ, length, ap, arith, get_or}
 use Rattle.std.proofs.lemmas.List.Sums.{sum_by_more_le}
 use Rattle.ctl_store.specs.declared.stanza_key.StanzaKey.{StanzaKey}
-use Rattle.ctl_index.specs.declared.keys.AtomKey.{AtomKey}
+use Rattle.ctl_index.specs.declared.keys.Namer.{Namer}
 use Rattle.ctl_index.specs.TablesByName.{namers_under}
 use Rattle.ctl_index.specs.TablesSight.{seen}
 use Rattle.ctl_index.specs.TablesSteps.{of_found, offers_tests}
@@ -14,7 +14,7 @@ returns-in_err-take_offers_at-clause-most c =
     let i = c.loop-key.key-index in
     let d : StanzaKey = record { list = 0; stanza = 0 } in
     let below : i < length keys = omega arith in
-    let f : (List ℕ → List AtomKey) → StanzaKey → ℕ = λ t. of_found (seen s) (offers_tests s t) in
+    let f : (List ℕ → List Namer) → StanzaKey → ℕ = λ t. of_found (seen s) (offers_tests s t) in
     let t = namers_under c.args.tables.now.names.map in
-    let one : f (namers_under c.loop-key.tables.names.map) (get_or keys i d) ≡ f t (get_or keys i d) = ap (λ (u : List ℕ → List AtomKey). f u (get_or keys i d)) c.loop-key.invariant.namers in
+    let one : f (namers_under c.loop-key.tables.names.map) (get_or keys i d) ≡ f t (get_or keys i d) = ap (λ (u : List ℕ → List Namer). f u (get_or keys i d)) c.loop-key.invariant.namers in
     omega (arith, c.take_offers_at.ensures.most, one, c.loop-key.invariant.steps, sum_by_more_le (f t) keys i d below)

@@ -5,7 +5,7 @@ use Rattle.std.specs.BTreeMap.{get}
 use Rattle.std.proofs.lemmas.List.{at_drop_more}
 use Rattle.std.proofs.lemmas.List.Sums.{sum_by_more, sum_by_more_le}
 use Rattle.ctl_relation.specs.Parts.{OfferParts}
-use Rattle.ctl_index.specs.declared.keys.AtomKey.{AtomKey}
+use Rattle.ctl_index.specs.declared.keys.Namer.{Namer}
 use Rattle.ctl_index.specs.declared.keys.OfferKey.{OfferKey}
 use Rattle.ctl_index.specs.Clauses.{clause_cmp}
 use Rattle.ctl_index.specs.TablesByName.{offers_under, namers_under}
@@ -35,12 +35,12 @@ loop-offer-preserved c =
       rows = (λ j q. c.in_ok-take_offer.ensures.rows q j) ∙ c.loop-offer.invariant.rows;
       counts = λ k.
           let now = get clause_cmp c.loop-offer.tables.counters.numbers k in
-          ap (lowered s t (drop (i + 1) os) k) (c.in_ok-take_offer.ensures.counts k ∙ ap (λ (u : List ℕ → List AtomKey). option_map (λ (n : ℕ). n - sum_by (hit s o k) (u o.name)) now) c.loop-offer.invariant.namers ∙ ap (λ (p : OfferParts). option_map (λ (n : ℕ). n - sum_by (hit s p k) (t p.name)) now) item)
+          ap (lowered s t (drop (i + 1) os) k) (c.in_ok-take_offer.ensures.counts k ∙ ap (λ (u : List ℕ → List Namer). option_map (λ (n : ℕ). n - sum_by (hit s o k) (u o.name)) now) c.loop-offer.invariant.namers ∙ ap (λ (p : OfferParts). option_map (λ (n : ℕ). n - sum_by (hit s p k) (t p.name)) now) item)
           ∙ sym (at_drop_more (λ ps. lowered s t ps k now) os i o below) ∙ c.loop-offer.invariant.counts k;
       steps =
-          c.in_ok-take_offer.ensures.steps ∙ ap (λ (u : List ℕ → List AtomKey). more_by (sum_by (tested s) (u o.name)) c.loop-offer.steps) c.loop-offer.invariant.namers
-          ∙ ap (λ (p : OfferParts). more_by (sum_by (tested s) (t p.name)) c.loop-offer.steps) item ∙ ap (more_by _) c.loop-offer.invariant.steps ∙ more_by_twice (all_tested s t (take i os)) _ c.args.steps.now
-          ∙ ap (λ n. more_by n c.args.steps.now) (sym (sum_by_more (λ (p : OfferParts). sum_by (tested s) (t p.name)) os i o below));
+          c.in_ok-take_offer.ensures.steps ∙ ap (λ (u : List ℕ → List Namer). more_by (sum_by (tested s o.name) (u o.name)) c.loop-offer.steps) c.loop-offer.invariant.namers
+          ∙ ap (λ (p : OfferParts). more_by (sum_by (tested s p.name) (t p.name)) c.loop-offer.steps) item ∙ ap (more_by _) c.loop-offer.invariant.steps ∙ more_by_twice (all_tested s t (take i os)) _ c.args.steps.now
+          ∙ ap (λ n. more_by n c.args.steps.now) (sym (sum_by_more (λ (p : OfferParts). sum_by (tested s p.name) (t p.name)) os i o below));
     }
 
 pub returns-in_err-take_offer-clause-most : goal.returns-in_err-take_offer-clause-most
@@ -52,6 +52,6 @@ returns-in_err-take_offer-clause-most c =
     let o = c.offer-item.result in
     let below : i < length os = omega arith in
     let item : o ≡ get_or os i o = search rules in
-    let one : sum_by (tested s) (namers_under c.loop-offer.tables.names.map o.name) ≡ sum_by (tested s) (t (get_or os i o).name) =
-    ap (λ (u : List ℕ → List AtomKey). sum_by (tested s) (u o.name)) c.loop-offer.invariant.namers ∙ ap (λ (p : OfferParts). sum_by (tested s) (t p.name)) item in
-    omega (arith, c.take_offer.ensures.most, one, c.loop-offer.invariant.steps, sum_by_more_le (λ (p : OfferParts). sum_by (tested s) (t p.name)) os i o below)
+    let one : sum_by (tested s o.name) (namers_under c.loop-offer.tables.names.map o.name) ≡ sum_by (tested s (get_or os i o).name) (t (get_or os i o).name) =
+    ap (λ (u : List ℕ → List Namer). sum_by (tested s o.name) (u o.name)) c.loop-offer.invariant.namers ∙ ap (λ (p : OfferParts). sum_by (tested s p.name) (t p.name)) item in
+    omega (arith, c.take_offer.ensures.most, one, c.loop-offer.invariant.steps, sum_by_more_le (λ (p : OfferParts). sum_by (tested s p.name) (t p.name)) os i o below)

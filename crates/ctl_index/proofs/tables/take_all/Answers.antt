@@ -1,6 +1,6 @@
 use Rattle.std.proofs.Common.{◌≡◌, ℕ, List, ap, ◌∙◌, arith}
 use Rattle.std.specs.FinMap as fin
-use Rattle.ctl_index.specs.declared.keys.AtomKey.{AtomKey}
+use Rattle.ctl_index.specs.declared.keys.Namer.{Namer}
 use Rattle.ctl_index.specs.TablesByName.{offers_under, namers_under}
 use Rattle.ctl_index.specs.TablesIndexed.{namers_taken}
 use Rattle.ctl_index.specs.TablesSight.{seen}
@@ -45,7 +45,7 @@ returns-clause-most c =
     let span : c.in-Some.span ≡ span_of keys = c.in-Some.ensures.some in
     let left : (q : List ℕ) → namers_under c.take_atoms.new.tables.names.map q ≡ namers_taken s keys old q =
     λ q. c.take_atoms.ensures.namers q ∙ (λ i. with_each (seen s) (take_atoms_step (span i) q) keys (namers_under old.names.map q)) in
-    let same = ap (λ (t : List ℕ → List AtomKey). offers_tested s t keys) (λ i q. left q i) in
+    let same = ap (λ (t : List ℕ → List Namer). offers_tested s t keys) (λ i q. left q i) in
     omega (arith, c.in_ok-take_offers.ensures.steps, c.take_atoms.ensures.steps, same)
 
 pub returns-in_err-take_offers-clause-most : goal.returns-in_err-take_offers-clause-most
@@ -56,5 +56,5 @@ returns-in_err-take_offers-clause-most c =
     let span : c.in-Some.span ≡ span_of keys = c.in-Some.ensures.some in
     let left : (q : List ℕ) → namers_under c.take_atoms.new.tables.names.map q ≡ namers_taken s keys old q =
     λ q. c.take_atoms.ensures.namers q ∙ (λ i. with_each (seen s) (take_atoms_step (span i) q) keys (namers_under old.names.map q)) in
-    let same = ap (λ (t : List ℕ → List AtomKey). offers_tested s t keys) (λ i q. left q i) in
+    let same = ap (λ (t : List ℕ → List Namer). offers_tested s t keys) (λ i q. left q i) in
     omega (arith, c.take_offers.ensures.most, c.take_atoms.ensures.steps, same)

@@ -13,5 +13,5 @@ returns c =
     let h = c.self.inside.store in
     let fresh = ap (λ w. w.stale) c.self.view_is ∙ c.requires in
     let was = (c.self.invariant fresh).0 in
-    known_is (standing h) c.self.inside.tables was c.entries.ensures.used (rows_offered (standing h) c.self.inside.tables was) c.entries.result c.entries.ensures.order c.entries.ensures.found
+    known_is (standing h) c.self.inside.tables was c.entries-entries.ensures.used (rows_offered (standing h) c.self.inside.tables was) c.entries-entries.result c.entries-entries.ensures.order c.entries-entries.ensures.found
     ∙ ap known_names (contents_of_state (keyed_of h).lists) ∙ ap (λ (w : HeldCache). known_names (stanzas_of_state (state_of w.store))) c.self.view_is

@@ -15,13 +15,13 @@ use Rattle.ctl_index.proofs.cache.Cache.packages.Goals as goal
 
 pub returns-clause-order : goal.returns-clause-order
 returns-clause-order c =
-    subst (λ (ks : List (Vec ℕ Global)). IsStrictlySortedBy (slice_cmp nat_cmp) (map (λ (k : Vec ℕ Global). k.items) ks)) (sym c.keys.ensures.rest)
-    (sorted-items (keys c.self.inside.chosen) c.keys.ensures.ordered)
+    subst (λ (ks : List (Vec ℕ Global)). IsStrictlySortedBy (slice_cmp nat_cmp) (map (λ (k : Vec ℕ Global). k.items) ks)) (sym c.keys-keys.ensures.rest)
+    (sorted-items (keys c.self.inside.chosen) c.keys-keys.ensures.ordered)
 
 pub returns-clause-members : goal.returns-clause-members
 returns-clause-members c = λ name.
     let h = c.self.inside.store in
     let fresh = ap (λ w. w.stale) c.self.view_is ∙ c.requires in
-    ap (λ (ks : List (Vec ℕ Global)). list_any (bytes_eq name) (map (λ (k : Vec ℕ Global). k.items) ks)) c.keys.ensures.rest
+    ap (λ (ks : List (Vec ℕ Global)). list_any (bytes_eq name) (map (λ (k : Vec ℕ Global). k.items) ks)) c.keys-keys.ensures.rest
     ∙ kept_names c.self.inside.chosen (world_of h) (c.self.invariant fresh).1 name
     ∙ ap (λ (w : HeldCache). has_row name (keyed_of w.store).lists) c.self.view_is

@@ -7,17 +7,7 @@ invariant_of-self c =
     let v = c.in-Some.n.now in
     record { at_zero = unmet_kept c.args.self.now.numbers (c.get_mut.follows.lender v) c.args.self.now.unmet c.args.self.now.unmet c.args.key v c.in-Some.ensures.value (((c.get_mut.follows.holds v).3 (search rules)).0) (λ k. refl) c.args.self.now.at_zero }
 
-pub invariant_of-self-in-Break-1 : goal.invariant_of-self-in-Break-1
-invariant_of-self-in-Break-1 c =
-    let v = c.in-Some.n.now in
-    record { at_zero = unmet_kept c.args.self.now.numbers (c.get_mut.follows.lender v) c.args.self.now.unmet c.note.new.unmet c.args.key v c.in-Some.ensures.value (((c.get_mut.follows.holds v).3 (search rules)).0) (search rules) c.args.self.now.at_zero }
-
 pub invariant_of-self-in-Some : goal.invariant_of-self-in-Some
 invariant_of-self-in-Some c =
     let w = c.in-Some-checked_add.more in
-    record { at_zero = unmet_written c.args.self.now.numbers (c.get_mut.follows.lender w) c.args.self.now.unmet c.note.new.unmet c.args.key w _ (search rules) (((c.get_mut.follows.holds w).3 (search rules)).0) c.in_ok-note-in-Some.ensures.ok c.args.self.now.at_zero }
-
-pub returns-in_ok-note-in-Some : goal.returns-in_ok-note-in-Some
-returns-in_ok-note-in-Some c =
-    let w = c.in-Some-checked_add.more in
-    written c.args.self.now.numbers (c.get_mut.follows.lender w) c.args.key c.in-Some.n.now w (λ x y. x + y) c.in-Some.ensures.value (search rules) (λ x. omega arith) (((c.get_mut.follows.holds w).3 (search rules)).0)
+    record { at_zero = unmet_written c.args.self.now.numbers (c.get_mut.follows.lender w) c.args.self.now.unmet c.unmark.new.unmet c.args.key w _ (search rules) (((c.get_mut.follows.holds w).3 (search rules)).0) c.unmark.ensures c.args.self.now.at_zero }

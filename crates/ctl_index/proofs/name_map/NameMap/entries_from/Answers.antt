@@ -23,4 +23,7 @@ pub returns-clause-order : goal.returns-clause-order
 returns-clause-order c = (promised c).0
 
 pub returns-clause-found : goal.returns-clause-found
-returns-clause-found c = (promised c).1
+returns-clause-found c = (promised c).1.0
+
+pub returns-clause-only : goal.returns-clause-only
+returns-clause-only c = (promised c).1.1

@@ -1,13 +1,14 @@
 use Rattle.std.proofs.Common.{◌≡◌, ℕ, [], List, length, nat_eq, ◌&&◌, not, cond, ap, sym, ◌∙◌}
 use Rattle.std.specs.Str.{bytes_eq}
 use Rattle.ctl_index.specs.TablesByName.{at_name}
-use Rattle.ctl_index.specs.declared.keys.AtomKey.{AtomKey}
+use Rattle.ctl_index.specs.declared.keys.Namer.{Namer}
 use Rattle.ctl_index.specs.declared.named.Named.{Named}
 use Rattle.std.specs.FinMap as fin
 use Rattle.std.specs.Option.{option_map_or}
 use Rattle.ctl_index.specs.TablesByName.{rows_under, named_rows, namers_under, named_offers, named_namers}
-use Rattle.ctl_index.specs.TablesOrder.{atom_stanza, put_in_order}
-use Rattle.ctl_index.proofs.NameLemmas.{on_some, none_new, changed, unchanged, part-found, used_written, used_found, used_more_too}
+use Rattle.ctl_index.specs.TablesOrder.{namer_of, namer_stanza, put_in_order}
+use Rattle.ctl_index.proofs.RowLemmas.{none_there}
+use Rattle.ctl_index.proofs.NameLemmas.{on_some, none_more, changed, unchanged, part-found, used_written, used_found, used_more_too}
 use Rattle.ctl_index.proofs.name_table.NameTable.put_atom.Goals as goal
 
 pub invariant_of-self : goal.invariant_of-self
@@ -17,7 +18,7 @@ invariant_of-self c =
     let w : Named = record { offers = v.offers; namers = c.put.new.self; rows = v.rows } in
     record {
       used = used_written c.name.result.now m (c.get_mut.follows.lender w) w (on_some c.in-Some.is (c.get_mut.follows.holds w))
-          (ap (λ (xs : List AtomKey). not ((nat_eq (length (named_offers v)) 0 && nat_eq (length xs) 0) && nat_eq (fin.len (named_rows v)) 0)) c.in_err-put-in-Some.ensures.err ∙ used_found m c.name.result.now v c.in-Some.ensures.value c.args.self.now.used) c.args.self.now.used;
+          (ap (λ (xs : List Namer). not ((nat_eq (length (named_offers v)) 0 && nat_eq (length xs) 0) && nat_eq (fin.len (named_rows v)) 0)) c.in_err-put-in-Some.ensures.err ∙ used_found m c.name.result.now v c.in-Some.ensures.value c.args.self.now.used) c.args.self.now.used;
     }
 
 pub invariant_of-self-in-Some : goal.invariant_of-self-in-Some
@@ -27,7 +28,7 @@ invariant_of-self-in-Some c =
     let w : Named = record { offers = v.offers; namers = c.put.new.self; rows = v.rows } in
     record {
       used = used_written c.name.result.now m (c.get_mut.follows.lender w) w (on_some c.in-Some.is (c.get_mut.follows.holds w))
-          (ap (λ (xs : List AtomKey). not ((nat_eq (length (named_offers v)) 0 && nat_eq (length xs) 0) && nat_eq (fin.len (named_rows v)) 0)) c.in_ok-put-in-Some.ensures.ok ∙ used_more_too atom_stanza (named_namers v) c.args.key (nat_eq (length (named_offers v)) 0) (nat_eq (fin.len (named_rows v)) 0)) c.args.self.now.used;
+          (ap (λ (xs : List Namer). not ((nat_eq (length (named_offers v)) 0 && nat_eq (length xs) 0) && nat_eq (fin.len (named_rows v)) 0)) c.in_ok-put-in-Some.ensures.ok ∙ used_more_too namer_stanza (named_namers v) c.new.result (nat_eq (length (named_offers v)) 0) (nat_eq (fin.len (named_rows v)) 0)) c.args.self.now.used;
     }
 
 pub returns-in_ok-put-in-Some-clause-offers : goal.returns-in_ok-put-in-Some-clause-offers
@@ -42,9 +43,9 @@ returns-in_ok-put-in-Some-clause-namers c =
     let m = c.args.self.now.map in
     let v = c.in-Some.named.now in
     let w : Named = record { offers = v.offers; namers = c.put.new.self; rows = v.rows } in
-    let f : List AtomKey → List AtomKey = λ l. put_in_order atom_stanza c.args.key l in
+    let f : List Namer → List Namer = λ l. put_in_order namer_stanza (namer_of c.args.key c.args.atom.now) l in
     λ q.
-    changed named_namers [] c.name.result.now m (c.get_mut.follows.lender w) w f (on_some c.in-Some.is (c.get_mut.follows.holds w)) (c.in_ok-put-in-Some.ensures.ok ∙ ap f (part-found named_namers [] c.name.result.now m _ c.in-Some.ensures.value)) q
+    changed named_namers [] c.name.result.now m (c.get_mut.follows.lender w) w f (on_some c.in-Some.is (c.get_mut.follows.holds w)) (c.in_ok-put-in-Some.ensures.ok ∙ ap (λ n. put_in_order namer_stanza n (named_namers v)) c.new.ensures ∙ ap f (part-found named_namers [] c.name.result.now m _ c.in-Some.ensures.value)) q
     ∙ ap (λ b. cond (bytes_eq b q) (f (namers_under m q)) (namers_under m q)) c.name.ensures
 
 pub returns-in_ok-put-in-Some-clause-rows : goal.returns-in_ok-put-in-Some-clause-rows
@@ -60,5 +61,5 @@ returns-in_ok-insert-in-None-clause-rows c =
     let bs = c.name-in-None.result.now in
     let same : (q : List ℕ) → rows_under c.get_mut.follows.lender-at-none q ≡ rows_under m q = λ q. ap (λ o. option_map_or named_rows o fin.empty) (c.get_mut.follows.holds-at-none q) in
     λ q.
-    c.in_ok-insert-in-None.ensures.rows q ∙ ap (cond (bytes_eq bs q) c.new-in-None.result) (same q)
-    ∙ none_new bs m c.new-in-None.result (c.in-None.ensures.value ∙ ap (at_name m) (c.name.ensures ∙ sym c.name-in-None.ensures)) c.new-in-None.ensures q
+    c.in_ok-insert-in-None.ensures.rows q ∙ ap (cond (bytes_eq bs q) c.new-in-None-3.result) (same q)
+    ∙ none_more named_rows fin.empty bs m m c.new-in-None-3.result (none_there c.new-in-None-3.result c.new-in-None-3.ensures) (c.in-None.ensures.value ∙ ap (at_name m) (c.name.ensures ∙ sym c.name-in-None.ensures)) (λ r i. at_name m r) q

@@ -3,7 +3,7 @@ use Rattle.std.specs.BTreeMap.{get}
 use Rattle.std.specs.List.{sum_by}
 use Rattle.std.specs.Str.{bytes_eq}
 use Rattle.ctl_index.specs.TablesByName.{at_name}
-use Rattle.ctl_index.specs.declared.keys.AtomKey.{AtomKey}
+use Rattle.ctl_index.specs.declared.keys.Namer.{Namer}
 use Rattle.ctl_index.specs.declared.keys.ClauseKey.{ClauseKey}
 use Rattle.ctl_index.specs.declared.keys.OfferKey.{OfferKey}
 use Rattle.ctl_index.specs.declared.named.Named.{Named}
@@ -13,7 +13,8 @@ use Rattle.std.specs.Option.{option_map_or}
 use Rattle.ctl_index.specs.TablesByName.{rows_under, named_rows, offers_under, namers_under, named_offers, named_namers}
 use Rattle.ctl_index.specs.TablesSight.{hit}
 use Rattle.ctl_index.specs.TablesOrder.{offer_stanza, put_in_order}
-use Rattle.ctl_index.proofs.NameLemmas.{on_some, on_ok_map, none_new, changed, unchanged, part-found, used_written, used_found, used_more, on_ok}
+use Rattle.ctl_index.proofs.RowLemmas.{none_there}
+use Rattle.ctl_index.proofs.NameLemmas.{on_some, on_ok_map, none_more, changed, unchanged, part-found, used_written, used_found, used_more, on_ok}
 use Rattle.ctl_index.proofs.name_table.NameTable.put_offer.Goals as goal
 
 pub invariant_of-self : goal.invariant_of-self
@@ -57,7 +58,7 @@ pub returns-in_ok-put-in-Some-clause-counts : goal.returns-in_ok-put-in-Some-cla
 returns-in_ok-put-in-Some-clause-counts c =
     let m = c.args.self.now.map in
     let same : c.as_slice.result.now ≡ namers_under m c.args.offer.now.name = c.as_slice.ensures ∙ part-found named_namers [] c.name.result.now m _ c.in-Some.ensures.value ∙ ap (namers_under m) c.name.ensures in
-    subst (λ (xs : List AtomKey). OnOk c.meet.result ((k : ClauseKey) → get clause_cmp c.meet.new.counters.numbers k ≡ option_map (λ (n : ℕ). n + sum_by (hit c.args.sight.now c.args.offer.now k) xs) (get clause_cmp c.args.counters.now.numbers k))) same c.meet.ensures.counts
+    subst (λ (xs : List Namer). OnOk c.meet.result ((k : ClauseKey) → get clause_cmp c.meet.new.counters.numbers k ≡ option_map (λ (n : ℕ). n + sum_by (hit c.args.sight.now c.args.offer.now k) xs) (get clause_cmp c.args.counters.now.numbers k))) same c.meet.ensures.counts
 
 pub returns-in_ok-put-in-Some-clause-rows : goal.returns-in_ok-put-in-Some-clause-rows
 returns-in_ok-put-in-Some-clause-rows c =
@@ -73,4 +74,4 @@ returns-in_ok-of_one-in-None-clause-rows c =
     let same : (q : List ℕ) → rows_under c.get_mut.follows.lender-at-none q ≡ rows_under m q = λ q. ap (λ o. option_map_or named_rows o fin.empty) (c.get_mut.follows.holds-at-none q) in
     on_ok_map c.insert.result (λ h q.
     h q ∙ ap (cond (bytes_eq bs q) c.new-in-None.result) (same q)
-    ∙ none_new bs m c.new-in-None.result (c.in-None.ensures.value ∙ ap (at_name m) (c.name.ensures ∙ sym c.name-in-None.ensures)) c.new-in-None.ensures q) c.insert.ensures.rows
+    ∙ none_more named_rows fin.empty bs m m c.new-in-None.result (none_there c.new-in-None.result c.new-in-None.ensures) (c.in-None.ensures.value ∙ ap (at_name m) (c.name.ensures ∙ sym c.name-in-None.ensures)) (λ r i. at_name m r) q) c.insert.ensures.rows

@@ -2,7 +2,7 @@ use Rattle.std.proofs.Common.{◌≡◌, ◌-◌, ℕ, [], List, Some, None, con
 use Rattle.std.specs.BTreeMap.{get}
 use Rattle.std.specs.List.{sum_by}
 use Rattle.std.specs.Str.{bytes_eq}
-use Rattle.ctl_index.specs.declared.keys.AtomKey.{AtomKey}
+use Rattle.ctl_index.specs.declared.keys.Namer.{Namer}
 use Rattle.ctl_policy.specs.Rows.{Rows}
 use Rattle.ctl_index.specs.declared.named.Named.{Named}
 use Rattle.ctl_index.specs.Clauses.{clause_cmp}
@@ -65,7 +65,7 @@ returns-then-not-is_used-clause-namers c =
     let writes : IsSetAt bs m n (Some w) = on_some c.in-Some.is (c.get_mut.follows.holds w) in
     let removes : IsSetAt bs n c.remove.new.self None = subst (λ (b : List ℕ). IsSetAt b n c.remove.new.self None) (c.name-then-not-is_used.ensures ∙ sym c.name.ensures) c.remove.ensures in
     let left = nothing_left w (sym c.is_used.ensures ∙ c.if-not-is_used.true) in
-    let f : List AtomKey → List AtomKey = λ l. l in
+    let f : List Namer → List Namer = λ l. l in
     λ q. replaced named_namers [] bs m n c.remove.new.self w f writes removes (sym (part-found named_namers [] bs m _ c.in-Some.ensures.value) ∙ left.namers) q ∙ same_either (bytes_eq bs q) (namers_under m q)
 
 pub returns-else-not-is_used-clause-offers : goal.returns-else-not-is_used-clause-offers
@@ -94,13 +94,13 @@ pub returns-then-not-is_used-clause-counts : goal.returns-then-not-is_used-claus
 returns-then-not-is_used-clause-counts c = λ k.
     let m = c.args.self.now.map in
     let same : c.as_slice.result.now ≡ namers_under m c.args.offer.now.name = c.as_slice.ensures ∙ part-found named_namers [] c.name.result.now m _ c.in-Some.ensures.value ∙ ap (namers_under m) c.name.ensures in
-    c.in_ok-part.ensures.counts k ∙ ap (λ (xs : List AtomKey). option_map (λ (n : ℕ). n - sum_by (hit c.args.sight.now c.args.offer.now k) xs) (get clause_cmp c.args.counters.now.numbers k)) same
+    c.in_ok-part.ensures.counts k ∙ ap (λ (xs : List Namer). option_map (λ (n : ℕ). n - sum_by (hit c.args.sight.now c.args.offer.now k) xs) (get clause_cmp c.args.counters.now.numbers k)) same
 
 pub returns-else-not-is_used-clause-counts : goal.returns-else-not-is_used-clause-counts
 returns-else-not-is_used-clause-counts c = λ k.
     let m = c.args.self.now.map in
     let same : c.as_slice.result.now ≡ namers_under m c.args.offer.now.name = c.as_slice.ensures ∙ part-found named_namers [] c.name.result.now m _ c.in-Some.ensures.value ∙ ap (namers_under m) c.name.ensures in
-    c.in_ok-part.ensures.counts k ∙ ap (λ (xs : List AtomKey). option_map (λ (n : ℕ). n - sum_by (hit c.args.sight.now c.args.offer.now k) xs) (get clause_cmp c.args.counters.now.numbers k)) same
+    c.in_ok-part.ensures.counts k ∙ ap (λ (xs : List Namer). option_map (λ (n : ℕ). n - sum_by (hit c.args.sight.now c.args.offer.now k) xs) (get clause_cmp c.args.counters.now.numbers k)) same
 
 pub returns-then-not-is_used-clause-rows : goal.returns-then-not-is_used-clause-rows
 returns-then-not-is_used-clause-rows c =

@@ -5,7 +5,7 @@ use Rattle.ctl_policy.specs.Kept.{HasTaken}
 use Rattle.ctl_policy.specs.Rows.{Rows}
 use Rattle.ctl_index.specs.declared.named.Named.{Named}
 use Rattle.std.specs.Str.{bytes_eq}
-use Rattle.ctl_index.specs.declared.keys.AtomKey.{AtomKey}
+use Rattle.ctl_index.specs.declared.keys.Namer.{Namer}
 use Rattle.ctl_index.specs.declared.keys.OfferKey.{OfferKey}
 use Rattle.ctl_index.specs.TablesByName.{IsSetAt, offers_under, namers_under, rows_under, named_offers, named_namers, named_rows}
 use Rattle.ctl_index.proofs.RowLemmas.{none_taken}
@@ -83,7 +83,7 @@ returns-then-not-is_used-clause-namers c =
     let n = c.get_mut.follows.lender w in
     let writes : IsSetAt bs m n (Some w) = on_some c.in-Some.is (c.get_mut.follows.holds w) in
     let left = nothing_left w (sym c.is_used.ensures ∙ c.if-not-is_used.true) in
-    let f : List AtomKey → List AtomKey = λ l. l in
+    let f : List Namer → List Namer = λ l. l in
     λ q. replaced named_namers [] bs m n c.remove.new.self w f writes c.remove.ensures (sym (part-found named_namers [] bs m _ c.in-Some.ensures.value) ∙ left.namers) q ∙ same_either (bytes_eq bs q) (namers_under m q)
 
 pub returns-else-not-is_used-clause-others : goal.returns-else-not-is_used-clause-others
