@@ -166,18 +166,19 @@ def most_named(stanzas):
 
 
 def measure_most_named(stanzas, folder, loading):
-    """Prints what it takes to take a stanza out that many name, and to put it in again."""
+    """Prints what it takes to take a stanza out that many name, and to put it in again; also in its place, which is both."""
     stanza, atoms = most_named(stanzas)
     fields = dict(fields_of(stanza))
     package, version = fields["Package"].strip(), fields["Version"].strip()
     lines = [added("main", stanzas)] + [removed("main", package, version), put("main", stanza)] * TURNS + [put("main", stanza)] * TURNS
     times, tests = times_of(lines, folder)
     turns = times[1:1 + 2 * TURNS]
-    rows = [("remove", turns[::2], tests[1]), ("put", turns[1::2], tests[2]), ("put in its place", times[1 + 2 * TURNS:], tests[-1])]
+    again = times[1 + 2 * TURNS:]
+    rows = [("remove", turns[::2], tests[1], 10), ("put", turns[1::2], tests[2], 10), ("put in its place", again, tests[-1], 20)]
     print("%s, which %d atoms of clauses name" % (package, atoms))
-    for what, spent, count in rows:
+    for what, spent, count, limit in rows:
         mean = sum(spent) / len(spent)
-        print("  %-18s %6.2f ms (at most 10), %6d tests, %.4f of loading the list" % (what, mean * 1e3, count, mean / loading))
+        print("  %-18s %6.2f ms (at most %d), %6d tests, %.4f of loading the list" % (what, mean * 1e3, limit, count, mean / loading))
 
 
 # Chosen names
