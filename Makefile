@@ -6,13 +6,14 @@ DESTDIR ?=
 PROGRAM := crates/dctrl_cache/out/dctrl_cache
 EXAMPLES := $(sort $(wildcard examples/*.script))
 
-.PHONY: help layout demo build test prove test-program test-tools edits bench bench-report bench-parts deb install clean
+.PHONY: help layout demo build test test-needs prove test-program test-tools edits bench bench-report bench-parts deb install clean
 
 help:
 	@echo 'make demo      runs the examples with an unproved quick build, and compares what they print'
 	@echo 'make build     proves the program and leaves it as $(PROGRAM)'
 	@echo 'make layout    tells in a second which files rt fmt would change; the proofs refuse them'
-	@echo 'make test      the whole gate: layout, demo, test-tools, prove, test-program and edits, up to the first that fails; KEEP_GOING=1 runs all'
+	@echo 'make test      the whole gate, up to the first part that fails; KEEP_GOING=1 runs all'
+	@echo 'make test-needs  installs by apt-get what the tests use beside the kit, or says what is missing'
 	@echo 'make prove     every proof, the named wrong bodies, the tests, the programs'
 	@echo 'make edits     the edits that must fail, many in one check; CRATES=".." and EDITS=".." name some, JOBS=N sets how many checks run at once, ANEW=1 tries those too that this machine saw refused'
 	@echo 'make bench     measures time and memory beside apt-cache, grep-dctrl and python-apt; FILE=.. names a Packages file, TIMES=1,2 how often it is taken'
@@ -46,6 +47,9 @@ $(PROGRAM): $(shell find crates \( -name out -o -name edits -o -name must-fail \
 
 test:
 	python3 tools/gate.py $(if $(KEEP_GOING),--keep-going)
+
+test-needs:
+	python3 tools/test_needs.py
 
 # By itself `rt ci` gives the proofs of the chain of crates the processors that nothing else waits for. With RT_JOBS it has so many
 # tasks of one processor each, however much memory it thinks that they take.

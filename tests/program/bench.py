@@ -48,7 +48,7 @@ def test_table(tests):
     with Files() as files:
         results, picture = files.path("results"), files.path("chart.svg")
         words = [sys.executable, TABLE, tests.program, "--list", files.write("Packages", small_list()), "--times", "1,2", "--results", results, "--chart", picture]
-        status, output, errors = finished(words, timeout=600)
+        status, output, errors = finished(words)
         tests.same("the measuring", (status, errors), (0, b""))
         if status != 0:
             return

@@ -6,8 +6,13 @@ import tempfile
 
 LIST = b"add-list main packages\nPackage: foo\nVersion: 1\n\nPackage: bar\nVersion: 2\n.\n"
 
-# A run that takes longer than this, in seconds, is a failed test.
-PATIENCE = 60
+# A run that takes longer than this, in seconds, never ends, and is a failed test. No machine is so busy that a sound one takes an hour.
+PATIENCE = 3600
+
+
+def count_line(passed, failed, skipped=0):
+    """The last line of what tests print."""
+    return "%d passed, %d failed%s" % (passed, failed, ", %d skipped" % skipped if skipped else "")
 
 
 def finished(words, **settings):
@@ -26,6 +31,7 @@ class Tests:
         self.program = program
         self.passed = 0
         self.failed = 0
+        self.skipped = 0
 
     def same(self, what, got, wanted):
         """Counts a test, and shows one that fails."""
@@ -36,8 +42,12 @@ class Tests:
             print("%s:\n  got    %r\n  wanted %r" % (what, got, wanted))
 
     def skip(self, what, reason):
-        """Says that a test isn't made, and why."""
-        print("%s: not tested, %s" % (what, reason))
+        """Counts a test that can't be made here, and says why."""
+        self.skipped += 1
+        print("%s: skipped, %s" % (what, reason))
+
+    def count(self):
+        return count_line(self.passed, self.failed, self.skipped)
 
     def run(self, words, script=b"", output=subprocess.PIPE, **settings):
         """The status, the output and the errors of a run of the program."""

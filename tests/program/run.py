@@ -4,7 +4,7 @@
 Tests the program from outside: its words, its exit statuses, lists from files, what it writes to standard output and
 standard error, many edits of one list, answers on many names, hostile filters, a full device, a closed pipe, a reader that stops, a
 talk command by command, the examples and those of the manual, also cut at each byte; and what is installed beside it: the wrapper, its
-completion and the package. The last line is the count."""
+completion and the package. A test whose peer isn't there is skipped, and says why. The last line is the count."""
 
 import os
 import sys
@@ -46,7 +46,7 @@ def main(words):
     test_completion(tests)
     test_package(tests)
     test_bench(tests)
-    print("%d passed, %d failed" % (tests.passed, tests.failed))
+    print(tests.count())
     return 0 if tests.failed == 0 else 1
 
 

@@ -11,7 +11,7 @@ class Talk:
 
     def __init__(self, program):
         self.running = subprocess.Popen([program], stdin=subprocess.PIPE, stdout=subprocess.PIPE, bufsize=0)
-        self.patience = PATIENCE / 6
+        self.patience = PATIENCE
 
     def say(self, text):
         self.running.stdin.write(text)

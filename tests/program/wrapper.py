@@ -8,7 +8,7 @@ import subprocess
 import tempfile
 
 from apt_root import AptRoot, PACKERS, PROGRAMS, installed, packed, stanza
-from harness import finished
+from harness import PATIENCE, finished
 from talk import Talk
 
 TOP = os.path.join(os.path.dirname(os.path.abspath(__file__)), "..", "..")
@@ -180,7 +180,7 @@ class TalkOfWrapper(Talk):
     def __init__(self, tests, root):
         self.running = subprocess.Popen([WRAPPER, "--root", root.folder], stdin=subprocess.PIPE, stdout=subprocess.PIPE, bufsize=0,
                                         env={**os.environ, "DCTRL_CACHE": tests.program})
-        self.patience = 30
+        self.patience = PATIENCE
 
 
 def test_talk(tests):
