@@ -6,7 +6,7 @@ DESTDIR ?=
 PROGRAM := crates/dctrl_cache/out/dctrl_cache
 EXAMPLES := $(sort $(wildcard examples/*.script))
 
-.PHONY: help layout demo build test test-needs prove test-program test-tools edits bench bench-report bench-parts deb install clean
+.PHONY: help layout demo build test test-needs prove test-program test-tools edits gate-report bench bench-report bench-parts deb install clean
 
 help:
 	@echo 'make demo      runs the examples with an unproved quick build, and compares what they print'
@@ -15,7 +15,8 @@ help:
 	@echo 'make test      the whole gate, up to the first part that fails; KEEP_GOING=1 runs all'
 	@echo 'make test-needs  installs by apt-get what the tests use beside the kit, or says what is missing'
 	@echo 'make prove     every proof, the named wrong bodies, the tests, the programs'
-	@echo 'make edits     the edits that must fail, many in one check; CRATES=".." and EDITS=".." name some, JOBS=N sets how many checks run at once, ANEW=1 tries those too that this machine saw refused'
+	@echo 'make edits     the edits that must fail: those without a line of edits.ledger for these sources, and ten of the others; CRATES=".." and EDITS=".." name some, JOBS=N sets how many checks run at once, EDITS_MINUTES=N how long it may take, ANEW=1 tries all'
+	@echo 'make gate-report  puts what make test and make edits measured last into docs/ARCHITECTURE.md'
 	@echo 'make bench     measures time and memory beside apt-cache, grep-dctrl and python-apt; FILE=.. names a Packages file, TIMES=1,2 how often it is taken'
 	@echo 'make bench-report  puts the table and the chart of the last make bench into docs/'
 	@echo 'make bench-parts  measures the parts: reading, edits, tables, refusals; FILE=.. as above'
@@ -62,8 +63,13 @@ test-program: build
 test-tools:
 	python3 tests/tools.py
 
+# In the gate the ledger is read and not written, and edits that are due have so many minutes.
+edits: MINUTES = $(or $(EDITS_MINUTES),$(if $(IN_GATE),25))
 edits:
-	python3 tools/batch_edits.py $(if $(CRATES),--crates $(CRATES)) $(if $(EDITS),--edits $(EDITS)) $(if $(JOBS),--jobs $(JOBS)) $(if $(APART),--apart) $(if $(ANEW),--anew)
+	python3 tools/batch_edits.py $(if $(CRATES),--crates $(CRATES)) $(if $(EDITS),--edits $(EDITS)) $(if $(JOBS),--jobs $(JOBS)) $(if $(MINUTES),--minutes $(MINUTES)) $(if $(IN_GATE),--gate) $(if $(ANEW),--anew)
+
+gate-report:
+	python3 tools/gate_report.py
 
 bench: $(PROGRAM)
 	mkdir -p out

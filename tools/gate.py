@@ -4,11 +4,11 @@
     tools/gate.py [--keep-going]
 
 As a part ends, a line says how long it took. A part that fails stops the gate, once what runs beside it has ended, unless
---keep-going is given. The last line is 'N passed, M failed', the sum over all parts that ran; the status is 1 where anything failed.
+--keep-going is given. The last line is 'N passed, M failed', and ', K skipped' where tests were skipped: the sum over all parts
+that ran. The status is 1 where anything failed. What was measured is left in out/gate.json.
 
-The proofs are a chain from crate to crate. So with four processors or more the edits are tried beside them, with what the proofs
-leave of the processors and of the memory, and what the edits print comes behind what the proofs do. The edits that this
-machine has seen refused over the same files are not tried again; whether a proof is made again is the kit's to say."""
+The proofs are a chain from crate to crate, so that they leave processors idle. With four processors or more what needs no proof runs
+beside them, and the tests of the proved program beside the edits, at low priority; what they print comes behind what the others do."""
 
 import concurrent.futures
 import dataclasses
@@ -18,20 +18,36 @@ import subprocess
 import sys
 import time
 
-# The program that test-program calls is the one that prove has made. Parts of one row can run beside each other.
+import gate_file
+import proof_seconds
+
+TOP = os.path.join(os.path.dirname(os.path.abspath(__file__)), "..")
+
+# A row of parts that run by themselves, and a row of those that can run beside them: on few processors these come first, one by one.
 STAGES = [
-    [("layout", "the layout of the files")],
-    [("demo", "the examples, by an unproved build")],
-    [("test-tools", "the tests of the tools of the gate")],
-    [
-        ("prove", "every proof, the named wrong bodies, the tests under proof, the programs"),
-        ("edits", "the edits that must fail"),
-    ],
-    [("test-program", "the program from outside")],
+    (["layout"], []),
+    (["demo"], []),
+    (["prove"], ["test-tools"]),
+    (["edits"], ["test-program", "test-scripts", "test-reference", "test-refusals", "test-python"]),
 ]
+PARTS = {
+    "layout": "the layout of the files",
+    "demo": "the examples, by an unproved build",
+    "test-tools": "the tests of the tools of the gate",
+    "prove": "every proof, the named wrong bodies, the tests under proof, the programs",
+    "test-program": "the program from outside",
+    "test-scripts": "scripts in files",
+    "test-reference": "generated scripts, judged by the reference program",
+    "test-refusals": "each request for memory refused in turn",
+    "test-python": "the commands and the module of Python",
+    "edits": "the edits that must fail",
+}
+# Words for make beside a part's name: in the gate the ledger is read and not written, and the edits have a budget of minutes.
+SETTINGS = {"edits": ["IN_GATE=1"]}
 # So many processors are needed for parts beside each other.
 ENOUGH = 4
-COUNT = re.compile(r"(\d+) passed, (\d+) failed")
+COUNT = re.compile(r"(\d+) passed, (\d+) failed(?:, (\d+) skipped)?")
+PROVED = re.compile(r"== (\w+)|logic=proved functions=(\d+) .*")
 
 
 @dataclasses.dataclass
@@ -39,82 +55,129 @@ class Outcome:
     name: str
     passed: int
     failed: int
+    skipped: int
     wall: float
     cpu: float
 
     def __str__(self):
-        counts = f"{self.passed} passed, {self.failed} failed"
+        counts = counts_of(self.passed, self.failed, self.skipped)
         return f"{self.name}: {counts} in {minutes(self.wall)}, {minutes(self.cpu)} of processors"
+
+
+def counts_of(passed, failed, skipped):
+    return f"{passed} passed, {failed} failed" + (f", {skipped} skipped" if skipped else "")
 
 
 def minutes(seconds):
     return f"{seconds / 60:.1f} min"
 
 
-def run(name, show, settings=(), before=()):
-    """Runs a part, by a command that stands before make if one is given, and hands on its output line by line. One that gives no
-    count, or fails and counts no failure, counts as one failed."""
-    began, counted = time.time(), (0, 1)
-    how = {"stdout": subprocess.PIPE, "stderr": subprocess.STDOUT, "text": True, "errors": "replace"}
-    how["env"] = {**os.environ, "PYTHONUNBUFFERED": "1"}
-    part = subprocess.Popen([*before, "make", "--no-print-directory", name, *settings], **how)
-    for line in part.stdout:
-        show(line.rstrip("\n"))
-        found = COUNT.fullmatch(line.rstrip("\n"))
-        counted = (int(found[1]), int(found[2])) if found else counted
-    _, ended, used = os.wait4(part.pid, 0)
-    part.returncode = os.waitstatus_to_exitcode(ended)
-    passed, failed = counted
-    if part.returncode and not failed:
-        failed = 1
-    return Outcome(name, passed, failed, time.time() - began, used.ru_utime + used.ru_stime)
-
-
 def tell(line):
     print(line, flush=True)
 
 
-def run_stage(parts):
-    """Runs the parts of a stage, and yields what each came to. The output of the first comes as it is written."""
-    processors = len(os.sched_getaffinity(0))
-    if len(parts) == 1 or processors < ENOUGH:
-        for name, what in parts:
-            tell(f"== {name}: {what}")
+def targets():
+    """Returns the names of the Makefile's targets: a part that isn't one is not there yet."""
+    with open(os.path.join(TOP, "Makefile"), encoding="utf-8") as file:
+        return set(re.findall(r"^([\w-]+):", file.read(), re.M))
+
+
+def stages():
+    there = targets()
+    return [tuple([name for name in row if name in there] for row in stage) for stage in STAGES]
+
+
+def run(name, show, settings=(), before=()):
+    """Runs a part, by a command that stands before make if one is given, and hands on its output line by line. One that gives no
+    count, or fails and counts no failure, counts as one failed."""
+    began, counted = time.time(), (0, 1, 0)
+    how = {"stdout": subprocess.PIPE, "stderr": subprocess.STDOUT, "text": True, "errors": "replace"}
+    how["env"] = {**os.environ, "PYTHONUNBUFFERED": "1"}
+    part = subprocess.Popen([*before, "make", "--no-print-directory", name, *SETTINGS.get(name, []), *settings], **how)
+    watch = proof_seconds.Watch(part.pid) if name == "prove" else None
+    lines = []
+    for line in part.stdout:
+        lines.append(line.rstrip("\n"))
+        show(lines[-1])
+        found = COUNT.fullmatch(lines[-1])
+        counted = tuple(int(it or 0) for it in found.groups()) if found else counted
+    _, ended, used = os.wait4(part.pid, 0)
+    part.returncode = os.waitstatus_to_exitcode(ended)
+    passed, failed, skipped = counted
+    if part.returncode and not failed:
+        failed = 1
+    if watch:
+        gate_file.update("proofs", proofs_of(lines, watch.stop()))
+    return Outcome(name, passed, failed, skipped, time.time() - began, used.ru_utime + used.ru_stime)
+
+
+def proofs_of(lines, seconds):
+    """Returns what was measured of each crate that this run proved: its functions, by the lines of `rt ci`, and seconds of processor."""
+    name, found = "", {}
+    for line in lines:
+        said = PROVED.fullmatch(line)
+        if said and said[1]:
+            name = said[1]
+        elif said and (name, proof_seconds.PROOF) in seconds:
+            kinds = (proof_seconds.PROOF, proof_seconds.TESTS, proof_seconds.EDITS)
+            found[name] = {"functions": int(said[2]), **{kind: round(seconds.get((name, kind), 0), 1) for kind in kinds}}
+            name = ""
+    return found
+
+
+def run_stage(parts, beside):
+    """Runs the parts of a stage, and yields what each came to. The output of the first parts comes as it is written."""
+    if not beside or len(os.sched_getaffinity(0)) < ENOUGH:
+        for name in (*beside, *parts):
+            tell(f"== {name}: {PARTS[name]}")
             yield run(name, tell)
         return
-    (first, what), others = parts[0], parts[1:]
-    aside = [f"JOBS={processors}", "APART=1"]
+    lines = {name: [] for name in beside}
+
+    def run_beside():
+        return [run(name, lines[name].append, before=["nice"]) for name in beside]
+
     with concurrent.futures.ThreadPoolExecutor() as pool:
-        lines = {name: [] for name, _ in others}
-        beside = [pool.submit(run, name, lines[name].append, aside, ["nice"]) for name, _ in others]
-        tell(f"== {first}: {what}; beside it {', '.join(name for name, _ in others)}")
-        yield run(first, tell)
-        for (name, what), part in zip(others, beside):
-            outcome = part.result()
-            tell("\n".join([f"== {name}: {what}", *lines[name]]))
+        others = pool.submit(run_beside)
+        for name in parts:
+            tell(f"== {name}: {PARTS[name]}; beside it {', '.join(beside)}")
+            yield run(name, tell)
+        for outcome in others.result():
+            tell("\n".join([f"== {outcome.name}: {PARTS[outcome.name]}", *lines[outcome.name]]))
             yield outcome
 
 
 def main(words):
     if words not in ([], ["--keep-going"]):
         raise SystemExit(__doc__)
-    os.chdir(os.path.join(os.path.dirname(os.path.abspath(__file__)), ".."))
-    outcomes, left, began = [], [name for stage in STAGES for name, _ in stage], time.time()
-    for stage in STAGES:
-        for outcome in run_stage(stage):
+    os.chdir(TOP)
+    rows = stages()
+    outcomes, began = [], time.time()
+    left = [name for parts, beside in rows for name in (*beside, *parts)]
+    for parts, beside in rows:
+        for outcome in run_stage(parts, beside):
             outcomes.append(outcome)
             left.remove(outcome.name)
             tell(f"== {outcome}")
         if any(it.failed for it in outcomes) and not words:
             break
+    return conclude(outcomes, left, time.time() - began)
+
+
+def conclude(outcomes, left, wall):
+    """Tells what the gate came to, and leaves its times."""
     print("== the gate")
     for it in outcomes:
         print(it)
     for name in left:
         print(f"{name}: not run")
-    print(f"all: {minutes(time.time() - began)}, {minutes(sum(it.cpu for it in outcomes))} of processors")
-    failed = sum(it.failed for it in outcomes)
-    print(f"{sum(it.passed for it in outcomes)} passed, {failed} failed")
+    cpu = sum(it.cpu for it in outcomes)
+    print(f"all: {minutes(wall)}, {minutes(cpu)} of processors")
+    gate_file.update("parts", {it.name: {"wall": round(it.wall, 1), "cpu": round(it.cpu, 1)} for it in outcomes})
+    if not left:
+        gate_file.update("whole", {"wall": round(wall, 1), "cpu": round(cpu, 1)})
+    passed, failed, skipped = (sum(getattr(it, kind) for it in outcomes) for kind in ("passed", "failed", "skipped"))
+    print(counts_of(passed, failed, skipped))
     return 1 if failed else 0
 
 

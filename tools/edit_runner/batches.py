@@ -91,13 +91,26 @@ def judged(crate, edit, answer):
     return Judgement(True), counted
 
 
+def likely_names(crate, function):
+    """Returns what the prover may call a function, without its crate: the likeliest name first."""
+    if not function.block:
+        return [path_of(function.modules, function.name)]
+    kind, names, _ = block_names(function.block)
+    modules = [function.modules, *sorted(crate.modules[kind] - {function.modules})]
+    return [path_of(stem, it, function.name) for stem in modules for it in names]
+
+
 def try_batch(crate, batch, check, tell):
-    """Checks a batch by check(texts) and returns a judgement for each edit, and the seconds of processor that it took. What
-    is not refused in company is tried alone, and a batch that does not compile is halved. Tells of each check."""
+    """Checks a batch by check(texts, batch) and returns a judgement for each edit, and the seconds of processor that it took. What
+    is not refused in company is tried alone, and a batch that does not compile is halved. Tells of each check. An edit that the time
+    ran out for has no judgement."""
     texts = {}
     for it in batch:
         texts = it.applied(texts)
-    answer = check(texts)
+    try:
+        answer = check(texts, batch)
+    except checks.OutOfTime:
+        return {}, 0
     count = f"{len(batch)} edits" if len(batch) > 1 else batch[0].name
     said = f"{crate.name}: {count} in one check, {answer.cpu:.0f} CPU s, {answer.wall:.0f} s"
     if answer.status == checks.NO_VERDICT and len(batch) > 1:

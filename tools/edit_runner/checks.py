@@ -10,8 +10,10 @@ import threading
 import time
 
 PROVED, REFUSED, NO_VERDICT = range(3)
-LONGEST = 3600  # seconds that one check may take
 
+# What a check of some functions alone ends with, and what it says of a name that no function has.
+SOME = re.compile(r"only=\d+ proved=\d+")
+NO_FUNCTION = re.compile(r"rattle: error: .* function `([^`]+)`")
 VERDICT = re.compile(r"(fn|impl) (\S+): (.*)")
 # What antt says where it could not read a text, and where a proof names what an edit took away.
 UNREAD = r"is not in scope|has no field|is no name|operand is missing|expected the end|cannot continue"
@@ -51,6 +53,11 @@ class Answer:
         by_search = "did not prove" in self.verdicts.get(("fn", function), "")
         return bool(said) and not by_search and all(re.search(GONE, it) for it in said)
 
+    def unknown(self):
+        """Returns the name that a check of some functions found no function for, if that ended it."""
+        found = next(filter(None, map(NO_FUNCTION.search, self.lines)), None) if self.status == NO_VERDICT else None
+        return found[1] if found else None
+
 
 def is_by_itself(verdict):
     """Returns whether a verdict refuses a function for itself, and not for what it calls."""
@@ -58,50 +65,68 @@ def is_by_itself(verdict):
     return verdict.startswith(own) and "it waits for" not in verdict
 
 
+class OutOfTime(Exception):
+    """The minutes of a run were over before a check had ended."""
+
+
 class Checks:
-    """Runs checks from several threads, and can end all of them."""
+    """Runs checks from several threads, and can end all of them, or those that have only so much time."""
 
     def __init__(self):
-        self.running, self.is_stopped, self.lock = set(), False, threading.Lock()
+        self.running, self.is_stopped, self.is_over, self.lock = {}, False, False, threading.Lock()
 
-    def run(self, folder, jobs=1):
-        return self.call(folder, "check", "--jobs", str(jobs))
+    def run(self, folder, jobs=1, only=(), is_timed=False):
+        """Checks the crate in a folder, or only these functions of it and what they call."""
+        return self.call(folder, "check", "--jobs", str(jobs), *[word for it in only for word in ("--only", it)], is_timed=is_timed)
 
-    def call(self, folder, *words):
+    def call(self, folder, *words, is_timed=False):
         """Runs a command of rt, and takes its answer for that of a check."""
         began = time.time()
         with tempfile.TemporaryFile("w+", errors="replace") as out:
             with self.lock:
                 if self.is_stopped:
                     raise RuntimeError("stopped")
+                if is_timed and self.is_over:
+                    raise OutOfTime
                 how = {"cwd": folder, "stdin": subprocess.DEVNULL, "stdout": out, "stderr": subprocess.STDOUT}
                 # A process group of its own, to be ended by, and not a session: Linux shares the processors out among
                 # sessions (sched(7), autogroup), so that a check with one of its own would not be nice to others.
                 child = subprocess.Popen(["rt", *words], process_group=0, **how)
-                self.running.add(child.pid)
-            alarm = threading.Timer(LONGEST, os.killpg, (child.pid, signal.SIGKILL))
-            alarm.daemon = True
-            alarm.start()
+                self.running[child.pid] = is_timed
             _, ended, used = os.wait4(child.pid, 0)
-            alarm.cancel()
             with self.lock:
-                self.running.discard(child.pid)
+                del self.running[child.pid]
             child.returncode = os.waitstatus_to_exitcode(ended)
+            if is_timed and self.is_over and child.returncode < 0:
+                raise OutOfTime
             out.seek(0)
             lines = out.read().split("\n")
         return Answer(status_of(child.returncode, lines), lines, used.ru_utime + used.ru_stime, time.time() - began)
 
+    def end_timed(self):
+        """Ends the checks that have only so much time, and lets no other of them begin."""
+        with self.lock:
+            self.is_over = True
+            self.kill(pid for pid, is_timed in self.running.items() if is_timed)
+
     def stop(self):
         with self.lock:
             self.is_stopped = True
-            for it in self.running:
+            self.kill(self.running)
+
+    def kill(self, processes):
+        for it in processes:
+            try:
                 os.killpg(it, signal.SIGKILL)
+            except ProcessLookupError:
+                pass
 
 
 def status_of(code, lines):
-    last = next((it for it in reversed(lines) if it.startswith("logic=")), "")
-    if code == 0 and last.startswith("logic=proved"):
+    last = next((it for it in reversed(lines) if it.startswith(("logic=", "only="))), "")
+    is_some = bool(SOME.fullmatch(last))
+    if code == 0 and (last.startswith("logic=proved") or is_some):
         return PROVED
-    if code == 1 and last.startswith("logic=not-proved"):
+    if code == 1 and (last.startswith("logic=not-proved") or is_some):
         return REFUSED
     return NO_VERDICT

@@ -31,6 +31,8 @@ class Edit:
         self.name = os.path.basename(file)
         self.label = f"{crate.name}/{os.path.relpath(file, crate.folder)}"
         self.fault, self.replacements, self.functions, self.shares = "", [], [], False
+        # The edits of the lowest rank are tried first.
+        self.rank = 0
         try:
             self.replacements = read_replacements(file)
             places, self.paths = self.places({})

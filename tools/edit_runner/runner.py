@@ -1,15 +1,19 @@
-"""Proves the crates with edits as they stand, in a copy of the repository, and tries their edits over what that kept."""
+"""Tries edits in copies of the repository: over the proof of their crate as it stands, or from nothing where they are few."""
 
 import collections
 import concurrent.futures
+import contextlib
 import os
 import shutil
 import sys
 import tempfile
 import threading
 
-from . import batches, checks
+from . import batches, checks, libraries
 from .crate import FOLDERS
+
+# A crate of at most so many batches is not proved first: to check the changed functions alone is less work, also from nothing.
+FEW = 2
 
 # What the name of a kept file ends in that holds a proved module.
 MODULE = ".oantt"
@@ -23,35 +27,35 @@ def tell(text):
 
 
 class Runner:
-    """Has as many checks at a time as jobs, but begins one beside others only where there is room for it. Each crate is proved as it
-    stands in a copy of the repository, the base. A batch is checked in a room, a copy for one crate, over the kept work of the
-    base. One that is apart neither takes nor leaves kept work of the repository. An edit that the results of earlier runs have is
-    not tried again, and a crate of which they have all is not proved."""
+    """Has as many checks at a time as jobs, but begins one beside others only where there is room for it. A batch is checked in a room,
+    a copy of the repository for one crate. A crate of more than a few batches, or one of which there is kept work, is proved first as it
+    stands in another copy, the base, and its batches are checked over what that kept; of others only the functions that a batch
+    changes are checked, from nothing.
 
-    def __init__(self, root, crates, jobs, results, has_room=lambda: True, is_apart=False):
-        self.root, self.crates, self.jobs, self.has_room, self.is_apart = root, crates, jobs, has_room, is_apart
+    `tried` has the edits of each crate that are to be tried, the most wanted first. Those of the sample are tried whatever time it takes;
+    the others only until `minutes` are over."""
+
+    def __init__(self, root, tried, jobs, sample=(), minutes=None, has_room=lambda: True, keep=lambda judgements: None):
+        self.root, self.crates, self.jobs, self.has_room = root, list(tried), jobs, has_room
+        self.open, self.sample, self.minutes, self.keep = tried, {*sample}, minutes, keep
         self.checks = checks.Checks()
-        self.results = results
-        self.earlier = {it: results.known(it) for it in crates}
-        self.judgements = {edit: judgement for known in self.earlier.values() for edit, judgement in known.items()}
-        self.own_cpu = collections.Counter()
-        self.edits_cpu = collections.Counter()
-        self.tried = collections.Counter()
+        self.judgements = {}
+        self.own_cpu, self.edits_cpu, self.tried = (collections.Counter() for _ in range(3))
         self.rooms, self.lock = collections.defaultdict(list), threading.Lock()
-        self.modules = {}
-        self.removals = []
+        self.modules, self.names, self.removals = {}, {}, []
 
     def run(self):
-        """Judges all edits that can be applied, and yields each crate once its edits are judged."""
-        done = [it for it in self.crates if not self.open(it)]
+        """Judges all edits that are to be tried, and yields each crate once its edits are judged or the time is over."""
+        done = [it for it in self.crates if not self.open[it]]
         yield from done
         self.crates = [it for it in self.crates if it not in done]
+        if not self.crates:
+            return
         with tempfile.TemporaryDirectory(prefix="edits-") as self.folder:
             self.base = self.new_folder("base")
             copy_texts(self.root, self.base)
-            if not self.is_apart:
-                self.take_kept()
-            with concurrent.futures.ThreadPoolExecutor(self.jobs) as pool:
+            libraries.take(self.root, self.base, self.crates)
+            with concurrent.futures.ThreadPoolExecutor(self.jobs) as pool, self.timer():
                 try:
                     yield from self.run_in(pool)
                 except BaseException:
@@ -61,29 +65,45 @@ class Runner:
             for it in self.removals:
                 it.join()
 
-    def open(self, crate):
-        """Returns the edits of a crate that are to be tried."""
-        return [it for it in good(crate) if it not in self.earlier[crate]]
+    @contextlib.contextmanager
+    def timer(self):
+        timer = threading.Timer(60 * self.minutes, self.checks.end_timed) if self.minutes is not None else None
+        if timer:
+            timer.daemon = True
+            timer.start()
+        try:
+            yield
+        finally:
+            if timer:
+                timer.cancel()
 
-    def take_kept(self):
-        for name in {it for crate in self.crates for it in (crate.name, *crate.below)}:
-            for part in ("rlib", "incremental"):
-                copy_if_there(f"{self.root}/crates/{name}/out/{part}", f"{self.base}/crates/{name}/out/{part}")
+    def batches_of(self, crate):
+        """Returns the batches of a crate: those of the sample by themselves, since they have all the time that they need."""
+        rows = [[it for it in self.open[crate] if (it in self.sample) == is_sample] for is_sample in (True, False)]
+        return [batch for row in rows for batch in batches.batches_of(row)]
+
+    def is_timed(self, batch):
+        return not self.sample.issuperset(batch)
+
+    def needs_base(self, crate):
+        return len(self.batches_of(crate)) > FEW or os.path.isdir(self.kept(crate))
 
     def run_in(self, pool):
-        unproved, ready, running = collections.deque(self.crates), [], {}
-        left = {it: len(batches.batches_of(self.open(it))) for it in self.crates}
+        unproved, ready, running = collections.deque(it for it in self.crates if self.needs_base(it)), [], {}
+        left = {it: len(self.batches_of(it)) for it in self.crates}
+        for crate in self.crates:
+            if crate not in unproved:
+                self.make_ready(ready, crate)
 
         def may_start():
             return len(running) < self.jobs and (not running or self.has_room())
 
         def start():
-            # One crate at a time is proved as it stands, the lowest first: two at once would build the same library. It has half
-            # of the jobs at least, since those above wait for it.
+            # One crate at a time is proved as it stands: two at once would build the same library. Each process loads the libraries
+            # again, so that it has one job, or those that nothing else waits for.
             if unproved and not any(batch is None for _, batch in running.values()) and may_start():
                 crate = unproved.popleft()
-                idle = self.jobs - len(running) - len(ready)
-                running[pool.submit(self.prove, crate, max(1, self.jobs // 2, idle))] = crate, None
+                running[pool.submit(self.prove, crate, max(1, self.jobs - len(running) - len(ready)))] = crate, None
             while ready and may_start():
                 crate, batch = ready.pop(0)
                 running[pool.submit(self.try_batch, crate, batch)] = crate, batch
@@ -96,9 +116,7 @@ class Runner:
                 if batch is not None:
                     left[crate] -= 1
                 elif result:
-                    ready += [(crate, it) for it in batches.batches_of(self.open(crate))]
-                    # The most work first.
-                    ready.sort(key=lambda it: -len(it[1]))
+                    self.make_ready(ready, crate)
                 else:
                     left[crate] = 0
                 if not left[crate]:
@@ -106,10 +124,19 @@ class Runner:
                     yield crate
             start()
 
+    def make_ready(self, ready, crate):
+        """The sample comes first, then what is most wanted, and of that the most work."""
+        ready += [(crate, it) for it in self.batches_of(crate)]
+        ready.sort(key=lambda it: (self.is_timed(it[1]), min(edit.rank for edit in it[1]), -len(it[1])))
+
     def prove(self, crate, jobs):
-        """Proves a crate as it stands. Returns whether it is proved."""
+        """Proves a crate as it stands. Returns whether it is proved, and so its edits can be tried."""
         folder = f"{self.base}/crates/{crate.name}"
-        answer = self.checks.run(folder, jobs)
+        is_timed = self.is_timed(self.open[crate])
+        try:
+            answer = self.checks.run(folder, jobs, is_timed=is_timed and not self.sample & {*self.open[crate]})
+        except checks.OutOfTime:
+            return False
         is_proved = answer.status == checks.PROVED
         self.own_cpu[crate] = answer.cpu
         if is_proved and any(crate.name in it.below for it in self.crates):
@@ -117,13 +144,13 @@ class Runner:
             self.own_cpu[crate] += self.checks.call(folder, "lib").cpu
         how = "is proved" if is_proved else "IS NOT PROVED"
         tell(f"{crate.name}: the crate itself {how}, {answer.cpu:.0f} CPU s, {answer.wall:.0f} s")
-        if not is_proved:
-            tell("\n".join(answer.lines[-12:]))
-        elif not self.is_apart:
+        if is_proved:
             self.hand_over(crate)
+        else:
+            tell("\n".join(answer.lines[-12:]))
+            for it in self.open[crate]:
+                self.judgements[it] = batches.Judgement(False, "not tried: the crate itself is not proved")
         self.modules[crate] = modules_of(self.kept(crate))
-        for it in self.open(crate):
-            self.judgements[it] = batches.Judgement(False, "not tried: the crate itself is not proved")
         return is_proved
 
     def hand_over(self, crate):
@@ -135,7 +162,7 @@ class Runner:
 
     def expect_unchanged(self, crate):
         """Stops where a check wrote into a proved module, of which the rooms have no copies: then nothing that was tried counts."""
-        if self.modules[crate] != modules_of(self.kept(crate)):
+        if crate in self.modules and self.modules[crate] != modules_of(self.kept(crate)):
             sys.exit(f"{crate.name}: a check of an edit changed what was proved of the crate as it stands")
 
     def kept(self, crate):
@@ -151,33 +178,58 @@ class Runner:
             free = self.rooms[crate]
             room = free.pop() if free else None
         room = room or self.new_room(crate)
+        is_timed = self.is_timed(batch)
         try:
-            found, cpu = batches.try_batch(crate, batch, lambda texts: self.check(crate, room, texts), tell)
+            found, cpu = batches.try_batch(crate, batch, lambda texts, edits: self.check(crate, room, texts, edits, is_timed), tell)
         finally:
             with self.lock:
                 self.rooms[crate].append(room)
         self.expect_unchanged(crate)
-        self.results.keep(crate, found)
         with self.lock:
+            self.keep(found)
             self.judgements.update(found)
             self.edits_cpu[crate] += cpu
 
-    def check(self, crate, room, texts):
-        """Checks the crate with these texts in place of its own."""
+    def check(self, crate, room, texts, edits, is_timed):
+        """Checks the crate with these texts in place of its own, which the edits have made."""
         folder = f"{room}/crates/{crate.name}"
-        mirror(self.kept(crate), f"{folder}/out/incremental")
+        has_base = crate in self.modules
+        if has_base:
+            mirror(self.kept(crate), f"{folder}/out/incremental")
         write_all(folder, texts)
-        answer = self.checks.run(folder)
-        write_all(folder, {path: crate.texts[path] for path in texts})
+        try:
+            if has_base or not all(it.shares for it in edits):
+                answer = self.checks.run(folder, is_timed=is_timed)
+            else:
+                answer = self.check_some(crate, folder, edits, is_timed)
+        finally:
+            write_all(folder, {path: crate.texts[path] for path in texts})
         with self.lock:
             self.tried[crate] += 1
         return answer
+
+    def check_some(self, crate, folder, edits, is_timed):
+        """Checks the functions that these edits change, and what they call; the whole crate where no name fits one of them."""
+        functions, cpu = dict.fromkeys(function for it in edits for function in it.functions), 0
+        for it in functions:
+            self.names.setdefault(it, batches.likely_names(crate, it))
+        while all(self.names[it] for it in functions):
+            answer = self.checks.run(folder, only=[self.names[it][0] for it in functions], is_timed=is_timed)
+            cpu += answer.cpu
+            misfits = [it for it in functions if self.names[it][0] == answer.unknown()]
+            if not misfits:
+                answer.cpu = cpu
+                return answer
+            for it in misfits:
+                del self.names[it][0]
+        return self.checks.run(folder, is_timed=is_timed)
 
     def new_room(self, crate):
         room = self.new_folder(f"{crate.name}-")
         copy_texts(self.base, room)
         for it in crate.below:
-            shutil.copytree(f"{self.base}/crates/{it}/out/rlib", f"{room}/crates/{it}/out/rlib", copy_function=place)
+            if os.path.isdir(f"{self.base}/crates/{it}/out/rlib"):
+                shutil.copytree(f"{self.base}/crates/{it}/out/rlib", f"{room}/crates/{it}/out/rlib", copy_function=place)
         return room
 
     def new_folder(self, name):
@@ -192,11 +244,6 @@ def write_all(folder, texts):
     for path, text in texts.items():
         with open(f"{folder}/{path}", "w", encoding="utf-8") as it:
             it.write(text)
-
-
-def copy_if_there(source, target):
-    if os.path.isdir(source):
-        shutil.copytree(source, target)
 
 
 def copy_texts(root, to):

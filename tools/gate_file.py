@@ -1,0 +1,27 @@
+"""What the gate measured on this machine: out/gate.json, which `make test` and `make edits` leave, and `make gate-report` reads."""
+
+import json
+import os
+import tempfile
+
+TOP = os.path.join(os.path.dirname(os.path.abspath(__file__)), "..")
+PLACE = os.path.join(TOP, "out", "gate.json")
+
+
+def read(place=PLACE):
+    """Returns what was measured, by subject; nothing where no run has left anything."""
+    try:
+        with open(place, encoding="utf-8") as file:
+            return json.load(file)
+    except (OSError, ValueError):
+        return {}
+
+
+def update(subject, measured, place=PLACE):
+    """Puts the newly measured entries of a subject in place of older ones; others stay."""
+    whole = read(place)
+    whole.setdefault(subject, {}).update(measured)
+    os.makedirs(os.path.dirname(place), exist_ok=True)
+    with tempfile.NamedTemporaryFile("w", dir=os.path.dirname(place), delete=False, encoding="utf-8") as file:
+        json.dump(whole, file, indent=1, sort_keys=True)
+    os.replace(file.name, place)

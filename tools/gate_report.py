@@ -1,0 +1,81 @@
+#!/usr/bin/env python3
+"""The table of what the gate took on one machine, and its place in docs/ARCHITECTURE.md.
+
+    tools/gate_report.py [RESULTS [DOCUMENT]]
+
+puts what `make test` and `make edits` left in out/gate.json between the two marks of the document. It measures nothing."""
+
+import os
+import sys
+
+import gate_file
+
+DOCUMENT = os.path.join(gate_file.TOP, "docs", "ARCHITECTURE.md")
+BEGINS = "<!-- The table of make gate-report begins -->\n"
+ENDS = "<!-- The table of make gate-report ends -->\n"
+
+# What the proof of a crate from nothing may take, in seconds of processor: more for one above the store that answers queries.
+BUDGET = 240
+BUDGETS = {"ctl_index": 390, "ctl_query": 390}
+
+
+def crates():
+    """The crates of the repository, in the order of crates.txt."""
+    with open(os.path.join(gate_file.TOP, "crates.txt"), encoding="utf-8") as file:
+        return [line.partition(":")[0].strip() for line in file if line.partition("#")[0].strip()]
+
+
+def shown(seconds):
+    return "-" if seconds is None else "%.0f" % seconds
+
+
+def row(name, proofs, edits):
+    """A row of the table: a dash where nothing was measured."""
+    proof, tried = proofs.get(name, {}), edits.get(name, {})
+    counts = "%d of %d" % (tried["tried"], tried["edits"]) if tried else "-"
+    budget = BUDGETS.get(name, BUDGET)
+    return "| `%s` | %s | %s | %d | %s | %s | %s | %s |" % (name, proof.get("functions", "-"), shown(proof.get("proof")), budget,
+                                                         shown(proof.get("tests") or None), counts, shown(tried.get("base") or None), shown(tried.get("seconds")))
+
+
+def parts_of(results):
+    """What each part took, as sentences; nothing where no gate has run."""
+    parts = ["`%s` %.1f and %.1f" % (name, took["wall"] / 60, took["cpu"] / 60) for name, took in sorted(results.get("parts", {}).items())]
+    whole = results.get("whole")
+    said = ["The parts, in minutes by the clock and of processors: %s." % ", ".join(parts)] if parts else []
+    return said + (["The whole gate: %.1f and %.1f." % (whole["wall"] / 60, whole["cpu"] / 60)] if whole else [])
+
+
+def section(results, names):
+    """What stands between the marks."""
+    machine = results.get("machine", {}).get("words", "an unnamed machine")
+    head = ["Measured on %s. Seconds are of processors; a dash stands where nothing was measured." % machine, *parts_of(results)]
+    table = ["| Crate | Functions | Proof from nothing | At most | Tests under proof | Edits tried | The crate itself for them | They |", "|---|---|---|---|---|---|---|---|"]
+    table += [row(name, results.get("proofs", {}), results.get("edits", {})) for name in names]
+    return "\n%s\n\n%s\n\n" % ("\n".join(head), "\n".join(table))
+
+
+def put(document, text):
+    """Puts a text between the marks of a document."""
+    with open(document, encoding="utf-8") as file:
+        whole = file.read()
+    if whole.count(BEGINS) != 1 or whole.count(ENDS) != 1:
+        raise SystemExit("the document has no two marks")
+    before, behind = whole.split(BEGINS)[0], whole.split(ENDS)[1]
+    with open(document, "w", encoding="utf-8") as file:
+        file.write(before + BEGINS + text + ENDS + behind)
+
+
+def main(words):
+    if len(words) > 2:
+        raise SystemExit(__doc__)
+    results = gate_file.read(*words[:1])
+    if not results:
+        raise SystemExit("nothing was measured: make test or make edits comes first")
+    put(words[1] if len(words) == 2 else DOCUMENT, section(results, crates()))
+    print(section(results, crates()), end="")
+    return 0
+
+
+if __name__ == "__main__":
+    sys.exit(main(sys.argv[1:]))
