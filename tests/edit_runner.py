@@ -1,7 +1,7 @@
 """Tests tools/batch_edits.py on a repository of one small crate, which it makes in a temporary folder. Edits that the
 prover refuses by themselves pass. An edit of a comment, one whose function only calls another that is refused, one that
-doesn't compile and one that can't be applied are told as failed. What was refused is kept, and not tried again. The rooms in
-which edits are tried have proved modules by second names, and a module that is written into stops the runner."""
+doesn't compile and one that can't be applied are told as failed. The rooms in which edits are tried have proved modules by second
+names, and a module that is written into stops the runner. What the ledger reads of a crate below moves as its built library does."""
 
 import os
 import subprocess
@@ -84,6 +84,11 @@ def write(path, text):
         it.write(text)
 
 
+def read(path):
+    with open(path, encoding="utf-8", errors="replace") as it:
+        return it.read()
+
+
 def make_repository(root, edits):
     write(root + "/crates.txt", "numbers:\n")
     write(root + "/HANDLES", "Handles allowed: none.\n")
@@ -93,8 +98,7 @@ def make_repository(root, edits):
 
 
 def call(root, *words):
-    how = {"stdout": subprocess.PIPE, "stderr": subprocess.PIPE, "text": True, "env": {**os.environ, "XDG_CACHE_HOME": root + "/cache"}}
-    done = subprocess.run([sys.executable, TOOL, *words], cwd=root, **how)
+    done = subprocess.run([sys.executable, TOOL, *words], cwd=root, stdout=subprocess.PIPE, stderr=subprocess.PIPE, text=True)
     return done.returncode, done.stdout.splitlines(), done.stdout + done.stderr
 
 
@@ -102,7 +106,7 @@ def test_edits(tests):
     with tempfile.TemporaryDirectory() as root:
         make_repository(root, EDITS)
         status, lines, told = call(root, "--jobs", "1")
-        test_kept_results(tests, root)
+        written = read(root + "/edits.ledger").splitlines()
     for name, folder, _, _, fault in EDITS:
         said = [it for it in lines if it.startswith("numbers/%s/%s.edit: " % (folder, name)) or "/%s.edit: BAD" % name in it]
         is_well = len(said) == 1 and fault in said[0] if fault else not said
@@ -110,23 +114,8 @@ def test_edits(tests):
     failed = sum(fault is not None for *_, fault in EDITS)
     tests.expect("count", lines[-1:] == ["%d passed, %d failed" % (len(EDITS) - failed, failed)], told)
     tests.expect("status of failed edits", status == 1, told)
-
-
-def test_kept_results(tests, root):
-    """What was refused is not tried again until something changes that it stands on. What failed is."""
-    for name, folder, *_, fault in EDITS:
-        if fault and name != "comment":
-            os.remove("%s/crates/numbers/%s/%s.edit" % (root, folder, name))
-    _, lines, told = call(root)
-    is_well = lines[-2].startswith("numbers: 4 edits, 3 of an earlier run, in 1 checks") and lines[-1] == "3 passed, 1 failed"
-    tests.expect("kept results", is_well, told)
-    os.remove(root + "/crates/numbers/edits/comment.edit")
-    status, lines, told = call(root)
-    is_well = lines == ["numbers: 3 edits, 3 of an earlier run, in 0 checks, 0 CPU s; the crate itself 0 CPU s", "3 passed, 0 failed"]
-    tests.expect("nothing is checked for kept results", status == 0 and is_well, told)
-    write(root + "/crates/numbers/src/lib.rt", SOURCE.replace("Half of", "One half of"))
-    _, lines, told = call(root, "--edits", "lesser")
-    tests.expect("a changed crate", lines[-2].startswith("numbers: 1 edits, 0 of an earlier run, in 1 checks"), told)
+    wanted = sorted("numbers " + name for name, *_, fault in EDITS if not fault)
+    tests.expect("the ledger has those that were refused", [it.rsplit(" ", 1)[0] for it in written] == wanted, "\n".join(written))
 
 
 def test_good_edits(tests):
@@ -137,30 +126,51 @@ def test_good_edits(tests):
         write(root + "/crates/above/src/lib.rt", ABOVE)
         write(root + "/crates/above/edits/one-alone.edit", "file: src/lib.rt\nold: greater(a, 1)\nnew: a\n")
         status, lines, told = call(root, "--jobs", "2")
-        tests.expect("kept work is left", os.path.isdir(root + "/crates/numbers/out/incremental"), told)
     tests.expect("good edits", status == 0 and lines[-1:] == ["2 passed, 0 failed"], told)
 
 
-def test_apart(tests):
-    """Something else may be at work in the folders where the kept work is: they stay as they are."""
-    with tempfile.TemporaryDirectory() as root:
-        make_repository(root, EDITS[:1])
-        kept = root + "/crates/numbers/out/incremental/kept"
-        write(kept, "none")
-        status, lines, told = call(root, "--apart")
-        left = os.listdir(root + "/crates/numbers/out/incremental") + os.listdir(root + "/crates/numbers/out")
-        tests.expect("kept work stays as it is", left == ["kept", "incremental"], told)
-    tests.expect("edits apart", status == 0 and lines[-1:] == ["1 passed, 0 failed"], told)
-
-
 def test_unproved(tests):
-    """Nothing passes by edits of a crate that is not proved as it stands."""
+    """Nothing passes by edits of a crate that is not proved as it stands, where that is looked at first."""
     with tempfile.TemporaryDirectory() as root:
         make_repository(root, EDITS[:1])
+        # What a check has kept has the crate proved first.
+        os.makedirs(root + "/crates/numbers/out/incremental")
         write(root + "/crates/numbers/src/lib.rt", SOURCE.replace("result ≤ a", "result ≡ 0"))
         status, lines, told = call(root)
     is_told = "the crate itself is not proved" in told
     tests.expect("unproved crate", status == 1 and is_told and lines[-1:] == ["0 passed, 1 failed"], told)
+
+
+def statement_part(root):
+    """What a library has of statements: a sum of each file of it that a proof above reads."""
+    top, found = root + "/crates/numbers/out/rlib/numbers.rlib/", {}
+    for part in ("interface", "lang/src", "lang/antt/specs", "lang/antt/proofs"):
+        for at, _, names in os.walk(top + part):
+            found.update({os.path.join(at, it)[len(top):]: read(os.path.join(at, it)) for it in names})
+    return found
+
+
+def built(root):
+    """The statement part of the library that `rt lib` builds, and that of the ledger."""
+    subprocess.run(["rt", "lib", "--jobs", "1"], cwd=root + "/crates/numbers", check=True, stdout=subprocess.DEVNULL, stderr=subprocess.DEVNULL)
+    words = "import sys; from edit_runner.ledger import Ledger; print(Ledger(sys.argv[1], 'kit').statements_of('numbers'))"
+    how = {"stdout": subprocess.PIPE, "text": True, "check": True, "env": {**os.environ, "PYTHONPATH": os.path.abspath(TOOLS)}}
+    return statement_part(root), subprocess.run([sys.executable, "-B", "-c", words, root], **how).stdout
+
+
+def test_statements(tests):
+    """What the ledger sums up of a crate below moves as the statement part of its library does: a changed body leaves both, a changed
+    contract neither."""
+    with tempfile.TemporaryDirectory() as root:
+        make_repository(root, [])
+        first = built(root)
+        write(root + "/crates/numbers/src/lib.rt", SOURCE.replace("if a > b { a } else { b }", "if b < a { a } else { b }"))
+        body = built(root)
+        write(root + "/crates/numbers/src/lib.rt", SOURCE.replace("    ensures { result ≤ a }\n", "    ensures { result ≤ a + 0 }\n"))
+        contract = built(root)
+    tests.expect("a library has statements", len(first[0]) > 1, str(first[0].keys()))
+    tests.expect("a changed body leaves the statement part", body[0] == first[0] and body[1] == first[1], "it has changed")
+    tests.expect("a changed contract changes it", contract[0] != first[0] and contract[1] != first[1], "it has not changed")
 
 
 def test_listings(tests):
@@ -243,5 +253,5 @@ def run(tests):
     test_listings(tests)
     test_edits(tests)
     test_good_edits(tests)
-    test_apart(tests)
+    test_statements(tests)
     test_unproved(tests)

@@ -4,7 +4,9 @@
 import sys
 
 import edit_runner
+import gate_parts
 import layout
+import ledger
 
 
 class Tests:
@@ -20,6 +22,8 @@ class Tests:
 def main():
     tests = Tests()
     layout.run(tests)
+    gate_parts.run(tests)
+    ledger.run(tests)
     edit_runner.run(tests)
     print("%d passed, %d failed" % (tests.passed, tests.failed))
     return 1 if tests.failed else 0

@@ -1,7 +1,7 @@
 #!/usr/bin/env python3
 """Tries the edits that must fail, many in one check: the prover has to refuse each.
 
-    tools/batch_edits.py [--crates NAME..] [--edits NAME..] [--jobs N] [--minutes N] [--gate] [--anew] [--plan | --uncovered]
+    tools/batch_edits.py [--crates NAME..] [--edits NAME..] [--jobs N] [--minutes N] [--sample N] [--gate] [--anew] [--plan | --uncovered]
 
 It is called at the top of the repository, and tries crates/NAME/edits/ and crates/NAME/must-fail/: those edits that have no line in
 edits.ledger which is of these very sources, those of new and changed functions first, and then a sample of ten of the others, drawn by
@@ -36,6 +36,7 @@ from edit_runner.runner import Runner, good  # noqa: E402
 
 JOBS = "at most so many checks at a time, each of about 3 GB, and never more than free memory allows (else as many as processors)"
 MINUTES = "begin no check of an edit that is due after so many minutes, and end those that run; the sample has all its time"
+SAMPLE = "try so many of the edits that are not due (else ten)"
 GATE = "read the ledger, and don't write it"
 ANEW = "try all edits"
 PLAN = "list the batches and the edits that cannot be applied, and check nothing"
@@ -70,6 +71,7 @@ def read_words():
     words.add_argument("--edits", nargs="+", metavar="NAME", help="only the edits of these names, without .edit")
     words.add_argument("--jobs", type=int, metavar="N", help=JOBS)
     words.add_argument("--minutes", type=float, metavar="N", help=MINUTES)
+    words.add_argument("--sample", type=int, metavar="N", default=plan.SAMPLE, help=SAMPLE)
     words.add_argument("--gate", action="store_true", help=GATE)
     words.add_argument("--anew", action="store_true", help=ANEW)
     listing = words.add_mutually_exclusive_group()
@@ -116,7 +118,7 @@ class Run:
         is_named = given.anew or given.edits
         self.valid = {it for it in edits if self.ledger.is_valid(it)}
         due = [it for it in edits if is_named or it not in self.valid]
-        self.sample = [] if is_named else plan.drawn(root, self.valid)
+        self.sample = [] if is_named else plan.drawn(root, self.valid, given.sample)
         plan.rank(root, self.ledger, due)
         wanted = sorted(due, key=lambda it: it.rank) + self.sample
         tried = {crate: [it for it in wanted if it.crate is crate] for crate in crates}

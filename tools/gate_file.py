@@ -1,5 +1,6 @@
 """What the gate measured on this machine: out/gate.json, which `make test` and `make edits` leave, and `make gate-report` reads."""
 
+import contextlib
 import json
 import os
 import tempfile
@@ -17,9 +18,17 @@ def read(place=PLACE):
         return {}
 
 
+def machine():
+    """What the machine is, in words."""
+    model = ""
+    with contextlib.suppress(OSError), open("/proc/cpuinfo", encoding="utf-8", errors="replace") as file:
+        model = next((line.partition(":")[2].strip() for line in file if line.startswith("model name")), "")
+    return "%d processors%s" % (len(os.sched_getaffinity(0)), ", " + model if model else "")
+
+
 def update(subject, measured, place=PLACE):
     """Puts the newly measured entries of a subject in place of older ones; others stay."""
-    whole = read(place)
+    whole = {**read(place), "machine": machine()}
     whole.setdefault(subject, {}).update(measured)
     os.makedirs(os.path.dirname(place), exist_ok=True)
     with tempfile.NamedTemporaryFile("w", dir=os.path.dirname(place), delete=False, encoding="utf-8") as file:

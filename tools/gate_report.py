@@ -48,8 +48,7 @@ def parts_of(results):
 
 def section(results, names):
     """What stands between the marks."""
-    machine = results.get("machine", {}).get("words", "an unnamed machine")
-    head = ["Measured on %s. Seconds are of processors; a dash stands where nothing was measured." % machine, *parts_of(results)]
+    head = ["Measured on %s. Seconds are of processors; a dash stands where nothing was measured." % results["machine"], *parts_of(results)]
     table = ["| Crate | Functions | Proof from nothing | At most | Tests under proof | Edits tried | The crate itself for them | They |", "|---|---|---|---|---|---|---|---|"]
     table += [row(name, results.get("proofs", {}), results.get("edits", {})) for name in names]
     return "\n%s\n\n%s\n\n" % ("\n".join(head), "\n".join(table))

@@ -14,7 +14,8 @@ from .crate import PARTS, crates_of
 
 
 def take(root, base, crates):
-    """Gives the copy `base` the libraries below some crates, as they stand in `root`, and what checks kept of these crates."""
+    """Gives the copy `base` the libraries below some crates, as they stand in `root`, and what checks kept of these crates. Returns those
+    that have to be built, the lowest first."""
     below = crates_of(root)
     wanted = sorted({it for crate in crates for it in crate.below}, key=lambda it: len(below[it]))
     is_of_gate = bool(wanted) and all(is_fresh(root, it, below[it]) for it in wanted)
@@ -23,11 +24,11 @@ def take(root, base, crates):
     # Of the lower crates `rt` needs that only to build a library again.
     for name in {*(it.name for it in crates), *([] if is_of_gate else wanted)}:
         copy_if_there(f"{root}/crates/{name}/out/incremental", f"{base}/crates/{name}/out/incremental")
-    if is_of_gate:
-        for name, stamp in stamps_of(base).items():
-            if name in wanted:
-                with open(f"{base}/crates/{name}/out/rlib/stamp", "w", encoding="utf-8") as it:
-                    it.write(stamp)
+    stamps = stamps_of(base) if wanted else {}
+    for name in wanted if is_of_gate and stamps else ():
+        with open(f"{base}/crates/{name}/out/rlib/stamp", "w", encoding="utf-8") as it:
+            it.write(stamps[name])
+    return [it for it in wanted if it in stamps and read(f"{base}/crates/{it}/out/rlib/stamp") != stamps[it]]
 
 
 def is_fresh(root, name, below):
@@ -62,6 +63,14 @@ def stamps_of(base):
         return {it.name: it.stamp() for it in rtlib.crates_below(base) if it.makes_rlib()}
     except (ImportError, OSError, AttributeError, SystemExit):
         return {}
+
+
+def read(path):
+    try:
+        with open(path, encoding="utf-8") as it:
+            return it.read()
+    except FileNotFoundError:
+        return ""
 
 
 def copy_if_there(source, target):

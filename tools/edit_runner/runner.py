@@ -54,7 +54,8 @@ class Runner:
         with tempfile.TemporaryDirectory(prefix="edits-") as self.folder:
             self.base = self.new_folder("base")
             copy_texts(self.root, self.base)
-            libraries.take(self.root, self.base, self.crates)
+            for name in libraries.take(self.root, self.base, self.crates):
+                self.build_library(name)
             with concurrent.futures.ThreadPoolExecutor(self.jobs) as pool, self.timer():
                 try:
                     yield from self.run_in(pool)
@@ -139,9 +140,6 @@ class Runner:
             return False
         is_proved = answer.status == checks.PROVED
         self.own_cpu[crate] = answer.cpu
-        if is_proved and any(crate.name in it.below for it in self.crates):
-            # Else the check of a crate above would do it, and change the kept work while edits are tried over it.
-            self.own_cpu[crate] += self.checks.call(folder, "lib").cpu
         how = "is proved" if is_proved else "IS NOT PROVED"
         tell(f"{crate.name}: the crate itself {how}, {answer.cpu:.0f} CPU s, {answer.wall:.0f} s")
         if is_proved:
@@ -152,6 +150,11 @@ class Runner:
                 self.judgements[it] = batches.Judgement(False, "not tried: the crate itself is not proved")
         self.modules[crate] = modules_of(self.kept(crate))
         return is_proved
+
+    def build_library(self, name):
+        """Builds a library in the base, which else each room would do, and change the kept work while edits are tried over it."""
+        answer = self.checks.call(f"{self.base}/crates/{name}", "lib", "--jobs", str(self.jobs))
+        tell(f"{name}: its library for the crates above, {answer.cpu:.0f} CPU s, {answer.wall:.0f} s")
 
     def hand_over(self, crate):
         """Leaves the kept work where the repository has none of the crate, so that the next run starts over it."""

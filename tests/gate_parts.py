@@ -1,0 +1,95 @@
+"""Tests tools/gate.py on a Makefile of made parts, how it tells proofs from other checks, and the table of what was measured."""
+
+import json
+import os
+import shutil
+import subprocess
+import sys
+import tempfile
+
+TOOLS = os.path.join(os.path.dirname(os.path.abspath(__file__)), "..", "tools")
+sys.path.append(TOOLS)
+
+import gate  # noqa: E402
+import gate_report  # noqa: E402
+import proof_seconds  # noqa: E402
+
+PARTS = ["layout", "demo", "test-tools", "prove", "test-program", "edits"]
+
+
+def run_gate(lines, words=(), more=()):
+    """Runs the gate in a folder whose parts print one passed test, or what `lines` has for them; returns its status and its lines, and
+    what was left of measurements. A line of two words is followed by a failure."""
+    with tempfile.TemporaryDirectory() as folder:
+        os.mkdir(folder + "/tools")
+        for name in ("gate.py", "gate_file.py", "proof_seconds.py"):
+            shutil.copy(os.path.join(TOOLS, name), folder + "/tools")
+        with open(folder + "/Makefile", "w", encoding="utf-8") as file:
+            for name in (*PARTS, *more):
+                file.write("%s:\n\t@%s\n" % (name, lines.get(name, "echo '1 passed, 0 failed'")))
+        done = subprocess.run([sys.executable, "tools/gate.py", *words], cwd=folder, stdout=subprocess.PIPE, stderr=subprocess.STDOUT, text=True)
+        with open(folder + "/out/gate.json", encoding="utf-8") as file:
+            measured = json.load(file)
+    return done.returncode, done.stdout.splitlines(), measured
+
+
+def test_parts(tests):
+    status, lines, measured = run_gate({})
+    tests.expect("the parts that are there", (status, lines[-1]) == (0, "6 passed, 0 failed") and sorted(measured["parts"]) == sorted(PARTS), lines)
+    status, lines, _ = run_gate({}, more=["test-python"])
+    tests.expect("a part that comes", (status, lines[-1]) == (0, "7 passed, 0 failed"), lines)
+    status, lines, _ = run_gate({"test-program": "echo '5 passed, 0 failed, 2 skipped'", "edits": "echo \"asked: $(IN_GATE)\"; echo '9 passed, 0 failed, 3 skipped'"})
+    tests.expect("skipped tests are counted", (status, lines[-1]) == (0, "18 passed, 0 failed, 5 skipped") and "asked: 1" in lines, lines)
+    status, lines, _ = run_gate({"demo": "echo '1 passed, 2 failed'; false"})
+    tests.expect("a part that fails stops the gate", (status, lines[-1]) == (1, "2 passed, 2 failed") and "prove: not run" in lines, lines)
+    status, lines, _ = run_gate({"demo": "echo '1 passed, 2 failed'; false"}, ["--keep-going"])
+    tests.expect("or is gone past", (status, lines[-1]) == (1, "6 passed, 2 failed"), lines)
+    for what, command in (("no count", "echo all well"), ("a count of none, and a failure", "echo '1 passed, 0 failed'; false")):
+        status, lines, _ = run_gate({"edits": command}, ["--keep-going"])
+        tests.expect("a part of %s has failed" % what, status == 1 and lines[-1].endswith(" passed, 1 failed"), lines)
+
+
+def test_proofs(tests):
+    """The words of processes of `rt ci`, and the functions that it tells of."""
+    rattle = "/opt/kit/bin/rattle"
+    for words, wanted in (
+        ([rattle, "build", "--crate-name", "low", "src/lib.rt", "--statements", "-o", "out"], ("low", "proof")),
+        ([rattle, "check", "--crate-name", "app", "src/main.rt", "-o", "/tmp/checked"], ("app", "proof")),
+        ([rattle, "build", "--crate-name", "app", "src/main.rt", "--crate-checked", "/tmp/checked", "-o", "app.o"], None),
+        ([rattle, "build", "--crate-name", "low", "src/lib.rt", "--test", "-o", "tests.o"], ("low", "tests")),
+        ([rattle, "check", "--crate-name", "low", "src/lib.rt", "--incremental", "kept"], ("low", "must-fail")),
+        (["/usr/bin/python3", "rt", "ci"], None),
+        ([], None),
+    ):
+        tests.expect("what %s checks" % " ".join(words[1:]), proof_seconds.what_is_checked(words) == wanted, proof_seconds.what_is_checked(words))
+    lines = ["== low", "logic=proved functions=3 sum=0", "rt: low proved", "== low: its tests", "logic=proved functions=9 tests=2", "== high", "logic=proved functions=4 sum=0"]
+    found = gate.proofs_of(lines, {("low", "proof"): 2.04, ("low", "tests"): 1.0})
+    tests.expect("what is measured of proofs", found == {"low": {"functions": 3, "proof": 2.0, "tests": 1.0, "must-fail": 0}}, found)
+    with subprocess.Popen(["sh", "-c", "cp /bin/sleep rattle; ./rattle 30 & wait"], cwd=tempfile.mkdtemp(), start_new_session=True) as top:
+        seen = []
+        while not seen:
+            seen = [it for it in proof_seconds.below(top.pid) if proof_seconds.words_of(it[0])[:1] == ["./rattle"]]
+        os.killpg(top.pid, 9)
+    tests.expect("a process below another is seen", len(seen) == 1, seen)
+
+
+def test_report(tests):
+    results = {"machine": "2 processors", "parts": {"prove": {"wall": 60, "cpu": 90}}, "proofs": {"low": {"functions": 3, "proof": 12.4, "tests": 0}},
+               "edits": {"low": {"tried": 2, "edits": 5, "seconds": 30.0, "base": 0}}}
+    text = gate_report.section(results, ["low", "high"])
+    tests.expect("the table", "| `low` | 3 | 12 | 240 | - | 2 of 5 | - | 30 |\n| `high` | - | - | 240 | - | - | - | - |\n" in text, text)
+    tests.expect("the machine and the parts", "Measured on 2 processors." in text and "`prove` 1.0 and 1.5." in text, text)
+    with tempfile.TemporaryDirectory() as folder:
+        document = os.path.join(folder, "page.md")
+        with open(document, "w", encoding="utf-8") as file:
+            file.write("before\n%sold\n%sbehind\n" % (gate_report.BEGINS, gate_report.ENDS))
+        gate_report.put(document, "new\n")
+        with open(document, encoding="utf-8") as file:
+            told = file.read()
+    tests.expect("the table is put into a page", told == "before\n%snew\n%sbehind\n" % (gate_report.BEGINS, gate_report.ENDS), told)
+
+
+def run(tests):
+    test_parts(tests)
+    test_proofs(tests)
+    test_report(tests)
