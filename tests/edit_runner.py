@@ -130,15 +130,14 @@ def test_good_edits(tests):
 
 
 def test_unproved(tests):
-    """Nothing passes by edits of a crate that is not proved as it stands, where that is looked at first."""
+    """Nothing passes by edits of a crate that is not proved as it stands, where there are so many that it is proved first."""
+    more = ("third", "edits", "if a > b { a } else { b }", "if a > b { b } else { b }", None)
     with tempfile.TemporaryDirectory() as root:
-        make_repository(root, EDITS[:1])
-        # What a check has kept has the crate proved first.
-        os.makedirs(root + "/crates/numbers/out/incremental")
+        make_repository(root, [*EDITS[:2], more])
         write(root + "/crates/numbers/src/lib.rt", SOURCE.replace("result ≤ a", "result ≡ 0"))
         status, lines, told = call(root)
     is_told = "the crate itself is not proved" in told
-    tests.expect("unproved crate", status == 1 and is_told and lines[-1:] == ["0 passed, 1 failed"], told)
+    tests.expect("unproved crate", status == 1 and is_told and lines[-1:] == ["0 passed, 3 failed"], told)
 
 
 def statement_part(root):

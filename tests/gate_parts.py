@@ -65,7 +65,13 @@ def test_proofs(tests):
     lines = ["== low", "logic=proved functions=3 sum=0", "rt: low proved", "== low: its tests", "logic=proved functions=9 tests=2", "== high", "logic=proved functions=4 sum=0"]
     found = gate.proofs_of(lines, {("low", "proof"): 2.04, ("low", "tests"): 1.0})
     tests.expect("what is measured of proofs", found == {"low": {"functions": 3, "proof": 2.0, "tests": 1.0, "must-fail": 0}}, found)
-    with subprocess.Popen(["sh", "-c", "cp /bin/sleep rattle; ./rattle 30 & wait"], cwd=tempfile.mkdtemp(), start_new_session=True) as top:
+    test_processes(tests)
+
+
+def test_processes(tests):
+    """A process below another is seen, by its words."""
+    words = ["sh", "-c", "cp /bin/sleep rattle; ./rattle 300 & wait"]
+    with tempfile.TemporaryDirectory() as folder, subprocess.Popen(words, cwd=folder, start_new_session=True) as top:
         seen = []
         while not seen:
             seen = [it for it in proof_seconds.below(top.pid) if proof_seconds.words_of(it[0])[:1] == ["./rattle"]]

@@ -158,6 +158,7 @@ def test_what_voids(tests):
         ("answers of a function below", lambda it: it.write("crates/low/proofs/one/Answers.antt", "another\n"), {"low"}),
         ("a comment below", lambda it: it.turn(source, "/// The first.", "/// The very first."), {"low"}),
         ("a contract below", lambda it: it.turn(source, "-> u32\n    ensures { result ≡ 2 }", "-> u64\n    ensures { result ≡ 2 }"), {"low", "high"}),
+        ("an import for a body below", lambda it: it.turn(source, "//! Low numbers.", "//! Low numbers.\nuse other::{Name, Trait};\nuse more::Other;"), {"low"}),
         ("an import of types below", lambda it: it.turn(source, "//! Low numbers.", "//! Low numbers.\nuse other::u32;"), {"low", "high"}),
         ("a definition below", lambda it: it.write("crates/low/specs/Facts.antt", "another fact\n"), {"low", "high"}),
         ("a lemma below", lambda it: it.write("crates/low/proofs/Lemmas.antt", "another lemma\n"), {"low", "high"}),

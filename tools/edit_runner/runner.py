@@ -12,7 +12,7 @@ import threading
 from . import batches, checks, libraries
 from .crate import FOLDERS
 
-# A crate of at most so many batches is not proved first: to check the changed functions alone is less work, also from nothing.
+# A crate of at most so many batches is not proved first: to check the changed functions alone is less work.
 FEW = 2
 
 # What the name of a kept file ends in that holds a proved module.
@@ -28,9 +28,10 @@ def tell(text):
 
 class Runner:
     """Has as many checks at a time as jobs, but begins one beside others only where there is room for it. A batch is checked in a room,
-    a copy of the repository for one crate. A crate of more than a few batches, or one of which there is kept work, is proved first as it
-    stands in another copy, the base, and its batches are checked over what that kept; of others only the functions that a batch
-    changes are checked, from nothing.
+    a copy of the repository for one crate. A crate of more than a few batches is proved first as it stands in another copy, the base, and
+    its batches are checked over what that kept. Of others only the functions that a batch changes are checked, and those that they call,
+    over kept work of the repository where there is some. That a crate itself is proved is then not looked at: the proofs say so, without
+    which nothing lands.
 
     `tried` has the edits of each crate that are to be tried, the most wanted first. Those of the sample are tried whatever time it takes;
     the others only until `minutes` are over."""
@@ -87,7 +88,7 @@ class Runner:
         return not self.sample.issuperset(batch)
 
     def needs_base(self, crate):
-        return len(self.batches_of(crate)) > FEW or os.path.isdir(self.kept(crate))
+        return len(self.batches_of(crate)) > FEW
 
     def run_in(self, pool):
         unproved, ready, running = collections.deque(it for it in self.crates if self.needs_base(it)), [], {}
@@ -233,6 +234,8 @@ class Runner:
         for it in crate.below:
             if os.path.isdir(f"{self.base}/crates/{it}/out/rlib"):
                 shutil.copytree(f"{self.base}/crates/{it}/out/rlib", f"{room}/crates/{it}/out/rlib", copy_function=place)
+        if not self.needs_base(crate) and os.path.isdir(self.kept(crate)):
+            mirror(self.kept(crate), f"{room}/crates/{crate.name}/out/incremental")
         return room
 
     def new_folder(self, name):

@@ -11,6 +11,8 @@ import re
 from . import layout
 
 MODULE = re.compile(r"(?m)^\s*(?:pub )?mod (\w+)")
+# An import for the crate's own use, on one line, and what it names in braces.
+IMPORT = re.compile(r"(\s*(?:ghost )?use [^;{}]*)(?:\{([^{}]*)\})?;")
 
 
 def statements(texts):
@@ -48,7 +50,7 @@ def without_bodies(path, text):
         before = text[at : it.start]
         kept += [before, head] if is_seen(it, head) else [without_attributes(before)]
         at = it.end
-    return without_comments("".join([*kept, text[at:]]))
+    return without_imports(without_comments("".join([*kept, text[at:]])))
 
 
 def is_seen(function, head):
@@ -62,6 +64,28 @@ def without_attributes(before):
     while len(lines) > 1 and re.match(r"\s*(#\[|//)", lines[-2]):
         del lines[-2]
     return "\n".join(lines)
+
+
+def without_imports(text):
+    """Returns a text without the imported names that nothing else of it has: bodies alone use those."""
+    rows = [(line, IMPORT.fullmatch(line)) for line in text.split("\n")]
+    rest = "\n".join(line for line, found in rows if not found)
+    kept = []
+    for line, found in rows:
+        if found and found[2] is None:
+            kept += [line] if is_named(found[1], rest) else []
+        elif found:
+            names = [it.strip() for it in found[2].split(",") if it.strip() and is_named(it, rest)]
+            kept += [f"{found[1]}{{{', '.join(names)}}};"] if names else []
+        else:
+            kept.append(line)
+    return "\n".join(kept)
+
+
+def is_named(imported, text):
+    """Returns whether a text may have the name that an import gives. An operator is written apart from its arguments, `◌+◌` as `+`."""
+    name = re.split(r"::|\.|\s", imported.strip())[-1].strip("◌")
+    return name in ("*", "self") or any(it in text for it in (name.split("◌")))
 
 
 def without_comments(text):
