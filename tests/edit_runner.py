@@ -151,7 +151,8 @@ def statement_part(root):
 
 def built(root):
     """The statement part of the library that `rt lib` builds, and that of the ledger."""
-    subprocess.run(["rt", "lib", "--jobs", "1"], cwd=root + "/crates/numbers", check=True, stdout=subprocess.DEVNULL, stderr=subprocess.DEVNULL)
+    silent = {"stdout": subprocess.DEVNULL, "stderr": subprocess.DEVNULL}
+    subprocess.run(["rt", "lib", "--jobs", "1"], cwd=root + "/crates/numbers", check=True, **silent)
     words = "import sys; from edit_runner.ledger import Ledger; print(Ledger(sys.argv[1], 'kit').statements_of('numbers'))"
     how = {"stdout": subprocess.PIPE, "text": True, "check": True, "env": {**os.environ, "PYTHONPATH": os.path.abspath(TOOLS)}}
     return statement_part(root), subprocess.run([sys.executable, "-B", "-c", words, root], **how).stdout
@@ -184,8 +185,8 @@ def test_listings(tests):
         tests.expect("uncovered", status == 0 and [it.split("\t")[2:] for it in lines[:-1]] == [[" least"]], told)
 
 
-# Makes a room's kept work equal to the base's, changes it, and makes it equal again; then writes into a proved module by the room's name for
-# it. A line for each thing that is so. It is a program of its own, since this file has the name of the package that it imports.
+# Makes a room's kept work equal to the base's, changes it, and makes it equal again; then writes into a proved module by the room's
+# name for it. A line for each thing that is so. It is a program of its own, since this file has the name of the package that it imports.
 LINKS = """
 import os, sys, types
 from edit_runner import runner
@@ -237,9 +238,10 @@ print("a module that is written into stops the runner", says_stop())
 
 
 def test_links(tests):
-    """Rooms have proved modules by second names: what a check replaces stays as it was in the base, and one that is written into is told."""
+    """Rooms have proved modules by second names: what a check replaces stays as it was in the base, and what is written into is told."""
     with tempfile.TemporaryDirectory() as root:
-        how = {"stdout": subprocess.PIPE, "stderr": subprocess.STDOUT, "text": True, "cwd": root, "env": {**os.environ, "PYTHONPATH": os.path.abspath(TOOLS)}}
+        how = {"stdout": subprocess.PIPE, "stderr": subprocess.STDOUT, "text": True, "cwd": root}
+        how["env"] = {**os.environ, "PYTHONPATH": os.path.abspath(TOOLS)}
         told = subprocess.run([sys.executable, "-c", LINKS, root], **how).stdout
     found = [it for it in told.splitlines() if it.endswith((" True", " False"))]
     for it in found:

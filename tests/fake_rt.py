@@ -46,7 +46,8 @@ def check(name, only):
     for function, is_proved in asked.items():
         print(f"fn {name}::{function}: {'proved' if is_proved else 'not proved'}")
     is_whole = all(asked.values())
-    print(f"only={len(only)} proved={sum(asked.values())}" if only else f"logic={'proved' if is_whole else 'not-proved'} functions={len(own)}")
+    verdict = f"logic={'proved' if is_whole else 'not-proved'} functions={len(own)}"
+    print(f"only={len(only)} proved={sum(asked.values())}" if only else verdict)
     return 0 if is_whole else 1
 
 

@@ -18,8 +18,8 @@ PARTS = ["layout", "demo", "test-tools", "prove", "test-program", "edits"]
 
 
 def run_gate(lines, words=(), more=()):
-    """Runs the gate in a folder whose parts print one passed test, or what `lines` has for them; returns its status and its lines, and
-    what was left of measurements. A line of two words is followed by a failure."""
+    """Runs the gate in a folder whose parts print one passed test, or do what `lines` has for them; returns its status and its lines, and
+    what was left of measurements."""
     with tempfile.TemporaryDirectory() as folder:
         os.mkdir(folder + "/tools")
         for name in ("gate.py", "gate_file.py", "proof_seconds.py"):
@@ -27,7 +27,8 @@ def run_gate(lines, words=(), more=()):
         with open(folder + "/Makefile", "w", encoding="utf-8") as file:
             for name in (*PARTS, *more):
                 file.write("%s:\n\t@%s\n" % (name, lines.get(name, "echo '1 passed, 0 failed'")))
-        done = subprocess.run([sys.executable, "tools/gate.py", *words], cwd=folder, stdout=subprocess.PIPE, stderr=subprocess.STDOUT, text=True)
+        how = {"cwd": folder, "stdout": subprocess.PIPE, "stderr": subprocess.STDOUT, "text": True}
+        done = subprocess.run([sys.executable, "tools/gate.py", *words], **how)
         with open(folder + "/out/gate.json", encoding="utf-8") as file:
             measured = json.load(file)
     return done.returncode, done.stdout.splitlines(), measured
@@ -35,10 +36,12 @@ def run_gate(lines, words=(), more=()):
 
 def test_parts(tests):
     status, lines, measured = run_gate({})
-    tests.expect("the parts that are there", (status, lines[-1]) == (0, "6 passed, 0 failed") and sorted(measured["parts"]) == sorted(PARTS), lines)
+    tests.expect("the parts that are there", (status, lines[-1]) == (0, "6 passed, 0 failed"), lines)
+    tests.expect("what is measured of parts", sorted(measured["parts"]) == sorted(PARTS) and measured["whole"]["wall"] >= 0, measured)
     status, lines, _ = run_gate({}, more=["test-python"])
     tests.expect("a part that comes", (status, lines[-1]) == (0, "7 passed, 0 failed"), lines)
-    status, lines, _ = run_gate({"test-program": "echo '5 passed, 0 failed, 2 skipped'", "edits": "echo \"asked: $(IN_GATE)\"; echo '9 passed, 0 failed, 3 skipped'"})
+    edits = "echo \"asked: $(IN_GATE)\"; echo '9 passed, 0 failed, 3 skipped'"
+    status, lines, _ = run_gate({"test-program": "echo '5 passed, 0 failed, 2 skipped'", "edits": edits})
     tests.expect("skipped tests are counted", (status, lines[-1]) == (0, "18 passed, 0 failed, 5 skipped") and "asked: 1" in lines, lines)
     status, lines, _ = run_gate({"demo": "echo '1 passed, 2 failed'; false"})
     tests.expect("a part that fails stops the gate", (status, lines[-1]) == (1, "2 passed, 2 failed") and "prove: not run" in lines, lines)
@@ -61,8 +64,10 @@ def test_proofs(tests):
         (["/usr/bin/python3", "rt", "ci"], None),
         ([], None),
     ):
-        tests.expect("what %s checks" % " ".join(words[1:]), proof_seconds.what_is_checked(words) == wanted, proof_seconds.what_is_checked(words))
-    lines = ["== low", "logic=proved functions=3 sum=0", "rt: low proved", "== low: its tests", "logic=proved functions=9 tests=2", "== high", "logic=proved functions=4 sum=0"]
+        found = proof_seconds.what_is_checked(words)
+        tests.expect("what %s checks" % " ".join(words[1:]), found == wanted, found)
+    lines = ["== low", "logic=proved functions=3 sum=0", "rt: low proved", "== low: its tests", "logic=proved functions=9 tests=2"]
+    lines += ["== high", "logic=proved functions=4 sum=0"]
     found = gate.proofs_of(lines, {("low", "proof"): 2.04, ("low", "tests"): 1.0})
     tests.expect("what is measured of proofs", found == {"low": {"functions": 3, "proof": 2.0, "tests": 1.0, "must-fail": 0}}, found)
     test_processes(tests)
@@ -80,7 +85,8 @@ def test_processes(tests):
 
 
 def test_report(tests):
-    results = {"machine": "2 processors", "parts": {"prove": {"wall": 60, "cpu": 90}}, "proofs": {"low": {"functions": 3, "proof": 12.4, "tests": 0}},
+    results = {"machine": "2 processors", "parts": {"prove": {"wall": 60, "cpu": 90}},
+               "proofs": {"low": {"functions": 3, "proof": 12.4, "tests": 0}},
                "edits": {"low": {"tried": 2, "edits": 5, "seconds": 30.0, "base": 0}}}
     text = gate_report.section(results, ["low", "high"])
     tests.expect("the table", "| `low` | 3 | 12 | 240 | - | 2 of 5 | - | 30 |\n| `high` | - | - | 240 | - | - | - | - |\n" in text, text)

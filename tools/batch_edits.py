@@ -156,12 +156,13 @@ class Run:
         judged = sum(it in runner.judgements for it in tried)
         stand = len(self.valid.intersection(crate.edits))
         print(
-            f"{crate.name}: {len(crate.edits)} edits, {stand} of them refused on these sources before; {judged} tried now in {runner.tried[crate]} checks,"
-            f" {runner.edits_cpu[crate]:.0f} CPU s; the crate itself {runner.own_cpu[crate]:.0f} CPU s",
+            f"{crate.name}: {len(crate.edits)} edits, {stand} of them refused on these sources before; {judged} tried now"
+            f" in {runner.tried[crate]} checks, {runner.edits_cpu[crate]:.0f} CPU s; the crate itself {runner.own_cpu[crate]:.0f} CPU s",
             flush=True,
         )
         if judged:
-            self.measured[crate.name] = {"edits": len(crate.edits), "tried": judged, "seconds": round(runner.edits_cpu[crate], 1), "base": round(runner.own_cpu[crate], 1)}
+            seconds = {"seconds": round(runner.edits_cpu[crate], 1), "base": round(runner.own_cpu[crate], 1)}
+            self.measured[crate.name] = {"edits": len(crate.edits), "tried": judged, **seconds}
 
     def count(self, edit):
         judgement = self.runner.judgements.get(edit)
@@ -188,7 +189,10 @@ class Run:
         earlier = [it for it in edits if it not in now and key_of(it) in self.ledger.lines]
         if self.untried:
             print(f"not tried, since the minutes were over: {' '.join(it.label for it in self.untried)}")
-        print(f"{len(now)} of {len(edits)} edits stand on these sources, {len(refused)} of them tried in this run; {len(earlier)} stand on earlier ones")
+        print(
+            f"{len(now)} of {len(edits)} edits stand on these sources, {len(refused)} of them tried in this run;"
+            f" {len(earlier)} stand on earlier ones"
+        )
         if self.sample:
             print(f"the sample: {' '.join(it.label for it in self.sample)}")
         gone = self.ledger.lines.keys() - {key_of(it) for it in edits}

@@ -33,9 +33,9 @@ def row(name, proofs, edits):
     """A row of the table: a dash where nothing was measured."""
     proof, tried = proofs.get(name, {}), edits.get(name, {})
     counts = "%d of %d" % (tried["tried"], tried["edits"]) if tried else "-"
-    budget = BUDGETS.get(name, BUDGET)
-    return "| `%s` | %s | %s | %d | %s | %s | %s | %s |" % (name, proof.get("functions", "-"), shown(proof.get("proof")), budget,
-                                                         shown(proof.get("tests") or None), counts, shown(tried.get("base") or None), shown(tried.get("seconds")))
+    cells = ["`%s`" % name, str(proof.get("functions", "-")), shown(proof.get("proof")), str(BUDGETS.get(name, BUDGET))]
+    cells += [shown(proof.get("tests") or None), counts, shown(tried.get("base") or None), shown(tried.get("seconds"))]
+    return "| %s |" % " | ".join(cells)
 
 
 def parts_of(results):
@@ -48,10 +48,11 @@ def parts_of(results):
 
 def section(results, names):
     """What stands between the marks."""
-    head = ["Measured on %s. Seconds are of processors; a dash stands where nothing was measured." % results["machine"], *parts_of(results)]
-    table = ["| Crate | Functions | Proof from nothing | At most | Tests under proof | Edits tried | The crate itself for them | They |", "|---|---|---|---|---|---|---|---|"]
+    said = ["Measured on %s. Seconds are of processors; a dash stands where nothing was measured." % results["machine"], *parts_of(results)]
+    head = ["Crate", "Functions", "Proof from nothing", "At most", "Tests under proof", "Edits tried", "The crate itself for them", "They"]
+    table = ["| %s |" % " | ".join(head), "|" + "---|" * len(head)]
     table += [row(name, results.get("proofs", {}), results.get("edits", {})) for name in names]
-    return "\n%s\n\n%s\n\n" % ("\n".join(head), "\n".join(table))
+    return "\n%s\n\n%s\n\n" % ("\n".join(said), "\n".join(table))
 
 
 def put(document, text):

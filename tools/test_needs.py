@@ -46,10 +46,11 @@ def install(packages):
         return "there is no apt-get"
     if os.geteuid() != 0:
         return "only the superuser may install them"
-    environment = {**os.environ, "DEBIAN_FRONTEND": "noninteractive"}
+    how = {"stdin": subprocess.DEVNULL, "stdout": subprocess.PIPE, "stderr": subprocess.STDOUT}
+    how["env"] = {**os.environ, "DEBIAN_FRONTEND": "noninteractive"}
     for words in (["update"], ["install", "--yes", "--no-install-recommends", *packages]):
         # What apt-get says is of interest only where it fails; where the lists can't be fetched, those that are there may do.
-        done = subprocess.run(["apt-get", "--quiet", *words], stdin=subprocess.DEVNULL, stdout=subprocess.PIPE, stderr=subprocess.STDOUT, env=environment)
+        done = subprocess.run(["apt-get", "--quiet", *words], **how)
     return "apt-get failed: %s" % done.stdout.decode(errors="replace").strip()[-300:] if done.returncode else ""
 
 
