@@ -118,6 +118,7 @@ class Run:
         is_named = given.anew or given.edits
         self.valid = {it for it in edits if self.ledger.is_valid(it)}
         due = [it for it in edits if is_named or it not in self.valid]
+        # Of rank 0, so that it is tried first: what is due may take all the time that there is.
         self.sample = [] if is_named else plan.drawn(root, self.valid, given.sample)
         plan.rank(root, self.ledger, due)
         wanted = sorted(due, key=lambda it: it.rank) + self.sample

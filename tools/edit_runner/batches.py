@@ -128,7 +128,9 @@ def try_batch(crate, batch, check, tell):
     again = [it for it in batch if not found[it].is_refused] if len(batch) > 1 else []
     said += f"; refused {sum(it.is_refused for it in found.values())}"
     tell(said + (f", again alone: {' '.join(it.name for it in again)}" if again else ""))
-    return merged(answer.cpu, [(found, 0), *(try_batch(crate, [it], check, tell) for it in again)])
+    # One that the time runs out for is neither refused nor let through.
+    settled = {it: judgement for it, judgement in found.items() if it not in again}
+    return merged(answer.cpu, [(settled, 0), *(try_batch(crate, [it], check, tell) for it in again)])
 
 
 def merged(cpu, tried):

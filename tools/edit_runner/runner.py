@@ -79,23 +79,27 @@ class Runner:
             if timer:
                 timer.cancel()
 
-    def batches_of(self, crate):
-        """Returns the batches of a crate: those of the sample by themselves, since they have all the time that they need."""
-        rows = [[it for it in self.open[crate] if (it in self.sample) == is_sample] for is_sample in (True, False)]
-        return [batch for row in rows for batch in batches.batches_of(row)]
+    def due(self, crate):
+        return [it for it in self.open[crate] if it not in self.sample]
+
+    def drawn(self, crate):
+        """Returns the edits of the sample. They are batches by themselves, which need no base and have all the time that they need."""
+        return [it for it in self.open[crate] if it in self.sample]
 
     def is_timed(self, batch):
         return not self.sample.issuperset(batch)
 
     def needs_base(self, crate):
-        return len(self.batches_of(crate)) > FEW
+        return len(batches.batches_of(self.due(crate))) > FEW
 
     def run_in(self, pool):
         unproved, ready, running = collections.deque(it for it in self.crates if self.needs_base(it)), [], {}
-        left = {it: len(self.batches_of(it)) for it in self.crates}
+        due = {it: batches.batches_of(self.due(it)) for it in self.crates}
+        left = {it: len(due[it]) for it in self.crates}
         for crate in self.crates:
-            if crate not in unproved:
-                self.make_ready(ready, crate)
+            drawn = batches.batches_of(self.drawn(crate))
+            left[crate] += len(drawn)
+            make_ready(ready, crate, drawn if crate in unproved else drawn + due[crate])
 
         def may_start():
             return len(running) < self.jobs and (not running or self.has_room())
@@ -118,25 +122,19 @@ class Runner:
                 if batch is not None:
                     left[crate] -= 1
                 elif result:
-                    self.make_ready(ready, crate)
+                    make_ready(ready, crate, due[crate])
                 else:
-                    left[crate] = 0
+                    left[crate] -= len(due[crate])
                 if not left[crate]:
                     self.remove(self.rooms.pop(crate, []))
                     yield crate
             start()
 
-    def make_ready(self, ready, crate):
-        """The sample comes first, then what is most wanted, and of that the most work."""
-        ready += [(crate, it) for it in self.batches_of(crate)]
-        ready.sort(key=lambda it: (self.is_timed(it[1]), min(edit.rank for edit in it[1]), -len(it[1])))
-
     def prove(self, crate, jobs):
         """Proves a crate as it stands. Returns whether it is proved, and so its edits can be tried."""
         folder = f"{self.base}/crates/{crate.name}"
-        is_timed = self.is_timed(self.open[crate])
         try:
-            answer = self.checks.run(folder, jobs, is_timed=is_timed and not self.sample & {*self.open[crate]})
+            answer = self.checks.run(folder, jobs, is_timed=True)
         except checks.OutOfTime:
             return False
         is_proved = answer.status == checks.PROVED
@@ -147,9 +145,10 @@ class Runner:
             self.hand_over(crate)
         else:
             tell("\n".join(answer.lines[-12:]))
-            for it in self.open[crate]:
+            for it in self.due(crate):
                 self.judgements[it] = batches.Judgement(False, "not tried: the crate itself is not proved")
-        self.modules[crate] = modules_of(self.kept(crate))
+        if is_proved:
+            self.modules[crate] = modules_of(self.kept(crate))
         return is_proved
 
     def build_library(self, name):
@@ -240,6 +239,12 @@ class Runner:
 
     def new_folder(self, name):
         return tempfile.mkdtemp(prefix=name, dir=self.folder)
+
+
+def make_ready(ready, crate, new):
+    """Puts batches among those that are ready: the most wanted come first, and of these the most work."""
+    ready += [(crate, it) for it in new]
+    ready.sort(key=lambda it: (min(edit.rank for edit in it[1]), -len(it[1])))
 
 
 def good(crate):
