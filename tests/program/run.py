@@ -3,8 +3,9 @@
 
 Tests the program from outside: its words, its exit statuses, lists from files, what it writes to standard output and
 standard error, many edits of one list, answers on many names, hostile filters, a full device, a closed pipe, a reader that stops, a
-talk command by command, the examples and those of the manual, also cut at each byte; and what is installed beside it: the wrapper, its
-completion and the package. A test whose peer isn't there is skipped, and says why. The last line is the count."""
+talk command by command, the scripts under tests/scripts, the examples and those of the manual, also cut at each byte; and what is
+installed beside it: the wrapper, its completion and the package. A test whose peer isn't there is skipped, and says why. The last line
+is the count."""
 
 import os
 import sys
@@ -20,6 +21,7 @@ from harness import Tests
 from manual import test_manual
 from many_names import test_many_names
 from package import test_package
+from script_files import test_script_files
 from scripts import test_scripts
 from talk import test_talk
 from words import test_words
@@ -32,6 +34,7 @@ def main(words):
         raise SystemExit(__doc__)
     tests = Tests(os.path.abspath(words[0]))
     test_scripts(tests)
+    test_script_files(tests)
     test_edits(tests)
     test_many_names(tests)
     test_words(tests)
