@@ -1,12 +1,17 @@
 #!/usr/bin/env python3
-"""Compares the tests of two commits, so that none is lost when tests move: the names of the edits that must fail, and of the
-functions under #[test].
+"""Compares the tests of two commits, so that none is lost when tests move: the names of the edits that must fail, the functions
+under #[test], and the rows of the tables in them.
 
     tools/compare_tests.py COMMIT          lists the names of a commit, with the file that each stands in
-    tools/compare_tests.py OLD NEW         says which names went and which came; a name that only moved is counted
+    tools/compare_tests.py OLD NEW         says which went and which came; what only moved is counted
 
-A name that stands in several crates counts as often. The last line says how many went and came; the status is 1 where
-any went."""
+A name that stands in several crates counts as often. A row is a line `=>` or `->` of a table that is a text, or an entry of an
+array that begins with a text.
+
+The files tests/*.moved of NEW say where tests went that are Rattle functions no longer. A line has the file of the function, its
+name, the rows (`3`, `1-5` or `all`), and where they are now: a file, or `FILE#WORDS` with words that stand in it.
+
+The last line is the count; the status is 1 where an edit, a test or a row went, or where a place of a list isn't there."""
 
 import collections
 import io
@@ -17,59 +22,127 @@ import tarfile
 
 EDIT = re.compile(r"crates/[^/]+/(?:edits|must-fail)/([^/]+)\.edit")
 TEST = re.compile(r"#\[test\]\s*(?:#\[[^\n]*\]\s*)*(?:pub(?:\([^)]*\))? )?fn (\w+)")
+ROW = re.compile(r"^[=-]>$|\(\s*b\"", re.MULTILINE)
+MOVED = re.compile(r"tests/[^/]+\.moved")
+ROWS = re.compile(r"all|(\d+)(?:-(\d+))?")
 KINDS = ("edit", "test")
 
 
-def names_of(commit):
-    """Returns the files of a commit by kind and name; a name that stands twice has two."""
-    found = collections.defaultdict(list)
-    packed = subprocess.run(["git", "archive", commit, "crates"], stdout=subprocess.PIPE, check=True).stdout
-    with tarfile.open(fileobj=io.BytesIO(packed)) as files:
-        for it in files:
-            edit = EDIT.fullmatch(it.name)
-            if edit:
-                found["edit", edit[1]].append(it.name)
-            elif it.name.endswith(".rt"):
-                text = files.extractfile(it).read().decode()
-                for name in TEST.findall(text):
-                    found["test", name].append(it.name)
-    return found
+class Commit:
+    """The files of a commit: all texts, the files of each kind and name (a name that stands twice has two), and the rows of tests."""
+
+    def __init__(self, commit):
+        self.texts = {}
+        self.files = collections.defaultdict(list)
+        self.rows = {}
+        packed = subprocess.run(["git", "archive", commit, "crates", "tests"], stdout=subprocess.PIPE, check=True).stdout
+        with tarfile.open(fileobj=io.BytesIO(packed)) as files:
+            for it in filter(tarfile.TarInfo.isfile, files):
+                self.add(it.name, files.extractfile(it).read().decode(errors="replace"))
+
+    def add(self, path, text):
+        self.texts[path] = text
+        edit = EDIT.fullmatch(path)
+        if edit:
+            self.files["edit", edit[1]].append(path)
+        elif path.startswith("crates/") and path.endswith(".rt"):
+            for test in TEST.finditer(text):
+                self.files["test", test[1]].append(path)
+                self.rows[path, test[1]] = len(ROW.findall(text[test.end():].split("\n}\n", 1)[0]))
+
+    def count(self, kind):
+        return sum(len(files) for (its_kind, _), files in self.files.items() if its_kind == kind)
+
+    def moved_lines(self):
+        """The lines of the lists of what moved, each with its list."""
+        for path in filter(MOVED.fullmatch, sorted(self.texts)):
+            for line in self.texts[path].splitlines():
+                if line and not line.startswith("#"):
+                    yield path, line
+
+    def has_place(self, place):
+        """Whether a file is there, with the words behind a `#`."""
+        path, _, words = place.partition("#")
+        return path in self.texts and words in self.texts[path]
 
 
-def count(names, kind):
-    return sum(len(files) for (its_kind, _), files in names.items() if its_kind == kind)
-
-
-def list_names(names):
-    for (kind, name), files in sorted(names.items()):
+def list_names(commit):
+    for (kind, name), files in sorted(commit.files.items()):
         for it in sorted(files):
             print(kind, name, it, sep="\t")
-    print(", ".join(f"{count(names, kind)} {kind}s" for kind in KINDS))
+    print(", ".join(f"{commit.count(kind)} {kind}s" for kind in KINDS))
     return 0
 
 
+def pairs_of(before, after):
+    """Where each of the same name stands in the old files and in the new ones: first those that stayed."""
+    before, after = collections.Counter(before), collections.Counter(after)
+    stayed = list((before & after).elements())
+    gone, added = sorted((before - after).elements()), sorted((after - before).elements())
+    short = len(gone) - len(added)
+    return list(zip(stayed, stayed)) + list(zip(gone + [None] * -short, added + [None] * short))
+
+
+class Comparison:
+    """Two commits, which rows of old tests the lists tell of, and the counts."""
+
+    def __init__(self, old, new):
+        self.old, self.new = old, new
+        self.told = collections.defaultdict(set)
+        self.tally = collections.Counter()
+        for path, line in new.moved_lines():
+            self.tell(path, line)
+
+    def tell(self, path, line):
+        """Takes a line of a list in, whose place has to be there."""
+        words = line.split(maxsplit=3)
+        rows = ROWS.fullmatch(words[2]) if len(words) == 4 else None
+        if rows is None or not self.new.has_place(words[3]):
+            print(f"{path}: {'no such place' if rows else 'not a file, a test, rows and a place'}: {line}")
+            self.tally["bad lines"] += 1
+        else:
+            self.told[words[0], words[1]] |= set(range(int(rows[1]), int(rows[2] or rows[1]) + 1)) if rows[1] else {"all"}
+
+    def pair(self, kind, name, before, after):
+        """Counts an edit or a test that stood in one file and stands in another, where `None` is no file."""
+        if before is None:
+            print(f"came: {kind} {name} in {after}")
+            self.tally["came"] += 1
+        elif after is None and (kind == "edit" or (before, name) not in self.told):
+            print(f"went: {kind} {name}, which stood in {before}")
+            self.tally["went"] += 1
+        else:
+            self.tally["no function now" if after is None else "moved"] += before != after
+            if kind == "test":
+                self.compare_rows(name, before, after)
+
+    def compare_rows(self, name, before, after):
+        """Counts the rows of a test that the test doesn't have any longer, and that no list tells of."""
+        left = self.new.rows[after, name] if after else 0
+        told = self.told[before, name] if (before, name) in self.told else set()
+        untold = [] if "all" in told else sorted(set(range(1, self.old.rows[before, name] + 1)) - told)
+        if len(untold) > left:
+            print(f"went: {len(untold) - left} of the rows {untold} of test {name}, which stood in {before}")
+            self.tally["rows went"] += len(untold) - left
+
+
 def compare(old, new):
-    went = came = moved = 0
-    for key in sorted({*old, *new}):
-        before, after = collections.Counter(old.get(key, [])), collections.Counter(new.get(key, []))
-        gone, added = sorted((before - after).elements()), sorted((after - before).elements())
-        moves = min(len(gone), len(added))
-        for it in gone[moves:]:
-            print(f"went: {key[0]} {key[1]}, which stood in {it}")
-        for it in added[moves:]:
-            print(f"came: {key[0]} {key[1]} in {it}")
-        went, came, moved = went + len(gone) - moves, came + len(added) - moves, moved + moves
+    comparison = Comparison(old, new)
+    for kind, name in sorted({*old.files, *new.files}):
+        for before, after in pairs_of(old.files.get((kind, name), []), new.files.get((kind, name), [])):
+            comparison.pair(kind, name, before, after)
     for kind in KINDS:
-        print(f"{kind}s: {count(old, kind)} before, {count(new, kind)} after")
-    print(f"{went} went, {came} came, {moved} moved")
-    return 1 if went else 0
+        print(f"{kind}s: {old.count(kind)} before, {new.count(kind)} after")
+    tally = comparison.tally
+    print(", ".join(f"{tally[what]} {what}" for what in ("went", "rows went", "bad lines", "came", "moved", "no function now")))
+    return 1 if tally["went"] or tally["rows went"] or tally["bad lines"] else 0
 
 
 def main(words):
     if len(words) == 1:
-        return list_names(names_of(words[0]))
+        return list_names(Commit(words[0]))
     if len(words) == 2:
-        return compare(*map(names_of, words))
+        return compare(*map(Commit, words))
     raise SystemExit(__doc__)
 
 

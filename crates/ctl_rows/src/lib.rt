@@ -15,15 +15,9 @@ mod answers;
 #[cfg(test)]
 mod asking;
 #[cfg(test)]
-mod bodies;
-#[cfg(test)]
 mod cuts;
 #[cfg(test)]
-mod edits;
-#[cfg(test)]
 mod faults;
-#[cfg(test)]
-mod filters;
 #[cfg(test)]
 mod laws;
 #[cfg(test)]
@@ -33,11 +27,7 @@ mod loads;
 #[cfg(test)]
 mod policies;
 #[cfg(test)]
-mod preferences;
-#[cfg(test)]
 mod program;
-#[cfg(test)]
-mod relation_answers;
 #[cfg(test)]
 mod runs;
 #[cfg(test)]
@@ -46,8 +36,6 @@ mod scripts;
 mod states;
 #[cfg(test)]
 mod tables;
-#[cfg(test)]
-mod words;
 
 /// Runs a script that is in memory. Gives what the run comes to, and what it writes: where it has no fault the text of the
 /// script's commands, one after another.

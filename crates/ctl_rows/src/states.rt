@@ -1,4 +1,4 @@
-//! What scripts leave in the store.
+//! What scripts leave in the store and no query shows. What queries show of it is asked by the scripts under `tests/scripts`.
 
 use crate::tables::{each_leaves, left_under, same};
 use ctl_store::Limits;
@@ -29,50 +29,12 @@ fn edits_and_stanzas_have_their_limits(rt: HostRuntime) -> Result<(), Fail> {
     Ok(())
 }
 
+// How many edits were accepted, the words of marks, and the order of pins of several packages.
 #[test]
-fn a_stanza_takes_the_place_of_an_equal_one(rt: HostRuntime) -> Result<(), Fail> {
+fn what_no_query_shows(rt: HostRuntime) -> Result<(), Fail> {
     each_leaves(
         &rt,
         b"
-add-list m packages
-Package: a
-Version: 1
-
-Package: b
-Version: 1
-.
-put m
-Package: a
-Version: 1-0
-.
-=>
-list m packages plain
-Package: a
-Version: 1-0
-|Package: b
-Version: 1
-|2 stanzas, 2 edits
---
-add-list m packages
-Package: a
-Version: 1
-
-Package: b
-Version: 1
-.
-put m
-Package: a
-Version: 2
-.
-=>
-list m packages plain
-Package: a
-Version: 1
-|Package: b
-Version: 1
-|Package: a
-Version: 2
-|3 stanzas, 2 edits
 -- the first of two equal ones
 add-list m packages
 Package: a
@@ -91,71 +53,6 @@ list m packages plain
 Package: a
 Version: 0:1
 |1 stanzas, 3 edits
--- of a package that isn't live, one that isn't either
-add-list m status
-Package: a
-Status: x x config-files
-.
-put m
-Package: a
-Status: x x installed
-Version: 1
-.
-put m
-Package: a
-Status: x x not-installed
-Version: 1
-.
-=>
-list m status plain
-Package: a
-Status: x x not-installed
-Version: 1
-|Package: a
-Status: x x installed
-Version: 1
-|2 stanzas, 3 edits
---
-add-list m packages
-Package: s
-Version: 1
-Depends: x
-Provides: x, x
-
-Package: t
-Version: 1
-Depends: x
-.
-put m
-Package: s
-Version: 1
-Depends: x
-Provides: x, x
-.
-remove m s 1
-=>
-list m packages plain
-Package: t
-Version: 1
-Depends: x
-|1 stanzas, 3 edits
-",
-    )
-}
-
-#[test]
-fn lists_keep_their_order_and_their_classes(rt: HostRuntime) -> Result<(), Fail> {
-    each_leaves(
-        &rt,
-        b"
-add-list b packages
-.
-add-list a packages
-.
-=>
-list b packages plain
-list a packages plain
-0 stanzas, 2 edits
 --
 add-list b packages
 .
@@ -169,41 +66,6 @@ list a packages plain
 list b status plain
 0 stanzas, 4 edits
 --
-add-list c packages
-.
-add-list b packages
-.
-add-list a packages
-.
-drop-list b
-=>
-list c packages plain
-list a packages plain
-0 stanzas, 4 edits
---
-add-list a packages
-.
-add-list b packages notauto
-.
-add-list c packages butauto
-.
-add-list d status
-.
-=>
-list a packages plain
-list b packages notauto
-list c packages butauto
-list d status plain
-0 stanzas, 4 edits
-",
-    )
-}
-
-#[test]
-fn pins_keep_their_place_and_have_the_priority_set_last(rt: HostRuntime) -> Result<(), Fail> {
-    each_leaves(
-        &rt,
-        b"
 pin a version 1 1
 pin b version 1 2
 pin a version 1 3
@@ -211,28 +73,12 @@ pin a version 1 3
 pin a version 1 3
 pin b version 1 2
 0 stanzas, 3 edits
---
-pin a version 1* 5
-pin a version 1 7
-pin a version 1* 9
-=>
-pin a version 1* 9
-pin a version 1 7
-0 stanzas, 3 edits
 -- equal versions in other words are other pins
 pin a version 1.0 5
 pin a version 1.0-0 5
 unpin a version 1.0
 =>
 pin a version 1.0-0 5
-0 stanzas, 3 edits
---
-pin '*' release m 1
-pin a release m 2
-pin a release m 3
-=>
-pin * release m 1
-pin a release m 3
 0 stanzas, 3 edits
 -- a pin that was taken out comes back last
 pin a version 1 1
@@ -244,68 +90,11 @@ pin b version 1 1
 pin a version 1 1
 0 stanzas, 4 edits
 --
-pin a version * 5
-=>
-pin a version * 5
-0 stanzas, 1 edits
---
-pin a version 1 007
-pin b version 1 -0032768
-=>
-pin a version 1 7
-pin b version 1 -32768
-0 stanzas, 2 edits
---
-pin '*' release m 32767
-pin a release m -1
-=>
-pin * release m 32767
-pin a release m -1
-0 stanzas, 2 edits
-",
-    )
-}
-
-#[test]
-fn a_target_is_set_and_taken_out(rt: HostRuntime) -> Result<(), Fail> {
-    each_leaves(
-        &rt,
-        b"
-=>
-0 stanzas, 0 edits
---
-target sid
-=>
-target sid
-0 stanzas, 1 edits
---
-target sid
-target main
-=>
-target main
-0 stanzas, 2 edits
---
 target sid
 target none
 =>
 0 stanzas, 2 edits
--- a list of the name `none` is no target
-target sid
-add-list none packages
-.
-target none
-=>
-list none packages plain
-0 stanzas, 3 edits
-",
-    )
-}
-
-#[test]
-fn marks_are_set_and_taken_out(rt: HostRuntime) -> Result<(), Fail> {
-    each_leaves(
-        &rt,
-        b"
+--
 mark a 1
 mark a 2-1
 mark b none
@@ -323,6 +112,74 @@ mark a 1
 unmark a
 =>
 0 stanzas, 2 edits
+--
+target main
+pin a version 1 7
+prefs
+Explanation: keep
+Explanation: the old one
+Package: foo bar
+Pin: version 1.0*
+Pin-Priority: 1001
+
+Package: *
+Pin: release a=sid
+Pin-Priority: 50
+
+Package: foo
+Pin: version 1.0*
+Pin-Priority: 1
+.
+=>
+pin foo version 1.0* 1001
+pin bar version 1.0* 1001
+pin * release sid 50
+target main
+0 stanzas, 3 edits
+-- those that are refused change nothing
+pin a version 1 7
+prefs
+Package: bar
+Pin: version 2
+Pin-Priority: 5
+
+Package: foo
+Pin: origin x
+Pin-Priority: 500
+.
+prefs
+Package: bar
+Pin: version 2
+Pin-Priority: 5
+
+Package: foo
+Pin: release a=a/b
+Pin-Priority: 500
+.
+prefs
+Package: bar
+Pin: version 2
+Pin-Priority: 5
+
+Package: foo
+Pin: version 1
+Pin-Priority: 0
+.
+prefs
+Package: bar
+Pin: version 2
+Pin-Priority: 5
+
+Package: foo
+Pin-Priority: 500
+.
+=>
+E: line 8: bad pin record
+E: line 17: bad name
+E: line 27: bad priority
+E: line 34: required field missing
+pin a version 1 7
+0 stanzas, 1 edits
 ",
     )
 }
