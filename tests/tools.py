@@ -3,6 +3,7 @@
 
 import sys
 
+import compare_tests
 import edit_runner
 import gate_parts
 import layout
@@ -24,6 +25,7 @@ def main():
     layout.run(tests)
     gate_parts.run(tests)
     ledger.run(tests)
+    compare_tests.run(tests)
     edit_runner.run(tests)
     print("%d passed, %d failed" % (tests.passed, tests.failed))
     return 1 if tests.failed else 0

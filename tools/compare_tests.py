@@ -35,7 +35,7 @@ class Commit:
         self.texts = {}
         self.files = collections.defaultdict(list)
         self.rows = {}
-        packed = subprocess.run(["git", "archive", commit, "crates", "tests"], stdout=subprocess.PIPE, check=True).stdout
+        packed = subprocess.run(["git", "archive", commit], stdout=subprocess.PIPE, check=True).stdout
         with tarfile.open(fileobj=io.BytesIO(packed)) as files:
             for it in filter(tarfile.TarInfo.isfile, files):
                 self.add(it.name, files.extractfile(it).read().decode(errors="replace"))

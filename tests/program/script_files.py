@@ -25,9 +25,10 @@ def wanted_status(start, wanted):
 
 def test_script_files(tests, folder=FOLDER):
     scripts, texts, statuses = (names_of(folder, ending) for ending in (".script", ".expected", ".status"))
-    tests.same("scripts, and texts that are wanted of them", scripts, texts)
-    tests.same("statuses without a script", [name for name in statuses if name not in scripts], [])
-    for name in texts:
-        start = os.path.join(folder, name)
-        wanted = contents(start + ".expected")
-        tests.same("tests/scripts/" + name, tests.run([start + ".script"]), (wanted_status(start, wanted), wanted, b""))
+    tests.same("scripts without a wanted text, or the other way round", sorted(set(scripts) ^ set(texts)), [])
+    tests.same("statuses without a script", sorted(set(statuses) - set(scripts)), [])
+    for name in scripts:
+        if name in texts:
+            start = os.path.join(folder, name)
+            wanted = contents(start + ".expected")
+            tests.same("tests/scripts/" + name, tests.run([start + ".script"]), (wanted_status(start, wanted), wanted, b""))
