@@ -47,15 +47,6 @@ pub fn left_under(alloc: Global, limits: Limits, script: &[u8]) -> Result<Vec<u8
     came_of(alloc, limits, u32::MAX, &[Act::Script(script), Act::Held])
 }
 
-/// What comes of a script on an empty session: what it writes, and then what the store holds if that is asked for.
-fn shown(alloc: Global, script: &[u8], is_held: bool) -> Result<Vec<u8>, AllocError> {
-    if is_held {
-        left_under(alloc, Limits::MOST, script)
-    } else {
-        written(alloc, script)
-    }
-}
-
 /// A row of a table, as far as it was read.
 #[derive(Drop)]
 struct Row {
@@ -66,23 +57,18 @@ struct Row {
 }
 
 impl Row {
-    /// A row whose script begins with a front.
-    fn new(alloc: Global, front: &[u8]) -> Result<Row, AllocError> {
-        Ok(Row {
-            script: Vec::from_slice(alloc, front)?,
+    fn new(alloc: Global) -> Row {
+        Row {
+            script: Vec::new(alloc),
             wanted: Vec::new(alloc),
             is_script_over: false,
-        })
+        }
     }
 
     /// Takes a line of the table in.
     fn add(&mut self, line: &[u8]) -> Result<(), AllocError> {
         match line {
             b"=>" => self.is_script_over = true,
-            b"->" => {
-                self.is_script_over = true;
-                self.script.pop();
-            }
             _ if self.is_script_over => add_line(&mut self.wanted, line)?,
             _ => add_line(&mut self.script, line)?,
         }
@@ -90,11 +76,11 @@ impl Row {
     }
 
     /// Compares what comes of the script with what is wanted.
-    fn judge(&self, rt: &(impl Abort + AllocGlobal), is_held: bool) -> Result<(), Fail> {
+    fn judge(&self, rt: &(impl Abort + AllocGlobal)) -> Result<(), Fail> {
         if !self.is_script_over {
             return Err(Fail::from("a row says nothing of what is wanted"));
         }
-        let came = shown(rt.alloc(), &self.script, is_held)?;
+        let came = left_under(rt.alloc(), Limits::MOST, &self.script)?;
         same(rt, &self.script, &came, &self.wanted);
         Ok(())
     }
@@ -105,48 +91,24 @@ fn add_line(text: &mut Vec<u8>, line: &[u8]) -> Result<(), AllocError> {
     Ok(text.push(b'\n')?)
 }
 
-/// Judges each row of a table, whose scripts all begin with a front.
-fn each_row(
-    rt: &(impl Abort + AllocGlobal),
-    front: &[u8],
-    table: &[u8],
-    is_held: bool,
-) -> Result<(), Fail> {
+/// Runs each script of a table on an empty session, and compares what it writes and what the store then holds.
+///
+/// A table is a text: a row has its script, then a line `=>`, and then what is wanted. A line that begins with `--`, and may go on
+/// with words for the reader, stands between rows.
+pub fn each_leaves(rt: &(impl Abort + AllocGlobal), table: &[u8]) -> Result<(), Fail> {
     let [b'\n', rows @ .., b'\n'] = table else {
         return Err(Fail::from("a table stands on lines of its own"));
     };
-    let mut row = Row::new(rt.alloc(), front)?;
+    let mut row = Row::new(rt.alloc());
     for line in rows.split(|byte| *byte == b'\n') {
         if line.starts_with(b"--") {
-            if row.is_script_over || row.script.len() > front.len() {
-                row.judge(rt, is_held)?;
+            if row.is_script_over || !row.script.is_empty() {
+                row.judge(rt)?;
             }
-            row = Row::new(rt.alloc(), front)?;
+            row = Row::new(rt.alloc());
         } else {
             row.add(line)?;
         }
     }
-    row.judge(rt, is_held)
-}
-
-/// Runs each script of a table on an empty session, and compares what it writes.
-///
-/// A table is a text: a row has its script, then a line `=>`, and then what is wanted. A line that begins with `--`, and may go on
-/// with words for the reader, stands between rows. Where `->` stands for `=>` the last line of the script has no newline.
-pub fn each_writes(rt: &(impl Abort + AllocGlobal), table: &[u8]) -> Result<(), Fail> {
-    each_row(rt, b"", table, false)
-}
-
-/// The same for scripts that begin alike.
-pub fn each_writes_behind(
-    rt: &(impl Abort + AllocGlobal),
-    front: &[u8],
-    table: &[u8],
-) -> Result<(), Fail> {
-    each_row(rt, front, table, false)
-}
-
-/// The same for what each script writes and what the store then holds.
-pub fn each_leaves(rt: &(impl Abort + AllocGlobal), table: &[u8]) -> Result<(), Fail> {
-    each_row(rt, b"", table, true)
+    row.judge(rt)
 }
