@@ -8,13 +8,15 @@ under #[test], and the rows of the tables in them.
 A name that stands in several crates counts as often. A row is a line `=>` or `->` of a table that is a text, or an entry of an
 array that begins with a text.
 
-The files tests/*.moved of NEW say where tests went that are Rattle functions no longer. A line has the file of the function, its
-name, the rows (`3`, `1-5` or `all`), and where they are now: a file, or `FILE#WORDS` with words that stand in it.
+The files tests/*.moved of NEW say where tests went that are Rattle functions no longer. A line has, with tabs between, the file of
+the function or its module, its name, the rows (`3` or `1-5`; other words stand for all), and where they are now: a file, or
+`FILE#WORDS` with words that stand in it. More words may follow, which stand in it too.
 
 The last line is the count; the status is 1 where an edit, a test or a row went, or where a place of a list isn't there."""
 
 import collections
 import io
+import os
 import re
 import subprocess
 import sys
@@ -24,7 +26,7 @@ EDIT = re.compile(r"crates/[^/]+/(?:edits|must-fail)/([^/]+)\.edit")
 TEST = re.compile(r"#\[test\]\s*(?:#\[[^\n]*\]\s*)*(?:pub(?:\([^)]*\))? )?fn (\w+)")
 ROW = re.compile(r"^[=-]>$|\(\s*b\"", re.MULTILINE)
 MOVED = re.compile(r"tests/[^/]+\.moved")
-ROWS = re.compile(r"all|(\d+)(?:-(\d+))?")
+ROWS = re.compile(r"(\d+)(?:-(\d+))?")
 KINDS = ("edit", "test")
 
 
@@ -60,10 +62,10 @@ class Commit:
                 if line and not line.startswith("#"):
                     yield path, line
 
-    def has_place(self, place):
-        """Whether a file is there, with the words behind a `#`."""
-        path, _, words = place.partition("#")
-        return path in self.texts and words in self.texts[path]
+    def has_place(self, place, words):
+        """Whether a file is there, with the words behind a `#` and these."""
+        path, _, mark = place.partition("#")
+        return path in self.texts and all(it in self.texts[path] for it in [mark, *words])
 
 
 def list_names(commit):
@@ -95,20 +97,24 @@ class Comparison:
 
     def tell(self, path, line):
         """Takes a line of a list in, whose place has to be there."""
-        words = line.split(maxsplit=3)
-        rows = ROWS.fullmatch(words[2]) if len(words) == 4 else None
-        if rows is None or not self.new.has_place(words[3]):
-            print(f"{path}: {'no such place' if rows else 'not a file, a test, rows and a place'}: {line}")
+        file, name, rows, place, *words = line.split("\t") if line.count("\t") > 2 else [""] * 4
+        if not self.new.has_place(place, words):
+            print(f"{path}: {'no such place' if place else 'not a file, a test, rows and a place'}: {line}")
             self.tally["bad lines"] += 1
         else:
-            self.told[words[0], words[1]] |= set(range(int(rows[1]), int(rows[2] or rows[1]) + 1)) if rows[1] else {"all"}
+            some = ROWS.fullmatch(rows)
+            self.told[file, name] |= set(range(int(some[1]), int(some[2] or some[1]) + 1)) if some else {"all"}
+
+    def rows_told(self, file, name):
+        """The rows of a test that the lists tell of, by its file or its module."""
+        return self.told.get((file, name), set()) | self.told.get((os.path.basename(file)[:-len(".rt")], name), set())
 
     def pair(self, kind, name, before, after):
         """Counts an edit or a test that stood in one file and stands in another, where `None` is no file."""
         if before is None:
             print(f"came: {kind} {name} in {after}")
             self.tally["came"] += 1
-        elif after is None and (kind == "edit" or (before, name) not in self.told):
+        elif after is None and (kind == "edit" or not self.rows_told(before, name)):
             print(f"went: {kind} {name}, which stood in {before}")
             self.tally["went"] += 1
         else:
@@ -119,7 +125,7 @@ class Comparison:
     def compare_rows(self, name, before, after):
         """Counts the rows of a test that the test doesn't have any longer, and that no list tells of."""
         left = self.new.rows[after, name] if after else 0
-        told = self.told[before, name] if (before, name) in self.told else set()
+        told = self.rows_told(before, name)
         untold = [] if "all" in told else sorted(set(range(1, self.old.rows[before, name] + 1)) - told)
         if len(untold) > left:
             print(f"went: {len(untold) - left} of the rows {untold} of test {name}, which stood in {before}")
