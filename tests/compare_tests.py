@@ -46,7 +46,7 @@ CASES = [
     ("a place that isn't there", {TABLE: None, LIST: told("numbers_are_read\t1-3\ttests/scripts/none.script")}, 1,
      ["%s: no such place: %s\tnumbers_are_read\t1-3\ttests/scripts/none.script" % (LIST, TABLE)]),
     ("words that aren't there", {TABLE: None, LIST: told("numbers_are_read\t1-3\t%s#two" % PLACE)}, 1, []),
-    ("a test that is told by its module", {TABLE: None, LIST: "table\tnumbers_are_read\tpair 1\t%s\tone\n" % PLACE}, 0, []),
+    ("a test that is told by its module", {TABLE: None, LIST: "table\tnumbers_are_read\tpair 1\t%s\tone\t7\n" % PLACE}, 0, []),
     ("more words that aren't there", {TABLE: None, LIST: "table\tnumbers_are_read\tpair 1\t%s\tone\ttwo\n" % PLACE}, 1, []),
     ("a line that isn't one", {LIST: told("numbers_are_read\t" + PLACE)}, 1,
      ["%s: not a file, a test, rows and a place: %s\tnumbers_are_read\t%s" % (LIST, TABLE, PLACE)]),

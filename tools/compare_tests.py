@@ -10,7 +10,7 @@ array that begins with a text.
 
 The files tests/*.moved of NEW say where tests went that are Rattle functions no longer. A line has, with tabs between, the file of
 the function or its module, its name, the rows (`3` or `1-5`; other words stand for all), and where they are now: a file, or
-`FILE#WORDS` with words that stand in it. More words may follow, which stand in it too.
+`FILE#WORDS` with words that stand in it. More words may follow, which stand in it too, and the number of a row behind them.
 
 The last line is the count; the status is 1 where an edit, a test or a row went, or where a place of a list isn't there."""
 
@@ -63,9 +63,9 @@ class Commit:
                     yield path, line
 
     def has_place(self, place, words):
-        """Whether a file is there, with the words behind a `#` and these."""
+        """Whether a file is there, with the words behind a `#` and these, but for numbers."""
         path, _, mark = place.partition("#")
-        return path in self.texts and all(it in self.texts[path] for it in [mark, *words])
+        return path in self.texts and all(it.isdigit() or it in self.texts[path] for it in [mark, *words])
 
 
 def list_names(commit):
