@@ -36,6 +36,8 @@ mod scripts;
 mod states;
 #[cfg(test)]
 mod tables;
+#[cfg(test)]
+mod worked;
 
 /// Runs a script that is in memory. Gives what the run comes to, and what it writes: where it has no fault the text of the
 /// script's commands, one after another.

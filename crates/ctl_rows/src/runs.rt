@@ -116,7 +116,7 @@ pub fn fault_words(fault: Fault) -> &'static [u8] {
 }
 
 /// What a run wrote, and its fault, if it has one.
-fn append_run(
+pub fn append_run(
     outcome: Result<Summary, Fault>,
     written: &[u8],
     all: &mut Vec<u8>,
@@ -232,7 +232,8 @@ fn came_in(alloc: Global, session: &mut Session, acts: &[Act<'_>]) -> Result<Vec
     Ok(all)
 }
 
-fn session_of(alloc: Global, limits: Limits, max_lines: u32) -> Result<Session, AllocError> {
+/// A session over a cache of these limits, whose runs read up to so many lines.
+pub fn session_of(alloc: Global, limits: Limits, max_lines: u32) -> Result<Session, AllocError> {
     match Session::with_lines(alloc, Cache::with_limits(alloc, limits), max_lines) {
         Ok(session) => Ok(session),
         Err(_) => Err(AllocError),
@@ -250,7 +251,8 @@ pub fn came_of(
     came_in(alloc, &mut session, acts)
 }
 
-fn plain_session(alloc: Global) -> Result<Session, AllocError> {
+/// A session without limits.
+pub fn plain_session(alloc: Global) -> Result<Session, AllocError> {
     match Session::new(alloc, Cache::new(alloc)) {
         Ok(session) => Ok(session),
         Err(_) => Err(AllocError),

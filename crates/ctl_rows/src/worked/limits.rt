@@ -1,0 +1,133 @@
+//! Caches and runs with less room.
+
+use super::failing::endless_comments;
+use super::table::{Room, each_is_so_within};
+use crate::tables::same;
+use ctl_store::Limits;
+use std::test::Fail;
+
+/// Room for two stanzas and five edits.
+const TWO_STANZAS: Room = Room {
+    limits: Limits {
+        stanzas: 2,
+        edits: 5,
+    },
+    max_lines: u32::MAX,
+};
+
+/// Room for so many lines.
+const fn lines(max_lines: u32) -> Room {
+    Room {
+        limits: Limits::MOST,
+        max_lines,
+    }
+}
+
+#[test]
+fn a_cache_is_full_at_its_limits(rt: HostRuntime) -> Result<(), Fail> {
+    each_is_so_within(
+        &rt,
+        TWO_STANZAS,
+        b"
+-- A full cache takes a stanza in the place of another
+add-list main packages
+Package: a
+Version: 1
+
+Package: b
+Version: 1
+.
+put main
+Package: b
+Version: 1-0
+.
+put main
+Package: c
+Version: 1
+.
+show b
+=>
+E: line 12: cache full
+Package: b
+Version: 1-0
+
+-- A full cache counts its edits
+add-list main packages
+Package: a
+Version: 1
+
+Package: b
+Version: 1
+.
+put main
+Package: b
+Version: 1-0
+.
+put main
+Package: c
+Version: 1
+.
+pkgnames
+mark a 1
+mark a 1
+mark a 1
+mark a 1
+=>
+E: line 12: cache full
+a
+b
+E: line 20: cache full
+? counts
+2 stanzas, 5 edits
+",
+    )
+}
+
+#[test]
+fn a_run_has_a_limit_of_lines(rt: HostRuntime) -> Result<(), Fail> {
+    each_is_so_within(
+        &rt,
+        lines(2),
+        b"
+-- More lines than a run may have
+#
+#
+#
+=>
+! too many lines
+",
+    )
+}
+
+#[test]
+fn a_body_is_cut_by_the_limit_of_lines(rt: HostRuntime) -> Result<(), Fail> {
+    each_is_so_within(
+        &rt,
+        lines(3),
+        b"
+-- A body that the limit of lines cuts
+pkgnames
+add-list main packages
+Package: a
+Version: 1
+.
+=>
+! too many lines
+? stanzas main
+? counts
+0 stanzas, 0 edits
+-> A further run
+pkgnames
+=>
+? summary
+1 accepted, 0 refused
+",
+    )
+}
+
+#[test]
+fn comments_without_end_are_too_many(rt: HostRuntime) -> Result<(), Fail> {
+    let came = endless_comments(rt.alloc(), lines(1000))?;
+    same(&rt, b"Comments without end", &came, b"! too many lines\n");
+    Ok(())
+}

@@ -1,0 +1,80 @@
+//! Lines and bodies of fields about the most bytes that they may have.
+
+use crate::tables::{same, written};
+use std::alloc::Global;
+use std::test::Fail;
+
+/// A name, a script up to a run of bytes `x`, how many there are, the script behind them, and what it writes.
+type Row = (
+    &'static [u8],
+    &'static [u8],
+    usize,
+    &'static [u8],
+    &'static [u8],
+);
+
+const ROWS: &[Row] = &[
+    (
+        b"A line past the most bytes",
+        b"",
+        1_048_577,
+        b"\n",
+        b"E: line 1: line too long\n",
+    ),
+    (
+        b"A line of the most bytes",
+        b"",
+        1_048_576,
+        b"\n",
+        b"E: line 1: unknown command\n",
+    ),
+    (
+        b"A long line in a body without its end",
+        b"add-list main packages\nPackage: a\n",
+        1_048_577,
+        b"\n",
+        b"E: line 3: line too long\n",
+    ),
+    (
+        b"A field that goes on past the most bytes",
+        b"add-list main packages\nPackage: a\nVersion: 1\nD:",
+        1_048_574,
+        b"\n y\n.\n",
+        b"E: line 5: line too long\n",
+    ),
+    (
+        b"A field that goes on to the most bytes",
+        b"add-list main packages\nPackage: a\nVersion: 1\nD:",
+        1_048_573,
+        b"\n y\n.\n",
+        b"",
+    ),
+    (
+        b"It is accepted",
+        b"add-list main packages\nPackage: a\nVersion: 1\nD:",
+        1_048_573,
+        b"\n y\n.\npkgnames\n",
+        b"a\n",
+    ),
+];
+
+/// A script with a long line.
+fn script_of(alloc: Global, row: &Row) -> Result<Vec<u8>, Fail> {
+    let (_, before, count, behind, _) = row;
+    let mut script = Vec::from_slice(alloc, before)?;
+    for _ in 0..*count {
+        script.push(b'x')?;
+    }
+    script.extend_from_slice(behind)?;
+    Ok(script)
+}
+
+#[test]
+fn long_lines_are_read_or_told(rt: HostRuntime) -> Result<(), Fail> {
+    for row in ROWS {
+        let script = script_of(rt.alloc(), row)?;
+        let came = written(rt.alloc(), &script)?;
+        same(&rt, row.0, &came, row.4);
+    }
+    Ok(())
+}
