@@ -8,6 +8,7 @@ import edit_runner
 import gate_parts
 import layout
 import ledger
+import worked_rows
 
 
 class Tests:
@@ -27,6 +28,7 @@ def main():
     ledger.run(tests)
     compare_tests.run(tests)
     edit_runner.run(tests)
+    worked_rows.run(tests)
     print("%d passed, %d failed" % (tests.passed, tests.failed))
     return 1 if tests.failed else 0
 

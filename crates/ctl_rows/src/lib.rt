@@ -25,9 +25,9 @@ mod limits;
 #[cfg(test)]
 mod loads;
 #[cfg(test)]
-mod policies;
-#[cfg(test)]
 mod program;
+#[cfg(test)]
+mod row_calls;
 #[cfg(test)]
 mod runs;
 #[cfg(test)]

@@ -73,6 +73,10 @@ fn the_program_takes_lists_and_a_status_file(rt: HostRuntime) -> Result<(), Fail
         &rt,
         &[
             (
+                &["p", "-l", "a=f", "--status", "s", "x"],
+                b"list a=fstatus sscript x",
+            ),
+            (
                 &["p", "-l", "a=f", "--status", "s", "-l", "b", "x"],
                 b"list a=flist bstatus sscript x",
             ),

@@ -6,7 +6,6 @@ ghost use Rattle.std.specs.Prelude.{None};
 
 use crate::asking::append_asked;
 use crate::run_script;
-use ctl_calls::policy::append_policy;
 use ctl_calls::shown::state;
 use ctl_index::Cache;
 use ctl_session::{Failed, Fault, FromRead, FromWrite, Session, Sink, Source, Summary};
@@ -33,8 +32,6 @@ pub enum Act<'a> {
     Load(&'a [u8], &'a [u8]),
     /// Shows what the store holds.
     Held,
-    /// Shows the policy of a package.
-    Policy(&'a [u8]),
     /// Asks a query by its words.
     Ask(&'a [&'a [u8]]),
 }
@@ -219,7 +216,6 @@ fn append_act(
         Act::Until(script, before) => append_until(alloc, session, script, *before, all),
         Act::Load(name, text) => append_load(alloc, session, name, text, all),
         Act::Held => append_held(alloc, session, all),
-        Act::Policy(name) => append_policy(alloc, session.cache().store(), name, all),
         Act::Ask(words) => append_asked(alloc, session.cache(), words, all),
     }
 }

@@ -54,28 +54,17 @@ fn append_stanza(stanza: &Stanza, all: &mut Vec<u8>) -> Result<(), AllocError> {
     append_line(version_text(stanza.version()), all)
 }
 
-/// The stanzas of a list, in their order.
-fn append_stanzas(store: &Store, list: &[u8], all: &mut Vec<u8>) -> Result<(), AllocError> {
+/// The stanzas of a list in their order, each behind its key: the serial of the list, and its own in the list.
+fn append_stanzas(
+    alloc: Global,
+    store: &Store,
+    list: &[u8],
+    all: &mut Vec<u8>,
+) -> Result<(), AllocError> {
     for key in store.stanzas(list) {
+        let told = format!(in alloc; "{}.{} ", key.list, key.stanza)?;
+        all.extend_from_slice(told.as_bytes())?;
         append_stanza(store.stanza(key), all)?;
-    }
-    Ok(())
-}
-
-/// All stanzas, in the order of their keys.
-fn append_by_key(alloc: Global, store: &Store, all: &mut Vec<u8>) -> Result<(), AllocError> {
-    let mut keys: Vec<StanzaKey> = Vec::new(alloc);
-    for (list, _, _) in store.lists() {
-        for key in store.stanzas(list) {
-            keys.push(key)?;
-        }
-    }
-    keys.sort_unstable();
-    for key in &keys {
-        match store.find(*key) {
-            Some(stanza) => append_stanza(stanza, all)?,
-            None => append_line(b"no stanza", all)?,
-        }
     }
     Ok(())
 }
@@ -87,12 +76,11 @@ fn append_of_store(
     all: &mut Vec<u8>,
 ) -> Result<(), AllocError> {
     if let Some(list) = question.strip_prefix(b"stanzas ") {
-        return append_stanzas(store, list, all);
+        return append_stanzas(alloc, store, list, all);
     }
     match question {
         b"counts" => append_counts(alloc, store, all),
         b"pins" => append_pins(alloc, store, all),
-        b"stanzas" => append_by_key(alloc, store, all),
         _ => append_line(b"no such question", all),
     }
 }
@@ -115,39 +103,27 @@ fn append_clause(
     append_line(told.as_bytes(), all)
 }
 
-/// The numbers that are kept of clauses.
-fn append_counters(alloc: Global, cache: &Cache, all: &mut Vec<u8>) -> Result<(), AllocError>
+/// The number of each clause: the one that is kept, or the one that is told if it is asked.
+fn append_clauses(
+    alloc: Global,
+    cache: &Cache,
+    is_kept: bool,
+    all: &mut Vec<u8>,
+) -> Result<(), AllocError>
     requires { cache.now.stale ≡ false }
 {
-    for (key, number) in cache.counters() {
-        append_clause(alloc, cache.store(), *key, *number, all)?;
+    for (key, kept) in cache.counters() {
+        let number = if is_kept {
+            *kept
+        } else {
+            cache.satisfiers(*key)
+        };
+        append_clause(alloc, cache.store(), *key, number, all)?;
     }
     Ok(())
 }
 
-/// By how many pairs each clause is met, asked of it.
-fn append_satisfiers(alloc: Global, cache: &Cache, all: &mut Vec<u8>) -> Result<(), AllocError>
-    requires { cache.now.stale ≡ false }
-{
-    for (key, _) in cache.counters() {
-        append_clause(alloc, cache.store(), *key, cache.satisfiers(*key), all)?;
-    }
-    Ok(())
-}
-
-/// The name of the list that holds a key.
-fn list_with(store: &Store, wanted: StanzaKey) -> &[u8] {
-    for (list, _, _) in store.lists() {
-        for key in store.stanzas(list) {
-            if key == wanted {
-                return list;
-            }
-        }
-    }
-    b"no list"
-}
-
-/// A word, and the version and the list of a stanza.
+/// A word, and the text of a stanza.
 fn append_lead(
     word: &[u8],
     store: &Store,
@@ -155,15 +131,13 @@ fn append_lead(
     all: &mut Vec<u8>,
 ) -> Result<(), AllocError> {
     all.extend_from_slice(word)?;
-    let Some(key) = lead else {
-        return all.extend_from_slice(b"(none)");
-    };
-    match store.find(key) {
-        Some(stanza) => all.extend_from_slice(version_text(stanza.version()))?,
-        None => all.extend_from_slice(b"no stanza")?,
+    match lead {
+        Some(key) => match store.find(key) {
+            Some(stanza) => append_line(stanza.text(), all),
+            None => append_line(b"no stanza", all),
+        },
+        None => append_line(b"(none)", all),
     }
-    all.extend_from_slice(b" of ")?;
-    all.extend_from_slice(list_with(store, key))
 }
 
 /// What is installed of each name, and its candidate, as they are kept.
@@ -171,10 +145,9 @@ fn append_candidates(cache: &Cache, all: &mut Vec<u8>) -> Result<(), AllocError>
     requires { cache.now.stale ≡ false }
 {
     for (name, chosen) in cache.candidates() {
-        all.extend_from_slice(name)?;
-        append_lead(b": installed ", cache.store(), chosen.installed, all)?;
-        append_lead(b", candidate ", cache.store(), chosen.candidate, all)?;
-        all.push(b'\n')?;
+        append_line(name, all)?;
+        append_lead(b"Installed: ", cache.store(), chosen.installed, all)?;
+        append_lead(b"Candidate:\n", cache.store(), chosen.candidate, all)?;
     }
     Ok(())
 }
@@ -193,8 +166,8 @@ fn append_of_cache(
             let told = format!(in alloc; "{}", cache.steps())?;
             append_line(told.as_bytes(), all)
         }
-        b"counters" => append_counters(alloc, cache, all),
-        b"satisfiers" => append_satisfiers(alloc, cache, all),
+        b"counters" => append_clauses(alloc, cache, true, all),
+        b"satisfiers" => append_clauses(alloc, cache, false, all),
         b"candidates" => append_candidates(cache, all),
         _ => append_of_store(alloc, cache.store(), question, all),
     }

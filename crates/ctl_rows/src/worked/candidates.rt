@@ -193,7 +193,13 @@ foo:
      1.0-0 700
         500 B
 ? candidates
-foo: installed (none), candidate 1.0-0 of B
+foo
+Installed: (none)
+Candidate:
+Package: foo
+Version: 1.0-0
+Depends: b
+
 ",
     )
 }

@@ -9,7 +9,6 @@ use ctl_session::{Fault, FromRead, FromWrite, Session, Summary};
 use std::alloc::{AllocError, Global};
 use std::io;
 use std::io::{ErrorKind, Read, Write};
-use std::process::Abort;
 use std::test::Fail;
 
 /// A writer that takes so many bytes, fails once, and then takes all.
@@ -252,36 +251,33 @@ foo:
     }
 }
 
-/// Compares what comes of a reader of the three lists that fails behind so many calls of so many bytes.
-fn reader_fails(
-    rt: &(impl Abort + AllocGlobal),
-    width: usize,
-    calls: usize,
-    given: &[u8],
-) -> Result<(), Fail> {
-    let script = THREE_LISTS.script;
-    let reader = FailingBehind {
-        left: script,
-        width,
-        calls,
-    };
-    let text = if given == script {
+/// What is wanted of a reader that gives this much of the three lists before it fails.
+fn wanted_of(alloc: Global, given: &[u8]) -> Result<Vec<u8>, AllocError> {
+    let text = if given == THREE_LISTS.script {
         THREE_LISTS.text
     } else {
         b""
     };
-    let policy = policy_of(lists_in(given));
-    let wanted = joined(rt.alloc(), text, b"! read failed\n", policy)?;
-    let came = written_by(rt.alloc(), reader, b"policy foo\n")?;
-    same(rt, b"A reader that fails at each call", &came, &wanted);
-    Ok(())
+    joined(alloc, text, b"! read failed\n", policy_of(lists_in(given)))
+}
+
+/// What comes of a reader of the three lists that gives a byte at each call, and fails behind so many.
+fn came_behind(alloc: Global, calls: usize) -> Result<Vec<u8>, AllocError> {
+    let given = FailingBehind {
+        left: THREE_LISTS.script,
+        width: 1,
+        calls,
+    };
+    written_by(alloc, given, b"policy foo\n")
 }
 
 #[test]
 fn a_reader_fails_at_each_call(rt: HostRuntime) -> Result<(), Fail> {
     let script = THREE_LISTS.script;
-    for calls in 0..script.len() {
-        reader_fails(&rt, 1, calls, &script[..calls])?;
+    for calls in 0..=script.len() {
+        let wanted = wanted_of(rt.alloc(), &script[..calls])?;
+        let came = came_behind(rt.alloc(), calls)?;
+        same(&rt, b"A reader that fails at each call", &came, &wanted);
     }
-    reader_fails(&rt, 1, script.len(), script)
+    Ok(())
 }

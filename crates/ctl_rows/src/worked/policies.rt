@@ -121,6 +121,25 @@ foo:
  *** 1.0-1 500
         500 main
         100 status
+-+ The target is taken out again
+target none
+policy foo
+policy
+=>
+foo:
+  Installed: 1.0-1
+  Candidate: 1.0-1
+  Version table:
+     2.0-1 400
+        400 sid
+ *** 1.0-1 500
+        500 main
+        100 status
+Package files:
+ 500 main
+ 100 status
+ 400 sid
+Pinned packages:
 -- A status list as the target keeps its priority
 target status
 policy foo
@@ -134,6 +153,62 @@ foo:
  *** 1.0-1 500
         500 main
         100 status
+",
+    )
+}
+
+#[test]
+fn only_pins_of_packages_pin_them(rt: HostRuntime) -> Result<(), Fail> {
+    each_is_so_behind(
+        &rt,
+        THREE_LISTS,
+        b"
+-- Without a pin
+policy
+=>
+Package files:
+ 500 main
+ 500 sid
+ 100 status
+Pinned packages:
+-- A general pin pins no package
+pin '*' release sid 100
+policy
+=>
+Package files:
+ 500 main
+ 100 sid
+ 100 status
+Pinned packages:
+-- The target pins no package
+target sid
+policy
+=>
+Package files:
+ 500 main
+ 990 sid
+ 100 status
+Pinned packages:
+-- A pin of a prefix
+pin foo version 1.0* 999
+policy
+=>
+Package files:
+ 500 main
+ 500 sid
+ 100 status
+Pinned packages:
+     foo -> 1.0-1 with priority 999
+-+ It has another priority
+pin foo version 1.0* 1000
+policy
+=>
+Package files:
+ 500 main
+ 500 sid
+ 100 status
+Pinned packages:
+     foo -> 1.0-1 with priority 1000
 ",
     )
 }

@@ -104,8 +104,8 @@ Version: 1-0
 .
 =>
 ? stanzas main
-a 1-0
-b 1
+0.0 a 1-0
+0.1 b 1
 -- A stanza that is put goes before those of later lists
 add-list A packages
 Package: x
@@ -124,10 +124,11 @@ show foo
 Package: foo
 Version: 1.0-0
 
-? stanzas
-x 1
-foo 1.0-0
-foo 1.0
+? stanzas A
+0.0 x 1
+0.1 foo 1.0-0
+? stanzas B
+1.0 foo 1.0
 -+ It goes, and the later list leads
 remove A foo 1.0
 show foo

@@ -138,16 +138,28 @@ fn append_fault(outcome: Result<Summary, Fault>, all: &mut Vec<u8>) -> Result<()
     }
 }
 
+/// The answers to all that is asked.
+fn append_answers(
+    alloc: Global,
+    session: &Session,
+    outcome: Result<Summary, Fault>,
+    asked: &[u8],
+    all: &mut Vec<u8>,
+) -> Result<(), AllocError> {
+    for line in asked.split(|byte| *byte == b'\n') {
+        if let Some(question) = line.strip_prefix(b"? ") {
+            append_answer(alloc, session, outcome, question, all)?;
+        }
+    }
+    Ok(())
+}
+
 /// What the last run of an entry writes in a session, and the answers to what is asked.
 fn came_in(alloc: Global, session: &mut Session, entry: &Entry) -> Result<Vec<u8>, AllocError> {
     let _ = run_script(alloc, session, &entry.before);
     let (outcome, mut all) = run_script(alloc, session, &entry.script);
     append_fault(outcome, &mut all)?;
-    for line in entry.answers.split(|byte| *byte == b'\n') {
-        if let Some(question) = line.strip_prefix(b"? ") {
-            append_answer(alloc, session, outcome, question, &mut all)?;
-        }
-    }
+    append_answers(alloc, session, outcome, &entry.answers, &mut all)?;
     Ok(all)
 }
 
