@@ -2,17 +2,17 @@
 //!
 //! A session is made and dropped in one function, and all others have it lent, so that each is proved in a second or two.
 
-ghost use Rattle.std.specs.Prelude.{None};
-
 use crate::asking::append_asked;
 use crate::run_script;
 use ctl_calls::shown::state;
+use ctl_calls::texts::front;
 use ctl_index::Cache;
-use ctl_session::{Failed, Fault, FromRead, FromWrite, Session, Sink, Source, Summary};
+use ctl_session::{Fault, FromRead, FromWrite, Session, Summary};
 use ctl_stanza::ListKind;
 use ctl_store::Limits;
 use std::alloc::{AllocError, Global};
-use std::io::Read;
+use std::io;
+use std::io::{ErrorKind, Read, Write};
 use std::test::Fail;
 
 /// What is done in a session.
@@ -24,6 +24,8 @@ pub enum Act<'a> {
     Counted(&'a [u8]),
     /// Runs what a reader gives that fails behind it.
     Broken(&'a [u8]),
+    /// The same where the reader gives one byte at each call.
+    ByteByByte(&'a [u8]),
     /// Runs what a reader gives again and again.
     Endless(&'a [u8]),
     /// Runs a script whose writer fails once, behind so many bytes.
@@ -36,42 +38,38 @@ pub enum Act<'a> {
     Ask(&'a [&'a [u8]]),
 }
 
-/// A reader that gives these bytes, and then fails, or gives them again and again.
+/// A reader that gives up to so many of these bytes at a call, and then fails, or gives them again and again.
 #[derive(Drop)]
 struct Given<'a> {
     bytes: &'a [u8],
     left: &'a [u8],
+    width: usize,
     is_endless: bool,
-    failures: u64,
 }
 
 impl<'a> Given<'a> {
-    fn new(bytes: &'a [u8], is_endless: bool) -> Given<'a> {
+    fn new(bytes: &'a [u8], width: usize, is_endless: bool) -> Given<'a> {
         Given {
             bytes,
             left: bytes,
+            width,
             is_endless,
-            failures: 0,
         }
     }
 }
 
-impl Source for Given<'_> {
-    ghost remaining = { λ s. None };
-
-    ghost failures = { λ s. s.failures };
-
-    fn read(&mut self, buf: &mut [u8]) -> Result<usize, Failed> {
+impl Read for Given<'_> {
+    fn read(&mut self, buf: &mut [u8]) -> io::Result<usize> {
         if self.is_endless && self.left.is_empty() {
             self.left = self.bytes;
         }
-        match self.left.read(buf) {
-            Ok(n) if n > 0 => Ok(n),
-            _ => {
-                self.failures = self.failures.saturating_add(1);
-                Err(Failed)
-            }
+        if self.left.is_empty() {
+            return Err(io::Error::from(ErrorKind::Interrupted));
         }
+        let mut given = front(self.left, self.width);
+        let count = given.read(buf)?;
+        self.left = &self.left[count.min(self.left.len())..];
+        Ok(count)
     }
 }
 
@@ -80,26 +78,26 @@ impl Source for Given<'_> {
 struct FailingOnce {
     taken: Vec<u8>,
     before: usize,
-    failures: u64,
+    has_failed: bool,
 }
 
-impl Sink for FailingOnce {
-    ghost taken = { λ s. None };
-
-    ghost failures = { λ s. s.failures };
-
-    fn write(&mut self, buf: &[u8]) -> Result<usize, Failed> {
-        let count = if self.failures == 0 {
+impl Write for FailingOnce {
+    fn write(&mut self, buf: &[u8]) -> io::Result<usize> {
+        let count = if self.has_failed {
             buf.len()
-                .min(self.before - self.taken.len().min(self.before))
         } else {
-            buf.len()
+            buf.len().min(self.before.saturating_sub(self.taken.len()))
         };
-        if (count > 0 || buf.is_empty()) && self.taken.extend_from_slice(&buf[..count]).is_ok() {
-            return Ok(count);
+        if count == 0 && !buf.is_empty() {
+            self.has_failed = true;
+            return Err(io::Error::from(ErrorKind::BrokenPipe));
         }
-        self.failures = self.failures.saturating_add(1);
-        Err(Failed)
+        self.taken.extend_from_slice(&buf[..count])?;
+        Ok(count)
+    }
+
+    fn flush(&mut self) -> io::Result<()> {
+        Ok(())
     }
 }
 
@@ -113,7 +111,7 @@ pub fn fault_words(fault: Fault) -> &'static [u8] {
 }
 
 /// What a run wrote, and its fault, if it has one.
-pub fn append_run(
+fn append_run(
     outcome: Result<Summary, Fault>,
     written: &[u8],
     all: &mut Vec<u8>,
@@ -157,12 +155,33 @@ fn append_counted(
 fn append_given(
     alloc: Global,
     session: &mut Session,
-    mut reader: Given<'_>,
+    given: Given<'_>,
     all: &mut Vec<u8>,
 ) -> Result<(), AllocError> {
+    let mut reader = FromRead::new(given);
     let mut writer = FromWrite::new(Vec::<u8>::new(alloc));
     let outcome = session.run(&mut reader, &mut writer);
+    let _ = reader.into_inner();
     append_run(outcome, &writer.into_inner(), all)
+}
+
+fn append_broken(
+    alloc: Global,
+    session: &mut Session,
+    bytes: &[u8],
+    width: usize,
+    all: &mut Vec<u8>,
+) -> Result<(), AllocError> {
+    append_given(alloc, session, Given::new(bytes, width, false), all)
+}
+
+fn append_endless(
+    alloc: Global,
+    session: &mut Session,
+    bytes: &[u8],
+    all: &mut Vec<u8>,
+) -> Result<(), AllocError> {
+    append_given(alloc, session, Given::new(bytes, usize::MAX, true), all)
 }
 
 fn append_until(
@@ -173,14 +192,14 @@ fn append_until(
     all: &mut Vec<u8>,
 ) -> Result<(), AllocError> {
     let mut reader = FromRead::new(script);
-    let mut writer = FailingOnce {
+    let mut writer = FromWrite::new(FailingOnce {
         taken: Vec::new(alloc),
         before,
-        failures: 0,
-    };
+        has_failed: false,
+    });
     let outcome = session.run(&mut reader, &mut writer);
     let _ = reader.into_inner();
-    append_run(outcome, &writer.taken, all)
+    append_run(outcome, &writer.into_inner().taken, all)
 }
 
 fn append_load(
@@ -211,8 +230,9 @@ fn append_act(
     match act {
         Act::Script(script) => append_script(alloc, session, script, all),
         Act::Counted(script) => append_counted(alloc, session, script, all),
-        Act::Broken(bytes) => append_given(alloc, session, Given::new(bytes, false), all),
-        Act::Endless(bytes) => append_given(alloc, session, Given::new(bytes, true), all),
+        Act::Broken(bytes) => append_broken(alloc, session, bytes, usize::MAX, all),
+        Act::ByteByByte(bytes) => append_broken(alloc, session, bytes, 1, all),
+        Act::Endless(bytes) => append_endless(alloc, session, bytes, all),
         Act::Until(script, before) => append_until(alloc, session, script, *before, all),
         Act::Load(name, text) => append_load(alloc, session, name, text, all),
         Act::Held => append_held(alloc, session, all),

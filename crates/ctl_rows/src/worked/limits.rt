@@ -1,8 +1,6 @@
 //! Caches and runs with less room.
 
-use super::failing::endless_comments;
 use super::table::{Room, each_is_so_within};
-use crate::tables::same;
 use ctl_store::Limits;
 use std::test::Fail;
 
@@ -123,11 +121,4 @@ pkgnames
 1 accepted, 0 refused
 ",
     )
-}
-
-#[test]
-fn comments_without_end_are_too_many(rt: HostRuntime) -> Result<(), Fail> {
-    let came = endless_comments(rt.alloc(), lines(1000))?;
-    same(&rt, b"Comments without end", &came, b"! too many lines\n");
-    Ok(())
 }
