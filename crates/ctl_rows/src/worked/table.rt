@@ -163,12 +163,21 @@ fn came_in(alloc: Global, session: &mut Session, entry: &Entry) -> Result<Vec<u8
     Ok(all)
 }
 
-fn came(alloc: Global, room: Option<Room>, entry: &Entry) -> Result<Vec<u8>, AllocError> {
-    let mut session = match room {
-        None => plain_session(alloc)?,
-        Some(room) => session_of(alloc, room.limits, room.max_lines)?,
-    };
+fn came_plain(alloc: Global, entry: &Entry) -> Result<Vec<u8>, AllocError> {
+    let mut session = plain_session(alloc)?;
     came_in(alloc, &mut session, entry)
+}
+
+fn came_within(alloc: Global, room: Room, entry: &Entry) -> Result<Vec<u8>, AllocError> {
+    let mut session = session_of(alloc, room.limits, room.max_lines)?;
+    came_in(alloc, &mut session, entry)
+}
+
+fn came(alloc: Global, room: Option<Room>, entry: &Entry) -> Result<Vec<u8>, AllocError> {
+    match room {
+        None => came_plain(alloc, entry),
+        Some(room) => came_within(alloc, room, entry),
+    }
 }
 
 /// Takes a line of a table in. Where it begins an entry the one above is judged.
