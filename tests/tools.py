@@ -1,8 +1,9 @@
 #!/usr/bin/env python3
-"""Tests the tools of the gate. The last line is the count."""
+"""Tests the tools of the gate, and the rows of calls. The last line is the count."""
 
 import sys
 
+import call_rows
 import compare_tests
 import edit_runner
 import gate_parts
@@ -29,6 +30,7 @@ def main():
     compare_tests.run(tests)
     edit_runner.run(tests)
     worked_rows.run(tests)
+    call_rows.run(tests)
     print("%d passed, %d failed" % (tests.passed, tests.failed))
     return 1 if tests.failed else 0
 

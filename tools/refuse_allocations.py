@@ -24,7 +24,7 @@ HERE = os.path.dirname(os.path.abspath(__file__))
 BODIES = (b"add-list", b"put", b"prefs")
 REFUSED = re.compile(rb"E: line (\d+): out of memory\n")
 PATIENCE = 60
-SUBJECTS = (b"relation", b"text", b"store", b"index")
+SUBJECTS = (b"relation", b"text", b"store", b"index", b"versions", b"names", b"fields", b"texts", b"pins", b"stores", b"caches")
 
 
 class Case:

@@ -1,7 +1,7 @@
 #!/usr/bin/env python3
 """refuse_edit_allocations.py [--try]
 
-Runs the two tests of crates/ctl_calls that make each form of edit, of a store and of a kept cache, from the program of the tests, which
+Runs the two tests of crates/ctl_rows that make each form of edit, of a store and of a kept cache, from the program of the tests, which
 `rt test` leaves there: with the first request for memory refused, then the second, and so on until a run makes no more. With --try each request that
 an edit met is then refused once more by `rt try --test --fail-alloc N`, without a proof, and the same edit has to meet it; each
 of these runs compiles the crate, which takes a minute or so, and as many go on at once as there are processors.
@@ -24,8 +24,8 @@ import tempfile
 
 from refuse_allocations import HERE, library, run
 
-CRATE = os.path.join(HERE, "../crates/ctl_calls")
-TESTS = os.path.join(CRATE, "out/ctl_calls_tests")
+CRATE = os.path.join(HERE, "../crates/ctl_rows")
+TESTS = os.path.join(CRATE, "out/ctl_rows_tests")
 NAMES = ["refused::an_edit_without_memory_changes_nothing", "refused_cache::an_edit_of_a_cache_without_memory_changes_nothing"]
 MET = re.compile(rb"^memory was refused to edit (\d+)$", re.MULTILINE)
 OUTSIDE = re.compile(rb"^memory was refused outside of edits$", re.MULTILINE)

@@ -1,15 +1,21 @@
 #!/usr/bin/env python3
-"""Writes the table of pairs of versions that a test reads, each judged by dpkg.
+"""Writes the pairs of versions that the probe orders, each judged by dpkg, into its questions and answers.
 
-    tools/version_pairs.py > crates/ctl_calls/src/version_table.rt
+    tools/version_pairs.py            writes them behind their heading in crates/probe/stdin and stdout
+    tools/version_pairs.py --check    writes nothing; the status is 1 where they aren't what it would write
 
 Each pair is put to `dpkg --compare-versions`. The pairs are chosen ones and random ones, the same in each run. Both
 texts of a pair are versions by Debian Policy 5.6.12, apart from beginning with a digit, of which dpkg only warns.
 """
 
+import pathlib
 import random
 import re
 import subprocess
+import sys
+
+PROBE = pathlib.Path(__file__).resolve().parent.parent / "crates/probe"
+HEADING = "# pairs of versions, each judged by dpkg, written by tools/version_pairs.py\n"
 
 RANDOM_PAIRS = 300
 SEED = 5612
@@ -118,18 +124,27 @@ def judged(one, other):
     return signs[0]
 
 
-def main():
-    print("//! Pairs of versions, each judged by dpkg. Made by tools/version_pairs.py.")
-    print()
-    print("/// A line for each pair: a version, `<`, `=` or `>` as `dpkg --compare-versions` orders the two, and another")
-    print("/// version.")
-    print("pub(crate) fn pairs() -> &'static [u8] {")
-    print('    b"\\')
-    for one, other in pairs():
-        print(one, judged(one, other), other)
-    print('"')
-    print("}")
+def with_rows(text, rows):
+    """A file of the probe with other lines behind the heading, up to the next empty one."""
+    front, behind = text.split(HEADING)
+    _, rest = behind.split("\n\n", 1)
+    return front + HEADING + "".join(f"{row}\n" for row in rows) + "\n" + rest
+
+
+def main(words):
+    table = [(one, judged(one, other), other) for one, other in pairs()]
+    questions = [f"order\t{one}\t{other}" for one, _, other in table]
+    answers = [f"{one} {sign} {other}" for one, sign, other in table]
+    status = 0
+    for path, rows in ((PROBE / "stdin", questions), (PROBE / "stdout", answers)):
+        text = path.read_text()
+        if words == ["--check"]:
+            status |= with_rows(text, rows) != text
+        else:
+            path.write_text(with_rows(text, rows))
+    print(f"{len(table)} pairs")
+    return status
 
 
 if __name__ == "__main__":
-    main()
+    sys.exit(main(sys.argv[1:]))

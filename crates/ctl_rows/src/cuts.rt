@@ -3,7 +3,7 @@
 
 use crate::runs::{Act, came};
 use crate::tables::{joined, same, written};
-use ctl_calls::texts::front;
+use crate::texts::front;
 use std::alloc::{AllocError, Global};
 use std::process::Abort;
 use std::test::Fail;

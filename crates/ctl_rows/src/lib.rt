@@ -13,29 +13,44 @@ use std::alloc::Global;
 #[cfg(test)]
 mod answers;
 #[cfg(test)]
+mod asked;
+#[cfg(test)]
 mod asking;
+#[cfg(test)]
+mod cache_shown;
 #[cfg(test)]
 mod cuts;
 #[cfg(test)]
 mod faults;
+#[cfg(test)]
+mod filtered;
 #[cfg(test)]
 mod laws;
 #[cfg(test)]
 mod limits;
 #[cfg(test)]
 mod loads;
+pub mod made;
+#[cfg(test)]
+mod pin_laws;
 #[cfg(test)]
 mod program;
+#[cfg(test)]
+mod refused;
+#[cfg(test)]
+mod refused_cache;
 #[cfg(test)]
 mod row_calls;
 #[cfg(test)]
 mod runs;
 #[cfg(test)]
 mod scripts;
+pub mod shown;
 #[cfg(test)]
 mod states;
 #[cfg(test)]
 mod tables;
+pub mod texts;
 #[cfg(test)]
 mod worked;
 

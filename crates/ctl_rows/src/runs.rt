@@ -3,9 +3,10 @@
 //! A session is made and dropped in one function, and all others have it lent, so that each is proved in a second or two.
 
 use crate::asking::append_asked;
+use crate::policy::append_policy;
 use crate::run_script;
-use ctl_calls::shown::state;
-use ctl_calls::texts::front;
+use crate::shown::state;
+use crate::texts::front;
 use ctl_index::Cache;
 use ctl_session::{Fault, FromRead, FromWrite, Session, Summary};
 use ctl_stanza::ListKind;

@@ -1,7 +1,7 @@
 //! Tables of scripts, each with what it writes.
 
 use crate::runs::{Act, came, came_of};
-use ctl_calls::texts::{beginning, truth};
+use crate::texts::{beginning, truth};
 use ctl_store::Limits;
 use std::alloc::{AllocError, Global};
 use std::process::Abort;

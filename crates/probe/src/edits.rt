@@ -5,7 +5,9 @@ use crate::words::Words;
 use anyhow::{Context, Result, bail};
 use ctl_relation::Bytes;
 use ctl_stanza::{ListKind, Stanza, lines_take_bytes, read_stanzas};
-use ctl_store::{Edit, ListClass, PinSetting, PinSettings, PinVersion, Selector, boxed};
+use ctl_store::{
+    Edit, ListClass, PinSetting, PinSettings, PinVersion, Selector, boxed, read_prefs,
+};
 use std::alloc::Global;
 
 fn class_named(word: &str) -> Option<ListClass> {
@@ -68,8 +70,8 @@ fn put(alloc: Global, words: &mut Words<'_>) -> Result<Edit> {
     Ok(Edit::Put { list, stanza })
 }
 
-// A selector: `version`, a package and a version or the beginning of versions; or `release`, a package or `-`, and a list.
-fn selector(alloc: Global, word: &str, words: &mut Words<'_>) -> Result<Selector> {
+/// A selector: `version`, a package and a version or the beginning of versions; or `release`, a package or `-`, and a list.
+pub fn selector(alloc: Global, word: &str, words: &mut Words<'_>) -> Result<Selector> {
     match word {
         "version" => {
             let package = words.bytes()?;
@@ -88,8 +90,8 @@ fn selector(alloc: Global, word: &str, words: &mut Words<'_>) -> Result<Selector
     }
 }
 
-// Selectors with priorities, to the end of the line.
-fn settings(alloc: Global, words: &mut Words<'_>) -> Result<PinSettings> {
+/// Selectors with priorities, to the end of the line.
+pub fn settings(alloc: Global, words: &mut Words<'_>) -> Result<PinSettings> {
     let mut settings = PinSettings::new(alloc);
     for _ in 0..u64::MAX {
         let Some(word) = words.next_word() else {
@@ -100,6 +102,16 @@ fn settings(alloc: Global, words: &mut Words<'_>) -> Result<PinSettings> {
         settings.set(PinSetting { selector, priority })?;
     }
     Ok(settings)
+}
+
+// The settings of preferences.
+fn prefs_of_text(alloc: Global, words: &mut Words<'_>) -> Result<Edit> {
+    let text = words.bytes()?;
+    lines_take_bytes();
+    let settings = read_prefs(alloc, text.as_slice(), 1)
+        .ok()
+        .context("preferences with a fault")?;
+    Ok(Edit::Prefs { settings })
 }
 
 fn pin(alloc: Global, words: &mut Words<'_>) -> Result<Edit> {
@@ -140,6 +152,7 @@ pub fn edit_named(alloc: Global, word: &str, words: &mut Words<'_>) -> Result<Ed
         "prefs" => Ok(Edit::Prefs {
             settings: settings(alloc, words)?,
         }),
+        "prefs-text" => prefs_of_text(alloc, words),
         _ => bail!("an edit that is not known"),
     }
 }

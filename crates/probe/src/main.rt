@@ -1,18 +1,22 @@
-//! Shows what the lower crates make of the lines of standard input, for comparisons and measurements. Each line is answered
-//! at once by one line. Its first argument says what the lines are, and so does a line that is such a word alone, for those behind it:
+//! Shows what the lower crates make of the lines of standard input, for comparisons and measurements, and for rows of calls with
+//! what each gives. Each line is answered at once by one line. The first argument says what the lines are, and so does a line that is such a
+//! word alone, for those behind it. That line is written again, and so are empty lines and those that begin with `#`: so line N of the answers
+//! is that to line N, and `paste -d '\n' stdin stdout` shows both.
 //!
-//! - `relation`: a relation field, which is its name, a tab, and its body in hexadecimal digits; it is answered by its groups in
+//! In these, bytes stand in hexadecimal digits:
+//!
+//! - `relation`: a relation field, which is its name, a tab, and its body; it is answered by its groups in
 //!   their printed form, or by its fault. With a second argument `measure`, how much time the reading of all of them takes
 //!   and how much memory their groups take is printed instead.
-//! - `text`: `packages`, `status` or `records`, a tab, and a text in hexadecimal digits; it is answered by its stanzas or
+//! - `text`: `packages`, `status` or `records`, a tab, and a text; it is answered by its stanzas or
 //!   records with all their parts, or by its fault. With one of these words as second argument the whole of standard input is
 //!   one such text, and how many stanzas or records it has is printed instead.
-//! - `index`: the same edits of a kept cache; each is answered by `ok`, or `refused` and the number of the refusal, and then the
+//! - `index`: the same edits of a kept cache as of a store; each is answered by `ok`, or `refused` and the number of the refusal, and then the
 //!   count of tests. `limits` begins with a new cache; `views` is answered by all that the tables tell, which are made anew
-//!   before that where they are stale; `packages`, with a prefix, by the names of packages that begin so; `policies` by the priorities of lists, the rows of each package
-//!   with theirs, and what is chosen; `steps` by the count of tests and whether the tables are stale; and `dump` as of a store.
-//!   With a second argument `measure` each edit is answered by what came of it, the count of tests and how long it took.
-//! - `store`: an edit, by its name and its parts with tabs between them, in which bytes stand as hexadecimal digits; it is
+//!   before that where they are stale; `packages`, with a prefix, by the names of packages that begin so; `policies` by the priorities of
+//!   lists, the rows of each package with theirs, and what is chosen; `steps` by the count of tests and whether the tables are stale; and
+//!   `dump` as of a store. With a second argument `measure` each edit is answered by what came of it, the count of tests and how long it took.
+//! - `store`: an edit, by its name and its parts with tabs between them; it is
 //!   answered by `ok`, the keys that went and came and the text of the first stanza that came, or by `foretold` and the number
 //!   of the refusal that is foretold, and `refused` and the number of that which comes. `limits`, with how many stanzas and
 //!   edits, begins with a new store, and `dump`, with the names of packages, is answered by all that the store holds and the
@@ -21,10 +25,16 @@
 //!
 //! With `packages` or `status` as second argument of `store` or `index` the whole of standard input is one such list, which is
 //! added, and how many stanzas there are is printed.
+//!
+//! In these, bytes stand for themselves but for escapes as Rust writes them, and `\(COUNT*BYTE)`, which is so many of one byte; each is a call, with
+//! tabs between its words, and is answered by what it gives: `versions`, `names`, `fields` (relation fields), `texts` (of lists and of preferences),
+//! `pins` (versions, priorities and settings of pins, preferences), `stores` and `caches`. `calls` says which calls there are of each.
 #![tactic(auto)]
 
 mod caches;
+mod calls;
 mod edits;
+mod escapes;
 mod hexadecimal;
 mod measure;
 mod parts;
@@ -37,6 +47,7 @@ mod words;
 
 use anyhow::{Context, Result};
 use caches::append_followed;
+use calls::{Calls, append_call, calls_named};
 use ctl_index::Cache;
 use ctl_stanza::ListKind;
 use ctl_store::Store;
@@ -55,6 +66,7 @@ enum Subject {
     Text,
     Store,
     Index,
+    Calls(Calls),
 }
 
 fn subject_named(word: &str) -> Option<Subject> {
@@ -63,7 +75,7 @@ fn subject_named(word: &str) -> Option<Subject> {
         "text" => Some(Subject::Text),
         "store" => Some(Subject::Store),
         "index" => Some(Subject::Index),
-        _ => None,
+        _ => calls_named(word).map(Subject::Calls),
     }
 }
 
@@ -73,7 +85,7 @@ fn kind_named(word: &str) -> Result<ListKind> {
 
 /// What edits are made of.
 #[derive(Drop)]
-struct Kept {
+pub struct Kept {
     store: Store,
     cache: Cache,
 }
@@ -129,9 +141,14 @@ fn append_answer(
         Subject::Text => append_text(alloc, line, answer)?,
         Subject::Store => append_change(alloc, &mut kept.store, line, answer)?,
         Subject::Index => append_followed(alloc, &mut kept.cache, line, answer)?,
+        Subject::Calls(calls) => append_call(alloc, kept, calls, line, answer)?,
     }
-    answer.push(b'\n')?;
     Ok(())
+}
+
+// Whether a line is words for the reader, or empty.
+fn is_heading(line: &str) -> bool {
+    line.is_empty() || line.starts_with('#')
 }
 
 fn answer_lines(rt: &HostRuntime, kept: &mut Kept, first: Subject) -> Result<()> {
@@ -140,14 +157,17 @@ fn answer_lines(rt: &HostRuntime, kept: &mut Kept, first: Subject) -> Result<()>
     let mut out = io::writer(rt);
     for line in BufReader::new(alloc, rt.reader())?.lines(alloc) {
         let line = line?;
-        match subject_named(line.as_str()) {
-            Some(named) => subject = named,
-            None => {
-                let mut answer = Vec::new(alloc);
-                append_answer(alloc, kept, subject, line.as_str(), &mut answer)?;
-                out.write_all(&answer)?;
-            }
+        let line = line.as_str();
+        let mut answer = Vec::new(alloc);
+        let named = subject_named(line);
+        if named.is_some() || is_heading(line) {
+            answer.extend_from_slice(line.as_bytes())?;
+        } else {
+            append_answer(alloc, kept, subject, line, &mut answer)?;
         }
+        answer.push(b'\n')?;
+        out.write_all(&answer)?;
+        subject = named.unwrap_or(subject);
     }
     Ok(())
 }

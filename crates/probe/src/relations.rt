@@ -11,7 +11,8 @@ pub struct Field {
     pub body: Vec<u8>,
 }
 
-fn kind_named(name: &str) -> Option<FieldKind> {
+/// The relation field of a name.
+pub fn kind_named(name: &str) -> Option<FieldKind> {
     match name {
         "Pre-Depends" => Some(FieldKind::PreDepends),
         "Depends" => Some(FieldKind::Depends),
@@ -34,7 +35,8 @@ pub fn field_of(alloc: Global, line: &str) -> Result<Field> {
     Ok(Field { kind, body })
 }
 
-fn fault_name(fault: RelationFault) -> &'static [u8] {
+/// The name of a fault.
+pub fn fault_name(fault: RelationFault) -> &'static [u8] {
     match fault {
         RelationFault::Name => b"Name",
         RelationFault::Operator => b"Operator",

@@ -2,7 +2,7 @@
 
 ghost use Rattle.std.specs.Prelude.{◌≡◌, false};
 
-use ctl_calls::shown::append_pins;
+use crate::shown::append_pins;
 use ctl_index::{Cache, ClauseKey};
 use ctl_relation::Version;
 use ctl_session::{Fault, Session, Summary};

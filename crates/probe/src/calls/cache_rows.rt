@@ -1,8 +1,10 @@
-//! What a kept cache tells of the rows of names, and of what is chosen of them, as text.
+//! What a kept cache tells of the rows of names, and of what is chosen of them, in plain words.
 
 ghost use Rattle.std.specs.Prelude.{◌≡◌, false};
 
-use crate::cache_shown::append_atoms;
+use crate::calls::cache_tables::append_atoms;
+use crate::calls::pins::append_priority;
+use crate::state::append_key;
 use ctl_index::Cache;
 use ctl_policy::{Chosen, NewestFirst};
 use ctl_relation::Version;
@@ -16,10 +18,7 @@ fn append_lead(
     all: &mut Vec<u8>,
 ) -> Result<(), AllocError> {
     match lead {
-        Some(key) => {
-            let told = format!(in alloc; " {}.{}", key.list, key.stanza)?;
-            all.extend_from_slice(told.as_bytes())
-        }
+        Some(key) => append_key(alloc, b' ', key, all),
         None => all.extend_from_slice(b" -"),
     }
 }
@@ -27,7 +26,7 @@ fn append_lead(
 /// The keys of a row, each behind a space, and a semicolon.
 fn append_keys(alloc: Global, keys: &[StanzaKey], all: &mut Vec<u8>) -> Result<(), AllocError> {
     for key in keys {
-        append_lead(alloc, Some(*key), all)?;
+        append_key(alloc, b' ', *key, all)?;
     }
     all.push(b';')?;
     Ok(())
@@ -92,29 +91,12 @@ pub fn append_lead_of(
     alloc: Global,
     cache: &Cache,
     name: &[u8],
-    version: &[u8],
+    version: &Version,
     all: &mut Vec<u8>,
 ) -> Result<(), AllocError>
     requires { cache.now.stale ≡ false }
 {
-    match Version::parse(alloc, version) {
-        Ok(version) => append_lead(alloc, cache.lead(name, &version), all),
-        Err(_) => all.extend_from_slice(b"no version"),
-    }
-}
-
-fn append_priority(
-    alloc: Global,
-    priority: Option<i16>,
-    all: &mut Vec<u8>,
-) -> Result<(), AllocError> {
-    match priority {
-        Some(priority) => {
-            let told = format!(in alloc; " {priority}")?;
-            all.extend_from_slice(told.as_bytes())
-        }
-        None => all.extend_from_slice(b" none"),
-    }
+    append_lead(alloc, cache.lead(name, version), all)
 }
 
 fn append_sources(
@@ -139,20 +121,16 @@ pub fn append_row_of(
     alloc: Global,
     cache: &Cache,
     name: &[u8],
-    version: &[u8],
+    version: &Version,
     all: &mut Vec<u8>,
 ) -> Result<(), AllocError>
     requires { cache.now.stale ≡ false }
 {
-    match Version::parse(alloc, version) {
-        Ok(version) => {
-            let row = cache.row(name, &version);
-            append_keys(alloc, row, all)?;
-            append_priority(alloc, cache.priority(name, &version), all)?;
-            append_sources(cache, row.first().copied(), all)
-        }
-        Err(_) => all.extend_from_slice(b"no version"),
-    }
+    let row = cache.row(name, version);
+    append_keys(alloc, row, all)?;
+    all.push(b' ')?;
+    append_priority(alloc, cache.priority(name, version), all)?;
+    append_sources(cache, row.first().copied(), all)
 }
 
 fn append_choice(

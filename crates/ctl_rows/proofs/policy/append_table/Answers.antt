@@ -2,7 +2,7 @@ use Rattle.std.proofs.Common.{sym, subst}
 use Rattle.std.specs.List.{AllByRecursion}
 use Rattle.ctl_store.specs.Keys.{AreHeld}
 use Rattle.ctl_store.specs.Held.{keyed_of}
-use Rattle.ctl_calls.proofs.policy.append_table.Goals as goal
+use Rattle.ctl_rows.proofs.policy.append_table.Goals as goal
 
 pub append_rows-requires : goal.append_rows-requires
 append_rows-requires c =

@@ -33,28 +33,6 @@ fn append_atom(alloc: Global, key: AtomKey, all: &mut Vec<u8>) -> Result<(), All
     all.extend_from_slice(told.as_bytes())
 }
 
-/// The names that are known, each behind a space.
-pub fn append_names(cache: &Cache, all: &mut Vec<u8>) -> Result<(), AllocError>
-    requires { cache.now.stale ≡ false }
-{
-    for name in cache.names() {
-        all.push(b' ')?;
-        all.extend_from_slice(name)?;
-    }
-    Ok(())
-}
-
-/// The names of packages that begin with a prefix, each behind a space.
-pub fn append_packages(cache: &Cache, prefix: &[u8], all: &mut Vec<u8>) -> Result<(), AllocError>
-    requires { cache.now.stale ≡ false }
-{
-    for name in cache.package_names(prefix)? {
-        all.push(b' ')?;
-        all.extend_from_slice(name)?;
-    }
-    Ok(())
-}
-
 fn version_words(version: Option<&Version>) -> &[u8] {
     match version {
         Some(version) => version.text(),
@@ -85,7 +63,7 @@ fn offers_of(alloc: Global, cache: &Cache, name: &[u8]) -> Result<Vec<Vec<u8>>, 
 }
 
 /// The offers of a name, in the order of their words, each with a semicolon behind it.
-pub fn append_offers(
+fn append_offers(
     alloc: Global,
     cache: &Cache,
     name: &[u8],
@@ -103,11 +81,7 @@ pub fn append_offers(
 }
 
 /// Atoms in the order of their keys, each with a semicolon behind it.
-pub fn append_atoms(
-    alloc: Global,
-    namers: Namers<'_>,
-    all: &mut Vec<u8>,
-) -> Result<(), AllocError> {
+fn append_atoms(alloc: Global, namers: Namers<'_>, all: &mut Vec<u8>) -> Result<(), AllocError> {
     let mut atoms: Vec<AtomKey> = namers.collect(alloc)?;
     atoms.sort_unstable();
     for key in &atoms {
@@ -118,7 +92,7 @@ pub fn append_atoms(
 }
 
 /// The atoms that name a name.
-pub fn append_namers(
+fn append_namers(
     alloc: Global,
     cache: &Cache,
     name: &[u8],
@@ -130,7 +104,7 @@ pub fn append_namers(
 }
 
 /// Each clause with its number, in order, each with a semicolon behind it.
-pub fn append_counters(alloc: Global, cache: &Cache, all: &mut Vec<u8>) -> Result<(), AllocError>
+fn append_counters(alloc: Global, cache: &Cache, all: &mut Vec<u8>) -> Result<(), AllocError>
     requires { cache.now.stale ≡ false }
 {
     for (key, number) in cache.counters() {
@@ -142,7 +116,7 @@ pub fn append_counters(alloc: Global, cache: &Cache, all: &mut Vec<u8>) -> Resul
 }
 
 /// The clauses that no offer meets, in order, each with a semicolon behind it.
-pub fn append_unmet(alloc: Global, cache: &Cache, all: &mut Vec<u8>) -> Result<(), AllocError>
+fn append_unmet(alloc: Global, cache: &Cache, all: &mut Vec<u8>) -> Result<(), AllocError>
     requires { cache.now.stale ≡ false }
 {
     for key in cache.unmet_clauses() {
@@ -150,24 +124,6 @@ pub fn append_unmet(alloc: Global, cache: &Cache, all: &mut Vec<u8>) -> Result<(
         all.push(b';')?;
     }
     Ok(())
-}
-
-/// The number of a clause, or that there is none.
-pub fn append_satisfiers(
-    alloc: Global,
-    cache: &Cache,
-    clause: ClauseKey,
-    all: &mut Vec<u8>,
-) -> Result<(), AllocError>
-    requires { cache.now.stale ≡ false }
-{
-    match cache.counters().get(&clause) {
-        Some(_) => {
-            let told = format!(in alloc; "{}", cache.satisfiers(clause))?;
-            all.extend_from_slice(told.as_bytes())
-        }
-        None => all.extend_from_slice(b"no clause"),
-    }
 }
 
 fn append_by_name(
