@@ -33,6 +33,7 @@ mod loads;
 pub mod made;
 #[cfg(test)]
 mod pin_laws;
+pub mod policy;
 #[cfg(test)]
 mod program;
 #[cfg(test)]
