@@ -1,11 +1,10 @@
 #!/usr/bin/env python3
 """Compares what a kept cache tells after edits with a reference program.
 
-    tools/compare_index.py FOLDER [SEQUENCES]
+    tools/compare_index.py [SEQUENCES]
 
-FOLDER holds the reference program `oracle.py`, which says what an edit makes of a state, how many tests of an offer against an
-atom it takes (`pairs`), and which names are known, offers stand and atoms are met in a state. The edits are generated:
-sequences of them over few names, which depend on each other in all fields, with small limits at times. After each edit the
+The reference program of tests/reference says what an edit makes of a state, how many tests of an offer against an atom it takes
+(`pairs`), and which names are known, offers stand and atoms are met in a state. The edits are generated: sequences of them over few names, which depend on each other in all fields, with small limits at times. After each edit the
 names, the offers and the namers of each name, the numbers of all clauses, those at 0, the names of packages with some prefix, the
 rows of each package with their priorities, what is installed and would be, and the count of tests are compared.
 Each twentieth sequence puts and removes stanzas of one list beside one that stays, of which the first grows to hundreds and
@@ -13,6 +12,7 @@ shrinks; there the count of tests is compared after each edit, and the rest now 
 program that is compared.
 """
 
+import reference
 from answers import compare, tell
 from edit_sequences import GROWTH, LISTS, PACKAGES, VERSIONS, Keys
 from edit_sequences import generate_change, generate_edit, generate_sequences, head_lines, outcome_of, probe, read, read_words
@@ -29,7 +29,6 @@ NAMES = PACKAGES + VIRTUAL
 OPERATORS = ["<<", "<=", "=", ">=", ">>"]
 FIELDS = {"Pre-Depends": 0.2, "Depends": 0.7, "Conflicts": 0.2, "Breaks": 0.1, "Recommends": 0.3, "Suggests": 0.2, "Replaces": 0.1, "Enhances": 0.15}
 NO_ALTERNATIVES = ("Conflicts", "Breaks", "Replaces")
-PRINTED = {name.lower().encode(): name.replace("-", "") for name in FIELDS}
 
 
 def generate_atom(source, names):
@@ -80,23 +79,23 @@ def offer_words(key, stanza):
         yield f"offer={offer.name.hex()}:{key}{version}"
 
 
-def namer_words(oracle, key, stanza):
-    for field in oracle.EIGHT:
+def namer_words(key, stanza):
+    for field in reference.EIGHT:
         for at, group in enumerate(stanza.groups(field)):
             for place, atom in enumerate(group):
-                yield f"namer={atom.name.hex()}:{key}.{PRINTED[field.lower()]}.{at}.{place}"
+                yield f"namer={atom.name.hex()}:{key}.{reference.printed_field(field).decode()}.{at}.{place}"
 
 
-def tables_words(oracle, state, keys):
+def tables_words(state, keys):
     """The tables of a state as the probe prints them, with offers and namers in the order of their words."""
-    view = oracle.View(state)
+    view = reference.View(state)
     offers, namers, counters, unmet = [], [], [], []
     for key, stanza in keyed_stanzas(state, keys):
         offers += offer_words(key, stanza)
-        namers += namer_words(oracle, key, stanza)
-        for field, at, group in oracle.clauses_of_stanza(stanza):
-            clause = f"{key}.{PRINTED[field.lower()]}.{at}"
-            number = sum(oracle.met_by(atom, offer) for atom in group for _, offer in view.offers(atom.name))
+        namers += namer_words(key, stanza)
+        for field, at, group in stanza.clauses():
+            clause = f"{key}.{reference.printed_field(field).decode()}.{at}"
+            number = sum(reference.met_by(atom, offer) for atom in group for _, offer in view.offers(atom.name))
             counters.append(f"counter={clause}:{number}")
             if number == 0:
                 unmet.append(f"unmet={clause}")
@@ -112,9 +111,9 @@ def rows_by_class(state, keys):
     return rows
 
 
-def policies_words(oracle, state, keys):
+def policies_words(state, keys):
     """The policies of a state as the probe prints them."""
-    view = oracle.View(state)
+    view = reference.View(state)
     rows = rows_by_class(state, keys)
 
     def lead(package, row):
@@ -147,10 +146,9 @@ def in_order(answer):
 class Followed:
     """A state that edits change, with its keys and the count of tests."""
 
-    def __init__(self, oracle, limits):
-        self.oracle = oracle
+    def __init__(self, limits):
         self.limits = limits
-        self.state = oracle.State()
+        self.state = reference.State()
         self.keys = Keys()
         self.pairs = 0
         self.tests = 0
@@ -158,57 +156,57 @@ class Followed:
     def outcome(self, edit):
         """Makes an edit, and gives the answer to it."""
         try:
-            after = self.oracle.step(self.state, self.limits, edit)
-        except self.oracle.Refused as refused:
+            after = reference.step(self.state, self.limits, edit)
+        except reference.Refused as refused:
             return f"refused {refused.number} {self.tests}"
-        mid = self.oracle.pairs(self.oracle.without_removed(self.state, edit))
-        pairs = self.oracle.pairs(after)
+        mid = reference.pairs(reference.without_removed(self.state, edit))
+        pairs = reference.pairs(after)
         self.tests += self.pairs - mid + pairs - mid
         self.pairs = pairs
-        self.keys.after(self.oracle, edit, self.state)
+        self.keys.after(edit, self.state)
         self.state = after
         return f"ok {self.tests}"
 
     def looks(self, source):
         """What is asked behind an edit, each with its answer."""
         prefix = source.choice([b"", b"", b"a", b"ab", b"p1", b"v"])
-        packages = [name for name in self.oracle.View(self.state).packages() if name.startswith(prefix)]
+        packages = [name for name in reference.View(self.state).packages() if name.startswith(prefix)]
         return [
-            ("views", tables_words(self.oracle, self.state, self.keys)),
-            ("policies", policies_words(self.oracle, self.state, self.keys)),
+            ("views", tables_words(self.state, self.keys)),
+            ("policies", policies_words(self.state, self.keys)),
             (f"packages\t{prefix.hex()}", " ".join(["packages"] + [name.hex() for name in packages])),
         ]
 
 
-def generate_sequence(source, oracle):
+def generate_sequence(source):
     """The lines of a sequence, each with what is to be printed for it."""
     small = source.random() < 0.3
     stanzas = source.randrange(12) if small else 4_294_967_295
     edits = source.choice([source.randrange(30), 4_294_967_295]) if small else 4_294_967_295
-    followed = Followed(oracle, oracle.Limits(stanzas, edits))
+    followed = Followed(reference.Limits(stanzas, edits))
     told = [(f"limits\t{stanzas}\t{edits}", "new"), *followed.looks(source)]
     for _ in range(source.randrange(5, 50)):
-        edit, words = generate_edit(source, oracle, followed.state, related_stanza)
+        edit, words = generate_edit(source, followed.state, related_stanza)
         told.append(("\t".join(words), followed.outcome(edit)))
         told += followed.looks(source)
     return told
 
 
-def added(oracle, name, text):
+def added(name, text):
     """The edit that adds a list, and its words."""
-    return ("add-list", name, oracle.PACKAGES, "plain", read(oracle, text, "packages")), ["add-list", name.hex(), "packages", "plain", text.encode().hex()]
+    return ("add-list", name, reference.PACKAGES, "plain", read(text, "packages")), ["add-list", name.hex(), "packages", "plain", text.encode().hex()]
 
 
-def generate_long_sequence(source, oracle):
+def generate_long_sequence(source):
     """The lines of many edits of one list, which grows, shrinks to a few stanzas and grows again beside another."""
-    followed = Followed(oracle, oracle.Limits())
+    followed = Followed(reference.Limits())
     names = [f"p{number}" for number in range(LONG_NAMES)]
     texts = ["\n".join(named_related_stanza(source, names) for _ in range(size)) for size in (source.choice([0, 1, 64, 65, 150]), 40)]
     told = [("limits\t4294967295\t4294967295", "new")]
-    edits = [added(oracle, name, text) for name, text in zip(LISTS, texts)]
+    edits = [added(name, text) for name, text in zip(LISTS, texts)]
     for growth in GROWTH:
         for _ in range(LONG_EDITS):
-            edit, words = edits.pop(0) if edits else generate_change(source, oracle, followed.state, names, growth, named_related_stanza)
+            edit, words = edits.pop(0) if edits else generate_change(source, followed.state, names, growth, named_related_stanza)
             told.append(("\t".join(words), followed.outcome(edit)))
         told += followed.looks(source)
     for entry in followed.state.lists:
@@ -218,8 +216,8 @@ def generate_long_sequence(source, oracle):
 
 
 def main():
-    oracle, count = read_words(__doc__, SEQUENCES)
-    told = generate_sequences(oracle, SEED, count, generate_sequence, generate_long_sequence)
+    count = read_words(__doc__, SEQUENCES)
+    told = generate_sequences(SEED, count, generate_sequence, generate_long_sequence)
     answers = [in_order(answer) for answer in probe("index", (line for line, _ in told))]
     outcomes, wrong = compare(told, answers, lambda line, wanted: outcome_of(line, wanted, ("limits", "views", "policies", "packages"), "refused"))
     looks = sum(line == "views" for line, _ in told)

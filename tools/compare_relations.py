@@ -1,17 +1,17 @@
 #!/usr/bin/env python3
 """Compares how relation fields are read with a reference program, on generated fields of all nine kinds.
 
-    tools/compare_relations.py FOLDER [PACKAGES]
+    tools/compare_relations.py [PACKAGES]
 
-FOLDER holds the reference program `oracle.py`, with `parse_relations(body, kind)`, which gives lists of atoms or raises
-`RelationFault` with a number, and `print_group`. With PACKAGES, a Packages file, each relation field of that file is
-compared too, and must be accepted. `rt run` in crates/probe builds the program that is compared.
+The reference program of tests/reference reads a field to groups, or gives the number of its fault. With PACKAGES, a Packages
+file, each relation field of that file is compared too, and must be accepted. `rt run` in crates/probe builds the program that is compared.
 """
 
 import collections
 import random
 import sys
 
+import reference
 from relation_fields import KINDS, fields_of, probe
 
 FAULTS = ["Name", "Operator", "Version", "Close", "Alternative", "ProvidesOperator"]
@@ -57,23 +57,23 @@ def generate_field(source):
     return text.encode("latin-1")
 
 
-def expected(oracle, kind, body):
+def expected(kind, body):
     """The line that is to be printed, by the reference program."""
     try:
-        groups = oracle.parse_relations(body, kind.encode())
-    except oracle.RelationFault as fault:
+        groups = reference.parse_relations(body, kind.encode())
+    except reference.RelationFault as fault:
         return f"fault: {FAULTS[fault.number - 1]}".encode()
-    return b"groups:" + b",".join(b" " + oracle.print_group(group) for group in groups)
+    return b"groups:" + b",".join(b" " + reference.print_group(group) for group in groups)
 
 
-def compare(oracle, fields):
+def compare(fields):
     """Counts the outcomes, and ends the run at the first field that is read otherwise."""
     found = probe(fields).split(b"\n")
     if len(found) != len(fields) + 1:
         raise SystemExit(f"{len(fields)} fields, and {len(found) - 1} answers")
     outcomes = collections.Counter()
     for (kind, body), line in zip(fields, found):
-        wanted = expected(oracle, kind, body)
+        wanted = expected(kind, body)
         if line != wanted:
             raise SystemExit(f"{kind}: {body!r}\n  wanted {wanted!r}\n  found  {line!r}")
         outcomes[kind, wanted.split(b" ")[1].decode() if wanted.startswith(b"fault") else "groups"] += 1
@@ -81,14 +81,11 @@ def compare(oracle, fields):
 
 
 def main():
-    if len(sys.argv) not in (2, 3):
+    if len(sys.argv) > 2:
         raise SystemExit(__doc__)
-    sys.path.insert(0, sys.argv[1])
-    import oracle
-
     source = random.Random(SEED)
     generated = [(source.choice(KINDS), generate_field(source)) for _ in range(GENERATED)]
-    outcomes = compare(oracle, generated)
+    outcomes = compare(generated)
     totals = collections.Counter()
     for (_, outcome), count in outcomes.items():
         totals[outcome] += count
@@ -97,12 +94,12 @@ def main():
     missing += [kind for kind in KINDS if outcomes[kind, "groups"] < 100]
     if missing:
         raise SystemExit(f"too few to compare: {missing}")
-    if len(sys.argv) == 3:
-        real = list(fields_of(sys.argv[2]))
-        refused = sum(count for (_, outcome), count in compare(oracle, real).items() if outcome != "groups")
+    if len(sys.argv) == 2:
+        real = list(fields_of(sys.argv[1]))
+        refused = sum(count for (_, outcome), count in compare(real).items() if outcome != "groups")
         if refused or not real:
-            raise SystemExit(f"{refused} of {len(real)} fields of {sys.argv[2]} are refused")
-        print(f"{len(real)} fields of {sys.argv[2]} are read alike, and none is refused")
+            raise SystemExit(f"{refused} of {len(real)} fields of {sys.argv[1]} are refused")
+        print(f"{len(real)} fields of {sys.argv[1]} are read alike, and none is refused")
 
 
 main()

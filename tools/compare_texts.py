@@ -1,13 +1,12 @@
 #!/usr/bin/env python3
 """Compares how lists and texts of preferences are read with a reference program: what they are read to, or their fault.
 
-    tools/compare_texts.py FOLDER [PACKAGES [STATUS]]
+    tools/compare_texts.py [PACKAGES [STATUS]]
 
-FOLDER holds the reference program `oracle.py`, with `read_stanzas(data, first_line, kind)` and
-`read_records(data, first_line)`, which raise `TextFault` with a line and a number. The texts are generated, and changed
-at random: a byte changed, a line cut, doubled or swapped with another. With PACKAGES, a Packages file, and STATUS, a
-status file of dpkg, these files are compared too, and pieces of them that are changed in the same way.
-`rt run` in crates/probe builds the program that is compared.
+The reference program of tests/reference reads a list to stanzas and preferences to records, or gives the line and the number
+of the fault. The texts are generated, and changed at random: a byte changed, a line cut, doubled or swapped with another. With
+PACKAGES, a Packages file, and STATUS, a status file of dpkg, these files are compared too, and pieces of them that are changed in
+the same way. `rt run` in crates/probe builds the program that is compared.
 """
 
 import pathlib
@@ -15,6 +14,7 @@ import random
 import subprocess
 import sys
 
+import reference
 from answers import compare, tell
 
 PROBE = pathlib.Path(__file__).resolve().parent.parent / "crates/probe/out/probe"
@@ -114,15 +114,15 @@ def version_words(version):
     return "-" if version is None else "@" + version.text.hex()
 
 
-def stanza_words(oracle, stanza):
+def stanza_words(stanza):
     """A stanza as the probe prints it."""
     words = "|" + stanza.text.hex() + (" live" if stanza.live else " gone") + " " + stanza.package.hex() + version_words(stanza.version)
     for field in stanza.fields:
         words += " " + field.name.hex() + "=" + field.body.hex()
     for kind in KINDS:
-        groups = [] if kind == "Provides" else stanza.groups(kind.lower().encode())
-        words += " " + "".join("&" + oracle.print_group(group).hex() for group in groups)
-    words += "".join("+" + oracle.print_group(group).hex() for group in stanza.relations.get(b"provides", []))
+        groups = [] if kind == "Provides" else stanza.groups(kind.encode())
+        words += " " + "".join("&" + reference.print_group(group).hex() for group in groups)
+    words += "".join("+" + reference.print_group(group).hex() for group in stanza.groups(b"Provides"))
     for offer in stanza.offers:
         words += " " + offer.name.hex() + version_words(offer.version)
     return words
@@ -133,14 +133,14 @@ def record_words(record):
     return f"|{record.first_line}" + "".join(f" {field.name.hex()}={field.body.hex()}:{field.line}" for field in record.fields)
 
 
-def expected(oracle, kind, text):
+def expected(kind, text):
     """What the reference program reads a text to, as the probe prints it."""
     try:
         if kind == "records":
-            return "".join(record_words(record) for record in oracle.read_records(text, 1))
-        list_kind = oracle.PACKAGES if kind == "packages" else oracle.STATUS
-        return "".join(stanza_words(oracle, stanza) for stanza in oracle.read_stanzas(text, 1, list_kind))
-    except oracle.TextFault as fault:
+            return "".join(record_words(record) for record in reference.read_records(text, 1))
+        list_kind = reference.PACKAGES if kind == "packages" else reference.STATUS
+        return "".join(stanza_words(stanza) for stanza in reference.read_stanzas(text, 1, list_kind))
+    except reference.TextFault as fault:
         return f"fault {fault.line} {fault.cause}"
 
 
@@ -159,11 +159,8 @@ def outcome_of(line, wanted):
 
 
 def main():
-    if len(sys.argv) < 2:
+    if len(sys.argv) > 3:
         raise SystemExit(__doc__)
-    sys.path.insert(0, sys.argv[1])
-    import oracle
-
     source = random.Random(SEED)
     texts = []
     for _ in range(GENERATED):
@@ -171,13 +168,13 @@ def main():
         for _ in range(source.randrange(3)):
             text = change(source, text)
         texts.append((source.choice(["packages", "status", "records"]), text))
-    for kind, path in zip(["packages", "status"], sys.argv[2:]):
+    for kind, path in zip(["packages", "status"], sys.argv[1:]):
         with open(path, "rb") as file:
             text = file.read()
         texts.append((kind, text))
         for piece in pieces_of(source, text, PIECES):
             texts.append((source.choice([kind, kind, "status", "records"]), piece))
-    told = [(f"{kind}\t{text!r}", expected(oracle, kind, text)) for kind, text in texts]
+    told = [(f"{kind}\t{text!r}", expected(kind, text)) for kind, text in texts]
     outcomes, wrong = compare(told, probe(texts), outcome_of)
     tell(outcomes, f"{len(texts)} texts, {wrong} read otherwise", wrong)
 

@@ -1,13 +1,13 @@
-"""Sequences of edits, for a reference program and for the probe.
+"""Sequences of edits, for the reference program and for the probe.
 
-`oracle` is the reference program's module, with `State`, `Limits`, `Version`, `read_stanzas` and `step(state, limits, edit)`, which
-gives the state after an edit or raises `Refused` with a number. An edit is made twice over: as the reference program takes it,
-and as the words of a line for the probe."""
+An edit is made twice over: as the reference program takes it, and as the words of a line for the probe."""
 
 import pathlib
 import random
 import subprocess
 import sys
+
+import reference
 
 PROBE = pathlib.Path(__file__).resolve().parent.parent / "crates/probe/out/probe"
 
@@ -67,8 +67,8 @@ def generate_settings(source):
     return list(settings.items())
 
 
-def read(oracle, text, kind):
-    return oracle.read_stanzas(text.encode(), 1, oracle.PACKAGES if kind == "packages" else oracle.STATUS)
+def read(text, kind):
+    return reference.read_stanzas(text.encode(), 1, reference.PACKAGES if kind == "packages" else reference.STATUS)
 
 
 def choose_list(source, state):
@@ -78,38 +78,38 @@ def choose_list(source, state):
     return source.choice(LISTS)
 
 
-def generate_remove(source, oracle, state):
+def generate_remove(source, state):
     """A stanza that goes; most often one is there, at times under another version that is equal."""
     name = choose_list(source, state)
     package = source.choice(PACKAGES)
-    version = oracle.Version(source.choice(VERSIONS))
+    version = reference.Version(source.choice(VERSIONS))
     entry = state.find(name)
     if entry is not None and entry.stanzas and source.random() < 0.6:
         stanza = source.choice(entry.stanzas)
         package = stanza.package
-        if stanza.version is not None and not (stanza.version.equals(oracle.Version(VERSIONS[0])) and version.text in VERSIONS[:6]):
+        if stanza.version is not None and not (stanza.version.equals(reference.Version(VERSIONS[0])) and version.text in VERSIONS[:6]):
             version = stanza.version
     return ("remove", name, package, version), ["remove", name.hex(), package.hex(), version.text.hex()]
 
 
-def generate_list(source, oracle, stanza):
+def generate_list(source, stanza):
     """A new list, as an edit and as its line."""
     kind = source.choice(["packages", "packages", "status"])
     name = source.choice(LISTS)
     label = source.choice(CLASSES) if kind == "packages" else "plain"
     text = "\n".join(stanza(source, kind) for _ in range(source.randrange(6)))
-    kind_of_list = oracle.PACKAGES if kind == "packages" else oracle.STATUS
-    edit = ("add-list", name, kind_of_list, label, read(oracle, text, kind))
+    kind_of_list = reference.PACKAGES if kind == "packages" else reference.STATUS
+    edit = ("add-list", name, kind_of_list, label, read(text, kind))
     return edit, ["add-list", name.hex(), kind, label, text.encode().hex()]
 
 
-def generate_put(source, oracle, state, stanza):
+def generate_put(source, state, stanza):
     """A stanza for a list, of the kind of that list where it is there."""
     name = choose_list(source, state)
     entry = state.find(name)
-    kind = "packages" if entry is None or entry.kind == oracle.PACKAGES else "status"
+    kind = "packages" if entry is None or entry.kind == reference.PACKAGES else "status"
     text = stanza(source, kind)
-    return ("put", name, read(oracle, text, kind)[0]), ["put", name.hex(), kind, text.encode().hex()]
+    return ("put", name, read(text, kind)[0]), ["put", name.hex(), kind, text.encode().hex()]
 
 
 def selector_words(selector):
@@ -128,20 +128,20 @@ def generate_pin(source, state, what):
     return ("pin", selector, priority), ["pin", *selector_words(selector), str(priority)]
 
 
-def generate_edit(source, oracle, state, stanza=generate_stanza):
+def generate_edit(source, state, stanza=generate_stanza):
     """An edit for the reference program, and the words of its line for the probe. Its stanzas are made by `stanza`."""
     what = source.choice(EDITS)
     name = choose_list(source, state)
     package = source.choice(PACKAGES)
-    version = oracle.Version(source.choice(VERSIONS))
+    version = reference.Version(source.choice(VERSIONS))
     if what == "add-list":
-        return generate_list(source, oracle, stanza)
+        return generate_list(source, stanza)
     if what == "put":
-        return generate_put(source, oracle, state, stanza)
+        return generate_put(source, state, stanza)
     if what == "drop-list":
         return ("drop-list", name), ["drop-list", name.hex()]
     if what == "remove":
-        return generate_remove(source, oracle, state)
+        return generate_remove(source, state)
     if what == "mark":
         mark = None if source.random() < 0.3 else version
         return ("mark", package, mark), ["mark", package.hex(), "-" if mark is None else version.text.hex()]
@@ -164,7 +164,7 @@ class Keys:
         self.lists = {}
         self.next_list = 0
 
-    def after(self, oracle, edit, state):
+    def after(self, edit, state):
         """Makes an edit that is accepted in this state, and gives the keys that go and those that come."""
         if edit[0] == "add-list":
             self.lists[edit[1]] = (self.next_list, list(range(len(edit[4]))), len(edit[4]))
@@ -175,15 +175,14 @@ class Keys:
             del self.lists[edit[1]]
             return gone, []
         if edit[0] in ("put", "remove"):
-            return self.at_place(oracle, edit, state)
+            return self.at_place(edit, state)
         return [], []
 
-    def at_place(self, oracle, edit, state):
+    def at_place(self, edit, state):
         """A put or a remove."""
         entry = state.find(edit[1])
         serial, rows, following = self.lists[edit[1]]
-        find = oracle.find_put_place if edit[0] == "put" else oracle.find_remove_place
-        place = find(entry, *edit[2:])
+        place = reference.place_of_edit(entry, edit)
         if place is None:
             rows.append(following)
             self.lists[edit[1]] = (serial, rows, following + 1)
@@ -204,12 +203,12 @@ def named_stanza(source, names):
     return f"Package: {source.choice(names)}\nVersion: {source.choice(['1', '2'])}\nNote: {source.randrange(1000)}\n"
 
 
-def generate_change(source, oracle, state, names, growth, stanza=named_stanza):
+def generate_change(source, state, names, growth, stanza=named_stanza):
     """A stanza that is put into the first list, or one of it that is removed. It is made by `stanza`, of one of these names."""
     entry = state.lists[0]
     if not entry.stanzas or source.random() < growth:
         text = stanza(source, names)
-        return ("put", entry.name, read(oracle, text, "packages")[0]), ["put", entry.name.hex(), "packages", text.encode().hex()]
+        return ("put", entry.name, read(text, "packages")[0]), ["put", entry.name.hex(), "packages", text.encode().hex()]
     gone = source.choice(entry.stanzas)
     return (
         ("remove", entry.name, gone.package, gone.version),
@@ -226,22 +225,18 @@ def probe(subject, lines):
 
 
 def read_words(usage, sequences):
-    """The reference program's module, and how many sequences are asked for, by the words of a command: a folder, and a number if
-    it isn't this one."""
-    if len(sys.argv) not in (2, 3):
+    """How many sequences are asked for, by the word of a command, if it isn't this number."""
+    if len(sys.argv) > 2:
         raise SystemExit(usage)
-    sys.path.insert(0, sys.argv[1])
-    import oracle
-
-    return oracle, int(sys.argv[2]) if len(sys.argv) == 3 else sequences
+    return int(sys.argv[1]) if len(sys.argv) == 2 else sequences
 
 
-def generate_sequences(oracle, seed, count, generate, generate_long):
+def generate_sequences(seed, count, generate, generate_long):
     """The lines of some sequences, each with what is to be printed for it. Each twentieth sequence is a long one."""
     source = random.Random(seed)
     told = []
     for number in range(count):
-        told += (generate_long if number % 20 == 19 else generate)(source, oracle)
+        told += (generate_long if number % 20 == 19 else generate)(source)
     return told
 
 

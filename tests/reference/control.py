@@ -165,6 +165,7 @@ class Stanza:
         self.live = is_live(paragraph, kind)
         self.version = read_version(paragraph.body(b"Version")) if self.live else None
         self.relations = {field: parse_relations(paragraph.body(field) or b"", field) if self.live else [] for field in NINE}
+        self.offers = self.offered()
 
     def field(self, name):
         """The field of this name, without regard to case, or nothing."""
@@ -177,8 +178,7 @@ class Stanza:
         """The groups of one of the eight fields, or the entries of Provides, each a group of one."""
         return self.relations[kind]
 
-    @property
-    def offers(self):
+    def offered(self):
         """Its own name at its version, and each entry of Provides."""
         if not self.live:
             return []

@@ -4,7 +4,7 @@ Nothing is kept: each question is a search through all lists."""
 
 from control import STATUS
 from relations import EIGHT, met_by
-from state import place_of
+from state import place_of_edit
 from versions import Version
 
 TARGET_PRIORITY = 990
@@ -41,6 +41,7 @@ class View:
     def __init__(self, state):
         self.state = state
         self.live = [(entry, stanza) for entry in state.lists for stanza in entry.stanzas if stanza.live]
+        self.offered = [(stanza, offer) for _, stanza in self.live for offer in stanza.offers]
 
     def packages(self):
         """The names that have a row, in the order of their bytes."""
@@ -48,7 +49,7 @@ class View:
 
     def known_names(self):
         """The names that have a row, are offered, or are named in one of the eight fields, in the order of their bytes."""
-        names = {offer.name for _, stanza in self.live for offer in stanza.offers}
+        names = {offer.name for _, offer in self.offered}
         for _, stanza in self.live:
             names |= {atom.name for field in EIGHT for group in stanza.groups(field) for atom in group}
         return sorted(names)
@@ -80,7 +81,7 @@ class View:
 
     def offers(self, name):
         """The offers of a name, each with its stanza, in the order of lists and stanzas."""
-        return [(stanza, offer) for _, stanza in self.live for offer in stanza.offers if offer.name == name]
+        return [(stanza, offer) for stanza, offer in self.offered if offer.name == name]
 
     def is_met(self, clause):
         """Whether any offer of any live stanza meets one of the alternatives."""
@@ -138,7 +139,7 @@ def is_matched(form, value, row):
 def pairs(state):
     """How many pairs of one name there are of an alternative of a clause and an offer."""
     view = View(state)
-    offered = [offer.name for _, stanza in view.live for offer in stanza.offers]
+    offered = [offer.name for _, offer in view.offered]
     asked = [atom.name for _, stanza in view.live for _, _, clause in stanza.clauses() for atom in clause]
     return sum(asked.count(name) * offered.count(name) for name in set(asked))
 
@@ -154,10 +155,3 @@ def without_removed(state, edit):
         if place is not None:
             del entry.stanzas[place]
     return before
-
-
-def place_of_edit(entry, edit):
-    """Where in its list the stanza stands that a put replaces or a remove takes out, or nothing."""
-    if edit[0] == "put":
-        return place_of(entry, edit[2].package, edit[2].version)
-    return place_of(entry, edit[2], edit[3])

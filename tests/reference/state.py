@@ -85,6 +85,13 @@ def place_of(entry, package, version):
     return None
 
 
+def place_of_edit(entry, edit):
+    """Where in its list the stanza stands that a put replaces or a remove takes out, or nothing."""
+    if edit[0] == "put":
+        return place_of(entry, edit[2].package, edit[2].version)
+    return place_of(entry, edit[2], edit[3])
+
+
 def list_of(state, name):
     """The list that an edit is about."""
     entry = state.find(name)
