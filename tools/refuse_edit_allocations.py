@@ -22,7 +22,10 @@ import subprocess
 import sys
 import tempfile
 
-from refuse_allocations import HERE, library, run
+HERE = os.path.dirname(os.path.abspath(__file__))
+sys.path.append(os.path.join(HERE, "../tests/program"))
+
+from refused_memory import library, run  # noqa: E402
 
 CRATE = os.path.join(HERE, "../crates/ctl_rows")
 TESTS = os.path.join(CRATE, "out/ctl_rows_tests")

@@ -15,7 +15,10 @@ import os
 import sys
 import tempfile
 
-from refuse_allocations import HERE, library, lines_of, run
+HERE = os.path.dirname(os.path.abspath(__file__))
+sys.path.append(os.path.join(HERE, "../tests/program"))
+
+from refused_memory import library, lines_of, run  # noqa: E402
 
 PROBE = os.path.join(HERE, "../crates/probe/out/probe")
 LINES = os.path.join(HERE, "../crates/probe/stdin")

@@ -12,7 +12,7 @@ import sys
 import tempfile
 
 import generate
-import run
+import program as reference
 
 PATIENCE = 60
 SHOWN = 300
@@ -59,7 +59,7 @@ def compare(program, seed, is_long):
     """Whether a script is answered alike."""
     script = generate.script(seed, is_long)
     got = answer_of(program, script)
-    wanted = run.answer([], lambda: script)
+    wanted = reference.answer([], lambda: script)
     if got != wanted:
         show(seed, script, got, wanted)
     return got == wanted

@@ -1,6 +1,84 @@
-"""Worked scripts for refuse_allocations.py: every edit, its refusals, and questions that show what the edits left; filters.
+"""Scripts for refusals.py: worked ones on the counters of what meets a clause, on priorities and on preferences; every edit and its
+refusals, with questions that show what the edits left; every query; filters; and lists that are loaded from files."""
 
-What no query shows yet, as a mark or a pin, is shown by taking it out, which is refused where it isn't there."""
+COUNTERS = b"""add-list main packages
+Package: s
+Version: 1
+Depends: x
+Provides: x, x
+
+Package: t
+Version: 1
+Depends: x
+.
+unmet
+put main
+Package: s
+Version: 1
+Depends: x
+Provides: x, x
+.
+unmet
+remove main s 1
+unmet
+"""
+
+TWO_VERSIONS = b"""add-list main packages
+Package: foo
+Version: 1.0-1
+.
+add-list sid packages
+Package: foo
+Version: 2.0-1
+.
+add-list status status
+Package: foo
+Status: install ok installed
+Version: 1.0-1
+.
+policy foo
+"""
+
+PRIORITIES = TWO_VERSIONS + b"""pin foo version 1.0* 999
+policy foo
+pin foo version 1.0* 1000
+remove status foo 1.0-1
+mark foo 2.0-1
+policy foo
+pin foo version 1.0* 999
+policy foo
+"""
+
+PREFERENCES = TWO_VERSIONS + b"""prefs
+Explanation: keep
+Explanation: the old one
+Package: foo bar
+Pin: version 1.0*
+Pin-Priority: 1001
+
+Package: *
+Pin: release a=sid
+Pin-Priority: 50
+
+Package: foo
+Pin: version 1.0*
+Pin-Priority: 1
+.
+policy
+prefs
+Package: bar
+Pin: version 2
+Pin-Priority: 5
+
+Package: foo
+Pin: origin x
+Pin-Priority: 500
+.
+policy
+prefs
+.
+policy foo
+"""
 
 LISTS = b"""add-list main packages
 Package: s
@@ -169,6 +247,50 @@ grep-dctrl -F a, x
 grep-dctrl -z x
 """
 
+QUERIES = b"""mark s 0:1
+pin s version 1* 990
+pin '*' release sid 300
+target main
+pkgnames
+pkgnames --all-names
+pkgnames --all-names x
+show s t=1:2.0-1 nope s=9 t=3
+show -a s
+show --all-versions --no-all-versions s foo
+depends s t foo x nope
+depends -i t
+depends --important --installed s
+rdepends x y nope
+rdepends --installed x
+unmet
+unmet -i
+unmet --important
+policy
+policy s foo x nope
+showpkg s x foo nope
+put sid
+Package: t
+Version: 1:2.0
+Recommends: s (>= 2) | x (= 2), z
+Conflicts: s (<< 1), foo
+Provides: s (= 3)
+.
+depends t
+rdepends s
+unmet
+policy t s
+showpkg s t
+show s=1_0
+show
+depends -z s
+rdepends s!
+unmet x
+policy --all
+pkgnames a b
+grep-dctrl -X -X s
+grep-dctrl -c ''
+"""
+
 FILES = {
     "main": b"Package: s\nVersion: 1\nDepends: x, y (>= 1) | z:any\nProvides: x\n\nPackage: t\nVersion: 1:2.0-1\nX: y\n z\n",
     "sid": b"Package: foo\nVersion: 2.0-1\n",
@@ -179,8 +301,10 @@ LOADED = ["-l", "main={0}/main", "-l", "sid={0}/sid", "--status", "{0}/status"]
 
 # The name of a case, its script, and the words of the program, in which {0} is the folder of FILES.
 SCRIPTS = [
-    ("lists and stanzas", LISTS + STANZAS, []),
-    ("marks, pins, target and preferences", SETTINGS, []),
+    ("counters of what meets a clause", COUNTERS, []),
+    ("priorities", PRIORITIES, []),
+    ("preferences", PREFERENCES, []),
+    ("every query and every edit", LISTS + QUERIES + STANZAS + SETTINGS, []),
     ("filters", LISTS + FILTERS, []),
-    ("all edits over lists of -l and --status", b"pkgnames\n" + STANZAS + SETTINGS, LOADED),
+    ("lists of -l and --status", b"pkgnames --all-names\nunmet\npolicy\ngrep-dctrl ''\n" + STANZAS + SETTINGS, LOADED),
 ]
