@@ -18,7 +18,8 @@ def library(folder):
 def run(program, words, script, settings=None):
     """The status, the output and the errors of a run on a script."""
     environment = dict(os.environ, **(settings or {}))
-    done = subprocess.run([program] + words, input=script, env=environment, timeout=PATIENCE, stdout=subprocess.PIPE, stderr=subprocess.PIPE)
+    pipes = {"stdout": subprocess.PIPE, "stderr": subprocess.PIPE}
+    done = subprocess.run([program] + words, input=script, env=environment, timeout=PATIENCE, check=False, **pipes)
     return done.returncode, done.stdout, done.stderr
 
 

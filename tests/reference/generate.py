@@ -18,7 +18,8 @@ COMMANDS = 90
 LONG_COMMANDS = 260
 LONG_NAMES = [b"p%d" % number for number in range(24)]
 
-ODD_LINES = [b"frob", b"frob 'x", b"Pkgnames", b"pkgnames\r", b"'pkgnames'", b".", b"unmet.", b"add-lists", b"\xff", b"-h", b"help", b"search a", b"\x0bpkgnames"]
+ODD_LINES = [b"frob", b"frob 'x", b"Pkgnames", b"pkgnames\r", b"'pkgnames'", b".", b"unmet.", b"add-lists", b"\xff", b"-h", b"help",
+             b"search a", b"\x0bpkgnames"]
 SKIPPED_LINES = [b"", b" ", b"\t \t", b"# comment", b"  # 'x", b"\t#"]
 NOT_QUOTED = b"abcdefghijklmnopqrstuvwxyzABCDEFGHIJKLMNOPQRSTUVWXYZ0123456789+-._*=~:,()!|^$[]{}?\\<>@/"
 COMPARISONS = [b"--eq", b"--lt", b"--le", b"--gt", b"--ge"]
@@ -249,7 +250,8 @@ class Script:
             words = signs + [b"-P", b"a"] + [b")"] * signs.count(b"(")
         else:
             words = self.expression(2)
-        options = [[b"-s" + self.texts.fields()], [b"-s", self.texts.fields()], [b"-c"], [b"-c"], [b"-d"], [b"-v"], [b"-n"], [b"-vc"], [b"-nsPackage"], [b"-dns", b"Package"]]
+        options = [[b"-s" + self.texts.fields()], [b"-s", self.texts.fields()], [b"-c"], [b"-c"], [b"-d"], [b"-v"], [b"-n"], [b"-vc"],
+                   [b"-nsPackage"], [b"-dns", b"Package"]]
         for option in self.source.sample(options, self.source.choice([0, 1, 1, 2])):
             words = option + words if self.chance(0.6) else words + option
         self.command(b"grep-dctrl", words)

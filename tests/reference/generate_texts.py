@@ -4,10 +4,14 @@ from generate_words import LISTS, RELATIONS, WRONG_FIELDS, WRONG_NAMES, Words
 
 LONGEST = 1048576
 
-STATES = [b"not-installed", b"config-files", b"half-installed", b"unpacked", b"half-configured", b"triggers-awaited", b"triggers-pending", b"installed"]
-WRONG_STATUS = [b"", b"install ok", b"install ok odd", b"install ok Installed", b"install ok installed x", b"installed", b"install ok\n installed x"]
-VALUES = [b"x", b"  x\t", b"", b"foo ab", b"x\n y", b"x\n .\n  z ", b"\n only below", b"x\r", b"\xff\xfe\x00", b"ABC foo-doc", b"1.0", b"'x' \"y\"", b"1\n\t2"]
-WRONG_LINES = [b" x", b"\tx", b"# comment", b"oops", b": x", b"a b: x", b"-x: y", b"#x: y", b"\r", b"x\xe9: y", b".x", b"..", b". ", b"'", b"add-list x packages"]
+STATES = [b"not-installed", b"config-files", b"half-installed", b"unpacked", b"half-configured", b"triggers-awaited",
+          b"triggers-pending", b"installed"]
+WRONG_STATUS = [b"", b"install ok", b"install ok odd", b"install ok Installed", b"install ok installed x", b"installed",
+                b"install ok\n installed x"]
+VALUES = [b"x", b"  x\t", b"", b"foo ab", b"x\n y", b"x\n .\n  z ", b"\n only below", b"x\r", b"\xff\xfe\x00", b"ABC foo-doc", b"1.0",
+          b"'x' \"y\"", b"1\n\t2"]
+WRONG_LINES = [b" x", b"\tx", b"# comment", b"oops", b": x", b"a b: x", b"-x: y", b"#x: y", b"\r", b"x\xe9: y", b".x", b"..", b". ",
+               b"'", b"add-list x packages"]
 GAPS = [b"\n", b"\n", b"\n", b"\n\n", b" \n", b"\t \n"]
 
 
@@ -63,7 +67,8 @@ class Texts(Words):
         if self.chance(0.3):
             self.source.shuffle(fields)
         if self.chance(self.wrong):
-            fields.insert(self.source.randrange(len(fields) + 1), self.source.choice(WRONG_LINES + [b"x" + self.source.choice(WRONG_FIELDS) + b": y"]))
+            fields.insert(self.source.randrange(len(fields) + 1),
+                          self.source.choice(WRONG_LINES + [b"x" + self.source.choice(WRONG_FIELDS) + b": y"]))
         if self.chance(self.wrong):
             fields.insert(self.source.randrange(len(fields) + 1), self.source.choice(fields).split(b":")[0].swapcase() + b": twice")
         return fields
@@ -105,8 +110,8 @@ class Texts(Words):
     def pin_words(self, is_for_all):
         """The body of Pin."""
         if self.chance(self.wrong):
-            return self.source.choice([b"origin deb.debian.org", b"release o=Debian", b"version", b"version 1 2", b"release", b"x", b"Version 1", b"release a=",
-                                       b"release  a=a/b", b"release b=main", b"version=1", b"release A=main"])
+            return self.source.choice([b"origin deb.debian.org", b"release o=Debian", b"version", b"version 1 2", b"release", b"x",
+                                       b"Version 1", b"release a=", b"release  a=a/b", b"release b=main", b"version=1", b"release A=main"])
         space = self.source.choice([b" ", b" ", b"\t", b"  ", b"\n "])
         if self.chance(0.5) or (is_for_all and not self.chance(self.wrong)):
             return b"release" + space + b"a=" + self.pick(LISTS, WRONG_NAMES[:8])
@@ -131,7 +136,8 @@ class Texts(Words):
         if self.chance(0.2):
             lines.insert(self.source.randrange(len(lines) + 1), self.source.choice([b"#", b"# comment", b"#x: y"]))
         if self.chance(self.wrong):
-            lines.insert(self.source.randrange(len(lines) + 1), self.source.choice([b" x", b"oops", b" # x", b"package: a", b"Pin: version 1", b"X: y"]))
+            wrong = self.source.choice([b" x", b"oops", b" # x", b"package: a", b"Pin: version 1", b"X: y"])
+            lines.insert(self.source.randrange(len(lines) + 1), wrong)
         return b"".join(line + b"\n" for line in lines)
 
     def records(self):
