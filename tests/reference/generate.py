@@ -86,7 +86,7 @@ class Script:
         blank = self.source.choice([b" "] * 12 + [b"\t", b"  "])
         line = self.source.choice([b""] * 12 + [b" ", b"\t"]) + blank.join([name] + [self.quoted(word) for word in words])
         if self.chance(self.texts.wrong / 8):
-            line += b" 'x"
+            line += self.source.choice([b" 'x", b"\r", b" \r"])
         text = line + self.source.choice([b""] * 12 + [b" "]) + b"\n"
         if body is not None:
             text += body + (b"" if body == b"" or body.endswith(b"\n") else b"\n") + b".\n"
@@ -154,22 +154,35 @@ class Script:
         if self.state.pins and self.chance(0.3):
             return self.pin_that_is_there()
         form = self.source.choice([b"version", b"version", b"release"])
-        package = self.texts.package()
+        package = self.texts.pinned_package()
         if form == b"release":
             return [b"*" if self.chance(0.5) else package, form, self.list_name()]
         return [self.texts.pick([package], [b"*"]), form, self.texts.pin_version()]
 
     def pin(self):
         self.command(b"pin", self.selector() + [self.texts.priority()])
+        self.look_at_pins()
 
     def unpin(self):
-        self.command(b"unpin", self.pin_that_is_there() if self.state.pins and self.chance(0.85) else self.selector())
+        """A pin goes, and at times goes once more."""
+        selector = self.pin_that_is_there() if self.state.pins and self.chance(0.85) else self.selector()
+        for _ in range(self.source.choice([1, 1, 2])):
+            self.command(b"unpin", selector)
+        self.look_at_pins()
+
+    def look_at_pins(self):
+        """At times, what the pins that are there give."""
+        if self.chance(0.3):
+            self.command(b"policy", self.texts.pinned if self.chance(0.5) else [])
 
     def target(self):
         self.command(b"target", [b"none" if self.chance(0.3) else self.list_name()])
 
     def prefs(self):
         self.command(b"prefs", [], self.texts.records())
+        self.look_at_pins()
+        if self.state.pins and self.chance(0.3):
+            self.unpin()
 
     # ---- queries
 

@@ -74,7 +74,8 @@ class Texts(Words):
         return fields
 
     def stanza(self, kind, package=None, version=None):
-        fields = self.lines_of_stanza(kind, package or self.package(), version or self.version())
+        name = self.source.choice(self.pinned) if self.chance(0.2) else self.package()
+        fields = self.lines_of_stanza(kind, package or name, version or self.version())
         return b"".join(field + b"\n" for field in fields)
 
     def right_stanza(self, kind):
@@ -113,7 +114,7 @@ class Texts(Words):
             return self.source.choice([b"origin deb.debian.org", b"release o=Debian", b"version", b"version 1 2", b"release", b"x",
                                        b"Version 1", b"release a=", b"release  a=a/b", b"release b=main", b"version=1", b"release A=main"])
         space = self.source.choice([b" ", b" ", b"\t", b"  ", b"\n "])
-        if self.chance(0.5) or (is_for_all and not self.chance(self.wrong)):
+        if self.chance(0.5) or (is_for_all and self.chance(0.8)):
             return b"release" + space + b"a=" + self.pick(LISTS, WRONG_NAMES[:8])
         return b"version" + space + self.pin_version()
 
@@ -121,7 +122,7 @@ class Texts(Words):
         """The body of Package, and whether it is for all packages."""
         if self.chance(0.2):
             return b"*", True
-        names = [self.package() for _ in range(self.source.choice([1, 1, 2, 3]))]
+        names = [self.pinned_package() for _ in range(self.source.choice([1, 1, 2, 3]))]
         return self.source.choice([b" ", b"  ", b"\t", b"\n "]).join(names) or b"", names == [b"*"]
 
     def record(self):

@@ -53,12 +53,13 @@ WRONG_EXPRESSIONS = [b"ba[", b"(", b"*", b"a)", b"[b-a]", b"\\", b"\xff", b"a{2,
 
 
 class Words:
-    """Makes words. `wrong` is how likely one is none of its kind."""
+    """Makes words. `wrong` is how likely one is none of its kind. Pins are most often of two packages, so that several match a row."""
 
     def __init__(self, source, wrong, packages):
         self.source = source
         self.wrong = wrong
         self.packages = packages
+        self.pinned = source.sample(packages, 2)
 
     def chance(self, likely):
         return self.source.random() < likely
@@ -69,6 +70,9 @@ class Words:
 
     def package(self):
         return self.pick(self.packages, WRONG_NAMES)
+
+    def pinned_package(self):
+        return self.source.choice(self.pinned) if self.chance(0.6) else self.package()
 
     def name(self):
         """A name of a package, or one that is only offered."""
@@ -81,7 +85,7 @@ class Words:
     def pin_version(self):
         if self.chance(self.wrong):
             return self.source.choice(WRONG_PREFIXES)
-        return self.source.choice(PREFIXES) if self.chance(0.5) else self.version()
+        return self.source.choice(PREFIXES[:3] if self.chance(0.5) else PREFIXES) if self.chance(0.6) else self.version()
 
     def priority(self):
         return self.pick(PRIORITIES, WRONG_PRIORITIES)
