@@ -4,7 +4,7 @@ import os
 import subprocess
 
 HERE = os.path.dirname(os.path.abspath(__file__))
-PATIENCE = 60
+PATIENCE = 600
 SUBJECTS = (b"relation", b"text", b"store", b"index")
 
 

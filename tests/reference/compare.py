@@ -14,7 +14,7 @@ import tempfile
 import generate
 import program as reference
 
-PATIENCE = 60
+PATIENCE = 600
 SHOWN = 300
 
 
