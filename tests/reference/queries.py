@@ -9,7 +9,7 @@ from rows import View
 from state import Refused
 from versions import is_name, read_version
 
-COMMAND, USAGE, NAME, VERSION = 1, 2, 8, 9
+USAGE, NAME, VERSION = 2, 8, 9
 IMPORTANT = EIGHT[:2]
 
 NO_ALL_VERSIONS = b"--no-all-versions"

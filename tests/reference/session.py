@@ -5,8 +5,8 @@ from control import PACKAGES, STATUS, TextFault, read_stanzas
 from preferences import PRIORITY, is_pin_version, read_prefs, read_priority
 from queries import is_query, parse_query
 from script import commands_of, words_of
-from state import CLASSES, NO_LIST, ONE_STANZA, PLAIN, Limits, Refused, State, step
-from versions import Version, is_name, read_version
+from state import NO_LIST, ONE_STANZA, PLAIN, SCRIPT_CLASSES, Limits, Refused, State, step
+from versions import is_name, read_version
 
 COMMAND, USAGE, UNENDED, TOO_LONG = 1, 2, 3, 4
 NAME, VERSION = 8, 9
@@ -62,9 +62,8 @@ def add_list(session, command, words):
     kind = PACKAGES if words[1] == b"packages" else STATUS
     class_of_list = PLAIN
     if len(words) == 3:
-        need(kind == PACKAGES and words[2] in (b"notauto", b"butauto"), USAGE)
-        class_of_list = words[2].decode()
-    assert class_of_list in CLASSES
+        class_of_list = words[2].decode("latin-1")
+        need(kind == PACKAGES and class_of_list in SCRIPT_CLASSES, USAGE)
     name = name_of(words[0])
     return ("add-list", name, kind, class_of_list, read_stanzas(command.body_text(), command.line + 1, kind))
 

@@ -5,7 +5,8 @@ An edit is a tuple: its command, and its words as they were read. `step` never c
 from control import STATUS
 
 PLAIN = "plain"
-CLASSES = [PLAIN, "notauto", "butauto"]
+# The words of a class in a script. A list without one is plain.
+SCRIPT_CLASSES = ["notauto", "butauto"]
 MOST = 4294967295
 
 # The numbers of what doesn't fit the state.
