@@ -1,7 +1,7 @@
 //! Calls of the rows of names, and of what is chosen of a name.
 
-use crate::tables::agree;
 use crate::made::{given, version};
+use crate::tables::agree;
 use ctl_policy::{Chosen, Rows, read_rows, renew};
 use ctl_store::{StanzaKey, Store};
 use std::alloc::{AllocError, Global};
