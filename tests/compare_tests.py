@@ -29,16 +29,16 @@ OLD = {TABLE: test_function("numbers_are_read", ROWS), EDIT: "file: src/lib.rt\n
 
 # What is changed, the status, and lines that are told of it.
 CASES = [
-    ("nothing", {}, 0, ["0 went, 0 rows went, 0 bad lines, 0 came, 0 moved, 0 no function now"]),
+    ("nothing", {}, 0, ["0 went, 0 rows went, 0 bad lines, 0 came, 0 moved, 0 told by a list"]),
     ("a test that moved", {TABLE: None, "crates/numbers/src/other.rt": OLD[TABLE]}, 0,
-     ["0 went, 0 rows went, 0 bad lines, 0 came, 1 moved, 0 no function now"]),
+     ["0 went, 0 rows went, 0 bad lines, 0 came, 1 moved, 0 told by a list"]),
     ("a test that came", {"crates/numbers/src/more.rt": test_function("more", ROWS)}, 0, ["came: test more in crates/numbers/src/more.rt"]),
     ("a test that went", {TABLE: None}, 1, ["went: test numbers_are_read, which stood in " + TABLE]),
     ("an edit that went", {EDIT: None}, 1, ["went: edit least-is-one, which stood in " + EDIT]),
     ("a row that went", {TABLE: test_function("numbers_are_read", ROWS[:2])}, 1,
      ["went: 1 of the rows [1, 2, 3] of test numbers_are_read, which stood in " + TABLE]),
     ("a test that is told", {TABLE: None, LIST: told("numbers_are_read\t1\t" + PLACE, "numbers_are_read\t2-3\t%s#one" % PLACE)}, 0,
-     ["0 went, 0 rows went, 0 bad lines, 0 came, 0 moved, 1 no function now"]),
+     ["0 went, 0 rows went, 0 bad lines, 0 came, 0 moved, 1 told by a list"]),
     ("a test that is told as a whole", {TABLE: None, LIST: told("numbers_are_read\tall\t" + PLACE)}, 0, []),
     ("a row that is told", {TABLE: test_function("numbers_are_read", ROWS[:2]), LIST: told("numbers_are_read\t3\t" + PLACE)}, 0, []),
     ("a row that isn't told", {TABLE: None, LIST: told("numbers_are_read\t1\t" + PLACE, "numbers_are_read\t3\t" + PLACE)}, 1,

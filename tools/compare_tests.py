@@ -8,9 +8,10 @@ under #[test], and the rows of the tables in them.
 A name that stands in several crates counts as often. A row is a line `=>` or `->` of a table that is a text, or an entry of an
 array that begins with a text.
 
-The files tests/*.moved of NEW say where tests went that are Rattle functions no longer. A line has, with tabs between, the file of
-the function or its module, its name, the rows (`3` or `1-5`; other words stand for all), and where they are now: a file, or
-`FILE#WORDS` with words that stand in it. More words may follow, which stand in it too, and the number of a row behind them.
+The files tests/*.moved of NEW say where tests went that are Rattle functions no longer, and which edits stand for others. A line has,
+with tabs between, the file of the function or its module, or of the edit, its name, the rows (`3` or `1-5`; other words stand for all),
+and where they are now: a file, or `FILE#WORDS` with words that stand in it. More words may follow, which stand in it too, and the number
+of a row behind them.
 
 The last line is the count; the status is 1 where an edit, a test or a row went, or where a place of a list isn't there."""
 
@@ -114,11 +115,11 @@ class Comparison:
         if before is None:
             print(f"came: {kind} {name} in {after}")
             self.tally["came"] += 1
-        elif after is None and (kind == "edit" or not self.rows_told(before, name)):
+        elif after is None and not self.rows_told(before, name):
             print(f"went: {kind} {name}, which stood in {before}")
             self.tally["went"] += 1
         else:
-            self.tally["no function now" if after is None else "moved"] += before != after
+            self.tally["told by a list" if after is None else "moved"] += before != after
             if kind == "test":
                 self.compare_rows(name, before, after)
 
@@ -140,7 +141,7 @@ def compare(old, new):
     for kind in KINDS:
         print(f"{kind}s: {old.count(kind)} before, {new.count(kind)} after")
     tally = comparison.tally
-    print(", ".join(f"{tally[what]} {what}" for what in ("went", "rows went", "bad lines", "came", "moved", "no function now")))
+    print(", ".join(f"{tally[what]} {what}" for what in ("went", "rows went", "bad lines", "came", "moved", "told by a list")))
     return 1 if tally["went"] or tally["rows went"] or tally["bad lines"] else 0
 
 

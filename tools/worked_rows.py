@@ -124,7 +124,7 @@ CALLS = (
     ("The words of the program", "the_program_takes_lists_and_a_status_file"),
     ("The program on a list and a query", "crates/dctrl_cache/stdin"),
     ("A cache recovers behind each growth that was refused", "an_edit_of_a_cache_without_memory_changes_nothing"),
-    ("Each growth of a run refused in turn", "tools/refuse_allocations.py"),
+    ("Each growth of a run refused in turn", "tests/program/refusals.py"),
 )
 
 
