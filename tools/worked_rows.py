@@ -3,8 +3,8 @@
 
 Lists each worked row by its name, with the test that holds it. The last line says how many there are, and how many are missing.
 The names stand in this file. A script's row is an entry of a table under a head line with its name, or is compared under that name;
-it stands in FOLDER, which is crates/ctl_rows/src/worked at first, once. Rows that are calls stand elsewhere; those of the probe are
-named and not looked for. The status is 1 where a row is missing, or stands twice."""
+it stands in FOLDER, which is crates/ctl_rows/src/worked at first, once. Rows that are calls stand elsewhere, and are
+looked for there. The status is 1 where a row is missing, or stands twice."""
 
 import collections
 import pathlib
@@ -107,15 +107,20 @@ A record without a pin
 Preferences without a record
 """.strip().split("\n")
 
-# Rows that are calls, which the probe makes.
+# Rows that are calls, which the probe makes. Each has the line that asks for it, or its beginning.
+QUESTIONS = "crates/probe/stdin"
 PROBE = (
-    "An atom with a bound and two offers, with the count of tests",
-    "A text that is a version of a pin, and one that is none",
-    "Limits of 16,777,216 stanzas and 5 edits",
-    "Limits of 4,294,967,295 stanzas and edits",
-    "An offer without a version",
-    "An empty store prepares a list, and gives back the drop of one",
-    "An empty cache recovers, and takes a list",
+    ("An atom with a bound and offers, with the count of tests", "met\tbaz:any (>= 1)\tbaz\t-\tbaz:any (>= 1)\tbaz\t1-0\t"),
+    ("A text that is a version of a pin", "matches\t1.0*\t"),
+    ("A text that is no version of a pin", "version\t1.0*x"),
+    ("Limits of 16,777,216 stanzas and 5 edits", "limits\t16777216\t5"),
+    ("Limits of 4,294,967,295 stanzas and edits", "limits\t4294967295\t4294967295"),
+    ("An offer without a version", "offer\tx\t-"),
+    (
+        "A store gives back the drop of a list that is not there, and prepares the list",
+        "late\tadd-list\tm\tpackages\tnotauto\tPackage: a\\nVersion: 1\\n\\nPackage: b\\nVersion: 2\\n\tdrop-list\tm",
+    ),
+    ("An empty cache recovers, and takes a list", "recover"),
 )
 
 # Rows that are other calls. Each has the test that makes it, or the file.
@@ -176,8 +181,11 @@ def main(words):
         place = place_of(call, tests)
         print("%s\t%s" % (name, place or "MISSING"))
         faults += place is None
-    for name in PROBE:
-        print("%s\tprobe" % name)
+    questions = (TOP / QUESTIONS).read_text().split("\n")
+    for name, question in PROBE:
+        is_there = any(it.startswith(question) for it in questions)
+        print("%s\t%s" % (name, QUESTIONS if is_there else "MISSING"))
+        faults += not is_there
     count = len(SCRIPTS) + len(CALLS) + len(PROBE)
     print("%d rows, %d of them by the probe, %d missing or twice" % (count, len(PROBE), faults))
     return 1 if faults else 0
