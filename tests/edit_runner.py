@@ -166,7 +166,7 @@ def test_statements(tests):
         first = built(root)
         write(root + "/crates/numbers/src/lib.rt", SOURCE.replace("if a > b { a } else { b }", "if b < a { a } else { b }"))
         body = built(root)
-        write(root + "/crates/numbers/src/lib.rt", SOURCE.replace("    ensures { result ≤ a }\n", "    ensures { result ≤ a + 0 }\n"))
+        write(root + "/crates/numbers/src/lib.rt", SOURCE.replace("    ensures { result ≤ a }\n", "    ensures below { result ≤ a }\n"))
         contract = built(root)
     tests.expect("a library has statements", len(first[0]) > 1, str(first[0].keys()))
     tests.expect("a changed body leaves the statement part", body[0] == first[0] and body[1] == first[1], "it has changed")
