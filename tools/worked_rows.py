@@ -110,7 +110,7 @@ Preferences without a record
 # Rows that are calls, which the probe makes. Each has the line that asks for it, or its beginning.
 QUESTIONS = "crates/probe/stdin"
 PROBE = (
-    ("An atom with a bound and offers, with the count of tests", "met\tbaz:any (>= 1)\tbaz\t-\tbaz:any (>= 1)\tbaz\t1-0\t"),
+    ("An atom with a bound and two offers, with the count of tests", "met\tbaz (>= 1)\tbaz\t-\tbaz (>= 1)\tbaz\t1"),
     ("A text that is a version of a pin", "matches\t1.0*\t"),
     ("A text that is no version of a pin", "version\t1.0*x"),
     ("Limits of 16,777,216 stanzas and 5 edits", "limits\t16777216\t5"),

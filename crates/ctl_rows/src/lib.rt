@@ -33,7 +33,6 @@ mod loads;
 pub mod made;
 #[cfg(test)]
 mod pin_laws;
-pub mod policy;
 #[cfg(test)]
 mod program;
 #[cfg(test)]

@@ -3,7 +3,6 @@
 //! A session is made and dropped in one function, and all others have it lent, so that each is proved in a second or two.
 
 use crate::asking::append_asked;
-use crate::policy::append_policy;
 use crate::run_script;
 use crate::shown::state;
 use crate::texts::front;

@@ -1,7 +1,0 @@
-use Rattle.std.specs.List.{AllByRecursion}
-use Rattle.ctl_store.specs.Keys.{AreHeld}
-use Rattle.ctl_store.specs.Held.{keyed_of}
-use Rattle.ctl_rows.proofs.policy.append_rows.Given as goal
-
-abbrev pub invariant-rows : goal.invariant-rows
-invariant-rows l = AllByRecursion (λ keys. AreHeld keys (keyed_of l.store).lists) l.left
