@@ -1,0 +1,16 @@
+"""A cache of Debian packages in memory: edits, and the queries of apt-cache(8) and grep-dctrl(1) between them.
+
+    from dctrl_cache import Session
+
+    with Session() as session:
+        session.add_list("main", "packages", Path("Packages"))
+        session.put("main", "Package: hello\\nVersion: 2.12-1\\nDepends: libc6 (>= 2.34)\\n")
+        print(session.run("unmet").decode())
+
+The program `dctrl-cache` holds the lists and answers; this module talks to it."""
+
+from .channel import Answer
+from .errors import REFUSALS, BodyError, Ended, Refused, UnexpectedAnswer
+from .session import Session
+
+__all__ = ["Answer", "BodyError", "Ended", "REFUSALS", "Refused", "Session", "UnexpectedAnswer"]
