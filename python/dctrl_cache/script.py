@@ -19,7 +19,6 @@ WITH_BODY: Final = frozenset((b"add-list", b"put", b"prefs"))
 
 _NAME = re.compile(rb"[ \t]*([^ \t]*)")
 _PLAIN = re.compile(rb"[A-Za-z0-9=+._:~*/,@%^-]+")
-_DOT = re.compile(rb"^\.$", re.MULTILINE)
 
 
 def to_bytes(text: Text) -> bytes:
@@ -61,10 +60,11 @@ def name_of(line: bytes) -> bytes:
 
 def checked_body(text: bytes) -> bytes:
     """The lines of a body, each with its newline. A line of one dot raises BodyError."""
-    found = _DOT.search(text)
-    if found is not None:
-        raise BodyError(text.count(b"\n", 0, found.start()) + 1)
-    return text if text.endswith(b"\n") or not text else text + b"\n"
+    lines = text if text.endswith(b"\n") or not text else text + b"\n"
+    place = 0 if lines.startswith(b".\n") else lines.find(b"\n.\n") + 1
+    if place > 0 or lines.startswith(b".\n"):
+        raise BodyError(lines.count(b"\n", 0, place) + 1)
+    return lines
 
 
 def script_text(line: bytes, body: bytes | None) -> bytes:
