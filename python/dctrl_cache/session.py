@@ -7,13 +7,14 @@ from typing import Literal
 
 from .channel import Answer, Channel
 from .errors import UnexpectedAnswer
+from .queries import Queries
 from .script import Source, Text, command, quoted, read_source, to_bytes, to_text
 
 Kind = Literal["packages", "status"]
 Classification = Literal["notauto", "butauto"]
 
 
-class Session:
+class Session(Queries):
     """A running dctrl-cache: `with Session() as session: ..`. It holds lists of packages until it is closed.
 
     program  the program, by its path or as it is found on PATH; or a sequence of it and words, as ["dctrl-cache", "-l", "main=Packages"]
