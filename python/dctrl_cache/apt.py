@@ -170,7 +170,8 @@ def apt_lists(root: str | os.PathLike[str] = "/") -> AptSystem:
     The lists are those of apt's sources that were fetched; where there are no sources, all files of packages. Lists of other
     architectures are left out. The environment's APT_CONFIG counts as it does for apt, but below another root.
 
-    AptFault where the folder can't be entered, apt's configuration or sources can't be read, or no list is of the default release."""
+    AptFault where the folder can't be entered, apt's configuration, sources or preferences can't be read, or no list is of the default
+    release."""
     told = _probe(os.fspath(root))
     architecture, status = told["architecture"], told["status"]
     if told["indexes"] is None:
@@ -184,9 +185,16 @@ def apt_lists(root: str | os.PathLike[str] = "/") -> AptSystem:
     if names is None:
         raise AptFault("APT::Default-Release", None, "no list is of the release " + default)
     files = apt_files.preference_files(told["preferences"], told["preferences_parts"])
-    records = tuple(record for file in files for record in apt_preferences.read_preferences(file))
+    records = tuple(record for file in files for record in _records_of(file))
     target = names[0] if len(names) == 1 and names[0] != "status" else None
     return AptSystem(tuple(lists), records, target, architecture, default, tuple(names))
+
+
+def _records_of(path: str) -> list[Preference]:
+    try:
+        return list(apt_preferences.read_preferences(path))
+    except OSError:
+        raise AptFault(path, None, "cannot read") from None
 
 
 @contextmanager
