@@ -1,4 +1,4 @@
-"""The Debian package: what is in it, whether lintian finds it in order, and what it does where it is installed."""
+"""The Debian packages: what is in them, whether lintian finds them in order, and what they do where they are installed."""
 
 import glob
 import gzip
@@ -16,6 +16,8 @@ BUILD = os.path.join(TOP, "packaging", "build-deb")
 INSTALL = os.path.join(TOP, "packaging", "install-files")
 
 DOCUMENTS = "usr/share/doc/dctrl-cache/"
+MODULE_DOCUMENTS = "usr/share/doc/python3-dctrl-cache/"
+MODULE = "usr/lib/python3/dist-packages/"
 PAGES = {"usr/share/man/man1/%s.gz" % os.path.basename(page) for page in glob.glob(os.path.join(TOP, "man", "*.1"))}
 COMPLETIONS = {"usr/share/bash-completion/completions/" + name for name in ("dctrl-cache", "dctrl-cache-apt")}
 TEXTS = {DOCUMENTS + name for name in ("copyright", "changelog.gz", "MANUAL.md", "DIFFERENCES.md", "DIFFERENCES-RELATIONS.md", "DIFFERENCES-GREP-DCTRL.md")}
@@ -25,38 +27,54 @@ def examples():
     return {name for name in os.listdir(os.path.join(TOP, "examples")) if os.path.isfile(os.path.join(TOP, "examples", name))}
 
 
+def module_files():
+    """The files of the module, by their paths in its folder."""
+    found = files_below(os.path.join(TOP, "python"))
+    return {name for name in found if name.startswith("dctrl_cache/") and (name.endswith(".py") or name.endswith("/py.typed"))}
+
+
 def files_below(folder):
     """The files of a folder, by their paths in it."""
     return {os.path.relpath(os.path.join(place, name), folder) for place, _, names in os.walk(folder) for name in names}
 
 
 def built(tests, folder):
-    """The package that is built in a new folder; nothing where it can't be."""
+    """The packages that are built in a new folder, that of the programs and that of the module; nothing where they can't be."""
     os.mkdir(folder)
     got = finished([BUILD, tests.program, folder])
-    found = os.listdir(folder)
-    tests.same("the building of a package", (got[0], len(found)), (0, 1))
-    return os.path.join(folder, found[0]) if found else None
+    found = sorted(os.listdir(folder))
+    names = [name.split("_")[0] for name in found]
+    tests.same("the building of the packages", (got[0], names), (0, ["dctrl-cache", "python3-dctrl-cache"]))
+    return [os.path.join(folder, name) for name in found] if len(found) == 2 else None
 
 
-def test_contents(tests, package, folder):
-    """The files, their owner, and what is said of the package."""
-    tests.same("the unpacking of the package", finished(["dpkg-deb", "-x", package, folder])[0], 0)
-    wanted = {"usr/bin/dctrl-cache", "usr/bin/dctrl-cache-apt"} | PAGES | COMPLETIONS | TEXTS | {DOCUMENTS + "examples/" + name for name in examples()}
-    tests.same("the files of the package", sorted(files_below(folder) ^ wanted), [])
-    tests.same("the manual pages of the package", len(PAGES), 2)
+def test_contents(tests, package, folder, wanted, links=0):
+    """The files of a package, some of which are links, their owner, and their sums."""
+    name = os.path.basename(package)
+    tests.same("the unpacking of " + name, finished(["dpkg-deb", "-x", package, folder])[0], 0)
+    tests.same("the files of " + name, sorted(files_below(folder) ^ wanted), [])
     owners = {line.split()[1] for line in finished(["dpkg-deb", "-c", package])[1].split(b"\n") if line}
-    tests.same("the owners of the files", owners, {b"root/root"})
+    tests.same("the owners of the files of " + name, owners, {b"root/root"})
     sums = finished(["dpkg-deb", "--ctrl-tarfile", package])[1]
     listed = finished(["tar", "-xO", "./md5sums"], input=sums)[1]
     checked = finished(["md5sum", "-c", "--quiet", "-"], input=listed, cwd=folder)
-    tests.same("the sums of the files", (checked[:2], len(listed.splitlines())), ((0, b""), len(wanted) - 1))
+    tests.same("the sums of the files of " + name, (checked[:2], len(listed.splitlines())), ((0, b""), len(wanted) - links))
+
+
+def test_files(tests, programs, module, folder):
+    """What each of the two packages has."""
+    wanted = {"usr/bin/dctrl-cache", "usr/bin/dctrl-cache-apt"} | PAGES | COMPLETIONS | TEXTS | {DOCUMENTS + "examples/" + name for name in examples()}
+    test_contents(tests, programs, folder, wanted, links=1)
+    tests.same("the manual pages of the package", len(PAGES), 2)
+    wanted = {MODULE + name for name in module_files()} | {MODULE_DOCUMENTS + name for name in ("copyright", "changelog.gz")}
+    test_contents(tests, module, folder + "-module", wanted)
 
 
 def test_version(tests, package, folder):
     """The package, the programs and the pages have one version."""
     fields = finished(["dpkg-deb", "-f", package, "Package", "Version", "Maintainer", "Depends"])[1].decode()
     version = re.search("^Version: (.*)$", fields, re.M).group(1)
+    tests.same("the package of the module", "python3-dctrl-cache (= %s)" % version in fields, True)
     tests.same("the fields of the package", (re.findall("^[A-Za-z]*", fields, re.M).count("Package"), "Maintainer: " in fields, "Depends: libc6" in fields),
                (1, True, True))
     programs = [finished([os.path.join(folder, "usr/bin", name), "--version"]) for name in ("dctrl-cache", "dctrl-cache-apt")]
@@ -87,6 +105,18 @@ def test_installed(tests, folder):
         tests.same("the wrapper on the path", finished(words, env=environment), (0, b"foo\n", b""))
 
 
+def test_module(tests, folder):
+    """The module that is installed talks to the program that is."""
+    if not os.access("/usr/bin/python3", os.X_OK):
+        tests.skip("the installed module", "there is no Python of Debian")
+        return
+    words = "from dctrl_cache import Session\nwith Session() as session:\n    session.add_list('main', 'packages', 'Package: a\\nVersion: 1\\n')\n" \
+            "    print(session.pkgnames(), session.policy('a').candidate)\n"
+    environment = {**os.environ, "PATH": os.path.join(folder, "usr/bin"), "PYTHONPATH": os.path.join(folder + "-module", MODULE),
+                   "PYTHONDONTWRITEBYTECODE": "1"}
+    tests.same("the installed module", finished(["/usr/bin/python3", "-c", words], env=environment, cwd=folder), (0, b"['a'] 1\n", b""))
+
+
 def test_lintian(tests, package):
     if shutil.which("lintian") is None:
         tests.skip("the package by lintian", "it isn't installed")
@@ -101,6 +131,8 @@ def test_install_files(tests, folder):
     got = finished([INSTALL, tests.program, folder, "/usr/local"])
     tests.same("the installing of files", (got[0], got[2]), (0, b""))
     got = files_below(os.path.join(folder, "usr/local"))
+    module = {name.removeprefix("lib/python3/dist-packages/") for name in got if name.startswith("lib/")}
+    tests.same("the module that is installed", module, module_files())
     tests.same("the programs that are installed", {name for name in got if name.startswith("bin/")}, {"bin/dctrl-cache", "bin/dctrl-cache-apt"})
     tests.same("the pages that are installed", sum(name.startswith("share/man/man1/") for name in got), 2)
 
@@ -130,13 +162,16 @@ def test_package(tests):
         if shutil.which("dpkg-deb") is None:
             tests.skip("the package", "there is no dpkg-deb")
             return
-        package, again = built(tests, os.path.join(work, "one")), built(tests, os.path.join(work, "two"))
-        if package is None or again is None:
+        packages, again = built(tests, os.path.join(work, "one")), built(tests, os.path.join(work, "two"))
+        if packages is None or again is None:
             return
-        tests.same("the same package again", subprocess.run(["cmp", package, again]).returncode, 0)
+        for one, two in zip(packages, again):
+            tests.same("the same package again", subprocess.run(["cmp", one, two]).returncode, 0)
         folder = os.path.join(work, "tree")
-        test_contents(tests, package, folder)
-        test_version(tests, package, folder)
+        test_files(tests, *packages, folder)
+        test_version(tests, packages[0], folder)
         test_installed(tests, folder)
-        test_dpkg(tests, package, os.path.join(work, "root"))
-        test_lintian(tests, package)
+        test_module(tests, folder)
+        test_dpkg(tests, packages[0], os.path.join(work, "root"))
+        for package in packages:
+            test_lintian(tests, package)
