@@ -10,8 +10,8 @@
 
 The program `dctrl-cache` holds the lists and answers; this module talks to it."""
 
-from .answers import (Alternative, AskedBy, Dependency, Dependent, Depends, HeldVersion, ListPriority, Pinned, Policy, PolicyRow, Priorities,
-                      ProvidedBy, Relation, ReverseDepends, RowProvides, RowRelation, ShowPackage, Stanza, Unmet)
+from .answers import (Alternative, AskedBy, Dependency, Dependent, Depends, HeldVersion, ListPriority, Pinned, Policy, PolicyRow,
+                      Priorities, ProvidedBy, Relation, ReverseDepends, RowProvides, RowRelation, ShowPackage, Stanza, Unmet)
 from .apt import AptList, AptSystem, apt_lists
 from .apt_files import AptFault
 from .apt_preferences import Preference
@@ -21,6 +21,7 @@ from .session import Session
 
 __all__ = [
     "Alternative", "Answer", "AptFault", "AptList", "AptSystem", "AskedBy", "BodyError", "Dependency", "Dependent", "Depends", "Ended",
-    "HeldVersion", "ListPriority", "Pinned", "Policy", "PolicyRow", "Preference", "Priorities", "ProvidedBy", "REFUSALS", "Refused", "Relation",
-    "ReverseDepends", "RowProvides", "RowRelation", "Session", "ShowPackage", "Stanza", "UnexpectedAnswer", "Unmet", "apt_lists",
+    "HeldVersion", "ListPriority", "Pinned", "Policy", "PolicyRow", "Preference", "Priorities", "ProvidedBy", "REFUSALS", "Refused",
+    "Relation", "ReverseDepends", "RowProvides", "RowRelation", "Session", "ShowPackage", "Stanza", "UnexpectedAnswer", "Unmet",
+    "apt_lists",
 ]

@@ -2,7 +2,7 @@
 
 import re
 from collections.abc import Iterator, Mapping
-from dataclasses import dataclass
+from dataclasses import dataclass, replace
 from typing import Final, NoReturn
 
 from .errors import UnexpectedAnswer
@@ -280,7 +280,8 @@ def read_stanzas(answer: bytes, *, one_field: bool = False) -> list[Stanza]:
 
 
 def read_shown(answer: bytes) -> list[Stanza]:
-    """The stanzas that `show` of one package prints; none where it isn't known. A stanza has an empty line behind it, so it isn't mistaken."""
+    """The stanzas that `show` of one package prints; none where it isn't known. A stanza has an empty line behind it, so that it isn't
+    mistaken for an unknown name."""
     return [] if is_unknown(to_text(answer)) else read_stanzas(answer)
 
 
@@ -325,15 +326,15 @@ def read_depends(answer: bytes) -> Depends | None:
         return None
     first, *lines = _lines(text) or [""]
     found = _matched(re.compile("<(%s)>|(%s)" % (_NAME, _NAME)), "depends", first)
-    made: list[tuple[str, str, bool, bool, list[str]]] = []
+    made: list[tuple[Dependency, list[str]]] = []
     for line in lines:
         provider = _PROVIDER.fullmatch(line)
         if provider is not None and made:
-            made[-1][4].append(provider.group(1))
+            made[-1][1].append(provider.group(1))
             continue
         atom = _matched(_DEPENDS_ATOM, "depends", line)
-        made.append((atom.group(2), atom.group(3) or atom.group(4), atom.group(3) is not None, atom.group(1) == "|", []))
-    dependencies = tuple(Dependency(field, name, is_virtual, has_next, tuple(providers)) for field, name, is_virtual, has_next, providers in made)
+        made.append((Dependency(atom.group(2), atom.group(3) or atom.group(4), atom.group(3) is not None, atom.group(1) == "|", ()), []))
+    dependencies = tuple(replace(dependency, providers=tuple(providers)) for dependency, providers in made)
     return Depends(found.group(1) or found.group(2), found.group(1) is not None, dependencies)
 
 

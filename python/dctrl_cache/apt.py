@@ -97,7 +97,8 @@ class AptSystem:
     def settings(self) -> list[Preference]:
         """The preferences as records of the program: releases and origins are names of lists. A default release of several lists comes
         first, as 990 for each."""
-        first = [] if self.target else [Preference("APT::Default-Release", 0, "*", "release a=" + name, "990") for name in self.default_lists]
+        several = () if self.target else self.default_lists
+        first = [Preference("APT::Default-Release", 0, "*", "release a=" + name, "990") for name in several]
         return first + [made for record in self.preferences for made in apt_preferences.resolved(record, self.lists, self.architecture)]
 
     def load(self, session: Session, *, only: Iterable[str] = (), without: Iterable[str] = (), strict: bool = False,
@@ -247,7 +248,9 @@ def _probe(root: str) -> dict[str, Any]:
 
 def _of_source(index: dict[str, str], lists: str) -> AptList:
     """A list that a source names. Its description has its file behind it, in parentheses."""
-    place = index["described"].rindex(" (" + lists)
+    place = index["described"].find(" (" + lists)
+    if place < 0:
+        place = index["described"].rindex(" (")
     description, path = index["described"][:place], index["described"][place + 2:-1]
     base = os.path.basename(apt_files.plain_name(path))
     dist = index["dist"]

@@ -93,8 +93,8 @@ class Answer:
                 self._text = text
         except Refused as again:
             self._failure = again if again.number == OUT_OF_MEMORY else refusal
-        except Ended as ended:
-            self._failure = ended
+        except (Ended, ValueError):
+            self._failure = UnexpectedAnswer("%s: whether it was refused isn't known, since the session has ended" % self.command)
 
 
 class Channel:
@@ -104,18 +104,16 @@ class Channel:
     memory   how many bytes of addresses it may have (RLIMIT_AS); past it commands are refused as "out of memory"
     cpu      how many seconds of a processor it may take (RLIMIT_CPU); then the kernel ends it by SIGXCPU
 
-    OSError where the program can't be run."""
+    OSError where the program can't be run; ValueError or PermissionError for a limit that can't be set."""
 
     def __init__(self, program: str | os.PathLike[str] | Sequence[str] = "dctrl-cache", *, memory: int | None = None,
                  cpu: int | None = None) -> None:
+        if any(limit is not None and limit < 1 for limit in (memory, cpu)):
+            raise ValueError("a limit is at least 1")
         words = [os.fspath(program)] if isinstance(program, (str, os.PathLike)) else list(program)
         self._errors = tempfile.TemporaryFile()
         self._process = subprocess.Popen(words, stdin=subprocess.PIPE, stdout=subprocess.PIPE, stderr=self._errors, bufsize=0)
-        # The program waits for its first command, so that its limits come in time, and no code of ours has to run between fork and exec.
-        if memory is not None:
-            resource.prlimit(self._process.pid, resource.RLIMIT_AS, (memory, memory))
-        if cpu is not None:
-            resource.prlimit(self._process.pid, resource.RLIMIT_CPU, (cpu, cpu + 1))
+        self._limit(memory, cpu)
         assert self._process.stdin is not None and self._process.stdout is not None
         self._input = self._process.stdin
         self._output = self._process.stdout
@@ -129,6 +127,20 @@ class Channel:
         self._ended: Ended | None = None
         self._reader = threading.Thread(target=self._read, name="dctrl-cache reader", daemon=True)
         self._reader.start()
+
+    def _limit(self, memory: int | None, cpu: int | None) -> None:
+        """Sets the limits of the process. It waits for its first command, so they come in time, and no code of ours has to run between fork
+        and exec, where other threads may hold locks."""
+        try:
+            if memory is not None:
+                resource.prlimit(self._process.pid, resource.RLIMIT_AS, (memory, memory))
+            if cpu is not None:
+                resource.prlimit(self._process.pid, resource.RLIMIT_CPU, (cpu, cpu + 1))
+        except BaseException:
+            self._process.kill()
+            self._process.communicate()
+            self._errors.close()
+            raise
 
     @property
     def pid(self) -> int:
@@ -161,7 +173,14 @@ class Channel:
         return answer.result()
 
     def submit_last(self, line: Text, body: Text | None = None) -> Answer:
-        """Writes a last command without what would end its body, and ends the input: the answer is what a script has that ends so."""
+        """Writes a last command and ends the input, without what would end a body: the answer is what a script has that ends so."""
+        if script.name_of(to_bytes(line)) not in script.WITH_BODY:
+            answer = self.submit(line, body)
+            self.settle()
+            with self._writing:
+                self._input.close()
+            return answer
+        self.settle()
         with self._writing:
             data = to_bytes(line) + (b"\n" if body is None else b"\n" + script.checked_body(to_bytes(body)))
             answer = self._expect(to_bytes(line), data)
@@ -198,18 +217,29 @@ class Channel:
             raise
 
     def _read(self) -> None:
-        """The thread that reads: it gives each answer to the command that it is of."""
+        """The thread that reads: it gives each answer to the command that it is of. Where it can't go on, the program is ended, so that
+        nobody waits for ever."""
         buffer = bytearray()
-        while piece := os.read(self._output.fileno(), _PIECE):
-            buffer += piece
-            with self._changed:
-                self._take(buffer)
-                self._changed.notify_all()
+        try:
+            while piece := os.read(self._output.fileno(), _PIECE):
+                buffer += piece
+                with self._changed:
+                    self._take(buffer)
+                    self._changed.notify_all()
+        except BaseException:
+            self._process.kill()
+            raise
+        finally:
+            self._take_end(buffer)
+
+    def _take_end(self, buffer: bytearray) -> None:
+        """Takes the end of the program, and gives it to all that is not answered."""
         status = self._process.wait()
         self._errors.seek(0)
         lines = to_text(self._errors.read()).splitlines()
         with self._changed:
-            self._take_last(buffer, status in (0, 1))
+            if status in (0, 1):
+                self._take_last(bytes(buffer))
             self._ended = Ended(lines[0] if lines else "", status)
             for answer in self._waiting:
                 answer._failure = self._ended
@@ -245,14 +275,15 @@ class Channel:
                 return True
         return False
 
-    def _take_last(self, buffer: bytearray, is_whole: bool) -> None:
-        """Takes what stands behind the last mark when the program has ended by itself."""
-        if not is_whole or not self._waiting:
-            return
+    def _take_last(self, text: bytes) -> None:
+        """Takes what stands behind the last mark when the program has ended by itself: answers whose marks were refused, and that of a last
+        command."""
         answers = list(self._waiting)
-        last = answers.pop() if not answers[-1]._mark else None
+        if not answers or (answers[0]._mark and answers[0]._no_mark not in text):
+            return
         self._waiting.clear()
-        self._split(bytes(buffer), answers, last)
+        last = None if answers[-1]._mark else answers.pop()
+        self._split(text, answers, last)
 
     @staticmethod
     def _split(text: bytes, answers: list[Answer], last: Answer | None) -> None:
@@ -275,7 +306,8 @@ class Channel:
         trials = 0
         while True:
             with self._changed:
-                self._changed.wait_for(lambda: self._is_there(answer) or self._lost, None if end is None else max(0.0, end - time.monotonic()))
+                left = None if end is None else max(0.0, end - time.monotonic())
+                self._changed.wait_for(lambda: self._is_there(answer) or self._lost, left)
                 if self._is_there(answer):
                     doubt = self._doubtful.pop(answer, None)
                     break

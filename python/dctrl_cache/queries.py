@@ -13,7 +13,8 @@ Match = Literal["contains", "exact", "regex", "eq", "lt", "le", "gt", "ge"]
 Value = TypeVar("Value")
 
 _MATCHES: Final[dict[str, list[bytes]]] = {
-    "contains": [], "exact": [b"-X"], "regex": [b"--rx"], "eq": [b"--eq"], "lt": [b"--lt"], "le": [b"--le"], "gt": [b"--gt"], "ge": [b"--ge"]}
+    "contains": [], "exact": [b"-X"], "regex": [b"--rx"],
+    "eq": [b"--eq"], "lt": [b"--lt"], "le": [b"--le"], "gt": [b"--gt"], "ge": [b"--ge"]}
 # Letters of options of grep-dctrl that change what is printed.
 _PRINTING: Final = b"cnsd"
 
@@ -34,7 +35,8 @@ class Queries(ABC):
     def _ask(self, name: bytes, words: Iterable[bytes] = ()) -> bytes:
         return self.submit(command(name, words)).result()
 
-    def _ask_each(self, name: bytes, options: list[bytes], packages: Iterable[Text], read: Callable[[bytes], Value | None]) -> dict[str, Value]:
+    def _ask_each(self, name: bytes, options: list[bytes], packages: Iterable[Text],
+                  read: Callable[[bytes], Value | None]) -> dict[str, Value]:
         words = list(dict.fromkeys(to_bytes(package) for package in packages))
         handles = self.submit_many([command(name, [*options, value_word(word)]) for word in words])
         read_values = ((to_text(word), read(handle.result())) for word, handle in zip(words, handles))
@@ -109,8 +111,8 @@ class Queries(ABC):
                      have no option that changes what is printed (-c, -n, -s, -d): ValueError
         pattern      or, without words, one pattern
         fields       the names of the fields in which it is looked for; without them in the whole stanza
-        match        "contains"; "exact": it is the whole body; "regex": an expression in Rust's syntax; "eq", "lt", "le", "gt", "ge": body and
-                     pattern are versions, and the body is equal to it, older, no newer, newer, no older
+        match        "contains"; "exact": it is the whole body; "regex": an expression in Rust's syntax; "eq", "lt", "le", "gt", "ge": body
+                     and pattern are versions, and the body is equal to it, older, no newer, newer, no older
         ignore_case  letters without regard to case
         invert       the stanzas for which the filter is false
         show         the names of the fields that the stanzas are to have, in this order; a stanza without any of them is left out"""

@@ -22,8 +22,9 @@ class Session(Queries):
              the kernel hardly ever refuses memory
     cpu      how many seconds of a processor the program may take (RLIMIT_CPU); then the kernel ends it
 
-    OSError where the program can't be run. Words and texts are str, which stands for UTF-8 with surrogateescape, or bytes; what is answered
-    is str, and the answer of `run` bytes.
+    OSError where the program can't be run; ValueError or PermissionError for a limit that can't be set.
+
+    Words and texts are str, which stands for UTF-8 with surrogateescape, or bytes; what is answered is str, and the answer of `run` bytes.
 
     Each method raises Refused where the program refuses the command, which then has changed nothing; Ended where the program has ended;
     and ValueError, before anything is written, for a value that no word or body can hold. Several threads may use one session: each
@@ -73,8 +74,8 @@ class Session(Queries):
         return self._channel.submit_many(commands)
 
     def run_last(self, line: Text, body: Text | None = None) -> bytes:
-        """The text that a command prints whose body has no end, since the input ends there. The program ends then, and `close` returns its
-        status."""
+        """The text that a last command prints. The input ends behind it, without the line of a dot that would end a body, so a command with
+        a body is refused as "body has no end" (3). The program ends then, and `close` returns its status."""
         return self._channel.submit_last(line, body).result()
 
     def _edit(self, line: bytes, body: bytes | None = None) -> None:

@@ -30,7 +30,7 @@ def session():
 
 
 # A test that takes longer, in seconds, has failed.
-PATIENCE = 100
+PATIENCE = 300
 
 
 def _late(*_):

@@ -1,4 +1,4 @@
-"""The lists, classes, preferences and target of apt, on made folders. What is then answered is compared with what apt-cache answers there."""
+"""The lists, classes, preferences and target of apt, on made folders. What is then answered is compared with what apt-cache answers."""
 
 import gzip
 import os
@@ -48,7 +48,8 @@ PREFERENCES = [
 def common_lists(root):
     """Four lists of three releases, and one installed package."""
     root.add_release("stable", {"main": FOO + BAR, "contrib": stanza("baz", "1")}, ".gz")
-    root.add_release("stable-backports", {"main": stanza("foo", "1.5-1")}, ".xz", "NotAutomatic: yes\nButAutomaticUpgrades: yes\n", signed=True)
+    fields = "NotAutomatic: yes\nButAutomaticUpgrades: yes\n"
+    root.add_release("stable-backports", {"main": stanza("foo", "1.5-1")}, ".xz", fields, signed=True)
     root.add_release("experimental", {"main": stanza("foo", "3.0-1")}, "", "NotAutomatic: yes\n")
     root.status(installed("foo", "1.5-1"))
 
@@ -109,14 +110,15 @@ def test_lists():
         common_lists(root)
         system = apt_lists(root.folder)
         lists = system.lists
-        assert [entry.name for entry in lists] == ["example.org_debian_dists_%s_binary-amd64_Packages" % name for name in NAMES] + ["status"]
+        names = ["example.org_debian_dists_%s_binary-amd64_Packages" % name for name in NAMES]
+        assert [entry.name for entry in lists] == names + ["status"]
         assert [entry.kind for entry in lists] == ["packages"] * 4 + ["status"]
         assert [entry.classification for entry in lists] == [None, None, "butauto", "notauto", None]
-        assert [entry.path for entry in lists] == [
-            root.list_file("example.org_debian_dists_%s_binary-amd64_Packages%s" % pair) for pair in zip(NAMES, (".gz", ".gz", ".xz", ""))
-        ] + [root.path("var/lib/dpkg/status")]
-        assert [entry.description for entry in lists] == ["http://example.org/debian %s/%s amd64 Packages" % tuple(name.split("_")) for name in NAMES] + [
-            root.path("var/lib/dpkg/status")]
+        status = root.path("var/lib/dpkg/status")
+        paths = [root.list_file(name + ending) for name, ending in zip(names, (".gz", ".gz", ".xz", ""))]
+        assert [entry.path for entry in lists] == paths + [status]
+        described = ["http://example.org/debian %s/%s amd64 Packages" % tuple(name.split("_")) for name in NAMES]
+        assert [entry.description for entry in lists] == described + [status]
         told = lists[1]
         assert (told.suite, told.codename, told.version, told.origin, told.label, told.component, told.architecture, told.site) == (
             "stable", "stable-name", "12.1", "Example", "Example archive", "contrib", "amd64", "example.org")
@@ -146,8 +148,9 @@ def test_only_and_without():
     """Lists that are named are taken, or left."""
     with AptRoot() as root:
         common_lists(root)
-        for words, wanted in [({"only": ["contrib"]}, ["baz"]), ({"only": ["contrib", "status"]}, ["baz", "dpkg", "foo"]), ({"only": ["status"]}, ["dpkg", "foo"]),
-                              ({"without": ["contrib", "status"]}, ["bar", "foo"]), ({"only": ["backports", "contrib"], "without": ["contrib"]}, ["foo"])]:
+        for words, wanted in [({"only": ["contrib"]}, ["baz"]), ({"only": ["contrib", "status"]}, ["baz", "dpkg", "foo"]),
+                              ({"only": ["status"]}, ["dpkg", "foo"]), ({"without": ["contrib", "status"]}, ["bar", "foo"]),
+                              ({"only": ["backports", "contrib"], "without": ["contrib"]}, ["foo"])]:
             _, session, faults = loaded(root, **words)
             assert (session.pkgnames(), faults) == (wanted, [])
             session.close()
@@ -171,8 +174,9 @@ def test_files_of_preferences():
     """The files that count, in their order."""
     with AptRoot() as root:
         common_lists(root)
-        for name, priority in (("preferences", 910), ("preferences.d/10-b", 920), ("preferences.d/05.pref", 930), ("preferences.d/00.bak", 940)):
-            root.write("etc/apt/" + name, "Package: foo\nPin: version %s\nPin-Priority: %d\n" % ("1.0-1" if priority < 930 else "3.0-1", priority))
+        for name, version, priority in (("preferences", "1.0-1", 910), ("preferences.d/10-b", "1.0-1", 920),
+                                        ("preferences.d/05.pref", "3.0-1", 930), ("preferences.d/00.bak", "3.0-1", 940)):
+            root.write("etc/apt/" + name, "Package: foo\nPin: version %s\nPin-Priority: %d\n" % (version, priority))
         assert as_apt_cache(root, "foo") == []
         system = apt_lists(root.folder)
         assert [record.priority for record in system.preferences] == ["910", "930", "920"]
@@ -184,14 +188,16 @@ def test_wrong_preferences():
     text = ("Package: foo\nPin: version 1.0-1\nPin-Priority: 950\n\n"
             "Package: foo\nPin: version 1_0\nPin-Priority: 5\n\n# a line more\n"
             "Package: foo\nPin: odd 1\nPin-Priority: 5\n\nPackage: *\nPin: version 1\nPin-Priority: 5\n\nPackage: foo\nPin: version 1\n\n\n"
-            "Package: foo\nPin: version 1\nPin-Priority: many\n\nPin: version 1\nPin-Priority: 5\n\nPackage: c!\nPin: release a=stable\nPin-Priority: 5\n")
+            "Package: foo\nPin: version 1\nPin-Priority: many\n\nPin: version 1\nPin-Priority: 5\n\n"
+            "Package: c!\nPin: release a=stable\nPin-Priority: 5\n")
     rows = [(5, "bad version"), (10, "bad pin record"), (14, "bad pin record"), (18, "required field missing"), (22, "bad priority"),
             (26, "required field missing"), (29, "bad name")]
     with AptRoot() as root:
         common_lists(root)
         path = root.write("etc/apt/preferences", text)
         _, session, faults = loaded(root)
-        assert [(fault.path, fault.line, fault.text) for fault in faults] == [(path, line, said + ": the record is left out") for line, said in rows]
+        wanted = [(path, line, said + ": the record is left out") for line, said in rows]
+        assert [(fault.path, fault.line, fault.text) for fault in faults] == wanted
         assert [row.priority for row in session.policy("foo").rows if row.version == "1.0-1"] == [950]
         session.close()
 
@@ -207,7 +213,8 @@ def test_target(release):
         system = apt_lists(root.folder)
         wanted = {"experimental": 3, "a=stable,c=contrib": 1}.get(release)
         assert system.target == (None if wanted is None else system.lists[wanted].name)
-        assert (system.default_release, len(system.default_lists)) == (release, {"12.1": 4, "o=nosuch": 0}.get(release, 2 if wanted is None else 1))
+        count = {"12.1": 4, "o=nosuch": 0}.get(release, 2 if wanted is None else 1)
+        assert (system.default_release, len(system.default_lists)) == (release, count)
 
 
 def test_target_that_is_not_there():
@@ -236,7 +243,8 @@ def test_wrong_list(ending, fields, capsys):
             loaded(root, strict=True)
         assert str(caught.value) == path + ": line 8: bad relation field"
         with Session(PROGRAM) as session:
-            assert [entry.name for entry in apt_lists(root.folder).load(session)] == ["example.org_debian_dists_other_main_binary-amd64_Packages", "status"]
+            taken = apt_lists(root.folder).load(session)
+            assert [entry.name for entry in taken] == ["example.org_debian_dists_other_main_binary-amd64_Packages", "status"]
         assert capsys.readouterr().err == path + ": line 8: bad relation field\n"
 
 
@@ -309,12 +317,14 @@ def test_architectures():
         assert [str(fault) for fault in loaded(root)[2]] == [root.path("var/lib/dpkg/status") + ": line 13: bad version"]
 
 
-@pytest.mark.parametrize("field, is_left_out", [("Architecture: i386", True), ("architecture:i386", True), ("ARCHITECTURE:\ti386", True), ("Architecture: all", False),
-                                                ("architecture: amd64", False), ("Description: x\n Architecture: i386", False)])
+@pytest.mark.parametrize("field, is_left_out", [
+    ("Architecture: i386", True), ("architecture:i386", True), ("ARCHITECTURE:\ti386", True), ("Architecture: all", False),
+    ("architecture: amd64", False), ("Description: x\n Architecture: i386", False)])
 def test_fields_of_architectures(field, is_left_out):
     """However the field is written. The lines behind it keep their numbers."""
     from dctrl_cache import apt_files
-    for text in ("Package: a\n%s\n\nPackage: b\n" % field, "%s\nPackage: a\n \t\nPackage: b\n" % field, "Package: b\n\n%s\nPackage: a" % field):
+    for form in ("Package: a\n%s\n\nPackage: b\n", "%s\nPackage: a\n \t\nPackage: b\n", "Package: b\n\n%s\nPackage: a"):
+        text = form % field
         got = apt_files.without_others(text.encode(), "amd64").decode()
         assert ("Package: a" not in got, "Package: b" in got) == (is_left_out, True)
         assert is_left_out or got == text
@@ -346,7 +356,8 @@ def test_lists_that_no_source_names():
 def test_flat_sources():
     """A source whose files stand in one folder has no component."""
     with AptRoot() as root:
-        root.write("etc/apt/sources.list", "deb [trusted=yes] http://example.net/flat_one ./\ndeb [trusted=yes] http://user@example.net:81/two/ sub/\n")
+        root.write("etc/apt/sources.list",
+                   "deb [trusted=yes] http://example.net/flat_one ./\ndeb [trusted=yes] http://user@example.net:81/two/ sub/\n")
         for start, codename in (("example.net_flat%5fone_._", "one"), ("example.net:81_two_sub_", "two")):
             root.write("var/lib/apt/lists/%sPackages" % start, stanza("foo", "1" if codename == "one" else "2"))
             root.write("var/lib/apt/lists/%sRelease" % start, "Suite: flat\nCodename: %s\nNotAutomatic: yes\n" % codename)

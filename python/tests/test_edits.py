@@ -162,8 +162,8 @@ def test_words_in_quotes(session):
 
 def test_commands_of_lines(session):
     """What isn't one whole command is not written."""
-    for words in [("pkgnames\npkgnames",), ("put main",), ("prefs",), (" \tadd-list main packages",), ("pkgnames", ""), ("", "Package: a\n"),
-                  ("# put main", "Package: a\n"), ("puts main", "")]:
+    for words in [("pkgnames\npkgnames",), ("put main",), ("prefs",), (" \tadd-list main packages",), ("pkgnames", ""),
+                  ("", "Package: a\n"), ("# put main", "Package: a\n"), ("puts main", "")]:
         with pytest.raises(ValueError):
             session.run(*words)
     assert session.run("") == session.run("  # put") == session.run("\t") == b""
@@ -174,7 +174,8 @@ def test_commands_of_lines(session):
 def test_edit_that_prints(tmp_path):
     """A program that isn't ours is noticed."""
     stub = tmp_path / "stub"
-    stub.write_text("#!/bin/sh\nwhile read -r word rest; do case $word in policy) echo \"N: Unable to locate package $rest\";; *) echo hi;; esac; done\n")
+    stub.write_text("#!/bin/sh\nwhile read -r word rest; do\n"
+                    "case $word in policy) echo \"N: Unable to locate package $rest\";; *) echo hi;; esac; done\n")
     stub.chmod(0o755)
     with Session(stub) as other:
         with pytest.raises(UnexpectedAnswer):

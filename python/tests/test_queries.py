@@ -2,8 +2,9 @@
 
 import pytest
 
-from dctrl_cache import (Alternative, AskedBy, Dependency, Dependent, Depends, HeldVersion, ListPriority, Pinned, Policy, PolicyRow, Priorities,
-                         ProvidedBy, Refused, Relation, ReverseDepends, RowProvides, RowRelation, ShowPackage, UnexpectedAnswer, Unmet, answers)
+from dctrl_cache import (Alternative, AskedBy, Dependency, Dependent, Depends, HeldVersion, ListPriority, Pinned, Policy, PolicyRow,
+                         Priorities, ProvidedBy, Refused, Relation, ReverseDepends, RowProvides, RowRelation, ShowPackage,
+                         UnexpectedAnswer, Unmet, answers)
 
 LIBRARIES = """Package: libc6
 Version: 2.36-9
@@ -113,7 +114,8 @@ def test_rdepends(session):
     session.add_list("main", "packages", "Package: a\nVersion: 1\nDepends: python3:any (>= 3.9) | python2\n\n"
                      "Package: b\nVersion: 1\nDepends: python3\nConflicts: python2\n\nPackage: python3\nVersion: 3.11.2-1\n")
     assert session.rdepends("python3") == ReverseDepends("python3", (Dependent("a", True), Dependent("b", False)))
-    assert session.rdepends_many(["python2", "nope"]) == {"python2": ReverseDepends("python2", (Dependent("a", False), Dependent("b", False)))}
+    assert session.rdepends_many(["python2", "nope"]) == {
+        "python2": ReverseDepends("python2", (Dependent("a", False), Dependent("b", False)))}
     session.mark("b", "1")
     assert session.rdepends("python3", installed=True) == ReverseDepends("python3", (Dependent("b", False),))
     assert session.rdepends("nope") is None
@@ -128,7 +130,8 @@ def test_unmet(session):
     session.put("main", "Package: other\nVersion: 1\nProvides: baz\n")
     assert session.unmet(important=True) == []
     assert session.unmet() == [Unmet("foo", "1.0-1", (recommended,))]
-    session.add_list("more", "packages", "Package: a\nVersion: 1\nPre-Depends: b:any (<< 2), c (>> 1:1~x+b-1) | d (= 3)\n\nPackage: b\nVersion: 5\n")
+    session.add_list("more", "packages", "Package: a\nVersion: 1\nPre-Depends: b:any (<< 2), c (>> 1:1~x+b-1) | d (= 3)\n\n"
+                     "Package: b\nVersion: 5\n")
     first, = [row for row in session.unmet() if row.package == "a"]
     assert first == Unmet("a", "1", (Relation("PreDepends", (Alternative("b", "any", "<<", "2"),)),
                                      Relation("PreDepends", (Alternative("c", None, ">>", "1:1~x+b-1"), Alternative("d", None, "=", "3")))))
@@ -170,7 +173,8 @@ def test_showpkg(session):
 
 
 def test_showpkg_of_several_lists(session):
-    session.add_list("main", "packages", "Package: m\nVersion: 1\nDepends: mta, m2 (<< 3) | m3\n\nPackage: exim\nVersion: 4\nProvides: mta, other (= 2)\n")
+    session.add_list("main", "packages", "Package: m\nVersion: 1\nDepends: mta, m2 (<< 3) | m3\n\n"
+                     "Package: exim\nVersion: 4\nProvides: mta, other (= 2)\n")
     session.add_list("sid", "packages", "Package: m\nVersion: 2\n")
     session.add_list("more", "packages", "Package: m\nVersion: 2\n")
     got = session.showpkg_many(["m"])["m"]
@@ -204,7 +208,8 @@ def test_grep(session):
 
 def test_grep_of_one_field(session):
     """Fields of one name stand without an empty line between them, whatever their bodies are."""
-    session.add_list("main", "packages", TOOLS + "\nPackage: baz\nVersion: 1\nDescription:\n E: line 1: bad name\n x: y\n\nPackage: q\nVersion: 1\n")
+    more = "\nPackage: baz\nVersion: 1\nDescription:\n E: line 1: bad name\n x: y\n\nPackage: q\nVersion: 1\n"
+    session.add_list("main", "packages", TOOLS + more)
     got = session.grep(pattern="", show=["description"])
     assert [list(stanza.items()) for stanza in got] == [
         [("Description", "a tool\n that does things")], [("Description", "a library")], [("Description", "\n E: line 1: bad name\n x: y")]]
@@ -215,7 +220,8 @@ def test_grep_of_one_field(session):
 def test_words_of_grep(session):
     """Words that change what is printed, and none at all, raise before anything is written."""
     session.add_list("main", "packages", TOOLS)
-    for words in (["-c", "foo"], ["-vc", "foo"], ["-n", "foo"], ["-sPackage", "foo"], ["-s", "Package", "foo"], ["-Pd", "foo"], [], ["-F", "x", "-c", "y"]):
+    for words in (["-c", "foo"], ["-vc", "foo"], ["-n", "foo"], ["-sPackage", "foo"], ["-s", "Package", "foo"], ["-Pd", "foo"], [],
+                  ["-F", "x", "-c", "y"]):
         with pytest.raises(ValueError):
             session.grep(*words)
     for words in (["-F", "-c", "foo"], ["-Fcs", "foo"], ["-PX", "foo"], ["-v", "foo"], ["--pattern=-c"]):
@@ -240,7 +246,8 @@ def test_faked_answers(session):
 
 
 WRONG = [
-    (answers.read_names, b"foo"), (answers.read_names, b"fo o\n"), (answers.read_stanzas, b"Package: foo\n"), (answers.read_stanzas, b" x\n\n"),
+    (answers.read_names, b"foo"), (answers.read_names, b"fo o\n"), (answers.read_stanzas, b"Package: foo\n"),
+    (answers.read_stanzas, b" x\n\n"),
     (answers.read_stanzas, b"Package: foo\npackage: bar\n\n"), (answers.read_count, b"x\n"), (answers.read_count, b"1\n2\n"),
     (answers.read_unmet, b" Depends: a\n"), (answers.read_unmet, b"Package a version 1 has an unmet dep:\n Asks: a\n"),
     (answers.read_unmet, b"Package a version 1 has an unmet dep:\n Depends: a (~ 1)\n"), (answers.read_depends, b""),

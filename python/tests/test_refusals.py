@@ -41,7 +41,8 @@ REFUSED = [
 ]
 
 
-@pytest.mark.parametrize("command, body, number, line", REFUSED)
+# The commands aren't the names of the tests: those are a part of the environment, and some are too long for it.
+@pytest.mark.parametrize("command, body, number, line", REFUSED, ids=range(len(REFUSED)))
 def test_refusals(session, command, body, number, line):
     """The number, its words, and where the fault is: in the command, in its body, and in the script of the session."""
     session.add_list("main", "packages", MAIN)
@@ -67,18 +68,25 @@ def test_body_without_end(session):
     assert session.close() == 1
 
 
-def test_last_command(session):
+def test_last_command(session, program):
+    """A last command that has no body, or a whole one."""
     session.add_list("main", "packages", MAIN)
     assert session.run_last("pkgnames") == b"foo\n"
     assert session.close() == 0
     with pytest.raises(ValueError):
         session.run("pkgnames")
+    for line, number in (("frob", 1), ("grep-dctrl (", 19)):
+        with Session(program) as other:
+            with pytest.raises(Refused) as caught:
+                other.run_last(line)
+        assert caught.value.number == number
 
 
 def test_cache_full(tmp_path):
     """A cache is full after more edits than a test can make: a program that says so stands for it."""
     stub = tmp_path / "stub"
-    stub.write_text("#!/bin/sh\nread -r _\necho 'E: line 1: cache full'\nread -r _ end\necho \"N: Unable to locate package $end\"\nread -r _\nexit 1\n")
+    stub.write_text("#!/bin/sh\nread -r _\necho 'E: line 1: cache full'\nread -r _ end\n"
+                    "echo \"N: Unable to locate package $end\"\nread -r _\nexit 1\n")
     stub.chmod(0o755)
     with Session(stub) as full:
         with pytest.raises(Refused) as caught:
