@@ -63,8 +63,7 @@ def test_contents(tests, package, folder, wanted, links=0):
 
 def test_files(tests, programs, module, folder):
     """What each of the two packages has."""
-    wanted = {"usr/bin/dctrl-cache", "usr/bin/dctrl-cache-apt"} | PAGES | COMPLETIONS | TEXTS
-    wanted |= {DOCUMENTS + "examples/" + name for name in examples()}
+    wanted = {"usr/bin/dctrl-cache", "usr/bin/dctrl-cache-apt"} | PAGES | COMPLETIONS | TEXTS | {DOCUMENTS + "examples/" + name for name in examples()}
     test_contents(tests, programs, folder, wanted, links=1)
     tests.same("the manual pages of the package", len(PAGES), 2)
     wanted = {MODULE + name for name in module_files()} | {MODULE_DOCUMENTS + name for name in ("copyright", "changelog.gz")}
@@ -111,8 +110,7 @@ def test_module(tests, folder):
     if not os.access("/usr/bin/python3", os.X_OK):
         tests.skip("the installed module", "there is no Python of Debian")
         return
-    words = "from dctrl_cache import Session\nwith Session() as session:\n" \
-            "    session.add_list('main', 'packages', 'Package: a\\nVersion: 1\\n')\n" \
+    words = "from dctrl_cache import Session\nwith Session() as session:\n    session.add_list('main', 'packages', 'Package: a\\nVersion: 1\\n')\n" \
             "    print(session.pkgnames(), session.policy('a').candidate)\n"
     environment = {**os.environ, "PATH": os.path.join(folder, "usr/bin"), "PYTHONPATH": os.path.join(folder + "-module", MODULE),
                    "PYTHONDONTWRITEBYTECODE": "1"}
