@@ -17,6 +17,8 @@ from .apt_preferences import Preference
 from .errors import BodyError, Refused
 from .session import Classification, Kind, Session
 
+__all__ = ["AptFault", "AptList", "AptSystem", "Preference", "Progress", "Report", "apt_lists"]
+
 _PYTHON: Final = "/usr/bin/python3"
 _PROBE: Final = os.path.join(os.path.dirname(os.path.abspath(__file__)), "apt_probe.py")
 _BY_COMPONENT = re.compile("(.*)_binary-([^_]*)_Packages")
