@@ -1,0 +1,1 @@
+"""The commands dctrl-cache-apt and dctrl-cache-try."""
