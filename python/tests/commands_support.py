@@ -10,9 +10,10 @@ APT_COMMAND = os.path.join(TOP, "python", "bin", "dctrl-cache-apt")
 TRY_COMMAND = os.path.join(TOP, "python", "bin", "dctrl-cache-try")
 sys.path[:0] = [path for path in (os.path.join(TOP, "python"), os.path.join(TOP, "tests", "program")) if path not in sys.path]
 
-from apt_root import AptRoot, installed, stanza  # noqa: E402
+from apt_root import PACKERS, PROGRAMS, AptRoot, installed, packed, stanza  # noqa: E402
 
-__all__ = ["APT_COMMAND", "AptRoot", "PROGRAM", "TOP", "TRY_COMMAND", "ask", "environment", "installed", "run", "stanza", "try_change"]
+__all__ = ["APT_COMMAND", "AptRoot", "PACKERS", "PROGRAM", "PROGRAMS", "TOP", "TRY_COMMAND", "ask", "environment", "installed", "packed", "run",
+           "stanza", "try_change"]
 
 
 def environment(**settings):

@@ -1,7 +1,6 @@
 """One command that is given by words: its answer, its refusal by the word that is wrong, and its exit status."""
 
 from dataclasses import dataclass
-from collections.abc import Callable
 
 from ..errors import Refused
 from ..script import quoted, to_bytes, to_text
@@ -67,11 +66,10 @@ class Asker:
             said = self._program_words(reply, command, words)
             if said is None:
                 return
-            lines = self._lines(command, said)
             if json:
-                reply.output = json_answer(self._session, command, lines, self._lists)
+                reply.output = json_answer(self._session, command, said, self._lists)
             else:
-                answers = self._session.submit_many(lines)
+                answers = self._session.submit_many(list(self._lines(command, said)))
                 reply.output = b"".join(self._lists.shown(command, answer.result()) for answer in answers)
         except Advice as advice:
             reply.status = 2
@@ -150,5 +148,3 @@ def said_words(command: str, words: list[str]) -> str:
     text = " ".join([command, *(to_text(quoted(word)) for word in words)])
     return text if len(text) <= 100 else text[:97] + "..."
 
-
-Answerer = Callable[[list[str], bool], Reply]

@@ -44,6 +44,11 @@ class ListNames:
             return word
         return self._short.get(word, word)
 
+    def short(self, name: str) -> str:
+        """The short name of a list; its name where it is none of a file."""
+        entry = self._lists.get(name)
+        return name if entry is None else entry.short
+
     def shown(self, command: str, answer: bytes) -> bytes:
         """An answer of `policy` or `showpkg` with lists named as apt-cache names them; any other as it is."""
         if command == "policy":

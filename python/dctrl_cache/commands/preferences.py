@@ -5,8 +5,8 @@ hold, sources by the versions that are of them, patterns of versions by the vers
 
 from collections.abc import Iterable, Iterator, Sequence
 from dataclasses import dataclass
-from typing import Protocol
 
+from ..apt_preferences import Preference, Release, is_of_origin, is_of_release, record_text
 from ..errors import Refused
 from ..session import Session
 from . import patterns, rows
@@ -15,40 +15,6 @@ from .words import is_name, is_version
 
 # How many bytes of names a record of the program has at most; the body of a field may have more.
 _LONGEST = 500_000
-
-
-class Release(Protocol):
-    """A list, by what pins ask for. `status` has the suite `now` and nothing else."""
-
-    @property
-    def name(self) -> str: ...
-    @property
-    def suite(self) -> str: ...
-    @property
-    def codename(self) -> str: ...
-    @property
-    def version(self) -> str: ...
-    @property
-    def origin(self) -> str: ...
-    @property
-    def label(self) -> str: ...
-    @property
-    def component(self) -> str: ...
-    @property
-    def architecture(self) -> str: ...
-    @property
-    def site(self) -> str: ...
-
-
-@dataclass(frozen=True)
-class Record:
-    """A record of a file of preferences, by the text of its fields. `line` is that of its first one."""
-
-    path: str
-    line: int
-    package: str
-    pin: str
-    priority: str
 
 
 @dataclass(frozen=True)
@@ -62,34 +28,6 @@ class Setting:
 
 class LeftOut(Exception):
     """A record that counts for nothing here; the text says why."""
-
-
-def of_release(entry: Release, data: str) -> bool:
-    """Whether a list is of a release, by the words behind `release`."""
-    if data == "*":
-        return True
-    if "=" not in data:
-        if data[:1].isdigit():
-            return _said(data, entry.version)
-        return _said(data, entry.suite) or _said(data, entry.codename)
-    has = {"a": entry.suite, "n": entry.codename, "v": entry.version, "o": entry.origin, "l": entry.label, "c": entry.component,
-           "b": entry.architecture}
-    for part in data.split(","):
-        key, _, value = part.lstrip(" \t").partition("=")
-        if value and key.lower() in has and not _said(value, has[key.lower()]):
-            return False
-    return True
-
-
-def _said(pattern: str, text: str) -> bool:
-    return text != "" and patterns.matches(pattern, text)
-
-
-def of_origin(entry: Release, data: str) -> bool:
-    """Whether a list is from a site, by the words behind `origin`."""
-    if len(data) > 1 and data.startswith('"') and data.endswith('"'):
-        data = data[1:-1]
-    return entry.name != "status" and entry.site == "" if data == "" else _said(data, entry.site)
 
 
 def is_of_architecture(qualifier: str, architecture: str) -> bool:
@@ -129,7 +67,7 @@ class _Holdings:
             self._names = rows.names(self._session)
         return self._names
 
-    def rows(self, packages: Iterable[str]) -> dict[str, list[rows.Row]]:
+    def held(self, packages: Iterable[str]) -> dict[str, list[rows.Row]]:
         missing = [package for package in packages if package not in self._rows and is_name(package)]
         self._rows.update({package: [] for package in missing})
         self._rows.update(rows.rows_of(self._session, missing))
@@ -155,12 +93,12 @@ class Expansion:
         self._architecture = architecture
         self._holdings = _Holdings(session)
 
-    def settings(self, record: Record) -> list[Setting]:
+    def settings(self, record: Preference) -> list[Setting]:
         """The pins of a record. LeftOut where it counts for nothing."""
         kind, _, data = record.pin.replace("\t", " ").partition(" ")
         kind, data = kind.lower(), data.strip()
         if kind in ("release", "origin"):
-            is_of = of_release if kind == "release" else of_origin
+            is_of = is_of_release if kind == "release" else is_of_origin
             holders = [entry.name for entry in self._lists if is_of(entry, data)]
             pins = ["release a=" + name for name in holders]
         else:
@@ -173,7 +111,7 @@ class Expansion:
             made += self._of_word(word, kind, data, holders, record.priority)
         return made
 
-    def _try(self, record: Record, pins: list[str]) -> None:
+    def _try(self, record: Preference, pins: list[str]) -> None:
         """Lets the program say what is wrong with a record, whose names and versions it may not know as such."""
         plain = [name for name in map(self._plain_name, record.package.split()) if name is not None]
         package = "*" if record.package == "*" else " ".join(plain) or ("x" if record.package else "")
@@ -185,10 +123,8 @@ class Expansion:
             name = self._unqualified(word.removeprefix("src:"))
             if name is not None and patterns.is_expression(name) and patterns.compiled(name) is None:
                 raise LeftOut("%s: not a regular expression that is known here" % name)
-        fields = [("Package", package), ("Pin", pin), ("Pin-Priority", record.priority)]
-        text = "".join("%s: %s\n" % (name, body) for name, body in fields if body)
         try:
-            self._session.prefs(text)
+            self._session.prefs(record_text(Preference(record.path, record.line, package, pin, record.priority)))
         except Refused as refused:
             raise LeftOut(refused.text) from None
 
@@ -221,7 +157,7 @@ class Expansion:
 
     def _of_versions(self, names: list[str], data: str, priority: str) -> list[Setting]:
         """Pins of versions: in the words of the record where the program means the same by them, else of each version that there is."""
-        held, same = self._holdings.rows(names), []
+        held, same = self._holdings.held(names), []
         exact: dict[str, list[str]] = {}
         for name in names:
             versions = [row.version for row in held.get(name, [])]
@@ -242,7 +178,7 @@ class Expansion:
         else:
             chosen = [source]
         binaries = [binary for known in chosen for binary in sources.get(known, [])]
-        held = self._holdings.rows(sorted({binary.package for binary in binaries}))
+        held = self._holdings.held(sorted({binary.package for binary in binaries}))
         exact: dict[str, list[str]] = {}
         for binary in binaries:
             row = next((row for row in held[binary.package] if version_key(row.version) == version_key(binary.version)), None)

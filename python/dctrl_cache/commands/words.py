@@ -35,7 +35,7 @@ class WordsError(ValueError):
 class Call:
     """What a call asks for.
 
-    mode    "command", "script", "lists", "serve", "ask", "help" or "version"
+    mode    "command", "script", "lists", "serve", "ask", "names", "help" or "version"
     words   the command and its words
     socket  where a session is served or asked"""
 
@@ -72,6 +72,8 @@ def _take_option(call: Call, word: str) -> None:
         call.mode = word[2:]
     elif word in ("-h", "-V"):
         call.mode = "help" if word == "-h" else "version"
+    elif word == "--keep-names":
+        call.mode = "names"
     elif word in ("--installed-only", "--strict", "--json"):
         setattr(call, word[2:].replace("-", "_"), True)
     else:
@@ -97,7 +99,7 @@ def read_call(words: list[str]) -> Call:
             place -= 1
             break
     call.words = words[place:]
-    if call.mode and call.mode != "ask" and call.words:
+    if call.mode and call.mode not in ("ask", "names") and call.words:
         raise WordsError("%s: a word too many" % call.words[0])
     if call.mode == "ask" and not call.words:
         raise WordsError("--ask: no command is named")
