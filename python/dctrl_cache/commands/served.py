@@ -57,16 +57,23 @@ class ServedSession:
         self._session = self._asker = None
 
     def answer(self, words: list[str]) -> Reply:
-        """The answer to the words of a client: a query, behind `--json` where it is to be JSON."""
+        """The answer to the words of a client: a query, behind `--json` where it is to be JSON. A program that has ended is started again."""
         try:
-            self._follow()
-            assert self._asker is not None
-            json = words[0] == "--json"
-            return self._asker.answer(words[json:], json=json, may_edit=False) if words[json:] else Reply(2)
+            try:
+                return self._answer(words)
+            except Ended:
+                self.end()
+                return self._answer(words)
         except (Fault, AptFault, Ended, Refused, OSError) as fault:
             reply = Reply(2)
             reply.say("dctrl-cache-apt: %s" % fault)
             return reply
+
+    def _answer(self, words: list[str]) -> Reply:
+        self._follow()
+        assert self._asker is not None
+        json = words[0] == "--json"
+        return self._asker.answer(words[json:], json=json, may_edit=False) if words[json:] else Reply(2)
 
     def _follow(self) -> None:
         """Reads anew what has changed: dpkg's status alone where nothing else has, else all."""
