@@ -19,7 +19,9 @@ DOCUMENTS = "usr/share/doc/dctrl-cache/"
 MODULE_DOCUMENTS = "usr/share/doc/python3-dctrl-cache/"
 MODULE = "usr/lib/python3/dist-packages/"
 PAGES = {"usr/share/man/man1/%s.gz" % os.path.basename(page) for page in glob.glob(os.path.join(TOP, "man", "*.1"))}
-COMPLETIONS = {"usr/share/bash-completion/completions/" + name for name in ("dctrl-cache", "dctrl-cache-apt")}
+COMPLETIONS = {"usr/share/bash-completion/completions/" + name for name in ("dctrl-cache", "dctrl-cache-apt", "dctrl-cache-try")}
+PROGRAMS = {"dctrl-cache", "dctrl-cache-apt", "dctrl-cache-try"}
+UNITS = {"usr/lib/systemd/user/dctrl-cache-apt." + kind for kind in ("service", "socket")}
 TEXTS = {DOCUMENTS + name for name in ("copyright", "changelog.gz", "MANUAL.md", "DIFFERENCES.md", "DIFFERENCES-RELATIONS.md", "DIFFERENCES-GREP-DCTRL.md")}
 
 
@@ -63,9 +65,9 @@ def test_contents(tests, package, folder, wanted, links=0):
 
 def test_files(tests, programs, module, folder):
     """What each of the two packages has."""
-    wanted = {"usr/bin/dctrl-cache", "usr/bin/dctrl-cache-apt"} | PAGES | COMPLETIONS | TEXTS | {DOCUMENTS + "examples/" + name for name in examples()}
-    test_contents(tests, programs, folder, wanted, links=1)
-    tests.same("the manual pages of the package", len(PAGES), 2)
+    wanted = {"usr/bin/" + name for name in PROGRAMS} | PAGES | COMPLETIONS | UNITS | TEXTS | {DOCUMENTS + "examples/" + name for name in examples()}
+    test_contents(tests, programs, folder, wanted, links=2)
+    tests.same("the manual pages of the package", len(PAGES), 3)
     wanted = {MODULE + name for name in module_files()} | {MODULE_DOCUMENTS + name for name in ("copyright", "changelog.gz")}
     test_contents(tests, module, folder + "-module", wanted)
 
@@ -77,12 +79,18 @@ def test_version(tests, package, folder):
     tests.same("the package of the module", "python3-dctrl-cache (= %s)" % version in fields, True)
     tests.same("the fields of the package", (re.findall("^[A-Za-z]*", fields, re.M).count("Package"), "Maintainer: " in fields, "Depends: libc6" in fields),
                (1, True, True))
-    programs = [finished([os.path.join(folder, "usr/bin", name), "--version"]) for name in ("dctrl-cache", "dctrl-cache-apt")]
+    programs = [finished([os.path.join(folder, "usr/bin", name), "--version"], env=with_module(folder)) for name in sorted(PROGRAMS)]
     words = [(output + errors).decode() for _, output, errors in programs]
-    tests.same("the versions of the programs", words, ["dctrl-cache %s\n" % version, "dctrl-cache-apt %s\n" % version])
+    tests.same("the versions of the programs", words, ["%s %s\n" % (name, version) for name in sorted(PROGRAMS)])
     for page in sorted(PAGES):
         with gzip.open(os.path.join(folder, page), "rt") as text:
             tests.same("the version of %s" % page, '"dctrl-cache %s"' % version in text.read(), True)
+
+
+def with_module(folder):
+    """An environment in which the module of the other package is found."""
+    environment = {name: value for name, value in os.environ.items() if name != "DCTRL_CACHE"}
+    return {**environment, "PYTHONPATH": os.path.join(folder + "-module", MODULE), "PYTHONDONTWRITEBYTECODE": "1"}
 
 
 def test_installed(tests, folder):
@@ -94,15 +102,17 @@ def test_installed(tests, folder):
         wanted = file.read()
     tests.same("an installed example", finished([os.path.join(binaries, "dctrl-cache"), os.path.join(examples_folder, "upload.script")]), (0, wanted, b""))
     if shutil.which("apt-config") is None:
-        tests.skip("the installed wrapper", "apt isn't installed")
+        tests.skip("the installed dctrl-cache-apt", "apt isn't installed")
         return
-    environment = {name: value for name, value in os.environ.items() if name != "DCTRL_CACHE"}
+    environment = with_module(folder)
     with AptRoot() as root:
         root.add_release("stable", {"main": stanza("foo", "1")}, ".gz")
         words = ["dctrl-cache-apt", "--root", root.folder, "pkgnames", "fo"]
-        tests.same("the installed wrapper", finished([os.path.join(binaries, words[0]), *words[1:]], env=environment), (0, b"foo\n", b""))
+        tests.same("the installed dctrl-cache-apt", finished([os.path.join(binaries, words[0]), *words[1:]], env=environment), (0, b"foo\n", b""))
         environment["PATH"] = binaries + ":" + environment["PATH"]
-        tests.same("the wrapper on the path", finished(words, env=environment), (0, b"foo\n", b""))
+        tests.same("dctrl-cache-apt on the path", finished(words, env=environment), (0, b"foo\n", b""))
+        words = ["dctrl-cache-try", "--root", root.folder, "remove", "main", "foo"]
+        tests.same("the installed dctrl-cache-try", finished(words, env=environment), (0, b"", b""))
 
 
 def test_module(tests, folder):
@@ -131,10 +141,15 @@ def test_install_files(tests, folder):
     got = finished([INSTALL, tests.program, folder, "/usr/local"])
     tests.same("the installing of files", (got[0], got[2]), (0, b""))
     got = files_below(os.path.join(folder, "usr/local"))
-    module = {name.removeprefix("lib/python3/dist-packages/") for name in got if name.startswith("lib/")}
+    module = {name.removeprefix("lib/python3/dist-packages/") for name in got if name.startswith("lib/python3/")}
     tests.same("the module that is installed", module, module_files())
-    tests.same("the programs that are installed", {name for name in got if name.startswith("bin/")}, {"bin/dctrl-cache", "bin/dctrl-cache-apt"})
-    tests.same("the pages that are installed", sum(name.startswith("share/man/man1/") for name in got), 2)
+    tests.same("the programs that are installed", {name for name in got if name.startswith("bin/")}, {"bin/" + name for name in PROGRAMS})
+    tests.same("the pages that are installed", sum(name.startswith("share/man/man1/") for name in got), 3)
+    with open(os.path.join(folder, "usr/local/lib/systemd/user/dctrl-cache-apt.service"), encoding="utf-8") as file:
+        tests.same("the program of the installed unit", "ExecStart=/usr/local/bin/dctrl-cache-apt --serve" in file.read(), True)
+    environment = {name: value for name, value in os.environ.items() if name != "DCTRL_CACHE"}
+    got = finished([os.path.join(folder, "usr/local/bin/dctrl-cache-apt"), "--version"], env={**environment, "PYTHONDONTWRITEBYTECODE": "1"})
+    tests.same("the module is found below the same prefix", got[:2], (0, b"dctrl-cache-apt 0.1.0\n"))
 
 
 def test_dpkg(tests, package, folder):

@@ -3,15 +3,14 @@
 
 Tests the program from outside: its words, its exit statuses, lists from files, what it writes to standard output and
 standard error, many edits of one list, answers on many names, hostile filters, a full device, a closed pipe, a reader that stops, a
-talk command by command, the scripts under tests/scripts, the examples and those of the manual, also cut at each byte; and what is
-installed beside it: the wrapper, its completion and the package. A test whose peer isn't there is skipped, and says why. The last line
-is the count."""
+talk command by command, the scripts under tests/scripts, the examples and those of the manual, also cut at each byte; and the
+packages. What stands on the module of Python is tested in python/tests. A test whose peer isn't there is skipped, and says why. The
+last line is the count."""
 
 import os
 import sys
 
 from bench import test_bench
-from completion import test_completion
 from cuts import test_cuts
 from edits import test_edits
 from examples import test_examples
@@ -25,7 +24,6 @@ from script_files import test_script_files
 from scripts import test_scripts
 from talk import test_talk
 from words import test_words
-from wrapper import test_wrapper
 from writers import test_writers
 
 
@@ -45,8 +43,6 @@ def main(words):
     test_examples(tests, words[1])
     test_cuts(tests, words[1])
     test_manual(tests)
-    test_wrapper(tests)
-    test_completion(tests)
     test_package(tests)
     test_bench(tests)
     print(tests.count())
