@@ -12,7 +12,8 @@ sys.path[:0] = [path for path in (os.path.join(TOP, "python"), os.path.join(TOP,
 
 from apt_root import PACKERS, PROGRAMS, AptRoot, installed, packed, stanza  # noqa: E402
 
-__all__ = ["APT_COMMAND", "AptRoot", "PACKERS", "PROGRAM", "PROGRAMS", "TOP", "TRY_COMMAND", "ask", "environment", "installed", "packed", "run",
+__all__ = ["APT_COMMAND", "AptRoot", "PACKERS", "PROGRAM", "PROGRAMS", "TOP", "TRY_COMMAND", "ask", "environment", "installed", "packed",
+           "run",
            "stanza", "try_change"]
 
 
@@ -24,7 +25,8 @@ def environment(**settings):
 
 def run(words, script=b"", **settings):
     """The status, the output and the errors of a command."""
-    got = subprocess.run(words, input=script, stdout=subprocess.PIPE, stderr=subprocess.PIPE, timeout=120, env=environment(**settings), check=False)
+    got = subprocess.run(words, input=script, stdout=subprocess.PIPE, stderr=subprocess.PIPE, timeout=120, env=environment(**settings),
+                         check=False)
     return got.returncode, got.stdout, got.stderr
 
 

@@ -36,7 +36,8 @@ def fixture_root():
 def common_lists(root):
     """Four lists of three releases, and one installed package."""
     root.add_release("stable", {"main": FOO + BAR, "contrib": stanza("baz", "1")}, ".gz")
-    root.add_release("stable-backports", {"main": stanza("foo", "1.5-1")}, ".xz", "NotAutomatic: yes\nButAutomaticUpgrades: yes\n", signed=True)
+    root.add_release("stable-backports", {"main": stanza("foo", "1.5-1")}, ".xz", "NotAutomatic: yes\nButAutomaticUpgrades: yes\n",
+                     signed=True)
     root.add_release("experimental", {"main": stanza("foo", "3.0-1")}, "", "NotAutomatic: yes\n")
     root.status(installed("foo", "1.5-1"))
 
@@ -98,7 +99,8 @@ def test_target_that_is_not_there(root):
 @pytest.mark.parametrize("fields", ["", "NotAutomatic: no\n"])
 def test_scripts(root, fields):
     """Standard input as a script: its lines count from the first, whatever stands before it."""
-    script = ("policy bar\nfrob\nput %s\nPackage: bar\nVersion: 2.1\n.\npin bar version 2.0 999\n# x\npolicy bar\nput m\noops\n.\nput %s\nx\n.\n"
+    script = ("policy bar\nfrob\nput %s\nPackage: bar\nVersion: 2.1\n.\npin bar version 2.0 999\n# x\npolicy bar\n"
+              "put m\noops\n.\nput %s\nx\n.\n"
               % (MAIN, MAIN)).encode()
     row = b"     %s %d\n        500 http://example.org/debian stable/main amd64 Packages\n"
     first = b"bar:\n  Installed: (none)\n  Candidate: 2.0\n  Version table:\n" + row % (b"2.0", 500)
@@ -116,7 +118,8 @@ def test_scripts(root, fields):
 def test_talk(root):
     """Each answer comes before the next command is written."""
     common_lists(root)
-    with subprocess.Popen([APT_COMMAND, "--root", root.folder], stdin=subprocess.PIPE, stdout=subprocess.PIPE, bufsize=0, env=environment()) as talk:
+    with subprocess.Popen([APT_COMMAND, "--root", root.folder], stdin=subprocess.PIPE, stdout=subprocess.PIPE, bufsize=0,
+                          env=environment()) as talk:
         for said, heard in ((b"pkgnames fo\n", b"foo\n"), (b"frob\n", b"E: line 2: unknown command\n"), (b"\npkgnames baz\n", b"baz\n")):
             talk.stdin.write(said)
             assert talk.stdout.read(len(heard)) == heard
@@ -279,10 +282,12 @@ def test_short_names_in_scripts(root):
     """A short name of a list is one in a script, until the script has a list of that name."""
     root.add_release("stable", {"main": FOO + BAR})
     root.add_release("stable-updates", {"main": stanza("foo", "2")})
-    script = (b"pkgnames\nremove main bar 2.0\npkgnames\nput updates\nPackage: new\nVersion: 1\n.\npkgnames\npin foo release 'updates' 7\npolicy foo\n"
-              b"add-list main packages\nPackage: mine\nVersion: 1\n.\ndrop-list main\npkgnames\ntarget updates\ndrop-list updates\npkgnames\n")
-    policy = (b"foo:\n  Installed: (none)\n  Candidate: 1.0-1\n  Version table:\n     2 7\n        500 http://example.org/debian stable-updates/main"
-              b" amd64 Packages\n     1.0-1 500\n        500 http://example.org/debian stable/main amd64 Packages\n")
+    script = (b"pkgnames\nremove main bar 2.0\npkgnames\nput updates\nPackage: new\nVersion: 1\n.\npkgnames\n"
+              b"pin foo release 'updates' 7\npolicy foo\nadd-list main packages\nPackage: mine\nVersion: 1\n.\ndrop-list main\npkgnames\n"
+              b"target updates\ndrop-list updates\npkgnames\n")
+    policy = (b"foo:\n  Installed: (none)\n  Candidate: 1.0-1\n  Version table:\n     2 7\n"
+              b"        500 http://example.org/debian stable-updates/main amd64 Packages\n"
+              b"     1.0-1 500\n        500 http://example.org/debian stable/main amd64 Packages\n")
     wanted = b"bar\ndpkg\nfoo\n" + b"dpkg\nfoo\n" + b"dpkg\nfoo\nnew\n" + policy + b"dpkg\nfoo\nnew\n" + b"dpkg\nfoo\n"
     assert ask(root, [], script) == (0, wanted, b"")
 
@@ -297,7 +302,8 @@ def test_text_that_names_a_list(root):
 def test_words_of_a_filter(root):
     """The words of a filter mean to the program what they do on the command line, signs of the shell among them."""
     root.add_release("stable", {"main": FOO + BAR + stanza("qux", "1", "Note: -a b", "Depends: bar")})
-    words = ["grep-dctrl", "-ns", "Package", "-F", "Depends", "--rx", "ba[rz]", "-a", "!", "(", "-P", "-X", "foo", "-o", "--pattern=-a c", ")"]
+    words = ["grep-dctrl", "-ns", "Package", "-F", "Depends", "--rx", "ba[rz]", "-a", "!", "(", "-P", "-X", "foo", "-o", "--pattern=-a c",
+             ")"]
     assert ask(root, words) == (0, b"qux\n", b"")
     assert ask(root, [*words[:-2], "--pattern=-a b", ")"]) == (0, b"", b"")
 

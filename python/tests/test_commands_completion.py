@@ -21,7 +21,8 @@ function=$(complete -p "$command" | sed 's/.*-F \\([^ ]*\\) .*/\\1/')
 """
 OPTIONS = ["--ask", "--help", "--installed-only", "--json", "--lists", "--only", "--root", "--serve", "--strict", "--version", "--without"]
 COMMANDS = ["depends", "grep-dctrl", "pkgnames", "policy", "rdepends", "show", "showpkg", "unmet"]
-OF_FILTERS = ["--eq", "--ge", "--gt", "--le", "--lt", "--pattern=", "--rx", "-F", "-P", "-X", "-a", "-c", "-d", "-i", "-n", "-o", "-s", "-v"]
+OF_FILTERS = ["--eq", "--ge", "--gt", "--le", "--lt", "--pattern=", "--rx", "-F", "-P", "-X", "-a", "-c", "-d", "-i", "-n", "-o", "-s",
+              "-v"]
 
 
 @pytest.fixture(name="cache", scope="module")
@@ -71,7 +72,8 @@ def fixture_root():
 
 
 @pytest.mark.parametrize("words, wanted", [
-    (["policy", "fo"], ["fob", "foo", "foo-data"]), (["show", "-a", "bar", "foo"], ["foo", "foo-data"]), (["depends", "x"], []), (["po"], ["policy"]),
+    (["policy", "fo"], ["fob", "foo", "foo-data"]), (["show", "-a", "bar", "foo"], ["foo", "foo-data"]), (["depends", "x"], []),
+    (["po"], ["policy"]),
     (["frob", "fo"], []), (["--only", "main", "policy", "ba"], ["bar"]),
 ])
 def test_names(cache, root, words, wanted):
@@ -105,7 +107,8 @@ def test_files(cache, tmp_path):
 
 
 @pytest.mark.parametrize("words, wanted", [
-    (["u"], ["upload"]), ([""], ["remove", "upload"]), (["--js"], ["--json"]), (["-l", "main=x", "rem"], ["remove"]), (["remove", "ma"], []),
+    (["u"], ["upload"]), ([""], ["remove", "upload"]), (["--js"], ["--json"]), (["-l", "main=x", "rem"], ["remove"]),
+    (["remove", "ma"], []),
     (["--only", "x"], []),
 ])
 def test_words_of_try(cache, words, wanted):

@@ -44,15 +44,19 @@ Tag: x [y] {z} a-b c\\d e^f $h *i +j
 """
 
 CASES = [
-    ["-F", "Depends", "-w", "libpcre3"], ["-wF", "Depends", "libpcre[0-9]"], ["-w", "-F", "Depends", "foo|k"], ["-w", "Package:"], ["-w", "foo"],
+    ["-F", "Depends", "-w", "libpcre3"], ["-wF", "Depends", "libpcre[0-9]"], ["-w", "-F", "Depends", "foo|k"], ["-w", "Package:"],
+    ["-w", "foo"],
     ["-w", "-i", "-F", "Depends", "LIBPCRE3"], ["--whole-pkg", "--field=Depends", "g\\+\\+"], ["-P", "-e", "^[a-d]$"], ["-S", "foo"],
-    ["-S", "-X", "foo (2.5)"], ["-S", "-e", "^s"], ["-S", "-i", "FOO"], ["-S", "-r", "^f.o$"], ["-F", "Source:Package,Tag", "-e", "^(a|foo)"],
+    ["-S", "-X", "foo (2.5)"], ["-S", "-e", "^s"], ["-S", "-i", "FOO"], ["-S", "-r", "^f.o$"],
+    ["-F", "Source:Package,Tag", "-e", "^(a|foo)"],
     ["--field=Package", "--exact-match", "a"], ["--field", "Package", "--pattern", "a"], ["--ignore-case", "-P", "A"], ["--not", "-P", "a"],
-    ["-!", "-P", "a"], ["-P", "a", "--or", "-P", "b"], ["-P", "a", "--and", "-F", "Depends", "bar"], ["--invert-match", "-P", "--eregex", "[a-c]"],
+    ["-!", "-P", "a"], ["-P", "a", "--or", "-P", "b"], ["-P", "a", "--and", "-F", "Depends", "bar"],
+    ["--invert-match", "-P", "--eregex", "[a-c]"],
     ["--regex", "-P", "a*"], ["-r", "a\\(b\\|c\\)"], ["-r", "a\\{1,2\\}"], ["-r", "(2.5)"], ["-r", "a+"], ["-r", "+j$"], ["-e", "Tool$"],
     ["-e", "things$"], ["-e", "1.0$"], ["-e", "c."], ["-e", "0."], ["-e", "[^x]$"], ["-e", "0[^x]"], ["-e", "^Package: (a|b)"],
     ["-F", "Description", "-e", "^A.*things$"], ["-F", "Description", "-e", "A.*\\."], ["-e", "[[:space:]]Tool"], ["-e", "[[:upper:]]ool"],
-    ["-e", "[]x]"], ["-e", "[a\\]d"], ["-e", "a\\|b"], ["-e", "\\$h"], ["-e", "[$]h"], ["-e", "\\*i"], ["-e", "{z}|\\{z\\}".replace("{z}|", "")],
+    ["-e", "[]x]"], ["-e", "[a\\]d"], ["-e", "a\\|b"], ["-e", "\\$h"], ["-e", "[$]h"], ["-e", "\\*i"],
+    ["-e", "\\{z\\}"],
     ["-F", "Version", "-e", "2\\.5"], ["--eq", "-F", "Version", "1.0"], ["-F", "Version", "--gt", "1.0"],
 ]
 
@@ -95,10 +99,12 @@ def test_some_stanza_is_taken(path):
 def test_patterns_at_random(path):
     """Patterns of all signs: what can be said in the program's syntax takes the same stanzas."""
     luck, said = random.Random(7), 0
-    pieces = ["a", "o", "[a-f]", "[^x]", ".", "*", "+", "?", "|", "(", ")", "\\.", "\\+", "{1,2}", "^", "$", "lib", "\n"[:0], "[[:digit:]]", " ", ","]
+    pieces = ["a", "o", "[a-f]", "[^x]", ".", "*", "+", "?", "|", "(", ")", "\\.", "\\+", "{1,2}", "^", "$", "lib", "\n"[:0],
+              "[[:digit:]]", " ", ","]
     for _ in range(400):
         pattern = "".join(luck.choice(pieces) for _ in range(luck.randint(1, 6)))
-        words = luck.choice([["-F", "Depends"], ["-P"], [], ["-F", "Tag,Source"], ["-S"]]) + [luck.choice(["-e", "-r", "-w"]), "--pattern=" + pattern]
+        words = luck.choice([["-F", "Depends"], ["-P"], [], ["-F", "Tag,Source"], ["-S"]]) + [luck.choice(["-e", "-r", "-w"]),
+                                                                                              "--pattern=" + pattern]
         got = subprocess.run(["grep-dctrl", "-ns", "Package", *words, path], stdout=subprocess.PIPE, stderr=subprocess.PIPE, check=False)
         try:
             made = taken(words, path)
@@ -132,7 +138,8 @@ def test_advice(words, advice):
 
 
 @pytest.mark.parametrize("words", [
-    ["-P", "foo"], ["-vcP", "foo"], ["-s", "Package,Version", "-F", "Depends", "--rx", "a.b"], ["(", "-P", "a", "-o", "b", ")", "-a", "!", "c"],
+    ["-P", "foo"], ["-vcP", "foo"], ["-s", "Package,Version", "-F", "Depends", "--rx", "a.b"],
+    ["(", "-P", "a", "-o", "b", ")", "-a", "!", "c"],
     ["-sPackage", "-X", "-P", "--pattern=-b"],
 ])
 def test_words_of_the_program_stay(words):

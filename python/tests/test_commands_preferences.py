@@ -19,15 +19,19 @@ RECORDS = [
     ("*", "release v=12.1,c=contrib", 42), ("*", "release a=now", 999), ("foo", "release a=now", 999), ("*", "release a=st[a-c]bl?", 33),
     ("*", "release a=/^stable$/", 34), ("*", "release a=nosuch", 999), ("*", "origin example.org", 300), ("*", 'origin "example.org"', 300),
     ("foo", 'origin ""', 301), ("bar:amd64 foo", "version 2*", -5), ("foo\n  bar", "version\n 1.5-1", 7), ("src:nosuch", "version 1", 5),
-    ("nosuch*", "version 1", 5), ("src:srca", "version *", 700), ("src:srca", "release a=stable", 701), ("src:src*", "release a=stable", 702),
+    ("nosuch*", "version 1", 5), ("src:srca", "version *", 700), ("src:srca", "release a=stable", 701),
+    ("src:src*", "release a=stable", 702),
     ("src:/^src/", "release a=stable", 703), ("src:foo", "version 1.0-1", 704), ("src:srca:amd64", "version *", 705),
     ("src:srca", "version 2*", 706), ("/^F.o/", "version *", 707), ("/^[[:alpha:]]+$/", "version *", 708), ("FOO*", "version *", 709),
     ("foo *", "version *", 710), ("ep", "version 1.0*", 711), ("ep", "version 1.0-1", 712), ("ep", "version 1:1*", 713),
     ("up", "version 1.0a*", 714), ("up", "version 1.0a-1", 715), ("foo", "version 1.?-1", 716), ("foo", "version 1.?-*", 717),
     ("foo", "version /^1\\./", 718), ("foo", "version *-1", 719), ("foo", "version 1.0-0", 720), ("eq", "version 1.0", 721),
-    ("eq", "version 1.0-0", 722), ("foo:i386", "version *", 723), ("foo:any foo-data:native", "version *", 724), ("f[!x]o", "version *", 725),
-    ("f[^x]o", "version *", 725), ("foo:*", "version *", 726), ("foo*:amd64", "version *", 727), ("src:srca foo", "origin example.org", 732),
-    ("foo:all", "version *", 733), ("doc:all", "version *", 734), ("src:srca", "release a=now", 735), ("foo?data", "release o=Example", 736),
+    ("eq", "version 1.0-0", 722), ("foo:i386", "version *", 723), ("foo:any foo-data:native", "version *", 724),
+    ("f[!x]o", "version *", 725),
+    ("f[^x]o", "version *", 725), ("foo:*", "version *", 726), ("foo*:amd64", "version *", 727),
+    ("src:srca foo", "origin example.org", 732),
+    ("foo:all", "version *", 733), ("doc:all", "version *", 734), ("src:srca", "release a=now", 735),
+    ("foo?data", "release o=Example", 736),
     ("/foo/ /bar/", "release o=Example", 737), ("/o{2}/", "version *", 739), ("src:FOO", "version *", 742), ("src:s*", "version *", 743),
     ("*", "release a=stable", -1), ("foo*", "release a=stable", -10), ("f*[[:digit:]]", "version *", 744), ("/[0-9]$/", "version *", 745),
     ("*o* src:*d*", "release n=stable-name", 746), ("foo", "release a=stable,b=amd64", 747), ("src:/^src[ab]$/", "version /-1$/", 748),
@@ -38,9 +42,11 @@ LISTS = [
                     + stanza("ep", "1:1.0-1") + stanza("up", "1.0A-1") + stanza("eq", "1.0", "Source: eqs") + stanza("srca", "7")
                     + "Package: doc\nVersion: 5\nArchitecture: all\nSource: srcdoc\n\n" + stanza("bar", "2.0") + stanza("foo2", "1.0-1"),
                     "contrib": stanza("baz", "1")}),
-    ("testing", "", {"main": stanza("foo", "2.0-1", "Source: srca (2.0-1)") + stanza("foo-data", "2.0-1", "Source: srcb") + stanza("foox", "1")
+    ("testing", "", {"main": stanza("foo", "2.0-1", "Source: srca (2.0-1)")
+                     + stanza("foo-data", "2.0-1", "Source: srcb") + stanza("foox", "1")
                      + stanza("ep", "1.0-1")}),
-    ("stable-backports", "NotAutomatic: yes\nButAutomaticUpgrades: yes\n", {"main": stanza("foo", "1.5-1", "Source: srca") + stanza("foo2", "1.0-1~bpo")}),
+    ("stable-backports", "NotAutomatic: yes\nButAutomaticUpgrades: yes\n",
+     {"main": stanza("foo", "1.5-1", "Source: srca") + stanza("foo2", "1.0-1~bpo")}),
     ("experimental", "NotAutomatic: yes\n", {"main": stanza("foo", "3.0-1", "Source: srcx")}),
 ]
 NAMES = ["foo", "foo-data", "foo2", "foox", "ep", "up", "eq", "srca", "doc", "bar", "baz", "dpkg"]
@@ -129,7 +135,8 @@ def pinned(answer):
 def test_several_files(system):
     """Files count in the order of apt, and those of other names don't."""
     made = []
-    for name, priority in (("preferences", 910), ("preferences.d/10-b", 920), ("preferences.d/05.pref", 930), ("preferences.d/00.bak", 940)):
+    for name, priority in (("preferences", 910), ("preferences.d/10-b", 920), ("preferences.d/05.pref", 930),
+                           ("preferences.d/00.bak", 940)):
         made.append(system.root.write("etc/apt/" + name, text_of(("foo", "version " + ("1.0-1" if priority < 930 else "3.0-1"), priority))))
     wanted = system.root.apt_cache("policy", "foo")[1]
     assert ask(system.root, ["policy", "foo"]) == (0, wanted, b"")
@@ -140,10 +147,12 @@ def test_several_files(system):
 WRONG = ("Package: foo\nPin: version 1.0-1\nPin-Priority: 950\n\n"
          "Package: foo\nPin: version 1_0\nPin-Priority: 5\n\n# a line more\n"
          "Package: foo\nPin: odd 1\nPin-Priority: 5\n\nPackage: *\nPin: version 1\nPin-Priority: 5\n\nPackage: foo\nPin: version 1\n\n\n"
-         "Package: foo\nPin: version 1\nPin-Priority: many\n\nPin: version 1\nPin-Priority: 5\n\nPackage: c!\nPin: release a=stable\nPin-Priority: 5\n\n"
+         "Package: foo\nPin: version 1\nPin-Priority: many\n\nPin: version 1\nPin-Priority: 5\n\n"
+         "Package: c!\nPin: release a=stable\nPin-Priority: 5\n\n"
          "Package: foo /(/\nPin: version 1\nPin-Priority: 5\n\nPackage: foo*\nPin: version *\nPin-Priority: 0\n")
 ROWS = [(5, b"bad version"), (10, b"bad pin record"), (14, b"bad pin record"), (18, b"required field missing"), (22, b"bad priority"),
-        (26, b"required field missing"), (29, b"bad name"), (33, b"/(/: not a regular expression that is known here"), (37, b"bad priority")]
+        (26, b"required field missing"), (29, b"bad name"), (33, b"/(/: not a regular expression that is known here"),
+        (37, b"bad priority")]
 
 
 def test_wrong_preferences(system):

@@ -26,7 +26,8 @@ class Served:
         self.words = words
 
     def __enter__(self):
-        self.process = subprocess.Popen([APT_COMMAND, "--root", self.root.folder, *self.words, "--serve", self.path], stdin=subprocess.DEVNULL,
+        self.process = subprocess.Popen([APT_COMMAND, "--root", self.root.folder, *self.words, "--serve", self.path],
+                                        stdin=subprocess.DEVNULL,
                                         stderr=subprocess.PIPE, env=environment())
         end = time.monotonic() + 60
         while self.process.poll() is None and time.monotonic() < end and self.ask("pkgnames")[0] != 0:
@@ -186,7 +187,8 @@ def test_question_loads_little():
     got = run(["/usr/bin/python3", "-X", "importtime", APT_COMMAND, "--ask", "/nowhere/socket", "pkgnames"])
     loaded = {line.split(b"|")[-1].strip() for line in got[2].split(b"\n") if b"|" in line}
     assert b"socket" in loaded and b"quick" in loaded
-    assert not [name for name in loaded if name.split(b".")[0] in (b"apt_pkg", b"apt", b"dctrl_cache", b"subprocess", b"json", b"tempfile", b"threading")]
+    assert not [name for name in loaded if name.split(b".")[0] in (b"apt_pkg", b"apt", b"dctrl_cache", b"subprocess", b"json", b"tempfile",
+                                                                   b"threading")]
     assert got[2].endswith(b"dctrl-cache-apt: /nowhere/socket: No such file or directory\n")
 
 
@@ -219,7 +221,8 @@ def test_kept_names(tmp_path):
         assert names(root, "fo", **settings) == (0, b"fob\nfoo\nfoo-data\n", b"")
         kept = [os.path.join(place, name) for place, _, found in os.walk(tmp_path / "cache") for name in found]
         assert len(kept) == 1 and os.stat(kept[0]).st_mode & 0o777 == 0o600
-        for prefix, wanted in (("foo", b"foo\nfoo-data\n"), ("", b"bar\ndpkg\nfob\nfoo\nfoo-data\n"), ("x", b""), ("bar", b"bar\n"), ("o", b"")):
+        for prefix, wanted in (("foo", b"foo\nfoo-data\n"), ("", b"bar\ndpkg\nfob\nfoo\nfoo-data\n"), ("x", b""), ("bar", b"bar\n"),
+                               ("o", b"")):
             assert names(root, prefix, DCTRL_CACHE="/nowhere", **settings) == (0, wanted, b""), "the program isn't needed"
         spent, got = quickest([APT_COMMAND, "--names", "--root", root.folder, "foo"], **settings)
         assert got[1] == b"foo\nfoo-data\n" and spent < 0.2

@@ -1,7 +1,8 @@
-"""try_reference.py [COUNT [SEED]]: uploads and removals on lists, by dctrl-cache-try and by a reference of plain scripts.
+"""try_reference.py [COUNT [SEED [STANZAS]]]: uploads and removals on lists, by dctrl-cache-try and by a reference of plain scripts.
 
-The reference edits the texts of the lists and runs the program on them twice, once before and once after; what is unmet then and wasn't
-before is the answer. Without a folder in LISTS the lists are those of apt on this machine."""
+The reference edits the texts of the lists and runs the program on them, once before all changes and once after each; what is unmet then and
+wasn't before is the answer. Without a folder in LISTS the lists are those of apt on this machine; with STANZAS that many of each, taken at
+random."""
 
 import os
 import random
@@ -86,7 +87,8 @@ def changes(lists, luck, count):
             yield ["remove", name, word], {name: lists.removed(name, word)}, None
             continue
         version = field(stanza, "Version")
-        new = re.sub("(?m)^Version:.*$", "Version: " + luck.choice([version + "+new1", version, version + "~old", "1:9999" + version.split(":")[-1]]), stanza)
+        other = luck.choice([version + "+new1", version, version + "~old", "1:9999" + version.split(":")[-1]])
+        new = re.sub("(?m)^Version:.*$", "Version: " + other, stanza)
         if luck.random() < 0.6:
             new = re.sub("(?m)^Provides:.*\n?", "", new)
         if luck.random() < 0.5:
@@ -113,7 +115,8 @@ def compare(lists, luck, count, folder, say):
                 file.write(new.strip("\n") + "\n")
             words = [*words, path]
         both = re.sub("(?m)^", "+", wanted).removesuffix("+") + re.sub("(?m)^", "-", gone).removesuffix("-")
-        got = subprocess.run([TRY_COMMAND, *files, "--all", *words], stdout=subprocess.PIPE, stderr=subprocess.PIPE, env=environment(), check=False)
+        got = subprocess.run([TRY_COMMAND, *files, "--all", *words], stdout=subprocess.PIPE, stderr=subprocess.PIPE, env=environment(),
+                             check=False)
         answer = got.stdout.decode("utf-8", "surrogateescape")
         assert (got.returncode, answer) == (1 if wanted else 0, both), (words, got.returncode, answer[:2000], both[:2000], got.stderr)
         telling += bool(wanted)
@@ -133,11 +136,22 @@ def lists_of_apt(folder):
     return found
 
 
+def some_of(texts, luck, count):
+    """Some stanzas of each list, in their order."""
+    found = {}
+    for name, text in texts.items():
+        stanzas = [part for part in text.split("\n\n") if part.strip()]
+        places = range(len(stanzas)) if len(stanzas) < count else sorted(luck.sample(range(len(stanzas)), count))
+        found[name] = "\n\n".join(stanzas[place] for place in places)
+    return found
+
+
 def main(words):
-    count, seed = int(words[0]) if words else 200, int(words[1]) if len(words) > 1 else 1
-    start = time.monotonic()
+    count, seed, most = [int(word) for word in words] + [200, 1, 10**9][len(words):]
+    start, luck = time.monotonic(), random.Random(seed)
+    texts = some_of(lists_of_apt(LISTS), luck, most)
     with tempfile.TemporaryDirectory() as folder:
-        telling = compare(Lists(lists_of_apt(LISTS)), random.Random(seed), count, folder, lambda text: print(text, flush=True))
+        telling = compare(Lists(texts), luck, count, folder, lambda text: print(text, flush=True))
     print("%d changes agree, %d of them leave something unmet, in %.0f s" % (count, telling, time.monotonic() - start))
 
 

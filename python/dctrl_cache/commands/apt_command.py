@@ -8,7 +8,8 @@ from collections.abc import Callable
 from dataclasses import asdict
 from types import TracebackType
 
-from ..apt import AptFault, AptSystem, apt_lists
+from ..apt import AptSystem, apt_lists
+from ..apt_files import AptFault
 from ..errors import Ended, Refused
 from ..session import Session
 from . import kept_names, quick
@@ -113,7 +114,7 @@ def run_lists(_script: str, call: Call) -> int:
     """Prints the lists."""
     system = apt_lists(call.root or "/")
     if call.json:
-        write(json.dumps([asdict(entry) for entry in system.lists], indent=2).encode("utf-8", "surrogateescape") + b"\n")
+        write(json.dumps([asdict(entry) for entry in system.lists]).encode("utf-8", "surrogateescape") + b"\n")
         return 0
     for entry in system.lists:
         kind = entry.kind if entry.classification is None else "%s %s" % (entry.kind, entry.classification)

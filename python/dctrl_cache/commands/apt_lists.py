@@ -3,7 +3,8 @@
 from collections.abc import Callable
 from typing import Protocol
 
-from ..apt import AptFault, apt_lists
+from ..apt import apt_lists
+from ..apt_files import AptFault
 from ..session import Session
 from .loading import Choice, load_lists
 from .opening import Progress

@@ -38,7 +38,7 @@ def _of_names(session: Session, command: str, words: list[str], plain: list[str]
     """The answers to the names, each asked for by itself."""
     options = [to_bytes(word) for word in words if word.startswith("-")]
     lines = [b" ".join([to_bytes(command), *options, quoted(word)]) for word in plain]
-    found = {}
+    found: dict[str, Any] = {}
     for word, answer in zip(plain, session.submit_many(lines)):
         value = _READERS[command](answer.result())
         if command == "show":
@@ -53,8 +53,7 @@ def _whole(command: str, words: list[str], answer: bytes, lists: ListNames) -> A
     if command == "pkgnames":
         return answers.read_names(answer)
     if command == "unmet":
-        return [{"package": row.package, "version": row.version,
-                 "relations": [{"field": relation.field, "alternatives": [str(one) for one in relation.alternatives]} for relation in row.relations]}
+        return [{"package": row.package, "version": row.version, "relations": [_relation(relation) for relation in row.relations]}
                 for row in answers.read_unmet(answer)]
     if command == "policy":
         return _with_short_names(asdict(answers.read_priorities(answer)), lists)
@@ -63,6 +62,10 @@ def _whole(command: str, words: list[str], answer: bytes, lists: ListNames) -> A
     if "-n" in words:
         return to_text(answer).split("\n")[:-1]
     return [dict(stanza) for stanza in answers.read_stanzas(answer, one_field=_shows_one_field(words))]
+
+
+def _relation(relation: answers.Relation) -> dict[str, Any]:
+    return {"field": relation.field, "alternatives": [str(alternative) for alternative in relation.alternatives]}
 
 
 def _shows_one_field(words: list[str]) -> bool:

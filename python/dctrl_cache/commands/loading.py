@@ -4,7 +4,8 @@ import os
 from collections.abc import Callable, Iterable
 from dataclasses import dataclass
 
-from ..apt import AptFault, AptList, AptSystem
+from ..apt import AptList, AptSystem
+from ..apt_files import AptFault
 from ..apt_preferences import Preference
 from ..session import Session
 from .list_names import ListName, ListNames
@@ -80,7 +81,9 @@ def watched(system: AptSystem, root: str) -> list[str]:
     folders |= {"%s/etc/apt/%s.d" % (top, name) for name in ("apt.conf", "sources.list", "preferences")}
     for folder in folders:
         files |= set(_files_in(folder))
-    return sorted(files | {folder for folder in folders if not folder.endswith("/lists")} | {os.environ.get("APT_CONFIG", top + "/etc/apt/apt.conf")})
+    if "APT_CONFIG" in os.environ:
+        files.add(os.environ["APT_CONFIG"])
+    return sorted(files | {folder for folder in folders if not folder.endswith("/lists")})
 
 
 def _files_in(folder: str) -> Iterable[str]:

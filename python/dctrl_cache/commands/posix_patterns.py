@@ -1,4 +1,5 @@
-"""Regular expressions of POSIX, as grep-dctrl(1) takes them, in the syntax of `--rx`. What would mean something else there raises Untold."""
+"""Regular expressions of POSIX, as grep-dctrl(1) takes them, in the syntax of `--rx`. What would mean something else there raises
+Untold."""
 
 import re
 from dataclasses import dataclass

@@ -2,7 +2,8 @@
 
 from collections.abc import Callable
 
-from ..apt import AptFault, AptList, AptSystem, apt_lists
+from ..apt import AptList, AptSystem, apt_lists
+from ..apt_files import AptFault
 from ..errors import Ended, Refused
 from ..session import Session
 from .asking import Asker, Reply
@@ -57,7 +58,8 @@ class ServedSession:
         self._session = self._asker = None
 
     def answer(self, words: list[str]) -> Reply:
-        """The answer to the words of a client: a query, behind `--json` where it is to be JSON. A program that has ended is started again."""
+        """The answer to the words of a client: a query, behind `--json` where it is to be JSON. A program that has ended is started
+        again."""
         try:
             try:
                 return self._answer(words)

@@ -58,7 +58,8 @@ def control_stanzas(text: bytes, origin: str) -> list[tuple[Upload, str]]:
 def _package_file(path: str) -> list[tuple[Upload, str]]:
     """The stanza of a package, by dpkg-deb(1)."""
     try:
-        got = subprocess.run(["dpkg-deb", "-f", path], stdin=subprocess.DEVNULL, stdout=subprocess.PIPE, stderr=subprocess.PIPE, check=False)
+        got = subprocess.run(["dpkg-deb", "-f", path], stdin=subprocess.DEVNULL, stdout=subprocess.PIPE, stderr=subprocess.PIPE,
+                             check=False)
     except OSError as error:
         raise Fault("dpkg-deb: %s" % error.strerror) from None
     if got.returncode != 0:
