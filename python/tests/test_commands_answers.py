@@ -1,4 +1,5 @@
-"""Answers of dctrl-cache-apt: scripts at random as the program answers them, JSON, progress, and the policy of every name of this machine."""
+"""Answers of dctrl-cache-apt: scripts at random as the program answers them, JSON, progress, and the policy of every name of this
+machine."""
 
 import json
 import os
@@ -21,7 +22,8 @@ LONG = b"x" * 1_048_577
 @pytest.fixture(name="root", scope="module")
 def fixture_root():
     with AptRoot() as made:
-        text = stanza("foo", "1.0-1", "Depends: bar, missing | other", "Provides: virt") + stanza("bar", "2.0", "Description: E: line 3: bad name")
+        text = stanza("foo", "1.0-1", "Depends: bar, missing | other", "Provides: virt") + stanza("bar", "2.0",
+                                                                                                  "Description: E: line 3: bad name")
         made.add_release("stable", {"main": text})
         made.status(installed("foo", "1.0-1"))
         yield made
@@ -31,17 +33,22 @@ def pieces():
     """Commands of all forms, right and wrong, with bodies that are whole, too long and none."""
     body = b"Package: new\nVersion: 1\nDepends: foo (>= 2)\n"
     name = MAIN.encode()
-    return [b"pkgnames\n", b"  pkgnames f\n", b"\n", b" \t\n", b"# put x\n", b"\t# put\n", b"show foo bar=9 nosuch\n", b"unmet\n", b"unmet -i\n",
+    return [b"pkgnames\n", b"  pkgnames f\n", b"\n", b" \t\n", b"# put x\n", b"\t# put\n", b"show foo bar=9 nosuch\n", b"unmet\n",
+            b"unmet -i\n",
             b"depends foo\n", b"rdepends bar virt\n", b"frob\n", b"'put' x\n", b"put\n", b"put\n.\n", b"put nosuch\n" + body + b".\n",
             b"put %s\n%s.\n" % (name, body), b"put '%s'\n%s.\n" % (name, body), b"put %s\nPackage: new\nDepends: x y\n.\n" % name,
-            b"remove %s new 1\n" % name, b"remove %s foo 1.0-1\n" % name, b"add-list extra packages\n" + body + b".\n", b"drop-list extra\n",
+            b"remove %s new 1\n" % name, b"remove %s foo 1.0-1\n" % name, b"add-list extra packages\n" + body + b".\n",
+            b"drop-list extra\n",
             b"add-list extra packages notauto\n\n" + body + b"\n" + body.replace(b"new", b"other") + b".\n", b"put x\n%s\n.\n" % LONG,
-            b"add-list %s\nPackage: a\n.\n" % LONG, b"%s\n" % LONG, b"prefs\nPackage: foo\nPin: version 1*\nPin-Priority: 5\n.\n", b"prefs\n.\n",
-            b"grep-dctrl -P bar\n", b"grep-dctrl -c ''\n", b"show 'foo\n", b"show a b c\r\n", b"mark foo none\n", b"unmark foo\n", b"put x\n ..\n.\n",
+            b"add-list %s\nPackage: a\n.\n" % LONG, b"%s\n" % LONG, b"prefs\nPackage: foo\nPin: version 1*\nPin-Priority: 5\n.\n",
+            b"prefs\n.\n",
+            b"grep-dctrl -P bar\n", b"grep-dctrl -c ''\n", b"show 'foo\n", b"show a b c\r\n", b"mark foo none\n", b"unmark foo\n",
+            b"put x\n ..\n.\n",
             b"pkgnames %s\n" % LONG[:1_048_567], b"pkgnames %s\n" % LONG[:1_048_568], b"\0\n", b"show \xff\n", b". \n", b".\n"]
 
 
-ENDS = [b"", b"pkgnames", b"put x\nPackage: a\n", b"add-list z packages\nPackage: a\nVersion: 1", b"put x\n%s\n" % LONG, b"put x", b"prefs\n.", LONG, b"# x"]
+ENDS = [b"", b"pkgnames", b"put x\nPackage: a\n", b"add-list z packages\nPackage: a\nVersion: 1", b"put x\n%s\n" % LONG, b"put x",
+        b"prefs\n.", LONG, b"# x"]
 
 
 @pytest.mark.parametrize("seed", range(6))
@@ -79,7 +86,8 @@ def test_json(root):
     assert answer(root, "policy") == {"lists": lists, "pinned": []}
     assert [row["name"] for row in answer(root, "depends", "foo")["foo"]["dependencies"]] == ["bar", "missing", "other"]
     assert answer(root, "rdepends", "bar") == {"bar": {"package": "bar", "dependents": [{"package": "foo", "has_next": False}]}}
-    assert answer(root, "unmet") == [{"package": "foo", "version": "1.0-1", "relations": [{"field": "Depends", "alternatives": ["missing", "other"]}]}]
+    relations = [{"field": "Depends", "alternatives": ["missing", "other"]}]
+    assert answer(root, "unmet") == [{"package": "foo", "version": "1.0-1", "relations": relations}]
     assert answer(root, "showpkg", "foo")["foo"]["versions"] == [{"version": "1.0-1", "lists": ["main", "status"]}]
     assert answer(root, "grep-dctrl", "-s", "Package,Version", "-P", "bar") == [{"Package": "bar", "Version": "2.0"}]
     assert answer(root, "grep-dctrl", "-c", "-P", "-e", "^(foo|bar)$") == 3
