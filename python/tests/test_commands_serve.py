@@ -53,7 +53,7 @@ def fixture_served(tmp_path):
 def test_answers(served):
     """An answer is that of a run of its own, with its status and errors."""
     for words in (["policy", "foo", "nosuch"], ["show", "foo"], ["show", "nosuch"], ["pkgnames", "foo"], ["policy", "f*"], ["show", "a b"],
-                  ["grep-dctrl", "-q", "x"], ["unmet"], ["frob"], ["policy"]):
+                  ["grep-dctrl", "-q", "x"], ["unmet"], ["frob"], ["policy"], ["show", "it's"], ["policy foo"], [""]):
         assert served.ask(*words) == ask(served.root, words), words
     assert json.loads(run([APT_COMMAND, "--json", "--ask", served.path, "pkgnames"])[1]) == ["dpkg", "foo", "foo-data"]
 

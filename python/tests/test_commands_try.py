@@ -67,6 +67,9 @@ def test_upload(packages, tmp_path):
     new = control(tmp_path, stanza("libfoo1", "1.1", "Source: foo"))
     assert try_change(["-l", packages, "upload", "main", new]) == (
         1, b"Package libfoo-dev version 1.0-1 has an unmet dep:\n Depends: libfoo1 (= 1.0-1+b1)\n", b"")
+    other_names = control(tmp_path, stanza("libfoo1", "1.1", "X-Package: other", "Old-Version: 0", "Source: foo"))
+    assert try_change(["-l", packages, "upload", "main", other_names]) == (
+        1, b"Package libfoo-dev version 1.0-1 has an unmet dep:\n Depends: libfoo1 (= 1.0-1+b1)\n", b"")
     older = control(tmp_path, stanza("libfoo1", "0.9", "Depends: nosuch"))
     assert try_change(["-l", packages, "upload", "main", older]) == (
         1, b"Package libfoo1 version 0.9 has an unmet dep:\n Depends: nosuch\n", b"")

@@ -10,7 +10,7 @@ from types import TracebackType
 
 from ..apt import AptSystem, apt_lists
 from ..apt_files import AptFault
-from ..errors import Ended, Refused
+from ..errors import Ended, Refused, UnexpectedAnswer
 from ..session import Session
 from . import kept_names, quick
 from .asking import Asker
@@ -175,7 +175,7 @@ def main(script: str, words: list[str]) -> int:
         say(str(fault))
     except WriteFailed:
         say("write failed")
-    except (Ended, Refused) as fault:
+    except (Ended, Refused, UnexpectedAnswer) as fault:
         say(str(fault))
     return 2
 

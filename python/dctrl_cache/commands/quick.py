@@ -63,8 +63,8 @@ def ask(path: str, words: list[str]) -> int:
     if write_out(output) != 0:
         sys.stderr.write("dctrl-cache-apt: write failed\n")
         return 2
-    sys.stderr.flush()
-    os.write(2, errors) if errors else None
+    if errors:
+        os.write(2, errors)
     return status
 
 

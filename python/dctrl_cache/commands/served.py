@@ -4,12 +4,13 @@ from collections.abc import Callable
 
 from ..apt import AptList, AptSystem, apt_lists
 from ..apt_files import AptFault
-from ..errors import Ended, Refused
+from ..errors import Ended, Refused, UnexpectedAnswer
 from ..session import Session
 from .asking import Asker, Reply
 from .loading import Choice, Say, list_names, load_lists, load_preferences, watched
 from .quick import stamp_of
 from .trials import Fault
+from .words import WordsError, check_words
 
 Stamps = dict[str, bytes]
 
@@ -66,7 +67,7 @@ class ServedSession:
             except Ended:
                 self.end()
                 return self._answer(words)
-        except (Fault, AptFault, Ended, Refused, OSError) as fault:
+        except (WordsError, Fault, AptFault, Ended, Refused, UnexpectedAnswer, OSError) as fault:
             reply = Reply(2)
             reply.say("dctrl-cache-apt: %s" % fault)
             return reply
@@ -75,7 +76,10 @@ class ServedSession:
         self._follow()
         assert self._asker is not None
         json = words[0] == "--json"
-        return self._asker.answer(words[json:], json=json, may_edit=False) if words[json:] else Reply(2)
+        if not words[json:]:
+            raise WordsError("--ask: no command is named")
+        check_words(words[json:])
+        return self._asker.answer(words[json:], json=json, may_edit=False)
 
     def _follow(self) -> None:
         """Reads anew what has changed: dpkg's status alone where nothing else has, else all."""

@@ -9,7 +9,7 @@ from ..script import to_text
 from .trials import Fault, Upload
 
 _BLANK = re.compile(rb"[ \t\r]*$")
-_FIELD = re.compile(rb"(Package|Version|Architecture)[ \t]*:(.*)$", re.IGNORECASE | re.MULTILINE)
+_FIELD = re.compile(rb"^(Package|Version|Architecture)[ \t]*:(.*)$", re.IGNORECASE | re.MULTILINE)
 _LISTED = re.compile(r"^(?:Checksums-Sha256|Files):[ \t]*$((?:\n[ \t].*)*)", re.IGNORECASE | re.MULTILINE)
 
 

@@ -116,12 +116,16 @@ def _check(call: Call) -> None:
     if call.json and call.mode not in ("command", "ask", "lists"):
         raise WordsError("--json: it goes with a query that is given by words")
     if call.mode in ("command", "ask"):
-        command = call.words[0]
-        if not re.fullmatch("[a-z-]+", command):
-            raise WordsError("%s: unknown command" % command)
-        for word in call.words[1:]:
-            if "'" in word or "\n" in word:
-                raise WordsError("%s: a word has no quotes and no line ends" % word)
+        check_words(call.words)
+
+
+def check_words(words: list[str]) -> None:
+    """WordsError where words can be no command, whatever the lists are."""
+    if not re.fullmatch("[a-z-]+", words[0]):
+        raise WordsError("%s: unknown command" % words[0])
+    for word in words[1:]:
+        if "'" in word or "\n" in word:
+            raise WordsError("%s: a word has no quotes and no line ends" % word)
 
 
 def is_name(word: str) -> bool:
