@@ -2,6 +2,7 @@
 #![tactic(auto)]
 
 mod atom;
+mod byte_class;
 mod bytes;
 mod cut;
 mod field_kind;

@@ -4,56 +4,16 @@ ghost use Rattle.std.specs.Prelude.{◌≡◌, ◌≤◌, ◌<◌, length, true,
 ghost use Rattle.std.specs.List.{prefix_len};
 ghost use Rattle.std.specs.Option.{option_map};
 ghost use Rattle.ctl_relation.specs.Inside.ByteClass.{class_has};
-ghost use Rattle.ctl_relation.specs.FieldBytes.{is_whitespace, is_qualifier_byte, is_version_word_byte};
+ghost use Rattle.ctl_relation.specs.FieldBytes.{is_whitespace};
 ghost use Rattle.ctl_relation.specs.Runs.{rest};
 ghost use Rattle.ctl_relation.specs.Reading.{GivesAlways, behind_byte, name_at, qualifier_at, operator_token, operator_at, version_at, close_at};
 ghost use Rattle.ctl_relation.specs.Version.{fault_of};
 
+use crate::byte_class::ByteClass;
 use crate::cut::version_fault;
 use crate::field_kind::FieldKind;
-use crate::name::is_name_byte;
 use crate::operator::Operator;
 use crate::relation_fault::RelationFault;
-
-fn is_whitespace(byte: u8) -> bool
-    ensures { result ≡ is_whitespace byte }
-{
-    byte == b' ' || byte == b'\t' || byte == b'\n'
-}
-
-fn is_qualifier_byte(byte: u8) -> bool
-    ensures { result ≡ is_qualifier_byte byte }
-{
-    byte.is_ascii_alphanumeric() || byte == b'-'
-}
-
-fn is_version_word_byte(byte: u8) -> bool
-    ensures { result ≡ is_version_word_byte byte }
-{
-    !(is_whitespace(byte) || byte == b')')
-}
-
-// The bytes that a run may have.
-#[derive(Clone, Copy)]
-enum ByteClass {
-    Whitespace,
-    Name,
-    Qualifier,
-    VersionWord,
-}
-
-impl ByteClass {
-    fn has(self, byte: u8) -> bool
-        ensures { result ≡ class_has self byte }
-    {
-        match self {
-            ByteClass::Whitespace => is_whitespace(byte),
-            ByteClass::Name => is_name_byte(byte),
-            ByteClass::Qualifier => is_qualifier_byte(byte),
-            ByteClass::VersionWord => is_version_word_byte(byte),
-        }
-    }
-}
 
 // How many bytes at the front are of the class.
 fn run_len(class: ByteClass, text: &[u8]) -> usize
