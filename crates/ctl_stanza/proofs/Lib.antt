@@ -1,3 +1,4 @@
+pub mod NameBytes
 pub mod LineLemmas
 pub mod LineStartLemmas
 pub mod FieldLemmas

@@ -10,7 +10,7 @@ use std::alloc::{AllocError, Global};
 use std::collections::BTreeSet;
 
 /// How many names are kept as they stand in the text, and looked through one by one.
-const FIRST_NAMES: usize = 16;
+const FIRST_NAMES: usize = 64;
 
 /// Names of fields. Most stanzas have few, which are looked through one by one.
 #[derive(Drop)]
