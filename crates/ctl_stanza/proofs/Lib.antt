@@ -27,3 +27,5 @@ pub mod ProvidesLemmas
 pub mod SoundLemmas
 pub mod PairLemmas
 pub mod ReadLemmas
+pub mod PartLemmas
+pub mod ReaderLemmas

@@ -10,7 +10,7 @@ use Rattle.ctl_stanza.specs.Text.{piece, pieces_of, IsFirstPiece, piece_fault, p
 use Rattle.ctl_stanza.specs.Records.{RecordText, record_fault, piece_record, before_fault, records_before}
 use Rattle.ctl_stanza.proofs.PieceLemmas.{now}
 
-with-with : {A : Type 0} (a b : List A) (r : Result (List A) TextFault) → with_contents a (with_contents b r) ≡ with_contents (a ++ b) r
+pub with-with : {A : Type 0} (a b : List A) (r : Result (List A) TextFault) → with_contents a (with_contents b r) ≡ with_contents (a ++ b) r
 with-with a b (Ok xs) = ap Ok (sym (append_assoc a b xs))
 with-with a b (Err f) = refl
 
@@ -45,6 +45,16 @@ all-read kind n (b ∷ left) stanzas none = let some = eqb-suc-zero (length left
 pub stanza-end : (kind : ListKind) (n : ℕ) (left : List ℕ) (old new : List Content) (whole : Result (List Content) TextFault) → (length left == 0) ≡ true
     → new ≡ old → with_contents old (read_pieces kind (pieces_of n (lines_of left))) ≡ whole → whole ≡ Ok new
 stanza-end kind n left old new whole none same told = sym told ∙ all-read kind n left old none ∙ ap Ok (sym same)
+
+-- no line is left
+pub none-behind : (left : List ℕ) (line total : ℕ) → (length left == 0) ≡ true → line + length (lines_of left) ≡ total → line ≡ total
+none-behind [] line total none room = omega (arith, room)
+none-behind (b ∷ left) line total none room = let some = eqb-suc-zero (length left) in absurd (cc)
+
+-- what stands behind no stanza is all
+pub all-of-none : {A : Type 0} (none : List A) (read told : Result (List A) TextFault) → none ≡ [] → with_contents none read ≡ told → read ≡ told
+all-of-none none (Ok xs) told e h = let same : none ++ xs ≡ xs = ap (λ t. t ++ xs) e in cc
+all-of-none none (Err f) told e h = h
 
 -- the lines that were lent are those that were taken
 pub first-lent : (all others : List (List ℕ)) (lines given : List (Bor (List ℕ))) → given ≡ lines → IsFirstPiece all (lent_lines lines) others → IsFirstPiece all (lent_lines given) others

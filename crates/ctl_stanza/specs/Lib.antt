@@ -27,3 +27,4 @@ pub mod RecordLaws
 pub mod HeldFields
 pub mod HeldNames
 pub mod HeldStanza
+pub mod InParts

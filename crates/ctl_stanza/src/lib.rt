@@ -13,6 +13,8 @@ mod list_kind;
 mod live;
 mod names_given;
 mod offers;
+mod parts;
+mod reader;
 mod reading;
 mod record_lines;
 mod records;
@@ -29,6 +31,8 @@ pub use laws::{
 };
 pub use lines::MAX_LINE;
 pub use list_kind::ListKind;
+pub use parts::texts_read_in_parts;
+pub use reader::StanzaReader;
 pub use reading::read_stanzas;
 pub use records::{
     Record, RecordFields, RecordsBeforeFault, read_records, read_records_before_fault,

@@ -1,11 +1,12 @@
 //! A text to its stanzas.
 
-ghost use Rattle.std.specs.Prelude.{◌≡◌, ◌≢◌, ◌≤◌, ◌<◌, ◌+◌, ◌^◌, ◌∷◌, ◌++◌, ℕ, length, map, None, Some, Ok, IfOk, IfErr, OnOk};
+ghost use Rattle.std.specs.Prelude.{◌≡◌, ◌≢◌, ◌≤◌, ◌<◌, ◌+◌, ◌^◌, ◌++◌, ℕ, length, None, Some, Ok, Err, IfOk, IfErr, OnOk};
+ghost use Rattle.ctl_stanza.specs.declared.fault.Cause.TheVariants as causes;
 ghost use Rattle.ctl_stanza.specs.Lines.{lines_of, lent_lines, AreLines};
 ghost use Rattle.ctl_stanza.specs.Faults.{IsMemoryAtZero, Tells};
 ghost use Rattle.ctl_stanza.specs.Laws.{AreStanzasOf, HasNoFault, TellsLeastFault};
 ghost use Rattle.ctl_stanza.specs.HeldNames.{HoldsNone};
-ghost use Rattle.ctl_stanza.specs.Text.{IsFirstPiece, read_text, piece_content, piece_fault, piece, Reads};
+ghost use Rattle.ctl_stanza.specs.Text.{IsFirstPiece, read_text, piece_content, piece_fault, piece, with_contents, Reads};
 
 use crate::fault::TextFault;
 use crate::line_faults::first_fault;
@@ -85,6 +86,33 @@ fn read_piece<'a>(
     Ok(())
 }
 
+/// Adds the stanzas of a control text whose lines count from `first_line`, and tells the number of the line behind it.
+pub(crate) fn read_behind(
+    alloc: Global,
+    stanzas: &mut Vec<Stanza>,
+    text: &[u8],
+    first_line: u64,
+    kind: ListKind,
+) -> Result<u64, TextFault>
+    requires lines { first_line + length (lines_of text.now) < 2 ^ 64 }
+    ensures line { IfOk result (λ line. line ≡ first_line + length (lines_of text.now)) }
+    ensures read { OnOk result (with_contents stanzas.old.items (read_text kind first_line text.now) ≡ Ok stanzas.new.items) }
+    ensures fault { IfErr result (λ told. told.cause ≢ causes.Memory → with_contents stanzas.old.items (read_text kind first_line text.now) ≡ Err told) }
+    ensures memory { IfErr result IsMemoryAtZero }
+{
+    let mut names = NamesGiven::new(alloc);
+    let mut lines: Vec<&[u8]> = Vec::new(alloc);
+    let mut left = text;
+    let mut line = first_line;
+    'pieces: while !left.is_empty() {
+        let behind = take_piece(&mut lines, left)?;
+        read_piece(alloc, stanzas, &mut names, &lines, line, kind)?;
+        line += lines.len() as u64;
+        left = behind;
+    }
+    Ok(line)
+}
+
 /// The stanzas of a control text whose lines count from `first_line`, or its fault.
 ///
 /// A line ends with a newline, and a last line without one counts if it isn't empty. Lines of spaces and
@@ -112,16 +140,7 @@ pub fn read_stanzas(
     ensures memory { IfErr result IsMemoryAtZero }
 {
     let mut stanzas = Vec::new(alloc);
-    let mut names = NamesGiven::new(alloc);
-    let mut lines: Vec<&[u8]> = Vec::new(alloc);
-    let mut left = text;
-    let mut line = first_line;
-    'pieces: while !left.is_empty() {
-        let behind = take_piece(&mut lines, left)?;
-        read_piece(alloc, &mut stanzas, &mut names, &lines, line, kind)?;
-        line += lines.len() as u64;
-        left = behind;
-    }
+    read_behind(alloc, &mut stanzas, text, first_line, kind)?;
     stanzas.shrink_to_fit();
     Ok(stanzas)
 }

@@ -1,0 +1,42 @@
+-- A text read in parts.
+use Rattle.std.specs.Prelude.{◌≡◌, ◌+◌, ℕ, List, [], ◌∷◌, ◌++◌, length, Result, Ok, Err}
+use Rattle.ctl_relation.specs.Bytes.{newline}
+use Rattle.ctl_stanza.specs.declared.list_kind.ListKind.{ListKind}
+use Rattle.ctl_stanza.specs.declared.fault.TextFault.{TextFault}
+use Rattle.ctl_stanza.specs.Content.{Content}
+use Rattle.ctl_stanza.specs.Lines.{lines_of}
+use Rattle.ctl_stanza.specs.Text.{read_text, with_contents}
+
+-- what was read first, and then what is behind it; the fault of the first part comes first
+abbrev pub joined : {A : Type 0} → Result (List A) TextFault → Result (List A) TextFault → Result (List A) TextFault
+joined (Ok contents) others = with_contents contents others
+joined (Err fault) others = Err fault
+
+-- A text that is cut behind an empty line reads as its two parts.
+abbrev pub ReadsInParts : Type 0
+ReadsInParts = (kind : ListKind) (n : ℕ) (front behind : List ℕ)
+    → read_text kind n (front ++ newline ∷ newline ∷ behind)
+    ≡ joined (read_text kind n (front ++ newline ∷ newline ∷ [])) (read_text kind (n + length (lines_of (front ++ newline ∷ newline ∷ []))) behind)
+
+-- ---- a text that is read piece by piece
+
+-- what a reader has: the stanzas so far, and what is left behind them, whose lines count from a number
+pub record Reading : Type 0 where
+  pub kind : ListKind
+  pub stanzas : List Content
+  pub line : ℕ
+  pub rest : List ℕ
+
+-- A text was read so far: whatever comes behind it, the stanzas so far come first, and then those of what is left.
+pub record IsReading (kind : ListKind) (n : ℕ) (text : List ℕ) (reading : Reading) : Type 0 where
+  pub reads : (more : List ℕ) → read_text kind n (text ++ more) ≡ with_contents reading.stanzas (read_text reading.kind reading.line (reading.rest ++ more))
+
+-- a newline is the last byte
+pub record EndsWithNewline (text : List ℕ) : Type 0 where
+  pub front : List ℕ
+  pub whole : text ≡ front ++ newline ∷ []
+
+-- an empty line comes last
+pub record EndsWithGap (text : List ℕ) : Type 0 where
+  pub front : List ℕ
+  pub whole : text ≡ front ++ newline ∷ newline ∷ []
