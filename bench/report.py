@@ -8,6 +8,7 @@ ratio ranges: the words below the table are checked by these."""
 
 import json
 import sys
+import textwrap
 
 PROGRAMS = ["dctrl-cache", "apt-cache", "grep-dctrl", "python-apt"]
 BEGINS = "<!-- The table of make bench begins -->\n"
@@ -57,7 +58,8 @@ def machine(results):
 def section(results):
     """What stands between the marks."""
     table = [head()] + [line for row in results["rows"] for line in lines(row, results["sizes"])]
-    return "\n%s The column `times` is how often the list is there.\n\n%s\n\n" % (machine(results), "\n".join("    " + line for line in table))
+    said = textwrap.fill(machine(results) + " The column `times` is how often the list is there.", 120, break_on_hyphens=False)
+    return "\n%s\n\n%s\n\n" % (said, "\n".join("    " + line for line in table))
 
 
 def placed(text, results):

@@ -5,7 +5,7 @@
 
 The program is asked for `unmet`, and for `depends`, `rdepends` and `showpkg` of each package that has a row, or of the first N of them;
 apt-cache is asked for the same of a folder of its own, in which these lists are all it knows. Both are brought to one form, in which the
-differences that docs/DIFFERENCES-RELATIONS.md tells are undone:
+differences that docs/differences/RELATIONS.md tells are undone:
 
 - names and providers have no order, and a provider or an entry that is told twice counts once;
 - an atom with a qualifier is left out on both sides: apt takes it for one on another package;

@@ -4,7 +4,7 @@
     tools/compare_filters.py [--program PROGRAM] [--filters N] [--seed S] PACKAGES
 
 N filters that both programs know are made from the seed: over fields and patterns of stanzas of the list, with all options, modifiers
-and signs. Each is asked of both, and the answers have to be the same byte for byte, once the differences that docs/DIFFERENCES-GREP-DCTRL.md tells
+and signs. Each is asked of both, and the answers have to be the same byte for byte, once the differences that docs/differences/GREP-DCTRL.md tells
 are undone:
 
 - `-o` binds tighter than `-a` in grep-dctrl, and `!` stands before no `!`: it gets the same filter with all its parentheses;

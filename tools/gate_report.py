@@ -7,6 +7,7 @@ puts what `make test` and `make edits` left in out/gate.json between the two mar
 
 import os
 import sys
+import textwrap
 
 import gate_file
 
@@ -49,10 +50,10 @@ def parts_of(results):
 def section(results, names):
     """What stands between the marks."""
     said = ["Measured on %s. Seconds are of processors; a dash stands where nothing was measured." % results["machine"], *parts_of(results)]
-    head = ["Crate", "Functions", "Proof from nothing", "At most", "Tests under proof", "Edits tried", "The crate itself for them", "They"]
+    head = ["Crate", "Functions", "Proof from nothing", "At most", "Tests under proof", "Edits tried", "The crate for them", "They"]
     table = ["| %s |" % " | ".join(head), "|" + "---|" * len(head)]
     table += [row(name, results.get("proofs", {}), results.get("edits", {})) for name in names]
-    return "\n%s\n\n%s\n\n" % ("\n".join(said), "\n".join(table))
+    return "\n%s\n\n%s\n\n" % (textwrap.fill(" ".join(said), 120, break_on_hyphens=False), "\n".join(table))
 
 
 def put(document, text):

@@ -9,9 +9,10 @@ import subprocess
 
 TOP = os.path.join(os.path.dirname(os.path.abspath(__file__)), "..", "..")
 MANUAL = os.path.join(TOP, "docs", "MANUAL.md")
-DIFFERENCES = [os.path.join(TOP, "docs", name) for name in ("DIFFERENCES.md", "DIFFERENCES-RELATIONS.md", "DIFFERENCES-GREP-DCTRL.md")]
+DIFFERENCES = [os.path.join(TOP, "docs", "differences", name) for name in ("APT-CACHE.md", "GREP-DCTRL.md", "RELATIONS.md")]
 PAGE = os.path.join(TOP, "man", "dctrl-cache.1")
-WRAPPERS_PAGE = os.path.join(TOP, "man", "dctrl-cache-apt.1")
+APT_PAGE = os.path.join(TOP, "man", "dctrl-cache-apt.1")
+TRY_PAGE = os.path.join(TOP, "man", "dctrl-cache-try.1")
 INDENT = "    "
 
 
@@ -174,7 +175,8 @@ def test_pages(tests):
     """The manual pages render without a complaint, and read as they should."""
     for page, texts in (
         (PAGE, (b"a single dot", b"dctrl-cache [-l NAME=FILE]... [--status FILE] [SCRIPT]", b"pin * release LIST P", b"/usr/lib/apt/apt-helper cat-file")),
-        (WRAPPERS_PAGE, (b"dctrl-cache-apt [--root DIR] COMMAND [WORD]...", b"dctrl-cache-apt [--root DIR] < SCRIPT", b"--lists Prints the lists")),
+        (APT_PAGE, (b"dctrl-cache-apt [OPTION]... COMMAND [WORD]...", b"dctrl-cache-apt [OPTION]... < SCRIPT", b"--lists Prints the lists")),
+        (TRY_PAGE, (b"dctrl-cache-try [OPTION]... upload LIST FILE...", b"dctrl-cache-try [OPTION]... remove LIST NAME...")),
     ):
         words = words_of_page(tests, page)
         for wanted in texts if words is not None else ():
