@@ -22,7 +22,8 @@ PAGES = {"usr/share/man/man1/%s.gz" % os.path.basename(page) for page in glob.gl
 COMPLETIONS = {"usr/share/bash-completion/completions/" + name for name in ("dctrl-cache", "dctrl-cache-apt", "dctrl-cache-try")}
 PROGRAMS = {"dctrl-cache", "dctrl-cache-apt", "dctrl-cache-try"}
 UNITS = {"usr/lib/systemd/user/dctrl-cache-apt." + kind for kind in ("service", "socket")}
-TEXTS = {DOCUMENTS + name for name in ("copyright", "changelog.gz", "MANUAL.md", "DIFFERENCES.md", "DIFFERENCES-RELATIONS.md", "DIFFERENCES-GREP-DCTRL.md")}
+TEXTS = {DOCUMENTS + name for name in ("copyright", "changelog.gz", "MANUAL.md", "COMING-FROM.md", "differences/APT-CACHE.md",
+                                    "differences/GREP-DCTRL.md", "differences/RELATIONS.md")}
 
 
 def examples():

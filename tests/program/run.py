@@ -11,6 +11,7 @@ import os
 import sys
 
 from bench import test_bench
+from coming_from import test_coming_from
 from cuts import test_cuts
 from edits import test_edits
 from examples import test_examples
@@ -43,6 +44,7 @@ def main(words):
     test_examples(tests, words[1])
     test_cuts(tests, words[1])
     test_manual(tests)
+    test_coming_from(tests)
     test_package(tests)
     test_bench(tests)
     print(tests.count())
