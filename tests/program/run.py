@@ -3,9 +3,9 @@
 
 Tests the program from outside: its words, its exit statuses, lists from files, what it writes to standard output and
 standard error, many edits of one list, answers on many names, hostile filters, a full device, a closed pipe, a reader that stops, a
-talk command by command, the scripts under tests/scripts, the examples and those of the manual, also cut at each byte; and the
-packages. What stands on the module of Python is tested in python/tests. A test whose peer isn't there is skipped, and says why. The
-last line is the count."""
+talk command by command, the scripts under tests/scripts, the examples and those of the manual, also cut at each byte; what is typed
+in the place of other programs; and the packages. What stands on the module of Python is tested in python/tests. A test whose peer
+isn't there is skipped, and says why. The last line is the count."""
 
 import os
 import sys

@@ -56,6 +56,14 @@ def test_edits(tests):
     talk_by_turns(tests, "a talk of edits", turns, (b"", 1))
 
 
+def test_ends(tests):
+    """A name that is not there, asked for behind each command, ends its answer. The status stays, and lines count on."""
+    end, told = b"policy end-5f3a91c2\n", b"N: Unable to locate package end-5f3a91c2\n"
+    turns = [(LIST + end, told), (b"pkgnames f\n" + end, b"foo\n"), (b"", told), (b"put main\nPackage: foo\nVersion: 3\nN: a field\n.\n" + end, told)]
+    talk_by_turns(tests, "a talk with ends of answers", turns, (b"", 0))
+    talk_by_turns(tests, "a refusal between ends", [(LIST + end + b"frob\n", told), (end, b"E: line 9: unknown command\n")], (told, 1))
+
+
 def test_pieces(tests):
     """A command and a body may come in pieces, cut at any byte."""
     talk = Talk(tests.program)
@@ -72,4 +80,5 @@ def test_pieces(tests):
 def test_talk(tests):
     test_answers(tests)
     test_edits(tests)
+    test_ends(tests)
     test_pieces(tests)
