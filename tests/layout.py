@@ -32,3 +32,8 @@ def run(tests):
         status, lines, told = call(root)
         wanted = ["crates/numbers/src/other.rt: run rt fmt in its crate", "1 passed, 1 failed"]
         tests.expect("a file that isn't in the layout", status == 1 and lines == wanted, told)
+        write(root + "/README.md", "é" * 120 + "\n")
+        write(root + "/docs/PAGE.md", "a line\n" + "é" * 121 + "\n")
+        status, lines, told = call(root)
+        wanted = [wanted[0], "docs/PAGE.md: more than 120 columns in line 2", "2 passed, 2 failed"]
+        tests.expect("a page with a line that is too wide", status == 1 and lines == wanted, told)

@@ -1,5 +1,6 @@
 #!/usr/bin/env python3
-"""Tells which files of the crates aren't in the layout that `rt fmt` gives. The proofs would refuse them too, but much later.
+"""Tells which files of the crates aren't in the layout that `rt fmt` gives, and which pages have a line of more than 120 columns. The
+proofs would refuse the first too, but much later.
 
     tools/layout.py [REPOSITORY]
 
@@ -13,6 +14,9 @@ import sys
 FOLDERS = ("src", "specs", "proofs")
 ENDINGS = (".rt", ".antt")
 
+# How wide a line of README.md and of the pages in docs/ may be, in signs.
+WIDTH = 120
+
 
 def files_of(repository):
     """The files of all crates that have a layout."""
@@ -21,6 +25,20 @@ def files_of(repository):
         for folder in FOLDERS:
             for where, _, names in sorted(os.walk(os.path.join(crates, crate, folder))):
                 yield from (os.path.join(where, name) for name in sorted(names) if name.endswith(ENDINGS))
+
+
+def pages_of(repository):
+    """README.md and the pages in docs/, but those below it, whose scripts are as wide as they have to be."""
+    docs = os.path.join(repository, "docs")
+    names = [os.path.join("docs", name) for name in sorted(os.listdir(docs))] if os.path.isdir(docs) else []
+    pages = [os.path.join(repository, name) for name in ["README.md", *names] if name.endswith(".md")]
+    return [page for page in pages if os.path.isfile(page)]
+
+
+def wide_lines(page):
+    """The numbers of the lines that are too wide."""
+    with open(page, encoding="utf-8") as file:
+        return [number for number, line in enumerate(file, 1) if len(line.rstrip("\n")) > WIDTH]
 
 
 def formatter():
@@ -37,13 +55,17 @@ def is_laid_out(program, files):
 
 def main(words):
     repository = words[0] if words else os.path.join(os.path.dirname(os.path.abspath(__file__)), "..")
-    program, files = formatter(), list(files_of(repository))
+    program, files, pages = formatter(), list(files_of(repository)), pages_of(repository)
     # one by one only where one of all fails
     others = [] if is_laid_out(program, files) else [it for it in files if not is_laid_out(program, [it])]
     for file in others:
         print(f"{os.path.relpath(file, repository)}: run rt fmt in its crate")
-    print(f"{len(files) - len(others)} passed, {len(others)} failed")
-    return 1 if others else 0
+    wide = [(page, numbers) for page, numbers in ((page, wide_lines(page)) for page in pages) if numbers]
+    for page, numbers in wide:
+        print(f"{os.path.relpath(page, repository)}: more than {WIDTH} columns in line {', '.join(map(str, numbers))}")
+    failed = len(others) + len(wide)
+    print(f"{len(files) + len(pages) - failed} passed, {failed} failed")
+    return 1 if failed else 0
 
 
 if __name__ == "__main__":
