@@ -122,8 +122,11 @@ def test_killed(session, moment):
     if moment == "before":
         os.kill(session.pid, signal.SIGKILL)
         time.sleep(0.2)
+    if moment == "between":
+        # It answers none of those that the pipe holds.
+        os.kill(session.pid, signal.SIGSTOP)
     try:
-        answers = [session.submit("policy foo") for _ in range(20_000)]
+        answers = [session.submit("policy foo") for _ in range(500 if moment == "between" else 20_000)]
     except Ended:
         assert moment == "before"
         answers = []
