@@ -216,6 +216,46 @@ fn append_steps(alloc: Global, cache: &Cache, line: &mut Vec<u8>) -> Result<(), 
     Ok(())
 }
 
+// Begins with a new cache.
+fn begin(
+    alloc: Global,
+    cache: &mut Cache,
+    words: &mut Words<'_>,
+    line: &mut Vec<u8>,
+) -> Result<()> {
+    let limits = words.limits()?;
+    *cache = Cache::with_limits(alloc, limits);
+    Ok(line.extend_from_slice(b"new")?)
+}
+
+fn append_edited(
+    alloc: Global,
+    cache: &mut Cache,
+    word: &str,
+    words: &mut Words<'_>,
+    line: &mut Vec<u8>,
+) -> Result<()> {
+    let edit = edit_named(alloc, word, words)?;
+    Ok(append_outcome(alloc, cache, edit, line)?)
+}
+
+fn append_told(
+    alloc: Global,
+    cache: &mut Cache,
+    words: &mut Words<'_>,
+    line: &mut Vec<u8>,
+) -> Result<()> {
+    match words.word()? {
+        "limits" => begin(alloc, cache, words, line),
+        "views" => Ok(append_recovered(alloc, cache, line)?),
+        "policies" => Ok(append_kept_policies(alloc, cache, line)?),
+        "packages" => append_packages_of_word(alloc, cache, words, line),
+        "steps" => Ok(append_steps(alloc, cache, line)?),
+        "dump" => append_state(alloc, cache.store(), words, line),
+        word => append_edited(alloc, cache, word, words, line),
+    }
+}
+
 /// Begins with a new cache, changes it by a line, or shows what it tells.
 pub fn append_followed(
     alloc: Global,
@@ -224,20 +264,5 @@ pub fn append_followed(
     line: &mut Vec<u8>,
 ) -> Result<()> {
     let mut words = Words::new(alloc, text);
-    match words.word()? {
-        "limits" => {
-            *cache = Cache::with_limits(alloc, words.limits()?);
-            line.extend_from_slice(b"new")?;
-        }
-        "views" => append_recovered(alloc, cache, line)?,
-        "policies" => append_kept_policies(alloc, cache, line)?,
-        "packages" => append_packages_of_word(alloc, cache, &mut words, line)?,
-        "steps" => append_steps(alloc, cache, line)?,
-        "dump" => append_state(alloc, cache.store(), &mut words, line)?,
-        word => {
-            let edit = edit_named(alloc, word, &mut words)?;
-            append_outcome(alloc, cache, edit, line)?;
-        }
-    }
-    Ok(())
+    append_told(alloc, cache, &mut words, line)
 }

@@ -70,15 +70,18 @@ fn put(alloc: Global, words: &mut Words<'_>) -> Result<Edit> {
     Ok(Edit::Put { list, stanza })
 }
 
+/// A version of pins, or the beginning of versions.
+pub fn pin_version(alloc: Global, words: &mut Words<'_>) -> Result<PinVersion> {
+    let text = words.bytes()?;
+    PinVersion::read(alloc, text.as_slice())?.context("a pin's version that is none")
+}
+
 /// A selector: `version`, a package and a version or the beginning of versions; or `release`, a package or `-`, and a list.
 pub fn selector(alloc: Global, word: &str, words: &mut Words<'_>) -> Result<Selector> {
     match word {
         "version" => {
             let package = words.bytes()?;
-            let text = words.bytes()?;
-            let version = PinVersion::read(alloc, text.as_slice())?.context(
-                "a pin's version that is none",
-            )?;
+            let version = pin_version(alloc, words)?;
             Ok(Selector::Version { package, version })
         }
         "release" => {
@@ -90,16 +93,21 @@ pub fn selector(alloc: Global, word: &str, words: &mut Words<'_>) -> Result<Sele
     }
 }
 
+/// A selector and a priority.
+pub fn setting(alloc: Global, words: &mut Words<'_>) -> Result<PinSetting> {
+    let selector = selector(alloc, words.word()?, words)?;
+    let priority = words.priority()?;
+    Ok(PinSetting { selector, priority })
+}
+
 /// Selectors with priorities, to the end of the line.
 pub fn settings(alloc: Global, words: &mut Words<'_>) -> Result<PinSettings> {
     let mut settings = PinSettings::new(alloc);
     for _ in 0..u64::MAX {
-        let Some(word) = words.next_word() else {
+        if words.is_over() {
             break;
-        };
-        let selector = selector(alloc, word, words)?;
-        let priority = words.priority()?;
-        settings.set(PinSetting { selector, priority })?;
+        }
+        settings.set(setting(alloc, words)?)?;
     }
     Ok(settings)
 }
@@ -115,10 +123,8 @@ fn prefs_of_text(alloc: Global, words: &mut Words<'_>) -> Result<Edit> {
 }
 
 fn pin(alloc: Global, words: &mut Words<'_>) -> Result<Edit> {
-    let selector = selector(alloc, words.word()?, words)?;
-    let priority = words.priority()?;
     Ok(Edit::Pin {
-        setting: PinSetting { selector, priority },
+        setting: setting(alloc, words)?,
     })
 }
 

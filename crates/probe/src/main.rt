@@ -36,6 +36,7 @@ mod calls;
 mod edits;
 mod escapes;
 mod hexadecimal;
+mod joined;
 mod measure;
 mod parts;
 mod policies;
@@ -50,7 +51,7 @@ use caches::append_followed;
 use calls::{Calls, append_call, calls_named};
 use ctl_index::Cache;
 use ctl_stanza::ListKind;
-use ctl_store::Store;
+use ctl_store::{Edit, Store};
 use edits::main_list;
 use relations::{Field, append_field, field_of};
 use std::alloc::Global;
@@ -108,23 +109,32 @@ enum Asked {
     CacheTimes,
 }
 
+// What a subject asks for with a second argument.
+fn asked_by(subject: Subject, word: &str) -> Result<Asked> {
+    let is_measured = word == "measure";
+    match subject {
+        Subject::Relation if is_measured => Ok(Asked::Costs),
+        Subject::Store if is_measured => Ok(Asked::StoreTimes),
+        Subject::Index if is_measured => Ok(Asked::CacheTimes),
+        Subject::Text => {
+            let kind = text_kind_named(word).context("a kind that is not known")?;
+            Ok(Asked::Count(kind))
+        }
+        Subject::Store => Ok(Asked::Held(kind_named(word)?)),
+        Subject::Index => Ok(Asked::Followed(kind_named(word)?)),
+        Subject::Relation | Subject::Calls(_) => Ok(Asked::Answers(subject)),
+    }
+}
+
 fn read_arguments(rt: &HostRuntime) -> Result<Asked> {
     let mut arguments = env::args(rt)?.skip(1);
     let subject = match arguments.next() {
         Some(word) => subject_named(word.as_str()).context("a subject that is not known")?,
         None => Subject::Relation,
     };
-    match (subject, arguments.next()) {
-        (Subject::Relation, Some(word)) if word.as_str() == "measure" => Ok(Asked::Costs),
-        (Subject::Text, Some(word)) => {
-            let kind = text_kind_named(word.as_str()).context("a kind that is not known")?;
-            Ok(Asked::Count(kind))
-        }
-        (Subject::Store, Some(word)) if word.as_str() == "measure" => Ok(Asked::StoreTimes),
-        (Subject::Store, Some(word)) => Ok(Asked::Held(kind_named(word.as_str())?)),
-        (Subject::Index, Some(word)) if word.as_str() == "measure" => Ok(Asked::CacheTimes),
-        (Subject::Index, Some(word)) => Ok(Asked::Followed(kind_named(word.as_str())?)),
-        (subject, _) => Ok(Asked::Answers(subject)),
+    match arguments.next() {
+        Some(word) => asked_by(subject, word.as_str()),
+        None => Ok(Asked::Answers(subject)),
     }
 }
 
@@ -137,13 +147,12 @@ fn append_answer(
     answer: &mut Vec<u8>,
 ) -> Result<()> {
     match subject {
-        Subject::Relation => append_field(alloc, line, answer)?,
-        Subject::Text => append_text(alloc, line, answer)?,
-        Subject::Store => append_change(alloc, &mut kept.store, line, answer)?,
-        Subject::Index => append_followed(alloc, &mut kept.cache, line, answer)?,
-        Subject::Calls(calls) => append_call(alloc, kept, calls, line, answer)?,
+        Subject::Relation => append_field(alloc, line, answer),
+        Subject::Text => append_text(alloc, line, answer),
+        Subject::Store => append_change(alloc, &mut kept.store, line, answer),
+        Subject::Index => append_followed(alloc, &mut kept.cache, line, answer),
+        Subject::Calls(calls) => append_call(alloc, kept, calls, line, answer),
     }
-    Ok(())
 }
 
 // Whether a line is words for the reader, or empty.
@@ -151,23 +160,36 @@ fn is_heading(line: &str) -> bool {
     line.is_empty() || line.starts_with('#')
 }
 
+// The line of answers to a line, of this subject if it doesn't name one. The subject of the next line comes back.
+fn append_line(
+    alloc: Global,
+    kept: &mut Kept,
+    subject: Subject,
+    line: &str,
+    answer: &mut Vec<u8>,
+) -> Result<Subject> {
+    let named = subject_named(line);
+    if named.is_some() || is_heading(line) {
+        answer.extend_from_slice(line.as_bytes())?;
+    } else {
+        append_answer(alloc, kept, subject, line, answer)?;
+    }
+    answer.push(b'\n')?;
+    Ok(named.unwrap_or(subject))
+}
+
+fn answer_line(rt: &HostRuntime, kept: &mut Kept, subject: Subject, line: &str) -> Result<Subject> {
+    let mut answer = Vec::new(rt.alloc());
+    let next = append_line(rt.alloc(), kept, subject, line, &mut answer)?;
+    io::writer(rt).write_all(&answer)?;
+    Ok(next)
+}
+
 fn answer_lines(rt: &HostRuntime, kept: &mut Kept, first: Subject) -> Result<()> {
     let alloc = rt.alloc();
     let mut subject = first;
-    let mut out = io::writer(rt);
     for line in BufReader::new(alloc, rt.reader())?.lines(alloc) {
-        let line = line?;
-        let line = line.as_str();
-        let mut answer = Vec::new(alloc);
-        let named = subject_named(line);
-        if named.is_some() || is_heading(line) {
-            answer.extend_from_slice(line.as_bytes())?;
-        } else {
-            append_answer(alloc, kept, subject, line, &mut answer)?;
-        }
-        answer.push(b'\n')?;
-        out.write_all(&answer)?;
-        subject = named.unwrap_or(subject);
+        subject = answer_line(rt, kept, subject, line?.as_str())?;
     }
     Ok(())
 }
@@ -209,20 +231,24 @@ fn answer_anew(rt: &HostRuntime, first: Subject) -> Result<()> {
     answer_lines(rt, &mut kept, first)
 }
 
-fn hold_list(rt: &HostRuntime, kind: ListKind) -> Result<()> {
-    let alloc = rt.alloc();
+// The edit that adds standard input as the list `main`.
+fn read_main_list(rt: &HostRuntime, kind: ListKind) -> Result<Edit> {
     let text = read_all(rt)?;
-    let mut store = Store::new(alloc);
-    stores::make(&mut store, main_list(alloc, &text, kind)?)?;
+    main_list(rt.alloc(), &text, kind)
+}
+
+fn hold_list(rt: &HostRuntime, kind: ListKind) -> Result<()> {
+    let edit = read_main_list(rt, kind)?;
+    let mut store = Store::new(rt.alloc());
+    stores::make(&mut store, edit)?;
     println!(rt; "stanzas {}", store.counts().stanzas)?;
     Ok(())
 }
 
 fn follow_list(rt: &HostRuntime, kind: ListKind) -> Result<()> {
-    let alloc = rt.alloc();
-    let text = read_all(rt)?;
-    let mut cache = Cache::new(alloc);
-    caches::make(&mut cache, main_list(alloc, &text, kind)?)?;
+    let edit = read_main_list(rt, kind)?;
+    let mut cache = Cache::new(rt.alloc());
+    caches::make(&mut cache, edit)?;
     println!(rt;
         "stanzas {} tests {}",
         cache.store().counts().stanzas,

@@ -8,7 +8,7 @@ use crate::words::Words;
 use anyhow::{Context, Result};
 use ctl_index::Cache;
 use ctl_relation::{Relations, parse_relations};
-use ctl_store::Store;
+use ctl_store::{Edit, Store};
 use std::alloc::{AllocError, Global};
 use std::fs;
 use std::io::{BufRead, BufReader};
@@ -50,17 +50,22 @@ fn atom_count(relations: &[Relations<'_>]) -> u64 {
     count
 }
 
-// Makes the edit of a line in a store, and prints what comes of it and the nanoseconds that it took.
+// Makes an edit of this name in a store, and prints what comes of it and the nanoseconds that it took.
+fn measure_made(rt: &HostRuntime, store: &mut Store, word: &str, edit: Edit) -> Result<()> {
+    let start = Instant::now(rt);
+    let refused = change(store, edit).is_err();
+    let nanoseconds = start?.elapsed(rt)?.as_nanos();
+    let outcome = if refused { "refused" } else { "ok" };
+    println!(rt; "{word} {outcome} nanoseconds {nanoseconds}")?;
+    Ok(())
+}
+
+// The same of the edit of a line.
 fn measure_change(rt: &HostRuntime, store: &mut Store, line: &str) -> Result<()> {
     let mut words = Words::new(rt.alloc(), line);
     let word = words.word()?;
     let edit = edit_named(rt.alloc(), word, &mut words)?;
-    let start = Instant::now(rt)?;
-    let refused = change(store, edit).is_err();
-    let nanoseconds = start.elapsed(rt)?.as_nanos();
-    let outcome = if refused { "refused" } else { "ok" };
-    println!(rt; "{word} {outcome} nanoseconds {nanoseconds}")?;
-    Ok(())
+    measure_made(rt, store, word, edit)
 }
 
 fn measure_change_lines(rt: &HostRuntime, store: &mut Store) -> Result<()> {
@@ -77,18 +82,23 @@ pub fn measure_changes(rt: &HostRuntime) -> Result<()> {
     measure_change_lines(rt, &mut store)
 }
 
-// Makes the edit of a line in a cache, and prints what comes of it, the count of tests and the nanoseconds that it took.
-fn measure_edit(rt: &HostRuntime, cache: &mut Cache, line: &str) -> Result<()> {
-    let mut words = Words::new(rt.alloc(), line);
-    let word = words.word()?;
-    let edit = edit_named(rt.alloc(), word, &mut words)?;
-    let start = Instant::now(rt)?;
+// Makes an edit of this name in a cache, and prints what comes of it, the count of tests and the nanoseconds that it took.
+fn measure_followed(rt: &HostRuntime, cache: &mut Cache, word: &str, edit: Edit) -> Result<()> {
+    let start = Instant::now(rt);
     let refused = apply(cache, edit).is_err();
-    let nanoseconds = start.elapsed(rt)?.as_nanos();
+    let nanoseconds = start?.elapsed(rt)?.as_nanos();
     let outcome = if refused { "refused" } else { "ok" };
     let tests = cache.steps();
     println!(rt; "{word} {outcome} tests {tests} nanoseconds {nanoseconds}")?;
     Ok(())
+}
+
+// The same of the edit of a line.
+fn measure_edit(rt: &HostRuntime, cache: &mut Cache, line: &str) -> Result<()> {
+    let mut words = Words::new(rt.alloc(), line);
+    let word = words.word()?;
+    let edit = edit_named(rt.alloc(), word, &mut words)?;
+    measure_followed(rt, cache, word, edit)
 }
 
 fn measure_lines(rt: &HostRuntime, cache: &mut Cache) -> Result<()> {

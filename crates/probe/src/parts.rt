@@ -1,6 +1,7 @@
 //! What stanzas and records have in them, as text.
 
 use crate::hexadecimal::append_word;
+use crate::joined::append_number;
 use ctl_relation::{FieldKind, Groups, Version};
 use ctl_stanza::{Record, Stanza};
 use std::alloc::{AllocError, Global};
@@ -44,21 +45,24 @@ pub fn append_version(
     }
 }
 
-/// A stanza: its text, whether it is live, its package, its version, its fields, its groups and what it offers.
-pub fn append_stanza(alloc: Global, stanza: &Stanza, line: &mut Vec<u8>) -> Result<(), AllocError> {
-    append_word(alloc, b"|", stanza.text(), line)?;
-    line.extend_from_slice(if stanza.is_live() { b" live" } else { b" gone" })?;
-    append_word(alloc, b" ", stanza.package(), line)?;
-    append_version(alloc, stanza.version(), line)?;
+fn append_fields(alloc: Global, stanza: &Stanza, line: &mut Vec<u8>) -> Result<(), AllocError> {
     for (name, body) in stanza.fields() {
         append_word(alloc, b" ", name, line)?;
         append_word(alloc, b"=", body, line)?;
     }
+    Ok(())
+}
+
+// The groups of each field, and those of Provides.
+fn append_relations(alloc: Global, stanza: &Stanza, line: &mut Vec<u8>) -> Result<(), AllocError> {
     for kind in KINDS {
         line.push(b' ')?;
         append_groups(alloc, b"&", stanza.groups(kind), line)?;
     }
-    append_groups(alloc, b"+", stanza.provides(), line)?;
+    append_groups(alloc, b"+", stanza.provides(), line)
+}
+
+fn append_offers(alloc: Global, stanza: &Stanza, line: &mut Vec<u8>) -> Result<(), AllocError> {
     for offer in stanza.offers() {
         append_word(alloc, b" ", offer.name(), line)?;
         append_version(alloc, offer.version(), line)?;
@@ -66,16 +70,24 @@ pub fn append_stanza(alloc: Global, stanza: &Stanza, line: &mut Vec<u8>) -> Resu
     Ok(())
 }
 
+/// A stanza: its text, whether it is live, its package, its version, its fields, its groups and what it offers.
+pub fn append_stanza(alloc: Global, stanza: &Stanza, line: &mut Vec<u8>) -> Result<(), AllocError> {
+    append_word(alloc, b"|", stanza.text(), line)?;
+    line.extend_from_slice(if stanza.is_live() { b" live" } else { b" gone" })?;
+    append_word(alloc, b" ", stanza.package(), line)?;
+    append_version(alloc, stanza.version(), line)?;
+    append_fields(alloc, stanza, line)?;
+    append_relations(alloc, stanza, line)?;
+    append_offers(alloc, stanza, line)
+}
+
 /// A record: its fields, each with the number of its line.
 pub fn append_record(alloc: Global, record: &Record, line: &mut Vec<u8>) -> Result<(), AllocError> {
-    line.push(b'|')?;
-    let first = format!(in alloc; "{}", record.first_line())?;
-    line.extend_from_slice(first.as_bytes())?;
+    append_number(alloc, b"|", record.first_line() as u128, line)?;
     for (name, body, number) in record.fields() {
         append_word(alloc, b" ", name, line)?;
         append_word(alloc, b"=", body, line)?;
-        let number = format!(in alloc; ":{number}")?;
-        line.extend_from_slice(number.as_bytes())?;
+        append_number(alloc, b":", number as u128, line)?;
     }
     Ok(())
 }

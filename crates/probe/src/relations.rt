@@ -1,8 +1,9 @@
 //! Relation fields, and what they are read to.
 
+use crate::joined::append_all;
 use anyhow::{Context, Result};
-use ctl_relation::{FieldKind, RelationFault, parse_relations};
-use std::alloc::Global;
+use ctl_relation::{FieldKind, Groups, RelationFault, parse_relations};
+use std::alloc::{AllocError, Global};
 
 /// A relation field: which one, and its body.
 #[derive(Drop)]
@@ -48,23 +49,23 @@ pub fn fault_name(fault: RelationFault) -> &'static [u8] {
     }
 }
 
+// Groups in their printed form, joined by commas.
+fn append_groups(groups: Groups<'_>, answer: &mut Vec<u8>) -> Result<(), AllocError> {
+    answer.extend_from_slice(b"groups:")?;
+    let mut between: &[u8] = b" ";
+    for group in groups {
+        answer.extend_from_slice(between)?;
+        group.append_to(answer)?;
+        between = b", ";
+    }
+    Ok(())
+}
+
 /// `groups:` and the groups, each behind a space and joined by commas, or `fault:`, a space and its name.
 pub fn append_field(alloc: Global, line: &str, answer: &mut Vec<u8>) -> Result<()> {
     let field = field_of(alloc, line)?;
     match parse_relations(alloc, &field.body, field.kind) {
-        Err(fault) => {
-            answer.extend_from_slice(b"fault: ")?;
-            answer.extend_from_slice(fault_name(fault))?;
-        }
-        Ok(relations) => {
-            answer.extend_from_slice(b"groups:")?;
-            let mut between: &[u8] = b" ";
-            for group in relations.groups() {
-                answer.extend_from_slice(between)?;
-                group.append_to(answer)?;
-                between = b", ";
-            }
-        }
+        Err(fault) => Ok(append_all(&[b"fault: ", fault_name(fault)], answer)?),
+        Ok(relations) => Ok(append_groups(relations.groups(), answer)?),
     }
-    Ok(())
 }

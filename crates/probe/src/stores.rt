@@ -18,7 +18,48 @@ fn append_first(alloc: Global, plan: &Plan, line: &mut Vec<u8>) -> Result<(), Al
     }
 }
 
-fn append_keys(alloc: Global, plan: &Plan, line: &mut Vec<u8>) -> Result<(), AllocError> {
+fn append_refusal(
+    alloc: Global,
+    word: &[u8],
+    why: Refusal,
+    line: &mut Vec<u8>,
+) -> Result<(), AllocError> {
+    line.extend_from_slice(word)?;
+    let told = format!(in alloc; " {} ", why.number())?;
+    line.extend_from_slice(told.as_bytes())
+}
+
+// Where an edit is foretold to be refused, why.
+fn append_foretold(
+    alloc: Global,
+    foretold: Option<Refusal>,
+    line: &mut Vec<u8>,
+) -> Result<(), AllocError> {
+    match foretold {
+        Some(why) => append_refusal(alloc, b"foretold", why, line),
+        None => Ok(()),
+    }
+}
+
+// What is foretold of an edit, and why it is refused.
+fn append_refused(
+    alloc: Global,
+    foretold: Option<Refusal>,
+    why: Refusal,
+    line: &mut Vec<u8>,
+) -> Result<(), AllocError> {
+    append_foretold(alloc, foretold, line)?;
+    append_refusal(alloc, b"refused", why, line)
+}
+
+// What is foretold of an edit, and the keys of its plan.
+fn append_keys(
+    alloc: Global,
+    foretold: Option<Refusal>,
+    plan: &Plan,
+    line: &mut Vec<u8>,
+) -> Result<(), AllocError> {
+    append_foretold(alloc, foretold, line)?;
     line.extend_from_slice(b"ok")?;
     for key in plan.removed() {
         line.push(b' ')?;
@@ -31,27 +72,17 @@ fn append_keys(alloc: Global, plan: &Plan, line: &mut Vec<u8>) -> Result<(), All
     append_first(alloc, plan, line)
 }
 
-fn append_refusal(
-    alloc: Global,
-    word: &[u8],
-    why: Refusal,
-    line: &mut Vec<u8>,
-) -> Result<(), AllocError> {
-    line.extend_from_slice(word)?;
-    let told = format!(in alloc; " {} ", why.number())?;
-    line.extend_from_slice(told.as_bytes())
-}
-
 // Carries out a plan of the store.
 fn append_accepted(
     alloc: Global,
     store: &mut Store,
+    foretold: Option<Refusal>,
     plan: Plan,
     line: &mut Vec<u8>,
 ) -> Result<(), AllocError>
     requires { IsReady store.old plan }
 {
-    append_keys(alloc, &plan, line)?;
+    append_keys(alloc, foretold, &plan, line)?;
     store.commit(plan);
     Ok(())
 }
@@ -60,25 +91,13 @@ fn append_accepted(
 fn append_outcome(
     alloc: Global,
     store: &mut Store,
+    foretold: Option<Refusal>,
     edit: Edit,
     line: &mut Vec<u8>,
 ) -> Result<(), AllocError> {
     match store.prepare(edit) {
-        Ok(plan) => append_accepted(alloc, store, plan, line),
-        Err((_, why)) => append_refusal(alloc, b"refused", why, line),
-    }
-}
-
-// Where an edit would be refused, what is foretold of it.
-fn append_foretold(
-    alloc: Global,
-    store: &Store,
-    edit: &Edit,
-    line: &mut Vec<u8>,
-) -> Result<(), AllocError> {
-    match store.check(edit) {
-        Ok(()) => Ok(()),
-        Err(why) => append_refusal(alloc, b"foretold", why, line),
+        Ok(plan) => append_accepted(alloc, store, foretold, plan, line),
+        Err((_, why)) => append_refused(alloc, foretold, why, line),
     }
 }
 
@@ -101,6 +120,43 @@ pub fn make(store: &mut Store, edit: Edit) -> Result<()> {
     }
 }
 
+// Begins with a new store.
+fn begin(
+    alloc: Global,
+    store: &mut Store,
+    words: &mut Words<'_>,
+    line: &mut Vec<u8>,
+) -> Result<()> {
+    let limits = words.limits()?;
+    *store = Store::with_limits(alloc, limits);
+    Ok(line.extend_from_slice(b"new")?)
+}
+
+fn append_edited(
+    alloc: Global,
+    store: &mut Store,
+    word: &str,
+    words: &mut Words<'_>,
+    line: &mut Vec<u8>,
+) -> Result<()> {
+    let edit = edit_named(alloc, word, words)?;
+    let foretold = store.check(&edit).err();
+    Ok(append_outcome(alloc, store, foretold, edit, line)?)
+}
+
+fn append_told(
+    alloc: Global,
+    store: &mut Store,
+    words: &mut Words<'_>,
+    line: &mut Vec<u8>,
+) -> Result<()> {
+    match words.word()? {
+        "limits" => begin(alloc, store, words, line),
+        "dump" => append_state(alloc, store, words, line),
+        word => append_edited(alloc, store, word, words, line),
+    }
+}
+
 /// Changes the store by a line, or shows what it holds.
 pub fn append_change(
     alloc: Global,
@@ -109,17 +165,5 @@ pub fn append_change(
     line: &mut Vec<u8>,
 ) -> Result<()> {
     let mut words = Words::new(alloc, text);
-    match words.word()? {
-        "limits" => {
-            *store = Store::with_limits(alloc, words.limits()?);
-            line.extend_from_slice(b"new")?;
-        }
-        "dump" => append_state(alloc, store, &mut words, line)?,
-        word => {
-            let edit = edit_named(alloc, word, &mut words)?;
-            append_foretold(alloc, store, &edit, line)?;
-            append_outcome(alloc, store, edit, line)?;
-        }
-    }
-    Ok(())
+    append_told(alloc, store, &mut words, line)
 }

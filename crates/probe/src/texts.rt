@@ -2,7 +2,9 @@
 
 use crate::parts::{append_record, append_stanza};
 use anyhow::{Context, Result};
-use ctl_stanza::{ListKind, TextFault, lines_take_bytes, read_records, read_stanzas};
+use ctl_stanza::{
+    ListKind, Record, Stanza, TextFault, lines_take_bytes, read_records, read_stanzas,
+};
 use std::alloc::{AllocError, Global};
 
 /// What a text is.
@@ -34,6 +36,20 @@ fn append_fault(alloc: Global, fault: TextFault, line: &mut Vec<u8>) -> Result<(
     line.extend_from_slice(told.as_bytes())
 }
 
+fn append_stanzas(alloc: Global, stanzas: &[Stanza], line: &mut Vec<u8>) -> Result<(), AllocError> {
+    for stanza in stanzas {
+        append_stanza(alloc, stanza, line)?;
+    }
+    Ok(())
+}
+
+fn append_records(alloc: Global, records: &[Record], line: &mut Vec<u8>) -> Result<(), AllocError> {
+    for record in records {
+        append_record(alloc, record, line)?;
+    }
+    Ok(())
+}
+
 // What a text is read to.
 fn append_read(
     alloc: Global,
@@ -44,22 +60,12 @@ fn append_read(
     lines_take_bytes();
     match kind {
         TextKind::List(kind) => match read_stanzas(alloc, text, 1, kind) {
+            Ok(stanzas) => append_stanzas(alloc, &stanzas, line),
             Err(fault) => append_fault(alloc, fault, line),
-            Ok(stanzas) => {
-                for stanza in &stanzas {
-                    append_stanza(alloc, stanza, line)?;
-                }
-                Ok(())
-            }
         },
         TextKind::Records => match read_records(alloc, text, 1) {
+            Ok(records) => append_records(alloc, &records, line),
             Err(fault) => append_fault(alloc, fault, line),
-            Ok(records) => {
-                for record in &records {
-                    append_record(alloc, record, line)?;
-                }
-                Ok(())
-            }
         },
     }
 }

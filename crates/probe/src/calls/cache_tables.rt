@@ -2,6 +2,7 @@
 
 ghost use Rattle.std.specs.Prelude.{◌≡◌, false};
 
+use crate::joined::{append_all, append_number};
 use ctl_index::{AtomKey, Cache, ClauseKey, Namers};
 use ctl_relation::{Offer, Version};
 use ctl_store::StanzaKey;
@@ -9,11 +10,9 @@ use std::alloc::{AllocError, Global};
 
 /// A clause: its stanza's key, its field, and the place of its group.
 fn append_clause(alloc: Global, key: ClauseKey, all: &mut Vec<u8>) -> Result<(), AllocError> {
-    let told = format!(in alloc; "{}.{} ", key.stanza.list, key.stanza.stanza)?;
-    all.extend_from_slice(told.as_bytes())?;
-    all.extend_from_slice(key.field.printed_name())?;
-    let told = format!(in alloc; " {}", key.group)?;
-    all.extend_from_slice(told.as_bytes())
+    let stanza = format!(in alloc; "{}.{} ", key.stanza.list, key.stanza.stanza)?;
+    append_all(&[stanza.as_bytes(), key.field.printed_name()], all)?;
+    append_number(alloc, b" ", key.group as u128, all)
 }
 
 /// An atom: its clause, and its place in the group.
@@ -24,8 +23,12 @@ fn append_atom(alloc: Global, key: AtomKey, all: &mut Vec<u8>) -> Result<(), All
         group: key.group,
     };
     append_clause(alloc, clause, all)?;
-    let told = format!(in alloc; " {}", key.atom)?;
-    all.extend_from_slice(told.as_bytes())
+    append_number(alloc, b" ", key.atom as u128, all)
+}
+
+fn append_spaced(name: &[u8], all: &mut Vec<u8>) -> Result<(), AllocError> {
+    all.push(b' ')?;
+    all.extend_from_slice(name)
 }
 
 /// The names that are known, each behind a space.
@@ -33,8 +36,7 @@ pub fn append_names(cache: &Cache, all: &mut Vec<u8>) -> Result<(), AllocError>
     requires { cache.now.stale ≡ false }
 {
     for name in cache.names() {
-        all.push(b' ')?;
-        all.extend_from_slice(name)?;
+        append_spaced(name, all)?;
     }
     Ok(())
 }
@@ -44,8 +46,7 @@ pub fn append_packages(cache: &Cache, prefix: &[u8], all: &mut Vec<u8>) -> Resul
     requires { cache.now.stale ≡ false }
 {
     for name in cache.package_names(prefix)? {
-        all.push(b' ')?;
-        all.extend_from_slice(name)?;
+        append_spaced(name, all)?;
     }
     Ok(())
 }
@@ -60,11 +61,12 @@ fn version_words(version: Option<&Version>) -> &[u8] {
 /// An offer: its stanza's key, its name, and its version or `-`.
 fn offer_words(alloc: Global, key: StanzaKey, offer: &Offer) -> Result<Vec<u8>, AllocError> {
     let mut words = Vec::new(alloc);
-    let told = format!(in alloc; "{}.{} ", key.list, key.stanza)?;
-    words.extend_from_slice(told.as_bytes())?;
-    words.extend_from_slice(offer.name())?;
-    words.push(b' ')?;
-    words.extend_from_slice(version_words(offer.version()))?;
+    let stanza = format!(in alloc; "{}.{} ", key.list, key.stanza)?;
+    let version = version_words(offer.version());
+    append_all(
+        &[stanza.as_bytes(), offer.name(), b" ", version],
+        &mut words,
+    )?;
     Ok(words)
 }
 
@@ -91,8 +93,7 @@ pub fn append_offers(
     let mut offers = offers_of(alloc, cache, name)?;
     offers.sort_unstable();
     for words in &offers {
-        all.extend_from_slice(words)?;
-        all.push(b';')?;
+        append_all(&[words, b";"], all)?;
     }
     Ok(())
 }
@@ -173,8 +174,7 @@ fn append_by_name(
 ) -> Result<(), AllocError>
     requires { cache.now.stale ≡ false }
 {
-    all.extend_from_slice(name)?;
-    all.push(b':')?;
+    append_all(&[name, b":"], all)?;
     append_offers(alloc, cache, name, all)?;
     append_namers(alloc, cache, name, all)?;
     all.push(b'\n')?;

@@ -79,16 +79,15 @@ fn append_view_of(
     requires { cache.now.stale ≡ false }
 {
     match view {
-        "packages" => append_packages(cache, name, said)?,
-        "offers" => append_offers(alloc, cache, name, said)?,
-        "namers" => append_namers(alloc, cache, name, said)?,
-        "rows" => append_rows(alloc, cache, name, said)?,
-        "name" => append_name_view(alloc, cache, name, said)?,
-        "chosen" => append_chosen(alloc, cache, name, said)?,
-        "known" => append_known(cache, name, said)?,
+        "packages" => Ok(append_packages(cache, name, said)?),
+        "offers" => Ok(append_offers(alloc, cache, name, said)?),
+        "namers" => Ok(append_namers(alloc, cache, name, said)?),
+        "rows" => Ok(append_rows(alloc, cache, name, said)?),
+        "name" => Ok(append_name_view(alloc, cache, name, said)?),
+        "chosen" => Ok(append_chosen(alloc, cache, name, said)?),
+        "known" => Ok(append_known(cache, name, said)?),
         _ => bail!("a view of caches that is not known"),
     }
-    Ok(())
 }
 
 fn append_named_view(
@@ -125,6 +124,36 @@ fn append_row(alloc: Global, cache: &Cache, words: &mut Words<'_>, said: &mut Ve
     Ok(append_row_of(alloc, cache, name.as_slice(), &version, said)?)
 }
 
+fn append_number_of_clause(
+    alloc: Global,
+    cache: &Cache,
+    words: &mut Words<'_>,
+    said: &mut Vec<u8>,
+) -> Result<()>
+    requires { cache.now.stale ≡ false }
+{
+    let clause = clause_key(words)?;
+    Ok(append_satisfiers(alloc, cache, clause, said)?)
+}
+
+// What is asked of a cache with a word behind.
+fn append_asked(
+    alloc: Global,
+    cache: &Cache,
+    view: &str,
+    words: &mut Words<'_>,
+    said: &mut Vec<u8>,
+) -> Result<()>
+    requires { cache.now.stale ≡ false }
+{
+    match view {
+        "satisfiers" => append_number_of_clause(alloc, cache, words, said),
+        "lead" => append_lead(alloc, cache, words, said),
+        "row" => append_row(alloc, cache, words, said),
+        _ => append_named_view(alloc, cache, view, words, said),
+    }
+}
+
 // Something of what a cache tells.
 fn append_view(
     alloc: Global,
@@ -135,21 +164,30 @@ fn append_view(
     requires { cache.now.stale ≡ false }
 {
     match words.word()? {
-        "names" => append_names(cache, said)?,
-        "counters" => append_counters(alloc, cache, said)?,
-        "unmet" => append_unmet(alloc, cache, said)?,
-        "tables" => append_tables(alloc, cache, said)?,
-        "all-rows" => append_all_rows(alloc, cache, said)?,
-        "candidates" => append_candidates(alloc, cache, said)?,
-        "names-with-rows" => append_names_with_rows(cache, said)?,
-        "steps" => append_steps(alloc, cache, said)?,
-        "numbers" => append_numbers(alloc, cache.store(), said)?,
-        "satisfiers" => append_satisfiers(alloc, cache, clause_key(words)?, said)?,
-        "lead" => append_lead(alloc, cache, words, said)?,
-        "row" => append_row(alloc, cache, words, said)?,
-        view => append_named_view(alloc, cache, view, words, said)?,
+        "names" => Ok(append_names(cache, said)?),
+        "counters" => Ok(append_counters(alloc, cache, said)?),
+        "unmet" => Ok(append_unmet(alloc, cache, said)?),
+        "tables" => Ok(append_tables(alloc, cache, said)?),
+        "all-rows" => Ok(append_all_rows(alloc, cache, said)?),
+        "candidates" => Ok(append_candidates(alloc, cache, said)?),
+        "names-with-rows" => Ok(append_names_with_rows(cache, said)?),
+        "steps" => Ok(append_steps(alloc, cache, said)?),
+        "numbers" => Ok(append_numbers(alloc, cache.store(), said)?),
+        view => append_asked(alloc, cache, view, words, said),
     }
-    Ok(())
+}
+
+fn append_edited(
+    alloc: Global,
+    cache: &mut Cache,
+    word: &str,
+    words: &mut Words<'_>,
+    said: &mut Vec<u8>,
+) -> Result<()>
+    requires { cache.old.stale ≡ false }
+{
+    let edit = edit_named(alloc, word, words)?;
+    Ok(append_made(alloc, cache, edit, said)?)
 }
 
 fn append_fresh(
@@ -163,10 +201,26 @@ fn append_fresh(
         bail!("a stale cache");
     }
     match word {
-        "show" => append_view(alloc, cache, words, said)?,
-        _ => append_made(alloc, cache, edit_named(alloc, word, words)?, said)?,
+        "show" => append_view(alloc, cache, words, said),
+        _ => append_edited(alloc, cache, word, words, said),
     }
-    Ok(())
+}
+
+// Begins with a new cache.
+fn begin(alloc: Global, cache: &mut Cache, said: &mut Vec<u8>) -> Result<(), AllocError> {
+    *cache = Cache::new(alloc);
+    append_numbers(alloc, cache.store(), said)
+}
+
+fn begin_limited(
+    alloc: Global,
+    cache: &mut Cache,
+    words: &mut Words<'_>,
+    said: &mut Vec<u8>,
+) -> Result<()> {
+    let limits = words.limits()?;
+    *cache = Cache::with_limits(alloc, limits);
+    Ok(append_numbers(alloc, cache.store(), said)?)
 }
 
 /// What a call gives that is asked for by words:
@@ -184,18 +238,11 @@ pub fn append_call(
     said: &mut Vec<u8>,
 ) -> Result<()> {
     match words.word()? {
-        "new" => {
-            *cache = Cache::new(alloc);
-            append_numbers(alloc, cache.store(), said)?;
-        }
-        "limits" => {
-            *cache = Cache::with_limits(alloc, words.limits()?);
-            append_numbers(alloc, cache.store(), said)?;
-        }
-        "recover" => append_recovered(alloc, cache, said)?,
-        "clause-sign" => said.extend_from_slice(clause_sign(words)?)?,
-        "atom-sign" => said.extend_from_slice(atom_sign(words)?)?,
-        word => append_fresh(alloc, cache, word, words, said)?,
+        "new" => Ok(begin(alloc, cache, said)?),
+        "limits" => begin_limited(alloc, cache, words, said),
+        "recover" => Ok(append_recovered(alloc, cache, said)?),
+        "clause-sign" => Ok(said.extend_from_slice(clause_sign(words)?)?),
+        "atom-sign" => Ok(said.extend_from_slice(atom_sign(words)?)?),
+        word => append_fresh(alloc, cache, word, words, said),
     }
-    Ok(())
 }

@@ -2,6 +2,7 @@
 
 use crate::calls::names::offer_of;
 use crate::calls::versions::sign_of;
+use crate::joined::append_all;
 use crate::relations::{fault_name, kind_named};
 use crate::words::Words;
 use anyhow::{Context, Result, bail};
@@ -29,11 +30,14 @@ fn append_read(
 ) -> Result<(), AllocError> {
     match parse_relations(alloc, body, kind) {
         Ok(relations) => append_printed(relations.groups(), said),
-        Err(fault) => {
-            said.extend_from_slice(b"fault ")?;
-            said.extend_from_slice(fault_name(fault))
-        }
+        Err(fault) => { append_all(&[b"fault ", fault_name(fault)], said) }
     }
+}
+
+fn append_read_of(alloc: Global, words: &mut Words<'_>, said: &mut Vec<u8>) -> Result<()> {
+    let kind = words.field_kind()?;
+    let body = words.bytes()?;
+    Ok(append_read(alloc, kind, body.as_slice(), said)?)
 }
 
 // The only atom of a field with one.
@@ -47,10 +51,7 @@ fn lone_atom<'a>(relations: &'a Relations<'_>) -> Option<Atom<'a>> {
 }
 
 fn append_word(word: &[u8], said: &mut Vec<u8>) -> Result<(), AllocError> {
-    said.push(b'[')?;
-    said.extend_from_slice(word)?;
-    said.push(b']')?;
-    Ok(())
+    append_all(&[b"[", word, b"]"], said)
 }
 
 // The name, the qualifier, the operator and the version of an atom, each in brackets.
@@ -77,8 +78,7 @@ fn append_printed_behind(
     atom: &Atom<'_>,
     said: &mut Vec<u8>,
 ) -> Result<(), AllocError> {
-    said.extend_from_slice(kind.printed_name())?;
-    said.extend_from_slice(b": ")?;
+    append_all(&[kind.printed_name(), b": "], said)?;
     atom.append_to(said)
 }
 
@@ -147,10 +147,10 @@ fn append_names(groups: Groups<'_>, said: &mut Vec<u8>) -> Result<(), AllocError
 // How many groups there are by each call, and the names of their atoms.
 fn append_groups(alloc: Global, groups: Groups<'_>, said: &mut Vec<u8>) -> Result<(), AllocError> {
     let (least, most) = groups.size_hint();
-    let told = format!(in alloc; "{} groups, ", groups.len())?;
-    said.extend_from_slice(told.as_bytes())?;
-    said.extend_from_slice(if groups.is_empty() { b"none" } else { b"some" })?;
-    let told = format!(in alloc; ", from {least} to {}", most.unwrap_or(0))?;
+    let count = groups.len();
+    let are_there = if groups.is_empty() { "none" } else { "some" };
+    let most = most.unwrap_or(0);
+    let told = format!(in alloc; "{count} groups, {are_there}, from {least} to {most}")?;
     said.extend_from_slice(told.as_bytes())?;
     append_names(groups, said)
 }
@@ -238,10 +238,7 @@ fn append_places(alloc: Global, words: &mut Words<'_>, said: &mut Vec<u8>) -> Re
 // Fields, with the key and the printed name of each, on a line.
 fn append_fields(fields: &[FieldKind], said: &mut Vec<u8>) -> Result<(), AllocError> {
     for field in fields {
-        said.extend_from_slice(field.key())?;
-        said.push(b' ')?;
-        said.extend_from_slice(field.printed_name())?;
-        said.push(b'\n')?;
+        append_all(&[field.key(), b" ", field.printed_name(), b"\n"], said)?;
     }
     Ok(())
 }
@@ -280,6 +277,15 @@ fn append_operators(said: &mut Vec<u8>) -> Result<(), AllocError> {
     Ok(())
 }
 
+// Fields by the name of their group.
+fn append_fields_named(what: &str, said: &mut Vec<u8>) -> Result<(), AllocError> {
+    match what {
+        "nine" => append_fields(FieldKind::nine(), said),
+        "eight" => append_fields(FieldKind::eight(), said),
+        _ => append_fields(FieldKind::four(), said),
+    }
+}
+
 /// What a call gives that is asked for by words:
 ///
 /// - `read`, a field and its body: its groups, or its fault;
@@ -293,19 +299,16 @@ fn append_operators(said: &mut Vec<u8>) -> Result<(), AllocError> {
 /// - `none`: how many groups none are; `operators`: the texts of all.
 pub fn append_call(alloc: Global, words: &mut Words<'_>, said: &mut Vec<u8>) -> Result<()> {
     match words.word()? {
-        "read" => append_read(alloc, words.field_kind()?, words.bytes()?.as_slice(), said)?,
-        "met" => append_met(alloc, words, said)?,
-        "places" => append_places(alloc, words, said)?,
-        "nine" => append_fields(FieldKind::nine(), said)?,
-        "eight" => append_fields(FieldKind::eight(), said)?,
-        "four" => append_fields(FieldKind::four(), said)?,
-        "signs" => append_signs(said)?,
-        "none" => append_groups(alloc, Groups::empty(), said)?,
-        "operators" => append_operators(said)?,
-        what @ ("parts" | "printed" | "made") => append_atom(alloc, what, words, said)?,
-        what @ ("groups" | "numbered") => append_field(alloc, what, words, said)?,
-        "named" => append_having(alloc, words, said)?,
+        "read" => append_read_of(alloc, words, said),
+        "met" => append_met(alloc, words, said),
+        "places" => append_places(alloc, words, said),
+        what @ ("nine" | "eight" | "four") => Ok(append_fields_named(what, said)?),
+        "signs" => Ok(append_signs(said)?),
+        "none" => Ok(append_groups(alloc, Groups::empty(), said)?),
+        "operators" => Ok(append_operators(said)?),
+        what @ ("parts" | "printed" | "made") => append_atom(alloc, what, words, said),
+        what @ ("groups" | "numbered") => append_field(alloc, what, words, said),
+        "named" => append_having(alloc, words, said),
         _ => bail!("a call of fields that is not known"),
     }
-    Ok(())
 }

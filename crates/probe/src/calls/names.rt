@@ -57,6 +57,26 @@ pub fn offer_of(alloc: Global, words: &mut Words<'_>) -> Result<Offer> {
     Ok(Offer::new(alloc, name.as_slice(), version)?)
 }
 
+fn append_is_name_of(words: &mut Words<'_>, said: &mut Vec<u8>) -> Result<()> {
+    let text = words.bytes()?;
+    Ok(append_is_name(text.as_slice(), said)?)
+}
+
+fn append_kept_of(alloc: Global, words: &mut Words<'_>, said: &mut Vec<u8>) -> Result<()> {
+    let text = words.bytes()?;
+    Ok(append_kept(alloc, text.as_slice(), said)?)
+}
+
+fn append_signs_of(words: &mut Words<'_>, said: &mut Vec<u8>) -> Result<()> {
+    let texts = words.all_bytes()?;
+    Ok(append_signs(&texts, said)?)
+}
+
+fn append_offer(alloc: Global, words: &mut Words<'_>, said: &mut Vec<u8>) -> Result<()> {
+    let offer = offer_of(alloc, words)?;
+    Ok(append_parts(&offer, said)?)
+}
+
 /// What a call gives that is asked for by words:
 ///
 /// - `is-name`, a text: whether it is a name;
@@ -65,11 +85,10 @@ pub fn offer_of(alloc: Global, words: &mut Words<'_>) -> Result<Offer> {
 /// - `offer`, a name, and a version or `-`: the parts of the offer.
 pub fn append_call(alloc: Global, words: &mut Words<'_>, said: &mut Vec<u8>) -> Result<()> {
     match words.word()? {
-        "is-name" => append_is_name(words.bytes()?.as_slice(), said)?,
-        "keep" => append_kept(alloc, words.bytes()?.as_slice(), said)?,
-        "signs" => append_signs(&words.all_bytes()?, said)?,
-        "offer" => append_parts(&offer_of(alloc, words)?, said)?,
+        "is-name" => append_is_name_of(words, said),
+        "keep" => append_kept_of(alloc, words, said),
+        "signs" => append_signs_of(words, said),
+        "offer" => append_offer(alloc, words, said),
         _ => bail!("a call of names that is not known"),
     }
-    Ok(())
 }

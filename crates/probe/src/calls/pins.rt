@@ -1,9 +1,9 @@
 //! What pins are made of: their versions, their priorities, preferences, and settings in order.
 
 use crate::calls::texts::append_fault;
-use crate::edits::{selector, settings};
+use crate::edits::{pin_version, selector, setting, settings};
 use crate::words::Words;
-use anyhow::{Context, Result, bail};
+use anyhow::{Result, bail};
 use ctl_stanza::lines_take_bytes;
 use ctl_store::{PinSetting, PinSettings, PinVersion, Selector, read_prefs, read_priority};
 use std::alloc::{AllocError, Global};
@@ -16,9 +16,14 @@ fn append_version(alloc: Global, text: &[u8], said: &mut Vec<u8>) -> Result<(), 
     }
 }
 
+fn append_version_of(alloc: Global, words: &mut Words<'_>, said: &mut Vec<u8>) -> Result<()> {
+    let text = words.bytes()?;
+    Ok(append_version(alloc, text.as_slice(), said)?)
+}
+
 // Whether a version of pins matches a version.
 fn append_matches(alloc: Global, words: &mut Words<'_>, said: &mut Vec<u8>) -> Result<()> {
-    let pin = PinVersion::read(alloc, words.bytes()?.as_slice())?.context("no version of pins")?;
+    let pin = pin_version(alloc, words)?;
     let version = words.version()?;
     said.extend_from_slice(if pin.matches(&version) {
         b"matches"
@@ -41,6 +46,11 @@ pub fn append_priority(
         }
         None => said.extend_from_slice(b"none"),
     }
+}
+
+fn append_priority_of(alloc: Global, words: &mut Words<'_>, said: &mut Vec<u8>) -> Result<()> {
+    let text = words.bytes()?;
+    Ok(append_priority(alloc, read_priority(text.as_slice()), said)?)
 }
 
 fn append_selector(selector: &Selector, said: &mut Vec<u8>) -> Result<(), AllocError> {
@@ -84,6 +94,12 @@ fn append_settings(
     Ok(())
 }
 
+// Settings that are set in turn.
+fn append_set(alloc: Global, words: &mut Words<'_>, said: &mut Vec<u8>) -> Result<()> {
+    let settings = settings(alloc, words)?;
+    Ok(append_settings(alloc, &settings, said)?)
+}
+
 // The settings of preferences, a line for each, or their fault.
 fn append_prefs(alloc: Global, words: &mut Words<'_>, said: &mut Vec<u8>) -> Result<()> {
     let first_line = words.number()? as u64;
@@ -112,13 +128,18 @@ fn append_compared(
 }
 
 // A copy of a setting, compared with the setting.
-fn append_copy(alloc: Global, words: &mut Words<'_>, said: &mut Vec<u8>) -> Result<()> {
-    let selector = selector(alloc, words.word()?, words)?;
-    let priority = words.priority()?;
-    let setting = PinSetting { selector, priority };
+fn append_copied(
+    alloc: Global,
+    setting: &PinSetting,
+    said: &mut Vec<u8>,
+) -> Result<(), AllocError> {
     let copy = setting.try_clone(alloc)?;
-    append_compared(alloc, &copy, &setting, said)?;
-    Ok(())
+    append_compared(alloc, &copy, setting, said)
+}
+
+fn append_copy(alloc: Global, words: &mut Words<'_>, said: &mut Vec<u8>) -> Result<()> {
+    let setting = setting(alloc, words)?;
+    Ok(append_copied(alloc, &setting, said)?)
 }
 
 // The priority that settings have for a selector.
@@ -141,14 +162,13 @@ fn append_found(alloc: Global, words: &mut Words<'_>, said: &mut Vec<u8>) -> Res
 /// - `copy`, a selector and a priority: a copy of the setting, and whether it is equal to it.
 pub fn append_call(alloc: Global, words: &mut Words<'_>, said: &mut Vec<u8>) -> Result<()> {
     match words.word()? {
-        "version" => append_version(alloc, words.bytes()?.as_slice(), said)?,
-        "matches" => append_matches(alloc, words, said)?,
-        "priority" => append_priority(alloc, read_priority(words.bytes()?.as_slice()), said)?,
-        "prefs" => append_prefs(alloc, words, said)?,
-        "settings" => append_settings(alloc, &settings(alloc, words)?, said)?,
-        "get" => append_found(alloc, words, said)?,
-        "copy" => append_copy(alloc, words, said)?,
+        "version" => append_version_of(alloc, words, said),
+        "matches" => append_matches(alloc, words, said),
+        "priority" => append_priority_of(alloc, words, said),
+        "prefs" => append_prefs(alloc, words, said),
+        "settings" => append_set(alloc, words, said),
+        "get" => append_found(alloc, words, said),
+        "copy" => append_copy(alloc, words, said),
         _ => bail!("a call of pins that is not known"),
     }
-    Ok(())
 }

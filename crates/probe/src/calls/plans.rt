@@ -2,6 +2,7 @@
 
 ghost use Rattle.ctl_store.specs.Held.{IsReady};
 
+use crate::joined::append_all;
 use crate::state::append_key;
 use anyhow::{Result, bail};
 use ctl_policy::touched_names;
@@ -54,21 +55,8 @@ fn append_refused(why: Refusal, said: &mut Vec<u8>) -> Result<(), AllocError> {
     said.extend_from_slice(why.text().as_bytes())
 }
 
-/// Plans an edit: its name, its keys, and its first stanza.
-pub fn append_planned(
-    alloc: Global,
-    store: &mut Store,
-    edit: Edit,
-    said: &mut Vec<u8>,
-) -> Result<(), AllocError> {
-    match store.prepare(edit) {
-        Ok(plan) => append_plan(alloc, &plan, said),
-        Err((_, why)) => append_refused(why, said),
-    }
-}
-
 // The stanza that a plan has under a key, if there is one.
-fn append_come(plan: &Plan, key: StanzaKey, said: &mut Vec<u8>) -> Result<(), AllocError> {
+fn append_come(plan: Plan, key: StanzaKey, said: &mut Vec<u8>) -> Result<(), AllocError> {
     match plan.find(key) {
         Some(stanza) => said.extend_from_slice(stanza.text()),
         None => said.extend_from_slice(b"none\n"),
@@ -83,7 +71,7 @@ pub fn append_plan_finds(
     said: &mut Vec<u8>,
 ) -> Result<(), AllocError> {
     match store.prepare(edit) {
-        Ok(plan) => append_come(&plan, key, said),
+        Ok(plan) => append_come(plan, key, said),
         Err((_, why)) => append_refused(why, said),
     }
 }
@@ -98,23 +86,9 @@ fn append_names(
 {
     let names = touched_names(alloc, store, plan)?;
     for name in &names {
-        said.push(b' ')?;
-        said.extend_from_slice(name.as_slice())?;
+        append_all(&[b" ", name.as_slice()], said)?;
     }
     Ok(())
-}
-
-/// Plans an edit: the names that it touches, each behind a space.
-pub fn append_touched(
-    alloc: Global,
-    store: &mut Store,
-    edit: Edit,
-    said: &mut Vec<u8>,
-) -> Result<(), AllocError> {
-    match store.prepare(edit) {
-        Ok(plan) => append_names(alloc, store, &plan, said),
-        Err((_, why)) => append_refused(why, said),
-    }
 }
 
 fn append_committed(
@@ -127,15 +101,34 @@ fn append_committed(
     append_keys(alloc, b'+', &keys.added, said)
 }
 
-/// Makes an edit: the keys that are handed back.
-pub fn append_made(
+// What is asked of a plan of the store; else it is carried out.
+fn append_of_plan(
     alloc: Global,
     store: &mut Store,
+    what: &str,
+    plan: Plan,
+    said: &mut Vec<u8>,
+) -> Result<(), AllocError>
+    requires { IsReady store.old plan }
+{
+    match what {
+        "plan" => append_plan(alloc, &plan, said),
+        "touched" => append_names(alloc, store, &plan, said),
+        _ => append_committed(alloc, &store.commit_with_keys(plan), said),
+    }
+}
+
+/// Of an edit what is asked: `plan`, its name, its keys and its first stanza; `touched`, the names that it touches, each behind a
+/// space; else it is made, and the keys are those that are handed back.
+pub fn append_of_edit(
+    alloc: Global,
+    store: &mut Store,
+    what: &str,
     edit: Edit,
     said: &mut Vec<u8>,
 ) -> Result<(), AllocError> {
     match store.prepare(edit) {
-        Ok(plan) => append_committed(alloc, &store.commit_with_keys(plan), said),
+        Ok(plan) => append_of_plan(alloc, store, what, plan, said),
         Err((_, why)) => append_refused(why, said),
     }
 }
@@ -144,19 +137,13 @@ pub fn append_made(
 fn append_foretold(store: &Store, edit: &Edit, said: &mut Vec<u8>) -> Result<(), AllocError> {
     match store.check(edit) {
         Ok(()) => said.extend_from_slice(b"foretold nothing"),
-        Err(why) => {
-            said.extend_from_slice(b"foretold ")?;
-            said.extend_from_slice(why.text().as_bytes())
-        }
+        Err(why) => { append_all(&[b"foretold ", why.text().as_bytes()], said) }
     }
 }
 
 // The edit that comes back, and why.
 fn handed_back(store: &mut Store, edit: Edit) -> Option<(Edit, Refusal)> {
-    match store.prepare(edit) {
-        Ok(_) => None,
-        Err(refused) => Some(refused),
-    }
+    store.prepare(edit).err()
 }
 
 // Of an edit that takes a stanza out or a list, its parts.
@@ -168,17 +155,17 @@ fn append_edit(edit: &Edit, said: &mut Vec<u8>) -> Result<(), AllocError> {
             package,
             version,
         } => {
-            said.push(b' ')?;
-            said.extend_from_slice(list.as_slice())?;
-            said.push(b' ')?;
-            said.extend_from_slice(package.as_slice())?;
-            said.push(b' ')?;
-            said.extend_from_slice(version.text())
+            let words: [&[u8]; 6] = [
+                b" ",
+                list.as_slice(),
+                b" ",
+                package.as_slice(),
+                b" ",
+                version.text(),
+            ];
+            append_all(&words, said)
         }
-        Edit::DropList { name } => {
-            said.push(b' ')?;
-            said.extend_from_slice(name.as_slice())
-        }
+        Edit::DropList { name } => append_all(&[b" ", name.as_slice()], said),
         _ => Ok(()),
     }
 }
@@ -200,8 +187,8 @@ pub fn append_late(
     said.extend_from_slice(b", back: ")?;
     append_edit(&back, said)?;
     said.extend_from_slice(b", ")?;
-    append_made(alloc, store, other, said)?;
+    append_of_edit(alloc, store, "make", other, said)?;
     said.extend_from_slice(b", ")?;
-    append_made(alloc, store, back, said)?;
+    append_of_edit(alloc, store, "make", back, said)?;
     Ok(())
 }

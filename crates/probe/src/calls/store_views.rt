@@ -2,6 +2,7 @@
 
 use crate::calls::keys::stanza_key;
 use crate::calls::pins::{append_priority, append_setting};
+use crate::joined::append_all;
 use crate::state::append_key;
 use crate::words::Words;
 use anyhow::{Result, bail};
@@ -24,11 +25,7 @@ pub fn append_numbers(alloc: Global, store: &Store, said: &mut Vec<u8>) -> Resul
 // The list and the text of the stanza of a key, if there is one.
 fn append_found(store: &Store, key: StanzaKey, said: &mut Vec<u8>) -> Result<(), AllocError> {
     match store.find(key) {
-        Some(stanza) => {
-            said.extend_from_slice(store.list_of(key))?;
-            said.push(b' ')?;
-            said.extend_from_slice(stanza.text())
-        }
+        Some(stanza) => append_all(&[store.list_of(key), b" ", stanza.text()], said),
         None => said.extend_from_slice(b"none\n"),
     }
 }
@@ -88,17 +85,18 @@ fn class_words(class: ListClass) -> &'static [u8] {
 
 // The kind of a list, and its kind and its class, by the two calls.
 fn append_list(store: &Store, name: &[u8], said: &mut Vec<u8>) -> Result<(), AllocError> {
-    said.extend_from_slice(match store.kind(name) {
+    let kind_alone: &[u8] = match store.kind(name) {
         Some(kind) => kind_words(kind),
         None => b"no list",
-    })?;
-    said.extend_from_slice(b", ")?;
+    };
     match store.list(name) {
         Some((kind, class)) => {
-            said.extend_from_slice(kind_words(kind))?;
-            said.extend_from_slice(class_words(class))
+            append_all(
+                &[kind_alone, b", ", kind_words(kind), class_words(class)],
+                said,
+            )
         }
-        None => said.extend_from_slice(b"no list"),
+        None => append_all(&[kind_alone, b", no list"], said),
     }
 }
 
@@ -106,10 +104,7 @@ fn append_list(store: &Store, name: &[u8], said: &mut Vec<u8>) -> Result<(), All
 fn append_lists(store: &Store, said: &mut Vec<u8>) -> Result<(), AllocError> {
     for (name, kind, class) in store.lists() {
         said.extend_from_slice(name)?;
-        said.push(b' ')?;
-        said.extend_from_slice(kind_words(kind))?;
-        said.extend_from_slice(class_words(class))?;
-        said.push(b';')?;
+        append_all(&[b" ", kind_words(kind), class_words(class), b";"], said)?;
     }
     Ok(())
 }
@@ -161,8 +156,7 @@ fn append_serial(alloc: Global, serial: Option<u32>, said: &mut Vec<u8>) -> Resu
 fn append_packages(alloc: Global, store: &Store, said: &mut Vec<u8>) -> Result<(), AllocError> {
     let names = packages_of_store(alloc, store)?;
     for name in &names {
-        said.push(b' ')?;
-        said.extend_from_slice(name.as_slice())?;
+        append_all(&[b" ", name.as_slice()], said)?;
     }
     Ok(())
 }
@@ -176,15 +170,14 @@ fn append_view_of(
     said: &mut Vec<u8>,
 ) -> Result<()> {
     match view {
-        "keys-of" => append_keys_of(alloc, store, name, said)?,
-        "list" => append_list(store, name, said)?,
-        "serial" => append_serial(alloc, store.serial(name), said)?,
-        "mark" => said.extend_from_slice(mark_words(store, name))?,
-        "pins-of" => append_pins_of(alloc, store, name, said)?,
-        "general-pin" => append_priority(alloc, store.general_pin(name), said)?,
+        "keys-of" => Ok(append_keys_of(alloc, store, name, said)?),
+        "list" => Ok(append_list(store, name, said)?),
+        "serial" => Ok(append_serial(alloc, store.serial(name), said)?),
+        "mark" => Ok(said.extend_from_slice(mark_words(store, name))?),
+        "pins-of" => Ok(append_pins_of(alloc, store, name, said)?),
+        "general-pin" => Ok(append_priority(alloc, store.general_pin(name), said)?),
         _ => bail!("a view of stores that is not known"),
     }
-    Ok(())
 }
 
 fn append_named_view(
@@ -214,16 +207,15 @@ pub fn append_view(
     said: &mut Vec<u8>,
 ) -> Result<()> {
     match words.word()? {
-        "numbers" => append_numbers(alloc, store, said)?,
-        "keys" => append_keys(alloc, store, said)?,
-        "entries" => append_entries(alloc, store, said)?,
-        "packages" => append_packages(alloc, store, said)?,
-        "find" => append_found(store, stanza_key(words)?, said)?,
-        "lists" => append_lists(store, said)?,
-        "target" => said.extend_from_slice(store.target().unwrap_or(b"none"))?,
-        "pins" => append_pins(alloc, store, said)?,
-        "first-pin" => append_first_pin(alloc, store, said)?,
-        view => append_named_view(alloc, store, view, words, said)?,
+        "numbers" => Ok(append_numbers(alloc, store, said)?),
+        "keys" => Ok(append_keys(alloc, store, said)?),
+        "entries" => Ok(append_entries(alloc, store, said)?),
+        "packages" => Ok(append_packages(alloc, store, said)?),
+        "find" => Ok(append_found(store, stanza_key(words)?, said)?),
+        "lists" => Ok(append_lists(store, said)?),
+        "target" => Ok(said.extend_from_slice(store.target().unwrap_or(b"none"))?),
+        "pins" => Ok(append_pins(alloc, store, said)?),
+        "first-pin" => Ok(append_first_pin(alloc, store, said)?),
+        view => append_named_view(alloc, store, view, words, said),
     }
-    Ok(())
 }

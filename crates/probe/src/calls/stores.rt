@@ -1,9 +1,7 @@
 //! Calls of a store.
 
 use crate::calls::keys::{stanza_key, stanza_sign};
-use crate::calls::plans::{
-    append_late, append_made, append_plan_finds, append_planned, append_touched,
-};
+use crate::calls::plans::{append_late, append_of_edit, append_plan_finds};
 use crate::calls::store_views::{append_numbers, append_view};
 use crate::edits::edit_named;
 use crate::words::Words;
@@ -105,6 +103,41 @@ fn plan_finds(
     Ok(())
 }
 
+// What is asked of the edit of a line whose first word is this.
+fn append_edited(
+    alloc: Global,
+    store: &mut Store,
+    what: &str,
+    word: &str,
+    words: &mut Words<'_>,
+    said: &mut Vec<u8>,
+) -> Result<()> {
+    let edit = edit_named(alloc, word, words)?;
+    Ok(append_of_edit(alloc, store, what, edit, said)?)
+}
+
+fn append_places_of(alloc: Global, words: &mut Words<'_>, said: &mut Vec<u8>) -> Result<()> {
+    let names = words.all_bytes()?;
+    Ok(append_places(alloc, &names, said)?)
+}
+
+// Begins with a new store.
+fn begin(alloc: Global, store: &mut Store, said: &mut Vec<u8>) -> Result<(), AllocError> {
+    *store = Store::new(alloc);
+    append_numbers(alloc, store, said)
+}
+
+fn begin_limited(
+    alloc: Global,
+    store: &mut Store,
+    words: &mut Words<'_>,
+    said: &mut Vec<u8>,
+) -> Result<()> {
+    let limits = words.limits()?;
+    *store = Store::with_limits(alloc, limits);
+    Ok(append_numbers(alloc, store, said)?)
+}
+
 /// What a call gives that is asked for by words:
 ///
 /// - `limits`, numbers of stanzas and of edits: the numbers of a new store of these limits; `new`: of one without; `most`: the greatest;
@@ -120,24 +153,23 @@ pub fn append_call(
     said: &mut Vec<u8>,
 ) -> Result<()> {
     match words.word()? {
-        "new" => {
-            *store = Store::new(alloc);
-            append_numbers(alloc, store, said)?;
-        }
-        "limits" => {
-            *store = Store::with_limits(alloc, words.limits()?);
-            append_numbers(alloc, store, said)?;
-        }
-        "most" => append_most(alloc, said)?,
-        "show" => append_view(alloc, store, words, said)?,
-        "plan" => append_planned(alloc, store, edit_of(alloc, words)?, said)?,
-        "plan-finds" => plan_finds(alloc, store, words, said)?,
-        "late" => make_late(alloc, store, words, said)?,
-        "touched" => append_touched(alloc, store, edit_of(alloc, words)?, said)?,
-        "places" => append_places(alloc, &words.all_bytes()?, said)?,
-        "sign" => said.extend_from_slice(stanza_sign(words)?)?,
-        "refusals" => append_refusals(alloc, said)?,
-        word => append_made(alloc, store, edit_named(alloc, word, words)?, said)?,
+        "new" => Ok(begin(alloc, store, said)?),
+        "limits" => begin_limited(alloc, store, words, said),
+        "most" => Ok(append_most(alloc, said)?),
+        "show" => append_view(alloc, store, words, said),
+        "plan-finds" => plan_finds(alloc, store, words, said),
+        "late" => make_late(alloc, store, words, said),
+        "places" => append_places_of(alloc, words, said),
+        "sign" => Ok(said.extend_from_slice(stanza_sign(words)?)?),
+        "refusals" => Ok(append_refusals(alloc, said)?),
+        what @ ("plan" | "touched") => append_edited(
+            alloc,
+            store,
+            what,
+            words.word()?,
+            words,
+            said,
+        ),
+        word => append_edited(alloc, store, word, word, words, said),
     }
-    Ok(())
 }

@@ -1,5 +1,6 @@
 //! Texts of lists and of preferences: their stanzas and records, the parts of these, and faults.
 
+use crate::joined::{append_all, append_number};
 use crate::texts::list_kind_named;
 use crate::words::Words;
 use anyhow::{Context, Result, bail};
@@ -76,14 +77,9 @@ fn append_list(alloc: Global, words: &mut Words<'_>, said: &mut Vec<u8>) -> Resu
 // The fields of a stanza, each in brackets, and how many there are.
 fn append_fields(alloc: Global, stanza: &Stanza, said: &mut Vec<u8>) -> Result<(), AllocError> {
     for (name, body) in stanza.fields() {
-        said.push(b'[')?;
-        said.extend_from_slice(name)?;
-        said.push(b'=')?;
-        said.extend_from_slice(body)?;
-        said.push(b']')?;
+        append_all(&[b"[", name, b"=", body, b"]"], said)?;
     }
-    let told = format!(in alloc; " {}", stanza.fields().size_hint().0)?;
-    said.extend_from_slice(told.as_bytes())
+    append_number(alloc, b" ", stanza.fields().size_hint().0 as u128, said)
 }
 
 // The groups of a field in their printed form, each behind `&`.
@@ -97,14 +93,10 @@ fn append_groups(stanza: &Stanza, kind: FieldKind, said: &mut Vec<u8>) -> Result
 
 // An offer in brackets.
 fn append_offer(offer: &Offer, said: &mut Vec<u8>) -> Result<(), AllocError> {
-    said.push(b'[')?;
-    said.extend_from_slice(offer.name())?;
-    if let Some(version) = offer.version() {
-        said.push(b'=')?;
-        said.extend_from_slice(version.text())?;
+    match offer.version() {
+        Some(version) => append_all(&[b"[", offer.name(), b"=", version.text(), b"]"], said),
+        None => append_all(&[b"[", offer.name(), b"]"], said),
     }
-    said.push(b']')?;
-    Ok(())
 }
 
 // The offers of a stanza, and how many atoms Provides has.
@@ -112,8 +104,7 @@ fn append_offers(alloc: Global, stanza: &Stanza, said: &mut Vec<u8>) -> Result<(
     for offer in stanza.offers() {
         append_offer(offer, said)?;
     }
-    let told = format!(in alloc; " {}", stanza.provides().len())?;
-    said.extend_from_slice(told.as_bytes())
+    append_number(alloc, b" ", stanza.provides().len() as u128, said)
 }
 
 fn version_words(stanza: &Stanza) -> &[u8] {
@@ -140,6 +131,11 @@ fn live_words(stanza: &Stanza) -> &'static [u8] {
     }
 }
 
+fn append_field_of(stanza: &Stanza, words: &mut Words<'_>, said: &mut Vec<u8>) -> Result<()> {
+    let name = words.bytes()?;
+    Ok(said.extend_from_slice(field_words(stanza, name.as_slice()))?)
+}
+
 // A part of a stanza by its name.
 fn append_part(
     alloc: Global,
@@ -148,20 +144,16 @@ fn append_part(
     said: &mut Vec<u8>,
 ) -> Result<()> {
     match words.word()? {
-        "text" => said.extend_from_slice(stanza.text())?,
-        "package" => said.extend_from_slice(stanza.package())?,
-        "version" => said.extend_from_slice(version_words(stanza))?,
-        "field" => {
-            let name = words.bytes()?;
-            said.extend_from_slice(field_words(stanza, name.as_slice()))?;
-        }
-        "fields" => append_fields(alloc, stanza, said)?,
-        "groups" => append_groups(stanza, words.field_kind()?, said)?,
-        "offers" => append_offers(alloc, stanza, said)?,
-        "live" => said.extend_from_slice(live_words(stanza))?,
+        "text" => Ok(said.extend_from_slice(stanza.text())?),
+        "package" => Ok(said.extend_from_slice(stanza.package())?),
+        "version" => Ok(said.extend_from_slice(version_words(stanza))?),
+        "field" => append_field_of(stanza, words, said),
+        "fields" => Ok(append_fields(alloc, stanza, said)?),
+        "groups" => Ok(append_groups(stanza, words.field_kind()?, said)?),
+        "offers" => Ok(append_offers(alloc, stanza, said)?),
+        "live" => Ok(said.extend_from_slice(live_words(stanza))?),
         _ => bail!("a part that is not known"),
     }
-    Ok(())
 }
 
 // Parts of a stanza, each with a bar behind it.
@@ -201,13 +193,8 @@ fn append_record_field(
     (name, body, line): (&[u8], &[u8], u64),
     said: &mut Vec<u8>,
 ) -> Result<(), AllocError> {
-    let number = format!(in alloc; "[{line} ")?;
-    said.extend_from_slice(number.as_bytes())?;
-    said.extend_from_slice(name)?;
-    said.push(b'=')?;
-    said.extend_from_slice(body)?;
-    said.push(b']')?;
-    Ok(())
+    append_number(alloc, b"[", line as u128, said)?;
+    append_all(&[b" ", name, b"=", body, b"]"], said)
 }
 
 // A record, on a line: the number of its first line, how many fields it has, and these.

@@ -60,6 +60,29 @@ fn append_order(one: &Version, other: &Version, said: &mut Vec<u8>) -> Result<()
     said.extend_from_slice(other.text())
 }
 
+fn append_read_of(alloc: Global, words: &mut Words<'_>, said: &mut Vec<u8>) -> Result<()> {
+    let text = words.bytes()?;
+    Ok(append_read(alloc, text.as_slice(), said)?)
+}
+
+fn append_copy(alloc: Global, words: &mut Words<'_>, said: &mut Vec<u8>) -> Result<()> {
+    let version = words.version()?;
+    let copy = version.try_clone(alloc)?;
+    Ok(said.extend_from_slice(copy.text())?)
+}
+
+fn append_order_of(words: &mut Words<'_>, said: &mut Vec<u8>) -> Result<()> {
+    let one = words.version()?;
+    let other = words.version()?;
+    Ok(append_order(&one, &other, said)?)
+}
+
+fn append_sign_of(words: &mut Words<'_>, said: &mut Vec<u8>) -> Result<()> {
+    let one = words.version()?;
+    let other = words.version()?;
+    Ok(said.extend_from_slice(sign(&one, &other))?)
+}
+
 fn versions_of(alloc: Global, words: &mut Words<'_>) -> Result<Vec<Version>> {
     let mut versions = Vec::new(alloc);
     for _ in 0..u64::MAX {
@@ -82,6 +105,11 @@ fn append_signs(versions: &[Version], said: &mut Vec<u8>) -> Result<(), AllocErr
     Ok(())
 }
 
+fn append_signs_of(alloc: Global, words: &mut Words<'_>, said: &mut Vec<u8>) -> Result<()> {
+    let versions = versions_of(alloc, words)?;
+    Ok(append_signs(&versions, said)?)
+}
+
 /// What a call gives that is asked for by words:
 ///
 /// - `read`, a text: its text again, or the test that it fails;
@@ -90,12 +118,11 @@ fn append_signs(versions: &[Version], said: &mut Vec<u8>) -> Result<(), AllocErr
 /// - `signs`, versions: those of each of them with all.
 pub fn append_call(alloc: Global, words: &mut Words<'_>, said: &mut Vec<u8>) -> Result<()> {
     match words.word()? {
-        "read" => append_read(alloc, words.bytes()?.as_slice(), said)?,
-        "copy" => said.extend_from_slice(words.version()?.try_clone(alloc)?.text())?,
-        "order" => append_order(&words.version()?, &words.version()?, said)?,
-        "sign" => said.extend_from_slice(sign(&words.version()?, &words.version()?))?,
-        "signs" => append_signs(&versions_of(alloc, words)?, said)?,
+        "read" => append_read_of(alloc, words, said),
+        "copy" => append_copy(alloc, words, said),
+        "order" => append_order_of(words, said),
+        "sign" => append_sign_of(words, said),
+        "signs" => append_signs_of(alloc, words, said),
         _ => bail!("a call of versions that is not known"),
     }
-    Ok(())
 }
