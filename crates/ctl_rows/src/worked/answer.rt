@@ -64,7 +64,10 @@ fn append_stanzas(
     for key in store.stanzas(list) {
         let told = format!(in alloc; "{}.{} ", key.list, key.stanza)?;
         all.extend_from_slice(told.as_bytes())?;
-        append_stanza(store.stanza(key), all)?;
+        match store.find(key) {
+            Some(stanza) => append_stanza(stanza, all)?,
+            None => append_line(b"no stanza", all)?,
+        }
     }
     Ok(())
 }
@@ -103,6 +106,16 @@ fn append_clause(
     append_line(told.as_bytes(), all)
 }
 
+/// The number that is told of a clause where it is asked.
+fn asked_number(cache: &Cache, key: ClauseKey) -> u128
+    requires { cache.now.stale ≡ false }
+{
+    match cache.counters().get(&key) {
+        Some(_) => cache.satisfiers(key),
+        None => 0,
+    }
+}
+
 /// The number of each clause: the one that is kept, or the one that is told if it is asked.
 fn append_clauses(
     alloc: Global,
@@ -116,7 +129,7 @@ fn append_clauses(
         let number = if is_kept {
             *kept
         } else {
-            cache.satisfiers(*key)
+            asked_number(cache, *key)
         };
         append_clause(alloc, cache.store(), *key, number, all)?;
     }
