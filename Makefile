@@ -19,7 +19,7 @@ help:
 	@echo 'make test-refusals  runs scripts with each request for memory refused in turn, and compares what the other commands write; needs cc'
 	@echo 'make test-python  tests the module of Python and the commands that stand on it, with pytest'
 	@echo 'make edits     the edits that must fail: those without a line of edits.ledger for these sources, and ten of the others; CRATES=".." and EDITS=".." name some, JOBS=N sets how many checks run at once, EDITS_MINUTES=N how long it may take, ANEW=1 tries all'
-	@echo 'make gate-report  puts what make test and make edits measured last into docs/ARCHITECTURE.md'
+	@echo 'make gate-report  puts what make test and make edits measured last into CONTRIBUTING.md'
 	@echo 'make bench     measures time and memory beside apt-cache, grep-dctrl and python-apt; FILE=.. names a Packages file, TIMES=1,2 how often it is taken'
 	@echo 'make bench-report  puts the table and the chart of the last make bench into docs/'
 	@echo 'make bench-parts  measures the parts: reading, edits, tables, refusals; FILE=.. as above'

@@ -1,5 +1,5 @@
 #!/usr/bin/env python3
-"""The table of what the gate took on one machine, and its place in docs/ARCHITECTURE.md.
+"""The table of what the gate took on one machine, and its place in CONTRIBUTING.md.
 
     tools/gate_report.py [RESULTS [DOCUMENT]]
 
@@ -11,7 +11,7 @@ import textwrap
 
 import gate_file
 
-DOCUMENT = os.path.join(gate_file.TOP, "docs", "ARCHITECTURE.md")
+DOCUMENT = os.path.join(gate_file.TOP, "CONTRIBUTING.md")
 BEGINS = "<!-- The table of make gate-report begins -->\n"
 ENDS = "<!-- The table of make gate-report ends -->\n"
 

@@ -14,7 +14,7 @@ import sys
 FOLDERS = ("src", "specs", "proofs")
 ENDINGS = (".rt", ".antt")
 
-# How wide a line of README.md and of the pages in docs/ may be, in signs.
+# How wide a line of README.md, CONTRIBUTING.md and the pages in docs/ may be, in signs.
 WIDTH = 120
 
 
@@ -28,10 +28,10 @@ def files_of(repository):
 
 
 def pages_of(repository):
-    """README.md and the pages in docs/, but those below it, whose scripts are as wide as they have to be."""
+    """README.md, CONTRIBUTING.md and the pages in docs/, but those below it, whose scripts are as wide as they have to be."""
     docs = os.path.join(repository, "docs")
     names = [os.path.join("docs", name) for name in sorted(os.listdir(docs))] if os.path.isdir(docs) else []
-    pages = [os.path.join(repository, name) for name in ["README.md", *names] if name.endswith(".md")]
+    pages = [os.path.join(repository, name) for name in ["README.md", "CONTRIBUTING.md", *names] if name.endswith(".md")]
     return [page for page in pages if os.path.isfile(page)]
 
 
