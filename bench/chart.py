@@ -89,7 +89,7 @@ def drawn(rows):
     for number, (_, found) in enumerate(kinds):
         panel = Panel(found, (LEFT + number % COLUMNS * (WIDTH + LEFT), TOP + number // COLUMNS * (HEIGHT + GAP)))
         parts += [*panel.frame(), *panel.curves()]
-    parts.append(text((LEFT, height - 8), "Sizes are times one list. Both axes are in equal steps of times; less is better."))
+    parts.append(text((LEFT, height - 8), "Sizes are times one list. Both axes are logarithmic; less is better."))
     return "\n".join([*parts, "</svg>", ""])
 
 
