@@ -17,6 +17,18 @@ eight_fields = PreDepends ∷ Depends ∷ Conflicts ∷ Breaks ∷ Recommends �
 abbrev pub four_fields : List FieldKind
 four_fields = PreDepends ∷ Depends ∷ Recommends ∷ Suggests ∷ []
 
+-- whether a field is one of the four
+abbrev pub is_wanted : FieldKind → Bool
+is_wanted PreDepends = true
+is_wanted Depends = true
+is_wanted Conflicts = false
+is_wanted Breaks = false
+is_wanted Recommends = true
+is_wanted Suggests = true
+is_wanted Replaces = false
+is_wanted Enhances = false
+is_wanted Provides = false
+
 -- The name of a field in small letters, as which names of fields are compared; and its name as answers print it.
 abbrev pub names_of : FieldKind → List ℕ × List ℕ
 names_of PreDepends = (codes "pre-depends", codes "PreDepends")

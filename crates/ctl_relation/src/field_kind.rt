@@ -5,7 +5,7 @@ ghost use Rattle.std.specs.Ordering.{nat_cmp, on, as_partial_cmp};
 ghost use Rattle.std.specs.Cmp.{on_equiv, on_total, nat_eq_equiv, nat_cmp_total, partial_equiv_from_equiv, partial_order_from_own_ties};
 ghost use Rattle.std.specs.Cmp.Rules.{comparing};
 ghost use Rattle.std.proofs.Common.{rules};
-ghost use Rattle.ctl_relation.specs.FieldKind.{nine_fields, eight_fields, four_fields, names_of, field_place, has_alternatives, is_provides};
+ghost use Rattle.ctl_relation.specs.FieldKind.{nine_fields, eight_fields, four_fields, names_of, field_place, has_alternatives, is_provides, is_wanted};
 
 use std::cmp::Ordering;
 
@@ -68,6 +68,19 @@ impl FieldKind {
         ensures { result.now ≡ four_fields }
     {
         &FOUR
+    }
+
+    /// Whether the field is one of the four, whose groups are wanted to be met.
+    pub fn is_wanted(self) -> bool
+        ensures { result ≡ is_wanted self }
+    {
+        matches!(
+            self,
+            FieldKind::PreDepends
+                | FieldKind::Depends
+                | FieldKind::Recommends
+                | FieldKind::Suggests
+        )
     }
 
     /// The name of the field in small letters. Names of fields are compared without regard to case.

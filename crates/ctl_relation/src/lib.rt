@@ -37,7 +37,7 @@ pub use reading::read_places;
 pub use relation_fault::RelationFault;
 pub use relation_laws::{
     fields_bound_atoms, fields_have_one_fault, fields_have_places, met_by_name, met_counts_add_up,
-    printed_forms_read_again, reading_is_the_grammar,
+    met_pairs_are_bounded, printed_forms_read_again, reading_is_the_grammar,
 };
 pub use relations::{Relations, parse_relations};
 pub use steps::Steps;
