@@ -3,6 +3,8 @@ use Rattle.std.proofs.Common.{◌≡◌, ◌⊎◌, ℕ, Bool, true, false, cond
 use Rattle.std.specs.Prelude.{◌==◌, not, ◌&&◌, ◌||◌}
 use Rattle.std.specs.List.{list_all}
 use Rattle.std.proofs.lemmas.Bool.Decides.{nat_tests}
+use Rattle.std.proofs.lemmas.Bool.{and_parts}
+use Rattle.ctl_relation.proofs.Found.{taken, regroup}
 use Rattle.ctl_relation.specs.declared.relation_fault.RelationFault.{RelationFault}
 use Rattle.ctl_relation.specs.declared.relation_fault.RelationFault.TheVariants as fault
 use Rattle.ctl_relation.specs.declared.operator.Operator.{Operator}
@@ -38,11 +40,7 @@ blank_ends_version b h = ap (λ t. not (t || b == right_parenthesis)) h
 -- what doesn't begin a version's byte
 pub stops_version : (p : ℕ → Bool) (v after : List ℕ) → ((b : ℕ) → is_upstream_byte b ≡ true → p b ≡ false) → fault_of v ≡ None → Stops p (v ++ after)
 stops_version p [] after f h = absurd (omega (arith, (version_bytes [] h).0))
-stops_version p (b ∷ v) after f h = f b (first (is_upstream_byte b) (list_all is_upstream_byte v) (version_bytes (b ∷ v) h).1)
-  where
-    first : (s t : Bool) → (s && t) ≡ true → s ≡ true
-    first true t h = refl
-    first false t h = absurd cc
+stops_version p (b ∷ v) after f h = f b (and_parts (is_upstream_byte b) (list_all is_upstream_byte v) (version_bytes (b ∷ v) h).1).0
 
 stops_at : (p : ℕ → Bool) (n : ℕ) (s t after : List ℕ) → s ≡ n ∷ t → p n ≡ false → Stops p (s ++ after)
 stops_at p n s t after e h = let P : List ℕ → Type 0 = λ l. Stops p (l ++ after) in subst P (sym e) h
@@ -55,9 +53,6 @@ stops_spelled Equal s after h = stops_at is_whitespace equals s [] after h refl
 stops_spelled LaterOrEqual s after (inl h) = stops_at is_whitespace greater_than s (equals ∷ []) after h refl
 stops_spelled LaterOrEqual s after (inr h) = stops_at is_whitespace greater_than s [] after h refl
 stops_spelled Later s after h = stops_at is_whitespace greater_than s (greater_than ∷ []) after h refl
-
-abbrev pub taken : {A : Type 0} → A → Result A RelationFault
-taken x = Ok x
 
 allowed_again : (kind : FieldKind) (x : Operator × List ℕ) → (is_provides kind ≡ true → is_exact x.0 ≡ true) → allowed kind (Some x) ≡ taken x
 allowed_again kind x h = go (is_provides kind) refl
@@ -114,9 +109,6 @@ stops_next p text c d (inr n) = let P : List ℕ → Type 0 = Stops p in subst P
 
 stops_after : (p : ℕ → Bool) (after : List ℕ) → Ends p → Follows after → Stops p after
 stops_after p after e f = let P : List ℕ → Type 0 = Stops p in subst P (sym f.whole) (stops_blanks p f.blanks f.text e.blank f.blank (stops_next p f.text e.at_comma e.at_bar f.next))
-
-regroup : (a b c d v f after : List ℕ) → (a ++ left_parenthesis ∷ (b ++ (c ++ (d ++ (v ++ (f ++ right_parenthesis ∷ [])))))) ++ after ≡ a ++ left_parenthesis ∷ (b ++ (c ++ (d ++ (v ++ (f ++ right_parenthesis ∷ after)))))
-regroup a b c d v f after = simp append_assoc
 
 stops_bound : (p : ℕ → Bool) (kind : FieldKind) (t after : List ℕ) (bound : Option (Operator × List ℕ)) → Ends p → BoundText kind t bound → Follows after → Stops p (t ++ after)
 stops_bound p kind t after None e h f = let P : List ℕ → Type 0 = λ l. Stops p (l ++ after) in subst P (sym h) (stops_after p after e f)

@@ -2,7 +2,7 @@
 use Rattle.std.proofs.Common.{◌≡◌, ◌<◌, ℕ, Bool, not, get_or, refl, bit_and, nat_eq}
 use Rattle.std.proofs.lemmas.Bool.{agree_below_at}
 use Rattle.ctl_relation.specs.declared.byte_class.ByteClass.{ByteClass}
-use Rattle.ctl_relation.specs.declared.byte_class.ByteClass.TheVariants.{Whitespace, Name, Qualifier, VersionWord, Upstream, Revision}
+use Rattle.ctl_relation.specs.declared.byte_class.ByteClass.TheVariants.{Whitespace, Name, Qualifier, VersionWord, Upstream, Revision, FieldName}
 use Rattle.ctl_relation.specs.declared.byte_class.TheConstants.{CLASSES}
 use Rattle.ctl_relation.specs.Inside.ByteClass.{class_bit, class_has}
 
@@ -17,3 +17,4 @@ class_is Qualifier b small = agree_below_at (told Qualifier) (class_has Qualifie
 class_is VersionWord b small = agree_below_at (told VersionWord) (class_has VersionWord) 256 b refl small
 class_is Upstream b small = agree_below_at (told Upstream) (class_has Upstream) 256 b refl small
 class_is Revision b small = agree_below_at (told Revision) (class_has Revision) 256 b refl small
+class_is FieldName b small = agree_below_at (told FieldName) (class_has FieldName) 256 b refl small

@@ -4,6 +4,7 @@ use Rattle.std.specs.Prelude.{◌==◌, ◌&&◌, codes}
 use Rattle.std.specs.List.{list_all}
 use Rattle.std.specs.Char.{is_ascii_alphanumeric}
 use Rattle.std.proofs.lemmas.Bool.Decides.{nat_tests}
+use Rattle.std.proofs.lemmas.Bool.{and_parts}
 use Rattle.ctl_relation.specs.declared.relation_fault.RelationFault.{RelationFault}
 use Rattle.ctl_relation.specs.declared.relation_fault.RelationFault.TheVariants as fault
 use Rattle.ctl_relation.specs.declared.field_kind.FieldKind.{FieldKind}
@@ -112,12 +113,8 @@ bracket_leads kind AfterAtom blanks left c b = absurd cc
 first_of_name : (word after : List ℕ) → is_name word ≡ true → Stops is_whitespace (word ++ after) × (group_next (word ++ after) ≡ next_behind AfterName (name_at (word ++ after)))
 first_of_name [] after h = absurd cc
 first_of_name (b ∷ word) after h =
-    let l = letter_first b (first (is_ascii_alphanumeric b) _ h) in
+    let l = letter_first b (and_parts (is_ascii_alphanumeric b) _ h).0 in
     (l.0, ap (λ t. cond t (Moves GroupDue (word ++ after)) (next_behind AfterName (name_at (b ∷ (word ++ after))))) l.1)
-  where
-    first : (s t : Bool) → (s && t) ≡ true → s ≡ true
-    first true t h = refl
-    first false t h = absurd cc
 
 names_lead : (kind : FieldKind) (p : Place) (blanks word left : List ℕ) → takes_name p ≡ true → IsWhitespace blanks → is_name word ≡ true → Stops is_name_byte left → Leads kind p ((blanks ++ word) ++ left) (Moves AfterName left)
 names_lead kind p blanks word left c b h s = go p c

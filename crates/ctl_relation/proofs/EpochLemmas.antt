@@ -7,6 +7,7 @@ use Rattle.std.specs.Char.{is_ascii_digit, digit_value}
 use Rattle.std.specs.Str.Parse.{AllDigits, digits_value}
 use Rattle.std.proofs.lemmas.Bool.Decides.{nat_tests}
 use Rattle.std.proofs.lemmas.List.Sums.{prefix_len_passes}
+use Rattle.ctl_relation.proofs.Numbers.{digit-below}
 use Rattle.ctl_relation.specs.declared.version_fault.VersionFault.{VersionFault}
 use Rattle.ctl_relation.specs.declared.version_fault.VersionFault.TheVariants as fault
 use Rattle.ctl_relation.specs.Bytes.{hyphen, colon}
@@ -15,9 +16,6 @@ use Rattle.ctl_relation.proofs.CutLemmas.{first_at}
 use Rattle.ctl_relation.proofs.VersionTextLaws.{fails, behind_test, first_sides, split_first-sides}
 
 -- ---- an epoch is made of digits
-
-digit-below : (b : ℕ) → is_ascii_digit b ≡ true → digit_value b < 10
-digit-below b h = grind (arith, nat_tests)
 
 pub list_all-AllDigits : (text : List ℕ) → list_all is_ascii_digit text ≡ true → AllDigits 10 text
 list_all-AllDigits [] h = tt

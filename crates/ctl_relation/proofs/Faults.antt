@@ -4,6 +4,7 @@ use Rattle.std.specs.Prelude.{◌≢◌, ◌==◌, ◌&&◌, ◌||◌, is_none, 
 use Rattle.std.specs.List.{list_all}
 use Rattle.std.specs.Char.{is_ascii_alphanumeric}
 use Rattle.std.proofs.lemmas.Bool.Decides.{nat_tests}
+use Rattle.ctl_relation.proofs.Found.{none_is}
 use Rattle.ctl_relation.specs.declared.relation_fault.RelationFault.{RelationFault}
 use Rattle.ctl_relation.specs.declared.relation_fault.RelationFault.TheVariants as fault
 use Rattle.ctl_relation.specs.declared.field_kind.FieldKind.{FieldKind}
@@ -192,10 +193,6 @@ version_out kind p left c =
     let y : List ℕ = rest is_whitespace left in
     on_test P (is_none (fault_of (run is_version_word_byte y))) _ _
     (λ h. (run is_whitespace left ++ run is_version_word_byte y, run_token is_version_word_byte left y refl, (λ read s. version_read read (run is_whitespace left) (run is_version_word_byte y) p s c (run-passes is_whitespace left) (none_is (fault_of (run is_version_word_byte y)) h)), rest-stops is_version_word_byte y)) (λ n. tt)
-  where
-    none_is : {A : Type 0} (o : Option A) → is_none o ≡ true → o ≡ None
-    none_is None e = refl
-    none_is (Some x) e = absurd cc
 
 close_out : (kind : FieldKind) (left y : List ℕ) → rest is_whitespace left ≡ y → Outcome kind CloseDue left (next_of AfterAtom (close_at y))
 close_out kind left [] e = tt

@@ -4,6 +4,8 @@ use Rattle.std.specs.Prelude.{◌==◌, ◌&&◌, IfOk, IfErr}
 use Rattle.std.specs.List.{prefix_len}
 use Rattle.std.specs.Char.{is_ascii_alphanumeric}
 use Rattle.std.proofs.lemmas.Bool.Decides.{nat_tests}
+use Rattle.std.proofs.lemmas.Bool.{and_parts}
+use Rattle.ctl_relation.proofs.Found.{taken}
 use Rattle.ctl_relation.specs.declared.relation_fault.RelationFault.{RelationFault}
 use Rattle.ctl_relation.specs.declared.relation_fault.RelationFault.TheVariants as fault
 use Rattle.ctl_relation.specs.declared.field_kind.FieldKind.{FieldKind}
@@ -14,9 +16,9 @@ use Rattle.ctl_relation.specs.Parts.{AtomParts}
 use Rattle.ctl_relation.specs.Names.{is_name}
 use Rattle.ctl_relation.specs.Reading.{◌>>=◌, atom_at, behind_byte, alternatives, group_at, groups_behind, groups_from, groups_at, relations_of, Gives}
 use Rattle.ctl_relation.specs.Grammar.{IsWhitespace, AtomText, PaddedAtom, GroupText, PiecesText, given_groups, RelationsText}
-use Rattle.ctl_relation.proofs.Only.{rest_again}
+use Rattle.ctl_relation.proofs.Only.{rest_again, nonempty}
 use Rattle.ctl_relation.proofs.MemoryAlone.{memory_alone}
-use Rattle.ctl_relation.proofs.AtomAgain.{taken, step, atom_again}
+use Rattle.ctl_relation.proofs.AtomAgain.{step, atom_again}
 
 -- a group goes up to a comma or the end
 abbrev GroupEnd : List ℕ → Type 0
@@ -34,12 +36,8 @@ record Begins (text : List ℕ) : Type 0 where
 name_begins : (name after : List ℕ) → is_name name ≡ true → Begins (name ++ after)
 name_begins [] after h = absurd cc
 name_begins (b ∷ name) after h =
-    let l = letter_first b (first (is_ascii_alphanumeric b) _ h) in
+    let l = letter_first b (and_parts (is_ascii_alphanumeric b) _ h).0 in
     record { stops = l.0; no_comma = ap (λ t. cond t (Some (name ++ after)) None) l.1; some = omega arith }
-  where
-    first : (s t : Bool) → (s && t) ≡ true → s ≡ true
-    first true t h = refl
-    first false t h = absurd cc
 
 atom_begins : (kind : FieldKind) (t after : List ℕ) (atom : AtomParts) → AtomText kind t atom → Begins (t ++ after)
 atom_begins kind t after atom h =
@@ -127,15 +125,12 @@ group_again kind (suc n) text after (atom ∷ other ∷ more) h e l =
 blank_rest : (text : List ℕ) → IsWhitespace text → rest is_whitespace text ≡ []
 blank_rest text h = ap (rest is_whitespace) (sym (append-nil text)) ∙ rest_again is_whitespace text [] h tt
 
-is_some : (text : List ℕ) → 0 < length text → (length text == 0) ≡ false
-is_some text h = grind (arith, nat_tests)
-
 -- where a group comes first
 group_first : (kind : FieldKind) (n : ℕ) (text after : List ℕ) (group : List AtomParts) → ReadGroup kind (length (rest is_whitespace text) + 1) text group after → groups_at (suc n) kind text ≡ groups_behind (groups_at n kind) group after (behind_byte comma after)
 group_first kind n text after group r =
     let x : List ℕ = rest is_whitespace text in
     ap (groups_from (groups_at n kind) kind x) r.begins.no_comma
-    ∙ ap (λ t. cond t (taken []) (group_at (length x + 1) kind x >>= λ g. groups_behind (groups_at n kind) g.0 (rest is_whitespace g.1) (behind_byte comma (rest is_whitespace g.1)))) (is_some x r.begins.some)
+    ∙ ap (λ t. cond t (taken []) (group_at (length x + 1) kind x >>= λ g. groups_behind (groups_at n kind) g.0 (rest is_whitespace g.1) (behind_byte comma (rest is_whitespace g.1)))) (nonempty x r.begins.some)
     ∙ step (group_at (length x + 1) kind x) (λ g. groups_behind (groups_at n kind) g.0 (rest is_whitespace g.1) (behind_byte comma (rest is_whitespace g.1))) (group, r.left) r.read
     ∙ ap (λ z. groups_behind (groups_at n kind) group z (behind_byte comma z)) r.follows
 

@@ -28,13 +28,17 @@ guard_ok : {A : Type 0} (b : Bool) (d : RelationFault) (x y : A) → cond b (Ok 
 guard_ok true d x y e = (refl, cc)
 guard_ok false d x y e = absurd cc
 
-abbrev done : {A : Type 0} → A → Result A RelationFault
-done x = Ok x
+pub none_is : {A : Type 0} (o : Option A) → is_none o ≡ true → o ≡ None
+none_is None e = refl
+none_is (Some x) e = absurd cc
 
-ok_is : {A : Type 0} (x y : A) → done x ≡ done y → x ≡ y
+abbrev pub taken : {A : Type 0} → A → Result A RelationFault
+taken x = Ok x
+
+ok_is : {A : Type 0} (x y : A) → taken x ≡ taken y → x ≡ y
 ok_is x y e = cc
 
-regroup : (a b c d v f after : List ℕ) → (a ++ left_parenthesis ∷ (b ++ (c ++ (d ++ (v ++ (f ++ right_parenthesis ∷ [])))))) ++ after ≡ a ++ left_parenthesis ∷ (b ++ (c ++ (d ++ (v ++ (f ++ right_parenthesis ∷ after)))))
+pub regroup : (a b c d v f after : List ℕ) → (a ++ left_parenthesis ∷ (b ++ (c ++ (d ++ (v ++ (f ++ right_parenthesis ∷ [])))))) ++ after ≡ a ++ left_parenthesis ∷ (b ++ (c ++ (d ++ (v ++ (f ++ right_parenthesis ∷ after)))))
 regroup a b c d v f after = simp append_assoc
 
 guard_err : {A : Type 0} (b : Bool) (d : RelationFault) (x y : A) → cond b (Err d) (Ok x) ≡ Ok y → (b ≡ false) × (x ≡ y)
@@ -52,10 +56,6 @@ version_found text x e =
     let g = guard_ok (is_none (fault_of (run is_version_word_byte text))) fault.Version (run is_version_word_byte text, rest is_version_word_byte text) x e in
     let P : List ℕ × List ℕ → Type 0 = λ y. (fault_of y.0 ≡ None) × (text ≡ y.0 ++ y.1) in
     subst P g.1 (none_is (fault_of (run is_version_word_byte text)) g.0, run-rest is_version_word_byte text)
-  where
-    none_is : {A : Type 0} (o : Option A) → is_none o ≡ true → o ≡ None
-    none_is None e = refl
-    none_is (Some x) e = absurd cc
 
 close_found : (text after : List ℕ) → close_at text ≡ Ok after → text ≡ right_parenthesis ∷ after
 close_found [] after e = absurd cc
@@ -165,7 +165,7 @@ Bounded kind text x = (t : List ℕ) × BoundText kind t x.0 × (text ≡ t ++ x
 bound_found : (kind : FieldKind) (text : List ℕ) (x : Option (Operator × List ℕ) × List ℕ) → bound_at kind text ≡ Ok x → Bounded kind text x
 bound_found kind text x e = go (rest is_whitespace text) refl e
   where
-    none : done (None, text) ≡ done x → Bounded kind text x
+    none : taken (None, text) ≡ taken x → Bounded kind text x
     none e = let P : Option (Operator × List ℕ) × List ℕ → Type 0 = Bounded kind text in subst P (ok_is (None, text) x e) ([], refl, refl)
 
     some : (behind : List ℕ) → rest is_whitespace text ≡ left_parenthesis ∷ behind → (parenthesized_at kind behind >>= λ y. Ok (Some y.0, y.1)) ≡ Ok x → Bounded kind text x
@@ -326,7 +326,7 @@ whole : (kind : FieldKind) (text t : List ℕ) (gs : List (List AtomParts)) → 
 whole kind text t gs e h = let P : List ℕ → Type 0 = λ z. RelationsText kind z gs in subst P e h
 
 -- the end, where nothing is left
-at_end : (kind : FieldKind) (text : List ℕ) (gs : List (List AtomParts)) → (length (rest is_whitespace text) == 0) ≡ true → done [] ≡ done gs → RelationsText kind text gs
+at_end : (kind : FieldKind) (text : List ℕ) (gs : List (List AtomParts)) → (length (rest is_whitespace text) == 0) ≡ true → taken [] ≡ taken gs → RelationsText kind text gs
 at_end kind text gs h e =
     let P : List (List AtomParts) → Type 0 = RelationsText kind text in
     let blank : IsWhitespace text = ap (λ l. list_all is_whitespace l) (run-rest is_whitespace text ∙ ap (λ l. run is_whitespace text ++ l) (empty (rest is_whitespace text) h)) ∙ both_blank (run is_whitespace text) [] (run-passes is_whitespace text) refl in

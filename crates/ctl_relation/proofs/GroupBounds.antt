@@ -2,6 +2,7 @@
 use Rattle.std.proofs.Common.{◌≡◌, ℕ, ◌<◌, ◌≤◌, true, Option, Some, None, List, [], ◌∷◌, ◌++◌, length, sym, subst, ap, arith}
 use Rattle.std.proofs.lemmas.List.{length-append}
 use Rattle.std.proofs.lemmas.List.Sums.{sum_by-cons}
+use Rattle.ctl_relation.proofs.Runs.{name_some}
 use Rattle.ctl_relation.specs.declared.field_kind.FieldKind.{FieldKind}
 use Rattle.ctl_relation.specs.Bytes.{comma, bar}
 use Rattle.ctl_relation.specs.Grammar.{AtomText, PaddedAtom, GroupText, PieceText, PiecesText, given_groups}
@@ -9,10 +10,6 @@ use Rattle.ctl_relation.specs.Names.{is_name}
 use Rattle.ctl_relation.specs.Parts.{AtomParts}
 use Rattle.ctl_relation.specs.Bounds.{atom_count, GroupsHaveAtoms, AtomsTakeBytes}
 use Rattle.ctl_relation.proofs.PrintedAgain.{fields_have}
-
-name_some : (name : List ℕ) → is_name name ≡ true → 0 < length name
-name_some [] h = absurd cc
-name_some (b ∷ name) h = omega arith
 
 atom_some : (kind : FieldKind) (text : List ℕ) (atom : AtomParts) → AtomText kind text atom → 0 < length text
 atom_some kind text atom h = omega (arith, name_some atom.name h.name, ap length h.whole, length-append atom.name (h.qualifier_text ++ h.bound_text))

@@ -2,6 +2,7 @@
 use Rattle.std.proofs.Common.{◌≡◌, ◌∙◌, ◌+◌, ◌-◌, ◌<◌, ◌≤◌, ◌^◌, ℕ, suc, ◌==◌, Bool, true, false, cond, List, [], ◌∷◌, ◌++◌, length, length-append, length-drop, drop, Some, None, Result, Ok, Err, refl, sym, ap, ap₂, subst, arith, append_assoc, take-append-drop}
 use Rattle.std.specs.List.{prefix_len}
 use Rattle.std.proofs.lemmas.List.Elements.{All-nil, All-head, All-tail, All-push, All-append}
+use Rattle.std.proofs.Math.Seq.{drop-append_seam}
 use Rattle.ctl_relation.specs.declared.field_kind.FieldKind.{FieldKind}
 use Rattle.ctl_relation.specs.declared.relation_fault.RelationFault.{RelationFault}
 use Rattle.ctl_relation.specs.declared.relation_fault.RelationFault.TheVariants as fault
@@ -37,11 +38,7 @@ end-size body text end = omega (arith, ap (λ (t : List ℕ). length t) end.whol
 end-drop : (body text : List ℕ) → IsEnd body text → drop (place_of body text) body ≡ text
 end-drop body text end =
     let size : place_of body text ≡ length end.front = omega (arith, ap (λ (t : List ℕ). length t) end.whole, length-append end.front text) in
-    ap (λ n. drop n body) size ∙ ap (drop (length end.front)) end.whole ∙ seam end.front text
-  where
-    seam : (xs ys : List ℕ) → drop (length xs) (xs ++ ys) ≡ ys
-    seam [] ys = refl
-    seam (x ∷ xs) ys = seam xs ys
+    ap (λ n. drop n body) size ∙ ap (drop (length end.front)) end.whole ∙ drop-append_seam end.front text
 
 -- ---- the atom at the front of an end of a body
 

@@ -4,6 +4,8 @@ use Rattle.std.specs.Prelude.{◌==◌, ◌&&◌, ◌||◌, is_none}
 use Rattle.std.specs.List.{prefix_len, list_all}
 use Rattle.std.specs.Char.{is_ascii_alphanumeric}
 use Rattle.std.proofs.lemmas.Bool.Decides.{nat_tests}
+use Rattle.std.proofs.lemmas.Bool.{and_parts}
+use Rattle.std.proofs.Math.Seq.{drop-append_seam}
 use Rattle.ctl_relation.specs.declared.relation_fault.RelationFault.TheVariants as fault
 use Rattle.ctl_relation.specs.declared.operator.Operator.{Operator}
 use Rattle.ctl_relation.specs.declared.operator.Operator.TheVariants.{Earlier, EarlierOrEqual, Equal, LaterOrEqual, Later}
@@ -15,15 +17,11 @@ use Rattle.ctl_relation.specs.Names.{is_name_byte, is_name}
 use Rattle.ctl_relation.specs.Reading.{name_at, qualifier_at, operator_token, version_at}
 use Rattle.ctl_relation.specs.Grammar.{IsWhitespace, IsSpelled}
 
-both : (s t : Bool) → (s && t) ≡ true → (s ≡ true) × (t ≡ true)
-both true t h = (refl, h)
-both false t h = absurd cc
-
 run_len : (p : ℕ → Bool) (xs ys : List ℕ) → list_all p xs ≡ true → Stops p ys → prefix_len p (xs ++ ys) ≡ length xs
 run_len p [] [] h s = refl
 run_len p [] (b ∷ ys) h s = ap (λ t. cond t (1 + prefix_len p ys) 0) s
 run_len p (x ∷ xs) ys h s =
-    let b = both (p x) (list_all p xs) h in
+    let b = and_parts (p x) (list_all p xs) h in
     let one : 1 + prefix_len p (xs ++ ys) ≡ suc (prefix_len p (xs ++ ys)) = omega arith in
     ap (λ t. cond t (1 + prefix_len p (xs ++ ys)) 0) b.0 ∙ one ∙ ap suc (run_len p xs ys b.1 s)
 
@@ -31,25 +29,21 @@ take_front : (xs ys : List ℕ) → take (length xs) (xs ++ ys) ≡ xs
 take_front [] ys = refl
 take_front (x ∷ xs) ys = ap (λ (l : List ℕ). x ∷ l) (take_front xs ys)
 
-drop_front : (xs ys : List ℕ) → drop (length xs) (xs ++ ys) ≡ ys
-drop_front [] ys = refl
-drop_front (x ∷ xs) ys = drop_front xs ys
-
 pub run_again : (p : ℕ → Bool) (xs ys : List ℕ) → list_all p xs ≡ true → Stops p ys → run p (xs ++ ys) ≡ xs
 run_again p xs ys h s = ap (λ n. take n (xs ++ ys)) (run_len p xs ys h s) ∙ take_front xs ys
 
 pub rest_again : (p : ℕ → Bool) (xs ys : List ℕ) → list_all p xs ≡ true → Stops p ys → rest p (xs ++ ys) ≡ ys
-rest_again p xs ys h s = ap (λ n. drop n (xs ++ ys)) (run_len p xs ys h s) ∙ drop_front xs ys
+rest_again p xs ys h s = ap (λ n. drop n (xs ++ ys)) (run_len p xs ys h s) ∙ drop-append_seam xs ys
 
 -- blanks in front don't pass
 pub stops_blanks : (p : ℕ → Bool) (blanks text : List ℕ) → ((b : ℕ) → is_whitespace b ≡ true → p b ≡ false) → IsWhitespace blanks → Stops p text → Stops p (blanks ++ text)
 stops_blanks p [] text f h s = s
-stops_blanks p (b ∷ blanks) text f h s = f b (both (is_whitespace b) (list_all is_whitespace blanks) h).0
+stops_blanks p (b ∷ blanks) text f h s = f b (and_parts (is_whitespace b) (list_all is_whitespace blanks) h).0
 
 name_bytes : (name : List ℕ) → is_name name ≡ true → list_all is_name_byte name ≡ true
 name_bytes [] h = absurd cc
 name_bytes (b ∷ text) h =
-    let g = both (is_ascii_alphanumeric b) (list_all is_name_byte text) h in
+    let g = and_parts (is_ascii_alphanumeric b) (list_all is_name_byte text) h in
     ap (λ t. (t || (b == plus || (b == hyphen || (b == dot || b == underscore)))) && list_all is_name_byte text) g.0 ∙ g.1
 
 pub name_again : (name after : List ℕ) → is_name name ≡ true → Stops is_name_byte after → name_at (name ++ after) ≡ Ok (name, after)

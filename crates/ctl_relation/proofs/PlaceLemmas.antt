@@ -4,6 +4,7 @@ use lib.Seq.{take-append-le, drop-append-le}
 use Rattle.std.proofs.lemmas.Bool.{cases_Bool, cond-true, cond-false}
 use Rattle.std.proofs.lemmas.List.Elements.{All-tail, All-drop}
 use Rattle.std.specs.List.Sorted.{IsNonDecreasing}
+use Rattle.std.proofs.Math.Seq.{drop-append_seam}
 use Rattle.ctl_relation.specs.declared.field_kind.FieldKind.{FieldKind}
 use Rattle.std.specs.List.{flat_map}
 use Rattle.ctl_relation.specs.Printed.{alternative_text}
@@ -97,10 +98,6 @@ below-all : (low bound : ℕ) (xs : List ℕ) → Rise low bound xs → count_be
 below-all low bound [] h = refl
 below-all low bound (x ∷ xs) h = omega (arith, below-step bound x xs (omega (arith, rise-bounds (suc x) bound xs h.1)), below-all (suc x) bound xs h.1)
 
-pub before-le : (starts further : List ℕ) → count_before starts further ≤ length further
-before-le [] further = omega arith
-before-le (next ∷ starts) further = below-le next further
-
 -- ---- the groups that are held
 
 from-drop : {A : Type 0} (i : ℕ) (xs ys : List A) → drop i xs ≡ ys → slice_get xs i ≡ slice_get ys 0
@@ -184,13 +181,9 @@ module _ (kind : FieldKind) (body : List ℕ) where
   held-more low less high start place [] further more h f m =
       let count : count_below place (further ++ more) ≡ length further = below-append place high further more (rise-low (suc place) place high more (omega arith) m) ∙ below-all less place further f in
       let front : take (count_below place (further ++ more)) (further ++ more) ≡ take (length further) further = ap (λ n. take n (further ++ more)) count ∙ take-append-le (length further) further more (omega arith) in
-      let behind : drop (count_below place (further ++ more)) (further ++ more) ≡ more = ap (λ n. drop n (further ++ more)) count ∙ drop-seam further more in
+      let behind : drop (count_below place (further ++ more)) (further ++ more) ≡ more = ap (λ n. drop n (further ++ more)) count ∙ drop-append_seam further more in
       ap₂ (λ a b. atoms_held kind body (start ∷ a) ∷ atoms_held kind body (place ∷ take (length b) b) ∷ []) front behind
       ∙ ap (λ b. atoms_held kind body (start ∷ take (length further) further) ∷ atoms_held kind body (place ∷ b) ∷ []) (take_all (length more) more (omega arith))
-    where
-      drop-seam : (xs ys : List ℕ) → drop (length xs) (xs ++ ys) ≡ ys
-      drop-seam [] ys = refl
-      drop-seam (x ∷ xs) ys = drop-seam xs ys
   held-more low less high start place (next ∷ starts) further more h f m =
       let n : ℕ = count_below next further in
       let count : count_below next (further ++ more) ≡ n = below-append next high further more (rise-low (suc place) next high more (omega (arith, rise-bounds (suc next) place starts h.1)) m) in

@@ -16,8 +16,8 @@ use Rattle.ctl_relation.specs.Names.{is_name}
 use Rattle.ctl_relation.specs.FieldKind.{is_provides, has_alternatives, is_exact}
 use Rattle.ctl_relation.specs.Reading.{◌>>=◌, name_at, qualifier_at, operator_token, allowed, operator_at, version_at, close_at, parenthesized_at, bound_behind, bound_at, atom_at, behind_byte, alternatives, group_at, groups_behind, groups_from, groups_at, relations_of}
 use Rattle.ctl_relation.specs.Fault.{Place, GroupDue, AtomDue, AfterName, QualifierDue, AfterQualifier, OperatorDue, AfterSign, VersionDue, CloseDue, AfterAtom, is_sign, lengthens}
-use Rattle.ctl_relation.proofs.AtomAgain.{taken, step}
-use Rattle.ctl_relation.proofs.Found.{atom_found, behind_found}
+use Rattle.ctl_relation.proofs.AtomAgain.{step}
+use Rattle.ctl_relation.proofs.Found.{taken, atom_found, behind_found}
 
 -- what comes of one token: the field ends with a fault or none, or its next place and what is left
 pub data Next : Type 0 where
@@ -268,7 +268,7 @@ atom_runs kind p left text k n h =
 
 -- ---- groups
 
-name_some : (name : List ℕ) → is_name name ≡ true → 0 < length name
+pub name_some : (name : List ℕ) → is_name name ≡ true → 0 < length name
 name_some [] h = absurd cc
 name_some (b ∷ name) h = omega arith
 

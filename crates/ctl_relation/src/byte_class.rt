@@ -1,6 +1,7 @@
 //! Classes of bytes, told by a table.
 
 ghost use Rattle.std.specs.Prelude.{◌≡◌};
+ghost use Rattle.ctl_relation.specs.FieldBytes.{is_field_name_byte};
 ghost use Rattle.ctl_relation.specs.Inside.ByteClass.{class_bit, class_has};
 
 /// A class of bytes.
@@ -18,6 +19,8 @@ pub(crate) enum ByteClass {
     Upstream,
     /// The bytes of revisions: letters, digits and `+ . ~`.
     Revision,
+    /// The bytes of names of fields: the printable bytes of ASCII, space and colon aside.
+    FieldName,
 }
 
 // The classes of each byte, by their bits.
@@ -27,17 +30,17 @@ const CLASSES: [u8; 256] = [
     // controls
     8, 8, 8, 8, 8, 8, 8, 8, 8, 8, 8, 8, 8, 8, 8, 8,
     // space ! " # $ % & ' ( ) * + , - . /
-    1, 8, 8, 8, 8, 8, 8, 8, 8, 0, 8, 58, 8, 30, 58, 8,
+    1, 72, 72, 72, 72, 72, 72, 72, 72, 64, 72, 122, 72, 94, 122, 72,
     // 0 to 9 : ; < = > ?
-    62, 62, 62, 62, 62, 62, 62, 62, 62, 62, 24, 8, 8, 8, 8, 8,
+    126, 126, 126, 126, 126, 126, 126, 126, 126, 126, 24, 72, 72, 72, 72, 72,
     // @ A to O
-    8, 62, 62, 62, 62, 62, 62, 62, 62, 62, 62, 62, 62, 62, 62, 62,
+    72, 126, 126, 126, 126, 126, 126, 126, 126, 126, 126, 126, 126, 126, 126, 126,
     // P to Z [ \ ] ^ _
-    62, 62, 62, 62, 62, 62, 62, 62, 62, 62, 62, 8, 8, 8, 8, 10,
+    126, 126, 126, 126, 126, 126, 126, 126, 126, 126, 126, 72, 72, 72, 72, 74,
     // ` a to o
-    8, 62, 62, 62, 62, 62, 62, 62, 62, 62, 62, 62, 62, 62, 62, 62,
+    72, 126, 126, 126, 126, 126, 126, 126, 126, 126, 126, 126, 126, 126, 126, 126,
     // p to z { | } ~
-    62, 62, 62, 62, 62, 62, 62, 62, 62, 62, 62, 8, 8, 8, 56, 8,
+    126, 126, 126, 126, 126, 126, 126, 126, 126, 126, 126, 72, 72, 72, 120, 8,
     // above 127
     8, 8, 8, 8, 8, 8, 8, 8, 8, 8, 8, 8, 8, 8, 8, 8, 8, 8, 8, 8, 8, 8, 8, 8, 8, 8, 8, 8, 8, 8, 8, 8,
     8, 8, 8, 8, 8, 8, 8, 8, 8, 8, 8, 8, 8, 8, 8, 8, 8, 8, 8, 8, 8, 8, 8, 8, 8, 8, 8, 8, 8, 8, 8, 8,
@@ -56,6 +59,7 @@ impl ByteClass {
             ByteClass::VersionWord => 8,
             ByteClass::Upstream => 16,
             ByteClass::Revision => 32,
+            ByteClass::FieldName => 64,
         }
     }
 
@@ -67,4 +71,12 @@ impl ByteClass {
     {
         CLASSES[byte as usize] & self.bit() != 0
     }
+}
+
+/// Whether a byte may stand in the name of a field: it is a printable byte of ASCII, and no space or colon (Debian Policy 5.1).
+#[inline]
+pub fn is_field_name_byte(byte: u8) -> bool
+    ensures { result ≡ is_field_name_byte byte }
+{
+    ByteClass::FieldName.has(byte)
 }

@@ -5,7 +5,8 @@ ghost use Rattle.std.specs.Ordering.{nat_cmp, on, as_partial_cmp};
 ghost use Rattle.std.specs.Cmp.{on_equiv, on_total, nat_eq_equiv, nat_cmp_total, partial_equiv_from_equiv, partial_order_from_own_ties};
 ghost use Rattle.std.specs.Cmp.Rules.{comparing};
 ghost use Rattle.std.proofs.Common.{rules};
-ghost use Rattle.ctl_relation.specs.FieldKind.{nine_fields, eight_fields, four_fields, names_of, field_place, has_alternatives, is_provides, is_wanted};
+ghost use Rattle.ctl_relation.specs.FieldKind.{nine_fields, eight_fields, four_fields, is_wanted};
+ghost use Rattle.ctl_relation.specs.FieldKind.{names_of, field_place, has_alternatives, is_provides};
 
 use std::cmp::Ordering;
 
@@ -76,10 +77,7 @@ impl FieldKind {
     {
         matches!(
             self,
-            FieldKind::PreDepends
-                | FieldKind::Depends
-                | FieldKind::Recommends
-                | FieldKind::Suggests
+            FieldKind::PreDepends | FieldKind::Depends | FieldKind::Recommends | FieldKind::Suggests
         )
     }
 

@@ -150,7 +150,8 @@ fn append_others(
     out: &mut Vec<u8>,
 ) -> Result<(), AllocError>
     requires { HaveAtoms kind body.now places.now }
-    ensures ok { OnOk result (out.new.items ≡ out.old.items ++ flat_map (λ place. alternative_text (atom_held kind body.now place)) places.now) }
+    ensures ok { OnOk result (out.new.items ≡ out.old.items
+        ++ flat_map (λ place. alternative_text (atom_held kind body.now place)) places.now) }
     ensures err { OnErr result (take (vec_len out.old) out.new.items ≡ out.old.items) }
 {
     for place in places {

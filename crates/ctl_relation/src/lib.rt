@@ -25,6 +25,7 @@ mod version_fault;
 mod version_laws;
 
 pub use atom::Atom;
+pub use byte_class::is_field_name_byte;
 pub use bytes::Bytes;
 pub use field_kind::FieldKind;
 pub use group::{Atoms, Group};

@@ -29,7 +29,8 @@ impl Places {
     ) -> Result<Places, AllocError>
         requires few { length starts.items < 2 ^ 32 }
         ensures kind { IfOk result (λ places. places.kind ≡ kind) }
-        ensures groups { (body : List ℕ) → AreHeld kind body starts.items further.items → IfOk result (λ places. groups_kept body places ≡ groups_held kind body starts.items further.items) }
+        ensures groups { (body : List ℕ) → AreHeld kind body starts.items further.items
+            → IfOk result (λ places. groups_kept body places ≡ groups_held kind body starts.items further.items) }
         ensures held { (body : List ℕ) → AreHeld kind body starts.items further.items → IfOk result (ArePlacesIn body) }
     {
         let group_count = starts.len() as u32;

@@ -6,7 +6,8 @@ ghost use Rattle.std.specs.Option.{option_map};
 ghost use Rattle.ctl_relation.specs.Inside.ByteClass.{class_has};
 ghost use Rattle.ctl_relation.specs.FieldBytes.{is_whitespace};
 ghost use Rattle.ctl_relation.specs.Runs.{rest};
-ghost use Rattle.ctl_relation.specs.Reading.{GivesAlways, behind_byte, name_at, qualifier_at, operator_token, operator_at, version_at, close_at};
+ghost use Rattle.ctl_relation.specs.Reading.{GivesAlways, behind_byte, name_at, qualifier_at};
+ghost use Rattle.ctl_relation.specs.Reading.{operator_token, operator_at, version_at, close_at};
 ghost use Rattle.ctl_relation.specs.Version.{fault_of};
 
 use crate::byte_class::ByteClass;

@@ -1,4 +1,3 @@
-pub mod NameBytes
 pub mod LineLemmas
 pub mod LineStartLemmas
 pub mod FieldLemmas

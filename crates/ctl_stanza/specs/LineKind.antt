@@ -1,14 +1,10 @@
 -- What a line is by itself.
 use Rattle.std.specs.Prelude.{◌<◌, ℕ, Bool, not, ◌&&◌, ◌||◌, ◌==◌, List, Option, None, Some, position, slice_index, length, ⊤, if◌then◌else◌}
-use Rattle.std.specs.Char.{is_ascii_graphic}
 use Rattle.ctl_relation.specs.Bytes.{colon, hash, hyphen}
+pub use Rattle.ctl_relation.specs.FieldBytes.{is_field_name_byte}
 use Rattle.ctl_stanza.specs.declared.line_kind.LineKind.{LineKind}
 use Rattle.ctl_stanza.specs.declared.line_kind.LineKind.TheVariants.{Blank, Field, Continuation, Faulty}
 use Rattle.ctl_stanza.specs.Lines.{is_blank_byte, is_blank}
-
--- the bytes of names of fields: the printable bytes of ASCII, space and colon aside (Debian Policy 5.1)
-abbrev pub is_field_name_byte : ℕ → Bool
-is_field_name_byte b = is_ascii_graphic b && not (b == colon)
 
 -- a name of n bytes, at least one, that doesn't begin with # or -, and a colon
 abbrev pub kind_after_name : List ℕ → Option ℕ → LineKind

@@ -1,9 +1,10 @@
 -- What holds of a stanza without a fault.
-use Rattle.std.specs.Prelude.{◌≡◌, ◌*◌, ◌<◌, ◌^◌, ℕ, true, List, length, None, IsSome}
-use Rattle.std.specs.List.{All, sum_by}
+use Rattle.std.specs.Prelude.{◌≡◌, ◌*◌, ◌<◌, ◌≤◌, ◌^◌, ℕ, true, List, length, None, IsSome}
+use Rattle.std.specs.List.{All, sum_by, flat_map}
 use Rattle.ctl_relation.specs.declared.field_kind.FieldKind.{FieldKind}
 use Rattle.ctl_relation.specs.Bounds.{atom_count}
 use Rattle.ctl_relation.specs.FieldKind.{nine_fields}
+use Rattle.ctl_relation.specs.Met.{met_pairs}
 use Rattle.ctl_relation.specs.Names.{is_name}
 use Rattle.ctl_relation.specs.Parts.{AtomParts}
 use Rattle.ctl_stanza.specs.Lines.{lines_of}
@@ -46,3 +47,13 @@ pub record IsSound (content : Content) : Type 0 where
 abbrev pub PairsFit : Type 0
 PairsFit = (contents : List Content) → length contents < 2 ^ 32 → All IsWhole contents
     → sum_by atoms_of contents * sum_by (λ content. length (offers_of content)) contents < 2 ^ 128
+
+-- Of fewer than 2^64 atoms, and what fewer than 2^32 stanzas offer, so few pairs meet that 128 bits hold their number.
+abbrev pub MetPairsFit : Type 0
+MetPairsFit = (atoms : List AtomParts) (contents : List Content) → length atoms < 2 ^ 64
+    → length contents < 2 ^ 32 → All IsWhole contents → met_pairs atoms (flat_map offers_of contents) < 2 ^ 128
+
+-- So is it of atoms that are no more than those in the relation fields of these stanzas.
+abbrev pub OwnMetPairsFit : Type 0
+OwnMetPairsFit = (atoms : List AtomParts) (contents : List Content) → length atoms ≤ sum_by atoms_of contents
+    → length contents < 2 ^ 32 → All IsWhole contents → met_pairs atoms (flat_map offers_of contents) < 2 ^ 128

@@ -8,9 +8,9 @@ ghost use Rattle.ctl_stanza.specs.Content.{Content};
 ghost use Rattle.ctl_stanza.specs.FieldLines.{FieldLinesAreTaken, FieldLinesAreKnown};
 ghost use Rattle.ctl_stanza.specs.Lines.{lines_of};
 ghost use Rattle.ctl_stanza.specs.Laws.{BodiesAreCounted, FieldsRise, IsFaultless, ReadsOrTells, KeepsLines, ReadsStanzas, StanzasAreOneList};
-ghost use Rattle.ctl_stanza.specs.Sound.{IsWhole, IsSound, PairsFit};
+ghost use Rattle.ctl_stanza.specs.Sound.{IsWhole, IsSound, PairsFit, MetPairsFit, OwnMetPairsFit};
 
-use ctl_relation::{fields_bound_atoms, reading_is_the_grammar};
+use ctl_relation::{fields_bound_atoms, met_pairs_are_bounded, reading_is_the_grammar};
 
 /// A text that is read to stanzas has no fault. Of a text that isn't, a fault is told that it has: no line
 /// before it has a fault, and on its line no fault has a lower number.
@@ -80,6 +80,16 @@ pub fn pairs_of_stanzas_fit()
     ensures { PairsFit }
 {
     whole_stanzas_are_sound();
+}
+
+/// Of less than 2^64 atoms and what less than 2^32 stanzas offer, less than 2^128 pairs meet. The atoms in the relation fields
+/// of so many stanzas are less than 2^64.
+pub fn met_pairs_fit()
+    ensures few { MetPairsFit }
+    ensures own { OwnMetPairsFit }
+{
+    whole_stanzas_are_sound();
+    met_pairs_are_bounded();
 }
 
 /// A stanza that is whole has no faulty line and no other fault, line by line and field by field.

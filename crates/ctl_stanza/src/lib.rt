@@ -25,9 +25,9 @@ mod status;
 pub use fault::{Cause, TextFault};
 pub use laws::{
     bodies_are_counted, field_lines_have_names_and_values, fields_stand_in_order,
-    lines_have_one_list_of_stanzas, lines_take_bytes, pairs_of_stanzas_fit, records_are_runs,
-    stanzas_are_runs, stanzas_keep_lines, told_fault_is_least, told_record_fault_is_least,
-    whole_stanzas_are_faultless, whole_stanzas_are_sound,
+    lines_have_one_list_of_stanzas, lines_take_bytes, met_pairs_fit, pairs_of_stanzas_fit,
+    records_are_runs, stanzas_are_runs, stanzas_keep_lines, told_fault_is_least,
+    told_record_fault_is_least, whole_stanzas_are_faultless, whole_stanzas_are_sound,
 };
 pub use lines::MAX_LINE;
 pub use list_kind::ListKind;

@@ -4,6 +4,7 @@ ghost use Rattle.std.specs.Prelude.{◌≡◌, ◌<◌, not, length, position, I
 ghost use Rattle.ctl_stanza.specs.LineKind.{is_field_name_byte, kind_after_name, kind_of, IfName};
 
 use crate::lines::{is_blank, is_blank_byte};
+use ctl_relation::is_field_name_byte;
 
 /// What a line is by itself.
 #[derive(Clone, Copy, Debug, PartialEq, Eq)]
@@ -16,38 +17,6 @@ pub(crate) enum LineKind {
     Continuation,
     /// None of these.
     Faulty,
-}
-
-// 1 at each byte that may stand in the name of a field.
-const FIELD_NAME_BYTES: [u8; 256] = [
-    // controls
-    0, 0, 0, 0, 0, 0, 0, 0, 0, 0, 0, 0, 0, 0, 0, 0,
-    // controls
-    0, 0, 0, 0, 0, 0, 0, 0, 0, 0, 0, 0, 0, 0, 0, 0,
-    // space ! " # $ % & ' ( ) * + , - . /
-    0, 1, 1, 1, 1, 1, 1, 1, 1, 1, 1, 1, 1, 1, 1, 1,
-    // 0 to 9 : ; < = > ?
-    1, 1, 1, 1, 1, 1, 1, 1, 1, 1, 0, 1, 1, 1, 1, 1,
-    // @ A to O
-    1, 1, 1, 1, 1, 1, 1, 1, 1, 1, 1, 1, 1, 1, 1, 1,
-    // P to Z [ \ ] ^ _
-    1, 1, 1, 1, 1, 1, 1, 1, 1, 1, 1, 1, 1, 1, 1, 1,
-    // ` a to o
-    1, 1, 1, 1, 1, 1, 1, 1, 1, 1, 1, 1, 1, 1, 1, 1,
-    // p to z { | } ~
-    1, 1, 1, 1, 1, 1, 1, 1, 1, 1, 1, 1, 1, 1, 1, 0,
-    // above 127
-    0, 0, 0, 0, 0, 0, 0, 0, 0, 0, 0, 0, 0, 0, 0, 0, 0, 0, 0, 0, 0, 0, 0, 0, 0, 0, 0, 0, 0, 0, 0, 0,
-    0, 0, 0, 0, 0, 0, 0, 0, 0, 0, 0, 0, 0, 0, 0, 0, 0, 0, 0, 0, 0, 0, 0, 0, 0, 0, 0, 0, 0, 0, 0, 0,
-    0, 0, 0, 0, 0, 0, 0, 0, 0, 0, 0, 0, 0, 0, 0, 0, 0, 0, 0, 0, 0, 0, 0, 0, 0, 0, 0, 0, 0, 0, 0, 0,
-    0, 0, 0, 0, 0, 0, 0, 0, 0, 0, 0, 0, 0, 0, 0, 0, 0, 0, 0, 0, 0, 0, 0, 0, 0, 0, 0, 0, 0, 0, 0, 0,
-];
-
-#[tactic(auto, using(crate::proofs::NameBytes::name_byte))]
-fn is_field_name_byte(byte: u8) -> bool
-    ensures { result ≡ is_field_name_byte byte }
-{
-    FIELD_NAME_BYTES[byte as usize] == 1
 }
 
 // The index of the first byte that isn't one of names.
