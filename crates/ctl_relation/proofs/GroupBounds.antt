@@ -1,12 +1,11 @@
 -- How many atoms a field can have.
-use Rattle.std.proofs.Common.{◌≡◌, ℕ, ◌<◌, ◌≤◌, true, Option, Some, None, List, [], ◌∷◌, ◌++◌, length, sym, subst, ap, arith}
+use Rattle.std.proofs.Common.{ℕ, ◌<◌, ◌≤◌, Option, Some, None, List, [], ◌∷◌, ◌++◌, length, sym, subst, ap, arith}
 use Rattle.std.proofs.lemmas.List.{length-append}
 use Rattle.std.proofs.lemmas.List.Sums.{sum_by-cons}
 use Rattle.ctl_relation.proofs.Runs.{name_some}
 use Rattle.ctl_relation.specs.declared.field_kind.FieldKind.{FieldKind}
 use Rattle.ctl_relation.specs.Bytes.{comma, bar}
 use Rattle.ctl_relation.specs.Grammar.{AtomText, PaddedAtom, GroupText, PieceText, PiecesText, given_groups}
-use Rattle.ctl_relation.specs.Names.{is_name}
 use Rattle.ctl_relation.specs.Parts.{AtomParts}
 use Rattle.ctl_relation.specs.Bounds.{atom_count, GroupsHaveAtoms, AtomsTakeBytes}
 use Rattle.ctl_relation.proofs.PrintedAgain.{fields_have}
