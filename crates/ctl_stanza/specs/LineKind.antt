@@ -1,5 +1,5 @@
 -- What a line is by itself.
-use Rattle.std.specs.Prelude.{◌<◌, ℕ, Bool, not, ◌&&◌, ◌||◌, ◌==◌, List, Option, None, Some, position, slice_index, length, ⊤, if◌then◌else◌}
+use Rattle.std.specs.Prelude.{◌<◌, ℕ, not, ◌||◌, ◌==◌, List, Option, None, Some, position, slice_index, length, ⊤, if◌then◌else◌}
 use Rattle.ctl_relation.specs.Bytes.{colon, hash, hyphen}
 pub use Rattle.ctl_relation.specs.FieldBytes.{is_field_name_byte}
 use Rattle.ctl_stanza.specs.declared.line_kind.LineKind.{LineKind}
