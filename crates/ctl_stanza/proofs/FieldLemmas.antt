@@ -1,11 +1,13 @@
 -- Fields, and where they stand in a text.
-use Rattle.std.proofs.Common.{◌≡◌, ◌∙◌, ◌+◌, ◌-◌, ◌⊎◌, ◌<◌, ◌≤◌, ℕ, zero, suc, cond, Bool, true, false, List, [], ◌∷◌, ◌++◌, length, map, take, drop, get_or, Some, None, slice_range, append_assoc, take_all, refl, sym, ap, ap₂, arith, ⊎_elim}
+use Rattle.std.proofs.Common.{◌≡◌, ◌∙◌, ◌+◌, ◌-◌, ◌⊎◌, ◌<◌, ◌≤◌, ℕ, zero, suc, cond, Bool, true, false, List, [], ◌∷◌, ◌++◌, length, map, take, drop, get_or, Some, None, slice_range, append_assoc, take_all, refl, sym, ap, ap₂, subst, arith, ⊎_elim}
 use Rattle.std.proofs.lemmas.Bool.{cases_Bool, cond-true, cond-false}
 use Rattle.std.proofs.Math.Seq.{take-append-add, take-append_seam, drop-append-add}
 use Rattle.std.proofs.lemmas.List.{take-append-le, drop-append-le, take-append-drop, length-take-le, append-nil, drop_more, length-append, length-drop}
 use Rattle.std.proofs.lemmas.List.Elements.{All-nil, All-cons}
 use Rattle.ctl_stanza.specs.declared.fields.Field.{Field}
 use Rattle.ctl_stanza.specs.declared.fault.Cause.{Cause}
+use Rattle.ctl_stanza.specs.declared.line_kind.LineKind.{LineKind}
+use Rattle.ctl_stanza.specs.declared.line_kind.LineKind.TheVariants.{Blank, Field as FieldLine, Continuation, Faulty}
 use Rattle.ctl_stanza.specs.Lines.{is_blank_byte, text_of_lines}
 use Rattle.ctl_stanza.specs.LineKind.{kind_of}
 use Rattle.ctl_stanza.specs.declared.fields.Span.{Span}
@@ -13,7 +15,7 @@ use Rattle.ctl_stanza.specs.Fields.{FieldText, strip_end, before_stripped, conti
 use Rattle.ctl_stanza.specs.Faults.{field_cause, first_wrong, fault_or}
 use Rattle.ctl_stanza.specs.declared.fields.FieldPlace.{FieldPlace}
 use Rattle.ctl_stanza.specs.Content.{name_and_body}
-use Rattle.ctl_stanza.specs.HeldFields.{IsWithin, AreWithin, StandsAt, Shows, shown, shown_fields, place_of, shown_places, body_among, IsPlaceWithin, ArePlacesWithin, AreReadFrom, AreFieldsOf}
+use Rattle.ctl_stanza.specs.HeldFields.{IsPlainAt, ArePlain, IsWithin, AreWithin, Grows, StandsAt, Shows, shown, shown_fields, place_of, shown_places, body_among, IsPlaceWithin, ArePlacesWithin, AreReadFrom, AreFieldsOf}
 
 -- nothing but blanks is left
 pub strip_end-none : (text : List ℕ) → ((k : ℕ) → k < length text → is_blank_byte (get_or text k 0) ≡ true) → strip_end text ≡ []
@@ -213,6 +215,35 @@ body-within bytes line value at a b m behind stands le in_line is size ends =
     ap (λ t. slice_range t (at + a) (at + b + m)) round.whole ∙ beyond_line round.front line tail at a b m round.front_len le end ∙ ap₂ ◌++◌ is front)
     ends in
     record { within = within; part_is = shows }
+
+-- ---- bodies in one piece
+
+-- a value that ends its line is the end of the line
+pub plain-end : (line value : List ℕ) (start : ℕ) → start ≤ length line → slice_range line start (length line) ≡ value → drop (length line - length value) line ≡ value
+plain-end line value start le is =
+    let rest : slice_range line start (length line) ≡ drop start line = take_all (length line - start) (drop start line) (omega (arith, length-drop start line)) in
+    let from : length line - length value ≡ start = omega (arith, le, ap length (sym is), ap length rest, length-drop start line) in
+    ap (λ n. drop n line) from ∙ sym rest ∙ is
+
+-- a line of another kind begins no field
+pub plain-other : (kind : LineKind) (line : List ℕ) (behind : List (List ℕ)) → ((n : ℕ) → kind ≡ FieldLine n → ⊥) → IsPlainAt kind line behind
+plain-other (FieldLine n) line behind other = absurd (other n refl)
+plain-other Blank line behind other = tt
+plain-other Continuation line behind other = tt
+plain-other Faulty line behind other = tt
+
+-- Bytes that grew to the length of the text had that length all along.
+pub grown-none : (text old new : List ℕ) → Grows text old → Grows old new → length new ≡ length text → (length new ≡ length old) × (length old ≡ length text)
+grown-none text old new first more e =
+    let size : length old ≡ length text = omega (arith, e, ap length first.joined, length-append text first.more, ap length more.joined, length-append old more.more) in
+    (e ∙ sym size, size)
+
+-- the body of one line more
+pub plain-turn : (ls : List (List ℕ)) (line : List ℕ) (i : ℕ) → i < length ls → get_or ls i [] ≡ line → IsPlainAt (kind_of line) line (drop (i + 1) ls)
+    → (ArePlain (drop i ls) → ArePlain ls) → ArePlain (drop (i + 1) ls) → ArePlain ls
+plain-turn ls line i lt is here so_far behind =
+    let left : drop i ls ≡ line ∷ drop (i + 1) ls = drop_more ls i [] lt ∙ ap (λ l. l ∷ drop (i + 1) ls) is in
+    so_far (subst ArePlain (sym left) (here, behind))
 
 -- ---- the fields that are left
 

@@ -1,14 +1,16 @@
 -- The fields that a stanza keeps, seen in its text: how they are held. Not for callers, who read Fields.
-use Rattle.std.specs.Prelude.{◌≡◌, ℕ, ◌<◌, ◌≤◌, ◌^◌, List, [], ◌∷◌, ◌++◌, length, take, drop, slice_range, map, Option, Some, None, if◌then◌else◌}
+use Rattle.std.specs.Prelude.{◌≡◌, ℕ, ◌<◌, ◌≤◌, ◌^◌, ◌-◌, ◌⊎◌, ⊤, List, [], ◌∷◌, ◌++◌, length, take, drop, slice_range, map, Option, Some, None, if◌then◌else◌}
 use Rattle.std.specs.List.{All}
 use Rattle.ctl_stanza.specs.declared.fields.Span.{Span}
 use Rattle.ctl_stanza.specs.declared.fields.Field.{Field}
 use Rattle.ctl_stanza.specs.declared.fields.FieldPlace.{FieldPlace}
+use Rattle.ctl_stanza.specs.declared.line_kind.LineKind.{LineKind}
+use Rattle.ctl_stanza.specs.declared.line_kind.LineKind.TheVariants.{Blank, Field as FieldLine, Continuation, Faulty}
 use Rattle.ctl_stanza.specs.declared.repeats.Repeats.TheVariants.{Never}
 use Rattle.ctl_stanza.specs.Faults.{first_fault}
-use Rattle.ctl_stanza.specs.Lines.{lines_of}
+use Rattle.ctl_stanza.specs.Lines.{lines_of, text_of_lines}
 use Rattle.ctl_stanza.specs.LineKind.{kind_of}
-use Rattle.ctl_stanza.specs.Fields.{FieldText, field_at, fields_of_lines, is_same_name}
+use Rattle.ctl_stanza.specs.Fields.{FieldText, field_at, fields_of_lines, is_same_name, value_of, continued}
 use Rattle.ctl_stanza.specs.Content.{name_and_body}
 
 -- a span lies in a text
@@ -59,10 +61,32 @@ pub record AreReadFrom (text bytes : List ℕ) (fields : List Field) : Type 0 wh
   pub within : AreWithin bytes fields
   pub fields_are : shown_fields bytes fields ≡ fields_of_lines (lines_of text)
 
--- The text at the front of bytes has no faulty line, and these are its fields.
+-- ---- bodies in one piece
+
+-- the body of the field that a line of this kind begins stands in one piece: no line continues it, or its value ends its line
+abbrev pub IsPlainAt : LineKind → List ℕ → List (List ℕ) → Type 0
+IsPlainAt (FieldLine n) line behind =
+    (length (continued behind) ≡ 0) ⊎ (drop (length line - length (value_of n line)) line ≡ value_of n line)
+IsPlainAt Blank line behind = ⊤
+IsPlainAt Continuation line behind = ⊤
+IsPlainAt Faulty line behind = ⊤
+
+-- the bodies of the fields of these lines stand in one piece each
+abbrev pub ArePlain : List (List ℕ) → Type 0
+ArePlain [] = ⊤
+ArePlain (line ∷ behind) = IsPlainAt (kind_of line) line behind × ArePlain behind
+
+-- a text is its lines, each with a newline
+abbrev pub IsText : List ℕ → Type 0
+IsText text = text ≡ text_of_lines (lines_of text)
+
+-- The text at the front of bytes has no faulty line, and these are its fields. Where nothing stands behind it, the bodies
+-- stand in it in one piece.
 pub record IsReadFrom (bytes : List ℕ) (text_len : ℕ) (fields : List Field) : Type 0 where
   pub within : text_len ≤ length bytes
   pub small : text_len < 2 ^ 32
+  pub is_text : IsText (take text_len bytes)
+  pub plain : length bytes ≡ text_len → ArePlain (lines_of (take text_len bytes))
   pub fields_are : AreReadFrom (take text_len bytes) bytes fields
   pub good_lines : first_fault Never 0 [] (lines_of (take text_len bytes)) ≡ None
 

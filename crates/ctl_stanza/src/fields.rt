@@ -5,8 +5,9 @@ ghost use Rattle.std.specs.List.{prefix_len};
 ghost use Rattle.ctl_relation.specs.Bytes.{newline};
 ghost use Rattle.ctl_stanza.specs.Lines.{is_blank_byte, text_of_lines, lent_lines};
 ghost use Rattle.ctl_stanza.specs.LineKind.{kind_of};
+ghost use Rattle.ctl_stanza.specs.declared.line_kind.LineKind.TheVariants as kinds;
 ghost use Rattle.ctl_stanza.specs.Fields.{strip_end, value_of, continues, continued, fields_of_lines, body_named, is_same_name};
-ghost use Rattle.ctl_stanza.specs.HeldFields.{IsWithin, AreWithin, AreBelow, ArePlacesWithin, StandsAt, Grows, Shows, Adds, shown, shown_fields, place_of, shown_places, body_among};
+ghost use Rattle.ctl_stanza.specs.HeldFields.{IsWithin, IsPlainAt, ArePlain, AreWithin, AreBelow, ArePlacesWithin, StandsAt, Grows, Shows, Adds, shown, shown_fields, place_of, shown_places, body_among};
 
 use crate::line_kind::{LineKind, kind_of};
 use crate::lines::{begins_with_blank, is_blank, is_blank_byte};
@@ -166,6 +167,7 @@ fn body_span(
     ensures grows { OnOk result (Grows bytes.old.items bytes.new.items) }
     ensures short { OnOk result (length bytes.new.items < 2 ^ 32) }
     ensures body { IfOk result (λ span. Shows bytes.new.items span (value_of n line.now ++ continued (lent_lines behind.now))) }
+    ensures plain { OnOk result (length bytes.new.items ≡ length bytes.old.items → IsPlainAt (kinds.Field n) line.now (lent_lines behind.now)) }
 {
     let value = value_span(line, n);
     let more = continued_len(behind);
@@ -203,6 +205,7 @@ fn add_field(
     ensures grows { OnOk result (Grows bytes.old.items bytes.new.items) }
     ensures short { OnOk result (length bytes.new.items < 2 ^ 32) }
     ensures fields { OnOk result (Adds bytes.new.items line.now (lent_lines behind.now) index (shown_fields bytes.old.items fields.old.items) fields.new.items) }
+    ensures plain { OnOk result (length bytes.new.items ≡ length bytes.old.items → IsPlainAt (kind_of line.now) line.now (lent_lines behind.now)) }
     ensures lines { OnOk result ((count : ℕ) → index < count → AreBelow count fields.old.items → AreBelow count fields.new.items) }
 {
     let LineKind::Field(n) = kind_of(line) else {
@@ -239,6 +242,7 @@ pub(crate) fn fields_of_lines(
     ensures fields { IfOk result (λ fields. shown_fields bytes.new.items fields.items ≡ fields_of_lines (lent_lines lines.now)) }
     ensures within { IfOk result (λ fields. AreWithin bytes.new.items fields.items) }
     ensures lines { IfOk result (λ fields. AreBelow (length lines.now) fields.items) }
+    ensures plain { OnOk result (length bytes.new.items ≡ length bytes.old.items → ArePlain (lent_lines lines.now)) }
 {
     let mut fields = Vec::with_capacity(alloc, field_count(lines))?;
     let mut at: u32 = 0;

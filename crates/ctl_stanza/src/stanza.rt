@@ -49,23 +49,34 @@ impl Model for Stanza {
     ghost invariant = { λ s. ArePartsOf (content_in_front s.kind s.text_len s.bytes.items) s.bytes.items s.text_len s.fields.items s.relations.items s.offers.items };
 }
 
+/// The bytes of a stanza: its text, and behind it the bodies that don't stand in it in one piece.
+#[derive(Drop)]
+pub(crate) struct StanzaBytes {
+    pub(crate) bytes: Vec<u8>,
+    pub(crate) text_len: u32,
+    pub(crate) kind: ListKind,
+}
+
 // The stanza of what was read. The lines of its fields are let go.
 fn stanza_of(
     alloc: Global,
-    bytes: Vec<u8>,
-    text_len: u32,
-    kind: ListKind,
+    held: StanzaBytes,
     fields: &[Field],
     relations: Vec<RelationField>,
     offers: Vec<Offer>,
 ) -> Result<Stanza, AllocError>
-    requires read { IsReadFrom bytes.items text_len fields.now }
-    requires relations { AreRelationsOf (content_in_front kind text_len bytes.items) bytes.items relations.items }
-    requires offers { offers.items ≡ offers_of (content_in_front kind text_len bytes.items) }
-    requires no_fault { stanza_fault kind 0 (lines_of (take text_len bytes.items)) ≡ None }
-    ensures { IfOk result (λ stanza. stanza ≡ content_in_front kind text_len bytes.items) }
+    requires read { IsReadFrom held.bytes.items held.text_len fields.now }
+    requires relations { AreRelationsOf (content_in_front held.kind held.text_len held.bytes.items) held.bytes.items relations.items }
+    requires offers { offers.items ≡ offers_of (content_in_front held.kind held.text_len held.bytes.items) }
+    requires no_fault { stanza_fault held.kind 0 (lines_of (take held.text_len held.bytes.items)) ≡ None }
+    ensures { IfOk result (λ stanza. stanza ≡ content_in_front held.kind held.text_len held.bytes.items) }
 {
     whole_stanzas_are_sound();
+    let StanzaBytes {
+        bytes,
+        text_len,
+        kind,
+    } = held;
     let fields = places_of(alloc, fields)?;
     Ok(Stanza {
         bytes,
@@ -80,54 +91,79 @@ fn stanza_of(
 // Reads a stanza that isn't live, of which its package alone is checked.
 fn other_stanza(
     alloc: Global,
-    bytes: Vec<u8>,
-    text_len: u32,
-    kind: ListKind,
+    held: StanzaBytes,
     fields: &[Field],
     first_line: u64,
 ) -> Result<Stanza, TextFault>
     requires lines { All (λ field. first_line + field.line < 2 ^ 64) fields.now }
-    requires read { IsReadFrom bytes.items text_len fields.now }
-    requires not_missing { is_missing kind (shown_fields bytes.items fields.now) ≡ false }
-    requires not_live { is_live_by kind (shown_fields bytes.items fields.now) ≡ false }
-    ensures stanza { IfOk result (λ stanza. stanza ≡ content_in_front kind text_len bytes.items) }
-    ensures whole { OnOk result (whole_fault kind first_line (shown_fields bytes.items fields.now) ≡ None) }
-    ensures fault { IfErr result (Tells (whole_fault kind first_line (shown_fields bytes.items fields.now))) }
+    requires read { IsReadFrom held.bytes.items held.text_len fields.now }
+    requires not_missing { is_missing held.kind (shown_fields held.bytes.items fields.now) ≡ false }
+    requires not_live { is_live_by held.kind (shown_fields held.bytes.items fields.now) ≡ false }
+    ensures stanza { IfOk result (λ stanza. stanza ≡ content_in_front held.kind held.text_len held.bytes.items) }
+    ensures whole { OnOk result (whole_fault held.kind first_line (shown_fields held.bytes.items fields.now) ≡ None) }
+    ensures fault { IfErr result (Tells (whole_fault held.kind first_line (shown_fields held.bytes.items fields.now))) }
     ensures memory { IfErr result IsMemoryAtZero }
 {
-    if let Some(fault) = first_wrong(fields, &bytes, first_line) {
+    if let Some(fault) = first_wrong(fields, &held.bytes, first_line) {
         return Err(fault);
     }
     let relations = Vec::new(alloc);
     let offers = Vec::new(alloc);
-    let stanza = stanza_of(alloc, bytes, text_len, kind, fields, relations, offers)?;
+    let stanza = stanza_of(alloc, held, fields, relations, offers)?;
     Ok(stanza)
 }
 
 // Reads a live stanza.
 fn live_stanza(
     alloc: Global,
-    bytes: Vec<u8>,
-    text_len: u32,
-    kind: ListKind,
+    held: StanzaBytes,
     fields: &[Field],
     first_line: u64,
 ) -> Result<Stanza, TextFault>
     requires lines { All (λ field. first_line + field.line < 2 ^ 64) fields.now }
-    requires read { IsReadFrom bytes.items text_len fields.now }
-    requires not_missing { is_missing kind (shown_fields bytes.items fields.now) ≡ false }
-    requires live { is_live_by kind (shown_fields bytes.items fields.now) ≡ true }
-    ensures stanza { IfOk result (λ stanza. stanza ≡ content_in_front kind text_len bytes.items) }
-    ensures whole { OnOk result (whole_fault kind first_line (shown_fields bytes.items fields.now) ≡ None) }
-    ensures fault { IfErr result (Tells (whole_fault kind first_line (shown_fields bytes.items fields.now))) }
+    requires read { IsReadFrom held.bytes.items held.text_len fields.now }
+    requires not_missing { is_missing held.kind (shown_fields held.bytes.items fields.now) ≡ false }
+    requires live { is_live_by held.kind (shown_fields held.bytes.items fields.now) ≡ true }
+    ensures stanza { IfOk result (λ stanza. stanza ≡ content_in_front held.kind held.text_len held.bytes.items) }
+    ensures whole { OnOk result (whole_fault held.kind first_line (shown_fields held.bytes.items fields.now) ≡ None) }
+    ensures fault { IfErr result (Tells (whole_fault held.kind first_line (shown_fields held.bytes.items fields.now))) }
     ensures memory { IfErr result IsMemoryAtZero }
 {
-    let LiveParts { version, relations } = read_live(alloc, fields, &bytes, first_line)?;
-    let package = body_named(fields, &bytes, b"Package").unwrap_or(&[]);
-    let provides = kept_groups(&relations, &bytes, FieldKind::Provides);
+    let LiveParts { version, relations } = read_live(alloc, fields, &held.bytes, first_line)?;
+    let package = body_named(fields, &held.bytes, b"Package").unwrap_or(&[]);
+    let provides = kept_groups(&relations, &held.bytes, FieldKind::Provides);
     let offers = offers_of(alloc, package, version, provides)?;
-    let stanza = stanza_of(alloc, bytes, text_len, kind, fields, relations, offers)?;
+    let stanza = stanza_of(alloc, held, fields, relations, offers)?;
     Ok(stanza)
+}
+
+/// Makes the stanza of bytes at whose front its text stands, of which these are the fields, or tells what is wrong with it.
+/// Lines count from `first_line`.
+pub(crate) fn stanza_of_fields(
+    alloc: Global,
+    held: StanzaBytes,
+    fields: &[Field],
+    first_line: u64,
+) -> Result<Stanza, TextFault>
+    requires lines { All (λ field. first_line + field.line < 2 ^ 64) fields.now }
+    requires read { IsReadFrom held.bytes.items held.text_len fields.now }
+    ensures stanza { IfOk result (λ stanza. stanza ≡ content_in_front held.kind held.text_len held.bytes.items) }
+    ensures whole { OnOk result (whole_fault held.kind first_line (shown_fields held.bytes.items fields.now) ≡ None) }
+    ensures fault { IfErr result (Tells (whole_fault held.kind first_line (shown_fields held.bytes.items fields.now))) }
+    ensures memory { IfErr result IsMemoryAtZero }
+{
+    let live = liveness(held.kind, fields, &held.bytes);
+    if is_missing(held.kind, live, fields, &held.bytes) {
+        return Err(TextFault {
+            line: first_line,
+            cause: Cause::Missing,
+        });
+    }
+    if live == Some(true) {
+        live_stanza(alloc, held, fields, first_line)
+    } else {
+        other_stanza(alloc, held, fields, first_line)
+    }
 }
 
 /// Reads a stanza that has no faulty line, whose lines count from `first_line`. One of 2^32 bytes or more
@@ -152,18 +188,12 @@ pub(crate) fn read_stanza(
     }
     let text_len = bytes.len() as u32;
     let fields = fields_of_lines(alloc, &mut bytes, lines)?;
-    let live = liveness(kind, &fields, &bytes);
-    if is_missing(kind, live, &fields, &bytes) {
-        return Err(TextFault {
-            line: first_line,
-            cause: Cause::Missing,
-        });
-    }
-    if live == Some(true) {
-        live_stanza(alloc, bytes, text_len, kind, &fields, first_line)
-    } else {
-        other_stanza(alloc, bytes, text_len, kind, &fields, first_line)
-    }
+    let held = StanzaBytes {
+        bytes,
+        text_len,
+        kind,
+    };
+    stanza_of_fields(alloc, held, &fields, first_line)
 }
 
 impl Stanza {

@@ -6,5 +6,5 @@ use Rattle.ctl_stanza.proofs.stanza.live_stanza.Goals as goal
 
 pub stanza_of-requires-clause-no_fault : goal.stanza_of-requires-clause-no_fault
 stanza_of-requires-clause-no_fault c =
-    let whole : whole_fault c.args.kind c.args.first_line (shown_fields c.args.bytes.items c.args.fields.now) ≡ None = search rules in
-    no_fault_of c.args.kind c.args.first_line c.args.text_len c.args.bytes.items c.args.fields.now c.requires.read whole
+    let whole : whole_fault c.args.held.kind c.args.first_line (shown_fields c.args.held.bytes.items c.args.fields.now) ≡ None = search rules in
+    no_fault_of c.args.held.kind c.args.first_line c.args.held.text_len c.args.held.bytes.items c.args.fields.now c.requires.read whole

@@ -3,14 +3,8 @@ use Rattle.ctl_stanza.specs.Lines.{lent_lines}
 use Rattle.ctl_stanza.proofs.SoundLemmas.{read_from}
 use Rattle.ctl_stanza.proofs.stanza.read_stanza.Goals as goal
 
-pub live_stanza-requires-clause-read : goal.live_stanza-requires-clause-read
-live_stanza-requires-clause-read c =
+pub stanza_of_fields-requires-clause-read : goal.stanza_of_fields-requires-clause-read
+stanza_of_fields-requires-clause-read c =
     let size : c.len-text_len.result ≡ length c.in_ok-bytes.bytes.items = omega (arith, c.len-text_len.ensures) in
-    rw c.deref-then-eq.ensures.value (read_from c.args.first_line c.len-text_len.result (lent_lines c.args.lines.now) c.in_ok-bytes.bytes.items c.fields_of_lines.new.bytes.items c.in_ok-fields.fields.items size
-    (omega (arith, c.len.ensures, c.if-len.false)) c.in_ok-bytes.ensures c.requires.no_newline c.in_ok-fields.ensures.grows c.in_ok-fields.ensures.within c.in_ok-fields.ensures.fields c.requires.no_fault)
-
-pub other_stanza-requires-clause-read : goal.other_stanza-requires-clause-read
-other_stanza-requires-clause-read c =
-    let size : c.len-text_len.result ≡ length c.in_ok-bytes.bytes.items = omega (arith, c.len-text_len.ensures) in
-    rw c.deref-else-eq.ensures.value (read_from c.args.first_line c.len-text_len.result (lent_lines c.args.lines.now) c.in_ok-bytes.bytes.items c.fields_of_lines.new.bytes.items c.in_ok-fields.fields.items size
-    (omega (arith, c.len.ensures, c.if-len.false)) c.in_ok-bytes.ensures c.requires.no_newline c.in_ok-fields.ensures.grows c.in_ok-fields.ensures.within c.in_ok-fields.ensures.fields c.requires.no_fault)
+    rw c.deref.ensures.value (read_from c.args.first_line c.len-text_len.result (lent_lines c.args.lines.now) c.in_ok-bytes.bytes.items c.fields_of_lines.new.bytes.items c.in_ok-fields.fields.items size
+    (omega (arith, c.len.ensures, c.if-len.false)) c.in_ok-bytes.ensures c.requires.no_newline c.in_ok-fields.ensures.grows c.in_ok-fields.ensures.within c.in_ok-fields.ensures.fields c.in_ok-fields.ensures.plain c.requires.no_fault)
