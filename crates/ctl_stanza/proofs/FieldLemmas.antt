@@ -1,9 +1,10 @@
 -- Fields, and where they stand in a text.
-use Rattle.std.proofs.Common.{◌≡◌, ◌∙◌, ◌+◌, ◌-◌, ◌⊎◌, ◌<◌, ◌≤◌, ℕ, zero, suc, cond, Bool, true, false, List, [], ◌∷◌, ◌++◌, length, map, take, drop, get_or, Some, None, slice_range, append_assoc, take_all, refl, sym, ap, ap₂, subst, arith, ⊎_elim}
-use Rattle.std.proofs.lemmas.Bool.{cases_Bool, cond-true, cond-false}
+use Rattle.std.proofs.Common.{◌≡◌, ◌≢◌, ◌∙◌, ◌+◌, ◌-◌, ◌⊎◌, ◌<◌, ◌≤◌, ◌==◌, ◌||◌, ℕ, zero, suc, Bool, true, false, List, [], ◌∷◌, ◌++◌, length, take, drop, get_or, Some, None, slice_range, append_assoc, take_all, refl, sym, ap, ap₂, arith, ⊎_elim}
+use Rattle.std.proofs.lemmas.Bool.{cases_Bool, cond-true, cond-false, eqb-true}
 use Rattle.std.proofs.Math.Seq.{take-append-add, take-append_seam, drop-append-add}
 use Rattle.std.proofs.lemmas.List.{take-append-le, drop-append-le, take-append-drop, length-take-le, append-nil, drop_more, length-append, length-drop}
-use Rattle.std.proofs.lemmas.List.Elements.{All-nil, All-cons}
+use Rattle.std.specs.Str.{bytes_eq}
+use Rattle.std.proofs.lemmas.Slice.Eq.{bytes_eq-Decides}
 use Rattle.ctl_stanza.specs.declared.fields.Field.{Field}
 use Rattle.ctl_stanza.specs.declared.fault.Cause.{Cause}
 use Rattle.ctl_stanza.specs.declared.line_kind.LineKind.{LineKind}
@@ -11,11 +12,9 @@ use Rattle.ctl_stanza.specs.declared.line_kind.LineKind.TheVariants.{Blank, Fiel
 use Rattle.ctl_stanza.specs.Lines.{is_blank_byte, text_of_lines}
 use Rattle.ctl_stanza.specs.LineKind.{kind_of}
 use Rattle.ctl_stanza.specs.declared.fields.Span.{Span}
-use Rattle.ctl_stanza.specs.Fields.{FieldText, strip_end, before_stripped, continues, continued, body_named, is_same_name, fields_from, field_at}
+use Rattle.ctl_stanza.specs.Fields.{FieldText, strip_end, before_stripped, value_of, continues, continued, fields_from, field_at}
 use Rattle.ctl_stanza.specs.Faults.{field_cause, first_wrong, fault_or}
-use Rattle.ctl_stanza.specs.declared.fields.FieldPlace.{FieldPlace}
-use Rattle.ctl_stanza.specs.Content.{name_and_body}
-use Rattle.ctl_stanza.specs.HeldFields.{IsPlainAt, ArePlain, IsWithin, AreWithin, Grows, StandsAt, Shows, shown, shown_fields, place_of, shown_places, body_among, IsPlaceWithin, ArePlacesWithin, AreReadFrom, AreFieldsOf}
+use Rattle.ctl_stanza.specs.HeldFields.{IsPlainAt, ArePlain, IsWithin, AreWithin, StandsAt, Shows, ends_with_value, loose_at, loose_bodies, shown, shown_fields}
 
 -- nothing but blanks is left
 pub strip_end-none : (text : List ℕ) → ((k : ℕ) → k < length text → is_blank_byte (get_or text k 0) ≡ true) → strip_end text ≡ []
@@ -32,6 +31,10 @@ strip_end-at (b ∷ text) zero lt here all =
 strip_end-at (b ∷ []) (suc i) lt here all = absurd (omega arith)
 strip_end-at (b ∷ c ∷ text) (suc i) lt here all =
     ap (before_stripped b) (strip_end-at (c ∷ text) i (omega arith) here (λ k less more. all (suc k) (omega arith) (omega arith)))
+
+-- the part of a text that a span shows has the bytes from its start to its end
+pub shown-len : (text : List ℕ) (span : Span) → IsWithin text span → length (shown text span) ≡ span.end - span.start
+shown-len text span within = length-take-le (span.end - span.start) (drop span.start text) (omega (arith, within.0, within.1, length-drop span.start text))
 
 -- a part of a line, in the text round it
 pub within_line : (front line behind : List ℕ) (at a b : ℕ) → length front ≡ at → a ≤ b → b ≤ length line
@@ -218,32 +221,62 @@ body-within bytes line value at a b m behind stands le in_line is size ends =
 
 -- ---- bodies in one piece
 
--- a value that ends its line is the end of the line
-pub plain-end : (line value : List ℕ) (start : ℕ) → start ≤ length line → slice_range line start (length line) ≡ value → drop (length line - length value) line ≡ value
-plain-end line value start le is =
-    let rest : slice_range line start (length line) ≡ drop start line = take_all (length line - start) (drop start line) (omega (arith, length-drop start line)) in
-    let from : length line - length value ≡ start = omega (arith, le, ap length (sym is), ap length rest, length-drop start line) in
-    ap (λ n. drop n line) from ∙ sym rest ∙ is
+either-way : (a : Bool) → (a || true) ≡ true
+either-way true = refl
+either-way false = refl
+
+pub loose-end : (n : ℕ) (line : List ℕ) (behind : List (List ℕ)) → length (continued behind) ≡ 0 → loose_at (FieldLine n) line behind ≡ []
+loose-end n line behind none = cond-true _ _ _ (ap (λ (m : ℕ). m == 0 || ends_with_value n line) none)
+
+pub loose-ends : (n : ℕ) (line value : List ℕ) (behind : List (List ℕ)) → value ≡ value_of n line → bytes_eq (drop (length line - length value) line) value ≡ true → loose_at (FieldLine n) line behind ≡ []
+loose-ends n line value behind is ends =
+    let here : ends_with_value n line ≡ true = ap (λ v. bytes_eq (drop (length line - length v) line) v) (sym is) ∙ ends in
+    cond-true _ _ _ (ap (λ (b : Bool). length (continued behind) == 0 || b) here ∙ either-way (length (continued behind) == 0))
+
+pub loose-whole : (n : ℕ) (line value : List ℕ) (behind : List (List ℕ)) → value ≡ value_of n line → length (continued behind) ≢ 0 → bytes_eq (drop (length line - length value) line) value ≡ false
+    → loose_at (FieldLine n) line behind ≡ value ++ continued behind
+loose-whole n line value behind is some ends =
+    let here : ends_with_value n line ≡ false = ap (λ v. bytes_eq (drop (length line - length v) line) v) (sym is) ∙ ends in
+    let more : (length (continued behind) == 0) ≡ false = ⊎_elim (λ yes. absurd (some (eqb-true (length (continued behind)) 0 yes))) (λ none. none) (cases_Bool (length (continued behind) == 0)) in
+    cond-false _ _ _ (ap₂ ◌||◌ more here) ∙ ap (λ v. v ++ continued behind) (sym is)
 
 -- a line of another kind begins no field
-pub plain-other : (kind : LineKind) (line : List ℕ) (behind : List (List ℕ)) → ((n : ℕ) → kind ≡ FieldLine n → ⊥) → IsPlainAt kind line behind
-plain-other (FieldLine n) line behind other = absurd (other n refl)
-plain-other Blank line behind other = tt
-plain-other Continuation line behind other = tt
-plain-other Faulty line behind other = tt
+pub loose-other : (kind : LineKind) (line : List ℕ) (behind : List (List ℕ)) → ((n : ℕ) → kind ≡ FieldLine n → ⊥) → loose_at kind line behind ≡ []
+loose-other (FieldLine n) line behind other = absurd (other n refl)
+loose-other Blank line behind other = refl
+loose-other Continuation line behind other = refl
+loose-other Faulty line behind other = refl
 
--- Bytes that grew to the length of the text had that length all along.
-pub grown-none : (text old new : List ℕ) → Grows text old → Grows old new → length new ≡ length text → (length new ≡ length old) × (length old ≡ length text)
-grown-none text old new first more e =
-    let size : length old ≡ length text = omega (arith, e, ap length first.joined, length-append text first.more, ap length more.joined, length-append old more.more) in
-    (e ∙ sym size, size)
+-- the end of a line that is a value
+pub end-shown : (line value : List ℕ) → length value ≤ length line → bytes_eq (drop (length line - length value) line) value ≡ true → slice_range line (length line - length value) (length line) ≡ value
+end-shown line value le ends =
+    take_all (length line - (length line - length value)) (drop (length line - length value) line) (omega (arith, length-drop (length line - length value) line))
+    ∙ (bytes_eq-Decides (drop (length line - length value) line) value).0 ends
+
+pub nothing-added : (bytes more : List ℕ) → more ≡ [] → bytes ≡ bytes ++ more
+nothing-added bytes more none = sym (ap (λ t. bytes ++ t) none ∙ append-nil bytes)
 
 -- the body of one line more
-pub plain-turn : (ls : List (List ℕ)) (line : List ℕ) (i : ℕ) → i < length ls → get_or ls i [] ≡ line → IsPlainAt (kind_of line) line (drop (i + 1) ls)
-    → (ArePlain (drop i ls) → ArePlain ls) → ArePlain (drop (i + 1) ls) → ArePlain ls
-plain-turn ls line i lt is here so_far behind =
+pub loose-turn : (ls : List (List ℕ)) (line old new whole : List ℕ) (i : ℕ) → i < length ls → get_or ls i [] ≡ line → new ≡ old ++ loose_at (kind_of line) line (drop (i + 1) ls)
+    → old ++ loose_bodies (drop i ls) ≡ whole → new ++ loose_bodies (drop (i + 1) ls) ≡ whole
+loose-turn ls line old new whole i lt is adds told =
     let left : drop i ls ≡ line ∷ drop (i + 1) ls = drop_more ls i [] lt ∙ ap (λ l. l ∷ drop (i + 1) ls) is in
-    so_far (subst ArePlain (sym left) (here, behind))
+    ap (λ t. t ++ loose_bodies (drop (i + 1) ls)) adds ∙ append_assoc old (loose_at (kind_of line) line (drop (i + 1) ls)) (loose_bodies (drop (i + 1) ls))
+    ∙ ap (λ t. old ++ loose_bodies t) (sym left) ∙ told
+
+plain-none : (kind : LineKind) (line : List ℕ) (behind : List (List ℕ)) → IsPlainAt kind line behind → loose_at kind line behind ≡ []
+plain-none (FieldLine n) line behind plain = ⊎_elim
+    (λ none. loose-end n line behind none)
+    (λ ends. loose-ends n line (value_of n line) behind refl ((bytes_eq-Decides (drop (length line - length (value_of n line)) line) (value_of n line)).1 ends))
+    plain
+plain-none Blank line behind plain = refl
+plain-none Continuation line behind plain = refl
+plain-none Faulty line behind plain = refl
+
+-- Where all bodies stand in one piece, nothing is put behind the text.
+pub plain-nothing : (ls : List (List ℕ)) → ArePlain ls → loose_bodies ls ≡ []
+plain-nothing [] plain = refl
+plain-nothing (line ∷ behind) plain = ap₂ ◌++◌ (plain-none (kind_of line) line behind plain.0) (plain-nothing behind plain.1)
 
 -- ---- the fields that are left
 
@@ -259,30 +292,6 @@ first_wrong-good live n field fields left is good = ap (first_wrong live n) is �
 
 pub first_wrong-bad : (live : Bool) (n : ℕ) (cause : Cause) (field : FieldText) (fields left : List FieldText) → left ≡ field ∷ fields → field_cause live field.name field.body ≡ Some cause → first_wrong live n left ≡ Some (record { line = n + field.line; cause = cause })
 first_wrong-bad live n cause field fields left is bad = ap (first_wrong live n) is ∙ ap (λ o. fault_or (n + field.line) o (first_wrong live n fields)) bad
-
--- ---- what is kept of fields
-
--- the body of a name among names with bodies is that among fields
-pub body_among_named : (name : List ℕ) (fields : List FieldText) → body_among name (map name_and_body fields) ≡ body_named name fields
-body_among_named name [] = refl
-body_among_named name (f ∷ fs) = ap (λ o. cond (is_same_name f.name name) (Some f.body) o) (body_among_named name fs)
-
-places-shown : (bytes : List ℕ) (fields : List Field) → shown_places bytes (map place_of fields) ≡ map name_and_body (shown_fields bytes fields)
-places-shown bytes [] = refl
-places-shown bytes (f ∷ fs) = ap (λ t. (shown bytes f.name, shown bytes f.body) ∷ t) (places-shown bytes fs)
-
-places-within : (bytes : List ℕ) (fields : List Field) → AreWithin bytes fields → ArePlacesWithin bytes (map place_of fields)
-places-within bytes [] within = All-nil _
-places-within bytes (f ∷ fs) within =
-    All-cons (IsPlaceWithin bytes) (place_of f) _ (within 0 f (omega arith)) (places-within bytes fs (λ k d lt. within (suc k) d (omega arith)))
-
--- the places of fields that were read are those of the text's fields
-pub kept_fields : (text bytes : List ℕ) (fields : List Field) (places : List FieldPlace) → AreReadFrom text bytes fields → places ≡ map place_of fields → AreFieldsOf text bytes places
-kept_fields text bytes fields places read kept =
-    record {
-      within = rw kept (places-within bytes fields read.within);
-      fields_are = ap (shown_places bytes) kept ∙ places-shown bytes fields ∙ ap (map name_and_body) read.fields_are;
-    }
 
 -- ---- the text of lines
 

@@ -161,7 +161,7 @@ end-split (b ∷ text) = end-next b text (strip_end text) refl (end-split text)
 
 -- ---- what is taken for a field line is one
 
-record FieldFound (line : List ℕ) (n : ℕ) : Type 0 where
+pub record FieldFound (line : List ℕ) (n : ℕ) : Type 0 where
   pub place : position (λ b. not (is_field_name_byte b)) line ≡ Some n
   pub some : (n == 0) ≡ false
   pub colon_at : (get_or line n 0 == colon) ≡ true
@@ -184,7 +184,7 @@ tests-inside true bad m n e = absurd cc
 tests-inside false true m n e = absurd cc
 tests-inside false false m n e = (refl, refl, cc)
 
-field-found : (line : List ℕ) (n : ℕ) → kind_of line ≡ Field n → FieldFound line n
+pub field-found : (line : List ℕ) (n : ℕ) → kind_of line ≡ Field n → FieldFound line n
 field-found line n e =
     by (position (λ b. not (is_field_name_byte b)) line) refl
     (kind-inside (is_blank line) (is_blank_byte (get_or line 0 0)) (kind_after_name line (position (λ b. not (is_field_name_byte b)) line)) n e)

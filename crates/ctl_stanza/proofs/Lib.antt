@@ -28,3 +28,4 @@ pub mod PairLemmas
 pub mod ReadLemmas
 pub mod PartLemmas
 pub mod ReaderLemmas
+pub mod WalkLemmas

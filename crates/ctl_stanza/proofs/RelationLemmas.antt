@@ -1,8 +1,10 @@
 -- The names of the relation fields, and what is kept of them.
-use Rattle.std.proofs.Common.{◌≡◌, ◌∙◌, ◌++◌, ℕ, true, false, cond, List, [], ◌∷◌, get_or, nat_eq, Option, Some, None, refl, sym, ap, ap₂, subst, ⊎_elim, Bool, unwrap_or}
+use Rattle.std.proofs.Common.{◌≡◌, ◌∙◌, ◌++◌, ℕ, true, false, cond, List, [], ◌∷◌, get_or, length, nat_eq, Option, Some, None, refl, sym, ap, ap₂, subst, ⊎_elim, Bool, unwrap_or}
 use Rattle.std.specs.Option.{option_map}
 use Rattle.std.specs.Str.{bytes_eq, str_to_ascii_lowercase}
+use Rattle.std.specs.Char.{to_ascii_lowercase}
 use Rattle.std.proofs.lemmas.Bool.{cases_Bool, cond-true, cond-false, eqb-true}
+use Rattle.std.proofs.lemmas.List.{length-map}
 use Rattle.std.proofs.lemmas.List.Elements.{All-push}
 use Rattle.std.proofs.lemmas.Slice.Eq.{bytes_eq-Decides}
 use Rattle.ctl_relation.specs.declared.field_kind.FieldKind.{FieldKind}
@@ -23,6 +25,10 @@ use Rattle.ctl_stanza.specs.HeldStanza.{kept_groups, version_given, AreKeptIn, I
 
 lower-same : (a b : List ℕ) → is_same_name a b ≡ true → str_to_ascii_lowercase a ≡ str_to_ascii_lowercase b
 lower-same a b same = (bytes_eq-Decides (str_to_ascii_lowercase a) (str_to_ascii_lowercase b)).0 same
+
+-- names that are the same have as many bytes
+pub same-length : (a b : List ℕ) → is_same_name a b ≡ true → length a ≡ length b
+same-length a b same = sym (length-map a to_ascii_lowercase) ∙ ap length (lower-same a b same) ∙ length-map b to_ascii_lowercase
 
 -- names that are the same are the same as the same others
 pub same-respects : (a b c : List ℕ) → is_same_name a b ≡ true → is_same_name a c ≡ is_same_name b c

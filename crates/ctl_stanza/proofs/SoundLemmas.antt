@@ -1,5 +1,5 @@
 -- What holds of a stanza without a fault.
-use Rattle.std.proofs.Common.{◌≡◌, ◌∙◌, ◌+◌, ◌-◌, ◌<◌, ◌≤◌, ◌^◌, ◌==◌, ◌&&◌, ◌||◌, ℕ, suc, Bool, true, false, cond, List, [], ◌∷◌, ◌++◌, nat_eq, length, map, take, drop, Option, Some, None, Result, Ok, Err, refl, sym, ap, subst, arith, ⊎_elim}
+use Rattle.std.proofs.Common.{◌≡◌, ◌∙◌, ◌+◌, ◌-◌, ◌<◌, ◌≤◌, ◌^◌, ◌==◌, ◌&&◌, ◌||◌, ℕ, suc, Bool, true, false, cond, List, [], ◌∷◌, ◌++◌, nat_eq, length, map, take, drop, Option, Some, None, Result, Ok, Err, refl, sym, ap, ap₂, subst, arith, ⊎_elim}
 use Rattle.std.specs.Bool.{⊤}
 use Rattle.std.specs.List.{All, prefix_len, sum_by}
 use Rattle.std.specs.Prelude.{IsSome, unwrap_or}
@@ -32,9 +32,9 @@ use Rattle.ctl_stanza.specs.RelationFields.{name_of, relation_kind}
 use Rattle.ctl_stanza.specs.Status.{liveness, is_live_by}
 use Rattle.ctl_stanza.specs.Content.{Content, fields_of, body_of, is_live, package_of, version_of, relations_of_kind, offer_of, offers_in, offers_of}
 use Rattle.ctl_stanza.specs.Faults.{cause_of, fault_or, first_fault, is_empty_body, lacks_state, is_missing, field_cause, first_wrong, whole_fault, or_else, stanza_fault}
-use Rattle.std.proofs.Math.Seq.{take-append_seam}
+use Rattle.std.proofs.Math.Seq.{take-append_seam, drop-append-add}
 use Rattle.ctl_stanza.specs.declared.fields.Field.{Field}
-use Rattle.ctl_stanza.specs.HeldFields.{ArePlain, AreWithin, Grows, IsReadFrom, shown_fields}
+use Rattle.ctl_stanza.specs.HeldFields.{AreWithin, Grows, IsReadFrom, loose_bodies, shown_fields}
 use Rattle.ctl_stanza.specs.Sound.{IsWhole, IsSound, atoms_of}
 use Rattle.ctl_stanza.proofs.FieldLemmas.{continued-le}
 use Rattle.ctl_stanza.proofs.ProvidesLemmas.{one_atom_each}
@@ -425,16 +425,16 @@ front_text size old new e grows = ap (λ n. take n new) e ∙ ap (take (length o
 
 -- what the lines of a stanza without a faulty line are read to
 pub read_from : (n text_len : ℕ) (lines : List (List ℕ)) (old new : List ℕ) (fields : List Field) → text_len ≡ length old → length old < 2 ^ 32 → old ≡ text_of_lines lines → lines_of (text_of_lines lines) ≡ lines
-    → Grows old new → AreWithin new fields → shown_fields new fields ≡ fields_of_lines lines → (length new ≡ length old → ArePlain lines) → first_fault Never n [] lines ≡ None
-    → IsReadFrom new text_len fields
-read_from n text_len lines old new fields size small text cut grows within read plain good =
-    let front = front_text text_len old new size grows in
+    → new ≡ old ++ loose_bodies lines → AreWithin new fields → shown_fields new fields ≡ fields_of_lines lines → first_fault Never n [] lines ≡ None → IsReadFrom new text_len fields
+read_from n text_len lines old new fields size small text cut joined within read good =
+    let front = front_text text_len old new size (record { more = loose_bodies lines; joined = joined }) in
     let same : lines_of (take text_len new) ≡ lines = ap lines_of (front ∙ text) ∙ cut in
+    let behind : text_len ≡ length old + 0 = omega (arith, size) in
     record {
-      within = omega (arith, size, ap (λ (t : List ℕ). length t) grows.joined, length-append old grows.more);
+      within = omega (arith, size, ap (λ (t : List ℕ). length t) joined, length-append old (loose_bodies lines));
       small = omega (arith, size, small);
       is_text = front ∙ text ∙ ap text_of_lines (sym same);
-      plain = λ all. subst ArePlain (sym same) (plain (all ∙ size));
+      loose_are = ap₂ drop behind joined ∙ drop-append-add old (loose_bodies lines) 0 ∙ ap loose_bodies (sym same);
       fields_are = record { within = within; fields_are = read ∙ ap fields_of_lines (sym same) };
       good_lines = ap (first_fault Never 0 []) same ∙ first_fault-none Never n 0 [] lines good;
     }

@@ -72,6 +72,13 @@ abbrev pub body_named : List ℕ → List FieldText → Option (List ℕ)
 body_named name [] = None
 body_named name (field ∷ fields) = if is_same_name field.name name then Some field.body else body_named name fields
 
+-- whether a line of this kind begins the field of a name
+abbrev pub names_field : LineKind → List ℕ → List ℕ → Bool
+names_field (Field n) line name = is_same_name (take n line) name
+names_field Blank line name = false
+names_field Continuation line name = false
+names_field Faulty line name = false
+
 -- the names of the fields that a stanza has to have
 abbrev pub package_name : List ℕ
 package_name = codes "Package"

@@ -1,16 +1,16 @@
 -- The fields that a stanza keeps, seen in its text: how they are held. Not for callers, who read Fields.
-use Rattle.std.specs.Prelude.{◌≡◌, ℕ, ◌<◌, ◌≤◌, ◌^◌, ◌-◌, ◌⊎◌, ⊤, List, [], ◌∷◌, ◌++◌, length, take, drop, slice_range, map, Option, Some, None, if◌then◌else◌}
+use Rattle.std.specs.Prelude.{◌≡◌, ℕ, ◌<◌, ◌≤◌, ◌^◌, ◌-◌, ◌⊎◌, ⊤, ◌==◌, ◌||◌, Bool, List, [], ◌∷◌, ◌++◌, length, take, drop, slice_range, map, None, if◌then◌else◌}
 use Rattle.std.specs.List.{All}
+use Rattle.std.specs.Str.{bytes_eq}
 use Rattle.ctl_stanza.specs.declared.fields.Span.{Span}
 use Rattle.ctl_stanza.specs.declared.fields.Field.{Field}
-use Rattle.ctl_stanza.specs.declared.fields.FieldPlace.{FieldPlace}
 use Rattle.ctl_stanza.specs.declared.line_kind.LineKind.{LineKind}
 use Rattle.ctl_stanza.specs.declared.line_kind.LineKind.TheVariants.{Blank, Field as FieldLine, Continuation, Faulty}
 use Rattle.ctl_stanza.specs.declared.repeats.Repeats.TheVariants.{Never}
 use Rattle.ctl_stanza.specs.Faults.{first_fault}
 use Rattle.ctl_stanza.specs.Lines.{lines_of, text_of_lines}
 use Rattle.ctl_stanza.specs.LineKind.{kind_of}
-use Rattle.ctl_stanza.specs.Fields.{FieldText, field_at, fields_of_lines, is_same_name, value_of, continued}
+use Rattle.ctl_stanza.specs.Fields.{FieldText, field_at, fields_of_lines, value_of, continued}
 use Rattle.ctl_stanza.specs.Content.{name_and_body}
 
 -- a span lies in a text
@@ -33,35 +33,30 @@ shown_field text field = record { line = field.line; name = shown text field.nam
 abbrev pub shown_fields : List ℕ → List Field → List FieldText
 shown_fields text fields = map (shown_field text) fields
 
--- ---- what is kept of a field: its place, without its line
-
-abbrev pub place_of : Field → FieldPlace
-place_of field = record { name = field.name; body = field.body }
-
-abbrev pub IsPlaceWithin : List ℕ → FieldPlace → Type 0
-IsPlaceWithin text place = IsWithin text place.name × IsWithin text place.body
-
-abbrev pub ArePlacesWithin : List ℕ → List FieldPlace → Type 0
-ArePlacesWithin text places = All (IsPlaceWithin text) places
-
--- the name and the body at a place of a text
-abbrev pub shown_place : List ℕ → FieldPlace → List ℕ × List ℕ
-shown_place text place = (shown text place.name, shown text place.body)
-
-abbrev pub shown_places : List ℕ → List FieldPlace → List (List ℕ × List ℕ)
-shown_places text places = map (shown_place text) places
-
--- the body of the first field of a name, among names with bodies
-abbrev pub body_among : List ℕ → List (List ℕ × List ℕ) → Option (List ℕ)
-body_among name [] = None
-body_among name (field ∷ fields) = if is_same_name field.0 name then Some field.1 else body_among name fields
-
 -- these were read as the fields of a text, and lie in these bytes
 pub record AreReadFrom (text bytes : List ℕ) (fields : List Field) : Type 0 where
   pub within : AreWithin bytes fields
   pub fields_are : shown_fields bytes fields ≡ fields_of_lines (lines_of text)
 
 -- ---- bodies in one piece
+
+-- whether a field line ends with the value that it gives, whose name has n bytes
+abbrev pub ends_with_value : ℕ → List ℕ → Bool
+ends_with_value n line = bytes_eq (drop (length line - length (value_of n line)) line) (value_of n line)
+
+-- The body of the field that a line of this kind begins, where it doesn't stand in the text in one piece: lines continue it,
+-- and blanks stand between its value and these.
+abbrev pub loose_at : LineKind → List ℕ → List (List ℕ) → List ℕ
+loose_at (FieldLine n) line behind =
+    if length (continued behind) == 0 || ends_with_value n line then [] else value_of n line ++ continued behind
+loose_at Blank line behind = []
+loose_at Continuation line behind = []
+loose_at Faulty line behind = []
+
+-- the bodies of lines that don't stand in their text in one piece, one behind the other
+abbrev pub loose_bodies : List (List ℕ) → List ℕ
+loose_bodies [] = []
+loose_bodies (line ∷ behind) = loose_at (kind_of line) line behind ++ loose_bodies behind
 
 -- the body of the field that a line of this kind begins stands in one piece: no line continues it, or its value ends its line
 abbrev pub IsPlainAt : LineKind → List ℕ → List (List ℕ) → Type 0
@@ -80,20 +75,25 @@ ArePlain (line ∷ behind) = IsPlainAt (kind_of line) line behind × ArePlain be
 abbrev pub IsText : List ℕ → Type 0
 IsText text = text ≡ text_of_lines (lines_of text)
 
--- The text at the front of bytes has no faulty line, and these are its fields. Where nothing stands behind it, the bodies
--- stand in it in one piece.
+-- Fields are found by walking a text; their bodies that don't stand in it in one piece are at hand.
+pub record IsWalk (text loose : List ℕ) : Type 0 where
+  pub small : length text < 2 ^ 32
+  pub is_text : IsText text
+  pub loose_are : loose ≡ loose_bodies (lines_of text)
+
+-- the names and the bodies of the fields of a text, in order
+abbrev pub bodies_in : List ℕ → List (List ℕ × List ℕ)
+bodies_in text = map name_and_body (fields_of_lines (lines_of text))
+
+-- The text at the front of bytes has no faulty line, and these are its fields. Behind it stand the bodies that don't stand in
+-- it in one piece.
 pub record IsReadFrom (bytes : List ℕ) (text_len : ℕ) (fields : List Field) : Type 0 where
   pub within : text_len ≤ length bytes
   pub small : text_len < 2 ^ 32
   pub is_text : IsText (take text_len bytes)
-  pub plain : length bytes ≡ text_len → ArePlain (lines_of (take text_len bytes))
+  pub loose_are : drop text_len bytes ≡ loose_bodies (lines_of (take text_len bytes))
   pub fields_are : AreReadFrom (take text_len bytes) bytes fields
   pub good_lines : first_fault Never 0 [] (lines_of (take text_len bytes)) ≡ None
-
--- at these places stand the fields of a text, which lie in these bytes
-pub record AreFieldsOf (text bytes : List ℕ) (places : List FieldPlace) : Type 0 where
-  pub within : ArePlacesWithin bytes places
-  pub fields_are : shown_places bytes places ≡ map name_and_body (fields_of_lines (lines_of text))
 
 -- ---- how fields are read
 

@@ -1,21 +1,20 @@
 -- What a stanza keeps of its relation fields, and the facts that hold it together: how it is held. Not for callers, who
 -- read Content.
-use Rattle.std.specs.Prelude.{◌≡◌, ◌≤◌, ℕ, List, [], ◌∷◌, ◌++◌, length, take, nat_eq, unwrap_or, Option, None, Some, if◌then◌else◌}
+use Rattle.std.specs.Prelude.{◌≡◌, ◌≤◌, ℕ, List, [], ◌∷◌, ◌++◌, length, take, drop, nat_eq, unwrap_or, Option, None, Some, if◌then◌else◌}
 use Rattle.std.specs.List.{All}
 use Rattle.ctl_relation.specs.declared.field_kind.FieldKind.{FieldKind}
 use Rattle.ctl_relation.specs.FieldKind.{field_place}
 use Rattle.ctl_relation.specs.HeldPlaces.{ArePlacesIn, groups_kept}
 use Rattle.ctl_relation.specs.Parts.{AtomParts, OfferParts}
 use Rattle.ctl_relation.specs.Reading.{groups_read}
-use Rattle.ctl_stanza.specs.declared.fields.FieldPlace.{FieldPlace}
 use Rattle.ctl_stanza.specs.declared.fields.Span.{Span}
 use Rattle.ctl_stanza.specs.declared.list_kind.ListKind.{ListKind}
 use Rattle.ctl_stanza.specs.declared.live.RelationField.{RelationField}
 use Rattle.ctl_stanza.specs.Fields.{FieldText, is_same_name, body_named, version_name}
 use Rattle.ctl_stanza.specs.RelationFields.{name_of}
-use Rattle.ctl_stanza.specs.Content.{Content, relations_of_kind, offers_of}
+use Rattle.ctl_stanza.specs.Content.{Content, named_bodies, relations_of_kind, offers_of}
 use Rattle.ctl_stanza.specs.Sound.{IsWhole, IsSound}
-use Rattle.ctl_stanza.specs.HeldFields.{AreFieldsOf, IsWithin, shown}
+use Rattle.ctl_stanza.specs.HeldFields.{IsWalk, IsWithin, shown}
 
 -- the groups that are kept of a relation field, in these bytes; none where it wasn't given
 abbrev pub kept_groups : FieldKind → List ℕ → List RelationField → List (List AtomParts)
@@ -65,9 +64,10 @@ abbrev pub content_in_front : ListKind → ℕ → List ℕ → Content
 content_in_front kind text_len bytes = record { text = take text_len bytes; kind = kind }
 
 -- What a stanza keeps is read from its text, which stands at the front of its bytes and has no fault.
-pub record ArePartsOf (content : Content) (bytes : List ℕ) (text_len : ℕ) (fields : List FieldPlace) (relations : List RelationField) (offers : List OfferParts) : Type 0 where
+pub record ArePartsOf (content : Content) (bytes : List ℕ) (text_len field_count : ℕ) (relations : List RelationField) (offers : List OfferParts) : Type 0 where
   pub within : text_len ≤ length bytes
-  pub fields_are : AreFieldsOf content.text bytes fields
+  pub walk : IsWalk content.text (drop text_len bytes)
+  pub count : field_count ≡ length (named_bodies content)
   pub relations_are : AreRelationsOf content bytes relations
   pub offers_are : offers ≡ offers_of content
   pub whole : IsWhole content

@@ -1,18 +1,18 @@
 //! The fields of a stanza, by where they stand in its text.
 
-ghost use Rattle.std.specs.Prelude.{◌≡◌, ◌+◌, ◌<◌, ◌≤◌, ◌^◌, ◌∷◌, ◌++◌, ℕ, length, take, map, option_map, IfOk, OnOk};
+ghost use Rattle.std.specs.Prelude.{◌≡◌, ◌+◌, ◌-◌, ◌<◌, ◌≤◌, ◌^◌, ◌∷◌, ◌++◌, ℕ, length, take, drop, option_map, IfOk, OnOk};
 ghost use Rattle.std.specs.List.{prefix_len};
+ghost use Rattle.std.specs.Str.{bytes_eq};
 ghost use Rattle.ctl_relation.specs.Bytes.{newline};
 ghost use Rattle.ctl_stanza.specs.Lines.{is_blank_byte, text_of_lines, lent_lines};
 ghost use Rattle.ctl_stanza.specs.LineKind.{kind_of};
 ghost use Rattle.ctl_stanza.specs.declared.line_kind.LineKind.TheVariants as kinds;
 ghost use Rattle.ctl_stanza.specs.Fields.{strip_end, value_of, continues, continued, fields_of_lines, body_named, is_same_name};
-ghost use Rattle.ctl_stanza.specs.HeldFields.{IsWithin, IsPlainAt, ArePlain, AreWithin, AreBelow, ArePlacesWithin, StandsAt, Grows, Shows, Adds, shown, shown_fields, place_of, shown_places, body_among};
+ghost use Rattle.ctl_stanza.specs.HeldFields.{IsWithin, AreWithin, AreBelow, StandsAt, Grows, Shows, Adds, loose_at, loose_bodies, shown, shown_fields};
 
 use crate::line_kind::{LineKind, kind_of};
 use crate::lines::{begins_with_blank, is_blank, is_blank_byte};
 use std::alloc::{AllocError, Global};
-use std::mem::size_of;
 
 /// From a place in a text up to another.
 #[derive(Clone, Copy)]
@@ -28,17 +28,6 @@ pub(crate) struct Field {
     pub(crate) name: Span,
     pub(crate) body: Span,
 }
-
-/// What a stanza keeps of a field: where its name and its body stand in the text. Its line is told only where it is at
-/// fault.
-#[derive(Clone, Copy)]
-pub(crate) struct FieldPlace {
-    pub(crate) name: Span,
-    pub(crate) body: Span,
-}
-
-// A stanza has many fields, and keeps four numbers of each.
-const _: () = prove!(size_of::<FieldPlace>() == 16);
 
 impl Span {
     /// The part of a text that it shows.
@@ -83,8 +72,8 @@ fn stripped_len(text: &[u8]) -> usize
     0
 }
 
-// Where the value stands in a field line.
-fn value_span(line: &[u8], n: usize) -> Span
+/// Where the value stands in a field line.
+pub(crate) fn value_span(line: &[u8], n: usize) -> Span
     requires name { n < length line.now }
     requires short { length line.now < 2 ^ 32 }
     ensures value { shown line.now result ≡ value_of n line.now }
@@ -110,9 +99,17 @@ pub(crate) fn value_len(line: &[u8], n: usize) -> usize
     value_span(line, n).of(line).len()
 }
 
-// Whether a line continues the field before it.
+/// Whether a line ends with a value that isn't longer.
+pub(crate) fn ends_with(line: &[u8], value: &[u8]) -> bool
+    requires { length value.now ≤ length line.now }
+    ensures { result ≡ bytes_eq (drop (length line.now - length value.now) line.now) value.now }
+{
+    line.split_at(line.len() - value.len()).1 == value
+}
+
+/// Whether a line continues the field before it.
 #[tactic(auto, using(crate::proofs::LineStartLemmas::continues_is))]
-fn continues(line: &[u8]) -> bool
+pub(crate) fn continues(line: &[u8]) -> bool
     ensures { result ≡ continues (kind_of line.now) }
 {
     // The name of a field line need not be gone through for this.
@@ -167,18 +164,25 @@ fn body_span(
     ensures grows { OnOk result (Grows bytes.old.items bytes.new.items) }
     ensures short { OnOk result (length bytes.new.items < 2 ^ 32) }
     ensures body { IfOk result (λ span. Shows bytes.new.items span (value_of n line.now ++ continued (lent_lines behind.now))) }
-    ensures plain { OnOk result (length bytes.new.items ≡ length bytes.old.items → IsPlainAt (kinds.Field n) line.now (lent_lines behind.now)) }
+    ensures loose { OnOk result (bytes.new.items ≡ bytes.old.items ++ loose_at (kinds.Field n) line.now (lent_lines behind.now)) }
 {
     let value = value_span(line, n);
     let more = continued_len(behind);
-    if more == 0 || value.end as usize == line.len() {
+    if more == 0 {
         return Ok(Span {
             start: at + value.start,
-            end: at + value.end + more as u32,
+            end: at + value.end,
+        });
+    }
+    let text = value.of(line);
+    if ends_with(line, text) {
+        return Ok(Span {
+            start: at + (line.len() - text.len()) as u32,
+            end: at + (line.len() + more) as u32,
         });
     }
     let start = bytes.len();
-    append_body(bytes, value.of(line), behind)?;
+    append_body(bytes, text, behind)?;
     let end = bytes.len();
     if end > u32::MAX as usize {
         return Err(AllocError);
@@ -205,7 +209,7 @@ fn add_field(
     ensures grows { OnOk result (Grows bytes.old.items bytes.new.items) }
     ensures short { OnOk result (length bytes.new.items < 2 ^ 32) }
     ensures fields { OnOk result (Adds bytes.new.items line.now (lent_lines behind.now) index (shown_fields bytes.old.items fields.old.items) fields.new.items) }
-    ensures plain { OnOk result (length bytes.new.items ≡ length bytes.old.items → IsPlainAt (kind_of line.now) line.now (lent_lines behind.now)) }
+    ensures loose { OnOk result (bytes.new.items ≡ bytes.old.items ++ loose_at (kind_of line.now) line.now (lent_lines behind.now)) }
     ensures lines { OnOk result ((count : ℕ) → index < count → AreBelow count fields.old.items → AreBelow count fields.new.items) }
 {
     let LineKind::Field(n) = kind_of(line) else {
@@ -242,7 +246,7 @@ pub(crate) fn fields_of_lines(
     ensures fields { IfOk result (λ fields. shown_fields bytes.new.items fields.items ≡ fields_of_lines (lent_lines lines.now)) }
     ensures within { IfOk result (λ fields. AreWithin bytes.new.items fields.items) }
     ensures lines { IfOk result (λ fields. AreBelow (length lines.now) fields.items) }
-    ensures plain { OnOk result (length bytes.new.items ≡ length bytes.old.items → ArePlain (lent_lines lines.now)) }
+    ensures loose { OnOk result (bytes.new.items ≡ bytes.old.items ++ loose_bodies (lent_lines lines.now)) }
 {
     let mut fields = Vec::with_capacity(alloc, field_count(lines))?;
     let mut at: u32 = 0;
@@ -264,36 +268,6 @@ pub(crate) fn body_named<'a>(fields: &'a [Field], text: &'a [u8], name: &[u8]) -
         let field = &fields[i];
         if is_same_name(field.name.of(text), name) {
             return Some(field.body.of(text));
-        }
-    }
-    None
-}
-
-/// What is kept of fields, without spare room.
-pub(crate) fn places_of(alloc: Global, fields: &[Field]) -> Result<Vec<FieldPlace>, AllocError>
-    ensures { IfOk result (λ places. places.items ≡ map place_of fields.now) }
-{
-    let mut places = Vec::with_capacity(alloc, fields.len())?;
-    for i in 0..fields.len() {
-        let Field { name, body, .. } = fields[i];
-        places.push(FieldPlace { name, body })?;
-    }
-    Ok(places)
-}
-
-/// The body at the first place of a field of this name.
-pub(crate) fn body_among<'a>(
-    places: &'a [FieldPlace],
-    text: &'a [u8],
-    name: &[u8],
-) -> Option<&'a [u8]>
-    requires { ArePlacesWithin text.now places.now }
-    ensures { option_map (λ body. body.now) result ≡ body_among name.now (shown_places text.now places.now) }
-{
-    for i in 0..places.len() {
-        let place = &places[i];
-        if is_same_name(place.name.of(text), name) {
-            return Some(place.body.of(text));
         }
     }
     None

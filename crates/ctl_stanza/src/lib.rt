@@ -21,6 +21,7 @@ mod records;
 mod repeats;
 mod stanza;
 mod status;
+mod walk;
 
 pub use fault::{Cause, TextFault};
 pub use laws::{

@@ -46,6 +46,7 @@ pub(crate) fn take_line(text: &[u8]) -> Option<(&[u8], &[u8])>
     ensures one_line { IfSome result (λ cut. (more : List ℕ) → lines_of (cut.0.now ++ newline ∷ more) ≡ cut.0.now ∷ lines_of more) }
     ensures shorter { IfSome result (λ cut. length cut.0.now + length cut.1.now ≤ length text.now) }
     ensures less { IfSome result (λ cut. length cut.1.now < length text.now) }
+    ensures first { IfSome result (λ cut. length cut.0.now < length text.now → text.now ≡ cut.0.now ++ newline ∷ cut.1.now) }
     ensures none { IfNone result (text.now ≡ []) }
 {
     if text.is_empty() {

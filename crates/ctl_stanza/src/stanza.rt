@@ -13,15 +13,16 @@ ghost use Rattle.ctl_stanza.specs.declared.repeats.Repeats.TheVariants.{Never};
 
 use crate::checks::{first_wrong, is_missing};
 use crate::fault::{Cause, TextFault};
-use crate::fields::{Field, FieldPlace, body_among, body_named, fields_of_lines, places_of};
+use crate::fields::{Field, body_named, fields_of_lines};
 use crate::laws::whole_stanzas_are_sound;
 use crate::lines::text_of_lines;
 use crate::list_kind::ListKind;
 use crate::live::{LiveParts, RelationField, kept_groups, read_live};
 use crate::offers::offers_of;
 use crate::status::liveness;
+use crate::walk::{body_in, take_field};
 use ctl_relation::{FieldKind, Groups, Offer, Version};
-use std::alloc::{AllocError, Global};
+use std::alloc::Global;
 use std::marker::Model;
 
 /// A stanza without a fault, seen as its text and the kind of its list. What it has in it is read from its
@@ -32,7 +33,7 @@ pub struct Stanza {
     bytes: Vec<u8>,
     text_len: u32,
     kind: ListKind,
-    fields: Vec<FieldPlace>,
+    field_count: usize,
     // None where the stanza isn't live, as there are no offers then. The version is that of the first offer.
     relations: Vec<RelationField>,
     offers: Vec<Offer>,
@@ -46,7 +47,7 @@ impl Model for Stanza {
 
     ghost view = { λ s. content_in_front s.kind s.text_len s.bytes.items };
 
-    ghost invariant = { λ s. ArePartsOf (content_in_front s.kind s.text_len s.bytes.items) s.bytes.items s.text_len s.fields.items s.relations.items s.offers.items };
+    ghost invariant = { λ s. ArePartsOf (content_in_front s.kind s.text_len s.bytes.items) s.bytes.items s.text_len s.field_count s.relations.items s.offers.items };
 }
 
 /// The bytes of a stanza: its text, and behind it the bodies that don't stand in it in one piece.
@@ -57,19 +58,18 @@ pub(crate) struct StanzaBytes {
     pub(crate) kind: ListKind,
 }
 
-// The stanza of what was read. The lines of its fields are let go.
+// The stanza of what was read. Where its fields stand is let go.
 fn stanza_of(
-    alloc: Global,
     held: StanzaBytes,
     fields: &[Field],
     relations: Vec<RelationField>,
     offers: Vec<Offer>,
-) -> Result<Stanza, AllocError>
+) -> Stanza
     requires read { IsReadFrom held.bytes.items held.text_len fields.now }
     requires relations { AreRelationsOf (content_in_front held.kind held.text_len held.bytes.items) held.bytes.items relations.items }
     requires offers { offers.items ≡ offers_of (content_in_front held.kind held.text_len held.bytes.items) }
     requires no_fault { stanza_fault held.kind 0 (lines_of (take held.text_len held.bytes.items)) ≡ None }
-    ensures { IfOk result (λ stanza. stanza ≡ content_in_front held.kind held.text_len held.bytes.items) }
+    ensures { result ≡ content_in_front held.kind held.text_len held.bytes.items }
 {
     whole_stanzas_are_sound();
     let StanzaBytes {
@@ -77,15 +77,14 @@ fn stanza_of(
         text_len,
         kind,
     } = held;
-    let fields = places_of(alloc, fields)?;
-    Ok(Stanza {
+    Stanza {
         bytes,
         text_len,
         kind,
-        fields,
+        field_count: fields.len(),
         relations,
         offers,
-    })
+    }
 }
 
 // Reads a stanza that isn't live, of which its package alone is checked.
@@ -109,8 +108,7 @@ fn other_stanza(
     }
     let relations = Vec::new(alloc);
     let offers = Vec::new(alloc);
-    let stanza = stanza_of(alloc, held, fields, relations, offers)?;
-    Ok(stanza)
+    Ok(stanza_of(held, fields, relations, offers))
 }
 
 // Reads a live stanza.
@@ -133,8 +131,7 @@ fn live_stanza(
     let package = body_named(fields, &held.bytes, b"Package").unwrap_or(&[]);
     let provides = kept_groups(&relations, &held.bytes, FieldKind::Provides);
     let offers = offers_of(alloc, package, version, provides)?;
-    let stanza = stanza_of(alloc, held, fields, relations, offers)?;
-    Ok(stanza)
+    Ok(stanza_of(held, fields, relations, offers))
 }
 
 /// Makes the stanza of bytes at whose front its text stands, of which these are the fields, or tells what is wrong with it.
@@ -235,20 +232,22 @@ impl Stanza {
     ///
     /// A body is the value of its field line, without the blanks round it, and then each line that continues it as it
     /// stands, behind a newline.
-    #[tactic(auto, using(crate::proofs::FieldLemmas::body_among_named))]
     pub fn field(&self, name: &[u8]) -> Option<&[u8]>
         ensures { option_map (λ body. body.now) result ≡ body_of self.now name.now }
     {
-        body_among(&self.fields, &self.bytes, name)
+        let (text, loose) = self.bytes.split_at(self.text_len as usize);
+        body_in(text, loose, name)
     }
 
     /// The names and the bodies of the fields, in order.
     pub fn fields(&self) -> Fields<'_>
         ensures { result ≡ named_bodies self.now }
     {
+        let (text, loose) = self.bytes.split_at(self.text_len as usize);
         Fields {
-            bytes: &self.bytes,
-            fields: &self.fields,
+            text,
+            loose,
+            count: self.field_count,
         }
     }
 
@@ -317,19 +316,22 @@ impl Stanza {
 /// The fields of a stanza, by [`Stanza::fields`]: names with bodies, in order.
 #[derive(Drop)]
 pub struct Fields<'a> {
-    bytes: &'a [u8],
-    fields: &'a [FieldPlace],
+    // The lines that are left.
+    text: &'a [u8],
+    // The bodies of their fields that don't stand in them in one piece.
+    loose: &'a [u8],
+    count: usize,
 }
 
 impl<'a> Model for Fields<'a> {
-    ghost use Rattle.std.specs.Prelude.{ℕ, List};
-    ghost use Rattle.ctl_stanza.specs.HeldFields.{ArePlacesWithin, shown_places};
+    ghost use Rattle.std.specs.Prelude.{◌≡◌, ℕ, List, length};
+    ghost use Rattle.ctl_stanza.specs.HeldFields.{IsWalk, bodies_in};
 
     ghost Value = { List (List ℕ × List ℕ) };
 
-    ghost view = { λ it. shown_places it.bytes.now it.fields.now };
+    ghost view = { λ it. bodies_in it.text.now };
 
-    ghost invariant = { λ it. ArePlacesWithin it.bytes.now it.fields.now };
+    ghost invariant = { λ it. IsWalk it.text.now it.loose.now × (it.count ≡ length (bodies_in it.text.now)) };
 }
 
 impl<'a> Iterator for Fields<'a> {
@@ -344,9 +346,11 @@ impl<'a> Iterator for Fields<'a> {
     ghost remaining = { item_count (λ rest. rest) };
 
     fn next(&mut self) -> Option<(&'a [u8], &'a [u8])> {
-        let (field, rest) = self.fields.split_first()?;
-        self.fields = rest;
-        Some((field.name.of(self.bytes), field.body.of(self.bytes)))
+        let taken = take_field(self.text, self.loose)?;
+        self.text = taken.text;
+        self.loose = taken.loose;
+        self.count -= 1;
+        Some((taken.name, taken.body))
     }
 
     fn size_hint(&self) -> (usize, Option<usize>)
@@ -354,6 +358,6 @@ impl<'a> Iterator for Fields<'a> {
         ensures upper { IfSome result.1 (UpTo (at_most (length self.now))) }
         ensures exact { result ≡ (length self.now, Some (length self.now)) }
     {
-        (self.fields.len(), Some(self.fields.len()))
+        (self.count, Some(self.count))
     }
 }

@@ -1,4 +1,4 @@
-use Rattle.std.proofs.Common.{◌≡◌, ◌∙◌, ◌<◌, ◌≤◌, ◌+◌, ◌-◌, ◌++◌, ◌∷◌, ℕ, List, [], length, take, drop, sym, ap, ap₂, subst, arith}
+use Rattle.std.proofs.Common.{◌≡◌, ◌∙◌, ◌<◌, ◌≤◌, ◌+◌, ◌-◌, ◌++◌, ◌∷◌, ℕ, List, [], length, take, drop, sym, ap, ap₂, arith}
 use Rattle.std.proofs.lemmas.List.{length-append, map-append}
 use Rattle.std.proofs.lemmas.List.Elements.{All-push}
 use Rattle.ctl_stanza.specs.declared.fields.Field.{Field}
@@ -8,8 +8,8 @@ use Rattle.ctl_stanza.specs.declared.line_kind.LineKind.TheVariants as kinds
 use Rattle.ctl_stanza.specs.Lines.{text_of_lines, lent_lines}
 use Rattle.ctl_stanza.specs.LineKind.{kind_of}
 use Rattle.ctl_stanza.specs.Fields.{field_at, value_of, continued}
-use Rattle.ctl_stanza.specs.HeldFields.{IsPlainAt, shown, shown_field, shown_fields, IsFieldWithin, AreWithin, StandsAt, Grows, Shows, Adds}
-use Rattle.ctl_stanza.proofs.FieldLemmas.{plain-other, within_line, stands-round, shown-grow, within-grow, fields-grow, fields_within-grow}
+use Rattle.ctl_stanza.specs.HeldFields.{loose_at, shown, shown_field, shown_fields, IsFieldWithin, AreWithin, StandsAt, Grows, Shows, Adds}
+use Rattle.ctl_stanza.proofs.FieldLemmas.{loose-other, nothing-added, within_line, stands-round, shown-grow, within-grow, fields-grow, fields_within-grow}
 use Rattle.ctl_stanza.proofs.fields.add_field.Goals as goal
 
 -- the field that was pushed
@@ -46,8 +46,10 @@ returns-clause-fields c =
     adds c.args.bytes.now.items _ c.args.line.now (lent_lines c.args.behind.now) c.args.at c.in-Field.n c.args.index c.in_ok-body.body c.args.fields.now.items c.push.new.self.items c.kind_of.result
     c.in_ok-body.ensures.grows c.requires.stands c.requires.within c.in-Field.ensures.name c.kind_of.ensures.kind c.in-Field.is c.in_ok-body.ensures.body c.in_ok-push.ensures.items
 
-pub returns-clause-plain : goal.returns-clause-plain
-returns-clause-plain c = λ size. subst (λ kind. IsPlainAt kind c.args.line.now (lent_lines c.args.behind.now)) (sym c.in-Field.is ∙ c.kind_of.ensures.kind) (c.in_ok-body.ensures.plain size)
+pub returns-clause-loose : goal.returns-clause-loose
+returns-clause-loose c = c.in_ok-body.ensures.loose ∙ ap (λ kind. c.args.bytes.now.items ++ loose_at kind c.args.line.now (lent_lines c.args.behind.now)) (sym c.in-Field.is ∙ c.kind_of.ensures.kind)
 
-pub returns-in_default-clause-plain : goal.returns-in_default-clause-plain
-returns-in_default-clause-plain c = λ size. subst (λ kind. IsPlainAt kind c.args.line.now (lent_lines c.args.behind.now)) c.kind_of.ensures.kind (plain-other c.kind_of.result c.args.line.now (lent_lines c.args.behind.now) c.in_default.not-Field)
+pub returns-in_default-clause-loose : goal.returns-in_default-clause-loose
+returns-in_default-clause-loose c =
+    let lines = lent_lines c.args.behind.now in
+    nothing-added c.args.bytes.now.items _ (ap (λ kind. loose_at kind c.args.line.now lines) (sym c.kind_of.ensures.kind) ∙ loose-other c.kind_of.result c.args.line.now lines c.in_default.not-Field)

@@ -1,8 +1,8 @@
-use Rattle.std.proofs.Common.{◌≡◌, ◌∙◌, ◌<◌, ◌+◌, ◌-◌, ◌++◌, ◌∷◌, ℕ, List, [], length, take, drop, get_or, Bor, sym, ap, arith, take_all, append_assoc}
+use Rattle.std.proofs.Common.{◌≡◌, ◌∙◌, ◌<◌, ◌+◌, ◌-◌, ◌++◌, ◌∷◌, ℕ, List, [], length, take, drop, get_or, Bor, sym, ap, arith, take_all, drop_of_length-le, append_assoc, append-nil}
 use Rattle.std.proofs.lemmas.List.{get_or-map, length-map, length-drop, drop-map, drop_more, length-append}
 use Rattle.ctl_stanza.specs.Lines.{text_of_lines, lent_lines}
-use Rattle.ctl_stanza.specs.HeldFields.{StandsAt, Grows}
-use Rattle.ctl_stanza.proofs.FieldLemmas.{grown-none, plain-turn, length-text_of_lines, fields-turn, stands-room, stands-next, stands-grow}
+use Rattle.ctl_stanza.specs.HeldFields.{StandsAt, Grows, loose_bodies}
+use Rattle.ctl_stanza.proofs.FieldLemmas.{loose-turn, length-text_of_lines, fields-turn, stands-room, stands-next, stands-grow}
 use Rattle.ctl_stanza.proofs.fields.fields_of_lines.Goals as goal
 
 abbrev now : Bor (List ℕ) → List ℕ
@@ -93,8 +93,12 @@ loop-i-preserved c =
       stands = rw added.grows.joined (stands-grow old (text_of_lines (drop (i + 1) lines)) added.grows.more (c.loop-i.at + (length _ + 1)) (omega (arith, room)) (stands-next old _ c.loop-i.at (drop (i + 1) lines) stands));
       told = fields-turn lines _ c.add_field.new.bytes.items _ c.add_field.new.fields.items i _ lt here adds.fields c.loop-i.invariant.told;
       within = adds.within;
-      plain = λ all.
-          let size = grown-none (text_of_lines lines) old c.add_field.new.bytes.items whole added.grows all in
-          plain-turn lines _ i lt here (rw (behind_is c.args.lines.now i) at (added.plain size.0)) (c.loop-i.invariant.plain size.1);
+      loose = loose-turn lines _ old c.add_field.new.bytes.items _ i lt here (rw (behind_is c.args.lines.now i) at added.loose) c.loop-i.invariant.loose;
       known = added.lines (length c.args.lines.now) c.loop-i-test.true c.loop-i.invariant.known;
     }
+
+pub returns-clause-loose : goal.returns-clause-loose
+returns-clause-loose c =
+    let lines = lent_lines c.args.lines.now in
+    let none : drop c.loop-i.i lines ≡ [] = drop_of_length-le lines (omega (arith, c.loop-i-test.false, length-map c.args.lines.now now)) in
+    c.shrink_to_fit.ensures.items ∙ sym (append-nil c.loop-i.bytes.items) ∙ ap (λ ls. c.loop-i.bytes.items ++ loose_bodies ls) (sym none) ∙ c.loop-i.invariant.loose ∙ ap (λ t. t ++ loose_bodies lines) (sym c.requires.text)
