@@ -28,7 +28,7 @@ STAGES = [
     (["layout"], []),
     (["demo"], []),
     (["prove"], ["test-tools"]),
-    (["edits"], ["test-program", "test-scripts", "test-reference", "test-refusals", "test-python"]),
+    (["edits"], ["test-program", "test-reference", "test-refusals", "test-python"]),
 ]
 PARTS = {
     "layout": "the layout of the files",
@@ -36,7 +36,6 @@ PARTS = {
     "test-tools": "the tests of the tools of the gate",
     "prove": "every proof, the named wrong bodies, the tests under proof, the programs",
     "test-program": "the program from outside",
-    "test-scripts": "scripts in files",
     "test-reference": "generated scripts, judged by the reference program",
     "test-refusals": "each request for memory refused in turn",
     "test-python": "the commands and the module of Python",
