@@ -11,7 +11,7 @@ EXAMPLES := $(sort $(wildcard examples/*.script))
 help:
 	@echo 'make demo      runs the examples with an unproved quick build, and compares what they print'
 	@echo 'make build     proves the program and leaves it as $(PROGRAM)'
-	@echo 'make layout    tells in a second which files rt fmt would change, as the proofs refuse them, and which pages have lines of more than 120 columns'
+	@echo 'make layout    tells in a second which files rt fmt would change, which pages have lines of more than 120 columns, and which clauses docs/PROMISES.md names that are not there'
 	@echo 'make test      the whole gate, up to the first part that fails; KEEP_GOING=1 runs all'
 	@echo 'make test-needs  installs by apt-get what the tests use beside the kit, or says what is missing'
 	@echo 'make prove     every proof, the named wrong bodies, the tests, the programs'

@@ -9,6 +9,7 @@ import edit_runner
 import gate_parts
 import layout
 import ledger
+import promises
 import worked_rows
 
 
@@ -27,6 +28,7 @@ def main():
     layout.run(tests)
     gate_parts.run(tests)
     ledger.run(tests)
+    promises.run(tests)
     compare_tests.run(tests)
     edit_runner.run(tests)
     worked_rows.run(tests)

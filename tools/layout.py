@@ -1,15 +1,17 @@
 #!/usr/bin/env python3
-"""Tells which files of the crates aren't in the layout that `rt fmt` gives, and which pages have a line of more than 120 columns. The
-proofs would refuse the first too, but much later.
+"""Tells which files of the crates aren't in the layout that `rt fmt` gives, which pages have a line of more than 120 columns, and which
+functions, clauses and definitions docs/PROMISES.md names that aren't there. The proofs would refuse the first too, but much later.
 
     tools/layout.py [REPOSITORY]
 
-The last line is 'N passed, M failed', the files in the layout and the others; the status is 1 where one isn't."""
+The last line is 'N passed, M failed', over files, pages and names; the status is 1 where one fails."""
 
 import os
 import shutil
 import subprocess
 import sys
+
+import promises
 
 FOLDERS = ("src", "specs", "proofs")
 ENDINGS = (".rt", ".antt")
@@ -63,8 +65,11 @@ def main(words):
     wide = [(page, numbers) for page, numbers in ((page, wide_lines(page)) for page in pages) if numbers]
     for page, numbers in wide:
         print(f"{os.path.relpath(page, repository)}: more than {WIDTH} columns in line {', '.join(map(str, numbers))}")
-    failed = len(others) + len(wide)
-    print(f"{len(files) + len(pages) - failed} passed, {failed} failed")
+    named = list(promises.faults_of(repository)) if os.path.isfile(promises.page_of(repository)) else []
+    for fault in (fault for faults in named for fault in faults):
+        print(f"docs/PROMISES.md: {fault}")
+    failed = len(others) + len(wide) + sum(1 for faults in named if faults)
+    print(f"{len(files) + len(pages) + len(named) - failed} passed, {failed} failed")
     return 1 if failed else 0
 
 
