@@ -29,3 +29,4 @@ pub mod ReadLemmas
 pub mod PartLemmas
 pub mod ReaderLemmas
 pub mod WalkLemmas
+pub mod QuickLemmas

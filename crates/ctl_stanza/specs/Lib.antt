@@ -28,3 +28,4 @@ pub mod HeldFields
 pub mod HeldNames
 pub mod HeldStanza
 pub mod InParts
+pub mod Quick

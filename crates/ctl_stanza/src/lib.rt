@@ -14,6 +14,7 @@ mod live;
 mod names_given;
 mod offers;
 mod parts;
+mod quick;
 mod reader;
 mod reading;
 mod record_lines;

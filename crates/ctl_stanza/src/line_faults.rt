@@ -29,7 +29,7 @@ fn continuation_cause(is_first: bool, len: usize) -> Option<Cause>
 
 // The cause of a line within the limit. Where there is none, its name is given, and the bytes of the body that it
 // belongs to are counted.
-fn line_cause<'a>(
+pub(crate) fn line_cause<'a>(
     alloc: Global,
     repeats: Repeats,
     names: &mut NamesGiven<'a>,

@@ -1,0 +1,47 @@
+use Rattle.std.proofs.Common.{◌≡◌, ◌∙◌, ◌+◌, ◌||◌, refl, length, take, sym, ap, ap₂, arith}
+use Rattle.ctl_stanza.specs.Lines.{lines_of}
+use Rattle.ctl_stanza.specs.LineKind.{kind_of}
+use Rattle.ctl_stanza.specs.Faults.{gives_name, body_step, cause_of}
+use Rattle.ctl_stanza.specs.declared.repeats.Repeats.TheVariants.{Never}
+use Rattle.ctl_stanza.proofs.FaultLemmas.{cause-is, has_name-next, body_len-next}
+use Rattle.ctl_stanza.proofs.PieceLemmas.{gap-none, gap-blank}
+use Rattle.ctl_stanza.proofs.QuickLemmas.{text-behind, next-is, blank-is, not-blank, reached-start, reached-next, end-if}
+use Rattle.ctl_stanza.proofs.quick.accept_stanza.Goals as goal
+
+pub returns-in_default : goal.returns-in_default
+returns-in_default c =
+    end-if c.args.text.now c.lines.left.now c.lines.count c.lines.fields.items c.cut_off.result c.lines.invariant.reached (gap-none c.lines.left.now c.in_default.ensures.none) c.cut_off.ensures
+
+pub returns-in-Blank : goal.returns-in-Blank
+returns-in-Blank c =
+    let blank = blank-is c.in-Some.line.now (sym c.kind_of-kind.ensures.kind ∙ c.in-Blank.is) in
+    end-if c.args.text.now c.lines.left.now c.lines.count c.lines.fields.items c.cut_off-in-Blank.result c.lines.invariant.reached (gap-blank (lines_of c.lines.left.now) _ c.in-Some.line.now c.in-Some.ensures.lines blank)
+    c.cut_off-in-Blank.ensures
+
+pub add_field-requires-clause-text : goal.add_field-requires-clause-text
+add_field-requires-clause-text c =
+    (text-behind c.lines.left.now c.in-Some.line.now c.in-Some.behind.now c.lines.invariant.reached.is_text c.in-Some.ensures.lines c.in-Some.ensures.first).1
+
+pub lines-preserved : goal.lines-preserved
+lines-preserved c =
+    let lines = lines_of c.args.text.now in
+    let i = c.lines.count in
+    let inv = c.lines.invariant in
+    let line = c.in-Some.line.now in
+    let next = next-is lines i line (lines_of c.in-Some.behind.now) (inv.reached.left_is ∙ c.in-Some.ensures.lines) in
+    let kind = c.kind_of-kind.ensures.kind in
+    let none = c.in_ok-found.ensures.cause in
+    let cause = cause-is Never lines _ i _ _ _ _ next.below inv.names inv.body next.here kind (sym c.is_too_long.ensures ∙ c.if-is_too_long.false) none in
+    let is_none = c.in_default-found.is in
+    let kind_here = kind ∙ ap kind_of (sym next.here) in
+    record {
+      reached = reached-next c.args.text.now c.lines.left.now _ c.lines.fields.items _ inv.reached refl c.in-Some.ensures.lines c.in-Some.ensures.first c.in-Some.ensures.one_line
+          (not-blank line (λ e. c.in_default-kind.not-Blank (kind ∙ e))) (ap (cause_of Never (take i lines)) (sym next.here) ∙ sym cause ∙ is_none)
+          (c.in_ok-add_field.ensures c.if-not-branch.false);
+      within = omega (arith, inv.within, c.in-Some.ensures.less);
+      names = λ other. c.in_ok-found.ensures.names is_none other
+          ∙ ap₂ ◌||◌ (ap₂ (λ k l. gives_name k l other) kind_here (sym next.here)) (inv.names other) ∙ sym (has_name-next lines i (i + 1) other refl next.below);
+      body = c.in_ok-found.ensures.body is_none ∙ ap (body_step c.lines.body_len _) kind
+          ∙ ap₂ (λ n l. body_step n l (kind_of l)) inv.body (sym next.here) ∙ sym (body_len-next lines i (i + 1) refl next.below);
+      short = c.in_ok-found.ensures.within is_none;
+    }

@@ -1,0 +1,193 @@
+//! A quick pass over the lines of a stanza, which finds its fields, or gives up.
+
+ghost use Rattle.std.specs.Prelude.{◌≡◌, ◌+◌, ◌<◌, ◌≤◌, ◌^◌, ◌++◌, ◌∷◌, ℕ, List, true, length, IfOk, IfSome};
+ghost use Rattle.ctl_relation.specs.Bytes.{newline};
+ghost use Rattle.ctl_stanza.specs.Lines.{lines_of};
+ghost use Rattle.ctl_stanza.specs.LineKind.{kind_of, IfName};
+ghost use Rattle.ctl_stanza.specs.Fields.{continued};
+ghost use Rattle.ctl_stanza.specs.HeldFields.{IsText, StandsAt};
+ghost use Rattle.ctl_stanza.specs.HeldNames.{HoldsNone};
+ghost use Rattle.ctl_stanza.specs.Quick.{IsPlainField, AddsPlain, IsCutOff, IsAccepted};
+
+use crate::fields::{Field, Span, continues, value_span};
+use crate::line_faults::line_cause;
+use crate::line_kind::{LineKind, kind_of};
+use crate::lines::{begins_with_blank, is_too_long, take_line};
+use crate::names_given::NamesGiven;
+use crate::repeats::Repeats;
+use std::alloc::{AllocError, Global};
+
+/// The first stanza of a text, no line of which is faulty.
+#[derive(Clone, Copy)]
+pub(crate) struct Accepted<'a> {
+    /// Its lines, each with a newline, which have less than 2^32 bytes.
+    pub(crate) text: &'a [u8],
+    pub(crate) line_count: usize,
+    /// What stands behind it.
+    pub(crate) behind: &'a [u8],
+}
+
+// A line of a stanza, what stands behind its newline, its index, and that of its first byte.
+#[derive(Clone, Copy)]
+struct LineHere<'a> {
+    line: &'a [u8],
+    behind: &'a [u8],
+    index: usize,
+    at: usize,
+}
+
+fn ends_with_newline(text: &[u8]) -> bool
+    ensures { result ≡ true → IsText text.now }
+{
+    match text {
+        [] => false,
+        [.., last] => *last == b'\n',
+    }
+}
+
+// The bytes of the continuation lines at the front of a text, each with the newline before it.
+fn continued_behind(text: &[u8]) -> usize
+    requires { IsText text.now }
+    ensures { result ≡ length (continued (lines_of text.now)) }
+{
+    let mut len: usize = 0;
+    let mut left = text;
+    'lines: loop {
+        // Most fields have no such line, and their next line need not be cut for this.
+        if !begins_with_blank(left) {
+            return len;
+        }
+        let Some((line, behind)) = take_line(left) else {
+            return len;
+        };
+        if !continues(line) {
+            return len;
+        }
+        len += line.len() + 1;
+        left = behind;
+    }
+}
+
+// The field that a line begins, whose name has `n` bytes, where its body stands in one piece and ends below 2^32.
+fn plain_field(here: &LineHere, n: usize) -> Option<Field>
+    requires name { n < length here.now.line.now }
+    requires short { length here.now.line.now < 2 ^ 32 }
+    requires text { IsText here.now.behind.now }
+    requires index { here.now.index ≤ here.now.at }
+    requires room { here.now.at + length here.now.line.now + length here.now.behind.now < 2 ^ 64 }
+    ensures { IfSome result (λ field. (bytes : List ℕ) → StandsAt bytes here.now.at (here.now.line.now ++ newline ∷ here.now.behind.now)
+        → IsPlainField bytes here.now n field) }
+{
+    let value = value_span(here.line, n);
+    let more = continued_behind(here.behind);
+    if more > 0 && (value.end as usize) < here.line.len() {
+        return None;
+    }
+    if here.at + here.line.len() + more > u32::MAX as usize {
+        return None;
+    }
+    let at = here.at as u32;
+    Some(Field {
+        line: here.index as u32,
+        name: Span {
+            start: at,
+            end: at + n as u32,
+        },
+        body: Span {
+            start: at + value.start,
+            end: at + value.end + more as u32,
+        },
+    })
+}
+
+// Adds the field that a line begins, if it is a field line. Whether that could be done.
+fn add_field(fields: &mut Vec<Field>, here: &LineHere, kind: LineKind) -> Result<bool, AllocError>
+    requires kind { kind ≡ kind_of here.now.line.now }
+    requires name { IfName kind here.now.line.now }
+    requires short { length here.now.line.now < 2 ^ 32 }
+    requires text { IsText here.now.behind.now }
+    requires index { here.now.index ≤ here.now.at }
+    requires room { here.now.at + length here.now.line.now + length here.now.behind.now < 2 ^ 64 }
+    ensures { IfOk result (λ added. added ≡ true → (bytes : List ℕ) → StandsAt bytes here.now.at (here.now.line.now ++ newline ∷ here.now.behind.now)
+        → AddsPlain bytes here.now fields.old.items fields.new.items) }
+{
+    let LineKind::Field(n) = kind else {
+        return Ok(true);
+    };
+    let Some(field) = plain_field(here, n) else {
+        return Ok(false);
+    };
+    fields.push(field)?;
+    Ok(true)
+}
+
+// The stanza of so many lines, behind which this is left of the text.
+fn cut_off<'a>(text: &'a [u8], left: &'a [u8], line_count: usize) -> Option<Accepted<'a>>
+    requires { length left.now ≤ length text.now }
+    ensures { IfSome result (λ found. IsCutOff text.now left.now line_count found) }
+{
+    let len = text.len() - left.len();
+    if line_count == 0 || len > u32::MAX as usize {
+        return None;
+    }
+    Some(Accepted {
+        text: text.split_at(len).0,
+        line_count,
+        behind: left,
+    })
+}
+
+/// The first stanza of a text, whose fields are then these, or None on any doubt. The names that it gives are kept in
+/// `names`.
+pub(crate) fn accept_stanza<'a>(
+    alloc: Global,
+    names: &mut NamesGiven<'a>,
+    fields: &mut Vec<Field>,
+    text: &'a [u8],
+) -> Result<Option<Accepted<'a>>, AllocError>
+    requires names { HoldsNone names.old }
+    ensures { IfOk result (λ found. IfSome found (λ stanza. IsAccepted text.now stanza fields.new.items)) }
+{
+    fields.clear();
+    if !ends_with_newline(text) {
+        return Ok(None);
+    }
+    let mut body_len: usize = 0;
+    let mut count: usize = 0;
+    let mut left = text;
+    'lines: loop {
+        let Some((line, behind)) = take_line(left) else {
+            return Ok(cut_off(text, left, count));
+        };
+        let kind = kind_of(line);
+        if let LineKind::Blank = kind {
+            return Ok(cut_off(text, left, count));
+        }
+        if is_too_long(line) {
+            return Ok(None);
+        }
+        let found = line_cause(
+            alloc,
+            Repeats::Never,
+            names,
+            &mut body_len,
+            count == 0,
+            line,
+            kind,
+        )?;
+        if let Some(_) = found {
+            return Ok(None);
+        }
+        let here = LineHere {
+            line,
+            behind,
+            index: count,
+            at: text.len() - left.len(),
+        };
+        if !add_field(fields, &here, kind)? {
+            return Ok(None);
+        }
+        count += 1;
+        left = behind;
+    }
+}
