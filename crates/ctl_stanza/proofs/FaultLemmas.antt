@@ -86,12 +86,12 @@ given-same r given other same first len line Blank = refl
 given-same r given other same first len line Faulty = refl
 
 -- the cause that the code finds is that of the line
-pub cause-is : (r : Repeats) (ls : List (List ℕ)) (given : List ℕ → Bool) (i len : ℕ) (line : List ℕ) (kind : LineKind) (found : Option Cause) → i < length ls
-    → ((name : List ℕ) → given name ≡ has_name (names_of (take i ls)) name) → len ≡ body_len (take i ls)
-    → get_or ls i [] ≡ line → kind ≡ kind_of line → is_too_long line ≡ false → found ≡ cause_with r given (i == 0) len line kind → found ≡ cause_of r (take i ls) (get_or ls i [])
-cause-is r ls given i len line kind found lt same len_is here is short e =
+pub cause-is : (r : Repeats) (ls : List (List ℕ)) (given : List ℕ → Bool) (i len : ℕ) (line : List ℕ) (kind : LineKind) (found : Option Cause) (first : Bool) → i < length ls
+    → ((name : List ℕ) → given name ≡ has_name (names_of (take i ls)) name) → len ≡ body_len (take i ls) → first ≡ (i == 0)
+    → get_or ls i [] ≡ line → kind ≡ kind_of line → is_too_long line ≡ false → found ≡ cause_with r given first len line kind → found ≡ cause_of r (take i ls) (get_or ls i [])
+cause-is r ls given i len line kind found first lt same len_is first_is here is short e =
     let size : i ≡ length (take i ls) = sym (length-take-le i ls (omega arith)) in
-    e ∙ given-same r given (has_name (names_of (take i ls))) same (i == 0) len line kind
+    e ∙ ap (λ b. cause_with r given b len line kind) first_is ∙ given-same r given (has_name (names_of (take i ls))) same (i == 0) len line kind
     ∙ ap₂ (λ k n. cause_with r (has_name (names_of (take i ls))) (k == 0) n line kind) size len_is
     ∙ ap (cause_with r (has_name (names_of (take i ls))) (length (take i ls) == 0) (body_len (take i ls)) line) is
     ∙ sym (cond-false _ _ _ short) ∙ ap (cause_of r (take i ls)) (sym here)

@@ -19,9 +19,12 @@ use Rattle.ctl_stanza.specs.declared.repeats.Repeats.TheVariants.{Never}
 use Rattle.ctl_stanza.specs.Lines.{lines_of, onto_first, text_of_lines, is_blank, is_blank_byte, begins_with_blank}
 use Rattle.ctl_stanza.specs.LineKind.{kind_of, kind_after_name, is_field_name_byte}
 use Rattle.ctl_stanza.specs.Fields.{value_of, continues, continued, field_at, fields_from, fields_of_lines}
-use Rattle.ctl_stanza.specs.Faults.{fault_or, cause_of, first_fault}
+use Rattle.ctl_stanza.specs.Faults.{fault_or, cause_of, first_fault, or_else, whole_fault}
+use Rattle.ctl_stanza.specs.Content.{Content}
+use Rattle.ctl_stanza.specs.HeldStanza.{content_in_front}
+use Rattle.ctl_stanza.specs.declared.list_kind.ListKind.{ListKind}
 use Rattle.ctl_stanza.specs.HeldFields.{IsText, IsPlainAt, ArePlain, IsReadFrom, AreWithin, AreBelow, StandsAt, Grows, Shows, shown, shown_field, shown_fields}
-use Rattle.ctl_stanza.specs.Text.{is_gap, IsFirstPiece}
+use Rattle.ctl_stanza.specs.Text.{is_gap, IsFirstPiece, piece, piece_fault, piece_content}
 use Rattle.ctl_stanza.specs.Quick.{IsUpTo, AreUpTo, end_behind, IsPlainField, AddsPlain, IsCutOff, IsAccepted}
 use Rattle.ctl_stanza.proofs.LineLemmas.{IsLine}
 use Rattle.ctl_stanza.proofs.LineStartLemmas.{continues_is}
@@ -419,3 +422,27 @@ pub end-if : (text left : List ℕ) (count : ℕ) (fields : List Field) (found :
     → IfSome found (λ stanza. IsAccepted text stanza fields)
 end-if text left count fields None is gap cut = cut
 end-if text left count fields (Some stanza) is gap cut = reached-end text left count fields stanza is gap cut
+
+-- ---- what an accepted stanza is read to
+
+first_fault-anywhere : (n m : ℕ) (before lines : List (List ℕ)) → first_fault Never n before lines ≡ None → first_fault Never m before lines ≡ None
+first_fault-anywhere n m before [] good = refl
+first_fault-anywhere n m before (line ∷ lines) good =
+    let both = fault_or-none n (cause_of Never before line) _ good in
+    ap (λ c. fault_or m c (first_fault Never (suc m) (before ++ line ∷ []) lines)) both.0 ∙ first_fault-anywhere (suc n) (suc m) (before ++ line ∷ []) lines both.1
+
+-- it has no faulty line: its fault is that of the whole
+pub accepted-fault : (kind : ListKind) (n : ℕ) (text : List ℕ) (fields : List Field) → IsReadFrom text (length text) fields → is_gap (lines_of text) ≡ false
+    → piece_fault kind (piece n (lines_of text)) ≡ whole_fault kind n (shown_fields text fields)
+accepted-fault kind n text fields read stanza =
+    let whole : take (length text) text ≡ text = take_all (length text) text (omega arith) in
+    let good : first_fault Never n [] (lines_of text) ≡ None = first_fault-anywhere 0 n [] (lines_of text) (ap (λ t. first_fault Never 0 [] (lines_of t)) (sym whole) ∙ read.good_lines) in
+    cond-false _ _ _ stanza ∙ ap (λ o. or_else o (whole_fault kind n (fields_of_lines (lines_of text)))) good
+    ∙ ap (λ t. whole_fault kind n (fields_of_lines (lines_of t))) (sym whole) ∙ ap (whole_fault kind n) (sym read.fields_are.fields_are)
+
+pub accepted-content : (kind : ListKind) (text : List ℕ) (fields : List Field) (stanza : Content) → IsReadFrom text (length text) fields → is_gap (lines_of text) ≡ false
+    → stanza ≡ content_in_front kind (length text) text → stanza ∷ [] ≡ piece_content kind (lines_of text)
+accepted-content kind text fields stanza read is_stanza is =
+    let whole : take (length text) text ≡ text = take_all (length text) text (omega arith) in
+    let lines : take (length text) text ≡ text_of_lines (lines_of text) = read.is_text ∙ ap (λ t. text_of_lines (lines_of t)) whole in
+    ap (λ (x : Content). x ∷ []) (is ∙ ap (λ t. record { text = t; kind = kind }) lines) ∙ sym (cond-false _ _ _ is_stanza)

@@ -1,13 +1,13 @@
 -- A text that is read piece by piece.
-use Rattle.std.proofs.Common.{◌≡◌, ◌∙◌, ◌+◌, ◌-◌, ◌<◌, ◌++◌, ℕ, nat_eq, true, List, [], ◌∷◌, length, take, get_or, Result, Ok, Err, refl, sym, ap, arith, append_assoc, append-nil}
-use Rattle.std.proofs.lemmas.Bool.{eqb-true}
+use Rattle.std.proofs.Common.{◌≡◌, ◌∙◌, ◌+◌, ◌-◌, ◌<◌, ◌++◌, ℕ, nat_eq, true, false, List, [], ◌∷◌, length, take, get_or, Result, Ok, Err, refl, sym, ap, arith, append_assoc, append-nil, ap₂, subst, ⊎_elim, ◌==◌, ◌≤◌, take_all, length-append}
+use Rattle.std.proofs.lemmas.Bool.{cases_Bool, eqb-true, eqb-false}
 use Rattle.std.proofs.lemmas.List.{take_more}
 use Rattle.ctl_stanza.specs.declared.list_kind.ListKind.{ListKind}
 use Rattle.ctl_stanza.specs.declared.fault.TextFault.{TextFault}
 use Rattle.ctl_stanza.specs.Lines.{lines_of}
 use Rattle.ctl_stanza.specs.Content.{Content}
 use Rattle.ctl_stanza.specs.Text.{read_text, with_contents}
-use Rattle.ctl_stanza.specs.InParts.{Reading, IsReading, EndsWithNewline, EndsWithGap, joined}
+use Rattle.ctl_stanza.specs.InParts.{Reading, IsReading, EndsWithNewline, EndsWithGap, HasNoGapFrom, joined}
 use Rattle.ctl_stanza.proofs.PartLemmas.{in_parts}
 use Rattle.ctl_stanza.proofs.TurnLemmas.{with-with}
 
@@ -28,6 +28,57 @@ ends_gap before text i lt is ends = record {
   front = ends.front;
   whole = last-is before text i lt is ∙ ap (λ t. t ++ 10 ∷ []) ends.whole ∙ append_assoc ends.front (10 ∷ []) (10 ∷ []);
 }
+
+-- ---- where no empty line stands
+
+byte-last : (before text : List ℕ) (i : ℕ) → i < length text → before ++ take (i + 1) text ≡ (before ++ take i text) ++ get_or text i 0 ∷ []
+byte-last before text i lt = ap (λ t. before ++ t) (take_more text i 0 lt) ∙ sym (append_assoc before (take i text) (get_or text i 0 ∷ []))
+
+same-last : (xs ys : List ℕ) (a b : ℕ) → xs ++ a ∷ [] ≡ ys ++ b ∷ [] → (xs ≡ ys) × (a ≡ b)
+same-last [] [] a b e = (refl, (let same : a ≡ b = cc in same))
+same-last [] (y ∷ ys) a b e = absurd (omega (arith, ap length e, length-append ys (b ∷ [])))
+same-last (x ∷ xs) [] a b e = absurd (omega (arith, ap length e, length-append xs (a ∷ [])))
+same-last (x ∷ xs) (y ∷ ys) a b e =
+    let head : x ≡ y = cc in
+    let rest : xs ++ a ∷ [] ≡ ys ++ b ∷ [] = cc in
+    let both = same-last xs ys a b rest in
+    (ap₂ (λ (h : ℕ) (t : List ℕ). h ∷ t) head both.0, both.1)
+
+other-byte : (text front : List ℕ) (b : ℕ) → text ≡ front ++ b ∷ [] → nat_eq b 10 ≡ false → EndsWithNewline text → ⊥
+other-byte text front b is other ends =
+    let same : b ≡ 10 = (same-last front ends.front b 10 (sym is ∙ ends.whole)).1 in
+    let clash : true ≡ false = sym (ap (λ x. nat_eq x 10) same) ∙ other in
+    cc
+
+pub other_newline : (before text : List ℕ) (i : ℕ) → 0 < i → i < length text → nat_eq (get_or text (i - 1) 0) 10 ≡ false → EndsWithNewline (before ++ take i text) → ⊥
+other_newline before text i some lt other =
+    let place : i - 1 + 1 ≡ i = omega arith in
+    other-byte (before ++ take i text) (before ++ take (i - 1) text) (get_or text (i - 1) 0) (ap (λ n. before ++ take n text) (sym place) ∙ byte-last before text (i - 1) (omega arith)) other
+
+pub no_newline-none : (before text : List ℕ) (i : ℕ) → i ≡ 0 → before ≡ [] → EndsWithNewline (before ++ take i text) → ⊥
+no_newline-none before text i first none ends =
+    let nothing : before ++ take i text ≡ [] = ap₂ (λ (b : List ℕ) n. b ++ take n text) none first in
+    omega (arith, ap length (sym nothing ∙ ends.whole), length-append ends.front (10 ∷ []))
+
+pub no_newline-last : (before text : List ℕ) (i : ℕ) → i ≡ 0 → 0 < length before → nat_eq (get_or before (length before - 1) 0) 10 ≡ false → EndsWithNewline (before ++ take i text) → ⊥
+no_newline-last before text i first some other =
+    let k = length before - 1 in
+    let place : k + 1 ≡ length before = omega (arith, some) in
+    let whole : before ++ take i text ≡ take k before ++ get_or before k 0 ∷ [] =
+    ap (λ n. before ++ take n text) first ∙ append-nil before ∙ sym (take_all (k + 1) before (omega (arith, place))) ∙ take_more before k 0 (omega (arith, place)) in
+    other-byte (before ++ take i text) (take k before) (get_or before k 0) whole other
+
+pub no_gap : (before text : List ℕ) (i : ℕ) → i < length text → (get_or text i 0 ≡ 10 → EndsWithNewline (before ++ take i text) → ⊥) → EndsWithGap (before ++ take (i + 1) text) → ⊥
+no_gap before text i lt other gap =
+    let both = same-last (before ++ take i text) (gap.front ++ 10 ∷ []) (get_or text i 0) 10 (sym (byte-last before text i lt) ∙ gap.whole ∙ sym (append_assoc gap.front (10 ∷ []) (10 ∷ []))) in
+    other both.1 (record { front = gap.front; whole = both.0 })
+
+-- one byte more is looked at, from the end
+pub gap-next : (before text : List ℕ) (i : ℕ) → i < length text → (get_or text i 0 ≡ 10 → EndsWithNewline (before ++ take i text) → ⊥) → HasNoGapFrom before text (i + 1) → HasNoGapFrom before text i
+gap-next before text i lt other later = λ k from within gap. ⊎_elim
+    (λ (same : (k == i) ≡ true). no_gap before text i lt other (subst (λ j. EndsWithGap (before ++ take (j + 1) text)) (eqb-true k i same) gap))
+    (λ (above : (k == i) ≡ false). later k (omega (arith, from, eqb-false k i above)) within gap)
+    (cases_Bool (k == i))
 
 -- ---- reading on
 

@@ -22,19 +22,16 @@ turn-good old new part fault rest whole none e told =
 
 -- ---- stanzas
 
-first-read : (kind : ListKind) (n m : ℕ) (all others : List (List ℕ)) (lines : List (Bor (List ℕ))) → IsFirstPiece all (lent_lines lines) others → m ≡ n + length lines
-    → read_pieces kind (pieces_of n all)
-    ≡ or_fault (piece_fault kind (piece n (lent_lines lines))) (with_contents (piece_content kind (lent_lines lines)) (read_pieces kind (pieces_of m others)))
+first-read : (kind : ListKind) (n m : ℕ) (all others lines : List (List ℕ)) → IsFirstPiece all lines others → m ≡ n + length lines
+    → read_pieces kind (pieces_of n all) ≡ or_fault (piece_fault kind (piece n lines)) (with_contents (piece_content kind lines) (read_pieces kind (pieces_of m others)))
 first-read kind n m all others lines first e =
-    let place : n + length (lent_lines lines) ≡ m = omega (arith, e, length-map lines now) in
-    ap (read_pieces kind) (first n)
-    ∙ ap (λ k. or_fault (piece_fault kind (piece n (lent_lines lines))) (with_contents (piece_content kind (lent_lines lines)) (read_pieces kind (pieces_of k others)))) place
+    ap (read_pieces kind) (first n) ∙ ap (λ k. or_fault (piece_fault kind (piece n lines)) (with_contents (piece_content kind lines) (read_pieces kind (pieces_of k others)))) (sym e)
 
-pub stanza-turn : (kind : ListKind) (old new : List Content) (n m : ℕ) (all others : List (List ℕ)) (lines : List (Bor (List ℕ))) (whole : Result (List Content) TextFault)
-    → IsFirstPiece all (lent_lines lines) others → m ≡ n + length lines → piece_fault kind (piece n (lent_lines lines)) ≡ None → new ≡ old ++ piece_content kind (lent_lines lines)
+pub stanza-turn : (kind : ListKind) (old new : List Content) (n m : ℕ) (all others lines : List (List ℕ)) (whole : Result (List Content) TextFault)
+    → IsFirstPiece all lines others → m ≡ n + length lines → piece_fault kind (piece n lines) ≡ None → new ≡ old ++ piece_content kind lines
     → with_contents old (read_pieces kind (pieces_of n all)) ≡ whole → with_contents new (read_pieces kind (pieces_of m others)) ≡ whole
 stanza-turn kind old new n m all others lines whole first e none more told =
-    turn-good old new (piece_content kind (lent_lines lines)) (piece_fault kind (piece n (lent_lines lines))) (read_pieces kind (pieces_of m others)) whole none more
+    turn-good old new (piece_content kind lines) (piece_fault kind (piece n lines)) (read_pieces kind (pieces_of m others)) whole none more
     (ap (with_contents old) (sym (first-read kind n m all others lines first e)) ∙ told)
 
 all-read : (kind : ListKind) (n : ℕ) (left : List ℕ) (stanzas : List Content) → (length left == 0) ≡ true → with_contents stanzas (read_pieces kind (pieces_of n (lines_of left))) ≡ Ok stanzas

@@ -1,8 +1,9 @@
 -- The names of fields that a stanza has given so far: how they are held. Not for callers.
-use Rattle.std.specs.Prelude.{◌≡◌, ℕ, Bool, false, ◌||◌, List}
+use Rattle.std.specs.Prelude.{◌≡◌, ℕ, Bool, true, false, ◌||◌, List}
 use Rattle.std.specs.List.{list_any}
 use Rattle.std.specs.Str.{bytes_eq, str_to_ascii_lowercase}
 use Rattle.ctl_stanza.specs.declared.line_kind.LineKind.{LineKind}
+use Rattle.ctl_stanza.specs.declared.line_faults.LinesSeen.{LinesSeen}
 use Rattle.ctl_stanza.specs.declared.names_given.NamesGiven.{NamesGiven}
 use Rattle.ctl_stanza.specs.Fields.{is_same_name}
 use Rattle.ctl_stanza.specs.Faults.{gives_name}
@@ -15,6 +16,12 @@ holds names name =
 
 abbrev pub HoldsNone : NamesGiven → Type 0
 HoldsNone names = (name : List ℕ) → holds names name ≡ false
+
+-- no line was seen
+pub record HasSeenNone (seen : LinesSeen) : Type 0 where
+  pub names : HoldsNone seen.names
+  pub body : seen.body_len ≡ 0
+  pub none : seen.is_none ≡ true
 
 -- one name more is given
 abbrev pub Adds : NamesGiven → NamesGiven → List ℕ → Type 0

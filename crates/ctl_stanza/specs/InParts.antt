@@ -1,8 +1,9 @@
 -- A text read in parts.
-use Rattle.std.specs.Prelude.{◌≡◌, ◌+◌, ℕ, List, [], ◌∷◌, ◌++◌, length, Result, Ok, Err}
+use Rattle.std.specs.Prelude.{◌≡◌, ◌≢◌, ◌+◌, ◌<◌, ◌≤◌, ℕ, List, [], ◌∷◌, ◌++◌, length, take, Result, Ok, Err}
 use Rattle.ctl_relation.specs.Bytes.{newline}
 use Rattle.ctl_stanza.specs.declared.list_kind.ListKind.{ListKind}
 use Rattle.ctl_stanza.specs.declared.fault.TextFault.{TextFault}
+use Rattle.ctl_stanza.specs.declared.fault.Cause.TheVariants as causes
 use Rattle.ctl_stanza.specs.Content.{Content}
 use Rattle.ctl_stanza.specs.Lines.{lines_of}
 use Rattle.ctl_stanza.specs.Text.{read_text, with_contents}
@@ -40,3 +41,17 @@ pub record EndsWithNewline (text : List ℕ) : Type 0 where
 pub record EndsWithGap (text : List ℕ) : Type 0 where
   pub front : List ℕ
   pub whole : text ≡ front ++ newline ∷ newline ∷ []
+
+-- behind a place of a text, before which another stands, no empty line ends
+abbrev pub HasNoGapFrom : List ℕ → List ℕ → ℕ → Type 0
+HasNoGapFrom before text place = (i : ℕ) → place ≤ i → i < length text → EndsWithGap (before ++ take (i + 1) text) → ⊥
+
+-- What was read of a text is read of it with its next piece, too.
+abbrev pub ReadsOn : List ℕ → Reading → Reading → Type 0
+ReadsOn piece old new = (kind : ListKind) (n : ℕ) (text : List ℕ) → IsReading kind n text old → IsReading kind n (text ++ piece) new
+
+-- A fault that is told is that of the text with its next piece, whatever comes behind, unless memory ran out.
+abbrev pub TellsOfPiece : List ℕ → Reading → TextFault → Type 0
+TellsOfPiece piece old told =
+    told.cause ≢ causes.Memory
+    → (kind : ListKind) (n : ℕ) (text more : List ℕ) → IsReading kind n text old → read_text kind n (text ++ (piece ++ more)) ≡ Err told

@@ -79,3 +79,7 @@ read_text kind n text = read_pieces kind (pieces_of n (lines_of text))
 abbrev pub Reads : {A : Type 0} → Result (Vec A Global) TextFault → Result (List A) TextFault → Type 0
 Reads (Ok contents) read = read ≡ Ok contents.items
 Reads (Err fault) read = fault.cause ≢ causes.Memory → read ≡ Err fault
+
+-- A fault that is told is what reading gives, unless memory ran out.
+abbrev pub TellsFault : {A : Type 0} → Result (List A) TextFault → TextFault → Type 0
+TellsFault read told = told.cause ≢ causes.Memory → read ≡ Err told

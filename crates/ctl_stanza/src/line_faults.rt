@@ -1,10 +1,10 @@
 //! The first faulty line of a stanza.
 
-ghost use Rattle.std.specs.Prelude.{◌≡◌, ◌+◌, ◌<◌, ◌≤◌, ◌^◌, length, [], None, IfOk};
+ghost use Rattle.std.specs.Prelude.{◌≡◌, ◌+◌, ◌<◌, ◌≤◌, ◌^◌, false, length, [], None, IfOk};
 ghost use Rattle.ctl_stanza.specs.Lines.{max_line, lent_lines};
 ghost use Rattle.ctl_stanza.specs.LineKind.{IfName};
 ghost use Rattle.ctl_stanza.specs.Faults.{body_step, continuation_cause, cause_with, first_fault};
-ghost use Rattle.ctl_stanza.specs.HeldNames.{holds, HoldsNone, AddsNameOf};
+ghost use Rattle.ctl_stanza.specs.HeldNames.{holds, HasSeenNone, AddsNameOf};
 
 use crate::fault::{Cause, TextFault};
 use crate::fields::value_len;
@@ -27,41 +27,76 @@ fn continuation_cause(is_first: bool, len: usize) -> Option<Cause>
     }
 }
 
-// The cause of a line within the limit. Where there is none, its name is given, and the bytes of the body that it
-// belongs to are counted.
+/// What the lines of a stanza so far gave: the names of their fields, and the bytes of the body that the last of them
+/// belongs to.
+#[derive(Drop)]
+pub(crate) struct LinesSeen<'a> {
+    names: NamesGiven<'a>,
+    body_len: usize,
+    // Whether there was no line.
+    is_none: bool,
+}
+
+impl<'a> LinesSeen<'a> {
+    ghost use Rattle.ctl_stanza.specs.HeldNames.{HasSeenNone};
+
+    /// No line.
+    pub(crate) fn new(alloc: Global) -> LinesSeen<'a>
+        ensures { HasSeenNone result }
+    {
+        LinesSeen {
+            names: NamesGiven::new(alloc),
+            body_len: 0,
+            is_none: true,
+        }
+    }
+
+    /// Forgets all lines.
+    pub(crate) fn clear(&mut self)
+        ensures { HasSeenNone self.new }
+    {
+        self.names.clear();
+        self.body_len = 0;
+        self.is_none = true;
+    }
+}
+
+/// The cause of a line of a stanza that isn't too long. Where there is none, the line is one of those that were seen.
 pub(crate) fn line_cause<'a>(
     alloc: Global,
     repeats: Repeats,
-    names: &mut NamesGiven<'a>,
-    body_len: &mut usize,
-    is_first: bool,
+    seen: &mut LinesSeen<'a>,
     line: &'a [u8],
     kind: LineKind,
 ) -> Result<Option<Cause>, AllocError>
     requires name { IfName kind line.now }
     requires line { length line.now ≤ max_line }
-    requires body { body_len.old ≤ max_line }
-    ensures cause { IfOk result (λ cause. cause ≡ cause_with repeats (holds names.old) is_first body_len.old line.now kind) }
-    ensures names { IfOk result (λ cause. cause ≡ None → AddsNameOf kind line.now names.old names.new) }
-    ensures body { IfOk result (λ cause. cause ≡ None → body_len.new ≡ body_step body_len.old line.now kind) }
-    ensures within { IfOk result (λ cause. cause ≡ None → body_len.new ≤ max_line) }
+    requires body { seen.old.body_len ≤ max_line }
+    ensures cause { IfOk result (λ cause.
+        cause ≡ cause_with repeats (holds seen.old.names) seen.old.is_none seen.old.body_len line.now kind) }
+    ensures names { IfOk result (λ cause. cause ≡ None → AddsNameOf kind line.now seen.old.names seen.new.names) }
+    ensures body { IfOk result (λ cause. cause ≡ None → seen.new.body_len ≡ body_step seen.old.body_len line.now kind) }
+    ensures within { IfOk result (λ cause. cause ≡ None → seen.new.body_len ≤ max_line) }
+    ensures some { IfOk result (λ cause. cause ≡ None → seen.new.is_none ≡ false) }
 {
+    let is_first = seen.is_none;
+    seen.is_none = false;
     match kind {
         LineKind::Field(n) => {
             let name = &line[..n];
-            let is_new = names.add(alloc, name)?;
+            let is_new = seen.names.add(alloc, name)?;
             if !is_new && !repeats.allow(name) {
                 return Ok(Some(Cause::FieldTwice));
             }
-            *body_len = value_len(line, n);
+            seen.body_len = value_len(line, n);
             Ok(None)
         }
         LineKind::Continuation => {
-            let len = *body_len + (1 + line.len());
+            let len = seen.body_len + (1 + line.len());
             if let Some(cause) = continuation_cause(is_first, len) {
                 return Ok(Some(cause));
             }
-            *body_len = len;
+            seen.body_len = len;
             Ok(None)
         }
         LineKind::Blank => Ok(None),
@@ -69,20 +104,18 @@ pub(crate) fn line_cause<'a>(
     }
 }
 
-/// The first faulty line of a stanza's lines, which count from `first_line`. The names that they give are
-/// kept in `names`.
+/// The first faulty line of a stanza's lines, which count from `first_line`.
 pub(crate) fn first_fault<'a>(
     alloc: Global,
     repeats: Repeats,
-    names: &mut NamesGiven<'a>,
+    seen: &mut LinesSeen<'a>,
     lines: &[&'a [u8]],
     first_line: u64,
 ) -> Result<Option<TextFault>, AllocError>
     requires lines { first_line + length lines.now < 2 ^ 64 }
-    requires names { HoldsNone names.old }
+    requires none { HasSeenNone seen.old }
     ensures { IfOk result (λ found. found ≡ first_fault repeats first_line [] (lent_lines lines.now)) }
 {
-    let mut body_len: usize = 0;
     for i in 0..lines.len() {
         let line = lines[i];
         let number = first_line + i as u64;
@@ -93,7 +126,7 @@ pub(crate) fn first_fault<'a>(
             }));
         }
         let kind = kind_of(line);
-        let found = line_cause(alloc, repeats, names, &mut body_len, i == 0, line, kind)?;
+        let found = line_cause(alloc, repeats, seen, line, kind)?;
         if let Some(cause) = found {
             return Ok(Some(TextFault {
                 line: number,

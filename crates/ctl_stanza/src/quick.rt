@@ -6,14 +6,13 @@ ghost use Rattle.ctl_stanza.specs.Lines.{lines_of};
 ghost use Rattle.ctl_stanza.specs.LineKind.{kind_of, IfName};
 ghost use Rattle.ctl_stanza.specs.Fields.{continued};
 ghost use Rattle.ctl_stanza.specs.HeldFields.{IsText, StandsAt};
-ghost use Rattle.ctl_stanza.specs.HeldNames.{HoldsNone};
+ghost use Rattle.ctl_stanza.specs.HeldNames.{HasSeenNone};
 ghost use Rattle.ctl_stanza.specs.Quick.{IsPlainField, AddsPlain, IsCutOff, IsAccepted};
 
 use crate::fields::{Field, Span, continues, value_span};
-use crate::line_faults::line_cause;
+use crate::line_faults::{LinesSeen, line_cause};
 use crate::line_kind::{LineKind, kind_of};
 use crate::lines::{begins_with_blank, is_too_long, take_line};
-use crate::names_given::NamesGiven;
 use crate::repeats::Repeats;
 use std::alloc::{AllocError, Global};
 
@@ -137,22 +136,20 @@ fn cut_off<'a>(text: &'a [u8], left: &'a [u8], line_count: usize) -> Option<Acce
     })
 }
 
-/// The first stanza of a text, whose fields are then these, or None on any doubt. The names that it gives are kept in
-/// `names`.
+/// The first stanza of a text, whose fields are then these, or None on any doubt.
 pub(crate) fn accept_stanza<'a>(
     alloc: Global,
-    names: &mut NamesGiven<'a>,
+    seen: &mut LinesSeen<'a>,
     fields: &mut Vec<Field>,
     text: &'a [u8],
 ) -> Result<Option<Accepted<'a>>, AllocError>
-    requires names { HoldsNone names.old }
+    requires { HasSeenNone seen.old }
     ensures { IfOk result (λ found. IfSome found (λ stanza. IsAccepted text.now stanza fields.new.items)) }
 {
     fields.clear();
     if !ends_with_newline(text) {
         return Ok(None);
     }
-    let mut body_len: usize = 0;
     let mut count: usize = 0;
     let mut left = text;
     'lines: loop {
@@ -166,15 +163,7 @@ pub(crate) fn accept_stanza<'a>(
         if is_too_long(line) {
             return Ok(None);
         }
-        let found = line_cause(
-            alloc,
-            Repeats::Never,
-            names,
-            &mut body_len,
-            count == 0,
-            line,
-            kind,
-        )?;
+        let found = line_cause(alloc, Repeats::Never, seen, line, kind)?;
         if let Some(_) = found {
             return Ok(None);
         }

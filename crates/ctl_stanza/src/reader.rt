@@ -1,10 +1,9 @@
 //! Reading a control text piece by piece.
 
-ghost use Rattle.std.specs.Prelude.{◌≡◌, ◌≢◌, ◌≤◌, ◌<◌, ◌++◌, [], ℕ, List, true, length, take, Err, IfOk, IfErr, IfSome};
-ghost use Rattle.ctl_stanza.specs.declared.fault.Cause.TheVariants as causes;
+ghost use Rattle.std.specs.Prelude.{◌≡◌, ◌≤◌, ◌<◌, ◌++◌, [], ℕ, List, true, false, length, take, IfOk, IfErr, IfSome, IfNone};
 ghost use Rattle.ctl_stanza.specs.declared.list_kind.ListKind.{ListKind};
 ghost use Rattle.ctl_stanza.specs.Faults.{IsMemoryAtZero};
-ghost use Rattle.ctl_stanza.specs.InParts.{IsReading, EndsWithGap, EndsWithNewline};
+ghost use Rattle.ctl_stanza.specs.InParts.{IsReading, EndsWithGap, EndsWithNewline, HasNoGapFrom, ReadsOn, TellsOfPiece};
 ghost use Rattle.ctl_stanza.specs.Text.{read_text, Reads};
 
 use crate::fault::TextFault;
@@ -40,7 +39,8 @@ impl Model for StanzaReader {
 // Whether the byte before the one at an index is a newline, where one text stands before the other.
 fn is_behind_newline(before: &[u8], text: &[u8], i: usize) -> bool
     requires { i < length text.now }
-    ensures { result ≡ true → EndsWithNewline (before.now ++ take i text.now) }
+    ensures newline { result ≡ true → EndsWithNewline (before.now ++ take i text.now) }
+    ensures other { result ≡ false → EndsWithNewline (before.now ++ take i text.now) → ⊥ }
 {
     if i > 0 {
         return text[i - 1] == b'\n';
@@ -55,6 +55,8 @@ fn is_behind_newline(before: &[u8], text: &[u8], i: usize) -> bool
 fn last_gap(before: &[u8], text: &[u8]) -> Option<usize>
     ensures within { IfSome result (λ at. at ≤ length text.now) }
     ensures gap { IfSome result (λ at. EndsWithGap (before.now ++ take at text.now)) }
+    ensures last { IfSome result (HasNoGapFrom before.now text.now) }
+    ensures none { IfNone result (HasNoGapFrom before.now text.now 0) }
 {
     for i in (0..text.len()).rev() {
         if text[i] == b'\n' && is_behind_newline(before, text, i) {
@@ -85,8 +87,8 @@ impl StanzaReader {
     /// [`read_stanzas`](crate::read_stanzas). Where memory runs out, or lines can't be counted in 64 bits, the cause is
     /// [`Cause::Memory`](crate::Cause::Memory) and the line is 0.
     pub fn push(self, alloc: Global, piece: &[u8]) -> Result<StanzaReader, TextFault>
-        ensures read { IfOk result (λ reader. (kind : ListKind) (n : ℕ) (text : List ℕ) → IsReading kind n text self → IsReading kind n (text ++ piece.now) reader) }
-        ensures fault { IfErr result (λ told. told.cause ≢ causes.Memory → (kind : ListKind) (n : ℕ) (text more : List ℕ) → IsReading kind n text self → read_text kind n (text ++ (piece.now ++ more)) ≡ Err told) }
+        ensures read { IfOk result (ReadsOn piece.now self) }
+        ensures fault { IfErr result (TellsOfPiece piece.now self) }
         ensures memory { IfErr result IsMemoryAtZero }
     {
         let StanzaReader {

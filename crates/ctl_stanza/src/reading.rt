@@ -1,20 +1,20 @@
 //! A text to its stanzas.
 
-ghost use Rattle.std.specs.Prelude.{◌≡◌, ◌≢◌, ◌≤◌, ◌<◌, ◌+◌, ◌^◌, ◌++◌, ℕ, length, None, Some, Ok, Err, IfOk, IfErr, OnOk};
-ghost use Rattle.ctl_stanza.specs.declared.fault.Cause.TheVariants as causes;
+ghost use Rattle.std.specs.Prelude.{◌≡◌, ◌≤◌, ◌<◌, ◌+◌, ◌^◌, ◌++◌, ◌∷◌, [], false, length, None, Ok, IfOk, IfErr, OnOk};
 ghost use Rattle.ctl_stanza.specs.Lines.{lines_of, lent_lines, AreLines};
 ghost use Rattle.ctl_stanza.specs.Faults.{IsMemoryAtZero, Tells};
 ghost use Rattle.ctl_stanza.specs.Laws.{AreStanzasOf, HasNoFault, TellsLeastFault};
-ghost use Rattle.ctl_stanza.specs.HeldNames.{HoldsNone};
-ghost use Rattle.ctl_stanza.specs.Text.{IsFirstPiece, read_text, piece_content, piece_fault, piece, with_contents, Reads};
+ghost use Rattle.ctl_stanza.specs.HeldFields.{IsReadFrom, AreBelow};
+ghost use Rattle.ctl_stanza.specs.Text.{IsFirstPiece, read_text, is_gap, piece_content, piece_fault, piece, with_contents, Reads, TellsFault};
 
 use crate::fault::TextFault;
-use crate::line_faults::first_fault;
+use crate::fields::Field;
+use crate::line_faults::{LinesSeen, first_fault};
 use crate::lines::{is_blank, take_line};
 use crate::list_kind::ListKind;
-use crate::names_given::NamesGiven;
+use crate::quick::{Accepted, accept_stanza};
 use crate::repeats::Repeats;
-use crate::stanza::{Stanza, read_stanza};
+use crate::stanza::{Stanza, StanzaBytes, read_stanza, stanza_of_fields};
 use std::alloc::{AllocError, Global};
 
 /// Takes the lines of the first piece of a text: one blank line, or all lines up to the next blank one. What
@@ -52,29 +52,27 @@ pub(crate) fn take_piece<'a>(
     }
 }
 
-// Reads a piece: adds its stanza, if it is one. The names that it gives are forgotten before the stanza is
-// made, since those of a large one take more room than the stanza.
-fn read_piece<'a>(
+// Reads a piece that may have a fault: adds its stanza, if it is one.
+fn read_piece(
     alloc: Global,
     stanzas: &mut Vec<Stanza>,
-    names: &mut NamesGiven<'a>,
-    lines: &[&'a [u8]],
+    lines: &[&[u8]],
     first_line: u64,
     kind: ListKind,
 ) -> Result<(), TextFault>
     requires lines { first_line + length lines.now < 2 ^ 64 }
     requires some { 0 < length lines.now }
-    requires names { HoldsNone names.old }
     requires no_newline { AreLines (lent_lines lines.now) }
     ensures stanzas { OnOk result (
         stanzas.new.items ≡ stanzas.old.items ++ piece_content kind (lent_lines lines.now)) }
     ensures whole { OnOk result (piece_fault kind (piece first_line (lent_lines lines.now)) ≡ None) }
-    ensures names { OnOk result (HoldsNone names.new) }
     ensures fault { IfErr result (Tells (piece_fault kind (piece first_line (lent_lines lines.now)))) }
     ensures memory { IfErr result IsMemoryAtZero }
 {
-    let found = first_fault(alloc, Repeats::Never, names, lines, first_line)?;
-    names.clear();
+    let mut seen = LinesSeen::new(alloc);
+    let found = first_fault(alloc, Repeats::Never, &mut seen, lines, first_line)?;
+    // The names of a large stanza take more room than the stanza.
+    seen.clear();
     if let Some(fault) = found {
         return Err(fault);
     }
@@ -84,6 +82,32 @@ fn read_piece<'a>(
     let stanza = read_stanza(alloc, lines, first_line, kind)?;
     stanzas.push(stanza)?;
     Ok(())
+}
+
+// Makes an accepted stanza of its fields, or tells what is wrong with it.
+fn stanza_of_accepted(
+    alloc: Global,
+    accepted: &Accepted,
+    fields: &[Field],
+    first_line: u64,
+    kind: ListKind,
+) -> Result<Stanza, TextFault>
+    requires lines { first_line + accepted.now.line_count < 2 ^ 64 }
+    requires read { IsReadFrom accepted.now.text.now (length accepted.now.text.now) fields.now }
+    requires below { AreBelow accepted.now.line_count fields.now }
+    requires stanza { is_gap (lines_of accepted.now.text.now) ≡ false }
+    ensures stanza { IfOk result (λ stanza. stanza ∷ [] ≡ piece_content kind (lines_of accepted.now.text.now)) }
+    ensures whole { OnOk result (piece_fault kind (piece first_line (lines_of accepted.now.text.now)) ≡ None) }
+    ensures fault { IfErr result (Tells (piece_fault kind (piece first_line (lines_of accepted.now.text.now)))) }
+    ensures memory { IfErr result IsMemoryAtZero }
+{
+    let bytes = Vec::from_slice(alloc, accepted.text)?;
+    let held = StanzaBytes {
+        bytes,
+        text_len: accepted.text.len() as u32,
+        kind,
+    };
+    stanza_of_fields(alloc, held, fields, first_line)
 }
 
 /// Adds the stanzas of a control text whose lines count from `first_line`, and tells the number of the line behind it.
@@ -97,16 +121,27 @@ pub(crate) fn read_behind(
     requires lines { first_line + length (lines_of text.now) < 2 ^ 64 }
     ensures line { IfOk result (λ line. line ≡ first_line + length (lines_of text.now)) }
     ensures read { OnOk result (with_contents stanzas.old.items (read_text kind first_line text.now) ≡ Ok stanzas.new.items) }
-    ensures fault { IfErr result (λ told. told.cause ≢ causes.Memory → with_contents stanzas.old.items (read_text kind first_line text.now) ≡ Err told) }
+    ensures fault { IfErr result (TellsFault (with_contents stanzas.old.items (read_text kind first_line text.now))) }
     ensures memory { IfErr result IsMemoryAtZero }
 {
-    let mut names = NamesGiven::new(alloc);
+    let mut seen = LinesSeen::new(alloc);
+    let mut fields: Vec<Field> = Vec::new(alloc);
     let mut lines: Vec<&[u8]> = Vec::new(alloc);
     let mut left = text;
     let mut line = first_line;
     'pieces: while !left.is_empty() {
+        let found = accept_stanza(alloc, &mut seen, &mut fields, left)?;
+        // The names of a large stanza take more room than the stanza.
+        seen.clear();
+        if let Some(accepted) = found {
+            let stanza = stanza_of_accepted(alloc, &accepted, &fields, line, kind)?;
+            stanzas.push(stanza)?;
+            line += accepted.line_count as u64;
+            left = accepted.behind;
+            continue;
+        }
         let behind = take_piece(&mut lines, left)?;
-        read_piece(alloc, stanzas, &mut names, &lines, line, kind)?;
+        read_piece(alloc, stanzas, &lines, line, kind)?;
         line += lines.len() as u64;
         left = behind;
     }

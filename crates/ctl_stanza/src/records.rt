@@ -4,16 +4,15 @@ ghost use Rattle.std.specs.Prelude.{◌≡◌, ◌≢◌, ◌+◌, ◌<◌, ◌^
 ghost use Rattle.ctl_stanza.specs.declared.fault.Cause.TheVariants as causes;
 ghost use Rattle.ctl_stanza.specs.Lines.{lines_of, lent_lines, AreLines};
 ghost use Rattle.ctl_stanza.specs.Faults.{IsMemoryAtZero, Tells};
-ghost use Rattle.ctl_stanza.specs.HeldNames.{HoldsNone};
+ghost use Rattle.ctl_stanza.specs.HeldNames.{HasSeenNone};
 ghost use Rattle.ctl_stanza.specs.Text.{Reads};
 ghost use Rattle.ctl_stanza.specs.RecordLaws.{HasNoRecordFault, AreRecordsOf, AreRecordsUpTo, TellsLeastRecordFault};
 ghost use Rattle.ctl_stanza.specs.Records.{record_of, numbered_fault, record_fault, piece_record, records_before_fault, read_record_text};
 
 use crate::fault::{Cause, TextFault};
 use crate::fields::{Field, fields_of_lines};
-use crate::line_faults::first_fault;
+use crate::line_faults::{LinesSeen, first_fault};
 use crate::lines::{is_blank, text_of_lines};
-use crate::names_given::NamesGiven;
 use crate::reading::take_piece;
 use crate::record_lines::{RecordLines, record_lines};
 use crate::repeats::Repeats;
@@ -79,22 +78,22 @@ fn numbered_fault(fault: TextFault, numbers: &[u64]) -> TextFault
 fn read_record<'a>(
     alloc: Global,
     records: &mut Vec<Record>,
-    names: &mut NamesGiven<'a>,
+    seen: &mut LinesSeen<'a>,
     lines: &[&'a [u8]],
     numbers: &[u64],
 ) -> Result<(), TextFault>
     requires some { 0 < length lines.now }
     requires numbers { length numbers.now ≡ length lines.now }
-    requires names { HoldsNone names.old }
+    requires none { HasSeenNone seen.old }
     ensures records { OnOk result (records.new.items ≡ records.old.items ++ piece_record numbers.now (lent_lines lines.now)) }
     ensures whole { OnOk result (record_fault numbers.now (lent_lines lines.now) ≡ None) }
-    ensures names { OnOk result (HoldsNone names.new) }
+    ensures none { OnOk result (HasSeenNone seen.new) }
     ensures kept { OnErr result (records.new.items ≡ records.old.items) }
     ensures fault { IfErr result (Tells (record_fault numbers.now (lent_lines lines.now))) }
     ensures memory { IfErr result IsMemoryAtZero }
 {
-    let found = first_fault(alloc, Repeats::Explanation, names, lines, 0)?;
-    names.clear();
+    let found = first_fault(alloc, Repeats::Explanation, seen, lines, 0)?;
+    seen.clear();
     if let Some(fault) = found {
         return Err(numbered_fault(fault, numbers));
     }
@@ -140,14 +139,14 @@ pub fn read_records_before_fault(
         numbers,
     } = record_lines(alloc, text, first_line)?;
     let mut records = Vec::new(alloc);
-    let mut names = NamesGiven::new(alloc);
+    let mut seen = LinesSeen::new(alloc);
     let mut lines: Vec<&[u8]> = Vec::new(alloc);
     let mut left = kept.as_slice();
     let mut at: usize = 0;
     'pieces: while !left.is_empty() {
         let behind = take_piece(&mut lines, left)?;
         let end = at + lines.len();
-        match read_record(alloc, &mut records, &mut names, &lines, &numbers[at..end]) {
+        match read_record(alloc, &mut records, &mut seen, &lines, &numbers[at..end]) {
             Ok(()) => {}
             Err(fault) if fault.cause == Cause::Memory => return Err(AllocError),
             Err(fault) => {

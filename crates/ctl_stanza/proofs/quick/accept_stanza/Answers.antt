@@ -3,6 +3,7 @@ use Rattle.ctl_stanza.specs.Lines.{lines_of}
 use Rattle.ctl_stanza.specs.LineKind.{kind_of}
 use Rattle.ctl_stanza.specs.Faults.{gives_name, body_step, cause_of}
 use Rattle.ctl_stanza.specs.declared.repeats.Repeats.TheVariants.{Never}
+use Rattle.std.proofs.lemmas.Bool.{ne_eqb}
 use Rattle.ctl_stanza.proofs.FaultLemmas.{cause-is, has_name-next, body_len-next}
 use Rattle.ctl_stanza.proofs.PieceLemmas.{gap-none, gap-blank}
 use Rattle.ctl_stanza.proofs.QuickLemmas.{text-behind, next-is, blank-is, not-blank, reached-start, reached-next, end-if}
@@ -31,7 +32,7 @@ lines-preserved c =
     let next = next-is lines i line (lines_of c.in-Some.behind.now) (inv.reached.left_is ∙ c.in-Some.ensures.lines) in
     let kind = c.kind_of-kind.ensures.kind in
     let none = c.in_ok-found.ensures.cause in
-    let cause = cause-is Never lines _ i _ _ _ _ next.below inv.names inv.body next.here kind (sym c.is_too_long.ensures ∙ c.if-is_too_long.false) none in
+    let cause = cause-is Never lines _ i _ _ _ _ _ next.below inv.names inv.body inv.none next.here kind (sym c.is_too_long.ensures ∙ c.if-is_too_long.false) none in
     let is_none = c.in_default-found.is in
     let kind_here = kind ∙ ap kind_of (sym next.here) in
     record {
@@ -41,7 +42,8 @@ lines-preserved c =
       within = omega (arith, inv.within, c.in-Some.ensures.less);
       names = λ other. c.in_ok-found.ensures.names is_none other
           ∙ ap₂ ◌||◌ (ap₂ (λ k l. gives_name k l other) kind_here (sym next.here)) (inv.names other) ∙ sym (has_name-next lines i (i + 1) other refl next.below);
-      body = c.in_ok-found.ensures.body is_none ∙ ap (body_step c.lines.body_len _) kind
+      body = c.in_ok-found.ensures.body is_none ∙ ap (body_step c.lines.seen.body_len _) kind
           ∙ ap₂ (λ n l. body_step n l (kind_of l)) inv.body (sym next.here) ∙ sym (body_len-next lines i (i + 1) refl next.below);
       short = c.in_ok-found.ensures.within is_none;
+      none = c.in_ok-found.ensures.some is_none ∙ sym (ne_eqb (i + 1) 0 (λ e. omega (arith, e)));
     }

@@ -1,20 +1,38 @@
-use Rattle.std.proofs.Common.{refl, ◌∙◌, ◌+◌, length, ap, sym}
-use Rattle.ctl_stanza.specs.Lines.{lines_of}
+use Rattle.std.proofs.Common.{refl, ◌∙◌, ◌+◌, ◌++◌, length, ap, sym, subst, arith, IfSome}
+use Rattle.std.proofs.lemmas.List.{length-map}
+use Rattle.ctl_stanza.specs.Lines.{lines_of, lent_lines}
+use Rattle.ctl_stanza.specs.Quick.{IsAccepted}
+use Rattle.ctl_stanza.proofs.PieceLemmas.{now}
 use Rattle.ctl_stanza.proofs.TurnLemmas.{stanza-turn, stanza-end, first-lent, room-next, none-behind}
 use Rattle.ctl_stanza.proofs.reading.read_behind.Goals as goal
+
+pub pieces-preserved-in-Some : goal.pieces-preserved-in-Some
+pieces-preserved-in-Some c =
+    let left = c.pieces.left.now in
+    let accepted = c.in-Some.accepted in
+    let is : IsAccepted left accepted c.accept_stanza.new.fields.items =
+    subst (λ found. IfSome found (λ stanza. IsAccepted left stanza c.accept_stanza.new.fields.items)) c.in-Some.is c.in_ok-found.ensures in
+    record {
+      seen = c.clear.ensures;
+      room = omega (arith, is.room, c.pieces.invariant.room);
+      told = stanza-turn c.args.kind c.pieces.stanzas.items c.push.new.self.items c.pieces.line _ (lines_of left) (lines_of accepted.behind.now) (lines_of accepted.text.now) _ is.first
+          (ap (λ k. c.pieces.line + k) is.count) c.in_ok-stanza.ensures.whole (c.in_ok-push.ensures.items ∙ ap (λ t. c.pieces.stanzas.items ++ t) c.in_ok-stanza.ensures.stanza) c.pieces.invariant.told;
+    }
 
 pub pieces-preserved : goal.pieces-preserved
 pieces-preserved c =
     let taken = c.take_piece.new.lines.items in
-    let given = c.deref.result.now in
-    let count = c.len.ensures ∙ sym c.deref.ensures.len ∙ ap length c.deref.ensures.value in
+    let given = c.deref-in-pieces.result.now in
+    let left = lines_of c.pieces.left.now in
+    let behind = lines_of c.in_ok-behind.behind.now in
+    let lent = c.deref-in-pieces.ensures in
+    let count = c.len.ensures ∙ sym lent.len in
     record {
-      names = c.in_ok-read_piece.ensures.names;
-      room = ap (λ n. c.pieces.line + n + length (lines_of c.in_ok-behind.behind.now)) count
-          ∙ room-next (lines_of c.pieces.left.now) (lines_of c.in_ok-behind.behind.now) taken c.pieces.line _ c.in_ok-behind.ensures.lines c.pieces.invariant.room;
-      told = stanza-turn c.args.kind c.pieces.stanzas.items c.read_piece.new.stanzas.items c.pieces.line _ (lines_of c.pieces.left.now) (lines_of c.in_ok-behind.behind.now) given _
-          (first-lent (lines_of c.pieces.left.now) (lines_of c.in_ok-behind.behind.now) taken given c.deref.ensures.value c.in_ok-behind.ensures.first)
-          (ap (λ k. c.pieces.line + k) (c.len.ensures ∙ sym c.deref.ensures.len))
+      seen = c.clear.ensures;
+      room = ap (λ n. c.pieces.line + n + length behind) (count ∙ ap length lent.value) ∙ room-next left behind taken c.pieces.line _ c.in_ok-behind.ensures.lines c.pieces.invariant.room;
+      told = stanza-turn c.args.kind c.pieces.stanzas.items c.read_piece.new.stanzas.items c.pieces.line _ left behind (lent_lines given) _
+          (first-lent left behind taken given lent.value c.in_ok-behind.ensures.first)
+          (ap (λ k. c.pieces.line + k) (count ∙ sym (length-map given now)))
           c.in_ok-read_piece.ensures.whole c.in_ok-read_piece.ensures.stanzas c.pieces.invariant.told;
     }
 

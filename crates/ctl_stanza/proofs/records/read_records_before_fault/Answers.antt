@@ -31,7 +31,7 @@ pieces-preserved c =
     let at = c.pieces.at in
     let size = ap (λ k. at + k) (c.len.ensures ∙ sym c.deref.ensures.len) in
     record {
-      names = c.in-Ok.ensures.names;
+      seen = c.in-Ok.ensures.none;
       room = omega (arith, room-next (lines_of c.pieces.left.now) (lines_of c.in_ok-behind.behind.now) taken at _ c.in_ok-behind.ensures.lines c.pieces.invariant.room, c.len.ensures);
       told = record-turn c.in_ok-kept.field-0.numbers.items _ c.pieces.records.items c.read_record.new.records.items at _ (lines_of c.pieces.left.now) (lines_of c.in_ok-behind.behind.now) given _
           (first-lent (lines_of c.pieces.left.now) (lines_of c.in_ok-behind.behind.now) taken given c.deref.ensures.value c.in_ok-behind.ensures.first) size (ap (λ xs. slice_range xs at (at + c.len.result)) c.deref-in-pieces.ensures.value)
