@@ -30,6 +30,7 @@ use Rattle.ctl_stanza.proofs.LineLemmas.{IsLine}
 use Rattle.ctl_stanza.proofs.LineStartLemmas.{continues_is}
 use Rattle.ctl_stanza.proofs.PieceLemmas.{AreOther, AreSingle, StartsGap, pieces-run, other-push, single-push, are_lines}
 use Rattle.ctl_stanza.proofs.FieldLemmas.{within_line, stands-round, body-within, plain-end, plain-other, fields-grow, fields-turn, continued-le, length-text_of_lines}
+use Rattle.ctl_stanza.proofs.WalkLemmas.{text-behind, continued-up}
 use Rattle.ctl_stanza.proofs.SoundLemmas.{read_from}
 
 -- ---- a text that ends with a newline
@@ -70,52 +71,6 @@ ends-text text some is =
     let whole : text ≡ take k text ++ 10 ∷ [] =
     sym (take_all (k + 1) text (omega (arith, place))) ∙ take_more text k 0 (omega (arith, place)) ∙ ap (λ b. take k text ++ b ∷ []) (eqb-true (get_or text k 0) 10 is) in
     subst IsText (sym whole) (text-whole (take k text))
-
--- behind the first line of a text stand its other lines, each with a newline
-pub text-behind : (left line behind : List ℕ) → IsText left → lines_of left ≡ line ∷ lines_of behind → (length line < length left → left ≡ line ++ 10 ∷ behind)
-    → (left ≡ line ++ 10 ∷ behind) × IsText behind
-text-behind left line behind is_text lines first =
-    let joined : left ≡ line ++ 10 ∷ text_of_lines (lines_of behind) = is_text ∙ ap text_of_lines lines in
-    let cut = first (omega (arith, ap length joined, length-append line (10 ∷ text_of_lines (lines_of behind)))) in
-    (cut, sym (drop-append-add line (10 ∷ behind) 1) ∙ ap (drop (length line + 1)) (sym cut ∙ joined) ∙ drop-append-add line (10 ∷ text_of_lines (lines_of behind)) 1)
-
--- ---- lines that continue a field
-
-pub continued-first : (left line behind : List ℕ) → lines_of left ≡ line ∷ lines_of behind → continues (kind_of line) ≡ true
-    → length (continued (lines_of left)) ≡ length line + 1 + length (continued (lines_of behind))
-continued-first left line behind lines so =
-    let is : continued (lines_of left) ≡ 10 ∷ (line ++ continued (lines_of behind)) = ap continued lines ∙ cond-true _ _ _ so in
-    omega (arith, ap length is, length-append line (continued (lines_of behind)))
-
-pub continued-other : (left line behind : List ℕ) → lines_of left ≡ line ∷ lines_of behind → continues (kind_of line) ≡ false → length (continued (lines_of left)) ≡ 0
-continued-other left line behind lines other = ap (λ t. length (continued t)) lines ∙ ap length (cond-false _ _ _ other)
-
-pub continued-room : (text : List ℕ) → IsText text → length (continued (lines_of text)) ≤ length text
-continued-room text is = omega (arith, ap length is, continued-le (lines_of text))
-
-pub continued-up : (line : List ℕ) (ls : List (List ℕ)) → length (continued (line ∷ ls)) ≤ length line + 1 + length (continued ls)
-continued-up line ls = ⊎_elim
-    (λ (so : continues (kind_of line) ≡ true).
-    let is : continued (line ∷ ls) ≡ 10 ∷ (line ++ continued ls) = cond-true _ _ _ so in omega (arith, ap length is, length-append line (continued ls)))
-    (λ (other : continues (kind_of line) ≡ false). let none : continued (line ∷ ls) ≡ [] = cond-false _ _ _ other in omega (arith, ap length none))
-    (cases_Bool (continues (kind_of line)))
-
-no-first : (b : ℕ) (line : List ℕ) (ls : List (List ℕ)) → is_blank_byte b ≡ false → continued ((b ∷ line) ∷ ls) ≡ []
-no-first b line ls other =
-    cond-false _ _ _ (sym (continues_is (b ∷ line)) ∙ ap (λ t. t && not (is_blank (b ∷ line))) other)
-
-no-onto : (b : ℕ) (ls : List (List ℕ)) → is_blank_byte b ≡ false → continued (onto_first b ls) ≡ []
-no-onto b [] other = no-first b [] [] other
-no-onto b (l ∷ ls) other = no-first b l ls other
-
--- a text that begins with no blank begins with no such line
-pub continued-none : (text : List ℕ) → begins_with_blank text ≡ false → length (continued (lines_of text)) ≡ 0
-continued-none [] other = refl
-continued-none (b ∷ text) other = ⊎_elim
-    (λ (is : (b == 10) ≡ true). ap (λ ls. length (continued ls)) (cond-true _ ([] ∷ lines_of text) (onto_first b (lines_of text)) is))
-    (λ (no_newline : (b == 10) ≡ false).
-    ap (λ ls. length (continued ls)) (cond-false _ ([] ∷ lines_of text) (onto_first b (lines_of text)) no_newline) ∙ ap length (no-onto b (lines_of text) other))
-    (cases_Bool (b == 10))
 
 -- the line that is reached
 pub record IsNext (lines : List (List ℕ)) (count : ℕ) (line : List ℕ) (rest : List (List ℕ)) : Type 0 where

@@ -4,16 +4,16 @@ ghost use Rattle.std.specs.Prelude.{◌≡◌, ◌+◌, ◌<◌, ◌≤◌, ◌^
 ghost use Rattle.ctl_relation.specs.Bytes.{newline};
 ghost use Rattle.ctl_stanza.specs.Lines.{lines_of};
 ghost use Rattle.ctl_stanza.specs.LineKind.{kind_of, IfName};
-ghost use Rattle.ctl_stanza.specs.Fields.{continued};
 ghost use Rattle.ctl_stanza.specs.HeldFields.{IsText, StandsAt};
 ghost use Rattle.ctl_stanza.specs.HeldNames.{HasSeenNone};
 ghost use Rattle.ctl_stanza.specs.Quick.{IsPlainField, AddsPlain, IsCutOff, IsAccepted};
 
-use crate::fields::{Field, Span, continues, value_span};
+use crate::fields::{Field, Span, value_span};
 use crate::line_faults::{LinesSeen, line_cause};
 use crate::line_kind::{LineKind, kind_of};
-use crate::lines::{begins_with_blank, is_too_long, take_line};
+use crate::lines::{is_too_long, take_line};
 use crate::repeats::Repeats;
+use crate::walk::continued_behind;
 use std::alloc::{AllocError, Global};
 
 /// The first stanza of a text, no line of which is faulty.
@@ -41,29 +41,6 @@ fn ends_with_newline(text: &[u8]) -> bool
     match text {
         [] => false,
         [.., last] => *last == b'\n',
-    }
-}
-
-// The bytes of the continuation lines at the front of a text, each with the newline before it.
-fn continued_behind(text: &[u8]) -> usize
-    requires { IsText text.now }
-    ensures { result ≡ length (continued (lines_of text.now)) }
-{
-    let mut len: usize = 0;
-    let mut left = text;
-    'lines: loop {
-        // Most fields have no such line, and their next line need not be cut for this.
-        if !begins_with_blank(left) {
-            return len;
-        }
-        let Some((line, behind)) = take_line(left) else {
-            return len;
-        };
-        if !continues(line) {
-            return len;
-        }
-        len += line.len() + 1;
-        left = behind;
     }
 }
 

@@ -10,7 +10,7 @@ ghost use Rattle.ctl_stanza.specs.HeldFields.{IsText, IsWalk, StandsAt, bodies_i
 
 use crate::fields::{continues, ends_with, is_same_name, value_span};
 use crate::line_kind::{LineKind, kind_of};
-use crate::lines::take_line;
+use crate::lines::{begins_with_blank, take_line};
 
 /// A field, and what is left to walk behind it.
 #[derive(Drop)]
@@ -21,14 +21,18 @@ pub(crate) struct Taken<'a> {
     pub(crate) loose: &'a [u8],
 }
 
-// The bytes of the continuation lines at the front of a text, each with the newline before it.
-fn continued_behind(text: &[u8]) -> usize
+/// The bytes of the continuation lines at the front of a text, each with the newline before it.
+pub(crate) fn continued_behind(text: &[u8]) -> usize
     requires { IsText text.now }
     ensures { result ≡ length (continued (lines_of text.now)) }
 {
     let mut len: usize = 0;
     let mut left = text;
     'lines: loop {
+        // Most fields have no such line, and their next line need not be cut for this.
+        if !begins_with_blank(left) {
+            return len;
+        }
         let Some((line, behind)) = take_line(left) else {
             return len;
         };

@@ -1,5 +1,6 @@
 use Rattle.std.proofs.Common.{◌≡◌, ◌⊎◌, inl, inr, arith, length}
-use Rattle.ctl_stanza.proofs.QuickLemmas.{continued-room, plain-is}
+use Rattle.ctl_stanza.proofs.WalkLemmas.{continued-room}
+use Rattle.ctl_stanza.proofs.QuickLemmas.{plain-is}
 use Rattle.ctl_stanza.proofs.quick.plain_field.Goals as goal
 use Rattle.ctl_stanza.proofs.quick.plain_field.Goals.{else-more-gt0-via-then-more-gt0+else-value-here, else-more-gt0-via-else-more-gt0}
 
