@@ -154,7 +154,8 @@ impl FieldKind {
         matches!(self, FieldKind::Provides)
     }
 
-    fn place(self) -> u8
+    /// The place of the field among the nine, from 0 on.
+    pub fn place(self) -> u8
         ensures { result ≡ field_place self }
     {
         match self {

@@ -67,8 +67,8 @@ fn behind_earlier<'a>(starts: &[u32], further: &'a [u32]) -> &'a [u32]
 }
 
 impl<'a> Groups<'a> {
-    /// The groups that begin at these places of a body.
-    pub(crate) fn new(
+    /// The groups that begin at these places of a body, as [`read_groups`](crate::read_groups) gives them.
+    pub fn new(
         kind: FieldKind,
         body: &'a [u8],
         starts: &'a [u32],

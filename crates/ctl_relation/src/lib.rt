@@ -34,7 +34,7 @@ pub use name::{is_name, names_by_their_bytes};
 pub use offer::Offer;
 pub use operator::Operator;
 pub use places::Places;
-pub use reading::read_places;
+pub use reading::{read_groups, read_places};
 pub use relation_fault::RelationFault;
 pub use relation_laws::{
     fields_bound_atoms, fields_have_one_fault, fields_have_places, met_by_name, met_counts_add_up,

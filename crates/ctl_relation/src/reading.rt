@@ -166,8 +166,10 @@ fn read_group<'a>(
     }
 }
 
-// Reads the groups from left to right, and keeps where they and their further atoms begin.
-fn read_groups(
+/// Reads the groups of the body of a relation field of this kind from left to right: adds where each begins to `starts`, and
+/// where the atoms behind the first one of a group begin to `further`. Both are empty before. The error is the first fault
+/// from the left, or want of memory.
+pub fn read_groups(
     kind: FieldKind,
     body: &[u8],
     starts: &mut Vec<u32>,

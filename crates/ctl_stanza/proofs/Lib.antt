@@ -30,3 +30,4 @@ pub mod PartLemmas
 pub mod ReaderLemmas
 pub mod WalkLemmas
 pub mod QuickLemmas
+pub mod MarkLemmas

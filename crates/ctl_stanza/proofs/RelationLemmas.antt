@@ -1,5 +1,5 @@
 -- The names of the relation fields, and what is kept of them.
-use Rattle.std.proofs.Common.{◌≡◌, ◌∙◌, ◌++◌, ℕ, true, false, cond, List, [], ◌∷◌, get_or, length, nat_eq, Option, Some, None, refl, sym, ap, ap₂, subst, ⊎_elim, Bool, unwrap_or}
+use Rattle.std.proofs.Common.{◌≡◌, ◌∙◌, ◌++◌, ℕ, true, false, cond, List, [], ◌∷◌, get_or, length, nat_eq, Option, Some, None, refl, sym, ap, subst, ⊎_elim, Bool, unwrap_or}
 use Rattle.std.specs.Option.{option_map}
 use Rattle.std.specs.Str.{bytes_eq, str_to_ascii_lowercase}
 use Rattle.std.specs.Char.{to_ascii_lowercase}
@@ -11,15 +11,14 @@ use Rattle.ctl_relation.specs.declared.field_kind.FieldKind.{FieldKind}
 use Rattle.ctl_relation.specs.declared.field_kind.FieldKind.TheVariants.{PreDepends, Depends, Conflicts, Breaks, Recommends, Suggests, Replaces, Enhances, Provides}
 use Rattle.ctl_relation.specs.FieldKind.{field_place}
 use Rattle.ctl_relation.specs.Parts.{AtomParts}
-use Rattle.ctl_relation.specs.HeldPlaces.{groups_kept}
 use Rattle.ctl_relation.specs.Reading.{groups_read}
-use Rattle.ctl_stanza.specs.declared.live.RelationField.{RelationField}
+use Rattle.ctl_stanza.specs.Marks.{MarkedField}
 use Rattle.ctl_stanza.specs.Fields.{FieldText, is_same_name, body_named, package_name, version_name}
 use Rattle.ctl_stanza.specs.RelationFields.{name_of, relation_kind}
 use Rattle.ctl_stanza.specs.Faults.{or_else}
 use Rattle.ctl_stanza.specs.declared.fields.Span.{Span}
 use Rattle.ctl_stanza.specs.HeldFields.{shown}
-use Rattle.ctl_stanza.specs.HeldStanza.{kept_groups, version_given, AreKeptIn, IsKeptIn, KeepsIfRelation}
+use Rattle.ctl_stanza.specs.HeldStanza.{groups_in, kept_groups, version_given, AreKeptIn, IsKeptIn, KeepsIfRelation}
 
 -- ---- names without regard to case
 
@@ -98,15 +97,15 @@ version-no-kind name same = kind-respects name version_name same
 -- ---- what is kept
 
 -- the groups that are kept of a relation field, if it was given
-abbrev pub kept_of : FieldKind → List ℕ → List RelationField → Option (List (List AtomParts))
+abbrev pub kept_of : FieldKind → List ℕ → List MarkedField → Option (List (List AtomParts))
 kept_of kind bytes [] = None
-kept_of kind bytes (field ∷ fields) = cond (nat_eq (field_place field.places.kind) (field_place kind)) (Some (groups_kept (shown bytes field.body) field.places)) (kept_of kind bytes fields)
+kept_of kind bytes (field ∷ fields) = cond (nat_eq (field_place field.kind) (field_place kind)) (Some (groups_in bytes field)) (kept_of kind bytes fields)
 
-pub kept-or-none : (kind : FieldKind) (bytes : List ℕ) (fields : List RelationField) → kept_groups kind bytes fields ≡ unwrap_or (kept_of kind bytes fields) []
+pub kept-or-none : (kind : FieldKind) (bytes : List ℕ) (fields : List MarkedField) → kept_groups kind bytes fields ≡ unwrap_or (kept_of kind bytes fields) []
 kept-or-none kind bytes [] = refl
-kept-or-none kind bytes (f ∷ fs) = by (nat_eq (field_place f.places.kind) (field_place kind)) (kept-or-none kind bytes fs)
+kept-or-none kind bytes (f ∷ fs) = by (nat_eq (field_place f.kind) (field_place kind)) (kept-or-none kind bytes fs)
   where
-    by : (t : Bool) → kept_groups kind bytes fs ≡ unwrap_or (kept_of kind bytes fs) [] → cond t (groups_kept (shown bytes f.body) f.places) (kept_groups kind bytes fs) ≡ unwrap_or (cond t (Some (groups_kept (shown bytes f.body) f.places)) (kept_of kind bytes fs)) []
+    by : (t : Bool) → kept_groups kind bytes fs ≡ unwrap_or (kept_of kind bytes fs) [] → cond t (groups_in bytes f) (kept_groups kind bytes fs) ≡ unwrap_or (cond t (Some (groups_in bytes f)) (kept_of kind bytes fs)) []
     by true rest = refl
     by false rest = rest
 
@@ -123,14 +122,14 @@ found-or-none kind None = refl
 found-or-none kind (Some body) = refl
 
 -- the groups of a field that is pushed
-abbrev pushed_groups : FieldKind → List ℕ → RelationField → Option (List (List AtomParts))
-pushed_groups kind bytes field = cond (nat_eq (field_place field.places.kind) (field_place kind)) (Some (groups_kept (shown bytes field.body) field.places)) None
+abbrev pushed_groups : FieldKind → List ℕ → MarkedField → Option (List (List AtomParts))
+pushed_groups kind bytes field = cond (nat_eq (field_place field.kind) (field_place kind)) (Some (groups_in bytes field)) None
 
-kept-push : (kind : FieldKind) (bytes : List ℕ) (fields : List RelationField) (field : RelationField) → kept_of kind bytes (fields ++ field ∷ []) ≡ or_else (kept_of kind bytes fields) (pushed_groups kind bytes field)
+kept-push : (kind : FieldKind) (bytes : List ℕ) (fields : List MarkedField) (field : MarkedField) → kept_of kind bytes (fields ++ field ∷ []) ≡ or_else (kept_of kind bytes fields) (pushed_groups kind bytes field)
 kept-push kind bytes [] field = refl
-kept-push kind bytes (f ∷ fs) field = by (nat_eq (field_place f.places.kind) (field_place kind)) (kept-push kind bytes fs field)
+kept-push kind bytes (f ∷ fs) field = by (nat_eq (field_place f.kind) (field_place kind)) (kept-push kind bytes fs field)
   where
-    by : (t : Bool) → kept_of kind bytes (fs ++ field ∷ []) ≡ or_else (kept_of kind bytes fs) (pushed_groups kind bytes field) → cond t (Some (groups_kept (shown bytes f.body) f.places)) (kept_of kind bytes (fs ++ field ∷ [])) ≡ or_else (cond t (Some (groups_kept (shown bytes f.body) f.places)) (kept_of kind bytes fs)) (pushed_groups kind bytes field)
+    by : (t : Bool) → kept_of kind bytes (fs ++ field ∷ []) ≡ or_else (kept_of kind bytes fs) (pushed_groups kind bytes field) → cond t (Some (groups_in bytes f)) (kept_of kind bytes (fs ++ field ∷ [])) ≡ or_else (cond t (Some (groups_in bytes f)) (kept_of kind bytes fs)) (pushed_groups kind bytes field)
     by true rest = refl
     by false rest = rest
 
@@ -193,18 +192,17 @@ none-given name body kind is = ⊎_elim
     (cases_Bool (is_same_name name (name_of kind)))
 
 -- what is kept, with one field more
-pub keeps-given : (bytes name : List ℕ) (body : Span) (o : Option FieldKind) (old new : List RelationField) → relation_kind name ≡ o → KeepsIfRelation bytes o body old new
+pub keeps-given : (bytes name : List ℕ) (body : Span) (o : Option FieldKind) (old new : List MarkedField) → relation_kind name ≡ o → KeepsIfRelation bytes o body old new
     → (kind : FieldKind) → kept_of kind bytes new ≡ or_else (kept_of kind bytes old) (groups_given kind name (shown bytes body))
 keeps-given bytes name body None old new is keeps kind =
     ap (kept_of kind bytes) keeps ∙ sym (ap (or_else (kept_of kind bytes old)) (none-given name (shown bytes body) kind is) ∙ or_else-none (kept_of kind bytes old))
 keeps-given bytes name body (Some here) old new is keeps kind =
-    let groups : List (List AtomParts) = groups_kept (shown bytes body) keeps.field.places in
     ap (kept_of kind bytes) keeps.pushed ∙ kept-push kind bytes old keeps.field
     ∙ ap (or_else (kept_of kind bytes old))
-    (ap₂ (λ (k : FieldKind) (span : Span). cond (nat_eq (field_place k) (field_place kind)) (Some (groups_kept (shown bytes span) keeps.field.places)) None) keeps.kind_is keeps.body_is
-    ∙ gives-pushed name (shown bytes body) here kind groups is keeps.groups)
+    (ap (λ (k : FieldKind). cond (nat_eq (field_place k) (field_place kind)) (Some (groups_in bytes keeps.field)) None) keeps.kind_is
+    ∙ gives-pushed name (shown bytes body) here kind (groups_in bytes keeps.field) is keeps.groups)
 
-pub keeps-kept : (bytes : List ℕ) (body : Span) (o : Option FieldKind) (old new : List RelationField) → KeepsIfRelation bytes o body old new → AreKeptIn bytes old → AreKeptIn bytes new
+pub keeps-kept : (bytes : List ℕ) (body : Span) (o : Option FieldKind) (old new : List MarkedField) → KeepsIfRelation bytes o body old new → AreKeptIn bytes old → AreKeptIn bytes new
 keeps-kept bytes body None old new keeps kept = subst (AreKeptIn bytes) (sym keeps) kept
 keeps-kept bytes body (Some here) old new keeps kept = subst (AreKeptIn bytes) (sym keeps.pushed) (All-push (IsKeptIn bytes) old keeps.field kept keeps.kept)
 
@@ -234,14 +232,14 @@ version-turn field fields left old new whole is e told =
     ap (λ o. or_else o (body_named version_name fields)) e ∙ or_else-assoc old (version_given field.name field.body) (body_named version_name fields)
     ∙ ap (or_else old) (sym (version-first field fields) ∙ ap (body_named version_name) (sym is)) ∙ told
 
-pub groups-turn : (kind : FieldKind) (bytes : List ℕ) (field : FieldText) (fields left : List FieldText) (old new : List RelationField) (whole : Option (List (List AtomParts))) → left ≡ field ∷ fields
+pub groups-turn : (kind : FieldKind) (bytes : List ℕ) (field : FieldText) (fields left : List FieldText) (old new : List MarkedField) (whole : Option (List (List AtomParts))) → left ≡ field ∷ fields
     → kept_of kind bytes new ≡ or_else (kept_of kind bytes old) (groups_given kind field.name field.body) → or_else (kept_of kind bytes old) (groups_found kind left) ≡ whole → or_else (kept_of kind bytes new) (groups_found kind fields) ≡ whole
 groups-turn kind bytes field fields left old new whole is keeps told =
     ap (λ o. or_else o (groups_found kind fields)) keeps ∙ or_else-assoc (kept_of kind bytes old) (groups_given kind field.name field.body) (groups_found kind fields)
     ∙ ap (or_else (kept_of kind bytes old)) (sym (groups-first kind field fields) ∙ ap (groups_found kind) (sym is)) ∙ told
 
 -- where all fields were looked at, what is kept are their groups
-pub all-kept : (kind : FieldKind) (bytes : List ℕ) (all : List FieldText) (relations : List RelationField) → or_else (kept_of kind bytes relations) None ≡ groups_found kind all
+pub all-kept : (kind : FieldKind) (bytes : List ℕ) (all : List FieldText) (relations : List MarkedField) → or_else (kept_of kind bytes relations) None ≡ groups_found kind all
     → kept_groups kind bytes relations ≡ groups_read kind (unwrap_or (body_named (name_of kind) all) [])
 all-kept kind bytes all relations told =
     kept-or-none kind bytes relations ∙ ap (λ (o : Option (List (List AtomParts))). unwrap_or o []) (sym (or_else-none (kept_of kind bytes relations)) ∙ told) ∙ found-or-none kind (body_named (name_of kind) all)

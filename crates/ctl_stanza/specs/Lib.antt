@@ -26,6 +26,7 @@ pub mod RecordLaws
 -- How the code holds what it has read. Not for callers.
 pub mod HeldFields
 pub mod HeldNames
+pub mod Marks
 pub mod HeldStanza
 pub mod InParts
 pub mod Quick

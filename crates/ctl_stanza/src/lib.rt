@@ -11,6 +11,7 @@ mod line_kind;
 mod lines;
 mod list_kind;
 mod live;
+mod marks;
 mod names_given;
 mod offers;
 mod parts;

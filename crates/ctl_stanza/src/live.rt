@@ -1,6 +1,6 @@
 //! What the fields of a live stanza are read to.
 
-ghost use Rattle.std.specs.Prelude.{◌≡◌, ◌≢◌, ◌+◌, ◌<◌, ◌^◌, true, false, None, IfOk, IfErr, OnOk};
+ghost use Rattle.std.specs.Prelude.{◌≡◌, ◌≢◌, ◌+◌, ◌<◌, ◌^◌, true, false, None, Some, IfOk, IfErr, OnOk};
 ghost use Rattle.std.specs.List.{All};
 ghost use Rattle.ctl_relation.specs.declared.relation_fault.RelationFault.TheVariants as relation;
 ghost use Rattle.ctl_relation.specs.Reading.{relations_of};
@@ -9,28 +9,28 @@ ghost use Rattle.ctl_stanza.specs.declared.fault.Cause.TheVariants as causes;
 ghost use Rattle.ctl_stanza.specs.Fields.{body_named, version_name};
 ghost use Rattle.ctl_stanza.specs.RelationFields.{relation_kind};
 ghost use Rattle.ctl_stanza.specs.Faults.{is_read, field_cause, first_wrong, or_else, IsMemoryAtZero, Tells, TellsCause};
-ghost use Rattle.ctl_stanza.specs.HeldStanza.{kept_groups, version_given, AreKept, AreKeptIn, Keeps, KeepsIfRelation};
+ghost use Rattle.ctl_stanza.specs.HeldStanza.{version_given, AreKept, Marks};
 ghost use Rattle.ctl_stanza.specs.HeldFields.{AreWithin, IsFieldWithin, IsWithin, shown, shown_fields};
 
 use crate::fault::{Cause, TextFault};
 use crate::fields::{Field, Span, is_same_name};
-use ctl_relation::{
-    FieldKind, Groups, Places, RelationFault, Version, VersionFault, is_name, read_places,
-};
+use crate::marks::push_field;
+use ctl_relation::{FieldKind, RelationFault, Version, VersionFault, is_name, read_groups};
 use std::alloc::Global;
 
-/// What a stanza keeps of a relation field: where its body stands in the bytes, and there its atoms.
+/// The relation fields that were read: their marks, and room for the places of the one that is read.
 #[derive(Drop)]
-pub(crate) struct RelationField {
-    pub(crate) body: Span,
-    pub(crate) places: Places,
+pub(crate) struct RelationMarks {
+    pub(crate) marks: Vec<u32>,
+    starts: Vec<u32>,
+    further: Vec<u32>,
 }
 
 /// The version and the relation fields of a live stanza.
 #[derive(Drop)]
 pub(crate) struct LiveParts {
     pub(crate) version: Option<Version>,
-    pub(crate) relations: Vec<RelationField>,
+    pub(crate) relations: RelationMarks,
 }
 
 // The relation field of a name, if it is the name of one.
@@ -43,24 +43,6 @@ fn relation_kind(name: &[u8]) -> Option<FieldKind>
         }
     }
     None
-}
-
-/// The groups that are kept of a relation field, lent from these bytes; none where it wasn't given.
-pub(crate) fn kept_groups<'a>(
-    fields: &'a [RelationField],
-    bytes: &'a [u8],
-    kind: FieldKind,
-) -> Groups<'a>
-    requires { AreKeptIn bytes.now fields.now }
-    ensures { result ≡ kept_groups kind bytes.now fields.now }
-{
-    for i in 0..fields.len() {
-        let field = &fields[i];
-        if field.places.kind() == kind {
-            return field.places.groups(field.body.of(bytes));
-        }
-    }
-    Groups::empty()
 }
 
 // Reads a version; the first one counts.
@@ -81,26 +63,37 @@ fn read_version(alloc: Global, body: &[u8], version: &mut Option<Version>) -> Re
     }
 }
 
-// Reads the body of a relation field, and keeps where its atoms stand.
+// Reads the body of a relation field, and marks where its groups and its atoms stand.
 fn read_relations(
-    alloc: Global,
     bytes: &[u8],
     body: Span,
     kind: FieldKind,
-    fields: &mut Vec<RelationField>,
+    relations: &mut RelationMarks,
 ) -> Result<(), RelationFault>
     requires { IsWithin bytes.now body }
     ensures good { OnOk result (is_read (relations_of kind (shown bytes.now body)) ≡ true) }
     ensures bad { IfErr result (λ fault. fault ≢ relation.Memory → is_read (relations_of kind (shown bytes.now body)) ≡ false) }
-    ensures keeps { OnOk result (Keeps bytes.now kind body fields.old.items fields.new.items) }
+    ensures marks { OnOk result (Marks bytes.now (Some kind) body relations.old.marks.items relations.new.marks.items) }
 {
-    match read_places(alloc, body.of(bytes), kind) {
-        Ok(places) => {
-            fields.push(RelationField { body, places })?;
-            Ok(())
-        }
-        Err(fault) => Err(fault),
+    relations.starts.clear();
+    relations.further.clear();
+    read_groups(
+        kind,
+        body.of(bytes),
+        &mut relations.starts,
+        &mut relations.further,
+    )?;
+    if relations.further.len() > u32::MAX as usize {
+        return Err(RelationFault::Memory);
     }
+    push_field(
+        &mut relations.marks,
+        kind,
+        body,
+        &relations.starts,
+        &relations.further,
+    )?;
+    Ok(())
 }
 
 // Reads a field of a live stanza, and keeps what it gives.
@@ -114,7 +107,7 @@ fn read_field(
     ensures good { OnOk result (field_cause true (shown bytes.now field.now.name) (shown bytes.now field.now.body) ≡ None) }
     ensures bad { IfErr result (TellsCause (field_cause true (shown bytes.now field.now.name) (shown bytes.now field.now.body))) }
     ensures version { OnOk result (parts.new.version ≡ or_else parts.old.version (version_given (shown bytes.now field.now.name) (shown bytes.now field.now.body))) }
-    ensures keeps { OnOk result (KeepsIfRelation bytes.now (relation_kind (shown bytes.now field.now.name)) field.now.body parts.old.relations.items parts.new.relations.items) }
+    ensures marks { OnOk result (Marks bytes.now (relation_kind (shown bytes.now field.now.name)) field.now.body parts.old.relations.marks.items parts.new.relations.marks.items) }
 {
     let name = field.name.of(bytes);
     if is_same_name(name, b"Package") {
@@ -130,7 +123,7 @@ fn read_field(
     let Some(kind) = relation_kind(name) else {
         return Ok(());
     };
-    match read_relations(alloc, bytes, field.body, kind, &mut parts.relations) {
+    match read_relations(bytes, field.body, kind, &mut parts.relations) {
         Ok(()) => Ok(()),
         Err(RelationFault::Memory) => Err(Cause::Memory),
         Err(_) => Err(Cause::Relation),
@@ -150,11 +143,15 @@ pub(crate) fn read_live(
     ensures bad { IfErr result (Tells (first_wrong true first_line (shown_fields bytes.now fields.now))) }
     ensures memory { IfErr result IsMemoryAtZero }
     ensures version { IfOk result (λ parts. parts.version ≡ body_named version_name (shown_fields bytes.now fields.now)) }
-    ensures relations { IfOk result (λ parts. AreKept bytes.now (shown_fields bytes.now fields.now) parts.relations.items) }
+    ensures relations { IfOk result (λ parts. AreKept bytes.now (shown_fields bytes.now fields.now) parts.relations.marks.items) }
 {
     let mut parts = LiveParts {
         version: None,
-        relations: Vec::new(alloc),
+        relations: RelationMarks {
+            marks: Vec::new(alloc),
+            starts: Vec::new(alloc),
+            further: Vec::new(alloc),
+        },
     };
     for i in 0..fields.len() {
         let field = &fields[i];
@@ -171,6 +168,6 @@ pub(crate) fn read_live(
             }
         }
     }
-    parts.relations.shrink_to_fit();
+    parts.relations.marks.shrink_to_fit();
     Ok(parts)
 }

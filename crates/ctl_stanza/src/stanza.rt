@@ -17,7 +17,8 @@ use crate::fields::{Field, body_named, fields_of_lines};
 use crate::laws::whole_stanzas_are_sound;
 use crate::lines::text_of_lines;
 use crate::list_kind::ListKind;
-use crate::live::{LiveParts, RelationField, kept_groups, read_live};
+use crate::live::{LiveParts, read_live};
+use crate::marks::kept_groups;
 use crate::offers::offers_of;
 use crate::status::liveness;
 use crate::walk::{body_in, take_field};
@@ -34,8 +35,9 @@ pub struct Stanza {
     text_len: u32,
     kind: ListKind,
     field_count: usize,
-    // None where the stanza isn't live, as there are no offers then. The version is that of the first offer.
-    relations: Vec<RelationField>,
+    // None where the stanza isn't live, as there are no offers then: its relation fields. The version is that of the first
+    // offer.
+    marks: Vec<u32>,
     offers: Vec<Offer>,
 }
 
@@ -47,7 +49,7 @@ impl Model for Stanza {
 
     ghost view = { λ s. content_in_front s.kind s.text_len s.bytes.items };
 
-    ghost invariant = { λ s. ArePartsOf (content_in_front s.kind s.text_len s.bytes.items) s.bytes.items s.text_len s.field_count s.relations.items s.offers.items };
+    ghost invariant = { λ s. ArePartsOf (content_in_front s.kind s.text_len s.bytes.items) s.bytes.items s.text_len s.field_count s.marks.items s.offers.items };
 }
 
 /// The bytes of a stanza: its text, and behind it the bodies that don't stand in it in one piece.
@@ -59,14 +61,9 @@ pub(crate) struct StanzaBytes {
 }
 
 // The stanza of what was read. Where its fields stand is let go.
-fn stanza_of(
-    held: StanzaBytes,
-    fields: &[Field],
-    relations: Vec<RelationField>,
-    offers: Vec<Offer>,
-) -> Stanza
+fn stanza_of(held: StanzaBytes, fields: &[Field], marks: Vec<u32>, offers: Vec<Offer>) -> Stanza
     requires read { IsReadFrom held.bytes.items held.text_len fields.now }
-    requires relations { AreRelationsOf (content_in_front held.kind held.text_len held.bytes.items) held.bytes.items relations.items }
+    requires relations { AreRelationsOf (content_in_front held.kind held.text_len held.bytes.items) held.bytes.items marks.items }
     requires offers { offers.items ≡ offers_of (content_in_front held.kind held.text_len held.bytes.items) }
     requires no_fault { stanza_fault held.kind 0 (lines_of (take held.text_len held.bytes.items)) ≡ None }
     ensures { result ≡ content_in_front held.kind held.text_len held.bytes.items }
@@ -82,7 +79,7 @@ fn stanza_of(
         text_len,
         kind,
         field_count: fields.len(),
-        relations,
+        marks,
         offers,
     }
 }
@@ -106,9 +103,9 @@ fn other_stanza(
     if let Some(fault) = first_wrong(fields, &held.bytes, first_line) {
         return Err(fault);
     }
-    let relations = Vec::new(alloc);
+    let marks = Vec::new(alloc);
     let offers = Vec::new(alloc);
-    Ok(stanza_of(held, fields, relations, offers))
+    Ok(stanza_of(held, fields, marks, offers))
 }
 
 // Reads a live stanza.
@@ -129,9 +126,9 @@ fn live_stanza(
 {
     let LiveParts { version, relations } = read_live(alloc, fields, &held.bytes, first_line)?;
     let package = body_named(fields, &held.bytes, b"Package").unwrap_or(&[]);
-    let provides = kept_groups(&relations, &held.bytes, FieldKind::Provides);
+    let provides = kept_groups(&relations.marks, &held.bytes, FieldKind::Provides);
     let offers = offers_of(alloc, package, version, provides)?;
-    Ok(stanza_of(held, fields, relations, offers))
+    Ok(stanza_of(held, fields, relations.marks, offers))
 }
 
 /// Makes the stanza of bytes at whose front its text stands, of which these are the fields, or tells what is wrong with it.
@@ -286,7 +283,7 @@ impl Stanza {
     {
         match kind {
             FieldKind::Provides => Groups::empty(),
-            _ => kept_groups(&self.relations, &self.bytes, kind),
+            _ => kept_groups(&self.marks, &self.bytes, kind),
         }
     }
 
@@ -300,7 +297,7 @@ impl Stanza {
         ensures count { length result < 2 ^ 32 }
         ensures sizes { All IsSmallGroup result }
     {
-        kept_groups(&self.relations, &self.bytes, FieldKind::Provides)
+        kept_groups(&self.marks, &self.bytes, FieldKind::Provides)
     }
 
     /// What the stanza offers: its own name at its version, and then each entry of its `Provides`, at the version of that

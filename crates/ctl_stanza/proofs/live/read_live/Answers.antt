@@ -10,11 +10,16 @@ pub loop-i-preserved : goal.loop-i-preserved
 loop-i-preserved c =
     let inv = c.loop-i.invariant in
     let left = left-shown c.args.bytes.now _ _ c.args.fields.now c.loop-i.i _ c.loop-i-test.true refl refl in
+    let so = inv.marked in
+    let with = c.in-Ok.ensures.marks so.relations so.are.words in
     record {
       told = inv.told ∙ first_wrong-good true c.args.first_line _ _ _ left c.in-Ok.ensures.good;
       version = version-turn _ _ _ c.loop-i.parts.version _ _ left c.in-Ok.ensures.version inv.version;
-      kept = keeps-kept c.args.bytes.now _ _ c.loop-i.parts.relations.items _ c.in-Ok.ensures.keeps inv.kept;
-      relations = λ kind. groups-turn kind c.args.bytes.now _ _ _ c.loop-i.parts.relations.items _ _ left (keeps-given c.args.bytes.now _ _ _ c.loop-i.parts.relations.items _ refl c.in-Ok.ensures.keeps kind) (inv.relations kind);
+      marked = record {
+        relations = with.fields;
+        are = record { words = with.words; kept = keeps-kept c.args.bytes.now _ _ so.relations with.fields with.keeps so.are.kept };
+        groups = λ kind. groups-turn kind c.args.bytes.now _ _ _ so.relations with.fields _ left (keeps-given c.args.bytes.now _ _ _ so.relations with.fields refl with.keeps kind) (so.groups kind);
+      };
     }
 
 pub returns-in-Err : goal.returns-in-Err
@@ -31,11 +36,12 @@ returns-in-Err c =
 
 pub returns-clause-relations : goal.returns-clause-relations
 returns-clause-relations c =
-    let inv = c.loop-i.invariant in
+    let so = c.loop-i.invariant.marked in
     let bytes = c.args.bytes.now in
     let none : drop c.loop-i.i c.args.fields.now ≡ [] = drop_of_length-le c.args.fields.now (omega (arith, c.loop-i-test.false)) in
     record {
-      kept = rw c.shrink_to_fit.ensures.items inv.kept;
-      groups = λ kind. rw c.shrink_to_fit.ensures.items (all-kept kind bytes (shown_fields bytes c.args.fields.now) c.loop-i.parts.relations.items
-          (sym (ap (λ (fs : List Field). or_else (kept_of kind bytes c.loop-i.parts.relations.items) (groups_found kind (shown_fields bytes fs))) none) ∙ inv.relations kind));
+      relations = so.relations;
+      are = record { words = c.shrink_to_fit.ensures.items ∙ so.are.words; kept = so.are.kept };
+      groups = λ kind. all-kept kind bytes (shown_fields bytes c.args.fields.now) so.relations
+          (sym (ap (λ (fs : List Field). or_else (kept_of kind bytes so.relations) (groups_found kind (shown_fields bytes fs))) none) ∙ so.groups kind);
     }

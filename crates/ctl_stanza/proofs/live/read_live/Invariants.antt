@@ -1,10 +1,8 @@
 use Rattle.std.proofs.Common.{◌≡◌, true, drop}
-use Rattle.ctl_relation.specs.declared.field_kind.FieldKind.{FieldKind}
 use Rattle.ctl_stanza.specs.Fields.{body_named, version_name}
 use Rattle.ctl_stanza.specs.Faults.{first_wrong, or_else}
 use Rattle.ctl_stanza.specs.HeldFields.{shown_fields}
-use Rattle.ctl_stanza.specs.HeldStanza.{AreKeptIn}
-use Rattle.ctl_stanza.proofs.RelationLemmas.{kept_of, groups_found}
+use Rattle.ctl_stanza.proofs.MarkLemmas.{AreMarkedSoFar}
 use Rattle.ctl_stanza.proofs.live.read_live.Given as goal
 
 -- no field so far is wrong; what they gave is kept, and what is left gives the rest
@@ -15,6 +13,5 @@ invariant-loop-i l =
     record {
       told : first_wrong true l.first_line all ≡ first_wrong true l.first_line left;
       version : or_else l.parts.version (body_named version_name left) ≡ body_named version_name all;
-      kept : AreKeptIn l.bytes l.parts.relations.items;
-      relations : (kind : FieldKind) → or_else (kept_of kind l.bytes l.parts.relations.items) (groups_found kind left) ≡ groups_found kind all;
+      marked : AreMarkedSoFar l.bytes l.parts.relations.marks.items left all;
     }
