@@ -24,7 +24,7 @@ some-line b text = ⊎_elim
     (λ (other : (b == 10) ≡ false). let e : lines_of (b ∷ text) ≡ onto_first b (lines_of text) = cond-false _ _ _ other in rw e (onto-some b (lines_of text)))
     (cases_Bool (b == 10))
 
-some-lines : (text more : List ℕ) (b : ℕ) → 0 < length (lines_of (text ++ b ∷ more))
+pub some-lines : (text more : List ℕ) (b : ℕ) → 0 < length (lines_of (text ++ b ∷ more))
 some-lines [] more b = some-line b more
 some-lines (c ∷ text) more b = some-line c (text ++ b ∷ more)
 

@@ -1,5 +1,5 @@
 -- Lines accepted one by one.
-use Rattle.std.proofs.Common.{not, ◌==◌, ◌||◌, ◌&&◌, slice_index, ⊎_elim, ◌≡◌, ◌∙◌, ◌⊎◌, inl, inr, ◌+◌, ◌-◌, ◌<◌, ◌≤◌, ◌^◌, ℕ, zero, suc, true, false, Bool, cond, List, [], ◌∷◌, ◌++◌, length, take, drop, get_or, slice_range, take_all, Option, Some, None, IfSome, refl, sym, ap, ap₂, subst, arith, append_assoc, length-append}
+use Rattle.std.proofs.Common.{not, ◌==◌, ◌||◌, ◌&&◌, slice_index, ⊎_elim, ◌≡◌, ◌∙◌, ◌⊎◌, inl, inr, ◌+◌, ◌-◌, ◌<◌, ◌≤◌, ℕ, suc, true, false, cond, List, [], ◌∷◌, ◌++◌, length, take, drop, get_or, slice_range, take_all, Option, Some, None, IfSome, refl, sym, ap, ap₂, subst, arith, append_assoc, length-append}
 use Rattle.std.proofs.lemmas.List.{map-append, append-nil, append_cancel_right, take_more, drop_more, length-take-le, length-drop, take-append-drop}
 use Rattle.std.proofs.Math.Seq.{take-append_seam, drop-append-add}
 use Rattle.std.proofs.lemmas.Bool.{cond-true, cond-false, cases_Bool, eqb-true}
@@ -7,11 +7,8 @@ use Rattle.std.proofs.lemmas.List.Elements.{All-nil, All-push}
 use Rattle.std.specs.Bool.{⊤}
 use Rattle.std.specs.List.{position}
 use Rattle.ctl_stanza.specs.declared.fields.Field.{Field}
-use Rattle.ctl_stanza.specs.declared.fields.Span.{Span}
 use Rattle.ctl_stanza.specs.declared.line_kind.LineKind.{LineKind}
 use Rattle.ctl_stanza.specs.declared.line_kind.LineKind.TheVariants as kinds
-use Rattle.ctl_stanza.specs.declared.fault.TextFault.{TextFault}
-use Rattle.ctl_stanza.specs.declared.fault.Cause.{Cause}
 use Rattle.ctl_stanza.specs.declared.quick.Accepted.{Accepted}
 use Rattle.ctl_stanza.specs.declared.quick.LineHere.{LineHere}
 use Rattle.ctl_stanza.specs.declared.repeats.Repeats.{Repeats}
@@ -23,35 +20,22 @@ use Rattle.ctl_stanza.specs.Faults.{fault_or, cause_of, first_fault, or_else, wh
 use Rattle.ctl_stanza.specs.Content.{Content}
 use Rattle.ctl_stanza.specs.HeldStanza.{content_in_front}
 use Rattle.ctl_stanza.specs.declared.list_kind.ListKind.{ListKind}
-use Rattle.ctl_stanza.specs.HeldFields.{IsText, IsPlainAt, ArePlain, IsReadFrom, AreWithin, AreBelow, StandsAt, Grows, Shows, shown, shown_field, shown_fields}
+use Rattle.ctl_stanza.specs.HeldFields.{IsText, IsPlainAt, ArePlain, IsReadFrom, AreWithin, AreBelow, StandsAt, shown_field, shown_fields}
 use Rattle.ctl_stanza.specs.Text.{is_gap, IsFirstPiece, piece, piece_fault, piece_content}
 use Rattle.ctl_stanza.specs.Quick.{IsUpTo, AreUpTo, end_behind, IsPlainField, AddsPlain, IsCutOff, IsAccepted}
 use Rattle.ctl_stanza.proofs.LineLemmas.{IsLine}
 use Rattle.ctl_stanza.proofs.LineStartLemmas.{continues_is}
 use Rattle.ctl_stanza.proofs.PieceLemmas.{AreOther, AreSingle, StartsGap, pieces-run, other-push, single-push, are_lines}
-use Rattle.ctl_stanza.proofs.FieldLemmas.{within_line, stands-round, body-within, plain-end, plain-other, fields-grow, fields-turn, continued-le, length-text_of_lines}
+use Rattle.ctl_stanza.proofs.FieldLemmas.{within_line, stands-round, body-within, plain-end, fields-grow, fields-turn, continued-le, length-text_of_lines}
 use Rattle.ctl_stanza.proofs.WalkLemmas.{text-behind, continued-up}
-use Rattle.ctl_stanza.proofs.SoundLemmas.{read_from}
+use Rattle.ctl_stanza.proofs.SoundLemmas.{fault_or-none, first_fault-none, read_from}
+use Rattle.ctl_stanza.proofs.PartLemmas.{some-lines}
 
 -- ---- a text that ends with a newline
 
 text-onto : (b : ℕ) (ls : List (List ℕ)) → 0 < length ls → text_of_lines (onto_first b ls) ≡ b ∷ text_of_lines ls
 text-onto b [] some = absurd (omega (arith, some))
 text-onto b (l ∷ ls) some = refl
-
-some-first : (b : ℕ) (ls : List (List ℕ)) → 0 < length (onto_first b ls)
-some-first b [] = omega arith
-some-first b (l ∷ ls) = omega arith
-
-some-line : (b : ℕ) (text : List ℕ) → 0 < length (lines_of (b ∷ text))
-some-line b text = ⊎_elim
-    (λ (is : (b == 10) ≡ true). let e : lines_of (b ∷ text) ≡ [] ∷ lines_of text = cond-true _ _ _ is in rw e (omega arith))
-    (λ (other : (b == 10) ≡ false). let e : lines_of (b ∷ text) ≡ onto_first b (lines_of text) = cond-false _ _ _ other in rw e (some-first b (lines_of text)))
-    (cases_Bool (b == 10))
-
-some-lines : (front : List ℕ) → 0 < length (lines_of (front ++ 10 ∷ []))
-some-lines [] = omega arith
-some-lines (b ∷ front) = some-line b (front ++ 10 ∷ [])
 
 pub text-whole : (front : List ℕ) → IsText (front ++ 10 ∷ [])
 text-whole [] = refl
@@ -61,7 +45,7 @@ text-whole (b ∷ front) =
     (λ (is : (b == 10) ≡ true).
     ap₂ (λ (x : ℕ) (t : List ℕ). x ∷ t) (eqb-true b 10 is) (text-whole front) ∙ ap text_of_lines (sym (cond-true _ ([] ∷ lines_of text) (onto_first b (lines_of text)) is)))
     (λ (other : (b == 10) ≡ false).
-    ap (λ t. b ∷ t) (text-whole front) ∙ sym (text-onto b (lines_of text) (some-lines front)) ∙ ap text_of_lines (sym (cond-false _ ([] ∷ lines_of text) (onto_first b (lines_of text)) other)))
+    ap (λ t. b ∷ t) (text-whole front) ∙ sym (text-onto b (lines_of text) (some-lines front [] 10)) ∙ ap text_of_lines (sym (cond-false _ ([] ∷ lines_of text) (onto_first b (lines_of text)) other)))
     (cases_Bool (b == 10))
 
 pub ends-text : (text : List ℕ) → 1 ≤ length text → (get_or text (length text - 1) 0 == 10) ≡ true → IsText text
@@ -86,10 +70,6 @@ next-is lines count line rest e =
     let both = sym (drop_more lines count [] below) ∙ e in
     let here : get_or lines count [] ≡ line = ap (λ t. get_or t 0 []) both in
     record { below = below; here = here; so_far = take_more lines count [] below ∙ ap (λ l. take count lines ++ l ∷ []) here; left = ap (λ t. drop 1 t) both }
-
-fault_or-none : (n : ℕ) (cause : Option Cause) (later : Option TextFault) → fault_or n cause later ≡ None → (cause ≡ None) × (later ≡ None)
-fault_or-none n None later e = (refl, e)
-fault_or-none n (Some cause) later e = absurd cc
 
 -- one line more, without a fault
 pub good-push : (r : Repeats) (n : ℕ) (before lines : List (List ℕ)) (line : List ℕ) → first_fault r n before lines ≡ None → cause_of r (before ++ lines) line ≡ None
@@ -189,24 +169,6 @@ adds-field bytes here n field old new is plain pushed =
       below = λ all. rw pushed (All-push (λ f. f.line < here.index + 1) old field all (omega (arith, index)));
       plain = rw is plain.plain;
     }
-
--- a line that begins no field
-pub adds-none : (bytes : List ℕ) (here : LineHere) (old : List Field) (kind : LineKind) → kind ≡ kind_of here.line.now → ((n : ℕ) → kind ≡ kinds.Field n → ⊥) → AddsPlain bytes here old old
-adds-none bytes here old kind is other =
-    let line = here.line.now in
-    let behind = lines_of here.behind.now in
-    record {
-      fields = sym (append-nil (shown_fields bytes old)) ∙ ap (λ t. shown_fields bytes old ++ t) (sym (no-field kind other)) ∙ ap (λ k. shown_fields bytes old ++ field_at here.index k line behind) is;
-      up_to = λ all. all;
-      below = λ all. all;
-      plain = subst (λ k. IsPlainAt k line behind) is (plain-other kind line behind other);
-    }
-  where
-    no-field : (kind : LineKind) → ((n : ℕ) → kind ≡ kinds.Field n → ⊥) → field_at here.index kind here.line.now (lines_of here.behind.now) ≡ []
-    no-field (kinds.Field n) other = absurd (other n refl)
-    no-field kinds.Blank other = refl
-    no-field kinds.Continuation other = refl
-    no-field kinds.Faulty other = refl
 
 -- ---- the lines so far
 
@@ -380,18 +342,12 @@ end-if text left count fields (Some stanza) is gap cut = reached-end text left c
 
 -- ---- what an accepted stanza is read to
 
-first_fault-anywhere : (n m : ℕ) (before lines : List (List ℕ)) → first_fault Never n before lines ≡ None → first_fault Never m before lines ≡ None
-first_fault-anywhere n m before [] good = refl
-first_fault-anywhere n m before (line ∷ lines) good =
-    let both = fault_or-none n (cause_of Never before line) _ good in
-    ap (λ c. fault_or m c (first_fault Never (suc m) (before ++ line ∷ []) lines)) both.0 ∙ first_fault-anywhere (suc n) (suc m) (before ++ line ∷ []) lines both.1
-
 -- it has no faulty line: its fault is that of the whole
 pub accepted-fault : (kind : ListKind) (n : ℕ) (text : List ℕ) (fields : List Field) → IsReadFrom text (length text) fields → is_gap (lines_of text) ≡ false
     → piece_fault kind (piece n (lines_of text)) ≡ whole_fault kind n (shown_fields text fields)
 accepted-fault kind n text fields read stanza =
     let whole : take (length text) text ≡ text = take_all (length text) text (omega arith) in
-    let good : first_fault Never n [] (lines_of text) ≡ None = first_fault-anywhere 0 n [] (lines_of text) (ap (λ t. first_fault Never 0 [] (lines_of t)) (sym whole) ∙ read.good_lines) in
+    let good : first_fault Never n [] (lines_of text) ≡ None = first_fault-none Never 0 n [] (lines_of text) (ap (λ t. first_fault Never 0 [] (lines_of t)) (sym whole) ∙ read.good_lines) in
     cond-false _ _ _ stanza ∙ ap (λ o. or_else o (whole_fault kind n (fields_of_lines (lines_of text)))) good
     ∙ ap (λ t. whole_fault kind n (fields_of_lines (lines_of t))) (sym whole) ∙ ap (whole_fault kind n) (sym read.fields_are.fields_are)
 

@@ -1,5 +1,5 @@
 -- A text that is read piece by piece.
-use Rattle.std.proofs.Common.{◌≡◌, ◌∙◌, ◌+◌, ◌-◌, ◌<◌, ◌++◌, ℕ, nat_eq, true, false, List, [], ◌∷◌, length, take, get_or, Result, Ok, Err, refl, sym, ap, arith, append_assoc, append-nil, ap₂, subst, ⊎_elim, ◌==◌, ◌≤◌, take_all, length-append}
+use Rattle.std.proofs.Common.{◌≡◌, ◌∙◌, ◌+◌, ◌-◌, ◌<◌, ◌++◌, ℕ, nat_eq, true, false, List, [], ◌∷◌, length, take, get_or, Result, Ok, Err, refl, sym, ap, arith, append_assoc, append-nil, ap₂, subst, ⊎_elim, ◌==◌, take_all, length-append}
 use Rattle.std.proofs.lemmas.Bool.{cases_Bool, eqb-true, eqb-false}
 use Rattle.std.proofs.lemmas.List.{take_more}
 use Rattle.ctl_stanza.specs.declared.list_kind.ListKind.{ListKind}

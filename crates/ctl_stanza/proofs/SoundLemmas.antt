@@ -42,11 +42,11 @@ use Rattle.ctl_stanza.proofs.RelationLemmas.{kind-same, place-same}
 
 -- ---- no fault, from whichever line the lines count
 
-fault_or-none : (n : ℕ) (o : Option Cause) (later : Option TextFault) → fault_or n o later ≡ None → (o ≡ None) × (later ≡ None)
+pub fault_or-none : (n : ℕ) (o : Option Cause) (later : Option TextFault) → fault_or n o later ≡ None → (o ≡ None) × (later ≡ None)
 fault_or-none n None later e = (refl, e)
 fault_or-none n (Some cause) later e = absurd cc
 
-first_fault-none : (r : Repeats) (n m : ℕ) (before lines : List (List ℕ)) → first_fault r n before lines ≡ None → first_fault r m before lines ≡ None
+pub first_fault-none : (r : Repeats) (n m : ℕ) (before lines : List (List ℕ)) → first_fault r n before lines ≡ None → first_fault r m before lines ≡ None
 first_fault-none r n m before [] e = refl
 first_fault-none r n m before (line ∷ lines) e =
     let h = fault_or-none n (cause_of r before line) (first_fault r (suc n) (before ++ line ∷ []) lines) e in

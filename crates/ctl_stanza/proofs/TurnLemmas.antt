@@ -1,5 +1,5 @@
 -- One piece more of a text.
-use Rattle.std.proofs.Common.{◌≡◌, ◌∙◌, ◌+◌, ◌-◌, ◌≤◌, ◌++◌, ◌==◌, ℕ, true, List, [], ◌∷◌, length, take, drop, Bor, Option, Some, None, Result, Ok, Err, slice_range, refl, sym, ap, subst, arith, append_assoc, append-nil}
+use Rattle.std.proofs.Common.{suc, ◌≡◌, ◌∙◌, ◌+◌, ◌-◌, ◌≤◌, ◌++◌, ◌==◌, ℕ, true, List, [], ◌∷◌, length, take, drop, Bor, Option, Some, None, Result, Ok, Err, slice_range, refl, sym, ap, subst, arith, append_assoc, append-nil}
 use Rattle.std.proofs.Math.Dec.{eqb-suc-zero}
 use Rattle.std.proofs.lemmas.List.{length-map, length-append}
 use Rattle.ctl_stanza.specs.declared.list_kind.ListKind.{ListKind}
@@ -33,6 +33,15 @@ pub stanza-turn : (kind : ListKind) (old new : List Content) (n m : ℕ) (all ot
 stanza-turn kind old new n m all others lines whole first e none more told =
     turn-good old new (piece_content kind lines) (piece_fault kind (piece n lines)) (read_pieces kind (pieces_of m others)) whole none more
     (ap (with_contents old) (sym (first-read kind n m all others lines first e)) ∙ told)
+
+-- an empty line more
+pub gap-turn : (kind : ListKind) (stanzas : List Content) (n : ℕ) (all others : List (List ℕ)) (whole : Result (List Content) TextFault) → all ≡ [] ∷ others
+    → with_contents stanzas (read_pieces kind (pieces_of n all)) ≡ whole → with_contents stanzas (read_pieces kind (pieces_of (n + 1) others)) ≡ whole
+gap-turn kind stanzas n all others whole e told =
+    stanza-turn kind stanzas stanzas n (n + 1) all others ([] ∷ []) whole (λ k. ap (pieces_of k) e ∙ gap-first k) refl refl (sym (append-nil stanzas)) told
+  where
+    gap-first : (k : ℕ) → pieces_of k ([] ∷ others) ≡ piece k ([] ∷ []) ∷ pieces_of (k + 1) others
+    gap-first k = let next : suc k ≡ k + 1 = omega arith in ap (λ m. piece k ([] ∷ []) ∷ pieces_of m others) next
 
 all-read : (kind : ListKind) (n : ℕ) (left : List ℕ) (stanzas : List Content) → (length left == 0) ≡ true → with_contents stanzas (read_pieces kind (pieces_of n (lines_of left))) ≡ Ok stanzas
 all-read kind n [] stanzas none = ap Ok (append-nil stanzas)

@@ -58,6 +58,15 @@ pub(crate) fn take_line(text: &[u8]) -> Option<(&[u8], &[u8])>
     }
 }
 
+/// What stands behind an empty line at the front of a text. None where there is no such line.
+pub(crate) fn behind_empty_line(text: &[u8]) -> Option<&[u8]>
+    ensures lines { IfSome result (λ behind. lines_of text.now ≡ [] ∷ lines_of behind.now) }
+    ensures less { IfSome result (λ behind. length behind.now < length text.now) }
+{
+    let (first, behind) = text.split_first()?;
+    if *first == b'\n' { Some(behind) } else { None }
+}
+
 /// Each line with a newline, in one piece without spare room.
 pub(crate) fn text_of_lines(alloc: Global, lines: &[&[u8]]) -> Result<Vec<u8>, AllocError>
     ensures { IfOk result (λ text. text.items ≡ text_of_lines (lent_lines lines.now)) }

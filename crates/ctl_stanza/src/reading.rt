@@ -10,7 +10,7 @@ ghost use Rattle.ctl_stanza.specs.Text.{IsFirstPiece, read_text, is_gap, piece_c
 use crate::fault::TextFault;
 use crate::fields::Field;
 use crate::line_faults::{LinesSeen, first_fault};
-use crate::lines::{is_blank, take_line};
+use crate::lines::{behind_empty_line, is_blank, take_line};
 use crate::list_kind::ListKind;
 use crate::quick::{Accepted, accept_stanza};
 use crate::repeats::Repeats;
@@ -130,6 +130,11 @@ pub(crate) fn read_behind(
     let mut left = text;
     let mut line = first_line;
     'pieces: while !left.is_empty() {
+        if let Some(behind) = behind_empty_line(left) {
+            line += 1;
+            left = behind;
+            continue;
+        }
         let found = accept_stanza(alloc, &mut seen, &mut fields, left)?;
         // The names of a large stanza take more room than the stanza.
         seen.clear();

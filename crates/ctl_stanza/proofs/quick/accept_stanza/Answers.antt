@@ -1,4 +1,4 @@
-use Rattle.std.proofs.Common.{◌≡◌, ◌∙◌, ◌+◌, ◌||◌, refl, length, take, sym, ap, ap₂, arith}
+use Rattle.std.proofs.Common.{◌∙◌, ◌+◌, ◌||◌, refl, take, sym, ap, ap₂, arith}
 use Rattle.ctl_stanza.specs.Lines.{lines_of}
 use Rattle.ctl_stanza.specs.LineKind.{kind_of}
 use Rattle.ctl_stanza.specs.Faults.{gives_name, body_step, cause_of}
@@ -6,7 +6,8 @@ use Rattle.ctl_stanza.specs.declared.repeats.Repeats.TheVariants.{Never}
 use Rattle.std.proofs.lemmas.Bool.{ne_eqb}
 use Rattle.ctl_stanza.proofs.FaultLemmas.{cause-is, has_name-next, body_len-next}
 use Rattle.ctl_stanza.proofs.PieceLemmas.{gap-none, gap-blank}
-use Rattle.ctl_stanza.proofs.QuickLemmas.{text-behind, next-is, blank-is, not-blank, reached-start, reached-next, end-if}
+use Rattle.ctl_stanza.proofs.WalkLemmas.{text-behind}
+use Rattle.ctl_stanza.proofs.QuickLemmas.{next-is, blank-is, not-blank, reached-next, end-if}
 use Rattle.ctl_stanza.proofs.quick.accept_stanza.Goals as goal
 
 pub returns-in_default : goal.returns-in_default

@@ -3,15 +3,25 @@ use Rattle.std.proofs.lemmas.List.{length-map}
 use Rattle.ctl_stanza.specs.Lines.{lines_of, lent_lines}
 use Rattle.ctl_stanza.specs.Quick.{IsAccepted}
 use Rattle.ctl_stanza.proofs.PieceLemmas.{now}
-use Rattle.ctl_stanza.proofs.TurnLemmas.{stanza-turn, stanza-end, first-lent, room-next, none-behind}
+use Rattle.ctl_stanza.proofs.TurnLemmas.{stanza-turn, gap-turn, stanza-end, first-lent, room-next, none-behind}
 use Rattle.ctl_stanza.proofs.reading.read_behind.Goals as goal
 
 pub pieces-preserved-in-Some : goal.pieces-preserved-in-Some
 pieces-preserved-in-Some c =
+    let left = lines_of c.pieces.left.now in
+    let behind = lines_of c.in-Some.behind.now in
+    record {
+      seen = c.pieces.invariant.seen;
+      room = omega (arith, ap length c.in-Some.ensures.lines, c.pieces.invariant.room);
+      told = gap-turn c.args.kind c.pieces.stanzas.items c.pieces.line left behind _ c.in-Some.ensures.lines c.pieces.invariant.told;
+    }
+
+pub pieces-preserved-in-Some-found : goal.pieces-preserved-in-Some-found
+pieces-preserved-in-Some-found c =
     let left = c.pieces.left.now in
-    let accepted = c.in-Some.accepted in
+    let accepted = c.in-Some-found.accepted in
     let is : IsAccepted left accepted c.accept_stanza.new.fields.items =
-    subst (λ found. IfSome found (λ stanza. IsAccepted left stanza c.accept_stanza.new.fields.items)) c.in-Some.is c.in_ok-found.ensures in
+    subst (λ found. IfSome found (λ stanza. IsAccepted left stanza c.accept_stanza.new.fields.items)) c.in-Some-found.is c.in_ok-found.ensures in
     record {
       seen = c.clear.ensures;
       room = omega (arith, is.room, c.pieces.invariant.room);

@@ -1,8 +1,6 @@
 use Rattle.std.proofs.Common.{◌≡◌, ◌∙◌, None, IfErr, OnOk, ap, sym, subst}
-use Rattle.ctl_stanza.specs.Lines.{lines_of}
 use Rattle.ctl_stanza.specs.Faults.{Tells, whole_fault}
 use Rattle.ctl_stanza.specs.HeldFields.{shown_fields}
-use Rattle.ctl_stanza.specs.Text.{piece_fault, piece}
 use Rattle.ctl_stanza.proofs.QuickLemmas.{accepted-fault}
 use Rattle.ctl_stanza.proofs.reading.stanza_of_accepted.Goals as goal
 
