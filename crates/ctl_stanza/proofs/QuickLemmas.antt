@@ -20,13 +20,13 @@ use Rattle.ctl_stanza.specs.Faults.{fault_or, cause_of, first_fault, or_else, wh
 use Rattle.ctl_stanza.specs.Content.{Content}
 use Rattle.ctl_stanza.specs.HeldStanza.{content_in_front}
 use Rattle.ctl_stanza.specs.declared.list_kind.ListKind.{ListKind}
-use Rattle.ctl_stanza.specs.HeldFields.{IsText, IsPlainAt, ArePlain, IsReadFrom, AreWithin, AreBelow, StandsAt, shown_field, shown_fields}
+use Rattle.ctl_stanza.specs.HeldFields.{IsText, IsPlainAt, ArePlain, loose_bodies, IsReadFrom, AreWithin, AreBelow, StandsAt, shown_field, shown_fields}
 use Rattle.ctl_stanza.specs.Text.{is_gap, IsFirstPiece, piece, piece_fault, piece_content}
 use Rattle.ctl_stanza.specs.Quick.{IsUpTo, AreUpTo, end_behind, IsPlainField, AddsPlain, IsCutOff, IsAccepted}
 use Rattle.ctl_stanza.proofs.LineLemmas.{IsLine}
 use Rattle.ctl_stanza.proofs.LineStartLemmas.{continues_is}
 use Rattle.ctl_stanza.proofs.PieceLemmas.{AreOther, AreSingle, StartsGap, pieces-run, other-push, single-push, are_lines}
-use Rattle.ctl_stanza.proofs.FieldLemmas.{within_line, stands-round, body-within, plain-end, fields-grow, fields-turn, continued-le, length-text_of_lines}
+use Rattle.ctl_stanza.proofs.FieldLemmas.{within_line, stands-round, body-within, nothing-added, plain-nothing, fields-grow, fields-turn, continued-le, length-text_of_lines}
 use Rattle.ctl_stanza.proofs.WalkLemmas.{text-behind, continued-up}
 use Rattle.ctl_stanza.proofs.SoundLemmas.{fault_or-none, first_fault-none, read_from}
 use Rattle.ctl_stanza.proofs.PartLemmas.{some-lines}
@@ -129,6 +129,13 @@ blank-is line e = ⊎_elim (λ (is : is_blank line ≡ true). is)
     (cases_Bool (is_blank line))
 
 -- ---- the field of a line
+
+-- a value that reaches to the end of its line
+plain-end : (line value : List ℕ) (start : ℕ) → start ≤ length line → slice_range line start (length line) ≡ value → drop (length line - length value) line ≡ value
+plain-end line value start le is =
+    let rest : slice_range line start (length line) ≡ drop start line = take_all (length line - start) (drop start line) (omega (arith, length-drop start line)) in
+    let from : length line - length value ≡ start = omega (arith, le, ap length (sym is), ap length rest, length-drop start line) in
+    ap (λ n. drop n line) from ∙ sym rest ∙ is
 
 -- the field whose body stands in one piece
 pub plain-is : (bytes : List ℕ) (here : LineHere) (n a b m : ℕ) → StandsAt bytes here.at (here.line.now ++ 10 ∷ here.behind.now) → IsText here.behind.now → n < length here.line.now → a ≤ b → b ≤ length here.line.now
@@ -323,7 +330,8 @@ reached-end text left count fields found is gap cut =
     ∙ ap fields_of_lines whole ∙ fields-cut lines (lines_of left) gap ∙ ap (λ k. fields_from 0 lines ++ fields_from k (lines_of left)) from_here in
     let shown : shown_fields front fields ≡ fields_of_lines lines = append_cancel_right (shown_fields front fields) (fields_of_lines lines) (fields_from count (lines_of left)) told in
     let read : IsReadFrom front (length front) fields =
-    read_from 0 (length front) lines front front fields refl (omega (arith, reached.1, cut.small)) refl lines_are (record { more = []; joined = sym (append-nil front) }) within shown (λ e. are_plain lines (lines_of left) gap is.plain) is.good in
+    read_from 0 (length front) lines front front fields refl (omega (arith, reached.1, cut.small)) refl lines_are
+    (nothing-added front (loose_bodies lines) (plain-nothing lines (are_plain lines (lines_of left) gap is.plain))) within shown is.good in
     record {
       some = omega (arith, cut.some, cut.count_is);
       count = cut.count_is ∙ sym size ∙ ap length (sym same);
