@@ -1,6 +1,6 @@
 -- Fields, and where they stand in a text.
-use Rattle.std.proofs.Common.{◌≡◌, ◌≢◌, ◌∙◌, ◌+◌, ◌-◌, ◌⊎◌, ◌<◌, ◌≤◌, ◌==◌, ◌||◌, ℕ, zero, suc, Bool, true, false, List, [], ◌∷◌, ◌++◌, length, take, drop, get_or, Some, None, slice_range, append_assoc, take_all, refl, sym, ap, ap₂, arith, ⊎_elim}
-use Rattle.std.proofs.lemmas.Bool.{cases_Bool, cond-true, cond-false, eqb-true}
+use Rattle.std.proofs.Common.{◌≡◌, ◌∙◌, ◌+◌, ◌-◌, ◌⊎◌, ◌<◌, ◌≤◌, ◌==◌, ◌||◌, ℕ, zero, suc, Bool, true, false, List, [], ◌∷◌, ◌++◌, length, take, drop, get_or, Some, None, slice_range, append_assoc, take_all, refl, sym, ap, ap₂, arith, ⊎_elim}
+use Rattle.std.proofs.lemmas.Bool.{cases_Bool, cond-true, cond-false}
 use Rattle.std.proofs.Math.Seq.{take-append-add, take-append_seam, drop-append-add}
 use Rattle.std.proofs.lemmas.List.{take-append-le, drop-append-le, take-append-drop, length-take-le, append-nil, drop_more, length-append, length-drop}
 use Rattle.std.specs.Str.{bytes_eq}
@@ -232,13 +232,6 @@ pub loose-ends : (n : ℕ) (line value : List ℕ) (behind : List (List ℕ)) �
 loose-ends n line value behind is ends =
     let here : ends_with_value n line ≡ true = ap (λ v. bytes_eq (drop (length line - length v) line) v) (sym is) ∙ ends in
     cond-true _ _ _ (ap (λ (b : Bool). length (continued behind) == 0 || b) here ∙ either-way (length (continued behind) == 0))
-
-pub loose-whole : (n : ℕ) (line value : List ℕ) (behind : List (List ℕ)) → value ≡ value_of n line → length (continued behind) ≢ 0 → bytes_eq (drop (length line - length value) line) value ≡ false
-    → loose_at (FieldLine n) line behind ≡ value ++ continued behind
-loose-whole n line value behind is some ends =
-    let here : ends_with_value n line ≡ false = ap (λ v. bytes_eq (drop (length line - length v) line) v) (sym is) ∙ ends in
-    let more : (length (continued behind) == 0) ≡ false = ⊎_elim (λ yes. absurd (some (eqb-true (length (continued behind)) 0 yes))) (λ none. none) (cases_Bool (length (continued behind) == 0)) in
-    cond-false _ _ _ (ap₂ ◌||◌ more here) ∙ ap (λ v. v ++ continued behind) (sym is)
 
 -- a line of another kind begins no field
 pub loose-other : (kind : LineKind) (line : List ℕ) (behind : List (List ℕ)) → ((n : ℕ) → kind ≡ FieldLine n → ⊥) → loose_at kind line behind ≡ []

@@ -25,7 +25,6 @@ pub mod RecordRunLemmas
 pub mod ProvidesLemmas
 pub mod SoundLemmas
 pub mod PairLemmas
-pub mod ReadLemmas
 pub mod PartLemmas
 pub mod ReaderLemmas
 pub mod WalkLemmas

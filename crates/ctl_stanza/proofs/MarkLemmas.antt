@@ -1,5 +1,5 @@
 -- The words of relation fields, read one field after the other.
-use Rattle.std.proofs.Common.{◌≡◌, ◌≢◌, ◌∙◌, ◌+◌, ◌≤◌, ◌==◌, ℕ, suc, true, false, List, [], ◌∷◌, ◌++◌, length, take, drop, get_or, nat_eq, Option, Some, None, refl, sym, ap, ap₂, subst, arith, append_assoc, append-nil, ⊎_elim}
+use Rattle.std.proofs.Common.{◌≡◌, ◌≢◌, ◌∙◌, ◌+◌, ◌≤◌, ◌==◌, ℕ, suc, true, false, List, [], ◌∷◌, ◌++◌, length, take, drop, get_or, nat_eq, Some, refl, sym, ap, ap₂, subst, arith, append_assoc, append-nil, ⊎_elim}
 use Rattle.std.proofs.lemmas.List.{length-append}
 use Rattle.std.proofs.lemmas.Grind.{flat_map-append}
 use Rattle.std.proofs.lemmas.Bool.{cases_Bool, cond-true, cond-false, eqb-true}
@@ -142,10 +142,6 @@ none-left bytes left kind all l none = sym (l.same ∙ by l.fields l.are.words)
     by (field ∷ others) is = absurd (omega (arith, eqb-true (length left) 0 none, ap length is))
 
 -- ---- one field more
-
-pub marks-none : (bytes old new : List ℕ) (body : Span) (kind : Option FieldKind) → kind ≡ None → new ≡ old → Marks bytes kind body old new
-marks-none bytes old new body kind none same =
-    subst (λ (o : Option FieldKind). Marks bytes o body old new) (sym none) (λ fields is. record { fields = fields; words = same ∙ is; keeps = refl })
 
 pub marks-field : (bytes old new body : List ℕ) (span : Span) (kind : FieldKind) (starts further : List ℕ)
     → new ≡ old ++ words_of (record { kind = kind; body = span; starts = starts; further = further }) → IsWithin bytes span → body ≡ shown bytes span → AreHeld kind body starts further

@@ -131,7 +131,3 @@ record-end numbers at left old new whole none same told = ap (λ (xs : List Reco
 -- as many lines are left as have numbers
 pub room-next : (all others : List (List ℕ)) (lines : List (Bor (List ℕ))) (at total : ℕ) → all ≡ lent_lines lines ++ others → at + length all ≡ total → at + length lines + length others ≡ total
 room-next all others lines at total e room = omega (arith, room, ap length e, length-append (lent_lines lines) others, length-map lines now)
-
--- the lines that are left have numbers
-pub lines-room : (all others : List (List ℕ)) (lines : List (Bor (List ℕ))) (at taken bound : ℕ) → all ≡ lent_lines lines ++ others → taken ≡ length lines → at + length all ≤ bound → at + taken + length others ≤ bound
-lines-room all others lines at taken bound e size room = omega (arith, room, size, ap length e, length-append (lent_lines lines) others, length-map lines now)

@@ -107,17 +107,6 @@ loose-here left loose line behind kind next is =
     let whole : loose ≡ loose_at kind line (lines_of behind) ++ loose_bodies (lines_of behind) = next.loose_are ∙ ap (λ (k : LineKind). loose_at k line (lines_of behind) ++ loose_bodies (lines_of behind)) is in
     ap (take (length (loose_at kind line (lines_of behind)))) whole ∙ take-append_seam (loose_at kind line (lines_of behind)) (loose_bodies (lines_of behind))
 
-pub loose-left : (loose part rest : List ℕ) → loose ≡ part ++ rest → drop (length part) loose ≡ rest
-loose-left loose part rest is =
-    let size : length part ≡ length part + 0 = omega arith in
-    ap (drop (length part)) is ∙ ap (λ n. drop n (part ++ rest)) size ∙ drop-append-add part rest 0
-
--- nothing stands behind nothing
-pub loose-none : (loose part rest : List ℕ) → loose ≡ part ++ rest → length loose ≡ 0 → loose ≡ rest
-loose-none [] [] rest is none = is
-loose-none [] (b ∷ part) rest is none = absurd cc
-loose-none (b ∷ loose) part rest is none = absurd (omega (arith, none))
-
 -- ---- the names of lines
 
 -- the name of a field line lies within it

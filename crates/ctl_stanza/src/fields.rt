@@ -8,7 +8,8 @@ ghost use Rattle.ctl_stanza.specs.Lines.{is_blank_byte, text_of_lines, lent_line
 ghost use Rattle.ctl_stanza.specs.LineKind.{kind_of};
 ghost use Rattle.ctl_stanza.specs.declared.line_kind.LineKind.TheVariants as kinds;
 ghost use Rattle.ctl_stanza.specs.Fields.{strip_end, value_of, continues, continued, fields_of_lines, body_named, is_same_name};
-ghost use Rattle.ctl_stanza.specs.HeldFields.{IsWithin, AreWithin, AreBelow, StandsAt, Grows, Shows, Adds, loose_at, loose_bodies, shown, shown_fields};
+ghost use Rattle.ctl_stanza.specs.HeldFields.{IsWithin, AreWithin, AreBelow, StandsAt, Grows, Shows, Adds, shown, shown_fields};
+ghost use Rattle.ctl_stanza.specs.HeldFields.{loose_at, loose_bodies};
 
 use crate::line_kind::{LineKind, kind_of};
 use crate::lines::{begins_with_blank, is_blank, is_blank_byte};
@@ -193,34 +194,40 @@ fn body_span(
     })
 }
 
-// Adds the field that a line begins, if it is a field line, by the lines behind it. The line is the one at an index, and
-// stands at a place of the bytes.
+// The index of a line, and where it stands in the bytes.
+#[derive(Clone, Copy)]
+struct LineStart {
+    index: u32,
+    at: u32,
+}
+
+// Adds the field that a line begins, if it is a field line, by the lines behind it.
 fn add_field(
     bytes: &mut Vec<u8>,
     fields: &mut Vec<Field>,
     line: &[u8],
     behind: &[&[u8]],
-    index: u32,
-    at: u32,
+    start: LineStart,
 ) -> Result<(), AllocError>
     requires short { length bytes.old.items < 2 ^ 32 }
-    requires stands { StandsAt bytes.old.items at (line.now ++ newline ∷ text_of_lines (lent_lines behind.now)) }
+    requires stands { StandsAt bytes.old.items start.at (line.now ++ newline ∷ text_of_lines (lent_lines behind.now)) }
     requires within { AreWithin bytes.old.items fields.old.items }
     ensures grows { OnOk result (Grows bytes.old.items bytes.new.items) }
     ensures short { OnOk result (length bytes.new.items < 2 ^ 32) }
-    ensures fields { OnOk result (Adds bytes.new.items line.now (lent_lines behind.now) index (shown_fields bytes.old.items fields.old.items) fields.new.items) }
+    ensures fields { OnOk result (Adds bytes.new.items line.now (lent_lines behind.now) start.index
+        (shown_fields bytes.old.items fields.old.items) fields.new.items) }
     ensures loose { OnOk result (bytes.new.items ≡ bytes.old.items ++ loose_at (kind_of line.now) line.now (lent_lines behind.now)) }
-    ensures lines { OnOk result ((count : ℕ) → index < count → AreBelow count fields.old.items → AreBelow count fields.new.items) }
+    ensures lines { OnOk result ((count : ℕ) → start.index < count → AreBelow count fields.old.items → AreBelow count fields.new.items) }
 {
     let LineKind::Field(n) = kind_of(line) else {
         return Ok(());
     };
-    let body = body_span(bytes, line, n, behind, at)?;
+    let body = body_span(bytes, line, n, behind, start.at)?;
     fields.push(Field {
-        line: index,
+        line: start.index,
         name: Span {
-            start: at,
-            end: at + n as u32,
+            start: start.at,
+            end: start.at + n as u32,
         },
         body,
     })?;
@@ -252,7 +259,11 @@ pub(crate) fn fields_of_lines(
     let mut at: u32 = 0;
     for i in 0..lines.len() {
         let line = lines[i];
-        add_field(bytes, &mut fields, line, &lines[i + 1..], i as u32, at)?;
+        let start = LineStart {
+            index: i as u32,
+            at,
+        };
+        add_field(bytes, &mut fields, line, &lines[i + 1..], start)?;
         at += line.len() as u32 + 1;
     }
     bytes.shrink_to_fit();

@@ -106,8 +106,10 @@ fn read_field(
     requires { IsFieldWithin bytes.now field.now }
     ensures good { OnOk result (field_cause true (shown bytes.now field.now.name) (shown bytes.now field.now.body) ≡ None) }
     ensures bad { IfErr result (TellsCause (field_cause true (shown bytes.now field.now.name) (shown bytes.now field.now.body))) }
-    ensures version { OnOk result (parts.new.version ≡ or_else parts.old.version (version_given (shown bytes.now field.now.name) (shown bytes.now field.now.body))) }
-    ensures marks { OnOk result (Marks bytes.now (relation_kind (shown bytes.now field.now.name)) field.now.body parts.old.relations.marks.items parts.new.relations.marks.items) }
+    ensures version { OnOk result (
+        parts.new.version ≡ or_else parts.old.version (version_given (shown bytes.now field.now.name) (shown bytes.now field.now.body))) }
+    ensures marks { OnOk result (Marks bytes.now (relation_kind (shown bytes.now field.now.name)) field.now.body
+        parts.old.relations.marks.items parts.new.relations.marks.items) }
 {
     let name = field.name.of(bytes);
     if is_same_name(name, b"Package") {

@@ -49,7 +49,8 @@ impl Model for Stanza {
 
     ghost view = { λ s. content_in_front s.kind s.text_len s.bytes.items };
 
-    ghost invariant = { λ s. ArePartsOf (content_in_front s.kind s.text_len s.bytes.items) s.bytes.items s.text_len s.field_count s.marks.items s.offers.items };
+    ghost invariant = { λ s. ArePartsOf (content_in_front s.kind s.text_len s.bytes.items)
+        s.bytes.items s.text_len s.field_count s.marks.items s.offers.items };
 }
 
 /// The bytes of a stanza: its text, and behind it the bodies that don't stand in it in one piece.

@@ -43,7 +43,7 @@ adds old_bytes bytes line behind at n i body old new kind grows stands all lt is
 
 pub returns-clause-fields : goal.returns-clause-fields
 returns-clause-fields c =
-    adds c.args.bytes.now.items _ c.args.line.now (lent_lines c.args.behind.now) c.args.at c.in-Field.n c.args.index c.in_ok-body.body c.args.fields.now.items c.push.new.self.items c.kind_of.result
+    adds c.args.bytes.now.items _ c.args.line.now (lent_lines c.args.behind.now) c.args.start.at c.in-Field.n c.args.start.index c.in_ok-body.body c.args.fields.now.items c.push.new.self.items c.kind_of.result
     c.in_ok-body.ensures.grows c.requires.stands c.requires.within c.in-Field.ensures.name c.kind_of.ensures.kind c.in-Field.is c.in_ok-body.ensures.body c.in_ok-push.ensures.items
 
 pub returns-clause-loose : goal.returns-clause-loose

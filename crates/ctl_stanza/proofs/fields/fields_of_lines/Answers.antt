@@ -20,8 +20,8 @@ stands-here lines line bytes i at lt here stands =
     ap text_of_lines (drop_more lines i [] lt) ∙ ap (λ l. l ++ 10 ∷ text_of_lines (drop (i + 1) lines)) here in
     rw left at stands
 
-pub overflow_cast-i : goal.overflow_cast-i
-overflow_cast-i c =
+pub overflow_cast-start : goal.overflow_cast-start
+overflow_cast-start c =
     let lines = lent_lines c.args.lines.now in
     let i = c.loop-i.i in
     let lt : i < length lines = omega (arith, length-map c.args.lines.now now) in
