@@ -1,5 +1,5 @@
 -- Lines accepted one by one.
-use Rattle.std.proofs.Common.{not, ◌==◌, ◌||◌, ◌&&◌, slice_index, ⊎_elim, ◌≡◌, ◌∙◌, ◌⊎◌, inl, inr, ◌+◌, ◌-◌, ◌<◌, ◌≤◌, ℕ, suc, true, false, cond, List, [], ◌∷◌, ◌++◌, length, take, drop, get_or, slice_range, take_all, Option, Some, None, IfSome, refl, sym, ap, ap₂, subst, arith, append_assoc, length-append}
+use Rattle.std.proofs.Common.{not, ◌==◌, ◌||◌, slice_index, ⊎_elim, ◌≡◌, ◌∙◌, ◌⊎◌, inl, inr, ◌+◌, ◌-◌, ◌<◌, ◌≤◌, ℕ, suc, true, false, cond, List, [], ◌∷◌, ◌++◌, length, take, drop, get_or, slice_range, take_all, Option, Some, None, IfSome, refl, sym, ap, ap₂, subst, arith, append_assoc, length-append}
 use Rattle.std.proofs.lemmas.List.{map-append, append-nil, append_cancel_right, take_more, drop_more, length-take-le, length-drop, take-append-drop}
 use Rattle.std.proofs.Math.Seq.{take-append_seam, drop-append-add}
 use Rattle.std.proofs.lemmas.Bool.{cond-true, cond-false, cases_Bool, eqb-true}
@@ -13,7 +13,7 @@ use Rattle.ctl_stanza.specs.declared.quick.Accepted.{Accepted}
 use Rattle.ctl_stanza.specs.declared.quick.LineHere.{LineHere}
 use Rattle.ctl_stanza.specs.declared.repeats.Repeats.{Repeats}
 use Rattle.ctl_stanza.specs.declared.repeats.Repeats.TheVariants.{Never}
-use Rattle.ctl_stanza.specs.Lines.{lines_of, onto_first, text_of_lines, is_blank, is_blank_byte, begins_with_blank}
+use Rattle.ctl_stanza.specs.Lines.{lines_of, onto_first, text_of_lines, is_blank, is_blank_byte}
 use Rattle.ctl_stanza.specs.LineKind.{kind_of, kind_after_name, is_field_name_byte}
 use Rattle.ctl_stanza.specs.Fields.{value_of, continues, continued, field_at, fields_from, fields_of_lines}
 use Rattle.ctl_stanza.specs.Faults.{fault_or, cause_of, first_fault, or_else, whole_fault}
@@ -24,9 +24,8 @@ use Rattle.ctl_stanza.specs.HeldFields.{IsText, IsPlainAt, ArePlain, loose_bodie
 use Rattle.ctl_stanza.specs.Text.{is_gap, IsFirstPiece, piece, piece_fault, piece_content}
 use Rattle.ctl_stanza.specs.Quick.{IsUpTo, AreUpTo, end_behind, IsPlainField, AddsPlain, IsCutOff, IsAccepted}
 use Rattle.ctl_stanza.proofs.LineLemmas.{IsLine}
-use Rattle.ctl_stanza.proofs.LineStartLemmas.{continues_is}
 use Rattle.ctl_stanza.proofs.PieceLemmas.{AreOther, AreSingle, StartsGap, pieces-run, other-push, single-push, are_lines}
-use Rattle.ctl_stanza.proofs.FieldLemmas.{within_line, stands-round, body-within, nothing-added, plain-nothing, fields-grow, fields-turn, continued-le, length-text_of_lines}
+use Rattle.ctl_stanza.proofs.FieldLemmas.{within_line, stands-round, body-within, nothing-added, plain-nothing, fields-grow, fields-turn, length-text_of_lines}
 use Rattle.ctl_stanza.proofs.WalkLemmas.{text-behind, continued-up}
 use Rattle.ctl_stanza.proofs.SoundLemmas.{fault_or-none, first_fault-none, read_from}
 use Rattle.ctl_stanza.proofs.PartLemmas.{some-lines}

@@ -7,7 +7,8 @@ ghost use Rattle.ctl_stanza.specs.Records.{records_before_fault};
 ghost use Rattle.ctl_stanza.specs.Content.{Content};
 ghost use Rattle.ctl_stanza.specs.FieldLines.{FieldLinesAreTaken, FieldLinesAreKnown};
 ghost use Rattle.ctl_stanza.specs.Lines.{lines_of};
-ghost use Rattle.ctl_stanza.specs.Laws.{BodiesAreCounted, FieldsRise, IsFaultless, ReadsOrTells, KeepsLines, ReadsStanzas, StanzasAreOneList};
+ghost use Rattle.ctl_stanza.specs.Laws.{BodiesAreCounted, FieldsRise, IsFaultless};
+ghost use Rattle.ctl_stanza.specs.Laws.{ReadsOrTells, KeepsLines, ReadsStanzas, StanzasAreOneList};
 ghost use Rattle.ctl_stanza.specs.Sound.{IsWhole, IsSound, PairsFit, MetPairsFit, OwnMetPairsFit};
 
 use ctl_relation::{fields_bound_atoms, met_pairs_are_bounded, reading_is_the_grammar};

@@ -113,7 +113,8 @@ fn add_field(fields: &mut Vec<Field>, here: &LineHere, kind: LineKind) -> Result
     requires text { IsText here.now.behind.now }
     requires index { here.now.index ≤ here.now.at }
     requires room { here.now.at + length here.now.line.now + length here.now.behind.now < 2 ^ 64 }
-    ensures { IfOk result (λ added. added ≡ true → (bytes : List ℕ) → StandsAt bytes here.now.at (here.now.line.now ++ newline ∷ here.now.behind.now)
+    ensures { IfOk result (λ added. added ≡ true → (bytes : List ℕ)
+        → StandsAt bytes here.now.at (here.now.line.now ++ newline ∷ here.now.behind.now)
         → AddsPlain bytes here.now fields.old.items fields.new.items) }
 {
     let LineKind::Field(n) = kind else {

@@ -5,7 +5,8 @@ ghost use Rattle.ctl_stanza.specs.Lines.{lines_of, lent_lines, AreLines};
 ghost use Rattle.ctl_stanza.specs.Faults.{IsMemoryAtZero, Tells};
 ghost use Rattle.ctl_stanza.specs.Laws.{AreStanzasOf, HasNoFault, TellsLeastFault};
 ghost use Rattle.ctl_stanza.specs.HeldFields.{IsReadFrom, AreBelow};
-ghost use Rattle.ctl_stanza.specs.Text.{IsFirstPiece, read_text, is_gap, piece_content, piece_fault, piece, with_contents, Reads, TellsFault};
+ghost use Rattle.ctl_stanza.specs.Text.{IsFirstPiece, is_gap, piece_content, piece_fault, piece};
+ghost use Rattle.ctl_stanza.specs.Text.{read_text, with_contents, Reads, TellsFault};
 
 use crate::fault::TextFault;
 use crate::fields::Field;

@@ -37,7 +37,10 @@ impl Model for Record {
 
     ghost Value = { RecordText };
 
-    ghost view = { λ r. record { first_line = slice_index r.numbers.items 0; fields = map (numbered_field r.numbers.items) (shown_fields r.bytes.items r.fields.items) } };
+    ghost view = { λ r. record {
+      first_line = slice_index r.numbers.items 0;
+      fields = map (numbered_field r.numbers.items) (shown_fields r.bytes.items r.fields.items);
+    } };
 
     ghost invariant = { λ r. AreNumbered r.bytes.items r.numbers.items r.fields.items };
 }

@@ -2,7 +2,8 @@
 
 ghost use Rattle.std.specs.Prelude.{◌≡◌, ◌≤◌, length};
 ghost use Rattle.std.specs.List.{prefix_len};
-ghost use Rattle.ctl_stanza.specs.Status.{is_word_byte, first_word, behind_word, is_live_state, is_other_state, liveness_in, liveness_by_body, liveness};
+ghost use Rattle.ctl_stanza.specs.Status.{is_word_byte, first_word, behind_word, is_live_state, is_other_state};
+ghost use Rattle.ctl_stanza.specs.Status.{liveness_in, liveness_by_body, liveness};
 ghost use Rattle.ctl_stanza.specs.HeldFields.{AreWithin, shown_fields};
 
 use crate::fields::{Field, blank_len, body_named};
