@@ -32,6 +32,8 @@ mod limits;
 mod loads;
 pub mod made;
 #[cfg(test)]
+mod ordered;
+#[cfg(test)]
 mod pieces;
 #[cfg(test)]
 mod pin_laws;

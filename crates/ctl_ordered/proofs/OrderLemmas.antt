@@ -1,0 +1,353 @@
+-- Orders of serials, by which keys are found.
+use Rattle.std.proofs.Common.{◌≡◌, ◌⊎◌, inl, inr, ℕ, zero, suc, ◌+◌, ◌<◌, ◌≤◌, Bool, true, false, cond, nat_eq, List, [], ◌∷◌, ◌++◌, length, get_or, map, filter, Option, None, Some, refl, ap, sym, subst, ◌∙◌, arith}
+use Rattle.std.proofs.lemmas.Bool.{true≢false}
+use Rattle.std.proofs.lemmas.Map.{lookup-insert, lookup-remove_entry, none_passes_from_lookup}
+use Rattle.std.proofs.lemmas.Cmp.{tied_itself, tied_back}
+use Rattle.std.specs.Borrow.{MutBor}
+use Rattle.std.specs.Option.{option_copied_mut, OnSome}
+use Rattle.std.specs.Cmp.{IsEquivalence, IsTotalOrder}
+use Rattle.std.specs.List.{IsDistinct, AllByRecursion, insert, remove}
+use Rattle.std.specs.List.Sorted.{IsPartitionedBy}
+use Rattle.std.specs.Map.{lookup, keys_of, set_value, remove_entry}
+use Rattle.std.specs.Ordering.{is_eq, is_lt, ordering_reverse}
+use Rattle.std.specs.declared.cmp.Ordering.{Ordering}
+use Rattle.std.specs.declared.cmp.Ordering.TheVariants.{Less, Equal, Greater}
+use Rattle.ctl_ordered.specs.declared.slot.Slot.{Slot}
+use Rattle.ctl_ordered.specs.declared.slot.Slot.TheVariants.{Entry, Hole}
+use Rattle.indexmap.specs.IndexMap.{insert_entry}
+use Rattle.ctl_ordered.specs.Slots.{entries_of, serial_of, value_of, with_value, is_entry}
+use Rattle.ctl_ordered.specs.Ordered.{found_cmp, order_at, IsBelow, KeysRise, IsKept, IsOrdered}
+use Rattle.ctl_ordered.proofs.SlotLemmas.{yes, no, some_not_none, stands, serial_free, value_at, lent_at, set_kept, gap_at, no_value_at, none_cut_at, last_kept, cut_kept, squeezed_kept}
+
+is_less : (o : Ordering) → is_lt o ≡ true → o ≡ Less
+is_less Less e = refl
+is_less Equal e = absurd (true≢false (sym e))
+is_less Greater e = absurd (true≢false (sym e))
+
+is_equal : (o : Ordering) → is_eq o ≡ true → o ≡ Equal
+is_equal Less e = absurd (true≢false (sym e))
+is_equal Equal e = refl
+is_equal Greater e = absurd (true≢false (sym e))
+
+is_greater : (o : Ordering) → is_lt o ≡ false → is_eq o ≡ false → o ≡ Greater
+is_greater Less e f = absurd (true≢false e)
+is_greater Equal e f = absurd (true≢false f)
+is_greater Greater e f = refl
+
+-- how keys stand to each other, and when they are equal
+pub record IsOrderOf {K : Type 0} (eq : K → K → Bool) (R : K → K → Ordering) : Type 0 where
+  pub laws : IsEquivalence eq
+  pub total : IsTotalOrder R
+  pub alike : (x y : K) → eq x y ≡ is_eq (R x y)
+
+pub key_order : {K : Type 0} {eq : K → K → Bool} {R : K → K → Ordering} → IsEquivalence eq → IsTotalOrder R → ((x y : K) → eq x y ≡ is_eq (R x y)) → IsOrderOf eq R
+key_order laws total alike = record { laws = laws; total = total; alike = alike }
+
+abbrev serials : {K : Type 0} → List (K × ℕ) → List ℕ
+serials {K} ps = map (λ (p : K × ℕ). p.1) ps
+
+module _ {K : Type 0} where
+  length_serials : (ps : List (K × ℕ)) → length (serials ps) ≡ length ps
+  length_serials [] = refl
+  length_serials (p ∷ ps) = ap (λ n. suc n) (length_serials ps)
+
+  read_serials : (ps : List (K × ℕ)) (i d : ℕ) (e : K × ℕ) → i < length ps → get_or (serials ps) i d ≡ (get_or ps i e).1
+  read_serials [] i d e l = absurd (omega arith)
+  read_serials (p ∷ ps) zero d e l = refl
+  read_serials (p ∷ ps) (suc i) d e l = read_serials ps i d e (omega arith)
+
+  serials_insert : (ps : List (K × ℕ)) (i : ℕ) (p : K × ℕ) → serials (insert ps i p) ≡ insert (serials ps) i p.1
+  serials_insert [] zero p = refl
+  serials_insert [] (suc i) p = refl
+  serials_insert (q ∷ ps) zero p = refl
+  serials_insert (q ∷ ps) (suc i) p = ap (λ l. q.1 ∷ l) (serials_insert ps i p)
+
+  serials_remove : (ps : List (K × ℕ)) (i : ℕ) → serials (remove ps i) ≡ remove (serials ps) i
+  serials_remove [] zero = refl
+  serials_remove [] (suc i) = refl
+  serials_remove (q ∷ ps) zero = refl
+  serials_remove (q ∷ ps) (suc i) = ap (λ l. q.1 ∷ l) (serials_remove ps i)
+
+  all_at : (P : K → Type 0) (ps : List (K × ℕ)) (i : ℕ) (d : K × ℕ) → AllByRecursion P (keys_of ps) → i < length ps → P (get_or ps i d).0
+  all_at P [] i d h l = absurd (omega arith)
+  all_at P (p ∷ ps) zero d h l = h.0
+  all_at P (p ∷ ps) (suc i) d h l = all_at P ps i d h.1 (omega arith)
+
+  all_from : (P : K → Type 0) (ps : List (K × ℕ)) → ((i : ℕ) (d : K × ℕ) → i < length ps → P (get_or ps i d).0) → AllByRecursion P (keys_of ps)
+  all_from P [] h = tt
+  all_from P (p ∷ ps) h = (h 0 p (omega arith), all_from P ps (λ i d l. h (suc i) d (omega arith)))
+
+  all_insert : (P : K → Type 0) (ps : List (K × ℕ)) (i : ℕ) (p : K × ℕ) → AllByRecursion P (keys_of ps) → P p.0 → AllByRecursion P (keys_of (insert ps i p))
+  all_insert P [] zero p h x = (x, tt)
+  all_insert P [] (suc i) p h x = (x, tt)
+  all_insert P (q ∷ ps) zero p h x = (x, h)
+  all_insert P (q ∷ ps) (suc i) p h x = (h.0, all_insert P ps i p h.1 x)
+
+  all_remove : (P : K → Type 0) (ps : List (K × ℕ)) (i : ℕ) → AllByRecursion P (keys_of ps) → AllByRecursion P (keys_of (remove ps i))
+  all_remove P [] zero h = h
+  all_remove P [] (suc i) h = h
+  all_remove P (q ∷ ps) zero h = h.1
+  all_remove P (q ∷ ps) (suc i) h = (h.0, all_remove P ps i h.1)
+
+-- ---- keys that rise
+
+module _ {K : Type 0} {eq : K → K → Bool} {R : K → K → Ordering} (o : IsOrderOf eq R) where
+  turned : (x y : K) → R x y ≡ Less → R y x ≡ Greater
+  turned x y e = o.total.antisymm y x ∙ ap ordering_reverse e
+
+  turned_back : (x y : K) → R x y ≡ Greater → R y x ≡ Less
+  turned_back x y e = o.total.antisymm y x ∙ ap ordering_reverse e
+
+  before : (x y : K) → R x y ≡ Less → eq y x ≡ false
+  before x y e = o.alike y x ∙ ap is_eq (turned x y e)
+
+  after : (x y : K) → R x y ≡ Less → eq x y ≡ false
+  after x y e = o.alike x y ∙ ap is_eq e
+
+  climb : (ps : List (K × ℕ)) (i j : ℕ) (d : K × ℕ) → KeysRise R ps → i < j → j < length ps → R (get_or ps i d).0 (get_or ps j d).0 ≡ Less
+  climb [] i j d h l b = absurd (omega arith)
+  climb (p ∷ ps) zero zero d h l b = absurd (omega arith)
+  climb (p ∷ ps) zero (suc j) d h l b = all_at (λ k. R p.0 k ≡ Less) ps j d h.0 (omega arith)
+  climb (p ∷ ps) (suc i) zero d h l b = absurd (omega arith)
+  climb (p ∷ ps) (suc i) (suc j) d h l b = climb ps i j d h.1 (omega arith) (omega arith)
+
+  -- each serial is found by its own key
+  own : (ps : List (K × ℕ)) (i : ℕ) (d : K × ℕ) → KeysRise R ps → i < length ps → lookup (eq (get_or ps i d).0) ps ≡ Some (get_or ps i d).1
+  own [] i d h l = absurd (omega arith)
+  own (p ∷ ps) zero d h l = yes (Some p.1) (lookup (eq p.0) ps) (o.alike p.0 p.0 ∙ ap is_eq (tied_itself o.total p.0))
+  own (p ∷ ps) (suc i) d h l =
+      no (Some p.1) (lookup (eq (get_or ps i d).0) ps) (before p.0 (get_or ps i d).0 (all_at (λ k. R p.0 k ≡ Less) ps i d h.0 (omega arith)))
+      ∙ own ps i d h.1 (omega arith)
+
+  -- a key is found at a place before which there is none, and nowhere where there is none
+  found_there : (q : K) (ps : List (K × ℕ)) (r : ℕ) (d : K × ℕ) → ((j : ℕ) (d : K × ℕ) → j < r → eq q (get_or ps j d).0 ≡ false) → r < length ps → eq q (get_or ps r d).0 ≡ true
+      → (lookup (eq q) ps ≡ Some (get_or ps r d).1) × (remove ps r ≡ remove_entry (eq q) ps)
+  found_there q [] r d h l e = absurd (omega arith)
+  found_there q (p ∷ ps) zero d h l e = (yes (Some p.1) (lookup (eq q) ps) e, sym (yes ps (p ∷ remove_entry (eq q) ps) e))
+  found_there q (p ∷ ps) (suc r) d h l e =
+      let rest = found_there q ps r d (λ j d l. h (suc j) d (omega arith)) (omega arith) e in
+      let other = h 0 p (omega arith) in
+      (no (Some p.1) (lookup (eq q) ps) other ∙ rest.0, ap (λ l. p ∷ l) rest.1 ∙ sym (no ps (p ∷ remove_entry (eq q) ps) other))
+
+  found_nowhere : (q : K) (ps : List (K × ℕ)) → ((j : ℕ) (d : K × ℕ) → j < length ps → eq q (get_or ps j d).0 ≡ false) → lookup (eq q) ps ≡ None
+  found_nowhere q [] h = refl
+  found_nowhere q (p ∷ ps) h = no (Some p.1) (lookup (eq q) ps) (h 0 p (omega arith)) ∙ found_nowhere q ps (λ j d l. h (suc j) d (omega arith))
+
+  climbs_insert : (q : K) (s : ℕ) (ps : List (K × ℕ)) (r : ℕ) → KeysRise R ps → r ≤ length ps → ((j : ℕ) (d : K × ℕ) → j < r → R (get_or ps j d).0 q ≡ Less) → ((j : ℕ) (d : K × ℕ) → r ≤ j → j < length ps → R q (get_or ps j d).0 ≡ Less)
+      → KeysRise R (insert ps r (q, s))
+  climbs_insert q s [] zero h l low high = (tt, tt)
+  climbs_insert q s [] (suc r) h l low high = absurd (omega arith)
+  climbs_insert q s (p ∷ ps) zero h l low high = (all_from (λ k. R q k ≡ Less) (p ∷ ps) (λ j d b. high j d (omega arith) b), h)
+  climbs_insert q s (p ∷ ps) (suc r) h l low high =
+      (all_insert (λ k. R p.0 k ≡ Less) ps r (q, s) h.0 (low 0 p (omega arith)), climbs_insert q s ps r h.1 (omega arith) (λ j d b. low (suc j) d (omega arith)) (λ j d b c. high (suc j) d (omega arith) (omega arith)))
+
+  climbs_remove : (ps : List (K × ℕ)) (r : ℕ) → KeysRise R ps → KeysRise R (remove ps r)
+  climbs_remove [] zero h = h
+  climbs_remove [] (suc r) h = h
+  climbs_remove (p ∷ ps) zero h = h.1
+  climbs_remove (p ∷ ps) (suc r) h = (all_remove (λ k. R p.0 k ≡ Less) ps r h.0, climbs_remove ps r h.1)
+
+  apart_climbs : (ps : List (K × ℕ)) → KeysRise R ps → IsDistinct eq (keys_of ps)
+  unfolding IsDistinct
+  apart_climbs [] h = tt
+  apart_climbs (p ∷ ps) h = (all_from (λ k. eq p.0 k ≡ false) ps (λ i d l. after p.0 (get_or ps i d).0 (all_at (λ k. R p.0 k ≡ Less) ps i d h.0 l)), apart_climbs ps h.1)
+
+  -- ---- the order of slots
+
+  module _ {V : Type 0} (slots : List (ℕ × Slot K V)) (order : List ℕ) (next : ℕ) (held : IsOrdered eq R slots order next) (q : K) where
+    abbrev ps : List (K × ℕ)
+    ps = held.pairs
+
+    -- the slot of a serial stands to a key as the serial's key does
+    order_is_key : (i : ℕ) (d : K × ℕ) → i < length ps → order_at R slots q (get_or ps i d).1 ≡ R (get_or ps i d).0 q
+    order_is_key i d l =
+        let k = (get_or ps i d).0 in
+        let there = stands eq 0 slots next k (get_or ps i d).1 held.kept.rises (sym (held.kept.found k) ∙ own ps i d held.climbs l) in
+        ap (λ r. found_cmp R r q) there.1 ∙ sym (o.total.congr k there.0.0 q (is_equal (R k there.0.0) (sym (o.alike k there.0.0) ∙ there.3)))
+
+    order_read : (i d : ℕ) (e : K × ℕ) → i < length ps → order_at R slots q (get_or order i d) ≡ R (get_or ps i e).0 q
+    order_read i d e l =
+        ap (λ (l : List ℕ). order_at R slots q (get_or l i d)) held.order_is
+        ∙ ap (λ s. order_at R slots q s) (read_serials ps i d e l) ∙ order_is_key i e l
+
+    length_order : length order ≡ length ps
+    length_order = ap length held.order_is ∙ length_serials ps
+
+    pub parted : IsPartitionedBy (λ s. is_lt (order_at R slots q s)) order
+    parted i j d le l e =
+        let x = first ps (omega (arith, l, length_order)) in
+        elim (apart_or_same i j le) [
+          | inl same ↦ subst (λ n. is_lt (order_at R slots q (get_or order n d)) ≡ true) (sym same) e
+          | inr less ↦
+              ap is_lt (order_read i d x (omega (arith, l, less, length_order)))
+              ∙ ap is_lt (o.total.trans (get_or ps i x).0 (get_or ps j x).0 q (climb ps i j x held.climbs less (omega (arith, l, length_order))) (is_less (R (get_or ps j x).0 q) (sym (ap is_lt (order_read j d x (omega (arith, l, length_order)))) ∙ e)))
+        ]
+      where
+        first : (ps : List (K × ℕ)) → 0 < length ps → K × ℕ
+        first [] l = absurd (omega arith)
+        first (p ∷ ps) l = p
+
+        apart_or_same : (i j : ℕ) → i ≤ j → (i ≡ j) ⊎ (i < j)
+        apart_or_same zero zero le = inl refl
+        apart_or_same zero (suc j) le = inr (omega arith)
+        apart_or_same (suc i) zero le = absurd (omega arith)
+        apart_or_same (suc i) (suc j) le = elim (apart_or_same i j (omega arith)) [
+          | inl e ↦ inl (ap (λ n. suc n) e)
+          | inr l ↦ inr (omega (arith, l))
+        ]
+
+    -- at the point where those before the key end
+    module _ (r : ℕ) (bound : r ≤ length order) (point : IsBelow R slots q order r) where
+      low : (j : ℕ) (d : K × ℕ) → j < r → R (get_or ps j d).0 q ≡ Less
+      low j d l = is_less (R (get_or ps j d).0 q) (sym (ap is_lt (order_read j 0 d (omega (arith, l, bound, length_order)))) ∙ point.0 j 0 (omega arith) l)
+
+      not_low : (j : ℕ) (d : K × ℕ) → r ≤ j → j < length ps → is_lt (R (get_or ps j d).0 q) ≡ false
+      not_low j d l b = sym (ap is_lt (order_read j 0 d b)) ∙ point.1 j 0 l (omega (arith, b, length_order))
+
+      lower_apart : (j : ℕ) (d : K × ℕ) → j < r → eq q (get_or ps j d).0 ≡ false
+      lower_apart j d l = before (get_or ps j d).0 q (low j d l)
+
+      there_is : (d : K × ℕ) → r < length order → is_eq (order_at R slots q (get_or order r 0)) ≡ true
+          → (lookup (eq q) ps ≡ Some (get_or ps r d).1) × (remove ps r ≡ remove_entry (eq q) ps)
+      there_is d l e =
+          let b : r < length ps = omega (arith, l, length_order) in
+          found_there q ps r d lower_apart b (o.alike q (get_or ps r d).0 ∙ ap is_eq (tied_back o.total (get_or ps r d).0 q (is_equal (R (get_or ps r d).0 q) (sym (ap is_eq (order_read r 0 d b)) ∙ e))))
+
+      pub serial_there : r < length order → is_eq (order_at R slots q (get_or order r 0)) ≡ true → Some (get_or order r 0) ≡ serial_of eq q slots
+      serial_there l e = by ps refl (omega (arith, l, length_order))
+        where
+          by : (xs : List (K × ℕ)) → ps ≡ xs → 0 < length ps → Some (get_or order r 0) ≡ serial_of eq q slots
+          by [] same b = absurd (omega (arith, ap length same, b))
+          by (x ∷ xs) same b =
+              ap (λ (l : List ℕ). Some (get_or l r 0)) held.order_is ∙ ap (λ s. Some s) (read_serials ps r 0 x (omega (arith, l, length_order)))
+              ∙ sym (there_is x l e).0 ∙ held.kept.found q
+
+      pub serial_nowhere : (r < length order → is_eq (order_at R slots q (get_or order r 0)) ≡ false) → None ≡ serial_of eq q slots
+      serial_nowhere other = sym (sym (held.kept.found q) ∙ found_nowhere q ps (λ j d l. elim (three j) [
+        | inl less ↦ lower_apart j d less
+        | inr more ↦ above j d l more
+      ]))
+        where
+          three : (j : ℕ) → (j < r) ⊎ (r ≤ j)
+          three j = at r j
+            where
+              at : (r j : ℕ) → (j < r) ⊎ (r ≤ j)
+              at zero j = inr (omega arith)
+              at (suc r) zero = inl (omega arith)
+              at (suc r) (suc j) = elim (at r j) [
+                | inl l ↦ inl (omega (arith, l))
+                | inr l ↦ inr (omega (arith, l))
+              ]
+
+          first_above : (d : K × ℕ) → r < length ps → R q (get_or ps r d).0 ≡ Less
+          first_above d l =
+              let b : r < length order = omega (arith, l, length_order) in
+              turned_back (get_or ps r d).0 q (is_greater (R (get_or ps r d).0 q) (not_low r d (omega arith) l) (sym (ap is_eq (order_read r 0 d l)) ∙ other b))
+
+          above : (j : ℕ) (d : K × ℕ) → j < length ps → r ≤ j → eq q (get_or ps j d).0 ≡ false
+          above j d l m = elim (same_or_more j m) [
+            | inl e ↦ subst (λ n. eq q (get_or ps n d).0 ≡ false) e (after q (get_or ps r d).0 (first_above d (omega (arith, l, e))))
+            | inr more ↦ after q (get_or ps j d).0 (o.total.trans q (get_or ps r d).0 (get_or ps j d).0 (first_above d (omega (arith, l, more))) (climb ps r j d held.climbs more l))
+          ]
+            where
+              same_or_more : (j : ℕ) → r ≤ j → (r ≡ j) ⊎ (r < j)
+              same_or_more j m = at r j m
+                where
+                  at : (r j : ℕ) → r ≤ j → (r ≡ j) ⊎ (r < j)
+                  at zero zero m = inl refl
+                  at zero (suc j) m = inr (omega arith)
+                  at (suc r) zero m = absurd (omega arith)
+                  at (suc r) (suc j) m = elim (at r j (omega arith)) [
+                    | inl e ↦ inl (ap (λ n. suc n) e)
+                    | inr l ↦ inr (omega (arith, l))
+                  ]
+
+-- ---- what a kept map keeps
+
+module _ {K V : Type 0} {eq : K → K → Bool} {R : K → K → Ordering} (o : IsOrderOf eq R) where
+  pub empty_ordered : (slots : List (ℕ × Slot K V)) (order : List ℕ) → slots ≡ [] → order ≡ [] → IsOrdered eq R slots order 0
+  unfolding IsDistinct
+  empty_ordered slots order e f =
+      record {
+        pairs = [];
+        order_is = f;
+        kept = subst (λ (l : List (ℕ × Slot K V)). IsKept eq l [] 0) (sym e) (record { found = λ k. refl; rises = omega arith; apart = tt });
+        climbs = tt;
+      }
+
+  module _ (slots : List (ℕ × Slot K V)) (order : List ℕ) (next : ℕ) (held : IsOrdered eq R slots order next) (k : K) where
+    pub ordered_value : (s : ℕ) (r : Slot K V) → Some s ≡ serial_of eq k slots → Some r ≡ lookup (nat_eq s) slots → value_of r ≡ lookup (eq k) (entries_of slots)
+    ordered_value s r i at = value_at eq o.laws slots held.pairs next held.kept k s r (i ∙ sym (held.kept.found k)) at
+
+    pub ordered_gap : (s : ℕ) → Some s ≡ serial_of eq k slots → None ≡ lookup (nat_eq s) slots → ⊥
+    ordered_gap s i at = gap_at eq o.laws slots held.pairs next held.kept k s (i ∙ sym (held.kept.found k)) at
+
+    pub ordered_no_value : None ≡ serial_of eq k slots → (None ≡ lookup (eq k) (entries_of slots)) × (entries_of slots ≡ remove_entry (eq k) (entries_of slots))
+    ordered_no_value i =
+        (no_value_at eq o.laws slots held.pairs next held.kept k (i ∙ sym (held.kept.found k)), none_cut_at eq o.laws slots held.pairs next held.kept k (i ∙ sym (held.kept.found k)))
+
+    pub ordered_lent : {P : Type 0} (s : ℕ) (r : Slot K V) (m : Option (MutBor V)) → Some s ≡ serial_of eq k slots → Some r ≡ lookup (nat_eq s) slots → option_copied_mut m ≡ value_of r → OnSome m P → P
+    ordered_lent s r m i at e p = lent_at eq o.laws slots held.pairs next held.kept k s r m (i ∙ sym (held.kept.found k)) at e p
+
+    pub ordered_set : (w : V) (s : ℕ) (r x : Slot K V) → Some s ≡ serial_of eq k slots → Some r ≡ lookup (nat_eq s) slots → x ≡ with_value r w
+        → IsOrdered eq R (set_value (nat_eq s) slots x) order next × (entries_of (set_value (nat_eq s) slots x) ≡ set_value (eq k) (entries_of slots) w)
+    ordered_set w s r x i at set =
+        let kept = set_kept eq o.laws slots held.pairs next held.kept k w s r x (i ∙ sym (held.kept.found k)) at set in
+        (record { pairs = held.pairs; order_is = held.order_is; kept = kept.0; climbs = held.climbs }, kept.1)
+
+    module _ (r : ℕ) (bound : r ≤ length order) (point : IsBelow R slots k order r) where
+      pub ordered_pushed : (v : V) → lookup (eq k) (entries_of slots) ≡ None
+          → IsOrdered eq R (insert_entry nat_eq slots next (Entry k v)) (insert order r next) (next + 1) × (entries_of (insert_entry nat_eq slots next (Entry k v)) ≡ insert_entry eq (entries_of slots) k v)
+      ordered_pushed v none =
+          let laws = o.laws in
+          let ps = held.pairs in
+          let free : lookup (eq k) ps ≡ None = held.kept.found k ∙ serial_free eq slots k none in
+          let passes = none_passes_from_lookup (eq k) ps free in
+          let kept = last_kept eq laws slots ps next held.kept k v (insert ps r (k, next)) none (λ q. lookup-insert laws k next q ps r passes) in (
+            record {
+              pairs = insert ps r (k, next);
+              order_is = ap (λ l. insert l r next) held.order_is ∙ sym (serials_insert ps r (k, next));
+              kept = kept.0;
+              climbs = climbs_insert o k next ps r held.climbs (omega (arith, bound, length_order o slots order next held k)) (low o slots order next held k r bound point) (λ j d l b.
+                  turned_back o (get_or ps j d).0 k (is_greater (R (get_or ps j d).0 k) (not_low o slots order next held k r bound point j d l b) (sym (o.alike (get_or ps j d).0 k) ∙ laws.symm (get_or ps j d).0 k ∙ passes_at ps passes j d b)));
+            },
+            kept.1,
+          )
+        where
+          passes_at : (ps : List (K × ℕ)) → AllByRecursion (λ (e : K × ℕ). eq k e.0 ≡ false) ps → (j : ℕ) (d : K × ℕ) → j < length ps → eq k (get_or ps j d).0 ≡ false
+          passes_at [] h j d b = absurd (omega arith)
+          passes_at (p ∷ ps) h zero d b = h.0
+          passes_at (p ∷ ps) h (suc j) d b = passes_at ps h.1 j d (omega arith)
+
+      pub ordered_cut : (s : ℕ) → Some s ≡ serial_of eq k slots → r < length order
+          → IsOrdered eq R (set_value (nat_eq s) slots Hole) (remove order r) next × (entries_of (set_value (nat_eq s) slots Hole) ≡ remove_entry (eq k) (entries_of slots))
+      ordered_cut s i l =
+          let laws = o.laws in
+          let ps = held.pairs in
+          let there = there_is o slots order next held k r bound point (first ps (omega (arith, l, length_order o slots order next held k))) l (here (is_eq (order_at R slots k (get_or order r 0))) refl) in
+          let kept = cut_kept eq laws slots ps next held.kept k s (remove ps r) (i ∙ sym (held.kept.found k)) (λ q. ap (λ l. lookup (eq q) l) there.1 ∙ lookup-remove_entry laws (eq k) (λ x y e. laws.congr k x y e) q ps (apart_climbs o ps held.climbs)) in (
+            record {
+              pairs = remove ps r;
+              order_is = ap (λ l. remove l r) held.order_is ∙ sym (serials_remove ps r);
+              kept = kept.0;
+              climbs = climbs_remove o ps r held.climbs;
+            },
+            kept.1,
+          )
+        where
+          first : (ps : List (K × ℕ)) → 0 < length ps → K × ℕ
+          first [] l = absurd (omega arith)
+          first (p ∷ ps) l = p
+
+          here : (b : Bool) → is_eq (order_at R slots k (get_or order r 0)) ≡ b → is_eq (order_at R slots k (get_or order r 0)) ≡ true
+          here true e = e
+          here false e = absurd (some_not_none (i ∙ sym (serial_nowhere o slots order next held k r bound point (λ l. e))))
+
+  pub ordered_squeezed : (slots : List (ℕ × Slot K V)) (order : List ℕ) (next : ℕ) → IsOrdered eq R slots order next → IsOrdered eq R (filter (λ (r : ℕ × Slot K V). is_entry r.1) slots) order next
+  ordered_squeezed slots order next held =
+      record {
+        pairs = held.pairs;
+        order_is = held.order_is;
+        kept = squeezed_kept eq slots held.pairs next held.kept;
+        climbs = held.climbs;
+      }

@@ -1,0 +1,81 @@
+use Rattle.std.proofs.Common.{◌∙◌, ap, refl, sym, subst, nat_eq, vec_len, ◌-◌}
+use Rattle.std.specs.Map.{lookup, set_value}
+use Rattle.std.specs.Vec.{vec_capacity}
+use Rattle.ctl_ordered.specs.Slots.{entries_of}
+use Rattle.ctl_ordered.specs.Ordered.{room_of, IsOrdered}
+use Rattle.ctl_ordered.proofs.SlotLemmas.{set_same, to_lent}
+use Rattle.ctl_ordered.proofs.OrderLemmas.{key_order, ordered_set, ordered_lent, ordered_value, ordered_gap, ordered_no_value}
+use Rattle.ctl_ordered.proofs.ordered.Ordered.get_mut.Goals as goal
+
+pub invariant_of-self-lent : goal.invariant_of-self-lent
+invariant_of-self-lent g c r =
+    let o = c.self.inside in
+    let order = key_order g.met.K.Eq.laws g.met.K.Ord.total g.met.K.Ord.matches_eq in
+    let k = g.Q.Wanted.wanted c.args.wanted in
+    let s = c.in_default-Some.serial in
+    let slot = c.in-Some.slot.now in
+    let i = sym c.in_default-Some.is-1 ∙ c.look_up.ensures.serial in
+    let at = c.in-Some.ensures.value in
+    let here = c.value_mut.follows in
+    let there = c.get_mut.follows in (
+      (λ w.
+          let lent = ordered_lent order o.slots.entries o.order.items o.next c.self.invariant k s slot c.value_mut.result i at c.value_mut.ensures.value (here.holds w) in
+          let set = ordered_set order o.slots.entries o.order.items o.next c.self.invariant k w s slot (here.lender w) i at lent in
+          subst (λ slots. IsOrdered g.K.PartialEq.eq g.K.Ord.cmp slots o.order.items o.next) (sym (there.holds (here.lender w)).0) set.0),
+      let same = (there.holds here.lender-at-none).0 ∙ ap (λ x. set_value (nat_eq s) o.slots.entries x) here.holds-at-none ∙ set_same (nat_eq s) o.slots.entries slot at in
+          subst (λ slots. IsOrdered g.K.PartialEq.eq g.K.Ord.cmp slots o.order.items o.next) (sym same) c.self.invariant,
+    )
+
+pub returns-in-Some : goal.returns-in-Some
+returns-in-Some g c =
+    let o = c.self.inside in
+    let order = key_order g.met.K.Eq.laws g.met.K.Ord.total g.met.K.Ord.matches_eq in
+    let eq = g.K.PartialEq.eq in
+    let k = g.Q.Wanted.wanted c.args.wanted in
+    let s = c.in_default-Some.serial in
+    let slot = c.in-Some.slot.now in
+    let i = sym c.in_default-Some.is-1 ∙ c.look_up.ensures.serial in
+    let at = c.in-Some.ensures.value in
+    let here = c.value_mut.follows in
+    let there = c.get_mut.follows in
+    let free = vec_capacity o.order - vec_len o.order in (
+      (
+        refl,
+        (λ w.
+            let wrote = there.holds (here.lender w) in
+            let lent = ordered_lent order o.slots.entries o.order.items o.next c.self.invariant k s slot c.value_mut.result i at c.value_mut.ensures.value (here.holds w) in
+            let set = ordered_set order o.slots.entries o.order.items o.next c.self.invariant k w s slot (here.lender w) i at lent in
+            to_lent c.value_mut.result (
+              ap entries_of wrote.0 ∙ set.1 ∙ ap (λ v. set_value (eq k) v.0 w) c.self.view_is,
+              ap (λ n. room_of n free o.next) wrote.6 ∙ ap (λ v. v.1) c.self.view_is,
+            )),
+        let wrote = there.holds here.lender-at-none in
+            let same = wrote.0 ∙ ap (λ x. set_value (nat_eq s) o.slots.entries x) here.holds-at-none ∙ set_same (nat_eq s) o.slots.entries slot at in
+            (λ j. (entries_of (same j), room_of (wrote.6 j) free o.next)) ∙ c.self.view_is,
+      ),
+      record {
+        writes_back = tt;
+        value = c.value_mut.ensures.value ∙ ordered_value order o.slots.entries o.order.items o.next c.self.invariant k s slot i at ∙ ap (λ v. lookup (eq k) v.0) c.self.view_is;
+      },
+    )
+
+pub returns-in-None : goal.returns-in-None
+returns-in-None g c =
+    let o = c.self.inside in
+    let order = key_order g.met.K.Eq.laws g.met.K.Ord.total g.met.K.Ord.matches_eq in
+    let i = sym c.in_default-Some.is-1 ∙ c.look_up.ensures.serial in
+    absurd (ordered_gap order o.slots.entries o.order.items o.next c.self.invariant (g.Q.Wanted.wanted c.args.wanted) c.in_default-Some.serial i c.in-None.ensures.value)
+
+pub returns-in_default-None : goal.returns-in_default-None
+returns-in_default-None g c =
+    let o = c.self.inside in
+    let order = key_order g.met.K.Eq.laws g.met.K.Ord.total g.met.K.Ord.matches_eq in
+    let k = g.Q.Wanted.wanted c.args.wanted in (
+      (refl, (λ w. tt), c.self.view_is),
+      record {
+        writes_back = tt;
+        value =
+            (ordered_no_value order o.slots.entries o.order.items o.next c.self.invariant k (sym c.in_default-None.is-1 ∙ c.look_up.ensures.serial)).0
+            ∙ ap (λ v. lookup (g.K.PartialEq.eq k) v.0) c.self.view_is;
+      },
+    )

@@ -1,0 +1,4 @@
+pub mod Slots
+pub mod Ordered
+pub mod Lends
+pub mod SlotLends

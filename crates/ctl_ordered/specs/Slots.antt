@@ -1,0 +1,47 @@
+-- Slots under rising serials, some of them holes.
+use Rattle.std.specs.Prelude.{◌≡◌, ℕ, suc, ◌≤◌, Bool, true, false, List, [], ◌∷◌, ◌++◌, Option, None, Some, if◌then◌else◌}
+use Rattle.ctl_ordered.specs.declared.slot.Slot.{Slot}
+use Rattle.ctl_ordered.specs.declared.slot.Slot.TheVariants.{Entry, Hole}
+
+-- the serials rise from n on, and stay below m
+abbrev pub Rises : {X : Type 0} → ℕ → List (ℕ × X) → ℕ → Type 0
+Rises n [] m = n ≤ m
+Rises n (slot ∷ slots) m = (n ≤ slot.0) × Rises (suc slot.0) slots m
+
+module _ {K V : Type 0} where
+  abbrev pub entry_of : Slot K V → Option (K × V)
+  entry_of (Entry k v) = Some (k, v)
+  entry_of Hole = None
+
+  abbrev pub value_of : Slot K V → Option V
+  value_of (Entry k v) = Some v
+  value_of Hole = None
+
+  abbrev pub is_entry : Slot K V → Bool
+  is_entry (Entry k v) = true
+  is_entry Hole = false
+
+  -- with another value
+  abbrev pub with_value : Slot K V → V → Slot K V
+  with_value (Entry k v) w = Entry k w
+  with_value Hole w = Hole
+
+  -- what stands in a slot before other entries
+  abbrev pub and_entry : Slot K V → List (K × V) → List (K × V)
+  and_entry (Entry k v) es = (k, v) ∷ es
+  and_entry Hole es = es
+
+  -- the entries in slots, in order
+  abbrev pub entries_of : List (ℕ × Slot K V) → List (K × V)
+  entries_of [] = []
+  entries_of (slot ∷ slots) = and_entry slot.1 (entries_of slots)
+
+  module _ (eq : K → K → Bool) where
+    abbrev pub has_key : K → Slot K V → Bool
+    has_key k (Entry a v) = eq k a
+    has_key k Hole = false
+
+    -- the serial of the first slot with the key
+    abbrev pub serial_of : K → List (ℕ × Slot K V) → Option ℕ
+    serial_of k [] = None
+    serial_of k (slot ∷ slots) = if has_key k slot.1 then Some slot.0 else serial_of k slots

@@ -1,0 +1,177 @@
+//! Maps in the order of insertion.
+
+ghost use Rattle.std.specs.Prelude.{◌≡◌, ◌<◌, [], None, OnOk, option_copied, nat_eq, filter};
+ghost use Rattle.std.specs.Borrow.{sem};
+ghost use Rattle.std.specs.Option.{option_copied_mut};
+ghost use Rattle.std.specs.List.{IsDistinct};
+ghost use Rattle.std.specs.Map.{keys_of, lookup, set_value};
+ghost use Rattle.indexmap.specs.IndexMap.{insert_entry, shift_remove_entry};
+ghost use Rattle.ctl_ordered.specs.declared.slot.Slot.TheVariants.{Hole};
+ghost use Rattle.ctl_ordered.specs.Slots.{is_entry};
+
+use crate::entries::Entries;
+use crate::search::{end_below, look_up};
+use crate::slot::Slot;
+use crate::wanted::Wanted;
+use indexmap::IndexMap;
+use std::alloc::{AllocError, Global};
+use std::marker::Model;
+
+/// Values by key, in the order in which the keys were first set. No key stands twice.
+///
+/// A key is found in the log of their number. What comes or goes moves the serials of the keys behind it in their order,
+/// eight bytes each, and no entry. An entry that goes leaves a hole, and the holes go once they are more than the entries.
+/// No hash of a key is taken, so that no choice of keys makes a search long.
+///
+/// A contract sees the entries in order, and the room: how many more go in with no memory.
+#[derive(Drop)]
+pub struct Ordered<K: Ord, V> {
+    slots: IndexMap<u64, Slot<K, V>>,
+    // The serials of the entries in the order of their keys.
+    order: Vec<u64>,
+    next: u64,
+}
+
+impl<K: Ord, V> Model for Ordered<K, V> {
+    ghost use Rattle.std.specs.Prelude.{List, ℕ, ◌-◌, vec_len};
+    ghost use Rattle.std.specs.Vec.{vec_capacity};
+    ghost use Rattle.indexmap.specs.IndexMap.{spare};
+    ghost use Rattle.ctl_ordered.specs.Slots.{entries_of};
+    ghost use Rattle.ctl_ordered.specs.Ordered.{room_of, IsOrdered};
+
+    ghost Value = { List (K × V) × ℕ };
+
+    ghost view = { λ o. (entries_of o.slots.entries, room_of (spare o.slots) (vec_capacity o.order - vec_len o.order) o.next) };
+
+    ghost invariant = { λ o. IsOrdered K.eq K.cmp o.slots.entries o.order.items o.next };
+}
+
+impl<K: Ord + Drop, V: Drop> Ordered<K, V> {
+    ghost use Rattle.ctl_ordered.specs.Lends.{LendsValue};
+
+    /// No entries. It takes no memory.
+    pub fn new(alloc: Global) -> Self
+        ensures { result.0 ≡ [] }
+    {
+        Ordered {
+            slots: IndexMap::new(alloc),
+            order: Vec::new(alloc),
+            next: 0,
+        }
+    }
+
+    /// Makes room for one entry more. After 2⁶⁴ - 1 entries were put, it answers as for want of memory.
+    pub fn reserve_one(&mut self) -> Result<(), AllocError>
+        ensures entries { self.new.0 ≡ self.old.0 }
+        ensures ok { OnOk result (0 < self.new.1) }
+    {
+        if self.next == u64::MAX {
+            return Err(AllocError);
+        }
+        self.slots.reserve(1)?;
+        self.order.reserve(1)
+    }
+
+    /// The value of a key.
+    pub fn get<Q: Wanted<K>>(&self, wanted: Q) -> Option<&V>
+        ensures { option_copied result ≡ lookup (K.eq (Q.wanted wanted)) self.now.0 }
+    {
+        match look_up(&self.slots, &self.order, wanted) {
+            (_, Some(serial)) => match self.slots.get(&serial) {
+                Some(slot) => slot.value(),
+                None => None,
+            },
+            (_, None) => None,
+        }
+    }
+
+    /// The value of a key, to be changed in its place.
+    pub fn get_mut<Q: Wanted<K>>(&mut self, wanted: Q) -> Option<&mut V>
+        ensures* writes_back { sem 𝓛 (LendsValue K.row V.row K.Ord self.entry (K.eq (Q.wanted wanted)) result) }
+        ensures value { option_copied_mut result ≡ lookup (K.eq (Q.wanted wanted)) self.old.0 }
+    {
+        match look_up(&self.slots, &self.order, wanted) {
+            (_, Some(serial)) => match self.slots.get_mut(&serial) {
+                Some(slot) => slot.value_mut(),
+                None => None,
+            },
+            (_, None) => None,
+        }
+    }
+
+    /// The entries, in order.
+    pub fn iter(&self) -> Entries<'_, K, V>
+        ensures entries { result ≡ self.now.0 }
+        ensures each_once { IsDistinct K.eq (keys_of self.now.0) }
+    {
+        Entries::new(self.slots.as_slice())
+    }
+
+    // A new entry goes last.
+    fn push(&mut self, key: K, value: V)
+        requires room { 0 < self.old.1 }
+        requires new { lookup (K.eq key) self.old.0 ≡ None }
+        ensures { self.new.0 ≡ insert_entry K.eq self.old.0 key value }
+    {
+        let serial = self.next;
+        let at = end_below(&self.slots, &self.order, &key);
+        match self.order.insert(at, serial) {
+            Ok(_) => {}
+            Err(_) => unreachable!(),
+        }
+        match self.slots.insert(serial, Slot::Entry(key, value)) {
+            Ok(_) => {}
+            Err(_) => unreachable!(),
+        }
+        self.next += 1;
+    }
+
+    /// Sets a key's value, in the room that [`reserve_one`](Ordered::reserve_one) made. A key that is there keeps its place,
+    /// and a new one goes last.
+    pub fn put(&mut self, key: K, value: V)
+        requires { 0 < self.old.1 }
+        ensures { self.new.0 ≡ insert_entry K.eq self.old.0 key value }
+    {
+        match self.get_mut(&key) {
+            Some(place) => {
+                *place = value;
+            }
+            None => self.push(key, value),
+        }
+    }
+
+    /// Takes an entry out, if it is there. The others keep their order.
+    pub fn remove<Q: Wanted<K>>(&mut self, wanted: Q)
+        ensures { self.new.0 ≡ shift_remove_entry (K.eq (Q.wanted wanted)) self.old.0 }
+    {
+        match look_up(&self.slots, &self.order, wanted) {
+            (at, Some(serial)) => {
+                self.order.remove(at);
+                empty_slot(&mut self.slots, serial);
+                if self.slots.len() / 2 > self.order.len() {
+                    drop_holes(&mut self.slots);
+                }
+            }
+            (_, None) => {}
+        }
+    }
+}
+
+// The slot of a serial is a hole from now on.
+fn empty_slot<K: Drop, V: Drop>(slots: &mut IndexMap<u64, Slot<K, V>>, serial: u64)
+    ensures { slots.new.entries ≡ set_value (nat_eq serial) slots.old.entries Hole }
+{
+    match slots.get_mut(&serial) {
+        Some(slot) => {
+            *slot = Slot::Hole;
+        }
+        None => {}
+    }
+}
+
+// The holes go.
+fn drop_holes<K: Drop, V: Drop>(slots: &mut IndexMap<u64, Slot<K, V>>)
+    ensures { slots.new.entries ≡ filter (λ slot. is_entry slot.1) slots.old.entries }
+{
+    slots.retain(|_, slot| slot.is_entry());
+}
