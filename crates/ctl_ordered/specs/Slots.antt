@@ -1,5 +1,5 @@
 -- Slots under rising serials, some of them holes.
-use Rattle.std.specs.Prelude.{◌≡◌, ℕ, suc, ◌≤◌, Bool, true, false, List, [], ◌∷◌, ◌++◌, Option, None, Some, if◌then◌else◌}
+use Rattle.std.specs.Prelude.{ℕ, suc, ◌≤◌, Bool, true, false, List, [], ◌∷◌, Option, None, Some, if◌then◌else◌}
 use Rattle.ctl_ordered.specs.declared.slot.Slot.{Slot}
 use Rattle.ctl_ordered.specs.declared.slot.Slot.TheVariants.{Entry, Hole}
 

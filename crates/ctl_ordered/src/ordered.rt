@@ -142,7 +142,9 @@ impl<K: Ord + Drop, V: Drop> Ordered<K, V> {
 
     /// Takes an entry out, if it is there. The others keep their order.
     pub fn remove<Q: Wanted<K>>(&mut self, wanted: Q)
-        ensures { self.new.0 ≡ shift_remove_entry (K.eq (Q.wanted wanted)) self.old.0 }
+        ensures entries { self.new.0 ≡ shift_remove_entry (K.eq (Q.wanted wanted)) self.old.0 }
+        // no key stood twice, so that none like it is left
+        ensures each_once { IsDistinct K.eq (keys_of self.old.0) }
     {
         match look_up(&self.slots, &self.order, wanted) {
             (at, Some(serial)) => {

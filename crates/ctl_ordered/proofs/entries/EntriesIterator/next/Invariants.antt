@@ -1,4 +1,4 @@
-use Rattle.std.proofs.Common.{◌≡◌, ℕ, length}
+use Rattle.std.proofs.Common.{◌≡◌, length}
 use Rattle.ctl_ordered.specs.Slots.{entries_of}
 use Rattle.ctl_ordered.proofs.entries.EntriesIterator.next.Given as goal
 

@@ -1,7 +1,7 @@
-use Rattle.std.proofs.Common.{◌≡◌, ◌∙◌, ◌<◌, ℕ, List, Option, length, ap, sym, subst}
+use Rattle.std.proofs.Common.{◌≡◌, ◌∙◌, ◌<◌, ℕ, Option, length, ap, sym, subst}
 use Rattle.std.specs.Prelude.{IfSome}
-use Rattle.std.specs.List.{remove}
-use Rattle.std.specs.Map.{remove_entry}
+use Rattle.std.specs.List.{remove, IsDistinct}
+use Rattle.std.specs.Map.{keys_of, remove_entry}
 use Rattle.ctl_ordered.specs.Slots.{entries_of}
 use Rattle.ctl_ordered.specs.Ordered.{IsOrdered}
 use Rattle.ctl_ordered.proofs.SlotLemmas.{entries_squeezed}
@@ -32,7 +32,10 @@ returns-else-len g c =
     let held = subst (λ l. IsOrdered eq g.K.Ord.cmp o.slots.entries l o.next) (sym c.deref.ensures.value) c.self.invariant in
     let within = subst (λ (s : Option ℕ). IfSome s (λ _. at < length c.deref.result.now)) found.is-1 c.look_up.ensures.within in
     let cut = ordered_cut (key_order g.met.K.Eq.laws g.met.K.Ord.total g.met.K.Ord.matches_eq) o.slots.entries c.deref.result.now o.next held q at c.look_up.ensures.bound c.look_up.ensures.point found.serial (sym found.is-1 ∙ c.look_up.ensures.serial) within in
-    ap entries_of c.empty_slot.ensures ∙ cut.1 ∙ ap (λ v. remove_entry (eq q) v.0) c.self.view_is
+    record {
+      entries = ap entries_of c.empty_slot.ensures ∙ cut.1 ∙ ap (λ v. remove_entry (eq q) v.0) c.self.view_is;
+      each_once = subst (λ es. IsDistinct eq (keys_of es)) (ap (λ v. v.0) c.self.view_is) c.self.invariant.kept.apart;
+    }
 
 pub invariant_of-self : goal.invariant_of-self
 invariant_of-self g c =
@@ -61,7 +64,10 @@ returns-then-len g c =
     let held = subst (λ l. IsOrdered eq g.K.Ord.cmp o.slots.entries l o.next) (sym c.deref.ensures.value) c.self.invariant in
     let within = subst (λ (s : Option ℕ). IfSome s (λ _. at < length c.deref.result.now)) found.is-1 c.look_up.ensures.within in
     let cut = ordered_cut (key_order g.met.K.Eq.laws g.met.K.Ord.total g.met.K.Ord.matches_eq) o.slots.entries c.deref.result.now o.next held q at c.look_up.ensures.bound c.look_up.ensures.point found.serial (sym found.is-1 ∙ c.look_up.ensures.serial) within in
-    ap entries_of c.drop_holes.ensures ∙ entries_squeezed c.empty_slot.new.slots.entries ∙ ap entries_of c.empty_slot.ensures ∙ cut.1 ∙ ap (λ v. remove_entry (eq q) v.0) c.self.view_is
+    record {
+      entries = ap entries_of c.drop_holes.ensures ∙ entries_squeezed c.empty_slot.new.slots.entries ∙ ap entries_of c.empty_slot.ensures ∙ cut.1 ∙ ap (λ v. remove_entry (eq q) v.0) c.self.view_is;
+      each_once = subst (λ es. IsDistinct eq (keys_of es)) (ap (λ v. v.0) c.self.view_is) c.self.invariant.kept.apart;
+    }
 
 pub returns-in_default-None : goal.returns-in_default-None
 returns-in_default-None g c =
@@ -70,4 +76,7 @@ returns-in_default-None g c =
     let q = g.Q.Wanted.wanted c.args.wanted in
     let order = key_order g.met.K.Eq.laws g.met.K.Ord.total g.met.K.Ord.matches_eq in
     let none = (ordered_no_value order o.slots.entries o.order.items o.next c.self.invariant q (sym c.in_default-None.is-1 ∙ c.look_up.ensures.serial)).1 in
-    subst (λ es. es ≡ remove_entry (eq q) es) (ap (λ v. v.0) c.self.view_is) none
+    record {
+      entries = subst (λ es. es ≡ remove_entry (eq q) es) (ap (λ v. v.0) c.self.view_is) none;
+      each_once = subst (λ es. IsDistinct eq (keys_of es)) (ap (λ v. v.0) c.self.view_is) c.self.invariant.kept.apart;
+    }
