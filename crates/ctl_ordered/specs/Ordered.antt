@@ -26,7 +26,7 @@ module _ {K V : Type 0} (R : K → K → Ordering) where
 
   -- before a place in the order the keys are below a key, and from it on none is
   abbrev pub IsBelow : List (ℕ × Slot K V) → K → List ℕ → ℕ → Type 0
-  IsBelow slots q order at = IsPartitionPoint (λ serial. is_lt (order_at slots q serial) ≡ true) (λ serial. is_lt (order_at slots q serial) ≡ false) order at
+  IsBelow slots q order at = IsPartitionPoint (λ s. is_lt (order_at slots q s) ≡ true) (λ s. is_lt (order_at slots q s) ≡ false) order at
 
 module _ {K : Type 0} (R : K → K → Ordering) where
   -- the keys rise
