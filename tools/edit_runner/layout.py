@@ -130,6 +130,9 @@ def block_names(block):
         rest = rest[end:].strip()
     trait, target = split_outside(split_outside(rest, " where ")[0], " for ")
     kind, arguments = type_names(target or trait)
+    # The prover calls a reference to a parameter `Ref`.
+    if target.startswith("&") and kind in parameters:
+        kind = "Ref"
     arguments = [it for it in arguments if it not in parameters]
     base = first = kind
     if target:
