@@ -1,6 +1,7 @@
 -- What the quick pass accepts. Not for callers.
-use Rattle.std.specs.Prelude.{◌≡◌, ◌+◌, ◌-◌, ◌<◌, ◌≤◌, ◌^◌, ℕ, List, ◌++◌, length, take, false}
+use Rattle.std.specs.Prelude.{◌≡◌, ◌+◌, ◌-◌, ◌<◌, ◌≤◌, ◌^◌, ℕ, List, ◌∷◌, ◌++◌, length, take, false}
 use Rattle.std.specs.List.{All}
+use Rattle.ctl_relation.specs.Bytes.{newline}
 use Rattle.ctl_stanza.specs.declared.fields.Field.{Field}
 use Rattle.ctl_stanza.specs.declared.quick.Accepted.{Accepted}
 use Rattle.ctl_stanza.specs.declared.quick.LineHere.{LineHere}
@@ -8,7 +9,7 @@ use Rattle.ctl_stanza.specs.declared.line_kind.LineKind.TheVariants as kinds
 use Rattle.ctl_stanza.specs.Lines.{lines_of}
 use Rattle.ctl_stanza.specs.LineKind.{kind_of}
 use Rattle.ctl_stanza.specs.Fields.{value_of, continued, field_at}
-use Rattle.ctl_stanza.specs.HeldFields.{IsPlainAt, IsReadFrom, AreBelow, shown_field, shown_fields}
+use Rattle.ctl_stanza.specs.HeldFields.{IsPlainAt, IsReadFrom, AreBelow, StandsAt, shown_field, shown_fields}
 use Rattle.ctl_stanza.specs.Text.{IsFirstPiece, is_gap}
 
 -- a field stands before an end
@@ -30,12 +31,25 @@ pub record IsPlainField (bytes : List ℕ) (here : LineHere) (n : ℕ) (field : 
   pub up_to : IsUpTo (end_behind here) field
   pub plain : IsPlainAt (kinds.Field n) here.line.now (lines_of here.behind.now)
 
+-- bytes in which a line stands at its place, with what is behind it
+abbrev pub HasLine : LineHere → List ℕ → Type 0
+HasLine here bytes = StandsAt bytes here.at (here.line.now ++ newline ∷ here.behind.now)
+
+-- the field that a line begins, in whichever bytes it stands
+abbrev pub IsPlainAnywhere : LineHere → ℕ → Field → Type 0
+IsPlainAnywhere here n field = (bytes : List ℕ) → HasLine here bytes → IsPlainField bytes here n field
+
 -- what a line adds to fields
 pub record AddsPlain (bytes : List ℕ) (here : LineHere) (old new : List Field) : Type 0 where
-  pub fields : shown_fields bytes new ≡ shown_fields bytes old ++ field_at here.index (kind_of here.line.now) here.line.now (lines_of here.behind.now)
+  pub fields : shown_fields bytes new
+      ≡ shown_fields bytes old ++ field_at here.index (kind_of here.line.now) here.line.now (lines_of here.behind.now)
   pub up_to : AreUpTo (end_behind here) old → AreUpTo (end_behind here) new
   pub below : AreBelow (here.index + 1) old → AreBelow (here.index + 1) new
   pub plain : IsPlainAt (kind_of here.line.now) here.line.now (lines_of here.behind.now)
+
+-- the same in whichever bytes the line stands
+abbrev pub AddsAnywhere : LineHere → List Field → List Field → Type 0
+AddsAnywhere here old new = (bytes : List ℕ) → HasLine here bytes → AddsPlain bytes here old new
 
 -- so many lines were cut off the front of a text
 pub record IsCutOff (text left : List ℕ) (count : ℕ) (found : Accepted) : Type 0 where

@@ -1,13 +1,12 @@
 //! A quick pass over the lines of a stanza, which finds its fields, or gives up.
 
-ghost use Rattle.std.specs.Prelude.{◌≡◌, ◌+◌, ◌<◌, ◌≤◌, ◌^◌, ◌++◌, ◌∷◌, ℕ, List, true, length, IfOk, IfSome};
-ghost use Rattle.ctl_relation.specs.Bytes.{newline};
+ghost use Rattle.std.specs.Prelude.{◌≡◌, ◌+◌, ◌<◌, ◌≤◌, ◌^◌, true, length, IfOk, IfSome};
 ghost use Rattle.ctl_stanza.specs.Lines.{lines_of};
 ghost use Rattle.ctl_stanza.specs.LineKind.{kind_of, IfName};
 ghost use Rattle.ctl_stanza.specs.Fields.{continued};
-ghost use Rattle.ctl_stanza.specs.HeldFields.{IsText, StandsAt};
+ghost use Rattle.ctl_stanza.specs.HeldFields.{IsText};
 ghost use Rattle.ctl_stanza.specs.HeldNames.{HasSeenNone};
-ghost use Rattle.ctl_stanza.specs.Quick.{IsPlainField, AddsPlain, IsCutOff, IsAccepted};
+ghost use Rattle.ctl_stanza.specs.Quick.{IsPlainAnywhere, AddsAnywhere, IsCutOff, IsAccepted};
 
 use crate::fields::{Field, Span, continues, value_span};
 use crate::line_faults::{LinesSeen, line_cause};
@@ -78,8 +77,7 @@ fn plain_field(here: &LineHere, n: usize) -> Option<Field>
     requires text { IsText here.now.behind.now }
     requires index { here.now.index ≤ here.now.at }
     requires room { here.now.at + length here.now.line.now + length here.now.behind.now < 2 ^ 64 }
-    ensures { IfSome result (λ field. (bytes : List ℕ) → StandsAt bytes here.now.at (here.now.line.now ++ newline ∷ here.now.behind.now)
-        → IsPlainField bytes here.now n field) }
+    ensures { IfSome result (IsPlainAnywhere here.now n) }
 {
     let value = value_span(here.line, n);
     let Some(more) = continued_within_limit(here.behind) else {
@@ -113,9 +111,7 @@ fn add_field(fields: &mut Vec<Field>, here: &LineHere, kind: LineKind) -> Result
     requires text { IsText here.now.behind.now }
     requires index { here.now.index ≤ here.now.at }
     requires room { here.now.at + length here.now.line.now + length here.now.behind.now < 2 ^ 64 }
-    ensures { IfOk result (λ added. added ≡ true → (bytes : List ℕ)
-        → StandsAt bytes here.now.at (here.now.line.now ++ newline ∷ here.now.behind.now)
-        → AddsPlain bytes here.now fields.old.items fields.new.items) }
+    ensures { IfOk result (λ added. added ≡ true → AddsAnywhere here.now fields.old.items fields.new.items) }
 {
     let LineKind::Field(n) = kind else {
         return Ok(true);
