@@ -19,6 +19,7 @@ pub mod SettingLemmas
 pub mod StepLemmas
 pub mod StepListLemmas
 pub mod TouchedLemmas
+pub mod AgainLemmas
 pub mod NamesLemmas
 pub mod PackageLemmas
 pub mod TouchedNamesLemmas

@@ -1,5 +1,5 @@
 -- Every edit leaves names that it doesn't touch, and choices that are renewed for the others are right.
-use Rattle.std.proofs.Common.{◌≡◌, ℕ, ℤ, Bool, true, false, cond, List, None, Some, refl, sym, subst, ◌∙◌, Vec, Global}
+use Rattle.std.proofs.Common.{◌≡◌, inl, inr, ℕ, ℤ, Bool, true, false, cond, List, None, Some, refl, sym, subst, ◌∙◌, Vec, Global}
 use Rattle.std.specs.Str.{bytes_eq}
 use Rattle.std.specs.List.{IsDistinct}
 use Rattle.std.specs.Map.{keys_of as names_of}
@@ -15,9 +15,10 @@ use Rattle.ctl_policy.specs.declared.chosen.Chosen.{Chosen}
 use Rattle.ctl_policy.specs.Chosen.{at_bytes, kept_of, AreChosen}
 use Rattle.ctl_policy.specs.Priority.{world_of}
 use Rattle.ctl_policy.specs.Laws.{Stays, world_after}
-use Rattle.ctl_policy.specs.Touched.{SelectsNone, IsNotTouched, IsAccepted, TouchesAlone, is_one_of}
+use Rattle.ctl_policy.specs.Touched.{SelectsNone, IsOfOthers, IsNotTouched, IsAccepted, TouchesAlone, is_one_of}
 use Rattle.ctl_policy.proofs.RestLemmas.{Sets, Takes, mark_others, unmark_others, pin_others, unpin_others, general_pin_others, general_unpin_others}
 use Rattle.ctl_policy.proofs.TouchLemmas.{no_source}
+use Rattle.ctl_policy.proofs.AgainLemmas.{set_again}
 use Rattle.ctl_policy.proofs.SettingLemmas.{target_untouched, prefs_untouched}
 use Rattle.ctl_policy.proofs.TouchedLemmas.{put_untouched, remove_untouched, add_untouched, drop_untouched}
 
@@ -35,17 +36,21 @@ module _ (old : Held) (q : List ℕ) (rising : AreRising (all_keys (keyed_of old
   unpin_untouched takes (Release None list) none = general_unpin_others takes (world_of old) list q (no_source list q (world_of old) rising none)
   unpin_untouched takes (Release (Some name) list) e = unpin_others takes (world_of old) name (Release (Some name) list) (itself name) q e
 
+of_others : Sets → Takes → (old : Held) (edit : Edit) (q : List ℕ) → IsAccepted old edit → IsOfOthers q old edit → Stays q (world_of old) (world_after old edit)
+of_others sets takes old (AddList list kind class xs) q a e = add_untouched old q list kind class xs a e
+of_others sets takes old (DropList list) q a e = drop_untouched old q list a e
+of_others sets takes old (Put list x) q a e = put_untouched old q list x a e
+of_others sets takes old (Remove list name version) q a e = remove_untouched old q list name version a e
+of_others sets takes old (Mark name version) q a e = mark_others (world_of old) name version q e
+of_others sets takes old (Unmark name) q a e = unmark_others (world_of old) name q e
+of_others sets takes old (Pin s p) q a e = pin_untouched old q a.rising sets s p e
+of_others sets takes old (Unpin s) q a e = unpin_untouched old q a.rising takes s e
+of_others sets takes old (Target target) q a e = target_untouched old target q a.rising e.0 e.1
+of_others sets takes old (Prefs pins) q a e = prefs_untouched old pins q a.rising e
+
 pub untouched_stays : Sets → Takes → (old : Held) (edit : Edit) (q : List ℕ) → IsAccepted old edit → IsNotTouched q old edit → Stays q (world_of old) (world_after old edit)
-untouched_stays sets takes old (AddList list kind class xs) q a e = add_untouched old q list kind class xs a e
-untouched_stays sets takes old (DropList list) q a e = drop_untouched old q list a e
-untouched_stays sets takes old (Put list x) q a e = put_untouched old q list x a e
-untouched_stays sets takes old (Remove list name version) q a e = remove_untouched old q list name version a e
-untouched_stays sets takes old (Mark name version) q a e = mark_others (world_of old) name version q e
-untouched_stays sets takes old (Unmark name) q a e = unmark_others (world_of old) name q e
-untouched_stays sets takes old (Pin s p) q a e = pin_untouched old q a.rising sets s p e
-untouched_stays sets takes old (Unpin s) q a e = unpin_untouched old q a.rising takes s e
-untouched_stays sets takes old (Target target) q a e = target_untouched old target q a.rising e.0 e.1
-untouched_stays sets takes old (Prefs pins) q a e = prefs_untouched old pins q a.rising e
+untouched_stays sets takes old edit q a (inl again) = set_again old edit q again
+untouched_stays sets takes old edit q a (inr e) = of_others sets takes old edit q a e
 
 -- the names that an edit touches are chosen anew
 pub touched_renewed : ((h : Held) → (edit : Edit) → (q : List ℕ) → IsAccepted h edit → IsNotTouched q h edit → Stays q (world_of h) (world_after h edit)) → (old new : BTreeMap (Vec ℕ Global) Chosen) (names : List (List ℕ)) (h : Held) (edit : Edit)

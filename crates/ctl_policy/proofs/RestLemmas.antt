@@ -123,7 +123,18 @@ module _ (w : World) (marks : Marks) (pins : Settings) (target : Option (List �
       (ap (λ m. option_map_or (lead_at (rows_named q w.lists)) (unwrap_or m (status_version q w.lists)) None) mark)
       (ap (λ m. version_if_row (rows_named q w.lists) (unwrap_or m (status_version q w.lists))) mark)
 
+pub stays_itself : (q : List ℕ) (w : World) → Stays q w w
+stays_itself q w = others w w.marks w.pins w.target q refl (λ list. inl refl) refl
+
 -- ---- marks
+
+-- a mark that is set again
+pub same_mark : (w : World) (name : List ℕ) (mark : Option (List ℕ)) → fin.get w.marks name ≡ Some mark → (q : List ℕ) → Stays q w (with_marks (fin.insert w.marks name mark) w)
+same_mark w name mark there q = others w (fin.insert w.marks name mark) w.pins w.target q refl (λ list. inl refl) (fin.get-insert nat_list_cmp_total w.marks name mark q ∙ by (is_eq (slice_cmp nat_cmp q name)) refl)
+  where
+    by : (b : Bool) → is_eq (slice_cmp nat_cmp q name) ≡ b → cond b (Some mark) (fin.get w.marks q) ≡ fin.get w.marks q
+    by true is = sym there ∙ ap (fin.get w.marks) (sym (same_name q name (sym (is_eq-slice_cmp q name) ∙ is)))
+    by false is = refl
 
 other_name : (name q : List ℕ) → bytes_eq name q ≡ false → is_eq (slice_cmp nat_cmp q name) ≡ false
 other_name name q e = is_eq-slice_cmp q name ∙ nat_list_eq_equiv.symm q name ∙ e

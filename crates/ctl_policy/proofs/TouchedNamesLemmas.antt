@@ -70,7 +70,7 @@ module _ (q : List ℕ) where
       ap (λ b. cond b (s ∷ own_settings q pins) (own_settings q pins)) (not_selected s.0 (not_front (selected_package s.0) (pinned_packages pins) e))
       ∙ no_own pins (not_back (selected_package s.0) (pinned_packages pins) e)
 
-  same_priority : (a b : Option ℤ) → option_eq int_eq a b ≡ true → a ≡ b
+  pub same_priority : (a b : Option ℤ) → option_eq int_eq a b ≡ true → a ≡ b
   same_priority None None e = refl
   same_priority None (Some b) e = cc
   same_priority (Some a) None e = cc

@@ -2,13 +2,15 @@
 use Rattle.std.specs.Prelude.{◌≡◌, ◌⊎◌, ℕ, Bool, true, false, List, [], ◌∷◌, Option, None, Some}
 use Rattle.std.specs.Str.{bytes_eq}
 use Rattle.std.specs.List.{IsDistinct, list_any}
-use Rattle.std.specs.Option.{option_map_or}
-use Rattle.std.specs.Map.{keys_of as names_of}
+use Rattle.std.specs.Option.{option_map_or, option_eq}
+use Rattle.std.specs.Ordering.{int_eq}
+use Rattle.std.specs.FinMap as fin
+use Rattle.std.specs.Map.{lookup, keys_of as names_of}
 use Rattle.ctl_stanza.specs.Content.{Content, package_of}
 use Rattle.ctl_store.specs.declared.stanza_key.StanzaKey.{StanzaKey}
 use Rattle.ctl_store.specs.declared.selector.Selector.{Selector}
 use Rattle.ctl_store.specs.declared.selector.Selector.TheVariants.{Version, Release}
-use Rattle.ctl_store.specs.Pins.{own_settings}
+use Rattle.ctl_store.specs.Pins.{selector_eq, own_settings}
 use Rattle.ctl_store.specs.Edits.{Edit, Mark, Unmark, Pin, Unpin, Target, Prefs}
 use Rattle.ctl_store.specs.Keys.{stanza_at, coming, all_keys, AreRising, AreCome, AreNew, removed_of, added_of, keyed_after}
 use Rattle.ctl_store.specs.Entries.{IsChange}
@@ -50,16 +52,27 @@ pub record LeavesStanzas (name : List ℕ) (h : Held) (edit : Edit) : Type 0 whe
 
 -- ---- edits
 
--- An edit doesn't touch a name: not by a mark or a specific pin of it, not by the priority of a list that holds one of its
--- live stanzas, and not by one of these that goes or comes.
+-- Whether an edit sets again what stands: the mark of a package with its text, a pin with its priority, the target.
+abbrev pub sets_again : Held → Edit → Bool
+sets_again h (Mark «package» version) = option_eq (option_eq bytes_eq) (fin.get (state_of h).marks «package») (Some version)
+sets_again h (Pin s priority) = option_eq int_eq (lookup (selector_eq s) (state_of h).pins) (Some priority)
+sets_again h (Target list) = option_eq bytes_eq (state_of h).target list
+sets_again h edit = false
+
+-- An edit is of other names than this: it is no mark or specific pin of it, doesn't change the priority of a list that holds one
+-- of its live stanzas, and none of these goes or comes.
+abbrev pub IsOfOthers : List ℕ → Held → Edit → Type 0
+IsOfOthers name h (Mark «package» version) = bytes_eq «package» name ≡ false
+IsOfOthers name h (Unmark «package») = bytes_eq «package» name ≡ false
+IsOfOthers name h (Pin s priority) = SelectsNone s name (keyed_of h).lists
+IsOfOthers name h (Unpin s) = SelectsNone s name (keyed_of h).lists
+IsOfOthers name h (Target list) = TargetHoldsNone h.target name (keyed_of h).lists × TargetHoldsNone list name (keyed_of h).lists
+IsOfOthers name h (Prefs pins) = LeavePins pins name (world_of h)
+IsOfOthers name h edit = LeavesStanzas name h edit
+
+-- An edit doesn't touch a name where it sets again what stands, or is of other names.
 abbrev pub IsNotTouched : List ℕ → Held → Edit → Type 0
-IsNotTouched name h (Mark «package» version) = bytes_eq «package» name ≡ false
-IsNotTouched name h (Unmark «package») = bytes_eq «package» name ≡ false
-IsNotTouched name h (Pin s priority) = SelectsNone s name (keyed_of h).lists
-IsNotTouched name h (Unpin s) = SelectsNone s name (keyed_of h).lists
-IsNotTouched name h (Target list) = TargetHoldsNone h.target name (keyed_of h).lists × TargetHoldsNone list name (keyed_of h).lists
-IsNotTouched name h (Prefs pins) = LeavePins pins name (world_of h)
-IsNotTouched name h edit = LeavesStanzas name h edit
+IsNotTouched name h edit = (sets_again h edit ≡ true) ⊎ IsOfOthers name h edit
 
 -- whether a name is one of some
 abbrev pub is_one_of : List ℕ → List (List ℕ) → Bool

@@ -2,6 +2,7 @@
 //! name at a time, over a store.
 #![tactic(auto)]
 
+mod again;
 mod by_version;
 mod candidate;
 mod chosen;

@@ -1,6 +1,6 @@
 //! The names that an edit of a store touches, before it is made.
 
-ghost use Rattle.std.specs.Prelude.{◌≡◌, ℕ, List, ◌++◌, ◌∷◌, [], None, IfOk, OnOk, option_copied};
+ghost use Rattle.std.specs.Prelude.{◌≡◌, ℕ, List, ◌++◌, ◌∷◌, [], None, true, IfOk, OnOk, option_copied};
 ghost use Rattle.ctl_store.specs.Entries.{entries_of};
 ghost use Rattle.ctl_store.specs.Keys.{stanza_at, coming, AreComing};
 ghost use Rattle.ctl_store.specs.State.{shown_lists};
@@ -8,9 +8,10 @@ ghost use Rattle.ctl_store.specs.Held.{IsReady, keyed_of, state_of};
 ghost use Rattle.ctl_policy.specs.Chosen.{kept_of};
 ghost use Rattle.ctl_policy.specs.Laws.{HoldsNone};
 ghost use Rattle.ctl_policy.specs.Priority.{world_of};
-ghost use Rattle.ctl_policy.specs.Touched.{is_one_of, SelectsNone, TargetHoldsNone, LeavePins, LeavesStanzas, TouchesAlone, packages_at};
+ghost use Rattle.ctl_policy.specs.Touched.{is_one_of, SelectsNone, TargetHoldsNone, LeavePins, LeavesStanzas, IsOfOthers, TouchesAlone, packages_at, sets_again};
 ghost use Rattle.ctl_policy.specs.TouchedNames.{HoldsOfOthers, package_found, packages_among, packages_in, target_packages, selected_package, pinned_packages, repinned_packages};
 
+use crate::again::sets_again;
 use crate::priority::keeps_priority;
 use ctl_relation::Bytes;
 use ctl_stanza::Stanza;
@@ -263,10 +264,10 @@ fn stanza_names(alloc: Global, store: &Store, plan: &Plan) -> Result<Vec<Bytes>,
     Ok(names)
 }
 
-// The names that the edit of a plan touches, by what the edit is.
+// The names that the edit of a plan is of, by what the edit is.
 fn names_of_edit(alloc: Global, store: &Store, plan: &Plan) -> Result<Vec<Bytes>, AllocError>
     requires { IsReady store.now plan.now }
-    ensures { IfOk result (λ names. TouchesAlone names.items store.now plan.now.edit) }
+    ensures { IfOk result (λ names. HoldsOfOthers names.items (λ name. IsOfOthers name store.now plan.now.edit)) }
 {
     match plan.edit() {
         Edit::AddList {
@@ -295,7 +296,7 @@ fn names_of_edit(alloc: Global, store: &Store, plan: &Plan) -> Result<Vec<Bytes>
     }
 }
 
-// Puts names in the order of their bytes. The packages of an archive's list are in order already.
+// Puts names that come several times beside each other, which saves time alone. The packages of an archive's list are so already.
 fn put_in_order(names: &mut Vec<Bytes>)
     ensures { (name : List ℕ) → is_one_of name names.new.items ≡ is_one_of name names.old.items }
 {
@@ -305,17 +306,21 @@ fn put_in_order(names: &mut Vec<Bytes>)
     names.sort_unstable();
 }
 
-/// The names that the edit of a plan touches, before the store makes it, in the order of their bytes. A name may come several
-/// times. An edit of a stanza, a mark or a specific pin has its one name; one of a list, and what changes the priority of a
-/// list, has the packages of its stanzas.
+/// The names that the edit of a plan touches, before the store makes it. A name may come several times. An edit of a stanza, a
+/// mark or a specific pin has its one name; one of a list, and what changes the priority of a list, has the packages of its
+/// stanzas. One that sets again what stands has none, and takes no memory.
 ///
 /// # Errors
 ///
 /// Want of memory.
 pub fn touched_names(alloc: Global, store: &Store, plan: &Plan) -> Result<Vec<Bytes>, AllocError>
     requires { IsReady store.now plan.now }
-    ensures { IfOk result (λ names. TouchesAlone names.items store.now plan.now.edit) }
+    ensures touches { IfOk result (λ names. TouchesAlone names.items store.now plan.now.edit) }
+    ensures none { IfOk result (λ names. sets_again store.now plan.now.edit ≡ true → names.items ≡ []) }
 {
+    if sets_again(store, plan.edit()) {
+        return Ok(Vec::new(alloc));
+    }
     let mut names = names_of_edit(alloc, store, plan)?;
     put_in_order(&mut names);
     Ok(names)
