@@ -20,6 +20,7 @@ pub mod StepLemmas
 pub mod StepListLemmas
 pub mod TouchedLemmas
 pub mod AgainLemmas
+pub mod AwayLemmas
 pub mod NamesLemmas
 pub mod PackageLemmas
 pub mod TouchedNamesLemmas

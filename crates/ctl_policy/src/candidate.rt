@@ -12,7 +12,7 @@ ghost use Rattle.ctl_policy.specs.HeldWalk.{AreHeldIn, IsHeldForm, considered};
 
 use crate::by_version::ByVersion;
 use crate::form::Form;
-use crate::priority::row_priority;
+use crate::priority::{is_pinned, priority_where, row_priority};
 use ctl_relation::Version;
 use ctl_store::{StanzaKey, Store};
 use std::slice;
@@ -77,10 +77,11 @@ fn best_in_map(
     requires { AreHeldIn (keyed_of store.now).lists rows.now.entries }
     ensures { result ≡ best_of (row_priority name.now (world_of store.now)) (option_map triple_of (option_copied installed.entry)) (reverse (map shown_row rows.now.entries)) }
 {
+    let pinned = is_pinned(store, name);
     let mut choice = None;
     let mut left = rows.iter();
     'rows: while let Some((version, keys)) = left.next() {
-        let priority = row_priority(store, name, keys);
+        let priority = priority_where(store, name, keys, pinned);
         choice = considered(priority, version, keys.first().copied(), installed, choice);
     }
     choice

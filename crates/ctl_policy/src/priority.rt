@@ -1,7 +1,9 @@
 //! The priority of a list and of a row (apt_preferences(5)).
 
-ghost use Rattle.std.specs.Prelude.{◌≡◌, Some, option_copied};
+ghost use Rattle.std.specs.Prelude.{◌≡◌, ℕ, List, false, None, Some, option_copied};
+ghost use Rattle.std.specs.Bool.{OnFalse};
 ghost use Rattle.std.specs.Int.{int_max};
+ghost use Rattle.ctl_store.specs.declared.stanza_key.StanzaKey.{StanzaKey};
 ghost use Rattle.ctl_store.specs.Keys.{AreHeld, stanza_at, holder_of};
 ghost use Rattle.ctl_store.specs.Held.{keyed_of};
 ghost use Rattle.std.specs.Prelude.{IsSome};
@@ -186,6 +188,67 @@ pub fn specific_pin(store: &Store, name: &[u8], keys: &[StanzaKey]) -> Option<i1
     ensures { result ≡ specific_pin name.now (keyed_of store.now).lists keys.now (world_of store.now).pins }
 {
     first_match(store, name, keys, store.pins_of(name))
+}
+
+// Whether a setting may match a row: one of a version, or of a list that is there.
+fn may_match(store: &Store, selector: &Selector) -> bool
+    ensures { OnFalse result ((name : List ℕ) → (keys : List StanzaKey) → matches_row name (keyed_of store.now).lists keys selector.now ≡ false) }
+{
+    match selector {
+        Selector::Version {
+            package: _,
+            version: _,
+        } => true,
+        Selector::Release {
+            package: Some(_),
+            list,
+        } => is_there(store, list.as_slice()),
+        Selector::Release {
+            package: None,
+            list: _,
+        } => false,
+    }
+}
+
+// Whether a list may be a source of a row: it is there.
+#[tactic(auto, using(crate::proofs::AwayLemmas::no_source_away))]
+fn is_there(store: &Store, list: &[u8]) -> bool
+    ensures { OnFalse result ((keys : List StanzaKey) → is_source list.now (keyed_of store.now).lists keys ≡ false) }
+{
+    store.serial(list).is_some()
+}
+
+/// Whether a specific pin of a name may match a row of it. Pins of lists that aren't there match none.
+#[tactic(auto, using(crate::proofs::OwnLemmas::own_pins))]
+pub(crate) fn is_pinned(store: &Store, name: &[u8]) -> bool
+    ensures { OnFalse result ((keys : List StanzaKey) → specific_pin name.now (keyed_of store.now).lists keys (world_of store.now).pins ≡ None) }
+{
+    may_match_any(store, store.pins_of(name))
+}
+
+fn may_match_any(store: &Store, pins: PackagePins<'_>) -> bool
+    ensures { OnFalse result ((name : List ℕ) → (keys : List StanzaKey) → specific_pin name (keyed_of store.now).lists keys pins.entry ≡ None) }
+{
+    let mut left = pins;
+    'pins: while let Some((selector, _)) = left.next() {
+        if may_match(store, selector) {
+            return true;
+        }
+    }
+    false
+}
+
+/// The priority of a row of a name, where it is told whether a specific pin of the name may match one.
+pub(crate) fn priority_where(store: &Store, name: &[u8], keys: &[StanzaKey], pinned: bool) -> i16
+    requires held { AreHeld keys.now (keyed_of store.now).lists }
+    requires none { pinned ≡ false → specific_pin name.now (keyed_of store.now).lists keys.now (world_of store.now).pins ≡ None }
+    ensures { result ≡ row_priority name.now (world_of store.now) keys.now }
+{
+    if pinned {
+        row_priority(store, name, keys)
+    } else {
+        greatest(store, keys)
+    }
 }
 
 /// The priority of a row of a name, which has these stanzas: that of the first specific pin that matches it, else the
