@@ -21,6 +21,7 @@ pub mod StepListLemmas
 pub mod TouchedLemmas
 pub mod AgainLemmas
 pub mod AwayLemmas
+pub mod BestLemmas
 pub mod NamesLemmas
 pub mod PackageLemmas
 pub mod TouchedNamesLemmas

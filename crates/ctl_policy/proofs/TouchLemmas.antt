@@ -54,15 +54,15 @@ status_none q (Some x) e = ap (λ o. is_status x.kind && is_some o) e ∙ by (is
 -- ---- all of some rows
 
 module _ {X : Type 0} (P : X → Type 0) where
-  all_append : (xs ys : List X) → AllByRecursion P xs → AllByRecursion P ys → AllByRecursion P (xs ++ ys)
+  pub all_append : (xs ys : List X) → AllByRecursion P xs → AllByRecursion P ys → AllByRecursion P (xs ++ ys)
   all_append [] ys h k = k
   all_append (x ∷ xs) ys h k = (h.0, all_append xs ys h.1 k)
 
-  all_reverse : (xs : List X) → AllByRecursion P xs → AllByRecursion P (reverse xs)
+  pub all_reverse : (xs : List X) → AllByRecursion P xs → AllByRecursion P (reverse xs)
   all_reverse [] h = tt
   all_reverse (x ∷ xs) h = subst (AllByRecursion P) (sym (reverse-append (x ∷ []) xs)) (all_append (reverse xs) (x ∷ []) (all_reverse xs h.1) (h.0, tt))
 
-all_shown : (P : List StanzaKey → Type 0) (es : List (List ℕ × List StanzaKey)) → AllByRecursion (λ (e : List ℕ × List StanzaKey). P e.1) es → AllByRecursion (λ (row : Row). P row.1) (map (λ (row : List ℕ × List StanzaKey). (triple_of row.0, row.1)) es)
+pub all_shown : (P : List StanzaKey → Type 0) (es : List (List ℕ × List StanzaKey)) → AllByRecursion (λ (e : List ℕ × List StanzaKey). P e.1) es → AllByRecursion (λ (row : Row). P row.1) (map (λ (row : List ℕ × List StanzaKey). (triple_of row.0, row.1)) es)
 all_shown P [] h = tt
 all_shown P (e ∷ es) h = (h.0, all_shown P es h.1)
 

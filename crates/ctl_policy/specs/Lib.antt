@@ -6,6 +6,7 @@ pub mod Kept
 pub mod Chosen
 pub mod NewPlaces
 pub mod Laws
+pub mod ChoiceLaws
 pub mod Touched
 pub mod TouchedNames
 pub mod HeldRows

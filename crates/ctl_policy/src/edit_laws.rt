@@ -26,8 +26,12 @@ use ctl_store::settings_by_package;
 
 /// A general pin of the store leaves names of which its list holds no live stanza.
 pub fn edits_of_general_pins()
-    ensures pin { (old : Held) → (list : List ℕ) → (p : ℤ) → (name : List ℕ) → AreRising (all_keys (keyed_of old).lists) → HoldsNone list name (keyed_of old).lists → Stays name (world_of old) (world_after old (Pin (Release None list) p)) }
-    ensures unpin { (old : Held) → (list : List ℕ) → (name : List ℕ) → AreRising (all_keys (keyed_of old).lists) → HoldsNone list name (keyed_of old).lists → Stays name (world_of old) (world_after old (Unpin (Release None list))) }
+    ensures pin { (old : Held) → (list : List ℕ) → (p : ℤ) → (name : List ℕ)
+        → AreRising (all_keys (keyed_of old).lists) → HoldsNone list name (keyed_of old).lists
+        → Stays name (world_of old) (world_after old (Pin (Release None list) p)) }
+    ensures unpin { (old : Held) → (list : List ℕ) → (name : List ℕ)
+        → AreRising (all_keys (keyed_of old).lists) → HoldsNone list name (keyed_of old).lists
+        → Stays name (world_of old) (world_after old (Unpin (Release None list))) }
 {
     general_pins_leave_other_names();
 }
@@ -36,50 +40,80 @@ pub fn edits_of_general_pins()
 /// stanza.
 #[tactic(auto, using(crate::proofs::SettingLemmas::target_untouched))]
 pub fn edits_of_targets()
-    ensures { (old : Held) → (target : Option (List ℕ)) → (name : List ℕ) → AreRising (all_keys (keyed_of old).lists) → TargetHoldsNone old.target name (keyed_of old).lists → TargetHoldsNone target name (keyed_of old).lists → Stays name (world_of old) (world_after old (Target target)) }
+    ensures { (old : Held) → (target : Option (List ℕ)) → (name : List ℕ)
+        → AreRising (all_keys (keyed_of old).lists)
+        → TargetHoldsNone old.target name (keyed_of old).lists
+        → TargetHoldsNone target name (keyed_of old).lists
+        → Stays name (world_of old) (world_after old (Target target)) }
 {}
 
 /// Preferences of the store leave names whose specific pins stay, and of which no list whose priority changes holds a
 /// live stanza.
 #[tactic(auto, using(crate::proofs::SettingLemmas::prefs_untouched))]
 pub fn edits_of_preferences()
-    ensures { (old : Held) → (pins : Settings) → (name : List ℕ) → AreRising (all_keys (keyed_of old).lists) → LeavePins pins name (world_of old) → Stays name (world_of old) (world_after old (Prefs pins)) }
+    ensures { (old : Held) → (pins : Settings) → (name : List ℕ)
+        → AreRising (all_keys (keyed_of old).lists) → LeavePins pins name (world_of old)
+        → Stays name (world_of old) (world_after old (Prefs pins)) }
 {}
 
 /// A stanza that is put or removed leaves names of which no live stanza goes or comes.
 pub fn edits_of_stanzas()
-    ensures put { (old : Held) → (name : List ℕ) → (list : List ℕ) → (x : Content) → IsAccepted old (Put list x) → LeavesStanzas name old (Put list x) → Stays name (world_of old) (world_after old (Put list x)) }
-    ensures remove { (old : Held) → (name : List ℕ) → (list : List ℕ) → (removed : List ℕ) → (version : List ℕ) → IsAccepted old (Remove list removed version) → LeavesStanzas name old (Remove list removed version) → Stays name (world_of old) (world_after old (Remove list removed version)) }
+    ensures put { (old : Held) → (name : List ℕ) → (list : List ℕ) → (x : Content)
+        → IsAccepted old (Put list x) → LeavesStanzas name old (Put list x)
+        → Stays name (world_of old) (world_after old (Put list x)) }
+    ensures remove { (old : Held) → (name : List ℕ) → (list : List ℕ) → (removed : List ℕ) → (version : List ℕ)
+        → IsAccepted old (Remove list removed version)
+        → LeavesStanzas name old (Remove list removed version)
+        → Stays name (world_of old) (world_after old (Remove list removed version)) }
 {}
 
 /// A list that comes or goes leaves names of which it holds no live stanza.
 pub fn edits_of_lists()
-    ensures add { (old : Held) → (name : List ℕ) → (list : List ℕ) → (kind : ListKind) → (class : ListClass) → (stanzas : List Content) → IsAccepted old (AddList list kind class stanzas) → LeavesStanzas name old (AddList list kind class stanzas) → Stays name (world_of old) (world_after old (AddList list kind class stanzas)) }
-    ensures drop { (old : Held) → (name : List ℕ) → (list : List ℕ) → IsAccepted old (DropList list) → LeavesStanzas name old (DropList list) → Stays name (world_of old) (world_after old (DropList list)) }
+    ensures add { (old : Held) → (name : List ℕ) → (list : List ℕ) → (kind : ListKind) → (class : ListClass)
+        → (stanzas : List Content) → IsAccepted old (AddList list kind class stanzas)
+        → LeavesStanzas name old (AddList list kind class stanzas)
+        → Stays name (world_of old) (world_after old (AddList list kind class stanzas)) }
+    ensures drop { (old : Held) → (name : List ℕ) → (list : List ℕ) → IsAccepted old (DropList list)
+        → LeavesStanzas name old (DropList list)
+        → Stays name (world_of old) (world_after old (DropList list)) }
 {}
 
 /// An accepted edit of the store leaves each name that it doesn't touch.
 pub fn untouched_names_stay()
-    ensures { (old : Held) → (edit : Edit) → (name : List ℕ) → IsAccepted old edit → IsNotTouched name old edit → Stays name (world_of old) (world_after old edit) }
+    ensures { (old : Held) → (edit : Edit) → (name : List ℕ) → IsAccepted old edit
+        → IsNotTouched name old edit → Stays name (world_of old) (world_after old edit) }
 {
     settings_by_package();
 }
 
 /// After an accepted edit the names that it touches are chosen anew, and all are right.
 pub fn touched_names_are_enough()
-    ensures { (old : BTreeMap (Vec ℕ Global) Chosen) → (new : BTreeMap (Vec ℕ Global) Chosen) → (names : List (List ℕ)) → (h : Held) → (edit : Edit) → IsAccepted h edit → TouchesAlone names h edit → AreChosen old (world_of h) → ((q : List ℕ) → at_bytes new q ≡ (if is_one_of q names then kept_of q (world_after h edit) else at_bytes old q)) → AreChosen new (world_after h edit) }
+    ensures { (old : BTreeMap (Vec ℕ Global) Chosen) → (new : BTreeMap (Vec ℕ Global) Chosen)
+        → (names : List (List ℕ)) → (h : Held) → (edit : Edit) → IsAccepted h edit
+        → TouchesAlone names h edit → AreChosen old (world_of h)
+        → ((q : List ℕ) → at_bytes new q ≡ (if is_one_of q names then kept_of q (world_after h edit) else at_bytes old q))
+        → AreChosen new (world_after h edit) }
 {
     untouched_names_stay();
 }
 
 /// What a plan of the store promises is what the laws on touched names want.
 pub fn plans_are_accepted()
-    ensures { (h : Held) → (plan : Planned) → IsReady h plan → AreRising (all_keys (keyed_of h).lists) → IsDistinct bytes_eq (names_of (state_of h).lists) → IsChange (keyed_of h).lists (keyed_after (keyed_of h) plan.edit).lists plan.removed plan.added plan.edit → AreCome plan.added plan.edit (keyed_after (keyed_of h) plan.edit).lists → IsAccepted h plan.edit }
+    ensures { (h : Held) → (plan : Planned) → IsReady h plan
+        → AreRising (all_keys (keyed_of h).lists)
+        → IsDistinct bytes_eq (names_of (state_of h).lists)
+        → IsChange (keyed_of h).lists (keyed_after (keyed_of h) plan.edit).lists plan.removed plan.added plan.edit
+        → AreCome plan.added plan.edit (keyed_after (keyed_of h) plan.edit).lists
+        → IsAccepted h plan.edit }
 {}
 
 /// A name that is the package of no stanza under some keys has no live one under them; and where they are all keys of a
 /// list, that list holds none.
 pub fn packages_tell_live_stanzas()
-    ensures keys { (name : List ℕ) → (find : StanzaKey → Option Content) → (keys : List StanzaKey) → is_one_of name (packages_at keys find) ≡ false → HasNoneOf name keys find }
-    ensures list { (name : List ℕ) → (list : List ℕ) → (h : Held) → IsDistinct bytes_eq (names_of (state_of h).lists) → is_one_of name (packages_at (all_in list (keyed_of h).lists) (λ k. stanza_at k (keyed_of h).lists)) ≡ false → HoldsNone list name (keyed_of h).lists }
+    ensures keys { (name : List ℕ) → (find : StanzaKey → Option Content) → (keys : List StanzaKey)
+        → is_one_of name (packages_at keys find) ≡ false → HasNoneOf name keys find }
+    ensures list { (name : List ℕ) → (list : List ℕ) → (h : Held)
+        → IsDistinct bytes_eq (names_of (state_of h).lists)
+        → is_one_of name (packages_at (all_in list (keyed_of h).lists) (λ k. stanza_at k (keyed_of h).lists)) ≡ false
+        → HoldsNone list name (keyed_of h).lists }
 {}

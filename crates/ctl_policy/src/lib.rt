@@ -5,6 +5,7 @@
 mod again;
 mod by_version;
 mod candidate;
+mod choice_laws;
 mod chosen;
 mod edit_laws;
 mod form;
@@ -18,6 +19,7 @@ mod status;
 mod touching;
 mod walk;
 
+pub use choice_laws::{candidates_are_best, rows_fall, sources_bound_priorities};
 pub use chosen::{Chosen, choose, renew};
 pub use edit_laws::{
     edits_of_general_pins, edits_of_lists, edits_of_preferences, edits_of_stanzas,
