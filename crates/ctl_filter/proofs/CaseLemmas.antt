@@ -7,7 +7,7 @@ use Rattle.ctl_filter.specs.Filter.{Truth, Both, Either, is_true}
 use Rattle.ctl_filter.specs.Trees.{truth_of_neg, truth_of_conj, truth_of_pred, both_with, either_with}
 use Rattle.ctl_filter.specs.Laws.{TruthByCases}
 
-and-assoc : (a b c : Bool) → ((a && b) && c) ≡ (a && (b && c))
+pub and-assoc : (a b c : Bool) → ((a && b) && c) ≡ (a && (b && c))
 and-assoc true b c = refl
 and-assoc false b c = refl
 

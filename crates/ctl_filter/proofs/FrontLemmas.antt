@@ -8,7 +8,7 @@ use Rattle.ctl_filter.specs.Grammar.Conj.{one_neg, and_then}
 use Rattle.ctl_filter.specs.Grammar.Pred.{one_conj, or_else}
 use Rattle.ctl_filter.specs.Filter.{Truth, Both, Either}
 use Rattle.ctl_filter.specs.Trees.{truth_of_neg, truth_of_conj, truth_of_pred, both_with, either_with}
-use Rattle.ctl_filter.specs.Steps.{built}
+use Rattle.ctl_filter.specs.Inside.Steps.{built}
 use Rattle.ctl_filter.proofs.GrammarLemmas.{no-conj-first, no-conj-more, no-pred-first, no-pred-more}
 
 -- a conj with one more neg at its end

@@ -8,3 +8,5 @@ pub mod StepLemmas
 pub mod StanzaLemmas
 pub mod WordLemmas
 pub mod CaseLemmas
+pub mod AnyCaseLemmas
+pub mod AskingLemmas

@@ -10,8 +10,8 @@ use Rattle.ctl_filter.specs.Grammar.Conj.{one_neg, and_then}
 use Rattle.ctl_filter.specs.Grammar.Pred.{one_conj, or_else}
 use Rattle.ctl_filter.specs.Filter.{Truth, Not}
 use Rattle.ctl_filter.specs.Trees.{truth_of_neg, truth_of_conj, truth_of_pred, truth_if, truth_of}
-use Rattle.ctl_filter.specs.Steps.{Makes, built, built_by}
-use Rattle.ctl_filter.specs.Reads.{ReadsNeg, ReadsConj, ReadsPred}
+use Rattle.ctl_filter.specs.Inside.Steps.{Makes, built, built_by}
+use Rattle.ctl_filter.specs.Inside.Reads.{ReadsNeg, ReadsConj, ReadsPred}
 use Rattle.std.proofs.lemmas.Bool.{eqb-true}
 use Rattle.ctl_store.specs.declared.refusal.Refusal.TheVariants as refusal
 use Rattle.ctl_filter.proofs.GrammarLemmas.{ends, no-whole}

@@ -3,7 +3,7 @@ use Rattle.std.proofs.Common.{◌≡◌, ◌∙◌, Bool, List, [], ◌∷◌, m
 use Rattle.ctl_filter.specs.declared.token.Step.{Step}
 use Rattle.ctl_filter.specs.declared.token.Step.TheVariants as step
 use Rattle.ctl_filter.specs.Filter.{Truth, is_true}
-use Rattle.ctl_filter.specs.Steps.{after_step, after_steps, top, value_of, built_by, built, made_by, Makes}
+use Rattle.ctl_filter.specs.Inside.Steps.{after_step, after_steps, top, value_of, built_by, built, made_by, Makes}
 
 one-step : (values : List Bool) (s : Step) (stack : List Truth) → after_step values s (map (is_true values) stack) ≡ map (is_true values) (built_by s stack)
 one-step values (step.Value n) stack = refl

@@ -1,15 +1,14 @@
 -- The truth of a filter on a stanza (grep-dctrl(1)).
-use Rattle.std.specs.Prelude.{ℕ, Bool, false, not, ◌&&◌, ◌||◌, ◌==◌, true, List, map, length, slice_get, unwrap_or, Option, Some, None, if◌then◌else◌}
+use Rattle.std.specs.Prelude.{ℕ, Bool, false, not, ◌&&◌, ◌||◌, true, List, map, slice_get, unwrap_or, Option, Some, None, if◌then◌else◌}
 use Rattle.std.specs.List.{list_any}
 use Rattle.std.specs.Option.{option_map_or}
 use Rattle.std.specs.Str.{bytes_eq, str_eq_ignore_ascii_case}
-use Rattle.std.specs.Str.Lossy.{utf8_valid_len}
 use Rattle.ctl_relation.specs.declared.operator.Operator.{Operator}
 use Rattle.ctl_relation.specs.Met.{relates}
 use Rattle.ctl_stanza.specs.Content.{Content, body_of}
 use Rattle.ctl_store.specs.PinVersions.{is_version}
 use Rattle.ctl_filter.specs.Substring.{contains, contains_in_any_case}
-use Rattle.ctl_filter.specs.Rx.{rx_matches}
+use Rattle.ctl_filter.specs.Rx.{rx_matches, is_well_formed}
 
 -- What an atom asks of a text. The first Bool says whether ASCII letters are taken without regard to case; of an expression
 -- it is the option of `regex`.
@@ -79,10 +78,6 @@ filter_passes filter stanza = is_true (map (atom_passes stanza) filter.atoms) fi
 
 -- ---- patterns of `--rx`
 
--- a text is UTF-8 where its longest front that is UTF-8 is all of it
-abbrev pub is_utf8 : List ℕ → Bool
-is_utf8 text = utf8_valid_len text == length text
-
 abbrev pub is_expression : Test → Bool
 is_expression (Expression any_case pattern) = true
 is_expression (Substring any_case pattern) = false
@@ -92,12 +87,12 @@ is_expression (Compare operator pattern) = false
 abbrev pub has_expression : Atom → Bool
 has_expression atom = is_expression atom.test
 
--- a pattern of `--rx` has to be UTF-8
-abbrev pub test_is_text : Test → Bool
-test_is_text (Expression any_case pattern) = is_utf8 pattern
-test_is_text (Substring any_case pattern) = true
-test_is_text (Exact any_case pattern) = true
-test_is_text (Compare operator pattern) = true
+-- a pattern of `--rx` has to be well formed
+abbrev pub test_is_readable : Test → Bool
+test_is_readable (Expression any_case pattern) = is_well_formed any_case pattern
+test_is_readable (Substring any_case pattern) = true
+test_is_readable (Exact any_case pattern) = true
+test_is_readable (Compare operator pattern) = true
 
-abbrev pub is_text : Atom → Bool
-is_text atom = test_is_text atom.test
+abbrev pub is_readable : Atom → Bool
+is_readable atom = test_is_readable atom.test

@@ -12,8 +12,7 @@ pub mod Laws
 pub mod Texts
 pub mod Query
 pub mod Grep
--- How the code holds what it has read. Not for callers.
-pub mod Steps
-pub mod Reads
-pub mod Views
+pub mod Asking
+-- what a contract sees of a filter that was read
 pub mod Held
+pub mod Inside

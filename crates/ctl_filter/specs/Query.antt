@@ -4,11 +4,11 @@ use Rattle.std.specs.List.{list_all, list_any}
 use Rattle.ctl_store.specs.declared.refusal.Refusal.{Refusal}
 use Rattle.ctl_store.specs.declared.refusal.Refusal.TheVariants as refusal
 use Rattle.ctl_filter.specs.declared.piece.Piece.{Piece}
-use Rattle.ctl_filter.specs.Words.{pieces_of}
+use Rattle.ctl_filter.specs.Words.{letter_c, letter_d, letter_n, letter_v, pieces_of}
 use Rattle.ctl_filter.specs.Names.{are_field_names}
 use Rattle.ctl_filter.specs.Atoms.{Parts, parts_of, is_given, names_shown, fields_shown}
 use Rattle.ctl_filter.specs.Trees.{truth_of}
-use Rattle.ctl_filter.specs.Filter.{Atom, Truth, Filter, is_text, has_expression}
+use Rattle.ctl_filter.specs.Filter.{Atom, Truth, Filter, is_readable, has_expression}
 
 -- how stanzas are shown
 pub record Shown : Type 0 where
@@ -29,15 +29,15 @@ pub record FilterQuery : Type 0 where
 
 abbrev pub shown_by : List Piece → Shown
 shown_by pieces = record {
-  bodies_alone = is_given 110 pieces;
-  first_line_alone = is_given 100 pieces;
-  fields = fields_shown (is_given 100 pieces) (names_shown pieces);
+  bodies_alone = is_given letter_n pieces;
+  first_line_alone = is_given letter_d pieces;
+  fields = fields_shown (is_given letter_d pieces) (names_shown pieces);
 }
 
 abbrev pub query_by : List Piece → List Atom → Truth → FilterQuery
 query_by pieces atoms truth = record {
-  inverted = is_given 118 pieces;
-  counted = is_given 99 pieces;
+  inverted = is_given letter_v pieces;
+  counted = is_given letter_c pieces;
   shown = shown_by pieces;
   filter = record { atoms = atoms; truth = truth };
 }
@@ -45,7 +45,7 @@ query_by pieces atoms truth = record {
 -- ---- the first refusal: bad arguments, then a bad filter, then a bad pattern
 
 abbrev pub if_patterns : List Piece → List Atom → Truth → Result FilterQuery Refusal
-if_patterns pieces atoms truth = if list_all is_text atoms then Ok (query_by pieces atoms truth) else Err refusal.Pattern
+if_patterns pieces atoms truth = if list_all is_readable atoms then Ok (query_by pieces atoms truth) else Err refusal.Pattern
 
 abbrev pub if_truth : List Piece → List Atom → Result Truth Refusal → Result FilterQuery Refusal
 if_truth pieces atoms (Ok truth) = if_patterns pieces atoms truth
@@ -60,17 +60,18 @@ if_pieces (Ok pieces) = if are_field_names (names_shown pieces) then if_parts pi
 if_pieces (Err cause) = Err cause
 
 -- What words ask for, or the first of these refusals: a word that is none of grep-dctrl's; fields that are no names,
--- modifiers without a pattern, words that are no expression; a pattern of `--rx` that isn't UTF-8.
+-- modifiers without a pattern, words that are no expression; a pattern of `--rx` that isn't UTF-8, that the grammar of `regex`
+-- doesn't read, or that nests deeper than `regex` goes.
 unfoldable pub filter_of : List (List ℕ) → Result FilterQuery Refusal
 filter_of words = if_pieces (pieces_of words)
 
--- ---- patterns that `regex` refuses
+-- ---- well-formed patterns, which `regex` may refuse
 
 -- it has a pattern of `--rx`
 abbrev pub asks_expression : FilterQuery → Bool
 asks_expression query = list_any has_expression query.filter.atoms
 
--- A filter with a pattern of `--rx` is asked for.
+-- A filter with a pattern of `--rx` is asked for: all its patterns are well formed then.
 abbrev pub AsksExpression : Result FilterQuery Refusal → Type 0
 AsksExpression (Ok query) = asks_expression query ≡ true
 AsksExpression (Err cause) = ⊥

@@ -52,8 +52,29 @@ onto_pieces front (Err cause) = Err cause
 abbrev pub letter_F : ℕ
 letter_F = 70
 
+abbrev pub letter_P : ℕ
+letter_P = 80
+
+abbrev pub letter_X : ℕ
+letter_X = 88
+
+abbrev pub letter_c : ℕ
+letter_c = 99
+
+abbrev pub letter_d : ℕ
+letter_d = 100
+
+abbrev pub letter_i : ℕ
+letter_i = 105
+
+abbrev pub letter_n : ℕ
+letter_n = 110
+
 abbrev pub letter_s : ℕ
 letter_s = 115
+
+abbrev pub letter_v : ℕ
+letter_v = 118
 
 -- `F` and `s` have an argument
 abbrev pub takes_argument : ℕ → Bool
@@ -71,10 +92,10 @@ argument_given c [] [] = Err refusal.Usage
 -- the other letters: `P`, `X`, `i` of an atom, and `v`, `c`, `n`, `d`
 abbrev pub letter_piece : ℕ → Result Piece Refusal
 letter_piece c =
-    if c == 80 then Ok (piece.Fields (codes "Package")) else (
-    if c == 88 then Ok (piece.Manner manner.Exact) else (
-    if c == 105 then Ok piece.AnyCase else (
-    if c == 118 || (c == 99 || (c == 110 || c == 100)) then Ok (piece.Letter c) else Err refusal.Usage)))
+    if c == letter_P then Ok (piece.Fields (codes "Package")) else (
+    if c == letter_X then Ok (piece.Manner manner.Exact) else (
+    if c == letter_i then Ok piece.AnyCase else (
+    if c == letter_v || (c == letter_c || (c == letter_n || c == letter_d)) then Ok (piece.Letter c) else Err refusal.Usage)))
 
 abbrev pub behind_letter : Result Piece Refusal → WordPieces → WordPieces
 behind_letter (Ok p) read = onto_word (p ∷ []) read

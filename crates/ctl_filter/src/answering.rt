@@ -5,7 +5,8 @@ ghost use Rattle.std.specs.List.{filter};
 ghost use Rattle.ctl_store.specs.Entries.{stanzas_in_order};
 ghost use Rattle.ctl_store.specs.Held.{state_of};
 ghost use Rattle.ctl_filter.specs.Grep.{is_taken, taken_of, stanza_shown, filter_text};
-ghost use Rattle.ctl_filter.specs.Held.{shown_of, query_of};
+ghost use Rattle.ctl_filter.specs.Inside.Values.{shown_of};
+ghost use Rattle.ctl_filter.specs.Held.{query_of};
 
 use crate::printing::append_stanza;
 use crate::query::{FilterQuery, Shown};
@@ -16,12 +17,12 @@ use ctl_store::Store;
 use itoa::Buffer;
 use std::alloc::{AllocError, Global};
 
-fn count_taken(alloc: Global, store: &Store, taker: &mut Taker<'_>) -> Result<u64, AllocError>
+fn count_taken(store: &Store, taker: &mut Taker<'_>) -> Result<u64, AllocError>
     ensures { IfOk result (λ count. count ≡ length (taken_of (stanzas_in_order (state_of store.now).lists) (query_of taker.old))) }
 {
     let mut count: u64 = 0;
     'stanzas: for stanza in stanzas_of(store) {
-        if taker.takes(alloc, stanza)? {
+        if taker.takes(stanza)? {
             count += 1;
         }
     }
@@ -29,16 +30,16 @@ fn count_taken(alloc: Global, store: &Store, taker: &mut Taker<'_>) -> Result<u6
 }
 
 fn append_taken(
-    alloc: Global,
     store: &Store,
     shown: &Shown,
     taker: &mut Taker<'_>,
     out: &mut Vec<u8>,
 ) -> Result<(), AllocError>
-    ensures { OnOk result (out.new.items ≡ out.old.items ++ flat_map (stanza_shown (shown_of shown.now)) (taken_of (stanzas_in_order (state_of store.now).lists) (query_of taker.old))) }
+    ensures { OnOk result (out.new.items ≡ out.old.items
+        ++ flat_map (stanza_shown (shown_of shown.now)) (taken_of (stanzas_in_order (state_of store.now).lists) (query_of taker.old))) }
 {
     'stanzas: for stanza in stanzas_of(store) {
-        if taker.takes(alloc, stanza)? {
+        if taker.takes(stanza)? {
             append_stanza(shown, stanza, out)?;
         }
     }
@@ -57,15 +58,16 @@ pub fn append_filter(
     query: &FilterQuery,
     out: &mut Vec<u8>,
 ) -> Result<(), AllocError>
-    ensures { OnOk result (out.new.items ≡ out.old.items ++ filter_text (stanzas_in_order (state_of store.now).lists) (query_of query.now)) }
+    ensures { OnOk result (out.new.items ≡ out.old.items
+        ++ filter_text (stanzas_in_order (state_of store.now).lists) (query_of query.now)) }
 {
     let mut taker = Taker::new(alloc, query)?;
     if query.counted {
-        let count = count_taken(alloc, store, &mut taker)?;
+        let count = count_taken(store, &mut taker)?;
         let mut digits = Buffer::new();
         append_line(out, &[digits.format(count).as_bytes()])?;
         return Ok(());
     }
-    append_taken(alloc, store, &query.shown, &mut taker, out)?;
+    append_taken(store, &query.shown, &mut taker, out)?;
     Ok(())
 }

@@ -1,29 +1,31 @@
 //! Filters: their atoms, and the truth of each on a stanza.
 
-ghost use Rattle.std.specs.Prelude.{◌≡◌, IfOk, IfSome, map, take, false, option_map};
+ghost use Rattle.std.specs.Prelude.{◌≡◌, IfOk, IfSome, Some, map, take, false};
 ghost use Rattle.std.specs.List.{list_any};
-ghost use Rattle.std.specs.Str.{str_eq_ignore_ascii_case};
-ghost use Rattle.regex.specs.Bytes.{matcher_pattern};
-ghost use Rattle.ctl_filter.specs.Substring.{contains, begins_in_any_case, contains_in_any_case};
 ghost use Rattle.ctl_filter.specs.Filter.{text_passes, field_passes, atom_passes};
-ghost use Rattle.ctl_filter.specs.Held.{test_of, atom_of, Fits};
+ghost use Rattle.ctl_filter.specs.Rx.{rx_matches};
+ghost use Rattle.ctl_filter.specs.Inside.Views.{expression_bytes, expression_ignores_case, expression_tree};
+ghost use Rattle.ctl_filter.specs.Inside.Values.{test_of, atom_of};
+ghost use Rattle.ctl_filter.specs.Inside.Searchers.{sought_by, finds_small, Tree, Fits};
 
 use crate::comparison::Bound;
 use crate::expression::Expression;
-use bstr::ByteSlice;
+use crate::searching::{has_lowered, has_pattern, lowered};
 use ctl_relation::{Bytes, Operator, Version};
 use ctl_stanza::Stanza;
 use regex::bytes::Matcher;
 use std::alloc::{AllocError, Global};
 use std::marker::Model;
+use std::mem::size_of;
 
 /// What an atom asks of a text, letters being taken without regard to case where the first part says so.
 #[derive(Drop)]
 pub(crate) enum Test {
     Substring(bool, Bytes),
     Exact(bool, Bytes),
-    Expression(Expression),
-    Compare(Operator, Bound),
+    // What a plain pattern doesn't need stands in a box, so that it takes no room of each.
+    Expression(Box<Expression>),
+    Compare(Operator, Box<Bound>),
 }
 
 /// An atom of a filter: the fields whose bodies are its texts, or none where it is the whole stanza's.
@@ -33,64 +35,69 @@ pub(crate) struct Atom {
     pub(crate) test: Test,
 }
 
-/// Whether the pattern stands somewhere in the text.
-fn has_pattern(pattern: &[u8], text: &[u8]) -> bool
-    ensures { result ≡ contains pattern.now text.now }
-{
-    text.contains_str(pattern)
+// A line may have some 200,000 atoms.
+const _: () = prove!(size_of::<Atom>() <= 64);
+
+/// What serves each search by one test again.
+#[derive(Drop)]
+pub(crate) enum Searcher<'q> {
+    /// The pattern of a substring in any case, in small letters.
+    Small(Vec<u8>),
+    /// What searches for the pattern of `--rx`.
+    Matcher(Matcher<'q>),
 }
 
-// The first bytes, or all where there are fewer.
-fn front(text: &[u8], len: usize) -> &[u8]
-    ensures { result.now ≡ take len text.now }
-{
-    if len <= text.len() {
-        return &text[..len];
-    }
-    text
-}
-
-fn begins_in_any_case(pattern: &[u8], text: &[u8]) -> bool
-    ensures { result ≡ begins_in_any_case pattern.now text.now }
-{
-    front(text, pattern.len()).eq_ignore_ascii_case(pattern)
-}
-
-/// Whether the pattern stands somewhere in the text, letters taken without regard to ASCII case.
-fn has_pattern_in_any_case(pattern: &[u8], text: &[u8]) -> bool
-    ensures { result ≡ contains_in_any_case pattern.now text.now }
-{
-    let mut rest = text;
-    'places: while let Some((_, others)) = rest.split_first() {
-        if begins_in_any_case(pattern, rest) {
-            return true;
-        }
-        rest = others;
-    }
-    begins_in_any_case(pattern, rest)
-}
-
-/// Whether a text passes a test, by the test's own matcher.
-pub(crate) fn text_passes(
-    alloc: Global,
-    test: &Test,
-    matcher: &mut Option<Matcher<'_>>,
+/// Whether the pattern of a searcher, if it is one in small letters, stands in the text in any case.
+fn has_small(
+    searcher: &Option<Box<Searcher<'_>>>,
     text: &[u8],
+    room: &mut Vec<u8>,
 ) -> Result<bool, AllocError>
-    requires { Fits test.now matcher.old }
+    ensures { IfOk result (λ found. found ≡ finds_small (sought_by searcher.now) text.now) }
+{
+    match searcher {
+        Some(searcher) => match &**searcher {
+            Searcher::Small(pattern) => has_lowered(pattern, text, room),
+            Searcher::Matcher(_) => Ok(false),
+        },
+        None => Ok(false),
+    }
+}
+
+/// Whether the expression has a match in the text, by its own searcher.
+fn has_match(expression: &Expression, searcher: &mut Option<Box<Searcher<'_>>>, text: &[u8]) -> bool
+    requires { sought_by searcher.old ≡ Some (Tree (expression_tree expression.now)) }
+    ensures found { result ≡ rx_matches (expression_ignores_case expression.now) (expression_bytes expression.now) text.now }
+    ensures same { sought_by searcher.new ≡ sought_by searcher.old }
+{
+    match searcher {
+        Some(searcher) => match &mut **searcher {
+            Searcher::Matcher(matcher) => expression.is_match(matcher, text),
+            Searcher::Small(_) => false,
+        },
+        None => false,
+    }
+}
+
+/// Whether a text passes a test, by the test's own searcher.
+#[tactic(auto, using(crate::proofs::AnyCaseLemmas::contains_lowered))]
+pub(crate) fn text_passes(
+    test: &Test,
+    searcher: &mut Option<Box<Searcher<'_>>>,
+    text: &[u8],
+    room: &mut Vec<u8>,
+) -> Result<bool, AllocError>
+    requires { Fits test.now searcher.old }
     ensures passes { IfOk result (λ passes. passes ≡ text_passes (test_of test.now) text.now) }
-    ensures same { option_map matcher_pattern matcher.new ≡ option_map matcher_pattern matcher.old }
+    ensures same { sought_by searcher.new ≡ sought_by searcher.old }
 {
     match test {
         Test::Substring(false, pattern) => Ok(has_pattern(pattern.as_slice(), text)),
-        Test::Substring(true, pattern) => Ok(has_pattern_in_any_case(pattern.as_slice(), text)),
+        Test::Substring(true, _) => has_small(searcher, text, room),
         Test::Exact(false, pattern) => Ok(text == pattern.as_slice()),
         Test::Exact(true, pattern) => Ok(text.eq_ignore_ascii_case(pattern.as_slice())),
-        Test::Expression(expression) => match matcher {
-            Some(matcher) => Ok(expression.is_match(matcher, text)),
-            None => Ok(false),
-        },
-        Test::Compare(operator, bound) => bound.is_met_by(alloc, *operator, text),
+        Test::Expression(expression) => Ok(has_match(expression, searcher, text)),
+        Test::Compare(operator, bound) => bound.is_met_by(*room.allocator(), *operator, text),
     }
 }
 
@@ -108,105 +115,108 @@ fn version_of<'a>(stanza: &'a Stanza, text: &[u8]) -> Option<&'a Version>
 
 /// Whether a body of a stanza passes a test. One that is the stanza's version is not read anew, which could take memory.
 fn body_passes(
-    alloc: Global,
     test: &Test,
-    matcher: &mut Option<Matcher<'_>>,
+    searcher: &mut Option<Box<Searcher<'_>>>,
     stanza: &Stanza,
     body: &[u8],
+    room: &mut Vec<u8>,
 ) -> Result<bool, AllocError>
-    requires { Fits test.now matcher.old }
+    requires { Fits test.now searcher.old }
     ensures passes { IfOk result (λ passes. passes ≡ text_passes (test_of test.now) body.now) }
-    ensures same { option_map matcher_pattern matcher.new ≡ option_map matcher_pattern matcher.old }
+    ensures same { sought_by searcher.new ≡ sought_by searcher.old }
 {
     if let Test::Compare(operator, bound) = test {
         if let Some(version) = version_of(stanza, body) {
             return Ok(bound.is_met_by_version(*operator, version));
         }
     }
-    text_passes(alloc, test, matcher, body)
+    text_passes(test, searcher, body, room)
 }
 
 fn field_passes(
-    alloc: Global,
     test: &Test,
-    matcher: &mut Option<Matcher<'_>>,
+    searcher: &mut Option<Box<Searcher<'_>>>,
     stanza: &Stanza,
     name: &[u8],
+    room: &mut Vec<u8>,
 ) -> Result<bool, AllocError>
-    requires { Fits test.now matcher.old }
+    requires { Fits test.now searcher.old }
     ensures passes { IfOk result (λ passes. passes ≡ field_passes (test_of test.now) stanza.now name.now) }
-    ensures same { option_map matcher_pattern matcher.new ≡ option_map matcher_pattern matcher.old }
+    ensures same { sought_by searcher.new ≡ sought_by searcher.old }
 {
     match stanza.field(name) {
-        Some(body) => body_passes(alloc, test, matcher, stanza, body),
+        Some(body) => body_passes(test, searcher, stanza, body, room),
         None => Ok(false),
     }
 }
 
 fn any_field_passes(
-    alloc: Global,
     names: &[Bytes],
     test: &Test,
-    matcher: &mut Option<Matcher<'_>>,
+    searcher: &mut Option<Box<Searcher<'_>>>,
     stanza: &Stanza,
+    room: &mut Vec<u8>,
 ) -> Result<bool, AllocError>
-    requires { Fits test.now matcher.old }
+    requires { Fits test.now searcher.old }
     ensures passes { IfOk result (λ passes. passes ≡ list_any (field_passes (test_of test.now) stanza.now) names.now) }
-    ensures same { option_map matcher_pattern matcher.new ≡ option_map matcher_pattern matcher.old }
+    ensures same { sought_by searcher.new ≡ sought_by searcher.old }
 {
     for name in names {
-        if field_passes(alloc, test, matcher, stanza, name.as_slice())? {
+        if field_passes(test, searcher, stanza, name.as_slice(), room)? {
             return Ok(true);
         }
     }
     Ok(false)
 }
 
-/// What searches for the pattern of a test, if it is one of `--rx`.
-fn matcher_of(alloc: Global, test: &Test) -> Result<Option<Matcher<'_>>, AllocError>
-    ensures { IfOk result (λ matcher. Fits test.now matcher) }
+/// The searcher of a test, if it needs one.
+fn searcher_of(alloc: Global, test: &Test) -> Result<Option<Box<Searcher<'_>>>, AllocError>
+    ensures { IfOk result (λ searcher. Fits test.now searcher) }
 {
-    match test {
-        Test::Expression(expression) => Ok(Some(expression.matcher(alloc)?)),
-        _ => Ok(None),
-    }
+    let searcher = match test {
+        Test::Substring(true, pattern) => Searcher::Small(lowered(alloc, pattern.as_slice())?),
+        Test::Expression(expression) => Searcher::Matcher(expression.matcher(alloc)?),
+        _ => return Ok(None),
+    };
+    Ok(Some(Box::new(alloc, searcher)?))
 }
 
-/// An atom with its matcher, which is made once for all stanzas.
+/// An atom with its searcher, which is made once for all stanzas.
 #[derive(Drop)]
 pub(crate) struct Prepared<'q> {
     atom: &'q Atom,
-    matcher: Option<Matcher<'q>>,
+    searcher: Option<Box<Searcher<'q>>>,
 }
 
 impl<'q> Model for Prepared<'q> {
     ghost use Rattle.ctl_filter.specs.Filter.{Atom};
-    ghost use Rattle.ctl_filter.specs.Held.{atom_of, Fits};
+    ghost use Rattle.ctl_filter.specs.Inside.Values.{atom_of};
+    ghost use Rattle.ctl_filter.specs.Inside.Searchers.{Fits};
 
     ghost Value = { Atom };
 
     ghost view = { λ p. atom_of p.atom.now };
 
-    ghost invariant = { λ p. Fits p.atom.now.test p.matcher };
+    ghost invariant = { λ p. Fits p.atom.now.test p.searcher };
 }
 
 impl<'q> Prepared<'q> {
     pub(crate) fn new(alloc: Global, atom: &'q Atom) -> Result<Prepared<'q>, AllocError>
         ensures { IfOk result (λ p. p ≡ atom_of atom.now) }
     {
-        let matcher = matcher_of(alloc, &atom.test)?;
-        Ok(Prepared { atom, matcher })
+        let searcher = searcher_of(alloc, &atom.test)?;
+        Ok(Prepared { atom, searcher })
     }
 
-    /// Whether a stanza passes.
-    pub(crate) fn passes(&mut self, alloc: Global, stanza: &Stanza) -> Result<bool, AllocError>
+    /// Whether a stanza passes. The room serves again.
+    pub(crate) fn passes(&mut self, stanza: &Stanza, room: &mut Vec<u8>) -> Result<bool, AllocError>
         ensures passes { IfOk result (λ passes. passes ≡ atom_passes stanza.now self.old) }
         ensures same { self.new ≡ self.old }
     {
         let atom = self.atom;
         match &atom.fields {
-            None => text_passes(alloc, &atom.test, &mut self.matcher, stanza.text()),
-            Some(names) => any_field_passes(alloc, names, &atom.test, &mut self.matcher, stanza),
+            None => text_passes(&atom.test, &mut self.searcher, stanza.text(), room),
+            Some(names) => any_field_passes(names, &atom.test, &mut self.searcher, stanza, room),
         }
     }
 }

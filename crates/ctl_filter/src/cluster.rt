@@ -2,7 +2,7 @@
 
 ghost use Rattle.std.specs.Prelude.{◌≡◌, ◌++◌, ◌∷◌, ◌⊎◌, [], List, false, IfOk, IfErr, OnOk, Ok, Err, true};
 ghost use Rattle.ctl_store.specs.declared.refusal.Refusal.TheVariants as refusal;
-ghost use Rattle.ctl_filter.specs.Reads.{Reads};
+ghost use Rattle.ctl_filter.specs.Inside.Reads.{Reads};
 ghost use Rattle.ctl_filter.specs.Words.{sign_named, manner_named, onto_word, onto_pieces, takes_argument, argument_piece, argument_given, letter_piece, cluster, is_pattern, long_word, word_by, word_pieces, pieces_from, pieces_of};
 
 use crate::piece::{Manner, Piece};
@@ -205,8 +205,10 @@ fn read_first(
     words: &[Bytes],
     pieces: &mut Vec<Piece>,
 ) -> Result<bool, Refusal>
-    ensures ok { IfOk result (λ next. onto_pieces pieces.old.items (pieces_from taken (word.now ∷ words.now)) ≡ onto_pieces pieces.new.items (pieces_from next words.now)) }
-    ensures err { IfErr result (λ cause. (onto_pieces pieces.old.items (pieces_from taken (word.now ∷ words.now)) ≡ Err cause) ⊎ (cause ≡ refusal.Memory)) }
+    ensures ok { IfOk result (λ next. onto_pieces pieces.old.items (pieces_from taken (word.now ∷ words.now))
+        ≡ onto_pieces pieces.new.items (pieces_from next words.now)) }
+    ensures err { IfErr result (λ cause. (onto_pieces pieces.old.items (pieces_from taken (word.now ∷ words.now)) ≡ Err cause)
+        ⊎ (cause ≡ refusal.Memory)) }
 {
     if taken {
         return Ok(false);

@@ -60,11 +60,13 @@ impl Model for Bound {
 }
 
 impl Bound {
-    pub(crate) fn new(alloc: Global, pattern: Bytes) -> Result<Bound, AllocError>
-        ensures { IfOk result (λ bound. bound ≡ pattern) }
+    /// Reads a pattern, in a box.
+    pub(crate) fn boxed(alloc: Global, pattern: Bytes) -> Result<Box<Bound>, AllocError>
+        ensures { IfOk result (λ bound. bound.value ≡ pattern) }
     {
         let version = version_in(alloc, pattern.as_slice())?;
-        Ok(Bound { pattern, version })
+        let bound = Bound { pattern, version };
+        Ok(Box::new(alloc, bound)?)
     }
 
     /// Whether the pattern is a version, and this one stands so to it.

@@ -1,10 +1,11 @@
 //! Patterns of `--rx`: built from bytes, matched on bytes.
 
-ghost use Rattle.std.specs.Prelude.{◌≡◌, IfOk};
-ghost use Rattle.std.specs.Str.{IsUtf8};
+ghost use Rattle.std.specs.Prelude.{◌≡◌, IfOk, IfErr, true};
 ghost use Rattle.regex.specs.Bytes.{regex_source, regex_config, regex_pattern, matcher_pattern, IsReadFromSource};
-ghost use Rattle.ctl_filter.specs.Rx.{rx_config, rx_matches};
+ghost use Rattle.ctl_filter.specs.Rx.{rx_config, rx_matches, is_well_formed};
+ghost use Rattle.ctl_filter.specs.Inside.Faults.{IsFaultOf};
 
+use ctl_store::Refusal;
 use regex::bytes::{Matcher, Regex};
 use regex::{Error, RegexBuilder};
 use std::alloc::{AllocError, Global};
@@ -13,10 +14,26 @@ use std::str;
 /// Why a pattern was not built.
 #[derive(Clone, Copy, Debug, Drop, PartialEq, Eq)]
 pub(crate) enum PatternFault {
-    /// It isn't UTF-8, or `regex` refuses it.
-    Refused,
+    /// It isn't UTF-8, or the grammar of `regex` doesn't read it, or it nests too deep.
+    Malformed,
+    /// It is well formed, and what `regex` would build of it is too big.
+    TooBig,
     /// Memory ran out.
     Memory,
+}
+
+impl From<PatternFault> for Refusal {
+    ghost use Rattle.std.specs.Prelude.{◌≡◌};
+    ghost use Rattle.ctl_filter.specs.Inside.Faults.{refusal_of};
+
+    ghost from_gives = { λ fault cause. cause ≡ refusal_of fault };
+
+    fn from(fault: PatternFault) -> Refusal {
+        match fault {
+            PatternFault::Malformed | PatternFault::TooBig => Refusal::Pattern,
+            PatternFault::Memory => Refusal::Memory,
+        }
+    }
 }
 
 /// A pattern that `regex` has built.
@@ -29,29 +46,35 @@ pub(crate) struct Expression {
 }
 
 impl Expression {
-    ghost use Rattle.ctl_filter.specs.Views.{expression_bytes, expression_ignores_case, expression_tree};
+    ghost use Rattle.ctl_filter.specs.Inside.Views.{expression_bytes, expression_ignores_case, expression_tree};
 
-    /// Builds a pattern.
+    /// Builds a pattern, whose tables may take about so many bytes.
     pub(crate) fn new(
         alloc: Global,
         pattern: &[u8],
         ignores_case: bool,
+        size_limit: usize,
     ) -> Result<Expression, PatternFault>
         ensures bytes { IfOk result (λ e. expression_bytes e ≡ pattern.now) }
         ensures case { IfOk result (λ e. expression_ignores_case e ≡ ignores_case) }
-        ensures text { IfOk result (λ e. IsUtf8 pattern.now) }
+        ensures well_formed { IfOk result (λ e. is_well_formed ignores_case pattern.now ≡ true) }
+        ensures fault { IfErr result (λ fault. IsFaultOf ignores_case pattern.now fault) }
     {
         let Ok(source) = str::from_utf8(pattern) else {
-            return Err(PatternFault::Refused);
+            return Err(PatternFault::Malformed);
         };
-        let builder = RegexBuilder::new(source).case_insensitive(ignores_case);
+        let builder = RegexBuilder::new(source)
+            .case_insensitive(ignores_case)
+            .size_limit(size_limit);
         match builder.build_bytes(alloc) {
             Ok(regex) => Ok(Expression {
                 regex,
                 ignores_case,
             }),
+            Err(Error::Syntax(_)) => Err(PatternFault::Malformed),
+            Err(Error::CompiledTooBig) => Err(PatternFault::TooBig),
+            Err(Error::Internal) => Err(PatternFault::TooBig),
             Err(Error::OutOfMemory) => Err(PatternFault::Memory),
-            Err(_) => Err(PatternFault::Refused),
         }
     }
 

@@ -5,9 +5,9 @@ ghost use Rattle.ctl_store.specs.declared.refusal.Refusal.TheVariants as refusal
 ghost use Rattle.ctl_filter.specs.declared.piece.Piece.{Piece};
 ghost use Rattle.ctl_filter.specs.declared.piece.Piece.TheVariants as piece;
 ghost use Rattle.ctl_filter.specs.Atoms.{Parts, no_modifiers, is_bare, with_fields, more_fields, parts_of};
-ghost use Rattle.ctl_filter.specs.Held.{modifiers_of, asked_atom, resumed};
+ghost use Rattle.ctl_filter.specs.Inside.Values.{modifiers_of, asked_atom, resumed};
 ghost use Rattle.ctl_filter.specs.Names.{names_in, are_field_names};
-ghost use Rattle.ctl_filter.specs.Reads.{Reads};
+ghost use Rattle.ctl_filter.specs.Inside.Reads.{Reads};
 
 use crate::names::{append_names, are_field_names};
 use crate::piece::{Manner, Piece};
@@ -78,7 +78,8 @@ fn push_atom(atoms: &mut Vec<AskedAtom>, atom: AskedAtom) -> Result<(), Refusal>
 
 fn take_sign(sign: Token, gathered: &mut Gathered) -> Result<(), Refusal>
     ensures ok { OnOk result ((pieces : List Piece) → resumed gathered.old (piece.Sign sign ∷ pieces) ≡ resumed gathered.new pieces) }
-    ensures err { IfErr result (λ cause. ((pieces : List Piece) → resumed gathered.old (piece.Sign sign ∷ pieces) ≡ Err cause) ⊎ (cause ≡ refusal.Memory)) }
+    ensures err { IfErr result (λ cause. ((pieces : List Piece) → resumed gathered.old (piece.Sign sign ∷ pieces) ≡ Err cause)
+        ⊎ (cause ≡ refusal.Memory)) }
 {
     if !is_bare(&gathered.modifiers) {
         return Err(Refusal::Filter);
@@ -119,7 +120,8 @@ fn more_fields(
 /// Whether FIELDS are names.
 fn are_fields(alloc: Global, text: &[u8]) -> Result<(), Refusal>
     ensures ok { OnOk result (are_field_names (names_in text.now) ≡ true) }
-    ensures err { IfErr result (λ cause. ((are_field_names (names_in text.now) ≡ false) × (cause ≡ refusal.Filter)) ⊎ (cause ≡ refusal.Memory)) }
+    ensures err { IfErr result (λ cause. ((are_field_names (names_in text.now) ≡ false) × (cause ≡ refusal.Filter))
+        ⊎ (cause ≡ refusal.Memory)) }
 {
     let names = more_fields(alloc, None, text)?;
     if are_field_names(&names) {
@@ -131,7 +133,8 @@ fn are_fields(alloc: Global, text: &[u8]) -> Result<(), Refusal>
 
 fn take_fields(alloc: Global, text: &[u8], gathered: &mut Gathered) -> Result<(), Refusal>
     ensures ok { OnOk result ((pieces : List Piece) → resumed gathered.old (piece.Fields text.now ∷ pieces) ≡ resumed gathered.new pieces) }
-    ensures err { IfErr result (λ cause. ((pieces : List Piece) → resumed gathered.old (piece.Fields text.now ∷ pieces) ≡ Err cause) ⊎ (cause ≡ refusal.Memory)) }
+    ensures err { IfErr result (λ cause. ((pieces : List Piece) → resumed gathered.old (piece.Fields text.now ∷ pieces) ≡ Err cause)
+        ⊎ (cause ≡ refusal.Memory)) }
 {
     are_fields(alloc, text)?;
     let fields = mem::replace(&mut gathered.modifiers.fields, None);
@@ -152,7 +155,8 @@ fn take_manner(manner: Manner, gathered: &mut Gathered) -> Result<(), Refusal>
 
 fn take_piece(alloc: Global, piece: Piece, gathered: &mut Gathered) -> Result<(), Refusal>
     ensures ok { OnOk result ((pieces : List Piece) → resumed gathered.old (piece ∷ pieces) ≡ resumed gathered.new pieces) }
-    ensures err { IfErr result (λ cause. ((pieces : List Piece) → resumed gathered.old (piece ∷ pieces) ≡ Err cause) ⊎ (cause ≡ refusal.Memory)) }
+    ensures err { IfErr result (λ cause. ((pieces : List Piece) → resumed gathered.old (piece ∷ pieces) ≡ Err cause)
+        ⊎ (cause ≡ refusal.Memory)) }
 {
     match piece {
         Piece::Sign(sign) => take_sign(sign, gathered),

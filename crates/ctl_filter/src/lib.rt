@@ -16,12 +16,16 @@ mod printing;
 mod query;
 mod reading;
 mod running;
+mod searching;
 mod stanzas;
 mod taking;
 mod text;
 mod token;
 
 pub use answering::append_filter;
-pub use laws::{filters_have_one_tree, substrings_are_parts, truths_are_by_cases};
+pub use laws::{
+    atoms_are_modifiers_and_a_pattern, clusters_are_letters, filters_have_one_tree,
+    substrings_are_parts, truths_are_by_cases,
+};
 pub use parsing::parse_filter;
 pub use query::FilterQuery;

@@ -1,11 +1,13 @@
 //! Words to a filter.
 
-ghost use Rattle.std.specs.Prelude.{◌≡◌, ◌⊎◌, ◌++◌, ◌∷◌, [], OnOk, IfOk, IfErr, Ok, map, true, false};
-ghost use Rattle.std.specs.List.{list_all, list_any};
+ghost use Rattle.std.specs.Prelude.{◌≡◌, ◌⊎◌, ◌++◌, ◌*◌, ◌/◌, ◌^◌, max, ◌∷◌, [], OnOk, IfOk, IfErr, Ok, map, true, false};
+ghost use Rattle.std.specs.List.{count_by, list_all, list_any};
 ghost use Rattle.ctl_store.specs.declared.refusal.Refusal.TheVariants as refusal;
-ghost use Rattle.ctl_filter.specs.Filter.{is_text, is_utf8, has_expression};
+ghost use Rattle.ctl_filter.specs.Filter.{is_readable, has_expression};
+ghost use Rattle.ctl_filter.specs.Rx.{is_well_formed};
 ghost use Rattle.ctl_filter.specs.Filter as asked;
-ghost use Rattle.ctl_filter.specs.Held.{asked_atom, atom_of, test_of, shown_of, AreOptionsOf, IsAskedBy};
+ghost use Rattle.ctl_filter.specs.Inside.Values.{asked_atom, atom_of, test_of, shown_of, AreOptionsOf};
+ghost use Rattle.ctl_filter.specs.Held.{IsAskedBy};
 ghost use Rattle.ctl_filter.specs.Names.{are_field_names};
 ghost use Rattle.ctl_filter.specs.Atoms.{names_shown};
 ghost use Rattle.ctl_filter.specs.Query.{shown_by, if_pieces, filter_of};
@@ -13,7 +15,7 @@ ghost use Rattle.ctl_filter.specs.Query.{shown_by, if_pieces, filter_of};
 use crate::atom::{Atom, Test};
 use crate::cluster::pieces_of;
 use crate::comparison::Bound;
-use crate::expression::{Expression, PatternFault};
+use crate::expression::Expression;
 use crate::gathering::{AskedAtom, Gathered, Modifiers, parts_of};
 use crate::names::are_field_names;
 use crate::options::{fields_shown, is_given, names_shown};
@@ -24,14 +26,20 @@ use ctl_relation::{Bytes, Operator};
 use ctl_store::Refusal;
 use std::alloc::Global;
 
-fn expression_of(alloc: Global, pattern: &[u8], any_case: bool) -> Result<Test, Refusal>
-    ensures ok { IfOk result (λ test. (test_of test ≡ asked.Expression any_case pattern.now) × (is_utf8 pattern.now ≡ true)) }
+fn expression_of(
+    alloc: Global,
+    pattern: &[u8],
+    any_case: bool,
+    size_limit: usize,
+) -> Result<Test, Refusal>
+    ensures ok { IfOk result (λ test. (test_of test ≡ asked.Expression any_case pattern.now)
+        × (is_well_formed any_case pattern.now ≡ true)) }
     ensures err { IfErr result (λ cause. (cause ≡ refusal.Pattern) ⊎ (cause ≡ refusal.Memory)) }
 {
-    match Expression::new(alloc, pattern, any_case) {
+    let expression = Expression::new(alloc, pattern, any_case, size_limit)?;
+    match Box::new(alloc, expression) {
         Ok(expression) => Ok(Test::Expression(expression)),
-        Err(PatternFault::Refused) => Err(Refusal::Pattern),
-        Err(PatternFault::Memory) => Err(Refusal::Memory),
+        Err(_) => Err(Refusal::Memory),
     }
 }
 
@@ -39,16 +47,17 @@ fn comparison_of(alloc: Global, operator: Operator, pattern: Bytes) -> Result<Te
     ensures ok { IfOk result (λ test. test_of test ≡ asked.Compare operator pattern) }
     ensures err { IfErr result (λ cause. cause ≡ refusal.Memory) }
 {
-    match Bound::new(alloc, pattern) {
+    match Bound::boxed(alloc, pattern) {
         Ok(bound) => Ok(Test::Compare(operator, bound)),
         Err(_) => Err(Refusal::Memory),
     }
 }
 
-/// Builds an atom. Its pattern is built where it is one of `--rx`.
-fn built_atom(alloc: Global, asked: AskedAtom) -> Result<Atom, Refusal>
-    ensures ok { IfOk result (λ atom. (atom_of atom ≡ asked_atom asked) × (is_text (asked_atom asked) ≡ true)) }
-    ensures err { IfErr result (λ cause. ((cause ≡ refusal.Pattern) × (has_expression (asked_atom asked) ≡ true)) ⊎ (cause ≡ refusal.Memory)) }
+/// Builds an atom. Its pattern is built where it is one of `--rx`, within a limit on size.
+fn built_atom(alloc: Global, asked: AskedAtom, size_limit: usize) -> Result<Atom, Refusal>
+    ensures ok { IfOk result (λ atom. (atom_of atom ≡ asked_atom asked) × (is_readable (asked_atom asked) ≡ true)) }
+    ensures err { IfErr result (λ cause. ((cause ≡ refusal.Pattern) × (has_expression (asked_atom asked) ≡ true))
+        ⊎ (cause ≡ refusal.Memory)) }
 {
     let AskedAtom { modifiers, pattern } = asked;
     let Modifiers {
@@ -59,7 +68,7 @@ fn built_atom(alloc: Global, asked: AskedAtom) -> Result<Atom, Refusal>
     let test = match manner {
         None => Test::Substring(any_case, pattern),
         Some(Manner::Exact) => Test::Exact(any_case, pattern),
-        Some(Manner::Rx) => expression_of(alloc, pattern.as_slice(), any_case)?,
+        Some(Manner::Rx) => expression_of(alloc, pattern.as_slice(), any_case, size_limit)?,
         Some(Manner::Compare(operator)) => comparison_of(alloc, operator, pattern)?,
     };
     Ok(Atom { fields, test })
@@ -75,14 +84,47 @@ fn push_atom(atoms: &mut Vec<Atom>, atom: Atom) -> Result<(), Refusal>
     }
 }
 
-/// Builds atoms.
-fn built_atoms(alloc: Global, asked: Vec<AskedAtom>) -> Result<Vec<Atom>, Refusal>
-    ensures ok { IfOk result (λ atoms. (map atom_of atoms.items ≡ map asked_atom asked.items) × (list_all is_text (map asked_atom asked.items) ≡ true)) }
-    ensures err { IfErr result (λ cause. ((cause ≡ refusal.Pattern) × (list_any has_expression (map asked_atom asked.items) ≡ true)) ⊎ (cause ≡ refusal.Memory)) }
+/// Whether an atom has a pattern of `--rx`.
+fn has_expression(asked: &AskedAtom) -> bool
+    ensures { result ≡ has_expression (asked_atom asked.now) }
 {
+    matches!(asked.modifiers.manner, Some(Manner::Rx))
+}
+
+/// How many atoms have one.
+fn expression_count(asked: &[AskedAtom]) -> usize
+    ensures { result ≡ count_by (λ atom. has_expression (asked_atom atom)) asked.now }
+{
+    let mut count = 0;
+    for atom in asked {
+        if has_expression(atom) {
+            count += 1;
+        }
+    }
+    count
+}
+
+/// How many bytes the tables of all patterns of a filter may take together, which one alone may take.
+const SIZE_LIMIT: usize = 10 << 20;
+
+/// The share of each of so many patterns.
+fn size_limit_of(patterns: usize) -> usize
+    ensures { result ≡ 10 * 2 ^ 20 / max patterns 1 }
+{
+    SIZE_LIMIT / patterns.max(1)
+}
+
+/// Builds atoms. Patterns of `--rx` share the room for their tables.
+fn built_atoms(alloc: Global, asked: Vec<AskedAtom>) -> Result<Vec<Atom>, Refusal>
+    ensures ok { IfOk result (λ atoms. (map atom_of atoms.items ≡ map asked_atom asked.items)
+        × (list_all is_readable (map asked_atom asked.items) ≡ true)) }
+    ensures err { IfErr result (λ cause. ((cause ≡ refusal.Pattern) × (list_any has_expression (map asked_atom asked.items) ≡ true))
+        ⊎ (cause ≡ refusal.Memory)) }
+{
+    let size_limit = size_limit_of(expression_count(&asked));
     let mut atoms = Vec::new(alloc);
     'atoms: for one in asked {
-        push_atom(&mut atoms, built_atom(alloc, one)?)?;
+        push_atom(&mut atoms, built_atom(alloc, one, size_limit)?)?;
     }
     Ok(atoms)
 }
@@ -90,7 +132,8 @@ fn built_atoms(alloc: Global, asked: Vec<AskedAtom>) -> Result<Vec<Atom>, Refusa
 /// The names of `-s`, which are fields.
 fn names_asked(alloc: Global, pieces: &[Piece]) -> Result<Vec<Bytes>, Refusal>
     ensures ok { IfOk result (λ names. (names.items ≡ names_shown pieces.now) × (are_field_names (names_shown pieces.now) ≡ true)) }
-    ensures err { IfErr result (λ cause. ((cause ≡ refusal.Filter) × (are_field_names (names_shown pieces.now) ≡ false)) ⊎ (cause ≡ refusal.Memory)) }
+    ensures err { IfErr result (λ cause. ((cause ≡ refusal.Filter) × (are_field_names (names_shown pieces.now) ≡ false))
+        ⊎ (cause ≡ refusal.Memory)) }
 {
     let Ok(names) = names_shown(alloc, pieces) else {
         return Err(Refusal::Memory);
@@ -129,7 +172,8 @@ struct Options {
 
 fn options_of(alloc: Global, pieces: &[Piece]) -> Result<Options, Refusal>
     ensures ok { IfOk result (λ options. AreOptionsOf options pieces.now × (are_field_names (names_shown pieces.now) ≡ true)) }
-    ensures err { IfErr result (λ cause. ((cause ≡ refusal.Filter) × (are_field_names (names_shown pieces.now) ≡ false)) ⊎ (cause ≡ refusal.Memory)) }
+    ensures err { IfErr result (λ cause. ((cause ≡ refusal.Filter) × (are_field_names (names_shown pieces.now) ≡ false))
+        ⊎ (cause ≡ refusal.Memory)) }
 {
     let names = names_asked(alloc, pieces)?;
     let shown = shown_by(alloc, pieces, names)?;
@@ -168,11 +212,15 @@ fn query_in(alloc: Global, pieces: Vec<Piece>) -> Result<FilterQuery, Refusal>
 /// The first of these: [`Refusal::Usage`], where a word is none of grep-dctrl's, or an option is without its argument;
 /// [`Refusal::Filter`], where FIELDS are no names of fields, an atom has two of `-X`, `--rx` and the comparisons, or the words
 /// are no expression of which `(` and `!` nest 100 deep at most; [`Refusal::Pattern`], where a pattern of `--rx` isn't UTF-8,
-/// or is refused by `regex`. [`Refusal::Memory`] where memory is refused.
+/// or is refused by `regex`. [`Refusal::Memory`] where memory is refused, but never where there are no words.
 #[tactic(auto, unfolding(crate::specs::Query::filter_of))]
 pub fn parse_filter(alloc: Global, words: &[Bytes]) -> Result<FilterQuery, Refusal>
-    ensures { IsAskedBy result (filter_of words.now) }
+    ensures asked { IsAskedBy result (filter_of words.now) }
+    ensures no_words { words.now ≡ [] → IfErr result (λ cause. cause ≡ refusal.Filter) }
 {
+    if words.is_empty() {
+        return Err(Refusal::Filter);
+    }
     let pieces = pieces_of(alloc, words)?;
     query_in(alloc, pieces)
 }

@@ -4,7 +4,7 @@ ghost use Rattle.std.specs.Prelude.{◌≡◌, ◌++◌, ◌≤◌, OnOk, length
 ghost use Rattle.std.specs.List.{list_any, prefix_len};
 ghost use Rattle.ctl_stanza.specs.Content.{named_bodies};
 ghost use Rattle.ctl_filter.specs.Grep.{is_in_line, entry_among, first_line, body_shown, gap, entry_line, field_line, has_field, field_end, fields_text, stanza_shown};
-ghost use Rattle.ctl_filter.specs.Held.{shown_of, lent_entry};
+ghost use Rattle.ctl_filter.specs.Inside.Values.{shown_of, lent_entry};
 
 use crate::names::is_description;
 use crate::query::Shown;

@@ -26,12 +26,19 @@ pub struct FilterQuery {
 
 impl Model for FilterQuery {
     ghost use Rattle.std.specs.Prelude.{map};
-    ghost use Rattle.ctl_filter.specs.Held.{HeldQuery, atom_of, shown_of};
-    ghost use Rattle.ctl_filter.specs.Steps.{Makes, made_by};
+    ghost use Rattle.ctl_filter.specs.Held.{HeldQuery};
+    ghost use Rattle.ctl_filter.specs.Inside.Values.{atom_of, shown_of};
+    ghost use Rattle.ctl_filter.specs.Inside.Steps.{Makes, made_by};
 
     ghost Value = { HeldQuery };
 
-    ghost view = { λ q. record { inverted = q.inverted; counted = q.counted; shown = shown_of q.shown; atoms = map atom_of q.atoms.items; steps = q.steps.items } };
+    ghost view = { λ q. record {
+      inverted = q.inverted;
+      counted = q.counted;
+      shown = shown_of q.shown;
+      atoms = map atom_of q.atoms.items;
+      steps = q.steps.items;
+    } };
 
     ghost invariant = { λ q. Makes q.steps.items (made_by q.steps.items) };
 }

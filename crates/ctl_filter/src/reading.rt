@@ -2,12 +2,12 @@
 
 ghost use Rattle.std.specs.Prelude.{◌≡◌, ◌<◌, ◌≤◌, ℕ, [], ◌∷◌, length, ◌++◌, IfOk, IfErr, OnOk, MatchOption};
 ghost use Rattle.ctl_filter.specs.Grammar.{Lacks, NoMore, IsAfter, IsNoNeg, IsNoConj, IsNoPred};
-ghost use Rattle.ctl_filter.specs.Reads.{ReadsNeg, ReadsConj, ReadsPred, ReadsTruth};
+ghost use Rattle.ctl_filter.specs.Inside.Reads.{ReadsNeg, ReadsConj, ReadsPred, ReadsTruth};
 ghost use Rattle.ctl_filter.specs.Trees.{truth_of};
 
 use crate::token::{Step, Token};
 use ctl_store::Refusal;
-use std::alloc::Global;
+use std::alloc::{AllocFailed, Global};
 
 /// Why an expression was not read.
 #[derive(Clone, Copy, Debug, Drop, PartialEq, Eq)]
@@ -16,6 +16,17 @@ enum Fault {
     Form,
     /// Memory ran out.
     Memory,
+}
+
+impl<T: Drop> From<AllocFailed<T>> for Fault {
+    ghost use Rattle.std.specs.Prelude.{◌≡◌};
+    ghost use Rattle.ctl_filter.specs.declared.reading.Fault.TheVariants.{Memory};
+
+    ghost from_gives = { λ _ fault. fault ≡ Memory };
+
+    fn from(_: AllocFailed<T>) -> Fault {
+        Fault::Memory
+    }
 }
 
 fn after<'a>(tokens: &'a [Token], token: Token) -> Option<&'a [Token]>
@@ -40,10 +51,8 @@ fn push_step(out: &mut Vec<Step>, step: Step) -> Result<(), Fault>
     ensures ok { OnOk result (out.new.items ≡ out.old.items ++ step ∷ []) }
     ensures err { IfErr result (λ e. e ≡ Fault.Memory) }
 {
-    match out.push(step) {
-        Ok(()) => Ok(()),
-        Err(_) => Err(Fault::Memory),
-    }
+    out.push(step)?;
+    Ok(())
 }
 
 #[cycle(reading)]

@@ -2,7 +2,7 @@
 
 ghost use Rattle.std.specs.Prelude.{◌≡◌, reverse, IfOk, OnOk};
 ghost use Rattle.ctl_filter.specs.Filter.{value_at};
-ghost use Rattle.ctl_filter.specs.Steps.{after_step, value_of};
+ghost use Rattle.ctl_filter.specs.Inside.Steps.{after_step, value_of};
 
 use crate::token::Step;
 use std::alloc::AllocError;

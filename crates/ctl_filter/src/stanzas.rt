@@ -17,7 +17,7 @@ pub(crate) struct Stanzas<'a> {
 impl<'a> Model for Stanzas<'a> {
     ghost use Rattle.std.specs.Prelude.{List};
     ghost use Rattle.ctl_stanza.specs.Content.{Content};
-    ghost use Rattle.ctl_filter.specs.Held.{without_keys};
+    ghost use Rattle.ctl_filter.specs.Inside.Values.{without_keys};
 
     ghost Value = { List Content };
 

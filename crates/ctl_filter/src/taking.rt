@@ -3,7 +3,8 @@
 ghost use Rattle.std.specs.Prelude.{◌≡◌, OnOk, IfOk, map, not, if◌then◌else◌};
 ghost use Rattle.ctl_filter.specs.Filter.{atom_passes};
 ghost use Rattle.ctl_filter.specs.Grep.{is_taken};
-ghost use Rattle.ctl_filter.specs.Held.{atom_of, query_of};
+ghost use Rattle.ctl_filter.specs.Inside.Values.{atom_of};
+ghost use Rattle.ctl_filter.specs.Held.{query_of};
 
 use crate::atom::{Atom, Prepared};
 use crate::query::FilterQuery;
@@ -24,10 +25,10 @@ fn prepare<'q>(alloc: Global, atoms: &'q [Atom]) -> Result<Vec<Prepared<'q>>, Al
 
 /// The values of the atoms on a stanza, in a vector whose room serves again.
 fn take_values(
-    alloc: Global,
     prepared: &mut [Prepared<'_>],
     stanza: &Stanza,
     values: &mut Vec<bool>,
+    room: &mut Vec<u8>,
 ) -> Result<(), AllocError>
     ensures values { OnOk result (values.new.items ≡ map (atom_passes stanza.now) prepared.old) }
     ensures same { prepared.new ≡ prepared.old }
@@ -35,7 +36,7 @@ fn take_values(
     values.clear();
     for i in 0..prepared.len() {
         let one = &mut prepared[i];
-        let passes = one.passes(alloc, stanza)?;
+        let passes = one.passes(stanza, room)?;
         values.push(passes)?;
     }
     Ok(())
@@ -55,12 +56,14 @@ pub(crate) struct Taker<'q> {
     prepared: Vec<Prepared<'q>>,
     values: Vec<bool>,
     stack: Vec<bool>,
+    // A text in small letters, where one is looked at in any case.
+    room: Vec<u8>,
 }
 
 impl<'q> Model for Taker<'q> {
     ghost use Rattle.std.specs.Prelude.{◌≡◌, map};
     ghost use Rattle.ctl_filter.specs.Held.{HeldQuery};
-    ghost use Rattle.ctl_filter.specs.Held.{atom_of};
+    ghost use Rattle.ctl_filter.specs.Inside.Values.{atom_of};
 
     ghost Value = { HeldQuery };
 
@@ -79,15 +82,16 @@ impl<'q> Taker<'q> {
             prepared,
             values: Vec::new(alloc),
             stack: Vec::new(alloc),
+            room: Vec::new(alloc),
         })
     }
 
     /// Whether a stanza is taken.
-    pub(crate) fn takes(&mut self, alloc: Global, stanza: &Stanza) -> Result<bool, AllocError>
+    pub(crate) fn takes(&mut self, stanza: &Stanza) -> Result<bool, AllocError>
         ensures takes { IfOk result (λ takes. takes ≡ is_taken (query_of self.old) stanza.now) }
         ensures same { self.new ≡ self.old }
     {
-        take_values(alloc, &mut self.prepared, stanza, &mut self.values)?;
+        take_values(&mut self.prepared, stanza, &mut self.values, &mut self.room)?;
         let query = self.query;
         let passes = value_of(&self.values, &query.steps, &mut self.stack)?;
         Ok(is_kept(query.inverted, passes))

@@ -1,6 +1,9 @@
 //! The laws, each called once: what calls one is proved from what it says.
 
-use ctl_filter::{filters_have_one_tree, substrings_are_parts, truths_are_by_cases};
+use ctl_filter::{
+    atoms_are_modifiers_and_a_pattern, clusters_are_letters, filters_have_one_tree,
+    substrings_are_parts, truths_are_by_cases,
+};
 use ctl_policy::{
     edits_of_general_pins, edits_of_lists, edits_of_one_name, edits_of_preferences,
     edits_of_stanzas, edits_of_targets, general_pins_leave_other_names, marks_leave_other_names,
@@ -69,6 +72,8 @@ fn laws_of_filters_can_be_called() {
     filters_have_one_tree();
     truths_are_by_cases();
     substrings_are_parts();
+    atoms_are_modifiers_and_a_pattern();
+    clusters_are_letters();
 }
 
 #[test]

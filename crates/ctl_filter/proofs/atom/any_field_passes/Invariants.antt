@@ -1,13 +1,12 @@
 use Rattle.std.proofs.Common.{◌≡◌, false, take}
 use Rattle.std.specs.List.{list_any}
-use Rattle.std.specs.Option.{option_map}
-use Rattle.regex.specs.Bytes.{matcher_pattern}
 use Rattle.ctl_filter.specs.Filter.{field_passes}
-use Rattle.ctl_filter.specs.Held.{test_of}
+use Rattle.ctl_filter.specs.Inside.Values.{test_of}
+use Rattle.ctl_filter.specs.Inside.Searchers.{sought_by}
 use Rattle.ctl_filter.proofs.atom.any_field_passes.Given as goal
 
 abbrev pub invariant-loop-name : goal.invariant-loop-name
 invariant-loop-name l = record {
   none : list_any (field_passes (test_of l.test) l.stanza) (take l.name-index l.names) ≡ false;
-  same : option_map matcher_pattern l.matcher ≡ option_map matcher_pattern l.initial.matcher;
+  same : sought_by l.searcher ≡ sought_by l.initial.searcher;
 }

@@ -1,6 +1,6 @@
 use Rattle.std.proofs.Common.{◌≡◌}
 use Rattle.ctl_filter.specs.Atoms.{parts_of}
-use Rattle.ctl_filter.specs.Held.{resumed}
+use Rattle.ctl_filter.specs.Inside.Values.{resumed}
 use Rattle.ctl_filter.proofs.gathering.parts_of.Given as goal
 
 -- what was gathered, and the pieces that are left

@@ -1,10 +1,12 @@
-use Rattle.std.proofs.lemmas.Bool.{eq-eqb}
-use Rattle.std.proofs.lemmas.Str.{utf8_valid_len-IsUtf8}
+use Rattle.std.proofs.Common.{ap, ◌∙◌}
+use Rattle.ctl_filter.specs.declared.expression.Expression.{Expression}
 use Rattle.ctl_filter.specs.Filter as asked
+use Rattle.ctl_filter.specs.Inside.Views.{expression_bytes, expression_ignores_case}
 use Rattle.ctl_filter.proofs.parsing.expression_of.Goals as goal
 
 pub returns-in-Ok-clause-ok : goal.returns-in-Ok-clause-ok
 returns-in-Ok-clause-ok c = (
-  (λ i. asked.Expression (c.in-Ok.ensures.case i) (c.in-Ok.ensures.bytes i)),
-  eq-eqb _ _ (utf8_valid_len-IsUtf8 c.args.pattern.now c.in-Ok.ensures.text),
+  ap (λ (e : Expression). asked.Expression (expression_ignores_case e) (expression_bytes e)) c.in-Ok.ensures.ok
+      ∙ (λ i. asked.Expression (c.in_ok-expression.ensures.case i) (c.in_ok-expression.ensures.bytes i)),
+  c.in_ok-expression.ensures.well_formed,
 )

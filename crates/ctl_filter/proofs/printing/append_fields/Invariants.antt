@@ -1,6 +1,6 @@
 use Rattle.std.proofs.Common.{◌≡◌, ◌++◌, take, flat_map}
 use Rattle.ctl_filter.specs.Grep.{field_line}
-use Rattle.ctl_filter.specs.Held.{shown_of}
+use Rattle.ctl_filter.specs.Inside.Values.{shown_of}
 use Rattle.ctl_filter.proofs.printing.append_fields.Given as goal
 
 abbrev pub invariant-loop-name : goal.invariant-loop-name

@@ -1,7 +1,7 @@
 use Rattle.std.proofs.Common.{◌+◌, ◌*◌, ◌<◌, length}
 use Rattle.ctl_filter.specs.declared.token.Token.TheVariants.{And}
 use Rattle.ctl_filter.specs.Grammar.{Lacks}
-use Rattle.ctl_filter.specs.Reads.{ReadsConj, ReadsPred}
+use Rattle.ctl_filter.specs.Inside.Reads.{ReadsConj, ReadsPred}
 use Rattle.ctl_filter.proofs.reading.+reading.Given as goal
 
 -- the words that are left, and which of the three calls the other

@@ -1,5 +1,5 @@
 use Rattle.std.proofs.Common.{◌≡◌, [], reverse, drop}
-use Rattle.ctl_filter.specs.Steps.{after_steps}
+use Rattle.ctl_filter.specs.Inside.Steps.{after_steps}
 use Rattle.ctl_filter.proofs.running.value_of.Given as goal
 
 -- the steps that are left take the stack to what all take the empty stack to

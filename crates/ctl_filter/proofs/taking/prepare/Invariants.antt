@@ -1,5 +1,5 @@
 use Rattle.std.proofs.Common.{◌≡◌, take, map}
-use Rattle.ctl_filter.specs.Held.{atom_of}
+use Rattle.ctl_filter.specs.Inside.Values.{atom_of}
 use Rattle.ctl_filter.proofs.taking.prepare.Given as goal
 
 abbrev pub invariant-loop-atom : goal.invariant-loop-atom

@@ -2,7 +2,7 @@ use Rattle.std.proofs.Common.{sym, ◌∙◌, ⊎_elim}
 use Rattle.std.proofs.lemmas.Bool.{cases_Bool, false_from_ne_true}
 use Rattle.ctl_filter.specs.Substring.{contains}
 use Rattle.ctl_filter.proofs.SubstringLemmas.{IsSubstring-from_Contains, Contains-from_IsSubstring, contains-iff}
-use Rattle.ctl_filter.proofs.atom.has_pattern.Goals as goal
+use Rattle.ctl_filter.proofs.searching.has_pattern.Goals as goal
 
 pub returns : goal.returns
 returns c =

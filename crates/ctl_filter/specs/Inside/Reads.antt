@@ -7,7 +7,7 @@ use Rattle.ctl_filter.specs.declared.token.Step.{Step}
 use Rattle.ctl_filter.specs.Grammar.{Neg, Conj, Pred, spell_neg, spell_conj, spell_pred, nest_neg, nest_conj, nest_pred}
 use Rattle.ctl_filter.specs.Filter.{Truth}
 use Rattle.ctl_filter.specs.Trees.{truth_of_neg, truth_of_conj, truth_of_pred}
-use Rattle.ctl_filter.specs.Steps.{Makes}
+use Rattle.ctl_filter.specs.Inside.Steps.{Makes}
 
 -- the words are those of a neg within the limit, and then the rest; the steps added make its truth
 pub record ReadsNeg (depth : ℕ) (tokens rest : List Token) (old new : List Step) : Type 0 where

@@ -1,0 +1,45 @@
+//! Patterns that stand somewhere in a text.
+
+ghost use Rattle.std.specs.Prelude.{◌≡◌, IfOk, OnOk};
+ghost use Rattle.std.specs.Str.{str_to_ascii_lowercase};
+ghost use Rattle.ctl_filter.specs.Substring.{contains, contains_in_any_case};
+
+use bstr::ByteSlice;
+use std::alloc::{AllocError, Global};
+
+/// Whether the pattern stands somewhere in the text.
+pub(crate) fn has_pattern(pattern: &[u8], text: &[u8]) -> bool
+    ensures { result ≡ contains pattern.now text.now }
+{
+    text.contains_str(pattern)
+}
+
+/// A copy of a text with small letters of ASCII in place of capital ones.
+pub(crate) fn lowered(alloc: Global, text: &[u8]) -> Result<Vec<u8>, AllocError>
+    ensures { IfOk result (λ small. small.items ≡ str_to_ascii_lowercase text.now) }
+{
+    text.to_ascii_lowercase(alloc)
+}
+
+/// Writes such a copy into room that serves again.
+fn lower_into(room: &mut Vec<u8>, text: &[u8]) -> Result<(), AllocError>
+    ensures { OnOk result (room.new.items ≡ str_to_ascii_lowercase text.now) }
+{
+    room.clear();
+    room.extend_from_slice(text)?;
+    room.as_mut_slice().make_ascii_lowercase();
+    Ok(())
+}
+
+/// Whether the pattern, whose letters are small ones, stands somewhere in the text once its letters are small ones too. This takes time
+/// in proportion to both, and memory where the room is too small for the text.
+pub(crate) fn has_lowered(
+    pattern: &[u8],
+    text: &[u8],
+    room: &mut Vec<u8>,
+) -> Result<bool, AllocError>
+    ensures { IfOk result (λ found. found ≡ contains pattern.now (str_to_ascii_lowercase text.now)) }
+{
+    lower_into(room, text)?;
+    Ok(has_pattern(pattern, room))
+}
