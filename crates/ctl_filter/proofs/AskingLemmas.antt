@@ -17,7 +17,7 @@ use Rattle.ctl_filter.specs.Names.{names_in, are_field_names}
 use Rattle.ctl_filter.specs.Filter.{Atom}
 use Rattle.ctl_filter.specs.Atoms.{Modifiers, Parts, no_modifiers, with_fields, more_fields, test_by, atom_with, onto_parts, parts_from}
 use Rattle.ctl_filter.specs.Words.{WordPieces, onto_word, onto_pieces, behind_word, behind_letter, takes_argument, argument_given, letter_piece, cluster, sign_named, is_pattern, alone, long_word, word_pieces, word_by, pieces_from, pieces_of}
-use Rattle.ctl_filter.specs.Asking.{Modifier, InFields, InAnyCase, By, words_of, piece_of, is_fields, names_of, is_any_case, manners_of, fields_asked, only_manner, atom_asked, are_named, are_modifiers, AtomsAreAsked, ModifiersAreSpelled, PatternsAreWords, stands_alone, is_cluster_letter, ClustersAreLetters}
+use Rattle.ctl_filter.specs.Asking.{Modifier, InFields, InAnyCase, By, words_of, piece_of, names_of, is_any_case, manners_of, fields_asked, only_manner, atom_asked, are_named, AtomsAreAsked, ModifiersAreSpelled, PatternsAreWords, stands_alone, is_cluster_letter, ClustersAreLetters}
 use Rattle.ctl_filter.proofs.WordLemmas.{pieces-moved}
 use Rattle.ctl_filter.proofs.CaseLemmas.{and-assoc}
 

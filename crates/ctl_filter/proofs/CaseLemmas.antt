@@ -1,6 +1,6 @@
 -- The truth of a filter by cases.
 use Rattle.std.proofs.Common.{◌≡◌, ◌∙◌, ◌&&◌, ◌||◌, Bool, true, false, List, refl, ap, sym}
-use Rattle.ctl_filter.specs.Grammar.{Neg, Conj, Pred}
+use Rattle.ctl_filter.specs.Grammar.{Conj, Pred}
 use Rattle.ctl_filter.specs.Grammar.Conj.{one_neg, and_then}
 use Rattle.ctl_filter.specs.Grammar.Pred.{one_conj, or_else}
 use Rattle.ctl_filter.specs.Filter.{Truth, Both, Either, is_true}

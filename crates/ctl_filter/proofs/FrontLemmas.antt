@@ -1,9 +1,9 @@
 -- Expressions that are read from the left, one part after another.
-use Rattle.std.proofs.Common.{◌≡◌, ◌∙◌, ◌≤◌, ℕ, max, List, [], ◌∷◌, ◌++◌, refl, sym, ap, arith}
+use Rattle.std.proofs.Common.{◌≡◌, ◌≤◌, ℕ, List, [], ◌∷◌, ◌++◌, refl, ap, arith}
 use Rattle.ctl_filter.specs.declared.token.Token.{Token}
 use Rattle.ctl_filter.specs.declared.token.Token.TheVariants.{And, Or}
 use Rattle.ctl_filter.specs.declared.token.Step.{Step}
-use Rattle.ctl_filter.specs.Grammar.{Neg, Conj, Pred, spell_neg, spell_conj, spell_pred, nest_neg, nest_conj, nest_pred, Lacks, NoMore, IsNoNeg, IsNoConj, IsNoPred}
+use Rattle.ctl_filter.specs.Grammar.{Neg, Conj, Pred, spell_neg, spell_conj, spell_pred, nest_neg, nest_conj, nest_pred, IsNoNeg, IsNoConj, IsNoPred}
 use Rattle.ctl_filter.specs.Grammar.Conj.{one_neg, and_then}
 use Rattle.ctl_filter.specs.Grammar.Pred.{one_conj, or_else}
 use Rattle.ctl_filter.specs.Filter.{Truth, Both, Either}

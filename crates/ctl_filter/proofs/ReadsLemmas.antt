@@ -1,13 +1,13 @@
 -- What each step of the reader has read.
-use Rattle.std.proofs.Common.{◌≡◌, ◌∙◌, ◌≤◌, ◌<◌, ◌-◌, ◌==◌, true, false, length, ℕ, suc, max, Result, Ok, Err, List, [], ◌∷◌, ◌++◌, refl, sym, ap, arith, append_assoc}
+use Rattle.std.proofs.Common.{◌≡◌, ◌∙◌, ◌<◌, ◌-◌, ◌==◌, true, false, length, ℕ, Ok, Err, List, [], ◌∷◌, ◌++◌, refl, sym, ap, arith, append_assoc}
 use Rattle.ctl_filter.specs.declared.token.Token.{Token}
 use Rattle.ctl_filter.specs.declared.token.Token.TheVariants.{Bang, Open, Close, And, Or, Atom}
 use Rattle.ctl_filter.specs.declared.token.Step.{Step}
 use Rattle.ctl_filter.specs.declared.token.Step.TheVariants as step
-use Rattle.ctl_filter.specs.Grammar.{spell_neg, spell_conj, spell_pred, NoMore, IsNoPred, most_nested}
+use Rattle.ctl_filter.specs.Grammar.{spell_conj, spell_pred, NoMore, IsNoPred, most_nested}
 use Rattle.ctl_filter.specs.Grammar.Neg.{atom_neg, bang, parens}
-use Rattle.ctl_filter.specs.Grammar.Conj.{one_neg, and_then}
-use Rattle.ctl_filter.specs.Grammar.Pred.{one_conj, or_else}
+use Rattle.ctl_filter.specs.Grammar.Conj.{one_neg}
+use Rattle.ctl_filter.specs.Grammar.Pred.{one_conj}
 use Rattle.ctl_filter.specs.Filter.{Truth, Not}
 use Rattle.ctl_filter.specs.Trees.{truth_of_neg, truth_of_conj, truth_of_pred, truth_if, truth_of}
 use Rattle.ctl_filter.specs.Inside.Steps.{Makes, built, built_by}

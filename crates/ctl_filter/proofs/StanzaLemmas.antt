@@ -1,5 +1,5 @@
 -- The stanzas of a store, without their keys.
-use Rattle.std.proofs.Common.{◌≡◌, ◌∙◌, ◌+◌, ◌≤◌, ℕ, suc, Bool, true, false, cond, arith, List, [], ◌∷◌, ◌++◌, map, length, refl, ap, sym, length-append}
+use Rattle.std.proofs.Common.{◌≡◌, ◌∙◌, ◌+◌, ◌≤◌, ℕ, suc, Bool, true, false, cond, arith, List, [], ◌∷◌, ◌++◌, map, length, refl, ap, length-append}
 use Rattle.std.specs.List.{filter}
 use Rattle.std.proofs.lemmas.List.{map-append}
 use Rattle.ctl_stanza.specs.Content.{Content}

@@ -1,5 +1,5 @@
 -- How a truth is held: as steps for a stack.
-use Rattle.std.specs.Prelude.{◌≡◌, ℕ, Bool, false, not, ◌&&◌, ◌||◌, List, [], ◌∷◌}
+use Rattle.std.specs.Prelude.{◌≡◌, Bool, false, not, ◌&&◌, ◌||◌, List, [], ◌∷◌}
 use Rattle.ctl_filter.specs.declared.token.Step.{Step}
 use Rattle.ctl_filter.specs.declared.token.Step.TheVariants as step
 use Rattle.ctl_filter.specs.Filter.{Truth, Value, Not, Both, Either, value_at}

@@ -1,4 +1,4 @@
-use Rattle.std.proofs.Common.{rules, ◌≡◌, ◌∙◌, ◌∷◌, ap, sym}
+use Rattle.std.proofs.Common.{rules, ◌≡◌, ◌∙◌, ◌∷◌, ap}
 use Rattle.ctl_filter.specs.Words.{onto_pieces, pieces_from}
 use Rattle.ctl_filter.proofs.cluster.pieces_of.Goals as goal
 

@@ -1,6 +1,6 @@
-use Rattle.std.proofs.Common.{◌≡◌, ◌∙◌, ◌<◌, ℕ, length, ap, sym, arith}
+use Rattle.std.proofs.Common.{◌∙◌, length, ap, arith}
 use Rattle.std.proofs.lemmas.Result.{err_from_is_err_and}
-use Rattle.ctl_filter.specs.Grammar.{spell_neg, spell_conj, spell_pred}
+use Rattle.ctl_filter.specs.Grammar.{spell_conj, spell_pred}
 use Rattle.ctl_filter.proofs.GrammarLemmas.{no-neg-flat, no-neg-other, no-neg-bang, no-neg-open, no-neg-closed, no-conj-first, no-pred-first}
 use Rattle.ctl_filter.proofs.FrontLemmas.{no-conj-after, no-pred-after}
 use Rattle.ctl_filter.proofs.ReadsLemmas.{reads-atom, reads-not, reads-parens, reads-one, reads-and, reads-single, reads-or}

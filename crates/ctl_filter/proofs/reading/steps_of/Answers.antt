@@ -1,4 +1,4 @@
-use Rattle.std.proofs.Common.{rules, ◌≡◌, ◌==◌, true, false, length, inl, sym, ◌∙◌}
+use Rattle.std.proofs.Common.{rules, ◌≡◌, ◌==◌, true, false, length, inl}
 use Rattle.ctl_filter.proofs.ReadsLemmas.{truth-read, words-left, none-read}
 use Rattle.ctl_filter.proofs.reading.steps_of.Goals as goal
 

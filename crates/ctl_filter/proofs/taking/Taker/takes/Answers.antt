@@ -1,5 +1,4 @@
-use Rattle.std.proofs.Common.{rules, ◌≡◌, ◌∙◌, ap, sym, map, not}
-use Rattle.std.specs.Bool.{if◌then◌else◌}
+use Rattle.std.proofs.Common.{rules, ◌≡◌, ◌∙◌, map}
 use Rattle.ctl_filter.specs.Filter.{atom_passes, is_true}
 use Rattle.ctl_filter.specs.Inside.Steps.{made_by, value_of}
 use Rattle.ctl_filter.proofs.StepLemmas.{value-made}
