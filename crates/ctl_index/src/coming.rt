@@ -39,6 +39,7 @@ fn put_offers_of(
     ensures counts { OnOk result ((k : ClauseKey) → get clause_cmp tables.new.counters.numbers k ≡ raised sight.now (namers_under tables.old.names.map) offers.now k (get clause_cmp tables.old.counters.numbers k)) }
     ensures steps { OnOk result (steps.new ≡ more_by (all_tested sight.now (namers_under tables.old.names.map) offers.now) steps.old) }
     ensures most { steps.new ≤ more_by (all_tested sight.now (namers_under tables.old.names.map) offers.now) steps.old }
+    ensures least { steps.old ≤ steps.new }
 {
     let _count = steps.count();
     for i in 0..offers.len() {
@@ -68,6 +69,7 @@ fn put_offers_at(
     ensures counts { OnOk result ((k : ClauseKey) → get clause_cmp tables.new.counters.numbers k ≡ with_found (seen sight.now) (raise_step sight.now (namers_under tables.old.names.map) k) key (get clause_cmp tables.old.counters.numbers k)) }
     ensures steps { OnOk result (steps.new ≡ more_by (of_found (seen sight.now) (offers_tests sight.now (namers_under tables.old.names.map)) key) steps.old) }
     ensures most { steps.new ≤ more_by (of_found (seen sight.now) (offers_tests sight.now (namers_under tables.old.names.map)) key) steps.old }
+    ensures least { steps.old ≤ steps.new }
 {
     let _count = steps.count();
     match stanza_at(sight, key) {
@@ -90,6 +92,7 @@ pub(crate) fn put_offers(
     ensures counts { OnOk result ((k : ClauseKey) → get clause_cmp tables.new.counters.numbers k ≡ with_each (seen sight.now) (raise_step sight.now (namers_under tables.old.names.map) k) keys.now (get clause_cmp tables.old.counters.numbers k)) }
     ensures steps { OnOk result (steps.new ≡ more_by (offers_tested sight.now (namers_under tables.old.names.map) keys.now) steps.old) }
     ensures most { steps.new ≤ more_by (offers_tested sight.now (namers_under tables.old.names.map) keys.now) steps.old }
+    ensures least { steps.old ≤ steps.new }
 {
     let _count = steps.count();
     for key in keys {
@@ -114,6 +117,7 @@ fn put_group(
     ensures met { IfOk result (λ met. met ≡ group_met sight.now clause.field (offers_under names.old.map) group.now) }
     ensures steps { OnOk result (steps.new ≡ more_by (group_tested sight.now clause.field (offers_under names.old.map) group.now) steps.old) }
     ensures most { steps.new ≤ more_by (group_tested sight.now clause.field (offers_under names.old.map) group.now) steps.old }
+    ensures least { steps.old ≤ steps.new }
 {
     let _count = steps.count();
     let mut met: u128 = 0;
@@ -164,6 +168,7 @@ fn put_groups(
     ensures counts { OnOk result ((k : ClauseKey) → (o : Option ℕ) → entered clauses.new.items k o ≡ entered_groups sight.now (offers_under names.old.map) key field 0 groups.entry k (entered clauses.old.items k o)) }
     ensures steps { OnOk result (steps.new ≡ more_by (groups_tested sight.now field (offers_under names.old.map) groups.entry) steps.old) }
     ensures most { steps.new ≤ more_by (groups_tested sight.now field (offers_under names.old.map) groups.entry) steps.old }
+    ensures least { steps.old ≤ steps.new }
 {
     let _count = steps.count();
     let mut place = 0;
@@ -197,6 +202,7 @@ fn put_field(
     ensures counts { OnOk result ((k : ClauseKey) → (o : Option ℕ) → entered clauses.new.items k o ≡ entered_groups sight.now (offers_under names.old.map) key field 0 (groups_of field stanza.now) k (entered clauses.old.items k o)) }
     ensures steps { OnOk result (steps.new ≡ more_by (groups_tested sight.now field (offers_under names.old.map) (groups_of field stanza.now)) steps.old) }
     ensures most { steps.new ≤ more_by (groups_tested sight.now field (offers_under names.old.map) (groups_of field stanza.now)) steps.old }
+    ensures least { steps.old ≤ steps.new }
 {
     let groups = stanza.groups(field);
     put_groups(alloc, sight, key, field, groups, names, clauses, steps)
@@ -219,6 +225,7 @@ fn put_fields(
     ensures counts { OnOk result ((k : ClauseKey) → (o : Option ℕ) → entered clauses.new.items k o ≡ entered_fields sight.now (offers_under names.old.map) key stanza.now fields.now k (entered clauses.old.items k o)) }
     ensures steps { OnOk result (steps.new ≡ more_by (fields_tested sight.now (offers_under names.old.map) fields.now stanza.now) steps.old) }
     ensures most { steps.new ≤ more_by (fields_tested sight.now (offers_under names.old.map) fields.now stanza.now) steps.old }
+    ensures least { steps.old ≤ steps.new }
 {
     let _count = steps.count();
     for field in fields {
@@ -242,6 +249,7 @@ fn put_atoms_at(
     ensures counts { OnOk result ((k : ClauseKey) → (o : Option ℕ) → entered clauses.new.items k o ≡ with_found (seen sight.now) (enter_step sight.now (offers_under names.old.map) k) key (entered clauses.old.items k o)) }
     ensures steps { OnOk result (steps.new ≡ more_by (of_found (seen sight.now) (fields_tested sight.now (offers_under names.old.map) naming_fields) key) steps.old) }
     ensures most { steps.new ≤ more_by (of_found (seen sight.now) (fields_tested sight.now (offers_under names.old.map) naming_fields) key) steps.old }
+    ensures least { steps.old ≤ steps.new }
 {
     let _count = steps.count();
     match stanza_at(sight, key) {
@@ -274,6 +282,7 @@ fn list_atoms(
     ensures counts { OnOk result ((k : ClauseKey) → (o : Option ℕ) → entered clauses.new.items k o ≡ with_each (seen sight.now) (enter_step sight.now (offers_under names.old.map) k) keys.now (entered clauses.old.items k o)) }
     ensures steps { OnOk result (steps.new ≡ more_by (atoms_tested sight.now (offers_under names.old.map) keys.now) steps.old) }
     ensures most { steps.new ≤ more_by (atoms_tested sight.now (offers_under names.old.map) keys.now) steps.old }
+    ensures least { steps.old ≤ steps.new }
 {
     let _count = steps.count();
     for key in keys {
@@ -297,6 +306,7 @@ pub(crate) fn put_atoms(
     ensures counts { OnOk result ((k : ClauseKey) → get clause_cmp tables.new.counters.numbers k ≡ with_each (seen sight.now) (enter_step sight.now (offers_under tables.old.names.map) k) keys.now (get clause_cmp tables.old.counters.numbers k)) }
     ensures steps { OnOk result (steps.new ≡ more_by (atoms_tested sight.now (offers_under tables.old.names.map) keys.now) steps.old) }
     ensures most { steps.new ≤ more_by (atoms_tested sight.now (offers_under tables.old.names.map) keys.now) steps.old }
+    ensures least { steps.old ≤ steps.new }
 {
     let mut clauses = Vec::new(alloc);
     list_atoms(alloc, sight, keys, &mut tables.names, &mut clauses, steps)?;

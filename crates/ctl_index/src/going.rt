@@ -180,6 +180,7 @@ fn take_offers_of(
     ensures counts { OnOk result ((k : ClauseKey) → get clause_cmp tables.new.counters.numbers k ≡ lowered sight.now (namers_under tables.old.names.map) offers.now k (get clause_cmp tables.old.counters.numbers k)) }
     ensures steps { OnOk result (steps.new ≡ more_by (all_tested sight.now (namers_under tables.old.names.map) offers.now) steps.old) }
     ensures most { steps.new ≤ more_by (all_tested sight.now (namers_under tables.old.names.map) offers.now) steps.old }
+    ensures least { steps.old ≤ steps.new }
 {
     let _count = steps.count();
     for offer in offers {
@@ -205,6 +206,7 @@ fn take_offers_at(
     ensures counts { OnOk result ((k : ClauseKey) → get clause_cmp tables.new.counters.numbers k ≡ with_found (seen sight.now) (lower_step sight.now (namers_under tables.old.names.map) k) key (get clause_cmp tables.old.counters.numbers k)) }
     ensures steps { OnOk result (steps.new ≡ more_by (of_found (seen sight.now) (offers_tests sight.now (namers_under tables.old.names.map)) key) steps.old) }
     ensures most { steps.new ≤ more_by (of_found (seen sight.now) (offers_tests sight.now (namers_under tables.old.names.map)) key) steps.old }
+    ensures least { steps.old ≤ steps.new }
 {
     let _count = steps.count();
     match stanza_at(sight, key) {
@@ -227,6 +229,7 @@ pub(crate) fn take_offers(
     ensures counts { OnOk result ((k : ClauseKey) → get clause_cmp tables.new.counters.numbers k ≡ with_each (seen sight.now) (lower_step sight.now (namers_under tables.old.names.map) k) keys.now (get clause_cmp tables.old.counters.numbers k)) }
     ensures steps { OnOk result (steps.new ≡ more_by (offers_tested sight.now (namers_under tables.old.names.map) keys.now) steps.old) }
     ensures most { steps.new ≤ more_by (offers_tested sight.now (namers_under tables.old.names.map) keys.now) steps.old }
+    ensures least { steps.old ≤ steps.new }
 {
     let _count = steps.count();
     for key in keys {

@@ -141,6 +141,7 @@ impl NameTable {
         ensures counts { OnOk result ((k : ClauseKey) → get clause_cmp counters.new.numbers k ≡ option_map (λ n. n + sum_by (hit sight.now offer.now k) (namers_under self.old.map offer.now.name)) (get clause_cmp counters.old.numbers k)) }
         ensures steps { OnOk result (steps.new ≡ more_by (sum_by (tested sight.now offer.now.name) (namers_under self.old.map offer.now.name)) steps.old) }
         ensures most { steps.new ≤ more_by (sum_by (tested sight.now offer.now.name) (namers_under self.old.map offer.now.name)) steps.old }
+        ensures least { steps.old ≤ steps.new }
     {
         let _count = steps.count();
         match self.map.get_mut(offer.name()) {
@@ -176,6 +177,7 @@ impl NameTable {
         ensures few { IfOk result (λ met. met < 2 ^ 64) }
         ensures steps { OnOk result (steps.new ≡ more_by (atom_tested sight.now key.field (offers_under self.old.map atom.now.name)) steps.old) }
         ensures most { steps.new ≤ more_by (atom_tested sight.now key.field (offers_under self.old.map atom.now.name)) steps.old }
+        ensures least { steps.old ≤ steps.new }
     {
         let _count = steps.count();
         match self.map.get_mut(atom.name()) {
@@ -236,6 +238,7 @@ impl NameTable {
         ensures counts { OnOk result ((k : ClauseKey) → get clause_cmp counters.new.numbers k ≡ option_map (λ n. n - sum_by (hit sight.now offer.now k) (namers_under self.old.map offer.now.name)) (get clause_cmp counters.old.numbers k)) }
         ensures steps { OnOk result (steps.new ≡ more_by (sum_by (tested sight.now offer.now.name) (namers_under self.old.map offer.now.name)) steps.old) }
         ensures most { steps.new ≤ more_by (sum_by (tested sight.now offer.now.name) (namers_under self.old.map offer.now.name)) steps.old }
+        ensures least { steps.old ≤ steps.new }
     {
         let _count = steps.count();
         let Some(named) = self.map.get_mut(offer.name()) else {

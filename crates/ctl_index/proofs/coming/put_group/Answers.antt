@@ -38,6 +38,7 @@ loop-atom-preserved c =
       places = omega (arith, ap length left, c.loop-atom.invariant.places);
       steps = omega (arith, tests, one, c.in_ok-met.ensures.steps, c.loop-atom.invariant.steps);
       counted = omega (arith, c.in_ok-met.ensures.steps);
+      least = omega (arith, c.put_atom.ensures.least, c.loop-atom.invariant.least);
     }
 
 pub returns-in_err-met-clause-most : goal.returns-in_err-met-clause-most

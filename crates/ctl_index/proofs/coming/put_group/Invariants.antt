@@ -15,4 +15,5 @@ invariant-loop-atom l = record {
   places : l.place + length l.atom-iterator ≡ length l.fn.group;
   steps : more_by (group_tested l.fn.sight l.fn.clause.field (offers_under l.fn.names.map) l.atom-iterator) l.steps ≡ more_by (group_tested l.fn.sight l.fn.clause.field (offers_under l.fn.names.map) l.fn.group) l.fn.steps;
   counted : l.steps ≤ 2 ^ 128 - 1;
+  least : l.fn.steps ≤ l.steps;
 }

@@ -42,4 +42,5 @@ loop-group-preserved c =
       few = omega (arith, ap atom_count left ∙ sum_by-cons (λ (group : List AtomParts). length group) g rest, c.loop-group.invariant.few);
       steps = omega (arith, tests, one, c.in_ok-met.ensures.steps, c.loop-group.invariant.steps);
       counted = omega (arith, c.in_ok-met.ensures.steps);
+      least = omega (arith, c.put_group.ensures.least, c.loop-group.invariant.least);
     }

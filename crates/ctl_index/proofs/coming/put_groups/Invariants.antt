@@ -18,4 +18,5 @@ invariant-loop-group l = record {
   few : atom_count l.group-iterator < 2 ^ 32;
   steps : more_by (groups_tested l.fn.sight l.fn.field (offers_under l.fn.names.map) l.group-iterator) l.steps ≡ more_by (groups_tested l.fn.sight l.fn.field (offers_under l.fn.names.map) l.fn.groups) l.fn.steps;
   counted : l.steps ≤ 2 ^ 128 - 1;
+  least : l.fn.steps ≤ l.steps;
 }
