@@ -1,14 +1,15 @@
 -- Clauses: the groups of the four fields that ask for packages, each a list of alternatives (Debian Policy 7.1, 7.2). A clause is met
 -- by what packages are and what they provide (7.5).
 use Rattle.std.specs.Prelude.{ℕ, suc, Bool, true, false, List, [], ◌∷◌, flat_map, filter, slice_get, nat_eq, Option, None, if◌then◌else◌}
+use Rattle.std.specs.List.{list_any}
 use Rattle.std.specs.Option.{option_map, option_map_or, option_and_then}
 use Rattle.std.specs.Ordering.{nat_cmp, ordering_then}
 use Rattle.std.specs.declared.cmp.Ordering.{Ordering}
 use Rattle.ctl_relation.specs.declared.field_kind.FieldKind.{FieldKind}
 use Rattle.ctl_relation.specs.declared.field_kind.FieldKind.TheVariants.{PreDepends, Depends, Conflicts, Breaks, Recommends, Suggests, Replaces, Enhances, Provides}
 use Rattle.ctl_relation.specs.FieldKind.{field_place}
-use Rattle.ctl_relation.specs.Parts.{AtomParts}
-use Rattle.ctl_relation.specs.Met.{met_pairs}
+use Rattle.ctl_relation.specs.Parts.{AtomParts, OfferParts}
+use Rattle.ctl_relation.specs.Met.{met, met_pairs}
 use Rattle.ctl_stanza.specs.Content.{Content, groups_of}
 use Rattle.ctl_store.specs.declared.stanza_key.StanzaKey.{StanzaKey}
 use Rattle.ctl_store.specs.Keys.{key_cmp}
@@ -58,6 +59,10 @@ number_at key es = option_map (λ atoms. met_pairs atoms (offers_among (contents
 -- whether there is a clause under the key that no offer meets
 abbrev pub is_unmet : List Entry → ClauseKey → Bool
 is_unmet es key = option_map_or (λ n. nat_eq n 0) (number_at key es) false
+
+-- whether an offer meets one of the atoms
+abbrev pub is_met : List AtomParts → List OfferParts → Bool
+is_met atoms offers = list_any (λ (atom : AtomParts). list_any (met atom) offers) atoms
 
 -- ---- all of them
 
