@@ -49,6 +49,11 @@ is_filter_name word = bytes_eq word (codes "grep-dctrl")
 unfoldable pub is_query : List ℕ → Bool
 is_query name = is_filter_name name || is_some (query_named name)
 
+-- whether words begin with the name of a query
+unfoldable pub begin_query : List (List ℕ) → Bool
+begin_query [] = false
+begin_query (name ∷ words) = is_query name
+
 -- the options of each query
 abbrev pub options_of : QueryName → List (List ℕ)
 options_of name.PackageNames = codes "--all-names" ∷ []

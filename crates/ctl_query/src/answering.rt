@@ -45,6 +45,7 @@ fn append_answer(
     requires { cache.now.stale ≡ false }
     ensures text { OnOk result (out.new.items ≡ out.old.items ++ answer_text (world_of cache.now.store) (query_text query.now)) }
     ensures steps { steps.new ≤ steps.old + answer_pairs (world_of cache.now.store) (query_text query.now) }
+    ensures kept { steps.old ≤ steps.new }
 {
     match query {
         Query::PackageNames(all, prefix) => {
@@ -95,6 +96,7 @@ fn answer_alone(
     ensures ok { OnOk result (out.new.items ≡ answer_text (world_of cache.now.store) (query_text query.now)) }
     ensures err { OnErr result (out.new.items ≡ []) }
     ensures steps { steps.new ≤ steps.old + answer_pairs (world_of cache.now.store) (query_text query.now) }
+    ensures kept { steps.old ≤ steps.new }
 {
     match append_answer(alloc, cache, query, out, steps) {
         Ok(()) => Ok(()),
@@ -117,6 +119,7 @@ fn answer_behind(
     ensures ok { OnOk result (out.new.items ≡ out.old.items ++ answer_text (world_of cache.now.store) (query_text query.now)) }
     ensures err { OnErr result (out.new.items ≡ out.old.items) }
     ensures steps { steps.new ≤ steps.old + answer_pairs (world_of cache.now.store) (query_text query.now) }
+    ensures kept { steps.old ≤ steps.new }
 {
     let mut text = Vec::new(alloc);
     answer_alone(alloc, cache, query, &mut text, steps)?;
@@ -140,6 +143,7 @@ pub fn answer(
     ensures ok { OnOk result (out.new.items ≡ out.old.items ++ answer_anew (holdings_of (state_of cache.now.store)) (query_text query.now)) }
     ensures err { OnErr result (out.new.items ≡ out.old.items) }
     ensures steps { steps.new ≤ steps.old + answer_pairs (world_of cache.now.store) (query_text query.now) }
+    ensures kept { steps.old ≤ steps.new }
 {
     answers_are_as_if_built_anew();
     // That the keys rise is said here.

@@ -44,6 +44,7 @@ fn append_atom(
     requires { cache.now.stale ≡ false }
     ensures text { OnOk result (out.new.items ≡ out.old.items ++ atom_lines (world_of cache.now.store) installed field further atom.now) }
     ensures steps { steps.new ≤ steps.old + atom_pairs (world_of cache.now.store) atom.now }
+    ensures kept { steps.old ≤ steps.new }
 {
     let (names, with_row) = providers(alloc, cache, atom, steps)?;
     if !has_lines(cache, installed, atom, &names) {
@@ -68,6 +69,7 @@ fn append_group(
     requires { cache.now.stale ≡ false }
     ensures text { OnOk result (out.new.items ≡ out.old.items ++ group_lines (world_of cache.now.store) installed field group.now) }
     ensures steps { steps.new ≤ steps.old + group_pairs (world_of cache.now.store) group.now }
+    ensures kept { steps.old ≤ steps.new }
 {
     let mut left = group.len();
     'atoms: for atom in group.atoms() {
@@ -91,6 +93,7 @@ fn append_field(
     requires { cache.now.stale ≡ false }
     ensures text { OnOk result (out.new.items ≡ out.old.items ++ field_lines (world_of cache.now.store) installed lead.now field) }
     ensures steps { steps.new ≤ steps.old + field_pairs (world_of cache.now.store) lead.now field }
+    ensures kept { steps.old ≤ steps.new }
 {
     'groups: for group in lead.groups(field) {
         append_group(alloc, cache, installed, field, &group, out, steps)?;
@@ -112,6 +115,7 @@ fn append_lead(
     requires { cache.now.stale ≡ false }
     ensures text { OnOk result (out.new.items ≡ out.old.items ++ lead_lines (world_of cache.now.store) important installed lead.now) }
     ensures steps { steps.new ≤ steps.old + lead_pairs (world_of cache.now.store) important lead.now }
+    ensures kept { steps.old ≤ steps.new }
 {
     let fields = depends_fields(important);
     for field in fields {
@@ -157,6 +161,7 @@ fn append_known(
     requires { cache.now.stale ≡ false }
     ensures text { OnOk result (out.new.items ≡ out.old.items ++ depends_one (world_of cache.now.store) important installed name.now) }
     ensures steps { steps.new ≤ steps.old + one_pairs (world_of cache.now.store) important name.now }
+    ensures kept { steps.old ≤ steps.new }
 {
     if !cache.has_row(name) {
         append_line(out, &[b"<", name, b">"])?;
@@ -182,6 +187,7 @@ fn append_one(
     requires { cache.now.stale ≡ false }
     ensures text { OnOk result (out.new.items ≡ out.old.items ++ if_known (world_of cache.now.store) (depends_one (world_of cache.now.store) important installed) name.now) }
     ensures steps { steps.new ≤ steps.old + one_pairs (world_of cache.now.store) important name.now }
+    ensures kept { steps.old ≤ steps.new }
 {
     if !is_known_by_row(cache, name) {
         append_unknown(out, name)?;
@@ -206,6 +212,7 @@ pub(crate) fn append_depends(
     requires { cache.now.stale ≡ false }
     ensures text { OnOk result (out.new.items ≡ out.old.items ++ depends_text (world_of cache.now.store) important installed names.now) }
     ensures steps { steps.new ≤ steps.old + depends_pairs (world_of cache.now.store) important names.now }
+    ensures kept { steps.old ≤ steps.new }
 {
     for name in names {
         append_one(

@@ -1,6 +1,6 @@
 //! Words to a query.
 
-ghost use Rattle.std.specs.Prelude.{◌≡◌, ◌≤◌, ◌++◌, ◌∷◌, [], ℕ, List, IfOk, OnOk, IfErr, map, filter, length, not, codes, Ok};
+ghost use Rattle.std.specs.Prelude.{◌≡◌, ◌≤◌, false, ◌++◌, ◌∷◌, [], ℕ, List, IfOk, OnOk, IfErr, map, filter, length, not, codes, Ok};
 ghost use Rattle.std.specs.Str.{bytes_eq};
 ghost use Rattle.std.specs.List.{list_all, prefix_len};
 ghost use Rattle.ctl_relation.specs.Names.{is_name};
@@ -8,7 +8,9 @@ ghost use Rattle.ctl_store.specs.declared.refusal.Refusal.TheVariants as refusal
 ghost use Rattle.ctl_filter.specs.Query.{filter_of};
 ghost use Rattle.ctl_query.specs.Words.{is_among};
 ghost use Rattle.ctl_query.specs.Asked.{asked_row};
-ghost use Rattle.ctl_query.specs.Query.{Query as Asked, is_option, is_argument, is_important, is_installed_alone, shows_all, is_before_equals, options_of, version_asked, row_of_parts, row_asked, rows_asked, some_names_asked, query_by, query_in, asked_filter, query_of, is_filter_name, is_query};
+ghost use Rattle.ctl_query.specs.Query.{Query as Asked, is_option, is_argument, is_important, is_installed_alone, shows_all};
+ghost use Rattle.ctl_query.specs.Query.{is_before_equals, options_of, version_asked, row_of_parts, row_asked, rows_asked};
+ghost use Rattle.ctl_query.specs.Query.{some_names_asked, query_by, query_in, asked_filter, query_of, is_filter_name, is_query, begin_query};
 ghost use Rattle.ctl_query.specs.QueryRead.{Reads, ReadsQuery, query_text};
 
 use crate::query::{AskedRow, Query};
@@ -319,9 +321,11 @@ fn filter_asked(alloc: Global, words: &[Bytes]) -> Result<Query, Refusal>
 /// The first of these: [`Refusal::Command`], where there are no words or the first is no query's name; [`Refusal::Usage`], where
 /// an option is not one of the query's, or there are too many or too few arguments; and, argument by argument from the left,
 /// [`Refusal::Name`] and [`Refusal::Version`], where one is no name or version. Those of a filter are told at
-/// [`parse_filter`]. [`Refusal::Memory`] where memory is refused.
+/// [`parse_filter`]. [`Refusal::Memory`] where memory is refused, but never in place of [`Refusal::Command`].
+#[tactic(auto, unfolding(crate::specs::Query::begin_query, crate::specs::Query::is_query))]
 pub fn parse_query(alloc: Global, words: &[Bytes]) -> Result<Query, Refusal>
-    ensures { ReadsQuery result (query_of words.now) }
+    ensures asked { ReadsQuery result (query_of words.now) }
+    ensures no_query { begin_query words.now ≡ false → IfErr result (λ cause. cause ≡ refusal.Command) }
 {
     let [name, words @ ..] = words else {
         return Err(Refusal::Command);

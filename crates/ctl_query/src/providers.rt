@@ -27,6 +27,7 @@ fn add_provider<'a>(
 ) -> Result<(), AllocError>
     ensures names { OnOk result ((other : List ℕ) → is_among (lent_names names.new.keys) other ≡ (gives atom.now other stanza.now offer.now || is_among (lent_names names.old.keys) other)) }
     ensures steps { steps.new ≤ steps.old + 1 }
+    ensures kept { steps.old ≤ steps.new }
 {
     let package = stanza.package();
     if package != atom.name() && atom.met_by(offer, steps) {
@@ -54,6 +55,7 @@ pub(crate) fn providers<'a>(
     ensures names { IfOk result (λ found. lent_names found.0.keys ≡ providers (world_of cache.now.store) atom.now) }
     ensures row { IfOk result (λ found. found.1 ≡ has_row (world_of cache.now.store) atom.now.name) }
     ensures steps { steps.new ≤ steps.old + atom_pairs (world_of cache.now.store) atom.now }
+    ensures kept { steps.old ≤ steps.new }
 {
     stanzas_are_found(cache);
     let store = cache.store();

@@ -9,4 +9,5 @@ abbrev pub invariant-loop-name : goal.invariant-loop-name
 invariant-loop-name l = record {
   text : l.out.items ≡ l.initial.out.items ++ flat_map (if_known (world_of l.cache.store) (depends_one (world_of l.cache.store) l.important l.installed)) (take l.name-index l.names);
   steps : l.steps ≤ l.initial.steps + sum_by (one_pairs (world_of l.cache.store) l.important) (take l.name-index l.names);
+  kept : l.initial.steps ≤ l.steps;
 }

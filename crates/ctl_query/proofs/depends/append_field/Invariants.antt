@@ -8,4 +8,5 @@ abbrev pub invariant-groups : goal.invariant-groups
 invariant-groups l = record {
   text : l.out.items ++ flat_map (group_lines (world_of l.cache.store) l.installed l.field) l.group-iterator ≡ l.initial.out.items ++ flat_map (group_lines (world_of l.cache.store) l.installed l.field) l.initial.group-iterator;
   steps : l.steps + sum_by (group_pairs (world_of l.cache.store)) l.group-iterator ≤ l.initial.steps + sum_by (group_pairs (world_of l.cache.store)) l.initial.group-iterator;
+  kept : l.initial.steps ≤ l.steps;
 }

@@ -9,4 +9,5 @@ invariant-atoms l = record {
   left : l.left ≡ length l.atom-iterator;
   text : l.out.items ++ group_lines (world_of l.cache.store) l.installed l.field l.atom-iterator ≡ l.initial.out.items ++ group_lines (world_of l.cache.store) l.installed l.field l.initial.atom-iterator;
   steps : l.steps + group_pairs (world_of l.cache.store) l.atom-iterator ≤ l.initial.steps + group_pairs (world_of l.cache.store) l.initial.atom-iterator;
+  kept : l.initial.steps ≤ l.steps;
 }

@@ -8,4 +8,5 @@ abbrev pub invariant-loop-field : goal.invariant-loop-field
 invariant-loop-field l = record {
   text : l.out.items ≡ l.initial.out.items ++ flat_map (field_lines (world_of l.cache.store) l.installed l.lead) (take l.field-index l.fields);
   steps : l.steps ≤ l.initial.steps + sum_by (field_pairs (world_of l.cache.store) l.lead) (take l.field-index l.fields);
+  kept : l.initial.steps ≤ l.steps;
 }
