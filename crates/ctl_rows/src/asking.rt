@@ -1,12 +1,14 @@
 //! Queries that are asked of a cache by calls, behind what a text has.
 
+use crate::said::Said;
 use ctl_index::Cache;
 use ctl_query::{Query, answer, is_query, parse_query};
 use ctl_relation::{Bytes, Steps};
 use ctl_store::Refusal;
 use std::alloc::{AllocError, Global};
 
-fn words_of(alloc: Global, texts: &[&[u8]]) -> Result<Vec<Bytes>, AllocError> {
+/// Words of these texts.
+pub fn words_of(alloc: Global, texts: &[&[u8]]) -> Result<Vec<Bytes>, AllocError> {
     let mut words = Vec::new(alloc);
     for text in texts {
         words.push(Bytes::from_slice(alloc, text)?)?;
@@ -14,45 +16,36 @@ fn words_of(alloc: Global, texts: &[&[u8]]) -> Result<Vec<Bytes>, AllocError> {
     Ok(words)
 }
 
-fn append_refusal(
-    alloc: Global,
-    texts: &[&[u8]],
-    refusal: Refusal,
-    all: &mut Vec<u8>,
-) -> Result<(), AllocError> {
-    let kind = match texts {
-        [name, ..] if is_query(name) => "a query",
-        _ => "no query",
-    };
-    let words = format!(in alloc; "number {}, {}\n", refusal.number(), kind)?;
-    all.extend_from_slice(words.as_bytes())
+fn say_refusal(texts: &[&[u8]], refusal: Refusal, said: &mut Said) {
+    said.number(b"number ", refusal.number() as u128);
+    said.add(match texts {
+        [name, ..] if is_query(name) => b", a query\n",
+        _ => b", no query\n",
+    });
 }
 
-fn append_counted(
-    alloc: Global,
-    cache: &Cache,
-    query: &Query,
-    all: &mut Vec<u8>,
-) -> Result<(), AllocError> {
+fn say_counted(cache: &Cache, query: &Query, said: &mut Said) {
     if cache.is_stale() {
-        return all.extend_from_slice(b"stale\n");
+        return said.add(b"stale\n");
     }
     let mut steps = Steps::new();
-    answer(alloc, cache, query, all, &mut steps)?;
-    let words = format!(in alloc; "{} tests\n", steps.count())?;
-    all.extend_from_slice(words.as_bytes())
+    let answered = answer(said.alloc(), cache, query, &mut said.bytes, &mut steps);
+    said.keep(answered);
+    said.number(b"", steps.count());
+    said.add(b" tests\n");
+}
+
+fn say_asked_by(cache: &Cache, texts: &[&[u8]], words: &[Bytes], said: &mut Said) {
+    match parse_query(said.alloc(), words) {
+        Ok(query) => say_counted(cache, &query, said),
+        Err(refusal) => say_refusal(texts, refusal, said),
+    }
 }
 
 /// The answer to the query of these words, and how many tests it made, or the number of its refusal.
-pub fn append_asked(
-    alloc: Global,
-    cache: &Cache,
-    texts: &[&[u8]],
-    all: &mut Vec<u8>,
-) -> Result<(), AllocError> {
-    let words = words_of(alloc, texts)?;
-    match parse_query(alloc, &words) {
-        Ok(query) => append_counted(alloc, cache, &query, all),
-        Err(refusal) => append_refusal(alloc, texts, refusal, all),
+pub fn say_asked(cache: &Cache, texts: &[&[u8]], said: &mut Said) {
+    match words_of(said.alloc(), texts) {
+        Ok(words) => say_asked_by(cache, texts, &words, said),
+        Err(_) => said.fail(),
     }
 }

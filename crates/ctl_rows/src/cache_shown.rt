@@ -2,35 +2,17 @@
 
 ghost use Rattle.std.specs.Prelude.{◌≡◌, false};
 
-use ctl_index::{AtomKey, Cache, ClauseKey, Namers};
-use ctl_relation::{Offer, Version};
+use crate::said::Said;
+use ctl_index::{AtomKey, Cache};
+use ctl_relation::{FieldKind, Offer, Version};
 use ctl_store::StanzaKey;
 use std::alloc::{AllocError, Global};
 
-fn append_key(alloc: Global, key: StanzaKey, all: &mut Vec<u8>) -> Result<(), AllocError> {
-    let told = format!(in alloc; "{}.{}", key.list, key.stanza)?;
-    all.extend_from_slice(told.as_bytes())
-}
-
 /// A clause: its stanza's key, its field, and the place of its group.
-fn append_clause(alloc: Global, key: ClauseKey, all: &mut Vec<u8>) -> Result<(), AllocError> {
-    append_key(alloc, key.stanza, all)?;
-    all.push(b' ')?;
-    all.extend_from_slice(key.field.printed_name())?;
-    let told = format!(in alloc; " {}", key.group)?;
-    all.extend_from_slice(told.as_bytes())
-}
-
-/// An atom: its clause, and its place in the group.
-fn append_atom(alloc: Global, key: AtomKey, all: &mut Vec<u8>) -> Result<(), AllocError> {
-    let clause = ClauseKey {
-        stanza: key.stanza,
-        field: key.field,
-        group: key.group,
-    };
-    append_clause(alloc, clause, all)?;
-    let told = format!(in alloc; " {}", key.atom)?;
-    all.extend_from_slice(told.as_bytes())
+fn say_clause(stanza: StanzaKey, field: FieldKind, group: u32, said: &mut Said) {
+    said.key(b"", stanza);
+    said.all(&[b" ", field.printed_name()]);
+    said.number(b" ", group as u128);
 }
 
 fn version_words(version: Option<&Version>) -> &[u8] {
@@ -41,119 +23,105 @@ fn version_words(version: Option<&Version>) -> &[u8] {
 }
 
 /// An offer: its stanza's key, its name, and its version or `-`.
-fn offer_words(alloc: Global, key: StanzaKey, offer: &Offer) -> Result<Vec<u8>, AllocError> {
-    let mut words = Vec::new(alloc);
-    append_key(alloc, key, &mut words)?;
-    words.push(b' ')?;
-    words.extend_from_slice(offer.name())?;
-    words.push(b' ')?;
-    words.extend_from_slice(version_words(offer.version()))?;
-    Ok(words)
+fn offer_words(alloc: Global, key: StanzaKey, offer: &Offer) -> Option<Vec<u8>> {
+    let mut said = Said::new(alloc);
+    said.key(b"", key);
+    said.all(&[b" ", offer.name(), b" ", version_words(offer.version())]);
+    said.into_bytes()
 }
 
 /// The words of each offer of a name.
-fn offers_of(alloc: Global, cache: &Cache, name: &[u8]) -> Result<Vec<Vec<u8>>, AllocError>
+fn offers_of(alloc: Global, cache: &Cache, name: &[u8]) -> Option<Vec<Vec<u8>>>
     requires { cache.now.stale ≡ false }
 {
     let mut offers = Vec::new(alloc);
     for (key, offer) in cache.offers(name) {
-        offers.push(offer_words(alloc, key, offer)?)?;
+        let words = offer_words(alloc, key, offer)?;
+        if offers.push(words).is_err() {
+            return None;
+        }
     }
-    Ok(offers)
+    Some(offers)
+}
+
+fn say_in_order(mut offers: Vec<Vec<u8>>, said: &mut Said) {
+    offers.sort_unstable();
+    for words in &offers {
+        said.all(&[words, b";"]);
+    }
 }
 
 /// The offers of a name, in the order of their words, each with a semicolon behind it.
-fn append_offers(
-    alloc: Global,
-    cache: &Cache,
-    name: &[u8],
-    all: &mut Vec<u8>,
-) -> Result<(), AllocError>
+fn say_offers(cache: &Cache, name: &[u8], said: &mut Said)
     requires { cache.now.stale ≡ false }
 {
-    let mut offers = offers_of(alloc, cache, name)?;
-    offers.sort_unstable();
-    for words in &offers {
-        all.extend_from_slice(words)?;
-        all.push(b';')?;
+    match offers_of(said.alloc(), cache, name) {
+        Some(offers) => say_in_order(offers, said),
+        None => said.fail(),
     }
-    Ok(())
 }
 
-/// Atoms in the order of their keys, each with a semicolon behind it.
-fn append_atoms(alloc: Global, namers: Namers<'_>, all: &mut Vec<u8>) -> Result<(), AllocError> {
-    let mut atoms: Vec<AtomKey> = namers.collect(alloc)?;
+/// Atoms in the order of their keys, each with a semicolon behind it: its clause, and its place in the group.
+fn say_atoms(mut atoms: Vec<AtomKey>, said: &mut Said) {
     atoms.sort_unstable();
     for key in &atoms {
-        append_atom(alloc, *key, all)?;
-        all.push(b';')?;
+        say_clause(key.stanza, key.field, key.group, said);
+        said.number(b" ", key.atom as u128);
+        said.add(b";");
     }
-    Ok(())
 }
 
 /// The atoms that name a name.
-fn append_namers(
-    alloc: Global,
-    cache: &Cache,
-    name: &[u8],
-    all: &mut Vec<u8>,
-) -> Result<(), AllocError>
+fn say_namers(cache: &Cache, name: &[u8], said: &mut Said)
     requires { cache.now.stale ≡ false }
 {
-    append_atoms(alloc, cache.namers(name), all)
+    let collected: Result<Vec<AtomKey>, AllocError> = cache.namers(name).collect(said.alloc());
+    match collected {
+        Ok(atoms) => say_atoms(atoms, said),
+        Err(_) => said.fail(),
+    }
 }
 
 /// Each clause with its number, in order, each with a semicolon behind it.
-fn append_counters(alloc: Global, cache: &Cache, all: &mut Vec<u8>) -> Result<(), AllocError>
+fn say_counters(cache: &Cache, said: &mut Said)
     requires { cache.now.stale ≡ false }
 {
     for (key, number) in cache.counters() {
-        append_clause(alloc, *key, all)?;
-        let told = format!(in alloc; ": {number};")?;
-        all.extend_from_slice(told.as_bytes())?;
+        say_clause(key.stanza, key.field, key.group, said);
+        said.number(b": ", *number);
+        said.add(b";");
     }
-    Ok(())
 }
 
 /// The clauses that no offer meets, in order, each with a semicolon behind it.
-fn append_unmet(alloc: Global, cache: &Cache, all: &mut Vec<u8>) -> Result<(), AllocError>
+fn say_unmet(cache: &Cache, said: &mut Said)
     requires { cache.now.stale ≡ false }
 {
     for key in cache.unmet_clauses() {
-        append_clause(alloc, key, all)?;
-        all.push(b';')?;
+        say_clause(key.stanza, key.field, key.group, said);
+        said.add(b";");
     }
-    Ok(())
 }
 
-fn append_by_name(
-    alloc: Global,
-    cache: &Cache,
-    name: &[u8],
-    all: &mut Vec<u8>,
-) -> Result<(), AllocError>
+fn say_by_name(cache: &Cache, said: &mut Said)
     requires { cache.now.stale ≡ false }
 {
-    all.extend_from_slice(name)?;
-    all.push(b':')?;
-    append_offers(alloc, cache, name, all)?;
-    append_namers(alloc, cache, name, all)?;
-    all.push(b'\n')?;
-    Ok(())
+    for name in cache.names() {
+        said.all(&[name, b":"]);
+        say_offers(cache, name, said);
+        say_namers(cache, name, said);
+        said.add(b"\n");
+    }
 }
 
 /// All that the tables of a cache tell: a line for each name that is known, with its offers and the atoms that name it; a line of the
 /// clauses with their numbers; and a line of those that no offer meets.
-pub fn tables(alloc: Global, cache: &Cache) -> Result<Vec<u8>, AllocError>
+pub fn say_tables(cache: &Cache, said: &mut Said)
     requires { cache.now.stale ≡ false }
 {
-    let mut all = Vec::new(alloc);
-    for name in cache.names() {
-        append_by_name(alloc, cache, name, &mut all)?;
-    }
-    append_counters(alloc, cache, &mut all)?;
-    all.push(b'\n')?;
-    append_unmet(alloc, cache, &mut all)?;
-    all.push(b'\n')?;
-    Ok(all)
+    say_by_name(cache, said);
+    say_counters(cache, said);
+    said.add(b"\n");
+    say_unmet(cache, said);
+    said.add(b"\n");
 }

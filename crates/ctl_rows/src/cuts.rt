@@ -2,11 +2,11 @@
 //! of the commands done. The last of them is the one whose text was being written.
 
 use crate::runs::{Act, came};
-use crate::tables::{joined, same, written};
+use crate::said::Said;
+use crate::tables::{comes, joined, writes};
 use crate::texts::front;
-use std::alloc::{AllocError, Global};
+use std::alloc::Global;
 use std::process::Abort;
-use std::test::Fail;
 
 /// Worked scripts. A line behind `> ` is one that the command above writes.
 const WORKED: [&[u8]; 11] = [
@@ -263,36 +263,29 @@ Version: 1
 ];
 
 /// The script of a worked one.
-fn script_of(alloc: Global, worked: &[u8]) -> Result<Vec<u8>, AllocError> {
-    let mut script = Vec::new(alloc);
+fn script_of(alloc: Global, worked: &[u8]) -> Said {
+    let mut script = Said::new(alloc);
     for line in worked.split_inclusive(|byte| *byte == b'\n') {
         if !line.starts_with(b"> ") {
-            script.extend_from_slice(line)?;
+            script.add(line);
         }
     }
-    Ok(script)
+    script
 }
 
-/// What the store holds behind commands that write this text.
-fn held_behind(alloc: Global, commands: &[u8], text: &[u8]) -> Result<Vec<u8>, AllocError> {
-    let all = came(alloc, &[Act::Script(commands), Act::Held])?;
+/// What is behind a text.
+fn behind<'a>(all: &'a [u8], text: &[u8]) -> &'a [u8] {
     match all.strip_prefix(text) {
-        Some(held) => Vec::from_slice(alloc, held),
-        None => Vec::from_slice(alloc, b"another text"),
+        Some(behind) => behind,
+        None => b"another text",
     }
 }
 
 /// Compares what a script comes to whose write fails behind this text, where this is held then.
-fn write_may_fail(
-    rt: &(impl Abort + AllocGlobal),
-    script: &[u8],
-    text: &[u8],
-    held: &[u8],
-) -> Result<(), Fail> {
-    let wanted = joined(rt.alloc(), text, b"! write failed\n", held)?;
-    let came = came(rt.alloc(), &[Act::Until(script, text.len()), Act::Held])?;
-    same(rt, script, &came, &wanted);
-    Ok(())
+fn write_may_fail(rt: &(impl Abort + AllocGlobal), script: &[u8], text: &[u8], held: &[u8]) {
+    let wanted = joined(rt.alloc(), text, b"! write failed\n", held);
+    let acts = [Act::Until(script, text.len()), Act::Held];
+    comes(rt, script, &acts, wanted.shown());
 }
 
 /// Compares what writes come to that fail in the text of the last of a script's first commands. It begins at a byte of theirs.
@@ -302,43 +295,64 @@ fn writes_may_fail(
     commands: &[u8],
     text: &[u8],
     from: usize,
-) -> Result<(), Fail> {
-    let told = written(rt.alloc(), commands)?;
-    same(rt, commands, &told, text);
-    let held = held_behind(rt.alloc(), commands, text)?;
+) {
+    writes(rt, commands, text);
+    let all = came(rt.alloc(), &[Act::Script(commands), Act::Held]);
     for byte in from..text.len() {
-        write_may_fail(rt, script, front(text, byte), &held)?;
+        write_may_fail(rt, script, front(text, byte), behind(all.shown(), text));
     }
-    Ok(())
 }
 
-/// Cuts a worked script at each byte that it writes.
-fn cut(rt: &(impl Abort + AllocGlobal), worked: &[u8]) -> Result<(), Fail> {
-    let script = script_of(rt.alloc(), worked)?;
-    let mut commands = Vec::new(rt.alloc());
-    let mut text = Vec::new(rt.alloc());
-    let mut from: usize = 0;
-    for line in worked.split_inclusive(|byte| *byte == b'\n') {
+/// The commands of a worked script that were read, what they write, and from which byte of it on no write was tried to fail.
+#[derive(Drop)]
+struct Done {
+    commands: Said,
+    text: Said,
+    from: usize,
+}
+
+impl Done {
+    /// Tries each write of what was read since it was last tried.
+    fn judge(&mut self, rt: &(impl Abort + AllocGlobal), script: &[u8]) {
+        let text = self.text.shown();
+        if self.from < text.len() {
+            writes_may_fail(rt, script, self.commands.shown(), text, self.from);
+            self.from = text.len();
+        }
+    }
+
+    /// Takes a line of the worked script in.
+    fn add(&mut self, rt: &(impl Abort + AllocGlobal), script: &[u8], line: &[u8]) {
         match line.strip_prefix(b"> ") {
-            Some(told) => text.extend_from_slice(told)?,
+            Some(told) => self.text.add(told),
             None => {
-                if from < text.len() {
-                    writes_may_fail(rt, &script, &commands, &text, from)?;
-                    from = text.len();
-                }
-                commands.extend_from_slice(line)?;
+                self.judge(rt, script);
+                self.commands.add(line);
             }
         }
     }
-    writes_may_fail(rt, &script, &commands, &text, from)
+}
+
+/// Cuts a worked script at each byte that it writes.
+fn cut(rt: &(impl Abort + AllocGlobal), worked: &[u8]) {
+    let script = script_of(rt.alloc(), worked);
+    let mut done = Done {
+        commands: Said::new(rt.alloc()),
+        text: Said::new(rt.alloc()),
+        from: 0,
+    };
+    for line in worked.split_inclusive(|byte| *byte == b'\n') {
+        done.add(rt, script.shown(), line);
+    }
+    done.judge(rt, script.shown());
+    writes(rt, script.shown(), done.text.shown());
 }
 
 #[test]
-fn a_write_may_fail_at_each_byte_of_worked_scripts(rt: HostRuntime) -> Result<(), Fail> {
+fn a_write_may_fail_at_each_byte_of_worked_scripts(rt: HostRuntime) {
     for worked in &WORKED {
-        cut(&rt, worked)?;
+        cut(&rt, worked);
     }
-    Ok(())
 }
 
 /// Commands, the text of the last of them, which alone writes, and what [`PROBE`] then shows.
@@ -370,15 +384,22 @@ const STEPS: [Step; 4] = [
 /// Shows the names of packages, a mark, a pin and a stanza by what is refused.
 const PROBE: &[u8] = b"pkgnames\nunmark foo\nunpin * release main\nremove main foo 1\n";
 
-/// The script of all steps, and what it writes.
-fn all_steps(alloc: Global) -> Result<(Vec<u8>, Vec<u8>), AllocError> {
-    let mut script = Vec::new(alloc);
-    let mut text = Vec::new(alloc);
-    for (commands, answer, _) in STEPS {
-        script.extend_from_slice(commands)?;
-        text.extend_from_slice(answer)?;
+/// The script of all steps.
+fn all_commands(alloc: Global) -> Said {
+    let mut script = Said::new(alloc);
+    for (commands, _, _) in STEPS {
+        script.add(commands);
     }
-    Ok((script, text))
+    script
+}
+
+/// What the script of all steps writes.
+fn all_answers(alloc: Global) -> Said {
+    let mut text = Said::new(alloc);
+    for (_, answer, _) in STEPS {
+        text.add(answer);
+    }
+    text
 }
 
 /// What the probe shows after the step in whose text this byte stands.
@@ -393,30 +414,28 @@ fn shown_at(byte: usize) -> &'static [u8] {
     b""
 }
 
-#[test]
-fn a_write_may_fail_at_each_byte_between_edits(rt: HostRuntime) -> Result<(), Fail> {
-    let (script, text) = all_steps(rt.alloc())?;
-    for byte in 0..text.len() {
-        let wanted = joined(
-            rt.alloc(),
-            &text[..byte],
-            b"! write failed\n",
-            shown_at(byte),
-        )?;
-        let acts = [Act::Until(&script, byte), Act::Script(PROBE)];
-        let came = came(rt.alloc(), &acts)?;
-        same(&rt, &text[..byte], &came, &wanted);
-    }
-    Ok(())
+/// Compares what all steps come to where the write fails behind this text, and what the probe then shows.
+fn step_may_fail(rt: &(impl Abort + AllocGlobal), script: &[u8], text: &[u8]) {
+    let wanted = joined(rt.alloc(), text, b"! write failed\n", shown_at(text.len()));
+    let acts = [Act::Until(script, text.len()), Act::Script(PROBE)];
+    comes(rt, text, &acts, wanted.shown());
 }
 
 #[test]
-fn the_steps_are_written_whole_where_there_is_room(rt: HostRuntime) -> Result<(), Fail> {
-    let (script, text) = all_steps(rt.alloc())?;
+fn a_write_may_fail_at_each_byte_between_edits(rt: HostRuntime) {
+    let script = all_commands(rt.alloc());
+    let text = all_answers(rt.alloc());
+    for byte in 0..text.shown().len() {
+        step_may_fail(&rt, script.shown(), front(text.shown(), byte));
+    }
+}
+
+#[test]
+fn the_steps_are_written_whole_where_there_is_room(rt: HostRuntime) {
+    let script = all_commands(rt.alloc());
+    let text = all_answers(rt.alloc());
     let shown: &[u8] = b"E: line 2: no such mark\nE: line 4: no such list\n";
-    let wanted = joined(rt.alloc(), &text, b"", shown)?;
-    let acts = [Act::Until(&script, 1000), Act::Script(PROBE)];
-    let came = came(rt.alloc(), &acts)?;
-    same(&rt, b"room enough", &came, &wanted);
-    Ok(())
+    let wanted = joined(rt.alloc(), text.shown(), b"", shown);
+    let acts = [Act::Until(script.shown(), 1000), Act::Script(PROBE)];
+    comes(&rt, b"room enough", &acts, wanted.shown());
 }

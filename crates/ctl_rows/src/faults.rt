@@ -1,15 +1,14 @@
 //! Runs that stop before their end.
 
-use crate::runs::{Act, came, came_of, fault_words};
-use crate::tables::{joined, same};
+use crate::runs::{Act, fault_words};
+use crate::tables::{comes, comes_by, joined, same};
 use ctl_session::Fault;
-use ctl_store::Limits;
-use std::alloc::{AllocError, Global};
+use std::process::Abort;
 use std::test::Fail;
 
 #[test]
-fn the_commands_before_a_failed_read_are_done(rt: HostRuntime) -> Result<(), Fail> {
-    let rows: [(&[u8], &[u8]); 3] = [
+fn the_commands_before_a_failed_read_are_done(rt: HostRuntime) {
+    const ROWS: &[(&[u8], &[u8])] = &[
         (b"pkgnames\nfr", b"! read failed\n"),
         (
             b"frob\nadd-list m packages\nPackage: a\nVersion: 1\n",
@@ -20,21 +19,22 @@ fn the_commands_before_a_failed_read_are_done(rt: HostRuntime) -> Result<(), Fai
             b"a\n! read failed\n",
         ),
     ];
-    for (script, wanted) in &rows {
-        let text = came(rt.alloc(), &[Act::Broken(script)])?;
-        same(&rt, script, &text, wanted);
+    for (script, wanted) in ROWS {
+        comes(&rt, script, &[Act::Broken(script)], wanted);
     }
-    Ok(())
 }
 
 #[test]
-fn a_failed_write_ends_the_run(rt: HostRuntime) -> Result<(), Fail> {
+fn a_failed_write_ends_the_run(rt: HostRuntime) {
     let script: &[u8] =
         b"add-list main packages\nPackage: foo\nVersion: 1.0-1\n\nPackage: bar\nVersion: 2.0\n.\n\
         pkgnames\npkgnames\n";
-    let text = came(rt.alloc(), &[Act::Until(script, 5)])?;
-    same(&rt, script, &text, b"bar\nf! write failed\n");
-    Ok(())
+    comes(
+        &rt,
+        script,
+        &[Act::Until(script, 5)],
+        b"bar\nf! write failed\n",
+    );
 }
 
 /// Three lists of one package, and two queries.
@@ -46,16 +46,14 @@ const THREE_LISTS: &[u8] =
 const DROPS: &[u8] = b"pkgnames\ndrop-list main\ndrop-list sid\ndrop-list status\n";
 
 #[test]
-fn a_write_may_fail_at_each_byte(rt: HostRuntime) -> Result<(), Fail> {
+fn a_write_may_fail_at_each_byte(rt: HostRuntime) {
     let text: &[u8] = b"foo\nfoo\n";
     for before in 0..8 {
         // All three lists are there.
-        let wanted = joined(rt.alloc(), &text[..before], b"! write failed\n", b"foo\n")?;
+        let wanted = joined(rt.alloc(), &text[..before], b"! write failed\n", b"foo\n");
         let acts = [Act::Until(THREE_LISTS, before), Act::Script(DROPS)];
-        let came = came(rt.alloc(), &acts)?;
-        same(&rt, &text[..before], &came, &wanted);
+        comes(&rt, &text[..before], &acts, wanted.shown());
     }
-    Ok(())
 }
 
 /// How often some bytes stand in a text.
@@ -79,63 +77,57 @@ fn drops_among(lists: usize) -> &'static [u8] {
     }
 }
 
+/// Compares what a reader comes to that fails behind this much of the three lists.
+fn read_may_fail(rt: &(impl Abort + AllocGlobal), script: &[u8]) {
+    let is_asked = count_of(script, b"pkgnames\n") > 0;
+    let names: &[u8] = if is_asked { b"foo\n" } else { b"" };
+    // A body counts where its end and the newline behind it were given.
+    let lists = count_of(script, b"\n.\n");
+    let wanted = joined(rt.alloc(), names, b"! read failed\n", drops_among(lists));
+    let acts = [Act::Broken(script), Act::Script(DROPS)];
+    comes(rt, script, &acts, wanted.shown());
+}
+
 #[test]
-fn a_read_may_fail_at_each_byte(rt: HostRuntime) -> Result<(), Fail> {
+fn a_read_may_fail_at_each_byte(rt: HostRuntime) {
     for cut in 0..THREE_LISTS.len() {
-        let script = &THREE_LISTS[..cut];
-        let is_asked = count_of(script, b"pkgnames\n") > 0;
-        let names: &[u8] = if is_asked { b"foo\n" } else { b"" };
-        // A body counts where its end and the newline behind it were given.
-        let lists = count_of(script, b"\n.\n");
-        let wanted = joined(rt.alloc(), names, b"! read failed\n", drops_among(lists))?;
-        let came = came(rt.alloc(), &[Act::Broken(script), Act::Script(DROPS)])?;
-        same(&rt, script, &came, &wanted);
+        read_may_fail(&rt, &THREE_LISTS[..cut]);
     }
-    Ok(())
-}
-
-/// What comes of acts whose runs read up to so many lines.
-fn came_by(alloc: Global, max_lines: u32, acts: &[Act<'_>]) -> Result<Vec<u8>, AllocError> {
-    came_of(alloc, Limits::MOST, max_lines, acts)
 }
 
 #[test]
-fn a_script_without_end_is_stopped(rt: HostRuntime) -> Result<(), Fail> {
-    let came = came_by(rt.alloc(), 1000, &[Act::Endless(b"#\n")])?;
-    same(&rt, b"comments", &came, b"! too many lines\n");
-    Ok(())
+fn a_script_without_end_is_stopped(rt: HostRuntime) {
+    comes_by(
+        &rt,
+        1000,
+        b"comments",
+        &[Act::Endless(b"#\n")],
+        b"! too many lines\n",
+    );
 }
 
 #[test]
-fn a_command_cut_by_the_limit_of_lines_is_not_done(rt: HostRuntime) -> Result<(), Fail> {
+fn a_command_cut_by_the_limit_of_lines_is_not_done(rt: HostRuntime) {
     let script: &[u8] = b"pkgnames\nadd-list main packages\nPackage: a\nVersion: 1\n.\n";
     let acts = [
         Act::Script(script),
         Act::Script(b"pkgnames\ndrop-list main\n"),
     ];
-    let came = came_by(rt.alloc(), 3, &acts)?;
-    same(
-        &rt,
-        script,
-        &came,
-        b"! too many lines\nE: line 2: no such list\n",
-    );
-    Ok(())
+    let wanted: &[u8] = b"! too many lines\nE: line 2: no such list\n";
+    comes_by(&rt, 3, script, &acts, wanted);
 }
 
 #[test]
-fn a_run_ends_at_its_limit_of_lines(rt: HostRuntime) -> Result<(), Fail> {
-    let rows: [(&[u8], &[u8]); 4] = [
+fn a_run_ends_at_its_limit_of_lines(rt: HostRuntime) {
+    const ROWS: &[(&[u8], &[u8])] = &[
         (b"#\n#\n#\n", b"! too many lines\n"),
         (b"#\n#\nx", b"! too many lines\n"),
         (b"#\n#\n", b""),
         (b"#\n#", b""),
     ];
-    for (script, wanted) in &rows {
-        let came = came_by(rt.alloc(), 2, &[Act::Script(script)])?;
-        same(&rt, script, &came, wanted);
+    for (script, wanted) in ROWS {
+        comes_by(&rt, 2, script, &[Act::Script(script)], wanted);
     }
-    Ok(())
 }
 
 #[test]

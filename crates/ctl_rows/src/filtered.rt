@@ -1,12 +1,13 @@
 //! Filters that are asked of a store by calls.
 
-use crate::made::{add_list, edited, given};
+use crate::asking::words_of;
+use crate::made::{add_list, refusal};
+use crate::said::Said;
 use crate::tables::same;
 use ctl_filter::{append_filter, parse_filter};
 use ctl_relation::Bytes;
 use ctl_store::Store;
-use std::alloc::{AllocError, Global};
-use std::test::Fail;
+use std::alloc::Global;
 
 /// The words of a filter.
 type Words = &'static [&'static [u8]];
@@ -36,62 +37,55 @@ const BEHIND: &[Words] = &[
     &[b"-x"],
 ];
 
-fn words_of(alloc: Global, texts: &[&[u8]]) -> Result<Vec<Bytes>, AllocError> {
-    let mut words = Vec::new(alloc);
-    for text in texts {
-        words.push(Bytes::from_slice(alloc, text)?)?;
-    }
-    Ok(words)
-}
-
 /// What a filter of these words takes of a store, or why they are refused.
-fn append_filtered(
-    alloc: Global,
-    store: &Store,
-    texts: &[&[u8]],
-    all: &mut Vec<u8>,
-) -> Result<(), AllocError> {
-    let words = words_of(alloc, texts)?;
-    match parse_filter(alloc, &words) {
-        Ok(query) => append_filter(alloc, store, &query, all),
-        Err(why) => all.extend_from_slice(why.text().as_bytes()),
+fn say_filtered(store: &Store, words: &[Bytes], said: &mut Said) {
+    match parse_filter(said.alloc(), words) {
+        Ok(query) => {
+            let filtered = append_filter(said.alloc(), store, &query, &mut said.bytes);
+            said.keep(filtered);
+        }
+        Err(why) => said.add(why.text().as_bytes()),
     }
 }
 
-fn append_each(
-    alloc: Global,
-    store: &Store,
-    filters: &[Words],
-    all: &mut Vec<u8>,
-) -> Result<(), AllocError> {
+fn say_each(store: &Store, filters: &[Words], said: &mut Said) {
     for texts in filters {
-        append_filtered(alloc, store, texts, all)?;
+        match words_of(said.alloc(), texts) {
+            Ok(words) => say_filtered(store, &words, said),
+            Err(_) => said.fail(),
+        }
     }
-    Ok(())
 }
 
-fn came_in(alloc: Global, store: &mut Store) -> Result<Vec<u8>, Fail> {
-    let mut all = Vec::new(alloc);
-    append_each(alloc, store, BEFORE, &mut all)?;
-    edited(store, given(add_list(alloc, LIST))?)?;
-    append_each(alloc, store, BEHIND, &mut all)?;
-    Ok(all)
+fn add_list_to(alloc: Global, store: &mut Store) -> bool {
+    match add_list(alloc, LIST) {
+        Some(edit) => refusal(store, edit).is_none(),
+        None => false,
+    }
+}
+
+fn say_both(store: &mut Store, said: &mut Said) {
+    say_each(store, BEFORE, said);
+    if !add_list_to(said.alloc(), store) {
+        said.fail();
+    }
+    say_each(store, BEHIND, said);
 }
 
 /// What filters take of a new store, before and behind an edit.
-fn came(alloc: Global) -> Result<Vec<u8>, Fail> {
+fn came(alloc: Global) -> Said {
+    let mut said = Said::new(alloc);
     let mut store = Store::new(alloc);
-    came_in(alloc, &mut store)
+    say_both(&mut store, &mut said);
+    said
 }
 
 #[test]
-fn filters_take_stanzas_of_a_store(rt: HostRuntime) -> Result<(), Fail> {
-    let text = came(rt.alloc())?;
+fn filters_take_stanzas_of_a_store(rt: HostRuntime) {
     same(
         &rt,
         b"filters",
-        &text,
+        came(rt.alloc()).shown(),
         b"0\n2\nPackage: a\nPackage: b\nVersion: 2\n\na\nbad filterbad patternbad arguments",
     );
-    Ok(())
 }

@@ -47,6 +47,7 @@ mod refused_cache;
 mod row_calls;
 #[cfg(test)]
 mod runs;
+pub mod said;
 #[cfg(test)]
 mod scripts;
 pub mod shown;

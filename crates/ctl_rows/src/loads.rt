@@ -1,12 +1,11 @@
 //! Lists that are loaded without a script.
 
-use crate::runs::{Act, came};
-use crate::tables::same;
-use std::test::Fail;
+use crate::runs::Act;
+use crate::tables::comes;
 
 #[test]
-fn a_load_tells_the_line_of_its_fault(rt: HostRuntime) -> Result<(), Fail> {
-    let rows: [(&[u8], &[u8], &[u8]); 7] = [
+fn a_load_tells_the_line_of_its_fault(rt: HostRuntime) {
+    const ROWS: &[(&[u8], &[u8], &[u8])] = &[
         (
             b"main",
             b"Package: a\nVersion: 1\n\nPackage: b\nVersion: 1\n\nPackage: c\n",
@@ -24,13 +23,11 @@ fn a_load_tells_the_line_of_its_fault(rt: HostRuntime) -> Result<(), Fail> {
         (b"sid", b"Package: a\nVersion: 1\n", b"line 0, number 11"),
         (b"main", b"Package: a\nVersion: 1\n", b"loaded"),
     ];
-    for (name, text, wanted) in &rows {
+    for (name, text, wanted) in ROWS {
         let acts = [
             Act::Script(b"add-list sid packages\n.\n"),
             Act::Load(name, text),
         ];
-        let came = came(rt.alloc(), &acts)?;
-        same(&rt, text, &came, wanted);
+        comes(&rt, text, &acts, wanted);
     }
-    Ok(())
 }

@@ -187,11 +187,3 @@ pub fn refusal(store: &mut Store, edit: Edit) -> Option<Refusal> {
         Some((_, why)) => Some(why),
     }
 }
-
-/// Makes an edit that the store accepts.
-pub fn edited(store: &mut Store, edit: Edit) -> Result<(), Fail> {
-    match refusal(store, edit) {
-        None => Ok(()),
-        Some(why) => Err(Fail::from(why.text())),
-    }
-}

@@ -1,89 +1,77 @@
 //! The words of the program.
 
+use crate::said::Said;
 use crate::tables::same;
 use ctl_session::{Arguments, arguments};
-use std::alloc::{AllocError, Global};
+use std::alloc::Global;
 use std::process::Abort;
-use std::test::Fail;
-
-fn append_word(mark: &[u8], word: &String, all: &mut Vec<u8>) -> Result<(), AllocError> {
-    all.extend_from_slice(mark)?;
-    all.extend_from_slice(word.as_bytes())
-}
 
 /// The lists, the status file and the script that were asked for, each behind what it is.
-fn asked_words(alloc: Global, asked: &Arguments) -> Result<Vec<u8>, AllocError> {
-    let mut all = Vec::new(alloc);
+fn say_arguments(asked: &Arguments, said: &mut Said) {
     for list in &asked.lists {
-        append_word(b"list ", list, &mut all)?;
+        said.all(&[b"list ", list.as_bytes()]);
     }
     if let Some(status) = &asked.status {
-        append_word(b"status ", status, &mut all)?;
+        said.all(&[b"status ", status.as_bytes()]);
     }
     if let Some(script) = &asked.script {
-        append_word(b"script ", script, &mut all)?;
+        said.all(&[b"script ", script.as_bytes()]);
     }
-    Ok(all)
 }
 
 /// What words ask for, or that they are refused.
-fn came_of(alloc: Global, words: &[&str]) -> Result<Vec<u8>, AllocError> {
+fn came_of(alloc: Global, words: &[&str]) -> Said {
+    let mut said = Said::new(alloc);
     match arguments(alloc, words) {
-        Ok(asked) => asked_words(alloc, &asked),
-        Err(_) => Vec::from_slice(alloc, b"refused"),
+        Ok(asked) => say_arguments(&asked, &mut said),
+        Err(_) => said.add(b"refused"),
     }
+    said
 }
 
 /// Words as a row.
-fn row_of(alloc: Global, words: &[&str]) -> Result<Vec<u8>, AllocError> {
-    let mut row = Vec::new(alloc);
+fn row_of(alloc: Global, words: &[&str]) -> Said {
+    let mut row = Said::new(alloc);
     for word in words {
-        row.extend_from_slice(word.as_bytes())?;
-        row.push(b' ')?;
+        row.all(&[word.as_bytes(), b" "]);
     }
-    Ok(row)
+    row
 }
 
-fn each_asks(rt: &(impl Abort + AllocGlobal), rows: &[(&[&str], &[u8])]) -> Result<(), Fail> {
+fn each_asks(rt: &(impl Abort + AllocGlobal), rows: &[(&[&str], &[u8])]) {
     for (words, wanted) in rows {
-        let came = came_of(rt.alloc(), words)?;
-        let row = row_of(rt.alloc(), words)?;
-        same(rt, &row, &came, wanted);
+        let row = row_of(rt.alloc(), words);
+        same(rt, row.shown(), came_of(rt.alloc(), words).shown(), wanted);
     }
-    Ok(())
 }
 
 #[test]
-fn the_program_takes_a_script(rt: HostRuntime) -> Result<(), Fail> {
-    each_asks(
-        &rt,
-        &[
-            (&["dctrl-cache"], b""),
-            (&["dctrl-cache", "x"], b"script x"),
-            (&["dctrl-cache", "x", "y"], b"refused"),
-            (&["dctrl-cache", "--help"], b"refused"),
-            (&["dctrl-cache", "-x"], b"refused"),
-        ],
-    )
+fn the_program_takes_a_script(rt: HostRuntime) {
+    const ROWS: &[(&[&str], &[u8])] = &[
+        (&["dctrl-cache"], b""),
+        (&["dctrl-cache", "x"], b"script x"),
+        (&["dctrl-cache", "x", "y"], b"refused"),
+        (&["dctrl-cache", "--help"], b"refused"),
+        (&["dctrl-cache", "-x"], b"refused"),
+    ];
+    each_asks(&rt, ROWS);
 }
 
 #[test]
-fn the_program_takes_lists_and_a_status_file(rt: HostRuntime) -> Result<(), Fail> {
-    each_asks(
-        &rt,
-        &[
-            (
-                &["p", "-l", "a=f", "--status", "s", "x"],
-                b"list a=fstatus sscript x",
-            ),
-            (
-                &["p", "-l", "a=f", "--status", "s", "-l", "b", "x"],
-                b"list a=flist bstatus sscript x",
-            ),
-            (&["p", "-l"], b"refused"),
-            (&["p", "--status"], b"refused"),
-            (&["p", "--status", "s", "--status", "s"], b"refused"),
-            (&["p", "-l", "-x"], b"refused"),
-        ],
-    )
+fn the_program_takes_lists_and_a_status_file(rt: HostRuntime) {
+    const ROWS: &[(&[&str], &[u8])] = &[
+        (
+            &["p", "-l", "a=f", "--status", "s", "x"],
+            b"list a=fstatus sscript x",
+        ),
+        (
+            &["p", "-l", "a=f", "--status", "s", "-l", "b", "x"],
+            b"list a=flist bstatus sscript x",
+        ),
+        (&["p", "-l"], b"refused"),
+        (&["p", "--status"], b"refused"),
+        (&["p", "--status", "s", "--status", "s"], b"refused"),
+        (&["p", "-l", "-x"], b"refused"),
+    ];
+    each_asks(&rt, ROWS);
 }

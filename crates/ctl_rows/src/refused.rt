@@ -8,10 +8,11 @@ use crate::made::{
     add_list, drop_list, mark, mark_none, pin, prefs, put, refusal, remove, target, target_none,
     unmark, unpin,
 };
-use crate::shown::{keys, state};
+use crate::said::Said;
+use crate::shown::{say_keys, say_state};
 use crate::tables::same;
 use ctl_store::{Edit, Refusal, Store};
-use std::alloc::{AllocError, Global};
+use std::alloc::Global;
 use std::process::Abort;
 use std::test::Fail;
 
@@ -53,11 +54,11 @@ fn numbered(alloc: Global, number: u8) -> Option<Edit> {
 }
 
 /// What the store holds, and the keys of its stanzas.
-pub fn held(alloc: Global, store: &Store) -> Result<Vec<u8>, AllocError> {
-    let mut all = state(alloc, store)?;
-    let keys = keys(alloc, store)?;
-    all.extend_from_slice(&keys)?;
-    Ok(all)
+pub fn held(alloc: Global, store: &Store) -> Option<Vec<u8>> {
+    let mut said = Said::new(alloc);
+    say_state(store, &mut said);
+    say_keys(store, &mut said);
+    said.into_bytes()
 }
 
 /// What came of an edit.
@@ -74,7 +75,7 @@ pub enum Outcome {
 
 /// Makes an edit that was refused for want of memory when the store held this.
 fn made_again(alloc: Global, store: &mut Store, number: u8, before: &[u8]) -> Option<Outcome> {
-    let after = held(alloc, store).ok()?;
+    let after = held(alloc, store)?;
     if after.as_slice() != before {
         return Some(Outcome::Changed);
     }
@@ -87,7 +88,7 @@ fn made_again(alloc: Global, store: &mut Store, number: u8, before: &[u8]) -> Op
 
 /// Makes the edit of a number. None comes where memory was refused before it or behind it.
 fn made(alloc: Global, store: &mut Store, number: u8) -> Option<Outcome> {
-    let before = held(alloc, store).ok()?;
+    let before = held(alloc, store)?;
     let edit = numbered(alloc, number)?;
     match refusal(store, edit) {
         None => Some(Outcome::Accepted),
@@ -113,7 +114,7 @@ fn make_all(rt: &(impl Abort + AllocGlobal), store: &mut Store) -> Option<Option
             refused = Some(number);
         }
     }
-    let held = held(rt.alloc(), store).ok()?;
+    let held = held(rt.alloc(), store)?;
     same(rt, b"what is left", &held, LEFT);
     Some(refused)
 }

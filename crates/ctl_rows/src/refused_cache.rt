@@ -6,8 +6,9 @@
 //! one tells after the edits before.
 
 use crate::asked::{Asked, edit_asked};
-use crate::cache_shown::tables;
+use crate::cache_shown::say_tables;
 use crate::refused::{Outcome, held, judge};
+use crate::said::Said;
 use crate::tables::same;
 use ctl_index::Cache;
 use ctl_store::{Edit, Refusal};
@@ -70,7 +71,9 @@ fn told(alloc: Global, cache: &Cache) -> Option<Vec<u8>> {
     if cache.is_stale() {
         return None;
     }
-    tables(alloc, cache).ok()
+    let mut said = Said::new(alloc);
+    say_tables(cache, &mut said);
+    said.into_bytes()
 }
 
 /// Makes the edits before a number.
@@ -103,7 +106,7 @@ fn is_as_new(alloc: Global, cache: &mut Cache, number: u8) -> Option<bool> {
 
 /// Makes an edit that was refused for want of memory when the store held this.
 fn made_again(alloc: Global, cache: &mut Cache, number: u8, before: &[u8]) -> Option<Outcome> {
-    let after = held(alloc, cache.store()).ok()?;
+    let after = held(alloc, cache.store())?;
     if after.as_slice() != before || !is_as_new(alloc, cache, number)? {
         return Some(Outcome::Changed);
     }
@@ -116,7 +119,7 @@ fn made_again(alloc: Global, cache: &mut Cache, number: u8, before: &[u8]) -> Op
 
 /// Makes the edit of a number. None comes where memory was refused before it or behind it.
 fn made(alloc: Global, cache: &mut Cache, number: u8) -> Option<Outcome> {
-    let before = held(alloc, cache.store()).ok()?;
+    let before = held(alloc, cache.store())?;
     let edit = numbered(alloc, number)?;
     match refusal(cache, edit) {
         None => Some(Outcome::Accepted),

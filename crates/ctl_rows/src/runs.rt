@@ -2,18 +2,18 @@
 //!
 //! A session is made and dropped in one function, and all others have it lent, so that each is proved in a second or two.
 
-use crate::asking::append_asked;
+use crate::asking::say_asked;
 use crate::run_script;
-use crate::shown::state;
+use crate::said::Said;
+use crate::shown::say_state;
 use crate::texts::front;
 use ctl_index::Cache;
 use ctl_session::{Fault, FromRead, FromWrite, Session, Summary};
 use ctl_stanza::ListKind;
 use ctl_store::Limits;
-use std::alloc::{AllocError, Global};
+use std::alloc::Global;
 use std::io;
 use std::io::{ErrorKind, Read, Write};
-use std::test::Fail;
 
 /// What is done in a session.
 #[derive(Clone, Copy)]
@@ -110,173 +110,121 @@ pub fn fault_words(fault: Fault) -> &'static [u8] {
     }
 }
 
-/// What a run wrote, and its fault, if it has one.
-fn append_run(
-    outcome: Result<Summary, Fault>,
-    written: &[u8],
-    all: &mut Vec<u8>,
-) -> Result<(), AllocError> {
-    all.extend_from_slice(written)?;
-    match outcome {
-        Ok(_) => Ok(()),
-        Err(fault) => all.extend_from_slice(fault_words(fault)),
+/// The fault of a run, if it has one.
+pub fn say_fault(outcome: Result<Summary, Fault>, said: &mut Said) {
+    if let Err(fault) = outcome {
+        said.add(fault_words(fault));
     }
 }
 
-fn append_script(
-    alloc: Global,
-    session: &mut Session,
-    script: &[u8],
-    all: &mut Vec<u8>,
-) -> Result<(), AllocError> {
-    let (outcome, written) = run_script(alloc, session, script);
-    append_run(outcome, &written, all)
+fn say_script(session: &mut Session, script: &[u8], said: &mut Said) {
+    let (outcome, written) = run_script(said.alloc(), session, script);
+    said.add(&written);
+    say_fault(outcome, said);
 }
 
-fn append_counted(
-    alloc: Global,
-    session: &mut Session,
-    script: &[u8],
-    all: &mut Vec<u8>,
-) -> Result<(), AllocError> {
-    let (outcome, _) = run_script(alloc, session, script);
-    let words = match outcome {
+/// How many commands were accepted, and how many refused.
+pub fn say_summary(outcome: Result<Summary, Fault>, said: &mut Said) {
+    match outcome {
         Ok(summary) => {
-            format!(in alloc;
-                "{} accepted, {} refused",
-                summary.accepted, summary.refused
-            )?
+            said.number(b"", summary.accepted as u128);
+            said.number(b" accepted, ", summary.refused as u128);
+            said.add(b" refused");
         }
-        Err(_) => format!(in alloc; "a fault")?,
-    };
-    all.extend_from_slice(words.as_bytes())
+        Err(_) => said.add(b"a fault"),
+    }
 }
 
-fn append_given(
-    alloc: Global,
-    session: &mut Session,
-    given: Given<'_>,
-    all: &mut Vec<u8>,
-) -> Result<(), AllocError> {
+fn say_counted(session: &mut Session, script: &[u8], said: &mut Said) {
+    let (outcome, _) = run_script(said.alloc(), session, script);
+    say_summary(outcome, said);
+}
+
+fn say_given(session: &mut Session, given: Given<'_>, said: &mut Said) {
     let mut reader = FromRead::new(given);
-    let mut writer = FromWrite::new(Vec::<u8>::new(alloc));
+    let mut writer = FromWrite::new(Vec::<u8>::new(said.alloc()));
     let outcome = session.run(&mut reader, &mut writer);
     let _ = reader.into_inner();
-    append_run(outcome, &writer.into_inner(), all)
+    said.add(&writer.into_inner());
+    say_fault(outcome, said);
 }
 
-fn append_broken(
-    alloc: Global,
-    session: &mut Session,
-    bytes: &[u8],
-    width: usize,
-    all: &mut Vec<u8>,
-) -> Result<(), AllocError> {
-    append_given(alloc, session, Given::new(bytes, width, false), all)
-}
-
-fn append_endless(
-    alloc: Global,
-    session: &mut Session,
-    bytes: &[u8],
-    all: &mut Vec<u8>,
-) -> Result<(), AllocError> {
-    append_given(alloc, session, Given::new(bytes, usize::MAX, true), all)
-}
-
-fn append_until(
-    alloc: Global,
-    session: &mut Session,
-    script: &[u8],
-    before: usize,
-    all: &mut Vec<u8>,
-) -> Result<(), AllocError> {
+fn say_until(session: &mut Session, script: &[u8], before: usize, said: &mut Said) {
     let mut reader = FromRead::new(script);
     let mut writer = FromWrite::new(FailingOnce {
-        taken: Vec::new(alloc),
+        taken: Vec::new(said.alloc()),
         before,
         has_failed: false,
     });
     let outcome = session.run(&mut reader, &mut writer);
     let _ = reader.into_inner();
-    append_run(outcome, &writer.into_inner().taken, all)
+    said.add(&writer.into_inner().taken);
+    say_fault(outcome, said);
 }
 
-fn append_load(
-    alloc: Global,
-    session: &mut Session,
-    name: &[u8],
-    text: &[u8],
-    all: &mut Vec<u8>,
-) -> Result<(), AllocError> {
-    let words = match session.load(name, ListKind::Packages, Vec::from_slice(alloc, text)?) {
-        Ok(()) => format!(in alloc; "loaded")?,
-        Err(fault) => format!(in alloc; "line {}, number {}", fault.line, fault.cause.number())?,
-    };
-    all.extend_from_slice(words.as_bytes())
+fn say_loaded(session: &mut Session, name: &[u8], text: Vec<u8>, said: &mut Said) {
+    match session.load(name, ListKind::Packages, text) {
+        Ok(()) => said.add(b"loaded"),
+        Err(fault) => {
+            said.number(b"line ", fault.line as u128);
+            said.number(b", number ", fault.cause.number() as u128);
+        }
+    }
 }
 
-fn append_held(alloc: Global, session: &Session, all: &mut Vec<u8>) -> Result<(), AllocError> {
-    let held = state(alloc, session.cache().store())?;
-    all.extend_from_slice(&held)
+fn say_load(session: &mut Session, name: &[u8], text: &[u8], said: &mut Said) {
+    match Vec::from_slice(said.alloc(), text) {
+        Ok(text) => say_loaded(session, name, text, said),
+        Err(_) => said.fail(),
+    }
 }
 
-fn append_act(
-    alloc: Global,
-    session: &mut Session,
-    act: &Act<'_>,
-    all: &mut Vec<u8>,
-) -> Result<(), AllocError> {
+fn say_act(session: &mut Session, act: &Act<'_>, said: &mut Said) {
     match act {
-        Act::Script(script) => append_script(alloc, session, script, all),
-        Act::Counted(script) => append_counted(alloc, session, script, all),
-        Act::Broken(bytes) => append_broken(alloc, session, bytes, usize::MAX, all),
-        Act::ByteByByte(bytes) => append_broken(alloc, session, bytes, 1, all),
-        Act::Endless(bytes) => append_endless(alloc, session, bytes, all),
-        Act::Until(script, before) => append_until(alloc, session, script, *before, all),
-        Act::Load(name, text) => append_load(alloc, session, name, text, all),
-        Act::Held => append_held(alloc, session, all),
-        Act::Ask(words) => append_asked(alloc, session.cache(), words, all),
+        Act::Script(script) => say_script(session, script, said),
+        Act::Counted(script) => say_counted(session, script, said),
+        Act::Broken(bytes) => say_given(session, Given::new(bytes, usize::MAX, false), said),
+        Act::ByteByByte(bytes) => say_given(session, Given::new(bytes, 1, false), said),
+        Act::Endless(bytes) => say_given(session, Given::new(bytes, usize::MAX, true), said),
+        Act::Until(script, before) => say_until(session, script, *before, said),
+        Act::Load(name, text) => say_load(session, name, text, said),
+        Act::Held => say_state(session.cache().store(), said),
+        Act::Ask(words) => say_asked(session.cache(), words, said),
     }
 }
 
-fn came_in(alloc: Global, session: &mut Session, acts: &[Act<'_>]) -> Result<Vec<u8>, AllocError> {
-    let mut all = Vec::new(alloc);
+fn say_acts(session: &mut Session, acts: &[Act<'_>], said: &mut Said) {
     for act in acts {
-        append_act(alloc, session, act, &mut all)?;
+        say_act(session, act, said);
     }
-    Ok(all)
 }
 
 /// A session over a cache of these limits, whose runs read up to so many lines.
-pub fn session_of(alloc: Global, limits: Limits, max_lines: u32) -> Result<Session, AllocError> {
-    match Session::with_lines(alloc, Cache::with_limits(alloc, limits), max_lines) {
-        Ok(session) => Ok(session),
-        Err(_) => Err(AllocError),
-    }
-}
-
-/// What comes of acts in a new session over a cache of these limits, whose runs read up to so many lines.
-pub fn came_of(
-    alloc: Global,
-    limits: Limits,
-    max_lines: u32,
-    acts: &[Act<'_>],
-) -> Result<Vec<u8>, AllocError> {
-    let mut session = session_of(alloc, limits, max_lines)?;
-    came_in(alloc, &mut session, acts)
+pub fn session_of(alloc: Global, limits: Limits, max_lines: u32) -> Option<Session> {
+    Session::with_lines(alloc, Cache::with_limits(alloc, limits), max_lines).ok()
 }
 
 /// A session without limits.
-pub fn plain_session(alloc: Global) -> Result<Session, AllocError> {
-    match Session::new(alloc, Cache::new(alloc)) {
-        Ok(session) => Ok(session),
-        Err(_) => Err(AllocError),
+pub fn plain_session(alloc: Global) -> Option<Session> {
+    Session::new(alloc, Cache::new(alloc)).ok()
+}
+
+/// What comes of acts in a session, if there is one.
+fn came_in(alloc: Global, session: Option<Session>, acts: &[Act<'_>]) -> Said {
+    let mut said = Said::new(alloc);
+    match session {
+        Some(mut session) => say_acts(&mut session, acts, &mut said),
+        None => said.fail(),
     }
+    said
+}
+
+/// What comes of acts in a new session over a cache of these limits, whose runs read up to so many lines.
+pub fn came_of(alloc: Global, limits: Limits, max_lines: u32, acts: &[Act<'_>]) -> Said {
+    came_in(alloc, session_of(alloc, limits, max_lines), acts)
 }
 
 /// The same without limits.
-pub fn came(alloc: Global, acts: &[Act<'_>]) -> Result<Vec<u8>, AllocError> {
-    let mut session = plain_session(alloc)?;
-    came_in(alloc, &mut session, acts)
+pub fn came(alloc: Global, acts: &[Act<'_>]) -> Said {
+    came_in(alloc, plain_session(alloc), acts)
 }

@@ -1,11 +1,10 @@
 //! What scripts leave in the store and no query shows. What queries show of it is asked by the scripts under `tests/scripts`.
 
-use crate::tables::{each_leaves, left_under, same};
+use crate::tables::{each_leaves, leaves_under};
 use ctl_store::Limits;
-use std::test::Fail;
 
 #[test]
-fn edits_and_stanzas_have_their_limits(rt: HostRuntime) -> Result<(), Fail> {
+fn edits_and_stanzas_have_their_limits(rt: HostRuntime) {
     let limits = Limits {
         stanzas: 2,
         edits: 5,
@@ -15,23 +14,21 @@ fn edits_and_stanzas_have_their_limits(rt: HostRuntime) -> Result<(), Fail> {
          put main\nPackage: b\nVersion: 1-0\n.\nput main\nPackage: c\nVersion: 1\n.\n\
          pkgnames\nmark a 1\nmark a 1\nmark a 1\nmark a 1\n\
          unmark b\nunpin a version 1\ndrop-list sid\nunmark a\ntarget main\nprefs\n.\n";
-    let came = left_under(rt.alloc(), limits, script)?;
     // What the state refuses for another cause comes before want of room.
-    same(
+    leaves_under(
         &rt,
+        limits,
         script,
-        &came,
         b"E: line 12: cache full\na\nb\nE: line 20: cache full\n\
           E: line 21: no such mark\nE: line 22: no such pin\nE: line 23: no such list\n\
           E: line 24: cache full\nE: line 25: cache full\nE: line 26: cache full\n\
           list main packages plain\nPackage: a\nVersion: 1\n|Package: b\nVersion: 1-0\n|mark a 1\n2 stanzas, 5 edits\n",
     );
-    Ok(())
 }
 
 // How many edits were accepted, the words of marks, and the order of pins of several packages.
 #[test]
-fn what_no_query_shows(rt: HostRuntime) -> Result<(), Fail> {
+fn what_no_query_shows(rt: HostRuntime) {
     each_leaves(
         &rt,
         b"
@@ -181,5 +178,5 @@ E: line 34: required field missing
 pin a version 1 7
 0 stanzas, 1 edits
 ",
-    )
+    );
 }

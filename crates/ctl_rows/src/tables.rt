@@ -1,11 +1,11 @@
 //! Tables of scripts, each with what it writes.
 
 use crate::runs::{Act, came, came_of};
+use crate::said::Said;
 use crate::texts::{beginning, truth};
 use ctl_store::Limits;
-use std::alloc::{AllocError, Global};
+use std::alloc::Global;
 use std::process::Abort;
-use std::test::Fail;
 
 /// Ends the test where a row came to another text than was wanted, and shows the row and both texts.
 pub fn same(rt: &impl Abort, row: &[u8], came: &[u8], wanted: &[u8]) {
@@ -25,33 +25,54 @@ pub fn agree(rt: &impl Abort, row: &[u8], came: bool, wanted: bool) {
 }
 
 /// Three texts, one behind another.
-pub fn joined(
-    alloc: Global,
-    first: &[u8],
-    second: &[u8],
-    third: &[u8],
-) -> Result<Vec<u8>, AllocError> {
-    let mut all = Vec::from_slice(alloc, first)?;
-    all.extend_from_slice(second)?;
-    all.extend_from_slice(third)?;
-    Ok(all)
+pub fn joined(alloc: Global, first: &[u8], second: &[u8], third: &[u8]) -> Said {
+    let mut all = Said::new(alloc);
+    all.all(&[first, second, third]);
+    all
 }
 
-/// What a script writes on an empty session.
-pub fn written(alloc: Global, script: &[u8]) -> Result<Vec<u8>, AllocError> {
-    came(alloc, &[Act::Script(script)])
+/// Compares what comes of acts in a new session with what is wanted.
+pub fn comes(rt: &(impl Abort + AllocGlobal), row: &[u8], acts: &[Act<'_>], wanted: &[u8]) {
+    same(rt, row, came(rt.alloc(), acts).shown(), wanted);
 }
 
-/// What a script writes, and then what the store of these limits holds.
-pub fn left_under(alloc: Global, limits: Limits, script: &[u8]) -> Result<Vec<u8>, AllocError> {
-    came_of(alloc, limits, u32::MAX, &[Act::Script(script), Act::Held])
+/// The same where runs read up to so many lines.
+pub fn comes_by(
+    rt: &(impl Abort + AllocGlobal),
+    max_lines: u32,
+    row: &[u8],
+    acts: &[Act<'_>],
+    wanted: &[u8],
+) {
+    same(
+        rt,
+        row,
+        came_of(rt.alloc(), Limits::MOST, max_lines, acts).shown(),
+        wanted,
+    );
+}
+
+/// Compares what a script writes on an empty session with what is wanted.
+pub fn writes(rt: &(impl Abort + AllocGlobal), script: &[u8], wanted: &[u8]) {
+    comes(rt, script, &[Act::Script(script)], wanted);
+}
+
+/// Compares what a script writes, and then what the store of these limits holds, with what is wanted.
+pub fn leaves_under(rt: &(impl Abort + AllocGlobal), limits: Limits, script: &[u8], wanted: &[u8]) {
+    let acts = [Act::Script(script), Act::Held];
+    same(
+        rt,
+        script,
+        came_of(rt.alloc(), limits, u32::MAX, &acts).shown(),
+        wanted,
+    );
 }
 
 /// A row of a table, as far as it was read.
 #[derive(Drop)]
 struct Row {
-    script: Vec<u8>,
-    wanted: Vec<u8>,
+    script: Said,
+    wanted: Said,
     /// Whether what is read is what is wanted, and no longer the script.
     is_script_over: bool,
 }
@@ -59,56 +80,63 @@ struct Row {
 impl Row {
     fn new(alloc: Global) -> Row {
         Row {
-            script: Vec::new(alloc),
-            wanted: Vec::new(alloc),
+            script: Said::new(alloc),
+            wanted: Said::new(alloc),
             is_script_over: false,
         }
     }
 
     /// Takes a line of the table in.
-    fn add(&mut self, line: &[u8]) -> Result<(), AllocError> {
+    fn add(&mut self, line: &[u8]) {
         match line {
             b"=>" => self.is_script_over = true,
-            _ if self.is_script_over => add_line(&mut self.wanted, line)?,
-            _ => add_line(&mut self.script, line)?,
+            _ if self.is_script_over => self.wanted.all(&[line, b"\n"]),
+            _ => self.script.all(&[line, b"\n"]),
         }
-        Ok(())
+    }
+
+    /// Whether a script was read, or what is wanted.
+    fn is_begun(&self) -> bool {
+        self.is_script_over || !self.script.shown().is_empty()
     }
 
     /// Compares what comes of the script with what is wanted.
-    fn judge(&self, rt: &(impl Abort + AllocGlobal)) -> Result<(), Fail> {
-        if !self.is_script_over {
-            return Err(Fail::from("a row says nothing of what is wanted"));
-        }
-        let came = left_under(rt.alloc(), Limits::MOST, &self.script)?;
-        same(rt, &self.script, &came, &self.wanted);
-        Ok(())
+    fn judge(&self, rt: &(impl Abort + AllocGlobal)) {
+        agree(rt, self.script.shown(), self.is_script_over, true);
+        leaves_under(rt, Limits::MOST, self.script.shown(), self.wanted.shown());
     }
 }
 
-fn add_line(text: &mut Vec<u8>, line: &[u8]) -> Result<(), AllocError> {
-    text.extend_from_slice(line)?;
-    Ok(text.push(b'\n')?)
+/// Takes a line of a table in. Where it stands between rows, the one above is judged.
+fn take(rt: &(impl Abort + AllocGlobal), line: &[u8], row: &mut Row) {
+    if !line.starts_with(b"--") {
+        return row.add(line);
+    }
+    if row.is_begun() {
+        row.judge(rt);
+    }
+    *row = Row::new(rt.alloc());
 }
 
 /// Runs each script of a table on an empty session, and compares what it writes and what the store then holds.
 ///
 /// A table is a text: a row has its script, then a line `=>`, and then what is wanted. A line that begins with `--`, and may go on
-/// with words for the reader, stands between rows.
-pub fn each_leaves(rt: &(impl Abort + AllocGlobal), table: &[u8]) -> Result<(), Fail> {
-    let [b'\n', rows @ .., b'\n'] = table else {
-        return Err(Fail::from("a table stands on lines of its own"));
-    };
+/// with words for the reader, stands between rows. A table stands on lines of its own.
+pub fn each_leaves(rt: &(impl Abort + AllocGlobal), table: &[u8]) {
     let mut row = Row::new(rt.alloc());
-    for line in rows.split(|byte| *byte == b'\n') {
-        if line.starts_with(b"--") {
-            if row.is_script_over || !row.script.is_empty() {
-                row.judge(rt)?;
-            }
-            row = Row::new(rt.alloc());
-        } else {
-            row.add(line)?;
+    for line in rows_of(rt, table).split(|byte| *byte == b'\n') {
+        take(rt, line, &mut row);
+    }
+    row.judge(rt);
+}
+
+/// The lines of a table that stands on lines of its own.
+pub fn rows_of<'a>(rt: &impl Abort, table: &'a [u8]) -> &'a [u8] {
+    match table {
+        [b'\n', rows @ .., b'\n'] => rows,
+        _ => {
+            same(rt, table, b"", b"a table on lines of its own");
+            b""
         }
     }
-    row.judge(rt)
 }

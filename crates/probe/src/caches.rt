@@ -3,173 +3,134 @@
 ghost use Rattle.std.specs.Prelude.{◌≡◌, false};
 
 use crate::edits::edit_named;
-use crate::hexadecimal::append_word;
-use crate::parts::append_version;
-use crate::policies::append_policies;
-use crate::state::{append_key, append_state};
+use crate::parts::say_version;
+use crate::policies::say_policies;
+use crate::said::{OUT_OF_MEMORY, Said};
+use crate::state::say_state;
 use crate::words::Words;
-use anyhow::{Result, bail};
 use ctl_index::{AtomKey, Cache, ClauseKey};
 use ctl_store::{Edit, Refusal};
-use std::alloc::{AllocError, Global};
+use std::alloc::Global;
 
-fn append_names(alloc: Global, cache: &Cache, line: &mut Vec<u8>) -> Result<(), AllocError>
+fn say_names(cache: &Cache, said: &mut Said)
     requires { cache.now.stale ≡ false }
 {
     for name in cache.names() {
-        append_word(alloc, b" name=", name, line)?;
+        said.word(b" name=", name);
     }
-    Ok(())
 }
 
 // The offers of a name: the name, the key of the stanza, and the version or `-`.
-fn append_offers(
-    alloc: Global,
-    cache: &Cache,
-    name: &[u8],
-    line: &mut Vec<u8>,
-) -> Result<(), AllocError>
+fn say_offers(cache: &Cache, name: &[u8], said: &mut Said)
     requires { cache.now.stale ≡ false }
 {
     for (key, offer) in cache.offers(name) {
-        append_word(alloc, b" offer=", name, line)?;
-        append_key(alloc, b':', key, line)?;
-        append_version(alloc, offer.version(), line)?;
+        said.word(b" offer=", name);
+        said.key(b":", key);
+        say_version(offer.version(), said);
     }
-    Ok(())
 }
 
-fn append_atom_key(alloc: Global, key: AtomKey, line: &mut Vec<u8>) -> Result<(), AllocError> {
-    append_key(alloc, b':', key.stanza, line)?;
-    line.push(b'.')?;
-    line.extend_from_slice(key.field.printed_name())?;
-    let told = format!(in alloc; ".{}.{}", key.group, key.atom)?;
-    line.extend_from_slice(told.as_bytes())
+// The key of an atom: those of its stanza and of its field, and its places.
+fn say_atom_key(key: AtomKey, said: &mut Said) {
+    said.key(b":", key.stanza);
+    said.all(&[b".", key.field.printed_name()]);
+    said.number(b".", key.group as u128);
+    said.number(b".", key.atom as u128);
 }
 
 // The atoms that name a name: the name, and the key of the atom.
-fn append_namers(
-    alloc: Global,
-    cache: &Cache,
-    name: &[u8],
-    line: &mut Vec<u8>,
-) -> Result<(), AllocError>
+fn say_namers(cache: &Cache, name: &[u8], said: &mut Said)
     requires { cache.now.stale ≡ false }
 {
     for key in cache.namers(name) {
-        append_word(alloc, b" namer=", name, line)?;
-        append_atom_key(alloc, key, line)?;
+        said.word(b" namer=", name);
+        say_atom_key(key, said);
     }
-    Ok(())
 }
 
-fn append_by_name(alloc: Global, cache: &Cache, line: &mut Vec<u8>) -> Result<(), AllocError>
+fn say_by_name(cache: &Cache, said: &mut Said)
     requires { cache.now.stale ≡ false }
 {
     for name in cache.names() {
-        append_offers(alloc, cache, name, line)?;
-        append_namers(alloc, cache, name, line)?;
+        say_offers(cache, name, said);
+        say_namers(cache, name, said);
     }
-    Ok(())
 }
 
-fn append_clause_key(
-    alloc: Global,
-    mark: &[u8],
-    key: ClauseKey,
-    line: &mut Vec<u8>,
-) -> Result<(), AllocError> {
-    line.extend_from_slice(mark)?;
-    append_key(alloc, b'=', key.stanza, line)?;
-    line.push(b'.')?;
-    line.extend_from_slice(key.field.printed_name())?;
-    let told = format!(in alloc; ".{}", key.group)?;
-    line.extend_from_slice(told.as_bytes())
+fn say_clause_key(mark: &[u8], key: ClauseKey, said: &mut Said) {
+    said.key(mark, key.stanza);
+    said.all(&[b".", key.field.printed_name()]);
+    said.number(b".", key.group as u128);
 }
 
-fn append_counters(alloc: Global, cache: &Cache, line: &mut Vec<u8>) -> Result<(), AllocError>
+fn say_counters(cache: &Cache, said: &mut Said)
     requires { cache.now.stale ≡ false }
 {
     for (key, number) in cache.counters() {
-        append_clause_key(alloc, b" counter", *key, line)?;
-        let told = format!(in alloc; ":{number}")?;
-        line.extend_from_slice(told.as_bytes())?;
+        say_clause_key(b" counter=", *key, said);
+        said.number(b":", *number);
     }
-    Ok(())
 }
 
-fn append_unmet(alloc: Global, cache: &Cache, line: &mut Vec<u8>) -> Result<(), AllocError>
+fn say_unmet(cache: &Cache, said: &mut Said)
     requires { cache.now.stale ≡ false }
 {
     for key in cache.unmet_clauses() {
-        append_clause_key(alloc, b" unmet", key, line)?;
+        say_clause_key(b" unmet=", key, said);
     }
-    Ok(())
 }
 
 // The names of packages that begin with a prefix.
-fn append_packages(
-    alloc: Global,
-    cache: &Cache,
-    prefix: &[u8],
-    line: &mut Vec<u8>,
-) -> Result<(), AllocError>
+fn say_packages(cache: &Cache, prefix: &[u8], said: &mut Said)
     requires { cache.now.stale ≡ false }
 {
-    line.extend_from_slice(b"packages")?;
-    for name in cache.package_names(prefix)? {
-        append_word(alloc, b" ", name, line)?;
+    said.add(b"packages");
+    match cache.package_names(prefix) {
+        Err(_) => said.fail(OUT_OF_MEMORY),
+        Ok(names) => {
+            for name in names {
+                said.word(b" ", name);
+            }
+        }
     }
-    Ok(())
 }
 
 // All that the tables tell.
-fn append_views(alloc: Global, cache: &Cache, line: &mut Vec<u8>) -> Result<(), AllocError>
+fn say_views(cache: &Cache, said: &mut Said)
     requires { cache.now.stale ≡ false }
 {
-    line.extend_from_slice(b"views")?;
-    append_names(alloc, cache, line)?;
-    append_by_name(alloc, cache, line)?;
-    append_counters(alloc, cache, line)?;
-    append_unmet(alloc, cache, line)
+    said.add(b"views");
+    say_names(cache, said);
+    say_by_name(cache, said);
+    say_counters(cache, said);
+    say_unmet(cache, said);
 }
 
 // The same, where the tables are not stale or could be made anew; else `stale`.
-fn append_recovered(
-    alloc: Global,
-    cache: &mut Cache,
-    line: &mut Vec<u8>,
-) -> Result<(), AllocError> {
+fn say_recovered(cache: &mut Cache, said: &mut Said) {
     if cache.recover().is_err() || cache.is_stale() {
-        return line.extend_from_slice(b"stale");
-    }
-    append_views(alloc, cache, line)
-}
-
-fn append_kept_policies(
-    alloc: Global,
-    cache: &Cache,
-    line: &mut Vec<u8>,
-) -> Result<(), AllocError> {
-    if cache.is_stale() {
-        return line.extend_from_slice(b"stale");
-    }
-    append_policies(alloc, cache, line)
-}
-
-fn append_packages_of_word(
-    alloc: Global,
-    cache: &Cache,
-    words: &mut Words<'_>,
-    line: &mut Vec<u8>,
-) -> Result<()> {
-    let prefix = words.bytes()?;
-    if cache.is_stale() {
-        line.extend_from_slice(b"stale")?;
+        said.add(b"stale");
     } else {
-        append_packages(alloc, cache, prefix.as_slice(), line)?;
+        say_views(cache, said);
     }
-    Ok(())
+}
+
+fn say_kept_policies(cache: &Cache, said: &mut Said) {
+    if cache.is_stale() {
+        said.add(b"stale");
+    } else {
+        say_policies(cache, said);
+    }
+}
+
+fn say_packages_of_word(cache: &Cache, words: &mut Words<'_>, said: &mut Said) {
+    let prefix = words.bytes();
+    if cache.is_stale() {
+        said.add(b"stale");
+    } else {
+        say_packages(cache, prefix.as_slice(), said);
+    }
 }
 
 /// Makes an edit. A stale cache refuses it as it does where there is no memory.
@@ -181,88 +142,50 @@ pub fn apply(cache: &mut Cache, edit: Edit) -> Result<(), Refusal> {
 }
 
 // What comes of an edit, and the count of tests after it.
-fn append_outcome(
-    alloc: Global,
-    cache: &mut Cache,
-    edit: Edit,
-    line: &mut Vec<u8>,
-) -> Result<(), AllocError> {
+fn say_outcome(cache: &mut Cache, edit: Edit, said: &mut Said) {
     match apply(cache, edit) {
-        Ok(()) => line.extend_from_slice(b"ok")?,
-        Err(why) => {
-            let told = format!(in alloc; "refused {}", why.number())?;
-            line.extend_from_slice(told.as_bytes())?;
-        }
+        Ok(()) => said.add(b"ok"),
+        Err(why) => said.number(b"refused ", why.number() as u128),
     }
-    let told = format!(in alloc; " {}", cache.steps())?;
-    line.extend_from_slice(told.as_bytes())
-}
-
-/// Makes an edit that the cache accepts.
-pub fn make(cache: &mut Cache, edit: Edit) -> Result<()> {
-    match apply(cache, edit) {
-        Ok(()) => Ok(()),
-        Err(_) => bail!("an edit that is refused"),
-    }
+    said.number(b" ", cache.steps());
 }
 
 // The count of tests, and whether the tables are stale.
-fn append_steps(alloc: Global, cache: &Cache, line: &mut Vec<u8>) -> Result<(), AllocError> {
-    let told = format!(in alloc; "steps {}", cache.steps())?;
-    line.extend_from_slice(told.as_bytes())?;
+fn say_steps(cache: &Cache, said: &mut Said) {
+    said.number(b"steps ", cache.steps());
     if cache.is_stale() {
-        line.extend_from_slice(b" stale")?;
+        said.add(b" stale");
     }
-    Ok(())
 }
 
 // Begins with a new cache.
-fn begin(
-    alloc: Global,
-    cache: &mut Cache,
-    words: &mut Words<'_>,
-    line: &mut Vec<u8>,
-) -> Result<()> {
-    let limits = words.limits()?;
-    *cache = Cache::with_limits(alloc, limits);
-    Ok(line.extend_from_slice(b"new")?)
+fn begin(cache: &mut Cache, words: &mut Words<'_>, said: &mut Said) {
+    let limits = words.limits();
+    *cache = Cache::with_limits(words.alloc(), limits);
+    said.add(b"new");
 }
 
-fn append_edited(
-    alloc: Global,
-    cache: &mut Cache,
-    word: &str,
-    words: &mut Words<'_>,
-    line: &mut Vec<u8>,
-) -> Result<()> {
-    let edit = edit_named(alloc, word, words)?;
-    Ok(append_outcome(alloc, cache, edit, line)?)
+fn say_edited(cache: &mut Cache, word: &str, words: &mut Words<'_>, said: &mut Said) {
+    if let Some(edit) = edit_named(words, word) {
+        say_outcome(cache, edit, said);
+    }
 }
 
-fn append_told(
-    alloc: Global,
-    cache: &mut Cache,
-    words: &mut Words<'_>,
-    line: &mut Vec<u8>,
-) -> Result<()> {
-    match words.word()? {
-        "limits" => begin(alloc, cache, words, line),
-        "views" => Ok(append_recovered(alloc, cache, line)?),
-        "policies" => Ok(append_kept_policies(alloc, cache, line)?),
-        "packages" => append_packages_of_word(alloc, cache, words, line),
-        "steps" => Ok(append_steps(alloc, cache, line)?),
-        "dump" => append_state(alloc, cache.store(), words, line),
-        word => append_edited(alloc, cache, word, words, line),
+fn say_told(cache: &mut Cache, words: &mut Words<'_>, said: &mut Said) {
+    match words.word() {
+        "limits" => begin(cache, words, said),
+        "views" => say_recovered(cache, said),
+        "policies" => say_kept_policies(cache, said),
+        "packages" => say_packages_of_word(cache, words, said),
+        "steps" => say_steps(cache, said),
+        "dump" => say_state(cache.store(), words, said),
+        word => say_edited(cache, word, words, said),
     }
 }
 
 /// Begins with a new cache, changes it by a line, or shows what it tells.
-pub fn append_followed(
-    alloc: Global,
-    cache: &mut Cache,
-    text: &str,
-    line: &mut Vec<u8>,
-) -> Result<()> {
-    let mut words = Words::new(alloc, text);
-    append_told(alloc, cache, &mut words, line)
+pub fn say_followed(alloc: Global, cache: &mut Cache, line: &str, said: &mut Said) {
+    let mut words = Words::new(alloc, line);
+    say_told(cache, &mut words, said);
+    words.end(said);
 }

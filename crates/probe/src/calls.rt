@@ -13,9 +13,9 @@ pub mod stores;
 pub mod texts;
 pub mod versions;
 
-use crate::Kept;
+use crate::kept::Kept;
+use crate::said::Said;
 use crate::words::Words;
-use anyhow::Result;
 use std::alloc::Global;
 
 /// What is called.
@@ -45,36 +45,26 @@ pub fn calls_named(word: &str) -> Option<Calls> {
 }
 
 /// What a call gives that a line asks for.
-fn append_called(
-    alloc: Global,
-    kept: &mut Kept,
-    calls: Calls,
-    line: &str,
-    said: &mut Vec<u8>,
-) -> Result<()> {
-    let mut words = Words::plain(alloc, line);
+fn say_called(kept: &mut Kept, calls: Calls, words: &mut Words<'_>, said: &mut Said) {
     match calls {
-        Calls::Versions => versions::append_call(alloc, &mut words, said),
-        Calls::Names => names::append_call(alloc, &mut words, said),
-        Calls::Fields => fields::append_call(alloc, &mut words, said),
-        Calls::Texts => texts::append_call(alloc, &mut words, said),
-        Calls::Pins => pins::append_call(alloc, &mut words, said),
-        Calls::Stores => stores::append_call(alloc, &mut kept.store, &mut words, said),
-        Calls::Caches => caches::append_call(alloc, &mut kept.cache, &mut words, said),
+        Calls::Versions => versions::say_call(words, said),
+        Calls::Names => names::say_call(words, said),
+        Calls::Fields => fields::say_call(words, said),
+        Calls::Texts => texts::say_call(words, said),
+        Calls::Pins => pins::say_call(words, said),
+        Calls::Stores => stores::say_call(&mut kept.store, words, said),
+        Calls::Caches => caches::say_call(&mut kept.cache, words, said),
     }
 }
 
 /// The same, with escapes as Rust writes them.
-pub fn append_call(
-    alloc: Global,
-    kept: &mut Kept,
-    calls: Calls,
-    line: &str,
-    answer: &mut Vec<u8>,
-) -> Result<()> {
-    let mut said = Vec::new(alloc);
-    append_called(alloc, kept, calls, line, &mut said)?;
-    let told = format!(in alloc; "{}", said.escape_ascii())?;
-    answer.extend_from_slice(told.as_bytes())?;
-    Ok(())
+pub fn say_call(alloc: Global, kept: &mut Kept, calls: Calls, line: &str, said: &mut Said) {
+    let mut plain = Said::new(alloc);
+    let mut words = Words::plain(alloc, line);
+    say_called(kept, calls, &mut words, &mut plain);
+    words.end(&mut plain);
+    match plain.into_bytes() {
+        Ok(bytes) => said.escaped(&bytes),
+        Err(why) => said.fail(why),
+    }
 }

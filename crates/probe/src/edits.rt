@@ -1,8 +1,7 @@
 //! Edits as the lines give them.
 
-use crate::texts::list_kind_named;
+use crate::said::OUT_OF_MEMORY;
 use crate::words::Words;
-use anyhow::{Context, Result, bail};
 use ctl_relation::Bytes;
 use ctl_stanza::{ListKind, Stanza, lines_take_bytes, read_stanzas};
 use ctl_store::{
@@ -10,155 +9,239 @@ use ctl_store::{
 };
 use std::alloc::Global;
 
-fn class_named(word: &str) -> Option<ListClass> {
-    match word {
-        "plain" => Some(ListClass::Plain),
-        "notauto" => Some(ListClass::NotAutomatic),
-        "butauto" => Some(ListClass::ButAutomatic),
-        _ => None,
+fn class(words: &mut Words<'_>) -> ListClass {
+    match words.word() {
+        "plain" => ListClass::Plain,
+        "notauto" => ListClass::NotAutomatic,
+        "butauto" => ListClass::ButAutomatic,
+        _ => {
+            words.fail("a class that is not known");
+            ListClass::Plain
+        }
     }
 }
 
-fn kind(words: &mut Words<'_>) -> Result<ListKind> {
-    list_kind_named(words.word()?).context("a kind that is not known")
-}
-
-// The stanzas of a text of a list of this kind.
-fn stanzas_of(alloc: Global, text: &[u8], kind: ListKind) -> Result<Vec<Box<Stanza>>> {
+// The stanzas of a text of a list of this kind, or why there are none.
+fn stanzas_of(
+    alloc: Global,
+    text: &[u8],
+    kind: ListKind,
+) -> Result<Vec<Box<Stanza>>, &'static str> {
     lines_take_bytes();
-    let read = read_stanzas(alloc, text, 1, kind)
-        .ok()
-        .context("a text with a fault")?;
-    Ok(boxed(alloc, read)?)
+    match read_stanzas(alloc, text, 1, kind) {
+        Ok(read) => boxed(alloc, read).or(Err(OUT_OF_MEMORY)),
+        Err(_) => Err("a text with a fault"),
+    }
 }
 
 // Those of the text that the next word gives.
-fn stanzas(alloc: Global, words: &mut Words<'_>, kind: ListKind) -> Result<Vec<Box<Stanza>>> {
-    let text = words.bytes()?;
-    stanzas_of(alloc, text.as_slice(), kind)
+fn stanzas(words: &mut Words<'_>, kind: ListKind) -> Vec<Box<Stanza>> {
+    let text = words.bytes();
+    match stanzas_of(words.alloc(), text.as_slice(), kind) {
+        Ok(stanzas) => stanzas,
+        Err(why) => {
+            words.fail(why);
+            Vec::new(words.alloc())
+        }
+    }
 }
 
-/// The edit that adds a text as the list `main`.
-pub fn main_list(alloc: Global, text: &[u8], kind: ListKind) -> Result<Edit> {
-    Ok(Edit::AddList {
-        name: Bytes::from_slice(alloc, b"main")?,
-        kind,
-        class: ListClass::Plain,
-        stanzas: stanzas_of(alloc, text, kind)?,
-    })
+/// The edit that adds a text as the list `main`, or why it is none.
+pub fn main_list(alloc: Global, text: &[u8], kind: ListKind) -> Result<Edit, &'static str> {
+    let stanzas = stanzas_of(alloc, text, kind)?;
+    match Bytes::from_slice(alloc, b"main") {
+        Ok(name) => Ok(Edit::AddList {
+            name,
+            kind,
+            class: ListClass::Plain,
+            stanzas,
+        }),
+        Err(_) => Err(OUT_OF_MEMORY),
+    }
 }
 
-fn add_list(alloc: Global, words: &mut Words<'_>) -> Result<Edit> {
-    let name = words.bytes()?;
-    let kind = kind(words)?;
-    let class = class_named(words.word()?).context("a class that is not known")?;
-    let stanzas = stanzas(alloc, words, kind)?;
-    Ok(Edit::AddList {
+fn add_list(words: &mut Words<'_>) -> Edit {
+    let name = words.bytes();
+    let kind = words.list_kind();
+    let class = class(words);
+    let stanzas = stanzas(words, kind);
+    Edit::AddList {
         name,
         kind,
         class,
         stanzas,
+    }
+}
+
+fn put(words: &mut Words<'_>) -> Option<Edit> {
+    let list = words.bytes();
+    let kind = words.list_kind();
+    match stanzas(words, kind).pop() {
+        Some(stanza) => Some(Edit::Put { list, stanza }),
+        None => {
+            words.fail("a text without a stanza");
+            None
+        }
+    }
+}
+
+fn remove(words: &mut Words<'_>) -> Option<Edit> {
+    let list = words.bytes();
+    let package = words.bytes();
+    let version = words.version()?;
+    Some(Edit::Remove {
+        list,
+        package,
+        version,
     })
 }
 
-fn put(alloc: Global, words: &mut Words<'_>) -> Result<Edit> {
-    let list = words.bytes()?;
-    let kind = kind(words)?;
-    let stanza = stanzas(alloc, words, kind)?
-        .pop()
-        .context("a text without a stanza")?;
-    Ok(Edit::Put { list, stanza })
+fn mark(words: &mut Words<'_>) -> Edit {
+    let package = words.bytes();
+    let version = words.version_or_none();
+    Edit::Mark { package, version }
 }
 
 /// A version of pins, or the beginning of versions.
-pub fn pin_version(alloc: Global, words: &mut Words<'_>) -> Result<PinVersion> {
-    let text = words.bytes()?;
-    PinVersion::read(alloc, text.as_slice())?.context("a pin's version that is none")
+pub fn pin_version(words: &mut Words<'_>) -> Option<PinVersion> {
+    let text = words.bytes();
+    match PinVersion::read(words.alloc(), text.as_slice()) {
+        Ok(Some(version)) => Some(version),
+        _ => {
+            words.fail("a pin's version that is none");
+            None
+        }
+    }
+}
+
+fn of_version(words: &mut Words<'_>) -> Option<Selector> {
+    let package = words.bytes();
+    let version = pin_version(words)?;
+    Some(Selector::Version { package, version })
+}
+
+fn of_release(words: &mut Words<'_>) -> Selector {
+    let package = words.bytes_or_none();
+    let list = words.bytes();
+    Selector::Release { package, list }
 }
 
 /// A selector: `version`, a package and a version or the beginning of versions; or `release`, a package or `-`, and a list.
-pub fn selector(alloc: Global, word: &str, words: &mut Words<'_>) -> Result<Selector> {
-    match word {
-        "version" => {
-            let package = words.bytes()?;
-            let version = pin_version(alloc, words)?;
-            Ok(Selector::Version { package, version })
+pub fn selector(words: &mut Words<'_>) -> Option<Selector> {
+    match words.word() {
+        "version" => of_version(words),
+        "release" => Some(of_release(words)),
+        _ => {
+            words.fail("a selector that is not known");
+            None
         }
-        "release" => {
-            let package = words.bytes_or_none()?;
-            let list = words.bytes()?;
-            Ok(Selector::Release { package, list })
-        }
-        _ => bail!("a selector that is not known"),
     }
 }
 
 /// A selector and a priority.
-pub fn setting(alloc: Global, words: &mut Words<'_>) -> Result<PinSetting> {
-    let selector = selector(alloc, words.word()?, words)?;
-    let priority = words.priority()?;
-    Ok(PinSetting { selector, priority })
+pub fn setting(words: &mut Words<'_>) -> Option<PinSetting> {
+    let selector = selector(words)?;
+    let priority = words.priority();
+    Some(PinSetting { selector, priority })
+}
+
+// Adds the setting that the next words give.
+fn set(words: &mut Words<'_>, settings: &mut PinSettings) {
+    if let Some(setting) = setting(words) {
+        if settings.set(setting).is_err() {
+            words.fail(OUT_OF_MEMORY);
+        }
+    }
 }
 
 /// Selectors with priorities, to the end of the line.
-pub fn settings(alloc: Global, words: &mut Words<'_>) -> Result<PinSettings> {
-    let mut settings = PinSettings::new(alloc);
+pub fn settings(words: &mut Words<'_>) -> PinSettings {
+    let mut settings = PinSettings::new(words.alloc());
     for _ in 0..u64::MAX {
         if words.is_over() {
             break;
         }
-        settings.set(setting(alloc, words)?)?;
+        set(words, &mut settings);
     }
-    Ok(settings)
+    settings
 }
 
 // The settings of preferences.
-fn prefs_of_text(alloc: Global, words: &mut Words<'_>) -> Result<Edit> {
-    let text = words.bytes()?;
+fn prefs_of_text(words: &mut Words<'_>) -> Option<Edit> {
+    let text = words.bytes();
     lines_take_bytes();
-    let settings = read_prefs(alloc, text.as_slice(), 1)
-        .ok()
-        .context("preferences with a fault")?;
-    Ok(Edit::Prefs { settings })
+    match read_prefs(words.alloc(), text.as_slice(), 1) {
+        Ok(settings) => Some(Edit::Prefs { settings }),
+        Err(_) => {
+            words.fail("preferences with a fault");
+            None
+        }
+    }
 }
 
-fn pin(alloc: Global, words: &mut Words<'_>) -> Result<Edit> {
-    Ok(Edit::Pin {
-        setting: setting(alloc, words)?,
-    })
+fn pin(words: &mut Words<'_>) -> Option<Edit> {
+    match setting(words) {
+        Some(setting) => Some(Edit::Pin { setting }),
+        None => None,
+    }
 }
 
-/// The edit of a line whose first word is this.
-pub fn edit_named(alloc: Global, word: &str, words: &mut Words<'_>) -> Result<Edit> {
+fn unpin(words: &mut Words<'_>) -> Option<Edit> {
+    match selector(words) {
+        Some(selector) => Some(Edit::Unpin { selector }),
+        None => None,
+    }
+}
+
+fn drop_list(words: &mut Words<'_>) -> Edit {
+    Edit::DropList {
+        name: words.bytes(),
+    }
+}
+
+fn unmark(words: &mut Words<'_>) -> Edit {
+    Edit::Unmark {
+        package: words.bytes(),
+    }
+}
+
+fn target(words: &mut Words<'_>) -> Edit {
+    Edit::Target {
+        name: words.bytes_or_none(),
+    }
+}
+
+fn prefs(words: &mut Words<'_>) -> Edit {
+    Edit::Prefs {
+        settings: settings(words),
+    }
+}
+
+fn edit_by(words: &mut Words<'_>, word: &str) -> Option<Edit> {
     match word {
-        "add-list" => add_list(alloc, words),
-        "drop-list" => Ok(Edit::DropList {
-            name: words.bytes()?,
-        }),
-        "put" => put(alloc, words),
-        "remove" => Ok(Edit::Remove {
-            list: words.bytes()?,
-            package: words.bytes()?,
-            version: words.version()?,
-        }),
-        "mark" => Ok(Edit::Mark {
-            package: words.bytes()?,
-            version: words.version_or_none()?,
-        }),
-        "unmark" => Ok(Edit::Unmark {
-            package: words.bytes()?,
-        }),
-        "pin" => pin(alloc, words),
-        "unpin" => Ok(Edit::Unpin {
-            selector: selector(alloc, words.word()?, words)?,
-        }),
-        "target" => Ok(Edit::Target {
-            name: words.bytes_or_none()?,
-        }),
-        "prefs" => Ok(Edit::Prefs {
-            settings: settings(alloc, words)?,
-        }),
-        "prefs-text" => prefs_of_text(alloc, words),
-        _ => bail!("an edit that is not known"),
+        "add-list" => Some(add_list(words)),
+        "drop-list" => Some(drop_list(words)),
+        "put" => put(words),
+        "remove" => remove(words),
+        "mark" => Some(mark(words)),
+        "unmark" => Some(unmark(words)),
+        "pin" => pin(words),
+        "unpin" => unpin(words),
+        "target" => Some(target(words)),
+        "prefs" => Some(prefs(words)),
+        "prefs-text" => prefs_of_text(words),
+        _ => {
+            words.fail("an edit that is not known");
+            None
+        }
+    }
+}
+
+/// The edit of a line whose first word is this, or none where the words are no edit.
+pub fn edit_named(words: &mut Words<'_>, word: &str) -> Option<Edit> {
+    let edit = edit_by(words, word)?;
+    match words.fault() {
+        None => Some(edit),
+        Some(_) => None,
     }
 }

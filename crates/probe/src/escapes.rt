@@ -1,6 +1,6 @@
 //! Bytes in plain words: most stand for themselves, and others are written by an escape.
 
-use anyhow::{Context, Result, bail};
+use crate::said::Said;
 use std::alloc::Global;
 
 // The byte that a letter behind a backslash stands for.
@@ -16,7 +16,7 @@ fn byte_of(letter: u8) -> Option<u8> {
 }
 
 // So many of a byte, by what stands behind the bracket. What is behind them comes back.
-fn append_repeated<'a>(behind: &'a [u8], bytes: &mut Vec<u8>) -> Result<&'a [u8]> {
+fn say_repeated<'a>(behind: &'a [u8], said: &mut Said) -> &'a [u8] {
     let mut count: usize = 0;
     let mut left = behind;
     for _ in 0..u64::MAX {
@@ -29,44 +29,61 @@ fn append_repeated<'a>(behind: &'a [u8], bytes: &mut Vec<u8>) -> Result<&'a [u8]
         left = rest;
     }
     let [b'*', byte, b')', rest @ ..] = left else {
-        bail!("a repetition is a count, a star, a byte and a bracket");
+        said.fail("a repetition is a count, a star, a byte and a bracket");
+        return &[];
     };
-    bytes.resize(bytes.len().saturating_add(count), *byte)?;
-    Ok(rest)
+    said.repeat(count, *byte);
+    rest
+}
+
+// The byte of two hexadecimal digits.
+fn say_byte(alloc: Global, digits: [u8; 2], said: &mut Said) {
+    match hex::decode(alloc, digits.as_slice()) {
+        Ok(byte) => said.add(&byte),
+        Err(_) => said.fail("no hexadecimal digits"),
+    }
+}
+
+fn say_letter(letter: u8, said: &mut Said) {
+    match byte_of(letter) {
+        Some(byte) => said.add(&[byte]),
+        None => said.fail("an escape that is not known"),
+    }
 }
 
 // What an escape stands for, by what stands behind its backslash. What is behind the escape comes back.
-fn append_escape<'a>(alloc: Global, behind: &'a [u8], bytes: &mut Vec<u8>) -> Result<&'a [u8]> {
+fn say_escape<'a>(alloc: Global, behind: &'a [u8], said: &mut Said) -> &'a [u8] {
     match behind {
         [b'x', high, low, rest @ ..] => {
-            let digits = [*high, *low];
-            let byte = hex::decode(alloc, digits.as_slice()).context("no hexadecimal digits")?;
-            bytes.extend_from_slice(&byte)?;
-            Ok(rest)
+            say_byte(alloc, [*high, *low], said);
+            rest
         }
-        [b'(', rest @ ..] => append_repeated(rest, bytes),
+        [b'(', rest @ ..] => say_repeated(rest, said),
         [letter, rest @ ..] => {
-            bytes.push(byte_of(*letter).context("an escape that is not known")?)?;
-            Ok(rest)
+            say_letter(*letter, said);
+            rest
         }
-        [] => bail!("an escape without a letter"),
+        [] => {
+            said.fail("an escape without a letter");
+            behind
+        }
     }
 }
 
 /// The bytes that a word stands for. `\n`, `\t`, `\r`, `\0`, `\\`, `\'`, `\"` and `\x` with two hexadecimal digits stand for
 /// one byte, and `\(COUNT*BYTE)` for so many of one.
-pub fn unescaped(alloc: Global, word: &str) -> Result<Vec<u8>> {
-    let mut bytes = Vec::new(alloc);
+pub fn unescaped(alloc: Global, word: &str) -> Result<Vec<u8>, &'static str> {
+    let mut said = Said::new(alloc);
     let mut left = word.as_bytes();
     for _ in 0..u64::MAX {
         match left {
             [] => break,
-            [b'\\', behind @ ..] => left = append_escape(alloc, behind, &mut bytes)?,
+            [b'\\', behind @ ..] => left = say_escape(alloc, behind, &mut said),
             [byte, behind @ ..] => {
-                bytes.push(*byte)?;
+                said.add(&[*byte]);
                 left = behind;
             }
         }
     }
-    Ok(bytes)
+    said.into_bytes()
 }

@@ -35,30 +35,33 @@ mod caches;
 mod calls;
 mod edits;
 mod escapes;
-mod hexadecimal;
-mod joined;
+mod kept;
 mod measure;
 mod parts;
 mod policies;
 mod relations;
+mod said;
 mod state;
 mod stores;
 mod texts;
 mod words;
+mod writing;
 
-use anyhow::{Context, Result};
-use caches::append_followed;
-use calls::{Calls, append_call, calls_named};
-use ctl_index::Cache;
+use anyhow::{Context, Error, Result, bail};
+use caches::say_followed;
+use calls::{Calls, calls_named, say_call};
 use ctl_stanza::ListKind;
-use ctl_store::{Edit, Store};
+use ctl_store::Edit;
 use edits::main_list;
-use relations::{Field, append_field, field_of};
+use kept::{Held, Kept};
+use relations::say_field;
+use said::Said;
 use std::alloc::Global;
-use std::io::{BufRead, BufReader, Read, Write};
-use std::{env, io};
-use stores::append_change;
-use texts::{TextKind, append_count, append_text, list_kind_named, text_kind_named};
+use std::env;
+use std::io::{BufRead, BufReader};
+use stores::say_change;
+use texts::{TextKind, list_kind_named, say_count, say_text, text_kind_named};
+use writing::{read_all, write_line};
 
 /// What a line is.
 #[derive(Clone, Copy)]
@@ -80,17 +83,6 @@ fn subject_named(word: &str) -> Option<Subject> {
     }
 }
 
-fn kind_named(word: &str) -> Result<ListKind> {
-    list_kind_named(word).context("a kind that is not known")
-}
-
-/// What edits are made of.
-#[derive(Drop)]
-pub struct Kept {
-    store: Store,
-    cache: Cache,
-}
-
 /// What the arguments ask for.
 enum Asked {
     /// The answers to lines, which are at first of this subject.
@@ -99,29 +91,31 @@ enum Asked {
     Costs,
     /// What one text of this kind has.
     Count(TextKind),
-    /// What a store holds of one list of this kind.
-    Held(ListKind),
-    /// What a cache follows of one list of this kind.
-    Followed(ListKind),
-    /// How long edits of a store take.
-    StoreTimes,
-    /// How long edits of a cache take.
-    CacheTimes,
+    /// What a store holds, or a cache follows, of one list of this kind.
+    List(Held, ListKind),
+    /// How long edits take.
+    Times(Held),
+}
+
+// What a store or a cache is asked for with a second argument.
+fn asked_of(held: Held, word: &str) -> Result<Asked> {
+    if word == "measure" {
+        return Ok(Asked::Times(held));
+    }
+    let kind = list_kind_named(word).context("a kind that is not known")?;
+    Ok(Asked::List(held, kind))
 }
 
 // What a subject asks for with a second argument.
 fn asked_by(subject: Subject, word: &str) -> Result<Asked> {
-    let is_measured = word == "measure";
     match subject {
-        Subject::Relation if is_measured => Ok(Asked::Costs),
-        Subject::Store if is_measured => Ok(Asked::StoreTimes),
-        Subject::Index if is_measured => Ok(Asked::CacheTimes),
+        Subject::Relation if word == "measure" => Ok(Asked::Costs),
         Subject::Text => {
             let kind = text_kind_named(word).context("a kind that is not known")?;
             Ok(Asked::Count(kind))
         }
-        Subject::Store => Ok(Asked::Held(kind_named(word)?)),
-        Subject::Index => Ok(Asked::Followed(kind_named(word)?)),
+        Subject::Store => asked_of(Held::Store, word),
+        Subject::Index => asked_of(Held::Cache, word),
         Subject::Relation | Subject::Calls(_) => Ok(Asked::Answers(subject)),
     }
 }
@@ -139,19 +133,13 @@ fn read_arguments(rt: &HostRuntime) -> Result<Asked> {
 }
 
 // The answer to a line.
-fn append_answer(
-    alloc: Global,
-    kept: &mut Kept,
-    subject: Subject,
-    line: &str,
-    answer: &mut Vec<u8>,
-) -> Result<()> {
+fn say_answer(alloc: Global, kept: &mut Kept, subject: Subject, line: &str, said: &mut Said) {
     match subject {
-        Subject::Relation => append_field(alloc, line, answer),
-        Subject::Text => append_text(alloc, line, answer),
-        Subject::Store => append_change(alloc, &mut kept.store, line, answer),
-        Subject::Index => append_followed(alloc, &mut kept.cache, line, answer),
-        Subject::Calls(calls) => append_call(alloc, kept, calls, line, answer),
+        Subject::Relation => say_field(alloc, line, said),
+        Subject::Text => say_text(alloc, line, said),
+        Subject::Store => say_change(alloc, &mut kept.store, line, said),
+        Subject::Index => say_followed(alloc, &mut kept.cache, line, said),
+        Subject::Calls(calls) => say_call(alloc, kept, calls, line, said),
     }
 }
 
@@ -160,111 +148,79 @@ fn is_heading(line: &str) -> bool {
     line.is_empty() || line.starts_with('#')
 }
 
-// The line of answers to a line, of this subject if it doesn't name one. The subject of the next line comes back.
-fn append_line(
-    alloc: Global,
-    kept: &mut Kept,
-    subject: Subject,
-    line: &str,
-    answer: &mut Vec<u8>,
-) -> Result<Subject> {
-    let named = subject_named(line);
-    if named.is_some() || is_heading(line) {
-        answer.extend_from_slice(line.as_bytes())?;
+fn answer_line(rt: &HostRuntime, kept: &mut Kept, subject: Subject, line: &str) -> Result<()> {
+    let mut said = Said::new(rt.alloc());
+    if is_heading(line) {
+        said.add(line.as_bytes());
     } else {
-        append_answer(alloc, kept, subject, line, answer)?;
+        say_answer(rt.alloc(), kept, subject, line, &mut said);
     }
-    answer.push(b'\n')?;
-    Ok(named.unwrap_or(subject))
+    write_line(rt, said)
 }
 
-fn answer_line(rt: &HostRuntime, kept: &mut Kept, subject: Subject, line: &str) -> Result<Subject> {
-    let mut answer = Vec::new(rt.alloc());
-    let next = append_line(rt.alloc(), kept, subject, line, &mut answer)?;
-    io::writer(rt).write_all(&answer)?;
-    Ok(next)
+// Writes a line that names a subject again.
+fn name_subject(rt: &HostRuntime, line: &str) -> Result<()> {
+    let mut said = Said::new(rt.alloc());
+    said.add(line.as_bytes());
+    write_line(rt, said)
+}
+
+// Answers a line of this subject if it doesn't name one. The subject of the next line comes back.
+fn answer_next(rt: &HostRuntime, kept: &mut Kept, subject: Subject, line: &str) -> Result<Subject> {
+    match subject_named(line) {
+        Some(named) => {
+            name_subject(rt, line)?;
+            Ok(named)
+        }
+        None => {
+            answer_line(rt, kept, subject, line)?;
+            Ok(subject)
+        }
+    }
 }
 
 fn answer_lines(rt: &HostRuntime, kept: &mut Kept, first: Subject) -> Result<()> {
     let alloc = rt.alloc();
     let mut subject = first;
     for line in BufReader::new(alloc, rt.reader())?.lines(alloc) {
-        subject = answer_line(rt, kept, subject, line?.as_str())?;
+        subject = answer_next(rt, kept, subject, line?.as_str())?;
     }
     Ok(())
-}
-
-// All lines as relation fields.
-fn read_fields(rt: &HostRuntime) -> Result<Vec<Field>> {
-    let alloc = rt.alloc();
-    let mut fields = Vec::new(alloc);
-    for line in BufReader::new(alloc, rt.reader())?.lines(alloc) {
-        fields.push(field_of(alloc, line?.as_str())?)?;
-    }
-    Ok(fields)
-}
-
-// The whole of standard input.
-fn read_all(rt: &HostRuntime) -> Result<Vec<u8>> {
-    let mut text = Vec::new(rt.alloc());
-    rt.reader().read_to_end(&mut text)?;
-    text.shrink_to_fit();
-    Ok(text)
 }
 
 fn count_parts(rt: &HostRuntime, kind: TextKind) -> Result<()> {
-    let alloc = rt.alloc();
     let text = read_all(rt)?;
-    let mut answer = Vec::new(alloc);
-    append_count(alloc, kind, &text, &mut answer)?;
-    answer.push(b'\n')?;
-    io::writer(rt).write_all(&answer)?;
-    Ok(())
-}
-
-// The same with a new store and a new cache.
-fn answer_anew(rt: &HostRuntime, first: Subject) -> Result<()> {
-    let mut kept = Kept {
-        store: Store::new(rt.alloc()),
-        cache: Cache::new(rt.alloc()),
-    };
-    answer_lines(rt, &mut kept, first)
+    let mut said = Said::new(rt.alloc());
+    say_count(rt.alloc(), kind, &text, &mut said);
+    write_line(rt, said)
 }
 
 // The edit that adds standard input as the list `main`.
 fn read_main_list(rt: &HostRuntime, kind: ListKind) -> Result<Edit> {
     let text = read_all(rt)?;
-    main_list(rt.alloc(), &text, kind)
+    match main_list(rt.alloc(), &text, kind) {
+        Ok(edit) => Ok(edit),
+        Err(why) => Err(Error::msg(why)),
+    }
 }
 
-fn hold_list(rt: &HostRuntime, kind: ListKind) -> Result<()> {
+fn keep_list(rt: &HostRuntime, kept: &mut Kept, held: Held, kind: ListKind) -> Result<()> {
     let edit = read_main_list(rt, kind)?;
-    let mut store = Store::new(rt.alloc());
-    stores::make(&mut store, edit)?;
-    println!(rt; "stanzas {}", store.counts().stanzas)?;
-    Ok(())
-}
-
-fn follow_list(rt: &HostRuntime, kind: ListKind) -> Result<()> {
-    let edit = read_main_list(rt, kind)?;
-    let mut cache = Cache::new(rt.alloc());
-    caches::make(&mut cache, edit)?;
-    println!(rt;
-        "stanzas {} tests {}",
-        cache.store().counts().stanzas,
-        cache.steps()
-    )?;
-    Ok(())
+    if kept.make(held, edit).is_err() {
+        bail!("an edit that is refused");
+    }
+    let mut said = Said::new(rt.alloc());
+    kept.say_counts(held, &mut said);
+    write_line(rt, said)
 }
 
 fn main(rt: HostRuntime) -> Result<()> {
+    let mut kept = Kept::new(rt.alloc());
     match read_arguments(&rt)? {
-        Asked::Answers(subject) => answer_anew(&rt, subject),
-        Asked::Costs => measure::measure(&rt, &read_fields(&rt)?),
+        Asked::Answers(subject) => answer_lines(&rt, &mut kept, subject),
+        Asked::Costs => measure::measure(&rt, &measure::read_fields(&rt)?),
         Asked::Count(kind) => count_parts(&rt, kind),
-        Asked::Held(kind) => hold_list(&rt, kind),
-        Asked::Followed(kind) => follow_list(&rt, kind),
-        Asked::StoreTimes => measure::measure_changes(&rt),
-        Asked::CacheTimes => measure::measure_edits(&rt),
+        Asked::List(held, kind) => keep_list(&rt, &mut kept, held, kind),
+        Asked::Times(held) => measure::measure_edits(&rt, &mut kept, held),
     }
 }

@@ -1,18 +1,18 @@
 //! How much time and memory the reading of fields takes, and how much time edits of a store and of a cache take.
 
-use crate::caches::apply;
 use crate::edits::edit_named;
-use crate::relations::Field;
-use crate::stores::change;
+use crate::kept::{Held, Kept};
+use crate::relations::{Field, field_of};
+use crate::said::Said;
 use crate::words::Words;
-use anyhow::{Context, Result};
-use ctl_index::Cache;
+use crate::writing::write_line;
+use anyhow::{Context, Error, Result};
 use ctl_relation::{Relations, parse_relations};
-use ctl_store::{Edit, Store};
+use ctl_store::Edit;
 use std::alloc::{AllocError, Global};
 use std::fs;
 use std::io::{BufRead, BufReader};
-use std::rt::{Clock, Files};
+use std::rt::Files;
 use std::time::Instant;
 
 const PAGE: u64 = 4096;
@@ -50,81 +50,80 @@ fn atom_count(relations: &[Relations<'_>]) -> u64 {
     count
 }
 
-// Makes an edit of this name in a store, and prints what comes of it and the nanoseconds that it took.
-fn measure_made(rt: &HostRuntime, store: &mut Store, word: &str, edit: Edit) -> Result<()> {
+// What came of an edit, the count of tests of a cache, and the nanoseconds that the edit took.
+fn say_times(kept: &Kept, held: Held, is_refused: bool, nanoseconds: u128, said: &mut Said) {
+    said.add(if is_refused { b" refused" } else { b" ok" });
+    if let Held::Cache = held {
+        said.number(b" tests ", kept.cache.steps());
+    }
+    said.number(b" nanoseconds ", nanoseconds);
+}
+
+// Makes an edit of this name, and prints what comes of it.
+fn measure_made(
+    rt: &HostRuntime,
+    kept: &mut Kept,
+    held: Held,
+    word: &str,
+    edit: Edit,
+) -> Result<()> {
     let start = Instant::now(rt);
-    let refused = change(store, edit).is_err();
+    let is_refused = kept.make(held, edit).is_err();
     let nanoseconds = start?.elapsed(rt)?.as_nanos();
-    let outcome = if refused { "refused" } else { "ok" };
-    println!(rt; "{word} {outcome} nanoseconds {nanoseconds}")?;
-    Ok(())
+    let mut said = Said::new(rt.alloc());
+    said.add(word.as_bytes());
+    say_times(kept, held, is_refused, nanoseconds, &mut said);
+    write_line(rt, said)
 }
 
 // The same of the edit of a line.
-fn measure_change(rt: &HostRuntime, store: &mut Store, line: &str) -> Result<()> {
+fn measure_line(rt: &HostRuntime, kept: &mut Kept, held: Held, line: &str) -> Result<()> {
     let mut words = Words::new(rt.alloc(), line);
-    let word = words.word()?;
-    let edit = edit_named(rt.alloc(), word, &mut words)?;
-    measure_made(rt, store, word, edit)
+    let word = words.word();
+    match edit_named(&mut words, word) {
+        Some(edit) => measure_made(rt, kept, held, word, edit),
+        None => Err(Error::msg(words.fault().unwrap_or("a line that is no edit"))),
+    }
 }
 
-fn measure_change_lines(rt: &HostRuntime, store: &mut Store) -> Result<()> {
+/// Makes the edits of standard input in a new store or a new cache, and prints a line for each.
+pub fn measure_edits(rt: &HostRuntime, kept: &mut Kept, held: Held) -> Result<()> {
     let alloc = rt.alloc();
     for line in BufReader::new(alloc, rt.reader())?.lines(alloc) {
-        measure_change(rt, store, line?.as_str())?;
+        measure_line(rt, kept, held, line?.as_str())?;
     }
     Ok(())
 }
 
-/// Makes the edits of standard input in a new store, and prints a line for each.
-pub fn measure_changes(rt: &HostRuntime) -> Result<()> {
-    let mut store = Store::new(rt.alloc());
-    measure_change_lines(rt, &mut store)
-}
-
-// Makes an edit of this name in a cache, and prints what comes of it, the count of tests and the nanoseconds that it took.
-fn measure_followed(rt: &HostRuntime, cache: &mut Cache, word: &str, edit: Edit) -> Result<()> {
-    let start = Instant::now(rt);
-    let refused = apply(cache, edit).is_err();
-    let nanoseconds = start?.elapsed(rt)?.as_nanos();
-    let outcome = if refused { "refused" } else { "ok" };
-    let tests = cache.steps();
-    println!(rt; "{word} {outcome} tests {tests} nanoseconds {nanoseconds}")?;
-    Ok(())
-}
-
-// The same of the edit of a line.
-fn measure_edit(rt: &HostRuntime, cache: &mut Cache, line: &str) -> Result<()> {
-    let mut words = Words::new(rt.alloc(), line);
-    let word = words.word()?;
-    let edit = edit_named(rt.alloc(), word, &mut words)?;
-    measure_followed(rt, cache, word, edit)
-}
-
-fn measure_lines(rt: &HostRuntime, cache: &mut Cache) -> Result<()> {
-    let alloc = rt.alloc();
-    for line in BufReader::new(alloc, rt.reader())?.lines(alloc) {
-        measure_edit(rt, cache, line?.as_str())?;
+// Adds the field of a line.
+fn add_field(alloc: Global, fields: &mut Vec<Field>, line: &str) -> Result<()> {
+    match field_of(alloc, line) {
+        Ok(field) => Ok(fields.push(field)?),
+        Err(why) => Err(Error::msg(why)),
     }
-    Ok(())
 }
 
-/// Makes the edits of standard input in a new cache, and prints a line for each.
-pub fn measure_edits(rt: &HostRuntime) -> Result<()> {
-    let mut cache = Cache::new(rt.alloc());
-    measure_lines(rt, &mut cache)
+/// All lines of standard input as relation fields.
+pub fn read_fields(rt: &HostRuntime) -> Result<Vec<Field>> {
+    let alloc = rt.alloc();
+    let mut fields = Vec::new(alloc);
+    for line in BufReader::new(alloc, rt.reader())?.lines(alloc) {
+        add_field(alloc, &mut fields, line?.as_str())?;
+    }
+    Ok(fields)
 }
 
 /// Prints how many of the fields are read and their atoms, and how many bytes and nanoseconds they took.
-pub fn measure<R: Files + AllocGlobal + Clock + Print>(rt: &R, fields: &[Field]) -> Result<()> {
+pub fn measure(rt: &HostRuntime, fields: &[Field]) -> Result<()> {
     let before = resident(rt)?;
     let start = Instant::now(rt)?;
     let read = read_all(rt.alloc(), fields)?;
     let nanoseconds = start.elapsed(rt)?.as_nanos();
     let after = resident(rt)?;
-    let bytes = after.saturating_sub(before);
-    let read_fields = read.len();
-    let atoms = atom_count(&read);
-    println!(rt; "fields {read_fields} atoms {atoms} bytes {bytes} nanoseconds {nanoseconds}")?;
-    Ok(())
+    let mut said = Said::new(rt.alloc());
+    said.number(b"fields ", read.len() as u128);
+    said.number(b" atoms ", atom_count(&read) as u128);
+    said.number(b" bytes ", after.saturating_sub(before) as u128);
+    said.number(b" nanoseconds ", nanoseconds);
+    write_line(rt, said)
 }

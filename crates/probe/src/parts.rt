@@ -1,10 +1,8 @@
 //! What stanzas and records have in them, as text.
 
-use crate::hexadecimal::append_word;
-use crate::joined::append_number;
+use crate::said::Said;
 use ctl_relation::{FieldKind, Groups, Version};
 use ctl_stanza::{Record, Stanza};
-use std::alloc::{AllocError, Global};
 
 const KINDS: [FieldKind; 9] = [
     FieldKind::PreDepends,
@@ -19,75 +17,60 @@ const KINDS: [FieldKind; 9] = [
 ];
 
 // Groups, each in its printed form.
-fn append_groups(
-    alloc: Global,
-    mark: &[u8],
-    groups: Groups<'_>,
-    line: &mut Vec<u8>,
-) -> Result<(), AllocError> {
+fn say_groups(mark: &[u8], groups: Groups<'_>, said: &mut Said) {
     for group in groups {
-        let mut printed = Vec::new(alloc);
-        group.append_to(&mut printed)?;
-        append_word(alloc, mark, &printed, line)?;
+        said.group_word(mark, &group);
     }
-    Ok(())
 }
 
 /// A version behind `@`, or `-` where there is none.
-pub fn append_version(
-    alloc: Global,
-    version: Option<&Version>,
-    line: &mut Vec<u8>,
-) -> Result<(), AllocError> {
+pub fn say_version(version: Option<&Version>, said: &mut Said) {
     match version {
-        None => line.extend_from_slice(b"-"),
-        Some(version) => append_word(alloc, b"@", version.text(), line),
+        None => said.add(b"-"),
+        Some(version) => said.word(b"@", version.text()),
     }
 }
 
-fn append_fields(alloc: Global, stanza: &Stanza, line: &mut Vec<u8>) -> Result<(), AllocError> {
+fn say_fields(stanza: &Stanza, said: &mut Said) {
     for (name, body) in stanza.fields() {
-        append_word(alloc, b" ", name, line)?;
-        append_word(alloc, b"=", body, line)?;
+        said.word(b" ", name);
+        said.word(b"=", body);
     }
-    Ok(())
 }
 
 // The groups of each field, and those of Provides.
-fn append_relations(alloc: Global, stanza: &Stanza, line: &mut Vec<u8>) -> Result<(), AllocError> {
+fn say_relations(stanza: &Stanza, said: &mut Said) {
     for kind in KINDS {
-        line.push(b' ')?;
-        append_groups(alloc, b"&", stanza.groups(kind), line)?;
+        said.add(b" ");
+        say_groups(b"&", stanza.groups(kind), said);
     }
-    append_groups(alloc, b"+", stanza.provides(), line)
+    say_groups(b"+", stanza.provides(), said);
 }
 
-fn append_offers(alloc: Global, stanza: &Stanza, line: &mut Vec<u8>) -> Result<(), AllocError> {
+fn say_offers(stanza: &Stanza, said: &mut Said) {
     for offer in stanza.offers() {
-        append_word(alloc, b" ", offer.name(), line)?;
-        append_version(alloc, offer.version(), line)?;
+        said.word(b" ", offer.name());
+        say_version(offer.version(), said);
     }
-    Ok(())
 }
 
 /// A stanza: its text, whether it is live, its package, its version, its fields, its groups and what it offers.
-pub fn append_stanza(alloc: Global, stanza: &Stanza, line: &mut Vec<u8>) -> Result<(), AllocError> {
-    append_word(alloc, b"|", stanza.text(), line)?;
-    line.extend_from_slice(if stanza.is_live() { b" live" } else { b" gone" })?;
-    append_word(alloc, b" ", stanza.package(), line)?;
-    append_version(alloc, stanza.version(), line)?;
-    append_fields(alloc, stanza, line)?;
-    append_relations(alloc, stanza, line)?;
-    append_offers(alloc, stanza, line)
+pub fn say_stanza(stanza: &Stanza, said: &mut Said) {
+    said.word(b"|", stanza.text());
+    said.add(if stanza.is_live() { b" live" } else { b" gone" });
+    said.word(b" ", stanza.package());
+    say_version(stanza.version(), said);
+    say_fields(stanza, said);
+    say_relations(stanza, said);
+    say_offers(stanza, said);
 }
 
 /// A record: its fields, each with the number of its line.
-pub fn append_record(alloc: Global, record: &Record, line: &mut Vec<u8>) -> Result<(), AllocError> {
-    append_number(alloc, b"|", record.first_line() as u128, line)?;
+pub fn say_record(record: &Record, said: &mut Said) {
+    said.number(b"|", record.first_line() as u128);
     for (name, body, number) in record.fields() {
-        append_word(alloc, b" ", name, line)?;
-        append_word(alloc, b"=", body, line)?;
-        append_number(alloc, b":", number as u128, line)?;
+        said.word(b" ", name);
+        said.word(b"=", body);
+        said.number(b":", number as u128);
     }
-    Ok(())
 }

@@ -5,117 +5,81 @@ ghost use Rattle.std.specs.List.{AllByRecursion};
 ghost use Rattle.ctl_store.specs.Keys.{AreHeld};
 ghost use Rattle.ctl_store.specs.Held.{keyed_of};
 
-use crate::hexadecimal::append_word;
-use crate::state::append_key;
+use crate::said::Said;
 use ctl_index::Cache;
 use ctl_policy::{Chosen, NewestFirst, list_priority, row_priority, specific_pin};
 use ctl_store::{StanzaKey, Store};
-use std::alloc::{AllocError, Global};
 
-fn append_lead(
-    alloc: Global,
-    lead: Option<StanzaKey>,
-    line: &mut Vec<u8>,
-) -> Result<(), AllocError> {
+fn say_lead(lead: Option<StanzaKey>, said: &mut Said) {
     match lead {
-        Some(key) => append_key(alloc, b':', key, line),
-        None => line.extend_from_slice(b":-"),
+        Some(key) => said.key(b":", key),
+        None => said.add(b":-"),
     }
 }
 
 // A name with the leads of its installed row and its candidate.
-fn append_chosen(
-    alloc: Global,
-    mark: &[u8],
-    name: &[u8],
-    chosen: Chosen,
-    line: &mut Vec<u8>,
-) -> Result<(), AllocError> {
-    append_word(alloc, mark, name, line)?;
-    append_lead(alloc, chosen.installed, line)?;
-    append_lead(alloc, chosen.candidate, line)
+fn say_chosen(mark: &[u8], name: &[u8], chosen: Chosen, said: &mut Said) {
+    said.word(mark, name);
+    say_lead(chosen.installed, said);
+    say_lead(chosen.candidate, said);
 }
 
-fn append_keys(alloc: Global, keys: &[StanzaKey], line: &mut Vec<u8>) -> Result<(), AllocError> {
-    let mut mark = b'=';
-    for key in keys {
-        append_key(alloc, mark, *key, line)?;
-        mark = b'+';
+// The keys of a row, the first behind `=` and others behind `+`.
+fn say_keys(keys: &[StanzaKey], said: &mut Said) {
+    if let [first, rest @ ..] = keys {
+        said.key(b"=", *first);
+        said.keys(b"+", rest);
     }
-    Ok(())
 }
 
 // A row: the keys of its stanzas, and its priority, with `!` behind that of a specific pin.
-fn append_row(
-    alloc: Global,
-    store: &Store,
-    name: &[u8],
-    keys: &[StanzaKey],
-    line: &mut Vec<u8>,
-) -> Result<(), AllocError>
+fn say_row(store: &Store, name: &[u8], keys: &[StanzaKey], said: &mut Said)
     requires { AreHeld keys.now (keyed_of store.now).lists }
 {
-    line.extend_from_slice(b" row")?;
-    append_keys(alloc, keys, line)?;
-    let told = format!(in alloc; ":{}", row_priority(store, name, keys))?;
-    line.extend_from_slice(told.as_bytes())?;
+    said.add(b" row");
+    say_keys(keys, said);
+    said.priority(b":", row_priority(store, name, keys));
     if specific_pin(store, name, keys).is_some() {
-        line.push(b'!')?;
+        said.add(b"!");
     }
-    Ok(())
 }
 
-fn append_rows(
-    alloc: Global,
-    store: &Store,
-    name: &[u8],
-    rows: NewestFirst<'_>,
-    line: &mut Vec<u8>,
-) -> Result<(), AllocError>
+fn say_rows(store: &Store, name: &[u8], rows: NewestFirst<'_>, said: &mut Said)
     requires { AllByRecursion (λ keys. AreHeld keys (keyed_of store.now).lists) rows }
 {
     let mut left = rows;
     'rows: while let Some(keys) = left.next() {
-        append_row(alloc, store, name, keys, line)?;
+        say_row(store, name, keys, said);
     }
-    Ok(())
 }
 
-fn append_package(
-    alloc: Global,
-    cache: &Cache,
-    name: &[u8],
-    line: &mut Vec<u8>,
-) -> Result<(), AllocError>
+fn say_package(cache: &Cache, name: &[u8], said: &mut Said)
     requires { cache.now.stale ≡ false }
 {
-    append_chosen(alloc, b" package=", name, cache.chosen(name), line)?;
-    append_rows(alloc, cache.store(), name, cache.rows(name), line)
+    say_chosen(b" package=", name, cache.chosen(name), said);
+    say_rows(cache.store(), name, cache.rows(name), said);
 }
 
 // The lists, with the priority of each.
-fn append_priorities(alloc: Global, store: &Store, line: &mut Vec<u8>) -> Result<(), AllocError> {
+fn say_priorities(store: &Store, said: &mut Said) {
     for (list, _, _) in store.lists() {
-        append_word(alloc, b" list=", list, line)?;
+        said.word(b" list=", list);
         if let Some(priority) = list_priority(store, list) {
-            let told = format!(in alloc; ":{priority}")?;
-            line.extend_from_slice(told.as_bytes())?;
+            said.priority(b":", priority);
         }
     }
-    Ok(())
 }
 
 /// The lists with their priorities, each package with its rows, and the map of what is chosen.
-pub fn append_policies(alloc: Global, cache: &Cache, line: &mut Vec<u8>) -> Result<(), AllocError>
+pub fn say_policies(cache: &Cache, said: &mut Said)
     requires { cache.now.stale ≡ false }
 {
-    line.extend_from_slice(b"policies")?;
-    append_priorities(alloc, cache.store(), line)?;
+    said.add(b"policies");
+    say_priorities(cache.store(), said);
     for name in cache.packages() {
-        append_package(alloc, cache, name, line)?;
+        say_package(cache, name, said);
     }
     for (name, chosen) in cache.candidates() {
-        append_chosen(alloc, b" chosen=", name, *chosen, line)?;
+        say_chosen(b" chosen=", name, *chosen, said);
     }
-    Ok(())
 }

@@ -1,9 +1,8 @@
 //! Relation fields, and what they are read to.
 
-use crate::joined::append_all;
-use anyhow::{Context, Result};
+use crate::said::Said;
 use ctl_relation::{FieldKind, Groups, RelationFault, parse_relations};
-use std::alloc::{AllocError, Global};
+use std::alloc::Global;
 
 /// A relation field: which one, and its body.
 #[derive(Drop)]
@@ -28,12 +27,18 @@ pub fn kind_named(name: &str) -> Option<FieldKind> {
     }
 }
 
-/// The field of a line: its name, a tab, and its body in hexadecimal digits.
-pub fn field_of(alloc: Global, line: &str) -> Result<Field> {
-    let (name, digits) = line.split_once('\t').context("a line without a tab")?;
-    let kind = kind_named(name).context("a field that holds no relations")?;
-    let body = hex::decode(alloc, digits).context("a body that is not hexadecimal")?;
-    Ok(Field { kind, body })
+/// The field of a line, which is its name, a tab, and its body in hexadecimal digits; or why it is none.
+pub fn field_of(alloc: Global, line: &str) -> Result<Field, &'static str> {
+    let Some((name, digits)) = line.split_once('\t') else {
+        return Err("a line without a tab");
+    };
+    let Some(kind) = kind_named(name) else {
+        return Err("a field that holds no relations");
+    };
+    match hex::decode(alloc, digits) {
+        Ok(body) => Ok(Field { kind, body }),
+        Err(_) => Err("a body that is not hexadecimal"),
+    }
 }
 
 /// The name of a fault.
@@ -50,22 +55,27 @@ pub fn fault_name(fault: RelationFault) -> &'static [u8] {
 }
 
 // Groups in their printed form, joined by commas.
-fn append_groups(groups: Groups<'_>, answer: &mut Vec<u8>) -> Result<(), AllocError> {
-    answer.extend_from_slice(b"groups:")?;
+fn say_groups(groups: Groups<'_>, said: &mut Said) {
+    said.add(b"groups:");
     let mut between: &[u8] = b" ";
     for group in groups {
-        answer.extend_from_slice(between)?;
-        group.append_to(answer)?;
+        said.add(between);
+        said.group(&group);
         between = b", ";
     }
-    Ok(())
+}
+
+fn say_read(alloc: Global, field: &Field, said: &mut Said) {
+    match parse_relations(alloc, &field.body, field.kind) {
+        Err(fault) => said.all(&[b"fault: ", fault_name(fault)]),
+        Ok(relations) => say_groups(relations.groups(), said),
+    }
 }
 
 /// `groups:` and the groups, each behind a space and joined by commas, or `fault:`, a space and its name.
-pub fn append_field(alloc: Global, line: &str, answer: &mut Vec<u8>) -> Result<()> {
-    let field = field_of(alloc, line)?;
-    match parse_relations(alloc, &field.body, field.kind) {
-        Err(fault) => Ok(append_all(&[b"fault: ", fault_name(fault)], answer)?),
-        Ok(relations) => Ok(append_groups(relations.groups(), answer)?),
+pub fn say_field(alloc: Global, line: &str, said: &mut Said) {
+    match field_of(alloc, line) {
+        Ok(field) => say_read(alloc, &field, said),
+        Err(why) => said.fail(why),
     }
 }

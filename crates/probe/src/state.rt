@@ -1,24 +1,10 @@
 //! What a store holds, as text.
 
-use crate::hexadecimal::append_word;
+use crate::said::Said;
 use crate::words::Words;
-use anyhow::Result;
 use ctl_relation::Version;
 use ctl_stanza::ListKind;
-use ctl_store::{ListClass, Selector, StanzaKey, Store};
-use std::alloc::{AllocError, Global};
-
-/// A key behind a byte: the serial number of the list, a dot and that of the stanza.
-pub fn append_key(
-    alloc: Global,
-    mark: u8,
-    key: StanzaKey,
-    line: &mut Vec<u8>,
-) -> Result<(), AllocError> {
-    line.push(mark)?;
-    let told = format!(in alloc; "{}.{}", key.list, key.stanza)?;
-    line.extend_from_slice(told.as_bytes())
-}
+use ctl_store::{ListClass, Selector, Store};
 
 fn kind_name(kind: ListKind) -> &'static [u8] {
     match kind {
@@ -36,105 +22,92 @@ fn class_name(class: ListClass) -> &'static [u8] {
 }
 
 // The keys of the stanzas of a list, each with the stanza's text.
-fn append_stanzas(
-    alloc: Global,
-    store: &Store,
-    name: &[u8],
-    line: &mut Vec<u8>,
-) -> Result<(), AllocError> {
+fn say_stanzas(store: &Store, name: &[u8], said: &mut Said) {
     for key in store.stanzas(name) {
-        append_key(alloc, b' ', key, line)?;
-        append_word(alloc, b"=", store.stanza(key).text(), line)?;
-        append_word(alloc, b"@", store.list_of(key), line)?;
+        said.key(b" ", key);
+        said.word(b"=", store.stanza(key).text());
+        said.word(b"@", store.list_of(key));
     }
-    Ok(())
 }
 
-fn append_lists(alloc: Global, store: &Store, line: &mut Vec<u8>) -> Result<(), AllocError> {
+fn say_lists(store: &Store, said: &mut Said) {
     for (name, kind, class) in store.lists() {
-        append_word(alloc, b" list ", name, line)?;
-        line.extend_from_slice(kind_name(kind))?;
-        line.extend_from_slice(class_name(class))?;
-        append_stanzas(alloc, store, name, line)?;
+        said.word(b" list ", name);
+        said.all(&[kind_name(kind), class_name(class)]);
+        say_stanzas(store, name, said);
     }
-    Ok(())
 }
 
-fn append_mark(
-    alloc: Global,
-    name: &[u8],
-    mark: Option<Option<&Version>>,
-    line: &mut Vec<u8>,
-) -> Result<(), AllocError> {
+fn say_mark(name: &[u8], mark: Option<Option<&Version>>, said: &mut Said) {
     match mark {
         Some(Some(version)) => {
-            append_word(alloc, b" mark ", name, line)?;
-            append_word(alloc, b"=", version.text(), line)
+            said.word(b" mark ", name);
+            said.word(b"=", version.text());
         }
-        Some(None) => append_word(alloc, b" none ", name, line),
-        None => Ok(()),
+        Some(None) => said.word(b" none ", name),
+        None => (),
     }
 }
 
-fn append_selector(
-    alloc: Global,
-    selector: &Selector,
-    line: &mut Vec<u8>,
-) -> Result<(), AllocError> {
+// The marks of the packages that the words name.
+fn say_marks(store: &Store, words: &mut Words<'_>, said: &mut Said) {
+    for _ in 0..u64::MAX {
+        if words.is_over() {
+            break;
+        }
+        let name = words.bytes();
+        say_mark(name.as_slice(), store.mark(name.as_slice()), said);
+    }
+}
+
+fn say_selector(selector: &Selector, said: &mut Said) {
     match selector {
         Selector::Version { package, version } => {
-            append_word(alloc, b" version ", package.as_slice(), line)?;
-            append_word(alloc, b" ", version.text(), line)
+            said.word(b" version ", package.as_slice());
+            said.word(b" ", version.text());
         }
-        Selector::Release { package, list } => {
-            match package {
-                Some(package) => append_word(alloc, b" release ", package.as_slice(), line)?,
-                None => line.extend_from_slice(b" release -")?,
-            }
-            append_word(alloc, b" ", list.as_slice(), line)
+        Selector::Release {
+            package: Some(package),
+            list,
+        } => {
+            said.word(b" release ", package.as_slice());
+            said.word(b" ", list.as_slice());
         }
+        Selector::Release {
+            package: None,
+            list,
+        } => said.word(b" release - ", list.as_slice()),
     }
 }
 
-fn append_pins(alloc: Global, store: &Store, line: &mut Vec<u8>) -> Result<(), AllocError> {
+fn say_pins(store: &Store, said: &mut Said) {
     for (selector, priority) in store.pins() {
-        append_selector(alloc, selector, line)?;
-        let told = format!(in alloc; " {priority}")?;
-        line.extend_from_slice(told.as_bytes())?;
+        say_selector(selector, said);
+        said.priority(b" ", priority);
     }
-    Ok(())
 }
 
-fn append_numbers(alloc: Global, store: &Store, line: &mut Vec<u8>) -> Result<(), AllocError> {
+fn say_target(store: &Store, said: &mut Said) {
+    if let Some(target) = store.target() {
+        said.word(b" target ", target);
+    }
+}
+
+fn say_numbers(store: &Store, said: &mut Said) {
     let counts = store.counts();
     let limits = store.limits();
-    let told = format!(in alloc;
-        " counts {} {} limits {} {}",
-        counts.stanzas, counts.edits, limits.stanzas, limits.edits
-    )?;
-    line.extend_from_slice(told.as_bytes())
+    said.number(b" counts ", counts.stanzas as u128);
+    said.number(b" ", counts.edits as u128);
+    said.number(b" limits ", limits.stanzas as u128);
+    said.number(b" ", limits.edits as u128);
 }
 
 /// The lists, the marks of the packages that the words name, the pin settings, the target release and the numbers.
-pub fn append_state(
-    alloc: Global,
-    store: &Store,
-    words: &mut Words<'_>,
-    line: &mut Vec<u8>,
-) -> Result<()> {
-    line.extend_from_slice(b"state")?;
-    append_lists(alloc, store, line)?;
-    for _ in 0..u64::MAX {
-        let Some(word) = words.next_word() else {
-            break;
-        };
-        let name = hex::decode(alloc, word)?;
-        append_mark(alloc, &name, store.mark(&name), line)?;
-    }
-    append_pins(alloc, store, line)?;
-    if let Some(target) = store.target() {
-        append_word(alloc, b" target ", target, line)?;
-    }
-    append_numbers(alloc, store, line)?;
-    Ok(())
+pub fn say_state(store: &Store, words: &mut Words<'_>, said: &mut Said) {
+    said.add(b"state");
+    say_lists(store, said);
+    say_marks(store, words, said);
+    say_pins(store, said);
+    say_target(store, said);
+    say_numbers(store, said);
 }

@@ -1,11 +1,11 @@
-//! Texts of lists and of preferences, and what they are read to.
+//! Texts of lists, and what they are read to.
 
-use crate::parts::{append_record, append_stanza};
-use anyhow::{Context, Result};
+use crate::parts::{say_record, say_stanza};
+use crate::said::Said;
 use ctl_stanza::{
     ListKind, Record, Stanza, TextFault, lines_take_bytes, read_records, read_stanzas,
 };
-use std::alloc::{AllocError, Global};
+use std::alloc::Global;
 
 /// What a text is.
 #[derive(Clone, Copy)]
@@ -26,76 +26,87 @@ pub fn list_kind_named(word: &str) -> Option<ListKind> {
 /// The kind of text of a name.
 pub fn text_kind_named(word: &str) -> Option<TextKind> {
     match word {
+        "packages" => Some(TextKind::List(ListKind::Packages)),
+        "status" => Some(TextKind::List(ListKind::Status)),
         "records" => Some(TextKind::Records),
-        _ => list_kind_named(word).map(TextKind::List),
+        _ => None,
     }
 }
 
-fn append_fault(alloc: Global, fault: TextFault, line: &mut Vec<u8>) -> Result<(), AllocError> {
-    let told = format!(in alloc; "fault {} {}", fault.line, fault.cause.number())?;
-    line.extend_from_slice(told.as_bytes())
+fn say_fault(fault: TextFault, said: &mut Said) {
+    said.number(b"fault ", fault.line as u128);
+    said.number(b" ", fault.cause.number() as u128);
 }
 
-fn append_stanzas(alloc: Global, stanzas: &[Stanza], line: &mut Vec<u8>) -> Result<(), AllocError> {
+fn say_stanzas(stanzas: &[Stanza], said: &mut Said) {
     for stanza in stanzas {
-        append_stanza(alloc, stanza, line)?;
+        say_stanza(stanza, said);
     }
-    Ok(())
 }
 
-fn append_records(alloc: Global, records: &[Record], line: &mut Vec<u8>) -> Result<(), AllocError> {
+fn say_records(records: &[Record], said: &mut Said) {
     for record in records {
-        append_record(alloc, record, line)?;
+        say_record(record, said);
     }
-    Ok(())
+}
+
+fn say_list(alloc: Global, kind: ListKind, text: &[u8], said: &mut Said) {
+    lines_take_bytes();
+    match read_stanzas(alloc, text, 1, kind) {
+        Ok(stanzas) => say_stanzas(&stanzas, said),
+        Err(fault) => say_fault(fault, said),
+    }
+}
+
+fn say_text_of_records(alloc: Global, text: &[u8], said: &mut Said) {
+    lines_take_bytes();
+    match read_records(alloc, text, 1) {
+        Ok(records) => say_records(&records, said),
+        Err(fault) => say_fault(fault, said),
+    }
 }
 
 // What a text is read to.
-fn append_read(
-    alloc: Global,
-    kind: TextKind,
-    text: &[u8],
-    line: &mut Vec<u8>,
-) -> Result<(), AllocError> {
+fn say_read(alloc: Global, kind: TextKind, text: &[u8], said: &mut Said) {
+    match kind {
+        TextKind::List(kind) => say_list(alloc, kind, text, said),
+        TextKind::Records => say_text_of_records(alloc, text, said),
+    }
+}
+
+// How many stanzas or records a text has, or its fault.
+fn count_of(alloc: Global, kind: TextKind, text: &[u8]) -> Result<usize, TextFault> {
     lines_take_bytes();
     match kind {
         TextKind::List(kind) => match read_stanzas(alloc, text, 1, kind) {
-            Ok(stanzas) => append_stanzas(alloc, &stanzas, line),
-            Err(fault) => append_fault(alloc, fault, line),
+            Ok(stanzas) => Ok(stanzas.len()),
+            Err(fault) => Err(fault),
         },
         TextKind::Records => match read_records(alloc, text, 1) {
-            Ok(records) => append_records(alloc, &records, line),
-            Err(fault) => append_fault(alloc, fault, line),
+            Ok(records) => Ok(records.len()),
+            Err(fault) => Err(fault),
         },
     }
 }
 
 /// How many stanzas or records a text has, or its fault.
-pub fn append_count(
-    alloc: Global,
-    kind: TextKind,
-    text: &[u8],
-    line: &mut Vec<u8>,
-) -> Result<(), AllocError> {
-    lines_take_bytes();
-    let read = match kind {
-        TextKind::List(kind) => read_stanzas(alloc, text, 1, kind).map(|stanzas| stanzas.len()),
-        TextKind::Records => read_records(alloc, text, 1).map(|records| records.len()),
-    };
-    match read {
-        Err(fault) => append_fault(alloc, fault, line),
-        Ok(count) => {
-            let told = format!(in alloc; "{count}")?;
-            line.extend_from_slice(told.as_bytes())
-        }
+pub fn say_count(alloc: Global, kind: TextKind, text: &[u8], said: &mut Said) {
+    match count_of(alloc, kind, text) {
+        Ok(count) => said.number(b"", count as u128),
+        Err(fault) => say_fault(fault, said),
     }
 }
 
 /// What the text of a line is read to.
-pub fn append_text(alloc: Global, line: &str, answer: &mut Vec<u8>) -> Result<()> {
-    let (word, digits) = line.split_once('\t').context("a line without a tab")?;
-    let kind = text_kind_named(word).context("a kind that is not known")?;
-    let text = hex::decode(alloc, digits).context("a text that is not hexadecimal")?;
-    append_read(alloc, kind, &text, answer)?;
-    Ok(())
+pub fn say_text(alloc: Global, line: &str, said: &mut Said) {
+    let Some((word, digits)) = line.split_once('\t') else {
+        return said.fail("a line without a tab");
+    };
+    let Some(kind) = text_kind_named(word) else {
+        return said.fail("a kind that is not known");
+    };
+    match hex::decode(alloc, digits) {
+        Ok(text) => say_read(alloc, kind, &text, said),
+        Err(_) => said.fail("a text that is not hexadecimal"),
+    }
 }

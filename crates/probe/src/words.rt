@@ -2,8 +2,10 @@
 
 use crate::escapes::unescaped;
 use crate::relations::kind_named;
-use anyhow::{Context, Result};
+use crate::said::{OUT_OF_MEMORY, Said};
+use crate::texts::list_kind_named;
 use ctl_relation::{Bytes, FieldKind, Version};
+use ctl_stanza::ListKind;
 use ctl_store::Limits;
 use std::alloc::Global;
 
@@ -14,12 +16,14 @@ enum Form {
     Plain,
 }
 
-/// The words of a line that are left, with tabs between them.
+/// The words of a line that are left, with tabs between them, and why they are no question if they are none. A word that is
+/// missing or not what it has to be is kept as the fault, and is read as one that is empty: whoever answers the line asks once.
 #[derive(Drop)]
 pub struct Words<'a> {
     alloc: Global,
     form: Form,
     left: Option<&'a str>,
+    fault: Option<&'static str>,
 }
 
 impl<'a> Words<'a> {
@@ -29,6 +33,7 @@ impl<'a> Words<'a> {
             alloc,
             form: Form::Hexadecimal,
             left: Some(line),
+            fault: None,
         }
     }
 
@@ -38,6 +43,31 @@ impl<'a> Words<'a> {
             alloc,
             form: Form::Plain,
             left: Some(line),
+            fault: None,
+        }
+    }
+
+    /// Where memory for what is asked for comes from.
+    pub fn alloc(&self) -> Global {
+        self.alloc
+    }
+
+    /// Keeps why the words are no question. The first fault stays.
+    pub fn fail(&mut self, why: &'static str) {
+        if self.fault.is_none() {
+            self.fault = Some(why);
+        }
+    }
+
+    /// Why the words are no question, if they are none.
+    pub fn fault(&self) -> Option<&'static str> {
+        self.fault
+    }
+
+    /// Hands on why the words are no question, if they are none, when the line is answered.
+    pub fn end(&self, said: &mut Said) {
+        if let Some(why) = self.fault {
+            said.fail(why);
         }
     }
 
@@ -61,81 +91,151 @@ impl<'a> Words<'a> {
         }
     }
 
-    pub fn word(&mut self) -> Result<&'a str> {
-        self.next_word().context("a word is missing")
+    pub fn word(&mut self) -> &'a str {
+        match self.next_word() {
+            Some(word) => word,
+            None => {
+                self.fail("a word is missing");
+                ""
+            }
+        }
+    }
+
+    // The bytes that a word gives.
+    fn bytes_of(&mut self, word: &str) -> Bytes {
+        match read_word(self.alloc, self.form, word) {
+            Ok(bytes) => Bytes::from_vec(bytes),
+            Err(why) => {
+                self.fail(why);
+                Bytes::from_vec(Vec::new(self.alloc))
+            }
+        }
     }
 
     /// The bytes that the next word gives.
-    pub fn bytes(&mut self) -> Result<Bytes> {
-        let word = self.word()?;
-        bytes_of(self.alloc, self.form, word)
+    pub fn bytes(&mut self) -> Bytes {
+        let word = self.word();
+        self.bytes_of(word)
     }
 
     /// The same, or none where the word is `-`.
-    pub fn bytes_or_none(&mut self) -> Result<Option<Bytes>> {
-        let word = self.word()?;
-        if word == "-" {
-            return Ok(None);
+    pub fn bytes_or_none(&mut self) -> Option<Bytes> {
+        match self.word() {
+            "-" => None,
+            word => Some(self.bytes_of(word)),
         }
-        Ok(Some(bytes_of(self.alloc, self.form, word)?))
     }
 
     /// The bytes that each of the words gives that are left.
-    pub fn all_bytes(&mut self) -> Result<Vec<Bytes>> {
+    pub fn all_bytes(&mut self) -> Vec<Bytes> {
         let mut all = Vec::new(self.alloc);
         for _ in 0..u64::MAX {
             if self.is_over() {
                 break;
             }
-            all.push(self.bytes()?)?;
+            if all.push(self.bytes()).is_err() {
+                self.fail(OUT_OF_MEMORY);
+            }
         }
-        Ok(all)
+        all
     }
 
     /// The relation field of a name.
-    pub fn field_kind(&mut self) -> Result<FieldKind> {
-        kind_named(self.word()?).context("a field that holds no relations")
-    }
-
-    pub fn version(&mut self) -> Result<Version> {
-        let text = self.bytes()?;
-        version_of(self.alloc, &text)
-    }
-
-    /// A version, or none where the word is `-`.
-    pub fn version_or_none(&mut self) -> Result<Option<Version>> {
-        match self.bytes_or_none()? {
-            Some(text) => Ok(Some(version_of(self.alloc, &text)?)),
-            None => Ok(None),
+    pub fn field_kind(&mut self) -> FieldKind {
+        match kind_named(self.word()) {
+            Some(kind) => kind,
+            None => {
+                self.fail("a field that holds no relations");
+                FieldKind::Depends
+            }
         }
     }
 
-    pub fn number(&mut self) -> Result<u32> {
-        Ok(self.word()?.parse::<u32>()?)
+    /// The kind of list of a name.
+    pub fn list_kind(&mut self) -> ListKind {
+        match list_kind_named(self.word()) {
+            Some(kind) => kind,
+            None => {
+                self.fail("a kind that is not known");
+                ListKind::Packages
+            }
+        }
     }
 
-    pub fn limits(&mut self) -> Result<Limits> {
-        Ok(Limits {
-            stanzas: self.number()?,
-            edits: self.number()?,
-        })
+    // The version of a text, or none, and then the words are no question.
+    fn version_of(&mut self, text: &[u8]) -> Option<Version> {
+        match Version::parse(self.alloc, text) {
+            Ok(version) => Some(version),
+            Err(_) => {
+                self.fail("a word that is no version");
+                None
+            }
+        }
     }
 
-    pub fn priority(&mut self) -> Result<i16> {
-        Ok(self.word()?.parse::<i16>()?)
+    /// A version, or none where the word is none, and then the words are no question.
+    pub fn version(&mut self) -> Option<Version> {
+        let text = self.bytes();
+        self.version_of(text.as_slice())
+    }
+
+    /// A version, or none where the word is `-`.
+    pub fn version_or_none(&mut self) -> Option<Version> {
+        match self.bytes_or_none() {
+            Some(text) => self.version_of(text.as_slice()),
+            None => None,
+        }
+    }
+
+    /// The versions that each of the words gives that are left.
+    pub fn versions(&mut self) -> Vec<Version> {
+        let mut all = Vec::new(self.alloc);
+        for _ in 0..u64::MAX {
+            if self.is_over() {
+                break;
+            }
+            if let Some(version) = self.version() {
+                if all.push(version).is_err() {
+                    self.fail(OUT_OF_MEMORY);
+                }
+            }
+        }
+        all
+    }
+
+    pub fn number(&mut self) -> u32 {
+        match self.word().parse::<u32>() {
+            Ok(number) => number,
+            Err(_) => {
+                self.fail("a word that is no number");
+                0
+            }
+        }
+    }
+
+    pub fn limits(&mut self) -> Limits {
+        let stanzas = self.number();
+        let edits = self.number();
+        Limits { stanzas, edits }
+    }
+
+    pub fn priority(&mut self) -> i16 {
+        match self.word().parse::<i16>() {
+            Ok(priority) => priority,
+            Err(_) => {
+                self.fail("a word that is no priority");
+                0
+            }
+        }
     }
 }
 
-fn bytes_of(alloc: Global, form: Form, word: &str) -> Result<Bytes> {
-    let bytes = match form {
-        Form::Hexadecimal => { hex::decode(alloc, word).context("a word that is not hexadecimal")? }
-        Form::Plain => unescaped(alloc, word)?,
-    };
-    Ok(Bytes::from_vec(bytes))
-}
-
-fn version_of(alloc: Global, text: &Bytes) -> Result<Version> {
-    Version::parse(alloc, text.as_slice())
-        .ok()
-        .context("a word that is no version")
+fn read_word(alloc: Global, form: Form, word: &str) -> Result<Vec<u8>, &'static str> {
+    match form {
+        Form::Plain => unescaped(alloc, word),
+        Form::Hexadecimal => match hex::decode(alloc, word) {
+            Ok(bytes) => Ok(bytes),
+            Err(_) => Err("a word that is not hexadecimal"),
+        },
+    }
 }

@@ -2,10 +2,9 @@
 
 use super::THREE_LISTS;
 use super::table::{each_is_so, each_is_so_behind};
-use std::test::Fail;
 
 #[test]
-fn pins_decide_on_candidates(rt: HostRuntime) -> Result<(), Fail> {
+fn pins_decide_on_candidates(rt: HostRuntime) {
     each_is_so_behind(
         &rt,
         THREE_LISTS,
@@ -87,11 +86,11 @@ foo:
         500 main
         100 status
 ",
-    )
+    );
 }
 
 #[test]
-fn candidates_follow_lists(rt: HostRuntime) -> Result<(), Fail> {
+fn candidates_follow_lists(rt: HostRuntime) {
     each_is_so(
         &rt,
         b"
@@ -201,5 +200,5 @@ Version: 1.0-0
 Depends: b
 
 ",
-    )
+    );
 }

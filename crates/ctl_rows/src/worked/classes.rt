@@ -2,10 +2,9 @@
 
 use super::THREE_LISTS;
 use super::table::{each_is_so, each_is_so_behind};
-use std::test::Fail;
 
 #[test]
-fn the_target_comes_before_classes_and_general_pins(rt: HostRuntime) -> Result<(), Fail> {
+fn the_target_comes_before_classes_and_general_pins(rt: HostRuntime) {
     each_is_so_behind(
         &rt,
         THREE_LISTS,
@@ -80,11 +79,11 @@ foo:
         500 main
         100 status
 ",
-    )
+    );
 }
 
 #[test]
-fn lists_of_packages_have_classes(rt: HostRuntime) -> Result<(), Fail> {
+fn lists_of_packages_have_classes(rt: HostRuntime) {
     each_is_so(
         &rt,
         b"
@@ -114,5 +113,5 @@ add-list s status notauto
 =>
 E: line 1: bad arguments
 ",
-    )
+    );
 }

@@ -1,14 +1,14 @@
 //! Readers and writers of std that fail, and a reader that does not end.
 
 use super::THREE_LISTS;
-use crate::runs::{Act, came, came_of};
-use crate::tables::{joined, same};
-use ctl_store::Limits;
-use std::alloc::{AllocError, Global};
-use std::test::Fail;
+use crate::runs::Act;
+use crate::said::Said;
+use crate::tables::{comes, comes_by, joined};
+use std::alloc::Global;
+use std::process::Abort;
 
 #[test]
-fn a_writer_fails_in_a_name(rt: HostRuntime) -> Result<(), Fail> {
+fn a_writer_fails_in_a_name(rt: HostRuntime) {
     let script: &[u8] = b"\
 add-list main packages
 Package: foo
@@ -20,54 +20,57 @@ Version: 2.0
 pkgnames
 pkgnames
 ";
-    let came = came(rt.alloc(), &[Act::Until(script, 5)])?;
-    same(
+    comes(
         &rt,
         b"A writer that fails once",
-        &came,
+        &[Act::Until(script, 5)],
         b"bar\nf! write failed\n",
     );
-    Ok(())
 }
 
 #[test]
-fn a_reader_fails_in_a_command(rt: HostRuntime) -> Result<(), Fail> {
-    let came = came(rt.alloc(), &[Act::Broken(b"pkgnames\nfr")])?;
-    same(
+fn a_reader_fails_in_a_command(rt: HostRuntime) {
+    comes(
         &rt,
         b"A reader that fails in a line",
-        &came,
+        &[Act::Broken(b"pkgnames\nfr")],
         b"! read failed\n",
     );
-    Ok(())
 }
 
 #[test]
-fn comments_without_end_are_too_many(rt: HostRuntime) -> Result<(), Fail> {
+fn comments_without_end_are_too_many(rt: HostRuntime) {
     let acts = [Act::Endless(b"#\n")];
-    let came = came_of(rt.alloc(), Limits::MOST, 1000, &acts)?;
-    same(&rt, b"Comments without end", &came, b"! too many lines\n");
-    Ok(())
+    comes_by(
+        &rt,
+        1000,
+        b"Comments without end",
+        &acts,
+        b"! too many lines\n",
+    );
 }
 
-/// What a script writes where the writer fails behind so many bytes, and then the policy.
-fn came_before(alloc: Global, before: usize) -> Result<Vec<u8>, AllocError> {
+/// Compares what the three lists write where the writer fails behind so much of their text, and then the policy.
+fn writer_fails(rt: &(impl Abort + AllocGlobal), text: &[u8]) {
+    let wanted = joined(rt.alloc(), text, b"! write failed\n", THREE_LISTS.text);
     let acts = [
-        Act::Until(THREE_LISTS.script, before),
+        Act::Until(THREE_LISTS.script, text.len()),
         Act::Script(b"policy foo\n"),
     ];
-    came(alloc, &acts)
+    comes(
+        rt,
+        b"A writer that fails at each byte",
+        &acts,
+        wanted.shown(),
+    );
 }
 
 #[test]
-fn a_writer_fails_at_each_byte(rt: HostRuntime) -> Result<(), Fail> {
+fn a_writer_fails_at_each_byte(rt: HostRuntime) {
     let text = THREE_LISTS.text;
     for before in 0..text.len() {
-        let wanted = joined(rt.alloc(), &text[..before], b"! write failed\n", text)?;
-        let came = came_before(rt.alloc(), before)?;
-        same(&rt, b"A writer that fails at each byte", &came, &wanted);
+        writer_fails(&rt, &text[..before]);
     }
-    Ok(())
 }
 
 /// How many lists are whole in the beginning of a script: each with its end, and the newline behind it.
@@ -108,7 +111,7 @@ foo:
 }
 
 /// What is wanted of a reader that gives this much of the three lists before it fails.
-fn wanted_of(alloc: Global, given: &[u8]) -> Result<Vec<u8>, AllocError> {
+fn wanted_of(alloc: Global, given: &[u8]) -> Said {
     let text = if given == THREE_LISTS.script {
         THREE_LISTS.text
     } else {
@@ -117,21 +120,22 @@ fn wanted_of(alloc: Global, given: &[u8]) -> Result<Vec<u8>, AllocError> {
     joined(alloc, text, b"! read failed\n", policy_of(lists_in(given)))
 }
 
-/// What comes of it where it gives one byte at each call, and then the policy.
-fn came_behind(alloc: Global, given: &[u8]) -> Result<Vec<u8>, AllocError> {
-    came(
-        alloc,
-        &[Act::ByteByByte(given), Act::Script(b"policy foo\n")],
-    )
+/// Compares what comes of it where it gives one byte at each call, and then the policy.
+fn reader_fails(rt: &(impl Abort + AllocGlobal), given: &[u8]) {
+    let wanted = wanted_of(rt.alloc(), given);
+    let acts = [Act::ByteByByte(given), Act::Script(b"policy foo\n")];
+    comes(
+        rt,
+        b"A reader that fails at each call",
+        &acts,
+        wanted.shown(),
+    );
 }
 
 #[test]
-fn a_reader_fails_at_each_call(rt: HostRuntime) -> Result<(), Fail> {
+fn a_reader_fails_at_each_call(rt: HostRuntime) {
     let script = THREE_LISTS.script;
     for calls in 0..=script.len() {
-        let wanted = wanted_of(rt.alloc(), &script[..calls])?;
-        let came = came_behind(rt.alloc(), &script[..calls])?;
-        same(&rt, b"A reader that fails at each call", &came, &wanted);
+        reader_fails(&rt, &script[..calls]);
     }
-    Ok(())
 }

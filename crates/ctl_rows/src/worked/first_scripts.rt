@@ -1,10 +1,9 @@
 //! First scripts: a list in and its names out, and the first faults of bodies.
 
 use super::table::each_is_so;
-use std::test::Fail;
 
 #[test]
-fn first_scripts_are_answered(rt: HostRuntime) -> Result<(), Fail> {
+fn first_scripts_are_answered(rt: HostRuntime) {
     each_is_so(
         &rt,
         b"
@@ -68,5 +67,5 @@ Depends: b [amd64]
 =>
 E: line 4: bad relation field
 ",
-    )
+    );
 }

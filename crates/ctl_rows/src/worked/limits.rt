@@ -2,7 +2,6 @@
 
 use super::table::{Room, each_is_so_within};
 use ctl_store::Limits;
-use std::test::Fail;
 
 /// Room for two stanzas and five edits.
 const TWO_STANZAS: Room = Room {
@@ -22,7 +21,7 @@ const fn lines(max_lines: u32) -> Room {
 }
 
 #[test]
-fn a_cache_is_full_at_its_limits(rt: HostRuntime) -> Result<(), Fail> {
+fn a_cache_is_full_at_its_limits(rt: HostRuntime) {
     each_is_so_within(
         &rt,
         TWO_STANZAS,
@@ -78,11 +77,11 @@ E: line 20: cache full
 ? counts
 2 stanzas, 5 edits
 ",
-    )
+    );
 }
 
 #[test]
-fn a_run_has_a_limit_of_lines(rt: HostRuntime) -> Result<(), Fail> {
+fn a_run_has_a_limit_of_lines(rt: HostRuntime) {
     each_is_so_within(
         &rt,
         lines(2),
@@ -94,11 +93,11 @@ fn a_run_has_a_limit_of_lines(rt: HostRuntime) -> Result<(), Fail> {
 =>
 ! too many lines
 ",
-    )
+    );
 }
 
 #[test]
-fn a_body_is_cut_by_the_limit_of_lines(rt: HostRuntime) -> Result<(), Fail> {
+fn a_body_is_cut_by_the_limit_of_lines(rt: HostRuntime) {
     each_is_so_within(
         &rt,
         lines(3),
@@ -120,5 +119,5 @@ pkgnames
 ? summary
 1 accepted, 0 refused
 ",
-    )
+    );
 }

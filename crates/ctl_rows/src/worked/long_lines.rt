@@ -1,8 +1,9 @@
 //! Lines and bodies of fields about the most bytes that they may have.
 
-use crate::tables::{same, written};
+use crate::runs::Act;
+use crate::said::Said;
+use crate::tables::comes;
 use std::alloc::Global;
-use std::test::Fail;
 
 /// A name, a script up to a run of bytes `x`, how many there are, the script behind them, and what it writes.
 type Row = (
@@ -59,22 +60,19 @@ const ROWS: &[Row] = &[
 ];
 
 /// A script with a long line.
-fn script_of(alloc: Global, row: &Row) -> Result<Vec<u8>, Fail> {
+fn script_of(alloc: Global, row: &Row) -> Said {
     let (_, before, count, behind, _) = row;
-    let mut script = Vec::from_slice(alloc, before)?;
-    for _ in 0..*count {
-        script.push(b'x')?;
-    }
-    script.extend_from_slice(behind)?;
-    Ok(script)
+    let mut script = Said::new(alloc);
+    script.add(before);
+    script.repeat(*count, b'x');
+    script.add(behind);
+    script
 }
 
 #[test]
-fn long_lines_are_read_or_told(rt: HostRuntime) -> Result<(), Fail> {
+fn long_lines_are_read_or_told(rt: HostRuntime) {
     for row in ROWS {
-        let script = script_of(rt.alloc(), row)?;
-        let came = written(rt.alloc(), &script)?;
-        same(&rt, row.0, &came, row.4);
+        let script = script_of(rt.alloc(), row);
+        comes(&rt, row.0, &[Act::Script(script.shown())], row.4);
     }
-    Ok(())
 }

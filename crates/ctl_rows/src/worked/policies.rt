@@ -2,10 +2,9 @@
 
 use super::THREE_LISTS;
 use super::table::{each_is_so, each_is_so_behind};
-use std::test::Fail;
 
 #[test]
-fn marks_pins_and_targets_decide(rt: HostRuntime) -> Result<(), Fail> {
+fn marks_pins_and_targets_decide(rt: HostRuntime) {
     each_is_so_behind(
         &rt,
         THREE_LISTS,
@@ -154,11 +153,11 @@ foo:
         500 main
         100 status
 ",
-    )
+    );
 }
 
 #[test]
-fn only_pins_of_packages_pin_them(rt: HostRuntime) -> Result<(), Fail> {
+fn only_pins_of_packages_pin_them(rt: HostRuntime) {
     each_is_so_behind(
         &rt,
         THREE_LISTS,
@@ -210,11 +209,11 @@ Package files:
 Pinned packages:
      foo -> 1.0-1 with priority 1000
 ",
-    )
+    );
 }
 
 #[test]
-fn a_package_without_rows_has_no_policy(rt: HostRuntime) -> Result<(), Fail> {
+fn a_package_without_rows_has_no_policy(rt: HostRuntime) {
     each_is_so(
         &rt,
         b"
@@ -245,5 +244,5 @@ Package files:
 Pinned packages:
      foo -> 1.0-0 with priority 700
 ",
-    )
+    );
 }

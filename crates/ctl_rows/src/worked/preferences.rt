@@ -2,10 +2,9 @@
 
 use super::THREE_LISTS;
 use super::table::each_is_so_behind;
-use std::test::Fail;
 
 #[test]
-fn preferences_are_taken_or_refused_whole(rt: HostRuntime) -> Result<(), Fail> {
+fn preferences_are_taken_or_refused_whole(rt: HostRuntime) {
     each_is_so_behind(
         &rt,
         THREE_LISTS,
@@ -128,5 +127,5 @@ foo:
         500 main
         100 status
 ",
-    )
+    );
 }

@@ -2,10 +2,9 @@
 
 use super::THREE_LISTS;
 use super::table::{each_is_so, each_is_so_behind};
-use std::test::Fail;
 
 #[test]
-fn relations_are_shown(rt: HostRuntime) -> Result<(), Fail> {
+fn relations_are_shown(rt: HostRuntime) {
     each_is_so(
         &rt,
         b"
@@ -126,11 +125,11 @@ pkgnames --all-names b
 bar
 baz
 ",
-    )
+    );
 }
 
 #[test]
-fn stanzas_are_shown(rt: HostRuntime) -> Result<(), Fail> {
+fn stanzas_are_shown(rt: HostRuntime) {
     each_is_so_behind(
         &rt,
         THREE_LISTS,
@@ -150,11 +149,11 @@ Package: foo
 Version: 2.0-1
 
 ",
-    )
+    );
 }
 
 #[test]
-fn stanzas_are_found(rt: HostRuntime) -> Result<(), Fail> {
+fn stanzas_are_found(rt: HostRuntime) {
     each_is_so(
         &rt,
         b"
@@ -249,5 +248,5 @@ grep-dctrl -c -F Version --eq x_
 =>
 0
 ",
-    )
+    );
 }

@@ -9,15 +9,15 @@
 //!
 //! Behind what is written a line that begins with `? ` asks for something else, and what follows is the answer.
 
-use super::answer::append_answer;
+use super::answer::say_answer;
 use crate::run_script;
-use crate::runs::{fault_words, plain_session, session_of};
-use crate::tables::{joined, same};
+use crate::runs::{plain_session, say_fault, session_of};
+use crate::said::Said;
+use crate::tables::{agree, joined, rows_of, same};
 use ctl_session::{Fault, Session, Summary};
 use ctl_store::Limits;
-use std::alloc::{AllocError, Global};
+use std::alloc::Global;
 use std::process::Abort;
-use std::test::Fail;
 
 /// A script that stands before each entry of a table, and what it writes.
 #[derive(Clone, Copy)]
@@ -52,131 +52,160 @@ enum Part {
 /// An entry of a table, as far as it was read.
 #[derive(Drop)]
 struct Entry {
-    name: Vec<u8>,
+    name: Said,
     /// The scripts of the runs before.
-    before: Vec<u8>,
+    before: Said,
     /// The script of this run, with that of the steps before.
-    script: Vec<u8>,
+    script: Said,
     /// What this run writes.
-    text: Vec<u8>,
+    text: Said,
     /// What is asked behind it, with the answers.
-    answers: Vec<u8>,
+    answers: Said,
     part: Part,
 }
 
-fn add_line(text: &mut Vec<u8>, line: &[u8]) -> Result<(), AllocError> {
-    text.extend_from_slice(line)?;
-    Ok(text.push(b'\n')?)
+/// Text of these bytes.
+fn said_of(alloc: Global, text: &[u8]) -> Said {
+    let mut said = Said::new(alloc);
+    said.add(text);
+    said
 }
 
 impl Entry {
     /// An entry without a name, which has the front alone.
-    fn new(alloc: Global, front: Front<'_>) -> Result<Entry, AllocError> {
-        Ok(Entry {
-            name: Vec::new(alloc),
-            before: Vec::new(alloc),
-            script: Vec::from_slice(alloc, front.script)?,
-            text: Vec::from_slice(alloc, front.text)?,
-            answers: Vec::new(alloc),
+    fn new(alloc: Global, front: Front<'_>) -> Entry {
+        Entry {
+            name: Said::new(alloc),
+            before: Said::new(alloc),
+            script: said_of(alloc, front.script),
+            text: said_of(alloc, front.text),
+            answers: Said::new(alloc),
             part: Part::Text,
-        })
+        }
     }
 
     /// Begins a step of a name.
-    fn step(&mut self, name: &[u8]) -> Result<(), AllocError> {
+    fn step(&mut self, name: &[u8]) {
         self.name.clear();
-        self.name.extend_from_slice(name)?;
+        self.name.add(name);
         self.answers.clear();
         self.part = Part::Script;
-        Ok(())
     }
 
     /// Ends the run, so that what follows stands in a new one.
-    fn end_run(&mut self) -> Result<(), AllocError> {
-        self.before.extend_from_slice(&self.script)?;
+    fn end_run(&mut self) {
+        self.before.add(self.script.shown());
         self.script.clear();
         self.text.clear();
-        Ok(())
+    }
+
+    /// The part to which a line belongs that is no head line, and no end of a script.
+    fn part_of(&self, line: &[u8]) -> Part {
+        if self.part == Part::Text && line.starts_with(b"? ") {
+            Part::Answers
+        } else {
+            self.part
+        }
     }
 
     /// Takes a line in that is no head line.
-    fn add(&mut self, line: &[u8]) -> Result<(), AllocError> {
+    fn add(&mut self, line: &[u8]) {
         if self.part == Part::Script && line == b"=>".as_slice() {
             self.part = Part::Text;
-            return Ok(());
+            return;
         }
-        if self.part == Part::Text && line.starts_with(b"? ") {
-            self.part = Part::Answers;
-        }
+        self.part = self.part_of(line);
         match self.part {
-            Part::Script => add_line(&mut self.script, line),
-            Part::Text => add_line(&mut self.text, line),
-            Part::Answers => add_line(&mut self.answers, line),
+            Part::Script => self.script.all(&[line, b"\n"]),
+            Part::Text => self.text.all(&[line, b"\n"]),
+            Part::Answers => self.answers.all(&[line, b"\n"]),
         }
     }
 
     /// Compares what comes of the entry with what is wanted. Without a name there is no entry.
-    fn judge(&self, rt: &(impl Abort + AllocGlobal), room: Option<Room>) -> Result<(), Fail> {
-        if self.name.is_empty() {
-            return Ok(());
+    fn judge(&self, rt: &(impl Abort + AllocGlobal), room: Option<Room>) {
+        let name = self.name.shown();
+        if name.is_empty() {
+            return;
         }
-        if self.part == Part::Script {
-            return Err(Fail::from("an entry says nothing of what is wanted"));
-        }
-        let came = came(rt.alloc(), room, self)?;
-        let wanted = joined(rt.alloc(), &self.text, &self.answers, b"")?;
-        same(rt, &self.name, &came, &wanted);
-        Ok(())
-    }
-}
-
-/// What a run came to besides what it wrote.
-fn append_fault(outcome: Result<Summary, Fault>, all: &mut Vec<u8>) -> Result<(), AllocError> {
-    match outcome {
-        Ok(_) => Ok(()),
-        Err(fault) => all.extend_from_slice(fault_words(fault)),
+        agree(rt, name, self.part == Part::Script, false);
+        let wanted = joined(rt.alloc(), self.text.shown(), self.answers.shown(), b"");
+        same(
+            rt,
+            name,
+            came(rt.alloc(), room, self).shown(),
+            wanted.shown(),
+        );
     }
 }
 
 /// The answers to all that is asked.
-fn append_answers(
-    alloc: Global,
-    session: &Session,
-    outcome: Result<Summary, Fault>,
-    asked: &[u8],
-    all: &mut Vec<u8>,
-) -> Result<(), AllocError> {
+fn say_answers(session: &Session, outcome: Result<Summary, Fault>, asked: &[u8], said: &mut Said) {
     for line in asked.split(|byte| *byte == b'\n') {
         if let Some(question) = line.strip_prefix(b"? ") {
-            append_answer(alloc, session, outcome, question, all)?;
+            say_answer(session, outcome, question, said);
         }
     }
-    Ok(())
 }
 
 /// What the last run of an entry writes in a session, and the answers to what is asked.
-fn came_in(alloc: Global, session: &mut Session, entry: &Entry) -> Result<Vec<u8>, AllocError> {
-    let _ = run_script(alloc, session, &entry.before);
-    let (outcome, mut all) = run_script(alloc, session, &entry.script);
-    append_fault(outcome, &mut all)?;
-    append_answers(alloc, session, outcome, &entry.answers, &mut all)?;
-    Ok(all)
+fn say_entry(session: &mut Session, entry: &Entry, said: &mut Said) {
+    let _ = run_script(said.alloc(), session, entry.before.shown());
+    let (outcome, written) = run_script(said.alloc(), session, entry.script.shown());
+    said.add(&written);
+    say_fault(outcome, said);
+    say_answers(session, outcome, entry.answers.shown(), said);
 }
 
-fn came_plain(alloc: Global, entry: &Entry) -> Result<Vec<u8>, AllocError> {
-    let mut session = plain_session(alloc)?;
-    came_in(alloc, &mut session, entry)
-}
-
-fn came_within(alloc: Global, room: Room, entry: &Entry) -> Result<Vec<u8>, AllocError> {
-    let mut session = session_of(alloc, room.limits, room.max_lines)?;
-    came_in(alloc, &mut session, entry)
-}
-
-fn came(alloc: Global, room: Option<Room>, entry: &Entry) -> Result<Vec<u8>, AllocError> {
+fn session_within(alloc: Global, room: Option<Room>) -> Option<Session> {
     match room {
-        None => came_plain(alloc, entry),
-        Some(room) => came_within(alloc, room, entry),
+        None => plain_session(alloc),
+        Some(room) => session_of(alloc, room.limits, room.max_lines),
+    }
+}
+
+fn came(alloc: Global, room: Option<Room>, entry: &Entry) -> Said {
+    let mut said = Said::new(alloc);
+    match session_within(alloc, room) {
+        Some(mut session) => say_entry(&mut session, entry, &mut said),
+        None => said.fail(),
+    }
+    said
+}
+
+/// A head line of an entry, and the name behind its mark.
+#[derive(Clone, Copy)]
+enum Head<'a> {
+    /// An entry begins.
+    Entry(&'a [u8]),
+    /// A step in the same run.
+    Step(&'a [u8]),
+    /// A step in a new run.
+    Run(&'a [u8]),
+}
+
+/// The head line that a line is, if it is one.
+fn head_of(line: &[u8]) -> Option<Head<'_>> {
+    match line {
+        [b'-', b'-', b' ', name @ ..] => Some(Head::Entry(name)),
+        [b'-', b'+', b' ', name @ ..] => Some(Head::Step(name)),
+        [b'-', b'>', b' ', name @ ..] => Some(Head::Run(name)),
+        _ => None,
+    }
+}
+
+/// Begins an entry or a step.
+fn begin(alloc: Global, front: Front<'_>, head: Head<'_>, entry: &mut Entry) {
+    match head {
+        Head::Entry(name) => {
+            *entry = Entry::new(alloc, front);
+            entry.step(name);
+        }
+        Head::Step(name) => entry.step(name),
+        Head::Run(name) => {
+            entry.end_run();
+            entry.step(name);
+        }
     }
 }
 
@@ -187,59 +216,36 @@ fn take(
     room: Option<Room>,
     line: &[u8],
     entry: &mut Entry,
-) -> Result<(), Fail> {
-    if let Some(name) = line.strip_prefix(b"-- ") {
-        entry.judge(rt, room)?;
-        *entry = Entry::new(rt.alloc(), front)?;
-        entry.step(name)?;
-    } else if let Some(name) = line.strip_prefix(b"-+ ") {
-        entry.judge(rt, room)?;
-        entry.step(name)?;
-    } else if let Some(name) = line.strip_prefix(b"-> ") {
-        entry.judge(rt, room)?;
-        entry.end_run()?;
-        entry.step(name)?;
-    } else {
-        entry.add(line)?;
+) {
+    match head_of(line) {
+        Some(head) => {
+            entry.judge(rt, room);
+            begin(rt.alloc(), front, head, entry);
+        }
+        None => entry.add(line),
     }
-    Ok(())
 }
 
-fn each(
-    rt: &(impl Abort + AllocGlobal),
-    front: Front<'_>,
-    room: Option<Room>,
-    table: &[u8],
-) -> Result<(), Fail> {
-    let [b'\n', b'-', .., b'\n'] = table else {
-        return Err(Fail::from("a table begins with a head line, and stands on lines of its own"));
-    };
-    let mut entry = Entry::new(rt.alloc(), front)?;
-    for line in table[1..table.len() - 1].split(|byte| *byte == b'\n') {
-        take(rt, front, room, line, &mut entry)?;
+fn each(rt: &(impl Abort + AllocGlobal), front: Front<'_>, room: Option<Room>, table: &[u8]) {
+    agree(rt, table, table.starts_with(b"\n-"), true);
+    let mut entry = Entry::new(rt.alloc(), front);
+    for line in rows_of(rt, table).split(|byte| *byte == b'\n') {
+        take(rt, front, room, line, &mut entry);
     }
-    entry.judge(rt, room)
+    entry.judge(rt, room);
 }
 
 /// Judges each entry of a table.
-pub fn each_is_so(rt: &(impl Abort + AllocGlobal), table: &[u8]) -> Result<(), Fail> {
-    each(rt, Front::NONE, None, table)
+pub fn each_is_so(rt: &(impl Abort + AllocGlobal), table: &[u8]) {
+    each(rt, Front::NONE, None, table);
 }
 
 /// The same where each entry stands behind a script.
-pub fn each_is_so_behind(
-    rt: &(impl Abort + AllocGlobal),
-    front: Front<'_>,
-    table: &[u8],
-) -> Result<(), Fail> {
-    each(rt, front, None, table)
+pub fn each_is_so_behind(rt: &(impl Abort + AllocGlobal), front: Front<'_>, table: &[u8]) {
+    each(rt, front, None, table);
 }
 
 /// The same where a session has less room.
-pub fn each_is_so_within(
-    rt: &(impl Abort + AllocGlobal),
-    room: Room,
-    table: &[u8],
-) -> Result<(), Fail> {
-    each(rt, Front::NONE, Some(room), table)
+pub fn each_is_so_within(rt: &(impl Abort + AllocGlobal), room: Room, table: &[u8]) {
+    each(rt, Front::NONE, Some(room), table);
 }

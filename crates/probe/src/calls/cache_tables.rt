@@ -2,53 +2,45 @@
 
 ghost use Rattle.std.specs.Prelude.{◌≡◌, false};
 
-use crate::joined::{append_all, append_number};
+use crate::said::{OUT_OF_MEMORY, Said};
 use ctl_index::{AtomKey, Cache, ClauseKey, Namers};
-use ctl_relation::{Offer, Version};
+use ctl_relation::{FieldKind, Offer, Version};
 use ctl_store::StanzaKey;
 use std::alloc::{AllocError, Global};
 
 /// A clause: its stanza's key, its field, and the place of its group.
-fn append_clause(alloc: Global, key: ClauseKey, all: &mut Vec<u8>) -> Result<(), AllocError> {
-    let stanza = format!(in alloc; "{}.{} ", key.stanza.list, key.stanza.stanza)?;
-    append_all(&[stanza.as_bytes(), key.field.printed_name()], all)?;
-    append_number(alloc, b" ", key.group as u128, all)
+fn say_clause(stanza: StanzaKey, field: FieldKind, group: u32, said: &mut Said) {
+    said.key(b"", stanza);
+    said.all(&[b" ", field.printed_name()]);
+    said.number(b" ", group as u128);
 }
 
-/// An atom: its clause, and its place in the group.
-fn append_atom(alloc: Global, key: AtomKey, all: &mut Vec<u8>) -> Result<(), AllocError> {
-    let clause = ClauseKey {
-        stanza: key.stanza,
-        field: key.field,
-        group: key.group,
-    };
-    append_clause(alloc, clause, all)?;
-    append_number(alloc, b" ", key.atom as u128, all)
-}
-
-fn append_spaced(name: &[u8], all: &mut Vec<u8>) -> Result<(), AllocError> {
-    all.push(b' ')?;
-    all.extend_from_slice(name)
+/// A name behind a space.
+fn say_spaced(name: &[u8], said: &mut Said) {
+    said.all(&[b" ", name]);
 }
 
 /// The names that are known, each behind a space.
-pub fn append_names(cache: &Cache, all: &mut Vec<u8>) -> Result<(), AllocError>
+pub fn say_names(cache: &Cache, said: &mut Said)
     requires { cache.now.stale ≡ false }
 {
     for name in cache.names() {
-        append_spaced(name, all)?;
+        say_spaced(name, said);
     }
-    Ok(())
 }
 
 /// The names of packages that begin with a prefix, each behind a space.
-pub fn append_packages(cache: &Cache, prefix: &[u8], all: &mut Vec<u8>) -> Result<(), AllocError>
+pub fn say_packages(cache: &Cache, prefix: &[u8], said: &mut Said)
     requires { cache.now.stale ≡ false }
 {
-    for name in cache.package_names(prefix)? {
-        append_spaced(name, all)?;
+    match cache.package_names(prefix) {
+        Err(_) => said.fail(OUT_OF_MEMORY),
+        Ok(names) => {
+            for name in names {
+                say_spaced(name, said);
+            }
+        }
     }
-    Ok(())
 }
 
 fn version_words(version: Option<&Version>) -> &[u8] {
@@ -59,140 +51,120 @@ fn version_words(version: Option<&Version>) -> &[u8] {
 }
 
 /// An offer: its stanza's key, its name, and its version or `-`.
-fn offer_words(alloc: Global, key: StanzaKey, offer: &Offer) -> Result<Vec<u8>, AllocError> {
-    let mut words = Vec::new(alloc);
-    let stanza = format!(in alloc; "{}.{} ", key.list, key.stanza)?;
-    let version = version_words(offer.version());
-    append_all(
-        &[stanza.as_bytes(), offer.name(), b" ", version],
-        &mut words,
-    )?;
-    Ok(words)
+fn offer_words(alloc: Global, key: StanzaKey, offer: &Offer) -> Result<Vec<u8>, &'static str> {
+    let mut said = Said::new(alloc);
+    said.key(b"", key);
+    said.all(&[b" ", offer.name(), b" ", version_words(offer.version())]);
+    said.into_bytes()
 }
 
 /// The words of each offer of a name.
-fn offers_of(alloc: Global, cache: &Cache, name: &[u8]) -> Result<Vec<Vec<u8>>, AllocError>
+fn offers_of(alloc: Global, cache: &Cache, name: &[u8]) -> Result<Vec<Vec<u8>>, &'static str>
     requires { cache.now.stale ≡ false }
 {
     let mut offers = Vec::new(alloc);
     for (key, offer) in cache.offers(name) {
-        offers.push(offer_words(alloc, key, offer)?)?;
+        let words = offer_words(alloc, key, offer)?;
+        if offers.push(words).is_err() {
+            return Err(OUT_OF_MEMORY);
+        }
     }
     Ok(offers)
 }
 
-/// The offers of a name, in the order of their words, each with a semicolon behind it.
-pub fn append_offers(
-    alloc: Global,
-    cache: &Cache,
-    name: &[u8],
-    all: &mut Vec<u8>,
-) -> Result<(), AllocError>
-    requires { cache.now.stale ≡ false }
-{
-    let mut offers = offers_of(alloc, cache, name)?;
+/// Words in their order, each with a semicolon behind it.
+fn say_in_order(mut offers: Vec<Vec<u8>>, said: &mut Said) {
     offers.sort_unstable();
     for words in &offers {
-        append_all(&[words, b";"], all)?;
+        said.all(&[words, b";"]);
     }
-    Ok(())
 }
 
-/// Atoms in the order of their keys, each with a semicolon behind it.
-pub fn append_atoms(
-    alloc: Global,
-    namers: Namers<'_>,
-    all: &mut Vec<u8>,
-) -> Result<(), AllocError> {
-    let mut atoms: Vec<AtomKey> = namers.collect(alloc)?;
+/// The offers of a name, in the order of their words, each with a semicolon behind it.
+pub fn say_offers(alloc: Global, cache: &Cache, name: &[u8], said: &mut Said)
+    requires { cache.now.stale ≡ false }
+{
+    match offers_of(alloc, cache, name) {
+        Ok(offers) => say_in_order(offers, said),
+        Err(why) => said.fail(why),
+    }
+}
+
+fn say_atom_keys(mut atoms: Vec<AtomKey>, said: &mut Said) {
     atoms.sort_unstable();
     for key in &atoms {
-        append_atom(alloc, *key, all)?;
-        all.push(b';')?;
+        say_clause(key.stanza, key.field, key.group, said);
+        said.number(b" ", key.atom as u128);
+        said.add(b";");
     }
-    Ok(())
+}
+
+/// Atoms in the order of their keys, each with a semicolon behind it: its clause, and its place in the group.
+pub fn say_atoms(alloc: Global, namers: Namers<'_>, said: &mut Said) {
+    let collected: Result<Vec<AtomKey>, AllocError> = namers.collect(alloc);
+    match collected {
+        Ok(atoms) => say_atom_keys(atoms, said),
+        Err(_) => said.fail(OUT_OF_MEMORY),
+    }
 }
 
 /// The atoms that name a name.
-pub fn append_namers(
-    alloc: Global,
-    cache: &Cache,
-    name: &[u8],
-    all: &mut Vec<u8>,
-) -> Result<(), AllocError>
+pub fn say_namers(alloc: Global, cache: &Cache, name: &[u8], said: &mut Said)
     requires { cache.now.stale ≡ false }
 {
-    append_atoms(alloc, cache.namers(name), all)
+    say_atoms(alloc, cache.namers(name), said);
 }
 
 /// Each clause with its number, in order, each with a semicolon behind it.
-pub fn append_counters(alloc: Global, cache: &Cache, all: &mut Vec<u8>) -> Result<(), AllocError>
+pub fn say_counters(cache: &Cache, said: &mut Said)
     requires { cache.now.stale ≡ false }
 {
     for (key, number) in cache.counters() {
-        append_clause(alloc, *key, all)?;
-        let told = format!(in alloc; ": {number};")?;
-        all.extend_from_slice(told.as_bytes())?;
+        say_clause(key.stanza, key.field, key.group, said);
+        said.number(b": ", *number);
+        said.add(b";");
     }
-    Ok(())
 }
 
 /// The clauses that no offer meets, in order, each with a semicolon behind it.
-pub fn append_unmet(alloc: Global, cache: &Cache, all: &mut Vec<u8>) -> Result<(), AllocError>
+pub fn say_unmet(cache: &Cache, said: &mut Said)
     requires { cache.now.stale ≡ false }
 {
     for key in cache.unmet_clauses() {
-        append_clause(alloc, key, all)?;
-        all.push(b';')?;
+        say_clause(key.stanza, key.field, key.group, said);
+        said.add(b";");
     }
-    Ok(())
 }
 
 /// The number of a clause, or that there is none.
-pub fn append_satisfiers(
-    alloc: Global,
-    cache: &Cache,
-    clause: ClauseKey,
-    all: &mut Vec<u8>,
-) -> Result<(), AllocError>
+pub fn say_satisfiers(cache: &Cache, clause: ClauseKey, said: &mut Said)
     requires { cache.now.stale ≡ false }
 {
     match cache.counters().get(&clause) {
-        Some(_) => {
-            let told = format!(in alloc; "{}", cache.satisfiers(clause))?;
-            all.extend_from_slice(told.as_bytes())
-        }
-        None => all.extend_from_slice(b"no clause"),
+        Some(_) => said.number(b"", cache.satisfiers(clause)),
+        None => said.add(b"no clause"),
     }
 }
 
-fn append_by_name(
-    alloc: Global,
-    cache: &Cache,
-    name: &[u8],
-    all: &mut Vec<u8>,
-) -> Result<(), AllocError>
+fn say_by_name(alloc: Global, cache: &Cache, said: &mut Said)
     requires { cache.now.stale ≡ false }
 {
-    append_all(&[name, b":"], all)?;
-    append_offers(alloc, cache, name, all)?;
-    append_namers(alloc, cache, name, all)?;
-    all.push(b'\n')?;
-    Ok(())
+    for name in cache.names() {
+        said.all(&[name, b":"]);
+        say_offers(alloc, cache, name, said);
+        say_namers(alloc, cache, name, said);
+        said.add(b"\n");
+    }
 }
 
 /// All that the tables of a cache tell: a line for each name that is known, with its offers and the atoms that name it; a line of the
 /// clauses with their numbers; and a line of those that no offer meets.
-pub fn tables(alloc: Global, cache: &Cache) -> Result<Vec<u8>, AllocError>
+pub fn say_tables(alloc: Global, cache: &Cache, said: &mut Said)
     requires { cache.now.stale ≡ false }
 {
-    let mut all = Vec::new(alloc);
-    for name in cache.names() {
-        append_by_name(alloc, cache, name, &mut all)?;
-    }
-    append_counters(alloc, cache, &mut all)?;
-    all.push(b'\n')?;
-    append_unmet(alloc, cache, &mut all)?;
-    all.push(b'\n')?;
-    Ok(all)
+    say_by_name(alloc, cache, said);
+    say_counters(cache, said);
+    said.add(b"\n");
+    say_unmet(cache, said);
+    said.add(b"\n");
 }

@@ -3,224 +3,140 @@
 ghost use Rattle.std.specs.Prelude.{◌≡◌, false};
 
 use crate::calls::cache_rows::{
-    append_all_rows, append_candidates, append_chosen, append_known, append_lead_of,
-    append_name_view, append_names_with_rows, append_row_of, append_rows,
+    say_all_rows, say_candidates, say_chosen, say_known, say_lead_of, say_name_view,
+    say_names_with_rows, say_row_of, say_rows,
 };
 use crate::calls::cache_tables::{
-    append_counters, append_namers, append_names, append_offers, append_packages,
-    append_satisfiers, append_unmet, tables,
+    say_counters, say_namers, say_names, say_offers, say_packages, say_satisfiers, say_tables,
+    say_unmet,
 };
 use crate::calls::keys::{atom_sign, clause_key, clause_sign};
-use crate::calls::store_views::append_numbers;
+use crate::calls::store_views::say_numbers;
 use crate::edits::edit_named;
+use crate::said::{OUT_OF_MEMORY, Said};
 use crate::words::Words;
-use anyhow::{Result, bail};
 use ctl_index::Cache;
 use ctl_store::Edit;
-use std::alloc::{AllocError, Global};
-
-fn append_count(
-    alloc: Global,
-    before: u128,
-    after: u128,
-    said: &mut Vec<u8>,
-) -> Result<(), AllocError> {
-    let told = format!(in alloc; "+{}", after.saturating_sub(before))?;
-    said.extend_from_slice(told.as_bytes())
-}
+use std::alloc::Global;
 
 // Makes an edit: how many tests it took, behind why it is refused if it is.
-fn append_made(
-    alloc: Global,
-    cache: &mut Cache,
-    edit: Edit,
-    said: &mut Vec<u8>,
-) -> Result<(), AllocError>
+fn say_made(cache: &mut Cache, edit: Edit, said: &mut Said)
     requires { cache.old.stale ≡ false }
 {
     let before = cache.steps();
     if let Err(why) = cache.apply(edit) {
-        said.extend_from_slice(why.text().as_bytes())?;
-        said.push(b' ')?;
+        said.all(&[why.text().as_bytes(), b" "]);
     }
-    append_count(alloc, before, cache.steps(), said)
+    said.number(b"+", cache.steps().saturating_sub(before));
 }
 
-fn append_recovered(
-    alloc: Global,
-    cache: &mut Cache,
-    said: &mut Vec<u8>,
-) -> Result<(), AllocError> {
+fn say_recovered(cache: &mut Cache, said: &mut Said) {
     let before = cache.steps();
-    cache.recover()?;
-    append_count(alloc, before, cache.steps(), said)
-}
-
-fn append_tables(alloc: Global, cache: &Cache, said: &mut Vec<u8>) -> Result<(), AllocError>
-    requires { cache.now.stale ≡ false }
-{
-    let text = tables(alloc, cache)?;
-    said.extend_from_slice(&text)
-}
-
-fn append_steps(alloc: Global, cache: &Cache, said: &mut Vec<u8>) -> Result<(), AllocError> {
-    let told = format!(in alloc; "{}", cache.steps())?;
-    said.extend_from_slice(told.as_bytes())
+    if cache.recover().is_err() {
+        said.fail(OUT_OF_MEMORY);
+    }
+    said.number(b"+", cache.steps().saturating_sub(before));
 }
 
 // What stands under a name.
-fn append_view_of(
-    alloc: Global,
-    cache: &Cache,
-    view: &str,
-    name: &[u8],
-    said: &mut Vec<u8>,
-) -> Result<()>
+fn say_view_of(alloc: Global, cache: &Cache, view: &str, name: &[u8], said: &mut Said)
     requires { cache.now.stale ≡ false }
 {
     match view {
-        "packages" => Ok(append_packages(cache, name, said)?),
-        "offers" => Ok(append_offers(alloc, cache, name, said)?),
-        "namers" => Ok(append_namers(alloc, cache, name, said)?),
-        "rows" => Ok(append_rows(alloc, cache, name, said)?),
-        "name" => Ok(append_name_view(alloc, cache, name, said)?),
-        "chosen" => Ok(append_chosen(alloc, cache, name, said)?),
-        "known" => Ok(append_known(cache, name, said)?),
-        _ => bail!("a view of caches that is not known"),
+        "packages" => say_packages(cache, name, said),
+        "offers" => say_offers(alloc, cache, name, said),
+        "namers" => say_namers(alloc, cache, name, said),
+        "rows" => say_rows(cache, name, said),
+        "name" => say_name_view(alloc, cache, name, said),
+        "chosen" => say_chosen(cache, name, said),
+        "known" => say_known(cache, name, said),
+        _ => said.fail("a view of caches that is not known"),
     }
 }
 
-fn append_named_view(
-    alloc: Global,
-    cache: &Cache,
-    view: &str,
-    words: &mut Words<'_>,
-    said: &mut Vec<u8>,
-) -> Result<()>
+fn say_named_view(cache: &Cache, view: &str, words: &mut Words<'_>, said: &mut Said)
     requires { cache.now.stale ≡ false }
 {
-    let name = words.bytes()?;
-    append_view_of(alloc, cache, view, name.as_slice(), said)
+    let name = words.bytes();
+    say_view_of(words.alloc(), cache, view, name.as_slice(), said);
 }
 
-fn append_lead(
-    alloc: Global,
-    cache: &Cache,
-    words: &mut Words<'_>,
-    said: &mut Vec<u8>,
-) -> Result<()>
+fn say_lead(cache: &Cache, words: &mut Words<'_>, said: &mut Said)
     requires { cache.now.stale ≡ false }
 {
-    let name = words.bytes()?;
-    let version = words.version()?;
-    Ok(append_lead_of(alloc, cache, name.as_slice(), &version, said)?)
+    let name = words.bytes();
+    if let Some(version) = words.version() {
+        say_lead_of(cache, name.as_slice(), &version, said);
+    }
 }
 
-fn append_row(alloc: Global, cache: &Cache, words: &mut Words<'_>, said: &mut Vec<u8>) -> Result<()>
+fn say_row(cache: &Cache, words: &mut Words<'_>, said: &mut Said)
     requires { cache.now.stale ≡ false }
 {
-    let name = words.bytes()?;
-    let version = words.version()?;
-    Ok(append_row_of(alloc, cache, name.as_slice(), &version, said)?)
-}
-
-fn append_number_of_clause(
-    alloc: Global,
-    cache: &Cache,
-    words: &mut Words<'_>,
-    said: &mut Vec<u8>,
-) -> Result<()>
-    requires { cache.now.stale ≡ false }
-{
-    let clause = clause_key(words)?;
-    Ok(append_satisfiers(alloc, cache, clause, said)?)
+    let name = words.bytes();
+    if let Some(version) = words.version() {
+        say_row_of(cache, name.as_slice(), &version, said);
+    }
 }
 
 // What is asked of a cache with a word behind.
-fn append_asked(
-    alloc: Global,
-    cache: &Cache,
-    view: &str,
-    words: &mut Words<'_>,
-    said: &mut Vec<u8>,
-) -> Result<()>
+fn say_asked(cache: &Cache, view: &str, words: &mut Words<'_>, said: &mut Said)
     requires { cache.now.stale ≡ false }
 {
     match view {
-        "satisfiers" => append_number_of_clause(alloc, cache, words, said),
-        "lead" => append_lead(alloc, cache, words, said),
-        "row" => append_row(alloc, cache, words, said),
-        _ => append_named_view(alloc, cache, view, words, said),
+        "satisfiers" => say_satisfiers(cache, clause_key(words), said),
+        "lead" => say_lead(cache, words, said),
+        "row" => say_row(cache, words, said),
+        _ => say_named_view(cache, view, words, said),
     }
 }
 
 // Something of what a cache tells.
-fn append_view(
-    alloc: Global,
-    cache: &Cache,
-    words: &mut Words<'_>,
-    said: &mut Vec<u8>,
-) -> Result<()>
+fn say_view(cache: &Cache, words: &mut Words<'_>, said: &mut Said)
     requires { cache.now.stale ≡ false }
 {
-    match words.word()? {
-        "names" => Ok(append_names(cache, said)?),
-        "counters" => Ok(append_counters(alloc, cache, said)?),
-        "unmet" => Ok(append_unmet(alloc, cache, said)?),
-        "tables" => Ok(append_tables(alloc, cache, said)?),
-        "all-rows" => Ok(append_all_rows(alloc, cache, said)?),
-        "candidates" => Ok(append_candidates(alloc, cache, said)?),
-        "names-with-rows" => Ok(append_names_with_rows(cache, said)?),
-        "steps" => Ok(append_steps(alloc, cache, said)?),
-        "numbers" => Ok(append_numbers(alloc, cache.store(), said)?),
-        view => append_asked(alloc, cache, view, words, said),
+    match words.word() {
+        "names" => say_names(cache, said),
+        "counters" => say_counters(cache, said),
+        "unmet" => say_unmet(cache, said),
+        "tables" => say_tables(words.alloc(), cache, said),
+        "all-rows" => say_all_rows(cache, said),
+        "candidates" => say_candidates(cache, said),
+        "names-with-rows" => say_names_with_rows(cache, said),
+        "steps" => said.number(b"", cache.steps()),
+        "numbers" => say_numbers(cache.store(), said),
+        view => say_asked(cache, view, words, said),
     }
 }
 
-fn append_edited(
-    alloc: Global,
-    cache: &mut Cache,
-    word: &str,
-    words: &mut Words<'_>,
-    said: &mut Vec<u8>,
-) -> Result<()>
+fn say_edited(cache: &mut Cache, word: &str, words: &mut Words<'_>, said: &mut Said)
     requires { cache.old.stale ≡ false }
 {
-    let edit = edit_named(alloc, word, words)?;
-    Ok(append_made(alloc, cache, edit, said)?)
+    if let Some(edit) = edit_named(words, word) {
+        say_made(cache, edit, said);
+    }
 }
 
-fn append_fresh(
-    alloc: Global,
-    cache: &mut Cache,
-    word: &str,
-    words: &mut Words<'_>,
-    said: &mut Vec<u8>,
-) -> Result<()> {
+fn say_fresh(cache: &mut Cache, word: &str, words: &mut Words<'_>, said: &mut Said) {
     if cache.is_stale() {
-        bail!("a stale cache");
-    }
-    match word {
-        "show" => append_view(alloc, cache, words, said),
-        _ => append_edited(alloc, cache, word, words, said),
+        said.fail("a stale cache");
+    } else if word == "show" {
+        say_view(cache, words, said);
+    } else {
+        say_edited(cache, word, words, said);
     }
 }
 
 // Begins with a new cache.
-fn begin(alloc: Global, cache: &mut Cache, said: &mut Vec<u8>) -> Result<(), AllocError> {
-    *cache = Cache::new(alloc);
-    append_numbers(alloc, cache.store(), said)
+fn begin(cache: &mut Cache, words: &Words<'_>, said: &mut Said) {
+    *cache = Cache::new(words.alloc());
+    say_numbers(cache.store(), said);
 }
 
-fn begin_limited(
-    alloc: Global,
-    cache: &mut Cache,
-    words: &mut Words<'_>,
-    said: &mut Vec<u8>,
-) -> Result<()> {
-    let limits = words.limits()?;
-    *cache = Cache::with_limits(alloc, limits);
-    Ok(append_numbers(alloc, cache.store(), said)?)
+fn begin_limited(cache: &mut Cache, words: &mut Words<'_>, said: &mut Said) {
+    let limits = words.limits();
+    *cache = Cache::with_limits(words.alloc(), limits);
+    say_numbers(cache.store(), said);
 }
 
 /// What a call gives that is asked for by words:
@@ -231,18 +147,13 @@ fn begin_limited(
 ///   all of these; `rows`, `name`, `chosen` and `known` of a name, `all-rows`, `names-with-rows`, `candidates`; `row` and `lead` of a name
 ///   and a version; `steps`, and the `numbers` of the store;
 /// - `clause-sign`, `atom-sign`, two keys: how they are ordered.
-pub fn append_call(
-    alloc: Global,
-    cache: &mut Cache,
-    words: &mut Words<'_>,
-    said: &mut Vec<u8>,
-) -> Result<()> {
-    match words.word()? {
-        "new" => Ok(begin(alloc, cache, said)?),
-        "limits" => begin_limited(alloc, cache, words, said),
-        "recover" => Ok(append_recovered(alloc, cache, said)?),
-        "clause-sign" => Ok(said.extend_from_slice(clause_sign(words)?)?),
-        "atom-sign" => Ok(said.extend_from_slice(atom_sign(words)?)?),
-        word => append_fresh(alloc, cache, word, words, said),
+pub fn say_call(cache: &mut Cache, words: &mut Words<'_>, said: &mut Said) {
+    match words.word() {
+        "new" => begin(cache, words, said),
+        "limits" => begin_limited(cache, words, said),
+        "recover" => say_recovered(cache, said),
+        "clause-sign" => said.add(clause_sign(words)),
+        "atom-sign" => said.add(atom_sign(words)),
+        word => say_fresh(cache, word, words, said),
     }
 }

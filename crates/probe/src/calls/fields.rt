@@ -2,42 +2,30 @@
 
 use crate::calls::names::offer_of;
 use crate::calls::versions::sign_of;
-use crate::joined::append_all;
-use crate::relations::{fault_name, kind_named};
+use crate::relations::fault_name;
+use crate::said::Said;
 use crate::words::Words;
-use anyhow::{Context, Result, bail};
 use ctl_relation::{
     Atom, FieldKind, Group, Groups, Operator, Relations, Steps, parse_relations, read_places,
 };
-use std::alloc::{AllocError, Global};
 use std::cmp::Ordering;
 
 // Groups in their printed form, a line for each.
-fn append_printed(groups: Groups<'_>, said: &mut Vec<u8>) -> Result<(), AllocError> {
+fn say_printed(groups: Groups<'_>, said: &mut Said) {
     for group in groups {
-        group.append_to(said)?;
-        said.push(b'\n')?;
+        said.group(&group);
+        said.add(b"\n");
     }
-    Ok(())
 }
 
 // The groups of a field, or its fault.
-fn append_read(
-    alloc: Global,
-    kind: FieldKind,
-    body: &[u8],
-    said: &mut Vec<u8>,
-) -> Result<(), AllocError> {
-    match parse_relations(alloc, body, kind) {
-        Ok(relations) => append_printed(relations.groups(), said),
-        Err(fault) => { append_all(&[b"fault ", fault_name(fault)], said) }
+fn say_read(words: &mut Words<'_>, said: &mut Said) {
+    let kind = words.field_kind();
+    let body = words.bytes();
+    match parse_relations(words.alloc(), body.as_slice(), kind) {
+        Ok(relations) => say_printed(relations.groups(), said),
+        Err(fault) => said.all(&[b"fault ", fault_name(fault)]),
     }
-}
-
-fn append_read_of(alloc: Global, words: &mut Words<'_>, said: &mut Vec<u8>) -> Result<()> {
-    let kind = words.field_kind()?;
-    let body = words.bytes()?;
-    Ok(append_read(alloc, kind, body.as_slice(), said)?)
 }
 
 // The only atom of a field with one.
@@ -50,197 +38,181 @@ fn lone_atom<'a>(relations: &'a Relations<'_>) -> Option<Atom<'a>> {
     group.get(0)
 }
 
-fn append_word(word: &[u8], said: &mut Vec<u8>) -> Result<(), AllocError> {
-    append_all(&[b"[", word, b"]"], said)
+fn say_word(word: &[u8], said: &mut Said) {
+    said.all(&[b"[", word, b"]"]);
 }
 
 // The name, the qualifier, the operator and the version of an atom, each in brackets.
-fn append_parts(atom: &Atom<'_>, said: &mut Vec<u8>) -> Result<(), AllocError> {
-    append_word(atom.name(), said)?;
+fn say_parts(atom: &Atom<'_>, said: &mut Said) {
+    say_word(atom.name(), said);
     if let Some(qualifier) = atom.qualifier() {
-        append_word(qualifier, said)?;
+        say_word(qualifier, said);
     }
     if let Some((operator, version)) = atom.bound() {
-        append_word(operator.text(), said)?;
-        append_word(version, said)?;
+        say_word(operator.text(), said);
+        say_word(version, said);
     }
-    Ok(())
-}
-
-// An atom that is made of the parts of another, in its printed form.
-fn append_made(atom: &Atom<'_>, said: &mut Vec<u8>) -> Result<(), AllocError> {
-    Atom::new(atom.name(), atom.qualifier(), atom.bound()).append_to(said)
 }
 
 // The name of a field, and behind it an atom in its printed form.
-fn append_printed_behind(
-    kind: FieldKind,
-    atom: &Atom<'_>,
-    said: &mut Vec<u8>,
-) -> Result<(), AllocError> {
-    append_all(&[kind.printed_name(), b": "], said)?;
-    atom.append_to(said)
+fn say_printed_atom(kind: FieldKind, atom: &Atom<'_>, said: &mut Said) {
+    said.all(&[kind.printed_name(), b": "]);
+    said.atom(atom);
 }
 
-// Something of an atom of a field.
-fn append_of_atom(
-    kind: FieldKind,
-    what: &str,
-    atom: &Atom<'_>,
-    said: &mut Vec<u8>,
-) -> Result<(), AllocError> {
+// An atom that is made of the parts of another, in its printed form.
+fn say_made(atom: &Atom<'_>, said: &mut Said) {
+    said.atom(&Atom::new(atom.name(), atom.qualifier(), atom.bound()));
+}
+
+// Something of an atom of a field: its parts, its printed form behind the field's name, or that of an atom made of the parts.
+fn say_of_atom(kind: FieldKind, what: &str, atom: &Atom<'_>, said: &mut Said) {
     match what {
-        "parts" => append_parts(atom, said),
-        "printed" => append_printed_behind(kind, atom, said),
-        _ => append_made(atom, said),
+        "parts" => say_parts(atom, said),
+        "printed" => say_printed_atom(kind, atom, said),
+        "made" => say_made(atom, said),
+        _ => said.fail("a call of fields that is not known"),
     }
 }
 
-// Something of the only atom of a field.
-fn append_atom(alloc: Global, what: &str, words: &mut Words<'_>, said: &mut Vec<u8>) -> Result<()> {
-    let kind = words.field_kind()?;
-    let body = words.bytes()?;
-    let Ok(relations) = parse_relations(alloc, body.as_slice(), kind) else {
-        bail!("a field with a fault");
-    };
-    let atom = lone_atom(&relations).context("not one atom")?;
-    Ok(append_of_atom(kind, what, &atom, said)?)
+// Whether an offer meets the only atom of a field.
+fn is_met(words: &mut Words<'_>, steps: &mut Steps) -> Option<bool> {
+    let body = words.bytes();
+    let offer = offer_of(words)?;
+    match parse_relations(words.alloc(), body.as_slice(), FieldKind::Depends) {
+        Ok(relations) => Some(lone_atom(&relations)?.met_by(&offer, steps)),
+        Err(_) => None,
+    }
 }
 
-// Whether an offer meets the only atom of a field.
-fn is_met(alloc: Global, words: &mut Words<'_>, steps: &mut Steps) -> Result<bool> {
-    let body = words.bytes()?;
-    let offer = offer_of(alloc, words)?;
-    let Ok(relations) = parse_relations(alloc, body.as_slice(), FieldKind::Depends) else {
-        bail!("a field with a fault");
-    };
-    let atom = lone_atom(&relations).context("not one atom")?;
-    Ok(atom.met_by(&offer, steps))
+fn say_is_met(words: &mut Words<'_>, steps: &mut Steps, said: &mut Said) {
+    match is_met(words, steps) {
+        Some(true) => said.add(b"met, "),
+        Some(false) => said.add(b"not met, "),
+        None => said.fail("a field that isn't one atom"),
+    }
 }
 
 // For each field and offer whether it meets the atom, and the count of tests.
-fn append_met(alloc: Global, words: &mut Words<'_>, said: &mut Vec<u8>) -> Result<()> {
+fn say_met(words: &mut Words<'_>, said: &mut Said) {
     let mut steps = Steps::new();
     for _ in 0..u64::MAX {
         if words.is_over() {
             break;
         }
-        let is_met = is_met(alloc, words, &mut steps)?;
-        said.extend_from_slice(if is_met { b"met, " } else { b"not met, " })?;
+        say_is_met(words, &mut steps, said);
     }
-    let told = format!(in alloc; "{} tests", steps.count())?;
-    said.extend_from_slice(told.as_bytes())?;
-    Ok(())
+    said.number(b"", steps.count());
+    said.add(b" tests");
 }
 
 // The names of the atoms, each group behind a semicolon.
-fn append_names(groups: Groups<'_>, said: &mut Vec<u8>) -> Result<(), AllocError> {
+fn say_names(groups: Groups<'_>, said: &mut Said) {
     for group in groups {
-        said.push(b';')?;
+        said.add(b";");
         for atom in group.atoms() {
-            said.extend_from_slice(atom.name())?;
+            said.add(atom.name());
         }
     }
-    Ok(())
 }
 
 // How many groups there are by each call, and the names of their atoms.
-fn append_groups(alloc: Global, groups: Groups<'_>, said: &mut Vec<u8>) -> Result<(), AllocError> {
+fn say_groups(groups: Groups<'_>, said: &mut Said) {
     let (least, most) = groups.size_hint();
-    let count = groups.len();
-    let are_there = if groups.is_empty() { "none" } else { "some" };
-    let most = most.unwrap_or(0);
-    let told = format!(in alloc; "{count} groups, {are_there}, from {least} to {most}")?;
-    said.extend_from_slice(told.as_bytes())?;
-    append_names(groups, said)
+    said.number(b"", groups.len() as u128);
+    said.add(if groups.is_empty() {
+        b" groups, none"
+    } else {
+        b" groups, some"
+    });
+    said.number(b", from ", least as u128);
+    said.number(b" to ", most.unwrap_or(0) as u128);
+    say_names(groups, said);
 }
 
 // The names of the atoms by their numbers, up to the first that isn't there.
-fn append_numbered_atoms(group: &Group<'_>, said: &mut Vec<u8>) -> Result<(), AllocError> {
+fn say_numbered_atoms(group: &Group<'_>, said: &mut Said) {
     for j in 0..group.len().saturating_add(1) {
         match group.get(j) {
-            Some(atom) => said.extend_from_slice(atom.name())?,
-            None => said.push(b'.')?,
+            Some(atom) => said.add(atom.name()),
+            None => said.add(b"."),
         }
     }
-    Ok(())
 }
 
 // The same of the groups.
-fn append_numbered(groups: Groups<'_>, said: &mut Vec<u8>) -> Result<(), AllocError> {
+fn say_numbered(groups: Groups<'_>, said: &mut Said) {
     for i in 0..groups.len().saturating_add(1) {
         match groups.get(i) {
-            Some(group) => append_numbered_atoms(&group, said)?,
-            None => said.push(b'!')?,
+            Some(group) => say_numbered_atoms(&group, said),
+            None => said.add(b"!"),
         }
     }
-    Ok(())
+}
+
+fn say_truth(holds: bool, said: &mut Said) {
+    said.add(if holds { b"+" } else { b"-" });
 }
 
 // Whether an atom of a field has a name, and then for each group whether one of its atoms has.
-fn append_named(
-    relations: &Relations<'_>,
-    name: &[u8],
-    said: &mut Vec<u8>,
-) -> Result<(), AllocError> {
-    let is_named = relations.groups().have_name(name);
-    said.push(if is_named { b'+' } else { b'-' })?;
-    for group in relations.groups() {
-        said.push(if group.has_name(name) { b'+' } else { b'-' })?;
+fn say_named(groups: Groups<'_>, name: &[u8], said: &mut Said) {
+    say_truth(groups.have_name(name), said);
+    for group in groups {
+        say_truth(group.has_name(name), said);
     }
-    Ok(())
 }
 
-// The groups of a field, or these by their numbers.
-fn append_field(
-    alloc: Global,
+// Something of the only atom of a field.
+fn say_atom(kind: FieldKind, what: &str, relations: &Relations<'_>, said: &mut Said) {
+    match lone_atom(relations) {
+        Some(atom) => say_of_atom(kind, what, &atom, said),
+        None => said.fail("not one atom"),
+    }
+}
+
+// Something of a field that is read.
+fn say_of_field(
+    kind: FieldKind,
     what: &str,
+    relations: &Relations<'_>,
     words: &mut Words<'_>,
-    said: &mut Vec<u8>,
-) -> Result<()> {
-    let kind = words.field_kind()?;
-    let body = words.bytes()?;
-    let Ok(relations) = parse_relations(alloc, body.as_slice(), kind) else {
-        bail!("a field with a fault");
-    };
-    let groups = relations.groups();
-    if what == "groups" {
-        append_groups(alloc, groups, said)?;
-    } else {
-        append_numbered(groups, said)?;
+    said: &mut Said,
+) {
+    match what {
+        "groups" => say_groups(relations.groups(), said),
+        "numbered" => say_numbered(relations.groups(), said),
+        "named" => say_named(relations.groups(), words.bytes().as_slice(), said),
+        _ => say_atom(kind, what, relations, said),
     }
-    Ok(())
 }
 
-// Which groups of a field have a name.
-fn append_having(alloc: Global, words: &mut Words<'_>, said: &mut Vec<u8>) -> Result<()> {
-    let kind = words.field_kind()?;
-    let body = words.bytes()?;
-    let name = words.bytes()?;
-    let Ok(relations) = parse_relations(alloc, body.as_slice(), kind) else {
-        bail!("a field with a fault");
-    };
-    Ok(append_named(&relations, name.as_slice(), said)?)
+fn say_field(what: &str, words: &mut Words<'_>, said: &mut Said) {
+    let kind = words.field_kind();
+    let body = words.bytes();
+    match parse_relations(words.alloc(), body.as_slice(), kind) {
+        Ok(relations) => say_of_field(kind, what, &relations, words, said),
+        Err(_) => said.fail("a field with a fault"),
+    }
 }
 
 // The field of places that are kept of a body, and the names of the atoms that stand at them.
-fn append_places(alloc: Global, words: &mut Words<'_>, said: &mut Vec<u8>) -> Result<()> {
-    let kind = words.field_kind()?;
-    let body = words.bytes()?;
-    let Ok(places) = read_places(alloc, body.as_slice(), kind) else {
-        bail!("a field with a fault");
-    };
-    said.extend_from_slice(places.kind().printed_name())?;
-    append_names(places.groups(body.as_slice()), said)?;
-    Ok(())
+fn say_places(words: &mut Words<'_>, said: &mut Said) {
+    let kind = words.field_kind();
+    let body = words.bytes();
+    match read_places(words.alloc(), body.as_slice(), kind) {
+        Ok(places) => {
+            said.add(places.kind().printed_name());
+            say_names(places.groups(body.as_slice()), said);
+        }
+        Err(_) => said.fail("a field with a fault"),
+    }
 }
 
 // Fields, with the key and the printed name of each, on a line.
-fn append_fields(fields: &[FieldKind], said: &mut Vec<u8>) -> Result<(), AllocError> {
+fn say_fields(fields: &[FieldKind], said: &mut Said) {
     for field in fields {
-        append_all(&[field.key(), b" ", field.printed_name(), b"\n"], said)?;
+        said.all(&[field.key(), b" ", field.printed_name(), b"\n"]);
     }
-    Ok(())
 }
 
 // The sign between two fields, or `?` where the calls that compare them don't agree.
@@ -254,36 +226,21 @@ fn sign(one: FieldKind, other: FieldKind) -> &'static [u8] {
 }
 
 // The signs of each of the nine fields with all of them, those of each behind a space.
-fn append_signs(said: &mut Vec<u8>) -> Result<(), AllocError> {
+fn say_signs(said: &mut Said) {
     for one in FieldKind::nine() {
-        said.push(b' ')?;
+        said.add(b" ");
         for other in FieldKind::nine() {
-            said.extend_from_slice(sign(*one, *other))?;
+            said.add(sign(*one, *other));
         }
     }
-    Ok(())
 }
 
-fn append_operators(said: &mut Vec<u8>) -> Result<(), AllocError> {
-    for operator in [
-        Operator::Earlier,
-        Operator::EarlierOrEqual,
-        Operator::Equal,
-        Operator::LaterOrEqual,
-        Operator::Later,
-    ] {
-        append_word(operator.text(), said)?;
-    }
-    Ok(())
-}
-
-// Fields by the name of their group.
-fn append_fields_named(what: &str, said: &mut Vec<u8>) -> Result<(), AllocError> {
-    match what {
-        "nine" => append_fields(FieldKind::nine(), said),
-        "eight" => append_fields(FieldKind::eight(), said),
-        _ => append_fields(FieldKind::four(), said),
-    }
+fn say_operators(said: &mut Said) {
+    say_word(Operator::Earlier.text(), said);
+    say_word(Operator::EarlierOrEqual.text(), said);
+    say_word(Operator::Equal.text(), said);
+    say_word(Operator::LaterOrEqual.text(), said);
+    say_word(Operator::Later.text(), said);
 }
 
 /// What a call gives that is asked for by words:
@@ -297,18 +254,17 @@ fn append_fields_named(what: &str, said: &mut Vec<u8>) -> Result<(), AllocError>
 /// - `places`, a field and its body: the field, and the names at its places;
 /// - `nine`, `eight`, `four`, `signs`: these fields, and how the nine are ordered;
 /// - `none`: how many groups none are; `operators`: the texts of all.
-pub fn append_call(alloc: Global, words: &mut Words<'_>, said: &mut Vec<u8>) -> Result<()> {
-    match words.word()? {
-        "read" => append_read_of(alloc, words, said),
-        "met" => append_met(alloc, words, said),
-        "places" => append_places(alloc, words, said),
-        what @ ("nine" | "eight" | "four") => Ok(append_fields_named(what, said)?),
-        "signs" => Ok(append_signs(said)?),
-        "none" => Ok(append_groups(alloc, Groups::empty(), said)?),
-        "operators" => Ok(append_operators(said)?),
-        what @ ("parts" | "printed" | "made") => append_atom(alloc, what, words, said),
-        what @ ("groups" | "numbered") => append_field(alloc, what, words, said),
-        "named" => append_having(alloc, words, said),
-        _ => bail!("a call of fields that is not known"),
+pub fn say_call(words: &mut Words<'_>, said: &mut Said) {
+    match words.word() {
+        "read" => say_read(words, said),
+        "met" => say_met(words, said),
+        "places" => say_places(words, said),
+        "nine" => say_fields(FieldKind::nine(), said),
+        "eight" => say_fields(FieldKind::eight(), said),
+        "four" => say_fields(FieldKind::four(), said),
+        "signs" => say_signs(said),
+        "none" => say_groups(Groups::empty(), said),
+        "operators" => say_operators(said),
+        what => say_field(what, words, said),
     }
 }

@@ -1,24 +1,35 @@
 //! Names, byte strings that are kept, and offers of names.
 
 use crate::calls::versions::sign_of;
+use crate::said::{OUT_OF_MEMORY, Said};
 use crate::words::Words;
-use anyhow::{Result, bail};
 use ctl_relation::{Bytes, Offer, is_name};
-use std::alloc::{AllocError, Global};
 use std::cmp::Ordering;
 
-fn append_is_name(text: &[u8], said: &mut Vec<u8>) -> Result<(), AllocError> {
-    said.extend_from_slice(if is_name(text) { b"a name" } else { b"no name" })
+fn say_is_name(words: &mut Words<'_>, said: &mut Said) {
+    let text = words.bytes();
+    said.add(if is_name(text.as_slice()) {
+        b"a name"
+    } else {
+        b"no name"
+    });
 }
 
 // Bytes that are kept: the bytes, the room that a vector of them has, and the bytes that it is kept to again.
-fn append_kept(alloc: Global, text: &[u8], said: &mut Vec<u8>) -> Result<(), AllocError> {
-    let bytes = Bytes::from_slice(alloc, text)?;
-    said.extend_from_slice(bytes.as_slice())?;
+fn say_kept(bytes: Bytes, said: &mut Said) {
+    said.add(bytes.as_slice());
     let vec = bytes.into_vec();
-    let told = format!(in alloc; " {} ", vec.capacity())?;
-    said.extend_from_slice(told.as_bytes())?;
-    said.extend_from_slice(Bytes::from_vec(vec).as_slice())
+    said.number(b" ", vec.capacity() as u128);
+    said.add(b" ");
+    said.add(Bytes::from_vec(vec).as_slice());
+}
+
+fn say_keep(words: &mut Words<'_>, said: &mut Said) {
+    let text = words.bytes();
+    match Bytes::from_slice(words.alloc(), text.as_slice()) {
+        Ok(bytes) => say_kept(bytes, said),
+        Err(_) => said.fail(OUT_OF_MEMORY),
+    }
 }
 
 // The sign between two byte strings, or `?` where the calls that compare them don't agree.
@@ -30,51 +41,45 @@ fn sign(one: &Bytes, other: &Bytes) -> &'static [u8] {
 }
 
 // The signs of each of some byte strings with all of them, those of each behind a space.
-fn append_signs(texts: &[Bytes], said: &mut Vec<u8>) -> Result<(), AllocError> {
+fn say_signs(texts: &[Bytes], said: &mut Said) {
     for one in texts {
-        said.push(b' ')?;
+        said.add(b" ");
         for other in texts {
-            said.extend_from_slice(sign(one, other))?;
+            said.add(sign(one, other));
         }
     }
-    Ok(())
+}
+
+fn say_signs_of(words: &mut Words<'_>, said: &mut Said) {
+    let texts = words.all_bytes();
+    say_signs(&texts, said);
 }
 
 // The name of an offer, and behind a space its version where it has one.
-fn append_parts(offer: &Offer, said: &mut Vec<u8>) -> Result<(), AllocError> {
-    said.extend_from_slice(offer.name())?;
+fn say_parts(offer: &Offer, said: &mut Said) {
+    said.add(offer.name());
     if let Some(version) = offer.version() {
-        said.push(b' ')?;
-        said.extend_from_slice(version.text())?;
+        said.all(&[b" ", version.text()]);
     }
-    Ok(())
 }
 
-/// The offer of a name, with a version or `-`.
-pub fn offer_of(alloc: Global, words: &mut Words<'_>) -> Result<Offer> {
-    let name = words.bytes()?;
-    let version = words.version_or_none()?;
-    Ok(Offer::new(alloc, name.as_slice(), version)?)
+/// The offer of a name, with a version or `-`; none where memory ran out.
+pub fn offer_of(words: &mut Words<'_>) -> Option<Offer> {
+    let name = words.bytes();
+    let version = words.version_or_none();
+    match Offer::new(words.alloc(), name.as_slice(), version) {
+        Ok(offer) => Some(offer),
+        Err(_) => {
+            words.fail(OUT_OF_MEMORY);
+            None
+        }
+    }
 }
 
-fn append_is_name_of(words: &mut Words<'_>, said: &mut Vec<u8>) -> Result<()> {
-    let text = words.bytes()?;
-    Ok(append_is_name(text.as_slice(), said)?)
-}
-
-fn append_kept_of(alloc: Global, words: &mut Words<'_>, said: &mut Vec<u8>) -> Result<()> {
-    let text = words.bytes()?;
-    Ok(append_kept(alloc, text.as_slice(), said)?)
-}
-
-fn append_signs_of(words: &mut Words<'_>, said: &mut Vec<u8>) -> Result<()> {
-    let texts = words.all_bytes()?;
-    Ok(append_signs(&texts, said)?)
-}
-
-fn append_offer(alloc: Global, words: &mut Words<'_>, said: &mut Vec<u8>) -> Result<()> {
-    let offer = offer_of(alloc, words)?;
-    Ok(append_parts(&offer, said)?)
+fn say_offer(words: &mut Words<'_>, said: &mut Said) {
+    if let Some(offer) = offer_of(words) {
+        say_parts(&offer, said);
+    }
 }
 
 /// What a call gives that is asked for by words:
@@ -83,12 +88,12 @@ fn append_offer(alloc: Global, words: &mut Words<'_>, said: &mut Vec<u8>) -> Res
 /// - `keep`, bytes: as they are kept, the room that a vector of them has, and as they are kept again;
 /// - `signs`, byte strings: `<`, `=` or `>` of each of them with all;
 /// - `offer`, a name, and a version or `-`: the parts of the offer.
-pub fn append_call(alloc: Global, words: &mut Words<'_>, said: &mut Vec<u8>) -> Result<()> {
-    match words.word()? {
-        "is-name" => append_is_name_of(words, said),
-        "keep" => append_kept_of(alloc, words, said),
-        "signs" => append_signs_of(words, said),
-        "offer" => append_offer(alloc, words, said),
-        _ => bail!("a call of names that is not known"),
+pub fn say_call(words: &mut Words<'_>, said: &mut Said) {
+    match words.word() {
+        "is-name" => say_is_name(words, said),
+        "keep" => say_keep(words, said),
+        "signs" => say_signs_of(words, said),
+        "offer" => say_offer(words, said),
+        _ => said.fail("a call of names that is not known"),
     }
 }

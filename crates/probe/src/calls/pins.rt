@@ -1,153 +1,132 @@
 //! What pins are made of: their versions, their priorities, preferences, and settings in order.
 
-use crate::calls::texts::append_fault;
+use crate::calls::texts::say_fault;
 use crate::edits::{pin_version, selector, setting, settings};
+use crate::said::{OUT_OF_MEMORY, Said};
 use crate::words::Words;
-use anyhow::{Result, bail};
 use ctl_stanza::lines_take_bytes;
 use ctl_store::{PinSetting, PinSettings, PinVersion, Selector, read_prefs, read_priority};
-use std::alloc::{AllocError, Global};
 
 // The text of a version of pins, or that there is none.
-fn append_version(alloc: Global, text: &[u8], said: &mut Vec<u8>) -> Result<(), AllocError> {
-    match PinVersion::read(alloc, text)? {
-        Some(version) => said.extend_from_slice(version.text()),
-        None => said.extend_from_slice(b"none"),
+fn say_version(words: &mut Words<'_>, said: &mut Said) {
+    let text = words.bytes();
+    match PinVersion::read(words.alloc(), text.as_slice()) {
+        Ok(Some(version)) => said.add(version.text()),
+        Ok(None) => said.add(b"none"),
+        Err(_) => said.fail(OUT_OF_MEMORY),
     }
 }
 
-fn append_version_of(alloc: Global, words: &mut Words<'_>, said: &mut Vec<u8>) -> Result<()> {
-    let text = words.bytes()?;
-    Ok(append_version(alloc, text.as_slice(), said)?)
+// Whether a version of pins matches the version that the next word gives.
+fn say_whether_matches(pin: &PinVersion, words: &mut Words<'_>, said: &mut Said) {
+    if let Some(version) = words.version() {
+        said.add(if pin.matches(&version) {
+            b"matches"
+        } else {
+            b"matches not"
+        });
+    }
 }
 
-// Whether a version of pins matches a version.
-fn append_matches(alloc: Global, words: &mut Words<'_>, said: &mut Vec<u8>) -> Result<()> {
-    let pin = pin_version(alloc, words)?;
-    let version = words.version()?;
-    said.extend_from_slice(if pin.matches(&version) {
-        b"matches"
-    } else {
-        b"matches not"
-    })?;
-    Ok(())
+fn say_matches(words: &mut Words<'_>, said: &mut Said) {
+    if let Some(pin) = pin_version(words) {
+        say_whether_matches(&pin, words, said);
+    }
 }
 
 /// A priority, or that there is none.
-pub fn append_priority(
-    alloc: Global,
-    priority: Option<i16>,
-    said: &mut Vec<u8>,
-) -> Result<(), AllocError> {
+pub fn say_priority(priority: Option<i16>, said: &mut Said) {
     match priority {
-        Some(priority) => {
-            let told = format!(in alloc; "{priority}")?;
-            said.extend_from_slice(told.as_bytes())
-        }
-        None => said.extend_from_slice(b"none"),
+        Some(priority) => said.priority(b"", priority),
+        None => said.add(b"none"),
     }
 }
 
-fn append_priority_of(alloc: Global, words: &mut Words<'_>, said: &mut Vec<u8>) -> Result<()> {
-    let text = words.bytes()?;
-    Ok(append_priority(alloc, read_priority(text.as_slice()), said)?)
+fn say_priority_of(words: &mut Words<'_>, said: &mut Said) {
+    let text = words.bytes();
+    say_priority(read_priority(text.as_slice()), said);
 }
 
-fn append_selector(selector: &Selector, said: &mut Vec<u8>) -> Result<(), AllocError> {
+fn say_selector(selector: &Selector, said: &mut Said) {
     match selector {
         Selector::Version { package, version } => {
-            said.extend_from_slice(package.as_slice())?;
-            said.extend_from_slice(b" version ")?;
-            said.extend_from_slice(version.text())
+            said.all(&[package.as_slice(), b" version ", version.text()])
         }
-        Selector::Release { package, list } => {
-            match package {
-                Some(package) => said.extend_from_slice(package.as_slice())?,
-                None => said.push(b'*')?,
-            }
-            said.extend_from_slice(b" release ")?;
-            said.extend_from_slice(list.as_slice())
-        }
+        Selector::Release {
+            package: Some(package),
+            list,
+        } => said.all(&[package.as_slice(), b" release ", list.as_slice()]),
+        Selector::Release {
+            package: None,
+            list,
+        } => said.all(&[b"* release ", list.as_slice()]),
     }
 }
 
 /// A pin setting, on a line.
-pub fn append_setting(
-    alloc: Global,
-    selector: &Selector,
-    priority: i16,
-    said: &mut Vec<u8>,
-) -> Result<(), AllocError> {
-    append_selector(selector, said)?;
-    let told = format!(in alloc; " {priority}\n")?;
-    said.extend_from_slice(told.as_bytes())
+pub fn say_setting(selector: &Selector, priority: i16, said: &mut Said) {
+    say_selector(selector, said);
+    said.priority(b" ", priority);
+    said.add(b"\n");
 }
 
-fn append_settings(
-    alloc: Global,
-    settings: &PinSettings,
-    said: &mut Vec<u8>,
-) -> Result<(), AllocError> {
+fn say_settings(settings: &PinSettings, said: &mut Said) {
     for (selector, priority) in settings.iter() {
-        append_setting(alloc, selector, priority, said)?;
+        say_setting(selector, priority, said);
     }
-    Ok(())
 }
 
 // Settings that are set in turn.
-fn append_set(alloc: Global, words: &mut Words<'_>, said: &mut Vec<u8>) -> Result<()> {
-    let settings = settings(alloc, words)?;
-    Ok(append_settings(alloc, &settings, said)?)
+fn say_set(words: &mut Words<'_>, said: &mut Said) {
+    let settings = settings(words);
+    say_settings(&settings, said);
 }
 
 // The settings of preferences, a line for each, or their fault.
-fn append_prefs(alloc: Global, words: &mut Words<'_>, said: &mut Vec<u8>) -> Result<()> {
-    let first_line = words.number()? as u64;
-    let text = words.bytes()?;
+fn say_prefs(words: &mut Words<'_>, said: &mut Said) {
+    let first_line = words.number() as u64;
+    let text = words.bytes();
     lines_take_bytes();
-    match read_prefs(alloc, text.as_slice(), first_line) {
-        Ok(settings) => append_settings(alloc, &settings, said)?,
-        Err(fault) => append_fault(alloc, fault, said)?,
+    match read_prefs(words.alloc(), text.as_slice(), first_line) {
+        Ok(settings) => say_settings(&settings, said),
+        Err(fault) => say_fault(fault, said),
     }
-    Ok(())
 }
 
 // Whether two settings have equal selectors, and the first of them.
-fn append_compared(
-    alloc: Global,
-    one: &PinSetting,
-    other: &PinSetting,
-    said: &mut Vec<u8>,
-) -> Result<(), AllocError> {
-    said.extend_from_slice(if one.selector == other.selector {
+fn say_compared(one: &PinSetting, other: &PinSetting, said: &mut Said) {
+    said.add(if one.selector == other.selector {
         b"equal "
     } else {
         b"unequal "
-    })?;
-    append_setting(alloc, &one.selector, one.priority, said)
+    });
+    say_setting(&one.selector, one.priority, said);
 }
 
 // A copy of a setting, compared with the setting.
-fn append_copied(
-    alloc: Global,
-    setting: &PinSetting,
-    said: &mut Vec<u8>,
-) -> Result<(), AllocError> {
-    let copy = setting.try_clone(alloc)?;
-    append_compared(alloc, &copy, setting, said)
+fn say_copied(setting: &PinSetting, words: &Words<'_>, said: &mut Said) {
+    match setting.try_clone(words.alloc()) {
+        Ok(copy) => say_compared(&copy, setting, said),
+        Err(_) => said.fail(OUT_OF_MEMORY),
+    }
 }
 
-fn append_copy(alloc: Global, words: &mut Words<'_>, said: &mut Vec<u8>) -> Result<()> {
-    let setting = setting(alloc, words)?;
-    Ok(append_copied(alloc, &setting, said)?)
+fn say_copy(words: &mut Words<'_>, said: &mut Said) {
+    if let Some(setting) = setting(words) {
+        say_copied(&setting, words, said);
+    }
 }
 
-// The priority that settings have for a selector.
-fn append_found(alloc: Global, words: &mut Words<'_>, said: &mut Vec<u8>) -> Result<()> {
-    let wanted = selector(alloc, words.word()?, words)?;
-    let settings = settings(alloc, words)?;
-    append_priority(alloc, settings.get(&wanted), said)?;
-    Ok(())
+// The priority that the settings of the words that are left have for a selector.
+fn say_found(wanted: &Selector, words: &mut Words<'_>, said: &mut Said) {
+    let settings = settings(words);
+    say_priority(settings.get(wanted), said);
+}
+
+fn say_get(words: &mut Words<'_>, said: &mut Said) {
+    if let Some(wanted) = selector(words) {
+        say_found(&wanted, words, said);
+    }
 }
 
 /// What a call gives that is asked for by words. A selector is `version`, a package and a version or the beginning of versions,
@@ -160,15 +139,15 @@ fn append_found(alloc: Global, words: &mut Words<'_>, said: &mut Vec<u8>) -> Res
 /// - `settings`, selectors with priorities, which are set in turn: the settings in their order;
 /// - `get`, a selector, and then the same: the priority that the settings have for it;
 /// - `copy`, a selector and a priority: a copy of the setting, and whether it is equal to it.
-pub fn append_call(alloc: Global, words: &mut Words<'_>, said: &mut Vec<u8>) -> Result<()> {
-    match words.word()? {
-        "version" => append_version_of(alloc, words, said),
-        "matches" => append_matches(alloc, words, said),
-        "priority" => append_priority_of(alloc, words, said),
-        "prefs" => append_prefs(alloc, words, said),
-        "settings" => append_set(alloc, words, said),
-        "get" => append_found(alloc, words, said),
-        "copy" => append_copy(alloc, words, said),
-        _ => bail!("a call of pins that is not known"),
+pub fn say_call(words: &mut Words<'_>, said: &mut Said) {
+    match words.word() {
+        "version" => say_version(words, said),
+        "matches" => say_matches(words, said),
+        "priority" => say_priority_of(words, said),
+        "prefs" => say_prefs(words, said),
+        "settings" => say_set(words, said),
+        "get" => say_get(words, said),
+        "copy" => say_copy(words, said),
+        _ => said.fail("a call of pins that is not known"),
     }
 }

@@ -1,71 +1,62 @@
 //! What a store holds, asked in plain words.
 
 use crate::calls::keys::stanza_key;
-use crate::calls::pins::{append_priority, append_setting};
-use crate::joined::append_all;
-use crate::state::append_key;
+use crate::calls::pins::{say_priority, say_setting};
+use crate::calls::plans::say_names;
+use crate::said::{OUT_OF_MEMORY, Said};
 use crate::words::Words;
-use anyhow::{Result, bail};
 use ctl_policy::packages_of_store;
 use ctl_stanza::ListKind;
 use ctl_store::{ListClass, StanzaKey, Store};
-use std::alloc::{AllocError, Global};
+use std::alloc::Global;
 
 /// The numbers of what it holds, and its limits.
-pub fn append_numbers(alloc: Global, store: &Store, said: &mut Vec<u8>) -> Result<(), AllocError> {
+pub fn say_numbers(store: &Store, said: &mut Said) {
     let counts = store.counts();
     let limits = store.limits();
-    let told = format!(in alloc;
-        "{} of {} stanzas, {} of {} edits",
-        counts.stanzas, limits.stanzas, counts.edits, limits.edits
-    )?;
-    said.extend_from_slice(told.as_bytes())
+    said.number(b"", counts.stanzas as u128);
+    said.number(b" of ", limits.stanzas as u128);
+    said.number(b" stanzas, ", counts.edits as u128);
+    said.number(b" of ", limits.edits as u128);
+    said.add(b" edits");
 }
 
 // The list and the text of the stanza of a key, if there is one.
-fn append_found(store: &Store, key: StanzaKey, said: &mut Vec<u8>) -> Result<(), AllocError> {
+fn say_found(store: &Store, key: StanzaKey, said: &mut Said) {
     match store.find(key) {
-        Some(stanza) => append_all(&[store.list_of(key), b" ", stanza.text()], said),
-        None => said.extend_from_slice(b"none\n"),
+        Some(stanza) => said.all(&[store.list_of(key), b" ", stanza.text()]),
+        None => said.add(b"none\n"),
     }
 }
 
 // Each key with its list and its stanza.
-fn append_keys(alloc: Global, store: &Store, said: &mut Vec<u8>) -> Result<(), AllocError> {
+fn say_keys(store: &Store, said: &mut Said) {
     for key in store.keys() {
-        append_key(alloc, b'#', key, said)?;
-        said.push(b' ')?;
-        append_found(store, key, said)?;
+        said.key(b"#", key);
+        said.add(b" ");
+        say_found(store, key, said);
     }
-    Ok(())
 }
 
 // Each key with the package of its stanza.
-fn append_entries(alloc: Global, store: &Store, said: &mut Vec<u8>) -> Result<(), AllocError> {
+fn say_entries(store: &Store, said: &mut Said) {
     for (key, stanza) in store.entries() {
-        append_key(alloc, b'#', key, said)?;
-        said.extend_from_slice(stanza.package())?;
+        said.key(b"#", key);
+        said.add(stanza.package());
     }
-    Ok(())
 }
 
 // The keys of a list, in the order of its stanzas, and then by name and version.
-fn append_keys_of(
-    alloc: Global,
-    store: &Store,
-    list: &[u8],
-    said: &mut Vec<u8>,
-) -> Result<(), AllocError> {
-    said.extend_from_slice(b"in order ")?;
+fn say_keys_of(store: &Store, list: &[u8], said: &mut Said) {
+    said.add(b"in order ");
     for key in store.stanzas(list) {
-        append_key(alloc, b'#', key, said)?;
+        said.key(b"#", key);
     }
-    said.extend_from_slice(b", by name ")?;
+    said.add(b", by name ");
     for key in store.by_name(list) {
-        append_key(alloc, b'#', key, said)?;
+        said.key(b"#", key);
     }
-    said.push(b'.')?;
-    Ok(())
+    said.add(b".");
 }
 
 fn kind_words(kind: ListKind) -> &'static [u8] {
@@ -84,29 +75,23 @@ fn class_words(class: ListClass) -> &'static [u8] {
 }
 
 // The kind of a list, and its kind and its class, by the two calls.
-fn append_list(store: &Store, name: &[u8], said: &mut Vec<u8>) -> Result<(), AllocError> {
-    let kind_alone: &[u8] = match store.kind(name) {
-        Some(kind) => kind_words(kind),
-        None => b"no list",
-    };
+fn say_list(store: &Store, name: &[u8], said: &mut Said) {
+    match store.kind(name) {
+        Some(kind) => said.add(kind_words(kind)),
+        None => said.add(b"no list"),
+    }
     match store.list(name) {
-        Some((kind, class)) => {
-            append_all(
-                &[kind_alone, b", ", kind_words(kind), class_words(class)],
-                said,
-            )
-        }
-        None => append_all(&[kind_alone, b", no list"], said),
+        Some((kind, class)) => said.all(&[b", ", kind_words(kind), class_words(class)]),
+        None => said.add(b", no list"),
     }
 }
 
 // Each list with its kind and class, and a semicolon behind it.
-fn append_lists(store: &Store, said: &mut Vec<u8>) -> Result<(), AllocError> {
+fn say_lists(store: &Store, said: &mut Said) {
     for (name, kind, class) in store.lists() {
-        said.extend_from_slice(name)?;
-        append_all(&[b" ", kind_words(kind), class_words(class), b";"], said)?;
+        said.all(&[name, b" "]);
+        said.all(&[kind_words(kind), class_words(class), b";"]);
     }
-    Ok(())
 }
 
 fn mark_words<'a>(store: &'a Store, package: &[u8]) -> &'a [u8] {
@@ -117,78 +102,57 @@ fn mark_words<'a>(store: &'a Store, package: &[u8]) -> &'a [u8] {
     }
 }
 
-fn append_pins(alloc: Global, store: &Store, said: &mut Vec<u8>) -> Result<(), AllocError> {
+fn say_pins(store: &Store, said: &mut Said) {
     for (selector, priority) in store.pins() {
-        append_setting(alloc, selector, priority, said)?;
+        say_setting(selector, priority, said);
     }
-    Ok(())
 }
 
-fn append_pins_of(
-    alloc: Global,
-    store: &Store,
-    package: &[u8],
-    said: &mut Vec<u8>,
-) -> Result<(), AllocError> {
+fn say_pins_of(store: &Store, package: &[u8], said: &mut Said) {
     for (selector, priority) in store.pins_of(package) {
-        append_setting(alloc, selector, priority, said)?;
+        say_setting(selector, priority, said);
     }
-    Ok(())
 }
 
 // The priority of the first pin.
-fn append_first_pin(alloc: Global, store: &Store, said: &mut Vec<u8>) -> Result<(), AllocError> {
-    let first = store.pins().next().map(|(_selector, priority)| priority);
-    append_priority(alloc, first, said)
+fn say_first_pin(store: &Store, said: &mut Said) {
+    match store.pins().next() {
+        Some((_, priority)) => said.priority(b"", priority),
+        None => said.add(b"none"),
+    }
 }
 
-fn append_serial(alloc: Global, serial: Option<u32>, said: &mut Vec<u8>) -> Result<(), AllocError> {
+fn say_serial(serial: Option<u32>, said: &mut Said) {
     match serial {
-        Some(serial) => {
-            let told = format!(in alloc; "{serial}")?;
-            said.extend_from_slice(told.as_bytes())
-        }
-        None => said.extend_from_slice(b"none"),
+        Some(serial) => said.number(b"", serial as u128),
+        None => said.add(b"none"),
     }
 }
 
 // The packages of its stanzas, each behind a space.
-fn append_packages(alloc: Global, store: &Store, said: &mut Vec<u8>) -> Result<(), AllocError> {
-    let names = packages_of_store(alloc, store)?;
-    for name in &names {
-        append_all(&[b" ", name.as_slice()], said)?;
+fn say_packages(alloc: Global, store: &Store, said: &mut Said) {
+    match packages_of_store(alloc, store) {
+        Ok(names) => say_names(&names, said),
+        Err(_) => said.fail(OUT_OF_MEMORY),
     }
-    Ok(())
 }
 
 // What a store holds of a list or of a package.
-fn append_view_of(
-    alloc: Global,
-    store: &Store,
-    view: &str,
-    name: &[u8],
-    said: &mut Vec<u8>,
-) -> Result<()> {
+fn say_view_of(store: &Store, view: &str, name: &[u8], said: &mut Said) {
     match view {
-        "keys-of" => Ok(append_keys_of(alloc, store, name, said)?),
-        "list" => Ok(append_list(store, name, said)?),
-        "serial" => Ok(append_serial(alloc, store.serial(name), said)?),
-        "mark" => Ok(said.extend_from_slice(mark_words(store, name))?),
-        "pins-of" => Ok(append_pins_of(alloc, store, name, said)?),
-        "general-pin" => Ok(append_priority(alloc, store.general_pin(name), said)?),
-        _ => bail!("a view of stores that is not known"),
+        "keys-of" => say_keys_of(store, name, said),
+        "list" => say_list(store, name, said),
+        "serial" => say_serial(store.serial(name), said),
+        "mark" => said.add(mark_words(store, name)),
+        "pins-of" => say_pins_of(store, name, said),
+        "general-pin" => say_priority(store.general_pin(name), said),
+        _ => said.fail("a view of stores that is not known"),
     }
 }
 
-fn append_named_view(
-    alloc: Global,
-    store: &Store,
-    view: &str,
-    words: &mut Words<'_>,
-    said: &mut Vec<u8>,
-) -> Result<()> {
-    let name = words.bytes()?;
-    append_view_of(alloc, store, view, name.as_slice(), said)
+fn say_named_view(store: &Store, view: &str, words: &mut Words<'_>, said: &mut Said) {
+    let name = words.bytes();
+    say_view_of(store, view, name.as_slice(), said);
 }
 
 /// What a store holds, by words:
@@ -200,22 +164,17 @@ fn append_named_view(
 /// - `list`, a name: its kind, and its kind and class; `serial`, a list: its serial number;
 /// - `mark`, a package: its mark; `pins` and `first-pin`: all pin settings, and the priority of the first;
 /// - `pins-of`, a package: its specific ones; `general-pin`, a list: the priority of the general one.
-pub fn append_view(
-    alloc: Global,
-    store: &Store,
-    words: &mut Words<'_>,
-    said: &mut Vec<u8>,
-) -> Result<()> {
-    match words.word()? {
-        "numbers" => Ok(append_numbers(alloc, store, said)?),
-        "keys" => Ok(append_keys(alloc, store, said)?),
-        "entries" => Ok(append_entries(alloc, store, said)?),
-        "packages" => Ok(append_packages(alloc, store, said)?),
-        "find" => Ok(append_found(store, stanza_key(words)?, said)?),
-        "lists" => Ok(append_lists(store, said)?),
-        "target" => Ok(said.extend_from_slice(store.target().unwrap_or(b"none"))?),
-        "pins" => Ok(append_pins(alloc, store, said)?),
-        "first-pin" => Ok(append_first_pin(alloc, store, said)?),
-        view => append_named_view(alloc, store, view, words, said),
+pub fn say_view(store: &Store, words: &mut Words<'_>, said: &mut Said) {
+    match words.word() {
+        "numbers" => say_numbers(store, said),
+        "keys" => say_keys(store, said),
+        "entries" => say_entries(store, said),
+        "packages" => say_packages(words.alloc(), store, said),
+        "find" => say_found(store, stanza_key(words), said),
+        "lists" => say_lists(store, said),
+        "target" => said.add(store.target().unwrap_or(b"none")),
+        "pins" => say_pins(store, said),
+        "first-pin" => say_first_pin(store, said),
+        view => say_named_view(store, view, words, said),
     }
 }

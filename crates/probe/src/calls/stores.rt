@@ -1,15 +1,13 @@
 //! Calls of a store.
 
 use crate::calls::keys::{stanza_key, stanza_sign};
-use crate::calls::plans::{append_late, append_of_edit, append_plan_finds};
-use crate::calls::store_views::{append_numbers, append_view};
+use crate::calls::plans::{say_late, say_made, say_plan_finds, say_planned, say_touching};
+use crate::calls::store_views::{say_numbers, say_view};
 use crate::edits::edit_named;
+use crate::said::{OUT_OF_MEMORY, Said};
 use crate::words::Words;
-use anyhow::Result;
 use ctl_policy::{Chosen, make_places};
-use ctl_relation::Bytes;
 use ctl_store::{Edit, Limits, Refusal, Store};
-use std::alloc::{AllocError, Global};
 use std::collections::BTreeMap;
 
 const REFUSALS: &[Refusal] = &[
@@ -39,22 +37,18 @@ const REFUSALS: &[Refusal] = &[
 ];
 
 // Each refusal with its number, on a line.
-fn append_refusals(alloc: Global, said: &mut Vec<u8>) -> Result<(), AllocError> {
+fn say_refusals(said: &mut Said) {
     for refusal in REFUSALS {
-        let told = format!(in alloc; "{} {}\n", refusal.number(), refusal.text())?;
-        said.extend_from_slice(told.as_bytes())?;
+        said.number(b"", refusal.number() as u128);
+        said.all(&[b" ", refusal.text().as_bytes(), b"\n"]);
     }
-    Ok(())
 }
 
 // The greatest limits.
-fn append_most(alloc: Global, said: &mut Vec<u8>) -> Result<(), AllocError> {
-    let told = format!(in alloc;
-        "{} stanzas, {} edits",
-        Limits::MOST.stanzas,
-        Limits::MOST.edits
-    )?;
-    said.extend_from_slice(told.as_bytes())
+fn say_most(said: &mut Said) {
+    said.number(b"", Limits::MOST.stanzas as u128);
+    said.number(b" stanzas, ", Limits::MOST.edits as u128);
+    said.add(b" edits");
 }
 
 fn chosen_words(chosen: &Chosen) -> &'static [u8] {
@@ -65,77 +59,77 @@ fn chosen_words(chosen: &Chosen) -> &'static [u8] {
     }
 }
 
-// Places for names in a map of what is chosen, each with what is chosen there.
-fn append_places(alloc: Global, names: &[Bytes], said: &mut Vec<u8>) -> Result<(), AllocError> {
-    let mut places: BTreeMap<Vec<u8>, Chosen> = BTreeMap::new(alloc);
-    make_places(alloc, &mut places, names)?;
-    for (name, chosen) in &places {
-        said.extend_from_slice(name)?;
-        said.extend_from_slice(chosen_words(chosen))?;
+fn say_chosen(places: &BTreeMap<Vec<u8>, Chosen>, said: &mut Said) {
+    for (name, chosen) in places {
+        said.add(name);
+        said.add(chosen_words(chosen));
     }
-    Ok(())
 }
 
-fn edit_of(alloc: Global, words: &mut Words<'_>) -> Result<Edit> {
-    edit_named(alloc, words.word()?, words)
+// Places for names in a map of what is chosen, each with what is chosen there.
+fn say_places(words: &mut Words<'_>, said: &mut Said) {
+    let names = words.all_bytes();
+    let mut places: BTreeMap<Vec<u8>, Chosen> = BTreeMap::new(words.alloc());
+    match make_places(words.alloc(), &mut places, &names) {
+        Ok(()) => say_chosen(&places, said),
+        Err(_) => said.fail(OUT_OF_MEMORY),
+    }
 }
 
-fn make_late(
-    alloc: Global,
-    store: &mut Store,
-    words: &mut Words<'_>,
-    said: &mut Vec<u8>,
-) -> Result<()> {
-    let other = edit_of(alloc, words)?;
-    let edit = edit_of(alloc, words)?;
-    append_late(alloc, store, other, edit, said)
+fn edit_of(words: &mut Words<'_>) -> Option<Edit> {
+    let word = words.word();
+    edit_named(words, word)
 }
 
-fn plan_finds(
-    alloc: Global,
-    store: &mut Store,
-    words: &mut Words<'_>,
-    said: &mut Vec<u8>,
-) -> Result<()> {
-    let key = stanza_key(words)?;
-    let edit = edit_of(alloc, words)?;
-    append_plan_finds(store, key, edit, said)?;
-    Ok(())
+// The edit of the words behind those of another.
+fn say_late_behind(store: &mut Store, other: Edit, words: &mut Words<'_>, said: &mut Said) {
+    if let Some(edit) = edit_of(words) {
+        say_late(store, other, edit, said);
+    }
 }
 
-// What is asked of the edit of a line whose first word is this.
-fn append_edited(
-    alloc: Global,
-    store: &mut Store,
-    what: &str,
-    word: &str,
-    words: &mut Words<'_>,
-    said: &mut Vec<u8>,
-) -> Result<()> {
-    let edit = edit_named(alloc, word, words)?;
-    Ok(append_of_edit(alloc, store, what, edit, said)?)
+fn say_late_of(store: &mut Store, words: &mut Words<'_>, said: &mut Said) {
+    if let Some(other) = edit_of(words) {
+        say_late_behind(store, other, words, said);
+    }
 }
 
-fn append_places_of(alloc: Global, words: &mut Words<'_>, said: &mut Vec<u8>) -> Result<()> {
-    let names = words.all_bytes()?;
-    Ok(append_places(alloc, &names, said)?)
+fn say_finds(store: &mut Store, words: &mut Words<'_>, said: &mut Said) {
+    let key = stanza_key(words);
+    if let Some(edit) = edit_of(words) {
+        say_plan_finds(store, key, edit, said);
+    }
+}
+
+fn say_plan_of(store: &mut Store, words: &mut Words<'_>, said: &mut Said) {
+    if let Some(edit) = edit_of(words) {
+        say_planned(store, edit, said);
+    }
+}
+
+fn say_touched_of(store: &mut Store, words: &mut Words<'_>, said: &mut Said) {
+    if let Some(edit) = edit_of(words) {
+        say_touching(words.alloc(), store, edit, said);
+    }
+}
+
+// Makes the edit of a line whose first word is this.
+fn say_edited(store: &mut Store, word: &str, words: &mut Words<'_>, said: &mut Said) {
+    if let Some(edit) = edit_named(words, word) {
+        say_made(store, edit, said);
+    }
 }
 
 // Begins with a new store.
-fn begin(alloc: Global, store: &mut Store, said: &mut Vec<u8>) -> Result<(), AllocError> {
-    *store = Store::new(alloc);
-    append_numbers(alloc, store, said)
+fn begin(store: &mut Store, words: &Words<'_>, said: &mut Said) {
+    *store = Store::new(words.alloc());
+    say_numbers(store, said);
 }
 
-fn begin_limited(
-    alloc: Global,
-    store: &mut Store,
-    words: &mut Words<'_>,
-    said: &mut Vec<u8>,
-) -> Result<()> {
-    let limits = words.limits()?;
-    *store = Store::with_limits(alloc, limits);
-    Ok(append_numbers(alloc, store, said)?)
+fn begin_limited(store: &mut Store, words: &mut Words<'_>, said: &mut Said) {
+    let limits = words.limits();
+    *store = Store::with_limits(words.alloc(), limits);
+    say_numbers(store, said);
 }
 
 /// What a call gives that is asked for by words:
@@ -146,30 +140,19 @@ fn begin_limited(
 /// - `late`, an edit, and one that is refused before it: this one as it comes back, and what comes of both;
 /// - `touched`, an edit: the names that it touches; `places`, names: their places in a map of what is chosen;
 /// - `sign`, two keys: how they are ordered; `refusals`: all with their numbers.
-pub fn append_call(
-    alloc: Global,
-    store: &mut Store,
-    words: &mut Words<'_>,
-    said: &mut Vec<u8>,
-) -> Result<()> {
-    match words.word()? {
-        "new" => Ok(begin(alloc, store, said)?),
-        "limits" => begin_limited(alloc, store, words, said),
-        "most" => Ok(append_most(alloc, said)?),
-        "show" => append_view(alloc, store, words, said),
-        "plan-finds" => plan_finds(alloc, store, words, said),
-        "late" => make_late(alloc, store, words, said),
-        "places" => append_places_of(alloc, words, said),
-        "sign" => Ok(said.extend_from_slice(stanza_sign(words)?)?),
-        "refusals" => Ok(append_refusals(alloc, said)?),
-        what @ ("plan" | "touched") => append_edited(
-            alloc,
-            store,
-            what,
-            words.word()?,
-            words,
-            said,
-        ),
-        word => append_edited(alloc, store, word, word, words, said),
+pub fn say_call(store: &mut Store, words: &mut Words<'_>, said: &mut Said) {
+    match words.word() {
+        "new" => begin(store, words, said),
+        "limits" => begin_limited(store, words, said),
+        "most" => say_most(said),
+        "show" => say_view(store, words, said),
+        "plan-finds" => say_finds(store, words, said),
+        "late" => say_late_of(store, words, said),
+        "places" => say_places(words, said),
+        "sign" => said.add(stanza_sign(words)),
+        "refusals" => say_refusals(said),
+        "plan" => say_plan_of(store, words, said),
+        "touched" => say_touched_of(store, words, said),
+        word => say_edited(store, word, words, said),
     }
 }

@@ -1,15 +1,12 @@
 //! Texts of lists and of preferences: their stanzas and records, the parts of these, and faults.
 
-use crate::joined::{append_all, append_number};
-use crate::texts::list_kind_named;
+use crate::said::{OUT_OF_MEMORY, Said};
 use crate::words::Words;
-use anyhow::{Context, Result, bail};
 use ctl_relation::{FieldKind, Offer};
 use ctl_stanza::{
     Cause, ListKind, Record, RecordsBeforeFault, Stanza, TextFault, lines_take_bytes, read_records,
     read_records_before_fault, read_stanzas,
 };
-use std::alloc::{AllocError, Global};
 
 const CAUSES: &[Cause] = &[
     Cause::TooLong,
@@ -24,87 +21,81 @@ const CAUSES: &[Cause] = &[
     Cause::Memory,
 ];
 
-fn cause_name(cause: Cause) -> &'static str {
+fn cause_name(cause: Cause) -> &'static [u8] {
     match cause {
-        Cause::TooLong => "TooLong",
-        Cause::Line => "Line",
-        Cause::FieldTwice => "FieldTwice",
-        Cause::Missing => "Missing",
-        Cause::Name => "Name",
-        Cause::Version => "Version",
-        Cause::Relation => "Relation",
-        Cause::Priority => "Priority",
-        Cause::Form => "Form",
-        Cause::Memory => "Memory",
+        Cause::TooLong => b"TooLong",
+        Cause::Line => b"Line",
+        Cause::FieldTwice => b"FieldTwice",
+        Cause::Missing => b"Missing",
+        Cause::Name => b"Name",
+        Cause::Version => b"Version",
+        Cause::Relation => b"Relation",
+        Cause::Priority => b"Priority",
+        Cause::Form => b"Form",
+        Cause::Memory => b"Memory",
     }
 }
 
 // Each cause with its number, on a line.
-fn append_causes(alloc: Global, said: &mut Vec<u8>) -> Result<(), AllocError> {
+fn say_causes(said: &mut Said) {
     for cause in CAUSES {
-        let told = format!(in alloc; "{} {}\n", cause_name(*cause), cause.number())?;
-        said.extend_from_slice(told.as_bytes())?;
+        said.add(cause_name(*cause));
+        said.number(b" ", cause.number() as u128);
+        said.add(b"\n");
     }
-    Ok(())
 }
 
 /// A fault in words.
-pub fn append_fault(alloc: Global, fault: TextFault, said: &mut Vec<u8>) -> Result<(), AllocError> {
-    let told = format!(in alloc; "line {}: {}", fault.line, cause_name(fault.cause))?;
-    said.extend_from_slice(told.as_bytes())
-}
-
-fn list_kind(words: &mut Words<'_>) -> Result<ListKind> {
-    list_kind_named(words.word()?).context("a kind that is not known")
+pub fn say_fault(fault: TextFault, said: &mut Said) {
+    said.number(b"line ", fault.line as u128);
+    said.all(&[b": ", cause_name(fault.cause)]);
 }
 
 // How many stanzas a list has, or its fault.
-fn append_list(alloc: Global, words: &mut Words<'_>, said: &mut Vec<u8>) -> Result<()> {
-    let kind = list_kind(words)?;
-    let first_line = words.number()? as u64;
-    let text = words.bytes()?;
+fn say_list(words: &mut Words<'_>, said: &mut Said) {
+    let kind = words.list_kind();
+    let first_line = words.number() as u64;
+    let text = words.bytes();
     lines_take_bytes();
-    match read_stanzas(alloc, text.as_slice(), first_line, kind) {
+    match read_stanzas(words.alloc(), text.as_slice(), first_line, kind) {
         Ok(stanzas) => {
-            let told = format!(in alloc; "{} stanzas", stanzas.len())?;
-            said.extend_from_slice(told.as_bytes())?;
+            said.number(b"", stanzas.len() as u128);
+            said.add(b" stanzas");
         }
-        Err(fault) => append_fault(alloc, fault, said)?,
+        Err(fault) => say_fault(fault, said),
     }
-    Ok(())
 }
 
 // The fields of a stanza, each in brackets, and how many there are.
-fn append_fields(alloc: Global, stanza: &Stanza, said: &mut Vec<u8>) -> Result<(), AllocError> {
+fn say_fields(stanza: &Stanza, said: &mut Said) {
     for (name, body) in stanza.fields() {
-        append_all(&[b"[", name, b"=", body, b"]"], said)?;
+        said.all(&[b"[", name, b"=", body, b"]"]);
     }
-    append_number(alloc, b" ", stanza.fields().size_hint().0 as u128, said)
+    said.number(b" ", stanza.fields().size_hint().0 as u128);
 }
 
 // The groups of a field in their printed form, each behind `&`.
-fn append_groups(stanza: &Stanza, kind: FieldKind, said: &mut Vec<u8>) -> Result<(), AllocError> {
+fn say_groups(stanza: &Stanza, kind: FieldKind, said: &mut Said) {
     for group in stanza.groups(kind) {
-        said.push(b'&')?;
-        group.append_to(said)?;
+        said.add(b"&");
+        said.group(&group);
     }
-    Ok(())
 }
 
 // An offer in brackets.
-fn append_offer(offer: &Offer, said: &mut Vec<u8>) -> Result<(), AllocError> {
+fn say_offer(offer: &Offer, said: &mut Said) {
     match offer.version() {
-        Some(version) => append_all(&[b"[", offer.name(), b"=", version.text(), b"]"], said),
-        None => append_all(&[b"[", offer.name(), b"]"], said),
+        Some(version) => said.all(&[b"[", offer.name(), b"=", version.text(), b"]"]),
+        None => said.all(&[b"[", offer.name(), b"]"]),
     }
 }
 
 // The offers of a stanza, and how many atoms Provides has.
-fn append_offers(alloc: Global, stanza: &Stanza, said: &mut Vec<u8>) -> Result<(), AllocError> {
+fn say_offers(stanza: &Stanza, said: &mut Said) {
     for offer in stanza.offers() {
-        append_offer(offer, said)?;
+        say_offer(offer, said);
     }
-    append_number(alloc, b" ", stanza.provides().len() as u128, said)
+    said.number(b" ", stanza.provides().len() as u128);
 }
 
 fn version_words(stanza: &Stanza) -> &[u8] {
@@ -114,10 +105,11 @@ fn version_words(stanza: &Stanza) -> &[u8] {
     }
 }
 
-fn field_words<'a>(stanza: &'a Stanza, name: &[u8]) -> &'a [u8] {
-    match stanza.field(name) {
-        Some(body) => body,
-        None => b"no such field",
+fn say_field(stanza: &Stanza, words: &mut Words<'_>, said: &mut Said) {
+    let name = words.bytes();
+    match stanza.field(name.as_slice()) {
+        Some(body) => said.add(body),
+        None => said.add(b"no such field"),
     }
 }
 
@@ -131,121 +123,89 @@ fn live_words(stanza: &Stanza) -> &'static [u8] {
     }
 }
 
-fn append_field_of(stanza: &Stanza, words: &mut Words<'_>, said: &mut Vec<u8>) -> Result<()> {
-    let name = words.bytes()?;
-    Ok(said.extend_from_slice(field_words(stanza, name.as_slice()))?)
-}
-
 // A part of a stanza by its name.
-fn append_part(
-    alloc: Global,
-    stanza: &Stanza,
-    words: &mut Words<'_>,
-    said: &mut Vec<u8>,
-) -> Result<()> {
-    match words.word()? {
-        "text" => Ok(said.extend_from_slice(stanza.text())?),
-        "package" => Ok(said.extend_from_slice(stanza.package())?),
-        "version" => Ok(said.extend_from_slice(version_words(stanza))?),
-        "field" => append_field_of(stanza, words, said),
-        "fields" => Ok(append_fields(alloc, stanza, said)?),
-        "groups" => Ok(append_groups(stanza, words.field_kind()?, said)?),
-        "offers" => Ok(append_offers(alloc, stanza, said)?),
-        "live" => Ok(said.extend_from_slice(live_words(stanza))?),
-        _ => bail!("a part that is not known"),
+fn say_part(stanza: &Stanza, words: &mut Words<'_>, said: &mut Said) {
+    match words.word() {
+        "text" => said.add(stanza.text()),
+        "package" => said.add(stanza.package()),
+        "version" => said.add(version_words(stanza)),
+        "field" => say_field(stanza, words, said),
+        "fields" => say_fields(stanza, said),
+        "groups" => say_groups(stanza, words.field_kind(), said),
+        "offers" => say_offers(stanza, said),
+        "live" => said.add(live_words(stanza)),
+        _ => said.fail("a part that is not known"),
     }
 }
 
-// Parts of a stanza, each with a bar behind it.
-fn append_parts(
-    alloc: Global,
-    stanza: &Stanza,
-    words: &mut Words<'_>,
-    said: &mut Vec<u8>,
-) -> Result<()> {
+// Parts of the only stanza of a list, each with a bar behind it.
+fn say_parts(stanzas: &[Stanza], words: &mut Words<'_>, said: &mut Said) {
+    let [stanza] = stanzas else {
+        return said.fail("not one stanza");
+    };
     for _ in 0..u64::MAX {
         if words.is_over() {
             break;
         }
-        append_part(alloc, stanza, words, said)?;
-        said.push(b'|')?;
+        say_part(stanza, words, said);
+        said.add(b"|");
     }
-    Ok(())
 }
 
-// Parts of the only stanza of a list.
-fn append_stanza(alloc: Global, words: &mut Words<'_>, said: &mut Vec<u8>) -> Result<()> {
-    let kind = list_kind(words)?;
-    let text = words.bytes()?;
+fn say_stanza(words: &mut Words<'_>, said: &mut Said) {
+    let kind = words.list_kind();
+    let text = words.bytes();
     lines_take_bytes();
-    let Ok(stanzas) = read_stanzas(alloc, text.as_slice(), 1, kind) else {
-        bail!("a list with a fault");
-    };
-    match stanzas.as_slice() {
-        [stanza] => append_parts(alloc, stanza, words, said),
-        _ => bail!("not one stanza"),
+    match read_stanzas(words.alloc(), text.as_slice(), 1, kind) {
+        Ok(stanzas) => say_parts(&stanzas, words, said),
+        Err(_) => said.fail("a list with a fault"),
     }
 }
 
-// A field with the number of its line, in brackets.
-fn append_record_field(
-    alloc: Global,
-    (name, body, line): (&[u8], &[u8], u64),
-    said: &mut Vec<u8>,
-) -> Result<(), AllocError> {
-    append_number(alloc, b"[", line as u128, said)?;
-    append_all(&[b" ", name, b"=", body, b"]"], said)
-}
-
-// A record, on a line: the number of its first line, how many fields it has, and these.
-fn append_record(alloc: Global, record: &Record, said: &mut Vec<u8>) -> Result<(), AllocError> {
-    let count = record.fields().size_hint().0;
-    let first = format!(in alloc; "{}, {count} fields: ", record.first_line())?;
-    said.extend_from_slice(first.as_bytes())?;
-    for field in record.fields() {
-        append_record_field(alloc, field, said)?;
+// A record, on a line: the number of its first line, how many fields it has, and these with the numbers of their lines, in brackets.
+fn say_record(record: &Record, said: &mut Said) {
+    said.number(b"", record.first_line() as u128);
+    said.number(b", ", record.fields().size_hint().0 as u128);
+    said.add(b" fields: ");
+    for (name, body, line) in record.fields() {
+        said.number(b"[", line as u128);
+        said.all(&[b" ", name, b"=", body, b"]"]);
     }
-    said.push(b'\n')?;
-    Ok(())
+    said.add(b"\n");
 }
 
-fn append_each_record(
-    alloc: Global,
-    records: &[Record],
-    said: &mut Vec<u8>,
-) -> Result<(), AllocError> {
+fn say_each_record(records: &[Record], said: &mut Said) {
     for record in records {
-        append_record(alloc, record, said)?;
+        say_record(record, said);
     }
-    Ok(())
 }
 
 // The records of a text, or its fault.
-fn append_records(alloc: Global, words: &mut Words<'_>, said: &mut Vec<u8>) -> Result<()> {
-    let first_line = words.number()? as u64;
-    let text = words.bytes()?;
+fn say_records(words: &mut Words<'_>, said: &mut Said) {
+    let first_line = words.number() as u64;
+    let text = words.bytes();
     lines_take_bytes();
-    match read_records(alloc, text.as_slice(), first_line) {
-        Ok(records) => append_each_record(alloc, &records, said)?,
-        Err(fault) => append_fault(alloc, fault, said)?,
+    match read_records(words.alloc(), text.as_slice(), first_line) {
+        Ok(records) => say_each_record(&records, said),
+        Err(fault) => say_fault(fault, said),
     }
-    Ok(())
+}
+
+fn say_records_and_fault(read: &RecordsBeforeFault, said: &mut Said) {
+    say_each_record(&read.records, said);
+    if let Some(fault) = read.fault {
+        say_fault(fault, said);
+    }
 }
 
 // The records of a text before its fault, and the fault.
-fn append_before_fault(alloc: Global, words: &mut Words<'_>, said: &mut Vec<u8>) -> Result<()> {
-    let text = words.bytes()?;
+fn say_before_fault(words: &mut Words<'_>, said: &mut Said) {
+    let text = words.bytes();
     lines_take_bytes();
-    let RecordsBeforeFault { records, fault } = read_records_before_fault(
-        alloc,
-        text.as_slice(),
-        1,
-    )?;
-    append_each_record(alloc, &records, said)?;
-    if let Some(fault) = fault {
-        append_fault(alloc, fault, said)?;
+    match read_records_before_fault(words.alloc(), text.as_slice(), 1) {
+        Ok(read) => say_records_and_fault(&read, said),
+        Err(_) => said.fail(OUT_OF_MEMORY),
     }
-    Ok(())
 }
 
 /// What a call gives that is asked for by words:
@@ -255,13 +215,13 @@ fn append_before_fault(alloc: Global, words: &mut Words<'_>, said: &mut Vec<u8>)
 /// - `records`, the number of the first line and a text: the records, a line for each, or the fault;
 /// - `records-before-fault`, a text: the records before its fault, and the fault;
 /// - `causes`: the causes of faults with their numbers.
-pub fn append_call(alloc: Global, words: &mut Words<'_>, said: &mut Vec<u8>) -> Result<()> {
-    match words.word()? {
-        "list" => append_list(alloc, words, said),
-        "stanza" => append_stanza(alloc, words, said),
-        "records" => append_records(alloc, words, said),
-        "records-before-fault" => append_before_fault(alloc, words, said),
-        "causes" => Ok(append_causes(alloc, said)?),
-        _ => bail!("a call of texts that is not known"),
+pub fn say_call(words: &mut Words<'_>, said: &mut Said) {
+    match words.word() {
+        "list" => say_list(words, said),
+        "stanza" => say_stanza(words, said),
+        "records" => say_records(words, said),
+        "records-before-fault" => say_before_fault(words, said),
+        "causes" => say_causes(said),
+        _ => said.fail("a call of texts that is not known"),
     }
 }

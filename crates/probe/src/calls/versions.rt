@@ -1,9 +1,8 @@
 //! Versions: what a text is read to, and how two are ordered.
 
+use crate::said::{OUT_OF_MEMORY, Said};
 use crate::words::Words;
-use anyhow::{Result, bail};
 use ctl_relation::{Version, VersionFault};
-use std::alloc::{AllocError, Global};
 use std::cmp::Ordering;
 
 fn fault_name(fault: VersionFault) -> &'static [u8] {
@@ -18,10 +17,24 @@ fn fault_name(fault: VersionFault) -> &'static [u8] {
 }
 
 // The text of a version, or the test that it fails.
-fn append_read(alloc: Global, text: &[u8], said: &mut Vec<u8>) -> Result<(), AllocError> {
-    match Version::parse(alloc, text) {
-        Ok(version) => said.extend_from_slice(version.text()),
-        Err(fault) => said.extend_from_slice(fault_name(fault)),
+fn say_read(words: &mut Words<'_>, said: &mut Said) {
+    let text = words.bytes();
+    match Version::parse(words.alloc(), text.as_slice()) {
+        Ok(version) => said.add(version.text()),
+        Err(fault) => said.add(fault_name(fault)),
+    }
+}
+
+fn say_copied(version: &Version, words: &Words<'_>, said: &mut Said) {
+    match version.try_clone(words.alloc()) {
+        Ok(copy) => said.add(copy.text()),
+        Err(_) => said.fail(OUT_OF_MEMORY),
+    }
+}
+
+fn say_copy(words: &mut Words<'_>, said: &mut Said) {
+    if let Some(version) = words.version() {
+        say_copied(&version, words, said);
     }
 }
 
@@ -51,63 +64,46 @@ fn sign(one: &Version, other: &Version) -> &'static [u8] {
     }
 }
 
+fn say_between(one: &Version, sign: &[u8], other: &Version, said: &mut Said) {
+    said.all(&[one.text(), b" "]);
+    said.all(&[sign, b" "]);
+    said.add(other.text());
+}
+
 // Two versions, with their sign between them.
-fn append_order(one: &Version, other: &Version, said: &mut Vec<u8>) -> Result<(), AllocError> {
-    said.extend_from_slice(one.text())?;
-    said.push(b' ')?;
-    said.extend_from_slice(sign(one, other))?;
-    said.push(b' ')?;
-    said.extend_from_slice(other.text())
-}
-
-fn append_read_of(alloc: Global, words: &mut Words<'_>, said: &mut Vec<u8>) -> Result<()> {
-    let text = words.bytes()?;
-    Ok(append_read(alloc, text.as_slice(), said)?)
-}
-
-fn append_copy(alloc: Global, words: &mut Words<'_>, said: &mut Vec<u8>) -> Result<()> {
-    let version = words.version()?;
-    let copy = version.try_clone(alloc)?;
-    Ok(said.extend_from_slice(copy.text())?)
-}
-
-fn append_order_of(words: &mut Words<'_>, said: &mut Vec<u8>) -> Result<()> {
-    let one = words.version()?;
-    let other = words.version()?;
-    Ok(append_order(&one, &other, said)?)
-}
-
-fn append_sign_of(words: &mut Words<'_>, said: &mut Vec<u8>) -> Result<()> {
-    let one = words.version()?;
-    let other = words.version()?;
-    Ok(said.extend_from_slice(sign(&one, &other))?)
-}
-
-fn versions_of(alloc: Global, words: &mut Words<'_>) -> Result<Vec<Version>> {
-    let mut versions = Vec::new(alloc);
-    for _ in 0..u64::MAX {
-        if words.is_over() {
-            break;
-        }
-        versions.push(words.version()?)?;
+fn say_order(versions: &[Version], said: &mut Said) {
+    match versions {
+        [one, other] => say_between(one, sign(one, other), other, said),
+        _ => said.fail("not two versions"),
     }
-    Ok(versions)
+}
+
+fn say_sign(versions: &[Version], said: &mut Said) {
+    match versions {
+        [one, other] => said.add(sign(one, other)),
+        _ => said.fail("not two versions"),
+    }
 }
 
 // The signs of each of some versions with all of them, those of each behind a space.
-fn append_signs(versions: &[Version], said: &mut Vec<u8>) -> Result<(), AllocError> {
+fn say_signs(versions: &[Version], said: &mut Said) {
     for one in versions {
-        said.push(b' ')?;
+        said.add(b" ");
         for other in versions {
-            said.extend_from_slice(sign(one, other))?;
+            said.add(sign(one, other));
         }
     }
-    Ok(())
 }
 
-fn append_signs_of(alloc: Global, words: &mut Words<'_>, said: &mut Vec<u8>) -> Result<()> {
-    let versions = versions_of(alloc, words)?;
-    Ok(append_signs(&versions, said)?)
+// What is asked of the versions that are left.
+fn say_compared(word: &str, words: &mut Words<'_>, said: &mut Said) {
+    let versions = words.versions();
+    match word {
+        "order" => say_order(&versions, said),
+        "sign" => say_sign(&versions, said),
+        "signs" => say_signs(&versions, said),
+        _ => said.fail("a call of versions that is not known"),
+    }
 }
 
 /// What a call gives that is asked for by words:
@@ -116,13 +112,10 @@ fn append_signs_of(alloc: Global, words: &mut Words<'_>, said: &mut Vec<u8>) -> 
 /// - `copy`, a version: the text of a copy;
 /// - `order`, two versions: both, with `<`, `=` or `>` between them; and `sign`, the same two: that alone;
 /// - `signs`, versions: those of each of them with all.
-pub fn append_call(alloc: Global, words: &mut Words<'_>, said: &mut Vec<u8>) -> Result<()> {
-    match words.word()? {
-        "read" => append_read_of(alloc, words, said),
-        "copy" => append_copy(alloc, words, said),
-        "order" => append_order_of(words, said),
-        "sign" => append_sign_of(words, said),
-        "signs" => append_signs_of(alloc, words, said),
-        _ => bail!("a call of versions that is not known"),
+pub fn say_call(words: &mut Words<'_>, said: &mut Said) {
+    match words.word() {
+        "read" => say_read(words, said),
+        "copy" => say_copy(words, said),
+        word => say_compared(word, words, said),
     }
 }

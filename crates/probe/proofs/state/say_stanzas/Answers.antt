@@ -1,7 +1,7 @@
 use Rattle.std.proofs.Common.{◌∷◌, sym, subst}
 use Rattle.ctl_store.specs.Keys.{AreHeld}
 use Rattle.ctl_store.specs.Held.{keyed_of}
-use Rattle.ctl_rows.proofs.shown.texts_in.Goals as goal
+use Rattle.probe.proofs.state.say_stanzas.Goals as goal
 
 pub loop-key-init : goal.loop-key-init
 loop-key-init c = subst (λ ks. AreHeld ks (keyed_of c.args.store.now).lists) (sym c.into_iter-key-iterator.ensures.into_iter_gives) c.stanzas-key-items.ensures.held

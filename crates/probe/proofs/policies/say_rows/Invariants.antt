@@ -1,7 +1,7 @@
 use Rattle.std.specs.List.{AllByRecursion}
 use Rattle.ctl_store.specs.Keys.{AreHeld}
 use Rattle.ctl_store.specs.Held.{keyed_of}
-use Rattle.probe.proofs.policies.append_rows.Given as goal
+use Rattle.probe.proofs.policies.say_rows.Given as goal
 
 abbrev pub invariant-rows : goal.invariant-rows
 invariant-rows l = AllByRecursion (λ keys. AreHeld keys (keyed_of l.store).lists) l.left

@@ -1,6 +1,6 @@
 use Rattle.ctl_store.specs.Keys.{AreHeld}
 use Rattle.ctl_store.specs.Held.{keyed_of}
-use Rattle.probe.proofs.state.append_stanzas.Given as goal
+use Rattle.probe.proofs.state.say_stanzas.Given as goal
 
 abbrev pub invariant-loop-key : goal.invariant-loop-key
 invariant-loop-key l = AreHeld l.key-iterator (keyed_of l.fn.store).lists
