@@ -6,7 +6,8 @@ use crate::relations::fault_name;
 use crate::said::Said;
 use crate::words::Words;
 use ctl_relation::{
-    Atom, FieldKind, Group, Groups, Operator, Relations, Steps, parse_relations, read_places,
+    Atom, FieldKind, Group, Groups, Operator, Relations, Steps, is_field_name_byte,
+    parse_relations, read_places,
 };
 use std::cmp::Ordering;
 
@@ -215,6 +216,29 @@ fn say_fields(fields: &[FieldKind], said: &mut Said) {
     }
 }
 
+// The nine fields, with the place of each and whether it is wanted, on a line.
+fn say_places_of_fields(said: &mut Said) {
+    for field in FieldKind::nine() {
+        said.add(field.key());
+        said.number(b" ", field.place() as u128);
+        said.add(if field.is_wanted() {
+            b" wanted\n"
+        } else {
+            b"\n"
+        });
+    }
+}
+
+// Those of some bytes that may stand in the name of a field.
+fn say_name_bytes(words: &mut Words<'_>, said: &mut Said) {
+    let bytes = words.bytes();
+    for byte in bytes.as_slice() {
+        if is_field_name_byte(*byte) {
+            said.add(&[*byte]);
+        }
+    }
+}
+
 // The sign between two fields, or `?` where the calls that compare them don't agree.
 fn sign(one: FieldKind, other: FieldKind) -> &'static [u8] {
     let order = one.cmp(&other);
@@ -252,7 +276,8 @@ fn say_operators(said: &mut Said) {
 /// - `groups` or `numbered`, a field and its body: how many groups there are, and their names; these by their numbers;
 /// - `named`, a field, its body and a name: whether its atoms have it, and whether those of each group have;
 /// - `places`, a field and its body: the field, and the names at its places;
-/// - `nine`, `eight`, `four`, `signs`: these fields, and how the nine are ordered;
+/// - `nine`, `eight`, `four`, `signs`, `wanted`: these fields, how the nine are ordered, and which are wanted;
+/// - `name-bytes`, some bytes: those that may stand in the name of a field;
 /// - `none`: how many groups none are; `operators`: the texts of all.
 pub fn say_call(words: &mut Words<'_>, said: &mut Said) {
     match words.word() {
@@ -263,6 +288,8 @@ pub fn say_call(words: &mut Words<'_>, said: &mut Said) {
         "eight" => say_fields(FieldKind::eight(), said),
         "four" => say_fields(FieldKind::four(), said),
         "signs" => say_signs(said),
+        "wanted" => say_places_of_fields(said),
+        "name-bytes" => say_name_bytes(words, said),
         "none" => say_groups(Groups::empty(), said),
         "operators" => say_operators(said),
         what => say_field(what, words, said),
