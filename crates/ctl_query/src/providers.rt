@@ -29,6 +29,8 @@ fn add_provider<'a>(
     ensures steps { steps.new ≤ steps.old + 1 }
     ensures kept { steps.old ≤ steps.new }
 {
+    // That the count has its last value is said here.
+    let _count = steps.count();
     let package = stanza.package();
     if package != atom.name() && atom.met_by(offer, steps) {
         add_name(names, package)?;

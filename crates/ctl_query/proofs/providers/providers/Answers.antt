@@ -22,6 +22,7 @@ offers-preserved c =
           c.offers.with_row c.with_row_of-with_row.result (list_any (makes_row_at c.args.cache.now.store c.args.atom.now.name) c.into_iter-key-iterator.result)
           c.in-Some.ensures.steps is c.with_row_of-with_row.ensures c.offers.invariant.row;
       steps = omega (arith, ap length c.in-Some.ensures.steps, c.offers.invariant.steps, c.add_provider.ensures.steps);
+      kept = omega (arith, c.offers.invariant.kept, c.add_provider.ensures.kept);
     }
 
 pub returns-in_err-add_provider-clause-steps : goal.returns-in_err-add_provider-clause-steps
