@@ -10,8 +10,14 @@ from . import layout
 PARTS = ("src", "specs", "proofs")
 FOLDERS = ("edits", "must-fail")
 NAME = re.compile(r"[A-Za-z0-9_-][A-Za-z0-9_.-]*\.edit")
-# Views that lend the one value of their type that there is: any other body doesn't end. What they lend has edits where it is kept.
-LENT = {("ctl_index", "impl Cache", "store"), ("ctl_index", "impl Cache", "counters"), ("ctl_index", "impl Cache", "candidates")}
+# Functions of which any other body doesn't end: views that lend the one value of their type that there is, which has edits where it
+# is kept, and the empty map of keys and values of any type.
+LENT = {
+    ("ctl_index", "impl Cache", "store"),
+    ("ctl_index", "impl Cache", "counters"),
+    ("ctl_index", "impl Cache", "candidates"),
+    ("ctl_ordered", "impl<K: Ord + Drop, V: Drop> Ordered<K, V>", "new"),
+}
 
 
 class BadEdit(Exception):
