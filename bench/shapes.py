@@ -1,13 +1,15 @@
 #!/usr/bin/env python3
-"""Measures how the edits of a kept cache grow with the shape of what it holds.
+"""Measures how the edits of a kept cache, and what it answers, grow with the shape of what it holds.
 
     bench/shapes.py [WORD..]
 
-For each shape at a size, twice and four times it: the mean time of each edit, and the exponent with which it grows, that is
+For each shape at a size, twice and four times it: the mean time of each edit or answer, and the exponent with which it grows, that is
 the power of the size that takes the least of the three times to the greatest. 0 is a time that doesn't grow, 1 one that grows as
-the size does. With words, only the shapes whose names have one of them. The times are those of the edits alone, each the least of
-some runs. `rt run` in crates/probe builds the program that is measured; the variable PROBE of the environment names another. A busy
-machine raises the numbers; the exponents say whether a shape is bad.
+the size does. With words, only the shapes whose names have one of them. The times of edits are those of the edits alone, each the
+least of some runs; an answer's goes from the first byte that is written to a session to the last that it answers. `rt run` in
+crates/probe builds the program whose edits are measured; the variable PROBE of the environment names another. What answers is
+crates/dctrl_cache/out/dctrl_cache, or what the variable PROGRAM names. A busy machine raises the numbers; the exponents say whether a
+shape is bad.
 
 The limits are printed beside the numbers, and nothing is refused by them."""
 
@@ -16,11 +18,14 @@ import os
 import sys
 import tempfile
 
+from answers import Session
 from index import times_of
 from list_edits import added, dropped, hexadecimal, need_probe, put, removed
 from policies import word
 
 TURNS = 20
+ANSWER_TURNS = 3
+PROGRAM = os.environ.get("PROGRAM", "crates/dctrl_cache/out/dctrl_cache")
 
 
 def stanza(package, version):
@@ -82,6 +87,63 @@ SHAPES = [
 ]
 
 
+# Shapes of answers: the lines that make what is held, and the questions by what they are, each with how many answers it has
+
+def script_list(name, stanzas):
+    return f"add-list {name} packages\n" + "\n".join(stanzas) + ".\n"
+
+
+def one_name_in_many_lists(count):
+    lists = "".join(script_list(f"list-{number}", [stanza("one", number)]) for number in range(count))
+    return lists, [("policy", "policy one\n", 1), ("showpkg", "showpkg one\n", 1)]
+
+
+def one_version_in_many_lists(count):
+    lists = "".join(script_list(f"list-{number}", [stanza("one", 1)]) for number in range(count))
+    return lists, [("policy", "policy one\n", 1), ("showpkg", "showpkg one\n", 1)]
+
+
+def names_of_one_stanza(count):
+    names = [f"name-{number}" for number in range(count)]
+    whole = script_list("main", [stanza("one", 1) + "Depends: " + ", ".join(names) + "\n"])
+    return whole, [(query, "".join(f"{query} {name}\n" for name in names), count) for query in ("showpkg", "rdepends")]
+
+
+def atoms_that_nothing_meets(count):
+    depends = ", ".join(["virtual (>= 9)"] * count)
+    offers = [stanza(f"name-{number}", 1) + "Provides: virtual (= 1)\n" for number in range(count)]
+    return script_list("main", [stanza("one", 1) + f"Depends: {depends}\n", *offers]), [("depends", "depends one\n", 1)]
+
+
+def fields_of_one_stanza(count):
+    names = [f"Field-{number}" for number in range(count)]
+    whole = script_list("main", [stanza("one", 1) + "".join(f"{name}: text\n" for name in names)])
+    fields = ",".join(names)
+    return whole, [("-F", f"grep-dctrl -c -F {fields} other\n", 1), ("-s", f"grep-dctrl -s {fields} ''\n", 1)]
+
+
+# Each with its least size and the greatest exponents that are wanted of its answers
+ANSWER_SHAPES = [
+    (one_name_in_many_lists, 750, {"policy": 1.2, "showpkg": 1.2}),
+    (one_version_in_many_lists, 750, {"policy": 1.2, "showpkg": 1.2}),
+    (names_of_one_stanza, 2_000, {"showpkg": 0.2, "rdepends": 0.2}),
+    (atoms_that_nothing_meets, 1_000, {"depends": 1.2}),
+    (fields_of_one_stanza, 2_000, {"-F": 1.2, "-s": 1.2}),
+]
+
+
+def answered(shape, count, _folder):
+    """The mean time of an answer, by what is asked."""
+    made, questions = shape(count)
+    session = Session(PROGRAM, [])
+    session.ask(made.encode())
+    means = {}
+    for what, script, answers in questions:
+        means[what] = min(session.time(script.encode()) for _ in range(ANSWER_TURNS)) / answers
+    session.close()
+    return means
+
+
 def measured(shape, count, folder):
     """The mean time of the edits that are measured together, by what they are."""
     parts = shape(count)
@@ -97,10 +159,10 @@ def exponent(times, factor):
     return math.log(times[-1] / times[0]) / math.log(factor)
 
 
-def show(shape, least, limits, folder):
+def show(shape, least, limits, means_of, folder):
     counts = [least, 2 * least, 4 * least]
     print("%s: %s" % (shape.__name__.replace("_", " "), ", ".join(map(str, counts))))
-    means = [measured(shape, count, folder) for count in counts]
+    means = [means_of(shape, count, folder) for count in counts]
     for what in means[0]:
         times = [mean[what] for mean in means]
         bound = f"  (at most {limits[what]})" if what in limits else ""
@@ -108,13 +170,20 @@ def show(shape, least, limits, folder):
         print("  %-20s %s microseconds, exponent %5.2f%s" % (what, numbers, exponent(times, 4), bound), flush=True)
 
 
+def chosen(shapes, words):
+    return [row for row in shapes if not words or any(word in row[0].__name__ for word in words)]
+
+
 def main(words):
-    need_probe()
+    edits, answers = chosen(SHAPES, words), chosen(ANSWER_SHAPES, words)
+    if edits:
+        need_probe()
     with tempfile.TemporaryDirectory() as folder:
         os.chmod(folder, 0o755)
-        for shape, least, limits in SHAPES:
-            if not words or any(word in shape.__name__ for word in words):
-                show(shape, least, limits, folder)
+        for shape, least, limits in edits:
+            show(shape, least, limits, measured, folder)
+        for shape, least, limits in answers:
+            show(shape, least, limits, answered, folder)
 
 
 if __name__ == "__main__":

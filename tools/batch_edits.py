@@ -32,7 +32,7 @@ from edit_runner import memory, plan  # noqa: E402
 from edit_runner.batches import batches_of  # noqa: E402
 from edit_runner.crate import Crate, crates_of  # noqa: E402
 from edit_runner.ledger import Ledger, key_of  # noqa: E402
-from edit_runner.runner import Runner, good  # noqa: E402
+from edit_runner.runner import Runner, Terms, good  # noqa: E402
 
 JOBS = "at most so many checks at a time, each of about 3 GB, and never more than free memory allows (else as many as processors)"
 MINUTES = "begin no check of an edit that is due after so many minutes, and end those that run; the sample has all its time"
@@ -125,7 +125,8 @@ class Run:
         tried = {crate: [it for it in wanted if it.crate is crate] for crate in crates}
         minutes = None if is_named and not given.gate else given.minutes
         jobs = given.jobs or len(os.sched_getaffinity(0))
-        self.runner = Runner(root, tried, jobs, self.sample, minutes, memory.is_enough, self.keep)
+        terms = Terms(jobs, frozenset(self.sample), minutes, memory.is_enough, self.keep)
+        self.runner = Runner(root, tried, terms)
         self.counts = {"passed": 0, "failed": 0, "skipped": 0}
         self.untried, self.measured = [], {}
 

@@ -17,6 +17,7 @@ import re
 import subprocess
 import sys
 import time
+from collections.abc import Callable, Iterable, Iterator
 
 import gate_file
 import proof_seconds
@@ -24,7 +25,7 @@ import proof_seconds
 TOP = os.path.join(os.path.dirname(os.path.abspath(__file__)), "..")
 
 # A row of parts that run by themselves, and a row of those that can run beside them: on few processors these come first, one by one.
-STAGES = [
+STAGES: list[tuple[list[str], list[str]]] = [
     (["layout"], []),
     (["demo"], []),
     (["prove"], ["test-tools"]),
@@ -58,48 +59,49 @@ class Outcome:
     wall: float
     cpu: float
 
-    def __str__(self):
+    def __str__(self) -> str:
         counts = counts_of(self.passed, self.failed, self.skipped)
         return f"{self.name}: {counts} in {minutes(self.wall)}, {minutes(self.cpu)} of processors"
 
 
-def counts_of(passed, failed, skipped):
+def counts_of(passed: int, failed: int, skipped: int) -> str:
     return f"{passed} passed, {failed} failed" + (f", {skipped} skipped" if skipped else "")
 
 
-def minutes(seconds):
+def minutes(seconds: float) -> str:
     return f"{seconds / 60:.1f} min"
 
 
-def tell(line):
+def tell(line: str) -> None:
     print(line, flush=True)
 
 
-def targets():
+def targets() -> set[str]:
     """Returns the names of the Makefile's targets: a part that isn't one is not there yet."""
     with open(os.path.join(TOP, "Makefile"), encoding="utf-8") as file:
         return set(re.findall(r"^([\w-]+):", file.read(), re.M))
 
 
-def stages():
+def stages() -> list[tuple[list[str], list[str]]]:
     there = targets()
-    return [tuple([name for name in row if name in there] for row in stage) for stage in STAGES]
+    return [([it for it in parts if it in there], [it for it in beside if it in there]) for parts, beside in STAGES]
 
 
-def run(name, show, settings=(), before=()):
+def run(name: str, show: Callable[[str], object], before: Iterable[str] = ()) -> Outcome:
     """Runs a part, by a command that stands before make if one is given, and hands on its output line by line. One that gives no
     count, or fails and counts no failure, counts as one failed."""
     began, counted = time.time(), (0, 1, 0)
-    how = {"stdout": subprocess.PIPE, "stderr": subprocess.STDOUT, "text": True, "errors": "replace"}
-    how["env"] = {**os.environ, "PYTHONUNBUFFERED": "1"}
-    part = subprocess.Popen([*before, "make", "--no-print-directory", name, *SETTINGS.get(name, []), *settings], **how)
+    words = [*before, "make", "--no-print-directory", name, *SETTINGS.get(name, [])]
+    told = {**os.environ, "PYTHONUNBUFFERED": "1"}
+    part = subprocess.Popen(words, stdout=subprocess.PIPE, stderr=subprocess.STDOUT, text=True, errors="replace", env=told)
     watch = proof_seconds.Watch(part.pid) if name == "prove" else None
     lines = []
-    for line in part.stdout:
+    for line in part.stdout or ():
         lines.append(line.rstrip("\n"))
         show(lines[-1])
         found = COUNT.fullmatch(lines[-1])
-        counted = tuple(int(it or 0) for it in found.groups()) if found else counted
+        if found:
+            counted = int(found[1]), int(found[2]), int(found[3] or 0)
     _, ended, used = os.wait4(part.pid, 0)
     part.returncode = os.waitstatus_to_exitcode(ended)
     passed, failed, skipped = counted
@@ -110,9 +112,10 @@ def run(name, show, settings=(), before=()):
     return Outcome(name, passed, failed, skipped, time.time() - began, used.ru_utime + used.ru_stime)
 
 
-def proofs_of(lines, seconds):
+def proofs_of(lines: list[str], seconds: dict[proof_seconds.Checked, float]) -> gate_file.Measured:
     """Returns what was measured of each crate that this run proved: its functions, by the lines of `rt ci`, and seconds of processor."""
-    name, found = "", {}
+    name = ""
+    found: gate_file.Measured = {}
     for line in lines:
         said = PROVED.fullmatch(line)
         if said and said[1]:
@@ -124,16 +127,16 @@ def proofs_of(lines, seconds):
     return found
 
 
-def run_stage(parts, beside):
+def run_stage(parts: list[str], beside: list[str]) -> Iterator[Outcome]:
     """Runs the parts of a stage, and yields what each came to. The output of the first parts comes as it is written."""
     if not beside or len(os.sched_getaffinity(0)) < ENOUGH:
         for name in (*beside, *parts):
             tell(f"== {name}: {PARTS[name]}")
             yield run(name, tell)
         return
-    lines = {name: [] for name in beside}
+    lines: dict[str, list[str]] = {name: [] for name in beside}
 
-    def run_beside():
+    def run_beside() -> list[Outcome]:
         return [run(name, lines[name].append, before=["nice"]) for name in beside]
 
     with concurrent.futures.ThreadPoolExecutor() as pool:
@@ -146,7 +149,7 @@ def run_stage(parts, beside):
             yield outcome
 
 
-def main(words):
+def main(words: list[str]) -> int:
     if words not in ([], ["--keep-going"]):
         raise SystemExit(__doc__)
     os.chdir(TOP)
@@ -163,7 +166,7 @@ def main(words):
     return conclude(outcomes, left, time.time() - began)
 
 
-def conclude(outcomes, left, wall):
+def conclude(outcomes: list[Outcome], left: list[str], wall: float) -> int:
     """Tells what the gate came to, and leaves its times."""
     print("== the gate")
     for it in outcomes:
@@ -175,7 +178,7 @@ def conclude(outcomes, left, wall):
     gate_file.update("parts", {it.name: {"wall": round(it.wall, 1), "cpu": round(it.cpu, 1)} for it in outcomes})
     if not left:
         gate_file.update("whole", {"wall": round(wall, 1), "cpu": round(cpu, 1)})
-    passed, failed, skipped = (sum(getattr(it, kind) for it in outcomes) for kind in ("passed", "failed", "skipped"))
+    passed, failed, skipped = sum(it.passed for it in outcomes), sum(it.failed for it in outcomes), sum(it.skipped for it in outcomes)
     print(counts_of(passed, failed, skipped))
     return 1 if failed else 0
 

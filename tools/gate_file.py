@@ -4,21 +4,26 @@ import contextlib
 import json
 import os
 import tempfile
+from typing import Any
+
+# What was measured: by subject, the entries of each.
+Measured = dict[str, Any]
 
 TOP = os.path.join(os.path.dirname(os.path.abspath(__file__)), "..")
 PLACE = os.path.join(TOP, "out", "gate.json")
 
 
-def read(place=PLACE):
+def read(place: str = PLACE) -> Measured:
     """Returns what was measured, by subject; nothing where no run has left anything."""
     try:
         with open(place, encoding="utf-8") as file:
-            return json.load(file)
+            measured: Measured = json.load(file)
+            return measured
     except (OSError, ValueError):
         return {}
 
 
-def machine():
+def machine() -> str:
     """What the machine is, in words."""
     model = ""
     with contextlib.suppress(OSError), open("/proc/cpuinfo", encoding="utf-8", errors="replace") as file:
@@ -26,9 +31,9 @@ def machine():
     return "%d processors%s" % (len(os.sched_getaffinity(0)), ", " + model if model else "")
 
 
-def update(subject, measured, place=PLACE):
+def update(subject: str, measured: Measured, place: str = PLACE) -> None:
     """Puts the newly measured entries of a subject in place of older ones; others stay."""
-    whole = {**read(place), "machine": machine()}
+    whole: Measured = {**read(place), "machine": machine()}
     whole.setdefault(subject, {}).update(measured)
     os.makedirs(os.path.dirname(place), exist_ok=True)
     with tempfile.NamedTemporaryFile("w", dir=os.path.dirname(place), delete=False, encoding="utf-8") as file:

@@ -10,6 +10,7 @@ import sys
 import textwrap
 
 import gate_file
+from gate_file import Measured
 
 DOCUMENT = os.path.join(gate_file.TOP, "CONTRIBUTING.md")
 BEGINS = "<!-- The table of make gate-report begins -->\n"
@@ -20,17 +21,17 @@ BUDGET = 240
 BUDGETS = {"ctl_index": 390, "ctl_query": 390}
 
 
-def crates():
+def crates() -> list[str]:
     """The crates of the repository, in the order of crates.txt."""
     with open(os.path.join(gate_file.TOP, "crates.txt"), encoding="utf-8") as file:
         return [line.partition(":")[0].strip() for line in file if line.partition("#")[0].strip()]
 
 
-def shown(seconds):
+def shown(seconds: float | None) -> str:
     return "-" if seconds is None else "%.0f" % seconds
 
 
-def row(name, proofs, edits):
+def row(name: str, proofs: Measured, edits: Measured) -> str:
     """A row of the table: a dash where nothing was measured."""
     proof, tried = proofs.get(name, {}), edits.get(name, {})
     counts = "%d of %d" % (tried["tried"], tried["edits"]) if tried else "-"
@@ -39,7 +40,7 @@ def row(name, proofs, edits):
     return "| %s |" % " | ".join(cells)
 
 
-def parts_of(results):
+def parts_of(results: Measured) -> list[str]:
     """What each part took, as sentences; nothing where no gate has run."""
     parts = ["`%s` %.1f and %.1f" % (name, took["wall"] / 60, took["cpu"] / 60) for name, took in sorted(results.get("parts", {}).items())]
     whole = results.get("whole")
@@ -47,7 +48,7 @@ def parts_of(results):
     return said + (["The whole gate: %.1f and %.1f." % (whole["wall"] / 60, whole["cpu"] / 60)] if whole else [])
 
 
-def section(results, names):
+def section(results: Measured, names: list[str]) -> str:
     """What stands between the marks."""
     said = ["Measured on %s. Seconds are of processors; a dash stands where nothing was measured." % results["machine"], *parts_of(results)]
     head = ["Crate", "Functions", "Proof from nothing", "At most", "Tests under proof", "Edits tried", "The crate for them", "They"]
@@ -56,7 +57,7 @@ def section(results, names):
     return "\n%s\n\n%s\n\n" % (textwrap.fill(" ".join(said), 120, break_on_hyphens=False), "\n".join(table))
 
 
-def put(document, text):
+def put(document: str, text: str) -> None:
     """Puts a text between the marks of a document."""
     with open(document, encoding="utf-8") as file:
         whole = file.read()
@@ -67,7 +68,7 @@ def put(document, text):
         file.write(before + BEGINS + text + ENDS + behind)
 
 
-def main(words):
+def main(words: list[str]) -> int:
     if len(words) > 2:
         raise SystemExit(__doc__)
     results = gate_file.read(*words[:1])

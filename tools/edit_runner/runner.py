@@ -3,11 +3,13 @@
 import collections
 import concurrent.futures
 import contextlib
+import dataclasses
 import os
 import shutil
 import sys
 import tempfile
 import threading
+from collections.abc import Callable
 
 from . import batches, checks, libraries
 from .crate import FOLDERS
@@ -26,6 +28,18 @@ def tell(text):
         print(text, file=sys.stderr, flush=True)
 
 
+@dataclasses.dataclass
+class Terms:
+    """How edits are tried: how many checks at a time, which edits are of the sample, how many minutes there are for the others, whether
+    memory has room for a check beside others, and what is done with judgements as they come."""
+
+    jobs: int
+    sample: frozenset = frozenset()
+    minutes: float | None = None
+    has_room: Callable = lambda: True
+    keep: Callable = lambda judgements: None
+
+
 class Runner:
     """Has as many checks at a time as jobs, but begins one beside others only where there is room for it. A batch is checked in a room,
     a copy of the repository for one crate. A crate of more than a few batches is proved first as it stands in another copy, the base, and
@@ -34,11 +48,10 @@ class Runner:
     which nothing lands.
 
     `tried` has the edits of each crate that are to be tried, the most wanted first. Those of the sample are tried whatever time it takes;
-    the others only until `minutes` are over."""
+    the others only until the minutes are over."""
 
-    def __init__(self, root, tried, jobs, sample=(), minutes=None, has_room=lambda: True, keep=lambda judgements: None):
-        self.root, self.crates, self.jobs, self.has_room = root, list(tried), jobs, has_room
-        self.open, self.sample, self.minutes, self.keep = tried, {*sample}, minutes, keep
+    def __init__(self, root, tried, terms):
+        self.root, self.crates, self.open, self.terms = root, list(tried), tried, terms
         self.checks = checks.Checks()
         self.judgements = {}
         self.own_cpu, self.edits_cpu, self.tried = (collections.Counter() for _ in range(3))
@@ -57,7 +70,7 @@ class Runner:
             copy_texts(self.root, self.base)
             for name in libraries.take(self.root, self.base, self.crates):
                 self.build_library(name)
-            with concurrent.futures.ThreadPoolExecutor(self.jobs) as pool, self.timer():
+            with concurrent.futures.ThreadPoolExecutor(self.terms.jobs) as pool, self.timer():
                 try:
                     yield from self.run_in(pool)
                 except BaseException:
@@ -69,7 +82,7 @@ class Runner:
 
     @contextlib.contextmanager
     def timer(self):
-        timer = threading.Timer(60 * self.minutes, self.checks.end_timed) if self.minutes is not None else None
+        timer = threading.Timer(60 * self.terms.minutes, self.checks.end_timed) if self.terms.minutes is not None else None
         if timer:
             timer.daemon = True
             timer.start()
@@ -80,14 +93,14 @@ class Runner:
                 timer.cancel()
 
     def due(self, crate):
-        return [it for it in self.open[crate] if it not in self.sample]
+        return [it for it in self.open[crate] if it not in self.terms.sample]
 
     def drawn(self, crate):
         """Returns the edits of the sample. They are batches by themselves, which need no base and have all the time that they need."""
-        return [it for it in self.open[crate] if it in self.sample]
+        return [it for it in self.open[crate] if it in self.terms.sample]
 
     def is_timed(self, batch):
-        return not self.sample.issuperset(batch)
+        return not self.terms.sample.issuperset(batch)
 
     def needs_base(self, crate):
         return len(batches.batches_of(self.due(crate))) > FEW
@@ -102,14 +115,14 @@ class Runner:
             make_ready(ready, crate, drawn if crate in unproved else drawn + due[crate])
 
         def may_start():
-            return len(running) < self.jobs and (not running or self.has_room())
+            return len(running) < self.terms.jobs and (not running or self.terms.has_room())
 
         def start():
             # One crate at a time is proved as it stands: two at once would build the same library. Each process loads the libraries
             # again, so that it has one job, or those that nothing else waits for.
             if unproved and not any(batch is None for _, batch in running.values()) and may_start():
                 crate = unproved.popleft()
-                running[pool.submit(self.prove, crate, max(1, self.jobs - len(running) - len(ready)))] = crate, None
+                running[pool.submit(self.prove, crate, max(1, self.terms.jobs - len(running) - len(ready)))] = crate, None
             while ready and may_start():
                 crate, batch = ready.pop(0)
                 running[pool.submit(self.try_batch, crate, batch)] = crate, batch
@@ -153,7 +166,7 @@ class Runner:
 
     def build_library(self, name):
         """Builds a library in the base, which else each room would do, and change the kept work while edits are tried over it."""
-        answer = self.checks.call(f"{self.base}/crates/{name}", "lib", "--jobs", str(self.jobs))
+        answer = self.checks.call(f"{self.base}/crates/{name}", "lib", "--jobs", str(self.terms.jobs))
         tell(f"{name}: its library for the crates above, {answer.cpu:.0f} CPU s, {answer.wall:.0f} s")
 
     def hand_over(self, crate):
@@ -189,7 +202,7 @@ class Runner:
                 self.rooms[crate].append(room)
         self.expect_unchanged(crate)
         with self.lock:
-            self.keep(found)
+            self.terms.keep(found)
             self.judgements.update(found)
             self.edits_cpu[crate] += cpu
 

@@ -10,3 +10,4 @@ pub mod WordLemmas
 pub mod CaseLemmas
 pub mod AnyCaseLemmas
 pub mod AskingLemmas
+pub mod FieldTableLemmas

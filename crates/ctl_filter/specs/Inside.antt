@@ -5,3 +5,4 @@ pub mod Views
 pub mod Faults
 pub mod Values
 pub mod Searchers
+pub mod FieldTable

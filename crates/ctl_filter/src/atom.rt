@@ -10,6 +10,7 @@ ghost use Rattle.ctl_filter.specs.Inside.Searchers.{sought_by, finds_small, Tree
 
 use crate::comparison::Bound;
 use crate::expression::Expression;
+use crate::finder::Finder;
 use crate::searching::{has_lowered, has_pattern, lowered};
 use ctl_relation::{Bytes, Operator, Version};
 use ctl_stanza::Stanza;
@@ -136,16 +137,16 @@ fn body_passes(
 fn field_passes(
     test: &Test,
     searcher: &mut Option<Box<Searcher<'_>>>,
-    stanza: &Stanza,
+    finder: &Finder<'_>,
     name: &[u8],
     room: &mut Vec<u8>,
 ) -> Result<bool, AllocError>
     requires { Fits test.now searcher.old }
-    ensures passes { IfOk result (λ passes. passes ≡ field_passes (test_of test.now) stanza.now name.now) }
+    ensures passes { IfOk result (λ passes. passes ≡ field_passes (test_of test.now) finder.now name.now) }
     ensures same { sought_by searcher.new ≡ sought_by searcher.old }
 {
-    match stanza.field(name) {
-        Some(body) => body_passes(test, searcher, stanza, body, room),
+    match finder.body(name)? {
+        Some(body) => body_passes(test, searcher, finder.stanza(), body, room),
         None => Ok(false),
     }
 }
@@ -154,15 +155,15 @@ fn any_field_passes(
     names: &[Bytes],
     test: &Test,
     searcher: &mut Option<Box<Searcher<'_>>>,
-    stanza: &Stanza,
+    finder: &Finder<'_>,
     room: &mut Vec<u8>,
 ) -> Result<bool, AllocError>
     requires { Fits test.now searcher.old }
-    ensures passes { IfOk result (λ passes. passes ≡ list_any (field_passes (test_of test.now) stanza.now) names.now) }
+    ensures passes { IfOk result (λ passes. passes ≡ list_any (field_passes (test_of test.now) finder.now) names.now) }
     ensures same { sought_by searcher.new ≡ sought_by searcher.old }
 {
     for name in names {
-        if field_passes(test, searcher, stanza, name.as_slice(), room)? {
+        if field_passes(test, searcher, finder, name.as_slice(), room)? {
             return Ok(true);
         }
     }
@@ -216,7 +217,10 @@ impl<'q> Prepared<'q> {
         let atom = self.atom;
         match &atom.fields {
             None => text_passes(&atom.test, &mut self.searcher, stanza.text(), room),
-            Some(names) => any_field_passes(names, &atom.test, &mut self.searcher, stanza, room),
+            Some(names) => {
+                let finder = Finder::new(*room.allocator(), stanza, names.len())?;
+                any_field_passes(names, &atom.test, &mut self.searcher, &finder, room)
+            }
         }
     }
 }

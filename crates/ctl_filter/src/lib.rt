@@ -6,6 +6,7 @@ mod atom;
 mod cluster;
 mod comparison;
 mod expression;
+mod finder;
 mod gathering;
 mod laws;
 mod names;

@@ -5,14 +5,8 @@ ghost use Rattle.std.specs.List.{list_all};
 ghost use Rattle.ctl_stanza.specs.LineKind.{is_field_name_byte};
 ghost use Rattle.ctl_filter.specs.Names.{is_field_name, are_field_names, names_in, description, is_description};
 
-use ctl_relation::Bytes;
+use ctl_relation::{Bytes, is_field_name_byte};
 use std::alloc::{AllocError, Global};
-
-fn is_field_name_byte(byte: u8) -> bool
-    ensures { result ≡ is_field_name_byte byte }
-{
-    byte.is_ascii_graphic() && byte != b':'
-}
 
 fn are_field_name_bytes(bytes: &[u8]) -> bool
     ensures { result ≡ list_all is_field_name_byte bytes.now }

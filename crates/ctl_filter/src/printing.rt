@@ -1,29 +1,18 @@
 //! How a stanza is shown.
 
-ghost use Rattle.std.specs.Prelude.{◌≡◌, ◌++◌, ◌≤◌, OnOk, length, option_map};
+ghost use Rattle.std.specs.Prelude.{◌≡◌, ◌++◌, ◌≤◌, OnOk, IfOk, length};
 ghost use Rattle.std.specs.List.{list_any, prefix_len};
-ghost use Rattle.ctl_stanza.specs.Content.{named_bodies};
-ghost use Rattle.ctl_filter.specs.Grep.{is_in_line, entry_among, first_line, body_shown, gap, entry_line, field_line, has_field, field_end, fields_text, stanza_shown};
-ghost use Rattle.ctl_filter.specs.Inside.Values.{shown_of, lent_entry};
+ghost use Rattle.ctl_filter.specs.Grep.{is_in_line, first_line, body_shown, gap, entry_line, field_line};
+ghost use Rattle.ctl_filter.specs.Grep.{has_field, field_end, fields_text, stanza_shown};
+ghost use Rattle.ctl_filter.specs.Inside.Values.{shown_of};
 
+use crate::finder::Finder;
 use crate::names::is_description;
 use crate::query::Shown;
 use crate::text::{append_line, append_parts};
 use ctl_relation::Bytes;
 use ctl_stanza::Stanza;
 use std::alloc::AllocError;
-
-/// The first field of a name, as the stanza spells it, and its body.
-fn entry_named<'a>(stanza: &'a Stanza, name: &[u8]) -> Option<(&'a [u8], &'a [u8])>
-    ensures { option_map lent_entry result ≡ entry_among name.now (named_bodies stanza.now) }
-{
-    'fields: for (spelled, body) in stanza.fields() {
-        if spelled.eq_ignore_ascii_case(name) {
-            return Some((spelled, body));
-        }
-    }
-    None
-}
 
 // How many bytes stand before the first newline.
 fn first_line_len(body: &[u8]) -> usize
@@ -86,33 +75,33 @@ fn append_entry(
 
 fn append_field(
     shown: &Shown,
-    stanza: &Stanza,
+    finder: &Finder<'_>,
     name: &[u8],
     out: &mut Vec<u8>,
 ) -> Result<(), AllocError>
-    ensures { OnOk result (out.new.items ≡ out.old.items ++ field_line (shown_of shown.now) stanza.now name.now) }
+    ensures { OnOk result (out.new.items ≡ out.old.items ++ field_line (shown_of shown.now) finder.now name.now) }
 {
-    match entry_named(stanza, name) {
+    match finder.entry(name)? {
         Some((spelled, body)) => append_entry(shown, spelled, body, out),
         None => Ok(()),
     }
 }
 
-fn has_any_field(stanza: &Stanza, names: &[Bytes]) -> bool
-    ensures { result ≡ list_any (has_field stanza.now) names.now }
+fn has_any_field(finder: &Finder<'_>, names: &[Bytes]) -> Result<bool, AllocError>
+    ensures { IfOk result (λ has. has ≡ list_any (has_field finder.now) names.now) }
 {
     for name in names {
-        if entry_named(stanza, name.as_slice()).is_some() {
-            return true;
+        if finder.entry(name.as_slice())?.is_some() {
+            return Ok(true);
         }
     }
-    false
+    Ok(false)
 }
 
-fn append_end(stanza: &Stanza, names: &[Bytes], out: &mut Vec<u8>) -> Result<(), AllocError>
-    ensures { OnOk result (out.new.items ≡ out.old.items ++ field_end stanza.now names.now) }
+fn append_end(finder: &Finder<'_>, names: &[Bytes], out: &mut Vec<u8>) -> Result<(), AllocError>
+    ensures { OnOk result (out.new.items ≡ out.old.items ++ field_end finder.now names.now) }
 {
-    if names.len() == 1 || !has_any_field(stanza, names) {
+    if names.len() == 1 || !has_any_field(finder, names)? {
         return Ok(());
     }
     append_line(out, &[])
@@ -120,16 +109,16 @@ fn append_end(stanza: &Stanza, names: &[Bytes], out: &mut Vec<u8>) -> Result<(),
 
 fn append_fields(
     shown: &Shown,
-    stanza: &Stanza,
+    finder: &Finder<'_>,
     names: &[Bytes],
     out: &mut Vec<u8>,
 ) -> Result<(), AllocError>
-    ensures { OnOk result (out.new.items ≡ out.old.items ++ fields_text (shown_of shown.now) stanza.now names.now) }
+    ensures { OnOk result (out.new.items ≡ out.old.items ++ fields_text (shown_of shown.now) finder.now names.now) }
 {
     for name in names {
-        append_field(shown, stanza, name.as_slice(), out)?;
+        append_field(shown, finder, name.as_slice(), out)?;
     }
-    append_end(stanza, names, out)?;
+    append_end(finder, names, out)?;
     Ok(())
 }
 
@@ -144,6 +133,9 @@ pub(crate) fn append_stanza(
 {
     match &shown.fields {
         None => append_line(out, &[stanza.text()]),
-        Some(names) => append_fields(shown, stanza, names, out),
+        Some(names) => {
+            let finder = Finder::new(*out.allocator(), stanza, names.len())?;
+            append_fields(shown, &finder, names, out)
+        }
     }
 }

@@ -1,5 +1,5 @@
 -- Stanzas that come or go: the tables hold what the stanzas then have, and the tests are the pairs that come or go.
-use Rattle.std.proofs.Common.{◌≡◌, ℕ, ◌+◌, ◌-◌, ◌≤◌, true, false, cond, List, Option, Some, None, refl, ap, sym, ◌∙◌, arith}
+use Rattle.std.proofs.Common.{◌≡◌, ℕ, ◌+◌, ◌-◌, ◌<◌, ◌≤◌, ◌^◌, true, false, cond, List, length, Option, Some, None, IfSome, refl, ap, sym, subst, ◌∙◌, arith}
 use Rattle.std.specs.List.{sum_by, flat_map, AllByRecursion, count_by}
 use Rattle.std.specs.Option.{option_map, option_map_or, option_or, option_and_then}
 use Rattle.std.specs.Str.{bytes_eq}
@@ -11,23 +11,28 @@ use Rattle.ctl_store.specs.declared.stanza_key.StanzaKey.{StanzaKey}
 use Rattle.ctl_store.specs.Entries.{Entry, entries_by}
 use Rattle.ctl_store.specs.Followed.{under, AreApart}
 use Rattle.ctl_index.specs.declared.keys.Namer.{Namer}
+use Rattle.ctl_index.specs.declared.keys.OfferKey.{OfferKey}
 use Rattle.ctl_index.specs.declared.keys.ClauseKey.{ClauseKey}
 use Rattle.ctl_index.specs.declared.tables.Tables.{Tables}
 use Rattle.ctl_index.specs.Clauses.{clause_atoms, clause_cmp, clause_of, clause_at, number_at}
 use Rattle.ctl_index.specs.Names.{keyed_atoms}
 use Rattle.ctl_index.specs.Offers.{offers_among, contents}
 use Rattle.ctl_index.specs.TablesByName.{offers_under, namers_under}
-use Rattle.ctl_index.specs.TablesIndexed.{atom_named, IsIndexed, IsPutIn, IsTakenOut, offers_put, namers_taken, tests_put_in, tests_taken_out}
+use Rattle.ctl_index.specs.TablesIndexed.{atom_named, offer_named, keyed_offers, IsIndexed, IsTakenOut, offers_put, namers_taken, tests_put_in, tests_taken_out}
+use Rattle.ctl_index.specs.TablesLoaded.{IsLoaded, all_hits, offers_sum, namers_sum}
 use Rattle.ctl_index.specs.TablesParts.{IsJoined}
 use Rattle.ctl_index.specs.TablesRows.{RowsCome, RowsGo}
 use Rattle.ctl_index.specs.TablesSight.{Seen, seen, AreSeen}
+use Rattle.ctl_index.specs.TablesCounters.{counted_up}
+use Rattle.ctl_index.specs.TablesFit.{AreWhole, NumbersFit}
 use Rattle.ctl_index.specs.TablesOrder.{is_within}
-use Rattle.ctl_index.specs.TablesSteps.{group_met, span_of, with_each, raise_step, drop_step}
+use Rattle.ctl_index.specs.TablesSteps.{group_met, span_of, with_each, drop_step}
 use Rattle.ctl_index.specs.Work.{named_pairs, pairs}
 use Rattle.ctl_index.proofs.SumLemmas.{sum-cong, sum-plus, sum-swap, sum-flat_map, sum-map, sum-zero}
-use Rattle.ctl_index.proofs.TableLemmas.{put_offers, put_namers, take_offers, take_namers}
+use Rattle.ctl_index.proofs.TableLemmas.{put_offers, take_offers, take_namers}
 use Rattle.ctl_index.proofs.ClauseLemmas.{gone}
-use Rattle.ctl_index.proofs.SeenLemmas.{one_under, clause_met-is, listed_hits, all_tested-is, offers_tested-is, atoms_tested-is, raised_all-is, lowered_all-is, entered_all-is, dropped_all-is, all_hits}
+use Rattle.ctl_index.proofs.FitLemmas.{come_whole, all_whole, rest_whole}
+use Rattle.ctl_index.proofs.SeenLemmas.{one_under, clause_met-is, listed_hits, all_tested-is, offers_tested-is, atoms_tested-is, lowered_all-is, dropped_all-is}
 
 -- ---- pairs over two parts
 
@@ -97,41 +102,50 @@ module _ (s : Seen) (keys : List StanzaKey) (all rest : List Entry) (old new : T
   abbrev number : List Entry → Option (List AtomParts) → Option ℕ
   number es c = option_map (λ atoms. met_pairs atoms (offers_among (contents es))) c
 
-  put_number : IsPutIn s keys old new → (k : ClauseKey) → get clause_cmp new.counters.numbers k ≡ number_at k all
-  put_number step k =
+  loaded_offers : IsLoaded s keys old new → (q : List ℕ) (f : OfferKey → ℕ) → sum_by f (offers_under new.names.map q) ≡ offers_sum q f all
+  loaded_offers step q f = step.offers q f ∙ ap (λ n. n + offers_sum q f come) (was.offers q f) ∙ sym (joined.sums (λ (e : Entry). sum_by (offer_named q f) (keyed_offers e)))
+
+  loaded_namers : IsLoaded s keys old new → (q : List ℕ) (f : Namer → ℕ) → sum_by f (namers_under new.names.map q) ≡ namers_sum q f all
+  loaded_namers step q f = step.namers q f ∙ ap (λ n. n + namers_sum q f come) (was.namers q f) ∙ sym (joined.sums (λ (e : Entry). sum_by (atom_named q f) (keyed_atoms e)))
+
+  loaded_number : IsLoaded s keys old new → ((k : ClauseKey) → IfSome (number_at k all) (λ n. n < 2 ^ 128)) → (k : ClauseKey) → get clause_cmp new.counters.numbers k ≡ number_at k all
+  loaded_number step fits k =
       step.counters k
-      ∙ entered_all-is s (offers_put s keys old) k keys apart_new (with_each (seen s) (raise_step s (namers_under old.names.map) k) keys (get clause_cmp old.counters.numbers k))
       ∙ (λ i. option_or (came (under k.stanza come) i) (raised i))
-      ∙ by (under k.stanza come) (under k.stanza rest) refl (λ x h. joined.either k.stanza x h)
+      ∙ by (under k.stanza come) (under k.stanza rest) (subst (λ (c : Option Content). IfSome (number all (option_and_then (clause_of k) c)) (λ n. n < 2 ^ 128)) (joined.unders k.stanza) (fits k)) (λ x h. joined.either k.stanza x h)
       ∙ ap (λ c. number all (option_and_then (clause_of k) c)) (sym (joined.unders k.stanza))
     where
-      came : (c : Option Content) → option_map (group_met s k.field (offers_put s keys old)) (option_and_then (clause_of k) c) ≡ number all (option_and_then (clause_of k) c)
+      came : (c : Option Content) → option_map (group_met s k.field (offers_under new.names.map)) (option_and_then (clause_of k) c) ≡ number all (option_and_then (clause_of k) c)
       came None = refl
-      came (Some x) = clause_met-is s (offers_put s keys old) all (put_offers s keys all rest old joined was) sees_all k x
+      came (Some x) = clause_met-is s (offers_under new.names.map) all (loaded_offers step) sees_all k x
 
-      raised : with_each (seen s) (raise_step s (namers_under old.names.map) k) keys (get clause_cmp old.counters.numbers k) ≡ option_map (λ n. n + hits_of (offers_among (contents come)) (clause_at k rest)) (number_at k rest)
-      raised =
-          raised_all-is s (namers_under old.names.map) k keys (get clause_cmp old.counters.numbers k)
-          ∙ (λ i. option_map (λ n. n + hits-is s (namers_under old.names.map) rest was.namers sees apart (offers_among (contents come)) k i) (was.counters k i))
+      raised : option_map (counted_up (all_hits s (namers_under old.names.map) (offers_among (contents come)) k)) (get clause_cmp old.counters.numbers k)
+          ≡ option_map (counted_up (hits_of (offers_among (contents come)) (clause_at k rest))) (number_at k rest)
+      raised = λ i. option_map (counted_up (hits-is s (namers_under old.names.map) rest was.namers sees apart (offers_among (contents come)) k i)) (was.counters k i)
 
-      more : (c : Option (List AtomParts)) → option_map (λ n. n + hits_of (offers_among (contents come)) c) (number rest c) ≡ number all c
-      more None = refl
-      more (Some atoms) = ap (λ n. Some n) (sym (met_pairs-joined all rest come joined atoms))
+      more : (c : Option (List AtomParts)) → IfSome (number all c) (λ n. n < 2 ^ 128) → option_map (counted_up (hits_of (offers_among (contents come)) c)) (number rest c) ≡ number all c
+      more None few = refl
+      more (Some atoms) few = ap (λ n. Some n) (omega (arith, met_pairs-joined all rest come joined atoms, few))
 
-      by : (c d : Option Content) → under k.stanza come ≡ c → ((x : Content) → c ≡ Some x → d ≡ None)
-          → option_or (number all (option_and_then (clause_of k) c)) (option_map (λ n. n + hits_of (offers_among (contents come)) (option_and_then (clause_of k) d)) (number rest (option_and_then (clause_of k) d))) ≡ number all (option_and_then (clause_of k) (option_or c d))
-      by None d is none = more (option_and_then (clause_of k) d)
-      by (Some x) d is none =
-          ap (λ (z : Option Content). option_or (number all (clause_of k x)) (option_map (λ n. n + hits_of (offers_among (contents come)) (option_and_then (clause_of k) z)) (number rest (option_and_then (clause_of k) z)))) (none x refl)
-          ∙ or_none (number all (clause_of k x))
+      -- the number of a clause that stands in one of the parts
+      stood : Option Content → Option ℕ
+      stood d = option_map (counted_up (hits_of (offers_among (contents come)) (option_and_then (clause_of k) d))) (number rest (option_and_then (clause_of k) d))
 
-  pub put_law : RowsCome → IsPutIn s keys old new → IsIndexed all new
-  put_law follow step = record {
-    offers = λ q f. ap (sum_by f) (step.offers q) ∙ put_offers s keys all rest old joined was q f;
-    namers = λ q f. ap (sum_by f) (step.namers q) ∙ put_namers s keys all rest old joined was q f;
-    counters = put_number step;
-    rows = follow s keys all rest old.names.map new.names.map joined apart_new was.rows step.rows;
-  }
+      by : (c d : Option Content) → IfSome (number all (option_and_then (clause_of k) (option_or c d))) (λ n. n < 2 ^ 128) → ((x : Content) → c ≡ Some x → d ≡ None)
+          → option_or (number all (option_and_then (clause_of k) c)) (stood d) ≡ number all (option_and_then (clause_of k) (option_or c d))
+      by None d few none = more (option_and_then (clause_of k) d) few
+      by (Some x) d few none = ap (λ (z : Option Content). option_or (number all (clause_of k x)) (stood z)) (none x refl) ∙ or_none (number all (clause_of k x))
+
+  pub load_law : RowsCome → NumbersFit → AreApart all → length all < 2 ^ 32 → IsLoaded s keys old new → IsIndexed all new
+  load_law follow fit apart_all few step =
+      let whole : AreWhole all = all_whole all rest come joined was.whole (come_whole (seen s) keys step.whole) in
+      record {
+        offers = loaded_offers step;
+        namers = loaded_namers step;
+        counters = loaded_number step (fit all few apart_all whole);
+        rows = follow s keys all rest old.names.map new.names.map joined apart_new was.rows step.rows;
+        whole = whole;
+      }
 
   put_counted : tests_put_in s keys old ≡ named_pairs (flat_map clause_atoms (contents rest)) (offers_among (contents come)) + named_pairs (flat_map clause_atoms (contents come)) (offers_among (contents all))
   put_counted = λ i.
@@ -184,6 +198,7 @@ module _ (s : Seen) (keys : List StanzaKey) (all rest : List Entry) (old new : T
     namers = λ q f. ap (sum_by f) (step.namers q) ∙ left_namers q f;
     counters = take_number step;
     rows = follow s keys all rest old.names.map new.names.map joined apart_gone was.rows step.rows;
+    whole = rest_whole all rest going joined was.whole;
   }
 
   take_counted : tests_taken_out s keys old ≡ named_pairs (flat_map clause_atoms (contents going)) (offers_among (contents all)) + named_pairs (flat_map clause_atoms (contents rest)) (offers_among (contents going))

@@ -15,7 +15,7 @@ use Rattle.ctl_stanza.specs.Content.{Content}
 use Rattle.ctl_store.specs.Entries.{Entry}
 use Rattle.ctl_index.specs.declared.keys.ClauseKey.{ClauseKey}
 use Rattle.ctl_index.specs.Clauses.{clause_at, is_met, is_unmet}
-use Rattle.ctl_index.specs.Names.{in_order, known_names, names_of}
+use Rattle.ctl_index.specs.Names.{known_names, names_of}
 use Rattle.ctl_index.specs.Offers.{contents, offers_among}
 use Rattle.ctl_index.proofs.NamesLemmas.{any-counted}
 use Rattle.ctl_index.proofs.OrderLemmas.{in_order_sorted, among_in_order}

@@ -1,13 +1,14 @@
 -- Clauses: the groups of the four fields that ask for packages, each a list of alternatives (Debian Policy 7.1, 7.2). A clause is met
 -- by what packages are and what they provide (7.5).
-use Rattle.std.specs.Prelude.{ℕ, suc, Bool, true, false, List, [], ◌∷◌, flat_map, filter, slice_get, nat_eq, Option, None, if◌then◌else◌}
+use Rattle.std.specs.Prelude.{ℕ, suc, Bool, false, List, [], ◌∷◌, flat_map, filter, slice_get, nat_eq, Option, None, if◌then◌else◌}
 use Rattle.std.specs.List.{list_any}
 use Rattle.std.specs.Option.{option_map, option_map_or, option_and_then}
 use Rattle.std.specs.Ordering.{nat_cmp, ordering_then}
 use Rattle.std.specs.declared.cmp.Ordering.{Ordering}
 use Rattle.ctl_relation.specs.declared.field_kind.FieldKind.{FieldKind}
-use Rattle.ctl_relation.specs.declared.field_kind.FieldKind.TheVariants.{PreDepends, Depends, Conflicts, Breaks, Recommends, Suggests, Replaces, Enhances, Provides}
 use Rattle.ctl_relation.specs.FieldKind.{field_place}
+-- the fields whose groups are clauses
+pub use Rattle.ctl_relation.specs.FieldKind.{four_fields as clause_fields, is_wanted as is_clause_field}
 use Rattle.ctl_relation.specs.Parts.{AtomParts, OfferParts}
 use Rattle.ctl_relation.specs.Met.{met, met_pairs}
 use Rattle.ctl_stanza.specs.Content.{Content, groups_of}
@@ -17,22 +18,6 @@ use Rattle.ctl_store.specs.Entries.{Entry}
 use Rattle.ctl_store.specs.Followed.{under}
 use Rattle.ctl_index.specs.declared.keys.ClauseKey.{ClauseKey}
 use Rattle.ctl_index.specs.Offers.{contents, offers_among}
-
--- the fields whose groups are clauses, in their order
-abbrev pub clause_fields : List FieldKind
-clause_fields = PreDepends ∷ Depends ∷ Recommends ∷ Suggests ∷ []
-
--- whether the groups of a field are clauses
-abbrev pub is_clause_field : FieldKind → Bool
-is_clause_field PreDepends = true
-is_clause_field Depends = true
-is_clause_field Conflicts = false
-is_clause_field Breaks = false
-is_clause_field Recommends = true
-is_clause_field Suggests = true
-is_clause_field Replaces = false
-is_clause_field Enhances = false
-is_clause_field Provides = false
 
 -- the atoms of the clauses of a stanza
 abbrev pub clause_atoms : Content → List AtomParts

@@ -6,16 +6,13 @@ use Rattle.std.specs.Ordering.{nat_cmp}
 use Rattle.std.specs.List.{list_any}
 use Rattle.std.specs.Str.{bytes_eq}
 use Rattle.ctl_relation.specs.declared.field_kind.FieldKind.{FieldKind}
-use Rattle.ctl_relation.specs.declared.field_kind.FieldKind.TheVariants.{PreDepends, Depends, Conflicts, Breaks, Recommends, Suggests, Replaces, Enhances}
+-- the fields whose atoms name packages
+pub use Rattle.ctl_relation.specs.FieldKind.{eight_fields as naming_fields}
 use Rattle.ctl_relation.specs.Parts.{AtomParts, OfferParts}
 use Rattle.ctl_stanza.specs.Content.{Content, package_of, is_live, groups_of, offers_of}
 use Rattle.ctl_store.specs.declared.stanza_key.StanzaKey.{StanzaKey}
 use Rattle.ctl_store.specs.Entries.{Entry}
 use Rattle.ctl_index.specs.declared.keys.AtomKey.{AtomKey}
-
--- the fields whose atoms name packages: all but Provides
-abbrev pub naming_fields : List FieldKind
-naming_fields = PreDepends ∷ Depends ∷ Conflicts ∷ Breaks ∷ Recommends ∷ Suggests ∷ Replaces ∷ Enhances ∷ []
 
 -- the atoms of these fields of a stanza
 abbrev pub naming_atoms : Content → List AtomParts

@@ -1,5 +1,5 @@
 -- Of the tables alone: counters, and the clauses that stand at 0.
-use Rattle.std.specs.Prelude.{◌≡◌, ℕ, Bool, false, nat_eq, List, [], ◌∷◌, Option, Some, if◌then◌else◌}
+use Rattle.std.specs.Prelude.{◌≡◌, ℕ, ◌+◌, ◌-◌, ◌^◌, min, max, Bool, false, nat_eq, List, [], ◌∷◌, Option, Some, if◌then◌else◌}
 use Rattle.std.specs.Option.{option_map_or}
 use Rattle.std.specs.BTreeMap.{BTreeMap, get}
 use Rattle.std.specs.BTreeSet.{BTreeSet, contains}
@@ -13,6 +13,10 @@ Numbers = BTreeMap ClauseKey ℕ
 -- the clauses whose counters stand at 0, and no others
 abbrev pub AreUnmet : Numbers → BTreeSet ClauseKey → Type 0
 AreUnmet numbers unmet = (k : ClauseKey) → contains clause_cmp unmet k ≡ option_map_or (λ n. nat_eq n 0) (get clause_cmp numbers k) false
+
+-- A number that counts n more. At the last value of a u128 it would stay, which no number of the tables comes to.
+abbrev pub counted_up : ℕ → ℕ → ℕ
+counted_up n number = max number (min (number + n) (2 ^ 128 - 1))
 
 -- the number of a clause, once these clauses came in turn, each with its number
 abbrev pub entered : List (ClauseKey × ℕ) → ClauseKey → Option ℕ → Option ℕ

@@ -1,5 +1,5 @@
 -- Of the tables alone: what an accepted plan makes of the stanzas under keys.
-use Rattle.std.specs.Prelude.{◌≡◌, ℕ, ◌-◌, true, false, List}
+use Rattle.std.specs.Prelude.{◌≡◌, ◌<◌, ℕ, ◌-◌, ◌^◌, true, false, List, length}
 use Rattle.std.specs.List.{AllByRecursion}
 use Rattle.ctl_store.specs.Keys.{keyed_after}
 use Rattle.ctl_store.specs.Entries.{Entry, entries_of, entries_by, without_keys}
@@ -35,6 +35,8 @@ pub record IsFollowed (h : Held) (plan : Planned) : Type 0 where
   pub apart : AreApart (staying h plan)
   pub apart_going : AreApart (going h plan)
   pub apart_coming : AreApart (coming h plan)
+  pub apart_after : AreApart (standing_after h plan)
+  pub few : length (standing_after h plan) < 2 ^ 32
   pub seen_standing : AreSeen (in_store h) (standing h)
   pub seen_staying : AreSeen (in_store h) (staying h plan)
   pub seen_still : AreSeen (with_plan h plan) (staying h plan)

@@ -1,6 +1,6 @@
 -- Of the tables alone: tables that hold what the stanzas under keys have, and what stanzas that come or go make of them.
 use Rattle.std.specs.Prelude.{◌≡◌, ℕ, suc, ◌+◌, List, [], ◌∷◌, Option, if◌then◌else◌}
-use Rattle.std.specs.List.{sum_by}
+use Rattle.std.specs.List.{All, sum_by}
 use Rattle.std.specs.Str.{bytes_eq}
 use Rattle.std.specs.BTreeMap.{get}
 use Rattle.ctl_relation.specs.Parts.{AtomParts, OfferParts}
@@ -15,6 +15,7 @@ use Rattle.ctl_index.specs.declared.tables.Tables.{Tables}
 use Rattle.ctl_index.specs.Clauses.{clause_cmp, number_at}
 use Rattle.ctl_index.specs.Names.{keyed_atoms}
 use Rattle.ctl_index.specs.TablesByName.{offers_under, namers_under}
+use Rattle.ctl_index.specs.TablesFit.{IsWholeAt, AreWhole}
 use Rattle.ctl_index.specs.TablesOrder.{namer_of}
 use Rattle.ctl_index.specs.TablesRows.{AreKept, AreRowsPut, AreRowsTaken}
 use Rattle.ctl_index.specs.TablesSight.{Seen, seen}
@@ -36,12 +37,14 @@ abbrev pub atom_named : List ℕ → (Namer → ℕ) → AtomKey × AtomParts �
 atom_named q f x = if bytes_eq x.1.name q then f (namer_of x.0 x.1) else 0
 
 -- Under each name stand the keys of its offers, and of its atoms with what is kept of their bounds, each as often as it is there, in any order: any sum over
--- them is that over the stanzas. Each clause has its number, and no other key has one. The rows are those of the stanzas.
+-- them is that over the stanzas. Each clause has its number, and no other key has one. The rows are those of the stanzas, and these
+-- have no fault.
 pub record IsIndexed (es : List Entry) (t : Tables) : Type 0 where
   pub offers : (q : List ℕ) (f : OfferKey → ℕ) → sum_by f (offers_under t.names.map q) ≡ sum_by (λ (e : Entry). sum_by (offer_named q f) (keyed_offers e)) es
   pub namers : (q : List ℕ) (f : Namer → ℕ) → sum_by f (namers_under t.names.map q) ≡ sum_by (λ (e : Entry). sum_by (atom_named q f) (keyed_atoms e)) es
   pub counters : (k : ClauseKey) → get clause_cmp t.counters.numbers k ≡ number_at k es
   pub rows : AreKept es t.names.map
+  pub whole : AreWhole es
 
 -- ---- stanzas that come
 
@@ -61,6 +64,7 @@ pub record IsPutIn (s : Seen) (keys : List StanzaKey) (old new : Tables) : Type 
   pub namers : (q : List ℕ) → namers_under new.names.map q ≡ namers_put s keys old q
   pub counters : (k : ClauseKey) → get clause_cmp new.counters.numbers k ≡ number_put s keys old k
   pub rows : AreRowsPut s keys old.names.map new.names.map
+  pub whole : All (IsWholeAt (seen s)) keys
 
 -- how many tests are made
 abbrev pub tests_put_in : Seen → List StanzaKey → Tables → ℕ

@@ -1,5 +1,5 @@
 -- Of the tables alone: what each step of taking stanzas out or putting them in makes of them.
-use Rattle.std.specs.Prelude.{ℕ, ◌+◌, ◌-◌, suc, ◌&&◌, Bool, List, [], ◌∷◌, Option, None, Some, if◌then◌else◌}
+use Rattle.std.specs.Prelude.{ℕ, ◌-◌, suc, ◌&&◌, Bool, List, [], ◌∷◌, Option, None, Some, if◌then◌else◌}
 use Rattle.std.specs.List.{sum_by}
 use Rattle.std.specs.Option.{option_map, option_map_or}
 use Rattle.std.specs.Str.{bytes_eq}
@@ -15,6 +15,7 @@ use Rattle.ctl_index.specs.declared.keys.ClauseKey.{ClauseKey}
 use Rattle.ctl_index.specs.declared.keys.Namer.{Namer}
 use Rattle.ctl_index.specs.declared.keys.OfferKey.{OfferKey}
 use Rattle.ctl_index.specs.declared.span.Span.{Span}
+use Rattle.ctl_index.specs.TablesCounters.{counted_up}
 use Rattle.ctl_index.specs.TablesOrder.{offer_stanza, namer_of, namer_stanza, put_in_order, others}
 use Rattle.ctl_index.specs.Clauses.{is_clause_field, clause_cmp}
 use Rattle.ctl_index.specs.Names.{naming_fields}
@@ -95,7 +96,7 @@ dropped_fields key stanza (field ∷ fields) k old = dropped_fields key stanza f
 
 abbrev pub raised : Seen → (List ℕ → List Namer) → List OfferParts → ClauseKey → Option ℕ → Option ℕ
 raised s namers [] k old = old
-raised s namers (offer ∷ offers) k old = raised s namers offers k (option_map (λ n. n + sum_by (hit s offer k) (namers offer.name)) old)
+raised s namers (offer ∷ offers) k old = raised s namers offers k (option_map (counted_up (sum_by (hit s offer k) (namers offer.name))) old)
 
 abbrev pub lowered : Seen → (List ℕ → List Namer) → List OfferParts → ClauseKey → Option ℕ → Option ℕ
 lowered s namers [] k old = old

@@ -27,7 +27,8 @@ use std::collections::BTreeMap;
 fn renew_name(store: &Store, names: &NameTable, name: &[u8], chosen: &mut BTreeMap<Vec<u8>, Chosen>)
     requires rows { AreRowsOf (rows_under names.now.map name.now) name.now (keyed_of store.now).lists }
     requires place { IsSome (kept_of name.now (world_of store.now)) → IsSome (at_bytes chosen.old name.now) }
-    ensures { (q : List ℕ) → at_bytes chosen.new q ≡ (if bytes_eq name.now q then kept_of name.now (world_of store.now) else at_bytes chosen.old q) }
+    ensures { (q : List ℕ) → at_bytes chosen.new q
+        ≡ (if bytes_eq name.now q then kept_of name.now (world_of store.now) else at_bytes chosen.old q) }
 {
     rows_are_shown();
     names_with_rows_are_kept();
@@ -59,7 +60,8 @@ pub(crate) fn renew_names(
 )
     requires rows { (q : List ℕ) → AreRowsOf (rows_under names.now.map q) q (keyed_of store.now).lists }
     requires places { (q : List ℕ) → is_one_of q touched.now ≡ true → IsSome (at_bytes chosen.old q) }
-    ensures { (q : List ℕ) → at_bytes chosen.new q ≡ (if is_one_of q touched.now then kept_of q (world_of store.now) else at_bytes chosen.old q) }
+    ensures { (q : List ℕ) → at_bytes chosen.new q
+        ≡ (if is_one_of q touched.now then kept_of q (world_of store.now) else at_bytes chosen.old q) }
 {
     let mut left = touched;
     'names: while let Some((name, rest)) = left.split_first() {
@@ -93,7 +95,10 @@ pub(crate) fn choose_all(
 
 /// Where the names that an edit touches had places and were chosen anew, and the others stayed, all is chosen as after the edit.
 pub(crate) fn choices_follow_edits()
-    ensures { (h : Held) → (plan : Planned) → (new : Held) → (names : List (List ℕ)) → (old : ChosenMap) → (placed : ChosenMap) → (chosen : ChosenMap) → HasMade h plan new → TouchesAlone names h plan.edit → AreChosen old (world_of h) → HasRenewed names (world_of new) old placed chosen → AreChosen chosen (world_of new) }
+    ensures { (h : Held) → (plan : Planned) → (new : Held) → (names : List (List ℕ)) → (old : ChosenMap)
+        → (placed : ChosenMap) → (chosen : ChosenMap) → HasMade h plan new → TouchesAlone names h plan.edit
+        → AreChosen old (world_of h) → HasRenewed names (world_of new) old placed chosen
+        → AreChosen chosen (world_of new) }
 {
     plans_are_accepted();
     touched_names_are_enough();

@@ -2,18 +2,18 @@
 
 ghost use Rattle.std.specs.Prelude.{◌≡◌, ◌+◌, ◌≤◌, ◌<◌, ◌^◌, ℕ, List, OnOk, IfOk, Option, Some, length, if◌then◌else◌};
 ghost use Rattle.std.specs.BTreeMap.{get};
+ghost use Rattle.std.specs.List.{All};
 ghost use Rattle.ctl_relation.specs.Bounds.{atom_count};
 ghost use Rattle.ctl_index.specs.Clauses.{clause_cmp};
 ghost use Rattle.ctl_index.specs.Names.{naming_fields};
 ghost use Rattle.ctl_index.specs.TablesByName.{offers_under, namers_under, rows_under};
 ghost use Rattle.ctl_index.specs.TablesCounters.{entered};
 ghost use Rattle.ctl_index.specs.TablesSight.{seen};
+ghost use Rattle.ctl_index.specs.TablesFit.{IsWholeAt};
 ghost use Rattle.ctl_index.specs.TablesSteps.{listed_offers, listed_group, listed_groups, listed_fields, group_met, group_tested, groups_tested, fields_tested, is_clause, entered_groups, entered_fields, raised, all_tested, with_found, with_each, of_found, put_offers_step, put_atoms_step, raise_step, enter_step, offers_tests, offers_tested, atoms_tested};
 ghost use Rattle.ctl_index.specs.Work.{more_by};
 ghost use Rattle.ctl_stanza.specs.Content.{groups_of};
 
-use crate::counting::is_clause_field;
-use crate::fields::naming_fields;
 use crate::keys::{AtomKey, ClauseKey, OfferKey};
 use crate::name_table::NameTable;
 use crate::sight::{Sight, stanza_at};
@@ -33,10 +33,13 @@ fn put_offers_of(
     steps: &mut Steps,
 ) -> Result<(), AllocError>
     requires { length offers.now < 2 ^ 32 }
-    ensures offers { OnOk result ((q : List ℕ) → offers_under tables.new.names.map q ≡ listed_offers key q 0 offers.now (offers_under tables.old.names.map q)) }
+    ensures offers { OnOk result ((q : List ℕ) → offers_under tables.new.names.map q
+        ≡ listed_offers key q 0 offers.now (offers_under tables.old.names.map q)) }
     ensures namers { OnOk result (namers_under tables.new.names.map ≡ namers_under tables.old.names.map) }
     ensures rows { OnOk result (rows_under tables.new.names.map ≡ rows_under tables.old.names.map) }
-    ensures counts { OnOk result ((k : ClauseKey) → get clause_cmp tables.new.counters.numbers k ≡ raised sight.now (namers_under tables.old.names.map) offers.now k (get clause_cmp tables.old.counters.numbers k)) }
+    ensures counts { OnOk result ((k : ClauseKey) → get clause_cmp tables.new.counters.numbers k
+        ≡ raised sight.now (namers_under tables.old.names.map) offers.now k
+        (get clause_cmp tables.old.counters.numbers k)) }
     ensures steps { OnOk result (steps.new ≡ more_by (all_tested sight.now (namers_under tables.old.names.map) offers.now) steps.old) }
     ensures most { steps.new ≤ more_by (all_tested sight.now (namers_under tables.old.names.map) offers.now) steps.old }
     ensures least { steps.old ≤ steps.new }
@@ -63,17 +66,28 @@ fn put_offers_at(
     tables: &mut Tables,
     steps: &mut Steps,
 ) -> Result<(), AllocError>
-    ensures offers { OnOk result ((q : List ℕ) → offers_under tables.new.names.map q ≡ with_found (seen sight.now) (put_offers_step q) key (offers_under tables.old.names.map q)) }
+    ensures whole { OnOk result (IsWholeAt (seen sight.now) key) }
+    ensures offers { OnOk result ((q : List ℕ) → offers_under tables.new.names.map q
+        ≡ with_found (seen sight.now) (put_offers_step q) key (offers_under tables.old.names.map q)) }
     ensures namers { OnOk result (namers_under tables.new.names.map ≡ namers_under tables.old.names.map) }
     ensures rows { OnOk result (rows_under tables.new.names.map ≡ rows_under tables.old.names.map) }
-    ensures counts { OnOk result ((k : ClauseKey) → get clause_cmp tables.new.counters.numbers k ≡ with_found (seen sight.now) (raise_step sight.now (namers_under tables.old.names.map) k) key (get clause_cmp tables.old.counters.numbers k)) }
-    ensures steps { OnOk result (steps.new ≡ more_by (of_found (seen sight.now) (offers_tests sight.now (namers_under tables.old.names.map)) key) steps.old) }
-    ensures most { steps.new ≤ more_by (of_found (seen sight.now) (offers_tests sight.now (namers_under tables.old.names.map)) key) steps.old }
+    ensures counts { OnOk result ((k : ClauseKey) → get clause_cmp tables.new.counters.numbers k
+        ≡ with_found (seen sight.now) (raise_step sight.now (namers_under tables.old.names.map) k) key
+        (get clause_cmp tables.old.counters.numbers k)) }
+    ensures steps { OnOk result (steps.new
+        ≡ more_by (of_found (seen sight.now) (offers_tests sight.now
+        (namers_under tables.old.names.map)) key) steps.old) }
+    ensures most { steps.new ≤ more_by (of_found (seen sight.now) (offers_tests sight.now
+        (namers_under tables.old.names.map)) key) steps.old }
     ensures least { steps.old ≤ steps.new }
 {
     let _count = steps.count();
     match stanza_at(sight, key) {
-        Some(stanza) => put_offers_of(alloc, sight, key, stanza.offers(), tables, steps),
+        Some(stanza) => {
+            // That the stanza has no fault is said here.
+            let _kind = stanza.kind();
+            put_offers_of(alloc, sight, key, stanza.offers(), tables, steps)
+        }
         None => Ok(()),
     }
 }
@@ -86,10 +100,14 @@ pub(crate) fn put_offers(
     tables: &mut Tables,
     steps: &mut Steps,
 ) -> Result<(), AllocError>
-    ensures offers { OnOk result ((q : List ℕ) → offers_under tables.new.names.map q ≡ with_each (seen sight.now) (put_offers_step q) keys.now (offers_under tables.old.names.map q)) }
+    ensures whole { OnOk result (All (IsWholeAt (seen sight.now)) keys.now) }
+    ensures offers { OnOk result ((q : List ℕ) → offers_under tables.new.names.map q
+        ≡ with_each (seen sight.now) (put_offers_step q) keys.now (offers_under tables.old.names.map q)) }
     ensures namers { OnOk result (namers_under tables.new.names.map ≡ namers_under tables.old.names.map) }
     ensures rows { OnOk result (rows_under tables.new.names.map ≡ rows_under tables.old.names.map) }
-    ensures counts { OnOk result ((k : ClauseKey) → get clause_cmp tables.new.counters.numbers k ≡ with_each (seen sight.now) (raise_step sight.now (namers_under tables.old.names.map) k) keys.now (get clause_cmp tables.old.counters.numbers k)) }
+    ensures counts { OnOk result ((k : ClauseKey) → get clause_cmp tables.new.counters.numbers k
+        ≡ with_each (seen sight.now) (raise_step sight.now (namers_under tables.old.names.map) k) keys.now
+        (get clause_cmp tables.old.counters.numbers k)) }
     ensures steps { OnOk result (steps.new ≡ more_by (offers_tested sight.now (namers_under tables.old.names.map) keys.now) steps.old) }
     ensures most { steps.new ≤ more_by (offers_tested sight.now (namers_under tables.old.names.map) keys.now) steps.old }
     ensures least { steps.old ≤ steps.new }
@@ -111,11 +129,13 @@ fn put_group(
     steps: &mut Steps,
 ) -> Result<u128, AllocError>
     requires { length group.now < 2 ^ 32 }
-    ensures namers { OnOk result ((q : List ℕ) → namers_under names.new.map q ≡ listed_group clause.stanza clause.field clause.group q 0 group.now (namers_under names.old.map q)) }
+    ensures namers { OnOk result ((q : List ℕ) → namers_under names.new.map q
+        ≡ listed_group clause.stanza clause.field clause.group q 0 group.now (namers_under names.old.map q)) }
     ensures offers { OnOk result (offers_under names.new.map ≡ offers_under names.old.map) }
     ensures rows { OnOk result (rows_under names.new.map ≡ rows_under names.old.map) }
     ensures met { IfOk result (λ met. met ≡ group_met sight.now clause.field (offers_under names.old.map) group.now) }
-    ensures steps { OnOk result (steps.new ≡ more_by (group_tested sight.now clause.field (offers_under names.old.map) group.now) steps.old) }
+    ensures steps { OnOk result (steps.new
+        ≡ more_by (group_tested sight.now clause.field (offers_under names.old.map) group.now) steps.old) }
     ensures most { steps.new ≤ more_by (group_tested sight.now clause.field (offers_under names.old.map) group.now) steps.old }
     ensures least { steps.old ≤ steps.new }
 {
@@ -142,9 +162,10 @@ fn list_clause(
     clause: ClauseKey,
     number: u128,
 ) -> Result<(), AllocError>
-    ensures { OnOk result ((k : ClauseKey) → (o : Option ℕ) → entered clauses.new.items k o ≡ (if is_clause clause k then Some number else entered clauses.old.items k o)) }
+    ensures { OnOk result ((k : ClauseKey) → (o : Option ℕ) → entered clauses.new.items k o
+        ≡ (if is_clause clause k then Some number else entered clauses.old.items k o)) }
 {
-    if is_clause_field(clause.field) {
+    if clause.field.is_wanted() {
         clauses.push((clause, number))?;
     }
     Ok(())
@@ -162,10 +183,13 @@ fn put_groups(
 ) -> Result<(), AllocError>
     requires count { length groups < 2 ^ 32 }
     requires few { atom_count groups < 2 ^ 32 }
-    ensures namers { OnOk result ((q : List ℕ) → namers_under names.new.map q ≡ listed_groups key field q 0 groups.entry (namers_under names.old.map q)) }
+    ensures namers { OnOk result ((q : List ℕ) → namers_under names.new.map q
+        ≡ listed_groups key field q 0 groups.entry (namers_under names.old.map q)) }
     ensures offers { OnOk result (offers_under names.new.map ≡ offers_under names.old.map) }
     ensures rows { OnOk result (rows_under names.new.map ≡ rows_under names.old.map) }
-    ensures counts { OnOk result ((k : ClauseKey) → (o : Option ℕ) → entered clauses.new.items k o ≡ entered_groups sight.now (offers_under names.old.map) key field 0 groups.entry k (entered clauses.old.items k o)) }
+    ensures counts { OnOk result ((k : ClauseKey) → (o : Option ℕ) → entered clauses.new.items k o
+        ≡ entered_groups sight.now (offers_under names.old.map) key field 0 groups.entry k
+        (entered clauses.old.items k o)) }
     ensures steps { OnOk result (steps.new ≡ more_by (groups_tested sight.now field (offers_under names.old.map) groups.entry) steps.old) }
     ensures most { steps.new ≤ more_by (groups_tested sight.now field (offers_under names.old.map) groups.entry) steps.old }
     ensures least { steps.old ≤ steps.new }
@@ -196,11 +220,16 @@ fn put_field(
     clauses: &mut Vec<(ClauseKey, u128)>,
     steps: &mut Steps,
 ) -> Result<(), AllocError>
-    ensures namers { OnOk result ((q : List ℕ) → namers_under names.new.map q ≡ listed_groups key field q 0 (groups_of field stanza.now) (namers_under names.old.map q)) }
+    ensures namers { OnOk result ((q : List ℕ) → namers_under names.new.map q
+        ≡ listed_groups key field q 0 (groups_of field stanza.now) (namers_under names.old.map q)) }
     ensures offers { OnOk result (offers_under names.new.map ≡ offers_under names.old.map) }
     ensures rows { OnOk result (rows_under names.new.map ≡ rows_under names.old.map) }
-    ensures counts { OnOk result ((k : ClauseKey) → (o : Option ℕ) → entered clauses.new.items k o ≡ entered_groups sight.now (offers_under names.old.map) key field 0 (groups_of field stanza.now) k (entered clauses.old.items k o)) }
-    ensures steps { OnOk result (steps.new ≡ more_by (groups_tested sight.now field (offers_under names.old.map) (groups_of field stanza.now)) steps.old) }
+    ensures counts { OnOk result ((k : ClauseKey) → (o : Option ℕ) → entered clauses.new.items k o
+        ≡ entered_groups sight.now (offers_under names.old.map) key field 0 (groups_of field stanza.now) k
+        (entered clauses.old.items k o)) }
+    ensures steps { OnOk result (steps.new
+        ≡ more_by (groups_tested sight.now field (offers_under names.old.map)
+        (groups_of field stanza.now)) steps.old) }
     ensures most { steps.new ≤ more_by (groups_tested sight.now field (offers_under names.old.map) (groups_of field stanza.now)) steps.old }
     ensures least { steps.old ≤ steps.new }
 {
@@ -219,11 +248,15 @@ fn put_fields(
     clauses: &mut Vec<(ClauseKey, u128)>,
     steps: &mut Steps,
 ) -> Result<(), AllocError>
-    ensures namers { OnOk result ((q : List ℕ) → namers_under names.new.map q ≡ listed_fields key stanza.now q fields.now (namers_under names.old.map q)) }
+    ensures namers { OnOk result ((q : List ℕ) → namers_under names.new.map q
+        ≡ listed_fields key stanza.now q fields.now (namers_under names.old.map q)) }
     ensures offers { OnOk result (offers_under names.new.map ≡ offers_under names.old.map) }
     ensures rows { OnOk result (rows_under names.new.map ≡ rows_under names.old.map) }
-    ensures counts { OnOk result ((k : ClauseKey) → (o : Option ℕ) → entered clauses.new.items k o ≡ entered_fields sight.now (offers_under names.old.map) key stanza.now fields.now k (entered clauses.old.items k o)) }
-    ensures steps { OnOk result (steps.new ≡ more_by (fields_tested sight.now (offers_under names.old.map) fields.now stanza.now) steps.old) }
+    ensures counts { OnOk result ((k : ClauseKey) → (o : Option ℕ) → entered clauses.new.items k o
+        ≡ entered_fields sight.now (offers_under names.old.map) key stanza.now fields.now k
+        (entered clauses.old.items k o)) }
+    ensures steps { OnOk result (steps.new
+        ≡ more_by (fields_tested sight.now (offers_under names.old.map) fields.now stanza.now) steps.old) }
     ensures most { steps.new ≤ more_by (fields_tested sight.now (offers_under names.old.map) fields.now stanza.now) steps.old }
     ensures least { steps.old ≤ steps.new }
 {
@@ -243,12 +276,18 @@ fn put_atoms_at(
     clauses: &mut Vec<(ClauseKey, u128)>,
     steps: &mut Steps,
 ) -> Result<(), AllocError>
-    ensures namers { OnOk result ((q : List ℕ) → namers_under names.new.map q ≡ with_found (seen sight.now) (put_atoms_step q) key (namers_under names.old.map q)) }
+    ensures namers { OnOk result ((q : List ℕ) → namers_under names.new.map q
+        ≡ with_found (seen sight.now) (put_atoms_step q) key (namers_under names.old.map q)) }
     ensures offers { OnOk result (offers_under names.new.map ≡ offers_under names.old.map) }
     ensures rows { OnOk result (rows_under names.new.map ≡ rows_under names.old.map) }
-    ensures counts { OnOk result ((k : ClauseKey) → (o : Option ℕ) → entered clauses.new.items k o ≡ with_found (seen sight.now) (enter_step sight.now (offers_under names.old.map) k) key (entered clauses.old.items k o)) }
-    ensures steps { OnOk result (steps.new ≡ more_by (of_found (seen sight.now) (fields_tested sight.now (offers_under names.old.map) naming_fields) key) steps.old) }
-    ensures most { steps.new ≤ more_by (of_found (seen sight.now) (fields_tested sight.now (offers_under names.old.map) naming_fields) key) steps.old }
+    ensures counts { OnOk result ((k : ClauseKey) → (o : Option ℕ) → entered clauses.new.items k o
+        ≡ with_found (seen sight.now) (enter_step sight.now (offers_under names.old.map) k) key
+        (entered clauses.old.items k o)) }
+    ensures steps { OnOk result (steps.new
+        ≡ more_by (of_found (seen sight.now) (fields_tested sight.now
+        (offers_under names.old.map) naming_fields) key) steps.old) }
+    ensures most { steps.new ≤ more_by (of_found (seen sight.now) (fields_tested sight.now
+        (offers_under names.old.map) naming_fields) key) steps.old }
     ensures least { steps.old ≤ steps.new }
 {
     let _count = steps.count();
@@ -258,7 +297,7 @@ fn put_atoms_at(
             sight,
             key,
             stanza,
-            naming_fields(),
+            FieldKind::eight(),
             names,
             clauses,
             steps,
@@ -276,10 +315,13 @@ fn list_atoms(
     clauses: &mut Vec<(ClauseKey, u128)>,
     steps: &mut Steps,
 ) -> Result<(), AllocError>
-    ensures namers { OnOk result ((q : List ℕ) → namers_under names.new.map q ≡ with_each (seen sight.now) (put_atoms_step q) keys.now (namers_under names.old.map q)) }
+    ensures namers { OnOk result ((q : List ℕ) → namers_under names.new.map q
+        ≡ with_each (seen sight.now) (put_atoms_step q) keys.now (namers_under names.old.map q)) }
     ensures offers { OnOk result (offers_under names.new.map ≡ offers_under names.old.map) }
     ensures rows { OnOk result (rows_under names.new.map ≡ rows_under names.old.map) }
-    ensures counts { OnOk result ((k : ClauseKey) → (o : Option ℕ) → entered clauses.new.items k o ≡ with_each (seen sight.now) (enter_step sight.now (offers_under names.old.map) k) keys.now (entered clauses.old.items k o)) }
+    ensures counts { OnOk result ((k : ClauseKey) → (o : Option ℕ) → entered clauses.new.items k o
+        ≡ with_each (seen sight.now) (enter_step sight.now (offers_under names.old.map) k) keys.now
+        (entered clauses.old.items k o)) }
     ensures steps { OnOk result (steps.new ≡ more_by (atoms_tested sight.now (offers_under names.old.map) keys.now) steps.old) }
     ensures most { steps.new ≤ more_by (atoms_tested sight.now (offers_under names.old.map) keys.now) steps.old }
     ensures least { steps.old ≤ steps.new }
@@ -300,10 +342,13 @@ pub(crate) fn put_atoms(
     tables: &mut Tables,
     steps: &mut Steps,
 ) -> Result<(), AllocError>
-    ensures namers { OnOk result ((q : List ℕ) → namers_under tables.new.names.map q ≡ with_each (seen sight.now) (put_atoms_step q) keys.now (namers_under tables.old.names.map q)) }
+    ensures namers { OnOk result ((q : List ℕ) → namers_under tables.new.names.map q
+        ≡ with_each (seen sight.now) (put_atoms_step q) keys.now (namers_under tables.old.names.map q)) }
     ensures offers { OnOk result (offers_under tables.new.names.map ≡ offers_under tables.old.names.map) }
     ensures rows { OnOk result (rows_under tables.new.names.map ≡ rows_under tables.old.names.map) }
-    ensures counts { OnOk result ((k : ClauseKey) → get clause_cmp tables.new.counters.numbers k ≡ with_each (seen sight.now) (enter_step sight.now (offers_under tables.old.names.map) k) keys.now (get clause_cmp tables.old.counters.numbers k)) }
+    ensures counts { OnOk result ((k : ClauseKey) → get clause_cmp tables.new.counters.numbers k
+        ≡ with_each (seen sight.now) (enter_step sight.now (offers_under tables.old.names.map) k) keys.now
+        (get clause_cmp tables.old.counters.numbers k)) }
     ensures steps { OnOk result (steps.new ≡ more_by (atoms_tested sight.now (offers_under tables.old.names.map) keys.now) steps.old) }
     ensures most { steps.new ≤ more_by (atoms_tested sight.now (offers_under tables.old.names.map) keys.now) steps.old }
     ensures least { steps.old ≤ steps.new }

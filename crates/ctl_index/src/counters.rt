@@ -1,11 +1,11 @@
 //! The number of each clause, and the clauses at 0.
 
-ghost use Rattle.std.specs.Prelude.{◌≡◌, ◌+◌, ◌-◌, ℕ, None, true, false, OnOk, OnErr, option_map, if◌then◌else◌};
+ghost use Rattle.std.specs.Prelude.{◌≡◌, ◌-◌, ℕ, None, true, false, OnOk, OnErr, option_map, if◌then◌else◌};
 ghost use Rattle.std.specs.BTreeMap.{get, IsEmpty};
 ghost use Rattle.std.specs.BTreeSet.{contains};
 ghost use Rattle.std.specs.Ordering.{is_eq};
 ghost use Rattle.ctl_index.specs.Clauses.{clause_cmp};
-ghost use Rattle.ctl_index.specs.TablesCounters.{AreUnmet, entered, marked};
+ghost use Rattle.ctl_index.specs.TablesCounters.{AreUnmet, counted_up, entered, marked};
 
 use crate::keys::ClauseKey;
 use std::alloc::{AllocError, Global};
@@ -32,7 +32,8 @@ fn is_above(unmet: &BTreeSet<ClauseKey>, key: ClauseKey) -> bool
 // Notes whether a clause is among those at 0.
 #[tactic(auto, using(crate::proofs::CounterLemmas::marked_already))]
 fn mark(unmet: &mut BTreeSet<ClauseKey>, key: ClauseKey, is_unmet: bool) -> Result<(), AllocError>
-    ensures ok { OnOk result ((k : ClauseKey) → contains clause_cmp unmet.new k ≡ (if is_eq (clause_cmp key k) then is_unmet else contains clause_cmp unmet.old k)) }
+    ensures ok { OnOk result ((k : ClauseKey) → contains clause_cmp unmet.new k
+        ≡ (if is_eq (clause_cmp key k) then is_unmet else contains clause_cmp unmet.old k)) }
     ensures err { OnErr result ((k : ClauseKey) → contains clause_cmp unmet.new k ≡ contains clause_cmp unmet.old k) }
 {
     if is_unmet {
@@ -52,7 +53,8 @@ fn note(
     is_unmet: bool,
 ) -> Result<(), AllocError>
     requires { contains clause_cmp unmet.old key ≡ was_unmet }
-    ensures ok { OnOk result ((k : ClauseKey) → contains clause_cmp unmet.new k ≡ (if is_eq (clause_cmp key k) then is_unmet else contains clause_cmp unmet.old k)) }
+    ensures ok { OnOk result ((k : ClauseKey) → contains clause_cmp unmet.new k
+        ≡ (if is_eq (clause_cmp key k) then is_unmet else contains clause_cmp unmet.old k)) }
     ensures err { OnErr result ((k : ClauseKey) → contains clause_cmp unmet.new k ≡ contains clause_cmp unmet.old k) }
 {
     if was_unmet == is_unmet {
@@ -65,7 +67,8 @@ fn note(
 #[tactic(auto, using(crate::proofs::CounterLemmas::marked_already))]
 fn unmark(unmet: &mut BTreeSet<ClauseKey>, key: ClauseKey, was_unmet: bool)
     requires { contains clause_cmp unmet.old key ≡ was_unmet }
-    ensures { (k : ClauseKey) → contains clause_cmp unmet.new k ≡ (if is_eq (clause_cmp key k) then false else contains clause_cmp unmet.old k) }
+    ensures { (k : ClauseKey) → contains clause_cmp unmet.new k
+        ≡ (if is_eq (clause_cmp key k) then false else contains clause_cmp unmet.old k) }
 {
     if was_unmet {
         let _ = unmet.remove(&key);
@@ -92,7 +95,8 @@ fn append_all(
     numbers: &mut BTreeMap<ClauseKey, u128>,
     unmet: &mut BTreeSet<ClauseKey>,
 ) -> Result<(), AllocError>
-    ensures numbers { OnOk result ((k : ClauseKey) → get clause_cmp numbers.new k ≡ entered clauses.items k (get clause_cmp numbers.old k)) }
+    ensures numbers { OnOk result ((k : ClauseKey) → get clause_cmp numbers.new k
+        ≡ entered clauses.items k (get clause_cmp numbers.old k)) }
     ensures unmet { OnOk result (AreUnmet numbers.old unmet.old → AreUnmet numbers.new unmet.new) }
 {
     mark_all(unmet, &clauses)?;
@@ -109,7 +113,8 @@ fn enter_all(
     numbers: &mut BTreeMap<ClauseKey, u128>,
     unmet: &mut BTreeSet<ClauseKey>,
 ) -> Result<(), AllocError>
-    ensures numbers { OnOk result ((k : ClauseKey) → get clause_cmp numbers.new k ≡ entered clauses.items k (get clause_cmp numbers.old k)) }
+    ensures numbers { OnOk result ((k : ClauseKey) → get clause_cmp numbers.new k
+        ≡ entered clauses.items k (get clause_cmp numbers.old k)) }
     ensures unmet { AreUnmet numbers.old unmet.old → AreUnmet numbers.new unmet.new }
 {
     match append_all(alloc, clauses, numbers, unmet) {
@@ -162,39 +167,42 @@ impl Counters {
         alloc: Global,
         clauses: Vec<(ClauseKey, u128)>,
     ) -> Result<(), AllocError>
-        ensures { OnOk result ((k : ClauseKey) → get clause_cmp self.new.numbers k ≡ entered clauses.items k (get clause_cmp self.old.numbers k)) }
+        ensures { OnOk result ((k : ClauseKey) → get clause_cmp self.new.numbers k
+            ≡ entered clauses.items k (get clause_cmp self.old.numbers k)) }
     {
         enter_all(alloc, clauses, &mut self.numbers, &mut self.unmet)
     }
 
     /// The clause goes.
     pub(crate) fn remove(&mut self, key: ClauseKey)
-        ensures { (k : ClauseKey) → get clause_cmp self.new.numbers k ≡ (if is_eq (clause_cmp key k) then None else get clause_cmp self.old.numbers k) }
+        ensures { (k : ClauseKey) → get clause_cmp self.new.numbers k
+            ≡ (if is_eq (clause_cmp key k) then None else get clause_cmp self.old.numbers k) }
     {
         let gone = self.numbers.remove(&key);
         unmark(&mut self.unmet, key, matches!(gone, Some(0)));
     }
 
-    /// The clause, if it is there, counts one more. One that would pass a u128 is taken for want of memory.
-    pub(crate) fn raise(&mut self, key: ClauseKey) -> Result<(), AllocError>
-        ensures { OnOk result ((k : ClauseKey) → get clause_cmp self.new.numbers k ≡ option_map (λ n. n + (if is_eq (clause_cmp key k) then 1 else 0)) (get clause_cmp self.old.numbers k)) }
+    /// The clause, if it is there, counts one more.
+    pub(crate) fn raise(&mut self, key: ClauseKey)
+        ensures { (k : ClauseKey) → get clause_cmp self.new.numbers k
+            ≡ option_map (counted_up (if is_eq (clause_cmp key k) then 1 else 0))
+            (get clause_cmp self.old.numbers k) }
     {
         match self.numbers.get_mut(&key) {
             Some(n) => {
-                let Some(more) = n.checked_add(1) else {
-                    return Err(AllocError);
-                };
+                let more = n.saturating_add(1);
                 unmark(&mut self.unmet, key, *n == 0);
                 *n = more;
-                Ok(())
             }
-            None => Ok(()),
+            None => {}
         }
     }
 
     /// The clause, if it is there, counts one less.
     pub(crate) fn lower(&mut self, key: ClauseKey) -> Result<(), AllocError>
-        ensures { OnOk result ((k : ClauseKey) → get clause_cmp self.new.numbers k ≡ option_map (λ n. n - (if is_eq (clause_cmp key k) then 1 else 0)) (get clause_cmp self.old.numbers k)) }
+        ensures { OnOk result ((k : ClauseKey) → get clause_cmp self.new.numbers k
+            ≡ option_map (λ n. n - (if is_eq (clause_cmp key k) then 1 else 0))
+            (get clause_cmp self.old.numbers k)) }
     {
         match self.numbers.get_mut(&key) {
             Some(n) => {

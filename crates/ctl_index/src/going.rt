@@ -11,8 +11,6 @@ ghost use Rattle.ctl_index.specs.Work.{more_by};
 ghost use Rattle.ctl_stanza.specs.Content.{groups_of};
 
 use crate::counters::Counters;
-use crate::counting::is_clause_field;
-use crate::fields::naming_fields;
 use crate::keys::ClauseKey;
 use crate::name_table::NameTable;
 use crate::sight::{Sight, stanza_at};
@@ -45,9 +43,10 @@ fn take_group(
 
 // The counter of a group, where the group is a clause.
 fn drop_counter(counters: &mut Counters, clause: ClauseKey)
-    ensures { (k : ClauseKey) → get clause_cmp counters.new.numbers k ≡ (if is_clause clause k then None else get clause_cmp counters.old.numbers k) }
+    ensures { (k : ClauseKey) → get clause_cmp counters.new.numbers k
+        ≡ (if is_clause clause k then None else get clause_cmp counters.old.numbers k) }
 {
-    if is_clause_field(clause.field) {
+    if clause.field.is_wanted() {
         counters.remove(clause);
     }
 }
@@ -62,10 +61,12 @@ fn take_groups(
     steps: &mut Steps,
 )
     requires { length groups < 2 ^ 32 }
-    ensures namers { (q : List ℕ) → namers_under tables.new.names.map q ≡ left_groups span q groups.entry (namers_under tables.old.names.map q) }
+    ensures namers { (q : List ℕ) → namers_under tables.new.names.map q
+        ≡ left_groups span q groups.entry (namers_under tables.old.names.map q) }
     ensures offers { offers_under tables.new.names.map ≡ offers_under tables.old.names.map }
     ensures rows { rows_under tables.new.names.map ≡ rows_under tables.old.names.map }
-    ensures counts { (k : ClauseKey) → get clause_cmp tables.new.counters.numbers k ≡ dropped_groups key field 0 groups.entry k (get clause_cmp tables.old.counters.numbers k) }
+    ensures counts { (k : ClauseKey) → get clause_cmp tables.new.counters.numbers k
+        ≡ dropped_groups key field 0 groups.entry k (get clause_cmp tables.old.counters.numbers k) }
     ensures steps { steps.new ≡ more_by (groups_tested sight.now field (offers_under tables.old.names.map) groups.entry) steps.old }
 {
     let _count = steps.count();
@@ -92,11 +93,14 @@ fn take_field(
     tables: &mut Tables,
     steps: &mut Steps,
 )
-    ensures namers { (q : List ℕ) → namers_under tables.new.names.map q ≡ left_groups span q (groups_of field stanza.now) (namers_under tables.old.names.map q) }
+    ensures namers { (q : List ℕ) → namers_under tables.new.names.map q
+        ≡ left_groups span q (groups_of field stanza.now) (namers_under tables.old.names.map q) }
     ensures offers { offers_under tables.new.names.map ≡ offers_under tables.old.names.map }
     ensures rows { rows_under tables.new.names.map ≡ rows_under tables.old.names.map }
-    ensures counts { (k : ClauseKey) → get clause_cmp tables.new.counters.numbers k ≡ dropped_groups key field 0 (groups_of field stanza.now) k (get clause_cmp tables.old.counters.numbers k) }
-    ensures steps { steps.new ≡ more_by (groups_tested sight.now field (offers_under tables.old.names.map) (groups_of field stanza.now)) steps.old }
+    ensures counts { (k : ClauseKey) → get clause_cmp tables.new.counters.numbers k
+        ≡ dropped_groups key field 0 (groups_of field stanza.now) k (get clause_cmp tables.old.counters.numbers k) }
+    ensures steps { steps.new ≡ more_by (groups_tested sight.now field (offers_under tables.old.names.map)
+        (groups_of field stanza.now)) steps.old }
 {
     let groups = stanza.groups(field);
     take_groups(sight, span, key, field, groups, tables, steps);
@@ -112,10 +116,12 @@ fn take_fields(
     tables: &mut Tables,
     steps: &mut Steps,
 )
-    ensures namers { (q : List ℕ) → namers_under tables.new.names.map q ≡ left_fields span stanza.now q fields.now (namers_under tables.old.names.map q) }
+    ensures namers { (q : List ℕ) → namers_under tables.new.names.map q
+        ≡ left_fields span stanza.now q fields.now (namers_under tables.old.names.map q) }
     ensures offers { offers_under tables.new.names.map ≡ offers_under tables.old.names.map }
     ensures rows { rows_under tables.new.names.map ≡ rows_under tables.old.names.map }
-    ensures counts { (k : ClauseKey) → get clause_cmp tables.new.counters.numbers k ≡ dropped_fields key stanza.now fields.now k (get clause_cmp tables.old.counters.numbers k) }
+    ensures counts { (k : ClauseKey) → get clause_cmp tables.new.counters.numbers k
+        ≡ dropped_fields key stanza.now fields.now k (get clause_cmp tables.old.counters.numbers k) }
     ensures steps { steps.new ≡ more_by (fields_tested sight.now (offers_under tables.old.names.map) fields.now stanza.now) steps.old }
 {
     let _count = steps.count();
@@ -132,15 +138,18 @@ fn take_atoms_at(
     tables: &mut Tables,
     steps: &mut Steps,
 )
-    ensures namers { (q : List ℕ) → namers_under tables.new.names.map q ≡ with_found (seen sight.now) (take_atoms_step span q) key (namers_under tables.old.names.map q) }
+    ensures namers { (q : List ℕ) → namers_under tables.new.names.map q
+        ≡ with_found (seen sight.now) (take_atoms_step span q) key (namers_under tables.old.names.map q) }
     ensures offers { offers_under tables.new.names.map ≡ offers_under tables.old.names.map }
     ensures rows { rows_under tables.new.names.map ≡ rows_under tables.old.names.map }
-    ensures counts { (k : ClauseKey) → get clause_cmp tables.new.counters.numbers k ≡ with_found (seen sight.now) (drop_step k) key (get clause_cmp tables.old.counters.numbers k) }
-    ensures steps { steps.new ≡ more_by (of_found (seen sight.now) (fields_tested sight.now (offers_under tables.old.names.map) naming_fields) key) steps.old }
+    ensures counts { (k : ClauseKey) → get clause_cmp tables.new.counters.numbers k
+        ≡ with_found (seen sight.now) (drop_step k) key (get clause_cmp tables.old.counters.numbers k) }
+    ensures steps { steps.new ≡ more_by (of_found (seen sight.now) (fields_tested sight.now
+        (offers_under tables.old.names.map) naming_fields) key) steps.old }
 {
     let _count = steps.count();
     match stanza_at(sight, key) {
-        Some(stanza) => take_fields(sight, span, key, stanza, naming_fields(), tables, steps),
+        Some(stanza) => take_fields(sight, span, key, stanza, FieldKind::eight(), tables, steps),
         None => {}
     }
 }
@@ -154,10 +163,12 @@ pub(crate) fn take_atoms(
     tables: &mut Tables,
     steps: &mut Steps,
 )
-    ensures namers { (q : List ℕ) → namers_under tables.new.names.map q ≡ with_each (seen sight.now) (take_atoms_step span q) keys.now (namers_under tables.old.names.map q) }
+    ensures namers { (q : List ℕ) → namers_under tables.new.names.map q
+        ≡ with_each (seen sight.now) (take_atoms_step span q) keys.now (namers_under tables.old.names.map q) }
     ensures offers { offers_under tables.new.names.map ≡ offers_under tables.old.names.map }
     ensures rows { rows_under tables.new.names.map ≡ rows_under tables.old.names.map }
-    ensures counts { (k : ClauseKey) → get clause_cmp tables.new.counters.numbers k ≡ with_each (seen sight.now) (drop_step k) keys.now (get clause_cmp tables.old.counters.numbers k) }
+    ensures counts { (k : ClauseKey) → get clause_cmp tables.new.counters.numbers k
+        ≡ with_each (seen sight.now) (drop_step k) keys.now (get clause_cmp tables.old.counters.numbers k) }
     ensures steps { steps.new ≡ more_by (atoms_tested sight.now (offers_under tables.old.names.map) keys.now) steps.old }
 {
     let _count = steps.count();
@@ -174,10 +185,13 @@ fn take_offers_of(
     tables: &mut Tables,
     steps: &mut Steps,
 ) -> Result<(), AllocError>
-    ensures offers { OnOk result ((q : List ℕ) → offers_under tables.new.names.map q ≡ left_offers span q offers.now (offers_under tables.old.names.map q)) }
+    ensures offers { OnOk result ((q : List ℕ) → offers_under tables.new.names.map q
+        ≡ left_offers span q offers.now (offers_under tables.old.names.map q)) }
     ensures namers { OnOk result (namers_under tables.new.names.map ≡ namers_under tables.old.names.map) }
     ensures rows { OnOk result (rows_under tables.new.names.map ≡ rows_under tables.old.names.map) }
-    ensures counts { OnOk result ((k : ClauseKey) → get clause_cmp tables.new.counters.numbers k ≡ lowered sight.now (namers_under tables.old.names.map) offers.now k (get clause_cmp tables.old.counters.numbers k)) }
+    ensures counts { OnOk result ((k : ClauseKey) → get clause_cmp tables.new.counters.numbers k
+        ≡ lowered sight.now (namers_under tables.old.names.map) offers.now k
+        (get clause_cmp tables.old.counters.numbers k)) }
     ensures steps { OnOk result (steps.new ≡ more_by (all_tested sight.now (namers_under tables.old.names.map) offers.now) steps.old) }
     ensures most { steps.new ≤ more_by (all_tested sight.now (namers_under tables.old.names.map) offers.now) steps.old }
     ensures least { steps.old ≤ steps.new }
@@ -200,12 +214,18 @@ fn take_offers_at(
     tables: &mut Tables,
     steps: &mut Steps,
 ) -> Result<(), AllocError>
-    ensures offers { OnOk result ((q : List ℕ) → offers_under tables.new.names.map q ≡ with_found (seen sight.now) (take_offers_step span q) key (offers_under tables.old.names.map q)) }
+    ensures offers { OnOk result ((q : List ℕ) → offers_under tables.new.names.map q
+        ≡ with_found (seen sight.now) (take_offers_step span q) key (offers_under tables.old.names.map q)) }
     ensures namers { OnOk result (namers_under tables.new.names.map ≡ namers_under tables.old.names.map) }
     ensures rows { OnOk result (rows_under tables.new.names.map ≡ rows_under tables.old.names.map) }
-    ensures counts { OnOk result ((k : ClauseKey) → get clause_cmp tables.new.counters.numbers k ≡ with_found (seen sight.now) (lower_step sight.now (namers_under tables.old.names.map) k) key (get clause_cmp tables.old.counters.numbers k)) }
-    ensures steps { OnOk result (steps.new ≡ more_by (of_found (seen sight.now) (offers_tests sight.now (namers_under tables.old.names.map)) key) steps.old) }
-    ensures most { steps.new ≤ more_by (of_found (seen sight.now) (offers_tests sight.now (namers_under tables.old.names.map)) key) steps.old }
+    ensures counts { OnOk result ((k : ClauseKey) → get clause_cmp tables.new.counters.numbers k
+        ≡ with_found (seen sight.now) (lower_step sight.now (namers_under tables.old.names.map) k) key
+        (get clause_cmp tables.old.counters.numbers k)) }
+    ensures steps { OnOk result (steps.new
+        ≡ more_by (of_found (seen sight.now) (offers_tests sight.now
+        (namers_under tables.old.names.map)) key) steps.old) }
+    ensures most { steps.new ≤ more_by (of_found (seen sight.now) (offers_tests sight.now
+        (namers_under tables.old.names.map)) key) steps.old }
     ensures least { steps.old ≤ steps.new }
 {
     let _count = steps.count();
@@ -223,10 +243,13 @@ pub(crate) fn take_offers(
     tables: &mut Tables,
     steps: &mut Steps,
 ) -> Result<(), AllocError>
-    ensures offers { OnOk result ((q : List ℕ) → offers_under tables.new.names.map q ≡ with_each (seen sight.now) (take_offers_step span q) keys.now (offers_under tables.old.names.map q)) }
+    ensures offers { OnOk result ((q : List ℕ) → offers_under tables.new.names.map q
+        ≡ with_each (seen sight.now) (take_offers_step span q) keys.now (offers_under tables.old.names.map q)) }
     ensures namers { OnOk result (namers_under tables.new.names.map ≡ namers_under tables.old.names.map) }
     ensures rows { OnOk result (rows_under tables.new.names.map ≡ rows_under tables.old.names.map) }
-    ensures counts { OnOk result ((k : ClauseKey) → get clause_cmp tables.new.counters.numbers k ≡ with_each (seen sight.now) (lower_step sight.now (namers_under tables.old.names.map) k) keys.now (get clause_cmp tables.old.counters.numbers k)) }
+    ensures counts { OnOk result ((k : ClauseKey) → get clause_cmp tables.new.counters.numbers k
+        ≡ with_each (seen sight.now) (lower_step sight.now (namers_under tables.old.names.map) k) keys.now
+        (get clause_cmp tables.old.counters.numbers k)) }
     ensures steps { OnOk result (steps.new ≡ more_by (offers_tested sight.now (namers_under tables.old.names.map) keys.now) steps.old) }
     ensures most { steps.new ≤ more_by (offers_tested sight.now (namers_under tables.old.names.map) keys.now) steps.old }
     ensures least { steps.old ≤ steps.new }

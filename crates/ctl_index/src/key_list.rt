@@ -41,7 +41,8 @@ fn ends_behind<K: OfStanza>(keys: &[K], stanza: StanzaKey) -> bool
 fn end_before<K: OfStanza>(keys: &[K], stanza: StanzaKey) -> usize
     requires { InOrder K.stanza keys.now }
     ensures bound { result ≤ length keys.now }
-    ensures point { IsPartitionPoint (λ key. is_before K.stanza stanza key ≡ true) (λ key. is_before K.stanza stanza key ≡ false) keys.now result }
+    ensures point { IsPartitionPoint (λ key. is_before K.stanza stanza key
+        ≡ true) (λ key. is_before K.stanza stanza key ≡ false) keys.now result }
 {
     keys.partition_point(|key| compare_keys(&key.stanza(), &stanza).is_lt())
 }
@@ -50,7 +51,8 @@ fn end_before<K: OfStanza>(keys: &[K], stanza: StanzaKey) -> usize
 fn end_through<K: OfStanza>(keys: &[K], stanza: StanzaKey) -> usize
     requires { InOrder K.stanza keys.now }
     ensures bound { result ≤ length keys.now }
-    ensures point { IsPartitionPoint (λ key. is_through K.stanza stanza key ≡ true) (λ key. is_through K.stanza stanza key ≡ false) keys.now result }
+    ensures point { IsPartitionPoint (λ key. is_through K.stanza stanza key
+        ≡ true) (λ key. is_through K.stanza stanza key ≡ false) keys.now result }
 {
     if !ends_behind(keys, stanza) {
         return keys.len();

@@ -11,6 +11,7 @@ ghost use Rattle.std.specs.Str.{bytes_eq};
 ghost use Rattle.ctl_policy.specs.Kept.{HasPut, HasTaken, OthersStay};
 ghost use Rattle.ctl_index.specs.Clauses.{clause_cmp};
 ghost use Rattle.ctl_index.specs.TablesByName.{at_name, HoldsNothing, offers_under, namers_under, rows_under, AreUsed, is_used, named_offers, named_namers, named_rows};
+ghost use Rattle.ctl_index.specs.TablesCounters.{counted_up};
 ghost use Rattle.ctl_index.specs.TablesSight.{hit, tested, atom_met, atom_tested};
 ghost use Rattle.ctl_index.specs.NameMap.{entry_names, found_in};
 ghost use Rattle.ctl_index.specs.TablesViews.{AreFrom};
@@ -64,6 +65,7 @@ impl NameTable {
         ensures order { AreFrom prefix.now.items (entry_names result) }
         ensures found { (q : List ℕ) → starts_with nat_eq q prefix.now.items ≡ true → found_in result q ≡ at_name self.now.map q }
         ensures only { (q : List ℕ) → is_some (found_in result q) ≡ true → found_in result q ≡ at_name self.now.map q }
+        ensures used { AreUsed self.now.map }
     {
         self.map.entries_from(prefix)
     }
@@ -118,9 +120,12 @@ impl NameTable {
     // What stands under a name that isn't there yet.
     fn insert(&mut self, alloc: Global, name: &[u8], named: Named) -> Result<(), AllocError>
         requires { is_used named ≡ true }
-        ensures offers { OnOk result ((q : List ℕ) → offers_under self.new.map q ≡ (if bytes_eq name.now q then named_offers named else offers_under self.old.map q)) }
-        ensures namers { OnOk result ((q : List ℕ) → namers_under self.new.map q ≡ (if bytes_eq name.now q then named_namers named else namers_under self.old.map q)) }
-        ensures rows { OnOk result ((q : List ℕ) → rows_under self.new.map q ≡ (if bytes_eq name.now q then named_rows named else rows_under self.old.map q)) }
+        ensures offers { OnOk result ((q : List ℕ) → offers_under self.new.map q
+            ≡ (if bytes_eq name.now q then named_offers named else offers_under self.old.map q)) }
+        ensures namers { OnOk result ((q : List ℕ) → namers_under self.new.map q
+            ≡ (if bytes_eq name.now q then named_namers named else namers_under self.old.map q)) }
+        ensures rows { OnOk result ((q : List ℕ) → rows_under self.new.map q
+            ≡ (if bytes_eq name.now q then named_rows named else rows_under self.old.map q)) }
     {
         self.map.insert(alloc, name, named)
     }
@@ -135,11 +140,17 @@ impl NameTable {
         counters: &mut Counters,
         steps: &mut Steps,
     ) -> Result<(), AllocError>
-        ensures offers { OnOk result ((q : List ℕ) → offers_under self.new.map q ≡ (if bytes_eq offer.now.name q then put_in_order offer_stanza key (offers_under self.old.map q) else offers_under self.old.map q)) }
+        ensures offers { OnOk result ((q : List ℕ) → offers_under self.new.map q
+            ≡ (if bytes_eq offer.now.name q then put_in_order offer_stanza key
+            (offers_under self.old.map q) else offers_under self.old.map q)) }
         ensures namers { OnOk result ((q : List ℕ) → namers_under self.new.map q ≡ namers_under self.old.map q) }
         ensures rows { OnOk result ((q : List ℕ) → rows_under self.new.map q ≡ rows_under self.old.map q) }
-        ensures counts { OnOk result ((k : ClauseKey) → get clause_cmp counters.new.numbers k ≡ option_map (λ n. n + sum_by (hit sight.now offer.now k) (namers_under self.old.map offer.now.name)) (get clause_cmp counters.old.numbers k)) }
-        ensures steps { OnOk result (steps.new ≡ more_by (sum_by (tested sight.now offer.now.name) (namers_under self.old.map offer.now.name)) steps.old) }
+        ensures counts { OnOk result ((k : ClauseKey) → get clause_cmp counters.new.numbers k
+            ≡ option_map (counted_up (sum_by (hit sight.now offer.now k)
+            (namers_under self.old.map offer.now.name))) (get clause_cmp counters.old.numbers k)) }
+        ensures steps { OnOk result (steps.new
+            ≡ more_by (sum_by (tested sight.now offer.now.name)
+            (namers_under self.old.map offer.now.name)) steps.old) }
         ensures most { steps.new ≤ more_by (sum_by (tested sight.now offer.now.name) (namers_under self.old.map offer.now.name)) steps.old }
         ensures least { steps.old ≤ steps.new }
     {
@@ -147,7 +158,8 @@ impl NameTable {
         match self.map.get_mut(offer.name()) {
             Some(named) => {
                 named.offers.put(key)?;
-                meet(sight, offer, named.namers.as_slice(), counters, steps)
+                meet(sight, offer, named.namers.as_slice(), counters, steps);
+                Ok(())
             }
             None => {
                 let named = Named {
@@ -170,12 +182,15 @@ impl NameTable {
         atom: &Atom<'_>,
         steps: &mut Steps,
     ) -> Result<usize, AllocError>
-        ensures namers { OnOk result ((q : List ℕ) → namers_under self.new.map q ≡ (if bytes_eq atom.now.name q then put_in_order namer_stanza (namer_of key atom.now) (namers_under self.old.map q) else namers_under self.old.map q)) }
+        ensures namers { OnOk result ((q : List ℕ) → namers_under self.new.map q
+            ≡ (if bytes_eq atom.now.name q then put_in_order namer_stanza (namer_of key atom.now)
+            (namers_under self.old.map q) else namers_under self.old.map q)) }
         ensures offers { OnOk result ((q : List ℕ) → offers_under self.new.map q ≡ offers_under self.old.map q) }
         ensures rows { OnOk result ((q : List ℕ) → rows_under self.new.map q ≡ rows_under self.old.map q) }
         ensures met { IfOk result (λ met. met ≡ atom_met sight.now key.field atom.now (offers_under self.old.map atom.now.name)) }
         ensures few { IfOk result (λ met. met < 2 ^ 64) }
-        ensures steps { OnOk result (steps.new ≡ more_by (atom_tested sight.now key.field (offers_under self.old.map atom.now.name)) steps.old) }
+        ensures steps { OnOk result (steps.new
+            ≡ more_by (atom_tested sight.now key.field (offers_under self.old.map atom.now.name)) steps.old) }
         ensures most { steps.new ≤ more_by (atom_tested sight.now key.field (offers_under self.old.map atom.now.name)) steps.old }
         ensures least { steps.old ≤ steps.new }
     {
@@ -207,7 +222,9 @@ impl NameTable {
         atom: &Atom<'_>,
         steps: &mut Steps,
     )
-        ensures namers { (q : List ℕ) → namers_under self.new.map q ≡ (if bytes_eq atom.now.name q then others namer_stanza span (namers_under self.old.map q) else namers_under self.old.map q) }
+        ensures namers { (q : List ℕ) → namers_under self.new.map q
+            ≡ (if bytes_eq atom.now.name q then others namer_stanza span
+            (namers_under self.old.map q) else namers_under self.old.map q) }
         ensures offers { (q : List ℕ) → offers_under self.new.map q ≡ offers_under self.old.map q }
         ensures rows { (q : List ℕ) → rows_under self.new.map q ≡ rows_under self.old.map q }
         ensures steps { steps.new ≡ more_by (atom_tested sight.now field (offers_under self.old.map atom.now.name)) steps.old }
@@ -232,11 +249,17 @@ impl NameTable {
         counters: &mut Counters,
         steps: &mut Steps,
     ) -> Result<(), AllocError>
-        ensures offers { OnOk result ((q : List ℕ) → offers_under self.new.map q ≡ (if bytes_eq offer.now.name q then others offer_stanza span (offers_under self.old.map q) else offers_under self.old.map q)) }
+        ensures offers { OnOk result ((q : List ℕ) → offers_under self.new.map q
+            ≡ (if bytes_eq offer.now.name q then others offer_stanza span
+            (offers_under self.old.map q) else offers_under self.old.map q)) }
         ensures namers { OnOk result ((q : List ℕ) → namers_under self.new.map q ≡ namers_under self.old.map q) }
         ensures rows { OnOk result ((q : List ℕ) → rows_under self.new.map q ≡ rows_under self.old.map q) }
-        ensures counts { OnOk result ((k : ClauseKey) → get clause_cmp counters.new.numbers k ≡ option_map (λ n. n - sum_by (hit sight.now offer.now k) (namers_under self.old.map offer.now.name)) (get clause_cmp counters.old.numbers k)) }
-        ensures steps { OnOk result (steps.new ≡ more_by (sum_by (tested sight.now offer.now.name) (namers_under self.old.map offer.now.name)) steps.old) }
+        ensures counts { OnOk result ((k : ClauseKey) → get clause_cmp counters.new.numbers k
+            ≡ option_map (λ n. n - sum_by (hit sight.now offer.now k) (namers_under self.old.map offer.now.name))
+            (get clause_cmp counters.old.numbers k)) }
+        ensures steps { OnOk result (steps.new
+            ≡ more_by (sum_by (tested sight.now offer.now.name)
+            (namers_under self.old.map offer.now.name)) steps.old) }
         ensures most { steps.new ≤ more_by (sum_by (tested sight.now offer.now.name) (namers_under self.old.map offer.now.name)) steps.old }
         ensures least { steps.old ≤ steps.new }
     {

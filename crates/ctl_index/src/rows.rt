@@ -24,7 +24,8 @@ fn put_row_of(
     stanza: &Stanza,
     names: &mut NameTable,
 ) -> Result<(), AllocError>
-    ensures rows { OnOk result ((q : List ℕ) → (version : List ℕ) → row_under names.new.map q version ≡ put_rows_step q version key stanza.now (row_under names.old.map q version)) }
+    ensures rows { OnOk result ((q : List ℕ) → (version : List ℕ) → row_under names.new.map q version
+        ≡ put_rows_step q version key stanza.now (row_under names.old.map q version)) }
     ensures offers { OnOk result (offers_under names.new.map ≡ offers_under names.old.map) }
     ensures namers { OnOk result (namers_under names.new.map ≡ namers_under names.old.map) }
 {
@@ -41,7 +42,8 @@ fn put_row_at(
     key: StanzaKey,
     names: &mut NameTable,
 ) -> Result<(), AllocError>
-    ensures rows { OnOk result ((q : List ℕ) → (version : List ℕ) → row_under names.new.map q version ≡ with_found (seen sight.now) (put_rows_step q version) key (row_under names.old.map q version)) }
+    ensures rows { OnOk result ((q : List ℕ) → (version : List ℕ) → row_under names.new.map q version
+        ≡ with_found (seen sight.now) (put_rows_step q version) key (row_under names.old.map q version)) }
     ensures offers { OnOk result (offers_under names.new.map ≡ offers_under names.old.map) }
     ensures namers { OnOk result (namers_under names.new.map ≡ namers_under names.old.map) }
 {
@@ -70,7 +72,8 @@ pub(crate) fn put_rows(
 
 // The row of a stanza, where it is live.
 fn take_row_of(key: StanzaKey, stanza: &Stanza, names: &mut NameTable)
-    ensures rows { (q : List ℕ) → (version : List ℕ) → row_under names.new.map q version ≡ take_rows_step q version key stanza.now (row_under names.old.map q version) }
+    ensures rows { (q : List ℕ) → (version : List ℕ) → row_under names.new.map q version
+        ≡ take_rows_step q version key stanza.now (row_under names.old.map q version) }
     ensures offers { offers_under names.new.map ≡ offers_under names.old.map }
     ensures namers { namers_under names.new.map ≡ namers_under names.old.map }
 {
@@ -82,7 +85,8 @@ fn take_row_of(key: StanzaKey, stanza: &Stanza, names: &mut NameTable)
 
 // The row of the stanza under a key, if there is one.
 fn take_row_at(sight: &Sight<'_>, key: StanzaKey, names: &mut NameTable)
-    ensures rows { (q : List ℕ) → (version : List ℕ) → row_under names.new.map q version ≡ with_found (seen sight.now) (take_rows_step q version) key (row_under names.old.map q version) }
+    ensures rows { (q : List ℕ) → (version : List ℕ) → row_under names.new.map q version
+        ≡ with_found (seen sight.now) (take_rows_step q version) key (row_under names.old.map q version) }
     ensures offers { offers_under names.new.map ≡ offers_under names.old.map }
     ensures namers { namers_under names.new.map ≡ namers_under names.old.map }
 {
@@ -113,7 +117,8 @@ pub(crate) fn rows_follow_keys()
 
 /// The rows that are kept of the stanzas of a store are those of the definition.
 pub(crate) fn rows_are_defined()
-    ensures { (h : Held) → (m : NameMap) → AreRising (all_keys (keyed_of h).lists) → AreKept (standing h) m → (name : List ℕ) → AreRowsOf (rows_under m name) name (keyed_of h).lists }
+    ensures { (h : Held) → (m : NameMap) → AreRising (all_keys (keyed_of h).lists) → AreKept (standing h) m
+        → (name : List ℕ) → AreRowsOf (rows_under m name) name (keyed_of h).lists }
 {
     rows_are_kept();
 }

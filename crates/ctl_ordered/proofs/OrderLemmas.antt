@@ -1,5 +1,5 @@
 -- Orders of serials, by which keys are found.
-use Rattle.std.proofs.Common.{◌≡◌, ◌⊎◌, inl, inr, ℕ, zero, suc, ◌+◌, ◌<◌, ◌≤◌, Bool, true, false, nat_eq, List, [], ◌∷◌, length, get_or, map, filter, Option, None, Some, refl, ap, sym, subst, ◌∙◌, arith}
+use Rattle.std.proofs.Common.{◌≡◌, ◌⊎◌, inl, inr, ℕ, zero, suc, ◌+◌, ◌<◌, ◌≤◌, Bool, true, false, nat_eq, List, [], ◌∷◌, ◌++◌, length, get_or, map, filter, Option, None, Some, refl, ap, sym, subst, ◌∙◌, arith}
 use Rattle.std.proofs.lemmas.Bool.{true≢false}
 use Rattle.std.proofs.lemmas.Map.{lookup-insert, lookup-remove_entry, none_passes_from_lookup}
 use Rattle.std.proofs.lemmas.Cmp.{tied_itself, tied_back}
@@ -15,8 +15,8 @@ use Rattle.std.specs.declared.cmp.Ordering.TheVariants.{Less, Equal, Greater}
 use Rattle.ctl_ordered.specs.declared.slot.Slot.{Slot}
 use Rattle.ctl_ordered.specs.declared.slot.Slot.TheVariants.{Entry, Hole}
 use Rattle.indexmap.specs.IndexMap.{insert_entry}
-use Rattle.ctl_ordered.specs.Slots.{entries_of, serial_of, value_of, with_value, is_entry}
-use Rattle.ctl_ordered.specs.Ordered.{found_cmp, order_at, IsBelow, KeysRise, IsKept, IsOrdered}
+use Rattle.ctl_ordered.specs.Slots.{entries_of, rows_of, serial_of, value_of, with_value, is_entry}
+use Rattle.ctl_ordered.specs.Ordered.{found_cmp, order_at, set_row, cut_row, IsBelow, KeysRise, IsKept, IsOrdered}
 use Rattle.ctl_ordered.proofs.SlotLemmas.{yes, no, some_not_none, stands, serial_free, value_at, lent_at, set_kept, gap_at, no_value_at, none_cut_at, last_kept, cut_kept, squeezed_kept}
 
 is_less : (o : Ordering) → is_lt o ≡ true → o ≡ Less
@@ -282,22 +282,24 @@ module _ {K V : Type 0} {eq : K → K → Bool} {R : K → K → Ordering} (o : 
     pub ordered_gap : (s : ℕ) → Some s ≡ serial_of eq k slots → None ≡ lookup (nat_eq s) slots → ⊥
     ordered_gap s i at = gap_at eq o.laws slots held.pairs next held.kept k s (i ∙ sym (held.kept.found k)) at
 
-    pub ordered_no_value : None ≡ serial_of eq k slots → (None ≡ lookup (eq k) (entries_of slots)) × (entries_of slots ≡ remove_entry (eq k) (entries_of slots))
+    pub ordered_no_value : None ≡ serial_of eq k slots → (None ≡ lookup (eq k) (entries_of slots)) × (entries_of slots ≡ remove_entry (eq k) (entries_of slots)) × (rows_of slots ≡ cut_row (eq k) (rows_of slots))
     ordered_no_value i =
-        (no_value_at eq o.laws slots held.pairs next held.kept k (i ∙ sym (held.kept.found k)), none_cut_at eq o.laws slots held.pairs next held.kept k (i ∙ sym (held.kept.found k)))
+        let none = i ∙ sym (held.kept.found k) in
+        let cut = none_cut_at eq o.laws slots held.pairs next held.kept k none in
+        (no_value_at eq o.laws slots held.pairs next held.kept k none, cut.0, cut.1)
 
     pub ordered_lent : {P : Type 0} (s : ℕ) (r : Slot K V) (m : Option (MutBor V)) → Some s ≡ serial_of eq k slots → Some r ≡ lookup (nat_eq s) slots → option_copied_mut m ≡ value_of r → OnSome m P → P
     ordered_lent s r m i at e p = lent_at eq o.laws slots held.pairs next held.kept k s r m (i ∙ sym (held.kept.found k)) at e p
 
     pub ordered_set : (w : V) (s : ℕ) (r x : Slot K V) → Some s ≡ serial_of eq k slots → Some r ≡ lookup (nat_eq s) slots → x ≡ with_value r w
-        → IsOrdered eq R (set_value (nat_eq s) slots x) order next × (entries_of (set_value (nat_eq s) slots x) ≡ set_value (eq k) (entries_of slots) w)
+        → IsOrdered eq R (set_value (nat_eq s) slots x) order next × (entries_of (set_value (nat_eq s) slots x) ≡ set_value (eq k) (entries_of slots) w) × (rows_of (set_value (nat_eq s) slots x) ≡ set_row (eq k) (rows_of slots) w)
     ordered_set w s r x i at set =
         let kept = set_kept eq o.laws slots held.pairs next held.kept k w s r x (i ∙ sym (held.kept.found k)) at set in
-        (record { pairs = held.pairs; order_is = held.order_is; kept = kept.0; climbs = held.climbs }, kept.1)
+        (record { pairs = held.pairs; order_is = held.order_is; kept = kept.0; climbs = held.climbs }, kept.1, kept.2)
 
     module _ (r : ℕ) (bound : r ≤ length order) (point : IsBelow R slots k order r) where
       pub ordered_pushed : (v : V) → lookup (eq k) (entries_of slots) ≡ None
-          → IsOrdered eq R (insert_entry nat_eq slots next (Entry k v)) (insert order r next) (next + 1) × (entries_of (insert_entry nat_eq slots next (Entry k v)) ≡ insert_entry eq (entries_of slots) k v)
+          → IsOrdered eq R (insert_entry nat_eq slots next (Entry k v)) (insert order r next) (next + 1) × (entries_of (insert_entry nat_eq slots next (Entry k v)) ≡ insert_entry eq (entries_of slots) k v) × (rows_of (insert_entry nat_eq slots next (Entry k v)) ≡ rows_of slots ++ (next, (k, v)) ∷ [])
       ordered_pushed v none =
           let laws = o.laws in
           let ps = held.pairs in
@@ -312,6 +314,7 @@ module _ {K V : Type 0} {eq : K → K → Bool} {R : K → K → Ordering} (o : 
                   turned_back o (get_or ps j d).0 k (is_greater (R (get_or ps j d).0 k) (not_low o slots order next held k r bound point j d l b) (sym (o.alike (get_or ps j d).0 k) ∙ laws.symm (get_or ps j d).0 k ∙ passes_at ps passes j d b)));
             },
             kept.1,
+            kept.2,
           )
         where
           passes_at : (ps : List (K × ℕ)) → AllByRecursion (λ (e : K × ℕ). eq k e.0 ≡ false) ps → (j : ℕ) (d : K × ℕ) → j < length ps → eq k (get_or ps j d).0 ≡ false
@@ -320,7 +323,7 @@ module _ {K V : Type 0} {eq : K → K → Bool} {R : K → K → Ordering} (o : 
           passes_at (p ∷ ps) h (suc j) d b = passes_at ps h.1 j d (omega arith)
 
       pub ordered_cut : (s : ℕ) → Some s ≡ serial_of eq k slots → r < length order
-          → IsOrdered eq R (set_value (nat_eq s) slots Hole) (remove order r) next × (entries_of (set_value (nat_eq s) slots Hole) ≡ remove_entry (eq k) (entries_of slots))
+          → IsOrdered eq R (set_value (nat_eq s) slots Hole) (remove order r) next × (entries_of (set_value (nat_eq s) slots Hole) ≡ remove_entry (eq k) (entries_of slots)) × (rows_of (set_value (nat_eq s) slots Hole) ≡ cut_row (eq k) (rows_of slots))
       ordered_cut s i l =
           let laws = o.laws in
           let ps = held.pairs in
@@ -333,6 +336,7 @@ module _ {K V : Type 0} {eq : K → K → Bool} {R : K → K → Ordering} (o : 
               climbs = climbs_remove o ps r held.climbs;
             },
             kept.1,
+            kept.2,
           )
         where
           first : (ps : List (K × ℕ)) → 0 < length ps → K × ℕ

@@ -11,8 +11,8 @@ use Rattle.indexmap.specs.IndexMap.{insert_entry}
 use Rattle.std.proofs.lemmas.Map.{keys-set_value}
 use Rattle.ctl_ordered.specs.declared.slot.Slot.{Slot}
 use Rattle.ctl_ordered.specs.declared.slot.Slot.TheVariants.{Entry, Hole}
-use Rattle.ctl_ordered.specs.Slots.{entries_of, and_entry, value_of, with_value, is_entry, has_key, serial_of, Rises}
-use Rattle.ctl_ordered.specs.Ordered.{IsKept}
+use Rattle.ctl_ordered.specs.Slots.{entries_of, rows_of, and_row, entry_of, value_of, with_value, is_entry, has_key, serial_of, Rises}
+use Rattle.ctl_ordered.specs.Ordered.{set_row, cut_row, row_serial, IsKept}
 
 pub some_is : {X : Type 0} {x y : X} → Some x ≡ Some y → x ≡ y
 some_is e = cc
@@ -182,6 +182,11 @@ module _ {K V : Type 0} (eq : K → K → Bool) where
   cut_none [] k h = refl
   cut_none (e ∷ es) k h = no es (e ∷ remove_entry (eq k) es) h.0 ∙ ap (λ l. e ∷ l) (cut_none es k h.1)
 
+  pub cut_no_row : (rs : List (ℕ × Slot K V)) (k : K) → Lack k (entries_of rs) → cut_row (eq k) (rows_of rs) ≡ rows_of rs
+  cut_no_row [] k h = refl
+  cut_no_row ((j, Hole) ∷ rs) k h = cut_no_row rs k h
+  cut_no_row ((j, Entry a b) ∷ rs) k h = no (rows_of rs) ((j, (a, b)) ∷ cut_row (eq k) (rows_of rs)) h.0 ∙ ap (λ l. (j, (a, b)) ∷ l) (cut_no_row rs k h.1)
+
   -- ---- a value is written
 
   pub entries_set : (w : V) (e : K × V) (n : ℕ) (rs : List (ℕ × Slot K V)) (m : ℕ) (k : K) (s : ℕ) → Rises n rs m → serial_of eq k rs ≡ Some s → lookup (nat_eq s) rs ≡ Some (Entry e.0 e.1)
@@ -202,6 +207,26 @@ module _ {K V : Type 0} (eq : K → K → Bool) where
         ap entries_of (no ((j, Entry e.0 w) ∷ rs) ((j, Entry a b) ∷ set_value (nat_eq s) rs (Entry e.0 w)) apart)
         ∙ ap (λ l. (a, b) ∷ l) (entries_set w e (suc j) rs m k s h.1 c.1 (sym (no (Some (Entry a b)) (lookup (nat_eq s) rs) apart) ∙ at))
         ∙ sym (no ((a, w) ∷ entries_of rs) ((a, b) ∷ set_value (eq k) (entries_of rs) w) c.0)
+  ]
+
+  pub rows_set : (w : V) (e : K × V) (n : ℕ) (rs : List (ℕ × Slot K V)) (m : ℕ) (k : K) (s : ℕ) → Rises n rs m → serial_of eq k rs ≡ Some s → lookup (nat_eq s) rs ≡ Some (Entry e.0 e.1)
+      → rows_of (set_value (nat_eq s) rs (Entry e.0 w)) ≡ set_row (eq k) (rows_of rs) w
+  rows_set w e n [] m k s h i at = refl
+  rows_set w e n ((j, Hole) ∷ rs) m k s h i at =
+      let apart = ne_is s j (serial_low (suc j) rs m k s h.1 i) in
+      ap rows_of (no ((j, Entry e.0 w) ∷ rs) ((j, Hole) ∷ set_value (nat_eq s) rs (Entry e.0 w)) apart)
+      ∙ rows_set w e (suc j) rs m k s h.1 i (sym (no (Some Hole) (lookup (nat_eq s) rs) apart) ∙ at)
+  rows_set w e n ((j, Entry a b) ∷ rs) m k s h i at = elim (chosen (eq k a) (Some j) (serial_of eq k rs) i) [
+    | inl c ↦
+        let here = eq_is s j (sym (some_is c.1)) in
+        ap rows_of (yes ((j, Entry e.0 w) ∷ rs) ((j, Entry a b) ∷ set_value (nat_eq s) rs (Entry e.0 w)) here)
+        ∙ ap (λ (g : K × V). (j, (g.0, w)) ∷ rows_of rs) (sym (entry_is (some_is (sym (yes (Some (Entry a b)) (lookup (nat_eq s) rs) here) ∙ at))))
+        ∙ sym (yes ((j, (a, w)) ∷ rows_of rs) ((j, (a, b)) ∷ set_row (eq k) (rows_of rs) w) c.0)
+    | inr c ↦
+        let apart = ne_is s j (serial_low (suc j) rs m k s h.1 c.1) in
+        ap rows_of (no ((j, Entry e.0 w) ∷ rs) ((j, Entry a b) ∷ set_value (nat_eq s) rs (Entry e.0 w)) apart)
+        ∙ ap (λ l. (j, (a, b)) ∷ l) (rows_set w e (suc j) rs m k s h.1 c.1 (sym (no (Some (Entry a b)) (lookup (nat_eq s) rs) apart) ∙ at))
+        ∙ sym (no ((j, (a, w)) ∷ rows_of rs) ((j, (a, b)) ∷ set_row (eq k) (rows_of rs) w) c.0)
   ]
 
   pub serial_set : (w : V) (e : K × V) (q : K) (s : ℕ) (rs : List (ℕ × Slot K V)) → lookup (nat_eq s) rs ≡ Some (Entry e.0 e.1) → serial_of eq q (set_value (nat_eq s) rs (Entry e.0 w)) ≡ serial_of eq q rs
@@ -230,6 +255,21 @@ module _ {K V : Type 0} (eq : K → K → Bool) where
         ap entries_of (no ((j, Hole) ∷ rs) ((j, Entry a b) ∷ set_value (nat_eq s) rs Hole) (ne_is s j (serial_low (suc j) rs m k s h.1 c.1)))
         ∙ ap (λ l. (a, b) ∷ l) (entries_cut (suc j) rs m k s h.1 c.1)
         ∙ sym (no (entries_of rs) ((a, b) ∷ remove_entry (eq k) (entries_of rs)) c.0)
+  ]
+
+  pub rows_cut : (n : ℕ) (rs : List (ℕ × Slot K V)) (m : ℕ) (k : K) (s : ℕ) → Rises n rs m → serial_of eq k rs ≡ Some s → rows_of (set_value (nat_eq s) rs Hole) ≡ cut_row (eq k) (rows_of rs)
+  rows_cut n [] m k s h i = refl
+  rows_cut n ((j, Hole) ∷ rs) m k s h i =
+      ap rows_of (no ((j, Hole) ∷ rs) ((j, Hole) ∷ set_value (nat_eq s) rs Hole) (ne_is s j (serial_low (suc j) rs m k s h.1 i)))
+      ∙ rows_cut (suc j) rs m k s h.1 i
+  rows_cut n ((j, Entry a b) ∷ rs) m k s h i = elim (chosen (eq k a) (Some j) (serial_of eq k rs) i) [
+    | inl c ↦
+        ap rows_of (yes ((j, Hole) ∷ rs) ((j, Entry a b) ∷ set_value (nat_eq s) rs Hole) (eq_is s j (sym (some_is c.1))))
+        ∙ sym (yes (rows_of rs) ((j, (a, b)) ∷ cut_row (eq k) (rows_of rs)) c.0)
+    | inr c ↦
+        ap rows_of (no ((j, Hole) ∷ rs) ((j, Entry a b) ∷ set_value (nat_eq s) rs Hole) (ne_is s j (serial_low (suc j) rs m k s h.1 c.1)))
+        ∙ ap (λ l. (j, (a, b)) ∷ l) (rows_cut (suc j) rs m k s h.1 c.1)
+        ∙ sym (no (rows_of rs) ((j, (a, b)) ∷ cut_row (eq k) (rows_of rs)) c.0)
   ]
 
   -- as many keys lack an entry after one has gone
@@ -298,13 +338,60 @@ module _ {K V : Type 0} (eq : K → K → Bool) where
     apart_last (e ∷ es) k v h d = (lack_last e.0 k v es (laws.symm e.0 k ∙ h.0) d.0, apart_last es k v h.1 d.1)
 
 module _ {K V : Type 0} where
-  and_entry_append : (r : Slot K V) (es fs : List (K × V)) → and_entry r (es ++ fs) ≡ and_entry r es ++ fs
-  and_entry_append (Entry k v) es fs = refl
-  and_entry_append Hole es fs = refl
-
   pub entries_last : (rs : List (ℕ × Slot K V)) (s : ℕ) (e : K × V) → entries_of (rs ++ (s, Entry e.0 e.1) ∷ []) ≡ entries_of rs ++ e ∷ []
   entries_last [] s e = refl
-  entries_last (r ∷ rs) s e = ap (and_entry r.1) (entries_last rs s e) ∙ and_entry_append r.1 (entries_of rs) (e ∷ [])
+  entries_last ((j, Hole) ∷ rs) s e = entries_last rs s e
+  entries_last ((j, Entry a b) ∷ rs) s e = ap (λ l. (a, b) ∷ l) (entries_last rs s e)
+
+  pub rows_last : (rs : List (ℕ × Slot K V)) (s : ℕ) (e : K × V) → rows_of (rs ++ (s, Entry e.0 e.1) ∷ []) ≡ rows_of rs ++ (s, e) ∷ []
+  rows_last [] s e = refl
+  rows_last ((j, Hole) ∷ rs) s e = rows_last rs s e
+  rows_last ((j, Entry a b) ∷ rs) s e = ap (λ l. (j, (a, b)) ∷ l) (rows_last rs s e)
+
+-- ---- entries under their serials
+
+module _ {K V : Type 0} where
+  pub serial_in_rows : (eq : K → K → Bool) (k : K) (rs : List (ℕ × Slot K V)) → serial_of eq k rs ≡ row_serial (eq k) (rows_of rs)
+  serial_in_rows eq k [] = refl
+  serial_in_rows eq k ((j, Hole) ∷ rs) = serial_in_rows eq k rs
+  serial_in_rows eq k ((j, Entry a b) ∷ rs) = ap (λ o. cond (eq k a) (Some j) o) (serial_in_rows eq k rs)
+
+  -- below the least serial there is no row
+  no_row : (n : ℕ) (rs : List (ℕ × Slot K V)) (m s : ℕ) → Rises n rs m → s < n → lookup (nat_eq s) (rows_of rs) ≡ None
+  no_row n [] m s h l = refl
+  no_row n ((j, Hole) ∷ rs) m s h l = no_row (suc j) rs m s h.1 (omega (arith, l, h.0))
+  no_row n ((j, Entry a b) ∷ rs) m s h l =
+      no (Some (a, b)) (lookup (nat_eq s) (rows_of rs)) (ne_is' s j (omega (arith, l, h.0))) ∙ no_row (suc j) rs m s h.1 (omega (arith, l, h.0))
+    where
+      ne_is' : (a b : ℕ) → a < b → nat_eq a b ≡ false
+      ne_is' a b l = grind (arith, nat_tests)
+
+  -- the entry of a slot that is there is that of the row
+  pub row_at : (n : ℕ) (rs : List (ℕ × Slot K V)) (m s : ℕ) (r : Slot K V) → Rises n rs m → Some r ≡ lookup (nat_eq s) rs → entry_of r ≡ lookup (nat_eq s) (rows_of rs)
+  row_at n [] m s r h at = absurd (some_not_none at)
+  row_at n ((j, Hole) ∷ rs) m s r h at = elim (chosen (nat_eq s j) (Some Hole) (lookup (nat_eq s) rs) (sym at)) [
+    | inl c ↦ ap entry_of (sym (some_is c.1)) ∙ sym (no_row (suc j) rs m s h.1 (below s j c.0))
+    | inr c ↦ row_at (suc j) rs m s r h.1 (sym c.1)
+  ]
+    where
+      below : (a b : ℕ) → nat_eq a b ≡ true → a < suc b
+      below a b e = grind (arith, nat_tests)
+  row_at n ((j, Entry a b) ∷ rs) m s r h at = elim (chosen (nat_eq s j) (Some (Entry a b)) (lookup (nat_eq s) rs) (sym at)) [
+    | inl c ↦ ap entry_of (sym (some_is c.1)) ∙ sym (yes (Some (a, b)) (lookup (nat_eq s) (rows_of rs)) c.0)
+    | inr c ↦ row_at (suc j) rs m s r h.1 (sym c.1) ∙ sym (no (Some (a, b)) (lookup (nat_eq s) (rows_of rs)) c.0)
+  ]
+
+  -- and where no slot is there, there is no row
+  pub no_row_at : (rs : List (ℕ × Slot K V)) (s : ℕ) → None ≡ lookup (nat_eq s) rs → None ≡ lookup (nat_eq s) (rows_of rs)
+  no_row_at [] s at = refl
+  no_row_at ((j, Hole) ∷ rs) s at = elim (chosen (nat_eq s j) (Some Hole) (lookup (nat_eq s) rs) (sym at)) [
+    | inl c ↦ absurd (some_not_none c.1)
+    | inr c ↦ no_row_at rs s (sym c.1)
+  ]
+  no_row_at ((j, Entry a b) ∷ rs) s at = elim (chosen (nat_eq s j) (Some (Entry a b)) (lookup (nat_eq s) rs) (sym at)) [
+    | inl c ↦ absurd (some_not_none c.1)
+    | inr c ↦ no_row_at rs s (sym c.1) ∙ sym (no (Some (a, b)) (lookup (nat_eq s) (rows_of rs)) c.0)
+  ]
 
 -- ---- what an ordered map keeps
 
@@ -319,8 +406,10 @@ module _ {K V : Type 0} (eq : K → K → Bool) (laws : IsEquivalence eq) (rs : 
   pub lent_at : {P : Type 0} (s : ℕ) (r : Slot K V) (m : Option (MutBor V)) → Some s ≡ lookup (eq k) serials → Some r ≡ lookup (nat_eq s) rs → option_copied_mut m ≡ value_of r → OnSome m P → P
   lent_at s r m i at e p = let there = slot_is s r i at in from_lent m there.0.1 (e ∙ ap value_of there.1) p
 
-  pub none_cut_at : None ≡ lookup (eq k) serials → entries_of rs ≡ remove_entry (eq k) (entries_of rs)
-  none_cut_at i = sym (cut_none eq (entries_of rs) k (none_has eq rs k (sym (o.found k) ∙ sym i)))
+  pub none_cut_at : None ≡ lookup (eq k) serials → (entries_of rs ≡ remove_entry (eq k) (entries_of rs)) × (rows_of rs ≡ cut_row (eq k) (rows_of rs))
+  none_cut_at i =
+      let lacks = none_has eq rs k (sym (o.found k) ∙ sym i) in
+      (sym (cut_none eq (entries_of rs) k lacks), sym (cut_no_row eq rs k lacks))
 
   pub no_value_at : None ≡ lookup (eq k) serials → None ≡ lookup (eq k) (entries_of rs)
   no_value_at i = sym (no_value eq (entries_of rs) k (none_has eq rs k (sym (o.found k) ∙ sym i)))
@@ -330,22 +419,23 @@ module _ {K V : Type 0} (eq : K → K → Bool) (laws : IsEquivalence eq) (rs : 
 
   -- a value is written
   pub set_kept : (w : V) (s : ℕ) (r x : Slot K V) → Some s ≡ lookup (eq k) serials → Some r ≡ lookup (nat_eq s) rs → x ≡ with_value r w
-      → IsKept eq (set_value (nat_eq s) rs x) serials next × (entries_of (set_value (nat_eq s) rs x) ≡ set_value (eq k) (entries_of rs) w)
+      → IsKept eq (set_value (nat_eq s) rs x) serials next × (entries_of (set_value (nat_eq s) rs x) ≡ set_value (eq k) (entries_of rs) w) × (rows_of (set_value (nat_eq s) rs x) ≡ set_row (eq k) (rows_of rs) w)
   set_kept w s r x i at set =
       let there = slot_is s r i at in
       let new = entries_set eq w there.0 0 rs next k s o.rises (sym (o.found k) ∙ sym i) there.2 in
-      subst (λ (y : Slot K V). IsKept eq (set_value (nat_eq s) rs y) serials next × (entries_of (set_value (nat_eq s) rs y) ≡ set_value (eq k) (entries_of rs) w)) (sym (set ∙ ap (λ (y : Slot K V). with_value y w) there.1)) (
+      subst (λ (y : Slot K V). IsKept eq (set_value (nat_eq s) rs y) serials next × (entries_of (set_value (nat_eq s) rs y) ≡ set_value (eq k) (entries_of rs) w) × (rows_of (set_value (nat_eq s) rs y) ≡ set_row (eq k) (rows_of rs) w)) (sym (set ∙ ap (λ (y : Slot K V). with_value y w) there.1)) (
         record {
           found = λ q. o.found q ∙ sym (serial_set eq w there.0 q s rs there.2);
           rises = rises_set (nat_eq s) (Entry there.0.0 w) 0 rs next o.rises;
           apart = subst (λ ks. IsDistinct eq ks) (sym (ap keys_of new ∙ keys-set_value (eq k) (entries_of rs) w)) o.apart;
         },
         new,
+        rows_set eq w there.0 0 rs next k s o.rises (sym (o.found k) ∙ sym i) there.2,
       )
 
   -- an entry goes
   pub cut_kept : (s : ℕ) (fewer : List (K × ℕ)) → Some s ≡ lookup (eq k) serials → ((q : K) → lookup (eq q) fewer ≡ cond (eq k q) None (lookup (eq q) serials))
-      → IsKept eq (set_value (nat_eq s) rs Hole) fewer next × (entries_of (set_value (nat_eq s) rs Hole) ≡ remove_entry (eq k) (entries_of rs))
+      → IsKept eq (set_value (nat_eq s) rs Hole) fewer next × (entries_of (set_value (nat_eq s) rs Hole) ≡ remove_entry (eq k) (entries_of rs)) × (rows_of (set_value (nat_eq s) rs Hole) ≡ cut_row (eq k) (rows_of rs))
   cut_kept s fewer i cut =
       let at = sym (o.found k) ∙ sym i in
       let new = entries_cut eq 0 rs next k s o.rises at in (
@@ -355,11 +445,12 @@ module _ {K V : Type 0} (eq : K → K → Bool) (laws : IsEquivalence eq) (rs : 
           apart = subst (λ (es : List (K × V)). IsDistinct eq (keys_of es)) (sym new) (apart_cut eq k (entries_of rs) o.apart);
         },
         new,
+        rows_cut eq 0 rs next k s o.rises at,
       )
 
   -- an entry comes
   pub last_kept : (v : V) (more : List (K × ℕ)) → lookup (eq k) (entries_of rs) ≡ None → ((q : K) → lookup (eq q) more ≡ cond (eq k q) (Some next) (lookup (eq q) serials))
-      → IsKept eq (insert_entry nat_eq rs next (Entry k v)) more (next + 1) × (entries_of (insert_entry nat_eq rs next (Entry k v)) ≡ insert_entry eq (entries_of rs) k v)
+      → IsKept eq (insert_entry nat_eq rs next (Entry k v)) more (next + 1) × (entries_of (insert_entry nat_eq rs next (Entry k v)) ≡ insert_entry eq (entries_of rs) k v) × (rows_of (insert_entry nat_eq rs next (Entry k v)) ≡ rows_of rs ++ (next, (k, v)) ∷ [])
   last_kept v more none set =
       let free = serial_free eq rs k none in
       let lacks = none_has eq rs k free in
@@ -370,6 +461,7 @@ module _ {K V : Type 0} (eq : K → K → Bool) (laws : IsEquivalence eq) (rs : 
           apart = subst (λ (es : List (K × V)). IsDistinct eq (keys_of es)) (sym (entries_last rs next (k, v))) (apart_last eq laws (entries_of rs) k v lacks o.apart);
         }),
         ap entries_of all ∙ entries_last rs next (k, v) ∙ sym (insert_new eq (entries_of rs) k v lacks),
+        ap rows_of all ∙ rows_last rs next (k, v),
       )
 
 -- ---- the holes go
@@ -379,6 +471,11 @@ module _ {K V : Type 0} where
   entries_squeezed [] = refl
   entries_squeezed ((j, Hole) ∷ rs) = entries_squeezed rs
   entries_squeezed ((j, Entry a b) ∷ rs) = ap (λ l. (a, b) ∷ l) (entries_squeezed rs)
+
+  pub rows_squeezed : (rs : List (ℕ × Slot K V)) → rows_of (filter (λ (r : ℕ × Slot K V). is_entry r.1) rs) ≡ rows_of rs
+  rows_squeezed [] = refl
+  rows_squeezed ((j, Hole) ∷ rs) = rows_squeezed rs
+  rows_squeezed ((j, Entry a b) ∷ rs) = ap (λ l. (j, (a, b)) ∷ l) (rows_squeezed rs)
 
   pub rises_squeezed : (n : ℕ) (rs : List (ℕ × Slot K V)) (m : ℕ) → Rises n rs m → Rises n (filter (λ (r : ℕ × Slot K V). is_entry r.1) rs) m
   rises_squeezed n [] m h = h

@@ -1,5 +1,5 @@
 -- What an ordered map keeps.
-use Rattle.std.specs.Prelude.{◌≡◌, ℕ, ◌-◌, min, Bool, true, false, List, [], ◌∷◌, map, Option, None, Some, nat_eq}
+use Rattle.std.specs.Prelude.{◌≡◌, ℕ, ◌+◌, ◌-◌, min, Bool, true, false, List, [], ◌∷◌, ◌++◌, map, Option, None, Some, nat_eq, if◌then◌else◌}
 use Rattle.std.specs.List.{AllByRecursion, IsDistinct}
 use Rattle.std.specs.List.Sorted.{IsPartitionPoint}
 use Rattle.std.specs.Map.{keys_of, lookup}
@@ -9,6 +9,45 @@ use Rattle.std.specs.declared.cmp.Ordering.TheVariants.{Less}
 use Rattle.ctl_ordered.specs.declared.slot.Slot.{Slot}
 use Rattle.ctl_ordered.specs.declared.slot.Slot.TheVariants.{Entry, Hole}
 use Rattle.ctl_ordered.specs.Slots.{entries_of, serial_of, Rises}
+
+-- what an ordered map holds: its entries in order, each under its serial; the serial of the next; and how many more go in
+-- with no memory
+pub record Held (K V : Type 0) : Type 0 where
+  pub rows : List (ℕ × (K × V))
+  pub next : ℕ
+  pub room : ℕ
+
+module _ {K V : Type 0} where
+  abbrev pub without_serials : List (ℕ × (K × V)) → List (K × V)
+  without_serials rows = map (λ (row : ℕ × (K × V)). row.1) rows
+
+  -- the entries, in order
+  abbrev pub entries : Held K V → List (K × V)
+  entries held = without_serials held.rows
+
+  -- the row of the first key that passes has another value
+  abbrev pub set_row : (K → Bool) → List (ℕ × (K × V)) → V → List (ℕ × (K × V))
+  set_row test [] w = []
+  set_row test (row ∷ rows) w = if test row.1.0 then (row.0, (row.1.0, w)) ∷ rows else row ∷ set_row test rows w
+
+  -- the rows without that of the first key that passes
+  abbrev pub cut_row : (K → Bool) → List (ℕ × (K × V)) → List (ℕ × (K × V))
+  cut_row test [] = []
+  cut_row test (row ∷ rows) = if test row.1.0 then rows else row ∷ cut_row test rows
+
+  -- the serial of the first key that passes
+  abbrev pub row_serial : (K → Bool) → List (ℕ × (K × V)) → Option ℕ
+  row_serial test [] = None
+  row_serial test (row ∷ rows) = if test row.1.0 then Some row.0 else row_serial test rows
+
+  -- by the value that a key has: its row has another value, and a new key goes last, under the next serial
+  abbrev pub rows_put : Option V → (K → Bool) → Held K V → K → V → List (ℕ × (K × V))
+  rows_put None test held key value = held.rows ++ (held.next, (key, value)) ∷ []
+  rows_put (Some old) test held key value = set_row test held.rows value
+
+  abbrev pub next_put : Option V → Held K V → ℕ
+  next_put None held = held.next + 1
+  next_put (Some old) held = held.next
 
 module _ {K V : Type 0} (R : K → K → Ordering) where
   -- how a slot stands to a key

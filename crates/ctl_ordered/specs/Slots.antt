@@ -1,5 +1,5 @@
 -- Slots under rising serials, some of them holes.
-use Rattle.std.specs.Prelude.{ℕ, suc, ◌≤◌, Bool, true, false, List, [], ◌∷◌, Option, None, Some, if◌then◌else◌}
+use Rattle.std.specs.Prelude.{ℕ, suc, ◌≤◌, Bool, true, false, List, [], ◌∷◌, map, Option, None, Some, if◌then◌else◌}
 use Rattle.ctl_ordered.specs.declared.slot.Slot.{Slot}
 use Rattle.ctl_ordered.specs.declared.slot.Slot.TheVariants.{Entry, Hole}
 
@@ -26,15 +26,19 @@ module _ {K V : Type 0} where
   with_value (Entry k v) w = Entry k w
   with_value Hole w = Hole
 
-  -- what stands in a slot before other entries
-  abbrev pub and_entry : Slot K V → List (K × V) → List (K × V)
-  and_entry (Entry k v) es = (k, v) ∷ es
-  and_entry Hole es = es
+  -- what stands in the slot of a serial, before other rows
+  abbrev pub and_row : ℕ → Slot K V → List (ℕ × (K × V)) → List (ℕ × (K × V))
+  and_row serial (Entry k v) rows = (serial, (k, v)) ∷ rows
+  and_row serial Hole rows = rows
+
+  -- the entries in slots under their serials, in order
+  abbrev pub rows_of : List (ℕ × Slot K V) → List (ℕ × (K × V))
+  rows_of [] = []
+  rows_of (slot ∷ slots) = and_row slot.0 slot.1 (rows_of slots)
 
   -- the entries in slots, in order
   abbrev pub entries_of : List (ℕ × Slot K V) → List (K × V)
-  entries_of [] = []
-  entries_of (slot ∷ slots) = and_entry slot.1 (entries_of slots)
+  entries_of slots = map (λ (row : ℕ × (K × V)). row.1) (rows_of slots)
 
   module _ (eq : K → K → Bool) where
     abbrev pub has_key : K → Slot K V → Bool

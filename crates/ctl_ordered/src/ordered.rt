@@ -1,6 +1,6 @@
 //! Maps in the order of insertion.
 
-ghost use Rattle.std.specs.Prelude.{◌≡◌, ◌<◌, [], None, OnOk, option_copied, nat_eq, filter};
+ghost use Rattle.std.specs.Prelude.{◌≡◌, ◌<◌, ◌+◌, ◌++◌, ◌∷◌, [], None, OnOk, option_copied, option_map, nat_eq, filter};
 ghost use Rattle.std.specs.Borrow.{sem};
 ghost use Rattle.std.specs.Option.{option_copied_mut};
 ghost use Rattle.std.specs.List.{IsDistinct};
@@ -8,6 +8,7 @@ ghost use Rattle.std.specs.Map.{keys_of, lookup, set_value};
 ghost use Rattle.indexmap.specs.IndexMap.{insert_entry, shift_remove_entry};
 ghost use Rattle.ctl_ordered.specs.declared.slot.Slot.TheVariants.{Hole};
 ghost use Rattle.ctl_ordered.specs.Slots.{is_entry};
+ghost use Rattle.ctl_ordered.specs.Ordered.{cut_row, entries, next_put, row_serial, rows_put};
 
 use crate::entries::Entries;
 use crate::search::{end_below, look_up};
@@ -23,7 +24,11 @@ use std::marker::Model;
 /// eight bytes each, and no entry. An entry that goes leaves a hole, and the holes go once they are more than the entries.
 /// No hash of a key is taken, so that no choice of keys makes a search long.
 ///
-/// A contract sees the entries in order, and the room: how many more go in with no memory.
+/// Each entry has a serial number. It keeps it, and none is given twice, so that who keeps the serial of an entry finds it
+/// with no search for its key.
+///
+/// A contract sees the entries in order under their serials, the next serial, and the room: how many more go in with no
+/// memory.
 #[derive(Drop)]
 pub struct Ordered<K: Ord, V> {
     slots: IndexMap<u64, Slot<K, V>>,
@@ -33,15 +38,19 @@ pub struct Ordered<K: Ord, V> {
 }
 
 impl<K: Ord, V> Model for Ordered<K, V> {
-    ghost use Rattle.std.specs.Prelude.{List, ℕ, ◌-◌, vec_len};
+    ghost use Rattle.std.specs.Prelude.{◌-◌, vec_len};
     ghost use Rattle.std.specs.Vec.{vec_capacity};
     ghost use Rattle.indexmap.specs.IndexMap.{spare};
-    ghost use Rattle.ctl_ordered.specs.Slots.{entries_of};
-    ghost use Rattle.ctl_ordered.specs.Ordered.{room_of, IsOrdered};
+    ghost use Rattle.ctl_ordered.specs.Slots.{rows_of};
+    ghost use Rattle.ctl_ordered.specs.Ordered.{room_of, Held, IsOrdered};
 
-    ghost Value = { List (K × V) × ℕ };
+    ghost Value = { Held K V };
 
-    ghost view = { λ o. (entries_of o.slots.entries, room_of (spare o.slots) (vec_capacity o.order - vec_len o.order) o.next) };
+    ghost view = { λ o. record {
+      rows = rows_of o.slots.entries;
+      next = o.next;
+      room = room_of (spare o.slots) (vec_capacity o.order - vec_len o.order) o.next;
+    } };
 
     ghost invariant = { λ o. IsOrdered K.eq K.cmp o.slots.entries o.order.items o.next };
 }
@@ -51,7 +60,8 @@ impl<K: Ord + Drop, V: Drop> Ordered<K, V> {
 
     /// No entries. It takes no memory.
     pub fn new(alloc: Global) -> Self
-        ensures { result.0 ≡ [] }
+        ensures rows { result.rows ≡ [] }
+        ensures next { result.next ≡ 0 }
     {
         Ordered {
             slots: IndexMap::new(alloc),
@@ -62,8 +72,9 @@ impl<K: Ord + Drop, V: Drop> Ordered<K, V> {
 
     /// Makes room for one entry more. After 2⁶⁴ - 1 entries were put, it answers as for want of memory.
     pub fn reserve_one(&mut self) -> Result<(), AllocError>
-        ensures entries { self.new.0 ≡ self.old.0 }
-        ensures ok { OnOk result (0 < self.new.1) }
+        ensures rows { self.new.rows ≡ self.old.rows }
+        ensures next { self.new.next ≡ self.old.next }
+        ensures ok { OnOk result (0 < self.new.room) }
     {
         if self.next == u64::MAX {
             return Err(AllocError);
@@ -74,7 +85,7 @@ impl<K: Ord + Drop, V: Drop> Ordered<K, V> {
 
     /// The value of a key.
     pub fn get<Q: Wanted<K>>(&self, wanted: Q) -> Option<&V>
-        ensures { option_copied result ≡ lookup (K.eq (Q.wanted wanted)) self.now.0 }
+        ensures { option_copied result ≡ lookup (K.eq (Q.wanted wanted)) (entries self.now) }
     {
         match look_up(&self.slots, &self.order, wanted) {
             (_, Some(serial)) => match self.slots.get(&serial) {
@@ -85,10 +96,35 @@ impl<K: Ord + Drop, V: Drop> Ordered<K, V> {
         }
     }
 
+    /// The serial of a key.
+    pub fn serial_of<Q: Wanted<K>>(&self, wanted: Q) -> Option<u64>
+        ensures { result ≡ row_serial (K.eq (Q.wanted wanted)) self.now.rows }
+    {
+        let (_, serial) = look_up(&self.slots, &self.order, wanted);
+        serial
+    }
+
+    /// The serial that the next new key is given.
+    pub fn next_serial(&self) -> u64
+        ensures { result ≡ self.now.next }
+    {
+        self.next
+    }
+
+    /// The entry of a serial.
+    pub fn at(&self, serial: u64) -> Option<(&K, &V)>
+        ensures { option_map (λ entry. (entry.0.now, entry.1.now)) result ≡ lookup (nat_eq serial) self.now.rows }
+    {
+        match self.slots.get(&serial) {
+            Some(slot) => slot.entry(),
+            None => None,
+        }
+    }
+
     /// The value of a key, to be changed in its place.
     pub fn get_mut<Q: Wanted<K>>(&mut self, wanted: Q) -> Option<&mut V>
         ensures* writes_back { sem 𝓛 (LendsValue K.row V.row K.Ord self.entry (K.eq (Q.wanted wanted)) result) }
-        ensures value { option_copied_mut result ≡ lookup (K.eq (Q.wanted wanted)) self.old.0 }
+        ensures value { option_copied_mut result ≡ lookup (K.eq (Q.wanted wanted)) (entries self.old) }
     {
         match look_up(&self.slots, &self.order, wanted) {
             (_, Some(serial)) => match self.slots.get_mut(&serial) {
@@ -101,17 +137,19 @@ impl<K: Ord + Drop, V: Drop> Ordered<K, V> {
 
     /// The entries, in order.
     pub fn iter(&self) -> Entries<'_, K, V>
-        ensures entries { result ≡ self.now.0 }
-        ensures each_once { IsDistinct K.eq (keys_of self.now.0) }
+        ensures entries { result ≡ entries self.now }
+        ensures each_once { IsDistinct K.eq (keys_of (entries self.now)) }
     {
         Entries::new(self.slots.as_slice())
     }
 
     // A new entry goes last.
     fn push(&mut self, key: K, value: V)
-        requires room { 0 < self.old.1 }
-        requires new { lookup (K.eq key) self.old.0 ≡ None }
-        ensures { self.new.0 ≡ insert_entry K.eq self.old.0 key value }
+        requires room { 0 < self.old.room }
+        requires new { lookup (K.eq key) (entries self.old) ≡ None }
+        ensures entries { entries self.new ≡ insert_entry K.eq (entries self.old) key value }
+        ensures rows { self.new.rows ≡ self.old.rows ++ (self.old.next, (key, value)) ∷ [] }
+        ensures next { self.new.next ≡ self.old.next + 1 }
     {
         let serial = self.next;
         let at = end_below(&self.slots, &self.order, &key);
@@ -129,8 +167,11 @@ impl<K: Ord + Drop, V: Drop> Ordered<K, V> {
     /// Sets a key's value, in the room that [`reserve_one`](Ordered::reserve_one) made. A key that is there keeps its place,
     /// and a new one goes last.
     pub fn put(&mut self, key: K, value: V)
-        requires { 0 < self.old.1 }
-        ensures { self.new.0 ≡ insert_entry K.eq self.old.0 key value }
+        requires { 0 < self.old.room }
+        ensures entries { entries self.new ≡ insert_entry K.eq (entries self.old) key value }
+        // a key that is there keeps its serial
+        ensures rows { self.new.rows ≡ rows_put (lookup (K.eq key) (entries self.old)) (K.eq key) self.old key value }
+        ensures next { self.new.next ≡ next_put (lookup (K.eq key) (entries self.old)) self.old }
     {
         match self.get_mut(&key) {
             Some(place) => {
@@ -142,9 +183,11 @@ impl<K: Ord + Drop, V: Drop> Ordered<K, V> {
 
     /// Takes an entry out, if it is there. The others keep their order.
     pub fn remove<Q: Wanted<K>>(&mut self, wanted: Q)
-        ensures entries { self.new.0 ≡ shift_remove_entry (K.eq (Q.wanted wanted)) self.old.0 }
+        ensures entries { entries self.new ≡ shift_remove_entry (K.eq (Q.wanted wanted)) (entries self.old) }
+        ensures rows { self.new.rows ≡ cut_row (K.eq (Q.wanted wanted)) self.old.rows }
+        ensures next { self.new.next ≡ self.old.next }
         // no key stood twice, so that none like it is left
-        ensures each_once { IsDistinct K.eq (keys_of self.old.0) }
+        ensures each_once { IsDistinct K.eq (keys_of (entries self.old)) }
     {
         match look_up(&self.slots, &self.order, wanted) {
             (at, Some(serial)) => {

@@ -16,6 +16,7 @@ use Rattle.ctl_policy.specs.Rows.{Lists, keys_of_row, newest_first, rows_named, 
 use Rattle.ctl_policy.specs.Priority.{World}
 use Rattle.ctl_policy.specs.Candidate.{installed_of, candidate_of}
 use Rattle.ctl_filter.specs.Grep.{filter_text}
+use Rattle.ctl_query.specs.declared.query.DependsOptions.{DependsOptions}
 use Rattle.ctl_query.specs.Packages.{is_none_of, stanzas_of, names_known, is_known, rows_of, has_row, packages_of, is_installed, stanza_under, lead_in, told, told_of_row, of_rows, of_all_rows}
 use Rattle.ctl_query.specs.Texts.{line, if_known, unknown_line, right_four}
 use Rattle.ctl_query.specs.PackageNames.{package_names_text, name_line, begins_with}
@@ -196,14 +197,14 @@ module _ (classes : AreClasses) (shown : AreShown) (f : StanzaKey → StanzaKey)
   unfolding field_lines
   same_field_lines installed lead field = λ i. flat_map (λ group. same_group_lines installed field group i) (groups_of field lead)
 
-  same_lead_lines : (important installed : Bool) (lead : Content) → lead_lines u important installed lead ≡ lead_lines w important installed lead
+  same_lead_lines : (options : DependsOptions) (lead : Content) → lead_lines u options lead ≡ lead_lines w options lead
   unfolding lead_lines
-  same_lead_lines important installed lead = λ i. flat_map (λ field. same_field_lines installed lead field i) (depends_fields important)
+  same_lead_lines options lead = λ i. flat_map (λ field. same_field_lines options.installed lead field i) (depends_fields options.important)
 
-  same_depends_one : (important installed : Bool) (name : List ℕ) → depends_one u important installed name ≡ depends_one w important installed name
+  same_depends_one : (options : DependsOptions) (name : List ℕ) → depends_one u options name ≡ depends_one w options name
   unfolding depends_one
-  same_depends_one important installed name = λ i.
-      cond (same_has_row name i) (line (name ∷ []) ++ told (λ lead. same_lead_lines important installed lead i) (same_lead_shown name i)) (line (codes "<" ∷ name ∷ codes ">" ∷ []))
+  same_depends_one options name = λ i.
+      cond (same_has_row name i) (line (name ∷ []) ++ told (λ lead. same_lead_lines options lead i) (same_lead_shown name i)) (line (codes "<" ∷ name ∷ codes ">" ∷ []))
 
   -- ---- rdepends
 
@@ -256,7 +257,7 @@ module _ (classes : AreClasses) (shown : AreShown) (f : StanzaKey → StanzaKey)
   pub same_answer : (query : Query) → answer_text u query ≡ answer_text w query
   same_answer (PackageNames all prefix) = same_package_names all prefix
   same_answer (Show all asked) = same_show all asked
-  same_answer (Depends important installed names) = same_of_names (depends_one w important installed) (depends_one u important installed) (same_depends_one important installed) names
+  same_answer (Depends options names) = same_of_names (depends_one w options) (depends_one u options) (same_depends_one options) names
   same_answer (ReverseDepends installed names) = same_of_names (reverse_depends_one w installed) (reverse_depends_one u installed) (same_reverse_depends_one installed) names
   same_answer (Unmet important) = same_unmet important
   same_answer (Policy names) = same_policy names

@@ -49,7 +49,7 @@ among_filter p [] q = and_false (p q)
 among_filter p (x ∷ xs) q = among_at p x xs q (among_filter p xs q) (p x) refl (bytes_eq q x) refl
 
 -- Two lists of names in order have one text, if what stands in one of them alone has none.
-of_two : (f : List ℕ → List ℕ) (all some : List (List ℕ)) → IsStrictlySortedBy (slice_cmp nat_cmp) all → IsStrictlySortedBy (slice_cmp nat_cmp) some →
+pub of_two : (f : List ℕ → List ℕ) (all some : List (List ℕ)) → IsStrictlySortedBy (slice_cmp nat_cmp) all → IsStrictlySortedBy (slice_cmp nat_cmp) some →
     ((x : List ℕ) → is_among all x ≡ false → f x ≡ []) → ((x : List ℕ) → is_among some x ≡ false → f x ≡ []) → flat_map f some ≡ flat_map f all
 of_two f all some sa ss outside none =
     skip f (is_among all) outside some
@@ -59,7 +59,7 @@ of_two f all some sa ss outside none =
     ∙ sym (skip f (is_among some) none all)
 
 -- what is not a package has no row, as a name with a row is known
-no_package : (world : World) → ((name : List ℕ) → has_row world name ≡ true → is_among (names_known world) name ≡ true) → (x : List ℕ) → is_among (packages_of world) x ≡ false → has_row world x ≡ false
+pub no_package : (world : World) → ((name : List ℕ) → has_row world name ≡ true → is_among (names_known world) name ≡ true) → (x : List ℕ) → is_among (packages_of world) x ≡ false → has_row world x ≡ false
 unfolding packages_of
 no_package world known x out = by (has_row world x) refl (sym (among_filter (has_row world) (names_known world) x) ∙ out)
   where

@@ -53,11 +53,11 @@ no_keys name version (e ∷ es) out =
     by true is out rest = absurd (let z : true ≡ false = sym (offered name version e.1 is) ∙ out in let w : ⊥ = cc in w)
     by false is out rest = rest
 
-none_some : (keys : List StanzaKey) → keys ≡ [] → IfSome (some_keys keys) (λ keys. ⊥)
+pub none_some : (keys : List StanzaKey) → keys ≡ [] → IfSome (some_keys keys) (λ keys. ⊥)
 none_some [] h = tt
 none_some (key ∷ keys) h = cc
 
-no_row : (rows : List Row) → AllByRecursion (λ (row : Row). ⊥) rows → is_any_row rows ≡ false
+pub no_row : (rows : List Row) → AllByRecursion (λ (row : Row). ⊥) rows → is_any_row rows ≡ false
 no_row [] h = refl
 no_row (row ∷ rows) h = absurd h.0
 

@@ -1,3 +1,4 @@
+pub mod AddedLemmas
 pub mod AnewLemmas
 pub mod AnswerLemmas
 pub mod AtomLemmas
@@ -20,6 +21,7 @@ pub mod NoNameLemmas
 pub mod OfferingLemmas
 pub mod OrderLemmas
 pub mod PackageLemmas
+pub mod PinnedLemmas
 pub mod ProviderLemmas
 pub mod RisingLemmas
 pub mod RowLemmas

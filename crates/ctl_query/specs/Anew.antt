@@ -1,7 +1,8 @@
 -- What is held, as it stands in a store that was built anew.
 use Rattle.std.specs.Prelude.{ℕ, suc, List, [], ◌∷◌}
 use Rattle.ctl_store.specs.State.{StanzaList}
-use Rattle.ctl_store.specs.Keys.{list_of_stanzas}
+use Rattle.ctl_store.specs.Edits.{AddList}
+use Rattle.ctl_store.specs.Keys.{Keyed, keyed_after, list_of_stanzas}
 use Rattle.ctl_policy.specs.Rows.{Lists}
 use Rattle.ctl_policy.specs.Priority.{World}
 use Rattle.ctl_query.specs.Holdings.{Holdings}
@@ -15,6 +16,14 @@ lists_anew serial (l ∷ ls) = (l.0, list_of_stanzas serial l.1.kind l.1.class l
 
 abbrev pub world_anew : Holdings → World
 world_anew held = record { lists = lists_anew 0 held.lists; marks = held.marks; pins = held.pins; target = held.target }
+
+-- no list yet
+abbrev pub no_lists : Keyed
+no_lists = record { lists = []; next_list = 0 }
+
+-- the lists with one that an edit adds
+abbrev pub added : Keyed → List ℕ × StanzaList → Keyed
+added keyed l = keyed_after keyed (AddList l.0 l.1.kind l.1.class l.1.stanzas)
 
 -- the answer of a store that was built anew
 unfoldable pub answer_anew : Holdings → Query → List ℕ

@@ -20,7 +20,7 @@ policy_answer world (name ∷ names) = policy_text world (name ∷ names)
 abbrev pub answer_text : World → Query → List ℕ
 answer_text world (PackageNames all prefix) = package_names_text world all prefix
 answer_text world (Show all asked) = show_text world all asked
-answer_text world (Depends important installed names) = depends_text world important installed names
+answer_text world (Depends options names) = depends_text world options names
 answer_text world (ReverseDepends installed names) = reverse_depends_text world installed names
 answer_text world (Unmet important) = unmet_text world important
 answer_text world (Policy names) = policy_answer world names
@@ -31,7 +31,7 @@ answer_text world (Filter filter) = filter_text (stanzas_of world) filter
 abbrev pub answer_pairs : World → Query → ℕ
 answer_pairs world (PackageNames all prefix) = 0
 answer_pairs world (Show all asked) = 0
-answer_pairs world (Depends important installed names) = depends_pairs world important names
+answer_pairs world (Depends options names) = depends_pairs world options names
 answer_pairs world (ReverseDepends installed names) = 0
 answer_pairs world (Unmet important) = 0
 answer_pairs world (Policy names) = 0

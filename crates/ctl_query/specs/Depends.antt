@@ -15,6 +15,7 @@ use Rattle.ctl_index.specs.Offers.{offers_among}
 use Rattle.ctl_policy.specs.Rows.{lead_of}
 use Rattle.ctl_policy.specs.Priority.{World}
 use Rattle.ctl_policy.specs.Candidate.{candidate_of}
+use Rattle.ctl_query.specs.declared.query.DependsOptions.{DependsOptions}
 use Rattle.ctl_query.specs.Packages.{is_none_of, stanzas_of, rows_of, has_row, is_installed, stanza_under, told}
 use Rattle.ctl_query.specs.Texts.{line, if_known, field_label}
 
@@ -93,17 +94,17 @@ field_lines world installed lead field = flat_map (group_lines world installed f
 abbrev pub depends_fields : Bool → List FieldKind
 depends_fields important = if important then PreDepends ∷ Depends ∷ [] else naming_fields
 
-unfoldable pub lead_lines : World → Bool → Bool → Content → List ℕ
-lead_lines world important installed lead = flat_map (field_lines world installed lead) (depends_fields important)
+unfoldable pub lead_lines : World → DependsOptions → Content → List ℕ
+lead_lines world options lead = flat_map (field_lines world options.installed lead) (depends_fields options.important)
 
-unfoldable pub depends_one : World → Bool → Bool → List ℕ → List ℕ
-depends_one world important installed name =
+unfoldable pub depends_one : World → DependsOptions → List ℕ → List ℕ
+depends_one world options name =
     if has_row world name
-    then line (name ∷ []) ++ told (lead_lines world important installed) (lead_shown world name)
+    then line (name ∷ []) ++ told (lead_lines world options) (lead_shown world name)
     else line (codes "<" ∷ name ∷ codes ">" ∷ [])
 
-abbrev pub depends_text : World → Bool → Bool → List (List ℕ) → List ℕ
-depends_text world important installed names = flat_map (if_known world (depends_one world important installed)) names
+abbrev pub depends_text : World → DependsOptions → List (List ℕ) → List ℕ
+depends_text world options names = flat_map (if_known world (depends_one world options)) names
 
 -- ---- the tests that it may make
 
@@ -117,12 +118,12 @@ group_pairs world group = sum_by (atom_pairs world) group
 unfoldable pub field_pairs : World → Content → FieldKind → ℕ
 field_pairs world lead field = sum_by (group_pairs world) (groups_of field lead)
 
-unfoldable pub lead_pairs : World → Bool → Content → ℕ
-lead_pairs world important lead = sum_by (field_pairs world lead) (depends_fields important)
+unfoldable pub lead_pairs : World → DependsOptions → Content → ℕ
+lead_pairs world options lead = sum_by (field_pairs world lead) (depends_fields options.important)
 
-unfoldable pub one_pairs : World → Bool → List ℕ → ℕ
-one_pairs world important name = option_map_or (lead_pairs world important) (lead_shown world name) 0
+unfoldable pub one_pairs : World → DependsOptions → List ℕ → ℕ
+one_pairs world options name = option_map_or (lead_pairs world options) (lead_shown world name) 0
 
 -- the pairs of an atom of a shown lead and an offer of its name, summed over the words
-abbrev pub depends_pairs : World → Bool → List (List ℕ) → ℕ
-depends_pairs world important names = sum_by (one_pairs world important) names
+abbrev pub depends_pairs : World → DependsOptions → List (List ℕ) → ℕ
+depends_pairs world options names = sum_by (one_pairs world options) names

@@ -1,12 +1,14 @@
 -- The packages that an answer on all packages has to look at.
-use Rattle.std.specs.Prelude.{ℕ, Bool, false, not, ◌&&◌, List, map}
+use Rattle.std.specs.Prelude.{ℕ, ℤ, Bool, false, not, ◌&&◌, List, map}
 use Rattle.std.specs.List.{list_any}
 use Rattle.std.specs.Option.{option_map_or}
 use Rattle.std.specs.Str.{bytes_eq}
 use Rattle.ctl_relation.specs.Parts.{OfferParts}
 use Rattle.ctl_stanza.specs.Content.{package_of, provides_of}
 use Rattle.ctl_store.specs.declared.stanza_key.StanzaKey.{StanzaKey}
+use Rattle.ctl_store.specs.declared.selector.Selector.{Selector}
 use Rattle.ctl_store.specs.Keys.{stanza_at}
+use Rattle.ctl_store.specs.Pins.{is_of}
 use Rattle.ctl_store.specs.Held.{Held, keyed_of}
 use Rattle.ctl_index.specs.declared.keys.AtomKey.{AtomKey}
 use Rattle.ctl_index.specs.declared.keys.ClauseKey.{ClauseKey}
@@ -35,6 +37,10 @@ offering_named store name = map (λ (offer : StanzaKey × OfferParts). offer.0) 
 -- whether a stanza of a package that has entries of Provides offers a name
 abbrev pub provides_it : Held → List ℕ → List ℕ → Bool
 provides_it store name asker = list_any (is_provider store asker) (offering_named store name)
+
+-- whether there is a specific pin of a package
+abbrev pub is_pinned : List (Selector × ℤ) → List ℕ → Bool
+is_pinned pins name = list_any (λ (s : Selector × ℤ). is_of name s.0) pins
 
 -- whether one has a clause that no offer meets
 abbrev pub has_unmet : Held → List ℕ → Bool

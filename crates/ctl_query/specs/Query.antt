@@ -1,5 +1,5 @@
 -- What the words of a query ask for (apt-cache(8)).
-use Rattle.std.specs.Prelude.{ℕ, ◌==◌, ◌||◌, Bool, true, false, not, List, [], ◌∷◌, ◌++◌, take, drop, filter, codes, Option, None, Some, is_some, Result, Ok, Err, if◌then◌else◌}
+use Rattle.std.specs.Prelude.{ℕ, ◌==◌, ◌||◌, Bool, true, false, not, List, [], ◌∷◌, ◌++◌, take, drop, filter, codes, Option, None, Some, is_some, option_map, Result, Ok, Err, if◌then◌else◌}
 use Rattle.std.specs.List.{list_all, prefix_len}
 use Rattle.std.specs.Str.{bytes_eq}
 use Rattle.ctl_relation.specs.Bytes.{hyphen, equals}
@@ -10,16 +10,18 @@ use Rattle.ctl_store.specs.declared.refusal.Refusal.TheVariants as refusal
 use Rattle.ctl_filter.specs.Query.{FilterQuery, filter_of}
 use Rattle.ctl_query.specs.Words.{is_among}
 use Rattle.ctl_query.specs.Show.{AskedRow}
+use Rattle.ctl_query.specs.declared.query.DependsOptions.{DependsOptions}
+use Rattle.ctl_query.specs.declared.query_name.CacheQuery.{CacheQuery}
+use Rattle.ctl_query.specs.declared.query_name.CacheQuery.TheVariants as name
 use Rattle.ctl_query.specs.declared.query_name.QueryName.{QueryName}
-use Rattle.ctl_query.specs.declared.query_name.QueryName.TheVariants as name
+use Rattle.ctl_query.specs.declared.query_name.QueryName.TheVariants.{Filter as FilterName, Cache}
 
 pub data Query : Type 0 where
   -- whether all known names are asked for, and the prefix
   PackageNames : Bool → List ℕ → Query
   -- whether all versions are
   Show : Bool → List AskedRow → Query
-  -- whether important dependencies alone are, and what is installed alone
-  Depends : Bool → Bool → List (List ℕ) → Query
+  Depends : DependsOptions → List (List ℕ) → Query
   -- whether what is installed alone is
   ReverseDepends : Bool → List (List ℕ) → Query
   -- whether important dependencies alone are
@@ -31,7 +33,7 @@ pub data Query : Type 0 where
 
 -- ---- names and options
 
-abbrev pub query_named : List ℕ → Option QueryName
+abbrev pub query_named : List ℕ → Option CacheQuery
 query_named word =
     if bytes_eq word (codes "pkgnames") then Some name.PackageNames else (
     if bytes_eq word (codes "show") then Some name.Show else (
@@ -45,6 +47,10 @@ query_named word =
 unfoldable pub is_filter_name : List ℕ → Bool
 is_filter_name word = bytes_eq word (codes "grep-dctrl")
 
+-- the query of a name, if there is one
+abbrev pub query_name_of : List ℕ → Option QueryName
+query_name_of word = if is_filter_name word then Some FilterName else option_map (λ query. Cache query) (query_named word)
+
 -- whether a command of this name is a query
 unfoldable pub is_query : List ℕ → Bool
 is_query name = is_filter_name name || is_some (query_named name)
@@ -55,7 +61,7 @@ begin_query [] = false
 begin_query (name ∷ words) = is_query name
 
 -- the options of each query
-abbrev pub options_of : QueryName → List (List ℕ)
+abbrev pub options_of : CacheQuery → List (List ℕ)
 options_of name.PackageNames = codes "--all-names" ∷ []
 options_of name.Show = codes "-a" ∷ codes "--all-versions" ∷ codes "--no-all-versions" ∷ []
 options_of name.Depends = codes "-i" ∷ codes "--important" ∷ codes "--installed" ∷ []
@@ -77,6 +83,9 @@ is_important options = is_among options (codes "-i") || is_among options (codes 
 
 abbrev pub is_installed_alone : List (List ℕ) → Bool
 is_installed_alone options = is_among options (codes "--installed")
+
+abbrev pub depends_options : List (List ℕ) → DependsOptions
+depends_options options = record { important = is_important options; installed = is_installed_alone options }
 
 -- of the options of `show` the last one counts
 abbrev pub shows_all_after : Bool → List (List ℕ) → Bool
@@ -137,36 +146,41 @@ show_of all (Err cause) = Err cause
 -- ---- queries
 
 -- what a query asks for by its options, which are its own, and its arguments
-abbrev pub query_by : QueryName → List (List ℕ) → List (List ℕ) → Result Query Refusal
+abbrev pub query_by : CacheQuery → List (List ℕ) → List (List ℕ) → Result Query Refusal
 query_by name.PackageNames options [] = Ok (PackageNames (is_among options (codes "--all-names")) [])
 query_by name.PackageNames options (prefix ∷ []) = Ok (PackageNames (is_among options (codes "--all-names")) prefix)
 query_by name.PackageNames options (prefix ∷ word ∷ words) = Err refusal.Usage
 query_by name.Show options [] = Err refusal.Usage
 query_by name.Show options (word ∷ words) = show_of (shows_all options) (rows_asked (word ∷ words))
-query_by name.Depends options words = some_names_asked (Depends (is_important options) (is_installed_alone options)) words
+query_by name.Depends options words = some_names_asked (Depends (depends_options options)) words
 query_by name.ReverseDepends options words = some_names_asked (ReverseDepends (is_installed_alone options)) words
 query_by name.Unmet options [] = Ok (Unmet (is_important options))
 query_by name.Unmet options (word ∷ words) = Err refusal.Usage
 query_by name.Policy options words = names_asked (λ names. Policy names) words
 query_by name.ShowPackage options words = some_names_asked (λ names. ShowPackage names) words
 
-abbrev pub query_in : QueryName → List (List ℕ) → Result Query Refusal
+abbrev pub query_in : CacheQuery → List (List ℕ) → Result Query Refusal
 query_in name words =
     if list_all (is_among (options_of name)) (filter is_option words)
     then query_by name (filter is_option words) (filter is_argument words)
     else Err refusal.Usage
 
-abbrev pub query_if : Option QueryName → List (List ℕ) → Result Query Refusal
-query_if None words = Err refusal.Command
-query_if (Some name) words = query_in name words
-
 abbrev pub asked_filter : Result FilterQuery Refusal → Result Query Refusal
 asked_filter (Ok filter) = Ok (Filter filter)
 asked_filter (Err cause) = Err cause
 
--- What words ask for, or the first of these refusals: a name that is no query's; an option that is not the
--- query's, or a wrong number of arguments; and, argument by argument from the left, a bad name or version. Of grep-dctrl
--- what its filter is refused for.
+-- What the words behind the name of a query ask for, or the first of these refusals: an option that is not the query's, or a
+-- wrong number of arguments; and, argument by argument from the left, a bad name or version. Of grep-dctrl what its filter is
+-- refused for.
+abbrev pub query_behind : QueryName → List (List ℕ) → Result Query Refusal
+query_behind FilterName words = asked_filter (filter_of words)
+query_behind (Cache query) words = query_in query words
+
+abbrev pub query_if : Option QueryName → List (List ℕ) → Result Query Refusal
+query_if None words = Err refusal.Command
+query_if (Some name) words = query_behind name words
+
+-- what words ask for: the name of a query, and the words behind it
 abbrev pub query_of : List (List ℕ) → Result Query Refusal
 query_of [] = Err refusal.Command
-query_of (word ∷ words) = if is_filter_name word then asked_filter (filter_of words) else query_if (query_named word) words
+query_of (word ∷ words) = query_if (query_name_of word) words

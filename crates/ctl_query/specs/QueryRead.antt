@@ -12,7 +12,7 @@ use Rattle.ctl_query.specs.declared.query.Query.TheVariants as held
 abbrev pub query_text : HeldQuery → Query
 query_text (held.PackageNames all prefix) = PackageNames all prefix
 query_text (held.Show all rows) = Show all (map asked_row rows.items)
-query_text (held.Depends important installed names) = Depends important installed names.items
+query_text (held.Depends options names) = Depends options names.items
 query_text (held.ReverseDepends installed names) = ReverseDepends installed names.items
 query_text (held.Unmet important) = Unmet important
 query_text (held.Policy names) = Policy names.items
@@ -30,7 +30,7 @@ Reads view (Err cause) asked = (asked ≡ Err cause) ⊎ (cause ≡ refusal.Memo
 abbrev pub has_expression : Query → Bool
 has_expression (PackageNames all prefix) = false
 has_expression (Show all asked) = false
-has_expression (Depends important installed names) = false
+has_expression (Depends options names) = false
 has_expression (ReverseDepends installed names) = false
 has_expression (Unmet important) = false
 has_expression (Policy names) = false

@@ -2,7 +2,7 @@
 use Rattle.std.specs.Prelude.{ℕ, ℤ, ◌-◌, List, [], ◌∷◌, ◌++◌, length, take, codes, flat_map, if◌then◌else◌}
 use Rattle.std.specs.Fmt.{signed_decimal}
 use Rattle.ctl_relation.specs.declared.field_kind.FieldKind.{FieldKind}
-use Rattle.ctl_relation.specs.declared.field_kind.FieldKind.TheVariants.{PreDepends, Depends, Conflicts, Breaks, Recommends, Suggests, Replaces, Enhances, Provides}
+use Rattle.ctl_relation.specs.FieldKind.{names_of}
 use Rattle.ctl_relation.specs.Bytes.{newline}
 use Rattle.ctl_policy.specs.Priority.{World}
 use Rattle.ctl_query.specs.Packages.{is_known}
@@ -23,17 +23,9 @@ unknown_line name = line (codes "N: Unable to locate package " ∷ name ∷ [])
 abbrev pub if_known : World → (List ℕ → List ℕ) → List ℕ → List ℕ
 if_known world answer name = if is_known world name then answer name else unknown_line name
 
--- the relation fields, as they are printed
+-- a relation field, as it is printed
 abbrev pub field_label : FieldKind → List ℕ
-field_label PreDepends = codes "PreDepends"
-field_label Depends = codes "Depends"
-field_label Conflicts = codes "Conflicts"
-field_label Breaks = codes "Breaks"
-field_label Recommends = codes "Recommends"
-field_label Suggests = codes "Suggests"
-field_label Replaces = codes "Replaces"
-field_label Enhances = codes "Enhances"
-field_label Provides = codes "Provides"
+field_label field = (names_of field).1
 
 -- a number, right in four places, wider where it doesn't fit
 abbrev pub right_four : ℤ → List ℕ

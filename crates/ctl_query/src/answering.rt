@@ -8,6 +8,7 @@ ghost use Rattle.ctl_query.specs.Answer.{answer_text, answer_pairs, policy_answe
 ghost use Rattle.ctl_query.specs.Holdings.{holdings_of};
 ghost use Rattle.ctl_query.specs.QueryRead.{query_text};
 
+use crate::asking::Asking;
 use crate::depends::append_depends;
 use crate::laws::answers_are_as_if_built_anew;
 use crate::package_names::append_package_names;
@@ -23,61 +24,62 @@ use ctl_relation::{Bytes, Steps};
 use std::alloc::{AllocError, Global};
 
 /// Appends the answer to `policy`, with or without names.
-fn append_any_policy(cache: &Cache, names: &[Bytes], out: &mut Vec<u8>) -> Result<(), AllocError>
-    requires { cache.now.stale ≡ false }
-    ensures { OnOk result (out.new.items ≡ out.old.items ++ policy_answer (world_of cache.now.store) names.now) }
+fn append_any_policy(
+    asking: &Asking<'_>,
+    names: &[Bytes],
+    out: &mut Vec<u8>,
+) -> Result<(), AllocError>
+    ensures { OnOk result (out.new.items ≡ out.old.items ++ policy_answer (world_of asking.now) names.now) }
 {
     if names.is_empty() {
-        append_policy_of_all(cache, out)
+        append_policy_of_all(asking, out)
     } else {
-        append_policy(cache, names, out)
+        append_policy(asking, names, out)
     }
 }
 
 /// Appends the answer to a query. After want of memory a part of it may stand there.
 fn append_answer(
-    alloc: Global,
-    cache: &Cache,
+    asking: &Asking<'_>,
     query: &Query,
     out: &mut Vec<u8>,
     steps: &mut Steps,
 ) -> Result<(), AllocError>
-    requires { cache.now.stale ≡ false }
-    ensures text { OnOk result (out.new.items ≡ out.old.items ++ answer_text (world_of cache.now.store) (query_text query.now)) }
-    ensures steps { steps.new ≤ steps.old + answer_pairs (world_of cache.now.store) (query_text query.now) }
+    ensures text { OnOk result (out.new.items ≡ out.old.items ++ answer_text (world_of asking.now) (query_text query.now)) }
+    ensures steps { steps.new ≤ steps.old + answer_pairs (world_of asking.now) (query_text query.now) }
     ensures kept { steps.old ≤ steps.new }
 {
     match query {
         Query::PackageNames(all, prefix) => {
-            append_package_names(cache, *all, prefix.as_slice(), out)?;
+            append_package_names(asking, *all, prefix.as_slice(), out)?;
             Ok(())
         }
         Query::Show(all, rows) => {
-            append_show(cache, *all, rows, out)?;
+            append_show(asking, *all, rows, out)?;
             Ok(())
         }
-        Query::Depends(important, installed, names) => {
-            append_depends(alloc, cache, *important, *installed, names, out, steps)?;
+        Query::Depends(options, names) => {
+            append_depends(asking, *options, names, out, steps)?;
             Ok(())
         }
         Query::ReverseDepends(installed, names) => {
-            append_reverse_depends(alloc, cache, *installed, names, out)?;
+            append_reverse_depends(asking, *installed, names, out)?;
             Ok(())
         }
         Query::Unmet(important) => {
-            append_unmet(alloc, cache, *important, out)?;
+            append_unmet(asking, *important, out)?;
             Ok(())
         }
         Query::Policy(names) => {
-            append_any_policy(cache, names, out)?;
+            append_any_policy(asking, names, out)?;
             Ok(())
         }
         Query::ShowPackage(names) => {
-            append_show_package(alloc, cache, names, out)?;
+            append_show_package(asking, names, out)?;
             Ok(())
         }
         Query::Filter(filter) => {
-            append_filter(alloc, cache.store(), filter, out)?;
+            append_filter(asking.alloc(), asking.store(), filter, out)?;
             Ok(())
         }
     }
@@ -85,20 +87,18 @@ fn append_answer(
 
 /// Puts the answer to a query into an empty buffer, which stays empty where memory runs out.
 fn answer_alone(
-    alloc: Global,
-    cache: &Cache,
+    asking: &Asking<'_>,
     query: &Query,
     out: &mut Vec<u8>,
     steps: &mut Steps,
 ) -> Result<(), AllocError>
-    requires fresh { cache.now.stale ≡ false }
-    requires empty { out.old.items ≡ [] }
-    ensures ok { OnOk result (out.new.items ≡ answer_text (world_of cache.now.store) (query_text query.now)) }
+    requires { out.old.items ≡ [] }
+    ensures ok { OnOk result (out.new.items ≡ answer_text (world_of asking.now) (query_text query.now)) }
     ensures err { OnErr result (out.new.items ≡ []) }
-    ensures steps { steps.new ≤ steps.old + answer_pairs (world_of cache.now.store) (query_text query.now) }
+    ensures steps { steps.new ≤ steps.old + answer_pairs (world_of asking.now) (query_text query.now) }
     ensures kept { steps.old ≤ steps.new }
 {
-    match append_answer(alloc, cache, query, out, steps) {
+    match append_answer(asking, query, out, steps) {
         Ok(()) => Ok(()),
         Err(error) => {
             out.clear();
@@ -109,25 +109,24 @@ fn answer_alone(
 
 /// Appends the answer to a query to what is there, which alone stays where memory runs out.
 fn answer_behind(
-    alloc: Global,
-    cache: &Cache,
+    asking: &Asking<'_>,
     query: &Query,
     out: &mut Vec<u8>,
     steps: &mut Steps,
 ) -> Result<(), AllocError>
-    requires { cache.now.stale ≡ false }
-    ensures ok { OnOk result (out.new.items ≡ out.old.items ++ answer_text (world_of cache.now.store) (query_text query.now)) }
+    ensures ok { OnOk result (out.new.items ≡ out.old.items ++ answer_text (world_of asking.now) (query_text query.now)) }
     ensures err { OnErr result (out.new.items ≡ out.old.items) }
-    ensures steps { steps.new ≤ steps.old + answer_pairs (world_of cache.now.store) (query_text query.now) }
+    ensures steps { steps.new ≤ steps.old + answer_pairs (world_of asking.now) (query_text query.now) }
     ensures kept { steps.old ≤ steps.new }
 {
-    let mut text = Vec::new(alloc);
-    answer_alone(alloc, cache, query, &mut text, steps)?;
+    let mut text = Vec::new(asking.alloc());
+    answer_alone(asking, query, &mut text, steps)?;
     out.extend_from_slice(&text)
 }
 
-/// Appends the answer to a query (apt-cache(8), grep-dctrl(1)) on a cache that isn't stale. It makes no test of an offer against an atom but
-/// for `depends`: there it makes at most one for each pair of an atom of a lead that is shown and an offer of its name.
+/// Appends the answer to a query (apt-cache(8), grep-dctrl(1)) on a cache that isn't stale. It makes no test of an offer
+/// against an atom but for `depends`: there it makes at most one for each pair of an atom of a lead that is shown and an
+/// offer of its name.
 ///
 /// # Errors
 ///
@@ -140,7 +139,8 @@ pub fn answer(
     steps: &mut Steps,
 ) -> Result<(), AllocError>
     requires { cache.now.stale ≡ false }
-    ensures ok { OnOk result (out.new.items ≡ out.old.items ++ answer_anew (holdings_of (state_of cache.now.store)) (query_text query.now)) }
+    ensures ok { OnOk result (out.new.items ≡ out.old.items
+        ++ answer_anew (holdings_of (state_of cache.now.store)) (query_text query.now)) }
     ensures err { OnErr result (out.new.items ≡ out.old.items) }
     ensures steps { steps.new ≤ steps.old + answer_pairs (world_of cache.now.store) (query_text query.now) }
     ensures kept { steps.old ≤ steps.new }
@@ -148,11 +148,12 @@ pub fn answer(
     answers_are_as_if_built_anew();
     // That the keys rise is said here.
     let _counts = cache.store().counts();
+    let asking = Asking::new(alloc, cache);
     if out.is_empty() {
-        answer_alone(alloc, cache, query, out, steps)?;
+        answer_alone(&asking, query, out, steps)?;
         Ok(())
     } else {
-        answer_behind(alloc, cache, query, out, steps)?;
+        answer_behind(&asking, query, out, steps)?;
         Ok(())
     }
 }

@@ -7,20 +7,23 @@ ghost use Rattle.std.specs.List.Sorted.{IsStrictlySortedBy};
 ghost use Rattle.std.specs.Ordering.{nat_cmp};
 ghost use Rattle.ctl_store.specs.Entries.{AreAt};
 ghost use Rattle.ctl_store.specs.Held.{keyed_of};
+ghost use Rattle.ctl_store.specs.Pins.{is_of};
+ghost use Rattle.ctl_policy.specs.Priority.{world_of};
 ghost use Rattle.ctl_index.specs.Held.{standing};
-ghost use Rattle.ctl_query.specs.Interest.{is_of_package, is_provider, names_it, has_unmet};
+ghost use Rattle.ctl_query.specs.Interest.{is_of_package, is_provider, names_it, has_unmet, is_pinned};
 ghost use Rattle.ctl_query.specs.NameSet.{lent_names, is_among};
 
+use crate::asking::Asking;
 use crate::name_set::{in_order, push_name};
-use ctl_index::{Cache, Offering};
-use ctl_store::{StanzaKey, Store};
+use ctl_index::Offering;
+use ctl_store::{Selector, StanzaKey, Store};
 use std::alloc::{AllocError, Global};
 
 /// Each stanza of a cache is found by its key.
-pub(crate) fn stanzas_are_found(cache: &Cache)
-    ensures { AreAt (standing cache.now.store) (keyed_of cache.now.store).lists }
+pub(crate) fn stanzas_are_found(asking: &Asking<'_>)
+    ensures { AreAt (standing asking.now) (keyed_of asking.now).lists }
 {
-    let _entries = cache.store().entries();
+    let _entries = asking.store().entries();
 }
 
 /// Adds the package of the stanza of a key.
@@ -29,7 +32,8 @@ fn add_package<'a>(
     store: &'a Store,
     key: StanzaKey,
 ) -> Result<(), AllocError>
-    ensures { OnOk result ((name : List ℕ) → is_among (lent_names names.new.items) name ≡ (is_of_package store.now name key || is_among (lent_names names.old.items) name)) }
+    ensures { OnOk result ((name : List ℕ) → is_among (lent_names names.new.items) name ≡ (is_of_package store.now name key
+        || is_among (lent_names names.old.items) name)) }
 {
     match store.find(key) {
         Some(stanza) => push_name(names, stanza.package()),
@@ -43,7 +47,8 @@ fn add_provider<'a>(
     store: &'a Store,
     key: StanzaKey,
 ) -> Result<(), AllocError>
-    ensures { OnOk result ((name : List ℕ) → is_among (lent_names names.new.items) name ≡ (is_provider store.now name key || is_among (lent_names names.old.items) name)) }
+    ensures { OnOk result ((name : List ℕ) → is_among (lent_names names.new.items) name ≡ (is_provider store.now name key
+        || is_among (lent_names names.old.items) name)) }
 {
     match store.find(key) {
         Some(stanza) if !stanza.provides().is_empty() => push_name(names, stanza.package()),
@@ -53,20 +58,19 @@ fn add_provider<'a>(
 
 /// The packages of the stanzas with an atom that names a name, each once, in the order of their bytes.
 pub(crate) fn packages_naming<'a>(
-    alloc: Global,
-    cache: &'a Cache,
+    asking: &Asking<'a>,
     name: &[u8],
 ) -> Result<Vec<&'a [u8]>, AllocError>
-    requires { cache.now.stale ≡ false }
     ensures order { IfOk result (λ names. IsStrictlySortedBy (slice_cmp nat_cmp) (lent_names names.items)) }
-    ensures members { IfOk result (λ names. (asker : List ℕ) → is_among (lent_names names.items) asker ≡ names_it cache.now.store name.now asker) }
+    ensures members { IfOk result (λ names. (asker : List ℕ) → is_among (lent_names names.items) asker
+        ≡ names_it asking.now name.now asker) }
 {
-    let store = cache.store();
-    let mut names = Vec::new(alloc);
-    'namers: for key in cache.namers(name) {
+    let store = asking.store();
+    let mut names = Vec::new(asking.alloc());
+    'namers: for key in asking.namers(name) {
         add_package(&mut names, store, key.stanza)?;
     }
-    let names = in_order(alloc, names)?;
+    let names = in_order(asking.alloc(), names)?;
     Ok(names)
 }
 
@@ -77,7 +81,8 @@ pub(crate) fn packages_providing<'a>(
     offering: Offering<'_>,
 ) -> Result<Vec<&'a [u8]>, AllocError>
     ensures order { IfOk result (λ names. IsStrictlySortedBy (slice_cmp nat_cmp) (lent_names names.items)) }
-    ensures members { IfOk result (λ names. (asker : List ℕ) → is_among (lent_names names.items) asker ≡ list_any (is_provider store.now asker) offering.entry) }
+    ensures members { IfOk result (λ names. (asker : List ℕ) → is_among (lent_names names.items) asker
+        ≡ list_any (is_provider store.now asker) offering.entry) }
 {
     let mut names = Vec::new(alloc);
     'offering: for key in offering {
@@ -88,18 +93,47 @@ pub(crate) fn packages_providing<'a>(
 }
 
 /// The packages of the stanzas with a clause that no offer meets, each once, in the order of their bytes.
-pub(crate) fn packages_with_unmet<'a>(
-    alloc: Global,
-    cache: &'a Cache,
-) -> Result<Vec<&'a [u8]>, AllocError>
-    requires { cache.now.stale ≡ false }
+pub(crate) fn packages_with_unmet<'a>(asking: &Asking<'a>) -> Result<Vec<&'a [u8]>, AllocError>
     ensures order { IfOk result (λ names. IsStrictlySortedBy (slice_cmp nat_cmp) (lent_names names.items)) }
-    ensures members { IfOk result (λ names. (asker : List ℕ) → is_among (lent_names names.items) asker ≡ has_unmet cache.now.store asker) }
+    ensures members { IfOk result (λ names. (asker : List ℕ) → is_among (lent_names names.items) asker ≡ has_unmet asking.now asker) }
 {
-    let store = cache.store();
-    let mut names = Vec::new(alloc);
-    'clauses: for key in cache.unmet_clauses() {
+    let store = asking.store();
+    let mut names = Vec::new(asking.alloc());
+    'clauses: for key in asking.unmet_clauses() {
         add_package(&mut names, store, key.stanza)?;
+    }
+    let names = in_order(asking.alloc(), names)?;
+    Ok(names)
+}
+
+/// Adds the package of a specific pin.
+#[tactic(auto, using(crate::proofs::PinnedLemmas::same_either_way))]
+fn add_pinned<'a>(names: &mut Vec<&'a [u8]>, selector: &'a Selector) -> Result<(), AllocError>
+    ensures { OnOk result ((name : List ℕ) → is_among (lent_names names.new.items) name
+        ≡ (is_of name selector.now || is_among (lent_names names.old.items) name)) }
+{
+    match selector {
+        Selector::Version { package, .. } => push_name(names, package.as_slice()),
+        Selector::Release {
+            package: Some(package),
+            ..
+        } => push_name(names, package.as_slice()),
+        Selector::Release { package: None, .. } => Ok(()),
+    }
+}
+
+/// The packages that have a specific pin, each once, in the order of their bytes.
+pub(crate) fn pinned_packages<'a>(
+    alloc: Global,
+    store: &'a Store,
+) -> Result<Vec<&'a [u8]>, AllocError>
+    ensures order { IfOk result (λ names. IsStrictlySortedBy (slice_cmp nat_cmp) (lent_names names.items)) }
+    ensures members { IfOk result (λ names. (name : List ℕ) → is_among (lent_names names.items) name
+        ≡ is_pinned (world_of store.now).pins name) }
+{
+    let mut names = Vec::new(alloc);
+    'pins: for (selector, _) in store.pins() {
+        add_pinned(&mut names, selector)?;
     }
     let names = in_order(alloc, names)?;
     Ok(names)

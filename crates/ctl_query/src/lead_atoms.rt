@@ -61,7 +61,8 @@ pub(crate) fn list_atoms(
     namers: Namers<'_>,
 ) -> Result<Vec<LeadAtom>, AllocError>
     ensures order { IfOk result (λ atoms. IsStrictlySortedBy lead_atom_cmp atoms.items) }
-    ensures members { IfOk result (λ atoms. (a : LeadAtom) → is_listed atoms.items a ≡ list_any (λ (k : AtomKey). is_at table.now k a) namers.entry) }
+    ensures members { IfOk result (λ atoms. (a : LeadAtom) → is_listed atoms.items a
+        ≡ list_any (λ (k : AtomKey). is_at table.now k a) namers.entry) }
 {
     let mut atoms = Vec::new(alloc);
     'keys: for key in namers {

@@ -1,10 +1,11 @@
 //! The lines of `showpkg` that one lead gives.
 
 ghost use Rattle.std.specs.Prelude.{◌≡◌, ◌++◌, OnOk, flat_map};
-ghost use Rattle.ctl_query.specs.ShowPackage.{asker, naming_line, line_if_naming, naming_lines, naming_in, relation_line, relations_in, relation_lines, entry_line, entry_lines, has_name, providing_line, line_if_providing, providing_lines};
+ghost use Rattle.ctl_query.specs.ShowPackage.{asker, naming_line, line_if_naming, naming_lines, naming_in};
+ghost use Rattle.ctl_query.specs.ShowPackage.{relation_line, relations_in, relation_lines, entry_line, entry_lines};
+ghost use Rattle.ctl_query.specs.ShowPackage.{has_name, providing_line, line_if_providing, providing_lines};
 
-use crate::fields::depends_fields;
-use crate::text::{append_line, append_parts, field_label, version_text};
+use crate::text::{append_line, append_parts, version_text};
 use ctl_relation::{Atom, FieldKind, Group};
 use ctl_stanza::Stanza;
 use std::alloc::AllocError;
@@ -31,7 +32,7 @@ pub(crate) fn append_naming_line(
     ensures { OnOk result (out.new.items ≡ out.old.items ++ naming_line lead.now field atom.now) }
 {
     append_asker(lead, out)?;
-    append_parts(out, &[field_label(field), b": "])?;
+    append_parts(out, &[field.printed_name(), b": "])?;
     atom.append_to(out)?;
     out.extend_from_slice(b"\n")?;
     Ok(())
@@ -86,7 +87,7 @@ pub(crate) fn append_naming_lines(
 ) -> Result<(), AllocError>
     ensures { OnOk result (out.new.items ≡ out.old.items ++ naming_lines name.now lead.now) }
 {
-    let fields = depends_fields(false);
+    let fields = FieldKind::eight();
     for field in fields {
         append_naming_field(name, lead, *field, out)?;
     }
@@ -103,7 +104,7 @@ fn append_relation(
     ensures { OnOk result (out.new.items ≡ out.old.items ++ relation_line lead.now field group.now) }
 {
     append_parts(out, &[version_text(lead), b" "])?;
-    append_parts(out, &[field_label(field), b": "])?;
+    append_parts(out, &[field.printed_name(), b": "])?;
     group.append_to(out)?;
     out.extend_from_slice(b"\n")?;
     Ok(())
@@ -123,7 +124,7 @@ fn append_relations_in(lead: &Stanza, field: FieldKind, out: &mut Vec<u8>) -> Re
 pub(crate) fn append_relation_lines(lead: &Stanza, out: &mut Vec<u8>) -> Result<(), AllocError>
     ensures { OnOk result (out.new.items ≡ out.old.items ++ relation_lines lead.now) }
 {
-    let fields = depends_fields(false);
+    let fields = FieldKind::eight();
     for field in fields {
         append_relations_in(lead, *field, out)?;
     }

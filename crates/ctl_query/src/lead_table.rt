@@ -7,7 +7,7 @@ ghost use Rattle.ctl_policy.specs.Priority.{world_of};
 ghost use Rattle.ctl_query.specs.Leads.{keyed_lead, key_at, leads_of};
 ghost use Rattle.ctl_query.specs.LeadTable.{lent_leads, place_under, numbered_from, AreInKeyOrder};
 
-use ctl_index::Cache;
+use crate::asking::Asking;
 use ctl_policy::NewestFirst;
 use ctl_stanza::Stanza;
 use ctl_store::{StanzaKey, Store, compare_keys};
@@ -56,7 +56,8 @@ fn push_leads<'a>(
     store: &'a Store,
     rows: NewestFirst<'_>,
 ) -> Result<(), AllocError>
-    ensures { OnOk result (lent_leads leads.new.items ≡ lent_leads leads.old.items ++ flat_map (keyed_lead (world_of store.now)) rows.entry) }
+    ensures { OnOk result (lent_leads leads.new.items ≡ lent_leads leads.old.items
+        ++ flat_map (keyed_lead (world_of store.now)) rows.entry) }
 {
     'rows: for row in rows {
         push_lead(leads, store, row)?;
@@ -65,13 +66,12 @@ fn push_leads<'a>(
 }
 
 // The leads of all rows, each under its key. A name without a row has none.
-fn leads_of<'a>(alloc: Global, cache: &'a Cache) -> Result<Vec<(StanzaKey, &'a Stanza)>, AllocError>
-    requires { cache.now.stale ≡ false }
-    ensures { IfOk result (λ leads. lent_leads leads.items ≡ leads_of (world_of cache.now.store)) }
+fn leads_of<'a>(asking: &Asking<'a>) -> Result<Vec<(StanzaKey, &'a Stanza)>, AllocError>
+    ensures { IfOk result (λ leads. lent_leads leads.items ≡ leads_of (world_of asking.now)) }
 {
-    let mut leads = Vec::new(alloc);
-    'names: for rows in cache.all_rows() {
-        push_leads(&mut leads, cache.store(), rows)?;
+    let mut leads = Vec::new(asking.alloc());
+    'names: for rows in asking.all_rows() {
+        push_leads(&mut leads, asking.store(), rows)?;
     }
     Ok(leads)
 }
@@ -121,12 +121,11 @@ fn place_under(places: &[(StanzaKey, usize)], key: StanzaKey) -> Option<usize>
 
 impl<'a> LeadTable<'a> {
     /// The table of a cache. `None` where two leads had one key, which no cache has.
-    pub(crate) fn new(alloc: Global, cache: &'a Cache) -> Result<Option<LeadTable<'a>>, AllocError>
-        requires { cache.now.stale ≡ false }
-        ensures { IfOk result (λ table. IfSome table (λ t. t ≡ leads_of (world_of cache.now.store))) }
+    pub(crate) fn new(asking: &Asking<'a>) -> Result<Option<LeadTable<'a>>, AllocError>
+        ensures { IfOk result (λ table. IfSome table (λ t. t ≡ leads_of (world_of asking.now))) }
     {
-        let leads = leads_of(alloc, cache)?;
-        let mut places = numbered(alloc, &leads)?;
+        let leads = leads_of(asking)?;
+        let mut places = numbered(asking.alloc(), &leads)?;
         places.sort_unstable();
         if !are_rising(&places) {
             return Ok(None);

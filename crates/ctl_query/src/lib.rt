@@ -2,8 +2,8 @@
 #![tactic(auto)]
 
 mod answering;
+mod asking;
 mod depends;
-mod fields;
 mod interest;
 mod laws;
 mod lead_atoms;
@@ -12,7 +12,6 @@ mod lead_table;
 mod leads;
 mod name_set;
 mod package_names;
-mod packages;
 mod parsing;
 mod policy;
 mod providers;
@@ -26,6 +25,9 @@ mod text;
 mod unmet;
 
 pub use answering::answer;
-pub use laws::answers_are_as_if_built_anew;
-pub use parsing::{is_query, parse_query};
-pub use query::{AskedRow, Query};
+pub use laws::{
+    answers_are_as_if_built_anew, lists_anew_are_added, unmet_clauses_are_met_by_no_offer,
+};
+pub use parsing::{is_query, parse_query, parse_words};
+pub use query::{AskedRow, DependsOptions, Query};
+pub use query_name::{CacheQuery, QueryName};

@@ -12,7 +12,8 @@ use std::collections::BTreeSet;
 
 /// Adds a name.
 pub(crate) fn add_name<'a>(names: &mut BTreeSet<&'a [u8]>, name: &'a [u8]) -> Result<(), AllocError>
-    ensures { OnOk result ((other : List ℕ) → is_among (lent_names names.new.keys) other ≡ (bytes_eq other name.now || is_among (lent_names names.old.keys) other)) }
+    ensures { OnOk result ((other : List ℕ) → is_among (lent_names names.new.keys) other ≡ (bytes_eq other name.now
+        || is_among (lent_names names.old.keys) other)) }
 {
     names.insert(name)?;
     Ok(())
@@ -30,7 +31,8 @@ fn is_last(names: &[&[u8]], name: &[u8]) -> bool
 
 /// Adds a name behind others, unless it is the last of them.
 pub(crate) fn push_name<'a>(names: &mut Vec<&'a [u8]>, name: &'a [u8]) -> Result<(), AllocError>
-    ensures { OnOk result ((other : List ℕ) → is_among (lent_names names.new.items) other ≡ (bytes_eq other name.now || is_among (lent_names names.old.items) other)) }
+    ensures { OnOk result ((other : List ℕ) → is_among (lent_names names.new.items) other ≡ (bytes_eq other name.now
+        || is_among (lent_names names.old.items) other)) }
 {
     if is_last(names, name) {
         return Ok(());
@@ -77,7 +79,8 @@ fn sorted<'a>(alloc: Global, names: &[&'a [u8]]) -> Result<Vec<&'a [u8]>, AllocE
 /// Names, each once, in the order of their bytes. They mostly stand so already.
 pub(crate) fn in_order<'a>(alloc: Global, names: Vec<&'a [u8]>) -> Result<Vec<&'a [u8]>, AllocError>
     ensures order { IfOk result (λ kept. IsStrictlySortedBy (slice_cmp nat_cmp) (lent_names kept.items)) }
-    ensures members { IfOk result (λ kept. (name : List ℕ) → is_among (lent_names kept.items) name ≡ is_among (lent_names names.entry.items) name) }
+    ensures members { IfOk result (λ kept. (name : List ℕ) → is_among (lent_names kept.items) name
+        ≡ is_among (lent_names names.entry.items) name) }
 {
     if are_in_order(&names) {
         return Ok(names);

@@ -3,10 +3,12 @@
 ghost use Rattle.std.specs.Prelude.{◌≡◌, ◌++◌, OnOk, false, filter, flat_map};
 ghost use Rattle.ctl_policy.specs.Priority.{world_of};
 ghost use Rattle.ctl_query.specs.PackageNames.{begins_with, name_line, package_names_text};
+ghost use Rattle.ctl_query.specs.Packages.{has_row, packages_of};
 
-use crate::packages::packages_of;
+use crate::asking::Asking;
 use crate::text::append_line;
-use ctl_index::{Cache, Names, Packages};
+use ctl_index::{Names, PackageNames, Packages};
+use ctl_policy::rows_are_classes;
 use std::alloc::AllocError;
 
 /// Appends those of some names that begin with a prefix.
@@ -37,20 +39,50 @@ fn append_packages(
     Ok(())
 }
 
+/// Appends those of some names that have a row.
+fn append_with_row(
+    asking: &Asking<'_>,
+    names: PackageNames<'_>,
+    out: &mut Vec<u8>,
+) -> Result<(), AllocError>
+    ensures { OnOk result (out.new.items ≡ out.old.items ++ flat_map name_line (filter (has_row (world_of asking.now)) names.entry)) }
+{
+    'names: for name in names {
+        if asking.has_row(name) {
+            append_line(out, &[name])?;
+        }
+    }
+    Ok(())
+}
+
+/// Appends the packages that begin with a prefix, in the time that they and the prefix take.
+fn append_begun(asking: &Asking<'_>, prefix: &[u8], out: &mut Vec<u8>) -> Result<(), AllocError>
+    ensures { OnOk result (out.new.items ≡ out.old.items
+        ++ flat_map name_line (filter (begins_with prefix.now) (packages_of (world_of asking.now)))) }
+{
+    rows_are_classes();
+    let names = asking.package_names(prefix)?;
+    append_with_row(asking, names, out)?;
+    Ok(())
+}
+
 /// Appends the answer to `pkgnames`: of all known names, or of those that have a row.
 pub(crate) fn append_package_names(
-    cache: &Cache,
+    asking: &Asking<'_>,
     all: bool,
     prefix: &[u8],
     out: &mut Vec<u8>,
 ) -> Result<(), AllocError>
-    requires { cache.now.stale ≡ false }
-    ensures { OnOk result (out.new.items ≡ out.old.items ++ package_names_text (world_of cache.now.store) all prefix.now) }
+    ensures { OnOk result (out.new.items ≡ out.old.items ++ package_names_text (world_of asking.now) all prefix.now) }
 {
     if all {
-        append_names(cache.names(), prefix, out)?;
+        append_names(asking.names(), prefix, out)?;
         return Ok(());
     }
-    append_packages(packages_of(cache), prefix, out)?;
+    if prefix.is_empty() {
+        append_packages(asking.packages(), prefix, out)?;
+        return Ok(());
+    }
+    append_begun(asking, prefix, out)?;
     Ok(())
 }

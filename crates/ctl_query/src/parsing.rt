@@ -8,13 +8,15 @@ ghost use Rattle.ctl_store.specs.declared.refusal.Refusal.TheVariants as refusal
 ghost use Rattle.ctl_filter.specs.Query.{filter_of};
 ghost use Rattle.ctl_query.specs.Words.{is_among};
 ghost use Rattle.ctl_query.specs.Asked.{asked_row};
-ghost use Rattle.ctl_query.specs.Query.{Query as Asked, is_option, is_argument, is_important, is_installed_alone, shows_all};
+ghost use Rattle.ctl_query.specs.Query.{Query as Asked, is_option, is_argument, is_important, is_installed_alone};
+ghost use Rattle.ctl_query.specs.Query.{depends_options, shows_all};
 ghost use Rattle.ctl_query.specs.Query.{is_before_equals, options_of, version_asked, row_of_parts, row_asked, rows_asked};
-ghost use Rattle.ctl_query.specs.Query.{some_names_asked, query_by, query_in, asked_filter, query_of, is_filter_name, is_query, begin_query};
+ghost use Rattle.ctl_query.specs.Query.{some_names_asked, query_by, query_in, asked_filter};
+ghost use Rattle.ctl_query.specs.Query.{query_of, query_behind, is_query, begin_query};
 ghost use Rattle.ctl_query.specs.QueryRead.{Reads, ReadsQuery, query_text};
 
-use crate::query::{AskedRow, Query};
-use crate::query_name::QueryName;
+use crate::query::{AskedRow, DependsOptions, Query};
+use crate::query_name::{CacheQuery, QueryName};
 use ctl_filter::parse_filter;
 use ctl_relation::{Bytes, Version, VersionFault, is_name};
 use ctl_store::Refusal;
@@ -55,7 +57,7 @@ fn arguments_in(alloc: Global, words: &[Bytes]) -> Result<Vec<Bytes>, AllocError
     Ok(arguments)
 }
 
-fn are_options_of(name: QueryName, options: &[Bytes]) -> bool
+fn are_options_of(name: CacheQuery, options: &[Bytes]) -> bool
     ensures { result ≡ list_all (is_among (options_of name)) options.now }
 {
     for option in options {
@@ -98,6 +100,15 @@ fn is_installed_alone(options: &[Bytes]) -> bool
     ensures { result ≡ is_installed_alone options.now }
 {
     has_word(options, b"--installed")
+}
+
+fn depends_options(options: &[Bytes]) -> DependsOptions
+    ensures { result ≡ depends_options options.now }
+{
+    DependsOptions {
+        important: is_important(options),
+        installed: is_installed_alone(options),
+    }
 }
 
 fn is_all(option: &[u8]) -> bool
@@ -210,14 +221,14 @@ fn some_names(words: &[Bytes]) -> Result<(), Refusal>
 /// What a query asks for by its options, which are its own, and its arguments.
 fn query_by(
     alloc: Global,
-    name: QueryName,
+    name: CacheQuery,
     options: &[Bytes],
     arguments: Vec<Bytes>,
 ) -> Result<Query, Refusal>
     ensures { Reads query_text result (query_by name options.now arguments.items) }
 {
     match name {
-        QueryName::PackageNames => match arguments.as_slice() {
+        CacheQuery::PackageNames => match arguments.as_slice() {
             [] => Ok(Query::PackageNames(
                 has_word(options, b"--all-names"),
                 Bytes::from_vec(Vec::new(alloc)),
@@ -228,37 +239,33 @@ fn query_by(
             )),
             _ => Err(Refusal::Usage),
         },
-        QueryName::Show => {
+        CacheQuery::Show => {
             if arguments.is_empty() {
                 return Err(Refusal::Usage);
             }
             Ok(Query::Show(shows_all(options), rows_asked(alloc, &arguments)?))
         }
-        QueryName::Depends => {
+        CacheQuery::Depends => {
             some_names(&arguments)?;
-            Ok(Query::Depends(
-                is_important(options),
-                is_installed_alone(options),
-                arguments,
-            ))
+            Ok(Query::Depends(depends_options(options), arguments))
         }
-        QueryName::ReverseDepends => {
+        CacheQuery::ReverseDepends => {
             some_names(&arguments)?;
             Ok(Query::ReverseDepends(is_installed_alone(options), arguments))
         }
-        QueryName::Unmet => {
+        CacheQuery::Unmet => {
             if !arguments.is_empty() {
                 return Err(Refusal::Usage);
             }
             Ok(Query::Unmet(is_important(options)))
         }
-        QueryName::Policy => {
+        CacheQuery::Policy => {
             if !are_names(&arguments) {
                 return Err(Refusal::Name);
             }
             Ok(Query::Policy(arguments))
         }
-        QueryName::ShowPackage => {
+        CacheQuery::ShowPackage => {
             some_names(&arguments)?;
             Ok(Query::ShowPackage(arguments))
         }
@@ -279,7 +286,7 @@ fn split_words(alloc: Global, words: &[Bytes]) -> Result<(Vec<Bytes>, Vec<Bytes>
     Ok((options, arguments))
 }
 
-fn query_in(alloc: Global, name: QueryName, words: &[Bytes]) -> Result<Query, Refusal>
+fn query_in(alloc: Global, name: CacheQuery, words: &[Bytes]) -> Result<Query, Refusal>
     ensures { Reads query_text result (query_in name words.now) }
 {
     let (options, arguments) = split_words(alloc, words)?;
@@ -290,19 +297,10 @@ fn query_in(alloc: Global, name: QueryName, words: &[Bytes]) -> Result<Query, Re
 }
 
 /// Whether a command of this name is a query.
-#[tactic(auto, unfolding(crate::specs::Query::is_query))]
 pub fn is_query(name: &[u8]) -> bool
     ensures { result ≡ is_query name.now }
 {
-    is_filter_name(name) || QueryName::read(name).is_some()
-}
-
-/// Whether it is the query of grep-dctrl(1), whose words are its own.
-#[tactic(auto, unfolding(crate::specs::Query::is_filter_name))]
-fn is_filter_name(word: &[u8]) -> bool
-    ensures { result ≡ is_filter_name word.now }
-{
-    word == b"grep-dctrl".as_slice()
+    QueryName::read(name).is_some()
 }
 
 /// What the words of grep-dctrl(1) ask for.
@@ -313,16 +311,33 @@ fn filter_asked(alloc: Global, words: &[Bytes]) -> Result<Query, Refusal>
     Ok(Query::Filter(filter))
 }
 
-/// What words ask for: the name of a query, its options and its arguments (apt-cache(8)), or the words of a filter
+/// What the words behind the name of a query ask for: its options and its arguments (apt-cache(8)), or the words of a filter
 /// (grep-dctrl(1)).
 ///
 /// # Errors
 ///
-/// The first of these: [`Refusal::Command`], where there are no words or the first is no query's name; [`Refusal::Usage`], where
-/// an option is not one of the query's, or there are too many or too few arguments; and, argument by argument from the left,
-/// [`Refusal::Name`] and [`Refusal::Version`], where one is no name or version. Those of a filter are told at
-/// [`parse_filter`]. [`Refusal::Memory`] where memory is refused, but never in place of [`Refusal::Command`].
-#[tactic(auto, unfolding(crate::specs::Query::begin_query, crate::specs::Query::is_query))]
+/// The first of these: [`Refusal::Usage`], where an option is not one of the query's, or there are too many or too few
+/// arguments; and, argument by argument from the left, [`Refusal::Name`] and [`Refusal::Version`], where one is no name or
+/// version. Those of a filter are told at [`parse_filter`]. [`Refusal::Memory`] where memory is refused.
+pub fn parse_words(alloc: Global, name: QueryName, words: &[Bytes]) -> Result<Query, Refusal>
+    ensures { ReadsQuery result (query_behind name words.now) }
+{
+    match name {
+        QueryName::Filter => filter_asked(alloc, words),
+        QueryName::Cache(query) => {
+            let query = query_in(alloc, query, words)?;
+            Ok(query)
+        }
+    }
+}
+
+/// What words ask for: the name of a query, and behind it what [`parse_words`] takes.
+///
+/// # Errors
+///
+/// [`Refusal::Command`], where there are no words or the first is no query's name; then those of [`parse_words`].
+/// [`Refusal::Memory`] comes never in place of [`Refusal::Command`].
+#[tactic(auto, unfolding(crate::specs::Query::begin_query))]
 pub fn parse_query(alloc: Global, words: &[Bytes]) -> Result<Query, Refusal>
     ensures asked { ReadsQuery result (query_of words.now) }
     ensures no_query { begin_query words.now ≡ false → IfErr result (λ cause. cause ≡ refusal.Command) }
@@ -330,12 +345,8 @@ pub fn parse_query(alloc: Global, words: &[Bytes]) -> Result<Query, Refusal>
     let [name, words @ ..] = words else {
         return Err(Refusal::Command);
     };
-    if is_filter_name(name.as_slice()) {
-        return filter_asked(alloc, words);
+    match QueryName::read(name.as_slice()) {
+        Some(name) => parse_words(alloc, name, words),
+        None => Err(Refusal::Command),
     }
-    let Some(name) = QueryName::read(name.as_slice()) else {
-        return Err(Refusal::Command);
-    };
-    let query = query_in(alloc, name, words)?;
-    Ok(query)
 }

@@ -7,16 +7,21 @@ ghost use Rattle.ctl_store.specs.Held.{keyed_of};
 ghost use Rattle.ctl_store.specs.Keys.{AreHeld};
 ghost use Rattle.ctl_policy.specs.Rows.{sources_of};
 ghost use Rattle.ctl_policy.specs.Priority.{world_of};
-ghost use Rattle.ctl_query.specs.Policy.{priority_of, row_version, version_or_none, are_of_one_row, row_mark, row_line, source_line, row_lines, policy_one, list_line, line_if_pinned, pinned_line, pinned_lines, policy_of_all, policy_text};
+ghost use Rattle.ctl_query.specs.Policy.{priority_of, row_version, version_or_none, are_of_one_row, row_mark};
+ghost use Rattle.ctl_query.specs.Policy.{row_line, source_line, row_lines, policy_one, list_line, line_if_pinned};
+ghost use Rattle.ctl_query.specs.Policy.{pinned_line, pinned_lines, policy_of_all, policy_text};
+ghost use Rattle.ctl_query.specs.NameSet.{lent_names};
 ghost use Rattle.ctl_query.specs.Texts.{if_known};
-ghost use Rattle.ctl_query.specs.Packages.{rows_of};
+ghost use Rattle.ctl_query.specs.Packages.{packages_of, rows_of};
 ghost use Rattle.ctl_policy.specs.Chosen.{choice_in};
 
+use crate::asking::Asking;
+use crate::interest::pinned_packages;
 use crate::leads::version_under;
-use crate::packages::{is_known, packages_of, rows_of};
 use crate::text::{append_line, append_number, append_parts, append_right_four, append_unknown};
-use ctl_index::{Cache, Packages};
-use ctl_policy::{Chosen, NewestFirst, is_source, list_priority, row_priority, specific_pin};
+use ctl_policy::{
+    Chosen, NewestFirst, is_source, list_priority, row_priority, rows_are_classes, specific_pin,
+};
 use ctl_relation::Bytes;
 use ctl_store::{StanzaKey, Store};
 use std::alloc::AllocError;
@@ -84,7 +89,8 @@ fn append_source(store: &Store, list: &[u8], out: &mut Vec<u8>) -> Result<(), Al
 /// Appends the sources of a row, which has these stanzas.
 fn append_sources(store: &Store, row: &[StanzaKey], out: &mut Vec<u8>) -> Result<(), AllocError>
     requires { AreHeld row.now (keyed_of store.now).lists }
-    ensures { OnOk result (out.new.items ≡ out.old.items ++ flat_map (source_line (world_of store.now)) (sources_of row.now (keyed_of store.now).lists)) }
+    ensures { OnOk result (out.new.items ≡ out.old.items
+        ++ flat_map (source_line (world_of store.now)) (sources_of row.now (keyed_of store.now).lists)) }
 {
     'lists: for list in store.lists() {
         if is_source(store, list.0, row) {
@@ -221,12 +227,11 @@ fn append_pinned(
 
 /// Appends the lines of those rows of a name whose priority comes from a specific pin.
 #[tactic(auto, unfolding(crate::specs::Policy::pinned_lines))]
-fn append_pinned_rows(cache: &Cache, name: &[u8], out: &mut Vec<u8>) -> Result<(), AllocError>
-    requires { cache.now.stale ≡ false }
-    ensures { OnOk result (out.new.items ≡ out.old.items ++ pinned_lines (world_of cache.now.store) name.now) }
+fn append_pinned_rows(asking: &Asking<'_>, name: &[u8], out: &mut Vec<u8>) -> Result<(), AllocError>
+    ensures { OnOk result (out.new.items ≡ out.old.items ++ pinned_lines (world_of asking.now) name.now) }
 {
-    let store = cache.store();
-    'rows: for row in rows_of(cache, name) {
+    let store = asking.store();
+    'rows: for row in asking.rows(name) {
         append_pinned(store, name, row, out)?;
     }
     Ok(())
@@ -235,7 +240,8 @@ fn append_pinned_rows(cache: &Cache, name: &[u8], out: &mut Vec<u8>) -> Result<(
 /// Appends the lists, each with its priority.
 #[tactic(auto, using(crate::proofs::ListLemmas::names_shown))]
 fn append_lists(store: &Store, out: &mut Vec<u8>) -> Result<(), AllocError>
-    ensures { OnOk result (out.new.items ≡ out.old.items ++ flat_map (list_line (world_of store.now)) (names_of (world_of store.now).lists)) }
+    ensures { OnOk result (out.new.items ≡ out.old.items
+        ++ flat_map (list_line (world_of store.now)) (names_of (world_of store.now).lists)) }
 {
     'lists: for list in store.lists() {
         append_list(store, list.0, out)?;
@@ -243,41 +249,48 @@ fn append_lists(store: &Store, out: &mut Vec<u8>) -> Result<(), AllocError>
     Ok(())
 }
 
-/// Appends the pinned rows of packages.
-fn append_all_pinned(
-    cache: &Cache,
-    packages: Packages<'_>,
+fn append_each_pinned(
+    asking: &Asking<'_>,
+    names: &[&[u8]],
     out: &mut Vec<u8>,
 ) -> Result<(), AllocError>
-    requires { cache.now.stale ≡ false }
-    ensures { OnOk result (out.new.items ≡ out.old.items ++ flat_map (pinned_lines (world_of cache.now.store)) packages.entry) }
+    ensures { OnOk result (out.new.items ≡ out.old.items ++ flat_map (pinned_lines (world_of asking.now)) (lent_names names.now)) }
 {
-    'packages: for name in packages {
-        append_pinned_rows(cache, name, out)?;
+    for name in names {
+        append_pinned_rows(asking, name, out)?;
     }
+    Ok(())
+}
+
+/// Appends the pinned rows of all packages. Those that have a specific pin are enough.
+fn append_all_pinned(asking: &Asking<'_>, out: &mut Vec<u8>) -> Result<(), AllocError>
+    ensures { OnOk result (out.new.items ≡ out.old.items
+        ++ flat_map (pinned_lines (world_of asking.now)) (packages_of (world_of asking.now))) }
+{
+    rows_are_classes();
+    let names = pinned_packages(asking.alloc(), asking.store())?;
+    append_each_pinned(asking, &names, out)?;
     Ok(())
 }
 
 /// Appends the answer to `policy` without a name: the lists, and the rows whose priority comes from a specific pin.
 #[tactic(auto, unfolding(crate::specs::Policy::policy_of_all))]
-pub(crate) fn append_policy_of_all(cache: &Cache, out: &mut Vec<u8>) -> Result<(), AllocError>
-    requires { cache.now.stale ≡ false }
-    ensures { OnOk result (out.new.items ≡ out.old.items ++ policy_of_all (world_of cache.now.store)) }
+pub(crate) fn append_policy_of_all(asking: &Asking<'_>, out: &mut Vec<u8>) -> Result<(), AllocError>
+    ensures { OnOk result (out.new.items ≡ out.old.items ++ policy_of_all (world_of asking.now)) }
 {
     append_line(out, &[b"Package files:"])?;
-    append_lists(cache.store(), out)?;
+    append_lists(asking.store(), out)?;
     append_line(out, &[b"Pinned packages:"])?;
-    append_all_pinned(cache, packages_of(cache), out)?;
+    append_all_pinned(asking, out)?;
     Ok(())
 }
 
-fn append_one(cache: &Cache, name: &[u8], out: &mut Vec<u8>) -> Result<(), AllocError>
-    requires { cache.now.stale ≡ false }
-    ensures { OnOk result (out.new.items ≡ out.old.items ++ if_known (world_of cache.now.store) (policy_one (world_of cache.now.store)) name.now) }
+fn append_one(asking: &Asking<'_>, name: &[u8], out: &mut Vec<u8>) -> Result<(), AllocError>
+    ensures { OnOk result (out.new.items ≡ out.old.items ++ if_known (world_of asking.now) (policy_one (world_of asking.now)) name.now) }
 {
-    if is_known(cache, name) {
-        let chosen = cache.chosen(name);
-        append_known(cache.store(), name, chosen, rows_of(cache, name), out)?;
+    if asking.is_known(name) {
+        let chosen = asking.chosen(name);
+        append_known(asking.store(), name, chosen, asking.rows(name), out)?;
         Ok(())
     } else {
         append_unknown(out, name)?;
@@ -287,15 +300,14 @@ fn append_one(cache: &Cache, name: &[u8], out: &mut Vec<u8>) -> Result<(), Alloc
 
 /// Appends the answer to `policy` of names.
 pub(crate) fn append_policy(
-    cache: &Cache,
+    asking: &Asking<'_>,
     names: &[Bytes],
     out: &mut Vec<u8>,
 ) -> Result<(), AllocError>
-    requires { cache.now.stale ≡ false }
-    ensures { OnOk result (out.new.items ≡ out.old.items ++ policy_text (world_of cache.now.store) names.now) }
+    ensures { OnOk result (out.new.items ≡ out.old.items ++ policy_text (world_of asking.now) names.now) }
 {
     for name in names {
-        append_one(cache, name.as_slice(), out)?;
+        append_one(asking, name.as_slice(), out)?;
     }
     Ok(())
 }

@@ -8,13 +8,13 @@ ghost use Rattle.ctl_query.specs.NameSet.{lent_names, is_among};
 ghost use Rattle.ctl_query.specs.Packages.{has_row, is_none_of};
 ghost use Rattle.ctl_query.specs.Providers.{gives, makes_row};
 
+use crate::asking::Asking;
 use crate::interest::stanzas_are_found;
 use crate::name_set::add_name;
 use crate::text::append_line;
-use ctl_index::Cache;
 use ctl_relation::{Atom, Offer, Steps};
 use ctl_stanza::Stanza;
-use std::alloc::{AllocError, Global};
+use std::alloc::AllocError;
 use std::collections::BTreeSet;
 
 /// Adds the package of a stanza, if it has another name and the offer meets the atom.
@@ -25,7 +25,8 @@ fn add_provider<'a>(
     atom: &Atom<'_>,
     steps: &mut Steps,
 ) -> Result<(), AllocError>
-    ensures names { OnOk result ((other : List ℕ) → is_among (lent_names names.new.keys) other ≡ (gives atom.now other stanza.now offer.now || is_among (lent_names names.old.keys) other)) }
+    ensures names { OnOk result ((other : List ℕ) → is_among (lent_names names.new.keys) other
+        ≡ (gives atom.now other stanza.now offer.now || is_among (lent_names names.old.keys) other)) }
     ensures steps { steps.new ≤ steps.old + 1 }
     ensures kept { steps.old ≤ steps.new }
 {
@@ -48,22 +49,20 @@ fn with_row_of(found: bool, stanza: &Stanza, atom: &Atom<'_>) -> bool
 /// The packages, other than the one of the atom's name, with an offer that meets the atom: each once, in the order of their bytes.
 /// And whether the atom's name has a row: then one of its offers is that of its package.
 pub(crate) fn providers<'a>(
-    alloc: Global,
-    cache: &'a Cache,
+    asking: &Asking<'a>,
     atom: &Atom<'_>,
     steps: &mut Steps,
 ) -> Result<(BTreeSet<&'a [u8]>, bool), AllocError>
-    requires { cache.now.stale ≡ false }
-    ensures names { IfOk result (λ found. lent_names found.0.keys ≡ providers (world_of cache.now.store) atom.now) }
-    ensures row { IfOk result (λ found. found.1 ≡ has_row (world_of cache.now.store) atom.now.name) }
-    ensures steps { steps.new ≤ steps.old + atom_pairs (world_of cache.now.store) atom.now }
+    ensures names { IfOk result (λ found. lent_names found.0.keys ≡ providers (world_of asking.now) atom.now) }
+    ensures row { IfOk result (λ found. found.1 ≡ has_row (world_of asking.now) atom.now.name) }
+    ensures steps { steps.new ≤ steps.old + atom_pairs (world_of asking.now) atom.now }
     ensures kept { steps.old ≤ steps.new }
 {
-    stanzas_are_found(cache);
-    let store = cache.store();
-    let mut names = BTreeSet::new(alloc);
+    stanzas_are_found(asking);
+    let store = asking.store();
+    let mut names = BTreeSet::new(asking.alloc());
     let mut with_row = false;
-    'offers: for (key, offer) in cache.offers(atom.name()) {
+    'offers: for (key, offer) in asking.offers(atom.name()) {
         let stanza = store.stanza(key);
         with_row = with_row_of(with_row, stanza, atom);
         add_provider(&mut names, stanza, offer, atom, steps)?;
@@ -73,20 +72,18 @@ pub(crate) fn providers<'a>(
 }
 
 /// Whether a name is kept: with `--installed` where a row of it is installed.
-fn is_kept(cache: &Cache, installed: bool, name: &[u8]) -> bool
-    requires { cache.now.stale ≡ false }
-    ensures { result ≡ is_kept (world_of cache.now.store) installed name.now }
+fn is_kept(asking: &Asking<'_>, installed: bool, name: &[u8]) -> bool
+    ensures { result ≡ is_kept (world_of asking.now) installed name.now }
 {
-    !installed || cache.installed(name).is_some()
+    !installed || asking.is_installed(name)
 }
 
 /// Whether any of some names is kept.
-pub(crate) fn is_any_kept(cache: &Cache, installed: bool, names: &BTreeSet<&[u8]>) -> bool
-    requires { cache.now.stale ≡ false }
-    ensures { result ≡ not (is_none_of (kept_of (world_of cache.now.store) installed (lent_names names.now.keys))) }
+pub(crate) fn is_any_kept(asking: &Asking<'_>, installed: bool, names: &BTreeSet<&[u8]>) -> bool
+    ensures { result ≡ not (is_none_of (kept_of (world_of asking.now) installed (lent_names names.now.keys))) }
 {
     'names: for name in names {
-        if is_kept(cache, installed, name) {
+        if is_kept(asking, installed, name) {
             return true;
         }
     }
@@ -95,16 +92,16 @@ pub(crate) fn is_any_kept(cache: &Cache, installed: bool, names: &BTreeSet<&[u8]
 
 /// Appends a line for each of some names that is kept.
 pub(crate) fn append_providers(
-    cache: &Cache,
+    asking: &Asking<'_>,
     installed: bool,
     names: &BTreeSet<&[u8]>,
     out: &mut Vec<u8>,
 ) -> Result<(), AllocError>
-    requires { cache.now.stale ≡ false }
-    ensures { OnOk result (out.new.items ≡ out.old.items ++ flat_map provider_line (kept_of (world_of cache.now.store) installed (lent_names names.now.keys))) }
+    ensures { OnOk result (out.new.items ≡ out.old.items
+        ++ flat_map provider_line (kept_of (world_of asking.now) installed (lent_names names.now.keys))) }
 {
     'names: for name in names {
-        if is_kept(cache, installed, name) {
+        if is_kept(asking, installed, name) {
             append_line(out, &[b"    ", name])?;
         }
     }

@@ -10,6 +10,15 @@ pub struct AskedRow {
     pub version: Option<Version>,
 }
 
+/// What `depends` is to show.
+#[derive(Clone, Copy, Debug, PartialEq, Eq)]
+pub struct DependsOptions {
+    /// Important dependencies alone, by `-i`.
+    pub important: bool,
+    /// Of what is installed alone, by `--installed`.
+    pub installed: bool,
+}
+
 /// A query of apt-cache(8), or of grep-dctrl(1).
 #[derive(Drop)]
 pub enum Query {
@@ -17,8 +26,8 @@ pub enum Query {
     PackageNames(bool, Bytes),
     /// `show`: whether all versions are, and the rows.
     Show(bool, Vec<AskedRow>),
-    /// `depends`: whether important dependencies alone are, whether what is installed alone is, and the names.
-    Depends(bool, bool, Vec<Bytes>),
+    /// `depends`: what is to be shown, and the names.
+    Depends(DependsOptions, Vec<Bytes>),
     /// `rdepends`: whether what is installed alone is, and the names.
     ReverseDepends(bool, Vec<Bytes>),
     /// `unmet`: whether important dependencies alone are.

@@ -3,9 +3,17 @@
 ghost use Rattle.std.specs.Prelude.{◌≡◌, ◌++◌, OnOk};
 ghost use Rattle.ctl_query.specs.Depends.{mark, named, named_shown, atom_line};
 
-use crate::text::{append_parts, field_label};
+use crate::text::append_parts;
 use ctl_relation::{Atom, FieldKind};
 use std::alloc::AllocError;
+
+/// An atom of a field, and whether a further alternative follows it in its group.
+#[derive(Drop)]
+pub(crate) struct Alternative<'a> {
+    pub(crate) field: FieldKind,
+    pub(crate) further: bool,
+    pub(crate) atom: Atom<'a>,
+}
 
 /// What stands before the line of an atom: a bar where a further alternative follows.
 pub(crate) fn mark(further: bool) -> &'static [u8]
@@ -37,19 +45,19 @@ fn append_named_shown(with_row: bool, atom: &Atom<'_>, out: &mut Vec<u8>) -> Res
     Ok(())
 }
 
-/// Appends the line of an atom of `depends`: whether its name has a row, its field, whether a further alternative follows.
+/// Appends the line of an atom of `depends`, by whether its name has a row.
 #[tactic(auto, unfolding(crate::specs::Texts::line))]
 pub(crate) fn append_atom_line(
     with_row: bool,
-    field: FieldKind,
-    further: bool,
-    atom: &Atom<'_>,
+    alternative: &Alternative<'_>,
     out: &mut Vec<u8>,
 ) -> Result<(), AllocError>
-    ensures { OnOk result (out.new.items ≡ out.old.items ++ atom_line with_row field further atom.now) }
+    ensures { OnOk result (out.new.items ≡ out.old.items
+        ++ atom_line with_row alternative.now.field alternative.now.further alternative.now.atom) }
 {
-    append_parts(out, &[mark(further), field_label(field), b": "])?;
-    append_named_shown(with_row, atom, out)?;
+    let field = alternative.field.printed_name();
+    append_parts(out, &[mark(alternative.further), field, b": "])?;
+    append_named_shown(with_row, &alternative.atom, out)?;
     out.extend_from_slice(b"\n")?;
     Ok(())
 }

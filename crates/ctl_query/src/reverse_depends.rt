@@ -4,22 +4,22 @@ ghost use Rattle.std.specs.Prelude.{◌≡◌, ◌++◌, OnOk, false, flat_map, 
 ghost use Rattle.ctl_policy.specs.Priority.{world_of};
 ghost use Rattle.ctl_query.specs.NameSet.{lent_names};
 ghost use Rattle.ctl_query.specs.NamingRead.{naming_line, with_all, with_naming};
-ghost use Rattle.ctl_query.specs.ReverseDepends.{naming_in_group, naming_in_field, naming_in_lead, naming_in_row, naming, asker_line, asking_line, reverse_depends_one, reverse_depends_text};
+ghost use Rattle.ctl_query.specs.ReverseDepends.{naming_in_group, naming_in_field, naming_in_lead, naming_in_row};
+ghost use Rattle.ctl_query.specs.ReverseDepends.{naming, asker_line, asking_line, reverse_depends_one};
+ghost use Rattle.ctl_query.specs.ReverseDepends.{reverse_depends_text};
 ghost use Rattle.ctl_query.specs.Packages.{packages_of};
 ghost use Rattle.ctl_query.specs.Texts.{if_known};
 
-use crate::fields::depends_fields;
+use crate::asking::Asking;
 use crate::interest::{packages_naming, stanzas_are_found};
 use crate::leads::lead_in;
-use crate::packages::{is_known, rows_of};
 use crate::relation_lines::mark;
 use crate::text::{append_line, append_unknown};
-use ctl_index::Cache;
 use ctl_policy::rows_are_classes;
 use ctl_relation::{Bytes, FieldKind, Group};
 use ctl_stanza::Stanza;
 use ctl_store::{StanzaKey, Store};
-use std::alloc::{AllocError, Global};
+use std::alloc::AllocError;
 
 /// One atom more that names a name: whether a further alternative follows each of them.
 fn with_naming(found: Option<bool>, further: bool) -> Option<bool>
@@ -71,7 +71,7 @@ fn with_lead(name: &[u8], lead: &Stanza, found: Option<bool>) -> Option<bool>
     ensures { result ≡ with_all found (naming_in_lead name.now lead.now) }
 {
     let mut found = found;
-    let fields = depends_fields(false);
+    let fields = FieldKind::eight();
     for field in fields {
         found = with_field(name, lead, *field, found);
     }
@@ -90,13 +90,12 @@ fn with_row(store: &Store, name: &[u8], row: &[StanzaKey], found: Option<bool>) 
 
 /// Whether a further alternative follows each atom of a package's leads that names a name; none where no atom does.
 #[tactic(auto, using(crate::proofs::GroupLemmas::with_append), unfolding(crate::specs::ReverseDepends::naming, crate::specs::NamingRead::with_all))]
-fn naming_of(cache: &Cache, name: &[u8], asker: &[u8]) -> Option<bool>
-    requires { cache.now.stale ≡ false }
-    ensures { result ≡ with_all None (naming (world_of cache.now.store) name.now asker.now) }
+fn naming_of(asking: &Asking<'_>, name: &[u8], asker: &[u8]) -> Option<bool>
+    ensures { result ≡ with_all None (naming (world_of asking.now) name.now asker.now) }
 {
     let mut found = None;
-    'rows: for row in rows_of(cache, asker) {
-        found = with_row(cache.store(), name, row, found);
+    'rows: for row in asking.rows(asker) {
+        found = with_row(asking.store(), name, row, found);
     }
     found
 }
@@ -119,121 +118,113 @@ fn append_naming(asker: &[u8], found: Option<bool>, out: &mut Vec<u8>) -> Result
 /// Appends the line of a package, if an atom of its leads names the name.
 #[tactic(auto, using(crate::proofs::GroupLemmas::line_of_naming))]
 fn append_asker(
-    cache: &Cache,
+    asking: &Asking<'_>,
     name: &[u8],
     asker: &[u8],
     out: &mut Vec<u8>,
 ) -> Result<(), AllocError>
-    requires { cache.now.stale ≡ false }
-    ensures { OnOk result (out.new.items ≡ out.old.items ++ asker_line asker.now (naming (world_of cache.now.store) name.now asker.now)) }
+    ensures { OnOk result (out.new.items ≡ out.old.items ++ asker_line asker.now (naming (world_of asking.now) name.now asker.now)) }
 {
-    append_naming(asker, naming_of(cache, name, asker), out)?;
+    append_naming(asker, naming_of(asking, name, asker), out)?;
     Ok(())
 }
 
 /// The same, with `--installed` of a package of which a row is installed alone.
 #[tactic(auto, unfolding(crate::specs::ReverseDepends::asking_line))]
 fn append_asking(
-    cache: &Cache,
+    asking: &Asking<'_>,
     installed: bool,
     name: &[u8],
     asker: &[u8],
     out: &mut Vec<u8>,
 ) -> Result<(), AllocError>
-    requires { cache.now.stale ≡ false }
-    ensures { OnOk result (out.new.items ≡ out.old.items ++ asking_line (world_of cache.now.store) installed name.now asker.now) }
+    ensures { OnOk result (out.new.items ≡ out.old.items ++ asking_line (world_of asking.now) installed name.now asker.now) }
 {
-    if installed && cache.installed(asker).is_none() {
+    if installed && !asking.is_installed(asker) {
         return Ok(());
     }
-    append_asker(cache, name, asker, out)?;
+    append_asker(asking, name, asker, out)?;
     Ok(())
 }
 
 /// Appends the lines of some packages.
 fn append_each(
-    cache: &Cache,
+    asking: &Asking<'_>,
     installed: bool,
     name: &[u8],
     askers: &[&[u8]],
     out: &mut Vec<u8>,
 ) -> Result<(), AllocError>
-    requires { cache.now.stale ≡ false }
-    ensures { OnOk result (out.new.items ≡ out.old.items ++ flat_map (asking_line (world_of cache.now.store) installed name.now) (lent_names askers.now)) }
+    ensures { OnOk result (out.new.items ≡ out.old.items
+        ++ flat_map (asking_line (world_of asking.now) installed name.now) (lent_names askers.now)) }
 {
     for asker in askers {
-        append_asking(cache, installed, name, asker, out)?;
+        append_asking(asking, installed, name, asker, out)?;
     }
     Ok(())
 }
 
 /// Appends the lines of all packages: those of the packages with an atom of the name are enough.
 fn append_askers(
-    alloc: Global,
-    cache: &Cache,
+    asking: &Asking<'_>,
     installed: bool,
     name: &[u8],
     out: &mut Vec<u8>,
 ) -> Result<(), AllocError>
-    requires { cache.now.stale ≡ false }
-    ensures { OnOk result (out.new.items ≡ out.old.items ++ flat_map (asking_line (world_of cache.now.store) installed name.now) (packages_of (world_of cache.now.store))) }
+    ensures { OnOk result (out.new.items ≡ out.old.items
+        ++ flat_map (asking_line (world_of asking.now) installed name.now) (packages_of (world_of asking.now))) }
 {
     rows_are_classes();
-    stanzas_are_found(cache);
-    let askers = packages_naming(alloc, cache, name)?;
-    append_each(cache, installed, name, &askers, out)?;
+    stanzas_are_found(asking);
+    let askers = packages_naming(asking, name)?;
+    append_each(asking, installed, name, &askers, out)?;
     Ok(())
 }
 
 /// Appends the answer on a known name.
 #[tactic(auto, unfolding(crate::specs::ReverseDepends::reverse_depends_one))]
 fn append_known(
-    alloc: Global,
-    cache: &Cache,
+    asking: &Asking<'_>,
     installed: bool,
     name: &[u8],
     out: &mut Vec<u8>,
 ) -> Result<(), AllocError>
-    requires { cache.now.stale ≡ false }
-    ensures { OnOk result (out.new.items ≡ out.old.items ++ reverse_depends_one (world_of cache.now.store) installed name.now) }
+    ensures { OnOk result (out.new.items ≡ out.old.items ++ reverse_depends_one (world_of asking.now) installed name.now) }
 {
     append_line(out, &[name])?;
     append_line(out, &[b"Reverse Depends:"])?;
-    append_askers(alloc, cache, installed, name, out)?;
+    append_askers(asking, installed, name, out)?;
     Ok(())
 }
 
 fn append_one(
-    alloc: Global,
-    cache: &Cache,
+    asking: &Asking<'_>,
     installed: bool,
     name: &[u8],
     out: &mut Vec<u8>,
 ) -> Result<(), AllocError>
-    requires { cache.now.stale ≡ false }
-    ensures { OnOk result (out.new.items ≡ out.old.items ++ if_known (world_of cache.now.store) (reverse_depends_one (world_of cache.now.store) installed) name.now) }
+    ensures { OnOk result (out.new.items ≡ out.old.items
+        ++ if_known (world_of asking.now) (reverse_depends_one (world_of asking.now) installed) name.now) }
 {
-    if !is_known(cache, name) {
+    if !asking.is_known(name) {
         append_unknown(out, name)?;
         return Ok(());
     }
-    append_known(alloc, cache, installed, name, out)?;
+    append_known(asking, installed, name, out)?;
     Ok(())
 }
 
 /// Appends the answer to `rdepends`.
 pub(crate) fn append_reverse_depends(
-    alloc: Global,
-    cache: &Cache,
+    asking: &Asking<'_>,
     installed: bool,
     names: &[Bytes],
     out: &mut Vec<u8>,
 ) -> Result<(), AllocError>
-    requires { cache.now.stale ≡ false }
-    ensures { OnOk result (out.new.items ≡ out.old.items ++ reverse_depends_text (world_of cache.now.store) installed names.now) }
+    ensures { OnOk result (out.new.items ≡ out.old.items ++ reverse_depends_text (world_of asking.now) installed names.now) }
 {
     for name in names {
-        append_one(alloc, cache, installed, name.as_slice(), out)?;
+        append_one(asking, installed, name.as_slice(), out)?;
     }
     Ok(())
 }

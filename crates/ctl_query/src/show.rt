@@ -7,11 +7,10 @@ ghost use Rattle.ctl_query.specs.Asked.{asked_row};
 ghost use Rattle.ctl_query.specs.Packages.{of_rows, stanza_under, told, told_of_row};
 ghost use Rattle.ctl_query.specs.Show.{lead_text, not_found_line, rows_shown, show_one, show_text, version_shown};
 
+use crate::asking::Asking;
 use crate::leads::{lead_in, stanza_under};
-use crate::packages::rows_of;
 use crate::query::AskedRow;
 use crate::text::{append_line, append_unknown};
-use ctl_index::Cache;
 use ctl_policy::NewestFirst;
 use ctl_relation::Version;
 use ctl_stanza::Stanza;
@@ -59,15 +58,14 @@ fn append_not_found(name: &[u8], version: &Version, out: &mut Vec<u8>) -> Result
 
 /// Appends the row of a name whose version is equal to this one, or that there is none.
 fn append_version(
-    cache: &Cache,
+    asking: &Asking<'_>,
     name: &[u8],
     version: &Version,
     out: &mut Vec<u8>,
 ) -> Result<(), AllocError>
-    requires { cache.now.stale ≡ false }
-    ensures { OnOk result (out.new.items ≡ out.old.items ++ version_shown (world_of cache.now.store) name.now version.now) }
+    ensures { OnOk result (out.new.items ≡ out.old.items ++ version_shown (world_of asking.now) name.now version.now) }
 {
-    match stanza_under(cache.store(), cache.lead(name, version)) {
+    match stanza_under(asking.store(), asking.lead(name, version)) {
         Some(lead) => {
             append_line(out, &[lead.text()])?;
             Ok(())
@@ -77,58 +75,55 @@ fn append_version(
 }
 
 /// Appends each row of a name.
-fn append_all(cache: &Cache, name: &[u8], out: &mut Vec<u8>) -> Result<(), AllocError>
-    requires { cache.now.stale ≡ false }
-    ensures { OnOk result (out.new.items ≡ out.old.items ++ of_rows (world_of cache.now.store) lead_text name.now) }
+fn append_all(asking: &Asking<'_>, name: &[u8], out: &mut Vec<u8>) -> Result<(), AllocError>
+    ensures { OnOk result (out.new.items ≡ out.old.items ++ of_rows (world_of asking.now) lead_text name.now) }
 {
-    append_rows(cache.store(), rows_of(cache, name), out)?;
+    append_rows(asking.store(), asking.rows(name), out)?;
     Ok(())
 }
 
 /// Appends the row of the candidate, if there is one.
-fn append_candidate(cache: &Cache, name: &[u8], out: &mut Vec<u8>) -> Result<(), AllocError>
-    requires { cache.now.stale ≡ false }
-    ensures { OnOk result (out.new.items ≡ out.old.items ++ told lead_text (stanza_under (world_of cache.now.store) (candidate_of name.now (world_of cache.now.store)))) }
+fn append_candidate(asking: &Asking<'_>, name: &[u8], out: &mut Vec<u8>) -> Result<(), AllocError>
+    ensures { OnOk result (out.new.items ≡ out.old.items
+        ++ told lead_text (stanza_under (world_of asking.now) (candidate_of name.now (world_of asking.now)))) }
 {
-    append_lead(stanza_under(cache.store(), cache.candidate(name)), out)?;
+    append_lead(stanza_under(asking.store(), asking.candidate(name)), out)?;
     Ok(())
 }
 
 /// Appends what is shown of a name that has a row.
 fn append_shown(
-    cache: &Cache,
+    asking: &Asking<'_>,
     all: bool,
     name: &[u8],
     version: &Option<Version>,
     out: &mut Vec<u8>,
 ) -> Result<(), AllocError>
-    requires { cache.now.stale ≡ false }
-    ensures { OnOk result (out.new.items ≡ out.old.items ++ rows_shown (world_of cache.now.store) all name.now version.now) }
+    ensures { OnOk result (out.new.items ≡ out.old.items ++ rows_shown (world_of asking.now) all name.now version.now) }
 {
     match version {
-        Some(version) => append_version(cache, name, version, out),
+        Some(version) => append_version(asking, name, version, out),
         None => {
             if all {
-                append_all(cache, name, out)
+                append_all(asking, name, out)
             } else {
-                append_candidate(cache, name, out)
+                append_candidate(asking, name, out)
             }
         }
     }
 }
 
 fn append_one(
-    cache: &Cache,
+    asking: &Asking<'_>,
     all: bool,
     asked: &AskedRow,
     out: &mut Vec<u8>,
 ) -> Result<(), AllocError>
-    requires { cache.now.stale ≡ false }
-    ensures { OnOk result (out.new.items ≡ out.old.items ++ show_one (world_of cache.now.store) all (asked_row asked.now)) }
+    ensures { OnOk result (out.new.items ≡ out.old.items ++ show_one (world_of asking.now) all (asked_row asked.now)) }
 {
     let name = asked.name.as_slice();
-    if cache.has_row(name) {
-        append_shown(cache, all, name, &asked.version, out)?;
+    if asking.has_row(name) {
+        append_shown(asking, all, name, &asked.version, out)?;
         Ok(())
     } else {
         append_unknown(out, name)?;
@@ -138,16 +133,15 @@ fn append_one(
 
 /// Appends the answer to `show`.
 pub(crate) fn append_show(
-    cache: &Cache,
+    asking: &Asking<'_>,
     all: bool,
     asked: &[AskedRow],
     out: &mut Vec<u8>,
 ) -> Result<(), AllocError>
-    requires { cache.now.stale ≡ false }
-    ensures { OnOk result (out.new.items ≡ out.old.items ++ show_text (world_of cache.now.store) all (map asked_row asked.now)) }
+    ensures { OnOk result (out.new.items ≡ out.old.items ++ show_text (world_of asking.now) all (map asked_row asked.now)) }
 {
     for one in asked {
-        append_one(cache, all, one, out)?;
+        append_one(asking, all, one, out)?;
     }
     Ok(())
 }

@@ -13,9 +13,11 @@ ghost use Rattle.ctl_query.specs.Interest.{offering_named};
 ghost use Rattle.ctl_query.specs.Leads.{leads_of};
 ghost use Rattle.ctl_query.specs.NameSet.{lent_names};
 ghost use Rattle.ctl_query.specs.Packages.{rows_of, of_rows, of_all_rows, told_of_row};
-ghost use Rattle.ctl_query.specs.ShowPackage.{source_mark, version_line, naming_lines, relation_lines, entry_lines, providing_lines, show_package_one, show_package_text};
+ghost use Rattle.ctl_query.specs.ShowPackage.{source_mark, version_line, naming_lines, relation_lines, entry_lines};
+ghost use Rattle.ctl_query.specs.ShowPackage.{providing_lines, show_package_one, show_package_text};
 ghost use Rattle.ctl_query.specs.Texts.{line, if_known};
 
+use crate::asking::Asking;
 use crate::interest::{packages_naming, packages_providing, stanzas_are_found};
 use crate::lead_atoms::{append_atoms, list_atoms};
 use crate::lead_lines::{
@@ -23,14 +25,13 @@ use crate::lead_lines::{
 };
 use crate::lead_table::LeadTable;
 use crate::leads::lead_in;
-use crate::packages::{rows_of, view_of};
 use crate::policy::row_version;
 use crate::text::{append_line, append_parts, append_unknown};
-use ctl_index::{Cache, NameView, Namers, Offering};
+use ctl_index::{NameView, Namers, Offering};
 use ctl_policy::{NewestFirst, is_source, rows_are_classes};
 use ctl_relation::Bytes;
 use ctl_store::{StanzaKey, Store};
-use std::alloc::{AllocError, Global};
+use std::alloc::AllocError;
 
 // ---- its versions
 
@@ -60,15 +61,15 @@ fn append_version(store: &Store, row: &[StanzaKey], out: &mut Vec<u8>) -> Result
 }
 
 fn append_versions(
-    cache: &Cache,
+    asking: &Asking<'_>,
     rows: NewestFirst<'_>,
     out: &mut Vec<u8>,
 ) -> Result<(), AllocError>
-    requires { AllByRecursion (λ row. AreHeld row (keyed_of cache.now.store).lists) rows }
-    ensures { OnOk result (out.new.items ≡ out.old.items ++ flat_map (version_line (world_of cache.now.store)) rows.entry) }
+    requires { AllByRecursion (λ row. AreHeld row (keyed_of asking.now).lists) rows }
+    ensures { OnOk result (out.new.items ≡ out.old.items ++ flat_map (version_line (world_of asking.now)) rows.entry) }
 {
     'rows: for row in rows {
-        append_version(cache.store(), row, out)?;
+        append_version(asking.store(), row, out)?;
     }
     Ok(())
 }
@@ -93,86 +94,81 @@ fn append_naming_row(
 }
 
 fn append_naming_rows(
-    cache: &Cache,
+    asking: &Asking<'_>,
     name: &[u8],
     asker: &[u8],
     out: &mut Vec<u8>,
 ) -> Result<(), AllocError>
-    requires { cache.now.stale ≡ false }
-    ensures { OnOk result (out.new.items ≡ out.old.items ++ of_rows (world_of cache.now.store) (naming_lines name.now) asker.now) }
+    ensures { OnOk result (out.new.items ≡ out.old.items ++ of_rows (world_of asking.now) (naming_lines name.now) asker.now) }
 {
-    'rows: for row in rows_of(cache, asker) {
-        append_naming_row(cache.store(), name, row, out)?;
+    'rows: for row in asking.rows(asker) {
+        append_naming_row(asking.store(), name, row, out)?;
     }
     Ok(())
 }
 
 fn append_each_naming(
-    cache: &Cache,
+    asking: &Asking<'_>,
     name: &[u8],
     askers: &[&[u8]],
     out: &mut Vec<u8>,
 ) -> Result<(), AllocError>
-    requires { cache.now.stale ≡ false }
-    ensures { OnOk result (out.new.items ≡ out.old.items ++ flat_map (of_rows (world_of cache.now.store) (naming_lines name.now)) (lent_names askers.now)) }
+    ensures { OnOk result (out.new.items ≡ out.old.items
+        ++ flat_map (of_rows (world_of asking.now) (naming_lines name.now)) (lent_names askers.now)) }
 {
     for asker in askers {
-        append_naming_rows(cache, name, asker, out)?;
+        append_naming_rows(asking, name, asker, out)?;
     }
     Ok(())
 }
 
 /// Appends the atoms that name a name. The packages with such an atom are enough.
 fn append_naming_by_askers(
-    alloc: Global,
-    cache: &Cache,
+    asking: &Asking<'_>,
     name: &[u8],
     out: &mut Vec<u8>,
 ) -> Result<(), AllocError>
-    requires { cache.now.stale ≡ false }
-    ensures { OnOk result (out.new.items ≡ out.old.items ++ of_all_rows (world_of cache.now.store) (naming_lines name.now)) }
+    ensures { OnOk result (out.new.items ≡ out.old.items ++ of_all_rows (world_of asking.now) (naming_lines name.now)) }
 {
     rows_are_classes();
-    stanzas_are_found(cache);
-    let askers = packages_naming(alloc, cache, name)?;
-    append_each_naming(cache, name, &askers, out)?;
+    stanzas_are_found(asking);
+    let askers = packages_naming(asking, name)?;
+    append_each_naming(asking, name, &askers, out)?;
     Ok(())
 }
 
 /// Appends the atoms that name a name. By a table of leads each atom is gone to by its key, and no name is looked for.
 fn append_naming(
-    alloc: Global,
-    cache: &Cache,
+    asking: &Asking<'_>,
     table: Option<&LeadTable<'_>>,
     namers: Namers<'_>,
     name: &[u8],
     out: &mut Vec<u8>,
 ) -> Result<(), AllocError>
-    requires fresh { cache.now.stale ≡ false }
-    requires leads { IfSome table (λ table. table.now ≡ leads_of (world_of cache.now.store)) }
-    requires namers { IsPermutation (namers_named name.now (standing cache.now.store)) namers }
-    ensures { OnOk result (out.new.items ≡ out.old.items ++ of_all_rows (world_of cache.now.store) (naming_lines name.now)) }
+    requires leads { IfSome table (λ table. table.now ≡ leads_of (world_of asking.now)) }
+    requires namers { IsPermutation (namers_named name.now (standing asking.now)) namers }
+    ensures { OnOk result (out.new.items ≡ out.old.items ++ of_all_rows (world_of asking.now) (naming_lines name.now)) }
 {
     match table {
         Some(table) => {
-            let atoms = list_atoms(alloc, table, namers)?;
+            let atoms = list_atoms(asking.alloc(), table, namers)?;
             append_atoms(table, name, &atoms, out)?;
             Ok(())
         }
-        None => append_naming_by_askers(alloc, cache, name, out),
+        None => append_naming_by_askers(asking, name, out),
     }
 }
 
 // ---- what it names
 
 fn append_relation_row(
-    cache: &Cache,
+    asking: &Asking<'_>,
     row: &[StanzaKey],
     out: &mut Vec<u8>,
 ) -> Result<(), AllocError>
-    ensures { OnOk result (out.new.items ≡ out.old.items ++ told_of_row (world_of cache.now.store) relation_lines row.now) }
+    ensures { OnOk result (out.new.items ≡ out.old.items ++ told_of_row (world_of asking.now) relation_lines row.now) }
 {
-    match lead_in(cache.store(), row) {
+    match lead_in(asking.store(), row) {
         Some(lead) => {
             append_relation_lines(lead, out)?;
             Ok(())
@@ -182,24 +178,28 @@ fn append_relation_row(
 }
 
 fn append_relations(
-    cache: &Cache,
+    asking: &Asking<'_>,
     rows: NewestFirst<'_>,
     out: &mut Vec<u8>,
 ) -> Result<(), AllocError>
-    ensures { OnOk result (out.new.items ≡ out.old.items ++ flat_map (told_of_row (world_of cache.now.store) relation_lines) rows.entry) }
+    ensures { OnOk result (out.new.items ≡ out.old.items ++ flat_map (told_of_row (world_of asking.now) relation_lines) rows.entry) }
 {
     'rows: for row in rows {
-        append_relation_row(cache, row, out)?;
+        append_relation_row(asking, row, out)?;
     }
     Ok(())
 }
 
 // ---- what it provides, and who provides it
 
-fn append_entry_row(cache: &Cache, row: &[StanzaKey], out: &mut Vec<u8>) -> Result<(), AllocError>
-    ensures { OnOk result (out.new.items ≡ out.old.items ++ told_of_row (world_of cache.now.store) entry_lines row.now) }
+fn append_entry_row(
+    asking: &Asking<'_>,
+    row: &[StanzaKey],
+    out: &mut Vec<u8>,
+) -> Result<(), AllocError>
+    ensures { OnOk result (out.new.items ≡ out.old.items ++ told_of_row (world_of asking.now) entry_lines row.now) }
 {
-    match lead_in(cache.store(), row) {
+    match lead_in(asking.store(), row) {
         Some(lead) => {
             append_entry_lines(lead, out)?;
             Ok(())
@@ -208,11 +208,15 @@ fn append_entry_row(cache: &Cache, row: &[StanzaKey], out: &mut Vec<u8>) -> Resu
     }
 }
 
-fn append_entries(cache: &Cache, rows: NewestFirst<'_>, out: &mut Vec<u8>) -> Result<(), AllocError>
-    ensures { OnOk result (out.new.items ≡ out.old.items ++ flat_map (told_of_row (world_of cache.now.store) entry_lines) rows.entry) }
+fn append_entries(
+    asking: &Asking<'_>,
+    rows: NewestFirst<'_>,
+    out: &mut Vec<u8>,
+) -> Result<(), AllocError>
+    ensures { OnOk result (out.new.items ≡ out.old.items ++ flat_map (told_of_row (world_of asking.now) entry_lines) rows.entry) }
 {
     'rows: for row in rows {
-        append_entry_row(cache, row, out)?;
+        append_entry_row(asking, row, out)?;
     }
     Ok(())
 }
@@ -235,160 +239,167 @@ fn append_providing_row(
 }
 
 fn append_providing_rows(
-    cache: &Cache,
+    asking: &Asking<'_>,
     name: &[u8],
     asker: &[u8],
     out: &mut Vec<u8>,
 ) -> Result<(), AllocError>
-    requires { cache.now.stale ≡ false }
-    ensures { OnOk result (out.new.items ≡ out.old.items ++ of_rows (world_of cache.now.store) (providing_lines name.now) asker.now) }
+    ensures { OnOk result (out.new.items ≡ out.old.items ++ of_rows (world_of asking.now) (providing_lines name.now) asker.now) }
 {
-    'rows: for row in rows_of(cache, asker) {
-        append_providing_row(cache.store(), name, row, out)?;
+    'rows: for row in asking.rows(asker) {
+        append_providing_row(asking.store(), name, row, out)?;
     }
     Ok(())
 }
 
 fn append_each_providing(
-    cache: &Cache,
+    asking: &Asking<'_>,
     name: &[u8],
     askers: &[&[u8]],
     out: &mut Vec<u8>,
 ) -> Result<(), AllocError>
-    requires { cache.now.stale ≡ false }
-    ensures { OnOk result (out.new.items ≡ out.old.items ++ flat_map (of_rows (world_of cache.now.store) (providing_lines name.now)) (lent_names askers.now)) }
+    ensures { OnOk result (out.new.items ≡ out.old.items
+        ++ flat_map (of_rows (world_of asking.now) (providing_lines name.now)) (lent_names askers.now)) }
 {
     for asker in askers {
-        append_providing_rows(cache, name, asker, out)?;
+        append_providing_rows(asking, name, asker, out)?;
     }
     Ok(())
 }
 
 /// Appends the entries of Provides with a name. The packages with entries of Provides that offer it are enough.
 fn append_providing(
-    alloc: Global,
-    cache: &Cache,
+    asking: &Asking<'_>,
     offering: Offering<'_>,
     name: &[u8],
     out: &mut Vec<u8>,
 ) -> Result<(), AllocError>
-    requires fresh { cache.now.stale ≡ false }
-    requires offering { IsPermutation (offering_named cache.now.store name.now) offering }
-    ensures { OnOk result (out.new.items ≡ out.old.items ++ of_all_rows (world_of cache.now.store) (providing_lines name.now)) }
+    requires offering { IsPermutation (offering_named asking.now name.now) offering }
+    ensures { OnOk result (out.new.items ≡ out.old.items ++ of_all_rows (world_of asking.now) (providing_lines name.now)) }
 {
     rows_are_classes();
-    stanzas_are_found(cache);
-    let askers = packages_providing(alloc, cache.store(), offering)?;
-    append_each_providing(cache, name, &askers, out)?;
+    stanzas_are_found(asking);
+    let askers = packages_providing(asking.alloc(), asking.store(), offering)?;
+    append_each_providing(asking, name, &askers, out)?;
     Ok(())
 }
 
 // ---- all of it, heading by heading
 
-fn show_versions(cache: &Cache, rows: NewestFirst<'_>, out: &mut Vec<u8>) -> Result<(), AllocError>
-    requires { AllByRecursion (λ row. AreHeld row (keyed_of cache.now.store).lists) rows }
-    ensures { OnOk result (out.new.items ≡ out.old.items ++ (line (codes "Versions:" ∷ []) ++ (flat_map (version_line (world_of cache.now.store)) rows.entry ++ line []))) }
+fn show_versions(
+    asking: &Asking<'_>,
+    rows: NewestFirst<'_>,
+    out: &mut Vec<u8>,
+) -> Result<(), AllocError>
+    requires { AllByRecursion (λ row. AreHeld row (keyed_of asking.now).lists) rows }
+    ensures { OnOk result (out.new.items ≡ out.old.items ++ (line (codes "Versions:" ∷ [])
+        ++ (flat_map (version_line (world_of asking.now)) rows.entry ++ line []))) }
 {
     append_line(out, &[b"Versions:"])?;
-    append_versions(cache, rows, out)?;
+    append_versions(asking, rows, out)?;
     append_line(out, &[])?;
     Ok(())
 }
 
 fn show_namers(
-    alloc: Global,
-    cache: &Cache,
+    asking: &Asking<'_>,
     table: Option<&LeadTable<'_>>,
     namers: Namers<'_>,
     name: &[u8],
     out: &mut Vec<u8>,
 ) -> Result<(), AllocError>
-    requires fresh { cache.now.stale ≡ false }
-    requires leads { IfSome table (λ table. table.now ≡ leads_of (world_of cache.now.store)) }
-    requires namers { IsPermutation (namers_named name.now (standing cache.now.store)) namers }
-    ensures { OnOk result (out.new.items ≡ out.old.items ++ (line (codes "Reverse Depends:" ∷ []) ++ of_all_rows (world_of cache.now.store) (naming_lines name.now))) }
+    requires leads { IfSome table (λ table. table.now ≡ leads_of (world_of asking.now)) }
+    requires namers { IsPermutation (namers_named name.now (standing asking.now)) namers }
+    ensures { OnOk result (out.new.items ≡ out.old.items ++ (line (codes "Reverse Depends:" ∷ [])
+        ++ of_all_rows (world_of asking.now) (naming_lines name.now))) }
 {
     append_line(out, &[b"Reverse Depends:"])?;
-    append_naming(alloc, cache, table, namers, name, out)?;
+    append_naming(asking, table, namers, name, out)?;
     Ok(())
 }
 
-fn show_relations(cache: &Cache, rows: NewestFirst<'_>, out: &mut Vec<u8>) -> Result<(), AllocError>
-    ensures { OnOk result (out.new.items ≡ out.old.items ++ (line (codes "Dependencies:" ∷ []) ++ flat_map (told_of_row (world_of cache.now.store) relation_lines) rows.entry)) }
+fn show_relations(
+    asking: &Asking<'_>,
+    rows: NewestFirst<'_>,
+    out: &mut Vec<u8>,
+) -> Result<(), AllocError>
+    ensures { OnOk result (out.new.items ≡ out.old.items ++ (line (codes "Dependencies:" ∷ [])
+        ++ flat_map (told_of_row (world_of asking.now) relation_lines) rows.entry)) }
 {
     append_line(out, &[b"Dependencies:"])?;
-    append_relations(cache, rows, out)?;
+    append_relations(asking, rows, out)?;
     Ok(())
 }
 
-fn show_entries(cache: &Cache, rows: NewestFirst<'_>, out: &mut Vec<u8>) -> Result<(), AllocError>
-    ensures { OnOk result (out.new.items ≡ out.old.items ++ (line (codes "Provides:" ∷ []) ++ flat_map (told_of_row (world_of cache.now.store) entry_lines) rows.entry)) }
+fn show_entries(
+    asking: &Asking<'_>,
+    rows: NewestFirst<'_>,
+    out: &mut Vec<u8>,
+) -> Result<(), AllocError>
+    ensures { OnOk result (out.new.items ≡ out.old.items ++ (line (codes "Provides:" ∷ [])
+        ++ flat_map (told_of_row (world_of asking.now) entry_lines) rows.entry)) }
 {
     append_line(out, &[b"Provides:"])?;
-    append_entries(cache, rows, out)?;
+    append_entries(asking, rows, out)?;
     Ok(())
 }
 
 fn show_providers(
-    alloc: Global,
-    cache: &Cache,
+    asking: &Asking<'_>,
     offering: Offering<'_>,
     name: &[u8],
     out: &mut Vec<u8>,
 ) -> Result<(), AllocError>
-    requires fresh { cache.now.stale ≡ false }
-    requires offering { IsPermutation (offering_named cache.now.store name.now) offering }
-    ensures { OnOk result (out.new.items ≡ out.old.items ++ (line (codes "Reverse Provides:" ∷ []) ++ of_all_rows (world_of cache.now.store) (providing_lines name.now))) }
+    requires offering { IsPermutation (offering_named asking.now name.now) offering }
+    ensures { OnOk result (out.new.items ≡ out.old.items ++ (line (codes "Reverse Provides:" ∷ [])
+        ++ of_all_rows (world_of asking.now) (providing_lines name.now))) }
 {
     append_line(out, &[b"Reverse Provides:"])?;
-    append_providing(alloc, cache, offering, name, out)?;
+    append_providing(asking, offering, name, out)?;
     Ok(())
 }
 
 /// Appends the answer on a known name, under which this stands.
 #[tactic(auto, unfolding(crate::specs::ShowPackage::show_package_one))]
 fn append_known(
-    alloc: Global,
-    cache: &Cache,
+    asking: &Asking<'_>,
     table: Option<&LeadTable<'_>>,
     view: &NameView<'_>,
     name: &[u8],
     out: &mut Vec<u8>,
 ) -> Result<(), AllocError>
-    requires fresh { cache.now.stale ≡ false }
-    requires leads { IfSome table (λ table. table.now ≡ leads_of (world_of cache.now.store)) }
-    requires rows { view.now.rows ≡ rows_of (world_of cache.now.store) name.now }
-    requires held { AllByRecursion (λ row. AreHeld row (keyed_of cache.now.store).lists) view.now.rows }
-    requires offering { IsPermutation (offering_named cache.now.store name.now) view.now.offering }
-    requires namers { IsPermutation (namers_named name.now (standing cache.now.store)) view.now.namers }
-    ensures { OnOk result (out.new.items ≡ out.old.items ++ show_package_one (world_of cache.now.store) name.now) }
+    requires leads { IfSome table (λ table. table.now ≡ leads_of (world_of asking.now)) }
+    requires rows { view.now.rows ≡ rows_of (world_of asking.now) name.now }
+    requires held { AllByRecursion (λ row. AreHeld row (keyed_of asking.now).lists) view.now.rows }
+    requires offering { IsPermutation (offering_named asking.now name.now) view.now.offering }
+    requires namers { IsPermutation (namers_named name.now (standing asking.now)) view.now.namers }
+    ensures { OnOk result (out.new.items ≡ out.old.items ++ show_package_one (world_of asking.now) name.now) }
 {
     append_line(out, &[b"Package: ", name])?;
-    show_versions(cache, view.rows(), out)?;
-    show_namers(alloc, cache, table, view.namers(), name, out)?;
-    show_relations(cache, view.rows(), out)?;
-    show_entries(cache, view.rows(), out)?;
-    show_providers(alloc, cache, view.offering(), name, out)?;
+    show_versions(asking, view.rows(), out)?;
+    show_namers(asking, table, view.namers(), name, out)?;
+    show_relations(asking, view.rows(), out)?;
+    show_entries(asking, view.rows(), out)?;
+    show_providers(asking, view.offering(), name, out)?;
     Ok(())
 }
 
 fn append_one(
-    alloc: Global,
-    cache: &Cache,
+    asking: &Asking<'_>,
     table: Option<&LeadTable<'_>>,
     name: &[u8],
     out: &mut Vec<u8>,
 ) -> Result<(), AllocError>
-    requires fresh { cache.now.stale ≡ false }
-    requires leads { IfSome table (λ table. table.now ≡ leads_of (world_of cache.now.store)) }
-    ensures { OnOk result (out.new.items ≡ out.old.items ++ if_known (world_of cache.now.store) (show_package_one (world_of cache.now.store)) name.now) }
+    requires leads { IfSome table (λ table. table.now ≡ leads_of (world_of asking.now)) }
+    ensures { OnOk result (out.new.items ≡ out.old.items
+        ++ if_known (world_of asking.now) (show_package_one (world_of asking.now)) name.now) }
 {
-    let view = view_of(cache, name);
+    let view = asking.view(name);
     if !view.is_known() {
         append_unknown(out, name)?;
         return Ok(());
     }
-    append_known(alloc, cache, table, &view, name, out)?;
+    append_known(asking, table, &view, name, out)?;
     Ok(())
 }
 
@@ -396,49 +407,40 @@ fn append_one(
 const STANZAS_FOR_A_NAME: usize = 64;
 
 /// A table of leads, where so many names are asked for that it pays.
-fn table_for<'a>(
-    alloc: Global,
-    cache: &'a Cache,
-    names: usize,
-) -> Result<Option<LeadTable<'a>>, AllocError>
-    requires { cache.now.stale ≡ false }
-    ensures { IfOk result (λ table. IfSome table (λ table. table ≡ leads_of (world_of cache.now.store))) }
+fn table_for<'a>(asking: &Asking<'a>, names: usize) -> Result<Option<LeadTable<'a>>, AllocError>
+    ensures { IfOk result (λ table. IfSome table (λ table. table ≡ leads_of (world_of asking.now))) }
 {
-    if names <= cache.store().counts().stanzas as usize / STANZAS_FOR_A_NAME {
+    if names <= asking.store().counts().stanzas as usize / STANZAS_FOR_A_NAME {
         return Ok(None);
     }
-    LeadTable::new(alloc, cache)
+    LeadTable::new(asking)
 }
 
 fn append_each(
-    alloc: Global,
-    cache: &Cache,
+    asking: &Asking<'_>,
     table: Option<&LeadTable<'_>>,
     names: &[Bytes],
     out: &mut Vec<u8>,
 ) -> Result<(), AllocError>
-    requires fresh { cache.now.stale ≡ false }
-    requires leads { IfSome table (λ table. table.now ≡ leads_of (world_of cache.now.store)) }
-    ensures { OnOk result (out.new.items ≡ out.old.items ++ show_package_text (world_of cache.now.store) names.now) }
+    requires leads { IfSome table (λ table. table.now ≡ leads_of (world_of asking.now)) }
+    ensures { OnOk result (out.new.items ≡ out.old.items ++ show_package_text (world_of asking.now) names.now) }
 {
     for name in names {
-        append_one(alloc, cache, table, name.as_slice(), out)?;
+        append_one(asking, table, name.as_slice(), out)?;
     }
     Ok(())
 }
 
 /// Appends the answer to `showpkg`.
 pub(crate) fn append_show_package(
-    alloc: Global,
-    cache: &Cache,
+    asking: &Asking<'_>,
     names: &[Bytes],
     out: &mut Vec<u8>,
 ) -> Result<(), AllocError>
-    requires { cache.now.stale ≡ false }
-    ensures { OnOk result (out.new.items ≡ out.old.items ++ show_package_text (world_of cache.now.store) names.now) }
+    ensures { OnOk result (out.new.items ≡ out.old.items ++ show_package_text (world_of asking.now) names.now) }
 {
-    match table_for(alloc, cache, names.len())? {
-        Some(table) => append_each(alloc, cache, Some(&table), names, out),
-        None => append_each(alloc, cache, None, names, out),
+    match table_for(asking, names.len())? {
+        Some(table) => append_each(asking, Some(&table), names, out),
+        None => append_each(asking, None, names, out),
     }
 }

@@ -2,10 +2,9 @@
 
 ghost use Rattle.std.specs.Prelude.{◌≡◌, ◌++◌, OnOk, map};
 ghost use Rattle.std.specs.Fmt.{signed_decimal};
-ghost use Rattle.ctl_query.specs.Texts.{joined, line, unknown_line, right_four, field_label};
+ghost use Rattle.ctl_query.specs.Texts.{joined, line, unknown_line, right_four};
 ghost use Rattle.ctl_query.specs.Packages.{version_text};
 
-use ctl_relation::FieldKind;
 use ctl_stanza::Stanza;
 use itoa::Buffer;
 use std::alloc::AllocError;
@@ -56,23 +55,6 @@ pub(crate) fn append_right_four(out: &mut Vec<u8>, number: i16) -> Result<(), Al
     out.extend_from_slice(&blanks[..4usize.saturating_sub(digits.len())])?;
     out.extend_from_slice(digits)?;
     Ok(())
-}
-
-/// A relation field as it is printed.
-pub(crate) fn field_label(field: FieldKind) -> &'static [u8]
-    ensures { result.now ≡ field_label field }
-{
-    match field {
-        FieldKind::PreDepends => b"PreDepends",
-        FieldKind::Depends => b"Depends",
-        FieldKind::Conflicts => b"Conflicts",
-        FieldKind::Breaks => b"Breaks",
-        FieldKind::Recommends => b"Recommends",
-        FieldKind::Suggests => b"Suggests",
-        FieldKind::Replaces => b"Replaces",
-        FieldKind::Enhances => b"Enhances",
-        FieldKind::Provides => b"Provides",
-    }
 }
 
 /// The text of a live stanza's version.

@@ -7,25 +7,25 @@ ghost use Rattle.ctl_index.specs.Held.{standing};
 ghost use Rattle.ctl_policy.specs.Priority.{world_of};
 ghost use Rattle.ctl_query.specs.NameSet.{lent_names};
 ghost use Rattle.ctl_query.specs.Packages.{of_rows, told_of_row};
-ghost use Rattle.ctl_query.specs.Unmet.{is_unmet, clause_line, line_if_unmet, unmet_in_field, clause_lines, unmet_heading, under, unmet_lead, unmet_text};
+ghost use Rattle.ctl_query.specs.Unmet.{is_unmet, clause_line, line_if_unmet, unmet_in_field, clause_lines};
+ghost use Rattle.ctl_query.specs.Unmet.{unmet_heading, under, unmet_lead, unmet_text};
 
+use crate::asking::Asking;
 use crate::interest::{packages_with_unmet, stanzas_are_found};
-use crate::packages::rows_of;
-use crate::text::{append_line, append_parts, field_label, version_text};
-use ctl_index::{Cache, ClauseKey};
+use crate::text::{append_line, append_parts, version_text};
+use ctl_index::ClauseKey;
 use ctl_policy::rows_are_classes;
 use ctl_relation::{FieldKind, Group};
 use ctl_stanza::Stanza;
 use ctl_store::StanzaKey;
-use std::alloc::{AllocError, Global};
+use std::alloc::AllocError;
 
 /// Whether no offer meets a clause, which has these atoms. The cache keeps the number of those that do, so none is tested.
-fn is_unmet(cache: &Cache, key: ClauseKey, clause: &Group<'_>) -> bool
-    requires fresh { cache.now.stale ≡ false }
-    requires clause { clause_at key (standing cache.now.store) ≡ Some clause.now }
-    ensures { result ≡ is_unmet (world_of cache.now.store) clause.now }
+fn is_unmet(asking: &Asking<'_>, key: ClauseKey, clause: &Group<'_>) -> bool
+    requires clause { clause_at key (standing asking.now) ≡ Some clause.now }
+    ensures { result ≡ is_unmet (world_of asking.now) clause.now }
 {
-    cache.satisfiers(key) == 0
+    asking.satisfiers(key) == 0
 }
 
 /// Appends the line of a clause that is not met.
@@ -33,7 +33,7 @@ fn is_unmet(cache: &Cache, key: ClauseKey, clause: &Group<'_>) -> bool
 fn append_clause(field: FieldKind, clause: &Group<'_>, out: &mut Vec<u8>) -> Result<(), AllocError>
     ensures { OnOk result (out.new.items ≡ out.old.items ++ clause_line field clause.now) }
 {
-    append_parts(out, &[b" ", field_label(field), b": "])?;
+    append_parts(out, &[b" ", field.printed_name(), b": "])?;
     clause.append_to(out)?;
     out.extend_from_slice(b"\n")?;
     Ok(())
@@ -41,16 +41,15 @@ fn append_clause(field: FieldKind, clause: &Group<'_>, out: &mut Vec<u8>) -> Res
 
 /// The same, of a clause that may be met.
 fn append_if_unmet(
-    cache: &Cache,
+    asking: &Asking<'_>,
     key: ClauseKey,
     clause: &Group<'_>,
     out: &mut Vec<u8>,
 ) -> Result<(), AllocError>
-    requires fresh { cache.now.stale ≡ false }
-    requires clause { clause_at key (standing cache.now.store) ≡ Some clause.now }
-    ensures { OnOk result (out.new.items ≡ out.old.items ++ line_if_unmet (world_of cache.now.store) key.field clause.now) }
+    requires clause { clause_at key (standing asking.now) ≡ Some clause.now }
+    ensures { OnOk result (out.new.items ≡ out.old.items ++ line_if_unmet (world_of asking.now) key.field clause.now) }
 {
-    if is_unmet(cache, key, clause) {
+    if is_unmet(asking, key, clause) {
         append_clause(key.field, clause, out)?;
     }
     Ok(())
@@ -58,16 +57,15 @@ fn append_if_unmet(
 
 /// Appends the clauses of a field of a lead that are not met.
 fn append_field(
-    cache: &Cache,
+    asking: &Asking<'_>,
     stanza: StanzaKey,
     lead: &Stanza,
     field: FieldKind,
     out: &mut Vec<u8>,
 ) -> Result<(), AllocError>
-    requires fresh { cache.now.stale ≡ false }
-    requires lead { found_under stanza (standing cache.now.store) ≡ Some lead.now }
+    requires lead { found_under stanza (standing asking.now) ≡ Some lead.now }
     requires field { is_clause_field field ≡ true }
-    ensures { OnOk result (out.new.items ≡ out.old.items ++ unmet_in_field (world_of cache.now.store) lead.now field) }
+    ensures { OnOk result (out.new.items ≡ out.old.items ++ unmet_in_field (world_of asking.now) lead.now field) }
 {
     let groups = lead.groups(field);
     let mut group = 0u32;
@@ -77,7 +75,7 @@ fn append_field(
             field,
             group,
         };
-        append_if_unmet(cache, key, &clause, out)?;
+        append_if_unmet(asking, key, &clause, out)?;
         group += 1;
     }
     Ok(())
@@ -86,23 +84,22 @@ fn append_field(
 /// Appends the clauses of a lead that are not met.
 #[tactic(auto, unfolding(crate::specs::Unmet::clause_lines))]
 fn append_clauses(
-    cache: &Cache,
+    asking: &Asking<'_>,
     important: bool,
     stanza: StanzaKey,
     lead: &Stanza,
     out: &mut Vec<u8>,
 ) -> Result<(), AllocError>
-    requires fresh { cache.now.stale ≡ false }
-    requires lead { found_under stanza (standing cache.now.store) ≡ Some lead.now }
-    ensures { OnOk result (out.new.items ≡ out.old.items ++ clause_lines (world_of cache.now.store) important lead.now) }
+    requires lead { found_under stanza (standing asking.now) ≡ Some lead.now }
+    ensures { OnOk result (out.new.items ≡ out.old.items ++ clause_lines (world_of asking.now) important lead.now) }
 {
-    append_field(cache, stanza, lead, FieldKind::PreDepends, out)?;
-    append_field(cache, stanza, lead, FieldKind::Depends, out)?;
+    append_field(asking, stanza, lead, FieldKind::PreDepends, out)?;
+    append_field(asking, stanza, lead, FieldKind::Depends, out)?;
     if important {
         return Ok(());
     }
-    append_field(cache, stanza, lead, FieldKind::Recommends, out)?;
-    append_field(cache, stanza, lead, FieldKind::Suggests, out)?;
+    append_field(asking, stanza, lead, FieldKind::Recommends, out)?;
+    append_field(asking, stanza, lead, FieldKind::Suggests, out)?;
     Ok(())
 }
 
@@ -125,7 +122,8 @@ fn append_heading(lead: &Stanza, out: &mut Vec<u8>) -> Result<(), AllocError>
 
 /// Takes a heading off again where nothing stands behind it. Before it stood so many bytes, and with it so many.
 fn close_heading(start: usize, headed: usize, out: &mut Vec<u8>)
-    ensures { (before : List ℕ) → (heading : List ℕ) → (text : List ℕ) → length before ≡ start → length (before ++ heading) ≡ headed → out.old.items ≡ (before ++ heading) ++ text → out.new.items ≡ before ++ under heading text }
+    ensures { (before : List ℕ) → (heading : List ℕ) → (text : List ℕ) → length before ≡ start → length (before ++ heading) ≡ headed
+        → out.old.items ≡ (before ++ heading) ++ text → out.new.items ≡ before ++ under heading text }
 {
     if out.len() == headed {
         out.truncate(start);
@@ -134,39 +132,38 @@ fn close_heading(start: usize, headed: usize, out: &mut Vec<u8>)
 
 /// Appends the clauses of a lead that are not met under their heading; nothing where there is none.
 fn append_lead(
-    cache: &Cache,
+    asking: &Asking<'_>,
     important: bool,
     stanza: StanzaKey,
     lead: &Stanza,
     out: &mut Vec<u8>,
 ) -> Result<(), AllocError>
-    requires fresh { cache.now.stale ≡ false }
-    requires lead { found_under stanza (standing cache.now.store) ≡ Some lead.now }
-    ensures { OnOk result (out.new.items ≡ out.old.items ++ unmet_lead (world_of cache.now.store) important lead.now) }
+    requires lead { found_under stanza (standing asking.now) ≡ Some lead.now }
+    ensures { OnOk result (out.new.items ≡ out.old.items ++ unmet_lead (world_of asking.now) important lead.now) }
 {
     let start = out.len();
     append_heading(lead, out)?;
     let headed = out.len();
-    append_clauses(cache, important, stanza, lead, out)?;
+    append_clauses(asking, important, stanza, lead, out)?;
     close_heading(start, headed, out);
     Ok(())
 }
 
 fn append_row(
-    cache: &Cache,
+    asking: &Asking<'_>,
     important: bool,
     row: &[StanzaKey],
     out: &mut Vec<u8>,
 ) -> Result<(), AllocError>
-    requires { cache.now.stale ≡ false }
-    ensures { OnOk result (out.new.items ≡ out.old.items ++ told_of_row (world_of cache.now.store) (unmet_lead (world_of cache.now.store) important) row.now) }
+    ensures { OnOk result (out.new.items ≡ out.old.items
+        ++ told_of_row (world_of asking.now) (unmet_lead (world_of asking.now) important) row.now) }
 {
     let Some(key) = row.first().copied() else {
         return Ok(());
     };
-    match cache.store().find(key) {
+    match asking.store().find(key) {
         Some(lead) => {
-            append_lead(cache, important, key, lead, out)?;
+            append_lead(asking, important, key, lead, out)?;
             Ok(())
         }
         None => Ok(()),
@@ -174,48 +171,46 @@ fn append_row(
 }
 
 fn append_rows(
-    cache: &Cache,
+    asking: &Asking<'_>,
     important: bool,
     name: &[u8],
     out: &mut Vec<u8>,
 ) -> Result<(), AllocError>
-    requires { cache.now.stale ≡ false }
-    ensures { OnOk result (out.new.items ≡ out.old.items ++ of_rows (world_of cache.now.store) (unmet_lead (world_of cache.now.store) important) name.now) }
+    ensures { OnOk result (out.new.items ≡ out.old.items
+        ++ of_rows (world_of asking.now) (unmet_lead (world_of asking.now) important) name.now) }
 {
-    'rows: for row in rows_of(cache, name) {
-        append_row(cache, important, row, out)?;
+    'rows: for row in asking.rows(name) {
+        append_row(asking, important, row, out)?;
     }
     Ok(())
 }
 
 fn append_each(
-    cache: &Cache,
+    asking: &Asking<'_>,
     important: bool,
     names: &[&[u8]],
     out: &mut Vec<u8>,
 ) -> Result<(), AllocError>
-    requires { cache.now.stale ≡ false }
-    ensures { OnOk result (out.new.items ≡ out.old.items ++ flat_map (of_rows (world_of cache.now.store) (unmet_lead (world_of cache.now.store) important)) (lent_names names.now)) }
+    ensures { OnOk result (out.new.items ≡ out.old.items
+        ++ flat_map (of_rows (world_of asking.now) (unmet_lead (world_of asking.now) important)) (lent_names names.now)) }
 {
     for name in names {
-        append_rows(cache, important, name, out)?;
+        append_rows(asking, important, name, out)?;
     }
     Ok(())
 }
 
 /// Appends the answer to `unmet`. The packages of the clauses that no offer meets are enough.
 pub(crate) fn append_unmet(
-    alloc: Global,
-    cache: &Cache,
+    asking: &Asking<'_>,
     important: bool,
     out: &mut Vec<u8>,
 ) -> Result<(), AllocError>
-    requires { cache.now.stale ≡ false }
-    ensures { OnOk result (out.new.items ≡ out.old.items ++ unmet_text (world_of cache.now.store) important) }
+    ensures { OnOk result (out.new.items ≡ out.old.items ++ unmet_text (world_of asking.now) important) }
 {
     rows_are_classes();
-    stanzas_are_found(cache);
-    let names = packages_with_unmet(alloc, cache)?;
-    append_each(cache, important, &names, out)?;
+    stanzas_are_found(asking);
+    let names = packages_with_unmet(asking)?;
+    append_each(asking, important, &names, out)?;
     Ok(())
 }

@@ -1,28 +1,18 @@
 //! Edits that tests ask for, by the texts of their parts.
 
-use crate::made::{
-    add_list_named, add_status, drop_list_named, mark, mark_none, pin, prefs, put_into, remove,
-    target, target_none, unmark, unpin,
-};
+use crate::made::Maker;
 use ctl_store::Edit;
 use std::alloc::Global;
 
-/// An edit that is asked for.
+/// An edit that is asked for. Lists but the first are the list `m`.
 #[derive(Clone, Copy)]
 pub enum Asked<'a> {
     /// A list of this name and text.
     AddList(&'a str, &'a str),
-    /// A status list of this text.
-    AddStatus(&'a str),
-    /// The list `m`.
     DropList,
-    /// The list of this name.
-    DropNamed(&'a str),
-    /// A stanza of this text into the list `m`.
+    /// A stanza of this text.
     Put(&'a str),
-    /// A stanza of this text into the list of this name.
-    PutInto(&'a str, &'a str),
-    /// The stanza of this package and version out of the list `m`.
+    /// The stanza of this package and version.
     Remove(&'a str, &'a str),
     /// This version as that of a package.
     Mark(&'a str, &'a str),
@@ -42,22 +32,26 @@ pub enum Asked<'a> {
     Prefs(&'a str),
 }
 
-pub fn edit_asked(alloc: Global, asked: Asked<'_>) -> Option<Edit> {
+fn edit_by(maker: &mut Maker, asked: Asked<'_>) -> Option<Edit> {
     match asked {
-        Asked::AddList(name, text) => add_list_named(alloc, name, text),
-        Asked::AddStatus(text) => add_status(alloc, text),
-        Asked::DropList => drop_list_named(alloc, "m"),
-        Asked::DropNamed(name) => drop_list_named(alloc, name),
-        Asked::Put(text) => put_into(alloc, "m", text),
-        Asked::PutInto(name, text) => put_into(alloc, name, text),
-        Asked::Remove(package, version) => remove(alloc, package, version),
-        Asked::Mark(package, version) => mark(alloc, package, version),
-        Asked::MarkNone(package) => mark_none(alloc, package),
-        Asked::Unmark(package) => unmark(alloc, package),
-        Asked::Pin(package, version, priority) => pin(alloc, package, version, priority),
-        Asked::Unpin(package, version) => unpin(alloc, package, version),
-        Asked::Target(name) => target(alloc, name),
-        Asked::TargetNone => target_none(),
-        Asked::Prefs(text) => prefs(alloc, text),
+        Asked::AddList(name, text) => Some(maker.add_list(name, text)),
+        Asked::DropList => Some(maker.drop_list("m")),
+        Asked::Put(text) => maker.put("m", text),
+        Asked::Remove(package, version) => maker.remove("m", package, version),
+        Asked::Mark(package, version) => Some(maker.mark(package, version)),
+        Asked::MarkNone(package) => Some(maker.mark_none(package)),
+        Asked::Unmark(package) => Some(maker.unmark(package)),
+        Asked::Pin(package, version, priority) => maker.pin(package, version, priority),
+        Asked::Unpin(package, version) => maker.unpin(package, version),
+        Asked::Target(name) => Some(maker.target(name)),
+        Asked::TargetNone => Some(Edit::Target { name: None }),
+        Asked::Prefs(text) => maker.prefs(text),
     }
+}
+
+/// The edit that is asked for. None comes where memory is refused, or where a text is not well formed.
+pub fn edit_asked(alloc: Global, asked: Asked<'_>) -> Option<Edit> {
+    let mut maker = Maker::new(alloc);
+    let edit = edit_by(&mut maker, asked);
+    maker.made(edit)
 }

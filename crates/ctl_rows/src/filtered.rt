@@ -1,7 +1,8 @@
 //! Filters that are asked of a store by calls.
 
+use crate::asked::{Asked, edit_asked};
 use crate::asking::words_of;
-use crate::made::{add_list, refusal};
+use crate::made::refusal;
 use crate::said::Said;
 use crate::tables::same;
 use ctl_filter::{append_filter, parse_filter};
@@ -58,7 +59,7 @@ fn say_each(store: &Store, filters: &[Words], said: &mut Said) {
 }
 
 fn add_list_to(alloc: Global, store: &mut Store) -> bool {
-    match add_list(alloc, LIST) {
+    match edit_asked(alloc, Asked::AddList("m", LIST)) {
         Some(edit) => refusal(store, edit).is_none(),
         None => false,
     }

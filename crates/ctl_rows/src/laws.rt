@@ -14,7 +14,9 @@ use ctl_policy::{
     specific_pins_leave_other_names, stanzas_leave_other_names, targets_leave_other_names,
     touched_names_are_enough, untouched_names_stay, worlds_move,
 };
-use ctl_query::answers_are_as_if_built_anew;
+use ctl_query::{
+    answers_are_as_if_built_anew, lists_anew_are_added, unmet_clauses_are_met_by_no_offer,
+};
 use ctl_relation::{
     equal_versions, fields_bound_atoms, fields_have_one_fault, fields_have_places,
     keys_go_by_turns, met_by_name, met_counts_add_up, met_pairs_are_bounded, names_by_their_bytes,
@@ -69,6 +71,8 @@ fn laws_of_relations_can_be_called() {
 fn laws_of_commands_can_be_called() {
     commands_come_to_one_outcome();
     answers_are_as_if_built_anew();
+    lists_anew_are_added();
+    unmet_clauses_are_met_by_no_offer();
 }
 
 #[test]

@@ -1,161 +1,188 @@
-//! Edits and their parts, made of texts. None comes where memory is refused, or where a text is not well formed.
+//! Edits and their parts, made of texts.
 
 ghost use Rattle.std.specs.Prelude.{◌≡◌, Some, IfOk, is_ok, is_some};
 
 use ctl_relation::{Bytes, Version};
 use ctl_stanza::{ListKind, Stanza, lines_take_bytes, read_stanzas};
 use ctl_store::{
-    Edit, ListClass, PinSetting, PinSettings, PinVersion, Refusal, Selector, Store, boxed,
-    read_prefs,
+    Edit, ListClass, PinSetting, PinVersion, Refusal, Selector, Store, boxed, read_prefs,
 };
 use std::alloc::Global;
 use std::test::Fail;
 
-pub fn name(alloc: Global, text: &str) -> Option<Bytes> {
-    Bytes::from_slice(alloc, text.as_bytes()).ok()
-}
-
+/// The version of a text. None comes where memory is refused, or where the text is none.
 pub fn version(alloc: Global, text: &str) -> Option<Version> {
     Version::parse(alloc, text.as_bytes()).ok()
 }
 
-fn stanzas_of(alloc: Global, text: &str, kind: ListKind) -> Option<Vec<Box<Stanza>>> {
+fn stanzas(alloc: Global, text: &str) -> Option<Vec<Box<Stanza>>> {
     lines_take_bytes();
-    let read = read_stanzas(alloc, text.as_bytes(), 1, kind).ok()?;
+    let read = read_stanzas(alloc, text.as_bytes(), 1, ListKind::Packages).ok()?;
     boxed(alloc, read).ok()
 }
 
-pub fn stanzas(alloc: Global, text: &str) -> Option<Vec<Box<Stanza>>> {
-    stanzas_of(alloc, text, ListKind::Packages)
+/// Makes parts of edits, and keeps whether one could not be made: whoever asks for an edit asks once.
+#[derive(Drop)]
+pub struct Maker {
+    alloc: Global,
+    is_short: bool,
 }
 
-pub fn selector(alloc: Global, package: &str, version: &str) -> Option<Selector> {
-    let version = PinVersion::read(alloc, version.as_bytes()).ok()??;
-    Some(Selector::Version {
-        package: name(alloc, package)?,
-        version,
-    })
-}
+impl Maker {
+    pub fn new(alloc: Global) -> Maker {
+        Maker {
+            alloc,
+            is_short: false,
+        }
+    }
 
-/// The edit that adds a list `m` of packages.
-pub fn add_list(alloc: Global, text: &str) -> Option<Edit> {
-    add_list_named(alloc, "m", text)
-}
+    /// The edit, where each of its parts could be made.
+    pub fn made(&self, edit: Option<Edit>) -> Option<Edit> {
+        if self.is_short { None } else { edit }
+    }
 
-/// The edit that adds a list of packages of a name.
-pub fn add_list_named(alloc: Global, list: &str, text: &str) -> Option<Edit> {
-    Some(Edit::AddList {
-        name: name(alloc, list)?,
-        kind: ListKind::Packages,
-        class: ListClass::NotAutomatic,
-        stanzas: stanzas(alloc, text)?,
-    })
-}
+    fn fail(&mut self) {
+        self.is_short = true;
+    }
 
-/// The edit that adds a status list, of its own name.
-pub fn add_status(alloc: Global, text: &str) -> Option<Edit> {
-    Some(Edit::AddList {
-        name: name(alloc, "status")?,
-        kind: ListKind::Status,
-        class: ListClass::Plain,
-        stanzas: stanzas_of(alloc, text, ListKind::Status)?,
-    })
-}
+    fn name(&mut self, text: &str) -> Bytes {
+        match Bytes::from_slice(self.alloc, text.as_bytes()) {
+            Ok(name) => name,
+            Err(_) => {
+                self.fail();
+                Bytes::from_vec(Vec::new(self.alloc))
+            }
+        }
+    }
 
-/// The edit that drops the list `m`.
-pub fn drop_list(alloc: Global) -> Option<Edit> {
-    drop_list_named(alloc, "m")
-}
+    fn version(&mut self, text: &str) -> Option<Version> {
+        let version = version(self.alloc, text);
+        if version.is_none() {
+            self.fail();
+        }
+        version
+    }
 
-/// The edit that drops the list of a name.
-pub fn drop_list_named(alloc: Global, list: &str) -> Option<Edit> {
-    Some(Edit::DropList {
-        name: name(alloc, list)?,
-    })
-}
+    fn stanzas(&mut self, text: &str) -> Vec<Box<Stanza>> {
+        match stanzas(self.alloc, text) {
+            Some(stanzas) => stanzas,
+            None => {
+                self.fail();
+                Vec::new(self.alloc)
+            }
+        }
+    }
 
-/// The edit that puts a stanza into the list `m`.
-pub fn put(alloc: Global, text: &str) -> Option<Edit> {
-    put_into(alloc, "m", text)
-}
+    fn pin_version(&self, text: &str) -> Option<PinVersion> {
+        match PinVersion::read(self.alloc, text.as_bytes()) {
+            Ok(Some(version)) => Some(version),
+            _ => None,
+        }
+    }
 
-/// The edit that puts a stanza into the list of a name.
-pub fn put_into(alloc: Global, list: &str, text: &str) -> Option<Edit> {
-    let stanza = stanzas(alloc, text)?.pop()?;
-    Some(Edit::Put {
-        list: name(alloc, list)?,
-        stanza,
-    })
-}
+    fn selector(&mut self, package: &str, text: &str) -> Option<Selector> {
+        let package = self.name(package);
+        match self.pin_version(text) {
+            Some(version) => Some(Selector::Version { package, version }),
+            None => None,
+        }
+    }
 
-/// The edit that takes a stanza out of the list `m`.
-pub fn remove(alloc: Global, package: &str, text: &str) -> Option<Edit> {
-    Some(Edit::Remove {
-        list: name(alloc, "m")?,
-        package: name(alloc, package)?,
-        version: version(alloc, text)?,
-    })
-}
+    /// The edit that adds a list of packages of a name.
+    pub fn add_list(&mut self, list: &str, text: &str) -> Edit {
+        let name = self.name(list);
+        let stanzas = self.stanzas(text);
+        Edit::AddList {
+            name,
+            kind: ListKind::Packages,
+            class: ListClass::NotAutomatic,
+            stanzas,
+        }
+    }
 
-pub fn mark(alloc: Global, package: &str, text: &str) -> Option<Edit> {
-    Some(Edit::Mark {
-        package: name(alloc, package)?,
-        version: Some(version(alloc, text)?),
-    })
-}
+    /// The edit that drops the list of a name.
+    pub fn drop_list(&mut self, list: &str) -> Edit {
+        Edit::DropList {
+            name: self.name(list),
+        }
+    }
 
-/// The edit that marks that no version of a package is installed.
-pub fn mark_none(alloc: Global, package: &str) -> Option<Edit> {
-    Some(Edit::Mark {
-        package: name(alloc, package)?,
-        version: None,
-    })
-}
+    /// The edit that puts a stanza into the list of a name.
+    pub fn put(&mut self, list: &str, text: &str) -> Option<Edit> {
+        let list = self.name(list);
+        match self.stanzas(text).pop() {
+            Some(stanza) => Some(Edit::Put { list, stanza }),
+            None => None,
+        }
+    }
 
-pub fn unmark(alloc: Global, package: &str) -> Option<Edit> {
-    Some(Edit::Unmark {
-        package: name(alloc, package)?,
-    })
-}
+    /// The edit that takes a stanza out of the list of a name.
+    pub fn remove(&mut self, list: &str, package: &str, text: &str) -> Option<Edit> {
+        let list = self.name(list);
+        let package = self.name(package);
+        match self.version(text) {
+            Some(version) => Some(Edit::Remove {
+                list,
+                package,
+                version,
+            }),
+            None => None,
+        }
+    }
 
-/// The setting of a priority for a version of a package.
-pub fn setting(alloc: Global, package: &str, version: &str, priority: i16) -> Option<PinSetting> {
-    let selector = selector(alloc, package, version)?;
-    Some(PinSetting { selector, priority })
-}
+    /// The edit that marks a version of a package.
+    pub fn mark(&mut self, package: &str, text: &str) -> Edit {
+        let package = self.name(package);
+        let version = self.version(text);
+        Edit::Mark { package, version }
+    }
 
-pub fn pin(alloc: Global, package: &str, version: &str, priority: i16) -> Option<Edit> {
-    let setting = setting(alloc, package, version, priority)?;
-    Some(Edit::Pin { setting })
-}
+    /// The edit that marks that no version of a package is installed.
+    pub fn mark_none(&mut self, package: &str) -> Edit {
+        let package = self.name(package);
+        Edit::Mark {
+            package,
+            version: None,
+        }
+    }
 
-pub fn unpin(alloc: Global, package: &str, version: &str) -> Option<Edit> {
-    Some(Edit::Unpin {
-        selector: selector(alloc, package, version)?,
-    })
-}
+    pub fn unmark(&mut self, package: &str) -> Edit {
+        Edit::Unmark {
+            package: self.name(package),
+        }
+    }
 
-pub fn target(alloc: Global, list: &str) -> Option<Edit> {
-    Some(Edit::Target {
-        name: Some(name(alloc, list)?),
-    })
-}
+    /// The edit that pins a version of a package, or the beginning of versions.
+    pub fn pin(&mut self, package: &str, version: &str, priority: i16) -> Option<Edit> {
+        match self.selector(package, version) {
+            Some(selector) => Some(Edit::Pin {
+                setting: PinSetting { selector, priority },
+            }),
+            None => None,
+        }
+    }
 
-/// The edit by which there is no target release.
-pub fn target_none() -> Option<Edit> {
-    Some(Edit::Target { name: None })
-}
+    pub fn unpin(&mut self, package: &str, version: &str) -> Option<Edit> {
+        match self.selector(package, version) {
+            Some(selector) => Some(Edit::Unpin { selector }),
+            None => None,
+        }
+    }
 
-/// The pin settings of preferences.
-pub fn settings(alloc: Global, text: &str) -> Option<PinSettings> {
-    lines_take_bytes();
-    read_prefs(alloc, text.as_bytes(), 1).ok()
-}
+    pub fn target(&mut self, list: &str) -> Edit {
+        Edit::Target {
+            name: Some(self.name(list)),
+        }
+    }
 
-pub fn prefs(alloc: Global, text: &str) -> Option<Edit> {
-    Some(Edit::Prefs {
-        settings: settings(alloc, text)?,
-    })
+    /// The pin settings of preferences.
+    pub fn prefs(&mut self, text: &str) -> Option<Edit> {
+        lines_take_bytes();
+        match read_prefs(self.alloc, text.as_bytes(), 1) {
+            Ok(settings) => Some(Edit::Prefs { settings }),
+            Err(_) => None,
+        }
+    }
 }
 
 /// What a test is to begin with.

@@ -1,67 +1,81 @@
 //! Calls of maps in the order of insertion.
 
+use crate::said::Said;
 use crate::tables::same;
 use ctl_ordered::Ordered;
-use std::alloc::{AllocError, Global};
-use std::test::Fail;
+use std::alloc::Global;
 
 /// Sets the value of a key.
-fn set(map: &mut Ordered<u8, u8>, key: u8, value: u8) -> Result<(), AllocError> {
-    map.reserve_one()?;
-    map.put(key, value);
-    Ok(())
-}
-
-/// Each key with its value behind it, in order.
-fn shown(alloc: Global, map: &Ordered<u8, u8>) -> Result<Vec<u8>, AllocError> {
-    let mut text = Vec::new(alloc);
-    for (key, value) in map.iter() {
-        text.push(*key)?;
-        text.push(*value)?;
+fn set(map: &mut Ordered<u8, u8>, key: u8, value: u8, said: &mut Said) {
+    match map.reserve_one() {
+        Ok(()) => map.put(key, value),
+        Err(_) => said.fail(),
     }
-    Ok(text)
 }
 
 /// Changes the value of a key in its place.
 fn change(map: &mut Ordered<u8, u8>, key: u8, value: u8) {
-    match map.get_mut(&key) {
-        Some(place) => {
-            *place = value;
-        }
-        None => {}
+    if let Some(place) = map.get_mut(&key) {
+        *place = value;
     }
 }
 
-#[test]
-fn keys_keep_the_order_in_which_they_came(rt: HostRuntime) -> Result<(), Fail> {
-    let mut map = Ordered::new(rt.alloc());
-    set(&mut map, b'b', b'1')?;
-    set(&mut map, b'c', b'2')?;
-    set(&mut map, b'a', b'3')?;
-    set(&mut map, b'b', b'4')?;
-    change(&mut map, b'c', b'5');
-    change(&mut map, b'd', b'6');
-    same(&rt, b"set", &shown(rt.alloc(), &map)?, b"b4c5a3");
-    map.remove(&b'c');
-    map.remove(&b'd');
-    same(&rt, b"taken out", &shown(rt.alloc(), &map)?, b"b4a3");
-    set(&mut map, b'c', b'7')?;
-    same(&rt, b"set anew", &shown(rt.alloc(), &map)?, b"b4a3c7");
-    Ok(())
+fn say_value(map: &Ordered<u8, u8>, key: u8, said: &mut Said) {
+    match map.get(&key) {
+        Some(value) => said.add(&[*value]),
+        None => said.add(b"none"),
+    }
+}
+
+/// Each key with its value behind it, in order, and a semicolon.
+fn say_all(map: &Ordered<u8, u8>, said: &mut Said) {
+    for (key, value) in map.iter() {
+        said.add(&[*key, *value]);
+    }
+    said.add(b";");
+}
+
+/// Does what a word says: `b1` sets the value of a key, `=b1` changes it in its place, `-b` takes the key out, `?b` tells its
+/// value, and `.` all.
+fn act(map: &mut Ordered<u8, u8>, word: &[u8], said: &mut Said) {
+    match word {
+        [b'-', key] => map.remove(key),
+        [b'?', key] => say_value(map, *key, said),
+        [b'=', key, value] => change(map, *key, *value),
+        [key, value] => set(map, *key, *value, said),
+        _ => say_all(map, said),
+    }
+}
+
+/// What comes of words in a new map.
+fn came(alloc: Global, words: &[&[u8]]) -> Said {
+    let mut said = Said::new(alloc);
+    let mut map = Ordered::new(alloc);
+    for word in words {
+        act(&mut map, word, &mut said);
+    }
+    said
 }
 
 #[test]
-fn keys_are_found_where_others_have_gone(rt: HostRuntime) -> Result<(), Fail> {
-    let mut map = Ordered::new(rt.alloc());
-    for (key, value) in &[(b'd', b'1'), (b'b', b'2'), (b'c', b'3'), (b'a', b'4')] {
-        set(&mut map, *key, *value)?;
-    }
-    for key in b"dca" {
-        map.remove(key);
-    }
-    let has = map.get(&b'b') == Some(&b'2') && map.get(&b'a').is_none();
-    set(&mut map, b'a', b'5')?;
-    same(&rt, b"holes", &shown(rt.alloc(), &map)?, b"b2a5");
-    same(&rt, b"found", crate::texts::truth(has), b"true");
-    Ok(())
+fn keys_keep_the_order_in_which_they_came(rt: HostRuntime) {
+    const WORDS: &[&[u8]] = &[
+        b"b1", b"c2", b"a3", b"b4", b"=c5", b"=d6", b".", b"-c", b"-d", b".", b"c7", b".",
+    ];
+    let came = came(rt.alloc(), WORDS);
+    same(
+        &rt,
+        b"set, taken out, set anew",
+        came.shown(),
+        b"b4c5a3;b4a3;b4a3c7;",
+    );
+}
+
+#[test]
+fn keys_are_found_where_others_have_gone(rt: HostRuntime) {
+    const WORDS: &[&[u8]] = &[
+        b"d1", b"b2", b"c3", b"a4", b"-d", b"-c", b"-a", b"?b", b"?a", b"a5", b".",
+    ];
+    let came = came(rt.alloc(), WORDS);
+    same(&rt, b"holes", came.shown(), b"2noneb2a5;");
 }

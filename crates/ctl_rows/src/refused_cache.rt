@@ -7,17 +7,13 @@
 
 use crate::asked::{Asked, edit_asked};
 use crate::cache_shown::say_tables;
-use crate::refused::{Outcome, held, judge};
+use crate::refused::{Met, Outcome, again, alike, held};
 use crate::said::Said;
-use crate::tables::same;
 use ctl_index::Cache;
 use ctl_store::{Edit, Refusal};
 use std::alloc::Global;
 use std::process::Abort;
 use std::test::Fail;
-
-/// How many edits the test makes.
-const EDITS: u8 = 14;
 
 /// The list `m` at first.
 const LIST: &str =
@@ -31,32 +27,23 @@ const LAST: &str =
 const LEFT: &[u8] = b"s:1.0 s 1;\nt:1.1 t 1;\nx:1.0 x -;1.0 x -;1.0 Depends 0 0;1.1 Depends 0 0;\n\
       1.0 Depends 0: 2;1.1 Depends 0: 2;\n\n";
 
-/// The edit of a number, each form among them.
-fn asked(number: u8) -> Option<Asked<'static>> {
-    match number {
-        0 => Some(Asked::AddList("m", LIST)),
-        1 => Some(Asked::Put(
-            "Package: c\nVersion: 3\nRecommends: a, x\nSuggests: y\nProvides: y\n",
-        )),
-        2 => Some(Asked::Put("Package: a\nVersion: 1-0\nDepends: c\n")),
-        3 => Some(Asked::Remove("b", "2-0")),
-        4 => Some(Asked::Mark("a", "1")),
-        5 => Some(Asked::MarkNone("b")),
-        6 => Some(Asked::Unmark("a")),
-        7 => Some(Asked::Pin("a", "1.*", -5)),
-        8 => Some(Asked::Unpin("a", "1.*")),
-        9 => Some(Asked::TargetNone),
-        10 => Some(Asked::Target("m")),
-        11 => Some(Asked::Prefs("Package: c\nPin: version 3\nPin-Priority: -1\n")),
-        12 => Some(Asked::DropList),
-        13 => Some(Asked::AddList("m", LAST)),
-        _ => None,
-    }
-}
-
-fn numbered(alloc: Global, number: u8) -> Option<Edit> {
-    edit_asked(alloc, asked(number)?)
-}
+/// The edits, each form among them.
+const EDITS: &[Asked<'static>] = &[
+    Asked::AddList("m", LIST),
+    Asked::Put("Package: c\nVersion: 3\nRecommends: a, x\nSuggests: y\nProvides: y\n"),
+    Asked::Put("Package: a\nVersion: 1-0\nDepends: c\n"),
+    Asked::Remove("b", "2-0"),
+    Asked::Mark("a", "1"),
+    Asked::MarkNone("b"),
+    Asked::Unmark("a"),
+    Asked::Pin("a", "1.*", -5),
+    Asked::Unpin("a", "1.*"),
+    Asked::TargetNone,
+    Asked::Target("m"),
+    Asked::Prefs("Package: c\nPin: version 3\nPin-Priority: -1\n"),
+    Asked::DropList,
+    Asked::AddList("m", LAST),
+];
 
 /// Makes an edit, or gives its refusal. A stale cache refuses it.
 fn refusal(cache: &mut Cache, edit: Edit) -> Option<Refusal> {
@@ -66,95 +53,127 @@ fn refusal(cache: &mut Cache, edit: Edit) -> Option<Refusal> {
     cache.apply(edit).err()
 }
 
-/// What the tables tell. None comes where they are stale, or where memory is refused.
-fn told(alloc: Global, cache: &Cache) -> Option<Vec<u8>> {
-    if cache.is_stale() {
-        return None;
-    }
+/// What the tables tell. Nothing is told where they are stale.
+fn told(alloc: Global, cache: &Cache) -> Said {
     let mut said = Said::new(alloc);
-    say_tables(cache, &mut said);
-    said.into_bytes()
+    if cache.is_stale() {
+        said.fail();
+    } else {
+        say_tables(cache, &mut said);
+    }
+    said
 }
 
-/// Makes the edits before a number.
-fn make_before(alloc: Global, cache: &mut Cache, number: u8) -> Option<()> {
-    for before in 0..number {
-        let edit = numbered(alloc, before)?;
-        if refusal(cache, edit).is_some() {
-            return None;
+/// Makes an edit in a new cache, where it has to be accepted.
+fn make_anew(alloc: Global, cache: &mut Cache, asked: Asked<'_>) -> bool {
+    match edit_asked(alloc, asked) {
+        Some(edit) => refusal(cache, edit).is_none(),
+        None => false,
+    }
+}
+
+/// What the tables of a cache tell once these edits were made. Nothing is told where memory is refused.
+fn told_behind(alloc: Global, cache: &mut Cache, edits: &[Asked<'_>]) -> Said {
+    for asked in edits {
+        if !make_anew(alloc, cache, *asked) {
+            let mut said = Said::new(alloc);
+            said.fail();
+            return said;
         }
     }
-    Some(())
+    told(alloc, cache)
 }
 
-/// What the tables of a new cache tell after the edits before a number.
-fn told_anew(alloc: Global, number: u8) -> Option<Vec<u8>> {
+/// The same of a new cache.
+fn told_anew(alloc: Global, edits: &[Asked<'_>]) -> Said {
     let mut cache = Cache::new(alloc);
-    make_before(alloc, &mut cache, number)?;
-    told(alloc, &cache)
+    told_behind(alloc, &mut cache, edits)
 }
 
-/// Whether a cache, made anew where it is stale, tells what a new one tells after the edits before a number.
-fn is_as_new(alloc: Global, cache: &mut Cache, number: u8) -> Option<bool> {
+/// Whether a cache, made anew where it is stale, tells what a new one tells after these edits.
+fn is_as_new(alloc: Global, cache: &mut Cache, edits: &[Asked<'_>]) -> Outcome {
     if cache.recover().is_err() {
-        return Some(false);
+        return Outcome::Changed;
     }
-    let now = told(alloc, cache)?;
-    let anew = told_anew(alloc, number)?;
-    Some(now == anew)
+    alike(&told(alloc, cache), &told_anew(alloc, edits))
 }
 
-/// Makes an edit that was refused for want of memory when the store held this.
-fn made_again(alloc: Global, cache: &mut Cache, number: u8, before: &[u8]) -> Option<Outcome> {
-    let after = held(alloc, cache.store())?;
-    if after.as_slice() != before || !is_as_new(alloc, cache, number)? {
-        return Some(Outcome::Changed);
-    }
-    let edit = numbered(alloc, number)?;
-    match refusal(cache, edit) {
-        None => Some(Outcome::Refused),
-        Some(_) => Some(Outcome::Wrong),
+/// Whether a cache to which memory was refused holds this, and tells what a new one tells after these edits.
+fn is_as_before(alloc: Global, cache: &mut Cache, edits: &[Asked<'_>], before: &Said) -> Outcome {
+    let held = alike(&held(alloc, cache.store()), before);
+    if held == Outcome::Accepted {
+        is_as_new(alloc, cache, edits)
+    } else {
+        held
     }
 }
 
-/// Makes the edit of a number. None comes where memory was refused before it or behind it.
-fn made(alloc: Global, cache: &mut Cache, number: u8) -> Option<Outcome> {
-    let before = held(alloc, cache.store())?;
-    let edit = numbered(alloc, number)?;
-    match refusal(cache, edit) {
-        None => Some(Outcome::Accepted),
-        Some(Refusal::Memory) => made_again(alloc, cache, number, &before),
-        Some(_) => Some(Outcome::Wrong),
+fn make_again(alloc: Global, cache: &mut Cache, asked: Asked<'_>) -> Outcome {
+    match edit_asked(alloc, asked) {
+        Some(edit) => again(refusal(cache, edit)),
+        None => Outcome::Short,
     }
 }
 
-/// Makes each edit in turn. Gives the number of the last that memory was refused to, if there is one. None comes where memory
-/// was refused outside of edits.
-fn make_all(rt: &(impl Abort + AllocGlobal), cache: &mut Cache) -> Option<Option<u8>> {
-    let mut refused = None;
-    for number in 0..EDITS {
-        let outcome = made(rt.alloc(), cache, number)?;
-        judge(rt, number, outcome);
-        if outcome == Outcome::Refused {
-            refused = Some(number);
+/// Makes the edit of a number again that was refused for want of memory when the store held this.
+fn judge_refused(alloc: Global, cache: &mut Cache, number: usize, before: &Said) -> Outcome {
+    let Some((edits, [asked, ..])) = EDITS.split_at_checked(number) else {
+        return Outcome::Wrong;
+    };
+    let is_as_before = is_as_before(alloc, cache, edits, before);
+    if is_as_before == Outcome::Accepted {
+        make_again(alloc, cache, *asked)
+    } else {
+        is_as_before
+    }
+}
+
+/// What comes of the edit of a number where the store held this, by its refusal.
+fn judged(
+    alloc: Global,
+    cache: &mut Cache,
+    number: usize,
+    refusal: Option<Refusal>,
+    before: &Said,
+) -> Outcome {
+    match refusal {
+        None => Outcome::Accepted,
+        Some(Refusal::Memory) => judge_refused(alloc, cache, number, before),
+        Some(_) => Outcome::Wrong,
+    }
+}
+
+/// Makes the edit of a number.
+fn made(alloc: Global, cache: &mut Cache, number: usize, asked: Asked<'_>) -> Outcome {
+    let before = held(alloc, cache.store());
+    match edit_asked(alloc, asked) {
+        Some(edit) => {
+            let refusal = refusal(cache, edit);
+            judged(alloc, cache, number, refusal, &before)
+        }
+        None => Outcome::Short,
+    }
+}
+
+/// Makes each edit in turn.
+fn make_all(rt: &(impl Abort + AllocGlobal), cache: &mut Cache) -> Met {
+    let mut met = Met::Nothing;
+    for (number, asked) in EDITS.iter().enumerate() {
+        met = met.and(rt, number, made(rt.alloc(), cache, number, *asked));
+        if let Met::Outside = met {
+            return met;
         }
     }
-    let told = told(rt.alloc(), cache)?;
-    same(rt, b"what is left", &told, LEFT);
-    Some(refused)
+    met.at_end(rt, &told(rt.alloc(), cache), LEFT)
 }
 
 /// The same with a new cache.
-fn make_all_anew(rt: &(impl Abort + AllocGlobal)) -> Option<Option<u8>> {
+fn make_all_anew(rt: &(impl Abort + AllocGlobal)) -> Met {
     let mut cache = Cache::new(rt.alloc());
     make_all(rt, &mut cache)
 }
 
 #[test]
 fn an_edit_of_a_cache_without_memory_changes_nothing(rt: HostRuntime) -> Result<(), Fail> {
-    match make_all_anew(&rt) {
-        Some(None) => Ok(()),
-        Some(Some(number)) => Err(Fail::new(format_args!("memory was refused to edit {number}"))),
-        None => Err(Fail::new("memory was refused outside of edits")),
-    }
+    make_all_anew(&rt).told()
 }

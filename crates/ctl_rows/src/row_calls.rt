@@ -1,8 +1,10 @@
 //! Calls of the rows of names, and of what is chosen of a name.
 
 use crate::made::{given, version};
-use crate::tables::agree;
+use crate::said::Said;
+use crate::tables::{agree, same};
 use ctl_policy::{Chosen, Rows, read_rows, renew};
+use ctl_relation::Version;
 use ctl_store::{StanzaKey, Store};
 use std::alloc::{AllocError, Global};
 use std::collections::BTreeMap;
@@ -12,36 +14,53 @@ fn key(stanza: u64) -> StanzaKey {
     StanzaKey { list: 0, stanza }
 }
 
-/// Puts keys under two texts of equal versions, and takes them out. Tells what the rows have then.
-fn rows_follow(alloc: Global) -> Result<[bool; 6], Fail> {
-    let one = given(version(alloc, "1.0"))?;
-    let other = given(version(alloc, "1.0-0"))?;
+fn put(rows: &mut Rows, version: &Version, stanza: u64, said: &mut Said) {
+    if rows.put(version, key(stanza)).is_err() {
+        said.fail();
+    }
+}
+
+/// Whether there are rows, and the keys of a version, its lead last.
+fn say_keys(rows: &Rows, version: &Version, said: &mut Said) {
+    said.add(if rows.is_empty() { b"no row" } else { b"rows" });
+    for key in rows.keys(version) {
+        said.key(b" ", *key);
+    }
+    if let Some(lead) = rows.lead(version) {
+        said.key(b", lead ", lead);
+    }
+    said.add(b"\n");
+}
+
+/// Puts keys under two texts of equal versions, and takes them out.
+fn say_followed(rows: &mut Rows, one: &Version, other: &Version, said: &mut Said) {
+    say_keys(rows, one, said);
+    put(rows, other, 2, said);
+    put(rows, one, 1, said);
+    say_keys(rows, other, said);
+    rows.take(other, key(1));
+    say_keys(rows, one, said);
+    rows.take(one, key(2));
+    say_keys(rows, one, said);
+}
+
+fn say_rows(alloc: Global, one: &Version, other: &Version, said: &mut Said) {
     let mut rows = Rows::new(alloc);
-    let is_empty = rows.is_empty();
-    rows.put(&other, key(2))?;
-    rows.put(&one, key(1))?;
-    let keys = rows.keys(&other) == [key(1), key(2)].as_slice();
-    let lead = rows.lead(&one) == Some(key(1));
-    rows.take(&other, key(1));
-    let left = rows.lead(&one) == Some(key(2));
-    let is_filled = !rows.is_empty();
-    rows.take(&one, key(2));
-    Ok([
-        is_empty,
-        keys,
-        lead,
-        left,
-        is_filled,
-        rows.lead(&one).is_none(),
-    ])
+    say_followed(&mut rows, one, other, said);
 }
 
 #[test]
 fn rows_follow_keys(rt: HostRuntime) -> Result<(), Fail> {
-    let has: [bool; 6] = rows_follow(rt.alloc())?;
-    for is_so in &has {
-        agree(&rt, b"rows", *is_so, true);
-    }
+    let one = given(version(rt.alloc(), "1.0"))?;
+    let other = given(version(rt.alloc(), "1.0-0"))?;
+    let mut said = Said::new(rt.alloc());
+    say_rows(rt.alloc(), &one, &other, &mut said);
+    same(
+        &rt,
+        b"rows",
+        said.shown(),
+        b"no row\nrows 0.1 0.2, lead 0.1\nrows 0.2, lead 0.2\nno row\n",
+    );
     Ok(())
 }
 

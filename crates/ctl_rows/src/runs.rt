@@ -8,7 +8,7 @@ use crate::said::Said;
 use crate::shown::say_state;
 use crate::texts::front;
 use ctl_index::Cache;
-use ctl_session::{Fault, FromRead, FromWrite, Session, Summary};
+use ctl_session::{Fault, FromRead, FromWrite, LoadFault, Session, SourceFault, Summary};
 use ctl_stanza::ListKind;
 use ctl_store::Limits;
 use std::alloc::Global;
@@ -32,6 +32,12 @@ pub enum Act<'a> {
     Until(&'a [u8], usize),
     /// Loads a list of this name and text.
     Load(&'a [u8], &'a [u8]),
+    /// The same with a text of one's own.
+    LoadText(&'a [u8], &'a [u8]),
+    /// The same by a reader that gives the text.
+    LoadFrom(&'a [u8], &'a [u8]),
+    /// The same by a reader that fails behind the text.
+    LoadBroken(&'a [u8], &'a [u8]),
     /// Shows what the store holds.
     Held,
     /// Asks a query by its words.
@@ -162,8 +168,8 @@ fn say_until(session: &mut Session, script: &[u8], before: usize, said: &mut Sai
     say_fault(outcome, said);
 }
 
-fn say_loaded(session: &mut Session, name: &[u8], text: Vec<u8>, said: &mut Said) {
-    match session.load(name, ListKind::Packages, text) {
+fn say_loaded(loaded: Result<(), LoadFault>, said: &mut Said) {
+    match loaded {
         Ok(()) => said.add(b"loaded"),
         Err(fault) => {
             said.number(b"line ", fault.line as u128);
@@ -172,10 +178,22 @@ fn say_loaded(session: &mut Session, name: &[u8], text: Vec<u8>, said: &mut Said
     }
 }
 
-fn say_load(session: &mut Session, name: &[u8], text: &[u8], said: &mut Said) {
+fn say_load_text(session: &mut Session, name: &[u8], text: &[u8], said: &mut Said) {
     match Vec::from_slice(said.alloc(), text) {
-        Ok(text) => say_loaded(session, name, text, said),
+        Ok(text) => say_loaded(session.load_text(name, ListKind::Packages, text), said),
         Err(_) => said.fail(),
+    }
+}
+
+fn say_load_from<R: Read + Drop>(session: &mut Session, name: &[u8], reader: R, said: &mut Said) {
+    let mut source = FromRead::new(reader);
+    let loaded = session.load_from(name, ListKind::Packages, &mut source);
+    let _ = source.into_inner();
+    match loaded {
+        Ok(()) => say_loaded(Ok(()), said),
+        Err(SourceFault::Read) => said.add(b"! read failed"),
+        Err(SourceFault::TooLong) => said.add(b"! too long"),
+        Err(SourceFault::Refused(fault)) => say_loaded(Err(fault), said),
     }
 }
 
@@ -187,7 +205,12 @@ fn say_act(session: &mut Session, act: &Act<'_>, said: &mut Said) {
         Act::ByteByByte(bytes) => say_given(session, Given::new(bytes, 1, false), said),
         Act::Endless(bytes) => say_given(session, Given::new(bytes, usize::MAX, true), said),
         Act::Until(script, before) => say_until(session, script, *before, said),
-        Act::Load(name, text) => say_load(session, name, text, said),
+        Act::Load(name, text) => say_loaded(session.load(name, ListKind::Packages, text), said),
+        Act::LoadText(name, text) => say_load_text(session, name, text, said),
+        Act::LoadFrom(name, text) => say_load_from(session, name, *text, said),
+        Act::LoadBroken(name, text) => {
+            say_load_from(session, name, Given::new(text, usize::MAX, false), said)
+        }
         Act::Held => say_state(session.cache().store(), said),
         Act::Ask(words) => say_asked(session.cache(), words, said),
     }

@@ -48,6 +48,11 @@ impl Said {
         }
     }
 
+    /// Whether memory ran out.
+    pub fn is_short(&self) -> bool {
+        self.is_short
+    }
+
     /// The bytes, or these words where memory ran out.
     pub fn shown(&self) -> &[u8] {
         if self.is_short {

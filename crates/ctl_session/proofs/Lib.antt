@@ -3,6 +3,7 @@ pub mod Written
 pub mod LineLemmas
 pub mod ScriptLemmas
 pub mod WholeLemmas
+pub mod LoadingLemmas
 pub mod ReadingLemmas
 pub mod CommandLemmas
 pub mod RunLemmas

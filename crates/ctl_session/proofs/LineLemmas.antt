@@ -15,7 +15,8 @@ use Rattle.ctl_session.specs.LineReading.{TakesPiece, newline_if, IsOneLine, Tak
 use Rattle.ctl_session.specs.declared.fault.ReadingFault.{ReadingFault}
 use Rattle.ctl_session.specs.declared.fault.ReadingFault.TheVariants.{ReadFailed, TooManyLines}
 use Rattle.std.proofs.lemmas.Bool.{ltb-true, ltb-false}
-use Rattle.ctl_stanza.specs.Lines.{max_line}
+use Rattle.ctl_stanza.specs.Lines.{max_line, lines_of}
+use Rattle.ctl_session.proofs.ScriptLemmas.{lines_of-last}
 
 length-take-of : (k : ℕ) (xs : List ℕ) → k < length xs → length (take k xs) ≡ k
 length-take-of k xs short = let e = length-take k xs in omega arith
@@ -187,9 +188,37 @@ stops_long old mid next new buffer buffer' pending pending' count read got allow
 pub stops_after_same : (old new : Option (List ℕ)) (number max first : ℕ) (fault : ReadingFault) → max ≡ first → StopsAfter old new number max fault → StopsAfter old new number first fault
 stops_after_same old new number max first fault same stops = subst (λ m. StopsAfter old new number m fault) same stops
 
+-- the part of a line is one line more at most, and has a byte only where there may be one more
+part_within : (part : List ℕ) (number max : ℕ) → IsOneLine part → number ≤ max → (0 < length part → number < max) →
+    number + length (lines_of part) ≤ max
+part_within [] number max one within more = let none : length (lines_of []) ≡ 0 = refl in omega (arith, within, none)
+part_within (b ∷ part) number max one within more =
+    let some : 0 < length (b ∷ part) = omega arith in
+    let short = more some in
+    let single : length (lines_of (b ∷ part)) ≡ 1 = ap length (lines_of-last (b ∷ part) one some) in
+    omega (arith, short, single)
+
+-- a read failed in a line, behind a byte of it only where it is allowed
+pub stops_in_read : (old mid new : Option (List ℕ)) (buffer : List ℕ) (count : ℕ) (got : List ℕ) (allowed : Bool) →
+    Reading old mid buffer count got → count < 2 ^ 32 → (0 < count → allowed ≡ true) → Consumes mid new [] →
+    StopsInLine old new allowed ReadFailed
+stops_in_read old mid new buffer count got allowed reading fits some none = (
+  got,
+  reading.one,
+  subst (λ t. Consumes old new t) (append-nil got) (Consumes-trans old mid new got [] reading.took none),
+  omega (arith, reading.counted),
+  λ has. some (omega (arith, reading.counted)),
+)
+
 -- where a line isn't allowed, there are as many as there may be
 pub stops_after : (fault : ReadingFault) (old new : Option (List ℕ)) (number max : ℕ) → number ≤ max → StopsInLine old new (nat_lt number max) fault → StopsAfter old new number max fault
-stops_after ReadFailed old new number max within stops = stops
+stops_after ReadFailed old new number max within stops = (
+  stops.0,
+  stops.1,
+  stops.2,
+  stops.3,
+  part_within stops.0 number max stops.1 within (λ some. ltb-true number max (stops.4 some)),
+)
 stops_after TooManyLines old new number max within stops = elim stops.3 [
   | inl h ↦ let full : max ≤ number = ltb-false number max h.0 in let same : number ≡ max = omega arith in (stops.0, stops.1, stops.2, inl (same, h.1))
   | inr h ↦ let short : number < max = ltb-true number max h.0 in (stops.0, stops.1, stops.2, inr (short, h.1, h.2))

@@ -17,7 +17,7 @@ use Rattle.ctl_session.specs.declared.fault.Fault.{Fault}
 use Rattle.ctl_session.specs.declared.fault.ReadingFault.{ReadingFault}
 use Rattle.ctl_session.specs.declared.fault.ReadingFault.TheVariants.{ReadFailed, TooManyLines}
 use Rattle.ctl_session.specs.Faults.{run_fault}
-use Rattle.ctl_session.proofs.WholeLemmas.{whole_none, whole_append, counts_none, counts_append, whole_lines_of-text, lines_of-text}
+use Rattle.ctl_session.proofs.WholeLemmas.{whole_none, whole_append, counts_none, counts_append, part_counts, whole_lines_of-text, lines_of-text}
 use Rattle.ctl_session.proofs.ReadingLemmas.{is_true}
 
 pub runs_more : (state : CacheState) (commands : List Command) (outcomes : List Outcome) (command : Command) (outcome : Outcome) → Runs state commands outcomes →
@@ -259,6 +259,8 @@ stopped_reading ReadFailed given mid new taken taken' pending old state number a
       script = bytes ++ reads.stops.0;
       outcomes = running.outcomes;
       gave = subst (λ t. Consumes given new t) (ap (λ p. (bytes ++ reads.stops.0) ++ p) (used refl) ∙ append-nil (bytes ++ reads.stops.0)) gave;
+      within = within_limit (bytes ++ reads.stops.0) (reads.after + length (lines_of reads.stops.0)) max
+          (counts_append bytes reads.stops.0 0 reads.after _ whole (part_counts reads.stops.0 reads.after reads.stops.1 reads.stops.3)) reads.stops.4;
       runs = subst (λ cs. Runs old cs running.outcomes) (commands ∙ ap whole_commands_in (sym lines)) running.runs;
       wrote = running.wrote;
       state = running.state;

@@ -98,6 +98,13 @@ counts_append bytes more number mid after whole counts =
 pub counts_none : (number : ℕ) → CountsLines [] number number
 counts_none number = record { good = tt; count = omega arith }
 
+-- a part of a line
+pub part_counts : (part : List ℕ) (number : ℕ) → IsOneLine part → length part < 2 ^ 32 → CountsLines part number (number + length (lines_of part))
+part_counts [] number one short = record { good = tt; count = refl }
+part_counts (b ∷ part) number one short =
+    let is : lines_of (b ∷ part) ≡ (b ∷ part) ∷ [] = lines_of-last (b ∷ part) one (omega arith) in
+    record { good = subst AreLines (sym is) ((one, short), tt); count = refl }
+
 -- whole lines and no more
 pub whole_counts : (bytes : List ℕ) (number after : ℕ) → WholeLines bytes number after → CountsLines bytes number after
 whole_counts bytes number after whole = subst (λ b. CountsLines b number after) (append-nil bytes) (counts_append bytes [] number after after whole (counts_none after))

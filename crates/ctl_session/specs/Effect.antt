@@ -1,5 +1,6 @@
 -- What each command does.
-use Rattle.std.specs.Prelude.{◌≡◌, ◌⊎◌, ℕ, ◌+◌, List, [], ◌∷◌, Option, None, Some, true, Result, Ok, Err, if◌then◌else◌}
+use Rattle.std.specs.Prelude.{◌≡◌, ◌⊎◌, ℕ, ◌+◌, List, [], ◌∷◌, Option, None, Some, true, Result, Ok, Err, Vec, if◌then◌else◌}
+use Rattle.std.specs.declared.alloc.Global.{Global}
 use Rattle.ctl_relation.specs.Names.{is_name}
 use Rattle.ctl_stanza.specs.Lines.{text_of_lines}
 use Rattle.ctl_stanza.specs.Content.{Content}
@@ -55,6 +56,11 @@ abbrev pub edited_by_body : {A : Type 0} → CacheState → ℕ → (A → Edit)
 edited_by_body cache number edit (Ok read) = edited cache number (edit read)
 edited_by_body cache number edit (Err fault) = Refused fault.line (refusal_by fault.cause)
 
+-- what was read of a text, as the contents of its stanzas
+abbrev pub contents_of : {A : Type 0} → Result (Vec A Global) TextFault → Result (List A) TextFault
+contents_of (Ok read) = Ok read.items
+contents_of (Err fault) = Err fault
+
 -- a new list with the stanzas of a text whose lines count from the line behind the command's
 abbrev pub list_added : CacheState → ℕ → List ℕ → ListKind → ListClass → List ℕ → Outcome
 list_added cache number name kind class text =
@@ -64,6 +70,11 @@ list_added cache number name kind class text =
 -- the text has no fault.
 abbrev pub loaded : CacheState → List ℕ → ListKind → List ℕ → Outcome
 loaded cache name kind text = if is_name name then list_added cache 0 name kind Plain text else Refused 0 refusal.Name
+
+-- the same of what was read of the text
+abbrev pub read_loaded : CacheState → List ℕ → ListKind → Result (List Content) TextFault → Outcome
+read_loaded cache name kind read =
+    if is_name name then edited_by_body cache 0 (edit.AddList name kind Plain) read else Refused 0 refusal.Name
 
 -- the body of `put` is one stanza
 abbrev pub stanza_put : CacheState → ℕ → List ℕ → Result (List Content) TextFault → Outcome

@@ -18,5 +18,6 @@ pub mod Effect
 pub mod BodyNeed
 pub mod Run
 pub mod Replies
+pub mod Loading
 pub mod Application
 pub mod Asked

@@ -1,8 +1,8 @@
 -- How the lines of a source are read, and where the reading stops.
-use Rattle.std.specs.Prelude.{◌≡◌, ◌≢◌, ℕ, ◌^◌, ◌<◌, ◌≤◌, ◌++◌, List, [], ◌∷◌, Option, None, Some, Result, Ok, Err, ◌⊎◌, Bool, true, false, length, take}
+use Rattle.std.specs.Prelude.{◌≡◌, ◌≢◌, ℕ, ◌+◌, ◌^◌, ◌<◌, ◌≤◌, ◌++◌, List, [], ◌∷◌, Option, None, Some, Result, Ok, Err, ◌⊎◌, Bool, true, false, length, take}
 use Rattle.std.specs.Io.KnownBytes.{Consumes, IsAtEnd}
 use Rattle.ctl_relation.specs.Bytes.{newline}
-use Rattle.ctl_stanza.specs.Lines.{max_line}
+use Rattle.ctl_stanza.specs.Lines.{max_line, lines_of}
 use Rattle.ctl_session.specs.declared.read_ahead.LineRead.{LineRead}
 use Rattle.ctl_session.specs.declared.fault.ReadingFault.{ReadingFault}
 use Rattle.ctl_session.specs.declared.fault.ReadingFault.TheVariants.{ReadFailed, TooManyLines}
@@ -42,8 +42,9 @@ TakesNext old new buffer (Some read) = (line : List ℕ) × TakesLine old new bu
 
 -- the bytes that were read of a line when the run stopped
 abbrev pub StopsInLine : Option (List ℕ) → Option (List ℕ) → Bool → ReadingFault → Type 0
--- no whole line
-StopsInLine old new allowed ReadFailed = (line : List ℕ) × IsOneLine line × Consumes old new line
+-- no whole line, and a byte of one only where it is allowed
+StopsInLine old new allowed ReadFailed =
+    (line : List ℕ) × IsOneLine line × Consumes old new line × (length line < 2 ^ 32) × (0 < length line → allowed ≡ true)
 -- a byte of a line that is not allowed, or too many of one
 StopsInLine old new allowed TooManyLines = (bytes ahead : List ℕ) × Consumes old new (bytes ++ ahead) ×
     (((allowed ≡ false) × (0 < length bytes)) ⊎ ((allowed ≡ true) × IsOneLine bytes × (2 ^ 32 ≤ length bytes)))
@@ -54,7 +55,8 @@ IsPast max number over = ((number ≡ max) × (0 < length over)) ⊎ ((number < 
 
 -- the bytes that were read after so many lines when the run stopped
 abbrev pub StopsAfter : Option (List ℕ) → Option (List ℕ) → ℕ → ℕ → ReadingFault → Type 0
-StopsAfter old new number max ReadFailed = (part : List ℕ) × IsOneLine part × Consumes old new part
+StopsAfter old new number max ReadFailed =
+    (part : List ℕ) × IsOneLine part × Consumes old new part × (length part < 2 ^ 32) × (number + length (lines_of part) ≤ max)
 StopsAfter old new number max TooManyLines = (over ahead : List ℕ) × Consumes old new (over ++ ahead) × IsPast max number over
 
 -- a read failed

@@ -50,11 +50,12 @@ pub record StoppedInWrite (given given' taken taken' : Option (List ℕ)) (old n
   pub state : new ≡ state_after_all old (outcomes ++ outcome ∷ [])
 
 -- a run that a failed read stopped: what is written is the text of the commands that the reader gave whole
-pub record StoppedInRead (given given' taken taken' : Option (List ℕ)) (old new : CacheState) : Type 0 where
-  -- all that the reader gave
+pub record StoppedInRead (max : ℕ) (given given' taken taken' : Option (List ℕ)) (old new : CacheState) : Type 0 where
+  -- all that the reader gave, which is within the limit of lines
   pub script : List ℕ
   pub outcomes : List Outcome
   pub gave : Consumes given given' script
+  pub within : IsWithin max script
   pub runs : Runs old (whole_commands_of script) outcomes
   pub wrote : Appends taken taken' (text_of_all outcomes)
   pub state : new ≡ state_after_all old outcomes
@@ -75,6 +76,6 @@ pub record StoppedPastLimit (max : ℕ) (given given' taken taken' : Option (Lis
 
 -- what a run leaves that stopped before its end
 abbrev pub Stopped : ℕ → Option (List ℕ) → Option (List ℕ) → Option (List ℕ) → Option (List ℕ) → CacheState → CacheState → Fault → Type 0
-Stopped max given given' taken taken' old new Read = StoppedInRead given given' taken taken' old new
+Stopped max given given' taken taken' old new Read = StoppedInRead max given given' taken taken' old new
 Stopped max given given' taken taken' old new Write = StoppedInWrite given given' taken taken' old new
 Stopped max given given' taken taken' old new TooManyLines = StoppedPastLimit max given given' taken taken' old new

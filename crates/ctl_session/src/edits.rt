@@ -1,9 +1,9 @@
 //! Edits of the store by commands.
 
 ghost use Rattle.std.specs.Prelude.{◌≡◌, false, OnErr};
-ghost use Rattle.ctl_store.specs.Edits.{edit_of, Put};
+ghost use Rattle.ctl_store.specs.Edits.{edit_of, AddList, Put};
 ghost use Rattle.ctl_store.specs.declared.refusal.Refusal.TheVariants.{Memory};
-ghost use Rattle.ctl_session.specs.Effect.{refusal_by, edited, list_added, put_in_list, prefs_set};
+ghost use Rattle.ctl_session.specs.Effect.{refusal_by, edited, edited_by_body, contents_of, list_added, put_in_list, prefs_set};
 ghost use Rattle.ctl_session.specs.Replies.{CameTo, IsRefusalOf};
 ghost use Rattle.ctl_session.specs.State.{cache_state};
 
@@ -13,6 +13,21 @@ use ctl_relation::Bytes;
 use ctl_stanza::{Cause, ListKind, Stanza, TextFault, lines_take_bytes, read_stanzas};
 use ctl_store::{Edit, ListClass, Refusal, boxed, read_prefs};
 use std::alloc::Global;
+
+/// Where an edit is made: at the line of its command, with memory from here.
+#[derive(Clone, Copy)]
+pub(crate) struct AtLine {
+    pub(crate) alloc: Global,
+    pub(crate) number: u32,
+}
+
+/// A list that is to be added: its name, its kind and its class.
+#[derive(Clone, Copy)]
+pub(crate) struct NewList<'a> {
+    pub(crate) name: &'a [u8],
+    pub(crate) kind: ListKind,
+    pub(crate) class: ListClass,
+}
 
 /// The refusal of a body, by the cause of its text's fault.
 fn refusal_by(cause: Cause) -> Refusal
@@ -67,83 +82,103 @@ pub(crate) fn edit(cache: &mut Cache, edit: Edit, number: u32) -> Result<(), Ref
     }
 }
 
-/// Adds a list with the stanzas of a text, which is the body of the command at this line. The text is given back as soon as they
-/// are read, so that it isn't there beside the tables that they come into.
-pub(crate) fn add_list(
-    alloc: Global,
+/// Adds a list with these stanzas.
+fn add_stanzas(
+    at: AtLine,
     cache: &mut Cache,
-    name: &[u8],
-    kind: ListKind,
-    class: ListClass,
-    text: Vec<u8>,
-    number: u32,
+    list: NewList<'_>,
+    stanzas: Vec<Stanza>,
 ) -> Result<(), RefusalAt>
     requires { cache.old.stale ≡ false }
-    ensures outcome { CameTo number result (cache_state cache.new) (list_added (cache_state cache.old) number name.now kind class text.items) }
+    ensures outcome { CameTo at.number result (cache_state cache.new)
+        (edited (cache_state cache.old) at.number (AddList list.entry.name.now list.entry.kind list.entry.class stanzas.items)) }
     ensures err { OnErr result (cache_state cache.new ≡ cache_state cache.old) }
 {
-    lines_take_bytes();
-    let stanzas = match read_stanzas(alloc, &text, number as u64 + 1, kind) {
-        Ok(stanzas) => stanzas,
-        Err(fault) => return Err(refusal_at(fault, number)),
+    let Ok(name) = Bytes::from_slice(at.alloc, list.name) else {
+        return Err(refused(at.number, Refusal::Memory));
     };
-    drop(text);
-    let Ok(name) = Bytes::from_slice(alloc, name) else {
-        return Err(refused(number, Refusal::Memory));
-    };
-    let Ok(stanzas) = boxed(alloc, stanzas) else {
-        return Err(refused(number, Refusal::Memory));
+    let Ok(stanzas) = boxed(at.alloc, stanzas) else {
+        return Err(refused(at.number, Refusal::Memory));
     };
     edit(
         cache,
         Edit::AddList {
             name,
-            kind,
-            class,
+            kind: list.kind,
+            class: list.class,
             stanzas,
         },
-        number,
+        at.number,
     )
 }
 
-/// Puts a stanza into a list.
-fn put_stanza(
-    alloc: Global,
+/// Adds a list with the stanzas that were read of a text, or tells the fault of the text.
+pub(crate) fn add_read_list(
+    at: AtLine,
     cache: &mut Cache,
-    list: &[u8],
-    stanza: Stanza,
-    number: u32,
+    list: NewList<'_>,
+    read: Result<Vec<Stanza>, TextFault>,
 ) -> Result<(), RefusalAt>
     requires { cache.old.stale ≡ false }
-    ensures outcome { CameTo number result (cache_state cache.new) (edited (cache_state cache.old) number (Put list.now stanza)) }
+    ensures outcome { CameTo at.number result (cache_state cache.new) (edited_by_body (cache_state cache.old) at.number
+        (AddList list.entry.name.now list.entry.kind list.entry.class) (contents_of read)) }
     ensures err { OnErr result (cache_state cache.new ≡ cache_state cache.old) }
 {
-    let Ok(list) = Bytes::from_slice(alloc, list) else {
-        return Err(refused(number, Refusal::Memory));
+    match read {
+        Ok(stanzas) => add_stanzas(at, cache, list, stanzas),
+        Err(fault) => Err(refusal_at(fault, at.number)),
+    }
+}
+
+/// Adds a list with the stanzas of a text, which is the body of the command at this line. The text is given back as soon as
+/// they are read, so that it isn't there beside the tables that they come into.
+pub(crate) fn add_list(
+    at: AtLine,
+    cache: &mut Cache,
+    list: NewList<'_>,
+    text: Vec<u8>,
+) -> Result<(), RefusalAt>
+    requires { cache.old.stale ≡ false }
+    ensures outcome { CameTo at.number result (cache_state cache.new)
+        (list_added (cache_state cache.old) at.number list.entry.name.now list.entry.kind list.entry.class text.items) }
+    ensures err { OnErr result (cache_state cache.new ≡ cache_state cache.old) }
+{
+    lines_take_bytes();
+    let stanzas = match read_stanzas(at.alloc, &text, at.number as u64 + 1, list.kind) {
+        Ok(stanzas) => stanzas,
+        Err(fault) => return Err(refusal_at(fault, at.number)),
     };
-    let Ok(stanza) = Box::new(alloc, stanza) else {
-        return Err(refused(number, Refusal::Memory));
+    drop(text);
+    add_stanzas(at, cache, list, stanzas)
+}
+
+/// Puts a stanza into a list.
+fn put_stanza(at: AtLine, cache: &mut Cache, list: &[u8], stanza: Stanza) -> Result<(), RefusalAt>
+    requires { cache.old.stale ≡ false }
+    ensures outcome { CameTo at.number result (cache_state cache.new) (edited (cache_state cache.old) at.number (Put list.now stanza)) }
+    ensures err { OnErr result (cache_state cache.new ≡ cache_state cache.old) }
+{
+    let Ok(list) = Bytes::from_slice(at.alloc, list) else {
+        return Err(refused(at.number, Refusal::Memory));
     };
-    edit(cache, Edit::Put { list, stanza }, number)
+    let Ok(stanza) = Box::new(at.alloc, stanza) else {
+        return Err(refused(at.number, Refusal::Memory));
+    };
+    edit(cache, Edit::Put { list, stanza }, at.number)
 }
 
 /// Puts the one stanza of a text into a list.
-pub(crate) fn put(
-    alloc: Global,
-    cache: &mut Cache,
-    name: &[u8],
-    text: &[u8],
-    number: u32,
-) -> Result<(), RefusalAt>
+pub(crate) fn put(at: AtLine, cache: &mut Cache, name: &[u8], text: &[u8]) -> Result<(), RefusalAt>
     requires { cache.old.stale ≡ false }
-    ensures outcome { CameTo number result (cache_state cache.new) (put_in_list (cache_state cache.old) number name.now text.now) }
+    ensures outcome { CameTo at.number result (cache_state cache.new) (put_in_list (cache_state cache.old) at.number name.now text.now) }
     ensures err { OnErr result (cache_state cache.new ≡ cache_state cache.old) }
 {
+    let number = at.number;
     let Some(kind) = cache.store().kind(name) else {
         return Err(refused(number, Refusal::NoList));
     };
     lines_take_bytes();
-    let mut stanzas = match read_stanzas(alloc, text, number as u64 + 1, kind) {
+    let mut stanzas = match read_stanzas(at.alloc, text, number as u64 + 1, kind) {
         Ok(stanzas) => stanzas,
         Err(fault) => return Err(refusal_at(fault, number)),
     };
@@ -153,22 +188,18 @@ pub(crate) fn put(
     let Some(stanza) = stanzas.pop() else {
         unreachable!("there is one stanza");
     };
-    put_stanza(alloc, cache, name, stanza, number)
+    put_stanza(at, cache, name, stanza)
 }
 
 /// Lets the pin settings of a text take the place of all.
-pub(crate) fn set_prefs(
-    alloc: Global,
-    cache: &mut Cache,
-    text: &[u8],
-    number: u32,
-) -> Result<(), RefusalAt>
+pub(crate) fn set_prefs(at: AtLine, cache: &mut Cache, text: &[u8]) -> Result<(), RefusalAt>
     requires { cache.old.stale ≡ false }
-    ensures outcome { CameTo number result (cache_state cache.new) (prefs_set (cache_state cache.old) number text.now) }
+    ensures outcome { CameTo at.number result (cache_state cache.new) (prefs_set (cache_state cache.old) at.number text.now) }
     ensures err { OnErr result (cache_state cache.new ≡ cache_state cache.old) }
 {
+    let number = at.number;
     lines_take_bytes();
-    match read_prefs(alloc, text, number as u64 + 1) {
+    match read_prefs(at.alloc, text, number as u64 + 1) {
         Ok(settings) => edit(cache, Edit::Prefs { settings }, number),
         Err(fault) => Err(refusal_at(fault, number)),
     }

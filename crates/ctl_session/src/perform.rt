@@ -11,7 +11,7 @@ ghost use Rattle.ctl_session.specs.State.{CacheState, cache_state};
 ghost use Rattle.ctl_session.specs.Replies.{outcome_from, outcome_of_edit, MayDo};
 
 use crate::body_need::uses_body;
-use crate::edits::{add_list, edit, put, refused, set_prefs};
+use crate::edits::{AtLine, NewList, add_list, edit, put, refused, set_prefs};
 use crate::refusal_at::RefusalAt;
 use crate::reply::Reply;
 use crate::request::{Request, command_words, request_by};
@@ -32,43 +32,58 @@ fn reply_of_edit(edited: Result<(), RefusalAt>) -> Reply
     }
 }
 
+/// Does what a request asks for, with the text of the command's body, and the text of an answer in the buffer.
+fn carry_out(
+    at: AtLine,
+    cache: &mut Cache,
+    request: Request<'_>,
+    text: Vec<u8>,
+    out: &mut Vec<u8>,
+) -> Reply
+    requires fresh { cache.old.stale ≡ false }
+    requires empty { out.old.items ≡ [] }
+    ensures may { (asked : Command) → asked.number ≡ at.number → text.items ≡ text_of_lines asked.body →
+        MayDo (cache_state cache.old) asked (request_text request.entry) (outcome_from result out.new.items (cache_state cache.new)) }
+    ensures state { cache_state cache.new ≡ state_after (cache_state cache.old) (outcome_from result out.new.items (cache_state cache.new)) }
+{
+    match request {
+        Request::AddList(name, kind, class) => {
+            reply_of_edit(add_list(at, cache, NewList { name, kind, class }, text))
+        }
+        Request::Put(name) => reply_of_edit(put(at, cache, name, &text)),
+        Request::Prefs => reply_of_edit(set_prefs(at, cache, &text)),
+        Request::Change(change) => reply_of_edit(edit(cache, change, at.number)),
+        Request::Ask(query) => match answer(at.alloc, cache, &query, out, &mut Steps::new()) {
+            Ok(()) => Reply::Answered,
+            Err(_) => Reply::Refused(refused(at.number, Refusal::Memory)),
+        },
+    }
+}
+
 /// Does what a request asks for, with what was read of the command's body, and the text of an answer in the buffer.
 fn do_request(
-    alloc: Global,
+    at: AtLine,
     cache: &mut Cache,
     request: Request<'_>,
     body: Body,
-    number: u32,
     out: &mut Vec<u8>,
 ) -> Reply
     requires empty { out.old.items ≡ [] }
-    ensures may { (asked : Command) → asked.number ≡ number → (body.dropped ≡ false → body.text.items ≡ text_of_lines asked.body) →
+    ensures may { (asked : Command) → asked.number ≡ at.number → (body.dropped ≡ false → body.text.items ≡ text_of_lines asked.body) →
         MayDo (cache_state cache.old) asked (request_text request.entry) (outcome_from result out.new.items (cache_state cache.new)) }
     ensures state { cache_state cache.new ≡ state_after (cache_state cache.old) (outcome_from result out.new.items (cache_state cache.new)) }
 {
     if !uses_body(cache, &request) {
-        return Reply::Refused(refused(number, Refusal::NoList));
+        return Reply::Refused(refused(at.number, Refusal::NoList));
     }
     if body.dropped {
-        return Reply::Refused(refused(number, Refusal::Memory));
+        return Reply::Refused(refused(at.number, Refusal::Memory));
     }
     match cache.recover() {
         Ok(()) => {}
-        Err(_) => return Reply::Refused(refused(number, Refusal::Memory)),
+        Err(_) => return Reply::Refused(refused(at.number, Refusal::Memory)),
     }
-    let text = body.text;
-    match request {
-        Request::AddList(name, kind, class) => {
-            reply_of_edit(add_list(alloc, cache, name, kind, class, text, number))
-        }
-        Request::Put(name) => reply_of_edit(put(alloc, cache, name, &text, number)),
-        Request::Prefs => reply_of_edit(set_prefs(alloc, cache, &text, number)),
-        Request::Change(change) => reply_of_edit(edit(cache, change, number)),
-        Request::Ask(query) => match answer(alloc, cache, &query, out, &mut Steps::new()) {
-            Ok(()) => Reply::Answered,
-            Err(_) => Reply::Refused(refused(number, Refusal::Memory)),
-        },
-    }
+    carry_out(at, cache, request, body.text, out)
 }
 
 /// Does what a command asks for, with the text of an answer in the buffer.
@@ -90,7 +105,7 @@ pub(crate) fn perform(
         Err(refused) => return Reply::Refused(refused),
     };
     match request_by(alloc, read.name, &read.words) {
-        Ok(request) => do_request(alloc, cache, request, command.body, number, out),
+        Ok(request) => do_request(AtLine { alloc, number }, cache, request, command.body, out),
         Err(cause) => Reply::Refused(refused(number, cause)),
     }
 }

@@ -54,7 +54,7 @@ impl ReadAhead {
     }
 
     /// The bytes.
-    fn rest(&self) -> &[u8]
+    pub(crate) fn rest(&self) -> &[u8]
         ensures value { result.now ≡ self.now }
         ensures within { length result.now ≤ 65536 }
     {
@@ -70,7 +70,7 @@ impl ReadAhead {
     }
 
     /// Reads the next part, where nothing is left of the last one. There is none at the end.
-    fn refill<R: Source>(&mut self, reader: &mut R) -> Result<(), Failed>
+    pub(crate) fn refill<R: Source>(&mut self, reader: &mut R) -> Result<(), Failed>
         requires { self.old ≡ [] }
         ensures ok { OnOk result (Consumes (R.remaining reader.old) (R.remaining reader.new) self.new) }
         ensures end { OnOk result (self.new ≡ [] → IsAtEnd (R.remaining reader.new)) }

@@ -1,24 +1,27 @@
 //! A session: a cache, and the scripts that are run over them.
 
 ghost use Rattle.std.specs.Prelude.{◌≡◌, ◌-◌, ◌^◌, IfOk, IfErr, OnErr};
-ghost use Rattle.ctl_session.specs.Effect.{loaded};
+ghost use Rattle.ctl_session.specs.Effect.{contents_of, loaded, read_loaded};
 ghost use Rattle.ctl_session.specs.Replies.{LoadCameTo};
+ghost use Rattle.ctl_session.specs.Loading.{LoadedFrom, is_failed_load};
 ghost use Rattle.ctl_session.specs.Streams.{counted};
 ghost use Rattle.ctl_session.specs.Faults.{is_read_fault, is_write_fault};
 ghost use Rattle.ctl_session.specs.Run.{Ran, Stopped};
 ghost use Rattle.ctl_session.specs.State.{cache_state};
 
-use crate::edits::add_list;
+use crate::edits::{AtLine, NewList, add_read_list};
 use crate::fault::Fault;
 use crate::lines::Lines;
+use crate::list_source::read_list;
 use crate::load_fault::LoadFault;
 use crate::run::{Buffers, run_over};
 use crate::sink::Sink;
 use crate::source::Source;
+use crate::source_fault::SourceFault;
 use crate::summary::Summary;
 use ctl_index::Cache;
 use ctl_relation::is_name;
-use ctl_stanza::ListKind;
+use ctl_stanza::{ListKind, Stanza, TextFault, lines_take_bytes, read_stanzas};
 use ctl_store::{ListClass, Refusal};
 use std::alloc::{AllocError, Global};
 use std::marker::Model;
@@ -89,48 +92,106 @@ impl Session {
         &self.cache
     }
 
+    /// Adds a last list of plain class with the stanzas that were read of a text.
+    fn add_loaded(
+        &mut self,
+        name: &[u8],
+        kind: ListKind,
+        read: Result<Vec<Stanza>, TextFault>,
+    ) -> Result<(), LoadFault>
+        ensures loaded { LoadCameTo result (cache_state self.new.cache)
+            (read_loaded (cache_state self.old.cache) name.now kind (contents_of read)) }
+        ensures err { OnErr result (cache_state self.new.cache ≡ cache_state self.old.cache) }
+        ensures max_lines { self.new.max_lines ≡ self.old.max_lines }
+    {
+        if !is_name(name) {
+            return Err(LoadFault::of_list(Refusal::Name));
+        }
+        match self.cache.recover() {
+            Ok(()) => {}
+            Err(_) => return Err(LoadFault::of_list(Refusal::Memory)),
+        }
+        let list = NewList {
+            name,
+            kind,
+            class: ListClass::Plain,
+        };
+        let at = AtLine {
+            alloc: self.alloc,
+            number: 0,
+        };
+        match add_read_list(at, &mut self.cache, list, read) {
+            Ok(()) => Ok(()),
+            Err(refused) => Err(LoadFault {
+                line: refused.line,
+                cause: refused.cause,
+            }),
+        }
+    }
+
     /// Adds a last list of plain class with the stanzas of a text, as `add-list` does. The lines of the text count
-    /// from 1. The text is given back as soon as its stanzas are read.
+    /// from 1.
     ///
     /// # Errors
     ///
     /// The first of these, and what the cache holds stays: the name is none; the fault of the text, with its line;
     /// there is a list of that name; there is a status list, and this would be another; the cache is full. Each may
     /// be want of memory instead.
-    pub fn load(&mut self, name: &[u8], kind: ListKind, text: Vec<u8>) -> Result<(), LoadFault>
-        ensures loaded { LoadCameTo result (cache_state self.new.cache) (loaded (cache_state self.old.cache) name.now kind text.items) }
+    pub fn load(&mut self, name: &[u8], kind: ListKind, text: &[u8]) -> Result<(), LoadFault>
+        ensures loaded { LoadCameTo result (cache_state self.new.cache)
+            (loaded (cache_state self.old.cache) name.now kind text.now) }
         ensures err { OnErr result (cache_state self.new.cache ≡ cache_state self.old.cache) }
         ensures max_lines { self.new.max_lines ≡ self.old.max_lines }
     {
-        if !is_name(name) {
-            return Err(LoadFault {
-                line: 0,
-                cause: Refusal::Name,
-            });
-        }
-        match self.cache.recover() {
-            Ok(()) => {}
-            Err(_) => {
-                return Err(LoadFault {
-                    line: 0,
-                    cause: Refusal::Memory,
-                });
-            }
-        }
-        match add_list(
-            self.alloc,
-            &mut self.cache,
-            name,
-            kind,
-            ListClass::Plain,
-            text,
-            0,
-        ) {
+        lines_take_bytes();
+        let read = read_stanzas(self.alloc, text, 1, kind);
+        self.add_loaded(name, kind, read)
+    }
+
+    /// The same with a text of one's own, which is given back as soon as its stanzas are read: so it isn't there beside
+    /// the tables that they come into.
+    ///
+    /// # Errors
+    ///
+    /// Those of [`load`](Session::load).
+    pub fn load_text(&mut self, name: &[u8], kind: ListKind, text: Vec<u8>) -> Result<(), LoadFault>
+        ensures loaded { LoadCameTo result (cache_state self.new.cache)
+            (loaded (cache_state self.old.cache) name.now kind text.items) }
+        ensures err { OnErr result (cache_state self.new.cache ≡ cache_state self.old.cache) }
+        ensures max_lines { self.new.max_lines ≡ self.old.max_lines }
+    {
+        lines_take_bytes();
+        let read = read_stanzas(self.alloc, &text, 1, kind);
+        drop(text);
+        self.add_loaded(name, kind, read)
+    }
+
+    /// The same with all that a source gives, of which a block is held at a time. A source whose text has a fault is
+    /// read to its end, too.
+    ///
+    /// # Errors
+    ///
+    /// A failed read, or a source of more than 4,294,967,295 bytes, whatever the text is; then those of
+    /// [`load`](Session::load).
+    pub fn load_from<R: Source>(
+        &mut self,
+        name: &[u8],
+        kind: ListKind,
+        reader: &mut R,
+    ) -> Result<(), SourceFault>
+        ensures loaded { LoadedFrom (R.remaining reader.old) (R.remaining reader.new) result
+            (cache_state self.old.cache) (cache_state self.new.cache) name.now kind }
+        ensures failures { R.failures reader.new ≡ counted (is_failed_load result) (R.failures reader.old) }
+        ensures err { OnErr result (cache_state self.new.cache ≡ cache_state self.old.cache) }
+        ensures max_lines { self.new.max_lines ≡ self.old.max_lines }
+    {
+        let read = match read_list(self.alloc, &mut self.lines.pending, reader, kind) {
+            Ok(read) => read,
+            Err(fault) => return Err(fault),
+        };
+        match self.add_loaded(name, kind, read) {
             Ok(()) => Ok(()),
-            Err(refused) => Err(LoadFault {
-                line: refused.line,
-                cause: refused.cause,
-            }),
+            Err(fault) => Err(SourceFault::Refused(fault)),
         }
     }
 

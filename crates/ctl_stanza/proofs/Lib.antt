@@ -20,6 +20,7 @@ pub mod LawLemmas
 pub mod RecordLawLemmas
 pub mod BodyLemmas
 pub mod RunLemmas
+pub mod SlotLemmas
 pub mod OneListLemmas
 pub mod RecordRunLemmas
 pub mod ProvidesLemmas

@@ -3,7 +3,7 @@ use Rattle.std.proofs.Common.{not, ◌==◌, ◌||◌, slice_index, ⊎_elim, �
 use Rattle.std.proofs.lemmas.List.{map-append, append-nil, append_cancel_right, take_more, drop_more, length-take-le, length-drop, take-append-drop}
 use Rattle.std.proofs.Math.Seq.{take-append_seam, drop-append-add}
 use Rattle.std.proofs.lemmas.Bool.{cond-true, cond-false, cases_Bool, eqb-true}
-use Rattle.std.proofs.lemmas.List.Elements.{All-nil, All-push}
+use Rattle.std.proofs.lemmas.List.Elements.{All-push}
 use Rattle.std.specs.Bool.{⊤}
 use Rattle.std.specs.List.{position}
 use Rattle.ctl_stanza.specs.declared.fields.Field.{Field}
@@ -17,11 +17,9 @@ use Rattle.ctl_stanza.specs.Lines.{lines_of, onto_first, text_of_lines, is_blank
 use Rattle.ctl_stanza.specs.LineKind.{kind_of, kind_after_name, is_field_name_byte}
 use Rattle.ctl_stanza.specs.Fields.{value_of, continues, continued, field_at, fields_from, fields_of_lines}
 use Rattle.ctl_stanza.specs.Faults.{fault_or, cause_of, first_fault, or_else, whole_fault}
-use Rattle.ctl_stanza.specs.Content.{Content}
-use Rattle.ctl_stanza.specs.HeldStanza.{content_in_front}
 use Rattle.ctl_stanza.specs.declared.list_kind.ListKind.{ListKind}
 use Rattle.ctl_stanza.specs.HeldFields.{IsText, IsPlainAt, ArePlain, loose_bodies, IsReadFrom, AreWithin, AreBelow, StandsAt, shown_field, shown_fields}
-use Rattle.ctl_stanza.specs.Text.{is_gap, IsFirstPiece, piece, piece_fault, piece_content}
+use Rattle.ctl_stanza.specs.Text.{is_gap, IsFirstPiece, piece, piece_fault}
 use Rattle.ctl_stanza.specs.Quick.{IsUpTo, AreUpTo, end_behind, IsPlainField, AddsPlain, IsCutOff, IsAccepted}
 use Rattle.ctl_stanza.proofs.LineLemmas.{IsLine}
 use Rattle.ctl_stanza.proofs.PieceLemmas.{AreOther, AreSingle, StartsGap, pieces-run, other-push, single-push, are_lines}
@@ -206,21 +204,6 @@ pub record Reached (text left : List ℕ) (count : ℕ) (fields : List Field) : 
   pub below : AreBelow count fields
   pub plain : IsPlainFront (take count (lines_of text)) (lines_of left)
 
-pub reached-start : (text : List ℕ) (fields : List Field) → IsText text → fields ≡ [] → Reached text text 0 fields
-reached-start text fields is none = record {
-  is_text = is;
-  joined = refl;
-  left_is = refl;
-  size = omega arith;
-  good = refl;
-  other = _;
-  single = _;
-  told = ap (λ fs. shown_fields text fs ++ fields_of_lines (lines_of text)) none;
-  up_to = rw none (All-nil _);
-  below = rw none (All-nil _);
-  plain = _;
-}
-
 -- the place that is reached
 pub reached-at : (text left : List ℕ) (count : ℕ) (fields : List Field) → Reached text left count fields → (count + length left ≤ length text) × (length (text_of_lines (take count (lines_of text))) ≡ length text - length left)
 reached-at text left count fields is =
@@ -357,10 +340,3 @@ accepted-fault kind n text fields read stanza =
     let good : first_fault Never n [] (lines_of text) ≡ None = first_fault-none Never 0 n [] (lines_of text) (ap (λ t. first_fault Never 0 [] (lines_of t)) (sym whole) ∙ read.good_lines) in
     cond-false _ _ _ stanza ∙ ap (λ o. or_else o (whole_fault kind n (fields_of_lines (lines_of text)))) good
     ∙ ap (λ t. whole_fault kind n (fields_of_lines (lines_of t))) (sym whole) ∙ ap (whole_fault kind n) (sym read.fields_are.fields_are)
-
-pub accepted-content : (kind : ListKind) (text : List ℕ) (fields : List Field) (stanza : Content) → IsReadFrom text (length text) fields → is_gap (lines_of text) ≡ false
-    → stanza ≡ content_in_front kind (length text) text → stanza ∷ [] ≡ piece_content kind (lines_of text)
-accepted-content kind text fields stanza read is_stanza is =
-    let whole : take (length text) text ≡ text = take_all (length text) text (omega arith) in
-    let lines : take (length text) text ≡ text_of_lines (lines_of text) = read.is_text ∙ ap (λ t. text_of_lines (lines_of t)) whole in
-    ap (λ (x : Content). x ∷ []) (is ∙ ap (λ t. record { text = t; kind = kind }) lines) ∙ sym (cond-false _ _ _ is_stanza)

@@ -1,5 +1,5 @@
 -- A text that is read piece by piece.
-use Rattle.std.proofs.Common.{◌≡◌, ◌∙◌, ◌+◌, ◌-◌, ◌<◌, ◌++◌, ℕ, nat_eq, true, false, List, [], ◌∷◌, length, take, get_or, Result, Ok, Err, refl, sym, ap, arith, append_assoc, append-nil, ap₂, subst, ⊎_elim, ◌==◌, take_all, length-append}
+use Rattle.std.proofs.Common.{◌≡◌, ◌∙◌, ◌+◌, ◌-◌, ◌<◌, ◌++◌, ℕ, nat_eq, true, false, List, [], ◌∷◌, length, take, get_or, Result, Ok, Err, refl, sym, ap, arith, append_assoc, append-nil, ap₂, subst, ⊎_elim, ◌==◌, length-append}
 use Rattle.std.proofs.lemmas.Bool.{cases_Bool, eqb-true, eqb-false}
 use Rattle.std.proofs.lemmas.List.{take_more}
 use Rattle.ctl_stanza.specs.declared.list_kind.ListKind.{ListKind}
@@ -54,19 +54,6 @@ pub other_newline : (before text : List ℕ) (i : ℕ) → 0 < i → i < length 
 other_newline before text i some lt other =
     let place : i - 1 + 1 ≡ i = omega arith in
     other-byte (before ++ take i text) (before ++ take (i - 1) text) (get_or text (i - 1) 0) (ap (λ n. before ++ take n text) (sym place) ∙ byte-last before text (i - 1) (omega arith)) other
-
-pub no_newline-none : (before text : List ℕ) (i : ℕ) → i ≡ 0 → before ≡ [] → EndsWithNewline (before ++ take i text) → ⊥
-no_newline-none before text i first none ends =
-    let nothing : before ++ take i text ≡ [] = ap₂ (λ (b : List ℕ) n. b ++ take n text) none first in
-    omega (arith, ap length (sym nothing ∙ ends.whole), length-append ends.front (10 ∷ []))
-
-pub no_newline-last : (before text : List ℕ) (i : ℕ) → i ≡ 0 → 0 < length before → nat_eq (get_or before (length before - 1) 0) 10 ≡ false → EndsWithNewline (before ++ take i text) → ⊥
-no_newline-last before text i first some other =
-    let k = length before - 1 in
-    let place : k + 1 ≡ length before = omega (arith, some) in
-    let whole : before ++ take i text ≡ take k before ++ get_or before k 0 ∷ [] =
-    ap (λ n. before ++ take n text) first ∙ append-nil before ∙ sym (take_all (k + 1) before (omega (arith, place))) ∙ take_more before k 0 (omega (arith, place)) in
-    other-byte (before ++ take i text) (take k before) (get_or before k 0) whole other
 
 pub no_gap : (before text : List ℕ) (i : ℕ) → i < length text → (get_or text i 0 ≡ 10 → EndsWithNewline (before ++ take i text) → ⊥) → EndsWithGap (before ++ take (i + 1) text) → ⊥
 no_gap before text i lt other gap =

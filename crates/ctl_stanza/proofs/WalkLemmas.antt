@@ -6,7 +6,7 @@ use Rattle.std.proofs.lemmas.Bool.{cases_Bool, cases_lt, cond-true, cond-false}
 use Rattle.ctl_relation.specs.Bytes.{colon}
 use Rattle.ctl_stanza.specs.declared.line_kind.LineKind.{LineKind}
 use Rattle.ctl_stanza.specs.declared.line_kind.LineKind.TheVariants.{Blank, Field, Continuation, Faulty}
-use Rattle.ctl_stanza.specs.Lines.{lines_of, onto_first, text_of_lines, is_blank, is_blank_byte, begins_with_blank}
+use Rattle.ctl_stanza.specs.Lines.{lines_of, onto_first, text_of_lines, is_blank, is_blank_byte}
 use Rattle.ctl_stanza.specs.LineKind.{kind_of}
 use Rattle.ctl_stanza.specs.Content.{name_and_body}
 use Rattle.ctl_stanza.specs.Fields.{value_of, continues, continued, field_at, fields_from, body_named, is_same_name, names_field}
@@ -34,9 +34,6 @@ continued-first left line behind lines so =
     let is : continued (lines_of left) ≡ 10 ∷ (line ++ continued (lines_of behind)) = ap continued lines ∙ cond-true _ _ _ so in
     omega (arith, ap length is, length-append line (continued (lines_of behind)))
 
-pub continued-other : (left line behind : List ℕ) → lines_of left ≡ line ∷ lines_of behind → continues (kind_of line) ≡ false → length (continued (lines_of left)) ≡ 0
-continued-other left line behind lines other = ap (λ t. length (continued t)) lines ∙ ap length (cond-false _ _ _ other)
-
 pub continued-room : (text : List ℕ) → IsText text → length (continued (lines_of text)) ≤ length text
 continued-room text is = omega (arith, ap length is, continued-le (lines_of text))
 
@@ -54,15 +51,6 @@ no-first b line ls other =
 no-onto : (b : ℕ) (ls : List (List ℕ)) → is_blank_byte b ≡ false → continued (onto_first b ls) ≡ []
 no-onto b [] other = no-first b [] [] other
 no-onto b (l ∷ ls) other = no-first b l ls other
-
--- a text that begins with no blank begins with no such line
-pub continued-none : (text : List ℕ) → begins_with_blank text ≡ false → length (continued (lines_of text)) ≡ 0
-continued-none [] other = refl
-continued-none (b ∷ text) other = ⊎_elim
-    (λ (is : (b == 10) ≡ true). ap (λ ls. length (continued ls)) (cond-true _ ([] ∷ lines_of text) (onto_first b (lines_of text)) is))
-    (λ (no_newline : (b == 10) ≡ false).
-    ap (λ ls. length (continued ls)) (cond-false _ ([] ∷ lines_of text) (onto_first b (lines_of text)) no_newline) ∙ ap length (no-onto b (lines_of text) other))
-    (cases_Bool (b == 10))
 
 -- a value at the end of its line, and the lines that continue it, stand in one piece
 pub body-piece : (text line behind value : List ℕ) (more : ℕ) → text ≡ line ++ 10 ∷ behind → IsText behind → more ≡ length (continued (lines_of behind)) → length value ≤ length line

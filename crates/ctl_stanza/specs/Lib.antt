@@ -25,7 +25,9 @@ pub mod Records
 pub mod RecordLaws
 -- How the code holds what it has read. Not for callers.
 pub mod HeldFields
+pub mod Given
 pub mod HeldNames
+pub mod NameSlots
 pub mod Marks
 pub mod HeldStanza
 pub mod InParts

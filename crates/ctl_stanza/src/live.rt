@@ -18,19 +18,31 @@ use crate::marks::push_field;
 use ctl_relation::{FieldKind, RelationFault, Version, VersionFault, is_name, read_groups};
 use std::alloc::Global;
 
-/// The relation fields that were read: their marks, and room for the places of the one that is read.
+/// The relation fields of a stanza that were read: their marks, and room for the places of the one that is read. One stanza
+/// after another is read with the same, so that the room is asked for once.
 #[derive(Drop)]
 pub(crate) struct RelationMarks {
-    pub(crate) marks: Vec<u32>,
+    marks: Vec<u32>,
     starts: Vec<u32>,
     further: Vec<u32>,
 }
 
-/// The version and the relation fields of a live stanza.
+impl RelationMarks {
+    /// No room yet.
+    pub(crate) fn new(alloc: Global) -> RelationMarks {
+        RelationMarks {
+            marks: Vec::new(alloc),
+            starts: Vec::new(alloc),
+            further: Vec::new(alloc),
+        }
+    }
+}
+
+/// The version of a live stanza, and the marks of its relation fields.
 #[derive(Drop)]
 pub(crate) struct LiveParts {
     pub(crate) version: Option<Version>,
-    pub(crate) relations: RelationMarks,
+    pub(crate) marks: Vec<u32>,
 }
 
 // The relation field of a name, if it is the name of one.
@@ -101,15 +113,16 @@ fn read_field(
     alloc: Global,
     field: &Field,
     bytes: &[u8],
-    parts: &mut LiveParts,
+    version: &mut Option<Version>,
+    relations: &mut RelationMarks,
 ) -> Result<(), Cause>
     requires { IsFieldWithin bytes.now field.now }
     ensures good { OnOk result (field_cause true (shown bytes.now field.now.name) (shown bytes.now field.now.body) ≡ None) }
     ensures bad { IfErr result (TellsCause (field_cause true (shown bytes.now field.now.name) (shown bytes.now field.now.body))) }
     ensures version { OnOk result (
-        parts.new.version ≡ or_else parts.old.version (version_given (shown bytes.now field.now.name) (shown bytes.now field.now.body))) }
+        version.new ≡ or_else version.old (version_given (shown bytes.now field.now.name) (shown bytes.now field.now.body))) }
     ensures marks { OnOk result (Marks bytes.now (relation_kind (shown bytes.now field.now.name)) field.now.body
-        parts.old.relations.marks.items parts.new.relations.marks.items) }
+        relations.old.marks.items relations.new.marks.items) }
 {
     let name = field.name.of(bytes);
     if is_same_name(name, b"Package") {
@@ -120,12 +133,12 @@ fn read_field(
         };
     }
     if is_same_name(name, b"Version") {
-        return read_version(alloc, field.body.of(bytes), &mut parts.version);
+        return read_version(alloc, field.body.of(bytes), version);
     }
     let Some(kind) = relation_kind(name) else {
         return Ok(());
     };
-    match read_relations(bytes, field.body, kind, &mut parts.relations) {
+    match read_relations(bytes, field.body, kind, relations) {
         Ok(()) => Ok(()),
         Err(RelationFault::Memory) => Err(Cause::Memory),
         Err(_) => Err(Cause::Relation),
@@ -138,6 +151,7 @@ pub(crate) fn read_live(
     fields: &[Field],
     bytes: &[u8],
     first_line: u64,
+    relations: &mut RelationMarks,
 ) -> Result<LiveParts, TextFault>
     requires within { AreWithin bytes.now fields.now }
     requires lines { All (λ field. first_line + field.line < 2 ^ 64) fields.now }
@@ -145,19 +159,13 @@ pub(crate) fn read_live(
     ensures bad { IfErr result (Tells (first_wrong true first_line (shown_fields bytes.now fields.now))) }
     ensures memory { IfErr result IsMemoryAtZero }
     ensures version { IfOk result (λ parts. parts.version ≡ body_named version_name (shown_fields bytes.now fields.now)) }
-    ensures relations { IfOk result (λ parts. AreKept bytes.now (shown_fields bytes.now fields.now) parts.relations.marks.items) }
+    ensures relations { IfOk result (λ parts. AreKept bytes.now (shown_fields bytes.now fields.now) parts.marks.items) }
 {
-    let mut parts = LiveParts {
-        version: None,
-        relations: RelationMarks {
-            marks: Vec::new(alloc),
-            starts: Vec::new(alloc),
-            further: Vec::new(alloc),
-        },
-    };
+    relations.marks.clear();
+    let mut version: Option<Version> = None;
     for i in 0..fields.len() {
         let field = &fields[i];
-        match read_field(alloc, field, bytes, &mut parts) {
+        match read_field(alloc, field, bytes, &mut version, relations) {
             Ok(()) => {}
             Err(Cause::Memory) => {
                 return Err(TextFault::MEMORY);
@@ -170,6 +178,6 @@ pub(crate) fn read_live(
             }
         }
     }
-    parts.relations.marks.shrink_to_fit();
-    Ok(parts)
+    let marks = Vec::from_slice(alloc, &relations.marks)?;
+    Ok(LiveParts { version, marks })
 }

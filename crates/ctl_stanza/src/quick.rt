@@ -3,16 +3,16 @@
 ghost use Rattle.std.specs.Prelude.{◌≡◌, ◌+◌, ◌<◌, ◌≤◌, ◌^◌, true, length, IfOk, IfSome};
 ghost use Rattle.ctl_stanza.specs.Lines.{lines_of};
 ghost use Rattle.ctl_stanza.specs.LineKind.{kind_of, IfName};
-ghost use Rattle.ctl_stanza.specs.Fields.{continued};
 ghost use Rattle.ctl_stanza.specs.HeldFields.{IsText};
 ghost use Rattle.ctl_stanza.specs.HeldNames.{HasSeenNone};
 ghost use Rattle.ctl_stanza.specs.Quick.{IsPlainAnywhere, AddsAnywhere, IsCutOff, IsAccepted};
 
-use crate::fields::{Field, Span, continues, value_span};
+use crate::fields::{Field, Span, value_span};
 use crate::line_faults::{LinesSeen, line_cause};
 use crate::line_kind::{LineKind, kind_of};
-use crate::lines::{MAX_LINE, begins_with_blank, is_too_long, take_line};
+use crate::lines::{MAX_LINE, is_too_long, take_line};
 use crate::repeats::Repeats;
+use crate::walk::continued_up_to;
 use std::alloc::{AllocError, Global};
 
 /// The first stanza of a text, no line of which is faulty.
@@ -43,33 +43,6 @@ fn ends_with_newline(text: &[u8]) -> bool
     }
 }
 
-// The bytes of the continuation lines at the front of a text, each with the newline before it. None where they are more
-// than a body may have, so that those behind need not be looked through.
-fn continued_within_limit(text: &[u8]) -> Option<usize>
-    requires { IsText text.now }
-    ensures { IfSome result (λ len. len ≡ length (continued (lines_of text.now))) }
-{
-    let mut len: usize = 0;
-    let mut left = text;
-    'lines: loop {
-        // Most fields have no such line, and their next line need not be cut for this.
-        if !begins_with_blank(left) {
-            return Some(len);
-        }
-        let Some((line, behind)) = take_line(left) else {
-            return Some(len);
-        };
-        if !continues(line) {
-            return Some(len);
-        }
-        len += line.len() + 1;
-        if len > MAX_LINE {
-            return None;
-        }
-        left = behind;
-    }
-}
-
 // The field that a line begins, whose name has `n` bytes, where its body stands in one piece and ends below 2^32.
 fn plain_field(here: &LineHere, n: usize) -> Option<Field>
     requires name { n < length here.now.line.now }
@@ -80,7 +53,7 @@ fn plain_field(here: &LineHere, n: usize) -> Option<Field>
     ensures { IfSome result (IsPlainAnywhere here.now n) }
 {
     let value = value_span(here.line, n);
-    let Some(more) = continued_within_limit(here.behind) else {
+    let Some(more) = continued_up_to(here.behind, MAX_LINE) else {
         return None;
     };
     if more > 0 && (value.end as usize) < here.line.len() {

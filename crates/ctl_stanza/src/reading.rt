@@ -13,6 +13,7 @@ use crate::fields::Field;
 use crate::line_faults::{LinesSeen, first_fault};
 use crate::lines::{behind_empty_line, is_blank, take_line};
 use crate::list_kind::ListKind;
+use crate::live::RelationMarks;
 use crate::quick::{Accepted, accept_stanza};
 use crate::repeats::Repeats;
 use crate::stanza::{Stanza, StanzaBytes, read_stanza, stanza_of_fields};
@@ -85,30 +86,37 @@ fn read_piece(
     Ok(())
 }
 
+// Where a stanza begins: the number of its first line, and the kind of its list.
+#[derive(Clone, Copy)]
+struct StanzaStart {
+    line: u64,
+    kind: ListKind,
+}
+
 // Makes an accepted stanza of its fields, or tells what is wrong with it.
 fn stanza_of_accepted(
     alloc: Global,
     accepted: &Accepted,
     fields: &[Field],
-    first_line: u64,
-    kind: ListKind,
+    from: StanzaStart,
+    relations: &mut RelationMarks,
 ) -> Result<Stanza, TextFault>
-    requires lines { first_line + accepted.now.line_count < 2 ^ 64 }
+    requires lines { from.line + accepted.now.line_count < 2 ^ 64 }
     requires read { IsReadFrom accepted.now.text.now (length accepted.now.text.now) fields.now }
     requires below { AreBelow accepted.now.line_count fields.now }
     requires stanza { is_gap (lines_of accepted.now.text.now) ≡ false }
-    ensures stanza { IfOk result (λ stanza. stanza ∷ [] ≡ piece_content kind (lines_of accepted.now.text.now)) }
-    ensures whole { OnOk result (piece_fault kind (piece first_line (lines_of accepted.now.text.now)) ≡ None) }
-    ensures fault { IfErr result (Tells (piece_fault kind (piece first_line (lines_of accepted.now.text.now)))) }
+    ensures stanza { IfOk result (λ stanza. stanza ∷ [] ≡ piece_content from.kind (lines_of accepted.now.text.now)) }
+    ensures whole { OnOk result (piece_fault from.kind (piece from.line (lines_of accepted.now.text.now)) ≡ None) }
+    ensures fault { IfErr result (Tells (piece_fault from.kind (piece from.line (lines_of accepted.now.text.now)))) }
     ensures memory { IfErr result IsMemoryAtZero }
 {
     let bytes = Vec::from_slice(alloc, accepted.text)?;
     let held = StanzaBytes {
         bytes,
         text_len: accepted.text.len() as u32,
-        kind,
+        kind: from.kind,
     };
-    stanza_of_fields(alloc, held, fields, first_line)
+    stanza_of_fields(alloc, held, fields, from.line, relations)
 }
 
 /// Adds the stanzas of a control text whose lines count from `first_line`, and tells the number of the line behind it.
@@ -126,6 +134,7 @@ pub(crate) fn read_behind(
     ensures memory { IfErr result IsMemoryAtZero }
 {
     let mut seen = LinesSeen::new(alloc);
+    let mut relations = RelationMarks::new(alloc);
     let mut fields: Vec<Field> = Vec::new(alloc);
     let mut lines: Vec<&[u8]> = Vec::new(alloc);
     let mut left = text;
@@ -140,7 +149,8 @@ pub(crate) fn read_behind(
         // The names of a large stanza take more room than the stanza.
         seen.clear();
         if let Some(accepted) = found {
-            let stanza = stanza_of_accepted(alloc, &accepted, &fields, line, kind)?;
+            let from = StanzaStart { line, kind };
+            let stanza = stanza_of_accepted(alloc, &accepted, &fields, from, &mut relations)?;
             stanzas.push(stanza)?;
             line += accepted.line_count as u64;
             left = accepted.behind;

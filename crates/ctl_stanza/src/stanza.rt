@@ -17,7 +17,7 @@ use crate::fields::{Field, body_named, fields_of_lines};
 use crate::laws::whole_stanzas_are_sound;
 use crate::lines::text_of_lines;
 use crate::list_kind::ListKind;
-use crate::live::{LiveParts, read_live};
+use crate::live::{LiveParts, RelationMarks, read_live};
 use crate::marks::kept_groups;
 use crate::offers::offers_of;
 use crate::status::liveness;
@@ -115,6 +115,7 @@ fn live_stanza(
     held: StanzaBytes,
     fields: &[Field],
     first_line: u64,
+    relations: &mut RelationMarks,
 ) -> Result<Stanza, TextFault>
     requires lines { All (λ field. first_line + field.line < 2 ^ 64) fields.now }
     requires read { IsReadFrom held.bytes.items held.text_len fields.now }
@@ -125,11 +126,17 @@ fn live_stanza(
     ensures fault { IfErr result (Tells (whole_fault held.kind first_line (shown_fields held.bytes.items fields.now))) }
     ensures memory { IfErr result IsMemoryAtZero }
 {
-    let LiveParts { version, relations } = read_live(alloc, fields, &held.bytes, first_line)?;
+    let LiveParts { version, marks } = read_live(
+        alloc,
+        fields,
+        &held.bytes,
+        first_line,
+        relations,
+    )?;
     let package = body_named(fields, &held.bytes, b"Package").unwrap_or(&[]);
-    let provides = kept_groups(&relations.marks, &held.bytes, FieldKind::Provides);
+    let provides = kept_groups(&marks, &held.bytes, FieldKind::Provides);
     let offers = offers_of(alloc, package, version, provides)?;
-    Ok(stanza_of(held, fields, relations.marks, offers))
+    Ok(stanza_of(held, fields, marks, offers))
 }
 
 /// Makes the stanza of bytes at whose front its text stands, of which these are the fields, or tells what is wrong with it.
@@ -139,6 +146,7 @@ pub(crate) fn stanza_of_fields(
     held: StanzaBytes,
     fields: &[Field],
     first_line: u64,
+    relations: &mut RelationMarks,
 ) -> Result<Stanza, TextFault>
     requires lines { All (λ field. first_line + field.line < 2 ^ 64) fields.now }
     requires read { IsReadFrom held.bytes.items held.text_len fields.now }
@@ -155,7 +163,7 @@ pub(crate) fn stanza_of_fields(
         });
     }
     if live == Some(true) {
-        live_stanza(alloc, held, fields, first_line)
+        live_stanza(alloc, held, fields, first_line, relations)
     } else {
         other_stanza(alloc, held, fields, first_line)
     }
@@ -188,7 +196,8 @@ pub(crate) fn read_stanza(
         text_len,
         kind,
     };
-    stanza_of_fields(alloc, held, &fields, first_line)
+    let mut relations = RelationMarks::new(alloc);
+    stanza_of_fields(alloc, held, &fields, first_line, &mut relations)
 }
 
 impl Stanza {

@@ -21,26 +21,42 @@ pub(crate) struct Taken<'a> {
     pub(crate) loose: &'a [u8],
 }
 
-/// The bytes of the continuation lines at the front of a text, each with the newline before it.
-pub(crate) fn continued_behind(text: &[u8]) -> usize
+/// The bytes of the continuation lines at the front of a text, each with the newline before it. None where they are more
+/// than a limit, so that those behind need not be looked through.
+pub(crate) fn continued_up_to(text: &[u8], limit: usize) -> Option<usize>
     requires { IsText text.now }
-    ensures { result ≡ length (continued (lines_of text.now)) }
+    ensures len { IfSome result (λ len. len ≡ length (continued (lines_of text.now))) }
+    ensures more { IfNone result (limit < length (continued (lines_of text.now))) }
 {
     let mut len: usize = 0;
     let mut left = text;
     'lines: loop {
         // Most fields have no such line, and their next line need not be cut for this.
         if !begins_with_blank(left) {
-            return len;
+            return Some(len);
         }
         let Some((line, behind)) = take_line(left) else {
-            return len;
+            return Some(len);
         };
         if !continues(line) {
-            return len;
+            return Some(len);
         }
         len += line.len() + 1;
+        if len > limit {
+            return None;
+        }
         left = behind;
+    }
+}
+
+// The bytes of the continuation lines at the front of a text, each with the newline before it.
+fn continued_behind(text: &[u8]) -> usize
+    requires { IsText text.now }
+    ensures { result ≡ length (continued (lines_of text.now)) }
+{
+    match continued_up_to(text, usize::MAX) {
+        Some(len) => len,
+        None => unreachable!("a text has no more bytes"),
     }
 }
 

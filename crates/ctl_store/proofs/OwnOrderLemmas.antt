@@ -1,23 +1,21 @@
 -- The order of pin settings by their packages, while one is set or taken out.
-use Rattle.std.proofs.Common.{◌≡◌, ℕ, zero, suc, ◌<◌, Bool, true, false, cond, List, [], ◌∷◌, ◌++◌, length, get_or, Vec, Some, None, option_map, refl, ap, sym, ◌∙◌, arith}
+use Rattle.std.proofs.Common.{◌≡◌, ℕ, ℤ, suc, ◌+◌, ◌<◌, ◌≤◌, Bool, true, false, cond, List, [], ◌∷◌, ◌++◌, length, map, Option, Some, None, option_map, refl, ap, sym, subst, ◌∙◌, arith}
 use Rattle.std.specs.List.{insert, remove}
+use Rattle.std.specs.Map.{lookup}
 use Rattle.std.specs.Ordering.{is_eq, ordering_reverse}
 use Rattle.std.specs.declared.cmp.Ordering.{Ordering}
 use Rattle.std.specs.declared.cmp.Ordering.TheVariants.{Less, Equal, Greater}
+use Rattle.ctl_ordered.specs.Ordered.{without_serials, set_row, cut_row, row_serial}
 use Rattle.ctl_store.specs.declared.selector.Selector.{Selector}
 use Rattle.ctl_store.specs.declared.selector.Selector.TheVariants.{Version, Release}
-use Rattle.ctl_store.specs.declared.selector.PinSetting.{PinSetting}
-use Rattle.ctl_store.specs.Rows.{Rises, replace_at}
-use Rattle.ctl_store.specs.HeldRanks.{Label, label_cmp, labels_of, sorted_labels, labels_below, ranked_serials, has_label, label_place, selector_label, setting_row, IsRanked}
-use Rattle.ctl_store.specs.declared.pieces.Spot.{Spot}
-use Rattle.ctl_store.specs.HeldPieces.{joined, stands_at, place_of_spot, IsSpot, IsSpotOrEnd, HasRoomFor, IsFit}
-use Rattle.ctl_store.specs.HeldPins.{own_label, own_row, own_room, AreByPackage}
-use Rattle.ctl_store.proofs.PlaceLemmas.{Rises-from, Rises-end, place_within, place_passes}
-use Rattle.ctl_store.proofs.PointLemmas.{stands_end}
-use Rattle.ctl_store.proofs.RankLemmas.{label_total}
-use Rattle.ctl_store.proofs.RankedLemmas.{below_there, ranked_replace, ranked_push, ranked_remove}
-use Rattle.ctl_store.proofs.TableLemmas.{exact_labels}
-use Rattle.ctl_store.proofs.SettingLemmas.{setting_test, exact_selectors}
+use Rattle.ctl_store.specs.Pins.{selector_eq}
+use Rattle.ctl_store.specs.SelectorLaws.{label_total, selector_eq-Decides}
+use Rattle.ctl_store.specs.Rows.{Rises}
+use Rattle.ctl_store.specs.HeldRanks.{Label, label_cmp, labels_of, sorted_labels, labels_below, label_place, IsRanked}
+use Rattle.ctl_store.specs.HeldPins.{own_label, own_row}
+use Rattle.ctl_store.proofs.PlaceLemmas.{some_is, Rises-end}
+use Rattle.ctl_store.proofs.RankedLemmas.{below_there, ranked_push, ranked_remove}
+use Rattle.ctl_store.proofs.LabelLemmas.{exact_labels}
 
 -- ---- labels that differ by their serials
 
@@ -44,65 +42,122 @@ rank_is n (Release (Some name) list) = refl
 other_serial : (n m : ℕ) (s t : Selector) → n < m → is_eq (label_cmp (own_label n s) (own_label m t)) ≡ false
 other_serial n m s t l = other_label (own_label n s) (own_label m t) (λ e. omega (arith, l, rank_is n s, rank_is m t, e))
 
--- a serial that was not given is of no row
-fresh : (x : PinSetting) (n : ℕ) (rows : List (ℕ × PinSetting)) (m : ℕ) → Rises n rows m → label_place own_row (own_row (m, x)) rows ≡ None
-fresh x n [] m h = refl
-fresh x n (r ∷ rows) m h =
-    ap (λ b. cond b (Some 0) (option_map (λ k. suc k) (label_place own_row (own_row (m, x)) rows))) (other_serial r.0 m r.1.selector x.selector (omega (arith, Rises-end (suc r.0) rows m h.1)))
-    ∙ ap (option_map (λ k. suc k)) (fresh x (suc r.0) rows m h.1)
+abbrev Row : Type 0
+Row = ℕ × (Selector × ℤ)
 
--- each row is the first of its label
-own_place : (n : ℕ) (rows : List (ℕ × PinSetting)) (m i : ℕ) (d : ℕ × PinSetting) → Rises n rows m → i < length rows → label_place own_row (own_row (get_or rows i d)) rows ≡ Some i
-own_place n [] m i d h l = absurd (omega arith)
-own_place n (r ∷ rows) m zero d h l = ap (λ b. cond b (Some 0) (option_map (λ k. suc k) (label_place own_row (own_row r) rows))) (same_label (own_row r))
-own_place n (r ∷ rows) m (suc i) d h l =
-    ap (λ b. cond b (Some 0) (option_map (λ k. suc k) (label_place own_row (own_row (get_or rows i d)) rows)))
-    (other_serial r.0 (get_or rows i d).0 r.1.selector (get_or rows i d).1.selector (omega (arith, Rises-from (suc r.0) rows m i d h.1 (omega arith))))
-    ∙ ap (option_map (λ k. suc k)) (own_place (suc r.0) rows m i d h.1 (omega arith))
+-- a serial that was not given is of no row
+fresh : (s : Selector) (n : ℕ) (rows : List Row) (m : ℕ) → Rises n rows m → label_place own_row (own_label m s) rows ≡ None
+fresh s n [] m h = refl
+fresh s n (r ∷ rows) m h =
+    ap (λ b. cond b (Some 0) (option_map (λ k. suc k) (label_place own_row (own_label m s) rows))) (other_serial r.0 m r.1.0 s (omega (arith, Rises-end (suc r.0) rows m h.1)))
+    ∙ ap (option_map (λ k. suc k)) (fresh s (suc r.0) rows m h.1)
+
+serial_least : (test : Selector → Bool) (n : ℕ) (rows : List Row) (m serial : ℕ) → Rises n rows m → row_serial test rows ≡ Some serial → n ≤ serial
+serial_least test n [] m serial h e = cc
+serial_least test n (r ∷ rows) m serial h e = by (test r.1.0) e (serial_least test (suc r.0) rows m serial h.1)
+  where
+    by : (b : Bool) → cond b (Some r.0) (row_serial test rows) ≡ Some serial → (row_serial test rows ≡ Some serial → suc r.0 ≤ serial) → n ≤ serial
+    by true e rest = omega (arith, h.0, some_is e)
+    by false e rest = omega (arith, h.0, rest e)
+
+-- the row of a selector is the first of its label, and it is the one that is cut
+abbrev IsCutAt : Selector → ℕ → List Row → Type 0
+IsCutAt s serial rows = (i : ℕ) × (label_place own_row (own_label serial s) rows ≡ Some i) × (cut_row (selector_eq s) rows ≡ remove rows i)
+
+cut_at : (s : Selector) (serial n : ℕ) (rows : List Row) (m : ℕ) → Rises n rows m → row_serial (selector_eq s) rows ≡ Some serial → IsCutAt s serial rows
+cut_at s serial n [] m h e = cc
+cut_at s serial n (r ∷ rows) m h e = by (selector_eq s r.1.0) refl e (cut_at s serial (suc r.0) rows m h.1)
+  where
+    place : Option ℕ
+    place = option_map (λ k. suc k) (label_place own_row (own_label serial s) rows)
+
+    by : (b : Bool) → selector_eq s r.1.0 ≡ b → cond b (Some r.0) (row_serial (selector_eq s) rows) ≡ Some serial → (row_serial (selector_eq s) rows ≡ Some serial → IsCutAt s serial rows)
+        → (i : ℕ) × (label_place own_row (own_label serial s) (r ∷ rows) ≡ Some i) × (cond b rows (r ∷ cut_row (selector_eq s) rows) ≡ remove (r ∷ rows) i)
+    by true is e rest =
+        let same = sym ((selector_eq-Decides s r.1.0).0 is) in (
+          0,
+          ap (λ b. cond b (Some 0) place) ((λ j. is_eq (label_cmp (own_label (some_is e j) (same j)) (own_label serial s))) ∙ same_label (own_label serial s)),
+          refl,
+        )
+    by false is e rest =
+        let cut = rest e in
+        let less : r.0 < serial = omega (arith, serial_least (selector_eq s) (suc r.0) rows m serial h.1 e) in (
+          suc cut.0,
+          ap (λ b. cond b (Some 0) place) (other_serial r.0 serial r.1.0 s less) ∙ ap (option_map (λ k. suc k)) cut.1,
+          ap (λ l. r ∷ l) cut.2,
+        )
+
+no_cut : (test : Selector → Bool) (rows : List Row) → row_serial test rows ≡ None → cut_row test rows ≡ rows
+no_cut test [] e = refl
+no_cut test (r ∷ rows) e = by (test r.1.0) e (no_cut test rows)
+  where
+    by : (b : Bool) → cond b (Some r.0) (row_serial test rows) ≡ None → (row_serial test rows ≡ None → cut_row test rows ≡ rows) → cond b rows (r ∷ cut_row test rows) ≡ r ∷ rows
+    by true e rest = cc
+    by false e rest = ap (λ l. r ∷ l) (rest e)
+
+-- a selector that has a row has a priority, and no other has one
+pub value_there : (test : Selector → Bool) (serial : ℕ) (rows : List Row) → row_serial test rows ≡ Some serial → (w : ℤ) × (lookup test (without_serials rows) ≡ Some w)
+value_there test serial [] e = cc
+value_there test serial (r ∷ rows) e = by (test r.1.0) e (value_there test serial rows)
+  where
+    by : (b : Bool) → cond b (Some r.0) (row_serial test rows) ≡ Some serial → (row_serial test rows ≡ Some serial → (w : ℤ) × (lookup test (without_serials rows) ≡ Some w))
+        → (w : ℤ) × (cond b (Some r.1.1) (lookup test (without_serials rows)) ≡ Some w)
+    by true e rest = (r.1.1, refl)
+    by false e rest = rest e
+
+pub value_nowhere : (test : Selector → Bool) (rows : List Row) → row_serial test rows ≡ None → lookup test (without_serials rows) ≡ None
+value_nowhere test [] e = refl
+value_nowhere test (r ∷ rows) e = by (test r.1.0) e (value_nowhere test rows)
+  where
+    by : (b : Bool) → cond b (Some r.0) (row_serial test rows) ≡ None → (row_serial test rows ≡ None → lookup test (without_serials rows) ≡ None) → cond b (Some r.1.1) (lookup test (without_serials rows)) ≡ None
+    by true e rest = cc
+    by false e rest = rest e
+
+-- another priority changes neither the labels nor the serials
+set_labels : (test : Selector → Bool) (w : ℤ) (rows : List Row) → labels_of own_row (set_row test rows w) ≡ labels_of own_row rows
+set_labels test w [] = refl
+set_labels test w (r ∷ rows) = by (test r.1.0) (set_labels test w rows)
+  where
+    by : (b : Bool) → labels_of own_row (set_row test rows w) ≡ labels_of own_row rows → labels_of own_row (cond b ((r.0, (r.1.0, w)) ∷ rows) (r ∷ set_row test rows w)) ≡ labels_of own_row (r ∷ rows)
+    by true rest = refl
+    by false rest = ap (λ l. (r.0, own_row r) ∷ l) rest
+
+set_rises : (test : Selector → Bool) (w : ℤ) (n : ℕ) (rows : List Row) (m : ℕ) → Rises n rows m → Rises n (set_row test rows w) m
+set_rises test w n [] m h = h
+set_rises test w n (r ∷ rows) m h = by (test r.1.0) (set_rises test w (suc r.0) rows m h.1)
+  where
+    by : (b : Bool) → Rises (suc r.0) (set_row test rows w) m → Rises n (cond b ((r.0, (r.1.0, w)) ∷ rows) (r ∷ set_row test rows w)) m
+    by true rest = h
+    by false rest = (h.0, rest)
 
 -- ---- the order after a change
 
-module _ (rows : List (ℕ × PinSetting)) (next : ℕ) (order : List ℕ) (kept : IsRanked own_row rows next order) where
+module _ (rows : List Row) (next : ℕ) (order : List ℕ) (kept : IsRanked own_row rows next order) where
   abbrev below : Label → ℕ
   below q = labels_below q (sorted_labels (labels_of own_row rows))
 
   -- a setting of a selector that is there stays where it is
-  pub own_replace : (x : PinSetting) (i : ℕ) → label_place setting_row (selector_label x.selector) rows ≡ Some i → order ≡ ranked_serials own_row (replace_at rows i x)
-  own_replace x i e = (ranked_replace own_row rows next order kept x i (place_within (has_label setting_row (selector_label x.selector)) rows i e) same).ordered
-    where
-      same : (d : ℕ × PinSetting) → own_row (get_or rows i d) ≡ own_row ((get_or rows i d).0, x)
-      same d =
-          let there = place_passes (has_label setting_row (selector_label x.selector)) rows i d e in
-          ap (own_label (get_or rows i d).0) (sym (exact_selectors x.selector (get_or rows i d).1.selector (sym (setting_test x.selector (get_or rows i d)) ∙ there)))
+  pub own_set : (test : Selector → Bool) (w : ℤ) → IsRanked own_row (set_row test rows w) next order
+  own_set test w = record {
+    rises = set_rises test w 0 rows next kept.rises;
+    ordered = kept.ordered ∙ ap (λ xs. map (λ (y : ℕ × Label). y.0) (sorted_labels xs)) (sym (set_labels test w rows));
+  }
 
   -- another goes to the end of those of its package
-  pub own_push : (x : PinSetting) (at : ℕ) → at ≡ below (own_row (next, x)) → insert order at next ≡ ranked_serials own_row (rows ++ (next, x) ∷ [])
-  own_push x at e = ap (λ k. insert order k next) e ∙ (ranked_push own_row rows next order kept x (fresh x 0 rows next kept.rises)).ordered
+  pub own_push : (x : Selector × ℤ) (at : ℕ) → at ≡ below (own_label next x.0) → IsRanked own_row (rows ++ (next, x) ∷ []) (next + 1) (insert order at next)
+  own_push x at e = subst (λ k. IsRanked own_row (rows ++ (next, x) ∷ []) (next + 1) (insert order k next)) (sym e) (ranked_push own_row rows next order kept x (fresh x.0 0 rows next kept.rises))
 
-  pub own_remove_at : (i at : ℕ) (row : ℕ × PinSetting) → i < length rows → ((d : ℕ × PinSetting) → get_or rows i d ≡ row) → at ≡ below (own_row row) → remove order at ≡ ranked_serials own_row (remove rows i)
-  own_remove_at i at row l is e =
-      ap (remove order) e
-      ∙ (ranked_remove own_row rows next order kept (own_row row) i (ap (λ (r : ℕ × PinSetting). label_place own_row (own_row r) rows) (sym (is row)) ∙ own_place 0 rows next i row kept.rises l)).ordered
+  module _ (s : Selector) where
+    pub own_none : row_serial (selector_eq s) rows ≡ None → IsRanked own_row (cut_row (selector_eq s) rows) next order
+    own_none e = subst (λ l. IsRanked own_row l next order) (sym (no_cut (selector_eq s) rows e)) kept
 
-  -- a row that is there is in the order
-  own_there : (i : ℕ) (row : ℕ × PinSetting) → i < length rows → ((d : ℕ × PinSetting) → get_or rows i d ≡ row) → below (own_row row) < length order
-  own_there i row l is = below_there own_row rows next order kept (own_row row) i (ap (λ (r : ℕ × PinSetting). label_place own_row (own_row r) rows) (sym (is row)) ∙ own_place 0 rows next i row kept.rises l)
+    module _ (serial : ℕ) (there : row_serial (selector_eq s) rows ≡ Some serial) where
+      -- a setting that is there is in the order
+      pub own_within : below (own_label serial s) < length order
+      own_within = let cut = cut_at s serial 0 rows next kept.rises there in below_there own_row rows next order kept (own_label serial s) cut.0 cut.1
 
-  pub own_spot : {A : Type 0} (i : ℕ) (row : ℕ × PinSetting) (ps : List (Vec ℕ A)) (spot : Spot) → i < length rows → ((d : ℕ × PinSetting) → get_or rows i d ≡ row) → joined ps ≡ order → IsSpotOrEnd ps spot → place_of_spot ps spot ≡ below (own_row row) → IsSpot ps spot
-  own_spot i row ps spot l is same within at = within.item (omega (arith, within.piece, not_end))
-    where
-      there : below (own_row row) < length order
-      there = own_there i row l is
-
-      not_end : spot.piece ≡ length ps → ⊥
-      not_end e =
-          let end : place_of_spot ps spot ≡ stands_at ps (length ps) 0 = λ j. stands_at ps (e j) (within.end e j) in
-          absurd (omega (arith, at, end, stands_end ps 0, ap length same, there))
-
--- a room for one serial
-pub own_has_room : {A B : Type 0} (order ready : Vec (Vec ℕ A) B) → 0 < own_room order ready → HasRoomFor (length (joined order.items)) ready
-own_has_room order ready l = omega (arith, l)
-
--- the same order with another room
-pub own_same : {A B : Type 0} (rows rows' : List (ℕ × PinSetting)) (order ready order' ready' : Vec (Vec ℕ A) B) → AreByPackage rows order ready → rows' ≡ rows → order'.items ≡ order.items → IsFit order' ready' → AreByPackage rows' order' ready'
-own_same rows rows' order ready order' ready' h e f fit = record { ordered = ap joined f ∙ h.ordered ∙ ap (ranked_serials own_row) (sym e); fit = fit }
+      pub own_cut : (at : ℕ) → at ≡ below (own_label serial s) → IsRanked own_row (cut_row (selector_eq s) rows) next (remove order at)
+      own_cut at e =
+          let cut = cut_at s serial 0 rows next kept.rises there in
+          subst (λ l. IsRanked own_row l next (remove order at)) (sym cut.2)
+          (subst (λ k. IsRanked own_row (remove rows cut.0) next (remove order k)) (sym e) (ranked_remove own_row rows next order kept (own_label serial s) cut.0 cut.1))

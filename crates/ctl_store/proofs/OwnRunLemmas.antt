@@ -1,5 +1,5 @@
 -- The settings of one package stand together in the order of packages, in the order in which they were set.
-use Rattle.std.proofs.Common.{◌≡◌, ℕ, zero, suc, ◌+◌, ◌<◌, ◌≤◌, Bool, true, false, ◌&&◌, cond, nat_eq, List, [], ◌∷◌, ◌++◌, length, map, filter, drop, get_or, Vec, Option, Some, None, refl, ap, sym, ◌∙◌, arith}
+use Rattle.std.proofs.Common.{◌≡◌, ℕ, ℤ, zero, suc, ◌<◌, ◌≤◌, Bool, true, false, ◌&&◌, cond, nat_eq, List, [], ◌∷◌, map, filter, drop, Option, Some, None, refl, ap, sym, ◌∙◌, arith}
 use Rattle.std.specs.List.{AllByRecursion}
 use Rattle.std.specs.Map.{lookup}
 use Rattle.std.specs.Option.{option_map_or}
@@ -11,20 +11,17 @@ use Rattle.std.specs.declared.cmp.Ordering.{Ordering}
 use Rattle.std.specs.declared.cmp.Ordering.TheVariants.{Less, Equal, Greater}
 use Rattle.std.proofs.lemmas.Map.Text.{is_eq-slice_cmp}
 use Rattle.std.proofs.lemmas.Slice.Eq.{bytes_eq-Decides}
-use Rattle.std.proofs.lemmas.List.{drop-map, drop-append-le}
-use Rattle.std.proofs.Math.Seq.{drop-append-add}
+use Rattle.std.proofs.lemmas.List.{drop-map}
+use Rattle.ctl_ordered.specs.Ordered.{without_serials}
 use Rattle.ctl_store.specs.declared.selector.Selector.{Selector}
 use Rattle.ctl_store.specs.declared.selector.Selector.TheVariants.{Version, Release}
-use Rattle.ctl_store.specs.declared.selector.PinSetting.{PinSetting}
-use Rattle.ctl_store.specs.Pins.{settings_of, is_of, own_settings}
+use Rattle.ctl_store.specs.Pins.{is_of, own_settings}
 use Rattle.ctl_store.specs.Rows.{Rises}
-use Rattle.ctl_store.specs.HeldPieces.{joined, stands_at}
-use Rattle.ctl_store.specs.HeldRanks.{Label, label_cmp, insert_label, labels_of, sorted_labels, labels_below, ranked_serials, items_of}
+use Rattle.ctl_store.specs.HeldRanks.{Label, label_cmp, insert_label, labels_of, sorted_labels, labels_below, ranked_serials}
 use Rattle.ctl_store.specs.HeldPins.{own_label, own_row, own_start, own_one, own_run}
-use Rattle.ctl_store.proofs.PiecesLemmas.{plus_one, stands_next}
-use Rattle.ctl_store.proofs.PlaceLemmas.{eq_is, lt_ne, is_eq_from}
+use Rattle.ctl_store.proofs.PlaceLemmas.{eq_is, gt_ne, is_eq_from}
 use Rattle.ctl_store.proofs.RankLemmas.{g, up, lt_back, all_map, all_sorted, in_order, IsInOrder}
-use Rattle.ctl_store.proofs.TableLemmas.{same_numbers}
+use Rattle.ctl_store.proofs.LabelLemmas.{same_numbers}
 
 -- ---- labels of one package
 
@@ -170,9 +167,9 @@ before_later q n m s t l d e =
 abbrev IsNotAfter : List ℕ → ℕ × Label → ℕ × Label → Type 0
 IsNotAfter q x y = is_own q x ≡ true → is_own q y ≡ true → g x.1 y.1 ≡ false
 
-all_later : (q : List ℕ) (r : ℕ × PinSetting) (n : ℕ) (rows : List (ℕ × PinSetting)) (m : ℕ) → r.0 < n → Rises n rows m → AllByRecursion (IsNotAfter q (r.0, own_row r)) (labels_of own_row rows)
+all_later : (q : List ℕ) (r : ℕ × (Selector × ℤ)) (n : ℕ) (rows : List (ℕ × (Selector × ℤ))) (m : ℕ) → r.0 < n → Rises n rows m → AllByRecursion (IsNotAfter q (r.0, own_row r)) (labels_of own_row rows)
 all_later q r n [] m l h = tt
-all_later q r n (s ∷ rows) m l h = (before_later q r.0 s.0 r.1.selector s.1.selector (omega (arith, l, h.0)), all_later q r (suc s.0) rows m (omega (arith, l, h.0)) h.1)
+all_later q r n (s ∷ rows) m l h = (before_later q r.0 s.0 r.1.0 s.1.0 (omega (arith, l, h.0)), all_later q r (suc s.0) rows m (omega (arith, l, h.0)) h.1)
 
 filter-insert : (q : List ℕ) (x : ℕ × Label) (ys : List (ℕ × Label)) → AllByRecursion (IsNotAfter q x) ys → filter (is_own q) (insert_label x ys) ≡ filter (is_own q) (x ∷ ys)
 filter-insert q x [] h = refl
@@ -191,7 +188,7 @@ filter-insert q x (y ∷ ys) h = by (g x.1 y.1) refl (filter-insert q x ys h.1)
     by true e same = ap (λ l. cond (is_own q y) (y ∷ l) l) same ∙ turn (is_own q x) (is_own q y) (λ a b. sym e ∙ h.0 a b)
     by false e same = refl
 
-filter-sorted : (q : List ℕ) (n : ℕ) (rows : List (ℕ × PinSetting)) (m : ℕ) → Rises n rows m → filter (is_own q) (sorted_labels (labels_of own_row rows)) ≡ filter (is_own q) (labels_of own_row rows)
+filter-sorted : (q : List ℕ) (n : ℕ) (rows : List (ℕ × (Selector × ℤ))) (m : ℕ) → Rises n rows m → filter (is_own q) (sorted_labels (labels_of own_row rows)) ≡ filter (is_own q) (labels_of own_row rows)
 filter-sorted q n [] m h = refl
 filter-sorted q n (r ∷ rows) m h =
     filter-insert q (r.0, own_row r) (sorted_labels (labels_of own_row rows)) (all_sorted (IsNotAfter q (r.0, own_row r)) (labels_of own_row rows) (all_later q r (suc r.0) rows m (omega arith) h.1))
@@ -199,70 +196,70 @@ filter-sorted q n (r ∷ rows) m h =
 
 -- ---- the settings of their serials
 
-all_from : (n : ℕ) (rows : List (ℕ × PinSetting)) (m : ℕ) → Rises n rows m → AllByRecursion (λ (r : ℕ × PinSetting). n ≤ r.0) rows
+all_from : (n : ℕ) (rows : List (ℕ × (Selector × ℤ))) (m : ℕ) → Rises n rows m → AllByRecursion (λ (r : ℕ × (Selector × ℤ)). n ≤ r.0) rows
 all_from n [] m h = tt
 all_from n (r ∷ rows) m h = (h.0, all_map (λ s k. omega (arith, h.0, k)) rows (all_from (suc r.0) rows m h.1))
 
-all_zip : {P Q R : ℕ × PinSetting → Type 0} → ((r : ℕ × PinSetting) → P r → Q r → R r) → (rows : List (ℕ × PinSetting)) → AllByRecursion P rows → AllByRecursion Q rows → AllByRecursion R rows
+all_zip : {P Q R : ℕ × (Selector × ℤ) → Type 0} → ((r : ℕ × (Selector × ℤ)) → P r → Q r → R r) → (rows : List (ℕ × (Selector × ℤ))) → AllByRecursion P rows → AllByRecursion Q rows → AllByRecursion R rows
 all_zip f [] h k = tt
 all_zip f (r ∷ rows) h k = (f r h.0 k.0, all_zip f rows h.1 k.1)
 
-abbrev IsFound : List (ℕ × PinSetting) → ℕ × PinSetting → Type 0
-IsFound rows r = lookup (λ k. nat_eq k r.0) rows ≡ Some r.1
+abbrev IsFound : List (ℕ × (Selector × ℤ)) → ℕ × (Selector × ℤ) → Type 0
+IsFound rows r = lookup (nat_eq r.0) rows ≡ Some r.1
 
-all_found : (n : ℕ) (rows : List (ℕ × PinSetting)) (m : ℕ) → Rises n rows m → AllByRecursion (IsFound rows) rows
+all_found : (n : ℕ) (rows : List (ℕ × (Selector × ℤ))) (m : ℕ) → Rises n rows m → AllByRecursion (IsFound rows) rows
 all_found n [] m h = tt
 all_found n (r ∷ rows) m h = (
-  ap (λ b. cond b (Some r.1) (lookup (λ k. nat_eq k r.0) rows)) (eq_is r.0 r.0 refl),
-  all_zip (λ s k e. ap (λ b. cond b (Some r.1) (lookup (λ k. nat_eq k s.0) rows)) (lt_ne r.0 s.0 (omega (arith, k))) ∙ e) rows (all_from (suc r.0) rows m h.1) (all_found (suc r.0) rows m h.1),
+  ap (λ b. cond b (Some r.1) (lookup (nat_eq r.0) rows)) (eq_is r.0 r.0 refl),
+  all_zip (λ s k e. ap (λ b. cond b (Some r.1) (lookup (nat_eq s.0) rows)) (gt_ne s.0 r.0 (omega (arith, k))) ∙ e) rows (all_from (suc r.0) rows m h.1) (all_found (suc r.0) rows m h.1),
 )
 
 -- a label of a serial whose setting is there
-abbrev HasSetting : List ℕ → List (ℕ × PinSetting) → ℕ × Label → Type 0
-HasSetting q rows y = (x : PinSetting) × (lookup (λ k. nat_eq k y.0) rows ≡ Some x) × (is_of q x.selector ≡ is_own q y)
+abbrev HasSetting : List ℕ → List (ℕ × (Selector × ℤ)) → ℕ × Label → Type 0
+HasSetting q rows y = (x : Selector × ℤ) × (lookup (nat_eq y.0) rows ≡ Some x) × (is_of q x.0 ≡ is_own q y)
 
-all_have : (q : List ℕ) (all rows : List (ℕ × PinSetting)) → AllByRecursion (IsFound all) rows → AllByRecursion (HasSetting q all) (labels_of own_row rows)
+all_have : (q : List ℕ) (all rows : List (ℕ × (Selector × ℤ))) → AllByRecursion (IsFound all) rows → AllByRecursion (HasSetting q all) (labels_of own_row rows)
 all_have q all [] h = tt
-all_have q all (r ∷ rows) h = ((r.1, h.0, sym (own_is q r.0 r.1.selector)), all_have q all rows h.1)
+all_have q all (r ∷ rows) h = ((r.1, h.0, sym (own_is q r.0 r.1.0)), all_have q all rows h.1)
 
-abbrev picked : List (ℕ × PinSetting) → List (ℕ × Label) → List PinSetting
+abbrev picked : List (ℕ × (Selector × ℤ)) → List (ℕ × Label) → List (Selector × ℤ)
 picked rows [] = []
-picked rows (y ∷ ys) = option_map_or (λ (x : PinSetting). x ∷ picked rows ys) (lookup (λ k. nat_eq k y.0) rows) (picked rows ys)
+picked rows (y ∷ ys) = option_map_or (λ (x : Selector × ℤ). x ∷ picked rows ys) (lookup (nat_eq y.0) rows) (picked rows ys)
 
-run_picks : (q : List ℕ) (rows : List (ℕ × PinSetting)) (ys : List (ℕ × Label)) → AllByRecursion (HasSetting q rows) ys → own_run q rows (map (λ (y : ℕ × Label). y.0) ys) ≡ picked rows (front (is_own q) ys)
+run_picks : (q : List ℕ) (rows : List (ℕ × (Selector × ℤ))) (ys : List (ℕ × Label)) → AllByRecursion (HasSetting q rows) ys → own_run q rows (map (λ (y : ℕ × Label). y.0) ys) ≡ picked rows (front (is_own q) ys)
 run_picks q rows [] h = refl
 run_picks q rows (y ∷ ys) h =
-    ap (λ o. option_map_or (λ (x : PinSetting). x ∷ own_run q rows (map (λ (y : ℕ × Label). y.0) ys)) (own_one q o) []) h.0.1
-    ∙ ap (λ b. option_map_or (λ (x : PinSetting). x ∷ own_run q rows (map (λ (y : ℕ × Label). y.0) ys)) (cond {A = Option PinSetting} b (Some h.0.0) None) []) h.0.2
+    ap (λ o. option_map_or (λ (x : Selector × ℤ). x ∷ own_run q rows (map (λ (y : ℕ × Label). y.0) ys)) (own_one q o) []) h.0.1
+    ∙ ap (λ b. option_map_or (λ (x : Selector × ℤ). x ∷ own_run q rows (map (λ (y : ℕ × Label). y.0) ys)) (cond {A = Option (Selector × ℤ)} b (Some h.0.0) None) []) h.0.2
     ∙ by (is_own q y) (run_picks q rows ys h.1)
   where
     by : (b : Bool) → own_run q rows (map (λ (y : ℕ × Label). y.0) ys) ≡ picked rows (front (is_own q) ys)
-        → option_map_or (λ (x : PinSetting). x ∷ own_run q rows (map (λ (y : ℕ × Label). y.0) ys)) (cond {A = Option PinSetting} b (Some h.0.0) None) [] ≡ picked rows (cond b (y ∷ front (is_own q) ys) [])
-    by true rest = ap (λ l. h.0.0 ∷ l) rest ∙ sym (ap (λ o. option_map_or (λ (x : PinSetting). x ∷ picked rows (front (is_own q) ys)) o (picked rows (front (is_own q) ys))) h.0.1)
+        → option_map_or (λ (x : Selector × ℤ). x ∷ own_run q rows (map (λ (y : ℕ × Label). y.0) ys)) (cond {A = Option (Selector × ℤ)} b (Some h.0.0) None) [] ≡ picked rows (cond b (y ∷ front (is_own q) ys) [])
+    by true rest = ap (λ l. h.0.0 ∷ l) rest ∙ sym (ap (λ o. option_map_or (λ (x : Selector × ℤ). x ∷ picked rows (front (is_own q) ys)) o (picked rows (front (is_own q) ys))) h.0.1)
     by false rest = refl
 
-picks : (q : List ℕ) (all rows : List (ℕ × PinSetting)) → AllByRecursion (IsFound all) rows → settings_of (picked all (filter (is_own q) (labels_of own_row rows))) ≡ own_settings q (settings_of (items_of rows))
+picks : (q : List ℕ) (all rows : List (ℕ × (Selector × ℤ))) → AllByRecursion (IsFound all) rows → picked all (filter (is_own q) (labels_of own_row rows)) ≡ own_settings q (without_serials rows)
 picks q all [] h = refl
 picks q all (r ∷ rows) h =
-    ap (λ b. settings_of (picked all (cond b ((r.0, own_row r) ∷ filter (is_own q) (labels_of own_row rows)) (filter (is_own q) (labels_of own_row rows))))) (own_is q r.0 r.1.selector)
-    ∙ by (is_of q r.1.selector) (picks q all rows h.1)
+    ap (λ b. picked all (cond b ((r.0, own_row r) ∷ filter (is_own q) (labels_of own_row rows)) (filter (is_own q) (labels_of own_row rows)))) (own_is q r.0 r.1.0)
+    ∙ by (is_of q r.1.0) (picks q all rows h.1)
   where
-    by : (b : Bool) → settings_of (picked all (filter (is_own q) (labels_of own_row rows))) ≡ own_settings q (settings_of (items_of rows))
-        → settings_of (picked all (cond b ((r.0, own_row r) ∷ filter (is_own q) (labels_of own_row rows)) (filter (is_own q) (labels_of own_row rows))))
-        ≡ cond b ((r.1.selector, r.1.priority) ∷ own_settings q (settings_of (items_of rows))) (own_settings q (settings_of (items_of rows)))
+    by : (b : Bool) → picked all (filter (is_own q) (labels_of own_row rows)) ≡ own_settings q (without_serials rows)
+        → picked all (cond b ((r.0, own_row r) ∷ filter (is_own q) (labels_of own_row rows)) (filter (is_own q) (labels_of own_row rows)))
+        ≡ cond b (r.1 ∷ own_settings q (without_serials rows)) (own_settings q (without_serials rows))
     by true rest =
-        ap (λ o. settings_of (option_map_or (λ (x : PinSetting). x ∷ picked all (filter (is_own q) (labels_of own_row rows))) o (picked all (filter (is_own q) (labels_of own_row rows))))) h.0
-        ∙ ap (λ l. (r.1.selector, r.1.priority) ∷ l) rest
+        ap (λ o. option_map_or (λ (x : Selector × ℤ). x ∷ picked all (filter (is_own q) (labels_of own_row rows))) o (picked all (filter (is_own q) (labels_of own_row rows)))) h.0
+        ∙ ap (λ l. r.1 ∷ l) rest
     by false rest = rest
 
 -- from where they begin, the order leads through the settings of the package
-pub own_found : (q : List ℕ) (rows : List (ℕ × PinSetting)) (next : ℕ) (order : List ℕ) (at : ℕ) → Rises 0 rows next → order ≡ ranked_serials own_row rows → at ≡ labels_below (own_start q) (sorted_labels (labels_of own_row rows))
-    → settings_of (own_run q rows (drop at order)) ≡ own_settings q (settings_of (items_of rows))
+pub own_found : (q : List ℕ) (rows : List (ℕ × (Selector × ℤ))) (next : ℕ) (order : List ℕ) (at : ℕ) → Rises 0 rows next → order ≡ ranked_serials own_row rows → at ≡ labels_below (own_start q) (sorted_labels (labels_of own_row rows))
+    → own_run q rows (drop at order) ≡ own_settings q (without_serials rows)
 own_found q rows next order at h is at_is =
-    (λ j. settings_of (own_run q rows (drop (at_is j) (is j))))
-    ∙ ap (λ l. settings_of (own_run q rows l)) (drop-map (λ (y : ℕ × Label). y.0) (labels_below (own_start q) ids) ids)
-    ∙ ap settings_of (run_picks q rows (drop (labels_below (own_start q) ids) ids) (all_drop (labels_below (own_start q) ids) ids (all_sorted (HasSetting q rows) (labels_of own_row rows) (all_have q rows rows (all_found 0 rows next h)))))
-    ∙ ap (λ l. settings_of (picked rows l)) (front_from q ids (in_order (labels_of own_row rows)) ∙ filter-sorted q 0 rows next h)
+    (λ j. own_run q rows (drop (at_is j) (is j)))
+    ∙ ap (λ l. own_run q rows l) (drop-map (λ (y : ℕ × Label). y.0) (labels_below (own_start q) ids) ids)
+    ∙ run_picks q rows (drop (labels_below (own_start q) ids) ids) (all_drop (labels_below (own_start q) ids) ids (all_sorted (HasSetting q rows) (labels_of own_row rows) (all_have q rows rows (all_found 0 rows next h))))
+    ∙ ap (λ l. picked rows l) (front_from q ids (in_order (labels_of own_row rows)) ∙ filter-sorted q 0 rows next h)
     ∙ picks q rows rows (all_found 0 rows next h)
   where
     ids : List (ℕ × Label)
@@ -272,21 +269,3 @@ own_found q rows next order at h is at_is =
     all_drop zero ys h = h
     all_drop (suc k) [] h = h
     all_drop (suc k) (y ∷ ys) h = all_drop k ys h.1
-
--- ---- from a spot on
-
-module _ {X A : Type 0} where
-  rest_from : (ps : List (Vec X A)) (i j : ℕ) (p : Vec X A) → i < length ps → p ≡ get_or ps i p → j ≤ length p.items → drop j p.items ++ joined (drop (suc i) ps) ≡ drop (stands_at ps i j) (joined ps)
-  rest_from [] i j p l is within = absurd (omega arith)
-  rest_from (q ∷ ps) zero j p l is within =
-      let first : j ≡ stands_at (q ∷ ps) 0 j = omega arith in
-      (λ k. drop j (is k).items ++ joined ps)
-      ∙ sym (drop-append-le j q.items (joined ps) (omega (arith, within, ap (λ (v : Vec X A). length v.items) is)))
-      ∙ ap (λ k. drop k (q.items ++ joined ps)) first
-  rest_from (q ∷ ps) (suc i) j p l is within =
-      rest_from ps i j p (omega arith) is within
-      ∙ sym (drop-append-add q.items (joined ps) (stands_at ps i j))
-      ∙ ap (λ k. drop k (q.items ++ joined ps)) (sym (stands_next q ps i j))
-
-  pub rest_joined : (ps : List (Vec X A)) (i j : ℕ) (p : Vec X A) → i < length ps → p ≡ get_or ps i p → j ≤ length p.items → drop j p.items ++ joined (drop (i + 1) ps) ≡ drop (stands_at ps i j) (joined ps)
-  rest_joined ps i j p l is within = ap (λ k. drop j p.items ++ joined (drop k ps)) (plus_one i) ∙ rest_from ps i j p l is within

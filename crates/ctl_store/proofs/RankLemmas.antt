@@ -1,21 +1,15 @@
 -- Rows in the order of their labels.
 use Rattle.std.proofs.Common.{◌≡◌, ℕ, zero, suc, ◌<◌, ◌≤◌, Bool, true, false, cond, List, [], ◌∷◌, ◌++◌, length, Option, None, Some, option_map, refl, ap, sym, subst, ◌∙◌, arith}
 use Rattle.std.specs.List.{AllByRecursion, find, slice_get, insert, remove}
-use Rattle.std.specs.Cmp.{IsTotalOrder, nat_cmp_total}
 use Rattle.std.specs.Ordering.{is_gt, is_lt, is_eq, ordering_reverse}
 use Rattle.std.specs.declared.cmp.Ordering.{Ordering}
 use Rattle.std.specs.declared.cmp.Ordering.TheVariants.{Less, Equal, Greater}
-use Rattle.std.specs.Cmp.Lexicographic.{nat_list_cmp_total}
-use Rattle.std.proofs.lemmas.Cmp.{upto, on_total, then_total}
+use Rattle.std.proofs.lemmas.Cmp.{upto}
 use Rattle.ctl_store.specs.Step.{place}
 use Rattle.ctl_store.specs.Rows.{has_serial, Rises}
+use Rattle.ctl_store.specs.SelectorLaws.{label_total}
 use Rattle.ctl_store.specs.HeldRanks.{Label, label_cmp, insert_label, sorted_labels, labels_below}
 use Rattle.ctl_store.proofs.PlaceLemmas.{some_is, eq_is, lt_ne}
-
-pub label_total : IsTotalOrder label_cmp
-label_total =
-    then_total (on_total (λ (a : Label). a.name) nat_list_cmp_total)
-    (then_total (on_total (λ (a : Label). a.form) nat_cmp_total) (then_total (on_total (λ (a : Label). a.text) nat_list_cmp_total) (on_total (λ (a : Label). a.rank) nat_cmp_total)))
 
 abbrev pub g : Label → Label → Bool
 g a b = is_gt (label_cmp a b)

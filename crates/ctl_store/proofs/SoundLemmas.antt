@@ -8,20 +8,26 @@ use Rattle.ctl_store.specs.Named.{at_name, without_name, change_named}
 use Rattle.ctl_store.specs.State.{StanzaList, stanza_count, count_of_kind, status_count}
 use Rattle.ctl_store.specs.Rows.{Rises, rows_from}
 use Rattle.ctl_store.specs.Keys.{KeyedList, stanza_list, stanza_lists, list_of_stanzas}
-use Rattle.ctl_store.specs.Held.{Sheet, lists_of, InOrder, IsSound}
+use Rattle.ctl_ordered.specs.Ordered.{without_serials}
+use Rattle.ctl_store.specs.Held.{Sheet, lists_of, InOrder, AreNumbered, IsSound}
 use Rattle.ctl_store.proofs.PlaceLemmas.{Rises-rows_from}
 use Rattle.ctl_store.proofs.ListedLemmas.{InOrder-weaken, in_order_push, in_order_without, in_order_change, Changes}
 use Rattle.ctl_store.proofs.StepLemmas.{new_lists, without_lists, change_lists}
 use Rattle.ctl_store.proofs.AcceptLemmas.{count-push, count-without, count-change}
 use Rattle.ctl_store.proofs.StatusLemmas.{status_count-push, status_count-without, status_count-change}
 
-module _ (lists : List (List ℕ × Sheet)) (next statuses stanzas edits : ℕ) (limits : Limits) (sound : IsSound lists next statuses stanzas edits limits) where
+module _ (rows : List (ℕ × (List ℕ × Sheet))) (given next statuses stanzas edits : ℕ) (limits : Limits) (sound : IsSound rows given next statuses stanzas edits limits) where
+  abbrev lists : List (List ℕ × Sheet)
+  lists = without_serials rows
+
   one_more : (ls : List (List ℕ × KeyedList)) (n : ℕ) → InOrder 0 ls n ((limits.stanzas + edits) + 1) → InOrder 0 ls n (limits.stanzas + (edits + 1))
   one_more ls n h = InOrder-weaken 0 0 ls n ((limits.stanzas + edits) + 1) (limits.stanzas + (edits + 1)) (omega arith) (omega arith) h
 
   -- an edit of other parts
-  pub sound_more : IsSound lists next statuses stanzas (edits + 1) limits
+  pub sound_more : IsSound rows given next statuses stanzas (edits + 1) limits
   sound_more = record {
+    numbered = sound.numbered;
+    next_is = sound.next_is;
     order = InOrder-weaken 0 0 (lists_of lists) next (limits.stanzas + edits) (limits.stanzas + (edits + 1)) (omega arith) (omega arith) sound.order;
     few = omega (arith, sound.few);
     statuses_counted = sound.statuses_counted;
@@ -31,9 +37,12 @@ module _ (lists : List (List ℕ × Sheet)) (next statuses stanzas edits : ℕ) 
     edits_bounded = sound.edits_bounded;
   }
 
-  pub sound_add : (new : List (List ℕ × Sheet)) (name : List ℕ) (kind : ListKind) (class : ListClass) (xs : List Content) → lists_of new ≡ lists_of lists ++ (name, list_of_stanzas next kind class xs) ∷ []
-      → stanzas + length xs ≤ limits.stanzas → IsSound new (next + 1) (statuses + count_of_kind kind) (stanzas + length xs) (edits + 1) limits
-  sound_add new name kind class xs e within = record {
+  pub sound_add : (new : List (ℕ × (List ℕ × Sheet))) (name : List ℕ) (kind : ListKind) (class : ListClass) (xs : List Content) → AreNumbered new
+      → lists_of (without_serials new) ≡ lists_of lists ++ (name, list_of_stanzas next kind class xs) ∷ []
+      → stanzas + length xs ≤ limits.stanzas → IsSound new (given + 1) (next + 1) (statuses + count_of_kind kind) (stanzas + length xs) (edits + 1) limits
+  sound_add new name kind class xs numbered e within = record {
+    numbered = numbered;
+    next_is = omega (arith, sound.next_is);
     order = subst (λ ls. InOrder 0 ls (next + 1) (limits.stanzas + (edits + 1))) (sym e) (one_more (lists_of lists ++ (name, list_of_stanzas next kind class xs) ∷ []) (next + 1) (in_order_push 0 (lists_of lists) next (limits.stanzas + edits) name (list_of_stanzas next kind class xs) refl (omega arith) (subst (λ m. Rises 0 (rows_from 0 xs) m) (let z : 0 + length xs ≡ length xs = omega arith in z) (Rises-rows_from 0 xs)) sound.order));
     few = omega (arith, sound.few);
     statuses_counted = sym (ap (λ ls. status_count (stanza_lists ls)) e ∙ ap status_count (new_lists (lists_of lists) name next kind class xs) ∙ status_count-push (stanza_lists (lists_of lists)) name (record { kind = kind; class = class; stanzas = xs }) ∙ ap (λ n. n + count_of_kind kind) (sym sound.statuses_counted));
@@ -43,8 +52,11 @@ module _ (lists : List (List ℕ × Sheet)) (next statuses stanzas edits : ℕ) 
     edits_bounded = sound.edits_bounded;
   }
 
-  pub sound_drop : (new : List (List ℕ × Sheet)) (name : List ℕ) (l : StanzaList) → lists_of new ≡ without_name name (lists_of lists) → at_name name (stanza_lists (lists_of lists)) ≡ Some l → IsSound new next (statuses - count_of_kind l.kind) (stanzas - length l.stanzas) (edits + 1) limits
-  sound_drop new name l e at = record {
+  pub sound_drop : (new : List (ℕ × (List ℕ × Sheet))) (name : List ℕ) (l : StanzaList) → AreNumbered new → lists_of (without_serials new) ≡ without_name name (lists_of lists)
+      → at_name name (stanza_lists (lists_of lists)) ≡ Some l → IsSound new given next (statuses - count_of_kind l.kind) (stanzas - length l.stanzas) (edits + 1) limits
+  sound_drop new name l numbered e at = record {
+    numbered = numbered;
+    next_is = sound.next_is;
     order = subst (λ ls. InOrder 0 ls next (limits.stanzas + (edits + 1))) (sym e) (one_more (without_name name (lists_of lists)) next (in_order_without 0 (lists_of lists) next (limits.stanzas + edits) name sound.order));
     few = omega (arith, sound.few);
     statuses_counted = omega (arith, sound.statuses_counted, status_count-without name (stanza_lists (lists_of lists)) l at, ap (λ ls. status_count (stanza_lists ls)) e, ap status_count (without_lists name (lists_of lists)));
@@ -54,9 +66,11 @@ module _ (lists : List (List ℕ × Sheet)) (next statuses stanzas edits : ℕ) 
     edits_bounded = sound.edits_bounded;
   }
 
-  pub sound_change : (new : List (List ℕ × Sheet)) (name : List ℕ) (l : StanzaList) (f : KeyedList → KeyedList) (h : StanzaList → StanzaList) (after : ℕ) → Changes f → ((k : StanzaList) → (h k).kind ≡ k.kind) → ((k : KeyedList) → stanza_list (f k) ≡ h (stanza_list k))
-      → lists_of new ≡ change_named name f (lists_of lists) → at_name name (stanza_lists (lists_of lists)) ≡ Some l → after + length l.stanzas ≡ stanzas + length (h l).stanzas → after ≤ limits.stanzas → IsSound new next statuses after (edits + 1) limits
-  sound_change new name l f h after changes kinds same e at count within = record {
+  pub sound_change : (new : List (ℕ × (List ℕ × Sheet))) (name : List ℕ) (l : StanzaList) (f : KeyedList → KeyedList) (h : StanzaList → StanzaList) (after : ℕ) → Changes f → ((k : StanzaList) → (h k).kind ≡ k.kind) → ((k : KeyedList) → stanza_list (f k) ≡ h (stanza_list k))
+      → AreNumbered new → lists_of (without_serials new) ≡ change_named name f (lists_of lists) → at_name name (stanza_lists (lists_of lists)) ≡ Some l → after + length l.stanzas ≡ stanzas + length (h l).stanzas → after ≤ limits.stanzas → IsSound new given next statuses after (edits + 1) limits
+  sound_change new name l f h after changes kinds same numbered e at count within = record {
+    numbered = numbered;
+    next_is = sound.next_is;
     order = subst (λ ls. InOrder 0 ls next (limits.stanzas + (edits + 1))) (sym e) (one_more (change_named name f (lists_of lists)) next (in_order_change 0 (lists_of lists) next (limits.stanzas + edits) name f changes sound.order));
     few = omega (arith, sound.few);
     statuses_counted = sound.statuses_counted ∙ sym (ap (λ ls. status_count (stanza_lists ls)) e ∙ ap status_count (change_lists name f h same (lists_of lists)) ∙ status_count-change name h (stanza_lists (lists_of lists)) kinds);

@@ -1,7 +1,8 @@
 -- A store with its rooms: how much more it takes without memory.
 use Rattle.std.specs.Prelude.{◌≡◌, ℕ, ℤ, ◌+◌, ◌<◌, ◌≤◌, min, suc, List, [], ◌∷◌, map, length, Option, None, Some, IfSome, Vec, nat_eq, if◌then◌else◌}
-use Rattle.std.specs.List.{slice_index_or}
+use Rattle.std.specs.List.{AllByRecursion}
 use Rattle.std.specs.FinMap as fin
+use Rattle.ctl_ordered.specs.Ordered.{without_serials}
 use Rattle.ctl_stanza.specs.declared.list_kind.ListKind.{ListKind}
 use Rattle.ctl_stanza.specs.Content.{Content}
 use Rattle.ctl_store.specs.declared.limits.Limits.{Limits}
@@ -13,7 +14,7 @@ use Rattle.ctl_store.specs.Named.{at_name}
 use Rattle.ctl_store.specs.State.{State, stanza_count, status_count}
 use Rattle.ctl_store.specs.Edits.{Edit, AddList, Put, Mark, Pin}
 use Rattle.ctl_store.specs.Step.{refusal_of}
-use Rattle.ctl_store.specs.Rows.{Rises, IsKept, replace_at}
+use Rattle.ctl_store.specs.Rows.{Rises, IsKept}
 use Rattle.ctl_store.specs.HeldPieces.{most_in_piece, joined, IsFit}
 use Rattle.ctl_store.specs.Keys.{KeyedList, Keyed, stanza_lists, removed_of, added_of, coming, AreComing, AreHeld, AreNew}
 use Rattle.ctl_store.specs.Followed.{coming_under}
@@ -69,11 +70,17 @@ abbrev pub InOrder : ℕ → List (List ℕ × KeyedList) → ℕ → ℕ → Ty
 InOrder n [] m e = n ≤ m
 InOrder n (l ∷ ls) m e = (n ≤ l.1.serial) × (l.1.next ≤ e) × Rises 0 l.1.rows l.1.next × InOrder (suc l.1.serial) ls m e
 
-pub record IsSound (lists : List (List ℕ × Sheet)) (next_list statuses stanzas edits : ℕ) (limits : Limits) : Type 0 where
-  pub order : InOrder 0 (lists_of lists) next_list (limits.stanzas + edits)
+-- each list stands under its own serial
+abbrev pub AreNumbered : List (ℕ × (List ℕ × Sheet)) → Type 0
+AreNumbered rows = AllByRecursion (λ (row : ℕ × (List ℕ × Sheet)). row.0 ≡ row.1.1.serial) rows
+
+pub record IsSound (rows : List (ℕ × (List ℕ × Sheet))) (next next_list statuses stanzas edits : ℕ) (limits : Limits) : Type 0 where
+  pub numbered : AreNumbered rows
+  pub next_is : next ≡ next_list
+  pub order : InOrder 0 (lists_of (without_serials rows)) next_list (limits.stanzas + edits)
   pub few : next_list ≤ edits
-  pub statuses_counted : statuses ≡ status_count (stanza_lists (lists_of lists))
-  pub counted : stanzas ≡ stanza_count (stanza_lists (lists_of lists))
+  pub statuses_counted : statuses ≡ status_count (stanza_lists (lists_of (without_serials rows)))
+  pub counted : stanzas ≡ stanza_count (stanza_lists (lists_of (without_serials rows)))
   pub within : stanzas ≤ limits.stanzas
   pub stanzas_bounded : limits.stanzas ≤ most
   pub edits_bounded : limits.edits ≤ most
@@ -172,18 +179,3 @@ pub record IsReady (h : Held) (plan : Planned) : Type 0 where
   pub added : plan.added ≡ added_of (keyed_of h) plan.edit
   pub goes : AreHeld plan.removed (keyed_of h).lists
   pub comes : AreNew plan.added plan.removed (keyed_of h).lists
-
--- ---- a change of one list in its place
-
--- The list in the row of a place was changed, and says so of the room that it has then. It keeps its name.
-pub record HasChanged (old new : List (ℕ × (List ℕ × Sheet))) (at : ℕ) (change : KeyedList → KeyedList) (says : Type 0 → Type 0) : Type 0 where
-  pub list : List ℕ × Sheet
-  pub is : new ≡ replace_at old at list
-  pub name : (d : ℕ × (List ℕ × Sheet)) → list.0 ≡ (slice_index_or old at d).1.0
-  pub change_is : (d : ℕ × (List ℕ × Sheet)) → keyed_list list.1 ≡ change (keyed_list (slice_index_or old at d).1.1)
-  pub room : says (HasRoomInList list.1)
-
--- the list in the row of a place takes one stanza more
-pub record TakesOne (rows : List (ℕ × (List ℕ × Sheet))) (at : ℕ) : Type 0 where
-  pub room : (d : ℕ × (List ℕ × Sheet)) → HasRoomInList (slice_index_or rows at d).1.1
-  pub below : (d : ℕ × (List ℕ × Sheet)) → (slice_index_or rows at d).1.1.next + 1 < 18446744073709551616

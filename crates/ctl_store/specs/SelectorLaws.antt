@@ -1,13 +1,21 @@
--- Selectors that are the same are equal, and hash alike.
-use Rattle.std.specs.Prelude.{◌≡◌, ◌++◌, ℕ, Bool, true, false, ◌&&◌, List, Option, Some, None}
+-- Selectors that are the same are equal, hash alike, and tie in their order.
+use Rattle.std.specs.Prelude.{◌≡◌, ◌++◌, ℕ, Bool, true, false, ◌&&◌, List, [], Option, Some, None}
 use Rattle.std.proofs.Common.{refl, ap, sym, ◌∙◌}
 use Rattle.std.specs.Bool.{Decides, one_answer}
-use Rattle.std.specs.Cmp.{IsEquivalence}
+use Rattle.std.specs.Cmp.{IsEquivalence, IsTotalOrder, nat_cmp_total}
+use Rattle.std.specs.Cmp.Lexicographic.{slice_cmp, nat_list_cmp_total}
+use Rattle.std.specs.Ordering.{nat_cmp, ordering_then, is_eq}
+use Rattle.std.specs.Str.{bytes_eq}
+use Rattle.std.specs.declared.cmp.Ordering.{Ordering}
+use Rattle.std.specs.declared.cmp.Ordering.TheVariants.{Less, Equal, Greater}
+use Rattle.std.proofs.lemmas.Cmp.{on_total, then_total}
+use Rattle.std.proofs.lemmas.Map.Text.{is_eq-slice_cmp}
 use Rattle.std.specs.Hash as fed
 use Rattle.std.proofs.lemmas.Slice.Eq.{bytes_eq-Decides}
 use Rattle.ctl_store.specs.declared.selector.Selector.{Selector}
 use Rattle.ctl_store.specs.declared.selector.Selector.TheVariants.{Version, Release}
 use Rattle.ctl_store.specs.Pins.{package_eq, selector_eq}
+use Rattle.ctl_store.specs.HeldRanks.{Label, label_cmp, selector_label}
 
 -- what is hashed of a selector
 abbrev pub selector_hash : Selector → fed.HashWrites
@@ -56,3 +64,53 @@ selector_equiv = record {
 -- and hash alike
 pub same_hash : (s t : Selector) → selector_eq s t ≡ true → selector_hash s ≡ selector_hash t
 same_hash s t e = ap selector_hash ((selector_eq-Decides s t).0 e)
+
+-- ---- their order
+
+pub label_total : IsTotalOrder label_cmp
+label_total =
+    then_total (on_total (λ (a : Label). a.name) nat_list_cmp_total)
+    (then_total (on_total (λ (a : Label). a.form) nat_cmp_total) (then_total (on_total (λ (a : Label). a.text) nat_list_cmp_total) (on_total (λ (a : Label). a.rank) nat_cmp_total)))
+
+-- by packages, those of any package first, then by forms, then by versions or lists
+abbrev pub selector_cmp : Selector → Selector → Ordering
+selector_cmp s t = label_cmp (selector_label s) (selector_label t)
+
+pub selector_total : IsTotalOrder selector_cmp
+selector_total = on_total selector_label label_total
+
+tie_alone : (o : Ordering) → is_eq (ordering_then o Equal) ≡ is_eq o
+tie_alone Less = refl
+tie_alone Equal = refl
+tie_alone Greater = refl
+
+tie_both : (o p : Ordering) → is_eq (ordering_then o p) ≡ (is_eq o && is_eq p)
+tie_both Less p = refl
+tie_both Equal p = refl
+tie_both Greater p = refl
+
+differs : (o p : Ordering) → is_eq p ≡ false → is_eq (ordering_then o p) ≡ false
+differs Less p e = refl
+differs Equal p e = e
+differs Greater p e = refl
+
+-- of one form
+two_texts : (a b v w : List ℕ) → is_eq (ordering_then (slice_cmp nat_cmp a b) (ordering_then (slice_cmp nat_cmp v w) Equal)) ≡ (bytes_eq a b && bytes_eq v w)
+two_texts a b v w =
+    tie_both (slice_cmp nat_cmp a b) (ordering_then (slice_cmp nat_cmp v w) Equal)
+    ∙ (λ j. is_eq-slice_cmp a b j && (tie_alone (slice_cmp nat_cmp v w) ∙ is_eq-slice_cmp v w) j)
+
+-- they tie where they are the same
+pub selectors_tie : (s t : Selector) → is_eq (selector_cmp s t) ≡ selector_eq s t
+selectors_tie (Version a v) (Version b w) = two_texts a b v w
+selectors_tie (Version a v) (Release None l) = differs (slice_cmp nat_cmp a []) Greater refl
+selectors_tie (Version a v) (Release (Some b) l) = differs (slice_cmp nat_cmp a b) Less refl
+selectors_tie (Release None k) (Version b w) = differs (slice_cmp nat_cmp [] b) Less refl
+selectors_tie (Release (Some a) k) (Version b w) = differs (slice_cmp nat_cmp a b) Greater refl
+selectors_tie (Release None k) (Release None l) = tie_alone (slice_cmp nat_cmp k l) ∙ is_eq-slice_cmp k l
+selectors_tie (Release None k) (Release (Some b) l) = differs (slice_cmp nat_cmp [] b) Less refl
+selectors_tie (Release (Some a) k) (Release None l) = differs (slice_cmp nat_cmp a []) Greater refl
+selectors_tie (Release (Some a) k) (Release (Some b) l) = two_texts a b k l
+
+pub selector_ties : (s t : Selector) → selector_eq s t ≡ is_eq (selector_cmp s t)
+selector_ties s t = sym (selectors_tie s t)

@@ -1,4 +1,4 @@
-//! Labels, by which the rows of a table are found.
+//! Labels, by which pin settings stand in an order.
 
 ghost use Rattle.std.specs.Prelude.{◌≡◌, ℕ};
 ghost use Rattle.std.specs.Ordering.{nat_cmp, ordering_then};
@@ -8,7 +8,7 @@ ghost use Rattle.ctl_store.specs.HeldRanks.{label_cmp};
 use std::cmp::Ordering;
 use std::marker::Model;
 
-/// What a row is found by: a name and, where that is not all, a form, a text and a rank.
+/// What stands in an order: a name and, where that is not all, a form, a text and a rank.
 #[derive(Drop)]
 pub(crate) struct Label<'a> {
     pub(crate) name: &'a [u8],
@@ -25,19 +25,9 @@ impl<'a> Model for Label<'a> {
     ghost view = { λ l. record { name = l.name.now; form = l.form; text = l.text.now; rank = l.rank } };
 }
 
-/// What has a label, as an item of a row.
-pub(crate) trait Labelled {
-    ghost use Rattle.ctl_store.specs.HeldRanks.{Label};
-
-    ghost label: { Self → Label };
-
-    /// What it is found by.
-    fn label(&self) -> Label<'_>
-        ensures { result ≡ label self.now };
-}
-
 fn compare_rest(one: &Label<'_>, other: &Label<'_>) -> Ordering
-    ensures { result ≡ ordering_then (nat_cmp one.now.form other.now.form) (ordering_then (slice_cmp nat_cmp one.now.text other.now.text) (nat_cmp one.now.rank other.now.rank)) }
+    ensures { result ≡ ordering_then (nat_cmp one.now.form other.now.form)
+        (ordering_then (slice_cmp nat_cmp one.now.text other.now.text) (nat_cmp one.now.rank other.now.rank)) }
 {
     one.form
         .cmp(&other.form)

@@ -3,13 +3,12 @@
 
 mod edit;
 mod fronts;
-mod items;
 mod label;
 mod laws;
 mod limits;
 mod list_class;
 mod lists;
-mod numbered;
+mod name;
 mod order;
 mod pieces;
 mod pin_order;
@@ -18,15 +17,13 @@ mod pin_version;
 mod plan;
 mod prefs;
 mod priority;
-mod ranked;
-mod ranks;
 mod refusal;
 mod rows;
 mod selector;
+mod selector_order;
 mod shelf;
 mod stanza_key;
 mod store;
-mod table;
 mod words;
 
 pub use edit::{Edit, boxed};
@@ -41,4 +38,4 @@ pub use priority::read_priority;
 pub use refusal::Refusal;
 pub use selector::{PinSetting, Selector};
 pub use stanza_key::{StanzaKey, compare_keys};
-pub use store::{ByName, CommittedKeys, Entries, Keys, Lists, PackagePins, Pins, Stanzas, Store};
+pub use store::{ByName, Entries, Keys, Lists, PackagePins, Pins, Stanzas, Store};

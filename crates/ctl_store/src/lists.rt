@@ -1,58 +1,97 @@
-//! The list of a serial number, found by halving: lists come last, and their serials rise.
+//! The list of a serial number, and changes of one list in its place.
 
-ghost use Rattle.std.specs.Prelude.{◌≡◌, ◌≤◌, ℕ, nat_lt, true, false, option_map};
-ghost use Rattle.std.specs.List.Sorted.{IsPartitionPoint};
-ghost use Rattle.ctl_store.specs.HeldPieces.{joined, last_passes, place_of_spot, ArePieces, IsSpotOrEnd};
-ghost use Rattle.ctl_store.specs.HeldRanks.{items_of};
-ghost use Rattle.ctl_store.specs.Held.{lists_of, InOrder, entry_of};
+ghost use Rattle.std.specs.Prelude.{◌≡◌, ◌<◌, ◌+◌, ◌^◌, [], Some, IfSome, OnOk, false, is_some, option_copied, option_map};
+ghost use Rattle.std.specs.Option.{option_map_or, option_to_list};
+ghost use Rattle.ctl_ordered.specs.Ordered.{entries};
+ghost use Rattle.ctl_store.specs.Named.{at_name, change_named};
+ghost use Rattle.ctl_store.specs.Step.{place};
+ghost use Rattle.ctl_store.specs.Rows.{by_name_and_version};
+ghost use Rattle.ctl_store.specs.Keys.{found_key, put_keyed, remove_keyed};
+ghost use Rattle.ctl_store.specs.Held.{keyed_list, lists_of, entry_of, AreNumbered, HasRoomInList};
 
-use crate::numbered::{Numbered, row_at};
-use crate::pieces::Spot;
 use crate::shelf::Shelf;
-use crate::table::Named;
-
-// Whether the serial of the last list is below a serial.
-fn ends_before(rows: &[Numbered<Named<Shelf>>], serial: u32) -> bool
-    ensures { result ≡ last_passes (λ row. nat_lt row.1.1.serial serial) rows.now }
-{
-    match rows.last() {
-        Some(row) => row.item().value().serial() < serial,
-        None => false,
-    }
-}
-
-// Where the lists end whose serials are below a serial.
-fn end_below(rows: &[Vec<Numbered<Named<Shelf>>>], serial: u32) -> Spot
-    requires pieces { ArePieces rows.now }
-    requires order { (n : ℕ) × (m : ℕ) × (most : ℕ) × InOrder n (lists_of (items_of (joined rows.now))) m most }
-    ensures point { IsPartitionPoint (λ row. nat_lt row.1.1.serial serial ≡ true) (λ row. nat_lt row.1.1.serial serial ≡ false) (joined rows.now) (place_of_spot rows.now result) }
-    ensures within { IsSpotOrEnd rows.now result }
-{
-    let piece = rows.partition_point(|rows| ends_before(rows, serial));
-    match rows.get(piece) {
-        Some(rows) => Spot {
-            piece,
-            at: rows.partition_point(|row| row.item().value().serial() < serial),
-        },
-        None => Spot { piece, at: 0 },
-    }
-}
+use crate::stanza_key::StanzaKey;
+use ctl_ordered::Ordered;
+use ctl_relation::{Bytes, Version};
+use ctl_stanza::Stanza;
+use std::alloc::{AllocError, Global};
 
 /// The list of a serial, with its name.
-pub(crate) fn entry_of(rows: &[Vec<Numbered<Named<Shelf>>>], serial: u32) -> Option<(&[u8], &Shelf)>
-    requires pieces { ArePieces rows.now }
-    requires order { (n : ℕ) × (m : ℕ) × (most : ℕ) × InOrder n (lists_of (items_of (joined rows.now))) m most }
-    ensures { option_map (λ e. (e.0.now, e.1.now)) result ≡ entry_of serial (items_of (joined rows.now)) }
+pub(crate) fn entry_of(lists: &Ordered<Bytes, Shelf>, serial: u32) -> Option<(&[u8], &Shelf)>
+    requires { AreNumbered lists.now.rows }
+    ensures { option_map (λ e. (e.0.now, e.1.now)) result ≡ entry_of serial (entries lists.now) }
 {
-    let spot = end_below(rows, serial);
-    if spot.piece >= rows.len() {
-        return None;
+    match lists.at(u64::from(serial)) {
+        Some((name, list)) => Some((name.as_slice(), list)),
+        None => None,
     }
-    let entry = row_at(rows, spot).item();
-    let list = entry.value();
-    if list.serial() == serial {
-        Some((entry.name(), list))
-    } else {
-        None
+}
+
+/// The key of the first stanza of a name and an equal version in a list. The list's next look-up begins where it stands.
+pub(crate) fn find_in(
+    lists: &mut Ordered<Bytes, Shelf>,
+    list: &Bytes,
+    name: &[u8],
+    version: Option<&Version>,
+) -> Option<StanzaKey>
+    ensures same { lists.new ≡ lists.old }
+    ensures key { option_to_list result
+        ≡ option_map_or (λ s. found_key name.now (option_copied version.entry) (keyed_list s)) (at_name list.now (entries lists.old)) [] }
+    ensures found { is_some result
+        ≡ option_map_or (λ s. is_some (place (by_name_and_version name.now (option_copied version.entry)) s.rows))
+        (at_name list.now (entries lists.old)) false }
+{
+    match lists.get_mut(list) {
+        Some(shelf) => shelf.find_key(name, version),
+        None => None,
+    }
+}
+
+/// Makes room for one stanza more in a list.
+pub(crate) fn reserve_in(
+    lists: &mut Ordered<Bytes, Shelf>,
+    alloc: Global,
+    list: &Bytes,
+) -> Result<(), AllocError>
+    ensures lists { lists_of (entries lists.new) ≡ lists_of (entries lists.old) }
+    ensures ok { OnOk result (IfSome (at_name list.now (entries lists.new)) HasRoomInList) }
+    ensures numbered { AreNumbered lists.old.rows → AreNumbered lists.new.rows }
+    ensures next { lists.new.next ≡ lists.old.next }
+{
+    match lists.get_mut(list) {
+        Some(shelf) => shelf.reserve_one(alloc),
+        None => Ok(()),
+    }
+}
+
+/// Puts a stanza into a list, in the room that [`reserve_in`] made.
+pub(crate) fn put_in(lists: &mut Ordered<Bytes, Shelf>, list: &Bytes, stanza: Box<Stanza>)
+    requires room { IfSome (at_name list.now (entries lists.old)) HasRoomInList }
+    requires below { IfSome (at_name list.now (entries lists.old)) (λ s. s.next + 1 < 2 ^ 64) }
+    ensures lists { lists_of (entries lists.new) ≡ change_named list.now (put_keyed stanza.value) (lists_of (entries lists.old)) }
+    ensures numbered { AreNumbered lists.old.rows → AreNumbered lists.new.rows }
+    ensures next { lists.new.next ≡ lists.old.next }
+{
+    match lists.get_mut(list) {
+        Some(shelf) => shelf.put(stanza),
+        None => {}
+    }
+}
+
+/// Takes the first stanza of a name and an equal version out of a list.
+pub(crate) fn remove_in(
+    lists: &mut Ordered<Bytes, Shelf>,
+    list: &Bytes,
+    name: &[u8],
+    version: &Version,
+)
+    ensures lists { lists_of (entries lists.new)
+        ≡ change_named list.now (remove_keyed name.now (Some version.now)) (lists_of (entries lists.old)) }
+    ensures numbered { AreNumbered lists.old.rows → AreNumbered lists.new.rows }
+    ensures next { lists.new.next ≡ lists.old.next }
+{
+    match lists.get_mut(list) {
+        Some(shelf) => shelf.remove(name, Some(version)),
+        None => {}
     }
 }

@@ -2,6 +2,8 @@
 
 ghost use Rattle.std.specs.Prelude.{◌≡◌};
 
+use std::alloc::AllocError;
+
 /// Why a command is refused.
 #[derive(Clone, Copy, Debug, PartialEq, Eq)]
 pub enum Refusal {
@@ -116,5 +118,15 @@ impl Refusal {
             Refusal::Memory => "out of memory",
             Refusal::Form => "bad pin record",
         }
+    }
+}
+
+impl From<AllocError> for Refusal {
+    ghost use Rattle.ctl_store.specs.declared.refusal.Refusal.TheVariants as refusal;
+
+    ghost from_gives = { λ _ why. why ≡ refusal.Memory };
+
+    fn from(_error: AllocError) -> Refusal {
+        Refusal::Memory
     }
 }

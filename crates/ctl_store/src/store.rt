@@ -17,9 +17,8 @@ mod views;
 use crate::limits::Limits;
 use crate::pin_settings::PinSettings;
 use crate::shelf::Shelf;
-use crate::table::Table;
 pub use by_name::ByName;
-pub use committing::CommittedKeys;
+use ctl_ordered::Ordered;
 use ctl_relation::{Bytes, Version};
 pub(crate) use entries::ListEntries;
 pub use entries::{Entries, Keys, Stanzas};
@@ -33,8 +32,8 @@ pub use views::{Lists, Pins};
 #[derive(Drop)]
 pub struct Store {
     alloc: Global,
-    lists: Table<Shelf>,
-    marks: Table<Option<Version>>,
+    lists: Ordered<Bytes, Shelf>,
+    marks: Ordered<Bytes, Option<Version>>,
     pins: PinSettings,
     target: Option<Bytes>,
     next_list: u32,
@@ -46,13 +45,25 @@ pub struct Store {
 }
 
 impl Model for Store {
+    ghost use Rattle.ctl_ordered.specs.Ordered.{entries};
     ghost use Rattle.ctl_store.specs.Held.{Held, IsSound};
 
     ghost Value = { Held };
 
-    ghost view = { λ s. record { lists = s.lists.0; lists_room = s.lists.1; marks = s.marks.0; marks_room = s.marks.1; pins = s.pins.pins; pins_room = s.pins.room; target = s.target; next_list = s.next_list; edits = s.edits; limits = s.limits } };
+    ghost view = { λ s. record {
+      lists = entries s.lists;
+      lists_room = s.lists.room;
+      marks = entries s.marks;
+      marks_room = s.marks.room;
+      pins = s.pins.pins;
+      pins_room = s.pins.room;
+      target = s.target;
+      next_list = s.next_list;
+      edits = s.edits;
+      limits = s.limits;
+    } };
 
-    ghost invariant = { λ s. IsSound s.lists.0 s.next_list s.statuses s.stanzas s.edits s.limits };
+    ghost invariant = { λ s. IsSound s.lists.rows s.lists.next s.next_list s.statuses s.stanzas s.edits s.limits };
 }
 
 impl Store {
@@ -71,8 +82,8 @@ impl Store {
     {
         Store {
             alloc,
-            lists: Table::new(alloc),
-            marks: Table::new(alloc),
+            lists: Ordered::new(alloc),
+            marks: Ordered::new(alloc),
             pins: PinSettings::new(alloc),
             target: None,
             next_list: 0,

@@ -7,7 +7,8 @@ ghost use Rattle.dctrl_cache.specs.declared.Failure.TheVariants.{Memory};
 use clap::error::ErrorKind as WordsFault;
 use ctl_index::Cache;
 use ctl_session::{
-    Arguments, ArgumentsFault, Fault, FromRead, FromWrite, LoadFault, Session, Summary, arguments,
+    Arguments, ArgumentsFault, Fault, FromRead, FromWrite, LoadFault, Session, SourceFault,
+    Summary, arguments,
 };
 use ctl_stanza::ListKind;
 use std::alloc::{AllocError, Global};
@@ -63,25 +64,15 @@ fn known_len(file: &File) -> u64 {
     }
 }
 
-/// The bytes of a file, of which there may be [`MAX_FILE`].
-fn read_file(rt: &HostRuntime, path: &str) -> Result<Vec<u8>, Failure> {
-    let Ok(file) = File::open(rt, path) else {
-        return Err(Failure::CannotRead(owned(rt, path)?));
-    };
-    let len = known_len(&file);
-    if len > MAX_FILE {
-        return Err(Failure::CannotRead(owned(rt, path)?));
-    }
-    // With one byte more the end is found without another growth.
-    let mut bytes = Vec::with_capacity(rt.alloc(), len as usize + 1)?;
-    match file.take(MAX_FILE + 1).read_to_end(&mut bytes) {
-        Ok(_) if bytes.len() as u64 <= MAX_FILE => Ok(bytes),
-        Err(error) if error.kind() == ErrorKind::OutOfMemory => Err(Failure::Memory),
-        _ => Err(Failure::CannotRead(owned(rt, path)?)),
+/// A file that can be opened, and has no more than [`MAX_FILE`] bytes as far as that is known.
+fn open(rt: &HostRuntime, path: &str) -> Option<File> {
+    match File::open(rt, path) {
+        Ok(file) if known_len(&file) <= MAX_FILE => Some(file),
+        _ => None,
     }
 }
 
-/// Loads a list from a file.
+/// Loads a list from a file, which is read block by block.
 fn load(
     rt: &HostRuntime,
     session: &mut Session,
@@ -89,11 +80,21 @@ fn load(
     kind: ListKind,
     path: &str,
 ) -> Result<(), Failure> {
-    let text = read_file(rt, path)?;
-    match session.load(name.as_bytes(), kind, text) {
+    let Some(file) = open(rt, path) else {
+        return Err(Failure::CannotRead(owned(rt, path)?));
+    };
+    let mut source = FromRead::new(file);
+    let loaded = session.load_from(name.as_bytes(), kind, &mut source);
+    let _ = source.into_inner();
+    match loaded {
         Ok(()) => Ok(()),
-        Err(LoadFault { line: 0, cause }) => Err(Failure::Load(owned(rt, path)?, cause.text())),
-        Err(LoadFault { line, cause }) => {
+        Err(SourceFault::Read | SourceFault::TooLong) => {
+            Err(Failure::CannotRead(owned(rt, path)?))
+        }
+        Err(SourceFault::Refused(LoadFault { line: 0, cause })) => {
+            Err(Failure::Load(owned(rt, path)?, cause.text()))
+        }
+        Err(SourceFault::Refused(LoadFault { line, cause })) => {
             Err(Failure::TextFault(owned(rt, path)?, line, cause.text()))
         }
     }

@@ -2,15 +2,15 @@
 
 ghost use Rattle.std.specs.Prelude.{◌≡◌, false};
 
+use crate::calls::cache_tables::say_clause;
 use crate::edits::edit_named;
 use crate::parts::say_version;
 use crate::policies::say_policies;
 use crate::said::{OUT_OF_MEMORY, Said};
 use crate::state::say_state;
 use crate::words::Words;
-use ctl_index::{AtomKey, Cache, ClauseKey};
-use ctl_store::{Edit, Refusal};
-use std::alloc::Global;
+use ctl_index::{Cache, PackageNames};
+use ctl_store::{Edit, Limits, Refusal};
 
 fn say_names(cache: &Cache, said: &mut Said)
     requires { cache.now.stale ≡ false }
@@ -31,21 +31,15 @@ fn say_offers(cache: &Cache, name: &[u8], said: &mut Said)
     }
 }
 
-// The key of an atom: those of its stanza and of its field, and its places.
-fn say_atom_key(key: AtomKey, said: &mut Said) {
-    said.key(b":", key.stanza);
-    said.all(&[b".", key.field.printed_name()]);
-    said.number(b".", key.group as u128);
-    said.number(b".", key.atom as u128);
-}
-
 // The atoms that name a name: the name, and the key of the atom.
 fn say_namers(cache: &Cache, name: &[u8], said: &mut Said)
     requires { cache.now.stale ≡ false }
 {
     for key in cache.namers(name) {
         said.word(b" namer=", name);
-        say_atom_key(key, said);
+        said.add(b":");
+        say_clause(b".", key.stanza, key.field, key.group, said);
+        said.number(b".", key.atom as u128);
     }
 }
 
@@ -58,17 +52,12 @@ fn say_by_name(cache: &Cache, said: &mut Said)
     }
 }
 
-fn say_clause_key(mark: &[u8], key: ClauseKey, said: &mut Said) {
-    said.key(mark, key.stanza);
-    said.all(&[b".", key.field.printed_name()]);
-    said.number(b".", key.group as u128);
-}
-
 fn say_counters(cache: &Cache, said: &mut Said)
     requires { cache.now.stale ≡ false }
 {
     for (key, number) in cache.counters() {
-        say_clause_key(b" counter=", *key, said);
+        said.add(b" counter=");
+        say_clause(b".", key.stanza, key.field, key.group, said);
         said.number(b":", *number);
     }
 }
@@ -77,7 +66,14 @@ fn say_unmet(cache: &Cache, said: &mut Said)
     requires { cache.now.stale ≡ false }
 {
     for key in cache.unmet_clauses() {
-        say_clause_key(b" unmet=", key, said);
+        said.add(b" unmet=");
+        say_clause(b".", key.stanza, key.field, key.group, said);
+    }
+}
+
+fn say_each(names: PackageNames<'_>, said: &mut Said) {
+    for name in names {
+        said.word(b" ", name);
     }
 }
 
@@ -87,12 +83,8 @@ fn say_packages(cache: &Cache, prefix: &[u8], said: &mut Said)
 {
     said.add(b"packages");
     match cache.package_names(prefix) {
+        Ok(names) => say_each(names, said),
         Err(_) => said.fail(OUT_OF_MEMORY),
-        Ok(names) => {
-            for name in names {
-                said.word(b" ", name);
-            }
-        }
     }
 }
 
@@ -124,12 +116,12 @@ fn say_kept_policies(cache: &Cache, said: &mut Said) {
     }
 }
 
-fn say_packages_of_word(cache: &Cache, words: &mut Words<'_>, said: &mut Said) {
+fn say_packages_of_word(cache: &Cache, words: &mut Words<'_, '_>, said: &mut Said) {
     let prefix = words.bytes();
     if cache.is_stale() {
         said.add(b"stale");
     } else {
-        say_packages(cache, prefix.as_slice(), said);
+        say_packages(cache, prefix, said);
     }
 }
 
@@ -159,21 +151,21 @@ fn say_steps(cache: &Cache, said: &mut Said) {
 }
 
 // Begins with a new cache.
-fn begin(cache: &mut Cache, words: &mut Words<'_>, said: &mut Said) {
-    let limits = words.limits();
-    *cache = Cache::with_limits(words.alloc(), limits);
+fn begin(cache: &mut Cache, limits: Limits, said: &mut Said) {
+    *cache = Cache::with_limits(said.alloc(), limits);
     said.add(b"new");
 }
 
-fn say_edited(cache: &mut Cache, word: &str, words: &mut Words<'_>, said: &mut Said) {
+fn say_edited(cache: &mut Cache, word: &str, words: &mut Words<'_, '_>, said: &mut Said) {
     if let Some(edit) = edit_named(words, word) {
         say_outcome(cache, edit, said);
     }
 }
 
-fn say_told(cache: &mut Cache, words: &mut Words<'_>, said: &mut Said) {
+/// Begins with a new cache, changes it by a line, or shows what it tells.
+pub fn say_followed(cache: &mut Cache, words: &mut Words<'_, '_>, said: &mut Said) {
     match words.word() {
-        "limits" => begin(cache, words, said),
+        "limits" => begin(cache, words.limits(), said),
         "views" => say_recovered(cache, said),
         "policies" => say_kept_policies(cache, said),
         "packages" => say_packages_of_word(cache, words, said),
@@ -181,11 +173,4 @@ fn say_told(cache: &mut Cache, words: &mut Words<'_>, said: &mut Said) {
         "dump" => say_state(cache.store(), words, said),
         word => say_edited(cache, word, words, said),
     }
-}
-
-/// Begins with a new cache, changes it by a line, or shows what it tells.
-pub fn say_followed(alloc: Global, cache: &mut Cache, line: &str, said: &mut Said) {
-    let mut words = Words::new(alloc, line);
-    say_told(cache, &mut words, said);
-    words.end(said);
 }

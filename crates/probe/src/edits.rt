@@ -9,7 +9,7 @@ use ctl_store::{
 };
 use std::alloc::Global;
 
-fn class(words: &mut Words<'_>) -> ListClass {
+fn class(words: &mut Words<'_, '_>) -> ListClass {
     match words.word() {
         "plain" => ListClass::Plain,
         "notauto" => ListClass::NotAutomatic,
@@ -35,9 +35,8 @@ fn stanzas_of(
 }
 
 // Those of the text that the next word gives.
-fn stanzas(words: &mut Words<'_>, kind: ListKind) -> Vec<Box<Stanza>> {
-    let text = words.bytes();
-    match stanzas_of(words.alloc(), text.as_slice(), kind) {
+fn stanzas(words: &mut Words<'_, '_>, kind: ListKind) -> Vec<Box<Stanza>> {
+    match stanzas_of(words.alloc(), words.bytes(), kind) {
         Ok(stanzas) => stanzas,
         Err(why) => {
             words.fail(why);
@@ -60,8 +59,8 @@ pub fn main_list(alloc: Global, text: &[u8], kind: ListKind) -> Result<Edit, &'s
     }
 }
 
-fn add_list(words: &mut Words<'_>) -> Edit {
-    let name = words.bytes();
+fn add_list(words: &mut Words<'_, '_>) -> Edit {
+    let name = words.kept();
     let kind = words.list_kind();
     let class = class(words);
     let stanzas = stanzas(words, kind);
@@ -73,39 +72,46 @@ fn add_list(words: &mut Words<'_>) -> Edit {
     }
 }
 
-fn put(words: &mut Words<'_>) -> Option<Edit> {
-    let list = words.bytes();
+// The last of them.
+fn last_stanza(words: &mut Words<'_, '_>, kind: ListKind) -> Option<Box<Stanza>> {
+    let last = stanzas(words, kind).pop();
+    if last.is_none() {
+        words.fail("a text without a stanza");
+    }
+    last
+}
+
+fn put(words: &mut Words<'_, '_>) -> Option<Edit> {
+    let list = words.kept();
     let kind = words.list_kind();
-    match stanzas(words, kind).pop() {
+    match last_stanza(words, kind) {
         Some(stanza) => Some(Edit::Put { list, stanza }),
-        None => {
-            words.fail("a text without a stanza");
-            None
-        }
+        None => None,
     }
 }
 
-fn remove(words: &mut Words<'_>) -> Option<Edit> {
-    let list = words.bytes();
-    let package = words.bytes();
-    let version = words.version()?;
-    Some(Edit::Remove {
-        list,
-        package,
-        version,
-    })
+fn remove(words: &mut Words<'_, '_>) -> Option<Edit> {
+    let list = words.kept();
+    let package = words.kept();
+    match words.version() {
+        Some(version) => Some(Edit::Remove {
+            list,
+            package,
+            version,
+        }),
+        None => None,
+    }
 }
 
-fn mark(words: &mut Words<'_>) -> Edit {
-    let package = words.bytes();
+fn mark(words: &mut Words<'_, '_>) -> Edit {
+    let package = words.kept();
     let version = words.version_or_none();
     Edit::Mark { package, version }
 }
 
 /// A version of pins, or the beginning of versions.
-pub fn pin_version(words: &mut Words<'_>) -> Option<PinVersion> {
-    let text = words.bytes();
-    match PinVersion::read(words.alloc(), text.as_slice()) {
+pub fn pin_version(words: &mut Words<'_, '_>) -> Option<PinVersion> {
+    match PinVersion::read(words.alloc(), words.bytes()) {
         Ok(Some(version)) => Some(version),
         _ => {
             words.fail("a pin's version that is none");
@@ -114,20 +120,22 @@ pub fn pin_version(words: &mut Words<'_>) -> Option<PinVersion> {
     }
 }
 
-fn of_version(words: &mut Words<'_>) -> Option<Selector> {
-    let package = words.bytes();
-    let version = pin_version(words)?;
-    Some(Selector::Version { package, version })
+fn of_version(words: &mut Words<'_, '_>) -> Option<Selector> {
+    let package = words.kept();
+    match pin_version(words) {
+        Some(version) => Some(Selector::Version { package, version }),
+        None => None,
+    }
 }
 
-fn of_release(words: &mut Words<'_>) -> Selector {
-    let package = words.bytes_or_none();
-    let list = words.bytes();
+fn of_release(words: &mut Words<'_, '_>) -> Selector {
+    let package = words.kept_or_none();
+    let list = words.kept();
     Selector::Release { package, list }
 }
 
 /// A selector: `version`, a package and a version or the beginning of versions; or `release`, a package or `-`, and a list.
-pub fn selector(words: &mut Words<'_>) -> Option<Selector> {
+pub fn selector(words: &mut Words<'_, '_>) -> Option<Selector> {
     match words.word() {
         "version" => of_version(words),
         "release" => Some(of_release(words)),
@@ -139,14 +147,14 @@ pub fn selector(words: &mut Words<'_>) -> Option<Selector> {
 }
 
 /// A selector and a priority.
-pub fn setting(words: &mut Words<'_>) -> Option<PinSetting> {
+pub fn setting(words: &mut Words<'_, '_>) -> Option<PinSetting> {
     let selector = selector(words)?;
     let priority = words.priority();
     Some(PinSetting { selector, priority })
 }
 
 // Adds the setting that the next words give.
-fn set(words: &mut Words<'_>, settings: &mut PinSettings) {
+fn set(words: &mut Words<'_, '_>, settings: &mut PinSettings) {
     if let Some(setting) = setting(words) {
         if settings.set(setting).is_err() {
             words.fail(OUT_OF_MEMORY);
@@ -155,7 +163,7 @@ fn set(words: &mut Words<'_>, settings: &mut PinSettings) {
 }
 
 /// Selectors with priorities, to the end of the line.
-pub fn settings(words: &mut Words<'_>) -> PinSettings {
+pub fn settings(words: &mut Words<'_, '_>) -> PinSettings {
     let mut settings = PinSettings::new(words.alloc());
     for _ in 0..u64::MAX {
         if words.is_over() {
@@ -167,10 +175,9 @@ pub fn settings(words: &mut Words<'_>) -> PinSettings {
 }
 
 // The settings of preferences.
-fn prefs_of_text(words: &mut Words<'_>) -> Option<Edit> {
-    let text = words.bytes();
+fn prefs_of_text(words: &mut Words<'_, '_>) -> Option<Edit> {
     lines_take_bytes();
-    match read_prefs(words.alloc(), text.as_slice(), 1) {
+    match read_prefs(words.alloc(), words.bytes(), 1) {
         Ok(settings) => Some(Edit::Prefs { settings }),
         Err(_) => {
             words.fail("preferences with a fault");
@@ -179,45 +186,43 @@ fn prefs_of_text(words: &mut Words<'_>) -> Option<Edit> {
     }
 }
 
-fn pin(words: &mut Words<'_>) -> Option<Edit> {
+fn pin(words: &mut Words<'_, '_>) -> Option<Edit> {
     match setting(words) {
         Some(setting) => Some(Edit::Pin { setting }),
         None => None,
     }
 }
 
-fn unpin(words: &mut Words<'_>) -> Option<Edit> {
+fn unpin(words: &mut Words<'_, '_>) -> Option<Edit> {
     match selector(words) {
         Some(selector) => Some(Edit::Unpin { selector }),
         None => None,
     }
 }
 
-fn drop_list(words: &mut Words<'_>) -> Edit {
-    Edit::DropList {
-        name: words.bytes(),
-    }
+fn drop_list(words: &mut Words<'_, '_>) -> Edit {
+    Edit::DropList { name: words.kept() }
 }
 
-fn unmark(words: &mut Words<'_>) -> Edit {
+fn unmark(words: &mut Words<'_, '_>) -> Edit {
     Edit::Unmark {
-        package: words.bytes(),
+        package: words.kept(),
     }
 }
 
-fn target(words: &mut Words<'_>) -> Edit {
+fn target(words: &mut Words<'_, '_>) -> Edit {
     Edit::Target {
-        name: words.bytes_or_none(),
+        name: words.kept_or_none(),
     }
 }
 
-fn prefs(words: &mut Words<'_>) -> Edit {
+fn prefs(words: &mut Words<'_, '_>) -> Edit {
     Edit::Prefs {
         settings: settings(words),
     }
 }
 
-fn edit_by(words: &mut Words<'_>, word: &str) -> Option<Edit> {
+fn edit_by(words: &mut Words<'_, '_>, word: &str) -> Option<Edit> {
     match word {
         "add-list" => Some(add_list(words)),
         "drop-list" => Some(drop_list(words)),
@@ -238,7 +243,7 @@ fn edit_by(words: &mut Words<'_>, word: &str) -> Option<Edit> {
 }
 
 /// The edit of a line whose first word is this, or none where the words are no edit.
-pub fn edit_named(words: &mut Words<'_>, word: &str) -> Option<Edit> {
+pub fn edit_named(words: &mut Words<'_, '_>, word: &str) -> Option<Edit> {
     let edit = edit_by(words, word)?;
     match words.fault() {
         None => Some(edit),

@@ -47,20 +47,19 @@ mod texts;
 mod words;
 mod writing;
 
-use anyhow::{Context, Error, Result, bail};
+use anyhow::{Error, Result, bail};
 use caches::say_followed;
-use calls::{Calls, calls_named, say_call};
 use ctl_stanza::ListKind;
 use ctl_store::Edit;
 use edits::main_list;
 use kept::{Held, Kept};
 use relations::say_field;
-use said::Said;
-use std::alloc::Global;
+use said::{OUT_OF_MEMORY, Said};
 use std::env;
 use std::io::{BufRead, BufReader};
 use stores::say_change;
 use texts::{TextKind, list_kind_named, say_count, say_text, text_kind_named};
+use words::{Form, Word, Words, read_words};
 use writing::{read_all, write_line};
 
 /// What a line is.
@@ -70,16 +69,44 @@ enum Subject {
     Text,
     Store,
     Index,
-    Calls(Calls),
+    Versions,
+    Names,
+    Fields,
+    Texts,
+    Pins,
+    Stores,
+    Caches,
 }
 
+/// Each subject with its name.
+const SUBJECTS: &[(&str, Subject)] = &[
+    ("relation", Subject::Relation),
+    ("text", Subject::Text),
+    ("store", Subject::Store),
+    ("index", Subject::Index),
+    ("versions", Subject::Versions),
+    ("names", Subject::Names),
+    ("fields", Subject::Fields),
+    ("texts", Subject::Texts),
+    ("pins", Subject::Pins),
+    ("stores", Subject::Stores),
+    ("caches", Subject::Caches),
+];
+
 fn subject_named(word: &str) -> Option<Subject> {
-    match word {
-        "relation" => Some(Subject::Relation),
-        "text" => Some(Subject::Text),
-        "store" => Some(Subject::Store),
-        "index" => Some(Subject::Index),
-        _ => calls_named(word).map(Subject::Calls),
+    for (name, subject) in SUBJECTS {
+        if *name == word {
+            return Some(*subject);
+        }
+    }
+    None
+}
+
+/// How bytes stand in the words of a subject.
+fn form_of(subject: Subject) -> Form {
+    match subject {
+        Subject::Relation | Subject::Text | Subject::Store | Subject::Index => Form::Hexadecimal,
+        _ => Form::Plain,
     }
 }
 
@@ -98,48 +125,86 @@ enum Asked {
 }
 
 // What a store or a cache is asked for with a second argument.
-fn asked_of(held: Held, word: &str) -> Result<Asked> {
+fn asked_of(held: Held, word: &str) -> Option<Asked> {
     if word == "measure" {
-        return Ok(Asked::Times(held));
+        return Some(Asked::Times(held));
     }
-    let kind = list_kind_named(word).context("a kind that is not known")?;
-    Ok(Asked::List(held, kind))
+    match list_kind_named(word) {
+        Some(kind) => Some(Asked::List(held, kind)),
+        None => None,
+    }
+}
+
+fn counted(word: &str) -> Option<Asked> {
+    match text_kind_named(word) {
+        Some(kind) => Some(Asked::Count(kind)),
+        None => None,
+    }
 }
 
 // What a subject asks for with a second argument.
-fn asked_by(subject: Subject, word: &str) -> Result<Asked> {
+fn asked_by(subject: Subject, word: &str) -> Option<Asked> {
     match subject {
-        Subject::Relation if word == "measure" => Ok(Asked::Costs),
-        Subject::Text => {
-            let kind = text_kind_named(word).context("a kind that is not known")?;
-            Ok(Asked::Count(kind))
-        }
+        Subject::Relation if word == "measure" => Some(Asked::Costs),
+        Subject::Text => counted(word),
         Subject::Store => asked_of(Held::Store, word),
         Subject::Index => asked_of(Held::Cache, word),
-        Subject::Relation | Subject::Calls(_) => Ok(Asked::Answers(subject)),
+        _ => Some(Asked::Answers(subject)),
     }
 }
 
-fn read_arguments(rt: &HostRuntime) -> Result<Asked> {
-    let mut arguments = env::args(rt)?.skip(1);
-    let subject = match arguments.next() {
-        Some(word) => subject_named(word.as_str()).context("a subject that is not known")?,
+// What the words ask for, of which each may be missing.
+fn asked_for(first: Option<&str>, second: Option<&str>) -> Option<Asked> {
+    let subject = match first {
+        Some(word) => subject_named(word)?,
         None => Subject::Relation,
     };
-    match arguments.next() {
-        Some(word) => asked_by(subject, word.as_str()),
-        None => Ok(Asked::Answers(subject)),
+    match second {
+        Some(word) => asked_by(subject, word),
+        None => Some(Asked::Answers(subject)),
     }
 }
 
-// The answer to a line.
-fn say_answer(alloc: Global, kept: &mut Kept, subject: Subject, line: &str, said: &mut Said) {
+fn read_arguments(rt: &HostRuntime) -> Result<Option<Asked>> {
+    let mut arguments = env::args(rt)?.skip(1);
+    let first = arguments.next();
+    let second = arguments.next();
+    Ok(asked_for(first.as_deref(), second.as_deref()))
+}
+
+// The answer to the words of a line.
+fn say_words(kept: &mut Kept, subject: Subject, words: &mut Words<'_, '_>, said: &mut Said) {
     match subject {
-        Subject::Relation => say_field(alloc, line, said),
-        Subject::Text => say_text(alloc, line, said),
-        Subject::Store => say_change(alloc, &mut kept.store, line, said),
-        Subject::Index => say_followed(alloc, &mut kept.cache, line, said),
-        Subject::Calls(calls) => say_call(alloc, kept, calls, line, said),
+        Subject::Relation => say_field(words, said),
+        Subject::Text => say_text(words, said),
+        Subject::Store => say_change(&mut kept.store, words, said),
+        Subject::Index => say_followed(&mut kept.cache, words, said),
+        Subject::Versions => calls::versions::say_call(words, said),
+        Subject::Names => calls::names::say_call(words, said),
+        Subject::Fields => calls::fields::say_call(words, said),
+        Subject::Texts => calls::texts::say_call(words, said),
+        Subject::Pins => calls::pins::say_call(words, said),
+        Subject::Stores => calls::stores::say_call(&mut kept.store, words, said),
+        Subject::Caches => calls::caches::say_call(&mut kept.cache, words, said),
+    }
+}
+
+// The same, or why they are no question.
+fn say_question(kept: &mut Kept, subject: Subject, words: &[Word<'_>], said: &mut Said) {
+    let mut words = Words::new(said.alloc(), words);
+    say_words(kept, subject, &mut words, said);
+    words.end(said);
+}
+
+// The answer to a line, with escapes as Rust writes them where its words are plain.
+fn say_answer(kept: &mut Kept, subject: Subject, line: &str, said: &mut Said) {
+    let form = form_of(subject);
+    match read_words(said.alloc(), form, line) {
+        Ok(words) => say_question(kept, subject, &words, said),
+        Err(_) => said.fail(OUT_OF_MEMORY),
+    }
+    if let Form::Plain = form {
+        said.escape();
     }
 }
 
@@ -148,42 +213,24 @@ fn is_heading(line: &str) -> bool {
     line.is_empty() || line.starts_with('#')
 }
 
-fn answer_line(rt: &HostRuntime, kept: &mut Kept, subject: Subject, line: &str) -> Result<()> {
-    let mut said = Said::new(rt.alloc());
-    if is_heading(line) {
+// Answers a line. One that names a subject, is empty or a heading is written again. The subject of the next line comes back.
+fn say_line(kept: &mut Kept, subject: Subject, line: &str, said: &mut Said) -> Subject {
+    let named = subject_named(line);
+    if named.is_some() || is_heading(line) {
         said.add(line.as_bytes());
     } else {
-        say_answer(rt.alloc(), kept, subject, line, &mut said);
+        say_answer(kept, subject, line, said);
     }
-    write_line(rt, said)
-}
-
-// Writes a line that names a subject again.
-fn name_subject(rt: &HostRuntime, line: &str) -> Result<()> {
-    let mut said = Said::new(rt.alloc());
-    said.add(line.as_bytes());
-    write_line(rt, said)
-}
-
-// Answers a line of this subject if it doesn't name one. The subject of the next line comes back.
-fn answer_next(rt: &HostRuntime, kept: &mut Kept, subject: Subject, line: &str) -> Result<Subject> {
-    match subject_named(line) {
-        Some(named) => {
-            name_subject(rt, line)?;
-            Ok(named)
-        }
-        None => {
-            answer_line(rt, kept, subject, line)?;
-            Ok(subject)
-        }
-    }
+    named.unwrap_or(subject)
 }
 
 fn answer_lines(rt: &HostRuntime, kept: &mut Kept, first: Subject) -> Result<()> {
     let alloc = rt.alloc();
     let mut subject = first;
     for line in BufReader::new(alloc, rt.reader())?.lines(alloc) {
-        subject = answer_next(rt, kept, subject, line?.as_str())?;
+        let mut said = Said::new(alloc);
+        subject = say_line(kept, subject, line?.as_str(), &mut said);
+        write_line(rt, said)?;
     }
     Ok(())
 }
@@ -214,13 +261,25 @@ fn keep_list(rt: &HostRuntime, kept: &mut Kept, held: Held, kind: ListKind) -> R
     write_line(rt, said)
 }
 
-fn main(rt: HostRuntime) -> Result<()> {
+fn answer(rt: &HostRuntime, kept: &mut Kept, asked: Asked) -> Result<()> {
+    match asked {
+        Asked::Answers(subject) => answer_lines(rt, kept, subject),
+        Asked::Costs => measure::measure(rt, &measure::read_fields(rt)?),
+        Asked::Count(kind) => count_parts(rt, kind),
+        Asked::List(held, kind) => keep_list(rt, kept, held, kind),
+        Asked::Times(held) => measure::measure_edits(rt, kept, held),
+    }
+}
+
+// With a new store and a new cache, which are dropped here alone.
+fn answer_anew(rt: &HostRuntime, asked: Asked) -> Result<()> {
     let mut kept = Kept::new(rt.alloc());
+    answer(rt, &mut kept, asked)
+}
+
+fn main(rt: HostRuntime) -> Result<()> {
     match read_arguments(&rt)? {
-        Asked::Answers(subject) => answer_lines(&rt, &mut kept, subject),
-        Asked::Costs => measure::measure(&rt, &measure::read_fields(&rt)?),
-        Asked::Count(kind) => count_parts(&rt, kind),
-        Asked::List(held, kind) => keep_list(&rt, &mut kept, held, kind),
-        Asked::Times(held) => measure::measure_edits(&rt, &mut kept, held),
+        Some(asked) => answer_anew(&rt, asked),
+        None => bail!("words that ask for nothing that is known"),
     }
 }

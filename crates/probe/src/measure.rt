@@ -2,12 +2,11 @@
 
 use crate::edits::edit_named;
 use crate::kept::{Held, Kept};
-use crate::relations::{Field, field_of};
 use crate::said::Said;
-use crate::words::Words;
+use crate::words::{Form, Words, read_words};
 use crate::writing::write_line;
 use anyhow::{Context, Error, Result};
-use ctl_relation::{Relations, parse_relations};
+use ctl_relation::{FieldKind, Relations, parse_relations};
 use ctl_store::Edit;
 use std::alloc::{AllocError, Global};
 use std::fs;
@@ -16,6 +15,13 @@ use std::rt::Files;
 use std::time::Instant;
 
 const PAGE: u64 = 4096;
+
+/// A relation field: which one, and its body.
+#[derive(Drop)]
+pub struct Field {
+    pub kind: FieldKind,
+    pub body: Vec<u8>,
+}
 
 // How many bytes of memory the process has in use.
 fn resident<R: Files + AllocGlobal>(rt: &R) -> Result<u64> {
@@ -76,14 +82,23 @@ fn measure_made(
     write_line(rt, said)
 }
 
-// The same of the edit of a line.
-fn measure_line(rt: &HostRuntime, kept: &mut Kept, held: Held, line: &str) -> Result<()> {
-    let mut words = Words::new(rt.alloc(), line);
+// The same of the edit of the words of a line.
+fn measure_words(
+    rt: &HostRuntime,
+    kept: &mut Kept,
+    held: Held,
+    words: &mut Words<'_, '_>,
+) -> Result<()> {
     let word = words.word();
-    match edit_named(&mut words, word) {
+    match edit_named(words, word) {
         Some(edit) => measure_made(rt, kept, held, word, edit),
         None => Err(Error::msg(words.fault().unwrap_or("a line that is no edit"))),
     }
+}
+
+fn measure_line(rt: &HostRuntime, kept: &mut Kept, held: Held, line: &str) -> Result<()> {
+    let words = read_words(rt.alloc(), Form::Hexadecimal, line)?;
+    measure_words(rt, kept, held, &mut Words::new(rt.alloc(), &words))
 }
 
 /// Makes the edits of standard input in a new store or a new cache, and prints a line for each.
@@ -95,12 +110,20 @@ pub fn measure_edits(rt: &HostRuntime, kept: &mut Kept, held: Held) -> Result<()
     Ok(())
 }
 
-// Adds the field of a line.
-fn add_field(alloc: Global, fields: &mut Vec<Field>, line: &str) -> Result<()> {
-    match field_of(alloc, line) {
-        Ok(field) => Ok(fields.push(field)?),
-        Err(why) => Err(Error::msg(why)),
+// The field that words give, which are its name and its body.
+fn field_of(words: &mut Words<'_, '_>) -> Result<Field> {
+    let kind = words.field_kind();
+    let body = words.kept().into_vec();
+    match words.fault() {
+        None => Ok(Field { kind, body }),
+        Some(why) => Err(Error::msg(why)),
     }
+}
+
+// The field of a line.
+fn read_field(alloc: Global, line: &str) -> Result<Field> {
+    let words = read_words(alloc, Form::Hexadecimal, line)?;
+    field_of(&mut Words::new(alloc, &words))
 }
 
 /// All lines of standard input as relation fields.
@@ -108,7 +131,7 @@ pub fn read_fields(rt: &HostRuntime) -> Result<Vec<Field>> {
     let alloc = rt.alloc();
     let mut fields = Vec::new(alloc);
     for line in BufReader::new(alloc, rt.reader())?.lines(alloc) {
-        add_field(alloc, &mut fields, line?.as_str())?;
+        fields.push(read_field(alloc, line?.as_str())?)?;
     }
     Ok(fields)
 }

@@ -4,18 +4,6 @@ use crate::said::Said;
 use ctl_relation::{FieldKind, Groups, Version};
 use ctl_stanza::{Record, Stanza};
 
-const KINDS: [FieldKind; 9] = [
-    FieldKind::PreDepends,
-    FieldKind::Depends,
-    FieldKind::Conflicts,
-    FieldKind::Breaks,
-    FieldKind::Recommends,
-    FieldKind::Suggests,
-    FieldKind::Replaces,
-    FieldKind::Enhances,
-    FieldKind::Provides,
-];
-
 // Groups, each in its printed form.
 fn say_groups(mark: &[u8], groups: Groups<'_>, said: &mut Said) {
     for group in groups {
@@ -40,9 +28,9 @@ fn say_fields(stanza: &Stanza, said: &mut Said) {
 
 // The groups of each field, and those of Provides.
 fn say_relations(stanza: &Stanza, said: &mut Said) {
-    for kind in KINDS {
+    for kind in FieldKind::nine() {
         said.add(b" ");
-        say_groups(b"&", stanza.groups(kind), said);
+        say_groups(b"&", stanza.groups(*kind), said);
     }
     say_groups(b"+", stanza.provides(), said);
 }

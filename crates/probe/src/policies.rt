@@ -10,18 +10,11 @@ use ctl_index::Cache;
 use ctl_policy::{Chosen, NewestFirst, list_priority, row_priority, specific_pin};
 use ctl_store::{StanzaKey, Store};
 
-fn say_lead(lead: Option<StanzaKey>, said: &mut Said) {
-    match lead {
-        Some(key) => said.key(b":", key),
-        None => said.add(b":-"),
-    }
-}
-
 // A name with the leads of its installed row and its candidate.
 fn say_chosen(mark: &[u8], name: &[u8], chosen: Chosen, said: &mut Said) {
     said.word(mark, name);
-    say_lead(chosen.installed, said);
-    say_lead(chosen.candidate, said);
+    said.lead(b":", chosen.installed);
+    said.lead(b":", chosen.candidate);
 }
 
 // The keys of a row, the first behind `=` and others behind `+`.
@@ -57,7 +50,7 @@ fn say_package(cache: &Cache, name: &[u8], said: &mut Said)
     requires { cache.now.stale ≡ false }
 {
     say_chosen(b" package=", name, cache.chosen(name), said);
-    say_rows(cache.store(), name, cache.rows(name), said);
+    say_rows(cache.store(), name, cache.row_keys(name), said);
 }
 
 // The lists, with the priority of each.

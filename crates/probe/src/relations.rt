@@ -1,44 +1,17 @@
 //! Relation fields, and what they are read to.
 
 use crate::said::Said;
+use crate::words::Words;
 use ctl_relation::{FieldKind, Groups, RelationFault, parse_relations};
-use std::alloc::Global;
-
-/// A relation field: which one, and its body.
-#[derive(Drop)]
-pub struct Field {
-    pub kind: FieldKind,
-    pub body: Vec<u8>,
-}
 
 /// The relation field of a name.
 pub fn kind_named(name: &str) -> Option<FieldKind> {
-    match name {
-        "Pre-Depends" => Some(FieldKind::PreDepends),
-        "Depends" => Some(FieldKind::Depends),
-        "Conflicts" => Some(FieldKind::Conflicts),
-        "Breaks" => Some(FieldKind::Breaks),
-        "Recommends" => Some(FieldKind::Recommends),
-        "Suggests" => Some(FieldKind::Suggests),
-        "Replaces" => Some(FieldKind::Replaces),
-        "Enhances" => Some(FieldKind::Enhances),
-        "Provides" => Some(FieldKind::Provides),
-        _ => None,
+    for kind in FieldKind::nine() {
+        if kind.key().eq_ignore_ascii_case(name.as_bytes()) {
+            return Some(*kind);
+        }
     }
-}
-
-/// The field of a line, which is its name, a tab, and its body in hexadecimal digits; or why it is none.
-pub fn field_of(alloc: Global, line: &str) -> Result<Field, &'static str> {
-    let Some((name, digits)) = line.split_once('\t') else {
-        return Err("a line without a tab");
-    };
-    let Some(kind) = kind_named(name) else {
-        return Err("a field that holds no relations");
-    };
-    match hex::decode(alloc, digits) {
-        Ok(body) => Ok(Field { kind, body }),
-        Err(_) => Err("a body that is not hexadecimal"),
-    }
+    None
 }
 
 /// The name of a fault.
@@ -65,17 +38,11 @@ fn say_groups(groups: Groups<'_>, said: &mut Said) {
     }
 }
 
-fn say_read(alloc: Global, field: &Field, said: &mut Said) {
-    match parse_relations(alloc, &field.body, field.kind) {
+/// `groups:` and the groups, each behind a space and joined by commas, or `fault:`, a space and its name.
+pub fn say_field(words: &mut Words<'_, '_>, said: &mut Said) {
+    let kind = words.field_kind();
+    match parse_relations(words.alloc(), words.bytes(), kind) {
         Err(fault) => said.all(&[b"fault: ", fault_name(fault)]),
         Ok(relations) => say_groups(relations.groups(), said),
-    }
-}
-
-/// `groups:` and the groups, each behind a space and joined by commas, or `fault:`, a space and its name.
-pub fn say_field(alloc: Global, line: &str, said: &mut Said) {
-    match field_of(alloc, line) {
-        Ok(field) => say_read(alloc, &field, said),
-        Err(why) => said.fail(why),
     }
 }

@@ -25,6 +25,11 @@ impl Said {
         }
     }
 
+    /// Where memory for what is said comes from.
+    pub fn alloc(&self) -> Global {
+        self.alloc
+    }
+
     /// Keeps why something failed.
     pub fn fail(&mut self, why: &'static str) {
         self.fault = Some(why);
@@ -89,6 +94,14 @@ impl Said {
         self.number(b".", key.stanza as u128);
     }
 
+    /// The same, or `-` behind the mark where there is none.
+    pub fn lead(&mut self, mark: &[u8], lead: Option<StanzaKey>) {
+        match lead {
+            Some(key) => self.key(mark, key),
+            None => self.all(&[mark, b"-"]),
+        }
+    }
+
     /// Keys, each behind a mark.
     pub fn keys(&mut self, mark: &[u8], keys: &[StanzaKey]) {
         for key in keys {
@@ -114,10 +127,13 @@ impl Said {
         self.keep(added);
     }
 
-    /// Bytes with escapes as Rust writes them.
-    pub fn escaped(&mut self, bytes: &[u8]) {
-        let added = append_escaped(self.alloc, bytes, &mut self.bytes);
-        self.keep(added);
+    /// Turns what is said into escapes as Rust writes them.
+    pub fn escape(&mut self) {
+        let told = format!(in self.alloc; "{}", self.bytes.escape_ascii());
+        match told {
+            Ok(told) => self.bytes = told.into_bytes(),
+            Err(_) => self.fail(OUT_OF_MEMORY),
+        }
     }
 }
 
@@ -163,9 +179,4 @@ fn append_group_word(
     let mut printed = Vec::new(alloc);
     group.append_to(&mut printed)?;
     append_word(alloc, mark, &printed, bytes)
-}
-
-fn append_escaped(alloc: Global, said: &[u8], bytes: &mut Vec<u8>) -> Result<(), AllocError> {
-    let told = format!(in alloc; "{}", said.escape_ascii())?;
-    bytes.extend_from_slice(told.as_bytes())
 }

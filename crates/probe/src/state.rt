@@ -1,25 +1,10 @@
 //! What a store holds, as text.
 
+use crate::calls::store_views::{class_words, kind_words};
 use crate::said::Said;
 use crate::words::Words;
 use ctl_relation::Version;
-use ctl_stanza::ListKind;
-use ctl_store::{ListClass, Selector, Store};
-
-fn kind_name(kind: ListKind) -> &'static [u8] {
-    match kind {
-        ListKind::Packages => b" packages",
-        ListKind::Status => b" status",
-    }
-}
-
-fn class_name(class: ListClass) -> &'static [u8] {
-    match class {
-        ListClass::Plain => b" plain",
-        ListClass::NotAutomatic => b" notauto",
-        ListClass::ButAutomatic => b" butauto",
-    }
-}
+use ctl_store::{Selector, Store};
 
 // The keys of the stanzas of a list, each with the stanza's text.
 fn say_stanzas(store: &Store, name: &[u8], said: &mut Said) {
@@ -33,7 +18,7 @@ fn say_stanzas(store: &Store, name: &[u8], said: &mut Said) {
 fn say_lists(store: &Store, said: &mut Said) {
     for (name, kind, class) in store.lists() {
         said.word(b" list ", name);
-        said.all(&[kind_name(kind), class_name(class)]);
+        said.all(&[b" ", kind_words(kind), class_words(class)]);
         say_stanzas(store, name, said);
     }
 }
@@ -50,13 +35,13 @@ fn say_mark(name: &[u8], mark: Option<Option<&Version>>, said: &mut Said) {
 }
 
 // The marks of the packages that the words name.
-fn say_marks(store: &Store, words: &mut Words<'_>, said: &mut Said) {
+fn say_marks(store: &Store, words: &mut Words<'_, '_>, said: &mut Said) {
     for _ in 0..u64::MAX {
         if words.is_over() {
             break;
         }
         let name = words.bytes();
-        say_mark(name.as_slice(), store.mark(name.as_slice()), said);
+        say_mark(name, store.mark(name), said);
     }
 }
 
@@ -103,7 +88,7 @@ fn say_numbers(store: &Store, said: &mut Said) {
 }
 
 /// The lists, the marks of the packages that the words name, the pin settings, the target release and the numbers.
-pub fn say_state(store: &Store, words: &mut Words<'_>, said: &mut Said) {
+pub fn say_state(store: &Store, words: &mut Words<'_, '_>, said: &mut Said) {
     said.add(b"state");
     say_lists(store, said);
     say_marks(store, words, said);

@@ -4,8 +4,7 @@ use crate::edits::edit_named;
 use crate::said::Said;
 use crate::state::say_state;
 use crate::words::Words;
-use ctl_store::{Edit, Plan, Refusal, Store};
-use std::alloc::Global;
+use ctl_store::{Edit, Limits, Plan, Refusal, Store};
 
 // The text of the first stanza that comes.
 fn say_first(plan: &Plan, said: &mut Said) {
@@ -57,30 +56,23 @@ pub fn change(store: &mut Store, edit: Edit) -> Result<(), Refusal> {
 }
 
 // Begins with a new store.
-fn begin(store: &mut Store, words: &mut Words<'_>, said: &mut Said) {
-    let limits = words.limits();
-    *store = Store::with_limits(words.alloc(), limits);
+fn begin(store: &mut Store, limits: Limits, said: &mut Said) {
+    *store = Store::with_limits(said.alloc(), limits);
     said.add(b"new");
 }
 
-fn say_edited(store: &mut Store, word: &str, words: &mut Words<'_>, said: &mut Said) {
+fn say_edited(store: &mut Store, word: &str, words: &mut Words<'_, '_>, said: &mut Said) {
     if let Some(edit) = edit_named(words, word) {
         say_foretold(store, &edit, said);
         say_outcome(store, edit, said);
     }
 }
 
-fn say_told(store: &mut Store, words: &mut Words<'_>, said: &mut Said) {
+/// Changes the store by a line, or shows what it holds.
+pub fn say_change(store: &mut Store, words: &mut Words<'_, '_>, said: &mut Said) {
     match words.word() {
-        "limits" => begin(store, words, said),
+        "limits" => begin(store, words.limits(), said),
         "dump" => say_state(store, words, said),
         word => say_edited(store, word, words, said),
     }
-}
-
-/// Changes the store by a line, or shows what it holds.
-pub fn say_change(alloc: Global, store: &mut Store, line: &str, said: &mut Said) {
-    let mut words = Words::new(alloc, line);
-    say_told(store, &mut words, said);
-    words.end(said);
 }

@@ -2,6 +2,7 @@
 
 use crate::parts::{say_record, say_stanza};
 use crate::said::Said;
+use crate::words::Words;
 use ctl_stanza::{
     ListKind, Record, Stanza, TextFault, lines_take_bytes, read_records, read_stanzas,
 };
@@ -26,10 +27,8 @@ pub fn list_kind_named(word: &str) -> Option<ListKind> {
 /// The kind of text of a name.
 pub fn text_kind_named(word: &str) -> Option<TextKind> {
     match word {
-        "packages" => Some(TextKind::List(ListKind::Packages)),
-        "status" => Some(TextKind::List(ListKind::Status)),
         "records" => Some(TextKind::Records),
-        _ => None,
+        _ => list_kind_named(word).map(TextKind::List),
     }
 }
 
@@ -50,27 +49,19 @@ fn say_records(records: &[Record], said: &mut Said) {
     }
 }
 
-fn say_list(alloc: Global, kind: ListKind, text: &[u8], said: &mut Said) {
+fn say_list(kind: ListKind, text: &[u8], said: &mut Said) {
     lines_take_bytes();
-    match read_stanzas(alloc, text, 1, kind) {
+    match read_stanzas(said.alloc(), text, 1, kind) {
         Ok(stanzas) => say_stanzas(&stanzas, said),
         Err(fault) => say_fault(fault, said),
     }
 }
 
-fn say_text_of_records(alloc: Global, text: &[u8], said: &mut Said) {
+fn say_text_of_records(text: &[u8], said: &mut Said) {
     lines_take_bytes();
-    match read_records(alloc, text, 1) {
+    match read_records(said.alloc(), text, 1) {
         Ok(records) => say_records(&records, said),
         Err(fault) => say_fault(fault, said),
-    }
-}
-
-// What a text is read to.
-fn say_read(alloc: Global, kind: TextKind, text: &[u8], said: &mut Said) {
-    match kind {
-        TextKind::List(kind) => say_list(alloc, kind, text, said),
-        TextKind::Records => say_text_of_records(alloc, text, said),
     }
 }
 
@@ -97,16 +88,11 @@ pub fn say_count(alloc: Global, kind: TextKind, text: &[u8], said: &mut Said) {
     }
 }
 
-/// What the text of a line is read to.
-pub fn say_text(alloc: Global, line: &str, said: &mut Said) {
-    let Some((word, digits)) = line.split_once('\t') else {
-        return said.fail("a line without a tab");
-    };
-    let Some(kind) = text_kind_named(word) else {
-        return said.fail("a kind that is not known");
-    };
-    match hex::decode(alloc, digits) {
-        Ok(text) => say_read(alloc, kind, &text, said),
-        Err(_) => said.fail("a text that is not hexadecimal"),
+/// What a text is read to.
+pub fn say_text(words: &mut Words<'_, '_>, said: &mut Said) {
+    match text_kind_named(words.word()) {
+        Some(TextKind::List(kind)) => say_list(kind, words.bytes(), said),
+        Some(TextKind::Records) => say_text_of_records(words.bytes(), said),
+        None => said.fail("a kind that is not known"),
     }
 }

@@ -7,42 +7,74 @@ use crate::texts::list_kind_named;
 use ctl_relation::{Bytes, FieldKind, Version};
 use ctl_stanza::ListKind;
 use ctl_store::Limits;
-use std::alloc::Global;
+use std::alloc::{AllocError, Global};
 
-/// How bytes stand in words.
+/// How bytes stand in words: in hexadecimal digits, or most for themselves and others by escapes.
 #[derive(Clone, Copy)]
-enum Form {
+pub enum Form {
     Hexadecimal,
     Plain,
 }
 
-/// The words of a line that are left, with tabs between them, and why they are no question if they are none. A word that is
-/// missing or not what it has to be is kept as the fault, and is read as one that is empty: whoever answers the line asks once.
+/// A word: as it stands in its line, and the bytes that it gives, or why it gives none.
 #[derive(Drop)]
-pub struct Words<'a> {
-    alloc: Global,
-    form: Form,
-    left: Option<&'a str>,
+pub struct Word<'a> {
+    text: &'a str,
+    bytes: Vec<u8>,
     fault: Option<&'static str>,
 }
 
-impl<'a> Words<'a> {
-    /// Words in which bytes stand in hexadecimal digits.
-    pub fn new(alloc: Global, line: &'a str) -> Words<'a> {
-        Words {
-            alloc,
-            form: Form::Hexadecimal,
-            left: Some(line),
-            fault: None,
-        }
+fn read_bytes(alloc: Global, form: Form, text: &str) -> Result<Vec<u8>, &'static str> {
+    match form {
+        Form::Plain => unescaped(alloc, text),
+        Form::Hexadecimal => hex::decode(alloc, text).or(Err("a word that is not hexadecimal")),
     }
+}
 
-    /// Words in which most bytes stand for themselves, and others are written by escapes.
-    pub fn plain(alloc: Global, line: &'a str) -> Words<'a> {
+fn read_word<'a>(alloc: Global, form: Form, text: &'a str) -> Word<'a> {
+    match read_bytes(alloc, form, text) {
+        Ok(bytes) => Word {
+            text,
+            bytes,
+            fault: None,
+        },
+        Err(why) => Word {
+            text,
+            bytes: Vec::new(alloc),
+            fault: Some(why),
+        },
+    }
+}
+
+/// The words of a line, with tabs between them.
+pub fn read_words<'a>(
+    alloc: Global,
+    form: Form,
+    line: &'a str,
+) -> Result<Vec<Word<'a>>, AllocError> {
+    let mut words = Vec::new(alloc);
+    for text in line.split('\t') {
+        words.push(read_word(alloc, form, text))?;
+    }
+    Ok(words)
+}
+
+/// The words of a line that are left, and why they are no question if they are none. A word that is missing or not what it has
+/// to be is kept as the fault, and is read as one that is empty: whoever answers the line asks once.
+///
+/// What a word gives is lent by the line, so that whoever asks for it has nothing to drop.
+#[derive(Drop)]
+pub struct Words<'w, 'a> {
+    alloc: Global,
+    left: &'w [Word<'a>],
+    fault: Option<&'static str>,
+}
+
+impl<'w, 'a> Words<'w, 'a> {
+    pub fn new(alloc: Global, left: &'w [Word<'a>]) -> Words<'w, 'a> {
         Words {
             alloc,
-            form: Form::Plain,
-            left: Some(line),
+            left,
             fault: None,
         }
     }
@@ -73,67 +105,83 @@ impl<'a> Words<'a> {
 
     /// Whether no word is left.
     pub fn is_over(&self) -> bool {
-        self.left.is_none()
+        self.left.is_empty()
     }
 
     /// The next word, if one is left.
-    pub fn next_word(&mut self) -> Option<&'a str> {
-        let line = self.left?;
-        match line.split_once('\t') {
-            Some((word, rest)) => {
-                self.left = Some(rest);
+    fn next_word(&mut self) -> Option<&'w Word<'a>> {
+        match self.left {
+            [word, rest @ ..] => {
+                self.left = rest;
                 Some(word)
             }
-            None => {
-                self.left = None;
-                Some(line)
+            [] => {
+                self.fail("a word is missing");
+                None
             }
         }
     }
 
+    /// The next word, as it stands in the line.
     pub fn word(&mut self) -> &'a str {
         match self.next_word() {
-            Some(word) => word,
-            None => {
-                self.fail("a word is missing");
-                ""
-            }
+            Some(word) => word.text,
+            None => "",
         }
     }
 
     // The bytes that a word gives.
-    fn bytes_of(&mut self, word: &str) -> Bytes {
-        match read_word(self.alloc, self.form, word) {
-            Ok(bytes) => Bytes::from_vec(bytes),
-            Err(why) => {
-                self.fail(why);
+    fn bytes_of(&mut self, word: &'w Word<'a>) -> &'w [u8] {
+        if let Some(why) = word.fault {
+            self.fail(why);
+        }
+        &word.bytes
+    }
+
+    /// The bytes that the next word gives.
+    pub fn bytes(&mut self) -> &'w [u8] {
+        match self.next_word() {
+            Some(word) => self.bytes_of(word),
+            None => b"",
+        }
+    }
+
+    // Whether the next word is `-`, which is then read.
+    fn reads_none(&mut self) -> bool {
+        match self.left {
+            [word, rest @ ..] if word.text == "-" => {
+                self.left = rest;
+                true
+            }
+            _ => false,
+        }
+    }
+
+    /// The bytes that the next word gives, kept.
+    pub fn kept(&mut self) -> Bytes {
+        match Bytes::from_slice(self.alloc, self.bytes()) {
+            Ok(bytes) => bytes,
+            Err(_) => {
+                self.fail(OUT_OF_MEMORY);
                 Bytes::from_vec(Vec::new(self.alloc))
             }
         }
     }
 
-    /// The bytes that the next word gives.
-    pub fn bytes(&mut self) -> Bytes {
-        let word = self.word();
-        self.bytes_of(word)
-    }
-
     /// The same, or none where the word is `-`.
-    pub fn bytes_or_none(&mut self) -> Option<Bytes> {
-        match self.word() {
-            "-" => None,
-            word => Some(self.bytes_of(word)),
+    pub fn kept_or_none(&mut self) -> Option<Bytes> {
+        if self.reads_none() {
+            None
+        } else {
+            Some(self.kept())
         }
     }
 
-    /// The bytes that each of the words gives that are left.
-    pub fn all_bytes(&mut self) -> Vec<Bytes> {
+    /// The bytes that each of the words gives that are left, kept.
+    pub fn all_kept(&mut self) -> Vec<Bytes> {
         let mut all = Vec::new(self.alloc);
-        for _ in 0..u64::MAX {
-            if self.is_over() {
-                break;
-            }
-            if all.push(self.bytes()).is_err() {
+        for _ in self.left {
+            if all.push(self.kept()).is_err() {
                 self.fail(OUT_OF_MEMORY);
             }
         }
@@ -162,9 +210,9 @@ impl<'a> Words<'a> {
         }
     }
 
-    // The version of a text, or none, and then the words are no question.
-    fn version_of(&mut self, text: &[u8]) -> Option<Version> {
-        match Version::parse(self.alloc, text) {
+    /// A version, or none where the word is none, and then the words are no question.
+    pub fn version(&mut self) -> Option<Version> {
+        match Version::parse(self.alloc, self.bytes()) {
             Ok(version) => Some(version),
             Err(_) => {
                 self.fail("a word that is no version");
@@ -173,32 +221,29 @@ impl<'a> Words<'a> {
         }
     }
 
-    /// A version, or none where the word is none, and then the words are no question.
-    pub fn version(&mut self) -> Option<Version> {
-        let text = self.bytes();
-        self.version_of(text.as_slice())
-    }
-
     /// A version, or none where the word is `-`.
     pub fn version_or_none(&mut self) -> Option<Version> {
-        match self.bytes_or_none() {
-            Some(text) => self.version_of(text.as_slice()),
-            None => None,
+        if self.reads_none() {
+            None
+        } else {
+            self.version()
+        }
+    }
+
+    // Adds the version that the next word gives.
+    fn add_version(&mut self, all: &mut Vec<Version>) {
+        if let Some(version) = self.version() {
+            if all.push(version).is_err() {
+                self.fail(OUT_OF_MEMORY);
+            }
         }
     }
 
     /// The versions that each of the words gives that are left.
     pub fn versions(&mut self) -> Vec<Version> {
         let mut all = Vec::new(self.alloc);
-        for _ in 0..u64::MAX {
-            if self.is_over() {
-                break;
-            }
-            if let Some(version) = self.version() {
-                if all.push(version).is_err() {
-                    self.fail(OUT_OF_MEMORY);
-                }
-            }
+        for _ in self.left {
+            self.add_version(&mut all);
         }
         all
     }
@@ -227,15 +272,5 @@ impl<'a> Words<'a> {
                 0
             }
         }
-    }
-}
-
-fn read_word(alloc: Global, form: Form, word: &str) -> Result<Vec<u8>, &'static str> {
-    match form {
-        Form::Plain => unescaped(alloc, word),
-        Form::Hexadecimal => match hex::decode(alloc, word) {
-            Ok(bytes) => Ok(bytes),
-            Err(_) => Err("a word that is not hexadecimal"),
-        },
     }
 }

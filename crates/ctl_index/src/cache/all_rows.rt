@@ -52,7 +52,8 @@ impl Cache {
     /// The rows of each known name, newest first, in the order of the names. A name without a row has none.
     pub fn all_rows(&self) -> AllRows<'_>
         requires { self.now.stale ≡ false }
-        ensures rows { result ≡ map (λ (name : List ℕ). map keys_of_row (newest_first (rows_named name (keyed_of self.now.store).lists))) (known_names (stanzas_of_state (state_of self.now.store))) }
+        ensures rows { result ≡ map (λ (name : List ℕ). map keys_of_row (newest_first (rows_named name
+            (keyed_of self.now.store).lists))) (known_names (stanzas_of_state (state_of self.now.store))) }
         ensures held { AllByRecursion (λ rows. AllByRecursion (λ row. AreHeld row (keyed_of self.now.store).lists) rows) result }
     {
         rows_are_defined();

@@ -1,6 +1,6 @@
 //! What a cache tells, where it isn't stale, of the rows of names, of which is installed, and of the candidates.
 
-ghost use Rattle.std.specs.Prelude.{◌≡◌, ℕ, List, false, map};
+ghost use Rattle.std.specs.Prelude.{◌≡◌, ◌∷◌, ℕ, List, [], IfSome, IfNone, false, filter_map, map};
 ghost use Rattle.std.specs.List.{AllByRecursion, list_any};
 ghost use Rattle.std.specs.List.Sorted.{IsStrictlySortedBy};
 ghost use Rattle.std.specs.Cmp.Lexicographic.{slice_cmp};
@@ -8,7 +8,7 @@ ghost use Rattle.std.specs.Ordering.{nat_cmp};
 ghost use Rattle.std.specs.Str.{bytes_eq};
 ghost use Rattle.ctl_store.specs.Keys.{AreHeld};
 ghost use Rattle.ctl_store.specs.Held.{keyed_of, state_of};
-ghost use Rattle.ctl_policy.specs.Rows.{rows_named, newest_first, keys_of_row, lead_at, has_row, sources_of};
+ghost use Rattle.ctl_policy.specs.Rows.{rows_named, newest_first, keys_of_row, lead_of, lead_at, has_row, sources_of};
 ghost use Rattle.ctl_policy.specs.Priority.{world_of};
 ghost use Rattle.ctl_policy.specs.Candidate.{installed_of, candidate_of};
 ghost use Rattle.ctl_policy.specs.Chosen.{AreChosen, choice_in};
@@ -57,10 +57,66 @@ impl<'a> Iterator for Packages<'a> {
     }
 }
 
+/// The leads of the rows of a name, by [`Cache::rows`], newest first.
+#[derive(Drop)]
+pub struct Leads<'a> {
+    // What is left of the rows.
+    rows: NewestFirst<'a>,
+}
+
+impl<'a> Model for Leads<'a> {
+    ghost use Rattle.std.specs.Prelude.{List, filter_map};
+    ghost use Rattle.ctl_store.specs.declared.stanza_key.StanzaKey.{StanzaKey};
+    ghost use Rattle.ctl_policy.specs.Rows.{lead_of};
+
+    ghost Value = { List StanzaKey };
+
+    ghost view = { λ it. filter_map lead_of it.rows };
+}
+
+// Takes the rows up to the next lead.
+fn next_lead(rows: &mut NewestFirst<'_>) -> Option<StanzaKey>
+    ensures some { IfSome result (λ lead. filter_map lead_of rows.old ≡ lead ∷ filter_map lead_of rows.new) }
+    ensures none { IfNone result (filter_map lead_of rows.old ≡ []) }
+    ensures ended { IfNone result (filter_map lead_of rows.new ≡ []) }
+{
+    'rows: while let Some(keys) = rows.next() {
+        if let Some(lead) = keys.first() {
+            return Some(*lead);
+        }
+    }
+    None
+}
+
+impl<'a> Iterator for Leads<'a> {
+    ghost use Rattle.std.specs.Iterator.{YieldsFirst, item_count};
+
+    ghost next_gives = { YieldsFirst (λ rest. rest) };
+
+    ghost remaining = { item_count (λ rest. rest) };
+
+    type Item = StanzaKey;
+
+    fn next(&mut self) -> Option<StanzaKey> {
+        next_lead(&mut self.rows)
+    }
+}
+
 impl Cache {
+    /// The rows of a name, newest first: the key of the lead of each. There is none where the name has no row.
+    pub fn rows(&self, name: &[u8]) -> Leads<'_>
+        requires { self.now.stale ≡ false }
+        ensures { result ≡ filter_map lead_of
+            (map keys_of_row (newest_first (rows_named name.now (keyed_of self.now.store).lists))) }
+    {
+        Leads {
+            rows: self.row_keys(name),
+        }
+    }
+
     /// The rows of a name, newest first: the keys of the stanzas of each, in the order of all stanzas. There is none where the
     /// name has no row.
-    pub fn rows(&self, name: &[u8]) -> NewestFirst<'_>
+    pub fn row_keys(&self, name: &[u8]) -> NewestFirst<'_>
         requires { self.now.stale ≡ false }
         ensures rows { result ≡ map keys_of_row (newest_first (rows_named name.now (keyed_of self.now.store).lists)) }
         ensures held { AllByRecursion (λ row. AreHeld row (keyed_of self.now.store).lists) result }

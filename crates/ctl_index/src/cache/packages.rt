@@ -1,18 +1,18 @@
-//! The names of packages, lent in order.
+//! The names from a prefix on, and those of packages, lent in order.
 
-ghost use Rattle.std.specs.Prelude.{◌≡◌, ◌∷◌, ◌&&◌, [], ℕ, List, IfOk, IfSome, IfNone, false, nat_eq};
-ghost use Rattle.std.specs.List.{list_any, starts_with};
+ghost use Rattle.std.specs.Prelude.{◌≡◌, ◌∷◌, ◌&&◌, [], ℕ, List, IfOk, IfSome, IfNone, true, false, nat_eq};
+ghost use Rattle.std.specs.List.{AllByRecursion, list_any, starts_with};
 ghost use Rattle.std.specs.List.Sorted.{IsStrictlySortedBy};
 ghost use Rattle.std.specs.Cmp.Lexicographic.{slice_cmp};
-ghost use Rattle.std.specs.Ordering.{nat_cmp};
+ghost use Rattle.std.specs.Ordering.{nat_cmp, is_le};
 ghost use Rattle.std.specs.Str.{bytes_eq};
 ghost use Rattle.ctl_store.specs.Held.{state_of};
-ghost use Rattle.ctl_index.specs.Names.{is_package};
+ghost use Rattle.ctl_index.specs.Names.{is_package, known_names};
 ghost use Rattle.ctl_index.specs.NameMap.{entry_names};
 ghost use Rattle.ctl_index.specs.TablesViews.{packages_with, AreFrom};
 ghost use Rattle.ctl_index.specs.Work.{stanzas_of_state};
 
-use crate::cache::Cache;
+use crate::cache::{Cache, Names};
 use crate::name_entries::NameEntries;
 use crate::named::has_own;
 use std::alloc::AllocError;
@@ -73,6 +73,27 @@ impl<'a> Iterator for PackageNames<'a> {
 }
 
 impl Cache {
+    /// The names that are known and not before a prefix, in the order of their bytes. Those that begin with the prefix come
+    /// first.
+    ///
+    /// # Errors
+    ///
+    /// Want of memory, of which it takes as much as the prefix has bytes.
+    pub fn names_from(&self, prefix: &[u8]) -> Result<Names<'_>, AllocError>
+        requires { self.now.stale ≡ false }
+        // each once
+        ensures order { IfOk result (λ names. IsStrictlySortedBy (slice_cmp nat_cmp) names) }
+        ensures from { IfOk result (λ names. AllByRecursion (λ name. is_le (slice_cmp nat_cmp prefix.now name) ≡ true) names) }
+        ensures members { IfOk result (λ names. (name : List ℕ) → starts_with nat_eq name prefix.now ≡ true
+            → list_any (bytes_eq name) names ≡ list_any (bytes_eq name) (known_names (stanzas_of_state (state_of self.now.store)))) }
+        ensures only { IfOk result (λ names. (name : List ℕ) → list_any (bytes_eq name) names ≡ true
+            → list_any (bytes_eq name) (known_names (stanzas_of_state (state_of self.now.store))) ≡ true) }
+    {
+        let prefix = Vec::from_slice(self.alloc, prefix)?;
+        let left = self.tables.names.entries_from(&prefix);
+        Ok(Names::new(left))
+    }
+
     /// The names of packages that begin with a prefix, in the order of their bytes: those that a live stanza is of.
     ///
     /// # Errors

@@ -52,7 +52,8 @@ fn next_source<'a>(
     lists: &mut Lists<'a>,
 ) -> Option<&'a [u8]>
     requires { AreHeld keys.now (keyed_of store.now).lists }
-    ensures some { IfSome result (λ list. sources_among keys.now (keyed_of store.now).lists lists.old ≡ list.now ∷ sources_among keys.now (keyed_of store.now).lists lists.new) }
+    ensures some { IfSome result (λ list. sources_among keys.now (keyed_of store.now).lists lists.old
+        ≡ list.now ∷ sources_among keys.now (keyed_of store.now).lists lists.new) }
     ensures none { IfNone result (sources_among keys.now (keyed_of store.now).lists lists.old ≡ []) }
     ensures ended { IfNone result (lists.new ≡ []) }
 {

@@ -9,6 +9,7 @@ ghost use Rattle.ctl_store.specs.Keys.{AreHeld};
 ghost use Rattle.ctl_store.specs.Held.{keyed_of, state_of};
 ghost use Rattle.ctl_index.specs.Clauses.{clause_cmp, clause_at, number_at, unmet_clauses};
 ghost use Rattle.ctl_index.specs.Held.{standing};
+ghost use Rattle.ctl_index.specs.NameMap.{entry_names};
 ghost use Rattle.ctl_index.specs.Names.{known_names, namers_named};
 ghost use Rattle.ctl_index.specs.Offers.{offers_named};
 ghost use Rattle.ctl_index.specs.TablesOrder.{namer_key};
@@ -38,6 +39,15 @@ impl<'a> Model for Names<'a> {
     ghost Value = { List (List ℕ) };
 
     ghost view = { λ it. entry_names it.entries };
+}
+
+impl<'a> Names<'a> {
+    /// The names of these entries.
+    pub(crate) fn new(entries: NameEntries<'a>) -> Names<'a>
+        ensures { result ≡ entry_names entries.entry }
+    {
+        Names { entries }
+    }
 }
 
 impl<'a> Iterator for Names<'a> {

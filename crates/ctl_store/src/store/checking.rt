@@ -13,11 +13,12 @@ ghost use Rattle.ctl_store.specs.Keys.{found_in, found_of};
 ghost use Rattle.ctl_store.specs.Held.{state_of, keyed_of};
 
 use crate::edit::Edit;
+use crate::lists::find_in;
 use crate::refusal::Refusal;
 use crate::selector::Selector;
 use crate::stanza_key::StanzaKey;
 use crate::store::Store;
-use ctl_relation::Version;
+use ctl_relation::{Bytes, Version};
 use ctl_stanza::ListKind;
 
 /// 1 for a status list, else 0.
@@ -32,7 +33,7 @@ pub(super) fn one_if_status(kind: ListKind) -> u32
 
 impl Store {
     #[tactic(auto, using(crate::proofs::ListedLemmas::has_name_held))]
-    pub(super) fn has_list(&self, name: &[u8]) -> bool
+    pub(super) fn has_list(&self, name: &Bytes) -> bool
         ensures { result ≡ has_name name.now (state_of self.now).lists }
     {
         self.lists.get(name).is_some()
@@ -46,7 +47,7 @@ impl Store {
 
     // 1 for a status list that is there, else 0.
     #[tactic(auto, using(crate::proofs::ListedLemmas::at_name_held))]
-    pub(super) fn count_of_kind(&self, list: &[u8]) -> u32
+    pub(super) fn count_of_kind(&self, list: &Bytes) -> u32
         ensures { result ≡ option_map_or (λ l. count_of_kind l.kind) (at_name list.now (state_of self.now).lists) 0 }
     {
         match self.lists.get(list) {
@@ -57,7 +58,7 @@ impl Store {
 
     // The key of the first stanza of this name and an equal version in a list.
     #[tactic(auto, using(crate::proofs::ListedLemmas::at_name_lists, crate::proofs::ListedLemmas::has_stanza_held))]
-    fn found_in(&self, list: &[u8], name: &[u8], version: Option<&Version>) -> Option<StanzaKey>
+    fn found_in(&self, list: &Bytes, name: &[u8], version: Option<&Version>) -> Option<StanzaKey>
         ensures key { option_to_list result ≡ found_in list.now name.now (option_copied version.entry) (keyed_of self.now).lists }
         ensures there { is_some result ≡ has_stanza list.now name.now (option_copied version.entry) (state_of self.now).lists }
     {
@@ -69,12 +70,12 @@ impl Store {
 
     // The same key as `found_in`. The list's next look-up begins where it stands.
     #[tactic(auto, using(crate::proofs::ListedLemmas::at_name_lists, crate::proofs::ListedLemmas::has_stanza_held))]
-    fn seek_in(&mut self, list: &[u8], name: &[u8], version: Option<&Version>) -> Option<StanzaKey>
+    fn seek_in(&mut self, list: &Bytes, name: &[u8], version: Option<&Version>) -> Option<StanzaKey>
         ensures same { self.new ≡ self.old }
         ensures key { option_to_list result ≡ found_in list.now name.now (option_copied version.entry) (keyed_of self.old).lists }
         ensures there { is_some result ≡ has_stanza list.now name.now (option_copied version.entry) (state_of self.old).lists }
     {
-        self.lists.find_in(list, name, version)
+        find_in(&mut self.lists, list, name, version)
     }
 
     // The key of the stanza that an edit takes out or replaces.
@@ -84,13 +85,13 @@ impl Store {
     {
         match edit {
             Edit::Put { list, stanza } => {
-                self.found_in(list.as_slice(), stanza.package(), stanza.version())
+                self.found_in(list, stanza.package(), stanza.version())
             }
             Edit::Remove {
                 list,
                 package,
                 version,
-            } => self.found_in(list.as_slice(), package.as_slice(), Some(version)),
+            } => self.found_in(list, package.as_slice(), Some(version)),
             _ => None,
         }
     }
@@ -102,20 +103,18 @@ impl Store {
         ensures there { is_some result ≡ is_there (state_of self.old) (edit_of edit.now) }
     {
         match edit {
-            Edit::Put { list, stanza } => {
-                self.seek_in(list.as_slice(), stanza.package(), stanza.version())
-            }
+            Edit::Put { list, stanza } => { self.seek_in(list, stanza.package(), stanza.version()) }
             Edit::Remove {
                 list,
                 package,
                 version,
-            } => self.seek_in(list.as_slice(), package.as_slice(), Some(version)),
+            } => self.seek_in(list, package.as_slice(), Some(version)),
             _ => None,
         }
     }
 
     #[tactic(auto, using(crate::proofs::NamedLemmas::get_at_name))]
-    fn has_mark(&self, name: &[u8]) -> bool
+    fn has_mark(&self, name: &Bytes) -> bool
         ensures { result ≡ is_some (fin.get (state_of self.now).marks name.now) }
     {
         self.marks.get(name).is_some()
@@ -138,28 +137,26 @@ impl Store {
                 kind: _,
                 class: _,
                 stanzas: _,
-            } if self.has_list(name.as_slice()) => Some(Refusal::ListExists),
+            } if self.has_list(name) => Some(Refusal::ListExists),
             Edit::AddList {
                 name: _,
                 kind: ListKind::Status,
                 class: _,
                 stanzas: _,
             } if self.has_status() => Some(Refusal::StatusExists),
-            Edit::DropList { name } if !self.has_list(name.as_slice()) => Some(Refusal::NoList),
-            Edit::Put { list, stanza: _ } if !self.has_list(list.as_slice()) => {
-                Some(Refusal::NoList)
-            }
+            Edit::DropList { name } if !self.has_list(name) => Some(Refusal::NoList),
+            Edit::Put { list, stanza: _ } if !self.has_list(list) => { Some(Refusal::NoList) }
             Edit::Remove {
                 list,
                 package: _,
                 version: _,
-            } if !self.has_list(list.as_slice()) => Some(Refusal::NoList),
+            } if !self.has_list(list) => Some(Refusal::NoList),
             Edit::Remove {
                 list: _,
                 package: _,
                 version: _,
             } if !there => Some(Refusal::NoStanza),
-            Edit::Unmark { package } if !self.has_mark(package.as_slice()) => Some(Refusal::NoMark),
+            Edit::Unmark { package } if !self.has_mark(package) => Some(Refusal::NoMark),
             Edit::Unpin { selector } if !self.has_pin(selector) => Some(Refusal::NoPin),
             _ => None,
         }
@@ -195,7 +192,9 @@ impl Store {
     // Whether an edit, whose stanza is there or not, would be refused.
     pub(super) fn check_found(&self, edit: &Edit, there: bool) -> Result<(), Refusal>
         requires { there ≡ is_there (state_of self.now) (edit_of edit.now) }
-        ensures { MatchResult result (λ _. refusal_of self.now.limits (state_of self.now) (edit_of edit.now) ≡ None) (λ e. refusal_of self.now.limits (state_of self.now) (edit_of edit.now) ≡ Some e) }
+        ensures { MatchResult result
+            (λ _. refusal_of self.now.limits (state_of self.now) (edit_of edit.now) ≡ None)
+            (λ e. refusal_of self.now.limits (state_of self.now) (edit_of edit.now) ≡ Some e) }
     {
         if let Some(why) = self.misfit(edit, there) {
             return Err(why);
@@ -208,7 +207,9 @@ impl Store {
 
     /// Whether an edit would be refused, and why: 11 to 14, 16, 17 and 21 by [`Refusal::number`]. It takes no memory.
     pub fn check(&self, edit: &Edit) -> Result<(), Refusal>
-        ensures { MatchResult result (λ _. refusal_of self.now.limits (state_of self.now) (edit_of edit.now) ≡ None) (λ e. refusal_of self.now.limits (state_of self.now) (edit_of edit.now) ≡ Some e) }
+        ensures { MatchResult result
+            (λ _. refusal_of self.now.limits (state_of self.now) (edit_of edit.now) ≡ None)
+            (λ e. refusal_of self.now.limits (state_of self.now) (edit_of edit.now) ≡ Some e) }
     {
         self.check_found(edit, self.found(edit).is_some())
     }

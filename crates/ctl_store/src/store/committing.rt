@@ -13,6 +13,7 @@ ghost use Rattle.ctl_store.specs.Held.{state_of, keyed_of, IsReady, HasRoom, Has
 
 use crate::edit::Edit;
 use crate::list_class::ListClass;
+use crate::lists::{put_in, remove_in};
 use crate::pin_settings::PinSettings;
 use crate::plan::Plan;
 use crate::selector::{PinSetting, Selector};
@@ -30,15 +31,6 @@ fn more_if_none_goes(gone: usize) -> u32
     if gone == 0 { 1 } else { 0 }
 }
 
-/// The keys of an edit that was made, by [`Store::commit_with_keys`].
-#[derive(Drop)]
-pub struct CommittedKeys {
-    /// The keys that went. That of a stanza that was replaced is among them.
-    pub removed: Vec<StanzaKey>,
-    /// The keys that came. That of a stanza that replaced another is among them.
-    pub added: Vec<StanzaKey>,
-}
-
 impl Store {
     /// Makes the edit of a plan, which this store accepts and has room for: that of the last call of
     /// [`prepare`](Store::prepare) is one, while nothing was committed since. It takes no memory.
@@ -53,48 +45,23 @@ impl Store {
         ensures goes { AreGone plan.removed plan.added (keyed_of self.new).lists }
 
         // A key that has a stanza and doesn't go keeps it.
-        ensures stays { (k : StanzaKey) → IsSome (stanza_at k (keyed_of self.old).lists) → IsNotAmong k plan.removed → stanza_at k (keyed_of self.new).lists ≡ stanza_at k (keyed_of self.old).lists }
+        ensures stays { (k : StanzaKey) → IsSome (stanza_at k (keyed_of self.old).lists) → IsNotAmong k plan.removed
+            → stanza_at k (keyed_of self.new).lists ≡ stanza_at k (keyed_of self.old).lists }
 
         // In the order of all stanzas, what goes stood in one place, and what comes stands there.
         ensures change { IsChange (keyed_of self.old).lists (keyed_of self.new).lists plan.removed plan.added plan.edit }
 
         // No key comes that was given before.
         ensures given { IsGivenOnce (keyed_of self.old) (keyed_of self.new) plan.removed plan.added }
-    {
-        let _ = self.commit_with_keys(plan);
-    }
-
-    /// Makes the edit of a plan as [`commit`](Store::commit) does, and hands its keys back. It takes no memory.
-    pub fn commit_with_keys(&mut self, plan: Plan) -> CommittedKeys
-        requires { IsReady self.old plan }
-        ensures state { state_of self.new ≡ after (state_of self.old) plan.edit }
-        ensures keyed { keyed_of self.new ≡ keyed_after (keyed_of self.old) plan.edit }
-        ensures limits { self.new.limits ≡ self.old.limits }
-
-        // Under a key that comes stands its stanza, and none under one that goes.
-        ensures comes { AreCome plan.added plan.edit (keyed_of self.new).lists }
-        ensures goes { AreGone plan.removed plan.added (keyed_of self.new).lists }
-
-        // A key that has a stanza and doesn't go keeps it.
-        ensures stays { (k : StanzaKey) → IsSome (stanza_at k (keyed_of self.old).lists) → IsNotAmong k plan.removed → stanza_at k (keyed_of self.new).lists ≡ stanza_at k (keyed_of self.old).lists }
-
-        // In the order of all stanzas, what goes stood in one place, and what comes stands there.
-        ensures change { IsChange (keyed_of self.old).lists (keyed_of self.new).lists plan.removed plan.added plan.edit }
-
-        // No key comes that was given before.
-        ensures given { IsGivenOnce (keyed_of self.old) (keyed_of self.new) plan.removed plan.added }
-        ensures removed { result.removed.items ≡ plan.removed }
-        ensures added { result.added.items ≡ plan.added }
     {
         let Plan {
             edit,
             removed,
-            added,
+            added: _,
             list_room,
         } = plan;
         let _limits = self.limits;
         self.make(edit, removed.len(), list_room);
-        CommittedKeys { removed, added }
     }
 
     // Makes an edit by which so many keys go, and for which this is ready: room for a list, and for pins.
@@ -137,11 +104,14 @@ impl Store {
         stanzas: Vec<Box<Stanza>>,
         list_room: ListRoom,
     )
-        requires accepted { refusal_of self.old.limits (state_of self.old) (edits.AddList name kind class (map (λ stanza. stanza.value) stanzas.items)) ≡ None }
+        requires accepted { refusal_of self.old.limits (state_of self.old)
+            (edits.AddList name kind class (map (λ stanza. stanza.value) stanzas.items)) ≡ None }
         requires list { 0 < self.old.lists_room }
         requires room { Fits (vec_len stanzas) list_room }
-        ensures state { state_of self.new ≡ after (state_of self.old) (edits.AddList name kind class (map (λ stanza. stanza.value) stanzas.items)) }
-        ensures keyed { keyed_of self.new ≡ keyed_after (keyed_of self.old) (edits.AddList name kind class (map (λ stanza. stanza.value) stanzas.items)) }
+        ensures state { state_of self.new
+            ≡ after (state_of self.old) (edits.AddList name kind class (map (λ stanza. stanza.value) stanzas.items)) }
+        ensures keyed { keyed_of self.new
+            ≡ keyed_after (keyed_of self.old) (edits.AddList name kind class (map (λ stanza. stanza.value) stanzas.items)) }
         ensures limits { self.new.limits ≡ self.old.limits }
     {
         let _limits = self.limits;
@@ -162,8 +132,8 @@ impl Store {
         ensures limits { self.new.limits ≡ self.old.limits }
     {
         let _limits = self.limits;
-        let statuses = self.count_of_kind(name.as_slice());
-        self.lists.remove(name.as_slice());
+        let statuses = self.count_of_kind(name);
+        self.lists.remove(name);
         self.stanzas -= gone as u32;
         self.statuses -= statuses;
         self.edits += 1;
@@ -178,7 +148,7 @@ impl Store {
         ensures limits { self.new.limits ≡ self.old.limits }
     {
         let _limits = self.limits;
-        self.lists.put_in(list.as_slice(), stanza);
+        put_in(&mut self.lists, list, stanza);
         self.stanzas += more_if_none_goes(gone);
         self.edits += 1;
     }
@@ -190,8 +160,7 @@ impl Store {
         ensures limits { self.new.limits ≡ self.old.limits }
     {
         let _limits = self.limits;
-        self.lists
-            .remove_in(list.as_slice(), package.as_slice(), version);
+        remove_in(&mut self.lists, list, package.as_slice(), version);
         self.stanzas -= 1;
         self.edits += 1;
     }
@@ -215,7 +184,7 @@ impl Store {
         ensures limits { self.new.limits ≡ self.old.limits }
     {
         let _limits = self.limits;
-        self.marks.remove(name.as_slice());
+        self.marks.remove(name);
         self.edits += 1;
     }
 

@@ -5,11 +5,10 @@ ghost use Rattle.ctl_store.specs.HeldPieces.{joined, ArePieces};
 ghost use Rattle.ctl_store.specs.Entries.{rows_under, entries_of, entry_keys};
 ghost use Rattle.ctl_store.specs.Held.{lists_of};
 
-use crate::items::Items;
 use crate::rows::Row;
 use crate::shelf::Shelf;
 use crate::stanza_key::StanzaKey;
-use crate::table::Named;
+use ctl_relation::Bytes;
 use ctl_stanza::Stanza;
 use std::marker::Model;
 
@@ -78,7 +77,7 @@ impl<'a> Iterator for ListEntries<'a> {
 pub struct Entries<'a> {
     // What is left of a list, and the lists after it.
     entries: ListEntries<'a>,
-    lists: Items<'a, Named<Shelf>>,
+    lists: ctl_ordered::Entries<'a, Bytes, Shelf>,
 }
 
 impl<'a> Model for Entries<'a> {
@@ -93,7 +92,7 @@ impl<'a> Model for Entries<'a> {
 
 impl<'a> Entries<'a> {
     /// Those of these lists.
-    pub(super) fn new(lists: Items<'a, Named<Shelf>>) -> Entries<'a>
+    pub(super) fn new(lists: ctl_ordered::Entries<'a, Bytes, Shelf>) -> Entries<'a>
         ensures { result ≡ entries_of (lists_of lists.entry) }
     {
         Entries {
@@ -106,15 +105,16 @@ impl<'a> Entries<'a> {
 // Takes the first stanza of some lists. What is left of its list takes the place of no stanzas.
 fn take_first<'a>(
     entries: &mut ListEntries<'a>,
-    lists: &mut Items<'a, Named<Shelf>>,
+    lists: &mut ctl_ordered::Entries<'a, Bytes, Shelf>,
 ) -> Option<(StanzaKey, &'a Stanza)>
     requires { entries.old ≡ [] }
-    ensures some { IfSome result (λ e. entries_of (lists_of lists.old) ≡ (e.0, e.1.now) ∷ (entries.new ++ entries_of (lists_of lists.new))) }
+    ensures some { IfSome result (λ e. entries_of (lists_of lists.old)
+        ≡ (e.0, e.1.now) ∷ (entries.new ++ entries_of (lists_of lists.new))) }
     ensures none { IfNone result (entries_of (lists_of lists.old) ≡ []) }
     ensures ended { IfNone result (entries.new ++ entries_of (lists_of lists.new) ≡ []) }
 {
-    'lists: while let Some(list) = lists.next() {
-        *entries = list.value().entries();
+    'lists: while let Some((_, list)) = lists.next() {
+        *entries = list.entries();
         match entries.next() {
             Some(entry) => return Some(entry),
             None => {}

@@ -1,6 +1,6 @@
 //! Plans are made.
 
-ghost use Rattle.std.specs.Prelude.{◌≡◌, ◌≢◌, ◌<◌, [], Some, IfOk, IfErr, OnOk, map};
+ghost use Rattle.std.specs.Prelude.{◌≡◌, ◌≢◌, ◌<◌, [], None, Some, IfOk, IfErr, OnOk, map};
 ghost use Rattle.std.specs.Option.{option_to_list};
 ghost use Rattle.ctl_store.specs.declared.refusal.Refusal.TheVariants as refusal;
 ghost use Rattle.ctl_stanza.specs.Content.{package_of, version_of};
@@ -11,14 +11,16 @@ ghost use Rattle.ctl_store.specs.Keys.{keyed_after, removed_of, added_of, found_
 ghost use Rattle.ctl_store.specs.Entries.{IsChange};
 ghost use Rattle.ctl_store.specs.Followed.{IsFollowed};
 ghost use Rattle.ctl_store.specs.Given.{IsGivenOnce};
-ghost use Rattle.ctl_store.specs.Held.{state_of, keyed_of, IsReady, IsReadyFor, HasRoomIn};
+ghost use Rattle.ctl_store.specs.Held.{state_of, keyed_of, HasRoom, IsReady, IsReadyFor, HasRoomIn};
 
 use crate::edit::Edit;
+use crate::lists::reserve_in;
 use crate::plan::Plan;
 use crate::refusal::Refusal;
 use crate::shelf::ListRoom;
 use crate::stanza_key::StanzaKey;
 use crate::store::Store;
+use ctl_relation::Bytes;
 use ctl_stanza::Stanza;
 use std::alloc::{AllocError, Global};
 
@@ -69,7 +71,7 @@ fn make_ready(alloc: Global, edit: &Edit) -> Result<ListRoom, AllocError>
 impl Store {
     // The key of the next new stanza of a list, if there is a list of this name.
     #[tactic(auto, using(crate::proofs::ListedLemmas::at_name_lists))]
-    fn next_in(&self, list: &[u8]) -> Option<StanzaKey>
+    fn next_in(&self, list: &Bytes) -> Option<StanzaKey>
         ensures { option_to_list result ≡ next_in list.now (keyed_of self.now).lists }
     {
         match self.lists.get(list) {
@@ -82,7 +84,7 @@ impl Store {
     }
 
     // The key under which a stanza that is put stands: that which goes, else a new one.
-    fn kept_in(&self, list: &[u8], stanza: &Stanza, found: Option<StanzaKey>) -> Option<StanzaKey>
+    fn kept_in(&self, list: &Bytes, stanza: &Stanza, found: Option<StanzaKey>) -> Option<StanzaKey>
         requires { option_to_list found ≡ found_in list.now (package_of stanza.now) (version_of stanza.now) (keyed_of self.now).lists }
         ensures { option_to_list result ≡ kept_in list.now stanza.now (keyed_of self.now).lists }
     {
@@ -93,7 +95,7 @@ impl Store {
     }
 
     #[tactic(auto, using(crate::proofs::ListedLemmas::at_name_lists))]
-    fn all_in(&self, list: &[u8]) -> Result<Vec<StanzaKey>, AllocError>
+    fn all_in(&self, list: &Bytes) -> Result<Vec<StanzaKey>, AllocError>
         ensures { IfOk result (λ v. v.items ≡ all_in list.now (keyed_of self.now).lists) }
     {
         match self.lists.get(list) {
@@ -112,7 +114,7 @@ impl Store {
         ensures { IfOk result (λ v. v.items ≡ removed_of (keyed_of self.now) (edit_of edit.now)) }
     {
         match edit {
-            Edit::DropList { name } => self.all_in(name.as_slice()),
+            Edit::DropList { name } => self.all_in(name),
             _ => keys_of(self.alloc, found),
         }
     }
@@ -133,10 +135,7 @@ impl Store {
                 class: _,
                 stanzas,
             } => new_keys(self.alloc, self.next_list, stanzas),
-            Edit::Put { list, stanza } => keys_of(
-                self.alloc,
-                self.kept_in(list.as_slice(), stanza, found),
-            ),
+            Edit::Put { list, stanza } => keys_of(self.alloc, self.kept_in(list, stanza, found)),
             _ => Ok(Vec::new(self.alloc)),
         }
     }
@@ -154,15 +153,40 @@ impl Store {
                 kind: _,
                 class: _,
                 stanzas: _,
-            } => self.lists.reserve_one(self.alloc),
-            Edit::Put { list, stanza: _ } => self.lists.reserve_in(self.alloc, list.as_slice()),
+            } => self.lists.reserve_one(),
+            Edit::Put { list, stanza: _ } => reserve_in(&mut self.lists, self.alloc, list),
             Edit::Mark {
                 package: _,
                 version: _,
-            } => self.marks.reserve_one(self.alloc),
+            } => self.marks.reserve_one(),
             Edit::Pin { setting: _ } => self.pins.reserve_one(),
             _ => Ok(()),
         }
+    }
+
+    // Whether an edit is accepted; and if so, takes the memory that it needs: the keys that go, those that come, and the room
+    // for a new list.
+    fn take_memory(
+        &mut self,
+        edit: &Edit,
+    ) -> Result<(Vec<StanzaKey>, Vec<StanzaKey>, ListRoom), Refusal>
+        ensures state { state_of self.new ≡ state_of self.old }
+        ensures keyed { keyed_of self.new ≡ keyed_of self.old }
+        ensures limits { self.new.limits ≡ self.old.limits }
+        ensures accepted { OnOk result (refusal_of self.old.limits (state_of self.old) (edit_of edit.now) ≡ None) }
+        ensures removed { IfOk result (λ taken. taken.0.items ≡ removed_of (keyed_of self.old) (edit_of edit.now)) }
+        ensures added { IfOk result (λ taken. taken.1.items ≡ added_of (keyed_of self.old) (edit_of edit.now)) }
+        ensures room { IfOk result (λ taken. HasRoom self.new taken.2 (edit_of edit.now)) }
+        ensures refused { IfErr result (λ why. why ≢ refusal.Memory
+            → refusal_of self.old.limits (state_of self.old) (edit_of edit.now) ≡ Some why) }
+    {
+        let found = self.seek(edit);
+        self.check_found(edit, found.is_some())?;
+        let removed = self.removed_keys(edit, found)?;
+        let added = self.added_keys(edit, found)?;
+        let list_room = make_ready(self.alloc, edit)?;
+        self.make_room(edit)?;
+        Ok((removed, added, list_room))
     }
 
     /// Accepts an edit, and takes all memory that it needs. What the store holds stays.
@@ -177,40 +201,27 @@ impl Store {
         ensures ready { IfOk result (λ plan. IsReady self.new plan) }
         ensures same { IfOk result (λ plan. plan.edit ≡ edit_of edit) }
         // what the edit will make of the stanzas
-        ensures change { IfOk result (λ plan. IsChange (keyed_of self.new).lists (keyed_after (keyed_of self.new) plan.edit).lists plan.removed plan.added plan.edit) }
+        ensures change { IfOk result (λ plan. IsChange (keyed_of self.new).lists
+            (keyed_after (keyed_of self.new) plan.edit).lists plan.removed plan.added plan.edit) }
         // and where it is followed key by key
-        ensures followed { IfOk result (λ plan. IsFollowed (keyed_of self.new).lists (keyed_after (keyed_of self.new) plan.edit).lists plan.removed plan.added plan.edit) }
+        ensures followed { IfOk result (λ plan. IsFollowed (keyed_of self.new).lists
+            (keyed_after (keyed_of self.new) plan.edit).lists plan.removed plan.added plan.edit) }
         // no key comes that was given before
-        ensures given { IfOk result (λ plan. IsGivenOnce (keyed_of self.new) (keyed_after (keyed_of self.new) plan.edit) plan.removed plan.added) }
+        ensures given { IfOk result (λ plan. IsGivenOnce (keyed_of self.new)
+            (keyed_after (keyed_of self.new) plan.edit) plan.removed plan.added) }
         ensures back { IfErr result (λ e. e.0 ≡ edit) }
-        ensures refused { IfErr result (λ e. e.1 ≢ refusal.Memory → refusal_of self.old.limits (state_of self.old) (edit_of edit) ≡ Some e.1) }
+        ensures refused { IfErr result (λ e. e.1 ≢ refusal.Memory
+            → refusal_of self.old.limits (state_of self.old) (edit_of edit) ≡ Some e.1) }
     {
-        let found = self.seek(&edit);
-        match self.check_found(&edit, found.is_some()) {
-            Ok(()) => {}
-            Err(why) => return Err((edit, why)),
+        let _limits = self.limits;
+        match self.take_memory(&edit) {
+            Ok((removed, added, list_room)) => Ok(Plan {
+                edit,
+                removed,
+                added,
+                list_room,
+            }),
+            Err(why) => Err((edit, why)),
         }
-        let removed = match self.removed_keys(&edit, found) {
-            Ok(keys) => keys,
-            Err(_) => return Err((edit, Refusal::Memory)),
-        };
-        let added = match self.added_keys(&edit, found) {
-            Ok(keys) => keys,
-            Err(_) => return Err((edit, Refusal::Memory)),
-        };
-        let list_room = match make_ready(self.alloc, &edit) {
-            Ok(room) => room,
-            Err(_) => return Err((edit, Refusal::Memory)),
-        };
-        match self.make_room(&edit) {
-            Ok(()) => {}
-            Err(_) => return Err((edit, Refusal::Memory)),
-        }
-        Ok(Plan {
-            edit,
-            removed,
-            added,
-            list_room,
-        })
     }
 }

@@ -8,7 +8,7 @@ ghost use Rattle.ctl_store.specs.Keys.{all_in, all_keys, AreRising, AreHeld, sta
 ghost use Rattle.ctl_store.specs.ByName.{by_name_in, AreByName};
 ghost use Rattle.ctl_store.specs.Followed.{under};
 ghost use Rattle.ctl_store.specs.Named.{at_name};
-ghost use Rattle.ctl_store.specs.Pins.{settings_of, general_pin, own_settings, AreDistinct};
+ghost use Rattle.ctl_store.specs.Pins.{general_pin, own_settings, AreDistinct};
 ghost use Rattle.std.specs.List.{IsDistinct};
 ghost use Rattle.std.specs.Map.{keys_of as names_of};
 ghost use Rattle.std.specs.Str.{bytes_eq};
@@ -16,23 +16,22 @@ ghost use Rattle.ctl_store.specs.Entries.{entry_keys, entries_of, AreAt};
 ghost use Rattle.ctl_store.specs.Held.{state_of, keyed_of, lists_of};
 ghost use Rattle.ctl_store.specs.declared.limits.Counts.{Counts};
 
-use crate::items::Items;
 use crate::limits::{Counts, Limits};
 use crate::list_class::ListClass;
 use crate::lists::entry_of;
-use crate::selector::{PinSetting, Selector};
+use crate::name::Name;
+use crate::selector::Selector;
 use crate::shelf::Shelf;
 use crate::stanza_key::StanzaKey;
 use crate::store::{ByName, Entries, Keys, ListEntries, PackagePins, Stanzas, Store};
-use crate::table::Named;
-use ctl_relation::Version;
+use ctl_relation::{Bytes, Version};
 use ctl_stanza::{ListKind, Stanza};
 use std::marker::Model;
 
 /// The lists of a store, by [`Store::lists`]: their names, kinds and classes, in order.
 #[derive(Drop)]
 pub struct Lists<'a> {
-    entries: Items<'a, Named<Shelf>>,
+    entries: ctl_ordered::Entries<'a, Bytes, Shelf>,
 }
 
 impl<'a> Model for Lists<'a> {
@@ -55,31 +54,30 @@ impl<'a> Iterator for Lists<'a> {
     type Item = (&'a [u8], ListKind, ListClass);
 
     fn next(&mut self) -> Option<(&'a [u8], ListKind, ListClass)> {
-        let entry = self.entries.next()?;
-        Some((entry.name(), entry.value().kind(), entry.value().class()))
+        let (name, list) = self.entries.next()?;
+        Some((name.as_slice(), list.kind(), list.class()))
     }
 }
 
 /// The pin settings of a store, by [`Store::pins`]: selectors with priorities, in order.
 #[derive(Drop)]
 pub struct Pins<'a> {
-    entries: Items<'a, PinSetting>,
+    entries: ctl_ordered::Entries<'a, Selector, i16>,
 }
 
 impl<'a> Model for Pins<'a> {
     ghost use Rattle.std.specs.Prelude.{List, ℤ};
     ghost use Rattle.ctl_store.specs.declared.selector.Selector.{Selector};
-    ghost use Rattle.ctl_store.specs.Pins.{settings_of};
 
     ghost Value = { List (Selector × ℤ) };
 
-    ghost view = { λ it. settings_of it.entries };
+    ghost view = { λ it. it.entries };
 }
 
 impl<'a> Pins<'a> {
     /// These settings.
-    pub(crate) fn new(entries: Items<'a, PinSetting>) -> Pins<'a>
-        ensures { result ≡ settings_of entries.entry }
+    pub(crate) fn new(entries: ctl_ordered::Entries<'a, Selector, i16>) -> Pins<'a>
+        ensures { result ≡ entries.entry }
     {
         Pins { entries }
     }
@@ -95,8 +93,8 @@ impl<'a> Iterator for Pins<'a> {
     type Item = (&'a Selector, i16);
 
     fn next(&mut self) -> Option<(&'a Selector, i16)> {
-        let setting = self.entries.next()?;
-        Some((&setting.selector, setting.priority))
+        let (selector, priority) = self.entries.next()?;
+        Some((selector, *priority))
     }
 }
 
@@ -107,7 +105,7 @@ impl Store {
         // no name stands twice
         ensures distinct { IsDistinct bytes_eq (names_of (state_of self.now).lists) }
     {
-        let entries = self.lists.entries();
+        let entries = self.lists.iter();
         Lists { entries }
     }
 
@@ -116,7 +114,7 @@ impl Store {
     pub fn kind(&self, list: &[u8]) -> Option<ListKind>
         ensures { result ≡ option_map (λ l. l.kind) (at_name list.now (state_of self.now).lists) }
     {
-        match self.lists.get(list) {
+        match self.lists.get(Name { bytes: list }) {
             Some(shelf) => Some(shelf.kind()),
             None => None,
         }
@@ -127,7 +125,7 @@ impl Store {
     pub fn list(&self, name: &[u8]) -> Option<(ListKind, ListClass)>
         ensures { result ≡ option_map (λ l. (l.kind, l.class)) (at_name name.now (state_of self.now).lists) }
     {
-        match self.lists.get(name) {
+        match self.lists.get(Name { bytes: name }) {
             Some(shelf) => Some((shelf.kind(), shelf.class())),
             None => None,
         }
@@ -138,7 +136,7 @@ impl Store {
     pub fn serial(&self, list: &[u8]) -> Option<u32>
         ensures { result ≡ option_map (λ l. l.serial) (at_name list.now (keyed_of self.now).lists) }
     {
-        match self.lists.get(list) {
+        match self.lists.get(Name { bytes: list }) {
             Some(shelf) => Some(shelf.serial()),
             None => None,
         }
@@ -152,7 +150,7 @@ impl Store {
         // the keys rise
         ensures order { AreRising (entry_keys result) }
     {
-        Entries::new(self.lists.entries())
+        Entries::new(self.lists.iter())
     }
 
     /// The keys of all stanzas, list by list and stanza by stanza.
@@ -172,9 +170,10 @@ impl Store {
     pub fn stanzas(&self, list: &[u8]) -> Stanzas<'_>
         ensures keys { result ≡ all_in list.now (keyed_of self.now).lists }
         ensures held { AreHeld result (keyed_of self.now).lists }
-        ensures stanzas { map (λ key. stanza_at key (keyed_of self.now).lists) result ≡ map Some (stanzas_named list.now (state_of self.now).lists) }
+        ensures stanzas { map (λ key. stanza_at key (keyed_of self.now).lists) result
+            ≡ map Some (stanzas_named list.now (state_of self.now).lists) }
     {
-        match self.lists.get(list) {
+        match self.lists.get(Name { bytes: list }) {
             Some(shelf) => shelf.keys(),
             None => Stanzas::new(ListEntries::new(0, &[])),
         }
@@ -190,7 +189,7 @@ impl Store {
         ensures same { IsPermutation (all_in list.now (keyed_of self.now).lists) result }
         ensures order { AreByName (keyed_of self.now).lists result }
     {
-        match self.lists.get(list) {
+        match self.lists.get(Name { bytes: list }) {
             Some(shelf) => shelf.by_name(),
             None => ByName::new(0, &[]),
         }
@@ -201,7 +200,7 @@ impl Store {
         requires { IsSome (stanza_at key (keyed_of self.now).lists) }
         ensures { Some result.now ≡ stanza_at key (keyed_of self.now).lists }
     {
-        match entry_of(self.lists.pieces(), key.list) {
+        match entry_of(&self.lists, key.list) {
             Some((_, shelf)) => match shelf.stanza(key.stanza) {
                 Some(stanza) => stanza,
                 None => unreachable!(),
@@ -215,7 +214,7 @@ impl Store {
         ensures stanza { option_copied result ≡ stanza_at key (keyed_of self.now).lists }
         ensures entry { option_copied result ≡ under key (entries_of (keyed_of self.now).lists) }
     {
-        match entry_of(self.lists.pieces(), key.list) {
+        match entry_of(&self.lists, key.list) {
             Some((_, shelf)) => shelf.stanza(key.stanza),
             None => None,
         }
@@ -226,7 +225,7 @@ impl Store {
         requires { IsSome (stanza_at key (keyed_of self.now).lists) }
         ensures { Some result.now ≡ holder_of key (keyed_of self.now).lists }
     {
-        match entry_of(self.lists.pieces(), key.list) {
+        match entry_of(&self.lists, key.list) {
             Some((name, _)) => name,
             None => unreachable!(),
         }
@@ -237,7 +236,7 @@ impl Store {
     pub fn mark(&self, name: &[u8]) -> Option<Option<&Version>>
         ensures { option_map (λ mark. option_copied mark) result ≡ fin.get (state_of self.now).marks name.now }
     {
-        match self.marks.get(name) {
+        match self.marks.get(Name { bytes: name }) {
             Some(Some(version)) => Some(Some(version)),
             Some(None) => Some(None),
             None => None,

@@ -9,15 +9,6 @@ use ctl_index::Cache;
 use ctl_policy::{Chosen, NewestFirst};
 use ctl_relation::Version;
 use ctl_store::StanzaKey;
-use std::alloc::Global;
-
-/// The key of a lead, or `-`, behind a space.
-fn say_lead(lead: Option<StanzaKey>, said: &mut Said) {
-    match lead {
-        Some(key) => said.key(b" ", key),
-        None => said.add(b" -"),
-    }
-}
 
 /// The keys of a row, each behind a space, and a semicolon.
 fn say_keys(keys: &[StanzaKey], said: &mut Said) {
@@ -26,7 +17,7 @@ fn say_keys(keys: &[StanzaKey], said: &mut Said) {
 }
 
 /// Rows, in their order.
-fn say_each_row(rows: NewestFirst<'_>, said: &mut Said) {
+pub fn say_each_row(rows: NewestFirst<'_>, said: &mut Said) {
     for keys in rows {
         say_keys(keys, said);
     }
@@ -47,27 +38,22 @@ fn say_is_known(is_known: bool, said: &mut Said) {
 }
 
 /// What stands under a name: whether it is known, its rows, and the atoms that name it.
-pub fn say_name_view(alloc: Global, cache: &Cache, name: &[u8], said: &mut Said)
+pub fn say_name_view(cache: &Cache, name: &[u8], said: &mut Said)
     requires { cache.now.stale ≡ false }
 {
     let view = cache.name_view(name);
     say_is_known(view.is_known(), said);
     say_each_row(view.rows(), said);
-    say_atoms(alloc, view.namers(), said);
+    say_atoms(view.namers(), said);
 }
 
-/// The rows of a name, newest first.
-pub fn say_rows(cache: &Cache, name: &[u8], said: &mut Said)
+/// The leads of the rows of a name, newest first.
+pub fn say_leads(cache: &Cache, name: &[u8], said: &mut Said)
     requires { cache.now.stale ≡ false }
 {
-    say_each_row(cache.rows(name), said);
-}
-
-/// The lead of a version of a name.
-pub fn say_lead_of(cache: &Cache, name: &[u8], version: &Version, said: &mut Said)
-    requires { cache.now.stale ≡ false }
-{
-    say_lead(cache.lead(name, version), said);
+    for lead in cache.rows(name) {
+        said.key(b" ", lead);
+    }
 }
 
 fn say_sources(cache: &Cache, lead: StanzaKey, said: &mut Said)
@@ -93,8 +79,8 @@ pub fn say_row_of(cache: &Cache, name: &[u8], version: &Version, said: &mut Said
 
 fn say_choice(name: &[u8], chosen: Chosen, said: &mut Said) {
     said.add(name);
-    say_lead(chosen.installed, said);
-    say_lead(chosen.candidate, said);
+    said.lead(b" ", chosen.installed);
+    said.lead(b" ", chosen.candidate);
     said.add(b";");
 }
 
@@ -103,8 +89,8 @@ pub fn say_chosen(cache: &Cache, name: &[u8], said: &mut Said)
     requires { cache.now.stale ≡ false }
 {
     say_choice(name, cache.chosen(name), said);
-    say_lead(cache.installed(name), said);
-    say_lead(cache.candidate(name), said);
+    said.lead(b" ", cache.installed(name));
+    said.lead(b" ", cache.candidate(name));
 }
 
 /// All that is chosen, in the order of names.

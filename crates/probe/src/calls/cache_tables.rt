@@ -3,21 +3,17 @@
 ghost use Rattle.std.specs.Prelude.{◌≡◌, false};
 
 use crate::said::{OUT_OF_MEMORY, Said};
-use ctl_index::{AtomKey, Cache, ClauseKey, Namers};
+use ctl_index::{AtomKey, Cache, ClauseKey, Namers, PackageNames};
 use ctl_relation::{FieldKind, Offer, Version};
 use ctl_store::StanzaKey;
 use std::alloc::{AllocError, Global};
 
-/// A clause: its stanza's key, its field, and the place of its group.
-fn say_clause(stanza: StanzaKey, field: FieldKind, group: u32, said: &mut Said) {
+/// A clause: its stanza's key, its field and the place of its group, each of the two behind a mark.
+pub fn say_clause(mark: &[u8], stanza: StanzaKey, field: FieldKind, group: u32, said: &mut Said) {
     said.key(b"", stanza);
-    said.all(&[b" ", field.printed_name()]);
-    said.number(b" ", group as u128);
-}
-
-/// A name behind a space.
-fn say_spaced(name: &[u8], said: &mut Said) {
-    said.all(&[b" ", name]);
+    said.add(mark);
+    said.add(field.printed_name());
+    said.number(mark, group as u128);
 }
 
 /// The names that are known, each behind a space.
@@ -25,7 +21,27 @@ pub fn say_names(cache: &Cache, said: &mut Said)
     requires { cache.now.stale ≡ false }
 {
     for name in cache.names() {
-        say_spaced(name, said);
+        said.all(&[b" ", name]);
+    }
+}
+
+fn say_each(names: PackageNames<'_>, said: &mut Said) {
+    for name in names {
+        said.all(&[b" ", name]);
+    }
+}
+
+/// The names that are known and not before a prefix, each behind a space.
+pub fn say_names_from(cache: &Cache, prefix: &[u8], said: &mut Said)
+    requires { cache.now.stale ≡ false }
+{
+    match cache.names_from(prefix) {
+        Err(_) => said.fail(OUT_OF_MEMORY),
+        Ok(names) => {
+            for name in names {
+                said.all(&[b" ", name]);
+            }
+        }
     }
 }
 
@@ -34,12 +50,8 @@ pub fn say_packages(cache: &Cache, prefix: &[u8], said: &mut Said)
     requires { cache.now.stale ≡ false }
 {
     match cache.package_names(prefix) {
+        Ok(names) => say_each(names, said),
         Err(_) => said.fail(OUT_OF_MEMORY),
-        Ok(names) => {
-            for name in names {
-                say_spaced(name, said);
-            }
-        }
     }
 }
 
@@ -81,10 +93,10 @@ fn say_in_order(mut offers: Vec<Vec<u8>>, said: &mut Said) {
 }
 
 /// The offers of a name, in the order of their words, each with a semicolon behind it.
-pub fn say_offers(alloc: Global, cache: &Cache, name: &[u8], said: &mut Said)
+pub fn say_offers(cache: &Cache, name: &[u8], said: &mut Said)
     requires { cache.now.stale ≡ false }
 {
-    match offers_of(alloc, cache, name) {
+    match offers_of(said.alloc(), cache, name) {
         Ok(offers) => say_in_order(offers, said),
         Err(why) => said.fail(why),
     }
@@ -93,15 +105,15 @@ pub fn say_offers(alloc: Global, cache: &Cache, name: &[u8], said: &mut Said)
 fn say_atom_keys(mut atoms: Vec<AtomKey>, said: &mut Said) {
     atoms.sort_unstable();
     for key in &atoms {
-        say_clause(key.stanza, key.field, key.group, said);
+        say_clause(b" ", key.stanza, key.field, key.group, said);
         said.number(b" ", key.atom as u128);
         said.add(b";");
     }
 }
 
 /// Atoms in the order of their keys, each with a semicolon behind it: its clause, and its place in the group.
-pub fn say_atoms(alloc: Global, namers: Namers<'_>, said: &mut Said) {
-    let collected: Result<Vec<AtomKey>, AllocError> = namers.collect(alloc);
+pub fn say_atoms(namers: Namers<'_>, said: &mut Said) {
+    let collected: Result<Vec<AtomKey>, AllocError> = namers.collect(said.alloc());
     match collected {
         Ok(atoms) => say_atom_keys(atoms, said),
         Err(_) => said.fail(OUT_OF_MEMORY),
@@ -109,10 +121,10 @@ pub fn say_atoms(alloc: Global, namers: Namers<'_>, said: &mut Said) {
 }
 
 /// The atoms that name a name.
-pub fn say_namers(alloc: Global, cache: &Cache, name: &[u8], said: &mut Said)
+pub fn say_namers(cache: &Cache, name: &[u8], said: &mut Said)
     requires { cache.now.stale ≡ false }
 {
-    say_atoms(alloc, cache.namers(name), said);
+    say_atoms(cache.namers(name), said);
 }
 
 /// Each clause with its number, in order, each with a semicolon behind it.
@@ -120,7 +132,7 @@ pub fn say_counters(cache: &Cache, said: &mut Said)
     requires { cache.now.stale ≡ false }
 {
     for (key, number) in cache.counters() {
-        say_clause(key.stanza, key.field, key.group, said);
+        say_clause(b" ", key.stanza, key.field, key.group, said);
         said.number(b": ", *number);
         said.add(b";");
     }
@@ -131,7 +143,7 @@ pub fn say_unmet(cache: &Cache, said: &mut Said)
     requires { cache.now.stale ≡ false }
 {
     for key in cache.unmet_clauses() {
-        say_clause(key.stanza, key.field, key.group, said);
+        say_clause(b" ", key.stanza, key.field, key.group, said);
         said.add(b";");
     }
 }
@@ -146,23 +158,23 @@ pub fn say_satisfiers(cache: &Cache, clause: ClauseKey, said: &mut Said)
     }
 }
 
-fn say_by_name(alloc: Global, cache: &Cache, said: &mut Said)
+fn say_by_name(cache: &Cache, said: &mut Said)
     requires { cache.now.stale ≡ false }
 {
     for name in cache.names() {
         said.all(&[name, b":"]);
-        say_offers(alloc, cache, name, said);
-        say_namers(alloc, cache, name, said);
+        say_offers(cache, name, said);
+        say_namers(cache, name, said);
         said.add(b"\n");
     }
 }
 
 /// All that the tables of a cache tell: a line for each name that is known, with its offers and the atoms that name it; a line of the
 /// clauses with their numbers; and a line of those that no offer meets.
-pub fn say_tables(alloc: Global, cache: &Cache, said: &mut Said)
+pub fn say_tables(cache: &Cache, said: &mut Said)
     requires { cache.now.stale ≡ false }
 {
-    say_by_name(alloc, cache, said);
+    say_by_name(cache, said);
     say_counters(cache, said);
     said.add(b"\n");
     say_unmet(cache, said);

@@ -6,7 +6,7 @@ use crate::relations::fault_name;
 use crate::said::Said;
 use crate::words::Words;
 use ctl_relation::{
-    Atom, FieldKind, Group, Groups, Operator, Relations, Steps, is_field_name_byte,
+    Atom, FieldKind, Group, Groups, Offer, Operator, Relations, Steps, is_field_name_byte,
     parse_relations, read_places,
 };
 use std::cmp::Ordering;
@@ -20,10 +20,9 @@ fn say_printed(groups: Groups<'_>, said: &mut Said) {
 }
 
 // The groups of a field, or its fault.
-fn say_read(words: &mut Words<'_>, said: &mut Said) {
+fn say_read(words: &mut Words<'_, '_>, said: &mut Said) {
     let kind = words.field_kind();
-    let body = words.bytes();
-    match parse_relations(words.alloc(), body.as_slice(), kind) {
+    match parse_relations(words.alloc(), words.bytes(), kind) {
         Ok(relations) => say_printed(relations.groups(), said),
         Err(fault) => said.all(&[b"fault ", fault_name(fault)]),
     }
@@ -77,43 +76,52 @@ fn say_of_atom(kind: FieldKind, what: &str, atom: &Atom<'_>, said: &mut Said) {
 }
 
 // Whether an offer meets the only atom of a field.
-fn is_met(words: &mut Words<'_>, steps: &mut Steps) -> Option<bool> {
-    let body = words.bytes();
-    let offer = offer_of(words)?;
-    match parse_relations(words.alloc(), body.as_slice(), FieldKind::Depends) {
-        Ok(relations) => Some(lone_atom(&relations)?.met_by(&offer, steps)),
-        Err(_) => None,
-    }
-}
-
-fn say_is_met(words: &mut Words<'_>, steps: &mut Steps, said: &mut Said) {
-    match is_met(words, steps) {
-        Some(true) => said.add(b"met, "),
-        Some(false) => said.add(b"not met, "),
+fn say_is_met(relations: &Relations<'_>, offer: &Offer, steps: &mut Steps, said: &mut Said) {
+    match lone_atom(relations) {
+        Some(atom) if atom.met_by(offer, steps) => said.add(b"met, "),
+        Some(_) => said.add(b"not met, "),
         None => said.fail("a field that isn't one atom"),
     }
 }
 
+fn say_met_in(body: &[u8], offer: &Offer, steps: &mut Steps, said: &mut Said) {
+    match parse_relations(said.alloc(), body, FieldKind::Depends) {
+        Ok(relations) => say_is_met(&relations, offer, steps, said),
+        Err(_) => said.fail("a field with a fault"),
+    }
+}
+
+fn say_met_by(words: &mut Words<'_, '_>, steps: &mut Steps, said: &mut Said) {
+    let body = words.bytes();
+    if let Some(offer) = offer_of(words) {
+        say_met_in(body, &offer, steps, said);
+    }
+}
+
 // For each field and offer whether it meets the atom, and the count of tests.
-fn say_met(words: &mut Words<'_>, said: &mut Said) {
+fn say_met(words: &mut Words<'_, '_>, said: &mut Said) {
     let mut steps = Steps::new();
     for _ in 0..u64::MAX {
         if words.is_over() {
             break;
         }
-        say_is_met(words, &mut steps, said);
+        say_met_by(words, &mut steps, said);
     }
     said.number(b"", steps.count());
     said.add(b" tests");
+}
+
+fn say_atom_names(group: &Group<'_>, said: &mut Said) {
+    for atom in group.atoms() {
+        said.add(atom.name());
+    }
 }
 
 // The names of the atoms, each group behind a semicolon.
 fn say_names(groups: Groups<'_>, said: &mut Said) {
     for group in groups {
         said.add(b";");
-        for atom in group.atoms() {
-            said.add(atom.name());
-        }
+        say_atom_names(&group, said);
     }
 }
 
@@ -176,34 +184,33 @@ fn say_of_field(
     kind: FieldKind,
     what: &str,
     relations: &Relations<'_>,
-    words: &mut Words<'_>,
+    words: &mut Words<'_, '_>,
     said: &mut Said,
 ) {
     match what {
         "groups" => say_groups(relations.groups(), said),
         "numbered" => say_numbered(relations.groups(), said),
-        "named" => say_named(relations.groups(), words.bytes().as_slice(), said),
+        "named" => say_named(relations.groups(), words.bytes(), said),
         _ => say_atom(kind, what, relations, said),
     }
 }
 
-fn say_field(what: &str, words: &mut Words<'_>, said: &mut Said) {
+fn say_field(what: &str, words: &mut Words<'_, '_>, said: &mut Said) {
     let kind = words.field_kind();
-    let body = words.bytes();
-    match parse_relations(words.alloc(), body.as_slice(), kind) {
+    match parse_relations(words.alloc(), words.bytes(), kind) {
         Ok(relations) => say_of_field(kind, what, &relations, words, said),
         Err(_) => said.fail("a field with a fault"),
     }
 }
 
 // The field of places that are kept of a body, and the names of the atoms that stand at them.
-fn say_places(words: &mut Words<'_>, said: &mut Said) {
+fn say_places(words: &mut Words<'_, '_>, said: &mut Said) {
     let kind = words.field_kind();
     let body = words.bytes();
-    match read_places(words.alloc(), body.as_slice(), kind) {
+    match read_places(words.alloc(), body, kind) {
         Ok(places) => {
             said.add(places.kind().printed_name());
-            say_names(places.groups(body.as_slice()), said);
+            say_names(places.groups(body), said);
         }
         Err(_) => said.fail("a field with a fault"),
     }
@@ -230,9 +237,8 @@ fn say_places_of_fields(said: &mut Said) {
 }
 
 // Those of some bytes that may stand in the name of a field.
-fn say_name_bytes(words: &mut Words<'_>, said: &mut Said) {
-    let bytes = words.bytes();
-    for byte in bytes.as_slice() {
+fn say_name_bytes(words: &mut Words<'_, '_>, said: &mut Said) {
+    for byte in words.bytes() {
         if is_field_name_byte(*byte) {
             said.add(&[*byte]);
         }
@@ -267,6 +273,20 @@ fn say_operators(said: &mut Said) {
     say_word(Operator::Later.text(), said);
 }
 
+// What is the same at each call, or something of a field.
+fn say_constant(what: &str, words: &mut Words<'_, '_>, said: &mut Said) {
+    match what {
+        "nine" => say_fields(FieldKind::nine(), said),
+        "eight" => say_fields(FieldKind::eight(), said),
+        "four" => say_fields(FieldKind::four(), said),
+        "signs" => say_signs(said),
+        "wanted" => say_places_of_fields(said),
+        "none" => say_groups(Groups::empty(), said),
+        "operators" => say_operators(said),
+        _ => say_field(what, words, said),
+    }
+}
+
 /// What a call gives that is asked for by words:
 ///
 /// - `read`, a field and its body: its groups, or its fault;
@@ -279,19 +299,12 @@ fn say_operators(said: &mut Said) {
 /// - `nine`, `eight`, `four`, `signs`, `wanted`: these fields, how the nine are ordered, and which are wanted;
 /// - `name-bytes`, some bytes: those that may stand in the name of a field;
 /// - `none`: how many groups none are; `operators`: the texts of all.
-pub fn say_call(words: &mut Words<'_>, said: &mut Said) {
+pub fn say_call(words: &mut Words<'_, '_>, said: &mut Said) {
     match words.word() {
         "read" => say_read(words, said),
         "met" => say_met(words, said),
         "places" => say_places(words, said),
-        "nine" => say_fields(FieldKind::nine(), said),
-        "eight" => say_fields(FieldKind::eight(), said),
-        "four" => say_fields(FieldKind::four(), said),
-        "signs" => say_signs(said),
-        "wanted" => say_places_of_fields(said),
         "name-bytes" => say_name_bytes(words, said),
-        "none" => say_groups(Groups::empty(), said),
-        "operators" => say_operators(said),
-        what => say_field(what, words, said),
+        what => say_constant(what, words, said),
     }
 }

@@ -6,9 +6,8 @@ use crate::words::Words;
 use ctl_relation::{Bytes, Offer, is_name};
 use std::cmp::Ordering;
 
-fn say_is_name(words: &mut Words<'_>, said: &mut Said) {
-    let text = words.bytes();
-    said.add(if is_name(text.as_slice()) {
+fn say_is_name(words: &mut Words<'_, '_>, said: &mut Said) {
+    said.add(if is_name(words.bytes()) {
         b"a name"
     } else {
         b"no name"
@@ -22,14 +21,6 @@ fn say_kept(bytes: Bytes, said: &mut Said) {
     said.number(b" ", vec.capacity() as u128);
     said.add(b" ");
     said.add(Bytes::from_vec(vec).as_slice());
-}
-
-fn say_keep(words: &mut Words<'_>, said: &mut Said) {
-    let text = words.bytes();
-    match Bytes::from_slice(words.alloc(), text.as_slice()) {
-        Ok(bytes) => say_kept(bytes, said),
-        Err(_) => said.fail(OUT_OF_MEMORY),
-    }
 }
 
 // The sign between two byte strings, or `?` where the calls that compare them don't agree.
@@ -50,11 +41,6 @@ fn say_signs(texts: &[Bytes], said: &mut Said) {
     }
 }
 
-fn say_signs_of(words: &mut Words<'_>, said: &mut Said) {
-    let texts = words.all_bytes();
-    say_signs(&texts, said);
-}
-
 // The name of an offer, and behind a space its version where it has one.
 fn say_parts(offer: &Offer, said: &mut Said) {
     said.add(offer.name());
@@ -64,10 +50,10 @@ fn say_parts(offer: &Offer, said: &mut Said) {
 }
 
 /// The offer of a name, with a version or `-`; none where memory ran out.
-pub fn offer_of(words: &mut Words<'_>) -> Option<Offer> {
+pub fn offer_of(words: &mut Words<'_, '_>) -> Option<Offer> {
     let name = words.bytes();
     let version = words.version_or_none();
-    match Offer::new(words.alloc(), name.as_slice(), version) {
+    match Offer::new(words.alloc(), name, version) {
         Ok(offer) => Some(offer),
         Err(_) => {
             words.fail(OUT_OF_MEMORY);
@@ -76,7 +62,7 @@ pub fn offer_of(words: &mut Words<'_>) -> Option<Offer> {
     }
 }
 
-fn say_offer(words: &mut Words<'_>, said: &mut Said) {
+fn say_offer(words: &mut Words<'_, '_>, said: &mut Said) {
     if let Some(offer) = offer_of(words) {
         say_parts(&offer, said);
     }
@@ -88,11 +74,11 @@ fn say_offer(words: &mut Words<'_>, said: &mut Said) {
 /// - `keep`, bytes: as they are kept, the room that a vector of them has, and as they are kept again;
 /// - `signs`, byte strings: `<`, `=` or `>` of each of them with all;
 /// - `offer`, a name, and a version or `-`: the parts of the offer.
-pub fn say_call(words: &mut Words<'_>, said: &mut Said) {
+pub fn say_call(words: &mut Words<'_, '_>, said: &mut Said) {
     match words.word() {
         "is-name" => say_is_name(words, said),
-        "keep" => say_keep(words, said),
-        "signs" => say_signs_of(words, said),
+        "keep" => say_kept(words.kept(), said),
+        "signs" => say_signs(&words.all_kept(), said),
         "offer" => say_offer(words, said),
         _ => said.fail("a call of names that is not known"),
     }

@@ -8,9 +8,8 @@ use ctl_stanza::lines_take_bytes;
 use ctl_store::{PinSetting, PinSettings, PinVersion, Selector, read_prefs, read_priority};
 
 // The text of a version of pins, or that there is none.
-fn say_version(words: &mut Words<'_>, said: &mut Said) {
-    let text = words.bytes();
-    match PinVersion::read(words.alloc(), text.as_slice()) {
+fn say_version(words: &mut Words<'_, '_>, said: &mut Said) {
+    match PinVersion::read(words.alloc(), words.bytes()) {
         Ok(Some(version)) => said.add(version.text()),
         Ok(None) => said.add(b"none"),
         Err(_) => said.fail(OUT_OF_MEMORY),
@@ -18,7 +17,7 @@ fn say_version(words: &mut Words<'_>, said: &mut Said) {
 }
 
 // Whether a version of pins matches the version that the next word gives.
-fn say_whether_matches(pin: &PinVersion, words: &mut Words<'_>, said: &mut Said) {
+fn say_whether_matches(pin: &PinVersion, words: &mut Words<'_, '_>, said: &mut Said) {
     if let Some(version) = words.version() {
         said.add(if pin.matches(&version) {
             b"matches"
@@ -28,7 +27,7 @@ fn say_whether_matches(pin: &PinVersion, words: &mut Words<'_>, said: &mut Said)
     }
 }
 
-fn say_matches(words: &mut Words<'_>, said: &mut Said) {
+fn say_matches(words: &mut Words<'_, '_>, said: &mut Said) {
     if let Some(pin) = pin_version(words) {
         say_whether_matches(&pin, words, said);
     }
@@ -40,11 +39,6 @@ pub fn say_priority(priority: Option<i16>, said: &mut Said) {
         Some(priority) => said.priority(b"", priority),
         None => said.add(b"none"),
     }
-}
-
-fn say_priority_of(words: &mut Words<'_>, said: &mut Said) {
-    let text = words.bytes();
-    say_priority(read_priority(text.as_slice()), said);
 }
 
 fn say_selector(selector: &Selector, said: &mut Said) {
@@ -76,18 +70,11 @@ fn say_settings(settings: &PinSettings, said: &mut Said) {
     }
 }
 
-// Settings that are set in turn.
-fn say_set(words: &mut Words<'_>, said: &mut Said) {
-    let settings = settings(words);
-    say_settings(&settings, said);
-}
-
 // The settings of preferences, a line for each, or their fault.
-fn say_prefs(words: &mut Words<'_>, said: &mut Said) {
+fn say_prefs(words: &mut Words<'_, '_>, said: &mut Said) {
     let first_line = words.number() as u64;
-    let text = words.bytes();
     lines_take_bytes();
-    match read_prefs(words.alloc(), text.as_slice(), first_line) {
+    match read_prefs(words.alloc(), words.bytes(), first_line) {
         Ok(settings) => say_settings(&settings, said),
         Err(fault) => say_fault(fault, said),
     }
@@ -104,26 +91,25 @@ fn say_compared(one: &PinSetting, other: &PinSetting, said: &mut Said) {
 }
 
 // A copy of a setting, compared with the setting.
-fn say_copied(setting: &PinSetting, words: &Words<'_>, said: &mut Said) {
-    match setting.try_clone(words.alloc()) {
+fn say_copied(setting: &PinSetting, said: &mut Said) {
+    match setting.try_clone(said.alloc()) {
         Ok(copy) => say_compared(&copy, setting, said),
         Err(_) => said.fail(OUT_OF_MEMORY),
     }
 }
 
-fn say_copy(words: &mut Words<'_>, said: &mut Said) {
+fn say_copy(words: &mut Words<'_, '_>, said: &mut Said) {
     if let Some(setting) = setting(words) {
-        say_copied(&setting, words, said);
+        say_copied(&setting, said);
     }
 }
 
 // The priority that the settings of the words that are left have for a selector.
-fn say_found(wanted: &Selector, words: &mut Words<'_>, said: &mut Said) {
-    let settings = settings(words);
-    say_priority(settings.get(wanted), said);
+fn say_found(wanted: &Selector, words: &mut Words<'_, '_>, said: &mut Said) {
+    say_priority(settings(words).get(wanted), said);
 }
 
-fn say_get(words: &mut Words<'_>, said: &mut Said) {
+fn say_get(words: &mut Words<'_, '_>, said: &mut Said) {
     if let Some(wanted) = selector(words) {
         say_found(&wanted, words, said);
     }
@@ -139,13 +125,13 @@ fn say_get(words: &mut Words<'_>, said: &mut Said) {
 /// - `settings`, selectors with priorities, which are set in turn: the settings in their order;
 /// - `get`, a selector, and then the same: the priority that the settings have for it;
 /// - `copy`, a selector and a priority: a copy of the setting, and whether it is equal to it.
-pub fn say_call(words: &mut Words<'_>, said: &mut Said) {
+pub fn say_call(words: &mut Words<'_, '_>, said: &mut Said) {
     match words.word() {
         "version" => say_version(words, said),
         "matches" => say_matches(words, said),
-        "priority" => say_priority_of(words, said),
+        "priority" => say_priority(read_priority(words.bytes()), said),
         "prefs" => say_prefs(words, said),
-        "settings" => say_set(words, said),
+        "settings" => say_settings(&settings(words), said),
         "get" => say_get(words, said),
         "copy" => say_copy(words, said),
         _ => said.fail("a call of pins that is not known"),

@@ -5,8 +5,18 @@ ghost use Rattle.ctl_store.specs.Held.{IsReady};
 use crate::said::{OUT_OF_MEMORY, Said};
 use ctl_policy::touched_names;
 use ctl_relation::Bytes;
-use ctl_store::{CommittedKeys, Edit, Plan, Refusal, StanzaKey, Store};
-use std::alloc::Global;
+use ctl_store::{Edit, Plan, Refusal, StanzaKey, Store};
+
+/// What is told of a plan.
+#[derive(Clone, Copy)]
+pub enum Told {
+    /// The name of its edit, its keys and its first stanza.
+    Parts,
+    /// The names that it touches.
+    Names,
+    /// The stanza that it has under this key.
+    Stanza(StanzaKey),
+}
 
 fn edit_name(edit: &Edit) -> &'static [u8] {
     match edit {
@@ -24,7 +34,7 @@ fn edit_name(edit: &Edit) -> &'static [u8] {
 }
 
 // The name of a plan's edit, its keys, and its first stanza.
-fn say_plan(plan: &Plan, said: &mut Said) {
+fn say_parts(plan: &Plan, said: &mut Said) {
     said.add(edit_name(plan.edit()));
     said.keys(b" -", plan.removed());
     said.keys(b" +", plan.added());
@@ -39,18 +49,10 @@ fn say_refused(why: Refusal, said: &mut Said) {
 
 // The stanza that a plan has under a key, if there is one.
 fn say_come(plan: &Plan, key: StanzaKey, said: &mut Said) {
-    match plan.find(key) {
-        Some(stanza) => said.add(stanza.text()),
-        None => said.add(b"none\n"),
-    }
-}
-
-/// Plans an edit: the stanza that the plan has under a key.
-pub fn say_plan_finds(store: &mut Store, key: StanzaKey, edit: Edit, said: &mut Said) {
-    match store.prepare(edit) {
-        Ok(plan) => say_come(&plan, key, said),
-        Err((_, why)) => say_refused(why, said),
-    }
+    said.add(match plan.find(key) {
+        Some(stanza) => stanza.text(),
+        None => b"none\n",
+    });
 }
 
 /// Names, each behind a space.
@@ -61,41 +63,53 @@ pub fn say_names(names: &[Bytes], said: &mut Said) {
 }
 
 // The names that a plan touches, each behind a space.
-fn say_touched(alloc: Global, store: &Store, plan: &Plan, said: &mut Said)
+fn say_touched(store: &Store, plan: &Plan, said: &mut Said)
     requires { IsReady store.now plan.now }
 {
-    match touched_names(alloc, store, plan) {
+    match touched_names(said.alloc(), store, plan) {
         Ok(names) => say_names(&names, said),
         Err(_) => said.fail(OUT_OF_MEMORY),
     }
 }
 
-fn say_committed(keys: &CommittedKeys, said: &mut Said) {
+// A plan that is not carried out. All of them are dropped here.
+fn let_go(_plan: Plan) {}
+
+fn say_told(store: &Store, plan: &Plan, told: Told, said: &mut Said)
+    requires { IsReady store.now plan.now }
+{
+    match told {
+        Told::Parts => say_parts(plan, said),
+        Told::Names => say_touched(store, plan, said),
+        Told::Stanza(key) => say_come(plan, key, said),
+    }
+}
+
+/// Plans an edit: something of its plan.
+pub fn say_planned(store: &mut Store, edit: Edit, told: Told, said: &mut Said) {
+    match store.prepare(edit) {
+        Ok(plan) => {
+            say_told(store, &plan, told, said);
+            let_go(plan)
+        }
+        Err((_, why)) => say_refused(why, said),
+    }
+}
+
+// Makes the edit of a plan: the keys that go and come.
+fn say_committed(store: &mut Store, plan: Plan, said: &mut Said)
+    requires { IsReady store.old plan }
+{
     said.add(b"made");
-    said.keys(b" -", &keys.removed);
-    said.keys(b" +", &keys.added);
+    said.keys(b" -", plan.removed());
+    said.keys(b" +", plan.added());
+    store.commit(plan);
 }
 
-/// Plans an edit: its name, its keys and its first stanza.
-pub fn say_planned(store: &mut Store, edit: Edit, said: &mut Said) {
-    match store.prepare(edit) {
-        Ok(plan) => say_plan(&plan, said),
-        Err((_, why)) => say_refused(why, said),
-    }
-}
-
-/// Plans an edit: the names that it touches, each behind a space.
-pub fn say_touching(alloc: Global, store: &mut Store, edit: Edit, said: &mut Said) {
-    match store.prepare(edit) {
-        Ok(plan) => say_touched(alloc, store, &plan, said),
-        Err((_, why)) => say_refused(why, said),
-    }
-}
-
-/// Makes an edit: the keys that are handed back.
+/// Makes an edit: the keys that go and come.
 pub fn say_made(store: &mut Store, edit: Edit, said: &mut Said) {
     match store.prepare(edit) {
-        Ok(plan) => say_committed(&store.commit_with_keys(plan), said),
+        Ok(plan) => say_committed(store, plan, said),
         Err((_, why)) => say_refused(why, said),
     }
 }
@@ -141,7 +155,10 @@ pub fn say_late(store: &mut Store, other: Edit, edit: Edit, said: &mut Said) {
     say_foretold(store, &edit, said);
     said.add(b", ");
     match store.prepare(edit) {
-        Ok(_) => said.fail("an edit that is not refused"),
+        Ok(plan) => {
+            said.fail("an edit that is not refused");
+            let_go(plan)
+        }
         Err((back, why)) => say_back(store, other, back, why, said),
     }
 }

@@ -8,7 +8,6 @@ use crate::words::Words;
 use ctl_policy::packages_of_store;
 use ctl_stanza::ListKind;
 use ctl_store::{ListClass, StanzaKey, Store};
-use std::alloc::Global;
 
 /// The numbers of what it holds, and its limits.
 pub fn say_numbers(store: &Store, said: &mut Said) {
@@ -59,14 +58,16 @@ fn say_keys_of(store: &Store, list: &[u8], said: &mut Said) {
     said.add(b".");
 }
 
-fn kind_words(kind: ListKind) -> &'static [u8] {
+/// The word for a kind of list.
+pub fn kind_words(kind: ListKind) -> &'static [u8] {
     match kind {
         ListKind::Packages => b"packages",
         ListKind::Status => b"status",
     }
 }
 
-fn class_words(class: ListClass) -> &'static [u8] {
+/// The word for a class, behind a space.
+pub fn class_words(class: ListClass) -> &'static [u8] {
     match class {
         ListClass::Plain => b" plain",
         ListClass::NotAutomatic => b" notauto",
@@ -130,8 +131,8 @@ fn say_serial(serial: Option<u32>, said: &mut Said) {
 }
 
 // The packages of its stanzas, each behind a space.
-fn say_packages(alloc: Global, store: &Store, said: &mut Said) {
-    match packages_of_store(alloc, store) {
+fn say_packages(store: &Store, said: &mut Said) {
+    match packages_of_store(said.alloc(), store) {
         Ok(names) => say_names(&names, said),
         Err(_) => said.fail(OUT_OF_MEMORY),
     }
@@ -150,11 +151,6 @@ fn say_view_of(store: &Store, view: &str, name: &[u8], said: &mut Said) {
     }
 }
 
-fn say_named_view(store: &Store, view: &str, words: &mut Words<'_>, said: &mut Said) {
-    let name = words.bytes();
-    say_view_of(store, view, name.as_slice(), said);
-}
-
 /// What a store holds, by words:
 ///
 /// - `numbers`: how many stanzas and edits, and the limits of both;
@@ -164,17 +160,17 @@ fn say_named_view(store: &Store, view: &str, words: &mut Words<'_>, said: &mut S
 /// - `list`, a name: its kind, and its kind and class; `serial`, a list: its serial number;
 /// - `mark`, a package: its mark; `pins` and `first-pin`: all pin settings, and the priority of the first;
 /// - `pins-of`, a package: its specific ones; `general-pin`, a list: the priority of the general one.
-pub fn say_view(store: &Store, words: &mut Words<'_>, said: &mut Said) {
+pub fn say_view(store: &Store, words: &mut Words<'_, '_>, said: &mut Said) {
     match words.word() {
         "numbers" => say_numbers(store, said),
         "keys" => say_keys(store, said),
         "entries" => say_entries(store, said),
-        "packages" => say_packages(words.alloc(), store, said),
+        "packages" => say_packages(store, said),
         "find" => say_found(store, stanza_key(words), said),
         "lists" => say_lists(store, said),
         "target" => said.add(store.target().unwrap_or(b"none")),
         "pins" => say_pins(store, said),
         "first-pin" => say_first_pin(store, said),
-        view => say_named_view(store, view, words, said),
+        view => say_view_of(store, view, words.bytes(), said),
     }
 }

@@ -1,12 +1,13 @@
 //! Calls of a store.
 
 use crate::calls::keys::{stanza_key, stanza_sign};
-use crate::calls::plans::{say_late, say_made, say_plan_finds, say_planned, say_touching};
+use crate::calls::plans::{Told, say_late, say_made, say_planned};
 use crate::calls::store_views::{say_numbers, say_view};
 use crate::edits::edit_named;
 use crate::said::{OUT_OF_MEMORY, Said};
 use crate::words::Words;
 use ctl_policy::{Chosen, make_places};
+use ctl_relation::Bytes;
 use ctl_store::{Edit, Limits, Refusal, Store};
 use std::collections::BTreeMap;
 
@@ -67,69 +68,65 @@ fn say_chosen(places: &BTreeMap<Vec<u8>, Chosen>, said: &mut Said) {
 }
 
 // Places for names in a map of what is chosen, each with what is chosen there.
-fn say_places(words: &mut Words<'_>, said: &mut Said) {
-    let names = words.all_bytes();
-    let mut places: BTreeMap<Vec<u8>, Chosen> = BTreeMap::new(words.alloc());
-    match make_places(words.alloc(), &mut places, &names) {
-        Ok(()) => say_chosen(&places, said),
-        Err(_) => said.fail(OUT_OF_MEMORY),
+fn say_places_of(names: &[Bytes], said: &mut Said) {
+    let mut places: BTreeMap<Vec<u8>, Chosen> = BTreeMap::new(said.alloc());
+    if make_places(said.alloc(), &mut places, names).is_err() {
+        said.fail(OUT_OF_MEMORY);
     }
+    say_chosen(&places, said);
 }
 
-fn edit_of(words: &mut Words<'_>) -> Option<Edit> {
+fn say_places(words: &mut Words<'_, '_>, said: &mut Said) {
+    say_places_of(&words.all_kept(), said);
+}
+
+fn edit_of(words: &mut Words<'_, '_>) -> Option<Edit> {
     let word = words.word();
     edit_named(words, word)
 }
 
 // The edit of the words behind those of another.
-fn say_late_behind(store: &mut Store, other: Edit, words: &mut Words<'_>, said: &mut Said) {
+fn say_late_behind(store: &mut Store, other: Edit, words: &mut Words<'_, '_>, said: &mut Said) {
     if let Some(edit) = edit_of(words) {
         say_late(store, other, edit, said);
     }
 }
 
-fn say_late_of(store: &mut Store, words: &mut Words<'_>, said: &mut Said) {
+fn say_late_of(store: &mut Store, words: &mut Words<'_, '_>, said: &mut Said) {
     if let Some(other) = edit_of(words) {
         say_late_behind(store, other, words, said);
     }
 }
 
-fn say_finds(store: &mut Store, words: &mut Words<'_>, said: &mut Said) {
-    let key = stanza_key(words);
+// Something of the plan of the edit that the words ask for.
+fn say_plan_of(store: &mut Store, words: &mut Words<'_, '_>, told: Told, said: &mut Said) {
     if let Some(edit) = edit_of(words) {
-        say_plan_finds(store, key, edit, said);
-    }
-}
-
-fn say_plan_of(store: &mut Store, words: &mut Words<'_>, said: &mut Said) {
-    if let Some(edit) = edit_of(words) {
-        say_planned(store, edit, said);
-    }
-}
-
-fn say_touched_of(store: &mut Store, words: &mut Words<'_>, said: &mut Said) {
-    if let Some(edit) = edit_of(words) {
-        say_touching(words.alloc(), store, edit, said);
+        say_planned(store, edit, told, said);
     }
 }
 
 // Makes the edit of a line whose first word is this.
-fn say_edited(store: &mut Store, word: &str, words: &mut Words<'_>, said: &mut Said) {
+fn say_edited(store: &mut Store, word: &str, words: &mut Words<'_, '_>, said: &mut Said) {
     if let Some(edit) = edit_named(words, word) {
         say_made(store, edit, said);
     }
 }
 
-// Begins with a new store.
-fn begin(store: &mut Store, words: &Words<'_>, said: &mut Said) {
-    *store = Store::new(words.alloc());
+// Begins with a new store of these limits.
+fn begin(store: &mut Store, limits: Limits, said: &mut Said) {
+    *store = Store::with_limits(said.alloc(), limits);
     say_numbers(store, said);
 }
 
-fn begin_limited(store: &mut Store, words: &mut Words<'_>, said: &mut Said) {
-    let limits = words.limits();
-    *store = Store::with_limits(words.alloc(), limits);
-    say_numbers(store, said);
+// What needs no store, or an edit.
+fn say_other(store: &mut Store, word: &str, words: &mut Words<'_, '_>, said: &mut Said) {
+    match word {
+        "most" => say_most(said),
+        "places" => say_places(words, said),
+        "sign" => said.add(stanza_sign(words)),
+        "refusals" => say_refusals(said),
+        _ => say_edited(store, word, words, said),
+    }
 }
 
 /// What a call gives that is asked for by words:
@@ -140,19 +137,18 @@ fn begin_limited(store: &mut Store, words: &mut Words<'_>, said: &mut Said) {
 /// - `late`, an edit, and one that is refused before it: this one as it comes back, and what comes of both;
 /// - `touched`, an edit: the names that it touches; `places`, names: their places in a map of what is chosen;
 /// - `sign`, two keys: how they are ordered; `refusals`: all with their numbers.
-pub fn say_call(store: &mut Store, words: &mut Words<'_>, said: &mut Said) {
+pub fn say_call(store: &mut Store, words: &mut Words<'_, '_>, said: &mut Said) {
     match words.word() {
-        "new" => begin(store, words, said),
-        "limits" => begin_limited(store, words, said),
-        "most" => say_most(said),
+        "new" => begin(store, Limits::MOST, said),
+        "limits" => begin(store, words.limits(), said),
         "show" => say_view(store, words, said),
-        "plan-finds" => say_finds(store, words, said),
+        "plan-finds" => {
+            let key = stanza_key(words);
+            say_plan_of(store, words, Told::Stanza(key), said)
+        }
         "late" => say_late_of(store, words, said),
-        "places" => say_places(words, said),
-        "sign" => said.add(stanza_sign(words)),
-        "refusals" => say_refusals(said),
-        "plan" => say_plan_of(store, words, said),
-        "touched" => say_touched_of(store, words, said),
-        word => say_edited(store, word, words, said),
+        "plan" => say_plan_of(store, words, Told::Parts, said),
+        "touched" => say_plan_of(store, words, Told::Names, said),
+        word => say_other(store, word, words, said),
     }
 }

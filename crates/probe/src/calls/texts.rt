@@ -51,17 +51,18 @@ pub fn say_fault(fault: TextFault, said: &mut Said) {
     said.all(&[b": ", cause_name(fault.cause)]);
 }
 
+fn say_count(stanzas: usize, said: &mut Said) {
+    said.number(b"", stanzas as u128);
+    said.add(b" stanzas");
+}
+
 // How many stanzas a list has, or its fault.
-fn say_list(words: &mut Words<'_>, said: &mut Said) {
+fn say_list(words: &mut Words<'_, '_>, said: &mut Said) {
     let kind = words.list_kind();
     let first_line = words.number() as u64;
-    let text = words.bytes();
     lines_take_bytes();
-    match read_stanzas(words.alloc(), text.as_slice(), first_line, kind) {
-        Ok(stanzas) => {
-            said.number(b"", stanzas.len() as u128);
-            said.add(b" stanzas");
-        }
+    match read_stanzas(words.alloc(), words.bytes(), first_line, kind) {
+        Ok(stanzas) => say_count(stanzas.len(), said),
         Err(fault) => say_fault(fault, said),
     }
 }
@@ -105,12 +106,8 @@ fn version_words(stanza: &Stanza) -> &[u8] {
     }
 }
 
-fn say_field(stanza: &Stanza, words: &mut Words<'_>, said: &mut Said) {
-    let name = words.bytes();
-    match stanza.field(name.as_slice()) {
-        Some(body) => said.add(body),
-        None => said.add(b"no such field"),
-    }
+fn say_field(stanza: &Stanza, words: &mut Words<'_, '_>, said: &mut Said) {
+    said.add(stanza.field(words.bytes()).unwrap_or(b"no such field"));
 }
 
 // Whether a stanza is live, and of which kind of list it is.
@@ -124,7 +121,7 @@ fn live_words(stanza: &Stanza) -> &'static [u8] {
 }
 
 // A part of a stanza by its name.
-fn say_part(stanza: &Stanza, words: &mut Words<'_>, said: &mut Said) {
+fn say_part(stanza: &Stanza, words: &mut Words<'_, '_>, said: &mut Said) {
     match words.word() {
         "text" => said.add(stanza.text()),
         "package" => said.add(stanza.package()),
@@ -139,7 +136,7 @@ fn say_part(stanza: &Stanza, words: &mut Words<'_>, said: &mut Said) {
 }
 
 // Parts of the only stanza of a list, each with a bar behind it.
-fn say_parts(stanzas: &[Stanza], words: &mut Words<'_>, said: &mut Said) {
+fn say_parts(stanzas: &[Stanza], words: &mut Words<'_, '_>, said: &mut Said) {
     let [stanza] = stanzas else {
         return said.fail("not one stanza");
     };
@@ -152,11 +149,10 @@ fn say_parts(stanzas: &[Stanza], words: &mut Words<'_>, said: &mut Said) {
     }
 }
 
-fn say_stanza(words: &mut Words<'_>, said: &mut Said) {
+fn say_stanza(words: &mut Words<'_, '_>, said: &mut Said) {
     let kind = words.list_kind();
-    let text = words.bytes();
     lines_take_bytes();
-    match read_stanzas(words.alloc(), text.as_slice(), 1, kind) {
+    match read_stanzas(words.alloc(), words.bytes(), 1, kind) {
         Ok(stanzas) => say_parts(&stanzas, words, said),
         Err(_) => said.fail("a list with a fault"),
     }
@@ -181,11 +177,10 @@ fn say_each_record(records: &[Record], said: &mut Said) {
 }
 
 // The records of a text, or its fault.
-fn say_records(words: &mut Words<'_>, said: &mut Said) {
+fn say_records(words: &mut Words<'_, '_>, said: &mut Said) {
     let first_line = words.number() as u64;
-    let text = words.bytes();
     lines_take_bytes();
-    match read_records(words.alloc(), text.as_slice(), first_line) {
+    match read_records(words.alloc(), words.bytes(), first_line) {
         Ok(records) => say_each_record(&records, said),
         Err(fault) => say_fault(fault, said),
     }
@@ -199,10 +194,9 @@ fn say_records_and_fault(read: &RecordsBeforeFault, said: &mut Said) {
 }
 
 // The records of a text before its fault, and the fault.
-fn say_before_fault(words: &mut Words<'_>, said: &mut Said) {
-    let text = words.bytes();
+fn say_before_fault(words: &mut Words<'_, '_>, said: &mut Said) {
     lines_take_bytes();
-    match read_records_before_fault(words.alloc(), text.as_slice(), 1) {
+    match read_records_before_fault(words.alloc(), words.bytes(), 1) {
         Ok(read) => say_records_and_fault(&read, said),
         Err(_) => said.fail(OUT_OF_MEMORY),
     }
@@ -215,7 +209,7 @@ fn say_before_fault(words: &mut Words<'_>, said: &mut Said) {
 /// - `records`, the number of the first line and a text: the records, a line for each, or the fault;
 /// - `records-before-fault`, a text: the records before its fault, and the fault;
 /// - `causes`: the causes of faults with their numbers.
-pub fn say_call(words: &mut Words<'_>, said: &mut Said) {
+pub fn say_call(words: &mut Words<'_, '_>, said: &mut Said) {
     match words.word() {
         "list" => say_list(words, said),
         "stanza" => say_stanza(words, said),

@@ -17,24 +17,23 @@ fn fault_name(fault: VersionFault) -> &'static [u8] {
 }
 
 // The text of a version, or the test that it fails.
-fn say_read(words: &mut Words<'_>, said: &mut Said) {
-    let text = words.bytes();
-    match Version::parse(words.alloc(), text.as_slice()) {
+fn say_read(words: &mut Words<'_, '_>, said: &mut Said) {
+    match Version::parse(words.alloc(), words.bytes()) {
         Ok(version) => said.add(version.text()),
         Err(fault) => said.add(fault_name(fault)),
     }
 }
 
-fn say_copied(version: &Version, words: &Words<'_>, said: &mut Said) {
-    match version.try_clone(words.alloc()) {
+fn say_copied(version: &Version, said: &mut Said) {
+    match version.try_clone(said.alloc()) {
         Ok(copy) => said.add(copy.text()),
         Err(_) => said.fail(OUT_OF_MEMORY),
     }
 }
 
-fn say_copy(words: &mut Words<'_>, said: &mut Said) {
+fn say_copy(words: &mut Words<'_, '_>, said: &mut Said) {
     if let Some(version) = words.version() {
-        say_copied(&version, words, said);
+        say_copied(&version, said);
     }
 }
 
@@ -95,13 +94,12 @@ fn say_signs(versions: &[Version], said: &mut Said) {
     }
 }
 
-// What is asked of the versions that are left.
-fn say_compared(word: &str, words: &mut Words<'_>, said: &mut Said) {
-    let versions = words.versions();
+// What is asked of versions.
+fn say_compared(word: &str, versions: &[Version], said: &mut Said) {
     match word {
-        "order" => say_order(&versions, said),
-        "sign" => say_sign(&versions, said),
-        "signs" => say_signs(&versions, said),
+        "order" => say_order(versions, said),
+        "sign" => say_sign(versions, said),
+        "signs" => say_signs(versions, said),
         _ => said.fail("a call of versions that is not known"),
     }
 }
@@ -112,10 +110,10 @@ fn say_compared(word: &str, words: &mut Words<'_>, said: &mut Said) {
 /// - `copy`, a version: the text of a copy;
 /// - `order`, two versions: both, with `<`, `=` or `>` between them; and `sign`, the same two: that alone;
 /// - `signs`, versions: those of each of them with all.
-pub fn say_call(words: &mut Words<'_>, said: &mut Said) {
+pub fn say_call(words: &mut Words<'_, '_>, said: &mut Said) {
     match words.word() {
         "read" => say_read(words, said),
         "copy" => say_copy(words, said),
-        word => say_compared(word, words, said),
+        word => say_compared(word, &words.versions(), said),
     }
 }

@@ -7,6 +7,6 @@ use Rattle.ctl_filter.proofs.atom.any_field_passes.Given as goal
 
 abbrev pub invariant-loop-name : goal.invariant-loop-name
 invariant-loop-name l = record {
-  none : list_any (field_passes (test_of l.test) l.stanza) (take l.name-index l.names) ≡ false;
+  none : list_any (field_passes (test_of l.test) l.finder) (take l.name-index l.names) ≡ false;
   same : sought_by l.searcher ≡ sought_by l.initial.searcher;
 }

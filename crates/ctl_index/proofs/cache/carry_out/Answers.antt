@@ -1,4 +1,5 @@
-use Rattle.std.proofs.Common.{◌≤◌, ap, subst, sym, ◌∙◌}
+use Rattle.std.proofs.Common.{◌≡◌, ◌≤◌, ◌<◌, ◌^◌, arith, ap, subst, sym, ◌∙◌}
+use Rattle.ctl_store.specs.declared.limits.Limits.{Limits}
 use Rattle.ctl_store.specs.Keys.{Keyed, AreComing}
 use Rattle.ctl_store.specs.Entries.{entries_of}
 use Rattle.ctl_policy.specs.Priority.{world_of}
@@ -17,16 +18,20 @@ pub returns-clause-indexed : goal.returns-clause-indexed
 returns-clause-indexed c =
     let h = c.args.store.now in
     let plan = c.args.plan in
+    let limits : c.limits-limits.result.stanzas ≡ h.limits.stanzas = ap (λ (l : Limits). l.stanzas) c.limits-limits.ensures in
+    let most : h.limits.stanzas < 2 ^ 32 = omega (arith, limits) in
     let comes : AreComing plan.added plan.edit = subst (λ ks. AreComing ks plan.edit) c.added-added.ensures.keys c.added-added.ensures.coming in
-    let law : IsFollowed h plan = followed_law h plan comes c.counts-counts.ensures.order c.requires.change in
+    let law : IsFollowed h plan = followed_law h plan comes c.counts-counts.ensures.order c.requires.change c.requires.ready.accepted most in
     subst (λ (k : Keyed). IsIndexed (entries_of k.lists) c.follow.new.tables) (sym c.commit.ensures.keyed) (c.in_ok-follow.ensures.tables law c.requires.indexed)
 
 pub renew_names-requires-clause-rows : goal.renew_names-requires-clause-rows
 renew_names-requires-clause-rows c =
     let h = c.args.store.now in
     let plan = c.args.plan in
+    let limits : c.limits-limits.result.stanzas ≡ h.limits.stanzas = ap (λ (l : Limits). l.stanzas) c.limits-limits.ensures in
+    let most : h.limits.stanzas < 2 ^ 32 = omega (arith, limits) in
     let comes : AreComing plan.added plan.edit = subst (λ ks. AreComing ks plan.edit) c.added-added.ensures.keys c.added-added.ensures.coming in
-    let law : IsFollowed h plan = followed_law h plan comes c.counts-counts.ensures.order c.requires.change in
+    let law : IsFollowed h plan = followed_law h plan comes c.counts-counts.ensures.order c.requires.change c.requires.ready.accepted most in
     let tables : IsIndexed (standing c.commit.new.self) c.follow.new.tables = subst (λ (k : Keyed). IsIndexed (entries_of k.lists) c.follow.new.tables) (sym c.commit.ensures.keyed) (c.in_ok-follow.ensures.tables law c.requires.indexed) in
     c.rows_are_defined.ensures c.commit.new.self c.follow.new.tables.names.map c.commit.ensures.change.rises tables.rows
 
@@ -57,22 +62,28 @@ pub returns-clause-steps : goal.returns-clause-steps
 returns-clause-steps c =
     let h = c.args.store.now in
     let plan = c.args.plan in
+    let limits : c.limits-limits.result.stanzas ≡ h.limits.stanzas = ap (λ (l : Limits). l.stanzas) c.limits-limits.ensures in
+    let most : h.limits.stanzas < 2 ^ 32 = omega (arith, limits) in
     let comes : AreComing plan.added plan.edit = subst (λ ks. AreComing ks plan.edit) c.added-added.ensures.keys c.added-added.ensures.coming in
-    let law : IsFollowed h plan = followed_law h plan comes c.counts-counts.ensures.order c.requires.change in
+    let law : IsFollowed h plan = followed_law h plan comes c.counts-counts.ensures.order c.requires.change c.requires.ready.accepted most in
     c.in_ok-follow.ensures.steps law c.requires.indexed ∙ ap (λ n. more_by n c.args.steps.now) (followed_work h plan comes c.counts-counts.ensures.order c.requires.change)
 
 pub returns-clause-most : goal.returns-clause-most
 returns-clause-most c =
     let h = c.args.store.now in
     let plan = c.args.plan in
+    let limits : c.limits-limits.result.stanzas ≡ h.limits.stanzas = ap (λ (l : Limits). l.stanzas) c.limits-limits.ensures in
+    let most : h.limits.stanzas < 2 ^ 32 = omega (arith, limits) in
     let comes : AreComing plan.added plan.edit = subst (λ ks. AreComing ks plan.edit) c.added-added.ensures.keys c.added-added.ensures.coming in
-    let law : IsFollowed h plan = followed_law h plan comes c.counts-counts.ensures.order c.requires.change in
+    let law : IsFollowed h plan = followed_law h plan comes c.counts-counts.ensures.order c.requires.change c.requires.ready.accepted most in
     subst (λ n. c.follow.new.steps ≤ more_by n c.args.steps.now) (followed_work h plan comes c.counts-counts.ensures.order c.requires.change) (c.follow.ensures.most law c.requires.indexed)
 
 pub returns-in_err-follow-clause-most : goal.returns-in_err-follow-clause-most
 returns-in_err-follow-clause-most c =
     let h = c.args.store.now in
     let plan = c.args.plan in
+    let limits : c.limits-limits.result.stanzas ≡ h.limits.stanzas = ap (λ (l : Limits). l.stanzas) c.limits-limits.ensures in
+    let most : h.limits.stanzas < 2 ^ 32 = omega (arith, limits) in
     let comes : AreComing plan.added plan.edit = subst (λ ks. AreComing ks plan.edit) c.added-added.ensures.keys c.added-added.ensures.coming in
-    let law : IsFollowed h plan = followed_law h plan comes c.counts-counts.ensures.order c.requires.change in
+    let law : IsFollowed h plan = followed_law h plan comes c.counts-counts.ensures.order c.requires.change c.requires.ready.accepted most in
     subst (λ n. c.follow.new.steps ≤ more_by n c.args.steps.now) (followed_work h plan comes c.counts-counts.ensures.order c.requires.change) (c.follow.ensures.most law c.requires.indexed)

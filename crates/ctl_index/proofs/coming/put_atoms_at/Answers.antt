@@ -10,4 +10,4 @@ returns-in-Some-clause-namers c =
     let key = c.args.key in
     on_ok_map c.put_fields.result (λ h q.
     let now = namers_under c.args.names.now.map q in
-    h q ∙ ap (λ fields. listed_fields key c.in-Some.stanza.now q fields now) c.naming_fields.ensures ∙ ap (λ o. option_map_or (λ x. put_atoms_step q key x now) o now) c.in-Some.ensures) c.put_fields.ensures.namers
+    h q ∙ ap (λ fields. listed_fields key c.in-Some.stanza.now q fields now) c.eight.ensures ∙ ap (λ o. option_map_or (λ x. put_atoms_step q key x now) o now) c.in-Some.ensures) c.put_fields.ensures.namers

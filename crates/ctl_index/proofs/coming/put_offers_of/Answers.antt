@@ -9,6 +9,7 @@ use Rattle.ctl_index.specs.declared.keys.Namer.{Namer}
 use Rattle.ctl_index.specs.declared.keys.OfferKey.{OfferKey}
 use Rattle.ctl_index.specs.Clauses.{clause_cmp}
 use Rattle.ctl_index.specs.TablesByName.{offers_under, namers_under}
+use Rattle.ctl_index.specs.TablesCounters.{counted_up}
 use Rattle.ctl_index.specs.TablesSight.{hit, tested}
 use Rattle.ctl_index.specs.TablesOrder.{offer_stanza, put_in_order}
 use Rattle.ctl_index.specs.TablesSteps.{listed_offers, raised, all_tested}
@@ -37,7 +38,7 @@ loop-i-preserved c =
       rows = (λ j q. c.in_ok-put_offer.ensures.rows q j) ∙ c.loop-i.invariant.rows;
       counts = λ k.
           let now = get clause_cmp c.loop-i.tables.counters.numbers k in
-          ap (raised s t (drop (i + 1) os) k) (c.in_ok-put_offer.ensures.counts k ∙ ap (λ (u : List ℕ → List Namer). option_map (λ (n : ℕ). n + sum_by (hit s o k) (u o.name)) now) c.loop-i.invariant.namers ∙ ap (λ (p : OfferParts). option_map (λ (n : ℕ). n + sum_by (hit s p k) (t p.name)) now) item)
+          ap (raised s t (drop (i + 1) os) k) (c.in_ok-put_offer.ensures.counts k ∙ ap (λ (u : List ℕ → List Namer). option_map (counted_up (sum_by (hit s o k) (u o.name))) now) c.loop-i.invariant.namers ∙ ap (λ (p : OfferParts). option_map (counted_up (sum_by (hit s p k) (t p.name))) now) item)
           ∙ sym (at_drop_more (λ ps. raised s t ps k now) os i o below) ∙ c.loop-i.invariant.counts k;
       steps =
           c.in_ok-put_offer.ensures.steps ∙ ap (λ (u : List ℕ → List Namer). more_by (sum_by (tested s o.name) (u o.name)) c.loop-i.steps) c.loop-i.invariant.namers

@@ -20,6 +20,7 @@ returns-clause-tables c =
       rows = λ q version.
           c.in_ok-put_rows.ensures.rows q version
           ∙ (λ i. with_each (seen s) (put_rows_step q version) keys (fin.get ((c.in_ok-put_atoms.ensures.rows ∙ c.in_ok-put_offers.ensures.rows) i q) version));
+      whole = c.in_ok-put_offers.ensures.whole;
     }
 
 pub returns-clause-steps : goal.returns-clause-steps

@@ -11,7 +11,7 @@ use Rattle.ctl_query.proofs.interest.packages_naming.Goals as goal
 pub returns-clause-members : goal.returns-clause-members
 returns-clause-members c = λ asker.
     c.in_ok-names.ensures.members asker
-    ∙ ap (λ keys. list_any (λ (key : AtomKey). is_of_package c.args.cache.now.store asker key.stanza) keys || is_among (lent_names c.namers.names.items) asker) (sym c.in-None.ensures.steps.0)
+    ∙ ap (λ keys. list_any (λ (key : AtomKey). is_of_package c.args.asking.now asker key.stanza) keys || is_among (lent_names c.namers.names.items) asker) (sym c.in-None.ensures.steps.0)
     ∙ c.namers.invariant asker
-    ∙ sym (list_any-IsPermutation (λ (key : AtomKey). is_of_package c.args.cache.now.store asker key.stanza) (namers_named c.args.name.now (standing c.args.cache.now.store)) c.into_iter-key-iterator.result
+    ∙ sym (list_any-IsPermutation (λ (key : AtomKey). is_of_package c.args.asking.now asker key.stanza) (namers_named c.args.name.now (standing c.args.asking.now)) c.into_iter-key-iterator.result
     (rw c.into_iter-key-iterator.ensures.into_iter_gives c.namers-key-items.ensures.namers))

@@ -7,4 +7,4 @@ use Rattle.ctl_query.proofs.interest.packages_naming.Given as goal
 
 -- the packages so far and those of the keys that are left are those of all keys
 abbrev pub invariant-namers : goal.invariant-namers
-invariant-namers l = (asker : List ℕ) → (list_any (λ (key : AtomKey). is_of_package l.cache.store asker key.stanza) l.key-iterator || is_among (lent_names l.names.items) asker) ≡ list_any (λ (key : AtomKey). is_of_package l.cache.store asker key.stanza) l.initial.key-iterator
+invariant-namers l = (asker : List ℕ) → (list_any (λ (key : AtomKey). is_of_package l.asking asker key.stanza) l.key-iterator || is_among (lent_names l.names.items) asker) ≡ list_any (λ (key : AtomKey). is_of_package l.asking asker key.stanza) l.initial.key-iterator

@@ -7,4 +7,4 @@ use Rattle.ctl_query.proofs.interest.packages_with_unmet.Given as goal
 
 -- the packages so far and those of the keys that are left are those of all keys
 abbrev pub invariant-clauses : goal.invariant-clauses
-invariant-clauses l = (asker : List ℕ) → (list_any (λ (key : ClauseKey). is_of_package l.cache.store asker key.stanza) l.key-iterator || is_among (lent_names l.names.items) asker) ≡ list_any (λ (key : ClauseKey). is_of_package l.cache.store asker key.stanza) l.initial.key-iterator
+invariant-clauses l = (asker : List ℕ) → (list_any (λ (key : ClauseKey). is_of_package l.asking asker key.stanza) l.key-iterator || is_among (lent_names l.names.items) asker) ≡ list_any (λ (key : ClauseKey). is_of_package l.asking asker key.stanza) l.initial.key-iterator

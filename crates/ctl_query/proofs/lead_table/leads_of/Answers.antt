@@ -5,5 +5,5 @@ use Rattle.ctl_query.proofs.lead_table.leads_of.Goals as goal
 
 pub returns : goal.returns
 returns c =
-    let known = leads_of_known (world_of c.args.cache.now.store) in
+    let known = leads_of_known (world_of c.args.asking.now) in
     search (rules, known)

@@ -6,4 +6,4 @@ use Rattle.ctl_query.proofs.lead_table.leads_of.Given as goal
 
 -- the leads so far, and those of the rows of the names that are left, are those of the rows of all names
 abbrev pub invariant-names : goal.invariant-names
-invariant-names l = lent_leads l.leads.items ++ flat_map (flat_map (keyed_lead (world_of l.cache.store))) l.rows-iterator ≡ flat_map (flat_map (keyed_lead (world_of l.cache.store))) l.initial.rows-iterator
+invariant-names l = lent_leads l.leads.items ++ flat_map (flat_map (keyed_lead (world_of l.asking))) l.rows-iterator ≡ flat_map (flat_map (keyed_lead (world_of l.asking))) l.initial.rows-iterator

@@ -5,4 +5,4 @@ use Rattle.ctl_query.specs.Texts.{if_known}
 use Rattle.ctl_query.proofs.policy.append_policy.Given as goal
 
 abbrev pub invariant-loop-name : goal.invariant-loop-name
-invariant-loop-name l = l.out.items ≡ l.initial.out.items ++ flat_map (if_known (world_of l.cache.store) (policy_one (world_of l.cache.store))) (take l.name-index l.names)
+invariant-loop-name l = l.out.items ≡ l.initial.out.items ++ flat_map (if_known (world_of l.asking) (policy_one (world_of l.asking))) (take l.name-index l.names)

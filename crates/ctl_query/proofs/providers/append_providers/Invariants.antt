@@ -6,5 +6,5 @@ use Rattle.ctl_query.proofs.providers.append_providers.Given as goal
 
 -- what was written, and the names that are left, are what there was and all of them
 abbrev pub invariant-names : goal.invariant-names
-invariant-names l = l.out.items ++ flat_map provider_line (kept_of (world_of l.cache.store) l.installed (lent_names l.name-iterator))
-    ≡ l.initial.out.items ++ flat_map provider_line (kept_of (world_of l.cache.store) l.installed (lent_names l.initial.name-iterator))
+invariant-names l = l.out.items ++ flat_map provider_line (kept_of (world_of l.asking) l.installed (lent_names l.name-iterator))
+    ≡ l.initial.out.items ++ flat_map provider_line (kept_of (world_of l.asking) l.installed (lent_names l.initial.name-iterator))

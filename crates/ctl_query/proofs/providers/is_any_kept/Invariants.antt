@@ -6,4 +6,4 @@ use Rattle.ctl_query.proofs.providers.is_any_kept.Given as goal
 
 -- none of those that were passed is kept
 abbrev pub invariant-names : goal.invariant-names
-invariant-names l = kept_of (world_of l.cache.store) l.installed (lent_names l.name-iterator) ≡ kept_of (world_of l.cache.store) l.installed (lent_names l.initial.name-iterator)
+invariant-names l = kept_of (world_of l.asking) l.installed (lent_names l.name-iterator) ≡ kept_of (world_of l.asking) l.installed (lent_names l.initial.name-iterator)

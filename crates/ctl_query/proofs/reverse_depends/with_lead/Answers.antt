@@ -5,6 +5,6 @@ use Rattle.ctl_query.proofs.reverse_depends.with_lead.Goals as goal
 
 pub loop-field-preserved : goal.loop-field-preserved
 loop-field-preserved c =
-    let there : c.loop-field.field-index < length c.depends_fields-fields.result.now = omega arith in
+    let there : c.loop-field.field-index < length c.eight-fields.result.now = omega arith in
     (rw c.loop-field.invariant at c.with_field-found.ensures)
-    ∙ sym (with_more c.args.found (naming_in_field c.args.name.now c.args.lead.now) c.depends_fields-fields.result.now c.loop-field.field-index _ there)
+    ∙ sym (with_more c.args.found (naming_in_field c.args.name.now c.args.lead.now) c.eight-fields.result.now c.loop-field.field-index _ there)

@@ -5,4 +5,4 @@ use Rattle.ctl_query.specs.Show.{show_one}
 use Rattle.ctl_query.proofs.show.append_show.Given as goal
 
 abbrev pub invariant-loop-one : goal.invariant-loop-one
-invariant-loop-one l = l.out.items ≡ l.initial.out.items ++ flat_map (show_one (world_of l.cache.store) l.all) (map asked_row (take l.one-index l.asked))
+invariant-loop-one l = l.out.items ≡ l.initial.out.items ++ flat_map (show_one (world_of l.asking) l.all) (map asked_row (take l.one-index l.asked))

@@ -7,4 +7,4 @@ use Rattle.ctl_query.proofs.show_package.append_each_providing.Given as goal
 
 -- what was written, are the lines of the packages so far
 abbrev pub invariant-loop-asker : goal.invariant-loop-asker
-invariant-loop-asker l = l.out.items ≡ l.initial.out.items ++ flat_map (of_rows (world_of l.cache.store) (providing_lines l.name)) (lent_names (take l.asker-index l.askers))
+invariant-loop-asker l = l.out.items ≡ l.initial.out.items ++ flat_map (of_rows (world_of l.asking) (providing_lines l.name)) (lent_names (take l.asker-index l.askers))

@@ -6,4 +6,4 @@ use Rattle.ctl_query.proofs.show_package.append_entries.Given as goal
 
 -- what was written, and the rows that are left, are what there was and all rows
 abbrev pub invariant-rows : goal.invariant-rows
-invariant-rows l = l.out.items ++ flat_map (told_of_row (world_of l.cache.store) entry_lines) l.row-iterator ≡ l.initial.out.items ++ flat_map (told_of_row (world_of l.cache.store) entry_lines) l.initial.row-iterator
+invariant-rows l = l.out.items ++ flat_map (told_of_row (world_of l.asking) entry_lines) l.row-iterator ≡ l.initial.out.items ++ flat_map (told_of_row (world_of l.asking) entry_lines) l.initial.row-iterator

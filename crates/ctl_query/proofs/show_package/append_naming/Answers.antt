@@ -13,7 +13,7 @@ use Rattle.ctl_query.proofs.show_package.append_naming.Goals as goal
 
 pub returns-in_ok-append_atoms-in-Some : goal.returns-in_ok-append_atoms-in-Some
 returns-in_ok-append_atoms-in-Some c =
-    let store = c.args.cache.now.store in
+    let store = c.args.asking.now in
     let name = c.args.name.now in
     let IsGiven : Option (Bor (List Entry)) → Type 0 = λ table. IfSome table (λ table. table.now ≡ leads_of (world_of store)) in
     let leads : c.in-Some.table.now ≡ leads_of (world_of store) = subst IsGiven c.in-Some.is c.requires.leads in

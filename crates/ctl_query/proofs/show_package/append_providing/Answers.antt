@@ -11,7 +11,7 @@ use Rattle.ctl_query.proofs.show_package.append_providing.Goals as goal
 
 pub returns : goal.returns
 returns c =
-    let store = c.args.cache.now.store in
+    let store = c.args.asking.now in
     let same = sym c.deref.ensures.value in
     c.in_ok-append_each_providing.ensures
     ∙ ap (λ text. c.args.out.now.items ++ text)

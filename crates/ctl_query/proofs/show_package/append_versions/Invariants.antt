@@ -9,6 +9,6 @@ use Rattle.ctl_query.proofs.show_package.append_versions.Given as goal
 -- what was written, and the rows that are left, are what there was and all rows
 abbrev pub invariant-rows : goal.invariant-rows
 invariant-rows l = record {
-  held : AllByRecursion (λ row. AreHeld row (keyed_of l.cache.store).lists) l.row-iterator;
-  text : l.out.items ++ flat_map (version_line (world_of l.cache.store)) l.row-iterator ≡ l.initial.out.items ++ flat_map (version_line (world_of l.cache.store)) l.initial.row-iterator;
+  held : AllByRecursion (λ row. AreHeld row (keyed_of l.asking).lists) l.row-iterator;
+  text : l.out.items ++ flat_map (version_line (world_of l.asking)) l.row-iterator ≡ l.initial.out.items ++ flat_map (version_line (world_of l.asking)) l.initial.row-iterator;
 }

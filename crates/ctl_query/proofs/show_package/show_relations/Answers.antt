@@ -9,5 +9,5 @@ use Rattle.ctl_query.proofs.show_package.show_relations.Goals as goal
 pub returns : goal.returns
 returns c =
     c.in_ok-append_relations.ensures
-    ∙ ap (λ text. text ++ flat_map (told_of_row (world_of c.args.cache.now.store) relation_lines) c.args.rows) c.in_ok-append_line.ensures
-    ∙ append_assoc c.args.out.now.items (line (codes "Dependencies:" ∷ [])) (flat_map (told_of_row (world_of c.args.cache.now.store) relation_lines) c.args.rows)
+    ∙ ap (λ text. text ++ flat_map (told_of_row (world_of c.args.asking.now) relation_lines) c.args.rows) c.in_ok-append_line.ensures
+    ∙ append_assoc c.args.out.now.items (line (codes "Dependencies:" ∷ [])) (flat_map (told_of_row (world_of c.args.asking.now) relation_lines) c.args.rows)

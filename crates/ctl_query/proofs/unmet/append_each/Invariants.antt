@@ -7,4 +7,4 @@ use Rattle.ctl_query.proofs.unmet.append_each.Given as goal
 
 -- what was written, are the lines of the packages so far
 abbrev pub invariant-loop-name : goal.invariant-loop-name
-invariant-loop-name l = l.out.items ≡ l.initial.out.items ++ flat_map (of_rows (world_of l.cache.store) (unmet_lead (world_of l.cache.store) l.important)) (lent_names (take l.name-index l.names))
+invariant-loop-name l = l.out.items ≡ l.initial.out.items ++ flat_map (of_rows (world_of l.asking) (unmet_lead (world_of l.asking) l.important)) (lent_names (take l.name-index l.names))

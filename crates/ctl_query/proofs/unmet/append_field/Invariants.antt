@@ -9,5 +9,5 @@ abbrev pub invariant-clauses : goal.invariant-clauses
 invariant-clauses l = record {
   left : l.clause-iterator ≡ drop l.group (groups_of l.field l.lead);
   within : l.group + length l.clause-iterator < 2 ^ 32;
-  text : l.out.items ++ flat_map (line_if_unmet (world_of l.cache.store) l.field) l.clause-iterator ≡ l.initial.out.items ++ flat_map (line_if_unmet (world_of l.cache.store) l.field) l.initial.clause-iterator;
+  text : l.out.items ++ flat_map (line_if_unmet (world_of l.asking) l.field) l.clause-iterator ≡ l.initial.out.items ++ flat_map (line_if_unmet (world_of l.asking) l.field) l.initial.clause-iterator;
 }

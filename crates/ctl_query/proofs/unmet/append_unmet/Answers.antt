@@ -9,7 +9,7 @@ use Rattle.ctl_query.proofs.unmet.append_unmet.Goals as goal
 
 pub returns : goal.returns
 returns c =
-    let store = c.args.cache.now.store in
+    let store = c.args.asking.now in
     let same = sym c.deref.ensures.value in
     c.in_ok-append_each.ensures
     ∙ ap (λ text. c.args.out.now.items ++ text)

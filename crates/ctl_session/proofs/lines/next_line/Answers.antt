@@ -1,12 +1,17 @@
 use Rattle.std.proofs.Common.{arith, ◌∙◌, ◌++◌, ◌+◌, ◌<◌, ◌≤◌, ◌^◌}
 use Rattle.ctl_session.specs.LineReading.{newline_if}
-use Rattle.ctl_session.proofs.LineLemmas.{piece_counts, takes_ahead, reads_piece, ends_by_newline, ends_at_end, stops_unallowed, stops_long}
+use Rattle.ctl_session.proofs.LineLemmas.{piece_counts, takes_ahead, reads_piece, ends_by_newline, ends_at_end, stops_in_read, stops_unallowed, stops_long}
 use Rattle.ctl_session.proofs.lines.next_line.Goals as goal
 
 pub returns-in-Ok-false-2-clause-ok : goal.returns-in-Ok-false-2-clause-ok
 returns-in-Ok-false-2-clause-ok g c =
     let line = c.pieces.invariant.line in
     (line.0, ends_at_end _ _ _ _ _ line.0 line.1 c.pieces.invariant.fits c.in-Ok-false.ensures.kept (c.in-Ok-false.ensures.end c.in-Ok-false.field-0-test) c.if-count-eq0.false)
+
+pub returns-in-Err-clause-fault : goal.returns-in-Err-clause-fault
+returns-in-Err-clause-fault g c =
+    let line = c.pieces.invariant.line in
+    stops_in_read _ _ _ _ _ line.0 c.args.allowed line.1 c.pieces.invariant.fits c.pieces.invariant.allowed c.in-Err.ensures.err
 
 pub returns-then-not-allowed-clause-fault : goal.returns-then-not-allowed-clause-fault
 returns-then-not-allowed-clause-fault g c =

@@ -5,7 +5,7 @@ use Rattle.ctl_stanza.proofs.quick.plain_field.Goals as goal
 use Rattle.ctl_stanza.proofs.quick.plain_field.Goals.{else-more-gt0-via-then-more-gt0+else-value-here, else-more-gt0-via-else-more-gt0}
 
 pub overflow_add-here-2 : goal.overflow_add-here-2
-overflow_add-here-2 c = omega (arith, c.requires.room, c.in-Some.ensures, continued-room c.args.here.now.behind.now c.requires.text)
+overflow_add-here-2 c = omega (arith, c.requires.room, c.in-Some.ensures.len, continued-room c.args.here.now.behind.now c.requires.text)
 
 pub returns : goal.returns
 returns c =
@@ -16,4 +16,4 @@ returns c =
     ] in
     λ bytes stands.
     plain-is bytes c.args.here.now c.args.n value.result.start value.result.end c.in-Some.more stands c.requires.text c.requires.name value.ensures.within.0 value.ensures.within.1 value.ensures.value
-    c.in-Some.ensures ends
+    c.in-Some.ensures.len ends

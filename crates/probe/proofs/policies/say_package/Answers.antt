@@ -5,4 +5,4 @@ use Rattle.ctl_store.specs.Held.{Held, keyed_of}
 use Rattle.probe.proofs.policies.say_package.Goals as goal
 
 pub say_rows-requires : goal.say_rows-requires
-say_rows-requires c = subst (λ (h : Held). AllByRecursion (λ keys. AreHeld keys (keyed_of h).lists) c.rows.result) (sym c.store.ensures) c.rows.ensures.held
+say_rows-requires c = subst (λ (h : Held). AllByRecursion (λ keys. AreHeld keys (keyed_of h).lists) c.row_keys.result) (sym c.store.ensures) c.row_keys.ensures.held

@@ -1,4 +1,4 @@
-use Rattle.std.proofs.Common.{[], ◌≡◌, ◌+◌, ℕ, List, length, nat_eq, ◌&&◌, not, cond, option_map, ap, sym, subst, ◌∙◌, OnOk}
+use Rattle.std.proofs.Common.{[], ◌≡◌, ℕ, List, length, nat_eq, ◌&&◌, not, cond, option_map, ap, sym, subst, ◌∙◌}
 use Rattle.std.specs.BTreeMap.{get}
 use Rattle.std.specs.List.{sum_by}
 use Rattle.std.specs.Str.{bytes_eq}
@@ -11,10 +11,11 @@ use Rattle.ctl_index.specs.Clauses.{clause_cmp}
 use Rattle.std.specs.FinMap as fin
 use Rattle.std.specs.Option.{option_map_or}
 use Rattle.ctl_index.specs.TablesByName.{rows_under, named_rows, offers_under, namers_under, named_offers, named_namers}
+use Rattle.ctl_index.specs.TablesCounters.{counted_up}
 use Rattle.ctl_index.specs.TablesSight.{hit}
 use Rattle.ctl_index.specs.TablesOrder.{offer_stanza, put_in_order}
 use Rattle.ctl_index.proofs.RowLemmas.{none_there}
-use Rattle.ctl_index.proofs.NameLemmas.{on_some, on_ok_map, none_more, changed, unchanged, part-found, used_written, used_found, used_more, on_ok}
+use Rattle.ctl_index.proofs.NameLemmas.{on_some, on_ok_map, none_more, changed, unchanged, part-found, used_written, used_found, used_more}
 use Rattle.ctl_index.proofs.name_table.NameTable.put_offer.Goals as goal
 
 pub invariant_of-self : goal.invariant_of-self
@@ -43,29 +44,29 @@ returns-in_ok-put-in-Some-clause-offers c =
     let v = c.in-Some.named.now in
     let w : Named = record { offers = c.put.new.self; namers = v.namers; rows = v.rows } in
     let f : List OfferKey → List OfferKey = λ l. put_in_order offer_stanza c.args.key l in
-    on_ok c.meet.result (λ q.
+    λ q.
     changed named_offers [] c.name.result.now m (c.get_mut.follows.lender w) w f (on_some c.in-Some.is (c.get_mut.follows.holds w)) (c.in_ok-put-in-Some.ensures.ok ∙ ap f (part-found named_offers [] c.name.result.now m _ c.in-Some.ensures.value)) q
-    ∙ ap (λ b. cond (bytes_eq b q) (f (offers_under m q)) (offers_under m q)) c.name.ensures)
+    ∙ ap (λ b. cond (bytes_eq b q) (f (offers_under m q)) (offers_under m q)) c.name.ensures
 
 pub returns-in_ok-put-in-Some-clause-namers : goal.returns-in_ok-put-in-Some-clause-namers
 returns-in_ok-put-in-Some-clause-namers c =
     let m = c.args.self.now.map in
     let v = c.in-Some.named.now in
     let w : Named = record { offers = c.put.new.self; namers = v.namers; rows = v.rows } in
-    on_ok c.meet.result (unchanged named_namers [] c.name.result.now m (c.get_mut.follows.lender w) w (on_some c.in-Some.is (c.get_mut.follows.holds w)) (part-found named_namers [] c.name.result.now m _ c.in-Some.ensures.value))
+    unchanged named_namers [] c.name.result.now m (c.get_mut.follows.lender w) w (on_some c.in-Some.is (c.get_mut.follows.holds w)) (part-found named_namers [] c.name.result.now m _ c.in-Some.ensures.value)
 
 pub returns-in_ok-put-in-Some-clause-counts : goal.returns-in_ok-put-in-Some-clause-counts
 returns-in_ok-put-in-Some-clause-counts c =
     let m = c.args.self.now.map in
     let same : c.as_slice.result.now ≡ namers_under m c.args.offer.now.name = c.as_slice.ensures ∙ part-found named_namers [] c.name.result.now m _ c.in-Some.ensures.value ∙ ap (namers_under m) c.name.ensures in
-    subst (λ (xs : List Namer). OnOk c.meet.result ((k : ClauseKey) → get clause_cmp c.meet.new.counters.numbers k ≡ option_map (λ (n : ℕ). n + sum_by (hit c.args.sight.now c.args.offer.now k) xs) (get clause_cmp c.args.counters.now.numbers k))) same c.meet.ensures.counts
+    subst (λ (xs : List Namer). (k : ClauseKey) → get clause_cmp c.meet.new.counters.numbers k ≡ option_map (counted_up (sum_by (hit c.args.sight.now c.args.offer.now k) xs)) (get clause_cmp c.args.counters.now.numbers k)) same c.meet.ensures.counts
 
 pub returns-in_ok-put-in-Some-clause-rows : goal.returns-in_ok-put-in-Some-clause-rows
 returns-in_ok-put-in-Some-clause-rows c =
     let m = c.args.self.now.map in
     let v = c.in-Some.named.now in
     let w : Named = record { offers = c.put.new.self; namers = v.namers; rows = v.rows } in
-    on_ok c.meet.result (unchanged named_rows fin.empty c.name.result.now m (c.get_mut.follows.lender w) w (on_some c.in-Some.is (c.get_mut.follows.holds w)) (part-found named_rows fin.empty c.name.result.now m _ c.in-Some.ensures.value))
+    unchanged named_rows fin.empty c.name.result.now m (c.get_mut.follows.lender w) w (on_some c.in-Some.is (c.get_mut.follows.holds w)) (part-found named_rows fin.empty c.name.result.now m _ c.in-Some.ensures.value)
 
 pub returns-in_ok-of_one-in-None-clause-rows : goal.returns-in_ok-of_one-in-None-clause-rows
 returns-in_ok-of_one-in-None-clause-rows c =

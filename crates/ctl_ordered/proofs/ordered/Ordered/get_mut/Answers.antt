@@ -1,8 +1,8 @@
 use Rattle.std.proofs.Common.{◌∙◌, ap, refl, sym, subst, nat_eq, vec_len, ◌-◌}
 use Rattle.std.specs.Map.{lookup, set_value}
 use Rattle.std.specs.Vec.{vec_capacity}
-use Rattle.ctl_ordered.specs.Slots.{entries_of}
-use Rattle.ctl_ordered.specs.Ordered.{room_of, IsOrdered}
+use Rattle.ctl_ordered.specs.Slots.{entries_of, rows_of}
+use Rattle.ctl_ordered.specs.Ordered.{entries, room_of, set_row, IsOrdered}
 use Rattle.ctl_ordered.proofs.SlotLemmas.{set_same, to_lent}
 use Rattle.ctl_ordered.proofs.OrderLemmas.{key_order, ordered_set, ordered_lent, ordered_value, ordered_gap, ordered_no_value}
 use Rattle.ctl_ordered.proofs.ordered.Ordered.get_mut.Goals as goal
@@ -45,17 +45,19 @@ returns-in-Some g c =
             let wrote = there.holds (here.lender w) in
             let lent = ordered_lent order o.slots.entries o.order.items o.next c.self.invariant k s slot c.value_mut.result i at c.value_mut.ensures.value (here.holds w) in
             let set = ordered_set order o.slots.entries o.order.items o.next c.self.invariant k w s slot (here.lender w) i at lent in
-            to_lent c.value_mut.result (
-              ap entries_of wrote.0 ∙ set.1 ∙ ap (λ v. set_value (eq k) v.0 w) c.self.view_is,
-              ap (λ n. room_of n free o.next) wrote.6 ∙ ap (λ v. v.1) c.self.view_is,
-            )),
+            to_lent c.value_mut.result (record {
+              entries = ap entries_of wrote.0 ∙ set.1 ∙ ap (λ v. set_value (eq k) (entries v) w) c.self.view_is;
+              rows = ap rows_of wrote.0 ∙ set.2 ∙ ap (λ v. set_row (eq k) v.rows w) c.self.view_is;
+              next = ap (λ v. v.next) c.self.view_is;
+              room = ap (λ n. room_of n free o.next) wrote.6 ∙ ap (λ v. v.room) c.self.view_is;
+            })),
         let wrote = there.holds here.lender-at-none in
             let same = wrote.0 ∙ ap (λ x. set_value (nat_eq s) o.slots.entries x) here.holds-at-none ∙ set_same (nat_eq s) o.slots.entries slot at in
-            (λ j. (entries_of (same j), room_of (wrote.6 j) free o.next)) ∙ c.self.view_is,
+            (λ j. record { rows = rows_of (same j); next = o.next; room = room_of (wrote.6 j) free o.next }) ∙ c.self.view_is,
       ),
       record {
         writes_back = tt;
-        value = c.value_mut.ensures.value ∙ ordered_value order o.slots.entries o.order.items o.next c.self.invariant k s slot i at ∙ ap (λ v. lookup (eq k) v.0) c.self.view_is;
+        value = c.value_mut.ensures.value ∙ ordered_value order o.slots.entries o.order.items o.next c.self.invariant k s slot i at ∙ ap (λ v. lookup (eq k) (entries v)) c.self.view_is;
       },
     )
 
@@ -76,6 +78,6 @@ returns-in_default-None g c =
         writes_back = tt;
         value =
             (ordered_no_value order o.slots.entries o.order.items o.next c.self.invariant k (sym c.in_default-None.is-1 ∙ c.look_up.ensures.serial)).0
-            ∙ ap (λ v. lookup (g.K.PartialEq.eq k) v.0) c.self.view_is;
+            ∙ ap (λ v. lookup (g.K.PartialEq.eq k) (entries v)) c.self.view_is;
       },
     )

@@ -1,8 +1,16 @@
-use Rattle.std.proofs.Common.{◌∙◌, sym}
+use Rattle.std.proofs.Common.{◌∙◌, ap, sym}
+use Rattle.ctl_ordered.specs.Ordered.{entries, next_put, rows_put}
 use Rattle.ctl_ordered.proofs.SlotLemmas.{insert_old, from_lent}
 use Rattle.ctl_ordered.proofs.ordered.Ordered.put.Goals as goal
 
 pub returns-in-Some : goal.returns-in-Some
 returns-in-Some g c =
-    (from_lent c.get_mut.result c.in-Some.place.now (c.get_mut.ensures.value ∙ sym c.in-Some.ensures.value) (c.get_mut.follows.holds c.args.value)).0
-    ∙ sym (insert_old g.K.PartialEq.eq c.args.self.now.0 c.args.key c.args.value c.in-Some.place.now (sym c.in-Some.ensures.value))
+    let old = c.args.self.now in
+    let at = c.in-Some.ensures.value in
+    let eq = g.K.PartialEq.eq in
+    let has = from_lent c.get_mut.result c.in-Some.place.now (c.get_mut.ensures.value ∙ sym at) (c.get_mut.follows.holds c.args.value) in
+    record {
+      entries = has.entries ∙ sym (insert_old eq (entries old) c.args.key c.args.value c.in-Some.place.now (sym at));
+      rows = has.rows ∙ ap (λ x. rows_put x (eq c.args.key) old c.args.key c.args.value) at;
+      next = has.next ∙ ap (λ x. next_put x old) at;
+    }

@@ -1,10 +1,10 @@
-use Rattle.std.proofs.Common.{◌≡◌, ◌∙◌, ◌<◌, ℕ, Option, length, ap, sym, subst}
+use Rattle.std.proofs.Common.{◌≡◌, ◌∙◌, ◌<◌, ℕ, Option, length, ap, refl, sym, subst}
 use Rattle.std.specs.Prelude.{IfSome}
 use Rattle.std.specs.List.{remove, IsDistinct}
 use Rattle.std.specs.Map.{keys_of, remove_entry}
-use Rattle.ctl_ordered.specs.Slots.{entries_of}
-use Rattle.ctl_ordered.specs.Ordered.{IsOrdered}
-use Rattle.ctl_ordered.proofs.SlotLemmas.{entries_squeezed}
+use Rattle.ctl_ordered.specs.Slots.{entries_of, rows_of}
+use Rattle.ctl_ordered.specs.Ordered.{cut_row, entries, IsOrdered}
+use Rattle.ctl_ordered.proofs.SlotLemmas.{entries_squeezed, rows_squeezed}
 use Rattle.ctl_ordered.proofs.OrderLemmas.{key_order, ordered_cut, ordered_squeezed, ordered_no_value}
 use Rattle.ctl_ordered.proofs.ordered.Ordered.remove.Goals as goal
 
@@ -33,8 +33,10 @@ returns-else-len g c =
     let within = subst (λ (s : Option ℕ). IfSome s (λ _. at < length c.deref.result.now)) found.is-1 c.look_up.ensures.within in
     let cut = ordered_cut (key_order g.met.K.Eq.laws g.met.K.Ord.total g.met.K.Ord.matches_eq) o.slots.entries c.deref.result.now o.next held q at c.look_up.ensures.bound c.look_up.ensures.point found.serial (sym found.is-1 ∙ c.look_up.ensures.serial) within in
     record {
-      entries = ap entries_of c.empty_slot.ensures ∙ cut.1 ∙ ap (λ v. remove_entry (eq q) v.0) c.self.view_is;
-      each_once = subst (λ es. IsDistinct eq (keys_of es)) (ap (λ v. v.0) c.self.view_is) c.self.invariant.kept.apart;
+      entries = ap entries_of c.empty_slot.ensures ∙ cut.1 ∙ ap (λ v. remove_entry (eq q) (entries v)) c.self.view_is;
+      rows = ap rows_of c.empty_slot.ensures ∙ cut.2 ∙ ap (λ v. cut_row (eq q) v.rows) c.self.view_is;
+      next = ap (λ v. v.next) c.self.view_is;
+      each_once = subst (λ es. IsDistinct eq (keys_of es)) (ap entries c.self.view_is) c.self.invariant.kept.apart;
     }
 
 pub invariant_of-self : goal.invariant_of-self
@@ -65,8 +67,10 @@ returns-then-len g c =
     let within = subst (λ (s : Option ℕ). IfSome s (λ _. at < length c.deref.result.now)) found.is-1 c.look_up.ensures.within in
     let cut = ordered_cut (key_order g.met.K.Eq.laws g.met.K.Ord.total g.met.K.Ord.matches_eq) o.slots.entries c.deref.result.now o.next held q at c.look_up.ensures.bound c.look_up.ensures.point found.serial (sym found.is-1 ∙ c.look_up.ensures.serial) within in
     record {
-      entries = ap entries_of c.drop_holes.ensures ∙ entries_squeezed c.empty_slot.new.slots.entries ∙ ap entries_of c.empty_slot.ensures ∙ cut.1 ∙ ap (λ v. remove_entry (eq q) v.0) c.self.view_is;
-      each_once = subst (λ es. IsDistinct eq (keys_of es)) (ap (λ v. v.0) c.self.view_is) c.self.invariant.kept.apart;
+      entries = ap entries_of c.drop_holes.ensures ∙ entries_squeezed c.empty_slot.new.slots.entries ∙ ap entries_of c.empty_slot.ensures ∙ cut.1 ∙ ap (λ v. remove_entry (eq q) (entries v)) c.self.view_is;
+      rows = ap rows_of c.drop_holes.ensures ∙ rows_squeezed c.empty_slot.new.slots.entries ∙ ap rows_of c.empty_slot.ensures ∙ cut.2 ∙ ap (λ v. cut_row (eq q) v.rows) c.self.view_is;
+      next = ap (λ v. v.next) c.self.view_is;
+      each_once = subst (λ es. IsDistinct eq (keys_of es)) (ap entries c.self.view_is) c.self.invariant.kept.apart;
     }
 
 pub returns-in_default-None : goal.returns-in_default-None
@@ -75,8 +79,10 @@ returns-in_default-None g c =
     let eq = g.K.PartialEq.eq in
     let q = g.Q.Wanted.wanted c.args.wanted in
     let order = key_order g.met.K.Eq.laws g.met.K.Ord.total g.met.K.Ord.matches_eq in
-    let none = (ordered_no_value order o.slots.entries o.order.items o.next c.self.invariant q (sym c.in_default-None.is-1 ∙ c.look_up.ensures.serial)).1 in
+    let none = ordered_no_value order o.slots.entries o.order.items o.next c.self.invariant q (sym c.in_default-None.is-1 ∙ c.look_up.ensures.serial) in
     record {
-      entries = subst (λ es. es ≡ remove_entry (eq q) es) (ap (λ v. v.0) c.self.view_is) none;
-      each_once = subst (λ es. IsDistinct eq (keys_of es)) (ap (λ v. v.0) c.self.view_is) c.self.invariant.kept.apart;
+      entries = subst (λ es. es ≡ remove_entry (eq q) es) (ap entries c.self.view_is) none.1;
+      rows = subst (λ rs. rs ≡ cut_row (eq q) rs) (ap (λ v. v.rows) c.self.view_is) none.2;
+      next = refl;
+      each_once = subst (λ es. IsDistinct eq (keys_of es)) (ap entries c.self.view_is) c.self.invariant.kept.apart;
     }

@@ -1,21 +1,35 @@
-use Rattle.std.proofs.Common.{◌∙◌, ap}
-use Rattle.indexmap.specs.IndexMap.{insert_entry}
-use Rattle.ctl_store.specs.Pins.{selector_eq, settings_of}
-use Rattle.ctl_store.specs.HeldPieces.{joined}
-use Rattle.ctl_store.specs.HeldRanks.{items_of, label_place, put_item_at, selector_label, setting_row}
-use Rattle.ctl_store.proofs.SettingLemmas.{setting_put}
-use Rattle.ctl_store.proofs.OwnOrderLemmas.{own_same}
+use Rattle.std.proofs.Common.{◌∙◌, ap, sym, subst, to_z, of_z, w16}
+use Rattle.std.specs.List.{insert}
+use Rattle.std.specs.Map.{lookup}
+use Rattle.ctl_ordered.specs.Ordered.{entries, rows_put, next_put}
+use Rattle.ctl_store.specs.Pins.{selector_eq}
+use Rattle.ctl_store.specs.HeldRanks.{IsRanked, labels_of, sorted_labels, labels_below}
+use Rattle.ctl_store.specs.HeldPins.{own_label, own_row}
+use Rattle.ctl_store.proofs.OwnOrderLemmas.{own_set, own_push, value_there, value_nowhere}
+use Rattle.ctl_store.proofs.pin_settings.PinSettings.put.Goals.{in-Some, in-None+in-Ok}
 use Rattle.ctl_store.proofs.pin_settings.PinSettings.put.Goals as goal
 
-pub returns : goal.returns
-returns c =
-    ap (λ l. settings_of (items_of l)) c.put_item.ensures.rows
-    ∙ setting_put c.self.inside.next c.args.setting (joined c.self.inside.rows.pieces.items)
-    ∙ ap (λ v. insert_entry selector_eq v.pins c.args.setting.selector c.args.setting.priority) c.self.view_is
-
 pub invariant_of-self : goal.invariant_of-self
-invariant_of-self c = (
-  c.put_item.ensures.table,
-  own_same (put_item_at (label_place setting_row (selector_label c.args.setting.selector) (joined c.self.inside.rows.pieces.items)) c.args.setting c.self.inside.next (joined c.self.inside.rows.pieces.items)) (joined c.put_item.new.rows.pieces.items)
-      c.enter.new.packages.pieces c.enter.new.packages.ready c.forget_room.new.self.pieces c.forget_room.new.self.ready c.enter.ensures c.put_item.ensures.rows c.forget_room.ensures.items c.forget_room.ensures.fit,
-)
+invariant_of-self c =
+    let s = c.self.inside in
+    let k = c.args.setting.selector in
+    let v = to_z w16 (of_z w16 c.args.setting.priority) in
+    let i = c.match-serial_of.self-inside in
+    let put = c.put in
+    let kept : IsRanked own_row (rows_put (lookup (selector_eq k) (entries i.settings)) (selector_eq k) i.settings k v) (next_put (lookup (selector_eq k) (entries i.settings)) i.settings) i.packages.items = elim c.match-serial_of.branch [
+      | in-Some w ↦
+          let there = value_there (selector_eq k) w.in-Some._serial s.settings.rows (sym w.in-Some.ensures) in
+          subst (λ x. IsRanked own_row (rows_put (lookup (selector_eq k) (entries x.settings)) (selector_eq k) x.settings k v) (next_put (lookup (selector_eq k) (entries x.settings)) x.settings) x.packages.items) (sym w.self-inside-is)
+          (subst (λ o. IsRanked own_row (rows_put o (selector_eq k) s.settings k v) (next_put o s.settings) s.packages.items) (sym there.1)
+          (own_set s.settings.rows s.settings.next s.packages.items c.self.invariant (selector_eq k) v))
+      | in-None+in-Ok w ↦
+          let none = value_nowhere (selector_eq k) s.settings.rows (sym w.in-None.ensures) in
+          let next = w.next_serial-serial.ensures in
+          let at = w.place_of-at.ensures.place ∙ ap (λ n. labels_below (own_label n k) (sorted_labels (labels_of own_row s.settings.rows))) next in
+          subst (λ x. IsRanked own_row (rows_put (lookup (selector_eq k) (entries x.settings)) (selector_eq k) x.settings k v) (next_put (lookup (selector_eq k) (entries x.settings)) x.settings) x.packages.items) (sym w.self-inside-is)
+          (subst (λ l. IsRanked own_row (rows_put (lookup (selector_eq k) (entries s.settings)) (selector_eq k) s.settings k v) (next_put (lookup (selector_eq k) (entries s.settings)) s.settings) l) (sym (w.in-Ok.ensures.items ∙ ap (insert s.packages.items w.place_of-at.result) next))
+          (subst (λ o. IsRanked own_row (rows_put o (selector_eq k) s.settings k v) (next_put o s.settings) (insert s.packages.items w.place_of-at.result s.settings.next)) (sym none)
+          (own_push s.settings.rows s.settings.next s.packages.items c.self.invariant (k, v) w.place_of-at.result at)))
+    ] in
+    subst (λ r. IsRanked own_row r put.new.self.next i.packages.items) (sym put.ensures.rows)
+    (subst (λ n. IsRanked own_row (rows_put (lookup (selector_eq k) (entries i.settings)) (selector_eq k) i.settings k v) n i.packages.items) (sym put.ensures.next) kept)

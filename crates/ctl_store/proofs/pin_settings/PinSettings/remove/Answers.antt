@@ -1,15 +1,31 @@
-use Rattle.std.proofs.Common.{◌∙◌, ap}
-use Rattle.std.specs.Map.{remove_entry}
-use Rattle.ctl_store.specs.Pins.{selector_eq, settings_of}
-use Rattle.ctl_store.specs.Rows.{remove_row_at}
-use Rattle.ctl_store.specs.HeldPieces.{joined}
-use Rattle.ctl_store.specs.HeldRanks.{items_of, label_place, setting_row}
-use Rattle.ctl_store.proofs.SettingLemmas.{setting_removed}
+use Rattle.std.proofs.Common.{sym, subst, arith}
+use Rattle.ctl_ordered.specs.Ordered.{cut_row}
+use Rattle.ctl_store.specs.Pins.{selector_eq}
+use Rattle.ctl_store.specs.HeldRanks.{IsRanked}
+use Rattle.ctl_store.specs.HeldPins.{own_row}
+use Rattle.ctl_store.proofs.OwnOrderLemmas.{own_within, own_cut, own_none}
+use Rattle.ctl_store.proofs.pin_settings.PinSettings.remove.Goals.{in-Some, in-None}
 use Rattle.ctl_store.proofs.pin_settings.PinSettings.remove.Goals as goal
 
-pub returns : goal.returns
-returns c =
-    let rows = joined c.self.inside.rows.pieces.items in
-    ap (λ l. settings_of (items_of l)) (c.remove_item.ensures.rows ∙ ap (λ q. remove_row_at (label_place setting_row q rows) rows) c.label_of_selector-wanted.ensures)
-    ∙ setting_removed c.args.selector.now rows
-    ∙ ap (λ v. remove_entry (selector_eq c.args.selector.now) v.pins) c.self.view_is
+pub remove-requires : goal.remove-requires
+remove-requires c =
+    let s = c.self.inside in
+    omega (arith, c.place_of-at.ensures.place, own_within s.settings.rows s.settings.next s.packages.items c.self.invariant c.args.selector.now c.in-Some.serial (sym c.in-Some.ensures))
+
+pub invariant_of-self : goal.invariant_of-self
+invariant_of-self c =
+    let s = c.self.inside in
+    let k = c.args.selector.now in
+    let i = c.match-serial_of.self-inside in
+    let cut = c.remove-2 in
+    let kept : IsRanked own_row (cut_row (selector_eq k) i.settings.rows) i.settings.next i.packages.items = elim c.match-serial_of.branch [
+      | in-Some w ↦
+          subst (λ x. IsRanked own_row (cut_row (selector_eq k) x.settings.rows) x.settings.next x.packages.items) (sym w.self-inside-is)
+          (subst (λ l. IsRanked own_row (cut_row (selector_eq k) s.settings.rows) s.settings.next l) (sym w.remove.ensures.items)
+          (own_cut s.settings.rows s.settings.next s.packages.items c.self.invariant k w.in-Some.serial (sym w.in-Some.ensures) w.place_of-at.result w.place_of-at.ensures.place))
+      | in-None w ↦
+          subst (λ x. IsRanked own_row (cut_row (selector_eq k) x.settings.rows) x.settings.next x.packages.items) (sym w.self-inside-is)
+          (own_none s.settings.rows s.settings.next s.packages.items c.self.invariant k (sym w.in-None.ensures))
+    ] in
+    subst (λ r. IsRanked own_row r cut.new.self.next i.packages.items) (sym cut.ensures.rows)
+    (subst (λ n. IsRanked own_row (cut_row (selector_eq k) i.settings.rows) n i.packages.items) (sym cut.ensures.next) kept)

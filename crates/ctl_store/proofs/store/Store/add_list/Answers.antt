@@ -1,12 +1,17 @@
 use Rattle.std.proofs.Common.{◌≡◌, suc, refl, ◌+◌, ◌∷◌, ◌++◌, [], ◌∙◌, ap, sym, subst, map, length, List, arith}
 use Rattle.std.specs.FinMap as fin
-use Rattle.ctl_store.specs.Named.{has_name}
+use Rattle.ctl_ordered.specs.Ordered as ordered
+use Rattle.std.specs.Str.{bytes_eq}
+use Rattle.ctl_ordered.specs.Ordered.{next_put, rows_put}
+use Rattle.ctl_store.specs.Named.{at_name, has_name}
 use Rattle.ctl_store.specs.State.{stanza_count, status_count, count_of_kind}
 use Rattle.ctl_store.specs.Edits.{AddList}
 use Rattle.ctl_store.specs.Step.{after}
 use Rattle.ctl_store.specs.Keys.{KeyedList, stanza_lists, list_of_stanzas, keyed_after}
-use Rattle.ctl_store.specs.Held.{lists_of, keyed_list, state_of, keyed_of, IsSound}
-use Rattle.ctl_store.proofs.ListedLemmas.{lists_put_new}
+use Rattle.ctl_store.specs.Held.{lists_of, keyed_list, state_of, keyed_of, AreNumbered, IsSound}
+use Rattle.ctl_store.proofs.NamedLemmas.{none_is}
+use Rattle.ctl_store.proofs.ListedLemmas.{has_name_lists, lists_put_new}
+use Rattle.ctl_store.proofs.NumberedLemmas.{numbered_last}
 use Rattle.ctl_store.proofs.StepLemmas.{new_lists}
 use Rattle.ctl_store.proofs.SoundLemmas.{sound_add}
 use Rattle.ctl_store.proofs.StatusLemmas.{add_statuses}
@@ -41,14 +46,18 @@ invariant_of-self c =
     let xs = map (λ stanza. stanza.value) c.args.stanzas.items in
     let long : length xs ≡ c.len-count.result = omega (arith, same_length (λ stanza. stanza.value) c.args.stanzas.items, c.len-count.ensures) in
     let shelf : keyed_list c.new-shelf.result ≡ list_of_stanzas s.next_list c.args.kind c.args.class xs = λ j. record { serial = c.new-shelf.ensures.serial j; kind = c.new-shelf.ensures.kind j; class = c.new-shelf.ensures.class j; next = (c.new-shelf.ensures.next ∙ sym c.len-count.ensures ∙ sym long) j; rows = c.new-shelf.ensures.rows j } in
-    let new = new_among c.args.name s.lists.0 (ap (λ h. has_name c.args.name (state_of h).lists) c.self.view_is ∙ add_new h.limits (state_of h) c.args.name c.args.kind c.args.class xs c.requires.accepted) in
-    let lists = ap lists_of c.put.ensures.entries ∙ lists_put_new c.args.name c.new-shelf.result s.lists.0 new ∙ ap (λ (l : KeyedList). lists_of s.lists.0 ++ (c.args.name, l) ∷ []) shelf in
+    let new = new_among c.args.name (ordered.entries s.lists) (ap (λ h. has_name c.args.name (state_of h).lists) c.self.view_is ∙ add_new h.limits (state_of h) c.args.name c.args.kind c.args.class xs c.requires.accepted) in
+    let lists = ap lists_of c.put.ensures.entries ∙ lists_put_new c.args.name c.new-shelf.result (ordered.entries s.lists) new ∙ ap (λ (l : KeyedList). lists_of (ordered.entries s.lists) ++ (c.args.name, l) ∷ []) shelf in
+    let none = none_is (at_name c.args.name (ordered.entries s.lists)) (sym (has_name_lists c.args.name (ordered.entries s.lists)) ∙ new) in
+    let rows = c.put.ensures.rows ∙ ap (λ o. rows_put o (bytes_eq c.args.name) s.lists c.args.name c.new-shelf.result) none in
+    let numbered = subst AreNumbered (sym rows) (numbered_last s.lists.next (c.args.name, c.new-shelf.result) s.lists.rows (c.self.invariant.next_is ∙ sym c.new-shelf.ensures.serial) c.self.invariant.numbered) in
     let held = ap (λ h. stanza_count (state_of h).lists) c.self.view_is in
     let most = ap (λ h. h.limits.stanzas) c.self.view_is in
-    subst (λ k. IsSound c.put.new.self.0 (s.next_list + 1) (s.statuses + k) (s.stanzas + c.len-count.result) (s.edits + 1) s.limits) (sym c.one_if_status.ensures)
-    (subst (λ n. IsSound c.put.new.self.0 (s.next_list + 1) (s.statuses + count_of_kind c.args.kind) (s.stanzas + n) (s.edits + 1) s.limits) long
-    (sound_add s.lists.0 s.next_list s.statuses s.stanzas s.edits s.limits c.self.invariant c.put.new.self.0 c.args.name c.args.kind c.args.class xs lists
-    (omega (arith, add_fits h.limits (state_of h) c.args.name c.args.kind c.args.class xs c.requires.accepted, c.self.invariant.counted, held, most))))
+    subst (λ k. IsSound c.put.new.self.rows c.put.new.self.next (s.next_list + 1) (s.statuses + k) (s.stanzas + c.len-count.result) (s.edits + 1) s.limits) (sym c.one_if_status.ensures)
+    (subst (λ n. IsSound c.put.new.self.rows c.put.new.self.next (s.next_list + 1) (s.statuses + count_of_kind c.args.kind) (s.stanzas + n) (s.edits + 1) s.limits) long
+    (subst (λ m. IsSound c.put.new.self.rows m (s.next_list + 1) (s.statuses + count_of_kind c.args.kind) (s.stanzas + length xs) (s.edits + 1) s.limits) (sym (c.put.ensures.next ∙ ap (λ o. next_put o s.lists) none))
+    (sound_add s.lists.rows s.lists.next s.next_list s.statuses s.stanzas s.edits s.limits c.self.invariant c.put.new.self.rows c.args.name c.args.kind c.args.class xs numbered lists
+    (omega (arith, add_fits h.limits (state_of h) c.args.name c.args.kind c.args.class xs c.requires.accepted, c.self.invariant.counted, held, most)))))
 
 pub returns-clause-state : goal.returns-clause-state
 returns-clause-state c =
@@ -57,9 +66,9 @@ returns-clause-state c =
     let xs = map (λ stanza. stanza.value) c.args.stanzas.items in
     let long : length xs ≡ c.len-count.result = omega (arith, same_length (λ stanza. stanza.value) c.args.stanzas.items, c.len-count.ensures) in
     let shelf : keyed_list c.new-shelf.result ≡ list_of_stanzas s.next_list c.args.kind c.args.class xs = λ j. record { serial = c.new-shelf.ensures.serial j; kind = c.new-shelf.ensures.kind j; class = c.new-shelf.ensures.class j; next = (c.new-shelf.ensures.next ∙ sym c.len-count.ensures ∙ sym long) j; rows = c.new-shelf.ensures.rows j } in
-    let new = new_among c.args.name s.lists.0 (ap (λ h. has_name c.args.name (state_of h).lists) c.self.view_is ∙ add_new h.limits (state_of h) c.args.name c.args.kind c.args.class xs c.requires.accepted) in
-    let lists = ap lists_of c.put.ensures.entries ∙ lists_put_new c.args.name c.new-shelf.result s.lists.0 new ∙ ap (λ (l : KeyedList). lists_of s.lists.0 ++ (c.args.name, l) ∷ []) shelf in
-    (λ j. record { lists = (ap stanza_lists lists ∙ new_lists (lists_of s.lists.0) c.args.name s.next_list c.args.kind c.args.class xs) j; marks = fin.from_entries s.marks.0; pins = s.pins.pins; target = s.target; edits = s.edits + 1 })
+    let new = new_among c.args.name (ordered.entries s.lists) (ap (λ h. has_name c.args.name (state_of h).lists) c.self.view_is ∙ add_new h.limits (state_of h) c.args.name c.args.kind c.args.class xs c.requires.accepted) in
+    let lists = ap lists_of c.put.ensures.entries ∙ lists_put_new c.args.name c.new-shelf.result (ordered.entries s.lists) new ∙ ap (λ (l : KeyedList). lists_of (ordered.entries s.lists) ++ (c.args.name, l) ∷ []) shelf in
+    (λ j. record { lists = (ap stanza_lists lists ∙ new_lists (lists_of (ordered.entries s.lists)) c.args.name s.next_list c.args.kind c.args.class xs) j; marks = fin.from_entries (ordered.entries s.marks); pins = s.pins.pins; target = s.target; edits = s.edits + 1 })
     ∙ ap (λ h. after (state_of h) (AddList c.args.name c.args.kind c.args.class xs)) c.self.view_is
 
 pub returns-clause-keyed : goal.returns-clause-keyed
@@ -69,7 +78,7 @@ returns-clause-keyed c =
     let xs = map (λ stanza. stanza.value) c.args.stanzas.items in
     let long : length xs ≡ c.len-count.result = omega (arith, same_length (λ stanza. stanza.value) c.args.stanzas.items, c.len-count.ensures) in
     let shelf : keyed_list c.new-shelf.result ≡ list_of_stanzas s.next_list c.args.kind c.args.class xs = λ j. record { serial = c.new-shelf.ensures.serial j; kind = c.new-shelf.ensures.kind j; class = c.new-shelf.ensures.class j; next = (c.new-shelf.ensures.next ∙ sym c.len-count.ensures ∙ sym long) j; rows = c.new-shelf.ensures.rows j } in
-    let new = new_among c.args.name s.lists.0 (ap (λ h. has_name c.args.name (state_of h).lists) c.self.view_is ∙ add_new h.limits (state_of h) c.args.name c.args.kind c.args.class xs c.requires.accepted) in
-    let lists = ap lists_of c.put.ensures.entries ∙ lists_put_new c.args.name c.new-shelf.result s.lists.0 new ∙ ap (λ (l : KeyedList). lists_of s.lists.0 ++ (c.args.name, l) ∷ []) shelf in
+    let new = new_among c.args.name (ordered.entries s.lists) (ap (λ h. has_name c.args.name (state_of h).lists) c.self.view_is ∙ add_new h.limits (state_of h) c.args.name c.args.kind c.args.class xs c.requires.accepted) in
+    let lists = ap lists_of c.put.ensures.entries ∙ lists_put_new c.args.name c.new-shelf.result (ordered.entries s.lists) new ∙ ap (λ (l : KeyedList). lists_of (ordered.entries s.lists) ++ (c.args.name, l) ∷ []) shelf in
     (λ j. record { lists = lists j; next_list = s.next_list + 1 })
     ∙ ap (λ h. keyed_after (keyed_of h) (AddList c.args.name c.args.kind c.args.class xs)) c.self.view_is

@@ -1,29 +1,28 @@
-use Rattle.std.proofs.Common.{◌+◌, ◌∙◌, ap, subst, sym}
+use Rattle.std.proofs.Common.{◌+◌, ◌∙◌, ap, sym}
+use Rattle.ctl_ordered.specs.Ordered as ordered
 use Rattle.ctl_store.specs.Keys.{stanza_at}
-use Rattle.ctl_store.specs.Held.{lists_of, InOrder, entry_of}
+use Rattle.ctl_store.specs.Held.{lists_of}
 use Rattle.ctl_store.proofs.LookLemmas.{look_up, in_entry}
 use Rattle.ctl_store.proofs.FollowedLemmas.{stanza_under}
 use Rattle.ctl_store.proofs.store.Store.find.Goals as goal
 
-pub entry_of-requires-clause-order : goal.entry_of-requires-clause-order
-entry_of-requires-clause-order c =
-    let s = c.self.inside in
-    (0, s.next_list, s.limits.stanzas + s.edits, subst (λ es. InOrder 0 (lists_of es) s.next_list (s.limits.stanzas + s.edits)) (sym c.pieces.ensures.entries) c.self.invariant.order)
+pub entry_of-requires : goal.entry_of-requires
+entry_of-requires c = c.self.invariant.numbered
 
 pub returns-in-Some-clause-stanza : goal.returns-in-Some-clause-stanza
 returns-in-Some-clause-stanza c =
     let s = c.self.inside in
     let k = c.args.key in
-    let found = c.in-Some.ensures ∙ ap (entry_of k.list) c.pieces.ensures.entries in
+    let found = c.in-Some.ensures in
     c.stanza.ensures
-    ∙ sym (sym (ap (λ h. stanza_at k (lists_of h.lists)) c.self.view_is) ∙ look_up k 0 s.lists.0 s.next_list (s.limits.stanzas + s.edits) c.self.invariant.order ∙ ap (in_entry k) (sym found))
+    ∙ sym (sym (ap (λ h. stanza_at k (lists_of h.lists)) c.self.view_is) ∙ look_up k 0 (ordered.entries s.lists) s.next_list (s.limits.stanzas + s.edits) c.self.invariant.order ∙ ap (in_entry k) (sym found))
 
 pub returns-in-None-clause-stanza : goal.returns-in-None-clause-stanza
 returns-in-None-clause-stanza c =
     let s = c.self.inside in
     let k = c.args.key in
-    let none = c.in-None.ensures ∙ ap (entry_of k.list) c.pieces.ensures.entries in
-    sym (sym (ap (λ h. stanza_at k (lists_of h.lists)) c.self.view_is) ∙ look_up k 0 s.lists.0 s.next_list (s.limits.stanzas + s.edits) c.self.invariant.order ∙ ap (in_entry k) (sym none))
+    let none = c.in-None.ensures in
+    sym (sym (ap (λ h. stanza_at k (lists_of h.lists)) c.self.view_is) ∙ look_up k 0 (ordered.entries s.lists) s.next_list (s.limits.stanzas + s.edits) c.self.invariant.order ∙ ap (in_entry k) (sym none))
 
 pub returns-in-Some-clause-entry : goal.returns-in-Some-clause-entry
 returns-in-Some-clause-entry c = returns-in-Some-clause-stanza c ∙ stanza_under c.args.key (lists_of c.args.self.now.lists)

@@ -1,26 +1,25 @@
 use Rattle.std.proofs.Common.{ℕ, List, option_map, IsSome, ◌∙◌, ap, sym, subst, ◌+◌}
+use Rattle.ctl_ordered.specs.Ordered as ordered
 use Rattle.ctl_store.specs.Keys.{stanza_at, list_at, holder_of}
-use Rattle.ctl_store.specs.Held.{Sheet, lists_of, InOrder, entry_of}
+use Rattle.ctl_store.specs.Held.{Sheet, lists_of}
 use Rattle.ctl_store.proofs.LookLemmas.{look_up, list_at_entry, not_none, in_entry, holder_is}
 use Rattle.ctl_store.proofs.store.Store.list_of.Goals as goal
 
-pub entry_of-requires-clause-order : goal.entry_of-requires-clause-order
-entry_of-requires-clause-order c =
-    let s = c.self.inside in
-    (0, s.next_list, s.limits.stanzas + s.edits, subst (λ es. InOrder 0 (lists_of es) s.next_list (s.limits.stanzas + s.edits)) (sym c.pieces.ensures.entries) c.self.invariant.order)
+pub entry_of-requires : goal.entry_of-requires
+entry_of-requires c = c.self.invariant.numbered
 
 pub unreachable-requires : goal.unreachable-requires
 unreachable-requires c =
     let s = c.self.inside in
     let k = c.args.key in
-    let none = c.in-None.ensures ∙ ap (entry_of k.list) c.pieces.ensures.entries in
+    let none = c.in-None.ensures in
     not_none (stanza_at k (lists_of c.args.self.now.lists)) c.requires
-    (sym (ap (λ h. stanza_at k (lists_of h.lists)) c.self.view_is) ∙ look_up k 0 s.lists.0 s.next_list (s.limits.stanzas + s.edits) c.self.invariant.order ∙ ap (in_entry k) (sym none))
+    (sym (ap (λ h. stanza_at k (lists_of h.lists)) c.self.view_is) ∙ look_up k 0 (ordered.entries s.lists) s.next_list (s.limits.stanzas + s.edits) c.self.invariant.order ∙ ap (in_entry k) (sym none))
 
 pub returns : goal.returns
 returns c =
     let s = c.self.inside in
     let k = c.args.key in
-    let found = c.in-Some.ensures ∙ ap (entry_of k.list) c.pieces.ensures.entries in
-    ap (option_map (λ (e : List ℕ × Sheet). e.0)) found ∙ sym (list_at_entry k.list s.lists.0) ∙ ap (λ h. list_at k.list (lists_of h.lists)) c.self.view_is
-    ∙ sym (ap (λ h. holder_of k (lists_of h.lists)) (sym c.self.view_is) ∙ holder_is k 0 s.lists.0 s.next_list (s.limits.stanzas + s.edits) c.self.invariant.order (subst (λ h. IsSome (stanza_at k (lists_of h.lists))) (sym c.self.view_is) c.requires) ∙ ap (λ h. list_at k.list (lists_of h.lists)) c.self.view_is)
+    let found = c.in-Some.ensures in
+    ap (option_map (λ (e : List ℕ × Sheet). e.0)) found ∙ sym (list_at_entry k.list (ordered.entries s.lists)) ∙ ap (λ h. list_at k.list (lists_of h.lists)) c.self.view_is
+    ∙ sym (ap (λ h. holder_of k (lists_of h.lists)) (sym c.self.view_is) ∙ holder_is k 0 (ordered.entries s.lists) s.next_list (s.limits.stanzas + s.edits) c.self.invariant.order (subst (λ h. IsSome (stanza_at k (lists_of h.lists))) (sym c.self.view_is) c.requires) ∙ ap (λ h. list_at k.list (lists_of h.lists)) c.self.view_is)

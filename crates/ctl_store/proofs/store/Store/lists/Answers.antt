@@ -10,6 +10,6 @@ use Rattle.ctl_store.proofs.store.Store.lists.Goals as goal
 
 pub returns : goal.returns
 returns c = record {
-  lists = shown_entries c.entries-entries.result ∙ ap (λ l. shown_lists (stanza_lists (lists_of l))) (c.entries-entries.ensures.entries ∙ ap (λ h. h.lists) c.self.view_is);
-  distinct = subst (IsDistinct bytes_eq) (ap (λ h. names_of h.lists) c.self.view_is ∙ sym (names_held c.args.self.now.lists)) c.entries-entries.ensures.each_once;
+  lists = shown_entries c.iter-entries.result ∙ ap (λ l. shown_lists (stanza_lists (lists_of l))) (c.iter-entries.ensures.entries ∙ ap (λ h. h.lists) c.self.view_is);
+  distinct = subst (IsDistinct bytes_eq) (ap (λ h. names_of h.lists) c.self.view_is ∙ sym (names_held c.args.self.now.lists)) c.iter-entries.ensures.each_once;
 }

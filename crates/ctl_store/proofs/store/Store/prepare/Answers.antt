@@ -15,13 +15,13 @@ use Rattle.ctl_store.proofs.store.Store.prepare.Goals as goal
 
 pub invariant_of-result : goal.invariant_of-result
 invariant_of-result c = record {
-  coming = subst (λ ks. AreComing ks (edit_of c.args.edit)) (sym c.in-Ok-added_keys.ensures) (added_come (keyed_of c.seek-found.new.self) (edit_of c.args.edit));
-  among = λ k. subst (λ ks. coming_among (edit_of c.args.edit) ks k ≡ coming_under ks (edit_of c.args.edit) k) (sym c.in-Ok-added_keys.ensures) (comes_among k (keyed_of c.seek-found.new.self) (edit_of c.args.edit));
+  coming = subst (λ ks. AreComing ks (edit_of c.args.edit)) (sym c.in-Ok.ensures.added) (added_come (keyed_of c.args.self.now) (edit_of c.args.edit));
+  among = λ k. subst (λ ks. coming_among (edit_of c.args.edit) ks k ≡ coming_under ks (edit_of c.args.edit) k) (sym c.in-Ok.ensures.added) (comes_among k (keyed_of c.args.self.now) (edit_of c.args.edit));
 }
 
-pub returns-clause-ready : goal.returns-clause-ready
-returns-clause-ready c =
-    let k = keyed_of c.seek-found.new.self in
+pub returns-in-Ok-clause-ready : goal.returns-in-Ok-clause-ready
+returns-in-Ok-clause-ready c =
+    let k = keyed_of c.args.self.now in
     let e = edit_of c.args.edit in
     let s = c.self.inside in
     record {
@@ -29,43 +29,43 @@ returns-clause-ready c =
       room = search rules;
       removed = search rules;
       added = search rules;
-      goes = subst (λ ks. AreHeld ks (keyed_of c.make_room.new.self).lists) (sym c.in-Ok-removed_keys.ensures) (subst (λ (t : Keyed). AreHeld (removed_of k e) t.lists) (sym c.make_room.ensures.keyed) (removed_held k e));
-      comes = subst (λ (t : Keyed). AreNew c.in-Ok-added_keys.keys.items c.in-Ok-removed_keys.keys.items t.lists) (sym c.make_room.ensures.keyed)
-          (subst (λ ks. AreNew ks c.in-Ok-removed_keys.keys.items k.lists) (sym c.in-Ok-added_keys.ensures)
-          (subst (λ ks. AreNew (added_of k e) ks k.lists) (sym c.in-Ok-removed_keys.ensures)
+      goes = subst (λ ks. AreHeld ks (keyed_of c.take_memory.new.self).lists) (sym c.in-Ok.ensures.removed) (subst (λ (t : Keyed). AreHeld (removed_of k e) t.lists) (sym c.take_memory.ensures.keyed) (removed_held k e));
+      comes = subst (λ (t : Keyed). AreNew c.in-Ok.added.items c.in-Ok.removed.items t.lists) (sym c.take_memory.ensures.keyed)
+          (subst (λ ks. AreNew ks c.in-Ok.removed.items k.lists) (sym c.in-Ok.ensures.added)
+          (subst (λ ks. AreNew (added_of k e) ks k.lists) (sym c.in-Ok.ensures.removed)
           (new_law k (s.limits.stanzas + s.edits) (subst (λ h. InOrder 0 (lists_of h.lists) h.next_list (s.limits.stanzas + s.edits)) c.self.view_is c.self.invariant.order) e)));
     }
 
-pub returns-clause-change : goal.returns-clause-change
-returns-clause-change c =
-    let k = keyed_of c.seek-found.new.self in
+pub returns-in-Ok-clause-change : goal.returns-in-Ok-clause-change
+returns-in-Ok-clause-change c =
+    let k = keyed_of c.args.self.now in
     let e = edit_of c.args.edit in
     let s = c.self.inside in
-    subst (λ (t : Keyed). IsChange t.lists (keyed_after t e).lists c.in-Ok-removed_keys.keys.items c.in-Ok-added_keys.keys.items e) (sym c.make_room.ensures.keyed)
-    (subst (λ ks. IsChange k.lists (keyed_after k e).lists ks c.in-Ok-added_keys.keys.items e) (sym c.in-Ok-removed_keys.ensures)
-    (subst (λ ks. IsChange k.lists (keyed_after k e).lists (removed_of k e) ks e) (sym c.in-Ok-added_keys.ensures)
+    subst (λ (t : Keyed). IsChange t.lists (keyed_after t e).lists c.in-Ok.removed.items c.in-Ok.added.items e) (sym c.take_memory.ensures.keyed)
+    (subst (λ ks. IsChange k.lists (keyed_after k e).lists ks c.in-Ok.added.items e) (sym c.in-Ok.ensures.removed)
+    (subst (λ ks. IsChange k.lists (keyed_after k e).lists (removed_of k e) ks e) (sym c.in-Ok.ensures.added)
     (change_law k (s.limits.stanzas + s.edits) (subst (λ h. InOrder 0 (lists_of h.lists) h.next_list (s.limits.stanzas + s.edits)) c.self.view_is c.self.invariant.order) e)))
 
-pub returns-clause-followed : goal.returns-clause-followed
-returns-clause-followed c =
-    let k = keyed_of c.seek-found.new.self in
+pub returns-in-Ok-clause-followed : goal.returns-in-Ok-clause-followed
+returns-in-Ok-clause-followed c =
+    let k = keyed_of c.args.self.now in
     let e = edit_of c.args.edit in
     let s = c.self.inside in
     let n = s.limits.stanzas + s.edits in
     let order = subst (λ h. InOrder 0 (lists_of h.lists) h.next_list n) c.self.view_is c.self.invariant.order in
-    subst (λ (t : Keyed). IsFollowed t.lists (keyed_after t e).lists c.in-Ok-removed_keys.keys.items c.in-Ok-added_keys.keys.items e) (sym c.make_room.ensures.keyed)
-    (subst (λ ks. IsFollowed k.lists (keyed_after k e).lists ks c.in-Ok-added_keys.keys.items e) (sym c.in-Ok-removed_keys.ensures)
-    (subst (λ ks. IsFollowed k.lists (keyed_after k e).lists (removed_of k e) ks e) (sym c.in-Ok-added_keys.ensures)
+    subst (λ (t : Keyed). IsFollowed t.lists (keyed_after t e).lists c.in-Ok.removed.items c.in-Ok.added.items e) (sym c.take_memory.ensures.keyed)
+    (subst (λ ks. IsFollowed k.lists (keyed_after k e).lists ks c.in-Ok.added.items e) (sym c.in-Ok.ensures.removed)
+    (subst (λ ks. IsFollowed k.lists (keyed_after k e).lists (removed_of k e) ks e) (sym c.in-Ok.ensures.added)
     (followed_law k.lists (keyed_after k e).lists (removed_of k e) (added_of k e) e (keys_rise 0 k.lists k.next_list n order) (entries_found 0 k.lists k.next_list n order) (change_law k n order e))))
 
-pub returns-clause-given : goal.returns-clause-given
-returns-clause-given c =
-    let k = keyed_of c.seek-found.new.self in
+pub returns-in-Ok-clause-given : goal.returns-in-Ok-clause-given
+returns-in-Ok-clause-given c =
+    let k = keyed_of c.args.self.now in
     let e = edit_of c.args.edit in
     let s = c.self.inside in
     let n = s.limits.stanzas + s.edits in
     let order = subst (λ h. InOrder 0 (lists_of h.lists) h.next_list n) c.self.view_is c.self.invariant.order in
-    subst (λ (t : Keyed). IsGivenOnce t (keyed_after t e) c.in-Ok-removed_keys.keys.items c.in-Ok-added_keys.keys.items) (sym c.make_room.ensures.keyed)
-    (subst (λ ks. IsGivenOnce k (keyed_after k e) ks c.in-Ok-added_keys.keys.items) (sym c.in-Ok-removed_keys.ensures)
-    (subst (λ ks. IsGivenOnce k (keyed_after k e) (removed_of k e) ks) (sym c.in-Ok-added_keys.ensures)
+    subst (λ (t : Keyed). IsGivenOnce t (keyed_after t e) c.in-Ok.removed.items c.in-Ok.added.items) (sym c.take_memory.ensures.keyed)
+    (subst (λ ks. IsGivenOnce k (keyed_after k e) ks c.in-Ok.added.items) (sym c.in-Ok.ensures.removed)
+    (subst (λ ks. IsGivenOnce k (keyed_after k e) (removed_of k e) ks) (sym c.in-Ok.ensures.added)
     (given_law k n order e)))

@@ -1,12 +1,13 @@
-use Rattle.std.proofs.Common.{◌≤◌, ◌+◌, ◌∙◌, refl, ap, arith}
+use Rattle.std.proofs.Common.{◌≤◌, ◌+◌, ◌∙◌, refl, ap, sym, subst, arith}
 use Rattle.std.specs.FinMap as fin
 use Rattle.ctl_stanza.specs.Content.{package_of, version_of}
-use Rattle.ctl_store.specs.Named.{at_name, change_named}
+use Rattle.ctl_ordered.specs.Ordered as ordered
+use Rattle.ctl_store.specs.Named.{at_name}
 use Rattle.ctl_store.specs.State.{stanza_count}
 use Rattle.ctl_store.specs.Edits.{Put}
 use Rattle.ctl_store.specs.Step.{after, has_stanza, put_stanza, with_stanzas}
 use Rattle.ctl_store.specs.Keys.{stanza_lists, put_keyed}
-use Rattle.ctl_store.specs.Held.{Sheet, lists_of, state_of}
+use Rattle.ctl_store.specs.Held.{Sheet, lists_of, state_of, IsSound}
 use Rattle.ctl_store.proofs.ListedLemmas.{in_order_next, if_some_map, Changes-put}
 use Rattle.ctl_store.proofs.StepLemmas.{change_lists, put_list}
 use Rattle.ctl_store.proofs.SoundLemmas.{sound_change}
@@ -20,8 +21,8 @@ put_in-requires-clause-below c =
     let s = c.self.inside in
     let h = c.args.self.now in
     let more = accepted_edits h.limits (state_of h) (Put c.args.list.now c.args.stanza.value) c.requires.accepted in
-    if_some_map (at_name c.as_slice.result.now s.lists.0) (λ (x : Sheet) (k : x.next ≤ s.limits.stanzas + s.edits). omega (arith, k, more, c.self.invariant.stanzas_bounded, c.self.invariant.edits_bounded, ap (λ h. h.edits) c.self.view_is, ap (λ h. h.limits.edits) c.self.view_is))
-    (in_order_next 0 s.lists.0 s.next_list (s.limits.stanzas + s.edits) c.as_slice.result.now c.self.invariant.order)
+    if_some_map (at_name c.args.list.now (ordered.entries s.lists)) (λ (x : Sheet) (k : x.next ≤ s.limits.stanzas + s.edits). omega (arith, k, more, c.self.invariant.stanzas_bounded, c.self.invariant.edits_bounded, ap (λ h. h.edits) c.self.view_is, ap (λ h. h.limits.edits) c.self.view_is))
+    (in_order_next 0 (ordered.entries s.lists) s.next_list (s.limits.stanzas + s.edits) c.args.list.now c.self.invariant.order)
 
 pub overflow_add-self : goal.overflow_add-self
 overflow_add-self c =
@@ -45,17 +46,18 @@ invariant_of-self c =
     let held = ap (λ h. stanza_count (state_of h).lists) c.self.view_is in
     let most = ap (λ h. h.limits.stanzas) c.self.view_is in
     let more = c.more_if_none_goes.ensures ∙ more_is (has_stanza list (package_of x) (version_of x) (state_of h).lists) c.args.gone (c.requires.gone ∙ found_count list (package_of x) (version_of x) (lists_of h.lists)) in
-    let lists = c.put_in.ensures ∙ ap (λ n. change_named n (put_keyed x) (lists_of s.lists.0)) c.as_slice.ensures in
-    sound_change s.lists.0 s.next_list s.statuses s.stanzas s.edits s.limits c.self.invariant c.put_in.new.self.0 list f.0 (put_keyed x) (with_stanzas (put_stanza x)) (s.stanzas + c.more_if_none_goes.result) (Changes-put x) (λ k. refl) (put_list x) lists
+    let lists = c.put_in.ensures.lists in
+    subst (λ m. IsSound c.put_in.new.lists.rows m s.next_list s.statuses (s.stanzas + c.more_if_none_goes.result) (s.edits + 1) s.limits) (sym c.put_in.ensures.next)
+    (sound_change s.lists.rows s.lists.next s.next_list s.statuses s.stanzas s.edits s.limits c.self.invariant c.put_in.new.lists.rows list f.0 (put_keyed x) (with_stanzas (put_stanza x)) (s.stanzas + c.more_if_none_goes.result) (Changes-put x) (λ k. refl) (put_list x) (c.put_in.ensures.numbered c.self.invariant.numbered) lists
     (ap (λ h. at_name list (state_of h).lists) c.self.view_is ∙ f.1)
     (omega (arith, more, put_count (state_of h) list x f.0 f.1))
-    (omega (arith, more, put_fits h.limits (state_of h) list x f.0 c.requires.accepted f.1, c.self.invariant.counted, held, most))
+    (omega (arith, more, put_fits h.limits (state_of h) list x f.0 c.requires.accepted f.1, c.self.invariant.counted, held, most)))
 
 pub returns-clause-state : goal.returns-clause-state
 returns-clause-state c =
     let s = c.self.inside in
     let list = c.args.list.now in
     let x = c.args.stanza.value in
-    let lists = c.put_in.ensures ∙ ap (λ n. change_named n (put_keyed x) (lists_of s.lists.0)) c.as_slice.ensures in
-    (λ j. record { lists = (ap stanza_lists lists ∙ change_lists list (put_keyed x) (with_stanzas (put_stanza x)) (put_list x) (lists_of s.lists.0)) j; marks = fin.from_entries s.marks.0; pins = s.pins.pins; target = s.target; edits = s.edits + 1 })
+    let lists = c.put_in.ensures.lists in
+    (λ j. record { lists = (ap stanza_lists lists ∙ change_lists list (put_keyed x) (with_stanzas (put_stanza x)) (put_list x) (lists_of (ordered.entries s.lists))) j; marks = fin.from_entries (ordered.entries s.marks); pins = s.pins.pins; target = s.target; edits = s.edits + 1 })
     ∙ ap (λ h. after (state_of h) (Put list x)) c.self.view_is

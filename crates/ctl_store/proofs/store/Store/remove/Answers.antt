@@ -1,11 +1,12 @@
-use Rattle.std.proofs.Common.{◌+◌, ◌-◌, ◌∙◌, refl, ap, Some, arith}
+use Rattle.std.proofs.Common.{◌+◌, ◌-◌, ◌∙◌, refl, ap, sym, subst, Some, arith}
 use Rattle.std.specs.FinMap as fin
+use Rattle.ctl_ordered.specs.Ordered as ordered
 use Rattle.ctl_store.specs.Named.{at_name, change_named}
 use Rattle.ctl_store.specs.State.{stanza_count}
 use Rattle.ctl_store.specs.Edits.{Remove}
 use Rattle.ctl_store.specs.Step.{after, remove_stanza, with_stanzas}
 use Rattle.ctl_store.specs.Keys.{stanza_lists, remove_keyed}
-use Rattle.ctl_store.specs.Held.{lists_of, state_of}
+use Rattle.ctl_store.specs.Held.{lists_of, state_of, IsSound}
 use Rattle.ctl_store.proofs.ListedLemmas.{Changes-remove}
 use Rattle.ctl_store.proofs.StepLemmas.{change_lists, remove_list}
 use Rattle.ctl_store.proofs.SoundLemmas.{sound_change}
@@ -29,11 +30,12 @@ invariant_of-self c =
     let f = remove_found h.limits (state_of h) list name version c.requires.accepted in
     let count = remove_count h.limits (state_of h) list name version f.0 c.requires.accepted f.1 in
     let held = ap (λ h. stanza_count (state_of h).lists) c.self.view_is in
-    let lists = c.remove_in.ensures ∙ (λ j. change_named (c.as_slice.ensures j) (remove_keyed (c.as_slice-2.ensures j) (Some version)) (lists_of s.lists.0)) in
-    sound_change s.lists.0 s.next_list s.statuses s.stanzas s.edits s.limits c.self.invariant c.remove_in.new.self.0 list f.0 (remove_keyed name (Some version)) (with_stanzas (remove_stanza name (Some version))) (s.stanzas - 1) (Changes-remove name (Some version)) (λ k. refl) (remove_list name (Some version)) lists
+    let lists = c.remove_in.ensures.lists ∙ ap (λ n. change_named list (remove_keyed n (Some version)) (lists_of (ordered.entries s.lists))) c.as_slice.ensures in
+    subst (λ m. IsSound c.remove_in.new.lists.rows m s.next_list s.statuses (s.stanzas - 1) (s.edits + 1) s.limits) (sym c.remove_in.ensures.next)
+    (sound_change s.lists.rows s.lists.next s.next_list s.statuses s.stanzas s.edits s.limits c.self.invariant c.remove_in.new.lists.rows list f.0 (remove_keyed name (Some version)) (with_stanzas (remove_stanza name (Some version))) (s.stanzas - 1) (Changes-remove name (Some version)) (λ k. refl) (remove_list name (Some version)) (c.remove_in.ensures.numbered c.self.invariant.numbered) lists
     (ap (λ h. at_name list (state_of h).lists) c.self.view_is ∙ f.1)
     (omega (arith, count, count_below (state_of h) list f.0 f.1, c.self.invariant.counted, held))
-    (omega (arith, c.self.invariant.within))
+    (omega (arith, c.self.invariant.within)))
 
 pub returns-clause-state : goal.returns-clause-state
 returns-clause-state c =
@@ -41,6 +43,6 @@ returns-clause-state c =
     let list = c.args.list.now in
     let name = c.args.«package».now in
     let version = c.args.version.now in
-    let lists = c.remove_in.ensures ∙ (λ j. change_named (c.as_slice.ensures j) (remove_keyed (c.as_slice-2.ensures j) (Some version)) (lists_of s.lists.0)) in
-    (λ j. record { lists = (ap stanza_lists lists ∙ change_lists list (remove_keyed name (Some version)) (with_stanzas (remove_stanza name (Some version))) (remove_list name (Some version)) (lists_of s.lists.0)) j; marks = fin.from_entries s.marks.0; pins = s.pins.pins; target = s.target; edits = s.edits + 1 })
+    let lists = c.remove_in.ensures.lists ∙ ap (λ n. change_named list (remove_keyed n (Some version)) (lists_of (ordered.entries s.lists))) c.as_slice.ensures in
+    (λ j. record { lists = (ap stanza_lists lists ∙ change_lists list (remove_keyed name (Some version)) (with_stanzas (remove_stanza name (Some version))) (remove_list name (Some version)) (lists_of (ordered.entries s.lists))) j; marks = fin.from_entries (ordered.entries s.marks); pins = s.pins.pins; target = s.target; edits = s.edits + 1 })
     ∙ ap (λ h. after (state_of h) (Remove list name version)) c.self.view_is

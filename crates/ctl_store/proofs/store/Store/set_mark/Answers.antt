@@ -1,5 +1,6 @@
 use Rattle.std.proofs.Common.{◌∙◌, ap, ◌+◌}
 use Rattle.std.specs.FinMap as fin
+use Rattle.ctl_ordered.specs.Ordered as ordered
 use Rattle.ctl_store.specs.Edits.{Mark}
 use Rattle.ctl_store.specs.Step.{after}
 use Rattle.ctl_store.specs.Keys.{stanza_lists}
@@ -9,10 +10,10 @@ use Rattle.ctl_store.proofs.SoundLemmas.{sound_more}
 use Rattle.ctl_store.proofs.store.Store.set_mark.Goals as goal
 
 pub invariant_of-self : goal.invariant_of-self
-invariant_of-self c = let s = c.self.inside in sound_more s.lists.0 s.next_list s.statuses s.stanzas s.edits s.limits c.self.invariant
+invariant_of-self c = let s = c.self.inside in sound_more s.lists.rows s.lists.next s.next_list s.statuses s.stanzas s.edits s.limits c.self.invariant
 
 pub returns-clause-state : goal.returns-clause-state
 returns-clause-state c =
     let s = c.self.inside in
-    (λ j. record { lists = stanza_lists (lists_of s.lists.0); marks = (ap fin.from_entries c.put.ensures.entries ∙ from_entries-put_named c.args.name c.args.version s.marks.0) j; pins = s.pins.pins; target = s.target; edits = s.edits + 1 })
+    (λ j. record { lists = stanza_lists (lists_of (ordered.entries s.lists)); marks = (ap fin.from_entries c.put.ensures.entries ∙ from_entries-put_named c.args.name c.args.version (ordered.entries s.marks)) j; pins = s.pins.pins; target = s.target; edits = s.edits + 1 })
     ∙ ap (λ h. after (state_of h) (Mark c.args.name c.args.version)) c.self.view_is

@@ -1,4 +1,5 @@
 use Rattle.std.proofs.Common.{rules, ◌≡◌, ◌∙◌, ◌+◌, Some, map, ap, subst, sym}
+use Rattle.ctl_ordered.specs.Ordered as ordered
 use Rattle.ctl_store.specs.Keys.{AreHeld, all_in, stanza_at, stanza_lists}
 use Rattle.ctl_store.specs.State.{stanzas_named}
 use Rattle.ctl_store.specs.Held.{lists_of}
@@ -20,7 +21,7 @@ returns-in-Some-clause-stanzas c =
     let s = c.self.inside in
     let ls = lists_of c.args.self.now.lists in
     let found = subst (λ h. map (λ key. stanza_at key (lists_of h.lists)) (all_in c.args.list.now (lists_of h.lists)) ≡ map Some (stanzas_named c.args.list.now (stanza_lists (lists_of h.lists)))) c.self.view_is
-    (keys_find c.args.list.now 0 (lists_of s.lists.0) s.next_list (s.limits.stanzas + s.edits) c.self.invariant.order) in
+    (keys_find c.args.list.now 0 (lists_of (ordered.entries s.lists)) s.next_list (s.limits.stanzas + s.edits) c.self.invariant.order) in
     ap (λ ks. map (λ key. stanza_at key ls) ks) (returns-in-Some-clause-keys c) ∙ found
 
 pub returns-in-None-clause-keys : goal.returns-in-None-clause-keys
@@ -31,5 +32,5 @@ returns-in-None-clause-stanzas c =
     let s = c.self.inside in
     let ls = lists_of c.args.self.now.lists in
     let found = subst (λ h. map (λ key. stanza_at key (lists_of h.lists)) (all_in c.args.list.now (lists_of h.lists)) ≡ map Some (stanzas_named c.args.list.now (stanza_lists (lists_of h.lists)))) c.self.view_is
-    (keys_find c.args.list.now 0 (lists_of s.lists.0) s.next_list (s.limits.stanzas + s.edits) c.self.invariant.order) in
+    (keys_find c.args.list.now 0 (lists_of (ordered.entries s.lists)) s.next_list (s.limits.stanzas + s.edits) c.self.invariant.order) in
     ap (λ ks. map (λ key. stanza_at key ls) ks) (returns-in-None-clause-keys c) ∙ found

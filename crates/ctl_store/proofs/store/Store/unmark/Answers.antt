@@ -1,5 +1,6 @@
 use Rattle.std.proofs.Common.{◌∙◌, ap, ◌+◌}
-use Rattle.ctl_store.specs.Named.{at_name, without_name}
+use Rattle.ctl_ordered.specs.Ordered as ordered
+use Rattle.ctl_store.specs.Named.{at_name}
 use Rattle.ctl_store.specs.Edits.{Unmark}
 use Rattle.ctl_store.specs.Step.{after}
 use Rattle.ctl_store.specs.Keys.{stanza_lists}
@@ -9,10 +10,10 @@ use Rattle.ctl_store.proofs.SoundLemmas.{sound_more}
 use Rattle.ctl_store.proofs.store.Store.unmark.Goals as goal
 
 pub invariant_of-self : goal.invariant_of-self
-invariant_of-self c = let s = c.self.inside in sound_more s.lists.0 s.next_list s.statuses s.stanzas s.edits s.limits c.self.invariant
+invariant_of-self c = let s = c.self.inside in sound_more s.lists.rows s.lists.next s.next_list s.statuses s.stanzas s.edits s.limits c.self.invariant
 
 pub returns-clause-state : goal.returns-clause-state
 returns-clause-state c =
     let s = c.self.inside in
-    (λ j. record { lists = stanza_lists (lists_of s.lists.0); marks = (from_entries-removed c.args.name.now s.marks.0 c.remove.new.self.0 (λ q. ap (at_name q) (c.remove.ensures.entries ∙ ap (λ n. without_name n s.marks.0) c.as_slice.ensures) ∙ at_name-without_name c.args.name.now q s.marks.0 c.remove.ensures.each_once)) j; pins = s.pins.pins; target = s.target; edits = s.edits + 1 })
+    (λ j. record { lists = stanza_lists (lists_of (ordered.entries s.lists)); marks = (from_entries-removed c.args.name.now (ordered.entries s.marks) (ordered.entries c.remove.new.self) (λ q. ap (at_name q) c.remove.ensures.entries ∙ at_name-without_name c.args.name.now q (ordered.entries s.marks) c.remove.ensures.each_once)) j; pins = s.pins.pins; target = s.target; edits = s.edits + 1 })
     ∙ ap (λ h. after (state_of h) (Unmark c.args.name.now)) c.self.view_is

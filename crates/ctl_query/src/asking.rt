@@ -1,0 +1,205 @@
+//! What an answer is asked of: a cache that isn't stale, and what stands in it under names.
+
+ghost use Rattle.std.specs.Prelude.{◌≡◌, ◌&&◌, ℕ, List, IfOk, IsSome, Some, false, map};
+ghost use Rattle.std.specs.List.{AllByRecursion};
+ghost use Rattle.std.specs.Cmp.Lexicographic.{slice_cmp};
+ghost use Rattle.std.specs.List.Sorted.{IsPermutation, IsStrictlySortedBy};
+ghost use Rattle.std.specs.Ordering.{nat_cmp};
+ghost use Rattle.ctl_store.specs.Held.{keyed_of};
+ghost use Rattle.ctl_store.specs.Keys.{AreHeld};
+ghost use Rattle.ctl_index.specs.Clauses.{clause_at, number_at, unmet_clauses};
+ghost use Rattle.ctl_index.specs.Held.{standing};
+ghost use Rattle.ctl_index.specs.Names.{is_package, namers_named};
+ghost use Rattle.ctl_index.specs.Offers.{offers_named};
+ghost use Rattle.ctl_policy.specs.Candidate.{candidate_of};
+ghost use Rattle.ctl_policy.specs.Chosen.{choice_in};
+ghost use Rattle.ctl_policy.specs.Priority.{world_of};
+ghost use Rattle.ctl_policy.specs.Rows.{keys_of_row, lead_at, newest_first, rows_named};
+ghost use Rattle.ctl_query.specs.Interest.{offering_named};
+ghost use Rattle.ctl_query.specs.NameSet.{is_among};
+ghost use Rattle.ctl_query.specs.PackageNames.{begins_with};
+ghost use Rattle.ctl_query.specs.Packages.{has_row, is_installed, is_known, names_known, packages_of, rows_of, stanzas_of};
+
+use ctl_index::{
+    AllRows, Cache, ClauseKey, NameView, Namers, Names, Offers, PackageNames, Packages,
+    UnmetClauses,
+};
+use ctl_policy::{Chosen, NewestFirst, rows_are_classes};
+use ctl_relation::Version;
+use ctl_store::{StanzaKey, Store};
+use std::alloc::{AllocError, Global};
+use std::marker::Model;
+
+/// A cache that isn't stale, seen as what is held in it, and what gives an answer its memory.
+#[derive(Drop)]
+pub(crate) struct Asking<'a> {
+    alloc: Global,
+    cache: &'a Cache,
+}
+
+impl<'a> Model for Asking<'a> {
+    ghost use Rattle.std.specs.Prelude.{◌≡◌, false};
+    ghost use Rattle.ctl_store.specs.Held.{Held};
+
+    ghost Value = { Held };
+
+    ghost view = { λ asking. asking.cache.now.store };
+
+    ghost invariant = { λ asking. asking.cache.now.stale ≡ false };
+}
+
+impl<'a> Asking<'a> {
+    /// What is asked of this cache.
+    pub(crate) fn new(alloc: Global, cache: &'a Cache) -> Asking<'a>
+        requires { cache.now.stale ≡ false }
+        ensures { result ≡ cache.now.store }
+    {
+        Asking { alloc, cache }
+    }
+
+    /// What gives an answer its memory.
+    pub(crate) fn alloc(&self) -> Global {
+        self.alloc
+    }
+
+    /// The store of the cache.
+    pub(crate) fn store(&self) -> &'a Store
+        ensures { result.now ≡ self.now }
+    {
+        self.cache.store()
+    }
+
+    /// The names that have a row, in the order of their bytes.
+    pub(crate) fn packages(&self) -> Packages<'a>
+        ensures { result ≡ packages_of (world_of self.now) }
+    {
+        rows_are_classes();
+        self.cache.packages()
+    }
+
+    /// The names of packages that begin with a prefix, in the order of their bytes. No other name is looked at.
+    pub(crate) fn package_names(&self, prefix: &[u8]) -> Result<PackageNames<'a>, AllocError>
+        ensures order { IfOk result (λ names. IsStrictlySortedBy (slice_cmp nat_cmp) names) }
+        ensures members { IfOk result (λ names. (name : List ℕ) → is_among names name
+            ≡ (begins_with prefix.now name && is_package (stanzas_of (world_of self.now)) name)) }
+    {
+        self.cache.package_names(prefix)
+    }
+
+    /// The rows of a name, newest first.
+    #[tactic(auto, unfolding(crate::specs::Packages::rows_of))]
+    pub(crate) fn rows(&self, name: &[u8]) -> NewestFirst<'a>
+        ensures rows { result ≡ rows_of (world_of self.now) name.now }
+        ensures held { AllByRecursion (λ row. AreHeld row (keyed_of self.now).lists) result }
+    {
+        self.cache.row_keys(name)
+    }
+
+    /// What stands under a name, of which it is looked up once.
+    #[tactic(auto, unfolding(crate::specs::Packages::is_known, crate::specs::Packages::rows_of))]
+    pub(crate) fn view(&self, name: &[u8]) -> NameView<'a>
+        ensures known { result.is_known ≡ is_known (world_of self.now) name.now }
+        ensures rows { result.rows ≡ rows_of (world_of self.now) name.now }
+        ensures held { AllByRecursion (λ row. AreHeld row (keyed_of self.now).lists) result.rows }
+        ensures offering { IsPermutation (offering_named self.now name.now) result.offering }
+        ensures namers { IsPermutation (namers_named name.now (standing self.now)) result.namers }
+    {
+        self.cache.name_view(name)
+    }
+
+    /// Whether a name is known.
+    #[tactic(auto, unfolding(crate::specs::Packages::is_known))]
+    pub(crate) fn is_known(&self, name: &[u8]) -> bool
+        ensures { result ≡ is_known (world_of self.now) name.now }
+    {
+        self.cache.is_known(name)
+    }
+
+    /// Whether a name is known, where its row is looked for first and is then near: a name with a row is known.
+    pub(crate) fn is_known_by_row(&self, name: &[u8]) -> bool
+        ensures { result ≡ is_known (world_of self.now) name.now }
+    {
+        rows_are_classes();
+        self.has_row(name) || self.is_known(name)
+    }
+
+    /// Whether a name has a row.
+    pub(crate) fn has_row(&self, name: &[u8]) -> bool
+        ensures { result ≡ has_row (world_of self.now) name.now }
+    {
+        self.cache.has_row(name)
+    }
+
+    /// What is chosen of a name: the leads of the row that is installed and of the candidate.
+    pub(crate) fn chosen(&self, name: &[u8]) -> Chosen
+        ensures { result ≡ choice_in name.now (world_of self.now) }
+    {
+        self.cache.chosen(name)
+    }
+
+    /// Whether a row of a name is installed.
+    pub(crate) fn is_installed(&self, name: &[u8]) -> bool
+        ensures { result ≡ is_installed (world_of self.now) name.now }
+    {
+        self.cache.installed(name).is_some()
+    }
+
+    /// The lead of the candidate of a name.
+    pub(crate) fn candidate(&self, name: &[u8]) -> Option<StanzaKey>
+        ensures { result ≡ candidate_of name.now (world_of self.now) }
+    {
+        self.cache.candidate(name)
+    }
+
+    /// The lead of the row of a name whose version is equal to this one, if there is one.
+    pub(crate) fn lead(&self, name: &[u8], version: &Version) -> Option<StanzaKey>
+        ensures { result ≡ lead_at (rows_named name.now (keyed_of self.now).lists) version.now }
+    {
+        self.cache.lead(name, version)
+    }
+
+    /// The offers of a name, in any order.
+    pub(crate) fn offers(&self, name: &[u8]) -> Offers<'a>
+        ensures offers { IsPermutation (offers_named name.now (standing self.now)) result }
+        ensures held { AreHeld (map (λ offer. offer.0) result) (keyed_of self.now).lists }
+    {
+        self.cache.offers(name)
+    }
+
+    /// The atoms of the eight fields that name a name, in any order.
+    pub(crate) fn namers(&self, name: &[u8]) -> Namers<'a>
+        ensures namers { IsPermutation (namers_named name.now (standing self.now)) result }
+    {
+        self.cache.namers(name)
+    }
+
+    /// The names that are known, in the order of their bytes.
+    pub(crate) fn names(&self) -> Names<'a>
+        ensures { result ≡ names_known (world_of self.now) }
+    {
+        self.cache.names()
+    }
+
+    /// The rows of each known name, newest first, in the order of the names.
+    pub(crate) fn all_rows(&self) -> AllRows<'a>
+        ensures { result ≡ map (λ (name : List ℕ). map keys_of_row (newest_first (rows_named name (keyed_of self.now).lists)))
+            (names_known (world_of self.now)) }
+    {
+        self.cache.all_rows()
+    }
+
+    /// The clauses that no offer meets, in order.
+    pub(crate) fn unmet_clauses(&self) -> UnmetClauses<'a>
+        ensures { result ≡ unmet_clauses (standing self.now) }
+    {
+        self.cache.unmet_clauses()
+    }
+
+    /// The number of a clause, which is one of the store: how many pairs of one of its atoms and an offer meet.
+    pub(crate) fn satisfiers(&self, clause: ClauseKey) -> u128
+        requires { IsSome (clause_at clause (standing self.now)) }
+        ensures { Some result ≡ number_at clause (standing self.now) }
+    {
+        self.cache.satisfiers(clause)
+    }
+}
