@@ -47,6 +47,8 @@ def test_parts(tests):
     tests.expect("a part that fails stops the gate", (status, lines[-1]) == (1, "2 passed, 2 failed") and "prove: not run" in lines, lines)
     status, lines, _ = run_gate({"demo": "echo '1 passed, 2 failed'; false"}, ["--keep-going"])
     tests.expect("or is gone past", (status, lines[-1]) == (1, "6 passed, 2 failed"), lines)
+    told = lines[lines.index("== demo failed; it said last") :] if "== demo failed; it said last" in lines else lines
+    tests.expect("what a part that failed said last", told[1:2] == ["1 passed, 2 failed"] and "== the gate" in told, lines)
     for what, command in (("no count", "echo all well"), ("a count of none, and a failure", "echo '1 passed, 0 failed'; false")):
         status, lines, _ = run_gate({"edits": command}, ["--keep-going"])
         tests.expect("a part of %s has failed" % what, status == 1 and lines[-1].endswith(" passed, 1 failed"), lines)

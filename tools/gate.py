@@ -4,8 +4,9 @@
     tools/gate.py [--keep-going]
 
 As a part ends, a line says how long it took. A part that fails stops the gate, once what runs beside it has ended, unless
---keep-going is given. The last line is 'N passed, M failed', and ', K skipped' where tests were skipped: the sum over all parts
-that ran. The status is 1 where anything failed. What was measured is left in out/gate.json.
+--keep-going is given; what it printed last is told again at the end, where it is found in a long log. The last line is 'N passed,
+M failed', and ', K skipped' where tests were skipped: the sum over all parts that ran. The status is 1 where anything failed. What was
+measured is left in out/gate.json.
 
 The proofs are a chain from crate to crate, so that they leave processors idle. With four processors or more what needs no proof runs
 beside them, and the tests of the proved program beside the edits, at low priority; what they print comes behind what the others do."""
@@ -46,6 +47,8 @@ PARTS = {
 SETTINGS = {"edits": ["IN_GATE=1"]}
 # So many processors are needed for parts beside each other.
 ENOUGH = 4
+# So many lines of a part that failed are told again at the end.
+TOLD_AGAIN = 15
 COUNT = re.compile(r"(\d+) passed, (\d+) failed(?:, (\d+) skipped)?")
 PROVED = re.compile(r"== (\w+)|logic=proved functions=(\d+) .*")
 
@@ -58,6 +61,7 @@ class Outcome:
     skipped: int
     wall: float
     cpu: float
+    last_lines: list[str]
 
     def __str__(self) -> str:
         counts = counts_of(self.passed, self.failed, self.skipped)
@@ -109,7 +113,7 @@ def run(name: str, show: Callable[[str], object], before: Iterable[str] = ()) ->
         failed = 1
     if watch:
         gate_file.update("proofs", proofs_of(lines, watch.stop()))
-    return Outcome(name, passed, failed, skipped, time.time() - began, used.ru_utime + used.ru_stime)
+    return Outcome(name, passed, failed, skipped, time.time() - began, used.ru_utime + used.ru_stime, lines[-TOLD_AGAIN:])
 
 
 def proofs_of(lines: list[str], seconds: dict[proof_seconds.Checked, float]) -> gate_file.Measured:
@@ -168,6 +172,9 @@ def main(words: list[str]) -> int:
 
 def conclude(outcomes: list[Outcome], left: list[str], wall: float) -> int:
     """Tells what the gate came to, and leaves its times."""
+    for it in outcomes:
+        if it.failed:
+            tell("\n".join([f"== {it.name} failed; it said last", *it.last_lines]))
     print("== the gate")
     for it in outcomes:
         print(it)
