@@ -44,14 +44,6 @@ continued-up line ls = ⊎_elim
     (λ (other : continues (kind_of line) ≡ false). let none : continued (line ∷ ls) ≡ [] = cond-false _ _ _ other in omega (arith, ap length none))
     (cases_Bool (continues (kind_of line)))
 
-no-first : (b : ℕ) (line : List ℕ) (ls : List (List ℕ)) → is_blank_byte b ≡ false → continued ((b ∷ line) ∷ ls) ≡ []
-no-first b line ls other =
-    cond-false _ _ _ (sym (continues_is (b ∷ line)) ∙ ap (λ t. t && not (is_blank (b ∷ line))) other)
-
-no-onto : (b : ℕ) (ls : List (List ℕ)) → is_blank_byte b ≡ false → continued (onto_first b ls) ≡ []
-no-onto b [] other = no-first b [] [] other
-no-onto b (l ∷ ls) other = no-first b l ls other
-
 -- a value at the end of its line, and the lines that continue it, stand in one piece
 pub body-piece : (text line behind value : List ℕ) (more : ℕ) → text ≡ line ++ 10 ∷ behind → IsText behind → more ≡ length (continued (lines_of behind)) → length value ≤ length line
     → drop (length line - length value) line ≡ value
