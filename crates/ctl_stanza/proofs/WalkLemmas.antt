@@ -1,17 +1,16 @@
 -- Fields, found line by line.
-use Rattle.std.proofs.Common.{not, ◌&&◌, ◌≡◌, ◌∙◌, ◌+◌, ◌-◌, ◌<◌, ◌≤◌, ◌^◌, ◌==◌, ℕ, suc, true, false, cond, List, [], ◌∷◌, ◌++◌, length, map, take, drop, get_or, slice_range, take_all, length-append, Some, refl, sym, ap, ap₂, arith, ⊎_elim}
+use Rattle.std.proofs.Common.{◌≡◌, ◌∙◌, ◌+◌, ◌-◌, ◌<◌, ◌≤◌, ◌^◌, ◌==◌, ℕ, suc, true, false, cond, List, [], ◌∷◌, ◌++◌, length, map, take, drop, get_or, slice_range, take_all, length-append, Some, refl, sym, ap, ap₂, arith, ⊎_elim}
 use Rattle.std.proofs.lemmas.List.{length-drop, length-take-le}
 use Rattle.std.proofs.Math.Seq.{drop-append-add, take-append_seam}
 use Rattle.std.proofs.lemmas.Bool.{cases_Bool, cases_lt, cond-true, cond-false}
 use Rattle.ctl_relation.specs.Bytes.{colon}
 use Rattle.ctl_stanza.specs.declared.line_kind.LineKind.{LineKind}
 use Rattle.ctl_stanza.specs.declared.line_kind.LineKind.TheVariants.{Blank, Field, Continuation, Faulty}
-use Rattle.ctl_stanza.specs.Lines.{lines_of, onto_first, text_of_lines, is_blank, is_blank_byte}
+use Rattle.ctl_stanza.specs.Lines.{lines_of, text_of_lines}
 use Rattle.ctl_stanza.specs.LineKind.{kind_of}
 use Rattle.ctl_stanza.specs.Content.{name_and_body}
 use Rattle.ctl_stanza.specs.Fields.{value_of, continues, continued, field_at, fields_from, body_named, is_same_name, names_field}
 use Rattle.ctl_stanza.specs.HeldFields.{IsText, IsWalk, StandsAt, bodies_in, loose_at, loose_bodies}
-use Rattle.ctl_stanza.proofs.LineStartLemmas.{continues_is}
 use Rattle.ctl_stanza.proofs.FieldLemmas.{beyond_line, take-continued, continued-le}
 use Rattle.ctl_stanza.proofs.FieldLineLemmas.{field-found, taken}
 use Rattle.ctl_stanza.proofs.RelationLemmas.{same-length}
