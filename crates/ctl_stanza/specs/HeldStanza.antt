@@ -12,7 +12,7 @@ use Rattle.ctl_stanza.specs.declared.list_kind.ListKind.{ListKind}
 use Rattle.ctl_stanza.specs.Marks.{MarkedField, words_of_all}
 use Rattle.ctl_stanza.specs.Fields.{FieldText, is_same_name, body_named, version_name}
 use Rattle.ctl_stanza.specs.RelationFields.{name_of}
-use Rattle.ctl_stanza.specs.Content.{Content, named_bodies, relations_of_kind, offers_of}
+use Rattle.ctl_stanza.specs.Content.{Content, relations_of_kind, offers_of}
 use Rattle.ctl_stanza.specs.Sound.{IsWhole, IsSound}
 use Rattle.ctl_stanza.specs.HeldFields.{IsWalk, IsWithin, shown}
 
