@@ -6,8 +6,8 @@ use std::alloc::{AllocError, Global};
 use std::marker::Model;
 use std::mem::size_of;
 
-// How many bytes stand in the value itself. Most names have no more, and nearly all versions.
-const SHORT_LEN: usize = 23;
+// How many bytes stand in the value itself. Nearly all names and versions have no more.
+const SHORT_LEN: usize = 30;
 
 #[derive(Drop)]
 enum Held {
@@ -22,7 +22,7 @@ pub(crate) struct SmallBytes {
     held: Held,
 }
 
-// A short one fills the place of a long one's vector.
+// A short one fills the place of a long one's vector, and what stands before that for its alignment.
 const _: () = prove!(size_of::<SmallBytes>() == size_of::<Vec<u8>>() + size_of::<usize>());
 
 impl Model for SmallBytes {

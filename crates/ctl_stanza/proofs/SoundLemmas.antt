@@ -34,7 +34,7 @@ use Rattle.ctl_stanza.specs.Content.{Content, fields_of, body_of, is_live, packa
 use Rattle.ctl_stanza.specs.Faults.{cause_of, fault_or, first_fault, is_empty_body, lacks_state, is_missing, field_cause, first_wrong, whole_fault, or_else, stanza_fault}
 use Rattle.std.proofs.Math.Seq.{take-append_seam, drop-append-add}
 use Rattle.ctl_stanza.specs.declared.fields.Field.{Field}
-use Rattle.ctl_stanza.specs.HeldFields.{AreWithin, Grows, IsReadFrom, loose_bodies, shown_fields}
+use Rattle.ctl_stanza.specs.HeldFields.{AreWithin, Grows, IsReadFrom, IsWalk, loose_bodies, shown_fields}
 use Rattle.ctl_stanza.specs.Sound.{IsWhole, IsSound, atoms_of}
 use Rattle.ctl_stanza.proofs.FieldLemmas.{continued-le}
 use Rattle.ctl_stanza.proofs.ProvidesLemmas.{one_atom_each}
@@ -418,6 +418,10 @@ no_fault_of kind n text_len bytes fields read whole =
 -- the text at the front of bytes is no longer than its length says
 pub short_text : (size : ℕ) (bytes : List ℕ) → size ≤ length bytes → size < 2 ^ 32 → length (take size bytes) < 2 ^ 32
 short_text size bytes le lt = omega (arith, length-take-le size bytes le)
+
+-- the fields of what was read are found by walking its text
+pub walk_of : (size : ℕ) (bytes : List ℕ) (fields : List Field) → IsReadFrom bytes size fields → IsWalk (take size bytes) (drop size bytes)
+walk_of size bytes fields read = record { small = short_text size bytes read.within read.small; is_text = read.is_text; loose_are = read.loose_are }
 
 -- the text stays at the front of bytes that grow
 pub front_text : (size : ℕ) (old new : List ℕ) → size ≡ length old → Grows old new → take size new ≡ old

@@ -1,17 +1,16 @@
 -- Fields, found line by line.
-use Rattle.std.proofs.Common.{not, ◌&&◌, ◌≡◌, ◌∙◌, ◌+◌, ◌-◌, ◌<◌, ◌≤◌, ◌^◌, ◌==◌, ℕ, suc, true, false, cond, List, [], ◌∷◌, ◌++◌, length, map, take, drop, get_or, slice_range, take_all, length-append, Some, refl, sym, ap, ap₂, arith, ⊎_elim}
+use Rattle.std.proofs.Common.{◌≡◌, ◌∙◌, ◌+◌, ◌-◌, ◌<◌, ◌≤◌, ◌^◌, ◌==◌, ℕ, suc, true, false, cond, List, [], ◌∷◌, ◌++◌, length, map, take, drop, get_or, slice_range, take_all, length-append, Some, refl, sym, ap, ap₂, arith, ⊎_elim}
 use Rattle.std.proofs.lemmas.List.{length-drop, length-take-le}
 use Rattle.std.proofs.Math.Seq.{drop-append-add, take-append_seam}
 use Rattle.std.proofs.lemmas.Bool.{cases_Bool, cases_lt, cond-true, cond-false}
 use Rattle.ctl_relation.specs.Bytes.{colon}
 use Rattle.ctl_stanza.specs.declared.line_kind.LineKind.{LineKind}
 use Rattle.ctl_stanza.specs.declared.line_kind.LineKind.TheVariants.{Blank, Field, Continuation, Faulty}
-use Rattle.ctl_stanza.specs.Lines.{lines_of, onto_first, text_of_lines, is_blank, is_blank_byte}
+use Rattle.ctl_stanza.specs.Lines.{lines_of, text_of_lines}
 use Rattle.ctl_stanza.specs.LineKind.{kind_of}
 use Rattle.ctl_stanza.specs.Content.{name_and_body}
 use Rattle.ctl_stanza.specs.Fields.{value_of, continues, continued, field_at, fields_from, body_named, is_same_name, names_field}
 use Rattle.ctl_stanza.specs.HeldFields.{IsText, IsWalk, StandsAt, bodies_in, loose_at, loose_bodies}
-use Rattle.ctl_stanza.proofs.LineStartLemmas.{continues_is}
 use Rattle.ctl_stanza.proofs.FieldLemmas.{beyond_line, take-continued, continued-le}
 use Rattle.ctl_stanza.proofs.FieldLineLemmas.{field-found, taken}
 use Rattle.ctl_stanza.proofs.RelationLemmas.{same-length}
@@ -43,14 +42,6 @@ continued-up line ls = ⊎_elim
     let is : continued (line ∷ ls) ≡ 10 ∷ (line ++ continued ls) = cond-true _ _ _ so in omega (arith, ap length is, length-append line (continued ls)))
     (λ (other : continues (kind_of line) ≡ false). let none : continued (line ∷ ls) ≡ [] = cond-false _ _ _ other in omega (arith, ap length none))
     (cases_Bool (continues (kind_of line)))
-
-no-first : (b : ℕ) (line : List ℕ) (ls : List (List ℕ)) → is_blank_byte b ≡ false → continued ((b ∷ line) ∷ ls) ≡ []
-no-first b line ls other =
-    cond-false _ _ _ (sym (continues_is (b ∷ line)) ∙ ap (λ t. t && not (is_blank (b ∷ line))) other)
-
-no-onto : (b : ℕ) (ls : List (List ℕ)) → is_blank_byte b ≡ false → continued (onto_first b ls) ≡ []
-no-onto b [] other = no-first b [] [] other
-no-onto b (l ∷ ls) other = no-first b l ls other
 
 -- a value at the end of its line, and the lines that continue it, stand in one piece
 pub body-piece : (text line behind value : List ℕ) (more : ℕ) → text ≡ line ++ 10 ∷ behind → IsText behind → more ≡ length (continued (lines_of behind)) → length value ≤ length line

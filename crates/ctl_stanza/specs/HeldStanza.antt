@@ -12,7 +12,7 @@ use Rattle.ctl_stanza.specs.declared.list_kind.ListKind.{ListKind}
 use Rattle.ctl_stanza.specs.Marks.{MarkedField, words_of_all}
 use Rattle.ctl_stanza.specs.Fields.{FieldText, is_same_name, body_named, version_name}
 use Rattle.ctl_stanza.specs.RelationFields.{name_of}
-use Rattle.ctl_stanza.specs.Content.{Content, named_bodies, relations_of_kind, offers_of}
+use Rattle.ctl_stanza.specs.Content.{Content, relations_of_kind, offers_of}
 use Rattle.ctl_stanza.specs.Sound.{IsWhole, IsSound}
 use Rattle.ctl_stanza.specs.HeldFields.{IsWalk, IsWithin, shown}
 
@@ -89,11 +89,9 @@ abbrev pub content_in_front : ListKind → ℕ → List ℕ → Content
 content_in_front kind text_len bytes = record { text = take text_len bytes; kind = kind }
 
 -- What a stanza keeps is read from its text, which stands at the front of its bytes and has no fault.
-pub record ArePartsOf (content : Content) (bytes : List ℕ) (text_len field_count : ℕ) (marks : List ℕ) (offers : List OfferParts)
-    : Type 0 where
+pub record ArePartsOf (content : Content) (bytes : List ℕ) (text_len : ℕ) (marks : List ℕ) (offers : List OfferParts) : Type 0 where
   pub within : text_len ≤ length bytes
   pub walk : IsWalk content.text (drop text_len bytes)
-  pub count : field_count ≡ length (named_bodies content)
   pub relations_are : AreRelationsOf content bytes marks
   pub offers_are : offers ≡ offers_of content
   pub whole : IsWhole content

@@ -13,11 +13,15 @@ abbrev pub joined : {A : Type 0} → Result (List A) TextFault → Result (List 
 joined (Ok contents) others = with_contents contents others
 joined (Err fault) others = Err fault
 
+-- a text with an empty line behind it, and then another
+abbrev pub with_gap : List ℕ → List ℕ → List ℕ
+with_gap front behind = front ++ newline ∷ newline ∷ behind
+
 -- A text that is cut behind an empty line reads as its two parts.
 abbrev pub ReadsInParts : Type 0
 ReadsInParts = (kind : ListKind) (n : ℕ) (front behind : List ℕ)
-    → read_text kind n (front ++ newline ∷ newline ∷ behind)
-    ≡ joined (read_text kind n (front ++ newline ∷ newline ∷ [])) (read_text kind (n + length (lines_of (front ++ newline ∷ newline ∷ []))) behind)
+    → read_text kind n (with_gap front behind)
+    ≡ joined (read_text kind n (with_gap front [])) (read_text kind (n + length (lines_of (with_gap front []))) behind)
 
 -- ---- a text that is read piece by piece
 
@@ -28,9 +32,13 @@ pub record Reading : Type 0 where
   pub line : ℕ
   pub rest : List ℕ
 
+-- what is read where this comes behind what a reader was given
+abbrev pub read_on : Reading → List ℕ → Result (List Content) TextFault
+read_on reading more = with_contents reading.stanzas (read_text reading.kind reading.line (reading.rest ++ more))
+
 -- A text was read so far: whatever comes behind it, the stanzas so far come first, and then those of what is left.
 pub record IsReading (kind : ListKind) (n : ℕ) (text : List ℕ) (reading : Reading) : Type 0 where
-  pub reads : (more : List ℕ) → read_text kind n (text ++ more) ≡ with_contents reading.stanzas (read_text reading.kind reading.line (reading.rest ++ more))
+  pub reads : (more : List ℕ) → read_text kind n (text ++ more) ≡ read_on reading more
 
 -- a newline is the last byte
 pub record EndsWithNewline (text : List ℕ) : Type 0 where

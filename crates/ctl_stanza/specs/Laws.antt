@@ -212,5 +212,5 @@ ReadsStanzas kind n text = (contents : List Content) → read_text kind n text �
 
 -- There is no other list of the stanzas of these lines.
 abbrev pub StanzasAreOneList : Type 0
-StanzasAreOneList = (kind : ListKind) (lines : List (List ℕ)) (contents others : List Content) → AreStanzasOf kind lines contents → AreStanzasOf kind lines others
-    → contents ≡ others
+StanzasAreOneList = (kind : ListKind) (lines : List (List ℕ)) (contents others : List Content)
+    → AreStanzasOf kind lines contents → AreStanzasOf kind lines others → contents ≡ others

@@ -28,6 +28,7 @@ pub mod HeldFields
 pub mod Given
 pub mod HeldNames
 pub mod NameSlots
+pub mod HeldOffers
 pub mod Marks
 pub mod HeldStanza
 pub mod InParts

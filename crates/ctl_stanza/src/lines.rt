@@ -41,6 +41,7 @@ pub(crate) fn begins_with_blank(line: &[u8]) -> bool
 }
 
 /// The first line of a text, without its newline, and what stands behind it. None where the text is empty.
+#[inline(always)]
 pub(crate) fn take_line(text: &[u8]) -> Option<(&[u8], &[u8])>
     ensures lines { IfSome result (λ cut. lines_of text.now ≡ cut.0.now ∷ lines_of cut.1.now) }
     ensures one_line { IfSome result (λ cut. (more : List ℕ) → lines_of (cut.0.now ++ newline ∷ more) ≡ cut.0.now ∷ lines_of more) }

@@ -14,7 +14,7 @@ ghost use Rattle.ctl_stanza.specs.HeldFields.{AreWithin, IsFieldWithin, IsWithin
 
 use crate::fault::{Cause, TextFault};
 use crate::fields::{Field, Span, is_same_name};
-use crate::marks::push_field;
+use crate::marks::{MAX_GROUPS, push_field};
 use ctl_relation::{FieldKind, RelationFault, Version, VersionFault, is_name, read_groups};
 use std::alloc::Global;
 
@@ -95,7 +95,7 @@ fn read_relations(
         &mut relations.starts,
         &mut relations.further,
     )?;
-    if relations.further.len() > u32::MAX as usize {
+    if relations.starts.len() > MAX_GROUPS || relations.further.len() > u32::MAX as usize {
         return Err(RelationFault::Memory);
     }
     push_field(

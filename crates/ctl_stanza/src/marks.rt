@@ -9,10 +9,16 @@ use ctl_relation::{FieldKind, Groups};
 use std::alloc::AllocError;
 
 // How many words stand before the places of a field.
-const HEAD: usize = 5;
+const HEAD: usize = 4;
 
-/// Adds the words of a relation field: its place among the nine, where its body begins and ends in the bytes, how many groups
-/// it has, how many atoms behind the first one of a group, and where in its body the groups and these atoms begin.
+// A word has the place of a field among the nine, and so many times the count of its groups.
+const PLACES: u32 = 16;
+
+/// The most groups of a field that can be marked, more than a body has room for.
+pub(crate) const MAX_GROUPS: usize = 268_435_455;
+
+/// Adds the words of a relation field: how many groups it has and its place among the nine, where its body begins and ends in
+/// the bytes, how many atoms stand behind the first one of a group, and where in its body the groups and these atoms begin.
 pub(crate) fn push_field(
     marks: &mut Vec<u32>,
     kind: FieldKind,
@@ -20,16 +26,15 @@ pub(crate) fn push_field(
     starts: &[u32],
     further: &[u32],
 ) -> Result<(), AllocError>
-    requires groups { length starts.now < 2 ^ 32 }
+    requires groups { length starts.now < 2 ^ 28 }
     requires atoms { length further.now < 2 ^ 32 }
     ensures { OnOk result (marks.new.items
         ≡ marks.old.items ++ words_of (record { kind = kind; body = body; starts = starts.now; further = further.now })) }
 {
     let head = [
-        kind.place() as u32,
+        starts.len() as u32 * PLACES + kind.place() as u32,
         body.start,
         body.end,
-        starts.len() as u32,
         further.len() as u32,
     ];
     marks.extend_from_slice(&head)?;
@@ -46,9 +51,9 @@ pub(crate) fn kept_groups<'a>(marks: &'a [u32], bytes: &'a [u8], kind: FieldKind
     let mut left = marks;
     'fields: while !left.is_empty() {
         let (head, behind) = left.split_at(HEAD);
-        let (starts, behind) = behind.split_at(head[3] as usize);
-        let (further, behind) = behind.split_at(head[4] as usize);
-        if head[0] == kind.place() as u32 {
+        let (starts, behind) = behind.split_at((head[0] / PLACES) as usize);
+        let (further, behind) = behind.split_at(head[3] as usize);
+        if head[0] % PLACES == kind.place() as u32 {
             let body = Span {
                 start: head[1],
                 end: head[2],

@@ -1,10 +1,56 @@
 //! What a live stanza offers.
 
-ghost use Rattle.std.specs.Prelude.{◌≡◌, ◌∷◌, ◌++◌, map, IfOk, OnOk};
+ghost use Rattle.std.specs.Prelude.{◌≡◌, ◌∷◌, ◌++◌, [], map, IfOk, OnOk};
 ghost use Rattle.ctl_stanza.specs.Content.{offer_of, offers_in};
 
 use ctl_relation::{Atom, Group, Groups, Offer, Version};
 use std::alloc::{AllocError, Global};
+use std::marker::Model;
+
+#[derive(Drop)]
+enum HeldOffers {
+    None,
+    // Most stanzas offer their own name alone, which then takes no block of memory.
+    Own([Offer; 1]),
+    Several(Vec<Offer>),
+}
+
+/// What a stanza offers, seen as the list of it.
+#[derive(Drop)]
+pub(crate) struct Offers {
+    held: HeldOffers,
+}
+
+impl Model for Offers {
+    ghost use Rattle.std.specs.Prelude.{List};
+    ghost use Rattle.ctl_relation.specs.Parts.{OfferParts};
+    ghost use Rattle.ctl_stanza.specs.HeldOffers.{offers_held};
+
+    ghost Value = { List OfferParts };
+
+    ghost view = { λ offers. offers_held offers.held };
+}
+
+impl Offers {
+    /// No offers.
+    pub(crate) fn none() -> Offers
+        ensures { result ≡ [] }
+    {
+        Offers {
+            held: HeldOffers::None,
+        }
+    }
+
+    pub(crate) fn as_slice(&self) -> &[Offer]
+        ensures { result.now ≡ self.now }
+    {
+        match &self.held {
+            HeldOffers::None => &[],
+            HeldOffers::Own(own) => own,
+            HeldOffers::Several(offers) => offers,
+        }
+    }
+}
 
 // The version of a text that is one.
 fn copy_version(alloc: Global, text: &[u8]) -> Result<Version, AllocError>
@@ -58,17 +104,34 @@ fn add_entries(
     }
 }
 
+// An offer, and what the groups of entries offer.
+fn own_and_entries(
+    alloc: Global,
+    own: Offer,
+    provides: Groups<'_>,
+) -> Result<Vec<Offer>, AllocError>
+    ensures { IfOk result (λ offers. offers.items ≡ own ∷ offers_in provides.entry) }
+{
+    let mut offers = Vec::with_capacity(alloc, provides.len().saturating_add(1))?;
+    offers.push(own)?;
+    add_entries(alloc, &mut offers, provides)?;
+    Ok(offers)
+}
+
 /// What a stanza offers: its package at its version, and each entry of its Provides.
 pub(crate) fn offers_of(
     alloc: Global,
     package: &[u8],
     version: Option<Version>,
     provides: Groups<'_>,
-) -> Result<Vec<Offer>, AllocError>
-    ensures { IfOk result (λ offers. offers.items ≡ record { name = «package».now; version = version } ∷ offers_in provides.entry) }
+) -> Result<Offers, AllocError>
+    ensures { IfOk result (λ offers. offers ≡ record { name = «package».now; version = version } ∷ offers_in provides.entry) }
 {
-    let mut offers = Vec::with_capacity(alloc, provides.len().saturating_add(1))?;
-    offers.push(Offer::new(alloc, package, version)?)?;
-    add_entries(alloc, &mut offers, provides)?;
-    Ok(offers)
+    let own = Offer::new(alloc, package, version)?;
+    let held = if provides.is_empty() {
+        HeldOffers::Own([own])
+    } else {
+        HeldOffers::Several(own_and_entries(alloc, own, provides)?)
+    };
+    Ok(Offers { held })
 }

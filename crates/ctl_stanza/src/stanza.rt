@@ -1,12 +1,12 @@
 //! Stanzas and their parts.
 
-ghost use Rattle.std.specs.Prelude.{◌≡◌, ◌+◌, ◌<◌, ◌≤◌, ◌^◌, [], true, false, length, take, option_map, None, IfOk, IfErr, OnOk};
+ghost use Rattle.std.specs.Prelude.{◌≡◌, ◌+◌, ◌<◌, ◌≤◌, ◌^◌, [], true, false, length, take, drop, option_map, None, IfOk, IfErr, OnOk};
 ghost use Rattle.std.specs.List.{All};
 ghost use Rattle.ctl_stanza.specs.Lines.{lines_of, lent_lines, AreLines};
 ghost use Rattle.ctl_stanza.specs.Fields.{fields_of_lines};
 ghost use Rattle.ctl_stanza.specs.Content.{content_of, offers_of};
 ghost use Rattle.ctl_stanza.specs.HeldStanza.{content_in_front, AreRelationsOf};
-ghost use Rattle.ctl_stanza.specs.HeldFields.{IsReadFrom, shown_fields};
+ghost use Rattle.ctl_stanza.specs.HeldFields.{IsWalk, IsReadFrom, shown_fields};
 ghost use Rattle.ctl_stanza.specs.Faults.{first_fault, is_missing, whole_fault, stanza_fault, IsMemoryAtZero, Tells};
 ghost use Rattle.ctl_stanza.specs.Status.{is_live_by};
 ghost use Rattle.ctl_stanza.specs.declared.repeats.Repeats.TheVariants.{Never};
@@ -19,9 +19,9 @@ use crate::lines::text_of_lines;
 use crate::list_kind::ListKind;
 use crate::live::{LiveParts, RelationMarks, read_live};
 use crate::marks::kept_groups;
-use crate::offers::offers_of;
+use crate::offers::{Offers, offers_of};
 use crate::status::liveness;
-use crate::walk::{body_in, take_field};
+use crate::walk::{body_in, count_fields, take_field};
 use ctl_relation::{FieldKind, Groups, Offer, Version};
 use std::alloc::Global;
 use std::marker::Model;
@@ -34,11 +34,10 @@ pub struct Stanza {
     bytes: Vec<u8>,
     text_len: u32,
     kind: ListKind,
-    field_count: usize,
     // None where the stanza isn't live, as there are no offers then: its relation fields. The version is that of the first
     // offer.
     marks: Vec<u32>,
-    offers: Vec<Offer>,
+    offers: Offers,
 }
 
 impl Model for Stanza {
@@ -50,7 +49,7 @@ impl Model for Stanza {
     ghost view = { λ s. content_in_front s.kind s.text_len s.bytes.items };
 
     ghost invariant = { λ s. ArePartsOf (content_in_front s.kind s.text_len s.bytes.items)
-        s.bytes.items s.text_len s.field_count s.marks.items s.offers.items };
+        s.bytes.items s.text_len s.marks.items s.offers };
 }
 
 /// The bytes of a stanza: its text, and behind it the bodies that don't stand in it in one piece.
@@ -61,11 +60,12 @@ pub(crate) struct StanzaBytes {
     pub(crate) kind: ListKind,
 }
 
-// The stanza of what was read. Where its fields stand is let go.
-fn stanza_of(held: StanzaBytes, fields: &[Field], marks: Vec<u32>, offers: Vec<Offer>) -> Stanza
-    requires read { IsReadFrom held.bytes.items held.text_len fields.now }
+// The stanza of what was read.
+fn stanza_of(held: StanzaBytes, marks: Vec<u32>, offers: Offers) -> Stanza
+    requires within { held.text_len ≤ length held.bytes.items }
+    requires walk { IsWalk (take held.text_len held.bytes.items) (drop held.text_len held.bytes.items) }
     requires relations { AreRelationsOf (content_in_front held.kind held.text_len held.bytes.items) held.bytes.items marks.items }
-    requires offers { offers.items ≡ offers_of (content_in_front held.kind held.text_len held.bytes.items) }
+    requires offers { offers ≡ offers_of (content_in_front held.kind held.text_len held.bytes.items) }
     requires no_fault { stanza_fault held.kind 0 (lines_of (take held.text_len held.bytes.items)) ≡ None }
     ensures { result ≡ content_in_front held.kind held.text_len held.bytes.items }
 {
@@ -79,7 +79,6 @@ fn stanza_of(held: StanzaBytes, fields: &[Field], marks: Vec<u32>, offers: Vec<O
         bytes,
         text_len,
         kind,
-        field_count: fields.len(),
         marks,
         offers,
     }
@@ -105,8 +104,8 @@ fn other_stanza(
         return Err(fault);
     }
     let marks = Vec::new(alloc);
-    let offers = Vec::new(alloc);
-    Ok(stanza_of(held, fields, marks, offers))
+    let offers = Offers::none();
+    Ok(stanza_of(held, marks, offers))
 }
 
 // Reads a live stanza.
@@ -136,7 +135,7 @@ fn live_stanza(
     let package = body_named(fields, &held.bytes, b"Package").unwrap_or(&[]);
     let provides = kept_groups(&marks, &held.bytes, FieldKind::Provides);
     let offers = offers_of(alloc, package, version, provides)?;
-    Ok(stanza_of(held, fields, marks, offers))
+    Ok(stanza_of(held, marks, offers))
 }
 
 /// Makes the stanza of bytes at whose front its text stands, of which these are the fields, or tells what is wrong with it.
@@ -231,7 +230,7 @@ impl Stanza {
     pub fn is_live(&self) -> bool
         ensures { result ≡ is_live self.now }
     {
-        !self.offers.is_empty()
+        !self.offers.as_slice().is_empty()
     }
 
     /// The body of the field of a name, which is taken without regard to ASCII case. None where there is no
@@ -251,11 +250,7 @@ impl Stanza {
         ensures { result ≡ named_bodies self.now }
     {
         let (text, loose) = self.bytes.split_at(self.text_len as usize);
-        Fields {
-            text,
-            loose,
-            count: self.field_count,
-        }
+        Fields { text, loose }
     }
 
     /// The name of the package, which is the body of the field `Package` (Debian Policy 5.6.7).
@@ -263,7 +258,7 @@ impl Stanza {
         ensures body { result.now ≡ package_of self.now }
         ensures name { is_name result.now ≡ true }
     {
-        match self.offers.first() {
+        match self.offers.as_slice().first() {
             // It offers its own name first, so that the fields need not be looked through.
             Some(own) => own.name(),
             None => self.field(b"Package").unwrap_or(&[]),
@@ -276,7 +271,7 @@ impl Stanza {
         ensures version { lent result ≡ version_of self.now }
         ensures live { is_live self.now ≡ true → IsSome result }
     {
-        match self.offers.first() {
+        match self.offers.as_slice().first() {
             None => None,
             Some(own) => own.version(),
         }
@@ -316,7 +311,7 @@ impl Stanza {
         ensures offers { result.now ≡ offers_of self.now }
         ensures few { length result.now < 2 ^ 32 }
     {
-        &self.offers
+        self.offers.as_slice()
     }
 }
 
@@ -327,18 +322,17 @@ pub struct Fields<'a> {
     text: &'a [u8],
     // The bodies of their fields that don't stand in them in one piece.
     loose: &'a [u8],
-    count: usize,
 }
 
 impl<'a> Model for Fields<'a> {
-    ghost use Rattle.std.specs.Prelude.{◌≡◌, ℕ, List, length};
+    ghost use Rattle.std.specs.Prelude.{ℕ, List};
     ghost use Rattle.ctl_stanza.specs.HeldFields.{IsWalk, bodies_in};
 
     ghost Value = { List (List ℕ × List ℕ) };
 
     ghost view = { λ it. bodies_in it.text.now };
 
-    ghost invariant = { λ it. IsWalk it.text.now it.loose.now × (it.count ≡ length (bodies_in it.text.now)) };
+    ghost invariant = { λ it. IsWalk it.text.now it.loose.now };
 }
 
 impl<'a> Iterator for Fields<'a> {
@@ -356,7 +350,6 @@ impl<'a> Iterator for Fields<'a> {
         let taken = take_field(self.text, self.loose)?;
         self.text = taken.text;
         self.loose = taken.loose;
-        self.count -= 1;
         Some((taken.name, taken.body))
     }
 
@@ -365,6 +358,7 @@ impl<'a> Iterator for Fields<'a> {
         ensures upper { IfSome result.1 (UpTo (at_most (length self.now))) }
         ensures exact { result ≡ (length self.now, Some (length self.now)) }
     {
-        (self.count, Some(self.count))
+        let count = count_fields(self.text, self.loose);
+        (count, Some(count))
     }
 }

@@ -23,6 +23,7 @@ pub(crate) struct Taken<'a> {
 
 /// The bytes of the continuation lines at the front of a text, each with the newline before it. None where they are more
 /// than a limit, so that those behind need not be looked through.
+#[inline]
 pub(crate) fn continued_up_to(text: &[u8], limit: usize) -> Option<usize>
     requires { IsText text.now }
     ensures len { IfSome result (λ len. len ≡ length (continued (lines_of text.now))) }
@@ -160,6 +161,7 @@ pub(crate) fn take_field<'a>(text: &'a [u8], loose: &'a [u8]) -> Option<Taken<'a
     ensures walk { IfSome result (λ taken. IsWalk taken.text.now taken.loose.now) }
     ensures field { IfSome result (λ taken. bodies_in text.now ≡ (taken.name.now, taken.body.now) ∷ bodies_in taken.text.now) }
     ensures none { IfNone result (bodies_in text.now ≡ []) }
+    ensures less { IfSome result (λ taken. length taken.text.now < length text.now) }
 {
     let mut left = text;
     let mut others = loose;
@@ -178,5 +180,23 @@ pub(crate) fn take_field<'a>(text: &'a [u8], loose: &'a [u8]) -> Option<Taken<'a
         }
         others = rest;
         left = behind;
+    }
+}
+
+/// How many fields a text has.
+pub(crate) fn count_fields(text: &[u8], loose: &[u8]) -> usize
+    requires { IsWalk text.now loose.now }
+    ensures { result ≡ length (bodies_in text.now) }
+{
+    let mut count: usize = 0;
+    let mut left = text;
+    let mut others = loose;
+    'fields: loop {
+        let Some(taken) = take_field(left, others) else {
+            return count;
+        };
+        count += 1;
+        left = taken.text;
+        others = taken.loose;
     }
 }

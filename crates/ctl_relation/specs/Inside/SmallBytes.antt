@@ -8,7 +8,7 @@ bytes_of (Short len places) = take len places
 bytes_of (Long vec) = vec.items
 
 abbrev pub short_len : ℕ
-short_len = 23
+short_len = 30
 
 -- no more places are taken than there are
 abbrev pub IsHeld : Held → Type 0

@@ -1,4 +1,4 @@
-use Rattle.std.proofs.Common.{◌∙◌, ◌∷◌, ℕ, List, sym, ap₂}
+use Rattle.std.proofs.Common.{◌∙◌, ◌∷◌, ℕ, List, sym, ap₂, arith}
 use Rattle.ctl_stanza.specs.HeldFields.{bodies_in}
 use Rattle.ctl_stanza.proofs.WalkLemmas.{walk-next, walk-behind, bodies-field, bodies-none}
 use Rattle.ctl_stanza.proofs.walk.take_field.Goals as goal
@@ -27,4 +27,5 @@ lines-preserved c =
     record {
       walk = walk-behind c.lines.left.now c.lines.others.now c.in-Some.line.now c.in-Some.behind.now c.loose_behind-rest.result.now next c.loose_behind-rest.ensures;
       told = c.lines.invariant.told ∙ bodies-none c.lines.left.now c.in-Some.line.now c.in-Some.behind.now c.kind_of.result c.in-Some.ensures.lines (sym c.kind_of.ensures.kind) c.in_default-kind_of.not-Field;
+      shorter = omega (arith, c.in-Some.ensures.less, c.lines.invariant.shorter);
     }

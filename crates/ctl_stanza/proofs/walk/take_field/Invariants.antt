@@ -1,4 +1,4 @@
-use Rattle.std.proofs.Common.{◌≡◌, length}
+use Rattle.std.proofs.Common.{◌≡◌, ◌≤◌, length}
 use Rattle.ctl_stanza.specs.HeldFields.{IsWalk, bodies_in}
 use Rattle.ctl_stanza.proofs.walk.take_field.Given as goal
 
@@ -6,6 +6,7 @@ abbrev pub invariant-lines : goal.invariant-lines
 invariant-lines l = record {
   walk : IsWalk l.left l.others;
   told : bodies_in l.text ≡ bodies_in l.left;
+  shorter : length l.left ≤ length l.text;
 }
 
 abbrev pub decreases-lines : goal.decreases-lines
