@@ -436,8 +436,8 @@ fn shrink_pieces<T: Drop>(pieces: &mut Vec<Vec<T>>, more: usize)
     }
 }
 
-/// The items of a piece from a place on.
-pub(crate) fn upper_part(piece: &[u64], half: usize) -> &[u64]
+// The items of a piece from a place on.
+fn upper_part(piece: &[u64], half: usize) -> &[u64]
     requires { half ≤ length piece.now }
     ensures items { result.now ≡ drop half piece.now }
     ensures len { length result.now + half ≡ length piece.now }
