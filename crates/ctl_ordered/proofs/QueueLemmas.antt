@@ -1,5 +1,5 @@
 -- Queues, whose lists are as long as they are.
-use Rattle.std.proofs.Common.{◌≡◌, ℕ, ◌<◌, ◌≤◌, Option, None, Some, Global, get_or, length, sym, arith}
+use Rattle.std.proofs.Common.{◌≡◌, ℕ, ◌<◌, Option, None, Some, Global, get_or, length, sym, arith}
 use Rattle.std.proofs.lemmas.Bool.{true≢false}
 use Rattle.std.proofs.lemmas.List.{get_or_read_under}
 use Rattle.std.specs.Prelude.{◌↔◌, IsSome, OnSome}

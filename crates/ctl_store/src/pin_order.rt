@@ -76,7 +76,11 @@ pub(crate) fn place_of(
 }
 
 /// Where the settings of a package begin in the order, or would.
-pub(crate) fn start_of(settings: &Ordered<Selector, i16>, order: &VecDeque<u64>, name: &[u8]) -> usize
+pub(crate) fn start_of(
+    settings: &Ordered<Selector, i16>,
+    order: &VecDeque<u64>,
+    name: &[u8],
+) -> usize
     requires { IsRanked own_row settings.now.rows settings.now.next order.now.items }
     ensures place { result ≡ labels_below (own_start name.now) (sorted_labels (labels_of own_row settings.now.rows)) }
     ensures bound { result ≤ length order.now.items }
