@@ -33,7 +33,10 @@ impl Model for PinSettings {
 
     ghost Value = { Settings };
 
-    ghost view = { λ t. record { pins = entries t.settings; room = min t.settings.room (deque_capacity t.packages - deque_len t.packages) } };
+    ghost view = { λ t. record {
+      pins = entries t.settings;
+      room = min t.settings.room (deque_capacity t.packages - deque_len t.packages);
+    } };
 
     ghost invariant = { λ t. IsRanked own_row t.settings.rows t.settings.next t.packages.items };
 }
