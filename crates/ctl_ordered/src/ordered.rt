@@ -21,9 +21,9 @@ use std::marker::Model;
 
 /// Values by key, in the order in which the keys were first set. No key stands twice.
 ///
-/// A key is found in the log of their number. What comes or goes moves the serials of the keys before it or behind it
-/// in their order, of which are fewer, eight bytes each, and no entry. An entry that goes leaves a hole, and the holes go once they are more than the entries.
-/// No hash of a key is taken, so that no choice of keys makes a search long.
+/// A key is found in the log of their number. What comes or goes moves the serials on that side of it in the order where there
+/// are fewer, eight bytes each, and no entry. An entry that goes leaves a hole, and the holes go once they are more than the
+/// entries. No hash of a key is taken, so that no choice of keys makes a search long.
 ///
 /// Each entry has a serial number. It keeps it, and none is given twice, so that who keeps the serial of an entry finds it
 /// with no search for its key.

@@ -8,7 +8,7 @@ use Rattle.ctl_stanza.specs.Content.{Content, package_of, version_of}
 use Rattle.ctl_store.specs.Named.{at_name, without_name, change_named}
 use Rattle.ctl_store.specs.State.{StanzaList, State}
 use Rattle.ctl_store.specs.Edits.{Edit, AddList, DropList, Put, Remove, Mark, Unmark, Pin, Unpin, Target, Prefs}
-use Rattle.ctl_store.specs.Step.{after, is_same, place, put_at, put_stanza, remove_at, remove_stanza, with_stanzas}
+use Rattle.ctl_store.specs.Step.{after, is_same, new_list, place, put_at, put_stanza, remove_at, remove_stanza, with_stanzas}
 use Rattle.ctl_store.specs.Kinds.{AreOfKind, KeepKinds, BringsItsKind}
 
 module _ {X : Type 0} (P : X → Type 0) where
@@ -64,7 +64,7 @@ change_kinds name f (l ∷ ls) g h = by (bytes_eq name l.0) g (λ g. change_kind
 
 pub kinds_stay : (s : State) (edit : Edit) → KeepKinds s.lists → BringsItsKind s edit → KeepKinds (after s edit).lists
 kinds_stay s (AddList name kind class stanzas) h b =
-    all_last (λ (l : List ℕ × StanzaList). AreOfKind l.1.kind l.1.stanzas) s.lists (name, record { kind = kind; class = class; stanzas = stanzas }) h b
+    all_last (λ (l : List ℕ × StanzaList). AreOfKind l.1.kind l.1.stanzas) s.lists (name, new_list kind class stanzas) h b
 kinds_stay s (DropList name) h b = without_kinds name s.lists h
 kinds_stay s (Put list x) h b =
     change_kinds list (with_stanzas (put_stanza x)) s.lists
