@@ -1,2 +1,3 @@
+pub mod QueueLemmas
 pub mod SlotLemmas
 pub mod OrderLemmas

@@ -11,7 +11,7 @@ use Rattle.indexmap.specs.IndexMap.{insert_entry}
 use Rattle.std.proofs.lemmas.Map.{keys-set_value}
 use Rattle.ctl_ordered.specs.declared.slot.Slot.{Slot}
 use Rattle.ctl_ordered.specs.declared.slot.Slot.TheVariants.{Entry, Hole}
-use Rattle.ctl_ordered.specs.Slots.{entries_of, rows_of, and_row, entry_of, value_of, with_value, is_entry, has_key, serial_of, Rises}
+use Rattle.ctl_ordered.specs.Slots.{entries_of, rows_of, entry_of, value_of, with_value, is_entry, has_key, serial_of, Rises}
 use Rattle.ctl_ordered.specs.Ordered.{set_row, cut_row, row_serial, IsKept}
 
 pub some_is : {X : Type 0} {x y : X} → Some x ≡ Some y → x ≡ y

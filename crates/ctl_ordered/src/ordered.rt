@@ -16,13 +16,14 @@ use crate::slot::Slot;
 use crate::wanted::Wanted;
 use indexmap::IndexMap;
 use std::alloc::{AllocError, Global};
+use std::collections::VecDeque;
 use std::marker::Model;
 
 /// Values by key, in the order in which the keys were first set. No key stands twice.
 ///
-/// A key is found in the log of their number. What comes or goes moves the serials of the keys behind it in their order,
-/// eight bytes each, and no entry. An entry that goes leaves a hole, and the holes go once they are more than the entries.
-/// No hash of a key is taken, so that no choice of keys makes a search long.
+/// A key is found in the log of their number. What comes or goes moves the serials on that side of it in the order where there
+/// are fewer, eight bytes each, and no entry. An entry that goes leaves a hole, and the holes go once they are more than the
+/// entries. No hash of a key is taken, so that no choice of keys makes a search long.
 ///
 /// Each entry has a serial number. It keeps it, and none is given twice, so that who keeps the serial of an entry finds it
 /// with no search for its key.
@@ -33,13 +34,13 @@ use std::marker::Model;
 pub struct Ordered<K: Ord, V> {
     slots: IndexMap<u64, Slot<K, V>>,
     // The serials of the entries in the order of their keys.
-    order: Vec<u64>,
+    order: VecDeque<u64>,
     next: u64,
 }
 
 impl<K: Ord, V> Model for Ordered<K, V> {
-    ghost use Rattle.std.specs.Prelude.{◌-◌, vec_len};
-    ghost use Rattle.std.specs.Vec.{vec_capacity};
+    ghost use Rattle.std.specs.Prelude.{◌-◌};
+    ghost use Rattle.std.specs.VecDeque.{deque_capacity, deque_len};
     ghost use Rattle.indexmap.specs.IndexMap.{spare};
     ghost use Rattle.ctl_ordered.specs.Slots.{rows_of};
     ghost use Rattle.ctl_ordered.specs.Ordered.{room_of, Held, IsOrdered};
@@ -49,7 +50,7 @@ impl<K: Ord, V> Model for Ordered<K, V> {
     ghost view = { λ o. record {
       rows = rows_of o.slots.entries;
       next = o.next;
-      room = room_of (spare o.slots) (vec_capacity o.order - vec_len o.order) o.next;
+      room = room_of (spare o.slots) (deque_capacity o.order - deque_len o.order) o.next;
     } };
 
     ghost invariant = { λ o. IsOrdered K.eq K.cmp o.slots.entries o.order.items o.next };
@@ -65,7 +66,7 @@ impl<K: Ord + Drop, V: Drop> Ordered<K, V> {
     {
         Ordered {
             slots: IndexMap::new(alloc),
-            order: Vec::new(alloc),
+            order: VecDeque::new(alloc),
             next: 0,
         }
     }
@@ -193,11 +194,19 @@ impl<K: Ord + Drop, V: Drop> Ordered<K, V> {
             (at, Some(serial)) => {
                 self.order.remove(at);
                 empty_slot(&mut self.slots, serial);
-                if self.slots.len() / 2 > self.order.len() {
-                    drop_holes(&mut self.slots);
-                }
+                self.squeeze();
             }
             (_, None) => {}
+        }
+    }
+
+    // The holes go once they are more than the entries.
+    fn squeeze(&mut self)
+        ensures rows { self.new.rows ≡ self.old.rows }
+        ensures next { self.new.next ≡ self.old.next }
+    {
+        if self.slots.len() / 2 > self.order.len() {
+            drop_holes(&mut self.slots);
         }
     }
 }

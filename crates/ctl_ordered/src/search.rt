@@ -10,6 +10,7 @@ use crate::slot::Slot;
 use crate::wanted::Wanted;
 use indexmap::IndexMap;
 use std::cmp::Ordering;
+use std::collections::VecDeque;
 
 // How the slot of a serial stands to what is wanted.
 fn order_at<K: Ord, V, Q: Wanted<K>>(
@@ -28,12 +29,12 @@ fn order_at<K: Ord, V, Q: Wanted<K>>(
 /// Where the serials end whose keys stand before the one that is wanted.
 pub(crate) fn end_below<K: Ord, V, Q: Wanted<K>>(
     slots: &IndexMap<u64, Slot<K, V>>,
-    order: &[u64],
+    order: &VecDeque<u64>,
     wanted: Q,
 ) -> usize
-    requires { (next : ℕ) × IsOrdered K.eq K.cmp slots.now.entries order.now next }
-    ensures bound { result ≤ length order.now }
-    ensures point { IsBelow K.cmp slots.now.entries (Q.wanted wanted) order.now result }
+    requires { (next : ℕ) × IsOrdered K.eq K.cmp slots.now.entries order.now.items next }
+    ensures bound { result ≤ length order.now.items }
+    ensures point { IsBelow K.cmp slots.now.entries (Q.wanted wanted) order.now.items result }
 {
     order.partition_point(
         |serial: &u64|
@@ -45,14 +46,14 @@ pub(crate) fn end_below<K: Ord, V, Q: Wanted<K>>(
 /// The same place in the order, and the serial of the key that is wanted.
 pub(crate) fn look_up<K: Ord, V, Q: Wanted<K>>(
     slots: &IndexMap<u64, Slot<K, V>>,
-    order: &[u64],
+    order: &VecDeque<u64>,
     wanted: Q,
 ) -> (usize, Option<u64>)
-    requires { (next : ℕ) × IsOrdered K.eq K.cmp slots.now.entries order.now next }
-    ensures bound { result.0 ≤ length order.now }
-    ensures point { IsBelow K.cmp slots.now.entries (Q.wanted wanted) order.now result.0 }
+    requires { (next : ℕ) × IsOrdered K.eq K.cmp slots.now.entries order.now.items next }
+    ensures bound { result.0 ≤ length order.now.items }
+    ensures point { IsBelow K.cmp slots.now.entries (Q.wanted wanted) order.now.items result.0 }
     ensures serial { result.1 ≡ serial_of K.eq (Q.wanted wanted) slots.now.entries }
-    ensures within { IfSome result.1 (λ _. result.0 < length order.now) }
+    ensures within { IfSome result.1 (λ _. result.0 < length order.now.items) }
 {
     let at = end_below(slots, order, wanted);
     if at >= order.len() {

@@ -41,3 +41,4 @@ pub mod EntryLemmas
 pub mod FollowedLemmas
 pub mod GivenLemmas
 pub mod ByNameLemmas
+pub mod KindLemmas

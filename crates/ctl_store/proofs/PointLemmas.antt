@@ -8,15 +8,12 @@ use Rattle.std.proofs.lemmas.Bool.Decides.{nat_tests}
 use Rattle.ctl_store.specs.Step.{place}
 use Rattle.ctl_store.specs.Rows.{has_serial, Rises, replace_at}
 use Rattle.ctl_store.specs.HeldPieces.{joined, length_at, stands_at, last_passes, ArePieces}
+use Rattle.ctl_store.specs.Spots.{IsEnd}
 use Rattle.ctl_store.proofs.PlaceLemmas.{Rises-up, place_at, place_none}
 use Rattle.ctl_store.proofs.PiecesLemmas.{stands_next}
 
 module _ {X : Type 0} (p : X → Bool) where
-  -- the first r pass the test, and none after them
-  abbrev pub IsEnd : List X → ℕ → Type 0
-  IsEnd xs r = IsPartitionPoint (λ y. p y ≡ true) (λ y. p y ≡ false) xs r
-
-  cons_end : (x : X) (ys : List X) (r : ℕ) → p x ≡ true → IsEnd ys r → IsEnd (x ∷ ys) (suc r)
+  cons_end : (x : X) (ys : List X) (r : ℕ) → p x ≡ true → IsEnd p ys r → IsEnd p (x ∷ ys) (suc r)
   cons_end x ys r e h = (low, high)
     where
       low : (k : ℕ) (d : X) → 0 ≤ k → k < suc r → p (get_or (x ∷ ys) k d) ≡ true
@@ -27,23 +24,23 @@ module _ {X : Type 0} (p : X → Bool) where
       high zero d a l = absurd (omega arith)
       high (suc k) d a l = h.1 k d (omega arith) (omega arith)
 
-  tail_end : (x : X) (ys : List X) (r : ℕ) → IsEnd (x ∷ ys) (suc r) → IsEnd ys r
+  tail_end : (x : X) (ys : List X) (r : ℕ) → IsEnd p (x ∷ ys) (suc r) → IsEnd p ys r
   tail_end x ys r h = (λ k d a l. h.0 (suc k) d (omega arith) (omega arith), λ k d a l. h.1 (suc k) d (omega arith) (omega arith))
 
-  first_all : (q ys : List X) (r : ℕ) → ((k : ℕ) (d : X) → k < length q → p (get_or q k d) ≡ true) → IsEnd ys r → IsEnd (q ++ ys) (length q + r)
-  first_all [] ys r all h = subst (λ n. IsEnd ys n) (omega arith) h
-  first_all (x ∷ q) ys r all h = subst (λ n. IsEnd (x ∷ (q ++ ys)) n) (omega arith) (cons_end x (q ++ ys) (length q + r) (all 0 x (omega arith)) (first_all q ys r (λ k d l. all (suc k) d (omega arith)) h))
+  first_all : (q ys : List X) (r : ℕ) → ((k : ℕ) (d : X) → k < length q → p (get_or q k d) ≡ true) → IsEnd p ys r → IsEnd p (q ++ ys) (length q + r)
+  first_all [] ys r all h = subst (λ n. IsEnd p ys n) (omega arith) h
+  first_all (x ∷ q) ys r all h = subst (λ n. IsEnd p (x ∷ (q ++ ys)) n) (omega arith) (cons_end x (q ++ ys) (length q + r) (all 0 x (omega arith)) (first_all q ys r (λ k d l. all (suc k) d (omega arith)) h))
 
-  none_end : (xs : List X) → ((k : ℕ) (d : X) → k < length xs → p (get_or xs k d) ≡ false) → IsEnd xs 0
+  none_end : (xs : List X) → ((k : ℕ) (d : X) → k < length xs → p (get_or xs k d) ≡ false) → IsEnd p xs 0
   none_end xs none = (λ k d a l. absurd (omega arith), λ k d a l. none k d l)
 
-  last_none : (q ys : List X) (r : ℕ) → r ≤ length q → IsEnd q r → ((k : ℕ) (d : X) → k < length ys → p (get_or ys k d) ≡ false) → IsEnd (q ++ ys) r
+  last_none : (q ys : List X) (r : ℕ) → r ≤ length q → IsEnd p q r → ((k : ℕ) (d : X) → k < length ys → p (get_or ys k d) ≡ false) → IsEnd p (q ++ ys) r
   last_none [] ys zero b h none = none_end ys none
   last_none [] ys (suc r) b h none = absurd (omega arith)
   last_none (x ∷ q) ys (suc r) b h none = cons_end x (q ++ ys) r (h.0 0 x (omega arith) (omega arith)) (last_none q ys r (omega arith) (tail_end x q r h) none)
   last_none (x ∷ q) ys zero b h none = all (last_none q ys 0 (omega arith) (none_end q (λ k d l. h.1 (suc k) d (omega arith) (omega arith))) none)
     where
-      all : IsEnd (q ++ ys) 0 → IsEnd (x ∷ (q ++ ys)) 0
+      all : IsEnd p (q ++ ys) 0 → IsEnd p (x ∷ (q ++ ys)) 0
       all rest = none_end (x ∷ (q ++ ys)) each
         where
           each : (k : ℕ) (d : X) → k < suc (length (q ++ ys)) → p (get_or (x ∷ (q ++ ys)) k d) ≡ false
@@ -55,7 +52,7 @@ module _ {X : Type 0} (p : X → Bool) where
   read_passes xs i x d b l e is = ap p (get_or_default xs i d x l ∙ sym e) ∙ is
 
   -- where one passes and the next doesn't, in a list in which those that pass come first
-  pub end_between : (xs : List X) (r : ℕ) → IsPartitionedBy p xs → r < length xs → ((d : X) → 0 < r → p (get_or xs (r - 1) d) ≡ true) → ((d : X) → p (get_or xs r d) ≡ false) → IsEnd xs r
+  pub end_between : (xs : List X) (r : ℕ) → IsPartitionedBy p xs → r < length xs → ((d : X) → 0 < r → p (get_or xs (r - 1) d) ≡ true) → ((d : X) → p (get_or xs r d) ≡ false) → IsEnd p xs r
   end_between xs r parted within before here = (λ k d a l. parted k (r - 1) d (omega arith) (omega arith) (before d (omega arith)), λ k d a l. high k d a l)
     where
       high : (k : ℕ) (d : X) → r ≤ k → k < length xs → p (get_or xs k d) ≡ false
@@ -93,7 +90,7 @@ module _ {X : Type 0} (p : X → Bool) where
           let z : last_passes p q ≡ true = last_is q (length q - 1) d (omega arith) ∙ sym (ap p (get_or_append_left q ys d (length q - 1) (omega arith))) ∙ h (length q - 1) (length q + k) d (omega arith) (omega (arith, length-append q ys)) (ap p (get_or-append-add q ys k d) ∙ is) in
           cc
 
-  inside : (q : List X) (r : ℕ) → 0 < length q → r ≤ length q → IsEnd q r → last_passes p q ≡ false → r < length q
+  inside : (q : List X) (r : ℕ) → 0 < length q → r ≤ length q → IsEnd p q r → last_passes p q ≡ false → r < length q
   inside [] r some b h e = absurd (omega arith)
   inside (x ∷ q) r some b h e = omega (arith, not_all)
     where

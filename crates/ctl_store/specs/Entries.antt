@@ -68,17 +68,24 @@ lists_between ls (Put list x) = change_named list (with_stanzas (remove_stanza (
 lists_between ls (Remove list name version) = change_named list (with_stanzas (remove_stanza name (Some version))) ls
 lists_between ls edit = ls
 
+abbrev pub stanzas_of_entries : List Entry → List Content
+stanzas_of_entries entries = map (λ (e : Entry). e.1) entries
+
+-- a sum over the stanzas whose keys are not among some
+abbrev pub sum_staying : (Entry → ℕ) → List StanzaKey → List (List ℕ × KeyedList) → ℕ
+sum_staying f removed before = sum_by f (without_keys removed (entries_of before))
+
 -- What an edit makes of the stanzas of these lists: those of some keys go, and others come in their place.
 pub record IsChange (before after : List (List ℕ × KeyedList)) (removed added : List StanzaKey) (edit : Edit) : Type 0 where
   pub entries : IsSpliced (entries_of before) (entries_of after) (entries_at removed before) (entries_coming added edit)
   pub mid : without_keys added (entries_of after) ≡ without_keys removed (entries_of before)
-  pub staying : map (λ (e : Entry). e.1) (without_keys removed (entries_of before)) ≡ stanzas_in_order (lists_between (stanza_lists before) edit)
+  pub staying : stanzas_of_entries (without_keys removed (entries_of before)) ≡ stanzas_in_order (lists_between (stanza_lists before) edit)
   -- each key that goes has a stanza, and one comes under each that comes
   pub removed_keys : entry_keys (entries_at removed before) ≡ removed
   pub added_keys : entry_keys (entries_coming added edit) ≡ added
   -- so each sum over the stanzas loses what goes and takes what comes
-  pub loses : (f : Entry → ℕ) → sum_by f (entries_of before) ≡ sum_by f (without_keys removed (entries_of before)) + sum_by f (entries_at removed before)
-  pub takes : (f : Entry → ℕ) → sum_by f (entries_of after) ≡ sum_by f (without_keys removed (entries_of before)) + sum_by f (entries_coming added edit)
+  pub loses : (f : Entry → ℕ) → sum_by f (entries_of before) ≡ sum_staying f removed before + sum_by f (entries_at removed before)
+  pub takes : (f : Entry → ℕ) → sum_by f (entries_of after) ≡ sum_staying f removed before + sum_by f (entries_coming added edit)
   -- the keys rise, and each is that of its stanza
   pub rises : AreRising (all_keys after)
   pub found : AreAt (entries_of after) after

@@ -15,7 +15,7 @@ use Rattle.ctl_store.specs.State.{State, stanza_count, status_count}
 use Rattle.ctl_store.specs.Edits.{Edit, AddList, Put, Mark, Pin}
 use Rattle.ctl_store.specs.Step.{refusal_of}
 use Rattle.ctl_store.specs.Rows.{Rises, IsKept}
-use Rattle.ctl_store.specs.HeldPieces.{most_in_piece, joined, IsFit}
+use Rattle.ctl_store.specs.HeldPieces.{most_in_piece, joined, IsFit, Pieces}
 use Rattle.ctl_store.specs.Keys.{KeyedList, Keyed, stanza_lists, removed_of, added_of, coming, AreComing, AreHeld, AreNew}
 use Rattle.ctl_store.specs.Followed.{coming_under}
 
@@ -55,7 +55,14 @@ keyed_of h = record { lists = lists_of h.lists; next_list = h.next_list }
 
 -- what a store holds
 abbrev pub state_of : Held → State
-state_of h = record { lists = stanza_lists (lists_of h.lists); marks = fin.from_entries h.marks; pins = h.pins; target = h.target; edits = h.edits }
+state_of h =
+    record {
+      lists = stanza_lists (lists_of h.lists);
+      marks = fin.from_entries h.marks;
+      pins = h.pins;
+      target = h.target;
+      edits = h.edits;
+    }
 
 -- the list of a serial, with its name
 abbrev pub entry_of : ℕ → List (List ℕ × Sheet) → Option (List ℕ × Sheet)
@@ -86,10 +93,10 @@ pub record IsSound (rows : List (ℕ × (List ℕ × Sheet))) (next next_list st
   pub edits_bounded : limits.edits ≤ most
 
 -- what every list keeps: its rows and their order, each in pieces
-pub record IsShelved {A B : Type 0} (rows rows_ready : Vec (Vec (ℕ × Content) A) B) (next : ℕ) (order order_ready : Vec (Vec ℕ A) B) : Type 0 where
+pub record IsShelved {A B : Type 0} (rows ready : Pieces (ℕ × Content) A B) (next : ℕ) (order spare : Pieces ℕ A B) : Type 0 where
   pub kept : IsKept (joined rows.items) next (joined order.items)
-  pub rows_fit : IsFit rows rows_ready
-  pub order_fit : IsFit order order_ready
+  pub rows_fit : IsFit rows ready
+  pub order_fit : IsFit order spare
 
 -- ---- plans
 
@@ -102,13 +109,14 @@ pub record ListRoom : Type 0 where
   pub order : ℕ
 
 -- nothing stands yet in the room for a new list
-pub record IsBare {R A B C : Type 0} (serials : Vec ℕ C) (fronts : Vec (List ℕ) C) (rows rows_ready : Vec (Vec R A) B) (order order_ready : Vec (Vec ℕ A) B) : Type 0 where
-  pub no_serials : serials.items ≡ []
-  pub no_fronts : fronts.items ≡ []
-  pub no_rows : rows.items ≡ []
-  pub rows_fit : IsFit rows rows_ready
-  pub no_order : order.items ≡ []
-  pub order_fit : IsFit order order_ready
+module _ {R A B C : Type 0} where
+  pub record IsBare (serials : Vec ℕ C) (fronts : Vec (List ℕ) C) (rows ready : Pieces R A B) (order spare : Pieces ℕ A B) : Type 0 where
+    pub no_serials : serials.items ≡ []
+    pub no_fronts : fronts.items ≡ []
+    pub no_rows : rows.items ≡ []
+    pub rows_fit : IsFit rows ready
+    pub no_order : order.items ≡ []
+    pub order_fit : IsFit order spare
 
 -- so many stanzas fit in the room
 pub record Fits (count : ℕ) (room : ListRoom) : Type 0 where

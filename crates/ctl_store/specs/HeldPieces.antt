@@ -54,6 +54,10 @@ pub record IsSpotOrEnd {X A : Type 0} (ps : List (Vec X A)) (spot : Spot) : Type
 abbrev pub last_passes : {X : Type 0} → (X → Bool) → List X → Bool
 last_passes p xs = option_map_or p (slice_get xs (length xs - 1)) false
 
+-- a sequence in pieces, or empty ones
+abbrev pub Pieces : Type 0 → Type 0 → Type 0 → Type 0
+Pieces X A B = Vec (Vec X A) B
+
 -- ---- what pieces keep
 
 -- No piece is empty, and none has more items than it may.

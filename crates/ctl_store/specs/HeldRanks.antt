@@ -49,9 +49,12 @@ module _ {T : Type 0} (label : ℕ × T → Label) where
   abbrev pub has_label : Label → ℕ × T → Bool
   has_label wanted row = is_eq (label_cmp (label row) wanted)
 
+  abbrev pub of_serial : ℕ → List (ℕ × T) → Option T
+  of_serial serial rows = lookup (λ k. nat_eq k serial) rows
+
   -- how the row of a serial stands to a label
   abbrev pub label_order : List (ℕ × T) → Label → ℕ → Ordering
-  label_order rows wanted serial = option_map_or (λ (x : T). label_cmp (label (serial, x)) wanted) (lookup (λ k. nat_eq k serial) rows) Less
+  label_order rows wanted serial = option_map_or (λ (x : T). label_cmp (label (serial, x)) wanted) (of_serial serial rows) Less
 
   -- the place of the first row of a label
   abbrev pub label_place : Label → List (ℕ × T) → Option ℕ

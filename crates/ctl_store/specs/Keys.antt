@@ -56,7 +56,11 @@ remove_keyed name version l = record l { rows = remove_row name version l.rows }
 
 -- A list that comes takes the next serial, and so does a stanza that replaces no other.
 abbrev pub keyed_after : Keyed → Edit → Keyed
-keyed_after k (AddList name kind class stanzas) = record { lists = k.lists ++ (name, list_of_stanzas k.next_list kind class stanzas) ∷ []; next_list = k.next_list + 1 }
+keyed_after k (AddList name kind class stanzas) =
+    record {
+      lists = k.lists ++ (name, list_of_stanzas k.next_list kind class stanzas) ∷ [];
+      next_list = k.next_list + 1;
+    }
 keyed_after k (DropList name) = record k { lists = without_name name k.lists }
 keyed_after k (Put list content) = record k { lists = change_named list (put_keyed content) k.lists }
 keyed_after k (Remove list name version) = record k { lists = change_named list (remove_keyed name (Some version)) k.lists }

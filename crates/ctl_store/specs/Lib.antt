@@ -27,3 +27,10 @@ pub mod ByName
 pub mod Given
 pub mod Followed
 pub mod Held
+pub mod NewLists
+pub mod PinLaws
+pub mod Kinds
+pub mod Orders
+pub mod Spots
+pub mod PrefsKept
+pub mod HeldKeys

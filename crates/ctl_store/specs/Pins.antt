@@ -1,10 +1,9 @@
 -- Pin settings, and when two selectors are the same.
-use Rattle.std.specs.Prelude.{ℕ, ℤ, ◌&&◌, Bool, true, false, List, map, filter, Option, Some, None}
+use Rattle.std.specs.Prelude.{ℕ, ℤ, ◌&&◌, Bool, true, false, List, filter, Option, Some, None}
 use Rattle.std.specs.List.{IsDistinct}
 use Rattle.std.specs.Map.{lookup, keys_of as names_of}
 use Rattle.std.specs.Str.{bytes_eq}
 use Rattle.ctl_store.specs.declared.selector.Selector.{Selector}
-use Rattle.ctl_store.specs.declared.selector.PinSetting.{PinSetting}
 use Rattle.ctl_store.specs.declared.selector.Selector.TheVariants.{Version, Release}
 
 abbrev pub package_eq : Option (List ℕ) → Option (List ℕ) → Bool
@@ -19,10 +18,6 @@ selector_eq (Version a v) (Version b w) = bytes_eq a b && bytes_eq v w
 selector_eq (Version a v) (Release b l) = false
 selector_eq (Release a k) (Version b w) = false
 selector_eq (Release a k) (Release b l) = package_eq a b && bytes_eq k l
-
--- pin settings as pairs
-abbrev pub settings_of : List PinSetting → List (Selector × ℤ)
-settings_of settings = map (λ (s : PinSetting). (s.selector, s.priority)) settings
 
 -- no selector stands twice
 abbrev pub AreDistinct : List (Selector × ℤ) → Type 0

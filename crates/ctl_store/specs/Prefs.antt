@@ -80,9 +80,13 @@ list_asked (form ∷ release ∷ other ∷ words) = None
 abbrev pub package_cause : List (List ℕ) → Option Cause
 package_cause words = if is_general words || are_names words then None else Some causes.Name
 
+-- a version is asked of packages by their names alone
+abbrev pub general_cause : Bool → Option Cause
+general_cause general = if general then Some causes.Form else None
+
 -- what is wrong with a pin, by whether its record is for any package, and the version or the list that it asks for
 abbrev pub asked_cause : Bool → Option (List ℕ) → Option (List ℕ) → Option Cause
-asked_cause general (Some version) list = if is_pin_version version then (if general then Some causes.Form else None) else Some causes.Version
+asked_cause general (Some version) list = if is_pin_version version then general_cause general else Some causes.Version
 asked_cause general None (Some list) = if is_name list then None else Some causes.Name
 asked_cause general None None = Some causes.Form
 

@@ -39,17 +39,24 @@ package_eq-Decides : (a b : Option (List ℕ)) → Decides (package_eq a b) (a �
 package_eq-Decides None None = (λ e. refl, λ e. refl)
 package_eq-Decides None (Some b) = (λ e. cc, λ e. cc)
 package_eq-Decides (Some a) None = (λ e. cc, λ e. cc)
-package_eq-Decides (Some a) (Some b) = (λ e. ap (λ (x : List ℕ). Some x) ((bytes_eq-Decides a b).0 e), λ e. (bytes_eq-Decides a b).1 (cc))
+package_eq-Decides (Some a) (Some b) = (
+  λ e. ap (λ (x : List ℕ). Some x) ((bytes_eq-Decides a b).0 e),
+  λ e. (bytes_eq-Decides a b).1 (cc),
+)
 
 pub selector_eq-Decides : (s t : Selector) → Decides (selector_eq s t) (s ≡ t)
 selector_eq-Decides (Version a v) (Version b w) = (
-  λ e. ap (λ (x : List ℕ). Version x v) ((bytes_eq-Decides a b).0 (and_first _ _ e)) ∙ ap (λ (x : List ℕ). Version b x) ((bytes_eq-Decides v w).0 (and_second _ _ e)),
+  λ e.
+      ap (λ (x : List ℕ). Version x v) ((bytes_eq-Decides a b).0 (and_first _ _ e))
+      ∙ ap (λ (x : List ℕ). Version b x) ((bytes_eq-Decides v w).0 (and_second _ _ e)),
   λ e. let p : a ≡ b = cc in let q : v ≡ w = cc in and_both _ _ ((bytes_eq-Decides a b).1 p) ((bytes_eq-Decides v w).1 q),
 )
 selector_eq-Decides (Version a v) (Release b l) = (λ e. cc, λ e. cc)
 selector_eq-Decides (Release a k) (Version b w) = (λ e. cc, λ e. cc)
 selector_eq-Decides (Release a k) (Release b l) = (
-  λ e. ap (λ (x : Option (List ℕ)). Release x k) ((package_eq-Decides a b).0 (and_first _ _ e)) ∙ ap (λ (x : List ℕ). Release b x) ((bytes_eq-Decides k l).0 (and_second _ _ e)),
+  λ e.
+      ap (λ (x : Option (List ℕ)). Release x k) ((package_eq-Decides a b).0 (and_first _ _ e))
+      ∙ ap (λ (x : List ℕ). Release b x) ((bytes_eq-Decides k l).0 (and_second _ _ e)),
   λ e. let p : a ≡ b = cc in let q : k ≡ l = cc in and_both _ _ ((package_eq-Decides a b).1 p) ((bytes_eq-Decides k l).1 q),
 )
 
@@ -57,7 +64,9 @@ selector_eq-Decides (Release a k) (Release b l) = (
 pub selector_equiv : IsEquivalence selector_eq
 selector_equiv = record {
   refl = λ s. (selector_eq-Decides s s).1 refl;
-  symm = λ s t. one_answer (selector_eq s t) (selector_eq t s) (selector_eq-Decides s t) (λ e. sym ((selector_eq-Decides t s).0 e), λ e. (selector_eq-Decides t s).1 (sym e));
+  symm = λ s t.
+      one_answer (selector_eq s t) (selector_eq t s) (selector_eq-Decides s t)
+      (λ e. sym ((selector_eq-Decides t s).0 e), λ e. (selector_eq-Decides t s).1 (sym e));
   congr = λ s t u e. ap (λ (x : Selector). selector_eq x u) ((selector_eq-Decides s t).0 e);
 }
 
@@ -70,7 +79,8 @@ same_hash s t e = ap selector_hash ((selector_eq-Decides s t).0 e)
 pub label_total : IsTotalOrder label_cmp
 label_total =
     then_total (on_total (λ (a : Label). a.name) nat_list_cmp_total)
-    (then_total (on_total (λ (a : Label). a.form) nat_cmp_total) (then_total (on_total (λ (a : Label). a.text) nat_list_cmp_total) (on_total (λ (a : Label). a.rank) nat_cmp_total)))
+    (then_total (on_total (λ (a : Label). a.form) nat_cmp_total)
+    (then_total (on_total (λ (a : Label). a.text) nat_list_cmp_total) (on_total (λ (a : Label). a.rank) nat_cmp_total)))
 
 -- by packages, those of any package first, then by forms, then by versions or lists
 abbrev pub selector_cmp : Selector → Selector → Ordering
@@ -95,7 +105,8 @@ differs Equal p e = e
 differs Greater p e = refl
 
 -- of one form
-two_texts : (a b v w : List ℕ) → is_eq (ordering_then (slice_cmp nat_cmp a b) (ordering_then (slice_cmp nat_cmp v w) Equal)) ≡ (bytes_eq a b && bytes_eq v w)
+two_texts : (a b v w : List ℕ)
+    → is_eq (ordering_then (slice_cmp nat_cmp a b) (ordering_then (slice_cmp nat_cmp v w) Equal)) ≡ (bytes_eq a b && bytes_eq v w)
 two_texts a b v w =
     tie_both (slice_cmp nat_cmp a b) (ordering_then (slice_cmp nat_cmp v w) Equal)
     ∙ (λ j. is_eq-slice_cmp a b j && (tie_alone (slice_cmp nat_cmp v w) ∙ is_eq-slice_cmp v w) j)

@@ -12,6 +12,7 @@ use Rattle.ctl_stanza.specs.declared.list_kind.ListKind.{ListKind}
 use Rattle.ctl_stanza.specs.declared.list_kind.ListKind.TheVariants.{Packages, Status}
 use Rattle.ctl_stanza.specs.Content.{Content, package_of, version_of}
 use Rattle.ctl_store.specs.declared.limits.Limits.{Limits}
+use Rattle.ctl_store.specs.declared.list_class.ListClass.{ListClass}
 use Rattle.ctl_store.specs.declared.refusal.Refusal.{Refusal}
 use Rattle.ctl_store.specs.declared.refusal.Refusal.TheVariants.{ListExists, NoList, StatusExists, NoStanza, NoMark, NoPin, Full}
 use Rattle.ctl_store.specs.Pins.{selector_eq}
@@ -52,11 +53,14 @@ remove_stanza name version stanzas = remove_at (place (is_same name version) sta
 abbrev pub with_stanzas : (List Content → List Content) → StanzaList → StanzaList
 with_stanzas f list = record list { stanzas = f list.stanzas }
 
+abbrev pub new_list : ListKind → ListClass → List Content → StanzaList
+new_list kind class stanzas = record { kind = kind; class = class; stanzas = stanzas }
+
 -- ---- what an accepted edit makes
 
 -- the change of an edit; that it was accepted is counted in `after`
 abbrev pub changed : State → Edit → State
-changed s (AddList name kind class stanzas) = record s { lists = s.lists ++ (name, record { kind = kind; class = class; stanzas = stanzas }) ∷ [] }
+changed s (AddList name kind class stanzas) = record s { lists = s.lists ++ (name, new_list kind class stanzas) ∷ [] }
 changed s (DropList name) = record s { lists = without_name name s.lists }
 changed s (Put list content) = record s { lists = change_named list (with_stanzas (put_stanza content)) s.lists }
 changed s (Remove list name version) = record s { lists = change_named list (with_stanzas (remove_stanza name (Some version))) s.lists }
@@ -84,9 +88,13 @@ is_status Status = true
 abbrev pub has_status : List (List ℕ × StanzaList) → Bool
 has_status lists = list_any (λ (l : List ℕ × StanzaList). is_status l.1.kind) lists
 
+-- whether one of the stanzas is of this name and an equal version
+abbrev pub has_same : List ℕ → Option (List ℕ) → List Content → Bool
+has_same name version stanzas = is_some (place (is_same name version) stanzas)
+
 -- whether the list has a stanza of this name and an equal version
 abbrev pub has_stanza : List ℕ → List ℕ → Option (List ℕ) → List (List ℕ × StanzaList) → Bool
-has_stanza list name version lists = option_map_or (λ (l : StanzaList). is_some (place (is_same name version) l.stanzas)) (at_name list lists) false
+has_stanza list name version lists = option_map_or (λ (l : StanzaList). has_same name version l.stanzas) (at_name list lists) false
 
 -- whether the stanza that an edit takes out or replaces is there
 abbrev pub is_there : State → Edit → Bool
@@ -94,12 +102,22 @@ is_there s (Put list content) = has_stanza list (package_of content) (version_of
 is_there s (Remove list name version) = has_stanza list name (Some version) s.lists
 is_there s edit = false
 
+abbrev pub no_list : List ℕ → List (List ℕ × StanzaList) → Option Refusal
+no_list name lists = when (not (has_name name lists)) NoList
+
+abbrev pub no_stanza : List ℕ → List ℕ → List ℕ → List (List ℕ × StanzaList) → Option Refusal
+no_stanza list name version lists = when (not (has_stanza list name (Some version) lists)) NoStanza
+
+-- a status list that comes where there is one
+abbrev pub second_status : ListKind → List (List ℕ × StanzaList) → Option Refusal
+second_status kind lists = when (is_status kind && has_status lists) StatusExists
+
 -- why an edit does not fit the state, the limits aside
 abbrev pub misfit_of : State → Edit → Option Refusal
-misfit_of s (AddList name kind class stanzas) = option_or (when (has_name name s.lists) ListExists) (when (is_status kind && has_status s.lists) StatusExists)
-misfit_of s (DropList name) = when (not (has_name name s.lists)) NoList
-misfit_of s (Put list content) = when (not (has_name list s.lists)) NoList
-misfit_of s (Remove list name version) = option_or (when (not (has_name list s.lists)) NoList) (when (not (has_stanza list name (Some version) s.lists)) NoStanza)
+misfit_of s (AddList name kind class stanzas) = option_or (when (has_name name s.lists) ListExists) (second_status kind s.lists)
+misfit_of s (DropList name) = no_list name s.lists
+misfit_of s (Put list content) = no_list list s.lists
+misfit_of s (Remove list name version) = option_or (no_list list s.lists) (no_stanza list name version s.lists)
 misfit_of s (Unmark name) = when (not (is_some (fin.get s.marks name))) NoMark
 misfit_of s (Unpin selector) = when (not (is_some (lookup (selector_eq selector) s.pins))) NoPin
 misfit_of s edit = None

@@ -1,20 +1,20 @@
 //! Laws, each a function whose contract says it.
 
-ghost use Rattle.std.specs.Prelude.{◌≡◌, ℕ, ℤ, List, Ok, if◌then◌else◌};
-ghost use Rattle.std.specs.Map.{remove_entry};
-ghost use Rattle.indexmap.specs.IndexMap.{insert_entry};
-ghost use Rattle.ctl_stanza.specs.Records.{records_before_fault};
+ghost use Rattle.std.specs.Prelude.{ℕ, ℤ, List};
 ghost use Rattle.ctl_store.specs.declared.selector.Selector.{Selector};
-ghost use Rattle.ctl_store.specs.Pins.{selector_eq, is_of, own_settings};
-ghost use Rattle.ctl_store.specs.Prefs.{read_prefs_text};
+ghost use Rattle.ctl_store.specs.Edits.{Edit};
+ghost use Rattle.ctl_store.specs.Kinds.{BringsItsKind, KeepKinds};
+ghost use Rattle.ctl_store.specs.State.{State};
+ghost use Rattle.ctl_store.specs.Step.{after};
+ghost use Rattle.ctl_store.specs.PinLaws.{SetsOwn, TakesOwn};
 ghost use Rattle.ctl_store.specs.PrefsFaults.{ReadsPrefsOrTells};
-ghost use Rattle.ctl_store.specs.PrefsLaws.{SetsFirst};
+ghost use Rattle.ctl_store.specs.PrefsLaws.{CountsFirst};
 
 use ctl_stanza::{fields_stand_in_order, records_are_runs};
 
 /// Of preferences that are read each selector has the priority of its first setting in the text, and no other is set.
 pub fn first_setting_counts()
-    ensures { (n : ℕ) (text : List ℕ) (settings : List (Selector × ℤ)) → read_prefs_text n text ≡ Ok settings → SetsFirst (records_before_fault n text).0 settings }
+    ensures { (n : ℕ) (text : List ℕ) (settings : List (Selector × ℤ)) → CountsFirst n text settings }
 {}
 
 /// Preferences that are read have no fault. Of those that aren't, a fault is told that they have: no line before it has a
@@ -29,6 +29,12 @@ pub fn told_prefs_fault_is_least()
 /// A specific pin that is set or taken out is set or taken out among those of its package, and leaves those of others.
 #[tactic(auto, using(crate::proofs::OwnLemmas::own_insert, crate::proofs::OwnLemmas::own_remove))]
 pub fn settings_by_package()
-    ensures set { (q : List ℕ) → (s : Selector) → (p : ℤ) → (pins : List (Selector × ℤ)) → own_settings q (insert_entry selector_eq pins s p) ≡ (if is_of q s then insert_entry selector_eq (own_settings q pins) s p else own_settings q pins) }
-    ensures taken { (q : List ℕ) → (s : Selector) → (pins : List (Selector × ℤ)) → own_settings q (remove_entry (selector_eq s) pins) ≡ (if is_of q s then remove_entry (selector_eq s) (own_settings q pins) else own_settings q pins) }
+    ensures set { (name : List ℕ) → (s : Selector) → (priority : ℤ) → (pins : List (Selector × ℤ)) → SetsOwn name s priority pins }
+    ensures taken { (name : List ℕ) → (s : Selector) → (pins : List (Selector × ℤ)) → TakesOwn name s pins }
+{}
+
+/// What a store holds stays of one kind: where the stanzas of each list are of its kind, and those that an edit brings are of
+/// that of their list, so they are after the edit.
+pub fn kinds_stay()
+    ensures { (s : State) → (edit : Edit) → KeepKinds s.lists → BringsItsKind s edit → KeepKinds (after s edit).lists }
 {}

@@ -27,7 +27,7 @@ mod store;
 mod words;
 
 pub use edit::{Edit, boxed};
-pub use laws::{first_setting_counts, settings_by_package, told_prefs_fault_is_least};
+pub use laws::{first_setting_counts, kinds_stay, settings_by_package, told_prefs_fault_is_least};
 pub use limits::{Counts, Limits};
 pub use list_class::ListClass;
 pub use pin_settings::PinSettings;

@@ -1,13 +1,14 @@
 //! The list of a serial number, and changes of one list in its place.
 
-ghost use Rattle.std.specs.Prelude.{◌≡◌, ◌<◌, ◌+◌, ◌^◌, [], Some, IfSome, OnOk, false, is_some, option_copied, option_map};
+ghost use Rattle.std.specs.Prelude.{◌≡◌, ◌<◌, ◌+◌, ◌^◌, Some, IfSome, OnOk, false, is_some, option_copied, option_map};
 ghost use Rattle.std.specs.Option.{option_map_or, option_to_list};
 ghost use Rattle.ctl_ordered.specs.Ordered.{entries};
 ghost use Rattle.ctl_store.specs.Named.{at_name, change_named};
 ghost use Rattle.ctl_store.specs.Step.{place};
 ghost use Rattle.ctl_store.specs.Rows.{by_name_and_version};
-ghost use Rattle.ctl_store.specs.Keys.{found_key, put_keyed, remove_keyed};
-ghost use Rattle.ctl_store.specs.Held.{keyed_list, lists_of, entry_of, AreNumbered, HasRoomInList};
+ghost use Rattle.ctl_store.specs.Keys.{put_keyed, remove_keyed};
+ghost use Rattle.ctl_store.specs.HeldKeys.{key_in};
+ghost use Rattle.ctl_store.specs.Held.{lists_of, entry_of, AreNumbered, HasRoomInList};
 
 use crate::shelf::Shelf;
 use crate::stanza_key::StanzaKey;
@@ -35,8 +36,7 @@ pub(crate) fn find_in(
     version: Option<&Version>,
 ) -> Option<StanzaKey>
     ensures same { lists.new ≡ lists.old }
-    ensures key { option_to_list result
-        ≡ option_map_or (λ s. found_key name.now (option_copied version.entry) (keyed_list s)) (at_name list.now (entries lists.old)) [] }
+    ensures key { option_to_list result ≡ key_in list.now name.now (option_copied version.entry) (entries lists.old) }
     ensures found { is_some result
         ≡ option_map_or (λ s. is_some (place (by_name_and_version name.now (option_copied version.entry)) s.rows))
         (at_name list.now (entries lists.old)) false }

@@ -6,7 +6,8 @@ ghost use Rattle.std.specs.List.Sorted.{IsSortedBy};
 ghost use Rattle.std.specs.Vec.{vec_capacity};
 ghost use Rattle.std.specs.Option.{option_cmp};
 ghost use Rattle.ctl_store.specs.Step.{place};
-ghost use Rattle.ctl_store.specs.Rows.{IsKept, Rises, id, id_of, id_at, id_cmp, ids_of, sorted_ids, sorted_serials, lower, order_at, place_cmp, rows_from, version_order, version_id, by_name_and_version};
+ghost use Rattle.ctl_store.specs.Rows.{IsKept, Rises, id, id_of, id_cmp, sorted_serials, order_at, place_cmp, version_order, version_id};
+ghost use Rattle.ctl_store.specs.Orders.{boxed_id, boxed_id_at, boxed_rows, lower_place, row_place, ComesAfter};
 ghost use Rattle.std.specs.Ordering.{is_lt, nat_cmp};
 ghost use Rattle.std.specs.Cmp.Lexicographic.{slice_cmp};
 ghost use Rattle.ctl_store.specs.Fronts.{front_of, fronts_of};
@@ -18,6 +19,39 @@ use crate::rows::{Row, row_of, spot_of};
 use ctl_relation::Version;
 use ctl_stanza::Stanza;
 use std::cmp::Ordering;
+use std::marker::Model;
+
+/// A name and a version that are looked up, with the front of the name. A contract sees what they are found by.
+#[derive(Drop)]
+struct Sought<'a> {
+    front: [u8; FRONT_LEN],
+    name: &'a [u8],
+    version: Option<&'a Version>,
+}
+
+impl<'a> Model for Sought<'a> {
+    ghost use Rattle.std.specs.Prelude.{◌≡◌, option_copied};
+    ghost use Rattle.ctl_store.specs.Rows.{Id, id};
+    ghost use Rattle.ctl_store.specs.Fronts.{front_of};
+
+    ghost Value = { Id };
+
+    ghost view = { λ s. id s.name.now (option_copied s.version) };
+
+    ghost invariant = { λ s. s.front ≡ front_of s.name.now };
+}
+
+impl<'a> Sought<'a> {
+    fn new(name: &'a [u8], version: Option<&'a Version>) -> Sought<'a>
+        ensures { result ≡ id name.now (option_copied version.entry) }
+    {
+        Sought {
+            front: front_of(name),
+            name,
+            version,
+        }
+    }
+}
 
 fn compare_versions(one: Option<&Version>, other: Option<&Version>) -> Ordering
     ensures { result ≡ version_order (version_id (option_copied one.entry)) (version_id (option_copied other.entry)) }
@@ -52,64 +86,44 @@ fn compare_fronts(one: &[u8; FRONT_LEN], other: &[u8; FRONT_LEN]) -> Ordering
     Ordering::Equal
 }
 
-// How a row stands to a name, whose front is given, and a version. Where the fronts differ they tell it, and nothing is read
-// of the stanza, which stands elsewhere in memory.
-fn compare_found(
-    row: &Row,
-    front: &[u8; FRONT_LEN],
-    name: &[u8],
-    version: Option<&Version>,
-) -> Ordering
-    requires { front.now ≡ front_of name.now }
-    ensures { result ≡ id_cmp (id_of row.now.1) (id name.now (option_copied version.entry)) }
+// How a row stands to what is sought. Where the fronts differ they tell it, and nothing is read of the stanza, which stands
+// elsewhere in memory.
+fn compare_found(row: &Row, sought: &Sought<'_>) -> Ordering
+    ensures { result ≡ id_cmp (id_of row.now.1) sought.now }
 {
-    match compare_fronts(row.front(), front) {
-        Ordering::Equal => compare(row.stanza(), name, version),
+    match compare_fronts(row.front(), &sought.front) {
+        Ordering::Equal => compare(row.stanza(), sought.name, sought.version),
         unequal => unequal,
     }
 }
 
-// How the row of a serial stands to a name, whose front is given, and a version.
-fn compare_row(
-    rows: &[Vec<Row>],
-    serial: u64,
-    front: &[u8; FRONT_LEN],
-    name: &[u8],
-    version: Option<&Version>,
-) -> Ordering
+// How the row of a serial stands to what is sought.
+fn compare_row(rows: &[Vec<Row>], serial: u64, sought: &Sought<'_>) -> Ordering
     requires pieces { ArePieces rows.now }
     requires rises { (n : ℕ) × (m : ℕ) × Rises n (joined rows.now) m }
-    requires front { front.now ≡ front_of name.now }
-    ensures { result ≡ order_at (joined rows.now) (id name.now (option_copied version.entry)) serial }
+    ensures { result ≡ order_at (joined rows.now) sought.now serial }
 {
     match row_of(rows, serial) {
-        Some(row) => compare_found(row, front, name, version),
+        Some(row) => compare_found(row, sought),
         None => Ordering::Less,
     }
 }
 
-// Whether the row of the last of some serials comes before a name, whose front is given, and a version.
-fn ends_before(
-    rows: &[Vec<Row>],
-    serials: &[u64],
-    front: &[u8; FRONT_LEN],
-    name: &[u8],
-    version: Option<&Version>,
-) -> bool
+// Whether the row of the last of some serials comes before what is sought.
+fn ends_before(rows: &[Vec<Row>], serials: &[u64], sought: &Sought<'_>) -> bool
     requires pieces { ArePieces rows.now }
     requires rises { (n : ℕ) × (m : ℕ) × Rises n (joined rows.now) m }
-    requires front { front.now ≡ front_of name.now }
-    ensures { result ≡ last_passes (λ serial. is_lt (order_at (joined rows.now) (id name.now (option_copied version.entry)) serial)) serials.now }
+    ensures { result ≡ last_passes (λ serial. is_lt (order_at (joined rows.now) sought.now serial)) serials.now }
 {
     match serials.last() {
-        Some(serial) => compare_row(rows, *serial, front, name, version).is_lt(),
+        Some(serial) => compare_row(rows, *serial, sought).is_lt(),
         None => false,
     }
 }
 
 // How two stanzas stand by their names and versions. Where there is none, it stands first.
 fn compare_stanzas(one: Option<&Box<Stanza>>, other: Option<&Box<Stanza>>) -> Ordering
-    ensures { result ≡ option_cmp id_cmp (option_map (λ stanza. id_of stanza.value) (option_copied one.entry)) (option_map (λ stanza. id_of stanza.value) (option_copied other.entry)) }
+    ensures { result ≡ option_cmp id_cmp (boxed_id (option_copied one.entry)) (boxed_id (option_copied other.entry)) }
 {
     match (one, other) {
         (None, None) => Ordering::Equal,
@@ -128,7 +142,7 @@ fn compare_by_fronts(
     other: u64,
 ) -> Ordering
     requires { fronts.now ≡ fronts_of (map (λ stanza. stanza.value) stanzas.now) }
-    ensures { result ≡ option_cmp id_cmp (id_at (rows_from 0 (map (λ stanza. stanza.value) stanzas.now)) one) (id_at (rows_from 0 (map (λ stanza. stanza.value) stanzas.now)) other) }
+    ensures { result ≡ option_cmp id_cmp (boxed_id_at stanzas.now one) (boxed_id_at stanzas.now other) }
 {
     if let (Some(front), Some(against)) = (fronts.get(one as usize), fronts.get(other as usize)) {
         let order = compare_fronts(front, against);
@@ -147,7 +161,7 @@ fn compare_places(
     other: u64,
 ) -> Ordering
     requires { fronts.now ≡ fronts_of (map (λ stanza. stanza.value) stanzas.now) }
-    ensures { result ≡ place_cmp (rows_from 0 (map (λ stanza. stanza.value) stanzas.now)) one other }
+    ensures { result ≡ place_cmp (boxed_rows stanzas.now) one other }
 {
     compare_by_fronts(stanzas, fronts, one, other).then(one.cmp(&other))
 }
@@ -170,7 +184,7 @@ fn push_fronts(fronts: &mut Vec<[u8; FRONT_LEN]>, stanzas: &[Box<Stanza>])
 fn push_places(order: &mut Vec<u64>, stanzas: &[Box<Stanza>])
     requires none { order.old.items ≡ [] }
     requires room { length stanzas.now ≤ vec_capacity order.old }
-    ensures { order.new.items ≡ map (λ row. row.0) (rows_from 0 (map (λ stanza. stanza.value) stanzas.now)) }
+    ensures { order.new.items ≡ map (λ row. row.0) (boxed_rows stanzas.now) }
 {
     let mut left = stanzas;
     let mut place = 0;
@@ -187,7 +201,7 @@ fn push_places(order: &mut Vec<u64>, stanzas: &[Box<Stanza>])
 // Whether places stand in the order of names and versions already.
 fn are_in_order(stanzas: &[Box<Stanza>], fronts: &[[u8; FRONT_LEN]], order: &[u64]) -> bool
     requires { fronts.now ≡ fronts_of (map (λ stanza. stanza.value) stanzas.now) }
-    ensures { OnTrue result (IsSortedBy (λ one other. is_lt (place_cmp (rows_from 0 (map (λ stanza. stanza.value) stanzas.now)) one other)) order.now) }
+    ensures { OnTrue result (IsSortedBy (λ one other. is_lt (place_cmp (boxed_rows stanzas.now) one other)) order.now) }
 {
     order.is_sorted_by(|one, other| !compare_places(stanzas, fronts, *other, *one).is_lt())
 }
@@ -203,7 +217,7 @@ pub(crate) fn sort_serials(
     requires room { length stanzas.now ≤ vec_capacity order.old }
     requires no_fronts { fronts.old.items ≡ [] }
     requires room_for_fronts { length stanzas.now ≤ vec_capacity fronts.old }
-    ensures { order.new.items ≡ sorted_serials (rows_from 0 (map (λ stanza. stanza.value) stanzas.now)) }
+    ensures { order.new.items ≡ sorted_serials (boxed_rows stanzas.now) }
 {
     push_fronts(fronts, stanzas);
     push_places(order, stanzas);
@@ -214,86 +228,59 @@ pub(crate) fn sort_serials(
     order.sort_unstable_by(|one, other| compare_places(stanzas, fronts, *one, *other));
 }
 
-// Whether the row before a spot comes before a name, whose front is given, and a version, or no row is before the spot.
-fn follows_lesser(
-    rows: &[Vec<Row>],
-    order: &[Vec<u64>],
-    spot: Spot,
-    front: &[u8; FRONT_LEN],
-    name: &[u8],
-    version: Option<&Version>,
-) -> bool
+// Whether the row before a spot comes before what is sought, or no row is before the spot.
+fn follows_lesser(rows: &[Vec<Row>], order: &[Vec<u64>], spot: Spot, sought: &Sought<'_>) -> bool
     requires rows { ArePieces rows.now }
     requires order { ArePieces order.now }
     requires rises { (n : ℕ) × (m : ℕ) × Rises n (joined rows.now) m }
-    requires front { front.now ≡ front_of name.now }
     requires spot { IsSpot order.now spot }
-    ensures { OnTrue result (0 < place_of_spot order.now spot → is_lt (order_at (joined rows.now) (id name.now (option_copied version.entry)) (slice_index (joined order.now) (place_of_spot order.now spot - 1))) ≡ true) }
+    ensures { OnTrue result (ComesAfter (joined rows.now) (joined order.now) (place_of_spot order.now spot) sought.now) }
 {
     if spot.at > 0 {
         let serial = order[spot.piece][spot.at - 1];
-        return compare_row(rows, serial, front, name, version).is_lt();
+        return compare_row(rows, serial, sought).is_lt();
     }
     if spot.piece == 0 {
         return true;
     }
-    ends_before(rows, &order[spot.piece - 1], front, name, version)
+    ends_before(rows, &order[spot.piece - 1], sought)
 }
 
-// Whether a name, whose front is given, and a version stand, or would, at a spot. The order tells it by two rows: the one
-// there doesn't come before them, and the one before it does. The spot need not be in the order.
-fn is_lower(
-    rows: &[Vec<Row>],
-    order: &[Vec<u64>],
-    likely: Spot,
-    front: &[u8; FRONT_LEN],
-    name: &[u8],
-    version: Option<&Version>,
-) -> bool
+// Whether what is sought stands, or would, at a spot. The order tells it by two rows: the one there doesn't come before it,
+// and the one before does. The spot need not be in the order.
+fn is_lower(rows: &[Vec<Row>], order: &[Vec<u64>], likely: Spot, sought: &Sought<'_>) -> bool
     requires rows { ArePieces rows.now }
     requires order { ArePieces order.now }
     requires kept { (next : ℕ) × IsKept (joined rows.now) next (joined order.now) }
-    requires front { front.now ≡ front_of name.now }
-    ensures place { OnTrue result (place_of_spot order.now likely ≡ lower (id name.now (option_copied version.entry)) (sorted_ids (ids_of (joined rows.now)))) }
+    ensures place { OnTrue result (place_of_spot order.now likely ≡ lower_place sought.now (joined rows.now)) }
     ensures within { OnTrue result (IsSpotOrEnd order.now likely) }
 {
     if !is_spot(order, likely) {
         return false;
     }
     let serial = order[likely.piece][likely.at];
-    if compare_row(rows, serial, front, name, version).is_lt() {
+    if compare_row(rows, serial, sought).is_lt() {
         return false;
     }
-    follows_lesser(rows, order, likely, front, name, version)
+    follows_lesser(rows, order, likely, sought)
 }
 
-// Where a name, whose front is given, and a version stand, or would, in the order of rows. The likely spot is looked at
-// first.
-fn lower(
-    rows: &[Vec<Row>],
-    order: &[Vec<u64>],
-    likely: Spot,
-    front: &[u8; FRONT_LEN],
-    name: &[u8],
-    version: Option<&Version>,
-) -> Spot
+// Where what is sought stands, or would, in the order of rows. The likely spot is looked at first.
+fn lower(rows: &[Vec<Row>], order: &[Vec<u64>], likely: Spot, sought: &Sought<'_>) -> Spot
     requires rows { ArePieces rows.now }
     requires order { ArePieces order.now }
     requires kept { (next : ℕ) × IsKept (joined rows.now) next (joined order.now) }
-    requires front { front.now ≡ front_of name.now }
-    ensures place { place_of_spot order.now result ≡ lower (id name.now (option_copied version.entry)) (sorted_ids (ids_of (joined rows.now))) }
+    ensures place { place_of_spot order.now result ≡ lower_place sought.now (joined rows.now) }
     ensures within { IsSpotOrEnd order.now result }
 {
-    if is_lower(rows, order, likely, front, name, version) {
+    if is_lower(rows, order, likely, sought) {
         return likely;
     }
-    let piece = order.partition_point(|serials| ends_before(rows, serials, front, name, version));
+    let piece = order.partition_point(|serials| ends_before(rows, serials, sought));
     match order.get(piece) {
         Some(serials) => Spot {
             piece,
-            at: serials.partition_point(|serial| compare_row(
-                rows, *serial, front, name, version,
-            ).is_lt()),
+            at: serials.partition_point(|serial| compare_row(rows, *serial, sought).is_lt()),
         },
         None => Spot { piece, at: 0 },
     }
@@ -311,20 +298,20 @@ pub(crate) fn look_up(
     requires rows { ArePieces rows.now }
     requires order { ArePieces order.now }
     requires kept { (next : ℕ) × IsKept (joined rows.now) next (joined order.now) }
-    ensures order { place_of_spot order.now result.0 ≡ lower (id name.now (option_copied version.entry)) (sorted_ids (ids_of (joined rows.now))) }
-    ensures place { option_map (λ spot. place_of_spot rows.now spot) result.1 ≡ place (by_name_and_version name.now (option_copied version.entry)) (joined rows.now) }
+    ensures order { place_of_spot order.now result.0 ≡ lower_place (id name.now (option_copied version.entry)) (joined rows.now) }
+    ensures place { option_map (place_of_spot rows.now) result.1 ≡ row_place name.now (option_copied version.entry) (joined rows.now) }
     ensures in_order { IsSpotOrEnd order.now result.0 }
     ensures in_rows { IfSome result.1 (λ spot. IsSpot rows.now spot) }
     // a row that is there is in the order
     ensures found { IfSome result.1 (λ _. IsSpot order.now result.0) }
 {
-    let front = front_of(name);
-    let spot = lower(rows, order, likely, &front, name, version);
+    let sought = Sought::new(name, version);
+    let spot = lower(rows, order, likely, &sought);
     if spot.piece >= order.len() {
         return (spot, None);
     }
     let serial = order[spot.piece][spot.at];
-    if compare_row(rows, serial, &front, name, version).is_eq() {
+    if compare_row(rows, serial, &sought).is_eq() {
         (spot, spot_of(rows, serial))
     } else {
         (spot, None)

@@ -4,6 +4,7 @@ ghost use Rattle.std.specs.Prelude.{◌≡◌, ◌+◌, ◌-◌, ◌^◌, ◌<�
 ghost use Rattle.std.specs.Bool.{OnTrue};
 ghost use Rattle.std.specs.List.{remove};
 ghost use Rattle.std.specs.Vec.{vec_capacity};
+ghost use Rattle.ctl_store.specs.Spots.{inserted_at};
 ghost use Rattle.ctl_store.specs.HeldPieces.{most_in_piece, least_room, joined, length_at, room_in, room_at, stands_at, place_of_spot, IsSpot, IsSpotOrEnd, IsFit, IsReadyPiece, ArePieces, AreReady, HasRoomFor, free_at_end, room_of_all, room_of_last, room_at_end};
 
 use std::alloc::{AllocError, Global};
@@ -134,7 +135,7 @@ impl Pieces<u64> {
         requires spot { IsSpotOrEnd self.old.pieces.items spot }
         requires room { HasRoomFor (length (joined self.old.pieces.items)) self.old.ready }
         ensures fit { IsFit self.new.pieces self.new.ready }
-        ensures items { joined self.new.pieces.items ≡ insert (joined self.old.pieces.items) (place_of_spot self.old.pieces.items spot) item }
+        ensures items { joined self.new.pieces.items ≡ inserted_at self.old.pieces.items spot item }
     {
         insert_at(&mut self.pieces, &mut self.ready, spot, item);
     }
@@ -436,8 +437,8 @@ fn shrink_pieces<T: Drop>(pieces: &mut Vec<Vec<T>>, more: usize)
     }
 }
 
-/// The items of a piece from a place on.
-pub(crate) fn upper_part(piece: &[u64], half: usize) -> &[u64]
+// The items of a piece from a place on.
+fn upper_part(piece: &[u64], half: usize) -> &[u64]
     requires { half ≤ length piece.now }
     ensures items { result.now ≡ drop half piece.now }
     ensures len { length result.now + half ≡ length piece.now }

@@ -11,6 +11,7 @@ use crate::label::{Label, compare};
 use crate::selector::Selector;
 use ctl_ordered::Ordered;
 use std::cmp::Ordering;
+use std::collections::VecDeque;
 
 fn label_of(serial: u64, selector: &Selector) -> Label<'_>
     ensures { result ≡ own_label serial selector.now }
@@ -48,10 +49,10 @@ fn compare_setting(settings: &Ordered<Selector, i16>, serial: u64, wanted: &Labe
 }
 
 // Where a label stands, or would, in the order by packages.
-fn lower(settings: &Ordered<Selector, i16>, order: &[u64], wanted: &Label<'_>) -> usize
-    requires { IsRanked own_row settings.now.rows settings.now.next order.now }
+fn lower(settings: &Ordered<Selector, i16>, order: &VecDeque<u64>, wanted: &Label<'_>) -> usize
+    requires { IsRanked own_row settings.now.rows settings.now.next order.now.items }
     ensures place { result ≡ labels_below wanted.now (sorted_labels (labels_of own_row settings.now.rows)) }
-    ensures bound { result ≤ length order.now }
+    ensures bound { result ≤ length order.now.items }
 {
     order.partition_point(
         |serial: &u64|
@@ -63,22 +64,26 @@ fn lower(settings: &Ordered<Selector, i16>, order: &[u64], wanted: &Label<'_>) -
 /// Where a setting of this serial stands, or would, in the order by packages.
 pub(crate) fn place_of(
     settings: &Ordered<Selector, i16>,
-    order: &[u64],
+    order: &VecDeque<u64>,
     serial: u64,
     selector: &Selector,
 ) -> usize
-    requires { IsRanked own_row settings.now.rows settings.now.next order.now }
+    requires { IsRanked own_row settings.now.rows settings.now.next order.now.items }
     ensures place { result ≡ labels_below (own_label serial selector.now) (sorted_labels (labels_of own_row settings.now.rows)) }
-    ensures bound { result ≤ length order.now }
+    ensures bound { result ≤ length order.now.items }
 {
     lower(settings, order, &label_of(serial, selector))
 }
 
 /// Where the settings of a package begin in the order, or would.
-pub(crate) fn start_of(settings: &Ordered<Selector, i16>, order: &[u64], name: &[u8]) -> usize
-    requires { IsRanked own_row settings.now.rows settings.now.next order.now }
+pub(crate) fn start_of(
+    settings: &Ordered<Selector, i16>,
+    order: &VecDeque<u64>,
+    name: &[u8],
+) -> usize
+    requires { IsRanked own_row settings.now.rows settings.now.next order.now.items }
     ensures place { result ≡ labels_below (own_start name.now) (sorted_labels (labels_of own_row settings.now.rows)) }
-    ensures bound { result ≤ length order.now }
+    ensures bound { result ≤ length order.now.items }
 {
     let start = Label {
         name,

@@ -5,13 +5,13 @@ ghost use Rattle.std.specs.Map.{lookup, remove_entry};
 ghost use Rattle.indexmap.specs.IndexMap.{insert_entry};
 ghost use Rattle.ctl_store.specs.Pins.{selector_eq, general_pin, own_settings, AreDistinct};
 
-use crate::pieces::upper_part;
 use crate::pin_order::{place_of, start_of};
 use crate::selector::{PinSetting, Selector};
 use crate::selector_order::GeneralOn;
 use crate::store::{PackagePins, Pins};
 use ctl_ordered::Ordered;
 use std::alloc::{AllocError, Global};
+use std::collections::VecDeque;
 use std::marker::Model;
 
 /// Pin settings, in the order in which their selectors were first set. No selector stands twice. One is found in the log
@@ -20,12 +20,12 @@ use std::marker::Model;
 pub struct PinSettings {
     settings: Ordered<Selector, i16>,
     // The serials in the order of the packages.
-    packages: Vec<u64>,
+    packages: VecDeque<u64>,
 }
 
 impl Model for PinSettings {
-    ghost use Rattle.std.specs.Prelude.{min, ◌-◌, vec_len};
-    ghost use Rattle.std.specs.Vec.{vec_capacity};
+    ghost use Rattle.std.specs.Prelude.{min, ◌-◌};
+    ghost use Rattle.std.specs.VecDeque.{deque_capacity, deque_len};
     ghost use Rattle.ctl_ordered.specs.Ordered.{entries};
     ghost use Rattle.ctl_store.specs.Pins.{Settings};
     ghost use Rattle.ctl_store.specs.HeldRanks.{IsRanked};
@@ -33,7 +33,10 @@ impl Model for PinSettings {
 
     ghost Value = { Settings };
 
-    ghost view = { λ t. record { pins = entries t.settings; room = min t.settings.room (vec_capacity t.packages - vec_len t.packages) } };
+    ghost view = { λ t. record {
+      pins = entries t.settings;
+      room = min t.settings.room (deque_capacity t.packages - deque_len t.packages);
+    } };
 
     ghost invariant = { λ t. IsRanked own_row t.settings.rows t.settings.next t.packages.items };
 }
@@ -45,7 +48,7 @@ impl PinSettings {
     {
         PinSettings {
             settings: Ordered::new(alloc),
-            packages: Vec::new(alloc),
+            packages: VecDeque::new(alloc),
         }
     }
 
@@ -93,7 +96,7 @@ impl PinSettings {
         ensures { result ≡ own_settings name.now self.now.pins }
     {
         let start = start_of(&self.settings, &self.packages, name);
-        PackagePins::new(name, &self.settings, upper_part(&self.packages, start))
+        PackagePins::new(name, &self.settings, &self.packages, start)
     }
 
     /// Makes room for one setting more.

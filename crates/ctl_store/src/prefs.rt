@@ -10,7 +10,8 @@ ghost use Rattle.ctl_store.specs.PinVersions.{is_pin_version};
 ghost use Rattle.ctl_store.specs.PrefsFaults.{HasNoPrefsFault, TellsLeastPrefsFault};
 ghost use Rattle.ctl_store.specs.PrefsLaws.{SetsFirst};
 ghost use Rattle.ctl_store.specs.Priority.{priority_of};
-ghost use Rattle.ctl_store.specs.Prefs.{words_of, is_general as is_general_of, version_asked as version_asked_of, list_asked as list_asked_of, body_in, is_missing, field_cause, package_cause, pin_cause, asked_cause, priority_cause, first_wrong, words_in, own_fault, first_own_fault, all_settings, record_settings, selectors_of, with_priority, keep_first, first_settings, read_prefs_text};
+ghost use Rattle.ctl_store.specs.Prefs.{words_of, is_general as is_general_of, version_asked as version_asked_of, list_asked as list_asked_of, body_in, is_missing, field_cause, package_cause, pin_cause, asked_cause, priority_cause, first_wrong, words_in, own_fault, first_own_fault, all_settings, record_settings, selectors_of, keep_first, first_settings, read_prefs_text};
+ghost use Rattle.ctl_store.specs.PrefsKept.{keep_each, selectors_asked, selectors_on};
 ghost use Rattle.ctl_stanza.specs.Fields.{package_name};
 
 use crate::laws::{first_setting_counts, told_prefs_fault_is_least};
@@ -192,7 +193,7 @@ fn keep_versions(
     priority: i16,
 ) -> Result<(), AllocError>
     requires { is_pin_version version.now ≡ true }
-    ensures { OnOk result (kept.new.pins ≡ first_settings kept.old.pins (with_priority (Some priority) (selectors_of (words_of names.now) (Some version.now) None))) }
+    ensures { OnOk result (kept.new.pins ≡ keep_each kept.old.pins priority (selectors_of (words_of names.now) (Some version.now) None)) }
 {
     let mut left = names;
     while let Some((name, behind)) = take_word(left) {
@@ -213,7 +214,7 @@ fn keep_lists(
     list: &[u8],
     priority: i16,
 ) -> Result<(), AllocError>
-    ensures { OnOk result (kept.new.pins ≡ first_settings kept.old.pins (with_priority (Some priority) (map (λ name. selectors.Release (Some name) list.now) (words_of names.now)))) }
+    ensures { OnOk result (kept.new.pins ≡ keep_each kept.old.pins priority (selectors_on list.now (words_of names.now))) }
 {
     let mut left = names;
     while let Some((name, behind)) = take_word(left) {
@@ -233,7 +234,7 @@ fn keep_list(
     list: &[u8],
     priority: i16,
 ) -> Result<(), AllocError>
-    ensures { OnOk result (kept.new.pins ≡ first_settings kept.old.pins (with_priority (Some priority) (selectors_of (words_of packages.now) None (Some list.now)))) }
+    ensures { OnOk result (kept.new.pins ≡ keep_each kept.old.pins priority (selectors_of (words_of packages.now) None (Some list.now))) }
 {
     if is_general(packages) {
         let list = Bytes::from_slice(alloc, list)?;
@@ -257,7 +258,7 @@ fn keep_settings(
     priority: i16,
 ) -> Result<(), AllocError>
     requires { pin_cause (is_general_of (words_of packages.now)) (words_of pin.now) ≡ None }
-    ensures { OnOk result (kept.new.pins ≡ first_settings kept.old.pins (with_priority (Some priority) (selectors_of (words_of packages.now) (version_asked_of (words_of pin.now)) (list_asked_of (words_of pin.now))))) }
+    ensures { OnOk result (kept.new.pins ≡ keep_each kept.old.pins priority (selectors_asked packages.now pin.now)) }
 {
     if let Some(version) = version_asked(pin) {
         return keep_versions(alloc, kept, packages, version, priority);

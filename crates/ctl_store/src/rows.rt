@@ -1,14 +1,14 @@
 //! Stanzas under their serial numbers.
 
-ghost use Rattle.std.specs.Prelude.{◌≡◌, ◌<◌, ◌≤◌, ℕ, length, IfSome, nat_lt, vec_len, true, false, option_map, option_copied, nat_eq};
+ghost use Rattle.std.specs.Prelude.{◌≡◌, ◌<◌, ◌≤◌, ℕ, length, IfSome, nat_lt, vec_len, option_map, option_copied, nat_eq};
 ghost use Rattle.std.specs.Map.{lookup};
 ghost use Rattle.std.specs.Vec.{vec_capacity};
 ghost use Rattle.std.specs.List.{slice_index_or};
 ghost use Rattle.ctl_stanza.specs.Content.{Content, package_of};
-ghost use Rattle.std.specs.List.Sorted.{IsPartitionPoint};
 ghost use Rattle.ctl_store.specs.Step.{place};
 ghost use Rattle.ctl_store.specs.Rows.{has_serial, Rises, replace_at};
 ghost use Rattle.ctl_store.specs.Fronts.{front_of};
+ghost use Rattle.ctl_store.specs.Spots.{IsEnd};
 ghost use Rattle.ctl_store.specs.HeldPieces.{joined, last_passes, place_of_spot, ArePieces, IsSpot, IsSpotOrEnd};
 
 use crate::fronts::{FRONT_LEN, front_of};
@@ -101,7 +101,7 @@ fn likely_piece(rows: &[Vec<Row>], serial: u64) -> usize {
 fn pieces_below(rows: &[Vec<Row>], serial: u64) -> usize
     requires pieces { ArePieces rows.now }
     requires rises { (n : ℕ) × (m : ℕ) × Rises n (joined rows.now) m }
-    ensures point { IsPartitionPoint (λ rows. last_passes (λ row. nat_lt row.0 serial) rows.items ≡ true) (λ rows. last_passes (λ row. nat_lt row.0 serial) rows.items ≡ false) rows.now result }
+    ensures point { IsEnd (λ rows. last_passes (λ row. nat_lt row.0 serial) rows.items) rows.now result }
     ensures bound { result ≤ length rows.now }
 {
     let likely = likely_piece(rows, serial);
@@ -118,7 +118,7 @@ fn pieces_below(rows: &[Vec<Row>], serial: u64) -> usize
 fn end_below(rows: &[Vec<Row>], serial: u64) -> Spot
     requires pieces { ArePieces rows.now }
     requires rises { (n : ℕ) × (m : ℕ) × Rises n (joined rows.now) m }
-    ensures point { IsPartitionPoint (λ row. nat_lt row.0 serial ≡ true) (λ row. nat_lt row.0 serial ≡ false) (joined rows.now) (place_of_spot rows.now result) }
+    ensures point { IsEnd (λ row. nat_lt row.0 serial) (joined rows.now) (place_of_spot rows.now result) }
     ensures within { IsSpotOrEnd rows.now result }
 {
     let piece = pieces_below(rows, serial);

@@ -1,11 +1,12 @@
 //! The stanzas of one list.
 
-ghost use Rattle.std.specs.Prelude.{◌≡◌, ◌<◌, ◌≤◌, ◌+◌, ◌-◌, ◌^◌, [], Option, Some, OnOk, IfOk, min, length, vec_len, map, is_some, nat_eq, option_copied};
+ghost use Rattle.std.specs.Prelude.{◌≡◌, ◌<◌, ◌≤◌, ◌+◌, ◌-◌, ◌^◌, ℕ, [], Option, Some, OnOk, IfOk, min, length, vec_len, is_some, nat_eq, option_copied};
 ghost use Rattle.std.specs.Map.{lookup};
 ghost use Rattle.std.specs.Option.{option_to_list};
 ghost use Rattle.std.specs.Vec.{vec_capacity};
 ghost use Rattle.ctl_store.specs.Step.{place};
-ghost use Rattle.ctl_store.specs.Rows.{by_name_and_version, put_row, next_after_put, remove_row, rows_from};
+ghost use Rattle.ctl_store.specs.Rows.{by_name_and_version, put_row, next_after_put, remove_row};
+ghost use Rattle.ctl_store.specs.Orders.{boxed_rows};
 ghost use Rattle.ctl_store.specs.HeldPieces.{most_in_piece, joined, IsFit, HasRoomFor, room_at_end};
 ghost use Rattle.ctl_store.specs.Keys.{keys_of, found_key};
 ghost use Rattle.ctl_store.specs.Entries.{entries_in};
@@ -47,9 +48,26 @@ impl Model for Shelf {
 
     ghost Value = { Sheet };
 
-    ghost view = { λ s. record { serial = s.serial; kind = s.kind; class = s.class; next = s.next; rows = joined s.rows.pieces.items; room = vec_len s.rows.ready; order_room = room_of_last s.order.ready.items } };
+    ghost view = { λ s. record {
+      serial = s.serial;
+      kind = s.kind;
+      class = s.class;
+      next = s.next;
+      rows = joined s.rows.pieces.items;
+      room = vec_len s.rows.ready;
+      order_room = room_of_last s.order.ready.items;
+    } };
 
     ghost invariant = { λ s. IsShelved s.rows.pieces s.rows.ready s.next s.order.pieces s.order.ready };
+}
+
+/// A list that is made: its kind, its class and its stanzas, with the room for them.
+#[derive(Drop)]
+pub(crate) struct NewList {
+    pub(crate) kind: ListKind,
+    pub(crate) class: ListClass,
+    pub(crate) stanzas: Vec<Box<Stanza>>,
+    pub(crate) room: ListRoom,
 }
 
 /// The room for a new list: for its serials and the fronts of its names while they are put in order, for its rows, and for the
@@ -69,7 +87,12 @@ impl Model for ListRoom {
 
     ghost Value = { ListRoom };
 
-    ghost view = { λ r. record { serials = vec_capacity r.serials; fronts = vec_capacity r.fronts; rows = room_at_end r.rows.pieces r.rows.ready; order = room_at_end r.order.pieces r.order.ready } };
+    ghost view = { λ r. record {
+      serials = vec_capacity r.serials;
+      fronts = vec_capacity r.fronts;
+      rows = room_at_end r.rows.pieces r.rows.ready;
+      order = room_at_end r.order.pieces r.order.ready;
+    } };
 
     ghost invariant = { λ r. IsBare r.serials r.fronts r.rows.pieces r.rows.ready r.order.pieces r.order.ready };
 }
@@ -104,7 +127,7 @@ fn fill_rows(rows: &mut Pieces<Row>, stanzas: Vec<Box<Stanza>>) -> u64
     requires none { rows.old.pieces.items ≡ [] }
     requires room { vec_len stanzas ≤ room_at_end rows.old.pieces rows.old.ready }
     ensures fit { IsFit rows.new.pieces rows.new.ready }
-    ensures rows { joined rows.new.pieces.items ≡ rows_from 0 (map (λ stanza. stanza.value) stanzas.items) }
+    ensures rows { joined rows.new.pieces.items ≡ boxed_rows stanzas.items }
     ensures next { result ≡ vec_len stanzas }
 {
     let mut serial = 0;
@@ -118,20 +141,20 @@ fn fill_rows(rows: &mut Pieces<Row>, stanzas: Vec<Box<Stanza>>) -> u64
 impl Shelf {
     /// A list of these stanzas, for which there is room. The order comes by one sort: each serial put in its place would
     /// look for that place.
-    pub(crate) fn new(
-        serial: u32,
-        kind: ListKind,
-        class: ListClass,
-        stanzas: Vec<Box<Stanza>>,
-        room: ListRoom,
-    ) -> Shelf
-        requires { Fits (vec_len stanzas) room }
+    pub(crate) fn new(serial: u32, list: NewList) -> Shelf
+        requires { Fits (vec_len list.stanzas) list.room }
         ensures serial { result.serial ≡ serial }
-        ensures kind { result.kind ≡ kind }
-        ensures class { result.class ≡ class }
-        ensures next { result.next ≡ vec_len stanzas }
-        ensures rows { result.rows ≡ rows_from 0 (map (λ stanza. stanza.value) stanzas.items) }
+        ensures kind { result.kind ≡ list.kind }
+        ensures class { result.class ≡ list.class }
+        ensures next { result.next ≡ vec_len list.stanzas }
+        ensures rows { result.rows ≡ boxed_rows list.stanzas.items }
     {
+        let NewList {
+            kind,
+            class,
+            stanzas,
+            room,
+        } = list;
         let ListRoom {
             mut serials,
             mut fronts,
@@ -287,7 +310,6 @@ impl Shelf {
     {
         remove_from(
             &mut self.rows,
-            self.next,
             &mut self.order,
             &mut self.last,
             name,
@@ -333,14 +355,14 @@ fn put_in(
 // Leaves where the stanza stood in the order as the last spot.
 fn remove_from(
     rows: &mut Pieces<Row>,
-    next: u64,
     order: &mut Pieces<u64>,
     last: &mut Spot,
     name: &[u8],
     version: Option<&Version>,
 )
-    requires { IsShelved rows.old.pieces rows.old.ready next order.old.pieces order.old.ready }
-    ensures shelved { IsShelved rows.new.pieces rows.new.ready next order.new.pieces order.new.ready }
+    requires { (next : ℕ) × IsShelved rows.old.pieces rows.old.ready next order.old.pieces order.old.ready }
+    ensures shelved { (next : ℕ) → IsShelved rows.old.pieces rows.old.ready next order.old.pieces order.old.ready
+        → IsShelved rows.new.pieces rows.new.ready next order.new.pieces order.new.ready }
     ensures rows { joined rows.new.pieces.items ≡ remove_row name.now (option_copied version.entry) (joined rows.old.pieces.items) }
 {
     let (order_spot, place) = look_up(rows.as_slice(), order.as_slice(), *last, name, version);

@@ -1,6 +1,6 @@
 //! Plans are carried out.
 
-ghost use Rattle.std.specs.Prelude.{◌≡◌, ◌-◌, ◌<◌, None, IsSome, IfSome, length, map, vec_len};
+ghost use Rattle.std.specs.Prelude.{◌≡◌, ◌-◌, ◌<◌, None, IsSome, IfSome, length, vec_len};
 ghost use Rattle.ctl_store.specs.Named.{at_name};
 ghost use Rattle.ctl_store.specs.Edits.{edit_of};
 ghost use Rattle.ctl_store.specs.Edits as edits;
@@ -9,20 +9,20 @@ ghost use Rattle.ctl_stanza.specs.Content.{package_of, version_of};
 ghost use Rattle.ctl_store.specs.Keys.{keyed_after, removed_of, found_in, all_in, IsNotAmong, stanza_at, AreCome, AreGone};
 ghost use Rattle.ctl_store.specs.Entries.{IsChange};
 ghost use Rattle.ctl_store.specs.Given.{IsGivenOnce};
+ghost use Rattle.ctl_store.specs.NewLists.{adding};
 ghost use Rattle.ctl_store.specs.Held.{state_of, keyed_of, IsReady, HasRoom, HasRoomInList, Fits};
 
 use crate::edit::Edit;
-use crate::list_class::ListClass;
 use crate::lists::{put_in, remove_in};
 use crate::pin_settings::PinSettings;
 use crate::plan::Plan;
 use crate::selector::{PinSetting, Selector};
-use crate::shelf::{ListRoom, Shelf};
+use crate::shelf::{ListRoom, NewList, Shelf};
 use crate::stanza_key::StanzaKey;
 use crate::store::Store;
 use crate::store::checking::one_if_status;
 use ctl_relation::{Bytes, Version};
-use ctl_stanza::{ListKind, Stanza};
+use ctl_stanza::Stanza;
 
 // How many stanzas more a list has once one is put, where so many keys go.
 fn more_if_none_goes(gone: usize) -> u32
@@ -79,7 +79,18 @@ impl Store {
                 kind,
                 class,
                 stanzas,
-            } => self.add_list(name, kind, class, stanzas, list_room),
+            } => {
+                let room = list_room;
+                self.add_list(
+                    name,
+                    NewList {
+                        kind,
+                        class,
+                        stanzas,
+                        room,
+                    },
+                )
+            }
             Edit::DropList { name } => self.drop_list(&name, gone),
             Edit::Put { list, stanza } => self.put(&list, stanza, gone),
             Edit::Remove {
@@ -96,27 +107,18 @@ impl Store {
         }
     }
 
-    fn add_list(
-        &mut self,
-        name: Bytes,
-        kind: ListKind,
-        class: ListClass,
-        stanzas: Vec<Box<Stanza>>,
-        list_room: ListRoom,
-    )
-        requires accepted { refusal_of self.old.limits (state_of self.old)
-            (edits.AddList name kind class (map (λ stanza. stanza.value) stanzas.items)) ≡ None }
+    fn add_list(&mut self, name: Bytes, list: NewList)
+        requires accepted { refusal_of self.old.limits (state_of self.old) (adding name list) ≡ None }
         requires list { 0 < self.old.lists_room }
-        requires room { Fits (vec_len stanzas) list_room }
-        ensures state { state_of self.new
-            ≡ after (state_of self.old) (edits.AddList name kind class (map (λ stanza. stanza.value) stanzas.items)) }
-        ensures keyed { keyed_of self.new
-            ≡ keyed_after (keyed_of self.old) (edits.AddList name kind class (map (λ stanza. stanza.value) stanzas.items)) }
+        requires room { Fits (vec_len list.stanzas) list.room }
+        ensures state { state_of self.new ≡ after (state_of self.old) (adding name list) }
+        ensures keyed { keyed_of self.new ≡ keyed_after (keyed_of self.old) (adding name list) }
         ensures limits { self.new.limits ≡ self.old.limits }
     {
         let _limits = self.limits;
-        let count = stanzas.len() as u32;
-        let shelf = Shelf::new(self.next_list, kind, class, stanzas, list_room);
+        let count = list.stanzas.len() as u32;
+        let kind = list.kind;
+        let shelf = Shelf::new(self.next_list, list);
         self.lists.put(name, shelf);
         self.next_list += 1;
         self.stanzas += count;

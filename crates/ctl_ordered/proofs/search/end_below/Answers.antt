@@ -10,4 +10,4 @@ returns-clause-point g c =
     let q = g.Q.Wanted.wanted c.args.wanted in
     let o = key_order g.met.K.Eq.laws g.met.K.Ord.total g.met.K.Ord.matches_eq in
     c.partition_point.ensures.partitioned (λ s. is_lt (order_at g.K.Ord.cmp c.args.slots.now.entries q s)) (always_returns_same _ _ _ (λ a r f k. search (rules, of_calls)))
-    (parted o c.args.slots.now.entries c.args.order.now c.requires.0 c.requires.1 q)
+    (parted o c.args.slots.now.entries c.args.order.now.items c.requires.0 c.requires.1 q)

@@ -1,6 +1,6 @@
-use Rattle.std.proofs.Common.{rules, arith, ◌≡◌, ◌∙◌, ◌<◌, ◌-◌, ℕ, Bool, length, slice_index, option_copied, ap}
+use Rattle.std.proofs.Common.{rules, arith, ◌≡◌, ◌∙◌, ◌<◌, ◌-◌, ℕ, Bool, length, slice_index, ap}
 use Rattle.std.specs.Ordering.{is_lt}
-use Rattle.ctl_store.specs.Rows.{id, order_at}
+use Rattle.ctl_store.specs.Rows.{order_at}
 use Rattle.ctl_store.specs.HeldPieces.{joined, last_passes, stands_at, place_of_spot}
 use Rattle.ctl_store.proofs.PiecesLemmas.{length_read, piece_read, spot_within}
 use Rattle.ctl_store.proofs.PointLemmas.{get_joined, last_is}
@@ -25,7 +25,7 @@ pub returns-then-spot-gt0 : goal.returns-then-spot-gt0
 returns-then-spot-gt0 c =
     let spot = c.args.spot in
     let ps = c.args.order.now in
-    let q = id c.args.name.now (option_copied c.args.version) in
+    let q = c.args.sought.now in
     let behind : place_of_spot ps spot - 1 ≡ stands_at ps spot.piece (spot.at - 1) = omega (arith, c.if-spot-gt0.true) in
     told _ (λ s. is_lt (order_at (joined c.args.rows.now) q s)) c.is_lt.result _ c.index-serial.result.now
     (ap (λ n. slice_index (joined ps) n) behind ∙ get_joined ps spot.piece (spot.at - 1) c.index-order-spot.result c.index-serial.result.now 0 (omega (arith, c.requires.spot)) c.index-order-spot.is c.index-serial.ensures)
@@ -45,7 +45,7 @@ returns c =
     let spot = c.args.spot in
     let ps = c.args.order.now in
     let v = c.index-order-spot-2.result in
-    let p : ℕ → Bool = λ s. is_lt (order_at (joined c.args.rows.now) (id c.args.name.now (option_copied c.args.version)) s) in
+    let p : ℕ → Bool = λ s. is_lt (order_at (joined c.args.rows.now) c.args.sought.now s) in
     let l = spot_within ps spot.piece spot.at c.requires.spot in
     let one = (piece_read ps (spot.piece - 1) v c.requires.order (omega (arith, l)) c.index-order-spot-2.is).some in
     told _ p c.ends_before.result _ _ (last_before ps c.requires.order spot l (omega (arith, c.if-spot-eq0.false)) (omega (arith, c.if-spot-gt0.false)) v c.index-order-spot-2.is)

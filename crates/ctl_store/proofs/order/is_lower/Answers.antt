@@ -1,6 +1,5 @@
-use Rattle.std.proofs.Common.{rules, arith, ◌<◌, length, option_copied, ap, sym, ◌∙◌}
+use Rattle.std.proofs.Common.{rules, arith, ◌<◌, length, ap, sym, ◌∙◌}
 use Rattle.std.specs.Ordering.{is_lt}
-use Rattle.ctl_store.specs.Rows.{id}
 use Rattle.ctl_store.specs.HeldPieces.{joined, IsSpot}
 use Rattle.ctl_store.proofs.PiecesLemmas.{length_read, spot_within}
 use Rattle.ctl_store.proofs.PointLemmas.{get_joined}
@@ -29,7 +28,7 @@ returns-clause-place c =
     let there : IsSpot ps spot = c.if-not-is_spot.ensures in
     let serial = c.index-serial.result.now in
     on_true_map c.follows_lesser.result
-    (lower_between (joined c.args.rows.now) c.requires.kept.0 ps c.requires.kept.1 (id c.args.name.now (option_copied c.args.version)) spot there serial
+    (lower_between (joined c.args.rows.now) c.requires.kept.0 ps c.requires.kept.1 c.args.sought.now spot there serial
     (get_joined ps spot.piece spot.at c.index-order-likely.result serial 0 there c.index-order-likely.is c.index-serial.ensures)
     (ap is_lt (sym c.compare_row.ensures) ∙ sym c.is_lt.ensures ∙ c.if-is_lt.false))
     c.follows_lesser.ensures

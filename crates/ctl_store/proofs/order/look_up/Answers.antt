@@ -2,6 +2,7 @@ use Rattle.std.proofs.Common.{Bool, List, Vec, Global, Option, None, ◌≡◌, 
 use Rattle.std.specs.Ordering.{is_eq}
 use Rattle.ctl_store.specs.Step.{place}
 use Rattle.ctl_store.specs.Rows.{IsKept, id, ids_of, sorted_ids, lower, has_serial, order_at, by_name_and_version}
+use Rattle.ctl_store.specs.Orders.{lower_place}
 use Rattle.ctl_stanza.specs.Content.{Content}
 use Rattle.ctl_store.specs.declared.pieces.Spot.{Spot}
 use Rattle.ctl_store.specs.HeldPieces.{joined, stands_at, place_of_spot, IsSpot}
@@ -10,6 +11,15 @@ use Rattle.ctl_store.proofs.PiecesLemmas.{length_read}
 use Rattle.ctl_store.proofs.PointLemmas.{get_joined, stands_within, stands_end}
 use Rattle.ctl_store.proofs.order.look_up.Goals as goal
 
+pub returns-then-spot-order-clause-order : goal.returns-then-spot-order-clause-order
+returns-then-spot-order-clause-order c = c.lower-spot.ensures.place ∙ ap (λ q. lower_place q (joined c.args.rows.now)) c.new-sought.ensures
+
+pub returns-then-is_eq-clause-order : goal.returns-then-is_eq-clause-order
+returns-then-is_eq-clause-order c = c.lower-spot.ensures.place ∙ ap (λ q. lower_place q (joined c.args.rows.now)) c.new-sought.ensures
+
+pub returns-else-is_eq-clause-order : goal.returns-else-is_eq-clause-order
+returns-else-is_eq-clause-order c = c.lower-spot.ensures.place ∙ ap (λ q. lower_place q (joined c.args.rows.now)) c.new-sought.ensures
+
 pub returns-then-spot-order-clause-place : goal.returns-then-spot-order-clause-place
 returns-then-spot-order-clause-place c =
     let ps = c.args.order.now in
@@ -17,7 +27,7 @@ returns-then-spot-order-clause-place c =
     let within = c.lower-spot.ensures.within in
     let last : spot.piece ≡ length ps = omega (arith, within.piece, c.if-spot-order.true) in
     let at : place_of_spot ps spot ≡ stands_at ps (length ps) 0 = λ j. stands_at ps (last j) (within.end last j) in
-    sym (found_past (joined c.args.rows.now) c.requires.kept.0 (joined ps) c.requires.kept.1 c.args.name.now (option_copied c.args.version) (place_of_spot ps spot) c.lower-spot.ensures.place (omega (arith, at, stands_end ps 0)))
+    sym (found_past (joined c.args.rows.now) c.requires.kept.0 (joined ps) c.requires.kept.1 c.args.name.now (option_copied c.args.version) (place_of_spot ps spot) (c.lower-spot.ensures.place ∙ ap (λ q. lower_place q (joined c.args.rows.now)) c.new-sought.ensures) (omega (arith, at, stands_end ps 0)))
 
 pub index-serial-requires : goal.index-serial-requires
 index-serial-requires c =
@@ -39,13 +49,13 @@ returns-then-is_eq-clause-place c =
     let serial = c.index-serial.result.now in
     let spot = c.lower-spot.result in
     c.spot_of.ensures.place
-    ∙ sym (found rows c.requires.kept.0 c.args.order.now c.requires.kept.1 c.args.name.now (option_copied c.args.version) spot c.lower-spot.ensures.place (c.lower-spot.ensures.within.item c.if-spot-order.false) c.index-order-spot.result serial c.index-order-spot.is c.index-serial.ensures
-    ∙ ap (λ (b : Bool). cond b (place (has_serial serial) rows) None) (ap is_eq (sym c.compare_row.ensures) ∙ sym c.is_eq.ensures ∙ c.if-is_eq.true))
+    ∙ sym (found rows c.requires.kept.0 c.args.order.now c.requires.kept.1 c.args.name.now (option_copied c.args.version) spot (c.lower-spot.ensures.place ∙ ap (λ q. lower_place q (joined c.args.rows.now)) c.new-sought.ensures) (c.lower-spot.ensures.within.item c.if-spot-order.false) c.index-order-spot.result serial c.index-order-spot.is c.index-serial.ensures
+    ∙ ap (λ (b : Bool). cond b (place (has_serial serial) rows) None) (ap (λ q. is_eq (order_at rows q serial)) (sym c.new-sought.ensures) ∙ ap is_eq (sym c.compare_row.ensures) ∙ sym c.is_eq.ensures ∙ c.if-is_eq.true))
 
 pub returns-else-is_eq-clause-place : goal.returns-else-is_eq-clause-place
 returns-else-is_eq-clause-place c =
     let rows = joined c.args.rows.now in
     let serial = c.index-serial.result.now in
     let spot = c.lower-spot.result in
-    sym (found rows c.requires.kept.0 c.args.order.now c.requires.kept.1 c.args.name.now (option_copied c.args.version) spot c.lower-spot.ensures.place (c.lower-spot.ensures.within.item c.if-spot-order.false) c.index-order-spot.result serial c.index-order-spot.is c.index-serial.ensures
-    ∙ ap (λ (b : Bool). cond b (place (has_serial serial) rows) None) (ap is_eq (sym c.compare_row.ensures) ∙ sym c.is_eq.ensures ∙ c.if-is_eq.false))
+    sym (found rows c.requires.kept.0 c.args.order.now c.requires.kept.1 c.args.name.now (option_copied c.args.version) spot (c.lower-spot.ensures.place ∙ ap (λ q. lower_place q (joined c.args.rows.now)) c.new-sought.ensures) (c.lower-spot.ensures.within.item c.if-spot-order.false) c.index-order-spot.result serial c.index-order-spot.is c.index-serial.ensures
+    ∙ ap (λ (b : Bool). cond b (place (has_serial serial) rows) None) (ap (λ q. is_eq (order_at rows q serial)) (sym c.new-sought.ensures) ∙ ap is_eq (sym c.compare_row.ensures) ∙ sym c.is_eq.ensures ∙ c.if-is_eq.false))

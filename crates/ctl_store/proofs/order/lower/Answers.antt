@@ -1,16 +1,17 @@
-use Rattle.std.proofs.Common.{rules, of_calls, ℕ, Bool, ◌<◌, ◌≡◌, length, arith, option_copied}
+use Rattle.std.proofs.Common.{rules, of_calls, ℕ, Bool, ◌<◌, ◌≡◌, length, arith}
 use Rattle.std.proofs.lemmas.Fn.{always_returns_same}
 use Rattle.std.specs.Ordering.{is_lt}
-use Rattle.ctl_store.specs.Rows.{id, order_at}
+use Rattle.ctl_store.specs.Rows.{order_at}
 use Rattle.ctl_store.specs.HeldPieces.{joined, last_passes, stands_at, length_at}
+use Rattle.ctl_store.specs.Spots.{IsEnd}
 use Rattle.ctl_store.proofs.OrderLemmas.{parted, lower_is}
-use Rattle.ctl_store.proofs.PointLemmas.{IsEnd, parted_last, end_found, end_past, stands_within, stands_end}
+use Rattle.ctl_store.proofs.PointLemmas.{parted_last, end_found, end_past, stands_within, stands_end}
 use Rattle.ctl_store.proofs.order.lower.Goals as goal
 
-both : (c : goal.After-partition_point) → IsEnd (λ s. is_lt (order_at (joined c.args.rows.now) (id c.args.name.now (option_copied c.args.version)) s)) (joined c.args.order.now) (stands_at c.args.order.now c.partition_point-piece.result c.partition_point.result) × (c.partition_point.result < length_at c.args.order.now c.partition_point-piece.result)
+both : (c : goal.After-partition_point) → IsEnd (λ s. is_lt (order_at (joined c.args.rows.now) c.args.sought.now s)) (joined c.args.order.now) (stands_at c.args.order.now c.partition_point-piece.result c.partition_point.result) × (c.partition_point.result < length_at c.args.order.now c.partition_point-piece.result)
 both c =
     let ps = c.args.order.now in
-    let q = id c.args.name.now (option_copied c.args.version) in
+    let q = c.args.sought.now in
     let p : ℕ → Bool = λ s. is_lt (order_at (joined c.args.rows.now) q s) in
     let parted = parted (joined c.args.rows.now) c.requires.kept.0 (joined ps) c.requires.kept.1 q in
     let outer = c.partition_point-piece.ensures.partitioned (λ v. last_passes p v.items) (always_returns_same _ _ _ (λ a r f k. search (rules, of_calls))) (parted_last p ps c.requires.order parted) in
@@ -23,7 +24,7 @@ returns-in-Some-clause-place c =
     let k = c.partition_point-piece.result in
     let r = c.partition_point.result in
     let found = both c in
-    lower_is (joined c.args.rows.now) c.requires.kept.0 (joined ps) c.requires.kept.1 (id c.args.name.now (option_copied c.args.version)) (stands_at ps k r) (omega (arith, stands_within ps k r found.1)) found.0
+    lower_is (joined c.args.rows.now) c.requires.kept.0 (joined ps) c.requires.kept.1 c.args.sought.now (stands_at ps k r) (omega (arith, stands_within ps k r found.1)) found.0
 
 pub returns-in-Some-clause-within : goal.returns-in-Some-clause-within
 returns-in-Some-clause-within c =
@@ -34,7 +35,7 @@ pub returns-in-None-clause-place : goal.returns-in-None-clause-place
 returns-in-None-clause-place c =
     let ps = c.args.order.now in
     let k = c.partition_point-piece.result in
-    let q = id c.args.name.now (option_copied c.args.version) in
+    let q = c.args.sought.now in
     let p : ℕ → Bool = λ s. is_lt (order_at (joined c.args.rows.now) q s) in
     let parted = parted (joined c.args.rows.now) c.requires.kept.0 (joined ps) c.requires.kept.1 q in
     let outer = c.partition_point-piece.ensures.partitioned (λ v. last_passes p v.items) (always_returns_same _ _ _ (λ a r f k. search (rules, of_calls))) (parted_last p ps c.requires.order parted) in

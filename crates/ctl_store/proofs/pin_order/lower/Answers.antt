@@ -1,4 +1,4 @@
-use Rattle.std.proofs.Common.{rules, of_calls}
+use Rattle.std.proofs.Common.{rules, of_calls, arith, ◌≤◌, length}
 use Rattle.std.proofs.lemmas.Fn.{always_returns_same}
 use Rattle.std.specs.Ordering.{is_lt}
 use Rattle.ctl_store.specs.HeldRanks.{label_order}
@@ -10,7 +10,8 @@ pub returns-clause-place : goal.returns-clause-place
 returns-clause-place c =
     let rows = c.args.settings.now.rows in
     let next = c.args.settings.now.next in
-    let order = c.args.order.now in
+    let order = c.args.order.now.items in
     let q = c.args.wanted.now in
-    below_is own_row rows next order c.requires q c.partition_point.result c.partition_point.ensures.bound
+    let bound : c.partition_point.result ≤ length order = let ok = c.args.order.now.ok in omega (arith, c.partition_point.ensures.bound) in
+    below_is own_row rows next order c.requires q c.partition_point.result bound
     (c.partition_point.ensures.partitioned (λ s. is_lt (label_order own_row rows q s)) (always_returns_same _ _ _ (λ a r f k. search (rules, of_calls))) (parted own_row rows next order c.requires q))

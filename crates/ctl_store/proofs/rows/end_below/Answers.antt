@@ -1,7 +1,8 @@
 use Rattle.std.proofs.Common.{rules, of_calls, ◌<◌, ◌≡◌, length, arith}
 use Rattle.std.proofs.lemmas.Fn.{always_returns_same}
 use Rattle.ctl_store.specs.HeldPieces.{joined, stands_at, length_at}
-use Rattle.ctl_store.proofs.PointLemmas.{IsEnd, is_below, parted_serials, end_found, end_past}
+use Rattle.ctl_store.specs.Spots.{IsEnd}
+use Rattle.ctl_store.proofs.PointLemmas.{is_below, parted_serials, end_found, end_past}
 use Rattle.ctl_store.proofs.rows.end_below.Goals as goal
 
 both : (c : goal.After-partition_point) → IsEnd (is_below c.args.serial) (joined c.args.rows.now) (stands_at c.args.rows.now c.pieces_below-piece.result c.partition_point.result) × (c.partition_point.result < length_at c.args.rows.now c.pieces_below-piece.result)

@@ -6,7 +6,7 @@ use Rattle.ctl_store.proofs.ShelfLemmas.{shelved_remove}
 use Rattle.ctl_store.proofs.shelf.remove_from.Goals as goal
 
 pub returns-in-Some-clause-shelved : goal.returns-in-Some-clause-shelved
-returns-in-Some-clause-shelved c =
+returns-in-Some-clause-shelved c next shelved =
     let ps = c.args.rows.now.pieces in
     let order = c.args.order.now.pieces in
     let name = c.args.name.now in
@@ -18,6 +18,6 @@ returns-in-Some-clause-shelved c =
     ∙ ap (option_map (λ s. place_of_spot c.as_slice.result.now s)) c.in-Some.is ∙ (λ j. Some (place_of_spot (c.as_slice.ensures j) spot)) in
     let at : place_of_spot order.items order_spot ≡ lower (id name version) (sorted_ids (ids_of (joined ps.items))) =
     (λ j. place_of_spot (sym c.as_slice-2.ensures j) order_spot) ∙ c.look_up-place.ensures.order ∙ (λ j. lower (id name version) (sorted_ids (ids_of (joined (c.as_slice.ensures j))))) in
-    shelved_remove ps c.args.rows.now.ready c.args.next order c.args.order.now.ready c.requires
+    shelved_remove ps c.args.rows.now.ready next order c.args.order.now.ready shelved
     c.remove-in-Some.new.self.pieces c.remove-in-Some.new.self.ready c.remove.new.self.pieces c.remove.new.self.ready c.remove-in-Some.ensures.fit c.remove.ensures.fit
     name version (place_of_spot ps.items spot) (place_of_spot order.items order_spot) found at c.remove-in-Some.ensures.items c.remove.ensures.items

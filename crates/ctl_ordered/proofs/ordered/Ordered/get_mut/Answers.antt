@@ -1,6 +1,6 @@
-use Rattle.std.proofs.Common.{◌∙◌, ap, refl, sym, subst, nat_eq, vec_len, ◌-◌}
+use Rattle.std.proofs.Common.{◌∙◌, ap, refl, sym, subst, nat_eq, ◌-◌}
 use Rattle.std.specs.Map.{lookup, set_value}
-use Rattle.std.specs.Vec.{vec_capacity}
+use Rattle.std.specs.VecDeque.{deque_capacity, deque_len}
 use Rattle.ctl_ordered.specs.Slots.{entries_of, rows_of}
 use Rattle.ctl_ordered.specs.Ordered.{entries, room_of, set_row, IsOrdered}
 use Rattle.ctl_ordered.proofs.SlotLemmas.{set_same, to_lent}
@@ -38,7 +38,7 @@ returns-in-Some g c =
     let at = c.in-Some.ensures.value in
     let here = c.value_mut.follows in
     let there = c.get_mut.follows in
-    let free = vec_capacity o.order - vec_len o.order in (
+    let free = deque_capacity o.order - deque_len o.order in (
       (
         refl,
         (λ w.

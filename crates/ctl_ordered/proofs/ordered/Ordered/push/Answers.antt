@@ -14,11 +14,9 @@ invariant_of-self g c =
     let R = g.K.Ord.cmp in
     let k = c.args.key in
     let at = c.end_below-at in
-    let items = c.deref.ensures.value in
-    let held = subst (λ l. IsOrdered eq R o.slots.entries l o.next) (sym items) c.self.invariant in
-    let pushed = ordered_pushed (key_order g.met.K.Eq.laws g.met.K.Ord.total g.met.K.Ord.matches_eq) o.slots.entries c.deref.result.now o.next held k at.result at.ensures.bound at.ensures.point c.args.value (ap (λ v. lookup (eq k) (entries v)) c.self.view_is ∙ c.requires.new) in
-    subst (λ l. IsOrdered eq R c.insert-2.new.self.entries l (o.next + 1)) (ap (λ l. insert l at.result o.next) items ∙ sym c.in-Ok.ensures.items)
-    (subst (λ rs. IsOrdered eq R rs (insert c.deref.result.now at.result o.next) (o.next + 1)) (sym c.in-Ok-insert.ensures.entries) pushed.0)
+    let pushed = ordered_pushed (key_order g.met.K.Eq.laws g.met.K.Ord.total g.met.K.Ord.matches_eq) o.slots.entries o.order.items o.next c.self.invariant k at.result at.ensures.bound at.ensures.point c.args.value (ap (λ v. lookup (eq k) (entries v)) c.self.view_is ∙ c.requires.new) in
+    subst (λ l. IsOrdered eq R c.insert-2.new.self.entries l (o.next + 1)) (sym c.in-Ok.ensures.items)
+    (subst (λ rs. IsOrdered eq R rs (insert o.order.items at.result o.next) (o.next + 1)) (sym c.in-Ok-insert.ensures.entries) pushed.0)
 
 pub returns : goal.returns
 returns g c =
@@ -26,8 +24,7 @@ returns g c =
     let eq = g.K.PartialEq.eq in
     let k = c.args.key in
     let at = c.end_below-at in
-    let held = subst (λ l. IsOrdered eq g.K.Ord.cmp o.slots.entries l o.next) (sym c.deref.ensures.value) c.self.invariant in
-    let pushed = ordered_pushed (key_order g.met.K.Eq.laws g.met.K.Ord.total g.met.K.Ord.matches_eq) o.slots.entries c.deref.result.now o.next held k at.result at.ensures.bound at.ensures.point c.args.value (ap (λ v. lookup (eq k) (entries v)) c.self.view_is ∙ c.requires.new) in
+    let pushed = ordered_pushed (key_order g.met.K.Eq.laws g.met.K.Ord.total g.met.K.Ord.matches_eq) o.slots.entries o.order.items o.next c.self.invariant k at.result at.ensures.bound at.ensures.point c.args.value (ap (λ v. lookup (eq k) (entries v)) c.self.view_is ∙ c.requires.new) in
     record {
       entries = ap entries_of c.in-Ok-insert.ensures.entries ∙ pushed.1 ∙ ap (λ v. insert_entry eq (entries v) k c.args.value) c.self.view_is;
       rows = ap rows_of c.in-Ok-insert.ensures.entries ∙ pushed.2 ∙ ap (λ v. v.rows ++ (v.next, (k, c.args.value)) ∷ []) c.self.view_is;

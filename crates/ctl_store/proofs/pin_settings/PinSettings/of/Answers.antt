@@ -1,6 +1,5 @@
-use Rattle.std.proofs.Common.{◌∙◌, ap, drop}
+use Rattle.std.proofs.Common.{◌∙◌, ap}
 use Rattle.ctl_store.specs.Pins.{own_settings}
-use Rattle.ctl_store.specs.HeldPins.{own_run}
 use Rattle.ctl_store.proofs.OwnRunLemmas.{own_found}
 use Rattle.ctl_store.proofs.pin_settings.PinSettings.of.Goals as goal
 
@@ -10,6 +9,5 @@ returns c =
     let name = c.args.name.now in
     let start = c.start_of-start in
     c.new.ensures
-    ∙ ap (own_run name s.settings.rows) (c.upper_part.ensures.items ∙ ap (drop start.result) c.deref-2.ensures.value)
     ∙ own_found name s.settings.rows s.settings.next s.packages.items start.result c.self.invariant.rises c.self.invariant.ordered start.ensures.place
     ∙ ap (λ v. own_settings name v.pins) c.self.view_is

@@ -1,16 +1,12 @@
 use Rattle.std.proofs.Common.{sym, subst, arith}
 use Rattle.ctl_ordered.specs.Ordered.{cut_row}
+use Rattle.ctl_ordered.proofs.QueueLemmas.{taken}
 use Rattle.ctl_store.specs.Pins.{selector_eq}
 use Rattle.ctl_store.specs.HeldRanks.{IsRanked}
 use Rattle.ctl_store.specs.HeldPins.{own_row}
 use Rattle.ctl_store.proofs.OwnOrderLemmas.{own_within, own_cut, own_none}
 use Rattle.ctl_store.proofs.pin_settings.PinSettings.remove.Goals.{in-Some, in-None}
 use Rattle.ctl_store.proofs.pin_settings.PinSettings.remove.Goals as goal
-
-pub remove-requires : goal.remove-requires
-remove-requires c =
-    let s = c.self.inside in
-    omega (arith, c.place_of-at.ensures.place, own_within s.settings.rows s.settings.next s.packages.items c.self.invariant c.args.selector.now c.in-Some.serial (sym c.in-Some.ensures))
 
 pub invariant_of-self : goal.invariant_of-self
 invariant_of-self c =
@@ -21,7 +17,7 @@ invariant_of-self c =
     let kept : IsRanked own_row (cut_row (selector_eq k) i.settings.rows) i.settings.next i.packages.items = elim c.match-serial_of.branch [
       | in-Some w ↦
           subst (λ x. IsRanked own_row (cut_row (selector_eq k) x.settings.rows) x.settings.next x.packages.items) (sym w.self-inside-is)
-          (subst (λ l. IsRanked own_row (cut_row (selector_eq k) s.settings.rows) s.settings.next l) (sym w.remove.ensures.items)
+          (subst (λ l. IsRanked own_row (cut_row (selector_eq k) s.settings.rows) s.settings.next l) (sym (taken s.packages w.place_of-at.result w.remove.new.self w.remove.result (omega (arith, w.place_of-at.ensures.place, own_within s.settings.rows s.settings.next s.packages.items c.self.invariant k w.in-Some.serial (sym w.in-Some.ensures))) w.remove.ensures.variant w.remove.ensures.items))
           (own_cut s.settings.rows s.settings.next s.packages.items c.self.invariant k w.in-Some.serial (sym w.in-Some.ensures) w.place_of-at.result w.place_of-at.ensures.place))
       | in-None w ↦
           subst (λ x. IsRanked own_row (cut_row (selector_eq k) x.settings.rows) x.settings.next x.packages.items) (sym w.self-inside-is)

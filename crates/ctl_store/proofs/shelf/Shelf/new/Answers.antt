@@ -7,7 +7,7 @@ use Rattle.ctl_store.proofs.shelf.Shelf.new.Goals as goal
 
 pub extend-requires-clause-room : goal.extend-requires-clause-room
 extend-requires-clause-room c =
-    let stanzas = c.args.stanzas.items in
+    let stanzas = c.args.list.stanzas.items in
     let xs = map (λ stanza. stanza.value) stanzas in
     omega (
       arith,
@@ -21,10 +21,10 @@ extend-requires-clause-room c =
 
 pub invariant_of-result : goal.invariant_of-result
 invariant_of-result c =
-    let xs = map (λ stanza. stanza.value) c.args.stanzas.items in
+    let xs = map (λ stanza. stanza.value) c.args.list.stanzas.items in
     let rows = c.forget_room.new.self in
     let order = c.forget_room-2.new.self in
     shelved_sorted rows.pieces rows.ready c.fill_rows-next.result order.pieces order.ready xs (ap joined c.forget_room.ensures.items ∙ c.fill_rows-next.ensures.rows)
-    (omega (arith, c.fill_rows-next.ensures.next, same_length (λ stanza. stanza.value) c.args.stanzas.items))
+    (omega (arith, c.fill_rows-next.ensures.next, same_length (λ stanza. stanza.value) c.args.list.stanzas.items))
     (ap joined c.forget_room-2.ensures.items ∙ c.extend.ensures.items ∙ ap (λ l. joined l ++ c.sort_serials.new.order.items) c.room.invariant.no_order ∙ c.sort_serials.ensures ∙ ap (λ l. sorted_serials (rows_from 0 (map (λ stanza. stanza.value) l))) c.deref.ensures.value)
     c.forget_room.ensures.fit c.forget_room-2.ensures.fit

@@ -25,28 +25,28 @@ same_length f (x ∷ xs) = ap (λ n. suc n) (same_length f xs)
 pub overflow_cast-count : goal.overflow_cast-count
 overflow_cast-count c =
     let h = c.args.self.now in
-    omega (arith, c.len-count.ensures, add_fits h.limits (state_of h) c.args.name c.args.kind c.args.class (map (λ stanza. stanza.value) c.args.stanzas.items) c.requires.accepted, same_length (λ stanza. stanza.value) c.args.stanzas.items, c.self.invariant.stanzas_bounded, ap (λ h. h.limits.stanzas) c.self.view_is)
+    omega (arith, c.len-count.ensures, add_fits h.limits (state_of h) c.args.name c.args.list.kind c.args.list.class (map (λ stanza. stanza.value) c.args.list.stanzas.items) c.requires.accepted, same_length (λ stanza. stanza.value) c.args.list.stanzas.items, c.self.invariant.stanzas_bounded, ap (λ h. h.limits.stanzas) c.self.view_is)
 
 pub overflow_add-self-2 : goal.overflow_add-self-2
 overflow_add-self-2 c =
     let h = c.args.self.now in
     let held = ap (λ h. stanza_count (state_of h).lists) c.self.view_is in
-    omega (arith, c.len-count.ensures, add_fits h.limits (state_of h) c.args.name c.args.kind c.args.class (map (λ stanza. stanza.value) c.args.stanzas.items) c.requires.accepted, same_length (λ stanza. stanza.value) c.args.stanzas.items, c.self.invariant.counted, held, c.self.invariant.stanzas_bounded, ap (λ h. h.limits.stanzas) c.self.view_is)
+    omega (arith, c.len-count.ensures, add_fits h.limits (state_of h) c.args.name c.args.list.kind c.args.list.class (map (λ stanza. stanza.value) c.args.list.stanzas.items) c.requires.accepted, same_length (λ stanza. stanza.value) c.args.list.stanzas.items, c.self.invariant.counted, held, c.self.invariant.stanzas_bounded, ap (λ h. h.limits.stanzas) c.self.view_is)
 
 pub overflow_add-self-3 : goal.overflow_add-self-3
 overflow_add-self-3 c =
     let h = c.args.self.now in
     let held = ap (λ h. status_count (state_of h).lists) c.self.view_is in
-    omega (arith, c.one_if_status.ensures, add_statuses h.limits (state_of h) c.args.name c.args.kind c.args.class (map (λ stanza. stanza.value) c.args.stanzas.items) c.requires.accepted 4294967295 (omega (arith, held, c.self.invariant.statuses_counted)) (omega arith), held, c.self.invariant.statuses_counted)
+    omega (arith, c.one_if_status.ensures, add_statuses h.limits (state_of h) c.args.name c.args.list.kind c.args.list.class (map (λ stanza. stanza.value) c.args.list.stanzas.items) c.requires.accepted 4294967295 (omega (arith, held, c.self.invariant.statuses_counted)) (omega arith), held, c.self.invariant.statuses_counted)
 
 pub invariant_of-self : goal.invariant_of-self
 invariant_of-self c =
     let s = c.self.inside in
     let h = c.args.self.now in
-    let xs = map (λ stanza. stanza.value) c.args.stanzas.items in
-    let long : length xs ≡ c.len-count.result = omega (arith, same_length (λ stanza. stanza.value) c.args.stanzas.items, c.len-count.ensures) in
-    let shelf : keyed_list c.new-shelf.result ≡ list_of_stanzas s.next_list c.args.kind c.args.class xs = λ j. record { serial = c.new-shelf.ensures.serial j; kind = c.new-shelf.ensures.kind j; class = c.new-shelf.ensures.class j; next = (c.new-shelf.ensures.next ∙ sym c.len-count.ensures ∙ sym long) j; rows = c.new-shelf.ensures.rows j } in
-    let new = new_among c.args.name (ordered.entries s.lists) (ap (λ h. has_name c.args.name (state_of h).lists) c.self.view_is ∙ add_new h.limits (state_of h) c.args.name c.args.kind c.args.class xs c.requires.accepted) in
+    let xs = map (λ stanza. stanza.value) c.args.list.stanzas.items in
+    let long : length xs ≡ c.len-count.result = omega (arith, same_length (λ stanza. stanza.value) c.args.list.stanzas.items, c.len-count.ensures) in
+    let shelf : keyed_list c.new-shelf.result ≡ list_of_stanzas s.next_list c.args.list.kind c.args.list.class xs = λ j. record { serial = c.new-shelf.ensures.serial j; kind = c.new-shelf.ensures.kind j; class = c.new-shelf.ensures.class j; next = (c.new-shelf.ensures.next ∙ sym c.len-count.ensures ∙ sym long) j; rows = c.new-shelf.ensures.rows j } in
+    let new = new_among c.args.name (ordered.entries s.lists) (ap (λ h. has_name c.args.name (state_of h).lists) c.self.view_is ∙ add_new h.limits (state_of h) c.args.name c.args.list.kind c.args.list.class xs c.requires.accepted) in
     let lists = ap lists_of c.put.ensures.entries ∙ lists_put_new c.args.name c.new-shelf.result (ordered.entries s.lists) new ∙ ap (λ (l : KeyedList). lists_of (ordered.entries s.lists) ++ (c.args.name, l) ∷ []) shelf in
     let none = none_is (at_name c.args.name (ordered.entries s.lists)) (sym (has_name_lists c.args.name (ordered.entries s.lists)) ∙ new) in
     let rows = c.put.ensures.rows ∙ ap (λ o. rows_put o (bytes_eq c.args.name) s.lists c.args.name c.new-shelf.result) none in
@@ -54,31 +54,31 @@ invariant_of-self c =
     let held = ap (λ h. stanza_count (state_of h).lists) c.self.view_is in
     let most = ap (λ h. h.limits.stanzas) c.self.view_is in
     subst (λ k. IsSound c.put.new.self.rows c.put.new.self.next (s.next_list + 1) (s.statuses + k) (s.stanzas + c.len-count.result) (s.edits + 1) s.limits) (sym c.one_if_status.ensures)
-    (subst (λ n. IsSound c.put.new.self.rows c.put.new.self.next (s.next_list + 1) (s.statuses + count_of_kind c.args.kind) (s.stanzas + n) (s.edits + 1) s.limits) long
-    (subst (λ m. IsSound c.put.new.self.rows m (s.next_list + 1) (s.statuses + count_of_kind c.args.kind) (s.stanzas + length xs) (s.edits + 1) s.limits) (sym (c.put.ensures.next ∙ ap (λ o. next_put o s.lists) none))
-    (sound_add s.lists.rows s.lists.next s.next_list s.statuses s.stanzas s.edits s.limits c.self.invariant c.put.new.self.rows c.args.name c.args.kind c.args.class xs numbered lists
-    (omega (arith, add_fits h.limits (state_of h) c.args.name c.args.kind c.args.class xs c.requires.accepted, c.self.invariant.counted, held, most)))))
+    (subst (λ n. IsSound c.put.new.self.rows c.put.new.self.next (s.next_list + 1) (s.statuses + count_of_kind c.args.list.kind) (s.stanzas + n) (s.edits + 1) s.limits) long
+    (subst (λ m. IsSound c.put.new.self.rows m (s.next_list + 1) (s.statuses + count_of_kind c.args.list.kind) (s.stanzas + length xs) (s.edits + 1) s.limits) (sym (c.put.ensures.next ∙ ap (λ o. next_put o s.lists) none))
+    (sound_add s.lists.rows s.lists.next s.next_list s.statuses s.stanzas s.edits s.limits c.self.invariant c.put.new.self.rows c.args.name c.args.list.kind c.args.list.class xs numbered lists
+    (omega (arith, add_fits h.limits (state_of h) c.args.name c.args.list.kind c.args.list.class xs c.requires.accepted, c.self.invariant.counted, held, most)))))
 
 pub returns-clause-state : goal.returns-clause-state
 returns-clause-state c =
     let s = c.self.inside in
     let h = c.args.self.now in
-    let xs = map (λ stanza. stanza.value) c.args.stanzas.items in
-    let long : length xs ≡ c.len-count.result = omega (arith, same_length (λ stanza. stanza.value) c.args.stanzas.items, c.len-count.ensures) in
-    let shelf : keyed_list c.new-shelf.result ≡ list_of_stanzas s.next_list c.args.kind c.args.class xs = λ j. record { serial = c.new-shelf.ensures.serial j; kind = c.new-shelf.ensures.kind j; class = c.new-shelf.ensures.class j; next = (c.new-shelf.ensures.next ∙ sym c.len-count.ensures ∙ sym long) j; rows = c.new-shelf.ensures.rows j } in
-    let new = new_among c.args.name (ordered.entries s.lists) (ap (λ h. has_name c.args.name (state_of h).lists) c.self.view_is ∙ add_new h.limits (state_of h) c.args.name c.args.kind c.args.class xs c.requires.accepted) in
+    let xs = map (λ stanza. stanza.value) c.args.list.stanzas.items in
+    let long : length xs ≡ c.len-count.result = omega (arith, same_length (λ stanza. stanza.value) c.args.list.stanzas.items, c.len-count.ensures) in
+    let shelf : keyed_list c.new-shelf.result ≡ list_of_stanzas s.next_list c.args.list.kind c.args.list.class xs = λ j. record { serial = c.new-shelf.ensures.serial j; kind = c.new-shelf.ensures.kind j; class = c.new-shelf.ensures.class j; next = (c.new-shelf.ensures.next ∙ sym c.len-count.ensures ∙ sym long) j; rows = c.new-shelf.ensures.rows j } in
+    let new = new_among c.args.name (ordered.entries s.lists) (ap (λ h. has_name c.args.name (state_of h).lists) c.self.view_is ∙ add_new h.limits (state_of h) c.args.name c.args.list.kind c.args.list.class xs c.requires.accepted) in
     let lists = ap lists_of c.put.ensures.entries ∙ lists_put_new c.args.name c.new-shelf.result (ordered.entries s.lists) new ∙ ap (λ (l : KeyedList). lists_of (ordered.entries s.lists) ++ (c.args.name, l) ∷ []) shelf in
-    (λ j. record { lists = (ap stanza_lists lists ∙ new_lists (lists_of (ordered.entries s.lists)) c.args.name s.next_list c.args.kind c.args.class xs) j; marks = fin.from_entries (ordered.entries s.marks); pins = s.pins.pins; target = s.target; edits = s.edits + 1 })
-    ∙ ap (λ h. after (state_of h) (AddList c.args.name c.args.kind c.args.class xs)) c.self.view_is
+    (λ j. record { lists = (ap stanza_lists lists ∙ new_lists (lists_of (ordered.entries s.lists)) c.args.name s.next_list c.args.list.kind c.args.list.class xs) j; marks = fin.from_entries (ordered.entries s.marks); pins = s.pins.pins; target = s.target; edits = s.edits + 1 })
+    ∙ ap (λ h. after (state_of h) (AddList c.args.name c.args.list.kind c.args.list.class xs)) c.self.view_is
 
 pub returns-clause-keyed : goal.returns-clause-keyed
 returns-clause-keyed c =
     let s = c.self.inside in
     let h = c.args.self.now in
-    let xs = map (λ stanza. stanza.value) c.args.stanzas.items in
-    let long : length xs ≡ c.len-count.result = omega (arith, same_length (λ stanza. stanza.value) c.args.stanzas.items, c.len-count.ensures) in
-    let shelf : keyed_list c.new-shelf.result ≡ list_of_stanzas s.next_list c.args.kind c.args.class xs = λ j. record { serial = c.new-shelf.ensures.serial j; kind = c.new-shelf.ensures.kind j; class = c.new-shelf.ensures.class j; next = (c.new-shelf.ensures.next ∙ sym c.len-count.ensures ∙ sym long) j; rows = c.new-shelf.ensures.rows j } in
-    let new = new_among c.args.name (ordered.entries s.lists) (ap (λ h. has_name c.args.name (state_of h).lists) c.self.view_is ∙ add_new h.limits (state_of h) c.args.name c.args.kind c.args.class xs c.requires.accepted) in
+    let xs = map (λ stanza. stanza.value) c.args.list.stanzas.items in
+    let long : length xs ≡ c.len-count.result = omega (arith, same_length (λ stanza. stanza.value) c.args.list.stanzas.items, c.len-count.ensures) in
+    let shelf : keyed_list c.new-shelf.result ≡ list_of_stanzas s.next_list c.args.list.kind c.args.list.class xs = λ j. record { serial = c.new-shelf.ensures.serial j; kind = c.new-shelf.ensures.kind j; class = c.new-shelf.ensures.class j; next = (c.new-shelf.ensures.next ∙ sym c.len-count.ensures ∙ sym long) j; rows = c.new-shelf.ensures.rows j } in
+    let new = new_among c.args.name (ordered.entries s.lists) (ap (λ h. has_name c.args.name (state_of h).lists) c.self.view_is ∙ add_new h.limits (state_of h) c.args.name c.args.list.kind c.args.list.class xs c.requires.accepted) in
     let lists = ap lists_of c.put.ensures.entries ∙ lists_put_new c.args.name c.new-shelf.result (ordered.entries s.lists) new ∙ ap (λ (l : KeyedList). lists_of (ordered.entries s.lists) ++ (c.args.name, l) ∷ []) shelf in
     (λ j. record { lists = lists j; next_list = s.next_list + 1 })
-    ∙ ap (λ h. keyed_after (keyed_of h) (AddList c.args.name c.args.kind c.args.class xs)) c.self.view_is
+    ∙ ap (λ h. keyed_after (keyed_of h) (AddList c.args.name c.args.list.kind c.args.list.class xs)) c.self.view_is

@@ -1,0 +1,5 @@
+use Rattle.ctl_store.proofs.KindLemmas.{kinds_stay}
+use Rattle.ctl_store.proofs.laws.kinds_stay.Goals as goal
+
+pub returns : goal.returns
+returns c s edit h b = kinds_stay s edit h b
