@@ -1,7 +1,8 @@
 """Tests tools/batch_edits.py on a repository of one small crate, which it makes in a temporary folder. Edits that the
 prover refuses by themselves pass. An edit of a comment, one whose function only calls another that is refused, one that
 doesn't compile and one that can't be applied are told as failed. The rooms in which edits are tried have proved modules by second
-names, and a module that is written into stops the runner. What the ledger reads of a crate below moves as its built library does."""
+names, and a module that is written into stops the runner; what the system breaks off is done once more. What the ledger reads of a crate
+below moves as its built library does."""
 
 import os
 import subprocess
@@ -234,6 +235,17 @@ print("a room is made equal again", is_one("/deep/proved.oantt") and read(room +
 print("what a room had of its own goes", sorted(os.listdir(room)) == ["deep", "judged"] and os.listdir(room + "/deep") == ["proved.oantt"])
 write(room + "/deep/proved.oantt", "written into")
 print("a module that is written into stops the runner", says_stop())
+
+tried = []
+
+def fail_once(crate):
+    tried.append(crate)
+    if len(tried) == 1:
+        raise FileNotFoundError("gone")
+    return 7
+
+runner.PAUSE = 0
+print("what the system breaks off is done once more", runner.twice(fail_once, crate) == 7 and len(tried) == 2)
 """
 
 
@@ -246,7 +258,7 @@ def test_links(tests):
     found = [it for it in told.splitlines() if it.endswith((" True", " False"))]
     for it in found:
         tests.expect(it.rsplit(" ", 1)[0], it.endswith(" True"), told)
-    tests.expect("all that is asked of links", len(found) == 6, told)
+    tests.expect("all that is asked of links", len(found) == 7, told)
 
 
 def run(tests):

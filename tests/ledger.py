@@ -264,6 +264,11 @@ def test_base(tests):
             repository.edit("low", f"two-is-{number + 5}", "    2", f"    {number + 5}")
         checks = repository.run("--crates", "low", "--anew")[3]
         tests.expect("three batches have a base", checks == ["low"] * 4, f"{checks}")
+        shutil.rmtree(f"{repository.root}/crates/low/out")
+        repository.write("crates/low/out/incremental.new/left", "by a run that was ended\n")
+        status, last, told, _ = repository.run("--crates", "low", "--anew")
+        is_told = "what was proved is not handed over" in told
+        tests.expect("what can't be handed over is let be", is_told and (status, last) == (0, "5 passed, 0 failed"), told)
 
 
 def run(tests):

@@ -9,6 +9,7 @@ import shutil
 import sys
 import tempfile
 import threading
+import time
 from collections.abc import Callable
 
 from . import batches, checks, libraries
@@ -16,6 +17,9 @@ from .crate import FOLDERS
 
 # A crate of at most so many batches is not proved first: to check the changed functions alone is less work.
 FEW = 2
+
+# Seconds before what the system broke off is done once more.
+PAUSE = 5
 
 # What the name of a kept file ends in that holds a proved module.
 MODULE = ".oantt"
@@ -122,10 +126,11 @@ class Runner:
             # again, so that it has one job, or those that nothing else waits for.
             if unproved and not any(batch is None for _, batch in running.values()) and may_start():
                 crate = unproved.popleft()
-                running[pool.submit(self.prove, crate, max(1, self.terms.jobs - len(running) - len(ready)))] = crate, None
+                jobs = max(1, self.terms.jobs - len(running) - len(ready))
+                running[pool.submit(twice, self.prove, crate, jobs)] = crate, None
             while ready and may_start():
                 crate, batch = ready.pop(0)
-                running[pool.submit(self.try_batch, crate, batch)] = crate, batch
+                running[pool.submit(twice, self.try_batch, crate, batch)] = crate, batch
 
         start()
         while running:
@@ -170,11 +175,17 @@ class Runner:
         tell(f"{name}: its library for the crates above, {answer.cpu:.0f} CPU s, {answer.wall:.0f} s")
 
     def hand_over(self, crate):
-        """Leaves the kept work where the repository has none of the crate, so that the next run starts over it."""
+        """Leaves the kept work where the repository has none of the crate, so that the next run starts over it. Where that can't be
+        done, the next run proves the crate again."""
         target = f"{crate.folder}/out/incremental"
-        if not os.path.exists(target):
+        if os.path.exists(target):
+            return
+        try:
             shutil.copytree(self.kept(crate), f"{target}.new")
             os.rename(f"{target}.new", target)
+        except OSError as error:
+            tell(f"{crate.name}: what was proved is not handed over: {error}")
+            shutil.rmtree(f"{target}.new", ignore_errors=True)
 
     def expect_unchanged(self, crate):
         """Stops where a check wrote into a proved module, of which the rooms have no copies: then nothing that was tried counts."""
@@ -252,6 +263,16 @@ class Runner:
 
     def new_folder(self, name):
         return tempfile.mkdtemp(prefix=name, dir=self.folder)
+
+
+def twice(work, *given):
+    """Does some work, and once more where the system broke it off: a file that another process took away, a process that didn't start."""
+    try:
+        return work(*given)
+    except OSError as error:
+        tell(f"{work.__name__} {given[0].name}: {error}: once more")
+        time.sleep(PAUSE)
+        return work(*given)
 
 
 def make_ready(ready, crate, new):
