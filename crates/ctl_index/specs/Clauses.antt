@@ -27,7 +27,9 @@ clause_atoms stanza = flat_map (λ field. flat_map (λ group. group) (groups_of 
 
 -- by stanza, then by field, then by the place of the group in it
 abbrev pub clause_cmp : ClauseKey → ClauseKey → Ordering
-clause_cmp a b = ordering_then (key_cmp a.stanza b.stanza) (ordering_then (nat_cmp (field_place a.field) (field_place b.field)) (nat_cmp a.group b.group))
+clause_cmp a b =
+    ordering_then (key_cmp a.stanza b.stanza)
+    (ordering_then (nat_cmp (field_place a.field) (field_place b.field)) (nat_cmp a.group b.group))
 
 -- the group of a stanza that a clause's key names
 abbrev pub clause_of : ClauseKey → Content → Option (List AtomParts)

@@ -18,4 +18,9 @@ pub record NameStanding : Type 0 where
 
 -- what is told of the entry of a name, or of a name that has none
 abbrev pub name_standing : Option Named → NameStanding
-name_standing entry = record { is_known = is_some entry; rows = option_map_or shown_rows entry []; offering = offering (option_map_or named_offers entry []); namers = map namer_key (option_map_or named_namers entry []) }
+name_standing entry = record {
+  is_known = is_some entry;
+  rows = option_map_or shown_rows entry [];
+  offering = offering (option_map_or named_offers entry []);
+  namers = map namer_key (option_map_or named_namers entry []);
+}

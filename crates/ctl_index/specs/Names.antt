@@ -37,9 +37,12 @@ is_package stanzas name = list_any (λ stanza. is_live stanza && bytes_eq name (
 
 -- ---- under their keys
 
+abbrev pub atom_key : StanzaKey → FieldKind → ℕ → ℕ → AtomKey
+atom_key key field group n = record { stanza = key; field = field; group = group; atom = n }
+
 abbrev pub keyed_group : StanzaKey → FieldKind → ℕ → ℕ → List AtomParts → List (AtomKey × AtomParts)
 keyed_group key field group n [] = []
-keyed_group key field group n (atom ∷ atoms) = (record { stanza = key; field = field; group = group; atom = n }, atom) ∷ keyed_group key field group (suc n) atoms
+keyed_group key field group n (atom ∷ atoms) = (atom_key key field group n, atom) ∷ keyed_group key field group (suc n) atoms
 
 abbrev pub keyed_groups : StanzaKey → FieldKind → ℕ → List (List AtomParts) → List (AtomKey × AtomParts)
 keyed_groups key field n [] = []
@@ -49,6 +52,13 @@ keyed_groups key field n (group ∷ groups) = keyed_group key field n 0 group ++
 abbrev pub keyed_atoms : Entry → List (AtomKey × AtomParts)
 keyed_atoms e = flat_map (λ field. keyed_groups e.0 field 0 (groups_of field e.1)) naming_fields
 
+-- the atoms of a stanza that name a name
+abbrev pub is_named : List ℕ → AtomKey × AtomParts → Bool
+is_named name atom = bytes_eq atom.1.name name
+
+abbrev pub namers_of : List ℕ → Entry → List AtomKey
+namers_of name e = map (λ (atom : AtomKey × AtomParts). atom.0) (filter (is_named name) (keyed_atoms e))
+
 -- the atoms that name a name, in cache order
 abbrev pub namers_named : List ℕ → List Entry → List AtomKey
-namers_named name es = flat_map (λ (e : Entry). map (λ (y : AtomKey × AtomParts). y.0) (filter (λ (y : AtomKey × AtomParts). bytes_eq y.1.name name) (keyed_atoms e))) es
+namers_named name es = flat_map (namers_of name) es

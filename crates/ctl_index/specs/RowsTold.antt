@@ -31,4 +31,7 @@ row_under key lists = option_map_or (row_of_stanza lists) (stanza_at key lists) 
 -- which of the lists that a store shows hold a stanza of a row
 abbrev pub sources_among : List StanzaKey → Lists → List (List ℕ × ListKind × ListClass) → List (List ℕ)
 sources_among keys lists [] = []
-sources_among keys lists (l ∷ shown) = if is_source l.0 lists keys then l.0 ∷ sources_among keys lists shown else sources_among keys lists shown
+sources_among keys lists (l ∷ shown) =
+    if is_source l.0 lists keys
+    then l.0 ∷ sources_among keys lists shown
+    else sources_among keys lists shown

@@ -23,6 +23,10 @@ abbrev pub entered : List (ClauseKey × ℕ) → ClauseKey → Option ℕ → Op
 entered [] k old = old
 entered (clause ∷ clauses) k old = entered clauses k (if is_eq (clause_cmp clause.0 k) then Some clause.1 else old)
 
+-- the number of a clause, once those are entered that wait
+abbrev pub told : List (ClauseKey × ℕ) → Numbers → ClauseKey → Option ℕ
+told waiting numbers k = entered waiting k (get clause_cmp numbers k)
+
 -- whether a clause stands at 0, once these clauses came in turn
 abbrev pub marked : List (ClauseKey × ℕ) → ClauseKey → Bool → Bool
 marked [] k old = old

@@ -1,5 +1,5 @@
 -- Of the tables alone: what an accepted plan makes of the stanzas under keys.
-use Rattle.std.specs.Prelude.{◌≡◌, ◌<◌, ℕ, ◌-◌, ◌^◌, true, false, List, length}
+use Rattle.std.specs.Prelude.{◌≡◌, ◌<◌, ℕ, ◌+◌, ◌-◌, ◌^◌, true, false, List, length}
 use Rattle.std.specs.List.{AllByRecursion}
 use Rattle.ctl_store.specs.Keys.{keyed_after}
 use Rattle.ctl_store.specs.Entries.{Entry, entries_of, entries_by, without_keys}
@@ -48,3 +48,6 @@ pairs_gone h plan = pairs (contents (standing h)) - pairs (contents (staying h p
 
 abbrev pub pairs_come : Held → Planned → ℕ
 pairs_come h plan = pairs (contents (standing_after h plan)) - pairs (contents (staying h plan))
+
+abbrev pub pairs_followed : Held → Planned → ℕ
+pairs_followed h plan = pairs_gone h plan + pairs_come h plan

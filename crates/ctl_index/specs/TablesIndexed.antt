@@ -2,7 +2,6 @@
 use Rattle.std.specs.Prelude.{◌≡◌, ℕ, suc, ◌+◌, List, [], ◌∷◌, Option, if◌then◌else◌}
 use Rattle.std.specs.List.{All, sum_by}
 use Rattle.std.specs.Str.{bytes_eq}
-use Rattle.std.specs.BTreeMap.{get}
 use Rattle.ctl_relation.specs.Parts.{AtomParts, OfferParts}
 use Rattle.ctl_stanza.specs.Content.{offers_of}
 use Rattle.ctl_store.specs.declared.stanza_key.StanzaKey.{StanzaKey}
@@ -11,10 +10,11 @@ use Rattle.ctl_index.specs.declared.keys.ClauseKey.{ClauseKey}
 use Rattle.ctl_index.specs.declared.keys.AtomKey.{AtomKey}
 use Rattle.ctl_index.specs.declared.keys.Namer.{Namer}
 use Rattle.ctl_index.specs.declared.keys.OfferKey.{OfferKey}
+use Rattle.ctl_index.specs.declared.span.Span.{Span}
 use Rattle.ctl_index.specs.declared.tables.Tables.{Tables}
-use Rattle.ctl_index.specs.Clauses.{clause_cmp, number_at}
+use Rattle.ctl_index.specs.Clauses.{number_at}
 use Rattle.ctl_index.specs.Names.{keyed_atoms}
-use Rattle.ctl_index.specs.TablesByName.{offers_under, namers_under}
+use Rattle.ctl_index.specs.TablesHeld.{offers_in, namers_in, number_in}
 use Rattle.ctl_index.specs.TablesFit.{IsWholeAt, AreWhole}
 use Rattle.ctl_index.specs.TablesOrder.{namer_of}
 use Rattle.ctl_index.specs.TablesRows.{AreKept, AreRowsPut, AreRowsTaken}
@@ -36,13 +36,20 @@ offer_named q f x = if bytes_eq x.1.name q then f x.0 else 0
 abbrev pub atom_named : List ℕ → (Namer → ℕ) → AtomKey × AtomParts → ℕ
 atom_named q f x = if bytes_eq x.1.name q then f (namer_of x.0 x.1) else 0
 
--- Under each name stand the keys of its offers, and of its atoms with what is kept of their bounds, each as often as it is there, in any order: any sum over
--- them is that over the stanzas. Each clause has its number, and no other key has one. The rows are those of the stanzas, and these
--- have no fault.
+-- sums over the offers of a name, or over the atoms that name it, of stanzas
+abbrev pub offers_sum : List ℕ → (OfferKey → ℕ) → List Entry → ℕ
+offers_sum q f es = sum_by (λ (e : Entry). sum_by (offer_named q f) (keyed_offers e)) es
+
+abbrev pub namers_sum : List ℕ → (Namer → ℕ) → List Entry → ℕ
+namers_sum q f es = sum_by (λ (e : Entry). sum_by (atom_named q f) (keyed_atoms e)) es
+
+-- Under each name stand the keys of its offers, and of its atoms with what is kept of their bounds, each as often as it is there, in
+-- any order: any sum over them is that over the stanzas. Each clause has its number, and no other key has one. The rows are those of
+-- the stanzas, and these have no fault.
 pub record IsIndexed (es : List Entry) (t : Tables) : Type 0 where
-  pub offers : (q : List ℕ) (f : OfferKey → ℕ) → sum_by f (offers_under t.names.map q) ≡ sum_by (λ (e : Entry). sum_by (offer_named q f) (keyed_offers e)) es
-  pub namers : (q : List ℕ) (f : Namer → ℕ) → sum_by f (namers_under t.names.map q) ≡ sum_by (λ (e : Entry). sum_by (atom_named q f) (keyed_atoms e)) es
-  pub counters : (k : ClauseKey) → get clause_cmp t.counters.numbers k ≡ number_at k es
+  pub offers : (q : List ℕ) (f : OfferKey → ℕ) → sum_by f (offers_in t q) ≡ offers_sum q f es
+  pub namers : (q : List ℕ) (f : Namer → ℕ) → sum_by f (namers_in t q) ≡ namers_sum q f es
+  pub counters : (k : ClauseKey) → number_in t k ≡ number_at k es
   pub rows : AreKept es t.names.map
   pub whole : AreWhole es
 
@@ -50,44 +57,67 @@ pub record IsIndexed (es : List Entry) (t : Tables) : Type 0 where
 
 -- what stands under a name once they came
 abbrev pub offers_put : Seen → List StanzaKey → Tables → List ℕ → List OfferKey
-offers_put s keys old q = with_each (seen s) (put_offers_step q) keys (offers_under old.names.map q)
+offers_put s keys old q = with_each (seen s) (put_offers_step q) keys (offers_in old q)
 
 abbrev pub namers_put : Seen → List StanzaKey → Tables → List ℕ → List Namer
-namers_put s keys old q = with_each (seen s) (put_atoms_step q) keys (namers_under old.names.map q)
+namers_put s keys old q = with_each (seen s) (put_atoms_step q) keys (namers_in old q)
 
--- the number of a clause: that of one that stood is raised, and those that come have theirs
+-- the number of a clause that stood, once offers came that meet its atoms
+abbrev pub number_raised : Seen → List StanzaKey → Tables → ClauseKey → Option ℕ
+number_raised s keys old k = with_each (seen s) (raise_step s (namers_in old) k) keys (number_in old k)
+
+-- that of a clause, once those came that have their number by these offers
+abbrev pub number_entered : Seen → (List ℕ → List OfferKey) → List StanzaKey → ClauseKey → Option ℕ → Option ℕ
+number_entered s offers keys k old = with_each (seen s) (enter_step s offers k) keys old
+
+-- that of one that stood is raised, and those that come have theirs
 abbrev pub number_put : Seen → List StanzaKey → Tables → ClauseKey → Option ℕ
-number_put s keys old k = with_each (seen s) (enter_step s (offers_put s keys old) k) keys (with_each (seen s) (raise_step s (namers_under old.names.map) k) keys (get clause_cmp old.counters.numbers k))
+number_put s keys old k = number_entered s (offers_put s keys old) keys k (number_raised s keys old k)
 
 pub record IsPutIn (s : Seen) (keys : List StanzaKey) (old new : Tables) : Type 0 where
-  pub offers : (q : List ℕ) → offers_under new.names.map q ≡ offers_put s keys old q
-  pub namers : (q : List ℕ) → namers_under new.names.map q ≡ namers_put s keys old q
-  pub counters : (k : ClauseKey) → get clause_cmp new.counters.numbers k ≡ number_put s keys old k
+  pub offers : (q : List ℕ) → offers_in new q ≡ offers_put s keys old q
+  pub namers : (q : List ℕ) → namers_in new q ≡ namers_put s keys old q
+  pub counters : (k : ClauseKey) → number_in new k ≡ number_put s keys old k
   pub rows : AreRowsPut s keys old.names.map new.names.map
   pub whole : All (IsWholeAt (seen s)) keys
 
 -- how many tests are made
 abbrev pub tests_put_in : Seen → List StanzaKey → Tables → ℕ
-tests_put_in s keys old = offers_tested s (namers_under old.names.map) keys + atoms_tested s (offers_put s keys old) keys
+tests_put_in s keys old = offers_tested s (namers_in old) keys + atoms_tested s (offers_put s keys old) keys
 
 -- ---- stanzas that go
 
--- what stands under a name once they went
+-- what stands under a name once stanzas of a span went
+abbrev pub offers_left : Seen → Span → List StanzaKey → Tables → List ℕ → List OfferKey
+offers_left s span keys old q = with_each (seen s) (take_offers_step span q) keys (offers_in old q)
+
+abbrev pub namers_left : Seen → Span → List StanzaKey → Tables → List ℕ → List Namer
+namers_left s span keys old q = with_each (seen s) (take_atoms_step span q) keys (namers_in old q)
+
+-- once all of their span went
 abbrev pub offers_taken : Seen → List StanzaKey → Tables → List ℕ → List OfferKey
-offers_taken s keys old q = with_each (seen s) (take_offers_step (span_of keys) q) keys (offers_under old.names.map q)
+offers_taken s keys old q = offers_left s (span_of keys) keys old q
 
 abbrev pub namers_taken : Seen → List StanzaKey → Tables → List ℕ → List Namer
-namers_taken s keys old q = with_each (seen s) (take_atoms_step (span_of keys) q) keys (namers_under old.names.map q)
+namers_taken s keys old q = namers_left s (span_of keys) keys old q
+
+-- the number of a clause that stays, once offers went that met its atoms
+abbrev pub number_lowered : Seen → List StanzaKey → Tables → ClauseKey → Option ℕ
+number_lowered s keys old k = with_each (seen s) (lower_step s (namers_in old) k) keys (number_in old k)
+
+-- that of one that is no clause of theirs
+abbrev pub number_dropped : Seen → List StanzaKey → Tables → ClauseKey → Option ℕ
+number_dropped s keys old k = with_each (seen s) (drop_step k) keys (number_in old k)
 
 -- the number of a clause: those of theirs go, and that of one that stays is lowered
 abbrev pub number_taken : Seen → List StanzaKey → Tables → ClauseKey → Option ℕ
-number_taken s keys old k = with_each (seen s) (lower_step s (namers_taken s keys old) k) keys (with_each (seen s) (drop_step k) keys (get clause_cmp old.counters.numbers k))
+number_taken s keys old k = with_each (seen s) (lower_step s (namers_taken s keys old) k) keys (number_dropped s keys old k)
 
 pub record IsTakenOut (s : Seen) (keys : List StanzaKey) (old new : Tables) : Type 0 where
-  pub offers : (q : List ℕ) → offers_under new.names.map q ≡ offers_taken s keys old q
-  pub namers : (q : List ℕ) → namers_under new.names.map q ≡ namers_taken s keys old q
-  pub counters : (k : ClauseKey) → get clause_cmp new.counters.numbers k ≡ number_taken s keys old k
+  pub offers : (q : List ℕ) → offers_in new q ≡ offers_taken s keys old q
+  pub namers : (q : List ℕ) → namers_in new q ≡ namers_taken s keys old q
+  pub counters : (k : ClauseKey) → number_in new k ≡ number_taken s keys old k
   pub rows : AreRowsTaken s keys old.names.map new.names.map
 
 abbrev pub tests_taken_out : Seen → List StanzaKey → Tables → ℕ
-tests_taken_out s keys old = atoms_tested s (offers_under old.names.map) keys + offers_tested s (namers_taken s keys old) keys
+tests_taken_out s keys old = atoms_tested s (offers_in old) keys + offers_tested s (namers_taken s keys old) keys

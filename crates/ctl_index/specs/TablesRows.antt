@@ -1,5 +1,5 @@
 -- Of the tables alone: the rows under the names follow stanzas that come and go.
-use Rattle.std.specs.Prelude.{◌≡◌, ℕ, List}
+use Rattle.std.specs.Prelude.{◌≡◌, ℕ, List, Option}
 use Rattle.ctl_store.specs.declared.stanza_key.StanzaKey.{StanzaKey}
 use Rattle.ctl_store.specs.Entries.{Entry, entries_by}
 use Rattle.ctl_store.specs.Followed.{under, AreApart}
@@ -13,20 +13,29 @@ use Rattle.ctl_index.specs.TablesSteps.{with_each, put_rows_step, take_rows_step
 abbrev pub AreKept : List Entry → NameMap → Type 0
 AreKept es m = IsKept (rows_under m) (λ k. under k es)
 
+-- the row of a version of a name, with those of these keys, and without them
+abbrev pub row_put : Seen → List StanzaKey → NameMap → List ℕ → List ℕ → Option (List StanzaKey)
+row_put s keys old q version = with_each (seen s) (put_rows_step q version) keys (row_under old q version)
+
+abbrev pub row_taken : Seen → List StanzaKey → NameMap → List ℕ → List ℕ → Option (List StanzaKey)
+row_taken s keys old q version = with_each (seen s) (take_rows_step q version) keys (row_under old q version)
+
 -- each row is what it was with those of these keys, or without them
 abbrev pub AreRowsPut : Seen → List StanzaKey → NameMap → NameMap → Type 0
-AreRowsPut s keys old new = (q : List ℕ) → (version : List ℕ) → row_under new q version ≡ with_each (seen s) (put_rows_step q version) keys (row_under old q version)
+AreRowsPut s keys old new = (q : List ℕ) → (version : List ℕ) → row_under new q version ≡ row_put s keys old q version
 
 abbrev pub AreRowsTaken : Seen → List StanzaKey → NameMap → NameMap → Type 0
-AreRowsTaken s keys old new = (q : List ℕ) → (version : List ℕ) → row_under new q version ≡ with_each (seen s) (take_rows_step q version) keys (row_under old q version)
+AreRowsTaken s keys old new = (q : List ℕ) → (version : List ℕ) → row_under new q version ≡ row_taken s keys old q version
 
 -- rows that were put so are those of the stanzas with those that came, and rows that were taken so are those of the stanzas that stay
 abbrev pub RowsCome : Type 0
 RowsCome =
     (s : Seen) → (keys : List StanzaKey) → (all : List Entry) → (rest : List Entry) → (old : NameMap) → (new : NameMap)
-    → IsJoined all rest (entries_by (seen s) keys) → AreApart (entries_by (seen s) keys) → AreKept rest old → AreRowsPut s keys old new → AreKept all new
+    → IsJoined all rest (entries_by (seen s) keys) → AreApart (entries_by (seen s) keys)
+    → AreKept rest old → AreRowsPut s keys old new → AreKept all new
 
 abbrev pub RowsGo : Type 0
 RowsGo =
     (s : Seen) → (keys : List StanzaKey) → (all : List Entry) → (rest : List Entry) → (old : NameMap) → (new : NameMap)
-    → IsJoined all rest (entries_by (seen s) keys) → AreApart (entries_by (seen s) keys) → AreKept all old → AreRowsTaken s keys old new → AreKept rest new
+    → IsJoined all rest (entries_by (seen s) keys) → AreApart (entries_by (seen s) keys)
+    → AreKept all old → AreRowsTaken s keys old new → AreKept rest new

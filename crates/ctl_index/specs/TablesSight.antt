@@ -1,5 +1,5 @@
 -- Of the tables alone: which stanza stands under a key while an edit is followed. One that comes with a plan, else one of the store.
-use Rattle.std.specs.Prelude.{ℕ, ◌&&◌, ◌≡◌, List, slice_get, Option, None, Some, if◌then◌else◌}
+use Rattle.std.specs.Prelude.{ℕ, Bool, ◌&&◌, ◌≡◌, List, slice_get, Option, None, Some, if◌then◌else◌}
 use Rattle.std.specs.List.{sum_by, AllByRecursion}
 use Rattle.ctl_relation.specs.declared.field_kind.FieldKind.{FieldKind}
 use Rattle.std.specs.Option.{option_and_then, option_map, option_map_or, option_or}
@@ -25,14 +25,22 @@ pub record Seen : Type 0 where
   pub store : Held
   pub plan : Option Planned
 
+-- the stanza that comes with a plan under a key, if there is one
+abbrev pub come_with : Option Planned → StanzaKey → Option Content
+come_with plan k = option_and_then (λ (p : Planned). coming_under p.added p.edit k) plan
+
 abbrev pub seen : Seen → StanzaKey → Option Content
-seen s k = option_or (option_and_then (λ (plan : Planned). coming_under plan.added plan.edit k) s.plan) (stanza_at k (keyed_of s.store).lists)
+seen s k = option_or (come_with s.plan k) (stanza_at k (keyed_of s.store).lists)
 
 abbrev pub offer_seen : Seen → OfferKey → Option OfferParts
 offer_seen s k = option_and_then (λ x. slice_get (offers_of x) k.place) (seen s k.stanza)
 
+-- the atom of a stanza that its key names
+abbrev pub atom_in : AtomKey → Content → Option AtomParts
+atom_in k x = option_and_then (λ group. slice_get group k.atom) (slice_get (groups_of k.field x) k.group)
+
 abbrev pub atom_seen : Seen → AtomKey → Option AtomParts
-atom_seen s k = option_and_then (λ x. option_and_then (λ group. slice_get group k.atom) (slice_get (groups_of k.field x) k.group)) (seen s k.stanza)
+atom_seen s k = option_and_then (atom_in k) (seen s k.stanza)
 
 -- whether an offer under a key meets the atom, and whether it is tested, as numbers
 abbrev pub met_by : Seen → AtomParts → OfferKey → ℕ
@@ -56,9 +64,15 @@ clause_key k = record { stanza = k.stanza; field = k.field; group = k.group }
 abbrev pub atom_told : Seen → List ℕ → Namer → Option AtomParts
 atom_told s name namer = option_or (option_map (with_bound name) namer.bound) (atom_seen s (namer_key namer))
 
+-- whether a namer is one of a clause
+abbrev pub is_namer_of : ClauseKey → Namer → Bool
+is_namer_of k namer = is_eq (clause_cmp (clause_key (namer_key namer)) k)
+
 -- whether the atom of a namer is of the clause and met by the offer, and whether it is tested against offers of this name, as numbers
 abbrev pub hit : Seen → OfferParts → ClauseKey → Namer → ℕ
-hit s offer k namer = option_map_or (λ atom. if (is_clause_field namer.field && met atom offer) && is_eq (clause_cmp (clause_key (namer_key namer)) k) then 1 else 0) (atom_told s offer.name namer) 0
+hit s offer k namer =
+    option_map_or (λ atom. if (is_clause_field namer.field && met atom offer) && is_namer_of k namer then 1 else 0)
+    (atom_told s offer.name namer) 0
 
 abbrev pub tested : Seen → List ℕ → Namer → ℕ
 tested s name namer = option_map_or (λ (atom : AtomParts). if is_clause_field namer.field then 1 else 0) (atom_told s name namer) 0

@@ -11,6 +11,7 @@ use Rattle.ctl_store.specs.declared.stanza_key.StanzaKey.{StanzaKey}
 use Rattle.ctl_store.specs.Keys.{key_of}
 use Rattle.ctl_policy.specs.Keys.{with_key, without_key, or_none, some_keys}
 use Rattle.ctl_policy.specs.Rows.{is_in_row}
+use Rattle.ctl_index.specs.declared.keys.AtomKey.{AtomKey}
 use Rattle.ctl_index.specs.declared.keys.ClauseKey.{ClauseKey}
 use Rattle.ctl_index.specs.declared.keys.Namer.{Namer}
 use Rattle.ctl_index.specs.declared.keys.OfferKey.{OfferKey}
@@ -18,18 +19,28 @@ use Rattle.ctl_index.specs.declared.span.Span.{Span}
 use Rattle.ctl_index.specs.TablesCounters.{counted_up}
 use Rattle.ctl_index.specs.TablesOrder.{offer_stanza, namer_of, namer_stanza, put_in_order, others}
 use Rattle.ctl_index.specs.Clauses.{is_clause_field, clause_cmp}
-use Rattle.ctl_index.specs.Names.{naming_fields}
+use Rattle.ctl_index.specs.Names.{atom_key, naming_fields}
 use Rattle.ctl_index.specs.TablesSight.{Seen, seen, hit, tested, atom_met, atom_tested}
 
 -- ---- what comes under a name q
 
+abbrev pub with_offer : OfferKey → List ℕ → OfferParts → List OfferKey → List OfferKey
+with_offer key q offer xs = if bytes_eq offer.name q then put_in_order offer_stanza key xs else xs
+
+abbrev pub with_atom : AtomKey → List ℕ → AtomParts → List Namer → List Namer
+with_atom key q atom xs = if bytes_eq atom.name q then put_in_order namer_stanza (namer_of key atom) xs else xs
+
+abbrev pub offer_key : StanzaKey → ℕ → OfferKey
+offer_key key n = record { stanza = key; place = n }
+
 abbrev pub listed_offers : StanzaKey → List ℕ → ℕ → List OfferParts → List OfferKey → List OfferKey
 listed_offers key q n [] xs = xs
-listed_offers key q n (offer ∷ offers) xs = listed_offers key q (suc n) offers (if bytes_eq offer.name q then put_in_order offer_stanza (record { stanza = key; place = n }) xs else xs)
+listed_offers key q n (offer ∷ offers) xs = listed_offers key q (suc n) offers (with_offer (offer_key key n) q offer xs)
 
 abbrev pub listed_group : StanzaKey → FieldKind → ℕ → List ℕ → ℕ → List AtomParts → List Namer → List Namer
 listed_group key field group q n [] xs = xs
-listed_group key field group q n (atom ∷ atoms) xs = listed_group key field group q (suc n) atoms (if bytes_eq atom.name q then put_in_order namer_stanza (namer_of (record { stanza = key; field = field; group = group; atom = n }) atom) xs else xs)
+listed_group key field group q n (atom ∷ atoms) xs =
+    listed_group key field group q (suc n) atoms (with_atom (atom_key key field group n) q atom xs)
 
 abbrev pub listed_groups : StanzaKey → FieldKind → List ℕ → ℕ → List (List AtomParts) → List Namer → List Namer
 listed_groups key field q n [] xs = xs
@@ -59,6 +70,10 @@ left_fields span stanza q (field ∷ fields) xs = left_fields span stanza q fiel
 
 -- ---- the counters, where these offers stand under the names
 
+-- the offers of each name
+abbrev pub OffersByName : Type 0
+OffersByName = List ℕ → List OfferKey
+
 -- how many offers meet the atoms of a group, and how many are tested
 abbrev pub group_met : Seen → FieldKind → (List ℕ → List OfferKey) → List AtomParts → ℕ
 group_met s field offers group = sum_by (λ (atom : AtomParts). atom_met s field atom (offers atom.name)) group
@@ -76,34 +91,57 @@ fields_tested s offers fields stanza = sum_by (λ field. groups_tested s field o
 abbrev pub is_clause : ClauseKey → ClauseKey → Bool
 is_clause group k = is_clause_field group.field && is_eq (clause_cmp group k)
 
-abbrev pub entered_groups : Seen → (List ℕ → List OfferKey) → StanzaKey → FieldKind → ℕ → List (List AtomParts) → ClauseKey → Option ℕ → Option ℕ
+abbrev pub group_clause : StanzaKey → FieldKind → ℕ → ClauseKey
+group_clause key field n = record { stanza = key; field = field; group = n }
+
+-- the number of a clause, once a group came with its own, or went
+abbrev pub with_number : ClauseKey → ℕ → ClauseKey → Option ℕ → Option ℕ
+with_number group n k old = if is_clause group k then Some n else old
+
+abbrev pub without_number : ClauseKey → ClauseKey → Option ℕ → Option ℕ
+without_number group k old = if is_clause group k then None else old
+
+abbrev pub entered_groups : Seen → OffersByName → StanzaKey → FieldKind → ℕ → List (List AtomParts) → ClauseKey → Option ℕ → Option ℕ
 entered_groups s offers key field n [] k old = old
-entered_groups s offers key field n (group ∷ groups) k old = entered_groups s offers key field (suc n) groups k (if is_clause (record { stanza = key; field = field; group = n }) k then Some (group_met s field offers group) else old)
+entered_groups s offers key field n (group ∷ groups) k old =
+    entered_groups s offers key field (suc n) groups k
+    (with_number (group_clause key field n) (group_met s field offers group) k old)
 
 abbrev pub entered_fields : Seen → (List ℕ → List OfferKey) → StanzaKey → Content → List FieldKind → ClauseKey → Option ℕ → Option ℕ
 entered_fields s offers key stanza [] k old = old
-entered_fields s offers key stanza (field ∷ fields) k old = entered_fields s offers key stanza fields k (entered_groups s offers key field 0 (groups_of field stanza) k old)
+entered_fields s offers key stanza (field ∷ fields) k old =
+    entered_fields s offers key stanza fields k (entered_groups s offers key field 0 (groups_of field stanza) k old)
 
 abbrev pub dropped_groups : StanzaKey → FieldKind → ℕ → List (List AtomParts) → ClauseKey → Option ℕ → Option ℕ
 dropped_groups key field n [] k old = old
-dropped_groups key field n (group ∷ groups) k old = dropped_groups key field (suc n) groups k (if is_clause (record { stanza = key; field = field; group = n }) k then None else old)
+dropped_groups key field n (group ∷ groups) k old =
+    dropped_groups key field (suc n) groups k (without_number (group_clause key field n) k old)
 
 abbrev pub dropped_fields : StanzaKey → Content → List FieldKind → ClauseKey → Option ℕ → Option ℕ
 dropped_fields key stanza [] k old = old
-dropped_fields key stanza (field ∷ fields) k old = dropped_fields key stanza fields k (dropped_groups key field 0 (groups_of field stanza) k old)
+dropped_fields key stanza (field ∷ fields) k old =
+    dropped_fields key stanza fields k (dropped_groups key field 0 (groups_of field stanza) k old)
 
 -- ---- the counters, where offers come or go and these namers stand under the names
 
+-- how many of the atoms that name an offer meet it, and are of a clause
+abbrev pub offer_hits : Seen → (List ℕ → List Namer) → OfferParts → ClauseKey → ℕ
+offer_hits s namers offer k = sum_by (hit s offer k) (namers offer.name)
+
 abbrev pub raised : Seen → (List ℕ → List Namer) → List OfferParts → ClauseKey → Option ℕ → Option ℕ
 raised s namers [] k old = old
-raised s namers (offer ∷ offers) k old = raised s namers offers k (option_map (counted_up (sum_by (hit s offer k) (namers offer.name))) old)
+raised s namers (offer ∷ offers) k old = raised s namers offers k (option_map (counted_up (offer_hits s namers offer k)) old)
 
 abbrev pub lowered : Seen → (List ℕ → List Namer) → List OfferParts → ClauseKey → Option ℕ → Option ℕ
 lowered s namers [] k old = old
-lowered s namers (offer ∷ offers) k old = lowered s namers offers k (option_map (λ n. n - sum_by (hit s offer k) (namers offer.name)) old)
+lowered s namers (offer ∷ offers) k old = lowered s namers offers k (option_map (λ n. n - offer_hits s namers offer k) old)
+
+-- how many tests an offer makes, and how many several make
+abbrev pub offer_tested : Seen → (List ℕ → List Namer) → OfferParts → ℕ
+offer_tested s namers offer = sum_by (tested s offer.name) (namers offer.name)
 
 abbrev pub all_tested : Seen → (List ℕ → List Namer) → List OfferParts → ℕ
-all_tested s namers offers = sum_by (λ (offer : OfferParts). sum_by (tested s offer.name) (namers offer.name)) offers
+all_tested s namers offers = sum_by (offer_tested s namers) offers
 
 -- ---- several stanzas
 
@@ -151,15 +189,21 @@ enter_step s offers k key x old = entered_fields s offers key x naming_fields k 
 abbrev pub drop_step : ClauseKey → StanzaKey → Content → Option ℕ → Option ℕ
 drop_step k key x old = dropped_fields key x naming_fields k old
 
--- how many tests the offers, or the atoms, of these stanzas make
+-- how many tests the offers, or the atoms, of a stanza make, and those of several
 abbrev pub offers_tests : Seen → (List ℕ → List Namer) → Content → ℕ
 offers_tests s namers x = all_tested s namers (offers_of x)
 
+abbrev pub offers_tested_at : Seen → (List ℕ → List Namer) → StanzaKey → ℕ
+offers_tested_at s namers key = of_found (seen s) (offers_tests s namers) key
+
+abbrev pub atoms_tested_at : Seen → (List ℕ → List OfferKey) → StanzaKey → ℕ
+atoms_tested_at s offers key = of_found (seen s) (fields_tested s offers naming_fields) key
+
 abbrev pub offers_tested : Seen → (List ℕ → List Namer) → List StanzaKey → ℕ
-offers_tested s namers keys = sum_by (of_found (seen s) (offers_tests s namers)) keys
+offers_tested s namers keys = sum_by (offers_tested_at s namers) keys
 
 abbrev pub atoms_tested : Seen → (List ℕ → List OfferKey) → List StanzaKey → ℕ
-atoms_tested s offers keys = sum_by (of_found (seen s) (fields_tested s offers naming_fields)) keys
+atoms_tested s offers keys = sum_by (atoms_tested_at s offers) keys
 
 -- ---- the span of keys
 

@@ -27,9 +27,13 @@ stanzas_of_state s = stanzas_in_order s.lists
 abbrev pub stanzas_that_stay : State → Edit → List Content
 stanzas_that_stay s edit = stanzas_in_order (lists_between s.lists edit)
 
+-- how many pairs of a state are not pairs of what an edit leaves
+abbrev pub pairs_beyond : State → State → Edit → ℕ
+pairs_beyond whole s edit = pairs (stanzas_of_state whole) - pairs (stanzas_that_stay s edit)
+
 -- The work of an edit: the pairs before it and after it that are not pairs of what stays.
 abbrev pub work : State → Edit → ℕ
-work s edit = (pairs (stanzas_of_state s) - pairs (stanzas_that_stay s edit)) + (pairs (stanzas_of_state (after s edit)) - pairs (stanzas_that_stay s edit))
+work s edit = pairs_beyond s s edit + pairs_beyond (after s edit) s edit
 
 -- n tests more, up to the last value of a u128, where the count stays
 abbrev pub more_by : ℕ → ℕ → ℕ

@@ -1,21 +1,24 @@
 //! The number of each clause, and the clauses at 0.
 
-ghost use Rattle.std.specs.Prelude.{◌≡◌, ◌-◌, ℕ, None, true, false, OnOk, OnErr, option_map, if◌then◌else◌};
+ghost use Rattle.std.specs.Prelude.{◌≡◌, ◌-◌, ℕ, None, Some, true, false, OnOk, OnErr, option_map, if◌then◌else◌};
 ghost use Rattle.std.specs.BTreeMap.{get, IsEmpty};
 ghost use Rattle.std.specs.BTreeSet.{contains};
 ghost use Rattle.std.specs.Ordering.{is_eq};
 ghost use Rattle.ctl_index.specs.Clauses.{clause_cmp};
-ghost use Rattle.ctl_index.specs.TablesCounters.{AreUnmet, counted_up, entered, marked};
+ghost use Rattle.ctl_index.specs.TablesCounters.{AreUnmet, counted_up, entered, marked, told};
 
 use crate::keys::ClauseKey;
 use std::alloc::{AllocError, Global};
 use std::collections::{BTreeMap, BTreeSet};
+use std::mem;
 
-/// The number of each clause, with those at 0 beside.
+/// The number of each clause, with those at 0 beside, and the clauses that wait to be entered, each with its number.
 #[derive(Drop)]
 pub(crate) struct Counters {
+    alloc: Global,
     numbers: BTreeMap<ClauseKey, u128>,
     unmet: BTreeSet<ClauseKey>,
+    waiting: Vec<(ClauseKey, u128)>,
     ghost at_zero: { AreUnmet numbers unmet },
 }
 
@@ -133,8 +136,10 @@ impl Counters {
         ensures { IsEmpty result.numbers }
     {
         Counters {
+            alloc,
             numbers: BTreeMap::new(alloc),
             unmet: BTreeSet::new(alloc),
+            waiting: Vec::new(alloc),
         }
     }
 
@@ -159,18 +164,31 @@ impl Counters {
         &self.unmet
     }
 
-    /// These clauses come, each with its number. They come together, since a tree that is made of many keys at once has full
-    /// nodes, while one to which keys come one by one in their order has nodes that are half empty. Where memory is refused, no
-    /// clause is left.
-    pub(crate) fn enter(
-        &mut self,
-        alloc: Global,
-        clauses: Vec<(ClauseKey, u128)>,
-    ) -> Result<(), AllocError>
-        ensures { OnOk result ((k : ClauseKey) → get clause_cmp self.new.numbers k
-            ≡ entered clauses.items k (get clause_cmp self.old.numbers k)) }
+    /// None waits to be entered from now on.
+    pub(crate) fn let_none_wait(&mut self)
+        ensures { (k : ClauseKey) → told self.new.waiting.items self.new.numbers k ≡ get clause_cmp self.old.numbers k }
     {
-        enter_all(alloc, clauses, &mut self.numbers, &mut self.unmet)
+        self.waiting.clear();
+    }
+
+    /// A clause comes to those that wait to be entered.
+    #[tactic(auto, using(crate::proofs::CounterLemmas::entered_push))]
+    pub(crate) fn wait(&mut self, clause: ClauseKey, number: u128) -> Result<(), AllocError>
+        ensures { OnOk result ((k : ClauseKey) → told self.new.waiting.items self.new.numbers k
+            ≡ (if is_eq (clause_cmp clause k) then Some number else told self.old.waiting.items self.old.numbers k)) }
+    {
+        self.waiting.push((clause, number))?;
+        Ok(())
+    }
+
+    /// Those that wait are entered. They come together, since a tree that is made of many keys at once has full nodes, while one to
+    /// which keys come one by one in their order has nodes that are half empty. Where memory is refused, no clause is left.
+    pub(crate) fn enter_waiting(&mut self) -> Result<(), AllocError>
+        ensures { OnOk result ((k : ClauseKey) → get clause_cmp self.new.numbers k
+            ≡ told self.old.waiting.items self.old.numbers k) }
+    {
+        let clauses = mem::replace(&mut self.waiting, Vec::new(self.alloc));
+        enter_all(self.alloc, clauses, &mut self.numbers, &mut self.unmet)
     }
 
     /// The clause goes.

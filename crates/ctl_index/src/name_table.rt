@@ -10,24 +10,23 @@ ghost use Rattle.std.specs.List.Sorted.{IsStrictlySortedBy};
 ghost use Rattle.std.specs.Str.{bytes_eq};
 ghost use Rattle.ctl_policy.specs.Kept.{HasPut, HasTaken, OthersStay};
 ghost use Rattle.ctl_index.specs.Clauses.{clause_cmp};
-ghost use Rattle.ctl_index.specs.TablesByName.{at_name, HoldsNothing, offers_under, namers_under, rows_under, AreUsed, is_used, named_offers, named_namers, named_rows};
-ghost use Rattle.ctl_index.specs.TablesCounters.{counted_up};
-ghost use Rattle.ctl_index.specs.TablesSight.{hit, tested, atom_met, atom_tested};
+ghost use Rattle.ctl_index.specs.TablesByName.{at_name, HoldsNothing, offers_under, namers_under, rows_under, AreUsed, is_used, named_namers, named_offers, named_rows, namers_with, namers_without, offers_with, offers_without};
+ghost use Rattle.ctl_index.specs.TablesSight.{atom_met, atom_tested};
 ghost use Rattle.ctl_index.specs.NameMap.{entry_names, found_in};
 ghost use Rattle.ctl_index.specs.TablesViews.{AreFrom};
-ghost use Rattle.ctl_index.specs.TablesOrder.{others, offer_stanza, put_in_order, namer_of, namer_stanza};
+ghost use Rattle.ctl_index.specs.TablesOrder.{namer_of};
+ghost use Rattle.ctl_index.specs.TablesSteps.{lowered, offer_tested, raised};
 ghost use Rattle.ctl_index.specs.Work.{more_by};
 ghost use Rattle.ctl_index.specs.declared.keys.ClauseKey.{ClauseKey};
 
 use crate::counters::Counters;
 use crate::counting::{count_tested, meet, part};
 use crate::key_list::KeyList;
-use crate::keys::{AtomKey, Namer, OfferKey};
+use crate::keys::{AtomKey, KeyedOffer, Namer, OfferKey};
 use crate::name_entries::NameEntries;
 use crate::name_map::NameMap;
 use crate::named::{Named, is_used};
-use crate::sight::Sight;
-use crate::span::Span;
+use crate::sight::{Going, Sight};
 use ctl_policy::Rows;
 use ctl_relation::{Atom, FieldKind, Offer, Steps, Version};
 use ctl_store::StanzaKey;
@@ -36,6 +35,7 @@ use std::alloc::{AllocError, Global};
 /// The offers, the namers and the rows of each name, names under which nothing stands left out.
 #[derive(Drop)]
 pub(crate) struct NameTable {
+    alloc: Global,
     map: NameMap,
     ghost used: { AreUsed map },
 }
@@ -46,6 +46,7 @@ impl NameTable {
         ensures { HoldsNothing result.map }
     {
         NameTable {
+            alloc,
             map: NameMap::new(alloc),
         }
     }
@@ -118,7 +119,7 @@ impl NameTable {
     }
 
     // What stands under a name that isn't there yet.
-    fn insert(&mut self, alloc: Global, name: &[u8], named: Named) -> Result<(), AllocError>
+    fn insert(&mut self, name: &[u8], named: Named) -> Result<(), AllocError>
         requires { is_used named ≡ true }
         ensures offers { OnOk result ((q : List ℕ) → offers_under self.new.map q
             ≡ (if bytes_eq name.now q then named_offers named else offers_under self.old.map q)) }
@@ -127,47 +128,48 @@ impl NameTable {
         ensures rows { OnOk result ((q : List ℕ) → rows_under self.new.map q
             ≡ (if bytes_eq name.now q then named_rows named else rows_under self.old.map q)) }
     {
-        self.map.insert(alloc, name, named)
+        self.map.insert(self.alloc, name, named)
     }
 
     /// An offer comes: it is listed, and tested against the clauses that name it.
     pub(crate) fn put_offer(
         &mut self,
-        alloc: Global,
         sight: &Sight<'_>,
-        key: OfferKey,
-        offer: &Offer,
+        coming: KeyedOffer<'_>,
         counters: &mut Counters,
         steps: &mut Steps,
     ) -> Result<(), AllocError>
         ensures offers { OnOk result ((q : List ℕ) → offers_under self.new.map q
-            ≡ (if bytes_eq offer.now.name q then put_in_order offer_stanza key
-            (offers_under self.old.map q) else offers_under self.old.map q)) }
+            ≡ offers_with self.old.map coming.entry.offer.now.name coming.entry.key q) }
         ensures namers { OnOk result ((q : List ℕ) → namers_under self.new.map q ≡ namers_under self.old.map q) }
         ensures rows { OnOk result ((q : List ℕ) → rows_under self.new.map q ≡ rows_under self.old.map q) }
         ensures counts { OnOk result ((k : ClauseKey) → get clause_cmp counters.new.numbers k
-            ≡ option_map (counted_up (sum_by (hit sight.now offer.now k)
-            (namers_under self.old.map offer.now.name))) (get clause_cmp counters.old.numbers k)) }
+            ≡ raised sight.now (namers_under self.old.map) (coming.entry.offer.now ∷ []) k (get clause_cmp counters.old.numbers k)) }
         ensures steps { OnOk result (steps.new
-            ≡ more_by (sum_by (tested sight.now offer.now.name)
-            (namers_under self.old.map offer.now.name)) steps.old) }
-        ensures most { steps.new ≤ more_by (sum_by (tested sight.now offer.now.name) (namers_under self.old.map offer.now.name)) steps.old }
+            ≡ more_by (offer_tested sight.now (namers_under self.old.map) coming.entry.offer.now) steps.old) }
+        ensures most { steps.new ≤ more_by (offer_tested sight.now (namers_under self.old.map) coming.entry.offer.now) steps.old }
         ensures least { steps.old ≤ steps.new }
     {
         let _count = steps.count();
-        match self.map.get_mut(offer.name()) {
+        match self.map.get_mut(coming.offer.name()) {
             Some(named) => {
-                named.offers.put(key)?;
-                meet(sight, offer, named.namers.as_slice(), counters, steps);
+                named.offers.put(coming.key)?;
+                meet(
+                    sight,
+                    coming.offer,
+                    named.namers.as_slice(),
+                    counters,
+                    steps,
+                );
                 Ok(())
             }
             None => {
                 let named = Named {
-                    offers: KeyList::of_one(alloc, key)?,
-                    namers: KeyList::new(alloc),
-                    rows: Rows::new(alloc),
+                    offers: KeyList::of_one(self.alloc, coming.key)?,
+                    namers: KeyList::new(self.alloc),
+                    rows: Rows::new(self.alloc),
                 };
-                self.insert(alloc, offer.name(), named)
+                self.insert(coming.offer.name(), named)
             }
         }
     }
@@ -176,15 +178,13 @@ impl NameTable {
     /// many meet it.
     pub(crate) fn put_atom(
         &mut self,
-        alloc: Global,
         sight: &Sight<'_>,
         key: AtomKey,
         atom: &Atom<'_>,
         steps: &mut Steps,
     ) -> Result<usize, AllocError>
         ensures namers { OnOk result ((q : List ℕ) → namers_under self.new.map q
-            ≡ (if bytes_eq atom.now.name q then put_in_order namer_stanza (namer_of key atom.now)
-            (namers_under self.old.map q) else namers_under self.old.map q)) }
+            ≡ namers_with self.old.map atom.now.name (namer_of key atom.now) q) }
         ensures offers { OnOk result ((q : List ℕ) → offers_under self.new.map q ≡ offers_under self.old.map q) }
         ensures rows { OnOk result ((q : List ℕ) → rows_under self.new.map q ≡ rows_under self.old.map q) }
         ensures met { IfOk result (λ met. met ≡ atom_met sight.now key.field atom.now (offers_under self.old.map atom.now.name)) }
@@ -202,11 +202,11 @@ impl NameTable {
             }
             None => {
                 let named = Named {
-                    offers: KeyList::new(alloc),
-                    namers: KeyList::of_one(alloc, Namer::new(key, atom))?,
-                    rows: Rows::new(alloc),
+                    offers: KeyList::new(self.alloc),
+                    namers: KeyList::of_one(self.alloc, Namer::new(key, atom))?,
+                    rows: Rows::new(self.alloc),
                 };
-                self.insert(alloc, atom.name(), named)?;
+                self.insert(atom.name(), named)?;
                 Ok(0)
             }
         }
@@ -216,25 +216,22 @@ impl NameTable {
     /// the offers of its name.
     pub(crate) fn take_atom(
         &mut self,
-        sight: &Sight<'_>,
-        span: Span,
+        going: &Going<'_>,
         field: FieldKind,
         atom: &Atom<'_>,
         steps: &mut Steps,
     )
-        ensures namers { (q : List ℕ) → namers_under self.new.map q
-            ≡ (if bytes_eq atom.now.name q then others namer_stanza span
-            (namers_under self.old.map q) else namers_under self.old.map q) }
+        ensures namers { (q : List ℕ) → namers_under self.new.map q ≡ namers_without self.old.map atom.now.name going.now.span q }
         ensures offers { (q : List ℕ) → offers_under self.new.map q ≡ offers_under self.old.map q }
         ensures rows { (q : List ℕ) → rows_under self.new.map q ≡ rows_under self.old.map q }
-        ensures steps { steps.new ≡ more_by (atom_tested sight.now field (offers_under self.old.map atom.now.name)) steps.old }
+        ensures steps { steps.new ≡ more_by (atom_tested going.now.sight field (offers_under self.old.map atom.now.name)) steps.old }
     {
         let _count = steps.count();
         let Some(named) = self.map.get_mut(atom.name()) else {
             return;
         };
-        let _ = count_tested(sight, field, atom, named.offers.as_slice(), steps);
-        named.namers.take(span);
+        let _ = count_tested(&going.sight, field, atom, named.offers.as_slice(), steps);
+        named.namers.take(going.span);
         if !is_used(named) {
             self.map.remove(atom.name());
         }
@@ -243,32 +240,34 @@ impl NameTable {
     /// An offer goes, with all other offers of its name of the span. It is tested against the clauses that name it.
     pub(crate) fn take_offer(
         &mut self,
-        sight: &Sight<'_>,
-        span: Span,
+        going: &Going<'_>,
         offer: &Offer,
         counters: &mut Counters,
         steps: &mut Steps,
     ) -> Result<(), AllocError>
         ensures offers { OnOk result ((q : List ℕ) → offers_under self.new.map q
-            ≡ (if bytes_eq offer.now.name q then others offer_stanza span
-            (offers_under self.old.map q) else offers_under self.old.map q)) }
+            ≡ offers_without self.old.map offer.now.name going.now.span q) }
         ensures namers { OnOk result ((q : List ℕ) → namers_under self.new.map q ≡ namers_under self.old.map q) }
         ensures rows { OnOk result ((q : List ℕ) → rows_under self.new.map q ≡ rows_under self.old.map q) }
         ensures counts { OnOk result ((k : ClauseKey) → get clause_cmp counters.new.numbers k
-            ≡ option_map (λ n. n - sum_by (hit sight.now offer.now k) (namers_under self.old.map offer.now.name))
-            (get clause_cmp counters.old.numbers k)) }
+            ≡ lowered going.now.sight (namers_under self.old.map) (offer.now ∷ []) k (get clause_cmp counters.old.numbers k)) }
         ensures steps { OnOk result (steps.new
-            ≡ more_by (sum_by (tested sight.now offer.now.name)
-            (namers_under self.old.map offer.now.name)) steps.old) }
-        ensures most { steps.new ≤ more_by (sum_by (tested sight.now offer.now.name) (namers_under self.old.map offer.now.name)) steps.old }
+            ≡ more_by (offer_tested going.now.sight (namers_under self.old.map) offer.now) steps.old) }
+        ensures most { steps.new ≤ more_by (offer_tested going.now.sight (namers_under self.old.map) offer.now) steps.old }
         ensures least { steps.old ≤ steps.new }
     {
         let _count = steps.count();
         let Some(named) = self.map.get_mut(offer.name()) else {
             return Ok(());
         };
-        part(sight, offer, named.namers.as_slice(), counters, steps)?;
-        named.offers.take(span);
+        part(
+            &going.sight,
+            offer,
+            named.namers.as_slice(),
+            counters,
+            steps,
+        )?;
+        named.offers.take(going.span);
         if !is_used(named) {
             self.map.remove(offer.name());
         }
@@ -278,7 +277,6 @@ impl NameTable {
     /// A row gets the key of a stanza: that of its version, under the name of its package.
     pub(crate) fn put_row(
         &mut self,
-        alloc: Global,
         name: &[u8],
         version: &Version,
         key: StanzaKey,
@@ -291,14 +289,14 @@ impl NameTable {
         match self.map.get_mut(name) {
             Some(named) => named.rows.put(version, key),
             None => {
-                let mut rows = Rows::new(alloc);
+                let mut rows = Rows::new(self.alloc);
                 rows.put(version, key)?;
                 let named = Named {
-                    offers: KeyList::new(alloc),
-                    namers: KeyList::new(alloc),
+                    offers: KeyList::new(self.alloc),
+                    namers: KeyList::new(self.alloc),
                     rows,
                 };
-                self.insert(alloc, name, named)
+                self.insert(name, named)
             }
         }
     }

@@ -15,47 +15,36 @@ use crate::sight::{Sight, stanza_at};
 use ctl_policy::{rows_are_kept, rows_follow_stanzas};
 use ctl_stanza::Stanza;
 use ctl_store::StanzaKey;
-use std::alloc::{AllocError, Global};
+use std::alloc::AllocError;
 
 // The row of a stanza, where it is live.
-fn put_row_of(
-    alloc: Global,
-    key: StanzaKey,
-    stanza: &Stanza,
-    names: &mut NameTable,
-) -> Result<(), AllocError>
+fn put_row_of(key: StanzaKey, stanza: &Stanza, names: &mut NameTable) -> Result<(), AllocError>
     ensures rows { OnOk result ((q : List ℕ) → (version : List ℕ) → row_under names.new.map q version
         ≡ put_rows_step q version key stanza.now (row_under names.old.map q version)) }
     ensures offers { OnOk result (offers_under names.new.map ≡ offers_under names.old.map) }
     ensures namers { OnOk result (namers_under names.new.map ≡ namers_under names.old.map) }
 {
     match stanza.version() {
-        Some(version) => names.put_row(alloc, stanza.package(), version, key),
+        Some(version) => names.put_row(stanza.package(), version, key),
         None => Ok(()),
     }
 }
 
 // The row of the stanza under a key, if there is one.
-fn put_row_at(
-    alloc: Global,
-    sight: &Sight<'_>,
-    key: StanzaKey,
-    names: &mut NameTable,
-) -> Result<(), AllocError>
+fn put_row_at(sight: &Sight<'_>, key: StanzaKey, names: &mut NameTable) -> Result<(), AllocError>
     ensures rows { OnOk result ((q : List ℕ) → (version : List ℕ) → row_under names.new.map q version
         ≡ with_found (seen sight.now) (put_rows_step q version) key (row_under names.old.map q version)) }
     ensures offers { OnOk result (offers_under names.new.map ≡ offers_under names.old.map) }
     ensures namers { OnOk result (namers_under names.new.map ≡ namers_under names.old.map) }
 {
     match stanza_at(sight, key) {
-        Some(stanza) => put_row_of(alloc, key, stanza, names),
+        Some(stanza) => put_row_of(key, stanza, names),
         None => Ok(()),
     }
 }
 
 /// The keys of the live stanzas among these come into their rows.
 pub(crate) fn put_rows(
-    alloc: Global,
     sight: &Sight<'_>,
     keys: &[StanzaKey],
     names: &mut NameTable,
@@ -65,7 +54,7 @@ pub(crate) fn put_rows(
     ensures namers { OnOk result (namers_under names.new.map ≡ namers_under names.old.map) }
 {
     for key in keys {
-        put_row_at(alloc, sight, *key, names)?;
+        put_row_at(sight, *key, names)?;
     }
     Ok(())
 }

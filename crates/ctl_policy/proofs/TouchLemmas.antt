@@ -15,7 +15,7 @@ use Rattle.ctl_store.specs.Step.{is_status}
 use Rattle.ctl_store.specs.Keys.{key_is, stanza_at, holder_of, all_keys, AreHeld, AreRising}
 use Rattle.ctl_store.specs.Entries.{entries_of}
 use Rattle.ctl_policy.specs.Keys.{has_key, or_none, some_keys}
-use Rattle.ctl_policy.specs.Rows.{Lists, Rows, Row, keys_at, keys_of_row, AreRowsOf, is_of_version, is_in_row, keys_with, rows_named, newest_first, lead_of, lead_at, version_under, is_called, is_source}
+use Rattle.ctl_policy.specs.Rows.{Lists, Rows, Row, keys_at, keys_of_row, AreRowsOf, is_of_version, is_in_row, keys_with, rows_named, newest_first, HasLead, lead_of, lead_at, version_under, is_called, is_source}
 use Rattle.ctl_policy.specs.Priority.{Settings, World, matches_text, matches_row, specific_pin, priority_found, source_priorities, greatest, row_priority}
 use Rattle.ctl_policy.specs.Candidate.{is_status_of, wanted_version, version_if_row}
 use Rattle.ctl_policy.specs.Laws.{rows_in, with_lists, version_found, Stays, IsUntouched, AreSameLists, IsNoSource, HoldsNone}
@@ -74,13 +74,17 @@ if_some_keys : (P : List StanzaKey → Type 0) (ks : List StanzaKey) → P ks �
 if_some_keys P [] h = tt
 if_some_keys P (k ∷ ks) h = h
 
--- what holds of the keys of each class holds of each row
-each_class : (P : List StanzaKey → Type 0) (q : List ℕ) (lists : Lists) → ((v : List ℕ) → P (keys_with (is_in_row q v) (entries_of lists))) → AllByRecursion (λ (row : Row). P row.1) (newest_first (rows_named q lists))
-each_class P q lists h =
+-- what holds of the keys of each class that has some holds of each row
+each_some : (P : List StanzaKey → Type 0) (q : List ℕ) (lists : Lists) → ((v : List ℕ) → IfSome (some_keys (keys_with (is_in_row q v) (entries_of lists))) P) → AllByRecursion (λ (row : Row). P row.1) (newest_first (rows_named q lists))
+each_some P q lists h =
     let es = fin.entries (rows_named q lists) in
     all_reverse (λ (row : Row). P row.1) (map (λ (row : List ℕ × List StanzaKey). (triple_of row.0, row.1)) es) (all_shown P es
     (each_value P es (sorted es (fin.entries_sorted (rows_named q lists)))
-    (λ v. subst (λ o. IfSome o P) (sym (find_is v es ∙ sym (fin.get-entries (rows_named q lists) v) ∙ row_defined q v lists)) (if_some_keys P (keys_with (is_in_row q v) (entries_of lists)) (h v)))))
+    (λ v. subst (λ o. IfSome o P) (sym (find_is v es ∙ sym (fin.get-entries (rows_named q lists) v) ∙ row_defined q v lists)) (h v))))
+
+-- and so does what holds of the keys of each class
+each_class : (P : List StanzaKey → Type 0) (q : List ℕ) (lists : Lists) → ((v : List ℕ) → P (keys_with (is_in_row q v) (entries_of lists))) → AllByRecursion (λ (row : Row). P row.1) (newest_first (rows_named q lists))
+each_class P q lists h = each_some P q lists (λ v. if_some_keys P (keys_with (is_in_row q v) (entries_of lists)) (h v))
 
 among : (lists : Lists) → AreRising (all_keys lists) → (p : Content → Bool) (k : StanzaKey) → has_key k (keys_with p (entries_of lists)) ≡ option_map_or p (stanza_at k lists) false
 among lists rising p k = has_key-placed p k (entries_of lists) (subst AreRising (sym (keys_are lists)) rising) ∙ ap (λ o. option_map_or p o false) (find_placed k lists)
@@ -227,3 +231,14 @@ pub rows_held : (rows : Rows) (name : List ℕ) (lists : Lists) → AreRowsOf ro
 rows_held rows name lists h =
     subst (λ rs. AllByRecursion (λ keys. AreHeld keys lists) (map keys_of_row rs)) (sym (shown_alike rows (rows_named name lists) h))
     (all_mapped (λ keys. AreHeld keys lists) (newest_first (rows_named name lists)) (each_class (λ keys. AreHeld keys lists) name lists (λ v. class_held name v lists)))
+
+-- ---- each row has a lead
+
+some_lead : (keys : List StanzaKey) → IfSome (some_keys keys) HasLead
+some_lead [] = tt
+some_lead (k ∷ keys) = refl
+
+pub rows_lead : (rows : Rows) (name : List ℕ) (lists : Lists) → AreRowsOf rows name lists → AllByRecursion HasLead (map keys_of_row (newest_first rows))
+rows_lead rows name lists h =
+    subst (λ rs. AllByRecursion HasLead (map keys_of_row rs)) (sym (shown_alike rows (rows_named name lists) h))
+    (all_mapped HasLead (newest_first (rows_named name lists)) (each_some HasLead name lists (λ v. some_lead (keys_with (is_in_row name v) (entries_of lists)))))

@@ -62,8 +62,16 @@ best_of priority installed (row ∷ rows) =
     then better (priority row.1, lead_of row.1) (best_of priority installed rows)
     else best_of priority installed rows
 
+-- the same, where the rows have their priorities as rows of a name
+abbrev pub best_named : List ℕ → World → Option Triple → List Row → Choice
+best_named name w installed rows = best_of (row_priority name w) installed rows
+
+-- the version that is installed, where there is a row of it
+abbrev pub installed_version : List ℕ → World → Option Triple
+installed_version name w = version_if_row (rows_named name w.lists) (wanted_version name w)
+
 abbrev pub choice_of : List ℕ → World → Choice
-choice_of name w = best_of (row_priority name w) (version_if_row (rows_named name w.lists) (wanted_version name w)) (newest_first (rows_named name w.lists))
+choice_of name w = best_named name w (installed_version name w) (newest_first (rows_named name w.lists))
 
 -- the lead of a choice
 abbrev pub lead_of_choice : Choice → Option StanzaKey

@@ -1,5 +1,5 @@
 -- How the rows of one name are held: most names have one row of one stanza, for which there is no map.
-use Rattle.std.specs.Prelude.{◌≡◌, ℕ, List, [], ◌∷◌, map, Option, None, Some, option_map, Vec, if◌then◌else◌}
+use Rattle.std.specs.Prelude.{◌≡◌, ◌<◌, ℕ, List, [], ◌∷◌, length, map, reverse, Option, None, Some, IfSome, option_map, Vec, if◌then◌else◌}
 use Rattle.std.proofs.Common.{Global}
 use Rattle.std.proofs.Common.{refl}
 use Rattle.std.specs.Coded.{Coded, code_by, coded×, coded_list, coded_ℕ}
@@ -12,7 +12,7 @@ use Rattle.ctl_store.specs.Keys.{AreRising}
 use Rattle.ctl_policy.specs.declared.form.Form.{Form}
 use Rattle.ctl_policy.specs.declared.form.Form.TheVariants.{Empty, One, Many}
 use Rattle.ctl_policy.specs.Keys.{with_key, without_key, or_none, some_keys}
-use Rattle.ctl_policy.specs.Rows.{Rows, Row, lead_of}
+use Rattle.ctl_policy.specs.Rows.{Rows, Row, lead_of, newest_first}
 
 -- a map of rows
 abbrev pub Shelf : Type 0
@@ -38,12 +38,24 @@ form_at (Many shelf) v = row_at shelf v
 abbrev pub IsFormed : Form → Type 0
 IsFormed form = (v : List ℕ) → AreRising (or_none (form_at form v))
 
+-- this row stands under a version, and others keep theirs
+abbrev pub with_row : List ℕ → Option (List StanzaKey) → (List ℕ → Option (List StanzaKey)) → List ℕ → Option (List StanzaKey)
+with_row version row at v = if is_eq (version_cmp version v) then row else at v
+
 -- a key more under a version, and a key less
 abbrev pub form_with : List ℕ → StanzaKey → (List ℕ → Option (List StanzaKey)) → List ℕ → Option (List StanzaKey)
-form_with version key at v = if is_eq (version_cmp version v) then Some (with_key key (or_none (at version))) else at v
+form_with version key at v = with_row version (Some (with_key key (or_none (at version)))) at v
 
 abbrev pub form_without : List ℕ → StanzaKey → (List ℕ → Option (List StanzaKey)) → List ℕ → Option (List StanzaKey)
-form_without version key at v = if is_eq (version_cmp version v) then some_keys (without_key key (or_none (at version))) else at v
+form_without version key at v = with_row version (some_keys (without_key key (or_none (at version)))) at v
+
+-- the row of a version with a key less, of which none may be left
+abbrev pub row_less : List ℕ → StanzaKey → Shelf → Option (List StanzaKey)
+row_less version key shelf = option_map (without_key key) (row_at shelf version)
+
+-- a row, if there is one, has a key
+abbrev pub HasKeyLeft : Option (List StanzaKey) → Type 0
+HasKeyLeft row = IfSome row (λ keys. 0 < length keys)
 
 -- a code of rows, by which a proof tells them apart
 abbrev key_code : Coded StanzaKey
@@ -59,11 +71,19 @@ with_items e = (e.0, e.1.items)
 abbrev pub shown_row : List ℕ × Vec StanzaKey Global → Row
 shown_row e = (triple_of e.0, e.1.items)
 
+-- the rows of a map, newest first
+abbrev pub rows_of_map : Shelf → List Row
+rows_of_map shelf = reverse (map shown_row shelf.entries)
+
 -- the rows that are held
 abbrev pub rows_of_form : Form → Rows
 rows_of_form Empty = fin.empty
 rows_of_form (One version key) = fin.insert fin.empty version (key ∷ [])
 rows_of_form (Many shelf) = fin.from_entries (map with_items shelf.entries)
+
+-- the same, newest first
+abbrev pub form_shown : Form → List Row
+form_shown form = newest_first (rows_of_form form)
 
 -- the keys of a map rise, as they do in each
 abbrev pub IsOrderedForm : Form → Type 0

@@ -1,15 +1,16 @@
 -- How the rows of a name are walked, from the oldest to the newest.
-use Rattle.std.specs.Prelude.{ℕ, ℤ, Bool, false, List, [], ◌∷◌, Option, None, Some, Vec, if◌then◌else◌}
+use Rattle.std.specs.Prelude.{ℕ, ℤ, Bool, false, List, [], ◌∷◌, Option, None, Some, Vec, option_map, if◌then◌else◌}
 use Rattle.std.proofs.Common.{Global}
 use Rattle.std.specs.List.{AllByRecursion}
 use Rattle.std.specs.Option.{option_map_or}
 use Rattle.std.specs.Ordering.{is_lt}
-use Rattle.ctl_relation.specs.Version.{Triple}
+use Rattle.ctl_relation.specs.Version.{Triple, triple_of}
 use Rattle.ctl_stanza.specs.Content.{Content}
 use Rattle.ctl_store.specs.declared.stanza_key.StanzaKey.{StanzaKey}
 use Rattle.ctl_store.specs.Step.{is_status}
 use Rattle.ctl_store.specs.Keys.{AreHeld, stanza_at, key_cmp}
 use Rattle.ctl_policy.specs.Rows.{Lists, lead_of}
+use Rattle.ctl_policy.specs.Priority.{World, row_priority}
 use Rattle.ctl_policy.specs.Candidate.{Choice, better, may_be_taken}
 use Rattle.ctl_policy.specs.declared.form.Form.{Form}
 use Rattle.ctl_policy.specs.declared.form.Form.TheVariants.{Empty, One, Many}
@@ -26,12 +27,27 @@ IsHeldForm lists (Many shelf) = AreHeldIn lists shelf.entries
 
 -- a choice, once a newer row was considered
 abbrev pub considered : ℤ → Triple → Option StanzaKey → Option Triple → Choice → Choice
-considered priority version lead installed choice = if may_be_taken priority version installed then better (priority, lead) choice else choice
+considered priority version lead installed choice =
+    if may_be_taken priority version installed
+    then better (priority, lead) choice
+    else choice
+
+-- what the order of versions sees of one, if there is one
+abbrev pub triple_if_any : Option (List ℕ) → Option Triple
+triple_if_any version = option_map triple_of version
+
+-- none chosen, once the row of one stanza was considered
+abbrev pub considered_alone : List ℕ → World → List ℕ → StanzaKey → Option Triple → Choice
+considered_alone name w version key installed = considered (row_priority name w (key ∷ [])) (triple_of version) (Some key) installed None
+
+-- a choice, once a row of a map was considered
+abbrev pub considered_row : (List StanzaKey → ℤ) → Option Triple → Choice → List ℕ × Vec StanzaKey Global → Choice
+considered_row priority installed choice e = considered (priority e.1.items) (shown_row e).0 (lead_of e.1.items) installed choice
 
 -- a choice, once these rows were considered, the oldest first
 abbrev pub carried : (List StanzaKey → ℤ) → Option Triple → Choice → List (List ℕ × Vec StanzaKey Global) → Choice
 carried priority installed choice [] = choice
-carried priority installed choice (e ∷ es) = carried priority installed (considered (priority e.1.items) (shown_row e).0 (lead_of e.1.items) installed choice) es
+carried priority installed choice (e ∷ es) = carried priority installed (considered_row priority installed choice e) es
 
 -- ---- the first stanza of the status list
 

@@ -1,5 +1,5 @@
 -- Rows of names that follow the stanzas as they come and go, by their keys.
-use Rattle.std.specs.Prelude.{◌≡◌, ℕ, false, List, Option, None, Some, if◌then◌else◌}
+use Rattle.std.specs.Prelude.{◌≡◌, ℕ, Bool, false, List, Option, None, Some, if◌then◌else◌}
 use Rattle.std.specs.Str.{bytes_eq}
 use Rattle.std.specs.Ordering.{is_eq}
 use Rattle.std.specs.Option.{option_map_or}
@@ -13,13 +13,17 @@ use Rattle.ctl_policy.specs.Rows.{Lists, Rows, keys_at, is_in_row}
 
 -- ---- the rows of one name, as a key comes or goes
 
+-- the row of a version, where this one stands under another, and others keep theirs
+abbrev pub row_set : List ℕ → Option (List StanzaKey) → Rows → List ℕ → Option (List StanzaKey)
+row_set version row rows v = if is_eq (version_cmp version v) then row else fin.get rows v
+
 -- a key comes under a version, and other versions keep theirs
 abbrev pub HasPut : List ℕ → StanzaKey → Rows → Rows → Type 0
-HasPut version key old new = (v : List ℕ) → fin.get new v ≡ (if is_eq (version_cmp version v) then Some (with_key key (keys_at old version)) else fin.get old v)
+HasPut version key old new = (v : List ℕ) → fin.get new v ≡ row_set version (Some (with_key key (keys_at old version))) old v
 
 -- A key goes from under a version, and other versions keep theirs. A row without keys goes.
 abbrev pub HasTaken : List ℕ → StanzaKey → Rows → Rows → Type 0
-HasTaken version key old new = (v : List ℕ) → fin.get new v ≡ (if is_eq (version_cmp version v) then some_keys (without_key key (keys_at old version)) else fin.get old v)
+HasTaken version key old new = (v : List ℕ) → fin.get new v ≡ row_set version (some_keys (without_key key (keys_at old version))) old v
 
 -- every version keeps its row
 abbrev pub HasSame : Rows → Rows → Type 0
@@ -49,8 +53,12 @@ with_stanza key x f k = if key_is key k then Some x else f k
 abbrev pub without_stanza : StanzaKey → Stanzas → Stanzas
 without_stanza key f k = if key_is key k then None else f k
 
+-- whether what is found is in the row of a version of a name
+abbrev pub is_found_in : List ℕ → List ℕ → Option Content → Bool
+is_found_in name version found = option_map_or (is_in_row name version) found false
+
 -- In the row of each name and version stand the keys of the stanzas that are in it, in order. No row is empty.
 pub record IsKept (rows : RowsByName) (stanzas : Stanzas) : Type 0 where
   pub rises : (name : List ℕ) → (version : List ℕ) → AreRising (keys_at (rows name) version)
-  pub held : (name : List ℕ) → (version : List ℕ) → (k : StanzaKey) → has_key k (keys_at (rows name) version) ≡ option_map_or (is_in_row name version) (stanzas k) false
+  pub held : (name version : List ℕ) → (k : StanzaKey) → has_key k (keys_at (rows name) version) ≡ is_found_in name version (stanzas k)
   pub some : (name : List ℕ) → (version : List ℕ) → fin.get (rows name) version ≡ some_keys (keys_at (rows name) version)

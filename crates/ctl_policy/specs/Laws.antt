@@ -20,6 +20,10 @@ with_marks marks w = record w { marks = marks }
 abbrev pub with_pins : Settings → World → World
 with_pins pins w = record w { pins = pins }
 
+-- what the policy of a store rests on, with other pins
+abbrev pub world_with : Settings → Held → World
+world_with pins h = with_pins pins (world_in (keyed_of h) (state_of h))
+
 abbrev pub with_target : Option (List ℕ) → World → World
 with_target target w = record w { target = target }
 
@@ -66,16 +70,28 @@ HoldsNone list name lists = (k : StanzaKey) → is_called list (holder_of k list
 
 -- ---- stanzas that come and go
 
+-- no live stanza of a name stands under a key
+abbrev pub HasNoneAt : List ℕ → Lists → StanzaKey → Type 0
+HasNoneAt name lists k = version_found name (stanza_at k lists) ≡ None
+
+-- the same stanza stands under a key in two lists of lists
+abbrev pub IsSameAt : Lists → Lists → StanzaKey → Type 0
+IsSameAt lists others k = stanza_at k others ≡ stanza_at k lists
+
 -- Under each key stands the stanza that stood there, unless neither is a live one of this name.
 abbrev pub IsUntouched : List ℕ → Lists → Lists → Type 0
-IsUntouched name lists others = (k : StanzaKey) → (stanza_at k others ≡ stanza_at k lists) ⊎ ((version_found name (stanza_at k lists) ≡ None) × (version_found name (stanza_at k others) ≡ None))
+IsUntouched name lists others = (k : StanzaKey) → IsSameAt lists others k ⊎ (HasNoneAt name lists k × HasNoneAt name others k)
+
+-- the list that holds a stanza has, among other lists, the priority that it has
+abbrev pub IsRankedAlike : World → Lists → StanzaKey → Type 0
+IsRankedAlike w others k = priority_found (with_lists others w) (holder_of k w.lists) ≡ priority_found w (holder_of k w.lists)
 
 -- The lists that hold the stanzas of a name have the names and the priorities that they had.
 pub record AreSameLists (name : List ℕ) (w : World) (others : Lists) : Type 0 where
   pub rising : AreRising (all_keys w.lists)
   pub rising_after : AreRising (all_keys others)
-  pub names : (k : StanzaKey) → (version_found name (stanza_at k w.lists) ≡ None → ⊥) → holder_of k others ≡ holder_of k w.lists
-  pub priorities : (k : StanzaKey) → (version_found name (stanza_at k w.lists) ≡ None → ⊥) → priority_found (with_lists others w) (holder_of k w.lists) ≡ priority_found w (holder_of k w.lists)
+  pub names : (k : StanzaKey) → (HasNoneAt name w.lists k → ⊥) → holder_of k others ≡ holder_of k w.lists
+  pub priorities : (k : StanzaKey) → (HasNoneAt name w.lists k → ⊥) → IsRankedAlike w others k
 
 -- ---- edits
 

@@ -1,5 +1,5 @@
 -- Places that are to be made for names.
-use Rattle.std.specs.Prelude.{◌≡◌, ℕ, Bool, not, List, is_some, All, Vec}
+use Rattle.std.specs.Prelude.{◌≡◌, ◌&&◌, ◌||◌, ℕ, Bool, not, List, is_some, All, Vec}
 use Rattle.std.proofs.Common.{Global}
 use Rattle.std.specs.Str.{bytes_eq}
 use Rattle.std.specs.List.{list_any}
@@ -18,3 +18,11 @@ AreUnchosen places = All (λ place. place.1 ≡ no_choice) places
 -- whether a name has no place
 abbrev pub lacks_place : List ℕ → BTreeMap (Vec ℕ Global) Chosen → Bool
 lacks_place name chosen = not (is_some (at_bytes chosen name))
+
+-- whether another name is this one, and has no place
+abbrev pub wants_place : List ℕ → BTreeMap (Vec ℕ Global) Chosen → List ℕ → Bool
+wants_place name chosen q = bytes_eq name q && lacks_place q chosen
+
+-- whether a place is of a name, once a name that wants one has its own
+abbrev pub listed_with : List ℕ → BTreeMap (Vec ℕ Global) Chosen → List (Vec ℕ Global × Chosen) → List ℕ → Bool
+listed_with name chosen places q = is_listed q places || wants_place name chosen q

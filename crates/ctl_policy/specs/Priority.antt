@@ -1,5 +1,5 @@
 -- The priority of a list and of a row (apt_preferences(5), "APT's Default Priority Assignments" and "The Effect of APT Preferences").
-use Rattle.std.specs.Prelude.{ℕ, ℤ, pos, Bool, false, ◌&&◌, List, [], ◌∷◌, map, Option, None, Some, option_map, unwrap_or, if◌then◌else◌}
+use Rattle.std.specs.Prelude.{◌≡◌, ℕ, ℤ, pos, Bool, false, ◌&&◌, List, [], ◌∷◌, map, Option, None, Some, option_map, unwrap_or, if◌then◌else◌}
 use Rattle.std.specs.Str.{bytes_eq}
 use Rattle.std.specs.Int.{int_max}
 use Rattle.ctl_stanza.specs.declared.list_kind.ListKind.{ListKind}
@@ -67,9 +67,13 @@ abbrev pub matches_text : List ℕ → Option (List ℕ) → Bool
 matches_text wanted None = false
 matches_text wanted (Some text) = pin_matches wanted text
 
+-- whether it matches that of a row, which is the version of its lead
+abbrev pub matches_lead : List ℕ → Lists → List StanzaKey → Bool
+matches_lead wanted lists keys = matches_text wanted (version_under lists (lead_of keys))
+
 -- Whether a pin setting is one of a package and matches a row of it: by its text, or by one of its sources.
 abbrev pub matches_row : List ℕ → Lists → List StanzaKey → Selector → Bool
-matches_row name lists keys (Version «package» version) = bytes_eq «package» name && matches_text version (version_under lists (lead_of keys))
+matches_row name lists keys (Version «package» version) = bytes_eq «package» name && matches_lead version lists keys
 matches_row name lists keys (Release None list) = false
 matches_row name lists keys (Release (Some «package») list) = bytes_eq «package» name && is_source list lists keys
 
@@ -77,6 +81,13 @@ matches_row name lists keys (Release (Some «package») list) = bytes_eq «packa
 abbrev pub specific_pin : List ℕ → Lists → List StanzaKey → Settings → Option ℤ
 specific_pin name lists keys [] = None
 specific_pin name lists keys (s ∷ settings) = if matches_row name lists keys s.0 then Some s.1 else specific_pin name lists keys settings
+
+-- no row matches a setting; no setting of a name matches a row
+abbrev pub MatchesNoRow : Lists → Selector → Type 0
+MatchesNoRow lists selector = (name : List ℕ) → (keys : List StanzaKey) → matches_row name lists keys selector ≡ false
+
+abbrev pub PinsNoRow : List ℕ → Lists → Settings → Type 0
+PinsNoRow name lists settings = (keys : List StanzaKey) → specific_pin name lists keys settings ≡ None
 
 -- the priority of the list of a name, if one was found
 abbrev pub priority_found : World → Option (List ℕ) → ℤ

@@ -1,6 +1,6 @@
 -- The rows of a name: its versions as `apt-cache policy` lists them (apt-cache(8)), their leads and their sources.
 use Rattle.std.specs.Prelude.{◌≡◌, ℕ, Bool, true, false, ◌||◌, List, [], ◌∷◌, map, filter, reverse, Option, None, Some, if◌then◌else◌}
-use Rattle.std.specs.Prelude.{slice_get}
+use Rattle.std.specs.Prelude.{IsSome, slice_get}
 use Rattle.std.specs.Map.{keys_of as names_of}
 use Rattle.std.specs.Option.{option_map_or}
 use Rattle.std.specs.Ordering.{is_eq}
@@ -11,7 +11,7 @@ use Rattle.ctl_stanza.specs.Content.{Content, package_of, version_of}
 use Rattle.ctl_store.specs.declared.stanza_key.StanzaKey.{StanzaKey}
 use Rattle.ctl_store.specs.Keys.{KeyedList, stanza_at, holder_of}
 use Rattle.ctl_store.specs.Entries.{Entry, entries_of}
-use Rattle.ctl_policy.specs.Keys.{or_none}
+use Rattle.ctl_policy.specs.Keys.{or_none, with_key}
 
 -- the lists by their names
 abbrev pub Lists : Type 0
@@ -51,6 +51,10 @@ Rows = fin.FinMap version_cmp (List StanzaKey)
 abbrev pub keys_at : Rows → List ℕ → List StanzaKey
 keys_at rows version = or_none (fin.get rows version)
 
+-- the row of a version, once the key of a stanza came that is a live one of a name
+abbrev pub row_with : List ℕ → StanzaKey → Content → Rows → List ℕ → Option (List StanzaKey)
+row_with name key x rows v = if is_in_row name v x then Some (with_key key (keys_at rows v)) else fin.get rows v
+
 -- the rows of stanzas: the keys of each stand in the order of the stanzas
 abbrev pub rows_of : List (StanzaKey × List ℕ) → Rows
 rows_of [] = fin.empty
@@ -89,6 +93,9 @@ has_row name lists = is_any_row (newest_first (rows_named name lists))
 -- The lead of a row is its first stanza in the order of all.
 abbrev pub lead_of : List StanzaKey → Option StanzaKey
 lead_of keys = slice_get keys 0
+
+abbrev pub HasLead : List StanzaKey → Type 0
+HasLead keys = IsSome (lead_of keys)
 
 -- the lead of the row of a version, if there is one
 abbrev pub lead_at : Rows → List ℕ → Option StanzaKey

@@ -9,14 +9,20 @@ use Rattle.ctl_store.specs.declared.selector.Selector.{Selector}
 use Rattle.ctl_store.specs.declared.selector.Selector.TheVariants.{Version, Release}
 use Rattle.ctl_store.specs.Entries.{Entry}
 use Rattle.ctl_store.specs.Keys.{stanza_at, all_in}
+use Rattle.ctl_store.specs.Held.{Held, state_of}
+use Rattle.ctl_store.specs.State.{shown_lists}
 use Rattle.ctl_policy.specs.Rows.{Lists}
-use Rattle.ctl_policy.specs.Priority.{World, Settings, list_priority}
+use Rattle.ctl_policy.specs.Priority.{World, Settings, list_priority, world_of}
 use Rattle.ctl_policy.specs.Laws.{with_pins}
-use Rattle.ctl_policy.specs.Touched.{is_one_of, packages_at}
+use Rattle.ctl_policy.specs.Touched.{TargetHoldsNone, is_one_of, packages_at}
 
 -- it holds of each name but these
 abbrev pub HoldsOfOthers : List (List ℕ) → (List ℕ → Type 0) → Type 0
 HoldsOfOthers names P = (name : List ℕ) → is_one_of name names ≡ false → P name
+
+-- a list of this name, if one is named, holds live stanzas of these names alone
+abbrev pub TargetHoldsAlone : List (List ℕ) → Option (List ℕ) → Lists → Type 0
+TargetHoldsAlone names target lists = HoldsOfOthers names (λ name. TargetHoldsNone target name lists)
 
 -- the package of a stanza, if there is one
 abbrev pub package_found : Option Content → List (List ℕ)
@@ -55,3 +61,7 @@ keeps_priority pins w list = option_eq int_eq (list_priority list w) (list_prior
 abbrev pub repinned_packages : Settings → World → List (List ℕ × ListKind × ListClass) → List (List ℕ)
 repinned_packages pins w [] = []
 repinned_packages pins w (l ∷ ls) = (if keeps_priority pins w l.0 then [] else packages_in l.0 w.lists) ++ repinned_packages pins w ls
+
+-- those of the lists of a store
+abbrev pub repinned_in : Settings → Held → List (List ℕ)
+repinned_in pins h = repinned_packages pins (world_of h) (shown_lists (state_of h).lists)

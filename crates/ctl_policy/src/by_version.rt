@@ -1,12 +1,10 @@
 //! Rows in a map.
 
-ghost use Rattle.std.specs.Prelude.{◌≡◌, ◌∷◌, ◌<◌, length, ℕ, List, [], IfOk, OnErr, OnOk, if◌then◌else◌, Some, IfSome, option_map};
+ghost use Rattle.std.specs.Prelude.{◌≡◌, ◌∷◌, ◌<◌, length, ℕ, List, [], IfOk, OnErr, OnOk, Some};
 ghost use Rattle.std.specs.Bool.{MatchBool};
-ghost use Rattle.std.specs.Ordering.{is_eq};
 ghost use Rattle.ctl_store.specs.Keys.{AreRising};
-ghost use Rattle.ctl_relation.specs.Version.{version_cmp};
-ghost use Rattle.ctl_policy.specs.Keys.{with_key, without_key, or_none, some_keys};
-ghost use Rattle.ctl_policy.specs.HeldRows.{row_at, AreRows};
+ghost use Rattle.ctl_policy.specs.Keys.{without_key};
+ghost use Rattle.ctl_policy.specs.HeldRows.{AreRows, HasKeyLeft, form_with, form_without, row_at, row_less, with_row};
 
 use crate::keys::{put_key, take_key};
 use ctl_relation::Version;
@@ -34,7 +32,7 @@ pub(crate) fn put_version(
     key: StanzaKey,
 ) -> Result<(), AllocError>
     requires { AreRows rows.old }
-    ensures ok { OnOk result ((v : List ℕ) → row_at rows.new v ≡ (if is_eq (version_cmp version.now v) then Some (with_key key (or_none (row_at rows.old version.now))) else row_at rows.old v)) }
+    ensures ok { OnOk result ((v : List ℕ) → row_at rows.new v ≡ form_with version.now key (row_at rows.old) v) }
     ensures err { OnErr result ((v : List ℕ) → row_at rows.new v ≡ row_at rows.old v) }
 {
     match rows.get_mut(version) {
@@ -64,8 +62,8 @@ fn take_and_tell(keys: &mut Vec<StanzaKey>, key: StanzaKey) -> bool
 // Takes a key out from under its version, and tells whether that leaves a row without keys.
 fn take_and_leave(rows: &mut ByVersion, version: &Version, key: StanzaKey) -> bool
     requires { AreRows rows.old }
-    ensures rows { (v : List ℕ) → row_at rows.new v ≡ (if is_eq (version_cmp version.now v) then option_map (without_key key) (row_at rows.old version.now) else row_at rows.old v) }
-    ensures left { MatchBool result (option_map (without_key key) (row_at rows.old version.now) ≡ Some []) (IfSome (option_map (without_key key) (row_at rows.old version.now)) (λ keys. 0 < length keys)) }
+    ensures rows { (v : List ℕ) → row_at rows.new v ≡ with_row version.now (row_less version.now key rows.old) (row_at rows.old) v }
+    ensures left { MatchBool result (row_less version.now key rows.old ≡ Some []) (HasKeyLeft (row_less version.now key rows.old)) }
 {
     match rows.get_mut(version) {
         Some(keys) => take_and_tell(keys, key),
@@ -76,7 +74,7 @@ fn take_and_leave(rows: &mut ByVersion, version: &Version, key: StanzaKey) -> bo
 /// Takes a key out from under its version. It takes no memory.
 pub(crate) fn take_version(rows: &mut ByVersion, version: &Version, key: StanzaKey)
     requires { AreRows rows.old }
-    ensures { (v : List ℕ) → row_at rows.new v ≡ (if is_eq (version_cmp version.now v) then some_keys (without_key key (or_none (row_at rows.old version.now))) else row_at rows.old v) }
+    ensures { (v : List ℕ) → row_at rows.new v ≡ form_without version.now key (row_at rows.old) v }
 {
     if take_and_leave(rows, version, key) {
         rows.remove(version);

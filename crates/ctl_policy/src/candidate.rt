@@ -1,14 +1,13 @@
 //! The candidate among the rows of a name.
 
-ghost use Rattle.std.specs.Prelude.{◌≡◌, ◌∷◌, [], None, Some, option_copied, option_map, map, reverse};
+ghost use Rattle.std.specs.Prelude.{◌≡◌, ◌∷◌, [], None, Some, option_copied};
 ghost use Rattle.ctl_relation.specs.Version.{triple_of};
 ghost use Rattle.ctl_store.specs.Keys.{AreHeld};
 ghost use Rattle.ctl_store.specs.Held.{keyed_of};
-ghost use Rattle.ctl_policy.specs.Rows.{newest_first};
-ghost use Rattle.ctl_policy.specs.Priority.{world_of, row_priority};
-ghost use Rattle.ctl_policy.specs.Candidate.{may_be_taken, is_upgrade, better, best_of};
-ghost use Rattle.ctl_policy.specs.HeldRows.{shown_row, rows_of_form, IsOrderedForm};
-ghost use Rattle.ctl_policy.specs.HeldWalk.{AreHeldIn, IsHeldForm, considered};
+ghost use Rattle.ctl_policy.specs.Priority.{world_of};
+ghost use Rattle.ctl_policy.specs.Candidate.{best_named, better, is_upgrade, may_be_taken};
+ghost use Rattle.ctl_policy.specs.HeldRows.{IsOrderedForm, form_shown, rows_of_map};
+ghost use Rattle.ctl_policy.specs.HeldWalk.{AreHeldIn, IsHeldForm, considered, considered_alone, triple_if_any};
 
 use crate::by_version::ByVersion;
 use crate::form::Form;
@@ -21,7 +20,7 @@ use std::slice;
 pub type Choice = (i16, Option<StanzaKey>);
 
 fn is_upgrade(priority: i16, version: &Version, installed: Option<&Version>) -> bool
-    ensures { result ≡ is_upgrade priority (triple_of version.now) (option_map triple_of (option_copied installed.entry)) }
+    ensures { result ≡ is_upgrade priority (triple_of version.now) (triple_if_any (option_copied installed.entry)) }
 {
     match installed {
         None => true,
@@ -30,7 +29,7 @@ fn is_upgrade(priority: i16, version: &Version, installed: Option<&Version>) -> 
 }
 
 fn may_be_taken(priority: i16, version: &Version, installed: Option<&Version>) -> bool
-    ensures { result ≡ may_be_taken priority (triple_of version.now) (option_map triple_of (option_copied installed.entry)) }
+    ensures { result ≡ may_be_taken priority (triple_of version.now) (triple_if_any (option_copied installed.entry)) }
 {
     priority > 0 && is_upgrade(priority, version, installed)
 }
@@ -57,7 +56,7 @@ fn considered(
     installed: Option<&Version>,
     choice: Option<Choice>,
 ) -> Option<Choice>
-    ensures { result ≡ considered priority (triple_of version.now) lead (option_map triple_of (option_copied installed.entry)) choice }
+    ensures { result ≡ considered priority (triple_of version.now) lead (triple_if_any (option_copied installed.entry)) choice }
 {
     if may_be_taken(priority, version, installed) {
         better((priority, lead), choice)
@@ -75,7 +74,7 @@ fn best_in_map(
     rows: &ByVersion,
 ) -> Option<Choice>
     requires { AreHeldIn (keyed_of store.now).lists rows.now.entries }
-    ensures { result ≡ best_of (row_priority name.now (world_of store.now)) (option_map triple_of (option_copied installed.entry)) (reverse (map shown_row rows.now.entries)) }
+    ensures { result ≡ best_named name.now (world_of store.now) (triple_if_any (option_copied installed.entry)) (rows_of_map rows.now) }
 {
     let pinned = is_pinned(store, name);
     let mut choice = None;
@@ -96,7 +95,7 @@ fn best_of_one(
     key: &StanzaKey,
 ) -> Option<Choice>
     requires { AreHeld (key.now ∷ []) (keyed_of store.now).lists }
-    ensures { result ≡ considered (row_priority name.now (world_of store.now) (key.now ∷ [])) (triple_of version.now) (Some key.now) (option_map triple_of (option_copied installed.entry)) None }
+    ensures { result ≡ considered_alone name.now (world_of store.now) version.now key.now (triple_if_any (option_copied installed.entry)) }
 {
     let priority = row_priority(store, name, slice::from_ref(key));
     considered(priority, version, Some(*key), installed, None)
@@ -111,7 +110,7 @@ pub(crate) fn best(
 ) -> Option<Choice>
     requires held { IsHeldForm (keyed_of store.now).lists rows.now }
     requires ordered { IsOrderedForm rows.now }
-    ensures { result ≡ best_of (row_priority name.now (world_of store.now)) (option_map triple_of (option_copied installed.entry)) (newest_first (rows_of_form rows.now)) }
+    ensures { result ≡ best_named name.now (world_of store.now) (triple_if_any (option_copied installed.entry)) (form_shown rows.now) }
 {
     match rows {
         Form::Empty => None,

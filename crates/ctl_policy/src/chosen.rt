@@ -8,7 +8,7 @@ ghost use Rattle.ctl_store.specs.Held.{keyed_of};
 ghost use Rattle.ctl_policy.specs.Rows.{rows_named, AreRowsOf, newest_first};
 ghost use Rattle.ctl_policy.specs.Priority.{world_of};
 ghost use Rattle.ctl_policy.specs.Candidate.{lead_of_choice};
-ghost use Rattle.ctl_policy.specs.Chosen.{choice_in, kept_of, at_bytes};
+ghost use Rattle.ctl_policy.specs.Chosen.{at_bytes, choice_in, kept_of, renewed};
 ghost use Rattle.ctl_policy.specs.HeldRows.{IsFormOf, IsOrderedForm, lead_in, version_in_form};
 ghost use Rattle.ctl_policy.specs.HeldWalk.{IsHeldForm};
 
@@ -113,7 +113,7 @@ fn write_choice(chosen: &mut BTreeMap<Vec<u8>, Chosen>, name: &[u8], choice: Opt
 pub fn renew(store: &Store, rows: &Rows, chosen: &mut BTreeMap<Vec<u8>, Chosen>, name: &[u8])
     requires rows { AreRowsOf rows.now name.now (keyed_of store.now).lists }
     requires place { (newest_first rows.now ≡ [] → ⊥) → IsSome (at_bytes chosen.old name.now) }
-    ensures { (q : List ℕ) → at_bytes chosen.new q ≡ (if bytes_eq name.now q then kept_of name.now (world_of store.now) else at_bytes chosen.old q) }
+    ensures { (q : List ℕ) → at_bytes chosen.new q ≡ renewed name.now (world_of store.now) chosen.old q }
 {
     let choice = choice_to_keep(store, name, rows);
     write_choice(chosen, name, choice);

@@ -16,7 +16,7 @@ ghost use Rattle.ctl_store.specs.Keys.{keyed_after, AreHeld, AreRising, all_keys
 ghost use Rattle.ctl_store.specs.Entries.{entries_of};
 ghost use Rattle.ctl_store.specs.Held.{Held, keyed_of, state_of};
 ghost use Rattle.ctl_policy.specs.Keys.{some_keys};
-ghost use Rattle.ctl_policy.specs.Rows.{Lists, Rows, rows_named, is_in_row, keys_at, keys_with, keys_of_row, newest_first, AreRowsOf};
+ghost use Rattle.ctl_policy.specs.Rows.{HasLead, Lists, Rows, rows_named, is_in_row, keys_at, keys_with, keys_of_row, newest_first, AreRowsOf};
 ghost use Rattle.ctl_policy.specs.Priority.{World, Settings, world_of};
 ghost use Rattle.ctl_policy.specs.Kept.{RowsByName, Stanzas, IsKept, OthersStay, HasPut, HasTaken, stanzas_in, with_stanza, without_stanza};
 ghost use Rattle.ctl_policy.specs.Chosen.{choice_in, no_choice, kept_of};
@@ -44,6 +44,12 @@ pub fn rows_are_held()
         → AllByRecursion (λ keys. AreHeld keys lists) (map keys_of_row (newest_first rows)) }
     ensures version { (rows : Rows) → (name : List ℕ) → (lists : Lists) → AreRowsOf rows name lists
         → (version : List ℕ) → AreHeld (keys_at rows version) lists }
+{}
+
+/// Each row of a name has a lead.
+pub fn rows_have_leads()
+    ensures { (rows : Rows) → (name : List ℕ) → (lists : Lists) → AreRowsOf rows name lists
+        → AllByRecursion HasLead (map keys_of_row (newest_first rows)) }
 {}
 
 /// Rows that are those of a name are shown as the definition shows them, and no rows as none.

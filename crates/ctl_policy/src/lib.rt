@@ -29,7 +29,7 @@ pub use edit_laws::{
 pub use laws::{
     edits_of_one_name, general_pins_leave_other_names, marks_leave_other_names,
     names_with_rows_are_kept, preferences_leave_other_names, rows_are_classes, rows_are_held,
-    rows_are_kept, rows_are_shown, rows_follow_stanzas, sources_hold_stanzas,
+    rows_are_kept, rows_are_shown, rows_follow_stanzas, rows_have_leads, sources_hold_stanzas,
     specific_pins_leave_other_names, stanzas_leave_other_names, targets_leave_other_names,
     worlds_move,
 };

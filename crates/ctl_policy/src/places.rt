@@ -1,10 +1,9 @@
 //! Places for what is chosen of names.
 
-ghost use Rattle.std.specs.Prelude.{◌≡◌, ℕ, List, false, OnOk, IfOk, if◌then◌else◌, ◌||◌, ◌&&◌};
-ghost use Rattle.std.specs.Str.{bytes_eq};
-ghost use Rattle.ctl_policy.specs.Chosen.{at_bytes, place_of};
-ghost use Rattle.ctl_policy.specs.NewPlaces.{is_listed, lacks_place, AreUnchosen};
-ghost use Rattle.ctl_policy.specs.Touched.{is_one_of};
+ghost use Rattle.std.specs.Prelude.{◌≡◌, ℕ, List, false, OnOk, IfOk, ◌&&◌};
+ghost use Rattle.ctl_policy.specs.Chosen.{at_bytes};
+ghost use Rattle.ctl_policy.specs.NewPlaces.{AreUnchosen, is_listed, lacks_place, listed_with};
+ghost use Rattle.ctl_policy.specs.Touched.{is_one_of, with_places};
 
 use crate::chosen::Chosen;
 use ctl_relation::Bytes;
@@ -18,7 +17,7 @@ fn list_place(
     name: &[u8],
     places: &mut Vec<(Vec<u8>, Chosen)>,
 ) -> Result<(), AllocError>
-    ensures listed { OnOk result ((q : List ℕ) → is_listed q places.new.items ≡ (is_listed q places.old.items || (bytes_eq name.now q && lacks_place q chosen.now))) }
+    ensures listed { OnOk result ((q : List ℕ) → is_listed q places.new.items ≡ listed_with name.now chosen.now places.old.items q) }
     ensures unchosen { OnOk result (AreUnchosen places.old.items → AreUnchosen places.new.items) }
 {
     if chosen.contains_key(name) {
@@ -62,7 +61,7 @@ pub fn make_places(
     chosen: &mut BTreeMap<Vec<u8>, Chosen>,
     names: &[Bytes],
 ) -> Result<(), AllocError>
-    ensures there { OnOk result ((q : List ℕ) → at_bytes chosen.new q ≡ (if is_one_of q names.now then place_of (at_bytes chosen.old q) else at_bytes chosen.old q)) }
+    ensures there { OnOk result ((q : List ℕ) → at_bytes chosen.new q ≡ with_places names.now chosen.old q) }
     ensures others { (q : List ℕ) → is_one_of q names.now ≡ false → at_bytes chosen.new q ≡ at_bytes chosen.old q }
 {
     // A map that is made of all its keys at once has full nodes. Keys that are inserted in rising order leave them half full.

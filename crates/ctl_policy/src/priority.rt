@@ -9,9 +9,9 @@ ghost use Rattle.ctl_store.specs.Held.{keyed_of};
 ghost use Rattle.std.specs.Prelude.{IsSome};
 ghost use Rattle.ctl_store.specs.Pins.{general_pin};
 ghost use Rattle.ctl_policy.specs.Rows.{lead_of, version_under, is_source};
-ghost use Rattle.ctl_policy.specs.Laws.{with_pins};
+ghost use Rattle.ctl_policy.specs.Laws.{world_with};
 ghost use Rattle.ctl_policy.specs.TouchedNames.{keeps_priority};
-ghost use Rattle.ctl_policy.specs.Priority.{Settings, world_of, own_priority, is_target, list_priority, priority_found, matches_text, matches_row, specific_pin, greatest, greatest_with, source_priorities, row_priority};
+ghost use Rattle.ctl_policy.specs.Priority.{MatchesNoRow, PinsNoRow, Settings, world_of, own_priority, is_target, list_priority, priority_found, matches_text, matches_row, specific_pin, greatest, greatest_with, source_priorities, row_priority};
 
 use ctl_relation::Version;
 use ctl_stanza::ListKind;
@@ -44,7 +44,7 @@ fn is_target(target: Option<&[u8]>, list: &[u8], kind: ListKind) -> bool
 
 // The priority of a list, if there is a list of this name, where this is the priority of its general pin.
 fn priority_where_pinned(store: &Store, list: &[u8], pin: Option<i16>) -> Option<i16>
-    ensures { (pins : Settings) → pin ≡ general_pin list.now pins → result ≡ list_priority list.now (with_pins pins (world_of store.now)) }
+    ensures { (pins : Settings) → pin ≡ general_pin list.now pins → result ≡ list_priority list.now (world_with pins store.now) }
 {
     let (kind, class) = store.list(list)?;
     if is_target(store.target(), list, kind) {
@@ -192,7 +192,7 @@ pub fn specific_pin(store: &Store, name: &[u8], keys: &[StanzaKey]) -> Option<i1
 
 // Whether a setting may match a row: one of a version, or of a list that is there.
 fn may_match(store: &Store, selector: &Selector) -> bool
-    ensures { OnFalse result ((name : List ℕ) → (keys : List StanzaKey) → matches_row name (keyed_of store.now).lists keys selector.now ≡ false) }
+    ensures { OnFalse result (MatchesNoRow (keyed_of store.now).lists selector.now) }
 {
     match selector {
         Selector::Version {
@@ -221,13 +221,13 @@ fn is_there(store: &Store, list: &[u8]) -> bool
 /// Whether a specific pin of a name may match a row of it. Pins of lists that aren't there match none.
 #[tactic(auto, using(crate::proofs::OwnLemmas::own_pins))]
 pub(crate) fn is_pinned(store: &Store, name: &[u8]) -> bool
-    ensures { OnFalse result ((keys : List StanzaKey) → specific_pin name.now (keyed_of store.now).lists keys (world_of store.now).pins ≡ None) }
+    ensures { OnFalse result (PinsNoRow name.now (keyed_of store.now).lists (world_of store.now).pins) }
 {
     may_match_any(store, store.pins_of(name))
 }
 
 fn may_match_any(store: &Store, pins: PackagePins<'_>) -> bool
-    ensures { OnFalse result ((name : List ℕ) → (keys : List StanzaKey) → specific_pin name (keyed_of store.now).lists keys pins.entry ≡ None) }
+    ensures { OnFalse result ((name : List ℕ) → PinsNoRow name (keyed_of store.now).lists pins.entry) }
 {
     let mut left = pins;
     'pins: while let Some((selector, _)) = left.next() {

@@ -9,7 +9,7 @@ ghost use Rattle.ctl_policy.specs.Chosen.{kept_of};
 ghost use Rattle.ctl_policy.specs.Laws.{HoldsNone};
 ghost use Rattle.ctl_policy.specs.Priority.{world_of};
 ghost use Rattle.ctl_policy.specs.Touched.{is_one_of, SelectsNone, TargetHoldsNone, LeavePins, LeavesStanzas, IsOfOthers, TouchesAlone, packages_at, sets_again};
-ghost use Rattle.ctl_policy.specs.TouchedNames.{HoldsOfOthers, package_found, packages_among, packages_in, target_packages, selected_package, pinned_packages, repinned_packages};
+ghost use Rattle.ctl_policy.specs.TouchedNames.{HoldsOfOthers, TargetHoldsAlone, package_found, packages_among, packages_in, target_packages, selected_package, pinned_packages, repinned_in};
 
 use crate::again::sets_again;
 use crate::priority::keeps_priority;
@@ -170,8 +170,8 @@ fn target_names(
     store: &Store,
     target: Option<&[u8]>,
 ) -> Result<Vec<Bytes>, AllocError>
-    ensures old { IfOk result (λ names. HoldsOfOthers names.items (λ name. TargetHoldsNone store.now.target name (keyed_of store.now).lists)) }
-    ensures new { IfOk result (λ names. HoldsOfOthers names.items (λ name. TargetHoldsNone (option_copied target.entry) name (keyed_of store.now).lists)) }
+    ensures old { IfOk result (λ names. TargetHoldsAlone names.items store.now.target (keyed_of store.now).lists) }
+    ensures new { IfOk result (λ names. TargetHoldsAlone names.items (option_copied target.entry) (keyed_of store.now).lists) }
 {
     // No list stands twice.
     let _lists = store.lists();
@@ -225,7 +225,7 @@ fn push_repinned(
     settings: &PinSettings,
     names: &mut Vec<Bytes>,
 ) -> Result<(), AllocError>
-    ensures { OnOk result (names.new.items ≡ names.old.items ++ repinned_packages settings.now.pins (world_of store.now) (shown_lists (state_of store.now).lists)) }
+    ensures { OnOk result (names.new.items ≡ names.old.items ++ repinned_in settings.now.pins store.now) }
 {
     let mut left = store.lists();
     'lists: while let Some((list, _, _)) = left.next() {

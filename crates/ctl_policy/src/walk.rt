@@ -1,10 +1,9 @@
 //! The rows of a name, read from the stanzas of a store.
 
-ghost use Rattle.std.specs.Prelude.{◌≡◌, ℕ, List, Some, option_copied, IfOk, OnOk, if◌then◌else◌};
+ghost use Rattle.std.specs.Prelude.{◌≡◌, ℕ, List, option_copied, IfOk, OnOk};
 ghost use Rattle.std.specs.FinMap as fin;
 ghost use Rattle.ctl_store.specs.Held.{keyed_of};
-ghost use Rattle.ctl_policy.specs.Keys.{with_key};
-ghost use Rattle.ctl_policy.specs.Rows.{keys_at, version_in, is_in_row, AreRowsOf};
+ghost use Rattle.ctl_policy.specs.Rows.{AreRowsOf, row_with, version_in};
 
 use crate::rows::Rows;
 use ctl_relation::Version;
@@ -30,7 +29,7 @@ fn put_stanza(
     key: StanzaKey,
     stanza: &Stanza,
 ) -> Result<(), AllocError>
-    ensures { OnOk result ((v : List ℕ) → fin.get rows.new v ≡ (if is_in_row name.now v stanza.now then Some (with_key key (keys_at rows.old v)) else fin.get rows.old v)) }
+    ensures { OnOk result ((v : List ℕ) → fin.get rows.new v ≡ row_with name.now key stanza.now rows.old v) }
 {
     match version_in(name, stanza) {
         Some(version) => rows.put(version, key),

@@ -1,6 +1,6 @@
 //! What a cache tells, where it isn't stale, of the rows of names, of which is installed, and of the candidates.
 
-ghost use Rattle.std.specs.Prelude.{◌≡◌, ◌∷◌, ℕ, List, [], IfSome, IfNone, false, filter_map, map};
+ghost use Rattle.std.specs.Prelude.{◌≡◌, ◌∷◌, ℕ, List, [], IfSome, IfNone, Some, false, filter_map, map};
 ghost use Rattle.std.specs.List.{AllByRecursion, list_any};
 ghost use Rattle.std.specs.List.Sorted.{IsStrictlySortedBy};
 ghost use Rattle.std.specs.Cmp.Lexicographic.{slice_cmp};
@@ -20,6 +20,7 @@ use crate::cache::{Cache, Sources};
 use crate::rows::rows_are_defined;
 use ctl_policy::{
     Chosen, NewestFirst, names_with_rows_are_kept, row_priority, rows_are_held, rows_are_shown,
+    rows_have_leads,
 };
 use ctl_relation::Version;
 use ctl_store::StanzaKey;
@@ -106,9 +107,12 @@ impl Cache {
     /// The rows of a name, newest first: the key of the lead of each. There is none where the name has no row.
     pub fn rows(&self, name: &[u8]) -> Leads<'_>
         requires { self.now.stale ≡ false }
-        ensures { result ≡ filter_map lead_of
+        ensures leads { result ≡ filter_map lead_of
+            (map keys_of_row (newest_first (rows_named name.now (keyed_of self.now.store).lists))) }
+        ensures each { map Some result ≡ map lead_of
             (map keys_of_row (newest_first (rows_named name.now (keyed_of self.now.store).lists))) }
     {
+        rows_have_leads();
         Leads {
             rows: self.row_keys(name),
         }

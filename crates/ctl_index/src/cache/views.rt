@@ -245,7 +245,7 @@ impl Cache {
     pub fn steps(&self) -> u128
         ensures { result ≡ self.now.steps }
     {
-        self.steps.count()
+        self.tables.steps.count()
     }
 
     /// The names that are known, in the order of their bytes, each once: those that are offered, and those that an atom names.

@@ -66,7 +66,7 @@ returns-clause-steps c =
     let most : h.limits.stanzas < 2 ^ 32 = omega (arith, limits) in
     let comes : AreComing plan.added plan.edit = subst (λ ks. AreComing ks plan.edit) c.added-added.ensures.keys c.added-added.ensures.coming in
     let law : IsFollowed h plan = followed_law h plan comes c.counts-counts.ensures.order c.requires.change c.requires.ready.accepted most in
-    c.in_ok-follow.ensures.steps law c.requires.indexed ∙ ap (λ n. more_by n c.args.steps.now) (followed_work h plan comes c.counts-counts.ensures.order c.requires.change)
+    c.in_ok-follow.ensures.steps law c.requires.indexed ∙ ap (λ n. more_by n c.args.tables.now.steps) (followed_work h plan comes c.counts-counts.ensures.order c.requires.change)
 
 pub returns-clause-most : goal.returns-clause-most
 returns-clause-most c =
@@ -76,7 +76,7 @@ returns-clause-most c =
     let most : h.limits.stanzas < 2 ^ 32 = omega (arith, limits) in
     let comes : AreComing plan.added plan.edit = subst (λ ks. AreComing ks plan.edit) c.added-added.ensures.keys c.added-added.ensures.coming in
     let law : IsFollowed h plan = followed_law h plan comes c.counts-counts.ensures.order c.requires.change c.requires.ready.accepted most in
-    subst (λ n. c.follow.new.steps ≤ more_by n c.args.steps.now) (followed_work h plan comes c.counts-counts.ensures.order c.requires.change) (c.follow.ensures.most law c.requires.indexed)
+    subst (λ n. c.follow.new.tables.steps ≤ more_by n c.args.tables.now.steps) (followed_work h plan comes c.counts-counts.ensures.order c.requires.change) (c.follow.ensures.most law c.requires.indexed)
 
 pub returns-in_err-follow-clause-most : goal.returns-in_err-follow-clause-most
 returns-in_err-follow-clause-most c =
@@ -86,4 +86,4 @@ returns-in_err-follow-clause-most c =
     let most : h.limits.stanzas < 2 ^ 32 = omega (arith, limits) in
     let comes : AreComing plan.added plan.edit = subst (λ ks. AreComing ks plan.edit) c.added-added.ensures.keys c.added-added.ensures.coming in
     let law : IsFollowed h plan = followed_law h plan comes c.counts-counts.ensures.order c.requires.change c.requires.ready.accepted most in
-    subst (λ n. c.follow.new.steps ≤ more_by n c.args.steps.now) (followed_work h plan comes c.counts-counts.ensures.order c.requires.change) (c.follow.ensures.most law c.requires.indexed)
+    subst (λ n. c.follow.new.tables.steps ≤ more_by n c.args.tables.now.steps) (followed_work h plan comes c.counts-counts.ensures.order c.requires.change) (c.follow.ensures.most law c.requires.indexed)

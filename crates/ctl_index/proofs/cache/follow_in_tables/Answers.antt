@@ -28,15 +28,15 @@ returns-clause-steps c = λ law was.
     let plan = c.args.plan.now in
     let old = c.args.tables.now in
     let mid = c.take_all.new.tables in
-    let s0 = c.args.steps.now in
+    let s0 = c.args.tables.now.steps in
     let took : IsTakenOut (in_store h) plan.removed old mid = subst (λ (ks : List StanzaKey). IsTakenOut (in_store h) ks old mid) c.removed.ensures c.in_ok-take_all.ensures.tables in
     let left : IsIndexed (staying h plan) mid = take_law (in_store h) plan.removed (standing h) (staying h plan) old mid law.taken was law.outside law.inside law.apart law.apart_going law.seen_staying law.seen_standing c.rows_follow_keys.ensures.go took in
-    let out : c.take_all.new.steps ≡ more_by (pairs_gone h plan) s0 =
-    subst (λ (ks : List StanzaKey). c.take_all.new.steps ≡ more_by (tests_taken_out (in_store h) ks old) s0) c.removed.ensures c.in_ok-take_all.ensures.steps
+    let out : c.take_all.new.tables.steps ≡ more_by (pairs_gone h plan) s0 =
+    subst (λ (ks : List StanzaKey). c.take_all.new.tables.steps ≡ more_by (tests_taken_out (in_store h) ks old) s0) c.removed.ensures c.in_ok-take_all.ensures.steps
     ∙ ap (λ n. more_by n s0) (take_tests (in_store h) plan.removed (standing h) (staying h plan) old mid law.taken was law.outside law.inside law.apart law.apart_going law.seen_staying law.seen_standing) in
-    let in_too : c.put_list.new.steps ≡ more_by (pairs_come h plan) c.take_all.new.steps =
-    subst (λ (ks : List StanzaKey). c.put_list.new.steps ≡ more_by (tests_put_in (with_plan h plan) ks mid) c.take_all.new.steps) c.added.ensures.keys c.in_ok-put_list.ensures.steps
-    ∙ ap (λ n. more_by n c.take_all.new.steps) (put_tests (with_plan h plan) plan.added (standing_after h plan) (staying h plan) mid c.put_list.new.tables law.put left law.apart law.apart_coming law.seen_still law.seen_after) in
+    let in_too : c.put_list.new.tables.steps ≡ more_by (pairs_come h plan) c.take_all.new.tables.steps =
+    subst (λ (ks : List StanzaKey). c.put_list.new.tables.steps ≡ more_by (tests_put_in (with_plan h plan) ks mid) c.take_all.new.tables.steps) c.added.ensures.keys c.in_ok-put_list.ensures.steps
+    ∙ ap (λ n. more_by n c.take_all.new.tables.steps) (put_tests (with_plan h plan) plan.added (standing_after h plan) (staying h plan) mid c.put_list.new.tables law.put left law.apart law.apart_coming law.seen_still law.seen_after) in
     in_too ∙ ap (more_by (pairs_come h plan)) out ∙ more_by_twice (pairs_gone h plan) (pairs_come h plan) s0
 
 pub returns-in_err-take_all-clause-most : goal.returns-in_err-take_all-clause-most
@@ -44,8 +44,8 @@ returns-in_err-take_all-clause-most c = λ law was.
     let h = c.args.store.now in
     let plan = c.args.plan.now in
     let old = c.args.tables.now in
-    let out : c.take_all.new.steps ≤ more_by (tests_taken_out (in_store h) plan.removed old) c.args.steps.now =
-    subst (λ (ks : List StanzaKey). c.take_all.new.steps ≤ more_by (tests_taken_out (in_store h) ks old) c.args.steps.now) c.removed.ensures c.take_all.ensures.most in
+    let out : c.take_all.new.tables.steps ≤ more_by (tests_taken_out (in_store h) plan.removed old) c.args.tables.now.steps =
+    subst (λ (ks : List StanzaKey). c.take_all.new.tables.steps ≤ more_by (tests_taken_out (in_store h) ks old) c.args.tables.now.steps) c.removed.ensures c.take_all.ensures.most in
     omega (arith, out, take_tests (in_store h) plan.removed (standing h) (staying h plan) old c.take_all.new.tables law.taken was law.outside law.inside law.apart law.apart_going law.seen_staying law.seen_standing)
 
 pub returns-in_err-put_list-clause-most : goal.returns-in_err-put_list-clause-most
@@ -54,13 +54,13 @@ returns-in_err-put_list-clause-most c = λ law was.
     let plan = c.args.plan.now in
     let old = c.args.tables.now in
     let mid = c.take_all.new.tables in
-    let s0 = c.args.steps.now in
+    let s0 = c.args.tables.now.steps in
     let took : IsTakenOut (in_store h) plan.removed old mid = subst (λ (ks : List StanzaKey). IsTakenOut (in_store h) ks old mid) c.removed.ensures c.in_ok-take_all.ensures.tables in
     let left : IsIndexed (staying h plan) mid = take_law (in_store h) plan.removed (standing h) (staying h plan) old mid law.taken was law.outside law.inside law.apart law.apart_going law.seen_staying law.seen_standing c.rows_follow_keys.ensures.go took in
-    let out : c.take_all.new.steps ≤ more_by (tests_taken_out (in_store h) plan.removed old) s0 =
-    subst (λ (ks : List StanzaKey). c.take_all.new.steps ≤ more_by (tests_taken_out (in_store h) ks old) s0) c.removed.ensures c.take_all.ensures.most in
-    let in_too : c.put_list.new.steps ≤ more_by (tests_put_in (with_plan h plan) plan.added mid) c.take_all.new.steps =
-    subst (λ (ks : List StanzaKey). c.put_list.new.steps ≤ more_by (tests_put_in (with_plan h plan) ks mid) c.take_all.new.steps) c.added.ensures.keys c.put_list.ensures.most in
+    let out : c.take_all.new.tables.steps ≤ more_by (tests_taken_out (in_store h) plan.removed old) s0 =
+    subst (λ (ks : List StanzaKey). c.take_all.new.tables.steps ≤ more_by (tests_taken_out (in_store h) ks old) s0) c.removed.ensures c.take_all.ensures.most in
+    let in_too : c.put_list.new.tables.steps ≤ more_by (tests_put_in (with_plan h plan) plan.added mid) c.take_all.new.tables.steps =
+    subst (λ (ks : List StanzaKey). c.put_list.new.tables.steps ≤ more_by (tests_put_in (with_plan h plan) ks mid) c.take_all.new.tables.steps) c.added.ensures.keys c.put_list.ensures.most in
     omega (
       arith,
       out,
@@ -73,5 +73,5 @@ pub returns-clause-most : goal.returns-clause-most
 returns-clause-most c = λ law was.
     let h = c.args.store.now in
     let plan = c.args.plan.now in
-    let all : c.put_list.new.steps ≡ more_by (pairs_gone h plan + pairs_come h plan) c.args.steps.now = returns-clause-steps c law was in
+    let all : c.put_list.new.tables.steps ≡ more_by (pairs_gone h plan + pairs_come h plan) c.args.tables.now.steps = returns-clause-steps c law was in
     omega (arith, all)

@@ -1,17 +1,16 @@
-use Rattle.std.proofs.Common.{◌≡◌, ℕ, Option, List, drop, take}
+use Rattle.std.proofs.Common.{◌≡◌, ℕ, List, drop, take}
 use Rattle.ctl_index.specs.declared.keys.ClauseKey.{ClauseKey}
-use Rattle.ctl_index.specs.TablesByName.{offers_under, namers_under, rows_under}
+use Rattle.ctl_index.specs.TablesHeld.{offers_in, namers_in, rows_in, number_told}
 use Rattle.ctl_index.specs.TablesSight.{seen}
-use Rattle.ctl_index.specs.TablesCounters.{entered}
 use Rattle.ctl_index.specs.TablesSteps.{with_each, put_atoms_step, enter_step, atoms_tested}
 use Rattle.ctl_index.specs.Work.{more_by}
 use Rattle.ctl_index.proofs.coming.list_atoms.Given as goal
 
 abbrev pub invariant-loop-key : goal.invariant-loop-key
 invariant-loop-key l = record {
-  namers : (q : List ℕ) → with_each (seen l.fn.sight) (put_atoms_step q) (drop l.key-index l.fn.keys) (namers_under l.names.map q) ≡ with_each (seen l.fn.sight) (put_atoms_step q) l.fn.keys (namers_under l.fn.names.map q);
-  offers : offers_under l.names.map ≡ offers_under l.fn.names.map;
-  rows : rows_under l.names.map ≡ rows_under l.fn.names.map;
-  counts : (k : ClauseKey) (o : Option ℕ) → with_each (seen l.fn.sight) (enter_step l.fn.sight (offers_under l.fn.names.map) k) (drop l.key-index l.fn.keys) (entered l.clauses.items k o) ≡ with_each (seen l.fn.sight) (enter_step l.fn.sight (offers_under l.fn.names.map) k) l.fn.keys (entered l.fn.clauses.items k o);
-  steps : l.steps ≡ more_by (atoms_tested l.fn.sight (offers_under l.fn.names.map) (take l.key-index l.fn.keys)) l.fn.steps;
+  namers : (q : List ℕ) → with_each (seen l.fn.sight) (put_atoms_step q) (drop l.key-index l.fn.keys) (namers_in l.tables q) ≡ with_each (seen l.fn.sight) (put_atoms_step q) l.fn.keys (namers_in l.fn.tables q);
+  offers : offers_in l.tables ≡ offers_in l.fn.tables;
+  rows : rows_in l.tables ≡ rows_in l.fn.tables;
+  counts : (k : ClauseKey) → with_each (seen l.fn.sight) (enter_step l.fn.sight (offers_in l.fn.tables) k) (drop l.key-index l.fn.keys) (number_told l.tables k) ≡ with_each (seen l.fn.sight) (enter_step l.fn.sight (offers_in l.fn.tables) k) l.fn.keys (number_told l.fn.tables k);
+  steps : l.tables.steps ≡ more_by (atoms_tested l.fn.sight (offers_in l.fn.tables) (take l.key-index l.fn.keys)) l.fn.tables.steps;
 }

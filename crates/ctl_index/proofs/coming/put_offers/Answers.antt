@@ -1,11 +1,9 @@
 use Rattle.std.proofs.Common.{◌≡◌, ◌<◌, ◌+◌, List, ℕ, length, take, drop, ap, sym, ◌∙◌, arith, get_or, rules}
-use Rattle.std.specs.BTreeMap.{get}
 use Rattle.std.proofs.lemmas.List.{at_drop_more}
 use Rattle.std.proofs.lemmas.List.Sums.{sum_by_more, sum_by_more_le}
 use Rattle.ctl_store.specs.declared.stanza_key.StanzaKey.{StanzaKey}
 use Rattle.ctl_index.specs.declared.keys.Namer.{Namer}
-use Rattle.ctl_index.specs.Clauses.{clause_cmp}
-use Rattle.ctl_index.specs.TablesByName.{offers_under, namers_under}
+use Rattle.ctl_index.specs.TablesHeld.{offers_in, namers_in, number_in}
 use Rattle.ctl_index.specs.TablesFit.{IsWholeAt}
 use Rattle.ctl_index.specs.TablesSight.{seen}
 use Rattle.ctl_index.specs.TablesSteps.{with_each, with_found, of_found, offers_tests, offers_tested, put_offers_step, raise_step}
@@ -22,8 +20,8 @@ returns-in_err-put_offers_at-clause-most c =
     let d : StanzaKey = record { list = 0; stanza = 0 } in
     let below : i < length keys = omega arith in
     let f : (List ℕ → List Namer) → StanzaKey → ℕ = λ t. of_found (seen s) (offers_tests s t) in
-    let t = namers_under c.args.tables.now.names.map in
-    let one : f (namers_under c.loop-key.tables.names.map) (get_or keys i d) ≡ f t (get_or keys i d) = ap (λ (u : List ℕ → List Namer). f u (get_or keys i d)) c.loop-key.invariant.namers in
+    let t = namers_in c.args.tables.now in
+    let one : f (namers_in c.loop-key.tables) (get_or keys i d) ≡ f t (get_or keys i d) = ap (λ (u : List ℕ → List Namer). f u (get_or keys i d)) c.loop-key.invariant.namers in
     omega (arith, c.put_offers_at.ensures.most, one, c.loop-key.invariant.steps, sum_by_more_le (f t) keys i d below)
 
 pub loop-key-preserved : goal.loop-key-preserved
@@ -34,22 +32,22 @@ loop-key-preserved c =
     let d : StanzaKey = record { list = 0; stanza = 0 } in
     let key = get_or keys i d in
     let below : i < length keys = omega arith in
-    let t = namers_under c.args.tables.now.names.map in
+    let t = namers_in c.args.tables.now in
     record {
       whole = one_more (IsWholeAt (seen s)) keys i d below c.loop-key.invariant.whole c.in_ok-put_offers_at.ensures.whole;
       offers = λ q.
-          let now = offers_under c.loop-key.tables.names.map q in
+          let now = offers_in c.loop-key.tables q in
           ap (with_each (seen s) (put_offers_step q) (drop (i + 1) keys)) (c.in_ok-put_offers_at.ensures.offers q)
           ∙ sym (at_drop_more (λ ks. with_each (seen s) (put_offers_step q) ks now) keys i d below) ∙ c.loop-key.invariant.offers q;
       namers = search rules;
       rows = search rules;
       counts = λ k.
-          let now = get clause_cmp c.loop-key.tables.counters.numbers k in
+          let now = number_in c.loop-key.tables k in
           ap (with_each (seen s) (raise_step s t k) (drop (i + 1) keys)) (c.in_ok-put_offers_at.ensures.counts k
           ∙ ap (λ (u : List ℕ → List Namer). with_found (seen s) (raise_step s u k) key now) c.loop-key.invariant.namers)
           ∙ sym (at_drop_more (λ ks. with_each (seen s) (raise_step s t k) ks now) keys i d below) ∙ c.loop-key.invariant.counts k;
       steps =
-          c.in_ok-put_offers_at.ensures.steps ∙ ap (λ (u : List ℕ → List Namer). more_by (of_found (seen s) (offers_tests s u) key) c.loop-key.steps) c.loop-key.invariant.namers
-          ∙ ap (more_by _) c.loop-key.invariant.steps ∙ more_by_twice (offers_tested s t (take i keys)) _ c.args.steps.now
-          ∙ ap (λ n. more_by n c.args.steps.now) (sym (sum_by_more (of_found (seen s) (offers_tests s t)) keys i d below));
+          c.in_ok-put_offers_at.ensures.steps ∙ ap (λ (u : List ℕ → List Namer). more_by (of_found (seen s) (offers_tests s u) key) c.loop-key.tables.steps) c.loop-key.invariant.namers
+          ∙ ap (more_by _) c.loop-key.invariant.steps ∙ more_by_twice (offers_tested s t (take i keys)) _ c.args.tables.now.steps
+          ∙ ap (λ n. more_by n c.args.tables.now.steps) (sym (sum_by_more (of_found (seen s) (offers_tests s t)) keys i d below));
     }

@@ -1,17 +1,15 @@
 use Rattle.std.proofs.Common.{◌≡◌, ℕ, List, drop, take}
-use Rattle.std.specs.BTreeMap.{get}
 use Rattle.ctl_index.specs.declared.keys.ClauseKey.{ClauseKey}
-use Rattle.ctl_index.specs.Clauses.{clause_cmp}
-use Rattle.ctl_index.specs.TablesByName.{offers_under, namers_under, rows_under}
+use Rattle.ctl_index.specs.TablesHeld.{offers_in, namers_in, rows_in, number_in}
 use Rattle.ctl_index.specs.TablesSteps.{left_fields, dropped_fields, fields_tested}
 use Rattle.ctl_index.specs.Work.{more_by}
 use Rattle.ctl_index.proofs.going.take_fields.Given as goal
 
 abbrev pub invariant-loop-field : goal.invariant-loop-field
 invariant-loop-field l = record {
-  namers : (q : List ℕ) → left_fields l.fn.span l.fn.stanza q (drop l.field-index l.fn.fields) (namers_under l.tables.names.map q) ≡ left_fields l.fn.span l.fn.stanza q l.fn.fields (namers_under l.fn.tables.names.map q);
-  offers : offers_under l.tables.names.map ≡ offers_under l.fn.tables.names.map;
-  rows : rows_under l.tables.names.map ≡ rows_under l.fn.tables.names.map;
-  counts : (k : ClauseKey) → dropped_fields l.fn.key l.fn.stanza (drop l.field-index l.fn.fields) k (get clause_cmp l.tables.counters.numbers k) ≡ dropped_fields l.fn.key l.fn.stanza l.fn.fields k (get clause_cmp l.fn.tables.counters.numbers k);
-  steps : l.steps ≡ more_by (fields_tested l.fn.sight (offers_under l.fn.tables.names.map) (take l.field-index l.fn.fields) l.fn.stanza) l.fn.steps;
+  namers : (q : List ℕ) → left_fields l.fn.going.span l.fn.stanza q (drop l.field-index l.fn.fields) (namers_in l.tables q) ≡ left_fields l.fn.going.span l.fn.stanza q l.fn.fields (namers_in l.fn.tables q);
+  offers : offers_in l.tables ≡ offers_in l.fn.tables;
+  rows : rows_in l.tables ≡ rows_in l.fn.tables;
+  counts : (k : ClauseKey) → dropped_fields l.fn.key l.fn.stanza (drop l.field-index l.fn.fields) k (number_in l.tables k) ≡ dropped_fields l.fn.key l.fn.stanza l.fn.fields k (number_in l.fn.tables k);
+  steps : l.tables.steps ≡ more_by (fields_tested l.fn.going.sight (offers_in l.fn.tables) (take l.field-index l.fn.fields) l.fn.stanza) l.fn.tables.steps;
 }

@@ -9,7 +9,7 @@ use Rattle.ctl_index.proofs.going.take_group.Goals as goal
 
 pub loop-atom-preserved : goal.loop-atom-preserved
 loop-atom-preserved c =
-    let s = c.args.sight.now in
+    let s = c.args.going.now.sight in
     let t = offers_under c.args.names.now.map in
     let a : AtomParts = c.in-Some.atom in
     let rest : List AtomParts = c.next.new.self in
@@ -19,8 +19,8 @@ loop-atom-preserved c =
     let one : atom_tested s c.args.field (offers_under c.loop-atom.names.map a.name) ≡ atom_tested s c.args.field (t a.name) = ap (λ (u : List ℕ → List OfferKey). atom_tested s c.args.field (u a.name)) c.loop-atom.invariant.offers in
     record {
       namers = λ q.
-          ap (left_group c.args.span q rest) (c.take_atom.ensures.namers q)
-          ∙ sym (ap (λ ps. left_group c.args.span q ps (namers_under c.loop-atom.names.map q)) left) ∙ c.loop-atom.invariant.namers q;
+          ap (left_group c.args.going.now.span q rest) (c.take_atom.ensures.namers q)
+          ∙ sym (ap (λ ps. left_group c.args.going.now.span q ps (namers_under c.loop-atom.names.map q)) left) ∙ c.loop-atom.invariant.namers q;
       offers = (λ j q. c.take_atom.ensures.offers q j) ∙ c.loop-atom.invariant.offers;
       rows = (λ j q. c.take_atom.ensures.rows q j) ∙ c.loop-atom.invariant.rows;
       steps = omega (arith, tests, one, c.take_atom.ensures.steps, c.loop-atom.invariant.steps);

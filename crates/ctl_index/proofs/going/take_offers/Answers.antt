@@ -2,19 +2,19 @@ use Rattle.std.proofs.Common.{◌≡◌, ◌<◌, List, ℕ, length, ap, arith, 
 use Rattle.std.proofs.lemmas.List.Sums.{sum_by_more_le}
 use Rattle.ctl_store.specs.declared.stanza_key.StanzaKey.{StanzaKey}
 use Rattle.ctl_index.specs.declared.keys.Namer.{Namer}
-use Rattle.ctl_index.specs.TablesByName.{namers_under}
+use Rattle.ctl_index.specs.TablesHeld.{namers_in}
 use Rattle.ctl_index.specs.TablesSight.{seen}
 use Rattle.ctl_index.specs.TablesSteps.{of_found, offers_tests}
 use Rattle.ctl_index.proofs.going.take_offers.Goals as goal
 
 pub returns-in_err-take_offers_at-clause-most : goal.returns-in_err-take_offers_at-clause-most
 returns-in_err-take_offers_at-clause-most c =
-    let s = c.args.sight.now in
+    let s = c.args.going.now.sight in
     let keys = c.args.keys.now in
     let i = c.loop-key.key-index in
     let d : StanzaKey = record { list = 0; stanza = 0 } in
     let below : i < length keys = omega arith in
     let f : (List ℕ → List Namer) → StanzaKey → ℕ = λ t. of_found (seen s) (offers_tests s t) in
-    let t = namers_under c.args.tables.now.names.map in
-    let one : f (namers_under c.loop-key.tables.names.map) (get_or keys i d) ≡ f t (get_or keys i d) = ap (λ (u : List ℕ → List Namer). f u (get_or keys i d)) c.loop-key.invariant.namers in
+    let t = namers_in c.args.tables.now in
+    let one : f (namers_in c.loop-key.tables) (get_or keys i d) ≡ f t (get_or keys i d) = ap (λ (u : List ℕ → List Namer). f u (get_or keys i d)) c.loop-key.invariant.namers in
     omega (arith, c.take_offers_at.ensures.most, one, c.loop-key.invariant.steps, sum_by_more_le (f t) keys i d below)

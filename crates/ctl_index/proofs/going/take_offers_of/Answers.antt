@@ -1,14 +1,12 @@
 use Rattle.std.proofs.Common.{◌≡◌, ℕ, List, cond, ap, sym, ◌∙◌, ◌+◌, ◌-◌, ◌<◌, length, take, drop, option_map, arith, get_or, rules}
 use Rattle.std.specs.List.{sum_by}
 use Rattle.std.specs.Str.{bytes_eq}
-use Rattle.std.specs.BTreeMap.{get}
 use Rattle.std.proofs.lemmas.List.{at_drop_more}
 use Rattle.std.proofs.lemmas.List.Sums.{sum_by_more, sum_by_more_le}
 use Rattle.ctl_relation.specs.Parts.{OfferParts}
 use Rattle.ctl_index.specs.declared.keys.Namer.{Namer}
 use Rattle.ctl_index.specs.declared.keys.OfferKey.{OfferKey}
-use Rattle.ctl_index.specs.Clauses.{clause_cmp}
-use Rattle.ctl_index.specs.TablesByName.{offers_under, namers_under}
+use Rattle.ctl_index.specs.TablesHeld.{offers_in, namers_in, number_in}
 use Rattle.ctl_index.specs.TablesSight.{hit, tested}
 use Rattle.ctl_index.specs.TablesOrder.{others, offer_stanza}
 use Rattle.ctl_index.specs.TablesSteps.{left_offers, lowered, all_tested}
@@ -18,8 +16,8 @@ use Rattle.ctl_index.proofs.going.take_offers_of.Goals as goal
 
 pub loop-offer-preserved : goal.loop-offer-preserved
 loop-offer-preserved c =
-    let s = c.args.sight.now in
-    let t = namers_under c.args.tables.now.names.map in
+    let s = c.args.going.now.sight in
+    let t = namers_in c.args.tables.now in
     let os = c.args.offers.now in
     let i = c.loop-offer.offer-index in
     let o = c.offer-item.result in
@@ -27,31 +25,31 @@ loop-offer-preserved c =
     let item : o ≡ get_or os i o = search rules in
     record {
       offers = λ q.
-          let now = offers_under c.loop-offer.tables.names.map q in
-          let taken : OfferParts → List OfferKey = λ p. cond (bytes_eq p.name q) (others offer_stanza c.args.span now) now in
-          ap (left_offers c.args.span q (drop (i + 1) os)) (c.in_ok-take_offer.ensures.offers q ∙ ap taken item)
-          ∙ sym (at_drop_more (λ ps. left_offers c.args.span q ps now) os i o below) ∙ c.loop-offer.invariant.offers q;
+          let now = offers_in c.loop-offer.tables q in
+          let taken : OfferParts → List OfferKey = λ p. cond (bytes_eq p.name q) (others offer_stanza c.args.going.now.span now) now in
+          ap (left_offers c.args.going.now.span q (drop (i + 1) os)) (c.in_ok-take_offer.ensures.offers q ∙ ap taken item)
+          ∙ sym (at_drop_more (λ ps. left_offers c.args.going.now.span q ps now) os i o below) ∙ c.loop-offer.invariant.offers q;
       namers = (λ j q. c.in_ok-take_offer.ensures.namers q j) ∙ c.loop-offer.invariant.namers;
       rows = (λ j q. c.in_ok-take_offer.ensures.rows q j) ∙ c.loop-offer.invariant.rows;
       counts = λ k.
-          let now = get clause_cmp c.loop-offer.tables.counters.numbers k in
+          let now = number_in c.loop-offer.tables k in
           ap (lowered s t (drop (i + 1) os) k) (c.in_ok-take_offer.ensures.counts k ∙ ap (λ (u : List ℕ → List Namer). option_map (λ (n : ℕ). n - sum_by (hit s o k) (u o.name)) now) c.loop-offer.invariant.namers ∙ ap (λ (p : OfferParts). option_map (λ (n : ℕ). n - sum_by (hit s p k) (t p.name)) now) item)
           ∙ sym (at_drop_more (λ ps. lowered s t ps k now) os i o below) ∙ c.loop-offer.invariant.counts k;
       steps =
-          c.in_ok-take_offer.ensures.steps ∙ ap (λ (u : List ℕ → List Namer). more_by (sum_by (tested s o.name) (u o.name)) c.loop-offer.steps) c.loop-offer.invariant.namers
-          ∙ ap (λ (p : OfferParts). more_by (sum_by (tested s p.name) (t p.name)) c.loop-offer.steps) item ∙ ap (more_by _) c.loop-offer.invariant.steps ∙ more_by_twice (all_tested s t (take i os)) _ c.args.steps.now
-          ∙ ap (λ n. more_by n c.args.steps.now) (sym (sum_by_more (λ (p : OfferParts). sum_by (tested s p.name) (t p.name)) os i o below));
+          c.in_ok-take_offer.ensures.steps ∙ ap (λ (u : List ℕ → List Namer). more_by (sum_by (tested s o.name) (u o.name)) c.loop-offer.tables.steps) c.loop-offer.invariant.namers
+          ∙ ap (λ (p : OfferParts). more_by (sum_by (tested s p.name) (t p.name)) c.loop-offer.tables.steps) item ∙ ap (more_by _) c.loop-offer.invariant.steps ∙ more_by_twice (all_tested s t (take i os)) _ c.args.tables.now.steps
+          ∙ ap (λ n. more_by n c.args.tables.now.steps) (sym (sum_by_more (λ (p : OfferParts). sum_by (tested s p.name) (t p.name)) os i o below));
     }
 
 pub returns-in_err-take_offer-clause-most : goal.returns-in_err-take_offer-clause-most
 returns-in_err-take_offer-clause-most c =
-    let s = c.args.sight.now in
-    let t = namers_under c.args.tables.now.names.map in
+    let s = c.args.going.now.sight in
+    let t = namers_in c.args.tables.now in
     let os = c.args.offers.now in
     let i = c.loop-offer.offer-index in
     let o = c.offer-item.result in
     let below : i < length os = omega arith in
     let item : o ≡ get_or os i o = search rules in
-    let one : sum_by (tested s o.name) (namers_under c.loop-offer.tables.names.map o.name) ≡ sum_by (tested s (get_or os i o).name) (t (get_or os i o).name) =
+    let one : sum_by (tested s o.name) (namers_in c.loop-offer.tables o.name) ≡ sum_by (tested s (get_or os i o).name) (t (get_or os i o).name) =
     ap (λ (u : List ℕ → List Namer). sum_by (tested s o.name) (u o.name)) c.loop-offer.invariant.namers ∙ ap (λ (p : OfferParts). sum_by (tested s p.name) (t p.name)) item in
     omega (arith, c.take_offer.ensures.most, one, c.loop-offer.invariant.steps, sum_by_more_le (λ (p : OfferParts). sum_by (tested s p.name) (t p.name)) os i o below)

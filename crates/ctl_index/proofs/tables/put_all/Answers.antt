@@ -1,7 +1,7 @@
 use Rattle.std.proofs.Common.{ℕ, List, ap, ◌∙◌, arith}
 use Rattle.std.specs.FinMap as fin
 use Rattle.ctl_index.specs.declared.keys.OfferKey.{OfferKey}
-use Rattle.ctl_index.specs.TablesByName.{namers_under}
+use Rattle.ctl_index.specs.TablesHeld.{namers_in}
 use Rattle.ctl_index.specs.TablesIndexed.{offers_put}
 use Rattle.ctl_index.specs.TablesSight.{seen}
 use Rattle.ctl_index.specs.TablesSteps.{with_each, put_atoms_step, put_rows_step, enter_step, offers_tested, atoms_tested}
@@ -29,7 +29,7 @@ returns-clause-steps c =
     let keys = c.args.keys.now in
     let old = c.args.tables.now in
     c.in_ok-put_atoms.ensures.steps ∙ (λ i. more_by (atoms_tested s (λ q. c.in_ok-put_offers.ensures.offers q i) keys) (c.in_ok-put_offers.ensures.steps i))
-    ∙ more_by_twice (offers_tested s (namers_under old.names.map) keys) (atoms_tested s (offers_put s keys old) keys) c.args.steps.now
+    ∙ more_by_twice (offers_tested s (namers_in old) keys) (atoms_tested s (offers_put s keys old) keys) c.args.tables.now.steps
 
 pub returns-clause-most : goal.returns-clause-most
 returns-clause-most c =

@@ -1,22 +1,23 @@
 use Rattle.std.proofs.Common.{◌≡◌, ℕ, List, ap, ◌∙◌, arith}
 use Rattle.std.specs.FinMap as fin
 use Rattle.ctl_index.specs.declared.keys.Namer.{Namer}
-use Rattle.ctl_index.specs.TablesByName.{offers_under, namers_under}
+use Rattle.ctl_index.specs.TablesHeld.{offers_in, namers_in}
 use Rattle.ctl_index.specs.TablesIndexed.{namers_taken}
 use Rattle.ctl_index.specs.TablesSight.{seen}
 use Rattle.ctl_index.specs.TablesSteps.{with_each, span_of, take_offers_step, take_atoms_step, take_rows_step, lower_step, offers_tested, atoms_tested}
 use Rattle.ctl_index.specs.Work.{more_by}
 use Rattle.ctl_index.proofs.CounterLemmas.{more_by_twice}
+use Rattle.ctl_index.specs.TablesHeld.{offers_in, namers_in}
 use Rattle.ctl_index.proofs.tables.take_all.Goals as goal
 
 pub returns-clause-tables : goal.returns-clause-tables
 returns-clause-tables c =
-    let s = c.args.sight.now in
+    let s = c.args.sight in
     let keys = c.args.keys.now in
     let old = c.args.tables.now in
     let span : c.in-Some.span ≡ span_of keys = c.in-Some.ensures.some in
-    let left : (q : List ℕ) → namers_under c.take_atoms.new.tables.names.map q ≡ namers_taken s keys old q =
-    λ q. c.take_atoms.ensures.namers q ∙ (λ i. with_each (seen s) (take_atoms_step (span i) q) keys (namers_under old.names.map q)) in
+    let left : (q : List ℕ) → namers_in c.take_atoms.new.tables q ≡ namers_taken s keys old q =
+    λ q. c.take_atoms.ensures.namers q ∙ (λ i. with_each (seen s) (take_atoms_step (span i) q) keys (namers_in old q)) in
     record {
       offers = λ q. (λ i. c.take_rows.ensures.offers i q) ∙ c.in_ok-take_offers.ensures.offers q ∙ (λ i. with_each (seen s) (take_offers_step (span i) q) keys (c.take_atoms.ensures.offers i q));
       namers = λ q. (λ i. c.take_rows.ensures.namers i q) ∙ (λ i. c.in_ok-take_offers.ensures.namers i q) ∙ left q;
@@ -28,33 +29,33 @@ returns-clause-tables c =
 
 pub returns-clause-steps : goal.returns-clause-steps
 returns-clause-steps c =
-    let s = c.args.sight.now in
+    let s = c.args.sight in
     let keys = c.args.keys.now in
     let old = c.args.tables.now in
     let span : c.in-Some.span ≡ span_of keys = c.in-Some.ensures.some in
-    let left : (q : List ℕ) → namers_under c.take_atoms.new.tables.names.map q ≡ namers_taken s keys old q =
-    λ q. c.take_atoms.ensures.namers q ∙ (λ i. with_each (seen s) (take_atoms_step (span i) q) keys (namers_under old.names.map q)) in
+    let left : (q : List ℕ) → namers_in c.take_atoms.new.tables q ≡ namers_taken s keys old q =
+    λ q. c.take_atoms.ensures.namers q ∙ (λ i. with_each (seen s) (take_atoms_step (span i) q) keys (namers_in old q)) in
     c.in_ok-take_offers.ensures.steps ∙ (λ i. more_by (offers_tested s (λ q. left q i) keys) (c.take_atoms.ensures.steps i))
-    ∙ more_by_twice (atoms_tested s (offers_under old.names.map) keys) (offers_tested s (namers_taken s keys old) keys) c.args.steps.now
+    ∙ more_by_twice (atoms_tested s (offers_in old) keys) (offers_tested s (namers_taken s keys old) keys) c.args.tables.now.steps
 
 pub returns-clause-most : goal.returns-clause-most
 returns-clause-most c =
-    let s = c.args.sight.now in
+    let s = c.args.sight in
     let keys = c.args.keys.now in
     let old = c.args.tables.now in
     let span : c.in-Some.span ≡ span_of keys = c.in-Some.ensures.some in
-    let left : (q : List ℕ) → namers_under c.take_atoms.new.tables.names.map q ≡ namers_taken s keys old q =
-    λ q. c.take_atoms.ensures.namers q ∙ (λ i. with_each (seen s) (take_atoms_step (span i) q) keys (namers_under old.names.map q)) in
+    let left : (q : List ℕ) → namers_in c.take_atoms.new.tables q ≡ namers_taken s keys old q =
+    λ q. c.take_atoms.ensures.namers q ∙ (λ i. with_each (seen s) (take_atoms_step (span i) q) keys (namers_in old q)) in
     let same = ap (λ (t : List ℕ → List Namer). offers_tested s t keys) (λ i q. left q i) in
     omega (arith, c.in_ok-take_offers.ensures.steps, c.take_atoms.ensures.steps, same)
 
 pub returns-in_err-take_offers-clause-most : goal.returns-in_err-take_offers-clause-most
 returns-in_err-take_offers-clause-most c =
-    let s = c.args.sight.now in
+    let s = c.args.sight in
     let keys = c.args.keys.now in
     let old = c.args.tables.now in
     let span : c.in-Some.span ≡ span_of keys = c.in-Some.ensures.some in
-    let left : (q : List ℕ) → namers_under c.take_atoms.new.tables.names.map q ≡ namers_taken s keys old q =
-    λ q. c.take_atoms.ensures.namers q ∙ (λ i. with_each (seen s) (take_atoms_step (span i) q) keys (namers_under old.names.map q)) in
+    let left : (q : List ℕ) → namers_in c.take_atoms.new.tables q ≡ namers_taken s keys old q =
+    λ q. c.take_atoms.ensures.namers q ∙ (λ i. with_each (seen s) (take_atoms_step (span i) q) keys (namers_in old q)) in
     let same = ap (λ (t : List ℕ → List Namer). offers_tested s t keys) (λ i q. left q i) in
     omega (arith, c.take_offers.ensures.most, c.take_atoms.ensures.steps, same)

@@ -35,7 +35,7 @@ invariant_of-self-in-Some c =
     let w : Named = record { offers = c.put.new.self; namers = v.namers; rows = v.rows } in
     record {
       used = used_written c.name.result.now m (c.get_mut.follows.lender w) w (on_some c.in-Some.is (c.get_mut.follows.holds w))
-          (ap (λ (os : List OfferKey). not ((nat_eq (length os) 0 && nat_eq (length (named_namers v)) 0) && nat_eq (fin.len (named_rows v)) 0)) c.in_ok-put-in-Some.ensures.ok ∙ used_more offer_stanza (named_offers v) c.args.key (nat_eq (length (named_namers v)) 0) (nat_eq (fin.len (named_rows v)) 0)) c.args.self.now.used;
+          (ap (λ (os : List OfferKey). not ((nat_eq (length os) 0 && nat_eq (length (named_namers v)) 0) && nat_eq (fin.len (named_rows v)) 0)) c.in_ok-put-in-Some.ensures.ok ∙ used_more offer_stanza (named_offers v) c.args.coming.key (nat_eq (length (named_namers v)) 0) (nat_eq (fin.len (named_rows v)) 0)) c.args.self.now.used;
     }
 
 pub returns-in_ok-put-in-Some-clause-offers : goal.returns-in_ok-put-in-Some-clause-offers
@@ -43,7 +43,7 @@ returns-in_ok-put-in-Some-clause-offers c =
     let m = c.args.self.now.map in
     let v = c.in-Some.named.now in
     let w : Named = record { offers = c.put.new.self; namers = v.namers; rows = v.rows } in
-    let f : List OfferKey → List OfferKey = λ l. put_in_order offer_stanza c.args.key l in
+    let f : List OfferKey → List OfferKey = λ l. put_in_order offer_stanza c.args.coming.key l in
     λ q.
     changed named_offers [] c.name.result.now m (c.get_mut.follows.lender w) w f (on_some c.in-Some.is (c.get_mut.follows.holds w)) (c.in_ok-put-in-Some.ensures.ok ∙ ap f (part-found named_offers [] c.name.result.now m _ c.in-Some.ensures.value)) q
     ∙ ap (λ b. cond (bytes_eq b q) (f (offers_under m q)) (offers_under m q)) c.name.ensures
@@ -58,8 +58,8 @@ returns-in_ok-put-in-Some-clause-namers c =
 pub returns-in_ok-put-in-Some-clause-counts : goal.returns-in_ok-put-in-Some-clause-counts
 returns-in_ok-put-in-Some-clause-counts c =
     let m = c.args.self.now.map in
-    let same : c.as_slice.result.now ≡ namers_under m c.args.offer.now.name = c.as_slice.ensures ∙ part-found named_namers [] c.name.result.now m _ c.in-Some.ensures.value ∙ ap (namers_under m) c.name.ensures in
-    subst (λ (xs : List Namer). (k : ClauseKey) → get clause_cmp c.meet.new.counters.numbers k ≡ option_map (counted_up (sum_by (hit c.args.sight.now c.args.offer.now k) xs)) (get clause_cmp c.args.counters.now.numbers k)) same c.meet.ensures.counts
+    let same : c.as_slice.result.now ≡ namers_under m c.args.coming.offer.now.name = c.as_slice.ensures ∙ part-found named_namers [] c.name.result.now m _ c.in-Some.ensures.value ∙ ap (namers_under m) c.name.ensures in
+    subst (λ (xs : List Namer). (k : ClauseKey) → get clause_cmp c.meet.new.counters.numbers k ≡ option_map (counted_up (sum_by (hit c.args.sight.now c.args.coming.offer.now k) xs)) (get clause_cmp c.args.counters.now.numbers k)) same c.meet.ensures.counts
 
 pub returns-in_ok-put-in-Some-clause-rows : goal.returns-in_ok-put-in-Some-clause-rows
 returns-in_ok-put-in-Some-clause-rows c =

@@ -40,10 +40,10 @@ returns-then-not-is_used-clause-namers c =
     let writes : IsSetAt bs m n (Some w) = on_some c.in-Some.is (c.get_mut.follows.holds w) in
     let removes : IsSetAt bs n c.remove.new.self None = subst (λ (b : List ℕ). IsSetAt b n c.remove.new.self None) (c.name-then-not-is_used.ensures ∙ sym c.name.ensures) c.remove.ensures in
     let left = nothing_left w (sym c.is_used.ensures ∙ c.if-not-is_used.true) in
-    let none : others namer_stanza c.args.span (namers_under m bs) ≡ [] = sym (c.take.ensures ∙ ap (others namer_stanza c.args.span) (part-found named_namers [] bs m _ c.in-Some.ensures.value)) ∙ left.namers in
+    let none : others namer_stanza c.args.going.now.span (namers_under m bs) ≡ [] = sym (c.take.ensures ∙ ap (others namer_stanza c.args.going.now.span) (part-found named_namers [] bs m _ c.in-Some.ensures.value)) ∙ left.namers in
     λ q.
-    replaced named_namers [] bs m n c.remove.new.self w (others namer_stanza c.args.span) writes removes none q
-    ∙ ap (λ b. cond (bytes_eq b q) (others namer_stanza c.args.span (namers_under m q)) (namers_under m q)) c.name.ensures
+    replaced named_namers [] bs m n c.remove.new.self w (others namer_stanza c.args.going.now.span) writes removes none q
+    ∙ ap (λ b. cond (bytes_eq b q) (others namer_stanza c.args.going.now.span (namers_under m q)) (namers_under m q)) c.name.ensures
 
 pub returns-then-not-is_used-clause-offers : goal.returns-then-not-is_used-clause-offers
 returns-then-not-is_used-clause-offers c =
@@ -67,8 +67,8 @@ returns-else-not-is_used-clause-namers c =
     let n = c.get_mut.follows.lender w in
     let writes : IsSetAt bs m n (Some w) = on_some c.in-Some.is (c.get_mut.follows.holds w) in
     λ q.
-    changed named_namers [] bs m n w (others namer_stanza c.args.span) writes (c.take.ensures ∙ ap (others namer_stanza c.args.span) (part-found named_namers [] bs m _ c.in-Some.ensures.value)) q
-    ∙ ap (λ b. cond (bytes_eq b q) (others namer_stanza c.args.span (namers_under m q)) (namers_under m q)) c.name.ensures
+    changed named_namers [] bs m n w (others namer_stanza c.args.going.now.span) writes (c.take.ensures ∙ ap (others namer_stanza c.args.going.now.span) (part-found named_namers [] bs m _ c.in-Some.ensures.value)) q
+    ∙ ap (λ b. cond (bytes_eq b q) (others namer_stanza c.args.going.now.span (namers_under m q)) (namers_under m q)) c.name.ensures
 
 pub returns-else-not-is_used-clause-offers : goal.returns-else-not-is_used-clause-offers
 returns-else-not-is_used-clause-offers c =

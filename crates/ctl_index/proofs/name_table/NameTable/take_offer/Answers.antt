@@ -50,10 +50,10 @@ returns-then-not-is_used-clause-offers c =
     let writes : IsSetAt bs m n (Some w) = on_some c.in-Some.is (c.get_mut.follows.holds w) in
     let removes : IsSetAt bs n c.remove.new.self None = subst (λ (b : List ℕ). IsSetAt b n c.remove.new.self None) (c.name-then-not-is_used.ensures ∙ sym c.name.ensures) c.remove.ensures in
     let left = nothing_left w (sym c.is_used.ensures ∙ c.if-not-is_used.true) in
-    let none : others offer_stanza c.args.span (offers_under m bs) ≡ [] = sym (c.take.ensures ∙ ap (others offer_stanza c.args.span) (part-found named_offers [] bs m _ c.in-Some.ensures.value)) ∙ left.offers in
+    let none : others offer_stanza c.args.going.now.span (offers_under m bs) ≡ [] = sym (c.take.ensures ∙ ap (others offer_stanza c.args.going.now.span) (part-found named_offers [] bs m _ c.in-Some.ensures.value)) ∙ left.offers in
     λ q.
-    replaced named_offers [] bs m n c.remove.new.self w (others offer_stanza c.args.span) writes removes none q
-    ∙ ap (λ b. cond (bytes_eq b q) (others offer_stanza c.args.span (offers_under m q)) (offers_under m q)) c.name.ensures
+    replaced named_offers [] bs m n c.remove.new.self w (others offer_stanza c.args.going.now.span) writes removes none q
+    ∙ ap (λ b. cond (bytes_eq b q) (others offer_stanza c.args.going.now.span (offers_under m q)) (offers_under m q)) c.name.ensures
 
 pub returns-then-not-is_used-clause-namers : goal.returns-then-not-is_used-clause-namers
 returns-then-not-is_used-clause-namers c =
@@ -77,8 +77,8 @@ returns-else-not-is_used-clause-offers c =
     let n = c.get_mut.follows.lender w in
     let writes : IsSetAt bs m n (Some w) = on_some c.in-Some.is (c.get_mut.follows.holds w) in
     λ q.
-    changed named_offers [] bs m n w (others offer_stanza c.args.span) writes (c.take.ensures ∙ ap (others offer_stanza c.args.span) (part-found named_offers [] bs m _ c.in-Some.ensures.value)) q
-    ∙ ap (λ b. cond (bytes_eq b q) (others offer_stanza c.args.span (offers_under m q)) (offers_under m q)) c.name.ensures
+    changed named_offers [] bs m n w (others offer_stanza c.args.going.now.span) writes (c.take.ensures ∙ ap (others offer_stanza c.args.going.now.span) (part-found named_offers [] bs m _ c.in-Some.ensures.value)) q
+    ∙ ap (λ b. cond (bytes_eq b q) (others offer_stanza c.args.going.now.span (offers_under m q)) (offers_under m q)) c.name.ensures
 
 pub returns-else-not-is_used-clause-namers : goal.returns-else-not-is_used-clause-namers
 returns-else-not-is_used-clause-namers c =
@@ -94,13 +94,13 @@ pub returns-then-not-is_used-clause-counts : goal.returns-then-not-is_used-claus
 returns-then-not-is_used-clause-counts c = λ k.
     let m = c.args.self.now.map in
     let same : c.as_slice.result.now ≡ namers_under m c.args.offer.now.name = c.as_slice.ensures ∙ part-found named_namers [] c.name.result.now m _ c.in-Some.ensures.value ∙ ap (namers_under m) c.name.ensures in
-    c.in_ok-part.ensures.counts k ∙ ap (λ (xs : List Namer). option_map (λ (n : ℕ). n - sum_by (hit c.args.sight.now c.args.offer.now k) xs) (get clause_cmp c.args.counters.now.numbers k)) same
+    c.in_ok-part.ensures.counts k ∙ ap (λ (xs : List Namer). option_map (λ (n : ℕ). n - sum_by (hit c.args.going.now.sight c.args.offer.now k) xs) (get clause_cmp c.args.counters.now.numbers k)) same
 
 pub returns-else-not-is_used-clause-counts : goal.returns-else-not-is_used-clause-counts
 returns-else-not-is_used-clause-counts c = λ k.
     let m = c.args.self.now.map in
     let same : c.as_slice.result.now ≡ namers_under m c.args.offer.now.name = c.as_slice.ensures ∙ part-found named_namers [] c.name.result.now m _ c.in-Some.ensures.value ∙ ap (namers_under m) c.name.ensures in
-    c.in_ok-part.ensures.counts k ∙ ap (λ (xs : List Namer). option_map (λ (n : ℕ). n - sum_by (hit c.args.sight.now c.args.offer.now k) xs) (get clause_cmp c.args.counters.now.numbers k)) same
+    c.in_ok-part.ensures.counts k ∙ ap (λ (xs : List Namer). option_map (λ (n : ℕ). n - sum_by (hit c.args.going.now.sight c.args.offer.now k) xs) (get clause_cmp c.args.counters.now.numbers k)) same
 
 pub returns-then-not-is_used-clause-rows : goal.returns-then-not-is_used-clause-rows
 returns-then-not-is_used-clause-rows c =

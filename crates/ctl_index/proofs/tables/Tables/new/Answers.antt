@@ -1,5 +1,5 @@
 use Rattle.ctl_index.proofs.RecoverLemmas.{nothing_indexed}
 use Rattle.ctl_index.proofs.tables.Tables.new.Goals as goal
 
-pub returns : goal.returns
-returns c = nothing_indexed _ c.new.ensures c.new-2.ensures
+pub returns-clause-indexed : goal.returns-clause-indexed
+returns-clause-indexed c = nothing_indexed _ c.new.ensures c.new-2.ensures
