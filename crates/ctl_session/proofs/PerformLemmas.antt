@@ -43,8 +43,8 @@ lines_told None false last last' same = ap (lines_refused None false) (same refl
 pub lines_read : (cache : CacheState) (last_line : ℕ) (read : CommandRead) (command : Command) → Describes cache last_line read command →
     lines_refused read.body.too_long read.body.ended last_line ≡ refusal_of_lines command
 lines_read cache last_line read command describes =
-    ap (λ long. lines_refused long read.body.ended last_line) describes.long ∙ ap (λ ended. lines_refused _ ended last_line) describes.ended ∙
-    lines_told _ command.ended last_line (command.number + length command.body) describes.end
+    ap (λ long. lines_refused long read.body.ended last_line) describes.long ∙ ap (λ ended. lines_refused (first_long command.number (command.line ∷ command.body)) ended last_line) describes.ended ∙
+    lines_told (first_long command.number (command.line ∷ command.body)) command.ended last_line (command.number + length command.body) describes.end
 
 -- a command that is refused by its lines comes to that
 pub lines_may : (cache : CacheState) (last_line : ℕ) (read : CommandRead) (refused : RefusalAt) → lines_refused read.body.too_long read.body.ended last_line ≡ Some refused →

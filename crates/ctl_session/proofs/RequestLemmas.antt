@@ -1,10 +1,11 @@
 -- What the line of a command asks for.
-use Rattle.std.proofs.Common.{◌≡◌, ◌∙◌, ℕ, ◌&&◌, List, ◌∷◌, true, Option, None, Some, is_none, is_some, Result, Ok, Err, inl, inr, refl, sym, ap, subst}
+use Rattle.std.proofs.Common.{◌≡◌, ◌∙◌, ℕ, ◌&&◌, List, [], ◌∷◌, Bool, true, false, Option, None, Some, is_none, is_some, is_ok, IfErr, Result, Ok, Err, inl, inr, refl, sym, ap, subst}
 use Rattle.std.specs.Option.{option_map}
 use Rattle.ctl_store.specs.declared.refusal.Refusal.{Refusal}
 use Rattle.ctl_store.specs.declared.refusal.Refusal.TheVariants as refusal
 use Rattle.ctl_store.specs.Named.{at_name}
 use Rattle.ctl_store.specs.State.{StanzaList}
+use Rattle.ctl_stanza.specs.Lines.{text_of_lines}
 use Rattle.ctl_session.specs.State.{CacheState}
 use Rattle.ctl_session.specs.Outcome.{Outcome, Refused}
 use Rattle.ctl_session.specs.Effect.{DoesWhatIsAsked, MayCome, put_into}
@@ -30,6 +31,11 @@ pub whole_does : (cache : CacheState) (command : Command) (line : List ℕ) (ask
 whole_does cache command line asked outcome same whole asks does =
     inl (subst (λ r. DoesWhatIsAsked cache command r outcome)
     (sym (whole_asks command whole ∙ ap (λ l. refused_at command.number (request_of_line l)) same ∙ ap (refused_at command.number) asks)) does)
+
+-- lines of a body are kept only where its line asks for something
+pub kept_if_asked : (request : Result Request Refusal) (text : List ℕ) (is_kept : Bool) → is_kept ≡ is_ok request → (is_kept ≡ false → text ≡ []) → IfErr request (λ _. text ≡ [])
+kept_if_asked (Ok request) text is_kept same kept = tt
+kept_if_asked (Err cause) text is_kept same kept = kept same
 
 -- ---- refusals
 
@@ -61,7 +67,7 @@ no_list cache number name text (Some list) bad = absurd (cc bad)
 refused_for_no_list : (cache : CacheState) (line : List ℕ) → AsksForNoList cache (request_of_line line) → IsRefusedWithAnyBody cache line refusal.NoList
 refused_for_no_list cache line asks = λ command same whole.
     whole_does cache command line (Ok (Put asks.0)) (Refused command.number refusal.NoList) same whole asks.1
-    (no_list cache command.number asks.0 _ (at_name asks.0 cache.store.lists) asks.2)
+    (no_list cache command.number asks.0 (text_of_lines command.body) (at_name asks.0 cache.store.lists) asks.2)
 
 -- what the words of a line were read to is what the line was read to
 pub reads_line : (cache : CacheState) (line : List ℕ) (read : Result Request Refusal) (asked : Result RequestText Refusal) → names_command line ≡ true →

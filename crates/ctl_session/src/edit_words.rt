@@ -1,9 +1,11 @@
 //! The words of commands on stanzas, marks and the target release.
 
-ghost use Rattle.std.specs.Prelude.{Ok};
+ghost use Rattle.std.specs.Prelude.{◌≡◌, ◌⊎◌, IfOk, IfErr, None, is_none, false};
+ghost use Rattle.ctl_relation.specs.Version.{fault_of};
+ghost use Rattle.ctl_store.specs.declared.refusal.Refusal.TheVariants.{Memory, Version as BadVersion};
 ghost use Rattle.ctl_store.specs.Edits.{edit_of};
 ghost use Rattle.ctl_query.specs.QueryRead.{Reads};
-ghost use Rattle.ctl_session.specs.Request.{if_version, remove_edit as remove_asked, mark_edit as mark_asked, target_edit as target_asked};
+ghost use Rattle.ctl_session.specs.Request.{remove_edit as remove_asked, mark_edit as mark_asked, target_edit as target_asked};
 
 use crate::list_words::copied;
 use ctl_relation::{Bytes, Version, VersionFault, is_name};
@@ -12,7 +14,8 @@ use std::alloc::Global;
 
 /// A word that has to be a version.
 fn version_of(alloc: Global, word: &Bytes) -> Result<Version, Refusal>
-    ensures { Reads (λ version. version) result (if_version word.now (Ok word.now)) }
+    ensures ok { IfOk result (λ version. (version ≡ word.now) × (fault_of word.now ≡ None)) }
+    ensures err { IfErr result (λ cause. (cause ≡ Memory) ⊎ ((cause ≡ BadVersion) × (is_none (fault_of word.now) ≡ false))) }
 {
     match Version::parse(alloc, word.as_slice()) {
         Ok(version) => Ok(version),

@@ -5,7 +5,7 @@ ghost use Rattle.ctl_store.specs.Edits.{edit_of};
 ghost use Rattle.ctl_store.specs.declared.refusal.Refusal.TheVariants.{Memory};
 ghost use Rattle.ctl_query.specs.QueryRead.{Reads};
 ghost use Rattle.ctl_session.specs.Request.{if_name, read_name, kind_of_word, class_of_words};
-ghost use Rattle.ctl_session.specs.Request.{add_list_request as add_list_asked, put_request as put_asked, prefs_request as prefs_asked};
+ghost use Rattle.ctl_session.specs.Request.{AddList as NewListAsked, add_list_request as add_list_asked, put_request as put_asked, prefs_request as prefs_asked};
 ghost use Rattle.ctl_session.specs.Request.{drop_list_edit as drop_list_asked, unmark_edit as unmark_asked};
 ghost use Rattle.ctl_session.specs.State.{cache_state};
 ghost use Rattle.ctl_session.specs.Asked.{ReadsForAny, ReadsRequest};
@@ -78,23 +78,37 @@ fn class_of_words(kind: &[u8], class: &[u8]) -> Option<ListClass>
     None
 }
 
+/// A new list of this name, kind and class.
+fn new_list(
+    alloc: Global,
+    name: &Bytes,
+    kind: ListKind,
+    class: ListClass,
+) -> Result<Request, Refusal>
+    ensures { ReadsForAny result (if_name name.now (Ok (NewListAsked name.now kind class))) }
+{
+    if !is_name(name.as_slice()) {
+        return Err(Refusal::Name);
+    }
+    let name = copied(alloc, name)?;
+    Ok(Request::AddList(NewList { name, kind, class }))
+}
+
 /// `add-list NAME packages [notauto|butauto]` or `add-list NAME status`
 pub(crate) fn add_list_request(alloc: Global, words: &[Bytes]) -> Result<Request, Refusal>
     ensures { ReadsForAny result (add_list_asked words.now) }
 {
-    let (name, kind, class) = match words {
+    match words {
         [name, kind] => match kind_of_word(kind.as_slice()) {
-            Some(kind) => (name, kind, ListClass::Plain),
-            None => return Err(Refusal::Usage),
+            Some(kind) => new_list(alloc, name, kind, ListClass::Plain),
+            None => Err(Refusal::Usage),
         },
         [name, kind, class] => match class_of_words(kind.as_slice(), class.as_slice()) {
-            Some(class) => (name, ListKind::Packages, class),
-            None => return Err(Refusal::Usage),
+            Some(class) => new_list(alloc, name, ListKind::Packages, class),
+            None => Err(Refusal::Usage),
         },
-        _ => return Err(Refusal::Usage),
-    };
-    let name = copied_name(alloc, name)?;
-    Ok(Request::AddList(NewList { name, kind, class }))
+        _ => Err(Refusal::Usage),
+    }
 }
 
 /// `put NAME`, into a list that is there

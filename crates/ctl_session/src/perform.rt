@@ -1,6 +1,6 @@
 //! Doing what a command asks for.
 
-ghost use Rattle.std.specs.Prelude.{◌≡◌, ℕ, List, false, None, []};
+ghost use Rattle.std.specs.Prelude.{◌≡◌, ℕ, List, OnErr, false, None, []};
 ghost use Rattle.ctl_session.specs.Request.{lines_refused};
 ghost use Rattle.ctl_session.specs.State.{CacheState, cache_state};
 ghost use Rattle.ctl_session.specs.Replies.{outcome_from, outcome_of_edit, MayDo, ReadMayCome, ChangesByEdit};
@@ -18,7 +18,8 @@ use std::alloc::Global;
 
 /// What an edit came to.
 fn reply_of_edit(edited: Result<(), RefusalAt>) -> Reply
-    ensures { (out : List ℕ) (new : CacheState) → outcome_from result out new ≡ outcome_of_edit edited new }
+    ensures outcome { (out : List ℕ) (new : CacheState) → outcome_from result out new ≡ outcome_of_edit edited new }
+    ensures state { (old new : CacheState) → OnErr edited (new ≡ old) → ChangesByEdit result old new }
 {
     match edited {
         Ok(()) => Reply::Changed,
