@@ -1,9 +1,8 @@
 -- What the words of a query ask for.
-use Rattle.std.proofs.Common.{◌≡◌, ◌⊎◌, Result, Ok, Err, inl, inr, ap, refl}
+use Rattle.std.proofs.Common.{Result, Ok, Err, inl, inr, ap}
 use Rattle.ctl_store.specs.declared.refusal.Refusal.{Refusal}
 use Rattle.ctl_query.specs.Query.{Query as QueryText}
 use Rattle.ctl_query.specs.QueryRead.{ReadsQuery}
-use Rattle.ctl_query.specs.declared.query.Query.{Query}
 use Rattle.ctl_session.specs.Request.{asking}
 use Rattle.ctl_session.specs.State.{CacheState}
 use Rattle.ctl_session.specs.Asked.{ReadsRequest}

@@ -1,11 +1,11 @@
 -- What the replies of the code mean.
-use Rattle.std.proofs.Common.{◌≡◌, ◌∙◌, ℕ, ◌+◌, List, [], ◌∷◌, true, false, Bool, length, Option, None, Some, Result, Ok, Err, inl, inr, refl, ap, sym, subst, if◌then◌else◌}
+use Rattle.std.proofs.Common.{◌≡◌, ◌∙◌, ℕ, ◌+◌, List, [], ◌∷◌, true, false, Bool, length, Option, None, Some, Ok, Err, inl, inr, refl, ap, sym, subst, if◌then◌else◌}
 use Rattle.std.proofs.lemmas.Bool.{cases_Bool}
 use Rattle.ctl_stanza.specs.Lines.{text_of_lines}
 use Rattle.ctl_store.specs.declared.refusal.Refusal.{Refusal}
 use Rattle.ctl_session.specs.State.{CacheState}
 use Rattle.ctl_session.specs.Script.{Command, first_long, fits}
-use Rattle.ctl_session.specs.Request.{IsWhole, lines_refused, refusal_of_lines, request_of, request_of_line, request_unless}
+use Rattle.ctl_session.specs.Request.{IsWhole, lines_refused, refusal_of_lines, request_unless}
 use Rattle.ctl_session.specs.Asked.{ReadsLine, request_text}
 use Rattle.ctl_session.specs.Outcome.{Outcome, Refused, state_after, text_of, accepted_in, refused_in}
 use Rattle.ctl_session.specs.Effect.{DoesWhatIsAsked, MayCome}

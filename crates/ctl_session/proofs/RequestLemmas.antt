@@ -1,5 +1,5 @@
 -- What the line of a command asks for.
-use Rattle.std.proofs.Common.{◌≡◌, ◌∙◌, ℕ, ◌&&◌, List, [], ◌∷◌, Bool, true, false, Option, None, Some, is_none, is_some, is_ok, IfErr, Result, Ok, Err, inl, inr, refl, sym, ap, subst}
+use Rattle.std.proofs.Common.{◌≡◌, ◌∙◌, ℕ, ◌&&◌, List, [], Bool, true, false, Option, None, Some, is_none, is_some, is_ok, IfErr, Result, Ok, Err, inl, inr, refl, sym, ap, subst}
 use Rattle.std.specs.Option.{option_map}
 use Rattle.ctl_store.specs.declared.refusal.Refusal.{Refusal}
 use Rattle.ctl_store.specs.declared.refusal.Refusal.TheVariants as refusal
@@ -13,7 +13,7 @@ use Rattle.ctl_session.specs.Script.{Command, name_of}
 use Rattle.ctl_session.specs.Words.{words_of, behind_name}
 use Rattle.ctl_session.specs.Request.{Request as RequestText, Put, IsWhole, command_named, names_command, refused_at, request_by, request_in, request_named, request_of, request_of_line, request_unless, takes_memory}
 use Rattle.ctl_session.specs.Patterns.{AsksPattern}
-use Rattle.ctl_session.specs.Asked.{AsksForNoList, IsRefusedWithAnyBody, ReadsLine, ReadsRequest, kind_in}
+use Rattle.ctl_session.specs.Asked.{AsksForNoList, IsRefusedWithAnyBody, ReadsLine, ReadsRequest}
 use Rattle.ctl_session.specs.declared.command_name.CommandName.{CommandName}
 use Rattle.ctl_session.specs.declared.request.Request.{Request}
 

@@ -11,7 +11,7 @@ use Rattle.ctl_session.specs.Reading.{ReadsNone, ReadsCommand, StopsReading, Who
 use Rattle.ctl_session.specs.State.{CacheState}
 use Rattle.ctl_session.specs.Outcome.{Outcome, Refused, Answered, Changed, text_of, text_of_all, state_after, state_after_all, accepted_in, refused_in}
 use Rattle.ctl_session.specs.Effect.{MayCome}
-use Rattle.ctl_session.specs.Run.{Runs, Standing, Ran, StoppedInWrite, Stopped}
+use Rattle.ctl_session.specs.Run.{Runs, Ran, StoppedInWrite, Stopped}
 use Rattle.ctl_session.specs.Replies.{ReadMayCome, ChangesByEdit, accepted_by, outcome_from, refused_by, text_of_reply}
 use Rattle.ctl_session.proofs.PerformLemmas.{accepted_one, left_by, refused_one, text_by}
 use Rattle.ctl_session.specs.declared.reply.Reply.{Reply}
