@@ -44,13 +44,15 @@ pub enum Act<'a> {
     Ask(&'a [&'a [u8]]),
 }
 
-/// A reader that gives up to so many of these bytes at a call, and then fails, or gives them again and again.
+/// A reader that gives up to so many of these bytes at a call, and then fails, or gives them again and again. A signal breaks
+/// off each other call.
 #[derive(Drop)]
 struct Given<'a> {
     bytes: &'a [u8],
     left: &'a [u8],
     width: usize,
     is_endless: bool,
+    is_broken_off: bool,
 }
 
 impl<'a> Given<'a> {
@@ -60,17 +62,22 @@ impl<'a> Given<'a> {
             left: bytes,
             width,
             is_endless,
+            is_broken_off: false,
         }
     }
 }
 
 impl Read for Given<'_> {
     fn read(&mut self, buf: &mut [u8]) -> io::Result<usize> {
+        self.is_broken_off = !self.is_broken_off;
+        if self.is_broken_off {
+            return Err(io::Error::from(ErrorKind::Interrupted));
+        }
         if self.is_endless && self.left.is_empty() {
             self.left = self.bytes;
         }
         if self.left.is_empty() {
-            return Err(io::Error::from(ErrorKind::Interrupted));
+            return Err(io::Error::from(ErrorKind::ConnectionReset));
         }
         let mut given = front(self.left, self.width);
         let count = given.read(buf)?;
@@ -79,16 +86,21 @@ impl Read for Given<'_> {
     }
 }
 
-/// A writer that takes so many bytes, fails once, and then takes all.
+/// A writer that takes so many bytes, fails once, and then takes all. A signal breaks off each other call.
 #[derive(Drop)]
 struct FailingOnce {
     taken: Vec<u8>,
     before: usize,
     has_failed: bool,
+    is_broken_off: bool,
 }
 
 impl Write for FailingOnce {
     fn write(&mut self, buf: &[u8]) -> io::Result<usize> {
+        self.is_broken_off = !self.is_broken_off;
+        if self.is_broken_off {
+            return Err(io::Error::from(ErrorKind::Interrupted));
+        }
         let count = if self.has_failed {
             buf.len()
         } else {
@@ -161,6 +173,7 @@ fn say_until(session: &mut Session, script: &[u8], before: usize, said: &mut Sai
         taken: Vec::new(said.alloc()),
         before,
         has_failed: false,
+        is_broken_off: false,
     });
     let outcome = session.run(&mut reader, &mut writer);
     let _ = reader.into_inner();

@@ -1,10 +1,13 @@
 -- A command that is being read.
-use Rattle.std.proofs.Common.{subst, ◌≡◌, ℕ, ◌+◌, ◌<◌, ◌≤◌, List, [], ◌∷◌, ◌++◌, Option, None, Some, Bool, true, false, not, ◌&&◌, if◌then◌else◌, take, length, refl, sym, ◌∙◌, ap, arith, append_assoc, append-nil, add-zero}
+use Rattle.std.proofs.Common.{subst, ◌≡◌, ℕ, ◌+◌, ◌<◌, ◌≤◌, List, [], ◌∷◌, ◌++◌, Option, None, Some, Bool, true, false, not, ◌&&◌, if◌then◌else◌, take, length, Result, refl, sym, ◌∙◌, ap, arith, append_assoc, append-nil, add-zero}
 use Rattle.std.specs.Io.KnownBytes.{Consumes, IsAtEnd}
 use Rattle.std.proofs.KnownBytes.{Consumes-trans}
 use Rattle.std.proofs.lemmas.Bool.{leb-true, false≢true}
 use Rattle.std.proofs.lemmas.List.{take_all}
 use Rattle.ctl_stanza.specs.Lines.{lines_of, max_line}
+use Rattle.ctl_store.specs.declared.refusal.Refusal.{Refusal}
+use Rattle.ctl_session.specs.State.{CacheState}
+use Rattle.ctl_session.specs.Asked.{ReadsLine}
 use Rattle.ctl_session.specs.LineReading.{TakesLine, StopsAfter, IsOneLine, newline_if}
 use Rattle.ctl_session.specs.Script.{commands_in, commands_from, command_at, is_skipped, is_idle, without_blanks, opens_body, names_body, name_of, fits, body_of, has_end, first_long, ended_of}
 use Rattle.ctl_session.specs.Reading.{HasNoDot, dot_if, ReadsNone, SkipsToLine, ReadsBody, ReadsCommand, WholeLines, CountsLines, StopsInBody, StopsReading}
@@ -12,6 +15,7 @@ use Rattle.ctl_session.specs.declared.read_ahead.LineRead.{LineRead}
 use Rattle.ctl_session.specs.declared.script.Body.{Body}
 use Rattle.ctl_session.specs.declared.fault.ReadingFault.{ReadingFault}
 use Rattle.ctl_session.specs.declared.script.CommandRead.{CommandRead}
+use Rattle.ctl_session.specs.declared.request.Request.{Request}
 use Rattle.ctl_session.proofs.ScriptLemmas.{cuts_line, cuts_none, body_of-ended, has_end-ended, after-ended, body_of-open, has_end-open, after-open}
 use Rattle.ctl_session.proofs.ReadingLemmas.{fits_short, fits_long, false_of_not, true_of_not, first_long-new, first_long-fits}
 use Rattle.ctl_session.proofs.WholeLemmas.{whole_none, line_is_whole, whole_append, line_counts, counts_append, whole_counts}
@@ -122,6 +126,16 @@ finds_line old mid new number now next buffer line read skips takes used counts 
 pub whole_line : (line buffer : List ℕ) → buffer ≡ take max_line line → fits line ≡ true → buffer ≡ line
 whole_line line buffer front short = front ∙ take_all max_line line (leb-true (length line) max_line short)
 
+-- a line that was read is that of the buffer, if it isn't too long
+pub reads_whole : (cache : CacheState) (line buffer slice : List ℕ) (request : Result Request Refusal) → buffer ≡ take max_line line → slice ≡ buffer → ReadsLine cache slice request →
+    fits line ≡ true → ReadsLine cache line request
+reads_whole cache line buffer slice request front same reads short =
+    subst (λ l. ReadsLine cache l request) (same ∙ whole_line line buffer front short) reads
+
+-- and of a line that is too long nothing is said
+pub reads_long : (cache : CacheState) (line : List ℕ) (request : Result Request Refusal) → max_line < length line → fits line ≡ true → ReadsLine cache line request
+reads_long cache line request long short = absurd (false≢true (sym (fits_long line long) ∙ short))
+
 -- what comes after a line that is a command
 found_to : (old new : Option (List ℕ)) (number at : ℕ) (buffer : List ℕ) (read : LineRead) (rest : List ℕ) → (found : SkipsToLine old new number at buffer read) → (read.newline ≡ false → rest ≡ []) →
     commands_from (number + 1) ((found.skipped ++ (found.line ++ newline_if read.newline)) ++ rest) ≡ command_at at found.line (lines_of rest) ∷ commands_in (opens_body found.line) (at + 1) (lines_of rest)
@@ -145,10 +159,10 @@ counts_to old new number at buffer read found =
     (line_counts read.newline found.line found.before at found.takes.one (λ e. (found.takes.last e).1) found.takes.short found.next)
 
 -- a command that no body follows
-pub reads_alone : (old new : Option (List ℕ)) (number at : ℕ) (buffer : List ℕ) (read : LineRead) (result : CommandRead) → (found : SkipsToLine old new number at buffer read) →
-    opens_body found.line ≡ false → result.number ≡ at → result.body.ended ≡ true → result.body.last ≡ not read.newline →
-    result.body.too_long ≡ first_long at (found.line ∷ []) → result.body.text.items ≡ [] → ReadsCommand old new number at buffer result
-reads_alone old new number at buffer read result found opens is_at ended last long text = record {
+pub reads_alone : (cache : CacheState) (old new : Option (List ℕ)) (number at : ℕ) (buffer : List ℕ) (read : LineRead) (result : CommandRead) → (found : SkipsToLine old new number at buffer read) →
+    opens_body found.line ≡ false → result.number ≡ at → (fits found.line ≡ true → ReadsLine cache found.line result.request) → result.body.ended ≡ true → result.body.last ≡ not read.newline →
+    result.body.too_long ≡ first_long at (found.line ∷ []) → result.body.text.items ≡ [] → ReadsCommand cache old new number at result
+reads_alone cache old new number at buffer read result found opens is_at asks ended last long text = record {
   taken = found.skipped ++ (found.line ++ newline_if read.newline);
   command = record { number = at; line = found.line; body = []; ended = true };
   took = Consumes-trans old found.mid new found.skipped (found.line ++ newline_if read.newline) found.took found.takes.took;
@@ -157,7 +171,7 @@ reads_alone old new number at buffer read result found opens is_at ended last lo
   at = is_at;
   ended = ended;
   long = long;
-  line = λ short. whole_line found.line buffer found.takes.front short;
+  asks = asks;
   text = λ _ _. text;
   end = λ bad. absurd (false≢true (sym bad));
   unended = λ bad. absurd (false≢true (sym bad));
@@ -168,10 +182,10 @@ reads_alone old new number at buffer read result found opens is_at ended last lo
 }
 
 -- a command whose body has no line
-pub reads_unended : (old new : Option (List ℕ)) (number at : ℕ) (buffer : List ℕ) (read : LineRead) (result : CommandRead) → (found : SkipsToLine old new number at buffer read) →
-    opens_body found.line ≡ true → read.newline ≡ false → result.number ≡ at → result.body.ended ≡ false → result.body.last ≡ true →
-    result.body.too_long ≡ first_long at (found.line ∷ []) → result.body.text.items ≡ [] → ReadsCommand old new number at buffer result
-reads_unended old new number at buffer read result found opens newline is_at ended last long text = record {
+pub reads_unended : (cache : CacheState) (old new : Option (List ℕ)) (number at : ℕ) (buffer : List ℕ) (read : LineRead) (result : CommandRead) → (found : SkipsToLine old new number at buffer read) →
+    opens_body found.line ≡ true → read.newline ≡ false → result.number ≡ at → (fits found.line ≡ true → ReadsLine cache found.line result.request) → result.body.ended ≡ false → result.body.last ≡ true →
+    result.body.too_long ≡ first_long at (found.line ∷ []) → result.body.text.items ≡ [] → ReadsCommand cache old new number at result
+reads_unended cache old new number at buffer read result found opens newline is_at asks ended last long text = record {
   taken = found.skipped ++ (found.line ++ newline_if read.newline);
   command = record { number = at; line = found.line; body = []; ended = false };
   took = Consumes-trans old found.mid new found.skipped (found.line ++ newline_if read.newline) found.took found.takes.took;
@@ -182,7 +196,7 @@ reads_unended old new number at buffer read result found opens newline is_at end
   at = is_at;
   ended = ended;
   long = long;
-  line = λ short. whole_line found.line buffer found.takes.front short;
+  asks = asks;
   text = λ _ _. text;
   end = λ _. omega arith;
   unended = λ _. last;
@@ -214,10 +228,10 @@ body_first at after line lines more false opens none last counts =
     ap (λ cs. record { number = at; line = line; body = lines; ended = false } ∷ cs) (after-open (at + 1) lines none ∙ ap (λ m. commands_in false (after + 1) m) (sym (last refl)))
 
 -- a command and its body
-pub reads_with_body : (old mid new : Option (List ℕ)) (number at after : ℕ) (buffer : List ℕ) (read : LineRead) (body : Body) → (found : SkipsToLine old mid number at buffer read) →
-    fits found.line ≡ true → opens_body found.line ≡ true → read.newline ≡ true → (reads : ReadsBody mid new at after body) →
-    ReadsCommand old new number after buffer (record { number = at; body = body })
-reads_with_body old mid new number at after buffer read body found short opens newline reads = record {
+pub reads_with_body : (cache : CacheState) (old mid new : Option (List ℕ)) (number at after : ℕ) (buffer : List ℕ) (read : LineRead) (request : Result Request Refusal) (body : Body) → (found : SkipsToLine old mid number at buffer read) →
+    fits found.line ≡ true → opens_body found.line ≡ true → read.newline ≡ true → (fits found.line ≡ true → ReadsLine cache found.line request) → (reads : ReadsBody mid new at after body) →
+    ReadsCommand cache old new number after (record { number = at; request = request; body = body })
+reads_with_body cache old mid new number at after buffer read request body found short opens newline asks reads = record {
   taken = (found.skipped ++ (found.line ++ newline_if read.newline)) ++ reads.taken;
   command = record { number = at; line = found.line; body = reads.lines; ended = body.ended };
   took = Consumes-trans old mid new (found.skipped ++ (found.line ++ newline_if read.newline)) reads.taken
@@ -230,7 +244,7 @@ reads_with_body old mid new number at after buffer read body found short opens n
   at = refl;
   ended = refl;
   long = reads.holds.long ∙ sym (ap (λ b. if b then first_long (at + 1) reads.lines else Some at) short);
-  line = λ fit. whole_line found.line buffer found.takes.front fit;
+  asks = asks;
   text = reads.holds.text;
   end = λ e. reads.count ∙ ap (λ b. at + length reads.lines + length (dot_if b)) e ∙ add-zero (at + length reads.lines);
   unended = reads.unended;

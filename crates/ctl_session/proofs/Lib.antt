@@ -9,6 +9,5 @@ pub mod CommandLemmas
 pub mod RunLemmas
 pub mod RequestLemmas
 pub mod PerformLemmas
-pub mod BodyNeedLemmas
 pub mod OneOutcomeLemmas
 pub mod WordLemmas

@@ -58,7 +58,7 @@ reads_list kind given mid new count pending reading read so_far took none end fe
       (Consumes-trans given mid new so_far.text [] so_far.gave (subst (λ p. Consumes mid new p) none took));
   end = end none;
   within = omega (arith, so_far.counted, few);
-  reads = reads kind so_far.text so_far.reads;
+  holds = reads kind so_far.text so_far.reads;
 }
 
 -- a block without a byte was the last
@@ -131,5 +131,5 @@ loads_text given given' old new name kind read result reads came = record {
   gave = reads.gave;
   end = reads.end;
   within = reads.within;
-  came = loaded_if_read old new name kind reads.text read result reads.reads came;
+  holds = loaded_if_read old new name kind reads.text read result reads.holds came;
 }

@@ -12,7 +12,11 @@ use Rattle.ctl_session.specs.State.{CacheState}
 use Rattle.ctl_session.specs.Outcome.{Outcome, Refused, Answered, Changed, text_of, text_of_all, state_after, state_after_all, accepted_in, refused_in}
 use Rattle.ctl_session.specs.Effect.{MayCome}
 use Rattle.ctl_session.specs.Run.{Runs, Ran, StoppedInWrite, Stopped}
+use Rattle.ctl_session.specs.Replies.{ReadMayCome, ChangesByEdit, accepted_by, outcome_from, refused_by, text_of_reply}
+use Rattle.ctl_session.proofs.PerformLemmas.{accepted_one, left_by, refused_one, text_by}
+use Rattle.ctl_session.specs.declared.reply.Reply.{Reply}
 use Rattle.ctl_session.specs.declared.script.CommandRead.{CommandRead}
+use Rattle.ctl_session.specs.declared.summary.Summary.{Summary}
 use Rattle.ctl_session.specs.declared.fault.Fault.{Fault}
 use Rattle.ctl_session.specs.declared.fault.ReadingFault.{ReadingFault}
 use Rattle.ctl_session.specs.declared.fault.ReadingFault.TheVariants.{ReadFailed, TooManyLines}
@@ -92,11 +96,11 @@ ended_first : (command : Command) (more : List Command) → command.ended ≡ tr
 ended_first command more has = ap (λ b. if b then command ∷ ended_of more else ended_of more) has
 
 -- one command more
-pub running_more : (given mid new taken taken' taken'' : Option (List ℕ)) (old state state' : CacheState) (number after accepted refused accepted' refused' : ℕ) (head : List ℕ) (read : CommandRead) (outcome : Outcome) →
-    (running : Running false given mid taken taken' old state number accepted refused) → (reads : ReadsCommand mid new number after head read) → MayCome state reads.command outcome →
+pub running_more : (given mid new taken taken' taken'' : Option (List ℕ)) (old state state' : CacheState) (number after accepted refused accepted' refused' : ℕ) (read : CommandRead) (outcome : Outcome) →
+    (running : Running false given mid taken taken' old state number accepted refused) → (reads : ReadsCommand state mid new number after read) → MayCome state reads.command outcome →
     state' ≡ state_after state outcome → Appends taken' taken'' (text_of outcome) → accepted' ≡ accepted + accepted_in (outcome ∷ []) → refused' ≡ refused + refused_in (outcome ∷ []) →
     Running read.body.last given new taken taken'' old state' after accepted' refused'
-running_more given mid new taken taken' taken'' old state state' number after accepted refused accepted' refused' head read outcome running reads may changes wrote counts_accepted counts_refused = record {
+running_more given mid new taken taken' taken'' old state state' number after accepted refused accepted' refused' read outcome running reads may changes wrote counts_accepted counts_refused = record {
   bytes = running.bytes ++ reads.taken;
   commands = running.commands ++ reads.command ∷ [];
   outcomes = running.outcomes ++ outcome ∷ [];
@@ -134,10 +138,10 @@ within_limit : (bytes : List ℕ) (number max : ℕ) → CountsLines bytes 0 num
 within_limit bytes number max counts within = (omega (arith, counts.count), counts.good)
 
 -- the end came after the last command's newline
-pub ran_none : (given mid new taken taken' : Option (List ℕ)) (pending : List ℕ) (old state : CacheState) (number after max accepted refused : ℕ) →
-    (running : Running false given mid taken taken' old state number accepted refused) → (reads : ReadsNone mid (prepend_known pending new) number after) → after ≤ max →
-    Ran max given new taken taken' old state accepted refused
-ran_none given mid new taken taken' pending old state number after max accepted refused running reads few = record {
+pub ran_none : (given mid new taken taken' : Option (List ℕ)) (pending : List ℕ) (old state : CacheState) (number after max : ℕ) (summary : Summary) →
+    (running : Running false given mid taken taken' old state number summary.accepted summary.refused) → (reads : ReadsNone mid (prepend_known pending new) number after) → after ≤ max →
+    Ran max (record { held = old; given = given; taken = taken }) (record { held = state; given = new; taken = taken' }) summary
+ran_none given mid new taken taken' pending old state number after max summary running reads few = record {
   script = running.bytes ++ reads.taken;
   outcomes = running.outcomes;
   gave = gave_inside given new pending (running.bytes ++ reads.taken) (Consumes-trans given mid (prepend_known pending new) running.bytes reads.taken running.gave reads.took) reads.end;
@@ -151,9 +155,10 @@ ran_none given mid new taken taken' pending old state number after max accepted 
 }
 
 -- the end came in the last command
-pub ran_last : (given new taken taken' : Option (List ℕ)) (pending : List ℕ) (old state : CacheState) (number max accepted refused : ℕ) (last : Bool) → last ≡ true → number ≤ max →
-    (running : Running last given (prepend_known pending new) taken taken' old state number accepted refused) → Ran max given new taken taken' old state accepted refused
-ran_last given new taken taken' pending old state number max accepted refused last is_last few running = record {
+pub ran_last : (given new taken taken' : Option (List ℕ)) (pending : List ℕ) (old state : CacheState) (number max : ℕ) (summary : Summary) (last : Bool) → last ≡ true → number ≤ max →
+    (running : Running last given (prepend_known pending new) taken taken' old state number summary.accepted summary.refused) →
+    Ran max (record { held = old; given = given; taken = taken }) (record { held = state; given = new; taken = taken' }) summary
+ran_last given new taken taken' pending old state number max summary last is_last few running = record {
   script = running.bytes;
   outcomes = running.outcomes;
   gave = gave_inside given new pending running.bytes running.gave (running.ends is_last);
@@ -166,8 +171,10 @@ ran_last given new taken taken' pending old state number max accepted refused la
   counts_refused = running.counts_refused;
 }
 
-pub describes : (old new : Option (List ℕ)) (number after : ℕ) (head : List ℕ) (read : CommandRead) → (reads : ReadsCommand old new number after head read) → Describes after head read reads.command
-describes old new number after head read reads = record { at = reads.at; ended = reads.ended; long = reads.long; line = reads.line; text = reads.text; end = reads.end }
+pub describes : (cache : CacheState) (old new : Option (List ℕ)) (number after : ℕ) (read : CommandRead) → (reads : ReadsCommand cache old new number after read) →
+    Describes cache after read reads.command
+describes cache old new number after read reads =
+    record { at = reads.at; ended = reads.ended; long = reads.long; asks = reads.asks; text = reads.text; end = reads.end }
 
 -- the input goes on
 pub running_on : (last : Bool) (given given' taken taken' : Option (List ℕ)) (old new : CacheState) (number accepted refused : ℕ) → last ≡ false →
@@ -195,19 +202,19 @@ ahead_at_end true pending is_last = refl
 ahead_at_end false pending is_last = absurd (false≢true is_last)
 
 -- the commands so far and one more are the first ones, whatever comes
-whole_so_far : (given mid taken taken' : Option (List ℕ)) (new : Option (List ℕ)) (old state : CacheState) (number after accepted refused : ℕ) (head : List ℕ) (read : CommandRead) →
-    (running : Running false given mid taken taken' old state number accepted refused) → (reads : ReadsCommand mid new number after head read) →
+whole_so_far : (given mid taken taken' : Option (List ℕ)) (new : Option (List ℕ)) (old state : CacheState) (number after accepted refused : ℕ) (read : CommandRead) →
+    (running : Running false given mid taken taken' old state number accepted refused) → (reads : ReadsCommand state mid new number after read) →
     (rest : List ℕ) → (read.body.last ≡ true → rest ≡ []) →
     commands_of ((running.bytes ++ reads.taken) ++ rest) ≡ (running.commands ++ reads.command ∷ []) ++ commands_from (after + 1) rest
-whole_so_far given mid taken taken' new old state number after accepted refused head read running reads rest none =
+whole_so_far given mid taken taken' new old state number after accepted refused read running reads rest none =
     ap commands_of (append_assoc running.bytes reads.taken rest) ∙ running.cut (reads.taken ++ rest) (λ bad. absurd (false≢true bad)) ∙
     ap (λ cs. running.commands ++ cs) (reads.cut rest none) ∙ sym (append_assoc running.commands (reads.command ∷ []) (commands_from (after + 1) rest))
 
 -- a write failed in the text of a command
-pub stopped_in_write : (given mid new taken taken' taken'' : Option (List ℕ)) (pending : List ℕ) (old state state' : CacheState) (number after accepted refused : ℕ) (head : List ℕ) (read : CommandRead) (outcome : Outcome) →
-    (running : Running false given mid taken taken' old state number accepted refused) → (reads : ReadsCommand mid (prepend_known pending new) number after head read) → MayCome state reads.command outcome →
-    state' ≡ state_after state outcome → WritesPart taken' taken'' (text_of outcome) → StoppedInWrite given new taken taken'' old state'
-stopped_in_write given mid new taken taken' taken'' pending old state state' number after accepted refused head read outcome running reads may changes part =
+pub stopped_in_write : (given mid new taken taken' taken'' : Option (List ℕ)) (pending : List ℕ) (old state state' : CacheState) (number after accepted refused : ℕ) (read : CommandRead) (outcome : Outcome) →
+    (running : Running false given mid taken taken' old state number accepted refused) → (reads : ReadsCommand state mid (prepend_known pending new) number after read) → MayCome state reads.command outcome →
+    state' ≡ state_after state outcome → WritesPart taken' taken'' (text_of outcome) → StoppedInWrite (record { held = old; given = given; taken = taken }) (record { held = state'; given = new; taken = taken'' })
+stopped_in_write given mid new taken taken' taken'' pending old state state' number after accepted refused read outcome running reads may changes part =
     let script : commands_of (running.bytes ++ reads.taken) ≡ running.commands ++ reads.command ∷ [] =
     ap (λ taken. commands_of (running.bytes ++ taken)) (sym (append-nil reads.taken)) ∙ running.cut (reads.taken ++ []) (λ bad. absurd (false≢true bad)) ∙ ap (λ cs. running.commands ++ cs) (reads.cut [] (λ _. refl)) in
     record {
@@ -219,7 +226,7 @@ stopped_in_write given mid new taken taken' taken'' pending old state state' num
       last = read.body.last;
       whole = λ rest none. (
         commands_from (after + 1) rest,
-        whole_so_far given mid taken taken' (prepend_known pending new) old state number after accepted refused head read running reads rest none ∙
+        whole_so_far given mid taken taken' (prepend_known pending new) old state number after accepted refused read running reads rest none ∙
             ap (λ cs. cs ++ commands_from (after + 1) rest) (sym script),
       );
       end = λ is_last. (end_inside pending new (reads.ends is_last), ahead_at_end read.body.last pending is_last);
@@ -229,6 +236,27 @@ stopped_in_write given mid new taken taken' taken'' pending old state state' num
       wrote = Appends-trans taken taken' taken'' (text_of_all running.outcomes) (take part.0 (text_of outcome)) running.wrote part.2;
       state = changes ∙ ap (λ s. state_after s outcome) running.state ∙ sym (state_more old running.outcomes outcome);
     }
+
+-- a command was done, and its reply is written whole
+pub done_whole : (given mid new taken taken' taken'' : Option (List ℕ)) (old state state' : CacheState) (number after accepted refused accepted' refused' : ℕ) (read : CommandRead) (told : Reply) (out slice : List ℕ) →
+    (running : Running false given mid taken taken' old state number accepted refused) → (reads : ReadsCommand state mid new number after read) →
+    ReadMayCome state after read (outcome_from told out state') → ChangesByEdit told state state' → slice ≡ out → Appends taken' taken'' (text_of_reply told slice) →
+    accepted' ≡ accepted + accepted_by told → refused' ≡ refused + refused_by told → Running read.body.last given new taken taken'' old state' after accepted' refused'
+done_whole given mid new taken taken' taken'' old state state' number after accepted refused accepted' refused' read told out slice running reads may changes same wrote counts_accepted counts_refused =
+    running_more given mid new taken taken' taken'' old state state' number after accepted refused accepted' refused' read (outcome_from told out state') running reads
+    (may reads.command (describes state mid new number after read reads)) (left_by told out state state' changes)
+    (subst (λ t. Appends taken' taken'' t) (ap (text_of_reply told) same ∙ text_by told out state') wrote)
+    (counts_accepted ∙ ap (λ n. accepted + n) (accepted_one told out state')) (counts_refused ∙ ap (λ n. refused + n) (refused_one told out state'))
+
+-- a command was done, and its reply is written in part
+pub done_in_part : (given mid new taken taken' taken'' : Option (List ℕ)) (pending : List ℕ) (old state state' : CacheState) (number after accepted refused : ℕ) (read : CommandRead) (told : Reply) (out slice : List ℕ) →
+    (running : Running false given mid taken taken' old state number accepted refused) → (reads : ReadsCommand state mid (prepend_known pending new) number after read) →
+    ReadMayCome state after read (outcome_from told out state') → ChangesByEdit told state state' → slice ≡ out → WritesPart taken' taken'' (text_of_reply told slice) →
+    StoppedInWrite (record { held = old; given = given; taken = taken }) (record { held = state'; given = new; taken = taken'' })
+done_in_part given mid new taken taken' taken'' pending old state state' number after accepted refused read told out slice running reads may changes same part =
+    stopped_in_write given mid new taken taken' taken'' pending old state state' number after accepted refused read (outcome_from told out state') running reads
+    (may reads.command (describes state mid (prepend_known pending new) number after read reads)) (left_by told out state state' changes)
+    (subst (λ t. WritesPart taken' taken'' t) (ap (text_of_reply told) same ∙ text_by told out state') part)
 
 -- of the lines that came, those commands are given whole that were done
 whole_commands : (given mid new taken taken' : Option (List ℕ)) (old state : CacheState) (number accepted refused max : ℕ) (fault : ReadingFault) →
@@ -247,7 +275,7 @@ stops_reading_same old new number max first fault same stops = subst (λ m. Stop
 -- a read failed, or the limit was passed
 pub stopped_reading : (fault : ReadingFault) (given mid new taken taken' : Option (List ℕ)) (pending : List ℕ) (old state : CacheState) (number accepted refused max : ℕ) →
     (running : Running false given mid taken taken' old state number accepted refused) → (reads : StopsReading mid (prepend_known pending new) number max fault) →
-    (fault ≡ ReadFailed → pending ≡ []) → Stopped max given new taken taken' old state (run_fault fault)
+    (fault ≡ ReadFailed → pending ≡ []) → Stopped max (record { held = old; given = given; taken = taken }) (record { held = state; given = new; taken = taken' }) (run_fault fault)
 stopped_reading ReadFailed given mid new taken taken' pending old state number accepted refused max running reads used =
     let bytes = running.bytes ++ reads.taken in
     let whole = whole_append running.bytes reads.taken 0 number reads.after (running.whole refl) reads.whole in
@@ -289,6 +317,6 @@ stopped_reading TooManyLines given mid new taken taken' pending old state number
 -- the same, of the fault that the run tells
 pub stopped_by : (told : Fault) (fault : ReadingFault) (given mid new taken taken' : Option (List ℕ)) (pending : List ℕ) (old state : CacheState) (number accepted refused max : ℕ) → told ≡ run_fault fault →
     (running : Running false given mid taken taken' old state number accepted refused) → (reads : StopsReading mid (prepend_known pending new) number max fault) →
-    (fault ≡ ReadFailed → pending ≡ []) → Stopped max given new taken taken' old state told
+    (fault ≡ ReadFailed → pending ≡ []) → Stopped max (record { held = old; given = given; taken = taken }) (record { held = state; given = new; taken = taken' }) told
 stopped_by told fault given mid new taken taken' pending old state number accepted refused max same running reads used =
-    subst (λ f. Stopped max given new taken taken' old state f) (sym same) (stopped_reading fault given mid new taken taken' pending old state number accepted refused max running reads used)
+    subst (λ f. Stopped max (record { held = old; given = given; taken = taken }) (record { held = state; given = new; taken = taken' }) f) (sym same) (stopped_reading fault given mid new taken taken' pending old state number accepted refused max running reads used)

@@ -1,5 +1,9 @@
 -- The words that the program takes, as clap's rules.
-use Rattle.std.specs.Prelude.{Some, true, codes}
+use Rattle.std.specs.Prelude.{◌≡◌, ℕ, List, Option, Some, String, true, codes, string_bytes}
+use Rattle.std.specs.Option.{option_map}
+use Rattle.std.specs.declared.alloc.Global.{Global}
+use Rattle.clap.specs.Matches.{first_value, found_of}
+use Rattle.clap.specs.declared.parser.matches.ArgMatches.{ArgMatches}
 use Rattle.clap.specs.Simple.{App, new_app, on_top, new_rule, with_rule}
 use Rattle.clap.specs.Walk.{Rule}
 use Rattle.clap.specs.declared.builder.action.ArgAction.TheVariants.{Set, Append}
@@ -22,3 +26,7 @@ program = on_top (λ shape. record shape { has_version = true }) (new_app (codes
 
 abbrev pub application : App
 application = with_rule (with_rule (with_rule program list_rule) status_rule) script_rule
+
+-- a text is the first value of this argument in matches, or there is neither
+abbrev pub IsFirstValue : ArgMatches → List ℕ → Option (String Global) → Type 0
+IsFirstValue matches argument text = option_map string_bytes text ≡ first_value (found_of matches) argument

@@ -97,21 +97,25 @@ prefs_set cache number text = edited_by_body cache number edit.Prefs (read_prefs
 
 -- ---- commands
 
--- what a command does that asks for this
-abbrev pub Does : CacheState → Command → Request → Outcome → Type 0
-Does cache command (AddList name kind class) outcome = outcome ≡ list_added cache command.number name kind class (text_of_lines command.body)
-Does cache command (Put name) outcome = outcome ≡ put_in_list cache command.number name (text_of_lines command.body)
-Does cache command Prefs outcome = outcome ≡ prefs_set cache command.number (text_of_lines command.body)
-Does cache command (Change edit) outcome = outcome ≡ edited cache command.number edit
-Does cache command (Ask query) outcome = outcome ≡ Answered (answer_anew (holdings_of cache.store) query)
+-- what a command of this line does that asks for this, with the text of its body
+abbrev pub Does : CacheState → ℕ → List ℕ → Request → Outcome → Type 0
+Does cache number text (AddList name kind class) outcome = outcome ≡ list_added cache number name kind class text
+Does cache number text (Put name) outcome = outcome ≡ put_in_list cache number name text
+Does cache number text Prefs outcome = outcome ≡ prefs_set cache number text
+Does cache number text (Change edit) outcome = outcome ≡ edited cache number edit
+Does cache number text (Ask query) outcome = outcome ≡ Answered (answer_anew (holdings_of cache.store) query)
 
 abbrev pub DoesWhatIsAsked : CacheState → Command → Result Request RefusalAt → Outcome → Type 0
 DoesWhatIsAsked cache command (Err refused) outcome = outcome ≡ Refused refused.line refused.cause
-DoesWhatIsAsked cache command (Ok request) outcome = Does cache command request outcome
+DoesWhatIsAsked cache command (Ok request) outcome = Does cache command.number (text_of_lines command.body) request outcome
 
 -- what a command comes to, where no growth is refused and each pattern of `--rx` can be built
 abbrev pub ComesTo : CacheState → Command → Outcome → Type 0
 ComesTo cache command outcome = DoesWhatIsAsked cache command (request_of command) outcome
+
+-- a command comes to no two outcomes: its text and what it leaves are settled
+abbrev pub HasOneOutcome : CacheState → Command → Type 0
+HasOneOutcome cache command = (first second : Outcome) → ComesTo cache command first → ComesTo cache command second → first ≡ second
 
 -- What a command may come to: where a growth was refused, one that takes memory may be refused for that; and where `regex`
 -- can't build a pattern of `--rx`, a command that asks with one is refused for it.

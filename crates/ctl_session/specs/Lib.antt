@@ -15,7 +15,6 @@ pub mod Request
 pub mod Patterns
 pub mod Outcome
 pub mod Effect
-pub mod BodyNeed
 pub mod Run
 pub mod Replies
 pub mod Loading

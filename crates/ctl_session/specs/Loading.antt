@@ -26,13 +26,17 @@ ReadsSoFar kind text (Err told) =
 abbrev pub ReadsAs : Result (Vec Content Global) TextFault → Result (List Content) TextFault → Type 0
 ReadsAs read text = Reads read text × IfErr read IsMemoryAtZero
 
--- all that a source gave is a text of so many bytes at most, and it was read to this
-pub record ReadsList (kind : ListKind) (given given' : Option (List ℕ)) (read : Result (Vec Content Global) TextFault) : Type 0 where
+-- all that a source gave is a text of so many bytes at most, of which this holds
+pub record GivesText (given given' : Option (List ℕ)) (Holds : List ℕ → Type 0) : Type 0 where
   pub text : List ℕ
   pub gave : Consumes given given' text
   pub end : IsAtEnd given'
   pub within : length text < 2 ^ 32
-  pub reads : ReadsAs read (read_text kind 1 text)
+  pub holds : Holds text
+
+-- the stanzas of such a text were read
+abbrev pub ReadsList : ListKind → Option (List ℕ) → Option (List ℕ) → Result (Vec Content Global) TextFault → Type 0
+ReadsList kind given given' read = GivesText given given' (λ text. ReadsAs read (read_text kind 1 text))
 
 -- a source gave more bytes than a text may have
 pub record GaveTooMuch (given given' : Option (List ℕ)) : Type 0 where
@@ -46,13 +50,9 @@ StopsInList given given' Read = Unit {0}
 StopsInList given given' TooLong = GaveTooMuch given given'
 StopsInList given given' (Refused fault) = ⊥
 
--- all that a source gave is a text, whose load came to this
-pub record LoadsText (given given' : Option (List ℕ)) (result : Result Unit LoadFault) (old new : CacheState) (name : List ℕ) (kind : ListKind) : Type 0 where
-  pub text : List ℕ
-  pub gave : Consumes given given' text
-  pub end : IsAtEnd given'
-  pub within : length text < 2 ^ 32
-  pub came : LoadCameTo result new (loaded old name kind text)
+-- the load of such a text came to this
+abbrev pub LoadsText : Option (List ℕ) → Option (List ℕ) → Result Unit LoadFault → CacheState → CacheState → List ℕ → ListKind → Type 0
+LoadsText given given' result old new name kind = GivesText given given' (λ text. LoadCameTo result new (loaded old name kind text))
 
 -- what a load from a source came to
 abbrev pub LoadedFrom : Option (List ℕ) → Option (List ℕ) → Result Unit SourceFault → CacheState → CacheState → List ℕ → ListKind → Type 0

@@ -1,9 +1,11 @@
 -- What is read of a script, command by command.
-use Rattle.std.specs.Prelude.{◌≡◌, ℕ, ◌+◌, ◌<◌, List, [], ◌∷◌, ◌++◌, Option, None, Some, Bool, true, false, length}
+use Rattle.std.specs.Prelude.{◌≡◌, ℕ, ◌+◌, ◌<◌, List, [], ◌∷◌, ◌++◌, Option, None, Some, Bool, true, false, length, IfErr}
 use Rattle.std.specs.Io.KnownBytes.{Consumes, IsAtEnd}
 use Rattle.ctl_relation.specs.Bytes.{dot}
 use Rattle.ctl_stanza.specs.Lines.{lines_of, text_of_lines}
 use Rattle.ctl_session.specs.LineReading.{TakesLine, StopsAfter}
+use Rattle.ctl_session.specs.State.{CacheState}
+use Rattle.ctl_session.specs.Asked.{ReadsLine}
 use Rattle.ctl_session.specs.Script.{Command, commands_from, fits, first_long, is_dot, is_skipped, AreLines, ended_of}
 use Rattle.ctl_session.specs.declared.script.Body.{Body}
 use Rattle.ctl_session.specs.declared.script.CommandRead.{CommandRead}
@@ -82,15 +84,16 @@ ReadsHead old new number at buffer None = ReadsNone old new number at
 ReadsHead old new number at buffer (Some read) = SkipsToLine old new number at buffer read
 
 -- these bytes came, and whatever comes after them, the commands begin with this one
-pub record ReadsCommand (old new : Option (List ℕ)) (number after : ℕ) (head : List ℕ) (read : CommandRead) : Type 0 where
+pub record ReadsCommand (cache : CacheState) (old new : Option (List ℕ)) (number after : ℕ) (read : CommandRead) : Type 0 where
   pub taken : List ℕ
   pub command : Command
   pub took : Consumes old new taken
-  pub cut : (rest : List ℕ) → (read.body.last ≡ true → rest ≡ []) → commands_from (number + 1) (taken ++ rest) ≡ command ∷ commands_from (after + 1) rest
+  pub cut : (rest : List ℕ) → (read.body.last ≡ true → rest ≡ []) →
+      commands_from (number + 1) (taken ++ rest) ≡ command ∷ commands_from (after + 1) rest
   pub at : read.number ≡ command.number
   pub ended : read.body.ended ≡ command.ended
   pub long : read.body.too_long ≡ first_long command.number (command.line ∷ command.body)
-  pub line : fits command.line ≡ true → head ≡ command.line
+  pub asks : fits command.line ≡ true → ReadsLine cache command.line read.request
   pub text : read.body.dropped ≡ false → read.body.too_long ≡ None → read.body.text.items ≡ text_of_lines command.body
   pub end : command.ended ≡ false → after ≡ command.number + length command.body
   pub unended : command.ended ≡ false → read.body.last ≡ true
@@ -99,18 +102,23 @@ pub record ReadsCommand (old new : Option (List ℕ)) (number after : ℕ) (head
   pub counts : CountsLines taken number after
   pub more : number < after
 
-abbrev pub ReadsNext : Option (List ℕ) → Option (List ℕ) → ℕ → ℕ → List ℕ → Option CommandRead → Type 0
-ReadsNext old new number after head None = ReadsNone old new number after
-ReadsNext old new number after head (Some read) = ReadsCommand old new number after head read
+abbrev pub ReadsNext : CacheState → Option (List ℕ) → Option (List ℕ) → ℕ → ℕ → Option CommandRead → Type 0
+ReadsNext cache old new number after None = ReadsNone old new number after
+ReadsNext cache old new number after (Some read) = ReadsCommand cache old new number after read
 
--- what was read is this command
-pub record Describes (after : ℕ) (head : List ℕ) (read : CommandRead) (command : Command) : Type 0 where
+-- what was read is this command, over this cache; the last line that was read has this number
+pub record Describes (cache : CacheState) (last_line : ℕ) (read : CommandRead) (command : Command) : Type 0 where
   pub at : read.number ≡ command.number
   pub ended : read.body.ended ≡ command.ended
   pub long : read.body.too_long ≡ first_long command.number (command.line ∷ command.body)
-  pub line : fits command.line ≡ true → head ≡ command.line
+  pub asks : fits command.line ≡ true → ReadsLine cache command.line read.request
   pub text : read.body.dropped ≡ false → read.body.too_long ≡ None → read.body.text.items ≡ text_of_lines command.body
-  pub end : command.ended ≡ false → after ≡ command.number + length command.body
+  pub end : command.ended ≡ false → last_line ≡ command.number + length command.body
+
+-- of the body of a command lines are kept only where its line asks for something
+abbrev pub KeepsWhatIsNeeded : Option CommandRead → Type 0
+KeepsWhatIsNeeded None = Unit {0}
+KeepsWhatIsNeeded (Some read) = IfErr read.request (λ cause. read.body.text.items ≡ [])
 
 -- the run stopped in a body: these bytes of it came, that are whole lines
 pub record StopsInBody (old new : Option (List ℕ)) (number max : ℕ) (fault : ReadingFault) : Type 0 where

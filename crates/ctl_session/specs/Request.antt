@@ -1,5 +1,5 @@
 -- What a command asks for, by its words.
-use Rattle.std.specs.Prelude.{ℕ, ℤ, ◌+◌, List, [], ◌∷◌, ◌&&◌, length, codes, is_none, is_some, Bool, Option, None, Some, Result, Ok, Err, if◌then◌else◌}
+use Rattle.std.specs.Prelude.{ℕ, ℤ, ◌+◌, ◌≡◌, ◌&&◌, List, [], ◌∷◌, length, codes, is_none, is_some, Bool, true, false, Option, None, Some, Result, Ok, Err, if◌then◌else◌}
 use Rattle.std.specs.Str.{bytes_eq}
 use Rattle.ctl_relation.specs.Names.{is_name}
 use Rattle.ctl_relation.specs.Version.{fault_of}
@@ -37,12 +37,12 @@ pub data Request : Type 0 where
 
 -- ---- tests of words
 
--- a request whose word has to be a name, and one whose word has to be a version
-abbrev pub if_name : List ℕ → Result Request Refusal → Result Request Refusal
-if_name word request = if is_name word then request else Err refusal.Name
+-- what is read where a word has to be a name, and where one has to be a version
+abbrev pub if_name : {A : Type 0} → List ℕ → Result A Refusal → Result A Refusal
+if_name word read = if is_name word then read else Err refusal.Name
 
-abbrev pub if_version : List ℕ → Result Request Refusal → Result Request Refusal
-if_version word request = if is_none (fault_of word) then request else Err refusal.Version
+abbrev pub if_version : {A : Type 0} → List ℕ → Result A Refusal → Result A Refusal
+if_version word read = if is_none (fault_of word) then read else Err refusal.Version
 
 -- ---- the words of each command
 
@@ -76,42 +76,50 @@ add_list_request (name ∷ kind ∷ []) = add_plain_list name (kind_of_word kind
 add_list_request (name ∷ kind ∷ class ∷ []) = add_packages name (class_of_words kind class)
 add_list_request (name ∷ kind ∷ class ∷ word ∷ words) = Err refusal.Usage
 
--- a command of one word, which is a name
-abbrev pub request_of_name : (List ℕ → Request) → List (List ℕ) → Result Request Refusal
-request_of_name request [] = Err refusal.Usage
-request_of_name request (name ∷ []) = if_name name (Ok (request name))
-request_of_name request (name ∷ word ∷ words) = Err refusal.Usage
+-- one word, which is a name
+abbrev pub read_name : {A : Type 0} → (List ℕ → A) → List (List ℕ) → Result A Refusal
+read_name value [] = Err refusal.Usage
+read_name value (name ∷ []) = if_name name (Ok (value name))
+read_name value (name ∷ word ∷ words) = Err refusal.Usage
 
--- `drop-list NAME`, `put NAME`, `unmark PKG`
-abbrev pub drop_list_request : List (List ℕ) → Result Request Refusal
-drop_list_request words = request_of_name (λ name. Change (edit.DropList name)) words
-
+-- `put NAME`
 abbrev pub put_request : List (List ℕ) → Result Request Refusal
-put_request words = request_of_name (λ name. Put name) words
+put_request words = read_name Put words
 
-abbrev pub unmark_request : List (List ℕ) → Result Request Refusal
-unmark_request words = request_of_name (λ name. Change (edit.Unmark name)) words
+-- `prefs`
+abbrev pub prefs_request : List (List ℕ) → Result Request Refusal
+prefs_request [] = Ok Prefs
+prefs_request (word ∷ words) = Err refusal.Usage
+
+-- ---- the words of edits that need no body
+
+-- `drop-list NAME`, `unmark PKG`
+abbrev pub drop_list_edit : List (List ℕ) → Result Edit Refusal
+drop_list_edit words = read_name edit.DropList words
+
+abbrev pub unmark_edit : List (List ℕ) → Result Edit Refusal
+unmark_edit words = read_name edit.Unmark words
 
 -- `remove NAME PKG VERSION`
-abbrev pub remove_request : List (List ℕ) → Result Request Refusal
-remove_request [] = Err refusal.Usage
-remove_request (list ∷ []) = Err refusal.Usage
-remove_request (list ∷ name ∷ []) = Err refusal.Usage
-remove_request (list ∷ name ∷ version ∷ []) = if_name list (if_name name (if_version version (Ok (Change (edit.Remove list name version)))))
-remove_request (list ∷ name ∷ version ∷ word ∷ words) = Err refusal.Usage
+abbrev pub remove_edit : List (List ℕ) → Result Edit Refusal
+remove_edit [] = Err refusal.Usage
+remove_edit (list ∷ []) = Err refusal.Usage
+remove_edit (list ∷ name ∷ []) = Err refusal.Usage
+remove_edit (list ∷ name ∷ version ∷ []) = if_name list (if_name name (if_version version (Ok (edit.Remove list name version))))
+remove_edit (list ∷ name ∷ version ∷ word ∷ words) = Err refusal.Usage
 
 -- the word `none` is no version
-abbrev pub marked : List ℕ → List ℕ → Result Request Refusal
+abbrev pub marked : List ℕ → List ℕ → Result Edit Refusal
 marked name version =
-    if bytes_eq version (codes "none") then Ok (Change (edit.Mark name None))
-    else if_version version (Ok (Change (edit.Mark name (Some version))))
+    if bytes_eq version (codes "none") then Ok (edit.Mark name None)
+    else if_version version (Ok (edit.Mark name (Some version)))
 
 -- `mark PKG VERSION` or `mark PKG none`
-abbrev pub mark_request : List (List ℕ) → Result Request Refusal
-mark_request [] = Err refusal.Usage
-mark_request (name ∷ []) = Err refusal.Usage
-mark_request (name ∷ version ∷ []) = if_name name (marked name version)
-mark_request (name ∷ version ∷ word ∷ words) = Err refusal.Usage
+abbrev pub mark_edit : List (List ℕ) → Result Edit Refusal
+mark_edit [] = Err refusal.Usage
+mark_edit (name ∷ []) = Err refusal.Usage
+mark_edit (name ∷ version ∷ []) = if_name name (marked name version)
+mark_edit (name ∷ version ∷ word ∷ words) = Err refusal.Usage
 
 -- `PKG version V`
 abbrev pub version_selector : List ℕ → List ℕ → Result Selector Refusal
@@ -136,123 +144,138 @@ selector_of name form value =
     if bytes_eq form (codes "version") then version_selector name value
     else (if bytes_eq form (codes "release") then release_selector name value else Err refusal.Usage)
 
-abbrev pub pin_of : Result Selector Refusal → Option ℤ → Result Request Refusal
+abbrev pub pin_of : Result Selector Refusal → Option ℤ → Result Edit Refusal
 pin_of (Err cause) priority = Err cause
 pin_of (Ok selector) None = Err refusal.Priority
-pin_of (Ok selector) (Some priority) = Ok (Change (edit.Pin selector priority))
+pin_of (Ok selector) (Some priority) = Ok (edit.Pin selector priority)
 
 -- `pin` with a selector and a priority
-abbrev pub pin_request : List (List ℕ) → Result Request Refusal
-pin_request [] = Err refusal.Usage
-pin_request (name ∷ []) = Err refusal.Usage
-pin_request (name ∷ form ∷ []) = Err refusal.Usage
-pin_request (name ∷ form ∷ value ∷ []) = Err refusal.Usage
-pin_request (name ∷ form ∷ value ∷ priority ∷ []) = pin_of (selector_of name form value) (priority_of priority)
-pin_request (name ∷ form ∷ value ∷ priority ∷ word ∷ words) = Err refusal.Usage
+abbrev pub pin_edit : List (List ℕ) → Result Edit Refusal
+pin_edit [] = Err refusal.Usage
+pin_edit (name ∷ []) = Err refusal.Usage
+pin_edit (name ∷ form ∷ []) = Err refusal.Usage
+pin_edit (name ∷ form ∷ value ∷ []) = Err refusal.Usage
+pin_edit (name ∷ form ∷ value ∷ priority ∷ []) = pin_of (selector_of name form value) (priority_of priority)
+pin_edit (name ∷ form ∷ value ∷ priority ∷ word ∷ words) = Err refusal.Usage
 
-abbrev pub unpin_of : Result Selector Refusal → Result Request Refusal
+abbrev pub unpin_of : Result Selector Refusal → Result Edit Refusal
 unpin_of (Err cause) = Err cause
-unpin_of (Ok selector) = Ok (Change (edit.Unpin selector))
+unpin_of (Ok selector) = Ok (edit.Unpin selector)
 
 -- `unpin` with a selector
-abbrev pub unpin_request : List (List ℕ) → Result Request Refusal
-unpin_request [] = Err refusal.Usage
-unpin_request (name ∷ []) = Err refusal.Usage
-unpin_request (name ∷ form ∷ []) = Err refusal.Usage
-unpin_request (name ∷ form ∷ value ∷ []) = unpin_of (selector_of name form value)
-unpin_request (name ∷ form ∷ value ∷ word ∷ words) = Err refusal.Usage
+abbrev pub unpin_edit : List (List ℕ) → Result Edit Refusal
+unpin_edit [] = Err refusal.Usage
+unpin_edit (name ∷ []) = Err refusal.Usage
+unpin_edit (name ∷ form ∷ []) = Err refusal.Usage
+unpin_edit (name ∷ form ∷ value ∷ []) = unpin_of (selector_of name form value)
+unpin_edit (name ∷ form ∷ value ∷ word ∷ words) = Err refusal.Usage
 
 -- `target NAME` or `target none`
-abbrev pub target_request : List (List ℕ) → Result Request Refusal
-target_request [] = Err refusal.Usage
-target_request (name ∷ []) =
-    if bytes_eq name (codes "none") then Ok (Change (edit.Target None))
-    else if_name name (Ok (Change (edit.Target (Some name))))
-target_request (name ∷ word ∷ words) = Err refusal.Usage
+abbrev pub target_edit : List (List ℕ) → Result Edit Refusal
+target_edit [] = Err refusal.Usage
+target_edit (name ∷ []) =
+    if bytes_eq name (codes "none") then Ok (edit.Target None)
+    else if_name name (Ok (edit.Target (Some name)))
+target_edit (name ∷ word ∷ words) = Err refusal.Usage
 
--- `prefs`
-abbrev pub prefs_request : List (List ℕ) → Result Request Refusal
-prefs_request [] = Ok Prefs
-prefs_request (word ∷ words) = Err refusal.Usage
+-- ---- commands by their names
 
--- a query asks for itself
+-- the commands that are no queries, by their names
+abbrev pub commands : List (List ℕ × CommandName)
+commands =
+    (codes "add-list", command.AddList) ∷
+    (codes "drop-list", command.DropList) ∷
+    (codes "put", command.Put) ∷
+    (codes "remove", command.Remove) ∷
+    (codes "mark", command.Mark) ∷
+    (codes "unmark", command.Unmark) ∷
+    (codes "pin", command.Pin) ∷
+    (codes "unpin", command.Unpin) ∷
+    (codes "target", command.Target) ∷
+    (codes "prefs", command.Prefs) ∷ []
+
+-- the command of a name among these, or else a query, if there is one of the name
+abbrev pub named_in : List (List ℕ × CommandName) → List ℕ → Option CommandName
+named_in [] name = if is_query name then Some command.Query else None
+named_in (entry ∷ entries) name = if bytes_eq name entry.0 then Some entry.1 else named_in entries name
+
+-- the command of a name, if there is one
+abbrev pub command_named : List ℕ → Option CommandName
+command_named name = named_in commands name
+
+-- an edit, and a query, as what a command asks for
+abbrev pub changing : Result Edit Refusal → Result Request Refusal
+changing (Ok edit) = Ok (Change edit)
+changing (Err cause) = Err cause
+
 abbrev pub asking : Result Query Refusal → Result Request Refusal
 asking (Ok query) = Ok (Ask query)
 asking (Err cause) = Err cause
 
--- ---- commands by their names
+-- what a command asks for by the words behind its name; the words of a query begin with the name
+abbrev pub request_by : CommandName → List ℕ → List (List ℕ) → Result Request Refusal
+request_by command.AddList name words = add_list_request words
+request_by command.DropList name words = changing (drop_list_edit words)
+request_by command.Put name words = put_request words
+request_by command.Remove name words = changing (remove_edit words)
+request_by command.Mark name words = changing (mark_edit words)
+request_by command.Unmark name words = changing (unmark_edit words)
+request_by command.Pin name words = changing (pin_edit words)
+request_by command.Unpin name words = changing (unpin_edit words)
+request_by command.Target name words = changing (target_edit words)
+request_by command.Prefs name words = prefs_request words
+request_by command.Query name words = asking (query_of (name ∷ words))
 
--- the command of a name, if there is one
-abbrev pub command_named : List ℕ → Option CommandName
-command_named name =
-    if bytes_eq name (codes "add-list") then Some command.AddList else (
-    if bytes_eq name (codes "drop-list") then Some command.DropList else (
-    if bytes_eq name (codes "put") then Some command.Put else (
-    if bytes_eq name (codes "remove") then Some command.Remove else (
-    if bytes_eq name (codes "mark") then Some command.Mark else (
-    if bytes_eq name (codes "unmark") then Some command.Unmark else (
-    if bytes_eq name (codes "pin") then Some command.Pin else (
-    if bytes_eq name (codes "unpin") then Some command.Unpin else (
-    if bytes_eq name (codes "target") then Some command.Target else (
-    if bytes_eq name (codes "prefs") then Some command.Prefs else (
-    if is_query name then Some command.Query else None))))))))))
+-- ---- commands
 
--- what the words of a command ask for
-abbrev pub request_by : CommandName → List (List ℕ) → Result Request Refusal
-request_by command.AddList words = add_list_request words
-request_by command.DropList words = drop_list_request words
-request_by command.Put words = put_request words
-request_by command.Remove words = remove_request words
-request_by command.Mark words = mark_request words
-request_by command.Unmark words = unmark_request words
-request_by command.Pin words = pin_request words
-request_by command.Unpin words = unpin_request words
-request_by command.Target words = target_request words
-request_by command.Prefs words = prefs_request words
-request_by command.Query words = asking (query_of words)
-
--- the words by which a command asks: a query has its name before them
-abbrev pub words_by : CommandName → List ℕ → List (List ℕ) → List (List ℕ)
-words_by command.Query name words = name ∷ words
-words_by command.AddList name words = words
-words_by command.DropList name words = words
-words_by command.Put name words = words
-words_by command.Remove name words = words
-words_by command.Mark name words = words
-words_by command.Unmark name words = words
-words_by command.Pin name words = words
-words_by command.Unpin name words = words
-words_by command.Target name words = words
-words_by command.Prefs name words = words
-
--- what a command asks for by its name and its words; a quote without its end leaves none
+-- A quote without its end leaves no words.
 abbrev pub request_in : CommandName → List ℕ → Option (List (List ℕ)) → Result Request Refusal
 request_in command name None = Err refusal.Usage
-request_in command name (Some words) = request_by command (words_by command name words)
+request_in command name (Some words) = request_by command name words
 
--- what a line asks for by its command, the name of it and the text behind it
-abbrev pub request_named : Option CommandName → List ℕ → List ℕ → Result Request Refusal
-request_named None name text = Err refusal.Command
-request_named (Some command) name text = request_in command name (words_of text)
+abbrev pub request_named : Option CommandName → List ℕ → Option (List (List ℕ)) → Result Request Refusal
+request_named None name words = Err refusal.Command
+request_named (Some command) name words = request_in command name words
 
--- a refusal names the line of the command
+-- What a line asks for, or the first of these refusals: a name that is no command's, words that are not the command's, and,
+-- word by word from the left, a bad name, version or priority.
+abbrev pub request_of_line : List ℕ → Result Request Refusal
+request_of_line line = request_named (command_named (name_of line)) (name_of line) (words_of (behind_name line))
+
+-- the name of a line is that of a command
+abbrev pub names_command : List ℕ → Bool
+names_command line = is_some (command_named (name_of line))
+
+-- Why lines are refused whatever a command's words are: the first of them that is too long, or else a body without its end,
+-- which is told at the last line of the input.
+abbrev pub lines_refused : Option ℕ → Bool → ℕ → Option RefusalAt
+lines_refused (Some line) ended last = Some (record { line = line; cause = refusal.TooLong })
+lines_refused None true last = None
+lines_refused None false last = Some (record { line = last; cause = refusal.Unended })
+
+-- the same of those of a command
+abbrev pub refusal_of_lines : Command → Option RefusalAt
+refusal_of_lines command =
+    lines_refused (first_long command.number (command.line ∷ command.body)) command.ended (command.number + length command.body)
+
+-- a command has its end, and none of its lines is too long
+abbrev pub IsWhole : Command → Type 0
+IsWhole command = refusal_of_lines command ≡ None
+
+-- A command takes memory only where it is whole, and its name is a command's: the refusals of those that are not take none.
+abbrev pub takes_memory : Command → Bool
+takes_memory command = is_none (refusal_of_lines command) && names_command command.line
+
+-- a refusal of a line names it
 abbrev pub refused_at : ℕ → Result Request Refusal → Result Request RefusalAt
 refused_at number (Ok request) = Ok request
 refused_at number (Err cause) = Err (record { line = number; cause = cause })
 
--- A command takes memory only where none of its lines is too long, its body has its end, and its name is a command's: the
--- refusals of these three take none.
-abbrev pub takes_memory : Command → Bool
-takes_memory command =
-    is_none (first_long command.number (command.line ∷ command.body)) && (command.ended && is_some (command_named (name_of command.line)))
+abbrev pub request_unless : Option RefusalAt → ℕ → List ℕ → Result Request RefusalAt
+request_unless (Some refused) number line = Err refused
+request_unless None number line = refused_at number (request_of_line line)
 
--- What a command asks for, or the first of these refusals: a line that is too long, a body without its end
--- (at the last line of the input), a name that is no command's, words that are not the command's, and, word by word from
--- the left, a bad name, version or priority.
+-- What a command asks for, or its first refusal: that of its lines, and then that of its words, which names the line of the
+-- command.
 abbrev pub request_of : Command → Result Request RefusalAt
-request_of command = elim (first_long command.number (command.line ∷ command.body)) [
-  | Some line ↦ Err (record { line = line; cause = refusal.TooLong })
-  | None ↦ if command.ended
-      then refused_at command.number (request_named (command_named (name_of command.line)) (name_of command.line) (behind_name command.line))
-      else Err (record { line = command.number + length command.body; cause = refusal.Unended })
-]
+request_of command = request_unless (refusal_of_lines command) command.number command.line

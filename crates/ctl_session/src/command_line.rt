@@ -5,9 +5,8 @@ ghost use Rattle.std.specs.Option.{option_map};
 ghost use Rattle.clap.specs.Words.{HasMatchesOf, app_of};
 ghost use Rattle.clap.specs.Simple.{with_rule, is_simple};
 ghost use Rattle.clap.specs.Takes.{takes};
-ghost use Rattle.clap.specs.Matches.{first_value, found_of};
 ghost use Rattle.clap.specs.declared.parser.matches.ArgMatches.{ArgMatches as Matches};
-ghost use Rattle.ctl_session.specs.Application.{application, program, list_rule, status_rule, script_rule};
+ghost use Rattle.ctl_session.specs.Application.{application, IsFirstValue, program, list_rule, status_rule, script_rule};
 ghost use Rattle.ctl_session.specs.declared.program_words.ArgumentsFault.TheVariants.{Memory};
 
 use crate::program_words::{Arguments, ArgumentsFault};
@@ -95,8 +94,8 @@ fn all_owned(alloc: Global, texts: &[&str]) -> Result<Vec<String>, AllocError> {
 
 /// What matches ask for.
 fn asked(alloc: Global, matches: &ArgMatches<'_>) -> Result<Arguments, AllocError>
-    ensures status { IfOk result (λ arguments. option_map string_bytes arguments.status ≡ first_value (found_of matches.now) (codes "FILE")) }
-    ensures script { IfOk result (λ arguments. option_map string_bytes arguments.script ≡ first_value (found_of matches.now) (codes "SCRIPT")) }
+    ensures status { IfOk result (λ arguments. IsFirstValue matches.now (codes "FILE") arguments.status) }
+    ensures script { IfOk result (λ arguments. IsFirstValue matches.now (codes "SCRIPT") arguments.script) }
 {
     let lists = match matches.get_strs("LIST") {
         None => Vec::new(alloc),
@@ -116,12 +115,12 @@ fn asked(alloc: Global, matches: &ArgMatches<'_>) -> Result<Arguments, AllocErro
 /// # Errors
 ///
 /// [`ArgumentsFault::Words`] where the words are not `[-l NAME=FILE]... [--status FILE] [SCRIPT]`, or ask for help or the
-/// version; it holds clap's error, whose text tells what is wrong, or what was asked for. [`ArgumentsFault::Memory`] where there is not enough memory.
+/// version; it holds clap's error, whose text tells what is wrong, or what was asked for. [`ArgumentsFault::Memory`] where
+/// there is not enough memory.
 pub fn arguments(alloc: Global, words: &[&str]) -> Result<Arguments, ArgumentsFault>
     // The status file and the script are the first values of their arguments in matches that clap promises for the words.
     ensures values { IfOk result (λ arguments. (found : Matches) × HasMatchesOf application (map (λ word. word.now) words.now) found
-        × (option_map string_bytes arguments.status ≡ first_value (found_of found) (codes "FILE"))
-        × (option_map string_bytes arguments.script ≡ first_value (found_of found) (codes "SCRIPT"))) }
+        × IsFirstValue found (codes "FILE") arguments.status × IsFirstValue found (codes "SCRIPT") arguments.script) }
 
     // What clap promises it promises of simple applications, as this one is.
     ensures simple { is_simple application ≡ true }

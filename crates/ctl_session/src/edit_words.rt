@@ -1,18 +1,21 @@
 //! The words of commands on stanzas, marks and the target release.
 
-ghost use Rattle.ctl_session.specs.Request.{remove_request as remove_asked, mark_request as mark_asked, target_request as target_asked};
-ghost use Rattle.std.specs.Prelude.{IfOk};
-ghost use Rattle.ctl_session.specs.Asked.{Asks, ReadsVersion};
+ghost use Rattle.std.specs.Prelude.{◌≡◌, ◌⊎◌, IfOk, IfErr, None, is_none, false};
+ghost use Rattle.ctl_relation.specs.Version.{fault_of};
+ghost use Rattle.ctl_store.specs.declared.refusal.Refusal.TheVariants.{Memory, Version as BadVersion};
+ghost use Rattle.ctl_store.specs.Edits.{edit_of};
+ghost use Rattle.ctl_query.specs.QueryRead.{Reads};
+ghost use Rattle.ctl_session.specs.Request.{remove_edit as remove_asked, mark_edit as mark_asked, target_edit as target_asked};
 
 use crate::list_words::copied;
-use crate::request::Request;
 use ctl_relation::{Bytes, Version, VersionFault, is_name};
 use ctl_store::{Edit, Refusal};
 use std::alloc::Global;
 
 /// A word that has to be a version.
 fn version_of(alloc: Global, word: &Bytes) -> Result<Version, Refusal>
-    ensures { ReadsVersion word.now result }
+    ensures ok { IfOk result (λ version. (version ≡ word.now) × (fault_of word.now ≡ None)) }
+    ensures err { IfErr result (λ cause. (cause ≡ Memory) ⊎ ((cause ≡ BadVersion) × (is_none (fault_of word.now) ≡ false))) }
 {
     match Version::parse(alloc, word.as_slice()) {
         Ok(version) => Ok(version),
@@ -22,8 +25,8 @@ fn version_of(alloc: Global, word: &Bytes) -> Result<Version, Refusal>
 }
 
 /// `remove NAME PKG VERSION`
-pub(crate) fn remove_request(alloc: Global, words: &[Bytes]) -> Result<Request<'_>, Refusal>
-    ensures asks { Asks result (remove_asked words.now) }
+pub(crate) fn remove_edit(alloc: Global, words: &[Bytes]) -> Result<Edit, Refusal>
+    ensures { Reads edit_of result (remove_asked words.now) }
 {
     match words {
         [list, name, version] => {
@@ -36,19 +39,19 @@ pub(crate) fn remove_request(alloc: Global, words: &[Bytes]) -> Result<Request<'
             let version = version_of(alloc, version)?;
             let list = copied(alloc, list)?;
             let package = copied(alloc, name)?;
-            Ok(Request::Change(Edit::Remove {
+            Ok(Edit::Remove {
                 list,
                 package,
                 version,
-            }))
+            })
         }
         _ => Err(Refusal::Usage),
     }
 }
 
 /// `mark PKG VERSION` or `mark PKG none`
-pub(crate) fn mark_request(alloc: Global, words: &[Bytes]) -> Result<Request<'_>, Refusal>
-    ensures asks { Asks result (mark_asked words.now) }
+pub(crate) fn mark_edit(alloc: Global, words: &[Bytes]) -> Result<Edit, Refusal>
+    ensures { Reads edit_of result (mark_asked words.now) }
 {
     match words {
         [name, version] => {
@@ -57,36 +60,36 @@ pub(crate) fn mark_request(alloc: Global, words: &[Bytes]) -> Result<Request<'_>
             }
             if version.as_slice() == b"none".as_slice() {
                 let package = copied(alloc, name)?;
-                return Ok(Request::Change(Edit::Mark {
+                return Ok(Edit::Mark {
                     package,
                     version: None,
-                }));
+                });
             }
             let version = version_of(alloc, version)?;
             let package = copied(alloc, name)?;
-            Ok(Request::Change(Edit::Mark {
+            Ok(Edit::Mark {
                 package,
                 version: Some(version),
-            }))
+            })
         }
         _ => Err(Refusal::Usage),
     }
 }
 
 /// `target NAME` or `target none`
-pub(crate) fn target_request(alloc: Global, words: &[Bytes]) -> Result<Request<'_>, Refusal>
-    ensures asks { Asks result (target_asked words.now) }
+pub(crate) fn target_edit(alloc: Global, words: &[Bytes]) -> Result<Edit, Refusal>
+    ensures { Reads edit_of result (target_asked words.now) }
 {
     match words {
         [name] => {
             if name.as_slice() == b"none".as_slice() {
-                return Ok(Request::Change(Edit::Target { name: None }));
+                return Ok(Edit::Target { name: None });
             }
             if !is_name(name.as_slice()) {
                 return Err(Refusal::Name);
             }
             let name = copied(alloc, name)?;
-            Ok(Request::Change(Edit::Target { name: Some(name) }))
+            Ok(Edit::Target { name: Some(name) })
         }
         _ => Err(Refusal::Usage),
     }

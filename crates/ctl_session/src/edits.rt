@@ -1,10 +1,11 @@
 //! Edits of the store by commands.
 
-ghost use Rattle.std.specs.Prelude.{◌≡◌, false, OnErr};
+ghost use Rattle.std.specs.Prelude.{◌≡◌, false, OnErr, Some};
 ghost use Rattle.ctl_store.specs.Edits.{edit_of, AddList, Put};
 ghost use Rattle.ctl_store.specs.declared.refusal.Refusal.TheVariants.{Memory};
 ghost use Rattle.ctl_session.specs.Effect.{refusal_by, edited, edited_by_body, contents_of, list_added, put_in_list, prefs_set};
 ghost use Rattle.ctl_session.specs.Replies.{CameTo, IsRefusalOf};
+ghost use Rattle.ctl_session.specs.Asked.{kind_in};
 ghost use Rattle.ctl_session.specs.State.{cache_state};
 
 use crate::refusal_at::RefusalAt;
@@ -22,9 +23,9 @@ pub(crate) struct AtLine {
 }
 
 /// A list that is to be added: its name, its kind and its class.
-#[derive(Clone, Copy)]
-pub(crate) struct NewList<'a> {
-    pub(crate) name: &'a [u8],
+#[derive(Drop)]
+pub(crate) struct NewList {
+    pub(crate) name: Bytes,
     pub(crate) kind: ListKind,
     pub(crate) class: ListClass,
 }
@@ -86,42 +87,37 @@ pub(crate) fn edit(cache: &mut Cache, edit: Edit, number: u32) -> Result<(), Ref
 fn add_stanzas(
     at: AtLine,
     cache: &mut Cache,
-    list: NewList<'_>,
+    list: NewList,
     stanzas: Vec<Stanza>,
 ) -> Result<(), RefusalAt>
     requires { cache.old.stale ≡ false }
     ensures outcome { CameTo at.number result (cache_state cache.new)
-        (edited (cache_state cache.old) at.number (AddList list.entry.name.now list.entry.kind list.entry.class stanzas.items)) }
+        (edited (cache_state cache.old) at.number (AddList list.name list.kind list.class stanzas.items)) }
     ensures err { OnErr result (cache_state cache.new ≡ cache_state cache.old) }
 {
-    let Ok(name) = Bytes::from_slice(at.alloc, list.name) else {
-        return Err(refused(at.number, Refusal::Memory));
-    };
     let Ok(stanzas) = boxed(at.alloc, stanzas) else {
         return Err(refused(at.number, Refusal::Memory));
     };
-    edit(
-        cache,
-        Edit::AddList {
-            name,
-            kind: list.kind,
-            class: list.class,
-            stanzas,
-        },
-        at.number,
-    )
+    let NewList { name, kind, class } = list;
+    let added = Edit::AddList {
+        name,
+        kind,
+        class,
+        stanzas,
+    };
+    edit(cache, added, at.number)
 }
 
 /// Adds a list with the stanzas that were read of a text, or tells the fault of the text.
 pub(crate) fn add_read_list(
     at: AtLine,
     cache: &mut Cache,
-    list: NewList<'_>,
+    list: NewList,
     read: Result<Vec<Stanza>, TextFault>,
 ) -> Result<(), RefusalAt>
     requires { cache.old.stale ≡ false }
     ensures outcome { CameTo at.number result (cache_state cache.new) (edited_by_body (cache_state cache.old) at.number
-        (AddList list.entry.name.now list.entry.kind list.entry.class) (contents_of read)) }
+        (AddList list.name list.kind list.class) (contents_of read)) }
     ensures err { OnErr result (cache_state cache.new ≡ cache_state cache.old) }
 {
     match read {
@@ -135,12 +131,12 @@ pub(crate) fn add_read_list(
 pub(crate) fn add_list(
     at: AtLine,
     cache: &mut Cache,
-    list: NewList<'_>,
+    list: NewList,
     text: Vec<u8>,
 ) -> Result<(), RefusalAt>
     requires { cache.old.stale ≡ false }
     ensures outcome { CameTo at.number result (cache_state cache.new)
-        (list_added (cache_state cache.old) at.number list.entry.name.now list.entry.kind list.entry.class text.items) }
+        (list_added (cache_state cache.old) at.number list.name list.kind list.class text.items) }
     ensures err { OnErr result (cache_state cache.new ≡ cache_state cache.old) }
 {
     lines_take_bytes();
@@ -153,30 +149,31 @@ pub(crate) fn add_list(
 }
 
 /// Puts a stanza into a list.
-fn put_stanza(at: AtLine, cache: &mut Cache, list: &[u8], stanza: Stanza) -> Result<(), RefusalAt>
+fn put_stanza(at: AtLine, cache: &mut Cache, list: Bytes, stanza: Stanza) -> Result<(), RefusalAt>
     requires { cache.old.stale ≡ false }
-    ensures outcome { CameTo at.number result (cache_state cache.new) (edited (cache_state cache.old) at.number (Put list.now stanza)) }
+    ensures outcome { CameTo at.number result (cache_state cache.new) (edited (cache_state cache.old) at.number (Put list stanza)) }
     ensures err { OnErr result (cache_state cache.new ≡ cache_state cache.old) }
 {
-    let Ok(list) = Bytes::from_slice(at.alloc, list) else {
-        return Err(refused(at.number, Refusal::Memory));
-    };
     let Ok(stanza) = Box::new(at.alloc, stanza) else {
         return Err(refused(at.number, Refusal::Memory));
     };
     edit(cache, Edit::Put { list, stanza }, at.number)
 }
 
-/// Puts the one stanza of a text into a list.
-pub(crate) fn put(at: AtLine, cache: &mut Cache, name: &[u8], text: &[u8]) -> Result<(), RefusalAt>
+/// Puts the one stanza of a text into a list of this kind.
+pub(crate) fn put(
+    at: AtLine,
+    cache: &mut Cache,
+    list: Bytes,
+    kind: ListKind,
+    text: &[u8],
+) -> Result<(), RefusalAt>
     requires { cache.old.stale ≡ false }
-    ensures outcome { CameTo at.number result (cache_state cache.new) (put_in_list (cache_state cache.old) at.number name.now text.now) }
+    ensures outcome { kind_in (cache_state cache.old) list ≡ Some kind
+        → CameTo at.number result (cache_state cache.new) (put_in_list (cache_state cache.old) at.number list text.now) }
     ensures err { OnErr result (cache_state cache.new ≡ cache_state cache.old) }
 {
     let number = at.number;
-    let Some(kind) = cache.store().kind(name) else {
-        return Err(refused(number, Refusal::NoList));
-    };
     lines_take_bytes();
     let mut stanzas = match read_stanzas(at.alloc, text, number as u64 + 1, kind) {
         Ok(stanzas) => stanzas,
@@ -188,7 +185,7 @@ pub(crate) fn put(at: AtLine, cache: &mut Cache, name: &[u8], text: &[u8]) -> Re
     let Some(stanza) = stanzas.pop() else {
         unreachable!("there is one stanza");
     };
-    put_stanza(at, cache, name, stanza)
+    put_stanza(at, cache, list, stanza)
 }
 
 /// Lets the pin settings of a text take the place of all.

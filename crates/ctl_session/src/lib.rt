@@ -1,7 +1,6 @@
 //! Scripts over a cache of package lists: lines to commands, and a run over any reader and writer.
 #![tactic(auto)]
 
-mod body_need;
 mod command_line;
 mod command_name;
 mod edit_words;
@@ -30,6 +29,7 @@ mod source;
 mod source_fault;
 mod summary;
 mod words;
+mod workspace;
 
 pub use command_line::arguments;
 pub use failed::Failed;

@@ -74,23 +74,25 @@ pub(crate) struct Lines {
 }
 
 impl Lines {
-    pub(crate) fn new(alloc: Global) -> Result<Self, AllocError> {
+    /// The lines of runs of so many at most.
+    pub(crate) fn new(alloc: Global, max: u32) -> Result<Self, AllocError>
+        ensures { IfOk result (λ lines. lines.max ≡ max) }
+    {
         Ok(Lines {
             pending: ReadAhead::new(alloc)?,
             number: 0,
-            max: 0,
+            max,
         })
     }
 
     /// Begins a run, which forgets what was read ahead.
-    pub(crate) fn restart(&mut self, max: u32)
+    pub(crate) fn restart(&mut self)
         ensures pending { self.new.pending ≡ [] }
         ensures number { self.new.number ≡ 0 }
-        ensures max { self.new.max ≡ max }
+        ensures max { self.new.max ≡ self.old.max }
     {
         self.pending.clear();
         self.number = 0;
-        self.max = max;
     }
 
     /// Reads the next line.

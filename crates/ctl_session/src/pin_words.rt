@@ -1,18 +1,19 @@
 //! The words of commands on pins.
 
 ghost use Rattle.std.specs.Prelude.{◌≡◌, IfOk};
-ghost use Rattle.ctl_session.specs.Request.{version_selector, release_selector, selector_of as selector_asked, pin_request as pin_asked, unpin_request as unpin_asked};
-ghost use Rattle.ctl_session.specs.Asked.{Asks, ReadsSelector};
+ghost use Rattle.ctl_store.specs.Edits.{edit_of};
+ghost use Rattle.ctl_query.specs.QueryRead.{Reads};
+ghost use Rattle.ctl_session.specs.Request.{version_selector, release_selector, selector_of as selector_asked};
+ghost use Rattle.ctl_session.specs.Request.{pin_edit as pin_asked, unpin_edit as unpin_asked};
 
 use crate::list_words::copied;
-use crate::request::Request;
 use ctl_relation::{Bytes, is_name};
 use ctl_store::{Edit, PinSetting, PinVersion, Refusal, Selector, read_priority};
 use std::alloc::Global;
 
 /// `PKG version V`
 fn version_selector(alloc: Global, name: &Bytes, version: &Bytes) -> Result<Selector, Refusal>
-    ensures { ReadsSelector result (version_selector name.now version.now) }
+    ensures { Reads (λ selector. selector) result (version_selector name.now version.now) }
 {
     if name.as_slice() == b"*".as_slice() {
         return Err(Refusal::Usage);
@@ -32,7 +33,7 @@ fn version_selector(alloc: Global, name: &Bytes, version: &Bytes) -> Result<Sele
 
 /// `PKG release LIST`, or with `*` for all packages
 fn release_selector(alloc: Global, name: &Bytes, list: &Bytes) -> Result<Selector, Refusal>
-    ensures { ReadsSelector result (release_selector name.now list.now) }
+    ensures { Reads (λ selector. selector) result (release_selector name.now list.now) }
 {
     if name.as_slice() == b"*".as_slice() {
         if !is_name(list.as_slice()) {
@@ -65,7 +66,7 @@ fn selector_of(
     form: &Bytes,
     value: &Bytes,
 ) -> Result<Selector, Refusal>
-    ensures { ReadsSelector result (selector_asked name.now form.now value.now) }
+    ensures { Reads (λ selector. selector) result (selector_asked name.now form.now value.now) }
 {
     if form.as_slice() == b"version".as_slice() {
         version_selector(alloc, name, value)
@@ -77,8 +78,8 @@ fn selector_of(
 }
 
 /// `pin` with a selector and a priority
-pub(crate) fn pin_request(alloc: Global, words: &[Bytes]) -> Result<Request<'_>, Refusal>
-    ensures asks { Asks result (pin_asked words.now) }
+pub(crate) fn pin_edit(alloc: Global, words: &[Bytes]) -> Result<Edit, Refusal>
+    ensures { Reads edit_of result (pin_asked words.now) }
 {
     match words {
         [name, form, value, priority] => {
@@ -89,7 +90,7 @@ pub(crate) fn pin_request(alloc: Global, words: &[Bytes]) -> Result<Request<'_>,
             match read_priority(priority.as_slice()) {
                 Some(priority) => {
                     let setting = PinSetting { selector, priority };
-                    Ok(Request::Change(Edit::Pin { setting }))
+                    Ok(Edit::Pin { setting })
                 }
                 None => Err(Refusal::Priority),
             }
@@ -99,12 +100,12 @@ pub(crate) fn pin_request(alloc: Global, words: &[Bytes]) -> Result<Request<'_>,
 }
 
 /// `unpin` with a selector
-pub(crate) fn unpin_request(alloc: Global, words: &[Bytes]) -> Result<Request<'_>, Refusal>
-    ensures asks { Asks result (unpin_asked words.now) }
+pub(crate) fn unpin_edit(alloc: Global, words: &[Bytes]) -> Result<Edit, Refusal>
+    ensures { Reads edit_of result (unpin_asked words.now) }
 {
     match words {
         [name, form, value] => match selector_of(alloc, name, form, value) {
-            Ok(selector) => Ok(Request::Change(Edit::Unpin { selector })),
+            Ok(selector) => Ok(Edit::Unpin { selector }),
             Err(cause) => Err(cause),
         },
         _ => Err(Refusal::Usage),

@@ -5,9 +5,7 @@ ghost use Rattle.std.specs.Io.KnownBytes.{Appends};
 ghost use Rattle.ctl_stanza.specs.Lines.{max_line};
 ghost use Rattle.ctl_store.specs.Refusals.{words_of_refusal};
 ghost use Rattle.ctl_session.specs.Streams.{counted, WritesPart};
-ghost use Rattle.ctl_session.specs.State.{CacheState};
-ghost use Rattle.ctl_session.specs.Outcome.{text_of};
-ghost use Rattle.ctl_session.specs.Replies.{outcome_from};
+ghost use Rattle.ctl_session.specs.Replies.{text_of_reply};
 
 use crate::failed::Failed;
 use crate::refusal_at::RefusalAt;
@@ -48,8 +46,8 @@ pub(crate) fn print<W: Sink>(
 ) -> Result<(), Failed>
     requires { max_line ≤ vec_capacity line.old }
     ensures room { max_line ≤ vec_capacity line.new }
-    ensures ok { (state : CacheState) → OnOk result (Appends (W.taken writer.old) (W.taken writer.new) (text_of (outcome_from reply out.now state))) }
-    ensures err { (state : CacheState) → OnErr result (WritesPart (W.taken writer.old) (W.taken writer.new) (text_of (outcome_from reply out.now state))) }
+    ensures ok { OnOk result (Appends (W.taken writer.old) (W.taken writer.new) (text_of_reply reply out.now)) }
+    ensures err { OnErr result (WritesPart (W.taken writer.old) (W.taken writer.new) (text_of_reply reply out.now)) }
     ensures failures { W.failures writer.new ≡ counted (is_err result) (W.failures writer.old) }
 {
     match reply {

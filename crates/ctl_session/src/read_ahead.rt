@@ -93,10 +93,9 @@ impl ReadAhead {
 
     /// Reads the next part, if nothing is left, and says whether there is a byte.
     pub(crate) fn fill<R: Source>(&mut self, reader: &mut R) -> Result<bool, Failed>
-        ensures kept { OnOk result (Consumes (prepend_known self.old (R.remaining reader.old)) (prepend_known self.new (R.remaining reader.new)) []) }
+        ensures kept { Consumes (prepend_known self.old (R.remaining reader.old)) (prepend_known self.new (R.remaining reader.new)) [] }
         ensures some { IfOk result (λ some. some ≡ true → 0 < length self.new) }
         ensures end { IfOk result (λ some. some ≡ false → IsAtEnd (prepend_known self.new (R.remaining reader.new))) }
-        ensures err { OnErr result (Consumes (prepend_known self.old (R.remaining reader.old)) (prepend_known self.new (R.remaining reader.new)) []) }
         ensures empty { OnErr result (self.new ≡ []) }
         ensures failed { R.failures reader.new ≡ counted (is_err result) (R.failures reader.old) }
     {

@@ -1,66 +1,38 @@
 //! A run: a script's commands, answered one after another.
 
-ghost use Rattle.std.specs.Prelude.{◌≡◌, ◌≤◌, IfOk, IfErr, vec_capacity};
-ghost use Rattle.ctl_stanza.specs.Lines.{max_line};
+ghost use Rattle.std.specs.Prelude.{◌≡◌, IfOk, IfErr};
 ghost use Rattle.ctl_session.specs.Streams.{counted};
 ghost use Rattle.ctl_session.specs.Faults.{is_read_fault, is_write_fault};
-ghost use Rattle.ctl_session.specs.Run.{Ran, Stopped};
-ghost use Rattle.ctl_session.specs.State.{cache_state};
+ghost use Rattle.ctl_session.specs.Run.{Ran, Stopped, standing};
 
 use crate::fault::Fault;
-use crate::lines::Lines;
 use crate::perform::perform;
 use crate::print::print;
 use crate::script::read_command;
 use crate::sink::Sink;
 use crate::source::Source;
 use crate::summary::Summary;
+use crate::workspace::Workspace;
 use ctl_index::Cache;
-use ctl_stanza::MAX_LINE;
-use std::alloc::{AllocError, Global};
-
-/// What a run has in memory: two lines, and the text of an answer.
-#[derive(Drop)]
-pub(crate) struct Buffers {
-    /// The line of a command, and then that of its refusal.
-    head: Vec<u8>,
-    /// A line of its body.
-    line: Vec<u8>,
-    /// The text of an answer.
-    out: Vec<u8>,
-    ghost head_room: { max_line ≤ vec_capacity head },
-    ghost line_room: { max_line ≤ vec_capacity line },
-}
-
-impl Buffers {
-    /// Buffers with room for the longest lines.
-    pub(crate) fn new(alloc: Global) -> Result<Self, AllocError> {
-        Ok(Buffers {
-            head: Vec::with_capacity(alloc, MAX_LINE)?,
-            line: Vec::with_capacity(alloc, MAX_LINE)?,
-            out: Vec::new(alloc),
-        })
-    }
-}
+use std::alloc::Global;
 
 /// Runs a script from a reader, and writes what its commands come to.
 pub(crate) fn run_over<R: Source, W: Sink>(
     alloc: Global,
     cache: &mut Cache,
-    lines: &mut Lines,
-    buffers: &mut Buffers,
-    max_lines: u32,
+    workspace: &mut Workspace,
     reader: &mut R,
     writer: &mut W,
 ) -> Result<Summary, Fault>
-    ensures ok { IfOk result (λ summary. Ran max_lines (R.remaining reader.old) (R.remaining reader.new) (W.taken writer.old) (W.taken writer.new)
-        (cache_state cache.old) (cache_state cache.new) summary.accepted summary.refused) }
+    ensures ok { IfOk result (Ran workspace.old.lines.max (standing cache.old (R.remaining reader.old) (W.taken writer.old))
+        (standing cache.new (R.remaining reader.new) (W.taken writer.new))) }
     ensures read { R.failures reader.new ≡ counted (is_read_fault result) (R.failures reader.old) }
     ensures write { W.failures writer.new ≡ counted (is_write_fault result) (W.failures writer.old) }
-    ensures fault { IfErr result (Stopped max_lines (R.remaining reader.old) (R.remaining reader.new) (W.taken writer.old) (W.taken writer.new)
-        (cache_state cache.old) (cache_state cache.new)) }
+    ensures fault { IfErr result (Stopped workspace.old.lines.max (standing cache.old (R.remaining reader.old) (W.taken writer.old))
+        (standing cache.new (R.remaining reader.new) (W.taken writer.new))) }
+    ensures max_lines { workspace.new.lines.max ≡ workspace.old.lines.max }
 {
-    lines.restart(max_lines);
+    workspace.lines.restart();
     let mut summary = Summary {
         accepted: 0,
         refused: 0,
@@ -69,10 +41,9 @@ pub(crate) fn run_over<R: Source, W: Sink>(
         let command = match read_command(
             alloc,
             cache,
-            lines,
+            &mut workspace.lines,
             reader,
-            &mut buffers.head,
-            &mut buffers.line,
+            &mut workspace.line,
         ) {
             Err(fault) => return Err(Fault::from(fault)),
             Ok(None) => return Ok(summary),
@@ -82,12 +53,11 @@ pub(crate) fn run_over<R: Source, W: Sink>(
         let reply = perform(
             alloc,
             cache,
-            &buffers.head,
             command,
-            lines.number,
-            &mut buffers.out,
+            workspace.lines.number,
+            &mut workspace.out,
         );
-        match print(writer, reply, &buffers.out, &mut buffers.head) {
+        match print(writer, reply, &workspace.out, &mut workspace.line) {
             Err(_) => return Err(Fault::Write),
             Ok(()) => {}
         }

@@ -6,18 +6,18 @@ ghost use Rattle.ctl_stanza.specs.Lines.{max_line};
 ghost use Rattle.ctl_session.specs.Streams.{counted};
 ghost use Rattle.ctl_session.specs.declared.fault.ReadingFault.TheVariants.{ReadFailed};
 ghost use Rattle.ctl_session.specs.LineReading.{is_failed_read};
-ghost use Rattle.ctl_session.specs.Reading.{HoldsBody, ReadsBody, ReadsHead, ReadsNext, StopsInBody, StopsReading};
+ghost use Rattle.ctl_session.specs.Reading.{HoldsBody, ReadsBody, ReadsHead, ReadsNext, KeepsWhatIsNeeded, StopsInBody, StopsReading};
 ghost use Rattle.ctl_session.specs.State.{cache_state};
-ghost use Rattle.ctl_session.specs.BodyNeed.{KeepsWhatIsNeeded};
 
-use crate::body_need::needs_body;
 use crate::fault::ReadingFault;
 use crate::line_words::{has_body, is_dot, is_no_command};
 use crate::lines::Lines;
 use crate::read_ahead::LineRead;
+use crate::request::{Request, read_request};
 use crate::source::Source;
 use ctl_index::Cache;
 use ctl_stanza::MAX_LINE;
+use ctl_store::Refusal;
 use std::alloc::{AllocError, Global};
 
 /// What was read of a body.
@@ -175,34 +175,33 @@ fn next_head<R: Source>(
 pub(crate) struct CommandRead {
     /// The number of its line.
     pub(crate) number: u32,
+    /// What its line asks for, or why it is refused whatever the body is.
+    pub(crate) request: Result<Request, Refusal>,
     pub(crate) body: Body,
 }
 
-/// Reads the next command, with its body, whose lines are dropped where they are not needed.
+/// Reads the next command: what its line asks for, and its body, whose lines are dropped where the line is refused.
 pub(crate) fn read_command<R: Source>(
     alloc: Global,
     cache: &Cache,
     lines: &mut Lines,
     reader: &mut R,
-    head: &mut Vec<u8>,
     line: &mut Vec<u8>,
 ) -> Result<Option<CommandRead>, ReadingFault>
-    requires head { max_line ≤ vec_capacity head.old }
-    requires line { max_line ≤ vec_capacity line.old }
-    ensures head { max_line ≤ vec_capacity head.new }
-    ensures line { max_line ≤ vec_capacity line.new }
+    requires { max_line ≤ vec_capacity line.old }
+    ensures room { max_line ≤ vec_capacity line.new }
 
     // Of a body lines are kept only where the command needs it.
-    ensures kept { IfOk result (KeepsWhatIsNeeded (cache_state cache.now) head.new.items) }
-    ensures ok { IfOk result (ReadsNext (prepend_known lines.old.pending (R.remaining reader.old))
-        (prepend_known lines.new.pending (R.remaining reader.new)) lines.old.number lines.new.number head.new.items) }
+    ensures kept { IfOk result KeepsWhatIsNeeded }
+    ensures ok { IfOk result (ReadsNext (cache_state cache.now) (prepend_known lines.old.pending (R.remaining reader.old))
+        (prepend_known lines.new.pending (R.remaining reader.new)) lines.old.number lines.new.number) }
     ensures fault { IfErr result (StopsReading (prepend_known lines.old.pending (R.remaining reader.old))
         (prepend_known lines.new.pending (R.remaining reader.new)) lines.old.number lines.old.max) }
     ensures used { IfErr result (λ fault. fault ≡ ReadFailed → lines.new.pending ≡ []) }
     ensures max { lines.new.max ≡ lines.old.max }
     ensures failures { R.failures reader.new ≡ counted (is_failed_read result) (R.failures reader.old) }
 {
-    let read = match next_head(lines, reader, head) {
+    let read = match next_head(lines, reader, line) {
         Err(fault) => return Err(fault),
         Ok(None) => return Ok(None),
         Ok(Some(read)) => read,
@@ -210,19 +209,36 @@ pub(crate) fn read_command<R: Source>(
     let number = lines.number;
     if read.count as usize > MAX_LINE {
         let body = Body::none(alloc, Some(number), true, !read.newline);
-        return Ok(Some(CommandRead { number, body }));
+        let request = Err(Refusal::TooLong);
+        return Ok(Some(CommandRead {
+            number,
+            request,
+            body,
+        }));
     }
-    if !has_body(head) {
+    let request = read_request(alloc, cache, line);
+    if !has_body(line) {
         let body = Body::none(alloc, None, true, !read.newline);
-        return Ok(Some(CommandRead { number, body }));
+        return Ok(Some(CommandRead {
+            number,
+            request,
+            body,
+        }));
     }
     if !read.newline {
         let body = Body::none(alloc, None, false, true);
-        return Ok(Some(CommandRead { number, body }));
+        return Ok(Some(CommandRead {
+            number,
+            request,
+            body,
+        }));
     }
-    let is_kept = needs_body(alloc, cache, head);
-    match read_body(alloc, lines, reader, line, is_kept) {
+    match read_body(alloc, lines, reader, line, request.is_ok()) {
         Err(fault) => Err(fault),
-        Ok(body) => Ok(Some(CommandRead { number, body })),
+        Ok(body) => Ok(Some(CommandRead {
+            number,
+            request,
+            body,
+        })),
     }
 }

@@ -6,21 +6,21 @@ ghost use Rattle.ctl_session.specs.Replies.{LoadCameTo};
 ghost use Rattle.ctl_session.specs.Loading.{LoadedFrom, is_failed_load};
 ghost use Rattle.ctl_session.specs.Streams.{counted};
 ghost use Rattle.ctl_session.specs.Faults.{is_read_fault, is_write_fault};
-ghost use Rattle.ctl_session.specs.Run.{Ran, Stopped};
+ghost use Rattle.ctl_session.specs.Run.{Ran, Stopped, standing};
 ghost use Rattle.ctl_session.specs.State.{cache_state};
 
 use crate::edits::{AtLine, NewList, add_read_list};
 use crate::fault::Fault;
-use crate::lines::Lines;
 use crate::list_source::read_list;
 use crate::load_fault::LoadFault;
-use crate::run::{Buffers, run_over};
+use crate::run::run_over;
 use crate::sink::Sink;
 use crate::source::Source;
 use crate::source_fault::SourceFault;
 use crate::summary::Summary;
+use crate::workspace::Workspace;
 use ctl_index::Cache;
-use ctl_relation::is_name;
+use ctl_relation::{Bytes, is_name};
 use ctl_stanza::{ListKind, Stanza, TextFault, lines_take_bytes, read_stanzas};
 use ctl_store::{ListClass, Refusal};
 use std::alloc::{AllocError, Global};
@@ -30,9 +30,7 @@ use std::marker::Model;
 #[derive(Drop)]
 pub struct Session {
     cache: Cache,
-    lines: Lines,
-    buffers: Buffers,
-    max_lines: u32,
+    workspace: Workspace,
     alloc: Global,
 }
 
@@ -45,12 +43,7 @@ impl Model for Session {
 
     ghost coded = { Prim.hlevel (codes, code) };
 
-    ghost view = { λ session. record { cache = session.cache; max_lines = session.max_lines } };
-}
-
-/// All the memory that the reading of lines takes.
-fn reading_room(alloc: Global) -> Result<(Lines, Buffers), AllocError> {
-    Ok((Lines::new(alloc)?, Buffers::new(alloc)?))
+    ghost view = { λ session. record { cache = session.cache; max_lines = session.workspace.lines.max } };
 }
 
 impl Session {
@@ -73,12 +66,10 @@ impl Session {
         ensures ok { IfOk result (λ session. session ≡ record { cache = cache; max_lines = max_lines }) }
         ensures err { IfErr result (λ refused. refused.0 ≡ cache) }
     {
-        match reading_room(alloc) {
-            Ok((lines, buffers)) => Ok(Session {
+        match Workspace::new(alloc, max_lines) {
+            Ok(workspace) => Ok(Session {
                 cache,
-                lines,
-                buffers,
-                max_lines,
+                workspace,
                 alloc,
             }),
             Err(error) => Err((cache, error)),
@@ -111,6 +102,9 @@ impl Session {
             Ok(()) => {}
             Err(_) => return Err(LoadFault::of_list(Refusal::Memory)),
         }
+        let Ok(name) = Bytes::from_slice(self.alloc, name) else {
+            return Err(LoadFault::of_list(Refusal::Memory));
+        };
         let list = NewList {
             name,
             kind,
@@ -185,7 +179,7 @@ impl Session {
         ensures err { OnErr result (cache_state self.new.cache ≡ cache_state self.old.cache) }
         ensures max_lines { self.new.max_lines ≡ self.old.max_lines }
     {
-        let read = match read_list(self.alloc, &mut self.lines.pending, reader, kind) {
+        let read = match read_list(self.alloc, &mut self.workspace.lines.pending, reader, kind) {
             Ok(read) => read,
             Err(fault) => return Err(fault),
         };
@@ -205,8 +199,8 @@ impl Session {
         writer: &mut W,
     ) -> Result<Summary, Fault>
         // All that the reader gave is a script within the limit of lines, and what the writer took is the text of its commands.
-        ensures ok { IfOk result (λ summary. Ran self.old.max_lines (R.remaining reader.old) (R.remaining reader.new) (W.taken writer.old) (W.taken writer.new)
-            (cache_state self.old.cache) (cache_state self.new.cache) summary.accepted summary.refused) }
+        ensures ok { IfOk result (Ran self.old.max_lines (standing self.old.cache (R.remaining reader.old) (W.taken writer.old))
+            (standing self.new.cache (R.remaining reader.new) (W.taken writer.new))) }
 
         // A fault of reading or writing comes where a read or a write failed, and only there.
         ensures read { R.failures reader.new ≡ counted (is_read_fault result) (R.failures reader.old) }
@@ -214,16 +208,14 @@ impl Session {
 
         // At a fault of reading, or past the limit, the text of the commands that were given whole is written, and no more;
         // at a fault of writing the text of the last command that was done is written in part.
-        ensures fault { IfErr result (Stopped self.old.max_lines (R.remaining reader.old) (R.remaining reader.new) (W.taken writer.old) (W.taken writer.new)
-            (cache_state self.old.cache) (cache_state self.new.cache)) }
+        ensures fault { IfErr result (Stopped self.old.max_lines (standing self.old.cache (R.remaining reader.old) (W.taken writer.old))
+            (standing self.new.cache (R.remaining reader.new) (W.taken writer.new))) }
         ensures max_lines { self.new.max_lines ≡ self.old.max_lines }
     {
         run_over(
             self.alloc,
             &mut self.cache,
-            &mut self.lines,
-            &mut self.buffers,
-            self.max_lines,
+            &mut self.workspace,
             reader,
             writer,
         )

@@ -5,7 +5,7 @@ ghost use Rattle.std.specs.Io.KnownBytes.{WriteAppends, Appends};
 ghost use Rattle.ctl_session.specs.Streams.{counted, WritesPart};
 
 use crate::failed::Failed;
-use std::io::Write;
+use std::io::{ErrorKind, Write};
 
 /// Where bytes go.
 pub trait Sink {
@@ -22,7 +22,25 @@ pub trait Sink {
         ensures failed { failures self.new ≡ counted (is_err result) (failures self.old) };
 }
 
-/// A writer of std as a sink.
+/// Writes, and again where a signal broke the write off before a byte was taken.
+fn write_unbroken<W: Write>(writer: &mut W, buf: &[u8]) -> Result<usize, Failed>
+    ensures bound { IfOk result (λ n. n ≤ length buf.now) }
+    ensures bytes { WriteAppends (W.contents writer.old) (W.contents writer.new) result buf.now }
+{
+    for _ in 0..u64::MAX {
+        match writer.write(buf) {
+            Ok(n) => return Ok(n),
+            Err(error) => {
+                if error.kind() != ErrorKind::Interrupted {
+                    return Err(Failed);
+                }
+            }
+        }
+    }
+    Err(Failed)
+}
+
+/// A writer of std as a sink. A write that a signal breaks off is made again, and doesn't count as failed.
 pub struct FromWrite<W> {
     inner: W,
     failures: u64,
@@ -49,7 +67,7 @@ impl<W: Write> Sink for FromWrite<W> {
     ghost failures = { λ s. s.failures };
 
     fn write(&mut self, buf: &[u8]) -> Result<usize, Failed> {
-        match self.inner.write(buf) {
+        match write_unbroken(&mut self.inner, buf) {
             Ok(n) if n > 0 || buf.is_empty() => Ok(n),
             _ => {
                 self.failures = self.failures.saturating_add(1);

@@ -5,7 +5,7 @@ ghost use Rattle.std.specs.Io.KnownBytes.{ReadConsumes};
 ghost use Rattle.ctl_session.specs.Streams.{counted};
 
 use crate::failed::Failed;
-use std::io::Read;
+use std::io::{ErrorKind, Read};
 
 /// Where bytes come from.
 pub trait Source {
@@ -21,7 +21,25 @@ pub trait Source {
         ensures failed { failures self.new ≡ counted (is_err result) (failures self.old) };
 }
 
-/// A reader of std as a source.
+/// Reads, and again where a signal broke the read off before a byte came.
+fn read_unbroken<R: Read>(reader: &mut R, buf: &mut [u8]) -> Result<usize, Failed>
+    ensures bound { IfOk result (λ n. n ≤ length buf.new) }
+    ensures bytes { ReadConsumes (R.remaining reader.old) (R.remaining reader.new) result buf.new }
+{
+    for _ in 0..u64::MAX {
+        match reader.read(buf) {
+            Ok(n) => return Ok(n),
+            Err(error) => {
+                if error.kind() != ErrorKind::Interrupted {
+                    return Err(Failed);
+                }
+            }
+        }
+    }
+    Err(Failed)
+}
+
+/// A reader of std as a source. A read that a signal breaks off is made again, and doesn't count as failed.
 pub struct FromRead<R> {
     inner: R,
     failures: u64,
@@ -48,11 +66,11 @@ impl<R: Read> Source for FromRead<R> {
     ghost failures = { λ s. s.failures };
 
     fn read(&mut self, buf: &mut [u8]) -> Result<usize, Failed> {
-        match self.inner.read(buf) {
+        match read_unbroken(&mut self.inner, buf) {
             Ok(n) => Ok(n),
-            Err(_) => {
+            Err(failed) => {
                 self.failures = self.failures.saturating_add(1);
-                Err(Failed)
+                Err(failed)
             }
         }
     }

@@ -1,9 +1,7 @@
 //! How many commands a run accepted and refused.
 
-ghost use Rattle.std.specs.Prelude.{◌≡◌, ℕ, ◌+◌, ◌<◌, ◌-◌, ◌^◌, ◌∷◌, [], List};
-ghost use Rattle.ctl_session.specs.State.{CacheState};
-ghost use Rattle.ctl_session.specs.Outcome.{accepted_in, refused_in};
-ghost use Rattle.ctl_session.specs.Replies.{outcome_from};
+ghost use Rattle.std.specs.Prelude.{◌≡◌, ◌+◌, ◌<◌, ◌-◌, ◌^◌};
+ghost use Rattle.ctl_session.specs.Replies.{accepted_by, refused_by};
 
 use crate::reply::Reply;
 
@@ -20,8 +18,8 @@ impl Summary {
     /// Counts a command.
     pub(crate) fn count(&mut self, reply: Reply)
         requires { self.old.accepted + self.old.refused < 2 ^ 32 - 1 }
-        ensures accepted { (out : List ℕ) (state : CacheState) → self.new.accepted ≡ self.old.accepted + accepted_in (outcome_from reply out state ∷ []) }
-        ensures refused { (out : List ℕ) (state : CacheState) → self.new.refused ≡ self.old.refused + refused_in (outcome_from reply out state ∷ []) }
+        ensures accepted { self.new.accepted ≡ self.old.accepted + accepted_by reply }
+        ensures refused { self.new.refused ≡ self.old.refused + refused_by reply }
         ensures both { self.new.accepted + self.new.refused ≡ self.old.accepted + self.old.refused + 1 }
     {
         match reply {

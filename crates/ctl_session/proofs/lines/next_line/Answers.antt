@@ -11,7 +11,7 @@ returns-in-Ok-false-2-clause-ok g c =
 pub returns-in-Err-clause-fault : goal.returns-in-Err-clause-fault
 returns-in-Err-clause-fault g c =
     let line = c.pieces.invariant.line in
-    stops_in_read _ _ _ _ _ line.0 c.args.allowed line.1 c.pieces.invariant.fits c.pieces.invariant.allowed c.in-Err.ensures.err
+    stops_in_read _ _ _ _ _ line.0 c.args.allowed line.1 c.pieces.invariant.fits c.pieces.invariant.allowed c.in-Err.ensures.kept
 
 pub returns-then-not-allowed-clause-fault : goal.returns-then-not-allowed-clause-fault
 returns-then-not-allowed-clause-fault g c =

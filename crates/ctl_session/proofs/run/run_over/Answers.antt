@@ -1,9 +1,5 @@
-use Rattle.std.proofs.Common.{arith, refl, sym, ◌∙◌, ◌≡◌, subst}
-use Rattle.ctl_session.specs.Outcome.{state_after}
-use Rattle.ctl_session.specs.Effect.{MayCome}
-use Rattle.ctl_session.specs.Reading.{Describes}
-use Rattle.ctl_session.specs.Replies.{outcome_from}
-use Rattle.ctl_session.proofs.RunLemmas.{stopped_by, stops_reading_same, stopped_in_write, running_none, running_more, ran_none, ran_last, running_on, describes}
+use Rattle.std.proofs.Common.{arith, refl, ◌∙◌}
+use Rattle.ctl_session.proofs.RunLemmas.{stopped_by, stops_reading_same, done_whole, done_in_part, running_none, ran_none, ran_last, running_on}
 use Rattle.ctl_session.specs.State.{cache_state}
 use Rattle.ctl_session.proofs.run.run_over.Goals as goal
 
@@ -19,41 +15,26 @@ commands-init g c = record {
 pub returns-in-Ok-None-clause-ok : goal.returns-in-Ok-None-clause-ok
 returns-in-Ok-None-clause-ok g c =
     let reads = rw c.in-Ok-None.field-0-is at c.in-Ok-None.ensures.ok in
-    ran_none _ _ _ _ _ _ _ _ _ _ _ _ _ c.commands.invariant.running reads (omega (arith, c.read_command.new.lines.within, c.in-Ok-None.ensures.max, c.commands.invariant.max))
+    ran_none _ _ _ _ _ _ _ _ _ _ _ c.commands.summary c.commands.invariant.running reads (omega (arith, c.read_command.new.lines.within, c.in-Ok-None.ensures.max, c.commands.invariant.max))
 
 pub count-requires : goal.count-requires
 count-requires g c =
     let reads = rw c.in-Ok-Some.field-0-is at c.in-Ok-Some.ensures.ok in
-    omega (arith, c.commands.invariant.counted, reads.more, c.read_command.new.lines.within, c.in-Ok-Some.ensures.max, c.commands.invariant.max, c.ranges.max_lines.fits)
+    omega (arith, c.commands.invariant.counted, reads.more, c.read_command.new.lines.within)
 
 pub returns-then-last-clause-ok : goal.returns-then-last-clause-ok
 returns-then-last-clause-ok g c =
     let reads = rw c.in-Ok-Some.field-0-is at c.in-Ok-Some.ensures.ok in
-    let out = c.deref-in-commands.result.now in
-    let old = cache_state c.args.cache.now in
-    let state = cache_state c.commands.cache in
-    let new = cache_state c.perform-reply.new.cache in
-    let reply = c.perform-reply.result in
-    let asked = subst (λ h. Describes c.read_command.new.lines.number h c.in-Ok-Some.command reads.command) (sym c.deref.ensures.value) (describes _ _ _ _ _ _ reads) in
-    let may = subst (λ o. MayCome state reads.command (outcome_from reply o new)) (sym c.deref-in-commands.ensures.value) (c.perform-reply.ensures.may reads.command asked) in
-    let changes = subst (λ o. new ≡ state_after state (outcome_from reply o new)) (sym c.deref-in-commands.ensures.value) c.perform-reply.ensures.state in
-    ran_last _ _ _ _ _ _ _ _ _ _ _ _ c.if-last.true (omega (arith, c.read_command.new.lines.within, c.in-Ok-Some.ensures.max, c.commands.invariant.max))
-    (running_more _ _ _ _ _ _ old state new _ _ _ _ _ _ _ c.in-Ok-Some.command (outcome_from reply out new) c.commands.invariant.running reads may
-    changes (c.in-Ok.ensures.ok new) (c.count.ensures.accepted out new) (c.count.ensures.refused out new))
+    ran_last _ _ _ _ _ _ _ _ _ c.count.new.self _ c.if-last.true (omega (arith, c.read_command.new.lines.within, c.in-Ok-Some.ensures.max, c.commands.invariant.max))
+    (done_whole _ _ _ _ _ _ (cache_state c.args.cache.now) (cache_state c.commands.cache) (cache_state c.perform-reply.new.cache) _ _ _ _ _ _ c.in-Ok-Some.command c.perform-reply.result _ _
+    c.commands.invariant.running reads c.perform-reply.ensures.may c.perform-reply.ensures.state c.deref.ensures.value c.in-Ok.ensures.ok c.count.ensures.accepted c.count.ensures.refused)
 
 pub commands-preserved : goal.commands-preserved
 commands-preserved g c =
     let reads = rw c.in-Ok-Some.field-0-is at c.in-Ok-Some.ensures.ok in
-    let out = c.deref-in-commands.result.now in
-    let old = cache_state c.args.cache.now in
-    let state = cache_state c.commands.cache in
-    let new = cache_state c.perform-reply.new.cache in
-    let reply = c.perform-reply.result in
-    let asked = subst (λ h. Describes c.read_command.new.lines.number h c.in-Ok-Some.command reads.command) (sym c.deref.ensures.value) (describes _ _ _ _ _ _ reads) in
-    let may = subst (λ o. MayCome state reads.command (outcome_from reply o new)) (sym c.deref-in-commands.ensures.value) (c.perform-reply.ensures.may reads.command asked) in
-    let changes = subst (λ o. new ≡ state_after state (outcome_from reply o new)) (sym c.deref-in-commands.ensures.value) c.perform-reply.ensures.state in
-    let goes_on = running_more _ _ _ _ _ _ old state new _ _ _ _ _ _ _ c.in-Ok-Some.command (outcome_from reply out new) c.commands.invariant.running reads may
-    changes (c.in-Ok.ensures.ok new) (c.count.ensures.accepted out new) (c.count.ensures.refused out new) in
+    let goes_on =
+    done_whole _ _ _ _ _ _ (cache_state c.args.cache.now) (cache_state c.commands.cache) (cache_state c.perform-reply.new.cache) _ _ _ _ _ _ c.in-Ok-Some.command c.perform-reply.result _ _
+    c.commands.invariant.running reads c.perform-reply.ensures.may c.perform-reply.ensures.state c.deref.ensures.value c.in-Ok.ensures.ok c.count.ensures.accepted c.count.ensures.refused in
     record {
       max = c.in-Ok-Some.ensures.max ∙ c.commands.invariant.max;
       read = c.in-Ok-Some.ensures.failures ∙ c.commands.invariant.read;
@@ -64,18 +45,11 @@ commands-preserved g c =
 
 pub returns-in-Err-clause-fault : goal.returns-in-Err-clause-fault
 returns-in-Err-clause-fault g c =
-    stopped_by _ c.in-Err.fault _ _ _ _ _ _ _ _ c.commands.lines.number _ _ _ c.from.ensures c.commands.invariant.running
-    (stops_reading_same _ _ c.commands.lines.number _ _ c.in-Err.fault c.commands.invariant.max c.in-Err.ensures.fault) c.in-Err.ensures.used
+    stopped_by _ c.in-Err.fault _ _ _ _ _ _ _ _ c.commands.workspace.lines.number _ _ _ c.from.ensures c.commands.invariant.running
+    (stops_reading_same _ _ c.commands.workspace.lines.number _ _ c.in-Err.fault c.commands.invariant.max c.in-Err.ensures.fault) c.in-Err.ensures.used
 
 pub returns-in-Err-print-clause-fault : goal.returns-in-Err-print-clause-fault
 returns-in-Err-print-clause-fault g c =
     let reads = rw c.in-Ok-Some.field-0-is at c.in-Ok-Some.ensures.ok in
-    let out = c.deref-in-commands.result.now in
-    let old = cache_state c.args.cache.now in
-    let state = cache_state c.commands.cache in
-    let new = cache_state c.perform-reply.new.cache in
-    let reply = c.perform-reply.result in
-    let asked = subst (λ h. Describes c.read_command.new.lines.number h c.in-Ok-Some.command reads.command) (sym c.deref.ensures.value) (describes _ _ _ _ _ _ reads) in
-    let may = subst (λ o. MayCome state reads.command (outcome_from reply o new)) (sym c.deref-in-commands.ensures.value) (c.perform-reply.ensures.may reads.command asked) in
-    let changes = subst (λ o. new ≡ state_after state (outcome_from reply o new)) (sym c.deref-in-commands.ensures.value) c.perform-reply.ensures.state in
-    stopped_in_write _ _ _ _ _ _ _ old state new _ _ _ _ _ c.in-Ok-Some.command (outcome_from reply out new) c.commands.invariant.running reads may changes (c.in-Err-print.ensures.err new)
+    done_in_part _ _ _ _ _ _ _ (cache_state c.args.cache.now) (cache_state c.commands.cache) (cache_state c.perform-reply.new.cache) _ _ _ _ c.in-Ok-Some.command c.perform-reply.result _ _
+    c.commands.invariant.running reads c.perform-reply.ensures.may c.perform-reply.ensures.state c.deref.ensures.value c.in-Err-print.ensures.err
