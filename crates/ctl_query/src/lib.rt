@@ -11,6 +11,7 @@ mod lead_lines;
 mod lead_table;
 mod leads;
 mod name_set;
+mod naming;
 mod package_names;
 mod parsing;
 mod policy;

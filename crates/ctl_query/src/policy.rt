@@ -288,9 +288,10 @@ pub(crate) fn append_policy_of_all(asking: &Asking<'_>, out: &mut Vec<u8>) -> Re
 fn append_one(asking: &Asking<'_>, name: &[u8], out: &mut Vec<u8>) -> Result<(), AllocError>
     ensures { OnOk result (out.new.items ≡ out.old.items ++ if_known (world_of asking.now) (policy_one (world_of asking.now)) name.now) }
 {
-    if asking.is_known(name) {
+    let view = asking.view(name);
+    if view.is_known() {
         let chosen = asking.chosen(name);
-        append_known(asking.store(), name, chosen, asking.rows(name), out)?;
+        append_known(asking.store(), name, chosen, view.rows(), out)?;
         Ok(())
     } else {
         append_unknown(out, name)?;
