@@ -21,7 +21,7 @@ twice f g [] = refl
 twice f g (x ∷ xs) = flat_map-append f (g x) (flat_map g xs) ∙ ap (λ ys. flat_map f (g x) ++ ys) (twice f g xs)
 
 -- by functions with the same values
-alike : {A B : Type 0} (f g : A → List B) → ((x : A) → f x ≡ g x) → (xs : List A) → flat_map f xs ≡ flat_map g xs
+pub alike : {A B : Type 0} (f g : A → List B) → ((x : A) → f x ≡ g x) → (xs : List A) → flat_map f xs ≡ flat_map g xs
 alike f g same [] = refl
 alike f g same (x ∷ xs) = λ i. same x i ++ alike f g same xs i
 

@@ -1,5 +1,5 @@
 -- The atoms of leads that name a name: by them it is told of each lead which of its atoms do.
-use Rattle.std.proofs.Common.{◌≡◌, ◌∙◌, ℕ, suc, ◌+◌, ◌<◌, ◌≤◌, Bool, true, false, cond, not, nat_lt, List, [], ◌∷◌, ◌++◌, length, map, slice_get, flat_map, Option, None, Some, refl, sym, ap, option_map, arith}
+use Rattle.std.proofs.Common.{◌≡◌, ◌∙◌, ℕ, zero, suc, ◌+◌, ◌<◌, ◌≤◌, Bool, true, false, cond, not, nat_lt, List, [], ◌∷◌, ◌++◌, length, map, slice_get, flat_map, Option, None, Some, refl, sym, ap, option_map, arith}
 use Rattle.std.specs.List.{AllByRecursion, list_any}
 use Rattle.std.specs.List.Sorted.{IsStrictlySortedBy}
 use Rattle.std.specs.Option.{option_map_or, option_and_then, option_to_list, is_some}
@@ -22,7 +22,7 @@ use Rattle.ctl_query.specs.Inside.Namings.{Naming, further_if_named, further_in,
 use Rattle.ctl_query.specs.Leads.{leads_of, lead_atom_cmp, line_at, is_at}
 use Rattle.ctl_query.specs.Packages.{is_none_of, packages_of, of_rows}
 use Rattle.ctl_query.specs.ReverseDepends.{naming_in_group, naming_in_field, naming_in_lead}
-use Rattle.ctl_query.specs.ShowPackage.{line_if_naming}
+use Rattle.ctl_query.specs.ShowPackage.{naming_line, line_if_naming}
 use Rattle.ctl_query.specs.Texts.{line, joined}
 use Rattle.ctl_query.proofs.AtomLemmas.{IsTail, tail_whole, tail_head, tail_next, atoms_in, atoms_from, outside_silent, named_is_naming}
 use Rattle.ctl_query.proofs.AtomOrderLemmas.{atoms_sorted, of_two}
@@ -37,7 +37,7 @@ namings_of name lead = map (λ (further : Bool). (package_of lead, further)) (na
 
 got_where : {X : Type 0} (xs : List X) (i : ℕ) → nat_lt i (length xs) ≡ is_some (slice_get xs i)
 got_where [] i = grind (arith, nat_tests)
-got_where (x ∷ xs) 0 = grind (arith, nat_tests)
+got_where (x ∷ xs) zero = grind (arith, nat_tests)
 got_where (x ∷ xs) (suc i) = (let z : nat_lt (suc i) (length (x ∷ xs)) ≡ nat_lt i (length xs) = grind (arith, nat_tests) in z) ∙ got_where xs i
 
 first_there : {X : Type 0} (xs : List X) → is_some (slice_get xs 0) ≡ not (is_none_of xs)
@@ -66,7 +66,7 @@ module _ (leads : List Entry) (name : List ℕ) (i : ℕ) (e : Entry) (at : slic
       ∙ flat_map-append (namings_at leads name) (map (λ (y : AtomKey × AtomParts). atom_of y.0 i) xs) (map (λ (y : AtomKey × AtomParts). atom_of y.0 i) ys)
 
   abbrev of_further : Option Bool → List Naming
-  of_further further = option_to_list (option_map (λ (f : Bool). (package_of e.1, f)) further)
+  of_further further = option_to_list {X = Naming} (option_map (λ (f : Bool). (package_of e.1, f)) further)
 
   of_atom : (a : LeadAtom) (group : List AtomParts) (atom : AtomParts) → slice_get leads a.place ≡ Some e → slice_get (groups_of a.field e.1) a.group ≡ Some group → slice_get group a.atom ≡ Some atom →
       namings_at leads name a ≡ of_further (further_if_named name a.atom group atom)
@@ -84,11 +84,11 @@ module _ (leads : List Entry) (name : List ℕ) (i : ℕ) (e : Entry) (at : slic
       ap (λ ys. ys ++ told (keyed_group e.0 field g (suc n) atoms)) (of_atom a group atom at is (tail_head group n atom atoms tail))
       ∙ ap (λ ys. of_further (further_if_named name n group atom) ++ ys) (in_group field g group is (suc n) atoms (tail_next group n atom atoms tail))
       ∙ by (bytes_eq atom.name name) (is_followed group n atom atoms tail)
-      where
-        by : (b : Bool) → nat_lt (n + 1) (length group) ≡ not (is_none_of atoms) →
-            of_further (cond b (Some (nat_lt (n + 1) (length group))) None) ++ tagged (naming_in_group name atoms) ≡ tagged (cond b (not (is_none_of atoms) ∷ naming_in_group name atoms) (naming_in_group name atoms))
-        by true same = ap (λ (f : Bool). (package_of e.1, f) ∷ tagged (naming_in_group name atoms)) same
-        by false same = refl
+    where
+      by : (b : Bool) → nat_lt (n + 1) (length group) ≡ not (is_none_of atoms) →
+          of_further (cond b (Some (nat_lt (n + 1) (length group))) None) ++ tagged (naming_in_group name atoms) ≡ tagged (cond b (not (is_none_of atoms) ∷ naming_in_group name atoms) (naming_in_group name atoms))
+      by true same = ap (λ (f : Bool). (package_of e.1, f) ∷ tagged (naming_in_group name atoms)) same
+      by false same = refl
 
   in_groups : (field : FieldKind) (n : ℕ) (groups : List (List AtomParts)) → IsTail (groups_of field e.1) n groups → told (keyed_groups e.0 field n groups) ≡ flat_map (λ group. tagged (naming_in_group name group)) groups
   in_groups field n [] tail = refl
@@ -129,17 +129,17 @@ quiet : (leads : List Entry) (name : List ℕ) (a : LeadAtom) → line_at leads 
 quiet leads name a none = by (slice_get leads a.place) none
   where
     at_name : (e : Entry) (group : List AtomParts) (atom : AtomParts) (b : Bool) → bytes_eq atom.name name ≡ b → line_if_naming name e.1 a.field atom ≡ [] →
-        option_to_list (option_map (λ (f : Bool). (package_of e.1, f)) (further_if_named name a.atom group atom)) ≡ []
-    at_name e group atom true is h = absurd (no_line _ (sym (rw is refl) ∙ h))
+        option_to_list {X = Naming} (option_map (λ (f : Bool). (package_of e.1, f)) (further_if_named name a.atom group atom)) ≡ []
+    at_name e group atom true is h = absurd (let z : naming_line e.1 a.field atom ≡ [] = rw is at h in no_line _ z)
     at_name e group atom false is h = rw is refl
 
     at_atom : (e : Entry) (group : List AtomParts) (o : Option AtomParts) → option_map_or (line_if_naming name e.1 a.field) o [] ≡ [] →
-        option_to_list (option_map (λ (f : Bool). (package_of e.1, f)) (option_and_then (further_if_named name a.atom group) o)) ≡ []
+        option_to_list {X = Naming} (option_map (λ (f : Bool). (package_of e.1, f)) (option_and_then (further_if_named name a.atom group) o)) ≡ []
     at_atom e group None h = refl
     at_atom e group (Some atom) h = at_name e group atom (bytes_eq atom.name name) refl h
 
     at_group : (e : Entry) (o : Option (List AtomParts)) → option_map_or (line_if_naming name e.1 a.field) (option_and_then (λ (group : List AtomParts). slice_get group a.atom) o) [] ≡ [] →
-        option_to_list (option_map (λ (f : Bool). (package_of e.1, f)) (option_and_then (further_in name a.atom) o)) ≡ []
+        option_to_list {X = Naming} (option_map (λ (f : Bool). (package_of e.1, f)) (option_and_then (further_in name a.atom) o)) ≡ []
     at_group e None h = refl
     at_group e (Some group) h = at_atom e group (slice_get group a.atom) h
 

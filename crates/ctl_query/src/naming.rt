@@ -10,6 +10,7 @@ ghost use Rattle.ctl_query.specs.Inside.Namings.{Naming, lent_naming, further_in
 ghost use Rattle.ctl_query.specs.Inside.Namings.{line_of, joined_naming, closed_line, lines_behind};
 
 use crate::asking::Asking;
+use crate::interest::stanzas_are_found;
 use crate::lead_atoms::{LeadAtom, list_atoms};
 use crate::lead_table::LeadTable;
 use crate::relation_lines::mark;
@@ -87,10 +88,12 @@ fn append_line_of(
 ) -> Result<(), AllocError>
     ensures { OnOk result (out.new.items ≡ out.old.items ++ line_of (world_of asking.now) installed (lent_naming naming.entry)) }
 {
-    if installed && !asking.is_installed(naming.0) {
+    let (asker, all) = naming;
+    if installed && !asking.is_installed(asker) {
         return Ok(());
     }
-    append_line(out, &[mark(naming.1), naming.0])?;
+    out.extend_from_slice(mark(all))?;
+    append_line(out, &[asker])?;
     Ok(())
 }
 
@@ -144,7 +147,7 @@ fn append_next<'a>(
     ensures { IfOk result (λ next. (others : List Naming)
         → out.new.items ++ lines_behind (world_of asking.now) installed (option_map lent_naming next) others
         ≡ out.old.items ++ lines_behind (world_of asking.now) installed (option_map lent_naming found.entry)
-            (option_to_list (option_map lent_naming naming.entry) ++ others)) }
+        (option_to_list (option_map lent_naming naming.entry) ++ others)) }
 {
     match naming {
         Some(naming) => {
@@ -169,6 +172,7 @@ pub(crate) fn append_by_atoms(
         ++ flat_map (asking_line (world_of asking.now) installed name.now) (packages_of (world_of asking.now))) }
 {
     rows_are_classes();
+    stanzas_are_found(asking);
     let atoms = list_atoms(asking.alloc(), table, asking.namers(name))?;
     let mut found = None;
     'atoms: for atom in atoms {
