@@ -22,6 +22,7 @@ mod relation_lines;
 mod reverse_depends;
 mod show;
 mod show_package;
+mod source_lines;
 mod text;
 mod unmet;
 
