@@ -1,5 +1,6 @@
-use Rattle.std.proofs.Common.{◌≡◌, ◌∙◌, ◌++◌, List, [], None, flat_map, ap, sym}
+use Rattle.std.proofs.Common.{◌≡◌, ◌∙◌, ◌++◌, ℕ, List, [], Option, None, option_map, flat_map, ap, sym, arith}
 use Rattle.std.specs.List.{list_any}
+use Rattle.std.proofs.lemmas.List.{nil_from_length}
 use Rattle.std.proofs.lemmas.List.Sorted.{list_any-IsPermutation}
 use Rattle.ctl_store.specs.Entries.{Entry}
 use Rattle.ctl_index.specs.declared.keys.AtomKey.{AtomKey}
@@ -7,7 +8,7 @@ use Rattle.ctl_index.specs.Held.{standing}
 use Rattle.ctl_index.specs.Names.{namers_named}
 use Rattle.ctl_policy.specs.Priority.{world_of}
 use Rattle.ctl_query.specs.declared.lead_atoms.LeadAtom.{LeadAtom}
-use Rattle.ctl_query.specs.Inside.Namings.{namings_at, lines_behind}
+use Rattle.ctl_query.specs.Inside.Namings.{Naming, lent_naming, namings_at, lines_behind}
 use Rattle.ctl_query.specs.Leads.{leads_of, is_at}
 use Rattle.ctl_query.proofs.AskerLemmas.{lines_of_all}
 use Rattle.ctl_query.proofs.NamingAtomLemmas.{atoms_tell}
@@ -20,8 +21,12 @@ returns c =
     let name = c.args.name.now in
     let leads = leads_of (world_of store) in
     let atoms = c.in_ok-atoms.atoms.items in
+    let lines : Option Naming → List LeadAtom → List ℕ = λ found left. lines_behind (world_of store) c.args.installed found (flat_map (namings_at c.args.table.now name) left) in
+    let none : c.atoms.atom-iterator.rest.items ≡ [] = nil_from_length c.atoms.atom-iterator.rest.items (omega (arith, c.in-None.ensures.steps.0)) in
     c.in_ok-append_found.ensures
-    ∙ (let z : c.atoms.out.items ++ lines_behind (world_of store) c.args.installed _ [] ≡ c.args.out.now.items ++ lines_behind (world_of store) c.args.installed None (flat_map (namings_at c.args.table.now name) atoms) = c.atoms.invariant in z)
+    ∙ ap (λ left. c.atoms.out.items ++ lines (option_map lent_naming c.atoms.found) left) (sym none)
+    ∙ c.atoms.invariant
+    ∙ ap (λ left. c.args.out.now.items ++ lines None left) c.into_iter-atom-iterator.ensures.into_iter_gives.0
     ∙ ap (λ (es : List Entry). c.args.out.now.items ++ lines_behind (world_of store) c.args.installed None (flat_map (namings_at es name) atoms)) c.requires.leads
     ∙ ap (λ namings. c.args.out.now.items ++ lines_behind (world_of store) c.args.installed None namings)
     (atoms_tell store name atoms c.in_ok-atoms.ensures.order
