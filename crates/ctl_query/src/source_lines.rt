@@ -91,7 +91,6 @@ impl<'a> SourceLines<'a> {
     }
 
     /// Appends the lines of the sources of a row, which has these stanzas.
-    #[tactic(auto, using(crate::proofs::ListLemmas::lines_of_sources))]
     pub(crate) fn append_to(&self, row: &[StanzaKey], out: &mut Vec<u8>) -> Result<(), AllocError>
         requires { AreHeld row.now (keyed_of self.now).lists }
         ensures { OnOk result (out.new.items ≡ out.old.items
