@@ -37,16 +37,16 @@ atoms_from i (e ∷ es) = atoms_in i e ++ atoms_from (suc i) es
 
 -- ---- a list from a place on
 
-abbrev IsTail : {X : Type 0} → List X → ℕ → List X → Type 0
+abbrev pub IsTail : {X : Type 0} → List X → ℕ → List X → Type 0
 IsTail all i rest = (j : ℕ) → slice_get all (i + j) ≡ slice_get rest j
 
-tail_whole : {X : Type 0} (all : List X) → IsTail all 0 all
+pub tail_whole : {X : Type 0} (all : List X) → IsTail all 0 all
 tail_whole all j = ap (slice_get all) (let z : 0 + j ≡ j = omega arith in z)
 
-tail_head : {X : Type 0} (all : List X) (i : ℕ) (x : X) (xs : List X) → IsTail all i (x ∷ xs) → slice_get all i ≡ Some x
+pub tail_head : {X : Type 0} (all : List X) (i : ℕ) (x : X) (xs : List X) → IsTail all i (x ∷ xs) → slice_get all i ≡ Some x
 tail_head all i x xs h = ap (slice_get all) (let z : i ≡ i + 0 = omega arith in z) ∙ h 0
 
-tail_next : {X : Type 0} (all : List X) (i : ℕ) (x : X) (xs : List X) → IsTail all i (x ∷ xs) → IsTail all (suc i) xs
+pub tail_next : {X : Type 0} (all : List X) (i : ℕ) (x : X) (xs : List X) → IsTail all i (x ∷ xs) → IsTail all (suc i) xs
 tail_next all i x xs h j = ap (slice_get all) (let z : suc i + j ≡ i + suc j = omega arith in z) ∙ h (suc j)
 
 -- ---- what all atoms print

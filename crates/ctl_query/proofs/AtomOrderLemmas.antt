@@ -90,7 +90,7 @@ pub one_in_order : (xs ys : List LeadAtom) → IsStrictlySortedBy lead_atom_cmp 
 one_in_order xs ys sx sy same = btree_set_from_contains lead_atoms_total (record { keys = xs }) (record { keys = ys }) sx sy same lead_atoms_exact_cmp
 
 -- Two lists of atoms in order have one text, if what stands in one of them alone has none.
-pub of_two : (f : LeadAtom → List ℕ) (all some : List LeadAtom) → IsStrictlySortedBy lead_atom_cmp all → IsStrictlySortedBy lead_atom_cmp some →
+pub of_two : {A : Type 0} (f : LeadAtom → List A) (all some : List LeadAtom) → IsStrictlySortedBy lead_atom_cmp all → IsStrictlySortedBy lead_atom_cmp some →
     ((a : LeadAtom) → list_any (λ b. is_eq (lead_atom_cmp a b)) all ≡ false → f a ≡ []) → ((a : LeadAtom) → list_any (λ b. is_eq (lead_atom_cmp a b)) some ≡ false → f a ≡ []) →
     flat_map f some ≡ flat_map f all
 of_two f all some sa ss outside none =

@@ -28,11 +28,11 @@ with_more naming found xs i d h =
     ∙ with_append naming (flat_map found (take i xs)) (found (get_or xs i d) ++ [])
     ∙ ap (with_all (with_all naming (flat_map found (take i xs)))) (append-nil (found (get_or xs i d)))
 
-and_true : (b : Bool) → b ≡ (b && true)
+pub and_true : (b : Bool) → b ≡ (b && true)
 and_true true = refl
 and_true false = refl
 
-and_moved : (a b c : Bool) → ((a && b) && c) ≡ (a && (b && c))
+pub and_moved : (a b c : Bool) → ((a && b) && c) ≡ (a && (b && c))
 and_moved true b c = refl
 and_moved false b c = refl
 

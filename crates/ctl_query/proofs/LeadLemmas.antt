@@ -10,7 +10,7 @@ use Rattle.ctl_store.specs.Keys.{stanza_at}
 use Rattle.ctl_index.specs.Names.{known_names}
 use Rattle.ctl_policy.specs.Rows.{Row, rows_named, newest_first, keys_of_row, is_any_row}
 use Rattle.ctl_policy.specs.Priority.{World}
-use Rattle.ctl_query.specs.Packages.{stanzas_of, names_known, has_row, of_all_rows, of_rows, told_of_row, rows_of, packages_of}
+use Rattle.ctl_query.specs.Packages.{stanzas_of, names_known, has_row, of_rows, told_of_row, rows_of, packages_of}
 use Rattle.ctl_query.specs.Leads.{keyed_lead, leads_named, leads_of}
 use Rattle.ctl_query.proofs.AtomOrderLemmas.{all_append}
 use Rattle.ctl_query.proofs.InterestLemmas.{skip}
@@ -21,7 +21,7 @@ twice f g [] = refl
 twice f g (x ∷ xs) = flat_map-append f (g x) (flat_map g xs) ∙ ap (λ ys. flat_map f (g x) ++ ys) (twice f g xs)
 
 -- by functions with the same values
-alike : {A B : Type 0} (f g : A → List B) → ((x : A) → f x ≡ g x) → (xs : List A) → flat_map f xs ≡ flat_map g xs
+pub alike : {A B : Type 0} (f g : A → List B) → ((x : A) → f x ≡ g x) → (xs : List A) → flat_map f xs ≡ flat_map g xs
 alike f g same [] = refl
 alike f g same (x ∷ xs) = λ i. same x i ++ alike f g same xs i
 
@@ -32,7 +32,7 @@ all_of_each P f each (x ∷ xs) = all_append P (f x) (flat_map f xs) (each x) (a
 module _ (world : World) where
   -- ---- what is told of rows
 
-  module _ (text : Content → List ℕ) where
+  module _ {A : Type 0} (text : Content → List A) where
     told_by_lead : (row : List StanzaKey) → told_of_row world text row ≡ flat_map (λ (e : Entry). text e.1) (keyed_lead world row)
     told_by_lead [] = refl
     told_by_lead (key ∷ keys) = by (stanza_at key world.lists)
@@ -45,7 +45,7 @@ module _ (world : World) where
     told_by_leads name = alike _ _ told_by_lead (rows_of world name) ∙ sym (twice (λ (e : Entry). text e.1) (keyed_lead world) (rows_of world name))
 
     -- what is told of all rows is told of the leads, one after another
-    pub told_of_leads : of_all_rows world text ≡ flat_map (λ (e : Entry). text e.1) (leads_of world)
+    pub told_of_leads : flat_map (of_rows world text) (packages_of world) ≡ flat_map (λ (e : Entry). text e.1) (leads_of world)
     unfolding leads_of
     told_of_leads = alike _ _ told_by_leads (packages_of world) ∙ sym (twice (λ (e : Entry). text e.1) (leads_named world) (packages_of world))
 

@@ -1,6 +1,7 @@
 pub mod AddedLemmas
 pub mod AnewLemmas
 pub mod AnswerLemmas
+pub mod AskerLemmas
 pub mod AtomLemmas
 pub mod AtomOrderLemmas
 pub mod ClassLemmas
@@ -16,6 +17,7 @@ pub mod LeadTableLemmas
 pub mod ListLemmas
 pub mod ListedAtomLemmas
 pub mod NameLemmas
+pub mod NamingAtomLemmas
 pub mod NamingLemmas
 pub mod NoNameLemmas
 pub mod OfferingLemmas

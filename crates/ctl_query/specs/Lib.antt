@@ -20,3 +20,4 @@ pub mod Holdings
 pub mod Anew
 pub mod Leads
 pub mod LeadTable
+pub mod Inside

@@ -119,9 +119,25 @@ fn place_under(places: &[(StanzaKey, usize)], key: StanzaKey) -> Option<usize>
     }
 }
 
+// How many stanzas there are for each name of a query from which on a table of all leads pays.
+const STANZAS_FOR_A_NAME: usize = 64;
+
 impl<'a> LeadTable<'a> {
+    /// The table of a cache, where so many names are asked for that it pays. For one name alone it never does.
+    pub(crate) fn for_names(
+        asking: &Asking<'a>,
+        names: usize,
+    ) -> Result<Option<LeadTable<'a>>, AllocError>
+        ensures { IfOk result (λ table. IfSome table (λ t. t ≡ leads_of (world_of asking.now))) }
+    {
+        if names < 2 || names <= asking.store().counts().stanzas as usize / STANZAS_FOR_A_NAME {
+            return Ok(None);
+        }
+        LeadTable::new(asking)
+    }
+
     /// The table of a cache. `None` where two leads had one key, which no cache has.
-    pub(crate) fn new(asking: &Asking<'a>) -> Result<Option<LeadTable<'a>>, AllocError>
+    fn new(asking: &Asking<'a>) -> Result<Option<LeadTable<'a>>, AllocError>
         ensures { IfOk result (λ table. IfSome table (λ t. t ≡ leads_of (world_of asking.now))) }
     {
         let leads = leads_of(asking)?;

@@ -11,6 +11,7 @@ mod lead_lines;
 mod lead_table;
 mod leads;
 mod name_set;
+mod naming;
 mod package_names;
 mod parsing;
 mod policy;
@@ -21,6 +22,7 @@ mod relation_lines;
 mod reverse_depends;
 mod show;
 mod show_package;
+mod source_lines;
 mod text;
 mod unmet;
 

@@ -5,7 +5,6 @@ ghost use Rattle.std.specs.List.{AllByRecursion};
 ghost use Rattle.std.specs.Map.{keys_of as names_of};
 ghost use Rattle.ctl_store.specs.Held.{keyed_of};
 ghost use Rattle.ctl_store.specs.Keys.{AreHeld};
-ghost use Rattle.ctl_policy.specs.Rows.{sources_of};
 ghost use Rattle.ctl_policy.specs.Priority.{world_of};
 ghost use Rattle.ctl_query.specs.Policy.{priority_of, row_version, version_or_none, are_of_one_row, row_mark};
 ghost use Rattle.ctl_query.specs.Policy.{row_line, source_line, row_lines, policy_one, list_line, line_if_pinned};
@@ -18,9 +17,10 @@ ghost use Rattle.ctl_policy.specs.Chosen.{choice_in};
 use crate::asking::Asking;
 use crate::interest::pinned_packages;
 use crate::leads::version_under;
+use crate::source_lines::SourceLines;
 use crate::text::{append_line, append_number, append_parts, append_right_four, append_unknown};
 use ctl_policy::{
-    Chosen, NewestFirst, is_source, list_priority, row_priority, rows_are_classes, specific_pin,
+    Chosen, NewestFirst, list_priority, row_priority, rows_are_classes, specific_pin,
 };
 use ctl_relation::Bytes;
 use ctl_store::{StanzaKey, Store};
@@ -77,26 +77,12 @@ fn row_mark(installed: bool) -> &'static [u8]
 
 /// Appends the line of a list that holds a row.
 #[tactic(auto, unfolding(crate::specs::Texts::line))]
-fn append_source(store: &Store, list: &[u8], out: &mut Vec<u8>) -> Result<(), AllocError>
+pub(crate) fn append_source(store: &Store, list: &[u8], out: &mut Vec<u8>) -> Result<(), AllocError>
     ensures { OnOk result (out.new.items ≡ out.old.items ++ source_line (world_of store.now) list.now) }
 {
     out.extend_from_slice(b"       ")?;
     append_right_four(out, priority_of(store, list))?;
     append_line(out, &[b" ", list])?;
-    Ok(())
-}
-
-/// Appends the sources of a row, which has these stanzas.
-fn append_sources(store: &Store, row: &[StanzaKey], out: &mut Vec<u8>) -> Result<(), AllocError>
-    requires { AreHeld row.now (keyed_of store.now).lists }
-    ensures { OnOk result (out.new.items ≡ out.old.items
-        ++ flat_map (source_line (world_of store.now)) (sources_of row.now (keyed_of store.now).lists)) }
-{
-    'lists: for list in store.lists() {
-        if is_source(store, list.0, row) {
-            append_source(store, list.0, out)?;
-        }
-    }
     Ok(())
 }
 
@@ -123,33 +109,33 @@ fn append_row_line(
 /// Appends a row of a name, which has these stanzas, and under it its sources.
 #[tactic(auto, unfolding(crate::specs::Policy::row_lines))]
 fn append_row(
-    store: &Store,
+    sources: &SourceLines<'_>,
     name: &[u8],
     installed: Option<StanzaKey>,
     row: &[StanzaKey],
     out: &mut Vec<u8>,
 ) -> Result<(), AllocError>
-    requires { AreHeld row.now (keyed_of store.now).lists }
-    ensures { OnOk result (out.new.items ≡ out.old.items ++ row_lines (world_of store.now) installed name.now row.now) }
+    requires { AreHeld row.now (keyed_of sources.now).lists }
+    ensures { OnOk result (out.new.items ≡ out.old.items ++ row_lines (world_of sources.now) installed name.now row.now) }
 {
-    append_row_line(store, name, installed, row, out)?;
-    append_sources(store, row, out)?;
+    append_row_line(sources.store(), name, installed, row, out)?;
+    sources.append_to(row, out)?;
     Ok(())
 }
 
 /// Appends the version table: the rows of a name.
 pub(crate) fn append_table(
-    store: &Store,
+    sources: &SourceLines<'_>,
     name: &[u8],
     installed: Option<StanzaKey>,
     rows: NewestFirst<'_>,
     out: &mut Vec<u8>,
 ) -> Result<(), AllocError>
-    requires { AllByRecursion (λ row. AreHeld row (keyed_of store.now).lists) rows }
-    ensures { OnOk result (out.new.items ≡ out.old.items ++ flat_map (row_lines (world_of store.now) installed name.now) rows.entry) }
+    requires { AllByRecursion (λ row. AreHeld row (keyed_of sources.now).lists) rows }
+    ensures { OnOk result (out.new.items ≡ out.old.items ++ flat_map (row_lines (world_of sources.now) installed name.now) rows.entry) }
 {
     'rows: for row in rows {
-        append_row(store, name, installed, row, out)?;
+        append_row(sources, name, installed, row, out)?;
     }
     Ok(())
 }
@@ -157,17 +143,18 @@ pub(crate) fn append_table(
 /// Appends the answer on a known name: what is chosen of it, and its rows.
 #[tactic(auto, unfolding(crate::specs::Policy::policy_one))]
 fn append_known(
-    store: &Store,
+    sources: &SourceLines<'_>,
     name: &[u8],
     chosen: Chosen,
     rows: NewestFirst<'_>,
     out: &mut Vec<u8>,
 ) -> Result<(), AllocError>
-    requires chosen { chosen ≡ choice_in name.now (world_of store.now) }
-    requires rows { rows ≡ rows_of (world_of store.now) name.now }
-    requires held { AllByRecursion (λ row. AreHeld row (keyed_of store.now).lists) rows }
-    ensures { OnOk result (out.new.items ≡ out.old.items ++ policy_one (world_of store.now) name.now) }
+    requires chosen { chosen ≡ choice_in name.now (world_of sources.now) }
+    requires rows { rows ≡ rows_of (world_of sources.now) name.now }
+    requires held { AllByRecursion (λ row. AreHeld row (keyed_of sources.now).lists) rows }
+    ensures { OnOk result (out.new.items ≡ out.old.items ++ policy_one (world_of sources.now) name.now) }
 {
+    let store = sources.store();
     append_line(out, &[name, b":"])?;
     append_line(
         out,
@@ -178,7 +165,7 @@ fn append_known(
         &[b"  Candidate: ", version_or_none(store, chosen.candidate)],
     )?;
     append_line(out, &[b"  Version table:"])?;
-    append_table(store, name, chosen.installed, rows, out)?;
+    append_table(sources, name, chosen.installed, rows, out)?;
     Ok(())
 }
 
@@ -285,12 +272,19 @@ pub(crate) fn append_policy_of_all(asking: &Asking<'_>, out: &mut Vec<u8>) -> Re
     Ok(())
 }
 
-fn append_one(asking: &Asking<'_>, name: &[u8], out: &mut Vec<u8>) -> Result<(), AllocError>
+fn append_one(
+    asking: &Asking<'_>,
+    sources: &SourceLines<'_>,
+    name: &[u8],
+    out: &mut Vec<u8>,
+) -> Result<(), AllocError>
+    requires { sources.now ≡ asking.now }
     ensures { OnOk result (out.new.items ≡ out.old.items ++ if_known (world_of asking.now) (policy_one (world_of asking.now)) name.now) }
 {
-    if asking.is_known(name) {
+    let view = asking.view(name);
+    if view.is_known() {
         let chosen = asking.chosen(name);
-        append_known(asking.store(), name, chosen, asking.rows(name), out)?;
+        append_known(sources, name, chosen, view.rows(), out)?;
         Ok(())
     } else {
         append_unknown(out, name)?;
@@ -306,8 +300,9 @@ pub(crate) fn append_policy(
 ) -> Result<(), AllocError>
     ensures { OnOk result (out.new.items ≡ out.old.items ++ policy_text (world_of asking.now) names.now) }
 {
+    let sources = SourceLines::new(asking.alloc(), asking.store())?;
     for name in names {
-        append_one(asking, name.as_slice(), out)?;
+        append_one(asking, &sources, name.as_slice(), out)?;
     }
     Ok(())
 }

@@ -1,7 +1,8 @@
 //! The answer to `rdepends`.
 
-ghost use Rattle.std.specs.Prelude.{◌≡◌, ◌++◌, OnOk, false, flat_map, None};
+ghost use Rattle.std.specs.Prelude.{◌≡◌, ◌++◌, OnOk, IfSome, false, flat_map, None};
 ghost use Rattle.ctl_policy.specs.Priority.{world_of};
+ghost use Rattle.ctl_query.specs.Leads.{leads_of};
 ghost use Rattle.ctl_query.specs.NameSet.{lent_names};
 ghost use Rattle.ctl_query.specs.NamingRead.{naming_line, with_all, with_naming};
 ghost use Rattle.ctl_query.specs.ReverseDepends.{naming_in_group, naming_in_field, naming_in_lead, naming_in_row};
@@ -12,7 +13,9 @@ ghost use Rattle.ctl_query.specs.Texts.{if_known};
 
 use crate::asking::Asking;
 use crate::interest::{packages_naming, stanzas_are_found};
+use crate::lead_table::LeadTable;
 use crate::leads::lead_in;
+use crate::naming::append_by_atoms;
 use crate::relation_lines::mark;
 use crate::text::{append_line, append_unknown};
 use ctl_policy::rows_are_classes;
@@ -181,28 +184,50 @@ fn append_askers(
     Ok(())
 }
 
+/// The same, by a table of leads if there is one.
+fn append_all_askers(
+    asking: &Asking<'_>,
+    installed: bool,
+    table: Option<&LeadTable<'_>>,
+    name: &[u8],
+    out: &mut Vec<u8>,
+) -> Result<(), AllocError>
+    requires leads { IfSome table (λ table. table.now ≡ leads_of (world_of asking.now)) }
+    ensures { OnOk result (out.new.items ≡ out.old.items
+        ++ flat_map (asking_line (world_of asking.now) installed name.now) (packages_of (world_of asking.now))) }
+{
+    match table {
+        Some(table) => append_by_atoms(asking, installed, table, name, out),
+        None => append_askers(asking, installed, name, out),
+    }
+}
+
 /// Appends the answer on a known name.
 #[tactic(auto, unfolding(crate::specs::ReverseDepends::reverse_depends_one))]
 fn append_known(
     asking: &Asking<'_>,
     installed: bool,
+    table: Option<&LeadTable<'_>>,
     name: &[u8],
     out: &mut Vec<u8>,
 ) -> Result<(), AllocError>
+    requires leads { IfSome table (λ table. table.now ≡ leads_of (world_of asking.now)) }
     ensures { OnOk result (out.new.items ≡ out.old.items ++ reverse_depends_one (world_of asking.now) installed name.now) }
 {
     append_line(out, &[name])?;
     append_line(out, &[b"Reverse Depends:"])?;
-    append_askers(asking, installed, name, out)?;
+    append_all_askers(asking, installed, table, name, out)?;
     Ok(())
 }
 
 fn append_one(
     asking: &Asking<'_>,
     installed: bool,
+    table: Option<&LeadTable<'_>>,
     name: &[u8],
     out: &mut Vec<u8>,
 ) -> Result<(), AllocError>
+    requires leads { IfSome table (λ table. table.now ≡ leads_of (world_of asking.now)) }
     ensures { OnOk result (out.new.items ≡ out.old.items
         ++ if_known (world_of asking.now) (reverse_depends_one (world_of asking.now) installed) name.now) }
 {
@@ -210,7 +235,23 @@ fn append_one(
         append_unknown(out, name)?;
         return Ok(());
     }
-    append_known(asking, installed, name, out)?;
+    append_known(asking, installed, table, name, out)?;
+    Ok(())
+}
+
+fn append_each_name(
+    asking: &Asking<'_>,
+    installed: bool,
+    table: Option<&LeadTable<'_>>,
+    names: &[Bytes],
+    out: &mut Vec<u8>,
+) -> Result<(), AllocError>
+    requires leads { IfSome table (λ table. table.now ≡ leads_of (world_of asking.now)) }
+    ensures { OnOk result (out.new.items ≡ out.old.items ++ reverse_depends_text (world_of asking.now) installed names.now) }
+{
+    for name in names {
+        append_one(asking, installed, table, name.as_slice(), out)?;
+    }
     Ok(())
 }
 
@@ -223,8 +264,8 @@ pub(crate) fn append_reverse_depends(
 ) -> Result<(), AllocError>
     ensures { OnOk result (out.new.items ≡ out.old.items ++ reverse_depends_text (world_of asking.now) installed names.now) }
 {
-    for name in names {
-        append_one(asking, installed, name.as_slice(), out)?;
+    match LeadTable::for_names(asking, names.len())? {
+        Some(table) => append_each_name(asking, installed, Some(&table), names, out),
+        None => append_each_name(asking, installed, None, names, out),
     }
-    Ok(())
 }

@@ -403,19 +403,6 @@ fn append_one(
     Ok(())
 }
 
-// How many stanzas there are for each name of a query from which on a table of all leads pays.
-const STANZAS_FOR_A_NAME: usize = 64;
-
-/// A table of leads, where so many names are asked for that it pays.
-fn table_for<'a>(asking: &Asking<'a>, names: usize) -> Result<Option<LeadTable<'a>>, AllocError>
-    ensures { IfOk result (λ table. IfSome table (λ table. table ≡ leads_of (world_of asking.now))) }
-{
-    if names <= asking.store().counts().stanzas as usize / STANZAS_FOR_A_NAME {
-        return Ok(None);
-    }
-    LeadTable::new(asking)
-}
-
 fn append_each(
     asking: &Asking<'_>,
     table: Option<&LeadTable<'_>>,
@@ -439,7 +426,7 @@ pub(crate) fn append_show_package(
 ) -> Result<(), AllocError>
     ensures { OnOk result (out.new.items ≡ out.old.items ++ show_package_text (world_of asking.now) names.now) }
 {
-    match table_for(asking, names.len())? {
+    match LeadTable::for_names(asking, names.len())? {
         Some(table) => append_each(asking, Some(&table), names, out),
         None => append_each(asking, None, names, out),
     }

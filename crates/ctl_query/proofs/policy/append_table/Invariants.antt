@@ -9,6 +9,6 @@ use Rattle.ctl_query.proofs.policy.append_table.Given as goal
 -- what was written, and the rows that are left, are what there was and all rows
 abbrev pub invariant-rows : goal.invariant-rows
 invariant-rows l = record {
-  held : AllByRecursion (λ row. AreHeld row (keyed_of l.store).lists) l.row-iterator;
-  text : l.out.items ++ flat_map (row_lines (world_of l.store) l.installed l.name) l.row-iterator ≡ l.initial.out.items ++ flat_map (row_lines (world_of l.store) l.installed l.name) l.initial.row-iterator;
+  held : AllByRecursion (λ row. AreHeld row (keyed_of l.sources).lists) l.row-iterator;
+  text : l.out.items ++ flat_map (row_lines (world_of l.sources) l.installed l.name) l.row-iterator ≡ l.initial.out.items ++ flat_map (row_lines (world_of l.sources) l.installed l.name) l.initial.row-iterator;
 }

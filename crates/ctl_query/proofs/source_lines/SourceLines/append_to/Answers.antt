@@ -1,0 +1,19 @@
+use Rattle.std.proofs.Common.{◌≡◌, ◌∙◌, ◌++◌, ap, flat_map}
+use Rattle.ctl_store.specs.Held.{Held, keyed_of}
+use Rattle.ctl_policy.specs.Priority.{world_of}
+use Rattle.ctl_policy.specs.Rows.{sources_of}
+use Rattle.ctl_query.specs.Inside.SourceLines.{lent_lines, line_if_source}
+use Rattle.ctl_query.specs.Policy.{source_line}
+use Rattle.ctl_query.proofs.ListLemmas.{lines_of_sources}
+use Rattle.ctl_query.proofs.source_lines.SourceLines.append_to.Goals as goal
+
+pub returns : goal.returns
+returns c =
+    let world = world_of c.self.inside.store.now in
+    let text = line_if_source world c.args.row.now in
+    c.in_ok-append_lines.ensures
+    ∙ ap (λ shown. c.args.out.now.items ++ shown)
+    (ap (λ lines. flat_map text (lent_lines lines)) c.deref.ensures.value
+    ∙ ap (flat_map text) c.self.invariant
+    ∙ lines_of_sources world c.args.row.now)
+    ∙ ap (λ (store : Held). c.args.out.now.items ++ flat_map (source_line (world_of store)) (sources_of c.args.row.now (keyed_of store).lists)) c.self.view_is

@@ -1,0 +1,3 @@
+-- How this crate's own functions go about the answers. Callers need none of it.
+pub mod Namings
+pub mod SourceLines

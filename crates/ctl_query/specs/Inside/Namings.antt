@@ -1,0 +1,64 @@
+-- Who names a name, told atom by atom of the leads.
+use Rattle.std.specs.Prelude.{ℕ, Bool, not, ◌&&◌, ◌+◌, nat_lt, List, [], ◌∷◌, ◌++◌, length, Option, None, Some, option_map, slice_get, if◌then◌else◌}
+use Rattle.std.specs.Borrow.{Bor}
+use Rattle.std.specs.Option.{option_map_or, option_and_then, option_to_list}
+use Rattle.std.specs.Str.{bytes_eq}
+use Rattle.ctl_relation.specs.Parts.{AtomParts}
+use Rattle.ctl_stanza.specs.Content.{Content, package_of, groups_of}
+use Rattle.ctl_store.specs.Entries.{Entry}
+use Rattle.ctl_policy.specs.Priority.{World}
+use Rattle.ctl_query.specs.declared.lead_atoms.LeadAtom.{LeadAtom}
+use Rattle.ctl_query.specs.Packages.{is_installed}
+use Rattle.ctl_query.specs.Texts.{line}
+use Rattle.ctl_query.specs.Depends.{mark}
+
+-- a package that names a name, and whether a further alternative follows each of its atoms that do
+abbrev pub Naming : Type 0
+Naming = List ℕ × Bool
+
+abbrev pub lent_naming : Bor (List ℕ) × Bool → Naming
+lent_naming naming = (naming.0.now, naming.1)
+
+-- ---- by an atom of a lead
+
+-- whether a further alternative follows, where the atom has the name
+abbrev pub further_if_named : List ℕ → ℕ → List AtomParts → AtomParts → Option Bool
+further_if_named name i group atom = if bytes_eq atom.name name then Some (nat_lt (i + 1) (length group)) else None
+
+abbrev pub further_in : List ℕ → ℕ → List AtomParts → Option Bool
+further_in name i group = option_and_then (further_if_named name i group) (slice_get group i)
+
+abbrev pub further_at : List ℕ → LeadAtom → Content → Option Bool
+further_at name a lead = option_and_then (further_in name a.atom) (slice_get (groups_of a.field lead) a.group)
+
+-- the package of a lead, where its atom has the name
+abbrev pub naming_in : List ℕ → LeadAtom → Content → Option Naming
+naming_in name a lead = option_map (λ further. (package_of lead, further)) (further_at name a lead)
+
+abbrev pub naming_at : List Entry → List ℕ → LeadAtom → Option Naming
+naming_at leads name a = option_and_then (λ (e : Entry). naming_in name a e.1) (slice_get leads a.place)
+
+abbrev pub namings_at : List Entry → List ℕ → LeadAtom → List Naming
+namings_at leads name a = option_to_list (naming_at leads name a)
+
+-- ---- one behind another, those of a package together
+
+-- the line of a package, with `--installed` of one of which a row is installed
+abbrev pub line_of : World → Bool → Naming → List ℕ
+line_of world installed naming = if installed && not (is_installed world naming.0) then [] else line (mark naming.1 ∷ naming.0 ∷ [])
+
+-- one more: of the same package as what was found before, or of another one
+abbrev pub joined_naming : Option Naming → Naming → Naming
+joined_naming None naming = naming
+joined_naming (Some found) naming = if bytes_eq found.0 naming.0 then (found.0, found.1 && naming.1) else naming
+
+-- the line of what was found before, where one of another package follows
+abbrev pub closed_line : World → Bool → Option Naming → Naming → List ℕ
+closed_line world installed None naming = []
+closed_line world installed (Some found) naming = if bytes_eq found.0 naming.0 then [] else line_of world installed found
+
+-- the lines of what was found before and of those that follow
+unfoldable pub lines_behind : World → Bool → Option Naming → List Naming → List ℕ
+lines_behind world installed found [] = option_map_or (line_of world installed) found []
+lines_behind world installed found (naming ∷ namings) =
+    closed_line world installed found naming ++ lines_behind world installed (Some (joined_naming found naming)) namings

@@ -1,0 +1,184 @@
+//! The packages that name a name, found atom by atom in a table of leads, and their lines in `rdepends`.
+
+ghost use Rattle.std.specs.Prelude.{◌≡◌, ◌++◌, List, [], OnOk, IfOk, option_map, flat_map};
+ghost use Rattle.std.specs.Option.{option_map_or, option_to_list};
+ghost use Rattle.ctl_policy.specs.Priority.{world_of};
+ghost use Rattle.ctl_query.specs.Leads.{leads_of};
+ghost use Rattle.ctl_query.specs.Packages.{packages_of};
+ghost use Rattle.ctl_query.specs.ReverseDepends.{asking_line};
+ghost use Rattle.ctl_query.specs.Inside.Namings.{Naming, lent_naming, further_in, further_at, naming_in, naming_at};
+ghost use Rattle.ctl_query.specs.Inside.Namings.{line_of, joined_naming, closed_line, lines_behind};
+
+use crate::asking::Asking;
+use crate::interest::stanzas_are_found;
+use crate::lead_atoms::{LeadAtom, list_atoms};
+use crate::lead_table::LeadTable;
+use crate::relation_lines::mark;
+use crate::text::append_line;
+use ctl_policy::rows_are_classes;
+use ctl_relation::Group;
+use ctl_stanza::Stanza;
+use std::alloc::AllocError;
+
+/// A package that names a name, and whether a further alternative follows each of its atoms that do.
+type Naming<'a> = (&'a [u8], bool);
+
+// Whether a further alternative follows an atom of a group; none where it has another name or isn't there.
+fn further_in(group: &Group<'_>, name: &[u8], place: u32) -> Option<bool>
+    ensures { result ≡ further_in name.now place group.now }
+{
+    match group.get(place as usize) {
+        Some(atom) if atom.name() == name => Some(place as usize + 1 < group.len()),
+        _ => None,
+    }
+}
+
+// The same of an atom of a lead.
+fn further_at(lead: &Stanza, name: &[u8], atom: LeadAtom) -> Option<bool>
+    ensures { result ≡ further_at name.now atom lead.now }
+{
+    match lead.groups(atom.field).get(atom.group as usize) {
+        Some(group) => further_in(&group, name, atom.atom),
+        None => None,
+    }
+}
+
+// The package of a lead, where its atom has the name.
+fn naming_in<'a>(lead: &'a Stanza, name: &[u8], atom: LeadAtom) -> Option<Naming<'a>>
+    ensures { option_map lent_naming result ≡ naming_in name.now atom lead.now }
+{
+    match further_at(lead, name, atom) {
+        Some(further) => Some((lead.package(), further)),
+        None => None,
+    }
+}
+
+fn naming_at<'a>(table: &LeadTable<'a>, name: &[u8], atom: LeadAtom) -> Option<Naming<'a>>
+    ensures { option_map lent_naming result ≡ naming_at table.now name.now atom }
+{
+    match table.lead(atom.place) {
+        Some(lead) => naming_in(lead, name, atom),
+        None => None,
+    }
+}
+
+// One more: of the same package as what was found before, or of another one.
+fn joined_naming<'a>(found: Option<Naming<'a>>, naming: Naming<'a>) -> Naming<'a>
+    ensures { lent_naming result ≡ joined_naming (option_map lent_naming found.entry) (lent_naming naming.entry) }
+{
+    match found {
+        Some((asker, all)) => {
+            if asker == naming.0 {
+                (asker, all && naming.1)
+            } else {
+                naming
+            }
+        }
+        None => naming,
+    }
+}
+
+// Appends the line of a package, with `--installed` of one of which a row is installed alone.
+#[tactic(auto, unfolding(crate::specs::Texts::line))]
+fn append_line_of(
+    asking: &Asking<'_>,
+    installed: bool,
+    naming: Naming<'_>,
+    out: &mut Vec<u8>,
+) -> Result<(), AllocError>
+    ensures { OnOk result (out.new.items ≡ out.old.items ++ line_of (world_of asking.now) installed (lent_naming naming.entry)) }
+{
+    let (asker, all) = naming;
+    if installed && !asking.is_installed(asker) {
+        return Ok(());
+    }
+    out.extend_from_slice(mark(all))?;
+    append_line(out, &[asker])?;
+    Ok(())
+}
+
+// Appends the line of what was found before, where one of another package follows.
+fn append_closed(
+    asking: &Asking<'_>,
+    installed: bool,
+    found: Option<Naming<'_>>,
+    naming: Naming<'_>,
+    out: &mut Vec<u8>,
+) -> Result<(), AllocError>
+    ensures { OnOk result (out.new.items ≡ out.old.items
+        ++ closed_line (world_of asking.now) installed (option_map lent_naming found.entry) (lent_naming naming.entry)) }
+{
+    match found {
+        Some(found) => {
+            if found.0 != naming.0 {
+                append_line_of(asking, installed, found, out)?;
+            }
+            Ok(())
+        }
+        None => Ok(()),
+    }
+}
+
+// Appends the line of what was found, if anything was.
+fn append_found(
+    asking: &Asking<'_>,
+    installed: bool,
+    found: Option<Naming<'_>>,
+    out: &mut Vec<u8>,
+) -> Result<(), AllocError>
+    ensures { OnOk result (out.new.items ≡ out.old.items
+        ++ option_map_or (line_of (world_of asking.now) installed) (option_map lent_naming found.entry) []) }
+{
+    match found {
+        Some(found) => append_line_of(asking, installed, found, out),
+        None => Ok(()),
+    }
+}
+
+// What is found with an atom more, of which the line before is appended where it is of another package.
+#[tactic(auto, unfolding(crate::specs::Inside::Namings::lines_behind))]
+fn append_next<'a>(
+    asking: &Asking<'_>,
+    installed: bool,
+    found: Option<Naming<'a>>,
+    naming: Option<Naming<'a>>,
+    out: &mut Vec<u8>,
+) -> Result<Option<Naming<'a>>, AllocError>
+    ensures { IfOk result (λ next. (others : List Naming)
+        → out.new.items ++ lines_behind (world_of asking.now) installed (option_map lent_naming next) others
+        ≡ out.old.items ++ lines_behind (world_of asking.now) installed (option_map lent_naming found.entry)
+        (option_to_list (option_map lent_naming naming.entry) ++ others)) }
+{
+    match naming {
+        Some(naming) => {
+            append_closed(asking, installed, found, naming, out)?;
+            Ok(Some(joined_naming(found, naming)))
+        }
+        None => Ok(found),
+    }
+}
+
+/// Appends the lines of all packages that name a name, by a table of all leads: each atom is gone to by its key, and no name is
+/// looked for.
+pub(crate) fn append_by_atoms(
+    asking: &Asking<'_>,
+    installed: bool,
+    table: &LeadTable<'_>,
+    name: &[u8],
+    out: &mut Vec<u8>,
+) -> Result<(), AllocError>
+    requires leads { table.now ≡ leads_of (world_of asking.now) }
+    ensures { OnOk result (out.new.items ≡ out.old.items
+        ++ flat_map (asking_line (world_of asking.now) installed name.now) (packages_of (world_of asking.now))) }
+{
+    rows_are_classes();
+    stanzas_are_found(asking);
+    let atoms = list_atoms(asking.alloc(), table, asking.namers(name))?;
+    let mut found = None;
+    'atoms: for atom in atoms {
+        let naming = naming_at(table, name, atom);
+        found = append_next(asking, installed, found, naming, out)?;
+    }
+    append_found(asking, installed, found, out)?;
+    Ok(())
+}
