@@ -3,7 +3,7 @@
 
 use crate::runs::{Act, came};
 use crate::said::Said;
-use crate::tables::{comes, joined, writes};
+use crate::tables::{comes, is_newline, joined, writes};
 use crate::texts::front;
 use std::alloc::Global;
 use std::process::Abort;
@@ -265,7 +265,7 @@ Version: 1
 /// The script of a worked one.
 fn script_of(alloc: Global, worked: &[u8]) -> Said {
     let mut script = Said::new(alloc);
-    for line in worked.split_inclusive(|byte| *byte == b'\n') {
+    for line in worked.split_inclusive(is_newline) {
         if !line.starts_with(b"> ") {
             script.add(line);
         }
@@ -341,7 +341,7 @@ fn cut(rt: &(impl Abort + AllocGlobal), worked: &[u8]) {
         text: Said::new(rt.alloc()),
         from: 0,
     };
-    for line in worked.split_inclusive(|byte| *byte == b'\n') {
+    for line in worked.split_inclusive(is_newline) {
         done.add(rt, script.shown(), line);
     }
     done.judge(rt, script.shown());

@@ -1,40 +1,85 @@
 //! Runs that stop before their end.
 
 use crate::runs::{Act, fault_words};
-use crate::tables::{comes, comes_by, joined, same};
+use crate::tables::{Acted, comes, each_comes, joined, same};
 use ctl_session::Fault;
 use std::process::Abort;
 use std::test::Fail;
 
-#[test]
-fn the_commands_before_a_failed_read_are_done(rt: HostRuntime) {
-    const ROWS: &[(&[u8], &[u8])] = &[
-        (b"pkgnames\nfr", b"! read failed\n"),
-        (
-            b"frob\nadd-list m packages\nPackage: a\nVersion: 1\n",
-            b"E: line 1: unknown command\n! read failed\n",
-        ),
-        (
-            b"add-list m packages\nPackage: a\nVersion: 1\n.\npkgnames\npkgnames",
-            b"a\n! read failed\n",
-        ),
-    ];
-    for (script, wanted) in ROWS {
-        comes(&rt, script, &[Act::Broken(script)], wanted);
-    }
-}
-
-#[test]
-fn a_failed_write_ends_the_run(rt: HostRuntime) {
-    let script: &[u8] =
-        b"add-list main packages\nPackage: foo\nVersion: 1.0-1\n\nPackage: bar\nVersion: 2.0\n.\n\
-        pkgnames\npkgnames\n";
-    comes(
-        &rt,
-        script,
-        &[Act::Until(script, 5)],
+const STOPPED: &[Acted] = &[
+    (
+        b"a read fails in a line",
+        u32::MAX,
+        &[Act::Broken(b"pkgnames\nfr")],
+        b"! read failed\n",
+    ),
+    (
+        b"a read fails in a body",
+        u32::MAX,
+        &[Act::Broken(b"frob\nadd-list m packages\nPackage: a\nVersion: 1\n")],
+        b"E: line 1: unknown command\n! read failed\n",
+    ),
+    (
+        b"a read fails at the end of a line",
+        u32::MAX,
+        &[Act::Broken(b"add-list m packages\nPackage: a\nVersion: 1\n.\npkgnames\npkgnames")],
+        b"a\n! read failed\n",
+    ),
+    (
+        b"a write fails in a name",
+        u32::MAX,
+        &[Act::Until(
+            b"add-list main packages\nPackage: foo\nVersion: 1.0-1\n\nPackage: bar\nVersion: 2.0\n.\n\
+              pkgnames\npkgnames\n",
+            5,
+        )],
         b"bar\nf! write failed\n",
-    );
+    ),
+    (
+        b"comments without end",
+        1000,
+        &[Act::Endless(b"#\n")],
+        b"! too many lines\n",
+    ),
+    (
+        b"a command cut by the limit of lines",
+        3,
+        &[
+            Act::Script(b"pkgnames\nadd-list main packages\nPackage: a\nVersion: 1\n.\n"),
+            Act::Script(b"pkgnames\ndrop-list main\n"),
+        ],
+        b"! too many lines\nE: line 2: no such list\n",
+    ),
+    (
+        b"a comment past the limit of lines",
+        2,
+        &[Act::Script(b"#\n#\n#\n")],
+        b"! too many lines\n",
+    ),
+    (
+        b"a beginning past the limit of lines",
+        2,
+        &[Act::Script(b"#\n#\nx")],
+        b"! too many lines\n",
+    ),
+    (
+        b"as many lines as the limit",
+        2,
+        &[Act::Script(b"#\n#\n")],
+        b"",
+    ),
+    (
+        b"the last of them without its end",
+        2,
+        &[Act::Script(b"#\n#")],
+        b"",
+    ),
+];
+
+// The commands before a fault are done, and none is done in part.
+#[test]
+fn a_fault_ends_the_run(rt: HostRuntime) {
+    each_comes(&rt, STOPPED);
 }
 
 /// Three lists of one package, and two queries.
@@ -92,41 +137,6 @@ fn read_may_fail(rt: &(impl Abort + AllocGlobal), script: &[u8]) {
 fn a_read_may_fail_at_each_byte(rt: HostRuntime) {
     for cut in 0..THREE_LISTS.len() {
         read_may_fail(&rt, &THREE_LISTS[..cut]);
-    }
-}
-
-#[test]
-fn a_script_without_end_is_stopped(rt: HostRuntime) {
-    comes_by(
-        &rt,
-        1000,
-        b"comments",
-        &[Act::Endless(b"#\n")],
-        b"! too many lines\n",
-    );
-}
-
-#[test]
-fn a_command_cut_by_the_limit_of_lines_is_not_done(rt: HostRuntime) {
-    let script: &[u8] = b"pkgnames\nadd-list main packages\nPackage: a\nVersion: 1\n.\n";
-    let acts = [
-        Act::Script(script),
-        Act::Script(b"pkgnames\ndrop-list main\n"),
-    ];
-    let wanted: &[u8] = b"! too many lines\nE: line 2: no such list\n";
-    comes_by(&rt, 3, script, &acts, wanted);
-}
-
-#[test]
-fn a_run_ends_at_its_limit_of_lines(rt: HostRuntime) {
-    const ROWS: &[(&[u8], &[u8])] = &[
-        (b"#\n#\n#\n", b"! too many lines\n"),
-        (b"#\n#\nx", b"! too many lines\n"),
-        (b"#\n#\n", b""),
-        (b"#\n#", b""),
-    ];
-    for (script, wanted) in ROWS {
-        comes_by(&rt, 2, script, &[Act::Script(script)], wanted);
     }
 }
 

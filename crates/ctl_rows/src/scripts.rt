@@ -1,30 +1,26 @@
 //! Runs that are counted, and one behind another.
 
 use crate::runs::Act;
-use crate::tables::{comes, comes_by};
+use crate::tables::{Acted, each_comes};
 
 #[test]
-fn commands_are_counted(rt: HostRuntime) {
-    let script: &[u8] = b"add-list m packages\n.\nfrob\npkgnames\n# done\n";
-    comes(
-        &rt,
-        script,
-        &[Act::Counted(script)],
-        b"2 accepted, 1 refused",
-    );
-}
-
-#[test]
-fn a_session_keeps_its_lists_from_run_to_run(rt: HostRuntime) {
-    const ACTS: &[Act<'static>] = &[
-        Act::Script(b"add-list m packages\nPackage: a\nVersion: 1\n.\n"),
-        Act::Script(b"frob\npkgnames\n"),
+fn runs_are_counted_and_follow_one_another(rt: HostRuntime) {
+    const ROWS: &[Acted] = &[
+        (
+            b"counted",
+            u32::MAX,
+            &[Act::Counted(b"add-list m packages\n.\nfrob\npkgnames\n# done\n")],
+            b"2 accepted, 1 refused",
+        ),
+        (
+            b"two runs",
+            6,
+            &[
+                Act::Script(b"add-list m packages\nPackage: a\nVersion: 1\n.\n"),
+                Act::Script(b"frob\npkgnames\n"),
+            ],
+            b"E: line 1: unknown command\na\n",
+        ),
     ];
-    comes_by(
-        &rt,
-        6,
-        b"two runs",
-        ACTS,
-        b"E: line 1: unknown command\na\n",
-    );
+    each_comes(&rt, ROWS);
 }

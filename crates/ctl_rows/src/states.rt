@@ -1,38 +1,68 @@
 //! What scripts leave in the store and no query shows. What queries show of it is asked by the scripts under `tests/scripts`.
 
-use crate::tables::{each_leaves, leaves_under};
-use ctl_store::Limits;
+use crate::worked::table::{TWO_STANZAS, each_is_so, each_is_so_within};
 
-#[test]
-fn edits_and_stanzas_have_their_limits(rt: HostRuntime) {
-    let limits = Limits {
-        stanzas: 2,
-        edits: 5,
-    };
-    let script: &[u8] =
-        b"add-list main packages\nPackage: a\nVersion: 1\n\nPackage: b\nVersion: 1\n.\n\
-         put main\nPackage: b\nVersion: 1-0\n.\nput main\nPackage: c\nVersion: 1\n.\n\
-         pkgnames\nmark a 1\nmark a 1\nmark a 1\nmark a 1\n\
-         unmark b\nunpin a version 1\ndrop-list sid\nunmark a\ntarget main\nprefs\n.\n";
-    // What the state refuses for another cause comes before want of room.
-    leaves_under(
-        &rt,
-        limits,
-        script,
-        b"E: line 12: cache full\na\nb\nE: line 20: cache full\n\
-          E: line 21: no such mark\nE: line 22: no such pin\nE: line 23: no such list\n\
-          E: line 24: cache full\nE: line 25: cache full\nE: line 26: cache full\n\
-          list main packages plain\nPackage: a\nVersion: 1\n|Package: b\nVersion: 1-0\n|mark a 1\n2 stanzas, 5 edits\n",
-    );
-}
-
-// How many edits were accepted, the words of marks, and the order of pins of several packages.
+// How many edits were accepted, the words of marks, and the order of pins of several packages. What the state refuses for another
+// cause comes before want of room.
 #[test]
 fn what_no_query_shows(rt: HostRuntime) {
-    each_leaves(
+    each_is_so_within(
+        &rt,
+        TWO_STANZAS,
+        b"
+-- Stanzas and edits up to their limits
+add-list main packages
+Package: a
+Version: 1
+
+Package: b
+Version: 1
+.
+put main
+Package: b
+Version: 1-0
+.
+put main
+Package: c
+Version: 1
+.
+pkgnames
+mark a 1
+mark a 1
+mark a 1
+mark a 1
+unmark b
+unpin a version 1
+drop-list sid
+unmark a
+target main
+prefs
+.
+=>
+E: line 12: cache full
+a
+b
+E: line 20: cache full
+E: line 21: no such mark
+E: line 22: no such pin
+E: line 23: no such list
+E: line 24: cache full
+E: line 25: cache full
+E: line 26: cache full
+? held
+list main packages plain
+Package: a
+Version: 1
+|Package: b
+Version: 1-0
+|mark a 1
+2 stanzas, 5 edits
+",
+    );
+    each_is_so(
         &rt,
         b"
--- the first of two equal ones
+-- The first of two equal ones
 add-list m packages
 Package: a
 Version: 1
@@ -46,11 +76,12 @@ Version: 1-0
 .
 remove m a 1
 =>
+? held
 list m packages plain
 Package: a
 Version: 0:1
 |1 stanzas, 3 edits
---
+-- Lists in the order in which they came
 add-list b packages
 .
 add-list a packages
@@ -59,57 +90,65 @@ drop-list b
 add-list b status
 .
 =>
+? held
 list a packages plain
 list b status plain
 0 stanzas, 4 edits
---
+-- A pin that is set again
 pin a version 1 1
 pin b version 1 2
 pin a version 1 3
 =>
+? held
 pin a version 1 3
 pin b version 1 2
 0 stanzas, 3 edits
--- equal versions in other words are other pins
+-- Equal versions in other words are other pins
 pin a version 1.0 5
 pin a version 1.0-0 5
 unpin a version 1.0
 =>
+? held
 pin a version 1.0-0 5
 0 stanzas, 3 edits
--- a pin that was taken out comes back last
+-- A pin that was taken out comes back last
 pin a version 1 1
 pin b version 1 1
 unpin a version 1
 pin a version 1 1
 =>
+? held
 pin b version 1 1
 pin a version 1 1
 0 stanzas, 4 edits
---
+-- A target that is taken out
 target sid
 target none
 =>
+? held
 0 stanzas, 2 edits
---
+-- Marks that are set again
 mark a 1
 mark a 2-1
 mark b none
 =>
+? held
 mark a 2-1
 mark b none
 0 stanzas, 3 edits
--- a version, and not the word
+-- A version, and not the word
 mark c 0:none
 =>
+? held
 mark c 0:none
 0 stanzas, 1 edits
---
+-- A mark that is taken out
 mark a 1
 unmark a
 =>
+? held
 0 stanzas, 2 edits
---
+-- Preferences take the place of pins
 target main
 pin a version 1 7
 prefs
@@ -128,12 +167,13 @@ Pin: version 1.0*
 Pin-Priority: 1
 .
 =>
+? held
 pin foo version 1.0* 1001
 pin bar version 1.0* 1001
 pin * release sid 50
 target main
 0 stanzas, 3 edits
--- those that are refused change nothing
+-- Those that are refused change nothing
 pin a version 1 7
 prefs
 Package: bar
@@ -175,6 +215,7 @@ E: line 8: bad pin record
 E: line 17: bad name
 E: line 27: bad priority
 E: line 34: required field missing
+? held
 pin a version 1 7
 0 stanzas, 1 edits
 ",

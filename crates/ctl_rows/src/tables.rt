@@ -1,4 +1,4 @@
-//! Tables of scripts, each with what it writes.
+//! What is compared of rows.
 
 use crate::runs::{Act, came, came_of};
 use crate::said::Said;
@@ -52,82 +52,24 @@ pub fn comes_by(
     );
 }
 
+/// The name of a row, how many lines a run reads at most, what is done in a new session, and what comes of it.
+pub type Acted = (&'static [u8], u32, &'static [Act<'static>], &'static [u8]);
+
+/// Compares what comes of the acts of each row with what is wanted.
+pub fn each_comes(rt: &(impl Abort + AllocGlobal), rows: &[Acted]) {
+    for (row, max_lines, acts, wanted) in rows {
+        comes_by(rt, *max_lines, row, acts, wanted);
+    }
+}
+
 /// Compares what a script writes on an empty session with what is wanted.
 pub fn writes(rt: &(impl Abort + AllocGlobal), script: &[u8], wanted: &[u8]) {
     comes(rt, script, &[Act::Script(script)], wanted);
 }
 
-/// Compares what a script writes, and then what the store of these limits holds, with what is wanted.
-pub fn leaves_under(rt: &(impl Abort + AllocGlobal), limits: Limits, script: &[u8], wanted: &[u8]) {
-    let acts = [Act::Script(script), Act::Held];
-    same(
-        rt,
-        script,
-        came_of(rt.alloc(), limits, u32::MAX, &acts).shown(),
-        wanted,
-    );
-}
-
-/// A row of a table, as far as it was read.
-#[derive(Drop)]
-struct Row {
-    script: Said,
-    wanted: Said,
-    /// Whether what is read is what is wanted, and no longer the script.
-    is_script_over: bool,
-}
-
-impl Row {
-    fn new(alloc: Global) -> Row {
-        Row {
-            script: Said::new(alloc),
-            wanted: Said::new(alloc),
-            is_script_over: false,
-        }
-    }
-
-    /// Takes a line of the table in.
-    fn add(&mut self, line: &[u8]) {
-        match line {
-            b"=>" => self.is_script_over = true,
-            _ if self.is_script_over => self.wanted.all(&[line, b"\n"]),
-            _ => self.script.all(&[line, b"\n"]),
-        }
-    }
-
-    /// Whether a script was read, or what is wanted.
-    fn is_begun(&self) -> bool {
-        self.is_script_over || !self.script.shown().is_empty()
-    }
-
-    /// Compares what comes of the script with what is wanted.
-    fn judge(&self, rt: &(impl Abort + AllocGlobal)) {
-        agree(rt, self.script.shown(), self.is_script_over, true);
-        leaves_under(rt, Limits::MOST, self.script.shown(), self.wanted.shown());
-    }
-}
-
-/// Takes a line of a table in. Where it stands between rows, the one above is judged.
-fn take(rt: &(impl Abort + AllocGlobal), line: &[u8], row: &mut Row) {
-    if !line.starts_with(b"--") {
-        return row.add(line);
-    }
-    if row.is_begun() {
-        row.judge(rt);
-    }
-    *row = Row::new(rt.alloc());
-}
-
-/// Runs each script of a table on an empty session, and compares what it writes and what the store then holds.
-///
-/// A table is a text: a row has its script, then a line `=>`, and then what is wanted. A line that begins with `--`, and may go on
-/// with words for the reader, stands between rows. A table stands on lines of its own.
-pub fn each_leaves(rt: &(impl Abort + AllocGlobal), table: &[u8]) {
-    let mut row = Row::new(rt.alloc());
-    for line in rows_of(rt, table).split(|byte| *byte == b'\n') {
-        take(rt, line, &mut row);
-    }
-    row.judge(rt);
+/// Whether a byte ends a line.
+pub fn is_newline(byte: &u8) -> bool {
+    *byte == b'\n'
 }
 
 /// The lines of a table that stands on lines of its own.

@@ -15,7 +15,7 @@ mod preferences;
 mod queries;
 mod refusals;
 mod rows;
-mod table;
+pub mod table;
 
 use table::Front;
 

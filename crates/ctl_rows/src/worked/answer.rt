@@ -4,7 +4,7 @@ ghost use Rattle.std.specs.Prelude.{◌≡◌, false};
 
 use crate::runs::say_summary;
 use crate::said::Said;
-use crate::shown::{say_counts, say_pins};
+use crate::shown::{say_counts, say_pins, say_state};
 use ctl_index::{Cache, ClauseKey};
 use ctl_relation::Version;
 use ctl_session::{Fault, Session, Summary};
@@ -46,6 +46,7 @@ fn say_of_store(store: &Store, question: &[u8], said: &mut Said) {
     }
     match question {
         b"counts" => say_counts(store, said),
+        b"held" => say_state(store, said),
         b"pins" => say_pins(store, said),
         _ => said.add(b"no such question\n"),
     }

@@ -4,7 +4,7 @@ use super::THREE_LISTS;
 use super::table::{each_is_so, each_is_so_behind};
 
 #[test]
-fn pins_decide_on_candidates(rt: HostRuntime) {
+fn candidates_follow_pins_and_lists(rt: HostRuntime) {
     each_is_so_behind(
         &rt,
         THREE_LISTS,
@@ -87,10 +87,6 @@ foo:
         100 status
 ",
     );
-}
-
-#[test]
-fn candidates_follow_lists(rt: HostRuntime) {
     each_is_so(
         &rt,
         b"

@@ -4,7 +4,7 @@ use super::THREE_LISTS;
 use super::table::{each_is_so, each_is_so_behind};
 
 #[test]
-fn the_target_comes_before_classes_and_general_pins(rt: HostRuntime) {
+fn targets_and_classes_decide(rt: HostRuntime) {
     each_is_so_behind(
         &rt,
         THREE_LISTS,
@@ -80,10 +80,6 @@ foo:
         100 status
 ",
     );
-}
-
-#[test]
-fn lists_of_packages_have_classes(rt: HostRuntime) {
     each_is_so(
         &rt,
         b"

@@ -3,7 +3,7 @@
 use super::table::each_is_so;
 
 #[test]
-fn clauses_are_met_by_offers(rt: HostRuntime) {
+fn clauses_are_counted(rt: HostRuntime) {
     each_is_so(
         &rt,
         b"
@@ -58,10 +58,6 @@ unmet
 =>
 ",
     );
-}
-
-#[test]
-fn each_pair_of_a_clause_is_counted(rt: HostRuntime) {
     each_is_so(
         &rt,
         b"

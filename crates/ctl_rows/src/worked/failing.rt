@@ -3,13 +3,16 @@
 use super::THREE_LISTS;
 use crate::runs::Act;
 use crate::said::Said;
-use crate::tables::{comes, comes_by, joined};
+use crate::tables::{Acted, comes, each_comes, joined};
 use std::alloc::Global;
 use std::process::Abort;
 
-#[test]
-fn a_writer_fails_in_a_name(rt: HostRuntime) {
-    let script: &[u8] = b"\
+const ROWS: &[Acted] = &[
+    (
+        b"A writer that fails once",
+        u32::MAX,
+        &[Act::Until(
+            b"\
 add-list main packages
 Package: foo
 Version: 1.0-1
@@ -19,35 +22,28 @@ Version: 2.0
 .
 pkgnames
 pkgnames
-";
-    comes(
-        &rt,
-        b"A writer that fails once",
-        &[Act::Until(script, 5)],
+",
+            5,
+        )],
         b"bar\nf! write failed\n",
-    );
-}
-
-#[test]
-fn a_reader_fails_in_a_command(rt: HostRuntime) {
-    comes(
-        &rt,
+    ),
+    (
         b"A reader that fails in a line",
+        u32::MAX,
         &[Act::Broken(b"pkgnames\nfr")],
         b"! read failed\n",
-    );
-}
+    ),
+    (
+        b"Comments without end",
+        1000,
+        &[Act::Endless(b"#\n")],
+        b"! too many lines\n",
+    ),
+];
 
 #[test]
-fn comments_without_end_are_too_many(rt: HostRuntime) {
-    let acts = [Act::Endless(b"#\n")];
-    comes_by(
-        &rt,
-        1000,
-        b"Comments without end",
-        &acts,
-        b"! too many lines\n",
-    );
+fn readers_and_writers_fail_or_do_not_end(rt: HostRuntime) {
+    each_comes(&rt, ROWS);
 }
 
 /// Compares what the three lists write where the writer fails behind so much of their text, and then the policy.

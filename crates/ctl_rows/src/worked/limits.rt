@@ -1,16 +1,7 @@
 //! Caches and runs with less room.
 
-use super::table::{Room, each_is_so_within};
+use super::table::{Room, TWO_STANZAS, each_is_so_within};
 use ctl_store::Limits;
-
-/// Room for two stanzas and five edits.
-const TWO_STANZAS: Room = Room {
-    limits: Limits {
-        stanzas: 2,
-        edits: 5,
-    },
-    max_lines: u32::MAX,
-};
 
 /// Room for so many lines.
 const fn lines(max_lines: u32) -> Room {
@@ -21,7 +12,7 @@ const fn lines(max_lines: u32) -> Room {
 }
 
 #[test]
-fn a_cache_is_full_at_its_limits(rt: HostRuntime) {
+fn caches_and_runs_end_at_their_limits(rt: HostRuntime) {
     each_is_so_within(
         &rt,
         TWO_STANZAS,
@@ -78,10 +69,6 @@ E: line 20: cache full
 2 stanzas, 5 edits
 ",
     );
-}
-
-#[test]
-fn a_run_has_a_limit_of_lines(rt: HostRuntime) {
     each_is_so_within(
         &rt,
         lines(2),
@@ -94,10 +81,6 @@ fn a_run_has_a_limit_of_lines(rt: HostRuntime) {
 ! too many lines
 ",
     );
-}
-
-#[test]
-fn a_body_is_cut_by_the_limit_of_lines(rt: HostRuntime) {
     each_is_so_within(
         &rt,
         lines(3),

@@ -4,7 +4,7 @@ use super::THREE_LISTS;
 use super::table::{each_is_so, each_is_so_behind};
 
 #[test]
-fn marks_pins_and_targets_decide(rt: HostRuntime) {
+fn policies_are_told(rt: HostRuntime) {
     each_is_so_behind(
         &rt,
         THREE_LISTS,
@@ -154,10 +154,6 @@ foo:
         100 status
 ",
     );
-}
-
-#[test]
-fn only_pins_of_packages_pin_them(rt: HostRuntime) {
     each_is_so_behind(
         &rt,
         THREE_LISTS,
@@ -210,10 +206,6 @@ Pinned packages:
      foo -> 1.0-1 with priority 1000
 ",
     );
-}
-
-#[test]
-fn a_package_without_rows_has_no_policy(rt: HostRuntime) {
     each_is_so(
         &rt,
         b"

@@ -4,7 +4,7 @@ use super::THREE_LISTS;
 use super::table::{each_is_so, each_is_so_behind};
 
 #[test]
-fn relations_are_shown(rt: HostRuntime) {
+fn relations_and_stanzas_are_shown_and_found(rt: HostRuntime) {
     each_is_so(
         &rt,
         b"
@@ -126,10 +126,6 @@ bar
 baz
 ",
     );
-}
-
-#[test]
-fn stanzas_are_shown(rt: HostRuntime) {
     each_is_so_behind(
         &rt,
         THREE_LISTS,
@@ -150,10 +146,6 @@ Version: 2.0-1
 
 ",
     );
-}
-
-#[test]
-fn stanzas_are_found(rt: HostRuntime) {
     each_is_so(
         &rt,
         b"

@@ -3,7 +3,7 @@
 use super::table::each_is_so;
 
 #[test]
-fn equal_versions_are_rows(rt: HostRuntime) {
+fn rows_pins_and_stanzas_keep_their_places(rt: HostRuntime) {
     each_is_so(
         &rt,
         b"
@@ -74,10 +74,6 @@ Package foo version 1.0-0 has an unmet dep:
  Depends: b
 ",
     );
-}
-
-#[test]
-fn stanzas_and_pins_keep_their_places(rt: HostRuntime) {
     each_is_so(
         &rt,
         b"

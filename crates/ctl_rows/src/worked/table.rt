@@ -13,7 +13,7 @@ use super::answer::say_answer;
 use crate::run_script;
 use crate::runs::{plain_session, say_fault, session_of};
 use crate::said::Said;
-use crate::tables::{agree, joined, rows_of, same};
+use crate::tables::{agree, is_newline, joined, rows_of, same};
 use ctl_session::{Fault, Session, Summary};
 use ctl_store::Limits;
 use std::alloc::Global;
@@ -40,6 +40,15 @@ pub struct Room {
     pub limits: Limits,
     pub max_lines: u32,
 }
+
+/// Room for two stanzas and five edits.
+pub const TWO_STANZAS: Room = Room {
+    limits: Limits {
+        stanzas: 2,
+        edits: 5,
+    },
+    max_lines: u32::MAX,
+};
 
 /// What the next line of an entry belongs to.
 #[derive(Clone, Copy, PartialEq, Eq)]
@@ -141,7 +150,7 @@ impl Entry {
 
 /// The answers to all that is asked.
 fn say_answers(session: &Session, outcome: Result<Summary, Fault>, asked: &[u8], said: &mut Said) {
-    for line in asked.split(|byte| *byte == b'\n') {
+    for line in asked.split(is_newline) {
         if let Some(question) = line.strip_prefix(b"? ") {
             say_answer(session, outcome, question, said);
         }
@@ -229,7 +238,7 @@ fn take(
 fn each(rt: &(impl Abort + AllocGlobal), front: Front<'_>, room: Option<Room>, table: &[u8]) {
     agree(rt, table, table.starts_with(b"\n-"), true);
     let mut entry = Entry::new(rt.alloc(), front);
-    for line in rows_of(rt, table).split(|byte| *byte == b'\n') {
+    for line in rows_of(rt, table).split(is_newline) {
         take(rt, front, room, line, &mut entry);
     }
     entry.judge(rt, room);
