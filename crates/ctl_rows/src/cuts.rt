@@ -9,7 +9,7 @@ use std::alloc::Global;
 use std::process::Abort;
 
 /// Worked scripts. A line behind `> ` is one that the command above writes.
-const WORKED: [&[u8]; 11] = [
+const WORKED: [&[u8]; 12] = [
     b"\
 add-list main packages
 Package: foo
@@ -260,6 +260,34 @@ Package: b
 Version: 1
 > E: line 13: body has no end
 ",
+    b"\
+add-list main packages
+Package: foo
+Version: 1
+
+Package: bar
+Version: 2
+.
+pkgnames
+> bar
+> foo
+mark foo 1
+put main
+Package: baz
+Version: 1
+.
+pkgnames b
+> bar
+> baz
+pin * release main 990
+remove main bar 2-0
+frob
+> E: line 17: unknown command
+drop-list main
+unmark foo
+unmark foo
+> E: line 20: no such mark
+",
 ];
 
 /// The script of a worked one.
@@ -353,89 +381,4 @@ fn a_write_may_fail_at_each_byte_of_worked_scripts(rt: HostRuntime) {
     for worked in &WORKED {
         cut(&rt, worked);
     }
-}
-
-/// Commands, the text of the last of them, which alone writes, and what [`PROBE`] then shows.
-type Step = (&'static [u8], &'static [u8], &'static [u8]);
-
-const STEPS: [Step; 4] = [
-    (
-        b"add-list main packages\nPackage: foo\nVersion: 1\n\nPackage: bar\nVersion: 2\n.\npkgnames\n",
-        b"bar\nfoo\n",
-        b"bar\nfoo\nE: line 2: no such mark\nE: line 3: no such pin\n",
-    ),
-    (
-        b"mark foo 1\nput main\nPackage: baz\nVersion: 1\n.\npkgnames b\n",
-        b"bar\nbaz\n",
-        b"bar\nbaz\nfoo\nE: line 3: no such pin\n",
-    ),
-    (
-        b"pin * release main 990\nremove main bar 2-0\nfrob\n",
-        b"E: line 17: unknown command\n",
-        b"baz\nfoo\n",
-    ),
-    (
-        b"drop-list main\nunmark foo\nunmark foo\n",
-        b"E: line 20: no such mark\n",
-        b"E: line 2: no such mark\nE: line 4: no such list\n",
-    ),
-];
-
-/// Shows the names of packages, a mark, a pin and a stanza by what is refused.
-const PROBE: &[u8] = b"pkgnames\nunmark foo\nunpin * release main\nremove main foo 1\n";
-
-/// The script of all steps.
-fn all_commands(alloc: Global) -> Said {
-    let mut script = Said::new(alloc);
-    for (commands, _, _) in STEPS {
-        script.add(commands);
-    }
-    script
-}
-
-/// What the script of all steps writes.
-fn all_answers(alloc: Global) -> Said {
-    let mut text = Said::new(alloc);
-    for (_, answer, _) in STEPS {
-        text.add(answer);
-    }
-    text
-}
-
-/// What the probe shows after the step in whose text this byte stands.
-fn shown_at(byte: usize) -> &'static [u8] {
-    let mut left = byte;
-    for (_, answer, shown) in STEPS {
-        if left < answer.len() {
-            return shown;
-        }
-        left -= answer.len();
-    }
-    b""
-}
-
-/// Compares what all steps come to where the write fails behind this text, and what the probe then shows.
-fn step_may_fail(rt: &(impl Abort + AllocGlobal), script: &[u8], text: &[u8]) {
-    let wanted = joined(rt.alloc(), text, b"! write failed\n", shown_at(text.len()));
-    let acts = [Act::Until(script, text.len()), Act::Script(PROBE)];
-    comes(rt, text, &acts, wanted.shown());
-}
-
-#[test]
-fn a_write_may_fail_at_each_byte_between_edits(rt: HostRuntime) {
-    let script = all_commands(rt.alloc());
-    let text = all_answers(rt.alloc());
-    for byte in 0..text.shown().len() {
-        step_may_fail(&rt, script.shown(), front(text.shown(), byte));
-    }
-}
-
-#[test]
-fn the_steps_are_written_whole_where_there_is_room(rt: HostRuntime) {
-    let script = all_commands(rt.alloc());
-    let text = all_answers(rt.alloc());
-    let shown: &[u8] = b"E: line 2: no such mark\nE: line 4: no such list\n";
-    let wanted = joined(rt.alloc(), text.shown(), b"", shown);
-    let acts = [Act::Until(script.shown(), 1000), Act::Script(PROBE)];
-    comes(&rt, b"room enough", &acts, wanted.shown());
 }

@@ -57,25 +57,29 @@ fn came(alloc: Global, words: &[&[u8]]) -> Said {
     said
 }
 
-#[test]
-fn keys_keep_the_order_in_which_they_came(rt: HostRuntime) {
-    const WORDS: &[&[u8]] = &[
-        b"b1", b"c2", b"a3", b"b4", b"=c5", b"=d6", b".", b"-c", b"-d", b".", b"c7", b".",
-    ];
-    let came = came(rt.alloc(), WORDS);
-    same(
-        &rt,
+/// The name of a row, words, and what comes of them.
+type Row = (&'static [u8], &'static [&'static [u8]], &'static [u8]);
+
+const ROWS: &[Row] = &[
+    (
         b"set, taken out, set anew",
-        came.shown(),
+        &[
+            b"b1", b"c2", b"a3", b"b4", b"=c5", b"=d6", b".", b"-c", b"-d", b".", b"c7", b".",
+        ],
         b"b4c5a3;b4a3;b4a3c7;",
-    );
-}
+    ),
+    (
+        b"found where others have gone",
+        &[
+            b"d1", b"b2", b"c3", b"a4", b"-d", b"-c", b"-a", b"?b", b"?a", b"a5", b".",
+        ],
+        b"2noneb2a5;",
+    ),
+];
 
 #[test]
-fn keys_are_found_where_others_have_gone(rt: HostRuntime) {
-    const WORDS: &[&[u8]] = &[
-        b"d1", b"b2", b"c3", b"a4", b"-d", b"-c", b"-a", b"?b", b"?a", b"a5", b".",
-    ];
-    let came = came(rt.alloc(), WORDS);
-    same(&rt, b"holes", came.shown(), b"2noneb2a5;");
+fn keys_keep_the_order_in_which_they_came(rt: HostRuntime) {
+    for (row, words, wanted) in ROWS {
+        same(&rt, row, came(rt.alloc(), words).shown(), wanted);
+    }
 }

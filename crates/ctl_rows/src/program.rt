@@ -4,7 +4,6 @@ use crate::said::Said;
 use crate::tables::same;
 use ctl_session::{Arguments, arguments};
 use std::alloc::Global;
-use std::process::Abort;
 
 /// The lists, the status file and the script that were asked for, each behind what it is.
 fn say_arguments(asked: &Arguments, said: &mut Said) {
@@ -38,40 +37,30 @@ fn row_of(alloc: Global, words: &[&str]) -> Said {
     row
 }
 
-fn each_asks(rt: &(impl Abort + AllocGlobal), rows: &[(&[&str], &[u8])]) {
-    for (words, wanted) in rows {
+const ROWS: &[(&[&str], &[u8])] = &[
+    (&["dctrl-cache"], b""),
+    (&["dctrl-cache", "x"], b"script x"),
+    (&["dctrl-cache", "x", "y"], b"refused"),
+    (&["dctrl-cache", "--help"], b"refused"),
+    (&["dctrl-cache", "-x"], b"refused"),
+    (
+        &["p", "-l", "a=f", "--status", "s", "x"],
+        b"list a=fstatus sscript x",
+    ),
+    (
+        &["p", "-l", "a=f", "--status", "s", "-l", "b", "x"],
+        b"list a=flist bstatus sscript x",
+    ),
+    (&["p", "-l"], b"refused"),
+    (&["p", "--status"], b"refused"),
+    (&["p", "--status", "s", "--status", "s"], b"refused"),
+    (&["p", "-l", "-x"], b"refused"),
+];
+
+#[test]
+fn the_program_takes_lists_a_status_file_and_a_script(rt: HostRuntime) {
+    for (words, wanted) in ROWS {
         let row = row_of(rt.alloc(), words);
-        same(rt, row.shown(), came_of(rt.alloc(), words).shown(), wanted);
+        same(&rt, row.shown(), came_of(rt.alloc(), words).shown(), wanted);
     }
-}
-
-#[test]
-fn the_program_takes_a_script(rt: HostRuntime) {
-    const ROWS: &[(&[&str], &[u8])] = &[
-        (&["dctrl-cache"], b""),
-        (&["dctrl-cache", "x"], b"script x"),
-        (&["dctrl-cache", "x", "y"], b"refused"),
-        (&["dctrl-cache", "--help"], b"refused"),
-        (&["dctrl-cache", "-x"], b"refused"),
-    ];
-    each_asks(&rt, ROWS);
-}
-
-#[test]
-fn the_program_takes_lists_and_a_status_file(rt: HostRuntime) {
-    const ROWS: &[(&[&str], &[u8])] = &[
-        (
-            &["p", "-l", "a=f", "--status", "s", "x"],
-            b"list a=fstatus sscript x",
-        ),
-        (
-            &["p", "-l", "a=f", "--status", "s", "-l", "b", "x"],
-            b"list a=flist bstatus sscript x",
-        ),
-        (&["p", "-l"], b"refused"),
-        (&["p", "--status"], b"refused"),
-        (&["p", "--status", "s", "--status", "s"], b"refused"),
-        (&["p", "-l", "-x"], b"refused"),
-    ];
-    each_asks(&rt, ROWS);
 }

@@ -1,64 +1,10 @@
 //! What scripts leave in the store and no query shows. What queries show of it is asked by the scripts under `tests/scripts`.
 
-use crate::worked::table::{TWO_STANZAS, each_is_so, each_is_so_within};
+use crate::worked::table::each_is_so;
 
-// How many edits were accepted, the words of marks, and the order of pins of several packages. What the state refuses for another
-// cause comes before want of room.
+// How many edits were accepted, the words of marks, and the order of pins of several packages.
 #[test]
 fn what_no_query_shows(rt: HostRuntime) {
-    each_is_so_within(
-        &rt,
-        TWO_STANZAS,
-        b"
--- Stanzas and edits up to their limits
-add-list main packages
-Package: a
-Version: 1
-
-Package: b
-Version: 1
-.
-put main
-Package: b
-Version: 1-0
-.
-put main
-Package: c
-Version: 1
-.
-pkgnames
-mark a 1
-mark a 1
-mark a 1
-mark a 1
-unmark b
-unpin a version 1
-drop-list sid
-unmark a
-target main
-prefs
-.
-=>
-E: line 12: cache full
-a
-b
-E: line 20: cache full
-E: line 21: no such mark
-E: line 22: no such pin
-E: line 23: no such list
-E: line 24: cache full
-E: line 25: cache full
-E: line 26: cache full
-? held
-list main packages plain
-Package: a
-Version: 1
-|Package: b
-Version: 1-0
-|mark a 1
-2 stanzas, 5 edits
-",
-    );
     each_is_so(
         &rt,
         b"
@@ -152,72 +98,15 @@ unmark a
 target main
 pin a version 1 7
 prefs
-Explanation: keep
-Explanation: the old one
-Package: foo bar
-Pin: version 1.0*
-Pin-Priority: 1001
-
-Package: *
-Pin: release a=sid
-Pin-Priority: 50
-
 Package: foo
 Pin: version 1.0*
-Pin-Priority: 1
+Pin-Priority: 5
 .
 =>
 ? held
-pin foo version 1.0* 1001
-pin bar version 1.0* 1001
-pin * release sid 50
+pin foo version 1.0* 5
 target main
 0 stanzas, 3 edits
--- Those that are refused change nothing
-pin a version 1 7
-prefs
-Package: bar
-Pin: version 2
-Pin-Priority: 5
-
-Package: foo
-Pin: origin x
-Pin-Priority: 500
-.
-prefs
-Package: bar
-Pin: version 2
-Pin-Priority: 5
-
-Package: foo
-Pin: release a=a/b
-Pin-Priority: 500
-.
-prefs
-Package: bar
-Pin: version 2
-Pin-Priority: 5
-
-Package: foo
-Pin: version 1
-Pin-Priority: 0
-.
-prefs
-Package: bar
-Pin: version 2
-Pin-Priority: 5
-
-Package: foo
-Pin-Priority: 500
-.
-=>
-E: line 8: bad pin record
-E: line 17: bad name
-E: line 27: bad priority
-E: line 34: required field missing
-? held
-pin a version 1 7
-0 stanzas, 1 edits
 ",
     );
 }

@@ -9,7 +9,7 @@ mod clauses;
 mod failing;
 mod first_scripts;
 mod limits;
-mod long_lines;
+pub mod long_lines;
 mod policies;
 mod preferences;
 mod queries;

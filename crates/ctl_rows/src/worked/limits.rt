@@ -67,6 +67,29 @@ b
 E: line 20: cache full
 ? counts
 2 stanzas, 5 edits
+-+ What it refuses for another cause
+unmark b
+unpin a version 1
+drop-list sid
+unmark a
+target main
+prefs
+.
+=>
+E: line 21: no such mark
+E: line 22: no such pin
+E: line 23: no such list
+E: line 24: cache full
+E: line 25: cache full
+E: line 26: cache full
+? held
+list main packages plain
+Package: a
+Version: 1
+|Package: b
+Version: 1-0
+|mark a 1
+2 stanzas, 5 edits
 ",
     );
     each_is_so_within(

@@ -56,6 +56,10 @@ Package files:
  100 status
 Pinned packages:
      foo -> 1.0-1 with priority 1001
+? pins
+pin foo version 1.0* 1001
+pin bar version 1.0* 1001
+pin * release sid 50
 -> A pin on a list that is no name
 prefs
 Package: bar
@@ -75,6 +79,10 @@ Package files:
  100 status
 Pinned packages:
      foo -> 1.0-1 with priority 1001
+? pins
+pin foo version 1.0* 1001
+pin bar version 1.0* 1001
+pin * release sid 50
 -> A priority of 0
 prefs
 Package: bar
@@ -94,6 +102,10 @@ Package files:
  100 status
 Pinned packages:
      foo -> 1.0-1 with priority 1001
+? pins
+pin foo version 1.0* 1001
+pin bar version 1.0* 1001
+pin * release sid 50
 -> A record without a pin
 prefs
 Package: bar
@@ -112,6 +124,10 @@ Package files:
  100 status
 Pinned packages:
      foo -> 1.0-1 with priority 1001
+? pins
+pin foo version 1.0* 1001
+pin bar version 1.0* 1001
+pin * release sid 50
 -> Preferences without a record
 prefs
 .
