@@ -18,7 +18,7 @@ import reference
 from answers import compare, tell
 
 PROBE = pathlib.Path(__file__).resolve().parent.parent / "crates/probe/out/probe"
-GENERATED = 6_000
+GENERATED = 20_000
 PIECES = 1_500
 SEED = 20241117
 KINDS = ["Pre-Depends", "Depends", "Conflicts", "Breaks", "Recommends", "Suggests", "Replaces", "Enhances", "Provides"]
