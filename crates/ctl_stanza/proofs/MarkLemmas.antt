@@ -1,5 +1,6 @@
 -- The words of relation fields, read one field after the other.
-use Rattle.std.proofs.Common.{◌≡◌, ◌≢◌, ◌∙◌, ◌+◌, ◌*◌, ◌/◌, ◌%◌, ◌<◌, ◌≤◌, ◌==◌, ℕ, suc, true, false, List, [], ◌∷◌, ◌++◌, length, take, drop, get_or, nat_eq, Some, refl, sym, ap, ap₂, subst, arith, append_assoc, append-nil, ⊎_elim}
+use Rattle.std.proofs.Common.{◌≡◌, ◌≢◌, ◌∙◌, ◌+◌, ◌-◌, ◌*◌, ◌/◌, ◌%◌, ◌<◌, ◌≤◌, ◌==◌, ℕ, suc, true, false, List, [], ◌∷◌, ◌++◌, length, take, drop, slice_index_or, slice_range, nat_eq, Some, refl, sym, ap, ap₂, subst, arith, append_assoc, append-nil, ⊎_elim}
+use Rattle.std.specs.Borrow.{Bor}
 use Rattle.std.proofs.lemmas.List.{length-append}
 use Rattle.std.proofs.lemmas.Grind.{flat_map-append}
 use Rattle.std.proofs.lemmas.Bool.{cases_Bool, cond-true, cond-false, eqb-true}
@@ -14,7 +15,10 @@ use Rattle.ctl_stanza.specs.declared.fields.Span.{Span}
 use Rattle.ctl_stanza.specs.Fields.{FieldText}
 use Rattle.ctl_stanza.specs.Faults.{or_else}
 use Rattle.ctl_stanza.specs.HeldFields.{IsWithin, shown}
-use Rattle.ctl_stanza.specs.Marks.{MarkedField, words_of, words_of_all}
+use Rattle.ctl_stanza.specs.declared.marks.Counts.{Counts}
+use Rattle.ctl_stanza.specs.declared.marks.FirstField.{FirstField}
+use Rattle.ctl_stanza.specs.HeldMarks.{HasFirst, IsFirst, AreCounts}
+use Rattle.ctl_stanza.specs.Marks.{MarkedField, code_of, counts_of, word_of, words_of, words_of_all}
 use Rattle.ctl_stanza.specs.HeldStanza.{kept_groups, IsKeptIn, AreMarks, Marks}
 use Rattle.ctl_stanza.proofs.RelationLemmas.{same-place, place-same, kept_of, groups_found}
 
@@ -25,21 +29,13 @@ pub record Left (bytes left : List ℕ) (kind : FieldKind) (all : List MarkedFie
   pub same : kept_groups kind bytes all ≡ kept_groups kind bytes fields
 
 -- the words of the first field, cut from those of the others
-pub record Cut (bytes head starts further behind : List ℕ) (fields : List MarkedField) : Type 0 where
+pub record Cut (bytes : List ℕ) (first : FirstField) (fields : List MarkedField) : Type 0 where
   pub field : MarkedField
   pub others : List MarkedField
   pub is : fields ≡ field ∷ others
-  pub place : get_or head 0 0 % 16 ≡ field_place field.kind
-  pub start : get_or head 1 0 ≡ field.body.start
-  pub end : get_or head 2 0 ≡ field.body.end
-  pub starts_are : starts ≡ field.starts
-  pub further_are : further ≡ field.further
+  pub first_is : IsFirst first field (words_of_all others)
   pub kept : IsKeptIn bytes field
-  pub behind_are : AreMarks bytes behind others
-
-head-is : (left rest : List ℕ) (field : MarkedField) → left ≡ words_of field ++ rest
-    → take 4 left ≡ (length field.starts * 16 + field_place field.kind) ∷ field.body.start ∷ field.body.end ∷ length field.further ∷ []
-head-is left rest field is = ap (take 4) is
+  pub behind_are : AreMarks bytes first.behind.now others
 
 -- the first word has the count of groups and the place of the field
 place-below : (kind : FieldKind) → field_place kind < 16
@@ -53,15 +49,6 @@ place-below Replaces = omega arith
 place-below Enhances = omega arith
 place-below Provides = omega arith
 
-count-in : (field : MarkedField) → (length field.starts * 16 + field_place field.kind) / 16 ≡ length field.starts
-count-in field = div-mul-add (length field.starts) 16 (field_place field.kind) (place-below field.kind)
-
-place-in : (field : MarkedField) → (length field.starts * 16 + field_place field.kind) % 16 ≡ field_place field.kind
-place-in field = mod-mul-add (length field.starts) 16 (field_place field.kind) (place-below field.kind)
-
-back-is : (left rest : List ℕ) (field : MarkedField) → left ≡ words_of field ++ rest → drop 4 left ≡ field.starts ++ (field.further ++ rest)
-back-is left rest field is = ap (drop 4) is ∙ append_assoc field.starts field.further rest
-
 front-part : (part rest whole : List ℕ) (n : ℕ) → whole ≡ part ++ rest → n ≡ length part → take n whole ≡ part
 front-part part rest whole n is size = ap₂ take size is ∙ take-append_seam part rest
 
@@ -69,88 +56,108 @@ back-part : (part rest whole : List ℕ) (n : ℕ) → whole ≡ part ++ rest �
 back-part part rest whole n is size =
     let end : n ≡ length part + 0 = omega (arith, size) in ap₂ drop end is ∙ drop-append-add part rest 0
 
+-- the second word has the length of the body, the code of the counts and the place of the field
+code-below : (groups further : ℕ) → code_of groups further < 128
+code-below groups further = grind arith
+
+place-in : (field : MarkedField) → word_of field % 16 ≡ field_place field.kind
+place-in field = mod-mul-add _ 16 (field_place field.kind) (place-below field.kind)
+
+above-in : (field : MarkedField) → word_of field / 16 ≡ (field.body.end - field.body.start) * 128 + code_of (length field.starts) (length field.further)
+above-in field = div-mul-add _ 16 (field_place field.kind) (place-below field.kind)
+
+code-in : (field : MarkedField) → word_of field / 16 % 128 ≡ code_of (length field.starts) (length field.further)
+code-in field = ap (λ n. n % 128) (above-in field) ∙ mod-mul-add (field.body.end - field.body.start) 128 _ (code-below (length field.starts) (length field.further))
+
+len-in : (field : MarkedField) → word_of field / 16 / 128 ≡ field.body.end - field.body.start
+len-in field = ap (λ n. n / 128) (above-in field) ∙ div-mul-add (field.body.end - field.body.start) 128 _ (code-below (length field.starts) (length field.further))
+
+-- what is read of the words of a field
+pub first-is : (marks head behind : List ℕ) (counts : Counts) (starts b2 further b3 : Bor (List ℕ)) (field : MarkedField) (rest : List ℕ) → head ≡ take 2 marks → behind ≡ drop 2 marks
+    → ((g f : ℕ) (r : List ℕ) → slice_index_or head 1 0 / 16 % 128 ≡ code_of g f → behind ≡ counts_of g f ++ r → AreCounts counts g f r)
+    → starts.now ≡ take counts.groups counts.behind.now → b2.now ≡ drop counts.groups counts.behind.now → further.now ≡ take counts.further b2.now → b3.now ≡ drop counts.further b2.now
+    → marks ≡ words_of field ++ rest → field.body.start ≤ field.body.end
+    → IsFirst (record { place = slice_index_or head 1 0 % 16; start = slice_index_or head 0 0; len = slice_index_or head 1 0 / 16 / 128; starts = starts; further = further; behind = b3 }) field rest
+first-is marks head behind counts starts b2 further b3 field rest e0 e1 counted e2 e3 e4 e5 is ordered =
+    let x = counts_of (length field.starts) (length field.further) in
+    let head_is : head ≡ field.body.start ∷ word_of field ∷ [] = e0 ∙ ap (take 2) is in
+    let back : behind ≡ x ++ (field.starts ++ (field.further ++ rest)) =
+    e1 ∙ ap (drop 2) is ∙ append_assoc x (field.starts ++ field.further) rest ∙ ap (λ t. x ++ t) (append_assoc field.starts field.further rest) in
+    let are = counted (length field.starts) (length field.further) (field.starts ++ (field.further ++ rest)) (ap (λ t. slice_index_or t 1 0 / 16 % 128) head_is ∙ code-in field) back in
+    let b2_is : b2.now ≡ field.further ++ rest = e3 ∙ back-part field.starts (field.further ++ rest) counts.behind.now counts.groups are.behind_is are.groups_are in
+    let start : slice_index_or head 0 0 ≡ field.body.start = ap (λ t. slice_index_or t 0 0) head_is in
+    let len : slice_index_or head 1 0 / 16 / 128 ≡ field.body.end - field.body.start = ap (λ t. slice_index_or t 1 0 / 16 / 128) head_is ∙ len-in field in
+    record {
+      place_is = ap (λ t. slice_index_or t 1 0 % 16) head_is ∙ place-in field;
+      start_is = start;
+      end_is = omega (arith, start, len, ordered);
+      starts_are = e2 ∙ front-part field.starts (field.further ++ rest) counts.behind.now counts.groups are.behind_is are.groups_are;
+      further_are = e4 ∙ front-part field.further rest b2.now counts.further b2_is are.further_are;
+      behind_is = e5 ∙ back-part field.further rest b2.now counts.further b2_is are.further_are;
+    }
+
 -- the words of a field are all there
-pub has-head : (bytes left : List ℕ) (fields : List MarkedField) → AreMarks bytes left fields → (length left == 0) ≡ false → 4 ≤ length left
-has-head bytes left [] are some = let none : (length left == 0) ≡ true = ap (λ t. length t == 0) are.words in absurd cc
-has-head bytes left (field ∷ others) are some = omega (arith, ap length are.words)
+pub has-first : (bytes left : List ℕ) (fields : List MarkedField) → AreMarks bytes left fields → (length left == 0) ≡ false → HasFirst left
+has-first bytes left [] are some = let none : (length left == 0) ≡ true = ap (λ t. length t == 0) are.words in absurd cc
+has-first bytes left (field ∷ others) are some =
+    let kept : IsKeptIn bytes field = are.kept 0 field (omega arith) in
+    record { field = field; rest = words_of_all others; ordered = kept.within.0; words = are.words }
 
-pub has-starts : (bytes left head behind : List ℕ) (fields : List MarkedField) → AreMarks bytes left fields → (length left == 0) ≡ false → head ≡ take 4 left → behind ≡ drop 4 left
-    → get_or head 0 0 / 16 ≤ length behind
-has-starts bytes left head behind [] are some front back = let none : (length left == 0) ≡ true = ap (λ t. length t == 0) are.words in absurd cc
-has-starts bytes left head behind (field ∷ others) are some front back =
-    let count : get_or head 0 0 / 16 ≡ length field.starts = ap (λ t. get_or t 0 0 / 16) (front ∙ head-is left (words_of_all others) field are.words) ∙ count-in field in
-    let rest : behind ≡ field.starts ++ (field.further ++ words_of_all others) = back ∙ back-is left (words_of_all others) field are.words in
-    omega (arith, count, ap length rest, length-append field.starts (field.further ++ words_of_all others))
-
-pub has-further : (bytes left head behind others_behind : List ℕ) (fields : List MarkedField) → AreMarks bytes left fields → (length left == 0) ≡ false → head ≡ take 4 left → behind ≡ drop 4 left
-    → others_behind ≡ drop (get_or head 0 0 / 16) behind → get_or head 3 0 ≤ length others_behind
-has-further bytes left head behind more [] are some front back back2 = let none : (length left == 0) ≡ true = ap (λ t. length t == 0) are.words in absurd cc
-has-further bytes left head behind more (field ∷ others) are some front back back2 =
-    let head_is = front ∙ head-is left (words_of_all others) field are.words in
-    let count : get_or head 3 0 ≡ length field.further = ap (λ t. get_or t 3 0) head_is in
-    let rest : behind ≡ field.starts ++ (field.further ++ words_of_all others) = back ∙ back-is left (words_of_all others) field are.words in
-    let rest2 : more ≡ field.further ++ words_of_all others = back2 ∙ back-part field.starts (field.further ++ words_of_all others) behind (get_or head 0 0 / 16) rest (ap (λ t. get_or t 0 0 / 16) head_is ∙ count-in field) in
-    omega (arith, count, ap length rest2, length-append field.further (words_of_all others))
-
-pub cut : (bytes left head b1 starts b2 further b3 : List ℕ) (fields : List MarkedField) → AreMarks bytes left fields → (length left == 0) ≡ false → head ≡ take 4 left → b1 ≡ drop 4 left
-    → starts ≡ take (get_or head 0 0 / 16) b1 → b2 ≡ drop (get_or head 0 0 / 16) b1 → further ≡ take (get_or head 3 0) b2 → b3 ≡ drop (get_or head 3 0) b2 → Cut bytes head starts further b3 fields
-cut bytes left head b1 starts b2 further b3 [] are some e0 e1 e2 e3 e4 e5 = let none : (length left == 0) ≡ true = ap (λ t. length t == 0) are.words in absurd cc
-cut bytes left head b1 starts b2 further b3 (field ∷ others) are some e0 e1 e2 e3 e4 e5 =
-    let rest = words_of_all others in
-    let head_is = e0 ∙ head-is left rest field are.words in
-    let b1_is : b1 ≡ field.starts ++ (field.further ++ rest) = e1 ∙ back-is left rest field are.words in
-    let b2_is : b2 ≡ field.further ++ rest = e3 ∙ back-part field.starts (field.further ++ rest) b1 (get_or head 0 0 / 16) b1_is (ap (λ t. get_or t 0 0 / 16) head_is ∙ count-in field) in
+pub cut : (bytes left : List ℕ) (first : FirstField) (fields : List MarkedField) → AreMarks bytes left fields → (length left == 0) ≡ false
+    → ((field : MarkedField) (rest : List ℕ) → left ≡ words_of field ++ rest → field.body.start ≤ field.body.end → IsFirst first field rest) → Cut bytes first fields
+cut bytes left first [] are some firsts = let none : (length left == 0) ≡ true = ap (λ t. length t == 0) are.words in absurd cc
+cut bytes left first (field ∷ others) are some firsts =
+    let kept : IsKeptIn bytes field = are.kept 0 field (omega arith) in
+    let first_is = firsts field (words_of_all others) are.words kept.within.0 in
     record {
       field = field;
       others = others;
       is = refl;
-      place = ap (λ t. get_or t 0 0 % 16) head_is ∙ place-in field;
-      start = ap (λ t. get_or t 1 0) head_is;
-      end = ap (λ t. get_or t 2 0) head_is;
-      starts_are = e2 ∙ front-part field.starts (field.further ++ rest) b1 (get_or head 0 0 / 16) b1_is (ap (λ t. get_or t 0 0 / 16) head_is ∙ count-in field);
-      further_are = e4 ∙ front-part field.further rest b2 (get_or head 3 0) b2_is (ap (λ t. get_or t 3 0) head_is);
-      kept = are.kept 0 field (omega arith);
-      behind_are = record {
-        words = e5 ∙ back-part field.further rest b2 (get_or head 3 0) b2_is (ap (λ t. get_or t 3 0) head_is);
-        kept = λ k d lt. are.kept (suc k) d (omega arith);
-      };
+      first_is = first_is;
+      kept = kept;
+      behind_are = record { words = first_is.behind_is; kept = λ k d lt. are.kept (suc k) d (omega arith) };
     }
 
+pub is-shorter : (left : List ℕ) (first : FirstField) (bytes : List ℕ) (fields : List MarkedField) (c : Cut bytes first fields) → left ≡ words_of_all fields → length first.behind.now < length left
+is-shorter left first bytes fields c is =
+    let size = ap length (is ∙ ap words_of_all c.is) ∙ length-append (words_of c.field) (words_of_all c.others) in
+    omega (arith, size, ap length c.first_is.behind_is)
+
 -- the first field is of another kind
-pub left-next : (bytes left head starts further behind : List ℕ) (kind : FieldKind) (all : List MarkedField) (l : Left bytes left kind all) → Cut bytes head starts further behind l.fields
-    → get_or head 0 0 % 16 ≢ field_place kind → Left bytes behind kind all
-left-next bytes left head starts further behind kind all l c other =
+pub left-next : (bytes left : List ℕ) (first : FirstField) (kind : FieldKind) (all : List MarkedField) (l : Left bytes left kind all) → Cut bytes first l.fields
+    → first.place ≢ field_place kind → Left bytes first.behind.now kind all
+left-next bytes left first kind all l c other =
     let here : nat_eq (field_place c.field.kind) (field_place kind) ≡ false =
-    ⊎_elim (λ yes. absurd (other (c.place ∙ eqb-true (field_place c.field.kind) (field_place kind) yes))) (λ none. none) (cases_Bool (nat_eq (field_place c.field.kind) (field_place kind))) in
+    ⊎_elim (λ yes. absurd (other (c.first_is.place_is ∙ eqb-true (field_place c.field.kind) (field_place kind) yes))) (λ none. none) (cases_Bool (nat_eq (field_place c.field.kind) (field_place kind))) in
     record { fields = c.others; are = c.behind_are; same = l.same ∙ ap (kept_groups kind bytes) c.is ∙ cond-false _ _ _ here }
 
 -- the first field is of the kind that is sought
-pub kind-here : (bytes head starts further behind : List ℕ) (kind : FieldKind) (fields : List MarkedField) (c : Cut bytes head starts further behind fields) → get_or head 0 0 % 16 ≡ field_place kind → kind ≡ c.field.kind
-kind-here bytes head starts further behind kind fields c same = sym (same-place c.field.kind kind (ap (λ n. nat_eq n (field_place kind)) (sym c.place ∙ same) ∙ place-same kind))
+pub kind-here : (bytes : List ℕ) (first : FirstField) (kind : FieldKind) (fields : List MarkedField) (c : Cut bytes first fields) → first.place ≡ field_place kind → kind ≡ c.field.kind
+kind-here bytes first kind fields c same = sym (same-place c.field.kind kind (ap (λ n. nat_eq n (field_place kind)) (sym c.first_is.place_is ∙ same) ∙ place-same kind))
 
-span-here : (bytes head starts further behind : List ℕ) (fields : List MarkedField) (c : Cut bytes head starts further behind fields) → record { start = get_or head 1 0; end = get_or head 2 0 } ≡ c.field.body
-span-here bytes head starts further behind fields c = ap₂ (λ (a b : ℕ). record { start = a; end = b }) c.start c.end
+pub ends-within : (bytes : List ℕ) (first : FirstField) (fields : List MarkedField) → Cut bytes first fields → first.start + first.len ≤ length bytes
+ends-within bytes first fields c = omega (arith, c.first_is.end_is, c.kept.within.1)
 
-pub within-here : (bytes head starts further behind : List ℕ) (fields : List MarkedField) → Cut bytes head starts further behind fields → IsWithin bytes (record { start = get_or head 1 0; end = get_or head 2 0 })
-within-here bytes head starts further behind fields c = subst (IsWithin bytes) (sym (span-here bytes head starts further behind fields c)) c.kept.within
+body-here : (bytes body : List ℕ) (first : FirstField) (fields : List MarkedField) (c : Cut bytes first fields) → body ≡ slice_range bytes first.start (first.start + first.len) → body ≡ shown bytes c.field.body
+body-here bytes body first fields c shows = shows ∙ ap₂ (slice_range bytes) c.first_is.start_is c.first_is.end_is
 
-pub held-here : (bytes head starts further behind body : List ℕ) (kind : FieldKind) (fields : List MarkedField) → Cut bytes head starts further behind fields → get_or head 0 0 % 16 ≡ field_place kind
-    → body ≡ shown bytes (record { start = get_or head 1 0; end = get_or head 2 0 }) → AreHeld kind body starts further
-held-here bytes head starts further behind body kind fields c same shows =
-    let body_is : body ≡ shown bytes c.field.body = shows ∙ ap (shown bytes) (span-here bytes head starts further behind fields c) in
-    subst (λ (k : FieldKind). AreHeld k body starts further) (sym (kind-here bytes head starts further behind kind fields c same))
-    (subst (λ (b : List ℕ). AreHeld c.field.kind b starts further) (sym body_is)
-    (subst (λ (s : List ℕ). AreHeld c.field.kind (shown bytes c.field.body) s further) (sym c.starts_are)
-    (subst (λ (f : List ℕ). AreHeld c.field.kind (shown bytes c.field.body) c.field.starts f) (sym c.further_are) c.kept.places)))
+pub held-here : (bytes body : List ℕ) (first : FirstField) (kind : FieldKind) (fields : List MarkedField) → Cut bytes first fields → first.place ≡ field_place kind
+    → body ≡ slice_range bytes first.start (first.start + first.len) → AreHeld kind body first.starts.now first.further.now
+held-here bytes body first kind fields c same shows =
+    let body_is : body ≡ shown bytes c.field.body = body-here bytes body first fields c shows in
+    subst (λ (k : FieldKind). AreHeld k body first.starts.now first.further.now) (sym (kind-here bytes first kind fields c same))
+    (subst (λ (b : List ℕ). AreHeld c.field.kind b first.starts.now first.further.now) (sym body_is)
+    (subst (λ (s : List ℕ). AreHeld c.field.kind (shown bytes c.field.body) s first.further.now) (sym c.first_is.starts_are)
+    (subst (λ (f : List ℕ). AreHeld c.field.kind (shown bytes c.field.body) c.field.starts f) (sym c.first_is.further_are) c.kept.places)))
 
-pub groups-here : (bytes left head starts further behind body : List ℕ) (kind : FieldKind) (all : List MarkedField) (l : Left bytes left kind all) → Cut bytes head starts further behind l.fields
-    → get_or head 0 0 % 16 ≡ field_place kind → body ≡ shown bytes (record { start = get_or head 1 0; end = get_or head 2 0 }) → groups_held kind body starts further ≡ kept_groups kind bytes all
-groups-here bytes left head starts further behind body kind all l c same shows =
-    let kind_is = kind-here bytes head starts further behind kind l.fields c same in
-    let here : nat_eq (field_place c.field.kind) (field_place kind) ≡ true = ap (λ n. nat_eq n (field_place kind)) (sym c.place ∙ same) ∙ place-same kind in
-    ap (λ (k : FieldKind). groups_held k body starts further) kind_is
-    ∙ ap (λ (b : List ℕ). groups_held c.field.kind b starts further) (shows ∙ ap (shown bytes) (span-here bytes head starts further behind l.fields c))
-    ∙ ap₂ (groups_held c.field.kind (shown bytes c.field.body)) c.starts_are c.further_are
+pub groups-here : (bytes left body : List ℕ) (first : FirstField) (kind : FieldKind) (all : List MarkedField) (l : Left bytes left kind all) → Cut bytes first l.fields
+    → first.place ≡ field_place kind → body ≡ slice_range bytes first.start (first.start + first.len) → groups_held kind body first.starts.now first.further.now ≡ kept_groups kind bytes all
+groups-here bytes left body first kind all l c same shows =
+    let kind_is = kind-here bytes first kind l.fields c same in
+    let here : nat_eq (field_place c.field.kind) (field_place kind) ≡ true = ap (λ n. nat_eq n (field_place kind)) (sym c.first_is.place_is ∙ same) ∙ place-same kind in
+    ap (λ (k : FieldKind). groups_held k body first.starts.now first.further.now) kind_is
+    ∙ ap (λ (b : List ℕ). groups_held c.field.kind b first.starts.now first.further.now) (body-here bytes body first l.fields c shows)
+    ∙ ap₂ (groups_held c.field.kind (shown bytes c.field.body)) c.first_is.starts_are c.first_is.further_are
     ∙ sym (l.same ∙ ap (kept_groups kind bytes) c.is ∙ cond-true _ _ _ here)
 
 -- no words are left

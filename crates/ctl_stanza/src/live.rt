@@ -14,7 +14,7 @@ ghost use Rattle.ctl_stanza.specs.HeldFields.{AreWithin, IsFieldWithin, IsWithin
 
 use crate::fault::{Cause, TextFault};
 use crate::fields::{Field, Span, is_same_name};
-use crate::marks::{MAX_GROUPS, push_field};
+use crate::marks::{BODY_END, push_field};
 use ctl_relation::{FieldKind, RelationFault, Version, VersionFault, is_name, read_groups};
 use std::alloc::Global;
 
@@ -87,6 +87,9 @@ fn read_relations(
     ensures bad { IfErr result (λ fault. fault ≢ relation.Memory → is_read (relations_of kind (shown bytes.now body)) ≡ false) }
     ensures marks { OnOk result (Marks bytes.now (Some kind) body relations.old.marks.items relations.new.marks.items) }
 {
+    if body.end - body.start >= BODY_END {
+        return Err(RelationFault::Memory);
+    }
     relations.starts.clear();
     relations.further.clear();
     read_groups(
@@ -95,7 +98,7 @@ fn read_relations(
         &mut relations.starts,
         &mut relations.further,
     )?;
-    if relations.starts.len() > MAX_GROUPS || relations.further.len() > u32::MAX as usize {
+    if relations.starts.len() > u32::MAX as usize || relations.further.len() > u32::MAX as usize {
         return Err(RelationFault::Memory);
     }
     push_field(

@@ -1,56 +1,47 @@
-use Rattle.std.proofs.Common.{◌∙◌, sym}
-use Rattle.ctl_stanza.proofs.MarkLemmas.{has-head, has-starts, has-further, cut, left-next, within-here, held-here, groups-here, none-left}
+use Rattle.std.proofs.Common.{◌∙◌, refl, sym}
+use Rattle.ctl_stanza.proofs.MarkLemmas.{has-first, cut, is-shorter, left-next, ends-within, held-here, groups-here, none-left}
 use Rattle.ctl_stanza.proofs.marks.kept_groups.Goals as goal
 
-pub split_at-requires : goal.split_at-requires
-split_at-requires c =
+pub first_field-first-requires : goal.first_field-first-requires
+first_field-first-requires c =
     let mine = c.fields.invariant c.requires.fields c.requires.are in
     let some = sym c.is_empty.ensures ∙ c.fields-test.true in
-    has-head c.args.bytes.now c.fields.left.now mine.fields mine.are some
+    has-first c.args.bytes.now c.fields.left.now mine.fields mine.are some
 
-pub split_at-requires-in-fields : goal.split_at-requires-in-fields
-split_at-requires-in-fields c =
+pub slice_bounds-body-end : goal.slice_bounds-body-end
+slice_bounds-body-end c =
     let mine = c.fields.invariant c.requires.fields c.requires.are in
     let some = sym c.is_empty.ensures ∙ c.fields-test.true in
-    has-starts c.args.bytes.now c.fields.left.now c.split_at.result.0.now c.split_at.result.1.now mine.fields mine.are some c.split_at.ensures.front c.split_at.ensures.back
-
-pub split_at-requires-in-fields-2 : goal.split_at-requires-in-fields-2
-split_at-requires-in-fields-2 c =
-    let mine = c.fields.invariant c.requires.fields c.requires.are in
-    let some = sym c.is_empty.ensures ∙ c.fields-test.true in
-    has-further c.args.bytes.now c.fields.left.now c.split_at.result.0.now c.split_at.result.1.now c.split_at-in-fields.result.1.now mine.fields mine.are some c.split_at.ensures.front c.split_at.ensures.back c.split_at-in-fields.ensures.back
-
-pub of-requires : goal.of-requires
-of-requires c =
-    let mine = c.fields.invariant c.requires.fields c.requires.are in
-    let some = sym c.is_empty.ensures ∙ c.fields-test.true in
-    let first = cut c.args.bytes.now c.fields.left.now c.split_at.result.0.now c.split_at.result.1.now c.split_at-in-fields.result.0.now c.split_at-in-fields.result.1.now c.split_at-in-fields-2.result.0.now c.split_at-in-fields-2.result.1.now mine.fields mine.are some
-    c.split_at.ensures.front c.split_at.ensures.back c.split_at-in-fields.ensures.front c.split_at-in-fields.ensures.back c.split_at-in-fields-2.ensures.front c.split_at-in-fields-2.ensures.back in
-    within-here c.args.bytes.now c.split_at.result.0.now c.split_at-in-fields.result.0.now c.split_at-in-fields-2.result.0.now c.split_at-in-fields-2.result.1.now mine.fields first
+    let first = cut c.args.bytes.now c.fields.left.now c.first_field-first.result mine.fields mine.are some c.first_field-first.ensures in
+    ends-within c.args.bytes.now c.first_field-first.result mine.fields first
 
 pub new-requires : goal.new-requires
 new-requires c =
     let mine = c.fields.invariant c.requires.fields c.requires.are in
     let some = sym c.is_empty.ensures ∙ c.fields-test.true in
-    let first = cut c.args.bytes.now c.fields.left.now c.split_at.result.0.now c.split_at.result.1.now c.split_at-in-fields.result.0.now c.split_at-in-fields.result.1.now c.split_at-in-fields-2.result.0.now c.split_at-in-fields-2.result.1.now mine.fields mine.are some
-    c.split_at.ensures.front c.split_at.ensures.back c.split_at-in-fields.ensures.front c.split_at-in-fields.ensures.back c.split_at-in-fields-2.ensures.front c.split_at-in-fields-2.ensures.back in
-    held-here c.args.bytes.now c.split_at.result.0.now c.split_at-in-fields.result.0.now c.split_at-in-fields-2.result.0.now c.split_at-in-fields-2.result.1.now c.of.result.now c.args.kind mine.fields first (c.if-head-place.true ∙ c.place.ensures) c.of.ensures
+    let first = cut c.args.bytes.now c.fields.left.now c.first_field-first.result mine.fields mine.are some c.first_field-first.ensures in
+    held-here c.args.bytes.now _ c.first_field-first.result c.args.kind mine.fields first (c.if-first-place.true ∙ c.place.ensures) refl
 
-pub returns-then-head-place : goal.returns-then-head-place
-returns-then-head-place c = λ all are.
+pub returns-then-first-place : goal.returns-then-first-place
+returns-then-first-place c = λ all are.
     let mine = c.fields.invariant all are in
     let some = sym c.is_empty.ensures ∙ c.fields-test.true in
-    let first = cut c.args.bytes.now c.fields.left.now c.split_at.result.0.now c.split_at.result.1.now c.split_at-in-fields.result.0.now c.split_at-in-fields.result.1.now c.split_at-in-fields-2.result.0.now c.split_at-in-fields-2.result.1.now mine.fields mine.are some
-    c.split_at.ensures.front c.split_at.ensures.back c.split_at-in-fields.ensures.front c.split_at-in-fields.ensures.back c.split_at-in-fields-2.ensures.front c.split_at-in-fields-2.ensures.back in
-    c.new.ensures ∙ groups-here c.args.bytes.now c.fields.left.now c.split_at.result.0.now c.split_at-in-fields.result.0.now c.split_at-in-fields-2.result.0.now c.split_at-in-fields-2.result.1.now c.of.result.now c.args.kind all mine first (c.if-head-place.true ∙ c.place.ensures) c.of.ensures
+    let first = cut c.args.bytes.now c.fields.left.now c.first_field-first.result mine.fields mine.are some c.first_field-first.ensures in
+    c.new.ensures ∙ groups-here c.args.bytes.now c.fields.left.now _ c.first_field-first.result c.args.kind all mine first (c.if-first-place.true ∙ c.place.ensures) refl
+
+pub fields-smaller : goal.fields-smaller
+fields-smaller c =
+    let mine = c.fields.invariant c.requires.fields c.requires.are in
+    let some = sym c.is_empty.ensures ∙ c.fields-test.true in
+    let first = cut c.args.bytes.now c.fields.left.now c.first_field-first.result mine.fields mine.are some c.first_field-first.ensures in
+    is-shorter c.fields.left.now c.first_field-first.result c.args.bytes.now mine.fields first mine.are.words
 
 pub fields-preserved : goal.fields-preserved
 fields-preserved c = λ all are.
     let mine = c.fields.invariant all are in
     let some = sym c.is_empty.ensures ∙ c.fields-test.true in
-    let first = cut c.args.bytes.now c.fields.left.now c.split_at.result.0.now c.split_at.result.1.now c.split_at-in-fields.result.0.now c.split_at-in-fields.result.1.now c.split_at-in-fields-2.result.0.now c.split_at-in-fields-2.result.1.now mine.fields mine.are some
-    c.split_at.ensures.front c.split_at.ensures.back c.split_at-in-fields.ensures.front c.split_at-in-fields.ensures.back c.split_at-in-fields-2.ensures.front c.split_at-in-fields-2.ensures.back in
-    left-next c.args.bytes.now c.fields.left.now c.split_at.result.0.now c.split_at-in-fields.result.0.now c.split_at-in-fields-2.result.0.now c.split_at-in-fields-2.result.1.now c.args.kind all mine first (λ same. c.if-head-place.false (same ∙ sym c.place.ensures))
+    let first = cut c.args.bytes.now c.fields.left.now c.first_field-first.result mine.fields mine.are some c.first_field-first.ensures in
+    left-next c.args.bytes.now c.fields.left.now c.first_field-first.result c.args.kind all mine first (λ same. c.if-first-place.false (same ∙ sym c.place.ensures))
 
 pub returns : goal.returns
 returns c = λ all are. c.empty.ensures ∙ none-left c.args.bytes.now c.fields.left.now c.args.kind all (c.fields.invariant all are) (sym c.is_empty.ensures ∙ c.fields-test.false)
