@@ -23,8 +23,6 @@ mod cuts;
 #[cfg(test)]
 mod faults;
 #[cfg(test)]
-mod filtered;
-#[cfg(test)]
 mod laws;
 #[cfg(test)]
 mod limits;
