@@ -1,7 +1,8 @@
 """Tests that the rows of calls in crates/probe stand beside their answers, and that each row that once was a test has its new place.
 
 `calls.moved` has a line for each old row: the module, the test and the row, and then the new place, which is the file, and there the
-word above the rows, the heading and the number of the question below it; or the file and the name of a test."""
+word above the rows, the heading and the number of the question below it; or the file and the name of a test; or a script under
+`tests/scripts`."""
 
 import os
 
@@ -37,6 +38,8 @@ def has_test(path, name):
 
 def is_there(place, known):
     """Whether a row stands at its new place."""
+    if len(place) == 1:
+        return place[0].startswith("tests/scripts/") and os.path.exists(os.path.join(ROOT, place[0]))
     if len(place) == 2:
         return has_test(*place)
     path, subject, heading, number = place
