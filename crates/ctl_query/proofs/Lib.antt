@@ -24,6 +24,7 @@ pub mod OfferingLemmas
 pub mod OrderLemmas
 pub mod PackageLemmas
 pub mod PinnedLemmas
+pub mod PrefixLemmas
 pub mod ProviderLemmas
 pub mod RisingLemmas
 pub mod RowLemmas

@@ -135,3 +135,16 @@ begun_packages classes world prefix names sorted members =
     by true begins live h = ap (λ b. begins && b) (h refl)
     by false true live h = refl
     by false false live h = refl
+
+-- Those of names from a prefix on that begin with it are the known names that do.
+pub begun_names : (world : World) (prefix : List ℕ) (names : List (List ℕ)) → IsStrictlySortedBy (slice_cmp nat_cmp) names →
+    ((name : List ℕ) → begins_with prefix name ≡ true → is_among names name ≡ is_among (names_known world) name) → filter (begins_with prefix) names ≡ filter (begins_with prefix) (names_known world)
+begun_names world prefix names sorted members =
+    one_in_order (filter (begins_with prefix) names) (filter (begins_with prefix) (names_known world)) (filter_sorted (begins_with prefix) names sorted)
+    (filter_sorted (begins_with prefix) (names_known world) (known_sorted world))
+    (λ name. filter_among (begins_with prefix) name names ∙ by (begins_with prefix name) (is_among names name) (is_among (names_known world) name) (members name)
+    ∙ sym (filter_among (begins_with prefix) name (names_known world)))
+  where
+    by : (begins one other : Bool) → (begins ≡ true → one ≡ other) → (begins && one) ≡ (begins && other)
+    by true one other h = h refl
+    by false one other h = refl

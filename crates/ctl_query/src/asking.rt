@@ -1,10 +1,10 @@
 //! What an answer is asked of: a cache that isn't stale, and what stands in it under names.
 
-ghost use Rattle.std.specs.Prelude.{◌≡◌, ◌&&◌, ℕ, List, IfOk, IsSome, Some, false, map};
+ghost use Rattle.std.specs.Prelude.{◌≡◌, ◌&&◌, ℕ, List, IfOk, IsSome, Some, true, false, map};
 ghost use Rattle.std.specs.List.{AllByRecursion};
 ghost use Rattle.std.specs.Cmp.Lexicographic.{slice_cmp};
 ghost use Rattle.std.specs.List.Sorted.{IsPermutation, IsStrictlySortedBy};
-ghost use Rattle.std.specs.Ordering.{nat_cmp};
+ghost use Rattle.std.specs.Ordering.{nat_cmp, is_le};
 ghost use Rattle.ctl_store.specs.Held.{keyed_of};
 ghost use Rattle.ctl_store.specs.Keys.{AreHeld};
 ghost use Rattle.ctl_index.specs.Clauses.{clause_at, number_at, unmet_clauses};
@@ -84,6 +84,16 @@ impl<'a> Asking<'a> {
             ≡ (begins_with prefix.now name && is_package (stanzas_of (world_of self.now)) name)) }
     {
         self.cache.package_names(prefix)
+    }
+
+    /// The names that are known and not before a prefix, in the order of their bytes. Those that begin with it come first.
+    pub(crate) fn names_from(&self, prefix: &[u8]) -> Result<Names<'a>, AllocError>
+        ensures order { IfOk result (λ names. IsStrictlySortedBy (slice_cmp nat_cmp) names) }
+        ensures from { IfOk result (λ names. AllByRecursion (λ name. is_le (slice_cmp nat_cmp prefix.now name) ≡ true) names) }
+        ensures members { IfOk result (λ names. (name : List ℕ) → begins_with prefix.now name ≡ true
+            → is_among names name ≡ is_among (names_known (world_of self.now)) name) }
+    {
+        self.cache.names_from(prefix)
     }
 
     /// The rows of a name, newest first.
@@ -171,13 +181,6 @@ impl<'a> Asking<'a> {
         ensures namers { IsPermutation (namers_named name.now (standing self.now)) result }
     {
         self.cache.namers(name)
-    }
-
-    /// The names that are known, in the order of their bytes.
-    pub(crate) fn names(&self) -> Names<'a>
-        ensures { result ≡ names_known (world_of self.now) }
-    {
-        self.cache.names()
     }
 
     /// The rows of each known name, newest first, in the order of the names.

@@ -1,9 +1,13 @@
 //! The answer to `pkgnames`.
 
-ghost use Rattle.std.specs.Prelude.{◌≡◌, ◌++◌, OnOk, false, filter, flat_map};
+ghost use Rattle.std.specs.Prelude.{◌≡◌, ◌++◌, OnOk, true, false, filter, flat_map};
+ghost use Rattle.std.specs.Cmp.Lexicographic.{slice_cmp};
+ghost use Rattle.std.specs.List.{AllByRecursion};
+ghost use Rattle.std.specs.List.Sorted.{IsStrictlySortedBy};
+ghost use Rattle.std.specs.Ordering.{nat_cmp, is_le};
 ghost use Rattle.ctl_policy.specs.Priority.{world_of};
 ghost use Rattle.ctl_query.specs.PackageNames.{begins_with, name_line, package_names_text};
-ghost use Rattle.ctl_query.specs.Packages.{has_row, packages_of};
+ghost use Rattle.ctl_query.specs.Packages.{has_row, names_known, packages_of};
 
 use crate::asking::Asking;
 use crate::text::append_line;
@@ -11,15 +15,29 @@ use ctl_index::{Names, PackageNames, Packages};
 use ctl_policy::rows_are_classes;
 use std::alloc::AllocError;
 
-/// Appends those of some names that begin with a prefix.
+/// Appends those of some names that begin with a prefix. They are in order, none before the prefix: behind the first that doesn't
+/// begin with it none does.
 fn append_names(names: Names<'_>, prefix: &[u8], out: &mut Vec<u8>) -> Result<(), AllocError>
+    requires order { IsStrictlySortedBy (slice_cmp nat_cmp) names }
+    requires from { AllByRecursion (λ name. is_le (slice_cmp nat_cmp prefix.now name) ≡ true) names }
     ensures { OnOk result (out.new.items ≡ out.old.items ++ flat_map name_line (filter (begins_with prefix.now) names.entry)) }
 {
     'names: for name in names {
-        if name.starts_with(prefix) {
-            append_line(out, &[name])?;
+        if !name.starts_with(prefix) {
+            return Ok(());
         }
+        append_line(out, &[name])?;
     }
+    Ok(())
+}
+
+/// Appends the known names that begin with a prefix, in the time that they and the prefix take.
+fn append_known(asking: &Asking<'_>, prefix: &[u8], out: &mut Vec<u8>) -> Result<(), AllocError>
+    ensures { OnOk result (out.new.items ≡ out.old.items
+        ++ flat_map name_line (filter (begins_with prefix.now) (names_known (world_of asking.now)))) }
+{
+    let names = asking.names_from(prefix)?;
+    append_names(names, prefix, out)?;
     Ok(())
 }
 
@@ -76,7 +94,7 @@ pub(crate) fn append_package_names(
     ensures { OnOk result (out.new.items ≡ out.old.items ++ package_names_text (world_of asking.now) all prefix.now) }
 {
     if all {
-        append_names(asking.names(), prefix, out)?;
+        append_known(asking, prefix, out)?;
         return Ok(());
     }
     if prefix.is_empty() {
