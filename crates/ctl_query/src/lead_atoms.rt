@@ -6,6 +6,7 @@ ghost use Rattle.std.specs.List.Sorted.{IsStrictlySortedBy};
 ghost use Rattle.ctl_index.specs.declared.keys.AtomKey.{AtomKey};
 ghost use Rattle.ctl_query.specs.Leads.{lead_atom_cmp, is_listed, line_in, line_at, is_at, atom_in};
 
+use crate::ahead::look_ahead;
 use crate::lead_lines::append_naming_line;
 use crate::lead_table::LeadTable;
 use ctl_index::{AtomKey, Namers};
@@ -124,8 +125,9 @@ pub(crate) fn append_atoms(
 ) -> Result<(), AllocError>
     ensures { OnOk result (out.new.items ≡ out.old.items ++ flat_map (line_at table.now name.now) atoms.now) }
 {
-    for atom in atoms {
-        append_atom(table, name, *atom, out)?;
+    for at in 0..atoms.len() {
+        look_ahead(table, atoms, at, out)?;
+        append_atom(table, name, atoms[at], out)?;
     }
     Ok(())
 }

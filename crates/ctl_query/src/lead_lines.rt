@@ -14,10 +14,11 @@ use std::alloc::AllocError;
 fn append_asker(lead: &Stanza, out: &mut Vec<u8>) -> Result<(), AllocError>
     ensures { OnOk result (out.new.items ≡ out.old.items ++ asker lead.now) }
 {
-    append_parts(
-        out,
-        &[b"  ", lead.package(), b" ", version_text(lead), b" "],
-    )?;
+    out.extend_from_slice(b"  ")?;
+    out.extend_from_slice(lead.package())?;
+    out.push(b' ')?;
+    out.extend_from_slice(version_text(lead))?;
+    out.push(b' ')?;
     Ok(())
 }
 
@@ -32,9 +33,10 @@ pub(crate) fn append_naming_line(
     ensures { OnOk result (out.new.items ≡ out.old.items ++ naming_line lead.now field atom.now) }
 {
     append_asker(lead, out)?;
-    append_parts(out, &[field.printed_name(), b": "])?;
+    out.extend_from_slice(field.printed_name())?;
+    out.extend_from_slice(b": ")?;
     atom.append_to(out)?;
-    out.extend_from_slice(b"\n")?;
+    out.push(b'\n')?;
     Ok(())
 }
 
@@ -103,10 +105,12 @@ fn append_relation(
 ) -> Result<(), AllocError>
     ensures { OnOk result (out.new.items ≡ out.old.items ++ relation_line lead.now field group.now) }
 {
-    append_parts(out, &[version_text(lead), b" "])?;
-    append_parts(out, &[field.printed_name(), b": "])?;
+    out.extend_from_slice(version_text(lead))?;
+    out.push(b' ')?;
+    out.extend_from_slice(field.printed_name())?;
+    out.extend_from_slice(b": ")?;
     group.append_to(out)?;
-    out.extend_from_slice(b"\n")?;
+    out.push(b'\n')?;
     Ok(())
 }
 

@@ -1,6 +1,7 @@
 //! The queries of apt-cache(8) over a kept cache: words to a query, a query to its text.
 #![tactic(auto)]
 
+mod ahead;
 mod answering;
 mod asking;
 mod depends;

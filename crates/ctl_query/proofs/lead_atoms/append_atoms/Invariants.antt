@@ -3,5 +3,5 @@ use Rattle.ctl_query.specs.Leads.{line_at}
 use Rattle.ctl_query.proofs.lead_atoms.append_atoms.Given as goal
 
 -- what was written, are the lines of the atoms so far
-abbrev pub invariant-loop-atom : goal.invariant-loop-atom
-invariant-loop-atom l = l.out.items ≡ l.initial.out.items ++ flat_map (line_at l.table l.name) (take l.atom-index l.atoms)
+abbrev pub invariant-loop-at : goal.invariant-loop-at
+invariant-loop-at l = l.out.items ≡ l.initial.out.items ++ flat_map (line_at l.table l.name) (take l.at l.atoms)
