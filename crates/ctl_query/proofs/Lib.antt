@@ -26,6 +26,7 @@ pub mod PackageLemmas
 pub mod PinnedLemmas
 pub mod PrefixLemmas
 pub mod ProviderLemmas
+pub mod RepeatLemmas
 pub mod RisingLemmas
 pub mod RowLemmas
 pub mod RowOfferLemmas

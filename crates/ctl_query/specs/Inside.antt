@@ -1,3 +1,4 @@
 -- How this crate's own functions go about the answers. Callers need none of it.
 pub mod Namings
+pub mod Repeats
 pub mod SourceLines

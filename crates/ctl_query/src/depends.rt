@@ -1,10 +1,11 @@
 //! The answer to `depends`.
 
-ghost use Rattle.std.specs.Prelude.{◌≡◌, ◌++◌, ◌+◌, ◌≤◌, OnOk, option_copied};
+ghost use Rattle.std.specs.Prelude.{◌≡◌, ◌++◌, ◌+◌, ◌≤◌, OnOk, IfOk, IfSome, option_copied};
 ghost use Rattle.ctl_policy.specs.Priority.{world_of};
 ghost use Rattle.ctl_query.specs.Depends.{atom_lines, group_lines, field_lines, lead_lines, has_lines};
 ghost use Rattle.ctl_query.specs.Depends.{depends_fields, first_lead, lead_shown, depends_one, depends_text};
 ghost use Rattle.ctl_query.specs.Depends.{atom_pairs, group_pairs, field_pairs, lead_pairs, one_pairs, depends_pairs, providers};
+ghost use Rattle.ctl_query.specs.Inside.Repeats.{IsWritten};
 ghost use Rattle.ctl_query.specs.NameSet.{lent_names};
 ghost use Rattle.ctl_query.specs.Packages.{rows_of};
 ghost use Rattle.ctl_query.specs.Texts.{if_known};
@@ -14,6 +15,7 @@ use crate::leads::stanza_under;
 use crate::providers::{append_providers, is_any_kept, providers};
 use crate::query::DependsOptions;
 use crate::relation_lines::{Alternative, append_atom_line};
+use crate::repeats::{Written, append_again, are_same};
 use crate::text::{append_line, append_unknown};
 use ctl_relation::{Bytes, FieldKind, Group, Steps};
 use ctl_stanza::Stanza;
@@ -31,6 +33,17 @@ fn depends_fields(important: bool) -> &'static [FieldKind]
     } else {
         fields
     }
+}
+
+// From so many tests on the lines of a group are kept in mind.
+const MANY: u128 = 64;
+
+/// A group of a field, and the one before it, if its lines are kept in mind.
+#[derive(Drop)]
+struct Next<'g> {
+    field: FieldKind,
+    last: Option<Written<'g>>,
+    group: Group<'g>,
 }
 
 /// What `depends` is asked of, and what it is to show.
@@ -101,6 +114,39 @@ impl<'a> Depending<'a> {
         Ok(())
     }
 
+    /// Appends the lines of a group. Those of one that took many tests are kept in mind: where it stands there again, they are
+    /// written again, and nothing is tested.
+    #[tactic(auto, using(crate::proofs::RepeatLemmas::is_written))]
+    fn append_next<'g>(
+        &self,
+        next: Next<'g>,
+        out: &mut Vec<u8>,
+        steps: &mut Steps,
+    ) -> Result<Option<Written<'g>>, AllocError>
+        requires { IfSome next.last (IsWritten (world_of self.now.asking.now) self.now.options.installed next.field out.old.items) }
+        ensures text { OnOk result (out.new.items ≡ out.old.items
+            ++ group_lines (world_of self.now.asking.now) self.now.options.installed next.entry.field next.entry.group) }
+        ensures last { IfOk result (λ last. IfSome last
+            (IsWritten (world_of self.now.asking.now) self.now.options.installed next.entry.field out.new.items)) }
+        ensures steps { steps.new ≤ steps.old + group_pairs (world_of self.now.asking.now) next.entry.group }
+        ensures kept { steps.old ≤ steps.new }
+    {
+        let Next { field, last, group } = next;
+        let start = out.len();
+        if let Some(last) = last {
+            if are_same(&group, &last.group) {
+                append_again(last.start, out)?;
+                return Ok(Some(Written { group, start }));
+            }
+        }
+        let before = steps.count();
+        self.append_group(field, &group, out, steps)?;
+        if steps.count() < before.saturating_add(MANY) {
+            return Ok(None);
+        }
+        Ok(Some(Written { group, start }))
+    }
+
     /// Appends the lines of a field.
     #[tactic(auto, unfolding(crate::specs::Depends::field_lines, crate::specs::Depends::field_pairs))]
     fn append_field(
@@ -115,8 +161,10 @@ impl<'a> Depending<'a> {
         ensures steps { steps.new ≤ steps.old + field_pairs (world_of self.now.asking.now) lead.now field }
         ensures kept { steps.old ≤ steps.new }
     {
+        let mut last = None;
         'groups: for group in lead.groups(field) {
-            self.append_group(field, &group, out, steps)?;
+            let next = Next { field, last, group };
+            last = self.append_next(next, out, steps)?;
         }
         Ok(())
     }

@@ -20,6 +20,7 @@ mod providers;
 mod query;
 mod query_name;
 mod relation_lines;
+mod repeats;
 mod reverse_depends;
 mod show;
 mod show_package;
