@@ -1,10 +1,9 @@
 -- Groups that stand there again, and their lines.
-use Rattle.std.proofs.Common.{◌≡◌, ◌∙◌, ◌≤◌, ◌+◌, ℕ, Bool, List, [], ◌∷◌, ◌++◌, length, drop, Option, Some, None, slice_get, ap, sym, subst, arith, length-append}
+use Rattle.std.proofs.Common.{◌≡◌, ◌∙◌, ◌+◌, ℕ, Bool, List, [], ◌∷◌, ◌++◌, length, drop, Option, Some, None, slice_get, ap, sym, subst, arith, length-append}
 use Rattle.std.proofs.lemmas.List.{drop_at}
 use Rattle.ctl_relation.specs.declared.field_kind.FieldKind.{FieldKind}
 use Rattle.ctl_relation.specs.Parts.{AtomParts}
 use Rattle.ctl_policy.specs.Priority.{World}
-use Rattle.ctl_query.specs.declared.repeats.Written.{Written}
 use Rattle.ctl_query.specs.Depends.{group_lines}
 use Rattle.ctl_query.specs.Inside.Repeats.{IsWritten}
 

@@ -9,6 +9,7 @@ ghost use Rattle.ctl_query.specs.ReverseDepends.{asking_line};
 ghost use Rattle.ctl_query.specs.Inside.Namings.{Naming, lent_naming, further_in, further_at, naming_in, naming_at};
 ghost use Rattle.ctl_query.specs.Inside.Namings.{line_of, joined_naming, closed_line, lines_behind};
 
+use crate::ahead::look_ahead;
 use crate::asking::Asking;
 use crate::interest::stanzas_are_found;
 use crate::lead_atoms::{LeadAtom, list_atoms};
@@ -175,8 +176,9 @@ pub(crate) fn append_by_atoms(
     stanzas_are_found(asking);
     let atoms = list_atoms(asking.alloc(), table, asking.namers(name))?;
     let mut found = None;
-    'atoms: for atom in atoms {
-        let naming = naming_at(table, name, atom);
+    for at in 0..atoms.len() {
+        look_ahead(table, &atoms, at, out)?;
+        let naming = naming_at(table, name, atoms[at]);
         found = append_next(asking, installed, found, naming, out)?;
     }
     append_found(asking, installed, found, out)?;

@@ -1,6 +1,7 @@
-use Rattle.std.proofs.Common.{◌≡◌, ◌∙◌, ◌++◌, ℕ, List, [], Option, None, option_map, flat_map, ap, sym, arith}
+use Rattle.std.proofs.Common.{◌≡◌, ◌∙◌, ◌++◌, ◌∷◌, ◌+◌, ℕ, List, [], Option, None, option_map, flat_map, drop, drop-cons, add-one, ap, sym, arith}
 use Rattle.std.specs.List.{list_any}
-use Rattle.std.proofs.lemmas.List.{nil_from_length}
+use Rattle.std.specs.Option.{option_to_list}
+use Rattle.std.proofs.Math.ListN.{drop_of_length-le}
 use Rattle.std.proofs.lemmas.List.Sorted.{list_any-IsPermutation}
 use Rattle.ctl_store.specs.Entries.{Entry}
 use Rattle.ctl_index.specs.declared.keys.AtomKey.{AtomKey}
@@ -14,6 +15,21 @@ use Rattle.ctl_query.proofs.AskerLemmas.{lines_of_all}
 use Rattle.ctl_query.proofs.NamingAtomLemmas.{atoms_tell}
 use Rattle.ctl_query.proofs.naming.append_by_atoms.Goals as goal
 
+pub loop-at-preserved : goal.loop-at-preserved
+loop-at-preserved c =
+    let atoms = c.in_ok-atoms.atoms.items in
+    let a = c.index.result.now in
+    let told = namings_at c.args.table.now c.args.name.now in
+    let left = flat_map told (drop (c.loop-at.at + 1) atoms) in
+    let lines : List Naming → List ℕ = lines_behind (world_of c.args.asking.now) c.args.installed (option_map lent_naming c.loop-at.found) in
+    let next : drop c.loop-at.at atoms ≡ a ∷ drop (c.loop-at.at + 1) atoms =
+    drop-cons atoms c.loop-at.at a (omega (arith, c.loop-at-test.true)) ∙ (λ i. sym c.index.ensures i ∷ drop (sym (add-one c.loop-at.at) i) atoms) in
+    c.in_ok-found.ensures left
+    ∙ ap (λ (text : List ℕ). text ++ lines (option_to_list (option_map lent_naming c.naming_at-naming.result) ++ left)) c.in_ok-look_ahead.ensures
+    ∙ ap (λ (o : Option Naming). c.loop-at.out.items ++ lines (option_to_list o ++ left)) c.naming_at-naming.ensures
+    ∙ ap (λ (others : List LeadAtom). c.loop-at.out.items ++ lines (flat_map told others)) (sym next)
+    ∙ c.loop-at.invariant
+
 pub returns : goal.returns
 unfolding lines_behind
 returns c =
@@ -22,11 +38,10 @@ returns c =
     let leads = leads_of (world_of store) in
     let atoms = c.in_ok-atoms.atoms.items in
     let lines : Option Naming → List LeadAtom → List ℕ = λ found left. lines_behind (world_of store) c.args.installed found (flat_map (namings_at c.args.table.now name) left) in
-    let none : c.atoms.atom-iterator.rest.items ≡ [] = nil_from_length c.atoms.atom-iterator.rest.items (omega (arith, c.in-None.ensures.steps.0)) in
+    let none : drop c.loop-at.at atoms ≡ [] = drop_of_length-le atoms (omega (arith, c.loop-at-test.false)) in
     c.in_ok-append_found.ensures
-    ∙ ap (λ left. c.atoms.out.items ++ lines (option_map lent_naming c.atoms.found) left) (sym none)
-    ∙ c.atoms.invariant
-    ∙ ap (λ left. c.args.out.now.items ++ lines None left) c.into_iter-atom-iterator.ensures.into_iter_gives.0
+    ∙ ap (λ left. c.loop-at.out.items ++ lines (option_map lent_naming c.loop-at.found) left) (sym none)
+    ∙ c.loop-at.invariant
     ∙ ap (λ (es : List Entry). c.args.out.now.items ++ lines_behind (world_of store) c.args.installed None (flat_map (namings_at es name) atoms)) c.requires.leads
     ∙ ap (λ namings. c.args.out.now.items ++ lines_behind (world_of store) c.args.installed None namings)
     (atoms_tell store name atoms c.in_ok-atoms.ensures.order
