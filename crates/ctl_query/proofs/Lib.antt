@@ -31,5 +31,6 @@ pub mod RisingLemmas
 pub mod RowLemmas
 pub mod RowOfferLemmas
 pub mod SilentLemmas
+pub mod SourceLemmas
 pub mod TwinLemmas
 pub mod UnmetLemmas

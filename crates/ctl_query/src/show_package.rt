@@ -26,6 +26,7 @@ use crate::lead_lines::{
 use crate::lead_table::LeadTable;
 use crate::leads::lead_in;
 use crate::policy::row_version;
+use crate::source_lines::only_source;
 use crate::text::{append_line, append_parts, append_unknown};
 use ctl_index::{NameView, Namers, Offering};
 use ctl_policy::{NewestFirst, is_source, rows_are_classes};
@@ -40,6 +41,10 @@ fn append_sources(store: &Store, row: &[StanzaKey], out: &mut Vec<u8>) -> Result
     requires { AreHeld row.now (keyed_of store.now).lists }
     ensures { OnOk result (out.new.items ≡ out.old.items ++ flat_map source_mark (sources_of row.now (keyed_of store.now).lists)) }
 {
+    if let Some(list) = only_source(store, row) {
+        append_parts(out, &[b" (", list, b")"])?;
+        return Ok(());
+    }
     'lists: for list in store.lists() {
         if is_source(store, list.0, row) {
             append_parts(out, &[b" (", list.0, b")"])?;

@@ -1,6 +1,6 @@
 //! The lines of lists as sources of rows in `policy`, made once for all rows that are shown.
 
-ghost use Rattle.std.specs.Prelude.{◌≡◌, ◌++◌, OnOk, IfOk, flat_map};
+ghost use Rattle.std.specs.Prelude.{◌≡◌, ◌++◌, ◌∷◌, [], OnOk, IfOk, IfSome, flat_map};
 ghost use Rattle.ctl_store.specs.Held.{keyed_of};
 ghost use Rattle.ctl_store.specs.Keys.{AreHeld};
 ghost use Rattle.ctl_policy.specs.Priority.{world_of};
@@ -14,6 +14,9 @@ use ctl_relation::Bytes;
 use ctl_store::{StanzaKey, Store};
 use std::alloc::{AllocError, Global};
 use std::marker::Model;
+
+// Of so many lists the source of a row is looked for among their lines.
+const FEW: usize = 8;
 
 /// The lines of the lists of a store, seen as what is held in it.
 #[derive(Drop)]
@@ -34,6 +37,19 @@ impl<'a> Model for SourceLines<'a> {
     ghost view = { λ it. it.store.now };
 
     ghost invariant = { λ it. lent_lines it.lines.items ≡ lines_of_lists (world_of it.store.now) };
+}
+
+/// The list that holds the stanza of a row of one stanza. Of another row none is told.
+pub(crate) fn only_source<'a>(store: &'a Store, row: &[StanzaKey]) -> Option<&'a [u8]>
+    requires { AreHeld row.now (keyed_of store.now).lists }
+    ensures { IfSome result (λ list. sources_of row.now (keyed_of store.now).lists ≡ list.now ∷ []) }
+{
+    // That no name stands twice among the lists is said here.
+    let _lists = store.lists();
+    match row.split_first() {
+        Some((key, others)) if others.is_empty() => Some(store.list_of(*key)),
+        _ => None,
+    }
 }
 
 fn line_of(alloc: Global, store: &Store, list: &[u8]) -> Result<Bytes, AllocError>
@@ -96,6 +112,12 @@ impl<'a> SourceLines<'a> {
         ensures { OnOk result (out.new.items ≡ out.old.items
             ++ flat_map (source_line (world_of self.now)) (sources_of row.now (keyed_of self.now).lists)) }
     {
+        if self.lines.len() > FEW {
+            if let Some(list) = only_source(self.store, row) {
+                append_source(self.store, list, out)?;
+                return Ok(());
+            }
+        }
         append_lines(self.store, &self.lines, row, out)?;
         Ok(())
     }
