@@ -1,6 +1,6 @@
 //! The groups of a relation field.
 
-ghost use Rattle.std.specs.Prelude.{◌≡◌, ◌≤◌, ◌<◌, ◌^◌, ◌==◌, [], length, drop, slice_get};
+ghost use Rattle.std.specs.Prelude.{◌≡◌, ◌≤◌, ◌<◌, ◌^◌, ◌==◌, length, drop, slice_get};
 ghost use Rattle.ctl_relation.specs.HeldPlaces.{AreHeld, Rise, groups_held, count_below, count_before, behind_earlier};
 ghost use Rattle.ctl_relation.specs.Named.{groups_name};
 
@@ -78,13 +78,6 @@ impl<'a> Groups<'a> {
             starts,
             further,
         }
-    }
-
-    /// No groups.
-    pub fn empty() -> Groups<'a>
-        ensures { result ≡ [] }
-    {
-        Groups::new(FieldKind::PreDepends, &[], &[], &[])
     }
 
     /// How many groups there are.

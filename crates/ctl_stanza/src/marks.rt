@@ -149,5 +149,5 @@ pub(crate) fn kept_groups<'a>(marks: &'a [u32], bytes: &'a [u8], kind: FieldKind
         }
         left = first.behind;
     }
-    Groups::empty()
+    Groups::new(kind, &[], &[], &[])
 }

@@ -287,7 +287,7 @@ impl Stanza {
         ensures sizes { All IsSmallGroup result }
     {
         match kind {
-            FieldKind::Provides => Groups::empty(),
+            FieldKind::Provides => Groups::new(kind, &[], &[], &[]),
             _ => kept_groups(&self.marks, &self.bytes, kind),
         }
     }

@@ -281,7 +281,7 @@ fn say_constant(what: &str, words: &mut Words<'_, '_>, said: &mut Said) {
         "four" => say_fields(FieldKind::four(), said),
         "signs" => say_signs(said),
         "wanted" => say_places_of_fields(said),
-        "none" => say_groups(Groups::empty(), said),
+        "none" => say_groups(Groups::new(FieldKind::PreDepends, &[], &[], &[]), said),
         "operators" => say_operators(said),
         _ => say_field(what, words, said),
     }

@@ -44,4 +44,4 @@ fields-preserved c = λ all are.
     left-next c.args.bytes.now c.fields.left.now c.first_field-first.result c.args.kind all mine first (λ same. c.if-first-place.false (same ∙ sym c.place.ensures))
 
 pub returns : goal.returns
-returns c = λ all are. c.empty.ensures ∙ none-left c.args.bytes.now c.fields.left.now c.args.kind all (c.fields.invariant all are) (sym c.is_empty.ensures ∙ c.fields-test.false)
+returns c = λ all are. c.new-2.ensures ∙ none-left c.args.bytes.now c.fields.left.now c.args.kind all (c.fields.invariant all are) (sym c.is_empty.ensures ∙ c.fields-test.false)
