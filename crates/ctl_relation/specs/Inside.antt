@@ -1,5 +1,6 @@
 -- How this crate holds its values, and what its own functions say. Callers need none of it.
 pub mod SmallBytes
+pub mod Offer
 pub mod Cut
 pub mod ByteClass
 pub mod Front

@@ -1,13 +1,13 @@
 //! Byte strings that take no memory of their own where they are short.
 
-ghost use Rattle.std.specs.Prelude.{◌≡◌, IfOk};
+ghost use Rattle.std.specs.Prelude.{◌≡◌, ◌≤◌, length, take, IfOk};
 
 use std::alloc::{AllocError, Global};
 use std::marker::Model;
 use std::mem::size_of;
 
 // How many bytes stand in the value itself. Nearly all names and versions have no more.
-const SHORT_LEN: usize = 30;
+pub(crate) const SHORT_LEN: usize = 30;
 
 #[derive(Drop)]
 enum Held {
@@ -36,6 +36,17 @@ impl Model for SmallBytes {
     ghost invariant = { λ bytes. IsHeld bytes.held };
 }
 
+/// The places of a short byte string, of which it fills the first ones.
+pub(crate) fn short_places(slice: &[u8]) -> [u8; SHORT_LEN]
+    requires { length slice.now ≤ 30 }
+    ensures { take (length slice.now) result ≡ slice.now }
+{
+    let mut places = [0; SHORT_LEN];
+    let (front, _) = places.split_at_mut(slice.len());
+    front.copy_from_slice(slice);
+    places
+}
+
 impl SmallBytes {
     /// A copy of a slice, with no spare room beside that of a short one.
     pub(crate) fn from_slice(alloc: Global, slice: &[u8]) -> Result<SmallBytes, AllocError>
@@ -45,10 +56,7 @@ impl SmallBytes {
             let held = Held::Long(Vec::from_slice(alloc, slice)?);
             return Ok(SmallBytes { held });
         }
-        let mut places = [0; SHORT_LEN];
-        let (front, _) = places.split_at_mut(slice.len());
-        front.copy_from_slice(slice);
-        let held = Held::Short(slice.len() as u8, places);
+        let held = Held::Short(slice.len() as u8, short_places(slice));
         Ok(SmallBytes { held })
     }
 
