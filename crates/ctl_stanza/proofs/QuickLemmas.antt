@@ -19,6 +19,7 @@ use Rattle.ctl_stanza.specs.Fields.{value_of, continues, continued, field_at, fi
 use Rattle.ctl_stanza.specs.Faults.{fault_or, cause_of, first_fault, or_else, whole_fault}
 use Rattle.ctl_stanza.specs.declared.list_kind.ListKind.{ListKind}
 use Rattle.ctl_stanza.specs.HeldFields.{IsText, IsPlainAt, ArePlain, loose_bodies, IsReadFrom, AreWithin, AreBelow, StandsAt, shown_field, shown_fields}
+use Rattle.ctl_stanza.specs.NameSlots.{AreTakenBy}
 use Rattle.ctl_stanza.specs.Text.{is_gap, IsFirstPiece, piece, piece_fault}
 use Rattle.ctl_stanza.specs.Quick.{IsUpTo, AreUpTo, end_behind, IsPlainField, AddsPlain, IsCutOff, IsAccepted}
 use Rattle.ctl_stanza.proofs.LineLemmas.{IsLine}
@@ -324,6 +325,21 @@ reached-end text left count fields found is gap cut =
       room = ap length whole ∙ length-append lines (lines_of left) ∙ ap₂ ◌+◌ (size ∙ sym cut.count_is) (ap length left_is);
       less = omega (arith, ap length cut.behind_is, reached.0, cut.some);
     }
+
+-- its lines are those up to there
+reached-lines : (text left : List ℕ) (count : ℕ) (fields : List Field) (found : Accepted) → Reached text left count fields → IsCutOff text left count found → lines_of found.text.now ≡ take count (lines_of text)
+reached-lines text left count fields found is cut =
+    let lines = take count (lines_of text) in
+    let front = text_of_lines lines in
+    let text_is : found.text.now ≡ front =
+    cut.text_is ∙ ap (λ n. take n text) (sym (reached-at text left count fields is).1) ∙ ap (take (length front)) is.joined ∙ take-append_seam front left in
+    ap lines_of text_is ∙ are_lines lines is.single
+
+pub names-if : (text left : List ℕ) (count names : ℕ) (fields : List Field) (found : Option Accepted) → Reached text left count fields → AreTakenBy (take count (lines_of text)) names
+    → IfSome found (λ stanza. IsCutOff text left count stanza) → IfSome found (λ stanza. stanza.names ≡ names) → IfSome found (λ stanza. AreTakenBy (lines_of stanza.text.now) stanza.names)
+names-if text left count names fields None is taken cut same = cut
+names-if text left count names fields (Some stanza) is taken cut same =
+    subst (λ lines. AreTakenBy lines stanza.names) (sym (reached-lines text left count fields stanza is cut)) (subst (AreTakenBy (take count (lines_of text))) (sym same) taken)
 
 pub end-if : (text left : List ℕ) (count : ℕ) (fields : List Field) (found : Option Accepted) → Reached text left count fields → StartsGap (lines_of left) → IfSome found (λ stanza. IsCutOff text left count stanza)
     → IfSome found (λ stanza. IsAccepted text stanza fields)

@@ -1,11 +1,17 @@
 -- Slots of names given so far.
-use Rattle.std.proofs.Common.{◌≡◌, ◌∙◌, ℕ, ◌<◌, zero, suc, Bool, true, false, ◌||◌, ◌&&◌, List, [], ◌∷◌, length, map, get_or, set, refl, sym, ap, ap₂, subst}
-use Rattle.std.proofs.lemmas.List.{get_or-set_same}
+use Rattle.std.proofs.Common.{◌≡◌, ◌∙◌, ℕ, ◌^◌, suc, Bool, true, false, ◌||◌, ◌&&◌, List, [], ◌∷◌, ◌++◌, take, map, None, refl, sym, ap, ap₂, subst, arith, bit_or, eq-eqb}
+use Rattle.std.proofs.lemmas.Bool.{cond-false, eqb-true}
+use Rattle.std.proofs.lemmas.Nat.Bits.{bit_at_or, bit_at-lt, bit_at-pow_same}
+use Rattle.std.specs.Int.{bit_at}
 use Rattle.std.proofs.lemmas.Slice.Eq.{bytes_eq-Decides}
 use Rattle.std.specs.List.{list_any}
 use Rattle.std.specs.Str.{bytes_eq, str_to_ascii_lowercase}
-use Rattle.ctl_stanza.specs.Fields.{is_same_name}
-use Rattle.ctl_stanza.specs.NameSlots.{slot_in, slot_of, given_names, is_given, AreTaken}
+use Rattle.ctl_stanza.specs.declared.line_kind.LineKind.{LineKind}
+use Rattle.ctl_stanza.specs.declared.line_kind.LineKind.TheVariants.{Blank, Field, Continuation, Faulty}
+use Rattle.ctl_stanza.specs.LineKind.{kind_of}
+use Rattle.ctl_stanza.specs.Fields.{is_same_name, body_named, field_at, fields_from, fields_of_lines}
+use Rattle.ctl_stanza.specs.Faults.{name_in, names_of, has_name}
+use Rattle.ctl_stanza.specs.NameSlots.{slot_in, slot_of, has_slot, with_slot, is_taken, given_names, is_given, AreTaken, AreTakenBy}
 use Rattle.ctl_stanza.specs.Given.{Given}
 use Rattle.ctl_stanza.specs.HeldNames.{holds}
 use Rattle.ctl_stanza.specs.declared.names_given.NamesGiven.TheInside.{Inside}
@@ -15,26 +21,77 @@ pub same-slot : (name other : List ℕ) → is_same_name name other ≡ true →
 same-slot name other same =
     ap slot_in ((bytes_eq-Decides (str_to_ascii_lowercase name) (str_to_ascii_lowercase other)).0 same)
 
--- a slot that is taken stays so where one is taken
-set-keeps : (slots : List Bool) (i j : ℕ) → get_or slots j false ≡ true → get_or (set slots i true) j false ≡ true
-set-keeps [] i j e = e
-set-keeps (s ∷ slots) zero zero e = refl
-set-keeps (s ∷ slots) zero (suc j) e = e
-set-keeps (s ∷ slots) (suc i) zero e = e
-set-keeps (s ∷ slots) (suc i) (suc j) e = set-keeps slots i j e
+-- a slot that is taken stays so
+kept : (taken more slot : ℕ) → has_slot taken slot ≡ true → has_slot (bit_or taken more) slot ≡ true
+kept taken more slot is =
+    eq-eqb (bit_at (bit_or taken more) slot) 1
+    (omega (arith, bit_at_or taken more slot, bit_at-lt more slot, eqb-true (bit_at taken slot) 1 is))
 
-either-taken : (slots : List Bool) (name other : List ℕ) (same before : Bool) → is_same_name other name ≡ same → slot_of name < length slots
-    → (before ≡ true → get_or slots (slot_of other) false ≡ true) → (same || before) ≡ true
-    → get_or (set slots (slot_of name) true) (slot_of other) false ≡ true
-either-taken slots name other true before is within taken e =
-    subst (λ j. get_or (set slots (slot_of name) true) j false ≡ true) (sym (same-slot other name is)) (get_or-set_same slots (slot_of name) true false within)
-either-taken slots name other false before is within taken e = set-keeps slots (slot_of name) (slot_of other) (taken e)
+-- a slot that is added is taken
+added : (taken slot : ℕ) → has_slot (with_slot taken slot) slot ≡ true
+added taken slot =
+    eq-eqb (bit_at (bit_or taken (2 ^ slot)) slot) 1
+    (omega (arith, bit_at_or taken (2 ^ slot) slot, bit_at-lt taken slot, bit_at-pow_same slot))
+
+either-taken : (taken : ℕ) (name other : List ℕ) (same before : Bool) → is_same_name other name ≡ same
+    → (before ≡ true → is_taken taken other ≡ true) → (same || before) ≡ true
+    → is_taken (with_slot taken (slot_of name)) other ≡ true
+either-taken taken name other true before is earlier e =
+    subst (λ slot. has_slot (with_slot taken (slot_of name)) slot ≡ true) (sym (same-slot other name is)) (added taken (slot_of name))
+either-taken taken name other false before is earlier e = kept taken (2 ^ slot_of name) (slot_of other) (earlier e)
 
 -- a name more is given, whose slot is taken
-pub taken-more : (slots : List Bool) (name : List ℕ) (old new : List ℕ → Bool) → slot_of name < length slots
-    → AreTaken slots old → ((other : List ℕ) → new other ≡ (is_same_name other name || old other)) → AreTaken (set slots (slot_of name) true) new
-taken-more slots name old new within taken adds other given =
-    either-taken slots name other (is_same_name other name) (old other) refl within (taken other) (sym (adds other) ∙ given)
+pub taken-more : (taken : ℕ) (name : List ℕ) (old new : List ℕ → Bool) → AreTaken taken old
+    → ((other : List ℕ) → new other ≡ (is_same_name other name || old other)) → AreTaken (with_slot taken (slot_of name)) new
+taken-more taken name old new are adds other given =
+    either-taken taken name other (is_same_name other name) (old other) refl (are other) (sym (adds other) ∙ given)
+
+-- the slots of names stay taken
+pub taken-still : (taken slot : ℕ) (given : List ℕ → Bool) → AreTaken taken given → AreTaken (with_slot taken slot) given
+taken-still taken slot given are name e = kept taken (2 ^ slot) (slot_of name) (are name e)
+
+-- one of the first names is more
+pub first-more : (first first' others same : Bool) → first' ≡ (first || (same || false)) → (first' || others) ≡ (same || (first || others))
+first-more true first' others true e = ap (λ t. t || others) e
+first-more true first' others false e = ap (λ t. t || others) e
+first-more false first' others true e = ap (λ t. t || others) e
+first-more false first' others false e = ap (λ t. t || others) e
+
+-- ---- fields that aren't given
+
+or-none : (a b : Bool) → (a || b) ≡ false → (a ≡ false) × (b ≡ false)
+or-none true b e = absurd (cc)
+or-none false b e = (refl, e)
+
+other-too : (name other : List ℕ) (same : Bool) → is_same_name other name ≡ same → is_same_name name other ≡ false → is_same_name other name ≡ false
+other-too name other true is e =
+    let both = (bytes_eq-Decides (str_to_ascii_lowercase other) (str_to_ascii_lowercase name)).0 is in
+    let same = (bytes_eq-Decides (str_to_ascii_lowercase name) (str_to_ascii_lowercase other)).1 (sym both) in
+    absurd (cc (sym e ∙ same))
+other-too name other false is e = is
+
+-- a name that lines don't give is that of no field
+pub no-field : (name : List ℕ) (i : ℕ) (lines : List (List ℕ)) → has_name (names_of lines) name ≡ false → body_named name (fields_from i lines) ≡ None
+no-field name i [] e = refl
+no-field name i (line ∷ lines) e = at (kind_of line) (λ none. no-field name (suc i) lines none) e
+  where
+    at : (kind : LineKind) → (has_name (names_of lines) name ≡ false → body_named name (fields_from (suc i) lines) ≡ None)
+        → has_name (name_in kind line ++ names_of lines) name ≡ false → body_named name (field_at i kind line lines ++ fields_from (suc i) lines) ≡ None
+    at (Field n) rest e =
+        let both = or-none (is_same_name name (take n line)) (has_name (names_of lines) name) e in
+        cond-false _ _ _ (other-too name (take n line) (is_same_name (take n line) name) refl both.0) ∙ rest both.1
+    at Blank rest e = rest e
+    at Continuation rest e = rest e
+    at Faulty rest e = rest e
+
+-- nor is one whose slot isn't taken
+pub no-slot : (name : List ℕ) (lines : List (List ℕ)) (taken : ℕ) → AreTakenBy lines taken → is_taken taken name ≡ false
+    → None ≡ body_named name (fields_of_lines lines)
+no-slot name lines taken are clear = sym (no-field name 0 lines (by (has_name (names_of lines) name) refl))
+  where
+    by : (given : Bool) → has_name (names_of lines) name ≡ given → has_name (names_of lines) name ≡ false
+    by true is = absurd (cc (sym clear ∙ are name is))
+    by false is = is
 
 -- a name that is among the first ones is given
 pub known-given : (taken first others : Bool) → (taken && first) ≡ true → (first || others) ≡ true

@@ -427,12 +427,17 @@ walk_of size bytes fields read = record { small = short_text size bytes read.wit
 pub front_text : (size : ℕ) (old new : List ℕ) → size ≡ length old → Grows old new → take size new ≡ old
 front_text size old new e grows = ap (λ n. take n new) e ∙ ap (take (length old)) grows.joined ∙ take-append_seam old grows.more
 
+-- the lines at the front are those that the text was made of
+pub lines_in_front : (text_len : ℕ) (lines : List (List ℕ)) (old new : List ℕ) → text_len ≡ length old → old ≡ text_of_lines lines → lines_of (text_of_lines lines) ≡ lines
+    → Grows old new → lines_of (take text_len new) ≡ lines
+lines_in_front text_len lines old new size text cut grows = ap lines_of (front_text text_len old new size grows ∙ text) ∙ cut
+
 -- what the lines of a stanza without a faulty line are read to
 pub read_from : (n text_len : ℕ) (lines : List (List ℕ)) (old new : List ℕ) (fields : List Field) → text_len ≡ length old → length old < 2 ^ 32 → old ≡ text_of_lines lines → lines_of (text_of_lines lines) ≡ lines
     → new ≡ old ++ loose_bodies lines → AreWithin new fields → shown_fields new fields ≡ fields_of_lines lines → first_fault Never n [] lines ≡ None → IsReadFrom new text_len fields
 read_from n text_len lines old new fields size small text cut joined within read good =
     let front = front_text text_len old new size (record { more = loose_bodies lines; joined = joined }) in
-    let same : lines_of (take text_len new) ≡ lines = ap lines_of (front ∙ text) ∙ cut in
+    let same = lines_in_front text_len lines old new size text cut (record { more = loose_bodies lines; joined = joined }) in
     let behind : text_len ≡ length old + 0 = omega (arith, size) in
     record {
       within = omega (arith, size, ap (λ (t : List ℕ). length t) joined, length-append old (loose_bodies lines));

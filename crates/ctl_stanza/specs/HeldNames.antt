@@ -6,7 +6,7 @@ use Rattle.ctl_stanza.specs.declared.line_kind.LineKind.{LineKind}
 use Rattle.ctl_stanza.specs.declared.line_faults.LinesSeen.{LinesSeen}
 use Rattle.ctl_stanza.specs.Given.{Given}
 use Rattle.ctl_stanza.specs.Fields.{is_same_name}
-use Rattle.ctl_stanza.specs.Faults.{gives_name}
+use Rattle.ctl_stanza.specs.Faults.{gives_name, names_of, has_name}
 
 -- whether a name was given, without regard to ASCII case
 abbrev pub holds : Given → List ℕ → Bool
@@ -20,6 +20,10 @@ pub record HasSeenNone (seen : LinesSeen) : Type 0 where
   pub names : HoldsNone seen.names
   pub body : seen.body_len ≡ 0
   pub none : seen.is_none ≡ true
+
+-- the names are those that lines give
+abbrev pub HoldsNamesOf : List (List ℕ) → Given → Type 0
+HoldsNamesOf lines names = (other : List ℕ) → holds names other ≡ has_name (names_of lines) other
 
 -- one name more is given
 abbrev pub Adds : Given → Given → List ℕ → Type 0

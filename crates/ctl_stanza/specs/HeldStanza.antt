@@ -15,6 +15,8 @@ use Rattle.ctl_stanza.specs.RelationFields.{name_of}
 use Rattle.ctl_stanza.specs.Content.{Content, relations_of_kind, offers_of}
 use Rattle.ctl_stanza.specs.Sound.{IsWhole, IsSound}
 use Rattle.ctl_stanza.specs.HeldFields.{IsWalk, IsWithin, shown}
+use Rattle.ctl_stanza.specs.Lines.{lines_of}
+use Rattle.ctl_stanza.specs.NameSlots.{AreTakenBy}
 
 -- the groups of a field, in these bytes
 abbrev pub groups_in : List ℕ → MarkedField → List (List AtomParts)
@@ -89,10 +91,11 @@ abbrev pub content_in_front : ListKind → ℕ → List ℕ → Content
 content_in_front kind text_len bytes = record { text = take text_len bytes; kind = kind }
 
 -- What a stanza keeps is read from its text, which stands at the front of its bytes and has no fault.
-pub record ArePartsOf (content : Content) (bytes : List ℕ) (text_len : ℕ) (marks : List ℕ) (offers : List OfferParts) : Type 0 where
+pub record ArePartsOf (content : Content) (bytes : List ℕ) (text_len : ℕ) (marks : List ℕ) (offers : List OfferParts) (names : ℕ) : Type 0 where
   pub within : text_len ≤ length bytes
   pub walk : IsWalk content.text (drop text_len bytes)
   pub relations_are : AreRelationsOf content bytes marks
   pub offers_are : offers ≡ offers_of content
+  pub names_are : AreTakenBy (lines_of content.text) names
   pub whole : IsWhole content
   pub sound : IsSound content

@@ -12,6 +12,7 @@ mod lines;
 mod list_kind;
 mod live;
 mod marks;
+mod name_slots;
 mod names_given;
 mod offers;
 mod parts;

@@ -4,7 +4,8 @@ ghost use Rattle.std.specs.Prelude.{◌≡◌, ◌+◌, ◌<◌, ◌≤◌, ◌^
 ghost use Rattle.ctl_stanza.specs.Lines.{max_line, lent_lines};
 ghost use Rattle.ctl_stanza.specs.LineKind.{IfName};
 ghost use Rattle.ctl_stanza.specs.Faults.{body_step, continuation_cause, cause_with, first_fault};
-ghost use Rattle.ctl_stanza.specs.HeldNames.{holds, HasSeenNone, AddsNameOf};
+ghost use Rattle.ctl_stanza.specs.HeldNames.{holds, HasSeenNone, AddsNameOf, HoldsNamesOf};
+ghost use Rattle.ctl_stanza.specs.NameSlots.{AreTaken};
 
 use crate::fault::{Cause, TextFault};
 use crate::fields::value_len;
@@ -58,6 +59,13 @@ impl<'a> LinesSeen<'a> {
         self.names.clear();
         self.body_len = 0;
         self.is_none = true;
+    }
+
+    /// The slots of the names of the fields.
+    pub(crate) fn slots(&self) -> u64
+        ensures { AreTaken result (holds self.now.names) }
+    {
+        self.names.slots()
     }
 }
 
@@ -114,7 +122,8 @@ pub(crate) fn first_fault<'a>(
 ) -> Result<Option<TextFault>, AllocError>
     requires lines { first_line + length lines.now < 2 ^ 64 }
     requires none { HasSeenNone seen.old }
-    ensures { IfOk result (λ found. found ≡ first_fault repeats first_line [] (lent_lines lines.now)) }
+    ensures fault { IfOk result (λ found. found ≡ first_fault repeats first_line [] (lent_lines lines.now)) }
+    ensures names { IfOk result (λ found. found ≡ None → HoldsNamesOf (lent_lines lines.now) seen.new.names) }
 {
     for i in 0..lines.len() {
         let line = lines[i];

@@ -1,20 +1,19 @@
 //! The names of fields that a stanza has given so far.
 
-ghost use Rattle.std.specs.Prelude.{◌≡◌, ◌<◌, ◌&&◌, not, IfOk, OnOk};
+ghost use Rattle.std.specs.Prelude.{◌≡◌, ◌&&◌, not, IfOk, OnOk};
 ghost use Rattle.std.specs.List.{list_any};
 ghost use Rattle.ctl_stanza.specs.Fields.{is_same_name};
 ghost use Rattle.ctl_stanza.specs.HeldNames.{holds, HoldsNone, Adds};
-ghost use Rattle.ctl_stanza.specs.NameSlots.{slot_of};
+ghost use Rattle.ctl_stanza.specs.NameSlots.{AreTaken};
 
 use crate::fields::is_same_name;
+use crate::name_slots::{has_slot, slot_of, with_slot};
 use std::alloc::{AllocError, Global};
 use std::collections::BTreeSet;
 use std::marker::Model;
 
 /// How many names are kept as they stand in the text, and looked through one by one.
 const FIRST_NAMES: usize = 64;
-
-const SLOTS: usize = 64;
 
 /// Names of fields. Most stanzas have few, which are looked through one by one, and that only where one of them has the
 /// slot of the name.
@@ -23,8 +22,8 @@ pub(crate) struct NamesGiven<'a> {
     first: Vec<&'a [u8]>,
     // The names after the first ones, in lower case.
     others: BTreeSet<Vec<u8>>,
-    // Whether a name has the slot.
-    slots: [bool; SLOTS],
+    // The slots of all of them, a bit each.
+    slots: u64,
 }
 
 impl<'a> Model for NamesGiven<'a> {
@@ -37,17 +36,6 @@ impl<'a> Model for NamesGiven<'a> {
     ghost view = { given_names };
 
     ghost invariant = { HasTaken };
-}
-
-// The slot of a name. Names that are the same without regard to ASCII case have the same.
-fn slot_of(name: &[u8]) -> usize
-    ensures slot { result ≡ slot_of name.now }
-    ensures within { result < 64 }
-{
-    match name {
-        [] => 0,
-        [first, ..] => (name.len() % SLOTS * 7 + first.to_ascii_lowercase() as usize) % SLOTS,
-    }
 }
 
 // Whether a name is one of these.
@@ -72,7 +60,7 @@ impl<'a> NamesGiven<'a> {
         NamesGiven {
             first: Vec::new(alloc),
             others: BTreeSet::new(alloc),
-            slots: [false; SLOTS],
+            slots: 0,
         }
     }
 
@@ -82,7 +70,14 @@ impl<'a> NamesGiven<'a> {
     {
         self.first.clear();
         self.others.clear();
-        self.slots = [false; SLOTS];
+        self.slots = 0;
+    }
+
+    /// The slots of the names.
+    pub(crate) fn slots(&self) -> u64
+        ensures { AreTaken result (holds self.now) }
+    {
+        self.slots
     }
 
     /// Adds a name. Whether it is new, without regard to ASCII case.
@@ -91,10 +86,10 @@ impl<'a> NamesGiven<'a> {
         ensures held { OnOk result (Adds self.old self.new name.now) }
     {
         let slot = slot_of(name);
-        if is_among_taken(&self.first, self.slots[slot], name) {
+        if is_among_taken(&self.first, has_slot(self.slots, slot), name) {
             return Ok(false);
         }
-        self.slots[slot] = true;
+        self.slots = with_slot(self.slots, slot);
         if self.others.is_empty() && self.first.len() < FIRST_NAMES {
             self.first.push(name)?;
             return Ok(true);

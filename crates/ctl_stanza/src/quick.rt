@@ -5,6 +5,7 @@ ghost use Rattle.ctl_stanza.specs.Lines.{lines_of};
 ghost use Rattle.ctl_stanza.specs.LineKind.{kind_of, IfName};
 ghost use Rattle.ctl_stanza.specs.HeldFields.{IsText};
 ghost use Rattle.ctl_stanza.specs.HeldNames.{HasSeenNone};
+ghost use Rattle.ctl_stanza.specs.NameSlots.{AreTakenBy};
 ghost use Rattle.ctl_stanza.specs.Quick.{IsPlainAnywhere, AddsAnywhere, IsCutOff, IsAccepted};
 
 use crate::fields::{Field, Span, value_span};
@@ -21,6 +22,8 @@ pub(crate) struct Accepted<'a> {
     /// Its lines, each with a newline, which have less than 2^32 bytes.
     pub(crate) text: &'a [u8],
     pub(crate) line_count: usize,
+    /// The slots of the names of its fields.
+    pub(crate) names: u64,
     /// What stands behind it.
     pub(crate) behind: &'a [u8],
 }
@@ -96,10 +99,16 @@ fn add_field(fields: &mut Vec<Field>, here: &LineHere, kind: LineKind) -> Result
     Ok(true)
 }
 
-// The stanza of so many lines, behind which this is left of the text.
-fn cut_off<'a>(text: &'a [u8], left: &'a [u8], line_count: usize) -> Option<Accepted<'a>>
+// The stanza of so many lines, behind which this is left of the text, whose names have these slots.
+fn cut_off<'a>(
+    text: &'a [u8],
+    left: &'a [u8],
+    line_count: usize,
+    names: u64,
+) -> Option<Accepted<'a>>
     requires { length left.now ≤ length text.now }
-    ensures { IfSome result (λ found. IsCutOff text.now left.now line_count found) }
+    ensures cut { IfSome result (λ found. IsCutOff text.now left.now line_count found) }
+    ensures names { IfSome result (λ found. found.names ≡ names) }
 {
     let len = text.len() - left.len();
     if line_count == 0 || len > u32::MAX as usize {
@@ -108,6 +117,7 @@ fn cut_off<'a>(text: &'a [u8], left: &'a [u8], line_count: usize) -> Option<Acce
     Some(Accepted {
         text: text.split_at(len).0,
         line_count,
+        names,
         behind: left,
     })
 }
@@ -120,7 +130,8 @@ pub(crate) fn accept_stanza<'a>(
     text: &'a [u8],
 ) -> Result<Option<Accepted<'a>>, AllocError>
     requires { HasSeenNone seen.old }
-    ensures { IfOk result (λ found. IfSome found (λ stanza. IsAccepted text.now stanza fields.new.items)) }
+    ensures accepted { IfOk result (λ found. IfSome found (λ stanza. IsAccepted text.now stanza fields.new.items)) }
+    ensures names { IfOk result (λ found. IfSome found (λ stanza. AreTakenBy (lines_of stanza.text.now) stanza.names)) }
 {
     fields.clear();
     if !ends_with_newline(text) {
@@ -130,11 +141,11 @@ pub(crate) fn accept_stanza<'a>(
     let mut left = text;
     'lines: loop {
         let Some((line, behind)) = take_line(left) else {
-            return Ok(cut_off(text, left, count));
+            return Ok(cut_off(text, left, count, seen.slots()));
         };
         let kind = kind_of(line);
         if let LineKind::Blank = kind {
-            return Ok(cut_off(text, left, count));
+            return Ok(cut_off(text, left, count, seen.slots()));
         }
         if is_too_long(line) {
             return Ok(None);

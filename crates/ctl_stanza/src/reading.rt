@@ -5,6 +5,7 @@ ghost use Rattle.ctl_stanza.specs.Lines.{lines_of, lent_lines, AreLines};
 ghost use Rattle.ctl_stanza.specs.Faults.{IsMemoryAtZero, Tells};
 ghost use Rattle.ctl_stanza.specs.Laws.{AreStanzasOf, HasNoFault, TellsLeastFault};
 ghost use Rattle.ctl_stanza.specs.HeldFields.{IsReadFrom, AreBelow};
+ghost use Rattle.ctl_stanza.specs.NameSlots.{AreTakenBy};
 ghost use Rattle.ctl_stanza.specs.Text.{IsFirstPiece, is_gap, piece_content, piece_fault, piece};
 ghost use Rattle.ctl_stanza.specs.Text.{read_text, with_contents, Reads, TellsFault};
 
@@ -73,6 +74,7 @@ fn read_piece(
 {
     let mut seen = LinesSeen::new(alloc);
     let found = first_fault(alloc, Repeats::Never, &mut seen, lines, first_line)?;
+    let names = seen.slots();
     // The names of a large stanza take more room than the stanza.
     seen.clear();
     if let Some(fault) = found {
@@ -81,7 +83,7 @@ fn read_piece(
     if is_blank(lines[0]) {
         return Ok(());
     }
-    let stanza = read_stanza(alloc, lines, first_line, kind)?;
+    let stanza = read_stanza(alloc, lines, first_line, kind, names)?;
     stanzas.push(stanza)?;
     Ok(())
 }
@@ -105,6 +107,7 @@ fn stanza_of_accepted(
     requires read { IsReadFrom accepted.now.text.now (length accepted.now.text.now) fields.now }
     requires below { AreBelow accepted.now.line_count fields.now }
     requires stanza { is_gap (lines_of accepted.now.text.now) ≡ false }
+    requires names { AreTakenBy (lines_of accepted.now.text.now) accepted.now.names }
     ensures stanza { IfOk result (λ stanza. stanza ∷ [] ≡ piece_content from.kind (lines_of accepted.now.text.now)) }
     ensures whole { OnOk result (piece_fault from.kind (piece from.line (lines_of accepted.now.text.now)) ≡ None) }
     ensures fault { IfErr result (Tells (piece_fault from.kind (piece from.line (lines_of accepted.now.text.now)))) }
@@ -115,6 +118,7 @@ fn stanza_of_accepted(
         bytes,
         text_len: accepted.text.len() as u32,
         kind: from.kind,
+        names: accepted.names,
     };
     stanza_of_fields(alloc, held, fields, from.line, relations)
 }

@@ -8,6 +8,7 @@ ghost use Rattle.ctl_stanza.specs.Content.{content_of, offers_of};
 ghost use Rattle.ctl_stanza.specs.HeldStanza.{content_in_front, AreRelationsOf};
 ghost use Rattle.ctl_stanza.specs.HeldFields.{IsWalk, IsReadFrom, shown_fields};
 ghost use Rattle.ctl_stanza.specs.Faults.{first_fault, is_missing, whole_fault, stanza_fault, IsMemoryAtZero, Tells};
+ghost use Rattle.ctl_stanza.specs.NameSlots.{AreTakenBy};
 ghost use Rattle.ctl_stanza.specs.Status.{is_live_by};
 ghost use Rattle.ctl_stanza.specs.declared.repeats.Repeats.TheVariants.{Never};
 
@@ -19,6 +20,7 @@ use crate::lines::text_of_lines;
 use crate::list_kind::ListKind;
 use crate::live::{LiveParts, RelationMarks, read_live};
 use crate::marks::kept_groups;
+use crate::name_slots::is_taken;
 use crate::offers::{Offers, offers_of};
 use crate::status::liveness;
 use crate::walk::{body_in, count_fields, take_field};
@@ -34,6 +36,8 @@ pub struct Stanza {
     bytes: Vec<u8>,
     text_len: u32,
     kind: ListKind,
+    // The slots of the names of its fields: most fields that it hasn't are told by them.
+    names: u64,
     // None where the stanza isn't live, as there are no offers then: its relation fields. The version is that of the first
     // offer.
     marks: Vec<u32>,
@@ -49,7 +53,7 @@ impl Model for Stanza {
     ghost view = { λ s. content_in_front s.kind s.text_len s.bytes.items };
 
     ghost invariant = { λ s. ArePartsOf (content_in_front s.kind s.text_len s.bytes.items)
-        s.bytes.items s.text_len s.marks.items s.offers };
+        s.bytes.items s.text_len s.marks.items s.offers s.names };
 }
 
 /// The bytes of a stanza: its text, and behind it the bodies that don't stand in it in one piece.
@@ -58,6 +62,8 @@ pub(crate) struct StanzaBytes {
     pub(crate) bytes: Vec<u8>,
     pub(crate) text_len: u32,
     pub(crate) kind: ListKind,
+    /// The slots of the names of its fields.
+    pub(crate) names: u64,
 }
 
 // The stanza of what was read.
@@ -66,6 +72,7 @@ fn stanza_of(held: StanzaBytes, marks: Vec<u32>, offers: Offers) -> Stanza
     requires walk { IsWalk (take held.text_len held.bytes.items) (drop held.text_len held.bytes.items) }
     requires relations { AreRelationsOf (content_in_front held.kind held.text_len held.bytes.items) held.bytes.items marks.items }
     requires offers { offers ≡ offers_of (content_in_front held.kind held.text_len held.bytes.items) }
+    requires names { AreTakenBy (lines_of (take held.text_len held.bytes.items)) held.names }
     requires no_fault { stanza_fault held.kind 0 (lines_of (take held.text_len held.bytes.items)) ≡ None }
     ensures { result ≡ content_in_front held.kind held.text_len held.bytes.items }
 {
@@ -74,11 +81,13 @@ fn stanza_of(held: StanzaBytes, marks: Vec<u32>, offers: Offers) -> Stanza
         bytes,
         text_len,
         kind,
+        names,
     } = held;
     Stanza {
         bytes,
         text_len,
         kind,
+        names,
         marks,
         offers,
     }
@@ -93,6 +102,7 @@ fn other_stanza(
 ) -> Result<Stanza, TextFault>
     requires lines { All (λ field. first_line + field.line < 2 ^ 64) fields.now }
     requires read { IsReadFrom held.bytes.items held.text_len fields.now }
+    requires names { AreTakenBy (lines_of (take held.text_len held.bytes.items)) held.names }
     requires not_missing { is_missing held.kind (shown_fields held.bytes.items fields.now) ≡ false }
     requires not_live { is_live_by held.kind (shown_fields held.bytes.items fields.now) ≡ false }
     ensures stanza { IfOk result (λ stanza. stanza ≡ content_in_front held.kind held.text_len held.bytes.items) }
@@ -118,6 +128,7 @@ fn live_stanza(
 ) -> Result<Stanza, TextFault>
     requires lines { All (λ field. first_line + field.line < 2 ^ 64) fields.now }
     requires read { IsReadFrom held.bytes.items held.text_len fields.now }
+    requires names { AreTakenBy (lines_of (take held.text_len held.bytes.items)) held.names }
     requires not_missing { is_missing held.kind (shown_fields held.bytes.items fields.now) ≡ false }
     requires live { is_live_by held.kind (shown_fields held.bytes.items fields.now) ≡ true }
     ensures stanza { IfOk result (λ stanza. stanza ≡ content_in_front held.kind held.text_len held.bytes.items) }
@@ -149,6 +160,7 @@ pub(crate) fn stanza_of_fields(
 ) -> Result<Stanza, TextFault>
     requires lines { All (λ field. first_line + field.line < 2 ^ 64) fields.now }
     requires read { IsReadFrom held.bytes.items held.text_len fields.now }
+    requires names { AreTakenBy (lines_of (take held.text_len held.bytes.items)) held.names }
     ensures stanza { IfOk result (λ stanza. stanza ≡ content_in_front held.kind held.text_len held.bytes.items) }
     ensures whole { OnOk result (whole_fault held.kind first_line (shown_fields held.bytes.items fields.now) ≡ None) }
     ensures fault { IfErr result (Tells (whole_fault held.kind first_line (shown_fields held.bytes.items fields.now))) }
@@ -168,17 +180,19 @@ pub(crate) fn stanza_of_fields(
     }
 }
 
-/// Reads a stanza that has no faulty line, whose lines count from `first_line`. One of 2^32 bytes or more
-/// is taken for want of memory.
+/// Reads a stanza that has no faulty line, whose lines count from `first_line`, and whose names have these slots. One of
+/// 2^32 bytes or more is taken for want of memory.
 pub(crate) fn read_stanza(
     alloc: Global,
     lines: &[&[u8]],
     first_line: u64,
     kind: ListKind,
+    names: u64,
 ) -> Result<Stanza, TextFault>
     requires lines { first_line + length lines.now < 2 ^ 64 }
     requires no_newline { AreLines (lent_lines lines.now) }
     requires no_fault { first_fault Never first_line [] (lent_lines lines.now) ≡ None }
+    requires names { AreTakenBy (lent_lines lines.now) names }
     ensures stanza { IfOk result (λ stanza. stanza ≡ content_of kind (lent_lines lines.now)) }
     ensures whole { OnOk result (whole_fault kind first_line (fields_of_lines (lent_lines lines.now)) ≡ None) }
     ensures fault { IfErr result (Tells (whole_fault kind first_line (fields_of_lines (lent_lines lines.now)))) }
@@ -194,6 +208,7 @@ pub(crate) fn read_stanza(
         bytes,
         text_len,
         kind,
+        names,
     };
     let mut relations = RelationMarks::new(alloc);
     stanza_of_fields(alloc, held, &fields, first_line, &mut relations)
@@ -241,6 +256,9 @@ impl Stanza {
     pub fn field(&self, name: &[u8]) -> Option<&[u8]>
         ensures { option_map (λ body. body.now) result ≡ body_of self.now name.now }
     {
+        if !is_taken(self.names, name) {
+            return None;
+        }
         let (text, loose) = self.bytes.split_at(self.text_len as usize);
         body_in(text, loose, name)
     }

@@ -10,16 +10,16 @@ use Rattle.ctl_stanza.proofs.line_faults.first_fault.Goals as goal
 abbrev now : Bor (List ℕ) → List ℕ
 now x = x.now
 
-pub returns-then-is_too_long : goal.returns-then-is_too_long
-returns-then-is_too_long c =
+pub returns-then-is_too_long-clause-fault : goal.returns-then-is_too_long-clause-fault
+returns-then-is_too_long-clause-fault c =
     let lines = lent_lines c.args.lines.now in
     let i = c.loop-i.i in
     let lt : i < length lines = omega (arith, length-map c.args.lines.now now) in
     let here = get_or-map now c.args.lines.now i _ [] c.loop-i-test.true in
     sym (c.loop-i.invariant.told ∙ turn-fault c.args.repeats lines (c.args.first_line + i) i _ lt (cause-long c.args.repeats lines i _ here (sym c.is_too_long.ensures ∙ c.if-is_too_long.true)))
 
-pub returns-in-Some : goal.returns-in-Some
-returns-in-Some c =
+pub returns-in-Some-clause-fault : goal.returns-in-Some-clause-fault
+returns-in-Some-clause-fault c =
     let lines = lent_lines c.args.lines.now in
     let i = c.loop-i.i in
     let lt : i < length lines = omega (arith, length-map c.args.lines.now now) in

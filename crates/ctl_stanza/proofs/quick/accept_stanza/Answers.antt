@@ -7,18 +7,23 @@ use Rattle.std.proofs.lemmas.Bool.{ne_eqb}
 use Rattle.ctl_stanza.proofs.FaultLemmas.{cause-is, has_name-next, body_len-next}
 use Rattle.ctl_stanza.proofs.PieceLemmas.{gap-none, gap-blank}
 use Rattle.ctl_stanza.proofs.WalkLemmas.{text-behind}
-use Rattle.ctl_stanza.proofs.QuickLemmas.{next-is, blank-is, not-blank, reached-next, end-if}
+use Rattle.ctl_stanza.proofs.QuickLemmas.{next-is, blank-is, not-blank, reached-next, end-if, names-if}
 use Rattle.ctl_stanza.proofs.quick.accept_stanza.Goals as goal
 
-pub returns-in_default : goal.returns-in_default
-returns-in_default c =
-    end-if c.args.text.now c.lines.left.now c.lines.count c.lines.fields.items c.cut_off.result c.lines.invariant.reached (gap-none c.lines.left.now c.in_default.ensures.none) c.cut_off.ensures
+pub returns-in_default-clause-accepted : goal.returns-in_default-clause-accepted
+returns-in_default-clause-accepted c =
+    end-if c.args.text.now c.lines.left.now c.lines.count c.lines.fields.items c.cut_off.result c.lines.invariant.reached (gap-none c.lines.left.now c.in_default.ensures.none) c.cut_off.ensures.cut
 
-pub returns-in-Blank : goal.returns-in-Blank
-returns-in-Blank c =
+pub returns-in-Blank-clause-accepted : goal.returns-in-Blank-clause-accepted
+returns-in-Blank-clause-accepted c =
     let blank = blank-is c.in-Some.line.now (sym c.kind_of-kind.ensures.kind ∙ c.in-Blank.is) in
     end-if c.args.text.now c.lines.left.now c.lines.count c.lines.fields.items c.cut_off-in-Blank.result c.lines.invariant.reached (gap-blank (lines_of c.lines.left.now) _ c.in-Some.line.now c.in-Some.ensures.lines blank)
-    c.cut_off-in-Blank.ensures
+    c.cut_off-in-Blank.ensures.cut
+
+pub returns-in-Blank-clause-names : goal.returns-in-Blank-clause-names
+returns-in-Blank-clause-names c =
+    names-if c.args.text.now c.lines.left.now c.lines.count _ c.lines.fields.items c.cut_off-in-Blank.result c.lines.invariant.reached
+    (λ name given. c.slots-in-Blank.ensures name (c.lines.invariant.names name ∙ given)) c.cut_off-in-Blank.ensures.cut c.cut_off-in-Blank.ensures.names
 
 pub add_field-requires-clause-text : goal.add_field-requires-clause-text
 add_field-requires-clause-text c =

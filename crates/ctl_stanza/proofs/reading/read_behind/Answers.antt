@@ -21,7 +21,7 @@ pieces-preserved-in-Some-found c =
     let left = c.pieces.left.now in
     let accepted = c.in-Some-found.accepted in
     let is : IsAccepted left accepted c.accept_stanza.new.fields.items =
-    subst (λ found. IfSome found (λ stanza. IsAccepted left stanza c.accept_stanza.new.fields.items)) c.in-Some-found.is c.in_ok-found.ensures in
+    subst (λ found. IfSome found (λ stanza. IsAccepted left stanza c.accept_stanza.new.fields.items)) c.in-Some-found.is c.in_ok-found.ensures.accepted in
     record {
       seen = c.clear.ensures;
       room = omega (arith, is.room, c.pieces.invariant.room);

@@ -6,4 +6,7 @@ use Rattle.ctl_stanza.proofs.reading.read_piece.Goals as goal
 
 pub returns-in-Some-clause-memory : goal.returns-in-Some-clause-memory
 returns-in-Some-clause-memory c =
-    never-memory c.in-Some.fault _ (first_fault-memory Never c.args.first_line [] (lent_lines c.args.lines.now)) (sym c.in_ok-found.ensures ∙ c.in-Some.is)
+    never-memory c.in-Some.fault _ (first_fault-memory Never c.args.first_line [] (lent_lines c.args.lines.now)) (sym c.in_ok-found.ensures.fault ∙ c.in-Some.is)
+
+pub read_stanza-requires-clause-names : goal.read_stanza-requires-clause-names
+read_stanza-requires-clause-names c = λ name given. c.slots-names.ensures name (c.in_ok-found.ensures.names c.in_default.is name ∙ given)

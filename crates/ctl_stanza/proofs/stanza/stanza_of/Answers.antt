@@ -11,6 +11,7 @@ invariant_of-result c =
       walk = c.requires.walk;
       relations_are = c.requires.relations;
       offers_are = c.requires.offers;
+      names_are = c.requires.names;
       whole = whole;
       sound = c.whole_stanzas_are_sound.ensures content whole;
     }
