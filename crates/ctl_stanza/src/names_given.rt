@@ -86,10 +86,11 @@ impl<'a> NamesGiven<'a> {
         ensures held { OnOk result (Adds self.old self.new name.now) }
     {
         let slot = slot_of(name);
-        if is_among_taken(&self.first, has_slot(self.slots, slot), name) {
+        let is_taken = has_slot(self.slots, slot);
+        self.slots = with_slot(self.slots, slot);
+        if is_among_taken(&self.first, is_taken, name) {
             return Ok(false);
         }
-        self.slots = with_slot(self.slots, slot);
         if self.others.is_empty() && self.first.len() < FIRST_NAMES {
             self.first.push(name)?;
             return Ok(true);

@@ -1,4 +1,4 @@
-use Rattle.std.proofs.Common.{◌≡◌, ◌∙◌, ◌||◌, ◌&&◌, true, false, not, ℕ, List, [], ◌∷◌, Bor, sym, ap}
+use Rattle.std.proofs.Common.{◌≡◌, ◌∙◌, ◌||◌, ◌&&◌, false, not, ℕ, List, [], ◌∷◌, Bor, sym, ap}
 use Rattle.std.specs.List.{list_any}
 use Rattle.std.specs.Ordering.{is_eq}
 use Rattle.std.specs.Str.{bytes_eq, str_to_ascii_lowercase}
@@ -17,26 +17,26 @@ use Rattle.ctl_stanza.proofs.names_given.NamesGiven.add.Goals as goal
 pub returns-then-is_among_taken-clause-added : goal.returns-then-is_among_taken-clause-added
 returns-then-is_among_taken-clause-added c =
     let name = c.args.name.now in
-    let found = ap (λ (xs : List (Bor (List ℕ))). c.has_slot.result && list_any (λ (other : Bor (List ℕ)). is_same_name name other.now) xs) (sym c.deref.ensures.value)
+    let found = ap (λ (xs : List (Bor (List ℕ))). c.has_slot-is_taken.result && list_any (λ (other : Bor (List ℕ)). is_same_name name other.now) xs) (sym c.deref.ensures.value)
     ∙ sym c.is_among_taken.ensures ∙ c.if-is_among_taken.true in
-    sym (ap not (ap (λ (g : Given). holds g name) (sym c.self.view_is) ∙ given-is c.self.inside name ∙ known-given c.has_slot.result (list_any (λ (other : Bor (List ℕ)). is_same_name name other.now) c.self.inside.first.items) (list_any (λ k. bytes_eq (str_to_ascii_lowercase name) k.items) c.self.inside.others.keys) found))
+    sym (ap not (ap (λ (g : Given). holds g name) (sym c.self.view_is) ∙ given-is c.self.inside name ∙ known-given c.has_slot-is_taken.result (list_any (λ (other : Bor (List ℕ)). is_same_name name other.now) c.self.inside.first.items) (list_any (λ k. bytes_eq (str_to_ascii_lowercase name) k.items) c.self.inside.others.keys) found))
 
 pub returns-then-is_among_taken-clause-held : goal.returns-then-is_among_taken-clause-held
 returns-then-is_among_taken-clause-held c =
     let name = c.args.name.now in
-    let found = ap (λ (xs : List (Bor (List ℕ))). c.has_slot.result && list_any (λ (other : Bor (List ℕ)). is_same_name name other.now) xs) (sym c.deref.ensures.value)
+    let found = ap (λ (xs : List (Bor (List ℕ))). c.has_slot-is_taken.result && list_any (λ (other : Bor (List ℕ)). is_same_name name other.now) xs) (sym c.deref.ensures.value)
     ∙ sym c.is_among_taken.ensures ∙ c.if-is_among_taken.true in
-    held-already c.args.self.now name (ap (λ (g : Given). holds g name) (sym c.self.view_is) ∙ given-is c.self.inside name ∙ known-given c.has_slot.result (list_any (λ (other : Bor (List ℕ)). is_same_name name other.now) c.self.inside.first.items) (list_any (λ k. bytes_eq (str_to_ascii_lowercase name) k.items) c.self.inside.others.keys) found)
+    λ other. ap (λ (g : Given). holds g other) c.self.view_is ∙ held-already c.args.self.now name (ap (λ (g : Given). holds g name) (sym c.self.view_is) ∙ given-is c.self.inside name ∙ known-given c.has_slot-is_taken.result (list_any (λ (other : Bor (List ℕ)). is_same_name name other.now) c.self.inside.first.items) (list_any (λ k. bytes_eq (str_to_ascii_lowercase name) k.items) c.self.inside.others.keys) found) other
 
 pub returns-then-len-lt-FIRST_NAMES-clause-added : goal.returns-then-len-lt-FIRST_NAMES-clause-added
 returns-then-len-lt-FIRST_NAMES-clause-added c =
     let name = c.args.name.now in
     let slots = c.self.inside.slots in
     let q = str_to_ascii_lowercase name in
-    let sought = ap (λ (xs : List (Bor (List ℕ))). c.has_slot.result && list_any (λ (other : Bor (List ℕ)). is_same_name name other.now) xs) (sym c.deref.ensures.value)
+    let sought = ap (λ (xs : List (Bor (List ℕ))). c.has_slot-is_taken.result && list_any (λ (other : Bor (List ℕ)). is_same_name name other.now) xs) (sym c.deref.ensures.value)
     ∙ sym c.is_among_taken.ensures ∙ c.if-is_among_taken.false in
     let first : list_any (λ (other : Bor (List ℕ)). is_same_name name other.now) c.self.inside.first.items ≡ false
-    = not-first _ _ _ (λ e. c.has_slot.ensures ∙ ap (has_slot slots) c.slot_of-slot.ensures.slot ∙ c.self.invariant name e) sought in
+    = not-first _ _ _ (λ e. c.has_slot-is_taken.ensures ∙ ap (has_slot slots) c.slot_of-slot.ensures.slot ∙ c.self.invariant name e) sought in
     let none = nil_from_length c.self.inside.others.keys (c.is_empty.ensures.0 c.if-is_empty.true) in
     let others = ap (list_any (λ k. bytes_eq q k.items)) none in
     sym (ap not (ap (λ (g : Given). holds g name) (sym c.self.view_is) ∙ given-is c.self.inside name ∙ ap (λ t. t || list_any (λ k. bytes_eq q k.items) c.self.inside.others.keys) first ∙ others))
@@ -62,10 +62,10 @@ returns-clause-added c =
     let name = c.args.name.now in
     let slots = c.self.inside.slots in
     let keys = c.self.inside.others.keys in
-    let sought = ap (λ (xs : List (Bor (List ℕ))). c.has_slot.result && list_any (λ (other : Bor (List ℕ)). is_same_name name other.now) xs) (sym c.deref.ensures.value)
+    let sought = ap (λ (xs : List (Bor (List ℕ))). c.has_slot-is_taken.result && list_any (λ (other : Bor (List ℕ)). is_same_name name other.now) xs) (sym c.deref.ensures.value)
     ∙ sym c.is_among_taken.ensures ∙ c.if-is_among_taken.false in
     new-beyond _ _ _
-    (not-first _ _ (list_any (λ k. bytes_eq (str_to_ascii_lowercase name) k.items) keys) (λ e. c.has_slot.ensures ∙ ap (has_slot slots) c.slot_of-slot.ensures.slot ∙ c.self.invariant name e) sought)
+    (not-first _ _ (list_any (λ k. bytes_eq (str_to_ascii_lowercase name) k.items) keys) (λ e. c.has_slot-is_taken.ensures ∙ ap (has_slot slots) c.slot_of-slot.ensures.slot ∙ c.self.invariant name e) sought)
     (c.in_ok-added.ensures.added
     ∙ ap not (any-same _ _ (λ x. is_eq-slice_cmp c.in_ok-folded.folded.items x.items ∙ ap (λ t. bytes_eq t x.items) c.in_ok-folded.ensures.ok) keys))
     ∙ ap not (sym (ap (λ (g : Given). holds g name) (sym c.self.view_is) ∙ given-is c.self.inside name))
@@ -76,6 +76,10 @@ returns-clause-held c = λ other.
 
 pub invariant_of-self : goal.invariant_of-self
 invariant_of-self c =
+    rw c.with_slot-self-inside.ensures (taken-still c.self.inside.slots c.slot_of-slot.result (is_given c.self.inside) c.self.invariant)
+
+pub invariant_of-self-in_err-push : goal.invariant_of-self-in_err-push
+invariant_of-self-in_err-push c =
     rw (c.with_slot-self-inside.ensures, c.in_err-push.ensures.items) (taken-still c.self.inside.slots c.slot_of-slot.result (is_given c.self.inside) c.self.invariant)
 
 pub invariant_of-self-then-len-lt-FIRST_NAMES : goal.invariant_of-self-then-len-lt-FIRST_NAMES
