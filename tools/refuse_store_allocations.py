@@ -7,7 +7,8 @@ refused. Behind each edit the lines ask for all that the store holds.
 
 A run may end early with a status that isn't 0: memory was refused to the program itself, and what it wrote before is what it
 writes with ample memory. Else the edit that met the refusal has to be refused with number 22, and the store has to hold what
-it held before. The last lines count the requests and the edits refused.
+it held before; made again, it and all behind it have to be answered as with ample memory. The last lines count the requests
+and the edits refused.
 
 It needs a C compiler, and is no part of the gate."""
 
@@ -51,6 +52,14 @@ def judge(lines, ample, answers, status):
     return refused if whole or status != 0 else None
 
 
+def is_made_again(lines, ample, answers, settings):
+    """Whether the one edit that was refused is answered as with ample memory when it is made again, and all behind it."""
+    at = answers.index(REFUSED)
+    repeated = lines[:at + 2] + lines[at:]
+    text = b"".join(line + b"\n" for line in repeated)
+    return run(PROBE, ["store"], text, settings)[1].split(b"\n")[:-1] == answers[:at + 2] + ample[at:]
+
+
 def check(preload, folder, lines, more):
     """Refuses each request in turn. How many runs there were, how many ended early, and how many edits were refused."""
     text = b"".join(line + b"\n" for line in lines)
@@ -65,7 +74,8 @@ def check(preload, folder, lines, more):
             if int(file.read()) < nth:
                 return nth - 1, ended, edits
         refused = judge(lines, ample, output.split(b"\n")[:-1], status)
-        if refused is None:
+        wrong = refused is None or (refused == 1 and not more and not is_made_again(lines, ample, output.split(b"\n")[:-1], settings))
+        if wrong:
             raise SystemExit("request %d: status %d, output %r, errors %r" % (nth, status, output[-2000:], errors))
         ended += status != 0
         edits += refused

@@ -13,11 +13,7 @@ use std::alloc::Global;
 #[cfg(test)]
 mod answers;
 #[cfg(test)]
-mod asked;
-#[cfg(test)]
 mod asking;
-#[cfg(test)]
-mod cache_shown;
 #[cfg(test)]
 mod cuts;
 #[cfg(test)]
@@ -37,10 +33,6 @@ mod pieces;
 mod pin_laws;
 #[cfg(test)]
 mod program;
-#[cfg(test)]
-mod refused;
-#[cfg(test)]
-mod refused_cache;
 #[cfg(test)]
 mod row_calls;
 #[cfg(test)]

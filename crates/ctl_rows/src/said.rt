@@ -39,20 +39,6 @@ impl Said {
         }
     }
 
-    /// The bytes. None comes where memory ran out.
-    pub fn into_bytes(self) -> Option<Vec<u8>> {
-        if self.is_short {
-            None
-        } else {
-            Some(self.bytes)
-        }
-    }
-
-    /// Whether memory ran out.
-    pub fn is_short(&self) -> bool {
-        self.is_short
-    }
-
     /// The bytes, or these words where memory ran out.
     pub fn shown(&self) -> &[u8] {
         if self.is_short {

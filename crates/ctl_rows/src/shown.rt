@@ -76,18 +76,3 @@ pub fn say_state(store: &Store, said: &mut Said) {
     say_target(store, said);
     say_counts(store, said);
 }
-
-fn say_keys_of(store: &Store, list: &[u8], said: &mut Said) {
-    for key in store.stanzas(list) {
-        said.key(b"", key);
-        said.add(b" ");
-    }
-    said.add(b"\n");
-}
-
-/// The keys of the stanzas of each list, a line for each list.
-pub fn say_keys(store: &Store, said: &mut Said) {
-    for (name, _, _) in store.lists() {
-        say_keys_of(store, name, said);
-    }
-}
