@@ -4,6 +4,7 @@ PREFIX ?= /usr/local
 DESTDIR ?=
 
 PROGRAM := crates/dctrl_cache/out/dctrl_cache
+PROBE = crates/probe/out/probe
 EXAMPLES := $(sort $(wildcard examples/*.script))
 
 .PHONY: help layout demo build test test-needs prove test-program test-reference test-refusals test-python test-tools edits gate-report bench bench-report bench-parts deb install clean
@@ -49,6 +50,10 @@ $(PROGRAM): $(shell find crates \( -name out -o -name edits -o -name must-fail \
 	cd crates/dctrl_cache && rt run < /dev/null
 	@test -x $@
 
+$(PROBE): $(shell find crates \( -name out -o -name edits -o -name must-fail \) -prune -o -type f -print) crates.txt HANDLES
+	cd crates/probe && rt run < stdin > /dev/null
+	@test -x $@
+
 test:
 	python3 tools/gate.py $(if $(KEEP_GOING),--keep-going)
 
@@ -67,9 +72,10 @@ test-program: build
 test-reference: build
 	python3 tests/reference/compare.py $(PROGRAM) tests/reference/SEED 300 --long 20
 
-# Some 5,000 runs, at most two minutes on one processor.
-test-refusals: build
+# Some 11,000 runs, at most two minutes on one processor: of scripts, and of each form of edit of a kept cache by the probe.
+test-refusals: build $(PROBE)
 	python3 tests/program/refusals.py $(PROGRAM)
+	python3 tools/refuse_index_allocations.py tests/program/index-edits
 
 # The module is for the Python of Debian, whose modules python3-apt and pytest it needs.
 test-python: build

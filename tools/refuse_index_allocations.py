@@ -13,7 +13,7 @@ they tell in a new cache after the same edits but this one, made anew with at mo
 memory was refused to that too, the answer is `stale`, and the next one has to be right. The last lines count the requests,
 the edits refused, the caches that were stale, and those that could not be made anew at once.
 
-It needs a C compiler, and is no part of the gate."""
+It needs a C compiler. The gate runs it on tests/program/index-edits, each form of edit in turn."""
 
 import collections
 import os

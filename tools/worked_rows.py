@@ -128,7 +128,7 @@ CALLS = (
     ("A load tells the line of its fault", "a_load_tells_the_line_of_its_fault"),
     ("The words of the program", "the_program_takes_lists_a_status_file_and_a_script"),
     ("The program on a list and a query", "crates/dctrl_cache/stdin"),
-    ("A cache recovers behind each growth that was refused", "an_edit_of_a_cache_without_memory_changes_nothing"),
+    ("A cache recovers behind each growth that was refused", "tools/refuse_index_allocations.py"),
     ("Each growth of a run refused in turn", "tests/program/refusals.py"),
 )
 
