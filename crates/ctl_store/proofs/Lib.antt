@@ -40,5 +40,4 @@ pub mod ChangeLemmas
 pub mod EntryLemmas
 pub mod FollowedLemmas
 pub mod GivenLemmas
-pub mod ByNameLemmas
 pub mod KindLemmas

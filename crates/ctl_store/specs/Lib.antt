@@ -23,7 +23,6 @@ pub mod HeldRanks
 pub mod HeldPins
 pub mod Keys
 pub mod Entries
-pub mod ByName
 pub mod Given
 pub mod Followed
 pub mod Held

@@ -10,7 +10,6 @@ ghost use Rattle.ctl_store.specs.Orders.{boxed_rows};
 ghost use Rattle.ctl_store.specs.HeldPieces.{most_in_piece, joined, IsFit, HasRoomFor, room_at_end};
 ghost use Rattle.ctl_store.specs.Keys.{keys_of, found_key};
 ghost use Rattle.ctl_store.specs.Entries.{entries_in};
-ghost use Rattle.ctl_store.specs.ByName.{keys_by_name};
 ghost use Rattle.ctl_store.specs.Held.{IsShelved, Fits, keyed_list};
 
 use crate::fronts::FRONT_LEN;
@@ -19,7 +18,7 @@ use crate::order::{look_up, sort_serials};
 use crate::pieces::{Pieces, Spot};
 use crate::rows::{Row, replace_row, row_at, stanza_of};
 use crate::stanza_key::StanzaKey;
-use crate::store::{ByName, ListEntries, Stanzas};
+use crate::store::{ListEntries, Stanzas};
 use ctl_relation::Version;
 use ctl_stanza::{ListKind, Stanza};
 use std::alloc::{AllocError, Global};
@@ -208,13 +207,6 @@ impl Shelf {
         ensures { result ≡ entries_in (keyed_list self.now) }
     {
         ListEntries::new(self.serial, self.rows.as_slice())
-    }
-
-    /// The keys of its stanzas, in the order of names and versions.
-    pub(crate) fn by_name(&self) -> ByName<'_>
-        ensures { result ≡ keys_by_name (keyed_list self.now) }
-    {
-        ByName::new(self.serial, self.order.as_slice())
     }
 
     /// The stanza of a serial.

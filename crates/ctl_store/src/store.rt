@@ -6,7 +6,6 @@ ghost use Rattle.ctl_store.specs.Limits.{limits_that_count};
 ghost use Rattle.ctl_store.specs.Held.{state_of};
 ghost use Rattle.ctl_store.specs.declared.limits.Limits.{Limits};
 
-mod by_name;
 mod checking;
 mod committing;
 mod entries;
@@ -17,7 +16,6 @@ mod views;
 use crate::limits::Limits;
 use crate::pin_settings::PinSettings;
 use crate::shelf::Shelf;
-pub use by_name::ByName;
 use ctl_ordered::Ordered;
 use ctl_relation::{Bytes, Version};
 pub(crate) use entries::ListEntries;

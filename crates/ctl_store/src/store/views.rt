@@ -3,9 +3,7 @@
 ghost use Rattle.std.specs.Prelude.{◌≡◌, ◌+◌, ℕ, true, IsSome, Some, map, option_map, option_copied};
 ghost use Rattle.std.specs.FinMap as fin;
 ghost use Rattle.ctl_store.specs.State.{stanza_count, shown_lists, stanzas_named};
-ghost use Rattle.std.specs.List.Sorted.{IsPermutation};
 ghost use Rattle.ctl_store.specs.Keys.{all_in, all_keys, AreRising, AreHeld, stanza_at, holder_of};
-ghost use Rattle.ctl_store.specs.ByName.{by_name_in, AreByName};
 ghost use Rattle.ctl_store.specs.Followed.{under};
 ghost use Rattle.ctl_store.specs.Named.{at_name};
 ghost use Rattle.ctl_store.specs.Pins.{general_pin, own_settings, AreDistinct};
@@ -23,7 +21,7 @@ use crate::name::Name;
 use crate::selector::Selector;
 use crate::shelf::Shelf;
 use crate::stanza_key::StanzaKey;
-use crate::store::{ByName, Entries, Keys, ListEntries, PackagePins, Stanzas, Store};
+use crate::store::{Entries, Keys, ListEntries, PackagePins, Stanzas, Store};
 use ctl_relation::{Bytes, Version};
 use ctl_stanza::{ListKind, Stanza};
 use std::marker::Model;
@@ -176,22 +174,6 @@ impl Store {
         match self.lists.get(Name { bytes: list }) {
             Some(shelf) => shelf.keys(),
             None => Stanzas::new(ListEntries::new(0, &[])),
-        }
-    }
-
-    /// The keys of the stanzas of a list in the order of names, and for one name in that of versions. Of a list that is
-    /// not there it has none.
-    #[tactic(auto, using(crate::proofs::ListedLemmas::at_name_lists))]
-    pub fn by_name(&self, list: &[u8]) -> ByName<'_>
-        ensures keys { result ≡ by_name_in list.now (keyed_of self.now).lists }
-        ensures held { AreHeld result (keyed_of self.now).lists }
-        // each key of the list once
-        ensures same { IsPermutation (all_in list.now (keyed_of self.now).lists) result }
-        ensures order { AreByName (keyed_of self.now).lists result }
-    {
-        match self.lists.get(Name { bytes: list }) {
-            Some(shelf) => shelf.by_name(),
-            None => ByName::new(0, &[]),
         }
     }
 

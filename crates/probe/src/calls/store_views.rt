@@ -6,8 +6,10 @@ use crate::calls::plans::say_names;
 use crate::said::{OUT_OF_MEMORY, Said};
 use crate::words::Words;
 use ctl_policy::packages_of_store;
+use ctl_relation::Version;
 use ctl_stanza::ListKind;
 use ctl_store::{ListClass, StanzaKey, Store};
+use std::alloc::{AllocError, Global};
 
 /// The numbers of what it holds, and its limits.
 pub fn say_numbers(store: &Store, said: &mut Said) {
@@ -45,6 +47,29 @@ fn say_entries(store: &Store, said: &mut Said) {
     }
 }
 
+// The names and versions of the stanzas of a list, with their keys.
+fn keys_by_name<'a>(
+    alloc: Global,
+    store: &'a Store,
+    list: &[u8],
+) -> Result<Vec<(&'a [u8], Option<&'a Version>, StanzaKey)>, AllocError> {
+    let mut places = Vec::new(alloc);
+    for key in store.stanzas(list) {
+        if let Some(stanza) = store.find(key) {
+            places.push((stanza.package(), stanza.version(), key))?;
+        }
+    }
+    Ok(places)
+}
+
+// Keys in the order of names and versions.
+fn say_by_name(mut places: Vec<(&[u8], Option<&Version>, StanzaKey)>, said: &mut Said) {
+    places.sort_unstable();
+    for (_, _, key) in &places {
+        said.key(b"#", *key);
+    }
+}
+
 // The keys of a list, in the order of its stanzas, and then by name and version.
 fn say_keys_of(store: &Store, list: &[u8], said: &mut Said) {
     said.add(b"in order ");
@@ -52,8 +77,9 @@ fn say_keys_of(store: &Store, list: &[u8], said: &mut Said) {
         said.key(b"#", key);
     }
     said.add(b", by name ");
-    for key in store.by_name(list) {
-        said.key(b"#", key);
+    match keys_by_name(said.alloc(), store, list) {
+        Ok(places) => say_by_name(places, said),
+        Err(_) => said.fail(OUT_OF_MEMORY),
     }
     said.add(b".");
 }
