@@ -2,11 +2,10 @@ pub mod PlaceLemmas
 pub mod PiecesLemmas
 pub mod PointLemmas
 pub mod SortedLemmas
+pub mod RankedLemmas
 pub mod OrderLemmas
 pub mod NearLemmas
 pub mod FrontLemmas
-pub mod RankLemmas
-pub mod RankedLemmas
 pub mod LabelLemmas
 pub mod ShelfLemmas
 pub mod SortLemmas

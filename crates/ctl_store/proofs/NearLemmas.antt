@@ -5,11 +5,12 @@ use Rattle.std.specs.Ordering.{is_lt}
 use Rattle.std.proofs.lemmas.List.{length-append, get_or_default}
 use Rattle.ctl_stanza.specs.Content.{Content}
 use Rattle.ctl_store.specs.declared.pieces.Spot.{Spot}
-use Rattle.ctl_store.specs.Rows.{Id, IsKept, ids_of, sorted_ids, lower, order_at}
+use Rattle.ctl_store.specs.Rows.{Id, id_cmp, row_id, IsKept, ids_of, sorted_ids, lower, order_at}
 use Rattle.ctl_store.specs.HeldPieces.{joined, length_at, stands_at, place_of_spot, ArePieces, IsSpot, IsSpotOrEnd}
 use Rattle.ctl_store.proofs.PiecesLemmas.{stands_next, length_read, piece_read, spot_within}
 use Rattle.ctl_store.proofs.PointLemmas.{end_between, get_joined, stands_within}
-use Rattle.ctl_store.proofs.OrderLemmas.{parted, lower_is}
+use Rattle.ctl_store.proofs.OrderLemmas.{id_total}
+use Rattle.ctl_store.proofs.RankedLemmas.{parted, below_is}
 
 pub on_true : {P : Type 0} → (b : Bool) → P → OnTrue b P
 on_true true h = h
@@ -59,7 +60,7 @@ module _ {A : Type 0} where
       let p : ℕ → Bool = λ s. is_lt (order_at rows q s) in
       let r = place_of_spot ps spot in
       let w = stands_within ps spot.piece spot.at there in
-      lower_is rows next (joined ps) kept q r (omega (arith, w))
-      (end_between p (joined ps) r (parted rows next (joined ps) kept q) w
+      below_is id_cmp id_total row_id rows next (joined ps) kept q r (omega (arith, w))
+      (end_between p (joined ps) r (parted id_cmp id_total row_id rows next (joined ps) kept q) w
       (λ d l. ap p (get_or_default (joined ps) (r - 1) d 0 (omega (arith, w, l))) ∙ before l)
       (λ d. ap p (get_or_default (joined ps) r d 0 w ∙ at) ∙ here))

@@ -11,7 +11,8 @@ use Rattle.ctl_store.specs.declared.selector.Selector.TheVariants.{Version, Rele
 use Rattle.ctl_store.specs.Pins.{selector_eq}
 use Rattle.ctl_store.specs.SelectorLaws.{label_total, selector_eq-Decides}
 use Rattle.ctl_store.specs.Rows.{Rises}
-use Rattle.ctl_store.specs.HeldRanks.{Label, label_cmp, labels_of, sorted_labels, labels_below, label_place, IsRanked}
+use Rattle.ctl_store.specs.HeldRanks.{Label, label_cmp, labels_of, sorted_labels, labels_below, IsRanked}
+use Rattle.ctl_store.specs.Sorted.{place_in}
 use Rattle.ctl_store.specs.HeldPins.{own_label, own_row}
 use Rattle.ctl_store.proofs.PlaceLemmas.{some_is, Rises-end}
 use Rattle.ctl_store.proofs.RankedLemmas.{below_there, ranked_push, ranked_remove}
@@ -46,10 +47,10 @@ abbrev Row : Type 0
 Row = ℕ × (Selector × ℤ)
 
 -- a serial that was not given is of no row
-fresh : (s : Selector) (n : ℕ) (rows : List Row) (m : ℕ) → Rises n rows m → label_place own_row (own_label m s) rows ≡ None
+fresh : (s : Selector) (n : ℕ) (rows : List Row) (m : ℕ) → Rises n rows m → place_in label_cmp own_row (own_label m s) rows ≡ None
 fresh s n [] m h = refl
 fresh s n (r ∷ rows) m h =
-    ap (λ b. cond b (Some 0) (option_map (λ k. suc k) (label_place own_row (own_label m s) rows))) (other_serial r.0 m r.1.0 s (omega (arith, Rises-end (suc r.0) rows m h.1)))
+    ap (λ b. cond b (Some 0) (option_map (λ k. suc k) (place_in label_cmp own_row (own_label m s) rows))) (other_serial r.0 m r.1.0 s (omega (arith, Rises-end (suc r.0) rows m h.1)))
     ∙ ap (option_map (λ k. suc k)) (fresh s (suc r.0) rows m h.1)
 
 serial_least : (test : Selector → Bool) (n : ℕ) (rows : List Row) (m serial : ℕ) → Rises n rows m → row_serial test rows ≡ Some serial → n ≤ serial
@@ -62,17 +63,17 @@ serial_least test n (r ∷ rows) m serial h e = by (test r.1.0) e (serial_least 
 
 -- the row of a selector is the first of its label, and it is the one that is cut
 abbrev IsCutAt : Selector → ℕ → List Row → Type 0
-IsCutAt s serial rows = (i : ℕ) × (label_place own_row (own_label serial s) rows ≡ Some i) × (cut_row (selector_eq s) rows ≡ remove rows i)
+IsCutAt s serial rows = (i : ℕ) × (place_in label_cmp own_row (own_label serial s) rows ≡ Some i) × (cut_row (selector_eq s) rows ≡ remove rows i)
 
 cut_at : (s : Selector) (serial n : ℕ) (rows : List Row) (m : ℕ) → Rises n rows m → row_serial (selector_eq s) rows ≡ Some serial → IsCutAt s serial rows
 cut_at s serial n [] m h e = cc
 cut_at s serial n (r ∷ rows) m h e = by (selector_eq s r.1.0) refl e (cut_at s serial (suc r.0) rows m h.1)
   where
     place : Option ℕ
-    place = option_map (λ k. suc k) (label_place own_row (own_label serial s) rows)
+    place = option_map (λ k. suc k) (place_in label_cmp own_row (own_label serial s) rows)
 
     by : (b : Bool) → selector_eq s r.1.0 ≡ b → cond b (Some r.0) (row_serial (selector_eq s) rows) ≡ Some serial → (row_serial (selector_eq s) rows ≡ Some serial → IsCutAt s serial rows)
-        → (i : ℕ) × (label_place own_row (own_label serial s) (r ∷ rows) ≡ Some i) × (cond b rows (r ∷ cut_row (selector_eq s) rows) ≡ remove (r ∷ rows) i)
+        → (i : ℕ) × (place_in label_cmp own_row (own_label serial s) (r ∷ rows) ≡ Some i) × (cond b rows (r ∷ cut_row (selector_eq s) rows) ≡ remove (r ∷ rows) i)
     by true is e rest =
         let same = sym ((selector_eq-Decides s r.1.0).0 is) in (
           0,
@@ -145,7 +146,7 @@ module _ (rows : List Row) (next : ℕ) (order : List ℕ) (kept : IsRanked own_
 
   -- another goes to the end of those of its package
   pub own_push : (x : Selector × ℤ) (at : ℕ) → at ≡ below (own_label next x.0) → IsRanked own_row (rows ++ (next, x) ∷ []) (next + 1) (insert order at next)
-  own_push x at e = subst (λ k. IsRanked own_row (rows ++ (next, x) ∷ []) (next + 1) (insert order k next)) (sym e) (ranked_push own_row rows next order kept x (fresh x.0 0 rows next kept.rises))
+  own_push x at e = subst (λ k. IsRanked own_row (rows ++ (next, x) ∷ []) (next + 1) (insert order k next)) (sym e) (ranked_push label_cmp label_total own_row rows next order kept x (fresh x.0 0 rows next kept.rises))
 
   module _ (s : Selector) where
     pub own_none : row_serial (selector_eq s) rows ≡ None → IsRanked own_row (cut_row (selector_eq s) rows) next order
@@ -154,10 +155,10 @@ module _ (rows : List Row) (next : ℕ) (order : List ℕ) (kept : IsRanked own_
     module _ (serial : ℕ) (there : row_serial (selector_eq s) rows ≡ Some serial) where
       -- a setting that is there is in the order
       pub own_within : below (own_label serial s) < length order
-      own_within = let cut = cut_at s serial 0 rows next kept.rises there in below_there own_row rows next order kept (own_label serial s) cut.0 cut.1
+      own_within = let cut = cut_at s serial 0 rows next kept.rises there in below_there label_cmp label_total own_row rows next order kept (own_label serial s) cut.0 cut.1
 
       pub own_cut : (at : ℕ) → at ≡ below (own_label serial s) → IsRanked own_row (cut_row (selector_eq s) rows) next (remove order at)
       own_cut at e =
           let cut = cut_at s serial 0 rows next kept.rises there in
           subst (λ l. IsRanked own_row l next (remove order at)) (sym cut.2)
-          (subst (λ k. IsRanked own_row (remove rows cut.0) next (remove order k)) (sym e) (ranked_remove own_row rows next order kept (own_label serial s) cut.0 cut.1))
+          (subst (λ k. IsRanked own_row (remove rows cut.0) next (remove order k)) (sym e) (ranked_remove label_cmp label_total own_row rows next order kept (own_label serial s) cut.0 cut.1))

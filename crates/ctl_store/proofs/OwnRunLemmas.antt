@@ -17,10 +17,12 @@ use Rattle.ctl_store.specs.declared.selector.Selector.{Selector}
 use Rattle.ctl_store.specs.declared.selector.Selector.TheVariants.{Version, Release}
 use Rattle.ctl_store.specs.Pins.{is_of, own_settings}
 use Rattle.ctl_store.specs.Rows.{Rises}
-use Rattle.ctl_store.specs.HeldRanks.{Label, label_cmp, insert_label, labels_of, sorted_labels, labels_below, ranked_serials}
+use Rattle.ctl_store.specs.HeldRanks.{Label, label_cmp, labels_of, sorted_labels, labels_below}
+use Rattle.ctl_store.specs.Sorted.{insert_in, serials_in}
+use Rattle.ctl_store.specs.SelectorLaws.{label_total}
 use Rattle.ctl_store.specs.HeldPins.{own_label, own_row, own_start, own_one, own_run}
 use Rattle.ctl_store.proofs.PlaceLemmas.{eq_is, gt_ne, is_eq_from}
-use Rattle.ctl_store.proofs.RankLemmas.{g, up, lt_back, all_map, all_sorted, in_order, IsInOrder}
+use Rattle.ctl_store.proofs.SortedLemmas.{g, up, lt_back, all_map, all_sorted, in_order, IsInOrder}
 use Rattle.ctl_store.proofs.LabelLemmas.{same_numbers}
 
 -- ---- labels of one package
@@ -106,7 +108,7 @@ ties Equal Greater r t a b = cc
 ties Equal Equal r t a b = (refl, refl)
 
 -- between the start and one of the package there are none but its own
-between : (q : List ℕ) (y z : Label) → own q z ≡ true → g y z ≡ false → is_lt (label_cmp y (own_start q)) ≡ false → own q y ≡ true
+between : (q : List ℕ) (y z : Label) → own q z ≡ true → g label_cmp y z ≡ false → is_lt (label_cmp y (own_start q)) ≡ false → own q y ≡ true
 between q y z is not_above not_below =
     let after : Ordering = ordering_then (slice_cmp nat_cmp y.text z.text) (nat_cmp y.rank z.rank) in
     let start : Ordering = ordering_then (slice_cmp nat_cmp y.text []) (nat_cmp y.rank 0) in
@@ -120,7 +122,7 @@ abbrev front : {X : Type 0} → (X → Bool) → List X → List X
 front p [] = []
 front p (x ∷ xs) = cond (p x) (x ∷ front p xs) []
 
-none_own : (q : List ℕ) (y : ℕ × Label) (ys : List (ℕ × Label)) → is_own q y ≡ false → is_lt (label_cmp y.1 (own_start q)) ≡ false → AllByRecursion (λ z. g y.1 z.1 ≡ false) ys → filter (is_own q) ys ≡ []
+none_own : (q : List ℕ) (y : ℕ × Label) (ys : List (ℕ × Label)) → is_own q y ≡ false → is_lt (label_cmp y.1 (own_start q)) ≡ false → AllByRecursion (λ z. g label_cmp y.1 z.1 ≡ false) ys → filter (is_own q) ys ≡ []
 none_own q y [] e w h = refl
 none_own q y (z ∷ ys) e w h = by (is_own q z) refl (none_own q y ys e w h.1)
   where
@@ -128,7 +130,7 @@ none_own q y (z ∷ ys) e w h = by (is_own q z) refl (none_own q y ys e w h.1)
     by true is rest = let t : is_own q y ≡ true = between q y.1 z.1 is h.0 w in cc
     by false is rest = rest
 
-front_is : (q : List ℕ) (ys : List (ℕ × Label)) → IsInOrder ys → AllByRecursion (λ z. is_lt (label_cmp z.1 (own_start q)) ≡ false) ys → front (is_own q) ys ≡ filter (is_own q) ys
+front_is : (q : List ℕ) (ys : List (ℕ × Label)) → IsInOrder label_cmp ys → AllByRecursion (λ z. is_lt (label_cmp z.1 (own_start q)) ≡ false) ys → front (is_own q) ys ≡ filter (is_own q) ys
 front_is q [] h w = refl
 front_is q (y ∷ ys) h w = by (is_own q y) refl (front_is q ys h.1 w.1)
   where
@@ -136,14 +138,14 @@ front_is q (y ∷ ys) h w = by (is_own q y) refl (front_is q ys h.1 w.1)
     by true is rest = ap (λ l. y ∷ l) rest
     by false is rest = sym (none_own q y ys is w.0 h.0)
 
-front_from : (q : List ℕ) (ys : List (ℕ × Label)) → IsInOrder ys → front (is_own q) (drop (labels_below (own_start q) ys) ys) ≡ filter (is_own q) ys
+front_from : (q : List ℕ) (ys : List (ℕ × Label)) → IsInOrder label_cmp ys → front (is_own q) (drop (labels_below (own_start q) ys) ys) ≡ filter (is_own q) ys
 front_from q [] h = refl
 front_from q (y ∷ ys) h = by (is_lt (label_cmp y.1 (own_start q))) refl (front_from q ys h.1)
   where
     by : (b : Bool) → is_lt (label_cmp y.1 (own_start q)) ≡ b → front (is_own q) (drop (labels_below (own_start q) ys) ys) ≡ filter (is_own q) ys
         → front (is_own q) (drop (cond b (suc (labels_below (own_start q) ys)) 0) (y ∷ ys)) ≡ cond (is_own q y) (y ∷ filter (is_own q) ys) (filter (is_own q) ys)
     by true e rest = rest ∙ ap (λ b. cond b (y ∷ filter (is_own q) ys) (filter (is_own q) ys)) (sym (before_start q y.1 e))
-    by false e rest = front_is q (y ∷ ys) h (e, all_map (λ z k. lt_back z.1 (own_start q) ∙ up (own_start q) y.1 z.1 (sym (lt_back y.1 (own_start q)) ∙ e) k) ys h.0)
+    by false e rest = front_is q (y ∷ ys) h (e, all_map (λ z k. lt_back label_cmp label_total z.1 (own_start q) ∙ up label_cmp label_total (own_start q) y.1 z.1 (sym (lt_back label_cmp label_total y.1 (own_start q)) ∙ e) k) ys h.0)
 
 -- ---- their order is that of the rows
 
@@ -156,7 +158,7 @@ not_greater Equal Equal Less t a b c d = cc
 not_greater Equal Equal Equal t a b c d = d
 not_greater Equal Equal Greater t a b c d = cc
 
-before_later : (q : List ℕ) (n m : ℕ) (s t : Selector) → n < m → own q (own_label n s) ≡ true → own q (own_label m t) ≡ true → g (own_label n s) (own_label m t) ≡ false
+before_later : (q : List ℕ) (n m : ℕ) (s t : Selector) → n < m → own q (own_label n s) ≡ true → own q (own_label m t) ≡ true → g label_cmp (own_label n s) (own_label m t) ≡ false
 before_later q n m s t l d e =
     let a : Label = own_label n s in
     let b : Label = own_label m t in
@@ -165,15 +167,15 @@ before_later q n m s t l d e =
     (ap is_gt (sym (nat_cmp_is a.rank b.rank Less (omega (arith, rank_is n s, rank_is m t, l)))))
 
 abbrev IsNotAfter : List ℕ → ℕ × Label → ℕ × Label → Type 0
-IsNotAfter q x y = is_own q x ≡ true → is_own q y ≡ true → g x.1 y.1 ≡ false
+IsNotAfter q x y = is_own q x ≡ true → is_own q y ≡ true → g label_cmp x.1 y.1 ≡ false
 
 all_later : (q : List ℕ) (r : ℕ × (Selector × ℤ)) (n : ℕ) (rows : List (ℕ × (Selector × ℤ))) (m : ℕ) → r.0 < n → Rises n rows m → AllByRecursion (IsNotAfter q (r.0, own_row r)) (labels_of own_row rows)
 all_later q r n [] m l h = tt
 all_later q r n (s ∷ rows) m l h = (before_later q r.0 s.0 r.1.0 s.1.0 (omega (arith, l, h.0)), all_later q r (suc s.0) rows m (omega (arith, l, h.0)) h.1)
 
-filter-insert : (q : List ℕ) (x : ℕ × Label) (ys : List (ℕ × Label)) → AllByRecursion (IsNotAfter q x) ys → filter (is_own q) (insert_label x ys) ≡ filter (is_own q) (x ∷ ys)
+filter-insert : (q : List ℕ) (x : ℕ × Label) (ys : List (ℕ × Label)) → AllByRecursion (IsNotAfter q x) ys → filter (is_own q) (insert_in label_cmp x ys) ≡ filter (is_own q) (x ∷ ys)
 filter-insert q x [] h = refl
-filter-insert q x (y ∷ ys) h = by (g x.1 y.1) refl (filter-insert q x ys h.1)
+filter-insert q x (y ∷ ys) h = by (g label_cmp x.1 y.1) refl (filter-insert q x ys h.1)
   where
     rest : List (ℕ × Label)
     rest = filter (is_own q) ys
@@ -184,14 +186,14 @@ filter-insert q x (y ∷ ys) h = by (g x.1 y.1) refl (filter-insert q x ys h.1)
     turn false true f = refl
     turn false false f = refl
 
-    by : (b : Bool) → g x.1 y.1 ≡ b → filter (is_own q) (insert_label x ys) ≡ filter (is_own q) (x ∷ ys) → filter (is_own q) (cond b (y ∷ insert_label x ys) (x ∷ y ∷ ys)) ≡ filter (is_own q) (x ∷ y ∷ ys)
+    by : (b : Bool) → g label_cmp x.1 y.1 ≡ b → filter (is_own q) (insert_in label_cmp x ys) ≡ filter (is_own q) (x ∷ ys) → filter (is_own q) (cond b (y ∷ insert_in label_cmp x ys) (x ∷ y ∷ ys)) ≡ filter (is_own q) (x ∷ y ∷ ys)
     by true e same = ap (λ l. cond (is_own q y) (y ∷ l) l) same ∙ turn (is_own q x) (is_own q y) (λ a b. sym e ∙ h.0 a b)
     by false e same = refl
 
 filter-sorted : (q : List ℕ) (n : ℕ) (rows : List (ℕ × (Selector × ℤ))) (m : ℕ) → Rises n rows m → filter (is_own q) (sorted_labels (labels_of own_row rows)) ≡ filter (is_own q) (labels_of own_row rows)
 filter-sorted q n [] m h = refl
 filter-sorted q n (r ∷ rows) m h =
-    filter-insert q (r.0, own_row r) (sorted_labels (labels_of own_row rows)) (all_sorted (IsNotAfter q (r.0, own_row r)) (labels_of own_row rows) (all_later q r (suc r.0) rows m (omega arith) h.1))
+    filter-insert q (r.0, own_row r) (sorted_labels (labels_of own_row rows)) (all_sorted label_cmp label_total (IsNotAfter q (r.0, own_row r)) (labels_of own_row rows) (all_later q r (suc r.0) rows m (omega arith) h.1))
     ∙ ap (λ l. cond (is_own q (r.0, own_row r)) ((r.0, own_row r) ∷ l) l) (filter-sorted q (suc r.0) rows m h.1)
 
 -- ---- the settings of their serials
@@ -253,13 +255,13 @@ picks q all (r ∷ rows) h =
     by false rest = rest
 
 -- from where they begin, the order leads through the settings of the package
-pub own_found : (q : List ℕ) (rows : List (ℕ × (Selector × ℤ))) (next : ℕ) (order : List ℕ) (at : ℕ) → Rises 0 rows next → order ≡ ranked_serials own_row rows → at ≡ labels_below (own_start q) (sorted_labels (labels_of own_row rows))
+pub own_found : (q : List ℕ) (rows : List (ℕ × (Selector × ℤ))) (next : ℕ) (order : List ℕ) (at : ℕ) → Rises 0 rows next → order ≡ serials_in label_cmp own_row rows → at ≡ labels_below (own_start q) (sorted_labels (labels_of own_row rows))
     → own_run q rows (drop at order) ≡ own_settings q (without_serials rows)
 own_found q rows next order at h is at_is =
     (λ j. own_run q rows (drop (at_is j) (is j)))
     ∙ ap (λ l. own_run q rows l) (drop-map (λ (y : ℕ × Label). y.0) (labels_below (own_start q) ids) ids)
-    ∙ run_picks q rows (drop (labels_below (own_start q) ids) ids) (all_drop (labels_below (own_start q) ids) ids (all_sorted (HasSetting q rows) (labels_of own_row rows) (all_have q rows rows (all_found 0 rows next h))))
-    ∙ ap (λ l. picked rows l) (front_from q ids (in_order (labels_of own_row rows)) ∙ filter-sorted q 0 rows next h)
+    ∙ run_picks q rows (drop (labels_below (own_start q) ids) ids) (all_drop (labels_below (own_start q) ids) ids (all_sorted label_cmp label_total (HasSetting q rows) (labels_of own_row rows) (all_have q rows rows (all_found 0 rows next h))))
+    ∙ ap (λ l. picked rows l) (front_from q ids (in_order label_cmp label_total (labels_of own_row rows)) ∙ filter-sorted q 0 rows next h)
     ∙ picks q rows rows (all_found 0 rows next h)
   where
     ids : List (ℕ × Label)

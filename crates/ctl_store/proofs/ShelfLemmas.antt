@@ -5,11 +5,12 @@ use Rattle.std.specs.Vec.{vec_capacity}
 use Rattle.std.specs.Ordering.{is_gt}
 use Rattle.ctl_stanza.specs.Content.{Content, package_of, version_of}
 use Rattle.ctl_store.specs.Step.{place}
-use Rattle.ctl_store.specs.Rows.{Id, id, id_of, id_cmp, insert_id, ids_of, sorted_ids, sorted_serials, lower, IsKept, Rises, by_name_and_version, replace_at, rows_from}
+use Rattle.ctl_store.specs.Rows.{Id, id, id_of, id_cmp, ids_of, sorted_ids, sorted_serials, lower, IsKept, Rises, by_name_and_version, replace_at, rows_from}
 use Rattle.ctl_store.specs.HeldPieces.{joined, ArePieces, IsFit}
 use Rattle.ctl_store.specs.Keys.{KeyedList, key_of, key_at}
 use Rattle.ctl_store.specs.Held.{IsShelved}
 use Rattle.ctl_store.proofs.PlaceLemmas.{Rises-rows_from}
+use Rattle.ctl_store.proofs.SortedLemmas.{length-sorted_in}
 use Rattle.ctl_store.proofs.OrderLemmas.{kept_replace, kept_push, kept_remove}
 
 -- ---- the key at a place
@@ -77,23 +78,11 @@ length-rows_from : (n : ℕ) (xs : List Content) → length (rows_from n xs) ≡
 length-rows_from n [] = refl
 length-rows_from n (x ∷ xs) = ap (λ k. suc k) (length-rows_from (suc n) xs)
 
-length-insert_id : (x : ℕ × Id) (ys : List (ℕ × Id)) → length (insert_id x ys) ≡ suc (length ys)
-length-insert_id x [] = refl
-length-insert_id x (y ∷ ys) = by (is_gt (id_cmp x.1 y.1)) (length-insert_id x ys)
-  where
-    by : (b : Bool) → length (insert_id x ys) ≡ suc (length ys) → length (cond b (y ∷ insert_id x ys) (x ∷ y ∷ ys)) ≡ suc (suc (length ys))
-    by true e = ap (λ k. suc k) e
-    by false e = refl
-
-length-sorted_ids : (xs : List (ℕ × Id)) → length (sorted_ids xs) ≡ length xs
-length-sorted_ids [] = refl
-length-sorted_ids (x ∷ xs) = length-insert_id x (sorted_ids xs) ∙ ap (λ k. suc k) (length-sorted_ids xs)
-
 -- each of them is in the order once
 pub length-serials : (xs : List Content) → length (sorted_serials (rows_from 0 xs)) ≡ length xs
 length-serials xs =
     same_length (λ (x : ℕ × Id). x.0) (sorted_ids (ids_of (rows_from 0 xs)))
-    ∙ length-sorted_ids (ids_of (rows_from 0 xs))
+    ∙ length-sorted_in id_cmp (ids_of (rows_from 0 xs))
     ∙ same_length (λ (row : ℕ × Content). (row.0, id_of row.1)) (rows_from 0 xs)
     ∙ length-rows_from 0 xs
 
@@ -102,7 +91,7 @@ pub length-order : (rows : List (ℕ × Content)) (next : ℕ) (order : List ℕ
 length-order rows next order h =
     ap length h.ordered
     ∙ same_length (λ (x : ℕ × Id). x.0) (sorted_ids (ids_of rows))
-    ∙ length-sorted_ids (ids_of rows)
+    ∙ length-sorted_in id_cmp (ids_of rows)
     ∙ same_length (λ (row : ℕ × Content). (row.0, id_of row.1)) rows
 
 -- rows from 0 on, in the order that a sort gives

@@ -14,10 +14,12 @@ use Rattle.std.proofs.lemmas.Cmp.{upto, on_total, then_total}
 use Rattle.std.proofs.lemmas.List.Sorted.{sum_by-IsPermutation, sorted_far, ranks_by}
 use Rattle.std.proofs.lemmas.List.Sums.{sum_by-cons}
 use Rattle.ctl_stanza.specs.Content.{Content}
-use Rattle.ctl_store.specs.Rows.{Id, id_of, id_cmp, ids_of, insert_id, sorted_ids, sorted_serials, id_at, place_cmp, Rises, rows_from}
+use Rattle.ctl_store.specs.Rows.{Id, id_of, id_cmp, row_id, ids_of, sorted_ids, sorted_serials, id_at, place_cmp, Rises, rows_from}
 use Rattle.ctl_store.proofs.PlaceLemmas.{eq_is, is_eq_from, Rises-rows_from}
-use Rattle.ctl_store.proofs.SortedLemmas.{id_total, g, all_map, all_insert, all_sorted}
-use Rattle.ctl_store.proofs.OrderLemmas.{all_from, Rises-ids}
+use Rattle.ctl_store.specs.Sorted.{insert_in}
+use Rattle.ctl_store.proofs.SortedLemmas.{g, all_map, all_insert, all_sorted}
+use Rattle.ctl_store.proofs.RankedLemmas.{all_from, Rises-labels}
+use Rattle.ctl_store.proofs.OrderLemmas.{id_total}
 
 -- ---- two lists in order that count alike are one
 
@@ -110,7 +112,7 @@ abbrev ArePairsUp : List (ℕ × Id) → Type 0
 ArePairsUp [] = Unit {0}
 ArePairsUp (y ∷ ys) = AllByRecursion (λ z. is_gt (pair_cmp y z) ≡ false) ys × ArePairsUp ys
 
-before_later : (x y : ℕ × Id) → g x.1 y.1 ≡ false → x.0 < y.0 → is_gt (pair_cmp x y) ≡ false
+before_later : (x y : ℕ × Id) → g id_cmp x.1 y.1 ≡ false → x.0 < y.0 → is_gt (pair_cmp x y) ≡ false
 before_later x y e l = by (id_cmp x.1 y.1) e
   where
     smaller : is_gt (nat_cmp x.0 y.0) ≡ false
@@ -121,7 +123,7 @@ before_later x y e l = by (id_cmp x.1 y.1) e
     by Equal e = smaller
     by Greater e = cc
 
-above_first : (x y : ℕ × Id) → g x.1 y.1 ≡ true → is_gt (pair_cmp y x) ≡ false
+above_first : (x y : ℕ × Id) → g id_cmp x.1 y.1 ≡ true → is_gt (pair_cmp y x) ≡ false
 above_first x y e = by (id_cmp x.1 y.1) (id_cmp y.1 x.1) (id_total.antisymm y.1 x.1) e
   where
     by : (o p : Ordering) → p ≡ ordering_reverse o → is_gt o ≡ true → is_gt (ordering_then p (nat_cmp y.0 x.0)) ≡ false
@@ -129,19 +131,19 @@ above_first x y e = by (id_cmp x.1 y.1) (id_cmp y.1 x.1) (id_total.antisymm y.1 
     by Equal p r e = cc
     by Greater p r e = ap (λ o. is_gt (ordering_then o (nat_cmp y.0 x.0))) r
 
-pairs_insert : (x : ℕ × Id) (ys : List (ℕ × Id)) → AllByRecursion (λ (y : ℕ × Id). x.0 < y.0) ys → ArePairsUp ys → ArePairsUp (insert_id x ys)
+pairs_insert : (x : ℕ × Id) (ys : List (ℕ × Id)) → AllByRecursion (λ (y : ℕ × Id). x.0 < y.0) ys → ArePairsUp ys → ArePairsUp (insert_in id_cmp x ys)
 pairs_insert x [] s o = (tt, tt)
-pairs_insert x (y ∷ ys) s o = by (g x.1 y.1) refl (pairs_insert x ys s.1 o.1)
+pairs_insert x (y ∷ ys) s o = by (g id_cmp x.1 y.1) refl (pairs_insert x ys s.1 o.1)
   where
-    by : (b : Bool) → g x.1 y.1 ≡ b → ArePairsUp (insert_id x ys) → ArePairsUp (cond b (y ∷ insert_id x ys) (x ∷ y ∷ ys))
-    by true e rest = (all_insert (λ z. is_gt (pair_cmp y z) ≡ false) x ys (above_first x y e) o.0, rest)
+    by : (b : Bool) → g id_cmp x.1 y.1 ≡ b → ArePairsUp (insert_in id_cmp x ys) → ArePairsUp (cond b (y ∷ insert_in id_cmp x ys) (x ∷ y ∷ ys))
+    by true e rest = (all_insert id_cmp id_total (λ z. is_gt (pair_cmp y z) ≡ false) x ys (above_first x y e) o.0, rest)
     by false e rest = ((before_later x y e s.0, all_map (λ z k. upto pair_total x y z (before_later x y e s.0) k) ys o.0), o)
 
 pairs_sorted : (n : ℕ) (xs : List (ℕ × Id)) (m : ℕ) → Rises n xs m → ArePairsUp (sorted_ids xs)
 pairs_sorted n [] m h = tt
 pairs_sorted n (x ∷ xs) m h =
     pairs_insert x (sorted_ids xs)
-    (all_sorted (λ (y : ℕ × Id). x.0 < y.0) xs (all_map (λ (y : ℕ × Id) (k : suc x.0 ≤ y.0). omega (arith, k)) xs (all_from (suc x.0) xs m h.1)))
+    (all_sorted id_cmp id_total (λ (y : ℕ × Id). x.0 < y.0) xs (all_map (λ (y : ℕ × Id) (k : suc x.0 ≤ y.0). omega (arith, k)) xs (all_from (suc x.0) xs m h.1)))
     (pairs_sorted (suc x.0) xs m h.1)
 
 -- ---- the same by the places of rows
@@ -183,12 +185,12 @@ module _ (rows : List (ℕ × Content)) where
 
 -- ---- a sort only moves what is there
 
-tally-insert : (f : ℕ → ℕ) (x : ℕ × Id) (ys : List (ℕ × Id)) → tally f (map (λ (y : ℕ × Id). y.0) (insert_id x ys)) ≡ f x.0 + tally f (map (λ (y : ℕ × Id). y.0) ys)
+tally-insert : (f : ℕ → ℕ) (x : ℕ × Id) (ys : List (ℕ × Id)) → tally f (map (λ (y : ℕ × Id). y.0) (insert_in id_cmp x ys)) ≡ f x.0 + tally f (map (λ (y : ℕ × Id). y.0) ys)
 tally-insert f x [] = refl
-tally-insert f x (y ∷ ys) = by (g x.1 y.1) (tally-insert f x ys)
+tally-insert f x (y ∷ ys) = by (g id_cmp x.1 y.1) (tally-insert f x ys)
   where
-    by : (b : Bool) → tally f (map (λ (y : ℕ × Id). y.0) (insert_id x ys)) ≡ f x.0 + tally f (map (λ (y : ℕ × Id). y.0) ys)
-        → tally f (map (λ (y : ℕ × Id). y.0) (cond b (y ∷ insert_id x ys) (x ∷ y ∷ ys))) ≡ f x.0 + (f y.0 + tally f (map (λ (y : ℕ × Id). y.0) ys))
+    by : (b : Bool) → tally f (map (λ (y : ℕ × Id). y.0) (insert_in id_cmp x ys)) ≡ f x.0 + tally f (map (λ (y : ℕ × Id). y.0) ys)
+        → tally f (map (λ (y : ℕ × Id). y.0) (cond b (y ∷ insert_in id_cmp x ys) (x ∷ y ∷ ys))) ≡ f x.0 + (f y.0 + tally f (map (λ (y : ℕ × Id). y.0) ys))
     by true e = omega (arith, e)
     by false e = refl
 
@@ -209,8 +211,8 @@ sorted_is rows xs e serials order s moved sorted =
     sym (sum_by-tally f order) ∙ sum_by-IsPermutation f serials order moved ∙ sum_by-tally f serials ∙ ap (tally f) (s ∙ sym (serials-ids rows)) ∙ sym (tally-sorted f (ids_of rows)))
     (sorted_up (place_cmp rows) (place_total rows) (place_exact rows) order sorted)
     (pairs_up rows (sorted_ids (ids_of rows))
-    (all_sorted (λ (y : ℕ × Id). id_at rows y.0 ≡ Some y.1) (ids_of rows) (subst (λ l. AllByRecursion (λ (y : ℕ × Id). id_at rows y.0 ≡ Some y.1) (ids_of l)) (sym e) (at_places rows 0 xs (λ k. ap (slice_get rows) (let z : 0 + k ≡ k = omega arith in z) ∙ ap (λ l. slice_get l k) e))))
-    (pairs_sorted 0 (ids_of rows) (0 + length xs) (Rises-ids 0 rows (0 + length xs) (subst (λ l. Rises 0 l (0 + length xs)) (sym e) (Rises-rows_from 0 xs)))))
+    (all_sorted id_cmp id_total (λ (y : ℕ × Id). id_at rows y.0 ≡ Some y.1) (ids_of rows) (subst (λ l. AllByRecursion (λ (y : ℕ × Id). id_at rows y.0 ≡ Some y.1) (ids_of l)) (sym e) (at_places rows 0 xs (λ k. ap (slice_get rows) (let z : 0 + k ≡ k = omega arith in z) ∙ ap (λ l. slice_get l k) e))))
+    (pairs_sorted 0 (ids_of rows) (0 + length xs) (Rises-labels id_cmp id_total row_id 0 rows (0 + length xs) (subst (λ l. Rises 0 l (0 + length xs)) (sym e) (Rises-rows_from 0 xs)))))
 
 -- the order that a sort of serials asks for
 pub place_ranks : (rows : List (ℕ × Content)) → IsTotalOrder (place_cmp rows)

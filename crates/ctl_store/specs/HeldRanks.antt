@@ -1,14 +1,11 @@
--- Rows under rising serials, and orders of labels by which some are found.
-use Rattle.std.specs.Prelude.{◌≡◌, ℕ, suc, Bool, List, [], ◌∷◌, map, Option, None, Some, nat_eq, if◌then◌else◌}
-use Rattle.std.specs.Option.{option_map_or}
-use Rattle.std.specs.Map.{lookup}
-use Rattle.std.specs.Ordering.{nat_cmp, ordering_then, is_gt, is_lt, is_eq}
+-- Labels, and rows in their order.
+use Rattle.std.specs.Prelude.{ℕ, List, [], Option, None, Some}
+use Rattle.std.specs.Ordering.{nat_cmp, ordering_then}
 use Rattle.std.specs.Cmp.Lexicographic.{slice_cmp}
 use Rattle.std.specs.declared.cmp.Ordering.{Ordering}
-use Rattle.std.specs.declared.cmp.Ordering.TheVariants.{Less}
 use Rattle.ctl_store.specs.declared.selector.Selector.{Selector}
 use Rattle.ctl_store.specs.declared.selector.Selector.TheVariants.{Version, Release}
-use Rattle.ctl_store.specs.Places.{place, Rises}
+use Rattle.ctl_store.specs.Sorted.{sorted_in, below_in, labelled, order_in, IsRankedBy}
 
 -- what a row is found by
 pub record Label : Type 0 where
@@ -23,47 +20,25 @@ label_cmp a b =
     ordering_then (slice_cmp nat_cmp a.name b.name)
     (ordering_then (nat_cmp a.form b.form) (ordering_then (slice_cmp nat_cmp a.text b.text) (nat_cmp a.rank b.rank)))
 
--- before the first that isn't smaller
-abbrev pub insert_label : ℕ × Label → List (ℕ × Label) → List (ℕ × Label)
-insert_label x [] = x ∷ []
-insert_label x (y ∷ ys) = if is_gt (label_cmp x.1 y.1) then y ∷ insert_label x ys else x ∷ y ∷ ys
-
 abbrev pub sorted_labels : List (ℕ × Label) → List (ℕ × Label)
-sorted_labels [] = []
-sorted_labels (x ∷ xs) = insert_label x (sorted_labels xs)
+sorted_labels xs = sorted_in label_cmp xs
 
 -- how many stand before the first that isn't smaller
 abbrev pub labels_below : Label → List (ℕ × Label) → ℕ
-labels_below wanted [] = 0
-labels_below wanted (x ∷ xs) = if is_lt (label_cmp x.1 wanted) then suc (labels_below wanted xs) else 0
+labels_below wanted xs = below_in label_cmp wanted xs
 
 module _ {T : Type 0} (label : ℕ × T → Label) where
   -- rows by their labels
   abbrev pub labels_of : List (ℕ × T) → List (ℕ × Label)
-  labels_of rows = map (λ (row : ℕ × T). (row.0, label row)) rows
-
-  -- the serials of rows in the order of their labels
-  abbrev pub ranked_serials : List (ℕ × T) → List ℕ
-  ranked_serials rows = map (λ (x : ℕ × Label). x.0) (sorted_labels (labels_of rows))
-
-  abbrev pub has_label : Label → ℕ × T → Bool
-  has_label wanted row = is_eq (label_cmp (label row) wanted)
-
-  abbrev pub of_serial : ℕ → List (ℕ × T) → Option T
-  of_serial serial rows = lookup (λ k. nat_eq k serial) rows
+  labels_of rows = labelled label rows
 
   -- how the row of a serial stands to a label
   abbrev pub label_order : List (ℕ × T) → Label → ℕ → Ordering
-  label_order rows wanted serial = option_map_or (λ (x : T). label_cmp (label (serial, x)) wanted) (of_serial serial rows) Less
-
-  -- the place of the first row of a label
-  abbrev pub label_place : Label → List (ℕ × T) → Option ℕ
-  label_place wanted rows = place (has_label wanted) rows
+  label_order rows wanted serial = order_in label_cmp label rows wanted serial
 
   -- The serials rise, and the order has each of them.
-  pub record IsRanked (rows : List (ℕ × T)) (next : ℕ) (order : List ℕ) : Type 0 where
-    pub rises : Rises 0 rows next
-    pub ordered : order ≡ ranked_serials rows
+  abbrev pub IsRanked : List (ℕ × T) → ℕ → List ℕ → Type 0
+  IsRanked rows next order = IsRankedBy label_cmp label rows next order
 
 -- a selector of a pin setting
 abbrev pub selector_label : Selector → Label

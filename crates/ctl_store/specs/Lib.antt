@@ -16,6 +16,7 @@ pub mod PrefsFaults
 pub mod Edits
 pub mod Places
 pub mod Step
+pub mod Sorted
 pub mod Rows
 pub mod Fronts
 pub mod HeldPieces

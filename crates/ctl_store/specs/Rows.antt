@@ -10,6 +10,7 @@ use Rattle.ctl_relation.specs.Version.{Triple, triple_of, triple_cmp}
 use Rattle.ctl_stanza.specs.Content.{Content, package_of, version_of}
 use Rattle.ctl_store.specs.Step.{is_same}
 use Rattle.ctl_store.specs.Places.{place}
+use Rattle.ctl_store.specs.Sorted.{labelled, sorted_in, below_in, serials_in, order_in, IsRankedBy}
 pub use Rattle.ctl_store.specs.Places.{has_serial, Rises, replace_at, remove_row_at}
 
 -- ---- rows in the order of their serials
@@ -64,27 +65,23 @@ version_order a b = option_cmp triple_cmp a b
 abbrev pub id_cmp : Id → Id → Ordering
 id_cmp a b = ordering_then (slice_cmp nat_cmp a.name b.name) (version_order a.version b.version)
 
-abbrev pub ids_of : List (ℕ × Content) → List (ℕ × Id)
-ids_of rows = map (λ (row : ℕ × Content). (row.0, id_of row.1)) rows
+abbrev pub row_id : ℕ × Content → Id
+row_id row = id_of row.1
 
--- before the first that isn't smaller
-abbrev pub insert_id : ℕ × Id → List (ℕ × Id) → List (ℕ × Id)
-insert_id x [] = x ∷ []
-insert_id x (y ∷ ys) = if is_gt (id_cmp x.1 y.1) then y ∷ insert_id x ys else x ∷ y ∷ ys
+abbrev pub ids_of : List (ℕ × Content) → List (ℕ × Id)
+ids_of rows = labelled row_id rows
 
 -- in the order of names and versions, and of serials where these are equal
 abbrev pub sorted_ids : List (ℕ × Id) → List (ℕ × Id)
-sorted_ids [] = []
-sorted_ids (x ∷ xs) = insert_id x (sorted_ids xs)
+sorted_ids xs = sorted_in id_cmp xs
 
 -- the serials of rows in that order
 abbrev pub sorted_serials : List (ℕ × Content) → List ℕ
-sorted_serials rows = map (λ (x : ℕ × Id). x.0) (sorted_ids (ids_of rows))
+sorted_serials rows = serials_in id_cmp row_id rows
 
 -- how many stand before the first that isn't smaller
 abbrev pub lower : Id → List (ℕ × Id) → ℕ
-lower wanted [] = 0
-lower wanted (x ∷ xs) = if is_lt (id_cmp x.1 wanted) then suc (lower wanted xs) else 0
+lower wanted xs = below_in id_cmp wanted xs
 
 -- what the row at a place is found by
 abbrev pub id_at : List (ℕ × Content) → ℕ → Option Id
@@ -95,10 +92,9 @@ abbrev pub place_cmp : List (ℕ × Content) → ℕ → ℕ → Ordering
 place_cmp rows i j = ordering_then (option_cmp id_cmp (id_at rows i) (id_at rows j)) (nat_cmp i j)
 
 -- The serials rise, and the order has each of them.
-pub record IsKept (rows : List (ℕ × Content)) (next : ℕ) (order : List ℕ) : Type 0 where
-  pub rises : Rises 0 rows next
-  pub ordered : order ≡ sorted_serials rows
+abbrev pub IsKept : List (ℕ × Content) → ℕ → List ℕ → Type 0
+IsKept rows next order = IsRankedBy id_cmp row_id rows next order
 
 -- how the row of a serial stands to a name and a version
 abbrev pub order_at : List (ℕ × Content) → Id → ℕ → Ordering
-order_at rows wanted serial = option_map_or (λ (x : Content). id_cmp (id_of x) wanted) (lookup (λ k. nat_eq k serial) rows) Less
+order_at rows wanted serial = order_in id_cmp row_id rows wanted serial

@@ -1,7 +1,8 @@
 use Rattle.std.proofs.Common.{rules, of_calls, arith, ◌≤◌, length}
 use Rattle.std.proofs.lemmas.Fn.{always_returns_same}
 use Rattle.std.specs.Ordering.{is_lt}
-use Rattle.ctl_store.specs.HeldRanks.{label_order}
+use Rattle.ctl_store.specs.HeldRanks.{label_cmp, label_order}
+use Rattle.ctl_store.specs.SelectorLaws.{label_total}
 use Rattle.ctl_store.specs.HeldPins.{own_row}
 use Rattle.ctl_store.proofs.RankedLemmas.{parted, below_is}
 use Rattle.ctl_store.proofs.pin_order.lower.Goals as goal
@@ -13,5 +14,5 @@ returns-clause-place c =
     let order = c.args.order.now.items in
     let q = c.args.wanted.now in
     let bound : c.partition_point.result ≤ length order = let ok = c.args.order.now.ok in omega (arith, c.partition_point.ensures.bound) in
-    below_is own_row rows next order c.requires q c.partition_point.result bound
-    (c.partition_point.ensures.partitioned (λ s. is_lt (label_order own_row rows q s)) (always_returns_same _ _ _ (λ a r f k. search (rules, of_calls))) (parted own_row rows next order c.requires q))
+    below_is label_cmp label_total own_row rows next order c.requires q c.partition_point.result bound
+    (c.partition_point.ensures.partitioned (λ s. is_lt (label_order own_row rows q s)) (always_returns_same _ _ _ (λ a r f k. search (rules, of_calls))) (parted label_cmp label_total own_row rows next order c.requires q))

@@ -1,0 +1,46 @@
+-- Rows under rising serials, and an order of their labels by which one is found.
+use Rattle.std.specs.Prelude.{◌≡◌, ℕ, suc, List, [], ◌∷◌, map, Option, nat_eq, if◌then◌else◌}
+use Rattle.std.specs.Option.{option_map_or}
+use Rattle.std.specs.Map.{lookup}
+use Rattle.std.specs.Ordering.{is_gt, is_lt, is_eq}
+use Rattle.std.specs.declared.cmp.Ordering.{Ordering}
+use Rattle.std.specs.declared.cmp.Ordering.TheVariants.{Less}
+use Rattle.ctl_store.specs.Places.{place, Rises}
+
+-- rows by their labels
+abbrev pub labelled : {L T : Type 0} → (ℕ × T → L) → List (ℕ × T) → List (ℕ × L)
+labelled label rows = map (λ row. (row.0, label row)) rows
+
+module _ {L : Type 0} (R : L → L → Ordering) where
+  -- before the first that isn't smaller
+  abbrev pub insert_in : ℕ × L → List (ℕ × L) → List (ℕ × L)
+  insert_in x [] = x ∷ []
+  insert_in x (y ∷ ys) = if is_gt (R x.1 y.1) then y ∷ insert_in x ys else x ∷ y ∷ ys
+
+  -- by labels, and where these are equal as they stood
+  abbrev pub sorted_in : List (ℕ × L) → List (ℕ × L)
+  sorted_in [] = []
+  sorted_in (x ∷ xs) = insert_in x (sorted_in xs)
+
+  -- how many stand before the first that isn't smaller
+  abbrev pub below_in : L → List (ℕ × L) → ℕ
+  below_in wanted [] = 0
+  below_in wanted (x ∷ xs) = if is_lt (R x.1 wanted) then suc (below_in wanted xs) else 0
+
+  module _ {T : Type 0} (label : ℕ × T → L) where
+    -- the serials of rows in the order of their labels
+    abbrev pub serials_in : List (ℕ × T) → List ℕ
+    serials_in rows = map (λ (x : ℕ × L). x.0) (sorted_in (labelled label rows))
+
+    -- how the row of a serial stands to a label
+    abbrev pub order_in : List (ℕ × T) → L → ℕ → Ordering
+    order_in rows wanted serial = option_map_or (λ (x : T). R (label (serial, x)) wanted) (lookup (λ k. nat_eq k serial) rows) Less
+
+    -- the place of the first row of a label
+    abbrev pub place_in : L → List (ℕ × T) → Option ℕ
+    place_in wanted rows = place (λ (row : ℕ × T). is_eq (R (label row) wanted)) rows
+
+    -- The serials rise, and the order has each of them.
+    pub record IsRankedBy (rows : List (ℕ × T)) (next : ℕ) (order : List ℕ) : Type 0 where
+      pub rises : Rises 0 rows next
+      pub ordered : order ≡ serials_in rows
