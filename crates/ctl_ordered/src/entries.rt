@@ -1,6 +1,6 @@
 //! The entries of an ordered map, lent.
 
-ghost use Rattle.std.specs.Prelude.{◌≡◌};
+ghost use Rattle.std.specs.Prelude.{◌≡◌, []};
 ghost use Rattle.ctl_ordered.specs.Slots.{entries_of};
 
 use crate::slot::Slot;
@@ -27,6 +27,15 @@ impl<'a, K, V> Entries<'a, K, V> {
         ensures { result ≡ entries_of slots.entry }
     {
         Entries { slots }
+    }
+
+    /// No entries.
+    pub fn none() -> Entries<'a, K, V>
+        ensures { result ≡ [] }
+    {
+        Entries {
+            slots: Slice::new(),
+        }
     }
 }
 

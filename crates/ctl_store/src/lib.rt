@@ -38,4 +38,4 @@ pub use priority::read_priority;
 pub use refusal::Refusal;
 pub use selector::{PinSetting, Selector};
 pub use stanza_key::{StanzaKey, compare_keys};
-pub use store::{Entries, Keys, Lists, PackagePins, Pins, Stanzas, Store};
+pub use store::{Entries, Keys, Lists, PackagePins, Pins, Store};

@@ -58,7 +58,7 @@ pub enum Refusal {
 impl Refusal {
     ghost use Rattle.ctl_store.specs.Refusals.{number_of_refusal, words_of_refusal};
 
-    /// The number of the refusal, by which refusals of one rank are ordered.
+    /// The number of the refusal, from 1 on.
     pub fn number(self) -> u8
         ensures { result ≡ number_of_refusal self }
     {

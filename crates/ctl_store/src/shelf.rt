@@ -18,7 +18,7 @@ use crate::order::{look_up, sort_serials};
 use crate::pieces::{Pieces, Spot};
 use crate::rows::{Row, replace_row, row_at, stanza_of};
 use crate::stanza_key::StanzaKey;
-use crate::store::{ListEntries, Stanzas};
+use crate::store::{Keys, ListEntries};
 use ctl_relation::Version;
 use ctl_stanza::{ListKind, Stanza};
 use std::alloc::{AllocError, Global};
@@ -196,10 +196,10 @@ impl Shelf {
     }
 
     /// The keys of its stanzas, in order.
-    pub(crate) fn keys(&self) -> Stanzas<'_>
+    pub(crate) fn keys(&self) -> Keys<'_>
         ensures { result ≡ keys_of (keyed_list self.now) }
     {
-        Stanzas::new(self.entries())
+        Keys::of_list(self.entries())
     }
 
     /// Its stanzas with their keys, in order.

@@ -19,7 +19,7 @@ use crate::shelf::Shelf;
 use ctl_ordered::Ordered;
 use ctl_relation::{Bytes, Version};
 pub(crate) use entries::ListEntries;
-pub use entries::{Entries, Keys, Stanzas};
+pub use entries::{Entries, Keys};
 pub use package_pins::PackagePins;
 use std::alloc::Global;
 use std::marker::Model;

@@ -140,47 +140,7 @@ impl<'a> Iterator for Entries<'a> {
     }
 }
 
-/// The keys of the stanzas of a list, by [`Store::stanzas`](crate::Store::stanzas), in order.
-#[derive(Drop)]
-pub struct Stanzas<'a> {
-    entries: ListEntries<'a>,
-}
-
-impl<'a> Model for Stanzas<'a> {
-    ghost use Rattle.std.specs.Prelude.{List};
-    ghost use Rattle.ctl_store.specs.declared.stanza_key.StanzaKey.{StanzaKey};
-    ghost use Rattle.ctl_store.specs.Entries.{entry_keys};
-
-    ghost Value = { List StanzaKey };
-
-    ghost view = { λ it. entry_keys it.entries };
-}
-
-impl<'a> Stanzas<'a> {
-    /// The keys of these stanzas.
-    pub(crate) fn new(entries: ListEntries<'a>) -> Stanzas<'a>
-        ensures { result ≡ entry_keys entries.entry }
-    {
-        Stanzas { entries }
-    }
-}
-
-impl<'a> Iterator for Stanzas<'a> {
-    ghost use Rattle.std.specs.Iterator.{YieldsFirst, item_count};
-
-    ghost next_gives = { YieldsFirst (λ rest. rest) };
-
-    ghost remaining = { item_count (λ rest. rest) };
-
-    type Item = StanzaKey;
-
-    fn next(&mut self) -> Option<StanzaKey> {
-        let (key, _) = self.entries.next()?;
-        Some(key)
-    }
-}
-
-/// The keys of all stanzas of a store, by [`Store::keys`](crate::Store::keys), in order.
+/// The keys of stanzas, by [`Store::keys`](crate::Store::keys) or [`Store::stanzas`](crate::Store::stanzas), in order.
 #[derive(Drop)]
 pub struct Keys<'a> {
     entries: Entries<'a>,
@@ -202,6 +162,16 @@ impl<'a> Keys<'a> {
         ensures { result ≡ entry_keys entries.entry }
     {
         Keys { entries }
+    }
+
+    /// The keys of these stanzas of a list.
+    pub(crate) fn of_list(entries: ListEntries<'a>) -> Keys<'a>
+        ensures { result ≡ entry_keys entries.entry }
+    {
+        Keys::new(Entries {
+            entries,
+            lists: ctl_ordered::Entries::none(),
+        })
     }
 }
 

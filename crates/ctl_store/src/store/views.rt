@@ -21,7 +21,7 @@ use crate::name::Name;
 use crate::selector::Selector;
 use crate::shelf::Shelf;
 use crate::stanza_key::StanzaKey;
-use crate::store::{Entries, Keys, ListEntries, PackagePins, Stanzas, Store};
+use crate::store::{Entries, Keys, ListEntries, PackagePins, Store};
 use ctl_relation::{Bytes, Version};
 use ctl_stanza::{ListKind, Stanza};
 use std::marker::Model;
@@ -165,7 +165,7 @@ impl Store {
 
     /// The keys of the stanzas of a list, in order. Of a list that is not there it has none.
     #[tactic(auto, using(crate::proofs::ListedLemmas::at_name_lists))]
-    pub fn stanzas(&self, list: &[u8]) -> Stanzas<'_>
+    pub fn stanzas(&self, list: &[u8]) -> Keys<'_>
         ensures keys { result ≡ all_in list.now (keyed_of self.now).lists }
         ensures held { AreHeld result (keyed_of self.now).lists }
         ensures stanzas { map (λ key. stanza_at key (keyed_of self.now).lists) result
@@ -173,7 +173,7 @@ impl Store {
     {
         match self.lists.get(Name { bytes: list }) {
             Some(shelf) => shelf.keys(),
-            None => Stanzas::new(ListEntries::new(0, &[])),
+            None => Keys::of_list(ListEntries::new(0, &[])),
         }
     }
 
