@@ -229,20 +229,10 @@ module _ {K : Type 0} {eq : K → K → Bool} {R : K → K → Ordering} (o : Is
       ]))
         where
           three : (j : ℕ) → (j < r) ⊎ (r ≤ j)
-          three j = at r j
-            where
-              at : (r j : ℕ) → (j < r) ⊎ (r ≤ j)
-              at zero j = inr (omega arith)
-              at (suc r) zero = inl (omega arith)
-              at (suc r) (suc j) = elim (at r j) [
-                | inl l ↦ inl (omega (arith, l))
-                | inr l ↦ inr (omega (arith, l))
-              ]
+          three j = grind arith
 
           first_above : (d : K × ℕ) → r < length ps → R q (get_or ps r d).0 ≡ Less
-          first_above d l =
-              let b : r < length order = omega (arith, l, length_order) in
-              turned_back (get_or ps r d).0 q (is_greater (R (get_or ps r d).0 q) (not_low r d (omega arith) l) (sym (ap is_eq (order_read r 0 d l)) ∙ other b))
+          first_above d l = grind (arith, length_order, turned_back, is_greater, not_low, order_read)
 
           above : (j : ℕ) (d : K × ℕ) → j < length ps → r ≤ j → eq q (get_or ps j d).0 ≡ false
           above j d l m = elim (same_or_more j m) [
@@ -251,16 +241,7 @@ module _ {K : Type 0} {eq : K → K → Bool} {R : K → K → Ordering} (o : Is
           ]
             where
               same_or_more : (j : ℕ) → r ≤ j → (r ≡ j) ⊎ (r < j)
-              same_or_more j m = at r j m
-                where
-                  at : (r j : ℕ) → r ≤ j → (r ≡ j) ⊎ (r < j)
-                  at zero zero m = inl refl
-                  at zero (suc j) m = inr (omega arith)
-                  at (suc r) zero m = absurd (omega arith)
-                  at (suc r) (suc j) m = elim (at r j (omega arith)) [
-                    | inl e ↦ inl (ap (λ n. suc n) e)
-                    | inr l ↦ inr (omega (arith, l))
-                  ]
+              same_or_more j m = grind arith
 
 -- ---- what a kept map keeps
 

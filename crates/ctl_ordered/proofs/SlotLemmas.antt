@@ -27,9 +27,6 @@ entry_or d Hole = d
 pub entry_is : {K V : Type 0} {a c : K} {b d : V} → Entry a b ≡ Entry c d → ◌≡◌ {A = K × V} (a, b) (c, d)
 entry_is {a = a} {b = b} e = ap (entry_or (a, b)) e
 
-pub hole_not_entry : {K V : Type 0} {a : K} {b : V} → Hole ≡ Entry a b → ⊥
-hole_not_entry e = true≢false (sym (ap is_entry e))
-
 -- the cases of a test
 pub chosen : {X : Type 0} {z : X} (b : Bool) (x y : X) → cond b x y ≡ z → ((b ≡ true) × (x ≡ z)) ⊎ ((b ≡ false) × (y ≡ z))
 chosen true x y e = inl (refl, e)
@@ -72,9 +69,7 @@ module _ {X : Type 0} where
   -- a serial past the others goes last
   pub insert_last : (x : X) (n : ℕ) (rs : List (ℕ × X)) (m : ℕ) → Rises n rs m → insert_entry nat_eq rs m x ≡ rs ++ (m, x) ∷ []
   insert_last x n [] m h = refl
-  insert_last x n (r ∷ rs) m h =
-      no ((r.0, x) ∷ rs) (r ∷ insert_entry nat_eq rs m x) (ne_is m r.0 (omega (arith, rises_end (suc r.0) rs m h.1)))
-      ∙ ap (λ l. r ∷ l) (insert_last x (suc r.0) rs m h.1)
+  insert_last x n (r ∷ rs) m h = grind (arith, no, ne_is, rises_end, insert_last x (suc r.0) rs m h.1)
 
 -- what was there, written again
 pub set_same : {X : Type 0} (test : ℕ → Bool) (rs : List (ℕ × X)) (x : X) → Some x ≡ lookup test rs → set_value test rs x ≡ rs
@@ -244,9 +239,7 @@ module _ {K V : Type 0} (eq : K → K → Bool) where
 
   pub entries_cut : (n : ℕ) (rs : List (ℕ × Slot K V)) (m : ℕ) (k : K) (s : ℕ) → Rises n rs m → serial_of eq k rs ≡ Some s → entries_of (set_value (nat_eq s) rs Hole) ≡ remove_entry (eq k) (entries_of rs)
   entries_cut n [] m k s h i = refl
-  entries_cut n ((j, Hole) ∷ rs) m k s h i =
-      ap entries_of (no ((j, Hole) ∷ rs) ((j, Hole) ∷ set_value (nat_eq s) rs Hole) (ne_is s j (serial_low (suc j) rs m k s h.1 i)))
-      ∙ entries_cut (suc j) rs m k s h.1 i
+  entries_cut n ((j, Hole) ∷ rs) m k s h i = grind (arith, no, ne_is, serial_low, entries_cut (suc j) rs m k s h.1 i)
   entries_cut n ((j, Entry a b) ∷ rs) m k s h i = elim (chosen (eq k a) (Some j) (serial_of eq k rs) i) [
     | inl c ↦
         ap entries_of (yes ((j, Hole) ∷ rs) ((j, Entry a b) ∷ set_value (nat_eq s) rs Hole) (eq_is s j (sym (some_is c.1))))
@@ -259,9 +252,7 @@ module _ {K V : Type 0} (eq : K → K → Bool) where
 
   pub rows_cut : (n : ℕ) (rs : List (ℕ × Slot K V)) (m : ℕ) (k : K) (s : ℕ) → Rises n rs m → serial_of eq k rs ≡ Some s → rows_of (set_value (nat_eq s) rs Hole) ≡ cut_row (eq k) (rows_of rs)
   rows_cut n [] m k s h i = refl
-  rows_cut n ((j, Hole) ∷ rs) m k s h i =
-      ap rows_of (no ((j, Hole) ∷ rs) ((j, Hole) ∷ set_value (nat_eq s) rs Hole) (ne_is s j (serial_low (suc j) rs m k s h.1 i)))
-      ∙ rows_cut (suc j) rs m k s h.1 i
+  rows_cut n ((j, Hole) ∷ rs) m k s h i = grind (arith, no, ne_is, serial_low, rows_cut (suc j) rs m k s h.1 i)
   rows_cut n ((j, Entry a b) ∷ rs) m k s h i = elim (chosen (eq k a) (Some j) (serial_of eq k rs) i) [
     | inl c ↦
         ap rows_of (yes ((j, Hole) ∷ rs) ((j, Entry a b) ∷ set_value (nat_eq s) rs Hole) (eq_is s j (sym (some_is c.1))))
@@ -305,9 +296,7 @@ module _ {K V : Type 0} (eq : K → K → Bool) where
         → serial_of eq q (set_value (nat_eq s) rs Hole) ≡ cond (eq k q) None (serial_of eq q rs)
     unfolding IsDistinct
     serial_cut q n [] m k s h d i = cc
-    serial_cut q n ((j, Hole) ∷ rs) m k s h d i =
-        ap (λ l. serial_of eq q l) (no ((j, Hole) ∷ rs) ((j, Hole) ∷ set_value (nat_eq s) rs Hole) (ne_is s j (serial_low (suc j) rs m k s h.1 i)))
-        ∙ serial_cut q (suc j) rs m k s h.1 d i
+    serial_cut q n ((j, Hole) ∷ rs) m k s h d i = grind (arith, no, ne_is, serial_low, serial_cut q (suc j) rs m k s h.1 d i)
     serial_cut q n ((j, Entry a b) ∷ rs) m k s h d i = elim (chosen (eq k a) (Some j) (serial_of eq k rs) i) [
       | inl c ↦
           ap (λ l. serial_of eq q l) (yes ((j, Hole) ∷ rs) ((j, Entry a b) ∷ set_value (nat_eq s) rs Hole) (eq_is s j (sym (some_is c.1))))
@@ -360,11 +349,7 @@ module _ {K V : Type 0} where
   no_row : (n : ℕ) (rs : List (ℕ × Slot K V)) (m s : ℕ) → Rises n rs m → s < n → lookup (nat_eq s) (rows_of rs) ≡ None
   no_row n [] m s h l = refl
   no_row n ((j, Hole) ∷ rs) m s h l = no_row (suc j) rs m s h.1 (omega (arith, l, h.0))
-  no_row n ((j, Entry a b) ∷ rs) m s h l =
-      no (Some (a, b)) (lookup (nat_eq s) (rows_of rs)) (ne_is' s j (omega (arith, l, h.0))) ∙ no_row (suc j) rs m s h.1 (omega (arith, l, h.0))
-    where
-      ne_is' : (a b : ℕ) → a < b → nat_eq a b ≡ false
-      ne_is' a b l = grind (arith, nat_tests)
+  no_row n ((j, Entry a b) ∷ rs) m s h l = grind (arith, no_row (suc j) rs m s h.1 (omega (arith, l, h.0)))
 
   -- the entry of a slot that is there is that of the row
   pub row_at : (n : ℕ) (rs : List (ℕ × Slot K V)) (m s : ℕ) (r : Slot K V) → Rises n rs m → Some r ≡ lookup (nat_eq s) rs → entry_of r ≡ lookup (nat_eq s) (rows_of rs)
@@ -407,9 +392,7 @@ module _ {K V : Type 0} (eq : K → K → Bool) (laws : IsEquivalence eq) (rs : 
   lent_at s r m i at e p = let there = slot_is s r i at in from_lent m there.0.1 (e ∙ ap value_of there.1) p
 
   pub none_cut_at : None ≡ lookup (eq k) serials → (entries_of rs ≡ remove_entry (eq k) (entries_of rs)) × (rows_of rs ≡ cut_row (eq k) (rows_of rs))
-  none_cut_at i =
-      let lacks = none_has eq rs k (sym (o.found k) ∙ sym i) in
-      (sym (cut_none eq (entries_of rs) k lacks), sym (cut_no_row eq rs k lacks))
+  none_cut_at i = grind (arith, none_has, cut_none, cut_no_row)
 
   pub no_value_at : None ≡ lookup (eq k) serials → None ≡ lookup (eq k) (entries_of rs)
   no_value_at i = sym (no_value eq (entries_of rs) k (none_has eq rs k (sym (o.found k) ∙ sym i)))

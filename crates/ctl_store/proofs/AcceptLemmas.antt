@@ -1,15 +1,12 @@
 -- What it means that an edit is accepted, and how many stanzas an edit leaves.
-use Rattle.std.proofs.Common.{◌≡◌, ℕ, ◌+◌, ◌≤◌, Bool, true, false, cond, ◌||◌, nat_lt, List, [], ◌∷◌, ◌++◌, length, Option, None, Some, refl, ap, arith}
-use Rattle.std.proofs.lemmas.Bool.Decides.{nat_tests}
+use Rattle.std.proofs.Common.{◌≡◌, ℕ, ◌+◌, ◌≤◌, Bool, true, false, ◌||◌, nat_lt, List, [], ◌∷◌, ◌++◌, length, Option, None, Some, refl, arith}
 use Rattle.std.specs.Option.{option_or}
-use Rattle.std.specs.Str.{bytes_eq}
 use Rattle.ctl_store.specs.declared.limits.Limits.{Limits}
 use Rattle.ctl_store.specs.declared.refusal.Refusal.{Refusal}
 use Rattle.ctl_store.specs.Named.{at_name, without_name, change_named}
 use Rattle.ctl_store.specs.State.{StanzaList, State, stanza_count}
 use Rattle.ctl_store.specs.Edits.{Edit}
 use Rattle.ctl_store.specs.Step.{when, changed, after, misfit_of, is_past, refusal_of}
-use Rattle.ctl_store.proofs.PlaceLemmas.{some_is}
 
 left_none : {X : Type 0} (a b : Option X) → option_or a b ≡ None → a ≡ None
 left_none None b e = refl
@@ -30,14 +27,7 @@ accepted_within : (limits : Limits) (s : State) (edit : Edit) → refusal_of lim
 accepted_within limits s edit e = when_none _ _ (right_none (misfit_of s edit) _ e)
 
 not_past : (a b c d : ℕ) → (nat_lt a b || nat_lt c d) ≡ false → (b ≤ a) × (d ≤ c)
-not_past a b c d e = by (nat_lt a b) refl e
-  where
-    le : (m n : ℕ) → nat_lt m n ≡ false → n ≤ m
-    le m n h = grind (arith, nat_tests)
-
-    by : (t : Bool) → nat_lt a b ≡ t → (t || nat_lt c d) ≡ false → (b ≤ a) × (d ≤ c)
-    by true k e = cc
-    by false k e = (le a b k, le c d e)
+not_past a b c d e = grind arith
 
 pub accepted_stanzas : (limits : Limits) (s : State) (edit : Edit) → refusal_of limits s edit ≡ None → stanza_count (changed s edit).lists ≤ limits.stanzas
 accepted_stanzas limits s edit e = (not_past limits.stanzas (stanza_count (changed s edit).lists) limits.edits (s.edits + 1) (accepted_within limits s edit e)).0
@@ -53,17 +43,8 @@ count-push (l ∷ ls) name x = omega (arith, count-push ls name x)
 
 pub count-without : (name : List ℕ) (ls : List (List ℕ × StanzaList)) (l : StanzaList) → at_name name ls ≡ Some l → stanza_count (without_name name ls) + length l.stanzas ≡ stanza_count ls
 count-without name [] l e = cc
-count-without name (x ∷ ls) l e = by (bytes_eq name x.0) e (count-without name ls l)
-  where
-    by : (b : Bool) → cond b (Some x.1) (at_name name ls) ≡ Some l → (at_name name ls ≡ Some l → stanza_count (without_name name ls) + length l.stanzas ≡ stanza_count ls) → stanza_count (cond b ls (x ∷ without_name name ls)) + length l.stanzas ≡ length x.1.stanzas + stanza_count ls
-    by true e rec = omega (arith, ap (λ (t : StanzaList). length t.stanzas) (some_is e))
-    by false e rec = omega (arith, rec e)
+count-without name (x ∷ ls) l e = grind (arith, count-without name ls l)
 
 pub count-change : (name : List ℕ) (f : StanzaList → StanzaList) (ls : List (List ℕ × StanzaList)) (l : StanzaList) → at_name name ls ≡ Some l → stanza_count (change_named name f ls) + length l.stanzas ≡ stanza_count ls + length (f l).stanzas
 count-change name f [] l e = cc
-count-change name f (x ∷ ls) l e = by (bytes_eq name x.0) e (count-change name f ls l)
-  where
-    by : (b : Bool) → cond b (Some x.1) (at_name name ls) ≡ Some l → (at_name name ls ≡ Some l → stanza_count (change_named name f ls) + length l.stanzas ≡ stanza_count ls + length (f l).stanzas)
-        → stanza_count (cond b ((x.0, f x.1) ∷ ls) (x ∷ change_named name f ls)) + length l.stanzas ≡ (length x.1.stanzas + stanza_count ls) + length (f l).stanzas
-    by true e rec = omega (arith, ap (λ (t : StanzaList). length t.stanzas) (some_is e), ap (λ (t : StanzaList). length (f t).stanzas) (some_is e))
-    by false e rec = omega (arith, rec e)
+count-change name f (x ∷ ls) l e = grind (arith, count-change name f ls l)

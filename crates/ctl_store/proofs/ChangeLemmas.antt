@@ -51,10 +51,7 @@ from_on : (n j : ℕ) (xs : List Content) → stanza_in (n + j) (rows_from n xs)
 from_on n zero [] = refl
 from_on n (suc j) [] = refl
 from_on n zero (x ∷ xs) = ap (λ b. cond b (Some x) (stanza_in (n + 0) (rows_from (suc n) xs))) (eq_is n (n + 0) (omega arith))
-from_on n (suc j) (x ∷ xs) =
-    ap (λ b. cond b (Some x) (stanza_in (n + suc j) (rows_from (suc n) xs))) (lt_ne n (n + suc j) (omega arith))
-    ∙ ap (λ s. stanza_in s (rows_from (suc n) xs)) (let z : n + suc j ≡ suc n + j = omega arith in z)
-    ∙ from_on (suc n) j xs
+from_on n (suc j) (x ∷ xs) = grind (arith, from_on (suc n) j xs)
 
 module _ (list : ℕ) where
   abbrev Each : (ℕ → Type 0) → List (ℕ × Content) → Type 0
@@ -64,30 +61,20 @@ module _ (list : ℕ) where
   replaced_in n [] m zero x h = tt
   replaced_in n [] m (suc i) x h = tt
   replaced_in n (r ∷ rs) m zero x h = ((h.0, ap (λ b. cond b (Some x) (stanza_in r.0 rs)) (eq_is r.0 r.0 refl)), tt)
-  replaced_in n (r ∷ rs) m (suc i) x h = over (take 1 (drop i rs)) (replaced_in (suc r.0) rs m i x h.1)
-    where
-      over : (qs : List (ℕ × Content)) → Each (λ s. (suc r.0 ≤ s) × (stanza_in s (replace_at rs i x) ≡ Some x)) qs → Each (λ s. (n ≤ s) × (stanza_in s (r ∷ replace_at rs i x) ≡ Some x)) qs
-      over [] g = tt
-      over (q ∷ qs) g = ((omega (arith, h.0, g.0.0), ap (λ b. cond b (Some r.1) (stanza_in q.0 (replace_at rs i x))) (lt_ne r.0 q.0 (omega (arith, g.0.0))) ∙ g.0.1), over qs g.1)
+  replaced_in n (r ∷ rs) m (suc i) x h = grind (arith, replaced_in (suc r.0) rs m i x h.1)
 
   removed_in : (n : ℕ) (rs : List (ℕ × Content)) (m i : ℕ) → Rises n rs m → Each (λ s. (n ≤ s) × (stanza_in s (remove rs i) ≡ None)) (take 1 (drop i rs))
   removed_in n [] m zero h = tt
   removed_in n [] m (suc i) h = tt
   removed_in n (r ∷ rs) m zero h = ((h.0, below_rows r.0 (suc r.0) rs m (omega arith) h.1), tt)
-  removed_in n (r ∷ rs) m (suc i) h = over (take 1 (drop i rs)) (removed_in (suc r.0) rs m i h.1)
-    where
-      over : (qs : List (ℕ × Content)) → Each (λ s. (suc r.0 ≤ s) × (stanza_in s (remove rs i) ≡ None)) qs → Each (λ s. (n ≤ s) × (stanza_in s (r ∷ remove rs i) ≡ None)) qs
-      over [] g = tt
-      over (q ∷ qs) g = ((omega (arith, h.0, g.0.0), ap (λ b. cond b (Some r.1) (stanza_in q.0 (remove rs i))) (lt_ne r.0 q.0 (omega (arith, g.0.0))) ∙ g.0.1), over qs g.1)
+  removed_in n (r ∷ rs) m (suc i) h = grind (arith, removed_in (suc r.0) rs m i h.1)
 
 -- ---- lists
 
 module _ (k : StanzaKey) where
   pub none_later : (n : ℕ) (ls : List (List ℕ × KeyedList)) (m e : ℕ) → k.list < n → InOrder n ls m e → stanza_at k ls ≡ None
   none_later n [] m e l h = refl
-  none_later n (x ∷ ls) m e l h =
-      ap (λ b. option_or (cond b (stanza_in k.stanza x.1.rows) None) (stanza_at k ls)) (gt_ne x.1.serial k.list (omega (arith, h.0)))
-      ∙ none_later (suc x.1.serial) ls m e (omega (arith, h.0)) h.3
+  none_later n (x ∷ ls) m e l h = grind (arith, none_later (suc x.1.serial) ls m e (omega (arith, h.0)) h.3)
 
   ends : (n : ℕ) (ls : List (List ℕ × KeyedList)) (m e : ℕ) → InOrder n ls m e → n ≤ m
   ends n [] m e h = h
@@ -96,54 +83,29 @@ module _ (k : StanzaKey) where
   -- a key of the next list is in none that is there
   none_of_next : (n : ℕ) (ls : List (List ℕ × KeyedList)) (m e : ℕ) → k.list ≡ m → InOrder n ls m e → stanza_at k ls ≡ None
   none_of_next n [] m e l h = refl
-  none_of_next n (x ∷ ls) m e l h =
-      ap (λ b. option_or (cond b (stanza_in k.stanza x.1.rows) None) (stanza_at k ls)) (lt_ne x.1.serial k.list (omega (arith, l, ends (suc x.1.serial) ls m e h.3)))
-      ∙ none_of_next (suc x.1.serial) ls m e l h.3
+  none_of_next n (x ∷ ls) m e l h = grind (arith, lt_ne, ends, none_of_next (suc x.1.serial) ls m e l h.3)
 
   in_next : (n : ℕ) (ls : List (List ℕ × KeyedList)) (m e : ℕ) (name : List ℕ) (l : KeyedList) → k.list ≡ m → InOrder n ls m e → stanza_at k (ls ++ (name, l) ∷ []) ≡ in_rows k l
   in_next n [] m e name l q h = or_none (in_rows k l)
-  in_next n (x ∷ ls) m e name l q h =
-      ap (λ b. option_or (cond b (stanza_in k.stanza x.1.rows) None) (stanza_at k (ls ++ (name, l) ∷ []))) (lt_ne x.1.serial k.list (omega (arith, q, ends (suc x.1.serial) ls m e h.3)))
-      ∙ in_next (suc x.1.serial) ls m e name l q h.3
+  in_next n (x ∷ ls) m e name l q h = grind (arith, lt_ne, ends, in_next (suc x.1.serial) ls m e name l q h.3)
 
   -- the list of a name has no serial below the first
   from_first : (n : ℕ) (ls : List (List ℕ × KeyedList)) (m e : ℕ) (name : List ℕ) (l : KeyedList) → InOrder n ls m e → at_name name ls ≡ Some l → n ≤ l.serial
   from_first n [] m e name l h at = cc at
-  from_first n (x ∷ ls) m e name l h at = by (bytes_eq name x.0) at (λ a. from_first (suc x.1.serial) ls m e name l h.3 a)
-    where
-      by : (b : Bool) → cond b (Some x.1) (at_name name ls) ≡ Some l → (at_name name ls ≡ Some l → suc x.1.serial ≤ l.serial) → n ≤ l.serial
-      by true at rest = let z : x.1 ≡ l = cc at in subst (λ (l : KeyedList). n ≤ l.serial) z h.0
-      by false at rest = omega (arith, h.0, rest at)
+  from_first n (x ∷ ls) m e name l h at = grind (arith, from_first (suc x.1.serial) ls m e name l h.3)
 
   -- a key of the list of a name, where that list is changed
   in_changed : (n : ℕ) (ls : List (List ℕ × KeyedList)) (m e : ℕ) (name : List ℕ) (l : KeyedList) (f : KeyedList → KeyedList) → InOrder n ls m e → at_name name ls ≡ Some l → k.list ≡ l.serial → stanza_at k (change_named name f ls) ≡ in_rows k (f l)
   in_changed n [] m e name l f h at is = cc at
-  in_changed n (x ∷ ls) m e name l f h at is = by (bytes_eq name x.0) at (λ a. from_first (suc x.1.serial) ls m e name l h.3 a) (λ a. in_changed (suc x.1.serial) ls m e name l f h.3 a is)
-    where
-      by : (b : Bool) → cond b (Some x.1) (at_name name ls) ≡ Some l → (at_name name ls ≡ Some l → suc x.1.serial ≤ l.serial) → (at_name name ls ≡ Some l → stanza_at k (change_named name f ls) ≡ in_rows k (f l))
-          → stanza_at k (cond b ((x.0, f x.1) ∷ ls) (x ∷ change_named name f ls)) ≡ in_rows k (f l)
-      by true at up rest =
-          let z : x.1 ≡ l = cc at in
-          ap (option_or (in_rows k (f x.1))) (none_later (suc x.1.serial) ls m e (omega (arith, is, ap (λ (l : KeyedList). l.serial) z)) h.3) ∙ or_none (in_rows k (f x.1)) ∙ ap (λ l. in_rows k (f l)) z
-      by false at up rest = ap (λ b. option_or (cond b (stanza_in k.stanza x.1.rows) None) (stanza_at k (change_named name f ls))) (lt_ne x.1.serial k.list (omega (arith, is, up at))) ∙ rest at
+  in_changed n (x ∷ ls) m e name l f h at is = grind (arith, from_first, none_later, or_none, lt_ne, in_changed (suc x.1.serial) ls m e name l f h.3)
 
   pub in_list : (n : ℕ) (ls : List (List ℕ × KeyedList)) (m e : ℕ) (name : List ℕ) (l : KeyedList) → InOrder n ls m e → at_name name ls ≡ Some l → k.list ≡ l.serial → stanza_at k ls ≡ in_rows k l
   in_list n [] m e name l h at is = cc at
-  in_list n (x ∷ ls) m e name l h at is = by (bytes_eq name x.0) at (λ a. from_first (suc x.1.serial) ls m e name l h.3 a) (λ a. in_list (suc x.1.serial) ls m e name l h.3 a is)
-    where
-      by : (b : Bool) → cond b (Some x.1) (at_name name ls) ≡ Some l → (at_name name ls ≡ Some l → suc x.1.serial ≤ l.serial) → (at_name name ls ≡ Some l → stanza_at k ls ≡ in_rows k l) → stanza_at k (x ∷ ls) ≡ in_rows k l
-      by true at up rest =
-          let z : x.1 ≡ l = cc at in
-          ap (option_or (in_rows k x.1)) (none_later (suc x.1.serial) ls m e (omega (arith, is, ap (λ (l : KeyedList). l.serial) z)) h.3) ∙ or_none (in_rows k x.1) ∙ ap (in_rows k) z
-      by false at up rest = ap (λ b. option_or (cond b (stanza_in k.stanza x.1.rows) None) (stanza_at k ls)) (lt_ne x.1.serial k.list (omega (arith, is, up at))) ∙ rest at
+  in_list n (x ∷ ls) m e name l h at is = grind (arith, from_first, none_later, or_none, lt_ne, in_list (suc x.1.serial) ls m e name l h.3)
 
   in_dropped : (n : ℕ) (ls : List (List ℕ × KeyedList)) (m e : ℕ) (name : List ℕ) (l : KeyedList) → InOrder n ls m e → at_name name ls ≡ Some l → k.list ≡ l.serial → stanza_at k (without_name name ls) ≡ None
   in_dropped n [] m e name l h at is = cc at
-  in_dropped n (x ∷ ls) m e name l h at is = by (bytes_eq name x.0) at (λ a. from_first (suc x.1.serial) ls m e name l h.3 a) (λ a. in_dropped (suc x.1.serial) ls m e name l h.3 a is)
-    where
-      by : (b : Bool) → cond b (Some x.1) (at_name name ls) ≡ Some l → (at_name name ls ≡ Some l → suc x.1.serial ≤ l.serial) → (at_name name ls ≡ Some l → stanza_at k (without_name name ls) ≡ None) → stanza_at k (cond b ls (x ∷ without_name name ls)) ≡ None
-      by true at up rest = let z : x.1 ≡ l = cc at in none_later (suc x.1.serial) ls m e (omega (arith, is, ap (λ (l : KeyedList). l.serial) z)) h.3
-      by false at up rest = ap (λ b. option_or (cond b (stanza_in k.stanza x.1.rows) None) (stanza_at k (without_name name ls))) (lt_ne x.1.serial k.list (omega (arith, is, up at))) ∙ rest at
+  in_dropped n (x ∷ ls) m e name l h at is = grind (arith, from_first, none_later, lt_ne, in_dropped (suc x.1.serial) ls m e name l h.3)
 
   pub of_serial : (l : KeyedList) → k.list ≡ l.serial → in_rows k l ≡ stanza_in k.stanza l.rows
   of_serial l is = ap (λ b. cond b (stanza_in k.stanza l.rows) None) (eq_is l.serial k.list (sym is))
@@ -151,11 +113,7 @@ module _ (k : StanzaKey) where
 -- what the rows of the list of a name have
 pub rows_rise : (n : ℕ) (ls : List (List ℕ × KeyedList)) (m e : ℕ) (name : List ℕ) (l : KeyedList) → InOrder n ls m e → at_name name ls ≡ Some l → Rises 0 l.rows l.next
 rows_rise n [] m e name l h at = cc at
-rows_rise n (x ∷ ls) m e name l h at = by (bytes_eq name x.0) at (λ a. rows_rise (suc x.1.serial) ls m e name l h.3 a)
-  where
-    by : (b : Bool) → cond b (Some x.1) (at_name name ls) ≡ Some l → (at_name name ls ≡ Some l → Rises 0 l.rows l.next) → Rises 0 l.rows l.next
-    by true at rest = let z : x.1 ≡ l = cc at in subst (λ (l : KeyedList). Rises 0 l.rows l.next) z h.2
-    by false at rest = rest at
+rows_rise n (x ∷ ls) m e name l h at = grind (arith, rows_rise (suc x.1.serial) ls m e name l h.3)
 
 module _ {X : Type 0} {P Q : X → Type 0} (f : (x : X) → P x → Q x) where
   weaken : (xs : List X) → AllByRecursion P xs → AllByRecursion Q xs
@@ -236,15 +194,7 @@ module _ (s : Keyed) (e : ℕ) (order : InOrder 0 s.lists s.next_list e) where
 
   put_gone : (list : List ℕ) (x : Content) (o : Option KeyedList) → at_name list s.lists ≡ o → AreGone (option_map_or (found_key (package_of x) (version_of x)) o []) (option_map_or (put_key x) o []) (change_named list (put_keyed x) s.lists)
   put_gone list x None at = tt
-  put_gone list x (Some l) at = by (place (by_name_and_version (package_of x) (version_of x)) l.rows)
-    where
-      by : (o : Option ℕ) → AreGone (key_at l o) (key_or_new l o) (change_named list (put_keyed x) s.lists)
-      by None = tt
-      by (Some i) = over (take 1 (drop i l.rows))
-        where
-          over : (qs : List (ℕ × Content)) → AllByRecursion (λ k. IsNotAmong k (map (λ (row : ℕ × Content). key_of l.serial row.0) qs) → stanza_at k (change_named list (put_keyed x) s.lists) ≡ None) (map (λ (row : ℕ × Content). key_of l.serial row.0) qs)
-          over [] = tt
-          over (q ∷ qs) = ((λ h. absurd (let e : true ≡ false = sym (is_itself (key_of l.serial q.0)) ∙ h.0 in cc)), weaken (λ k g h. g h.1) (map (λ (row : ℕ × Content). key_of l.serial row.0) qs) (over qs))
+  put_gone list x (Some l) at = grind arith
 
   pub gone_law : (edit : Edit) → AreGone (removed_of s edit) (added_of s edit) (keyed_after s edit).lists
   gone_law (AddList name kind class stanzas) = tt

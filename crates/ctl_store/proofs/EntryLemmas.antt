@@ -391,10 +391,7 @@ no_entries (e ∷ es) h = cc h
 
 -- the rest of a cut
 rest_is : (b a : List Entry) (r k : List StanzaKey) (c : Cut b a r k) → AreRising (entry_keys b) → without_keys r b ≡ c.spliced.head ++ c.spliced.tail
-rest_is b a r k c rising =
-    ap (λ ks. without_keys ks b) (sym c.removed_are)
-    ∙ ap (without_keys (entry_keys c.gone)) c.spliced.before_is
-    ∙ between c.spliced.head c.gone c.spliced.tail (subst (λ es. AreRising (entry_keys es)) c.spliced.before_is rising)
+rest_is b a r k c rising = grind (arith, between)
 
 rest_only : (b a : List Entry) (r : List StanzaKey) (c : Cut b a r []) → AreRising (entry_keys b) → without_keys r b ≡ a
 rest_only b a r c rising = rest_is b a r [] c rising ∙ ap (λ come. c.spliced.head ++ (come ++ c.spliced.tail)) (sym (no_entries c.come c.added_are)) ∙ sym c.spliced.after_is
@@ -428,12 +425,7 @@ module _ (s : Keyed) (e : ℕ) (order : InOrder 0 s.lists s.next_list e) (edit :
   c = edit_cut s edit
 
   gone_is : c.gone ≡ entries_at (removed_of s edit) s.lists
-  gone_is =
-      by_keys (λ k. stanza_at k s.lists) c.gone
-      (first_part (λ (e : Entry). stanza_at e.0 s.lists ≡ Some e.1) c.gone c.spliced.tail
-      (second_part (λ (e : Entry). stanza_at e.0 s.lists ≡ Some e.1) c.spliced.head (c.gone ++ c.spliced.tail)
-      (subst (λ es. AreAt es s.lists) c.spliced.before_is (entries_found 0 s.lists s.next_list e order))))
-      ∙ ap (λ ks. entries_at ks s.lists) c.removed_are
+  gone_is = grind (arith, by_keys, first_part, second_part, entries_found)
 
   come_at : AreAt c.come t.lists
   come_at =
@@ -447,10 +439,7 @@ module _ (s : Keyed) (e : ℕ) (order : InOrder 0 s.lists s.next_list e) (edit :
       ∙ ap (λ ks. entries_coming ks edit) c.added_are
 
   mid_before : without_keys (removed_of s edit) (entries_of s.lists) ≡ c.spliced.head ++ c.spliced.tail
-  mid_before =
-      ap (λ ks. without_keys ks (entries_of s.lists)) (sym c.removed_are)
-      ∙ ap (without_keys (entry_keys c.gone)) c.spliced.before_is
-      ∙ between c.spliced.head c.gone c.spliced.tail (subst (λ es. AreRising (entry_keys es)) c.spliced.before_is (subst AreRising (sym (keys_are_all s.lists)) (keys_rise 0 s.lists s.next_list e order)))
+  mid_before = grind (arith, between, keys_are_all, keys_rise)
 
   mid_after : without_keys (added_of s edit) (entries_of t.lists) ≡ c.spliced.head ++ c.spliced.tail
   mid_after =
@@ -468,14 +457,10 @@ module _ (s : Keyed) (e : ℕ) (order : InOrder 0 s.lists s.next_list e) (edit :
   three f h g t = omega (arith, sum_by-append f h (g ++ t), sum_by-append f g t, sum_by-append f h t)
 
   sum_before : (f : Entry → ℕ) → sum_by f (entries_of s.lists) ≡ sum_by f (without_keys (removed_of s edit) (entries_of s.lists)) + sum_by f (entries_at (removed_of s edit) s.lists)
-  sum_before f =
-      ap (sum_by f) c.spliced.before_is ∙ three f c.spliced.head c.gone c.spliced.tail
-      ∙ ap (λ es. sum_by f es + sum_by f c.gone) (sym mid_before) ∙ ap (λ es. sum_by f (without_keys (removed_of s edit) (entries_of s.lists)) + sum_by f es) gone_is
+  sum_before f = grind (arith, three, mid_before, gone_is)
 
   sum_after : (f : Entry → ℕ) → sum_by f (entries_of t.lists) ≡ sum_by f (without_keys (removed_of s edit) (entries_of s.lists)) + sum_by f (entries_coming (added_of s edit) edit)
-  sum_after f =
-      ap (sum_by f) c.spliced.after_is ∙ three f c.spliced.head c.come c.spliced.tail
-      ∙ ap (λ es. sum_by f es + sum_by f c.come) (sym mid_before) ∙ ap (λ es. sum_by f (without_keys (removed_of s edit) (entries_of s.lists)) + sum_by f es) come_is
+  sum_after f = grind (arith, three, mid_before, come_is)
 
   pub change_law : IsChange s.lists (keyed_after s edit).lists (removed_of s edit) (added_of s edit) edit
   change_law =

@@ -1,5 +1,5 @@
 -- The stanzas under the keys of a list are its stanzas.
-use Rattle.std.proofs.Common.{◌≡◌, ◌∙◌, ℕ, ◌<◌, suc, Bool, true, false, cond, nat_eq, List, [], ◌∷◌, map, drop, get_or, Option, None, Some, refl, ap, arith}
+use Rattle.std.proofs.Common.{◌≡◌, ◌∙◌, ℕ, ◌<◌, suc, Bool, true, false, cond, nat_eq, List, [], ◌∷◌, map, drop, Option, None, Some, refl, ap, arith}
 use Rattle.std.specs.List.{AllByRecursion}
 use Rattle.std.specs.Map.{lookup}
 use Rattle.std.specs.Option.{option_or, option_map_or}
@@ -48,10 +48,7 @@ in_first : (l : KeyedList) (ls : List (List ℕ × KeyedList)) (rows : List (ℕ
 in_first l ls [] [] e = refl
 in_first l ls [] (x ∷ xs) e = cc e
 in_first l ls (r ∷ rows) [] e = cc e
-in_first l ls (r ∷ rows) (x ∷ xs) e =
-    let k = key_of l.serial r.0 in
-    two (ap (λ b. option_or (cond b (in_row l.rows k) None) (stanza_at k ls)) (same l.serial) ∙ ap (λ o. option_or o (stanza_at k ls)) (ap (λ os. get_or os 0 (Some x)) e))
-    (in_first l ls rows xs (ap (λ os. drop 1 os) e))
+in_first l ls (r ∷ rows) (x ∷ xs) e = grind (arith, in_first l ls rows xs (ap (λ os. drop 1 os) e))
 
 -- a list with a lower serial than these keys
 skip_list : (l : KeyedList) (ls : List (List ℕ × KeyedList)) (ks : List StanzaKey) → AllByRecursion (λ k. l.serial < k.list) ks → map (λ k. option_or (in_rows k l) (stanza_at k ls)) ks ≡ map (λ k. stanza_at k ls) ks

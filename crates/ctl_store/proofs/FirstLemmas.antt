@@ -1,16 +1,14 @@
 -- Of two settings of one selector the first counts.
-use Rattle.std.proofs.Common.{◌≡◌, ℕ, ℤ, Bool, true, false, cond, List, [], ◌∷◌, ◌++◌, Option, None, Some, is_some, Ok, refl, ap, subst, ◌∙◌}
+use Rattle.std.proofs.Common.{◌≡◌, ℕ, ℤ, Bool, true, false, cond, List, [], ◌∷◌, ◌++◌, Option, None, Some, is_some, Ok, refl, ap, subst, ◌∙◌, arith}
 use Rattle.std.specs.List.{IsDistinct, AllByRecursion}
 use Rattle.std.specs.Map.{lookup, keys_of}
 use Rattle.std.specs.Option.{option_or}
 use Rattle.ctl_stanza.specs.declared.fault.TextFault.{TextFault}
-use Rattle.ctl_stanza.specs.Faults.{or_else}
-use Rattle.ctl_stanza.specs.Text.{or_fault}
 use Rattle.ctl_stanza.specs.Records.{RecordText, records_before_fault}
 use Rattle.ctl_store.specs.declared.selector.Selector.{Selector}
 use Rattle.ctl_store.specs.Pins.{selector_eq, AreDistinct}
 use Rattle.ctl_store.specs.SelectorLaws.{selector_equiv, selector_eq-Decides}
-use Rattle.ctl_store.specs.Prefs.{keep_first, first_settings, all_settings, first_own_fault, settings_or_fault, read_prefs_text}
+use Rattle.ctl_store.specs.Prefs.{keep_first, first_settings, all_settings, settings_or_fault, read_prefs_text}
 use Rattle.ctl_store.specs.PrefsLaws.{SetsFirst}
 
 or_none : {X : Type 0} (o : Option X) → o ≡ option_or o None
@@ -19,12 +17,7 @@ or_none (Some x) = refl
 
 lookup-append : (s : Selector) (kept : List (Selector × ℤ)) (one : Selector × ℤ) → lookup (selector_eq s) (kept ++ one ∷ []) ≡ option_or (lookup (selector_eq s) kept) (cond (selector_eq s one.0) (Some one.1) None)
 lookup-append s [] one = refl
-lookup-append s (e ∷ kept) one = by (selector_eq s e.0) (lookup-append s kept one)
-  where
-    by : (b : Bool) → lookup (selector_eq s) (kept ++ one ∷ []) ≡ option_or (lookup (selector_eq s) kept) (cond (selector_eq s one.0) (Some one.1) None)
-        → cond b (Some e.1) (lookup (selector_eq s) (kept ++ one ∷ [])) ≡ option_or (cond b (Some e.1) (lookup (selector_eq s) kept)) (cond (selector_eq s one.0) (Some one.1) None)
-    by true rest = refl
-    by false rest = rest
+lookup-append s (e ∷ kept) one = grind (arith, lookup-append s kept one)
 
 -- a setting that is kept, or whose selector stands before, is what its selector has
 lookup-keep : (s : Selector) (kept : List (Selector × ℤ)) (one : Selector × ℤ) → lookup (selector_eq s) (keep_first kept one) ≡ option_or (lookup (selector_eq s) kept) (cond (selector_eq s one.0) (Some one.1) None)
@@ -49,10 +42,7 @@ or_assoc None false x c = refl
 
 lookup-first : (s : Selector) (kept all : List (Selector × ℤ)) → lookup (selector_eq s) (first_settings kept all) ≡ option_or (lookup (selector_eq s) kept) (lookup (selector_eq s) all)
 lookup-first s kept [] = or_none (lookup (selector_eq s) kept)
-lookup-first s kept (one ∷ all) =
-    lookup-first s (keep_first kept one) all
-    ∙ ap (λ o. option_or o (lookup (selector_eq s) all)) (lookup-keep s kept one)
-    ∙ or_assoc (lookup (selector_eq s) kept) (selector_eq s one.0) one.1 (lookup (selector_eq s) all)
+lookup-first s kept (one ∷ all) = grind (arith, lookup-keep, or_assoc, lookup-first s (keep_first kept one) all)
 
 -- ---- no selector stands twice
 
@@ -75,11 +65,7 @@ distinct-push [] one h k = (tt, tt)
 distinct-push (e ∷ kept) one h k = (all_last (λ t. selector_eq e.0 t ≡ false) kept one h.0 k.0, distinct-push kept one h.1 k.1)
 
 distinct-keep : (kept : List (Selector × ℤ)) (one : Selector × ℤ) → AreDistinct kept → AreDistinct (keep_first kept one)
-distinct-keep kept one h = by (is_some (lookup (selector_eq one.0) kept)) refl
-  where
-    by : (b : Bool) → is_some (lookup (selector_eq one.0) kept) ≡ b → AreDistinct (cond b kept (kept ++ one ∷ []))
-    by true e = h
-    by false e = distinct-push kept one h (absent_all one.0 kept e)
+distinct-keep kept one h = grind (arith, distinct-push, absent_all)
 
 distinct-first : (kept all : List (Selector × ℤ)) → AreDistinct kept → AreDistinct (first_settings kept all)
 distinct-first kept [] h = h
@@ -92,11 +78,7 @@ distinct-none = tt
 -- ---- the text
 
 what_is_read : (read : List RecordText × Option TextFault) (settings : List (Selector × ℤ)) → settings_or_fault read ≡ Ok settings → first_settings [] (all_settings read.0) ≡ settings
-what_is_read read settings e = by (or_else (first_own_fault read.0) read.1) e
-  where
-    by : (o : Option TextFault) → or_fault o (Ok (first_settings [] (all_settings read.0))) ≡ Ok settings → first_settings [] (all_settings read.0) ≡ settings
-    by None e = cc
-    by (Some fault) e = cc
+what_is_read read settings e = grind arith
 
 pub sets_first : (n : ℕ) (text : List ℕ) (settings : List (Selector × ℤ)) → read_prefs_text n text ≡ Ok settings → SetsFirst (records_before_fault n text).0 settings
 sets_first n text settings e =

@@ -1,23 +1,22 @@
 -- An edit that is followed key by key ends in the stanzas after it.
-use Rattle.std.proofs.Common.{◌≡◌, ℕ, zero, suc, ◌+◌, Bool, true, false, cond, not, nat_eq, ◌&&◌, ◌||◌, List, [], ◌∷◌, ◌++◌, map, take, drop, Option, Some, None, option_map, refl, ap, sym, subst, ◌∙◌, arith}
-use Rattle.std.specs.List.{list_any, cons_option, slice_get, AllByRecursion}
+use Rattle.std.proofs.Common.{◌≡◌, ℕ, zero, suc, ◌+◌, Bool, true, false, cond, nat_eq, ◌&&◌, ◌||◌, List, [], ◌∷◌, ◌++◌, map, Option, Some, None, refl, ap, sym, subst, ◌∙◌, arith}
+use Rattle.std.specs.List.{list_any, slice_get, AllByRecursion}
 use Rattle.std.specs.Map.{lookup}
 use Rattle.std.specs.Option.{option_or, option_map_or}
 use Rattle.std.specs.Ordering.{nat_cmp, ordering_then}
 use Rattle.std.specs.declared.cmp.Ordering.TheVariants.{Less}
 use Rattle.std.proofs.lemmas.Bool.Decides.{nat_tests}
 use Rattle.std.proofs.lemmas.List.Sums.{sum_by-append}
-use Rattle.ctl_stanza.specs.Content.{Content, package_of, version_of}
+use Rattle.ctl_stanza.specs.Content.{Content}
 use Rattle.ctl_store.specs.declared.stanza_key.StanzaKey.{StanzaKey}
 use Rattle.ctl_store.specs.Edits.{Edit, AddList, DropList, Put, Remove, Mark, Unmark, Pin, Unpin, Target, Prefs}
 use Rattle.ctl_store.specs.Named.{at_name}
-use Rattle.ctl_store.specs.Step.{place}
-use Rattle.ctl_store.specs.Rows.{rows_from, by_name_and_version}
-use Rattle.ctl_store.specs.Keys.{Keyed, KeyedList, key_of, key_cmp, key_is, key_or_new, put_key, all_keys, AreRising, added_of, stanza_at, coming}
+use Rattle.ctl_store.specs.Rows.{rows_from}
+use Rattle.ctl_store.specs.Keys.{Keyed, KeyedList, key_of, key_cmp, key_is, put_key, all_keys, AreRising, added_of, stanza_at, coming}
 use Rattle.ctl_store.specs.Entries.{Entry, rows_under, entries_in, entries_of, entry_keys, AreAt, is_among, without_keys, entries_by, entries_coming, IsChange}
 use Rattle.ctl_store.specs.Followed.{under, AreApart, AreDistinctKeys, coming_under, shown_under, IsFollowed}
 use Rattle.ctl_store.specs.Held.{coming_among}
-use Rattle.ctl_store.proofs.PlaceLemmas.{eq_is, is_eq_from}
+use Rattle.ctl_store.proofs.PlaceLemmas.{eq_is}
 use Rattle.ctl_store.proofs.EntryLemmas.{keys_are_all}
 
 module _ {X : Type 0} (P : X → Type 0) where
@@ -37,17 +36,8 @@ all_both : {X : Type 0} (P Q R : X → Type 0) (xs : List X) → ((x : X) → P 
 all_both P Q R [] f p q = tt
 all_both P Q R (x ∷ xs) f p q = (f x p.0 q.0, all_both P Q R xs f p.1 q.1)
 
-and_both : (a b : Bool) → (a && b) ≡ true → (a ≡ true) × (b ≡ true)
-and_both true b h = (refl, h)
-and_both false b h = absurd (let z : ⊥ = cc in z)
-
 is_itself : (k : StanzaKey) → key_is k k ≡ true
 is_itself k = λ i. eq_is k.list k.list refl i && eq_is k.stanza k.stanza refl i
-
-key_is-same : (a b : StanzaKey) → key_is a b ≡ true → a ≡ b
-key_is-same a b h =
-    let both = and_both (nat_eq b.list a.list) (nat_eq b.stanza a.stanza) h in
-    λ i. key_of (sym (is_eq_from b.list a.list both.0) i) (sym (is_eq_from b.stanza a.stanza both.1) i)
 
 nat_turned : (a b : ℕ) → nat_eq a b ≡ nat_eq b a
 nat_turned a b = grind (arith, nat_tests)
@@ -59,25 +49,11 @@ key_is-turned a b = λ i. nat_turned b.list a.list i && nat_turned b.stanza a.st
 
 pub under-append : (k : StanzaKey) (xs ys : List Entry) → under k (xs ++ ys) ≡ option_or (under k xs) (under k ys)
 under-append k [] ys = refl
-under-append k (x ∷ xs) ys = by (key_is k x.0) (under-append k xs ys)
-  where
-    by : (b : Bool) → under k (xs ++ ys) ≡ option_or (under k xs) (under k ys) → cond b (Some x.1) (under k (xs ++ ys)) ≡ option_or (cond b (Some x.1) (under k xs)) (under k ys)
-    by true rest = refl
-    by false rest = rest
+under-append k (x ∷ xs) ys = grind (arith, under-append k xs ys)
 
 in_list : (k : StanzaKey) (serial : ℕ) (rows : List (ℕ × Content)) → under k (rows_under serial rows) ≡ cond (nat_eq serial k.list) (lookup (λ s. nat_eq s k.stanza) rows) None
-in_list k serial [] = by (nat_eq serial k.list)
-  where
-    by : (b : Bool) → ◌≡◌ {A = Option Content} None (cond b None None)
-    by true = refl
-    by false = refl
-in_list k serial (row ∷ rows) = by (nat_eq serial k.list) (nat_eq row.0 k.stanza) (in_list k serial rows)
-  where
-    by : (b d : Bool) → under k (rows_under serial rows) ≡ cond b (lookup (λ s. nat_eq s k.stanza) rows) None
-        → cond (b && d) (Some row.1) (under k (rows_under serial rows)) ≡ cond b (cond d (Some row.1) (lookup (λ s. nat_eq s k.stanza) rows)) None
-    by true true rest = refl
-    by true false rest = rest
-    by false d rest = rest
+in_list k serial [] = grind arith
+in_list k serial (row ∷ rows) = grind (arith, in_list k serial rows)
 
 -- the stanza of a key is the one under it
 pub stanza_under : (k : StanzaKey) (ls : List (List ℕ × KeyedList)) → stanza_at k ls ≡ under k (entries_of ls)
@@ -132,70 +108,35 @@ distinct_keys (x ∷ xs) h = (keys_all (λ q. key_is x.0 q ≡ false) xs h.0, di
 
 all_kept : (P : Entry → Type 0) (ks : List StanzaKey) (es : List Entry) → AllByRecursion P es → AllByRecursion P (without_keys ks es)
 all_kept P ks [] h = tt
-all_kept P ks (e ∷ es) h = by (is_among ks e) (all_kept P ks es h.1)
-  where
-    by : (b : Bool) → AllByRecursion P (without_keys ks es) → AllByRecursion P (cond (not b) (e ∷ without_keys ks es) (without_keys ks es))
-    by true rest = rest
-    by false rest = (h.0, rest)
+all_kept P ks (e ∷ es) h = grind (arith, all_kept P ks es h.1)
 
 apart_without : (ks : List StanzaKey) (es : List Entry) → AreApart es → AreApart (without_keys ks es)
 apart_without ks [] h = tt
-apart_without ks (e ∷ es) h = by (is_among ks e) (apart_without ks es h.1)
-  where
-    by : (b : Bool) → AreApart (without_keys ks es) → AreApart (cond (not b) (e ∷ without_keys ks es) (without_keys ks es))
-    by true rest = rest
-    by false rest = (all_kept (λ (d : Entry). key_is e.0 d.0 ≡ false) ks es h.0, rest)
+apart_without ks (e ∷ es) h = grind (arith, all_kept, apart_without ks es h.1)
 
 -- those that stay are of none of the keys
 none_among : (ks : List StanzaKey) (es : List Entry) → AllByRecursion (λ (e : Entry). is_among ks e ≡ false) (without_keys ks es)
 none_among ks [] = tt
-none_among ks (e ∷ es) = by (is_among ks e) refl (none_among ks es)
-  where
-    by : (b : Bool) → is_among ks e ≡ b → AllByRecursion (λ (d : Entry). is_among ks d ≡ false) (without_keys ks es) → AllByRecursion (λ (d : Entry). is_among ks d ≡ false) (cond (not b) (e ∷ without_keys ks es) (without_keys ks es))
-    by true is rest = rest
-    by false is rest = (is, rest)
+none_among ks (e ∷ es) = grind (arith, none_among ks es)
 
 -- what is under a key without some keys
 under-without : (k : StanzaKey) (ks : List StanzaKey) (es : List Entry) → under k (without_keys ks es) ≡ cond (list_any (key_is k) ks) None (under k es)
-under-without k ks [] = either (list_any (key_is k) ks)
-  where
-    either : (b : Bool) → ◌≡◌ {A = Option Content} None (cond b None None)
-    either true = refl
-    either false = refl
-under-without k ks (e ∷ es) = by (key_is k e.0) (is_among ks e) (list_any (key_is k) ks) refl (λ h. ap (λ (q : StanzaKey). list_any (key_is q) ks) (key_is-same k e.0 h)) (under-without k ks es)
-  where
-    by : (b c a : Bool) → key_is k e.0 ≡ b → (b ≡ true → a ≡ c) → under k (without_keys ks es) ≡ cond a None (under k es)
-        → under k (cond (not c) (e ∷ without_keys ks es) (without_keys ks es)) ≡ cond a None (cond b (Some e.1) (under k es))
-    by true true a h s rest = rest ∙ ap (λ z. cond z None (under k es)) (s refl) ∙ sym (ap (λ z. cond z None (Some e.1)) (s refl))
-    by true false a h s rest = ap (λ z. cond z (Some e.1) (under k (without_keys ks es))) h ∙ sym (ap (λ z. cond z None (Some e.1)) (s refl))
-    by false true a h s rest = rest
-    by false false a h s rest = ap (λ z. cond z (Some e.1) (under k (without_keys ks es))) h ∙ rest
+under-without k ks [] = grind arith
+under-without k ks (e ∷ es) = grind (arith, under-without k ks es)
 
 module _ (k : StanzaKey) where
   -- what is under a key in a part that has the key
   found_part : (es part : List Entry) → AllByRecursion (λ (e : Entry). under e.0 es ≡ Some e.1) part → list_any (key_is k) (entry_keys part) ≡ true → under k part ≡ under k es
   found_part es [] own h = absurd (let z : ⊥ = cc in z)
-  found_part es (e ∷ part) own h = by (key_is k e.0) refl h (found_part es part own.1)
-    where
-      by : (b : Bool) → key_is k e.0 ≡ b → (b || list_any (key_is k) (entry_keys part)) ≡ true → (list_any (key_is k) (entry_keys part) ≡ true → under k part ≡ under k es) → cond b (Some e.1) (under k part) ≡ under k es
-      by true is h rest = sym (ap (λ q. under q es) (key_is-same k e.0 is) ∙ own.0)
-      by false is h rest = rest h
+  found_part es (e ∷ part) own h = grind (arith, found_part es part own.1)
 
   none_part : (part : List Entry) → list_any (key_is k) (entry_keys part) ≡ false → under k part ≡ None
   none_part [] h = refl
-  none_part (e ∷ part) h = by (key_is k e.0) h (none_part part)
-    where
-      by : (b : Bool) → (b || list_any (key_is k) (entry_keys part)) ≡ false → (list_any (key_is k) (entry_keys part) ≡ false → under k part ≡ None) → cond b (Some e.1) (under k part) ≡ None
-      by true h rest = absurd (let z : ⊥ = cc in z)
-      by false h rest = rest h
+  none_part (e ∷ part) h = grind (arith, none_part part)
 
   apart_part : (part : List Entry) → list_any (key_is k) (entry_keys part) ≡ false → AllByRecursion (λ (d : Entry). key_is k d.0 ≡ false) part
   apart_part [] h = tt
-  apart_part (e ∷ part) h = by (key_is k e.0) refl h (apart_part part)
-    where
-      by : (b : Bool) → key_is k e.0 ≡ b → (b || list_any (key_is k) (entry_keys part)) ≡ false → (list_any (key_is k) (entry_keys part) ≡ false → AllByRecursion (λ (d : Entry). key_is k d.0 ≡ false) part) → (key_is k e.0 ≡ false) × AllByRecursion (λ (d : Entry). key_is k d.0 ≡ false) part
-      by true is h rest = absurd (let z : ⊥ = cc in z)
-      by false is h rest = (is, rest h)
+  apart_part (e ∷ part) h = grind (arith, apart_part part)
 
   -- one or both
   joined : (o p : Option Content) (b : Bool) → (b ≡ true → p ≡ o) → (b ≡ false → p ≡ None) → option_or (cond b None o) p ≡ o
@@ -220,11 +161,7 @@ own_among (k ∷ ks) = (
 
 found_by : (find : StanzaKey → Option Content) (P : StanzaKey → Type 0) (ks : List StanzaKey) → AllByRecursion P ks → AllByRecursion (λ (e : Entry). P e.0 × (find e.0 ≡ Some e.1)) (entries_by find ks)
 found_by find P [] h = tt
-found_by find P (k ∷ ks) h = by (find k) refl (found_by find P ks h.1)
-  where
-    by : (o : Option Content) → find k ≡ o → AllByRecursion (λ (e : Entry). P e.0 × (find e.0 ≡ Some e.1)) (entries_by find ks) → AllByRecursion (λ (e : Entry). P e.0 × (find e.0 ≡ Some e.1)) (cons_option (option_map (λ (x : Content). (k, x)) o) (entries_by find ks))
-    by None is rest = rest
-    by (Some x) is rest = ((h.0, is), rest)
+found_by find P (k ∷ ks) h = grind (arith, found_by find P ks h.1)
 
 -- ---- what comes under a key, by the first key that comes
 
@@ -241,40 +178,15 @@ module _ (k : StanzaKey) where
 
   in_new : (serial n m : ℕ) (xs : List Content) → nat_eq serial k.list ≡ true → k.stanza ≡ n + m → slice_get xs m ≡ cond (list_any (key_is k) (new_keys serial n xs)) (slice_get xs m) None
   in_new serial n m [] h at = refl
-  in_new serial n zero (x ∷ xs) h at =
-      let here : nat_eq n k.stanza ≡ true = eq_is n k.stanza (omega (arith, at)) in
-      sym (λ i. cond ((h i && here i) || list_any (key_is k) (new_keys serial (suc n) xs)) (Some x) None)
-  in_new serial n (suc m) (x ∷ xs) h at =
-      let not_here : nat_eq n k.stanza ≡ false = grind (arith, nat_tests, at) in
-      in_new serial (suc n) m xs h (omega (arith, at))
-      ∙ sym (λ i. cond ((h i && not_here i) || list_any (key_is k) (new_keys serial (suc n) xs)) (slice_get xs m) None)
+  in_new serial n zero (x ∷ xs) h at = grind arith
+  in_new serial n (suc m) (x ∷ xs) h at = grind (arith, in_new serial (suc n) m xs h (omega (arith, at)))
 
   add_comes : (serial : ℕ) (xs : List Content) → cond (nat_eq serial k.list) (slice_get xs k.stanza) None ≡ cond (list_any (key_is k) (new_keys serial 0 xs)) (slice_get xs k.stanza) None
-  add_comes serial xs = by (nat_eq serial k.list) refl
-    where
-      by : (b : Bool) → nat_eq serial k.list ≡ b → cond b (slice_get xs k.stanza) None ≡ cond (list_any (key_is k) (new_keys serial 0 xs)) (slice_get xs k.stanza) None
-      by true h = in_new serial 0 k.stanza xs h (omega arith)
-      by false h = sym (ap (λ b. cond b (slice_get xs k.stanza) None) (no_list serial 0 xs h))
-
-  one_comes : (list : List ℕ) (x : Content) (q : StanzaKey) → Comes (Put list x) (q ∷ [])
-  one_comes list x q = by (nat_eq q.list k.list) (nat_eq q.stanza k.stanza)
-    where
-      by : (a b : Bool) → cond a (cond b (Some x) None) None ≡ cond ((a && b) || false) (Some x) None
-      by true true = refl
-      by true false = refl
-      by false b = refl
+  add_comes serial xs = grind (arith, in_new, no_list)
 
   put_comes : (list : List ℕ) (x : Content) (o : Option KeyedList) → Comes (Put list x) (option_map_or (put_key x) o [])
   put_comes list x None = refl
-  put_comes list x (Some l) = at (place (by_name_and_version (package_of x) (version_of x)) l.rows)
-    where
-      first : (rows : List (ℕ × Content)) → Comes (Put list x) (map (λ (row : ℕ × Content). key_of l.serial row.0) (take 1 rows))
-      first [] = refl
-      first (row ∷ rows) = one_comes list x (key_of l.serial row.0)
-
-      at : (o : Option ℕ) → Comes (Put list x) (key_or_new l o)
-      at None = one_comes list x (key_of l.serial l.next)
-      at (Some i) = first (drop i l.rows)
+  put_comes list x (Some l) = grind arith
 
   pub comes_among : (s : Keyed) (edit : Edit) → coming_among edit (added_of s edit) k ≡ coming_under (added_of s edit) edit k
   comes_among s (AddList name kind class []) = refl
@@ -311,24 +223,16 @@ module _ (before after : List (List ℕ × KeyedList)) (removed added : List Sta
   apart_new = apart_front new change.entries.tail (apart_back change.entries.head (new ++ change.entries.tail) (subst AreApart change.entries.after_is apart_after))
 
   apart_then : AreApart (rest ++ new)
-  apart_then =
-      apart_join rest new (apart_without removed (entries_of before) apart_before) apart_new
-      (all_both (λ (e : Entry). is_among added e ≡ false) (λ (e : Entry). is_among added e ≡ false) (λ (e : Entry). AllByRecursion (λ (d : Entry). key_is e.0 d.0 ≡ false) new) rest
-      (λ e none _. apart_part e.0 new (ap (list_any (key_is e.0)) change.added_keys ∙ none)) others others)
+  apart_then = grind (arith, apart_join, apart_without, apart_before, apart_new, all_both, apart_part, others)
 
   distinct : AreDistinctKeys removed
-  distinct =
-      let gone = apart_back change.entries.head _ (subst AreApart change.entries.before_is apart_before) in
-      subst AreDistinctKeys change.removed_keys (distinct_keys _ (apart_front _ change.entries.tail gone))
+  distinct = grind (arith, apart_back, apart_before, distinct_keys, apart_front)
 
   distinct_added : AreDistinctKeys added
   distinct_added = subst AreDistinctKeys change.added_keys (distinct_keys new apart_new)
 
   shown_rest : AllByRecursion (λ (e : Entry). shown_under before added edit e.0 ≡ Some e.1) rest
-  shown_rest =
-      all_both (λ (e : Entry). is_among added e ≡ false) (λ (e : Entry). stanza_at e.0 before ≡ Some e.1) (λ (e : Entry). shown_under before added edit e.0 ≡ Some e.1) rest
-      (λ e none here. ap (λ b. option_or (cond b (coming edit e.0) None) (stanza_at e.0 before)) none ∙ here)
-      others (all_kept (λ (e : Entry). stanza_at e.0 before ≡ Some e.1) removed (entries_of before) found)
+  shown_rest = grind (arith, all_both, others, all_kept)
 
   shown_new : AllByRecursion (λ (e : Entry). shown_under before added edit e.0 ≡ Some e.1) new
   shown_new =
@@ -342,12 +246,7 @@ module _ (before after : List (List ℕ × KeyedList)) (removed added : List Sta
       all_front (λ (e : Entry). under e.0 (entries_of after) ≡ Some e.1) new change.entries.tail (all_back (λ (e : Entry). under e.0 (entries_of after) ≡ Some e.1) change.entries.head (new ++ change.entries.tail) own)
 
   under_then : (k : StanzaKey) → under k (rest ++ new) ≡ under k (entries_of after)
-  under_then k =
-      under-append k rest new
-      ∙ ap (λ o. option_or o (under k new)) (ap (under k) (sym change.mid) ∙ under-without k added (entries_of after))
-      ∙ joined k (under k (entries_of after)) (under k new) (list_any (key_is k) added)
-      (λ is. found_part k (entries_of after) new own_new (ap (list_any (key_is k)) change.added_keys ∙ is))
-      (λ is. none_part k new (ap (list_any (key_is k)) change.added_keys ∙ is))
+  under_then k = grind (arith, under-append, under-without, joined, found_part, own_new, none_part)
 
   pub followed_law : IsFollowed before after removed added edit
   followed_law = record {

@@ -1,20 +1,18 @@
 -- No key is given again.
-use Rattle.std.proofs.Common.{◌≡◌, ℕ, suc, ◌+◌, ◌<◌, ◌≤◌, Bool, true, false, cond, ◌&&◌, nat_eq, nat_lt, List, [], ◌∷◌, ◌++◌, map, take, drop, Option, None, Some, IsSome, refl, ap, sym, subst, ◌∙◌, arith}
+use Rattle.std.proofs.Common.{◌≡◌, ℕ, suc, ◌+◌, ◌<◌, ◌≤◌, Bool, true, false, cond, ◌&&◌, nat_eq, nat_lt, List, [], ◌∷◌, ◌++◌, map, Option, None, Some, IsSome, refl, ap, ◌∙◌, arith}
 use Rattle.std.specs.List.{AllByRecursion}
 use Rattle.std.specs.Map.{lookup}
 use Rattle.std.specs.Option.{option_or, option_map_or}
-use Rattle.std.specs.Str.{bytes_eq}
 use Rattle.std.proofs.lemmas.Bool.Decides.{nat_tests}
 use Rattle.ctl_stanza.specs.Content.{Content, package_of, version_of}
 use Rattle.ctl_store.specs.declared.stanza_key.StanzaKey.{StanzaKey}
 use Rattle.ctl_store.specs.Named.{at_name, without_name, change_named}
-use Rattle.ctl_store.specs.Step.{place}
 use Rattle.ctl_store.specs.Edits.{Edit, AddList, DropList, Put, Remove, Mark, Unmark, Pin, Unpin, Target, Prefs}
-use Rattle.ctl_store.specs.Rows.{Rises, by_name_and_version, rows_from, next_at}
-use Rattle.ctl_store.specs.Keys.{KeyedList, Keyed, key_of, key_at, key_or_new, found_key, put_key, stanza_at, put_keyed, remove_keyed, list_of_stanzas, keyed_after, removed_of, added_of, IsNotAmong}
+use Rattle.ctl_store.specs.Rows.{Rises, rows_from}
+use Rattle.ctl_store.specs.Keys.{KeyedList, Keyed, key_of, found_key, put_key, stanza_at, put_keyed, remove_keyed, list_of_stanzas, keyed_after, removed_of, added_of}
 use Rattle.ctl_store.specs.Given.{was_given, is_given, AreFirstGiven, IsGivenOnce}
 use Rattle.ctl_store.specs.Held.{InOrder}
-use Rattle.ctl_store.proofs.PlaceLemmas.{eq_is, is_eq_from}
+use Rattle.ctl_store.proofs.PlaceLemmas.{is_eq_from}
 use Rattle.ctl_store.proofs.ChangeLemmas.{none_later, is_itself}
 use Rattle.ctl_store.proofs.EntryLemmas.{order_after}
 
@@ -54,11 +52,7 @@ record Grows (f : KeyedList → KeyedList) : Type 0 where
   next : (l : KeyedList) → l.next ≤ (f l).next
 
 Grows-put : (x : Content) → Grows (put_keyed x)
-Grows-put x = record { serial = λ l. refl; next = λ l. more l.next (place (by_name_and_version (package_of x) (version_of x)) l.rows) }
-  where
-    more : (n : ℕ) (o : Option ℕ) → n ≤ next_at o n
-    more n None = omega arith
-    more n (Some i) = omega arith
+Grows-put x = grind arith
 
 Grows-remove : (name : List ℕ) (version : Option (List ℕ)) → Grows (remove_keyed name version)
 Grows-remove name version = record { serial = λ l. refl; next = λ l. omega arith }
@@ -67,38 +61,17 @@ module _ (k : StanzaKey) where
   abbrev gave : KeyedList → Bool
   gave l = cond (nat_eq l.serial k.list) (nat_lt k.stanza l.next) true
 
-  gave_more : (f : KeyedList → KeyedList) → Grows f → (l : KeyedList) → gave l ≡ true → gave (f l) ≡ true
-  gave_more f g l h = by (nat_eq l.serial k.list) refl h
-    where
-      by : (b : Bool) → nat_eq l.serial k.list ≡ b → cond b (nat_lt k.stanza l.next) true ≡ true → gave (f l) ≡ true
-      by true is h = ap (λ n. cond (nat_eq n k.list) (nat_lt k.stanza (f l).next) true) (g.serial l) ∙ ap (λ b. cond b (nat_lt k.stanza (f l).next) true) is ∙ lt_is k.stanza (f l).next (omega (arith, lt_from k.stanza l.next h, g.next l))
-      by false is h = ap (λ n. cond (nat_eq n k.list) (nat_lt k.stanza (f l).next) true) (g.serial l) ∙ ap (λ b. cond b (nat_lt k.stanza (f l).next) true) is
-
   given_push : (ls : List (List ℕ × KeyedList)) (name : List ℕ) (l : KeyedList) → was_given k ls ≡ true → gave l ≡ true → was_given k (ls ++ (name, l) ∷ []) ≡ true
   given_push [] name l h g = and_true (gave l) true g refl
   given_push (x ∷ ls) name l h g = let both = and_parts (gave x.1) (was_given k ls) h in and_true (gave x.1) (was_given k (ls ++ (name, l) ∷ [])) both.0 (given_push ls name l both.1 g)
 
   given_without : (name : List ℕ) (ls : List (List ℕ × KeyedList)) → was_given k ls ≡ true → was_given k (without_name name ls) ≡ true
   given_without name [] h = refl
-  given_without name (x ∷ ls) h = by (bytes_eq name x.0) (given_without name ls)
-    where
-      both : (gave x.1 ≡ true) × (was_given k ls ≡ true)
-      both = and_parts (gave x.1) (was_given k ls) h
-
-      by : (b : Bool) → (was_given k ls ≡ true → was_given k (without_name name ls) ≡ true) → was_given k (cond b ls (x ∷ without_name name ls)) ≡ true
-      by true rest = both.1
-      by false rest = and_true (gave x.1) (was_given k (without_name name ls)) both.0 (rest both.1)
+  given_without name (x ∷ ls) h = grind (arith, given_without name ls)
 
   given_change : (name : List ℕ) (f : KeyedList → KeyedList) → Grows f → (ls : List (List ℕ × KeyedList)) → was_given k ls ≡ true → was_given k (change_named name f ls) ≡ true
   given_change name f g [] h = refl
-  given_change name f g (x ∷ ls) h = by (bytes_eq name x.0) (given_change name f g ls)
-    where
-      both : (gave x.1 ≡ true) × (was_given k ls ≡ true)
-      both = and_parts (gave x.1) (was_given k ls) h
-
-      by : (b : Bool) → (was_given k ls ≡ true → was_given k (change_named name f ls) ≡ true) → was_given k (cond b ((x.0, f x.1) ∷ ls) (x ∷ change_named name f ls)) ≡ true
-      by true rest = and_true (gave (f x.1)) (was_given k ls) (gave_more f g x.1 both.0) both.1
-      by false rest = and_true (gave x.1) (was_given k (change_named name f ls)) both.0 (rest both.1)
+  given_change name f g (x ∷ ls) h = grind (arith, given_change name f g ls)
 
   stays_given : (s : Keyed) (edit : Edit) → is_given s k ≡ true → is_given (keyed_after s edit) k ≡ true
   stays_given s edit h = by edit
@@ -134,18 +107,12 @@ module _ (k : StanzaKey) where
 
   row_below : (n : ℕ) (rs : List (ℕ × Content)) (m : ℕ) → Rises n rs m → IsSome (lookup (λ s. nat_eq s k.stanza) rs) → k.stanza < m
   row_below n [] m h some = absurd (let z : ⊥ = cc some in z)
-  row_below n (r ∷ rs) m h some = by (nat_eq r.0 k.stanza) refl some (row_below (suc r.0) rs m h.1)
-    where
-      by : (b : Bool) → nat_eq r.0 k.stanza ≡ b → IsSome (cond b (Some r.1) (lookup (λ s. nat_eq s k.stanza) rs)) → (IsSome (lookup (λ s. nat_eq s k.stanza) rs) → k.stanza < m) → k.stanza < m
-      by true is some rest = omega (arith, is_eq_from r.0 k.stanza is, ends (suc r.0) rs m h.1)
-      by false is some rest = rest some
+  row_below n (r ∷ rs) m h some = grind (arith, is_eq_from, ends, row_below (suc r.0) rs m h.1)
 
   -- lists with higher serials gave no other
   later_given : (n : ℕ) (ls : List (List ℕ × KeyedList)) (m e : ℕ) → k.list < n → InOrder n ls m e → was_given k ls ≡ true
   later_given n [] m e l h = refl
-  later_given n (x ∷ ls) m e l h =
-      let other : nat_eq x.1.serial k.list ≡ false = grind (arith, nat_tests, l, h.0) in
-      and_true (gave x.1) (was_given k ls) (ap (λ b. cond b (nat_lt k.stanza x.1.next) true) other) (later_given (suc x.1.serial) ls m e (omega (arith, l, h.0)) h.3)
+  later_given n (x ∷ ls) m e l h = grind (arith, later_given (suc x.1.serial) ls m e (omega (arith, l, h.0)) h.3)
 
   lists_end : (n : ℕ) (ls : List (List ℕ × KeyedList)) (m e : ℕ) → InOrder n ls m e → n ≤ m
   lists_end n [] m e h = h
@@ -157,39 +124,16 @@ module _ (k : StanzaKey) where
 
   held_in : (n : ℕ) (ls : List (List ℕ × KeyedList)) (m e : ℕ) → InOrder n ls m e → IsSome (stanza_at k ls) → (k.list < m) × (was_given k ls ≡ true)
   held_in n [] m e h some = absurd (let z : ⊥ = cc some in z)
-  held_in n (x ∷ ls) m e h some = by (nat_eq x.1.serial k.list) refl some (held_in (suc x.1.serial) ls m e h.3)
-    where
-      by : (b : Bool) → nat_eq x.1.serial k.list ≡ b → IsSome (option_or (cond b (lookup (λ s. nat_eq s k.stanza) x.1.rows) None) (stanza_at k ls)) → (IsSome (stanza_at k ls) → (k.list < m) × (was_given k ls ≡ true)) → (k.list < m) × (was_given k (x ∷ ls) ≡ true)
-      by true is some later =
-          let same : x.1.serial ≡ k.list = is_eq_from x.1.serial k.list is in
-          let none : stanza_at k ls ≡ None = none_later k (suc x.1.serial) ls m e (omega (arith, same)) h.3 in
-          let row : k.stanza < x.1.next = row_below 0 x.1.rows x.1.next h.2 (or_none (lookup (λ s. nat_eq s k.stanza) x.1.rows) (subst (λ o. IsSome (option_or (lookup (λ s. nat_eq s k.stanza) x.1.rows) o)) none some)) in (
-            omega (arith, same, lists_end (suc x.1.serial) ls m e h.3),
-            and_true (gave x.1) (was_given k ls) (ap (λ b. cond b (nat_lt k.stanza x.1.next) true) is ∙ lt_is k.stanza x.1.next row) (later_given (suc x.1.serial) ls m e (omega (arith, same)) h.3),
-          )
-      by false is some later =
-          let rest = later some in
-          (rest.0, and_true (gave x.1) (was_given k ls) (ap (λ b. cond b (nat_lt k.stanza x.1.next) true) is) rest.1)
+  held_in n (x ∷ ls) m e h some = grind (arith, k, is_eq_from, none_later, row_below, or_none, lists_end, and_true, lt_is, later_given, held_in (suc x.1.serial) ls m e h.3)
 
   held_given : (s : Keyed) (e : ℕ) → InOrder 0 s.lists s.next_list e → IsSome (stanza_at k s.lists) → is_given s k ≡ true
-  held_given s e order some =
-      let both = held_in 0 s.lists s.next_list e order some in
-      and_true (nat_lt k.list s.next_list) (was_given k s.lists) (lt_is k.list s.next_list both.0) both.1
+  held_given s e order some = grind (arith, held_in, and_true, k, lt_is)
 
 -- ---- a key that comes was not
 
 new_in : (list : List ℕ) (l : KeyedList) (ls : List (List ℕ × KeyedList)) → at_name list ls ≡ Some l → was_given (key_of l.serial l.next) ls ≡ false
 new_in list l [] at = absurd (let z : ⊥ = cc at in z)
-new_in list l (x ∷ ls) at = by (bytes_eq list x.0) at (new_in list l ls)
-  where
-    k : StanzaKey
-    k = key_of l.serial l.next
-
-    by : (b : Bool) → cond b (Some x.1) (at_name list ls) ≡ Some l → (at_name list ls ≡ Some l → was_given k ls ≡ false) → was_given k (x ∷ ls) ≡ false
-    by true at rest =
-        let same : x.1 ≡ l = cc at in
-        first_false (gave k x.1) (was_given k ls) (ap (gave k) same ∙ ap (λ b. cond b (nat_lt l.next l.next) true) (eq_is l.serial l.serial refl) ∙ not_below_itself l.next)
-    by false at rest = and_false (gave k x.1) (was_given k ls) (rest at)
+new_in list l (x ∷ ls) at = grind (arith, new_in list l ls)
 
 new_keys : (s : Keyed) (rs : List (ℕ × Content)) → AreFirstGiven s (map (λ (row : ℕ × Content). key_of s.next_list row.0) rs) []
 new_keys s [] = tt
@@ -197,15 +141,7 @@ new_keys s (r ∷ rs) = ((λ h. first_false (nat_lt s.next_list s.next_list) (wa
 
 put_new : (s : Keyed) (list : List ℕ) (x : Content) (o : Option KeyedList) → at_name list s.lists ≡ o → AreFirstGiven s (option_map_or (put_key x) o []) (option_map_or (found_key (package_of x) (version_of x)) o [])
 put_new s list x None at = tt
-put_new s list x (Some l) at = by (place (by_name_and_version (package_of x) (version_of x)) l.rows)
-  where
-    by : (o : Option ℕ) → AreFirstGiven s (key_or_new l o) (key_at l o)
-    by None = ((λ h. and_false (nat_lt l.serial s.next_list) (was_given (key_of l.serial l.next) s.lists) (new_in list l s.lists at)), tt)
-    by (Some i) = over (take 1 (drop i l.rows))
-      where
-        over : (qs : List (ℕ × Content)) → AllByRecursion (λ k. IsNotAmong k (map (λ (row : ℕ × Content). key_of l.serial row.0) qs) → is_given s k ≡ false) (map (λ (row : ℕ × Content). key_of l.serial row.0) qs)
-        over [] = tt
-        over (q ∷ qs) = ((λ h. absurd (let e : true ≡ false = sym (is_itself (key_of l.serial q.0)) ∙ h.0 in cc)), weaken (λ k g h. g h.1) (map (λ (row : ℕ × Content). key_of l.serial row.0) qs) (over qs))
+put_new s list x (Some l) at = grind (arith, and_false, new_in, is_itself, weaken)
 
 first_law : (s : Keyed) (edit : Edit) → AreFirstGiven s (added_of s edit) (removed_of s edit)
 first_law s (AddList name kind class stanzas) = new_keys s (rows_from 0 stanzas)

@@ -1,45 +1,29 @@
 -- Changes of one list among the lists, and the order of serials through them.
-use Rattle.std.proofs.Common.{◌≡◌, ℕ, ◌+◌, ◌≤◌, suc, Bool, true, false, cond, ◌||◌, List, [], ◌∷◌, ◌++◌, Option, None, Some, is_some, option_map, map, refl, ap, sym, subst, ◌∙◌, IfSome, OnOk, Result, Ok, Err, arith}
+use Rattle.std.proofs.Common.{◌≡◌, ℕ, ◌+◌, ◌≤◌, suc, Bool, false, cond, ◌||◌, List, [], ◌∷◌, ◌++◌, Option, None, Some, is_some, option_map, map, refl, ap, sym, ◌∙◌, IfSome, OnOk, Result, Ok, Err, arith}
 use Rattle.std.specs.Str.{bytes_eq}
-use Rattle.ctl_stanza.specs.Content.{Content, package_of, version_of}
-use Rattle.ctl_store.specs.State.{StanzaList, shown_lists}
-use Rattle.ctl_store.specs.Step.{place, is_same, is_status, has_status, has_stanza}
+use Rattle.ctl_stanza.specs.Content.{Content}
+use Rattle.ctl_store.specs.State.{shown_lists}
+use Rattle.ctl_store.specs.Step.{place, has_stanza}
 use Rattle.std.specs.Option.{option_map_or}
-use Rattle.std.specs.List.{list_any}
 use Rattle.std.specs.Map.{keys_of as names_of}
 use Rattle.ctl_store.specs.Named.{at_name, has_name, put_named, set_named, without_name, change_named}
-use Rattle.ctl_store.specs.Rows.{Rises, by_name_and_version, put_row_at, next_at, remove_row_at}
+use Rattle.ctl_store.specs.Rows.{Rises, by_name_and_version, remove_row_at}
 use Rattle.ctl_store.specs.Keys.{KeyedList, stanzas_of, stanza_list, stanza_lists, put_keyed, remove_keyed}
 use Rattle.ctl_store.specs.Held.{Sheet, keyed_list, lists_of, InOrder}
-use Rattle.ctl_store.proofs.NamedLemmas.{if_cases, some_is, none_is, put_named-new}
+use Rattle.ctl_store.proofs.NamedLemmas.{if_cases, none_is, put_named-new}
 use Rattle.ctl_store.proofs.PlaceLemmas.{Rises-push, Rises-replace, Rises-remove, place_within}
 
 pub set_named-change : (name : List ℕ) (f : KeyedList → KeyedList) (es : List (List ℕ × Sheet)) (v w : Sheet) → Some v ≡ at_name name es → keyed_list w ≡ f (keyed_list v) → lists_of (set_named name w es) ≡ change_named name f (lists_of es)
 set_named-change name f [] v w e h = refl
-set_named-change name f (x ∷ es) v w e h = by (bytes_eq name x.0) e (λ e. set_named-change name f es v w e h)
-  where
-    by : (b : Bool) → Some v ≡ cond b (Some x.1) (at_name name es) → (Some v ≡ at_name name es → lists_of (set_named name w es) ≡ change_named name f (lists_of es))
-        → lists_of (cond b ((x.0, w) ∷ es) (x ∷ set_named name w es)) ≡ cond b ((x.0, f (keyed_list x.1)) ∷ lists_of es) ((x.0, keyed_list x.1) ∷ change_named name f (lists_of es))
-    by true e rest = ap (λ q. (x.0, q) ∷ lists_of es) (h ∙ ap (λ (s : Sheet). f (keyed_list s)) (some_is e))
-    by false e rest = ap (λ r. (x.0, keyed_list x.1) ∷ r) (rest e)
+set_named-change name f (x ∷ es) v w e h = grind (arith, set_named-change name f es v w)
 
 pub set_named-same : (name : List ℕ) (es : List (List ℕ × Sheet)) (v w : Sheet) → Some v ≡ at_name name es → keyed_list w ≡ keyed_list v → lists_of (set_named name w es) ≡ lists_of es
 set_named-same name [] v w e h = refl
-set_named-same name (x ∷ es) v w e h = by (bytes_eq name x.0) e (λ e. set_named-same name es v w e h)
-  where
-    by : (b : Bool) → Some v ≡ cond b (Some x.1) (at_name name es) → (Some v ≡ at_name name es → lists_of (set_named name w es) ≡ lists_of es)
-        → lists_of (cond b ((x.0, w) ∷ es) (x ∷ set_named name w es)) ≡ lists_of (x ∷ es)
-    by true e rest = ap (λ q. (x.0, q) ∷ lists_of es) (h ∙ ap keyed_list (some_is e))
-    by false e rest = ap (λ r. (x.0, keyed_list x.1) ∷ r) (rest e)
+set_named-same name (x ∷ es) v w e h = grind (arith, set_named-same name es v w)
 
 pub change_named-none : (name : List ℕ) (f : KeyedList → KeyedList) (es : List (List ℕ × Sheet)) → None ≡ at_name name es → lists_of es ≡ change_named name f (lists_of es)
 change_named-none name f [] e = refl
-change_named-none name f (x ∷ es) e = by (bytes_eq name x.0) e (change_named-none name f es)
-  where
-    by : (b : Bool) → None ≡ cond b (Some x.1) (at_name name es) → (None ≡ at_name name es → lists_of es ≡ change_named name f (lists_of es))
-        → lists_of (x ∷ es) ≡ cond b ((x.0, f (keyed_list x.1)) ∷ lists_of es) ((x.0, keyed_list x.1) ∷ change_named name f (lists_of es))
-    by true e rest = cc
-    by false e rest = ap (λ r. (x.0, keyed_list x.1) ∷ r) (rest e)
+change_named-none name f (x ∷ es) e = grind (arith, change_named-none name f es)
 
 pub at_name-lists_of : (name : List ℕ) (es : List (List ℕ × Sheet)) → at_name name (lists_of es) ≡ option_map keyed_list (at_name name es)
 at_name-lists_of name [] = refl
@@ -55,11 +39,7 @@ lists_of-append (x ∷ es) fs = ap (λ r. (x.0, keyed_list x.1) ∷ r) (lists_of
 
 -- under names that `using` takes
 pub has_name_lists : (name : List ℕ) (es : List (List ℕ × Sheet)) → has_name name (lists_of es) ≡ is_some (at_name name es)
-has_name_lists name es = ap is_some (at_name-lists_of name es) ∙ known (at_name name es)
-  where
-    known : (o : Option Sheet) → is_some (option_map keyed_list o) ≡ is_some o
-    known None = refl
-    known (Some v) = refl
+has_name_lists name es = grind (arith, at_name-lists_of)
 
 pub lists_put_new : (name : List ℕ) (v : Sheet) (es : List (List ℕ × Sheet)) → has_name name (lists_of es) ≡ false → lists_of (put_named name v es) ≡ lists_of es ++ (name, keyed_list v) ∷ []
 lists_put_new name v es h = ap lists_of (put_named-new name v es (none_is (at_name name es) (sym (has_name_lists name es) ∙ h))) ∙ lists_of-append es ((name, v) ∷ [])
@@ -79,11 +59,7 @@ in_order_push n (l ∷ ls) m e name x s few rises h = (h.0, omega (arith, h.1), 
 
 pub in_order_without : (n : ℕ) (ls : List (List ℕ × KeyedList)) (m e : ℕ) (name : List ℕ) → InOrder n ls m e → InOrder n (without_name name ls) m (e + 1)
 in_order_without n [] m e name h = h
-in_order_without n (l ∷ ls) m e name h = by (bytes_eq name l.0) (InOrder-weaken (suc l.1.serial) n ls m e (e + 1) (omega (arith, h.0)) (omega arith) h.3) (h.0, omega (arith, h.1), h.2, in_order_without (suc l.1.serial) ls m e name h.3)
-  where
-    by : (b : Bool) → InOrder n ls m (e + 1) → InOrder n (l ∷ without_name name ls) m (e + 1) → InOrder n (cond b ls (l ∷ without_name name ls)) m (e + 1)
-    by true p q = p
-    by false p q = q
+in_order_without n (l ∷ ls) m e name h = grind (arith, InOrder-weaken, in_order_without (suc l.1.serial) ls m e name h.3)
 
 -- a change of a list that keeps its serial and its order, and brings at most one new serial
 pub record Changes (f : KeyedList → KeyedList) : Type 0 where
@@ -93,29 +69,10 @@ pub record Changes (f : KeyedList → KeyedList) : Type 0 where
 
 pub in_order_change : (n : ℕ) (ls : List (List ℕ × KeyedList)) (m e : ℕ) (name : List ℕ) (f : KeyedList → KeyedList) → Changes f → InOrder n ls m e → InOrder n (change_named name f ls) m (e + 1)
 in_order_change n [] m e name f k h = h
-in_order_change n (l ∷ ls) m e name f k h =
-    by (bytes_eq name l.0)
-    (subst (λ t. n ≤ t) (sym (k.serial l.1)) h.0, omega (arith, h.1, k.next l.1), k.rises l.1 h.2, subst (λ t. InOrder (suc t) ls m (e + 1)) (sym (k.serial l.1)) (InOrder-weaken (suc l.1.serial) (suc l.1.serial) ls m e (e + 1) (omega arith) (omega arith) h.3))
-    (h.0, omega (arith, h.1), h.2, in_order_change (suc l.1.serial) ls m e name f k h.3)
-  where
-    by : (b : Bool) → InOrder n ((l.0, f l.1) ∷ ls) m (e + 1) → InOrder n (l ∷ change_named name f ls) m (e + 1) → InOrder n (cond b ((l.0, f l.1) ∷ ls) (l ∷ change_named name f ls)) m (e + 1)
-    by true p q = p
-    by false p q = q
+in_order_change n (l ∷ ls) m e name f k h = grind (arith, InOrder-weaken, in_order_change (suc l.1.serial) ls m e name f k h.3)
 
 pub Changes-put : (x : Content) → Changes (put_keyed x)
-Changes-put x = record {
-  serial = λ l. refl;
-  next = λ l. next (place (by_name_and_version (package_of x) (version_of x)) l.rows) l.next;
-  rises = λ l h. rises (place (by_name_and_version (package_of x) (version_of x)) l.rows) l h;
-}
-  where
-    next : (o : Option ℕ) (n : ℕ) → next_at o n ≤ n + 1
-    next None n = omega arith
-    next (Some i) n = omega arith
-
-    rises : (o : Option ℕ) (l : KeyedList) → Rises 0 l.rows l.next → Rises 0 (put_row_at o x l.next l.rows) (next_at o l.next)
-    rises None l h = Rises-push 0 l.rows l.next x h
-    rises (Some i) l h = Rises-replace 0 l.rows l.next i x h
+Changes-put x = grind (arith, Rises-push, Rises-replace)
 
 pub Changes-remove : (name : List ℕ) (version : Option (List ℕ)) → Changes (remove_keyed name version)
 Changes-remove name version = record {
@@ -131,11 +88,7 @@ Changes-remove name version = record {
 -- the next serial of a list that is there
 pub in_order_next : (n : ℕ) (es : List (List ℕ × Sheet)) (m e : ℕ) (name : List ℕ) → InOrder n (lists_of es) m e → IfSome (at_name name es) (λ s. s.next ≤ e)
 in_order_next n [] m e name h = tt
-in_order_next n (x ∷ es) m e name h = by (bytes_eq name x.0) h.1 (in_order_next (suc x.1.serial) es m e name h.3)
-  where
-    by : (b : Bool) → x.1.next ≤ e → IfSome (at_name name es) (λ s. s.next ≤ e) → IfSome (cond b (Some x.1) (at_name name es)) (λ s. s.next ≤ e)
-    by true p q = p
-    by false p q = q
+in_order_next n (x ∷ es) m e name h = grind (arith, in_order_next (suc x.1.serial) es m e name h.3)
 
 pub on_ok_map : {X E : Type 0} (r : Result X E) {P Q : Type 0} → (P → Q) → OnOk r P → OnOk r Q
 on_ok_map (Ok x) f p = f p
@@ -170,15 +123,7 @@ place_stanzas p [] = refl
 place_stanzas p (r ∷ rows) = ap (λ o. cond (p r.1) (Some 0) (option_map (λ n. suc n) o)) (place_stanzas p rows)
 
 pub has_stanza_held : (list name : List ℕ) (version : Option (List ℕ)) (es : List (List ℕ × Sheet)) → has_stanza list name version (stanza_lists (lists_of es)) ≡ option_map_or (λ (s : Sheet). is_some (place (by_name_and_version name version) s.rows)) (at_name list es) false
-has_stanza_held list name version es = ap (λ o. option_map_or (λ (l : StanzaList). is_some (place (is_same name version) l.stanzas)) o false) (at_name_held list es) ∙ by (at_name list es)
-  where
-    by : (o : Option Sheet) → option_map_or (λ (l : StanzaList). is_some (place (is_same name version) l.stanzas)) (option_map stanza_list (option_map keyed_list o)) false ≡ option_map_or (λ (s : Sheet). is_some (place (by_name_and_version name version) s.rows)) o false
-    by None = refl
-    by (Some s) = ap is_some (place_stanzas (is_same name version) s.rows)
-
-pub has_status_held : (es : List (List ℕ × Sheet)) → has_status (stanza_lists (lists_of es)) ≡ list_any (λ (e : List ℕ × Sheet). is_status e.1.kind) es
-has_status_held [] = refl
-has_status_held (e ∷ es) = ap (λ b. is_status e.1.kind || b) (has_status_held es)
+has_stanza_held list name version es = grind (arith, at_name_held, place_stanzas)
 
 pub shown_entries : (es : List (List ℕ × Sheet)) → map (λ (e : List ℕ × Sheet). (e.0, e.1.kind, e.1.class)) es ≡ shown_lists (stanza_lists (lists_of es))
 shown_entries [] = refl

@@ -1,18 +1,16 @@
 -- The stanza of a key, found by the serial of its list.
-use Rattle.std.proofs.Common.{◌≡◌, ℕ, ◌<◌, suc, Bool, true, false, cond, nat_eq, List, [], ◌∷◌, Option, None, Some, IsSome, is_some, option_map, refl, ap, sym, ◌∙◌, arith}
+use Rattle.std.proofs.Common.{◌≡◌, ℕ, ◌<◌, suc, false, cond, nat_eq, List, [], ◌∷◌, Option, None, Some, IsSome, is_some, option_map, refl, ap, sym, ◌∙◌, arith}
 use Rattle.std.specs.Map.{lookup}
 use Rattle.std.specs.Option.{option_or}
 use Rattle.ctl_stanza.specs.Content.{Content}
 use Rattle.ctl_store.specs.declared.stanza_key.StanzaKey.{StanzaKey}
 use Rattle.ctl_store.specs.Keys.{stanza_at, list_at, holder_of}
 use Rattle.ctl_store.specs.Held.{Sheet, lists_of, InOrder, entry_of}
-use Rattle.ctl_store.proofs.PlaceLemmas.{gt_ne, is_eq_from, if_cases}
+use Rattle.ctl_store.proofs.PlaceLemmas.{is_eq_from, if_cases}
 
 none_later : (k : StanzaKey) (n : ℕ) (es : List (List ℕ × Sheet)) (m e : ℕ) → k.list < n → InOrder n (lists_of es) m e → stanza_at k (lists_of es) ≡ None
 none_later k n [] m e l h = refl
-none_later k n (x ∷ es) m e l h =
-    ap (λ b. option_or (cond b (lookup (λ s. nat_eq s k.stanza) x.1.rows) None) (stanza_at k (lists_of es))) (gt_ne x.1.serial k.list (omega (arith, h.0)))
-    ∙ none_later k (suc x.1.serial) es m e (omega (arith, h.0)) h.3
+none_later k n (x ∷ es) m e l h = grind (arith, none_later k (suc x.1.serial) es m e (omega (arith, h.0)) h.3)
 
 or_none : {X : Type 0} (o : Option X) → option_or o None ≡ o
 or_none None = refl
@@ -24,12 +22,7 @@ in_entry k (Some e) = lookup (λ s. nat_eq s k.stanza) e.1.rows
 
 pub look_up : (k : StanzaKey) (n : ℕ) (es : List (List ℕ × Sheet)) (m e : ℕ) → InOrder n (lists_of es) m e → stanza_at k (lists_of es) ≡ in_entry k (entry_of k.list es)
 look_up k n [] m e h = refl
-look_up k n (x ∷ es) m e h = by (nat_eq x.1.serial k.list) refl (look_up k (suc x.1.serial) es m e h.3)
-  where
-    by : (b : Bool) → nat_eq x.1.serial k.list ≡ b → stanza_at k (lists_of es) ≡ in_entry k (entry_of k.list es)
-        → option_or (cond b (lookup (λ s. nat_eq s k.stanza) x.1.rows) None) (stanza_at k (lists_of es)) ≡ in_entry k (cond b (Some x) (entry_of k.list es))
-    by true is rest = ap (option_or (lookup (λ s. nat_eq s k.stanza) x.1.rows)) (none_later k (suc x.1.serial) es m e (let z : x.1.serial ≡ k.list = is_eq_from x.1.serial k.list is in omega arith) h.3) ∙ or_none _
-    by false is rest = rest
+look_up k n (x ∷ es) m e h = grind (arith, none_later, is_eq_from, or_none, look_up k (suc x.1.serial) es m e h.3)
 
 pub list_at_entry : (serial : ℕ) (es : List (List ℕ × Sheet)) → list_at serial (lists_of es) ≡ option_map (λ (e : List ℕ × Sheet). e.0) (entry_of serial es)
 list_at_entry serial [] = refl
@@ -41,10 +34,4 @@ not_none o h e = let z : is_some o ≡ false = ap is_some e in absurd (let w : �
 -- the list of its serial holds a key that has a stanza
 pub holder_is : (k : StanzaKey) (n : ℕ) (es : List (List ℕ × Sheet)) (m e : ℕ) → InOrder n (lists_of es) m e → IsSome (stanza_at k (lists_of es)) → holder_of k (lists_of es) ≡ list_at k.list (lists_of es)
 holder_is k n [] m e h there = refl
-holder_is k n (x ∷ es) m e h there = by (nat_eq x.1.serial k.list) refl (lookup (λ s. nat_eq s k.stanza) x.1.rows) there (λ g. holder_is k (suc x.1.serial) es m e h.3 g)
-  where
-    by : (b : Bool) → nat_eq x.1.serial k.list ≡ b → (o : Option Content) → IsSome (option_or (cond b o None) (stanza_at k (lists_of es))) → (IsSome (stanza_at k (lists_of es)) → holder_of k (lists_of es) ≡ list_at k.list (lists_of es))
-        → cond (is_some (cond b o None)) (Some x.0) (holder_of k (lists_of es)) ≡ cond b (Some x.0) (list_at k.list (lists_of es))
-    by true is (Some y) there rest = refl
-    by true is None there rest = not_none (stanza_at k (lists_of es)) there (none_later k (suc x.1.serial) es m e (let z : x.1.serial ≡ k.list = is_eq_from x.1.serial k.list is in omega arith) h.3)
-    by false is o there rest = rest there
+holder_is k n (x ∷ es) m e h there = grind (arith, not_none, none_later, is_eq_from, holder_is k (suc x.1.serial) es m e h.3)

@@ -1,5 +1,5 @@
 -- Lists of values by name, and the finite maps that they are.
-use Rattle.std.proofs.Common.{◌≡◌, ℕ, Bool, true, false, cond, List, [], ◌∷◌, ◌++◌, Option, None, Some, is_some, refl, ap, sym, ◌∙◌}
+use Rattle.std.proofs.Common.{◌≡◌, ℕ, Bool, true, false, cond, List, [], ◌∷◌, ◌++◌, Option, None, Some, is_some, refl, ap, sym, ◌∙◌, arith}
 use Rattle.std.specs.Str.{bytes_eq}
 use Rattle.std.specs.Map.{keys_of}
 use Rattle.std.specs.List.{IsDistinct}
@@ -23,30 +23,17 @@ module _ {V : Type 0} where
   -- a new name goes last
   pub put_named-new : (name : List ℕ) (v : V) (es : List (List ℕ × V)) → at_name name es ≡ None → put_named name v es ≡ es ++ (name, v) ∷ []
   put_named-new name v [] e = refl
-  put_named-new name v (x ∷ es) e = by (bytes_eq name x.0) e (put_named-new name v es)
-    where
-      by : (b : Bool) → cond b (Some x.1) (at_name name es) ≡ None → (at_name name es ≡ None → put_named name v es ≡ es ++ (name, v) ∷ []) → cond b ((x.0, v) ∷ es) (x ∷ put_named name v es) ≡ x ∷ (es ++ (name, v) ∷ [])
-      by true e rest = cc
-      by false e rest = ap (λ r. x ∷ r) (rest e)
+  put_named-new name v (x ∷ es) e = grind (arith, put_named-new name v es)
 
   -- what was set is there
   pub at_name-set_named : (name : List ℕ) (v w : V) (es : List (List ℕ × V)) → Some v ≡ at_name name es → at_name name (set_named name w es) ≡ Some w
   at_name-set_named name v w [] e = cc
-  at_name-set_named name v w (x ∷ es) e = by (bytes_eq name x.0) refl e (at_name-set_named name v w es)
-    where
-      by : (b : Bool) → bytes_eq name x.0 ≡ b → Some v ≡ cond b (Some x.1) (at_name name es) → (Some v ≡ at_name name es → at_name name (set_named name w es) ≡ Some w)
-          → at_name name (cond b ((x.0, w) ∷ es) (x ∷ set_named name w es)) ≡ Some w
-      by true is e rest = ap (λ b. cond b (Some w) (at_name name es)) is
-      by false is e rest = ap (λ b. cond b (Some x.1) (at_name name (set_named name w es))) is ∙ rest e
+  at_name-set_named name v w (x ∷ es) e = grind (arith, at_name-set_named name v w es)
 
 -- ---- what each name has, after a change
 
 choose : {X : Type 0} (a b c : Bool) (v w r s : X) → (a ≡ true → b ≡ c) → (c ≡ true → a ≡ b) → s ≡ cond c v r → cond a (cond b v r) (cond b w s) ≡ cond c v (cond b w r)
-choose true b c v w r s h k e = ap (λ d. cond d v r) (h refl) ∙ same c ∙ ap (λ d. cond c v (cond d w r)) (sym (h refl))
-  where
-    same : (c : Bool) → cond c v r ≡ cond c v (cond c w r)
-    same true = refl
-    same false = refl
+choose true b c v w r s h k e = grind arith
 choose false b true v w r s h k e = ap (λ d. cond d w s) (sym (k refl)) ∙ e
 choose false b false v w r s h k e = ap (cond b w) e
 

@@ -1,12 +1,11 @@
 -- What the order of the rows of a list says of the rows, and how it changes with them.
-use Rattle.std.proofs.Common.{◌≡◌, ℕ, ◌+◌, ◌<◌, ◌≤◌, Bool, true, false, suc, cond, ◌&&◌, List, [], ◌∷◌, ◌++◌, length, get_or, Option, None, Some, option_map, refl, ap, sym, ◌∙◌}
+use Rattle.std.proofs.Common.{◌≡◌, ℕ, ◌+◌, ◌<◌, ◌≤◌, Bool, true, false, cond, ◌&&◌, List, [], ◌∷◌, ◌++◌, length, get_or, Option, None, Some, refl, ap, sym, ◌∙◌, arith}
 use Rattle.std.specs.List.{insert, remove}
 use Rattle.std.specs.Cmp.{IsTotalOrder}
-use Rattle.std.specs.Cmp.Lexicographic.{slice_cmp, options_total, nat_list_cmp_total}
-use Rattle.std.specs.Ordering.{nat_cmp, ordering_then, is_eq}
+use Rattle.std.specs.Cmp.Lexicographic.{options_total, nat_list_cmp_total}
+use Rattle.std.specs.Ordering.{ordering_then, is_eq}
 use Rattle.std.specs.declared.cmp.Ordering.{Ordering}
 use Rattle.std.specs.declared.cmp.Ordering.TheVariants.{Less, Equal, Greater}
-use Rattle.std.specs.Str.{bytes_eq}
 use Rattle.std.proofs.lemmas.Cmp.{on_total, then_total}
 use Rattle.std.proofs.lemmas.Map.Text.{is_eq-slice_cmp}
 use Rattle.std.proofs.lemmas.Slice.Eq.{bytes_eq-Decides}
@@ -36,10 +35,7 @@ is_eq-versions (Some v) None = refl
 is_eq-versions (Some v) (Some w) = refl
 
 same_id : (name : List ℕ) (version : Option (List ℕ)) (x : Content) → is_same name version x ≡ is_eq (id_cmp (id_of x) (id name version))
-same_id name version x =
-    sym (is_eq-then (slice_cmp nat_cmp (package_of x) name) (version_order (version_id (version_of x)) (version_id version))
-    ∙ ap (λ b. b && is_eq (version_order (version_id (version_of x)) (version_id version))) (is_eq-slice_cmp (package_of x) name)
-    ∙ ap (λ b. bytes_eq (package_of x) name && b) (is_eq-versions (version_of x) version))
+same_id name version x = grind (arith, is_eq-then, is_eq-slice_cmp, is_eq-versions)
 
 and_right : (a b : Bool) → (a && b) ≡ true → b ≡ true
 and_right true b e = e
@@ -66,9 +62,7 @@ exact_id name version x e = λ j. record {
 
 pub place-ids : (name : List ℕ) (version : Option (List ℕ)) (rows : List (ℕ × Content)) → place (by_name_and_version name version) rows ≡ place_in id_cmp row_id (id name version) rows
 place-ids name version [] = refl
-place-ids name version (r ∷ rows) =
-    ap (λ b. cond b (Some 0) (option_map (λ n. suc n) (place (by_name_and_version name version) rows))) (same_id name version r.1)
-    ∙ ap (λ o. cond (is_eq (id_cmp (id_of r.1) (id name version))) (Some 0) (option_map (λ n. suc n) o)) (place-ids name version rows)
+place-ids name version (r ∷ rows) = grind (arith, same_id, place-ids name version rows)
 
 module _ (rows : List (ℕ × Content)) (next : ℕ) (order : List ℕ) (kept : IsKept rows next order) where
   module _ (name : List ℕ) (version : Option (List ℕ)) (at : ℕ) (e : at ≡ lower (id name version) (sorted_ids (ids_of rows))) where

@@ -1,5 +1,5 @@
 -- The fault that is told of a record without a faulty line is the least of its faults.
-use Rattle.std.proofs.Common.{◌≡◌, ◌⊎◌, ◌∙◌, ◌+◌, ◌<◌, ◌≤◌, ◌||◌, ◌==◌, ℕ, zero, suc, Bool, true, false, cond, List, [], ◌∷◌, length, map, get_or, slice_index, Option, Some, None, unwrap_or, refl, sym, ap, ap₂, subst, arith, inl, inr, ⊎_elim}
+use Rattle.std.proofs.Common.{◌≡◌, ◌⊎◌, ◌∙◌, ◌+◌, ◌<◌, ◌≤◌, ◌||◌, ◌==◌, ℕ, zero, suc, Bool, true, false, cond, List, [], ◌∷◌, length, map, get_or, slice_index, Option, Some, None, unwrap_or, refl, sym, ap, subst, arith, inl, inr, ⊎_elim}
 use Rattle.std.proofs.lemmas.Bool.{eqb-true}
 use Rattle.std.specs.Bool.{⊤}
 use Rattle.std.specs.List.{All, Contains}
@@ -10,7 +10,7 @@ use Rattle.ctl_stanza.specs.declared.fault.Cause.{Cause}
 use Rattle.ctl_stanza.specs.declared.fault.Cause.TheVariants as causes
 use Rattle.ctl_stanza.specs.Faults.{number_of, fault_or, is_empty_body}
 use Rattle.ctl_stanza.specs.Fields.{FieldText, fields_of_lines, body_named, is_same_name, package_name}
-use Rattle.ctl_stanza.specs.Laws.{LacksBody, FieldsRise}
+use Rattle.ctl_stanza.specs.Laws.{FieldsRise}
 use Rattle.ctl_stanza.specs.Records.{parts_of_field, numbered_field, record_of}
 use Rattle.ctl_store.specs.Prefs.{words_of, pin_name, priority_name, is_general, words_in, body_in, field_cause, first_wrong, is_missing, own_fault}
 use Rattle.ctl_store.specs.PrefsFaults.{IsWrongField, is_for_any, LacksPart, IsLacking, HasWrongField, HasOwnFault}
@@ -51,12 +51,8 @@ placed-from all stanza = placed (length stanza) (fields_of_lines stanza) (all st
 
 placed-reach : (i m : ℕ) (fs : List FieldText) (k : ℕ) (f : FieldText) → Placed i m fs → k < length fs → get_or fs k f ≡ f → (i ≤ f.line) × (f.line < m)
 placed-reach i m [] k f placed lt is = absurd (omega arith)
-placed-reach i m (g ∷ fs) zero f placed lt is =
-    let line = ap (λ (x : FieldText). x.line) is in
-    (omega (arith, placed.0, line), omega (arith, placed.1, line))
-placed-reach i m (g ∷ fs) (suc k) f placed lt is =
-    let there = placed-reach (suc g.line) m fs k f placed.2 (omega arith) is in
-    (omega (arith, placed.0, there.0), there.1)
+placed-reach i m (g ∷ fs) zero f placed lt is = grind arith
+placed-reach i m (g ∷ fs) (suc k) f placed lt is = grind (arith, placed-reach (suc g.line) m fs k f placed.2 (omega arith) is)
 
 -- ---- the fields of a record, by the fields of its lines
 
@@ -92,32 +88,13 @@ abbrev is_empty_part : List ℕ → List (List ℕ) → Bool
 is_empty_part name stanza = is_empty_body (body_named name (fields_of_lines stanza))
 
 missing-is : (ns : List ℕ) (stanza : List (List ℕ)) → is_missing (parts ns (fields_of_lines stanza)) ≡ (is_empty_part package_name stanza || (is_empty_part pin_name stanza || is_empty_part priority_name stanza))
-missing-is ns stanza =
-    let empty : (name : List ℕ) → is_empty_body (body_in name (parts ns (fields_of_lines stanza))) ≡ is_empty_part name stanza = λ name. ap is_empty_body (body-named ns name (fields_of_lines stanza)) in
-    ap₂ (λ a b. a || b) (empty package_name) (ap₂ (λ a b. a || b) (empty pin_name) (empty priority_name))
+missing-is ns stanza = grind (arith, body-named)
 
 missing-sound : (ns : List ℕ) (stanza : List (List ℕ)) → is_missing (parts ns (fields_of_lines stanza)) ≡ true → LacksPart stanza
-missing-sound ns stanza e = by (is_empty_part package_name stanza) (is_empty_part pin_name stanza) (is_empty_part priority_name stanza) refl refl refl (sym (missing-is ns stanza) ∙ e)
-  where
-    by : (a b c : Bool) → is_empty_part package_name stanza ≡ a → is_empty_part pin_name stanza ≡ b → is_empty_part priority_name stanza ≡ c → (a || (b || c)) ≡ true → LacksPart stanza
-    by true b c x y z e = inl (empty-sound _ x)
-    by false true c x y z e = inr (inl (empty-sound _ y))
-    by false false true x y z e = inr (inr (empty-sound _ z))
-    by false false false x y z e = absurd cc
+missing-sound ns stanza e = grind (arith, missing-is, empty-sound)
 
 missing-complete : (ns : List ℕ) (stanza : List (List ℕ)) → LacksPart stanza → is_missing (parts ns (fields_of_lines stanza)) ≡ true
-missing-complete ns stanza lacks =
-    let no_package = is_empty_part package_name stanza in
-    let no_pin = is_empty_part pin_name stanza in
-    let no_priority = is_empty_part priority_name stanza in
-    let some : (no_package || (no_pin || no_priority)) ≡ true = ⊎_elim
-    (λ (here : LacksBody stanza package_name). ap (λ t. t || (no_pin || no_priority)) (empty-complete (body_named package_name (fields_of_lines stanza)) here))
-    (λ (later : LacksBody stanza pin_name ⊎ LacksBody stanza priority_name). ⊎_elim
-    (λ (here : LacksBody stanza pin_name). ap (λ t. no_package || (t || no_priority)) (empty-complete (body_named pin_name (fields_of_lines stanza)) here) ∙ or-true no_package)
-    (λ (here : LacksBody stanza priority_name). ap (λ t. no_package || (no_pin || t)) (empty-complete (body_named priority_name (fields_of_lines stanza)) here) ∙ ap (λ t. no_package || t) (or-true no_pin) ∙ or-true no_package)
-    later)
-    lacks in
-    missing-is ns stanza ∙ some
+missing-complete ns stanza lacks = grind (arith, empty-complete, or-true, missing-is)
 
 -- ---- the first field that is wrong
 
@@ -274,16 +251,7 @@ tells-wrong all ns stanza fault whole e =
     }
 
 pub own-tells : AllRise → (ns : List ℕ) (stanza : List (List ℕ)) (fault : TextFault) → 0 < length stanza → own_fault (record_of ns stanza) ≡ Some fault → TellsOwn ns stanza fault
-own-tells all ns stanza fault some e = by (is_missing ps) refl e
-  where
-    ps : List (List ℕ × List ℕ × ℕ)
-    ps = parts ns (fields_of_lines stanza)
-
-    by : (b : Bool) → is_missing ps ≡ b → cond b (Some (fault_at (slice_index ns 0) causes.Missing)) (first_wrong (is_general (words_in package_name ps)) ps) ≡ Some fault → TellsOwn ns stanza fault
-    by true missing e =
-        let same : fault_at (slice_index ns 0) causes.Missing ≡ fault = cc in
-        subst (TellsOwn ns stanza) same (tells-missing ns stanza some missing)
-    by false whole e = tells-wrong all ns stanza fault whole (sym (ap (λ g. first_wrong g ps) (general-is ns stanza)) ∙ e)
+own-tells all ns stanza fault some e = grind (arith, tells-missing, tells-wrong, general-is)
 
 pub own-none : (ns : List ℕ) (stanza : List (List ℕ)) → own_fault (record_of ns stanza) ≡ None → (i : ℕ) (cause : Cause) → HasOwnFault stanza i cause → ⊥
 own-none ns stanza e i cause has = by (is_missing ps) refl e

@@ -1,5 +1,5 @@
 -- The settings of one package, after one setting is set or taken out.
-use Rattle.std.proofs.Common.{◌≡◌, ℕ, ℤ, Bool, true, false, cond, List, [], ◌∷◌, refl, ap, sym, ◌∙◌}
+use Rattle.std.proofs.Common.{◌≡◌, ℕ, ℤ, Bool, true, false, cond, List, [], ◌∷◌, refl, ap, sym, ◌∙◌, arith}
 use Rattle.std.specs.Map.{remove_entry}
 use Rattle.indexmap.specs.IndexMap.{insert_entry}
 use Rattle.ctl_store.specs.declared.selector.Selector.{Selector}
@@ -36,11 +36,7 @@ own_insert q s p (x ∷ settings) = by (selector_eq s x.0) refl (is_of q x.0) re
     by false is false at h = ap (λ b. cond b (x ∷ own_settings q (insert_entry selector_eq settings s p)) (own_settings q (insert_entry selector_eq settings s p))) at ∙ h
 
 pub own_remove : (q : List ℕ) (s : Selector) (settings : List (Selector × ℤ)) → own_settings q (remove_entry (selector_eq s) settings) ≡ cond (is_of q s) (remove_entry (selector_eq s) (own_settings q settings)) (own_settings q settings)
-own_remove q s [] = none (is_of q s)
-  where
-    none : (b : Bool) → [] ≡ cond {A = List (Selector × ℤ)} b [] []
-    none true = refl
-    none false = refl
+own_remove q s [] = grind arith
 own_remove q s (x ∷ settings) = by (selector_eq s x.0) refl (is_of q x.0) refl (own_remove q s settings)
   where
     by : (b : Bool) → selector_eq s x.0 ≡ b → (a : Bool) → is_of q x.0 ≡ a → own_settings q (remove_entry (selector_eq s) settings) ≡ cond (is_of q s) (remove_entry (selector_eq s) (own_settings q settings)) (own_settings q settings)

@@ -2,9 +2,7 @@
 use Rattle.std.proofs.Common.{◌≡◌, ℕ, ℤ, suc, ◌+◌, ◌<◌, ◌≤◌, Bool, true, false, cond, List, [], ◌∷◌, ◌++◌, length, map, Option, Some, None, option_map, refl, ap, sym, subst, ◌∙◌, arith}
 use Rattle.std.specs.List.{insert, remove}
 use Rattle.std.specs.Map.{lookup}
-use Rattle.std.specs.Ordering.{is_eq, ordering_reverse}
-use Rattle.std.specs.declared.cmp.Ordering.{Ordering}
-use Rattle.std.specs.declared.cmp.Ordering.TheVariants.{Less, Equal, Greater}
+use Rattle.std.specs.Ordering.{is_eq}
 use Rattle.ctl_ordered.specs.Ordered.{without_serials, set_row, cut_row, row_serial}
 use Rattle.ctl_store.specs.declared.selector.Selector.{Selector}
 use Rattle.ctl_store.specs.declared.selector.Selector.TheVariants.{Version, Release}
@@ -16,24 +14,14 @@ use Rattle.ctl_store.specs.Sorted.{place_in}
 use Rattle.ctl_store.specs.HeldPins.{own_label, own_row}
 use Rattle.ctl_store.proofs.PlaceLemmas.{some_is, Rises-end}
 use Rattle.ctl_store.proofs.RankedLemmas.{below_there, ranked_push, ranked_remove}
-use Rattle.ctl_store.proofs.LabelLemmas.{exact_labels}
 
 -- ---- labels that differ by their serials
 
 pub same_label : (a : Label) → is_eq (label_cmp a a) ≡ true
-same_label a = by (label_cmp a a) (label_total.antisymm a a)
-  where
-    by : (o : Ordering) → o ≡ ordering_reverse o → is_eq o ≡ true
-    by Less e = cc
-    by Equal e = refl
-    by Greater e = cc
+same_label a = grind (arith, label_total.antisymm a a)
 
 other_label : (a b : Label) → (a.rank ≡ b.rank → ⊥) → is_eq (label_cmp a b) ≡ false
-other_label a b f = by (is_eq (label_cmp a b)) refl
-  where
-    by : (t : Bool) → is_eq (label_cmp a b) ≡ t → t ≡ false
-    by true e = absurd (f (ap (λ (l : Label). l.rank) (exact_labels a b e)))
-    by false e = refl
+other_label a b f = grind arith
 
 rank_is : (n : ℕ) (s : Selector) → (own_label n s).rank ≡ n
 rank_is n (Version name version) = refl
@@ -49,17 +37,11 @@ Row = ℕ × (Selector × ℤ)
 -- a serial that was not given is of no row
 fresh : (s : Selector) (n : ℕ) (rows : List Row) (m : ℕ) → Rises n rows m → place_in label_cmp own_row (own_label m s) rows ≡ None
 fresh s n [] m h = refl
-fresh s n (r ∷ rows) m h =
-    ap (λ b. cond b (Some 0) (option_map (λ k. suc k) (place_in label_cmp own_row (own_label m s) rows))) (other_serial r.0 m r.1.0 s (omega (arith, Rises-end (suc r.0) rows m h.1)))
-    ∙ ap (option_map (λ k. suc k)) (fresh s (suc r.0) rows m h.1)
+fresh s n (r ∷ rows) m h = grind (arith, other_serial, Rises-end, fresh s (suc r.0) rows m h.1)
 
 serial_least : (test : Selector → Bool) (n : ℕ) (rows : List Row) (m serial : ℕ) → Rises n rows m → row_serial test rows ≡ Some serial → n ≤ serial
 serial_least test n [] m serial h e = cc
-serial_least test n (r ∷ rows) m serial h e = by (test r.1.0) e (serial_least test (suc r.0) rows m serial h.1)
-  where
-    by : (b : Bool) → cond b (Some r.0) (row_serial test rows) ≡ Some serial → (row_serial test rows ≡ Some serial → suc r.0 ≤ serial) → n ≤ serial
-    by true e rest = omega (arith, h.0, some_is e)
-    by false e rest = omega (arith, h.0, rest e)
+serial_least test n (r ∷ rows) m serial h e = grind (arith, serial_least test (suc r.0) rows m serial h.1)
 
 -- the row of a selector is the first of its label, and it is the one that is cut
 abbrev IsCutAt : Selector → ℕ → List Row → Type 0
@@ -90,11 +72,7 @@ cut_at s serial n (r ∷ rows) m h e = by (selector_eq s r.1.0) refl e (cut_at s
 
 no_cut : (test : Selector → Bool) (rows : List Row) → row_serial test rows ≡ None → cut_row test rows ≡ rows
 no_cut test [] e = refl
-no_cut test (r ∷ rows) e = by (test r.1.0) e (no_cut test rows)
-  where
-    by : (b : Bool) → cond b (Some r.0) (row_serial test rows) ≡ None → (row_serial test rows ≡ None → cut_row test rows ≡ rows) → cond b rows (r ∷ cut_row test rows) ≡ r ∷ rows
-    by true e rest = cc
-    by false e rest = ap (λ l. r ∷ l) (rest e)
+no_cut test (r ∷ rows) e = grind (arith, no_cut test rows)
 
 -- a selector that has a row has a priority, and no other has one
 pub value_there : (test : Selector → Bool) (serial : ℕ) (rows : List Row) → row_serial test rows ≡ Some serial → (w : ℤ) × (lookup test (without_serials rows) ≡ Some w)
@@ -108,28 +86,16 @@ value_there test serial (r ∷ rows) e = by (test r.1.0) e (value_there test ser
 
 pub value_nowhere : (test : Selector → Bool) (rows : List Row) → row_serial test rows ≡ None → lookup test (without_serials rows) ≡ None
 value_nowhere test [] e = refl
-value_nowhere test (r ∷ rows) e = by (test r.1.0) e (value_nowhere test rows)
-  where
-    by : (b : Bool) → cond b (Some r.0) (row_serial test rows) ≡ None → (row_serial test rows ≡ None → lookup test (without_serials rows) ≡ None) → cond b (Some r.1.1) (lookup test (without_serials rows)) ≡ None
-    by true e rest = cc
-    by false e rest = rest e
+value_nowhere test (r ∷ rows) e = grind (arith, value_nowhere test rows)
 
 -- another priority changes neither the labels nor the serials
 set_labels : (test : Selector → Bool) (w : ℤ) (rows : List Row) → labels_of own_row (set_row test rows w) ≡ labels_of own_row rows
 set_labels test w [] = refl
-set_labels test w (r ∷ rows) = by (test r.1.0) (set_labels test w rows)
-  where
-    by : (b : Bool) → labels_of own_row (set_row test rows w) ≡ labels_of own_row rows → labels_of own_row (cond b ((r.0, (r.1.0, w)) ∷ rows) (r ∷ set_row test rows w)) ≡ labels_of own_row (r ∷ rows)
-    by true rest = refl
-    by false rest = ap (λ l. (r.0, own_row r) ∷ l) rest
+set_labels test w (r ∷ rows) = grind (arith, set_labels test w rows)
 
 set_rises : (test : Selector → Bool) (w : ℤ) (n : ℕ) (rows : List Row) (m : ℕ) → Rises n rows m → Rises n (set_row test rows w) m
 set_rises test w n [] m h = h
-set_rises test w n (r ∷ rows) m h = by (test r.1.0) (set_rises test w (suc r.0) rows m h.1)
-  where
-    by : (b : Bool) → Rises (suc r.0) (set_row test rows w) m → Rises n (cond b ((r.0, (r.1.0, w)) ∷ rows) (r ∷ set_row test rows w)) m
-    by true rest = h
-    by false rest = (h.0, rest)
+set_rises test w n (r ∷ rows) m h = grind (arith, set_rises test w (suc r.0) rows m h.1)
 
 -- ---- the order after a change
 

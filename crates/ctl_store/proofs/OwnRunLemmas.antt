@@ -1,5 +1,5 @@
 -- The settings of one package stand together in the order of packages, in the order in which they were set.
-use Rattle.std.proofs.Common.{◌≡◌, ℕ, ℤ, zero, suc, ◌<◌, ◌≤◌, Bool, true, false, ◌&&◌, cond, nat_eq, List, [], ◌∷◌, map, filter, drop, Option, Some, None, refl, ap, sym, ◌∙◌, arith}
+use Rattle.std.proofs.Common.{◌≡◌, ℕ, ℤ, zero, suc, ◌<◌, ◌≤◌, Bool, true, false, ◌&&◌, cond, nat_eq, List, [], ◌∷◌, map, filter, drop, Some, None, refl, ap, sym, ◌∙◌, arith}
 use Rattle.std.specs.List.{AllByRecursion}
 use Rattle.std.specs.Map.{lookup}
 use Rattle.std.specs.Option.{option_map_or}
@@ -20,7 +20,7 @@ use Rattle.ctl_store.specs.Rows.{Rises}
 use Rattle.ctl_store.specs.HeldRanks.{Label, label_cmp, labels_of, sorted_labels, labels_below}
 use Rattle.ctl_store.specs.Sorted.{insert_in, serials_in}
 use Rattle.ctl_store.specs.SelectorLaws.{label_total}
-use Rattle.ctl_store.specs.HeldPins.{own_label, own_row, own_start, own_one, own_run}
+use Rattle.ctl_store.specs.HeldPins.{own_label, own_row, own_start, own_run}
 use Rattle.ctl_store.proofs.PlaceLemmas.{eq_is, gt_ne, is_eq_from}
 use Rattle.ctl_store.proofs.SortedLemmas.{g, up, lt_back, all_map, all_sorted, in_order, IsInOrder}
 use Rattle.ctl_store.proofs.LabelLemmas.{same_numbers}
@@ -93,12 +93,7 @@ rank_not_less (suc n) = ap is_lt (sym (nat_cmp_is (suc n) 0 Greater (omega arith
 
 -- what stands before the start is not the package's
 before_start : (q : List ℕ) (l : Label) → is_lt (label_cmp l (own_start q)) ≡ true → own q l ≡ false
-before_start q l e = by (own q l) refl
-  where
-    by : (b : Bool) → own q l ≡ b → b ≡ false
-    by true is =
-        let z : is_lt (label_cmp l (own_start q)) ≡ false = not_less (slice_cmp nat_cmp l.name q) (nat_cmp l.form 1) (slice_cmp nat_cmp l.text []) (nat_cmp l.rank 0) (names_tie l.name q q (name_of q l is) refl) (numbers_tie l.form 1 (form_of q l is)) (text_not_less l.text) (rank_not_less l.rank) in cc
-    by false is = refl
+before_start q l e = grind (arith, not_less, names_tie, name_of, numbers_tie, form_of, text_not_less, rank_not_less)
 
 ties : (o p r t : Ordering) → is_gt (ordering_then o (ordering_then p r)) ≡ false → is_lt (ordering_then o (ordering_then p t)) ≡ false → (is_eq o ≡ true) × (is_eq p ≡ true)
 ties Less p r t a b = cc
@@ -124,19 +119,11 @@ front p (x ∷ xs) = cond (p x) (x ∷ front p xs) []
 
 none_own : (q : List ℕ) (y : ℕ × Label) (ys : List (ℕ × Label)) → is_own q y ≡ false → is_lt (label_cmp y.1 (own_start q)) ≡ false → AllByRecursion (λ z. g label_cmp y.1 z.1 ≡ false) ys → filter (is_own q) ys ≡ []
 none_own q y [] e w h = refl
-none_own q y (z ∷ ys) e w h = by (is_own q z) refl (none_own q y ys e w h.1)
-  where
-    by : (b : Bool) → is_own q z ≡ b → filter (is_own q) ys ≡ [] → cond b (z ∷ filter (is_own q) ys) (filter (is_own q) ys) ≡ []
-    by true is rest = let t : is_own q y ≡ true = between q y.1 z.1 is h.0 w in cc
-    by false is rest = rest
+none_own q y (z ∷ ys) e w h = grind (arith, between, none_own q y ys e w h.1)
 
 front_is : (q : List ℕ) (ys : List (ℕ × Label)) → IsInOrder label_cmp ys → AllByRecursion (λ z. is_lt (label_cmp z.1 (own_start q)) ≡ false) ys → front (is_own q) ys ≡ filter (is_own q) ys
 front_is q [] h w = refl
-front_is q (y ∷ ys) h w = by (is_own q y) refl (front_is q ys h.1 w.1)
-  where
-    by : (b : Bool) → is_own q y ≡ b → front (is_own q) ys ≡ filter (is_own q) ys → cond b (y ∷ front (is_own q) ys) [] ≡ cond b (y ∷ filter (is_own q) ys) (filter (is_own q) ys)
-    by true is rest = ap (λ l. y ∷ l) rest
-    by false is rest = sym (none_own q y ys is w.0 h.0)
+front_is q (y ∷ ys) h w = grind (arith, none_own, front_is q ys h.1 w.1)
 
 front_from : (q : List ℕ) (ys : List (ℕ × Label)) → IsInOrder label_cmp ys → front (is_own q) (drop (labels_below (own_start q) ys) ys) ≡ filter (is_own q) ys
 front_from q [] h = refl
@@ -159,12 +146,7 @@ not_greater Equal Equal Equal t a b c d = d
 not_greater Equal Equal Greater t a b c d = cc
 
 before_later : (q : List ℕ) (n m : ℕ) (s t : Selector) → n < m → own q (own_label n s) ≡ true → own q (own_label m t) ≡ true → g label_cmp (own_label n s) (own_label m t) ≡ false
-before_later q n m s t l d e =
-    let a : Label = own_label n s in
-    let b : Label = own_label m t in
-    not_greater (slice_cmp nat_cmp a.name b.name) (nat_cmp a.form b.form) (slice_cmp nat_cmp a.text b.text) (nat_cmp a.rank b.rank)
-    (names_tie a.name b.name q (name_of q a d) (name_of q b e)) (numbers_tie a.form b.form (form_of q a d ∙ sym (form_of q b e))) (names_tie a.text b.text [] (text_is n s) (text_is m t))
-    (ap is_gt (sym (nat_cmp_is a.rank b.rank Less (omega (arith, rank_is n s, rank_is m t, l)))))
+before_later q n m s t l d e = grind (arith, not_greater, names_tie, name_of, numbers_tie, form_of, text_is, rank_is)
 
 abbrev IsNotAfter : List ℕ → ℕ × Label → ℕ × Label → Type 0
 IsNotAfter q x y = is_own q x ≡ true → is_own q y ≡ true → g label_cmp x.1 y.1 ≡ false
@@ -175,20 +157,7 @@ all_later q r n (s ∷ rows) m l h = (before_later q r.0 s.0 r.1.0 s.1.0 (omega 
 
 filter-insert : (q : List ℕ) (x : ℕ × Label) (ys : List (ℕ × Label)) → AllByRecursion (IsNotAfter q x) ys → filter (is_own q) (insert_in label_cmp x ys) ≡ filter (is_own q) (x ∷ ys)
 filter-insert q x [] h = refl
-filter-insert q x (y ∷ ys) h = by (g label_cmp x.1 y.1) refl (filter-insert q x ys h.1)
-  where
-    rest : List (ℕ × Label)
-    rest = filter (is_own q) ys
-
-    turn : (a b : Bool) → (a ≡ true → b ≡ true → true ≡ false) → cond b (y ∷ cond a (x ∷ rest) rest) (cond a (x ∷ rest) rest) ≡ cond a (x ∷ cond b (y ∷ rest) rest) (cond b (y ∷ rest) rest)
-    turn true true f = let z = f refl refl in cc
-    turn true false f = refl
-    turn false true f = refl
-    turn false false f = refl
-
-    by : (b : Bool) → g label_cmp x.1 y.1 ≡ b → filter (is_own q) (insert_in label_cmp x ys) ≡ filter (is_own q) (x ∷ ys) → filter (is_own q) (cond b (y ∷ insert_in label_cmp x ys) (x ∷ y ∷ ys)) ≡ filter (is_own q) (x ∷ y ∷ ys)
-    by true e same = ap (λ l. cond (is_own q y) (y ∷ l) l) same ∙ turn (is_own q x) (is_own q y) (λ a b. sym e ∙ h.0 a b)
-    by false e same = refl
+filter-insert q x (y ∷ ys) h = grind (arith, filter-insert q x ys h.1)
 
 filter-sorted : (q : List ℕ) (n : ℕ) (rows : List (ℕ × (Selector × ℤ))) (m : ℕ) → Rises n rows m → filter (is_own q) (sorted_labels (labels_of own_row rows)) ≡ filter (is_own q) (labels_of own_row rows)
 filter-sorted q n [] m h = refl
@@ -230,29 +199,11 @@ picked rows (y ∷ ys) = option_map_or (λ (x : Selector × ℤ). x ∷ picked r
 
 run_picks : (q : List ℕ) (rows : List (ℕ × (Selector × ℤ))) (ys : List (ℕ × Label)) → AllByRecursion (HasSetting q rows) ys → own_run q rows (map (λ (y : ℕ × Label). y.0) ys) ≡ picked rows (front (is_own q) ys)
 run_picks q rows [] h = refl
-run_picks q rows (y ∷ ys) h =
-    ap (λ o. option_map_or (λ (x : Selector × ℤ). x ∷ own_run q rows (map (λ (y : ℕ × Label). y.0) ys)) (own_one q o) []) h.0.1
-    ∙ ap (λ b. option_map_or (λ (x : Selector × ℤ). x ∷ own_run q rows (map (λ (y : ℕ × Label). y.0) ys)) (cond {A = Option (Selector × ℤ)} b (Some h.0.0) None) []) h.0.2
-    ∙ by (is_own q y) (run_picks q rows ys h.1)
-  where
-    by : (b : Bool) → own_run q rows (map (λ (y : ℕ × Label). y.0) ys) ≡ picked rows (front (is_own q) ys)
-        → option_map_or (λ (x : Selector × ℤ). x ∷ own_run q rows (map (λ (y : ℕ × Label). y.0) ys)) (cond {A = Option (Selector × ℤ)} b (Some h.0.0) None) [] ≡ picked rows (cond b (y ∷ front (is_own q) ys) [])
-    by true rest = ap (λ l. h.0.0 ∷ l) rest ∙ sym (ap (λ o. option_map_or (λ (x : Selector × ℤ). x ∷ picked rows (front (is_own q) ys)) o (picked rows (front (is_own q) ys))) h.0.1)
-    by false rest = refl
+run_picks q rows (y ∷ ys) h = grind (arith, run_picks q rows ys h.1)
 
 picks : (q : List ℕ) (all rows : List (ℕ × (Selector × ℤ))) → AllByRecursion (IsFound all) rows → picked all (filter (is_own q) (labels_of own_row rows)) ≡ own_settings q (without_serials rows)
 picks q all [] h = refl
-picks q all (r ∷ rows) h =
-    ap (λ b. picked all (cond b ((r.0, own_row r) ∷ filter (is_own q) (labels_of own_row rows)) (filter (is_own q) (labels_of own_row rows)))) (own_is q r.0 r.1.0)
-    ∙ by (is_of q r.1.0) (picks q all rows h.1)
-  where
-    by : (b : Bool) → picked all (filter (is_own q) (labels_of own_row rows)) ≡ own_settings q (without_serials rows)
-        → picked all (cond b ((r.0, own_row r) ∷ filter (is_own q) (labels_of own_row rows)) (filter (is_own q) (labels_of own_row rows)))
-        ≡ cond b (r.1 ∷ own_settings q (without_serials rows)) (own_settings q (without_serials rows))
-    by true rest =
-        ap (λ o. option_map_or (λ (x : Selector × ℤ). x ∷ picked all (filter (is_own q) (labels_of own_row rows))) o (picked all (filter (is_own q) (labels_of own_row rows)))) h.0
-        ∙ ap (λ l. r.1 ∷ l) rest
-    by false rest = rest
+picks q all (r ∷ rows) h = grind (arith, picks q all rows h.1)
 
 -- from where they begin, the order leads through the settings of the package
 pub own_found : (q : List ℕ) (rows : List (ℕ × (Selector × ℤ))) (next : ℕ) (order : List ℕ) (at : ℕ) → Rises 0 rows next → order ≡ serials_in label_cmp own_row rows → at ≡ labels_below (own_start q) (sorted_labels (labels_of own_row rows))

@@ -1,8 +1,7 @@
 -- When an edit would pass a limit.
-use Rattle.std.proofs.Common.{◌≡◌, ℕ, ◌+◌, ◌-◌, ◌≤◌, Bool, true, false, cond, not, ◌||◌, nat_lt, nat_le, List, [], ◌∷◌, length, Option, None, Some, is_some, refl, ap, ◌∙◌, arith, length-append, length-set}
+use Rattle.std.proofs.Common.{◌≡◌, ℕ, ◌+◌, ◌-◌, ◌≤◌, Bool, true, false, cond, not, ◌||◌, nat_lt, nat_le, List, [], ◌∷◌, length, Option, None, Some, is_some, refl, ◌∙◌, arith, length-append, length-set}
 use Rattle.std.proofs.lemmas.Bool.Decides.{nat_tests}
 use Rattle.std.specs.Option.{option_map_or}
-use Rattle.std.specs.Str.{bytes_eq}
 use Rattle.std.proofs.lemmas.List.Edits.{length-remove}
 use Rattle.ctl_stanza.specs.Content.{Content, package_of, version_of}
 use Rattle.ctl_store.specs.declared.limits.Limits.{Limits}
@@ -10,7 +9,7 @@ use Rattle.ctl_store.specs.declared.refusal.Refusal.{Refusal}
 use Rattle.ctl_store.specs.Named.{at_name, has_name, without_name, change_named}
 use Rattle.ctl_store.specs.State.{StanzaList, State, stanza_count}
 use Rattle.ctl_store.specs.Edits.{Edit, AddList, DropList, Put, Remove, Mark, Unmark, Pin, Unpin, Target, Prefs}
-use Rattle.ctl_store.specs.Step.{place, is_same, put_at, put_stanza, remove_at, remove_stanza, with_stanzas, has_stanza, when, changed, after, misfit_of, is_past, count_coming}
+use Rattle.ctl_store.specs.Step.{place, is_same, put_at, put_stanza, remove_stanza, with_stanzas, has_stanza, when, changed, after, misfit_of, is_past, count_coming}
 use Rattle.ctl_store.proofs.PlaceLemmas.{place_within}
 use Rattle.ctl_store.proofs.AcceptLemmas.{count-push, count-change}
 
@@ -22,28 +21,15 @@ put-length x xs = by (place (is_same (package_of x) (version_of x)) xs)
     by (Some i) = omega (arith, length-set xs i x)
 
 pub remove-length : (name : List ℕ) (version : Option (List ℕ)) (xs : List Content) → length (remove_stanza name version xs) + cond (is_some (place (is_same name version) xs)) 1 0 ≡ length xs
-remove-length name version xs = by (place (is_same name version) xs) refl
-  where
-    by : (o : Option ℕ) → place (is_same name version) xs ≡ o → length (remove_at o xs) + cond (is_some o) 1 0 ≡ length xs
-    by None e = omega arith
-    by (Some i) e = length-remove xs i (place_within (is_same name version) xs i e)
+remove-length name version xs = grind (arith, length-remove, place_within)
 
 count-without_le : (name : List ℕ) (ls : List (List ℕ × StanzaList)) → stanza_count (without_name name ls) ≤ stanza_count ls
 count-without_le name [] = omega arith
-count-without_le name (l ∷ ls) = by (bytes_eq name l.0) (count-without_le name ls)
-  where
-    by : (b : Bool) → stanza_count (without_name name ls) ≤ stanza_count ls → stanza_count (cond b ls (l ∷ without_name name ls)) ≤ length l.1.stanzas + stanza_count ls
-    by true h = omega arith
-    by false h = omega arith
+count-without_le name (l ∷ ls) = grind (arith, count-without_le name ls)
 
 count-remove_le : (list name : List ℕ) (version : Option (List ℕ)) (ls : List (List ℕ × StanzaList)) → stanza_count (change_named list (with_stanzas (remove_stanza name version)) ls) ≤ stanza_count ls
 count-remove_le list name version [] = omega arith
-count-remove_le list name version (l ∷ ls) = by (bytes_eq list l.0) (count-remove_le list name version ls)
-  where
-    by : (b : Bool) → stanza_count (change_named list (with_stanzas (remove_stanza name version)) ls) ≤ stanza_count ls
-        → stanza_count (cond b ((l.0, with_stanzas (remove_stanza name version) l.1) ∷ ls) (l ∷ change_named list (with_stanzas (remove_stanza name version)) ls)) ≤ length l.1.stanzas + stanza_count ls
-    by true h = omega (arith, remove-length name version l.1.stanzas)
-    by false h = omega arith
+count-remove_le list name version (l ∷ ls) = grind (arith, remove-length, count-remove_le list name version ls)
 
 count-put : (list : List ℕ) (x : Content) (ls : List (List ℕ × StanzaList)) → has_name list ls ≡ true → stanza_count (change_named list (with_stanzas (put_stanza x)) ls) ≡ stanza_count ls + cond (has_stanza list (package_of x) (version_of x) ls) 0 1
 count-put list x ls e = by (at_name list ls) refl e
@@ -78,6 +64,4 @@ stanzas_past limit s (Target name) e l = fewer_past limit (stanza_count s.lists)
 stanzas_past limit s (Prefs pins) e l = fewer_past limit (stanza_count s.lists) (stanza_count s.lists) l (omega arith)
 
 pub past_is : (limits : Limits) (s : State) (edit : Edit) → misfit_of s edit ≡ None → stanza_count s.lists ≤ limits.stanzas → is_past limits (after s edit) ≡ (nat_lt (limits.stanzas - stanza_count s.lists) (count_coming s edit) || nat_le limits.edits s.edits)
-past_is limits s edit e l =
-    ap (λ b. b || nat_lt limits.edits (s.edits + 1)) (stanzas_past limits.stanzas s edit e l)
-    ∙ ap (λ b. nat_lt (limits.stanzas - stanza_count s.lists) (count_coming s edit) || b) (edits_past limits.edits s.edits)
+past_is limits s edit e l = grind (arith, stanzas_past, edits_past)

@@ -6,7 +6,7 @@ use Rattle.std.proofs.lemmas.List.Edits.{length-remove, insert-append_left, inse
 use Rattle.std.proofs.lemmas.Bool.{cases_lt}
 use Rattle.ctl_store.proofs.PlaceLemmas.{some_is}
 use Rattle.ctl_store.specs.declared.pieces.Spot.{Spot}
-use Rattle.ctl_store.specs.HeldPieces.{most_in_piece, joined, length_at, room_in, room_at, room_of_all, room_of_last, stands_at, place_of_spot, IsPiece, ArePieces, AreReady, free_at_end}
+use Rattle.ctl_store.specs.HeldPieces.{joined, length_at, room_in, room_at, room_of_all, room_of_last, stands_at, place_of_spot, IsPiece, ArePieces, AreReady, free_at_end}
 
 pub plus_one : (n : ℕ) → n + 1 ≡ suc n
 plus_one n = omega arith
@@ -38,11 +38,6 @@ module _ {X A : Type 0} where
   piece_read [] i p h l e = absurd (omega arith)
   piece_read (q ∷ ps) zero p h l e = subst IsPiece (sym e) h.0
   piece_read (q ∷ ps) (suc i) p h l e = piece_read ps i p h.1 (omega arith) e
-
-  pub length_at_few : (ps : List (Vec X A)) (i : ℕ) → ArePieces ps → length_at ps i ≤ most_in_piece
-  length_at_few [] i h = omega arith
-  length_at_few (q ∷ ps) zero h = h.0.few
-  length_at_few (q ∷ ps) (suc i) h = length_at_few ps i h.1
 
   pub length_at_set : (ps : List (Vec X A)) (i : ℕ) (p : Vec X A) → i < length ps → length_at (set ps i p) i ≡ length p.items
   length_at_set [] i p l = absurd (omega arith)
@@ -114,10 +109,7 @@ module _ {X A : Type 0} where
 
   pub joined_insert : (ps : List (Vec X A)) (i : ℕ) (p p' : Vec X A) (j : ℕ) (x : X) → i < length ps → p ≡ get_or ps i p → j ≤ length p.items → p'.items ≡ insert p.items j x → joined (set ps i p') ≡ insert (joined ps) (stands_at ps i j) x
   joined_insert [] i p p' j x l e le w = absurd (omega arith)
-  joined_insert (q ∷ ps) zero p p' j x l e le w =
-      let same : length p.items ≡ length q.items = ap (λ (v : Vec X A). length v.items) e in
-      ap (λ l. l ++ joined ps) (w ∙ ap (λ (v : Vec X A). insert v.items j x) e) ∙ sym (insert-append_left q.items (joined ps) j x (omega arith))
-      ∙ ap (λ n. insert (joined (q ∷ ps)) n x) (sym (at_first j))
+  joined_insert (q ∷ ps) zero p p' j x l e le w = grind (arith, insert-append_left, at_first)
   joined_insert (q ∷ ps) (suc i) p p' j x l e le w =
       let at = stands_next q ps i j in
       ap (λ l. q.items ++ l) (joined_insert ps i p p' j x (omega arith) e le w ∙ ap (λ n. insert (joined ps) n x) (omega (arith, at)))
@@ -125,10 +117,7 @@ module _ {X A : Type 0} where
 
   pub joined_remove : (ps : List (Vec X A)) (i : ℕ) (p p' : Vec X A) (j : ℕ) → i < length ps → p ≡ get_or ps i p → j < length p.items → p'.items ≡ remove p.items j → joined (set ps i p') ≡ remove (joined ps) (stands_at ps i j)
   joined_remove [] i p p' j l e le w = absurd (omega arith)
-  joined_remove (q ∷ ps) zero p p' j l e le w =
-      let same : length p.items ≡ length q.items = ap (λ (v : Vec X A). length v.items) e in
-      ap (λ l. l ++ joined ps) (w ∙ ap (λ (v : Vec X A). remove v.items j) e) ∙ sym (remove-append_left q.items (joined ps) j (omega arith))
-      ∙ ap (remove (joined (q ∷ ps))) (sym (at_first j))
+  joined_remove (q ∷ ps) zero p p' j l e le w = grind (arith, remove-append_left, at_first)
   joined_remove (q ∷ ps) (suc i) p p' j l e le w =
       let at = stands_next q ps i j in
       ap (λ l. q.items ++ l) (joined_remove ps i p p' j (omega arith) e le w ∙ ap (remove (joined ps)) (omega (arith, at)))
@@ -137,20 +126,13 @@ module _ {X A : Type 0} where
   -- a piece of one item goes with it
   pub joined_remove_piece : (ps : List (Vec X A)) (i j : ℕ) → j < length_at ps i → length_at ps i ≤ 1 → joined (remove ps i) ≡ remove (joined ps) (stands_at ps i j)
   joined_remove_piece [] i j l one = absurd (omega arith)
-  joined_remove_piece (q ∷ ps) zero j l one =
-      let none : remove q.items j ≡ [] = nil_from_length (remove q.items j) (omega (arith, length-remove q.items j l)) in
-      sym (ap (remove (joined (q ∷ ps))) (at_first j) ∙ remove-append_left q.items (joined ps) j l ∙ ap (λ l. l ++ joined ps) none)
+  joined_remove_piece (q ∷ ps) zero j l one = grind (arith, nil_from_length, length-remove, at_first, remove-append_left)
   joined_remove_piece (q ∷ ps) (suc i) j l one =
       let at = stands_next q ps i j in
       ap (λ l. q.items ++ l) (joined_remove_piece ps i j l one ∙ ap (remove (joined ps)) (omega (arith, at)))
       ∙ sym (remove-append_right q.items (joined ps) (length q.items) (stands_at (q ∷ ps) (suc i) j) refl (omega (arith, at)))
 
   -- ---- a piece with its items in other memory, and two in one
-
-  pub joined_same : (ps : List (Vec X A)) (i : ℕ) (p p' : Vec X A) → i < length ps → p ≡ get_or ps i p → p'.items ≡ p.items → joined (set ps i p') ≡ joined ps
-  joined_same [] i p p' l e w = absurd (omega arith)
-  joined_same (q ∷ ps) zero p p' l e w = ap (λ l. l ++ joined ps) (w ∙ ap (λ (v : Vec X A). v.items) e)
-  joined_same (q ∷ ps) (suc i) p p' l e w = ap (λ l. q.items ++ l) (joined_same ps i p p' (omega arith) e w)
 
   pub joined_join : (ps : List (Vec X A)) (i : ℕ) (p up p' : Vec X A) → suc i < length ps → p ≡ get_or (remove ps (suc i)) i p → up ≡ get_or ps (suc i) up → p'.items ≡ p.items ++ up.items → joined (set (remove ps (suc i)) i p') ≡ joined ps
   joined_join [] i p up p' l e f w = absurd (omega arith)
@@ -263,15 +245,4 @@ module _ {X A : Type 0} where
     -- in both parts there is room for what comes
     pub split_fits : (n : ℕ) → s.at ≤ n → half < n → 0 < half → length_at qs s.piece ≡ half → length_at qs (s.piece + 1) + half ≡ n → n ≤ room_at qs s.piece → n ≤ room_at qs (s.piece + 1)
         → (t.at ≤ length_at qs t.piece) × (length_at qs t.piece < room_at qs t.piece)
-    split_fits n few more some lower upper lower_room upper_room = by (cases_lt half s.at)
-      where
-        by : (half < s.at) ⊎ (s.at ≤ half) → (t.at ≤ length_at qs t.piece) × (length_at qs t.piece < room_at qs t.piece)
-        by (inl l) = subst (λ (u : Spot). (u.at ≤ length_at qs u.piece) × (length_at qs u.piece < room_at qs u.piece)) (sym (up l)) (omega (arith, upper, few, l), omega (arith, upper, upper_room, some, more))
-        by (inr l) = subst (λ (u : Spot). (u.at ≤ length_at qs u.piece) × (length_at qs u.piece < room_at qs u.piece)) (sym (low l)) (omega (arith, lower, l), omega (arith, lower, lower_room, more))
-
-    pub split_piece : t.piece ≤ s.piece + 1
-    split_piece = by (cases_lt half s.at)
-      where
-        by : (half < s.at) ⊎ (s.at ≤ half) → t.piece ≤ s.piece + 1
-        by (inl l) = subst (λ (u : Spot). u.piece ≤ s.piece + 1) (sym (up l)) (omega arith)
-        by (inr l) = subst (λ (u : Spot). u.piece ≤ s.piece + 1) (sym (low l)) (omega arith)
+    split_fits n few more some lower upper lower_room upper_room = grind arith

@@ -1,11 +1,7 @@
 -- Places in rows whose serials rise.
-use Rattle.std.proofs.Common.{◌≡◌, ℕ, zero, suc, ◌+◌, ◌<◌, ◌≤◌, Bool, true, false, cond, ◌&&◌, nat_eq, List, [], ◌∷◌, ◌++◌, length, get_or, set, Option, None, Some, option_map, Result, Ok, Err, refl, ap, sym, subst, ◌∙◌, arith}
+use Rattle.std.proofs.Common.{◌≡◌, ℕ, zero, suc, ◌+◌, ◌<◌, ◌≤◌, Bool, true, false, cond, ◌&&◌, nat_eq, List, [], ◌∷◌, ◌++◌, length, get_or, None, Some, option_map, refl, ap, subst, ◌∙◌, arith}
 use Rattle.std.specs.List.{remove}
-use Rattle.std.specs.List.Sorted.{IsSearchInRange, IsBinarySearchResult, IsNonDecreasingBy}
 use Rattle.std.specs.Map.{lookup}
-use Rattle.std.specs.Result.{result_ok}
-use Rattle.std.specs.Ordering.{nat_cmp, ordering_index}
-use Rattle.std.proofs.lemmas.Cmp.{ranked}
 use Rattle.std.proofs.lemmas.Bool.Decides.{nat_tests}
 use Rattle.ctl_store.specs.Step.{place}
 use Rattle.ctl_store.specs.Rows.{has_serial, Rises, replace_at, rows_from}
@@ -60,11 +56,6 @@ module _ {V : Type 0} where
   Rises-push n [] m x h = (h, omega arith)
   Rises-push n (r ∷ rs) m x h = (h.0, Rises-push (suc r.0) rs m x h.1)
 
-  pub Rises-set : (n : ℕ) (rs : List (ℕ × V)) (m i : ℕ) (r : ℕ × V) (x : V) → Rises n rs m → i < length rs → r ≡ get_or rs i r → Rises n (set rs i (r.0, x)) m
-  Rises-set n [] m i r x h l e = absurd (omega arith)
-  Rises-set n (y ∷ rs) m zero r x h l e = subst (λ (t : ℕ × V). (n ≤ t.0) × Rises (suc t.0) rs m) (sym e) h
-  Rises-set n (y ∷ rs) m (suc i) r x h l e = (h.0, Rises-set (suc y.0) rs m i r x h.1 (omega arith) e)
-
   pub Rises-remove : (n : ℕ) (rs : List (ℕ × V)) (m i : ℕ) → Rises n rs m → i < length rs → Rises n (remove rs i) m
   Rises-remove n [] m i h l = absurd (omega arith)
   Rises-remove n (y ∷ rs) m zero h l = Rises-weaken (suc y.0) n rs m (omega (arith, h.0)) h.1
@@ -83,22 +74,12 @@ module _ {X : Type 0} (p : X → Bool) where
 
   pub place_within : (xs : List X) (i : ℕ) → place p xs ≡ Some i → i < length xs
   place_within [] i e = cc
-  place_within (x ∷ xs) i e = by (place_within xs) (p x) (place p xs) refl e
-    where
-      by : ((j : ℕ) → place p xs ≡ Some j → j < length xs) → (b : Bool) (o : Option ℕ) → place p xs ≡ o → cond b (Some 0) (option_map (λ n. suc n) o) ≡ Some i → i < suc (length xs)
-      by rec true o was e = let z : 0 ≡ i = some_is e in omega arith
-      by rec false None was e = cc
-      by rec false (Some j) was e = let z : suc j ≡ i = some_is e in omega (arith, rec j was)
+  place_within (x ∷ xs) i e = grind (arith, place_within xs)
 
   -- what stands there passes
   pub place_passes : (xs : List X) (i : ℕ) (d : X) → place p xs ≡ Some i → p (get_or xs i d) ≡ true
   place_passes [] i d e = cc
-  place_passes (x ∷ xs) i d e = by (λ j. place_passes xs j d) (p x) refl (place p xs) refl e
-    where
-      by : ((j : ℕ) → place p xs ≡ Some j → p (get_or xs j d) ≡ true) → (b : Bool) → p x ≡ b → (o : Option ℕ) → place p xs ≡ o → cond b (Some 0) (option_map (λ n. suc n) o) ≡ Some i → p (get_or (x ∷ xs) i d) ≡ true
-      by rec true is o was e = subst (λ i. p (get_or (x ∷ xs) i d) ≡ true) (some_is e) is
-      by rec false is None was e = cc
-      by rec false is (Some j) was e = subst (λ i. p (get_or (x ∷ xs) i d) ≡ true) (some_is e) (rec j was)
+  place_passes (x ∷ xs) i d e = grind (arith, place_passes xs)
 
 module _ {V : Type 0} where
   -- the row of a serial stands at one place
@@ -109,39 +90,7 @@ module _ {V : Type 0} where
       ap (λ b. cond b (Some 0) (option_map (λ n. suc n) (place (has_serial s) rs))) (lt_ne r.0 s (omega (arith, Rises-from (suc r.0) rs m i r h.1 (omega arith), e r)))
       ∙ ap (option_map (λ n. suc n)) (place_at s (suc r.0) rs m i h.1 (omega arith) e)
 
-  comparisons_rise : (s n : ℕ) (rs : List (ℕ × V)) (m : ℕ) → Rises n rs m → IsNonDecreasingBy (λ (r : ℕ × V). ordering_index (nat_cmp r.0 s)) rs
-  comparisons_rise s n rs m h i j d le l =
-      let up : i < j → (get_or rs i d).0 < (get_or rs j d).0 = λ lt. Rises-up n rs m i j d h lt l in
-      let same : i ≡ j → (get_or rs i d).0 ≡ (get_or rs j d).0 = λ e. ap (λ k. (get_or rs k d).0) e in
-      rises _ _ s (grind (arith, up, same))
-    where
-      rises : (a b s : ℕ) → a ≤ b → ordering_index (nat_cmp a s) ≤ ordering_index (nat_cmp b s)
-      rises a b s le = grind (arith, nat_tests)
-
-  -- what halving finds is the place of the serial
-  pub halved : (s n : ℕ) (rs : List (ℕ × V)) (m : ℕ) (r : Result ℕ ℕ) → Rises n rs m → IsSearchInRange r (length rs) → IsBinarySearchResult (λ (r : ℕ × V). nat_cmp r.0 s) rs r → result_ok r ≡ place (has_serial s) rs
-  halved s n rs m (Ok i) h bound at = sym (place_at s n rs m i h bound (λ d. ranked _ s _ (sym (at d))))
-  halved s n rs m (Err i) h bound parted = sym (place_none (has_serial s) rs (λ k d l. other k d l))
-    where
-      below : (k : ℕ) (d : ℕ × V) → k < i → (get_or rs k d).0 < s
-      below k d l = ranked _ s _ (sym ((parted (comparisons_rise s n rs m h)).0 k d (omega arith) l))
-
-      above : (k : ℕ) (d : ℕ × V) → i ≤ k → k < length rs → s < (get_or rs k d).0
-      above k d le l = ranked _ s _ (sym ((parted (comparisons_rise s n rs m h)).1 k d le l))
-
-      other : (k : ℕ) (d : ℕ × V) → k < length rs → has_serial s (get_or rs k d) ≡ false
-      other k d l = differs (get_or rs k d).0 s k i (below k d) (λ le. above k d le l)
-        where
-          differs : (a s k i : ℕ) → (k < i → a < s) → (i ≤ k → s < a) → nat_eq a s ≡ false
-          differs a s k i f g = grind (arith, nat_tests)
-
 module _ {V : Type 0} where
-  -- what `v[i] = (its serial, x)` writes
-  pub replace_is : (rs : List (ℕ × V)) (i : ℕ) (r : ℕ × V) (x : V) → i < length rs → r ≡ get_or rs i r → set rs i (r.0, x) ≡ replace_at rs i x
-  replace_is [] i r x l e = absurd (omega arith)
-  replace_is (y ∷ rs) zero r x l e = ap (λ (t : ℕ × V). (t.0, x) ∷ rs) e
-  replace_is (y ∷ rs) (suc i) r x l e = ap (λ l. y ∷ l) (replace_is rs i r x (omega arith) e)
-
   pub Rises-replace : (n : ℕ) (rs : List (ℕ × V)) (m i : ℕ) (x : V) → Rises n rs m → Rises n (replace_at rs i x) m
   Rises-replace n [] m i x h = h
   Rises-replace n (y ∷ rs) m zero x h = h
@@ -151,23 +100,11 @@ module _ {V : Type 0} where
   -- the value at the place of a serial
   pub lookup-place : (s : ℕ) (rs : List (ℕ × V)) (i : ℕ) (d : ℕ × V) → place (has_serial s) rs ≡ Some i → lookup (λ k. nat_eq k s) rs ≡ Some (get_or rs i d).1
   lookup-place s [] i d e = cc
-  lookup-place s (r ∷ rs) i d e = by (λ j. lookup-place s rs j d) (nat_eq r.0 s) (place (has_serial s) rs) refl e
-    where
-      by : ((j : ℕ) → place (has_serial s) rs ≡ Some j → lookup (λ k. nat_eq k s) rs ≡ Some (get_or rs j d).1) → (b : Bool) (o : Option ℕ) → place (has_serial s) rs ≡ o → cond b (Some 0) (option_map (λ n. suc n) o) ≡ Some i
-          → cond b (Some r.1) (lookup (λ k. nat_eq k s) rs) ≡ Some (get_or (r ∷ rs) i d).1
-      by rec true o was e = ap (λ i. Some (get_or (r ∷ rs) i d).1) (some_is e)
-      by rec false None was e = cc
-      by rec false (Some j) was e = rec j was ∙ ap (λ i. Some (get_or (r ∷ rs) i d).1) (some_is e)
+  lookup-place s (r ∷ rs) i d e = grind (arith, lookup-place s rs)
 
   pub lookup-place_none : (s : ℕ) (rs : List (ℕ × V)) → place (has_serial s) rs ≡ None → lookup (λ k. nat_eq k s) rs ≡ None
   lookup-place_none s [] e = refl
-  lookup-place_none s (r ∷ rs) e = by (lookup-place_none s rs) (nat_eq r.0 s) (place (has_serial s) rs) refl e
-    where
-      by : (place (has_serial s) rs ≡ None → lookup (λ k. nat_eq k s) rs ≡ None) → (b : Bool) (o : Option ℕ) → place (has_serial s) rs ≡ o → cond b (Some 0) (option_map (λ n. suc n) o) ≡ None
-          → cond b (Some r.1) (lookup (λ k. nat_eq k s) rs) ≡ None
-      by rec true o was e = cc
-      by rec false None was e = rec was
-      by rec false (Some j) was e = cc
+  lookup-place_none s (r ∷ rs) e = grind (arith, lookup-place_none s rs)
 
   pub Rises-rows_from : (n : ℕ) (xs : List V) → Rises n (rows_from n xs) (n + length xs)
   Rises-rows_from n [] = omega arith

@@ -1,7 +1,6 @@
 -- Where the items that pass a test end, in pieces.
-use Rattle.std.proofs.Common.{◌≡◌, ℕ, zero, suc, ◌+◌, ◌-◌, ◌<◌, ◌≤◌, Bool, true, false, List, [], ◌∷◌, ◌++◌, length, take, get_or, set, slice_get, Vec, refl, ap, sym, subst, ◌∙◌, arith, nat_eq, nat_lt, None, Some}
+use Rattle.std.proofs.Common.{◌≡◌, ℕ, zero, suc, ◌+◌, ◌-◌, ◌<◌, ◌≤◌, Bool, true, false, List, [], ◌∷◌, ◌++◌, length, take, get_or, set, Vec, refl, ap, sym, subst, ◌∙◌, arith, nat_eq, nat_lt, None, Some}
 use Rattle.std.specs.List.Sorted.{IsPartitionedBy, IsPartitionPoint}
-use Rattle.std.specs.Option.{option_map_or}
 use Rattle.std.proofs.lemmas.Option.{slice_get-get_or}
 use Rattle.std.proofs.lemmas.List.{length-append, get_or-append-add, get_or_append_left, get_or_default}
 use Rattle.std.proofs.lemmas.Bool.Decides.{nat_tests}
@@ -14,15 +13,7 @@ use Rattle.ctl_store.proofs.PiecesLemmas.{stands_next}
 
 module _ {X : Type 0} (p : X → Bool) where
   cons_end : (x : X) (ys : List X) (r : ℕ) → p x ≡ true → IsEnd p ys r → IsEnd p (x ∷ ys) (suc r)
-  cons_end x ys r e h = (low, high)
-    where
-      low : (k : ℕ) (d : X) → 0 ≤ k → k < suc r → p (get_or (x ∷ ys) k d) ≡ true
-      low zero d a l = e
-      low (suc k) d a l = h.0 k d (omega arith) (omega arith)
-
-      high : (k : ℕ) (d : X) → suc r ≤ k → k < suc (length ys) → p (get_or (x ∷ ys) k d) ≡ false
-      high zero d a l = absurd (omega arith)
-      high (suc k) d a l = h.1 k d (omega arith) (omega arith)
+  cons_end x ys r e h = grind arith
 
   tail_end : (x : X) (ys : List X) (r : ℕ) → IsEnd p (x ∷ ys) (suc r) → IsEnd p ys r
   tail_end x ys r h = (λ k d a l. h.0 (suc k) d (omega arith) (omega arith), λ k d a l. h.1 (suc k) d (omega arith) (omega arith))
@@ -69,14 +60,10 @@ module _ {X : Type 0} (p : X → Bool) where
   parted_tail (x ∷ q) ys h = parted_tail q ys (λ i j d le l e. h (suc i) (suc j) d (omega arith) (omega arith) e)
 
   parted_head : (q ys : List X) → IsPartitionedBy p (q ++ ys) → IsPartitionedBy p q
-  parted_head q ys h i j d le l e =
-      sym (ap p (get_or_append_left q ys d i (omega arith)))
-      ∙ h i j d le (omega (arith, length-append q ys)) (ap p (get_or_append_left q ys d j l) ∙ e)
+  parted_head q ys h i j d le l e = grind (arith, get_or_append_left, length-append)
 
   pub last_is : (q : List X) (m : ℕ) (d : X) → length q ≡ m + 1 → last_passes p q ≡ p (get_or q m d)
-  last_is q m d e =
-      let n : length q - 1 ≡ m = omega (arith, e) in
-      ap (λ k. option_map_or p (slice_get q k) false) n ∙ ap (λ o. option_map_or p o false) (slice_get-get_or q m d (omega (arith, e)))
+  last_is q m d e = grind (arith, slice_get-get_or)
 
   all_pass : (q : List X) → 0 < length q → IsPartitionedBy p q → last_passes p q ≡ true → (k : ℕ) (d : X) → k < length q → p (get_or q k d) ≡ true
   all_pass q some h e k d l = h k (length q - 1) d (omega arith) (omega arith) (sym (last_is q (length q - 1) d (omega arith)) ∙ e)
@@ -119,11 +106,7 @@ module _ {X A : Type 0} (p : X → Bool) where
   parted_last (q ∷ ps) h parted zero zero d le l e = e
   parted_last (q ∷ ps) h parted (suc i) zero d le l e = absurd (omega arith)
   parted_last (q ∷ ps) h parted (suc i) (suc j) d le l e = parted_last ps h.1 (parted_tail p q.items (joined ps) parted) i j d (omega arith) (omega arith) e
-  parted_last (q ∷ ps) h parted zero (suc j) d le l e = by (last_passes p q.items) refl
-    where
-      by : (b : Bool) → last_passes p q.items ≡ b → last_passes p q.items ≡ true
-      by true is = is
-      by false is = let z = none_last ps h.1 (none_after p q.items (joined ps) h.0.some parted is) j d (omega arith) in cc
+  parted_last (q ∷ ps) h parted zero (suc j) d le l e = grind (arith, none_last, none_after)
 
   abbrev pub IsLastEnd : List (Vec X A) → ℕ → Type 0
   IsLastEnd ps k = IsPartitionPoint (λ (v : Vec X A). last_passes p v.items ≡ true) (λ (v : Vec X A). last_passes p v.items ≡ false) ps k
@@ -170,17 +153,9 @@ module _ {X A : Type 0} where
   stands_end (q ∷ ps) j = omega (arith, length-append q.items (joined ps), length-append q.items (joined (take (length ps) ps)), stands_end ps j)
 
 module _ {X A : Type 0} where
-  -- a piece that is written with the items that it had
-  pub joined_same : (ps : List (Vec X A)) (i : ℕ) (p p' : Vec X A) → p ≡ get_or ps i p → p'.items ≡ p.items → joined (set ps i p') ≡ joined ps
-  joined_same [] i p p' e f = refl
-  joined_same (q ∷ ps) zero p p' e f = ap (λ (xs : List X). xs ++ joined ps) (f ∙ ap (λ (v : Vec X A). v.items) e)
-  joined_same (q ∷ ps) (suc i) p p' e f = ap (λ (xs : List X). q.items ++ xs) (joined_same ps i p p' e f)
-
   pub get_joined : (ps : List (Vec X A)) (i j : ℕ) (p : Vec X A) (x d : X) → j < length_at ps i → p ≡ get_or ps i p → x ≡ get_or p.items j x → get_or (joined ps) (stands_at ps i j) d ≡ x
   get_joined [] i j p x d l e f = absurd (omega arith)
-  get_joined (q ∷ ps) zero j p x d l e f =
-      ap (λ n. get_or (q.items ++ joined ps) n d) (omega arith) ∙ get_or_append_left q.items (joined ps) d j l
-      ∙ get_or_default q.items j d x l ∙ sym (f ∙ ap (λ (v : Vec X A). get_or v.items j x) e)
+  get_joined (q ∷ ps) zero j p x d l e f = grind (arith, get_or_append_left, get_or_default)
   get_joined (q ∷ ps) (suc i) j p x d l e f =
       ap (λ n. get_or (q.items ++ joined ps) n d) (stands_next q ps i j)
       ∙ get_or-append-add q.items (joined ps) (stands_at ps i j) d
@@ -201,18 +176,13 @@ module _ {V : Type 0} where
 
   replace_behind : (xs ys : List (ℕ × V)) (j : ℕ) (x : V) → replace_at (xs ++ ys) (length xs + j) x ≡ xs ++ replace_at ys j x
   replace_behind [] ys j x = ap (λ n. replace_at ys n x) (omega arith)
-  replace_behind (y ∷ xs) ys j x =
-      let n : length (y ∷ xs) + j ≡ suc (length xs + j) = omega arith in
-      ap (λ n. replace_at (y ∷ (xs ++ ys)) n x) n ∙ ap (λ l. y ∷ l) (replace_behind xs ys j x)
+  replace_behind (y ∷ xs) ys j x = grind (arith, replace_behind xs ys j x)
 
 module _ {V A : Type 0} where
   pub replace_joined : (ps : List (Vec (ℕ × V) A)) (i j : ℕ) (p : Vec (ℕ × V) A) (r : ℕ × V) (p' : Vec (ℕ × V) A) (x : V) → j < length_at ps i → p ≡ get_or ps i p → r ≡ get_or p.items j r
       → p'.items ≡ set p.items j (r.0, x) → joined (set ps i p') ≡ replace_at (joined ps) (stands_at ps i j) x
   replace_joined [] i j p r p' x l e f g = absurd (omega arith)
-  replace_joined (q ∷ ps) zero j p r p' x l e f g =
-      ap (λ (xs : List (ℕ × V)). xs ++ joined ps) (g ∙ ap (λ (v : Vec (ℕ × V) A). set v.items j (r.0, x)) e)
-      ∙ replace_in q.items (joined ps) j r x l (f ∙ ap (λ (v : Vec (ℕ × V) A). get_or v.items j r) e)
-      ∙ ap (λ n. replace_at (q.items ++ joined ps) n x) (omega arith)
+  replace_joined (q ∷ ps) zero j p r p' x l e f g = grind (arith, replace_in)
   replace_joined (q ∷ ps) (suc i) j p r p' x l e f g =
       ap (λ (xs : List (ℕ × V)). q.items ++ xs) (replace_joined ps i j p r p' x l e f g)
       ∙ sym (replace_behind q.items (joined ps) (stands_at ps i j) x)

@@ -23,10 +23,7 @@ starts runs = map (λ (r : Run). r.start) runs
 
 first-least : (r : Run) (rs : List Run) → IsStrictlyIncreasing (starts (r ∷ rs)) → (k : ℕ) → k < length (r ∷ rs) → r.start ≤ slice_index (starts (r ∷ rs)) k
 first-least r rs rise zero lt = omega arith
-first-least r rs rise (suc k) lt =
-    let next : k + 1 ≡ suc k = omega arith in
-    let less = subst (λ j. slice_index (starts (r ∷ rs)) k < slice_index (starts (r ∷ rs)) j) next (rise k (omega (arith, lt, length-map (r ∷ rs) (λ (x : Run). x.start)))) in
-    omega (arith, less, first-least r rs rise k (omega (arith, lt)))
+first-least r rs rise (suc k) lt = grind (arith, length-map, first-least r rs rise k (omega (arith, lt)))
 
 first-of : (r : Run) (rs : List Run) (x : Run) → IsStrictlyIncreasing (starts (r ∷ rs)) → Contains (r ∷ rs) x → r.start ≤ x.start
 first-of r rs x rise has =
@@ -47,11 +44,7 @@ apart all a b s t is_s is_t less = ⊎_elim
 
 -- at one line one starts
 alike : (all : List (List ℕ)) (a : ℕ) (s t : List (List ℕ)) → IsStanzaAt all a s → IsStanzaAt all a t → s ≡ t
-alike all a s t is_s is_t =
-    let not_shorter : length s < length t → ⊥ = λ less. let clash : false ≡ true = sym (is_t.no_blank (a + length s) (omega arith) (omega arith)) ∙ is_s.ends (omega (arith, is_t.within)) in cc in
-    let not_longer : length t < length s → ⊥ = λ less. let clash : false ≡ true = sym (is_s.no_blank (a + length t) (omega arith) (omega arith)) ∙ is_t.ends (omega (arith, is_s.within)) in cc in
-    let size : length s ≡ length t = ⊎_elim (λ less. absurd (not_shorter less)) (λ le. ⊎_elim (λ less. absurd (not_longer less)) (λ ge. omega arith) (cases_lt (length t) (length s))) (cases_lt (length s) (length t)) in
-    sym is_s.lines_are ∙ ap (λ n. take n (drop a all)) size ∙ is_t.lines_are
+alike all a s t is_s is_t = grind arith
 
 -- ---- the first record that has a fault of its own
 
@@ -89,16 +82,7 @@ first-own numbers (r ∷ rs) fault rise e = by (own_fault (record_at numbers r))
 
 none-own : (numbers : List ℕ) (runs : List Run) → first_own_fault (map (record_at numbers) runs) ≡ None → (r : Run) → Contains runs r → own_fault (record_at numbers r) ≡ None
 none-own numbers [] e x has = absurd (omega (arith, has.1))
-none-own numbers (r ∷ rs) e x has = by (own_fault (record_at numbers r)) refl e (λ later. none-own numbers rs later x)
-  where
-    by : (o : Option TextFault) → own_fault (record_at numbers r) ≡ o → or_else o (first_own_fault (map (record_at numbers) rs)) ≡ None
-        → (first_own_fault (map (record_at numbers) rs) ≡ None → Contains rs x → own_fault (record_at numbers x) ≡ None) → own_fault (record_at numbers x) ≡ None
-    by (Some own) here e rest = absurd cc
-    by None here e rest = go has.0 has.1 has.2
-      where
-        go : (k : ℕ) → k < length (r ∷ rs) → get_or (r ∷ rs) k x ≡ x → own_fault (record_at numbers x) ≡ None
-        go zero lt is = sym (ap (λ (y : Run). own_fault (record_at numbers y)) is) ∙ here
-        go (suc k) lt is = rest e (k, omega arith, is)
+none-own numbers (r ∷ rs) e x has = grind (arith, none-own numbers rs)
 
 -- ---- the least fault
 

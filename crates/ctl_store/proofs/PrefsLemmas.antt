@@ -1,5 +1,5 @@
 -- Preferences, record by record.
-use Rattle.std.proofs.Common.{◌≡◌, ℕ, ℤ, Bool, true, false, cond, ◌||◌, List, [], ◌∷◌, ◌++◌, Option, None, Some, is_some, unwrap_or, refl, ap, sym, ◌∙◌}
+use Rattle.std.proofs.Common.{◌≡◌, ℕ, ℤ, Bool, true, false, cond, ◌||◌, List, [], ◌∷◌, ◌++◌, Option, None, Some, is_some, unwrap_or, refl, ap, sym, ◌∙◌, arith}
 use Rattle.std.specs.Map.{lookup}
 use Rattle.indexmap.specs.IndexMap.{insert_entry}
 use Rattle.ctl_stanza.specs.declared.fault.TextFault.{TextFault}
@@ -8,12 +8,10 @@ use Rattle.ctl_stanza.specs.declared.fault.Cause.TheVariants as causes
 use Rattle.ctl_stanza.specs.Faults.{IsMemoryAtZero, fault_or, is_empty_body}
 use Rattle.ctl_stanza.specs.Fields.{is_same_name, package_name}
 use Rattle.ctl_stanza.specs.Records.{RecordText, parts_of_fields}
-use Rattle.ctl_relation.specs.Names.{is_name}
 use Rattle.ctl_store.specs.declared.selector.Selector.{Selector}
 use Rattle.ctl_store.specs.Pins.{selector_eq}
 use Rattle.ctl_store.specs.PinVersions.{is_pin_version}
-use Rattle.ctl_store.specs.Priority.{priority_of}
-use Rattle.ctl_store.specs.Prefs.{words_of, is_general, are_names, version_asked, list_asked, package_cause, asked_cause, pin_cause, priority_cause, pin_name, priority_name, field_cause, body_in, words_in, first_wrong, own_fault, keep_first, first_settings}
+use Rattle.ctl_store.specs.Prefs.{words_of, is_general, version_asked, list_asked, package_cause, asked_cause, pin_cause, priority_cause, pin_name, priority_name, field_cause, body_in, words_in, first_wrong, own_fault, keep_first, first_settings}
 
 -- ---- settings
 
@@ -22,12 +20,7 @@ kept_before s p kept h = sym (ap (λ b. cond b kept (kept ++ (s, p) ∷ [])) h)
 
 absent_last : (s : Selector) (p : ℤ) (kept : List (Selector × ℤ)) → is_some (lookup (selector_eq s) kept) ≡ false → insert_entry selector_eq kept s p ≡ kept ++ (s, p) ∷ []
 absent_last s p [] h = refl
-absent_last s p (e ∷ kept) h = by (selector_eq s e.0) h (absent_last s p kept)
-  where
-    by : (b : Bool) → is_some (cond b (Some e.1) (lookup (selector_eq s) kept)) ≡ false → (is_some (lookup (selector_eq s) kept) ≡ false → insert_entry selector_eq kept s p ≡ kept ++ (s, p) ∷ [])
-        → cond b ((e.0, p) ∷ kept) (e ∷ insert_entry selector_eq kept s p) ≡ e ∷ (kept ++ (s, p) ∷ [])
-    by true h rest = absurd cc
-    by false h rest = ap (λ l. e ∷ l) (rest h)
+absent_last s p (e ∷ kept) h = grind (arith, absent_last s p kept)
 
 pub kept_new : (s : Selector) (p : ℤ) (kept : List (Selector × ℤ)) → is_some (lookup (selector_eq s) kept) ≡ false → insert_entry selector_eq kept s p ≡ keep_first kept (s, p)
 kept_new s p kept h = absent_last s p kept h ∙ sym (ap (λ b. cond b kept (kept ++ (s, p) ∷ [])) h)
@@ -80,33 +73,15 @@ abbrev NotMemory : Option Cause → Type 0
 NotMemory o = o ≡ Some causes.Memory → ⊥
 
 package_other : (words : List (List ℕ)) → NotMemory (package_cause words)
-package_other words = by (is_general words) (are_names words)
-  where
-    by : (a b : Bool) → NotMemory (cond (a || b) None (Some causes.Name))
-    by true b h = cc
-    by false true h = cc
-    by false false h = cc
+package_other words = grind arith
 
 asked_other : (general : Bool) (version list : Option (List ℕ)) → NotMemory (asked_cause general version list)
-asked_other general (Some version) list = by (is_pin_version version) general
-  where
-    by : (a b : Bool) → NotMemory (cond a (cond b (Some causes.Form) None) (Some causes.Version))
-    by true true h = cc
-    by true false h = cc
-    by false b h = cc
-asked_other general None (Some list) = by (is_name list)
-  where
-    by : (a : Bool) → NotMemory (cond a None (Some causes.Name))
-    by true h = cc
-    by false h = cc
+asked_other general (Some version) list = grind arith
+asked_other general None (Some list) = grind arith
 asked_other general None None = λ h. cc
 
 priority_other : (body : List ℕ) → NotMemory (priority_cause body)
-priority_other body = by (is_some (priority_of body))
-  where
-    by : (a : Bool) → NotMemory (cond a None (Some causes.Priority))
-    by true h = cc
-    by false h = cc
+priority_other body = grind arith
 
 field_other : (general : Bool) (name body : List ℕ) → NotMemory (field_cause general name body)
 field_other general name body = by (is_same_name name package_name) (is_same_name name pin_name) (is_same_name name priority_name)

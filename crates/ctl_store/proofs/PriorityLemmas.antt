@@ -1,5 +1,5 @@
 -- The number of digits, read from the front.
-use Rattle.std.proofs.Common.{◌≡◌, ℕ, ◌+◌, ◌*◌, ◌-◌, ◌<◌, ◌≤◌, Bool, true, false, cond, ◌&&◌, List, [], ◌∷◌, Option, None, Some, refl, ap, ◌∙◌, arith}
+use Rattle.std.proofs.Common.{◌≡◌, ℕ, ◌+◌, ◌*◌, ◌-◌, ◌<◌, ◌≤◌, Bool, true, false, cond, ◌&&◌, List, [], ◌∷◌, Option, None, Some, refl, ◌∙◌, arith}
 use Rattle.std.specs.Prelude.{nat_lt, nat_le}
 use Rattle.std.specs.List.{list_all}
 use Rattle.std.specs.Char.{is_ascii_digit, digit_value}
@@ -12,9 +12,7 @@ number_behind greatest n digits =
     cond (list_all is_ascii_digit digits && (nat_lt 0 (digits_value_after 10 n digits) && nat_le (digits_value_after 10 n digits) greatest)) (Some (digits_value_after 10 n digits)) None
 
 pub one_digit : (greatest n b : ℕ) (digits : List ℕ) → is_ascii_digit b ≡ true → number_behind greatest n (b ∷ digits) ≡ number_behind greatest (n * 10 + digit_value b) digits
-one_digit greatest n b digits h =
-    let m = digits_value_after 10 (n * 10 + digit_value b) digits in
-    ap (λ (t : Bool). cond ((t && list_all is_ascii_digit digits) && (nat_lt 0 m && nat_le m greatest)) (Some m) None) h
+one_digit greatest n b digits h = grind arith
 
 grows : (n : ℕ) (digits : List ℕ) → n ≤ digits_value_after 10 n digits
 grows n [] = omega arith
@@ -29,10 +27,7 @@ and_false true false = refl
 and_false false b = refl
 
 pub too_great : (greatest n : ℕ) (digits : List ℕ) → greatest < n → number_behind greatest n digits ≡ None
-too_great greatest n digits h =
-    let m = digits_value_after 10 n digits in
-    ap (λ (t : Bool). cond (list_all is_ascii_digit digits && (nat_lt 0 m && t)) (Some m) None) (above greatest m (omega (arith, h, grows n digits)))
-    ∙ ap (λ (t : Bool). cond t (Some m) None) (and_false (list_all is_ascii_digit digits) (nat_lt 0 m))
+too_great greatest n digits h = grind (arith, above, grows, and_false)
 
 digit_is : (b : ℕ) → is_ascii_digit b ≡ true → digit_value b ≡ b - 48
 digit_is b h = grind (arith, nat_tests)

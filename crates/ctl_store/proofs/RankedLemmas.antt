@@ -11,7 +11,7 @@ use Rattle.std.specs.declared.cmp.Ordering.TheVariants.{Less}
 use Rattle.std.proofs.lemmas.Option.{slice_get-get_or}
 use Rattle.ctl_store.specs.Places.{place, has_serial, Rises, replace_at}
 use Rattle.ctl_store.specs.Sorted.{sorted_in, below_in, labelled, order_in, place_in, IsRankedBy}
-use Rattle.ctl_store.proofs.PlaceLemmas.{some_is, eq_is, lt_ne, place_within, is_eq_from, Rises-push, Rises-replace, Rises-remove}
+use Rattle.ctl_store.proofs.PlaceLemmas.{some_is, eq_is, lt_ne, place_within, Rises-push, Rises-replace, Rises-remove}
 use Rattle.ctl_store.proofs.SortedLemmas.{all_map, all_sorted, all_get, found, if_at, sorted-append, sorted-remove, place-find, place-find_none, find-place_none, before_lower, from_lower, lower_within}
 
 past_end : {X : Type 0} (xs : List X) (k : ℕ) → length xs ≤ k → slice_get xs k ≡ None
@@ -82,12 +82,7 @@ module _ {L : Type 0} (R : L → L → Ordering) (total : IsTotalOrder R) {T : T
 
   lookup-labels : (s : ℕ) (rows : List (ℕ × T)) → lookup (λ k. nat_eq k s) (labelled label rows) ≡ option_map (λ (x : T). label (s, x)) (lookup (λ k. nat_eq k s) rows)
   lookup-labels s [] = refl
-  lookup-labels s (r ∷ rows) = by (nat_eq r.0 s) refl (lookup-labels s rows)
-    where
-      by : (b : Bool) → nat_eq r.0 s ≡ b → lookup (λ k. nat_eq k s) (labelled label rows) ≡ option_map (λ (x : T). label (s, x)) (lookup (λ k. nat_eq k s) rows)
-          → cond b (Some (label r)) (lookup (λ k. nat_eq k s) (labelled label rows)) ≡ option_map (λ (x : T). label (s, x)) (cond b (Some r.1) (lookup (λ k. nat_eq k s) rows))
-      by true e rest = ap (λ n. Some (label (n, r.1))) (is_eq_from r.0 s e)
-      by false e rest = rest
+  lookup-labels s (r ∷ rows) = grind (arith, lookup-labels s rows)
 
   pub Rises-labels : (n : ℕ) (rows : List (ℕ × T)) (m : ℕ) → Rises n rows m → Rises n (labelled label rows) m
   Rises-labels n [] m h = h
@@ -118,10 +113,7 @@ module _ {L : Type 0} (R : L → L → Ordering) (total : IsTotalOrder R) {T : T
 
   module _ (rows : List (ℕ × T)) (next : ℕ) (rises : Rises 0 rows next) where
     order-sorted : (q : L) (k : ℕ) (y : ℕ × L) → slice_get (sorted_in R (labelled label rows)) k ≡ Some y → order_in R label rows q y.0 ≡ R y.1 q
-    order-sorted q k y e =
-        order-found rows q y
-        (all_get (λ (x : ℕ × L). lookup (λ k. nat_eq k x.0) (labelled label rows) ≡ Some x.1) (sorted_in R (labelled label rows)) k y
-        (all_sorted R total (λ (x : ℕ × L). lookup (λ k. nat_eq k x.0) (labelled label rows) ≡ Some x.1) (labelled label rows) (all_lookup 0 (labelled label rows) next (Rises-labels 0 rows next rises))) e)
+    order-sorted q k y e = grind (arith, order-found, q, all_get, k, all_sorted, all_lookup, Rises-labels)
 
   module _ (rows : List (ℕ × T)) (next : ℕ) (order : List ℕ) (kept : IsRankedBy R label rows next order) (q : L) where
     abbrev sorted : List (ℕ × L)
@@ -145,23 +137,14 @@ module _ {L : Type 0} (R : L → L → Ordering) (total : IsTotalOrder R) {T : T
 
     -- the smaller ones stand first
     pub parted : IsPartitionedBy (λ s. is_lt (order_in R label rows q s)) order
-    parted i j d le l e = below i d (omega arith) (omega (arith, not_above))
-      where
-        not_above : below_in R q sorted ≤ j → ⊥
-        not_above k = let z = above j d l k in cc
+    parted i j d le l e = grind (arith, below, q, above)
 
     pub below_length : below_in R q sorted ≤ length order
     below_length = omega (arith, lower_within R total q sorted, ap length kept.ordered, length-serials sorted)
 
     -- the place where they end is the one that halving finds
     pub below_is : (r : ℕ) → r ≤ length order → IsPartitionPoint (λ s. is_lt (order_in R label rows q s) ≡ true) (λ s. is_lt (order_in R label rows q s) ≡ false) order r → r ≡ below_in R q sorted
-    below_is r w h = omega (arith, not_below, not_above)
-      where
-        not_below : r < below_in R q sorted → ⊥
-        not_below l = let y = below r 0 (omega (arith, below_length)) l in let z = h.1 r 0 (omega arith) (omega (arith, below_length)) in cc
-
-        not_above : below_in R q sorted < r → ⊥
-        not_above l = let y = above (below_in R q sorted) 0 (omega arith) (omega arith) in let z = h.0 (below_in R q sorted) 0 (omega arith) (omega arith) in cc
+    below_is r w h = grind (arith, q, below, below_length, above)
 
   -- ---- the first row of a label
 
@@ -211,16 +194,7 @@ module _ {L : Type 0} (R : L → L → Ordering) (total : IsTotalOrder R) {T : T
   -- the place of a row that is there lies in the order
   pub below_there : (rows : List (ℕ × T)) (next : ℕ) (order : List ℕ) → IsRankedBy R label rows next order → (q : L) (i : ℕ)
       → place_in R label q rows ≡ Some i → below_in R q (sorted_in R (labelled label rows)) < length order
-  below_there rows next order kept q i e = by (below_length rows next order kept q) (λ l. past l)
-    where
-      at : ℕ
-      at = below_in R q (sorted_in R (labelled label rows))
-
-      past : length order ≤ at → ⊥
-      past l = let z = found_past rows next order kept q at refl l in cc
-
-      by : at ≤ length order → (length order ≤ at → ⊥) → at < length order
-      by l f = omega (arith, f)
+  below_there rows next order kept q i e = grind (arith, below_length, q, found_past)
 
   -- ---- the order after a change
 

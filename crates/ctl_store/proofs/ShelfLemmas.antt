@@ -1,11 +1,10 @@
 -- What a list keeps while its rows and their order change.
-use Rattle.std.proofs.Common.{◌≡◌, ℕ, zero, suc, ◌+◌, ◌<◌, Bool, true, false, cond, List, [], ◌∷◌, ◌++◌, length, map, take, drop, get_or, Vec, vec_len, Option, Some, None, refl, ap, sym, subst, ◌∙◌, arith}
+use Rattle.std.proofs.Common.{◌≡◌, ℕ, zero, suc, ◌+◌, ◌<◌, List, [], ◌∷◌, ◌++◌, length, map, take, drop, get_or, Vec, vec_len, Option, Some, None, refl, ap, sym, subst, ◌∙◌, arith}
 use Rattle.std.specs.List.{insert, remove}
 use Rattle.std.specs.Vec.{vec_capacity}
-use Rattle.std.specs.Ordering.{is_gt}
 use Rattle.ctl_stanza.specs.Content.{Content, package_of, version_of}
 use Rattle.ctl_store.specs.Step.{place}
-use Rattle.ctl_store.specs.Rows.{Id, id, id_of, id_cmp, ids_of, sorted_ids, sorted_serials, lower, IsKept, Rises, by_name_and_version, replace_at, rows_from}
+use Rattle.ctl_store.specs.Rows.{id, id_of, ids_of, sorted_ids, sorted_serials, lower, IsKept, Rises, by_name_and_version, replace_at, rows_from}
 use Rattle.ctl_store.specs.HeldPieces.{joined, ArePieces, IsFit}
 use Rattle.ctl_store.specs.Keys.{KeyedList, key_of, key_at}
 use Rattle.ctl_store.specs.Held.{IsShelved}
@@ -80,19 +79,11 @@ length-rows_from n (x ∷ xs) = ap (λ k. suc k) (length-rows_from (suc n) xs)
 
 -- each of them is in the order once
 pub length-serials : (xs : List Content) → length (sorted_serials (rows_from 0 xs)) ≡ length xs
-length-serials xs =
-    same_length (λ (x : ℕ × Id). x.0) (sorted_ids (ids_of (rows_from 0 xs)))
-    ∙ length-sorted_in id_cmp (ids_of (rows_from 0 xs))
-    ∙ same_length (λ (row : ℕ × Content). (row.0, id_of row.1)) (rows_from 0 xs)
-    ∙ length-rows_from 0 xs
+length-serials xs = grind (arith, same_length, length-sorted_in, length-rows_from)
 
 -- so the order is as long as the rows
 pub length-order : (rows : List (ℕ × Content)) (next : ℕ) (order : List ℕ) → IsKept rows next order → length order ≡ length rows
-length-order rows next order h =
-    ap length h.ordered
-    ∙ same_length (λ (x : ℕ × Id). x.0) (sorted_ids (ids_of rows))
-    ∙ length-sorted_in id_cmp (ids_of rows)
-    ∙ same_length (λ (row : ℕ × Content). (row.0, id_of row.1)) rows
+length-order rows next order h = grind (arith, same_length, length-sorted_in)
 
 -- rows from 0 on, in the order that a sort gives
 pub shelved_sorted : {A B : Type 0} (rows rows_ready : Vec (Vec (ℕ × Content) A) B) (next : ℕ) (order order_ready : Vec (Vec ℕ A) B) (xs : List Content)

@@ -6,16 +6,15 @@ use Rattle.std.specs.List.Sorted.{IsPermutation, IsSortedBy}
 use Rattle.std.specs.Cmp.{IsTotalOrder, nat_cmp_total}
 use Rattle.std.specs.Cmp.Lexicographic.{options_total}
 use Rattle.std.specs.Option.{option_cmp}
-use Rattle.std.specs.Ordering.{nat_cmp, ordering_then, is_lt, is_gt, ordering_reverse}
+use Rattle.std.specs.Ordering.{nat_cmp, ordering_then, is_lt, is_gt}
 use Rattle.std.specs.declared.cmp.Ordering.{Ordering}
-use Rattle.std.specs.declared.cmp.Ordering.TheVariants.{Less, Equal, Greater}
-use Rattle.std.proofs.lemmas.Bool.Decides.{nat_tests}
+use Rattle.std.specs.declared.cmp.Ordering.TheVariants.{Equal}
 use Rattle.std.proofs.lemmas.Cmp.{upto, on_total, then_total}
 use Rattle.std.proofs.lemmas.List.Sorted.{sum_by-IsPermutation, sorted_far, ranks_by}
 use Rattle.std.proofs.lemmas.List.Sums.{sum_by-cons}
 use Rattle.ctl_stanza.specs.Content.{Content}
 use Rattle.ctl_store.specs.Rows.{Id, id_of, id_cmp, row_id, ids_of, sorted_ids, sorted_serials, id_at, place_cmp, Rises, rows_from}
-use Rattle.ctl_store.proofs.PlaceLemmas.{eq_is, is_eq_from, Rises-rows_from}
+use Rattle.ctl_store.proofs.PlaceLemmas.{eq_is, Rises-rows_from}
 use Rattle.ctl_store.specs.Sorted.{insert_in}
 use Rattle.ctl_store.proofs.SortedLemmas.{g, all_map, all_insert, all_sorted}
 use Rattle.ctl_store.proofs.RankedLemmas.{all_from, Rises-labels}
@@ -40,11 +39,7 @@ one_here x = ap (λ b. cond b 1 0) (eq_is x x refl)
 -- what is counted stands there
 counted : (P : ℕ → Type 0) (x : ℕ) (zs : List ℕ) → AllByRecursion P zs → 0 < tally (one_at x) zs → P x
 counted P x [] h l = absurd (omega arith)
-counted P x (z ∷ zs) h l = by (nat_eq z x) refl l (counted P x zs h.1)
-  where
-    by : (b : Bool) → nat_eq z x ≡ b → 0 < cond b 1 0 + tally (one_at x) zs → (0 < tally (one_at x) zs → P x) → P x
-    by true is l rest = subst P (is_eq_from z x is) h.0
-    by false is l rest = rest (omega arith)
+counted P x (z ∷ zs) h l = grind (arith, counted P x zs h.1)
 
 module _ (R : ℕ → ℕ → Ordering) (total : IsTotalOrder R) (exact : (a b : ℕ) → R a b ≡ Equal → a ≡ b) where
   abbrev IsUp : List ℕ → Type 0
@@ -52,28 +47,13 @@ module _ (R : ℕ → ℕ → Ordering) (total : IsTotalOrder R) (exact : (a b :
   IsUp (x ∷ xs) = AllByRecursion (λ y. is_gt (R x y) ≡ false) xs × IsUp xs
 
   back : (a b : ℕ) → is_lt (R a b) ≡ is_gt (R b a)
-  back a b = ap is_lt (total.antisymm a b) ∙ by (R b a)
-    where
-      by : (o : Ordering) → is_lt (ordering_reverse o) ≡ is_gt o
-      by Less = refl
-      by Equal = refl
-      by Greater = refl
+  back a b = grind (arith, total.antisymm a b)
 
   not_above_itself : (a : ℕ) → is_gt (R a a) ≡ false
-  not_above_itself a = by (R a a) (total.antisymm a a)
-    where
-      by : (o : Ordering) → o ≡ ordering_reverse o → is_gt o ≡ false
-      by Less e = refl
-      by Equal e = refl
-      by Greater e = ap is_gt e
+  not_above_itself a = grind (arith, total.antisymm a a)
 
   neither : (a b : ℕ) → is_gt (R a b) ≡ false → is_gt (R b a) ≡ false → a ≡ b
-  neither a b p q = exact a b (by (R a b) p (back a b ∙ q))
-    where
-      by : (o : Ordering) → is_gt o ≡ false → is_lt o ≡ false → o ≡ Equal
-      by Less p q = cc
-      by Equal p q = refl
-      by Greater p q = cc
+  neither a b p q = grind arith
 
   one_list : (xs ys : List ℕ) → ((f : ℕ → ℕ) → tally f xs ≡ tally f ys) → IsUp xs → IsUp ys → xs ≡ ys
   one_list [] [] t u v = refl
@@ -113,23 +93,10 @@ ArePairsUp [] = Unit {0}
 ArePairsUp (y ∷ ys) = AllByRecursion (λ z. is_gt (pair_cmp y z) ≡ false) ys × ArePairsUp ys
 
 before_later : (x y : ℕ × Id) → g id_cmp x.1 y.1 ≡ false → x.0 < y.0 → is_gt (pair_cmp x y) ≡ false
-before_later x y e l = by (id_cmp x.1 y.1) e
-  where
-    smaller : is_gt (nat_cmp x.0 y.0) ≡ false
-    smaller = grind (arith, nat_tests, l)
-
-    by : (o : Ordering) → is_gt o ≡ false → is_gt (ordering_then o (nat_cmp x.0 y.0)) ≡ false
-    by Less e = refl
-    by Equal e = smaller
-    by Greater e = cc
+before_later x y e l = grind arith
 
 above_first : (x y : ℕ × Id) → g id_cmp x.1 y.1 ≡ true → is_gt (pair_cmp y x) ≡ false
-above_first x y e = by (id_cmp x.1 y.1) (id_cmp y.1 x.1) (id_total.antisymm y.1 x.1) e
-  where
-    by : (o p : Ordering) → p ≡ ordering_reverse o → is_gt o ≡ true → is_gt (ordering_then p (nat_cmp y.0 x.0)) ≡ false
-    by Less p r e = cc
-    by Equal p r e = cc
-    by Greater p r e = ap (λ o. is_gt (ordering_then o (nat_cmp y.0 x.0))) r
+above_first x y e = grind (arith, id_total.antisymm y.1 x.1)
 
 pairs_insert : (x : ℕ × Id) (ys : List (ℕ × Id)) → AllByRecursion (λ (y : ℕ × Id). x.0 < y.0) ys → ArePairsUp ys → ArePairsUp (insert_in id_cmp x ys)
 pairs_insert x [] s o = (tt, tt)
@@ -141,10 +108,7 @@ pairs_insert x (y ∷ ys) s o = by (g id_cmp x.1 y.1) refl (pairs_insert x ys s.
 
 pairs_sorted : (n : ℕ) (xs : List (ℕ × Id)) (m : ℕ) → Rises n xs m → ArePairsUp (sorted_ids xs)
 pairs_sorted n [] m h = tt
-pairs_sorted n (x ∷ xs) m h =
-    pairs_insert x (sorted_ids xs)
-    (all_sorted id_cmp id_total (λ (y : ℕ × Id). x.0 < y.0) xs (all_map (λ (y : ℕ × Id) (k : suc x.0 ≤ y.0). omega (arith, k)) xs (all_from (suc x.0) xs m h.1)))
-    (pairs_sorted (suc x.0) xs m h.1)
+pairs_sorted n (x ∷ xs) m h = grind (arith, pairs_insert, all_sorted, id_total, all_map, all_from, pairs_sorted (suc x.0) xs m h.1)
 
 -- ---- the same by the places of rows
 
@@ -152,15 +116,7 @@ place_total : (rows : List (ℕ × Content)) → IsTotalOrder (place_cmp rows)
 place_total rows = then_total (on_total (λ (n : ℕ). id_at rows n) (options_total id_total)) (on_total (λ (n : ℕ). n) nat_cmp_total)
 
 place_exact : (rows : List (ℕ × Content)) (a b : ℕ) → place_cmp rows a b ≡ Equal → a ≡ b
-place_exact rows a b e = by (option_cmp id_cmp (id_at rows a) (id_at rows b)) e
-  where
-    numbers : (a b : ℕ) → nat_cmp a b ≡ Equal → a ≡ b
-    numbers a b e = grind (arith, nat_tests, e)
-
-    by : (o : Ordering) → ordering_then o (nat_cmp a b) ≡ Equal → a ≡ b
-    by Less e = cc
-    by Equal e = numbers a b e
-    by Greater e = cc
+place_exact rows a b e = grind arith
 
 module _ (rows : List (ℕ × Content)) where
   at_pairs : (x y : ℕ × Id) → id_at rows x.0 ≡ Some x.1 → id_at rows y.0 ≡ Some y.1 → place_cmp rows x.0 y.0 ≡ pair_cmp x y
@@ -187,12 +143,7 @@ module _ (rows : List (ℕ × Content)) where
 
 tally-insert : (f : ℕ → ℕ) (x : ℕ × Id) (ys : List (ℕ × Id)) → tally f (map (λ (y : ℕ × Id). y.0) (insert_in id_cmp x ys)) ≡ f x.0 + tally f (map (λ (y : ℕ × Id). y.0) ys)
 tally-insert f x [] = refl
-tally-insert f x (y ∷ ys) = by (g id_cmp x.1 y.1) (tally-insert f x ys)
-  where
-    by : (b : Bool) → tally f (map (λ (y : ℕ × Id). y.0) (insert_in id_cmp x ys)) ≡ f x.0 + tally f (map (λ (y : ℕ × Id). y.0) ys)
-        → tally f (map (λ (y : ℕ × Id). y.0) (cond b (y ∷ insert_in id_cmp x ys) (x ∷ y ∷ ys))) ≡ f x.0 + (f y.0 + tally f (map (λ (y : ℕ × Id). y.0) ys))
-    by true e = omega (arith, e)
-    by false e = refl
+tally-insert f x (y ∷ ys) = grind (arith, tally-insert f x ys)
 
 tally-sorted : (f : ℕ → ℕ) (xs : List (ℕ × Id)) → tally f (map (λ (y : ℕ × Id). y.0) (sorted_ids xs)) ≡ tally f (map (λ (y : ℕ × Id). y.0) xs)
 tally-sorted f [] = refl

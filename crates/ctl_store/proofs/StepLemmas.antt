@@ -1,5 +1,5 @@
 -- What an edit leaves: the stanza of each key that neither goes nor comes, and the lists without serials.
-use Rattle.std.proofs.Common.{◌≡◌, ℕ, zero, suc, Bool, true, false, cond, ◌&&◌, nat_eq, List, [], ◌∷◌, ◌++◌, map, set, take, drop, Option, None, Some, refl, ap, sym, ◌∙◌}
+use Rattle.std.proofs.Common.{◌≡◌, ℕ, zero, suc, Bool, true, false, cond, ◌&&◌, nat_eq, List, [], ◌∷◌, ◌++◌, map, set, take, drop, Option, None, Some, refl, ap, sym, ◌∙◌, arith}
 use Rattle.std.specs.List.{remove}
 use Rattle.std.specs.Map.{lookup}
 use Rattle.std.specs.Option.{option_or, option_map_or}
@@ -11,9 +11,9 @@ use Rattle.ctl_store.specs.declared.stanza_key.StanzaKey.{StanzaKey}
 use Rattle.ctl_store.specs.Named.{at_name, without_name, change_named}
 use Rattle.ctl_store.specs.State.{StanzaList}
 use Rattle.ctl_store.specs.Edits.{Edit, AddList, DropList, Put, Remove, Mark, Unmark, Pin, Unpin, Target, Prefs}
-use Rattle.ctl_store.specs.Step.{place, is_same, put_at, put_stanza, remove_at, remove_stanza, with_stanzas}
+use Rattle.ctl_store.specs.Step.{place, put_stanza, remove_stanza, with_stanzas}
 use Rattle.ctl_store.specs.Rows.{by_name_and_version, rows_from, replace_at, put_row_at, remove_row_at}
-use Rattle.ctl_store.specs.Keys.{KeyedList, Keyed, stanzas_of, stanza_list, stanza_lists, list_of_stanzas, put_keyed, remove_keyed, keyed_after, key_of, keys_of, key_at, key_or_new, found_key, put_key, key_is, IsNotAmong, in_rows, stanza_at, removed_of, added_of}
+use Rattle.ctl_store.specs.Keys.{KeyedList, Keyed, stanzas_of, stanza_list, stanza_lists, list_of_stanzas, put_keyed, remove_keyed, keyed_after, key_of, keys_of, key_at, found_key, put_key, key_is, IsNotAmong, in_rows, stanza_at, removed_of, added_of}
 use Rattle.ctl_store.proofs.PlaceLemmas.{if_cases}
 use Rattle.ctl_store.proofs.ListedLemmas.{place_stanzas}
 
@@ -40,9 +40,7 @@ module _ (k : StanzaKey) where
 
   replaced : (list i : ℕ) (x : Content) (rs : List (ℕ × Content)) → nat_eq list k.list ≡ true → IsNotAmong k (map (λ (r : ℕ × Content). key_of list r.0) (take 1 (drop i rs))) → lookup (λ s. nat_eq s k.stanza) (replace_at rs i x) ≡ lookup (λ s. nat_eq s k.stanza) rs
   replaced list i x [] e h = refl
-  replaced list zero x (r ∷ rs) e h =
-      let no = other (nat_eq list k.list) (nat_eq r.0 k.stanza) e h.0 in
-      ap (λ b. cond b (Some x) (lookup (λ s. nat_eq s k.stanza) rs)) no ∙ sym (ap (λ b. cond b (Some r.1) (lookup (λ s. nat_eq s k.stanza) rs)) no)
+  replaced list zero x (r ∷ rs) e h = grind arith
   replaced list (suc i) x (r ∷ rs) e h = ap (cond (nat_eq r.0 k.stanza) (Some r.1)) (replaced list i x rs e h)
 
   removed : (list i : ℕ) (rs : List (ℕ × Content)) → nat_eq list k.list ≡ true → IsNotAmong k (map (λ (r : ℕ × Content). key_of list r.0) (take 1 (drop i rs))) → lookup (λ s. nat_eq s k.stanza) (remove rs i) ≡ lookup (λ s. nat_eq s k.stanza) rs
@@ -53,18 +51,10 @@ module _ (k : StanzaKey) where
 
   -- where the list is that of the key
   in_list : (list : ℕ) (o p : Option Content) → (nat_eq list k.list ≡ true → o ≡ p) → cond (nat_eq list k.list) o None ≡ cond (nat_eq list k.list) p None
-  in_list list o p f = by (nat_eq list k.list) f
-    where
-      by : (b : Bool) → (b ≡ true → o ≡ p) → cond b o None ≡ cond b p None
-      by true f = f refl
-      by false f = refl
+  in_list list o p f = grind arith
 
   put_stays : (x : Content) (l : KeyedList) → IsNotAmong k (put_key x l) → in_rows k (put_keyed x l) ≡ in_rows k l
-  put_stays x l h = by (place (by_name_and_version (package_of x) (version_of x)) l.rows) h
-    where
-      by : (o : Option ℕ) → IsNotAmong k (key_or_new l o) → cond (nat_eq l.serial k.list) (lookup (λ s. nat_eq s k.stanza) (put_row_at o x l.next l.rows)) None ≡ in_rows k l
-      by None h = in_list l.serial _ _ (λ e. pushed l.serial l.next x l.rows e h.0)
-      by (Some i) h = in_list l.serial _ _ (λ e. replaced l.serial i x l.rows e h)
+  put_stays x l h = grind (arith, in_list, pushed, replaced)
 
   remove_stays : (name : List ℕ) (version : Option (List ℕ)) (l : KeyedList) → IsNotAmong k (found_key name version l) → in_rows k (remove_keyed name version l) ≡ in_rows k l
   remove_stays name version l h = by (place (by_name_and_version name version) l.rows) h
@@ -76,12 +66,7 @@ module _ (k : StanzaKey) where
   change_stays : (name : List ℕ) (f : KeyedList → KeyedList) (g : KeyedList → List StanzaKey) → ((l : KeyedList) → IsNotAmong k (g l) → in_rows k (f l) ≡ in_rows k l)
       → (ls : List (List ℕ × KeyedList)) → IsNotAmong k (option_map_or g (at_name name ls) []) → stanza_at k (change_named name f ls) ≡ stanza_at k ls
   change_stays name f g s [] h = refl
-  change_stays name f g s (l ∷ ls) h = by (bytes_eq name l.0) h (change_stays name f g s ls)
-    where
-      by : (b : Bool) → IsNotAmong k (option_map_or g (cond b (Some l.1) (at_name name ls)) []) → (IsNotAmong k (option_map_or g (at_name name ls) []) → stanza_at k (change_named name f ls) ≡ stanza_at k ls)
-          → stanza_at k (cond b ((l.0, f l.1) ∷ ls) (l ∷ change_named name f ls)) ≡ stanza_at k (l ∷ ls)
-      by true h rest = ap (λ o. option_or o (stanza_at k ls)) (s l.1 h)
-      by false h rest = ap (option_or (in_rows k l.1)) (rest h)
+  change_stays name f g s (l ∷ ls) h = grind (arith, change_stays name f g s ls)
 
   drop_stays : (name : List ℕ) (ls : List (List ℕ × KeyedList)) → IsNotAmong k (option_map_or keys_of (at_name name ls) []) → stanza_at k (without_name name ls) ≡ stanza_at k ls
   drop_stays name [] h = refl
@@ -131,18 +116,10 @@ stanzas_of-rows_from n [] = refl
 stanzas_of-rows_from n (x ∷ xs) = ap (λ l. x ∷ l) (stanzas_of-rows_from (suc n) xs)
 
 put_stanzas : (x : Content) (rows : List (ℕ × Content)) (next : ℕ) → stanzas_of (put_row_at (place (by_name_and_version (package_of x) (version_of x)) rows) x next rows) ≡ put_stanza x (stanzas_of rows)
-put_stanzas x rows next = by (place (by_name_and_version (package_of x) (version_of x)) rows) ∙ ap (λ o. put_at o x (stanzas_of rows)) (sym (place_stanzas (is_same (package_of x) (version_of x)) rows))
-  where
-    by : (o : Option ℕ) → stanzas_of (put_row_at o x next rows) ≡ put_at o x (stanzas_of rows)
-    by None = map_push rows next x
-    by (Some i) = map_replace rows i x
+put_stanzas x rows next = grind (arith, place_stanzas, map_push, map_replace)
 
 remove_stanzas : (name : List ℕ) (version : Option (List ℕ)) (rows : List (ℕ × Content)) → stanzas_of (remove_row_at (place (by_name_and_version name version) rows) rows) ≡ remove_stanza name version (stanzas_of rows)
-remove_stanzas name version rows = by (place (by_name_and_version name version) rows) ∙ ap (λ o. remove_at o (stanzas_of rows)) (sym (place_stanzas (is_same name version) rows))
-  where
-    by : (o : Option ℕ) → stanzas_of (remove_row_at o rows) ≡ remove_at o (stanzas_of rows)
-    by None = refl
-    by (Some i) = map_remove rows i
+remove_stanzas name version rows = grind (arith, place_stanzas, map_remove)
 
 pub put_list : (x : Content) (l : KeyedList) → stanza_list (put_keyed x l) ≡ with_stanzas (put_stanza x) (stanza_list l)
 put_list x l = ap (λ (t : List Content). record { kind = l.kind; class = l.class; stanzas = t }) (put_stanzas x l.rows l.next)
@@ -160,9 +137,4 @@ without_lists name (l ∷ ls) = if_cases stanza_lists (bytes_eq name l.0) _ _ �
 
 pub change_lists : (name : List ℕ) (f : KeyedList → KeyedList) (g : StanzaList → StanzaList) → ((l : KeyedList) → stanza_list (f l) ≡ g (stanza_list l)) → (ls : List (List ℕ × KeyedList)) → stanza_lists (change_named name f ls) ≡ change_named name g (stanza_lists ls)
 change_lists name f g h [] = refl
-change_lists name f g h (l ∷ ls) = if_cases stanza_lists (bytes_eq name l.0) _ _ ∙ by (bytes_eq name l.0) (change_lists name f g h ls)
-  where
-    by : (b : Bool) → stanza_lists (change_named name f ls) ≡ change_named name g (stanza_lists ls)
-        → cond b ((l.0, stanza_list (f l.1)) ∷ stanza_lists ls) ((l.0, stanza_list l.1) ∷ stanza_lists (change_named name f ls)) ≡ cond b ((l.0, g (stanza_list l.1)) ∷ stanza_lists ls) ((l.0, stanza_list l.1) ∷ change_named name g (stanza_lists ls))
-    by true e = ap (λ c. (l.0, c) ∷ stanza_lists ls) (h l.1)
-    by false e = ap (λ r. (l.0, stanza_list l.1) ∷ r) e
+change_lists name f g h (l ∷ ls) = grind (arith, change_lists name f g h ls)

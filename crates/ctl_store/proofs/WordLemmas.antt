@@ -2,7 +2,6 @@
 use Rattle.std.proofs.Common.{◌≡◌, ℕ, ◌+◌, ◌≤◌, suc, Bool, true, false, cond, not, List, [], ◌∷◌, length, take, drop, refl, ap, sym, ◌∙◌, arith}
 use Rattle.std.specs.List.{prefix_len}
 use Rattle.ctl_relation.specs.FieldBytes.{is_whitespace}
-use Rattle.ctl_stanza.specs.Lines.{onto_first}
 use Rattle.ctl_store.specs.Prefs.{is_word_byte, onto_word, words_of}
 
 -- the word at the front of a text, by cases
@@ -35,20 +34,11 @@ behind_at-rest (b ∷ text) = by (is_whitespace b) (behind_at-rest text)
 
 onto_words : (b : ℕ) (text : List ℕ) → onto_word b text (words_of text) ≡ (b ∷ word_at text) ∷ words_of (behind_at text)
 onto_words b [] = refl
-onto_words b (c ∷ text) = by (is_whitespace c) refl (onto_words c text)
-  where
-    by : (w : Bool) → is_whitespace c ≡ w → onto_word c text (words_of text) ≡ (c ∷ word_at text) ∷ words_of (behind_at text)
-        → cond w ((b ∷ []) ∷ words_of (c ∷ text)) (onto_first b (words_of (c ∷ text))) ≡ (b ∷ cond w [] (c ∷ word_at text)) ∷ words_of (cond w (c ∷ text) (behind_at text))
-    by true h e = refl
-    by false h e = ap (λ w. onto_first b (cond w (words_of text) (onto_word c text (words_of text)))) h ∙ ap (onto_first b) e
+onto_words b (c ∷ text) = grind (arith, onto_words c text)
 
 length-behind : (text : List ℕ) → length (behind_at text) ≤ length text
 length-behind [] = omega arith
-length-behind (b ∷ text) = by (is_whitespace b) (length-behind text)
-  where
-    by : (w : Bool) → length (behind_at text) ≤ length text → length (cond w (b ∷ text) (behind_at text)) ≤ length (b ∷ text)
-    by true h = omega arith
-    by false h = omega (arith, h)
+length-behind (b ∷ text) = grind (arith, length-behind text)
 
 -- under names that `using` takes
 pub word_first : (b : ℕ) (text : List ℕ) → is_whitespace b ≡ false → words_of (b ∷ text) ≡ take (prefix_len is_word_byte (b ∷ text)) (b ∷ text) ∷ words_of (drop (prefix_len is_word_byte (b ∷ text)) (b ∷ text))

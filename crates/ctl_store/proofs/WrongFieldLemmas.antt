@@ -1,6 +1,6 @@
 -- What is told of a field of preferences is wrong with it, and the lowest of what is wrong.
-use Rattle.std.proofs.Common.{◌≡◌, ◌∙◌, ◌≤◌, ◌++◌, ◌||◌, ◌&&◌, ℕ, ℤ, Bool, true, false, cond, List, [], ◌∷◌, drop, codes, nat_eq, Option, Some, None, is_some, refl, sym, ap, ap₂, subst, arith, inl, inr, ⊎_elim}
-use Rattle.std.proofs.lemmas.Bool.{cases_Bool, cond-true, cond-false, eqb-true}
+use Rattle.std.proofs.Common.{◌≡◌, ◌∙◌, ◌≤◌, ◌++◌, ◌||◌, ◌&&◌, ℕ, Bool, true, false, cond, List, [], ◌∷◌, drop, codes, nat_eq, Option, Some, None, refl, sym, ap, ap₂, subst, arith, inl, inr, ⊎_elim}
+use Rattle.std.proofs.lemmas.Bool.{cases_Bool, cond-true, cond-false}
 use Rattle.std.proofs.lemmas.Slice.Eq.{bytes_eq-Decides}
 use Rattle.std.specs.List.{starts_with}
 use Rattle.std.specs.Str.{bytes_eq, str_to_ascii_lowercase}
@@ -10,7 +10,6 @@ use Rattle.ctl_stanza.specs.declared.fault.Cause.TheVariants as causes
 use Rattle.ctl_stanza.specs.Faults.{number_of}
 use Rattle.ctl_stanza.specs.Fields.{is_same_name, package_name}
 use Rattle.ctl_store.specs.PinVersions.{is_pin_version}
-use Rattle.ctl_store.specs.Priority.{priority_of}
 use Rattle.ctl_store.specs.Prefs.{words_of, pin_name, priority_name, is_general, are_names, version_asked, list_asked, package_cause, asked_cause, pin_cause, priority_cause, field_cause}
 use Rattle.ctl_store.specs.PrefsFaults.{AsksForVersion, HasNoNames, IsBadList, IsBadVersion, IsVersionOfAny, AsksForNothing, IsBadPriority, IsWrongField}
 
@@ -47,37 +46,17 @@ asked-version words version e = ap version_asked e
 
 starts-list : (release : List ℕ) → starts_with nat_eq release (codes "a=") ≡ true → release ≡ codes "a=" ++ drop 2 release
 starts-list [] e = absurd cc
-starts-list (a ∷ []) e = by (nat_eq 97 a) e
-  where
-    by : (p : Bool) → (p && false) ≡ true → a ∷ [] ≡ codes "a=" ++ []
-    by true e = absurd cc
-    by false e = absurd cc
-starts-list (a ∷ b ∷ rest) e = by (nat_eq 97 a) (nat_eq 61 b) refl refl e
-  where
-    by : (p q : Bool) → nat_eq 97 a ≡ p → nat_eq 61 b ≡ q → (p && (q && true)) ≡ true → a ∷ b ∷ rest ≡ codes "a=" ++ rest
-    by true true p q e = ap₂ (λ x y. x ∷ y ∷ rest) (sym (eqb-true 97 a p)) (sym (eqb-true 61 b q))
-    by true false p q e = absurd cc
-    by false q p r e = absurd cc
+starts-list (a ∷ []) e = grind arith
+starts-list (a ∷ b ∷ rest) e = grind arith
 
 list-asks : (words : List (List ℕ)) (list : List ℕ) → list_asked words ≡ Some list → words ≡ codes "release" ∷ (codes "a=" ++ list) ∷ []
 list-asks [] list e = absurd cc
 list-asks (form ∷ []) list e = absurd cc
-list-asks (form ∷ r ∷ []) list e = by (bytes_eq form (codes "release")) (starts_with nat_eq r (codes "a=")) refl refl e
-  where
-    by : (p q : Bool) → bytes_eq form (codes "release") ≡ p → starts_with nat_eq r (codes "a=") ≡ q → cond (p && q) (Some (drop 2 r)) None ≡ Some list
-        → form ∷ r ∷ [] ≡ codes "release" ∷ (codes "a=" ++ list) ∷ []
-    by true true p q e = let same : drop 2 r ≡ list = cc in
-        ap₂ (λ f w. f ∷ w ∷ []) ((bytes_eq-Decides form (codes "release")).0 p) (starts-list r q ∙ ap (λ l. codes "a=" ++ l) same)
-    by true false p q e = absurd cc
-    by false q p r e = absurd cc
+list-asks (form ∷ r ∷ []) list e = grind (arith, bytes_eq-Decides, starts-list)
 list-asks (form ∷ r ∷ other ∷ words) list e = absurd cc
 
 asked-list : (words : List (List ℕ)) (list : List ℕ) → words ≡ codes "release" ∷ (codes "a=" ++ list) ∷ [] → list_asked words ≡ Some list
 asked-list words list e = ap list_asked e
-
--- a pin that asks for a list asks for no version
-list-no-version : (words : List (List ℕ)) (list : List ℕ) → words ≡ codes "release" ∷ (codes "a=" ++ list) ∷ [] → version_asked words ≡ None
-list-no-version words list e = ap version_asked e
 
 -- ---- what is told is wrong
 
@@ -122,12 +101,7 @@ package-sound general name body cause is e = by (is_general (words_of body)) (ar
         subst (IsWrongField general name body) same (inl (record { is_package = is; not_any = p; no_names = q }))
 
 priority-sound : (general : Bool) (name body : List ℕ) (cause : Cause) → is_same_name name priority_name ≡ true → priority_cause body ≡ Some cause → IsWrongField general name body cause
-priority-sound general name body cause is e = by (priority_of body) refl e
-  where
-    by : (o : Option ℤ) → priority_of body ≡ o → cond (is_some o) None (Some causes.Priority) ≡ Some cause → IsWrongField general name body cause
-    by (Some priority) o e = absurd cc
-    by None o e = let same : causes.Priority ≡ cause = cc in
-        subst (IsWrongField general name body) same (record { is_priority = is; no_priority = o })
+priority-sound general name body cause is e = grind arith
 
 pub wrong-sound : (general : Bool) (name body : List ℕ) (cause : Cause) → field_cause general name body ≡ Some cause → IsWrongField general name body cause
 wrong-sound general name body cause e = by (is_same_name name pin_name) (is_same_name name package_name) (is_same_name name priority_name) refl refl refl e
@@ -167,10 +141,7 @@ version-of-any general name body any = by (is_pin_version any.version) refl
     by false p = record { lowest = causes.Version; told = told ∙ cond-false _ _ _ p; low = omega arith }
 
 bad-list : (general : Bool) (name body : List ℕ) → IsBadList name body → field_cause general name body ≡ Some causes.Name
-bad-list general name body bad =
-    of-pin general name body bad.is_pin
-    ∙ ap₂ (asked_cause general) (list-no-version (words_of body) bad.list bad.asked) (asked-list (words_of body) bad.list bad.asked)
-    ∙ cond-false _ _ _ bad.no_name
+bad-list general name body bad = grind arith
 
 option-none : {A : Type 0} (o : Option A) → ((x : A) → o ≡ Some x → ⊥) → o ≡ None
 option-none None h = refl
@@ -185,14 +156,10 @@ asks-nothing general name body asks =
     (option-none (list_asked words) (λ list e. asks.no_list list (list-asks words list e)))
 
 no-names : (general : Bool) (name body : List ℕ) → HasNoNames name body → field_cause general name body ≡ Some causes.Name
-no-names general name body bad =
-    cond-false _ _ _ (package-no-pin name bad.is_package) ∙ cond-true _ _ _ bad.is_package
-    ∙ ap₂ (λ p q. cond (p || q) None (Some causes.Name)) bad.not_any bad.no_names
+no-names general name body bad = grind (arith, cond-false, package-no-pin, cond-true)
 
 bad-priority : (general : Bool) (name body : List ℕ) → IsBadPriority name body → field_cause general name body ≡ Some causes.Priority
-bad-priority general name body bad =
-    cond-false _ _ _ (priority-no-pin name bad.is_priority) ∙ cond-false _ _ _ (priority-no-package name bad.is_priority) ∙ cond-true _ _ _ bad.is_priority
-    ∙ ap (λ o. cond (is_some o) None (Some causes.Priority)) bad.no_priority
+bad-priority general name body bad = grind (arith, cond-false, priority-no-pin, priority-no-package, cond-true)
 
 exactly : (general : Bool) (name body : List ℕ) (cause : Cause) → field_cause general name body ≡ Some cause → TellsLowest general name body cause
 exactly general name body cause e = record { lowest = cause; told = e; low = omega arith }
