@@ -1,5 +1,5 @@
 -- What it means that an edit is accepted, and how many stanzas an edit leaves.
-use Rattle.std.proofs.Common.{◌≡◌, ℕ, ◌+◌, ◌≤◌, Bool, true, false, ◌||◌, nat_lt, List, [], ◌∷◌, ◌++◌, length, Option, None, Some, refl, arith}
+use Rattle.std.proofs.Common.{◌≡◌, ℕ, ◌+◌, ◌≤◌, Bool, false, ◌||◌, nat_lt, List, [], ◌∷◌, ◌++◌, length, Option, None, Some, refl, arith}
 use Rattle.std.specs.Option.{option_or}
 use Rattle.ctl_store.specs.declared.limits.Limits.{Limits}
 use Rattle.ctl_store.specs.declared.refusal.Refusal.{Refusal}
@@ -17,8 +17,7 @@ right_none None b e = e
 right_none (Some x) b e = cc
 
 when_none : (b : Bool) (why : Refusal) → when b why ≡ None → b ≡ false
-when_none true why e = cc
-when_none false why e = refl
+when_none x1 why e = grind arith
 
 pub accepted_fits : (limits : Limits) (s : State) (edit : Edit) → refusal_of limits s edit ≡ None → misfit_of s edit ≡ None
 accepted_fits limits s edit e = left_none _ _ e

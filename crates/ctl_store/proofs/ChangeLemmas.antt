@@ -121,8 +121,7 @@ module _ {X : Type 0} {P Q : X → Type 0} (f : (x : X) → P x → Q x) where
   weaken (x ∷ xs) h = (f x h.0, weaken xs h.1)
 
 both_true : (a b : Bool) → a ≡ true → b ≡ true → (a && b) ≡ true
-both_true true b p q = q
-both_true false b p q = cc
+both_true x1 b p q = grind arith
 
 pub is_itself : (k : StanzaKey) → key_is k k ≡ true
 is_itself k = both_true (nat_eq k.list k.list) (nat_eq k.stanza k.stanza) (eq_is k.list k.list refl) (eq_is k.stanza k.stanza refl)
@@ -154,8 +153,7 @@ module _ (s : Keyed) (e : ℕ) (order : InOrder 0 s.lists s.next_list e) where
           over (q ∷ qs) g = (in_changed (key_of l.serial q.0) 0 s.lists s.next_list e list l (put_keyed x) order at refl ∙ of_serial (key_of l.serial q.0) (put_keyed x l) refl ∙ ap (λ o. stanza_in q.0 (put_row_at o x l.next l.rows)) is ∙ g.0.1, over qs g.1)
 
   kept_come : (list : List ℕ) (x : Content) (o : Option KeyedList) → at_name list s.lists ≡ o → AreCome (option_map_or (put_key x) o []) (Put list x) (change_named list (put_keyed x) s.lists)
-  kept_come list x None at = tt
-  kept_come list x (Some l) at = put_come list x l at
+  kept_come list x x3 at = grind (arith, put_come)
 
   pub come_law : (edit : Edit) → AreCome (added_of s edit) edit (keyed_after s edit).lists
   come_law (AddList name kind class stanzas) = new_come 0 name (list_of_stanzas s.next_list kind class stanzas) stanzas stanzas refl refl (λ j. ap (slice_get stanzas) (let z : 0 + j ≡ j = omega arith in z))
@@ -193,8 +191,7 @@ module _ (s : Keyed) (e : ℕ) (order : InOrder 0 s.lists s.next_list e) where
           over (q ∷ qs) g = ((λ h. in_changed (key_of l.serial q.0) 0 s.lists s.next_list e list l (remove_keyed name version) order at refl ∙ of_serial (key_of l.serial q.0) (remove_keyed name version l) refl ∙ ap (λ o. stanza_in q.0 (remove_row_at o l.rows)) is ∙ g.0.1), over qs g.1)
 
   put_gone : (list : List ℕ) (x : Content) (o : Option KeyedList) → at_name list s.lists ≡ o → AreGone (option_map_or (found_key (package_of x) (version_of x)) o []) (option_map_or (put_key x) o []) (change_named list (put_keyed x) s.lists)
-  put_gone list x None at = tt
-  put_gone list x (Some l) at = grind arith
+  put_gone list x x3 at = grind arith
 
   pub gone_law : (edit : Edit) → AreGone (removed_of s edit) (added_of s edit) (keyed_after s edit).lists
   gone_law (AddList name kind class stanzas) = tt
@@ -269,12 +266,10 @@ removed_held s (Target name) = tt
 removed_held s (Prefs pins) = tt
 
 and_first : (a b : Bool) → (a && b) ≡ true → a ≡ true
-and_first true b e = refl
-and_first false b e = cc
+and_first x1 b e = grind arith
 
 and_second : (a b : Bool) → (a && b) ≡ true → b ≡ true
-and_second true b e = e
-and_second false b e = cc
+and_second x1 b e = grind arith
 
 -- a key that has a stanza and doesn't go doesn't come
 pub not_added : (k : StanzaKey) (added removed : List StanzaKey) (ls : List (List ℕ × KeyedList)) → AreNew added removed ls → IsSome (stanza_at k ls) → IsNotAmong k removed → IsNotAmong k added

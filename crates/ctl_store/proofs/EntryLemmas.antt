@@ -176,8 +176,7 @@ abbrev no_keys : KeyedList → List StanzaKey
 no_keys l = []
 
 none_in : (o : Option KeyedList) → [] ≡ option_map_or no_keys o []
-none_in None = refl
-none_in (Some l) = refl
+none_in x1 = grind arith
 
 dropped : (name : List ℕ) (ls : List (List ℕ × KeyedList)) → Cut (entries_of ls) (entries_of (without_name name ls)) (option_map_or keys_of (at_name name ls) []) []
 dropped name [] = uncut []
@@ -270,23 +269,19 @@ less_is_no_other : (a b s t : ℕ) → ordering_then (nat_cmp a b) (nat_cmp s t)
 less_is_no_other a b s t h = grind (arith, nat_tests)
 
 both_true : (a b : Bool) → a ≡ true → b ≡ true → (a && b) ≡ true
-both_true true b p q = q
-both_true false b p q = cc
+both_true x1 b p q = grind arith
 
 is_itself : (k : StanzaKey) → key_is k k ≡ true
 is_itself k = both_true (nat_eq k.list k.list) (nat_eq k.stanza k.stanza) (eq_is k.list k.list refl) (eq_is k.stanza k.stanza refl)
 
 or_true : (a b : Bool) → b ≡ true → (a || b) ≡ true
-or_true true b h = refl
-or_true false b h = h
+or_true x1 b h = grind arith
 
 is_first : (a b : Bool) → a ≡ true → (a || b) ≡ true
-is_first true b h = refl
-is_first false b h = cc
+is_first x1 b h = grind arith
 
 is_neither : (a b : Bool) → a ≡ false → b ≡ false → (a || b) ≡ false
-is_neither true b h g = cc
-is_neither false b h g = g
+is_neither x1 b h g = grind arith
 
 kept : (ks : List StanzaKey) (es : List Entry) → AllByRecursion (λ e. is_among ks e ≡ false) es → without_keys ks es ≡ es
 kept ks [] h = refl

@@ -140,17 +140,13 @@ module _ (k : StanzaKey) where
 
   -- one or both
   joined : (o p : Option Content) (b : Bool) → (b ≡ true → p ≡ o) → (b ≡ false → p ≡ None) → option_or (cond b None o) p ≡ o
-  joined o p true f g = f refl
-  joined None p false f g = g refl
-  joined (Some x) p false f g = refl
+  joined x1 p x3 f g = grind arith
 
 or_first : (a b : Bool) → a ≡ true → (a || b) ≡ true
-or_first true b h = refl
-or_first false b h = absurd (let z : ⊥ = cc in z)
+or_first x1 b h = grind arith
 
 or_more : (a b : Bool) → b ≡ true → (a || b) ≡ true
-or_more true b h = refl
-or_more false b h = h
+or_more x1 b h = grind arith
 
 own_among : (ks : List StanzaKey) → AllByRecursion (λ k. list_any (key_is k) ks ≡ true) ks
 own_among [] = tt
@@ -185,8 +181,7 @@ module _ (k : StanzaKey) where
   add_comes serial xs = grind (arith, in_new, no_list)
 
   put_comes : (list : List ℕ) (x : Content) (o : Option KeyedList) → Comes (Put list x) (option_map_or (put_key x) o [])
-  put_comes list x None = refl
-  put_comes list x (Some l) = grind arith
+  put_comes list x x3 = grind arith
 
   pub comes_among : (s : Keyed) (edit : Edit) → coming_among edit (added_of s edit) k ≡ coming_under (added_of s edit) edit k
   comes_among s (AddList name kind class []) = refl

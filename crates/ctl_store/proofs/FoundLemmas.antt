@@ -18,20 +18,16 @@ use Rattle.ctl_store.proofs.AcceptLemmas.{accepted_fits, accepted_stanzas, count
 use Rattle.ctl_store.proofs.PastLemmas.{put-length, remove-length}
 
 no_refusal : (b : Bool) (why : Refusal) → when (not b) why ≡ None → b ≡ true
-no_refusal true why e = refl
-no_refusal false why e = cc
+no_refusal x1 why e = grind arith
 
 pub no_when : (b : Bool) (why : Refusal) → when b why ≡ None → b ≡ false
-no_when true why e = cc
-no_when false why e = refl
+no_when x1 why e = grind arith
 
 first : (a b : Option Refusal) → option_or a b ≡ None → a ≡ None
-first None b e = refl
-first (Some x) b e = cc
+first x1 b e = grind arith
 
 pub second : (a b : Option Refusal) → option_or a b ≡ None → b ≡ None
-second None b e = e
-second (Some x) b e = cc
+second x1 b e = grind arith
 
 some : {X : Type 0} (o : Option X) → is_some o ≡ true → (x : X) × (o ≡ Some x)
 some None e = cc

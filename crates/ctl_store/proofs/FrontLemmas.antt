@@ -3,17 +3,12 @@ use Rattle.std.proofs.Common.{◌≡◌, ℕ, zero, suc, ◌+◌, ◌<◌, ◌�
 use Rattle.std.proofs.lemmas.List.{drop_more, drop_all}
 use Rattle.std.specs.Option.{option_cmp}
 use Rattle.std.specs.Ordering.{nat_cmp, ordering_then, is_ne}
-use Rattle.std.specs.Cmp.{nat_cmp_is}
 use Rattle.std.specs.Cmp.Lexicographic.{slice_cmp}
 use Rattle.std.specs.declared.cmp.Ordering.{Ordering}
-use Rattle.std.specs.declared.cmp.Ordering.TheVariants.{Less, Equal, Greater}
+use Rattle.std.specs.declared.cmp.Ordering.TheVariants.{Equal, Greater}
 use Rattle.ctl_stanza.specs.Content.{Content, package_of, version_of}
 use Rattle.ctl_store.specs.Fronts.{front_len, filled, front_of, fronts_of}
 use Rattle.ctl_store.specs.Rows.{id, id_of, id_at, id_cmp, rows_from, version_id, version_order}
-
-zero_over : (x : ℕ) → nat_cmp x 0 ≡ Less → ⊥
-zero_over zero e = cc
-zero_over (suc x) e = let over : Greater ≡ nat_cmp (suc x) 0 = nat_cmp_is (suc x) 0 Greater (omega arith) in cc
 
 -- An end is as a zero, the least byte.
 least : (k : ℕ) (ys : List ℕ) (o : Ordering) → o ≡ slice_cmp nat_cmp (filled k []) (filled k ys) → (o ≡ Equal → ⊥) → o ≡ slice_cmp nat_cmp [] ys
@@ -31,9 +26,7 @@ greatest (suc k) (x ∷ xs) o e n = by (nat_cmp x 0) refl e (λ h. greatest k xs
     more (z ∷ zs) h = h
 
     by : (r : Ordering) → nat_cmp x 0 ≡ r → o ≡ ordering_then r (slice_cmp nat_cmp (filled k xs) (filled k [])) → (o ≡ slice_cmp nat_cmp (filled k xs) (filled k []) → o ≡ slice_cmp nat_cmp xs []) → o ≡ Greater
-    by Less is h rest = absurd (zero_over x is)
-    by Equal is h rest = more xs (rest h)
-    by Greater is h rest = h
+    by x1 is h rest = grind arith
 
 -- fronts that differ stand as their names do
 fronts_tell : (k : ℕ) (xs ys : List ℕ) (o : Ordering) → o ≡ slice_cmp nat_cmp (filled k xs) (filled k ys) → (o ≡ Equal → ⊥) → o ≡ slice_cmp nat_cmp xs ys
@@ -43,9 +36,7 @@ fronts_tell (suc k) (x ∷ xs) [] o e n = greatest (suc k) (x ∷ xs) o e n
 fronts_tell (suc k) (x ∷ xs) (y ∷ ys) o e n = grind (arith, fronts_tell k xs ys o)
 
 first_decides : (o r then : Ordering) → o ≡ r → (o ≡ Equal → ⊥) → o ≡ ordering_then r then
-first_decides Less r then e n = ap (λ q. ordering_then q then) e
-first_decides Equal r then e n = absurd (n refl)
-first_decides Greater r then e n = ap (λ q. ordering_then q then) e
+first_decides x1 r then e n = grind arith
 
 -- so do stanzas, whose names come first in their order
 pub front_tells : (x : Content) (name : List ℕ) (version : Option (List ℕ)) (o : Ordering) → o ≡ slice_cmp nat_cmp (front_of (package_of x)) (front_of name) → (o ≡ Equal → ⊥) → o ≡ id_cmp (id_of x) (id name version)
@@ -72,14 +63,10 @@ left_by_bytes : (xs ys : List ℕ) (i : ℕ) → i < length xs → i < length ys
 left_by_bytes xs ys i h g = λ j. slice_cmp nat_cmp (drop_more xs i 0 h j) (drop_more ys i 0 g j)
 
 unequal_then : (o p : Ordering) → is_ne o ≡ true → o ≡ ordering_then o p
-unequal_then Less p h = refl
-unequal_then Equal p h = cc
-unequal_then Greater p h = refl
+unequal_then x1 p h = grind arith
 
 equal_then : (o p : Ordering) → is_ne o ≡ false → p ≡ ordering_then o p
-equal_then Less p h = cc
-equal_then Equal p h = refl
-equal_then Greater p h = cc
+equal_then x1 p h = grind arith
 
 module _ (xs ys : List ℕ) (i : ℕ) where
   module _ (o : Ordering) (h : i < length xs) (g : i < length ys) (is : o ≡ nat_cmp (get_or xs i 0) (get_or ys i 0)) where

@@ -31,20 +31,16 @@ not_below_itself : (a : ℕ) → nat_lt a a ≡ false
 not_below_itself a = grind (arith, nat_tests)
 
 and_true : (a b : Bool) → a ≡ true → b ≡ true → (a && b) ≡ true
-and_true true b p q = q
-and_true false b p q = absurd (let z : ⊥ = cc in z)
+and_true x1 b p q = grind arith
 
 and_parts : (a b : Bool) → (a && b) ≡ true → (a ≡ true) × (b ≡ true)
-and_parts true b h = (refl, h)
-and_parts false b h = absurd (let z : ⊥ = cc in z)
+and_parts x1 b h = grind arith
 
 and_false : (a b : Bool) → b ≡ false → (a && b) ≡ false
-and_false true b h = h
-and_false false b h = refl
+and_false x1 b h = grind arith
 
 first_false : (a b : Bool) → a ≡ false → (a && b) ≡ false
-first_false true b h = absurd (let z : ⊥ = cc in z)
-first_false false b h = refl
+first_false x1 b h = grind arith
 
 -- a change of a list that keeps its serial, and gives more keys or as many
 record Grows (f : KeyedList → KeyedList) : Type 0 where
@@ -119,8 +115,7 @@ module _ (k : StanzaKey) where
   lists_end n (x ∷ ls) m e h = omega (arith, h.0, lists_end (suc x.1.serial) ls m e h.3)
 
   or_none : (o : Option Content) → IsSome (option_or o None) → IsSome o
-  or_none None h = h
-  or_none (Some x) h = refl
+  or_none x1 h = grind arith
 
   held_in : (n : ℕ) (ls : List (List ℕ × KeyedList)) (m e : ℕ) → InOrder n ls m e → IsSome (stanza_at k ls) → (k.list < m) × (was_given k ls ≡ true)
   held_in n [] m e h some = absurd (let z : ⊥ = cc some in z)
@@ -140,8 +135,7 @@ new_keys s [] = tt
 new_keys s (r ∷ rs) = ((λ h. first_false (nat_lt s.next_list s.next_list) (was_given (key_of s.next_list r.0) s.lists) (not_below_itself s.next_list)), new_keys s rs)
 
 put_new : (s : Keyed) (list : List ℕ) (x : Content) (o : Option KeyedList) → at_name list s.lists ≡ o → AreFirstGiven s (option_map_or (put_key x) o []) (option_map_or (found_key (package_of x) (version_of x)) o [])
-put_new s list x None at = tt
-put_new s list x (Some l) at = grind (arith, and_false, new_in, is_itself, weaken)
+put_new s list x x4 at = grind (arith, and_false, new_in, is_itself, weaken)
 
 first_law : (s : Keyed) (edit : Edit) → AreFirstGiven s (added_of s edit) (removed_of s edit)
 first_law s (AddList name kind class stanzas) = new_keys s (rows_from 0 stanzas)

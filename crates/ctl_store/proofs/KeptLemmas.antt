@@ -1,5 +1,5 @@
 -- The keys that go and come as a stanza is put: at most one goes, and it comes again.
-use Rattle.std.proofs.Common.{◌≡◌, ℕ, ◌<◌, ◌-◌, zero, suc, Bool, true, false, cond, List, [], ◌∷◌, length, map, take, drop, Option, None, Some, is_some, refl, ap, ◌∙◌, arith}
+use Rattle.std.proofs.Common.{◌≡◌, ℕ, ◌<◌, ◌-◌, zero, suc, Bool, cond, List, [], ◌∷◌, length, map, take, drop, Option, None, Some, is_some, refl, ap, ◌∙◌, arith}
 use Rattle.ctl_stanza.specs.Content.{Content, package_of, version_of}
 use Rattle.ctl_store.specs.declared.stanza_key.StanzaKey.{StanzaKey}
 use Rattle.ctl_store.specs.Step.{has_stanza}
@@ -32,5 +32,4 @@ pub found_count : (list name : List ℕ) (version : Option (List ℕ)) (ls : Lis
 found_count list name version ls = grind (arith, at_name-stanza_lists, key_count, place_within, place_stanzas)
 
 pub more_is : (b : Bool) (gone : ℕ) → gone ≡ cond b 1 0 → 1 - gone ≡ cond b 0 1
-more_is true gone e = ap (λ n. 1 - n) e
-more_is false gone e = ap (λ n. 1 - n) e
+more_is x1 gone e = grind arith

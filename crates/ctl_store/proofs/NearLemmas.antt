@@ -1,5 +1,5 @@
 -- The place of a name and a version, told by the row there and the one before it.
-use Rattle.std.proofs.Common.{◌≡◌, ℕ, zero, suc, ◌-◌, ◌<◌, Bool, true, false, List, [], ◌∷◌, length, get_or, Vec, ap, sym, ◌∙◌, arith}
+use Rattle.std.proofs.Common.{◌≡◌, ℕ, zero, suc, ◌-◌, ◌<◌, Bool, true, false, List, [], ◌∷◌, length, get_or, Vec, ap, ◌∙◌, arith}
 use Rattle.std.specs.Bool.{OnTrue}
 use Rattle.std.specs.Ordering.{is_lt}
 use Rattle.std.proofs.lemmas.List.{length-append, get_or_default}
@@ -18,13 +18,11 @@ on_true false h = tt
 
 module _ {P Q : Type 0} where
   pub on_true_map : (b : Bool) → (P → Q) → OnTrue b P → OnTrue b Q
-  on_true_map true f h = f h
-  on_true_map false f h = tt
+  on_true_map x1 f h = grind arith
 
 -- a test of what is read at a place
 pub told : (P : Type 0) (p : ℕ → Bool) (b : Bool) (t s : ℕ) → t ≡ s → b ≡ p s → OnTrue b (P → p t ≡ true)
-told P p true t s e f = λ w. ap p e ∙ sym f
-told P p false t s e f = tt
+told x1 p x3 t s e f = grind arith
 
 module _ {X A : Type 0} where
   -- a piece begins where the one before it ends

@@ -1,11 +1,11 @@
 -- What the order of the rows of a list says of the rows, and how it changes with them.
-use Rattle.std.proofs.Common.{◌≡◌, ℕ, ◌+◌, ◌<◌, ◌≤◌, Bool, true, false, cond, ◌&&◌, List, [], ◌∷◌, ◌++◌, length, get_or, Option, None, Some, refl, ap, sym, ◌∙◌, arith}
+use Rattle.std.proofs.Common.{◌≡◌, ℕ, ◌+◌, ◌<◌, ◌≤◌, Bool, true, cond, ◌&&◌, List, [], ◌∷◌, ◌++◌, length, get_or, Option, None, Some, refl, ap, sym, ◌∙◌, arith}
 use Rattle.std.specs.List.{insert, remove}
 use Rattle.std.specs.Cmp.{IsTotalOrder}
 use Rattle.std.specs.Cmp.Lexicographic.{options_total, nat_list_cmp_total}
 use Rattle.std.specs.Ordering.{ordering_then, is_eq}
 use Rattle.std.specs.declared.cmp.Ordering.{Ordering}
-use Rattle.std.specs.declared.cmp.Ordering.TheVariants.{Less, Equal, Greater}
+use Rattle.std.specs.declared.cmp.Ordering.TheVariants.{Equal}
 use Rattle.std.proofs.lemmas.Cmp.{on_total, then_total}
 use Rattle.std.proofs.lemmas.Map.Text.{is_eq-slice_cmp}
 use Rattle.std.proofs.lemmas.Slice.Eq.{bytes_eq-Decides}
@@ -24,27 +24,19 @@ id_total = then_total (on_total (λ (a : Id). a.name) nat_list_cmp_total) (on_to
 -- ---- a name and a version, and the test of a stanza for them
 
 is_eq-then : (o p : Ordering) → is_eq (ordering_then o p) ≡ (is_eq o && is_eq p)
-is_eq-then Less p = refl
-is_eq-then Equal p = refl
-is_eq-then Greater p = refl
+is_eq-then x1 p = grind arith
 
 is_eq-versions : (v w : Option (List ℕ)) → is_eq (version_order (version_id v) (version_id w)) ≡ is_same_version v w
-is_eq-versions None None = refl
-is_eq-versions None (Some w) = refl
-is_eq-versions (Some v) None = refl
-is_eq-versions (Some v) (Some w) = refl
+is_eq-versions x1 x2 = grind arith
 
 same_id : (name : List ℕ) (version : Option (List ℕ)) (x : Content) → is_same name version x ≡ is_eq (id_cmp (id_of x) (id name version))
 same_id name version x = grind (arith, is_eq-then, is_eq-slice_cmp, is_eq-versions)
 
 and_right : (a b : Bool) → (a && b) ≡ true → b ≡ true
-and_right true b e = e
-and_right false b e = cc
+and_right x1 b e = grind arith
 
 equal_is : (o : Ordering) → is_eq o ≡ true → o ≡ Equal
-equal_is Less e = cc
-equal_is Equal e = refl
-equal_is Greater e = cc
+equal_is x1 e = grind arith
 
 same_versions : (v w : Option (List ℕ)) → is_same_version v w ≡ true → version_id v ≡ version_id w
 same_versions None None e = refl

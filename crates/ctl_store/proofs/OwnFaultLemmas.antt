@@ -73,16 +73,13 @@ nil-of [] e = refl
 nil-of (x ∷ xs) e = absurd (omega (arith, eqb-true (length (x ∷ xs)) 0 e))
 
 empty-sound : (o : Option (List ℕ)) → is_empty_body o ≡ true → (body : List ℕ) → o ≡ Some body → body ≡ []
-empty-sound None e body is = absurd cc
-empty-sound (Some b) e body is = let same : b ≡ body = cc in sym same ∙ nil-of b e
+empty-sound x1 e body is = grind (arith, nil-of)
 
 empty-complete : (o : Option (List ℕ)) → ((body : List ℕ) → o ≡ Some body → body ≡ []) → is_empty_body o ≡ true
-empty-complete None lacks = refl
-empty-complete (Some b) lacks = ap (λ t. length t == 0) (lacks b refl)
+empty-complete x1 lacks = grind arith
 
 or-true : (a : Bool) → (a || true) ≡ true
-or-true true = refl
-or-true false = refl
+or-true x1 = grind arith
 
 abbrev is_empty_part : List ℕ → List (List ℕ) → Bool
 is_empty_part name stanza = is_empty_body (body_named name (fields_of_lines stanza))
@@ -169,8 +166,7 @@ no-wrong general ns (f ∷ fs) e g c has wrong = by (field_cause general f.name 
     by None here e rest = go has.0 has.1 has.2
       where
         go : (k : ℕ) → k < length (f ∷ fs) → get_or (f ∷ fs) k g ≡ g → ⊥
-        go zero lt is = let clash : None ≡ Some c = sym here ∙ ap (λ (x : FieldText). field_cause general x.name x.body) is ∙ wrong in cc
-        go (suc k) lt is = rest e (k, omega arith, is)
+        go x1 lt is = grind arith
 
 -- ---- the fault of a record
 
@@ -184,16 +180,7 @@ own-within all stanza i cause some fault = ⊎_elim
 
 -- what is missing has the lowest number
 missing-lowest : (general : Bool) (name body : List ℕ) (cause : Cause) → IsWrongField general name body cause → 7 ≤ number_of cause
-missing-lowest general name body causes.Name wrong = omega arith
-missing-lowest general name body causes.Version wrong = omega arith
-missing-lowest general name body causes.Form wrong = omega arith
-missing-lowest general name body causes.Priority wrong = omega arith
-missing-lowest general name body causes.TooLong wrong = absurd wrong
-missing-lowest general name body causes.Line wrong = absurd wrong
-missing-lowest general name body causes.FieldTwice wrong = absurd wrong
-missing-lowest general name body causes.Missing wrong = absurd wrong
-missing-lowest general name body causes.Relation wrong = absurd wrong
-missing-lowest general name body causes.Memory wrong = absurd wrong
+missing-lowest general name body x4 wrong = grind arith
 
 -- the fault of a record whose lines have these numbers
 pub record TellsOwn (ns : List ℕ) (stanza : List (List ℕ)) (fault : TextFault) : Type 0 where

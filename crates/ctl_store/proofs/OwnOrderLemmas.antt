@@ -5,7 +5,6 @@ use Rattle.std.specs.Map.{lookup}
 use Rattle.std.specs.Ordering.{is_eq}
 use Rattle.ctl_ordered.specs.Ordered.{without_serials, set_row, cut_row, row_serial}
 use Rattle.ctl_store.specs.declared.selector.Selector.{Selector}
-use Rattle.ctl_store.specs.declared.selector.Selector.TheVariants.{Version, Release}
 use Rattle.ctl_store.specs.Pins.{selector_eq}
 use Rattle.ctl_store.specs.SelectorLaws.{label_total, selector_eq-Decides}
 use Rattle.ctl_store.specs.Rows.{Rises}
@@ -24,9 +23,7 @@ other_label : (a b : Label) → (a.rank ≡ b.rank → ⊥) → is_eq (label_cmp
 other_label a b f = grind arith
 
 rank_is : (n : ℕ) (s : Selector) → (own_label n s).rank ≡ n
-rank_is n (Version name version) = refl
-rank_is n (Release None list) = refl
-rank_is n (Release (Some name) list) = refl
+rank_is n x2 = grind arith
 
 other_serial : (n m : ℕ) (s t : Selector) → n < m → is_eq (label_cmp (own_label n s) (own_label m t)) ≡ false
 other_serial n m s t l = other_label (own_label n s) (own_label m t) (λ e. omega (arith, l, rank_is n s, rank_is m t, e))

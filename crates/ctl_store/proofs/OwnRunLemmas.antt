@@ -1,5 +1,5 @@
 -- The settings of one package stand together in the order of packages, in the order in which they were set.
-use Rattle.std.proofs.Common.{◌≡◌, ℕ, ℤ, zero, suc, ◌<◌, ◌≤◌, Bool, true, false, ◌&&◌, cond, nat_eq, List, [], ◌∷◌, map, filter, drop, Some, None, refl, ap, sym, ◌∙◌, arith}
+use Rattle.std.proofs.Common.{◌≡◌, ℕ, ℤ, zero, suc, ◌<◌, ◌≤◌, Bool, true, false, ◌&&◌, cond, nat_eq, List, [], ◌∷◌, map, filter, drop, Some, refl, ap, sym, ◌∙◌, arith}
 use Rattle.std.specs.List.{AllByRecursion}
 use Rattle.std.specs.Map.{lookup}
 use Rattle.std.specs.Option.{option_map_or}
@@ -8,13 +8,12 @@ use Rattle.std.specs.Cmp.{nat_cmp_is}
 use Rattle.std.specs.Cmp.Lexicographic.{slice_cmp}
 use Rattle.std.specs.Ordering.{nat_cmp, ordering_then, is_gt, is_lt, is_eq}
 use Rattle.std.specs.declared.cmp.Ordering.{Ordering}
-use Rattle.std.specs.declared.cmp.Ordering.TheVariants.{Less, Equal, Greater}
+use Rattle.std.specs.declared.cmp.Ordering.TheVariants.{Equal}
 use Rattle.std.proofs.lemmas.Map.Text.{is_eq-slice_cmp}
 use Rattle.std.proofs.lemmas.Slice.Eq.{bytes_eq-Decides}
 use Rattle.std.proofs.lemmas.List.{drop-map}
 use Rattle.ctl_ordered.specs.Ordered.{without_serials}
 use Rattle.ctl_store.specs.declared.selector.Selector.{Selector}
-use Rattle.ctl_store.specs.declared.selector.Selector.TheVariants.{Version, Release}
 use Rattle.ctl_store.specs.Pins.{is_of, own_settings}
 use Rattle.ctl_store.specs.Rows.{Rises}
 use Rattle.ctl_store.specs.HeldRanks.{Label, label_cmp, labels_of, sorted_labels, labels_below}
@@ -34,16 +33,13 @@ abbrev is_own : List ℕ → ℕ × Label → Bool
 is_own q x = own q x.1
 
 first_of : (a b : Bool) → (a && b) ≡ true → a ≡ true
-first_of true b e = refl
-first_of false b e = cc
+first_of x1 b e = grind arith
 
 second_of : (a b : Bool) → (a && b) ≡ true → b ≡ true
-second_of true b e = e
-second_of false b e = cc
+second_of x1 b e = grind arith
 
 both_of : (a b : Bool) → a ≡ true → b ≡ true → (a && b) ≡ true
-both_of true b p q = q
-both_of false b p q = cc
+both_of x1 b p q = grind arith
 
 form_of : (q : List ℕ) (l : Label) → own q l ≡ true → l.form ≡ 1
 form_of q l e = is_eq_from l.form 1 (first_of _ _ e)
@@ -52,19 +48,13 @@ name_of : (q : List ℕ) (l : Label) → own q l ≡ true → l.name ≡ q
 name_of q l e = (bytes_eq-Decides l.name q).0 (second_of _ _ e)
 
 own_is : (q : List ℕ) (n : ℕ) (s : Selector) → own q (own_label n s) ≡ is_of q s
-own_is q n (Version name version) = refl
-own_is q n (Release None list) = refl
-own_is q n (Release (Some name) list) = refl
+own_is q n x3 = grind arith
 
 text_is : (n : ℕ) (s : Selector) → (own_label n s).text ≡ []
-text_is n (Version name version) = refl
-text_is n (Release None list) = refl
-text_is n (Release (Some name) list) = refl
+text_is n x2 = grind arith
 
 rank_is : (n : ℕ) (s : Selector) → (own_label n s).rank ≡ n
-rank_is n (Version name version) = refl
-rank_is n (Release None list) = refl
-rank_is n (Release (Some name) list) = refl
+rank_is n x2 = grind arith
 
 names_tie : (a b q : List ℕ) → a ≡ q → b ≡ q → is_eq (slice_cmp nat_cmp a b) ≡ true
 names_tie a b q d e = is_eq-slice_cmp a b ∙ (λ j. bytes_eq (d j) (e j)) ∙ (bytes_eq-Decides q q).1 refl
@@ -75,32 +65,21 @@ numbers_tie a b e = ap is_eq (sym (nat_cmp_is a b Equal e))
 -- ---- where they stand
 
 not_less : (o p r t : Ordering) → is_eq o ≡ true → is_eq p ≡ true → is_lt r ≡ false → is_lt t ≡ false → is_lt (ordering_then o (ordering_then p (ordering_then r t))) ≡ false
-not_less Less p r t a b c d = cc
-not_less Greater p r t a b c d = cc
-not_less Equal Less r t a b c d = cc
-not_less Equal Greater r t a b c d = cc
-not_less Equal Equal Less t a b c d = cc
-not_less Equal Equal Equal t a b c d = d
-not_less Equal Equal Greater t a b c d = refl
+not_less x1 x2 x3 t a b c d = grind arith
 
 text_not_less : (xs : List ℕ) → is_lt (slice_cmp nat_cmp xs []) ≡ false
 text_not_less [] = refl
 text_not_less (x ∷ xs) = refl
 
 rank_not_less : (n : ℕ) → is_lt (nat_cmp n 0) ≡ false
-rank_not_less zero = refl
-rank_not_less (suc n) = ap is_lt (sym (nat_cmp_is (suc n) 0 Greater (omega arith)))
+rank_not_less x1 = grind arith
 
 -- what stands before the start is not the package's
 before_start : (q : List ℕ) (l : Label) → is_lt (label_cmp l (own_start q)) ≡ true → own q l ≡ false
 before_start q l e = grind (arith, not_less, names_tie, name_of, numbers_tie, form_of, text_not_less, rank_not_less)
 
 ties : (o p r t : Ordering) → is_gt (ordering_then o (ordering_then p r)) ≡ false → is_lt (ordering_then o (ordering_then p t)) ≡ false → (is_eq o ≡ true) × (is_eq p ≡ true)
-ties Less p r t a b = cc
-ties Greater p r t a b = cc
-ties Equal Less r t a b = cc
-ties Equal Greater r t a b = cc
-ties Equal Equal r t a b = (refl, refl)
+ties x1 x2 r t a b = grind arith
 
 -- between the start and one of the package there are none but its own
 between : (q : List ℕ) (y z : Label) → own q z ≡ true → g label_cmp y z ≡ false → is_lt (label_cmp y (own_start q)) ≡ false → own q y ≡ true
@@ -137,13 +116,7 @@ front_from q (y ∷ ys) h = by (is_lt (label_cmp y.1 (own_start q))) refl (front
 -- ---- their order is that of the rows
 
 not_greater : (o p r t : Ordering) → is_eq o ≡ true → is_eq p ≡ true → is_eq r ≡ true → is_gt t ≡ false → is_gt (ordering_then o (ordering_then p (ordering_then r t))) ≡ false
-not_greater Less p r t a b c d = cc
-not_greater Greater p r t a b c d = cc
-not_greater Equal Less r t a b c d = cc
-not_greater Equal Greater r t a b c d = cc
-not_greater Equal Equal Less t a b c d = cc
-not_greater Equal Equal Equal t a b c d = d
-not_greater Equal Equal Greater t a b c d = cc
+not_greater x1 x2 x3 t a b c d = grind arith
 
 before_later : (q : List ℕ) (n m : ℕ) (s t : Selector) → n < m → own q (own_label n s) ≡ true → own q (own_label m t) ≡ true → g label_cmp (own_label n s) (own_label m t) ≡ false
 before_later q n m s t l d e = grind (arith, not_greater, names_tie, name_of, numbers_tie, form_of, text_is, rank_is)

@@ -26,8 +26,7 @@ pub some_is : {X : Type 0} {x y : X} → Some x ≡ Some y → x ≡ y
 some_is e = cc
 
 pub and_left : (a b : Bool) → (a && b) ≡ true → a ≡ true
-and_left true b e = refl
-and_left false b e = cc
+and_left x1 b e = grind arith
 
 -- ---- serials that rise
 
@@ -69,8 +68,7 @@ module _ {X : Type 0} (p : X → Bool) where
   place_none (x ∷ xs) h = by (p x) (h 0 x (omega arith)) (place_none xs (λ k d l. h (suc k) d (omega arith)))
     where
       by : (b : Bool) → b ≡ false → place p xs ≡ None → cond b (Some 0) (option_map (λ n. suc n) (place p xs)) ≡ None
-      by true e r = cc
-      by false e r = ap (option_map (λ n. suc n)) r
+      by x1 e r = grind arith
 
   pub place_within : (xs : List X) (i : ℕ) → place p xs ≡ Some i → i < length xs
   place_within [] i e = cc

@@ -35,12 +35,10 @@ pub version_is : (general : Bool) (words : List (List ℕ)) (version : List ℕ)
 version_is general words version e h = by (is_pin_version version) (ap (λ o. asked_cause general o (list_asked words)) e ∙ h)
   where
     by : (b : Bool) → cond b (cond general (Some causes.Form) None) (Some causes.Version) ≡ None → b ≡ true
-    by true h = refl
-    by false h = absurd cc
+    by x1 h = grind arith
 
 no_fault : (n : ℕ) (o : Option Cause) (later : Option TextFault) → fault_or n o later ≡ None → (o ≡ None) × (later ≡ None)
-no_fault n None later h = (refl, h)
-no_fault n (Some cause) later h = absurd cc
+no_fault n x2 later h = grind arith
 
 good_field : (general : Bool) (fields : List (List ℕ × List ℕ × ℕ)) → first_wrong general fields ≡ None → is_empty_body (body_in pin_name fields) ≡ false → pin_cause general (words_in pin_name fields) ≡ None
 good_field general [] h e = absurd cc
@@ -52,8 +50,7 @@ good_field general (f ∷ fields) h e =
         → is_empty_body (cond b (Some f.1) (body_in pin_name fields)) ≡ false
         → (is_empty_body (body_in pin_name fields) ≡ false → pin_cause general (words_in pin_name fields) ≡ None)
         → pin_cause general (words_of (unwrap_or (cond b (Some f.1) (body_in pin_name fields)) [])) ≡ None
-    by true h e rest = h
-    by false h e rest = rest e
+    by x1 h e rest = grind arith
 
 pub good_pin : (text : RecordText) → own_fault text ≡ None → pin_cause (is_general (words_in package_name (parts_of_fields text))) (words_in pin_name (parts_of_fields text)) ≡ None
 good_pin text h =
@@ -63,10 +60,7 @@ good_pin text h =
     by : (a b c : Bool) → cond (a || (b || c)) (Some (record { line = text.first_line; cause = causes.Missing })) (first_wrong (is_general (words_in package_name (parts_of_fields text))) (parts_of_fields text)) ≡ None
         → (first_wrong (is_general (words_in package_name (parts_of_fields text))) (parts_of_fields text) ≡ None → b ≡ false → pin_cause (is_general (words_in package_name (parts_of_fields text))) (words_in pin_name (parts_of_fields text)) ≡ None)
         → pin_cause (is_general (words_in package_name (parts_of_fields text))) (words_in pin_name (parts_of_fields text)) ≡ None
-    by true b c h rest = absurd cc
-    by false true c h rest = absurd cc
-    by false false true h rest = absurd cc
-    by false false false h rest = rest h refl
+    by x1 x2 x3 h rest = grind arith
 
 -- no cause is want of memory
 abbrev NotMemory : Option Cause → Type 0
@@ -76,9 +70,7 @@ package_other : (words : List (List ℕ)) → NotMemory (package_cause words)
 package_other words = grind arith
 
 asked_other : (general : Bool) (version list : Option (List ℕ)) → NotMemory (asked_cause general version list)
-asked_other general (Some version) list = grind arith
-asked_other general None (Some list) = grind arith
-asked_other general None None = λ h. cc
+asked_other general x2 x3 = grind arith
 
 priority_other : (body : List ℕ) → NotMemory (priority_cause body)
 priority_other body = grind arith
@@ -87,11 +79,7 @@ field_other : (general : Bool) (name body : List ℕ) → NotMemory (field_cause
 field_other general name body = by (is_same_name name package_name) (is_same_name name pin_name) (is_same_name name priority_name)
   where
     by : (a b c : Bool) → NotMemory (cond b (pin_cause general (words_of body)) (cond a (package_cause (words_of body)) (cond c (priority_cause body) None)))
-    by true false c = package_other (words_of body)
-    by true true c = asked_other general (version_asked (words_of body)) (list_asked (words_of body))
-    by false true c = asked_other general (version_asked (words_of body)) (list_asked (words_of body))
-    by false false true = priority_other body
-    by false false false = λ h. cc
+    by x1 x2 x3 = grind (arith, package_other, asked_other, priority_other)
 
 pub never_memory : (general : Bool) (name body : List ℕ) (line : ℕ) (cause : Cause) → Some cause ≡ field_cause general name body → IsMemoryAtZero (record { line = line; cause = cause })
 never_memory general name body line cause e m = absurd (field_other general name body (sym e ∙ ap (λ (c : Cause). Some c) m))

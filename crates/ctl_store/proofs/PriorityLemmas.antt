@@ -1,5 +1,5 @@
 -- The number of digits, read from the front.
-use Rattle.std.proofs.Common.{◌≡◌, ℕ, ◌+◌, ◌*◌, ◌-◌, ◌<◌, ◌≤◌, Bool, true, false, cond, ◌&&◌, List, [], ◌∷◌, Option, None, Some, refl, ◌∙◌, arith}
+use Rattle.std.proofs.Common.{◌≡◌, ℕ, ◌+◌, ◌*◌, ◌-◌, ◌<◌, ◌≤◌, Bool, true, false, cond, ◌&&◌, List, [], ◌∷◌, Option, None, Some, ◌∙◌, arith}
 use Rattle.std.specs.Prelude.{nat_lt, nat_le}
 use Rattle.std.specs.List.{list_all}
 use Rattle.std.specs.Char.{is_ascii_digit, digit_value}
@@ -22,9 +22,7 @@ above : (g m : ℕ) → g < m → nat_le m g ≡ false
 above g m h = grind (arith, nat_tests)
 
 and_false : (a b : Bool) → (a && (b && false)) ≡ false
-and_false true true = refl
-and_false true false = refl
-and_false false b = refl
+and_false x1 x2 = grind arith
 
 pub too_great : (greatest n : ℕ) (digits : List ℕ) → greatest < n → number_behind greatest n digits ≡ None
 too_great greatest n digits h = grind (arith, above, grows, and_false)

@@ -177,11 +177,6 @@ id_at_stanza n (x ∷ xs) (suc k) = id_at_stanza (suc n) xs k
 
 -- ---- places that stand in order already
 
-not_false : (b : Bool) → true ≡ not b → b ≡ false
-not_false false e = refl
-not_false true e = e
-
 -- what a test of each place and the next one says
 pub in_order : (lt : ℕ → ℕ → Bool) (xs : List ℕ) (r : Bool) → IsAllAdjacentAnswer (λ x y b. b ≡ not (lt y x)) xs r → OnTrue r (IsSortedBy lt xs)
-in_order lt xs true h = λ k d low high. not_false _ (h k d high)
-in_order lt xs false h = tt
+in_order lt xs x3 h = grind arith

@@ -18,8 +18,7 @@ use Rattle.ctl_store.proofs.PlaceLemmas.{if_cases}
 use Rattle.ctl_store.proofs.ListedLemmas.{place_stanzas}
 
 other : (a b : Bool) → a ≡ true → (a && b) ≡ false → b ≡ false
-other true b e h = h
-other false b e h = cc
+other x1 b e h = grind arith
 
 or_none : {X : Type 0} (o : Option X) → option_or o None ≡ o
 or_none None = refl

@@ -1,5 +1,5 @@
 -- The words of a text, taken one after another.
-use Rattle.std.proofs.Common.{◌≡◌, ℕ, ◌+◌, ◌≤◌, suc, Bool, true, false, cond, not, List, [], ◌∷◌, length, take, drop, refl, ap, sym, ◌∙◌, arith}
+use Rattle.std.proofs.Common.{◌≡◌, ℕ, ◌+◌, ◌≤◌, Bool, true, false, cond, not, List, [], ◌∷◌, length, take, drop, refl, ap, sym, ◌∙◌, arith}
 use Rattle.std.specs.List.{prefix_len}
 use Rattle.ctl_relation.specs.FieldBytes.{is_whitespace}
 use Rattle.ctl_store.specs.Prefs.{is_word_byte, onto_word, words_of}
@@ -13,24 +13,19 @@ abbrev behind_at : List ℕ → List ℕ
 behind_at [] = []
 behind_at (b ∷ text) = cond (is_whitespace b) (b ∷ text) (behind_at text)
 
-one_more : (n : ℕ) → 1 + n ≡ suc n
-one_more n = omega arith
-
 word_at-run : (text : List ℕ) → take (prefix_len is_word_byte text) text ≡ word_at text
 word_at-run [] = refl
 word_at-run (b ∷ text) = by (is_whitespace b) (word_at-run text)
   where
     by : (w : Bool) → take (prefix_len is_word_byte text) text ≡ word_at text → take (cond (not w) (1 + prefix_len is_word_byte text) 0) (b ∷ text) ≡ cond w [] (b ∷ word_at text)
-    by true e = refl
-    by false e = ap (λ n. take n (b ∷ text)) (one_more (prefix_len is_word_byte text)) ∙ ap (λ l. b ∷ l) e
+    by x1 e = grind arith
 
 behind_at-rest : (text : List ℕ) → drop (prefix_len is_word_byte text) text ≡ behind_at text
 behind_at-rest [] = refl
 behind_at-rest (b ∷ text) = by (is_whitespace b) (behind_at-rest text)
   where
     by : (w : Bool) → drop (prefix_len is_word_byte text) text ≡ behind_at text → drop (cond (not w) (1 + prefix_len is_word_byte text) 0) (b ∷ text) ≡ cond w (b ∷ text) (behind_at text)
-    by true e = refl
-    by false e = ap (λ n. drop n (b ∷ text)) (one_more (prefix_len is_word_byte text)) ∙ e
+    by x1 e = grind arith
 
 onto_words : (b : ℕ) (text : List ℕ) → onto_word b text (words_of text) ≡ (b ∷ word_at text) ∷ words_of (behind_at text)
 onto_words b [] = refl

@@ -30,30 +30,16 @@ priority-no-package name is = same-respects name priority_name package_name is
 -- ---- what a pin asks for
 
 version-asks : (words : List (List ℕ)) (version : List ℕ) → version_asked words ≡ Some version → words ≡ codes "version" ∷ version ∷ []
-version-asks [] version e = absurd cc
-version-asks (form ∷ []) version e = absurd cc
-version-asks (form ∷ v ∷ []) version e = ⊎_elim
-    (λ (is : bytes_eq form (codes "version") ≡ true).
-    let some : Some v ≡ Some version = sym (cond-true (bytes_eq form (codes "version")) (Some v) None is) ∙ e in
-    let same : v ≡ version = cc in
-    ap₂ (λ f w. f ∷ w ∷ []) ((bytes_eq-Decides form (codes "version")).0 is) same)
-    (λ (other : bytes_eq form (codes "version") ≡ false). let none : None ≡ Some version = sym (cond-false (bytes_eq form (codes "version")) (Some v) None other) ∙ e in absurd cc)
-    (cases_Bool (bytes_eq form (codes "version")))
-version-asks (form ∷ v ∷ other ∷ words) version e = absurd cc
+version-asks x1 version e = grind (arith, cond-true, bytes_eq-Decides, cond-false, cases_Bool)
 
 asked-version : (words : List (List ℕ)) (version : List ℕ) → words ≡ codes "version" ∷ version ∷ [] → version_asked words ≡ Some version
 asked-version words version e = ap version_asked e
 
 starts-list : (release : List ℕ) → starts_with nat_eq release (codes "a=") ≡ true → release ≡ codes "a=" ++ drop 2 release
-starts-list [] e = absurd cc
-starts-list (a ∷ []) e = grind arith
-starts-list (a ∷ b ∷ rest) e = grind arith
+starts-list x1 e = grind arith
 
 list-asks : (words : List (List ℕ)) (list : List ℕ) → list_asked words ≡ Some list → words ≡ codes "release" ∷ (codes "a=" ++ list) ∷ []
-list-asks [] list e = absurd cc
-list-asks (form ∷ []) list e = absurd cc
-list-asks (form ∷ r ∷ []) list e = grind (arith, bytes_eq-Decides, starts-list)
-list-asks (form ∷ r ∷ other ∷ words) list e = absurd cc
+list-asks x1 list e = grind (arith, bytes_eq-Decides, starts-list)
 
 asked-list : (words : List (List ℕ)) (list : List ℕ) → words ≡ codes "release" ∷ (codes "a=" ++ list) ∷ [] → list_asked words ≡ Some list
 asked-list words list e = ap list_asked e
@@ -108,10 +94,7 @@ wrong-sound general name body cause e = by (is_same_name name pin_name) (is_same
   where
     by : (p q r : Bool) → is_same_name name pin_name ≡ p → is_same_name name package_name ≡ q → is_same_name name priority_name ≡ r
         → cond p (pin_cause general (words_of body)) (cond q (package_cause (words_of body)) (cond r (priority_cause body) None)) ≡ Some cause → IsWrongField general name body cause
-    by true q r is_pin x y e = asked-sound general name body (version_asked (words_of body)) (list_asked (words_of body)) cause is_pin refl refl e
-    by false true r x is_package y e = package-sound general name body cause is_package e
-    by false false true x y is_priority e = priority-sound general name body cause is_priority e
-    by false false false x y z e = absurd cc
+    by x1 x2 x3 is_pin x y e = grind (arith, asked-sound, package-sound, priority-sound)
 
 -- ---- of what is wrong the lowest is told
 
