@@ -17,7 +17,7 @@ right_none None b e = e
 right_none (Some x) b e = cc
 
 when_none : (b : Bool) (why : Refusal) → when b why ≡ None → b ≡ false
-when_none x1 why e = grind arith
+when_none b why e = grind arith
 
 pub accepted_fits : (limits : Limits) (s : State) (edit : Edit) → refusal_of limits s edit ≡ None → misfit_of s edit ≡ None
 accepted_fits limits s edit e = left_none _ _ e

@@ -2,7 +2,7 @@
 use Rattle.std.proofs.Common.{◌≡◌, ℕ, zero, suc, ◌+◌, ◌<◌, ◌≤◌, Bool, true, false, cond, ◌&&◌, nat_eq, List, [], ◌∷◌, ◌++◌, map, take, drop, Option, None, Some, IsSome, refl, ap, sym, subst, ◌∙◌, arith}
 use Rattle.std.specs.List.{AllByRecursion, remove, slice_get}
 use Rattle.std.specs.Map.{lookup}
-use Rattle.std.specs.Option.{option_or, option_map_or}
+use Rattle.std.specs.Option.{option_map_or}
 use Rattle.std.specs.Str.{bytes_eq}
 use Rattle.ctl_stanza.specs.Content.{Content, package_of, version_of}
 use Rattle.ctl_store.specs.declared.stanza_key.StanzaKey.{StanzaKey}
@@ -12,16 +12,12 @@ use Rattle.ctl_store.specs.Edits.{Edit, AddList, DropList, Put, Remove, Mark, Un
 use Rattle.ctl_store.specs.Rows.{Rises, by_name_and_version, rows_from, replace_at, put_row_at, remove_row_at}
 use Rattle.ctl_store.specs.Keys.{KeyedList, Keyed, key_of, keys_of, key_at, key_or_new, found_key, put_key, key_is, in_rows, stanza_at, put_keyed, remove_keyed, list_of_stanzas, keyed_after, removed_of, added_of, IsNotAmong, AreCome, AreGone, AreNew, AreHeld}
 use Rattle.ctl_store.specs.Held.{InOrder}
-use Rattle.ctl_store.proofs.PlaceLemmas.{eq_is, lt_ne, gt_ne, is_eq_from}
+use Rattle.ctl_store.proofs.PlaceLemmas.{eq_is, lt_ne, gt_ne, is_eq_from, and_left, and_second, both_true, or_none}
 use Rattle.ctl_store.proofs.LookLemmas.{not_none}
 use Rattle.ctl_store.proofs.HeldLemmas.{keys_held, either_first, either_second, first_is, later_is, same, in_some}
 
 abbrev stanza_in : ℕ → List (ℕ × Content) → Option Content
 stanza_in serial rows = lookup (λ s. nat_eq s serial) rows
-
-or_none : {X : Type 0} (o : Option X) → option_or o None ≡ o
-or_none None = refl
-or_none (Some x) = refl
 
 -- ---- rows
 
@@ -120,9 +116,6 @@ module _ {X : Type 0} {P Q : X → Type 0} (f : (x : X) → P x → Q x) where
   weaken [] h = tt
   weaken (x ∷ xs) h = (f x h.0, weaken xs h.1)
 
-both_true : (a b : Bool) → a ≡ true → b ≡ true → (a && b) ≡ true
-both_true x1 b p q = grind arith
-
 pub is_itself : (k : StanzaKey) → key_is k k ≡ true
 is_itself k = both_true (nat_eq k.list k.list) (nat_eq k.stanza k.stanza) (eq_is k.list k.list refl) (eq_is k.stanza k.stanza refl)
 
@@ -153,7 +146,7 @@ module _ (s : Keyed) (e : ℕ) (order : InOrder 0 s.lists s.next_list e) where
           over (q ∷ qs) g = (in_changed (key_of l.serial q.0) 0 s.lists s.next_list e list l (put_keyed x) order at refl ∙ of_serial (key_of l.serial q.0) (put_keyed x l) refl ∙ ap (λ o. stanza_in q.0 (put_row_at o x l.next l.rows)) is ∙ g.0.1, over qs g.1)
 
   kept_come : (list : List ℕ) (x : Content) (o : Option KeyedList) → at_name list s.lists ≡ o → AreCome (option_map_or (put_key x) o []) (Put list x) (change_named list (put_keyed x) s.lists)
-  kept_come list x x3 at = grind (arith, put_come)
+  kept_come list x o at = grind (arith, put_come)
 
   pub come_law : (edit : Edit) → AreCome (added_of s edit) edit (keyed_after s edit).lists
   come_law (AddList name kind class stanzas) = new_come 0 name (list_of_stanzas s.next_list kind class stanzas) stanzas stanzas refl refl (λ j. ap (slice_get stanzas) (let z : 0 + j ≡ j = omega arith in z))
@@ -191,7 +184,7 @@ module _ (s : Keyed) (e : ℕ) (order : InOrder 0 s.lists s.next_list e) where
           over (q ∷ qs) g = ((λ h. in_changed (key_of l.serial q.0) 0 s.lists s.next_list e list l (remove_keyed name version) order at refl ∙ of_serial (key_of l.serial q.0) (remove_keyed name version l) refl ∙ ap (λ o. stanza_in q.0 (remove_row_at o l.rows)) is ∙ g.0.1), over qs g.1)
 
   put_gone : (list : List ℕ) (x : Content) (o : Option KeyedList) → at_name list s.lists ≡ o → AreGone (option_map_or (found_key (package_of x) (version_of x)) o []) (option_map_or (put_key x) o []) (change_named list (put_keyed x) s.lists)
-  put_gone list x x3 at = grind arith
+  put_gone list x o at = grind arith
 
   pub gone_law : (edit : Edit) → AreGone (removed_of s edit) (added_of s edit) (keyed_after s edit).lists
   gone_law (AddList name kind class stanzas) = tt
@@ -265,12 +258,6 @@ removed_held s (Unpin selector) = tt
 removed_held s (Target name) = tt
 removed_held s (Prefs pins) = tt
 
-and_first : (a b : Bool) → (a && b) ≡ true → a ≡ true
-and_first x1 b e = grind arith
-
-and_second : (a b : Bool) → (a && b) ≡ true → b ≡ true
-and_second x1 b e = grind arith
-
 -- a key that has a stanza and doesn't go doesn't come
 pub not_added : (k : StanzaKey) (added removed : List StanzaKey) (ls : List (List ℕ × KeyedList)) → AreNew added removed ls → IsSome (stanza_at k ls) → IsNotAmong k removed → IsNotAmong k added
 not_added k [] removed ls n h g = tt
@@ -279,7 +266,7 @@ not_added k (q ∷ qs) removed ls n h g = (by (key_is k q) refl, not_added k qs 
     by : (b : Bool) → key_is k q ≡ b → key_is k q ≡ false
     by false is = is
     by true is =
-        let lists : q.list ≡ k.list = is_eq_from q.list k.list (and_first (nat_eq q.list k.list) (nat_eq q.stanza k.stanza) is) in
+        let lists : q.list ≡ k.list = is_eq_from q.list k.list (and_left (nat_eq q.list k.list) (nat_eq q.stanza k.stanza) is) in
         let stanzas : q.stanza ≡ k.stanza = is_eq_from q.stanza k.stanza (and_second (nat_eq q.list k.list) (nat_eq q.stanza k.stanza) is) in
         let same_key : q ≡ k = ap (λ a. key_of a q.stanza) lists ∙ ap (λ b. key_of k.list b) stanzas in
         not_none (stanza_at k ls) h (ap (λ k. stanza_at k ls) (sym same_key) ∙ n.0 (subst (λ k. IsNotAmong k removed) (sym same_key) g))

@@ -19,11 +19,11 @@ use Rattle.ctl_store.specs.Rows.{Rises, by_name_and_version, rows_from, replace_
 use Rattle.ctl_store.specs.Keys.{KeyedList, Keyed, stanzas_of, stanza_lists, key_of, keys_of, key_at, key_or_new, found_key, put_key, key_is, key_cmp, all_keys, AreRising, stanza_at, put_keyed, remove_keyed, list_of_stanzas, keyed_after, removed_of, added_of, coming, AreCome}
 use Rattle.ctl_store.specs.Entries.{Entry, rows_under, entries_in, entries_of, entry_keys, AreAt, is_among, without_keys, entries_by, entries_at, entries_coming, stanzas_in_order, lists_between, IsSpliced, IsChange}
 use Rattle.ctl_store.specs.Held.{InOrder}
-use Rattle.ctl_store.proofs.PlaceLemmas.{eq_is, lt_ne, Rises-rows_from}
+use Rattle.ctl_store.proofs.PlaceLemmas.{eq_is, lt_ne, Rises-rows_from, is_first, or_true}
 use Rattle.ctl_store.proofs.KeyLemmas.{keys_rise}
 use Rattle.ctl_store.proofs.ListedLemmas.{InOrder-weaken, in_order_push, in_order_without, in_order_change, Changes-put, Changes-remove}
 use Rattle.ctl_store.proofs.StepLemmas.{remove_list, change_lists, without_lists}
-use Rattle.ctl_store.proofs.ChangeLemmas.{come_law}
+use Rattle.ctl_store.proofs.ChangeLemmas.{come_law, is_itself}
 
 module _ {X : Type 0} where
   nothing_behind : (xs : List X) → xs ≡ xs ++ []
@@ -176,7 +176,7 @@ abbrev no_keys : KeyedList → List StanzaKey
 no_keys l = []
 
 none_in : (o : Option KeyedList) → [] ≡ option_map_or no_keys o []
-none_in x1 = grind arith
+none_in o = grind arith
 
 dropped : (name : List ℕ) (ls : List (List ℕ × KeyedList)) → Cut (entries_of ls) (entries_of (without_name name ls)) (option_map_or keys_of (at_name name ls) []) []
 dropped name [] = uncut []
@@ -265,23 +265,11 @@ by_keys find (e ∷ es) h = sym (ap (λ o. cons_option (option_map (λ (x : Cont
 less_is_not : (a b s t : ℕ) → ordering_then (nat_cmp a b) (nat_cmp s t) ≡ Less → (nat_eq a b && nat_eq s t) ≡ false
 less_is_not a b s t h = grind (arith, nat_tests)
 
-less_is_no_other : (a b s t : ℕ) → ordering_then (nat_cmp a b) (nat_cmp s t) ≡ Less → (nat_eq b a && nat_eq t s) ≡ false
+pub less_is_no_other : (a b s t : ℕ) → ordering_then (nat_cmp a b) (nat_cmp s t) ≡ Less → (nat_eq b a && nat_eq t s) ≡ false
 less_is_no_other a b s t h = grind (arith, nat_tests)
 
-both_true : (a b : Bool) → a ≡ true → b ≡ true → (a && b) ≡ true
-both_true x1 b p q = grind arith
-
-is_itself : (k : StanzaKey) → key_is k k ≡ true
-is_itself k = both_true (nat_eq k.list k.list) (nat_eq k.stanza k.stanza) (eq_is k.list k.list refl) (eq_is k.stanza k.stanza refl)
-
-or_true : (a b : Bool) → b ≡ true → (a || b) ≡ true
-or_true x1 b h = grind arith
-
-is_first : (a b : Bool) → a ≡ true → (a || b) ≡ true
-is_first x1 b h = grind arith
-
 is_neither : (a b : Bool) → a ≡ false → b ≡ false → (a || b) ≡ false
-is_neither x1 b h g = grind arith
+is_neither a b h g = grind arith
 
 kept : (ks : List StanzaKey) (es : List Entry) → AllByRecursion (λ e. is_among ks e ≡ false) es → without_keys ks es ≡ es
 kept ks [] h = refl

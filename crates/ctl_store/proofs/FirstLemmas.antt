@@ -24,7 +24,7 @@ lookup-keep : (s : Selector) (kept : List (Selector × ℤ)) (one : Selector × 
 lookup-keep s kept one = by (is_some (lookup (selector_eq one.0) kept)) refl
   where
     there : (o : Option ℤ) → is_some o ≡ true → (b : Bool) → o ≡ option_or o (cond b (Some one.1) None)
-    there x1 h b = grind arith
+    there o h b = grind arith
 
     same : is_some (lookup (selector_eq one.0) kept) ≡ true → (b : Bool) → selector_eq s one.0 ≡ b → lookup (selector_eq s) kept ≡ option_or (lookup (selector_eq s) kept) (cond b (Some one.1) None)
     same h true e = there (lookup (selector_eq s) kept) (ap (λ t. is_some (lookup (selector_eq t) kept)) ((selector_eq-Decides s one.0).0 e) ∙ h) true

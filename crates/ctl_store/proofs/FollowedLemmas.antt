@@ -3,7 +3,6 @@ use Rattle.std.proofs.Common.{◌≡◌, ℕ, zero, suc, ◌+◌, Bool, true, fa
 use Rattle.std.specs.List.{list_any, slice_get, AllByRecursion}
 use Rattle.std.specs.Map.{lookup}
 use Rattle.std.specs.Option.{option_or, option_map_or}
-use Rattle.std.specs.Ordering.{nat_cmp, ordering_then}
 use Rattle.std.specs.declared.cmp.Ordering.TheVariants.{Less}
 use Rattle.std.proofs.lemmas.Bool.Decides.{nat_tests}
 use Rattle.std.proofs.lemmas.List.Sums.{sum_by-append}
@@ -16,8 +15,9 @@ use Rattle.ctl_store.specs.Keys.{Keyed, KeyedList, key_of, key_cmp, key_is, put_
 use Rattle.ctl_store.specs.Entries.{Entry, rows_under, entries_in, entries_of, entry_keys, AreAt, is_among, without_keys, entries_by, entries_coming, IsChange}
 use Rattle.ctl_store.specs.Followed.{under, AreApart, AreDistinctKeys, coming_under, shown_under, IsFollowed}
 use Rattle.ctl_store.specs.Held.{coming_among}
-use Rattle.ctl_store.proofs.PlaceLemmas.{eq_is}
-use Rattle.ctl_store.proofs.EntryLemmas.{keys_are_all}
+use Rattle.ctl_store.proofs.PlaceLemmas.{is_first, or_true}
+use Rattle.ctl_store.proofs.EntryLemmas.{keys_are_all, less_is_no_other}
+use Rattle.ctl_store.proofs.ChangeLemmas.{is_itself}
 
 module _ {X : Type 0} (P : X → Type 0) where
   all_append : (xs ys : List X) → AllByRecursion P xs → AllByRecursion P ys → AllByRecursion P (xs ++ ys)
@@ -35,9 +35,6 @@ module _ {X : Type 0} (P : X → Type 0) where
 all_both : {X : Type 0} (P Q R : X → Type 0) (xs : List X) → ((x : X) → P x → Q x → R x) → AllByRecursion P xs → AllByRecursion Q xs → AllByRecursion R xs
 all_both P Q R [] f p q = tt
 all_both P Q R (x ∷ xs) f p q = (f x p.0 q.0, all_both P Q R xs f p.1 q.1)
-
-is_itself : (k : StanzaKey) → key_is k k ≡ true
-is_itself k = λ i. eq_is k.list k.list refl i && eq_is k.stanza k.stanza refl i
 
 nat_turned : (a b : ℕ) → nat_eq a b ≡ nat_eq b a
 nat_turned a b = grind (arith, nat_tests)
@@ -70,16 +67,13 @@ own_under (e ∷ es) h = (
 
 -- ---- keys that rise stand apart
 
-less_is_not : (a b s t : ℕ) → ordering_then (nat_cmp a b) (nat_cmp s t) ≡ Less → (nat_eq b a && nat_eq t s) ≡ false
-less_is_not a b s t h = grind (arith, nat_tests)
-
 apart_of_keys : (es : List Entry) → AreRising (entry_keys es) → AreApart es
 apart_of_keys [] h = tt
 apart_of_keys (e ∷ es) h = (go es h.0, apart_of_keys es h.1)
   where
     go : (ds : List Entry) → AllByRecursion (λ q. key_cmp e.0 q ≡ Less) (entry_keys ds) → AllByRecursion (λ (d : Entry). key_is e.0 d.0 ≡ false) ds
     go [] p = tt
-    go (d ∷ ds) p = (less_is_not e.0.list d.0.list e.0.stanza d.0.stanza p.0, go ds p.1)
+    go (d ∷ ds) p = (less_is_no_other e.0.list d.0.list e.0.stanza d.0.stanza p.0, go ds p.1)
 
 rising_apart : (ls : List (List ℕ × KeyedList)) → AreRising (all_keys ls) → AreApart (entries_of ls)
 rising_apart ls h = apart_of_keys (entries_of ls) (subst AreRising (sym (keys_are_all ls)) h)
@@ -140,19 +134,13 @@ module _ (k : StanzaKey) where
 
   -- one or both
   joined : (o p : Option Content) (b : Bool) → (b ≡ true → p ≡ o) → (b ≡ false → p ≡ None) → option_or (cond b None o) p ≡ o
-  joined x1 p x3 f g = grind arith
-
-or_first : (a b : Bool) → a ≡ true → (a || b) ≡ true
-or_first x1 b h = grind arith
-
-or_more : (a b : Bool) → b ≡ true → (a || b) ≡ true
-or_more x1 b h = grind arith
+  joined o p b f g = grind arith
 
 own_among : (ks : List StanzaKey) → AllByRecursion (λ k. list_any (key_is k) ks ≡ true) ks
 own_among [] = tt
 own_among (k ∷ ks) = (
-  or_first (key_is k k) (list_any (key_is k) ks) (is_itself k),
-  all_both (λ q. list_any (key_is q) ks ≡ true) (λ q. list_any (key_is q) ks ≡ true) (λ q. list_any (key_is q) (k ∷ ks) ≡ true) ks (λ q h _. or_more (key_is q k) (list_any (key_is q) ks) h) (own_among ks) (own_among ks),
+  is_first (key_is k k) (list_any (key_is k) ks) (is_itself k),
+  all_both (λ q. list_any (key_is q) ks ≡ true) (λ q. list_any (key_is q) ks ≡ true) (λ q. list_any (key_is q) (k ∷ ks) ≡ true) ks (λ q h _. or_true (key_is q k) (list_any (key_is q) ks) h) (own_among ks) (own_among ks),
 )
 
 found_by : (find : StanzaKey → Option Content) (P : StanzaKey → Type 0) (ks : List StanzaKey) → AllByRecursion P ks → AllByRecursion (λ (e : Entry). P e.0 × (find e.0 ≡ Some e.1)) (entries_by find ks)
@@ -181,7 +169,7 @@ module _ (k : StanzaKey) where
   add_comes serial xs = grind (arith, in_new, no_list)
 
   put_comes : (list : List ℕ) (x : Content) (o : Option KeyedList) → Comes (Put list x) (option_map_or (put_key x) o [])
-  put_comes list x x3 = grind arith
+  put_comes list x o = grind arith
 
   pub comes_among : (s : Keyed) (edit : Edit) → coming_among edit (added_of s edit) k ≡ coming_under (added_of s edit) edit k
   comes_among s (AddList name kind class []) = refl

@@ -1,5 +1,5 @@
 -- What an accepted edit finds, and how many stanzas are there after it.
-use Rattle.std.proofs.Common.{◌≡◌, ℕ, ◌+◌, ◌≤◌, Bool, true, false, cond, not, suc, List, [], ◌∷◌, map, length, Option, None, Some, is_some, option_map, refl, ap, sym, ◌∙◌, arith}
+use Rattle.std.proofs.Common.{◌≡◌, ℕ, ◌+◌, ◌≤◌, Bool, true, false, cond, suc, List, [], ◌∷◌, map, length, Option, None, Some, is_some, option_map, refl, ap, sym, ◌∙◌, arith}
 use Rattle.std.specs.Option.{option_or, option_map_or}
 use Rattle.ctl_stanza.specs.declared.list_kind.ListKind.{ListKind}
 use Rattle.ctl_stanza.specs.Content.{Content, package_of, version_of}
@@ -15,19 +15,16 @@ use Rattle.ctl_store.specs.Held.{Sheet, lists_of}
 use Rattle.ctl_store.proofs.ListedLemmas.{has_name_lists, has_name_held, at_name-stanza_lists}
 use Rattle.ctl_store.proofs.NamedLemmas.{some_is}
 use Rattle.ctl_store.proofs.AcceptLemmas.{accepted_fits, accepted_stanzas, count-push, count-without, count-change}
-use Rattle.ctl_store.proofs.PastLemmas.{put-length, remove-length}
-
-no_refusal : (b : Bool) (why : Refusal) → when (not b) why ≡ None → b ≡ true
-no_refusal x1 why e = grind arith
+use Rattle.ctl_store.proofs.PastLemmas.{put-length, remove-length, no_refusal}
 
 pub no_when : (b : Bool) (why : Refusal) → when b why ≡ None → b ≡ false
-no_when x1 why e = grind arith
+no_when b why e = grind arith
 
 first : (a b : Option Refusal) → option_or a b ≡ None → a ≡ None
-first x1 b e = grind arith
+first a b e = grind arith
 
 pub second : (a b : Option Refusal) → option_or a b ≡ None → b ≡ None
-second x1 b e = grind arith
+second a b e = grind arith
 
 some : {X : Type 0} (o : Option X) → is_some o ≡ true → (x : X) × (o ≡ Some x)
 some None e = cc

@@ -26,7 +26,7 @@ greatest (suc k) (x ∷ xs) o e n = by (nat_cmp x 0) refl e (λ h. greatest k xs
     more (z ∷ zs) h = h
 
     by : (r : Ordering) → nat_cmp x 0 ≡ r → o ≡ ordering_then r (slice_cmp nat_cmp (filled k xs) (filled k [])) → (o ≡ slice_cmp nat_cmp (filled k xs) (filled k []) → o ≡ slice_cmp nat_cmp xs []) → o ≡ Greater
-    by x1 is h rest = grind arith
+    by r is h rest = grind arith
 
 -- fronts that differ stand as their names do
 fronts_tell : (k : ℕ) (xs ys : List ℕ) (o : Ordering) → o ≡ slice_cmp nat_cmp (filled k xs) (filled k ys) → (o ≡ Equal → ⊥) → o ≡ slice_cmp nat_cmp xs ys
@@ -36,7 +36,7 @@ fronts_tell (suc k) (x ∷ xs) [] o e n = greatest (suc k) (x ∷ xs) o e n
 fronts_tell (suc k) (x ∷ xs) (y ∷ ys) o e n = grind (arith, fronts_tell k xs ys o)
 
 first_decides : (o r then : Ordering) → o ≡ r → (o ≡ Equal → ⊥) → o ≡ ordering_then r then
-first_decides x1 r then e n = grind arith
+first_decides o r then e n = grind arith
 
 -- so do stanzas, whose names come first in their order
 pub front_tells : (x : Content) (name : List ℕ) (version : Option (List ℕ)) (o : Ordering) → o ≡ slice_cmp nat_cmp (front_of (package_of x)) (front_of name) → (o ≡ Equal → ⊥) → o ≡ id_cmp (id_of x) (id name version)
@@ -63,10 +63,10 @@ left_by_bytes : (xs ys : List ℕ) (i : ℕ) → i < length xs → i < length ys
 left_by_bytes xs ys i h g = λ j. slice_cmp nat_cmp (drop_more xs i 0 h j) (drop_more ys i 0 g j)
 
 unequal_then : (o p : Ordering) → is_ne o ≡ true → o ≡ ordering_then o p
-unequal_then x1 p h = grind arith
+unequal_then o p h = grind arith
 
 equal_then : (o p : Ordering) → is_ne o ≡ false → p ≡ ordering_then o p
-equal_then x1 p h = grind arith
+equal_then o p h = grind arith
 
 module _ (xs ys : List ℕ) (i : ℕ) where
   module _ (o : Ordering) (h : i < length xs) (g : i < length ys) (is : o ≡ nat_cmp (get_or xs i 0) (get_or ys i 0)) where

@@ -12,7 +12,7 @@ use Rattle.ctl_store.specs.Rows.{Rises, rows_from}
 use Rattle.ctl_store.specs.Keys.{KeyedList, Keyed, key_of, found_key, put_key, stanza_at, put_keyed, remove_keyed, list_of_stanzas, keyed_after, removed_of, added_of}
 use Rattle.ctl_store.specs.Given.{was_given, is_given, AreFirstGiven, IsGivenOnce}
 use Rattle.ctl_store.specs.Held.{InOrder}
-use Rattle.ctl_store.proofs.PlaceLemmas.{is_eq_from}
+use Rattle.ctl_store.proofs.PlaceLemmas.{is_eq_from, both_true}
 use Rattle.ctl_store.proofs.ChangeLemmas.{none_later, is_itself}
 use Rattle.ctl_store.proofs.EntryLemmas.{order_after}
 
@@ -30,17 +30,14 @@ lt_from a b h = grind (arith, nat_tests, h)
 not_below_itself : (a : ℕ) → nat_lt a a ≡ false
 not_below_itself a = grind (arith, nat_tests)
 
-and_true : (a b : Bool) → a ≡ true → b ≡ true → (a && b) ≡ true
-and_true x1 b p q = grind arith
-
 and_parts : (a b : Bool) → (a && b) ≡ true → (a ≡ true) × (b ≡ true)
-and_parts x1 b h = grind arith
+and_parts a b h = grind arith
 
 and_false : (a b : Bool) → b ≡ false → (a && b) ≡ false
-and_false x1 b h = grind arith
+and_false a b h = grind arith
 
 first_false : (a b : Bool) → a ≡ false → (a && b) ≡ false
-first_false x1 b h = grind arith
+first_false a b h = grind arith
 
 -- a change of a list that keeps its serial, and gives more keys or as many
 record Grows (f : KeyedList → KeyedList) : Type 0 where
@@ -58,8 +55,8 @@ module _ (k : StanzaKey) where
   gave l = cond (nat_eq l.serial k.list) (nat_lt k.stanza l.next) true
 
   given_push : (ls : List (List ℕ × KeyedList)) (name : List ℕ) (l : KeyedList) → was_given k ls ≡ true → gave l ≡ true → was_given k (ls ++ (name, l) ∷ []) ≡ true
-  given_push [] name l h g = and_true (gave l) true g refl
-  given_push (x ∷ ls) name l h g = let both = and_parts (gave x.1) (was_given k ls) h in and_true (gave x.1) (was_given k (ls ++ (name, l) ∷ [])) both.0 (given_push ls name l both.1 g)
+  given_push [] name l h g = both_true (gave l) true g refl
+  given_push (x ∷ ls) name l h g = let both = and_parts (gave x.1) (was_given k ls) h in both_true (gave x.1) (was_given k (ls ++ (name, l) ∷ [])) both.0 (given_push ls name l both.1 g)
 
   given_without : (name : List ℕ) (ls : List (List ℕ × KeyedList)) → was_given k ls ≡ true → was_given k (without_name name ls) ≡ true
   given_without name [] h = refl
@@ -83,11 +80,11 @@ module _ (k : StanzaKey) where
 
       by : (edit : Edit) → is_given (keyed_after s edit) k ≡ true
       by (AddList name kind class stanzas) =
-          and_true (nat_lt k.list (s.next_list + 1)) (was_given k (s.lists ++ (name, list_of_stanzas s.next_list kind class stanzas) ∷ [])) (lt_is k.list (s.next_list + 1) (omega (arith, below)))
+          both_true (nat_lt k.list (s.next_list + 1)) (was_given k (s.lists ++ (name, list_of_stanzas s.next_list kind class stanzas) ∷ [])) (lt_is k.list (s.next_list + 1) (omega (arith, below)))
           (given_push s.lists name (list_of_stanzas s.next_list kind class stanzas) both.1 (ap (λ b. cond b (nat_lt k.stanza (list_of_stanzas s.next_list kind class stanzas).next) true) other))
-      by (DropList name) = and_true (nat_lt k.list s.next_list) (was_given k (without_name name s.lists)) both.0 (given_without name s.lists both.1)
-      by (Put list x) = and_true (nat_lt k.list s.next_list) (was_given k (change_named list (put_keyed x) s.lists)) both.0 (given_change list (put_keyed x) (Grows-put x) s.lists both.1)
-      by (Remove list name version) = and_true (nat_lt k.list s.next_list) (was_given k (change_named list (remove_keyed name (Some version)) s.lists)) both.0 (given_change list (remove_keyed name (Some version)) (Grows-remove name (Some version)) s.lists both.1)
+      by (DropList name) = both_true (nat_lt k.list s.next_list) (was_given k (without_name name s.lists)) both.0 (given_without name s.lists both.1)
+      by (Put list x) = both_true (nat_lt k.list s.next_list) (was_given k (change_named list (put_keyed x) s.lists)) both.0 (given_change list (put_keyed x) (Grows-put x) s.lists both.1)
+      by (Remove list name version) = both_true (nat_lt k.list s.next_list) (was_given k (change_named list (remove_keyed name (Some version)) s.lists)) both.0 (given_change list (remove_keyed name (Some version)) (Grows-remove name (Some version)) s.lists both.1)
       by (Mark name version) = h
       by (Unmark name) = h
       by (Pin selector priority) = h
@@ -115,14 +112,14 @@ module _ (k : StanzaKey) where
   lists_end n (x ∷ ls) m e h = omega (arith, h.0, lists_end (suc x.1.serial) ls m e h.3)
 
   or_none : (o : Option Content) → IsSome (option_or o None) → IsSome o
-  or_none x1 h = grind arith
+  or_none o h = grind arith
 
   held_in : (n : ℕ) (ls : List (List ℕ × KeyedList)) (m e : ℕ) → InOrder n ls m e → IsSome (stanza_at k ls) → (k.list < m) × (was_given k ls ≡ true)
   held_in n [] m e h some = absurd (let z : ⊥ = cc some in z)
-  held_in n (x ∷ ls) m e h some = grind (arith, k, is_eq_from, none_later, row_below, or_none, lists_end, and_true, lt_is, later_given, held_in (suc x.1.serial) ls m e h.3)
+  held_in n (x ∷ ls) m e h some = grind (arith, k, is_eq_from, none_later, row_below, or_none, lists_end, both_true, lt_is, later_given, held_in (suc x.1.serial) ls m e h.3)
 
   held_given : (s : Keyed) (e : ℕ) → InOrder 0 s.lists s.next_list e → IsSome (stanza_at k s.lists) → is_given s k ≡ true
-  held_given s e order some = grind (arith, held_in, and_true, k, lt_is)
+  held_given s e order some = grind (arith, held_in, both_true, k, lt_is)
 
 -- ---- a key that comes was not
 
@@ -135,7 +132,7 @@ new_keys s [] = tt
 new_keys s (r ∷ rs) = ((λ h. first_false (nat_lt s.next_list s.next_list) (was_given (key_of s.next_list r.0) s.lists) (not_below_itself s.next_list)), new_keys s rs)
 
 put_new : (s : Keyed) (list : List ℕ) (x : Content) (o : Option KeyedList) → at_name list s.lists ≡ o → AreFirstGiven s (option_map_or (put_key x) o []) (option_map_or (found_key (package_of x) (version_of x)) o [])
-put_new s list x x4 at = grind (arith, and_false, new_in, is_itself, weaken)
+put_new s list x o at = grind (arith, and_false, new_in, is_itself, weaken)
 
 first_law : (s : Keyed) (edit : Edit) → AreFirstGiven s (added_of s edit) (removed_of s edit)
 first_law s (AddList name kind class stanzas) = new_keys s (rows_from 0 stanzas)

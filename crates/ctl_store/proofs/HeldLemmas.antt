@@ -20,13 +20,13 @@ module _ {X : Type 0} where
   first_is b c x o e f = subst (λ b. IsSome (cond b (cond c (Some x) o) None)) (sym e) (subst (λ c. IsSome (cond c (Some x) o)) (sym f) refl)
 
   pub later_is : (b c : Bool) (x : X) (o : Option X) → IsSome (cond b o None) → IsSome (cond b (cond c (Some x) o) None)
-  later_is x1 x2 x o h = grind arith
+  later_is b c x o h = grind arith
 
   pub either_first : (a b : Option X) → IsSome a → IsSome (option_or a b)
-  either_first x1 b h = grind arith
+  either_first a b h = grind arith
 
   pub either_second : (a b : Option X) → IsSome b → IsSome (option_or a b)
-  either_second x1 b h = grind arith
+  either_second a b h = grind arith
 
 pub same : (n : ℕ) → nat_eq n n ≡ true
 same n = grind (arith, nat_tests)

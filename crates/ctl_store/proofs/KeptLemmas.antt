@@ -32,4 +32,4 @@ pub found_count : (list name : List ℕ) (version : Option (List ℕ)) (ls : Lis
 found_count list name version ls = grind (arith, at_name-stanza_lists, key_count, place_within, place_stanzas)
 
 pub more_is : (b : Bool) (gone : ℕ) → gone ≡ cond b 1 0 → 1 - gone ≡ cond b 0 1
-more_is x1 gone e = grind arith
+more_is b gone e = grind arith

@@ -2,15 +2,11 @@
 use Rattle.std.proofs.Common.{◌≡◌, ℕ, true, nat_eq, List, sym, ◌∙◌, arith}
 use Rattle.std.specs.Map.{lookup}
 use Rattle.std.specs.Ordering.{nat_cmp, is_eq}
-use Rattle.std.specs.declared.cmp.Ordering.{Ordering}
-use Rattle.std.specs.declared.cmp.Ordering.TheVariants.{Equal}
 use Rattle.std.proofs.lemmas.Bool.Decides.{nat_tests}
 use Rattle.std.proofs.lemmas.Cmp.{ranked}
+use Rattle.ctl_store.proofs.PlaceLemmas.{equal_is}
 
 -- ---- labels that tie
-
-equal_is : (o : Ordering) → is_eq o ≡ true → o ≡ Equal
-equal_is x1 e = grind arith
 
 pub same_numbers : (a b : ℕ) → is_eq (nat_cmp a b) ≡ true → a ≡ b
 same_numbers a b e = ranked a b _ (sym (equal_is (nat_cmp a b) e))

@@ -1,20 +1,15 @@
 -- The stanza of a key, found by the serial of its list.
 use Rattle.std.proofs.Common.{◌≡◌, ℕ, ◌<◌, suc, false, cond, nat_eq, List, [], ◌∷◌, Option, None, Some, IsSome, is_some, option_map, refl, ap, sym, ◌∙◌, arith}
 use Rattle.std.specs.Map.{lookup}
-use Rattle.std.specs.Option.{option_or}
 use Rattle.ctl_stanza.specs.Content.{Content}
 use Rattle.ctl_store.specs.declared.stanza_key.StanzaKey.{StanzaKey}
 use Rattle.ctl_store.specs.Keys.{stanza_at, list_at, holder_of}
 use Rattle.ctl_store.specs.Held.{Sheet, lists_of, InOrder, entry_of}
-use Rattle.ctl_store.proofs.PlaceLemmas.{is_eq_from, if_cases}
+use Rattle.ctl_store.proofs.PlaceLemmas.{is_eq_from, if_cases, or_none}
 
 none_later : (k : StanzaKey) (n : ℕ) (es : List (List ℕ × Sheet)) (m e : ℕ) → k.list < n → InOrder n (lists_of es) m e → stanza_at k (lists_of es) ≡ None
 none_later k n [] m e l h = refl
 none_later k n (x ∷ es) m e l h = grind (arith, none_later k (suc x.1.serial) es m e (omega (arith, h.0)) h.3)
-
-or_none : {X : Type 0} (o : Option X) → option_or o None ≡ o
-or_none None = refl
-or_none (Some x) = refl
 
 abbrev pub in_entry : StanzaKey → Option (List ℕ × Sheet) → Option Content
 in_entry k None = None

@@ -18,11 +18,11 @@ on_true false h = tt
 
 module _ {P Q : Type 0} where
   pub on_true_map : (b : Bool) → (P → Q) → OnTrue b P → OnTrue b Q
-  on_true_map x1 f h = grind arith
+  on_true_map b f h = grind arith
 
 -- a test of what is read at a place
 pub told : (P : Type 0) (p : ℕ → Bool) (b : Bool) (t s : ℕ) → t ≡ s → b ≡ p s → OnTrue b (P → p t ≡ true)
-told x1 p x3 t s e f = grind arith
+told P p b t s e f = grind arith
 
 module _ {X A : Type 0} where
   -- a piece begins where the one before it ends

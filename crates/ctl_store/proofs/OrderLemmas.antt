@@ -1,11 +1,10 @@
 -- What the order of the rows of a list says of the rows, and how it changes with them.
-use Rattle.std.proofs.Common.{◌≡◌, ℕ, ◌+◌, ◌<◌, ◌≤◌, Bool, true, cond, ◌&&◌, List, [], ◌∷◌, ◌++◌, length, get_or, Option, None, Some, refl, ap, sym, ◌∙◌, arith}
+use Rattle.std.proofs.Common.{◌≡◌, ℕ, ◌+◌, ◌<◌, ◌≤◌, true, cond, ◌&&◌, List, [], ◌∷◌, ◌++◌, length, get_or, Option, None, Some, refl, ap, sym, ◌∙◌, arith}
 use Rattle.std.specs.List.{insert, remove}
 use Rattle.std.specs.Cmp.{IsTotalOrder}
 use Rattle.std.specs.Cmp.Lexicographic.{options_total, nat_list_cmp_total}
 use Rattle.std.specs.Ordering.{ordering_then, is_eq}
 use Rattle.std.specs.declared.cmp.Ordering.{Ordering}
-use Rattle.std.specs.declared.cmp.Ordering.TheVariants.{Equal}
 use Rattle.std.proofs.lemmas.Cmp.{on_total, then_total}
 use Rattle.std.proofs.lemmas.Map.Text.{is_eq-slice_cmp}
 use Rattle.std.proofs.lemmas.Slice.Eq.{bytes_eq-Decides}
@@ -15,7 +14,7 @@ use Rattle.ctl_stanza.specs.Content.{Content, package_of, version_of}
 use Rattle.ctl_store.specs.Step.{place, is_same, is_same_version}
 use Rattle.ctl_store.specs.Sorted.{place_in}
 use Rattle.ctl_store.specs.Rows.{Id, id, id_of, row_id, version_id, version_order, id_cmp, ids_of, sorted_ids, lower, has_serial, IsKept, order_at, by_name_and_version, replace_at}
-use Rattle.ctl_store.proofs.PlaceLemmas.{and_left, place_within, place_passes}
+use Rattle.ctl_store.proofs.PlaceLemmas.{and_left, place_within, place_passes, and_second, equal_is}
 use Rattle.ctl_store.proofs.RankedLemmas.{found_here as ranked_here, found_past as ranked_past, ranked_replace, ranked_push, ranked_remove}
 
 pub id_total : IsTotalOrder id_cmp
@@ -24,19 +23,13 @@ id_total = then_total (on_total (λ (a : Id). a.name) nat_list_cmp_total) (on_to
 -- ---- a name and a version, and the test of a stanza for them
 
 is_eq-then : (o p : Ordering) → is_eq (ordering_then o p) ≡ (is_eq o && is_eq p)
-is_eq-then x1 p = grind arith
+is_eq-then o p = grind arith
 
 is_eq-versions : (v w : Option (List ℕ)) → is_eq (version_order (version_id v) (version_id w)) ≡ is_same_version v w
-is_eq-versions x1 x2 = grind arith
+is_eq-versions v w = grind arith
 
 same_id : (name : List ℕ) (version : Option (List ℕ)) (x : Content) → is_same name version x ≡ is_eq (id_cmp (id_of x) (id name version))
 same_id name version x = grind (arith, is_eq-then, is_eq-slice_cmp, is_eq-versions)
-
-and_right : (a b : Bool) → (a && b) ≡ true → b ≡ true
-and_right x1 b e = grind arith
-
-equal_is : (o : Ordering) → is_eq o ≡ true → o ≡ Equal
-equal_is x1 e = grind arith
 
 same_versions : (v w : Option (List ℕ)) → is_same_version v w ≡ true → version_id v ≡ version_id w
 same_versions None None e = refl
@@ -47,7 +40,7 @@ same_versions (Some v) (Some w) e = ap Some ((equal_versions v w).0 (equal_is (v
 exact_id : (name : List ℕ) (version : Option (List ℕ)) (x : Content) → is_same name version x ≡ true → id_of x ≡ id name version
 exact_id name version x e = λ j. record {
   name = (bytes_eq-Decides (package_of x) name).0 (and_left _ _ e) j;
-  version = same_versions (version_of x) version (and_right _ _ e) j;
+  version = same_versions (version_of x) version (and_second _ _ e) j;
 }
 
 -- ---- the first row of a name and a version

@@ -73,13 +73,13 @@ nil-of [] e = refl
 nil-of (x ∷ xs) e = absurd (omega (arith, eqb-true (length (x ∷ xs)) 0 e))
 
 empty-sound : (o : Option (List ℕ)) → is_empty_body o ≡ true → (body : List ℕ) → o ≡ Some body → body ≡ []
-empty-sound x1 e body is = grind (arith, nil-of)
+empty-sound o e body is = grind (arith, nil-of)
 
 empty-complete : (o : Option (List ℕ)) → ((body : List ℕ) → o ≡ Some body → body ≡ []) → is_empty_body o ≡ true
-empty-complete x1 lacks = grind arith
+empty-complete o lacks = grind arith
 
 or-true : (a : Bool) → (a || true) ≡ true
-or-true x1 = grind arith
+or-true a = grind arith
 
 abbrev is_empty_part : List ℕ → List (List ℕ) → Bool
 is_empty_part name stanza = is_empty_body (body_named name (fields_of_lines stanza))
@@ -166,7 +166,7 @@ no-wrong general ns (f ∷ fs) e g c has wrong = by (field_cause general f.name 
     by None here e rest = go has.0 has.1 has.2
       where
         go : (k : ℕ) → k < length (f ∷ fs) → get_or (f ∷ fs) k g ≡ g → ⊥
-        go x1 lt is = grind arith
+        go k lt is = grind arith
 
 -- ---- the fault of a record
 
@@ -180,7 +180,7 @@ own-within all stanza i cause some fault = ⊎_elim
 
 -- what is missing has the lowest number
 missing-lowest : (general : Bool) (name body : List ℕ) (cause : Cause) → IsWrongField general name body cause → 7 ≤ number_of cause
-missing-lowest general name body x4 wrong = grind arith
+missing-lowest general name body cause wrong = grind arith
 
 -- the fault of a record whose lines have these numbers
 pub record TellsOwn (ns : List ℕ) (stanza : List (List ℕ)) (fault : TextFault) : Type 0 where

@@ -31,7 +31,7 @@ own_insert q s p (x ∷ settings) = by (selector_eq s x.0) refl (is_of q x.0) re
         ∙ ap (λ b. cond (is_of q s) (cond {A = List (Selector × ℤ)} b ((x.0, p) ∷ own_settings q settings) (x ∷ insert_entry selector_eq (own_settings q settings) s p)) (x ∷ own_settings q settings)) (sym is)
       where
         push : (b : Bool) → x ∷ cond b (insert_entry selector_eq (own_settings q settings) s p) (own_settings q settings) ≡ cond b (x ∷ insert_entry selector_eq (own_settings q settings) s p) (x ∷ own_settings q settings)
-        push x1 = grind arith
+        push b = grind arith
     by false is false at h = ap (λ b. cond b (x ∷ own_settings q (insert_entry selector_eq settings s p)) (own_settings q (insert_entry selector_eq settings s p))) at ∙ h
 
 pub own_remove : (q : List ℕ) (s : Selector) (settings : List (Selector × ℤ)) → own_settings q (remove_entry (selector_eq s) settings) ≡ cond (is_of q s) (remove_entry (selector_eq s) (own_settings q settings)) (own_settings q settings)
@@ -52,5 +52,5 @@ own_remove q s (x ∷ settings) = by (selector_eq s x.0) refl (is_of q x.0) refl
         ∙ ap (λ b. cond (is_of q s) (cond b (own_settings q settings) (x ∷ remove_entry (selector_eq s) (own_settings q settings))) (x ∷ own_settings q settings)) (sym is)
       where
         push : (b : Bool) → x ∷ cond b (remove_entry (selector_eq s) (own_settings q settings)) (own_settings q settings) ≡ cond b (x ∷ remove_entry (selector_eq s) (own_settings q settings)) (x ∷ own_settings q settings)
-        push x1 = grind arith
+        push b = grind arith
     by false is false at h = ap (λ b. cond b (x ∷ own_settings q (remove_entry (selector_eq s) settings)) (own_settings q (remove_entry (selector_eq s) settings))) at ∙ h

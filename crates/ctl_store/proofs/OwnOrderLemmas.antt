@@ -22,8 +22,8 @@ same_label a = grind (arith, label_total.antisymm a a)
 other_label : (a b : Label) → (a.rank ≡ b.rank → ⊥) → is_eq (label_cmp a b) ≡ false
 other_label a b f = grind arith
 
-rank_is : (n : ℕ) (s : Selector) → (own_label n s).rank ≡ n
-rank_is n x2 = grind arith
+pub rank_is : (n : ℕ) (s : Selector) → (own_label n s).rank ≡ n
+rank_is n s = grind arith
 
 other_serial : (n m : ℕ) (s t : Selector) → n < m → is_eq (label_cmp (own_label n s) (own_label m t)) ≡ false
 other_serial n m s t l = other_label (own_label n s) (own_label m t) (λ e. omega (arith, l, rank_is n s, rank_is m t, e))

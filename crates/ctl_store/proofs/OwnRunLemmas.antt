@@ -20,9 +20,10 @@ use Rattle.ctl_store.specs.HeldRanks.{Label, label_cmp, labels_of, sorted_labels
 use Rattle.ctl_store.specs.Sorted.{insert_in, serials_in}
 use Rattle.ctl_store.specs.SelectorLaws.{label_total}
 use Rattle.ctl_store.specs.HeldPins.{own_label, own_row, own_start, own_run}
-use Rattle.ctl_store.proofs.PlaceLemmas.{eq_is, gt_ne, is_eq_from}
+use Rattle.ctl_store.proofs.PlaceLemmas.{eq_is, gt_ne, is_eq_from, and_left, and_second, both_true}
 use Rattle.ctl_store.proofs.SortedLemmas.{g, up, lt_back, all_map, all_sorted, in_order, IsInOrder}
 use Rattle.ctl_store.proofs.LabelLemmas.{same_numbers}
+use Rattle.ctl_store.proofs.OwnOrderLemmas.{rank_is}
 
 -- ---- labels of one package
 
@@ -32,29 +33,17 @@ own q l = nat_eq l.form 1 && bytes_eq l.name q
 abbrev is_own : List ℕ → ℕ × Label → Bool
 is_own q x = own q x.1
 
-first_of : (a b : Bool) → (a && b) ≡ true → a ≡ true
-first_of x1 b e = grind arith
-
-second_of : (a b : Bool) → (a && b) ≡ true → b ≡ true
-second_of x1 b e = grind arith
-
-both_of : (a b : Bool) → a ≡ true → b ≡ true → (a && b) ≡ true
-both_of x1 b p q = grind arith
-
 form_of : (q : List ℕ) (l : Label) → own q l ≡ true → l.form ≡ 1
-form_of q l e = is_eq_from l.form 1 (first_of _ _ e)
+form_of q l e = is_eq_from l.form 1 (and_left _ _ e)
 
 name_of : (q : List ℕ) (l : Label) → own q l ≡ true → l.name ≡ q
-name_of q l e = (bytes_eq-Decides l.name q).0 (second_of _ _ e)
+name_of q l e = (bytes_eq-Decides l.name q).0 (and_second _ _ e)
 
 own_is : (q : List ℕ) (n : ℕ) (s : Selector) → own q (own_label n s) ≡ is_of q s
-own_is q n x3 = grind arith
+own_is q n s = grind arith
 
 text_is : (n : ℕ) (s : Selector) → (own_label n s).text ≡ []
-text_is n x2 = grind arith
-
-rank_is : (n : ℕ) (s : Selector) → (own_label n s).rank ≡ n
-rank_is n x2 = grind arith
+text_is n s = grind arith
 
 names_tie : (a b q : List ℕ) → a ≡ q → b ≡ q → is_eq (slice_cmp nat_cmp a b) ≡ true
 names_tie a b q d e = is_eq-slice_cmp a b ∙ (λ j. bytes_eq (d j) (e j)) ∙ (bytes_eq-Decides q q).1 refl
@@ -65,21 +54,21 @@ numbers_tie a b e = ap is_eq (sym (nat_cmp_is a b Equal e))
 -- ---- where they stand
 
 not_less : (o p r t : Ordering) → is_eq o ≡ true → is_eq p ≡ true → is_lt r ≡ false → is_lt t ≡ false → is_lt (ordering_then o (ordering_then p (ordering_then r t))) ≡ false
-not_less x1 x2 x3 t a b c d = grind arith
+not_less o p r t a b c d = grind arith
 
 text_not_less : (xs : List ℕ) → is_lt (slice_cmp nat_cmp xs []) ≡ false
 text_not_less [] = refl
 text_not_less (x ∷ xs) = refl
 
 rank_not_less : (n : ℕ) → is_lt (nat_cmp n 0) ≡ false
-rank_not_less x1 = grind arith
+rank_not_less n = grind arith
 
 -- what stands before the start is not the package's
 before_start : (q : List ℕ) (l : Label) → is_lt (label_cmp l (own_start q)) ≡ true → own q l ≡ false
 before_start q l e = grind (arith, not_less, names_tie, name_of, numbers_tie, form_of, text_not_less, rank_not_less)
 
 ties : (o p r t : Ordering) → is_gt (ordering_then o (ordering_then p r)) ≡ false → is_lt (ordering_then o (ordering_then p t)) ≡ false → (is_eq o ≡ true) × (is_eq p ≡ true)
-ties x1 x2 r t a b = grind arith
+ties o p r t a b = grind arith
 
 -- between the start and one of the package there are none but its own
 between : (q : List ℕ) (y z : Label) → own q z ≡ true → g label_cmp y z ≡ false → is_lt (label_cmp y (own_start q)) ≡ false → own q y ≡ true
@@ -88,7 +77,7 @@ between q y z is not_above not_below =
     let start : Ordering = ordering_then (slice_cmp nat_cmp y.text []) (nat_cmp y.rank 0) in
     let there : is_gt (ordering_then (slice_cmp nat_cmp y.name q) (ordering_then (nat_cmp y.form 1) after)) ≡ false = (λ j. is_gt (ordering_then (slice_cmp nat_cmp y.name (sym (name_of q z is) j)) (ordering_then (nat_cmp y.form (sym (form_of q z is) j)) after))) ∙ not_above in
     let t = ties (slice_cmp nat_cmp y.name q) (nat_cmp y.form 1) after start there not_below in
-    both_of _ _ (eq_is y.form 1 (same_numbers y.form 1 t.1)) (sym (is_eq-slice_cmp y.name q) ∙ t.0)
+    both_true _ _ (eq_is y.form 1 (same_numbers y.form 1 t.1)) (sym (is_eq-slice_cmp y.name q) ∙ t.0)
 
 -- ---- those in front that are of the package
 
@@ -116,7 +105,7 @@ front_from q (y ∷ ys) h = by (is_lt (label_cmp y.1 (own_start q))) refl (front
 -- ---- their order is that of the rows
 
 not_greater : (o p r t : Ordering) → is_eq o ≡ true → is_eq p ≡ true → is_eq r ≡ true → is_gt t ≡ false → is_gt (ordering_then o (ordering_then p (ordering_then r t))) ≡ false
-not_greater x1 x2 x3 t a b c d = grind arith
+not_greater o p r t a b c d = grind arith
 
 before_later : (q : List ℕ) (n m : ℕ) (s t : Selector) → n < m → own q (own_label n s) ≡ true → own q (own_label m t) ≡ true → g label_cmp (own_label n s) (own_label m t) ≡ false
 before_later q n m s t l d e = grind (arith, not_greater, names_tie, name_of, numbers_tie, form_of, text_is, rank_is)

@@ -38,8 +38,8 @@ count-put list x ls e = by (at_name list ls) refl e
     by None was e = cc
     by (Some l) was e = omega (arith, count-change list (with_stanzas (put_stanza x)) ls l was, put-length x l.stanzas)
 
-no_refusal : (b : Bool) (why : Refusal) → when (not b) why ≡ None → b ≡ true
-no_refusal x1 why e = grind arith
+pub no_refusal : (b : Bool) (why : Refusal) → when (not b) why ≡ None → b ≡ true
+no_refusal b why e = grind arith
 
 edits_past : (a b : ℕ) → nat_lt a (b + 1) ≡ nat_le a b
 edits_past a b = grind (arith, nat_tests)

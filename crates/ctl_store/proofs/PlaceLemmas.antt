@@ -1,7 +1,11 @@
 -- Places in rows whose serials rise.
-use Rattle.std.proofs.Common.{◌≡◌, ℕ, zero, suc, ◌+◌, ◌<◌, ◌≤◌, Bool, true, false, cond, ◌&&◌, nat_eq, List, [], ◌∷◌, ◌++◌, length, get_or, None, Some, option_map, refl, ap, subst, ◌∙◌, arith}
+use Rattle.std.proofs.Common.{◌≡◌, ℕ, zero, suc, ◌+◌, ◌<◌, ◌≤◌, Bool, true, false, cond, ◌&&◌, ◌||◌, nat_eq, List, [], ◌∷◌, ◌++◌, length, get_or, Option, None, Some, option_map, refl, ap, subst, ◌∙◌, arith}
 use Rattle.std.specs.List.{remove}
 use Rattle.std.specs.Map.{lookup}
+use Rattle.std.specs.Option.{option_or}
+use Rattle.std.specs.Ordering.{is_eq}
+use Rattle.std.specs.declared.cmp.Ordering.{Ordering}
+use Rattle.std.specs.declared.cmp.Ordering.TheVariants.{Equal}
 use Rattle.std.proofs.lemmas.Bool.Decides.{nat_tests}
 use Rattle.ctl_store.specs.Step.{place}
 use Rattle.ctl_store.specs.Rows.{has_serial, Rises, replace_at, rows_from}
@@ -26,7 +30,7 @@ pub some_is : {X : Type 0} {x y : X} → Some x ≡ Some y → x ≡ y
 some_is e = cc
 
 pub and_left : (a b : Bool) → (a && b) ≡ true → a ≡ true
-and_left x1 b e = grind arith
+and_left a b e = grind arith
 
 -- ---- serials that rise
 
@@ -68,7 +72,7 @@ module _ {X : Type 0} (p : X → Bool) where
   place_none (x ∷ xs) h = by (p x) (h 0 x (omega arith)) (place_none xs (λ k d l. h (suc k) d (omega arith)))
     where
       by : (b : Bool) → b ≡ false → place p xs ≡ None → cond b (Some 0) (option_map (λ n. suc n) (place p xs)) ≡ None
-      by x1 e r = grind arith
+      by b e r = grind arith
 
   pub place_within : (xs : List X) (i : ℕ) → place p xs ≡ Some i → i < length xs
   place_within [] i e = cc
@@ -107,3 +111,24 @@ module _ {V : Type 0} where
   pub Rises-rows_from : (n : ℕ) (xs : List V) → Rises n (rows_from n xs) (n + length xs)
   Rises-rows_from n [] = omega arith
   Rises-rows_from n (x ∷ xs) = (omega arith, subst (λ m. Rises (suc n) (rows_from (suc n) xs) m) (omega arith) (Rises-rows_from (suc n) xs))
+
+-- ---- tests and orders
+
+pub both_true : (a b : Bool) → a ≡ true → b ≡ true → (a && b) ≡ true
+both_true a b p q = grind arith
+
+pub and_second : (a b : Bool) → (a && b) ≡ true → b ≡ true
+and_second a b e = grind arith
+
+pub or_none : {X : Type 0} (o : Option X) → option_or o None ≡ o
+or_none None = refl
+or_none (Some x) = refl
+
+pub equal_is : (o : Ordering) → is_eq o ≡ true → o ≡ Equal
+equal_is o e = grind arith
+
+pub or_true : (a b : Bool) → b ≡ true → (a || b) ≡ true
+or_true a b h = grind arith
+
+pub is_first : (a b : Bool) → a ≡ true → (a || b) ≡ true
+is_first a b h = grind arith

@@ -35,7 +35,7 @@ module _ {X : Type 0} (p : X → Bool) where
       all rest = none_end (x ∷ (q ++ ys)) each
         where
           each : (k : ℕ) (d : X) → k < suc (length (q ++ ys)) → p (get_or (x ∷ (q ++ ys)) k d) ≡ false
-          each x1 d l = grind arith
+          each k d l = grind arith
 
   -- the item at a place, which is read as `x ≡ get_or xs i x`
   pub read_passes : (xs : List X) (i : ℕ) (x d : X) (b : Bool) → i < length xs → x ≡ get_or xs i x → p x ≡ b → p (get_or xs i d) ≡ b

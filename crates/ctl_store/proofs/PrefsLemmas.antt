@@ -35,10 +35,10 @@ pub version_is : (general : Bool) (words : List (List ℕ)) (version : List ℕ)
 version_is general words version e h = by (is_pin_version version) (ap (λ o. asked_cause general o (list_asked words)) e ∙ h)
   where
     by : (b : Bool) → cond b (cond general (Some causes.Form) None) (Some causes.Version) ≡ None → b ≡ true
-    by x1 h = grind arith
+    by b h = grind arith
 
 no_fault : (n : ℕ) (o : Option Cause) (later : Option TextFault) → fault_or n o later ≡ None → (o ≡ None) × (later ≡ None)
-no_fault n x2 later h = grind arith
+no_fault n o later h = grind arith
 
 good_field : (general : Bool) (fields : List (List ℕ × List ℕ × ℕ)) → first_wrong general fields ≡ None → is_empty_body (body_in pin_name fields) ≡ false → pin_cause general (words_in pin_name fields) ≡ None
 good_field general [] h e = absurd cc
@@ -50,7 +50,7 @@ good_field general (f ∷ fields) h e =
         → is_empty_body (cond b (Some f.1) (body_in pin_name fields)) ≡ false
         → (is_empty_body (body_in pin_name fields) ≡ false → pin_cause general (words_in pin_name fields) ≡ None)
         → pin_cause general (words_of (unwrap_or (cond b (Some f.1) (body_in pin_name fields)) [])) ≡ None
-    by x1 h e rest = grind arith
+    by b h e rest = grind arith
 
 pub good_pin : (text : RecordText) → own_fault text ≡ None → pin_cause (is_general (words_in package_name (parts_of_fields text))) (words_in pin_name (parts_of_fields text)) ≡ None
 good_pin text h =
@@ -60,7 +60,7 @@ good_pin text h =
     by : (a b c : Bool) → cond (a || (b || c)) (Some (record { line = text.first_line; cause = causes.Missing })) (first_wrong (is_general (words_in package_name (parts_of_fields text))) (parts_of_fields text)) ≡ None
         → (first_wrong (is_general (words_in package_name (parts_of_fields text))) (parts_of_fields text) ≡ None → b ≡ false → pin_cause (is_general (words_in package_name (parts_of_fields text))) (words_in pin_name (parts_of_fields text)) ≡ None)
         → pin_cause (is_general (words_in package_name (parts_of_fields text))) (words_in pin_name (parts_of_fields text)) ≡ None
-    by x1 x2 x3 h rest = grind arith
+    by a b c h rest = grind arith
 
 -- no cause is want of memory
 abbrev NotMemory : Option Cause → Type 0
@@ -70,7 +70,7 @@ package_other : (words : List (List ℕ)) → NotMemory (package_cause words)
 package_other words = grind arith
 
 asked_other : (general : Bool) (version list : Option (List ℕ)) → NotMemory (asked_cause general version list)
-asked_other general x2 x3 = grind arith
+asked_other general version list = grind arith
 
 priority_other : (body : List ℕ) → NotMemory (priority_cause body)
 priority_other body = grind arith
@@ -79,7 +79,7 @@ field_other : (general : Bool) (name body : List ℕ) → NotMemory (field_cause
 field_other general name body = by (is_same_name name package_name) (is_same_name name pin_name) (is_same_name name priority_name)
   where
     by : (a b c : Bool) → NotMemory (cond b (pin_cause general (words_of body)) (cond a (package_cause (words_of body)) (cond c (priority_cause body) None)))
-    by x1 x2 x3 = grind (arith, package_other, asked_other, priority_other)
+    by a b c = grind (arith, package_other, asked_other, priority_other)
 
 pub never_memory : (general : Bool) (name body : List ℕ) (line : ℕ) (cause : Cause) → Some cause ≡ field_cause general name body → IsMemoryAtZero (record { line = line; cause = cause })
 never_memory general name body line cause e m = absurd (field_other general name body (sym e ∙ ap (λ (c : Cause). Some c) m))

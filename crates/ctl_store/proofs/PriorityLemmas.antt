@@ -22,7 +22,7 @@ above : (g m : ℕ) → g < m → nat_le m g ≡ false
 above g m h = grind (arith, nat_tests)
 
 and_false : (a b : Bool) → (a && (b && false)) ≡ false
-and_false x1 x2 = grind arith
+and_false a b = grind arith
 
 pub too_great : (greatest n : ℕ) (digits : List ℕ) → greatest < n → number_behind greatest n digits ≡ None
 too_great greatest n digits h = grind (arith, above, grows, and_false)

@@ -108,7 +108,7 @@ module _ {L : Type 0} (R : L → L → Ordering) (total : IsTotalOrder R) {T : T
   order-found rows q y e = by (lookup (λ k. nat_eq k y.0) rows) (sym (lookup-labels y.0 rows) ∙ e)
     where
       by : (o : Option T) → option_map (λ (x : T). label (y.0, x)) o ≡ Some y.1 → option_map_or (λ (x : T). R (label (y.0, x)) q) o Less ≡ R y.1 q
-      by x1 e = grind arith
+      by o e = grind arith
 
   module _ (rows : List (ℕ × T)) (next : ℕ) (rises : Rises 0 rows next) where
     order-sorted : (q : L) (k : ℕ) (y : ℕ × L) → slice_get (sorted_in R (labelled label rows)) k ≡ Some y → order_in R label rows q y.0 ≡ R y.1 q
@@ -166,7 +166,7 @@ module _ {L : Type 0} (R : L → L → Ordering) (total : IsTotalOrder R) {T : T
       by (Some y) e = test (is_eq (R y.1 q)) refl
         where
           test : (b : Bool) → is_eq (R y.1 q) ≡ b → place (λ (x : ℕ × L). is_eq (R x.1 q)) (labelled label rows) ≡ cond (is_eq (order_in R label rows q y.0)) (place (has_serial y.0) rows) None
-          test x1 k = grind (arith, place-find, q, Rises-labels, found, if_at, k, serial-labels, order-sorted, ids, place-find_none)
+          test b k = grind (arith, place-find, q, Rises-labels, found, if_at, k, serial-labels, order-sorted, ids, place-find_none)
 
   pub found_here : (rows : List (ℕ × T)) (next : ℕ) (order : List ℕ) → IsRankedBy R label rows next order → (q : L) (at : ℕ)
       → at ≡ below_in R q (sorted_in R (labelled label rows)) → at < length order

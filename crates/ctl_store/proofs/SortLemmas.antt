@@ -179,4 +179,4 @@ id_at_stanza n (x ∷ xs) (suc k) = id_at_stanza (suc n) xs k
 
 -- what a test of each place and the next one says
 pub in_order : (lt : ℕ → ℕ → Bool) (xs : List ℕ) (r : Bool) → IsAllAdjacentAnswer (λ x y b. b ≡ not (lt y x)) xs r → OnTrue r (IsSortedBy lt xs)
-in_order lt xs x3 h = grind arith
+in_order lt xs r h = grind arith

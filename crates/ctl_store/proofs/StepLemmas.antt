@@ -14,15 +14,11 @@ use Rattle.ctl_store.specs.Edits.{Edit, AddList, DropList, Put, Remove, Mark, Un
 use Rattle.ctl_store.specs.Step.{place, put_stanza, remove_stanza, with_stanzas}
 use Rattle.ctl_store.specs.Rows.{by_name_and_version, rows_from, replace_at, put_row_at, remove_row_at}
 use Rattle.ctl_store.specs.Keys.{KeyedList, Keyed, stanzas_of, stanza_list, stanza_lists, list_of_stanzas, put_keyed, remove_keyed, keyed_after, key_of, keys_of, key_at, found_key, put_key, key_is, IsNotAmong, in_rows, stanza_at, removed_of, added_of}
-use Rattle.ctl_store.proofs.PlaceLemmas.{if_cases}
+use Rattle.ctl_store.proofs.PlaceLemmas.{if_cases, or_none}
 use Rattle.ctl_store.proofs.ListedLemmas.{place_stanzas}
 
 other : (a b : Bool) → a ≡ true → (a && b) ≡ false → b ≡ false
-other x1 b e h = grind arith
-
-or_none : {X : Type 0} (o : Option X) → option_or o None ≡ o
-or_none None = refl
-or_none (Some x) = refl
+other a b e h = grind arith
 
 nothing : {X : Type 0} (b : Bool) → cond {A = Option X} b None None ≡ None
 nothing true = refl

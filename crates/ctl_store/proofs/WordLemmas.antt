@@ -18,14 +18,14 @@ word_at-run [] = refl
 word_at-run (b ∷ text) = by (is_whitespace b) (word_at-run text)
   where
     by : (w : Bool) → take (prefix_len is_word_byte text) text ≡ word_at text → take (cond (not w) (1 + prefix_len is_word_byte text) 0) (b ∷ text) ≡ cond w [] (b ∷ word_at text)
-    by x1 e = grind arith
+    by w e = grind arith
 
 behind_at-rest : (text : List ℕ) → drop (prefix_len is_word_byte text) text ≡ behind_at text
 behind_at-rest [] = refl
 behind_at-rest (b ∷ text) = by (is_whitespace b) (behind_at-rest text)
   where
     by : (w : Bool) → drop (prefix_len is_word_byte text) text ≡ behind_at text → drop (cond (not w) (1 + prefix_len is_word_byte text) 0) (b ∷ text) ≡ cond w (b ∷ text) (behind_at text)
-    by x1 e = grind arith
+    by w e = grind arith
 
 onto_words : (b : ℕ) (text : List ℕ) → onto_word b text (words_of text) ≡ (b ∷ word_at text) ∷ words_of (behind_at text)
 onto_words b [] = refl

@@ -30,16 +30,16 @@ priority-no-package name is = same-respects name priority_name package_name is
 -- ---- what a pin asks for
 
 version-asks : (words : List (List ℕ)) (version : List ℕ) → version_asked words ≡ Some version → words ≡ codes "version" ∷ version ∷ []
-version-asks x1 version e = grind (arith, cond-true, bytes_eq-Decides, cond-false, cases_Bool)
+version-asks words version e = grind (arith, cond-true, bytes_eq-Decides, cond-false, cases_Bool)
 
 asked-version : (words : List (List ℕ)) (version : List ℕ) → words ≡ codes "version" ∷ version ∷ [] → version_asked words ≡ Some version
 asked-version words version e = ap version_asked e
 
 starts-list : (release : List ℕ) → starts_with nat_eq release (codes "a=") ≡ true → release ≡ codes "a=" ++ drop 2 release
-starts-list x1 e = grind arith
+starts-list release e = grind arith
 
 list-asks : (words : List (List ℕ)) (list : List ℕ) → list_asked words ≡ Some list → words ≡ codes "release" ∷ (codes "a=" ++ list) ∷ []
-list-asks x1 list e = grind (arith, bytes_eq-Decides, starts-list)
+list-asks words list e = grind (arith, bytes_eq-Decides, starts-list)
 
 asked-list : (words : List (List ℕ)) (list : List ℕ) → words ≡ codes "release" ∷ (codes "a=" ++ list) ∷ [] → list_asked words ≡ Some list
 asked-list words list e = ap list_asked e
@@ -94,7 +94,7 @@ wrong-sound general name body cause e = by (is_same_name name pin_name) (is_same
   where
     by : (p q r : Bool) → is_same_name name pin_name ≡ p → is_same_name name package_name ≡ q → is_same_name name priority_name ≡ r
         → cond p (pin_cause general (words_of body)) (cond q (package_cause (words_of body)) (cond r (priority_cause body) None)) ≡ Some cause → IsWrongField general name body cause
-    by x1 x2 x3 is_pin x y e = grind (arith, asked-sound, package-sound, priority-sound)
+    by p q r is_pin x y e = grind (arith, asked-sound, package-sound, priority-sound)
 
 -- ---- of what is wrong the lowest is told
 
