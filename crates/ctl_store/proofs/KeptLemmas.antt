@@ -1,5 +1,5 @@
 -- The keys that go and come as a stanza is put: at most one goes, and it comes again.
-use Rattle.std.proofs.Common.{◌≡◌, ℕ, ◌<◌, ◌-◌, zero, suc, Bool, cond, List, [], ◌∷◌, length, map, take, drop, Option, None, Some, is_some, refl, ap, ◌∙◌, arith}
+use Rattle.std.proofs.Common.{◌≡◌, ℕ, ◌<◌, ◌-◌, zero, suc, Bool, cond, List, [], ◌∷◌, length, map, take, drop, Option, None, Some, is_some, refl, ap, arith}
 use Rattle.ctl_stanza.specs.Content.{Content, package_of, version_of}
 use Rattle.ctl_store.specs.declared.stanza_key.StanzaKey.{StanzaKey}
 use Rattle.ctl_store.specs.Step.{has_stanza}

@@ -1,5 +1,5 @@
 -- Labels that tie are one, and how rows are looked up.
-use Rattle.std.proofs.Common.{◌≡◌, ℕ, true, nat_eq, List, sym, ◌∙◌, arith}
+use Rattle.std.proofs.Common.{◌≡◌, ℕ, true, nat_eq, List, sym, arith}
 use Rattle.std.specs.Map.{lookup}
 use Rattle.std.specs.Ordering.{nat_cmp, is_eq}
 use Rattle.std.proofs.lemmas.Bool.Decides.{nat_tests}

@@ -1,5 +1,5 @@
 -- Changes of one list among the lists, and the order of serials through them.
-use Rattle.std.proofs.Common.{◌≡◌, ℕ, ◌+◌, ◌≤◌, suc, Bool, false, cond, ◌||◌, List, [], ◌∷◌, ◌++◌, Option, None, Some, is_some, option_map, map, refl, ap, sym, ◌∙◌, IfSome, OnOk, Result, Ok, Err, arith}
+use Rattle.std.proofs.Common.{◌≡◌, ℕ, ◌+◌, ◌≤◌, suc, Bool, false, cond, List, [], ◌∷◌, ◌++◌, Option, None, Some, is_some, option_map, map, refl, ap, sym, ◌∙◌, IfSome, OnOk, Result, Ok, Err, arith}
 use Rattle.std.specs.Str.{bytes_eq}
 use Rattle.ctl_stanza.specs.Content.{Content}
 use Rattle.ctl_store.specs.State.{shown_lists}

@@ -1,5 +1,5 @@
 -- Lists under their own serials, of which one is changed, comes or goes.
-use Rattle.std.proofs.Common.{◌≡◌, ℕ, Bool, nat_eq, List, [], ◌∷◌, ◌++◌, Some, arith, refl, ◌∙◌}
+use Rattle.std.proofs.Common.{◌≡◌, ℕ, Bool, nat_eq, List, [], ◌∷◌, ◌++◌, Some, arith, refl}
 use Rattle.std.specs.Map.{lookup}
 use Rattle.ctl_ordered.specs.Ordered.{without_serials, set_row, cut_row}
 use Rattle.ctl_store.specs.Held.{Sheet, entry_of, AreNumbered}

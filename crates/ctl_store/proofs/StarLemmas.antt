@@ -1,5 +1,5 @@
 -- What stands before the star that ends a text.
-use Rattle.std.proofs.Common.{◌≡◌, ℕ, cond, List, [], ◌∷◌, ◌++◌, None, Some, refl, ◌∙◌, nat_eq, arith}
+use Rattle.std.proofs.Common.{◌≡◌, ℕ, cond, List, [], ◌∷◌, ◌++◌, None, Some, refl, nat_eq, arith}
 use Rattle.ctl_store.specs.PinVersions.{star, before_star}
 
 -- the last byte decides
