@@ -25,7 +25,7 @@ use Rattle.ctl_policy.proofs.TouchLemmas.{or_right}
 
 -- ---- a key stands in one list alone
 
-found_behind : (k : StanzaKey) (es fs : List Entry) → is_some (find_in k fs) ≡ true → has_key k (entry_keys (es ++ fs)) ≡ true
+pub found_behind : (k : StanzaKey) (es fs : List Entry) → is_some (find_in k fs) ≡ true → has_key k (entry_keys (es ++ fs)) ≡ true
 found_behind k [] [] h = absurd (false≢true h)
 found_behind k [] (f ∷ fs) h = by (key_is k f.0) h (found_behind k [] fs)
   where
@@ -48,7 +48,7 @@ found_in_list k l = find_in-rows k l.serial l.rows (nat_eq l.serial k.list) refl
 twice : (k : StanzaKey) (l : List ℕ × KeyedList) (ls : Lists) → AreRising (all_keys (l ∷ ls)) → is_some (in_rows k l.1) ≡ true → is_some (stanza_at k ls) ≡ true → ⊥
 twice k l ls r h g = apart k (entries_in l.1) (entries_of ls) (subst AreRising (sym (keys_are (l ∷ ls))) r) (ap is_some (found_in_list k l.1) ∙ h) (ap is_some (find_placed k ls) ∙ g)
 
-behind_rises : (xs ys : List StanzaKey) → AreRising (xs ++ ys) → AreRising ys
+pub behind_rises : (xs ys : List StanzaKey) → AreRising (xs ++ ys) → AreRising ys
 behind_rises [] ys r = r
 behind_rises (x ∷ xs) ys r = behind_rises xs ys r.1
 
@@ -164,7 +164,7 @@ module _ (k : StanzaKey) where
       by false is true h rest = absurd (false≢true (sym is ∙ same_bytes l.0 name (ap (λ o. unwrap_or o name) h)))
       by false is false h rest = rest h
 
-  not_holder : (name : List ℕ) (ls : Lists) → AllByRecursion (λ y. bytes_eq name y ≡ false) (names_of ls) → holder_of k ls ≡ Some name → ⊥
+  pub not_holder : (name : List ℕ) (ls : Lists) → AllByRecursion (λ y. bytes_eq name y ≡ false) (names_of ls) → holder_of k ls ≡ Some name → ⊥
   not_holder name [] a h = cc
   not_holder name (l ∷ ls) a h = by (is_some (in_rows k l.1)) h (not_holder name ls a.1)
     where
@@ -172,7 +172,7 @@ module _ (k : StanzaKey) where
       by true h rest = false≢true (sym a.0 ∙ same_bytes l.0 name (ap (λ o. unwrap_or o name) h))
       by false h rest = rest h
 
-  key_in_list : (l : KeyedList) → is_some (in_rows k l) ≡ true → has_key k (keys_of l) ≡ true
+  pub key_in_list : (l : KeyedList) → is_some (in_rows k l) ≡ true → has_key k (keys_of l) ≡ true
   key_in_list l h = ap (has_key k) (sym (placed_rows l.serial l.rows)) ∙ found_behind k [] (entries_in l) (ap is_some (found_in_list k l) ∙ h)
 
 pub held_in_list : (k : StanzaKey) (list : List ℕ) (ls : Lists) → IsDistinct bytes_eq (names_of ls) → holder_of k ls ≡ Some list → has_key k (all_in list ls) ≡ true

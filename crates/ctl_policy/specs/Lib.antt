@@ -13,3 +13,4 @@ pub mod HeldRows
 pub mod HeldWalk
 pub mod HeldRead
 pub mod HeldIter
+pub mod HeldSpan

@@ -1,17 +1,19 @@
 //! The candidate among the rows of a name.
 
-ghost use Rattle.std.specs.Prelude.{◌≡◌, ◌∷◌, [], None, Some, option_copied};
+ghost use Rattle.std.specs.Prelude.{◌≡◌, ◌∷◌, [], None, Some, IfSome, option_copied};
 ghost use Rattle.ctl_relation.specs.Version.{triple_of};
 ghost use Rattle.ctl_store.specs.Keys.{AreHeld};
 ghost use Rattle.ctl_store.specs.Held.{keyed_of};
 ghost use Rattle.ctl_policy.specs.Priority.{world_of};
 ghost use Rattle.ctl_policy.specs.Candidate.{best_named, better, is_upgrade, may_be_taken};
 ghost use Rattle.ctl_policy.specs.HeldRows.{IsOrderedForm, form_shown, rows_of_map};
+ghost use Rattle.ctl_policy.specs.HeldSpan.{IsSpan};
 ghost use Rattle.ctl_policy.specs.HeldWalk.{AreHeldIn, IsHeldForm, considered, considered_alone, triple_if_any};
 
 use crate::by_version::ByVersion;
 use crate::form::Form;
 use crate::priority::{is_pinned, priority_where, row_priority};
+use crate::span::{Span, span_of};
 use ctl_relation::Version;
 use ctl_store::{StanzaKey, Store};
 use std::slice;
@@ -65,6 +67,17 @@ fn considered(
     }
 }
 
+// The span of the first stanza of the newest row. Versions mostly come in their order, and so the keys of the other rows mostly
+// stand between that one and the first.
+fn last_span<'a>(store: &'a Store, rows: &ByVersion) -> Option<Span<'a>>
+    requires { AreHeldIn (keyed_of store.now).lists rows.now.entries }
+    ensures { IfSome result (λ span. IsSpan span (world_of store.now)) }
+{
+    let (_, keys) = rows.last_key_value()?;
+    let key = keys.first()?;
+    Some(span_of(store, *key))
+}
+
 // The row to be taken of a map of rows of a name, where this version is installed.
 #[tactic(auto, using(crate::proofs::ChosenLemmas::best_carried))]
 fn best_in_map(
@@ -77,10 +90,11 @@ fn best_in_map(
     ensures { result ≡ best_named name.now (world_of store.now) (triple_if_any (option_copied installed.entry)) (rows_of_map rows.now) }
 {
     let pinned = is_pinned(store, name);
+    let mut known = last_span(store, rows);
     let mut choice = None;
     let mut left = rows.iter();
     'rows: while let Some((version, keys)) = left.next() {
-        let priority = priority_where(store, name, keys, pinned);
+        let priority = priority_where(store, name, keys, pinned, &mut known);
         choice = considered(priority, version, keys.first().copied(), installed, choice);
     }
     choice

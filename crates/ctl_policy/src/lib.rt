@@ -15,6 +15,7 @@ mod newest;
 mod places;
 mod priority;
 mod rows;
+mod span;
 mod status;
 mod touching;
 mod walk;

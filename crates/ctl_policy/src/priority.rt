@@ -1,18 +1,19 @@
 //! The priority of a list and of a row (apt_preferences(5)).
 
-ghost use Rattle.std.specs.Prelude.{◌≡◌, ℕ, List, false, None, Some, option_copied};
+ghost use Rattle.std.specs.Prelude.{◌≡◌, ℕ, List, false, None, Some, IfSome, option_copied};
 ghost use Rattle.std.specs.Bool.{OnFalse};
 ghost use Rattle.std.specs.Int.{int_max};
 ghost use Rattle.ctl_store.specs.declared.stanza_key.StanzaKey.{StanzaKey};
-ghost use Rattle.ctl_store.specs.Keys.{AreHeld, stanza_at, holder_of};
+ghost use Rattle.ctl_store.specs.Keys.{AreHeld};
 ghost use Rattle.ctl_store.specs.Held.{keyed_of};
-ghost use Rattle.std.specs.Prelude.{IsSome};
 ghost use Rattle.ctl_store.specs.Pins.{general_pin};
 ghost use Rattle.ctl_policy.specs.Rows.{lead_of, version_under, is_source};
+ghost use Rattle.ctl_policy.specs.HeldSpan.{IsSpan};
 ghost use Rattle.ctl_policy.specs.Laws.{world_with};
 ghost use Rattle.ctl_policy.specs.TouchedNames.{keeps_priority};
-ghost use Rattle.ctl_policy.specs.Priority.{MatchesNoRow, PinsNoRow, Settings, world_of, own_priority, is_target, list_priority, priority_found, matches_text, matches_row, specific_pin, greatest, greatest_with, source_priorities, row_priority};
+ghost use Rattle.ctl_policy.specs.Priority.{MatchesNoRow, PinsNoRow, Settings, world_of, own_priority, is_target, list_priority, matches_text, matches_row, specific_pin, greatest, greatest_with, source_priorities, row_priority};
 
+use crate::span::{Span, source_priority};
 use ctl_relation::Version;
 use ctl_stanza::ListKind;
 use ctl_store::{ListClass, PackagePins, PinSettings, PinVersion, Selector, StanzaKey, Store};
@@ -72,17 +73,6 @@ pub(crate) fn keeps_priority(store: &Store, settings: &PinSettings, list: &[u8])
     list_priority(store, list) == then
 }
 
-// The priority of the list that holds a stanza.
-fn source_priority(store: &Store, key: StanzaKey) -> i16
-    requires { IsSome (stanza_at key (keyed_of store.now).lists) }
-    ensures { result ≡ priority_found (world_of store.now) (holder_of key (keyed_of store.now).lists) }
-{
-    match list_priority(store, store.list_of(key)) {
-        Some(priority) => priority,
-        None => 0,
-    }
-}
-
 fn larger(one: i16, other: i16) -> i16
     ensures { result ≡ int_max one other }
 {
@@ -90,25 +80,37 @@ fn larger(one: i16, other: i16) -> i16
 }
 
 // The greatest priority of the lists that hold these stanzas, beside one priority.
-fn greatest_with(store: &Store, priority: i16, keys: &[StanzaKey]) -> i16
-    requires { AreHeld keys.now (keyed_of store.now).lists }
-    ensures { result ≡ greatest_with priority (source_priorities (world_of store.now) keys.now) }
+fn greatest_with<'a>(
+    store: &'a Store,
+    known: &mut Option<Span<'a>>,
+    priority: i16,
+    keys: &[StanzaKey],
+) -> i16
+    requires held { AreHeld keys.now (keyed_of store.now).lists }
+    requires known { IfSome known.old (λ span. IsSpan span (world_of store.now)) }
+    ensures greatest { result ≡ greatest_with priority (source_priorities (world_of store.now) keys.now) }
+    ensures known { IfSome known.new (λ span. IsSpan span (world_of store.now)) }
 {
     let mut greatest = priority;
     let mut left = keys;
     'keys: while let Some((key, rest)) = left.split_first() {
-        greatest = larger(greatest, source_priority(store, *key));
+        greatest = larger(greatest, source_priority(store, known, *key));
         left = rest;
     }
     greatest
 }
 
-fn greatest(store: &Store, keys: &[StanzaKey]) -> i16
-    requires { AreHeld keys.now (keyed_of store.now).lists }
-    ensures { result ≡ greatest (source_priorities (world_of store.now) keys.now) }
+fn greatest<'a>(store: &'a Store, known: &mut Option<Span<'a>>, keys: &[StanzaKey]) -> i16
+    requires held { AreHeld keys.now (keyed_of store.now).lists }
+    requires known { IfSome known.old (λ span. IsSpan span (world_of store.now)) }
+    ensures greatest { result ≡ greatest (source_priorities (world_of store.now) keys.now) }
+    ensures known { IfSome known.new (λ span. IsSpan span (world_of store.now)) }
 {
     match keys.split_first() {
-        Some((key, rest)) => greatest_with(store, source_priority(store, *key), rest),
+        Some((key, rest)) => {
+            let priority = source_priority(store, known, *key);
+            greatest_with(store, known, priority, rest)
+        }
         None => 0,
     }
 }
@@ -238,16 +240,28 @@ fn may_match_any(store: &Store, pins: PackagePins<'_>) -> bool
     false
 }
 
-/// The priority of a row of a name, where it is told whether a specific pin of the name may match one.
-pub(crate) fn priority_where(store: &Store, name: &[u8], keys: &[StanzaKey], pinned: bool) -> i16
+/// The priority of a row of a name, where it is told whether a specific pin of the name may match one, and a span may be known.
+pub(crate) fn priority_where<'a>(
+    store: &'a Store,
+    name: &[u8],
+    keys: &[StanzaKey],
+    pinned: bool,
+    known: &mut Option<Span<'a>>,
+) -> i16
     requires held { AreHeld keys.now (keyed_of store.now).lists }
     requires none { pinned ≡ false → specific_pin name.now (keyed_of store.now).lists keys.now (world_of store.now).pins ≡ None }
-    ensures { result ≡ row_priority name.now (world_of store.now) keys.now }
+    requires known { IfSome known.old (λ span. IsSpan span (world_of store.now)) }
+    ensures priority { result ≡ row_priority name.now (world_of store.now) keys.now }
+    ensures known { IfSome known.new (λ span. IsSpan span (world_of store.now)) }
 {
-    if pinned {
-        row_priority(store, name, keys)
+    let pin = if pinned {
+        specific_pin(store, name, keys)
     } else {
-        greatest(store, keys)
+        None
+    };
+    match pin {
+        Some(priority) => priority,
+        None => greatest(store, known, keys),
     }
 }
 
@@ -257,8 +271,6 @@ pub fn row_priority(store: &Store, name: &[u8], keys: &[StanzaKey]) -> i16
     requires { AreHeld keys.now (keyed_of store.now).lists }
     ensures { result ≡ row_priority name.now (world_of store.now) keys.now }
 {
-    match specific_pin(store, name, keys) {
-        Some(priority) => priority,
-        None => greatest(store, keys),
-    }
+    let mut known = None;
+    priority_where(store, name, keys, true, &mut known)
 }
