@@ -36,19 +36,27 @@ fn priority_of(store: &Store, list: &[u8]) -> i16
     }
 }
 
-/// The span of one stanza.
-pub(crate) fn span_of<'a>(store: &'a Store, key: StanzaKey) -> Span<'a>
-    requires { IsSome (stanza_at key (keyed_of store.now).lists) }
+// The span of one stanza, of a list that is told.
+fn span_in<'a>(store: &Store, list: &'a [u8], key: StanzaKey) -> Span<'a>
+    requires { holder_of key (keyed_of store.now).lists ≡ Some list.now }
     ensures span { IsSpan result (world_of store.now) }
-    ensures list { Some result.list.now ≡ holder_of key (keyed_of store.now).lists }
+    ensures list { result.list.now ≡ list.now }
 {
-    let list = store.list_of(key);
     Span {
         list,
         first: key,
         last: key,
         priority: priority_of(store, list),
     }
+}
+
+/// The span of one stanza.
+pub(crate) fn span_of<'a>(store: &'a Store, key: StanzaKey) -> Span<'a>
+    requires { IsSome (stanza_at key (keyed_of store.now).lists) }
+    ensures span { IsSpan result (world_of store.now) }
+    ensures list { Some result.list.now ≡ holder_of key (keyed_of store.now).lists }
+{
+    span_in(store, store.list_of(key), key)
 }
 
 // A span of the same list that holds a key of it, too.
@@ -73,7 +81,7 @@ fn span_with<'a>(store: &'a Store, known: Span<'a>, key: StanzaKey) -> Span<'a>
     if list == known.list {
         widened(known, key)
     } else {
-        span_of(store, key)
+        span_in(store, list, key)
     }
 }
 

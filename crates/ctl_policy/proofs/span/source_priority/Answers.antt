@@ -1,4 +1,4 @@
-use Rattle.std.proofs.Common.{IfSome, List, ℕ, sym, subst, arith}
+use Rattle.std.proofs.Common.{IfSome, sym, subst, arith}
 use Rattle.std.specs.Str.{bytes_eq}
 use Rattle.std.specs.List.{IsDistinct}
 use Rattle.std.proofs.lemmas.Int.{to_z-of_z}
