@@ -78,7 +78,8 @@ fn span_with<'a>(store: &'a Store, known: Span<'a>, key: StanzaKey) -> Span<'a>
     ensures list { Some result.list.now ≡ holder_of key (keyed_of store.now).lists }
 {
     let list = store.list_of(key);
-    if list == known.list {
+    // Serials tell most lists apart sooner than names do.
+    if key.list == known.first.list && list == known.list {
         widened(known, key)
     } else {
         span_in(store, list, key)
