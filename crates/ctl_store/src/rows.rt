@@ -86,15 +86,47 @@ fn ends_before(rows: &[Row], serial: u64) -> bool
     }
 }
 
-// Where the piece of a serial most likely stands. It stands elsewhere once a piece behind the first has gone, or a row was
-// taken out of the last piece, which later serials then fill.
-fn likely_piece(rows: &[Vec<Row>], serial: u64) -> usize {
-    let first = rows
-        .first()
-        .and_then(|rows| rows.first())
-        .map_or(0, |row| row.serial());
+// The serials of the first and of the last row of a piece, which isn't empty.
+fn ends_of(rows: &[Row]) -> (u64, u64) {
+    let first = rows.first().map_or(0, |row| row.serial());
+    let last = rows.last().map_or(0, |row| row.serial());
+    (first, last)
+}
+
+// Whether a serial stands between the ends of a piece.
+fn spans(rows: &[Vec<Row>], piece: usize, serial: u64) -> bool {
+    match rows.get(piece) {
+        Some(rows) => {
+            let (first, last) = ends_of(rows);
+            first <= serial && serial <= last
+        }
+        None => false,
+    }
+}
+
+// Where the piece of a serial stands where the pieces up to it are as a list that came whole filled them.
+fn piece_from_first(rows: &[Vec<Row>], serial: u64) -> usize {
+    let (first, _) = rows.first().map_or((0, 0), |rows| ends_of(rows));
     let most = MOST as u64;
     (serial / most).saturating_sub(first / most) as usize
+}
+
+// Where it stands where all pieces behind it but the last are full: those of a list that grew have small ones before them.
+fn piece_from_last(rows: &[Vec<Row>], serial: u64) -> usize {
+    let (first, _) = rows.last().map_or((0, 0), |rows| ends_of(rows));
+    let back = first.saturating_sub(serial).div_ceil(MOST as u64) as usize;
+    rows.len().saturating_sub(1).saturating_sub(back)
+}
+
+// Where the piece of a serial most likely stands. It stands elsewhere once a piece has gone, or a row was taken out of the last
+// piece, which later serials then fill.
+fn likely_piece(rows: &[Vec<Row>], serial: u64) -> usize {
+    let piece = piece_from_first(rows, serial);
+    if spans(rows, piece, serial) {
+        piece
+    } else {
+        piece_from_last(rows, serial)
+    }
 }
 
 // Where the pieces end whose last serials are below a serial.
@@ -169,18 +201,24 @@ fn near_place(rows: &[Row], place: usize, serial: u64) -> usize {
     at
 }
 
-// Where the row of a serial most likely stands. Most pieces are as they were filled, with a row under each serial from a
-// multiple of their size on: there it is one look. Where rows have gone from the piece, they are taken to have gone evenly.
+// Where the row of a serial stands in a piece whose serials rise evenly: where none has gone, that is just there.
+fn even_place(rows: &[Row], serial: u64) -> usize {
+    let (first, last) = ends_of(rows);
+    let more = rows.len().saturating_sub(1) as u64;
+    let steps = last.saturating_sub(first).max(1);
+    (serial.saturating_sub(first).saturating_mul(more) / steps) as usize
+}
+
+// Where the row of a serial most likely stands. A piece that can't have it isn't gone through.
 fn likely_spot(rows: &[Vec<Row>], serial: u64) -> Spot {
     let piece = likely_piece(rows, serial);
-    let at = (serial % MOST as u64) as usize;
-    match rows.get(piece) {
-        Some(rows) if rows.get(at).map_or(0, |row| row.serial()) != serial => Spot {
-            piece,
-            at: near_place(rows, at * rows.len().min(MOST) / MOST, serial),
-        },
-        _ => Spot { piece, at },
-    }
+    let at = match rows.get(piece) {
+        Some(there) if spans(rows, piece, serial) => {
+            near_place(there, even_place(there, serial), serial)
+        }
+        _ => 0,
+    };
+    Spot { piece, at }
 }
 
 /// The spot of the row of a serial. The likely spot is looked at before all pieces are searched.
