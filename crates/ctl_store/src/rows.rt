@@ -201,7 +201,7 @@ fn near_place(rows: &[Row], place: usize, serial: u64) -> usize {
     at
 }
 
-// Where the row of a serial stands in a piece whose serials rise evenly: where none has gone, that is just there.
+// Where the row of a serial stands in a piece whose serials rise evenly.
 fn even_place(rows: &[Row], serial: u64) -> usize {
     let (first, last) = ends_of(rows);
     let more = rows.len().saturating_sub(1) as u64;
@@ -209,13 +209,21 @@ fn even_place(rows: &[Row], serial: u64) -> usize {
     (serial.saturating_sub(first).saturating_mul(more) / steps) as usize
 }
 
+// Where the row of a serial stands in a piece that may have it. Where no row has gone, that is one look.
+fn place_in(rows: &[Row], serial: u64) -> usize {
+    let (first, _) = ends_of(rows);
+    let at = serial.saturating_sub(first) as usize;
+    match rows.get(at) {
+        Some(row) if row.serial() == serial => at,
+        _ => near_place(rows, even_place(rows, serial), serial),
+    }
+}
+
 // Where the row of a serial most likely stands. A piece that can't have it isn't gone through.
 fn likely_spot(rows: &[Vec<Row>], serial: u64) -> Spot {
     let piece = likely_piece(rows, serial);
     let at = match rows.get(piece) {
-        Some(there) if spans(rows, piece, serial) => {
-            near_place(there, even_place(there, serial), serial)
-        }
+        Some(there) if spans(rows, piece, serial) => place_in(there, serial),
         _ => 0,
     };
     Spot { piece, at }
