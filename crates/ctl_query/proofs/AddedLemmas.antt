@@ -1,5 +1,5 @@
 -- Lists that are added one after another, and numbers that are 0.
-use Rattle.std.proofs.Common.{◌≡◌, ◌∙◌, ℕ, suc, ◌+◌, true, nat_eq, List, [], ◌∷◌, ◌++◌, fold, refl, sym, ap, arith, append-nil, append_assoc}
+use Rattle.std.proofs.Common.{◌≡◌, ◌∙◌, ℕ, suc, ◌+◌, true, nat_eq, List, [], ◌∷◌, ◌++◌, fold, sym, ap, arith, append-nil, append_assoc}
 use Rattle.std.proofs.lemmas.Bool.Decides.{nat_tests}
 use Rattle.ctl_store.specs.Keys.{Keyed, list_of_stanzas}
 use Rattle.ctl_store.specs.State.{StanzaList}

@@ -24,7 +24,7 @@ use Rattle.ctl_query.specs.LeadTable.{lent_leads, place_under, numbered_from, Ar
 
 -- ---- two keys
 
-keys_total : IsTotalOrder key_cmp
+pub keys_total : IsTotalOrder key_cmp
 keys_total = then_total (on_total (λ (k : StanzaKey). k.list) nat_cmp_total) (on_total (λ (k : StanzaKey). k.stanza) nat_cmp_total)
 
 and_then : (o p : Ordering) → ordering_then o p ≡ Equal → (o ≡ Equal) × (p ≡ Equal)

@@ -30,6 +30,8 @@ pub mod RepeatLemmas
 pub mod RisingLemmas
 pub mod RowLemmas
 pub mod RowOfferLemmas
+pub mod RowSourceLemmas
+pub mod RowRisingLemmas
 pub mod SilentLemmas
 pub mod SourceLemmas
 pub mod TwinLemmas

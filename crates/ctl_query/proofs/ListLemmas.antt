@@ -1,5 +1,5 @@
 -- The lists of a store, as they are shown.
-use Rattle.std.proofs.Common.{◌≡◌, ◌∙◌, ℕ, Bool, true, false, cond, List, [], ◌∷◌, ◌++◌, map, filter, flat_map, refl, sym, ap}
+use Rattle.std.proofs.Common.{◌≡◌, ℕ, Bool, true, false, cond, List, [], ◌∷◌, ◌++◌, map, filter, flat_map, refl, ap}
 use Rattle.std.specs.Map.{keys_of as names_of}
 use Rattle.ctl_store.specs.State.{shown_lists}
 use Rattle.ctl_store.specs.declared.stanza_key.StanzaKey.{StanzaKey}

@@ -1,6 +1,6 @@
 -- The atoms of leads that name a name: by them it is told of each lead which of its atoms do.
-use Rattle.std.proofs.Common.{◌≡◌, ◌∙◌, ℕ, zero, suc, ◌+◌, ◌<◌, ◌≤◌, Bool, true, false, cond, not, nat_lt, List, [], ◌∷◌, ◌++◌, length, map, slice_get, flat_map, Option, None, Some, refl, sym, ap, option_map, arith}
-use Rattle.std.specs.List.{AllByRecursion, list_any}
+use Rattle.std.proofs.Common.{◌≡◌, ◌∙◌, ℕ, zero, suc, ◌+◌, Bool, true, false, cond, not, nat_lt, List, [], ◌∷◌, ◌++◌, length, map, slice_get, flat_map, Option, None, Some, refl, sym, ap, option_map, arith}
+use Rattle.std.specs.List.{list_any}
 use Rattle.std.specs.List.Sorted.{IsStrictlySortedBy}
 use Rattle.std.specs.Option.{option_map_or, option_and_then, option_to_list, is_some}
 use Rattle.std.specs.Ordering.{is_eq}
@@ -15,10 +15,10 @@ use Rattle.ctl_store.specs.Entries.{Entry}
 use Rattle.ctl_store.specs.Held.{Held}
 use Rattle.ctl_index.specs.declared.keys.AtomKey.{AtomKey}
 use Rattle.ctl_index.specs.Held.{standing}
-use Rattle.ctl_index.specs.Names.{naming_fields, keyed_group, keyed_groups, keyed_atoms, namers_named}
+use Rattle.ctl_index.specs.Names.{naming_fields, keyed_group, keyed_groups, namers_named}
 use Rattle.ctl_policy.specs.Priority.{world_of}
 use Rattle.ctl_query.specs.declared.lead_atoms.LeadAtom.{LeadAtom}
-use Rattle.ctl_query.specs.Inside.Namings.{Naming, further_if_named, further_in, naming_in, naming_at, namings_at}
+use Rattle.ctl_query.specs.Inside.Namings.{Naming, further_if_named, further_in, naming_in, namings_at}
 use Rattle.ctl_query.specs.Leads.{leads_of, lead_atom_cmp, line_at, is_at}
 use Rattle.ctl_query.specs.Packages.{is_none_of, packages_of, of_rows}
 use Rattle.ctl_query.specs.ReverseDepends.{naming_in_group, naming_in_field, naming_in_lead}

@@ -6,7 +6,7 @@ ghost use Rattle.std.specs.Cmp.Lexicographic.{slice_cmp};
 ghost use Rattle.std.specs.List.Sorted.{IsPermutation, IsStrictlySortedBy};
 ghost use Rattle.std.specs.Ordering.{nat_cmp, is_le};
 ghost use Rattle.ctl_store.specs.Held.{keyed_of};
-ghost use Rattle.ctl_store.specs.Keys.{AreHeld};
+ghost use Rattle.ctl_store.specs.Keys.{AreHeld, AreRising};
 ghost use Rattle.ctl_index.specs.Clauses.{clause_at, number_at, unmet_clauses};
 ghost use Rattle.ctl_index.specs.Held.{standing};
 ghost use Rattle.ctl_index.specs.Names.{is_package, namers_named};
@@ -111,9 +111,13 @@ impl<'a> Asking<'a> {
         ensures known { result.is_known ≡ is_known (world_of self.now) name.now }
         ensures rows { result.rows ≡ rows_of (world_of self.now) name.now }
         ensures held { AllByRecursion (λ row. AreHeld row (keyed_of self.now).lists) result.rows }
+        ensures rising { AllByRecursion AreRising result.rows }
         ensures offering { IsPermutation (offering_named self.now name.now) result.offering }
         ensures namers { IsPermutation (namers_named name.now (standing self.now)) result.namers }
     {
+        rows_are_classes();
+        // That all keys rise is said here.
+        let _counts = self.cache.store().counts();
         self.cache.name_view(name)
     }
 

@@ -22,6 +22,7 @@ mod query_name;
 mod relation_lines;
 mod repeats;
 mod reverse_depends;
+mod row_sources;
 mod show;
 mod show_package;
 mod source_lines;

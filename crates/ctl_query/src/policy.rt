@@ -4,7 +4,7 @@ ghost use Rattle.std.specs.Prelude.{◌≡◌, ◌++◌, OnOk, false, filter, fl
 ghost use Rattle.std.specs.List.{AllByRecursion};
 ghost use Rattle.std.specs.Map.{keys_of as names_of};
 ghost use Rattle.ctl_store.specs.Held.{keyed_of};
-ghost use Rattle.ctl_store.specs.Keys.{AreHeld};
+ghost use Rattle.ctl_store.specs.Keys.{AreHeld, AreRising};
 ghost use Rattle.ctl_policy.specs.Priority.{world_of};
 ghost use Rattle.ctl_query.specs.Policy.{priority_of, row_version, version_or_none, are_of_one_row, row_mark};
 ghost use Rattle.ctl_query.specs.Policy.{row_line, source_line, row_lines, policy_one, list_line, line_if_pinned};
@@ -115,7 +115,8 @@ fn append_row(
     row: &[StanzaKey],
     out: &mut Vec<u8>,
 ) -> Result<(), AllocError>
-    requires { AreHeld row.now (keyed_of sources.now).lists }
+    requires held { AreHeld row.now (keyed_of sources.now).lists }
+    requires rising { AreRising row.now }
     ensures { OnOk result (out.new.items ≡ out.old.items ++ row_lines (world_of sources.now) installed name.now row.now) }
 {
     append_row_line(sources.store(), name, installed, row, out)?;
@@ -131,7 +132,8 @@ pub(crate) fn append_table(
     rows: NewestFirst<'_>,
     out: &mut Vec<u8>,
 ) -> Result<(), AllocError>
-    requires { AllByRecursion (λ row. AreHeld row (keyed_of sources.now).lists) rows }
+    requires held { AllByRecursion (λ row. AreHeld row (keyed_of sources.now).lists) rows }
+    requires rising { AllByRecursion AreRising rows }
     ensures { OnOk result (out.new.items ≡ out.old.items ++ flat_map (row_lines (world_of sources.now) installed name.now) rows.entry) }
 {
     'rows: for row in rows {
@@ -152,6 +154,7 @@ fn append_known(
     requires chosen { chosen ≡ choice_in name.now (world_of sources.now) }
     requires rows { rows ≡ rows_of (world_of sources.now) name.now }
     requires held { AllByRecursion (λ row. AreHeld row (keyed_of sources.now).lists) rows }
+    requires rising { AllByRecursion AreRising rows }
     ensures { OnOk result (out.new.items ≡ out.old.items ++ policy_one (world_of sources.now) name.now) }
 {
     let store = sources.store();

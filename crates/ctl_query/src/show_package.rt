@@ -4,7 +4,7 @@ ghost use Rattle.std.specs.Prelude.{◌≡◌, ◌++◌, ◌∷◌, [], OnOk, If
 ghost use Rattle.std.specs.List.{AllByRecursion};
 ghost use Rattle.std.specs.List.Sorted.{IsPermutation};
 ghost use Rattle.ctl_store.specs.Held.{keyed_of};
-ghost use Rattle.ctl_store.specs.Keys.{AreHeld};
+ghost use Rattle.ctl_store.specs.Keys.{AreHeld, AreRising};
 ghost use Rattle.ctl_index.specs.Held.{standing};
 ghost use Rattle.ctl_index.specs.Names.{namers_named};
 ghost use Rattle.ctl_policy.specs.Priority.{world_of};
@@ -26,10 +26,10 @@ use crate::lead_lines::{
 use crate::lead_table::LeadTable;
 use crate::leads::lead_in;
 use crate::policy::row_version;
-use crate::source_lines::only_source;
+use crate::row_sources::RowSources;
 use crate::text::{append_line, append_parts, append_unknown};
 use ctl_index::{NameView, Namers, Offering};
-use ctl_policy::{NewestFirst, is_source, rows_are_classes};
+use ctl_policy::{NewestFirst, rows_are_classes};
 use ctl_relation::Bytes;
 use ctl_store::{StanzaKey, Store};
 use std::alloc::AllocError;
@@ -38,17 +38,12 @@ use std::alloc::AllocError;
 
 /// Appends the lists that hold a row, which has these stanzas.
 fn append_sources(store: &Store, row: &[StanzaKey], out: &mut Vec<u8>) -> Result<(), AllocError>
-    requires { AreHeld row.now (keyed_of store.now).lists }
+    requires held { AreHeld row.now (keyed_of store.now).lists }
+    requires rising { AreRising row.now }
     ensures { OnOk result (out.new.items ≡ out.old.items ++ flat_map source_mark (sources_of row.now (keyed_of store.now).lists)) }
 {
-    if let Some(list) = only_source(store, row) {
+    'lists: for list in RowSources::new(store, row) {
         append_parts(out, &[b" (", list, b")"])?;
-        return Ok(());
-    }
-    'lists: for list in store.lists() {
-        if is_source(store, list.0, row) {
-            append_parts(out, &[b" (", list.0, b")"])?;
-        }
     }
     Ok(())
 }
@@ -56,7 +51,8 @@ fn append_sources(store: &Store, row: &[StanzaKey], out: &mut Vec<u8>) -> Result
 /// Appends a row with the lists that hold it.
 #[tactic(auto, unfolding(crate::specs::Texts::line))]
 fn append_version(store: &Store, row: &[StanzaKey], out: &mut Vec<u8>) -> Result<(), AllocError>
-    requires { AreHeld row.now (keyed_of store.now).lists }
+    requires held { AreHeld row.now (keyed_of store.now).lists }
+    requires rising { AreRising row.now }
     ensures { OnOk result (out.new.items ≡ out.old.items ++ version_line (world_of store.now) row.now) }
 {
     out.extend_from_slice(row_version(store, row))?;
@@ -70,7 +66,8 @@ fn append_versions(
     rows: NewestFirst<'_>,
     out: &mut Vec<u8>,
 ) -> Result<(), AllocError>
-    requires { AllByRecursion (λ row. AreHeld row (keyed_of asking.now).lists) rows }
+    requires held { AllByRecursion (λ row. AreHeld row (keyed_of asking.now).lists) rows }
+    requires rising { AllByRecursion AreRising rows }
     ensures { OnOk result (out.new.items ≡ out.old.items ++ flat_map (version_line (world_of asking.now)) rows.entry) }
 {
     'rows: for row in rows {
@@ -296,7 +293,8 @@ fn show_versions(
     rows: NewestFirst<'_>,
     out: &mut Vec<u8>,
 ) -> Result<(), AllocError>
-    requires { AllByRecursion (λ row. AreHeld row (keyed_of asking.now).lists) rows }
+    requires held { AllByRecursion (λ row. AreHeld row (keyed_of asking.now).lists) rows }
+    requires rising { AllByRecursion AreRising rows }
     ensures { OnOk result (out.new.items ≡ out.old.items ++ (line (codes "Versions:" ∷ [])
         ++ (flat_map (version_line (world_of asking.now)) rows.entry ++ line []))) }
 {
@@ -376,6 +374,7 @@ fn append_known(
     requires leads { IfSome table (λ table. table.now ≡ leads_of (world_of asking.now)) }
     requires rows { view.now.rows ≡ rows_of (world_of asking.now) name.now }
     requires held { AllByRecursion (λ row. AreHeld row (keyed_of asking.now).lists) view.now.rows }
+    requires rising { AllByRecursion AreRising view.now.rows }
     requires offering { IsPermutation (offering_named asking.now name.now) view.now.offering }
     requires namers { IsPermutation (namers_named name.now (standing asking.now)) view.now.namers }
     ensures { OnOk result (out.new.items ≡ out.old.items ++ show_package_one (world_of asking.now) name.now) }

@@ -1,33 +1,34 @@
-//! The lines of lists as sources of rows in `policy`, made once for all rows that are shown.
+//! The lines of lists as sources of rows in `policy`: those of few lists are made once for all rows that are shown.
 
-ghost use Rattle.std.specs.Prelude.{◌≡◌, ◌++◌, ◌∷◌, [], OnOk, IfOk, IfSome, flat_map};
+ghost use Rattle.std.specs.Prelude.{◌≡◌, ◌++◌, OnOk, IfOk, IfSome, flat_map};
 ghost use Rattle.ctl_store.specs.Held.{keyed_of};
-ghost use Rattle.ctl_store.specs.Keys.{AreHeld};
+ghost use Rattle.ctl_store.specs.Keys.{AreHeld, AreRising};
 ghost use Rattle.ctl_policy.specs.Priority.{world_of};
 ghost use Rattle.ctl_policy.specs.Rows.{sources_of};
 ghost use Rattle.ctl_query.specs.Inside.SourceLines.{lent_lines, lines_of_lists, line_if_source};
 ghost use Rattle.ctl_query.specs.Policy.{source_line};
 
 use crate::policy::append_source;
+use crate::row_sources::RowSources;
 use ctl_policy::is_source;
 use ctl_relation::Bytes;
 use ctl_store::{StanzaKey, Store};
 use std::alloc::{AllocError, Global};
 use std::marker::Model;
 
-// Of so many lists the source of a row is looked for among their lines.
+// Of more lists no line is made before it is told: of each row they are found by its keys.
 const FEW: usize = 8;
 
 /// The lines of the lists of a store, seen as what is held in it.
 #[derive(Drop)]
 pub(crate) struct SourceLines<'a> {
     store: &'a Store,
-    // The line of each list beside its name, in the order of the lists.
-    lines: Vec<(&'a [u8], Bytes)>,
+    // The line of each list beside its name, in the order of the lists, where these are few.
+    lines: Option<Vec<(&'a [u8], Bytes)>>,
 }
 
 impl<'a> Model for SourceLines<'a> {
-    ghost use Rattle.std.specs.Prelude.{◌≡◌};
+    ghost use Rattle.std.specs.Prelude.{◌≡◌, IfSome};
     ghost use Rattle.ctl_store.specs.Held.{Held};
     ghost use Rattle.ctl_policy.specs.Priority.{world_of};
     ghost use Rattle.ctl_query.specs.Inside.SourceLines.{lent_lines, lines_of_lists};
@@ -36,20 +37,7 @@ impl<'a> Model for SourceLines<'a> {
 
     ghost view = { λ it. it.store.now };
 
-    ghost invariant = { λ it. lent_lines it.lines.items ≡ lines_of_lists (world_of it.store.now) };
-}
-
-/// The list that holds the stanza of a row of one stanza. Of another row none is told.
-pub(crate) fn only_source<'a>(store: &'a Store, row: &[StanzaKey]) -> Option<&'a [u8]>
-    requires { AreHeld row.now (keyed_of store.now).lists }
-    ensures { IfSome result (λ list. sources_of row.now (keyed_of store.now).lists ≡ list.now ∷ []) }
-{
-    // That no name stands twice among the lists is said here.
-    let _lists = store.lists();
-    match row.split_first() {
-        Some((key, others)) if others.is_empty() => Some(store.list_of(*key)),
-        _ => None,
-    }
+    ghost invariant = { λ it. IfSome it.lines (λ lines. lent_lines lines.items ≡ lines_of_lists (world_of it.store.now)) };
 }
 
 fn line_of(alloc: Global, store: &Store, list: &[u8]) -> Result<Bytes, AllocError>
@@ -60,15 +48,35 @@ fn line_of(alloc: Global, store: &Store, list: &[u8]) -> Result<Bytes, AllocErro
     Ok(Bytes::from_vec(line))
 }
 
-fn lines_of<'a>(alloc: Global, store: &'a Store) -> Result<Vec<(&'a [u8], Bytes)>, AllocError>
-    ensures { IfOk result (λ lines. lent_lines lines.items ≡ lines_of_lists (world_of store.now)) }
+// The lines of all lists, where these are few.
+fn lines_of<'a>(
+    alloc: Global,
+    store: &'a Store,
+) -> Result<Option<Vec<(&'a [u8], Bytes)>>, AllocError>
+    ensures { IfOk result (λ lines. IfSome lines (λ lines. lent_lines lines.items ≡ lines_of_lists (world_of store.now))) }
 {
     let mut lines = Vec::new(alloc);
     'lists: for list in store.lists() {
+        if lines.len() == FEW {
+            return Ok(None);
+        }
         let line = line_of(alloc, store, list.0)?;
         lines.push((list.0, line))?;
     }
-    Ok(lines)
+    Ok(Some(lines))
+}
+
+// Appends the lines of the lists that hold a row, which has these stanzas, each made as it is told.
+fn append_sources(store: &Store, row: &[StanzaKey], out: &mut Vec<u8>) -> Result<(), AllocError>
+    requires held { AreHeld row.now (keyed_of store.now).lists }
+    requires rising { AreRising row.now }
+    ensures { OnOk result (out.new.items ≡ out.old.items
+        ++ flat_map (source_line (world_of store.now)) (sources_of row.now (keyed_of store.now).lists)) }
+{
+    'lists: for list in RowSources::new(store, row) {
+        append_source(store, list, out)?;
+    }
+    Ok(())
 }
 
 // Appends the lines of those lists that hold a row, which has these stanzas.
@@ -108,17 +116,16 @@ impl<'a> SourceLines<'a> {
 
     /// Appends the lines of the sources of a row, which has these stanzas.
     pub(crate) fn append_to(&self, row: &[StanzaKey], out: &mut Vec<u8>) -> Result<(), AllocError>
-        requires { AreHeld row.now (keyed_of self.now).lists }
+        requires held { AreHeld row.now (keyed_of self.now).lists }
+        requires rising { AreRising row.now }
         ensures { OnOk result (out.new.items ≡ out.old.items
             ++ flat_map (source_line (world_of self.now)) (sources_of row.now (keyed_of self.now).lists)) }
     {
-        if self.lines.len() > FEW {
-            if let Some(list) = only_source(self.store, row) {
-                append_source(self.store, list, out)?;
-                return Ok(());
-            }
+        if let Some(lines) = &self.lines {
+            append_lines(self.store, lines, row, out)?;
+            return Ok(());
         }
-        append_lines(self.store, &self.lines, row, out)?;
+        append_sources(self.store, row, out)?;
         Ok(())
     }
 }

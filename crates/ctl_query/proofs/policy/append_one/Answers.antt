@@ -1,4 +1,3 @@
-use Rattle.std.proofs.Common.{sym}
 use Rattle.ctl_query.proofs.policy.append_one.Goals as goal
 
 pub append_known-requires-clause-held : goal.append_known-requires-clause-held

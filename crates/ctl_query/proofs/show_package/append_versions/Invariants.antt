@@ -1,7 +1,7 @@
 use Rattle.std.proofs.Common.{◌≡◌, ◌++◌, flat_map}
 use Rattle.std.specs.List.{AllByRecursion}
 use Rattle.ctl_store.specs.Held.{keyed_of}
-use Rattle.ctl_store.specs.Keys.{AreHeld}
+use Rattle.ctl_store.specs.Keys.{AreHeld, AreRising}
 use Rattle.ctl_policy.specs.Priority.{world_of}
 use Rattle.ctl_query.specs.ShowPackage.{version_line}
 use Rattle.ctl_query.proofs.show_package.append_versions.Given as goal
@@ -10,5 +10,6 @@ use Rattle.ctl_query.proofs.show_package.append_versions.Given as goal
 abbrev pub invariant-rows : goal.invariant-rows
 invariant-rows l = record {
   held : AllByRecursion (λ row. AreHeld row (keyed_of l.asking).lists) l.row-iterator;
+  rising : AllByRecursion AreRising l.row-iterator;
   text : l.out.items ++ flat_map (version_line (world_of l.asking)) l.row-iterator ≡ l.initial.out.items ++ flat_map (version_line (world_of l.asking)) l.initial.row-iterator;
 }
