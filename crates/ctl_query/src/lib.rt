@@ -33,6 +33,6 @@ pub use answering::answer;
 pub use laws::{
     answers_are_as_if_built_anew, lists_anew_are_added, unmet_clauses_are_met_by_no_offer,
 };
-pub use parsing::{is_query, parse_query, parse_words};
+pub use parsing::{parse_query, parse_words};
 pub use query::{AskedRow, DependsOptions, Query};
 pub use query_name::{CacheQuery, QueryName};

@@ -12,7 +12,7 @@ ghost use Rattle.ctl_query.specs.Query.{Query as Asked, is_option, is_argument, 
 ghost use Rattle.ctl_query.specs.Query.{depends_options, shows_all};
 ghost use Rattle.ctl_query.specs.Query.{is_before_equals, options_of, version_asked, row_of_parts, row_asked, rows_asked};
 ghost use Rattle.ctl_query.specs.Query.{some_names_asked, query_by, query_in, asked_filter};
-ghost use Rattle.ctl_query.specs.Query.{query_of, query_behind, is_query, begin_query};
+ghost use Rattle.ctl_query.specs.Query.{query_of, query_behind, begin_query};
 ghost use Rattle.ctl_query.specs.QueryRead.{Reads, ReadsQuery, query_text};
 
 use crate::query::{AskedRow, DependsOptions, Query};
@@ -294,13 +294,6 @@ fn query_in(alloc: Global, name: CacheQuery, words: &[Bytes]) -> Result<Query, R
         return Err(Refusal::Usage);
     }
     query_by(alloc, name, &options, arguments)
-}
-
-/// Whether a command of this name is a query.
-pub fn is_query(name: &[u8]) -> bool
-    ensures { result ≡ is_query name.now }
-{
-    QueryName::read(name).is_some()
 }
 
 /// What the words of grep-dctrl(1) ask for.

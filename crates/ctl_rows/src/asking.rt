@@ -2,7 +2,7 @@
 
 use crate::said::Said;
 use ctl_index::Cache;
-use ctl_query::{Query, answer, is_query, parse_query};
+use ctl_query::{Query, QueryName, answer, parse_query};
 use ctl_relation::{Bytes, Steps};
 use ctl_store::Refusal;
 use std::alloc::{AllocError, Global};
@@ -19,7 +19,7 @@ pub fn words_of(alloc: Global, texts: &[&[u8]]) -> Result<Vec<Bytes>, AllocError
 fn say_refusal(texts: &[&[u8]], refusal: Refusal, said: &mut Said) {
     said.number(b"number ", refusal.number() as u128);
     said.add(match texts {
-        [name, ..] if is_query(name) => b", a query\n",
+        [name, ..] if QueryName::read(name).is_some() => b", a query\n",
         _ => b", no query\n",
     });
 }

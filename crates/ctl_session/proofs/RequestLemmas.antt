@@ -83,27 +83,27 @@ reads_line cache line (Err cause) asked named same (inr (inr (inr no_list))) =
 
 -- what a line asks for, by what was read of it: its command, and its words
 pub line_by : (line : List ℕ) (command : CommandName) (words : List (List ℕ)) → command_named (name_of line) ≡ Some command →
-    words_of (behind_name line) ≡ Some words → request_of_line line ≡ request_by command (name_of line) words
+    words_of (behind_name line) ≡ Some words → request_of_line line ≡ request_by command words
 line_by line command words named behind =
-    ap (λ c. request_named c (name_of line) (words_of (behind_name line))) named ∙ ap (request_in command (name_of line)) behind
+    ap (λ c. request_named c (words_of (behind_name line))) named ∙ ap (request_in command) behind
 
 -- its words, where a quote lacks its end
 pub line_unquoted : (line : List ℕ) (command : CommandName) → command_named (name_of line) ≡ Some command → words_of (behind_name line) ≡ None →
     request_of_line line ≡ Err refusal.Usage
 line_unquoted line command named behind =
-    ap (λ c. request_named c (name_of line) (words_of (behind_name line))) named ∙ ap (request_in command (name_of line)) behind
+    ap (λ c. request_named c (words_of (behind_name line))) named ∙ ap (request_in command) behind
 
 -- and a name that is none of a command's
 pub line_unknown : (line : List ℕ) → command_named (name_of line) ≡ None → request_of_line line ≡ Err refusal.Command
-line_unknown line named = ap (λ c. request_named c (name_of line) (words_of (behind_name line))) named
+line_unknown line named = ap (λ c. request_named c (words_of (behind_name line))) named
 
 pub is_named : (line : List ℕ) (command : CommandName) → command_named (name_of line) ≡ Some command → names_command line ≡ true
 is_named line command named = ap is_some named
 
 -- a line that asks for something has the name of a command
-named_by : (command : Option CommandName) (name : List ℕ) (words : Option (List (List ℕ))) (request : RequestText) → request_named command name words ≡ Ok request → is_some command ≡ true
-named_by (Some command) name words request asks = refl
-named_by None name words request bad = absurd (cc bad)
+named_by : (command : Option CommandName) (words : Option (List (List ℕ))) (request : RequestText) → request_named command words ≡ Ok request → is_some command ≡ true
+named_by (Some command) words request asks = refl
+named_by None words request bad = absurd (cc bad)
 
 pub asks_named : (line : List ℕ) (request : RequestText) → request_of_line line ≡ Ok request → names_command line ≡ true
-asks_named line request asks = named_by (command_named (name_of line)) (name_of line) (words_of (behind_name line)) request asks
+asks_named line request asks = named_by (command_named (name_of line)) (words_of (behind_name line)) request asks

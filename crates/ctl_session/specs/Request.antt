@@ -1,5 +1,6 @@
 -- What a command asks for, by its words.
 use Rattle.std.specs.Prelude.{ℕ, ℤ, ◌+◌, ◌≡◌, ◌&&◌, List, [], ◌∷◌, length, codes, is_none, is_some, Bool, true, false, Option, None, Some, Result, Ok, Err, if◌then◌else◌}
+use Rattle.std.specs.Option.{option_map}
 use Rattle.std.specs.Str.{bytes_eq}
 use Rattle.ctl_relation.specs.Names.{is_name}
 use Rattle.ctl_relation.specs.Version.{fault_of}
@@ -17,7 +18,7 @@ use Rattle.ctl_store.specs.PinVersions.{is_pin_version}
 use Rattle.ctl_store.specs.Priority.{priority_of}
 use Rattle.ctl_session.specs.Script.{Command, first_long, name_of}
 use Rattle.ctl_session.specs.Words.{words_of, behind_name}
-use Rattle.ctl_query.specs.Query.{Query, is_query, query_of}
+use Rattle.ctl_query.specs.Query.{Query, query_name_of, query_behind}
 use Rattle.ctl_session.specs.declared.refusal_at.RefusalAt.{RefusalAt}
 use Rattle.ctl_session.specs.declared.command_name.CommandName.{CommandName}
 use Rattle.ctl_session.specs.declared.command_name.CommandName.TheVariants as command
@@ -196,7 +197,7 @@ commands =
 
 -- the command of a name among these, or else a query, if there is one of the name
 abbrev pub named_in : List (List ℕ × CommandName) → List ℕ → Option CommandName
-named_in [] name = if is_query name then Some command.Query else None
+named_in [] name = option_map (λ query. command.Query query) (query_name_of name)
 named_in (entry ∷ entries) name = if bytes_eq name entry.0 then Some entry.1 else named_in entries name
 
 -- the command of a name, if there is one
@@ -212,35 +213,35 @@ abbrev pub asking : Result Query Refusal → Result Request Refusal
 asking (Ok query) = Ok (Ask query)
 asking (Err cause) = Err cause
 
--- what a command asks for by the words behind its name; the words of a query begin with the name
-abbrev pub request_by : CommandName → List ℕ → List (List ℕ) → Result Request Refusal
-request_by command.AddList name words = add_list_request words
-request_by command.DropList name words = changing (drop_list_edit words)
-request_by command.Put name words = put_request words
-request_by command.Remove name words = changing (remove_edit words)
-request_by command.Mark name words = changing (mark_edit words)
-request_by command.Unmark name words = changing (unmark_edit words)
-request_by command.Pin name words = changing (pin_edit words)
-request_by command.Unpin name words = changing (unpin_edit words)
-request_by command.Target name words = changing (target_edit words)
-request_by command.Prefs name words = prefs_request words
-request_by command.Query name words = asking (query_of (name ∷ words))
+-- what a command asks for by the words behind its name
+abbrev pub request_by : CommandName → List (List ℕ) → Result Request Refusal
+request_by command.AddList words = add_list_request words
+request_by command.DropList words = changing (drop_list_edit words)
+request_by command.Put words = put_request words
+request_by command.Remove words = changing (remove_edit words)
+request_by command.Mark words = changing (mark_edit words)
+request_by command.Unmark words = changing (unmark_edit words)
+request_by command.Pin words = changing (pin_edit words)
+request_by command.Unpin words = changing (unpin_edit words)
+request_by command.Target words = changing (target_edit words)
+request_by command.Prefs words = prefs_request words
+request_by (command.Query query) words = asking (query_behind query words)
 
 -- ---- commands
 
 -- A quote without its end leaves no words.
-abbrev pub request_in : CommandName → List ℕ → Option (List (List ℕ)) → Result Request Refusal
-request_in command name None = Err refusal.Usage
-request_in command name (Some words) = request_by command name words
+abbrev pub request_in : CommandName → Option (List (List ℕ)) → Result Request Refusal
+request_in command None = Err refusal.Usage
+request_in command (Some words) = request_by command words
 
-abbrev pub request_named : Option CommandName → List ℕ → Option (List (List ℕ)) → Result Request Refusal
-request_named None name words = Err refusal.Command
-request_named (Some command) name words = request_in command name words
+abbrev pub request_named : Option CommandName → Option (List (List ℕ)) → Result Request Refusal
+request_named None words = Err refusal.Command
+request_named (Some command) words = request_in command words
 
 -- What a line asks for, or the first of these refusals: a name that is no command's, words that are not the command's, and,
 -- word by word from the left, a bad name, version or priority.
 abbrev pub request_of_line : List ℕ → Result Request Refusal
-request_of_line line = request_named (command_named (name_of line)) (name_of line) (words_of (behind_name line))
+request_of_line line = request_named (command_named (name_of line)) (words_of (behind_name line))
 
 -- the name of a line is that of a command
 abbrev pub names_command : List ℕ → Bool

@@ -2,7 +2,7 @@
 
 ghost use Rattle.std.specs.Prelude.{◌≡◌};
 
-use ctl_query::is_query;
+use ctl_query::QueryName;
 
 /// A command of a script.
 #[derive(Clone, Copy, Debug, PartialEq, Eq)]
@@ -17,8 +17,7 @@ pub(crate) enum CommandName {
     Unpin,
     Target,
     Prefs,
-    /// A query, of whatever name.
-    Query,
+    Query(QueryName),
 }
 
 impl CommandName {
@@ -48,10 +47,11 @@ impl CommandName {
             Some(CommandName::Target)
         } else if name == b"prefs".as_slice() {
             Some(CommandName::Prefs)
-        } else if is_query(name) {
-            Some(CommandName::Query)
         } else {
-            None
+            match QueryName::read(name) {
+                Some(query) => Some(CommandName::Query(query)),
+                None => None,
+            }
         }
     }
 }

@@ -1,9 +1,9 @@
 //! What a command asks for, by its line.
 
-ghost use Rattle.std.specs.Prelude.{◌≡◌, ◌∷◌, IfOk, Result};
+ghost use Rattle.std.specs.Prelude.{◌≡◌, Result};
 ghost use Rattle.ctl_store.specs.declared.refusal.Refusal.{Refusal as RefusalText};
 ghost use Rattle.ctl_store.specs.Edits.{Edit as EditText, edit_of};
-ghost use Rattle.ctl_query.specs.Query.{query_of};
+ghost use Rattle.ctl_query.specs.Query.{query_behind};
 ghost use Rattle.ctl_query.specs.QueryRead.{Reads};
 ghost use Rattle.ctl_session.specs.Request.{asking, changing, request_by};
 ghost use Rattle.ctl_session.specs.State.{cache_state};
@@ -19,11 +19,11 @@ use crate::list_words::{
 use crate::pin_words::{pin_edit, unpin_edit};
 use crate::words::words;
 use ctl_index::Cache;
-use ctl_query::{Query, parse_query};
+use ctl_query::{Query, QueryName, parse_words};
 use ctl_relation::Bytes;
 use ctl_stanza::ListKind;
 use ctl_store::{Edit, Refusal};
-use std::alloc::{AllocError, Global};
+use std::alloc::Global;
 
 /// What a command asks for.
 #[derive(Drop)]
@@ -47,38 +47,25 @@ fn change(edit: Result<Edit, Refusal>) -> Result<Request, Refusal>
     Ok(Request::Change(edit?))
 }
 
-/// The words of a query, which begin with its name.
-fn query_words(alloc: Global, name: &[u8], words: Vec<Bytes>) -> Result<Vec<Bytes>, AllocError>
-    ensures { IfOk result (λ all. all.items ≡ name.now ∷ words.items) }
-{
-    let mut words = words;
-    words.insert(0, Bytes::from_slice(alloc, name)?)?;
-    Ok(words)
-}
-
-/// What a query asks for by its name and the words behind it.
+/// What a query asks for by the words behind its name.
 #[tactic(auto, using(crate::proofs::AskingLemmas::query_refused))]
-fn query_request(alloc: Global, name: &[u8], words: Vec<Bytes>) -> Result<Request, Refusal>
-    ensures { ReadsForAny result (asking (query_of (name.now ∷ words.items))) }
+fn query_request(alloc: Global, name: QueryName, words: &[Bytes]) -> Result<Request, Refusal>
+    ensures { ReadsForAny result (asking (query_behind name words.now)) }
 {
-    let Ok(words) = query_words(alloc, name, words) else {
-        return Err(Refusal::Memory);
-    };
-    match parse_query(alloc, &words) {
+    match parse_words(alloc, name, words) {
         Ok(query) => Ok(Request::Ask(query)),
         Err(cause) => Err(cause),
     }
 }
 
-/// What a command asks for by its name and the words behind it.
+/// What a command asks for by the words behind its name.
 fn request_by(
     alloc: Global,
     cache: &Cache,
     command: CommandName,
-    name: &[u8],
     words: Vec<Bytes>,
 ) -> Result<Request, Refusal>
-    ensures { ReadsRequest (cache_state cache.now) result (request_by command name.now words.items) }
+    ensures { ReadsRequest (cache_state cache.now) result (request_by command words.items) }
 {
     match command {
         CommandName::AddList => add_list_request(alloc, &words),
@@ -91,7 +78,7 @@ fn request_by(
         CommandName::Unpin => change(unpin_edit(alloc, &words)),
         CommandName::Target => change(target_edit(alloc, &words)),
         CommandName::Prefs => prefs_request(&words),
-        CommandName::Query => query_request(alloc, name, words),
+        CommandName::Query(name) => query_request(alloc, name, &words),
     }
 }
 
@@ -100,12 +87,11 @@ fn request_by(
 pub(crate) fn read_request(alloc: Global, cache: &Cache, line: &[u8]) -> Result<Request, Refusal>
     ensures { ReadsLine (cache_state cache.now) line.now result }
 {
-    let name = name(line);
-    let Some(command) = CommandName::read(name) else {
+    let Some(command) = CommandName::read(name(line)) else {
         return Err(Refusal::Command);
     };
     match words(alloc, behind_name(line)) {
-        Ok(Some(words)) => request_by(alloc, cache, command, name, words),
+        Ok(Some(words)) => request_by(alloc, cache, command, words),
         Ok(None) => Err(Refusal::Usage),
         Err(_) => Err(Refusal::Memory),
     }
