@@ -50,7 +50,8 @@ pub stanza_under : (k : StanzaKey) (ls : List (List ℕ × KeyedList)) → stanz
 stanza_under k [] = refl
 stanza_under k (l ∷ ls) = (λ i. option_or (sym (in_list k l.1.serial l.1.rows) i) (stanza_under k ls i)) ∙ sym (under-append k (entries_in l.1) (entries_of ls))
 
-each_under : (ls : List (List ℕ × KeyedList)) (es : List Entry) → AreAt es ls → AllByRecursion (λ (e : Entry). under e.0 (entries_of ls) ≡ Some e.1) es
+-- what is found by a key stands under it
+pub each_under : (ls : List (List ℕ × KeyedList)) (es : List Entry) → AreAt es ls → AllByRecursion (λ (e : Entry). under e.0 (entries_of ls) ≡ Some e.1) es
 each_under ls [] at = tt
 each_under ls (e ∷ es) at = (sym (stanza_under e.0 ls) ∙ at.0, each_under ls es at.1)
 

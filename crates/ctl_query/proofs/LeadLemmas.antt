@@ -1,5 +1,5 @@
 -- The leads of all rows: what is told of rows is told of them, and each stands under its key.
-use Rattle.std.proofs.Common.{◌≡◌, ◌∙◌, ℕ, false, List, [], ◌∷◌, ◌++◌, map, flat_map, Option, None, Some, refl, sym, ap, append-nil}
+use Rattle.std.proofs.Common.{◌≡◌, ◌∙◌, ℕ, false, List, [], ◌∷◌, ◌++◌, map, flat_map, Option, None, Some, refl, sym, ap, append-nil, append_assoc}
 use Rattle.std.specs.List.{AllByRecursion}
 use Rattle.std.specs.Option.{option_map_or}
 use Rattle.std.proofs.lemmas.Grind.{flat_map-append}
@@ -41,13 +41,23 @@ module _ (world : World) where
         by None = refl
         by (Some x) = sym (append-nil (text x))
 
-    told_by_leads : (name : List ℕ) → of_rows world text name ≡ flat_map (λ (e : Entry). text e.1) (leads_named world name)
-    told_by_leads name = alike _ _ told_by_lead (rows_of world name) ∙ sym (twice (λ (e : Entry). text e.1) (keyed_lead world) (rows_of world name))
+    -- what is told of rows is told of their leads, one after another
+    pub told_by_leads : (rows : List (List StanzaKey)) → flat_map (told_of_row world text) rows ≡ flat_map (λ (e : Entry). text e.1) (flat_map (keyed_lead world) rows)
+    told_by_leads rows = alike _ _ told_by_lead rows ∙ sym (twice (λ (e : Entry). text e.1) (keyed_lead world) rows)
 
-    -- what is told of all rows is told of the leads, one after another
+    -- a text in which the leads are told, tells of the rows; and so does one under a heading
+    pub as_told : (before now : List A) (rows : List (List StanzaKey)) → now ≡ before ++ flat_map (λ (e : Entry). text e.1) (flat_map (keyed_lead world) rows)
+        → now ≡ before ++ flat_map (told_of_row world text) rows
+    as_told before now rows told = told ∙ ap (λ xs. before ++ xs) (sym (told_by_leads rows))
+
+    pub as_told_under : (before heading now : List A) (rows : List (List StanzaKey)) → now ≡ (before ++ heading) ++ flat_map (λ (e : Entry). text e.1) (flat_map (keyed_lead world) rows)
+        → now ≡ before ++ (heading ++ flat_map (told_of_row world text) rows)
+    as_told_under before heading now rows told = as_told (before ++ heading) now rows told ∙ append_assoc before heading (flat_map (told_of_row world text) rows)
+
+    -- and so it is with all rows
     pub told_of_leads : flat_map (of_rows world text) (packages_of world) ≡ flat_map (λ (e : Entry). text e.1) (leads_of world)
     unfolding leads_of
-    told_of_leads = alike _ _ told_by_leads (packages_of world) ∙ sym (twice (λ (e : Entry). text e.1) (leads_named world) (packages_of world))
+    told_of_leads = alike _ _ (λ name. told_by_leads (rows_of world name)) (packages_of world) ∙ sym (twice (λ (e : Entry). text e.1) (leads_named world) (packages_of world))
 
   -- ---- where they stand
 
@@ -60,9 +70,12 @@ module _ (world : World) where
       by (Some x) e = (e, tt)
 
   -- each lead is the stanza of its key
+  pub leads_of_rows_at : (rows : List (List StanzaKey)) → AreAt (flat_map (keyed_lead world) rows) world.lists
+  leads_of_rows_at rows = all_of_each _ (keyed_lead world) lead_at rows
+
   pub leads_at : AreAt (leads_of world) world.lists
   unfolding leads_of
-  leads_at = all_of_each _ (leads_named world) (λ name. all_of_each _ (keyed_lead world) lead_at (rows_of world name)) (packages_of world)
+  leads_at = all_of_each _ (leads_named world) (λ name. leads_of_rows_at (rows_of world name)) (packages_of world)
 
   -- ---- of the rows of all names
 

@@ -9,11 +9,11 @@ use Rattle.ctl_stanza.specs.Content.{Content}
 use Rattle.ctl_store.specs.declared.stanza_key.StanzaKey.{StanzaKey}
 use Rattle.ctl_store.specs.Entries.{Entry}
 use Rattle.ctl_store.specs.Keys.{key_cmp}
-use Rattle.ctl_query.specs.Leads.{key_at}
+use Rattle.ctl_query.specs.Leads.{key_at, lent_lead}
 
 -- leads that are lent
 abbrev pub lent_leads : List (StanzaKey × Bor Content) → List Entry
-lent_leads leads = map (λ (l : StanzaKey × Bor Content). (l.0, l.1.now)) leads
+lent_leads leads = map lent_lead leads
 
 -- the place that stands beside a key
 abbrev pub place_under : StanzaKey → List (StanzaKey × ℕ) → Option ℕ

@@ -1,5 +1,6 @@
 -- The leads of all rows by their keys, and the atoms by which they name a name.
 use Rattle.std.specs.Prelude.{ℕ, Bool, false, List, [], ◌∷◌, flat_map, Option, option_map, slice_get, nat_eq, ◌&&◌}
+use Rattle.std.specs.Borrow.{Bor}
 use Rattle.std.specs.Option.{option_map_or, option_and_then}
 use Rattle.std.specs.List.{list_any}
 use Rattle.std.specs.Ordering.{nat_cmp, ordering_then, is_eq}
@@ -17,6 +18,10 @@ use Rattle.ctl_query.specs.Packages.{packages_of, rows_of}
 use Rattle.ctl_query.specs.ShowPackage.{line_if_naming}
 
 -- ---- leads
+
+-- a lead that is lent
+abbrev pub lent_lead : StanzaKey × Bor Content → Entry
+lent_lead lead = (lead.0, lead.1.now)
 
 -- the lead of a row under its key
 abbrev pub keyed_lead : World → List StanzaKey → List Entry

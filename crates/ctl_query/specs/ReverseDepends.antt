@@ -5,10 +5,9 @@ use Rattle.std.specs.Str.{bytes_eq}
 use Rattle.ctl_relation.specs.declared.field_kind.FieldKind.{FieldKind}
 use Rattle.ctl_relation.specs.Parts.{AtomParts}
 use Rattle.ctl_stanza.specs.Content.{Content, groups_of}
-use Rattle.ctl_store.specs.declared.stanza_key.StanzaKey.{StanzaKey}
 use Rattle.ctl_index.specs.Names.{naming_fields}
 use Rattle.ctl_policy.specs.Priority.{World}
-use Rattle.ctl_query.specs.Packages.{is_none_of, packages_of, is_installed, told_of_row, of_rows}
+use Rattle.ctl_query.specs.Packages.{is_none_of, packages_of, is_installed, of_rows}
 use Rattle.ctl_query.specs.Texts.{line, if_known}
 use Rattle.ctl_query.specs.Depends.{mark}
 
@@ -24,9 +23,6 @@ naming_in_field name lead field = flat_map (naming_in_group name) (groups_of fie
 -- the same of the atoms of the eight fields of a lead
 unfoldable pub naming_in_lead : List ℕ → Content → List Bool
 naming_in_lead name lead = flat_map (naming_in_field name lead) naming_fields
-
-abbrev pub naming_in_row : World → List ℕ → List StanzaKey → List Bool
-naming_in_row world name row = told_of_row world (naming_in_lead name) row
 
 -- and of those of all leads of a package
 unfoldable pub naming : World → List ℕ → List ℕ → List Bool

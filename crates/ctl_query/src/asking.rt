@@ -6,6 +6,8 @@ ghost use Rattle.std.specs.Cmp.Lexicographic.{slice_cmp};
 ghost use Rattle.std.specs.List.Sorted.{IsPermutation, IsStrictlySortedBy};
 ghost use Rattle.std.specs.Ordering.{nat_cmp, is_le};
 ghost use Rattle.ctl_store.specs.Held.{keyed_of};
+ghost use Rattle.ctl_store.specs.Entries.{Entry};
+ghost use Rattle.ctl_store.specs.Followed.{under};
 ghost use Rattle.ctl_store.specs.Keys.{AreHeld, AreRising};
 ghost use Rattle.ctl_index.specs.Clauses.{clause_at, number_at, unmet_clauses};
 ghost use Rattle.ctl_index.specs.Held.{standing};
@@ -16,10 +18,12 @@ ghost use Rattle.ctl_policy.specs.Chosen.{choice_in};
 ghost use Rattle.ctl_policy.specs.Priority.{world_of};
 ghost use Rattle.ctl_policy.specs.Rows.{keys_of_row, lead_at, newest_first, rows_named};
 ghost use Rattle.ctl_query.specs.Interest.{offering_named};
+ghost use Rattle.ctl_query.specs.Leads.{leads_named};
 ghost use Rattle.ctl_query.specs.NameSet.{is_among};
 ghost use Rattle.ctl_query.specs.PackageNames.{begins_with};
 ghost use Rattle.ctl_query.specs.Packages.{has_row, is_installed, is_known, names_known, packages_of, rows_of, stanzas_of};
 
+use crate::leads::Leads;
 use ctl_index::{
     AllRows, Cache, ClauseKey, NameView, Namers, Names, Offers, PackageNames, Packages,
     UnmetClauses,
@@ -103,6 +107,14 @@ impl<'a> Asking<'a> {
         ensures held { AllByRecursion (λ row. AreHeld row (keyed_of self.now).lists) result }
     {
         self.cache.row_keys(name)
+    }
+
+    /// The leads of the rows of a name, newest first, each under its key.
+    pub(crate) fn leads(&self, name: &[u8]) -> Leads<'a>
+        ensures leads { result ≡ leads_named (world_of self.now) name.now }
+        ensures found { AllByRecursion (λ (e : Entry). under e.0 (standing self.now) ≡ Some e.1) result }
+    {
+        Leads::new(self.store(), self.rows(name))
     }
 
     /// What stands under a name, of which it is looked up once.

@@ -1,16 +1,16 @@
 //! The leads of all rows, in the order in which answers on all packages tell of them. An answer that is gathered from the keys
 //! of stanzas, in whatever order they come, finds by the table which of them are leads and where each stands in that order.
 
-ghost use Rattle.std.specs.Prelude.{◌≡◌, ◌++◌, ℕ, true, false, Some, OnOk, IfOk, IfSome, flat_map, option_map, option_copied, slice_get};
+ghost use Rattle.std.specs.Prelude.{◌≡◌, ℕ, true, false, Some, IfOk, IfSome, option_map, option_copied, slice_get};
 ghost use Rattle.ctl_store.specs.Entries.{Entry};
 ghost use Rattle.ctl_policy.specs.Priority.{world_of};
-ghost use Rattle.ctl_query.specs.Leads.{keyed_lead, key_at, leads_of};
+ghost use Rattle.ctl_query.specs.Leads.{key_at, leads_of};
 ghost use Rattle.ctl_query.specs.LeadTable.{lent_leads, place_under, numbered_from, AreInKeyOrder};
 
 use crate::asking::Asking;
-use ctl_policy::NewestFirst;
+use crate::leads::Leads;
 use ctl_stanza::Stanza;
-use ctl_store::{StanzaKey, Store, compare_keys};
+use ctl_store::{StanzaKey, compare_keys};
 use std::alloc::{AllocError, Global};
 use std::marker::Model;
 
@@ -34,44 +34,15 @@ impl<'a> Model for LeadTable<'a> {
     ghost invariant = { λ table. ArePlaces (lent_leads table.leads.items) table.places.items };
 }
 
-// Adds the lead of a row, which has these stanzas, under its key.
-fn push_lead<'a>(
-    leads: &mut Vec<(StanzaKey, &'a Stanza)>,
-    store: &'a Store,
-    row: &[StanzaKey],
-) -> Result<(), AllocError>
-    ensures { OnOk result (lent_leads leads.new.items ≡ lent_leads leads.old.items ++ keyed_lead (world_of store.now) row.now) }
-{
-    if let Some(key) = row.first() {
-        if let Some(lead) = store.find(*key) {
-            leads.push((*key, lead))?;
-        }
-    }
-    Ok(())
-}
-
-// Adds the leads of rows.
-fn push_leads<'a>(
-    leads: &mut Vec<(StanzaKey, &'a Stanza)>,
-    store: &'a Store,
-    rows: NewestFirst<'_>,
-) -> Result<(), AllocError>
-    ensures { OnOk result (lent_leads leads.new.items ≡ lent_leads leads.old.items
-        ++ flat_map (keyed_lead (world_of store.now)) rows.entry) }
-{
-    'rows: for row in rows {
-        push_lead(leads, store, row)?;
-    }
-    Ok(())
-}
-
 // The leads of all rows, each under its key. A name without a row has none.
 fn leads_of<'a>(asking: &Asking<'a>) -> Result<Vec<(StanzaKey, &'a Stanza)>, AllocError>
     ensures { IfOk result (λ leads. lent_leads leads.items ≡ leads_of (world_of asking.now)) }
 {
     let mut leads = Vec::new(asking.alloc());
     'names: for rows in asking.all_rows() {
-        push_leads(&mut leads, asking.store(), rows)?;
+        'leads: for lead in Leads::new(asking.store(), rows) {
+            leads.push(lead)?;
+        }
     }
     Ok(leads)
 }

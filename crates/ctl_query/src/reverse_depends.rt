@@ -5,7 +5,7 @@ ghost use Rattle.ctl_policy.specs.Priority.{world_of};
 ghost use Rattle.ctl_query.specs.Leads.{leads_of};
 ghost use Rattle.ctl_query.specs.NameSet.{lent_names};
 ghost use Rattle.ctl_query.specs.NamingRead.{naming_line, with_all, with_naming};
-ghost use Rattle.ctl_query.specs.ReverseDepends.{naming_in_group, naming_in_field, naming_in_lead, naming_in_row};
+ghost use Rattle.ctl_query.specs.ReverseDepends.{naming_in_group, naming_in_field, naming_in_lead};
 ghost use Rattle.ctl_query.specs.ReverseDepends.{naming, asker_line, asking_line, reverse_depends_one};
 ghost use Rattle.ctl_query.specs.ReverseDepends.{reverse_depends_text};
 ghost use Rattle.ctl_query.specs.Packages.{packages_of};
@@ -14,14 +14,12 @@ ghost use Rattle.ctl_query.specs.Texts.{if_known};
 use crate::asking::Asking;
 use crate::interest::{packages_naming, stanzas_are_found};
 use crate::lead_table::LeadTable;
-use crate::leads::lead_in;
 use crate::naming::append_by_atoms;
 use crate::relation_lines::mark;
 use crate::text::{append_line, append_unknown};
 use ctl_policy::rows_are_classes;
 use ctl_relation::{Bytes, FieldKind, Group};
 use ctl_stanza::Stanza;
-use ctl_store::{StanzaKey, Store};
 use std::alloc::AllocError;
 
 /// One atom more that names a name: whether a further alternative follows each of them.
@@ -81,24 +79,14 @@ fn with_lead(name: &[u8], lead: &Stanza, found: Option<bool>) -> Option<bool>
     found
 }
 
-#[tactic(auto, unfolding(crate::specs::NamingRead::with_all))]
-fn with_row(store: &Store, name: &[u8], row: &[StanzaKey], found: Option<bool>) -> Option<bool>
-    ensures { result ≡ with_all found (naming_in_row (world_of store.now) name.now row.now) }
-{
-    match lead_in(store, row) {
-        Some(lead) => with_lead(name, lead, found),
-        None => found,
-    }
-}
-
 /// Whether a further alternative follows each atom of a package's leads that names a name; none where no atom does.
-#[tactic(auto, using(crate::proofs::GroupLemmas::with_append), unfolding(crate::specs::ReverseDepends::naming, crate::specs::NamingRead::with_all))]
+#[tactic(auto, using(crate::proofs::GroupLemmas::with_append, crate::proofs::LeadLemmas::told_by_leads), unfolding(crate::specs::ReverseDepends::naming, crate::specs::NamingRead::with_all))]
 fn naming_of(asking: &Asking<'_>, name: &[u8], asker: &[u8]) -> Option<bool>
     ensures { result ≡ with_all None (naming (world_of asking.now) name.now asker.now) }
 {
     let mut found = None;
-    'rows: for row in asking.rows(asker) {
-        found = with_row(asking.store(), name, row, found);
+    'leads: for (_, lead) in asking.leads(asker) {
+        found = with_lead(name, lead, found);
     }
     found
 }

@@ -24,7 +24,7 @@ use crate::lead_lines::{
     append_entry_lines, append_naming_lines, append_providing_lines, append_relation_lines,
 };
 use crate::lead_table::LeadTable;
-use crate::leads::lead_in;
+use crate::leads::Leads;
 use crate::policy::row_version;
 use crate::row_sources::RowSources;
 use crate::text::{append_line, append_parts, append_unknown};
@@ -61,41 +61,9 @@ fn append_version(store: &Store, row: &[StanzaKey], out: &mut Vec<u8>) -> Result
     Ok(())
 }
 
-fn append_versions(
-    asking: &Asking<'_>,
-    rows: NewestFirst<'_>,
-    out: &mut Vec<u8>,
-) -> Result<(), AllocError>
-    requires held { AllByRecursion (λ row. AreHeld row (keyed_of asking.now).lists) rows }
-    requires rising { AllByRecursion AreRising rows }
-    ensures { OnOk result (out.new.items ≡ out.old.items ++ flat_map (version_line (world_of asking.now)) rows.entry) }
-{
-    'rows: for row in rows {
-        append_version(asking.store(), row, out)?;
-    }
-    Ok(())
-}
-
 // ---- who names it
 
-fn append_naming_row(
-    store: &Store,
-    name: &[u8],
-    row: &[StanzaKey],
-    out: &mut Vec<u8>,
-) -> Result<(), AllocError>
-    ensures { OnOk result (out.new.items ≡ out.old.items ++ told_of_row (world_of store.now) (naming_lines name.now) row.now) }
-{
-    match lead_in(store, row) {
-        Some(lead) => {
-            append_naming_lines(name, lead, out)?;
-            Ok(())
-        }
-        None => Ok(()),
-    }
-}
-
-fn append_naming_rows(
+fn append_naming_leads(
     asking: &Asking<'_>,
     name: &[u8],
     asker: &[u8],
@@ -103,8 +71,8 @@ fn append_naming_rows(
 ) -> Result<(), AllocError>
     ensures { OnOk result (out.new.items ≡ out.old.items ++ of_rows (world_of asking.now) (naming_lines name.now) asker.now) }
 {
-    'rows: for row in asking.rows(asker) {
-        append_naming_row(asking.store(), name, row, out)?;
+    'leads: for (_, lead) in asking.leads(asker) {
+        append_naming_lines(name, lead, out)?;
     }
     Ok(())
 }
@@ -119,7 +87,7 @@ fn append_each_naming(
         ++ flat_map (of_rows (world_of asking.now) (naming_lines name.now)) (lent_names askers.now)) }
 {
     for asker in askers {
-        append_naming_rows(asking, name, asker, out)?;
+        append_naming_leads(asking, name, asker, out)?;
     }
     Ok(())
 }
@@ -161,86 +129,9 @@ fn append_naming(
     }
 }
 
-// ---- what it names
+// ---- who provides it
 
-fn append_relation_row(
-    asking: &Asking<'_>,
-    row: &[StanzaKey],
-    out: &mut Vec<u8>,
-) -> Result<(), AllocError>
-    ensures { OnOk result (out.new.items ≡ out.old.items ++ told_of_row (world_of asking.now) relation_lines row.now) }
-{
-    match lead_in(asking.store(), row) {
-        Some(lead) => {
-            append_relation_lines(lead, out)?;
-            Ok(())
-        }
-        None => Ok(()),
-    }
-}
-
-fn append_relations(
-    asking: &Asking<'_>,
-    rows: NewestFirst<'_>,
-    out: &mut Vec<u8>,
-) -> Result<(), AllocError>
-    ensures { OnOk result (out.new.items ≡ out.old.items ++ flat_map (told_of_row (world_of asking.now) relation_lines) rows.entry) }
-{
-    'rows: for row in rows {
-        append_relation_row(asking, row, out)?;
-    }
-    Ok(())
-}
-
-// ---- what it provides, and who provides it
-
-fn append_entry_row(
-    asking: &Asking<'_>,
-    row: &[StanzaKey],
-    out: &mut Vec<u8>,
-) -> Result<(), AllocError>
-    ensures { OnOk result (out.new.items ≡ out.old.items ++ told_of_row (world_of asking.now) entry_lines row.now) }
-{
-    match lead_in(asking.store(), row) {
-        Some(lead) => {
-            append_entry_lines(lead, out)?;
-            Ok(())
-        }
-        None => Ok(()),
-    }
-}
-
-fn append_entries(
-    asking: &Asking<'_>,
-    rows: NewestFirst<'_>,
-    out: &mut Vec<u8>,
-) -> Result<(), AllocError>
-    ensures { OnOk result (out.new.items ≡ out.old.items ++ flat_map (told_of_row (world_of asking.now) entry_lines) rows.entry) }
-{
-    'rows: for row in rows {
-        append_entry_row(asking, row, out)?;
-    }
-    Ok(())
-}
-
-fn append_providing_row(
-    store: &Store,
-    name: &[u8],
-    row: &[StanzaKey],
-    out: &mut Vec<u8>,
-) -> Result<(), AllocError>
-    ensures { OnOk result (out.new.items ≡ out.old.items ++ told_of_row (world_of store.now) (providing_lines name.now) row.now) }
-{
-    match lead_in(store, row) {
-        Some(lead) => {
-            append_providing_lines(name, lead, out)?;
-            Ok(())
-        }
-        None => Ok(()),
-    }
-}
-
-fn append_providing_rows(
+fn append_providing_leads(
     asking: &Asking<'_>,
     name: &[u8],
     asker: &[u8],
@@ -248,8 +139,8 @@ fn append_providing_rows(
 ) -> Result<(), AllocError>
     ensures { OnOk result (out.new.items ≡ out.old.items ++ of_rows (world_of asking.now) (providing_lines name.now) asker.now) }
 {
-    'rows: for row in asking.rows(asker) {
-        append_providing_row(asking.store(), name, row, out)?;
+    'leads: for (_, lead) in asking.leads(asker) {
+        append_providing_lines(name, lead, out)?;
     }
     Ok(())
 }
@@ -264,7 +155,7 @@ fn append_each_providing(
         ++ flat_map (of_rows (world_of asking.now) (providing_lines name.now)) (lent_names askers.now)) }
 {
     for asker in askers {
-        append_providing_rows(asking, name, asker, out)?;
+        append_providing_leads(asking, name, asker, out)?;
     }
     Ok(())
 }
@@ -299,7 +190,9 @@ fn show_versions(
         ++ (flat_map (version_line (world_of asking.now)) rows.entry ++ line []))) }
 {
     append_line(out, &[b"Versions:"])?;
-    append_versions(asking, rows, out)?;
+    'rows: for row in rows {
+        append_version(asking.store(), row, out)?;
+    }
     append_line(out, &[])?;
     Ok(())
 }
@@ -321,29 +214,25 @@ fn show_namers(
     Ok(())
 }
 
-fn show_relations(
-    asking: &Asking<'_>,
-    rows: NewestFirst<'_>,
-    out: &mut Vec<u8>,
-) -> Result<(), AllocError>
+fn show_relations(store: &Store, rows: NewestFirst<'_>, out: &mut Vec<u8>) -> Result<(), AllocError>
     ensures { OnOk result (out.new.items ≡ out.old.items ++ (line (codes "Dependencies:" ∷ [])
-        ++ flat_map (told_of_row (world_of asking.now) relation_lines) rows.entry)) }
+        ++ flat_map (told_of_row (world_of store.now) relation_lines) rows.entry)) }
 {
     append_line(out, &[b"Dependencies:"])?;
-    append_relations(asking, rows, out)?;
+    'leads: for (_, lead) in Leads::new(store, rows) {
+        append_relation_lines(lead, out)?;
+    }
     Ok(())
 }
 
-fn show_entries(
-    asking: &Asking<'_>,
-    rows: NewestFirst<'_>,
-    out: &mut Vec<u8>,
-) -> Result<(), AllocError>
+fn show_entries(store: &Store, rows: NewestFirst<'_>, out: &mut Vec<u8>) -> Result<(), AllocError>
     ensures { OnOk result (out.new.items ≡ out.old.items ++ (line (codes "Provides:" ∷ [])
-        ++ flat_map (told_of_row (world_of asking.now) entry_lines) rows.entry)) }
+        ++ flat_map (told_of_row (world_of store.now) entry_lines) rows.entry)) }
 {
     append_line(out, &[b"Provides:"])?;
-    append_entries(asking, rows, out)?;
+    'leads: for (_, lead) in Leads::new(store, rows) {
+        append_entry_lines(lead, out)?;
+    }
     Ok(())
 }
 
@@ -382,8 +271,8 @@ fn append_known(
     append_line(out, &[b"Package: ", name])?;
     show_versions(asking, view.rows(), out)?;
     show_namers(asking, table, view.namers(), name, out)?;
-    show_relations(asking, view.rows(), out)?;
-    show_entries(asking, view.rows(), out)?;
+    show_relations(asking.store(), view.rows(), out)?;
+    show_entries(asking.store(), view.rows(), out)?;
     show_providers(asking, view.offering(), name, out)?;
     Ok(())
 }

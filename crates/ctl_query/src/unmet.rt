@@ -6,7 +6,7 @@ ghost use Rattle.ctl_index.specs.Clauses.{is_clause_field, clause_at};
 ghost use Rattle.ctl_index.specs.Held.{standing};
 ghost use Rattle.ctl_policy.specs.Priority.{world_of};
 ghost use Rattle.ctl_query.specs.NameSet.{lent_names};
-ghost use Rattle.ctl_query.specs.Packages.{of_rows, told_of_row};
+ghost use Rattle.ctl_query.specs.Packages.{of_rows};
 ghost use Rattle.ctl_query.specs.Unmet.{is_unmet, clause_line, line_if_unmet, unmet_in_field, clause_lines};
 ghost use Rattle.ctl_query.specs.Unmet.{unmet_heading, under, unmet_lead, unmet_text};
 
@@ -149,28 +149,7 @@ fn append_lead(
     Ok(())
 }
 
-fn append_row(
-    asking: &Asking<'_>,
-    important: bool,
-    row: &[StanzaKey],
-    out: &mut Vec<u8>,
-) -> Result<(), AllocError>
-    ensures { OnOk result (out.new.items ≡ out.old.items
-        ++ told_of_row (world_of asking.now) (unmet_lead (world_of asking.now) important) row.now) }
-{
-    let Some(key) = row.first().copied() else {
-        return Ok(());
-    };
-    match asking.store().find(key) {
-        Some(lead) => {
-            append_lead(asking, important, key, lead, out)?;
-            Ok(())
-        }
-        None => Ok(()),
-    }
-}
-
-fn append_rows(
+fn append_leads(
     asking: &Asking<'_>,
     important: bool,
     name: &[u8],
@@ -179,8 +158,8 @@ fn append_rows(
     ensures { OnOk result (out.new.items ≡ out.old.items
         ++ of_rows (world_of asking.now) (unmet_lead (world_of asking.now) important) name.now) }
 {
-    'rows: for row in asking.rows(name) {
-        append_row(asking, important, row, out)?;
+    'leads: for (key, lead) in asking.leads(name) {
+        append_lead(asking, important, key, lead, out)?;
     }
     Ok(())
 }
@@ -195,7 +174,7 @@ fn append_each(
         ++ flat_map (of_rows (world_of asking.now) (unmet_lead (world_of asking.now) important)) (lent_names names.now)) }
 {
     for name in names {
-        append_rows(asking, important, name, out)?;
+        append_leads(asking, important, name, out)?;
     }
     Ok(())
 }

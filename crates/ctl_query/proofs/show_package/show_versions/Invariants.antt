@@ -4,7 +4,7 @@ use Rattle.ctl_store.specs.Held.{keyed_of}
 use Rattle.ctl_store.specs.Keys.{AreHeld, AreRising}
 use Rattle.ctl_policy.specs.Priority.{world_of}
 use Rattle.ctl_query.specs.ShowPackage.{version_line}
-use Rattle.ctl_query.proofs.show_package.append_versions.Given as goal
+use Rattle.ctl_query.proofs.show_package.show_versions.Given as goal
 
 -- what was written, and the rows that are left, are what there was and all rows
 abbrev pub invariant-rows : goal.invariant-rows

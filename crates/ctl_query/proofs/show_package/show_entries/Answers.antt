@@ -1,0 +1,9 @@
+use Rattle.std.proofs.Common.{rules, [], ◌∷◌, codes}
+use Rattle.ctl_policy.specs.Priority.{world_of}
+use Rattle.ctl_query.specs.ShowPackage.{entry_lines}
+use Rattle.ctl_query.specs.Texts.{line}
+use Rattle.ctl_query.proofs.LeadLemmas.{as_told_under}
+use Rattle.ctl_query.proofs.show_package.show_entries.Goals as goal
+
+pub returns : goal.returns
+returns c = as_told_under (world_of c.args.store.now) entry_lines c.args.out.now.items (line (codes "Provides:" ∷ [])) c.leads.out.items c.args.rows (search rules)
