@@ -115,6 +115,12 @@ def atoms_that_nothing_meets(count):
     return script_list("main", [stanza("one", 1) + f"Depends: {depends}\n", *offers]), [("depends", "depends one\n", 1)]
 
 
+def atoms_of_two_sorts_in_turn(count):
+    depends = ", ".join(["virtual (>= 9)", "virtual (>= 8) | virtual (>= 7)"] * (count // 2))
+    offers = [stanza(f"name-{number}", 1) + "Provides: virtual (= 1)\n" for number in range(count)]
+    return script_list("main", [stanza("one", 1) + f"Depends: {depends}\n", *offers]), [("depends", "depends one\n", 1)]
+
+
 def fields_of_one_stanza(count):
     names = [f"Field-{number}" for number in range(count)]
     whole = script_list("main", [stanza("one", 1) + "".join(f"{name}: text\n" for name in names)])
@@ -128,6 +134,7 @@ ANSWER_SHAPES = [
     (one_version_in_many_lists, 750, {"policy": 1.2, "showpkg": 1.2}),
     (names_of_one_stanza, 2_000, {"showpkg": 0.2, "rdepends": 0.2}),
     (atoms_that_nothing_meets, 1_000, {"depends": 1.2}),
+    (atoms_of_two_sorts_in_turn, 1_000, {"depends": 1.2}),
     (fields_of_one_stanza, 2_000, {"-F": 1.2, "-s": 1.2}),
 ]
 

@@ -1,6 +1,8 @@
 //! The answer to `depends`.
 
-ghost use Rattle.std.specs.Prelude.{◌≡◌, ◌++◌, ◌+◌, ◌≤◌, OnOk, IfOk, IfSome, option_copied};
+ghost use Rattle.std.specs.Prelude.{◌≡◌, ◌++◌, ◌+◌, ◌≤◌, OnOk, option_copied};
+ghost use Rattle.std.specs.BTreeMap.{values};
+ghost use Rattle.std.specs.List.{All};
 ghost use Rattle.ctl_policy.specs.Priority.{world_of};
 ghost use Rattle.ctl_query.specs.Depends.{atom_lines, group_lines, field_lines, lead_lines, has_lines};
 ghost use Rattle.ctl_query.specs.Depends.{depends_fields, first_lead, lead_shown, depends_one, depends_text};
@@ -15,13 +17,13 @@ use crate::leads::stanza_under;
 use crate::providers::{append_providers, is_any_kept, providers};
 use crate::query::DependsOptions;
 use crate::relation_lines::{Alternative, append_atom_line};
-use crate::repeats::{Written, append_again, are_same};
+use crate::repeats::{Written, keep, lines_of};
 use crate::text::{append_line, append_unknown};
 use ctl_relation::{Bytes, FieldKind, Group, Steps};
 use ctl_stanza::Stanza;
 use ctl_store::StanzaKey;
 use std::alloc::AllocError;
-use std::collections::BTreeSet;
+use std::collections::{BTreeMap, BTreeSet};
 
 /// The eight fields, or of important dependencies alone the first two.
 fn depends_fields(important: bool) -> &'static [FieldKind]
@@ -38,11 +40,10 @@ fn depends_fields(important: bool) -> &'static [FieldKind]
 // From so many tests on the lines of a group are kept in mind.
 const MANY: u128 = 64;
 
-/// A group of a field, and the one before it, if its lines are kept in mind.
+/// A group of a field.
 #[derive(Drop)]
 struct Next<'g> {
     field: FieldKind,
-    last: Option<Written<'g>>,
     group: Group<'g>,
 }
 
@@ -116,35 +117,36 @@ impl<'a> Depending<'a> {
 
     /// Appends the lines of a group. Those of one that took many tests are kept in mind: where it stands there again, they are
     /// written again, and nothing is tested.
-    #[tactic(auto, using(crate::proofs::RepeatLemmas::is_written))]
     fn append_next<'g>(
         &self,
+        kept: &mut BTreeMap<Vec<u8>, Written<'g>>,
         next: Next<'g>,
         out: &mut Vec<u8>,
         steps: &mut Steps,
-    ) -> Result<Option<Written<'g>>, AllocError>
-        requires { IfSome next.last (IsWritten (world_of self.now.asking.now) self.now.options.installed next.field out.old.items) }
+    ) -> Result<(), AllocError>
+        requires { All (IsWritten (world_of self.now.asking.now) self.now.options.installed next.field out.old.items)
+            (values kept.old) }
         ensures text { OnOk result (out.new.items ≡ out.old.items
             ++ group_lines (world_of self.now.asking.now) self.now.options.installed next.entry.field next.entry.group) }
-        ensures last { IfOk result (λ last. IfSome last
-            (IsWritten (world_of self.now.asking.now) self.now.options.installed next.entry.field out.new.items)) }
+        ensures written { OnOk result (All (IsWritten (world_of self.now.asking.now) self.now.options.installed
+            next.entry.field out.new.items) (values kept.new)) }
         ensures steps { steps.new ≤ steps.old + group_pairs (world_of self.now.asking.now) next.entry.group }
         ensures kept { steps.old ≤ steps.new }
     {
-        let Next { field, last, group } = next;
-        let start = out.len();
-        if let Some(last) = last {
-            if are_same(&group, &last.group) {
-                append_again(last.start, out)?;
-                return Ok(Some(Written { group, start }));
-            }
+        let Next { field, group } = next;
+        let alloc = self.asking.alloc();
+        if let Some((start, end)) = lines_of(alloc, kept, &group)? {
+            out.extend_from_within(start..end)?;
+            return Ok(());
         }
+        let start = out.len();
         let before = steps.count();
         self.append_group(field, &group, out, steps)?;
-        if steps.count() < before.saturating_add(MANY) {
-            return Ok(None);
+        if steps.count() >= before.saturating_add(MANY) {
+            let end = out.len();
+            keep(alloc, kept, Written { group, start, end })?;
         }
-        Ok(Some(Written { group, start }))
+        Ok(())
     }
 
     /// Appends the lines of a field.
@@ -161,10 +163,10 @@ impl<'a> Depending<'a> {
         ensures steps { steps.new ≤ steps.old + field_pairs (world_of self.now.asking.now) lead.now field }
         ensures kept { steps.old ≤ steps.new }
     {
-        let mut last = None;
+        let mut kept = BTreeMap::new(self.asking.alloc());
         'groups: for group in lead.groups(field) {
-            let next = Next { field, last, group };
-            last = self.append_next(next, out, steps)?;
+            let next = Next { field, group };
+            self.append_next(&mut kept, next, out, steps)?;
         }
         Ok(())
     }

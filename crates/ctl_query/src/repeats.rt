@@ -1,16 +1,21 @@
 //! Groups of a field that stand there again: their lines are those that were written.
 
-ghost use Rattle.std.specs.Prelude.{◌≡◌, ◌++◌, ◌≤◌, OnOk, length, drop, true};
+ghost use Rattle.std.specs.Prelude.{◌≡◌, IfOk, IfSome, OnOk, slice_get, true};
+ghost use Rattle.std.specs.BTreeMap.{values};
+ghost use Rattle.std.specs.List.{IsAmong};
 ghost use Rattle.ctl_relation.specs.Lent.{lent, lent_bound};
+ghost use Rattle.ctl_query.specs.Inside.Repeats.{KeepsOneMore};
 
 use ctl_relation::{Atom, Group, Operator};
-use std::alloc::AllocError;
+use std::alloc::{AllocError, Global};
+use std::collections::BTreeMap;
 
-/// A group whose lines were written, and how long the text was before.
+/// A group whose lines were written, and where in the text they begin and end.
 #[derive(Drop)]
 pub(crate) struct Written<'a> {
     pub(crate) group: Group<'a>,
     pub(crate) start: usize,
+    pub(crate) end: usize,
 }
 
 fn are_same_qualifiers(qualifier: Option<&[u8]>, other: Option<&[u8]>) -> bool
@@ -41,23 +46,66 @@ fn are_same_atoms(atom: &Atom<'_>, other: &Atom<'_>) -> bool
         && are_same_bounds(atom.bound(), other.bound())
 }
 
-/// Whether two groups are of one atom each, the same one.
-pub(crate) fn are_same(group: &Group<'_>, other: &Group<'_>) -> bool
-    ensures { result ≡ true → group.now ≡ other.now }
+// Whether the same atom stands in two groups at an index.
+fn are_same_at(group: &Group<'_>, other: &Group<'_>, at: usize) -> bool
+    ensures { result ≡ true → slice_get group.now at ≡ slice_get other.now at }
 {
-    if group.len() != 1 || other.len() != 1 {
-        return false;
-    }
-    match (group.get(0), other.get(0)) {
+    match (group.get(at), other.get(at)) {
         (Some(atom), Some(other)) => are_same_atoms(&atom, &other),
         _ => false,
     }
 }
 
-/// Appends what stands in a text from a place on once more.
-pub(crate) fn append_again(start: usize, out: &mut Vec<u8>) -> Result<(), AllocError>
-    requires { start ≤ length out.old.items }
-    ensures { OnOk result (out.new.items ≡ out.old.items ++ drop start out.old.items) }
+/// Whether two groups have the same atoms.
+fn are_same(group: &Group<'_>, other: &Group<'_>) -> bool
+    ensures { result ≡ true → group.now ≡ other.now }
 {
-    out.extend_from_within(start..)
+    if group.len() != other.len() {
+        return false;
+    }
+    for at in 0..group.len() {
+        if !are_same_at(group, other, at) {
+            return false;
+        }
+    }
+    true
+}
+
+/// The printed form of a group.
+fn printed(alloc: Global, group: &Group<'_>) -> Result<Vec<u8>, AllocError> {
+    let mut text = Vec::new(alloc);
+    group.append_to(&mut text)?;
+    Ok(text)
+}
+
+/// Where the lines of a group begin and end, if it is one of those that are kept under their printed forms.
+pub(crate) fn lines_of(
+    alloc: Global,
+    kept: &BTreeMap<Vec<u8>, Written<'_>>,
+    group: &Group<'_>,
+) -> Result<Option<(usize, usize)>, AllocError>
+    ensures { IfOk result (λ lines. IfSome lines (λ place.
+        IsAmong (values kept.now) (record { group = group.now; start = place.0; end = place.1 }))) }
+{
+    if kept.is_empty() {
+        return Ok(None);
+    }
+    let text = printed(alloc, group)?;
+    match kept.get(&text) {
+        Some(written) if are_same(group, &written.group) => Ok(Some((written.start, written.end))),
+        _ => Ok(None),
+    }
+}
+
+/// Keeps a group under its printed form.
+pub(crate) fn keep<'a>(
+    alloc: Global,
+    kept: &mut BTreeMap<Vec<u8>, Written<'a>>,
+    written: Written<'a>,
+) -> Result<(), AllocError>
+    ensures { OnOk result (KeepsOneMore kept.old kept.new written.entry) }
+{
+    let text = printed(alloc, &written.group)?;
+    kept.insert(text, written)?;
+    Ok(())
 }

@@ -1,10 +1,23 @@
--- Lines of a group that stand at the end of a text.
-use Rattle.std.specs.Prelude.{◌≡◌, ◌≤◌, ℕ, Bool, List, length, drop}
+-- Lines of groups that stand in a text.
+use Rattle.std.specs.Prelude.{◌≡◌, ◌≤◌, ℕ, Bool, List, Vec, length}
+use Rattle.std.specs.BTreeMap.{BTreeMap, insert_entry}
+use Rattle.std.specs.Cmp.Lexicographic.{slice_cmp}
+use Rattle.std.specs.Global.{Global}
+use Rattle.std.specs.List.{slice_range}
+use Rattle.std.specs.Ordering.{nat_cmp}
 use Rattle.ctl_relation.specs.declared.field_kind.FieldKind.{FieldKind}
 use Rattle.ctl_policy.specs.Priority.{World}
 use Rattle.ctl_query.specs.declared.repeats.Written.{Written}
 use Rattle.ctl_query.specs.Depends.{group_lines}
 
--- from where a text was that long, it has the lines of the group
+-- between the two places the text has the lines of the group
 abbrev pub IsWritten : World → Bool → FieldKind → List ℕ → Written → Type 0
-IsWritten world installed field text w = (w.start ≤ length text) × (drop w.start text ≡ group_lines world installed field w.group)
+IsWritten world installed field text w =
+    (w.start ≤ w.end) × (w.end ≤ length text) × (slice_range text w.start w.end ≡ group_lines world installed field w.group)
+
+abbrev pub Kept : Type 0
+Kept = BTreeMap (Vec ℕ Global) Written
+
+-- one more is kept, under some key
+abbrev pub KeepsOneMore : Kept → Kept → Written → Type 0
+KeepsOneMore old new w = (key : Vec ℕ Global) × (new.entries ≡ insert_entry (λ x y. slice_cmp nat_cmp x.items y.items) old.entries key w)
