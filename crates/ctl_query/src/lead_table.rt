@@ -20,6 +20,8 @@ pub(crate) struct LeadTable<'a> {
     leads: Vec<(StanzaKey, &'a Stanza)>,
     // The place of each among them, in the order of their keys.
     places: Vec<(StanzaKey, usize)>,
+    // Where to look for the place of a key first: in most slots stands where its key has its place.
+    likely: Vec<u32>,
 }
 
 impl<'a> Model for LeadTable<'a> {
@@ -73,13 +75,36 @@ fn are_rising(places: &[(StanzaKey, usize)]) -> bool
     true
 }
 
-// The place beside a key, where keys rise.
-fn place_under(places: &[(StanzaKey, usize)], key: StanzaKey) -> Option<usize>
+// So far apart are the slots of the stanzas of one list and of the next.
+const LIST_APART: u64 = 2_654_435_761;
+
+// The slot of a key among so many. Stanzas of one list that follow one another have slots that do.
+fn slot_of(key: StanzaKey, slots: usize) -> usize {
+    if slots == 0 {
+        return 0;
+    }
+    let start = u64::from(key.list).wrapping_mul(LIST_APART);
+    (key.stanza.wrapping_add(start) % slots as u64) as usize
+}
+
+// Where each key stands among places, by its slot. Where two keys have one slot, it is the last one's.
+fn likely_places(alloc: Global, places: &[(StanzaKey, usize)]) -> Result<Vec<u32>, AllocError> {
+    let mut likely = vec![in alloc; 0u32; places.len().saturating_mul(2)]?;
+    for at in 0..places.len() {
+        let slot = slot_of(places[at].0, likely.len());
+        if let Some(found) = likely.get_mut(slot) {
+            *found = u32::try_from(at).unwrap_or(0);
+        }
+    }
+    Ok(likely)
+}
+
+// The place beside a key, where keys rise. It is looked for at a likely index first.
+fn place_under(places: &[(StanzaKey, usize)], likely: usize, key: StanzaKey) -> Option<usize>
     requires { AreInKeyOrder places.now }
     ensures { result ≡ place_under key places.now }
 {
-    // Where each stanza of the first list is a lead, its key stands at its own number.
-    if let Some(likely) = places.get(key.stanza as usize) {
+    if let Some(likely) = places.get(likely) {
         if compare_keys(&likely.0, &key).is_eq() {
             return Some(likely.1);
         }
@@ -117,7 +142,12 @@ impl<'a> LeadTable<'a> {
         if !are_rising(&places) {
             return Ok(None);
         }
-        Ok(Some(LeadTable { leads, places }))
+        let likely = likely_places(asking.alloc(), &places)?;
+        Ok(Some(LeadTable {
+            leads,
+            places,
+            likely,
+        }))
     }
 
     /// The place of the lead of a key, if it is one's.
@@ -125,7 +155,9 @@ impl<'a> LeadTable<'a> {
         ensures some { IfSome result (λ i. key_at self.now i ≡ Some key) }
         ensures exact { (i : ℕ) → key_at self.now i ≡ Some key → result ≡ Some i }
     {
-        place_under(&self.places, key)
+        let slot = slot_of(key, self.likely.len());
+        let likely = self.likely.get(slot).copied().unwrap_or(0);
+        place_under(&self.places, likely as usize, key)
     }
 
     /// The lead at a place.

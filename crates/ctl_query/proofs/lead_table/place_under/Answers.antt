@@ -20,5 +20,5 @@ returns-then-is_eq c =
     let at = c.in-Some.ensures.lookup.3 in
     let same : key_cmp likely.0 c.args.key ≡ Equal = (Equal-is (key_cmp likely.0 c.args.key)).0 (ap is_eq (sym c.compare_keys.ensures) ∙ sym c.is_eq.ensures ∙ c.if-is_eq.true) in
     ap (λ (p : StanzaKey × ℕ). Some p.1) (at.1 likely)
-    ∙ found c.args.places.now c.requires c.args.key c.args.key.stanza likely at.0
+    ∙ found c.args.places.now c.requires c.args.key c.args.likely likely at.0
     (λ d. ap (λ (p : StanzaKey × ℕ). key_cmp p.0 c.args.key) (sym (at.1 d)) ∙ same)
