@@ -8,7 +8,7 @@ ghost use Rattle.ctl_session.specs.Replies.{outcome_from, outcome_of_edit, MayDo
 use crate::edits::{AtLine, add_list, edit, put, refused, set_prefs};
 use crate::refusal_at::RefusalAt;
 use crate::reply::Reply;
-use crate::request::Request;
+use crate::request::{Request, let_go};
 use crate::script::{Body, CommandRead};
 use ctl_index::Cache;
 use ctl_query::answer;
@@ -66,11 +66,15 @@ fn do_request(
     ensures state { ChangesByEdit result (cache_state cache.old) (cache_state cache.new) }
 {
     if body.dropped {
+        let_go(Ok(request));
         return Reply::Refused(refused(at.number, Refusal::Memory));
     }
     match cache.recover() {
         Ok(()) => carry_out(at, cache, request, body.text, out),
-        Err(_) => Reply::Refused(refused(at.number, Refusal::Memory)),
+        Err(_) => {
+            let_go(Ok(request));
+            Reply::Refused(refused(at.number, Refusal::Memory))
+        }
     }
 }
 
@@ -119,7 +123,10 @@ pub(crate) fn perform(
 {
     out.clear();
     match refusal_of_lines(&command.body, last_line) {
-        Some(refused) => Reply::Refused(refused),
+        Some(refused) => {
+            let_go(command.request);
+            Reply::Refused(refused)
+        }
         None => do_whole(alloc, cache, command, out),
     }
 }

@@ -13,7 +13,7 @@ use crate::fault::ReadingFault;
 use crate::line_words::{has_body, is_dot, is_no_command};
 use crate::lines::Lines;
 use crate::read_ahead::LineRead;
-use crate::request::{Request, read_request};
+use crate::request::{Request, let_go, read_request};
 use crate::source::Source;
 use ctl_index::Cache;
 use ctl_stanza::MAX_LINE;
@@ -234,7 +234,10 @@ pub(crate) fn read_command<R: Source>(
         }));
     }
     match read_body(alloc, lines, reader, line, request.is_ok()) {
-        Err(fault) => Err(fault),
+        Err(fault) => {
+            let_go(request);
+            Err(fault)
+        }
         Ok(body) => Ok(Some(CommandRead {
             number,
             request,
