@@ -7,7 +7,7 @@ use crate::lines::{is_blank, is_blank_byte};
 use ctl_relation::is_field_name_byte;
 
 /// What a line is by itself.
-#[derive(Clone, Copy, Debug, PartialEq, Eq)]
+#[derive(Clone, Copy)]
 pub(crate) enum LineKind {
     /// Spaces and tabs alone, or nothing.
     Blank,

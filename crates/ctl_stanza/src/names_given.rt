@@ -42,7 +42,12 @@ impl<'a> Model for NamesGiven<'a> {
 fn is_among(names: &[&[u8]], name: &[u8]) -> bool
     ensures { result ≡ list_any (λ other. is_same_name name.now other.now) names.now }
 {
-    names.iter().any(|other| is_same_name(name, *other))
+    for other in names {
+        if is_same_name(name, *other) {
+            return true;
+        }
+    }
+    false
 }
 
 // Whether a name is one of these, where its slot is taken.

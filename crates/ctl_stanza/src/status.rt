@@ -2,6 +2,7 @@
 
 ghost use Rattle.std.specs.Prelude.{◌≡◌, ◌≤◌, length};
 ghost use Rattle.std.specs.List.{prefix_len};
+ghost use Rattle.std.specs.Str.{bytes_eq};
 ghost use Rattle.ctl_stanza.specs.Status.{is_word_byte, first_word, behind_word, is_live_state, is_other_state};
 ghost use Rattle.ctl_stanza.specs.Status.{liveness_in, liveness_by_body, liveness};
 ghost use Rattle.ctl_stanza.specs.HeldFields.{AreWithin, shown_fields};
@@ -32,22 +33,28 @@ fn take_word(text: &[u8]) -> (&[u8], &[u8])
     rest.split_at(word_len(rest))
 }
 
+fn is_state(word: &[u8], state: &[u8]) -> bool
+    ensures { result ≡ bytes_eq word.now state.now }
+{
+    word == state
+}
+
 fn is_live_state(word: &[u8]) -> bool
     ensures { result ≡ is_live_state word.now }
 {
-    word == b"unpacked".as_slice()
-        || word == b"half-configured".as_slice()
-        || word == b"triggers-awaited".as_slice()
-        || word == b"triggers-pending".as_slice()
-        || word == b"installed".as_slice()
+    is_state(word, b"unpacked")
+        || is_state(word, b"half-configured")
+        || is_state(word, b"triggers-awaited")
+        || is_state(word, b"triggers-pending")
+        || is_state(word, b"installed")
 }
 
 fn is_other_state(word: &[u8]) -> bool
     ensures { result ≡ is_other_state word.now }
 {
-    word == b"not-installed".as_slice()
-        || word == b"config-files".as_slice()
-        || word == b"half-installed".as_slice()
+    is_state(word, b"not-installed")
+        || is_state(word, b"config-files")
+        || is_state(word, b"half-installed")
 }
 
 // Whether a package in a state is live; None where the word is no state.
