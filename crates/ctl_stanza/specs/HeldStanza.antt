@@ -3,6 +3,7 @@
 use Rattle.std.specs.Prelude.{◌≡◌, ◌≤◌, ℕ, List, [], ◌∷◌, ◌++◌, length, take, drop, nat_eq, unwrap_or, Option, None, Some, if◌then◌else◌}
 use Rattle.std.specs.List.{All}
 use Rattle.ctl_relation.specs.declared.field_kind.FieldKind.{FieldKind}
+use Rattle.ctl_relation.specs.declared.field_kind.FieldKind.TheVariants as field_kinds
 use Rattle.ctl_relation.specs.FieldKind.{field_place}
 use Rattle.ctl_relation.specs.HeldPlaces.{AreHeld, groups_held}
 use Rattle.ctl_relation.specs.Parts.{AtomParts, OfferParts}
@@ -10,9 +11,9 @@ use Rattle.ctl_relation.specs.Reading.{groups_read}
 use Rattle.ctl_stanza.specs.declared.fields.Span.{Span}
 use Rattle.ctl_stanza.specs.declared.list_kind.ListKind.{ListKind}
 use Rattle.ctl_stanza.specs.Marks.{MarkedField, words_of_all}
-use Rattle.ctl_stanza.specs.Fields.{FieldText, is_same_name, body_named, version_name}
+use Rattle.ctl_stanza.specs.Fields.{FieldText, is_same_name, body_named, package_name, version_name}
 use Rattle.ctl_stanza.specs.RelationFields.{name_of}
-use Rattle.ctl_stanza.specs.Content.{Content, relations_of_kind, offers_of}
+use Rattle.ctl_stanza.specs.Content.{Content, relations_of_kind, offers_in, offers_of}
 use Rattle.ctl_stanza.specs.Sound.{IsWhole, IsSound}
 use Rattle.ctl_stanza.specs.HeldFields.{IsWalk, IsWithin, shown}
 use Rattle.ctl_stanza.specs.Lines.{lines_of}
@@ -79,6 +80,12 @@ pub record AreKept (bytes : List ℕ) (fields : List FieldText) (marks : List �
   pub relations : List MarkedField
   pub are : AreMarks bytes marks relations
   pub groups : (kind : FieldKind) → kept_groups kind bytes relations ≡ groups_read kind (unwrap_or (body_named (name_of kind) fields) [])
+
+-- what a live stanza of this version offers, by its fields
+abbrev pub live_offers : Option (List ℕ) → List FieldText → List OfferParts
+live_offers version fields =
+    record { name = unwrap_or (body_named package_name fields) []; version = version }
+    ∷ offers_in (groups_read field_kinds.Provides (unwrap_or (body_named (name_of field_kinds.Provides) fields) []))
 
 -- the groups of each relation field of a stanza are those that are marked
 pub record AreRelationsOf (content : Content) (bytes marks : List ℕ) : Type 0 where

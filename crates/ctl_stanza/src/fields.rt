@@ -13,7 +13,7 @@ ghost use Rattle.ctl_stanza.specs.HeldFields.{loose_at, loose_bodies};
 
 use crate::line_kind::{LineKind, kind_of};
 use crate::lines::{begins_with_blank, is_blank, is_blank_byte};
-use std::alloc::{AllocError, Global};
+use std::alloc::AllocError;
 
 /// From a place in a text up to another.
 #[derive(Clone, Copy)]
@@ -234,28 +234,23 @@ fn add_field(
     Ok(())
 }
 
-// How many lines don't begin with a blank: in a stanza without a faulty line these are its field lines.
-fn field_count(lines: &[&[u8]]) -> usize {
-    lines.iter().filter(|line| !begins_with_blank(line)).count()
-}
-
-/// The fields of the lines of a stanza without a faulty line, in the text of these lines; behind it are put the bodies
+/// Finds the fields of the lines of a stanza without a faulty line, in the text of these lines; behind it are put the bodies
 /// that don't stand in it in one piece. The only error is want of memory, which also a place of 2^32 or more is
 /// taken for.
 pub(crate) fn fields_of_lines(
-    alloc: Global,
     bytes: &mut Vec<u8>,
+    fields: &mut Vec<Field>,
     lines: &[&[u8]],
-) -> Result<Vec<Field>, AllocError>
+) -> Result<(), AllocError>
     requires text { bytes.old.items ≡ text_of_lines (lent_lines lines.now) }
     requires short { length bytes.old.items < 2 ^ 32 }
     ensures grows { OnOk result (Grows bytes.old.items bytes.new.items) }
-    ensures fields { IfOk result (λ fields. shown_fields bytes.new.items fields.items ≡ fields_of_lines (lent_lines lines.now)) }
-    ensures within { IfOk result (λ fields. AreWithin bytes.new.items fields.items) }
-    ensures lines { IfOk result (λ fields. AreBelow (length lines.now) fields.items) }
+    ensures fields { OnOk result (shown_fields bytes.new.items fields.new.items ≡ fields_of_lines (lent_lines lines.now)) }
+    ensures within { OnOk result (AreWithin bytes.new.items fields.new.items) }
+    ensures lines { OnOk result (AreBelow (length lines.now) fields.new.items) }
     ensures loose { OnOk result (bytes.new.items ≡ bytes.old.items ++ loose_bodies (lent_lines lines.now)) }
 {
-    let mut fields = Vec::with_capacity(alloc, field_count(lines))?;
+    fields.clear();
     let mut at: u32 = 0;
     for i in 0..lines.len() {
         let line = lines[i];
@@ -263,15 +258,15 @@ pub(crate) fn fields_of_lines(
             index: i as u32,
             at,
         };
-        add_field(bytes, &mut fields, line, &lines[i + 1..], start)?;
+        add_field(bytes, fields, line, &lines[i + 1..], start)?;
         at += line.len() as u32 + 1;
     }
     bytes.shrink_to_fit();
-    Ok(fields)
+    Ok(())
 }
 
 /// The body of the first field of a name.
-pub(crate) fn body_named<'a>(fields: &'a [Field], text: &'a [u8], name: &[u8]) -> Option<&'a [u8]>
+pub(crate) fn body_named<'a>(fields: &[Field], text: &'a [u8], name: &[u8]) -> Option<&'a [u8]>
     requires { AreWithin text.now fields.now }
     ensures { option_map (λ body. body.now) result ≡ body_named name.now (shown_fields text.now fields.now) }
 {

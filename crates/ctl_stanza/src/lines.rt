@@ -1,11 +1,11 @@
 //! Cutting a text into lines.
 
-ghost use Rattle.std.specs.Prelude.{◌≡◌, ◌<◌, ◌≤◌, ◌+◌, ◌∷◌, ◌++◌, [], ℕ, List, length, IfOk, IfSome, IfNone};
+ghost use Rattle.std.specs.Prelude.{◌≡◌, ◌<◌, ◌≤◌, ◌+◌, ◌∷◌, ◌++◌, [], ℕ, List, length, OnOk, IfSome, IfNone};
 ghost use Rattle.ctl_relation.specs.Bytes.{newline};
 ghost use Rattle.ctl_stanza.specs.Lines.{lines_of, is_too_long, is_blank_byte, is_blank, begins_with_blank, text_of_lines, lent_lines};
 
 use bstr::ByteSlice;
-use std::alloc::{AllocError, Global};
+use std::alloc::AllocError;
 
 /// The most bytes of a line, its newline not counted. A longer line is a fault.
 pub const MAX_LINE: usize = 1_048_576;
@@ -68,18 +68,19 @@ pub(crate) fn behind_empty_line(text: &[u8]) -> Option<&[u8]>
     if *first == b'\n' { Some(behind) } else { None }
 }
 
-/// Each line with a newline, in one piece without spare room.
-pub(crate) fn text_of_lines(alloc: Global, lines: &[&[u8]]) -> Result<Vec<u8>, AllocError>
-    ensures { IfOk result (λ text. text.items ≡ text_of_lines (lent_lines lines.now)) }
+/// Puts each line with a newline into a text, in place of what it had.
+pub(crate) fn text_of_lines(text: &mut Vec<u8>, lines: &[&[u8]]) -> Result<(), AllocError>
+    ensures { OnOk result (text.new.items ≡ text_of_lines (lent_lines lines.now)) }
 {
     let mut len: usize = 0;
     for line in lines {
         len = len.saturating_add(line.len()).saturating_add(1);
     }
-    let mut text = Vec::with_capacity(alloc, len)?;
+    text.clear();
+    text.reserve_exact(len)?;
     for i in 0..lines.len() {
         text.extend_from_slice(lines[i])?;
         text.push(b'\n')?;
     }
-    Ok(text)
+    Ok(())
 }

@@ -1,6 +1,6 @@
 //! What the fields of a live stanza are read to.
 
-ghost use Rattle.std.specs.Prelude.{◌≡◌, ◌≢◌, ◌+◌, ◌<◌, ◌^◌, true, false, None, Some, IfOk, IfErr, OnOk};
+ghost use Rattle.std.specs.Prelude.{◌≡◌, ◌≢◌, ◌+◌, ◌<◌, ◌^◌, true, false, None, Some, IfErr, OnOk};
 ghost use Rattle.std.specs.List.{All};
 ghost use Rattle.ctl_relation.specs.declared.relation_fault.RelationFault.TheVariants as relation;
 ghost use Rattle.ctl_relation.specs.Reading.{relations_of};
@@ -18,31 +18,35 @@ use crate::marks::{BODY_END, push_field};
 use ctl_relation::{FieldKind, RelationFault, Version, VersionFault, is_name, read_groups};
 use std::alloc::Global;
 
-/// The relation fields of a stanza that were read: their marks, and room for the places of the one that is read. One stanza
-/// after another is read with the same, so that the room is asked for once.
+/// The relation fields of a stanza that were read: their marks, and room for the places of the one that is read.
 #[derive(Drop)]
 pub(crate) struct RelationMarks {
-    marks: Vec<u32>,
+    pub(crate) marks: Vec<u32>,
     starts: Vec<u32>,
     further: Vec<u32>,
 }
 
-impl RelationMarks {
-    /// No room yet.
-    pub(crate) fn new(alloc: Global) -> RelationMarks {
-        RelationMarks {
-            marks: Vec::new(alloc),
-            starts: Vec::new(alloc),
-            further: Vec::new(alloc),
-        }
-    }
-}
-
-/// The version of a live stanza, and the marks of its relation fields.
+/// What the fields of a live stanza gave: its version, and the marks of its relation fields. One stanza after another is read
+/// with the same, so that the room is asked for once.
 #[derive(Drop)]
 pub(crate) struct LiveParts {
     pub(crate) version: Option<Version>,
-    pub(crate) marks: Vec<u32>,
+    pub(crate) relations: RelationMarks,
+}
+
+impl LiveParts {
+    /// No room yet.
+    pub(crate) fn new(alloc: Global) -> LiveParts {
+        let relations = RelationMarks {
+            marks: Vec::new(alloc),
+            starts: Vec::new(alloc),
+            further: Vec::new(alloc),
+        };
+        LiveParts {
+            version: None,
+            relations,
+        }
+    }
 }
 
 // The relation field of a name, if it is the name of one.
@@ -112,20 +116,14 @@ fn read_relations(
 }
 
 // Reads a field of a live stanza, and keeps what it gives.
-fn read_field(
-    alloc: Global,
-    field: &Field,
-    bytes: &[u8],
-    version: &mut Option<Version>,
-    relations: &mut RelationMarks,
-) -> Result<(), Cause>
+fn read_field(alloc: Global, field: &Field, bytes: &[u8], live: &mut LiveParts) -> Result<(), Cause>
     requires { IsFieldWithin bytes.now field.now }
     ensures good { OnOk result (field_cause true (shown bytes.now field.now.name) (shown bytes.now field.now.body) ≡ None) }
     ensures bad { IfErr result (TellsCause (field_cause true (shown bytes.now field.now.name) (shown bytes.now field.now.body))) }
     ensures version { OnOk result (
-        version.new ≡ or_else version.old (version_given (shown bytes.now field.now.name) (shown bytes.now field.now.body))) }
+        live.new.version ≡ or_else live.old.version (version_given (shown bytes.now field.now.name) (shown bytes.now field.now.body))) }
     ensures marks { OnOk result (Marks bytes.now (relation_kind (shown bytes.now field.now.name)) field.now.body
-        relations.old.marks.items relations.new.marks.items) }
+        live.old.relations.marks.items live.new.relations.marks.items) }
 {
     let name = field.name.of(bytes);
     if is_same_name(name, b"Package") {
@@ -136,12 +134,12 @@ fn read_field(
         };
     }
     if is_same_name(name, b"Version") {
-        return read_version(alloc, field.body.of(bytes), version);
+        return read_version(alloc, field.body.of(bytes), &mut live.version);
     }
     let Some(kind) = relation_kind(name) else {
         return Ok(());
     };
-    match read_relations(bytes, field.body, kind, relations) {
+    match read_relations(bytes, field.body, kind, &mut live.relations) {
         Ok(()) => Ok(()),
         Err(RelationFault::Memory) => Err(Cause::Memory),
         Err(_) => Err(Cause::Relation),
@@ -154,21 +152,21 @@ pub(crate) fn read_live(
     fields: &[Field],
     bytes: &[u8],
     first_line: u64,
-    relations: &mut RelationMarks,
-) -> Result<LiveParts, TextFault>
+    live: &mut LiveParts,
+) -> Result<(), TextFault>
     requires within { AreWithin bytes.now fields.now }
     requires lines { All (λ field. first_line + field.line < 2 ^ 64) fields.now }
     ensures good { OnOk result (first_wrong true first_line (shown_fields bytes.now fields.now) ≡ None) }
     ensures bad { IfErr result (Tells (first_wrong true first_line (shown_fields bytes.now fields.now))) }
     ensures memory { IfErr result IsMemoryAtZero }
-    ensures version { IfOk result (λ parts. parts.version ≡ body_named version_name (shown_fields bytes.now fields.now)) }
-    ensures relations { IfOk result (λ parts. AreKept bytes.now (shown_fields bytes.now fields.now) parts.marks.items) }
+    ensures version { OnOk result (live.new.version ≡ body_named version_name (shown_fields bytes.now fields.now)) }
+    ensures relations { OnOk result (AreKept bytes.now (shown_fields bytes.now fields.now) live.new.relations.marks.items) }
 {
-    relations.marks.clear();
-    let mut version: Option<Version> = None;
+    live.version = None;
+    live.relations.marks.clear();
     for i in 0..fields.len() {
         let field = &fields[i];
-        match read_field(alloc, field, bytes, &mut version, relations) {
+        match read_field(alloc, field, bytes, live) {
             Ok(()) => {}
             Err(Cause::Memory) => {
                 return Err(TextFault::MEMORY);
@@ -181,6 +179,5 @@ pub(crate) fn read_live(
             }
         }
     }
-    let marks = Vec::from_slice(alloc, &relations.marks)?;
-    Ok(LiveParts { version, marks })
+    Ok(())
 }

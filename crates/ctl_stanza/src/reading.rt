@@ -5,19 +5,18 @@ ghost use Rattle.ctl_stanza.specs.Lines.{lines_of, lent_lines, AreLines};
 ghost use Rattle.ctl_stanza.specs.Faults.{IsMemoryAtZero, Tells};
 ghost use Rattle.ctl_stanza.specs.Laws.{AreStanzasOf, HasNoFault, TellsLeastFault};
 ghost use Rattle.ctl_stanza.specs.HeldFields.{IsReadFrom, AreBelow};
+ghost use Rattle.ctl_stanza.specs.HeldNames.{HasSeenNone};
 ghost use Rattle.ctl_stanza.specs.NameSlots.{AreTakenBy};
 ghost use Rattle.ctl_stanza.specs.Text.{IsFirstPiece, is_gap, piece_content, piece_fault, piece};
 ghost use Rattle.ctl_stanza.specs.Text.{read_text, with_contents, Reads, TellsFault};
 
 use crate::fault::TextFault;
-use crate::fields::Field;
 use crate::line_faults::{LinesSeen, first_fault};
 use crate::lines::{behind_empty_line, is_blank, take_line};
 use crate::list_kind::ListKind;
-use crate::live::RelationMarks;
 use crate::quick::{Accepted, accept_stanza};
 use crate::repeats::Repeats;
-use crate::stanza::{Stanza, StanzaBytes, read_stanza, stanza_of_fields};
+use crate::stanza::{Stanza, StanzaHead, StanzaRoom, add_stanza, add_stanza_of_lines};
 use std::alloc::{AllocError, Global};
 
 /// Takes the lines of the first piece of a text: one blank line, or all lines up to the next blank one. What
@@ -55,37 +54,13 @@ pub(crate) fn take_piece<'a>(
     }
 }
 
-// Reads a piece that may have a fault: adds its stanza, if it is one.
-fn read_piece(
-    alloc: Global,
-    stanzas: &mut Vec<Stanza>,
-    lines: &[&[u8]],
-    first_line: u64,
-    kind: ListKind,
-) -> Result<(), TextFault>
-    requires lines { first_line + length lines.now < 2 ^ 64 }
-    requires some { 0 < length lines.now }
-    requires no_newline { AreLines (lent_lines lines.now) }
-    ensures stanzas { OnOk result (
-        stanzas.new.items ≡ stanzas.old.items ++ piece_content kind (lent_lines lines.now)) }
-    ensures whole { OnOk result (piece_fault kind (piece first_line (lent_lines lines.now)) ≡ None) }
-    ensures fault { IfErr result (Tells (piece_fault kind (piece first_line (lent_lines lines.now)))) }
-    ensures memory { IfErr result IsMemoryAtZero }
-{
-    let mut seen = LinesSeen::new(alloc);
-    let found = first_fault(alloc, Repeats::Never, &mut seen, lines, first_line)?;
-    let names = seen.slots();
-    // The names of a large stanza take more room than the stanza.
-    seen.clear();
-    if let Some(fault) = found {
-        return Err(fault);
-    }
-    if is_blank(lines[0]) {
-        return Ok(());
-    }
-    let stanza = read_stanza(alloc, lines, first_line, kind, names)?;
-    stanzas.push(stanza)?;
-    Ok(())
+// The room that one piece of a text after another is read with, so that it is asked for once: what the lines of a stanza gave,
+// these lines, and what is read of the stanza.
+#[derive(Drop)]
+struct Room<'a> {
+    seen: LinesSeen<'a>,
+    lines: Vec<&'a [u8]>,
+    stanza: StanzaRoom,
 }
 
 // Where a stanza begins: the number of its first line, and the kind of its list.
@@ -95,32 +70,118 @@ struct StanzaStart {
     kind: ListKind,
 }
 
-// Makes an accepted stanza of its fields, or tells what is wrong with it.
-fn stanza_of_accepted(
+// Reads a piece that may have a fault: adds its stanza, if it is one.
+fn read_piece(
     alloc: Global,
-    accepted: &Accepted,
-    fields: &[Field],
+    stanzas: &mut Vec<Stanza>,
+    room: &mut Room,
     from: StanzaStart,
-    relations: &mut RelationMarks,
-) -> Result<Stanza, TextFault>
+) -> Result<(), TextFault>
+    requires lines { from.line + length room.old.lines.items < 2 ^ 64 }
+    requires some { 0 < length room.old.lines.items }
+    requires no_newline { AreLines (lent_lines room.old.lines.items) }
+    requires none { HasSeenNone room.old.seen }
+    ensures stanzas { OnOk result (
+        stanzas.new.items ≡ stanzas.old.items ++ piece_content from.kind (lent_lines room.old.lines.items)) }
+    ensures whole { OnOk result (piece_fault from.kind (piece from.line (lent_lines room.old.lines.items)) ≡ None) }
+    ensures fault { IfErr result (Tells (piece_fault from.kind (piece from.line (lent_lines room.old.lines.items)))) }
+    ensures memory { IfErr result IsMemoryAtZero }
+    ensures none { OnOk result (HasSeenNone room.new.seen) }
+{
+    let found = first_fault(
+        alloc,
+        Repeats::Never,
+        &mut room.seen,
+        &room.lines,
+        from.line,
+    )?;
+    let names = room.seen.slots();
+    // The names of a large stanza take more room than the stanza.
+    room.seen.clear();
+    if let Some(fault) = found {
+        return Err(fault);
+    }
+    if is_blank(room.lines[0]) {
+        return Ok(());
+    }
+    let head = StanzaHead {
+        line: from.line,
+        kind: from.kind,
+        names,
+    };
+    add_stanza_of_lines(alloc, stanzas, &mut room.stanza, &room.lines, head)
+}
+
+// Adds an accepted stanza, whose fields were found, or tells what is wrong with it.
+fn add_accepted(
+    alloc: Global,
+    stanzas: &mut Vec<Stanza>,
+    room: &mut StanzaRoom,
+    accepted: &Accepted,
+    from: StanzaStart,
+) -> Result<(), TextFault>
     requires lines { from.line + accepted.now.line_count < 2 ^ 64 }
-    requires read { IsReadFrom accepted.now.text.now (length accepted.now.text.now) fields.now }
-    requires below { AreBelow accepted.now.line_count fields.now }
+    requires read { IsReadFrom accepted.now.text.now (length accepted.now.text.now) room.old.fields.items }
+    requires below { AreBelow accepted.now.line_count room.old.fields.items }
     requires stanza { is_gap (lines_of accepted.now.text.now) ≡ false }
     requires names { AreTakenBy (lines_of accepted.now.text.now) accepted.now.names }
-    ensures stanza { IfOk result (λ stanza. stanza ∷ [] ≡ piece_content from.kind (lines_of accepted.now.text.now)) }
+    ensures stanza { OnOk result (
+        stanzas.new.items ≡ stanzas.old.items ++ piece_content from.kind (lines_of accepted.now.text.now)) }
     ensures whole { OnOk result (piece_fault from.kind (piece from.line (lines_of accepted.now.text.now)) ≡ None) }
     ensures fault { IfErr result (Tells (piece_fault from.kind (piece from.line (lines_of accepted.now.text.now)))) }
     ensures memory { IfErr result IsMemoryAtZero }
 {
-    let bytes = Vec::from_slice(alloc, accepted.text)?;
-    let held = StanzaBytes {
-        bytes,
-        text_len: accepted.text.len() as u32,
+    room.bytes.clear();
+    room.bytes.extend_from_slice(accepted.text)?;
+    let head = StanzaHead {
+        line: from.line,
         kind: from.kind,
         names: accepted.names,
     };
-    stanza_of_fields(alloc, held, fields, from.line, relations)
+    add_stanza(alloc, stanzas, room, head, accepted.text.len() as u32)
+}
+
+// Adds the stanzas of a text, and tells the number of the line behind it.
+fn read_pieces<'a>(
+    alloc: Global,
+    stanzas: &mut Vec<Stanza>,
+    room: &mut Room<'a>,
+    text: &'a [u8],
+    from: StanzaStart,
+) -> Result<u64, TextFault>
+    requires lines { from.line + length (lines_of text.now) < 2 ^ 64 }
+    requires none { HasSeenNone room.old.seen }
+    ensures line { IfOk result (λ line. line ≡ from.line + length (lines_of text.now)) }
+    ensures read { OnOk result (with_contents stanzas.old.items (read_text from.kind from.line text.now) ≡ Ok stanzas.new.items) }
+    ensures fault { IfErr result (TellsFault (with_contents stanzas.old.items (read_text from.kind from.line text.now))) }
+    ensures memory { IfErr result IsMemoryAtZero }
+{
+    let kind = from.kind;
+    let mut left = text;
+    let mut line = from.line;
+    'pieces: while !left.is_empty() {
+        if let Some(behind) = behind_empty_line(left) {
+            line += 1;
+            left = behind;
+            continue;
+        }
+        let from = StanzaStart { line, kind };
+        let found = accept_stanza(alloc, &mut room.seen, &mut room.stanza.fields, left)?;
+        // The names of a large stanza take more room than the stanza.
+        room.seen.clear();
+        if let Some(accepted) = found {
+            add_accepted(alloc, stanzas, &mut room.stanza, &accepted, from)?;
+            line += accepted.line_count as u64;
+            left = accepted.behind;
+            continue;
+        }
+        let behind = take_piece(&mut room.lines, left)?;
+        let count = room.lines.len() as u64;
+        read_piece(alloc, stanzas, room, from)?;
+        line += count;
+        left = behind;
+    }
+    Ok(line)
 }
 
 /// Adds the stanzas of a control text whose lines count from `first_line`, and tells the number of the line behind it.
@@ -137,35 +198,16 @@ pub(crate) fn read_behind(
     ensures fault { IfErr result (TellsFault (with_contents stanzas.old.items (read_text kind first_line text.now))) }
     ensures memory { IfErr result IsMemoryAtZero }
 {
-    let mut seen = LinesSeen::new(alloc);
-    let mut relations = RelationMarks::new(alloc);
-    let mut fields: Vec<Field> = Vec::new(alloc);
-    let mut lines: Vec<&[u8]> = Vec::new(alloc);
-    let mut left = text;
-    let mut line = first_line;
-    'pieces: while !left.is_empty() {
-        if let Some(behind) = behind_empty_line(left) {
-            line += 1;
-            left = behind;
-            continue;
-        }
-        let found = accept_stanza(alloc, &mut seen, &mut fields, left)?;
-        // The names of a large stanza take more room than the stanza.
-        seen.clear();
-        if let Some(accepted) = found {
-            let from = StanzaStart { line, kind };
-            let stanza = stanza_of_accepted(alloc, &accepted, &fields, from, &mut relations)?;
-            stanzas.push(stanza)?;
-            line += accepted.line_count as u64;
-            left = accepted.behind;
-            continue;
-        }
-        let behind = take_piece(&mut lines, left)?;
-        read_piece(alloc, stanzas, &lines, line, kind)?;
-        line += lines.len() as u64;
-        left = behind;
-    }
-    Ok(line)
+    let mut room = Room {
+        seen: LinesSeen::new(alloc),
+        lines: Vec::new(alloc),
+        stanza: StanzaRoom::new(alloc),
+    };
+    let from = StanzaStart {
+        line: first_line,
+        kind,
+    };
+    read_pieces(alloc, stanzas, &mut room, text, from)
 }
 
 /// The stanzas of a control text whose lines count from `first_line`, or its fault.

@@ -1,13 +1,13 @@
 //! The records of a text of preferences (apt_preferences(5)).
 
-ghost use Rattle.std.specs.Prelude.{◌≡◌, ◌≢◌, ◌+◌, ◌<◌, ◌^◌, ◌++◌, length, None, IfOk, IfErr, IfSome, OnOk, OnErr};
+ghost use Rattle.std.specs.Prelude.{◌≡◌, ◌≢◌, ◌+◌, ◌<◌, ◌^◌, ◌++◌, ◌∷◌, [], length, None, Some, IfOk, IfErr, IfSome, OnOk, OnErr};
 ghost use Rattle.ctl_stanza.specs.declared.fault.Cause.TheVariants as causes;
 ghost use Rattle.ctl_stanza.specs.Lines.{lines_of, lent_lines, AreLines};
 ghost use Rattle.ctl_stanza.specs.Faults.{IsMemoryAtZero, Tells};
 ghost use Rattle.ctl_stanza.specs.HeldNames.{HasSeenNone};
-ghost use Rattle.ctl_stanza.specs.Text.{Reads};
+ghost use Rattle.ctl_stanza.specs.Text.{pieces_of, Reads};
 ghost use Rattle.ctl_stanza.specs.RecordLaws.{HasNoRecordFault, AreRecordsOf, AreRecordsUpTo, TellsLeastRecordFault};
-ghost use Rattle.ctl_stanza.specs.Records.{record_of, numbered_fault, record_fault, piece_record, records_before_fault, read_record_text};
+ghost use Rattle.ctl_stanza.specs.Records.{record_of, numbered_fault, record_fault, piece_record, records_before, records_before_fault, read_record_text};
 
 use crate::fault::{Cause, TextFault};
 use crate::fields::{Field, fields_of_lines};
@@ -18,6 +18,7 @@ use crate::record_lines::{RecordLines, record_lines};
 use crate::repeats::Repeats;
 use std::alloc::{AllocError, Global};
 use std::marker::Model;
+use std::mem;
 
 /// A record of preferences: fields, of which only their form is checked. It is seen as the number of its first line and
 /// its fields, of each the number of its line, its name and its body.
@@ -45,25 +46,45 @@ impl Model for Record {
     ghost invariant = { λ r. AreNumbered r.bytes.items r.numbers.items r.fields.items };
 }
 
-// The record of lines without a faulty one, which have these numbers. One of 2^32 bytes or more is taken for want of
+// The room that one piece of a text after another is read with: what its lines gave, these lines, and the bytes and the fields
+// of its record, which takes them with it.
+#[derive(Drop)]
+struct RecordRoom<'a> {
+    seen: LinesSeen<'a>,
+    lines: Vec<&'a [u8]>,
+    bytes: Vec<u8>,
+    fields: Vec<Field>,
+}
+
+// Adds the record of lines without a faulty one, which have these numbers. One of 2^32 bytes or more is taken for want of
 // memory.
-fn record_of(alloc: Global, lines: &[&[u8]], numbers: &[u64]) -> Result<Record, TextFault>
-    requires some { 0 < length lines.now }
-    requires numbers { length numbers.now ≡ length lines.now }
-    ensures record_is { IfOk result (λ read. read ≡ record_of numbers.now (lent_lines lines.now)) }
+fn add_record(
+    alloc: Global,
+    records: &mut Vec<Record>,
+    room: &mut RecordRoom,
+    numbers: &[u64],
+) -> Result<(), TextFault>
+    requires some { 0 < length room.old.lines.items }
+    requires numbers { length numbers.now ≡ length room.old.lines.items }
+    ensures record_is { OnOk result (
+        records.new.items ≡ records.old.items ++ record_of numbers.now (lent_lines room.old.lines.items) ∷ []) }
+    ensures none { room.new.seen ≡ room.old.seen }
+    ensures kept { OnErr result (records.new.items ≡ records.old.items) }
     ensures memory { IfErr result (λ fault. fault ≡ record { line = 0; cause = causes.Memory }) }
 {
-    let mut bytes = text_of_lines(alloc, lines)?;
-    if bytes.len() > u32::MAX as usize {
+    text_of_lines(&mut room.bytes, &room.lines)?;
+    if room.bytes.len() > u32::MAX as usize {
         return Err(TextFault::MEMORY);
     }
-    let fields = fields_of_lines(alloc, &mut bytes, lines)?;
+    fields_of_lines(&mut room.bytes, &mut room.fields, &room.lines)?;
+    room.fields.shrink_to_fit();
     let numbers = Vec::from_slice(alloc, numbers)?;
-    Ok(Record {
-        bytes,
-        fields,
+    records.push(Record {
+        bytes: mem::replace(&mut room.bytes, Vec::new(alloc)),
+        fields: mem::replace(&mut room.fields, Vec::new(alloc)),
         numbers,
-    })
+    })?;
+    Ok(())
 }
 
 // A fault whose line is told by its index, with the number of that line.
@@ -78,33 +99,58 @@ fn numbered_fault(fault: TextFault, numbers: &[u64]) -> TextFault
 }
 
 // Reads a piece of lines that have these numbers: adds its record, if it is one.
-fn read_record<'a>(
+fn read_record(
     alloc: Global,
     records: &mut Vec<Record>,
-    seen: &mut LinesSeen<'a>,
-    lines: &[&'a [u8]],
+    room: &mut RecordRoom,
     numbers: &[u64],
 ) -> Result<(), TextFault>
-    requires some { 0 < length lines.now }
-    requires numbers { length numbers.now ≡ length lines.now }
-    requires none { HasSeenNone seen.old }
-    ensures records { OnOk result (records.new.items ≡ records.old.items ++ piece_record numbers.now (lent_lines lines.now)) }
-    ensures whole { OnOk result (record_fault numbers.now (lent_lines lines.now) ≡ None) }
-    ensures none { OnOk result (HasSeenNone seen.new) }
+    requires some { 0 < length room.old.lines.items }
+    requires numbers { length numbers.now ≡ length room.old.lines.items }
+    requires none { HasSeenNone room.old.seen }
+    ensures records { OnOk result (
+        records.new.items ≡ records.old.items ++ piece_record numbers.now (lent_lines room.old.lines.items)) }
+    ensures whole { OnOk result (record_fault numbers.now (lent_lines room.old.lines.items) ≡ None) }
+    ensures none { OnOk result (HasSeenNone room.new.seen) }
     ensures kept { OnErr result (records.new.items ≡ records.old.items) }
-    ensures fault { IfErr result (Tells (record_fault numbers.now (lent_lines lines.now))) }
+    ensures fault { IfErr result (Tells (record_fault numbers.now (lent_lines room.old.lines.items))) }
     ensures memory { IfErr result IsMemoryAtZero }
 {
-    let found = first_fault(alloc, Repeats::Explanation, seen, lines, 0)?;
-    seen.clear();
+    let found = first_fault(alloc, Repeats::Explanation, &mut room.seen, &room.lines, 0)?;
+    room.seen.clear();
     if let Some(fault) = found {
         return Err(numbered_fault(fault, numbers));
     }
-    if is_blank(lines[0]) {
+    if is_blank(room.lines[0]) {
         return Ok(());
     }
-    let record = record_of(alloc, lines, numbers)?;
-    records.push(record)?;
+    add_record(alloc, records, room, numbers)
+}
+
+// Adds the records of lines, up to the first one that has a faulty line, and tells the fault of that line.
+fn read_pieces<'a>(
+    alloc: Global,
+    records: &mut Vec<Record>,
+    room: &mut RecordRoom<'a>,
+    kept: &'a RecordLines,
+) -> Result<(), TextFault>
+    requires numbers { length kept.now.numbers.items ≡ length (lines_of kept.now.text.items) }
+    requires none { HasSeenNone room.old.seen }
+    requires new { records.old.items ≡ [] }
+    ensures read { OnOk result (
+        (records.new.items, None) ≡ records_before kept.now.numbers.items (pieces_of 0 (lines_of kept.now.text.items))) }
+    ensures fault { IfErr result (λ fault. fault.cause ≢ causes.Memory →
+        (records.new.items, Some fault) ≡ records_before kept.now.numbers.items (pieces_of 0 (lines_of kept.now.text.items))) }
+{
+    let mut left = kept.text.as_slice();
+    let mut at: usize = 0;
+    'pieces: while !left.is_empty() {
+        let behind = take_piece(&mut room.lines, left)?;
+        let end = at + room.lines.len();
+        read_record(alloc, records, room, &kept.numbers[at..end])?;
+        at = end;
+        left = behind;
+    }
     Ok(())
 }
 
@@ -137,36 +183,21 @@ pub fn read_records_before_fault(
     ensures read { IfOk result (λ read. (read.records.items, read.fault) ≡ records_before_fault first_line text.now) }
     ensures fault { IfOk result (λ read. IfSome read.fault (λ fault. fault.cause ≢ causes.Memory)) }
 {
-    let RecordLines {
-        text: kept,
-        numbers,
-    } = record_lines(alloc, text, first_line)?;
+    let kept = record_lines(alloc, text, first_line)?;
+    let mut room = RecordRoom {
+        seen: LinesSeen::new(alloc),
+        lines: Vec::new(alloc),
+        bytes: Vec::new(alloc),
+        fields: Vec::new(alloc),
+    };
     let mut records = Vec::new(alloc);
-    let mut seen = LinesSeen::new(alloc);
-    let mut lines: Vec<&[u8]> = Vec::new(alloc);
-    let mut left = kept.as_slice();
-    let mut at: usize = 0;
-    'pieces: while !left.is_empty() {
-        let behind = take_piece(&mut lines, left)?;
-        let end = at + lines.len();
-        match read_record(alloc, &mut records, &mut seen, &lines, &numbers[at..end]) {
-            Ok(()) => {}
-            Err(fault) if fault.cause == Cause::Memory => return Err(AllocError),
-            Err(fault) => {
-                return Ok(RecordsBeforeFault {
-                    records,
-                    fault: Some(fault),
-                });
-            }
-        }
-        at = end;
-        left = behind;
-    }
+    let fault = match read_pieces(alloc, &mut records, &mut room, &kept) {
+        Ok(()) => None,
+        Err(fault) if fault.cause == Cause::Memory => return Err(AllocError),
+        Err(fault) => Some(fault),
+    };
     records.shrink_to_fit();
-    Ok(RecordsBeforeFault {
-        records,
-        fault: None,
-    })
+    Ok(RecordsBeforeFault { records, fault })
 }
 
 /// The records of a text of preferences whose lines count from `first_line`, or its fault: those of

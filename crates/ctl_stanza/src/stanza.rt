@@ -1,12 +1,12 @@
 //! Stanzas and their parts.
 
-ghost use Rattle.std.specs.Prelude.{◌≡◌, ◌+◌, ◌<◌, ◌≤◌, ◌^◌, [], true, false, length, take, drop, option_map, None, IfOk, IfErr, OnOk};
+ghost use Rattle.std.specs.Prelude.{◌≡◌, ◌+◌, ◌<◌, ◌≤◌, ◌^◌, ◌++◌, ◌∷◌, [], true, false, length, take, drop, option_map, None, IfOk, IfErr, OnOk};
 ghost use Rattle.std.specs.List.{All};
 ghost use Rattle.ctl_stanza.specs.Lines.{lines_of, lent_lines, AreLines};
 ghost use Rattle.ctl_stanza.specs.Fields.{fields_of_lines};
 ghost use Rattle.ctl_stanza.specs.Content.{content_of, offers_of};
-ghost use Rattle.ctl_stanza.specs.HeldStanza.{content_in_front, AreRelationsOf};
-ghost use Rattle.ctl_stanza.specs.HeldFields.{IsWalk, IsReadFrom, shown_fields};
+ghost use Rattle.ctl_stanza.specs.HeldStanza.{content_in_front, live_offers, AreKept, AreRelationsOf};
+ghost use Rattle.ctl_stanza.specs.HeldFields.{IsWalk, IsReadFrom, AreWithin, shown_fields};
 ghost use Rattle.ctl_stanza.specs.Faults.{first_fault, is_missing, whole_fault, stanza_fault, IsMemoryAtZero, Tells};
 ghost use Rattle.ctl_stanza.specs.NameSlots.{AreTakenBy};
 ghost use Rattle.ctl_stanza.specs.Status.{is_live_by};
@@ -18,15 +18,16 @@ use crate::fields::{Field, body_named, fields_of_lines};
 use crate::laws::whole_stanzas_are_sound;
 use crate::lines::text_of_lines;
 use crate::list_kind::ListKind;
-use crate::live::{LiveParts, RelationMarks, read_live};
+use crate::live::{LiveParts, read_live};
 use crate::marks::kept_groups;
 use crate::name_slots::is_taken;
 use crate::offers::{Offers, offers_of};
 use crate::status::liveness;
 use crate::walk::{body_in, count_fields, take_field};
 use ctl_relation::{FieldKind, Groups, Offer, Version};
-use std::alloc::Global;
+use std::alloc::{AllocError, Global};
 use std::marker::Model;
+use std::mem;
 
 /// A stanza without a fault, seen as its text and the kind of its list. What it has in it is read from its
 /// text once, and lent from there.
@@ -56,162 +57,192 @@ impl Model for Stanza {
         s.bytes.items s.text_len s.marks.items s.offers s.names };
 }
 
-/// The bytes of a stanza: its text, and behind it the bodies that don't stand in it in one piece.
-#[derive(Drop)]
-pub(crate) struct StanzaBytes {
-    pub(crate) bytes: Vec<u8>,
-    pub(crate) text_len: u32,
+/// Where a stanza begins, the kind of its list, and the slots of the names of its fields.
+#[derive(Clone, Copy)]
+pub(crate) struct StanzaHead {
+    pub(crate) line: u64,
     pub(crate) kind: ListKind,
-    /// The slots of the names of its fields.
     pub(crate) names: u64,
 }
 
+/// What is read of a stanza before it is one: its bytes, which are its text and behind it the bodies that don't stand in it in
+/// one piece, where its fields stand in them, and what these gave. One stanza after another is read with the same, and takes
+/// the bytes with it.
+#[derive(Drop)]
+pub(crate) struct StanzaRoom {
+    pub(crate) bytes: Vec<u8>,
+    pub(crate) fields: Vec<Field>,
+    live: LiveParts,
+}
+
+impl StanzaRoom {
+    /// No room yet.
+    pub(crate) fn new(alloc: Global) -> StanzaRoom {
+        StanzaRoom {
+            bytes: Vec::new(alloc),
+            fields: Vec::new(alloc),
+            live: LiveParts::new(alloc),
+        }
+    }
+}
+
 // The stanza of what was read.
-fn stanza_of(held: StanzaBytes, marks: Vec<u32>, offers: Offers) -> Stanza
-    requires within { held.text_len ≤ length held.bytes.items }
-    requires walk { IsWalk (take held.text_len held.bytes.items) (drop held.text_len held.bytes.items) }
-    requires relations { AreRelationsOf (content_in_front held.kind held.text_len held.bytes.items) held.bytes.items marks.items }
-    requires offers { offers ≡ offers_of (content_in_front held.kind held.text_len held.bytes.items) }
-    requires names { AreTakenBy (lines_of (take held.text_len held.bytes.items)) held.names }
-    requires no_fault { stanza_fault held.kind 0 (lines_of (take held.text_len held.bytes.items)) ≡ None }
-    ensures { result ≡ content_in_front held.kind held.text_len held.bytes.items }
+fn stanza_of(
+    bytes: Vec<u8>,
+    text_len: u32,
+    head: StanzaHead,
+    marks: Vec<u32>,
+    offers: Offers,
+) -> Stanza
+    requires within { text_len ≤ length bytes.items }
+    requires walk { IsWalk (take text_len bytes.items) (drop text_len bytes.items) }
+    requires relations { AreRelationsOf (content_in_front head.kind text_len bytes.items) bytes.items marks.items }
+    requires offers { offers ≡ offers_of (content_in_front head.kind text_len bytes.items) }
+    requires names { AreTakenBy (lines_of (take text_len bytes.items)) head.names }
+    requires no_fault { stanza_fault head.kind 0 (lines_of (take text_len bytes.items)) ≡ None }
+    ensures { result ≡ content_in_front head.kind text_len bytes.items }
 {
     whole_stanzas_are_sound();
-    let StanzaBytes {
-        bytes,
-        text_len,
-        kind,
-        names,
-    } = held;
     Stanza {
         bytes,
         text_len,
-        kind,
-        names,
+        kind: head.kind,
+        names: head.names,
         marks,
         offers,
     }
 }
 
-// Reads a stanza that isn't live, of which its package alone is checked.
-fn other_stanza(
+// Adds a stanza that isn't live, of which its package alone is checked.
+fn add_other(
     alloc: Global,
-    held: StanzaBytes,
-    fields: &[Field],
-    first_line: u64,
-) -> Result<Stanza, TextFault>
-    requires lines { All (λ field. first_line + field.line < 2 ^ 64) fields.now }
-    requires read { IsReadFrom held.bytes.items held.text_len fields.now }
-    requires names { AreTakenBy (lines_of (take held.text_len held.bytes.items)) held.names }
-    requires not_missing { is_missing held.kind (shown_fields held.bytes.items fields.now) ≡ false }
-    requires not_live { is_live_by held.kind (shown_fields held.bytes.items fields.now) ≡ false }
-    ensures stanza { IfOk result (λ stanza. stanza ≡ content_in_front held.kind held.text_len held.bytes.items) }
-    ensures whole { OnOk result (whole_fault held.kind first_line (shown_fields held.bytes.items fields.now) ≡ None) }
-    ensures fault { IfErr result (Tells (whole_fault held.kind first_line (shown_fields held.bytes.items fields.now))) }
+    stanzas: &mut Vec<Stanza>,
+    room: &mut StanzaRoom,
+    head: StanzaHead,
+    text_len: u32,
+) -> Result<(), TextFault>
+    requires lines { All (λ field. head.line + field.line < 2 ^ 64) room.old.fields.items }
+    requires read { IsReadFrom room.old.bytes.items text_len room.old.fields.items }
+    requires names { AreTakenBy (lines_of (take text_len room.old.bytes.items)) head.names }
+    requires not_missing { is_missing head.kind (shown_fields room.old.bytes.items room.old.fields.items) ≡ false }
+    requires not_live { is_live_by head.kind (shown_fields room.old.bytes.items room.old.fields.items) ≡ false }
+    ensures stanza { OnOk result (stanzas.new.items ≡ stanzas.old.items ++ content_in_front head.kind text_len room.old.bytes.items ∷ []) }
+    ensures whole { OnOk result (whole_fault head.kind head.line (shown_fields room.old.bytes.items room.old.fields.items) ≡ None) }
+    ensures fault { IfErr result (Tells (whole_fault head.kind head.line (shown_fields room.old.bytes.items room.old.fields.items))) }
     ensures memory { IfErr result IsMemoryAtZero }
 {
-    if let Some(fault) = first_wrong(fields, &held.bytes, first_line) {
+    if let Some(fault) = first_wrong(&room.fields, &room.bytes, head.line) {
         return Err(fault);
     }
-    let marks = Vec::new(alloc);
-    let offers = Offers::none();
-    Ok(stanza_of(held, marks, offers))
+    let bytes = mem::replace(&mut room.bytes, Vec::new(alloc));
+    stanzas.push(stanza_of(bytes, text_len, head, Vec::new(alloc), Offers::none()))?;
+    Ok(())
 }
 
-// Reads a live stanza.
-fn live_stanza(
+// What a live stanza of this version offers, by its fields and the marks of its relation fields.
+fn live_offers(
     alloc: Global,
-    held: StanzaBytes,
     fields: &[Field],
-    first_line: u64,
-    relations: &mut RelationMarks,
-) -> Result<Stanza, TextFault>
-    requires lines { All (λ field. first_line + field.line < 2 ^ 64) fields.now }
-    requires read { IsReadFrom held.bytes.items held.text_len fields.now }
-    requires names { AreTakenBy (lines_of (take held.text_len held.bytes.items)) held.names }
-    requires not_missing { is_missing held.kind (shown_fields held.bytes.items fields.now) ≡ false }
-    requires live { is_live_by held.kind (shown_fields held.bytes.items fields.now) ≡ true }
-    ensures stanza { IfOk result (λ stanza. stanza ≡ content_in_front held.kind held.text_len held.bytes.items) }
-    ensures whole { OnOk result (whole_fault held.kind first_line (shown_fields held.bytes.items fields.now) ≡ None) }
-    ensures fault { IfErr result (Tells (whole_fault held.kind first_line (shown_fields held.bytes.items fields.now))) }
+    bytes: &[u8],
+    marks: &[u32],
+    version: Option<Version>,
+) -> Result<Offers, AllocError>
+    requires within { AreWithin bytes.now fields.now }
+    requires kept { AreKept bytes.now (shown_fields bytes.now fields.now) marks.now }
+    ensures { IfOk result (λ offers. offers ≡ live_offers version (shown_fields bytes.now fields.now)) }
+{
+    let package = body_named(fields, bytes, b"Package").unwrap_or(&[]);
+    let provides = kept_groups(marks, bytes, FieldKind::Provides);
+    offers_of(alloc, package, version, provides)
+}
+
+// Adds a live stanza.
+fn add_live(
+    alloc: Global,
+    stanzas: &mut Vec<Stanza>,
+    room: &mut StanzaRoom,
+    head: StanzaHead,
+    text_len: u32,
+) -> Result<(), TextFault>
+    requires lines { All (λ field. head.line + field.line < 2 ^ 64) room.old.fields.items }
+    requires read { IsReadFrom room.old.bytes.items text_len room.old.fields.items }
+    requires names { AreTakenBy (lines_of (take text_len room.old.bytes.items)) head.names }
+    requires not_missing { is_missing head.kind (shown_fields room.old.bytes.items room.old.fields.items) ≡ false }
+    requires live { is_live_by head.kind (shown_fields room.old.bytes.items room.old.fields.items) ≡ true }
+    ensures stanza { OnOk result (stanzas.new.items ≡ stanzas.old.items ++ content_in_front head.kind text_len room.old.bytes.items ∷ []) }
+    ensures whole { OnOk result (whole_fault head.kind head.line (shown_fields room.old.bytes.items room.old.fields.items) ≡ None) }
+    ensures fault { IfErr result (Tells (whole_fault head.kind head.line (shown_fields room.old.bytes.items room.old.fields.items))) }
     ensures memory { IfErr result IsMemoryAtZero }
 {
-    let LiveParts { version, marks } = read_live(
+    read_live(alloc, &room.fields, &room.bytes, head.line, &mut room.live)?;
+    let version = room.live.version.take();
+    let offers = live_offers(
         alloc,
-        fields,
-        &held.bytes,
-        first_line,
-        relations,
+        &room.fields,
+        &room.bytes,
+        &room.live.relations.marks,
+        version,
     )?;
-    let package = body_named(fields, &held.bytes, b"Package").unwrap_or(&[]);
-    let provides = kept_groups(&marks, &held.bytes, FieldKind::Provides);
-    let offers = offers_of(alloc, package, version, provides)?;
-    Ok(stanza_of(held, marks, offers))
+    let marks = Vec::from_slice(alloc, &room.live.relations.marks)?;
+    let bytes = mem::replace(&mut room.bytes, Vec::new(alloc));
+    stanzas.push(stanza_of(bytes, text_len, head, marks, offers))?;
+    Ok(())
 }
 
-/// Makes the stanza of bytes at whose front its text stands, of which these are the fields, or tells what is wrong with it.
-/// Lines count from `first_line`.
-pub(crate) fn stanza_of_fields(
+/// Adds the stanza of bytes at whose front its text stands, of which the fields were found, or tells what is wrong with it.
+pub(crate) fn add_stanza(
     alloc: Global,
-    held: StanzaBytes,
-    fields: &[Field],
-    first_line: u64,
-    relations: &mut RelationMarks,
-) -> Result<Stanza, TextFault>
-    requires lines { All (λ field. first_line + field.line < 2 ^ 64) fields.now }
-    requires read { IsReadFrom held.bytes.items held.text_len fields.now }
-    requires names { AreTakenBy (lines_of (take held.text_len held.bytes.items)) held.names }
-    ensures stanza { IfOk result (λ stanza. stanza ≡ content_in_front held.kind held.text_len held.bytes.items) }
-    ensures whole { OnOk result (whole_fault held.kind first_line (shown_fields held.bytes.items fields.now) ≡ None) }
-    ensures fault { IfErr result (Tells (whole_fault held.kind first_line (shown_fields held.bytes.items fields.now))) }
+    stanzas: &mut Vec<Stanza>,
+    room: &mut StanzaRoom,
+    head: StanzaHead,
+    text_len: u32,
+) -> Result<(), TextFault>
+    requires lines { All (λ field. head.line + field.line < 2 ^ 64) room.old.fields.items }
+    requires read { IsReadFrom room.old.bytes.items text_len room.old.fields.items }
+    requires names { AreTakenBy (lines_of (take text_len room.old.bytes.items)) head.names }
+    ensures stanza { OnOk result (stanzas.new.items ≡ stanzas.old.items ++ content_in_front head.kind text_len room.old.bytes.items ∷ []) }
+    ensures whole { OnOk result (whole_fault head.kind head.line (shown_fields room.old.bytes.items room.old.fields.items) ≡ None) }
+    ensures fault { IfErr result (Tells (whole_fault head.kind head.line (shown_fields room.old.bytes.items room.old.fields.items))) }
     ensures memory { IfErr result IsMemoryAtZero }
 {
-    let live = liveness(held.kind, fields, &held.bytes);
-    if is_missing(held.kind, live, fields, &held.bytes) {
+    let live = liveness(head.kind, &room.fields, &room.bytes);
+    if is_missing(head.kind, live, &room.fields, &room.bytes) {
         return Err(TextFault {
-            line: first_line,
+            line: head.line,
             cause: Cause::Missing,
         });
     }
-    if live == Some(true) {
-        live_stanza(alloc, held, fields, first_line, relations)
-    } else {
-        other_stanza(alloc, held, fields, first_line)
+    match live {
+        Some(true) => add_live(alloc, stanzas, room, head, text_len),
+        _ => add_other(alloc, stanzas, room, head, text_len),
     }
 }
 
-/// Reads a stanza that has no faulty line, whose lines count from `first_line`, and whose names have these slots. One of
-/// 2^32 bytes or more is taken for want of memory.
-pub(crate) fn read_stanza(
+/// Adds the stanza of lines none of which is faulty, or tells what is wrong with it. One of 2^32 bytes or more is taken for want
+/// of memory.
+pub(crate) fn add_stanza_of_lines(
     alloc: Global,
+    stanzas: &mut Vec<Stanza>,
+    room: &mut StanzaRoom,
     lines: &[&[u8]],
-    first_line: u64,
-    kind: ListKind,
-    names: u64,
-) -> Result<Stanza, TextFault>
-    requires lines { first_line + length lines.now < 2 ^ 64 }
+    head: StanzaHead,
+) -> Result<(), TextFault>
+    requires lines { head.line + length lines.now < 2 ^ 64 }
     requires no_newline { AreLines (lent_lines lines.now) }
-    requires no_fault { first_fault Never first_line [] (lent_lines lines.now) ≡ None }
-    requires names { AreTakenBy (lent_lines lines.now) names }
-    ensures stanza { IfOk result (λ stanza. stanza ≡ content_of kind (lent_lines lines.now)) }
-    ensures whole { OnOk result (whole_fault kind first_line (fields_of_lines (lent_lines lines.now)) ≡ None) }
-    ensures fault { IfErr result (Tells (whole_fault kind first_line (fields_of_lines (lent_lines lines.now)))) }
+    requires no_fault { first_fault Never head.line [] (lent_lines lines.now) ≡ None }
+    requires names { AreTakenBy (lent_lines lines.now) head.names }
+    ensures stanza { OnOk result (stanzas.new.items ≡ stanzas.old.items ++ content_of head.kind (lent_lines lines.now) ∷ []) }
+    ensures whole { OnOk result (whole_fault head.kind head.line (fields_of_lines (lent_lines lines.now)) ≡ None) }
+    ensures fault { IfErr result (Tells (whole_fault head.kind head.line (fields_of_lines (lent_lines lines.now)))) }
     ensures memory { IfErr result IsMemoryAtZero }
 {
-    let mut bytes = text_of_lines(alloc, lines)?;
-    if bytes.len() > u32::MAX as usize {
+    text_of_lines(&mut room.bytes, lines)?;
+    if room.bytes.len() > u32::MAX as usize {
         return Err(TextFault::MEMORY);
     }
-    let text_len = bytes.len() as u32;
-    let fields = fields_of_lines(alloc, &mut bytes, lines)?;
-    let held = StanzaBytes {
-        bytes,
-        text_len,
-        kind,
-        names,
-    };
-    let mut relations = RelationMarks::new(alloc);
-    stanza_of_fields(alloc, held, &fields, first_line, &mut relations)
+    let text_len = room.bytes.len() as u32;
+    fields_of_lines(&mut room.bytes, &mut room.fields, lines)?;
+    add_stanza(alloc, stanzas, room, head, text_len)
 }
 
 impl Stanza {

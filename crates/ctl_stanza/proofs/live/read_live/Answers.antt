@@ -14,7 +14,7 @@ loop-i-preserved c =
     let with = c.in-Ok.ensures.marks so.relations so.are.words in
     record {
       told = inv.told ∙ first_wrong-good true c.args.first_line _ _ _ left c.in-Ok.ensures.good;
-      version = version-turn _ _ _ c.loop-i.version _ _ left c.in-Ok.ensures.version inv.version;
+      version = version-turn _ _ _ c.loop-i.live.version _ _ left c.in-Ok.ensures.version inv.version;
       marked = record {
         relations = with.fields;
         are = record { words = with.words; kept = keeps-kept c.args.bytes.now _ _ so.relations with.fields with.keeps so.are.kept };
@@ -41,7 +41,7 @@ returns-clause-relations c =
     let none : drop c.loop-i.i c.args.fields.now ≡ [] = drop_of_length-le c.args.fields.now (omega (arith, c.loop-i-test.false)) in
     record {
       relations = so.relations;
-      are = record { words = c.in_ok-marks.ensures.items ∙ c.deref.ensures.value ∙ so.are.words; kept = so.are.kept };
+      are = record { words = so.are.words; kept = so.are.kept };
       groups = λ kind. all-kept kind bytes (shown_fields bytes c.args.fields.now) so.relations
           (sym (ap (λ (fs : List Field). or_else (kept_of kind bytes so.relations) (groups_found kind (shown_fields bytes fs))) none) ∙ so.groups kind);
     }

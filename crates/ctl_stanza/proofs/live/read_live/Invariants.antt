@@ -12,6 +12,6 @@ invariant-loop-i l =
     let left = shown_fields l.bytes (drop l.i l.fields) in
     record {
       told : first_wrong true l.first_line all ≡ first_wrong true l.first_line left;
-      version : or_else l.version (body_named version_name left) ≡ body_named version_name all;
-      marked : AreMarkedSoFar l.bytes l.relations.marks.items left all;
+      version : or_else l.live.version (body_named version_name left) ≡ body_named version_name all;
+      marked : AreMarkedSoFar l.bytes l.live.relations.marks.items left all;
     }

@@ -4,7 +4,7 @@ use Rattle.ctl_stanza.proofs.stanza.stanza_of.Goals as goal
 
 pub invariant_of-result : goal.invariant_of-result
 invariant_of-result c =
-    let content = content_in_front c.args.held.kind c.args.held.text_len c.args.held.bytes.items in
+    let content = content_in_front c.args.head.kind c.args.text_len c.args.bytes.items in
     let whole : IsWhole content = record { no_fault = c.requires.no_fault; small = c.requires.walk.small } in
     record {
       within = c.requires.within;

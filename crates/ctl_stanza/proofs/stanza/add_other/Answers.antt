@@ -1,0 +1,18 @@
+use Rattle.std.proofs.Common.{◌≡◌, ◌∙◌, None, false, sym, rules}
+use Rattle.ctl_stanza.specs.Faults.{whole_fault}
+use Rattle.ctl_stanza.specs.HeldFields.{shown_fields}
+use Rattle.ctl_stanza.proofs.FaultLemmas.{first_wrong-memory, never-memory}
+use Rattle.ctl_stanza.proofs.SoundLemmas.{no_fault_of, walk_of}
+use Rattle.ctl_stanza.proofs.stanza.add_other.Goals as goal
+
+pub returns-in-Some-clause-memory : goal.returns-in-Some-clause-memory
+returns-in-Some-clause-memory c =
+    never-memory c.in-Some.fault _ (first_wrong-memory false c.args.head.line (shown_fields c.deref-2.result.now c.deref.result.now)) (sym c.first_wrong.ensures ∙ c.in-Some.is)
+
+pub stanza_of-requires-clause-no_fault : goal.stanza_of-requires-clause-no_fault
+stanza_of-requires-clause-no_fault c =
+    let whole : whole_fault c.args.head.kind c.args.head.line (shown_fields c.args.room.now.bytes.items c.args.room.now.fields.items) ≡ None = search rules in
+    rw c.replace-bytes.ensures.value (no_fault_of c.args.head.kind c.args.head.line c.args.text_len c.args.room.now.bytes.items c.args.room.now.fields.items c.requires.read whole)
+
+pub stanza_of-requires-clause-walk : goal.stanza_of-requires-clause-walk
+stanza_of-requires-clause-walk c = rw c.replace-bytes.ensures.value (walk_of c.args.text_len c.args.room.now.bytes.items c.args.room.now.fields.items c.requires.read)
