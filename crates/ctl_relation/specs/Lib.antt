@@ -17,7 +17,9 @@ pub mod Grammar
 pub mod Fault
 pub mod ReadAgain
 pub mod Bounds
+pub mod Offered
 -- How this crate holds groups. Not for callers.
 pub mod HeldPlaces
+pub mod HeldOffers
 pub mod Orders
 pub mod Inside

@@ -1,12 +1,11 @@
 -- What a stanza is: its text, and the kind of its list. Its fields are read from its text.
-use Rattle.std.specs.Prelude.{ℕ, Bool, List, [], ◌∷◌, map, flat_map, unwrap_or, Option, None, if◌then◌else◌}
-use Rattle.std.specs.Option.{option_map}
+use Rattle.std.specs.Prelude.{ℕ, Bool, List, [], ◌∷◌, map, unwrap_or, Option, None, if◌then◌else◌}
 use Rattle.ctl_relation.specs.declared.field_kind.FieldKind.{FieldKind}
 use Rattle.ctl_relation.specs.declared.field_kind.FieldKind.TheVariants as field_kinds
-use Rattle.ctl_relation.specs.declared.operator.Operator.{Operator}
 use Rattle.ctl_relation.specs.FieldKind.{is_provides}
 use Rattle.ctl_relation.specs.Parts.{AtomParts, OfferParts}
 use Rattle.ctl_relation.specs.Reading.{groups_read}
+pub use Rattle.ctl_relation.specs.Offered.{offer_of, offers_in}
 use Rattle.ctl_stanza.specs.declared.list_kind.ListKind.{ListKind}
 use Rattle.ctl_stanza.specs.Lines.{lines_of, text_of_lines}
 use Rattle.ctl_stanza.specs.Fields.{FieldText, fields_of_lines, body_named, package_name, version_name}
@@ -61,14 +60,6 @@ groups_of kind content = if is_provides kind then [] else relations_of_kind kind
 -- the entries of Provides, each a group of one atom
 abbrev pub provides_of : Content → List (List AtomParts)
 provides_of content = relations_of_kind field_kinds.Provides content
-
--- what an entry of Provides offers: its name, at its version if it has one
-abbrev pub offer_of : AtomParts → OfferParts
-offer_of atom = record { name = atom.name; version = option_map (λ (bound : Operator × List ℕ). bound.1) atom.bound }
-
--- what the entries of Provides offer
-abbrev pub offers_in : List (List AtomParts) → List OfferParts
-offers_in groups = flat_map (λ group. map offer_of group) groups
 
 -- A live stanza offers its own name at its version, and each entry of its Provides (Debian Policy 7.5).
 abbrev pub offers_of : Content → List OfferParts

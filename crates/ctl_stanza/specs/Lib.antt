@@ -9,6 +9,7 @@ pub use Rattle.ctl_relation.specs.Version
 pub use Rattle.ctl_relation.specs.Reading
 pub use Rattle.ctl_relation.specs.Parts
 pub use Rattle.ctl_relation.specs.Lent
+pub use Rattle.ctl_relation.specs.Offered
 pub mod Lines
 pub mod LineKind
 pub mod Fields
@@ -29,7 +30,6 @@ pub mod Given
 pub mod HeldMarks
 pub mod HeldNames
 pub mod NameSlots
-pub mod HeldOffers
 pub mod Marks
 pub mod HeldStanza
 pub mod InParts

@@ -12,7 +12,7 @@ ghost use Rattle.ctl_stanza.specs.HeldFields.{IsWithin, AreWithin, AreBelow, Sta
 ghost use Rattle.ctl_stanza.specs.HeldFields.{loose_at, loose_bodies};
 
 use crate::line_kind::{LineKind, kind_of};
-use crate::lines::{begins_with_blank, is_blank, is_blank_byte};
+use crate::lines::{begins_with_blank, is_blank, is_blank_byte, text_of_lines};
 use std::alloc::AllocError;
 
 /// From a place in a text up to another.
@@ -234,22 +234,26 @@ fn add_field(
     Ok(())
 }
 
-/// Finds the fields of the lines of a stanza without a faulty line, in the text of these lines; behind it are put the bodies
-/// that don't stand in it in one piece. The only error is want of memory, which also a place of 2^32 or more is
-/// taken for.
+/// Puts the text of the lines of a stanza without a faulty line in place of the bytes, finds their fields in it, and puts the
+/// bodies behind it that don't stand in it in one piece. How long the text is. The only error is want of memory, which also
+/// a place of 2^32 or more is taken for.
 pub(crate) fn fields_of_lines(
     bytes: &mut Vec<u8>,
     fields: &mut Vec<Field>,
     lines: &[&[u8]],
-) -> Result<(), AllocError>
-    requires text { bytes.old.items ≡ text_of_lines (lent_lines lines.now) }
-    requires short { length bytes.old.items < 2 ^ 32 }
-    ensures grows { OnOk result (Grows bytes.old.items bytes.new.items) }
+) -> Result<u32, AllocError>
+    ensures len { IfOk result (λ len. len ≡ length (text_of_lines (lent_lines lines.now))) }
+    ensures short { OnOk result (length (text_of_lines (lent_lines lines.now)) < 2 ^ 32) }
     ensures fields { OnOk result (shown_fields bytes.new.items fields.new.items ≡ fields_of_lines (lent_lines lines.now)) }
     ensures within { OnOk result (AreWithin bytes.new.items fields.new.items) }
     ensures lines { OnOk result (AreBelow (length lines.now) fields.new.items) }
-    ensures loose { OnOk result (bytes.new.items ≡ bytes.old.items ++ loose_bodies (lent_lines lines.now)) }
+    ensures loose { OnOk result (bytes.new.items ≡ text_of_lines (lent_lines lines.now) ++ loose_bodies (lent_lines lines.now)) }
 {
+    text_of_lines(bytes, lines)?;
+    let len = bytes.len();
+    if len > u32::MAX as usize {
+        return Err(AllocError);
+    }
     fields.clear();
     let mut at: u32 = 0;
     for i in 0..lines.len() {
@@ -262,7 +266,7 @@ pub(crate) fn fields_of_lines(
         at += line.len() as u32 + 1;
     }
     bytes.shrink_to_fit();
-    Ok(())
+    Ok(len as u32)
 }
 
 /// The body of the first field of a name.

@@ -14,7 +14,6 @@ mod live;
 mod marks;
 mod name_slots;
 mod names_given;
-mod offers;
 mod parts;
 mod quick;
 mod reader;

@@ -27,7 +27,12 @@ pub(crate) fn is_blank_byte(byte: u8) -> bool
 pub(crate) fn is_blank(line: &[u8]) -> bool
     ensures { result ≡ is_blank line.now }
 {
-    line.iter().all(|byte| is_blank_byte(*byte))
+    for byte in line {
+        if !is_blank_byte(*byte) {
+            return false;
+        }
+    }
+    true
 }
 
 /// Whether a line begins with a space or a tab.

@@ -12,13 +12,12 @@ ghost use Rattle.ctl_stanza.specs.Records.{record_of, numbered_fault, record_fau
 use crate::fault::{Cause, TextFault};
 use crate::fields::{Field, fields_of_lines};
 use crate::line_faults::{LinesSeen, first_fault};
-use crate::lines::{is_blank, text_of_lines};
+use crate::lines::is_blank;
 use crate::reading::take_piece;
 use crate::record_lines::{RecordLines, record_lines};
 use crate::repeats::Repeats;
 use std::alloc::{AllocError, Global};
 use std::marker::Model;
-use std::mem;
 
 /// A record of preferences: fields, of which only their form is checked. It is seen as the number of its first line and
 /// its fields, of each the number of its line, its name and its body.
@@ -46,45 +45,29 @@ impl Model for Record {
     ghost invariant = { λ r. AreNumbered r.bytes.items r.numbers.items r.fields.items };
 }
 
-// The room that one piece of a text after another is read with: what its lines gave, these lines, and the bytes and the fields
-// of its record, which takes them with it.
+// The room that one piece of a text after another is read with: what its lines gave, and these lines.
 #[derive(Drop)]
 struct RecordRoom<'a> {
     seen: LinesSeen<'a>,
     lines: Vec<&'a [u8]>,
-    bytes: Vec<u8>,
-    fields: Vec<Field>,
 }
 
-// Adds the record of lines without a faulty one, which have these numbers. One of 2^32 bytes or more is taken for want of
+// The record of lines without a faulty one, which have these numbers. One of 2^32 bytes or more is taken for want of
 // memory.
-fn add_record(
-    alloc: Global,
-    records: &mut Vec<Record>,
-    room: &mut RecordRoom,
-    numbers: &[u64],
-) -> Result<(), TextFault>
-    requires some { 0 < length room.old.lines.items }
-    requires numbers { length numbers.now ≡ length room.old.lines.items }
-    ensures record_is { OnOk result (
-        records.new.items ≡ records.old.items ++ record_of numbers.now (lent_lines room.old.lines.items) ∷ []) }
-    ensures none { room.new.seen ≡ room.old.seen }
-    ensures kept { OnErr result (records.new.items ≡ records.old.items) }
-    ensures memory { IfErr result (λ fault. fault ≡ record { line = 0; cause = causes.Memory }) }
+fn record_of(alloc: Global, lines: &[&[u8]], numbers: &[u64]) -> Result<Record, AllocError>
+    requires some { 0 < length lines.now }
+    requires numbers { length numbers.now ≡ length lines.now }
+    ensures { IfOk result (λ read. read ≡ record_of numbers.now (lent_lines lines.now)) }
 {
-    text_of_lines(&mut room.bytes, &room.lines)?;
-    if room.bytes.len() > u32::MAX as usize {
-        return Err(TextFault::MEMORY);
-    }
-    fields_of_lines(&mut room.bytes, &mut room.fields, &room.lines)?;
-    room.fields.shrink_to_fit();
     let numbers = Vec::from_slice(alloc, numbers)?;
-    records.push(Record {
-        bytes: mem::replace(&mut room.bytes, Vec::new(alloc)),
-        fields: mem::replace(&mut room.fields, Vec::new(alloc)),
+    let mut record = Record {
+        bytes: Vec::new(alloc),
+        fields: Vec::new(alloc),
         numbers,
-    })?;
-    Ok(())
+    };
+    fields_of_lines(&mut record.bytes, &mut record.fields, lines)?;
+    record.fields.shrink_to_fit();
+    Ok(record)
 }
 
 // A fault whose line is told by its index, with the number of that line.
@@ -124,7 +107,9 @@ fn read_record(
     if is_blank(room.lines[0]) {
         return Ok(());
     }
-    add_record(alloc, records, room, numbers)
+    let record = record_of(alloc, &room.lines, numbers)?;
+    records.push(record)?;
+    Ok(())
 }
 
 // Adds the records of lines, up to the first one that has a faulty line, and tells the fault of that line.
@@ -187,8 +172,6 @@ pub fn read_records_before_fault(
     let mut room = RecordRoom {
         seen: LinesSeen::new(alloc),
         lines: Vec::new(alloc),
-        bytes: Vec::new(alloc),
-        fields: Vec::new(alloc),
     };
     let mut records = Vec::new(alloc);
     let fault = match read_pieces(alloc, &mut records, &mut room, &kept) {

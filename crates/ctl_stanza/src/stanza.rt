@@ -16,15 +16,13 @@ use crate::checks::{first_wrong, is_missing};
 use crate::fault::{Cause, TextFault};
 use crate::fields::{Field, body_named, fields_of_lines};
 use crate::laws::whole_stanzas_are_sound;
-use crate::lines::text_of_lines;
 use crate::list_kind::ListKind;
 use crate::live::{LiveParts, read_live};
 use crate::marks::kept_groups;
 use crate::name_slots::is_taken;
-use crate::offers::{Offers, offers_of};
 use crate::status::liveness;
 use crate::walk::{body_in, count_fields, take_field};
-use ctl_relation::{FieldKind, Groups, Offer, Version};
+use ctl_relation::{FieldKind, Groups, Offer, Offers, Version, offers_of};
 use std::alloc::{AllocError, Global};
 use std::marker::Model;
 use std::mem;
@@ -236,12 +234,7 @@ pub(crate) fn add_stanza_of_lines(
     ensures fault { IfErr result (Tells (whole_fault head.kind head.line (fields_of_lines (lent_lines lines.now)))) }
     ensures memory { IfErr result IsMemoryAtZero }
 {
-    text_of_lines(&mut room.bytes, lines)?;
-    if room.bytes.len() > u32::MAX as usize {
-        return Err(TextFault::MEMORY);
-    }
-    let text_len = room.bytes.len() as u32;
-    fields_of_lines(&mut room.bytes, &mut room.fields, lines)?;
+    let text_len = fields_of_lines(&mut room.bytes, &mut room.fields, lines)?;
     add_stanza(alloc, stanzas, room, head, text_len)
 }
 

@@ -101,4 +101,4 @@ pub returns-clause-loose : goal.returns-clause-loose
 returns-clause-loose c =
     let lines = lent_lines c.args.lines.now in
     let none : drop c.loop-i.i lines ≡ [] = drop_of_length-le lines (omega (arith, c.loop-i-test.false, length-map c.args.lines.now now)) in
-    c.shrink_to_fit.ensures.items ∙ sym (append-nil c.loop-i.bytes.items) ∙ ap (λ ls. c.loop-i.bytes.items ++ loose_bodies ls) (sym none) ∙ c.loop-i.invariant.loose ∙ ap (λ t. t ++ loose_bodies lines) (sym c.requires.text)
+    c.shrink_to_fit.ensures.items ∙ sym (append-nil c.loop-i.bytes.items) ∙ ap (λ ls. c.loop-i.bytes.items ++ loose_bodies ls) (sym none) ∙ c.loop-i.invariant.loose

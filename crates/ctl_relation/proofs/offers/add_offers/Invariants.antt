@@ -1,6 +1,6 @@
 use Rattle.std.proofs.Common.{◌≡◌, ◌++◌, length, map}
-use Rattle.ctl_stanza.specs.Content.{offer_of}
-use Rattle.ctl_stanza.proofs.offers.add_offers.Given as goal
+use Rattle.ctl_relation.specs.Offered.{offer_of}
+use Rattle.ctl_relation.proofs.offers.add_offers.Given as goal
 
 -- what was added, and what the atoms that are left offer, is what all offer
 abbrev pub invariant-atoms : goal.invariant-atoms

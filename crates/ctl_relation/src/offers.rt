@@ -1,9 +1,13 @@
-//! What a live stanza offers.
+//! What a stanza offers: its own name first, and then each entry of its Provides (Debian Policy 7.5).
 
 ghost use Rattle.std.specs.Prelude.{◌≡◌, ◌∷◌, ◌++◌, [], map, IfOk, OnOk};
-ghost use Rattle.ctl_stanza.specs.Content.{offer_of, offers_in};
+ghost use Rattle.ctl_relation.specs.Offered.{offer_of, offers_in};
 
-use ctl_relation::{Atom, Group, Groups, Offer, Version};
+use crate::atom::Atom;
+use crate::group::Group;
+use crate::groups::Groups;
+use crate::offer::Offer;
+use crate::version::Version;
 use std::alloc::{AllocError, Global};
 use std::marker::Model;
 
@@ -17,14 +21,14 @@ enum HeldOffers {
 
 /// What a stanza offers, seen as the list of it.
 #[derive(Drop)]
-pub(crate) struct Offers {
+pub struct Offers {
     held: HeldOffers,
 }
 
 impl Model for Offers {
     ghost use Rattle.std.specs.Prelude.{List};
     ghost use Rattle.ctl_relation.specs.Parts.{OfferParts};
-    ghost use Rattle.ctl_stanza.specs.HeldOffers.{offers_held};
+    ghost use Rattle.ctl_relation.specs.HeldOffers.{offers_held};
 
     ghost Value = { List OfferParts };
 
@@ -33,7 +37,7 @@ impl Model for Offers {
 
 impl Offers {
     /// No offers.
-    pub(crate) fn none() -> Offers
+    pub fn none() -> Offers
         ensures { result ≡ [] }
     {
         Offers {
@@ -41,7 +45,8 @@ impl Offers {
         }
     }
 
-    pub(crate) fn as_slice(&self) -> &[Offer]
+    /// The offers, in order.
+    pub fn as_slice(&self) -> &[Offer]
         ensures { result.now ≡ self.now }
     {
         match &self.held {
@@ -118,8 +123,8 @@ fn own_and_entries(
     Ok(offers)
 }
 
-/// What a stanza offers: its package at its version, and each entry of its Provides.
-pub(crate) fn offers_of(
+/// What a stanza offers: its package at its version, and each entry of its Provides. The only error is want of memory.
+pub fn offers_of(
     alloc: Global,
     package: &[u8],
     version: Option<Version>,

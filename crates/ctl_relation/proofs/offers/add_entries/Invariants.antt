@@ -1,6 +1,6 @@
 use Rattle.std.proofs.Common.{◌≡◌, ◌++◌, length}
-use Rattle.ctl_stanza.specs.Content.{offers_in}
-use Rattle.ctl_stanza.proofs.offers.add_entries.Given as goal
+use Rattle.ctl_relation.specs.Offered.{offers_in}
+use Rattle.ctl_relation.proofs.offers.add_entries.Given as goal
 
 -- what was added, and what the groups that are left offer, is what all offer
 abbrev pub invariant-groups : goal.invariant-groups
