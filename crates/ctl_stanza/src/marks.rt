@@ -60,8 +60,7 @@ fn push_counts(marks: &mut Vec<u32>, code: u32, groups: u32, further: u32) -> Re
     ensures { OnOk result (marks.new.items ≡ marks.old.items ++ counts_of groups further) }
 {
     if code == COUNTED {
-        marks.push(groups)?;
-        marks.push(further)?;
+        marks.extend_from_slice(&[groups, further])?;
     }
     Ok(())
 }
@@ -85,8 +84,8 @@ pub(crate) fn push_field(
     let groups = starts.len() as u32;
     let atoms = further.len() as u32;
     let code = code_of(groups, atoms);
-    marks.push(body.start)?;
-    marks.push(((body.end - body.start) * CODES + code) * PLACES + kind.place() as u32)?;
+    let word = ((body.end - body.start) * CODES + code) * PLACES + kind.place() as u32;
+    marks.extend_from_slice(&[body.start, word])?;
     push_counts(marks, code, groups, atoms)?;
     marks.extend_from_slice(starts)?;
     marks.extend_from_slice(further)?;
