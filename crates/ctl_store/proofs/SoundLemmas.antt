@@ -14,6 +14,8 @@ use Rattle.ctl_store.proofs.PlaceLemmas.{Rises-rows_from}
 use Rattle.ctl_store.proofs.ListedLemmas.{InOrder-weaken, in_order_push, in_order_without, in_order_change, Changes}
 use Rattle.ctl_store.proofs.StepLemmas.{new_lists, without_lists, change_lists}
 use Rattle.ctl_store.proofs.AcceptLemmas.{count-push, count-without, count-change}
+use Rattle.ctl_store.specs.Kinds.{AreOfKind, KeepKinds}
+use Rattle.ctl_store.proofs.KindLemmas.{Keeps, all_last, change_kinds, without_kinds}
 use Rattle.ctl_store.proofs.StatusLemmas.{status_count-push, status_count-without, status_count-change}
 
 module _ (rows : List (ℕ × (List ℕ × Sheet))) (given next statuses stanzas edits : ℕ) (limits : Limits) (sound : IsSound rows given next statuses stanzas edits limits) where
@@ -32,21 +34,23 @@ module _ (rows : List (ℕ × (List ℕ × Sheet))) (given next statuses stanzas
     few = omega (arith, sound.few);
     statuses_counted = sound.statuses_counted;
     counted = sound.counted;
+    kinds = sound.kinds;
     within = sound.within;
     stanzas_bounded = sound.stanzas_bounded;
     edits_bounded = sound.edits_bounded;
   }
 
-  pub sound_add : (new : List (ℕ × (List ℕ × Sheet))) (name : List ℕ) (kind : ListKind) (class : ListClass) (xs : List Content) → AreNumbered new
+  pub sound_add : (new : List (ℕ × (List ℕ × Sheet))) (name : List ℕ) (kind : ListKind) (class : ListClass) (xs : List Content) → AreOfKind kind xs → AreNumbered new
       → lists_of (without_serials new) ≡ lists_of lists ++ (name, list_of_stanzas next kind class xs) ∷ []
       → stanzas + length xs ≤ limits.stanzas → IsSound new (given + 1) (next + 1) (statuses + count_of_kind kind) (stanzas + length xs) (edits + 1) limits
-  sound_add new name kind class xs numbered e within = record {
+  sound_add new name kind class xs each numbered e within = record {
     numbered = numbered;
     next_is = omega (arith, sound.next_is);
     order = subst (λ ls. InOrder 0 ls (next + 1) (limits.stanzas + (edits + 1))) (sym e) (one_more (lists_of lists ++ (name, list_of_stanzas next kind class xs) ∷ []) (next + 1) (in_order_push 0 (lists_of lists) next (limits.stanzas + edits) name (list_of_stanzas next kind class xs) refl (omega arith) (subst (λ m. Rises 0 (rows_from 0 xs) m) (let z : 0 + length xs ≡ length xs = omega arith in z) (Rises-rows_from 0 xs)) sound.order));
     few = omega (arith, sound.few);
     statuses_counted = sym (ap (λ ls. status_count (stanza_lists ls)) e ∙ ap status_count (new_lists (lists_of lists) name next kind class xs) ∙ status_count-push (stanza_lists (lists_of lists)) name (record { kind = kind; class = class; stanzas = xs }) ∙ ap (λ n. n + count_of_kind kind) (sym sound.statuses_counted));
     counted = sym (ap (λ ls. stanza_count (stanza_lists ls)) e ∙ ap stanza_count (new_lists (lists_of lists) name next kind class xs) ∙ count-push (stanza_lists (lists_of lists)) name (record { kind = kind; class = class; stanzas = xs }) ∙ ap (λ n. n + length xs) (sym sound.counted));
+    kinds = subst KeepKinds (sym (ap stanza_lists e ∙ new_lists (lists_of lists) name next kind class xs)) (all_last (λ (l : List ℕ × StanzaList). AreOfKind l.1.kind l.1.stanzas) (stanza_lists (lists_of lists)) (name, record { kind = kind; class = class; stanzas = xs }) sound.kinds each);
     within = within;
     stanzas_bounded = sound.stanzas_bounded;
     edits_bounded = sound.edits_bounded;
@@ -61,20 +65,22 @@ module _ (rows : List (ℕ × (List ℕ × Sheet))) (given next statuses stanzas
     few = omega (arith, sound.few);
     statuses_counted = omega (arith, sound.statuses_counted, status_count-without name (stanza_lists (lists_of lists)) l at, ap (λ ls. status_count (stanza_lists ls)) e, ap status_count (without_lists name (lists_of lists)));
     counted = omega (arith, sound.counted, count-without name (stanza_lists (lists_of lists)) l at, ap (λ ls. stanza_count (stanza_lists ls)) e, ap stanza_count (without_lists name (lists_of lists)));
+    kinds = subst KeepKinds (sym (ap stanza_lists e ∙ without_lists name (lists_of lists))) (without_kinds name (stanza_lists (lists_of lists)) sound.kinds);
     within = omega (arith, sound.within);
     stanzas_bounded = sound.stanzas_bounded;
     edits_bounded = sound.edits_bounded;
   }
 
-  pub sound_change : (new : List (ℕ × (List ℕ × Sheet))) (name : List ℕ) (l : StanzaList) (f : KeyedList → KeyedList) (h : StanzaList → StanzaList) (after : ℕ) → Changes f → ((k : StanzaList) → (h k).kind ≡ k.kind) → ((k : KeyedList) → stanza_list (f k) ≡ h (stanza_list k))
+  pub sound_change : (new : List (ℕ × (List ℕ × Sheet))) (name : List ℕ) (l : StanzaList) (f : KeyedList → KeyedList) (h : StanzaList → StanzaList) (after : ℕ) → Changes f → ((k : StanzaList) → (h k).kind ≡ k.kind) → ((k : KeyedList) → stanza_list (f k) ≡ h (stanza_list k)) → Keeps h (at_name name (stanza_lists (lists_of lists)))
       → AreNumbered new → lists_of (without_serials new) ≡ change_named name f (lists_of lists) → at_name name (stanza_lists (lists_of lists)) ≡ Some l → after + length l.stanzas ≡ stanzas + length (h l).stanzas → after ≤ limits.stanzas → IsSound new given next statuses after (edits + 1) limits
-  sound_change new name l f h after changes kinds same numbered e at count within = record {
+  sound_change new name l f h after changes kinds same keeps numbered e at count within = record {
     numbered = numbered;
     next_is = sound.next_is;
     order = subst (λ ls. InOrder 0 ls next (limits.stanzas + (edits + 1))) (sym e) (one_more (change_named name f (lists_of lists)) next (in_order_change 0 (lists_of lists) next (limits.stanzas + edits) name f changes sound.order));
     few = omega (arith, sound.few);
     statuses_counted = sound.statuses_counted ∙ sym (ap (λ ls. status_count (stanza_lists ls)) e ∙ ap status_count (change_lists name f h same (lists_of lists)) ∙ status_count-change name h (stanza_lists (lists_of lists)) kinds);
     counted = omega (arith, sound.counted, count, count-change name h (stanza_lists (lists_of lists)) l at, ap (λ ls. stanza_count (stanza_lists ls)) e, ap stanza_count (change_lists name f h same (lists_of lists)));
+    kinds = subst KeepKinds (sym (ap stanza_lists e ∙ change_lists name f h same (lists_of lists))) (change_kinds name h (stanza_lists (lists_of lists)) keeps sound.kinds);
     within = within;
     stanzas_bounded = sound.stanzas_bounded;
     edits_bounded = sound.edits_bounded;

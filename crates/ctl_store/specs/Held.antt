@@ -12,6 +12,7 @@ use Rattle.ctl_store.specs.declared.stanza_key.StanzaKey.{StanzaKey}
 use Rattle.ctl_store.specs.Limits.{most}
 use Rattle.ctl_store.specs.Named.{at_name}
 use Rattle.ctl_store.specs.State.{State, stanza_count, status_count}
+use Rattle.ctl_store.specs.Kinds.{KeepKinds}
 use Rattle.ctl_store.specs.Edits.{Edit, AddList, Put, Mark, Pin}
 use Rattle.ctl_store.specs.Step.{refusal_of}
 use Rattle.ctl_store.specs.Rows.{Rises, IsKept}
@@ -88,6 +89,7 @@ pub record IsSound (rows : List (ℕ × (List ℕ × Sheet))) (next next_list st
   pub few : next_list ≤ edits
   pub statuses_counted : statuses ≡ status_count (stanza_lists (lists_of (without_serials rows)))
   pub counted : stanzas ≡ stanza_count (stanza_lists (lists_of (without_serials rows)))
+  pub kinds : KeepKinds (stanza_lists (lists_of (without_serials rows)))
   pub within : stanzas ≤ limits.stanzas
   pub stanzas_bounded : limits.stanzas ≤ most
   pub edits_bounded : limits.edits ≤ most

@@ -58,12 +58,7 @@ fn make_ready(alloc: Global, edit: &Edit) -> Result<ListRoom, AllocError>
     ensures { IfOk result (IsReadyFor (edit_of edit.now)) }
 {
     match edit {
-        Edit::AddList {
-            name: _,
-            kind: _,
-            class: _,
-            stanzas,
-        } => ListRoom::with_capacity(alloc, stanzas.len()),
+        Edit::AddList { stanzas, .. } => ListRoom::with_capacity(alloc, stanzas.as_slice().len()),
         _ => Ok(ListRoom::new(alloc)),
     }
 }
@@ -129,12 +124,9 @@ impl Store {
         ensures { IfOk result (λ v. v.items ≡ added_of (keyed_of self.now) (edit_of edit.now)) }
     {
         match edit {
-            Edit::AddList {
-                name: _,
-                kind: _,
-                class: _,
-                stanzas,
-            } => new_keys(self.alloc, self.next_list, stanzas),
+            Edit::AddList { stanzas, .. } => {
+                new_keys(self.alloc, self.next_list, stanzas.as_slice())
+            }
             Edit::Put { list, stanza } => keys_of(self.alloc, self.kept_in(list, stanza, found)),
             _ => Ok(Vec::new(self.alloc)),
         }
@@ -148,18 +140,10 @@ impl Store {
         ensures room { OnOk result (HasRoomIn self.new (edit_of edit.now)) }
     {
         match edit {
-            Edit::AddList {
-                name: _,
-                kind: _,
-                class: _,
-                stanzas: _,
-            } => self.lists.reserve_one(),
-            Edit::Put { list, stanza: _ } => reserve_in(&mut self.lists, self.alloc, list),
-            Edit::Mark {
-                package: _,
-                version: _,
-            } => self.marks.reserve_one(),
-            Edit::Pin { setting: _ } => self.pins.reserve_one(),
+            Edit::AddList { .. } => self.lists.reserve_one(),
+            Edit::Put { list, .. } => reserve_in(&mut self.lists, self.alloc, list),
+            Edit::Mark { .. } => self.marks.reserve_one(),
+            Edit::Pin { .. } => self.pins.reserve_one(),
             _ => Ok(()),
         }
     }
