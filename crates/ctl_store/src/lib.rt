@@ -14,6 +14,7 @@ mod order;
 mod pieces;
 mod pin_order;
 mod pin_settings;
+mod pin_table;
 mod pin_version;
 mod plan;
 mod prefs;

@@ -233,7 +233,7 @@ impl Store {
         ensures limits { self.new.limits ≡ self.old.limits }
     {
         let _limits = self.limits;
-        self.pins = settings;
+        self.pins = settings.into_table();
         self.edits += 1;
     }
 }

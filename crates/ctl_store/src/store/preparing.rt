@@ -134,6 +134,7 @@ impl Store {
 
     // Makes the room that an edit wants in what the store keeps.
     fn make_room(&mut self, edit: &Edit) -> Result<(), AllocError>
+        requires { refusal_of self.old.limits (state_of self.old) (edit_of edit.now) ≡ None }
         ensures state { state_of self.new ≡ state_of self.old }
         ensures keyed { keyed_of self.new ≡ keyed_of self.old }
         ensures limits { self.new.limits ≡ self.old.limits }
