@@ -1,5 +1,5 @@
 -- Rows under rising serials, some of them holes.
-use Rattle.std.proofs.Common.{◌≡◌, ◌⊎◌, inl, inr, ℕ, suc, ◌+◌, ◌<◌, ◌≤◌, Bool, true, false, cond, nat_eq, List, [], ◌∷◌, ◌++◌, Option, None, Some, filter, refl, ap, sym, subst, ◌∙◌, arith}
+use Rattle.std.proofs.Common.{◌≡◌, ◌⊎◌, inl, inr, ℕ, suc, ◌+◌, ◌<◌, ◌≤◌, Bool, true, false, cond, nat_eq, List, [], ◌∷◌, ◌++◌, length, Option, None, Some, filter, refl, ap, sym, subst, ◌∙◌, arith}
 use Rattle.std.proofs.lemmas.Bool.Decides.{nat_tests}
 use Rattle.std.proofs.lemmas.Bool.{true≢false}
 use Rattle.std.specs.Borrow.{MutBor}
@@ -477,3 +477,9 @@ module _ {K V : Type 0} where
         rises = rises_squeezed 0 rs next o.rises;
         apart = subst (λ (es : List (K × V)). IsDistinct eq (keys_of es)) (sym (entries_squeezed rs)) o.apart;
       }
+
+-- there are no more entries than slots
+pub few_entries : {K V : Type 0} (slots : List (ℕ × Slot K V)) → length (entries_of slots) ≤ length slots
+few_entries [] = omega arith
+few_entries ((serial, Entry k v) ∷ slots) = omega (arith, few_entries slots)
+few_entries ((serial, Hole) ∷ slots) = omega (arith, few_entries slots)

@@ -1,6 +1,6 @@
 //! Maps in the order of insertion.
 
-ghost use Rattle.std.specs.Prelude.{◌≡◌, ◌<◌, ◌+◌, ◌++◌, ◌∷◌, [], None, OnOk, option_copied, option_map, nat_eq, filter};
+ghost use Rattle.std.specs.Prelude.{◌≡◌, ◌<◌, ◌+◌, ◌^◌, ◌++◌, ◌∷◌, [], None, OnOk, length, option_copied, option_map, nat_eq, filter};
 ghost use Rattle.std.specs.Borrow.{sem};
 ghost use Rattle.std.specs.Option.{option_copied_mut};
 ghost use Rattle.std.specs.List.{IsDistinct};
@@ -71,15 +71,13 @@ impl<K: Ord + Drop, V: Drop> Ordered<K, V> {
         }
     }
 
-    /// Makes room for one entry more. After 2⁶⁴ - 1 entries were put, it answers as for want of memory.
+    /// Makes room for one entry more, while a serial is left: fewer than 2⁶⁴ - 1 new keys were put.
     pub fn reserve_one(&mut self) -> Result<(), AllocError>
+        requires { self.old.next + 1 < 2 ^ 64 }
         ensures rows { self.new.rows ≡ self.old.rows }
         ensures next { self.new.next ≡ self.old.next }
         ensures ok { OnOk result (0 < self.new.room) }
     {
-        if self.next == u64::MAX {
-            return Err(AllocError);
-        }
         self.slots.reserve(1)?;
         self.order.reserve(1)
     }
@@ -140,6 +138,7 @@ impl<K: Ord + Drop, V: Drop> Ordered<K, V> {
     pub fn iter(&self) -> Entries<'_, K, V>
         ensures entries { result ≡ entries self.now }
         ensures each_once { IsDistinct K.eq (keys_of (entries self.now)) }
+        ensures few { length (entries self.now) < 2 ^ 63 }
     {
         Entries::new(self.slots.as_slice())
     }

@@ -106,12 +106,7 @@ pub(crate) fn sets_again(store: &Store, edit: &Edit) -> bool
     ensures { result ≡ sets_again store.now (edit_of edit.now) }
 {
     match edit {
-        Edit::AddList {
-            name: _,
-            kind: _,
-            class: _,
-            stanzas: _,
-        } => false,
+        Edit::AddList { .. } => false,
         Edit::DropList { name: _ } => false,
         Edit::Put { list: _, stanza: _ } => false,
         Edit::Remove {

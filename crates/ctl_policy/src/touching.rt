@@ -270,12 +270,7 @@ fn names_of_edit(alloc: Global, store: &Store, plan: &Plan) -> Result<Vec<Bytes>
     ensures { IfOk result (λ names. HoldsOfOthers names.items (λ name. IsOfOthers name store.now plan.now.edit)) }
 {
     match plan.edit() {
-        Edit::AddList {
-            name: _,
-            kind: _,
-            class: _,
-            stanzas: _,
-        } => stanza_names(alloc, store, plan),
+        Edit::AddList { .. } => stanza_names(alloc, store, plan),
         Edit::DropList { name: _ } => stanza_names(alloc, store, plan),
         Edit::Put { list: _, stanza: _ } => stanza_names(alloc, store, plan),
         Edit::Remove {

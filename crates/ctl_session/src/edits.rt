@@ -1,7 +1,8 @@
 //! Edits of the store by commands.
 
-ghost use Rattle.std.specs.Prelude.{◌≡◌, false, OnErr, Some};
+ghost use Rattle.std.specs.Prelude.{◌≡◌, false, IfOk, OnErr, Some};
 ghost use Rattle.ctl_store.specs.Edits.{edit_of, AddList, Put};
+ghost use Rattle.ctl_store.specs.Kinds.{AreOfKind};
 ghost use Rattle.ctl_store.specs.declared.refusal.Refusal.TheVariants.{Memory};
 ghost use Rattle.ctl_session.specs.Effect.{refusal_by, edited, edited_by_body, contents_of, list_added, put_in_list, prefs_set};
 ghost use Rattle.ctl_session.specs.Replies.{CameTo, IsRefusalOf};
@@ -12,7 +13,7 @@ use crate::refusal_at::RefusalAt;
 use ctl_index::Cache;
 use ctl_relation::Bytes;
 use ctl_stanza::{Cause, ListKind, Stanza, TextFault, lines_take_bytes, read_stanzas};
-use ctl_store::{Edit, ListClass, Refusal, boxed, read_prefs};
+use ctl_store::{Edit, ListClass, NewStanzas, Refusal, read_prefs, stanzas_are_of_their_kind};
 use std::alloc::Global;
 
 /// Where an edit is made: at the line of its command, with memory from here.
@@ -90,18 +91,18 @@ fn add_stanzas(
     list: NewList,
     stanzas: Vec<Stanza>,
 ) -> Result<(), RefusalAt>
-    requires { cache.old.stale ≡ false }
+    requires fresh { cache.old.stale ≡ false }
+    requires kinds { AreOfKind list.kind stanzas.items }
     ensures outcome { CameTo at.number result (cache_state cache.new)
         (edited (cache_state cache.old) at.number (AddList list.name list.kind list.class stanzas.items)) }
     ensures err { OnErr result (cache_state cache.new ≡ cache_state cache.old) }
 {
-    let Ok(stanzas) = boxed(at.alloc, stanzas) else {
+    let NewList { name, kind, class } = list;
+    let Ok(stanzas) = NewStanzas::boxed(at.alloc, kind, stanzas) else {
         return Err(refused(at.number, Refusal::Memory));
     };
-    let NewList { name, kind, class } = list;
     let added = Edit::AddList {
         name,
-        kind,
         class,
         stanzas,
     };
@@ -115,7 +116,8 @@ pub(crate) fn add_read_list(
     list: NewList,
     read: Result<Vec<Stanza>, TextFault>,
 ) -> Result<(), RefusalAt>
-    requires { cache.old.stale ≡ false }
+    requires fresh { cache.old.stale ≡ false }
+    requires kinds { IfOk read (λ stanzas. AreOfKind list.kind stanzas.items) }
     ensures outcome { CameTo at.number result (cache_state cache.new) (edited_by_body (cache_state cache.old) at.number
         (AddList list.name list.kind list.class) (contents_of read)) }
     ensures err { OnErr result (cache_state cache.new ≡ cache_state cache.old) }
@@ -140,6 +142,7 @@ pub(crate) fn add_list(
     ensures err { OnErr result (cache_state cache.new ≡ cache_state cache.old) }
 {
     lines_take_bytes();
+    stanzas_are_of_their_kind();
     let stanzas = match read_stanzas(at.alloc, &text, at.number as u64 + 1, list.kind) {
         Ok(stanzas) => stanzas,
         Err(fault) => return Err(refusal_at(fault, at.number)),

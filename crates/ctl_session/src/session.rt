@@ -6,6 +6,7 @@ ghost use Rattle.ctl_session.specs.Replies.{LoadCameTo};
 ghost use Rattle.ctl_session.specs.Loading.{LoadedFrom, is_failed_load};
 ghost use Rattle.ctl_session.specs.Streams.{counted};
 ghost use Rattle.ctl_session.specs.Faults.{is_read_fault, is_write_fault};
+ghost use Rattle.ctl_store.specs.Kinds.{AreOfKind};
 ghost use Rattle.ctl_session.specs.Run.{Ran, Stopped, standing};
 ghost use Rattle.ctl_session.specs.State.{cache_state};
 
@@ -22,7 +23,7 @@ use crate::workspace::Workspace;
 use ctl_index::Cache;
 use ctl_relation::{Bytes, is_name};
 use ctl_stanza::{ListKind, Stanza, TextFault, lines_take_bytes, read_stanzas};
-use ctl_store::{ListClass, Refusal};
+use ctl_store::{ListClass, Refusal, stanzas_are_of_their_kind};
 use std::alloc::{AllocError, Global};
 use std::marker::Model;
 
@@ -90,6 +91,7 @@ impl Session {
         kind: ListKind,
         read: Result<Vec<Stanza>, TextFault>,
     ) -> Result<(), LoadFault>
+        requires { IfOk read (λ stanzas. AreOfKind kind stanzas.items) }
         ensures loaded { LoadCameTo result (cache_state self.new.cache)
             (read_loaded (cache_state self.old.cache) name.now kind (contents_of read)) }
         ensures err { OnErr result (cache_state self.new.cache ≡ cache_state self.old.cache) }
@@ -138,6 +140,7 @@ impl Session {
         ensures max_lines { self.new.max_lines ≡ self.old.max_lines }
     {
         lines_take_bytes();
+        stanzas_are_of_their_kind();
         let read = read_stanzas(self.alloc, text, 1, kind);
         self.add_loaded(name, kind, read)
     }
@@ -155,6 +158,7 @@ impl Session {
         ensures max_lines { self.new.max_lines ≡ self.old.max_lines }
     {
         lines_take_bytes();
+        stanzas_are_of_their_kind();
         let read = read_stanzas(self.alloc, &text, 1, kind);
         drop(text);
         self.add_loaded(name, kind, read)
@@ -179,6 +183,7 @@ impl Session {
         ensures err { OnErr result (cache_state self.new.cache ≡ cache_state self.old.cache) }
         ensures max_lines { self.new.max_lines ≡ self.old.max_lines }
     {
+        stanzas_are_of_their_kind();
         let read = match read_list(self.alloc, &mut self.workspace.lines.pending, reader, kind) {
             Ok(read) => read,
             Err(fault) => return Err(fault),

@@ -9,7 +9,7 @@ use Rattle.ctl_store.specs.declared.refusal.Refusal.{Refusal}
 use Rattle.ctl_store.specs.Named.{at_name, has_name}
 use Rattle.ctl_store.specs.State.{StanzaList, State, stanza_count}
 use Rattle.ctl_store.specs.Edits.{AddList, DropList, Put, Remove}
-use Rattle.ctl_store.specs.Step.{place, is_same, put_stanza, remove_stanza, with_stanzas, has_stanza, when, refusal_of}
+use Rattle.ctl_store.specs.Step.{place, is_same, is_same_kind, put_stanza, remove_stanza, takes_kind, with_stanzas, has_stanza, when, refusal_of}
 use Rattle.ctl_store.specs.Keys.{KeyedList, key_of, keys_of, stanzas_of, stanza_list, stanza_lists, all_in}
 use Rattle.ctl_store.specs.Held.{Sheet, lists_of}
 use Rattle.ctl_store.proofs.ListedLemmas.{has_name_lists, has_name_held, at_name-stanza_lists}
@@ -54,8 +54,15 @@ keys_count name ls l e = by (at_name name ls) (sym (at_name-stanza_lists name ls
     by None e = cc e
     by (Some k) e = rows_count k.serial k.rows ∙ ap (λ (l : StanzaList). length l.stanzas) (some_is e)
 
+taken : (o : Option StanzaList) (f : StanzaList → Bool) → option_map_or f o false ≡ true → (l : StanzaList) × (o ≡ Some l)
+taken None f e = cc
+taken (Some l) f e = (l, refl)
+
+pub put_takes : (limits : Limits) (s : State) (list : List ℕ) (x : Content) → refusal_of limits s (Put list x) ≡ None → takes_kind x.kind list s.lists ≡ true
+put_takes limits s list x e = no_refusal _ _ (accepted_fits limits s (Put list x) e)
+
 pub put_found : (limits : Limits) (s : State) (list : List ℕ) (x : Content) → refusal_of limits s (Put list x) ≡ None → (l : StanzaList) × (at_name list s.lists ≡ Some l)
-put_found limits s list x e = some (at_name list s.lists) (no_refusal _ _ (accepted_fits limits s (Put list x) e))
+put_found limits s list x e = taken (at_name list s.lists) (λ (l : StanzaList). is_same_kind x.kind l.kind) (put_takes limits s list x e)
 
 pub remove_found : (limits : Limits) (s : State) (list name version : List ℕ) → refusal_of limits s (Remove list name version) ≡ None → (l : StanzaList) × (at_name list s.lists ≡ Some l)
 remove_found limits s list name version e = some (at_name list s.lists) (no_refusal _ _ (first _ _ (accepted_fits limits s (Remove list name version) e)))

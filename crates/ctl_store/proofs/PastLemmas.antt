@@ -3,13 +3,14 @@ use Rattle.std.proofs.Common.{◌≡◌, ℕ, ◌+◌, ◌-◌, ◌≤◌, Bool,
 use Rattle.std.proofs.lemmas.Bool.Decides.{nat_tests}
 use Rattle.std.specs.Option.{option_map_or}
 use Rattle.std.proofs.lemmas.List.Edits.{length-remove}
+use Rattle.ctl_stanza.specs.declared.list_kind.ListKind.{ListKind}
 use Rattle.ctl_stanza.specs.Content.{Content, package_of, version_of}
 use Rattle.ctl_store.specs.declared.limits.Limits.{Limits}
 use Rattle.ctl_store.specs.declared.refusal.Refusal.{Refusal}
 use Rattle.ctl_store.specs.Named.{at_name, has_name, without_name, change_named}
 use Rattle.ctl_store.specs.State.{StanzaList, State, stanza_count}
 use Rattle.ctl_store.specs.Edits.{Edit, AddList, DropList, Put, Remove, Mark, Unmark, Pin, Unpin, Target, Prefs}
-use Rattle.ctl_store.specs.Step.{place, is_same, put_at, put_stanza, remove_stanza, with_stanzas, has_stanza, when, changed, after, misfit_of, is_past, count_coming}
+use Rattle.ctl_store.specs.Step.{place, is_same, is_same_kind, put_at, put_stanza, remove_stanza, takes_kind, with_stanzas, has_stanza, when, changed, after, misfit_of, is_past, count_coming}
 use Rattle.ctl_store.proofs.PlaceLemmas.{place_within}
 use Rattle.ctl_store.proofs.AcceptLemmas.{count-push, count-change}
 
@@ -50,10 +51,17 @@ more_past limit count more after l e = grind (arith, nat_tests)
 fewer_past : (limit count after : ℕ) → count ≤ limit → after ≤ count → nat_lt limit after ≡ nat_lt (limit - count) 0
 fewer_past limit count after l e = grind (arith, nat_tests)
 
+named : (kind : ListKind) (name : List ℕ) (ls : List (List ℕ × StanzaList)) → takes_kind kind name ls ≡ true → has_name name ls ≡ true
+named kind name ls e = by (at_name name ls) e
+  where
+    by : (o : Option StanzaList) → option_map_or (λ (l : StanzaList). is_same_kind kind l.kind) o false ≡ true → is_some o ≡ true
+    by None e = cc
+    by (Some l) e = refl
+
 stanzas_past : (limit : ℕ) (s : State) (edit : Edit) → misfit_of s edit ≡ None → stanza_count s.lists ≤ limit → nat_lt limit (stanza_count (changed s edit).lists) ≡ nat_lt (limit - stanza_count s.lists) (count_coming s edit)
 stanzas_past limit s (AddList name kind class stanzas) e l = more_past limit (stanza_count s.lists) (length stanzas) _ l (count-push s.lists name (record { kind = kind; class = class; stanzas = stanzas }))
 stanzas_past limit s (DropList name) e l = fewer_past limit (stanza_count s.lists) _ l (count-without_le name s.lists)
-stanzas_past limit s (Put list content) e l = more_past limit (stanza_count s.lists) _ _ l (count-put list content s.lists (no_refusal _ _ e))
+stanzas_past limit s (Put list content) e l = more_past limit (stanza_count s.lists) _ _ l (count-put list content s.lists (named content.kind list s.lists (no_refusal _ _ e)))
 stanzas_past limit s (Remove list name version) e l = fewer_past limit (stanza_count s.lists) _ l (count-remove_le list name (Some version) s.lists)
 stanzas_past limit s (Mark name version) e l = fewer_past limit (stanza_count s.lists) (stanza_count s.lists) l (omega arith)
 stanzas_past limit s (Unmark name) e l = fewer_past limit (stanza_count s.lists) (stanza_count s.lists) l (omega arith)

@@ -1,5 +1,5 @@
 -- Edits, as plain data.
-use Rattle.std.specs.Prelude.{ℕ, ℤ, List, map, Option}
+use Rattle.std.specs.Prelude.{ℕ, ℤ, List, Option}
 use Rattle.ctl_stanza.specs.declared.list_kind.ListKind.{ListKind}
 use Rattle.ctl_stanza.specs.Content.{Content}
 use Rattle.ctl_store.specs.declared.list_class.ListClass.{ListClass}
@@ -27,7 +27,7 @@ pub data Edit : Type 0 where
 
 -- an edit of the code, as plain data
 abbrev pub edit_of : HeldEdit → Edit
-edit_of (held.AddList name kind class stanzas) = AddList name kind class (map (λ stanza. stanza.value) stanzas.items)
+edit_of (held.AddList name class new) = AddList name new.kind class new.stanzas
 edit_of (held.DropList name) = DropList name
 edit_of (held.Put list stanza) = Put list stanza.value
 edit_of (held.Remove list name version) = Remove list name version

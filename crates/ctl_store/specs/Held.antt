@@ -1,5 +1,5 @@
 -- A store with its rooms: how much more it takes without memory.
-use Rattle.std.specs.Prelude.{◌≡◌, ℕ, ℤ, ◌+◌, ◌<◌, ◌≤◌, min, suc, List, [], ◌∷◌, map, length, Option, None, Some, IfSome, Vec, nat_eq, if◌then◌else◌}
+use Rattle.std.specs.Prelude.{◌≡◌, ℕ, ℤ, ◌+◌, ◌^◌, ◌<◌, ◌≤◌, min, suc, List, [], ◌∷◌, map, length, Option, None, Some, IfSome, Vec, nat_eq, if◌then◌else◌}
 use Rattle.std.specs.List.{AllByRecursion}
 use Rattle.std.specs.FinMap as fin
 use Rattle.ctl_ordered.specs.Ordered.{without_serials}
@@ -12,6 +12,7 @@ use Rattle.ctl_store.specs.declared.stanza_key.StanzaKey.{StanzaKey}
 use Rattle.ctl_store.specs.Limits.{most}
 use Rattle.ctl_store.specs.Named.{at_name}
 use Rattle.ctl_store.specs.State.{State, stanza_count, status_count}
+use Rattle.ctl_store.specs.Kinds.{KeepKinds}
 use Rattle.ctl_store.specs.Edits.{Edit, AddList, Put, Mark, Pin}
 use Rattle.ctl_store.specs.Step.{refusal_of}
 use Rattle.ctl_store.specs.Rows.{Rises, IsKept}
@@ -81,13 +82,17 @@ InOrder n (l ∷ ls) m e = (n ≤ l.1.serial) × (l.1.next ≤ e) × Rises 0 l.1
 abbrev pub AreNumbered : List (ℕ × (List ℕ × Sheet)) → Type 0
 AreNumbered rows = AllByRecursion (λ (row : ℕ × (List ℕ × Sheet)). row.0 ≡ row.1.1.serial) rows
 
-pub record IsSound (rows : List (ℕ × (List ℕ × Sheet))) (next next_list statuses stanzas edits : ℕ) (limits : Limits) : Type 0 where
+pub record IsSound (rows : List (ℕ × (List ℕ × Sheet))) (next next_list statuses stanzas edits : ℕ) (limits : Limits) (next_mark next_pin : ℕ) : Type 0 where
   pub numbered : AreNumbered rows
   pub next_is : next ≡ next_list
   pub order : InOrder 0 (lists_of (without_serials rows)) next_list (limits.stanzas + edits)
   pub few : next_list ≤ edits
+  pub few_marks : next_mark ≤ edits
+  -- preferences came with fewer than 2^63 settings, and each edit after them sets one at most
+  pub few_pins : next_pin ≤ 2 ^ 63 + edits
   pub statuses_counted : statuses ≡ status_count (stanza_lists (lists_of (without_serials rows)))
   pub counted : stanzas ≡ stanza_count (stanza_lists (lists_of (without_serials rows)))
+  pub kinds : KeepKinds (stanza_lists (lists_of (without_serials rows)))
   pub within : stanzas ≤ limits.stanzas
   pub stanzas_bounded : limits.stanzas ≤ most
   pub edits_bounded : limits.edits ≤ most

@@ -7,6 +7,12 @@ use Rattle.ctl_store.specs.declared.selector.Selector.TheVariants.{Version, Rele
 use Rattle.ctl_store.specs.Pins.{is_of}
 use Rattle.ctl_store.specs.HeldRanks.{Label}
 
+-- a table of pin settings, with the room for more, how many come with no memory, and the serial of the next new one
+pub record PinTable : Type 0 where
+  pub pins : List (Selector × ℤ)
+  pub room : ℕ
+  pub next : ℕ
+
 -- where a setting of this serial stands: by its package, and for one package by the serial
 abbrev pub own_label : ℕ → Selector → Label
 own_label serial (Version «package» version) = record { name = «package»; form = 1; text = []; rank = serial }

@@ -10,6 +10,7 @@ pub mod PinForms
 pub mod SelectorLaws
 pub mod Named
 pub mod State
+pub mod Kinds
 pub mod Prefs
 pub mod PrefsLaws
 pub mod PrefsFaults
@@ -29,7 +30,6 @@ pub mod Followed
 pub mod Held
 pub mod NewLists
 pub mod PinLaws
-pub mod Kinds
 pub mod Orders
 pub mod Spots
 pub mod PrefsKept

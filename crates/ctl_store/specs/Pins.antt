@@ -1,8 +1,9 @@
 -- Pin settings, and when two selectors are the same.
-use Rattle.std.specs.Prelude.{ℕ, ℤ, ◌&&◌, Bool, true, false, List, filter, Option, Some, None}
+use Rattle.std.specs.Prelude.{ℕ, ℤ, ◌&&◌, Bool, true, false, List, filter, map, Option, Some, None}
 use Rattle.std.specs.List.{IsDistinct}
 use Rattle.std.specs.Map.{lookup, keys_of as names_of}
 use Rattle.std.specs.Str.{bytes_eq}
+use Rattle.ctl_store.specs.declared.selector.PinSetting.{PinSetting}
 use Rattle.ctl_store.specs.declared.selector.Selector.{Selector}
 use Rattle.ctl_store.specs.declared.selector.Selector.TheVariants.{Version, Release}
 
@@ -23,10 +24,13 @@ selector_eq (Release a k) (Release b l) = package_eq a b && bytes_eq k l
 abbrev pub AreDistinct : List (Selector × ℤ) → Type 0
 AreDistinct pins = IsDistinct selector_eq (names_of pins)
 
--- a table of pin settings, with the room for more: how many come with no memory
+-- pin settings that take the place of all
 pub record Settings : Type 0 where
   pub pins : List (Selector × ℤ)
-  pub room : ℕ
+
+-- settings as pairs of a selector and its priority
+abbrev pub settings_of : List PinSetting → List (Selector × ℤ)
+settings_of settings = map (λ (s : PinSetting). (s.selector, s.priority)) settings
 
 -- ---- what a pin setting is for (apt_preferences(5))
 

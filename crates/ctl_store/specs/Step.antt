@@ -1,5 +1,5 @@
 -- What an edit makes of a state, and why it is refused.
-use Rattle.std.specs.Prelude.{ℕ, ◌+◌, ◌||◌, ◌&&◌, not, nat_lt, Bool, true, false, List, [], ◌∷◌, ◌++◌, Option, None, Some, is_some, length, slice_set, if◌then◌else◌}
+use Rattle.std.specs.Prelude.{ℕ, ◌+◌, ◌||◌, ◌&&◌, not, nat_lt, Bool, true, false, List, [], ◌∷◌, ◌++◌, Option, None, Some, IfSome, is_some, length, slice_set, ◌≡◌, if◌then◌else◌}
 use Rattle.std.specs.Option.{option_or, option_map_or}
 use Rattle.std.specs.List.{list_any, remove}
 use Rattle.std.specs.Map.{lookup, remove_entry}
@@ -19,6 +19,7 @@ use Rattle.ctl_store.specs.Pins.{selector_eq}
 pub use Rattle.ctl_store.specs.Places.{place}
 use Rattle.ctl_store.specs.Named.{at_name, has_name, without_name, change_named}
 use Rattle.ctl_store.specs.State.{StanzaList, State, stanza_count}
+use Rattle.ctl_store.specs.Kinds.{AreOfKind}
 use Rattle.ctl_store.specs.Edits.{Edit, AddList, DropList, Put, Remove, Mark, Unmark, Pin, Unpin, Target, Prefs}
 
 -- ---- stanzas of a list
@@ -112,11 +113,19 @@ no_stanza list name version lists = when (not (has_stanza list name (Some versio
 abbrev pub second_status : ListKind → List (List ℕ × StanzaList) → Option Refusal
 second_status kind lists = when (is_status kind && has_status lists) StatusExists
 
--- why an edit does not fit the state, the limits aside
+abbrev pub is_same_kind : ListKind → ListKind → Bool
+is_same_kind Packages kind = not (is_status kind)
+is_same_kind Status kind = is_status kind
+
+-- whether there is a list of this name that holds stanzas of a kind
+abbrev pub takes_kind : ListKind → List ℕ → List (List ℕ × StanzaList) → Bool
+takes_kind kind name lists = option_map_or (λ (l : StanzaList). is_same_kind kind l.kind) (at_name name lists) false
+
+-- Why an edit does not fit the state, the limits aside. For a stanza that is put, a list of the other kind is none.
 abbrev pub misfit_of : State → Edit → Option Refusal
 misfit_of s (AddList name kind class stanzas) = option_or (when (has_name name s.lists) ListExists) (second_status kind s.lists)
 misfit_of s (DropList name) = no_list name s.lists
-misfit_of s (Put list content) = no_list list s.lists
+misfit_of s (Put list content) = when (not (takes_kind content.kind list s.lists)) NoList
 misfit_of s (Remove list name version) = option_or (no_list list s.lists) (no_stanza list name version s.lists)
 misfit_of s (Unmark name) = when (not (is_some (fin.get s.marks name))) NoMark
 misfit_of s (Unpin selector) = when (not (is_some (lookup (selector_eq selector) s.pins))) NoPin
@@ -135,3 +144,11 @@ is_past limits s = nat_lt limits.stanzas (stanza_count s.lists) || nat_lt limits
 -- Why an edit is refused. The limits come last: the new state may not pass them.
 abbrev pub refusal_of : Limits → State → Edit → Option Refusal
 refusal_of limits s edit = option_or (misfit_of s edit) (when (is_past limits (after s edit)) Full)
+
+-- ---- kinds
+
+-- the stanzas that an edit brings are of the kind of their list
+abbrev pub BringsItsKind : State → Edit → Type 0
+BringsItsKind s (AddList name kind class stanzas) = AreOfKind kind stanzas
+BringsItsKind s (Put list x) = IfSome (at_name list s.lists) (λ (l : StanzaList). x.kind ≡ l.kind)
+BringsItsKind s edit = Unit {0}

@@ -1,30 +1,27 @@
 //! Edits.
 
-ghost use Rattle.std.specs.Prelude.{◌≡◌, IfOk, map};
-
 use crate::list_class::ListClass;
+use crate::new_stanzas::NewStanzas;
 use crate::pin_settings::PinSettings;
 use crate::selector::{PinSetting, Selector};
 use ctl_relation::{Bytes, Version};
-use ctl_stanza::{ListKind, Stanza};
-use std::alloc::{AllocError, Global};
+use ctl_stanza::Stanza;
 
 /// A change of a store. Names in it are names, and a priority is not 0.
 #[derive(Drop)]
 pub enum Edit {
-    /// A new last list. Its stanzas were read as stanzas of a list of its kind; each has a box of its own, so that
-    /// later only the box moves.
+    /// A new last list, of the kind of its stanzas.
     AddList {
         name: Bytes,
-        kind: ListKind,
         class: ListClass,
-        stanzas: Vec<Box<Stanza>>,
+        stanzas: NewStanzas,
     },
     /// The list goes.
     DropList {
         name: Bytes,
     },
-    /// The stanza takes the place of the first stanza of its name and an equal version, or else goes last.
+    /// The stanza takes the place of the first stanza of its name and an equal version, or else goes last. It goes into a
+    /// list of its own kind.
     Put {
         list: Bytes,
         stanza: Box<Stanza>,
@@ -60,15 +57,4 @@ pub enum Edit {
     Prefs {
         settings: PinSettings,
     },
-}
-
-/// The stanzas, each in a box of its own.
-pub fn boxed(alloc: Global, stanzas: Vec<Stanza>) -> Result<Vec<Box<Stanza>>, AllocError>
-    ensures { IfOk result (λ boxes. map (λ stanza. stanza.value) boxes.items ≡ stanzas.items) }
-{
-    let mut boxes = Vec::with_capacity(alloc, stanzas.len())?;
-    for stanza in stanzas {
-        boxes.push(Box::new(alloc, stanza)?)?;
-    }
-    Ok(boxes)
 }

@@ -1,11 +1,14 @@
 //! Laws, each a function whose contract says it.
 
-ghost use Rattle.std.specs.Prelude.{ℕ, ℤ, List};
+ghost use Rattle.std.specs.Prelude.{◌≡◌, ℕ, ℤ, List, Ok};
 ghost use Rattle.ctl_store.specs.declared.selector.Selector.{Selector};
 ghost use Rattle.ctl_store.specs.Edits.{Edit};
-ghost use Rattle.ctl_store.specs.Kinds.{BringsItsKind, KeepKinds};
+ghost use Rattle.ctl_stanza.specs.declared.list_kind.ListKind.{ListKind};
+ghost use Rattle.ctl_stanza.specs.Content.{Content};
+ghost use Rattle.ctl_stanza.specs.Text.{read_text};
+ghost use Rattle.ctl_store.specs.Kinds.{AreOfKind, KeepKinds};
 ghost use Rattle.ctl_store.specs.State.{State};
-ghost use Rattle.ctl_store.specs.Step.{after};
+ghost use Rattle.ctl_store.specs.Step.{BringsItsKind, after};
 ghost use Rattle.ctl_store.specs.PinLaws.{SetsOwn, TakesOwn};
 ghost use Rattle.ctl_store.specs.PrefsFaults.{ReadsPrefsOrTells};
 ghost use Rattle.ctl_store.specs.PrefsLaws.{CountsFirst};
@@ -37,4 +40,10 @@ pub fn settings_by_package()
 /// that of their list, so they are after the edit.
 pub fn kinds_stay()
     ensures { (s : State) → (edit : Edit) → KeepKinds s.lists → BringsItsKind s edit → KeepKinds (after s edit).lists }
+{}
+
+/// The stanzas that are read of the text of a list are of its kind.
+pub fn stanzas_are_of_their_kind()
+    ensures { (kind : ListKind) → (first : ℕ) → (text : List ℕ) → (stanzas : List Content)
+        → read_text kind first text ≡ Ok stanzas → AreOfKind kind stanzas }
 {}

@@ -9,10 +9,12 @@ mod limits;
 mod list_class;
 mod lists;
 mod name;
+mod new_stanzas;
 mod order;
 mod pieces;
 mod pin_order;
 mod pin_settings;
+mod pin_table;
 mod pin_version;
 mod plan;
 mod prefs;
@@ -26,10 +28,14 @@ mod stanza_key;
 mod store;
 mod words;
 
-pub use edit::{Edit, boxed};
-pub use laws::{first_setting_counts, kinds_stay, settings_by_package, told_prefs_fault_is_least};
+pub use edit::Edit;
+pub use laws::{
+    first_setting_counts, kinds_stay, settings_by_package, stanzas_are_of_their_kind,
+    told_prefs_fault_is_least,
+};
 pub use limits::{Counts, Limits};
 pub use list_class::ListClass;
+pub use new_stanzas::NewStanzas;
 pub use pin_settings::PinSettings;
 pub use pin_version::PinVersion;
 pub use plan::Plan;

@@ -1,44 +1,33 @@
-//! Tables of pin settings.
+//! Pin settings that take the place of all.
 
-ghost use Rattle.std.specs.Prelude.{◌≡◌, ◌<◌, [], OnOk, OnErr};
-ghost use Rattle.std.specs.Map.{lookup, remove_entry};
-ghost use Rattle.indexmap.specs.IndexMap.{insert_entry};
-ghost use Rattle.ctl_store.specs.Pins.{selector_eq, general_pin, own_settings, AreDistinct};
+ghost use Rattle.std.specs.Prelude.{◌≡◌, ◌<◌, ◌^◌, [], IfOk, OnOk, OnErr};
+ghost use Rattle.std.specs.Map.{lookup};
+ghost use Rattle.indexmap.specs.IndexMap.{insert_all, insert_entry};
+ghost use Rattle.ctl_store.specs.Pins.{selector_eq, settings_of, general_pin, AreDistinct};
 
-use crate::pin_order::{place_of, start_of};
+use crate::pin_table::PinTable;
 use crate::selector::{PinSetting, Selector};
-use crate::selector_order::GeneralOn;
-use crate::store::{PackagePins, Pins};
-use ctl_ordered::Ordered;
+use crate::store::Pins;
 use std::alloc::{AllocError, Global};
-use std::collections::VecDeque;
 use std::marker::Model;
 
 /// Pin settings, in the order in which their selectors were first set. No selector stands twice. One is found in the log
-/// of their number, and so are those of a package.
+/// of their number.
 #[derive(Drop)]
 pub struct PinSettings {
-    settings: Ordered<Selector, i16>,
-    // The serials in the order of the packages.
-    packages: VecDeque<u64>,
+    // None has gone from it, so that the serials are as many as the settings.
+    table: PinTable,
 }
 
 impl Model for PinSettings {
-    ghost use Rattle.std.specs.Prelude.{min, ◌-◌};
-    ghost use Rattle.std.specs.VecDeque.{deque_capacity, deque_len};
-    ghost use Rattle.ctl_ordered.specs.Ordered.{entries};
+    ghost use Rattle.std.specs.Prelude.{◌≡◌, length};
     ghost use Rattle.ctl_store.specs.Pins.{Settings};
-    ghost use Rattle.ctl_store.specs.HeldRanks.{IsRanked};
-    ghost use Rattle.ctl_store.specs.HeldPins.{own_row};
 
     ghost Value = { Settings };
 
-    ghost view = { λ t. record {
-      pins = entries t.settings;
-      room = min t.settings.room (deque_capacity t.packages - deque_len t.packages);
-    } };
+    ghost view = { λ s. record { pins = s.table.pins } };
 
-    ghost invariant = { λ t. IsRanked own_row t.settings.rows t.settings.next t.packages.items };
+    ghost invariant = { λ s. s.table.next ≡ length s.table.pins };
 }
 
 impl PinSettings {
@@ -47,29 +36,33 @@ impl PinSettings {
         ensures { result.pins ≡ [] }
     {
         PinSettings {
-            settings: Ordered::new(alloc),
-            packages: VecDeque::new(alloc),
+            table: PinTable::new(alloc),
         }
+    }
+
+    /// These settings. A selector that stands twice has its first place and its last priority.
+    pub fn made_of(alloc: Global, settings: Vec<PinSetting>) -> Result<PinSettings, AllocError>
+        ensures { IfOk result (λ made. made.pins ≡ insert_all selector_eq [] (settings_of settings.items)) }
+    {
+        let mut made = PinSettings::new(alloc);
+        for setting in settings {
+            made.set(setting)?;
+        }
+        Ok(made)
     }
 
     /// The priority of a selector, if it is set.
     pub fn get(&self, selector: &Selector) -> Option<i16>
         ensures { result ≡ lookup (selector_eq selector.now) self.now.pins }
     {
-        match self.settings.get(selector) {
-            Some(priority) => Some(*priority),
-            None => None,
-        }
+        self.table.get(selector)
     }
 
     /// The priority of the general pin on a list, if there is one.
     pub fn general(&self, list: &[u8]) -> Option<i16>
         ensures { result ≡ general_pin list.now self.now.pins }
     {
-        match self.settings.get(GeneralOn { list }) {
-            Some(priority) => Some(*priority),
-            None => None,
-        }
+        self.table.general(list)
     }
 
     /// Sets a pin. A selector that is set keeps its place.
@@ -77,8 +70,10 @@ impl PinSettings {
         ensures ok { OnOk result (self.new.pins ≡ insert_entry selector_eq self.old.pins setting.selector setting.priority) }
         ensures err { OnErr result (self.new.pins ≡ self.old.pins) }
     {
-        self.reserve_one()?;
-        self.put(setting);
+        // That they are few is said here.
+        let _settings = self.table.iter();
+        self.table.reserve_one()?;
+        self.table.put(setting);
         Ok(())
     }
 
@@ -88,57 +83,17 @@ impl PinSettings {
         // no selector stands twice
         ensures distinct { AreDistinct result }
     {
-        Pins::new(self.settings.iter())
+        self.table.iter()
     }
 
-    /// The specific pins of a package, in order.
-    pub fn of<'a>(&'a self, name: &'a [u8]) -> PackagePins<'a>
-        ensures { result ≡ own_settings name.now self.now.pins }
+    /// The table that they are held in.
+    pub(crate) fn into_table(self) -> PinTable
+        ensures pins { result.pins ≡ self.pins }
+        ensures few { result.next < 2 ^ 63 }
     {
-        let start = start_of(&self.settings, &self.packages, name);
-        PackagePins::new(name, &self.settings, &self.packages, start)
-    }
-
-    /// Makes room for one setting more.
-    pub(crate) fn reserve_one(&mut self) -> Result<(), AllocError>
-        ensures pins { self.new.pins ≡ self.old.pins }
-        ensures ok { OnOk result (0 < self.new.room) }
-    {
-        self.settings.reserve_one()?;
-        self.packages.reserve(1)
-    }
-
-    /// Sets a pin, for which there is room. A selector that is set keeps its place.
-    pub(crate) fn put(&mut self, setting: PinSetting)
-        requires { 0 < self.old.room }
-        ensures { self.new.pins ≡ insert_entry selector_eq self.old.pins setting.selector setting.priority }
-    {
-        let PinSetting { selector, priority } = setting;
-        match self.settings.serial_of(&selector) {
-            Some(_serial) => {}
-            None => {
-                let serial = self.settings.next_serial();
-                let at = place_of(&self.settings, &self.packages, serial, &selector);
-                match self.packages.insert(at, serial) {
-                    Ok(_) => {}
-                    Err(_) => unreachable!(),
-                }
-            }
-        }
-        self.settings.put(selector, priority);
-    }
-
-    /// Takes a pin out. The others keep their order.
-    pub(crate) fn remove(&mut self, selector: &Selector)
-        ensures { self.new.pins ≡ remove_entry (selector_eq selector.now) self.old.pins }
-    {
-        match self.settings.serial_of(selector) {
-            Some(serial) => {
-                let at = place_of(&self.settings, &self.packages, serial, selector);
-                self.packages.remove(at);
-            }
-            None => {}
-        }
-        self.settings.remove(selector);
+        let PinSettings { table } = self;
+        // That they are few is said here.
+        let _settings = table.iter();
+        table
     }
 }

@@ -96,12 +96,7 @@ fn coming(edit: &Edit, key: StanzaKey) -> Option<&Stanza>
     ensures { option_copied result ≡ coming (edit_of edit.now) key }
 {
     match edit {
-        Edit::AddList {
-            name: _,
-            kind: _,
-            class: _,
-            stanzas,
-        } => match stanzas.get(key.stanza as usize) {
+        Edit::AddList { stanzas, .. } => match stanzas.as_slice().get(key.stanza as usize) {
             Some(stanza) => Some(stanza),
             None => None,
         },

@@ -14,7 +14,7 @@ mod preparing;
 mod views;
 
 use crate::limits::Limits;
-use crate::pin_settings::PinSettings;
+use crate::pin_table::PinTable;
 use crate::shelf::Shelf;
 use ctl_ordered::Ordered;
 use ctl_relation::{Bytes, Version};
@@ -32,7 +32,7 @@ pub struct Store {
     alloc: Global,
     lists: Ordered<Bytes, Shelf>,
     marks: Ordered<Bytes, Option<Version>>,
-    pins: PinSettings,
+    pins: PinTable,
     target: Option<Bytes>,
     next_list: u32,
     // How many of the lists are status lists, so that none is looked for.
@@ -61,7 +61,7 @@ impl Model for Store {
       limits = s.limits;
     } };
 
-    ghost invariant = { λ s. IsSound s.lists.rows s.lists.next s.next_list s.statuses s.stanzas s.edits s.limits };
+    ghost invariant = { λ s. IsSound s.lists.rows s.lists.next s.next_list s.statuses s.stanzas s.edits s.limits s.marks.next s.pins.next };
 }
 
 impl Store {
@@ -82,7 +82,7 @@ impl Store {
             alloc,
             lists: Ordered::new(alloc),
             marks: Ordered::new(alloc),
-            pins: PinSettings::new(alloc),
+            pins: PinTable::new(alloc),
             target: None,
             next_list: 0,
             statuses: 0,

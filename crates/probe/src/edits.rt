@@ -1,11 +1,15 @@
 //! Edits as the lines give them.
 
+ghost use Rattle.std.specs.Prelude.{IfOk};
+ghost use Rattle.ctl_store.specs.Kinds.{AreOfKind};
+
 use crate::said::OUT_OF_MEMORY;
 use crate::words::Words;
 use ctl_relation::Bytes;
 use ctl_stanza::{ListKind, Stanza, lines_take_bytes, read_stanzas};
 use ctl_store::{
-    Edit, ListClass, PinSetting, PinSettings, PinVersion, Selector, boxed, read_prefs,
+    Edit, ListClass, NewStanzas, PinSetting, PinSettings, PinVersion, Selector, read_prefs,
+    stanzas_are_of_their_kind,
 };
 use std::alloc::Global;
 
@@ -22,36 +26,29 @@ fn class(words: &mut Words<'_, '_>) -> ListClass {
 }
 
 // The stanzas of a text of a list of this kind, or why there are none.
-fn stanzas_of(
-    alloc: Global,
-    text: &[u8],
-    kind: ListKind,
-) -> Result<Vec<Box<Stanza>>, &'static str> {
+fn stanzas_of(alloc: Global, text: &[u8], kind: ListKind) -> Result<Vec<Stanza>, &'static str>
+    ensures { IfOk result (λ stanzas. AreOfKind kind stanzas.items) }
+{
     lines_take_bytes();
+    stanzas_are_of_their_kind();
     match read_stanzas(alloc, text, 1, kind) {
-        Ok(read) => boxed(alloc, read).or(Err(OUT_OF_MEMORY)),
+        Ok(read) => Ok(read),
         Err(_) => Err("a text with a fault"),
     }
 }
 
-// Those of the text that the next word gives.
-fn stanzas(words: &mut Words<'_, '_>, kind: ListKind) -> Vec<Box<Stanza>> {
-    match stanzas_of(words.alloc(), words.bytes(), kind) {
-        Ok(stanzas) => stanzas,
-        Err(why) => {
-            words.fail(why);
-            Vec::new(words.alloc())
-        }
-    }
+// Those of a list that comes.
+fn new_stanzas(alloc: Global, text: &[u8], kind: ListKind) -> Result<NewStanzas, &'static str> {
+    let stanzas = stanzas_of(alloc, text, kind)?;
+    NewStanzas::boxed(alloc, kind, stanzas).or(Err(OUT_OF_MEMORY))
 }
 
 /// The edit that adds a text as the list `main`, or why it is none.
 pub fn main_list(alloc: Global, text: &[u8], kind: ListKind) -> Result<Edit, &'static str> {
-    let stanzas = stanzas_of(alloc, text, kind)?;
+    let stanzas = new_stanzas(alloc, text, kind)?;
     match Bytes::from_slice(alloc, b"main") {
         Ok(name) => Ok(Edit::AddList {
             name,
-            kind,
             class: ListClass::Plain,
             stanzas,
         }),
@@ -59,34 +56,40 @@ pub fn main_list(alloc: Global, text: &[u8], kind: ListKind) -> Result<Edit, &'s
     }
 }
 
-fn add_list(words: &mut Words<'_, '_>) -> Edit {
+fn add_list(words: &mut Words<'_, '_>) -> Option<Edit> {
     let name = words.kept();
     let kind = words.list_kind();
     let class = class(words);
-    let stanzas = stanzas(words, kind);
-    Edit::AddList {
-        name,
-        kind,
-        class,
-        stanzas,
+    match new_stanzas(words.alloc(), words.bytes(), kind) {
+        Ok(stanzas) => Some(Edit::AddList {
+            name,
+            class,
+            stanzas,
+        }),
+        Err(why) => {
+            words.fail(why);
+            None
+        }
     }
 }
 
-// The last of them.
-fn last_stanza(words: &mut Words<'_, '_>, kind: ListKind) -> Option<Box<Stanza>> {
-    let last = stanzas(words, kind).pop();
-    if last.is_none() {
-        words.fail("a text without a stanza");
+// The last stanza of a text, in its box, or why there is none.
+fn last_stanza(alloc: Global, text: &[u8], kind: ListKind) -> Result<Box<Stanza>, &'static str> {
+    match stanzas_of(alloc, text, kind)?.pop() {
+        Some(stanza) => Box::new(alloc, stanza).or(Err(OUT_OF_MEMORY)),
+        None => Err("a text without a stanza"),
     }
-    last
 }
 
 fn put(words: &mut Words<'_, '_>) -> Option<Edit> {
     let list = words.kept();
     let kind = words.list_kind();
-    match last_stanza(words, kind) {
-        Some(stanza) => Some(Edit::Put { list, stanza }),
-        None => None,
+    match last_stanza(words.alloc(), words.bytes(), kind) {
+        Ok(stanza) => Some(Edit::Put { list, stanza }),
+        Err(why) => {
+            words.fail(why);
+            None
+        }
     }
 }
 
@@ -224,7 +227,7 @@ fn prefs(words: &mut Words<'_, '_>) -> Edit {
 
 fn edit_by(words: &mut Words<'_, '_>, word: &str) -> Option<Edit> {
     match word {
-        "add-list" => Some(add_list(words)),
+        "add-list" => add_list(words),
         "drop-list" => Some(drop_list(words)),
         "put" => put(words),
         "remove" => remove(words),

@@ -8,7 +8,7 @@ ghost use Rattle.ctl_store.specs.Named.{at_name, has_name};
 ghost use Rattle.ctl_store.specs.State.{count_of_kind};
 ghost use Rattle.ctl_store.specs.Pins.{selector_eq};
 ghost use Rattle.ctl_store.specs.Edits.{edit_of};
-ghost use Rattle.ctl_store.specs.Step.{count_coming, has_status, has_stanza, is_there, misfit_of, is_past, after, refusal_of};
+ghost use Rattle.ctl_store.specs.Step.{count_coming, has_status, has_stanza, is_same_kind, is_status, is_there, misfit_of, is_past, after, refusal_of, takes_kind};
 ghost use Rattle.ctl_store.specs.Keys.{found_in, found_of};
 ghost use Rattle.ctl_store.specs.Held.{state_of, keyed_of};
 
@@ -31,6 +31,24 @@ pub(super) fn one_if_status(kind: ListKind) -> u32
     }
 }
 
+fn is_status(kind: ListKind) -> bool
+    ensures { result ≡ is_status kind }
+{
+    match kind {
+        ListKind::Packages => false,
+        ListKind::Status => true,
+    }
+}
+
+fn is_same_kind(one: ListKind, other: ListKind) -> bool
+    ensures { result ≡ is_same_kind one other }
+{
+    match one {
+        ListKind::Packages => !is_status(other),
+        ListKind::Status => is_status(other),
+    }
+}
+
 impl Store {
     #[tactic(auto, using(crate::proofs::ListedLemmas::has_name_held))]
     pub(super) fn has_list(&self, name: &Bytes) -> bool
@@ -43,6 +61,17 @@ impl Store {
         ensures { result ≡ has_status (state_of self.now).lists }
     {
         self.statuses > 0
+    }
+
+    // Whether a list of this name is there that holds stanzas of a kind.
+    #[tactic(auto, using(crate::proofs::ListedLemmas::at_name_held))]
+    fn takes_kind(&self, kind: ListKind, list: &Bytes) -> bool
+        ensures { result ≡ takes_kind kind list.now (state_of self.now).lists }
+    {
+        match self.lists.get(list) {
+            Some(shelf) => is_same_kind(kind, shelf.kind()),
+            None => false,
+        }
     }
 
     // 1 for a status list that is there, else 0.
@@ -132,20 +161,14 @@ impl Store {
         ensures { result ≡ misfit_of (state_of self.now) (edit_of edit.now) }
     {
         match edit {
-            Edit::AddList {
-                name,
-                kind: _,
-                class: _,
-                stanzas: _,
-            } if self.has_list(name) => Some(Refusal::ListExists),
-            Edit::AddList {
-                name: _,
-                kind: ListKind::Status,
-                class: _,
-                stanzas: _,
-            } if self.has_status() => Some(Refusal::StatusExists),
+            Edit::AddList { name, .. } if self.has_list(name) => Some(Refusal::ListExists),
+            Edit::AddList { stanzas, .. } if is_status(stanzas.kind()) && self.has_status() => {
+                Some(Refusal::StatusExists)
+            }
             Edit::DropList { name } if !self.has_list(name) => Some(Refusal::NoList),
-            Edit::Put { list, stanza: _ } if !self.has_list(list) => { Some(Refusal::NoList) }
+            Edit::Put { list, stanza } if !self.takes_kind(stanza.kind(), list) => {
+                Some(Refusal::NoList)
+            }
             Edit::Remove {
                 list,
                 package: _,
@@ -168,12 +191,7 @@ impl Store {
         ensures { result ≡ count_coming (state_of self.now) (edit_of edit.now) }
     {
         match edit {
-            Edit::AddList {
-                name: _,
-                kind: _,
-                class: _,
-                stanzas,
-            } => stanzas.len(),
+            Edit::AddList { stanzas, .. } => stanzas.as_slice().len(),
             Edit::Put { list: _, stanza: _ } => { if there { 0 } else { 1 } }
             _ => 0,
         }

@@ -1,6 +1,6 @@
 //! Plans are carried out.
 
-ghost use Rattle.std.specs.Prelude.{◌≡◌, ◌-◌, ◌<◌, None, IsSome, IfSome, length, vec_len};
+ghost use Rattle.std.specs.Prelude.{◌≡◌, ◌-◌, ◌<◌, None, IsSome, IfSome, length, map, vec_len};
 ghost use Rattle.ctl_store.specs.Named.{at_name};
 ghost use Rattle.ctl_store.specs.Edits.{edit_of};
 ghost use Rattle.ctl_store.specs.Edits as edits;
@@ -9,6 +9,7 @@ ghost use Rattle.ctl_stanza.specs.Content.{package_of, version_of};
 ghost use Rattle.ctl_store.specs.Keys.{keyed_after, removed_of, found_in, all_in, IsNotAmong, stanza_at, AreCome, AreGone};
 ghost use Rattle.ctl_store.specs.Entries.{IsChange};
 ghost use Rattle.ctl_store.specs.Given.{IsGivenOnce};
+ghost use Rattle.ctl_store.specs.Kinds.{AreOfKind};
 ghost use Rattle.ctl_store.specs.NewLists.{adding};
 ghost use Rattle.ctl_store.specs.Held.{state_of, keyed_of, IsReady, HasRoom, HasRoomInList, Fits};
 
@@ -76,11 +77,11 @@ impl Store {
         match edit {
             Edit::AddList {
                 name,
-                kind,
                 class,
                 stanzas,
             } => {
                 let room = list_room;
+                let (kind, stanzas) = stanzas.into_parts();
                 self.add_list(
                     name,
                     NewList {
@@ -109,6 +110,7 @@ impl Store {
 
     fn add_list(&mut self, name: Bytes, list: NewList)
         requires accepted { refusal_of self.old.limits (state_of self.old) (adding name list) ≡ None }
+        requires kinds { AreOfKind list.kind (map (λ stanza. stanza.value) list.stanzas.items) }
         requires list { 0 < self.old.lists_room }
         requires room { Fits (vec_len list.stanzas) list.room }
         ensures state { state_of self.new ≡ after (state_of self.old) (adding name list) }
@@ -231,7 +233,7 @@ impl Store {
         ensures limits { self.new.limits ≡ self.old.limits }
     {
         let _limits = self.limits;
-        self.pins = settings;
+        self.pins = settings.into_table();
         self.edits += 1;
     }
 }

@@ -58,12 +58,7 @@ fn make_ready(alloc: Global, edit: &Edit) -> Result<ListRoom, AllocError>
     ensures { IfOk result (IsReadyFor (edit_of edit.now)) }
 {
     match edit {
-        Edit::AddList {
-            name: _,
-            kind: _,
-            class: _,
-            stanzas,
-        } => ListRoom::with_capacity(alloc, stanzas.len()),
+        Edit::AddList { stanzas, .. } => ListRoom::with_capacity(alloc, stanzas.as_slice().len()),
         _ => Ok(ListRoom::new(alloc)),
     }
 }
@@ -129,12 +124,9 @@ impl Store {
         ensures { IfOk result (λ v. v.items ≡ added_of (keyed_of self.now) (edit_of edit.now)) }
     {
         match edit {
-            Edit::AddList {
-                name: _,
-                kind: _,
-                class: _,
-                stanzas,
-            } => new_keys(self.alloc, self.next_list, stanzas),
+            Edit::AddList { stanzas, .. } => {
+                new_keys(self.alloc, self.next_list, stanzas.as_slice())
+            }
             Edit::Put { list, stanza } => keys_of(self.alloc, self.kept_in(list, stanza, found)),
             _ => Ok(Vec::new(self.alloc)),
         }
@@ -142,24 +134,17 @@ impl Store {
 
     // Makes the room that an edit wants in what the store keeps.
     fn make_room(&mut self, edit: &Edit) -> Result<(), AllocError>
+        requires { refusal_of self.old.limits (state_of self.old) (edit_of edit.now) ≡ None }
         ensures state { state_of self.new ≡ state_of self.old }
         ensures keyed { keyed_of self.new ≡ keyed_of self.old }
         ensures limits { self.new.limits ≡ self.old.limits }
         ensures room { OnOk result (HasRoomIn self.new (edit_of edit.now)) }
     {
         match edit {
-            Edit::AddList {
-                name: _,
-                kind: _,
-                class: _,
-                stanzas: _,
-            } => self.lists.reserve_one(),
-            Edit::Put { list, stanza: _ } => reserve_in(&mut self.lists, self.alloc, list),
-            Edit::Mark {
-                package: _,
-                version: _,
-            } => self.marks.reserve_one(),
-            Edit::Pin { setting: _ } => self.pins.reserve_one(),
+            Edit::AddList { .. } => self.lists.reserve_one(),
+            Edit::Put { list, .. } => reserve_in(&mut self.lists, self.alloc, list),
+            Edit::Mark { .. } => self.marks.reserve_one(),
+            Edit::Pin { .. } => self.pins.reserve_one(),
             _ => Ok(()),
         }
     }

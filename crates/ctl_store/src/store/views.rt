@@ -5,6 +5,7 @@ ghost use Rattle.std.specs.FinMap as fin;
 ghost use Rattle.ctl_store.specs.State.{stanza_count, shown_lists, stanzas_named};
 ghost use Rattle.ctl_store.specs.Keys.{all_in, all_keys, AreRising, AreHeld, stanza_at, holder_of};
 ghost use Rattle.ctl_store.specs.Followed.{under};
+ghost use Rattle.ctl_store.specs.Kinds.{KeepKinds};
 ghost use Rattle.ctl_store.specs.Named.{at_name};
 ghost use Rattle.ctl_store.specs.Pins.{general_pin, own_settings, AreDistinct};
 ghost use Rattle.std.specs.List.{IsDistinct};
@@ -102,6 +103,8 @@ impl Store {
         ensures lists { result ≡ shown_lists (state_of self.now).lists }
         // no name stands twice
         ensures distinct { IsDistinct bytes_eq (names_of (state_of self.now).lists) }
+        // the stanzas of each list are of its kind
+        ensures kinds { KeepKinds (state_of self.now).lists }
     {
         let entries = self.lists.iter();
         Lists { entries }
@@ -209,6 +212,17 @@ impl Store {
     {
         match entry_of(&self.lists, key.list) {
             Some((name, _)) => name,
+            None => unreachable!(),
+        }
+    }
+
+    /// The kind of the list of a key, which is one of the store. It is that of its stanza, which isn't looked at.
+    pub fn kind_of(&self, key: StanzaKey) -> ListKind
+        requires { IsSome (stanza_at key (keyed_of self.now).lists) }
+        ensures { Some result ≡ option_map (λ x. x.kind) (stanza_at key (keyed_of self.now).lists) }
+    {
+        match entry_of(&self.lists, key.list) {
+            Some((_, shelf)) => shelf.kind(),
             None => unreachable!(),
         }
     }

@@ -53,10 +53,10 @@ invariant_of-self c =
     let numbered = subst AreNumbered (sym rows) (numbered_last s.lists.next (c.args.name, c.new-shelf.result) s.lists.rows (c.self.invariant.next_is ∙ sym c.new-shelf.ensures.serial) c.self.invariant.numbered) in
     let held = ap (λ h. stanza_count (state_of h).lists) c.self.view_is in
     let most = ap (λ h. h.limits.stanzas) c.self.view_is in
-    subst (λ k. IsSound c.put.new.self.rows c.put.new.self.next (s.next_list + 1) (s.statuses + k) (s.stanzas + c.len-count.result) (s.edits + 1) s.limits) (sym c.one_if_status.ensures)
-    (subst (λ n. IsSound c.put.new.self.rows c.put.new.self.next (s.next_list + 1) (s.statuses + count_of_kind c.args.list.kind) (s.stanzas + n) (s.edits + 1) s.limits) long
-    (subst (λ m. IsSound c.put.new.self.rows m (s.next_list + 1) (s.statuses + count_of_kind c.args.list.kind) (s.stanzas + length xs) (s.edits + 1) s.limits) (sym (c.put.ensures.next ∙ ap (λ o. next_put o s.lists) none))
-    (sound_add s.lists.rows s.lists.next s.next_list s.statuses s.stanzas s.edits s.limits c.self.invariant c.put.new.self.rows c.args.name c.args.list.kind c.args.list.class xs numbered lists
+    subst (λ k. IsSound c.put.new.self.rows c.put.new.self.next (s.next_list + 1) (s.statuses + k) (s.stanzas + c.len-count.result) (s.edits + 1) s.limits s.marks.next s.pins.next) (sym c.one_if_status.ensures)
+    (subst (λ n. IsSound c.put.new.self.rows c.put.new.self.next (s.next_list + 1) (s.statuses + count_of_kind c.args.list.kind) (s.stanzas + n) (s.edits + 1) s.limits s.marks.next s.pins.next) long
+    (subst (λ m. IsSound c.put.new.self.rows m (s.next_list + 1) (s.statuses + count_of_kind c.args.list.kind) (s.stanzas + length xs) (s.edits + 1) s.limits s.marks.next s.pins.next) (sym (c.put.ensures.next ∙ ap (λ o. next_put o s.lists) none))
+    (sound_add c.self.invariant c.put.new.self.rows c.args.name c.args.list.kind c.args.list.class xs c.requires.kinds numbered lists
     (omega (arith, add_fits h.limits (state_of h) c.args.name c.args.list.kind c.args.list.class xs c.requires.accepted, c.self.invariant.counted, held, most)))))
 
 pub returns-clause-state : goal.returns-clause-state

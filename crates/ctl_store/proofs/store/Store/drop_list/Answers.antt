@@ -48,10 +48,10 @@ invariant_of-self c =
     let lists = ap lists_of c.remove.ensures.entries ∙ lists_without name (ordered.entries s.lists) in
     let kind = kind_is (state_of h) name f.0 c.count_of_kind-statuses.result c.count_of_kind-statuses.ensures f.1 in
     let numbered = subst AreNumbered (sym c.remove.ensures.rows) (numbered_cut (bytes_eq name) s.lists.rows c.self.invariant.numbered) in
-    subst (λ k. IsSound c.remove.new.self.rows c.remove.new.self.next s.next_list (s.statuses - k) (s.stanzas - c.args.gone) (s.edits + 1) s.limits) (sym kind)
-    (subst (λ n. IsSound c.remove.new.self.rows c.remove.new.self.next s.next_list (s.statuses - count_of_kind f.0.kind) (s.stanzas - n) (s.edits + 1) s.limits) (sym count)
-    (subst (λ m. IsSound c.remove.new.self.rows m s.next_list (s.statuses - count_of_kind f.0.kind) (s.stanzas - length f.0.stanzas) (s.edits + 1) s.limits) (sym c.remove.ensures.next)
-    (sound_drop s.lists.rows s.lists.next s.next_list s.statuses s.stanzas s.edits s.limits c.self.invariant c.remove.new.self.rows name f.0 numbered lists (ap (λ h. at_name name (state_of h).lists) c.self.view_is ∙ f.1))))
+    subst (λ k. IsSound c.remove.new.self.rows c.remove.new.self.next s.next_list (s.statuses - k) (s.stanzas - c.args.gone) (s.edits + 1) s.limits s.marks.next s.pins.next) (sym kind)
+    (subst (λ n. IsSound c.remove.new.self.rows c.remove.new.self.next s.next_list (s.statuses - count_of_kind f.0.kind) (s.stanzas - n) (s.edits + 1) s.limits s.marks.next s.pins.next) (sym count)
+    (subst (λ m. IsSound c.remove.new.self.rows m s.next_list (s.statuses - count_of_kind f.0.kind) (s.stanzas - length f.0.stanzas) (s.edits + 1) s.limits s.marks.next s.pins.next) (sym c.remove.ensures.next)
+    (sound_drop c.self.invariant c.remove.new.self.rows name f.0 numbered lists (ap (λ h. at_name name (state_of h).lists) c.self.view_is ∙ f.1))))
 
 pub returns-clause-state : goal.returns-clause-state
 returns-clause-state c =

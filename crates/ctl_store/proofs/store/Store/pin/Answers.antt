@@ -1,5 +1,8 @@
+use Rattle.std.proofs.Common.{arith}
 use Rattle.ctl_store.proofs.SoundLemmas.{sound_more}
 use Rattle.ctl_store.proofs.store.Store.pin.Goals as goal
 
 pub invariant_of-self : goal.invariant_of-self
-invariant_of-self c = let s = c.self.inside in sound_more s.lists.rows s.lists.next s.next_list s.statuses s.stanzas s.edits s.limits c.self.invariant
+invariant_of-self c =
+    let s = c.self.inside in
+    sound_more c.self.invariant s.marks.next c.put.new.self.next (omega (arith, c.self.invariant.few_marks)) (omega (arith, c.put.ensures.next, c.self.invariant.few_pins))

@@ -1,4 +1,6 @@
-use Rattle.std.proofs.Common.{◌∙◌, ap, ◌+◌}
+use Rattle.std.proofs.Common.{◌∙◌, ap, ◌+◌, arith}
+use Rattle.std.specs.Map.{lookup}
+use Rattle.std.specs.Str.{bytes_eq}
 use Rattle.std.specs.FinMap as fin
 use Rattle.ctl_ordered.specs.Ordered as ordered
 use Rattle.ctl_store.specs.Edits.{Mark}
@@ -6,11 +8,14 @@ use Rattle.ctl_store.specs.Step.{after}
 use Rattle.ctl_store.specs.Keys.{stanza_lists}
 use Rattle.ctl_store.specs.Held.{lists_of, state_of}
 use Rattle.ctl_store.proofs.NamedLemmas.{from_entries-put_named}
-use Rattle.ctl_store.proofs.SoundLemmas.{sound_more}
+use Rattle.ctl_store.proofs.SoundLemmas.{next_most, sound_more}
 use Rattle.ctl_store.proofs.store.Store.set_mark.Goals as goal
 
 pub invariant_of-self : goal.invariant_of-self
-invariant_of-self c = let s = c.self.inside in sound_more s.lists.rows s.lists.next s.next_list s.statuses s.stanzas s.edits s.limits c.self.invariant
+invariant_of-self c =
+    let s = c.self.inside in
+    let most = next_most (lookup (bytes_eq c.args.name) (ordered.entries s.marks)) s.marks in
+    sound_more c.self.invariant c.put.new.self.next s.pins.next (omega (arith, c.put.ensures.next, most, c.self.invariant.few_marks)) (omega (arith, c.self.invariant.few_pins))
 
 pub returns-clause-state : goal.returns-clause-state
 returns-clause-state c =

@@ -1,4 +1,4 @@
-use Rattle.std.proofs.Common.{◌∙◌, ap, ◌+◌}
+use Rattle.std.proofs.Common.{◌∙◌, ap, ◌+◌, arith}
 use Rattle.ctl_ordered.specs.Ordered as ordered
 use Rattle.ctl_store.specs.Named.{at_name}
 use Rattle.ctl_store.specs.Edits.{Unmark}
@@ -10,7 +10,9 @@ use Rattle.ctl_store.proofs.SoundLemmas.{sound_more}
 use Rattle.ctl_store.proofs.store.Store.unmark.Goals as goal
 
 pub invariant_of-self : goal.invariant_of-self
-invariant_of-self c = let s = c.self.inside in sound_more s.lists.rows s.lists.next s.next_list s.statuses s.stanzas s.edits s.limits c.self.invariant
+invariant_of-self c =
+    let s = c.self.inside in
+    sound_more c.self.invariant c.remove.new.self.next s.pins.next (omega (arith, c.remove.ensures.next, c.self.invariant.few_marks)) (omega (arith, c.self.invariant.few_pins))
 
 pub returns-clause-state : goal.returns-clause-state
 returns-clause-state c =

@@ -1,4 +1,4 @@
-use Rattle.std.proofs.Common.{◌∙◌, ap, sym, subst, to_z, of_z, w16}
+use Rattle.std.proofs.Common.{◌≡◌, ◌∙◌, arith, length, ap, sym, subst, to_z, of_z, w16}
 use Rattle.std.specs.List.{insert}
 use Rattle.std.specs.Map.{lookup}
 use Rattle.ctl_ordered.specs.Ordered.{entries, rows_put, next_put}
@@ -6,8 +6,9 @@ use Rattle.ctl_store.specs.Pins.{selector_eq}
 use Rattle.ctl_store.specs.HeldRanks.{IsRanked, labels_of, sorted_labels, labels_below}
 use Rattle.ctl_store.specs.HeldPins.{own_label, own_row}
 use Rattle.ctl_store.proofs.OwnOrderLemmas.{own_set, own_push, value_there, value_nowhere}
-use Rattle.ctl_store.proofs.pin_settings.PinSettings.put.Goals.{in-Some, in-None+in-Ok}
-use Rattle.ctl_store.proofs.pin_settings.PinSettings.put.Goals as goal
+use Rattle.ctl_store.proofs.SoundLemmas.{next_most, put_fresh}
+use Rattle.ctl_store.proofs.pin_table.PinTable.put.Goals.{in-Some, in-None+in-Ok}
+use Rattle.ctl_store.proofs.pin_table.PinTable.put.Goals as goal
 
 pub invariant_of-self : goal.invariant_of-self
 invariant_of-self c =
@@ -33,3 +34,27 @@ invariant_of-self c =
     ] in
     subst (λ r. IsRanked own_row r put.new.self.next i.packages.items) (sym put.ensures.rows)
     (subst (λ n. IsRanked own_row (rows_put (lookup (selector_eq k) (entries i.settings)) (selector_eq k) i.settings k v) n i.packages.items) (sym put.ensures.next) kept)
+
+pub returns-clause-next : goal.returns-clause-next
+returns-clause-next c =
+    let s = c.self.inside in
+    let i = c.match-serial_of.self-inside in
+    let k = c.args.setting.selector in
+    let same : i.settings ≡ s.settings = elim c.match-serial_of.branch [
+      | in-Some w ↦ ap (λ x. x.settings) w.self-inside-is
+      | in-None+in-Ok w ↦ ap (λ x. x.settings) w.self-inside-is
+    ] in
+    omega (arith, c.put.ensures.next, next_most (lookup (selector_eq k) (entries i.settings)) i.settings, ap (λ o. o.next) same, ap (λ v. v.next) c.self.view_is)
+
+pub returns-clause-fresh : goal.returns-clause-fresh
+returns-clause-fresh c = λ fresh.
+    let s = c.self.inside in
+    let i = c.match-serial_of.self-inside in
+    let k = c.args.setting.selector in
+    let v = to_z w16 (of_z w16 c.args.setting.priority) in
+    let same : i.settings ≡ s.settings = elim c.match-serial_of.branch [
+      | in-Some w ↦ ap (λ x. x.settings) w.self-inside-is
+      | in-None+in-Ok w ↦ ap (λ x. x.settings) w.self-inside-is
+    ] in
+    let many = ap (λ v. v.next) c.self.view_is ∙ fresh ∙ ap (λ v. length v.pins) (sym c.self.view_is) in
+    c.put.ensures.next ∙ put_fresh selector_eq k v i.settings (ap (λ o. o.next) same ∙ many ∙ ap (λ o. length (entries o)) (sym same)) ∙ ap (λ es. length es) (sym c.put.ensures.entries)

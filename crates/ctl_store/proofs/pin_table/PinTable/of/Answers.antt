@@ -1,7 +1,7 @@
 use Rattle.std.proofs.Common.{◌∙◌, ap}
 use Rattle.ctl_store.specs.Pins.{own_settings}
 use Rattle.ctl_store.proofs.OwnRunLemmas.{own_found}
-use Rattle.ctl_store.proofs.pin_settings.PinSettings.of.Goals as goal
+use Rattle.ctl_store.proofs.pin_table.PinTable.of.Goals as goal
 
 pub returns : goal.returns
 returns c =

@@ -1,12 +1,12 @@
-use Rattle.std.proofs.Common.{sym, subst, arith}
+use Rattle.std.proofs.Common.{◌≡◌, ◌∙◌, ap, sym, subst, arith}
 use Rattle.ctl_ordered.specs.Ordered.{cut_row}
 use Rattle.ctl_ordered.proofs.QueueLemmas.{taken}
 use Rattle.ctl_store.specs.Pins.{selector_eq}
 use Rattle.ctl_store.specs.HeldRanks.{IsRanked}
 use Rattle.ctl_store.specs.HeldPins.{own_row}
 use Rattle.ctl_store.proofs.OwnOrderLemmas.{own_within, own_cut, own_none}
-use Rattle.ctl_store.proofs.pin_settings.PinSettings.remove.Goals.{in-Some, in-None}
-use Rattle.ctl_store.proofs.pin_settings.PinSettings.remove.Goals as goal
+use Rattle.ctl_store.proofs.pin_table.PinTable.remove.Goals.{in-Some, in-None}
+use Rattle.ctl_store.proofs.pin_table.PinTable.remove.Goals as goal
 
 pub invariant_of-self : goal.invariant_of-self
 invariant_of-self c =
@@ -25,3 +25,13 @@ invariant_of-self c =
     ] in
     subst (λ r. IsRanked own_row r cut.new.self.next i.packages.items) (sym cut.ensures.rows)
     (subst (λ n. IsRanked own_row (cut_row (selector_eq k) i.settings.rows) n i.packages.items) (sym cut.ensures.next) kept)
+
+pub returns-clause-next : goal.returns-clause-next
+returns-clause-next c =
+    let s = c.self.inside in
+    let i = c.match-serial_of.self-inside in
+    let same : i.settings ≡ s.settings = elim c.match-serial_of.branch [
+      | in-Some w ↦ ap (λ x. x.settings) w.self-inside-is
+      | in-None w ↦ ap (λ x. x.settings) w.self-inside-is
+    ] in
+    c.remove-2.ensures.next ∙ ap (λ o. o.next) same ∙ ap (λ v. v.next) c.self.view_is
