@@ -1,9 +1,9 @@
-use Rattle.std.proofs.Common.{◌≡◌, ◌≤◌, ◌<◌, ◌^◌, arith, ap, subst, sym, ◌∙◌}
+use Rattle.std.proofs.Common.{cond, ◌≡◌, ◌≤◌, ◌<◌, ◌^◌, arith, ap, subst, sym, ◌∙◌}
 use Rattle.ctl_store.specs.declared.limits.Limits.{Limits}
 use Rattle.ctl_store.specs.Keys.{Keyed, AreComing}
 use Rattle.ctl_store.specs.Entries.{entries_of}
 use Rattle.ctl_policy.specs.Priority.{world_of}
-use Rattle.ctl_policy.specs.Chosen.{at_bytes}
+use Rattle.ctl_policy.specs.Chosen.{at_bytes, kept_of}
 use Rattle.ctl_policy.specs.Touched.{is_one_of}
 use Rattle.ctl_index.specs.Held.{standing}
 use Rattle.ctl_index.specs.TablesChosen.{HasMade, HasRenewed}
@@ -22,7 +22,7 @@ returns-clause-indexed c =
     let most : h.limits.stanzas < 2 ^ 32 = omega (arith, limits) in
     let comes : AreComing plan.added plan.edit = subst (λ ks. AreComing ks plan.edit) c.added-added.ensures.keys c.added-added.ensures.coming in
     let law : IsFollowed h plan = followed_law h plan comes c.counts-counts.ensures.order c.requires.change c.requires.ready.accepted most in
-    subst (λ (k : Keyed). IsIndexed (entries_of k.lists) c.follow.new.tables) (sym c.commit.ensures.keyed) (c.in_ok-follow.ensures.tables law c.requires.indexed)
+    subst (λ (k : Keyed). IsIndexed (entries_of k.lists) c.follow.new.tables) (sym c.commit.ensures.keyed) (c.in_ok-touched.ensures.tables law c.requires.indexed)
 
 pub renew_names-requires-clause-rows : goal.renew_names-requires-clause-rows
 renew_names-requires-clause-rows c =
@@ -32,12 +32,13 @@ renew_names-requires-clause-rows c =
     let most : h.limits.stanzas < 2 ^ 32 = omega (arith, limits) in
     let comes : AreComing plan.added plan.edit = subst (λ ks. AreComing ks plan.edit) c.added-added.ensures.keys c.added-added.ensures.coming in
     let law : IsFollowed h plan = followed_law h plan comes c.counts-counts.ensures.order c.requires.change c.requires.ready.accepted most in
-    let tables : IsIndexed (standing c.commit.new.self) c.follow.new.tables = subst (λ (k : Keyed). IsIndexed (entries_of k.lists) c.follow.new.tables) (sym c.commit.ensures.keyed) (c.in_ok-follow.ensures.tables law c.requires.indexed) in
+    let tables : IsIndexed (standing c.commit.new.self) c.follow.new.tables = subst (λ (k : Keyed). IsIndexed (entries_of k.lists) c.follow.new.tables) (sym c.commit.ensures.keyed) (c.in_ok-touched.ensures.tables law c.requires.indexed) in
     c.rows_are_defined.ensures c.commit.new.self c.follow.new.tables.names.map c.commit.ensures.change.rises tables.rows
 
 pub renew_names-requires-clause-places : goal.renew_names-requires-clause-places
 renew_names-requires-clause-places c = λ q e.
-    placed_there (is_one_of q c.args.touched.now) (at_bytes c.args.chosen.now q) (at_bytes c.follow.new.chosen q) (c.in_ok-follow.ensures.places q) e
+    placed_there (is_one_of q c.in_ok-touched.touched.items) (at_bytes c.args.chosen.now q) (at_bytes c.follow.new.chosen q) (c.in_ok-touched.ensures.places q)
+    (ap (is_one_of q) (sym c.deref.ensures.value) ∙ e)
 
 pub returns-clause-chosen : goal.returns-clause-chosen
 returns-clause-chosen c =
@@ -52,11 +53,14 @@ returns-clause-chosen c =
       keyed = c.commit.ensures.keyed;
       state = c.commit.ensures.state;
     } in
-    let renewed : HasRenewed c.args.touched.now (world_of c.commit.new.self) c.args.chosen.now c.follow.new.chosen c.renew_names.new.chosen = record {
-      places = c.in_ok-follow.ensures.places;
-      renewed = c.renew_names.ensures;
+    let names = c.in_ok-touched.touched.items in
+    let renewed : HasRenewed names (world_of c.commit.new.self) c.args.chosen.now c.follow.new.chosen c.renew_names.new.chosen = record {
+      places = c.in_ok-touched.ensures.places;
+      renewed = λ q.
+          c.renew_names.ensures q
+          ∙ ap (λ ns. cond (is_one_of q ns) (kept_of q (world_of c.commit.new.self)) (at_bytes c.follow.new.chosen q)) c.deref.ensures.value;
     } in
-    c.choices_follow_edits.ensures h plan c.commit.new.self c.args.touched.now c.args.chosen.now c.follow.new.chosen c.renew_names.new.chosen made c.requires.touches c.requires.chosen renewed
+    c.choices_follow_edits.ensures h plan c.commit.new.self names c.args.chosen.now c.follow.new.chosen c.renew_names.new.chosen made c.in_ok-touched.ensures.touches c.requires.chosen renewed
 
 pub returns-clause-steps : goal.returns-clause-steps
 returns-clause-steps c =
@@ -66,7 +70,7 @@ returns-clause-steps c =
     let most : h.limits.stanzas < 2 ^ 32 = omega (arith, limits) in
     let comes : AreComing plan.added plan.edit = subst (λ ks. AreComing ks plan.edit) c.added-added.ensures.keys c.added-added.ensures.coming in
     let law : IsFollowed h plan = followed_law h plan comes c.counts-counts.ensures.order c.requires.change c.requires.ready.accepted most in
-    c.in_ok-follow.ensures.steps law c.requires.indexed ∙ ap (λ n. more_by n c.args.tables.now.steps) (followed_work h plan comes c.counts-counts.ensures.order c.requires.change)
+    c.in_ok-touched.ensures.steps law c.requires.indexed ∙ ap (λ n. more_by n c.args.tables.now.steps) (followed_work h plan comes c.counts-counts.ensures.order c.requires.change)
 
 pub returns-clause-most : goal.returns-clause-most
 returns-clause-most c =
@@ -78,8 +82,8 @@ returns-clause-most c =
     let law : IsFollowed h plan = followed_law h plan comes c.counts-counts.ensures.order c.requires.change c.requires.ready.accepted most in
     subst (λ n. c.follow.new.tables.steps ≤ more_by n c.args.tables.now.steps) (followed_work h plan comes c.counts-counts.ensures.order c.requires.change) (c.follow.ensures.most law c.requires.indexed)
 
-pub returns-in_err-follow-clause-most : goal.returns-in_err-follow-clause-most
-returns-in_err-follow-clause-most c =
+pub returns-in_err-touched-clause-most : goal.returns-in_err-touched-clause-most
+returns-in_err-touched-clause-most c =
     let h = c.args.store.now in
     let plan = c.args.plan in
     let limits : c.limits-limits.result.stanzas ≡ h.limits.stanzas = ap (λ (l : Limits). l.stanzas) c.limits-limits.ensures in
