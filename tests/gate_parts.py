@@ -17,9 +17,9 @@ import proof_seconds  # noqa: E402
 PARTS = ["layout", "demo", "test-tools", "prove", "test-program", "edits"]
 
 
-def run_gate(lines, words=(), more=()):
-    """Runs the gate in a folder whose parts print one passed test, or do what `lines` has for them; returns its status and its lines, and
-    what was left of measurements."""
+def run_gate(lines, words=(), more=(), processors=None):
+    """Runs the gate in a folder whose parts print one passed test, or do what `lines` has for them, on so many processors or on all;
+    returns its status and its lines, and what was left of measurements."""
     with tempfile.TemporaryDirectory() as folder:
         os.mkdir(folder + "/tools")
         for name in ("gate.py", "gate_file.py", "proof_seconds.py"):
@@ -28,7 +28,9 @@ def run_gate(lines, words=(), more=()):
             for name in (*PARTS, *more):
                 file.write("%s:\n\t@%s\n" % (name, lines.get(name, "echo '1 passed, 0 failed'")))
         how = {"cwd": folder, "stdout": subprocess.PIPE, "stderr": subprocess.STDOUT, "text": True}
-        done = subprocess.run([sys.executable, "tools/gate.py", *words], **how)
+        mine = sorted(os.sched_getaffinity(0))[:processors]
+        only = ["taskset", "-c", ",".join(map(str, mine))] if processors else []
+        done = subprocess.run([*only, sys.executable, "tools/gate.py", *words], **how)
         with open(folder + "/out/gate.json", encoding="utf-8") as file:
             measured = json.load(file)
     return done.returncode, done.stdout.splitlines(), measured
@@ -43,12 +45,17 @@ def test_parts(tests):
     edits = "echo \"asked: $(IN_GATE)\"; echo '9 passed, 0 failed, 3 skipped'"
     status, lines, _ = run_gate({"test-program": "echo '5 passed, 0 failed, 2 skipped'", "edits": edits})
     tests.expect("skipped tests are counted", (status, lines[-1]) == (0, "18 passed, 0 failed, 5 skipped") and "asked: 1" in lines, lines)
-    status, lines, _ = run_gate({"demo": "echo '1 passed, 2 failed'; false"})
-    tests.expect("a part that fails stops the gate", (status, lines[-1]) == (1, "2 passed, 2 failed") and "prove: not run" in lines, lines)
-    status, lines, _ = run_gate({"demo": "echo '1 passed, 2 failed'; false"}, ["--keep-going"])
+    status, lines, _ = run_gate({"layout": "echo '1 passed, 2 failed'; false"})
+    tests.expect("a part that fails stops the gate", (status, lines[-1]) == (1, "1 passed, 2 failed") and "prove: not run" in lines, lines)
+    status, lines, _ = run_gate({"layout": "echo '1 passed, 2 failed'; false"}, ["--keep-going"])
     tests.expect("or is gone past", (status, lines[-1]) == (1, "6 passed, 2 failed"), lines)
-    told = lines[lines.index("== demo failed; it said last") :] if "== demo failed; it said last" in lines else lines
+    told = lines[lines.index("== layout failed; it said last") :] if "== layout failed; it said last" in lines else lines
     tests.expect("what a part that failed said last", told[1:2] == ["1 passed, 2 failed"] and "== the gate" in told, lines)
+    for processors, wanted in ((1, "prove: not run"), (2, "prove: not run"), (4, "edits: not run")):
+        if processors <= len(os.sched_getaffinity(0)):
+            status, lines, _ = run_gate({"demo": "echo '0 passed, 1 failed'; false"}, processors=processors)
+            left = [it for it in lines if it.endswith(": not run")]
+            tests.expect("what a failed example stops on %d processors" % processors, status == 1 and wanted in left, lines)
     for what, command in (("no count", "echo all well"), ("a count of none, and a failure", "echo '1 passed, 0 failed'; false")):
         status, lines, _ = run_gate({"edits": command}, ["--keep-going"])
         tests.expect("a part of %s has failed" % what, status == 1 and lines[-1].endswith(" passed, 1 failed"), lines)

@@ -8,8 +8,9 @@ As a part ends, a line says how long it took. A part that fails stops the gate, 
 M failed', and ', K skipped' where tests were skipped: the sum over all parts that ran. The status is 1 where anything failed. What was
 measured is left in out/gate.json.
 
-The proofs are a chain from crate to crate, so that they leave processors idle. With four processors or more what needs no proof runs
-beside them, and the tests of the proved program beside the edits, at low priority; what they print comes behind what the others do."""
+The proofs are a chain from crate to crate, so that they leave processors idle. With four processors or more what needs no proof, the
+examples too, runs beside them, and the tests of the proved program beside the edits, at low priority; what they print comes behind what
+the others do."""
 
 import concurrent.futures
 import dataclasses
@@ -25,11 +26,11 @@ import proof_seconds
 
 TOP = os.path.join(os.path.dirname(os.path.abspath(__file__)), "..")
 
-# A row of parts that run by themselves, and a row of those that can run beside them: on few processors these come first, one by one.
+# A row of parts that run by themselves, and a row of those that can run beside them. On few processors all run one by one, the latter
+# first.
 STAGES: list[tuple[list[str], list[str]]] = [
     (["layout"], []),
-    (["demo"], []),
-    (["prove"], ["test-tools"]),
+    (["prove"], ["demo", "test-tools"]),
     (["edits"], ["test-program", "test-reference", "test-refusals", "test-python"]),
 ]
 PARTS = {
@@ -87,8 +88,12 @@ def targets() -> set[str]:
 
 
 def stages() -> list[tuple[list[str], list[str]]]:
+    """Returns the rows of the parts that are there. On few processors each part is a row of its own."""
     there = targets()
-    return [([it for it in parts if it in there], [it for it in beside if it in there]) for parts, beside in STAGES]
+    rows = [([it for it in parts if it in there], [it for it in beside if it in there]) for parts, beside in STAGES]
+    if len(os.sched_getaffinity(0)) < ENOUGH:
+        return [([name], []) for parts, beside in rows for name in (*beside, *parts)]
+    return rows
 
 
 def run(name: str, show: Callable[[str], object], before: Iterable[str] = ()) -> Outcome:
@@ -133,8 +138,8 @@ def proofs_of(lines: list[str], seconds: dict[proof_seconds.Checked, float]) -> 
 
 def run_stage(parts: list[str], beside: list[str]) -> Iterator[Outcome]:
     """Runs the parts of a stage, and yields what each came to. The output of the first parts comes as it is written."""
-    if not beside or len(os.sched_getaffinity(0)) < ENOUGH:
-        for name in (*beside, *parts):
+    if not beside:
+        for name in parts:
             tell(f"== {name}: {PARTS[name]}")
             yield run(name, tell)
         return

@@ -21,7 +21,7 @@ fn is_status_key(store: &Store, key: StanzaKey) -> bool
     requires { IsSome (stanza_at key (keyed_of store.now).lists) }
     ensures { result ≡ is_status_key (keyed_of store.now).lists key }
 {
-    match store.stanza(key).kind() {
+    match store.kind_of(key) {
         ListKind::Status => true,
         ListKind::Packages => false,
     }

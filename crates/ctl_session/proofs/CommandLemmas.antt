@@ -9,6 +9,9 @@ use Rattle.ctl_store.specs.declared.refusal.Refusal.{Refusal}
 use Rattle.ctl_session.specs.State.{CacheState}
 use Rattle.ctl_session.specs.Asked.{ReadsLine}
 use Rattle.ctl_session.specs.LineReading.{TakesLine, StopsAfter, IsOneLine, newline_if}
+use Rattle.ctl_session.proofs.CommandNameLemmas.{body_by_name}
+use Rattle.ctl_session.specs.declared.command_name.CommandName.{CommandName}
+use Rattle.ctl_session.specs.Request.{command_named, has_body}
 use Rattle.ctl_session.specs.Script.{commands_in, commands_from, command_at, is_skipped, is_idle, without_blanks, opens_body, names_body, name_of, fits, body_of, has_end, first_long, ended_of}
 use Rattle.ctl_session.specs.Reading.{HasNoDot, dot_if, ReadsNone, SkipsToLine, ReadsBody, ReadsCommand, WholeLines, CountsLines, StopsInBody, StopsReading}
 use Rattle.ctl_session.specs.declared.read_ahead.LineRead.{LineRead}
@@ -286,8 +289,9 @@ pub long_opens_nothing : (line : List ℕ) → max_line < length line → opens_
 long_opens_nothing line long = ap (λ b. b && names_body (name_of line)) (fits_long line long)
 
 -- whether a body comes shows in the front of a line, if it isn't too long
-pub line_opens : (line buffer slice : List ℕ) (b : Bool) → buffer ≡ take max_line line → slice ≡ buffer → length line ≤ max_line →
-    b ≡ names_body (name_of slice) → opens_body line ≡ b
-line_opens line buffer slice b front same short tested =
+pub line_opens : (line buffer slice word : List ℕ) (command : Option CommandName) (b : Bool) → buffer ≡ take max_line line → slice ≡ buffer →
+    length line ≤ max_line → word ≡ name_of slice → command ≡ command_named word → b ≡ has_body command → opens_body line ≡ b
+line_opens line buffer slice word command b front same short named read tested =
     let whole : slice ≡ line = same ∙ front ∙ take_all max_line line short in
-    ap (λ x. x && names_body (name_of line)) (fits_short line short) ∙ ap (λ l. names_body (name_of l)) (sym whole) ∙ sym tested
+    ap (λ x. x && names_body (name_of line)) (fits_short line short) ∙ ap (λ l. names_body (name_of l)) (sym whole)
+    ∙ sym (tested ∙ ap has_body (read ∙ ap command_named named) ∙ body_by_name (name_of slice))

@@ -5,6 +5,7 @@ pub mod ScriptLemmas
 pub mod WholeLemmas
 pub mod LoadingLemmas
 pub mod ReadingLemmas
+pub mod CommandNameLemmas
 pub mod CommandLemmas
 pub mod RunLemmas
 pub mod RequestLemmas

@@ -204,6 +204,21 @@ named_in (entry ∷ entries) name = if bytes_eq name entry.0 then Some entry.1 e
 abbrev pub command_named : List ℕ → Option CommandName
 command_named name = named_in commands name
 
+-- a body comes after a line that names this command
+abbrev pub has_body : Option CommandName → Bool
+has_body None = false
+has_body (Some command.AddList) = true
+has_body (Some command.DropList) = false
+has_body (Some command.Put) = true
+has_body (Some command.Remove) = false
+has_body (Some command.Mark) = false
+has_body (Some command.Unmark) = false
+has_body (Some command.Pin) = false
+has_body (Some command.Unpin) = false
+has_body (Some command.Target) = false
+has_body (Some command.Prefs) = true
+has_body (Some (command.Query query)) = false
+
 -- an edit, and a query, as what a command asks for
 abbrev pub changing : Result Edit Refusal → Result Request Refusal
 changing (Ok edit) = Ok (Change edit)

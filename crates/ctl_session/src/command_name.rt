@@ -1,6 +1,7 @@
 //! The commands of a script.
 
 ghost use Rattle.std.specs.Prelude.{◌≡◌};
+ghost use Rattle.ctl_session.specs.Request.{has_body};
 
 use ctl_query::QueryName;
 
@@ -53,5 +54,15 @@ impl CommandName {
                 None => None,
             }
         }
+    }
+}
+
+/// Whether a body comes after a line, by the command that it names.
+pub(crate) fn has_body(command: Option<CommandName>) -> bool
+    ensures { result ≡ has_body command }
+{
+    match command {
+        Some(CommandName::AddList | CommandName::Put | CommandName::Prefs) => true,
+        _ => false,
     }
 }

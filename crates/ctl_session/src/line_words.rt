@@ -2,7 +2,7 @@
 
 ghost use Rattle.std.specs.Prelude.{◌≡◌, ◌≤◌, ◌++◌, length};
 ghost use Rattle.ctl_stanza.specs.Lines.{is_blank_byte as blank};
-ghost use Rattle.ctl_session.specs.Script.{without_blanks, first_word, name_of, is_idle, names_body, is_dot as dot};
+ghost use Rattle.ctl_session.specs.Script.{without_blanks, first_word, name_of, is_idle, is_dot as dot};
 ghost use Rattle.ctl_session.specs.Words.{behind_word, behind_name};
 
 pub(crate) fn is_blank(byte: u8) -> bool
@@ -66,14 +66,6 @@ pub(crate) fn is_no_command(line: &[u8]) -> bool
         [] => true,
         [byte, ..] => *byte == b'#',
     }
-}
-
-/// Whether a body comes after a line that is not too long.
-pub(crate) fn has_body(line: &[u8]) -> bool
-    ensures { result ≡ names_body (name_of line.now) }
-{
-    let name = name(line);
-    name == b"add-list".as_slice() || name == b"put".as_slice() || name == b"prefs".as_slice()
 }
 
 /// Whether a line ends a body.

@@ -5,14 +5,15 @@ ghost use Rattle.ctl_store.specs.declared.refusal.Refusal.{Refusal as RefusalTex
 ghost use Rattle.ctl_store.specs.Edits.{Edit as EditText, edit_of};
 ghost use Rattle.ctl_query.specs.Query.{query_behind};
 ghost use Rattle.ctl_query.specs.QueryRead.{Reads};
-ghost use Rattle.ctl_session.specs.Request.{asking, changing, request_by};
+ghost use Rattle.ctl_session.specs.Script.{name_of};
+ghost use Rattle.ctl_session.specs.Request.{asking, changing, command_named, request_by};
 ghost use Rattle.ctl_session.specs.State.{cache_state};
 ghost use Rattle.ctl_session.specs.Asked.{ReadsForAny, ReadsLine, ReadsRequest};
 
 use crate::command_name::CommandName;
 use crate::edit_words::{mark_edit, remove_edit, target_edit};
 use crate::edits::NewList;
-use crate::line_words::{behind_name, name};
+use crate::line_words::behind_name;
 use crate::list_words::{
     add_list_request, drop_list_edit, prefs_request, put_request, unmark_edit,
 };
@@ -85,12 +86,18 @@ fn request_by(
     }
 }
 
-/// What a line asks for over a cache. A line that is refused is so whatever body comes: its name or its words are none of a
+/// What a line asks for over a cache, by the command that it names. A line that is refused is so whatever body comes: its name or its words are none of a
 /// command's, there is no memory for them, or they put a stanza into a list that isn't there.
-pub(crate) fn read_request(alloc: Global, cache: &Cache, line: &[u8]) -> Result<Request, Refusal>
+pub(crate) fn read_request(
+    alloc: Global,
+    cache: &Cache,
+    command: Option<CommandName>,
+    line: &[u8],
+) -> Result<Request, Refusal>
+    requires { command ≡ command_named (name_of line.now) }
     ensures { ReadsLine (cache_state cache.now) line.now result }
 {
-    let Some(command) = CommandName::read(name(line)) else {
+    let Some(command) = command else {
         return Err(Refusal::Command);
     };
     match words(alloc, behind_name(line)) {

@@ -9,8 +9,9 @@ ghost use Rattle.ctl_session.specs.LineReading.{is_failed_read};
 ghost use Rattle.ctl_session.specs.Reading.{HoldsBody, ReadsBody, ReadsHead, ReadsNext, KeepsWhatIsNeeded, StopsInBody, StopsReading};
 ghost use Rattle.ctl_session.specs.State.{cache_state};
 
+use crate::command_name::{CommandName, has_body};
 use crate::fault::ReadingFault;
-use crate::line_words::{has_body, is_dot, is_no_command};
+use crate::line_words::{is_dot, is_no_command, name};
 use crate::lines::Lines;
 use crate::read_ahead::LineRead;
 use crate::request::{Request, let_go, read_request};
@@ -216,8 +217,9 @@ pub(crate) fn read_command<R: Source>(
             body,
         }));
     }
-    let request = read_request(alloc, cache, line);
-    if !has_body(line) {
+    let command = CommandName::read(name(line));
+    let request = read_request(alloc, cache, command, line);
+    if !has_body(command) {
         let body = Body::none(alloc, None, true, !read.newline);
         return Ok(Some(CommandRead {
             number,

@@ -11,6 +11,6 @@ returns-in-Ok-Some c =
     let line = c.args.line.now in
     let command = c.in-Some.command in
     let words = c.in-Ok-Some.words.items in
-    let named : command_named (name_of line) ≡ Some command = ap command_named (sym c.name.ensures) ∙ sym c.read.ensures ∙ c.in-Some.is in
+    let named : command_named (name_of line) ≡ Some command = sym c.requires ∙ c.in-Some.is in
     let behind : words_of (behind_name line) ≡ Some words = search rules in
     reads_line (cache_state c.args.cache.now) line c.request_by.result (request_by command words) (is_named line command named) (line_by line command words named behind) c.request_by.ensures

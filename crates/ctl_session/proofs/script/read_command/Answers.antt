@@ -20,7 +20,7 @@ returns-then-not-has_body-clause-ok g c =
     let found = rw c.in-Ok-Some.field-0-is at c.in-Ok-Some.ensures.ok in
     let short : length found.line ≤ max_line = omega (arith, found.takes.count) in
     reads_alone (cache_state c.args.cache.now) _ _ _ c.next_head.new.lines.number _ c.in-Ok-Some.read _ found
-    (line_opens found.line _ _ _ found.takes.front c.deref-2.ensures.value short c.has_body.ensures ∙ c.if-not-has_body.true) refl
+    (line_opens found.line _ _ _ _ _ found.takes.front c.deref.ensures.value short c.name.ensures c.read-command.ensures c.has_body.ensures ∙ c.if-not-has_body.true) refl
     (reads_whole _ found.line _ _ _ found.takes.front c.deref.ensures.value c.read_request-request.ensures)
     c.none-body-then-not-has_body.ensures.ended c.none-body-then-not-has_body.ensures.last
     (c.none-body-then-not-has_body.ensures.too_long ∙ sym (first_long-none _ found.line short)) c.none-body-then-not-has_body.ensures.text
@@ -30,7 +30,7 @@ returns-then-not-read-clause-ok g c =
     let found = rw c.in-Ok-Some.field-0-is at c.in-Ok-Some.ensures.ok in
     let short : length found.line ≤ max_line = omega (arith, found.takes.count) in
     reads_unended (cache_state c.args.cache.now) _ _ _ c.next_head.new.lines.number _ c.in-Ok-Some.read _ found
-    (line_opens found.line _ _ _ found.takes.front c.deref-2.ensures.value short c.has_body.ensures ∙ c.if-not-has_body.false)
+    (line_opens found.line _ _ _ _ _ found.takes.front c.deref.ensures.value short c.name.ensures c.read-command.ensures c.has_body.ensures ∙ c.if-not-has_body.false)
     (false_of_not _ c.if-not-read.true) refl
     (reads_whole _ found.line _ _ _ found.takes.front c.deref.ensures.value c.read_request-request.ensures)
     c.none-body-then-not-read.ensures.ended c.none-body-then-not-read.ensures.last
@@ -41,7 +41,7 @@ returns-in-Ok-clause-ok g c =
     let found = rw c.in-Ok-Some.field-0-is at c.in-Ok-Some.ensures.ok in
     let short : length found.line ≤ max_line = omega (arith, found.takes.count) in
     reads_with_body (cache_state c.args.cache.now) _ _ _ _ c.next_head.new.lines.number _ _ c.in-Ok-Some.read _ _ found (fits_short found.line short)
-    (line_opens found.line _ _ _ found.takes.front c.deref-2.ensures.value short c.has_body.ensures ∙ c.if-not-has_body.false)
+    (line_opens found.line _ _ _ _ _ found.takes.front c.deref.ensures.value short c.name.ensures c.read-command.ensures c.has_body.ensures ∙ c.if-not-has_body.false)
     (true_of_not _ c.if-not-read.false)
     (reads_whole _ found.line _ _ _ found.takes.front c.deref.ensures.value c.read_request-request.ensures) c.in-Ok.ensures.ok
 
@@ -50,7 +50,7 @@ returns-in-Err-read_body-clause-fault g c =
     let found = rw c.in-Ok-Some.field-0-is at c.in-Ok-Some.ensures.ok in
     let short : length found.line ≤ max_line = omega (arith, found.takes.count) in
     stops_with_body _ _ _ _ c.next_head.new.lines.number _ _ c.in-Ok-Some.read _ found
-    (line_opens found.line _ _ _ found.takes.front c.deref-2.ensures.value short c.has_body.ensures ∙ c.if-not-has_body.false)
+    (line_opens found.line _ _ _ _ _ found.takes.front c.deref.ensures.value short c.name.ensures c.read-command.ensures c.has_body.ensures ∙ c.if-not-has_body.false)
     (true_of_not _ c.if-not-read.false) (stops_in_body_same _ _ c.next_head.new.lines.number _ _ c.in-Err-read_body.fault c.in-Ok-Some.ensures.max c.in-Err-read_body.ensures.fault)
 
 pub returns-in-Ok-clause-kept : goal.returns-in-Ok-clause-kept
