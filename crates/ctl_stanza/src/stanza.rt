@@ -1,15 +1,14 @@
 //! Stanzas and their parts.
 
-ghost use Rattle.std.specs.Prelude.{◌≡◌, ◌+◌, ◌<◌, ◌≤◌, ◌^◌, ◌++◌, ◌∷◌, [], true, false, length, take, drop, option_map, None, IfOk, IfErr, OnOk};
+ghost use Rattle.std.specs.Prelude.{◌≡◌, ◌+◌, ◌<◌, ◌≤◌, ◌^◌, ◌++◌, ◌∷◌, [], length, take, drop, option_map, None, IfOk, IfErr, OnOk};
 ghost use Rattle.std.specs.List.{All};
 ghost use Rattle.ctl_stanza.specs.Lines.{lines_of, lent_lines, AreLines};
 ghost use Rattle.ctl_stanza.specs.Fields.{fields_of_lines};
 ghost use Rattle.ctl_stanza.specs.Content.{content_of, offers_of};
 ghost use Rattle.ctl_stanza.specs.HeldStanza.{content_in_front, live_offers, AreKept, AreRelationsOf};
 ghost use Rattle.ctl_stanza.specs.HeldFields.{IsWalk, IsReadFrom, AreWithin, shown_fields};
-ghost use Rattle.ctl_stanza.specs.Faults.{first_fault, is_missing, whole_fault, stanza_fault, IsMemoryAtZero, Tells};
+ghost use Rattle.ctl_stanza.specs.Faults.{first_fault, whole_fault, stanza_fault, IsMemoryAtZero, Tells};
 ghost use Rattle.ctl_stanza.specs.NameSlots.{AreTakenBy};
-ghost use Rattle.ctl_stanza.specs.Status.{is_live_by};
 ghost use Rattle.ctl_stanza.specs.declared.repeats.Repeats.TheVariants.{Never};
 
 use crate::checks::{first_wrong, is_missing};
@@ -111,32 +110,6 @@ fn stanza_of(
     }
 }
 
-// Adds a stanza that isn't live, of which its package alone is checked.
-fn add_other(
-    alloc: Global,
-    stanzas: &mut Vec<Stanza>,
-    room: &mut StanzaRoom,
-    head: StanzaHead,
-    text_len: u32,
-) -> Result<(), TextFault>
-    requires lines { All (λ field. head.line + field.line < 2 ^ 64) room.old.fields.items }
-    requires read { IsReadFrom room.old.bytes.items text_len room.old.fields.items }
-    requires names { AreTakenBy (lines_of (take text_len room.old.bytes.items)) head.names }
-    requires not_missing { is_missing head.kind (shown_fields room.old.bytes.items room.old.fields.items) ≡ false }
-    requires not_live { is_live_by head.kind (shown_fields room.old.bytes.items room.old.fields.items) ≡ false }
-    ensures stanza { OnOk result (stanzas.new.items ≡ stanzas.old.items ++ content_in_front head.kind text_len room.old.bytes.items ∷ []) }
-    ensures whole { OnOk result (whole_fault head.kind head.line (shown_fields room.old.bytes.items room.old.fields.items) ≡ None) }
-    ensures fault { IfErr result (Tells (whole_fault head.kind head.line (shown_fields room.old.bytes.items room.old.fields.items))) }
-    ensures memory { IfErr result IsMemoryAtZero }
-{
-    if let Some(fault) = first_wrong(&room.fields, &room.bytes, head.line) {
-        return Err(fault);
-    }
-    let bytes = mem::replace(&mut room.bytes, Vec::new(alloc));
-    stanzas.push(stanza_of(bytes, text_len, head, Vec::new(alloc), Offers::none()))?;
-    Ok(())
-}
-
 // What a live stanza of this version offers, by its fields and the marks of its relation fields.
 fn live_offers(
     alloc: Global,
@@ -154,37 +127,44 @@ fn live_offers(
     offers_of(alloc, package, version, provides)
 }
 
-// Adds a live stanza.
-fn add_live(
+// Reads the fields of a stanza, and tells what it offers. Of one that isn't live its package alone is checked.
+fn read_offers(
     alloc: Global,
-    stanzas: &mut Vec<Stanza>,
     room: &mut StanzaRoom,
     head: StanzaHead,
     text_len: u32,
-) -> Result<(), TextFault>
+) -> Result<Offers, TextFault>
     requires lines { All (λ field. head.line + field.line < 2 ^ 64) room.old.fields.items }
     requires read { IsReadFrom room.old.bytes.items text_len room.old.fields.items }
-    requires names { AreTakenBy (lines_of (take text_len room.old.bytes.items)) head.names }
-    requires not_missing { is_missing head.kind (shown_fields room.old.bytes.items room.old.fields.items) ≡ false }
-    requires live { is_live_by head.kind (shown_fields room.old.bytes.items room.old.fields.items) ≡ true }
-    ensures stanza { OnOk result (stanzas.new.items ≡ stanzas.old.items ++ content_in_front head.kind text_len room.old.bytes.items ∷ []) }
+    ensures offers { IfOk result (λ offers. offers ≡ offers_of (content_in_front head.kind text_len room.old.bytes.items)) }
+    ensures relations { OnOk result (AreRelationsOf (content_in_front head.kind text_len room.old.bytes.items)
+        room.old.bytes.items room.new.live.relations.marks.items) }
+    ensures bytes { room.new.bytes ≡ room.old.bytes }
     ensures whole { OnOk result (whole_fault head.kind head.line (shown_fields room.old.bytes.items room.old.fields.items) ≡ None) }
     ensures fault { IfErr result (Tells (whole_fault head.kind head.line (shown_fields room.old.bytes.items room.old.fields.items))) }
     ensures memory { IfErr result IsMemoryAtZero }
 {
-    read_live(alloc, &room.fields, &room.bytes, head.line, &mut room.live)?;
-    let version = room.live.version.take();
-    let offers = live_offers(
-        alloc,
-        &room.fields,
-        &room.bytes,
-        &room.live.relations.marks,
-        version,
-    )?;
-    let marks = Vec::from_slice(alloc, &room.live.relations.marks)?;
-    let bytes = mem::replace(&mut room.bytes, Vec::new(alloc));
-    stanzas.push(stanza_of(bytes, text_len, head, marks, offers))?;
-    Ok(())
+    let fields = room.fields.as_slice();
+    let bytes = room.bytes.as_slice();
+    let live = liveness(head.kind, fields, bytes);
+    if is_missing(head.kind, live, fields, bytes) {
+        return Err(TextFault {
+            line: head.line,
+            cause: Cause::Missing,
+        });
+    }
+    if let Some(true) = live {
+        read_live(alloc, fields, bytes, head.line, &mut room.live)?;
+        let version = room.live.version.take();
+        let marks = &room.live.relations.marks;
+        let offers = live_offers(alloc, fields, bytes, marks, version)?;
+        return Ok(offers);
+    }
+    if let Some(fault) = first_wrong(fields, bytes, head.line) {
+        return Err(fault);
+    }
+    room.live.relations.marks.clear();
+    Ok(Offers::none())
 }
 
 /// Adds the stanza of bytes at whose front its text stands, of which the fields were found, or tells what is wrong with it.
@@ -203,17 +183,11 @@ pub(crate) fn add_stanza(
     ensures fault { IfErr result (Tells (whole_fault head.kind head.line (shown_fields room.old.bytes.items room.old.fields.items))) }
     ensures memory { IfErr result IsMemoryAtZero }
 {
-    let live = liveness(head.kind, &room.fields, &room.bytes);
-    if is_missing(head.kind, live, &room.fields, &room.bytes) {
-        return Err(TextFault {
-            line: head.line,
-            cause: Cause::Missing,
-        });
-    }
-    match live {
-        Some(true) => add_live(alloc, stanzas, room, head, text_len),
-        _ => add_other(alloc, stanzas, room, head, text_len),
-    }
+    let offers = read_offers(alloc, room, head, text_len)?;
+    let marks = Vec::from_slice(alloc, &room.live.relations.marks)?;
+    let bytes = mem::replace(&mut room.bytes, Vec::new(alloc));
+    stanzas.push(stanza_of(bytes, text_len, head, marks, offers))?;
+    Ok(())
 }
 
 /// Adds the stanza of lines none of which is faulty, or tells what is wrong with it. One of 2^32 bytes or more is taken for want
