@@ -24,7 +24,12 @@ fn name_len(line: &[u8]) -> Option<usize>
     ensures position { result ≡ position (λ b. not (is_field_name_byte b)) line.now }
     ensures within { IfSome result (λ n. n < length line.now) }
 {
-    line.iter().position(|byte| !is_field_name_byte(*byte))
+    for (i, byte) in line.iter().enumerate() {
+        if !is_field_name_byte(*byte) {
+            return Some(i);
+        }
+    }
+    None
 }
 
 fn kind_after_name(line: &[u8], n: usize) -> LineKind

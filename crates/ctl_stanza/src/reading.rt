@@ -88,20 +88,15 @@ fn read_piece(
     ensures memory { IfErr result IsMemoryAtZero }
     ensures none { OnOk result (HasSeenNone room.new.seen) }
 {
-    let found = first_fault(
-        alloc,
-        Repeats::Never,
-        &mut room.seen,
-        &room.lines,
-        from.line,
-    )?;
+    let lines = room.lines.as_slice();
+    let found = first_fault(alloc, Repeats::Never, &mut room.seen, lines, from.line)?;
     let names = room.seen.slots();
     // The names of a large stanza take more room than the stanza.
     room.seen.clear();
     if let Some(fault) = found {
         return Err(fault);
     }
-    if is_blank(room.lines[0]) {
+    if is_blank(lines[0]) {
         return Ok(());
     }
     let head = StanzaHead {
@@ -109,7 +104,7 @@ fn read_piece(
         kind: from.kind,
         names,
     };
-    add_stanza_of_lines(alloc, stanzas, &mut room.stanza, &room.lines, head)
+    add_stanza_of_lines(alloc, stanzas, &mut room.stanza, lines, head)
 }
 
 // Adds an accepted stanza, whose fields were found, or tells what is wrong with it.

@@ -99,15 +99,16 @@ fn read_record(
     ensures fault { IfErr result (Tells (record_fault numbers.now (lent_lines room.old.lines.items))) }
     ensures memory { IfErr result IsMemoryAtZero }
 {
-    let found = first_fault(alloc, Repeats::Explanation, &mut room.seen, &room.lines, 0)?;
+    let lines = room.lines.as_slice();
+    let found = first_fault(alloc, Repeats::Explanation, &mut room.seen, lines, 0)?;
     room.seen.clear();
     if let Some(fault) = found {
         return Err(numbered_fault(fault, numbers));
     }
-    if is_blank(room.lines[0]) {
+    if is_blank(lines[0]) {
         return Ok(());
     }
-    let record = record_of(alloc, &room.lines, numbers)?;
+    let record = record_of(alloc, lines, numbers)?;
     records.push(record)?;
     Ok(())
 }

@@ -1,4 +1,4 @@
-use Rattle.std.proofs.Common.{refl, ◌≡◌, ◌∙◌, ◌+◌, ◌++◌, length, ap, sym, subst, arith, IfSome}
+use Rattle.std.proofs.Common.{refl, ◌≡◌, ◌∙◌, ◌+◌, length, ap, sym, subst, arith, IfSome}
 use Rattle.std.proofs.lemmas.List.{length-map}
 use Rattle.ctl_stanza.specs.Lines.{lines_of, lent_lines}
 use Rattle.ctl_stanza.specs.Quick.{IsAccepted}
