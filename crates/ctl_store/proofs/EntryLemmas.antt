@@ -21,8 +21,7 @@ use Rattle.ctl_store.specs.Entries.{Entry, rows_under, entries_in, entries_of, e
 use Rattle.ctl_store.specs.Held.{InOrder}
 use Rattle.ctl_store.proofs.PlaceLemmas.{eq_is, lt_ne, Rises-rows_from, is_first, or_true}
 use Rattle.ctl_store.proofs.KeyLemmas.{keys_rise}
-use Rattle.ctl_store.proofs.ListedLemmas.{InOrder-weaken, in_order_push, in_order_without, in_order_change, Changes-put, Changes-remove}
-use Rattle.ctl_store.proofs.StepLemmas.{remove_list, change_lists, without_lists}
+use Rattle.ctl_store.proofs.ListedLemmas.{InOrder-weaken, in_order_push, in_order_without, in_order_change, Changes-put, Changes-remove, remove_list, change_lists, without_lists}
 use Rattle.ctl_store.proofs.ChangeLemmas.{come_law, is_itself}
 
 module _ {X : Type 0} where

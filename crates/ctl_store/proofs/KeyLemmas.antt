@@ -1,5 +1,5 @@
 -- The order of keys is the order of the lists and of the stanzas in them.
-use Rattle.std.proofs.Common.{◌≡◌, ℕ, ◌<◌, suc, List, [], ◌∷◌, ◌++◌, map, arith}
+use Rattle.std.proofs.Common.{◌≡◌, ℕ, ◌<◌, suc, List, [], ◌∷◌, ◌++◌, map, arith, ◌∙◌, Bool, true, false, cond, nat_eq, drop, Option, None, Some, refl, ap, IsSome, sym, subst, is_some, option_map}
 use Rattle.std.specs.List.{AllByRecursion}
 use Rattle.std.specs.Ordering.{nat_cmp, ordering_then}
 use Rattle.std.specs.declared.cmp.Ordering.TheVariants.{Less}
@@ -7,8 +7,16 @@ use Rattle.std.proofs.lemmas.Bool.Decides.{nat_tests}
 use Rattle.ctl_stanza.specs.Content.{Content}
 use Rattle.ctl_store.specs.declared.stanza_key.StanzaKey.{StanzaKey}
 use Rattle.ctl_store.specs.Rows.{Rises}
-use Rattle.ctl_store.specs.Keys.{KeyedList, key_of, keys_of, key_cmp, all_keys, AreRising}
-use Rattle.ctl_store.specs.Held.{InOrder}
+use Rattle.ctl_store.specs.Keys.{KeyedList, key_of, keys_of, key_cmp, all_keys, AreRising, stanzas_of, in_rows, stanza_at, stanza_lists, AreHeld, list_at, holder_of}
+use Rattle.ctl_store.specs.Held.{InOrder, HeldList, lists_of, entry_of}
+use Rattle.std.specs.Map.{lookup}
+use Rattle.std.specs.Option.{option_or, option_map_or}
+use Rattle.std.specs.Str.{bytes_eq}
+use Rattle.ctl_store.specs.Named.{at_name}
+use Rattle.ctl_store.specs.State.{StanzaList, stanzas_named}
+use Rattle.ctl_stanza.specs.declared.list_kind.ListKind.{ListKind}
+use Rattle.ctl_store.specs.Kinds.{AreOfKind, KeepKinds}
+use Rattle.ctl_store.proofs.PlaceLemmas.{is_eq_from, if_cases, or_none}
 
 later_list : (a b s t : ℕ) → a < b → ordering_then (nat_cmp a b) (nat_cmp s t) ≡ Less
 later_list a b s t l = grind (arith, nat_tests)
@@ -43,3 +51,155 @@ rising_rows list n (x ∷ rs) m ks h a r =
 pub keys_rise : (n : ℕ) (ls : List (List ℕ × KeyedList)) (m e : ℕ) → InOrder n ls m e → AreRising (all_keys ls)
 keys_rise n [] m e h = tt
 keys_rise n (x ∷ ls) m e h = rising_rows x.1.serial 0 x.1.rows x.1.next (all_keys ls) h.2 (λ s. above_lists x.1.serial s (suc x.1.serial) ls m e (omega arith) h.3) (keys_rise (suc x.1.serial) ls m e h.3)
+
+-- ---- the stanzas under the keys of a list are its stanzas
+
+pub same : (n : ℕ) → nat_eq n n ≡ true
+same n = grind (arith, nat_tests)
+
+above : (m n : ℕ) → m < n → nat_eq m n ≡ false
+above m n l = grind (arith, nat_tests)
+
+module _ {X : Type 0} where
+  two : {x y : X} {xs ys : List X} → x ≡ y → xs ≡ ys → x ∷ xs ≡ y ∷ ys
+  two {x} {y} {xs} {ys} e f = ap (λ z. z ∷ xs) e ∙ ap (λ zs. y ∷ zs) f
+
+-- the stanza of a serial among rows
+abbrev in_row : List (ℕ × Content) → StanzaKey → Option Content
+in_row rows k = lookup (λ s. nat_eq s k.stanza) rows
+
+abbrev row_keys : ℕ → List (ℕ × Content) → List StanzaKey
+row_keys list rows = map (λ (row : ℕ × Content). key_of list row.0) rows
+
+-- a row with a lower serial than these keys
+skip_row : (list s n : ℕ) (x : Content) (rows later : List (ℕ × Content)) (m : ℕ) → s < n → Rises n later m → map (in_row ((s, x) ∷ rows)) (row_keys list later) ≡ map (in_row rows) (row_keys list later)
+skip_row list s n x rows [] m l h = refl
+skip_row list s n x rows (r ∷ later) m l h =
+    two (ap (λ b. cond b (Some x) (lookup (λ t. nat_eq t r.0) rows)) (above s r.0 (omega (arith, h.0)))) (skip_row list s (suc r.0) x rows later m (omega (arith, h.0)) h.1)
+
+in_rows_found : (list n : ℕ) (rows : List (ℕ × Content)) (m : ℕ) → Rises n rows m → map (in_row rows) (row_keys list rows) ≡ map Some (stanzas_of rows)
+in_rows_found list n [] m h = refl
+in_rows_found list n (r ∷ rows) m h =
+    two (ap (λ b. cond b (Some r.1) (lookup (λ t. nat_eq t r.0) rows)) (same r.0))
+    (skip_row list r.0 (suc r.0) r.1 rows rows m (omega arith) h.1 ∙ in_rows_found list (suc r.0) rows m h.1)
+
+-- the list of these keys is the first that is asked
+in_first : (l : KeyedList) (ls : List (List ℕ × KeyedList)) (rows : List (ℕ × Content)) (xs : List Content) → map (in_row l.rows) (row_keys l.serial rows) ≡ map Some xs →
+    map (λ k. option_or (in_rows k l) (stanza_at k ls)) (row_keys l.serial rows) ≡ map Some xs
+in_first l ls [] [] e = refl
+in_first l ls [] (x ∷ xs) e = cc e
+in_first l ls (r ∷ rows) [] e = cc e
+in_first l ls (r ∷ rows) (x ∷ xs) e = grind (arith, in_first l ls rows xs (ap (λ os. drop 1 os) e))
+
+-- a list with a lower serial than these keys
+skip_list : (l : KeyedList) (ls : List (List ℕ × KeyedList)) (ks : List StanzaKey) → AllByRecursion (λ k. l.serial < k.list) ks → map (λ k. option_or (in_rows k l) (stanza_at k ls)) ks ≡ map (λ k. stanza_at k ls) ks
+skip_list l ls [] h = refl
+skip_list l ls (k ∷ ks) h = two (ap (λ b. option_or (cond b (in_row l.rows k) None) (stanza_at k ls)) (above l.serial k.list h.0)) (skip_list l ls ks h.1)
+
+rows_later : (list n : ℕ) (rows : List (ℕ × Content)) → n < list → AllByRecursion (λ k. n < k.list) (row_keys list rows)
+rows_later list n [] l = tt
+rows_later list n (r ∷ rows) l = (l, rows_later list n rows l)
+
+keys_later : (name : List ℕ) (s n : ℕ) (ls : List (List ℕ × KeyedList)) (m e : ℕ) → s < n → InOrder n ls m e → AllByRecursion (λ k. s < k.list) (option_map_or keys_of (at_name name ls) [])
+keys_later name s n [] m e l h = tt
+keys_later name s n (x ∷ ls) m e l h = by (bytes_eq name x.0) (keys_later name s (suc x.1.serial) ls m e (omega (arith, h.0)) h.3)
+  where
+    by : (b : Bool) → AllByRecursion (λ k. s < k.list) (option_map_or keys_of (at_name name ls) []) → AllByRecursion (λ k. s < k.list) (option_map_or keys_of (cond b (Some x.1) (at_name name ls)) [])
+    by true later = rows_later x.1.serial s x.1.rows (omega (arith, h.0))
+    by false later = later
+
+pub keys_find : (name : List ℕ) (n : ℕ) (ls : List (List ℕ × KeyedList)) (m e : ℕ) → InOrder n ls m e →
+    map (λ k. stanza_at k ls) (option_map_or keys_of (at_name name ls) []) ≡ map Some (stanzas_named name (stanza_lists ls))
+keys_find name n [] m e h = refl
+keys_find name n (x ∷ ls) m e h = by (bytes_eq name x.0) (keys_find name (suc x.1.serial) ls m e h.3)
+  where
+    by : (b : Bool) → map (λ k. stanza_at k ls) (option_map_or keys_of (at_name name ls) []) ≡ map Some (stanzas_named name (stanza_lists ls))
+        → map (λ k. stanza_at k (x ∷ ls)) (option_map_or keys_of (cond b (Some x.1) (at_name name ls)) [])
+        ≡ map Some (option_map_or (λ (l : StanzaList). l.stanzas) (cond b (Some (record { kind = x.1.kind; class = x.1.class; stanzas = stanzas_of x.1.rows })) (at_name name (stanza_lists ls))) [])
+    by true found = in_first x.1 ls x.1.rows (stanzas_of x.1.rows) (in_rows_found x.1.serial 0 x.1.rows x.1.next h.2)
+    by false found = skip_list x.1 ls (option_map_or keys_of (at_name name ls) []) (keys_later name x.1.serial (suc x.1.serial) ls m e (omega arith) h.3) ∙ found
+
+-- ---- each key of a list is one of the store
+
+module _ {X : Type 0} {P Q : X → Type 0} (f : (x : X) → P x → Q x) where
+  weaken : (xs : List X) → AllByRecursion P xs → AllByRecursion Q xs
+  weaken [] h = tt
+  weaken (x ∷ xs) h = (f x h.0, weaken xs h.1)
+
+module _ {X : Type 0} where
+  pub first_is : (b c : Bool) (x : X) (o : Option X) → b ≡ true → c ≡ true → IsSome (cond b (cond c (Some x) o) None)
+  first_is b c x o e f = subst (λ b. IsSome (cond b (cond c (Some x) o) None)) (sym e) (subst (λ c. IsSome (cond c (Some x) o)) (sym f) refl)
+
+  pub later_is : (b c : Bool) (x : X) (o : Option X) → IsSome (cond b o None) → IsSome (cond b (cond c (Some x) o) None)
+  later_is b c x o h = grind arith
+
+  pub either_first : (a b : Option X) → IsSome a → IsSome (option_or a b)
+  either_first a b h = grind arith
+
+  pub either_second : (a b : Option X) → IsSome b → IsSome (option_or a b)
+  either_second a b h = grind arith
+
+abbrev pub in_some : ℕ → List (ℕ × Content) → StanzaKey → Type 0
+in_some list rs k = IsSome (cond (nat_eq list k.list) (lookup (λ s. nat_eq s k.stanza) rs) None)
+
+rows_there : (list : ℕ) (rs : List (ℕ × Content)) → AllByRecursion (in_some list rs) (map (λ (r : ℕ × Content). key_of list r.0) rs)
+rows_there list [] = tt
+rows_there list (r ∷ rs) = (
+  first_is (nat_eq list list) (nat_eq r.0 r.0) r.1 (lookup (λ s. nat_eq s r.0) rs) (same list) (same r.0),
+  weaken (λ k h. later_is (nat_eq list k.list) (nat_eq r.0 k.stanza) r.1 (lookup (λ s. nat_eq s k.stanza) rs) h) (map (λ (r : ℕ × Content). key_of list r.0) rs) (rows_there list rs),
+)
+
+pub keys_held : (name : List ℕ) (ls : List (List ℕ × KeyedList)) → AreHeld (option_map_or keys_of (at_name name ls) []) ls
+keys_held name [] = tt
+keys_held name (l ∷ ls) = by (bytes_eq name l.0) (keys_held name ls)
+  where
+    by : (b : Bool) → AreHeld (option_map_or keys_of (at_name name ls) []) ls → AreHeld (option_map_or keys_of (cond b (Some l.1) (at_name name ls)) []) (l ∷ ls)
+    by true h = weaken (λ k g. either_first (in_rows k l.1) (stanza_at k ls) g) (keys_of l.1) (rows_there l.1.serial l.1.rows)
+    by false h = weaken (λ k g. either_second (in_rows k l.1) (stanza_at k ls) g) (option_map_or keys_of (at_name name ls) []) h
+
+-- ---- the stanza of a key, found by the serial of its list
+
+none_later : (k : StanzaKey) (n : ℕ) (es : List (List ℕ × HeldList)) (m e : ℕ) → k.list < n → InOrder n (lists_of es) m e → stanza_at k (lists_of es) ≡ None
+none_later k n [] m e l h = refl
+none_later k n (x ∷ es) m e l h = grind (arith, none_later k (suc x.1.serial) es m e (omega (arith, h.0)) h.3)
+
+abbrev pub in_entry : StanzaKey → Option (List ℕ × HeldList) → Option Content
+in_entry k None = None
+in_entry k (Some e) = lookup (λ s. nat_eq s k.stanza) e.1.rows
+
+pub look_up : (k : StanzaKey) (n : ℕ) (es : List (List ℕ × HeldList)) (m e : ℕ) → InOrder n (lists_of es) m e → stanza_at k (lists_of es) ≡ in_entry k (entry_of k.list es)
+look_up k n [] m e h = refl
+look_up k n (x ∷ es) m e h = grind (arith, none_later, is_eq_from, or_none, look_up k (suc x.1.serial) es m e h.3)
+
+pub list_at_entry : (serial : ℕ) (es : List (List ℕ × HeldList)) → list_at serial (lists_of es) ≡ option_map (λ (e : List ℕ × HeldList). e.0) (entry_of serial es)
+list_at_entry serial [] = refl
+list_at_entry serial (x ∷ es) = ap (cond (nat_eq x.1.serial serial) (Some x.0)) (list_at_entry serial es) ∙ sym (if_cases (option_map (λ (e : List ℕ × HeldList). e.0)) (nat_eq x.1.serial serial) _ _)
+
+pub not_none : {X : Type 0} {P : Type 0} (o : Option X) → IsSome o → o ≡ None → P
+not_none o h e = let z : is_some o ≡ false = ap is_some e in absurd (let w : ⊥ = cc in w)
+
+-- the list of its serial holds a key that has a stanza
+pub holder_is : (k : StanzaKey) (n : ℕ) (es : List (List ℕ × HeldList)) (m e : ℕ) → InOrder n (lists_of es) m e → IsSome (stanza_at k (lists_of es)) → holder_of k (lists_of es) ≡ list_at k.list (lists_of es)
+holder_is k n [] m e h there = refl
+holder_is k n (x ∷ es) m e h there = grind (arith, not_none, none_later, is_eq_from, holder_is k (suc x.1.serial) es m e h.3)
+
+-- ---- the kind of a list is that of its stanzas
+
+lookup_kind : (kind : ListKind) (serial : ℕ) (rows : List (ℕ × Content)) (x : Content) → AreOfKind kind (stanzas_of rows) → lookup (λ s. nat_eq s serial) rows ≡ Some x → x.kind ≡ kind
+lookup_kind kind serial [] x h e = cc
+lookup_kind kind serial (row ∷ rows) x h e = grind (arith, lookup_kind kind serial rows x h.1)
+
+entry_kind : (serial : ℕ) (es : List (List ℕ × HeldList)) (e : List ℕ × HeldList) → KeepKinds (stanza_lists (lists_of es)) → entry_of serial es ≡ Some e → AreOfKind e.1.kind (stanzas_of e.1.rows)
+entry_kind serial [] e h is = cc
+entry_kind serial (x ∷ es) e h is = by (nat_eq x.1.serial serial) (entry_kind serial es e h.1) is
+  where
+    by : (b : Bool) → (entry_of serial es ≡ Some e → AreOfKind e.1.kind (stanzas_of e.1.rows)) → cond b (Some x) (entry_of serial es) ≡ Some e → AreOfKind e.1.kind (stanzas_of e.1.rows)
+    by true later is = subst (λ (e : List ℕ × HeldList). AreOfKind e.1.kind (stanzas_of e.1.rows)) (let same : x ≡ e = cc is in same) h.0
+    by false later is = later is
+
+pub kind_at : (k : StanzaKey) (es : List (List ℕ × HeldList)) (e : List ℕ × HeldList) → KeepKinds (stanza_lists (lists_of es)) → entry_of k.list es ≡ Some e → IsSome (in_entry k (Some e)) → Some e.1.kind ≡ option_map (λ (x : Content). x.kind) (in_entry k (Some e))
+kind_at k es e h is there = by (lookup (λ s. nat_eq s k.stanza) e.1.rows) there (λ x f. lookup_kind e.1.kind k.stanza e.1.rows x (entry_kind k.list es e h is) f)
+  where
+    by : (o : Option Content) → IsSome o → ((x : Content) → o ≡ Some x → x.kind ≡ e.1.kind) → Some e.1.kind ≡ option_map (λ (x : Content). x.kind) o
+    by None there f = cc
+    by (Some x) there f = ap Some (sym (f x refl))

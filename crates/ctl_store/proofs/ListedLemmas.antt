@@ -1,50 +1,129 @@
--- Changes of one list among the lists, and the order of serials through them.
-use Rattle.std.proofs.Common.{◌≡◌, ℕ, ◌+◌, ◌≤◌, suc, Bool, false, cond, List, [], ◌∷◌, ◌++◌, Option, None, Some, is_some, option_map, map, refl, ap, sym, ◌∙◌, IfSome, OnOk, Result, Ok, Err, arith}
+-- Lists of values by name, and the finite maps that they are.
+use Rattle.std.proofs.Common.{◌≡◌, ℕ, Bool, true, false, cond, List, [], ◌∷◌, ◌++◌, Option, None, Some, is_some, refl, ap, sym, ◌∙◌, arith, ◌+◌, ◌≤◌, suc, option_map, map, IfSome, OnOk, Result, Ok, Err, nat_eq, ◌<◌, ◌-◌, zero, length, take, drop, ◌&&◌, set}
 use Rattle.std.specs.Str.{bytes_eq}
-use Rattle.ctl_stanza.specs.Content.{Content}
-use Rattle.ctl_store.specs.State.{shown_lists}
-use Rattle.ctl_store.specs.Step.{place, has_stanza}
-use Rattle.std.specs.Option.{option_map_or}
-use Rattle.std.specs.Map.{keys_of as names_of}
-use Rattle.ctl_store.specs.Named.{at_name, has_name, put_named, set_named, without_name, change_named}
-use Rattle.ctl_store.specs.Rows.{Rises, by_name_and_version, remove_row_at}
-use Rattle.ctl_store.specs.Keys.{KeyedList, stanzas_of, stanza_list, stanza_lists, put_keyed, remove_keyed}
-use Rattle.ctl_store.specs.Held.{Sheet, keyed_list, lists_of, InOrder}
-use Rattle.ctl_store.proofs.NamedLemmas.{if_cases, none_is, put_named-new}
-use Rattle.ctl_store.proofs.PlaceLemmas.{Rises-push, Rises-replace, Rises-remove, place_within}
+use Rattle.std.specs.Map.{keys_of as names_of, lookup}
+use Rattle.std.specs.List.{IsDistinct, remove}
+use Rattle.std.specs.Cmp.Lexicographic.{slice_cmp, nat_list_cmp_total, nat_list_eq_equiv}
+use Rattle.std.specs.Ordering.{nat_cmp, eq_by_cmp}
+use Rattle.std.proofs.lemmas.Map.{lookup-remove_entry}
+use Rattle.std.proofs.lemmas.Map.Lookups.{exact_bytes}
+use Rattle.std.proofs.lemmas.Map.Text.{is_eq-slice_cmp}
+use Rattle.std.proofs.lemmas.Slice.Eq.{bytes_eq-Decides}
+use Rattle.ctl_store.specs.Named.{at_name, put_named, set_named, without_name, has_name, change_named}
+use Rattle.ctl_stanza.specs.Content.{Content, package_of, version_of}
+use Rattle.ctl_store.specs.State.{shown_lists, StanzaList}
+use Rattle.ctl_store.specs.Step.{place, has_stanza, put_stanza, remove_stanza, with_stanzas}
+use Rattle.std.specs.Option.{option_map_or, option_or}
+use Rattle.ctl_store.specs.Rows.{Rises, by_name_and_version, remove_row_at, rows_from, replace_at, put_row_at}
+use Rattle.ctl_store.specs.Keys.{KeyedList, stanzas_of, stanza_list, stanza_lists, put_keyed, remove_keyed, key_of, key_at, key_or_new, next_key, next_in, found_in, kept_in, Keyed, list_of_stanzas, keyed_after, keys_of, found_key, put_key, key_is, IsNotAmong, in_rows, stanza_at, removed_of, added_of}
+use Rattle.ctl_store.specs.Held.{HeldList, keyed_list, lists_of, InOrder, entry_of, AreNumbered}
+use Rattle.ctl_store.proofs.PlaceLemmas.{Rises-push, Rises-replace, Rises-remove, place_within, if_cases, or_none}
+use Rattle.ctl_ordered.specs.Ordered.{without_serials, set_row, cut_row}
+use Rattle.ctl_store.specs.declared.stanza_key.StanzaKey.{StanzaKey}
+use Rattle.ctl_stanza.specs.declared.list_kind.ListKind.{ListKind}
+use Rattle.ctl_store.specs.declared.list_class.ListClass.{ListClass}
+use Rattle.ctl_store.specs.Edits.{Edit, AddList, DropList, Put, Remove, Mark, Unmark, Pin, Unpin, Target, Prefs}
+use Rattle.std.specs.FinMap as fin
 
-pub set_named-change : (name : List ℕ) (f : KeyedList → KeyedList) (es : List (List ℕ × Sheet)) (v w : Sheet) → Some v ≡ at_name name es → keyed_list w ≡ f (keyed_list v) → lists_of (set_named name w es) ≡ change_named name f (lists_of es)
+pub some_is : {X : Type 0} {x y : X} → Some x ≡ Some y → x ≡ y
+some_is e = cc
+
+module _ {V : Type 0} where
+  -- a new name goes last
+  pub put_named-new : (name : List ℕ) (v : V) (es : List (List ℕ × V)) → at_name name es ≡ None → put_named name v es ≡ es ++ (name, v) ∷ []
+  put_named-new name v [] e = refl
+  put_named-new name v (x ∷ es) e = grind (arith, put_named-new name v es)
+
+  -- what was set is there
+  pub at_name-set_named : (name : List ℕ) (v w : V) (es : List (List ℕ × V)) → Some v ≡ at_name name es → at_name name (set_named name w es) ≡ Some w
+  at_name-set_named name v w [] e = cc
+  at_name-set_named name v w (x ∷ es) e = grind (arith, at_name-set_named name v w es)
+
+-- ---- what each name has, after a change
+
+choose : {X : Type 0} (a b c : Bool) (v w r s : X) → (a ≡ true → b ≡ c) → (c ≡ true → a ≡ b) → s ≡ cond c v r → cond a (cond b v r) (cond b w s) ≡ cond c v (cond b w r)
+choose true b c v w r s h k e = grind arith
+choose false b true v w r s h k e = ap (λ d. cond d w s) (sym (k refl)) ∙ e
+choose false b false v w r s h k e = ap (cond b w) e
+
+same_bytes : (x y : List ℕ) → bytes_eq x y ≡ true → x ≡ y
+same_bytes x y h = (bytes_eq-Decides x y).0 h
+
+module _ {V : Type 0} where
+  pub at_name-put_named : (k : List ℕ) (v : V) (q : List ℕ) (es : List (List ℕ × V)) → at_name q (put_named k v es) ≡ cond (bytes_eq k q) (Some v) (at_name q es)
+  at_name-put_named k v q [] = ap (λ b. cond b (Some v) None) (nat_list_eq_equiv.symm q k)
+  at_name-put_named k v q (e ∷ es) =
+      if_cases (at_name q) (bytes_eq k e.0) ((e.0, v) ∷ es) (e ∷ put_named k v es)
+      ∙ choose (bytes_eq k e.0) (bytes_eq q e.0) (bytes_eq k q) (Some v) (Some e.1) (at_name q es) (at_name q (put_named k v es))
+      (λ h. ap (bytes_eq q) (sym (same_bytes k e.0 h)) ∙ nat_list_eq_equiv.symm q k)
+      (λ h. ap (λ x. bytes_eq x e.0) (same_bytes k q h))
+      (at_name-put_named k v q es)
+
+  pub at_name-without_name : (k q : List ℕ) (es : List (List ℕ × V)) → IsDistinct bytes_eq (names_of es) → at_name q (without_name k es) ≡ cond (bytes_eq k q) None (at_name q es)
+  at_name-without_name k q es d = lookup-remove_entry nat_list_eq_equiv (bytes_eq k) (nat_list_eq_equiv.congr k) q es d
+
+  find-at_name : (q : List ℕ) (es : List (List ℕ × V)) → fin.find (slice_cmp nat_cmp) q es ≡ at_name q es
+  find-at_name q [] = refl
+  find-at_name q (e ∷ es) = ap (λ b. cond b (Some e.1) (fin.find (slice_cmp nat_cmp) q es)) (is_eq-slice_cmp q e.0) ∙ ap (cond (bytes_eq q e.0) (Some e.1)) (find-at_name q es)
+
+  get-at_name : (es : List (List ℕ × V)) (q : List ℕ) → fin.get (fin.from_entries {R = slice_cmp nat_cmp} es) q ≡ at_name q es
+  get-at_name es q = fin.get-from_entries nat_list_cmp_total es q ∙ find-at_name q es
+
+  -- under a name that `using` takes
+  pub get_at_name : (es : List (List ℕ × V)) (q : List ℕ) → fin.get (fin.from_entries {R = slice_cmp nat_cmp} es) q ≡ at_name q es
+  get_at_name = get-at_name
+
+  -- the finite map of the entries, after `put_named`
+  pub from_entries-put_named : (k : List ℕ) (v : V) (es : List (List ℕ × V)) → fin.from_entries {R = slice_cmp nat_cmp} (put_named k v es) ≡ fin.insert (fin.from_entries es) k v
+  from_entries-put_named k v es = fin.same_map nat_list_cmp_total exact_bytes _ _ (λ q.
+      get-at_name (put_named k v es) q ∙ at_name-put_named k v q es ∙ ap (λ b. cond b (Some v) (at_name q es)) (nat_list_eq_equiv.symm k q ∙ sym (is_eq-slice_cmp q k))
+      ∙ ap (cond (eq_by_cmp (slice_cmp nat_cmp) q k) (Some v)) (sym (get-at_name es q)) ∙ sym (fin.get-insert nat_list_cmp_total (fin.from_entries es) k v q))
+
+pub none_is : {X : Type 0} (o : Option X) → is_some o ≡ false → o ≡ None
+none_is None h = refl
+none_is (Some x) h = cc
+
+module _ {V : Type 0} where
+  -- the finite map of entries that a name left
+  pub from_entries-removed : (k : List ℕ) (es fs : List (List ℕ × V)) → ((q : List ℕ) → at_name q fs ≡ cond (bytes_eq k q) None (at_name q es)) → fin.from_entries {R = slice_cmp nat_cmp} fs ≡ fin.remove (fin.from_entries es) k
+  from_entries-removed k es fs h = fin.same_map nat_list_cmp_total exact_bytes _ _ (λ q.
+      get-at_name fs q ∙ h q ∙ ap (λ b. cond b None (at_name q es)) (nat_list_eq_equiv.symm k q ∙ sym (is_eq-slice_cmp q k))
+      ∙ ap (cond (eq_by_cmp (slice_cmp nat_cmp) q k) None) (sym (get-at_name es q)) ∙ sym (fin.get-remove nat_list_cmp_total (fin.from_entries es) k q))
+
+-- ---- changes of one list among the lists, and the order of serials through them
+
+pub set_named-change : (name : List ℕ) (f : KeyedList → KeyedList) (es : List (List ℕ × HeldList)) (v w : HeldList) → Some v ≡ at_name name es → keyed_list w ≡ f (keyed_list v) → lists_of (set_named name w es) ≡ change_named name f (lists_of es)
 set_named-change name f [] v w e h = refl
 set_named-change name f (x ∷ es) v w e h = grind (arith, set_named-change name f es v w)
 
-pub set_named-same : (name : List ℕ) (es : List (List ℕ × Sheet)) (v w : Sheet) → Some v ≡ at_name name es → keyed_list w ≡ keyed_list v → lists_of (set_named name w es) ≡ lists_of es
+pub set_named-same : (name : List ℕ) (es : List (List ℕ × HeldList)) (v w : HeldList) → Some v ≡ at_name name es → keyed_list w ≡ keyed_list v → lists_of (set_named name w es) ≡ lists_of es
 set_named-same name [] v w e h = refl
 set_named-same name (x ∷ es) v w e h = grind (arith, set_named-same name es v w)
 
-pub change_named-none : (name : List ℕ) (f : KeyedList → KeyedList) (es : List (List ℕ × Sheet)) → None ≡ at_name name es → lists_of es ≡ change_named name f (lists_of es)
+pub change_named-none : (name : List ℕ) (f : KeyedList → KeyedList) (es : List (List ℕ × HeldList)) → None ≡ at_name name es → lists_of es ≡ change_named name f (lists_of es)
 change_named-none name f [] e = refl
 change_named-none name f (x ∷ es) e = grind (arith, change_named-none name f es)
 
-pub at_name-lists_of : (name : List ℕ) (es : List (List ℕ × Sheet)) → at_name name (lists_of es) ≡ option_map keyed_list (at_name name es)
+pub at_name-lists_of : (name : List ℕ) (es : List (List ℕ × HeldList)) → at_name name (lists_of es) ≡ option_map keyed_list (at_name name es)
 at_name-lists_of name [] = refl
 at_name-lists_of name (x ∷ es) = ap (cond (bytes_eq name x.0) (Some (keyed_list x.1))) (at_name-lists_of name es) ∙ sym (if_cases (option_map keyed_list) (bytes_eq name x.0) _ _)
 
-pub without_name-lists_of : (name : List ℕ) (es : List (List ℕ × Sheet)) → lists_of (without_name name es) ≡ without_name name (lists_of es)
+pub without_name-lists_of : (name : List ℕ) (es : List (List ℕ × HeldList)) → lists_of (without_name name es) ≡ without_name name (lists_of es)
 without_name-lists_of name [] = refl
 without_name-lists_of name (x ∷ es) = if_cases lists_of (bytes_eq name x.0) _ _ ∙ ap (λ r. cond (bytes_eq name x.0) (lists_of es) ((x.0, keyed_list x.1) ∷ r)) (without_name-lists_of name es)
 
-lists_of-append : (es fs : List (List ℕ × Sheet)) → lists_of (es ++ fs) ≡ lists_of es ++ lists_of fs
+lists_of-append : (es fs : List (List ℕ × HeldList)) → lists_of (es ++ fs) ≡ lists_of es ++ lists_of fs
 lists_of-append [] fs = refl
 lists_of-append (x ∷ es) fs = ap (λ r. (x.0, keyed_list x.1) ∷ r) (lists_of-append es fs)
 
 -- under names that `using` takes
-pub has_name_lists : (name : List ℕ) (es : List (List ℕ × Sheet)) → has_name name (lists_of es) ≡ is_some (at_name name es)
+pub has_name_lists : (name : List ℕ) (es : List (List ℕ × HeldList)) → has_name name (lists_of es) ≡ is_some (at_name name es)
 has_name_lists name es = grind (arith, at_name-lists_of)
 
-pub lists_put_new : (name : List ℕ) (v : Sheet) (es : List (List ℕ × Sheet)) → has_name name (lists_of es) ≡ false → lists_of (put_named name v es) ≡ lists_of es ++ (name, keyed_list v) ∷ []
+pub lists_put_new : (name : List ℕ) (v : HeldList) (es : List (List ℕ × HeldList)) → has_name name (lists_of es) ≡ false → lists_of (put_named name v es) ≡ lists_of es ++ (name, keyed_list v) ∷ []
 lists_put_new name v es h = ap lists_of (put_named-new name v es (none_is (at_name name es) (sym (has_name_lists name es) ∙ h))) ∙ lists_of-append es ((name, v) ∷ [])
 
-pub lists_without : (name : List ℕ) (es : List (List ℕ × Sheet)) → lists_of (without_name name es) ≡ without_name name (lists_of es)
+pub lists_without : (name : List ℕ) (es : List (List ℕ × HeldList)) → lists_of (without_name name es) ≡ without_name name (lists_of es)
 lists_without = without_name-lists_of
 
 -- ---- the order of serials
@@ -86,7 +165,7 @@ Changes-remove name version = record {
     rises l (Some i) e h = Rises-remove 0 l.rows l.next i h (place_within (by_name_and_version name version) l.rows i e)
 
 -- the next serial of a list that is there
-pub in_order_next : (n : ℕ) (es : List (List ℕ × Sheet)) (m e : ℕ) (name : List ℕ) → InOrder n (lists_of es) m e → IfSome (at_name name es) (λ s. s.next ≤ e)
+pub in_order_next : (n : ℕ) (es : List (List ℕ × HeldList)) (m e : ℕ) (name : List ℕ) → InOrder n (lists_of es) m e → IfSome (at_name name es) (λ s. s.next ≤ e)
 in_order_next n [] m e name h = tt
 in_order_next n (x ∷ es) m e name h = grind (arith, in_order_next (suc x.1.serial) es m e name h.3)
 
@@ -94,7 +173,7 @@ pub on_ok_map : {X E : Type 0} (r : Result X E) {P Q : Type 0} → (P → Q) →
 on_ok_map (Ok x) f p = f p
 on_ok_map (Err e) f p = tt
 
-pub at_name_lists : (name : List ℕ) (es : List (List ℕ × Sheet)) → at_name name (lists_of es) ≡ option_map keyed_list (at_name name es)
+pub at_name_lists : (name : List ℕ) (es : List (List ℕ × HeldList)) → at_name name (lists_of es) ≡ option_map keyed_list (at_name name es)
 at_name_lists = at_name-lists_of
 
 pub if_some_map : {X : Type 0} (o : Option X) {P Q : X → Type 0} → ((x : X) → P x → Q x) → IfSome o P → IfSome o Q
@@ -112,23 +191,196 @@ known f None = refl
 known f (Some v) = refl
 
 -- under names that `using` takes
-pub has_name_held : (name : List ℕ) (es : List (List ℕ × Sheet)) → has_name name (stanza_lists (lists_of es)) ≡ is_some (at_name name es)
+pub has_name_held : (name : List ℕ) (es : List (List ℕ × HeldList)) → has_name name (stanza_lists (lists_of es)) ≡ is_some (at_name name es)
 has_name_held name es = ap is_some (at_name-stanza_lists name (lists_of es)) ∙ known stanza_list (at_name name (lists_of es)) ∙ ap is_some (at_name_lists name es) ∙ known keyed_list (at_name name es)
 
-pub at_name_held : (name : List ℕ) (es : List (List ℕ × Sheet)) → at_name name (stanza_lists (lists_of es)) ≡ option_map stanza_list (option_map keyed_list (at_name name es))
+pub at_name_held : (name : List ℕ) (es : List (List ℕ × HeldList)) → at_name name (stanza_lists (lists_of es)) ≡ option_map stanza_list (option_map keyed_list (at_name name es))
 at_name_held name es = at_name-stanza_lists name (lists_of es) ∙ ap (option_map stanza_list) (at_name_lists name es)
 
 pub place_stanzas : (p : Content → Bool) (rows : List (ℕ × Content)) → place p (stanzas_of rows) ≡ place (λ (r : ℕ × Content). p r.1) rows
 place_stanzas p [] = refl
 place_stanzas p (r ∷ rows) = ap (λ o. cond (p r.1) (Some 0) (option_map (λ n. suc n) o)) (place_stanzas p rows)
 
-pub has_stanza_held : (list name : List ℕ) (version : Option (List ℕ)) (es : List (List ℕ × Sheet)) → has_stanza list name version (stanza_lists (lists_of es)) ≡ option_map_or (λ (s : Sheet). is_some (place (by_name_and_version name version) s.rows)) (at_name list es) false
+pub has_stanza_held : (list name : List ℕ) (version : Option (List ℕ)) (es : List (List ℕ × HeldList)) → has_stanza list name version (stanza_lists (lists_of es)) ≡ option_map_or (λ (s : HeldList). is_some (place (by_name_and_version name version) s.rows)) (at_name list es) false
 has_stanza_held list name version es = grind (arith, at_name_held, place_stanzas)
 
-pub shown_entries : (es : List (List ℕ × Sheet)) → map (λ (e : List ℕ × Sheet). (e.0, e.1.kind, e.1.class)) es ≡ shown_lists (stanza_lists (lists_of es))
+pub shown_entries : (es : List (List ℕ × HeldList)) → map (λ (e : List ℕ × HeldList). (e.0, e.1.kind, e.1.class)) es ≡ shown_lists (stanza_lists (lists_of es))
 shown_entries [] = refl
 shown_entries (e ∷ es) = ap (λ l. (e.0, e.1.kind, e.1.class) ∷ l) (shown_entries es)
 
-pub names_held : (es : List (List ℕ × Sheet)) → names_of (stanza_lists (lists_of es)) ≡ names_of es
+pub names_held : (es : List (List ℕ × HeldList)) → names_of (stanza_lists (lists_of es)) ≡ names_of es
 names_held [] = refl
 names_held (e ∷ es) = ap (λ l. e.0 ∷ l) (names_held es)
+
+-- ---- lists under their own serials, of which one is changed, comes or goes
+
+-- the row of a serial is the list of that serial
+pub entry_is : (serial : ℕ) (rows : List (ℕ × (List ℕ × HeldList))) → AreNumbered rows → lookup (nat_eq serial) rows ≡ entry_of serial (without_serials rows)
+entry_is serial [] h = refl
+entry_is serial (row ∷ rows) h = grind (arith, entry_is serial rows h.1)
+
+pub numbered_last : (n : ℕ) (x : List ℕ × HeldList) (rows : List (ℕ × (List ℕ × HeldList))) → n ≡ x.1.serial → AreNumbered rows → AreNumbered (rows ++ (n, x) ∷ [])
+numbered_last n x [] e h = (e, tt)
+numbered_last n x (row ∷ rows) e h = (h.0, numbered_last n x rows e h.1)
+
+pub numbered_cut : (test : List ℕ → Bool) (rows : List (ℕ × (List ℕ × HeldList))) → AreNumbered rows → AreNumbered (cut_row test rows)
+numbered_cut test [] h = h
+numbered_cut test (row ∷ rows) h = grind (arith, numbered_cut test rows h.1)
+
+-- a list is written that has the serial of the one that was there
+pub numbered_set : (test : List ℕ → Bool) (rows : List (ℕ × (List ℕ × HeldList))) (v w : HeldList) → Some v ≡ lookup test (without_serials rows) → w.serial ≡ v.serial → AreNumbered rows → AreNumbered (set_row test rows w)
+numbered_set test [] v w at e h = h
+numbered_set test (row ∷ rows) v w at e h = grind (arith, numbered_set test rows v w)
+
+-- what was there, written again
+pub set_row_same : (test : List ℕ → Bool) (rows : List (ℕ × (List ℕ × HeldList))) (v w : HeldList) → Some v ≡ lookup test (without_serials rows) → w ≡ v → set_row test rows w ≡ rows
+set_row_same test [] v w at e = refl
+set_row_same test (row ∷ rows) v w at e = grind (arith, set_row_same test rows v w)
+
+-- ---- the keys that go and come as a stanza is put: at most one goes, and it comes again
+
+abbrev first_key : ℕ → List (ℕ × Content) → List StanzaKey
+first_key list rows = map (λ (row : ℕ × Content). key_of list row.0) (take 1 rows)
+
+count : (list : ℕ) (rows : List (ℕ × Content)) (i : ℕ) → i < length rows → length (first_key list (drop i rows)) ≡ 1
+count list [] i l = absurd (omega arith)
+count list (r ∷ rows) zero l = refl
+count list (r ∷ rows) (suc i) l = count list rows i (omega arith)
+
+none_new : (l : KeyedList) (o : Option ℕ) → ((i : ℕ) → o ≡ Some i → i < length l.rows) → key_at l o ≡ [] → key_or_new l o ≡ next_key l
+none_new l None h e = refl
+none_new l (Some i) h e = absurd (omega (arith, count l.serial l.rows i (h i refl), ap (λ (ks : List StanzaKey). length ks) e))
+
+key_count : (l : KeyedList) (o : Option ℕ) → ((i : ℕ) → o ≡ Some i → i < length l.rows) → length (key_at l o) ≡ cond (is_some o) 1 0
+key_count l None h = refl
+key_count l (Some i) h = count l.serial l.rows i (h i refl)
+
+-- where none goes, a new one comes
+pub kept_new : (list : List ℕ) (x : Content) (ls : List (List ℕ × KeyedList)) → found_in list (package_of x) (version_of x) ls ≡ [] → kept_in list x ls ≡ next_in list ls
+kept_new list x ls = grind (arith, none_new, place_within)
+
+-- one goes where the list has a stanza of the name and an equal version
+pub found_count : (list name : List ℕ) (version : Option (List ℕ)) (ls : List (List ℕ × KeyedList)) → length (found_in list name version ls) ≡ cond (has_stanza list name version (stanza_lists ls)) 1 0
+found_count list name version ls = grind (arith, at_name-stanza_lists, key_count, place_within, place_stanzas)
+
+pub more_is : (b : Bool) (gone : ℕ) → gone ≡ cond b 1 0 → 1 - gone ≡ cond b 0 1
+more_is b gone e = grind arith
+
+-- ---- what an edit leaves: the stanza of each key that neither goes nor comes, and the lists without serials
+
+other : (a b : Bool) → a ≡ true → (a && b) ≡ false → b ≡ false
+other a b e h = grind arith
+
+nothing : {X : Type 0} (b : Bool) → cond {A = Option X} b None None ≡ None
+nothing true = refl
+nothing false = refl
+
+module _ (k : StanzaKey) where
+  absent : (list : ℕ) (rs : List (ℕ × Content)) → nat_eq list k.list ≡ true → IsNotAmong k (map (λ (r : ℕ × Content). key_of list r.0) rs) → lookup (λ s. nat_eq s k.stanza) rs ≡ None
+  absent list [] e h = refl
+  absent list (r ∷ rs) e h = ap (λ b. cond b (Some r.1) (lookup (λ s. nat_eq s k.stanza) rs)) (other _ _ e h.0) ∙ absent list rs e h.1
+
+  pushed : (list next : ℕ) (x : Content) (rs : List (ℕ × Content)) → nat_eq list k.list ≡ true → key_is k (key_of list next) ≡ false → lookup (λ s. nat_eq s k.stanza) (rs ++ (next, x) ∷ []) ≡ lookup (λ s. nat_eq s k.stanza) rs
+  pushed list next x [] e h = ap (λ b. cond b (Some x) None) (other _ _ e h)
+  pushed list next x (r ∷ rs) e h = ap (cond (nat_eq r.0 k.stanza) (Some r.1)) (pushed list next x rs e h)
+
+  replaced : (list i : ℕ) (x : Content) (rs : List (ℕ × Content)) → nat_eq list k.list ≡ true → IsNotAmong k (map (λ (r : ℕ × Content). key_of list r.0) (take 1 (drop i rs))) → lookup (λ s. nat_eq s k.stanza) (replace_at rs i x) ≡ lookup (λ s. nat_eq s k.stanza) rs
+  replaced list i x [] e h = refl
+  replaced list zero x (r ∷ rs) e h = grind arith
+  replaced list (suc i) x (r ∷ rs) e h = ap (cond (nat_eq r.0 k.stanza) (Some r.1)) (replaced list i x rs e h)
+
+  removed : (list i : ℕ) (rs : List (ℕ × Content)) → nat_eq list k.list ≡ true → IsNotAmong k (map (λ (r : ℕ × Content). key_of list r.0) (take 1 (drop i rs))) → lookup (λ s. nat_eq s k.stanza) (remove rs i) ≡ lookup (λ s. nat_eq s k.stanza) rs
+  removed list zero [] e h = refl
+  removed list (suc i) [] e h = refl
+  removed list zero (r ∷ rs) e h = sym (ap (λ b. cond b (Some r.1) (lookup (λ s. nat_eq s k.stanza) rs)) (other (nat_eq list k.list) (nat_eq r.0 k.stanza) e h.0))
+  removed list (suc i) (r ∷ rs) e h = ap (cond (nat_eq r.0 k.stanza) (Some r.1)) (removed list i rs e h)
+
+  -- where the list is that of the key
+  in_list : (list : ℕ) (o p : Option Content) → (nat_eq list k.list ≡ true → o ≡ p) → cond (nat_eq list k.list) o None ≡ cond (nat_eq list k.list) p None
+  in_list list o p f = grind arith
+
+  put_stays : (x : Content) (l : KeyedList) → IsNotAmong k (put_key x l) → in_rows k (put_keyed x l) ≡ in_rows k l
+  put_stays x l h = grind (arith, in_list, pushed, replaced)
+
+  remove_stays : (name : List ℕ) (version : Option (List ℕ)) (l : KeyedList) → IsNotAmong k (found_key name version l) → in_rows k (remove_keyed name version l) ≡ in_rows k l
+  remove_stays name version l h = by (place (by_name_and_version name version) l.rows) h
+    where
+      by : (o : Option ℕ) → IsNotAmong k (key_at l o) → cond (nat_eq l.serial k.list) (lookup (λ s. nat_eq s k.stanza) (remove_row_at o l.rows)) None ≡ in_rows k l
+      by None h = refl
+      by (Some i) h = in_list l.serial _ _ (λ e. removed l.serial i l.rows e h)
+
+  change_stays : (name : List ℕ) (f : KeyedList → KeyedList) (g : KeyedList → List StanzaKey) → ((l : KeyedList) → IsNotAmong k (g l) → in_rows k (f l) ≡ in_rows k l)
+      → (ls : List (List ℕ × KeyedList)) → IsNotAmong k (option_map_or g (at_name name ls) []) → stanza_at k (change_named name f ls) ≡ stanza_at k ls
+  change_stays name f g s [] h = refl
+  change_stays name f g s (l ∷ ls) h = grind (arith, change_stays name f g s ls)
+
+  drop_stays : (name : List ℕ) (ls : List (List ℕ × KeyedList)) → IsNotAmong k (option_map_or keys_of (at_name name ls) []) → stanza_at k (without_name name ls) ≡ stanza_at k ls
+  drop_stays name [] h = refl
+  drop_stays name (l ∷ ls) h = by (bytes_eq name l.0) h (drop_stays name ls)
+    where
+      by : (b : Bool) → IsNotAmong k (option_map_or keys_of (cond b (Some l.1) (at_name name ls)) []) → (IsNotAmong k (option_map_or keys_of (at_name name ls) []) → stanza_at k (without_name name ls) ≡ stanza_at k ls)
+          → stanza_at k (cond b ls (l ∷ without_name name ls)) ≡ stanza_at k (l ∷ ls)
+      by true h rest = sym (ap (λ o. option_or o (stanza_at k ls)) (in_list l.1.serial (lookup (λ s. nat_eq s k.stanza) l.1.rows) None (λ e. absent l.1.serial l.1.rows e h) ∙ nothing (nat_eq l.1.serial k.list)))
+      by false h rest = ap (option_or (in_rows k l.1)) (rest h)
+
+  add_stays : (name : List ℕ) (x : KeyedList) (ls : List (List ℕ × KeyedList)) → IsNotAmong k (keys_of x) → stanza_at k (ls ++ (name, x) ∷ []) ≡ stanza_at k ls
+  add_stays name x [] h = or_none (in_rows k x) ∙ in_list x.serial (lookup (λ s. nat_eq s k.stanza) x.rows) None (λ e. absent x.serial x.rows e h) ∙ nothing (nat_eq x.serial k.list)
+  add_stays name x (l ∷ ls) h = ap (option_or (in_rows k l.1)) (add_stays name x ls h)
+
+  -- a key that neither goes nor comes keeps its stanza
+  pub stays_law : (s : Keyed) (edit : Edit) → IsNotAmong k (removed_of s edit) → IsNotAmong k (added_of s edit) → stanza_at k (keyed_after s edit).lists ≡ stanza_at k s.lists
+  stays_law s (AddList name kind class stanzas) h g = add_stays name (list_of_stanzas s.next_list kind class stanzas) s.lists g
+  stays_law s (DropList name) h g = drop_stays name s.lists h
+  stays_law s (Put list x) h g = change_stays list (put_keyed x) (put_key x) (put_stays x) s.lists g
+  stays_law s (Remove list name version) h g = change_stays list (remove_keyed name (Some version)) (found_key name (Some version)) (remove_stays name (Some version)) s.lists h
+  stays_law s (Mark name version) h g = refl
+  stays_law s (Unmark name) h g = refl
+  stays_law s (Pin selector priority) h g = refl
+  stays_law s (Unpin selector) h g = refl
+  stays_law s (Target name) h g = refl
+  stays_law s (Prefs pins) h g = refl
+
+-- ---- the lists without serials
+
+map_push : (rs : List (ℕ × Content)) (n : ℕ) (x : Content) → stanzas_of (rs ++ (n, x) ∷ []) ≡ stanzas_of rs ++ x ∷ []
+map_push [] n x = refl
+map_push (r ∷ rs) n x = ap (λ l. r.1 ∷ l) (map_push rs n x)
+
+map_replace : (rs : List (ℕ × Content)) (i : ℕ) (x : Content) → stanzas_of (replace_at rs i x) ≡ set (stanzas_of rs) i x
+map_replace [] i x = refl
+map_replace (r ∷ rs) zero x = refl
+map_replace (r ∷ rs) (suc i) x = ap (λ l. r.1 ∷ l) (map_replace rs i x)
+
+map_remove : (rs : List (ℕ × Content)) (i : ℕ) → stanzas_of (remove rs i) ≡ remove (stanzas_of rs) i
+map_remove [] zero = refl
+map_remove [] (suc i) = refl
+map_remove (r ∷ rs) zero = refl
+map_remove (r ∷ rs) (suc i) = ap (λ l. r.1 ∷ l) (map_remove rs i)
+
+pub stanzas_of-rows_from : (n : ℕ) (xs : List Content) → stanzas_of (rows_from n xs) ≡ xs
+stanzas_of-rows_from n [] = refl
+stanzas_of-rows_from n (x ∷ xs) = ap (λ l. x ∷ l) (stanzas_of-rows_from (suc n) xs)
+
+put_stanzas : (x : Content) (rows : List (ℕ × Content)) (next : ℕ) → stanzas_of (put_row_at (place (by_name_and_version (package_of x) (version_of x)) rows) x next rows) ≡ put_stanza x (stanzas_of rows)
+put_stanzas x rows next = grind (arith, place_stanzas, map_push, map_replace)
+
+remove_stanzas : (name : List ℕ) (version : Option (List ℕ)) (rows : List (ℕ × Content)) → stanzas_of (remove_row_at (place (by_name_and_version name version) rows) rows) ≡ remove_stanza name version (stanzas_of rows)
+remove_stanzas name version rows = grind (arith, place_stanzas, map_remove)
+
+pub put_list : (x : Content) (l : KeyedList) → stanza_list (put_keyed x l) ≡ with_stanzas (put_stanza x) (stanza_list l)
+put_list x l = ap (λ (t : List Content). record { kind = l.kind; class = l.class; stanzas = t }) (put_stanzas x l.rows l.next)
+
+pub remove_list : (name : List ℕ) (version : Option (List ℕ)) (l : KeyedList) → stanza_list (remove_keyed name version l) ≡ with_stanzas (remove_stanza name version) (stanza_list l)
+remove_list name version l = ap (λ (t : List Content). record { kind = l.kind; class = l.class; stanzas = t }) (remove_stanzas name version l.rows)
+
+pub new_lists : (ls : List (List ℕ × KeyedList)) (name : List ℕ) (serial : ℕ) (kind : ListKind) (class : ListClass) (xs : List Content) → stanza_lists (ls ++ (name, list_of_stanzas serial kind class xs) ∷ []) ≡ stanza_lists ls ++ (name, record { kind = kind; class = class; stanzas = xs }) ∷ []
+new_lists [] name serial kind class xs = ap (λ (t : List Content). (name, record { kind = kind; class = class; stanzas = t }) ∷ []) (stanzas_of-rows_from 0 xs)
+new_lists (l ∷ ls) name serial kind class xs = ap (λ r. (l.0, stanza_list l.1) ∷ r) (new_lists ls name serial kind class xs)
+
+pub without_lists : (name : List ℕ) (ls : List (List ℕ × KeyedList)) → stanza_lists (without_name name ls) ≡ without_name name (stanza_lists ls)
+without_lists name [] = refl
+without_lists name (l ∷ ls) = if_cases stanza_lists (bytes_eq name l.0) _ _ ∙ ap (λ r. cond (bytes_eq name l.0) (stanza_lists ls) ((l.0, stanza_list l.1) ∷ r)) (without_lists name ls)
+
+pub change_lists : (name : List ℕ) (f : KeyedList → KeyedList) (g : StanzaList → StanzaList) → ((l : KeyedList) → stanza_list (f l) ≡ g (stanza_list l)) → (ls : List (List ℕ × KeyedList)) → stanza_lists (change_named name f ls) ≡ change_named name g (stanza_lists ls)
+change_lists name f g h [] = refl
+change_lists name f g h (l ∷ ls) = grind (arith, change_lists name f g h ls)

@@ -1,21 +1,33 @@
 -- What the order of the rows of a list says of the rows, and how it changes with them.
-use Rattle.std.proofs.Common.{◌≡◌, ℕ, ◌+◌, ◌<◌, ◌≤◌, true, cond, ◌&&◌, List, [], ◌∷◌, ◌++◌, length, get_or, Option, None, Some, refl, ap, sym, ◌∙◌, arith}
-use Rattle.std.specs.List.{insert, remove}
-use Rattle.std.specs.Cmp.{IsTotalOrder}
-use Rattle.std.specs.Cmp.Lexicographic.{options_total, nat_list_cmp_total}
-use Rattle.std.specs.Ordering.{ordering_then, is_eq}
+use Rattle.std.proofs.Common.{◌≡◌, ℕ, ◌+◌, ◌<◌, ◌≤◌, true, cond, ◌&&◌, List, [], ◌∷◌, ◌++◌, length, get_or, Option, None, Some, refl, ap, sym, ◌∙◌, arith, zero, suc, map, take, drop, Vec, vec_len, subst, false, slice_get, Box, Bool, not, nat_eq, option_map, sum_by}
+use Rattle.std.specs.List.{insert, remove, AllByRecursion, IsAllAdjacentAnswer}
+use Rattle.std.specs.Cmp.{IsTotalOrder, nat_cmp_total}
+use Rattle.std.specs.Cmp.Lexicographic.{options_total, nat_list_cmp_total, slice_cmp}
+use Rattle.std.specs.Ordering.{ordering_then, is_eq, nat_cmp, is_ne, is_lt, is_gt}
 use Rattle.std.specs.declared.cmp.Ordering.{Ordering}
-use Rattle.std.proofs.lemmas.Cmp.{on_total, then_total}
+use Rattle.std.proofs.lemmas.Cmp.{on_total, then_total, upto}
 use Rattle.std.proofs.lemmas.Map.Text.{is_eq-slice_cmp}
 use Rattle.std.proofs.lemmas.Slice.Eq.{bytes_eq-Decides}
 use Rattle.ctl_relation.specs.Version.{version_cmp}
 use Rattle.ctl_relation.specs.Orders.Versions.{equal_versions, triple_total}
 use Rattle.ctl_stanza.specs.Content.{Content, package_of, version_of}
 use Rattle.ctl_store.specs.Step.{place, is_same, is_same_version}
-use Rattle.ctl_store.specs.Sorted.{place_in}
-use Rattle.ctl_store.specs.Rows.{Id, id, id_of, row_id, version_id, version_order, id_cmp, ids_of, sorted_ids, lower, has_serial, IsKept, order_at, by_name_and_version, replace_at}
-use Rattle.ctl_store.proofs.PlaceLemmas.{and_left, place_within, place_passes, and_second, equal_is}
-use Rattle.ctl_store.proofs.RankedLemmas.{found_here as ranked_here, found_past as ranked_past, ranked_replace, ranked_push, ranked_remove}
+use Rattle.ctl_store.specs.Sorted.{place_in, insert_in}
+use Rattle.ctl_store.specs.Rows.{Id, id, id_of, row_id, version_id, version_order, id_cmp, ids_of, sorted_ids, lower, has_serial, IsKept, order_at, by_name_and_version, replace_at, sorted_serials, Rises, rows_from, id_at, place_cmp}
+use Rattle.ctl_store.proofs.PlaceLemmas.{and_left, place_within, place_passes, and_second, equal_is, Rises-rows_from, eq_is}
+use Rattle.ctl_store.proofs.RankedLemmas.{found_here as ranked_here, found_past as ranked_past, ranked_replace, ranked_push, ranked_remove, length-sorted_in, g, all_map, all_insert, all_sorted, all_from, Rises-labels}
+use Rattle.std.specs.Vec.{vec_capacity}
+use Rattle.ctl_store.specs.HeldPieces.{joined, ArePieces, IsFit}
+use Rattle.ctl_store.specs.Keys.{KeyedList, key_of, key_at}
+use Rattle.ctl_store.specs.Held.{IsHeldList}
+use Rattle.std.proofs.lemmas.List.{drop_more, drop_all}
+use Rattle.std.specs.Option.{option_cmp}
+use Rattle.std.specs.declared.cmp.Ordering.TheVariants.{Equal, Greater}
+use Rattle.ctl_store.specs.Fronts.{front_len, filled, front_of, fronts_of}
+use Rattle.std.specs.Bool.{OnTrue}
+use Rattle.std.specs.List.Sorted.{IsPermutation, IsSortedBy}
+use Rattle.std.proofs.lemmas.List.Sorted.{sum_by-IsPermutation, sorted_far, ranks_by}
+use Rattle.std.proofs.lemmas.List.Sums.{sum_by-cons}
 
 pub id_total : IsTotalOrder id_cmp
 id_total = then_total (on_total (λ (a : Id). a.name) nat_list_cmp_total) (on_total (λ (a : Id). a.version) (options_total triple_total))
@@ -70,3 +82,329 @@ module _ (rows : List (ℕ × Content)) (next : ℕ) (order : List ℕ) (kept : 
 
   pub kept_remove : (name : List ℕ) (version : Option (List ℕ)) (i : ℕ) → place (by_name_and_version name version) rows ≡ Some i → IsKept (remove rows i) next (remove order (lower (id name version) (sorted_ids (ids_of rows))))
   kept_remove name version i e = ranked_remove id_cmp id_total row_id rows next order kept (id name version) i (sym (place-ids name version rows) ∙ e)
+
+-- ---- what a list keeps while its rows and their order change
+
+-- ---- the key at a place
+
+module _ {X Y : Type 0} (f : X → Y) where
+  one_taken : (xs : List X) (i : ℕ) (x : X) → i < length xs → ((d : X) → get_or xs i d ≡ x) → map f (take 1 (drop i xs)) ≡ f x ∷ []
+  one_taken [] i x l e = absurd (omega arith)
+  one_taken (y ∷ xs) zero x l e = ap (λ t. f t ∷ []) (e y)
+  one_taken (y ∷ xs) (suc i) x l e = one_taken xs i x (omega arith) e
+
+pub key_read : (l : KeyedList) (i : ℕ) (row : ℕ × Content) → i < length l.rows → ((d : ℕ × Content) → get_or l.rows i d ≡ row) → key_at l (Some i) ≡ key_of l.serial row.0 ∷ []
+key_read l i row within e = one_taken (λ (r : ℕ × Content). key_of l.serial r.0) l.rows i row within e
+
+-- ---- what is kept
+
+pub same_length : {X Y : Type 0} (f : X → Y) (xs : List X) → length (map f xs) ≡ length xs
+same_length f [] = refl
+same_length f (x ∷ xs) = ap (λ n. suc n) (same_length f xs)
+
+-- pieces of which one was written
+pub fit_written : {X A B : Type 0} (ps qs ready : Vec (Vec X A) B) → IsFit ps ready → ArePieces qs.items → vec_len qs ≡ vec_len ps → vec_capacity qs ≡ vec_capacity ps → IsFit qs ready
+fit_written ps qs ready h pieces len capacity = record {
+  pieces = pieces;
+  ready = h.ready;
+  room = omega (arith, h.room, len, capacity);
+}
+
+module _ {A B : Type 0} (rows rows_ready : Vec (Vec (ℕ × Content) A) B) (next : ℕ) (order order_ready : Vec (Vec ℕ A) B) (h : IsHeldList rows rows_ready next order order_ready) where
+  abbrev at_id : Content → ℕ
+  at_id x = lower (id_of x) (sorted_ids (ids_of (joined rows.items)))
+
+  pub held_replace : (x : Content) (i : ℕ) (rows' : Vec (Vec (ℕ × Content) A) B) → place (by_name_and_version (package_of x) (version_of x)) (joined rows.items) ≡ Some i
+      → IsFit rows' rows_ready → joined rows'.items ≡ replace_at (joined rows.items) i x → IsHeldList rows' rows_ready next order order_ready
+  held_replace x i rows' found fit is = record {
+    kept = subst (λ l. IsKept l next (joined order.items)) (sym is) (kept_replace (joined rows.items) next (joined order.items) h.kept x i found);
+    rows_fit = fit;
+    order_fit = h.order_fit;
+  }
+
+  module _ (rows' rows_ready' : Vec (Vec (ℕ × Content) A) B) (order' order_ready' : Vec (Vec ℕ A) B) (rows_fit : IsFit rows' rows_ready') (order_fit : IsFit order' order_ready') where
+    pub held_push : (x : Content) (at : ℕ) → place (by_name_and_version (package_of x) (version_of x)) (joined rows.items) ≡ None → at ≡ at_id x
+        → joined rows'.items ≡ joined rows.items ++ (next, x) ∷ [] → joined order'.items ≡ insert (joined order.items) at next → IsHeldList rows' rows_ready' (next + 1) order' order_ready'
+    held_push x at none e is order_is = record {
+      kept =
+          subst (λ l. IsKept l (next + 1) (joined order'.items)) (sym is)
+          (subst (λ l. IsKept (joined rows.items ++ (next, x) ∷ []) (next + 1) l) (sym (order_is ∙ ap (λ k. insert (joined order.items) k next) e)) (kept_push (joined rows.items) next (joined order.items) h.kept x none));
+      rows_fit = rows_fit;
+      order_fit = order_fit;
+    }
+
+    pub held_remove : (name : List ℕ) (version : Option (List ℕ)) (i at : ℕ) → place (by_name_and_version name version) (joined rows.items) ≡ Some i
+        → at ≡ lower (id name version) (sorted_ids (ids_of (joined rows.items)))
+        → joined rows'.items ≡ remove (joined rows.items) i → joined order'.items ≡ remove (joined order.items) at → IsHeldList rows' rows_ready' next order' order_ready'
+    held_remove name version i at found e is order_is = record {
+      kept =
+          subst (λ l. IsKept l next (joined order'.items)) (sym is)
+          (subst (λ l. IsKept (remove (joined rows.items) i) next l) (sym (order_is ∙ ap (remove (joined order.items)) e)) (kept_remove (joined rows.items) next (joined order.items) h.kept name version i found));
+      rows_fit = rows_fit;
+      order_fit = order_fit;
+    }
+
+-- ---- a new list
+
+length-rows_from : (n : ℕ) (xs : List Content) → length (rows_from n xs) ≡ length xs
+length-rows_from n [] = refl
+length-rows_from n (x ∷ xs) = ap (λ k. suc k) (length-rows_from (suc n) xs)
+
+-- each of them is in the order once
+pub length-serials : (xs : List Content) → length (sorted_serials (rows_from 0 xs)) ≡ length xs
+length-serials xs = grind (arith, same_length, length-sorted_in, length-rows_from)
+
+-- so the order is as long as the rows
+pub length-order : (rows : List (ℕ × Content)) (next : ℕ) (order : List ℕ) → IsKept rows next order → length order ≡ length rows
+length-order rows next order h = grind (arith, same_length, length-sorted_in)
+
+-- rows from 0 on, in the order that a sort gives
+pub held_sorted : {A B : Type 0} (rows rows_ready : Vec (Vec (ℕ × Content) A) B) (next : ℕ) (order order_ready : Vec (Vec ℕ A) B) (xs : List Content)
+    → joined rows.items ≡ rows_from 0 xs → next ≡ length xs → joined order.items ≡ sorted_serials (rows_from 0 xs) → IsFit rows rows_ready → IsFit order order_ready → IsHeldList rows rows_ready next order order_ready
+held_sorted rows rows_ready next order order_ready xs is n order_is rows_fit order_fit = record {
+  kept = subst (λ l. IsKept l next (joined order.items)) (sym is) (record {
+    rises = subst (λ m. Rises 0 (rows_from 0 xs) m) (omega (arith, n)) (Rises-rows_from 0 xs);
+    ordered = order_is;
+  });
+  rows_fit = rows_fit;
+  order_fit = order_fit;
+}
+
+-- ---- where the fronts of two names differ, they stand as the names do
+
+-- An end is as a zero, the least byte.
+least : (k : ℕ) (ys : List ℕ) (o : Ordering) → o ≡ slice_cmp nat_cmp (filled k []) (filled k ys) → (o ≡ Equal → ⊥) → o ≡ slice_cmp nat_cmp [] ys
+least zero ys o e n = absurd (n e)
+least (suc k) [] o e n = least k [] o e n
+least (suc k) (y ∷ ys) o e n = grind (arith, least k ys o)
+
+greatest : (k : ℕ) (xs : List ℕ) (o : Ordering) → o ≡ slice_cmp nat_cmp (filled k xs) (filled k []) → (o ≡ Equal → ⊥) → o ≡ slice_cmp nat_cmp xs []
+greatest zero xs o e n = absurd (n e)
+greatest (suc k) [] o e n = greatest k [] o e n
+greatest (suc k) (x ∷ xs) o e n = by (nat_cmp x 0) refl e (λ h. greatest k xs o h n)
+  where
+    more : (zs : List ℕ) → o ≡ slice_cmp nat_cmp zs [] → o ≡ Greater
+    more [] h = absurd (n h)
+    more (z ∷ zs) h = h
+
+    by : (r : Ordering) → nat_cmp x 0 ≡ r → o ≡ ordering_then r (slice_cmp nat_cmp (filled k xs) (filled k [])) → (o ≡ slice_cmp nat_cmp (filled k xs) (filled k []) → o ≡ slice_cmp nat_cmp xs []) → o ≡ Greater
+    by r is h rest = grind arith
+
+-- fronts that differ stand as their names do
+fronts_tell : (k : ℕ) (xs ys : List ℕ) (o : Ordering) → o ≡ slice_cmp nat_cmp (filled k xs) (filled k ys) → (o ≡ Equal → ⊥) → o ≡ slice_cmp nat_cmp xs ys
+fronts_tell zero xs ys o e n = absurd (n e)
+fronts_tell (suc k) [] ys o e n = least (suc k) ys o e n
+fronts_tell (suc k) (x ∷ xs) [] o e n = greatest (suc k) (x ∷ xs) o e n
+fronts_tell (suc k) (x ∷ xs) (y ∷ ys) o e n = grind (arith, fronts_tell k xs ys o)
+
+first_decides : (o r then : Ordering) → o ≡ r → (o ≡ Equal → ⊥) → o ≡ ordering_then r then
+first_decides o r then e n = grind arith
+
+-- so do stanzas, whose names come first in their order
+pub front_tells : (x : Content) (name : List ℕ) (version : Option (List ℕ)) (o : Ordering) → o ≡ slice_cmp nat_cmp (front_of (package_of x)) (front_of name) → (o ≡ Equal → ⊥) → o ≡ id_cmp (id_of x) (id name version)
+front_tells x name version o e n =
+    first_decides o (slice_cmp nat_cmp (package_of x) name) (version_order (version_id (version_of x)) (version_id version)) (fronts_tell front_len (package_of x) name o e n) n
+
+-- the stanza whose front stands at a place
+stanza_at : (n : ℕ) (xs : List Content) (k : ℕ) (front : List ℕ) → slice_get (fronts_of xs) k ≡ Some front → (x : Content) × (id_at (rows_from n xs) k ≡ Some (id_of x)) × (front ≡ front_of (package_of x))
+stanza_at n [] k front e = cc
+stanza_at n (x ∷ xs) zero front e = (x, refl, cc)
+stanza_at n (x ∷ xs) (suc k) front e = stanza_at (suc n) xs k front e
+
+-- and so do the stanzas at two places
+pub fronts_tell_at : (fronts : List (List ℕ)) (xs : List Content) (i j : ℕ) (front against : List ℕ) (o : Ordering) → fronts ≡ fronts_of xs → slice_get fronts i ≡ Some front → slice_get fronts j ≡ Some against → o ≡ slice_cmp nat_cmp front against → (o ≡ Equal → ⊥)
+    → o ≡ option_cmp id_cmp (id_at (rows_from 0 xs) i) (id_at (rows_from 0 xs) j)
+fronts_tell_at fronts xs i j front against o all e h is n =
+    let one = stanza_at 0 xs i front (ap (λ l. slice_get l i) (sym all) ∙ e) in
+    let other = stanza_at 0 xs j against (ap (λ l. slice_get l j) (sym all) ∙ h) in
+    front_tells one.0 (package_of other.0) (version_of other.0) o (is ∙ (λ j. slice_cmp nat_cmp (one.2 j) (other.2 j))) n
+    ∙ sym (λ j. option_cmp id_cmp (one.1 j) (other.1 j))
+
+-- what is left of two fronts at a place compares as the bytes there and what is behind them
+left_by_bytes : (xs ys : List ℕ) (i : ℕ) → i < length xs → i < length ys → slice_cmp nat_cmp (drop i xs) (drop i ys) ≡ ordering_then (nat_cmp (get_or xs i 0) (get_or ys i 0)) (slice_cmp nat_cmp (drop (i + 1) xs) (drop (i + 1) ys))
+left_by_bytes xs ys i h g = λ j. slice_cmp nat_cmp (drop_more xs i 0 h j) (drop_more ys i 0 g j)
+
+unequal_then : (o p : Ordering) → is_ne o ≡ true → o ≡ ordering_then o p
+unequal_then o p h = grind arith
+
+equal_then : (o p : Ordering) → is_ne o ≡ false → p ≡ ordering_then o p
+equal_then o p h = grind arith
+
+module _ (xs ys : List ℕ) (i : ℕ) where
+  module _ (o : Ordering) (h : i < length xs) (g : i < length ys) (is : o ≡ nat_cmp (get_or xs i 0) (get_or ys i 0)) where
+    left : slice_cmp nat_cmp (drop i xs) (drop i ys) ≡ ordering_then o (slice_cmp nat_cmp (drop (i + 1) xs) (drop (i + 1) ys))
+    left = left_by_bytes xs ys i h g ∙ ap (λ r. ordering_then r (slice_cmp nat_cmp (drop (i + 1) xs) (drop (i + 1) ys))) (sym is)
+
+    -- bytes that differ tell it
+    pub bytes_tell : is_ne o ≡ true → o ≡ slice_cmp nat_cmp (drop i xs) (drop i ys)
+    bytes_tell n = unequal_then o _ n ∙ sym left
+
+    -- and else what is behind them does
+    pub bytes_pass : is_ne o ≡ false → slice_cmp nat_cmp (drop (i + 1) xs) (drop (i + 1) ys) ≡ slice_cmp nat_cmp (drop i xs) (drop i ys)
+    bytes_pass e = equal_then o _ e ∙ sym left
+
+  pub none_left : length xs ≤ i → length ys ≤ i → Equal ≡ slice_cmp nat_cmp (drop i xs) (drop i ys)
+  none_left h g = sym (λ j. slice_cmp nat_cmp (drop_all i xs h j) (drop_all i ys g j))
+
+-- ---- sorting the serials of new rows gives the order that is kept
+
+-- ---- two lists in order that count alike are one
+
+abbrev tally : (ℕ → ℕ) → List ℕ → ℕ
+tally f [] = 0
+tally f (x ∷ xs) = f x + tally f xs
+
+sum_by-tally : (f : ℕ → ℕ) (xs : List ℕ) → sum_by f xs ≡ tally f xs
+sum_by-tally f [] = refl
+sum_by-tally f (x ∷ xs) = sum_by-cons f x xs ∙ ap (λ n. f x + n) (sum_by-tally f xs)
+
+abbrev one_at : ℕ → ℕ → ℕ
+one_at x z = cond (nat_eq z x) 1 0
+
+one_here : (x : ℕ) → one_at x x ≡ 1
+one_here x = ap (λ b. cond b 1 0) (eq_is x x refl)
+
+-- what is counted stands there
+counted : (P : ℕ → Type 0) (x : ℕ) (zs : List ℕ) → AllByRecursion P zs → 0 < tally (one_at x) zs → P x
+counted P x [] h l = absurd (omega arith)
+counted P x (z ∷ zs) h l = grind (arith, counted P x zs h.1)
+
+module _ (R : ℕ → ℕ → Ordering) (total : IsTotalOrder R) (exact : (a b : ℕ) → R a b ≡ Equal → a ≡ b) where
+  abbrev IsUp : List ℕ → Type 0
+  IsUp [] = Unit {0}
+  IsUp (x ∷ xs) = AllByRecursion (λ y. is_gt (R x y) ≡ false) xs × IsUp xs
+
+  back : (a b : ℕ) → is_lt (R a b) ≡ is_gt (R b a)
+  back a b = grind (arith, total.antisymm a b)
+
+  not_above_itself : (a : ℕ) → is_gt (R a a) ≡ false
+  not_above_itself a = grind (arith, total.antisymm a a)
+
+  neither : (a b : ℕ) → is_gt (R a b) ≡ false → is_gt (R b a) ≡ false → a ≡ b
+  neither a b p q = grind arith
+
+  one_list : (xs ys : List ℕ) → ((f : ℕ → ℕ) → tally f xs ≡ tally f ys) → IsUp xs → IsUp ys → xs ≡ ys
+  one_list [] [] t u v = refl
+  one_list [] (y ∷ ys) t u v = absurd (omega (arith, t (λ n. 1)))
+  one_list (x ∷ xs) [] t u v = absurd (omega (arith, t (λ n. 1)))
+  one_list (x ∷ xs) (y ∷ ys) t u v = λ j. same j ∷ one_list xs ys (λ f. omega (arith, t f, ap f same)) u.1 v.1 j
+    where
+      same : x ≡ y
+      same = neither x y
+          (counted (λ z. is_gt (R x z) ≡ false) y (x ∷ xs) (not_above_itself x, u.0) (omega (arith, t (one_at y), one_here y)))
+          (counted (λ z. is_gt (R y z) ≡ false) x (y ∷ ys) (not_above_itself y, v.0) (omega (arith, t (one_at x), one_here x)))
+
+  all_at : (P : ℕ → Type 0) (xs : List ℕ) → ((k : ℕ) (d : ℕ) → k < length xs → P (get_or xs k d)) → AllByRecursion P xs
+  all_at P [] h = tt
+  all_at P (x ∷ xs) h = (h 0 x (omega arith), all_at P xs (λ k d l. h (suc k) d (omega arith)))
+
+  up_from : (xs : List ℕ) → ((i j : ℕ) (d : ℕ) → i ≤ j → j < length xs → is_lt (R (get_or xs j d) (get_or xs i d)) ≡ false) → IsUp xs
+  up_from [] h = tt
+  up_from (x ∷ xs) h = (
+    all_at (λ y. is_gt (R x y) ≡ false) xs (λ k d l. sym (back (get_or xs k d) x) ∙ h 0 (suc k) d (omega arith) (omega arith)),
+    up_from xs (λ i j d le l. h (suc i) (suc j) d (omega arith) (omega arith)),
+  )
+
+  sorted_up : (xs : List ℕ) → IsSortedBy (λ x y. is_lt (R x y)) xs → IsUp xs
+  sorted_up xs s = up_from xs (sorted_far (λ x y. is_lt (R x y)) (ranks_by total (λ (n : ℕ). n)) xs s)
+
+-- ---- the order of rows, in pairs of serials and what they are found by
+
+abbrev pair_cmp : ℕ × Id → ℕ × Id → Ordering
+pair_cmp x y = ordering_then (id_cmp x.1 y.1) (nat_cmp x.0 y.0)
+
+pair_total : IsTotalOrder pair_cmp
+pair_total = then_total (on_total (λ (x : ℕ × Id). x.1) id_total) (on_total (λ (x : ℕ × Id). x.0) nat_cmp_total)
+
+abbrev ArePairsUp : List (ℕ × Id) → Type 0
+ArePairsUp [] = Unit {0}
+ArePairsUp (y ∷ ys) = AllByRecursion (λ z. is_gt (pair_cmp y z) ≡ false) ys × ArePairsUp ys
+
+before_later : (x y : ℕ × Id) → g id_cmp x.1 y.1 ≡ false → x.0 < y.0 → is_gt (pair_cmp x y) ≡ false
+before_later x y e l = grind arith
+
+above_first : (x y : ℕ × Id) → g id_cmp x.1 y.1 ≡ true → is_gt (pair_cmp y x) ≡ false
+above_first x y e = grind (arith, id_total.antisymm y.1 x.1)
+
+pairs_insert : (x : ℕ × Id) (ys : List (ℕ × Id)) → AllByRecursion (λ (y : ℕ × Id). x.0 < y.0) ys → ArePairsUp ys → ArePairsUp (insert_in id_cmp x ys)
+pairs_insert x [] s o = (tt, tt)
+pairs_insert x (y ∷ ys) s o = by (g id_cmp x.1 y.1) refl (pairs_insert x ys s.1 o.1)
+  where
+    by : (b : Bool) → g id_cmp x.1 y.1 ≡ b → ArePairsUp (insert_in id_cmp x ys) → ArePairsUp (cond b (y ∷ insert_in id_cmp x ys) (x ∷ y ∷ ys))
+    by true e rest = (all_insert id_cmp id_total (λ z. is_gt (pair_cmp y z) ≡ false) x ys (above_first x y e) o.0, rest)
+    by false e rest = ((before_later x y e s.0, all_map (λ z k. upto pair_total x y z (before_later x y e s.0) k) ys o.0), o)
+
+pairs_sorted : (n : ℕ) (xs : List (ℕ × Id)) (m : ℕ) → Rises n xs m → ArePairsUp (sorted_ids xs)
+pairs_sorted n [] m h = tt
+pairs_sorted n (x ∷ xs) m h = grind (arith, pairs_insert, all_sorted, id_total, all_map, all_from, pairs_sorted (suc x.0) xs m h.1)
+
+-- ---- the same by the places of rows
+
+place_total : (rows : List (ℕ × Content)) → IsTotalOrder (place_cmp rows)
+place_total rows = then_total (on_total (λ (n : ℕ). id_at rows n) (options_total id_total)) (on_total (λ (n : ℕ). n) nat_cmp_total)
+
+place_exact : (rows : List (ℕ × Content)) (a b : ℕ) → place_cmp rows a b ≡ Equal → a ≡ b
+place_exact rows a b e = grind arith
+
+module _ (rows : List (ℕ × Content)) where
+  at_pairs : (x y : ℕ × Id) → id_at rows x.0 ≡ Some x.1 → id_at rows y.0 ≡ Some y.1 → place_cmp rows x.0 y.0 ≡ pair_cmp x y
+  at_pairs x y e f = λ j. ordering_then (option_cmp id_cmp (e j) (f j)) (nat_cmp x.0 y.0)
+
+  all_up : (x : ℕ × Id) (ys : List (ℕ × Id)) → id_at rows x.0 ≡ Some x.1 → AllByRecursion (λ (y : ℕ × Id). id_at rows y.0 ≡ Some y.1) ys → AllByRecursion (λ z. is_gt (pair_cmp x z) ≡ false) ys
+      → AllByRecursion (λ n. is_gt (place_cmp rows x.0 n) ≡ false) (map (λ (y : ℕ × Id). y.0) ys)
+  all_up x [] e h k = tt
+  all_up x (y ∷ ys) e h k = (ap is_gt (at_pairs x y e h.0) ∙ k.0, all_up x ys e h.1 k.1)
+
+  pairs_up : (ys : List (ℕ × Id)) → AllByRecursion (λ (y : ℕ × Id). id_at rows y.0 ≡ Some y.1) ys → ArePairsUp ys → IsUp (place_cmp rows) (place_total rows) (place_exact rows) (map (λ (y : ℕ × Id). y.0) ys)
+  pairs_up [] h k = tt
+  pairs_up (y ∷ ys) h k = (all_up y ys h.0 h.1 k.0, pairs_up ys h.1 k.1)
+
+  -- each serial is the place of its row
+  at_places : (n : ℕ) (xs : List Content) → ((k : ℕ) → slice_get rows (n + k) ≡ slice_get (rows_from n xs) k) → AllByRecursion (λ (y : ℕ × Id). id_at rows y.0 ≡ Some y.1) (ids_of (rows_from n xs))
+  at_places n [] h = tt
+  at_places n (x ∷ xs) h = (
+    ap (λ k. id_at rows k) (let z : n ≡ n + 0 = omega arith in z) ∙ ap (option_map (λ (row : ℕ × Content). id_of row.1)) (h 0),
+    at_places (suc n) xs (λ k. ap (slice_get rows) (let z : suc n + k ≡ n + suc k = omega arith in z) ∙ h (suc k)),
+  )
+
+-- ---- a sort only moves what is there
+
+tally-insert : (f : ℕ → ℕ) (x : ℕ × Id) (ys : List (ℕ × Id)) → tally f (map (λ (y : ℕ × Id). y.0) (insert_in id_cmp x ys)) ≡ f x.0 + tally f (map (λ (y : ℕ × Id). y.0) ys)
+tally-insert f x [] = refl
+tally-insert f x (y ∷ ys) = grind (arith, tally-insert f x ys)
+
+tally-sorted : (f : ℕ → ℕ) (xs : List (ℕ × Id)) → tally f (map (λ (y : ℕ × Id). y.0) (sorted_ids xs)) ≡ tally f (map (λ (y : ℕ × Id). y.0) xs)
+tally-sorted f [] = refl
+tally-sorted f (x ∷ xs) = tally-insert f x (sorted_ids xs) ∙ ap (λ n. f x.0 + n) (tally-sorted f xs)
+
+serials-ids : (rows : List (ℕ × Content)) → map (λ (y : ℕ × Id). y.0) (ids_of rows) ≡ map (λ (row : ℕ × Content). row.0) rows
+serials-ids [] = refl
+serials-ids (row ∷ rows) = ap (λ l. row.0 ∷ l) (serials-ids rows)
+
+-- what a sort by places makes of the serials of new rows
+pub sorted_is : (rows : List (ℕ × Content)) (xs : List Content) → rows ≡ rows_from 0 xs → (serials order : List ℕ) → serials ≡ map (λ (row : ℕ × Content). row.0) rows → IsPermutation serials order
+    → IsSortedBy (λ x y. is_lt (place_cmp rows x y)) order → order ≡ sorted_serials rows
+sorted_is rows xs e serials order s moved sorted =
+    one_list (place_cmp rows) (place_total rows) (place_exact rows) order (sorted_serials rows)
+    (λ f.
+    sym (sum_by-tally f order) ∙ sum_by-IsPermutation f serials order moved ∙ sum_by-tally f serials ∙ ap (tally f) (s ∙ sym (serials-ids rows)) ∙ sym (tally-sorted f (ids_of rows)))
+    (sorted_up (place_cmp rows) (place_total rows) (place_exact rows) order sorted)
+    (pairs_up rows (sorted_ids (ids_of rows))
+    (all_sorted id_cmp id_total (λ (y : ℕ × Id). id_at rows y.0 ≡ Some y.1) (ids_of rows) (subst (λ l. AllByRecursion (λ (y : ℕ × Id). id_at rows y.0 ≡ Some y.1) (ids_of l)) (sym e) (at_places rows 0 xs (λ k. ap (slice_get rows) (let z : 0 + k ≡ k = omega arith in z) ∙ ap (λ l. slice_get l k) e))))
+    (pairs_sorted 0 (ids_of rows) (0 + length xs) (Rises-labels id_cmp id_total row_id 0 rows (0 + length xs) (subst (λ l. Rises 0 l (0 + length xs)) (sym e) (Rises-rows_from 0 xs)))))
+
+-- the order that a sort of serials asks for
+pub place_ranks : (rows : List (ℕ × Content)) → IsTotalOrder (place_cmp rows)
+place_ranks = place_total
+
+-- what the row at a place is found by, of the stanza at that place
+pub id_at_stanza : {A : Type 0} (n : ℕ) (xs : List (Box Content A)) (k : ℕ) → id_at (rows_from n (map (λ stanza. stanza.value) xs)) k ≡ option_map (λ (x : Box Content A). id_of x.value) (slice_get xs k)
+id_at_stanza n [] k = refl
+id_at_stanza n (x ∷ xs) zero = refl
+id_at_stanza n (x ∷ xs) (suc k) = id_at_stanza (suc n) xs k
+
+-- ---- places that stand in order already
+
+-- what a test of each place and the next one says
+pub in_order : (lt : ℕ → ℕ → Bool) (xs : List ℕ) (r : Bool) → IsAllAdjacentAnswer (λ x y b. b ≡ not (lt y x)) xs r → OnTrue r (IsSortedBy lt xs)
+in_order lt xs r h = grind arith

@@ -1,18 +1,228 @@
--- What an order of labels says of the rows, and how it changes with them.
-use Rattle.std.proofs.Common.{◌≡◌, ℕ, zero, suc, ◌+◌, ◌<◌, ◌≤◌, Bool, true, false, cond, nat_eq, List, [], ◌∷◌, ◌++◌, length, map, get_or, Option, None, Some, option_map, refl, ap, sym, ◌∙◌, arith}
-use Rattle.std.specs.List.{AllByRecursion, slice_get, insert, remove}
-use Rattle.std.specs.List.Sorted.{IsPartitionedBy, IsPartitionPoint}
+-- Pairs of serials and labels, in the order of the labels.
+use Rattle.std.proofs.Common.{◌≡◌, ℕ, zero, suc, ◌<◌, ◌≤◌, Bool, true, false, cond, List, [], ◌∷◌, ◌++◌, length, Option, None, Some, option_map, refl, ap, sym, subst, ◌∙◌, arith, ◌+◌, nat_eq, map, get_or}
+use Rattle.std.specs.List.{AllByRecursion, find, slice_get, insert, remove}
 use Rattle.std.specs.Cmp.{IsTotalOrder}
+use Rattle.std.specs.Ordering.{is_gt, is_lt, is_eq}
+use Rattle.std.specs.declared.cmp.Ordering.{Ordering}
+use Rattle.std.proofs.lemmas.Cmp.{upto}
+use Rattle.ctl_store.specs.Places.{place, has_serial, Rises, replace_at}
+use Rattle.ctl_store.specs.Sorted.{insert_in, sorted_in, below_in, labelled, order_in, place_in, IsRankedBy}
+use Rattle.ctl_store.proofs.PlaceLemmas.{some_is, eq_is, lt_ne, place_within, Rises-push, Rises-replace, Rises-remove}
+use Rattle.std.specs.List.Sorted.{IsPartitionedBy, IsPartitionPoint}
 use Rattle.std.specs.Map.{lookup}
 use Rattle.std.specs.Option.{option_map_or}
-use Rattle.std.specs.Ordering.{is_lt, is_eq}
-use Rattle.std.specs.declared.cmp.Ordering.{Ordering}
 use Rattle.std.specs.declared.cmp.Ordering.TheVariants.{Less}
 use Rattle.std.proofs.lemmas.Option.{slice_get-get_or}
-use Rattle.ctl_store.specs.Places.{place, has_serial, Rises, replace_at}
-use Rattle.ctl_store.specs.Sorted.{sorted_in, below_in, labelled, order_in, place_in, IsRankedBy}
-use Rattle.ctl_store.proofs.PlaceLemmas.{some_is, eq_is, lt_ne, place_within, Rises-push, Rises-replace, Rises-remove}
-use Rattle.ctl_store.proofs.SortedLemmas.{all_map, all_sorted, all_get, found, if_at, sorted-append, sorted-remove, place-find, place-find_none, find-place_none, before_lower, from_lower, lower_within}
+
+module _ {X : Type 0} {P Q : X → Type 0} where
+  pub all_map : ((x : X) → P x → Q x) → (xs : List X) → AllByRecursion P xs → AllByRecursion Q xs
+  all_map f [] h = tt
+  all_map f (x ∷ xs) h = (f x h.0, all_map f xs h.1)
+
+pub all_get : {X : Type 0} (P : X → Type 0) (xs : List X) (k : ℕ) (x : X) → AllByRecursion P xs → slice_get xs k ≡ Some x → P x
+all_get P [] k x h e = cc
+all_get P (y ∷ xs) zero x h e = subst P (some_is e) h.0
+all_get P (y ∷ xs) (suc k) x h e = all_get P xs k x h.1 e
+
+module _ {L : Type 0} (R : L → L → Ordering) where
+  abbrev pub g : L → L → Bool
+  g a b = is_gt (R a b)
+
+  abbrev is_at : L → ℕ × L → Bool
+  is_at q x = is_eq (R x.1 q)
+
+  abbrev pub IsInOrder : List (ℕ × L) → Type 0
+  IsInOrder [] = Unit {0}
+  IsInOrder (y ∷ ys) = AllByRecursion (λ z. g y.1 z.1 ≡ false) ys × IsInOrder ys
+
+  abbrev pub if_at : L → Option (ℕ × L) → Option (ℕ × L)
+  if_at q None = None
+  if_at q (Some x) = cond (is_eq (R x.1 q)) (Some x) None
+
+  abbrev put_upper : ℕ × L → List (ℕ × L) → List (ℕ × L)
+  put_upper r [] = r ∷ []
+  put_upper r (y ∷ ys) = cond (g y.1 r.1) (r ∷ y ∷ ys) (y ∷ put_upper r ys)
+
+  abbrev pub drop_first : L → List (ℕ × L) → List (ℕ × L)
+  drop_first q [] = []
+  drop_first q (x ∷ xs) = cond (is_eq (R x.1 q)) xs (x ∷ drop_first q xs)
+
+  length-insert_in : (x : ℕ × L) (ys : List (ℕ × L)) → length (insert_in R x ys) ≡ suc (length ys)
+  length-insert_in x [] = refl
+  length-insert_in x (y ∷ ys) = grind (arith, length-insert_in x ys)
+
+  pub length-sorted_in : (xs : List (ℕ × L)) → length (sorted_in R xs) ≡ length xs
+  length-sorted_in [] = refl
+  length-sorted_in (x ∷ xs) = length-insert_in x (sorted_in R xs) ∙ ap (λ k. suc k) (length-sorted_in xs)
+
+  module _ (total : IsTotalOrder R) where
+    asym : (a b : L) → g a b ≡ true → g b a ≡ false
+    asym a b e = grind (arith, total.antisymm a b)
+
+    pub lt_back : (a b : L) → is_lt (R a b) ≡ g b a
+    lt_back a b = grind (arith, total.antisymm a b)
+
+    pub up : (a b c : L) → g a b ≡ false → g b c ≡ false → g a c ≡ false
+    up a b c p q = upto total a b c p q
+
+    -- of two one is greater, or they are equal
+    eq_else : (a b : L) → g b a ≡ false → is_eq (R a b) ≡ false → g a b ≡ true
+    eq_else a b p q = grind arith
+
+    eq_not_lt : (a b : L) → is_eq (R a b) ≡ true → g b a ≡ false
+    eq_not_lt a b e = grind arith
+
+    -- ---- all of them
+
+    module _ (P : ℕ × L → Type 0) where
+      pub all_insert : (x : ℕ × L) (ys : List (ℕ × L)) → P x → AllByRecursion P ys → AllByRecursion P (insert_in R x ys)
+      all_insert x [] p h = (p, tt)
+      all_insert x (y ∷ ys) p h = grind (arith, all_insert x ys p h.1)
+
+      pub all_sorted : (xs : List (ℕ × L)) → AllByRecursion P xs → AllByRecursion P (sorted_in R xs)
+      all_sorted [] h = tt
+      all_sorted (x ∷ xs) h = all_insert x (sorted_in R xs) h.0 (all_sorted xs h.1)
+
+    -- ---- the order
+
+    in_order_insert : (x : ℕ × L) (ys : List (ℕ × L)) → IsInOrder ys → IsInOrder (insert_in R x ys)
+    in_order_insert x [] h = (tt, tt)
+    in_order_insert x (y ∷ ys) h = grind (arith, all_insert, asym, all_map, up, in_order_insert x ys h.1)
+
+    pub in_order : (xs : List (ℕ × L)) → IsInOrder (sorted_in R xs)
+    in_order [] = tt
+    in_order (x ∷ xs) = in_order_insert x (sorted_in R xs) (in_order xs)
+
+    -- ---- the first at a label
+
+    find-insert : (q : L) (x : ℕ × L) (ys : List (ℕ × L)) → find (is_at q) (insert_in R x ys) ≡ cond (is_at q x) (Some x) (find (is_at q) ys)
+    find-insert q x [] = refl
+    find-insert q x (y ∷ ys) = grind (arith, find-insert q x ys)
+
+    -- the first of the rows is the first of them in order
+    pub find-sorted : (q : L) (xs : List (ℕ × L)) → find (is_at q) (sorted_in R xs) ≡ find (is_at q) xs
+    find-sorted q [] = refl
+    find-sorted q (x ∷ xs) = find-insert q x (sorted_in R xs) ∙ ap (cond (is_at q x) (Some x)) (find-sorted q xs)
+
+    none_above : (q : L) (y : ℕ × L) (ys : List (ℕ × L)) → g y.1 q ≡ true → AllByRecursion (λ z. g y.1 z.1 ≡ false) ys → find (is_at q) ys ≡ None
+    none_above q y [] e h = refl
+    none_above q y (z ∷ ys) e h = grind (arith, none_above q y ys e h.1)
+
+    lower_not : (q : L) (y : ℕ × L) → is_lt (R y.1 q) ≡ true → is_at q y ≡ false
+    lower_not q y e = grind arith
+
+    -- it stands where halving leads, if anywhere
+    found_at_lower : (q : L) (ys : List (ℕ × L)) → IsInOrder ys → find (is_at q) ys ≡ if_at q (slice_get ys (below_in R q ys))
+    found_at_lower q [] h = refl
+    found_at_lower q (y ∷ ys) h = grind (arith, none_above, eq_else, lt_back, lower_not, found_at_lower q ys h.1)
+
+    pub found : (q : L) (xs : List (ℕ × L)) → find (is_at q) xs ≡ if_at q (slice_get (sorted_in R xs) (below_in R q (sorted_in R xs)))
+    found q xs = sym (find-sorted q xs) ∙ found_at_lower q (sorted_in R xs) (in_order xs)
+
+    -- ---- a last row
+
+    insert-put_upper : (x r : ℕ × L) (ys : List (ℕ × L)) → insert_in R x (put_upper r ys) ≡ put_upper r (insert_in R x ys)
+    insert-put_upper x r [] = refl
+    insert-put_upper x r (y ∷ ys) = grind (arith, insert-put_upper x r ys)
+
+    sorted-push : (xs : List (ℕ × L)) (r : ℕ × L) → sorted_in R (xs ++ r ∷ []) ≡ put_upper r (sorted_in R xs)
+    sorted-push [] r = refl
+    sorted-push (x ∷ xs) r = ap (insert_in R x) (sorted-push xs r) ∙ insert-put_upper x r (sorted_in R xs)
+
+    put_upper-insert : (r : ℕ × L) (ys : List (ℕ × L)) → find (is_at r.1) ys ≡ None → put_upper r ys ≡ insert ys (below_in R r.1 ys) r
+    put_upper-insert r [] e = refl
+    put_upper-insert r (y ∷ ys) e = grind (arith, put_upper-insert r ys)
+
+    -- where none has its label, a last row goes where halving leads
+    pub sorted-append : (xs : List (ℕ × L)) (r : ℕ × L) → find (is_at r.1) xs ≡ None → sorted_in R (xs ++ r ∷ []) ≡ insert (sorted_in R xs) (below_in R r.1 (sorted_in R xs)) r
+    sorted-append xs r e = sorted-push xs r ∙ put_upper-insert r (sorted_in R xs) (find-sorted r.1 xs ∙ e)
+
+    -- ---- a row that goes
+
+    head_insert : (r y : ℕ × L) (ys : List (ℕ × L)) → g r.1 y.1 ≡ false → AllByRecursion (λ z. g y.1 z.1 ≡ false) ys → insert_in R r ys ≡ r ∷ ys
+    head_insert r y [] e h = refl
+    head_insert r y (z ∷ ys) e h = ap (λ t. cond t (z ∷ insert_in R r ys) (r ∷ z ∷ ys)) (up r.1 y.1 z.1 e h.0)
+
+    -- the row itself is the first that goes
+    drop_first-insert_at : (q : L) (r : ℕ × L) (ys : List (ℕ × L)) → is_at q r ≡ true → drop_first q (insert_in R r ys) ≡ ys
+    drop_first-insert_at q r [] e = ap (λ t. cond t [] (r ∷ [])) e
+    drop_first-insert_at q r (y ∷ ys) e = grind (arith, drop_first-insert_at q r ys e)
+
+    drop_first-insert : (q : L) (r : ℕ × L) (ys : List (ℕ × L)) → IsInOrder ys → is_at q r ≡ false → drop_first q (insert_in R r ys) ≡ insert_in R r (drop_first q ys)
+    drop_first-insert q r [] h e = ap (λ t. cond t [] (r ∷ [])) e
+    drop_first-insert q r (y ∷ ys) h e = grind (arith, head_insert, drop_first-insert q r ys h.1 e)
+
+    sorted-drop_first : (q : L) (xs : List (ℕ × L)) → sorted_in R (drop_first q xs) ≡ drop_first q (sorted_in R xs)
+    sorted-drop_first q [] = refl
+    sorted-drop_first q (x ∷ xs) = grind (arith, drop_first-insert_at, drop_first-insert, in_order, sorted-drop_first q xs)
+
+    -- what goes stands where halving leads
+    drop_first-lower : (q : L) (y : ℕ × L) (ys : List (ℕ × L)) → IsInOrder ys → find (is_at q) ys ≡ Some y → drop_first q ys ≡ remove ys (below_in R q ys)
+    drop_first-lower q y [] h e = cc
+    drop_first-lower q y (x ∷ ys) h e = grind (arith, none_above, eq_else, lt_back, eq_not_lt, drop_first-lower q y ys h.1)
+
+    drop_first-place : (q : L) (xs : List (ℕ × L)) (i : ℕ) → place (λ x. is_eq (R x.1 q)) xs ≡ Some i → drop_first q xs ≡ remove xs i
+    drop_first-place q [] i e = cc
+    drop_first-place q (x ∷ xs) i e = grind (arith, drop_first-place q xs)
+
+    find-place : (q : L) (xs : List (ℕ × L)) (i : ℕ) → place (λ x. is_eq (R x.1 q)) xs ≡ Some i → (y : ℕ × L) × (find (is_at q) xs ≡ Some y)
+    find-place q [] i e = cc
+    find-place q (x ∷ xs) i e = by (is_at q x) (place (is_at q) xs) refl e (find-place q xs)
+      where
+        by : (b : Bool) (o : Option ℕ) → place (is_at q) xs ≡ o → cond b (Some 0) (option_map (λ n. suc n) o) ≡ Some i → ((j : ℕ) → place (is_at q) xs ≡ Some j → (y : ℕ × L) × (find (is_at q) xs ≡ Some y))
+            → (y : ℕ × L) × (cond b (Some x) (find (is_at q) xs) ≡ Some y)
+        by true o was e rec = (x, refl)
+        by false None was e rec = cc
+        by false (Some j) was e rec = rec j was
+
+    -- after a row at the first place of a label goes
+    pub sorted-remove : (q : L) (xs : List (ℕ × L)) (i : ℕ) → place (λ x. is_eq (R x.1 q)) xs ≡ Some i → sorted_in R (remove xs i) ≡ remove (sorted_in R xs) (below_in R q (sorted_in R xs))
+    sorted-remove q xs i e =
+        let f = find-place q xs i e in
+        sym (ap (sorted_in R) (drop_first-place q xs i e)) ∙ sorted-drop_first q xs ∙ drop_first-lower q f.0 (sorted_in R xs) (in_order xs) (find-sorted q xs ∙ f.1)
+
+    -- ---- places and serials
+
+    from_front : (q : L) (n : ℕ) (xs : List (ℕ × L)) (m : ℕ) (y : ℕ × L) → Rises n xs m → find (is_at q) xs ≡ Some y → n ≤ y.0
+    from_front q n [] m y h e = cc
+    from_front q n (x ∷ xs) m y h e = grind (arith, from_front q (suc x.0) xs m y h.1)
+
+    -- the place of the first is that of its serial
+    pub place-find : (q : L) (n : ℕ) (xs : List (ℕ × L)) (m : ℕ) (y : ℕ × L) → Rises n xs m → find (λ x. is_eq (R x.1 q)) xs ≡ Some y → place (λ x. is_eq (R x.1 q)) xs ≡ place (has_serial y.0) xs
+    place-find q n [] m y h e = refl
+    place-find q n (x ∷ xs) m y h e = grind (arith, eq_is, some_is, lt_ne, from_front, place-find q (suc x.0) xs m y h.1)
+
+    pub place-find_none : (q : L) (xs : List (ℕ × L)) → find (λ x. is_eq (R x.1 q)) xs ≡ None → place (λ x. is_eq (R x.1 q)) xs ≡ None
+    place-find_none q [] e = refl
+    place-find_none q (x ∷ xs) e = grind (arith, place-find_none q xs)
+
+    pub find-place_none : (q : L) (xs : List (ℕ × L)) → place (λ x. is_eq (R x.1 q)) xs ≡ None → find (λ x. is_eq (R x.1 q)) xs ≡ None
+    find-place_none q [] e = refl
+    find-place_none q (x ∷ xs) e = grind (arith, find-place_none q xs)
+
+    -- ---- what stands before the place where halving leads, and from it on
+
+    pub before_lower : (q : L) (ys : List (ℕ × L)) (k : ℕ) (y : ℕ × L) → k < below_in R q ys → slice_get ys k ≡ Some y → is_lt (R y.1 q) ≡ true
+    before_lower q [] k y l e = absurd (omega arith)
+    before_lower q (x ∷ ys) zero y l e = grind arith
+    before_lower q (x ∷ ys) (suc k) y l e = grind (arith, before_lower q ys k y)
+
+    below_next : (q : L) (x : ℕ × L) (ys : List (ℕ × L)) (k : ℕ) (y : ℕ × L) → is_lt (R x.1 q) ≡ false → AllByRecursion (λ z. g x.1 z.1 ≡ false) ys → slice_get ys k ≡ Some y → is_lt (R y.1 q) ≡ false
+    below_next q x ys k y w h e = lt_back y.1 q ∙ up q x.1 y.1 (sym (lt_back x.1 q) ∙ w) (all_get (λ z. g x.1 z.1 ≡ false) ys k y h e)
+
+    from_lower_in : (q : L) (ys : List (ℕ × L)) (k : ℕ) (y : ℕ × L) → IsInOrder ys → below_in R q ys ≤ k → slice_get ys k ≡ Some y → is_lt (R y.1 q) ≡ false
+    from_lower_in q [] k y h l e = cc
+    from_lower_in q (x ∷ ys) zero y h l e = grind arith
+    from_lower_in q (x ∷ ys) (suc k) y h l e = grind (arith, below_next, from_lower_in q ys k y h.1)
+
+    pub from_lower : (q : L) (xs : List (ℕ × L)) (k : ℕ) (y : ℕ × L) → below_in R q (sorted_in R xs) ≤ k → slice_get (sorted_in R xs) k ≡ Some y → is_lt (R y.1 q) ≡ false
+    from_lower q xs k y l e = from_lower_in q (sorted_in R xs) k y (in_order xs) l e
+
+    pub lower_within : (q : L) (ys : List (ℕ × L)) → below_in R q ys ≤ length ys
+    lower_within q [] = omega arith
+    lower_within q (y ∷ ys) = grind (arith, lower_within q ys)
+
+-- ---- what an order of labels says of the rows, and how it changes with them
 
 past_end : {X : Type 0} (xs : List X) (k : ℕ) → length xs ≤ k → slice_get xs k ≡ None
 past_end [] k l = refl

@@ -1,25 +1,119 @@
--- What every store keeps, after an edit.
-use Rattle.std.proofs.Common.{◌≡◌, ℕ, ◌+◌, ◌-◌, ◌^◌, ◌≤◌, Bool, List, [], ◌∷◌, ◌++◌, length, Option, None, Some, refl, ap, sym, subst, ◌∙◌, arith}
+-- Stanzas stay of their lists' kinds.
+use Rattle.std.proofs.Common.{◌≡◌, ◌∙◌, ℕ, zero, suc, Bool, true, false, cond, List, [], ◌∷◌, ◌++◌, Option, None, Some, Result, Ok, Err, set, refl, ap, sym, subst, arith, ◌+◌, ◌-◌, ◌^◌, ◌≤◌, length}
+use Rattle.std.specs.Option.{option_map_or}
+use Rattle.std.specs.List.{AllByRecursion, remove}
 use Rattle.ctl_stanza.specs.declared.list_kind.ListKind.{ListKind}
-use Rattle.ctl_stanza.specs.Content.{Content}
-use Rattle.ctl_store.specs.declared.limits.Limits.{Limits}
-use Rattle.ctl_store.specs.declared.list_class.ListClass.{ListClass}
+use Rattle.ctl_stanza.specs.declared.list_kind.ListKind.TheVariants.{Packages, Status}
+use Rattle.ctl_stanza.specs.Content.{Content, content_of}
 use Rattle.ctl_store.specs.Named.{at_name, without_name, change_named}
-use Rattle.ctl_store.specs.State.{StanzaList, stanza_count, count_of_kind, status_count}
+use Rattle.ctl_store.specs.State.{StanzaList, State, stanza_count, count_of_kind, status_count}
+use Rattle.ctl_store.specs.Edits.{Edit, AddList, DropList, Put, Remove, Mark, Unmark, Pin, Unpin, Target, Prefs}
+use Rattle.ctl_stanza.specs.declared.fault.TextFault.{TextFault}
+use Rattle.ctl_stanza.specs.Text.{Piece, piece_fault, piece_content, with_contents, or_fault, read_pieces, is_gap}
+use Rattle.ctl_store.specs.declared.limits.Limits.{Limits}
+use Rattle.ctl_store.specs.Step.{after, is_same_kind, new_list, put_stanza, refusal_of, remove_stanza, takes_kind, with_stanzas, BringsItsKind}
+use Rattle.ctl_store.specs.Kinds.{AreOfKind, KeepKinds}
+use Rattle.ctl_store.proofs.AcceptLemmas.{put_takes, count-push, count-without, count-change, status_count-push, status_count-without, status_count-change}
+use Rattle.ctl_store.specs.declared.list_class.ListClass.{ListClass}
 use Rattle.ctl_store.specs.Rows.{Rises, rows_from}
 use Rattle.ctl_store.specs.Keys.{KeyedList, stanza_list, stanza_lists, list_of_stanzas}
 use Rattle.ctl_ordered.specs.Ordered.{Held as Ordered, entries, next_put, without_serials}
 use Rattle.std.specs.Map.{lookup}
-use Rattle.std.specs.Option.{option_map_or}
 use Rattle.indexmap.specs.IndexMap.{insert_entry}
-use Rattle.ctl_store.specs.Held.{Sheet, lists_of, InOrder, AreNumbered, IsSound}
+use Rattle.ctl_store.specs.Held.{HeldList, lists_of, InOrder, AreNumbered, IsSound}
 use Rattle.ctl_store.proofs.PlaceLemmas.{Rises-rows_from}
-use Rattle.ctl_store.proofs.ListedLemmas.{InOrder-weaken, in_order_push, in_order_without, in_order_change, Changes}
-use Rattle.ctl_store.proofs.StepLemmas.{new_lists, without_lists, change_lists}
-use Rattle.ctl_store.proofs.AcceptLemmas.{count-push, count-without, count-change}
-use Rattle.ctl_store.specs.Kinds.{AreOfKind, KeepKinds}
-use Rattle.ctl_store.proofs.KindLemmas.{Keeps, all_last, change_kinds, without_kinds}
-use Rattle.ctl_store.proofs.StatusLemmas.{status_count-push, status_count-without, status_count-change}
+use Rattle.ctl_store.proofs.ListedLemmas.{InOrder-weaken, in_order_push, in_order_without, in_order_change, Changes, new_lists, without_lists, change_lists}
+
+module _ {X : Type 0} (P : X → Type 0) where
+  pub all_last : (xs : List X) (x : X) → AllByRecursion P xs → P x → AllByRecursion P (xs ++ x ∷ [])
+  all_last [] x h p = (p, tt)
+  all_last (y ∷ ys) x h p = (h.0, all_last ys x h.1 p)
+
+  all_set : (xs : List X) (i : ℕ) (x : X) → AllByRecursion P xs → P x → AllByRecursion P (set xs i x)
+  all_set [] zero x h p = h
+  all_set [] (suc i) x h p = h
+  all_set (y ∷ ys) zero x h p = (p, h.1)
+  all_set (y ∷ ys) (suc i) x h p = (h.0, all_set ys i x h.1 p)
+
+  all_removed : (xs : List X) (i : ℕ) → AllByRecursion P xs → AllByRecursion P (remove xs i)
+  all_removed [] zero h = h
+  all_removed [] (suc i) h = h
+  all_removed (y ∷ ys) zero h = h.1
+  all_removed (y ∷ ys) (suc i) h = (h.0, all_removed ys i h.1)
+
+put_kind : (kind : ListKind) (x : Content) (xs : List Content) → x.kind ≡ kind → AreOfKind kind xs → AreOfKind kind (put_stanza x xs)
+put_kind kind x xs e h = grind (arith, all_last, all_set)
+
+removed_kind : (kind : ListKind) (name : List ℕ) (version : Option (List ℕ)) (xs : List Content) → AreOfKind kind xs → AreOfKind kind (remove_stanza name version xs)
+removed_kind kind name version xs h = grind (arith, all_removed)
+
+pub without_kinds : (name : List ℕ) (ls : List (List ℕ × StanzaList)) → KeepKinds ls → KeepKinds (without_name name ls)
+without_kinds name [] h = h
+without_kinds name (l ∷ ls) h = grind (arith, without_kinds name ls h.1)
+
+-- a list that is changed keeps its kind, where the change does
+abbrev pub Keeps : (StanzaList → StanzaList) → Option StanzaList → Type 0
+Keeps f o = (l : StanzaList) → o ≡ Some l → AreOfKind l.kind l.stanzas → AreOfKind (f l).kind (f l).stanzas
+
+pub change_kinds : (name : List ℕ) (f : StanzaList → StanzaList) (ls : List (List ℕ × StanzaList)) → Keeps f (at_name name ls) → KeepKinds ls → KeepKinds (change_named name f ls)
+change_kinds name f [] g h = h
+change_kinds name f (l ∷ ls) g h = grind (arith, change_kinds name f ls)
+
+-- ---- an accepted edit
+
+same_kind : (a b : ListKind) → is_same_kind a b ≡ true → a ≡ b
+same_kind Packages Packages e = refl
+same_kind Packages Status e = cc
+same_kind Status Packages e = cc
+same_kind Status Status e = refl
+
+takes_same : (kind : ListKind) (name : List ℕ) (ls : List (List ℕ × StanzaList)) → takes_kind kind name ls ≡ true → (l : StanzaList) → at_name name ls ≡ Some l → kind ≡ l.kind
+takes_same kind name ls t l at = same_kind kind l.kind (sym (ap (λ o. option_map_or (λ (l : StanzaList). is_same_kind kind l.kind) o false) at) ∙ t)
+
+pub put_keeps : (limits : Limits) (s : State) (list : List ℕ) (x : Content) → refusal_of limits s (Put list x) ≡ None → Keeps (with_stanzas (put_stanza x)) (at_name list s.lists)
+put_keeps limits s list x e = λ l at h. put_kind l.kind x l.stanzas (takes_same x.kind list s.lists (put_takes limits s list x e) l at) h
+
+pub remove_keeps : (name : List ℕ) (version : Option (List ℕ)) (o : Option StanzaList) → Keeps (with_stanzas (remove_stanza name version)) o
+remove_keeps name version o = λ l at h. removed_kind l.kind name version l.stanzas h
+
+-- ---- the stanzas of a text
+
+all_with : (kind : ListKind) (xs ys : List Content) → AreOfKind kind xs → AreOfKind kind ys → AreOfKind kind (xs ++ ys)
+all_with kind [] ys h k = k
+all_with kind (x ∷ xs) ys h k = (h.0, all_with kind xs ys h.1 k)
+
+piece_kind : (kind : ListKind) (lines : List (List ℕ)) → AreOfKind kind (piece_content kind lines)
+piece_kind kind lines = by (is_gap lines)
+  where
+    by : (b : Bool) → AreOfKind kind (cond b [] (content_of kind lines ∷ []))
+    by true = tt
+    by false = (refl, tt)
+
+pub pieces_kind : (kind : ListKind) (pieces : List Piece) (xs : List Content) → read_pieces kind pieces ≡ Ok xs → AreOfKind kind xs
+pieces_kind kind [] xs e = subst (AreOfKind kind) (let same : [] ≡ xs = cc e in same) tt
+pieces_kind kind (first ∷ others) xs e = by (piece_fault kind first) (read_pieces kind others) (pieces_kind kind others) e
+  where
+    by : (fault : Option TextFault) (read : Result (List Content) TextFault) → ((ys : List Content) → read ≡ Ok ys → AreOfKind kind ys)
+        → or_fault fault (with_contents (piece_content kind first.lines) read) ≡ Ok xs → AreOfKind kind xs
+    by None (Ok ys) each e = subst (AreOfKind kind) (let same : piece_content kind first.lines ++ ys ≡ xs = cc e in same) (all_with kind (piece_content kind first.lines) ys (piece_kind kind first.lines) (each ys refl))
+    by None (Err why) each e = cc
+    by (Some why) read each e = cc
+
+pub kinds_stay : (s : State) (edit : Edit) → KeepKinds s.lists → BringsItsKind s edit → KeepKinds (after s edit).lists
+kinds_stay s (AddList name kind class stanzas) h b =
+    all_last (λ (l : List ℕ × StanzaList). AreOfKind l.1.kind l.1.stanzas) s.lists (name, new_list kind class stanzas) h b
+kinds_stay s (DropList name) h b = without_kinds name s.lists h
+kinds_stay s (Put list x) h b = grind (arith, change_kinds, put_kind)
+kinds_stay s (Remove list name version) h b =
+    change_kinds list (with_stanzas (remove_stanza name (Some version))) s.lists (λ l i k. removed_kind l.kind name (Some version) l.stanzas k) h
+kinds_stay s (Mark name version) h b = h
+kinds_stay s (Unmark name) h b = h
+kinds_stay s (Pin selector priority) h b = h
+kinds_stay s (Unpin selector) h b = h
+kinds_stay s (Target name) h b = h
+kinds_stay s (Prefs pins) h b = h
+
+-- ---- what every store keeps, after an edit
 
 -- a key that is set takes one serial at most
 pub next_most : {K V : Type 0} (old : Option V) (held : Ordered K V) → next_put old held ≤ held.next + 1
@@ -38,8 +132,8 @@ next_is (Some x) held many count m e = omega (arith, m, e)
 pub put_fresh : {K X : Type 0} (eq : K → K → Bool) (k : K) (v : X) (held : Ordered K X) → held.next ≡ length (entries held) → next_put (lookup (eq k) (entries held)) held ≡ length (insert_entry eq (entries held) k v)
 put_fresh eq k v held e = next_is (lookup (eq k) (entries held)) held (length (insert_entry eq (entries held) k v)) (length (entries held)) (inserted eq k v (entries held)) e
 
-module _ {rows : List (ℕ × (List ℕ × Sheet))} {given next statuses stanzas edits : ℕ} {limits : Limits} {marks pins : ℕ} (sound : IsSound rows given next statuses stanzas edits limits marks pins) where
-  abbrev lists : List (List ℕ × Sheet)
+module _ {rows : List (ℕ × (List ℕ × HeldList))} {given next statuses stanzas edits : ℕ} {limits : Limits} {marks pins : ℕ} (sound : IsSound rows given next statuses stanzas edits limits marks pins) where
+  abbrev lists : List (List ℕ × HeldList)
   lists = without_serials rows
 
   one_more : (ls : List (List ℕ × KeyedList)) (n : ℕ) → InOrder 0 ls n ((limits.stanzas + edits) + 1) → InOrder 0 ls n (limits.stanzas + (edits + 1))
@@ -62,7 +156,7 @@ module _ {rows : List (ℕ × (List ℕ × Sheet))} {given next statuses stanzas
     edits_bounded = sound.edits_bounded;
   }
 
-  pub sound_add : (new : List (ℕ × (List ℕ × Sheet))) (name : List ℕ) (kind : ListKind) (class : ListClass) (xs : List Content) → AreOfKind kind xs → AreNumbered new
+  pub sound_add : (new : List (ℕ × (List ℕ × HeldList))) (name : List ℕ) (kind : ListKind) (class : ListClass) (xs : List Content) → AreOfKind kind xs → AreNumbered new
       → lists_of (without_serials new) ≡ lists_of lists ++ (name, list_of_stanzas next kind class xs) ∷ []
       → stanzas + length xs ≤ limits.stanzas → IsSound new (given + 1) (next + 1) (statuses + count_of_kind kind) (stanzas + length xs) (edits + 1) limits marks pins
   sound_add new name kind class xs each numbered e within = record {
@@ -80,7 +174,7 @@ module _ {rows : List (ℕ × (List ℕ × Sheet))} {given next statuses stanzas
     edits_bounded = sound.edits_bounded;
   }
 
-  pub sound_drop : (new : List (ℕ × (List ℕ × Sheet))) (name : List ℕ) (l : StanzaList) → AreNumbered new → lists_of (without_serials new) ≡ without_name name (lists_of lists)
+  pub sound_drop : (new : List (ℕ × (List ℕ × HeldList))) (name : List ℕ) (l : StanzaList) → AreNumbered new → lists_of (without_serials new) ≡ without_name name (lists_of lists)
       → at_name name (stanza_lists (lists_of lists)) ≡ Some l → IsSound new given next (statuses - count_of_kind l.kind) (stanzas - length l.stanzas) (edits + 1) limits marks pins
   sound_drop new name l numbered e at = record {
     numbered = numbered;
@@ -97,7 +191,7 @@ module _ {rows : List (ℕ × (List ℕ × Sheet))} {given next statuses stanzas
     edits_bounded = sound.edits_bounded;
   }
 
-  pub sound_change : (new : List (ℕ × (List ℕ × Sheet))) (name : List ℕ) (l : StanzaList) (f : KeyedList → KeyedList) (h : StanzaList → StanzaList) (after : ℕ) → Changes f → ((k : StanzaList) → (h k).kind ≡ k.kind) → ((k : KeyedList) → stanza_list (f k) ≡ h (stanza_list k)) → Keeps h (at_name name (stanza_lists (lists_of lists)))
+  pub sound_change : (new : List (ℕ × (List ℕ × HeldList))) (name : List ℕ) (l : StanzaList) (f : KeyedList → KeyedList) (h : StanzaList → StanzaList) (after : ℕ) → Changes f → ((k : StanzaList) → (h k).kind ≡ k.kind) → ((k : KeyedList) → stanza_list (f k) ≡ h (stanza_list k)) → Keeps h (at_name name (stanza_lists (lists_of lists)))
       → AreNumbered new → lists_of (without_serials new) ≡ change_named name f (lists_of lists) → at_name name (stanza_lists (lists_of lists)) ≡ Some l → after + length l.stanzas ≡ stanzas + length (h l).stanzas → after ≤ limits.stanzas → IsSound new given next statuses after (edits + 1) limits marks pins
   sound_change new name l f h after changes kinds same keeps numbered e at count within = record {
     numbered = numbered;

@@ -21,7 +21,7 @@ use Rattle.ctl_store.specs.Keys.{KeyedList, Keyed, stanza_lists, removed_of, add
 use Rattle.ctl_store.specs.Followed.{coming_under}
 
 -- a list with the pieces that are ready for its rows, and the room in the one that is ready for its order
-pub record Sheet : Type 0 where
+pub record HeldList : Type 0 where
   pub serial : ℕ
   pub kind : ListKind
   pub class : ListClass
@@ -31,7 +31,7 @@ pub record Sheet : Type 0 where
   pub order_room : ℕ
 
 pub record Held : Type 0 where
-  pub lists : List (List ℕ × Sheet)
+  pub lists : List (List ℕ × HeldList)
   pub lists_room : ℕ
   pub marks : List (List ℕ × Option (List ℕ))
   pub marks_room : ℕ
@@ -44,11 +44,11 @@ pub record Held : Type 0 where
 
 -- ---- without the rooms
 
-abbrev pub keyed_list : Sheet → KeyedList
+abbrev pub keyed_list : HeldList → KeyedList
 keyed_list s = record { serial = s.serial; kind = s.kind; class = s.class; next = s.next; rows = s.rows }
 
-abbrev pub lists_of : List (List ℕ × Sheet) → List (List ℕ × KeyedList)
-lists_of es = map (λ (e : List ℕ × Sheet). (e.0, keyed_list e.1)) es
+abbrev pub lists_of : List (List ℕ × HeldList) → List (List ℕ × KeyedList)
+lists_of es = map (λ (e : List ℕ × HeldList). (e.0, keyed_list e.1)) es
 
 -- the lists with the serial numbers in them
 abbrev pub keyed_of : Held → Keyed
@@ -66,7 +66,7 @@ state_of h =
     }
 
 -- the list of a serial, with its name
-abbrev pub entry_of : ℕ → List (List ℕ × Sheet) → Option (List ℕ × Sheet)
+abbrev pub entry_of : ℕ → List (List ℕ × HeldList) → Option (List ℕ × HeldList)
 entry_of serial [] = None
 entry_of serial (e ∷ es) = if nat_eq e.1.serial serial then Some e else entry_of serial es
 
@@ -79,10 +79,10 @@ InOrder n [] m e = n ≤ m
 InOrder n (l ∷ ls) m e = (n ≤ l.1.serial) × (l.1.next ≤ e) × Rises 0 l.1.rows l.1.next × InOrder (suc l.1.serial) ls m e
 
 -- each list stands under its own serial
-abbrev pub AreNumbered : List (ℕ × (List ℕ × Sheet)) → Type 0
-AreNumbered rows = AllByRecursion (λ (row : ℕ × (List ℕ × Sheet)). row.0 ≡ row.1.1.serial) rows
+abbrev pub AreNumbered : List (ℕ × (List ℕ × HeldList)) → Type 0
+AreNumbered rows = AllByRecursion (λ (row : ℕ × (List ℕ × HeldList)). row.0 ≡ row.1.1.serial) rows
 
-pub record IsSound (rows : List (ℕ × (List ℕ × Sheet))) (next next_list statuses stanzas edits : ℕ) (limits : Limits) (next_mark next_pin : ℕ) : Type 0 where
+pub record IsSound (rows : List (ℕ × (List ℕ × HeldList))) (next next_list statuses stanzas edits : ℕ) (limits : Limits) (next_mark next_pin : ℕ) : Type 0 where
   pub numbered : AreNumbered rows
   pub next_is : next ≡ next_list
   pub order : InOrder 0 (lists_of (without_serials rows)) next_list (limits.stanzas + edits)
@@ -98,7 +98,7 @@ pub record IsSound (rows : List (ℕ × (List ℕ × Sheet))) (next next_list st
   pub edits_bounded : limits.edits ≤ most
 
 -- what every list keeps: its rows and their order, each in pieces
-pub record IsShelved {A B : Type 0} (rows ready : Pieces (ℕ × Content) A B) (next : ℕ) (order spare : Pieces ℕ A B) : Type 0 where
+pub record IsHeldList {A B : Type 0} (rows ready : Pieces (ℕ × Content) A B) (next : ℕ) (order spare : Pieces ℕ A B) : Type 0 where
   pub kept : IsKept (joined rows.items) next (joined order.items)
   pub rows_fit : IsFit rows ready
   pub order_fit : IsFit order spare
@@ -153,7 +153,7 @@ pub record IsWhole (added : List StanzaKey) (edit : Edit) : Type 0 where
   pub among : (k : StanzaKey) → coming_among edit added k ≡ coming_under added edit k
 
 -- there is room for one stanza more in a list
-pub record HasRoomInList (s : Sheet) : Type 0 where
+pub record HasRoomInList (s : HeldList) : Type 0 where
   pub row : 0 < s.room
   pub order : min most_in_piece (length s.rows + 1) ≤ s.order_room
 

@@ -1,6 +1,6 @@
 -- Lists that are made.
 use Rattle.std.specs.Prelude.{ℕ, List, map}
-use Rattle.ctl_store.specs.declared.shelf.NewList.{NewList}
+use Rattle.ctl_store.specs.declared.held_list.NewList.{NewList}
 use Rattle.ctl_store.specs.Edits.{Edit, AddList}
 
 -- the edit that adds a list

@@ -3,6 +3,7 @@
 
 mod edit;
 mod fronts;
+mod held_list;
 mod label;
 mod laws;
 mod limits;
@@ -23,7 +24,6 @@ mod refusal;
 mod rows;
 mod selector;
 mod selector_order;
-mod shelf;
 mod stanza_key;
 mod store;
 mod words;

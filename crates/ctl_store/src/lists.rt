@@ -10,7 +10,7 @@ ghost use Rattle.ctl_store.specs.Keys.{put_keyed, remove_keyed};
 ghost use Rattle.ctl_store.specs.HeldKeys.{key_in};
 ghost use Rattle.ctl_store.specs.Held.{lists_of, entry_of, AreNumbered, HasRoomInList};
 
-use crate::shelf::Shelf;
+use crate::held_list::HeldList;
 use crate::stanza_key::StanzaKey;
 use ctl_ordered::Ordered;
 use ctl_relation::{Bytes, Version};
@@ -18,7 +18,7 @@ use ctl_stanza::Stanza;
 use std::alloc::{AllocError, Global};
 
 /// The list of a serial, with its name.
-pub(crate) fn entry_of(lists: &Ordered<Bytes, Shelf>, serial: u32) -> Option<(&[u8], &Shelf)>
+pub(crate) fn entry_of(lists: &Ordered<Bytes, HeldList>, serial: u32) -> Option<(&[u8], &HeldList)>
     requires { AreNumbered lists.now.rows }
     ensures { option_map (λ e. (e.0.now, e.1.now)) result ≡ entry_of serial (entries lists.now) }
 {
@@ -30,7 +30,7 @@ pub(crate) fn entry_of(lists: &Ordered<Bytes, Shelf>, serial: u32) -> Option<(&[
 
 /// The key of the first stanza of a name and an equal version in a list. The list's next look-up begins where it stands.
 pub(crate) fn find_in(
-    lists: &mut Ordered<Bytes, Shelf>,
+    lists: &mut Ordered<Bytes, HeldList>,
     list: &Bytes,
     name: &[u8],
     version: Option<&Version>,
@@ -42,14 +42,14 @@ pub(crate) fn find_in(
         (at_name list.now (entries lists.old)) false }
 {
     match lists.get_mut(list) {
-        Some(shelf) => shelf.find_key(name, version),
+        Some(listed) => listed.find_key(name, version),
         None => None,
     }
 }
 
 /// Makes room for one stanza more in a list.
 pub(crate) fn reserve_in(
-    lists: &mut Ordered<Bytes, Shelf>,
+    lists: &mut Ordered<Bytes, HeldList>,
     alloc: Global,
     list: &Bytes,
 ) -> Result<(), AllocError>
@@ -59,13 +59,13 @@ pub(crate) fn reserve_in(
     ensures next { lists.new.next ≡ lists.old.next }
 {
     match lists.get_mut(list) {
-        Some(shelf) => shelf.reserve_one(alloc),
+        Some(listed) => listed.reserve_one(alloc),
         None => Ok(()),
     }
 }
 
 /// Puts a stanza into a list, in the room that [`reserve_in`] made.
-pub(crate) fn put_in(lists: &mut Ordered<Bytes, Shelf>, list: &Bytes, stanza: Box<Stanza>)
+pub(crate) fn put_in(lists: &mut Ordered<Bytes, HeldList>, list: &Bytes, stanza: Box<Stanza>)
     requires room { IfSome (at_name list.now (entries lists.old)) HasRoomInList }
     requires below { IfSome (at_name list.now (entries lists.old)) (λ s. s.next + 1 < 2 ^ 64) }
     ensures lists { lists_of (entries lists.new) ≡ change_named list.now (put_keyed stanza.value) (lists_of (entries lists.old)) }
@@ -73,14 +73,14 @@ pub(crate) fn put_in(lists: &mut Ordered<Bytes, Shelf>, list: &Bytes, stanza: Bo
     ensures next { lists.new.next ≡ lists.old.next }
 {
     match lists.get_mut(list) {
-        Some(shelf) => shelf.put(stanza),
+        Some(listed) => listed.put(stanza),
         None => {}
     }
 }
 
 /// Takes the first stanza of a name and an equal version out of a list.
 pub(crate) fn remove_in(
-    lists: &mut Ordered<Bytes, Shelf>,
+    lists: &mut Ordered<Bytes, HeldList>,
     list: &Bytes,
     name: &[u8],
     version: &Version,
@@ -91,7 +91,7 @@ pub(crate) fn remove_in(
     ensures next { lists.new.next ≡ lists.old.next }
 {
     match lists.get_mut(list) {
-        Some(shelf) => shelf.remove(name, Some(version)),
+        Some(listed) => listed.remove(name, Some(version)),
         None => {}
     }
 }

@@ -17,18 +17,12 @@ fn label_of(serial: u64, selector: &Selector) -> Label<'_>
     ensures { result ≡ own_label serial selector.now }
 {
     let (name, form) = match selector {
-        Selector::Version {
-            package,
-            version: _,
-        } => (package.as_slice(), 1),
+        Selector::Version { package, .. } => (package.as_slice(), 1),
         Selector::Release {
             package: Some(package),
-            list: _,
+            ..
         } => (package.as_slice(), 1),
-        Selector::Release {
-            package: None,
-            list: _,
-        } => (&[] as &[u8], 0),
+        Selector::Release { package: None, .. } => (&[] as &[u8], 0),
     };
     Label {
         name,
@@ -113,17 +107,11 @@ fn is_of(name: &[u8], selector: &Selector) -> bool
     ensures { result ≡ is_of name.now selector.now }
 {
     match selector {
-        Selector::Version {
-            package,
-            version: _,
-        } => package.as_slice() == name,
+        Selector::Version { package, .. } => package.as_slice() == name,
         Selector::Release {
             package: Some(package),
-            list: _,
+            ..
         } => package.as_slice() == name,
-        Selector::Release {
-            package: None,
-            list: _,
-        } => false,
+        Selector::Release { package: None, .. } => false,
     }
 }

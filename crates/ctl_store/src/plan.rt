@@ -7,7 +7,7 @@ ghost use Rattle.ctl_store.specs.Followed.{coming_under};
 ghost use Rattle.ctl_store.specs.Held.{coming_among};
 
 use crate::edit::Edit;
-use crate::shelf::ListRoom;
+use crate::held_list::ListRoom;
 use crate::stanza_key::StanzaKey;
 use ctl_stanza::Stanza;
 use std::marker::Model;
@@ -86,7 +86,7 @@ fn found_from(edit: &Edit, first: StanzaKey, key: StanzaKey) -> Option<&Stanza>
         return None;
     }
     match edit {
-        Edit::Put { list: _, stanza: _ } if first.stanza != key.stanza => None,
+        Edit::Put { .. } if first.stanza != key.stanza => None,
         _ => coming(edit, key),
     }
 }
@@ -100,7 +100,7 @@ fn coming(edit: &Edit, key: StanzaKey) -> Option<&Stanza>
             Some(stanza) => Some(stanza),
             None => None,
         },
-        Edit::Put { list: _, stanza } => Some(stanza),
+        Edit::Put { stanza, .. } => Some(stanza),
         _ => None,
     }
 }

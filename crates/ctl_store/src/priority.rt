@@ -4,7 +4,7 @@ ghost use Rattle.std.specs.Prelude.{◌≡◌, ◌≤◌};
 ghost use Rattle.ctl_store.specs.Priority.{number_up_to, priority_of};
 
 // The number of one or more digits, where it is not 0 and not above the greatest.
-#[tactic(auto, using(crate::proofs::PriorityLemmas::one_digit))]
+#[tactic(auto, using(crate::proofs::PrefsLemmas::one_digit))]
 fn number_up_to(greatest: u32, digits: &[u8]) -> Option<u32>
     requires { greatest ≤ 32768 }
     ensures { result ≡ number_up_to greatest digits.now }

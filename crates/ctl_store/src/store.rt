@@ -13,9 +13,9 @@ mod package_pins;
 mod preparing;
 mod views;
 
+use crate::held_list::HeldList;
 use crate::limits::Limits;
 use crate::pin_table::PinTable;
-use crate::shelf::Shelf;
 use ctl_ordered::Ordered;
 use ctl_relation::{Bytes, Version};
 pub(crate) use entries::ListEntries;
@@ -30,7 +30,7 @@ pub use views::{Lists, Pins};
 #[derive(Drop)]
 pub struct Store {
     alloc: Global,
-    lists: Ordered<Bytes, Shelf>,
+    lists: Ordered<Bytes, HeldList>,
     marks: Ordered<Bytes, Option<Version>>,
     pins: PinTable,
     target: Option<Bytes>,

@@ -28,7 +28,7 @@ fn word_len(text: &[u8]) -> usize
 }
 
 /// The first word of a text, and what stands behind it; None where it has no word.
-#[tactic(auto, using(crate::proofs::WordLemmas::word_first, crate::proofs::WordLemmas::word_less, crate::proofs::WordLemmas::no_word))]
+#[tactic(auto, using(crate::proofs::PrefsLemmas::word_first, crate::proofs::PrefsLemmas::word_less, crate::proofs::PrefsLemmas::no_word))]
 pub(crate) fn take_word(text: &[u8]) -> Option<(&[u8], &[u8])>
     ensures word { IfSome result (λ cut. words_of text.now ≡ cut.0.now ∷ words_of cut.1.now) }
     ensures less { IfSome result (λ cut. length cut.1.now < length text.now) }

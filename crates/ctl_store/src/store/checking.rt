@@ -69,7 +69,7 @@ impl Store {
         ensures { result ≡ takes_kind kind list.now (state_of self.now).lists }
     {
         match self.lists.get(list) {
-            Some(shelf) => is_same_kind(kind, shelf.kind()),
+            Some(listed) => is_same_kind(kind, listed.kind()),
             None => false,
         }
     }
@@ -80,7 +80,7 @@ impl Store {
         ensures { result ≡ option_map_or (λ l. count_of_kind l.kind) (at_name list.now (state_of self.now).lists) 0 }
     {
         match self.lists.get(list) {
-            Some(shelf) => one_if_status(shelf.kind()),
+            Some(listed) => one_if_status(listed.kind()),
             None => 0,
         }
     }
@@ -92,7 +92,7 @@ impl Store {
         ensures there { is_some result ≡ has_stanza list.now name.now (option_copied version.entry) (state_of self.now).lists }
     {
         match self.lists.get(list) {
-            Some(shelf) => shelf.found_key(name, version),
+            Some(listed) => listed.found_key(name, version),
             None => None,
         }
     }
@@ -142,7 +142,7 @@ impl Store {
         }
     }
 
-    #[tactic(auto, using(crate::proofs::NamedLemmas::get_at_name))]
+    #[tactic(auto, using(crate::proofs::ListedLemmas::get_at_name))]
     fn has_mark(&self, name: &Bytes) -> bool
         ensures { result ≡ is_some (fin.get (state_of self.now).marks name.now) }
     {
@@ -169,16 +169,8 @@ impl Store {
             Edit::Put { list, stanza } if !self.takes_kind(stanza.kind(), list) => {
                 Some(Refusal::NoList)
             }
-            Edit::Remove {
-                list,
-                package: _,
-                version: _,
-            } if !self.has_list(list) => Some(Refusal::NoList),
-            Edit::Remove {
-                list: _,
-                package: _,
-                version: _,
-            } if !there => Some(Refusal::NoStanza),
+            Edit::Remove { list, .. } if !self.has_list(list) => Some(Refusal::NoList),
+            Edit::Remove { .. } if !there => Some(Refusal::NoStanza),
             Edit::Unmark { package } if !self.has_mark(package) => Some(Refusal::NoMark),
             Edit::Unpin { selector } if !self.has_pin(selector) => Some(Refusal::NoPin),
             _ => None,
@@ -192,7 +184,7 @@ impl Store {
     {
         match edit {
             Edit::AddList { stanzas, .. } => stanzas.as_slice().len(),
-            Edit::Put { list: _, stanza: _ } => { if there { 0 } else { 1 } }
+            Edit::Put { .. } => { if there { 0 } else { 1 } }
             _ => 0,
         }
     }

@@ -14,11 +14,11 @@ ghost use Rattle.ctl_store.specs.NewLists.{adding};
 ghost use Rattle.ctl_store.specs.Held.{state_of, keyed_of, IsReady, HasRoom, HasRoomInList, Fits};
 
 use crate::edit::Edit;
+use crate::held_list::{HeldList, ListRoom, NewList};
 use crate::lists::{put_in, remove_in};
 use crate::pin_settings::PinSettings;
 use crate::plan::Plan;
 use crate::selector::{PinSetting, Selector};
-use crate::shelf::{ListRoom, NewList, Shelf};
 use crate::stanza_key::StanzaKey;
 use crate::store::Store;
 use crate::store::checking::one_if_status;
@@ -58,18 +58,18 @@ impl Store {
         let Plan {
             edit,
             removed,
-            added: _,
-            list_room,
+            mut list_room,
+            ..
         } = plan;
         let _limits = self.limits;
-        self.make(edit, removed.len(), list_room);
+        self.make(edit, removed.len(), &mut list_room);
     }
 
     // Makes an edit by which so many keys go, and for which this is ready: room for a list, and for pins.
-    fn make(&mut self, edit: Edit, gone: usize, list_room: ListRoom)
+    fn make(&mut self, edit: Edit, gone: usize, list_room: &mut ListRoom)
         requires accepted { refusal_of self.old.limits (state_of self.old) (edit_of edit) ≡ None }
         requires gone { gone ≡ length (removed_of (keyed_of self.old) (edit_of edit)) }
-        requires room { HasRoom self.old list_room (edit_of edit) }
+        requires room { HasRoom self.old list_room.old (edit_of edit) }
         ensures state { state_of self.new ≡ after (state_of self.old) (edit_of edit) }
         ensures keyed { keyed_of self.new ≡ keyed_after (keyed_of self.old) (edit_of edit) }
         ensures limits { self.new.limits ≡ self.old.limits }
@@ -80,7 +80,7 @@ impl Store {
                 class,
                 stanzas,
             } => {
-                let room = list_room;
+                let room = list_room.take(self.alloc);
                 let (kind, stanzas) = stanzas.into_parts();
                 self.add_list(
                     name,
@@ -120,8 +120,8 @@ impl Store {
         let _limits = self.limits;
         let count = list.stanzas.len() as u32;
         let kind = list.kind;
-        let shelf = Shelf::new(self.next_list, list);
-        self.lists.put(name, shelf);
+        let listed = HeldList::new(self.next_list, list);
+        self.lists.put(name, listed);
         self.next_list += 1;
         self.stanzas += count;
         self.statuses += one_if_status(kind);

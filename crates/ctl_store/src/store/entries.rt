@@ -5,8 +5,8 @@ ghost use Rattle.ctl_store.specs.HeldPieces.{joined, ArePieces};
 ghost use Rattle.ctl_store.specs.Entries.{rows_under, entries_of, entry_keys};
 ghost use Rattle.ctl_store.specs.Held.{lists_of};
 
+use crate::held_list::HeldList;
 use crate::rows::Row;
-use crate::shelf::Shelf;
 use crate::stanza_key::StanzaKey;
 use ctl_relation::Bytes;
 use ctl_stanza::Stanza;
@@ -77,7 +77,7 @@ impl<'a> Iterator for ListEntries<'a> {
 pub struct Entries<'a> {
     // What is left of a list, and the lists after it.
     entries: ListEntries<'a>,
-    lists: ctl_ordered::Entries<'a, Bytes, Shelf>,
+    lists: ctl_ordered::Entries<'a, Bytes, HeldList>,
 }
 
 impl<'a> Model for Entries<'a> {
@@ -92,7 +92,7 @@ impl<'a> Model for Entries<'a> {
 
 impl<'a> Entries<'a> {
     /// Those of these lists.
-    pub(super) fn new(lists: ctl_ordered::Entries<'a, Bytes, Shelf>) -> Entries<'a>
+    pub(super) fn new(lists: ctl_ordered::Entries<'a, Bytes, HeldList>) -> Entries<'a>
         ensures { result ≡ entries_of (lists_of lists.entry) }
     {
         Entries {
@@ -105,7 +105,7 @@ impl<'a> Entries<'a> {
 // Takes the first stanza of some lists. What is left of its list takes the place of no stanzas.
 fn take_first<'a>(
     entries: &mut ListEntries<'a>,
-    lists: &mut ctl_ordered::Entries<'a, Bytes, Shelf>,
+    lists: &mut ctl_ordered::Entries<'a, Bytes, HeldList>,
 ) -> Option<(StanzaKey, &'a Stanza)>
     requires { entries.old ≡ [] }
     ensures some { IfSome result (λ e. entries_of (lists_of lists.old)

@@ -14,10 +14,10 @@ ghost use Rattle.ctl_store.specs.Given.{IsGivenOnce};
 ghost use Rattle.ctl_store.specs.Held.{state_of, keyed_of, HasRoom, IsReady, IsReadyFor, HasRoomIn};
 
 use crate::edit::Edit;
+use crate::held_list::ListRoom;
 use crate::lists::reserve_in;
 use crate::plan::Plan;
 use crate::refusal::Refusal;
-use crate::shelf::ListRoom;
 use crate::stanza_key::StanzaKey;
 use crate::store::Store;
 use ctl_relation::Bytes;
@@ -70,9 +70,9 @@ impl Store {
         ensures { option_to_list result ≡ next_in list.now (keyed_of self.now).lists }
     {
         match self.lists.get(list) {
-            Some(shelf) => Some(StanzaKey {
-                list: shelf.serial(),
-                stanza: shelf.next(),
+            Some(listed) => Some(StanzaKey {
+                list: listed.serial(),
+                stanza: listed.next(),
             }),
             None => None,
         }
@@ -94,7 +94,7 @@ impl Store {
         ensures { IfOk result (λ v. v.items ≡ all_in list.now (keyed_of self.now).lists) }
     {
         match self.lists.get(list) {
-            Some(shelf) => shelf.keys().collect(self.alloc),
+            Some(listed) => listed.keys().collect(self.alloc),
             None => Ok(Vec::new(self.alloc)),
         }
     }

@@ -15,12 +15,12 @@ ghost use Rattle.ctl_store.specs.Entries.{entry_keys, entries_of, AreAt};
 ghost use Rattle.ctl_store.specs.Held.{state_of, keyed_of, lists_of};
 ghost use Rattle.ctl_store.specs.declared.limits.Counts.{Counts};
 
+use crate::held_list::HeldList;
 use crate::limits::{Counts, Limits};
 use crate::list_class::ListClass;
 use crate::lists::entry_of;
 use crate::name::Name;
 use crate::selector::Selector;
-use crate::shelf::Shelf;
 use crate::stanza_key::StanzaKey;
 use crate::store::{Entries, Keys, ListEntries, PackagePins, Store};
 use ctl_relation::{Bytes, Version};
@@ -30,7 +30,7 @@ use std::marker::Model;
 /// The lists of a store, by [`Store::lists`]: their names, kinds and classes, in order.
 #[derive(Drop)]
 pub struct Lists<'a> {
-    entries: ctl_ordered::Entries<'a, Bytes, Shelf>,
+    entries: ctl_ordered::Entries<'a, Bytes, HeldList>,
 }
 
 impl<'a> Model for Lists<'a> {
@@ -116,7 +116,7 @@ impl Store {
         ensures { result ≡ option_map (λ l. l.kind) (at_name list.now (state_of self.now).lists) }
     {
         match self.lists.get(Name { bytes: list }) {
-            Some(shelf) => Some(shelf.kind()),
+            Some(listed) => Some(listed.kind()),
             None => None,
         }
     }
@@ -127,7 +127,7 @@ impl Store {
         ensures { result ≡ option_map (λ l. (l.kind, l.class)) (at_name name.now (state_of self.now).lists) }
     {
         match self.lists.get(Name { bytes: name }) {
-            Some(shelf) => Some((shelf.kind(), shelf.class())),
+            Some(listed) => Some((listed.kind(), listed.class())),
             None => None,
         }
     }
@@ -138,7 +138,7 @@ impl Store {
         ensures { result ≡ option_map (λ l. l.serial) (at_name list.now (keyed_of self.now).lists) }
     {
         match self.lists.get(Name { bytes: list }) {
-            Some(shelf) => Some(shelf.serial()),
+            Some(listed) => Some(listed.serial()),
             None => None,
         }
     }
@@ -175,7 +175,7 @@ impl Store {
             ≡ map Some (stanzas_named list.now (state_of self.now).lists) }
     {
         match self.lists.get(Name { bytes: list }) {
-            Some(shelf) => shelf.keys(),
+            Some(listed) => listed.keys(),
             None => Keys::of_list(ListEntries::new(0, &[])),
         }
     }
@@ -185,11 +185,8 @@ impl Store {
         requires { IsSome (stanza_at key (keyed_of self.now).lists) }
         ensures { Some result.now ≡ stanza_at key (keyed_of self.now).lists }
     {
-        match entry_of(&self.lists, key.list) {
-            Some((_, shelf)) => match shelf.stanza(key.stanza) {
-                Some(stanza) => stanza,
-                None => unreachable!(),
-            },
+        match self.find(key) {
+            Some(stanza) => stanza,
             None => unreachable!(),
         }
     }
@@ -200,8 +197,20 @@ impl Store {
         ensures entry { option_copied result ≡ under key (entries_of (keyed_of self.now).lists) }
     {
         match entry_of(&self.lists, key.list) {
-            Some((_, shelf)) => shelf.stanza(key.stanza),
+            Some((_, listed)) => listed.stanza(key.stanza),
             None => None,
+        }
+    }
+
+    // The name and the kind of the list of a key, which is one of the store.
+    fn holder(&self, key: StanzaKey) -> (&[u8], ListKind)
+        requires { IsSome (stanza_at key (keyed_of self.now).lists) }
+        ensures name { Some result.0.now ≡ holder_of key (keyed_of self.now).lists }
+        ensures kind { Some result.1 ≡ option_map (λ x. x.kind) (stanza_at key (keyed_of self.now).lists) }
+    {
+        match entry_of(&self.lists, key.list) {
+            Some((name, listed)) => (name, listed.kind()),
+            None => unreachable!(),
         }
     }
 
@@ -210,10 +219,7 @@ impl Store {
         requires { IsSome (stanza_at key (keyed_of self.now).lists) }
         ensures { Some result.now ≡ holder_of key (keyed_of self.now).lists }
     {
-        match entry_of(&self.lists, key.list) {
-            Some((name, _)) => name,
-            None => unreachable!(),
-        }
+        self.holder(key).0
     }
 
     /// The kind of the list of a key, which is one of the store. It is that of its stanza, which isn't looked at.
@@ -221,14 +227,11 @@ impl Store {
         requires { IsSome (stanza_at key (keyed_of self.now).lists) }
         ensures { Some result ≡ option_map (λ x. x.kind) (stanza_at key (keyed_of self.now).lists) }
     {
-        match entry_of(&self.lists, key.list) {
-            Some((_, shelf)) => shelf.kind(),
-            None => unreachable!(),
-        }
+        self.holder(key).1
     }
 
     /// The mark of a package: a version, or none; or no mark.
-    #[tactic(auto, using(crate::proofs::NamedLemmas::get_at_name))]
+    #[tactic(auto, using(crate::proofs::ListedLemmas::get_at_name))]
     pub fn mark(&self, name: &[u8]) -> Option<Option<&Version>>
         ensures { option_map (λ mark. option_copied mark) result ≡ fin.get (state_of self.now).marks name.now }
     {

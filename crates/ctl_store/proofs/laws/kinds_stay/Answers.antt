@@ -1,4 +1,4 @@
-use Rattle.ctl_store.proofs.KindLemmas.{kinds_stay}
+use Rattle.ctl_store.proofs.SoundLemmas.{kinds_stay}
 use Rattle.ctl_store.proofs.laws.kinds_stay.Goals as goal
 
 pub returns : goal.returns

@@ -1,6 +1,6 @@
 use Rattle.std.proofs.Common.{◌∙◌, Some, ap, nat_eq}
 use Rattle.std.specs.Map.{lookup}
-use Rattle.ctl_store.proofs.NumberedLemmas.{entry_is}
+use Rattle.ctl_store.proofs.ListedLemmas.{entry_is}
 use Rattle.ctl_store.proofs.lists.entry_of.Goals as goal
 
 pub returns-in-Some : goal.returns-in-Some

@@ -3,9 +3,8 @@ use Rattle.std.specs.Str.{bytes_eq}
 use Rattle.ctl_ordered.specs.Ordered.{entries}
 use Rattle.ctl_ordered.proofs.SlotLemmas.{from_lent}
 use Rattle.ctl_store.specs.Keys.{put_keyed}
-use Rattle.ctl_store.specs.Held.{Sheet, lists_of, AreNumbered, HasRoomInList}
-use Rattle.ctl_store.proofs.ListedLemmas.{set_named-change, change_named-none}
-use Rattle.ctl_store.proofs.NumberedLemmas.{numbered_set}
+use Rattle.ctl_store.specs.Held.{HeldList, lists_of, AreNumbered, HasRoomInList}
+use Rattle.ctl_store.proofs.ListedLemmas.{set_named-change, change_named-none, numbered_set}
 use Rattle.ctl_store.proofs.lists.put_in.Goals as goal
 
 pub put-requires : goal.put-requires
@@ -15,7 +14,7 @@ put-requires c =
     record {
       room = room.row;
       order = room.order;
-      below = subst (λ o. IfSome o (λ (s : Sheet). s.next + 1 < 18446744073709551616)) at c.requires.below;
+      below = subst (λ o. IfSome o (λ (s : HeldList). s.next + 1 < 18446744073709551616)) at c.requires.below;
     }
 
 pub returns-in-Some : goal.returns-in-Some
@@ -23,7 +22,7 @@ returns-in-Some c =
     let at = c.in-Some.ensures.value in
     let old = c.args.lists.now in
     let list = c.args.list.now in
-    let v = c.in-Some.shelf.now in
+    let v = c.in-Some.listed.now in
     let w = c.put.new.self in
     let has = from_lent c.get_mut.result v (c.get_mut.ensures.value ∙ sym at) (c.get_mut.follows.holds w) in
     record {

@@ -4,8 +4,7 @@ use Rattle.ctl_ordered.specs.Ordered.{entries}
 use Rattle.ctl_ordered.proofs.SlotLemmas.{from_lent}
 use Rattle.ctl_store.specs.Keys.{remove_keyed}
 use Rattle.ctl_store.specs.Held.{lists_of, AreNumbered}
-use Rattle.ctl_store.proofs.ListedLemmas.{set_named-change, change_named-none}
-use Rattle.ctl_store.proofs.NumberedLemmas.{numbered_set}
+use Rattle.ctl_store.proofs.ListedLemmas.{set_named-change, change_named-none, numbered_set}
 use Rattle.ctl_store.proofs.lists.remove_in.Goals as goal
 
 pub returns-in-Some : goal.returns-in-Some
@@ -13,7 +12,7 @@ returns-in-Some c =
     let at = c.in-Some.ensures.value in
     let old = c.args.lists.now in
     let list = c.args.list.now in
-    let v = c.in-Some.shelf.now in
+    let v = c.in-Some.listed.now in
     let w = c.remove.new.self in
     let has = from_lent c.get_mut.result v (c.get_mut.ensures.value ∙ sym at) (c.get_mut.follows.holds w) in
     record {

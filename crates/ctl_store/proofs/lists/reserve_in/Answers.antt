@@ -5,9 +5,7 @@ use Rattle.ctl_ordered.proofs.SlotLemmas.{from_lent}
 use Rattle.ctl_store.specs.Named.{at_name}
 use Rattle.ctl_store.specs.Keys.{KeyedList}
 use Rattle.ctl_store.specs.Held.{lists_of, AreNumbered, HasRoomInList}
-use Rattle.ctl_store.proofs.NamedLemmas.{at_name-set_named}
-use Rattle.ctl_store.proofs.ListedLemmas.{set_named-same, on_ok_map}
-use Rattle.ctl_store.proofs.NumberedLemmas.{numbered_set}
+use Rattle.ctl_store.proofs.ListedLemmas.{at_name-set_named, set_named-same, on_ok_map, numbered_set}
 use Rattle.ctl_store.proofs.lists.reserve_in.Goals as goal
 
 pub returns-in-Some : goal.returns-in-Some
@@ -15,7 +13,7 @@ returns-in-Some c =
     let at = c.in-Some.ensures.value in
     let old = c.args.lists.now in
     let list = c.args.list.now in
-    let v = c.in-Some.shelf.now in
+    let v = c.in-Some.listed.now in
     let w = c.reserve_one.new.self in
     let has = from_lent c.get_mut.result v (c.get_mut.ensures.value ∙ sym at) (c.get_mut.follows.holds w) in
     let found = ap (at_name list) has.entries ∙ at_name-set_named list v w (entries old) at in

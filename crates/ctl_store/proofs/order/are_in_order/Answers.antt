@@ -2,7 +2,7 @@ use Rattle.std.proofs.Common.{rules, of_calls, not, map}
 use Rattle.std.proofs.lemmas.Fn.{always_returns_same}
 use Rattle.std.specs.Ordering.{is_lt}
 use Rattle.ctl_store.specs.Rows.{place_cmp, rows_from}
-use Rattle.ctl_store.proofs.SortLemmas.{in_order}
+use Rattle.ctl_store.proofs.OrderLemmas.{in_order}
 use Rattle.ctl_store.proofs.order.are_in_order.Goals as goal
 
 pub returns : goal.returns

@@ -5,8 +5,7 @@ use Rattle.std.specs.Option.{option_cmp}
 use Rattle.std.specs.Ordering.{is_ne}
 use Rattle.ctl_stanza.specs.Content.{Content}
 use Rattle.ctl_store.specs.Rows.{id_of, id_cmp}
-use Rattle.ctl_store.proofs.FrontLemmas.{fronts_tell_at}
-use Rattle.ctl_store.proofs.SortLemmas.{id_at_stanza}
+use Rattle.ctl_store.proofs.OrderLemmas.{fronts_tell_at, id_at_stanza}
 use Rattle.ctl_store.proofs.order.compare_by_fronts.Goals as goal
 
 pub returns-then-is_ne : goal.returns-then-is_ne

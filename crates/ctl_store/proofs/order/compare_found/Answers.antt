@@ -2,7 +2,7 @@ use Rattle.std.proofs.Common.{◌∙◌, ap, option_copied}
 use Rattle.std.specs.Ordering.{nat_cmp}
 use Rattle.std.specs.Cmp.Lexicographic.{slice_cmp}
 use Rattle.ctl_store.specs.Rows.{id_cmp, id_of}
-use Rattle.ctl_store.proofs.FrontLemmas.{front_tells}
+use Rattle.ctl_store.proofs.OrderLemmas.{front_tells}
 use Rattle.ctl_store.proofs.order.compare_found.Goals as goal
 
 pub returns-in-Equal : goal.returns-in-Equal

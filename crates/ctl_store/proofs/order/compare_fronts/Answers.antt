@@ -1,5 +1,5 @@
 use Rattle.std.proofs.Common.{sym, ◌∙◌, arith}
-use Rattle.ctl_store.proofs.FrontLemmas.{bytes_tell, bytes_pass, none_left}
+use Rattle.ctl_store.proofs.OrderLemmas.{bytes_tell, bytes_pass, none_left}
 use Rattle.ctl_store.proofs.order.compare_fronts.Goals as goal
 
 pub returns-then-is_ne : goal.returns-then-is_ne

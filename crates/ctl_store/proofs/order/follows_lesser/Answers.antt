@@ -3,8 +3,7 @@ use Rattle.std.specs.Ordering.{is_lt}
 use Rattle.ctl_store.specs.Rows.{order_at}
 use Rattle.ctl_store.specs.HeldPieces.{joined, last_passes, stands_at, place_of_spot}
 use Rattle.ctl_store.proofs.PiecesLemmas.{length_read, piece_read, spot_within}
-use Rattle.ctl_store.proofs.PointLemmas.{get_joined, last_is}
-use Rattle.ctl_store.proofs.NearLemmas.{told, last_before}
+use Rattle.ctl_store.proofs.PointLemmas.{get_joined, last_is, told, last_before}
 use Rattle.ctl_store.proofs.order.follows_lesser.Goals as goal
 
 pub offset_bounds-order-spot : goal.offset_bounds-order-spot

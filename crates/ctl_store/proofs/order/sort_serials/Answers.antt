@@ -4,7 +4,7 @@ use Rattle.std.proofs.lemmas.List.Sorted.{ranks_by, IsPermutation-refl}
 use Rattle.std.specs.List.Sorted.{IsSortedBy}
 use Rattle.std.specs.Ordering.{is_lt}
 use Rattle.ctl_store.specs.Rows.{place_cmp, rows_from}
-use Rattle.ctl_store.proofs.SortLemmas.{sorted_is, place_ranks}
+use Rattle.ctl_store.proofs.OrderLemmas.{sorted_is, place_ranks}
 use Rattle.ctl_store.proofs.order.sort_serials.Goals as goal
 
 pub returns-then-are_in_order : goal.returns-then-are_in_order

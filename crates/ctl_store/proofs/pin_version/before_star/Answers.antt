@@ -1,7 +1,7 @@
 use Rattle.std.proofs.Common.{◌≡◌, ℕ, None, Some, ◌∙◌, ap, sym, cond, nat_eq, true, false, arith}
 use Rattle.std.proofs.lemmas.Bool.Decides.{nat_tests}
 use Rattle.ctl_store.specs.PinVersions.{before_star}
-use Rattle.ctl_store.proofs.StarLemmas.{before_star-last}
+use Rattle.ctl_store.proofs.PrefsLemmas.{before_star-last}
 use Rattle.ctl_store.proofs.pin_version.before_star.Goals as goal
 
 same : (b : ℕ) → b ≡ 42 → nat_eq b 42 ≡ true

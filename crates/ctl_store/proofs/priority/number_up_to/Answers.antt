@@ -1,5 +1,5 @@
 use Rattle.std.proofs.Common.{◌∙◌, ap, sym, arith}
-use Rattle.ctl_store.proofs.PriorityLemmas.{number_behind, one_too_great}
+use Rattle.ctl_store.proofs.PrefsLemmas.{number_behind, one_too_great}
 use Rattle.ctl_store.proofs.priority.number_up_to.Goals as goal
 
 pub returns-then-number-greatest : goal.returns-then-number-greatest

@@ -1,5 +1,5 @@
 use Rattle.std.proofs.Common.{◌≡◌, ◌≤◌, length}
-use Rattle.ctl_store.proofs.PriorityLemmas.{number_behind}
+use Rattle.ctl_store.proofs.PrefsLemmas.{number_behind}
 use Rattle.ctl_store.proofs.priority.number_up_to.Given as goal
 
 abbrev pub invariant-loop-byte : goal.invariant-loop-byte

@@ -1,6 +1,6 @@
 use Rattle.std.proofs.Common.{◌∙◌, ap}
 use Rattle.ctl_store.specs.Pins.{own_settings}
-use Rattle.ctl_store.proofs.OwnRunLemmas.{own_found}
+use Rattle.ctl_store.proofs.OwnLemmas.{own_found}
 use Rattle.ctl_store.proofs.pin_table.PinTable.of.Goals as goal
 
 pub returns : goal.returns

@@ -5,7 +5,7 @@ use Rattle.ctl_ordered.specs.Ordered.{entries, rows_put, next_put}
 use Rattle.ctl_store.specs.Pins.{selector_eq}
 use Rattle.ctl_store.specs.HeldRanks.{IsRanked, labels_of, sorted_labels, labels_below}
 use Rattle.ctl_store.specs.HeldPins.{own_label, own_row}
-use Rattle.ctl_store.proofs.OwnOrderLemmas.{own_set, own_push, value_there, value_nowhere}
+use Rattle.ctl_store.proofs.OwnLemmas.{own_set, own_push, value_there, value_nowhere}
 use Rattle.ctl_store.proofs.SoundLemmas.{next_most, put_fresh}
 use Rattle.ctl_store.proofs.pin_table.PinTable.put.Goals.{in-Some, in-None+in-Ok}
 use Rattle.ctl_store.proofs.pin_table.PinTable.put.Goals as goal

@@ -4,7 +4,7 @@ use Rattle.ctl_ordered.proofs.QueueLemmas.{taken}
 use Rattle.ctl_store.specs.Pins.{selector_eq}
 use Rattle.ctl_store.specs.HeldRanks.{IsRanked}
 use Rattle.ctl_store.specs.HeldPins.{own_row}
-use Rattle.ctl_store.proofs.OwnOrderLemmas.{own_within, own_cut, own_none}
+use Rattle.ctl_store.proofs.OwnLemmas.{own_within, own_cut, own_none}
 use Rattle.ctl_store.proofs.pin_table.PinTable.remove.Goals.{in-Some, in-None}
 use Rattle.ctl_store.proofs.pin_table.PinTable.remove.Goals as goal
 

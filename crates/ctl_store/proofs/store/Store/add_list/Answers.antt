@@ -9,13 +9,9 @@ use Rattle.ctl_store.specs.Edits.{AddList}
 use Rattle.ctl_store.specs.Step.{after}
 use Rattle.ctl_store.specs.Keys.{KeyedList, stanza_lists, list_of_stanzas, keyed_after}
 use Rattle.ctl_store.specs.Held.{lists_of, keyed_list, state_of, keyed_of, AreNumbered, IsSound}
-use Rattle.ctl_store.proofs.NamedLemmas.{none_is}
-use Rattle.ctl_store.proofs.ListedLemmas.{has_name_lists, lists_put_new}
-use Rattle.ctl_store.proofs.NumberedLemmas.{numbered_last}
-use Rattle.ctl_store.proofs.StepLemmas.{new_lists}
+use Rattle.ctl_store.proofs.ListedLemmas.{none_is, has_name_lists, lists_put_new, numbered_last, new_lists}
 use Rattle.ctl_store.proofs.SoundLemmas.{sound_add}
-use Rattle.ctl_store.proofs.StatusLemmas.{add_statuses}
-use Rattle.ctl_store.proofs.FoundLemmas.{add_new, add_fits, new_among}
+use Rattle.ctl_store.proofs.AcceptLemmas.{add_statuses, add_new, add_fits, new_among}
 use Rattle.ctl_store.proofs.store.Store.add_list.Goals as goal
 
 same_length : {X Y : Type 0} (f : X → Y) (xs : List X) → length (map f xs) ≡ length xs
@@ -45,12 +41,12 @@ invariant_of-self c =
     let h = c.args.self.now in
     let xs = map (λ stanza. stanza.value) c.args.list.stanzas.items in
     let long : length xs ≡ c.len-count.result = omega (arith, same_length (λ stanza. stanza.value) c.args.list.stanzas.items, c.len-count.ensures) in
-    let shelf : keyed_list c.new-shelf.result ≡ list_of_stanzas s.next_list c.args.list.kind c.args.list.class xs = λ j. record { serial = c.new-shelf.ensures.serial j; kind = c.new-shelf.ensures.kind j; class = c.new-shelf.ensures.class j; next = (c.new-shelf.ensures.next ∙ sym c.len-count.ensures ∙ sym long) j; rows = c.new-shelf.ensures.rows j } in
+    let listed : keyed_list c.new-listed.result ≡ list_of_stanzas s.next_list c.args.list.kind c.args.list.class xs = λ j. record { serial = c.new-listed.ensures.serial j; kind = c.new-listed.ensures.kind j; class = c.new-listed.ensures.class j; next = (c.new-listed.ensures.next ∙ sym c.len-count.ensures ∙ sym long) j; rows = c.new-listed.ensures.rows j } in
     let new = new_among c.args.name (ordered.entries s.lists) (ap (λ h. has_name c.args.name (state_of h).lists) c.self.view_is ∙ add_new h.limits (state_of h) c.args.name c.args.list.kind c.args.list.class xs c.requires.accepted) in
-    let lists = ap lists_of c.put.ensures.entries ∙ lists_put_new c.args.name c.new-shelf.result (ordered.entries s.lists) new ∙ ap (λ (l : KeyedList). lists_of (ordered.entries s.lists) ++ (c.args.name, l) ∷ []) shelf in
+    let lists = ap lists_of c.put.ensures.entries ∙ lists_put_new c.args.name c.new-listed.result (ordered.entries s.lists) new ∙ ap (λ (l : KeyedList). lists_of (ordered.entries s.lists) ++ (c.args.name, l) ∷ []) listed in
     let none = none_is (at_name c.args.name (ordered.entries s.lists)) (sym (has_name_lists c.args.name (ordered.entries s.lists)) ∙ new) in
-    let rows = c.put.ensures.rows ∙ ap (λ o. rows_put o (bytes_eq c.args.name) s.lists c.args.name c.new-shelf.result) none in
-    let numbered = subst AreNumbered (sym rows) (numbered_last s.lists.next (c.args.name, c.new-shelf.result) s.lists.rows (c.self.invariant.next_is ∙ sym c.new-shelf.ensures.serial) c.self.invariant.numbered) in
+    let rows = c.put.ensures.rows ∙ ap (λ o. rows_put o (bytes_eq c.args.name) s.lists c.args.name c.new-listed.result) none in
+    let numbered = subst AreNumbered (sym rows) (numbered_last s.lists.next (c.args.name, c.new-listed.result) s.lists.rows (c.self.invariant.next_is ∙ sym c.new-listed.ensures.serial) c.self.invariant.numbered) in
     let held = ap (λ h. stanza_count (state_of h).lists) c.self.view_is in
     let most = ap (λ h. h.limits.stanzas) c.self.view_is in
     subst (λ k. IsSound c.put.new.self.rows c.put.new.self.next (s.next_list + 1) (s.statuses + k) (s.stanzas + c.len-count.result) (s.edits + 1) s.limits s.marks.next s.pins.next) (sym c.one_if_status.ensures)
@@ -65,9 +61,9 @@ returns-clause-state c =
     let h = c.args.self.now in
     let xs = map (λ stanza. stanza.value) c.args.list.stanzas.items in
     let long : length xs ≡ c.len-count.result = omega (arith, same_length (λ stanza. stanza.value) c.args.list.stanzas.items, c.len-count.ensures) in
-    let shelf : keyed_list c.new-shelf.result ≡ list_of_stanzas s.next_list c.args.list.kind c.args.list.class xs = λ j. record { serial = c.new-shelf.ensures.serial j; kind = c.new-shelf.ensures.kind j; class = c.new-shelf.ensures.class j; next = (c.new-shelf.ensures.next ∙ sym c.len-count.ensures ∙ sym long) j; rows = c.new-shelf.ensures.rows j } in
+    let listed : keyed_list c.new-listed.result ≡ list_of_stanzas s.next_list c.args.list.kind c.args.list.class xs = λ j. record { serial = c.new-listed.ensures.serial j; kind = c.new-listed.ensures.kind j; class = c.new-listed.ensures.class j; next = (c.new-listed.ensures.next ∙ sym c.len-count.ensures ∙ sym long) j; rows = c.new-listed.ensures.rows j } in
     let new = new_among c.args.name (ordered.entries s.lists) (ap (λ h. has_name c.args.name (state_of h).lists) c.self.view_is ∙ add_new h.limits (state_of h) c.args.name c.args.list.kind c.args.list.class xs c.requires.accepted) in
-    let lists = ap lists_of c.put.ensures.entries ∙ lists_put_new c.args.name c.new-shelf.result (ordered.entries s.lists) new ∙ ap (λ (l : KeyedList). lists_of (ordered.entries s.lists) ++ (c.args.name, l) ∷ []) shelf in
+    let lists = ap lists_of c.put.ensures.entries ∙ lists_put_new c.args.name c.new-listed.result (ordered.entries s.lists) new ∙ ap (λ (l : KeyedList). lists_of (ordered.entries s.lists) ++ (c.args.name, l) ∷ []) listed in
     (λ j. record { lists = (ap stanza_lists lists ∙ new_lists (lists_of (ordered.entries s.lists)) c.args.name s.next_list c.args.list.kind c.args.list.class xs) j; marks = fin.from_entries (ordered.entries s.marks); pins = s.pins.pins; target = s.target; edits = s.edits + 1 })
     ∙ ap (λ h. after (state_of h) (AddList c.args.name c.args.list.kind c.args.list.class xs)) c.self.view_is
 
@@ -77,8 +73,8 @@ returns-clause-keyed c =
     let h = c.args.self.now in
     let xs = map (λ stanza. stanza.value) c.args.list.stanzas.items in
     let long : length xs ≡ c.len-count.result = omega (arith, same_length (λ stanza. stanza.value) c.args.list.stanzas.items, c.len-count.ensures) in
-    let shelf : keyed_list c.new-shelf.result ≡ list_of_stanzas s.next_list c.args.list.kind c.args.list.class xs = λ j. record { serial = c.new-shelf.ensures.serial j; kind = c.new-shelf.ensures.kind j; class = c.new-shelf.ensures.class j; next = (c.new-shelf.ensures.next ∙ sym c.len-count.ensures ∙ sym long) j; rows = c.new-shelf.ensures.rows j } in
+    let listed : keyed_list c.new-listed.result ≡ list_of_stanzas s.next_list c.args.list.kind c.args.list.class xs = λ j. record { serial = c.new-listed.ensures.serial j; kind = c.new-listed.ensures.kind j; class = c.new-listed.ensures.class j; next = (c.new-listed.ensures.next ∙ sym c.len-count.ensures ∙ sym long) j; rows = c.new-listed.ensures.rows j } in
     let new = new_among c.args.name (ordered.entries s.lists) (ap (λ h. has_name c.args.name (state_of h).lists) c.self.view_is ∙ add_new h.limits (state_of h) c.args.name c.args.list.kind c.args.list.class xs c.requires.accepted) in
-    let lists = ap lists_of c.put.ensures.entries ∙ lists_put_new c.args.name c.new-shelf.result (ordered.entries s.lists) new ∙ ap (λ (l : KeyedList). lists_of (ordered.entries s.lists) ++ (c.args.name, l) ∷ []) shelf in
+    let lists = ap lists_of c.put.ensures.entries ∙ lists_put_new c.args.name c.new-listed.result (ordered.entries s.lists) new ∙ ap (λ (l : KeyedList). lists_of (ordered.entries s.lists) ++ (c.args.name, l) ∷ []) listed in
     (λ j. record { lists = lists j; next_list = s.next_list + 1 })
     ∙ ap (λ h. keyed_after (keyed_of h) (AddList c.args.name c.args.list.kind c.args.list.class xs)) c.self.view_is

@@ -5,10 +5,10 @@ use Rattle.ctl_store.specs.Keys.{Keyed, keyed_after, removed_of, IsNotAmong, sta
 use Rattle.ctl_store.specs.Entries.{IsChange}
 use Rattle.ctl_store.specs.Given.{IsGivenOnce}
 use Rattle.ctl_store.specs.Held.{state_of, keyed_of, lists_of, HasRoom, InOrder}
-use Rattle.ctl_store.proofs.StepLemmas.{stays_law}
+use Rattle.ctl_store.proofs.ListedLemmas.{stays_law}
 use Rattle.ctl_store.proofs.ChangeLemmas.{come_law, gone_law, not_added}
 use Rattle.ctl_store.proofs.EntryLemmas.{change_law}
-use Rattle.ctl_store.proofs.GivenLemmas.{given_law}
+use Rattle.ctl_store.proofs.FollowedLemmas.{given_law}
 use Rattle.ctl_store.proofs.store.Store.commit.Goals as goal
 
 pub make-requires : goal.make-requires

@@ -9,12 +9,9 @@ use Rattle.ctl_store.specs.Edits.{DropList}
 use Rattle.ctl_store.specs.Step.{after}
 use Rattle.ctl_store.specs.Keys.{stanza_lists, keyed_after}
 use Rattle.ctl_store.specs.Held.{lists_of, state_of, keyed_of, AreNumbered, IsSound}
-use Rattle.ctl_store.proofs.ListedLemmas.{lists_without}
-use Rattle.ctl_store.proofs.NumberedLemmas.{numbered_cut}
-use Rattle.ctl_store.proofs.StepLemmas.{without_lists}
+use Rattle.ctl_store.proofs.ListedLemmas.{lists_without, numbered_cut, without_lists}
 use Rattle.ctl_store.proofs.SoundLemmas.{sound_drop}
-use Rattle.ctl_store.proofs.StatusLemmas.{kind_below}
-use Rattle.ctl_store.proofs.FoundLemmas.{drop_found, count_below, keys_count}
+use Rattle.ctl_store.proofs.AcceptLemmas.{kind_below, drop_found, count_below, keys_count}
 use Rattle.ctl_store.proofs.store.Store.drop_list.Goals as goal
 
 kind_is : (s : State) (name : List ℕ) (l : StanzaList) (count : ℕ) → count ≡ option_map_or (λ (l : StanzaList). count_of_kind l.kind) (at_name name s.lists) 0 → at_name name s.lists ≡ Some l → count ≡ count_of_kind l.kind

@@ -3,7 +3,7 @@ use Rattle.ctl_ordered.specs.Ordered as ordered
 use Rattle.ctl_store.specs.Step.{has_status}
 use Rattle.ctl_store.specs.Keys.{stanza_lists}
 use Rattle.ctl_store.specs.Held.{lists_of}
-use Rattle.ctl_store.proofs.StatusLemmas.{has_status-counted}
+use Rattle.ctl_store.proofs.AcceptLemmas.{has_status-counted}
 use Rattle.ctl_store.proofs.store.Store.has_status.Goals as goal
 
 pub returns : goal.returns

@@ -4,7 +4,7 @@ use Rattle.ctl_store.specs.State.{stanza_count}
 use Rattle.ctl_store.specs.Edits.{edit_of}
 use Rattle.ctl_store.specs.Step.{count_coming}
 use Rattle.ctl_store.specs.Held.{state_of}
-use Rattle.ctl_store.proofs.PastLemmas.{past_is}
+use Rattle.ctl_store.proofs.AcceptLemmas.{past_is}
 use Rattle.ctl_store.proofs.store.Store.is_past.Goals as goal
 
 below_is : (a b : ℕ) → a < b → nat_lt a b ≡ true

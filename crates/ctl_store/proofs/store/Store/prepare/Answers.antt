@@ -8,9 +8,7 @@ use Rattle.ctl_store.specs.Followed.{coming_under, IsFollowed}
 use Rattle.ctl_store.specs.Given.{IsGivenOnce}
 use Rattle.ctl_store.specs.Held.{keyed_of, lists_of, coming_among, InOrder}
 use Rattle.ctl_store.proofs.KeyLemmas.{keys_rise}
-use Rattle.ctl_store.proofs.FollowedLemmas.{comes_among, followed_law}
-use Rattle.ctl_store.proofs.GivenLemmas.{given_law}
-use Rattle.ctl_store.proofs.ComingLemmas.{added_come}
+use Rattle.ctl_store.proofs.FollowedLemmas.{comes_among, followed_law, given_law, added_come}
 use Rattle.ctl_store.proofs.store.Store.prepare.Goals as goal
 
 pub invariant_of-result : goal.invariant_of-result

@@ -7,14 +7,10 @@ use Rattle.ctl_store.specs.State.{stanza_count}
 use Rattle.ctl_store.specs.Edits.{Put}
 use Rattle.ctl_store.specs.Step.{after, has_stanza, put_stanza, with_stanzas}
 use Rattle.ctl_store.specs.Keys.{stanza_lists, put_keyed}
-use Rattle.ctl_store.specs.Held.{Sheet, lists_of, state_of, IsSound}
-use Rattle.ctl_store.proofs.ListedLemmas.{in_order_next, if_some_map, Changes-put}
-use Rattle.ctl_store.proofs.StepLemmas.{change_lists, put_list}
-use Rattle.ctl_store.proofs.SoundLemmas.{sound_change}
-use Rattle.ctl_store.proofs.KindLemmas.{Keeps, put_keeps}
-use Rattle.ctl_store.proofs.AcceptLemmas.{accepted_edits}
-use Rattle.ctl_store.proofs.KeptLemmas.{found_count, more_is}
-use Rattle.ctl_store.proofs.FoundLemmas.{put_found, put_count, put_fits}
+use Rattle.ctl_store.specs.Held.{HeldList, lists_of, state_of, IsSound}
+use Rattle.ctl_store.proofs.ListedLemmas.{in_order_next, if_some_map, Changes-put, change_lists, put_list, found_count, more_is}
+use Rattle.ctl_store.proofs.SoundLemmas.{sound_change, Keeps, put_keeps}
+use Rattle.ctl_store.proofs.AcceptLemmas.{accepted_edits, put_found, put_count, put_fits}
 use Rattle.ctl_store.proofs.store.Store.put.Goals as goal
 
 pub put_in-requires-clause-below : goal.put_in-requires-clause-below
@@ -22,7 +18,7 @@ put_in-requires-clause-below c =
     let s = c.self.inside in
     let h = c.args.self.now in
     let more = accepted_edits h.limits (state_of h) (Put c.args.list.now c.args.stanza.value) c.requires.accepted in
-    if_some_map (at_name c.args.list.now (ordered.entries s.lists)) (λ (x : Sheet) (k : x.next ≤ s.limits.stanzas + s.edits). omega (arith, k, more, c.self.invariant.stanzas_bounded, c.self.invariant.edits_bounded, ap (λ h. h.edits) c.self.view_is, ap (λ h. h.limits.edits) c.self.view_is))
+    if_some_map (at_name c.args.list.now (ordered.entries s.lists)) (λ (x : HeldList) (k : x.next ≤ s.limits.stanzas + s.edits). omega (arith, k, more, c.self.invariant.stanzas_bounded, c.self.invariant.edits_bounded, ap (λ h. h.edits) c.self.view_is, ap (λ h. h.limits.edits) c.self.view_is))
     (in_order_next 0 (ordered.entries s.lists) s.next_list (s.limits.stanzas + s.edits) c.args.list.now c.self.invariant.order)
 
 pub overflow_add-self : goal.overflow_add-self

@@ -7,11 +7,9 @@ use Rattle.ctl_store.specs.Edits.{Remove}
 use Rattle.ctl_store.specs.Step.{after, remove_stanza, with_stanzas}
 use Rattle.ctl_store.specs.Keys.{stanza_lists, remove_keyed}
 use Rattle.ctl_store.specs.Held.{lists_of, state_of, IsSound}
-use Rattle.ctl_store.proofs.ListedLemmas.{Changes-remove}
-use Rattle.ctl_store.proofs.StepLemmas.{change_lists, remove_list}
-use Rattle.ctl_store.proofs.SoundLemmas.{sound_change}
-use Rattle.ctl_store.proofs.KindLemmas.{remove_keeps}
-use Rattle.ctl_store.proofs.FoundLemmas.{remove_found, remove_count, count_below}
+use Rattle.ctl_store.proofs.ListedLemmas.{Changes-remove, change_lists, remove_list}
+use Rattle.ctl_store.proofs.SoundLemmas.{sound_change, remove_keeps}
+use Rattle.ctl_store.proofs.AcceptLemmas.{remove_found, remove_count, count_below}
 use Rattle.ctl_store.proofs.store.Store.remove.Goals as goal
 
 pub overflow_sub-self : goal.overflow_sub-self

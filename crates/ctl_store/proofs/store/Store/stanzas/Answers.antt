@@ -4,8 +4,7 @@ use Rattle.ctl_store.specs.Keys.{AreHeld, all_in, stanza_at, stanza_lists}
 use Rattle.ctl_store.specs.State.{stanzas_named}
 use Rattle.ctl_store.specs.Held.{lists_of}
 use Rattle.ctl_store.proofs.ListedLemmas.{at_name_lists}
-use Rattle.ctl_store.proofs.FindLemmas.{keys_find}
-use Rattle.ctl_store.proofs.HeldLemmas.{keys_held}
+use Rattle.ctl_store.proofs.KeyLemmas.{keys_find, keys_held}
 use Rattle.ctl_store.proofs.store.Store.stanzas.Goals as goal
 
 pub returns-in-Some-clause-keys : goal.returns-in-Some-clause-keys

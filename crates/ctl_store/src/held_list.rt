@@ -10,7 +10,7 @@ ghost use Rattle.ctl_store.specs.Orders.{boxed_rows};
 ghost use Rattle.ctl_store.specs.HeldPieces.{most_in_piece, joined, IsFit, HasRoomFor, room_at_end};
 ghost use Rattle.ctl_store.specs.Keys.{keys_of, found_key};
 ghost use Rattle.ctl_store.specs.Entries.{entries_in};
-ghost use Rattle.ctl_store.specs.Held.{IsShelved, Fits, keyed_list};
+ghost use Rattle.ctl_store.specs.Held.{IsHeldList, Fits, keyed_list};
 
 use crate::fronts::FRONT_LEN;
 use crate::list_class::ListClass;
@@ -23,11 +23,12 @@ use ctl_relation::Version;
 use ctl_stanza::{ListKind, Stanza};
 use std::alloc::{AllocError, Global};
 use std::marker::Model;
+use std::mem;
 
 /// The stanzas of one list, in the order in which they stand, and the serials in the order of names and versions. A
 /// contract sees the rows and the room for more.
 #[derive(Drop)]
-pub(crate) struct Shelf {
+pub(crate) struct HeldList {
     serial: u32,
     kind: ListKind,
     class: ListClass,
@@ -40,12 +41,12 @@ pub(crate) struct Shelf {
     last: Spot,
 }
 
-impl Model for Shelf {
+impl Model for HeldList {
     ghost use Rattle.std.specs.Prelude.{vec_len};
     ghost use Rattle.ctl_store.specs.HeldPieces.{joined, room_of_last};
-    ghost use Rattle.ctl_store.specs.Held.{Sheet, IsShelved};
+    ghost use Rattle.ctl_store.specs.Held.{HeldList, IsHeldList};
 
-    ghost Value = { Sheet };
+    ghost Value = { HeldList };
 
     ghost view = { λ s. record {
       serial = s.serial;
@@ -57,7 +58,7 @@ impl Model for Shelf {
       order_room = room_of_last s.order.ready.items;
     } };
 
-    ghost invariant = { λ s. IsShelved s.rows.pieces s.rows.ready s.next s.order.pieces s.order.ready };
+    ghost invariant = { λ s. IsHeldList s.rows.pieces s.rows.ready s.next s.order.pieces s.order.ready };
 }
 
 /// A list that is made: its kind, its class and its stanzas, with the room for them.
@@ -107,6 +108,13 @@ impl ListRoom {
         }
     }
 
+    /// All of it, which leaves none.
+    pub(crate) fn take(&mut self, alloc: Global) -> ListRoom
+        ensures { result ≡ self.old }
+    {
+        mem::replace(self, ListRoom::new(alloc))
+    }
+
     /// The room for a list of so many stanzas.
     pub(crate) fn with_capacity(alloc: Global, stanzas: usize) -> Result<ListRoom, AllocError>
         ensures { IfOk result (λ room. Fits stanzas room) }
@@ -137,10 +145,10 @@ fn fill_rows(rows: &mut Pieces<Row>, stanzas: Vec<Box<Stanza>>) -> u64
     serial
 }
 
-impl Shelf {
+impl HeldList {
     /// A list of these stanzas, for which there is room. The order comes by one sort: each serial put in its place would
     /// look for that place.
-    pub(crate) fn new(serial: u32, list: NewList) -> Shelf
+    pub(crate) fn new(serial: u32, list: NewList) -> HeldList
         requires { Fits (vec_len list.stanzas) list.room }
         ensures serial { result.serial ≡ serial }
         ensures kind { result.kind ≡ list.kind }
@@ -165,7 +173,7 @@ impl Shelf {
         let next = fill_rows(&mut rows, stanzas);
         rows.forget_room();
         order.forget_room();
-        Shelf {
+        HeldList {
             serial,
             kind,
             class,
@@ -318,11 +326,11 @@ fn put_in(
     last: &mut Spot,
     stanza: Box<Stanza>,
 )
-    requires shelved { IsShelved rows.old.pieces rows.old.ready next.old order.old.pieces order.old.ready }
+    requires held { IsHeldList rows.old.pieces rows.old.ready next.old order.old.pieces order.old.ready }
     requires room { 0 < vec_len rows.old.ready }
     requires order { HasRoomFor (length (joined rows.old.pieces.items)) order.old.ready }
     requires below { next.old + 1 < 2 ^ 64 }
-    ensures shelved { IsShelved rows.new.pieces rows.new.ready next.new order.new.pieces order.new.ready }
+    ensures held { IsHeldList rows.new.pieces rows.new.ready next.new order.new.pieces order.new.ready }
     ensures rows { joined rows.new.pieces.items ≡ put_row stanza.value next.old (joined rows.old.pieces.items) }
     ensures next { next.new ≡ next_after_put stanza.value next.old (joined rows.old.pieces.items) }
 {
@@ -352,9 +360,9 @@ fn remove_from(
     name: &[u8],
     version: Option<&Version>,
 )
-    requires { (next : ℕ) × IsShelved rows.old.pieces rows.old.ready next order.old.pieces order.old.ready }
-    ensures shelved { (next : ℕ) → IsShelved rows.old.pieces rows.old.ready next order.old.pieces order.old.ready
-        → IsShelved rows.new.pieces rows.new.ready next order.new.pieces order.new.ready }
+    requires { (next : ℕ) × IsHeldList rows.old.pieces rows.old.ready next order.old.pieces order.old.ready }
+    ensures held { (next : ℕ) → IsHeldList rows.old.pieces rows.old.ready next order.old.pieces order.old.ready
+        → IsHeldList rows.new.pieces rows.new.ready next order.new.pieces order.new.ready }
     ensures rows { joined rows.new.pieces.items ≡ remove_row name.now (option_copied version.entry) (joined rows.old.pieces.items) }
 {
     let (order_spot, place) = look_up(rows.as_slice(), order.as_slice(), *last, name, version);

@@ -5,8 +5,8 @@ use Rattle.ctl_store.specs.HeldPieces.{joined, place_of_spot}
 use Rattle.ctl_store.specs.Keys.{KeyedList, found_key, key_at, key_of, new_list}
 use Rattle.ctl_store.specs.Held.{keyed_list}
 use Rattle.ctl_store.proofs.PlaceLemmas.{place_within}
-use Rattle.ctl_store.proofs.ShelfLemmas.{key_read}
-use Rattle.ctl_store.proofs.shelf.Shelf.key_and_spot.Goals as goal
+use Rattle.ctl_store.proofs.OrderLemmas.{key_read}
+use Rattle.ctl_store.proofs.held_list.HeldList.key_and_spot.Goals as goal
 
 pub returns-in_default-Some-clause-key : goal.returns-in_default-Some-clause-key
 returns-in_default-Some-clause-key c =

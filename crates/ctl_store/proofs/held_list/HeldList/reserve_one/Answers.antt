@@ -1,8 +1,8 @@
 use Rattle.std.proofs.Common.{length, ap, arith}
 use Rattle.ctl_store.specs.HeldPieces.{joined}
-use Rattle.ctl_store.proofs.ShelfLemmas.{length-order}
+use Rattle.ctl_store.proofs.OrderLemmas.{length-order}
 use Rattle.ctl_store.proofs.ListedLemmas.{on_ok_map}
-use Rattle.ctl_store.proofs.shelf.Shelf.reserve_one.Goals as goal
+use Rattle.ctl_store.proofs.held_list.HeldList.reserve_one.Goals as goal
 
 pub returns-clause-ok : goal.returns-clause-ok
 returns-clause-ok c =

@@ -1,0 +1,30 @@
+use Rattle.std.proofs.Common.{ℕ, List, Some, option_map, IsSome, ◌∙◌, ap, sym, subst, ◌+◌}
+use Rattle.ctl_ordered.specs.Ordered as ordered
+use Rattle.ctl_stanza.specs.Content.{Content}
+use Rattle.ctl_store.specs.Keys.{stanza_at, list_at, holder_of}
+use Rattle.ctl_store.specs.Held.{HeldList, lists_of}
+use Rattle.ctl_store.proofs.KeyLemmas.{look_up, list_at_entry, not_none, in_entry, holder_is, kind_at}
+use Rattle.ctl_store.proofs.store.Store.holder.Goals as goal
+
+pub entry_of-requires : goal.entry_of-requires
+entry_of-requires c = c.self.invariant.numbered
+
+pub unreachable-requires : goal.unreachable-requires
+unreachable-requires c =
+    let s = c.self.inside in
+    let k = c.args.key in
+    let none = c.in-None.ensures in
+    not_none (stanza_at k (lists_of c.args.self.now.lists)) c.requires
+    (sym (ap (λ h. stanza_at k (lists_of h.lists)) c.self.view_is) ∙ look_up k 0 (ordered.entries s.lists) s.next_list (s.limits.stanzas + s.edits) c.self.invariant.order ∙ ap (in_entry k) (sym none))
+
+pub returns : goal.returns
+returns c =
+    let s = c.self.inside in
+    let k = c.args.key in
+    let found = c.in-Some.ensures in
+    let at = sym (ap (λ h. stanza_at k (lists_of h.lists)) c.self.view_is) ∙ look_up k 0 (ordered.entries s.lists) s.next_list (s.limits.stanzas + s.edits) c.self.invariant.order ∙ ap (in_entry k) (sym found) in
+    record {
+      name = ap (option_map (λ (e : List ℕ × HeldList). e.0)) found ∙ sym (list_at_entry k.list (ordered.entries s.lists)) ∙ ap (λ h. list_at k.list (lists_of h.lists)) c.self.view_is
+          ∙ sym (ap (λ h. holder_of k (lists_of h.lists)) (sym c.self.view_is) ∙ holder_is k 0 (ordered.entries s.lists) s.next_list (s.limits.stanzas + s.edits) c.self.invariant.order (subst (λ h. IsSome (stanza_at k (lists_of h.lists))) (sym c.self.view_is) c.requires) ∙ ap (λ h. list_at k.list (lists_of h.lists)) c.self.view_is);
+      kind = ap Some c.kind.ensures ∙ kind_at k (ordered.entries s.lists) _ c.self.invariant.kinds (sym found) (subst IsSome at c.requires) ∙ sym (ap (option_map (λ (x : Content). x.kind)) at);
+    }
