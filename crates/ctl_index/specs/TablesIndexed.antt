@@ -70,24 +70,20 @@ number_raised s keys old k = with_each (seen s) (raise_step s (namers_in old) k)
 abbrev pub number_entered : Seen → (List ℕ → List OfferKey) → List StanzaKey → ClauseKey → Option ℕ → Option ℕ
 number_entered s offers keys k old = with_each (seen s) (enter_step s offers k) keys old
 
--- that of one that stood is raised, and those that come have theirs, where the offers came in turns
-abbrev pub number_put : Seen → List StanzaKey → List StanzaKey → Tables → ClauseKey → Option ℕ
-number_put s keys turns old k = number_entered s (offers_put s turns old) keys k (number_raised s turns old k)
+-- that of one that stood is raised, and those that come have theirs
+abbrev pub number_put : Seen → List StanzaKey → Tables → ClauseKey → Option ℕ
+number_put s keys old k = number_entered s (offers_put s keys old) keys k (number_raised s keys old k)
 
--- the stanzas under keys came, their offers in the order of turns
-pub record IsPutIn (s : Seen) (keys turns : List StanzaKey) (old new : Tables) : Type 0 where
-  pub offers : (q : List ℕ) → offers_in new q ≡ offers_put s turns old q
+pub record IsPutIn (s : Seen) (keys : List StanzaKey) (old new : Tables) : Type 0 where
+  pub offers : (q : List ℕ) → offers_in new q ≡ offers_put s keys old q
   pub namers : (q : List ℕ) → namers_in new q ≡ namers_put s keys old q
-  pub counters : (k : ClauseKey) → number_in new k ≡ number_put s keys turns old k
+  pub counters : (k : ClauseKey) → number_in new k ≡ number_put s keys old k
   pub rows : AreRowsPut s keys old.names.map new.names.map
-  pub whole : All (IsWholeAt (seen s)) turns
+  pub whole : All (IsWholeAt (seen s)) keys
 
--- how many tests are made, where the offers come in turns, and in the order of the keys
-abbrev pub tests_put_by : Seen → List StanzaKey → List StanzaKey → Tables → ℕ
-tests_put_by s keys turns old = offers_tested s (namers_in old) turns + atoms_tested s (offers_put s turns old) keys
-
+-- how many tests are made
 abbrev pub tests_put_in : Seen → List StanzaKey → Tables → ℕ
-tests_put_in s keys old = tests_put_by s keys keys old
+tests_put_in s keys old = offers_tested s (namers_in old) keys + atoms_tested s (offers_put s keys old) keys
 
 -- ---- stanzas that go
 

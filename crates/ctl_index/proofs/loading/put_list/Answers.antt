@@ -1,6 +1,5 @@
-use Rattle.std.proofs.Common.{sym, subst}
-use Rattle.std.specs.List.Sorted.{IsPermutation}
+use Rattle.ctl_index.proofs.LoadLemmas.{loaded_by_each}
 use Rattle.ctl_index.proofs.loading.put_list.Goals as goal
 
-pub put_in_turns-requires : goal.put_in_turns-requires
-put_in_turns-requires c = subst (IsPermutation c.args.keys.now) (sym c.deref.ensures.value) c.in_ok-turns.ensures
+pub returns-clause-tables : goal.returns-clause-tables
+returns-clause-tables c apart = loaded_by_each c.args.sight.now c.args.keys.now c.args.tables.now c.put_all.new.tables apart c.in_ok-put_all.ensures.tables

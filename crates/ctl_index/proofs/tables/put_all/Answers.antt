@@ -27,10 +27,9 @@ pub returns-clause-steps : goal.returns-clause-steps
 returns-clause-steps c =
     let s = c.args.sight.now in
     let keys = c.args.keys.now in
-    let turns = c.args.turns.now in
     let old = c.args.tables.now in
     c.in_ok-put_atoms.ensures.steps ∙ (λ i. more_by (atoms_tested s (λ q. c.in_ok-put_offers.ensures.offers q i) keys) (c.in_ok-put_offers.ensures.steps i))
-    ∙ more_by_twice (offers_tested s (namers_in old) turns) (atoms_tested s (offers_put s turns old) keys) c.args.tables.now.steps
+    ∙ more_by_twice (offers_tested s (namers_in old) keys) (atoms_tested s (offers_put s keys old) keys) c.args.tables.now.steps
 
 pub returns-clause-most : goal.returns-clause-most
 returns-clause-most c =
