@@ -121,6 +121,13 @@ def atoms_of_two_sorts_in_turn(count):
     return script_list("main", [stanza("one", 1) + f"Depends: {depends}\n", *offers]), [("depends", "depends one\n", 1)]
 
 
+def alternatives_that_nothing_meets(count):
+    depends = " | ".join(["virtual (>= 9)"] * count)
+    offers = [stanza(f"name-{number}", 1) + "Provides: virtual (= 1)\n" for number in range(count)]
+    questions = [("depends", "depends one\n", 1), ("depends --installed", "depends --installed one\n", 1)]
+    return script_list("main", [stanza("one", 1) + f"Depends: {depends}\n", *offers]), questions
+
+
 def fields_of_one_stanza(count):
     names = [f"Field-{number}" for number in range(count)]
     whole = script_list("main", [stanza("one", 1) + "".join(f"{name}: text\n" for name in names)])
@@ -135,6 +142,7 @@ ANSWER_SHAPES = [
     (names_of_one_stanza, 2_000, {"showpkg": 0.2, "rdepends": 0.2}),
     (atoms_that_nothing_meets, 1_000, {"depends": 1.2}),
     (atoms_of_two_sorts_in_turn, 1_000, {"depends": 1.2}),
+    (alternatives_that_nothing_meets, 1_000, {"depends": 1.2, "depends --installed": 1.2}),
     (fields_of_one_stanza, 2_000, {"-F": 1.2, "-s": 1.2}),
 ]
 

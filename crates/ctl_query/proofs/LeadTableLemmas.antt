@@ -32,7 +32,7 @@ and_then Less p e = cc
 and_then Equal p e = (refl, e)
 and_then Greater p e = cc
 
-same_key : (k x : StanzaKey) → key_cmp k x ≡ Equal → k ≡ x
+pub same_key : (k x : StanzaKey) → key_cmp k x ≡ Equal → k ≡ x
 same_key k x e =
     let h = and_then (nat_cmp k.list x.list) (nat_cmp k.stanza x.stanza) e in
     let list : k.list ≡ x.list = ranked k.list x.list Equal (sym h.0) in

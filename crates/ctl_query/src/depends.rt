@@ -37,7 +37,7 @@ fn depends_fields(important: bool) -> &'static [FieldKind]
     }
 }
 
-// From so many tests on the lines of a group are kept in mind.
+// From so many tests on the lines of an atom are kept in mind.
 const MANY: u128 = 64;
 
 /// A group of a field.
@@ -88,36 +88,52 @@ impl<'a> Depending<'a> {
         Ok(())
     }
 
-    /// Appends the lines of a group.
-    #[tactic(auto, using(crate::proofs::GroupLemmas::is_followed), unfolding(crate::specs::Depends::group_lines, crate::specs::Depends::group_pairs))]
-    fn append_group(
+    /// Appends the lines of an atom. Those of one that took many tests are kept in mind: where it stands there again, they are
+    /// written again, and nothing is tested.
+    fn append_next<'g>(
         &self,
-        field: FieldKind,
-        group: &Group<'_>,
+        kept: &mut BTreeMap<Vec<u8>, Written<'g>>,
+        alternative: Alternative<'g>,
         out: &mut Vec<u8>,
         steps: &mut Steps,
     ) -> Result<(), AllocError>
-        ensures text { OnOk result (out.new.items ≡ out.old.items
-            ++ group_lines (world_of self.now.asking.now) self.now.options.installed field group.now) }
-        ensures steps { steps.new ≤ steps.old + group_pairs (world_of self.now.asking.now) group.now }
+        requires { All (IsWritten (world_of self.now.asking.now) self.now.options.installed alternative.field out.old.items)
+            (values kept.old) }
+        ensures text { OnOk result (out.new.items ≡ out.old.items ++ atom_lines (world_of self.now.asking.now) self.now.options.installed
+            alternative.entry.field alternative.entry.further alternative.entry.atom) }
+        ensures written { OnOk result (All (IsWritten (world_of self.now.asking.now) self.now.options.installed
+            alternative.entry.field out.new.items) (values kept.new)) }
+        ensures steps { steps.new ≤ steps.old + atom_pairs (world_of self.now.asking.now) alternative.entry.atom }
         ensures kept { steps.old ≤ steps.new }
     {
-        let mut left = group.len();
-        'atoms: for atom in group.atoms() {
-            left -= 1;
-            let alternative = Alternative {
-                field,
-                further: left > 0,
-                atom,
-            };
-            self.append_atom(&alternative, out, steps)?;
+        let alloc = self.asking.alloc();
+        if let Some((start, end)) = lines_of(alloc, kept, alternative.further, &alternative.atom)? {
+            out.extend_from_within(start..end)?;
+            return Ok(());
+        }
+        let start = out.len();
+        let before = steps.count();
+        self.append_atom(&alternative, out, steps)?;
+        if steps.count() >= before.saturating_add(MANY) {
+            let end = out.len();
+            let Alternative { further, atom, .. } = alternative;
+            keep(
+                alloc,
+                kept,
+                Written {
+                    further,
+                    atom,
+                    start,
+                    end,
+                },
+            )?;
         }
         Ok(())
     }
 
-    /// Appends the lines of a group. Those of one that took many tests are kept in mind: where it stands there again, they are
-    /// written again, and nothing is tested.
-    fn append_next<'g>(
+    /// Appends the lines of a group.
+    #[tactic(auto, using(crate::proofs::GroupLemmas::is_followed), unfolding(crate::specs::Depends::group_lines, crate::specs::Depends::group_pairs))]
+    fn append_group<'g>(
         &self,
         kept: &mut BTreeMap<Vec<u8>, Written<'g>>,
         next: Next<'g>,
@@ -134,17 +150,15 @@ impl<'a> Depending<'a> {
         ensures kept { steps.old ≤ steps.new }
     {
         let Next { field, group } = next;
-        let alloc = self.asking.alloc();
-        if let Some((start, end)) = lines_of(alloc, kept, &group)? {
-            out.extend_from_within(start..end)?;
-            return Ok(());
-        }
-        let start = out.len();
-        let before = steps.count();
-        self.append_group(field, &group, out, steps)?;
-        if steps.count() >= before.saturating_add(MANY) {
-            let end = out.len();
-            keep(alloc, kept, Written { group, start, end })?;
+        let mut left = group.len();
+        'atoms: for atom in group.atoms() {
+            left -= 1;
+            let alternative = Alternative {
+                field,
+                further: left > 0,
+                atom,
+            };
+            self.append_next(kept, alternative, out, steps)?;
         }
         Ok(())
     }
@@ -166,7 +180,7 @@ impl<'a> Depending<'a> {
         let mut kept = BTreeMap::new(self.asking.alloc());
         'groups: for group in lead.groups(field) {
             let next = Next { field, group };
-            self.append_next(&mut kept, next, out, steps)?;
+            self.append_group(&mut kept, next, out, steps)?;
         }
         Ok(())
     }

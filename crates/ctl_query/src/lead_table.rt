@@ -20,7 +20,7 @@ pub(crate) struct LeadTable<'a> {
     leads: Vec<(StanzaKey, &'a Stanza)>,
     // The place of each among them, in the order of their keys.
     places: Vec<(StanzaKey, usize)>,
-    // Where to look for the place of a key first: in most slots stands where its key has its place.
+    // The place to look at first, by the slot of a key: in most slots it is that of the key's lead.
     likely: Vec<u32>,
 }
 
@@ -78,37 +78,33 @@ fn are_rising(places: &[(StanzaKey, usize)]) -> bool
 // So far apart are the slots of the stanzas of one list and of the next.
 const LIST_APART: u64 = 2_654_435_761;
 
-// The slot of a key among so many. Stanzas of one list that follow one another have slots that do.
+// There are no more slots than twice this many.
+const MOST_SLOTS: usize = 2_147_483_648;
+
+// The slot of a key among so many, which are a power of two. Stanzas of one list that follow one another have slots that do.
 fn slot_of(key: StanzaKey, slots: usize) -> usize {
-    if slots == 0 {
-        return 0;
-    }
     let start = u64::from(key.list).wrapping_mul(LIST_APART);
-    (key.stanza.wrapping_add(start) % slots as u64) as usize
+    (key.stanza.wrapping_add(start) & (slots as u64).saturating_sub(1)) as usize
 }
 
-// Where each key stands among places, by its slot. Where two keys have one slot, it is the last one's.
-fn likely_places(alloc: Global, places: &[(StanzaKey, usize)]) -> Result<Vec<u32>, AllocError> {
-    let mut likely = vec![in alloc; 0u32; places.len().saturating_mul(2)]?;
-    for at in 0..places.len() {
-        let slot = slot_of(places[at].0, likely.len());
+// The place of each lead, by the slot of its key. Where two keys have one slot, it is the last one's.
+fn likely_places(alloc: Global, leads: &[(StanzaKey, &Stanza)]) -> Result<Vec<u32>, AllocError> {
+    let slots = leads.len().min(MOST_SLOTS).next_power_of_two();
+    let mut likely = vec![in alloc; 0u32; slots.saturating_mul(2)]?;
+    for place in 0..leads.len() {
+        let slot = slot_of(leads[place].0, likely.len());
         if let Some(found) = likely.get_mut(slot) {
-            *found = u32::try_from(at).unwrap_or(0);
+            *found = u32::try_from(place).unwrap_or(0);
         }
     }
     Ok(likely)
 }
 
-// The place beside a key, where keys rise. It is looked for at a likely index first.
-fn place_under(places: &[(StanzaKey, usize)], likely: usize, key: StanzaKey) -> Option<usize>
+// The place beside a key, where keys rise.
+fn place_under(places: &[(StanzaKey, usize)], key: StanzaKey) -> Option<usize>
     requires { AreInKeyOrder places.now }
     ensures { result ≡ place_under key places.now }
 {
-    if let Some(likely) = places.get(likely) {
-        if compare_keys(&likely.0, &key).is_eq() {
-            return Some(likely.1);
-        }
-    }
     match places.binary_search_by(|pair| compare_keys(&pair.0, &key)) {
         Ok(at) => Some(places[at].1),
         Err(_) => None,
@@ -142,7 +138,7 @@ impl<'a> LeadTable<'a> {
         if !are_rising(&places) {
             return Ok(None);
         }
-        let likely = likely_places(asking.alloc(), &places)?;
+        let likely = likely_places(asking.alloc(), &leads)?;
         Ok(Some(LeadTable {
             leads,
             places,
@@ -150,14 +146,27 @@ impl<'a> LeadTable<'a> {
         }))
     }
 
-    /// The place of the lead of a key, if it is one's.
+    // Whether the lead at a place has a key.
+    fn is_place_of(&self, place: usize, key: StanzaKey) -> bool
+        ensures { result ≡ true → key_at self.now place ≡ Some key }
+    {
+        match self.leads.get(place) {
+            Some(lead) => compare_keys(&lead.0, &key).is_eq(),
+            None => false,
+        }
+    }
+
+    /// The place of the lead of a key, if it is one's. Mostly it is found at the first look, and the lead is near then.
     pub(crate) fn place(&self, key: StanzaKey) -> Option<usize>
         ensures some { IfSome result (λ i. key_at self.now i ≡ Some key) }
         ensures exact { (i : ℕ) → key_at self.now i ≡ Some key → result ≡ Some i }
     {
         let slot = slot_of(key, self.likely.len());
-        let likely = self.likely.get(slot).copied().unwrap_or(0);
-        place_under(&self.places, likely as usize, key)
+        let likely = self.likely.get(slot).copied().unwrap_or(0) as usize;
+        if self.is_place_of(likely, key) {
+            return Some(likely);
+        }
+        place_under(&self.places, key)
     }
 
     /// The lead at a place.

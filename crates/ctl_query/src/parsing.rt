@@ -21,6 +21,7 @@ use ctl_filter::parse_filter;
 use ctl_relation::{Bytes, Version, VersionFault, is_name};
 use ctl_store::Refusal;
 use std::alloc::{AllocError, Global};
+use std::mem::replace;
 
 fn is_option(word: &[u8]) -> bool
     ensures { result ≡ is_option word.now }
@@ -31,20 +32,7 @@ fn is_option(word: &[u8]) -> bool
     }
 }
 
-/// The words that are options.
-fn options_in(alloc: Global, words: &[Bytes]) -> Result<Vec<Bytes>, AllocError>
-    ensures { IfOk result (λ options. options.items ≡ filter is_option words.now) }
-{
-    let mut options = Vec::new(alloc);
-    for word in words {
-        if is_option(word.as_slice()) {
-            options.push(Bytes::from_slice(alloc, word.as_slice())?)?;
-        }
-    }
-    Ok(options)
-}
-
-/// The words that are none.
+/// The words that are no options.
 fn arguments_in(alloc: Global, words: &[Bytes]) -> Result<Vec<Bytes>, AllocError>
     ensures { IfOk result (λ arguments. arguments.items ≡ filter is_argument words.now) }
 {
@@ -57,24 +45,30 @@ fn arguments_in(alloc: Global, words: &[Bytes]) -> Result<Vec<Bytes>, AllocError
     Ok(arguments)
 }
 
-fn are_options_of(name: CacheQuery, options: &[Bytes]) -> bool
-    ensures { result ≡ list_all (is_among (options_of name)) options.now }
+/// Whether the options among words are those of a query.
+fn are_options_of(name: CacheQuery, words: &[Bytes]) -> bool
+    ensures { result ≡ list_all (is_among (options_of name)) (filter is_option words.now) }
 {
-    for option in options {
-        if !name.has_option(option.as_slice()) {
+    let mut rest = words;
+    'words: while let Some((word, others)) = rest.split_first() {
+        if is_option(word.as_slice()) && !name.has_option(word.as_slice()) {
             return false;
         }
+        rest = others;
     }
     true
 }
 
-fn has_word(words: &[Bytes], word: &[u8]) -> bool
-    ensures { result ≡ is_among words.now word.now }
+/// Whether an option is among words.
+fn has_option(words: &[Bytes], option: &[u8]) -> bool
+    ensures { result ≡ is_among (filter is_option words.now) option.now }
 {
-    for other in words {
-        if word == other.as_slice() {
+    let mut rest = words;
+    'words: while let Some((word, others)) = rest.split_first() {
+        if is_option(word.as_slice()) && option == word.as_slice() {
             return true;
         }
+        rest = others;
     }
     false
 }
@@ -90,24 +84,24 @@ fn are_names(words: &[Bytes]) -> bool
     true
 }
 
-fn is_important(options: &[Bytes]) -> bool
-    ensures { result ≡ is_important options.now }
+fn is_important(words: &[Bytes]) -> bool
+    ensures { result ≡ is_important (filter is_option words.now) }
 {
-    has_word(options, b"-i") || has_word(options, b"--important")
+    has_option(words, b"-i") || has_option(words, b"--important")
 }
 
-fn is_installed_alone(options: &[Bytes]) -> bool
-    ensures { result ≡ is_installed_alone options.now }
+fn is_installed_alone(words: &[Bytes]) -> bool
+    ensures { result ≡ is_installed_alone (filter is_option words.now) }
 {
-    has_word(options, b"--installed")
+    has_option(words, b"--installed")
 }
 
-fn depends_options(options: &[Bytes]) -> DependsOptions
-    ensures { result ≡ depends_options options.now }
+fn depends_options(words: &[Bytes]) -> DependsOptions
+    ensures { result ≡ depends_options (filter is_option words.now) }
 {
     DependsOptions {
-        important: is_important(options),
-        installed: is_installed_alone(options),
+        important: is_important(words),
+        installed: is_installed_alone(words),
     }
 }
 
@@ -118,12 +112,16 @@ fn is_all(option: &[u8]) -> bool
 }
 
 /// Of the options of `show` the last one counts.
-fn shows_all(options: &[Bytes]) -> bool
-    ensures { result ≡ shows_all options.now }
+fn shows_all(words: &[Bytes]) -> bool
+    ensures { result ≡ shows_all (filter is_option words.now) }
 {
     let mut all = true;
-    for option in options {
-        all = is_all(option.as_slice());
+    let mut rest = words;
+    'words: while let Some((word, others)) = rest.split_first() {
+        if is_option(word.as_slice()) {
+            all = is_all(word.as_slice());
+        }
+        rest = others;
     }
     all
 }
@@ -218,23 +216,31 @@ fn some_names(words: &[Bytes]) -> Result<(), Refusal>
     Ok(())
 }
 
-/// What a query asks for by its options, which are its own, and its arguments.
+/// The words that stood there, in whose place none are left.
+fn taken(alloc: Global, words: &mut Vec<Bytes>) -> Vec<Bytes>
+    ensures { result.items ≡ words.old.items }
+{
+    replace(words, Vec::new(alloc))
+}
+
+/// What a query asks for by the options among words, which are its own, and by its arguments. These are lent, so that what is left
+/// of them is let go in one place.
 fn query_by(
     alloc: Global,
     name: CacheQuery,
-    options: &[Bytes],
-    arguments: Vec<Bytes>,
+    words: &[Bytes],
+    arguments: &mut Vec<Bytes>,
 ) -> Result<Query, Refusal>
-    ensures { Reads query_text result (query_by name options.now arguments.items) }
+    ensures { Reads query_text result (query_by name (filter is_option words.now) arguments.old.items) }
 {
     match name {
         CacheQuery::PackageNames => match arguments.as_slice() {
             [] => Ok(Query::PackageNames(
-                has_word(options, b"--all-names"),
+                has_option(words, b"--all-names"),
                 Bytes::from_vec(Vec::new(alloc)),
             )),
             [prefix] => Ok(Query::PackageNames(
-                has_word(options, b"--all-names"),
+                has_option(words, b"--all-names"),
                 copied(alloc, prefix.as_slice())?,
             )),
             _ => Err(Refusal::Usage),
@@ -243,57 +249,45 @@ fn query_by(
             if arguments.is_empty() {
                 return Err(Refusal::Usage);
             }
-            Ok(Query::Show(shows_all(options), rows_asked(alloc, &arguments)?))
+            Ok(Query::Show(shows_all(words), rows_asked(alloc, arguments)?))
         }
         CacheQuery::Depends => {
-            some_names(&arguments)?;
-            Ok(Query::Depends(depends_options(options), arguments))
+            some_names(arguments)?;
+            Ok(Query::Depends(depends_options(words), taken(alloc, arguments)))
         }
         CacheQuery::ReverseDepends => {
-            some_names(&arguments)?;
-            Ok(Query::ReverseDepends(is_installed_alone(options), arguments))
+            some_names(arguments)?;
+            Ok(Query::ReverseDepends(is_installed_alone(words), taken(alloc, arguments)))
         }
         CacheQuery::Unmet => {
             if !arguments.is_empty() {
                 return Err(Refusal::Usage);
             }
-            Ok(Query::Unmet(is_important(options)))
+            Ok(Query::Unmet(is_important(words)))
         }
         CacheQuery::Policy => {
-            if !are_names(&arguments) {
+            if !are_names(arguments) {
                 return Err(Refusal::Name);
             }
-            Ok(Query::Policy(arguments))
+            Ok(Query::Policy(taken(alloc, arguments)))
         }
         CacheQuery::ShowPackage => {
-            some_names(&arguments)?;
-            Ok(Query::ShowPackage(arguments))
+            some_names(arguments)?;
+            Ok(Query::ShowPackage(taken(alloc, arguments)))
         }
     }
-}
-
-/// The options and the arguments among words.
-fn split_words(alloc: Global, words: &[Bytes]) -> Result<(Vec<Bytes>, Vec<Bytes>), Refusal>
-    ensures ok { IfOk result (λ s. (s.0.items ≡ filter is_option words.now) × (s.1.items ≡ filter is_argument words.now)) }
-    ensures err { IfErr result (λ cause. cause ≡ refusal.Memory) }
-{
-    let Ok(options) = options_in(alloc, words) else {
-        return Err(Refusal::Memory);
-    };
-    let Ok(arguments) = arguments_in(alloc, words) else {
-        return Err(Refusal::Memory);
-    };
-    Ok((options, arguments))
 }
 
 fn query_in(alloc: Global, name: CacheQuery, words: &[Bytes]) -> Result<Query, Refusal>
     ensures { Reads query_text result (query_in name words.now) }
 {
-    let (options, arguments) = split_words(alloc, words)?;
-    if !are_options_of(name, &options) {
+    let Ok(mut arguments) = arguments_in(alloc, words) else {
+        return Err(Refusal::Memory);
+    };
+    if !are_options_of(name, words) {
         return Err(Refusal::Usage);
     }
-    query_by(alloc, name, &options, arguments)
+    query_by(alloc, name, words, &mut arguments)
 }
 
 /// What the words of grep-dctrl(1) ask for.

@@ -1,19 +1,21 @@
-//! Groups of a field that stand there again: their lines are those that were written.
+//! Atoms of a field that stand there again: their lines are those that were written.
 
-ghost use Rattle.std.specs.Prelude.{◌≡◌, IfOk, IfSome, OnOk, slice_get, true};
+ghost use Rattle.std.specs.Prelude.{◌≡◌, IfOk, IfSome, OnOk, true};
 ghost use Rattle.std.specs.BTreeMap.{values};
 ghost use Rattle.std.specs.List.{IsAmong};
 ghost use Rattle.ctl_relation.specs.Lent.{lent, lent_bound};
 ghost use Rattle.ctl_query.specs.Inside.Repeats.{KeepsOneMore};
 
-use ctl_relation::{Atom, Group, Operator};
+use crate::relation_lines::mark;
+use ctl_relation::{Atom, Operator};
 use std::alloc::{AllocError, Global};
 use std::collections::BTreeMap;
 
-/// A group whose lines were written, and where in the text they begin and end.
+/// An atom whose lines were written, whether a further alternative follows it, and where in the text its lines begin and end.
 #[derive(Drop)]
 pub(crate) struct Written<'a> {
-    pub(crate) group: Group<'a>,
+    pub(crate) further: bool,
+    pub(crate) atom: Atom<'a>,
     pub(crate) start: usize,
     pub(crate) end: usize,
 }
@@ -46,58 +48,45 @@ fn are_same_atoms(atom: &Atom<'_>, other: &Atom<'_>) -> bool
         && are_same_bounds(atom.bound(), other.bound())
 }
 
-// Whether the same atom stands in two groups at an index.
-fn are_same_at(group: &Group<'_>, other: &Group<'_>, at: usize) -> bool
-    ensures { result ≡ true → slice_get group.now at ≡ slice_get other.now at }
+/// Whether lines are those of an atom that a further alternative follows, or none.
+fn are_lines_of(written: &Written<'_>, further: bool, atom: &Atom<'_>) -> bool
+    ensures further { result ≡ true → written.now.further ≡ further }
+    ensures atom { result ≡ true → written.now.atom ≡ atom.now }
 {
-    match (group.get(at), other.get(at)) {
-        (Some(atom), Some(other)) => are_same_atoms(&atom, &other),
-        _ => false,
-    }
+    written.further == further && are_same_atoms(&written.atom, atom)
 }
 
-/// Whether two groups have the same atoms.
-fn are_same(group: &Group<'_>, other: &Group<'_>) -> bool
-    ensures { result ≡ true → group.now ≡ other.now }
-{
-    if group.len() != other.len() {
-        return false;
-    }
-    for at in 0..group.len() {
-        if !are_same_at(group, other, at) {
-            return false;
-        }
-    }
-    true
-}
-
-/// The printed form of a group.
-fn printed(alloc: Global, group: &Group<'_>) -> Result<Vec<u8>, AllocError> {
+/// The printed form of an atom, behind its mark.
+fn printed(alloc: Global, further: bool, atom: &Atom<'_>) -> Result<Vec<u8>, AllocError> {
     let mut text = Vec::new(alloc);
-    group.append_to(&mut text)?;
+    text.extend_from_slice(mark(further))?;
+    atom.append_to(&mut text)?;
     Ok(text)
 }
 
-/// Where the lines of a group begin and end, if it is one of those that are kept under their printed forms.
+/// Where the lines of an atom begin and end, if it is one of those that are kept under their printed forms.
 pub(crate) fn lines_of(
     alloc: Global,
     kept: &BTreeMap<Vec<u8>, Written<'_>>,
-    group: &Group<'_>,
+    further: bool,
+    atom: &Atom<'_>,
 ) -> Result<Option<(usize, usize)>, AllocError>
     ensures { IfOk result (λ lines. IfSome lines (λ place.
-        IsAmong (values kept.now) (record { group = group.now; start = place.0; end = place.1 }))) }
+        IsAmong (values kept.now) (record { further = further; atom = atom.now; start = place.0; end = place.1 }))) }
 {
     if kept.is_empty() {
         return Ok(None);
     }
-    let text = printed(alloc, group)?;
+    let text = printed(alloc, further, atom)?;
     match kept.get(&text) {
-        Some(written) if are_same(group, &written.group) => Ok(Some((written.start, written.end))),
+        Some(written) if are_lines_of(written, further, atom) => {
+            Ok(Some((written.start, written.end)))
+        }
         _ => Ok(None),
     }
 }
 
-/// Keeps a group under its printed form.
+/// Keeps an atom under its printed form.
 pub(crate) fn keep<'a>(
     alloc: Global,
     kept: &mut BTreeMap<Vec<u8>, Written<'a>>,
@@ -105,7 +94,7 @@ pub(crate) fn keep<'a>(
 ) -> Result<(), AllocError>
     ensures { OnOk result (KeepsOneMore kept.old kept.new written.entry) }
 {
-    let text = printed(alloc, &written.group)?;
+    let text = printed(alloc, written.further, &written.atom)?;
     kept.insert(text, written)?;
     Ok(())
 }
