@@ -21,7 +21,7 @@ returns-then-not-has_body-clause-ok g c =
     let short : length found.line ≤ max_line = omega (arith, found.takes.count) in
     reads_alone (cache_state c.args.cache.now) _ _ _ c.next_head.new.lines.number _ c.in-Ok-Some.read _ found
     (line_opens found.line _ _ _ _ _ found.takes.front c.deref.ensures.value short c.name.ensures c.read-command.ensures c.has_body.ensures ∙ c.if-not-has_body.true) refl
-    (reads_whole _ found.line _ _ _ found.takes.front c.deref.ensures.value c.read_request-request.ensures)
+    (reads_whole _ found.line _ _ _ found.takes.front c.deref-2.ensures.value c.read_request-request.ensures)
     c.none-body-then-not-has_body.ensures.ended c.none-body-then-not-has_body.ensures.last
     (c.none-body-then-not-has_body.ensures.too_long ∙ sym (first_long-none _ found.line short)) c.none-body-then-not-has_body.ensures.text
 
@@ -32,7 +32,7 @@ returns-then-not-read-clause-ok g c =
     reads_unended (cache_state c.args.cache.now) _ _ _ c.next_head.new.lines.number _ c.in-Ok-Some.read _ found
     (line_opens found.line _ _ _ _ _ found.takes.front c.deref.ensures.value short c.name.ensures c.read-command.ensures c.has_body.ensures ∙ c.if-not-has_body.false)
     (false_of_not _ c.if-not-read.true) refl
-    (reads_whole _ found.line _ _ _ found.takes.front c.deref.ensures.value c.read_request-request.ensures)
+    (reads_whole _ found.line _ _ _ found.takes.front c.deref-2.ensures.value c.read_request-request.ensures)
     c.none-body-then-not-read.ensures.ended c.none-body-then-not-read.ensures.last
     (c.none-body-then-not-read.ensures.too_long ∙ sym (first_long-none _ found.line short)) c.none-body-then-not-read.ensures.text
 
@@ -43,7 +43,7 @@ returns-in-Ok-clause-ok g c =
     reads_with_body (cache_state c.args.cache.now) _ _ _ _ c.next_head.new.lines.number _ _ c.in-Ok-Some.read _ _ found (fits_short found.line short)
     (line_opens found.line _ _ _ _ _ found.takes.front c.deref.ensures.value short c.name.ensures c.read-command.ensures c.has_body.ensures ∙ c.if-not-has_body.false)
     (true_of_not _ c.if-not-read.false)
-    (reads_whole _ found.line _ _ _ found.takes.front c.deref.ensures.value c.read_request-request.ensures) c.in-Ok.ensures.ok
+    (reads_whole _ found.line _ _ _ found.takes.front c.deref-2.ensures.value c.read_request-request.ensures) c.in-Ok.ensures.ok
 
 pub returns-in-Err-read_body-clause-fault : goal.returns-in-Err-read_body-clause-fault
 returns-in-Err-read_body-clause-fault g c =
