@@ -51,37 +51,17 @@ fn append_answer(
 {
     match query {
         Query::PackageNames(all, prefix) => {
-            append_package_names(asking, *all, prefix.as_slice(), out)?;
-            Ok(())
+            append_package_names(asking, *all, prefix.as_slice(), out)
         }
-        Query::Show(all, rows) => {
-            append_show(asking, *all, rows, out)?;
-            Ok(())
-        }
-        Query::Depends(options, names) => {
-            append_depends(asking, *options, names, out, steps)?;
-            Ok(())
-        }
+        Query::Show(all, rows) => append_show(asking, *all, rows, out),
+        Query::Depends(options, names) => append_depends(asking, *options, names, out, steps),
         Query::ReverseDepends(installed, names) => {
-            append_reverse_depends(asking, *installed, names, out)?;
-            Ok(())
+            append_reverse_depends(asking, *installed, names, out)
         }
-        Query::Unmet(important) => {
-            append_unmet(asking, *important, out)?;
-            Ok(())
-        }
-        Query::Policy(names) => {
-            append_any_policy(asking, names, out)?;
-            Ok(())
-        }
-        Query::ShowPackage(names) => {
-            append_show_package(asking, names, out)?;
-            Ok(())
-        }
-        Query::Filter(filter) => {
-            append_filter(asking.alloc(), asking.store(), filter, out)?;
-            Ok(())
-        }
+        Query::Unmet(important) => append_unmet(asking, *important, out),
+        Query::Policy(names) => append_any_policy(asking, names, out),
+        Query::ShowPackage(names) => append_show_package(asking, names, out),
+        Query::Filter(filter) => append_filter(asking.alloc(), asking.store(), filter, out),
     }
 }
 
