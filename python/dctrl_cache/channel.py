@@ -266,7 +266,7 @@ class Channel:
         self._searched = max(0, len(buffer) - _OVERLAP)
 
     def _take_unmarked(self, buffer: bytearray, start: int) -> bool:
-        """Takes answers whose marks were refused for want of memory: a later mark has come, and theirs come no more."""
+        """Takes answers whose marks were refused where memory ran out: a later mark has come, and theirs come no more."""
         for count, answer in enumerate(self._waiting):
             place = buffer.find(answer._mark, start) if count and answer._mark else -1
             if place >= 0:

@@ -139,7 +139,7 @@ def test_list_with_a_fault(served):
 
 
 def test_program_that_is_killed(served):
-    """Where the program has ended, as for want of memory, the next question starts it again."""
+    """Where the program has ended, as where memory ran out, the next question starts it again."""
     children = subprocess.run(["ps", "-o", "pid=", "--ppid", str(served.process.pid)], stdout=subprocess.PIPE, check=True).stdout.split()
     assert len(children) == 1
     os.kill(int(children[0]), 9)

@@ -51,7 +51,7 @@ fn append_taken(
 ///
 /// # Errors
 ///
-/// Want of memory. Then a part of the text may stand there.
+/// Out of memory. Then a part of the text may stand there.
 pub fn append_filter(
     alloc: Global,
     store: &Store,

@@ -77,7 +77,7 @@ pub(crate) fn renew_names(
 ///
 /// # Errors
 ///
-/// Want of memory.
+/// Out of memory.
 pub(crate) fn choose_all(
     alloc: Global,
     store: &Store,

@@ -53,7 +53,7 @@ impl NameMap {
         }
     }
 
-    /// This stands under a name from now on. After want of memory all is as before.
+    /// This stands under a name from now on. Where memory runs out all is as before.
     pub(crate) fn insert(
         &mut self,
         alloc: Global,

@@ -55,7 +55,7 @@ fn new_places(
 ///
 /// # Errors
 ///
-/// Want of memory. Some of the names may have a place then.
+/// Out of memory. Some of the names may have a place then.
 pub fn make_places(
     alloc: Global,
     chosen: &mut BTreeMap<Vec<u8>, Chosen>,

@@ -89,7 +89,7 @@ fn push_list(
 ///
 /// # Errors
 ///
-/// Want of memory.
+/// Out of memory.
 pub fn packages_of_store(alloc: Global, store: &Store) -> Result<Vec<Bytes>, AllocError>
     ensures packages { IfOk result (λ names. names.items ≡ packages_among (entries_of (keyed_of store.now).lists)) }
     // of any other name there is nothing to keep
@@ -307,7 +307,7 @@ fn put_in_order(names: &mut Vec<Bytes>)
 ///
 /// # Errors
 ///
-/// Want of memory.
+/// Out of memory.
 pub fn touched_names(alloc: Global, store: &Store, plan: &Plan) -> Result<Vec<Bytes>, AllocError>
     requires { IsReady store.now plan.now }
     ensures touches { IfOk result (λ names. TouchesAlone names.items store.now plan.now.edit) }

@@ -38,7 +38,7 @@ fn append_any_policy(
     }
 }
 
-/// Appends the answer to a query. After want of memory a part of it may stand there.
+/// Appends the answer to a query. Where memory runs out a part of it may stand there.
 fn append_answer(
     asking: &Asking<'_>,
     query: &Query,
@@ -110,7 +110,7 @@ fn answer_behind(
 ///
 /// # Errors
 ///
-/// Want of memory. Then the text is as before.
+/// Out of memory. Then the text is as before.
 pub fn answer(
     alloc: Global,
     cache: &Cache,

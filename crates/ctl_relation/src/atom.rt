@@ -108,7 +108,7 @@ impl<'a> Atom<'a> {
         }
     }
 
-    // Want of memory leaves what stood in `out` at its front.
+    // Where memory runs out, what stood in `out` stays at its front.
     fn append_parts(&self, out: &mut Vec<u8>) -> Result<(), AllocError>
         ensures ok { OnOk result (out.new.items ≡ out.old.items ++ atom_text self.now) }
         ensures err { OnErr result (take (vec_len out.old) out.new.items ≡ out.old.items) }
@@ -124,7 +124,7 @@ impl<'a> Atom<'a> {
         Ok(())
     }
 
-    // Appends the name, and the qualifier behind its colon. Want of memory leaves what stood in `out` at its front.
+    // Appends the name, and the qualifier behind its colon. Where memory runs out, what stood in `out` stays at its front.
     fn append_name(&self, out: &mut Vec<u8>) -> Result<(), AllocError>
         ensures ok { OnOk result (out.new.items ≡ out.old.items ++ (self.now.name ++ qualifier_text self.now.qualifier)) }
         ensures err { OnErr result (take (vec_len out.old) out.new.items ≡ out.old.items) }

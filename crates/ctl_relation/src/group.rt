@@ -114,7 +114,7 @@ impl<'a> Group<'a> {
             || is_named_among(self.kind, self.body, self.further, name)
     }
 
-    /// Appends the printed form of the group to `out`: its atoms joined by ` | `. The only error is want of memory,
+    /// Appends the printed form of the group to `out`: its atoms joined by ` | `. The only error is out of memory,
     /// after which `out` holds what it held.
     pub fn append_to(&self, out: &mut Vec<u8>) -> Result<(), AllocError>
         ensures ok { OnOk result (out.new.items ≡ out.old.items ++ group_text self.now) }
@@ -130,7 +130,7 @@ impl<'a> Group<'a> {
         }
     }
 
-    // Want of memory leaves what stood in `out` at its front.
+    // Where memory runs out, what stood in `out` stays at its front.
     fn append_parts(&self, out: &mut Vec<u8>) -> Result<(), AllocError>
         ensures ok { OnOk result (out.new.items ≡ out.old.items ++ group_text self.now) }
         ensures err { OnErr result (take (vec_len out.old) out.new.items ≡ out.old.items) }
@@ -142,7 +142,7 @@ impl<'a> Group<'a> {
     }
 }
 
-// Appends the atoms at these places, each behind a bar. Want of memory leaves what stood in `out` at its front.
+// Appends the atoms at these places, each behind a bar. Where memory runs out, what stood in `out` stays at its front.
 fn append_others(
     kind: FieldKind,
     body: &[u8],

@@ -40,7 +40,7 @@ impl Model for Offer {
 }
 
 impl Offer {
-    /// An offer of `name`, at `version` if there is one. The only error is want of memory.
+    /// An offer of `name`, at `version` if there is one. The only error is out of memory.
     pub fn new(alloc: Global, name: &[u8], version: Option<Version>) -> Result<Offer, AllocError>
         ensures { IfOk result (λ offer. offer ≡ record { name = name.now; version = version }) }
     {

@@ -123,7 +123,7 @@ fn own_and_entries(
     Ok(offers)
 }
 
-/// What a stanza offers: its package at its version, and each entry of its Provides. The only error is want of memory.
+/// What a stanza offers: its package at its version, and each entry of its Provides. The only error is out of memory.
 pub fn offers_of(
     alloc: Global,
     package: &[u8],

@@ -168,7 +168,7 @@ fn read_group<'a>(
 
 /// Reads the groups of the body of a relation field of this kind from left to right: adds where each begins to `starts`, and
 /// where the atoms behind the first one of a group begin to `further`. Both are empty before. The error is the first fault
-/// from the left, or want of memory.
+/// from the left, or out of memory.
 pub fn read_groups(
     kind: FieldKind,
     body: &[u8],
@@ -212,7 +212,7 @@ fn piece_count(body: &[u8]) -> usize {
 }
 
 /// Reads the body of a relation field of this kind: where its atoms stand, or its first fault from the left. A body of 2^32
-/// bytes or more is taken for want of memory.
+/// bytes or more counts as out of memory.
 pub fn read_places(alloc: Global, body: &[u8], kind: FieldKind) -> Result<Places, RelationFault>
     ensures groups { Gives (λ places. groups_kept body.now places) result (relations_of kind body.now) }
     ensures held { IfOk result (ArePlacesIn body.now) }

@@ -57,7 +57,7 @@ pub fn parse_relations<'a>(
     ensures only { (groups : List (List AtomParts)) → RelationsText kind body.now groups
         → IfOk result (λ relations. relations ≡ groups) × IfErr result (λ fault. fault ≡ relation.Memory) }
 
-    // A fault but want of memory is the one that is due where the body first leaves the grammar.
+    // A fault other than out of memory is the one that is due where the body first leaves the grammar.
     ensures fault { IfErr result (λ fault. fault ≢ relation.Memory → IsFault kind body.now fault) }
 {
     match read_places(alloc, body, kind) {

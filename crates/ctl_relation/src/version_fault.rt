@@ -6,7 +6,7 @@ ghost use Rattle.ctl_relation.specs.declared.version_fault.VersionFault.TheVaria
 use std::alloc::AllocError;
 
 /// Why a text is no version (Debian Policy 5.6.12): the first test that it fails, in the order of the variants,
-/// or want of memory.
+/// or out of memory.
 #[derive(Clone, Copy, Debug, PartialEq, Eq)]
 pub enum VersionFault {
     /// The text has no byte.

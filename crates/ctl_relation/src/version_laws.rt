@@ -42,7 +42,7 @@ pub fn texts_have_one_cut()
     ensures unique { PartsAreUnique }
 {}
 
-/// Want of memory is no test of a text, so it is never why one is no version.
+/// Memory that runs out is no test of a text, so it is never why one is no version.
 #[tactic(auto, using(crate::proofs::VersionTextLaws::no_test_of_memory))]
 pub fn version_faults_are_of_texts()
     ensures { NoTestOfMemory }

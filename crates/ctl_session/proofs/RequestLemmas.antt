@@ -43,7 +43,7 @@ kept_if_asked (Err cause) text is_kept same kept = kept same
 pub refused_as_defined : (cache : CacheState) (line : List ℕ) (cause : Refusal) → request_of_line line ≡ Err cause → IsRefusedWithAnyBody cache line cause
 refused_as_defined cache line cause asks = λ command same whole. whole_does cache command line (Err cause) (Refused command.number cause) same whole asks refl
 
--- want of memory
+-- out of memory
 pub refused_for_memory : (cache : CacheState) (line : List ℕ) → names_command line ≡ true → IsRefusedWithAnyBody cache line refusal.Memory
 refused_for_memory cache line named = λ command same whole. inr (inl (whole_takes command whole (ap names_command same ∙ named), refl))
 

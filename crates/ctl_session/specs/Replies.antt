@@ -44,7 +44,7 @@ abbrev pub outcome_of_edit : Result Unit RefusalAt → CacheState → Outcome
 outcome_of_edit (Ok done) new = ChangedOutcome new
 outcome_of_edit (Err refused) new = RefusedOutcome refused.line refused.cause
 
--- an edit came to this outcome, or to want of memory, told at the line of its command
+-- an edit came to this outcome, or to out of memory, told at the line of its command
 abbrev pub CameTo : ℕ → Result Unit RefusalAt → CacheState → Outcome → Type 0
 CameTo number result new outcome =
     (outcome_of_edit result new ≡ outcome) ⊎ (outcome_of_edit result new ≡ RefusedOutcome number refusal.Memory)
@@ -54,7 +54,7 @@ abbrev pub outcome_of_load : Result Unit LoadFault → CacheState → Outcome
 outcome_of_load (Ok done) new = ChangedOutcome new
 outcome_of_load (Err fault) new = RefusedOutcome fault.line fault.cause
 
--- a load came to this outcome, or to want of memory
+-- a load came to this outcome, or to out of memory
 abbrev pub LoadCameTo : Result Unit LoadFault → CacheState → Outcome → Type 0
 LoadCameTo result new outcome =
     (outcome_of_load result new ≡ outcome) ⊎ (outcome_of_load result new ≡ RefusedOutcome 0 refusal.Memory)
@@ -66,7 +66,7 @@ IsRefusalOf fault number refused =
     ⊎ (refused ≡ record { line = number; cause = refusal.Memory })
 
 -- with the text of its body a command of this line does what the request asks for, if that is for the cache; or it is refused for
--- want of memory
+-- out of memory
 abbrev pub MayDo : CacheState → ℕ → List ℕ → Request → Outcome → Type 0
 MayDo cache number text request outcome =
     IsFor cache request → Does cache number text (request_text request) outcome ⊎ (outcome ≡ RefusedOutcome number refusal.Memory)

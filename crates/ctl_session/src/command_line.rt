@@ -125,7 +125,7 @@ pub fn arguments(alloc: Global, words: &[&str]) -> Result<Arguments, ArgumentsFa
     // What clap promises it promises of simple applications, as this one is.
     ensures simple { is_simple application ≡ true }
 
-    // Words that clap takes are refused for want of memory alone.
+    // Words that clap takes are refused only where memory runs out.
     ensures memory { takes application (map (λ word. word.now) words.now) ≡ true → IfErr result (λ fault. fault ≡ Memory) }
 {
     let command = match command(alloc) {

@@ -59,7 +59,7 @@ pub(crate) fn refused(number: u32, cause: Refusal) -> RefusalAt
     }
 }
 
-/// The refusal of a body whose text has a fault. Want of memory is told at the line of the command.
+/// The refusal of a body whose text has a fault. Out of memory is told at the line of the command.
 fn refusal_at(fault: TextFault, number: u32) -> RefusalAt
     ensures { IsRefusalOf fault number result }
 {

@@ -132,7 +132,7 @@ impl Session {
     ///
     /// The first of these, and what the cache holds stays: the name is none; the fault of the text, with its line;
     /// there is a list of that name; there is a status list, and this would be another; the cache is full. Each may
-    /// be want of memory instead.
+    /// be out of memory instead.
     pub fn load(&mut self, name: &[u8], kind: ListKind, text: &[u8]) -> Result<(), LoadFault>
         ensures loaded { LoadCameTo result (cache_state self.new.cache)
             (loaded (cache_state self.old.cache) name.now kind text.now) }

@@ -35,7 +35,7 @@ number_of causes.Priority = 18
 number_of causes.Form = 23
 number_of causes.Memory = 22
 
--- want of memory is told at line 0
+-- out of memory is told at line 0
 abbrev pub IsMemoryAtZero : TextFault → Type 0
 IsMemoryAtZero fault = fault.cause ≡ causes.Memory → fault.line ≡ 0
 

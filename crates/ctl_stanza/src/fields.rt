@@ -235,7 +235,7 @@ fn add_field(
 }
 
 /// Puts the text of the lines of a stanza without a faulty line in place of the bytes, finds their fields in it, and puts the
-/// bodies behind it that don't stand in it in one piece. How long the text is. The only error is want of memory, which also
+/// bodies behind it that don't stand in it in one piece. How long the text is. The only error is out of memory, which also
 /// a place of 2^32 or more is taken for.
 pub(crate) fn fields_of_lines(
     bytes: &mut Vec<u8>,

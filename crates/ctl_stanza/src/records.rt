@@ -52,7 +52,7 @@ struct RecordRoom<'a> {
     lines: Vec<&'a [u8]>,
 }
 
-// The record of lines without a faulty one, which have these numbers. One of 2^32 bytes or more is taken for want of
+// The record of lines without a faulty one, which have these numbers. One of 2^32 bytes or more counts as out of
 // memory.
 fn record_of(alloc: Global, lines: &[&[u8]], numbers: &[u64]) -> Result<Record, AllocError>
     requires some { 0 < length lines.now }
@@ -158,7 +158,7 @@ pub struct RecordsBeforeFault {
 ///
 /// # Errors
 ///
-/// Want of memory. So it is taken for a record of 2^32 bytes or more.
+/// Out of memory. A record of 2^32 bytes or more counts as that.
 pub fn read_records_before_fault(
     alloc: Global,
     text: &[u8],

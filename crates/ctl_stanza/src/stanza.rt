@@ -190,7 +190,7 @@ pub(crate) fn add_stanza(
     Ok(())
 }
 
-/// Adds the stanza of lines none of which is faulty, or tells what is wrong with it. One of 2^32 bytes or more is taken for want
+/// Adds the stanza of lines none of which is faulty, or tells what is wrong with it. One of 2^32 bytes or more counts as out
 /// of memory.
 pub(crate) fn add_stanza_of_lines(
     alloc: Global,

@@ -101,7 +101,7 @@ impl PinVersion {
         }
     }
 
-    /// A copy, which nothing but want of memory keeps from being made.
+    /// A copy, which is always made unless memory runs out.
     pub fn try_clone(&self, alloc: Global) -> Result<PinVersion, AllocError>
         ensures { IfOk result (λ copy. copy ≡ self.now) }
     {

@@ -26,7 +26,7 @@ pub struct PinSetting {
 }
 
 impl Selector {
-    /// A copy, which nothing but want of memory keeps from being made.
+    /// A copy, which is always made unless memory runs out.
     pub fn try_clone(&self, alloc: Global) -> Result<Selector, AllocError>
         ensures { IfOk result (λ copy. copy ≡ self.now) }
     {
@@ -54,7 +54,7 @@ impl Selector {
 }
 
 impl PinSetting {
-    /// A copy, which nothing but want of memory keeps from being made.
+    /// A copy, which is always made unless memory runs out.
     pub fn try_clone(&self, alloc: Global) -> Result<PinSetting, AllocError>
         ensures { IfOk result (λ copy. copy ≡ self.now) }
     {

@@ -78,7 +78,7 @@ impl Cache {
     ///
     /// # Errors
     ///
-    /// Want of memory, of which it takes as much as the prefix has bytes.
+    /// Out of memory, of which it takes as much as the prefix has bytes.
     pub fn names_from(&self, prefix: &[u8]) -> Result<Names<'_>, AllocError>
         requires { self.now.stale ≡ false }
         // each once
@@ -98,7 +98,7 @@ impl Cache {
     ///
     /// # Errors
     ///
-    /// Want of memory, of which it takes as much as the prefix has bytes.
+    /// Out of memory, of which it takes as much as the prefix has bytes.
     pub fn package_names(&self, prefix: &[u8]) -> Result<PackageNames<'_>, AllocError>
         requires { self.now.stale ≡ false }
         // each once
