@@ -84,8 +84,7 @@ impl<'a> Depending<'a> {
             return Ok(());
         }
         append_atom_line(with_row, alternative, out)?;
-        append_providers(self.asking, self.options.installed, &names, out)?;
-        Ok(())
+        append_providers(self.asking, self.options.installed, &names, out)
     }
 
     /// Appends the lines of an atom. Those of one that took many tests are kept in mind: where it stands there again, they are

@@ -204,8 +204,7 @@ fn append_known(
 {
     append_line(out, &[name])?;
     append_line(out, &[b"Reverse Depends:"])?;
-    append_all_askers(asking, installed, table, name, out)?;
-    Ok(())
+    append_all_askers(asking, installed, table, name, out)
 }
 
 fn append_one(

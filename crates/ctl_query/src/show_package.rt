@@ -193,8 +193,7 @@ fn show_versions(
     'rows: for row in rows {
         append_version(asking.store(), row, out)?;
     }
-    append_line(out, &[])?;
-    Ok(())
+    append_line(out, &[])
 }
 
 fn show_namers(
@@ -210,8 +209,7 @@ fn show_namers(
         ++ of_all_rows (world_of asking.now) (naming_lines name.now))) }
 {
     append_line(out, &[b"Reverse Depends:"])?;
-    append_naming(asking, table, namers, name, out)?;
-    Ok(())
+    append_naming(asking, table, namers, name, out)
 }
 
 fn show_relations(store: &Store, rows: NewestFirst<'_>, out: &mut Vec<u8>) -> Result<(), AllocError>
@@ -247,8 +245,7 @@ fn show_providers(
         ++ of_all_rows (world_of asking.now) (providing_lines name.now))) }
 {
     append_line(out, &[b"Reverse Provides:"])?;
-    append_providing(asking, offering, name, out)?;
-    Ok(())
+    append_providing(asking, offering, name, out)
 }
 
 /// Appends the answer on a known name, under which this stands.
@@ -273,8 +270,7 @@ fn append_known(
     show_namers(asking, table, view.namers(), name, out)?;
     show_relations(asking.store(), view.rows(), out)?;
     show_entries(asking.store(), view.rows(), out)?;
-    show_providers(asking, view.offering(), name, out)?;
-    Ok(())
+    show_providers(asking, view.offering(), name, out)
 }
 
 fn append_one(
