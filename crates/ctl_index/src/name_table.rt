@@ -26,6 +26,7 @@ use crate::keys::{AtomKey, KeyedOffer, Namer, OfferKey};
 use crate::name_entries::NameEntries;
 use crate::name_map::NameMap;
 use crate::named::{Named, is_used};
+use crate::offer_list::OfferList;
 use crate::sight::{Going, Sight};
 use ctl_policy::Rows;
 use ctl_relation::{Atom, FieldKind, Offer, Steps, Version};
@@ -165,7 +166,7 @@ impl NameTable {
             }
             None => {
                 let named = Named {
-                    offers: KeyList::of_one(self.alloc, coming.key)?,
+                    offers: OfferList::of_one(self.alloc, coming.key),
                     namers: KeyList::new(self.alloc),
                     rows: Rows::new(self.alloc),
                 };
@@ -202,7 +203,7 @@ impl NameTable {
             }
             None => {
                 let named = Named {
-                    offers: KeyList::new(self.alloc),
+                    offers: OfferList::new(self.alloc),
                     namers: KeyList::of_one(self.alloc, Namer::new(key, atom))?,
                     rows: Rows::new(self.alloc),
                 };
@@ -292,7 +293,7 @@ impl NameTable {
                 let mut rows = Rows::new(self.alloc);
                 rows.put(version, key)?;
                 let named = Named {
-                    offers: KeyList::new(self.alloc),
+                    offers: OfferList::new(self.alloc),
                     namers: KeyList::new(self.alloc),
                     rows,
                 };

@@ -6,13 +6,14 @@ ghost use Rattle.ctl_index.specs.TablesByName.{is_used};
 ghost use Rattle.ctl_index.specs.TablesViews.{has_own};
 
 use crate::key_list::KeyList;
-use crate::keys::{Namer, OfferKey};
+use crate::keys::Namer;
+use crate::offer_list::OfferList;
 use ctl_policy::Rows;
 
 /// The offers of a name, the atoms that name it, and its rows.
 #[derive(Drop)]
 pub(crate) struct Named {
-    pub(crate) offers: KeyList<OfferKey>,
+    pub(crate) offers: OfferList,
     pub(crate) namers: KeyList<Namer>,
     pub(crate) rows: Rows,
 }

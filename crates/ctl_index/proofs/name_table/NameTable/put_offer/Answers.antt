@@ -68,8 +68,8 @@ returns-in_ok-put-in-Some-clause-rows c =
     let w : Named = record { offers = c.put.new.self; namers = v.namers; rows = v.rows } in
     unchanged named_rows fin.empty c.name.result.now m (c.get_mut.follows.lender w) w (on_some c.in-Some.is (c.get_mut.follows.holds w)) (part-found named_rows fin.empty c.name.result.now m _ c.in-Some.ensures.value)
 
-pub returns-in_ok-of_one-in-None-clause-rows : goal.returns-in_ok-of_one-in-None-clause-rows
-returns-in_ok-of_one-in-None-clause-rows c =
+pub returns-in-None-clause-rows : goal.returns-in-None-clause-rows
+returns-in-None-clause-rows c =
     let m = c.args.self.now.map in
     let bs = c.name-in-None.result.now in
     let same : (q : List ℕ) → rows_under c.get_mut.follows.lender-at-none q ≡ rows_under m q = λ q. ap (λ o. option_map_or named_rows o fin.empty) (c.get_mut.follows.holds-at-none q) in
