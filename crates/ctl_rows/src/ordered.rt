@@ -5,8 +5,12 @@ use crate::tables::same;
 use ctl_ordered::Ordered;
 use std::alloc::Global;
 
-/// Sets the value of a key.
+/// Sets the value of a key, while a serial number is left.
 fn set(map: &mut Ordered<u8, u8>, key: u8, value: u8, said: &mut Said) {
+    if map.next_serial() == u64::MAX {
+        said.fail();
+        return;
+    }
     match map.reserve_one() {
         Ok(()) => map.put(key, value),
         Err(_) => said.fail(),
