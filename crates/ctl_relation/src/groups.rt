@@ -67,7 +67,7 @@ fn behind_earlier<'a>(starts: &[u32], further: &'a [u32]) -> &'a [u32]
 }
 
 impl<'a> Groups<'a> {
-    /// The groups that begin at these places of a body, as [`read_groups`](crate::read_groups) gives them.
+    /// The groups that begin at these places of a body, as [`Places`](crate::Places) keep them.
     pub fn new(kind: FieldKind, body: &'a [u8], starts: &'a [u32], further: &'a [u32]) -> Groups<'a>
         requires { AreHeld kind body.now starts.now further.now }
         ensures { result ≡ groups_held kind body.now starts.now further.now }

@@ -1,7 +1,8 @@
 //! What a stanza offers: its own name first, and then each entry of its Provides (Debian Policy 7.5).
 
-ghost use Rattle.std.specs.Prelude.{◌≡◌, ◌∷◌, ◌++◌, [], map, IfOk, OnOk};
+ghost use Rattle.std.specs.Prelude.{◌≡◌, ◌∷◌, ◌++◌, [], map, None, IfOk, OnOk};
 ghost use Rattle.ctl_relation.specs.Offered.{offer_of, offers_in};
+ghost use Rattle.ctl_relation.specs.Version.{fault_of};
 
 use crate::atom::Atom;
 use crate::group::Group;
@@ -59,6 +60,7 @@ impl Offers {
 
 // The version of a text that is one.
 fn copy_version(alloc: Global, text: &[u8]) -> Result<Version, AllocError>
+    requires { fault_of text.now ≡ None }
     ensures { IfOk result (λ copy. copy ≡ text.now) }
 {
     match Version::parse(alloc, text) {

@@ -169,7 +169,7 @@ fn read_group<'a>(
 /// Reads the groups of the body of a relation field of this kind from left to right: adds where each begins to `starts`, and
 /// where the atoms behind the first one of a group begin to `further`. Both are empty before. The error is the first fault
 /// from the left, or out of memory.
-pub fn read_groups(
+pub(crate) fn read_groups(
     kind: FieldKind,
     body: &[u8],
     starts: &mut Vec<u32>,

@@ -11,7 +11,7 @@ use Rattle.ctl_stanza.specs.declared.line_kind.LineKind.{LineKind}
 use Rattle.ctl_stanza.specs.declared.line_kind.LineKind.TheVariants.{Blank, Field as FieldLine, Continuation, Faulty}
 use Rattle.ctl_stanza.specs.Lines.{is_blank_byte, text_of_lines}
 use Rattle.ctl_stanza.specs.LineKind.{kind_of}
-use Rattle.ctl_stanza.specs.declared.fields.Span.{Span}
+use Rattle.ctl_relation.specs.declared.span.Span.{Span}
 use Rattle.ctl_stanza.specs.Fields.{FieldText, strip_end, before_stripped, value_of, continues, continued, fields_from, field_at}
 use Rattle.ctl_stanza.specs.Faults.{field_cause, first_wrong, fault_or}
 use Rattle.ctl_stanza.specs.HeldFields.{IsPlainAt, ArePlain, IsWithin, AreWithin, StandsAt, Shows, ends_with_value, loose_at, loose_bodies, shown, shown_fields}

@@ -30,4 +30,3 @@ pub mod PartLemmas
 pub mod ReaderLemmas
 pub mod WalkLemmas
 pub mod QuickLemmas
-pub mod MarkLemmas

@@ -1,24 +1,25 @@
 -- The names of the relation fields, and what is kept of them.
-use Rattle.std.proofs.Common.{◌≡◌, ◌∙◌, ◌++◌, ℕ, true, false, cond, List, [], ◌∷◌, get_or, length, nat_eq, Option, Some, None, refl, sym, ap, subst, ⊎_elim, Bool, unwrap_or}
+use Rattle.std.proofs.Common.{◌≡◌, ◌∙◌, ◌++◌, ℕ, true, false, cond, List, [], ◌∷◌, length, nat_eq, Option, Some, None, refl, sym, ap, subst, ⊎_elim, Bool, unwrap_or}
 use Rattle.std.specs.Option.{option_map}
 use Rattle.std.specs.Str.{bytes_eq, str_to_ascii_lowercase}
 use Rattle.std.specs.Char.{to_ascii_lowercase}
-use Rattle.std.proofs.lemmas.Bool.{cases_Bool, cond-true, cond-false, eqb-true}
+use Rattle.std.proofs.lemmas.Bool.{cases_Bool, cond-true, cond-false}
 use Rattle.std.proofs.lemmas.List.{length-map}
 use Rattle.std.proofs.lemmas.List.Elements.{All-push}
 use Rattle.std.proofs.lemmas.Slice.Eq.{bytes_eq-Decides}
 use Rattle.ctl_relation.specs.declared.field_kind.FieldKind.{FieldKind}
 use Rattle.ctl_relation.specs.declared.field_kind.FieldKind.TheVariants.{PreDepends, Depends, Conflicts, Breaks, Recommends, Suggests, Replaces, Enhances, Provides}
+use Rattle.ctl_relation.specs.declared.span.Span.{Span}
 use Rattle.ctl_relation.specs.FieldKind.{field_place}
+use Rattle.ctl_relation.specs.Marks.{MarkedField, groups_in, kept_groups, AreKeptIn, AreMarks, IsKeptIn, KeepsIfRelation}
 use Rattle.ctl_relation.specs.Parts.{AtomParts}
 use Rattle.ctl_relation.specs.Reading.{groups_read}
-use Rattle.ctl_stanza.specs.Marks.{MarkedField}
+use Rattle.ctl_relation.proofs.MarkLemmas.{same-place, place-same}
 use Rattle.ctl_stanza.specs.Fields.{FieldText, is_same_name, body_named, package_name, version_name}
 use Rattle.ctl_stanza.specs.RelationFields.{name_of, relation_kind}
 use Rattle.ctl_stanza.specs.Faults.{or_else}
-use Rattle.ctl_stanza.specs.declared.fields.Span.{Span}
 use Rattle.ctl_stanza.specs.HeldFields.{shown}
-use Rattle.ctl_stanza.specs.HeldStanza.{groups_in, kept_groups, version_given, AreKeptIn, IsKeptIn, KeepsIfRelation}
+use Rattle.ctl_stanza.specs.HeldStanza.{version_given}
 
 -- ---- names without regard to case
 
@@ -133,36 +134,6 @@ kept-push kind bytes (f ∷ fs) field = by (nat_eq (field_place f.kind) (field_p
     by true rest = refl
     by false rest = rest
 
--- the nine fields in their order
-abbrev nine : List FieldKind
-nine = PreDepends ∷ Depends ∷ Conflicts ∷ Breaks ∷ Recommends ∷ Suggests ∷ Replaces ∷ Enhances ∷ Provides ∷ []
-
-at-place : (kind : FieldKind) → get_or nine (field_place kind) PreDepends ≡ kind
-at-place PreDepends = refl
-at-place Depends = refl
-at-place Conflicts = refl
-at-place Breaks = refl
-at-place Recommends = refl
-at-place Suggests = refl
-at-place Replaces = refl
-at-place Enhances = refl
-at-place Provides = refl
-
--- Fields that stand at one place are one.
-pub same-place : (a b : FieldKind) → nat_eq (field_place a) (field_place b) ≡ true → a ≡ b
-same-place a b same = sym (at-place a) ∙ ap (λ n. get_or nine n PreDepends) (eqb-true (field_place a) (field_place b) same) ∙ at-place b
-
-pub place-same : (a : FieldKind) → nat_eq (field_place a) (field_place a) ≡ true
-place-same PreDepends = refl
-place-same Depends = refl
-place-same Conflicts = refl
-place-same Breaks = refl
-place-same Recommends = refl
-place-same Suggests = refl
-place-same Replaces = refl
-place-same Enhances = refl
-place-same Provides = refl
-
 -- what a relation field gives is what is pushed
 gives-pushed : (name body : List ℕ) (here kind : FieldKind) (groups : List (List AtomParts)) → relation_kind name ≡ Some here → groups ≡ groups_read here body
     → cond (nat_eq (field_place here) (field_place kind)) (Some groups) None ≡ groups_given kind name body
@@ -205,6 +176,12 @@ keeps-given bytes name body (Some here) old new is keeps kind =
 pub keeps-kept : (bytes : List ℕ) (body : Span) (o : Option FieldKind) (old new : List MarkedField) → KeepsIfRelation bytes o body old new → AreKeptIn bytes old → AreKeptIn bytes new
 keeps-kept bytes body None old new keeps kept = subst (AreKeptIn bytes) (sym keeps) kept
 keeps-kept bytes body (Some here) old new keeps kept = subst (AreKeptIn bytes) (sym keeps.pushed) (All-push (IsKeptIn bytes) old keeps.field kept keeps.kept)
+
+-- the fields so far are marked, and those that are left give the rest
+pub record AreMarkedSoFar (bytes marks : List ℕ) (left all : List FieldText) : Type 0 where
+  pub relations : List MarkedField
+  pub are : AreMarks bytes marks relations
+  pub groups : (kind : FieldKind) → or_else (kept_of kind bytes relations) (groups_found kind left) ≡ groups_found kind all
 
 -- ---- one field more
 

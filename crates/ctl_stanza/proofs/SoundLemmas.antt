@@ -38,7 +38,8 @@ use Rattle.ctl_stanza.specs.HeldFields.{AreWithin, Grows, IsReadFrom, IsWalk, lo
 use Rattle.ctl_stanza.specs.Sound.{IsWhole, IsSound, atoms_of}
 use Rattle.ctl_stanza.proofs.FieldLemmas.{continued-le}
 use Rattle.ctl_stanza.proofs.ProvidesLemmas.{one_atom_each}
-use Rattle.ctl_stanza.proofs.RelationLemmas.{kind-same, place-same}
+use Rattle.ctl_relation.proofs.MarkLemmas.{place-same}
+use Rattle.ctl_stanza.proofs.RelationLemmas.{kind-same}
 
 -- ---- no fault, from whichever line the lines count
 

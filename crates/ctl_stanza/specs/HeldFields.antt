@@ -1,8 +1,9 @@
 -- The fields that a stanza keeps, seen in its text: how they are held. Not for callers, who read Fields.
-use Rattle.std.specs.Prelude.{◌≡◌, ℕ, ◌<◌, ◌≤◌, ◌^◌, ◌-◌, ◌⊎◌, ⊤, ◌==◌, ◌||◌, Bool, List, [], ◌∷◌, ◌++◌, length, take, drop, slice_range, map, None, if◌then◌else◌}
+use Rattle.std.specs.Prelude.{◌≡◌, ℕ, ◌<◌, ◌≤◌, ◌^◌, ◌-◌, ◌⊎◌, ⊤, ◌==◌, ◌||◌, Bool, List, [], ◌∷◌, ◌++◌, length, take, drop, map, None, if◌then◌else◌}
 use Rattle.std.specs.List.{All}
 use Rattle.std.specs.Str.{bytes_eq}
-use Rattle.ctl_stanza.specs.declared.fields.Span.{Span}
+use Rattle.ctl_relation.specs.declared.span.Span.{Span}
+pub use Rattle.ctl_relation.specs.Spans.{IsWithin, shown}
 use Rattle.ctl_stanza.specs.declared.fields.Field.{Field}
 use Rattle.ctl_stanza.specs.declared.line_kind.LineKind.{LineKind}
 use Rattle.ctl_stanza.specs.declared.line_kind.LineKind.TheVariants.{Blank, Field as FieldLine, Continuation, Faulty}
@@ -13,19 +14,11 @@ use Rattle.ctl_stanza.specs.LineKind.{kind_of}
 use Rattle.ctl_stanza.specs.Fields.{FieldText, field_at, fields_of_lines, value_of, continued}
 use Rattle.ctl_stanza.specs.Content.{name_and_body}
 
--- a span lies in a text
-abbrev pub IsWithin : List ℕ → Span → Type 0
-IsWithin text span = (span.start ≤ span.end) × (span.end ≤ length text)
-
 abbrev pub IsFieldWithin : List ℕ → Field → Type 0
 IsFieldWithin text field = IsWithin text field.name × IsWithin text field.body
 
 abbrev pub AreWithin : List ℕ → List Field → Type 0
 AreWithin text fields = All (IsFieldWithin text) fields
-
--- the part of a text that a span shows
-abbrev pub shown : List ℕ → Span → List ℕ
-shown text span = slice_range text span.start span.end
 
 abbrev pub shown_field : List ℕ → Field → FieldText
 shown_field text field = record { line = field.line; name = shown text field.name; body = shown text field.body }

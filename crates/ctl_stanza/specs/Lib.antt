@@ -27,10 +27,8 @@ pub mod RecordLaws
 -- How the code holds what it has read. Not for callers.
 pub mod HeldFields
 pub mod Given
-pub mod HeldMarks
 pub mod HeldNames
 pub mod NameSlots
-pub mod Marks
 pub mod HeldStanza
 pub mod InParts
 pub mod Quick

@@ -6,7 +6,7 @@ ghost use Rattle.ctl_stanza.specs.Faults.{number_of};
 use std::alloc::{AllocError, AllocFailed};
 
 /// What is wrong with a line of a text, or with the stanza that it stands in.
-#[derive(Clone, Copy, Debug, PartialEq, Eq)]
+#[derive(Clone, Copy, PartialEq, Eq)]
 pub enum Cause {
     /// The line has more than [`MAX_LINE`](crate::MAX_LINE) bytes, or continues a body to more than that.
     TooLong,
@@ -52,7 +52,7 @@ impl Cause {
 }
 
 /// Why a text is refused: the number of a line, and its fault. The line is 0 where memory ran out.
-#[derive(Clone, Copy, Debug, PartialEq, Eq)]
+#[derive(Clone, Copy, PartialEq, Eq)]
 pub struct TextFault {
     /// The number of the line.
     pub line: u64,

@@ -13,14 +13,8 @@ ghost use Rattle.ctl_stanza.specs.HeldFields.{loose_at, loose_bodies};
 
 use crate::line_kind::{LineKind, kind_of};
 use crate::lines::{begins_with_blank, is_blank, is_blank_byte, text_of_lines};
+use ctl_relation::Span;
 use std::alloc::AllocError;
-
-/// From a place in a text up to another.
-#[derive(Clone, Copy)]
-pub(crate) struct Span {
-    pub(crate) start: u32,
-    pub(crate) end: u32,
-}
 
 /// A field of a stanza or a record: the index of its line, and where its name and its body stand in the text.
 #[derive(Clone, Copy)]
@@ -28,16 +22,6 @@ pub(crate) struct Field {
     pub(crate) line: u32,
     pub(crate) name: Span,
     pub(crate) body: Span,
-}
-
-impl Span {
-    /// The part of a text that it shows.
-    pub(crate) fn of<'a>(self, text: &'a [u8]) -> &'a [u8]
-        requires { IsWithin text.now self }
-        ensures { result.now ≡ shown text.now self }
-    {
-        &text[self.start as usize..self.end as usize]
-    }
 }
 
 /// Whether two names of fields are the same, without regard to ASCII case.

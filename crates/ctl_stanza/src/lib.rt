@@ -11,7 +11,6 @@ mod line_kind;
 mod lines;
 mod list_kind;
 mod live;
-mod marks;
 mod name_slots;
 mod names_given;
 mod parts;

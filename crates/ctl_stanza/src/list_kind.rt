@@ -1,7 +1,7 @@
 //! Kinds of lists.
 
 /// What a list holds.
-#[derive(Clone, Copy, Debug, PartialEq, Eq)]
+#[derive(Clone, Copy, PartialEq, Eq)]
 pub enum ListKind {
     /// Packages that can be had, as apt fetches such lists. Each stanza has a package and a version.
     Packages,

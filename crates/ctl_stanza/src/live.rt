@@ -2,29 +2,19 @@
 
 ghost use Rattle.std.specs.Prelude.{◌≡◌, ◌≢◌, ◌+◌, ◌<◌, ◌^◌, true, false, None, Some, IfErr, OnOk};
 ghost use Rattle.std.specs.List.{All};
-ghost use Rattle.ctl_relation.specs.declared.relation_fault.RelationFault.TheVariants as relation;
-ghost use Rattle.ctl_relation.specs.Reading.{relations_of};
+ghost use Rattle.ctl_relation.specs.Marks.{Marks};
 ghost use Rattle.ctl_relation.specs.Version.{fault_of};
 ghost use Rattle.ctl_stanza.specs.declared.fault.Cause.TheVariants as causes;
 ghost use Rattle.ctl_stanza.specs.Fields.{body_named, version_name};
 ghost use Rattle.ctl_stanza.specs.RelationFields.{relation_kind};
-ghost use Rattle.ctl_stanza.specs.Faults.{is_read, field_cause, first_wrong, or_else, IsMemoryAtZero, Tells, TellsCause};
-ghost use Rattle.ctl_stanza.specs.HeldStanza.{version_given, AreKept, Marks};
-ghost use Rattle.ctl_stanza.specs.HeldFields.{AreWithin, IsFieldWithin, IsWithin, shown, shown_fields};
+ghost use Rattle.ctl_stanza.specs.Faults.{field_cause, first_wrong, or_else, IsMemoryAtZero, Tells, TellsCause};
+ghost use Rattle.ctl_stanza.specs.HeldStanza.{version_given, AreKept};
+ghost use Rattle.ctl_stanza.specs.HeldFields.{AreWithin, IsFieldWithin, shown, shown_fields};
 
 use crate::fault::{Cause, TextFault};
-use crate::fields::{Field, Span, is_same_name};
-use crate::marks::{BODY_END, push_field};
-use ctl_relation::{FieldKind, RelationFault, Version, VersionFault, is_name, read_groups};
+use crate::fields::{Field, is_same_name};
+use ctl_relation::{FieldKind, RelationFault, RelationMarks, Version, VersionFault, is_name};
 use std::alloc::Global;
-
-/// The relation fields of a stanza that were read: their marks, and room for the places of the one that is read.
-#[derive(Drop)]
-pub(crate) struct RelationMarks {
-    pub(crate) marks: Vec<u32>,
-    starts: Vec<u32>,
-    further: Vec<u32>,
-}
 
 /// What the fields of a live stanza gave: its version, and the marks of its relation fields. One stanza after another is read
 /// with the same, so that the room is asked for once.
@@ -37,14 +27,9 @@ pub(crate) struct LiveParts {
 impl LiveParts {
     /// No room yet.
     pub(crate) fn new(alloc: Global) -> LiveParts {
-        let relations = RelationMarks {
-            marks: Vec::new(alloc),
-            starts: Vec::new(alloc),
-            further: Vec::new(alloc),
-        };
         LiveParts {
             version: None,
-            relations,
+            relations: RelationMarks::new(alloc),
         }
     }
 }
@@ -79,42 +64,6 @@ fn read_version(alloc: Global, body: &[u8], version: &mut Option<Version>) -> Re
     }
 }
 
-// Reads the body of a relation field, and marks where its groups and its atoms stand.
-fn read_relations(
-    bytes: &[u8],
-    body: Span,
-    kind: FieldKind,
-    relations: &mut RelationMarks,
-) -> Result<(), RelationFault>
-    requires { IsWithin bytes.now body }
-    ensures good { OnOk result (is_read (relations_of kind (shown bytes.now body)) ≡ true) }
-    ensures bad { IfErr result (λ fault. fault ≢ relation.Memory → is_read (relations_of kind (shown bytes.now body)) ≡ false) }
-    ensures marks { OnOk result (Marks bytes.now (Some kind) body relations.old.marks.items relations.new.marks.items) }
-{
-    if body.end - body.start >= BODY_END {
-        return Err(RelationFault::Memory);
-    }
-    relations.starts.clear();
-    relations.further.clear();
-    read_groups(
-        kind,
-        body.of(bytes),
-        &mut relations.starts,
-        &mut relations.further,
-    )?;
-    if relations.starts.len() > u32::MAX as usize || relations.further.len() > u32::MAX as usize {
-        return Err(RelationFault::Memory);
-    }
-    push_field(
-        &mut relations.marks,
-        kind,
-        body,
-        &relations.starts,
-        &relations.further,
-    )?;
-    Ok(())
-}
-
 // Reads a field of a live stanza, and keeps what it gives.
 fn read_field(alloc: Global, field: &Field, bytes: &[u8], live: &mut LiveParts) -> Result<(), Cause>
     requires { IsFieldWithin bytes.now field.now }
@@ -123,7 +72,7 @@ fn read_field(alloc: Global, field: &Field, bytes: &[u8], live: &mut LiveParts) 
     ensures version { OnOk result (
         live.new.version ≡ or_else live.old.version (version_given (shown bytes.now field.now.name) (shown bytes.now field.now.body))) }
     ensures marks { OnOk result (Marks bytes.now (relation_kind (shown bytes.now field.now.name)) field.now.body
-        live.old.relations.marks.items live.new.relations.marks.items) }
+        live.old.relations live.new.relations) }
 {
     let name = field.name.of(bytes);
     if is_same_name(name, b"Package") {
@@ -139,7 +88,7 @@ fn read_field(alloc: Global, field: &Field, bytes: &[u8], live: &mut LiveParts) 
     let Some(kind) = relation_kind(name) else {
         return Ok(());
     };
-    match read_relations(bytes, field.body, kind, &mut live.relations) {
+    match live.relations.read(bytes, field.body, kind) {
         Ok(()) => Ok(()),
         Err(RelationFault::Memory) => Err(Cause::Memory),
         Err(_) => Err(Cause::Relation),
@@ -160,10 +109,10 @@ pub(crate) fn read_live(
     ensures bad { IfErr result (Tells (first_wrong true first_line (shown_fields bytes.now fields.now))) }
     ensures memory { IfErr result IsMemoryAtZero }
     ensures version { OnOk result (live.new.version ≡ body_named version_name (shown_fields bytes.now fields.now)) }
-    ensures relations { OnOk result (AreKept bytes.now (shown_fields bytes.now fields.now) live.new.relations.marks.items) }
+    ensures relations { OnOk result (AreKept bytes.now (shown_fields bytes.now fields.now) live.new.relations) }
 {
     live.version = None;
-    live.relations.marks.clear();
+    live.relations.clear();
     for i in 0..fields.len() {
         let field = &fields[i];
         match read_field(alloc, field, bytes, live) {

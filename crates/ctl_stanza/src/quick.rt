@@ -8,12 +8,13 @@ ghost use Rattle.ctl_stanza.specs.HeldNames.{HasSeenNone};
 ghost use Rattle.ctl_stanza.specs.NameSlots.{AreTakenBy};
 ghost use Rattle.ctl_stanza.specs.Quick.{IsPlainAnywhere, AddsAnywhere, IsCutOff, IsAccepted};
 
-use crate::fields::{Field, Span, value_span};
+use crate::fields::{Field, value_span};
 use crate::line_faults::{LinesSeen, line_cause};
 use crate::line_kind::{LineKind, kind_of};
 use crate::lines::{MAX_LINE, is_too_long, take_line};
 use crate::repeats::Repeats;
 use crate::walk::continued_up_to;
+use ctl_relation::Span;
 use std::alloc::{AllocError, Global};
 
 /// The first stanza of a text, no line of which is faulty.

@@ -17,11 +17,10 @@ use crate::fields::{Field, body_named, fields_of_lines};
 use crate::laws::whole_stanzas_are_sound;
 use crate::list_kind::ListKind;
 use crate::live::{LiveParts, read_live};
-use crate::marks::kept_groups;
 use crate::name_slots::is_taken;
 use crate::status::liveness;
 use crate::walk::{body_in, count_fields, take_field};
-use ctl_relation::{FieldKind, Groups, Offer, Offers, Version, offers_of};
+use ctl_relation::{FieldKind, Groups, Offer, Offers, Version, kept_groups, offers_of};
 use std::alloc::{AllocError, Global};
 use std::marker::Model;
 use std::mem;
@@ -138,7 +137,7 @@ fn read_offers(
     requires read { IsReadFrom room.old.bytes.items text_len room.old.fields.items }
     ensures offers { IfOk result (λ offers. offers ≡ offers_of (content_in_front head.kind text_len room.old.bytes.items)) }
     ensures relations { OnOk result (AreRelationsOf (content_in_front head.kind text_len room.old.bytes.items)
-        room.old.bytes.items room.new.live.relations.marks.items) }
+        room.old.bytes.items room.new.live.relations) }
     ensures bytes { room.new.bytes ≡ room.old.bytes }
     ensures whole { OnOk result (whole_fault head.kind head.line (shown_fields room.old.bytes.items room.old.fields.items) ≡ None) }
     ensures fault { IfErr result (Tells (whole_fault head.kind head.line (shown_fields room.old.bytes.items room.old.fields.items))) }
@@ -156,14 +155,14 @@ fn read_offers(
     if let Some(true) = live {
         read_live(alloc, fields, bytes, head.line, &mut room.live)?;
         let version = room.live.version.take();
-        let marks = &room.live.relations.marks;
+        let marks = room.live.relations.as_slice();
         let offers = live_offers(alloc, fields, bytes, marks, version)?;
         return Ok(offers);
     }
     if let Some(fault) = first_wrong(fields, bytes, head.line) {
         return Err(fault);
     }
-    room.live.relations.marks.clear();
+    room.live.relations.clear();
     Ok(Offers::none())
 }
 
@@ -184,7 +183,7 @@ pub(crate) fn add_stanza(
     ensures memory { IfErr result IsMemoryAtZero }
 {
     let offers = read_offers(alloc, room, head, text_len)?;
-    let marks = Vec::from_slice(alloc, &room.live.relations.marks)?;
+    let marks = Vec::from_slice(alloc, room.live.relations.as_slice())?;
     let bytes = mem::replace(&mut room.bytes, Vec::new(alloc));
     stanzas.push(stanza_of(bytes, text_len, head, marks, offers))?;
     Ok(())

@@ -2,7 +2,7 @@ use Rattle.std.proofs.Common.{◌≡◌, ◌∙◌, ◌<◌, ◌≤◌, ◌+◌,
 use Rattle.std.proofs.lemmas.List.{length-append, map-append}
 use Rattle.std.proofs.lemmas.List.Elements.{All-push}
 use Rattle.ctl_stanza.specs.declared.fields.Field.{Field}
-use Rattle.ctl_stanza.specs.declared.fields.Span.{Span}
+use Rattle.ctl_relation.specs.declared.span.Span.{Span}
 use Rattle.ctl_stanza.specs.declared.line_kind.LineKind.{LineKind}
 use Rattle.ctl_stanza.specs.declared.line_kind.LineKind.TheVariants as kinds
 use Rattle.ctl_stanza.specs.Lines.{text_of_lines, lent_lines}

@@ -2,7 +2,7 @@ use Rattle.std.proofs.Common.{◌≡◌, true, drop}
 use Rattle.ctl_stanza.specs.Fields.{body_named, version_name}
 use Rattle.ctl_stanza.specs.Faults.{first_wrong, or_else}
 use Rattle.ctl_stanza.specs.HeldFields.{shown_fields}
-use Rattle.ctl_stanza.proofs.MarkLemmas.{AreMarkedSoFar}
+use Rattle.ctl_stanza.proofs.RelationLemmas.{AreMarkedSoFar}
 use Rattle.ctl_stanza.proofs.live.read_live.Given as goal
 
 -- no field so far is wrong; what they gave is kept, and what is left gives the rest
@@ -13,5 +13,5 @@ invariant-loop-i l =
     record {
       told : first_wrong true l.first_line all ≡ first_wrong true l.first_line left;
       version : or_else l.live.version (body_named version_name left) ≡ body_named version_name all;
-      marked : AreMarkedSoFar l.bytes l.live.relations.marks.items left all;
+      marked : AreMarkedSoFar l.bytes l.live.relations left all;
     }

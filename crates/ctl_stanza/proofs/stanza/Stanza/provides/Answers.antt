@@ -1,7 +1,7 @@
 use Rattle.std.proofs.Common.{◌<◌, ◌^◌, List, length, ◌∙◌, ap, sym, subst}
 use Rattle.ctl_relation.specs.declared.field_kind.FieldKind.TheVariants.{Provides}
 use Rattle.ctl_relation.specs.Parts.{AtomParts}
-use Rattle.ctl_stanza.specs.HeldStanza.{kept_groups, AreMarks}
+use Rattle.ctl_relation.specs.Marks.{kept_groups, AreMarks}
 use Rattle.ctl_stanza.proofs.stanza.Stanza.provides.Goals as goal
 
 pub returns-clause-count : goal.returns-clause-count

@@ -1,5 +1,5 @@
 -- The words of relation fields, read one field after the other.
-use Rattle.std.proofs.Common.{◌≡◌, ◌≢◌, ◌∙◌, ◌+◌, ◌-◌, ◌*◌, ◌/◌, ◌%◌, ◌<◌, ◌≤◌, ◌==◌, ℕ, suc, true, false, List, [], ◌∷◌, ◌++◌, length, take, drop, slice_index_or, slice_range, nat_eq, Some, refl, sym, ap, ap₂, subst, arith, append_assoc, append-nil, ⊎_elim}
+use Rattle.std.proofs.Common.{◌≡◌, ◌≢◌, ◌∙◌, ◌+◌, ◌-◌, ◌*◌, ◌/◌, ◌%◌, ◌<◌, ◌≤◌, ◌==◌, ℕ, suc, true, false, List, [], ◌∷◌, ◌++◌, length, take, drop, slice_index_or, slice_range, get_or, nat_eq, Some, refl, sym, ap, ap₂, subst, arith, append_assoc, append-nil, ⊎_elim}
 use Rattle.std.specs.Borrow.{Bor}
 use Rattle.std.proofs.lemmas.List.{length-append}
 use Rattle.std.proofs.lemmas.Grind.{flat_map-append}
@@ -11,16 +11,42 @@ use Rattle.ctl_relation.specs.declared.field_kind.FieldKind.TheVariants.{PreDepe
 use Rattle.ctl_relation.specs.FieldKind.{field_place}
 use Rattle.ctl_relation.specs.HeldPlaces.{AreHeld, groups_held}
 use Rattle.ctl_relation.specs.Reading.{groups_read}
-use Rattle.ctl_stanza.specs.declared.fields.Span.{Span}
-use Rattle.ctl_stanza.specs.Fields.{FieldText}
-use Rattle.ctl_stanza.specs.Faults.{or_else}
-use Rattle.ctl_stanza.specs.HeldFields.{IsWithin, shown}
-use Rattle.ctl_stanza.specs.declared.marks.Counts.{Counts}
-use Rattle.ctl_stanza.specs.declared.marks.FirstField.{FirstField}
-use Rattle.ctl_stanza.specs.HeldMarks.{HasFirst, IsFirst, AreCounts}
-use Rattle.ctl_stanza.specs.Marks.{MarkedField, code_of, counts_of, word_of, words_of, words_of_all}
-use Rattle.ctl_stanza.specs.HeldStanza.{kept_groups, IsKeptIn, AreMarks, Marks}
-use Rattle.ctl_stanza.proofs.RelationLemmas.{same-place, place-same, kept_of, groups_found}
+use Rattle.ctl_relation.specs.declared.span.Span.{Span}
+use Rattle.ctl_relation.specs.Spans.{IsWithin, shown}
+use Rattle.ctl_relation.specs.declared.marks.Counts.{Counts}
+use Rattle.ctl_relation.specs.declared.marks.FirstField.{FirstField}
+use Rattle.ctl_relation.specs.HeldMarks.{HasFirst, IsFirst, AreCounts}
+use Rattle.ctl_relation.specs.Marks.{MarkedField, code_of, counts_of, word_of, words_of, words_of_all, kept_groups, IsKeptIn, AreMarks, Marks}
+
+-- the nine fields in their order
+abbrev nine : List FieldKind
+nine = PreDepends ∷ Depends ∷ Conflicts ∷ Breaks ∷ Recommends ∷ Suggests ∷ Replaces ∷ Enhances ∷ Provides ∷ []
+
+at-place : (kind : FieldKind) → get_or nine (field_place kind) PreDepends ≡ kind
+at-place PreDepends = refl
+at-place Depends = refl
+at-place Conflicts = refl
+at-place Breaks = refl
+at-place Recommends = refl
+at-place Suggests = refl
+at-place Replaces = refl
+at-place Enhances = refl
+at-place Provides = refl
+
+-- Fields that stand at one place are one.
+pub same-place : (a b : FieldKind) → nat_eq (field_place a) (field_place b) ≡ true → a ≡ b
+same-place a b same = sym (at-place a) ∙ ap (λ n. get_or nine n PreDepends) (eqb-true (field_place a) (field_place b) same) ∙ at-place b
+
+pub place-same : (a : FieldKind) → nat_eq (field_place a) (field_place a) ≡ true
+place-same PreDepends = refl
+place-same Depends = refl
+place-same Conflicts = refl
+place-same Breaks = refl
+place-same Recommends = refl
+place-same Suggests = refl
+place-same Replaces = refl
+place-same Enhances = refl
+place-same Provides = refl
 
 -- the words that are left are those of the last of all fields, and the groups that are sought are among theirs
 pub record Left (bytes left : List ℕ) (kind : FieldKind) (all : List MarkedField) : Type 0 where
@@ -188,9 +214,3 @@ marks-field bytes old new body span kind starts further adds within shows held g
         groups = subst (λ (b : List ℕ). groups_held kind b starts further ≡ groups_read kind b) shows groups;
       };
     }
-
--- the fields so far are marked, and those that are left give the rest
-pub record AreMarkedSoFar (bytes marks : List ℕ) (left all : List FieldText) : Type 0 where
-  pub relations : List MarkedField
-  pub are : AreMarks bytes marks relations
-  pub groups : (kind : FieldKind) → or_else (kept_of kind bytes relations) (groups_found kind left) ≡ groups_found kind all

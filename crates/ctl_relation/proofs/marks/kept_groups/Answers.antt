@@ -1,6 +1,6 @@
 use Rattle.std.proofs.Common.{◌∙◌, refl, sym}
-use Rattle.ctl_stanza.proofs.MarkLemmas.{has-first, cut, is-shorter, left-next, ends-within, held-here, groups-here, none-left}
-use Rattle.ctl_stanza.proofs.marks.kept_groups.Goals as goal
+use Rattle.ctl_relation.proofs.MarkLemmas.{has-first, cut, is-shorter, left-next, ends-within, held-here, groups-here, none-left}
+use Rattle.ctl_relation.proofs.marks.kept_groups.Goals as goal
 
 pub first_field-first-requires : goal.first_field-first-requires
 first_field-first-requires c =

@@ -1,9 +1,9 @@
 -- How marks are read. Not for callers.
 use Rattle.std.specs.Prelude.{◌≡◌, ◌+◌, ◌≤◌, ℕ, List, ◌++◌}
 use Rattle.ctl_relation.specs.FieldKind.{field_place}
-use Rattle.ctl_stanza.specs.declared.marks.Counts.{Counts}
-use Rattle.ctl_stanza.specs.declared.marks.FirstField.{FirstField}
-use Rattle.ctl_stanza.specs.Marks.{MarkedField, words_of}
+use Rattle.ctl_relation.specs.declared.marks.Counts.{Counts}
+use Rattle.ctl_relation.specs.declared.marks.FirstField.{FirstField}
+use Rattle.ctl_relation.specs.Marks.{MarkedField, words_of}
 
 -- the words of a field stand at the front of marks
 pub record HasFirst (marks : List ℕ) : Type 0 where

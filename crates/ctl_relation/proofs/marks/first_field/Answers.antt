@@ -1,5 +1,5 @@
-use Rattle.ctl_stanza.proofs.MarkLemmas.{first-is}
-use Rattle.ctl_stanza.proofs.marks.first_field.Goals as goal
+use Rattle.ctl_relation.proofs.MarkLemmas.{first-is}
+use Rattle.ctl_relation.proofs.marks.first_field.Goals as goal
 
 pub returns : goal.returns
 returns c = λ field rest is ordered.
