@@ -2,7 +2,6 @@
 use Rattle.std.proofs.Common.{◌≡◌, ◌∙◌, ◌+◌, ◌<◌, ℕ, suc, Bool, true, false, cond, not, ◌==◌, ◌&&◌, ◌||◌, nat_lt, is_none, List, [], ◌∷◌, ◌++◌, length, take, drop, get_or, Option, Some, None, refl, sym, ap, ap₂, arith, append_assoc}
 use Rattle.std.proofs.lemmas.List.{append-nil, take_more, drop_more, length-take-le}
 use Rattle.std.proofs.lemmas.List.Folds.{list_any-append}
-use Rattle.std.proofs.lemmas.Bool.{cond-true, cond-false}
 use Rattle.ctl_stanza.specs.declared.line_kind.LineKind.{LineKind}
 use Rattle.ctl_stanza.specs.declared.line_kind.LineKind.TheVariants.{Blank, Field, Continuation, Faulty}
 use Rattle.ctl_stanza.specs.declared.fault.TextFault.{TextFault}
@@ -17,7 +16,7 @@ use Rattle.ctl_relation.specs.declared.field_kind.FieldKind.{FieldKind}
 use Rattle.ctl_relation.specs.Reading.{relations_of}
 use Rattle.ctl_relation.specs.Version.{fault_of}
 use Rattle.ctl_relation.specs.Names.{is_name}
-use Rattle.ctl_stanza.specs.Faults.{name_in, names_of, has_name, gives_name, body_step, body_len_from, body_len, repeat_cause, continuation_cause, cause_of, cause_with, fault_or, first_fault, is_read, relation_cause, live_cause, field_cause, first_wrong}
+use Rattle.ctl_stanza.specs.Faults.{name_in, names_of, has_name, gives_name, body_step, body_len_from, body_len, repeat_cause, continuation_cause, cause_by, cause_of, cause_with, fault_or, first_fault, is_read, relation_cause, live_cause, field_cause, first_wrong}
 
 pub names_of-append : (xs ys : List (List ℕ)) → names_of (xs ++ ys) ≡ names_of xs ++ names_of ys
 names_of-append [] ys = refl
@@ -88,16 +87,15 @@ given-same r given other same first len line Faulty = refl
 -- the cause that the code finds is that of the line
 pub cause-is : (r : Repeats) (ls : List (List ℕ)) (given : List ℕ → Bool) (i len : ℕ) (line : List ℕ) (kind : LineKind) (found : Option Cause) (first : Bool) → i < length ls
     → ((name : List ℕ) → given name ≡ has_name (names_of (take i ls)) name) → len ≡ body_len (take i ls) → first ≡ (i == 0)
-    → get_or ls i [] ≡ line → kind ≡ kind_of line → is_too_long line ≡ false → found ≡ cause_with r given first len line kind → found ≡ cause_of r (take i ls) (get_or ls i [])
-cause-is r ls given i len line kind found first lt same len_is first_is here is short e =
+    → get_or ls i [] ≡ line → kind ≡ kind_of line → found ≡ cause_by r given first len line kind → found ≡ cause_of r (take i ls) (get_or ls i [])
+cause-is r ls given i len line kind found first lt same len_is first_is here is e =
     let size : i ≡ length (take i ls) = sym (length-take-le i ls (omega arith)) in
-    e ∙ ap (λ b. cause_with r given b len line kind) first_is ∙ given-same r given (has_name (names_of (take i ls))) same (i == 0) len line kind
+    let none = Some causes.TooLong in
+    e ∙ ap (λ c. cond (is_too_long line) none c)
+    (ap (λ b. cause_with r given b len line kind) first_is ∙ given-same r given (has_name (names_of (take i ls))) same (i == 0) len line kind
     ∙ ap₂ (λ k n. cause_with r (has_name (names_of (take i ls))) (k == 0) n line kind) size len_is
-    ∙ ap (cause_with r (has_name (names_of (take i ls))) (length (take i ls) == 0) (body_len (take i ls)) line) is
-    ∙ sym (cond-false _ _ _ short) ∙ ap (cause_of r (take i ls)) (sym here)
-
-pub cause-long : (r : Repeats) (ls : List (List ℕ)) (i : ℕ) (line : List ℕ) → get_or ls i [] ≡ line → is_too_long line ≡ true → cause_of r (take i ls) (get_or ls i []) ≡ Some causes.TooLong
-cause-long r ls i line here long = ap (cause_of r (take i ls)) here ∙ cond-true _ _ _ long
+    ∙ ap (cause_with r (has_name (names_of (take i ls))) (length (take i ls) == 0) (body_len (take i ls)) line) is)
+    ∙ ap (cause_of r (take i ls)) (sym here)
 
 pub turn-fault : (r : Repeats) (ls : List (List ℕ)) (m i : ℕ) (cause : Cause) → i < length ls → cause_of r (take i ls) (get_or ls i []) ≡ Some cause
     → first_fault r m (take i ls) (drop i ls) ≡ Some (record { line = m; cause = cause })

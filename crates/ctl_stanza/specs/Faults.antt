@@ -102,11 +102,15 @@ cause_with repeats given is_first len line Blank = None
 cause_with repeats given is_first len line Continuation = continuation_cause is_first (len + (1 + length line))
 cause_with repeats given is_first len line Faulty = Some causes.Line
 
+-- the same of any line
+abbrev pub cause_by : Repeats → (List ℕ → Bool) → Bool → ℕ → List ℕ → LineKind → Option Cause
+cause_by repeats given is_first len line kind =
+    if is_too_long line then Some causes.TooLong else cause_with repeats given is_first len line kind
+
 -- the cause of a line, by the lines before it in its stanza
 abbrev pub cause_of : Repeats → List (List ℕ) → List ℕ → Option Cause
 cause_of repeats before line =
-    if is_too_long line then Some causes.TooLong
-    else cause_with repeats (has_name (names_of before)) (length before == 0) (body_len before) line (kind_of line)
+    cause_by repeats (has_name (names_of before)) (length before == 0) (body_len before) line (kind_of line)
 
 abbrev pub fault_or : ℕ → Option Cause → Option TextFault → Option TextFault
 fault_or n None later = later

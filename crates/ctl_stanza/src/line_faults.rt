@@ -3,7 +3,7 @@
 ghost use Rattle.std.specs.Prelude.{◌≡◌, ◌+◌, ◌<◌, ◌≤◌, ◌^◌, false, length, [], None, IfOk};
 ghost use Rattle.ctl_stanza.specs.Lines.{max_line, lent_lines};
 ghost use Rattle.ctl_stanza.specs.LineKind.{IfName};
-ghost use Rattle.ctl_stanza.specs.Faults.{body_step, continuation_cause, cause_with, first_fault};
+ghost use Rattle.ctl_stanza.specs.Faults.{body_step, continuation_cause, cause_by, first_fault};
 ghost use Rattle.ctl_stanza.specs.HeldNames.{holds, HasSeenNone, AddsNameOf, HoldsNamesOf};
 ghost use Rattle.ctl_stanza.specs.NameSlots.{AreTaken};
 
@@ -69,7 +69,7 @@ impl<'a> LinesSeen<'a> {
     }
 }
 
-/// The cause of a line of a stanza that isn't too long. Where there is none, the line is one of those that were seen.
+/// The cause of a line of a stanza. Where there is none, the line is one of those that were seen.
 pub(crate) fn line_cause<'a>(
     alloc: Global,
     repeats: Repeats,
@@ -78,15 +78,18 @@ pub(crate) fn line_cause<'a>(
     kind: LineKind,
 ) -> Result<Option<Cause>, AllocError>
     requires name { IfName kind line.now }
-    requires line { length line.now ≤ max_line }
     requires body { seen.old.body_len ≤ max_line }
     ensures cause { IfOk result (λ cause.
-        cause ≡ cause_with repeats (holds seen.old.names) seen.old.is_none seen.old.body_len line.now kind) }
+        cause ≡ cause_by repeats (holds seen.old.names) seen.old.is_none seen.old.body_len line.now kind) }
+    ensures short { IfOk result (λ cause. cause ≡ None → length line.now ≤ max_line) }
     ensures names { IfOk result (λ cause. cause ≡ None → AddsNameOf kind line.now seen.old.names seen.new.names) }
     ensures body { IfOk result (λ cause. cause ≡ None → seen.new.body_len ≡ body_step seen.old.body_len line.now kind) }
     ensures within { IfOk result (λ cause. cause ≡ None → seen.new.body_len ≤ max_line) }
     ensures some { IfOk result (λ cause. cause ≡ None → seen.new.is_none ≡ false) }
 {
+    if is_too_long(line) {
+        return Ok(Some(Cause::TooLong));
+    }
     let is_first = seen.is_none;
     seen.is_none = false;
     match kind {
@@ -127,18 +130,10 @@ pub(crate) fn first_fault<'a>(
 {
     for i in 0..lines.len() {
         let line = lines[i];
-        let number = first_line + i as u64;
-        if is_too_long(line) {
-            return Ok(Some(TextFault {
-                line: number,
-                cause: Cause::TooLong,
-            }));
-        }
-        let kind = kind_of(line);
-        let found = line_cause(alloc, repeats, seen, line, kind)?;
+        let found = line_cause(alloc, repeats, seen, line, kind_of(line))?;
         if let Some(cause) = found {
             return Ok(Some(TextFault {
-                line: number,
+                line: first_line + i as u64,
                 cause,
             }));
         }

@@ -54,9 +54,7 @@ fn read_version(alloc: Global, body: &[u8], version: &mut Option<Version>) -> Re
 {
     match Version::parse(alloc, body) {
         Ok(read) => {
-            if version.is_none() {
-                *version = Some(read);
-            }
+            version.get_or_insert(read);
             Ok(())
         }
         Err(VersionFault::Memory) => Err(Cause::Memory),

@@ -11,7 +11,7 @@ ghost use Rattle.ctl_stanza.specs.Quick.{IsPlainAnywhere, AddsAnywhere, IsCutOff
 use crate::fields::{Field, value_span};
 use crate::line_faults::{LinesSeen, line_cause};
 use crate::line_kind::{LineKind, kind_of};
-use crate::lines::{MAX_LINE, is_too_long, take_line};
+use crate::lines::{MAX_LINE, take_line};
 use crate::repeats::Repeats;
 use crate::walk::continued_up_to;
 use ctl_relation::Span;
@@ -140,16 +140,10 @@ pub(crate) fn accept_stanza<'a>(
     }
     let mut count: usize = 0;
     let mut left = text;
-    'lines: loop {
-        let Some((line, behind)) = take_line(left) else {
-            return Ok(cut_off(text, left, count, seen.slots()));
-        };
+    'lines: while let Some((line, behind)) = take_line(left) {
         let kind = kind_of(line);
         if let LineKind::Blank = kind {
-            return Ok(cut_off(text, left, count, seen.slots()));
-        }
-        if is_too_long(line) {
-            return Ok(None);
+            break;
         }
         let found = line_cause(alloc, Repeats::Never, seen, line, kind)?;
         if let Some(_) = found {
@@ -167,4 +161,5 @@ pub(crate) fn accept_stanza<'a>(
         count += 1;
         left = behind;
     }
+    Ok(cut_off(text, left, count, seen.slots()))
 }

@@ -34,22 +34,19 @@ pub(crate) fn take_piece<'a>(
         IsFirstPiece (lines_of text.now) (lent_lines lines.new.items) (lines_of behind.now)) }
 {
     lines.clear();
-    let Some((first, behind)) = take_line(text) else {
-        unreachable!("the text isn't empty");
-    };
-    lines.push(first)?;
-    if is_blank(first) {
-        return Ok(behind);
-    }
-    let mut left = behind;
+    let mut left = text;
     'lines: loop {
         let Some((line, behind)) = take_line(left) else {
             return Ok(left);
         };
-        if is_blank(line) {
+        let is_gap = is_blank(line);
+        if is_gap && !lines.is_empty() {
             return Ok(left);
         }
         lines.push(line)?;
+        if is_gap {
+            return Ok(behind);
+        }
         left = behind;
     }
 }

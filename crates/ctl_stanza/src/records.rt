@@ -177,7 +177,12 @@ pub fn read_records_before_fault(
     let mut records = Vec::new(alloc);
     let fault = match read_pieces(alloc, &mut records, &mut room, &kept) {
         Ok(()) => None,
-        Err(fault) if fault.cause == Cause::Memory => return Err(AllocError),
+        Err(
+            TextFault {
+                cause: Cause::Memory,
+                ..
+            },
+        ) => return Err(AllocError),
         Err(fault) => Some(fault),
     };
     records.shrink_to_fit();

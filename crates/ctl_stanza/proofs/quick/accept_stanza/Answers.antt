@@ -5,25 +5,25 @@ use Rattle.ctl_stanza.specs.Faults.{gives_name, body_step, cause_of}
 use Rattle.ctl_stanza.specs.declared.repeats.Repeats.TheVariants.{Never}
 use Rattle.std.proofs.lemmas.Bool.{ne_eqb}
 use Rattle.ctl_stanza.proofs.FaultLemmas.{cause-is, has_name-next, body_len-next}
-use Rattle.ctl_stanza.proofs.PieceLemmas.{gap-none, gap-blank}
+use Rattle.ctl_stanza.proofs.PieceLemmas.{StartsGap, gap-none, gap-blank}
 use Rattle.ctl_stanza.proofs.WalkLemmas.{text-behind}
 use Rattle.ctl_stanza.proofs.QuickLemmas.{next-is, blank-is, not-blank, reached-next, end-if, names-if}
 use Rattle.ctl_stanza.proofs.quick.accept_stanza.Goals as goal
+use Rattle.ctl_stanza.proofs.quick.accept_stanza.Goals.{in-Some+in-Blank, in_default}
 
-pub returns-in_default-clause-accepted : goal.returns-in_default-clause-accepted
-returns-in_default-clause-accepted c =
-    end-if c.args.text.now c.lines.left.now c.lines.count c.lines.fields.items c.cut_off.result c.lines.invariant.reached (gap-none c.lines.left.now c.in_default.ensures.none) c.cut_off.ensures.cut
+pub returns-clause-accepted : goal.returns-clause-accepted
+returns-clause-accepted c =
+    let left = c.lines.left.now in
+    let gap : StartsGap (lines_of left) = elim c.match-take_line.branch [
+      | in-Some+in-Blank w ↦ gap-blank (lines_of left) _ w.in-Some.line.now w.in-Some.ensures.lines (blank-is w.in-Some.line.now (sym w.kind_of-kind.ensures.kind ∙ w.in-Blank.is))
+      | in_default w ↦ gap-none left w.in_default.ensures.none
+    ] in
+    end-if c.args.text.now left c.lines.count c.lines.fields.items c.cut_off.result c.lines.invariant.reached gap c.cut_off.ensures.cut
 
-pub returns-in-Blank-clause-accepted : goal.returns-in-Blank-clause-accepted
-returns-in-Blank-clause-accepted c =
-    let blank = blank-is c.in-Some.line.now (sym c.kind_of-kind.ensures.kind ∙ c.in-Blank.is) in
-    end-if c.args.text.now c.lines.left.now c.lines.count c.lines.fields.items c.cut_off-in-Blank.result c.lines.invariant.reached (gap-blank (lines_of c.lines.left.now) _ c.in-Some.line.now c.in-Some.ensures.lines blank)
-    c.cut_off-in-Blank.ensures.cut
-
-pub returns-in-Blank-clause-names : goal.returns-in-Blank-clause-names
-returns-in-Blank-clause-names c =
-    names-if c.args.text.now c.lines.left.now c.lines.count _ c.lines.fields.items c.cut_off-in-Blank.result c.lines.invariant.reached
-    (λ name given. c.slots-in-Blank.ensures name (c.lines.invariant.names name ∙ given)) c.cut_off-in-Blank.ensures.cut c.cut_off-in-Blank.ensures.names
+pub returns-clause-names : goal.returns-clause-names
+returns-clause-names c =
+    names-if c.args.text.now c.lines.left.now c.lines.count _ c.lines.fields.items c.cut_off.result c.lines.invariant.reached
+    (λ name given. c.slots.ensures name (c.lines.invariant.names name ∙ given)) c.cut_off.ensures.cut c.cut_off.ensures.names
 
 pub add_field-requires-clause-text : goal.add_field-requires-clause-text
 add_field-requires-clause-text c =
@@ -38,7 +38,7 @@ lines-preserved c =
     let next = next-is lines i line (lines_of c.in-Some.behind.now) (inv.reached.left_is ∙ c.in-Some.ensures.lines) in
     let kind = c.kind_of-kind.ensures.kind in
     let none = c.in_ok-found.ensures.cause in
-    let cause = cause-is Never lines _ i _ _ _ _ _ next.below inv.names inv.body inv.none next.here kind (sym c.is_too_long.ensures ∙ c.if-is_too_long.false) none in
+    let cause = cause-is Never lines _ i _ _ _ _ _ next.below inv.names inv.body inv.none next.here kind none in
     let is_none = c.in_default-found.is in
     let kind_here = kind ∙ ap kind_of (sym next.here) in
     record {
