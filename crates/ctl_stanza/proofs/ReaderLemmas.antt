@@ -102,12 +102,13 @@ parted kind n text piece front behind whole more old is split e gap =
     ∙ ap (with_contents old.stanzas) (cut old.kind old.line whole (behind ++ more) gap)
 
 -- the piece is kept
-pub longer : (kind : ListKind) (n : ℕ) (text piece rest : List ℕ) (old : Reading) → IsReading kind n text old → rest ≡ old.rest ++ piece
-    → IsReading kind n (text ++ piece) (record { kind = old.kind; stanzas = old.stanzas; line = old.line; rest = rest })
-longer kind n text piece rest old is e = record {
+pub longer : (kind : ListKind) (n m : ℕ) (text piece rest : List ℕ) (new : List Content) (old : Reading) → IsReading kind n text old → new ≡ old.stanzas → m ≡ old.line → rest ≡ old.rest ++ piece
+    → IsReading kind n (text ++ piece) (record { kind = old.kind; stanzas = new; line = m; rest = rest })
+longer kind n m text piece rest new old is same line e = record {
   reads = λ more.
       ap (read_text kind n) (append_assoc text piece more) ∙ is.reads (piece ++ more)
-      ∙ ap (λ t. with_contents old.stanzas (read_text old.kind old.line t)) (sym (append_assoc old.rest piece more) ∙ ap (λ t. t ++ more) (sym e));
+      ∙ ap (λ t. with_contents old.stanzas (read_text old.kind old.line t)) (sym (append_assoc old.rest piece more) ∙ ap (λ t. t ++ more) (sym e))
+      ∙ ap₂ (λ (s : List Content) (k : ℕ). with_contents s (read_text old.kind k (rest ++ more))) (sym same) (sym line);
 }
 
 -- what stands up to the empty line is read

@@ -89,7 +89,7 @@ pub(crate) fn ends_with(line: &[u8], value: &[u8]) -> bool
     requires { length value.now ≤ length line.now }
     ensures { result ≡ bytes_eq (drop (length line.now - length value.now) line.now) value.now }
 {
-    line.split_at(line.len() - value.len()).1 == value
+    line.ends_with(value)
 }
 
 /// Whether a line continues the field before it.

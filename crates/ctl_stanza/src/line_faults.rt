@@ -103,12 +103,8 @@ pub(crate) fn line_cause<'a>(
             Ok(None)
         }
         LineKind::Continuation => {
-            let len = seen.body_len + (1 + line.len());
-            if let Some(cause) = continuation_cause(is_first, len) {
-                return Ok(Some(cause));
-            }
-            seen.body_len = len;
-            Ok(None)
+            seen.body_len += 1 + line.len();
+            Ok(continuation_cause(is_first, seen.body_len))
         }
         LineKind::Blank => Ok(None),
         LineKind::Faulty => Ok(Some(Cause::Line)),

@@ -69,8 +69,10 @@ pub(crate) fn behind_empty_line(text: &[u8]) -> Option<&[u8]>
     ensures lines { IfSome result (λ behind. lines_of text.now ≡ [] ∷ lines_of behind.now) }
     ensures less { IfSome result (λ behind. length behind.now < length text.now) }
 {
-    let (first, behind) = text.split_first()?;
-    if *first == b'\n' { Some(behind) } else { None }
+    match text {
+        [b'\n', behind @ ..] => Some(behind),
+        _ => None,
+    }
 }
 
 /// Puts each line with a newline into a text, in place of what it had.

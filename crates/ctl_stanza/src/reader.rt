@@ -102,20 +102,16 @@ impl StanzaReader {
         if piece.len() as u64 > u64::MAX - (line + rest.len() as u64) {
             return Err(TextFault::MEMORY);
         }
-        let Some(at) = last_gap(&rest, piece) else {
-            rest.extend_from_slice(piece)?;
-            return Ok(StanzaReader {
-                kind,
-                stanzas,
-                line,
-                rest,
-            });
-        };
-        let (front, behind) = piece.split_at(at);
-        rest.extend_from_slice(front)?;
-        let line = read_behind(alloc, &mut stanzas, &rest, line, kind)?;
-        rest.clear();
-        rest.extend_from_slice(behind)?;
+        let mut line = line;
+        let mut left = piece;
+        if let Some(at) = last_gap(&rest, piece) {
+            let (front, behind) = piece.split_at(at);
+            rest.extend_from_slice(front)?;
+            line = read_behind(alloc, &mut stanzas, &rest, line, kind)?;
+            rest.clear();
+            left = behind;
+        }
+        rest.extend_from_slice(left)?;
         Ok(StanzaReader {
             kind,
             stanzas,
