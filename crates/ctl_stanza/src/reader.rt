@@ -53,6 +53,7 @@ fn is_behind_newline(before: &[u8], text: &[u8], i: usize) -> bool
 
 // How many bytes of a text stand up to its last empty line, by what stands before the text.
 fn last_gap(before: &[u8], text: &[u8]) -> Option<usize>
+    ensures some { IfSome result (λ at. 0 < at) }
     ensures within { IfSome result (λ at. at ≤ length text.now) }
     ensures gap { IfSome result (λ at. EndsWithGap (before.now ++ take at text.now)) }
     ensures last { IfSome result (HasNoGapFrom before.now text.now) }
