@@ -12,7 +12,7 @@ use Rattle.ctl_relation.specs.Runs.{run, rest}
 use Rattle.ctl_relation.specs.Parts.{AtomParts}
 use Rattle.ctl_relation.specs.FieldKind.{has_alternatives}
 use Rattle.ctl_relation.specs.Reading.{behind_byte, atom_at, group_at, groups_at, relations_of}
-use Rattle.ctl_relation.specs.HeldPlaces.{atom_read, atom_held, atoms_held, groups_held, HasAtom, HaveAtoms, Rise, AreHeld, IsEnd, place_of, ReadsGroup, ReadsField}
+use Rattle.ctl_relation.specs.Inside.HeldPlaces.{atom_read, atom_held, atoms_held, groups_held, HasAtom, HaveAtoms, Rise, AreHeld, IsEnd, place_of, ReadsGroup, ReadsField}
 use Rattle.ctl_relation.proofs.Found.{atom_found, behind_found}
 use Rattle.ctl_relation.proofs.TurnsOfReading.{with_front, behind, group_ends, group_goes_on, groups_fail, groups_end, groups_go_on, groups_done, groups_skip}
 use Rattle.ctl_relation.proofs.PlaceLemmas.{rise-bounds, rise-low, rise-high, rise-append, rise-length, held-push}

@@ -9,13 +9,13 @@ use Rattle.std.proofs.lemmas.Nat.{div-mul-add, mod-mul-add}
 use Rattle.ctl_relation.specs.declared.field_kind.FieldKind.{FieldKind}
 use Rattle.ctl_relation.specs.declared.field_kind.FieldKind.TheVariants.{PreDepends, Depends, Conflicts, Breaks, Recommends, Suggests, Replaces, Enhances, Provides}
 use Rattle.ctl_relation.specs.FieldKind.{field_place}
-use Rattle.ctl_relation.specs.HeldPlaces.{AreHeld, groups_held}
+use Rattle.ctl_relation.specs.Inside.HeldPlaces.{AreHeld, groups_held}
 use Rattle.ctl_relation.specs.Reading.{groups_read}
 use Rattle.ctl_relation.specs.declared.span.Span.{Span}
 use Rattle.ctl_relation.specs.Spans.{IsWithin, shown}
 use Rattle.ctl_relation.specs.declared.marks.Counts.{Counts}
 use Rattle.ctl_relation.specs.declared.marks.FirstField.{FirstField}
-use Rattle.ctl_relation.specs.HeldMarks.{HasFirst, IsFirst, AreCounts}
+use Rattle.ctl_relation.specs.Inside.HeldMarks.{HasFirst, IsFirst, AreCounts}
 use Rattle.ctl_relation.specs.Marks.{MarkedField, code_of, counts_of, word_of, words_of, words_of_all, kept_groups, IsKeptIn, AreMarks, Marks}
 
 -- the nine fields in their order

@@ -15,7 +15,7 @@ use Rattle.ctl_relation.specs.Runs.{run, rest}
 use Rattle.ctl_relation.specs.Parts.{AtomParts}
 use Rattle.ctl_relation.specs.Named.{atom_names, group_names, groups_name}
 use Rattle.ctl_relation.specs.Reading.{◌>>=◌, name_at, qualifier_at, bound_at, atom_at}
-use Rattle.ctl_relation.specs.HeldPlaces.{HasAtom, atom_held, atom_read, atoms_held, count_before, groups_held}
+use Rattle.ctl_relation.specs.Inside.HeldPlaces.{HasAtom, atom_held, atom_read, atoms_held, count_before, groups_held}
 
 -- ---- the name of an atom
 

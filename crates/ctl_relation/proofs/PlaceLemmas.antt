@@ -8,7 +8,7 @@ use Rattle.std.proofs.Math.Seq.{drop-append_seam}
 use Rattle.ctl_relation.specs.declared.field_kind.FieldKind.{FieldKind}
 use Rattle.std.specs.List.{flat_map}
 use Rattle.ctl_relation.specs.Printed.{alternative_text}
-use Rattle.ctl_relation.specs.HeldPlaces.{HasAtom, HaveAtoms, AreHeld, atom_held, atoms_held, behind_earlier, count_below, count_before, groups_held, places_left, Rise}
+use Rattle.ctl_relation.specs.Inside.HeldPlaces.{HasAtom, HaveAtoms, AreHeld, atom_held, atoms_held, behind_earlier, count_below, count_before, groups_held, places_left, Rise}
 
 -- ---- places that rise
 

@@ -4,3 +4,6 @@ pub mod Offer
 pub mod Cut
 pub mod ByteClass
 pub mod Front
+pub mod HeldPlaces
+pub mod HeldOffers
+pub mod HeldMarks

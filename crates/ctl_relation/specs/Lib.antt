@@ -20,9 +20,5 @@ pub mod Bounds
 pub mod Offered
 pub mod Spans
 pub mod Marks
--- How this crate holds groups. Not for callers.
-pub mod HeldPlaces
-pub mod HeldMarks
-pub mod HeldOffers
 pub mod Orders
 pub mod Inside

@@ -4,7 +4,7 @@ use Rattle.std.specs.List.{All, flat_map}
 use Rattle.ctl_relation.specs.declared.field_kind.FieldKind.{FieldKind}
 use Rattle.ctl_relation.specs.FieldKind.{field_place}
 use Rattle.ctl_relation.specs.declared.span.Span.{Span}
-use Rattle.ctl_relation.specs.HeldPlaces.{AreHeld, groups_held}
+use Rattle.ctl_relation.specs.Inside.HeldPlaces.{AreHeld, groups_held}
 use Rattle.ctl_relation.specs.Parts.{AtomParts}
 use Rattle.ctl_relation.specs.Reading.{groups_read}
 use Rattle.ctl_relation.specs.Spans.{IsWithin, shown}

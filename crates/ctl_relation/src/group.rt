@@ -2,7 +2,7 @@
 
 ghost use Rattle.std.specs.Prelude.{◌≡◌, ◌≤◌, ◌^◌, ◌++◌, ◌∷◌, length, OnOk, OnErr, take, vec_len, slice_get, slice_index};
 ghost use Rattle.std.specs.List.{flat_map};
-ghost use Rattle.ctl_relation.specs.HeldPlaces.{HasAtom, HaveAtoms, atom_held, atoms_held};
+ghost use Rattle.ctl_relation.specs.Inside.HeldPlaces.{HasAtom, HaveAtoms, atom_held, atoms_held};
 ghost use Rattle.ctl_relation.specs.Named.{group_names};
 ghost use Rattle.ctl_relation.specs.Printed.{alternative_text, group_text};
 
@@ -26,7 +26,7 @@ pub struct Group<'a> {
 impl<'a> Model for Group<'a> {
     ghost use Rattle.std.specs.Prelude.{List, ◌≤◌, ◌^◌, ◌∷◌, length};
     ghost use Rattle.ctl_relation.specs.Parts.{AtomParts};
-    ghost use Rattle.ctl_relation.specs.HeldPlaces.{HaveAtoms, atoms_held};
+    ghost use Rattle.ctl_relation.specs.Inside.HeldPlaces.{HaveAtoms, atoms_held};
 
     ghost Value = { List AtomParts };
 
@@ -175,7 +175,7 @@ pub struct Atoms<'a> {
 impl<'a> Model for Atoms<'a> {
     ghost use Rattle.std.specs.Prelude.{List, ◌≤◌, ◌^◌, length};
     ghost use Rattle.ctl_relation.specs.Parts.{AtomParts};
-    ghost use Rattle.ctl_relation.specs.HeldPlaces.{HaveAtoms, atoms_held, places_left};
+    ghost use Rattle.ctl_relation.specs.Inside.HeldPlaces.{HaveAtoms, atoms_held, places_left};
 
     ghost Value = { List AtomParts };
 

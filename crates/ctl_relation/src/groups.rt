@@ -1,7 +1,7 @@
 //! The groups of a relation field.
 
 ghost use Rattle.std.specs.Prelude.{◌≡◌, ◌≤◌, ◌<◌, ◌^◌, ◌==◌, length, drop, slice_get};
-ghost use Rattle.ctl_relation.specs.HeldPlaces.{AreHeld, Rise, groups_held, count_below, count_before, behind_earlier};
+ghost use Rattle.ctl_relation.specs.Inside.HeldPlaces.{AreHeld, Rise, groups_held, count_below, count_before, behind_earlier};
 ghost use Rattle.ctl_relation.specs.Named.{groups_name};
 
 use crate::field_kind::FieldKind;
@@ -25,7 +25,7 @@ pub struct Groups<'a> {
 impl<'a> Model for Groups<'a> {
     ghost use Rattle.std.specs.Prelude.{List};
     ghost use Rattle.ctl_relation.specs.Parts.{AtomParts};
-    ghost use Rattle.ctl_relation.specs.HeldPlaces.{AreHeld, groups_held};
+    ghost use Rattle.ctl_relation.specs.Inside.HeldPlaces.{AreHeld, groups_held};
 
     ghost Value = { List (List AtomParts) };
 

@@ -2,7 +2,7 @@
 
 ghost use Rattle.std.specs.Prelude.{◌≡◌, ◌≢◌, ◌<◌, ◌≤◌, ◌-◌, ◌^◌, ◌++◌, List, [], ℕ, true, Some, length, is_ok, Err, IfErr, OnOk};
 ghost use Rattle.ctl_relation.specs.declared.relation_fault.RelationFault.TheVariants as relation;
-ghost use Rattle.ctl_relation.specs.HeldMarks.{HasFirst, IsFirst, AreCounts};
+ghost use Rattle.ctl_relation.specs.Inside.HeldMarks.{HasFirst, IsFirst, AreCounts};
 ghost use Rattle.ctl_relation.specs.Marks.{MarkedField, AreMarks, HasMarks, Marks, code_of, counts_of, kept_groups, words_of};
 ghost use Rattle.ctl_relation.specs.Reading.{relations_of};
 ghost use Rattle.ctl_relation.specs.Spans.{IsWithin, shown};

@@ -29,7 +29,7 @@ pub struct Offers {
 impl Model for Offers {
     ghost use Rattle.std.specs.Prelude.{List};
     ghost use Rattle.ctl_relation.specs.Parts.{OfferParts};
-    ghost use Rattle.ctl_relation.specs.HeldOffers.{offers_held};
+    ghost use Rattle.ctl_relation.specs.Inside.HeldOffers.{offers_held};
 
     ghost Value = { List OfferParts };
 

@@ -1,7 +1,7 @@
 //! Where the atoms of a relation field stand in its body.
 
 ghost use Rattle.std.specs.Prelude.{◌≡◌, ◌<◌, ◌^◌, ℕ, List, length, IfOk};
-ghost use Rattle.ctl_relation.specs.HeldPlaces.{ArePlacesIn, AreHeld, groups_held, groups_kept};
+ghost use Rattle.ctl_relation.specs.Inside.HeldPlaces.{ArePlacesIn, AreHeld, groups_held, groups_kept};
 
 use crate::field_kind::FieldKind;
 use crate::groups::Groups;

@@ -3,7 +3,7 @@
 ghost use Rattle.std.specs.Prelude.{◌≡◌, ◌≢◌, ◌≤◌, ◌<◌, ◌+◌, ◌^◌, [], true, None, length, nat_eq, is_ok, IfOk, IfErr, OnOk, IfSome};
 ghost use Rattle.std.specs.List.{starts_with};
 ghost use Rattle.ctl_relation.specs.declared.relation_fault.RelationFault.TheVariants as relation;
-ghost use Rattle.ctl_relation.specs.HeldPlaces.{ArePlacesIn, HasAtom, IsEnd, ReadsField, ReadsGroup, atom_held, groups_kept, place_of};
+ghost use Rattle.ctl_relation.specs.Inside.HeldPlaces.{ArePlacesIn, HasAtom, IsEnd, ReadsField, ReadsGroup, atom_held, groups_kept, place_of};
 ghost use Rattle.ctl_relation.specs.Lent.{lent_bound};
 ghost use Rattle.ctl_relation.specs.Named.{atom_names};
 ghost use Rattle.ctl_relation.specs.Reading.{Gives, GivesAlways, parenthesized_at, bound_at, atom_at, group_at, relations_of};

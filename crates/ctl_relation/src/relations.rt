@@ -23,7 +23,7 @@ pub struct Relations<'a> {
 
 impl<'a> Model for Relations<'a> {
     ghost use Rattle.std.specs.Prelude.{List};
-    ghost use Rattle.ctl_relation.specs.HeldPlaces.{ArePlacesIn, groups_kept};
+    ghost use Rattle.ctl_relation.specs.Inside.HeldPlaces.{ArePlacesIn, groups_kept};
     ghost use Rattle.ctl_relation.specs.Parts.{AtomParts};
 
     ghost Value = { List (List AtomParts) };

@@ -14,7 +14,7 @@ use Rattle.ctl_stanza.specs.LineKind.{kind_of}
 use Rattle.ctl_relation.specs.declared.span.Span.{Span}
 use Rattle.ctl_stanza.specs.Fields.{FieldText, strip_end, before_stripped, value_of, continues, continued, fields_from, field_at}
 use Rattle.ctl_stanza.specs.Faults.{field_cause, first_wrong, fault_or}
-use Rattle.ctl_stanza.specs.HeldFields.{IsPlainAt, ArePlain, IsWithin, AreWithin, StandsAt, Shows, ends_with_value, loose_at, loose_bodies, shown, shown_fields}
+use Rattle.ctl_stanza.specs.Inside.HeldFields.{IsPlainAt, ArePlain, IsWithin, AreWithin, StandsAt, Shows, ends_with_value, loose_at, loose_bodies, shown, shown_fields}
 
 -- nothing but blanks is left
 pub strip_end-none : (text : List ℕ) → ((k : ℕ) → k < length text → is_blank_byte (get_or text k 0) ≡ true) → strip_end text ≡ []

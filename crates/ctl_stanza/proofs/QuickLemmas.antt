@@ -18,10 +18,10 @@ use Rattle.ctl_stanza.specs.LineKind.{kind_of, kind_after_name, is_field_name_by
 use Rattle.ctl_stanza.specs.Fields.{value_of, continues, continued, field_at, fields_from, fields_of_lines}
 use Rattle.ctl_stanza.specs.Faults.{fault_or, cause_of, first_fault, or_else, whole_fault}
 use Rattle.ctl_stanza.specs.declared.list_kind.ListKind.{ListKind}
-use Rattle.ctl_stanza.specs.HeldFields.{IsText, IsPlainAt, ArePlain, loose_bodies, IsReadFrom, AreWithin, AreBelow, StandsAt, shown_field, shown_fields}
-use Rattle.ctl_stanza.specs.NameSlots.{AreTakenBy}
+use Rattle.ctl_stanza.specs.Inside.HeldFields.{IsText, IsPlainAt, ArePlain, loose_bodies, IsReadFrom, AreWithin, AreBelow, StandsAt, shown_field, shown_fields}
+use Rattle.ctl_stanza.specs.Inside.NameSlots.{AreTakenBy}
 use Rattle.ctl_stanza.specs.Text.{is_gap, IsFirstPiece, piece, piece_fault}
-use Rattle.ctl_stanza.specs.Quick.{IsUpTo, AreUpTo, end_behind, IsPlainField, AddsPlain, IsCutOff, IsAccepted}
+use Rattle.ctl_stanza.specs.Inside.Quick.{IsUpTo, AreUpTo, end_behind, IsPlainField, AddsPlain, IsCutOff, IsAccepted}
 use Rattle.ctl_stanza.proofs.LineLemmas.{IsLine}
 use Rattle.ctl_stanza.proofs.PieceLemmas.{AreOther, AreSingle, StartsGap, pieces-run, other-push, single-push, are_lines}
 use Rattle.ctl_stanza.proofs.FieldLemmas.{within_line, stands-round, body-within, nothing-added, plain-nothing, fields-grow, fields-turn, length-text_of_lines}

@@ -18,8 +18,8 @@ use Rattle.ctl_relation.proofs.MarkLemmas.{same-place, place-same}
 use Rattle.ctl_stanza.specs.Fields.{FieldText, is_same_name, body_named, package_name, version_name}
 use Rattle.ctl_stanza.specs.RelationFields.{name_of, relation_kind}
 use Rattle.ctl_stanza.specs.Faults.{or_else}
-use Rattle.ctl_stanza.specs.HeldFields.{shown}
-use Rattle.ctl_stanza.specs.HeldStanza.{version_given}
+use Rattle.ctl_stanza.specs.Inside.HeldFields.{shown}
+use Rattle.ctl_stanza.specs.Inside.HeldStanza.{version_given}
 
 -- ---- names without regard to case
 

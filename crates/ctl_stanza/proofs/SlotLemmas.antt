@@ -11,9 +11,9 @@ use Rattle.ctl_stanza.specs.declared.line_kind.LineKind.TheVariants.{Blank, Fiel
 use Rattle.ctl_stanza.specs.LineKind.{kind_of}
 use Rattle.ctl_stanza.specs.Fields.{is_same_name, body_named, field_at, fields_from, fields_of_lines}
 use Rattle.ctl_stanza.specs.Faults.{name_in, names_of, has_name}
-use Rattle.ctl_stanza.specs.NameSlots.{slot_in, slot_of, has_slot, with_slot, is_taken, given_names, is_given, AreTaken, AreTakenBy}
+use Rattle.ctl_stanza.specs.Inside.NameSlots.{slot_in, slot_of, has_slot, with_slot, is_taken, given_names, is_given, AreTaken, AreTakenBy}
 use Rattle.ctl_stanza.specs.Given.{Given}
-use Rattle.ctl_stanza.specs.HeldNames.{holds}
+use Rattle.ctl_stanza.specs.Inside.HeldNames.{holds}
 use Rattle.ctl_stanza.specs.declared.names_given.NamesGiven.TheInside.{Inside}
 
 -- names that are the same have one slot

@@ -34,7 +34,7 @@ use Rattle.ctl_stanza.specs.Content.{Content, fields_of, body_of, is_live, packa
 use Rattle.ctl_stanza.specs.Faults.{cause_of, fault_or, first_fault, is_empty_body, lacks_state, is_missing, field_cause, first_wrong, whole_fault, or_else, stanza_fault}
 use Rattle.std.proofs.Math.Seq.{take-append_seam, drop-append-add}
 use Rattle.ctl_stanza.specs.declared.fields.Field.{Field}
-use Rattle.ctl_stanza.specs.HeldFields.{AreWithin, Grows, IsReadFrom, IsWalk, loose_bodies, shown_fields}
+use Rattle.ctl_stanza.specs.Inside.HeldFields.{AreWithin, Grows, IsReadFrom, IsWalk, loose_bodies, shown_fields}
 use Rattle.ctl_stanza.specs.Sound.{IsWhole, IsSound, atoms_of}
 use Rattle.ctl_stanza.proofs.FieldLemmas.{continued-le}
 use Rattle.ctl_stanza.proofs.ProvidesLemmas.{one_atom_each}

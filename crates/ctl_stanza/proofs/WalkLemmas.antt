@@ -10,7 +10,7 @@ use Rattle.ctl_stanza.specs.Lines.{lines_of, text_of_lines}
 use Rattle.ctl_stanza.specs.LineKind.{kind_of}
 use Rattle.ctl_stanza.specs.Content.{name_and_body}
 use Rattle.ctl_stanza.specs.Fields.{value_of, continues, continued, field_at, fields_from, body_named, is_same_name, names_field}
-use Rattle.ctl_stanza.specs.HeldFields.{IsText, IsWalk, StandsAt, bodies_in, loose_at, loose_bodies}
+use Rattle.ctl_stanza.specs.Inside.HeldFields.{IsText, IsWalk, StandsAt, bodies_in, loose_at, loose_bodies}
 use Rattle.ctl_stanza.proofs.FieldLemmas.{beyond_line, take-continued, continued-le}
 use Rattle.ctl_stanza.proofs.FieldLineLemmas.{field-found, taken}
 use Rattle.ctl_stanza.proofs.RelationLemmas.{same-length}

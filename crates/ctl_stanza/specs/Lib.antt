@@ -25,10 +25,6 @@ pub mod Sound
 pub mod Records
 pub mod RecordLaws
 -- How the code holds what it has read. Not for callers.
-pub mod HeldFields
 pub mod Given
-pub mod HeldNames
-pub mod NameSlots
-pub mod HeldStanza
 pub mod InParts
-pub mod Quick
+pub mod Inside

@@ -4,7 +4,7 @@ ghost use Rattle.std.specs.Prelude.{◌≡◌, ◌+◌, ◌<◌, ◌^◌, false,
 ghost use Rattle.std.specs.List.{All};
 ghost use Rattle.ctl_stanza.specs.Status.{liveness};
 ghost use Rattle.ctl_stanza.specs.Faults.{is_empty_body, is_missing, field_cause, first_wrong};
-ghost use Rattle.ctl_stanza.specs.HeldFields.{AreWithin, shown_fields};
+ghost use Rattle.ctl_stanza.specs.Inside.HeldFields.{AreWithin, shown_fields};
 
 use crate::fault::{Cause, TextFault};
 use crate::fields::{Field, body_named, is_same_name};

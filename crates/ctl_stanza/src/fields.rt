@@ -8,8 +8,8 @@ ghost use Rattle.ctl_stanza.specs.Lines.{is_blank_byte, text_of_lines, lent_line
 ghost use Rattle.ctl_stanza.specs.LineKind.{kind_of};
 ghost use Rattle.ctl_stanza.specs.declared.line_kind.LineKind.TheVariants as kinds;
 ghost use Rattle.ctl_stanza.specs.Fields.{strip_end, value_of, continues, continued, fields_of_lines, body_named, is_same_name};
-ghost use Rattle.ctl_stanza.specs.HeldFields.{IsWithin, AreWithin, AreBelow, StandsAt, Grows, Shows, Adds, shown, shown_fields};
-ghost use Rattle.ctl_stanza.specs.HeldFields.{loose_at, loose_bodies};
+ghost use Rattle.ctl_stanza.specs.Inside.HeldFields.{IsWithin, AreWithin, AreBelow, StandsAt, Grows, Shows, Adds, shown, shown_fields};
+ghost use Rattle.ctl_stanza.specs.Inside.HeldFields.{loose_at, loose_bodies};
 
 use crate::line_kind::{LineKind, kind_of};
 use crate::lines::{begins_with_blank, is_blank, is_blank_byte, text_of_lines};

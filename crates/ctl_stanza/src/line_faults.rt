@@ -4,8 +4,8 @@ ghost use Rattle.std.specs.Prelude.{◌≡◌, ◌+◌, ◌<◌, ◌≤◌, ◌^
 ghost use Rattle.ctl_stanza.specs.Lines.{max_line, lent_lines};
 ghost use Rattle.ctl_stanza.specs.LineKind.{IfName};
 ghost use Rattle.ctl_stanza.specs.Faults.{body_step, continuation_cause, cause_by, first_fault};
-ghost use Rattle.ctl_stanza.specs.HeldNames.{holds, HasSeenNone, AddsNameOf, HoldsNamesOf};
-ghost use Rattle.ctl_stanza.specs.NameSlots.{AreTaken};
+ghost use Rattle.ctl_stanza.specs.Inside.HeldNames.{holds, HasSeenNone, AddsNameOf, HoldsNamesOf};
+ghost use Rattle.ctl_stanza.specs.Inside.NameSlots.{AreTaken};
 
 use crate::fault::{Cause, TextFault};
 use crate::fields::value_len;
@@ -39,7 +39,7 @@ pub(crate) struct LinesSeen<'a> {
 }
 
 impl<'a> LinesSeen<'a> {
-    ghost use Rattle.ctl_stanza.specs.HeldNames.{HasSeenNone};
+    ghost use Rattle.ctl_stanza.specs.Inside.HeldNames.{HasSeenNone};
 
     /// No line.
     pub(crate) fn new(alloc: Global) -> LinesSeen<'a>

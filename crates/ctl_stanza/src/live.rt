@@ -8,8 +8,8 @@ ghost use Rattle.ctl_stanza.specs.declared.fault.Cause.TheVariants as causes;
 ghost use Rattle.ctl_stanza.specs.Fields.{body_named, version_name};
 ghost use Rattle.ctl_stanza.specs.RelationFields.{relation_kind};
 ghost use Rattle.ctl_stanza.specs.Faults.{field_cause, first_wrong, or_else, IsMemoryAtZero, Tells, TellsCause};
-ghost use Rattle.ctl_stanza.specs.HeldStanza.{version_given, AreKept};
-ghost use Rattle.ctl_stanza.specs.HeldFields.{AreWithin, IsFieldWithin, shown, shown_fields};
+ghost use Rattle.ctl_stanza.specs.Inside.HeldStanza.{version_given, AreKept};
+ghost use Rattle.ctl_stanza.specs.Inside.HeldFields.{AreWithin, IsFieldWithin, shown, shown_fields};
 
 use crate::fault::{Cause, TextFault};
 use crate::fields::{Field, is_same_name};

@@ -1,7 +1,7 @@
 //! Slots of the names of fields, by which most names that were not given are told at once.
 
 ghost use Rattle.std.specs.Prelude.{◌≡◌, ◌<◌};
-ghost use Rattle.ctl_stanza.specs.NameSlots.{slot_of, has_slot, with_slot, is_taken};
+ghost use Rattle.ctl_stanza.specs.Inside.NameSlots.{slot_of, has_slot, with_slot, is_taken};
 
 const SLOTS: usize = 64;
 

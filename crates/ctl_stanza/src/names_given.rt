@@ -3,8 +3,8 @@
 ghost use Rattle.std.specs.Prelude.{◌≡◌, ◌&&◌, not, IfOk, OnOk};
 ghost use Rattle.std.specs.List.{list_any};
 ghost use Rattle.ctl_stanza.specs.Fields.{is_same_name};
-ghost use Rattle.ctl_stanza.specs.HeldNames.{holds, HoldsNone, Adds};
-ghost use Rattle.ctl_stanza.specs.NameSlots.{AreTaken};
+ghost use Rattle.ctl_stanza.specs.Inside.HeldNames.{holds, HoldsNone, Adds};
+ghost use Rattle.ctl_stanza.specs.Inside.NameSlots.{AreTaken};
 
 use crate::fields::is_same_name;
 use crate::name_slots::{has_slot, slot_of, with_slot};
@@ -31,7 +31,7 @@ impl<'a> Model for NamesGiven<'a> {
 
     ghost Value = { Given };
 
-    ghost use Rattle.ctl_stanza.specs.NameSlots.{given_names, HasTaken};
+    ghost use Rattle.ctl_stanza.specs.Inside.NameSlots.{given_names, HasTaken};
 
     ghost view = { given_names };
 

@@ -3,10 +3,10 @@
 ghost use Rattle.std.specs.Prelude.{◌≡◌, ◌+◌, ◌<◌, ◌≤◌, ◌^◌, true, length, IfOk, IfSome};
 ghost use Rattle.ctl_stanza.specs.Lines.{lines_of};
 ghost use Rattle.ctl_stanza.specs.LineKind.{kind_of, IfName};
-ghost use Rattle.ctl_stanza.specs.HeldFields.{IsText};
-ghost use Rattle.ctl_stanza.specs.HeldNames.{HasSeenNone};
-ghost use Rattle.ctl_stanza.specs.NameSlots.{AreTakenBy};
-ghost use Rattle.ctl_stanza.specs.Quick.{IsPlainAnywhere, AddsAnywhere, IsCutOff, IsAccepted};
+ghost use Rattle.ctl_stanza.specs.Inside.HeldFields.{IsText};
+ghost use Rattle.ctl_stanza.specs.Inside.HeldNames.{HasSeenNone};
+ghost use Rattle.ctl_stanza.specs.Inside.NameSlots.{AreTakenBy};
+ghost use Rattle.ctl_stanza.specs.Inside.Quick.{IsPlainAnywhere, AddsAnywhere, IsCutOff, IsAccepted};
 
 use crate::fields::{Field, value_span};
 use crate::line_faults::{LinesSeen, line_cause};

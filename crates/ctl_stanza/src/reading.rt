@@ -4,9 +4,9 @@ ghost use Rattle.std.specs.Prelude.{◌≡◌, ◌≤◌, ◌<◌, ◌+◌, ◌^
 ghost use Rattle.ctl_stanza.specs.Lines.{lines_of, lent_lines, AreLines};
 ghost use Rattle.ctl_stanza.specs.Faults.{IsMemoryAtZero, Tells};
 ghost use Rattle.ctl_stanza.specs.Laws.{AreStanzasOf, HasNoFault, TellsLeastFault};
-ghost use Rattle.ctl_stanza.specs.HeldFields.{IsReadFrom, AreBelow};
-ghost use Rattle.ctl_stanza.specs.HeldNames.{HasSeenNone};
-ghost use Rattle.ctl_stanza.specs.NameSlots.{AreTakenBy};
+ghost use Rattle.ctl_stanza.specs.Inside.HeldFields.{IsReadFrom, AreBelow};
+ghost use Rattle.ctl_stanza.specs.Inside.HeldNames.{HasSeenNone};
+ghost use Rattle.ctl_stanza.specs.Inside.NameSlots.{AreTakenBy};
 ghost use Rattle.ctl_stanza.specs.Text.{IsFirstPiece, is_gap, piece_content, piece_fault, piece};
 ghost use Rattle.ctl_stanza.specs.Text.{read_text, with_contents, Reads, TellsFault};
 

@@ -4,7 +4,7 @@ ghost use Rattle.std.specs.Prelude.{◌≡◌, ◌≢◌, ◌+◌, ◌<◌, ◌^
 ghost use Rattle.ctl_stanza.specs.declared.fault.Cause.TheVariants as causes;
 ghost use Rattle.ctl_stanza.specs.Lines.{lines_of, lent_lines, AreLines};
 ghost use Rattle.ctl_stanza.specs.Faults.{IsMemoryAtZero, Tells};
-ghost use Rattle.ctl_stanza.specs.HeldNames.{HasSeenNone};
+ghost use Rattle.ctl_stanza.specs.Inside.HeldNames.{HasSeenNone};
 ghost use Rattle.ctl_stanza.specs.Text.{pieces_of, Reads};
 ghost use Rattle.ctl_stanza.specs.RecordLaws.{HasNoRecordFault, AreRecordsOf, AreRecordsUpTo, TellsLeastRecordFault};
 ghost use Rattle.ctl_stanza.specs.Records.{record_of, numbered_fault, record_fault, piece_record, records_before, records_before_fault, read_record_text};
@@ -33,7 +33,7 @@ pub struct Record {
 impl Model for Record {
     ghost use Rattle.std.specs.Prelude.{map, slice_index};
     ghost use Rattle.ctl_stanza.specs.Records.{RecordText, numbered_field};
-    ghost use Rattle.ctl_stanza.specs.HeldFields.{shown_fields, AreNumbered};
+    ghost use Rattle.ctl_stanza.specs.Inside.HeldFields.{shown_fields, AreNumbered};
 
     ghost Value = { RecordText };
 
@@ -245,7 +245,7 @@ pub struct RecordFields<'a> {
 impl<'a> Model for RecordFields<'a> {
     ghost use Rattle.std.specs.Prelude.{ℕ, List, map};
     ghost use Rattle.ctl_stanza.specs.Records.{numbered_field, parts_of_field};
-    ghost use Rattle.ctl_stanza.specs.HeldFields.{shown_fields, AreNumbered};
+    ghost use Rattle.ctl_stanza.specs.Inside.HeldFields.{shown_fields, AreNumbered};
 
     ghost Value = { List (List ℕ × List ℕ × ℕ) };
 

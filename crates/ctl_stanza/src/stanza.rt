@@ -5,10 +5,10 @@ ghost use Rattle.std.specs.List.{All};
 ghost use Rattle.ctl_stanza.specs.Lines.{lines_of, lent_lines, AreLines};
 ghost use Rattle.ctl_stanza.specs.Fields.{fields_of_lines};
 ghost use Rattle.ctl_stanza.specs.Content.{content_of, offers_of};
-ghost use Rattle.ctl_stanza.specs.HeldStanza.{content_in_front, live_offers, AreKept, AreRelationsOf};
-ghost use Rattle.ctl_stanza.specs.HeldFields.{IsWalk, IsReadFrom, AreWithin, shown_fields};
+ghost use Rattle.ctl_stanza.specs.Inside.HeldStanza.{content_in_front, live_offers, AreKept, AreRelationsOf};
+ghost use Rattle.ctl_stanza.specs.Inside.HeldFields.{IsWalk, IsReadFrom, AreWithin, shown_fields};
 ghost use Rattle.ctl_stanza.specs.Faults.{first_fault, whole_fault, stanza_fault, IsMemoryAtZero, Tells};
-ghost use Rattle.ctl_stanza.specs.NameSlots.{AreTakenBy};
+ghost use Rattle.ctl_stanza.specs.Inside.NameSlots.{AreTakenBy};
 ghost use Rattle.ctl_stanza.specs.declared.repeats.Repeats.TheVariants.{Never};
 
 use crate::checks::{first_wrong, is_missing};
@@ -43,7 +43,7 @@ pub struct Stanza {
 
 impl Model for Stanza {
     ghost use Rattle.ctl_stanza.specs.Content.{Content};
-    ghost use Rattle.ctl_stanza.specs.HeldStanza.{content_in_front, ArePartsOf};
+    ghost use Rattle.ctl_stanza.specs.Inside.HeldStanza.{content_in_front, ArePartsOf};
 
     ghost Value = { Content };
 
@@ -341,7 +341,7 @@ pub struct Fields<'a> {
 
 impl<'a> Model for Fields<'a> {
     ghost use Rattle.std.specs.Prelude.{ℕ, List};
-    ghost use Rattle.ctl_stanza.specs.HeldFields.{IsWalk, bodies_in};
+    ghost use Rattle.ctl_stanza.specs.Inside.HeldFields.{IsWalk, bodies_in};
 
     ghost Value = { List (List ℕ × List ℕ) };
 

@@ -5,7 +5,7 @@ ghost use Rattle.std.specs.List.{prefix_len};
 ghost use Rattle.std.specs.Str.{bytes_eq};
 ghost use Rattle.ctl_stanza.specs.Status.{is_word_byte, first_word, behind_word, is_live_state, is_other_state};
 ghost use Rattle.ctl_stanza.specs.Status.{liveness_in, liveness_by_body, liveness};
-ghost use Rattle.ctl_stanza.specs.HeldFields.{AreWithin, shown_fields};
+ghost use Rattle.ctl_stanza.specs.Inside.HeldFields.{AreWithin, shown_fields};
 
 use crate::fields::{Field, blank_len, body_named};
 use crate::lines::is_blank_byte;

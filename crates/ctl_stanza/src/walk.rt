@@ -6,7 +6,7 @@ ghost use Rattle.ctl_stanza.specs.Lines.{lines_of};
 ghost use Rattle.ctl_stanza.specs.LineKind.{kind_of};
 ghost use Rattle.ctl_stanza.specs.Fields.{body_named, continued, value_of, fields_of_lines, names_field};
 ghost use Rattle.ctl_stanza.specs.declared.line_kind.LineKind.TheVariants.{Field};
-ghost use Rattle.ctl_stanza.specs.HeldFields.{IsText, IsWalk, StandsAt, bodies_in, loose_at, loose_bodies};
+ghost use Rattle.ctl_stanza.specs.Inside.HeldFields.{IsText, IsWalk, StandsAt, bodies_in, loose_at, loose_bodies};
 
 use crate::fields::{continues, ends_with, is_same_name, value_span};
 use crate::line_kind::{LineKind, kind_of};

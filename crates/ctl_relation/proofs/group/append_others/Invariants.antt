@@ -1,6 +1,6 @@
 use Rattle.std.proofs.Common.{◌≡◌, ◌++◌, ℕ, take}
 use Rattle.std.specs.List.{flat_map}
-use Rattle.ctl_relation.specs.HeldPlaces.{atom_held}
+use Rattle.ctl_relation.specs.Inside.HeldPlaces.{atom_held}
 use Rattle.ctl_relation.specs.Printed.{alternative_text}
 use Rattle.ctl_relation.proofs.group.append_others.Given as goal
 

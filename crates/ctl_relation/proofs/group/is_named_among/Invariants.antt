@@ -1,5 +1,5 @@
 use Rattle.std.proofs.Common.{◌≡◌, false, take}
-use Rattle.ctl_relation.specs.HeldPlaces.{atoms_held}
+use Rattle.ctl_relation.specs.Inside.HeldPlaces.{atoms_held}
 use Rattle.ctl_relation.specs.Named.{group_names}
 use Rattle.ctl_relation.proofs.group.is_named_among.Given as goal
 

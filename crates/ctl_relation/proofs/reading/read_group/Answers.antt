@@ -2,7 +2,7 @@ use Rattle.std.proofs.Common.{◌∙◌, ◌++◌, ◌∷◌, [], ap, sym, arith
 use Rattle.std.proofs.lemmas.Result.{err_from_is_err_and}
 use Rattle.ctl_relation.specs.Bytes.{bar}
 use Rattle.ctl_relation.specs.Reading.{behind_byte}
-use Rattle.ctl_relation.specs.HeldPlaces.{atoms_held}
+use Rattle.ctl_relation.specs.Inside.HeldPlaces.{atoms_held}
 use Rattle.ctl_relation.proofs.TurnsOfReading.{group_fails}
 use Rattle.ctl_relation.proofs.GroupLemmas.{first_atom, last_atom, next_atom, next_ends, one-less}
 use Rattle.ctl_relation.proofs.reading.read_group.Goals as goal

@@ -1,6 +1,6 @@
 use Rattle.std.proofs.Common.{◌≡◌, drop, false}
 use Rattle.ctl_stanza.specs.Faults.{first_wrong}
-use Rattle.ctl_stanza.specs.HeldFields.{shown_fields}
+use Rattle.ctl_stanza.specs.Inside.HeldFields.{shown_fields}
 use Rattle.ctl_stanza.proofs.checks.first_wrong.Given as goal
 
 abbrev pub invariant-loop-i : goal.invariant-loop-i

@@ -8,7 +8,7 @@ use Rattle.ctl_stanza.specs.declared.line_kind.LineKind.TheVariants as kinds
 use Rattle.ctl_stanza.specs.Lines.{text_of_lines, lent_lines}
 use Rattle.ctl_stanza.specs.LineKind.{kind_of}
 use Rattle.ctl_stanza.specs.Fields.{field_at, value_of, continued}
-use Rattle.ctl_stanza.specs.HeldFields.{loose_at, shown, shown_field, shown_fields, IsFieldWithin, AreWithin, StandsAt, Grows, Shows, Adds}
+use Rattle.ctl_stanza.specs.Inside.HeldFields.{loose_at, shown, shown_field, shown_fields, IsFieldWithin, AreWithin, StandsAt, Grows, Shows, Adds}
 use Rattle.ctl_stanza.proofs.FieldLemmas.{loose-other, nothing-added, within_line, stands-round, shown-grow, within-grow, fields-grow, fields_within-grow}
 use Rattle.ctl_stanza.proofs.fields.add_field.Goals as goal
 

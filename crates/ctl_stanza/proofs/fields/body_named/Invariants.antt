@@ -1,6 +1,6 @@
 use Rattle.std.proofs.Common.{◌≡◌, drop}
 use Rattle.ctl_stanza.specs.Fields.{body_named}
-use Rattle.ctl_stanza.specs.HeldFields.{shown_fields}
+use Rattle.ctl_stanza.specs.Inside.HeldFields.{shown_fields}
 use Rattle.ctl_stanza.proofs.fields.body_named.Given as goal
 
 abbrev pub invariant-loop-i : goal.invariant-loop-i

@@ -1,7 +1,7 @@
 use Rattle.std.proofs.Common.{◌≡◌, ◌∙◌, ◌+◌, ◌-◌, ◌++◌, ◌≤◌, inl, inr, sym, ap, refl, subst, arith, length}
 use Rattle.ctl_stanza.specs.Lines.{lent_lines}
 use Rattle.ctl_stanza.specs.Fields.{value_of, continued}
-use Rattle.ctl_stanza.specs.HeldFields.{Shows}
+use Rattle.ctl_stanza.specs.Inside.HeldFields.{Shows}
 use Rattle.ctl_stanza.proofs.FieldLemmas.{continued-le, stands-room, shown-len, body-within, end-shown}
 use Rattle.ctl_stanza.proofs.fields.body_span.Goals as goal
 

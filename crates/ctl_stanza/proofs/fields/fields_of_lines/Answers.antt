@@ -1,7 +1,7 @@
 use Rattle.std.proofs.Common.{◌≡◌, ◌∙◌, ◌<◌, ◌+◌, ◌-◌, ◌++◌, ◌∷◌, ℕ, List, [], length, take, drop, get_or, Bor, sym, ap, arith, take_all, drop_of_length-le, append_assoc, append-nil}
 use Rattle.std.proofs.lemmas.List.{get_or-map, length-map, length-drop, drop-map, drop_more, length-append}
 use Rattle.ctl_stanza.specs.Lines.{text_of_lines, lent_lines}
-use Rattle.ctl_stanza.specs.HeldFields.{StandsAt, Grows, loose_bodies}
+use Rattle.ctl_stanza.specs.Inside.HeldFields.{StandsAt, Grows, loose_bodies}
 use Rattle.ctl_stanza.proofs.FieldLemmas.{loose-turn, length-text_of_lines, fields-turn, stands-room, stands-next, stands-grow}
 use Rattle.ctl_stanza.proofs.fields.fields_of_lines.Goals as goal
 

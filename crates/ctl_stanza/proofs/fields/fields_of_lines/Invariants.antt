@@ -1,7 +1,7 @@
 use Rattle.std.proofs.Common.{◌≡◌, ◌<◌, ◌^◌, ◌++◌, length, drop}
 use Rattle.ctl_stanza.specs.Lines.{text_of_lines, lent_lines}
 use Rattle.ctl_stanza.specs.Fields.{fields_of_lines, fields_from}
-use Rattle.ctl_stanza.specs.HeldFields.{loose_bodies, shown_fields, AreWithin, AreBelow, StandsAt, Grows}
+use Rattle.ctl_stanza.specs.Inside.HeldFields.{loose_bodies, shown_fields, AreWithin, AreBelow, StandsAt, Grows}
 use Rattle.ctl_stanza.proofs.fields.fields_of_lines.Given as goal
 
 -- the fields of the lines so far; what is left of the lines stands at the place that is reached

@@ -1,7 +1,7 @@
 use Rattle.std.proofs.Common.{◌≡◌, ◌+◌, ◌≤◌, ◌==◌, ℕ, List, [], take, drop}
 use Rattle.ctl_stanza.specs.Lines.{max_line, lent_lines}
 use Rattle.ctl_stanza.specs.Faults.{names_of, has_name, body_len, first_fault}
-use Rattle.ctl_stanza.specs.HeldNames.{holds}
+use Rattle.ctl_stanza.specs.Inside.HeldNames.{holds}
 use Rattle.ctl_stanza.proofs.line_faults.first_fault.Given as goal
 
 -- the names and the body are those of the lines so far, none of which is faulty

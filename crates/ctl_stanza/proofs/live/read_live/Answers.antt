@@ -1,6 +1,6 @@
 use Rattle.std.proofs.Common.{◌≡◌, ◌∙◌, true, refl, sym, ap, rules, drop, List, [], drop_of_length-le, arith}
 use Rattle.ctl_stanza.specs.declared.fields.Field.{Field}
-use Rattle.ctl_stanza.specs.HeldFields.{shown_fields}
+use Rattle.ctl_stanza.specs.Inside.HeldFields.{shown_fields}
 use Rattle.ctl_stanza.proofs.FieldLemmas.{left-shown, first_wrong-good, first_wrong-bad}
 use Rattle.ctl_stanza.proofs.RelationLemmas.{version-turn, groups-turn, keeps-given, keeps-kept, kept_of, groups_found, all-kept}
 use Rattle.ctl_stanza.specs.Faults.{or_else}

@@ -1,7 +1,7 @@
 use Rattle.std.proofs.Common.{◌≡◌, true, drop}
 use Rattle.ctl_stanza.specs.Fields.{body_named, version_name}
 use Rattle.ctl_stanza.specs.Faults.{first_wrong, or_else}
-use Rattle.ctl_stanza.specs.HeldFields.{shown_fields}
+use Rattle.ctl_stanza.specs.Inside.HeldFields.{shown_fields}
 use Rattle.ctl_stanza.proofs.RelationLemmas.{AreMarkedSoFar}
 use Rattle.ctl_stanza.proofs.live.read_live.Given as goal
 

@@ -1,7 +1,7 @@
 use Rattle.std.proofs.Common.{◌≡◌, ◌≤◌, ◌+◌, ◌==◌, ℕ, List, length, take}
 use Rattle.ctl_stanza.specs.Lines.{max_line, lines_of}
 use Rattle.ctl_stanza.specs.Faults.{names_of, has_name, body_len}
-use Rattle.ctl_stanza.specs.HeldNames.{holds}
+use Rattle.ctl_stanza.specs.Inside.HeldNames.{holds}
 use Rattle.ctl_stanza.proofs.QuickLemmas.{Reached}
 use Rattle.ctl_stanza.proofs.quick.accept_stanza.Given as goal
 

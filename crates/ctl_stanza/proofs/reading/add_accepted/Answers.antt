@@ -1,6 +1,6 @@
 use Rattle.std.proofs.Common.{◌≡◌, ◌∙◌, ◌++◌, None, IfErr, OnOk, ap, sym, subst}
 use Rattle.ctl_stanza.specs.Faults.{Tells, whole_fault}
-use Rattle.ctl_stanza.specs.HeldFields.{shown_fields}
+use Rattle.ctl_stanza.specs.Inside.HeldFields.{shown_fields}
 use Rattle.ctl_stanza.proofs.QuickLemmas.{accepted-fault}
 use Rattle.ctl_stanza.proofs.reading.add_accepted.Goals as goal
 

@@ -1,7 +1,7 @@
 use Rattle.std.proofs.Common.{refl, ◌≡◌, ◌∙◌, ◌+◌, length, ap, sym, subst, arith, IfSome}
 use Rattle.std.proofs.lemmas.List.{length-map}
 use Rattle.ctl_stanza.specs.Lines.{lines_of, lent_lines}
-use Rattle.ctl_stanza.specs.Quick.{IsAccepted}
+use Rattle.ctl_stanza.specs.Inside.Quick.{IsAccepted}
 use Rattle.ctl_stanza.proofs.PieceLemmas.{now}
 use Rattle.ctl_stanza.proofs.TurnLemmas.{stanza-turn, gap-turn, stanza-end, first-lent, room-next, none-behind}
 use Rattle.ctl_stanza.proofs.reading.read_pieces.Goals as goal

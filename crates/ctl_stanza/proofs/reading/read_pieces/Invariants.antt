@@ -1,6 +1,6 @@
 use Rattle.std.proofs.Common.{◌≡◌, ◌+◌, length}
 use Rattle.ctl_stanza.specs.Lines.{lines_of}
-use Rattle.ctl_stanza.specs.HeldNames.{HasSeenNone}
+use Rattle.ctl_stanza.specs.Inside.HeldNames.{HasSeenNone}
 use Rattle.ctl_stanza.specs.Text.{pieces_of, read_pieces, read_text, with_contents}
 use Rattle.ctl_stanza.proofs.reading.read_pieces.Given as goal
 

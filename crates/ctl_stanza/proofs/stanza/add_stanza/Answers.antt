@@ -1,6 +1,6 @@
 use Rattle.std.proofs.Common.{◌≡◌, ◌∙◌, None, rules}
 use Rattle.ctl_stanza.specs.Faults.{whole_fault}
-use Rattle.ctl_stanza.specs.HeldFields.{shown_fields}
+use Rattle.ctl_stanza.specs.Inside.HeldFields.{shown_fields}
 use Rattle.ctl_stanza.proofs.SoundLemmas.{no_fault_of, walk_of}
 use Rattle.ctl_stanza.proofs.stanza.add_stanza.Goals as goal
 

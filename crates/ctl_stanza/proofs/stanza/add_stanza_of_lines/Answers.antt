@@ -1,7 +1,7 @@
 use Rattle.std.proofs.Common.{refl, sym, subst}
 use Rattle.ctl_stanza.specs.Lines.{lent_lines, text_of_lines}
-use Rattle.ctl_stanza.specs.HeldFields.{loose_bodies}
-use Rattle.ctl_stanza.specs.NameSlots.{AreTakenBy}
+use Rattle.ctl_stanza.specs.Inside.HeldFields.{loose_bodies}
+use Rattle.ctl_stanza.specs.Inside.NameSlots.{AreTakenBy}
 use Rattle.ctl_stanza.proofs.SoundLemmas.{read_from, lines_in_front}
 use Rattle.ctl_stanza.proofs.stanza.add_stanza_of_lines.Goals as goal
 

@@ -1,5 +1,5 @@
 use Rattle.std.proofs.Common.{◌∙◌, false, sym}
-use Rattle.ctl_stanza.specs.HeldFields.{shown_fields}
+use Rattle.ctl_stanza.specs.Inside.HeldFields.{shown_fields}
 use Rattle.ctl_stanza.proofs.FaultLemmas.{first_wrong-memory, never-memory}
 use Rattle.ctl_stanza.proofs.stanza.read_offers.Goals as goal
 

@@ -1,4 +1,4 @@
-use Rattle.ctl_stanza.specs.HeldStanza.{content_in_front}
+use Rattle.ctl_stanza.specs.Inside.HeldStanza.{content_in_front}
 use Rattle.ctl_stanza.specs.Sound.{IsWhole}
 use Rattle.ctl_stanza.proofs.stanza.stanza_of.Goals as goal
 

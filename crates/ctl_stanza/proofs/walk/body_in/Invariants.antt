@@ -1,7 +1,7 @@
 use Rattle.std.proofs.Common.{◌≡◌, length}
 use Rattle.ctl_stanza.specs.Lines.{lines_of}
 use Rattle.ctl_stanza.specs.Fields.{body_named, fields_of_lines}
-use Rattle.ctl_stanza.specs.HeldFields.{IsWalk}
+use Rattle.ctl_stanza.specs.Inside.HeldFields.{IsWalk}
 use Rattle.ctl_stanza.proofs.walk.body_in.Given as goal
 
 abbrev pub invariant-lines : goal.invariant-lines

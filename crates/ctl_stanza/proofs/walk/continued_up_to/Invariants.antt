@@ -1,7 +1,7 @@
 use Rattle.std.proofs.Common.{◌≡◌, ◌+◌, length}
 use Rattle.ctl_stanza.specs.Lines.{lines_of}
 use Rattle.ctl_stanza.specs.Fields.{continued}
-use Rattle.ctl_stanza.specs.HeldFields.{IsText}
+use Rattle.ctl_stanza.specs.Inside.HeldFields.{IsText}
 use Rattle.ctl_stanza.proofs.walk.continued_up_to.Given as goal
 
 abbrev pub invariant-lines : goal.invariant-lines

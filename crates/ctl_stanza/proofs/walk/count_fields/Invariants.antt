@@ -1,5 +1,5 @@
 use Rattle.std.proofs.Common.{◌≡◌, ◌+◌, ◌≤◌, length}
-use Rattle.ctl_stanza.specs.HeldFields.{IsWalk, bodies_in}
+use Rattle.ctl_stanza.specs.Inside.HeldFields.{IsWalk, bodies_in}
 use Rattle.ctl_stanza.proofs.walk.count_fields.Given as goal
 
 -- the fields so far and those that are left are all, and each took a byte at least

@@ -1,5 +1,5 @@
 use Rattle.std.proofs.Common.{◌∙◌, ◌∷◌, ℕ, List, sym, ap₂, arith}
-use Rattle.ctl_stanza.specs.HeldFields.{bodies_in}
+use Rattle.ctl_stanza.specs.Inside.HeldFields.{bodies_in}
 use Rattle.ctl_stanza.proofs.WalkLemmas.{walk-next, walk-behind, bodies-field, bodies-none}
 use Rattle.ctl_stanza.proofs.walk.take_field.Goals as goal
 

@@ -1,5 +1,5 @@
 use Rattle.std.proofs.Common.{◌≡◌, ◌≤◌, length}
-use Rattle.ctl_stanza.specs.HeldFields.{IsWalk, bodies_in}
+use Rattle.ctl_stanza.specs.Inside.HeldFields.{IsWalk, bodies_in}
 use Rattle.ctl_stanza.proofs.walk.take_field.Given as goal
 
 abbrev pub invariant-lines : goal.invariant-lines

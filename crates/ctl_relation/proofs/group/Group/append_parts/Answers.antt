@@ -1,7 +1,7 @@
 use Rattle.std.proofs.Common.{◌∙◌, ◌++◌, ℕ, List, ap, append_assoc}
 use Rattle.std.proofs.lemmas.List.Elements.{All-tail}
 use Rattle.std.specs.List.{flat_map}
-use Rattle.ctl_relation.specs.HeldPlaces.{HasAtom, atom_held}
+use Rattle.ctl_relation.specs.Inside.HeldPlaces.{HasAtom, atom_held}
 use Rattle.ctl_relation.specs.Parts.{AtomParts}
 use Rattle.ctl_relation.specs.Printed.{alternative_text, atom_text, group_text}
 use Rattle.ctl_relation.proofs.PlaceLemmas.{others-text}

@@ -1,5 +1,5 @@
 use Rattle.std.proofs.lemmas.List.Elements.{All-tail}
-use Rattle.ctl_relation.specs.HeldPlaces.{HasAtom}
+use Rattle.ctl_relation.specs.Inside.HeldPlaces.{HasAtom}
 use Rattle.ctl_relation.proofs.group.Group.has_name.Goals as goal
 
 pub is_named_among-requires : goal.is_named_among-requires

@@ -7,8 +7,8 @@ use Rattle.std.proofs.lemmas.List.Folds.{list_any-append}
 use Rattle.std.proofs.lemmas.Map.Text.{is_eq-slice_cmp}
 use Rattle.std.proofs.lemmas.Slice.Eq.{bytes_eq-Decides}
 use Rattle.ctl_stanza.specs.Given.{Given}
-use Rattle.ctl_stanza.specs.HeldNames.{holds}
-use Rattle.ctl_stanza.specs.NameSlots.{has_slot, is_given}
+use Rattle.ctl_stanza.specs.Inside.HeldNames.{holds}
+use Rattle.ctl_stanza.specs.Inside.NameSlots.{has_slot, is_given}
 use Rattle.ctl_stanza.specs.Fields.{is_same_name}
 use Rattle.ctl_stanza.proofs.NameLemmas.{any-same, any-insert, new-beyond, beyond-more}
 use Rattle.ctl_stanza.proofs.SlotLemmas.{given-is, held-already, known-given, not-first, taken-more, taken-still, first-more}

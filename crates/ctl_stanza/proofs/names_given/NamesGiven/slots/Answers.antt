@@ -1,6 +1,6 @@
 use Rattle.std.proofs.Common.{◌∙◌, sym, ap}
 use Rattle.ctl_stanza.specs.Given.{Given}
-use Rattle.ctl_stanza.specs.HeldNames.{holds}
+use Rattle.ctl_stanza.specs.Inside.HeldNames.{holds}
 use Rattle.ctl_stanza.proofs.SlotLemmas.{given-is}
 use Rattle.ctl_stanza.proofs.names_given.NamesGiven.slots.Goals as goal
 

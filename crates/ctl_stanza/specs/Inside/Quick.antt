@@ -9,7 +9,7 @@ use Rattle.ctl_stanza.specs.declared.line_kind.LineKind.TheVariants as kinds
 use Rattle.ctl_stanza.specs.Lines.{lines_of}
 use Rattle.ctl_stanza.specs.LineKind.{kind_of}
 use Rattle.ctl_stanza.specs.Fields.{value_of, continued, field_at}
-use Rattle.ctl_stanza.specs.HeldFields.{IsPlainAt, IsReadFrom, AreBelow, StandsAt, shown_field, shown_fields}
+use Rattle.ctl_stanza.specs.Inside.HeldFields.{IsPlainAt, IsReadFrom, AreBelow, StandsAt, shown_field, shown_fields}
 use Rattle.ctl_stanza.specs.Text.{IsFirstPiece, is_gap}
 
 -- a field stands before an end

@@ -11,9 +11,9 @@ use Rattle.ctl_stanza.specs.Fields.{FieldText, is_same_name, body_named, package
 use Rattle.ctl_stanza.specs.RelationFields.{name_of}
 use Rattle.ctl_stanza.specs.Content.{Content, relations_of_kind, offers_in, offers_of}
 use Rattle.ctl_stanza.specs.Sound.{IsWhole, IsSound}
-use Rattle.ctl_stanza.specs.HeldFields.{IsWalk}
+use Rattle.ctl_stanza.specs.Inside.HeldFields.{IsWalk}
 use Rattle.ctl_stanza.specs.Lines.{lines_of}
-use Rattle.ctl_stanza.specs.NameSlots.{AreTakenBy}
+use Rattle.ctl_stanza.specs.Inside.NameSlots.{AreTakenBy}
 
 -- what a field gives to the version
 abbrev pub version_given : List ℕ → List ℕ → Option (List ℕ)
