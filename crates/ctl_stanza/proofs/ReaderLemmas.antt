@@ -84,14 +84,6 @@ cut kind n front behind gap =
     ap (λ t. read_text kind n (t ++ behind)) gap.whole ∙ ap (read_text kind n) (append_assoc gap.front (10 ∷ 10 ∷ []) behind) ∙ in_parts kind n gap.front behind
     ∙ ap (λ t. joined (read_text kind n t) (read_text kind (n + length (lines_of t)) behind)) (sym gap.whole)
 
-none : (read : Result (List Content) TextFault) → read ≡ with_contents [] read
-none (Ok xs) = refl
-none (Err f) = refl
-
--- nothing was read yet
-pub begun : (kind : ListKind) (n : ℕ) (reading : Reading) → reading ≡ record { kind = kind; stanzas = []; line = n; rest = [] } → IsReading kind n [] reading
-begun kind n reading e = record { reads = λ more. none (read_text kind n more) ∙ ap (λ (r : Reading). with_contents r.stanzas (read_text r.kind r.line (r.rest ++ more))) (sym e) }
-
 -- the text with its next piece, of which a front ends with an empty line
 parted : (kind : ListKind) (n : ℕ) (text piece front behind whole more : List ℕ) (old : Reading) → IsReading kind n text old → piece ≡ front ++ behind → whole ≡ old.rest ++ front → EndsWithGap whole
     → read_text kind n (text ++ (piece ++ more)) ≡ with_contents old.stanzas (joined (read_text old.kind old.line whole) (read_text old.kind (old.line + length (lines_of whole)) (behind ++ more)))
