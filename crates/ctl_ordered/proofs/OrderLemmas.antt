@@ -1,8 +1,8 @@
 -- Orders of serials, by which keys are found.
-use Rattle.std.proofs.Common.{◌≡◌, ◌⊎◌, inl, inr, ℕ, zero, suc, ◌+◌, ◌<◌, ◌≤◌, Bool, true, false, cond, nat_eq, List, [], ◌∷◌, ◌++◌, length, get_or, map, filter, Option, None, Some, refl, ap, sym, subst, ◌∙◌, arith}
-use Rattle.std.proofs.lemmas.Bool.{true≢false}
+use Rattle.std.proofs.Common.{◌≡◌, ◌⊎◌, inl, inr, ℕ, zero, suc, ◌+◌, ◌<◌, ◌≤◌, Bool, true, false, cond, nat_eq, List, [], ◌∷◌, ◌++◌, length, get_or, filter, Option, None, Some, refl, ap, sym, subst, ◌∙◌, arith}
 use Rattle.std.proofs.lemmas.Map.{keys-set_value, lookup-insert, lookup-remove_entry, none_passes_from_lookup}
-use Rattle.std.proofs.lemmas.List.{map-append}
+use Rattle.std.proofs.lemmas.List.{get_or-map, length-map, map-append}
+use Rattle.indexmap.proofs.SetLemmas.{map-insert, map-remove}
 use Rattle.std.proofs.lemmas.Cmp.{tied_itself, tied_back}
 use Rattle.std.specs.Borrow.{MutBor}
 use Rattle.std.specs.Option.{option_copied_mut, OnSome}
@@ -21,19 +21,13 @@ use Rattle.ctl_ordered.specs.Ordered.{without_serials, serials_of, row_serial, f
 use Rattle.ctl_ordered.proofs.SlotLemmas.{yes, no, some_not_none, from_lent, entry_in, row_at, rises_rows, rises_set, rises_last, rises_squeezed, insert_last, insert_new, lookup_last, rows_set, rows_cut, rows_last, rows_squeezed, IsEntryOf, row_found, no_value, no_cut, no_serial, entries_set, entries_cut, serials_set, serials_cut, keys_in_rows, apart_cut, apart_last}
 
 is_less : (o : Ordering) → is_lt o ≡ true → o ≡ Less
-is_less Less e = refl
-is_less Equal e = absurd (true≢false (sym e))
-is_less Greater e = absurd (true≢false (sym e))
+is_less o e = grind arith
 
 is_equal : (o : Ordering) → is_eq o ≡ true → o ≡ Equal
-is_equal Less e = absurd (true≢false (sym e))
-is_equal Equal e = refl
-is_equal Greater e = absurd (true≢false (sym e))
+is_equal o e = grind arith
 
 is_greater : (o : Ordering) → is_lt o ≡ false → is_eq o ≡ false → o ≡ Greater
-is_greater Less e f = absurd (true≢false e)
-is_greater Equal e f = absurd (true≢false f)
-is_greater Greater e f = refl
+is_greater o e f = grind arith
 
 -- how keys stand to each other, and when they are equal
 pub record IsOrderOf {K : Type 0} (eq : K → K → Bool) (R : K → K → Ordering) : Type 0 where
@@ -44,30 +38,10 @@ pub record IsOrderOf {K : Type 0} (eq : K → K → Bool) (R : K → K → Order
 pub key_order : {K : Type 0} {eq : K → K → Bool} {R : K → K → Ordering} → IsEquivalence eq → IsTotalOrder R → ((x y : K) → eq x y ≡ is_eq (R x y)) → IsOrderOf eq R
 key_order laws total alike = record { laws = laws; total = total; alike = alike }
 
-abbrev serials : {K : Type 0} → List (K × ℕ) → List ℕ
-serials {K} ps = map (λ (p : K × ℕ). p.1) ps
-
 module _ {K : Type 0} where
-  length_serials : (ps : List (K × ℕ)) → length (serials ps) ≡ length ps
-  length_serials [] = refl
-  length_serials (p ∷ ps) = ap (λ n. suc n) (length_serials ps)
-
-  read_serials : (ps : List (K × ℕ)) (i d : ℕ) (e : K × ℕ) → i < length ps → get_or (serials ps) i d ≡ (get_or ps i e).1
-  read_serials [] i d e l = absurd (omega arith)
-  read_serials (p ∷ ps) zero d e l = refl
-  read_serials (p ∷ ps) (suc i) d e l = read_serials ps i d e (omega arith)
-
-  serials_insert : (ps : List (K × ℕ)) (i : ℕ) (p : K × ℕ) → serials (insert ps i p) ≡ insert (serials ps) i p.1
-  serials_insert [] zero p = refl
-  serials_insert [] (suc i) p = refl
-  serials_insert (q ∷ ps) zero p = refl
-  serials_insert (q ∷ ps) (suc i) p = ap (λ l. q.1 ∷ l) (serials_insert ps i p)
-
-  serials_remove : (ps : List (K × ℕ)) (i : ℕ) → serials (remove ps i) ≡ remove (serials ps) i
-  serials_remove [] zero = refl
-  serials_remove [] (suc i) = refl
-  serials_remove (q ∷ ps) zero = refl
-  serials_remove (q ∷ ps) (suc i) = ap (λ l. q.1 ∷ l) (serials_remove ps i)
+  first : (ps : List (K × ℕ)) → 0 < length ps → K × ℕ
+  first [] l = absurd (omega arith)
+  first (p ∷ ps) l = p
 
   all_at : (P : K → Type 0) (ps : List (K × ℕ)) (i : ℕ) (d : K × ℕ) → AllByRecursion P (keys_of ps) → i < length ps → P (get_or ps i d).0
   all_at P [] i d h l = absurd (omega arith)
@@ -79,9 +53,8 @@ module _ {K : Type 0} where
   all_from P (p ∷ ps) h = (h 0 p (omega arith), all_from P ps (λ i d l. h (suc i) d (omega arith)))
 
   all_insert : (P : K → Type 0) (ps : List (K × ℕ)) (i : ℕ) (p : K × ℕ) → AllByRecursion P (keys_of ps) → P p.0 → AllByRecursion P (keys_of (insert ps i p))
-  all_insert P [] zero p h x = (x, tt)
+  all_insert P ps zero p h x = (x, h)
   all_insert P [] (suc i) p h x = (x, tt)
-  all_insert P (q ∷ ps) zero p h x = (x, h)
   all_insert P (q ∷ ps) (suc i) p h x = (h.0, all_insert P ps i p h.1 x)
 
   all_remove : (P : K → Type 0) (ps : List (K × ℕ)) (i : ℕ) → AllByRecursion P (keys_of ps) → AllByRecursion P (keys_of (remove ps i))
@@ -107,9 +80,8 @@ module _ {K : Type 0} {eq : K → K → Bool} {R : K → K → Ordering} (o : Is
 
   climb : (ps : List (K × ℕ)) (i j : ℕ) (d : K × ℕ) → KeysRise R ps → i < j → j < length ps → R (get_or ps i d).0 (get_or ps j d).0 ≡ Less
   climb [] i j d h l b = absurd (omega arith)
-  climb (p ∷ ps) zero zero d h l b = absurd (omega arith)
+  climb (p ∷ ps) i zero d h l b = absurd (omega arith)
   climb (p ∷ ps) zero (suc j) d h l b = all_at (λ k. R p.0 k ≡ Less) ps j d h.0 (omega arith)
-  climb (p ∷ ps) (suc i) zero d h l b = absurd (omega arith)
   climb (p ∷ ps) (suc i) (suc j) d h l b = climb ps i j d h.1 (omega arith) (omega arith)
 
   -- each serial is found by its own key
@@ -174,10 +146,10 @@ module _ {K : Type 0} {eq : K → K → Bool} {R : K → K → Ordering} (o : Is
     order_read : (i d : ℕ) (e : K × ℕ) → i < length ps → order_at R slots q (get_or order i d) ≡ R (get_or ps i e).0 q
     order_read i d e l =
         ap (λ (l : List ℕ). order_at R slots q (get_or l i d)) held.order_is
-        ∙ ap (λ s. order_at R slots q s) (read_serials ps i d e l) ∙ order_is_key i e l
+        ∙ ap (λ s. order_at R slots q s) (get_or-map (λ (p : K × ℕ). p.1) ps i e d l) ∙ order_is_key i e l
 
     length_order : length order ≡ length ps
-    length_order = ap length held.order_is ∙ length_serials ps
+    length_order = ap length held.order_is ∙ length-map ps (λ (p : K × ℕ). p.1)
 
     pub parted : IsPartitionedBy (λ s. is_lt (order_at R slots q s)) order
     parted i j d le l e =
@@ -189,18 +161,8 @@ module _ {K : Type 0} {eq : K → K → Bool} {R : K → K → Ordering} (o : Is
               ∙ ap is_lt (o.total.trans (get_or ps i x).0 (get_or ps j x).0 q (climb ps i j x held.climbs less (omega (arith, l, length_order))) (is_less (R (get_or ps j x).0 q) (sym (ap is_lt (order_read j d x (omega (arith, l, length_order)))) ∙ e)))
         ]
       where
-        first : (ps : List (K × ℕ)) → 0 < length ps → K × ℕ
-        first [] l = absurd (omega arith)
-        first (p ∷ ps) l = p
-
         apart_or_same : (i j : ℕ) → i ≤ j → (i ≡ j) ⊎ (i < j)
-        apart_or_same zero zero le = inl refl
-        apart_or_same zero (suc j) le = inr (omega arith)
-        apart_or_same (suc i) zero le = absurd (omega arith)
-        apart_or_same (suc i) (suc j) le = elim (apart_or_same i j (omega arith)) [
-          | inl e ↦ inl (ap (λ n. suc n) e)
-          | inr l ↦ inr (omega (arith, l))
-        ]
+        apart_or_same i j le = grind arith
 
     -- at the point where those before the key end
     module _ (r : ℕ) (bound : r ≤ length order) (point : IsBelow R slots q order r) where
@@ -220,13 +182,10 @@ module _ {K : Type 0} {eq : K → K → Bool} {R : K → K → Ordering} (o : Is
           found_there q ps r d lower_apart b (o.alike q (get_or ps r d).0 ∙ ap is_eq (tied_back o.total (get_or ps r d).0 q (is_equal (R (get_or ps r d).0 q) (sym (ap is_eq (order_read r 0 d b)) ∙ e))))
 
       pub serial_there : r < length order → is_eq (order_at R slots q (get_or order r 0)) ≡ true → Some (get_or order r 0) ≡ row_serial (eq q) (rows_of slots)
-      serial_there l e = by ps refl (omega (arith, l, length_order))
-        where
-          by : (xs : List (K × ℕ)) → ps ≡ xs → 0 < length ps → Some (get_or order r 0) ≡ row_serial (eq q) (rows_of slots)
-          by [] same b = absurd (omega (arith, ap length same, b))
-          by (x ∷ xs) same b =
-              ap (λ (l : List ℕ). Some (get_or l r 0)) held.order_is ∙ ap (λ s. Some s) (read_serials ps r 0 x (omega (arith, l, length_order)))
-              ∙ sym (there_is x l e).0 ∙ held.kept.found q
+      serial_there l e =
+          let x = first ps (omega (arith, l, length_order)) in
+          ap (λ (l : List ℕ). Some (get_or l r 0)) held.order_is ∙ ap (λ s. Some s) (get_or-map (λ (p : K × ℕ). p.1) ps r x 0 (omega (arith, l, length_order)))
+          ∙ sym (there_is x l e).0 ∙ held.kept.found q
 
       pub serial_nowhere : (r < length order → is_eq (order_at R slots q (get_or order r 0)) ≡ false) → None ≡ row_serial (eq q) (rows_of slots)
       serial_nowhere other = sym (sym (held.kept.found q) ∙ found_nowhere q ps (λ j d l. elim (three j) [
@@ -325,7 +284,7 @@ module _ {K V : Type 0} {eq : K → K → Bool} {R : K → K → Ordering} (o : 
           let serials : serials_of (rows_of (insert_entry nat_eq slots next (Entry k v))) ≡ serials_of rows ++ (k, next) ∷ [] = ap serials_of new ∙ map-append (λ (row : ℕ × (K × V)). (row.1.0, row.0)) rows ((next, (k, v)) ∷ []) in (
             record {
               pairs = insert ps r (k, next);
-              order_is = ap (λ l. insert l r next) held.order_is ∙ sym (serials_insert ps r (k, next));
+              order_is = ap (λ l. insert l r next) held.order_is ∙ sym (map-insert (λ (p : K × ℕ). p.1) ps r (k, next));
               kept = record {
                 found = λ q. lookup-insert o.laws k next q ps r passes ∙ ap (λ x. cond (eq k q) (Some next) x) (held.kept.found q) ∙ sym (ap (lookup (eq q)) serials ∙ lookup_last o.laws q k next (serials_of rows) free);
                 rises = subst (λ l. Rises 0 l (next + 1)) (sym all) (rises_last (Entry k v) 0 slots next held.kept.rises);
@@ -354,7 +313,7 @@ module _ {K V : Type 0} {eq : K → K → Bool} {R : K → K → Ordering} (o : 
           let one = o.laws.congr k in (
             record {
               pairs = remove ps r;
-              order_is = ap (λ l. remove l r) held.order_is ∙ sym (serials_remove ps r);
+              order_is = ap (λ l. remove l r) held.order_is ∙ sym (map-remove (λ (p : K × ℕ). p.1) ps r);
               kept = record {
                 found = λ q.
                     ap (lookup (eq q)) there.1 ∙ lookup-remove_entry o.laws (eq k) (λ x y e. one x y e) q ps (apart_climbs o ps held.climbs) ∙ ap (λ x. cond (eq k q) None x) (held.kept.found q)
@@ -368,10 +327,6 @@ module _ {K V : Type 0} {eq : K → K → Bool} {R : K → K → Ordering} (o : 
             new,
           )
         where
-          first : (ps : List (K × ℕ)) → 0 < length ps → K × ℕ
-          first [] l = absurd (omega arith)
-          first (p ∷ ps) l = p
-
           here : (b : Bool) → is_eq (order_at R slots k (get_or order r 0)) ≡ b → is_eq (order_at R slots k (get_or order r 0)) ≡ true
           here true e = e
           here false e = absurd (some_not_none (i ∙ sym (serial_nowhere o slots order next held k r bound point (λ l. e))))
