@@ -31,24 +31,6 @@ pub(super) fn one_if_status(kind: ListKind) -> u32
     }
 }
 
-fn is_status(kind: ListKind) -> bool
-    ensures { result ≡ is_status kind }
-{
-    match kind {
-        ListKind::Packages => false,
-        ListKind::Status => true,
-    }
-}
-
-fn is_same_kind(one: ListKind, other: ListKind) -> bool
-    ensures { result ≡ is_same_kind one other }
-{
-    match one {
-        ListKind::Packages => !is_status(other),
-        ListKind::Status => is_status(other),
-    }
-}
-
 impl Store {
     #[tactic(auto, using(crate::proofs::ListedLemmas::has_name_held))]
     pub(super) fn has_list(&self, name: &Bytes) -> bool
@@ -69,7 +51,7 @@ impl Store {
         ensures { result ≡ takes_kind kind list.now (state_of self.now).lists }
     {
         match self.lists.get(list) {
-            Some(listed) => is_same_kind(kind, listed.kind()),
+            Some(listed) => kind == listed.kind(),
             None => false,
         }
     }
@@ -162,7 +144,7 @@ impl Store {
     {
         match edit {
             Edit::AddList { name, .. } if self.has_list(name) => Some(Refusal::ListExists),
-            Edit::AddList { stanzas, .. } if is_status(stanzas.kind()) && self.has_status() => {
+            Edit::AddList { stanzas, .. } if stanzas.kind() == ListKind::Status && self.has_status() => {
                 Some(Refusal::StatusExists)
             }
             Edit::DropList { name } if !self.has_list(name) => Some(Refusal::NoList),

@@ -11,7 +11,7 @@ ghost use Rattle.ctl_store.specs.Entries.{IsChange};
 ghost use Rattle.ctl_store.specs.Given.{IsGivenOnce};
 ghost use Rattle.ctl_store.specs.Kinds.{AreOfKind};
 ghost use Rattle.ctl_store.specs.NewLists.{adding};
-ghost use Rattle.ctl_store.specs.Held.{state_of, keyed_of, IsReady, HasRoom, HasRoomInList, Fits};
+ghost use Rattle.ctl_store.specs.Held.{state_of, keyed_of, HasMade, IsReady, HasRoom, HasRoomInList, Fits};
 
 use crate::edit::Edit;
 use crate::held_list::{HeldList, ListRoom, NewList};
@@ -135,7 +135,6 @@ impl Store {
         ensures keyed { keyed_of self.new ≡ keyed_after (keyed_of self.old) (edits.DropList name.now) }
         ensures limits { self.new.limits ≡ self.old.limits }
     {
-        let _limits = self.limits;
         let statuses = self.count_of_kind(name);
         self.lists.remove(name);
         self.stanzas -= gone as u32;
@@ -151,7 +150,6 @@ impl Store {
         ensures keyed { keyed_of self.new ≡ keyed_after (keyed_of self.old) (edits.Put list.now stanza.value) }
         ensures limits { self.new.limits ≡ self.old.limits }
     {
-        let _limits = self.limits;
         put_in(&mut self.lists, list, stanza);
         self.stanzas += more_if_none_goes(gone);
         self.edits += 1;
@@ -163,7 +161,6 @@ impl Store {
         ensures keyed { keyed_of self.new ≡ keyed_after (keyed_of self.old) (edits.Remove list.now «package».now version.now) }
         ensures limits { self.new.limits ≡ self.old.limits }
     {
-        let _limits = self.limits;
         remove_in(&mut self.lists, list, package.as_slice(), version);
         self.stanzas -= 1;
         self.edits += 1;
@@ -176,7 +173,6 @@ impl Store {
         ensures keyed { keyed_of self.new ≡ keyed_of self.old }
         ensures limits { self.new.limits ≡ self.old.limits }
     {
-        let _limits = self.limits;
         self.marks.put(name, version);
         self.edits += 1;
     }
@@ -187,7 +183,6 @@ impl Store {
         ensures keyed { keyed_of self.new ≡ keyed_of self.old }
         ensures limits { self.new.limits ≡ self.old.limits }
     {
-        let _limits = self.limits;
         self.marks.remove(name);
         self.edits += 1;
     }
@@ -195,11 +190,8 @@ impl Store {
     fn pin(&mut self, setting: PinSetting)
         requires accepted { refusal_of self.old.limits (state_of self.old) (edits.Pin setting.selector setting.priority) ≡ None }
         requires room { 0 < self.old.pins_room }
-        ensures state { state_of self.new ≡ after (state_of self.old) (edits.Pin setting.selector setting.priority) }
-        ensures keyed { keyed_of self.new ≡ keyed_of self.old }
-        ensures limits { self.new.limits ≡ self.old.limits }
+        ensures { HasMade self.old self.new (edits.Pin setting.selector setting.priority) }
     {
-        let _limits = self.limits;
         self.pins.put(setting);
         self.edits += 1;
     }
@@ -210,7 +202,6 @@ impl Store {
         ensures keyed { keyed_of self.new ≡ keyed_of self.old }
         ensures limits { self.new.limits ≡ self.old.limits }
     {
-        let _limits = self.limits;
         self.pins.remove(selector);
         self.edits += 1;
     }
@@ -221,7 +212,6 @@ impl Store {
         ensures keyed { keyed_of self.new ≡ keyed_of self.old }
         ensures limits { self.new.limits ≡ self.old.limits }
     {
-        let _limits = self.limits;
         self.target = name;
         self.edits += 1;
     }
@@ -232,7 +222,6 @@ impl Store {
         ensures keyed { keyed_of self.new ≡ keyed_of self.old }
         ensures limits { self.new.limits ≡ self.old.limits }
     {
-        let _limits = self.limits;
         self.pins = settings.into_table();
         self.edits += 1;
     }
