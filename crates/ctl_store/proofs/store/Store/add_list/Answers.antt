@@ -55,8 +55,8 @@ invariant_of-self c =
     (sound_add c.self.invariant c.put.new.self.rows c.args.name c.args.list.kind c.args.list.class xs c.requires.kinds numbered lists
     (omega (arith, add_fits h.limits (state_of h) c.args.name c.args.list.kind c.args.list.class xs c.requires.accepted, c.self.invariant.counted, held, most)))))
 
-pub returns-clause-state : goal.returns-clause-state
-returns-clause-state c =
+pub returns : goal.returns
+returns c =
     let s = c.self.inside in
     let h = c.args.self.now in
     let xs = map (λ stanza. stanza.value) c.args.list.stanzas.items in
@@ -64,17 +64,10 @@ returns-clause-state c =
     let listed : keyed_list c.new-listed.result ≡ list_of_stanzas s.next_list c.args.list.kind c.args.list.class xs = λ j. record { serial = c.new-listed.ensures.serial j; kind = c.new-listed.ensures.kind j; class = c.new-listed.ensures.class j; next = (c.new-listed.ensures.next ∙ sym c.len-count.ensures ∙ sym long) j; rows = c.new-listed.ensures.rows j } in
     let new = new_among c.args.name (ordered.entries s.lists) (ap (λ h. has_name c.args.name (state_of h).lists) c.self.view_is ∙ add_new h.limits (state_of h) c.args.name c.args.list.kind c.args.list.class xs c.requires.accepted) in
     let lists = ap lists_of c.put.ensures.entries ∙ lists_put_new c.args.name c.new-listed.result (ordered.entries s.lists) new ∙ ap (λ (l : KeyedList). lists_of (ordered.entries s.lists) ++ (c.args.name, l) ∷ []) listed in
-    (λ j. record { lists = (ap stanza_lists lists ∙ new_lists (lists_of (ordered.entries s.lists)) c.args.name s.next_list c.args.list.kind c.args.list.class xs) j; marks = fin.from_entries (ordered.entries s.marks); pins = s.pins.pins; target = s.target; edits = s.edits + 1 })
-    ∙ ap (λ h. after (state_of h) (AddList c.args.name c.args.list.kind c.args.list.class xs)) c.self.view_is
-
-pub returns-clause-keyed : goal.returns-clause-keyed
-returns-clause-keyed c =
-    let s = c.self.inside in
-    let h = c.args.self.now in
-    let xs = map (λ stanza. stanza.value) c.args.list.stanzas.items in
-    let long : length xs ≡ c.len-count.result = omega (arith, same_length (λ stanza. stanza.value) c.args.list.stanzas.items, c.len-count.ensures) in
-    let listed : keyed_list c.new-listed.result ≡ list_of_stanzas s.next_list c.args.list.kind c.args.list.class xs = λ j. record { serial = c.new-listed.ensures.serial j; kind = c.new-listed.ensures.kind j; class = c.new-listed.ensures.class j; next = (c.new-listed.ensures.next ∙ sym c.len-count.ensures ∙ sym long) j; rows = c.new-listed.ensures.rows j } in
-    let new = new_among c.args.name (ordered.entries s.lists) (ap (λ h. has_name c.args.name (state_of h).lists) c.self.view_is ∙ add_new h.limits (state_of h) c.args.name c.args.list.kind c.args.list.class xs c.requires.accepted) in
-    let lists = ap lists_of c.put.ensures.entries ∙ lists_put_new c.args.name c.new-listed.result (ordered.entries s.lists) new ∙ ap (λ (l : KeyedList). lists_of (ordered.entries s.lists) ++ (c.args.name, l) ∷ []) listed in
-    (λ j. record { lists = lists j; next_list = s.next_list + 1 })
-    ∙ ap (λ h. keyed_after (keyed_of h) (AddList c.args.name c.args.list.kind c.args.list.class xs)) c.self.view_is
+    record {
+      state =
+          (λ j. record { lists = (ap stanza_lists lists ∙ new_lists (lists_of (ordered.entries s.lists)) c.args.name s.next_list c.args.list.kind c.args.list.class xs) j; marks = fin.from_entries (ordered.entries s.marks); pins = s.pins.pins; target = s.target; edits = s.edits + 1 })
+          ∙ ap (λ h. after (state_of h) (AddList c.args.name c.args.list.kind c.args.list.class xs)) c.self.view_is;
+      keyed = (λ j. record { lists = lists j; next_list = s.next_list + 1 }) ∙ ap (λ h. keyed_after (keyed_of h) (AddList c.args.name c.args.list.kind c.args.list.class xs)) c.self.view_is;
+      limits = ap (λ h. h.limits) c.self.view_is;
+    }
