@@ -74,12 +74,7 @@ asked-sound general name body (Some v) list cause is_pin asks lists e = by (is_p
     by true false p g e = absurd cc
     by false g p h e = let same : causes.Version ≡ cause = cc in
         subst (IsWrongField general name body) same (record { is_pin = is_pin; version = v; asked = asked; no_version = p })
-asked-sound general name body None (Some l) cause is_pin asks lists e = by (is_name l) refl e
-  where
-    by : (p : Bool) → is_name l ≡ p → cond p None (Some causes.Name) ≡ Some cause → IsWrongField general name body cause
-    by true p e = absurd cc
-    by false p e = let same : causes.Name ≡ cause = cc in
-        subst (IsWrongField general name body) same (inr (record { is_pin = is_pin; list = l; asked = list-asks (words_of body) l lists; no_name = p }))
+asked-sound general name body None (Some l) cause is_pin asks lists e = let asked = list-asks (words_of body) l lists in grind arith
 asked-sound general name body None None cause is_pin asks lists e =
     let same : causes.Form ≡ cause = cc in
     let nothing : AsksForNothing name body = record {
@@ -164,12 +159,7 @@ wrong-told general name body causes.Name wrong = exactly general name body cause
 wrong-told general name body causes.Version wrong = exactly general name body causes.Version (bad-version general name body wrong)
 wrong-told general name body causes.Form wrong = ⊎_elim (version-of-any general name body) (λ asks. exactly general name body causes.Form (asks-nothing general name body asks)) wrong
 wrong-told general name body causes.Priority wrong = exactly general name body causes.Priority (bad-priority general name body wrong)
-wrong-told general name body causes.TooLong wrong = absurd wrong
-wrong-told general name body causes.Line wrong = absurd wrong
-wrong-told general name body causes.FieldTwice wrong = absurd wrong
-wrong-told general name body causes.Missing wrong = absurd wrong
-wrong-told general name body causes.Relation wrong = absurd wrong
-wrong-told general name body causes.Memory wrong = absurd wrong
+wrong-told general name body cause wrong = grind arith
 
 -- ---- what is told of faults that stand at indices
 
