@@ -108,12 +108,7 @@ stanzas_past limit s (AddList name kind class stanzas) e l = more_past limit (st
 stanzas_past limit s (DropList name) e l = fewer_past limit (stanza_count s.lists) _ l (count-without_le name s.lists)
 stanzas_past limit s (Put list content) e l = more_past limit (stanza_count s.lists) _ _ l (count-put list content s.lists (named content.kind list s.lists (no_refusal _ _ e)))
 stanzas_past limit s (Remove list name version) e l = fewer_past limit (stanza_count s.lists) _ l (count-remove_le list name (Some version) s.lists)
-stanzas_past limit s (Mark name version) e l = fewer_past limit (stanza_count s.lists) (stanza_count s.lists) l (omega arith)
-stanzas_past limit s (Unmark name) e l = fewer_past limit (stanza_count s.lists) (stanza_count s.lists) l (omega arith)
-stanzas_past limit s (Pin selector priority) e l = fewer_past limit (stanza_count s.lists) (stanza_count s.lists) l (omega arith)
-stanzas_past limit s (Unpin selector) e l = fewer_past limit (stanza_count s.lists) (stanza_count s.lists) l (omega arith)
-stanzas_past limit s (Target name) e l = fewer_past limit (stanza_count s.lists) (stanza_count s.lists) l (omega arith)
-stanzas_past limit s (Prefs pins) e l = fewer_past limit (stanza_count s.lists) (stanza_count s.lists) l (omega arith)
+stanzas_past limit s edit e l = fewer_past limit (stanza_count s.lists) (stanza_count s.lists) l (omega arith)
 
 pub past_is : (limits : Limits) (s : State) (edit : Edit) → misfit_of s edit ≡ None → stanza_count s.lists ≤ limits.stanzas → is_past limits (after s edit) ≡ (nat_lt (limits.stanzas - stanza_count s.lists) (count_coming s edit) || nat_le limits.edits s.edits)
 past_is limits s edit e l = grind (arith, stanzas_past, edits_past)

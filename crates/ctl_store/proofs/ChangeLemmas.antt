@@ -152,12 +152,7 @@ module _ (s : Keyed) (e : ℕ) (order : InOrder 0 s.lists s.next_list e) where
   come_law (DropList name) = tt
   come_law (Put list x) = kept_come list x (at_name list s.lists) refl
   come_law (Remove list name version) = tt
-  come_law (Mark name version) = tt
-  come_law (Unmark name) = tt
-  come_law (Pin selector priority) = tt
-  come_law (Unpin selector) = tt
-  come_law (Target name) = tt
-  come_law (Prefs pins) = tt
+  come_law edit = tt
 
   drop_gone : (name : List ℕ) (o : Option KeyedList) → at_name name s.lists ≡ o → AreGone (option_map_or keys_of o []) [] (without_name name s.lists)
   drop_gone name None at = tt
@@ -190,12 +185,7 @@ module _ (s : Keyed) (e : ℕ) (order : InOrder 0 s.lists s.next_list e) where
   gone_law (DropList name) = drop_gone name (at_name name s.lists) refl
   gone_law (Put list x) = put_gone list x (at_name list s.lists) refl
   gone_law (Remove list name version) = remove_gone list name (Some version) (at_name list s.lists) refl
-  gone_law (Mark name version) = tt
-  gone_law (Unmark name) = tt
-  gone_law (Pin selector priority) = tt
-  gone_law (Unpin selector) = tt
-  gone_law (Target name) = tt
-  gone_law (Prefs pins) = tt
+  gone_law edit = tt
 
   put_new : (list : List ℕ) (x : Content) (o : Option KeyedList) → at_name list s.lists ≡ o → AreNew (option_map_or (put_key x) o []) (option_map_or (found_key (package_of x) (version_of x)) o []) s.lists
   put_new list x None at = tt
@@ -218,12 +208,7 @@ module _ (s : Keyed) (e : ℕ) (order : InOrder 0 s.lists s.next_list e) where
   new_law (DropList name) = tt
   new_law (Put list x) = put_new list x (at_name list s.lists) refl
   new_law (Remove list name version) = tt
-  new_law (Mark name version) = tt
-  new_law (Unmark name) = tt
-  new_law (Pin selector priority) = tt
-  new_law (Unpin selector) = tt
-  new_law (Target name) = tt
-  new_law (Prefs pins) = tt
+  new_law edit = tt
 
 -- ---- each key that goes has a stanza
 
@@ -250,12 +235,7 @@ removed_held s (AddList name kind class stanzas) = tt
 removed_held s (DropList name) = keys_held name s.lists
 removed_held s (Put list x) = found_held (package_of x) (version_of x) list s.lists
 removed_held s (Remove list name version) = found_held name (Some version) list s.lists
-removed_held s (Mark name version) = tt
-removed_held s (Unmark name) = tt
-removed_held s (Pin selector priority) = tt
-removed_held s (Unpin selector) = tt
-removed_held s (Target name) = tt
-removed_held s (Prefs pins) = tt
+removed_held s edit = tt
 
 -- a key that has a stanza and doesn't go doesn't come
 pub not_added : (k : StanzaKey) (added removed : List StanzaKey) (ls : List (List ℕ × KeyedList)) → AreNew added removed ls → IsSome (stanza_at k ls) → IsNotAmong k removed → IsNotAmong k added

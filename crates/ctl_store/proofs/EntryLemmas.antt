@@ -212,12 +212,7 @@ edit_cut s (Put list x) = changed list (put_keyed x) (found_key (package_of x) (
 edit_cut s (Remove list name version) =
     subst (λ ks. Cut (entries_of s.lists) (entries_of (change_named list (remove_keyed name (Some version)) s.lists)) (option_map_or (found_key name (Some version)) (at_name list s.lists) []) ks) (sym (none_in (at_name list s.lists)))
     (changed list (remove_keyed name (Some version)) (found_key name (Some version)) no_keys (remove_cut name (Some version)) s.lists)
-edit_cut s (Mark name version) = uncut (entries_of s.lists)
-edit_cut s (Unmark name) = uncut (entries_of s.lists)
-edit_cut s (Pin selector priority) = uncut (entries_of s.lists)
-edit_cut s (Unpin selector) = uncut (entries_of s.lists)
-edit_cut s (Target name) = uncut (entries_of s.lists)
-edit_cut s (Prefs pins) = uncut (entries_of s.lists)
+edit_cut s edit = uncut (entries_of s.lists)
 
 -- ---- the entries and the keys
 
@@ -326,12 +321,7 @@ order_after s e order (AddList name kind class stanzas) = (
 order_after s e order (DropList name) = (e + 1, in_order_without 0 s.lists s.next_list e name order)
 order_after s e order (Put list x) = (e + 1, in_order_change 0 s.lists s.next_list e list (put_keyed x) (Changes-put x) order)
 order_after s e order (Remove list name version) = (e + 1, in_order_change 0 s.lists s.next_list e list (remove_keyed name (Some version)) (Changes-remove name (Some version)) order)
-order_after s e order (Mark name version) = (e, order)
-order_after s e order (Unmark name) = (e, order)
-order_after s e order (Pin selector priority) = (e, order)
-order_after s e order (Unpin selector) = (e, order)
-order_after s e order (Target name) = (e, order)
-order_after s e order (Prefs pins) = (e, order)
+order_after s e order edit = (e, order)
 
 also_coming : (es : List Entry) (edit : Edit) (ls : List (List ℕ × KeyedList)) → AreAt es ls → AreCome (entry_keys es) edit ls → AllByRecursion (λ (e : Entry). coming edit e.0 ≡ Some e.1) es
 also_coming [] edit ls h g = tt
@@ -343,12 +333,7 @@ keyed_between ls (AddList name kind class stanzas) = ls
 keyed_between ls (DropList name) = without_name name ls
 keyed_between ls (Put list x) = change_named list (remove_keyed (package_of x) (version_of x)) ls
 keyed_between ls (Remove list name version) = change_named list (remove_keyed name (Some version)) ls
-keyed_between ls (Mark name version) = ls
-keyed_between ls (Unmark name) = ls
-keyed_between ls (Pin selector priority) = ls
-keyed_between ls (Unpin selector) = ls
-keyed_between ls (Target name) = ls
-keyed_between ls (Prefs pins) = ls
+keyed_between ls edit = ls
 
 taken_cut : (list name : List ℕ) (version : Option (List ℕ)) (ls : List (List ℕ × KeyedList)) → Cut (entries_of ls) (entries_of (change_named list (remove_keyed name version) ls)) (option_map_or (found_key name version) (at_name list ls) []) []
 taken_cut list name version ls =
@@ -360,12 +345,7 @@ between_cut s (AddList name kind class stanzas) = uncut (entries_of s.lists)
 between_cut s (DropList name) = dropped name s.lists
 between_cut s (Put list x) = taken_cut list (package_of x) (version_of x) s.lists
 between_cut s (Remove list name version) = taken_cut list name (Some version) s.lists
-between_cut s (Mark name version) = uncut (entries_of s.lists)
-between_cut s (Unmark name) = uncut (entries_of s.lists)
-between_cut s (Pin selector priority) = uncut (entries_of s.lists)
-between_cut s (Unpin selector) = uncut (entries_of s.lists)
-between_cut s (Target name) = uncut (entries_of s.lists)
-between_cut s (Prefs pins) = uncut (entries_of s.lists)
+between_cut s edit = uncut (entries_of s.lists)
 
 no_entries : (es : List Entry) → entry_keys es ≡ [] → es ≡ []
 no_entries [] h = refl
@@ -392,12 +372,7 @@ lists_are ls (AddList name kind class stanzas) = refl
 lists_are ls (DropList name) = without_lists name ls
 lists_are ls (Put list x) = change_lists list (remove_keyed (package_of x) (version_of x)) (with_stanzas (remove_stanza (package_of x) (version_of x))) (remove_list (package_of x) (version_of x)) ls
 lists_are ls (Remove list name version) = change_lists list (remove_keyed name (Some version)) (with_stanzas (remove_stanza name (Some version))) (remove_list name (Some version)) ls
-lists_are ls (Mark name version) = refl
-lists_are ls (Unmark name) = refl
-lists_are ls (Pin selector priority) = refl
-lists_are ls (Unpin selector) = refl
-lists_are ls (Target name) = refl
-lists_are ls (Prefs pins) = refl
+lists_are ls edit = refl
 
 module _ (s : Keyed) (e : ℕ) (order : InOrder 0 s.lists s.next_list e) (edit : Edit) where
   abbrev t : Keyed

@@ -36,12 +36,7 @@ added_come s (AddList name kind class stanzas) = each_there s.next_list 0 stanza
 added_come s (DropList name) = tt
 added_come s (Put list x) = all_come x list (added_of s (Put list x))
 added_come s (Remove list name version) = tt
-added_come s (Mark name version) = tt
-added_come s (Unmark name) = tt
-added_come s (Pin selector priority) = tt
-added_come s (Unpin selector) = tt
-added_come s (Target name) = tt
-added_come s (Prefs pins) = tt
+added_come s edit = tt
 
 -- ---- an edit that is followed key by key ends in the stanzas after it
 
@@ -203,12 +198,7 @@ module _ (k : StanzaKey) where
   comes_among s (DropList name) = refl
   comes_among s (Put list x) = put_comes list x (at_name list s.lists)
   comes_among s (Remove list name version) = refl
-  comes_among s (Mark name version) = refl
-  comes_among s (Unmark name) = refl
-  comes_among s (Pin selector priority) = refl
-  comes_among s (Unpin selector) = refl
-  comes_among s (Target name) = refl
-  comes_among s (Prefs pins) = refl
+  comes_among s edit = refl
 
 -- ---- the law
 
@@ -340,12 +330,7 @@ module _ (k : StanzaKey) where
       by (DropList name) = both_true (nat_lt k.list s.next_list) (was_given k (without_name name s.lists)) both.0 (given_without name s.lists both.1)
       by (Put list x) = both_true (nat_lt k.list s.next_list) (was_given k (change_named list (put_keyed x) s.lists)) both.0 (given_change list (put_keyed x) (Grows-put x) s.lists both.1)
       by (Remove list name version) = both_true (nat_lt k.list s.next_list) (was_given k (change_named list (remove_keyed name (Some version)) s.lists)) both.0 (given_change list (remove_keyed name (Some version)) (Grows-remove name (Some version)) s.lists both.1)
-      by (Mark name version) = h
-      by (Unmark name) = h
-      by (Pin selector priority) = h
-      by (Unpin selector) = h
-      by (Target name) = h
-      by (Prefs pins) = h
+      by edit = h
 
   -- ---- a key that has a stanza was given
 
@@ -394,12 +379,7 @@ first_law s (AddList name kind class stanzas) = new_first s (rows_from 0 stanzas
 first_law s (DropList name) = tt
 first_law s (Put list x) = put_new s list x (at_name list s.lists) refl
 first_law s (Remove list name version) = tt
-first_law s (Mark name version) = tt
-first_law s (Unmark name) = tt
-first_law s (Pin selector priority) = tt
-first_law s (Unpin selector) = tt
-first_law s (Target name) = tt
-first_law s (Prefs pins) = tt
+first_law s edit = tt
 
 pub given_law : (s : Keyed) (e : ℕ) → InOrder 0 s.lists s.next_list e → (edit : Edit) → IsGivenOnce s (keyed_after s edit) (removed_of s edit) (added_of s edit)
 given_law s e order edit = record {

@@ -333,12 +333,7 @@ module _ (k : StanzaKey) where
   stays_law s (DropList name) h g = drop_stays name s.lists h
   stays_law s (Put list x) h g = change_stays list (put_keyed x) (put_key x) (put_stays x) s.lists g
   stays_law s (Remove list name version) h g = change_stays list (remove_keyed name (Some version)) (found_key name (Some version)) (remove_stays name (Some version)) s.lists h
-  stays_law s (Mark name version) h g = refl
-  stays_law s (Unmark name) h g = refl
-  stays_law s (Pin selector priority) h g = refl
-  stays_law s (Unpin selector) h g = refl
-  stays_law s (Target name) h g = refl
-  stays_law s (Prefs pins) h g = refl
+  stays_law s edit h g = refl
 
 -- ---- the lists without serials
 

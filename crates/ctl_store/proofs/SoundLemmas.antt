@@ -106,12 +106,7 @@ kinds_stay s (DropList name) h b = without_kinds name s.lists h
 kinds_stay s (Put list x) h b = grind (arith, change_kinds, put_kind)
 kinds_stay s (Remove list name version) h b =
     change_kinds list (with_stanzas (remove_stanza name (Some version))) s.lists (λ l i k. removed_kind l.kind name (Some version) l.stanzas k) h
-kinds_stay s (Mark name version) h b = h
-kinds_stay s (Unmark name) h b = h
-kinds_stay s (Pin selector priority) h b = h
-kinds_stay s (Unpin selector) h b = h
-kinds_stay s (Target name) h b = h
-kinds_stay s (Prefs pins) h b = h
+kinds_stay s edit h b = h
 
 -- ---- what every store keeps, after an edit
 
