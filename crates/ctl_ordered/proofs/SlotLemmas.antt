@@ -46,11 +46,11 @@ below_is a b e = grind (arith, nat_tests)
 -- ---- serials that rise
 
 module _ {X : Type 0} where
-  rises_less : (n k : ℕ) (rs : List (ℕ × X)) (m : ℕ) → k ≤ n → Rises n rs m → Rises k rs m
+  pub rises_less : (n k : ℕ) (rs : List (ℕ × X)) (m : ℕ) → k ≤ n → Rises n rs m → Rises k rs m
   rises_less n k [] m le h = omega arith
   rises_less n k (r ∷ rs) m le h = (omega (arith, h.0), h.1)
 
-  rises_end : (n : ℕ) (rs : List (ℕ × X)) (m : ℕ) → Rises n rs m → n ≤ m
+  pub rises_end : (n : ℕ) (rs : List (ℕ × X)) (m : ℕ) → Rises n rs m → n ≤ m
   rises_end n [] m h = h
   rises_end n (r ∷ rs) m h = omega (arith, h.0, rises_end (suc r.0) rs m h.1)
 

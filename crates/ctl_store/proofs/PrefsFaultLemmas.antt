@@ -1,10 +1,9 @@
 -- What is told of preferences is the least of their faults.
-use Rattle.std.proofs.Common.{◌≡◌, ◌∙◌, ◌≤◌, ◌++◌, ◌||◌, ℕ, Bool, true, false, cond, List, [], ◌∷◌, drop, codes, nat_eq, Option, Some, None, refl, sym, ap, ap₂, subst, arith, inl, inr, ⊎_elim, ◌+◌, ◌<◌, ◌==◌, zero, suc, length, map, get_or, slice_index, unwrap_or, ◌-◌, ℤ, take, Ok, Err, Result, ◌⊎◌}
+use Rattle.std.proofs.Common.{◌≡◌, ◌∙◌, ◌≤◌, ◌++◌, ◌||◌, ℕ, Bool, true, false, cond, List, [], ◌∷◌, drop, codes, nat_eq, Option, Some, None, refl, sym, ap, ap₂, subst, arith, inl, inr, ⊎_elim, ◌+◌, ◌<◌, ◌==◌, zero, suc, length, map, slice_index, unwrap_or, ◌-◌, ℤ, take, Ok, Err, Result, ◌⊎◌}
 use Rattle.std.proofs.lemmas.Bool.{cases_Bool, cond-true, cond-false, eqb-true, cases_lt}
 use Rattle.std.proofs.lemmas.Slice.Eq.{bytes_eq-Decides}
 use Rattle.std.specs.List.{starts_with, All, Contains}
 use Rattle.std.specs.Str.{bytes_eq, str_to_ascii_lowercase}
-use Rattle.ctl_relation.specs.Names.{is_name}
 use Rattle.ctl_stanza.specs.declared.fault.Cause.{Cause}
 use Rattle.ctl_stanza.specs.Faults.{number_of, fault_or, is_empty_body, or_else}
 use Rattle.ctl_stanza.specs.Fields.{is_same_name, package_name, FieldText, fields_of_lines, body_named}

@@ -144,7 +144,8 @@ impl Store {
     {
         match edit {
             Edit::AddList { name, .. } if self.has_list(name) => Some(Refusal::ListExists),
-            Edit::AddList { stanzas, .. } if stanzas.kind() == ListKind::Status && self.has_status() => {
+            Edit::AddList { stanzas, .. }
+                if stanzas.kind() == ListKind::Status && self.has_status() => {
                 Some(Refusal::StatusExists)
             }
             Edit::DropList { name } if !self.has_list(name) => Some(Refusal::NoList),
