@@ -175,11 +175,7 @@ lookup_kind kind serial (row ∷ rows) x h e = grind (arith, lookup_kind kind se
 
 entry_kind : (serial : ℕ) (es : List (List ℕ × HeldList)) (e : List ℕ × HeldList) → KeepKinds (stanza_lists (lists_of es)) → entry_of serial es ≡ Some e → AreOfKind e.1.kind (stanzas_of e.1.rows)
 entry_kind serial [] e h is = cc
-entry_kind serial (x ∷ es) e h is = by (nat_eq x.1.serial serial) (entry_kind serial es e h.1) is
-  where
-    by : (b : Bool) → (entry_of serial es ≡ Some e → AreOfKind e.1.kind (stanzas_of e.1.rows)) → cond b (Some x) (entry_of serial es) ≡ Some e → AreOfKind e.1.kind (stanzas_of e.1.rows)
-    by true later is = subst (λ (e : List ℕ × HeldList). AreOfKind e.1.kind (stanzas_of e.1.rows)) (let same : x ≡ e = cc is in same) h.0
-    by false later is = later is
+entry_kind serial (x ∷ es) e h is = grind (arith, entry_kind serial es e h.1)
 
 pub kind_at : (k : StanzaKey) (es : List (List ℕ × HeldList)) (e : List ℕ × HeldList) → KeepKinds (stanza_lists (lists_of es)) → entry_of k.list es ≡ Some e → IsSome (in_entry k (Some e)) → Some e.1.kind ≡ option_map (λ (x : Content). x.kind) (in_entry k (Some e))
 kind_at k es e h is there = by (lookup (λ s. nat_eq s k.stanza) e.1.rows) there (λ x f. lookup_kind e.1.kind k.stanza e.1.rows x (entry_kind k.list es e h is) f)

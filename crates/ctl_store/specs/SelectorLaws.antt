@@ -1,6 +1,6 @@
 -- Selectors that are the same are equal, and tie in their order.
 use Rattle.std.specs.Prelude.{◌≡◌, ℕ, Bool, true, false, ◌&&◌, List, [], Option, Some, None}
-use Rattle.std.proofs.Common.{refl, ap, arith, sym, ◌∙◌}
+use Rattle.std.proofs.Common.{refl, ap, sym, ◌∙◌}
 use Rattle.std.specs.Bool.{Decides, one_answer}
 use Rattle.std.specs.Cmp.{IsEquivalence, IsTotalOrder, nat_cmp_total}
 use Rattle.std.specs.Cmp.Lexicographic.{slice_cmp, nat_list_cmp_total}
@@ -17,13 +17,16 @@ use Rattle.ctl_store.specs.Pins.{package_eq, selector_eq}
 use Rattle.ctl_store.specs.HeldRanks.{Label, label_cmp, selector_label}
 
 and_first : (a b : Bool) → (a && b) ≡ true → a ≡ true
-and_first a b e = grind arith
+and_first true b e = refl
+and_first false b e = cc
 
 and_second : (a b : Bool) → (a && b) ≡ true → b ≡ true
-and_second a b e = grind arith
+and_second true b e = e
+and_second false b e = cc
 
 and_both : (a b : Bool) → a ≡ true → b ≡ true → (a && b) ≡ true
-and_both a b p q = grind arith
+and_both true b p q = q
+and_both false b p q = cc
 
 package_eq-Decides : (a b : Option (List ℕ)) → Decides (package_eq a b) (a ≡ b)
 package_eq-Decides None None = (λ e. refl, λ e. refl)
