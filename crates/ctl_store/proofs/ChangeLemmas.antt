@@ -133,9 +133,7 @@ module _ (s : Keyed) (e : ℕ) (order : InOrder 0 s.lists s.next_list e) where
 
   pub come_law : (edit : Edit) → AreCome (added_of s edit) edit (keyed_after s edit).lists
   come_law (AddList name kind class stanzas) = new_come 0 name (list_of_stanzas s.next_list kind class stanzas) stanzas stanzas refl refl (λ j. ap (slice_get stanzas) (let z : 0 + j ≡ j = omega arith in z))
-  come_law (DropList name) = tt
   come_law (Put list x) = kept_come list x (at_name list s.lists) refl
-  come_law (Remove list name version) = tt
   come_law edit = tt
 
   drop_gone : (name : List ℕ) (o : Option KeyedList) → at_name name s.lists ≡ o → AreGone (option_map_or keys_of o []) [] (without_name name s.lists)
@@ -165,7 +163,6 @@ module _ (s : Keyed) (e : ℕ) (order : InOrder 0 s.lists s.next_list e) where
   put_gone list x o at = grind arith
 
   pub gone_law : (edit : Edit) → AreGone (removed_of s edit) (added_of s edit) (keyed_after s edit).lists
-  gone_law (AddList name kind class stanzas) = tt
   gone_law (DropList name) = drop_gone name (at_name name s.lists) refl
   gone_law (Put list x) = put_gone list x (at_name list s.lists) refl
   gone_law (Remove list name version) = remove_gone list name (Some version) (at_name list s.lists) refl
@@ -189,9 +186,7 @@ module _ (s : Keyed) (e : ℕ) (order : InOrder 0 s.lists s.next_list e) where
 
   pub new_law : (edit : Edit) → AreNew (added_of s edit) (removed_of s edit) s.lists
   new_law (AddList name kind class stanzas) = list_new (rows_from 0 stanzas)
-  new_law (DropList name) = tt
   new_law (Put list x) = put_new list x (at_name list s.lists) refl
-  new_law (Remove list name version) = tt
   new_law edit = tt
 
 -- ---- each key that goes has a stanza
@@ -215,7 +210,6 @@ found_held name version list (l ∷ ls) = by (bytes_eq list l.0) (found_held nam
     by false h = all_map (λ k g. either_second (in_rows k l.1) (stanza_at k ls) g) (option_map_or (found_key name version) (at_name list ls) []) h
 
 pub removed_held : (s : Keyed) (edit : Edit) → AreHeld (removed_of s edit) s.lists
-removed_held s (AddList name kind class stanzas) = tt
 removed_held s (DropList name) = keys_held name s.lists
 removed_held s (Put list x) = found_held (package_of x) (version_of x) list s.lists
 removed_held s (Remove list name version) = found_held name (Some version) list s.lists

@@ -298,7 +298,6 @@ also_coming (e ∷ es) edit ls h g = (sym g.0 ∙ h.0, also_coming es edit ls h.
 
 -- without the keys that go the lists are those between
 abbrev keyed_between : List (List ℕ × KeyedList) → Edit → List (List ℕ × KeyedList)
-keyed_between ls (AddList name kind class stanzas) = ls
 keyed_between ls (DropList name) = without_name name ls
 keyed_between ls (Put list x) = change_named list (remove_keyed (package_of x) (version_of x)) ls
 keyed_between ls (Remove list name version) = change_named list (remove_keyed name (Some version)) ls
@@ -310,7 +309,6 @@ taken_cut list name version ls =
     (changed list (remove_keyed name version) (found_key name version) no_keys (remove_cut name version) ls)
 
 between_cut : (s : Keyed) (edit : Edit) → Cut (entries_of s.lists) (entries_of (keyed_between s.lists edit)) (removed_of s edit) []
-between_cut s (AddList name kind class stanzas) = uncut (entries_of s.lists)
 between_cut s (DropList name) = dropped name s.lists
 between_cut s (Put list x) = taken_cut list (package_of x) (version_of x) s.lists
 between_cut s (Remove list name version) = taken_cut list name (Some version) s.lists
@@ -337,7 +335,6 @@ contents_are [] = refl
 contents_are (l ∷ ls) = map-append (λ (e : Entry). e.1) (entries_in l.1) (entries_of ls) ∙ ap (λ xs. xs ++ map (λ (e : Entry). e.1) (entries_of ls)) (row_contents l.1.serial l.1.rows) ∙ ap (λ xs. stanzas_of l.1.rows ++ xs) (contents_are ls)
 
 lists_are : (ls : List (List ℕ × KeyedList)) (edit : Edit) → stanza_lists (keyed_between ls edit) ≡ lists_between (stanza_lists ls) edit
-lists_are ls (AddList name kind class stanzas) = refl
 lists_are ls (DropList name) = without_lists name ls
 lists_are ls (Put list x) = change_lists list (remove_keyed (package_of x) (version_of x)) (with_stanzas (remove_stanza (package_of x) (version_of x))) (remove_list (package_of x) (version_of x)) ls
 lists_are ls (Remove list name version) = change_lists list (remove_keyed name (Some version)) (with_stanzas (remove_stanza name (Some version))) (remove_list name (Some version)) ls

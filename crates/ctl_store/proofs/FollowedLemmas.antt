@@ -35,9 +35,7 @@ all_come x list (k ∷ ks) = (refl, all_come x list ks)
 
 pub added_come : (s : Keyed) (edit : Edit) → AreComing (added_of s edit) edit
 added_come s (AddList name kind class stanzas) = each_there s.next_list 0 stanzas stanzas (λ k. ap (slice_get stanzas) (let z : 0 + k ≡ k = omega arith in z))
-added_come s (DropList name) = tt
 added_come s (Put list x) = all_come x list (added_of s (Put list x))
-added_come s (Remove list name version) = tt
 added_come s edit = tt
 
 -- ---- an edit that is followed key by key ends in the stanzas after it
@@ -179,11 +177,8 @@ module _ (k : StanzaKey) where
   put_comes list x o = grind arith
 
   pub comes_among : (s : Keyed) (edit : Edit) → coming_among edit (added_of s edit) k ≡ coming_under (added_of s edit) edit k
-  comes_among s (AddList name kind class []) = refl
   comes_among s (AddList name kind class (x ∷ xs)) = add_comes s.next_list (x ∷ xs)
-  comes_among s (DropList name) = refl
   comes_among s (Put list x) = put_comes list x (at_name list s.lists)
-  comes_among s (Remove list name version) = refl
   comes_among s edit = refl
 
 -- ---- the law
@@ -349,9 +344,7 @@ put_new s list x o at = grind (arith, and_false, new_in, is_itself, all_map)
 
 first_law : (s : Keyed) (edit : Edit) → AreFirstGiven s (added_of s edit) (removed_of s edit)
 first_law s (AddList name kind class stanzas) = new_first s (rows_from 0 stanzas)
-first_law s (DropList name) = tt
 first_law s (Put list x) = put_new s list x (at_name list s.lists) refl
-first_law s (Remove list name version) = tt
 first_law s edit = tt
 
 pub given_law : (s : Keyed) (e : ℕ) → InOrder 0 s.lists s.next_list e → (edit : Edit) → IsGivenOnce s (keyed_after s edit) (removed_of s edit) (added_of s edit)

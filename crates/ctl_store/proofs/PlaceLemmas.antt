@@ -58,10 +58,7 @@ module _ {V : Type 0} where
 module _ {X : Type 0} (p : X → Bool) where
   pub place_none : (xs : List X) → ((k : ℕ) (d : X) → k < length xs → p (get_or xs k d) ≡ false) → place p xs ≡ None
   place_none [] h = refl
-  place_none (x ∷ xs) h = by (p x) (h 0 x (omega arith)) (place_none xs (λ k d l. h (suc k) d (omega arith)))
-    where
-      by : (b : Bool) → b ≡ false → place p xs ≡ None → cond b (Some 0) (option_map (λ n. suc n) (place p xs)) ≡ None
-      by b e r = grind arith
+  place_none (x ∷ xs) h = grind (arith, h 0 x (omega arith), place_none xs (λ k d l. h (suc k) d (omega arith)))
 
   pub place_within : (xs : List X) (i : ℕ) → place p xs ≡ Some i → i < length xs
   place_within [] i e = cc
