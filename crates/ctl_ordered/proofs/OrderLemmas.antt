@@ -1,7 +1,8 @@
 -- Orders of serials, by which keys are found.
-use Rattle.std.proofs.Common.{◌≡◌, ◌⊎◌, inl, inr, ℕ, zero, suc, ◌+◌, ◌<◌, ◌≤◌, Bool, true, false, nat_eq, List, [], ◌∷◌, ◌++◌, length, get_or, map, filter, Option, None, Some, refl, ap, sym, subst, ◌∙◌, arith}
-use Rattle.std.proofs.lemmas.Bool.{true≢false}
-use Rattle.std.proofs.lemmas.Map.{lookup-insert, lookup-remove_entry, none_passes_from_lookup}
+use Rattle.std.proofs.Common.{◌≡◌, ◌⊎◌, inl, inr, ℕ, zero, suc, ◌+◌, ◌<◌, ◌≤◌, Bool, true, false, cond, nat_eq, List, [], ◌∷◌, ◌++◌, length, get_or, filter, Option, None, Some, refl, ap, sym, subst, ◌∙◌, arith}
+use Rattle.std.proofs.lemmas.Map.{keys-set_value, lookup-insert, lookup-remove_entry, none_passes_from_lookup}
+use Rattle.std.proofs.lemmas.List.{get_or-map, length-map, map-append}
+use Rattle.indexmap.proofs.SetLemmas.{map-insert, map-remove}
 use Rattle.std.proofs.lemmas.Cmp.{tied_itself, tied_back}
 use Rattle.std.specs.Borrow.{MutBor}
 use Rattle.std.specs.Option.{option_copied_mut, OnSome}
@@ -15,24 +16,18 @@ use Rattle.std.specs.declared.cmp.Ordering.TheVariants.{Less, Equal, Greater}
 use Rattle.ctl_ordered.specs.declared.slot.Slot.{Slot}
 use Rattle.ctl_ordered.specs.declared.slot.Slot.TheVariants.{Entry, Hole}
 use Rattle.indexmap.specs.IndexMap.{insert_entry}
-use Rattle.ctl_ordered.specs.Slots.{entries_of, rows_of, serial_of, value_of, with_value, is_entry}
-use Rattle.ctl_ordered.specs.Ordered.{found_cmp, order_at, set_row, cut_row, IsBelow, KeysRise, IsKept, IsOrdered}
-use Rattle.ctl_ordered.proofs.SlotLemmas.{yes, no, some_not_none, stands, serial_free, value_at, lent_at, set_kept, gap_at, no_value_at, none_cut_at, last_kept, cut_kept, squeezed_kept}
+use Rattle.ctl_ordered.specs.Slots.{entries_of, rows_of, value_of, with_value, is_entry, Rises}
+use Rattle.ctl_ordered.specs.Ordered.{without_serials, serials_of, row_serial, found_cmp, order_at, set_row, cut_row, IsBelow, KeysRise, IsKept, IsOrdered}
+use Rattle.ctl_ordered.proofs.SlotLemmas.{yes, no, some_not_none, from_lent, entry_in, row_at, rises_rows, rises_set, rises_last, rises_squeezed, insert_last, insert_new, lookup_last, rows_set, rows_cut, rows_last, rows_squeezed, IsEntryOf, row_found, no_value, no_cut, no_serial, entries_set, entries_cut, serials_set, serials_cut, keys_in_rows, apart_cut, apart_last}
 
 is_less : (o : Ordering) → is_lt o ≡ true → o ≡ Less
-is_less Less e = refl
-is_less Equal e = absurd (true≢false (sym e))
-is_less Greater e = absurd (true≢false (sym e))
+is_less o e = grind arith
 
 is_equal : (o : Ordering) → is_eq o ≡ true → o ≡ Equal
-is_equal Less e = absurd (true≢false (sym e))
-is_equal Equal e = refl
-is_equal Greater e = absurd (true≢false (sym e))
+is_equal o e = grind arith
 
 is_greater : (o : Ordering) → is_lt o ≡ false → is_eq o ≡ false → o ≡ Greater
-is_greater Less e f = absurd (true≢false e)
-is_greater Equal e f = absurd (true≢false f)
-is_greater Greater e f = refl
+is_greater o e f = grind arith
 
 -- how keys stand to each other, and when they are equal
 pub record IsOrderOf {K : Type 0} (eq : K → K → Bool) (R : K → K → Ordering) : Type 0 where
@@ -43,30 +38,10 @@ pub record IsOrderOf {K : Type 0} (eq : K → K → Bool) (R : K → K → Order
 pub key_order : {K : Type 0} {eq : K → K → Bool} {R : K → K → Ordering} → IsEquivalence eq → IsTotalOrder R → ((x y : K) → eq x y ≡ is_eq (R x y)) → IsOrderOf eq R
 key_order laws total alike = record { laws = laws; total = total; alike = alike }
 
-abbrev serials : {K : Type 0} → List (K × ℕ) → List ℕ
-serials {K} ps = map (λ (p : K × ℕ). p.1) ps
-
 module _ {K : Type 0} where
-  length_serials : (ps : List (K × ℕ)) → length (serials ps) ≡ length ps
-  length_serials [] = refl
-  length_serials (p ∷ ps) = ap (λ n. suc n) (length_serials ps)
-
-  read_serials : (ps : List (K × ℕ)) (i d : ℕ) (e : K × ℕ) → i < length ps → get_or (serials ps) i d ≡ (get_or ps i e).1
-  read_serials [] i d e l = absurd (omega arith)
-  read_serials (p ∷ ps) zero d e l = refl
-  read_serials (p ∷ ps) (suc i) d e l = read_serials ps i d e (omega arith)
-
-  serials_insert : (ps : List (K × ℕ)) (i : ℕ) (p : K × ℕ) → serials (insert ps i p) ≡ insert (serials ps) i p.1
-  serials_insert [] zero p = refl
-  serials_insert [] (suc i) p = refl
-  serials_insert (q ∷ ps) zero p = refl
-  serials_insert (q ∷ ps) (suc i) p = ap (λ l. q.1 ∷ l) (serials_insert ps i p)
-
-  serials_remove : (ps : List (K × ℕ)) (i : ℕ) → serials (remove ps i) ≡ remove (serials ps) i
-  serials_remove [] zero = refl
-  serials_remove [] (suc i) = refl
-  serials_remove (q ∷ ps) zero = refl
-  serials_remove (q ∷ ps) (suc i) = ap (λ l. q.1 ∷ l) (serials_remove ps i)
+  first : (ps : List (K × ℕ)) → 0 < length ps → K × ℕ
+  first [] l = absurd (omega arith)
+  first (p ∷ ps) l = p
 
   all_at : (P : K → Type 0) (ps : List (K × ℕ)) (i : ℕ) (d : K × ℕ) → AllByRecursion P (keys_of ps) → i < length ps → P (get_or ps i d).0
   all_at P [] i d h l = absurd (omega arith)
@@ -78,9 +53,8 @@ module _ {K : Type 0} where
   all_from P (p ∷ ps) h = (h 0 p (omega arith), all_from P ps (λ i d l. h (suc i) d (omega arith)))
 
   all_insert : (P : K → Type 0) (ps : List (K × ℕ)) (i : ℕ) (p : K × ℕ) → AllByRecursion P (keys_of ps) → P p.0 → AllByRecursion P (keys_of (insert ps i p))
-  all_insert P [] zero p h x = (x, tt)
+  all_insert P ps zero p h x = (x, h)
   all_insert P [] (suc i) p h x = (x, tt)
-  all_insert P (q ∷ ps) zero p h x = (x, h)
   all_insert P (q ∷ ps) (suc i) p h x = (h.0, all_insert P ps i p h.1 x)
 
   all_remove : (P : K → Type 0) (ps : List (K × ℕ)) (i : ℕ) → AllByRecursion P (keys_of ps) → AllByRecursion P (keys_of (remove ps i))
@@ -106,9 +80,8 @@ module _ {K : Type 0} {eq : K → K → Bool} {R : K → K → Ordering} (o : Is
 
   climb : (ps : List (K × ℕ)) (i j : ℕ) (d : K × ℕ) → KeysRise R ps → i < j → j < length ps → R (get_or ps i d).0 (get_or ps j d).0 ≡ Less
   climb [] i j d h l b = absurd (omega arith)
-  climb (p ∷ ps) zero zero d h l b = absurd (omega arith)
+  climb (p ∷ ps) i zero d h l b = absurd (omega arith)
   climb (p ∷ ps) zero (suc j) d h l b = all_at (λ k. R p.0 k ≡ Less) ps j d h.0 (omega arith)
-  climb (p ∷ ps) (suc i) zero d h l b = absurd (omega arith)
   climb (p ∷ ps) (suc i) (suc j) d h l b = climb ps i j d h.1 (omega arith) (omega arith)
 
   -- each serial is found by its own key
@@ -162,16 +135,21 @@ module _ {K : Type 0} {eq : K → K → Bool} {R : K → K → Ordering} (o : Is
     order_is_key : (i : ℕ) (d : K × ℕ) → i < length ps → order_at R slots q (get_or ps i d).1 ≡ R (get_or ps i d).0 q
     order_is_key i d l =
         let k = (get_or ps i d).0 in
-        let there = stands eq 0 slots next k (get_or ps i d).1 held.kept.rises (sym (held.kept.found k) ∙ own ps i d held.climbs l) in
-        ap (λ r. found_cmp R r q) there.1 ∙ sym (o.total.congr k there.0.0 q (is_equal (R k there.0.0) (sym (o.alike k there.0.0) ∙ there.3)))
+        let s = (get_or ps i d).1 in
+        let there = row_found (eq k) 0 (rows_of slots) next s (rises_rows 0 slots next held.kept.rises) (sym (held.kept.found k) ∙ own ps i d held.climbs l) in
+        found_as (lookup (nat_eq s) slots) there.0 (row_at s 0 slots next held.kept.rises ∙ there.1.row)
+        ∙ sym (o.total.congr k there.0.0 q (is_equal (R k there.0.0) (sym (o.alike k there.0.0) ∙ there.1.passes)))
+      where
+        found_as : (r : Option (Slot K V)) (e : K × V) → entry_in r ≡ Some e → found_cmp R r q ≡ R e.0 q
+        found_as r e is = grind arith
 
     order_read : (i d : ℕ) (e : K × ℕ) → i < length ps → order_at R slots q (get_or order i d) ≡ R (get_or ps i e).0 q
     order_read i d e l =
         ap (λ (l : List ℕ). order_at R slots q (get_or l i d)) held.order_is
-        ∙ ap (λ s. order_at R slots q s) (read_serials ps i d e l) ∙ order_is_key i e l
+        ∙ ap (λ s. order_at R slots q s) (get_or-map (λ (p : K × ℕ). p.1) ps i e d l) ∙ order_is_key i e l
 
     length_order : length order ≡ length ps
-    length_order = ap length held.order_is ∙ length_serials ps
+    length_order = ap length held.order_is ∙ length-map ps (λ (p : K × ℕ). p.1)
 
     pub parted : IsPartitionedBy (λ s. is_lt (order_at R slots q s)) order
     parted i j d le l e =
@@ -183,18 +161,8 @@ module _ {K : Type 0} {eq : K → K → Bool} {R : K → K → Ordering} (o : Is
               ∙ ap is_lt (o.total.trans (get_or ps i x).0 (get_or ps j x).0 q (climb ps i j x held.climbs less (omega (arith, l, length_order))) (is_less (R (get_or ps j x).0 q) (sym (ap is_lt (order_read j d x (omega (arith, l, length_order)))) ∙ e)))
         ]
       where
-        first : (ps : List (K × ℕ)) → 0 < length ps → K × ℕ
-        first [] l = absurd (omega arith)
-        first (p ∷ ps) l = p
-
         apart_or_same : (i j : ℕ) → i ≤ j → (i ≡ j) ⊎ (i < j)
-        apart_or_same zero zero le = inl refl
-        apart_or_same zero (suc j) le = inr (omega arith)
-        apart_or_same (suc i) zero le = absurd (omega arith)
-        apart_or_same (suc i) (suc j) le = elim (apart_or_same i j (omega arith)) [
-          | inl e ↦ inl (ap (λ n. suc n) e)
-          | inr l ↦ inr (omega (arith, l))
-        ]
+        apart_or_same i j le = grind arith
 
     -- at the point where those before the key end
     module _ (r : ℕ) (bound : r ≤ length order) (point : IsBelow R slots q order r) where
@@ -213,16 +181,13 @@ module _ {K : Type 0} {eq : K → K → Bool} {R : K → K → Ordering} (o : Is
           let b : r < length ps = omega (arith, l, length_order) in
           found_there q ps r d lower_apart b (o.alike q (get_or ps r d).0 ∙ ap is_eq (tied_back o.total (get_or ps r d).0 q (is_equal (R (get_or ps r d).0 q) (sym (ap is_eq (order_read r 0 d b)) ∙ e))))
 
-      pub serial_there : r < length order → is_eq (order_at R slots q (get_or order r 0)) ≡ true → Some (get_or order r 0) ≡ serial_of eq q slots
-      serial_there l e = by ps refl (omega (arith, l, length_order))
-        where
-          by : (xs : List (K × ℕ)) → ps ≡ xs → 0 < length ps → Some (get_or order r 0) ≡ serial_of eq q slots
-          by [] same b = absurd (omega (arith, ap length same, b))
-          by (x ∷ xs) same b =
-              ap (λ (l : List ℕ). Some (get_or l r 0)) held.order_is ∙ ap (λ s. Some s) (read_serials ps r 0 x (omega (arith, l, length_order)))
-              ∙ sym (there_is x l e).0 ∙ held.kept.found q
+      pub serial_there : r < length order → is_eq (order_at R slots q (get_or order r 0)) ≡ true → Some (get_or order r 0) ≡ row_serial (eq q) (rows_of slots)
+      serial_there l e =
+          let x = first ps (omega (arith, l, length_order)) in
+          ap (λ (l : List ℕ). Some (get_or l r 0)) held.order_is ∙ ap (λ s. Some s) (get_or-map (λ (p : K × ℕ). p.1) ps r x 0 (omega (arith, l, length_order)))
+          ∙ sym (there_is x l e).0 ∙ held.kept.found q
 
-      pub serial_nowhere : (r < length order → is_eq (order_at R slots q (get_or order r 0)) ≡ false) → None ≡ serial_of eq q slots
+      pub serial_nowhere : (r < length order → is_eq (order_at R slots q (get_or order r 0)) ≡ false) → None ≡ row_serial (eq q) (rows_of slots)
       serial_nowhere other = sym (sym (held.kept.found q) ∙ found_nowhere q ps (λ j d l. elim (three j) [
         | inl less ↦ lower_apart j d less
         | inr more ↦ above j d l more
@@ -257,45 +222,79 @@ module _ {K V : Type 0} {eq : K → K → Bool} {R : K → K → Ordering} (o : 
       }
 
   module _ (slots : List (ℕ × Slot K V)) (order : List ℕ) (next : ℕ) (held : IsOrdered eq R slots order next) (k : K) where
-    pub ordered_value : (s : ℕ) (r : Slot K V) → Some s ≡ serial_of eq k slots → Some r ≡ lookup (nat_eq s) slots → value_of r ≡ lookup (eq k) (entries_of slots)
-    ordered_value s r i at = value_at eq o.laws slots held.pairs next held.kept k s r (i ∙ sym (held.kept.found k)) at
+    abbrev rows : List (ℕ × (K × V))
+    rows = rows_of slots
 
-    pub ordered_gap : (s : ℕ) → Some s ≡ serial_of eq k slots → None ≡ lookup (nat_eq s) slots → ⊥
-    ordered_gap s i at = gap_at eq o.laws slots held.pairs next held.kept k s (i ∙ sym (held.kept.found k)) at
+    entry_found : (s : ℕ) → Some s ≡ row_serial (eq k) rows → (e : K × V) × IsEntryOf (eq k) rows s e
+    entry_found s i = row_found (eq k) 0 rows next s (rises_rows 0 slots next held.kept.rises) (sym i)
 
-    pub ordered_no_value : None ≡ serial_of eq k slots → (None ≡ lookup (eq k) (entries_of slots)) × (entries_of slots ≡ remove_entry (eq k) (entries_of slots)) × (rows_of slots ≡ cut_row (eq k) (rows_of slots))
+    -- the slot of a key's serial has the key's entry
+    slot_is : (s : ℕ) (r : Slot K V) (e : K × V) → IsEntryOf (eq k) rows s e → Some r ≡ lookup (nat_eq s) slots → r ≡ Entry e.0 e.1
+    slot_is s r e is at = entry_is r e (ap entry_in at ∙ row_at s 0 slots next held.kept.rises ∙ is.row)
+      where
+        entry_is : (r : Slot K V) (e : K × V) → entry_in (Some r) ≡ Some e → r ≡ Entry e.0 e.1
+        entry_is r e is = grind arith
+
+    pub ordered_value : (s : ℕ) (r : Slot K V) → Some s ≡ row_serial (eq k) rows → Some r ≡ lookup (nat_eq s) slots → value_of r ≡ lookup (eq k) (entries_of slots)
+    ordered_value s r i at = let there = entry_found s i in ap value_of (slot_is s r there.0 there.1 at) ∙ sym there.1.value
+
+    pub ordered_gap : (s : ℕ) → Some s ≡ row_serial (eq k) rows → None ≡ lookup (nat_eq s) slots → ⊥
+    ordered_gap s i at = some_not_none (sym (ap entry_in at ∙ row_at s 0 slots next held.kept.rises ∙ (entry_found s i).1.row))
+
+    pub ordered_no_value : None ≡ row_serial (eq k) rows → (None ≡ lookup (eq k) (entries_of slots)) × (entries_of slots ≡ remove_entry (eq k) (entries_of slots)) × (rows ≡ cut_row (eq k) rows)
     ordered_no_value i =
-        let none = i ∙ sym (held.kept.found k) in
-        let cut = none_cut_at eq o.laws slots held.pairs next held.kept k none in
-        (no_value_at eq o.laws slots held.pairs next held.kept k none, cut.0, cut.1)
+        let cut = sym (no_cut (eq k) rows (sym i)) in
+        (sym (no_value (eq k) rows (sym i)), ap without_serials cut ∙ entries_cut (eq k) rows, cut)
 
-    pub ordered_lent : {P : Type 0} (s : ℕ) (r : Slot K V) (m : Option (MutBor V)) → Some s ≡ serial_of eq k slots → Some r ≡ lookup (nat_eq s) slots → option_copied_mut m ≡ value_of r → OnSome m P → P
-    ordered_lent s r m i at e p = lent_at eq o.laws slots held.pairs next held.kept k s r m (i ∙ sym (held.kept.found k)) at e p
+    pub ordered_lent : {P : Type 0} (s : ℕ) (r : Slot K V) (m : Option (MutBor V)) → Some s ≡ row_serial (eq k) rows → Some r ≡ lookup (nat_eq s) slots → option_copied_mut m ≡ value_of r → OnSome m P → P
+    ordered_lent s r m i at e p = let there = entry_found s i in from_lent m there.0.1 (e ∙ ap value_of (slot_is s r there.0 there.1 at)) p
 
-    pub ordered_set : (w : V) (s : ℕ) (r x : Slot K V) → Some s ≡ serial_of eq k slots → Some r ≡ lookup (nat_eq s) slots → x ≡ with_value r w
-        → IsOrdered eq R (set_value (nat_eq s) slots x) order next × (entries_of (set_value (nat_eq s) slots x) ≡ set_value (eq k) (entries_of slots) w) × (rows_of (set_value (nat_eq s) slots x) ≡ set_row (eq k) (rows_of slots) w)
+    pub ordered_set : (w : V) (s : ℕ) (r x : Slot K V) → Some s ≡ row_serial (eq k) rows → Some r ≡ lookup (nat_eq s) slots → x ≡ with_value r w
+        → IsOrdered eq R (set_value (nat_eq s) slots x) order next × (entries_of (set_value (nat_eq s) slots x) ≡ set_value (eq k) (entries_of slots) w) × (rows_of (set_value (nat_eq s) slots x) ≡ set_row (eq k) rows w)
     ordered_set w s r x i at set =
-        let kept = set_kept eq o.laws slots held.pairs next held.kept k w s r x (i ∙ sym (held.kept.found k)) at set in
-        (record { pairs = held.pairs; order_is = held.order_is; kept = kept.0; climbs = held.climbs }, kept.1, kept.2)
+        let there = entry_found s i in
+        let here = slot_is s r there.0 there.1 at in
+        let new : rows_of (set_value (nat_eq s) slots x) ≡ set_row (eq k) rows w =
+        ap (λ y. rows_of (set_value (nat_eq s) slots y)) (set ∙ ap (λ y. with_value y w) here) ∙ rows_set s there.0 w slots (sym at ∙ ap (λ y. Some y) here) ∙ there.1.set w in
+        let entries = ap without_serials new ∙ entries_set (eq k) rows w in (
+          record {
+            pairs = held.pairs;
+            order_is = held.order_is;
+            kept = record {
+              found = λ q. held.kept.found q ∙ sym (ap (lookup (eq q)) (ap serials_of new ∙ serials_set (eq k) rows w));
+              rises = rises_set (nat_eq s) x 0 slots next held.kept.rises;
+              apart = subst (λ ks. IsDistinct eq ks) (sym (ap keys_of entries ∙ keys-set_value (eq k) (entries_of slots) w)) held.kept.apart;
+            };
+            climbs = held.climbs;
+          },
+          entries,
+          new,
+        )
 
     module _ (r : ℕ) (bound : r ≤ length order) (point : IsBelow R slots k order r) where
       pub ordered_pushed : (v : V) → lookup (eq k) (entries_of slots) ≡ None
-          → IsOrdered eq R (insert_entry nat_eq slots next (Entry k v)) (insert order r next) (next + 1) × (entries_of (insert_entry nat_eq slots next (Entry k v)) ≡ insert_entry eq (entries_of slots) k v) × (rows_of (insert_entry nat_eq slots next (Entry k v)) ≡ rows_of slots ++ (next, (k, v)) ∷ [])
+          → IsOrdered eq R (insert_entry nat_eq slots next (Entry k v)) (insert order r next) (next + 1) × (entries_of (insert_entry nat_eq slots next (Entry k v)) ≡ insert_entry eq (entries_of slots) k v) × (rows_of (insert_entry nat_eq slots next (Entry k v)) ≡ rows ++ (next, (k, v)) ∷ [])
       ordered_pushed v none =
-          let laws = o.laws in
           let ps = held.pairs in
-          let free : lookup (eq k) ps ≡ None = held.kept.found k ∙ serial_free eq slots k none in
-          let passes = none_passes_from_lookup (eq k) ps free in
-          let kept = last_kept eq laws slots ps next held.kept k v (insert ps r (k, next)) none (λ q. lookup-insert laws k next q ps r passes) in (
+          let free = no_serial (eq k) rows none in
+          let passes = none_passes_from_lookup (eq k) ps (held.kept.found k ∙ free) in
+          let all = insert_last (Entry k v) 0 slots next held.kept.rises in
+          let new : rows_of (insert_entry nat_eq slots next (Entry k v)) ≡ rows ++ (next, (k, v)) ∷ [] = ap rows_of all ∙ rows_last slots next (k, v) in
+          let entries : entries_of (insert_entry nat_eq slots next (Entry k v)) ≡ entries_of slots ++ (k, v) ∷ [] = ap without_serials new ∙ map-append (λ (row : ℕ × (K × V)). row.1) rows ((next, (k, v)) ∷ []) in
+          let serials : serials_of (rows_of (insert_entry nat_eq slots next (Entry k v))) ≡ serials_of rows ++ (k, next) ∷ [] = ap serials_of new ∙ map-append (λ (row : ℕ × (K × V)). (row.1.0, row.0)) rows ((next, (k, v)) ∷ []) in (
             record {
               pairs = insert ps r (k, next);
-              order_is = ap (λ l. insert l r next) held.order_is ∙ sym (serials_insert ps r (k, next));
-              kept = kept.0;
+              order_is = ap (λ l. insert l r next) held.order_is ∙ sym (map-insert (λ (p : K × ℕ). p.1) ps r (k, next));
+              kept = record {
+                found = λ q. lookup-insert o.laws k next q ps r passes ∙ ap (λ x. cond (eq k q) (Some next) x) (held.kept.found q) ∙ sym (ap (lookup (eq q)) serials ∙ lookup_last o.laws q k next (serials_of rows) free);
+                rises = subst (λ l. Rises 0 l (next + 1)) (sym all) (rises_last (Entry k v) 0 slots next held.kept.rises);
+                apart = subst (λ (es : List (K × V)). IsDistinct eq (keys_of es)) (sym entries) (apart_last eq o.laws (entries_of slots) k v none held.kept.apart);
+              };
               climbs = climbs_insert o k next ps r held.climbs (omega (arith, bound, length_order o slots order next held k)) (low o slots order next held k r bound point) (λ j d l b.
-                  turned_back o (get_or ps j d).0 k (is_greater (R (get_or ps j d).0 k) (not_low o slots order next held k r bound point j d l b) (sym (o.alike (get_or ps j d).0 k) ∙ laws.symm (get_or ps j d).0 k ∙ passes_at ps passes j d b)));
+                  turned_back o (get_or ps j d).0 k (is_greater (R (get_or ps j d).0 k) (not_low o slots order next held k r bound point j d l b) (sym (o.alike (get_or ps j d).0 k) ∙ o.laws.symm (get_or ps j d).0 k ∙ passes_at ps passes j d b)));
             },
-            kept.1,
-            kept.2,
+            entries ∙ sym (insert_new eq (entries_of slots) k v (none_passes_from_lookup (eq k) (entries_of slots) none)),
+            new,
           )
         where
           passes_at : (ps : List (K × ℕ)) → AllByRecursion (λ (e : K × ℕ). eq k e.0 ≡ false) ps → (j : ℕ) (d : K × ℕ) → j < length ps → eq k (get_or ps j d).0 ≡ false
@@ -303,27 +302,31 @@ module _ {K V : Type 0} {eq : K → K → Bool} {R : K → K → Ordering} (o : 
           passes_at (p ∷ ps) h zero d b = h.0
           passes_at (p ∷ ps) h (suc j) d b = passes_at ps h.1 j d (omega arith)
 
-      pub ordered_cut : (s : ℕ) → Some s ≡ serial_of eq k slots → r < length order
-          → IsOrdered eq R (set_value (nat_eq s) slots Hole) (remove order r) next × (entries_of (set_value (nat_eq s) slots Hole) ≡ remove_entry (eq k) (entries_of slots)) × (rows_of (set_value (nat_eq s) slots Hole) ≡ cut_row (eq k) (rows_of slots))
+      pub ordered_cut : (s : ℕ) → Some s ≡ row_serial (eq k) rows → r < length order
+          → IsOrdered eq R (set_value (nat_eq s) slots Hole) (remove order r) next × (entries_of (set_value (nat_eq s) slots Hole) ≡ remove_entry (eq k) (entries_of slots)) × (rows_of (set_value (nat_eq s) slots Hole) ≡ cut_row (eq k) rows)
       ordered_cut s i l =
-          let laws = o.laws in
           let ps = held.pairs in
           let there = there_is o slots order next held k r bound point (first ps (omega (arith, l, length_order o slots order next held k))) l (here (is_eq (order_at R slots k (get_or order r 0))) refl) in
-          let kept = cut_kept eq laws slots ps next held.kept k s (remove ps r) (i ∙ sym (held.kept.found k)) (λ q. ap (λ l. lookup (eq q) l) there.1 ∙ lookup-remove_entry laws (eq k) (λ x y e. laws.congr k x y e) q ps (apart_climbs o ps held.climbs)) in (
+          let new : rows_of (set_value (nat_eq s) slots Hole) ≡ cut_row (eq k) rows = rows_cut s 0 slots next held.kept.rises ∙ (entry_found s i).1.cut in
+          let entries = ap without_serials new ∙ entries_cut (eq k) rows in
+          let serials = ap serials_of new ∙ serials_cut (eq k) rows in
+          let one = o.laws.congr k in (
             record {
               pairs = remove ps r;
-              order_is = ap (λ l. remove l r) held.order_is ∙ sym (serials_remove ps r);
-              kept = kept.0;
+              order_is = ap (λ l. remove l r) held.order_is ∙ sym (map-remove (λ (p : K × ℕ). p.1) ps r);
+              kept = record {
+                found = λ q.
+                    ap (lookup (eq q)) there.1 ∙ lookup-remove_entry o.laws (eq k) (λ x y e. one x y e) q ps (apart_climbs o ps held.climbs) ∙ ap (λ x. cond (eq k q) None x) (held.kept.found q)
+                    ∙ sym (ap (lookup (eq q)) serials ∙ lookup-remove_entry o.laws (eq k) (λ x y e. one x y e) q (serials_of rows) (subst (IsDistinct eq) (sym (keys_in_rows rows)) held.kept.apart));
+                rises = rises_set (nat_eq s) Hole 0 slots next held.kept.rises;
+                apart = subst (λ (es : List (K × V)). IsDistinct eq (keys_of es)) (sym entries) (apart_cut eq k (entries_of slots) held.kept.apart);
+              };
               climbs = climbs_remove o ps r held.climbs;
             },
-            kept.1,
-            kept.2,
+            entries,
+            new,
           )
         where
-          first : (ps : List (K × ℕ)) → 0 < length ps → K × ℕ
-          first [] l = absurd (omega arith)
-          first (p ∷ ps) l = p
-
           here : (b : Bool) → is_eq (order_at R slots k (get_or order r 0)) ≡ b → is_eq (order_at R slots k (get_or order r 0)) ≡ true
           here true e = e
           here false e = absurd (some_not_none (i ∙ sym (serial_nowhere o slots order next held k r bound point (λ l. e))))
@@ -333,6 +336,10 @@ module _ {K V : Type 0} {eq : K → K → Bool} {R : K → K → Ordering} (o : 
       record {
         pairs = held.pairs;
         order_is = held.order_is;
-        kept = squeezed_kept eq slots held.pairs next held.kept;
+        kept = record {
+          found = λ q. held.kept.found q ∙ sym (ap (row_serial (eq q)) (rows_squeezed slots));
+          rises = rises_squeezed 0 slots next held.kept.rises;
+          apart = subst (λ (rows : List (ℕ × (K × V))). IsDistinct eq (keys_of (without_serials rows))) (sym (rows_squeezed slots)) held.kept.apart;
+        };
         climbs = held.climbs;
       }

@@ -8,7 +8,7 @@ use Rattle.std.specs.declared.cmp.Ordering.{Ordering}
 use Rattle.std.specs.declared.cmp.Ordering.TheVariants.{Less}
 use Rattle.ctl_ordered.specs.declared.slot.Slot.{Slot}
 use Rattle.ctl_ordered.specs.declared.slot.Slot.TheVariants.{Entry, Hole}
-use Rattle.ctl_ordered.specs.Slots.{entries_of, serial_of, Rises}
+use Rattle.ctl_ordered.specs.Slots.{entries_of, rows_of, Rises}
 
 -- what an ordered map holds: its entries in order, each under its serial; the serial of the next; and how many more go in
 -- with no memory
@@ -35,10 +35,13 @@ module _ {K V : Type 0} where
   cut_row test [] = []
   cut_row test (row ∷ rows) = if test row.1.0 then rows else row ∷ cut_row test rows
 
+  -- the keys, each with its serial
+  abbrev pub serials_of : List (ℕ × (K × V)) → List (K × ℕ)
+  serials_of rows = map (λ (row : ℕ × (K × V)). (row.1.0, row.0)) rows
+
   -- the serial of the first key that passes
   abbrev pub row_serial : (K → Bool) → List (ℕ × (K × V)) → Option ℕ
-  row_serial test [] = None
-  row_serial test (row ∷ rows) = if test row.1.0 then Some row.0 else row_serial test rows
+  row_serial test rows = lookup test (serials_of rows)
 
   -- by the value that a key has: its row has another value, and a new key goes last, under the next serial
   abbrev pub rows_put : Option V → (K → Bool) → Held K V → K → V → List (ℕ × (K × V))
@@ -74,9 +77,9 @@ module _ {K : Type 0} (R : K → K → Ordering) where
   KeysRise (p ∷ ps) = AllByRecursion (λ k. R p.0 k ≡ Less) (keys_of ps) × KeysRise ps
 
 module _ {K V : Type 0} (eq : K → K → Bool) where
-  -- The serial of each key is that of its slot, serials rise, and no key stands twice.
+  -- The serial of each key is that of its row, serials rise, and no key stands twice.
   pub record IsKept (slots : List (ℕ × Slot K V)) (serials : List (K × ℕ)) (next : ℕ) : Type 0 where
-    pub found : (k : K) → lookup (eq k) serials ≡ serial_of eq k slots
+    pub found : (k : K) → lookup (eq k) serials ≡ row_serial (eq k) (rows_of slots)
     pub rises : Rises 0 slots next
     pub apart : IsDistinct eq (keys_of (entries_of slots))
 

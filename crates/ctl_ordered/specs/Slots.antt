@@ -1,5 +1,5 @@
 -- Slots under rising serials, some of them holes.
-use Rattle.std.specs.Prelude.{ℕ, suc, ◌≤◌, Bool, true, false, List, [], ◌∷◌, map, Option, None, Some, if◌then◌else◌}
+use Rattle.std.specs.Prelude.{ℕ, suc, ◌≤◌, Bool, true, false, List, [], ◌∷◌, map, Option, None, Some}
 use Rattle.ctl_ordered.specs.declared.slot.Slot.{Slot}
 use Rattle.ctl_ordered.specs.declared.slot.Slot.TheVariants.{Entry, Hole}
 
@@ -39,13 +39,3 @@ module _ {K V : Type 0} where
   -- the entries in slots, in order
   abbrev pub entries_of : List (ℕ × Slot K V) → List (K × V)
   entries_of slots = map (λ (row : ℕ × (K × V)). row.1) (rows_of slots)
-
-  module _ (eq : K → K → Bool) where
-    abbrev pub has_key : K → Slot K V → Bool
-    has_key k (Entry a v) = eq k a
-    has_key k Hole = false
-
-    -- the serial of the first slot with the key
-    abbrev pub serial_of : K → List (ℕ × Slot K V) → Option ℕ
-    serial_of k [] = None
-    serial_of k (slot ∷ slots) = if has_key k slot.1 then Some slot.0 else serial_of k slots

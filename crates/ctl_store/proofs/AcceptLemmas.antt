@@ -5,17 +5,17 @@ use Rattle.ctl_store.specs.declared.limits.Limits.{Limits}
 use Rattle.ctl_store.specs.declared.refusal.Refusal.{Refusal}
 use Rattle.ctl_store.specs.Named.{at_name, without_name, change_named, has_name}
 use Rattle.ctl_store.specs.State.{StanzaList, State, stanza_count, count_of_kind, status_count}
-use Rattle.ctl_store.specs.Edits.{Edit, AddList, DropList, Put, Remove, Mark, Unmark, Pin, Unpin, Target, Prefs}
+use Rattle.ctl_store.specs.Edits.{Edit, AddList, DropList, Put, Remove}
 use Rattle.ctl_store.specs.Step.{when, changed, after, misfit_of, is_past, refusal_of, place, is_same, is_same_kind, put_at, put_stanza, remove_stanza, takes_kind, with_stanzas, has_stanza, count_coming, has_status}
 use Rattle.std.proofs.lemmas.Bool.Decides.{nat_tests}
 use Rattle.std.proofs.lemmas.List.Edits.{length-remove}
 use Rattle.ctl_stanza.specs.declared.list_kind.ListKind.{ListKind}
 use Rattle.ctl_stanza.specs.Content.{Content, package_of, version_of}
-use Rattle.ctl_store.proofs.PlaceLemmas.{place_within}
+use Rattle.ctl_store.proofs.PlaceLemmas.{place_within, some_is}
 use Rattle.ctl_store.specs.declared.list_class.ListClass.{ListClass}
 use Rattle.ctl_store.specs.Keys.{KeyedList, key_of, keys_of, stanzas_of, stanza_list, stanza_lists, all_in}
 use Rattle.ctl_store.specs.Held.{HeldList, lists_of}
-use Rattle.ctl_store.proofs.ListedLemmas.{has_name_lists, has_name_held, at_name-stanza_lists, some_is}
+use Rattle.ctl_store.proofs.ListedLemmas.{has_name_lists, has_name_held, at_name-stanza_lists}
 
 left_none : {X : Type 0} (a b : Option X) → option_or a b ≡ None → a ≡ None
 left_none None b e = refl
@@ -108,12 +108,7 @@ stanzas_past limit s (AddList name kind class stanzas) e l = more_past limit (st
 stanzas_past limit s (DropList name) e l = fewer_past limit (stanza_count s.lists) _ l (count-without_le name s.lists)
 stanzas_past limit s (Put list content) e l = more_past limit (stanza_count s.lists) _ _ l (count-put list content s.lists (named content.kind list s.lists (no_refusal _ _ e)))
 stanzas_past limit s (Remove list name version) e l = fewer_past limit (stanza_count s.lists) _ l (count-remove_le list name (Some version) s.lists)
-stanzas_past limit s (Mark name version) e l = fewer_past limit (stanza_count s.lists) (stanza_count s.lists) l (omega arith)
-stanzas_past limit s (Unmark name) e l = fewer_past limit (stanza_count s.lists) (stanza_count s.lists) l (omega arith)
-stanzas_past limit s (Pin selector priority) e l = fewer_past limit (stanza_count s.lists) (stanza_count s.lists) l (omega arith)
-stanzas_past limit s (Unpin selector) e l = fewer_past limit (stanza_count s.lists) (stanza_count s.lists) l (omega arith)
-stanzas_past limit s (Target name) e l = fewer_past limit (stanza_count s.lists) (stanza_count s.lists) l (omega arith)
-stanzas_past limit s (Prefs pins) e l = fewer_past limit (stanza_count s.lists) (stanza_count s.lists) l (omega arith)
+stanzas_past limit s edit e l = fewer_past limit (stanza_count s.lists) (stanza_count s.lists) l (omega arith)
 
 pub past_is : (limits : Limits) (s : State) (edit : Edit) → misfit_of s edit ≡ None → stanza_count s.lists ≤ limits.stanzas → is_past limits (after s edit) ≡ (nat_lt (limits.stanzas - stanza_count s.lists) (count_coming s edit) || nat_le limits.edits s.edits)
 past_is limits s edit e l = grind (arith, stanzas_past, edits_past)

@@ -8,14 +8,15 @@ use Rattle.ctl_stanza.specs.Content.{Content, package_of, version_of}
 use Rattle.ctl_store.specs.declared.stanza_key.StanzaKey.{StanzaKey}
 use Rattle.ctl_store.specs.Named.{at_name, without_name, change_named}
 use Rattle.ctl_store.specs.Step.{place}
-use Rattle.ctl_store.specs.Edits.{Edit, AddList, DropList, Put, Remove, Mark, Unmark, Pin, Unpin, Target, Prefs}
+use Rattle.ctl_store.specs.Edits.{Edit, AddList, DropList, Put, Remove}
 use Rattle.ctl_store.specs.Rows.{Rises, by_name_and_version, rows_from, replace_at, put_row_at, remove_row_at}
 use Rattle.ctl_store.specs.Keys.{KeyedList, Keyed, key_of, keys_of, key_at, key_or_new, found_key, put_key, key_is, in_rows, stanza_at, put_keyed, remove_keyed, list_of_stanzas, keyed_after, removed_of, added_of, IsNotAmong, AreCome, AreGone, AreNew, AreHeld}
 use Rattle.ctl_store.specs.Held.{InOrder}
-use Rattle.ctl_store.proofs.PlaceLemmas.{eq_is, lt_ne, gt_ne, is_eq_from, and_left, and_second, both_true, or_none}
-use Rattle.ctl_store.proofs.KeyLemmas.{not_none, keys_held, either_first, either_second, first_is, later_is, same, in_some}
+use Rattle.ctl_store.proofs.PlaceLemmas.{eq_is, lt_ne, gt_ne, is_eq_from, and_left, and_second, both_true, or_none, all_map}
+use Rattle.ctl_store.proofs.KeyLemmas.{not_none, keys_held, either_first, either_second, first_is, later_is, in_some, none_later}
+use Rattle.ctl_ordered.proofs.SlotLemmas.{rises_end}
 
-abbrev stanza_in : ℕ → List (ℕ × Content) → Option Content
+abbrev pub stanza_in : ℕ → List (ℕ × Content) → Option Content
 stanza_in serial rows = lookup (λ s. nat_eq s serial) rows
 
 -- ---- rows
@@ -27,19 +28,11 @@ below_rows s n (r ∷ rs) m l h = ap (λ b. cond b (Some r.1) (stanza_in s rs)) 
 
 above_rows : (n : ℕ) (rs : List (ℕ × Content)) (m : ℕ) → Rises n rs m → stanza_in m rs ≡ None
 above_rows n [] m h = refl
-above_rows n (r ∷ rs) m h = ap (λ b. cond b (Some r.1) (stanza_in m rs)) (lt_ne r.0 m (end (suc r.0) rs m h.1)) ∙ above_rows (suc r.0) rs m h.1
-  where
-    end : (n : ℕ) (rs : List (ℕ × Content)) (m : ℕ) → Rises n rs m → n ≤ m
-    end n [] m h = h
-    end n (r ∷ rs) m h = omega (arith, h.0, end (suc r.0) rs m h.1)
+above_rows n (r ∷ rs) m h = ap (λ b. cond b (Some r.1) (stanza_in m rs)) (lt_ne r.0 m (rises_end (suc r.0) rs m h.1)) ∙ above_rows (suc r.0) rs m h.1
 
 pushed_in : (n : ℕ) (rs : List (ℕ × Content)) (m : ℕ) (x : Content) → Rises n rs m → stanza_in m (rs ++ (m, x) ∷ []) ≡ Some x
 pushed_in n [] m x h = ap (λ b. cond b (Some x) None) (eq_is m m refl)
-pushed_in n (r ∷ rs) m x h = ap (λ b. cond b (Some r.1) (stanza_in m (rs ++ (m, x) ∷ []))) (lt_ne r.0 m (end (suc r.0) rs m h.1)) ∙ pushed_in (suc r.0) rs m x h.1
-  where
-    end : (n : ℕ) (rs : List (ℕ × Content)) (m : ℕ) → Rises n rs m → n ≤ m
-    end n [] m h = h
-    end n (r ∷ rs) m h = omega (arith, h.0, end (suc r.0) rs m h.1)
+pushed_in n (r ∷ rs) m x h = ap (λ b. cond b (Some r.1) (stanza_in m (rs ++ (m, x) ∷ []))) (lt_ne r.0 m (rises_end (suc r.0) rs m h.1)) ∙ pushed_in (suc r.0) rs m x h.1
 
 -- from each serial of the rows on the stanza is found
 from_on : (n j : ℕ) (xs : List Content) → stanza_in (n + j) (rows_from n xs) ≡ slice_get xs j
@@ -67,11 +60,7 @@ module _ (list : ℕ) where
 -- ---- lists
 
 module _ (k : StanzaKey) where
-  pub none_later : (n : ℕ) (ls : List (List ℕ × KeyedList)) (m e : ℕ) → k.list < n → InOrder n ls m e → stanza_at k ls ≡ None
-  none_later n [] m e l h = refl
-  none_later n (x ∷ ls) m e l h = grind (arith, none_later (suc x.1.serial) ls m e (omega (arith, h.0)) h.3)
-
-  ends : (n : ℕ) (ls : List (List ℕ × KeyedList)) (m e : ℕ) → InOrder n ls m e → n ≤ m
+  pub ends : (n : ℕ) (ls : List (List ℕ × KeyedList)) (m e : ℕ) → InOrder n ls m e → n ≤ m
   ends n [] m e h = h
   ends n (x ∷ ls) m e h = omega (arith, h.0, ends (suc x.1.serial) ls m e h.3)
 
@@ -110,11 +99,6 @@ pub rows_rise : (n : ℕ) (ls : List (List ℕ × KeyedList)) (m e : ℕ) (name 
 rows_rise n [] m e name l h at = cc at
 rows_rise n (x ∷ ls) m e name l h at = grind (arith, rows_rise (suc x.1.serial) ls m e name l h.3)
 
-module _ {X : Type 0} {P Q : X → Type 0} (f : (x : X) → P x → Q x) where
-  weaken : (xs : List X) → AllByRecursion P xs → AllByRecursion Q xs
-  weaken [] h = tt
-  weaken (x ∷ xs) h = (f x h.0, weaken xs h.1)
-
 pub is_itself : (k : StanzaKey) → key_is k k ≡ true
 is_itself k = both_true (nat_eq k.list k.list) (nat_eq k.stanza k.stanza) (eq_is k.list k.list refl) (eq_is k.stanza k.stanza refl)
 
@@ -149,15 +133,8 @@ module _ (s : Keyed) (e : ℕ) (order : InOrder 0 s.lists s.next_list e) where
 
   pub come_law : (edit : Edit) → AreCome (added_of s edit) edit (keyed_after s edit).lists
   come_law (AddList name kind class stanzas) = new_come 0 name (list_of_stanzas s.next_list kind class stanzas) stanzas stanzas refl refl (λ j. ap (slice_get stanzas) (let z : 0 + j ≡ j = omega arith in z))
-  come_law (DropList name) = tt
   come_law (Put list x) = kept_come list x (at_name list s.lists) refl
-  come_law (Remove list name version) = tt
-  come_law (Mark name version) = tt
-  come_law (Unmark name) = tt
-  come_law (Pin selector priority) = tt
-  come_law (Unpin selector) = tt
-  come_law (Target name) = tt
-  come_law (Prefs pins) = tt
+  come_law edit = tt
 
   drop_gone : (name : List ℕ) (o : Option KeyedList) → at_name name s.lists ≡ o → AreGone (option_map_or keys_of o []) [] (without_name name s.lists)
   drop_gone name None at = tt
@@ -186,16 +163,10 @@ module _ (s : Keyed) (e : ℕ) (order : InOrder 0 s.lists s.next_list e) where
   put_gone list x o at = grind arith
 
   pub gone_law : (edit : Edit) → AreGone (removed_of s edit) (added_of s edit) (keyed_after s edit).lists
-  gone_law (AddList name kind class stanzas) = tt
   gone_law (DropList name) = drop_gone name (at_name name s.lists) refl
   gone_law (Put list x) = put_gone list x (at_name list s.lists) refl
   gone_law (Remove list name version) = remove_gone list name (Some version) (at_name list s.lists) refl
-  gone_law (Mark name version) = tt
-  gone_law (Unmark name) = tt
-  gone_law (Pin selector priority) = tt
-  gone_law (Unpin selector) = tt
-  gone_law (Target name) = tt
-  gone_law (Prefs pins) = tt
+  gone_law edit = tt
 
   put_new : (list : List ℕ) (x : Content) (o : Option KeyedList) → at_name list s.lists ≡ o → AreNew (option_map_or (put_key x) o []) (option_map_or (found_key (package_of x) (version_of x)) o []) s.lists
   put_new list x None at = tt
@@ -207,7 +178,7 @@ module _ (s : Keyed) (e : ℕ) (order : InOrder 0 s.lists s.next_list e) where
         where
           over : (qs : List (ℕ × Content)) → AllByRecursion (λ k. IsNotAmong k (map (λ (row : ℕ × Content). key_of l.serial row.0) qs) → stanza_at k s.lists ≡ None) (map (λ (row : ℕ × Content). key_of l.serial row.0) qs)
           over [] = tt
-          over (q ∷ qs) = ((λ h. absurd (let e : true ≡ false = sym (is_itself (key_of l.serial q.0)) ∙ h.0 in cc)), weaken (λ k g h. g h.1) (map (λ (row : ℕ × Content). key_of l.serial row.0) qs) (over qs))
+          over (q ∷ qs) = ((λ h. absurd (let e : true ≡ false = sym (is_itself (key_of l.serial q.0)) ∙ h.0 in cc)), all_map (λ k g h. g h.1) (map (λ (row : ℕ × Content). key_of l.serial row.0) qs) (over qs))
 
   list_new : (rs : List (ℕ × Content)) → AreNew (map (λ (row : ℕ × Content). key_of s.next_list row.0) rs) [] s.lists
   list_new [] = tt
@@ -215,23 +186,16 @@ module _ (s : Keyed) (e : ℕ) (order : InOrder 0 s.lists s.next_list e) where
 
   pub new_law : (edit : Edit) → AreNew (added_of s edit) (removed_of s edit) s.lists
   new_law (AddList name kind class stanzas) = list_new (rows_from 0 stanzas)
-  new_law (DropList name) = tt
   new_law (Put list x) = put_new list x (at_name list s.lists) refl
-  new_law (Remove list name version) = tt
-  new_law (Mark name version) = tt
-  new_law (Unmark name) = tt
-  new_law (Pin selector priority) = tt
-  new_law (Unpin selector) = tt
-  new_law (Target name) = tt
-  new_law (Prefs pins) = tt
+  new_law edit = tt
 
 -- ---- each key that goes has a stanza
 
 some_there : (list : ℕ) (rs : List (ℕ × Content)) (i : ℕ) → AllByRecursion (in_some list rs) (map (λ (r : ℕ × Content). key_of list r.0) (take 1 (drop i rs)))
 some_there list [] zero = tt
 some_there list [] (suc i) = tt
-some_there list (r ∷ rs) zero = (first_is (nat_eq list list) (nat_eq r.0 r.0) r.1 (lookup (λ s. nat_eq s r.0) rs) (same list) (same r.0), tt)
-some_there list (r ∷ rs) (suc i) = weaken (λ k h. later_is (nat_eq list k.list) (nat_eq r.0 k.stanza) r.1 (lookup (λ s. nat_eq s k.stanza) rs) h) (map (λ (r : ℕ × Content). key_of list r.0) (take 1 (drop i rs))) (some_there list rs i)
+some_there list (r ∷ rs) zero = (first_is (nat_eq list list) (nat_eq r.0 r.0) r.1 (lookup (λ s. nat_eq s r.0) rs) (eq_is list list refl) (eq_is r.0 r.0 refl), tt)
+some_there list (r ∷ rs) (suc i) = all_map (λ k h. later_is (nat_eq list k.list) (nat_eq r.0 k.stanza) r.1 (lookup (λ s. nat_eq s k.stanza) rs) h) (map (λ (r : ℕ × Content). key_of list r.0) (take 1 (drop i rs))) (some_there list rs i)
 
 found_held : (name : List ℕ) (version : Option (List ℕ)) (list : List ℕ) (ls : List (List ℕ × KeyedList)) → AreHeld (option_map_or (found_key name version) (at_name list ls) []) ls
 found_held name version list [] = tt
@@ -239,23 +203,17 @@ found_held name version list (l ∷ ls) = by (bytes_eq list l.0) (found_held nam
   where
     at_place : (o : Option ℕ) → AreHeld (key_at l.1 o) (l ∷ ls)
     at_place None = tt
-    at_place (Some i) = weaken (λ k g. either_first (in_rows k l.1) (stanza_at k ls) g) (key_at l.1 (Some i)) (some_there l.1.serial l.1.rows i)
+    at_place (Some i) = all_map (λ k g. either_first (in_rows k l.1) (stanza_at k ls) g) (key_at l.1 (Some i)) (some_there l.1.serial l.1.rows i)
 
     by : (b : Bool) → AreHeld (option_map_or (found_key name version) (at_name list ls) []) ls → AreHeld (option_map_or (found_key name version) (cond b (Some l.1) (at_name list ls)) []) (l ∷ ls)
     by true h = at_place (place (by_name_and_version name version) l.1.rows)
-    by false h = weaken (λ k g. either_second (in_rows k l.1) (stanza_at k ls) g) (option_map_or (found_key name version) (at_name list ls) []) h
+    by false h = all_map (λ k g. either_second (in_rows k l.1) (stanza_at k ls) g) (option_map_or (found_key name version) (at_name list ls) []) h
 
 pub removed_held : (s : Keyed) (edit : Edit) → AreHeld (removed_of s edit) s.lists
-removed_held s (AddList name kind class stanzas) = tt
 removed_held s (DropList name) = keys_held name s.lists
 removed_held s (Put list x) = found_held (package_of x) (version_of x) list s.lists
 removed_held s (Remove list name version) = found_held name (Some version) list s.lists
-removed_held s (Mark name version) = tt
-removed_held s (Unmark name) = tt
-removed_held s (Pin selector priority) = tt
-removed_held s (Unpin selector) = tt
-removed_held s (Target name) = tt
-removed_held s (Prefs pins) = tt
+removed_held s edit = tt
 
 -- a key that has a stanza and doesn't go doesn't come
 pub not_added : (k : StanzaKey) (added removed : List StanzaKey) (ls : List (List ℕ × KeyedList)) → AreNew added removed ls → IsSome (stanza_at k ls) → IsNotAmong k removed → IsNotAmong k added

@@ -1,59 +1,31 @@
 -- What an edit makes of the stanzas with their keys.
 use Rattle.std.proofs.Common.{◌≡◌, ℕ, zero, suc, ◌+◌, ◌≤◌, Bool, true, false, cond, not, ◌||◌, ◌&&◌, nat_eq, List, [], ◌∷◌, ◌++◌, map, take, drop, length, Option, None, Some, option_map, refl, ap, sym, subst, ◌∙◌, arith}
 use Rattle.std.specs.List.{AllByRecursion, remove, sum_by, cons_option}
-use Rattle.std.specs.Map.{lookup}
 use Rattle.std.specs.Option.{option_or, option_map_or}
 use Rattle.std.specs.Ordering.{nat_cmp, ordering_then}
 use Rattle.std.specs.Str.{bytes_eq}
 use Rattle.std.specs.declared.cmp.Ordering.TheVariants.{Less}
 use Rattle.std.proofs.lemmas.Bool.Decides.{nat_tests}
-use Rattle.std.proofs.lemmas.List.{append_assoc}
+use Rattle.std.proofs.lemmas.List.{append_assoc, append-nil, map-append}
 use Rattle.std.proofs.lemmas.List.Elements.{filter-append}
 use Rattle.std.proofs.lemmas.List.Sums.{sum_by-append}
 use Rattle.ctl_stanza.specs.Content.{Content, package_of, version_of}
 use Rattle.ctl_store.specs.declared.stanza_key.StanzaKey.{StanzaKey}
 use Rattle.ctl_store.specs.Named.{at_name, without_name, change_named}
 use Rattle.ctl_store.specs.Step.{place, remove_stanza, with_stanzas}
-use Rattle.ctl_store.specs.Edits.{Edit, AddList, DropList, Put, Remove, Mark, Unmark, Pin, Unpin, Target, Prefs}
+use Rattle.ctl_store.specs.Edits.{Edit, AddList, DropList, Put, Remove}
 use Rattle.ctl_store.specs.Rows.{Rises, by_name_and_version, rows_from, replace_at, put_row_at, remove_row_at}
 use Rattle.ctl_store.specs.Keys.{KeyedList, Keyed, stanzas_of, stanza_lists, key_of, keys_of, key_at, key_or_new, found_key, put_key, key_is, key_cmp, all_keys, AreRising, stanza_at, put_keyed, remove_keyed, list_of_stanzas, keyed_after, removed_of, added_of, coming, AreCome}
 use Rattle.ctl_store.specs.Entries.{Entry, rows_under, entries_in, entries_of, entry_keys, AreAt, is_among, without_keys, entries_by, entries_at, entries_coming, stanzas_in_order, lists_between, IsSpliced, IsChange}
 use Rattle.ctl_store.specs.Held.{InOrder}
-use Rattle.ctl_store.proofs.PlaceLemmas.{eq_is, lt_ne, Rises-rows_from, is_first, or_true}
+use Rattle.ctl_store.proofs.PlaceLemmas.{eq_is, lt_ne, Rises-rows_from, is_first, or_true, all_map, all_front, all_back, all_append}
 use Rattle.ctl_store.proofs.KeyLemmas.{keys_rise}
 use Rattle.ctl_store.proofs.ListedLemmas.{InOrder-weaken, in_order_push, in_order_without, in_order_change, Changes-put, Changes-remove, remove_list, change_lists, without_lists}
-use Rattle.ctl_store.proofs.ChangeLemmas.{come_law, is_itself}
+use Rattle.ctl_store.proofs.ChangeLemmas.{come_law, is_itself, stanza_in}
 
 module _ {X : Type 0} where
-  nothing_behind : (xs : List X) → xs ≡ xs ++ []
-  nothing_behind [] = refl
-  nothing_behind (x ∷ xs) = ap (λ ys. x ∷ ys) (nothing_behind xs)
-
   longer : (h g t q : List X) → (h ++ (g ++ t)) ++ q ≡ h ++ (g ++ (t ++ q))
   longer h g t q = append_assoc h (g ++ t) q ∙ ap (λ z. h ++ z) (append_assoc g t q)
-
-module _ {X Y : Type 0} (f : X → Y) where
-  map_both : (xs ys : List X) → map f (xs ++ ys) ≡ map f xs ++ map f ys
-  map_both [] ys = refl
-  map_both (x ∷ xs) ys = ap (λ z. f x ∷ z) (map_both xs ys)
-
-module _ {X : Type 0} {P Q : X → Type 0} (f : (x : X) → P x → Q x) where
-  weaken : (xs : List X) → AllByRecursion P xs → AllByRecursion Q xs
-  weaken [] h = tt
-  weaken (x ∷ xs) h = (f x h.0, weaken xs h.1)
-
-module _ {X : Type 0} (P : X → Type 0) where
-  both : (xs ys : List X) → AllByRecursion P xs → AllByRecursion P ys → AllByRecursion P (xs ++ ys)
-  both [] ys h k = k
-  both (x ∷ xs) ys h k = (h.0, both xs ys h.1 k)
-
-  first_part : (xs ys : List X) → AllByRecursion P (xs ++ ys) → AllByRecursion P xs
-  first_part [] ys h = tt
-  first_part (x ∷ xs) ys h = (h.0, first_part xs ys h.1)
-
-  second_part : (xs ys : List X) → AllByRecursion P (xs ++ ys) → AllByRecursion P ys
-  second_part [] ys h = h
-  second_part (x ∷ xs) ys h = second_part xs ys h.1
 
 -- ---- one place where entries go and come
 
@@ -69,7 +41,7 @@ uncut : (es : List Entry) → Cut es es [] []
 uncut es = record {
   gone = [];
   come = [];
-  spliced = record { head = es; tail = []; before_is = nothing_behind es; after_is = nothing_behind es };
+  spliced = record { head = es; tail = []; before_is = sym (append-nil es); after_is = sym (append-nil es) };
   removed_are = refl;
   added_are = refl;
 }
@@ -140,7 +112,7 @@ module _ (list : ℕ) where
   pushed rows next x = record {
     gone = [];
     come = (key_of list next, x) ∷ [];
-    spliced = record { head = rows_under list rows; tail = []; before_is = nothing_behind (rows_under list rows); after_is = map_both (λ (row : ℕ × Content). (key_of list row.0, row.1)) rows ((next, x) ∷ []) };
+    spliced = record { head = rows_under list rows; tail = []; before_is = sym (append-nil (rows_under list rows)); after_is = map-append (λ (row : ℕ × Content). (key_of list row.0, row.1)) rows ((next, x) ∷ []) };
     removed_are = refl;
     added_are = refl;
   }
@@ -200,7 +172,7 @@ new_cut : (ls : List (List ℕ × KeyedList)) (name : List ℕ) (l : KeyedList) 
 new_cut ls name l = record {
   gone = [];
   come = entries_in l;
-  spliced = record { head = entries_of ls; tail = []; before_is = nothing_behind (entries_of ls); after_is = last_entries ls name l };
+  spliced = record { head = entries_of ls; tail = []; before_is = sym (append-nil (entries_of ls)); after_is = last_entries ls name l };
   removed_are = refl;
   added_are = keys_under l.serial l.rows;
 }
@@ -212,21 +184,13 @@ edit_cut s (Put list x) = changed list (put_keyed x) (found_key (package_of x) (
 edit_cut s (Remove list name version) =
     subst (λ ks. Cut (entries_of s.lists) (entries_of (change_named list (remove_keyed name (Some version)) s.lists)) (option_map_or (found_key name (Some version)) (at_name list s.lists) []) ks) (sym (none_in (at_name list s.lists)))
     (changed list (remove_keyed name (Some version)) (found_key name (Some version)) no_keys (remove_cut name (Some version)) s.lists)
-edit_cut s (Mark name version) = uncut (entries_of s.lists)
-edit_cut s (Unmark name) = uncut (entries_of s.lists)
-edit_cut s (Pin selector priority) = uncut (entries_of s.lists)
-edit_cut s (Unpin selector) = uncut (entries_of s.lists)
-edit_cut s (Target name) = uncut (entries_of s.lists)
-edit_cut s (Prefs pins) = uncut (entries_of s.lists)
+edit_cut s edit = uncut (entries_of s.lists)
 
 -- ---- the entries and the keys
 
 pub keys_are_all : (ls : List (List ℕ × KeyedList)) → entry_keys (entries_of ls) ≡ all_keys ls
 keys_are_all [] = refl
-keys_are_all (l ∷ ls) = map_both (λ (e : Entry). e.0) (entries_in l.1) (entries_of ls) ∙ ap (λ ks. ks ++ entry_keys (entries_of ls)) (keys_under l.1.serial l.1.rows) ∙ ap (λ ks. keys_of l.1 ++ ks) (keys_are_all ls)
-
-abbrev stanza_in : ℕ → List (ℕ × Content) → Option Content
-stanza_in serial rows = lookup (λ s. nat_eq s serial) rows
+keys_are_all (l ∷ ls) = map-append (λ (e : Entry). e.0) (entries_in l.1) (entries_of ls) ∙ ap (λ ks. ks ++ entry_keys (entries_of ls)) (keys_under l.1.serial l.1.rows) ∙ ap (λ ks. keys_of l.1 ++ ks) (keys_are_all ls)
 
 -- an entry of a list, from a serial on, with the stanza of its key
 record IsIn (list n : ℕ) (rows : List (ℕ × Content)) (e : Entry) : Type 0 where
@@ -238,7 +202,7 @@ rows_found : (list n : ℕ) (rows : List (ℕ × Content)) (m : ℕ) → Rises n
 rows_found list n [] m h = tt
 rows_found list n (r ∷ rows) m h = (
   record { list_is = refl; from = h.0; found = ap (λ b. cond b (Some r.1) (stanza_in r.0 rows)) (eq_is r.0 r.0 refl) },
-  weaken (λ e g. record { list_is = g.list_is; from = omega (arith, h.0, g.from); found = ap (λ b. cond b (Some r.1) (stanza_in e.0.stanza rows)) (lt_ne r.0 e.0.stanza (omega (arith, g.from))) ∙ g.found }) (rows_under list rows) (rows_found list (suc r.0) rows m h.1),
+  all_map (λ e g. record { list_is = g.list_is; from = omega (arith, h.0, g.from); found = ap (λ b. cond b (Some r.1) (stanza_in e.0.stanza rows)) (lt_ne r.0 e.0.stanza (omega (arith, g.from))) ∙ g.found }) (rows_under list rows) (rows_found list (suc r.0) rows m h.1),
 )
 
 record IsFound (n : ℕ) (ls : List (List ℕ × KeyedList)) (e : Entry) : Type 0 where
@@ -248,12 +212,12 @@ record IsFound (n : ℕ) (ls : List (List ℕ × KeyedList)) (e : Entry) : Type 
 all_found : (n : ℕ) (ls : List (List ℕ × KeyedList)) (m e : ℕ) → InOrder n ls m e → AllByRecursion (IsFound n ls) (entries_of ls)
 all_found n [] m e h = tt
 all_found n (x ∷ ls) m e h =
-    both (IsFound n (x ∷ ls)) (entries_in x.1) (entries_of ls)
-    (weaken (λ q g. record { from = omega (arith, h.0, g.list_is); found = ap (λ b. option_or (cond b (stanza_in q.0.stanza x.1.rows) None) (stanza_at q.0 ls)) (eq_is x.1.serial q.0.list g.list_is) ∙ ap (λ o. option_or o (stanza_at q.0 ls)) g.found }) (entries_in x.1) (rows_found x.1.serial 0 x.1.rows x.1.next h.2))
-    (weaken (λ q g. record { from = omega (arith, h.0, g.from); found = ap (λ b. option_or (cond b (stanza_in q.0.stanza x.1.rows) None) (stanza_at q.0 ls)) (lt_ne x.1.serial q.0.list (omega (arith, g.from))) ∙ g.found }) (entries_of ls) (all_found (suc x.1.serial) ls m e h.3))
+    all_append (IsFound n (x ∷ ls)) (entries_in x.1) (entries_of ls)
+    (all_map (λ q g. record { from = omega (arith, h.0, g.list_is); found = ap (λ b. option_or (cond b (stanza_in q.0.stanza x.1.rows) None) (stanza_at q.0 ls)) (eq_is x.1.serial q.0.list g.list_is) ∙ ap (λ o. option_or o (stanza_at q.0 ls)) g.found }) (entries_in x.1) (rows_found x.1.serial 0 x.1.rows x.1.next h.2))
+    (all_map (λ q g. record { from = omega (arith, h.0, g.from); found = ap (λ b. option_or (cond b (stanza_in q.0.stanza x.1.rows) None) (stanza_at q.0 ls)) (lt_ne x.1.serial q.0.list (omega (arith, g.from))) ∙ g.found }) (entries_of ls) (all_found (suc x.1.serial) ls m e h.3))
 
 pub entries_found : (n : ℕ) (ls : List (List ℕ × KeyedList)) (m e : ℕ) → InOrder n ls m e → AreAt (entries_of ls) ls
-entries_found n ls m e h = weaken (λ q g. g.found) (entries_of ls) (all_found n ls m e h)
+entries_found n ls m e h = all_map (λ q g. g.found) (entries_of ls) (all_found n ls m e h)
 
 by_keys : (find : StanzaKey → Option Content) (es : List Entry) → AllByRecursion (λ (e : Entry). find e.0 ≡ Some e.1) es → es ≡ entries_by find (entry_keys es)
 by_keys find [] h = refl
@@ -280,7 +244,7 @@ cut_off ks (e ∷ es) h = ap (λ b. cond (not b) (e ∷ without_keys ks es) (wit
 
 own_keys : (es : List Entry) → AllByRecursion (λ e. is_among (entry_keys es) e ≡ true) es
 own_keys [] = tt
-own_keys (e ∷ es) = (is_first (key_is e.0 e.0) (is_among (entry_keys es) e) (is_itself e.0), weaken (λ q g. or_true (key_is q.0 e.0) (is_among (entry_keys es) q) g) es (own_keys es))
+own_keys (e ∷ es) = (is_first (key_is e.0 e.0) (is_among (entry_keys es) e) (is_itself e.0), all_map (λ q g. or_true (key_is q.0 e.0) (is_among (entry_keys es) q) g) es (own_keys es))
 
 -- a key below others is none of them
 below_all : (e : Entry) (es rest : List Entry) → AllByRecursion (λ q. key_cmp e.0 q ≡ Less) (entry_keys (es ++ rest)) → is_among (entry_keys es) e ≡ false
@@ -326,12 +290,7 @@ order_after s e order (AddList name kind class stanzas) = (
 order_after s e order (DropList name) = (e + 1, in_order_without 0 s.lists s.next_list e name order)
 order_after s e order (Put list x) = (e + 1, in_order_change 0 s.lists s.next_list e list (put_keyed x) (Changes-put x) order)
 order_after s e order (Remove list name version) = (e + 1, in_order_change 0 s.lists s.next_list e list (remove_keyed name (Some version)) (Changes-remove name (Some version)) order)
-order_after s e order (Mark name version) = (e, order)
-order_after s e order (Unmark name) = (e, order)
-order_after s e order (Pin selector priority) = (e, order)
-order_after s e order (Unpin selector) = (e, order)
-order_after s e order (Target name) = (e, order)
-order_after s e order (Prefs pins) = (e, order)
+order_after s e order edit = (e, order)
 
 also_coming : (es : List Entry) (edit : Edit) (ls : List (List ℕ × KeyedList)) → AreAt es ls → AreCome (entry_keys es) edit ls → AllByRecursion (λ (e : Entry). coming edit e.0 ≡ Some e.1) es
 also_coming [] edit ls h g = tt
@@ -339,16 +298,10 @@ also_coming (e ∷ es) edit ls h g = (sym g.0 ∙ h.0, also_coming es edit ls h.
 
 -- without the keys that go the lists are those between
 abbrev keyed_between : List (List ℕ × KeyedList) → Edit → List (List ℕ × KeyedList)
-keyed_between ls (AddList name kind class stanzas) = ls
 keyed_between ls (DropList name) = without_name name ls
 keyed_between ls (Put list x) = change_named list (remove_keyed (package_of x) (version_of x)) ls
 keyed_between ls (Remove list name version) = change_named list (remove_keyed name (Some version)) ls
-keyed_between ls (Mark name version) = ls
-keyed_between ls (Unmark name) = ls
-keyed_between ls (Pin selector priority) = ls
-keyed_between ls (Unpin selector) = ls
-keyed_between ls (Target name) = ls
-keyed_between ls (Prefs pins) = ls
+keyed_between ls edit = ls
 
 taken_cut : (list name : List ℕ) (version : Option (List ℕ)) (ls : List (List ℕ × KeyedList)) → Cut (entries_of ls) (entries_of (change_named list (remove_keyed name version) ls)) (option_map_or (found_key name version) (at_name list ls) []) []
 taken_cut list name version ls =
@@ -356,16 +309,10 @@ taken_cut list name version ls =
     (changed list (remove_keyed name version) (found_key name version) no_keys (remove_cut name version) ls)
 
 between_cut : (s : Keyed) (edit : Edit) → Cut (entries_of s.lists) (entries_of (keyed_between s.lists edit)) (removed_of s edit) []
-between_cut s (AddList name kind class stanzas) = uncut (entries_of s.lists)
 between_cut s (DropList name) = dropped name s.lists
 between_cut s (Put list x) = taken_cut list (package_of x) (version_of x) s.lists
 between_cut s (Remove list name version) = taken_cut list name (Some version) s.lists
-between_cut s (Mark name version) = uncut (entries_of s.lists)
-between_cut s (Unmark name) = uncut (entries_of s.lists)
-between_cut s (Pin selector priority) = uncut (entries_of s.lists)
-between_cut s (Unpin selector) = uncut (entries_of s.lists)
-between_cut s (Target name) = uncut (entries_of s.lists)
-between_cut s (Prefs pins) = uncut (entries_of s.lists)
+between_cut s edit = uncut (entries_of s.lists)
 
 no_entries : (es : List Entry) → entry_keys es ≡ [] → es ≡ []
 no_entries [] h = refl
@@ -385,19 +332,13 @@ row_contents list (r ∷ rows) = ap (λ xs. r.1 ∷ xs) (row_contents list rows)
 -- the stanzas without their keys
 contents_are : (ls : List (List ℕ × KeyedList)) → map (λ (e : Entry). e.1) (entries_of ls) ≡ stanzas_in_order (stanza_lists ls)
 contents_are [] = refl
-contents_are (l ∷ ls) = map_both (λ (e : Entry). e.1) (entries_in l.1) (entries_of ls) ∙ ap (λ xs. xs ++ map (λ (e : Entry). e.1) (entries_of ls)) (row_contents l.1.serial l.1.rows) ∙ ap (λ xs. stanzas_of l.1.rows ++ xs) (contents_are ls)
+contents_are (l ∷ ls) = map-append (λ (e : Entry). e.1) (entries_in l.1) (entries_of ls) ∙ ap (λ xs. xs ++ map (λ (e : Entry). e.1) (entries_of ls)) (row_contents l.1.serial l.1.rows) ∙ ap (λ xs. stanzas_of l.1.rows ++ xs) (contents_are ls)
 
 lists_are : (ls : List (List ℕ × KeyedList)) (edit : Edit) → stanza_lists (keyed_between ls edit) ≡ lists_between (stanza_lists ls) edit
-lists_are ls (AddList name kind class stanzas) = refl
 lists_are ls (DropList name) = without_lists name ls
 lists_are ls (Put list x) = change_lists list (remove_keyed (package_of x) (version_of x)) (with_stanzas (remove_stanza (package_of x) (version_of x))) (remove_list (package_of x) (version_of x)) ls
 lists_are ls (Remove list name version) = change_lists list (remove_keyed name (Some version)) (with_stanzas (remove_stanza name (Some version))) (remove_list name (Some version)) ls
-lists_are ls (Mark name version) = refl
-lists_are ls (Unmark name) = refl
-lists_are ls (Pin selector priority) = refl
-lists_are ls (Unpin selector) = refl
-lists_are ls (Target name) = refl
-lists_are ls (Prefs pins) = refl
+lists_are ls edit = refl
 
 module _ (s : Keyed) (e : ℕ) (order : InOrder 0 s.lists s.next_list e) (edit : Edit) where
   abbrev t : Keyed
@@ -407,12 +348,12 @@ module _ (s : Keyed) (e : ℕ) (order : InOrder 0 s.lists s.next_list e) (edit :
   c = edit_cut s edit
 
   gone_is : c.gone ≡ entries_at (removed_of s edit) s.lists
-  gone_is = grind (arith, by_keys, first_part, second_part, entries_found)
+  gone_is = grind (arith, by_keys, all_front, all_back, entries_found)
 
   come_at : AreAt c.come t.lists
   come_at =
-      first_part (λ (e : Entry). stanza_at e.0 t.lists ≡ Some e.1) c.come c.spliced.tail
-      (second_part (λ (e : Entry). stanza_at e.0 t.lists ≡ Some e.1) c.spliced.head (c.come ++ c.spliced.tail)
+      all_front (λ (e : Entry). stanza_at e.0 t.lists ≡ Some e.1) c.come c.spliced.tail
+      (all_back (λ (e : Entry). stanza_at e.0 t.lists ≡ Some e.1) c.spliced.head (c.come ++ c.spliced.tail)
       (let o = order_after s e order edit in subst (λ es. AreAt es t.lists) c.spliced.after_is (entries_found 0 t.lists t.next_list o.0 o.1)))
 
   come_is : c.come ≡ entries_coming (added_of s edit) edit

@@ -1,5 +1,5 @@
 -- Of two settings of one selector the first counts.
-use Rattle.std.proofs.Common.{◌≡◌, ℕ, ℤ, Bool, true, false, cond, List, [], ◌∷◌, ◌++◌, Option, None, Some, is_some, Ok, refl, ap, subst, ◌∙◌, arith}
+use Rattle.std.proofs.Common.{◌≡◌, ℕ, ℤ, Bool, false, cond, List, [], ◌∷◌, ◌++◌, Option, None, Some, is_some, Ok, refl, subst, arith, sym}
 use Rattle.std.specs.List.{IsDistinct, AllByRecursion}
 use Rattle.std.specs.Map.{lookup, keys_of}
 use Rattle.std.specs.Option.{option_or}
@@ -10,10 +10,7 @@ use Rattle.ctl_store.specs.Pins.{selector_eq, AreDistinct}
 use Rattle.ctl_store.specs.SelectorLaws.{selector_equiv, selector_eq-Decides}
 use Rattle.ctl_store.specs.Prefs.{keep_first, first_settings, all_settings, settings_or_fault, read_prefs_text}
 use Rattle.ctl_store.specs.PrefsLaws.{SetsFirst}
-
-or_none : {X : Type 0} (o : Option X) → o ≡ option_or o None
-or_none None = refl
-or_none (Some x) = refl
+use Rattle.ctl_store.proofs.PlaceLemmas.{or_none}
 
 lookup-append : (s : Selector) (kept : List (Selector × ℤ)) (one : Selector × ℤ) → lookup (selector_eq s) (kept ++ one ∷ []) ≡ option_or (lookup (selector_eq s) kept) (cond (selector_eq s one.0) (Some one.1) None)
 lookup-append s [] one = refl
@@ -21,38 +18,20 @@ lookup-append s (e ∷ kept) one = grind (arith, lookup-append s kept one)
 
 -- a setting that is kept, or whose selector stands before, is what its selector has
 lookup-keep : (s : Selector) (kept : List (Selector × ℤ)) (one : Selector × ℤ) → lookup (selector_eq s) (keep_first kept one) ≡ option_or (lookup (selector_eq s) kept) (cond (selector_eq s one.0) (Some one.1) None)
-lookup-keep s kept one = by (is_some (lookup (selector_eq one.0) kept)) refl
-  where
-    there : (o : Option ℤ) → is_some o ≡ true → (b : Bool) → o ≡ option_or o (cond b (Some one.1) None)
-    there o h b = grind arith
-
-    same : is_some (lookup (selector_eq one.0) kept) ≡ true → (b : Bool) → selector_eq s one.0 ≡ b → lookup (selector_eq s) kept ≡ option_or (lookup (selector_eq s) kept) (cond b (Some one.1) None)
-    same h true e = there (lookup (selector_eq s) kept) (ap (λ t. is_some (lookup (selector_eq t) kept)) ((selector_eq-Decides s one.0).0 e) ∙ h) true
-    same h false e = or_none (lookup (selector_eq s) kept)
-
-    by : (b : Bool) → is_some (lookup (selector_eq one.0) kept) ≡ b → lookup (selector_eq s) (cond b kept (kept ++ one ∷ [])) ≡ option_or (lookup (selector_eq s) kept) (cond (selector_eq s one.0) (Some one.1) None)
-    by true h = same h (selector_eq s one.0) refl
-    by false h = lookup-append s kept one
+lookup-keep s kept one = grind (arith, lookup-append, selector_eq-Decides)
 
 or_assoc : {X : Type 0} (a : Option X) (b : Bool) (x : X) (c : Option X) → option_or (option_or a (cond b (Some x) None)) c ≡ option_or a (cond b (Some x) c)
-or_assoc (Some y) b x c = refl
-or_assoc None true x c = refl
-or_assoc None false x c = refl
+or_assoc a b x c = grind arith
 
 lookup-first : (s : Selector) (kept all : List (Selector × ℤ)) → lookup (selector_eq s) (first_settings kept all) ≡ option_or (lookup (selector_eq s) kept) (lookup (selector_eq s) all)
-lookup-first s kept [] = or_none (lookup (selector_eq s) kept)
+lookup-first s kept [] = sym (or_none (lookup (selector_eq s) kept))
 lookup-first s kept (one ∷ all) = grind (arith, lookup-keep, or_assoc, lookup-first s (keep_first kept one) all)
 
 -- ---- no selector stands twice
 
 absent_all : (s : Selector) (kept : List (Selector × ℤ)) → is_some (lookup (selector_eq s) kept) ≡ false → AllByRecursion (λ t. selector_eq t s ≡ false) (keys_of kept)
 absent_all s [] h = tt
-absent_all s (e ∷ kept) h = by (selector_eq s e.0) refl h (absent_all s kept)
-  where
-    by : (b : Bool) → selector_eq s e.0 ≡ b → is_some (cond b (Some e.1) (lookup (selector_eq s) kept)) ≡ false → (is_some (lookup (selector_eq s) kept) ≡ false → AllByRecursion (λ t. selector_eq t s ≡ false) (keys_of kept))
-        → (selector_eq e.0 s ≡ false) × AllByRecursion (λ t. selector_eq t s ≡ false) (keys_of kept)
-    by true is h rest = cc
-    by false is h rest = (selector_equiv.symm e.0 s ∙ is, rest h)
+absent_all s (e ∷ kept) h = grind (arith, selector_equiv.symm, absent_all s kept)
 
 all_last : (P : Selector → Type 0) (kept : List (Selector × ℤ)) (one : Selector × ℤ) → AllByRecursion P (keys_of kept) → P one.0 → AllByRecursion P (keys_of (kept ++ one ∷ []))
 all_last P [] one h p = (p, tt)

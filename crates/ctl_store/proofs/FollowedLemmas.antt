@@ -3,7 +3,7 @@ use Rattle.std.proofs.Common.{◌≡◌, ℕ, suc, ◌+◌, List, [], ◌∷◌,
 use Rattle.std.specs.List.{AllByRecursion, slice_get, list_any}
 use Rattle.ctl_stanza.specs.Content.{Content, package_of, version_of}
 use Rattle.ctl_store.specs.declared.stanza_key.StanzaKey.{StanzaKey}
-use Rattle.ctl_store.specs.Edits.{Edit, AddList, DropList, Put, Remove, Mark, Unmark, Pin, Unpin, Target, Prefs}
+use Rattle.ctl_store.specs.Edits.{Edit, AddList, DropList, Put, Remove}
 use Rattle.ctl_store.specs.Rows.{rows_from, Rises}
 use Rattle.ctl_store.specs.Keys.{Keyed, key_of, added_of, AreComing, KeyedList, key_cmp, key_is, put_key, all_keys, AreRising, stanza_at, coming, found_key, put_keyed, remove_keyed, list_of_stanzas, keyed_after, removed_of}
 use Rattle.std.specs.Map.{lookup}
@@ -15,10 +15,12 @@ use Rattle.ctl_store.specs.Named.{at_name, without_name, change_named}
 use Rattle.ctl_store.specs.Entries.{Entry, rows_under, entries_in, entries_of, entry_keys, AreAt, is_among, without_keys, entries_by, entries_coming, IsChange}
 use Rattle.ctl_store.specs.Followed.{under, AreApart, AreDistinctKeys, coming_under, shown_under, IsFollowed}
 use Rattle.ctl_store.specs.Held.{coming_among, InOrder}
-use Rattle.ctl_store.proofs.PlaceLemmas.{is_first, or_true, is_eq_from, both_true}
+use Rattle.ctl_store.proofs.PlaceLemmas.{is_first, or_true, is_eq_from, both_true, all_map, all_append, all_front, all_back, turned}
 use Rattle.ctl_store.proofs.EntryLemmas.{keys_are_all, less_is_no_other, order_after}
-use Rattle.ctl_store.proofs.ChangeLemmas.{is_itself, none_later}
+use Rattle.ctl_store.proofs.ChangeLemmas.{is_itself, ends}
 use Rattle.ctl_store.specs.Given.{was_given, is_given, AreFirstGiven, IsGivenOnce}
+use Rattle.ctl_store.proofs.KeyLemmas.{none_later}
+use Rattle.ctl_ordered.proofs.SlotLemmas.{rises_end}
 
 each_there : (list n : ℕ) (all xs : List Content) → ((k : ℕ) → slice_get all (n + k) ≡ slice_get xs k) → AllByRecursion (λ (k : StanzaKey). IsSome (slice_get all k.stanza)) (map (λ (row : ℕ × Content). key_of list row.0) (rows_from n xs))
 each_there list n all [] h = tt
@@ -33,40 +35,17 @@ all_come x list (k ∷ ks) = (refl, all_come x list ks)
 
 pub added_come : (s : Keyed) (edit : Edit) → AreComing (added_of s edit) edit
 added_come s (AddList name kind class stanzas) = each_there s.next_list 0 stanzas stanzas (λ k. ap (slice_get stanzas) (let z : 0 + k ≡ k = omega arith in z))
-added_come s (DropList name) = tt
 added_come s (Put list x) = all_come x list (added_of s (Put list x))
-added_come s (Remove list name version) = tt
-added_come s (Mark name version) = tt
-added_come s (Unmark name) = tt
-added_come s (Pin selector priority) = tt
-added_come s (Unpin selector) = tt
-added_come s (Target name) = tt
-added_come s (Prefs pins) = tt
+added_come s edit = tt
 
 -- ---- an edit that is followed key by key ends in the stanzas after it
-
-module _ {X : Type 0} (P : X → Type 0) where
-  all_append : (xs ys : List X) → AllByRecursion P xs → AllByRecursion P ys → AllByRecursion P (xs ++ ys)
-  all_append [] ys p q = q
-  all_append (x ∷ xs) ys p q = (p.0, all_append xs ys p.1 q)
-
-  all_front : (xs ys : List X) → AllByRecursion P (xs ++ ys) → AllByRecursion P xs
-  all_front [] ys h = tt
-  all_front (x ∷ xs) ys h = (h.0, all_front xs ys h.1)
-
-  all_back : (xs ys : List X) → AllByRecursion P (xs ++ ys) → AllByRecursion P ys
-  all_back [] ys h = h
-  all_back (x ∷ xs) ys h = all_back xs ys h.1
 
 all_both : {X : Type 0} (P Q R : X → Type 0) (xs : List X) → ((x : X) → P x → Q x → R x) → AllByRecursion P xs → AllByRecursion Q xs → AllByRecursion R xs
 all_both P Q R [] f p q = tt
 all_both P Q R (x ∷ xs) f p q = (f x p.0 q.0, all_both P Q R xs f p.1 q.1)
 
-nat_turned : (a b : ℕ) → nat_eq a b ≡ nat_eq b a
-nat_turned a b = grind (arith, nat_tests)
-
 key_is-turned : (a b : StanzaKey) → key_is a b ≡ key_is b a
-key_is-turned a b = λ i. nat_turned b.list a.list i && nat_turned b.stanza a.stanza i
+key_is-turned a b = λ i. turned b.list a.list i && turned b.stanza a.stanza i
 
 -- ---- the stanza under a key
 
@@ -198,17 +177,9 @@ module _ (k : StanzaKey) where
   put_comes list x o = grind arith
 
   pub comes_among : (s : Keyed) (edit : Edit) → coming_among edit (added_of s edit) k ≡ coming_under (added_of s edit) edit k
-  comes_among s (AddList name kind class []) = refl
   comes_among s (AddList name kind class (x ∷ xs)) = add_comes s.next_list (x ∷ xs)
-  comes_among s (DropList name) = refl
   comes_among s (Put list x) = put_comes list x (at_name list s.lists)
-  comes_among s (Remove list name version) = refl
-  comes_among s (Mark name version) = refl
-  comes_among s (Unmark name) = refl
-  comes_among s (Pin selector priority) = refl
-  comes_among s (Unpin selector) = refl
-  comes_among s (Target name) = refl
-  comes_among s (Prefs pins) = refl
+  comes_among s edit = refl
 
 -- ---- the law
 
@@ -270,11 +241,6 @@ module _ (before after : List (List ℕ × KeyedList)) (removed added : List Sta
   }
 
 -- ---- no key is given again
-
-module _ {X : Type 0} {P Q : X → Type 0} (f : (x : X) → P x → Q x) where
-  weaken : (xs : List X) → AllByRecursion P xs → AllByRecursion Q xs
-  weaken [] h = tt
-  weaken (x ∷ xs) h = (f x h.0, weaken xs h.1)
 
 lt_is : (a b : ℕ) → a < b → nat_lt a b ≡ true
 lt_is a b h = grind (arith, nat_tests, h)
@@ -340,38 +306,25 @@ module _ (k : StanzaKey) where
       by (DropList name) = both_true (nat_lt k.list s.next_list) (was_given k (without_name name s.lists)) both.0 (given_without name s.lists both.1)
       by (Put list x) = both_true (nat_lt k.list s.next_list) (was_given k (change_named list (put_keyed x) s.lists)) both.0 (given_change list (put_keyed x) (Grows-put x) s.lists both.1)
       by (Remove list name version) = both_true (nat_lt k.list s.next_list) (was_given k (change_named list (remove_keyed name (Some version)) s.lists)) both.0 (given_change list (remove_keyed name (Some version)) (Grows-remove name (Some version)) s.lists both.1)
-      by (Mark name version) = h
-      by (Unmark name) = h
-      by (Pin selector priority) = h
-      by (Unpin selector) = h
-      by (Target name) = h
-      by (Prefs pins) = h
+      by edit = h
 
   -- ---- a key that has a stanza was given
 
-  ends : (n : ℕ) (rs : List (ℕ × Content)) (m : ℕ) → Rises n rs m → n ≤ m
-  ends n [] m h = h
-  ends n (r ∷ rs) m h = omega (arith, h.0, ends (suc r.0) rs m h.1)
-
   row_below : (n : ℕ) (rs : List (ℕ × Content)) (m : ℕ) → Rises n rs m → IsSome (lookup (λ s. nat_eq s k.stanza) rs) → k.stanza < m
   row_below n [] m h some = absurd (let z : ⊥ = cc some in z)
-  row_below n (r ∷ rs) m h some = grind (arith, is_eq_from, ends, row_below (suc r.0) rs m h.1)
+  row_below n (r ∷ rs) m h some = grind (arith, is_eq_from, rises_end, row_below (suc r.0) rs m h.1)
 
   -- lists with higher serials gave no other
   later_given : (n : ℕ) (ls : List (List ℕ × KeyedList)) (m e : ℕ) → k.list < n → InOrder n ls m e → was_given k ls ≡ true
   later_given n [] m e l h = refl
   later_given n (x ∷ ls) m e l h = grind (arith, later_given (suc x.1.serial) ls m e (omega (arith, l, h.0)) h.3)
 
-  lists_end : (n : ℕ) (ls : List (List ℕ × KeyedList)) (m e : ℕ) → InOrder n ls m e → n ≤ m
-  lists_end n [] m e h = h
-  lists_end n (x ∷ ls) m e h = omega (arith, h.0, lists_end (suc x.1.serial) ls m e h.3)
-
   or_none : (o : Option Content) → IsSome (option_or o None) → IsSome o
   or_none o h = grind arith
 
   held_in : (n : ℕ) (ls : List (List ℕ × KeyedList)) (m e : ℕ) → InOrder n ls m e → IsSome (stanza_at k ls) → (k.list < m) × (was_given k ls ≡ true)
   held_in n [] m e h some = absurd (let z : ⊥ = cc some in z)
-  held_in n (x ∷ ls) m e h some = grind (arith, k, is_eq_from, none_later, row_below, or_none, lists_end, both_true, lt_is, later_given, held_in (suc x.1.serial) ls m e h.3)
+  held_in n (x ∷ ls) m e h some = grind (arith, k, is_eq_from, none_later, row_below, or_none, ends, both_true, lt_is, later_given, held_in (suc x.1.serial) ls m e h.3)
 
   held_given : (s : Keyed) (e : ℕ) → InOrder 0 s.lists s.next_list e → IsSome (stanza_at k s.lists) → is_given s k ≡ true
   held_given s e order some = grind (arith, held_in, both_true, k, lt_is)
@@ -387,19 +340,12 @@ new_first s [] = tt
 new_first s (r ∷ rs) = ((λ h. first_false (nat_lt s.next_list s.next_list) (was_given (key_of s.next_list r.0) s.lists) (not_below_itself s.next_list)), new_first s rs)
 
 put_new : (s : Keyed) (list : List ℕ) (x : Content) (o : Option KeyedList) → at_name list s.lists ≡ o → AreFirstGiven s (option_map_or (put_key x) o []) (option_map_or (found_key (package_of x) (version_of x)) o [])
-put_new s list x o at = grind (arith, and_false, new_in, is_itself, weaken)
+put_new s list x o at = grind (arith, and_false, new_in, is_itself, all_map)
 
 first_law : (s : Keyed) (edit : Edit) → AreFirstGiven s (added_of s edit) (removed_of s edit)
 first_law s (AddList name kind class stanzas) = new_first s (rows_from 0 stanzas)
-first_law s (DropList name) = tt
 first_law s (Put list x) = put_new s list x (at_name list s.lists) refl
-first_law s (Remove list name version) = tt
-first_law s (Mark name version) = tt
-first_law s (Unmark name) = tt
-first_law s (Pin selector priority) = tt
-first_law s (Unpin selector) = tt
-first_law s (Target name) = tt
-first_law s (Prefs pins) = tt
+first_law s edit = tt
 
 pub given_law : (s : Keyed) (e : ℕ) → InOrder 0 s.lists s.next_list e → (edit : Edit) → IsGivenOnce s (keyed_after s edit) (removed_of s edit) (added_of s edit)
 given_law s e order edit = record {

@@ -16,7 +16,7 @@ use Rattle.ctl_store.specs.Named.{at_name}
 use Rattle.ctl_store.specs.State.{StanzaList, stanzas_named}
 use Rattle.ctl_stanza.specs.declared.list_kind.ListKind.{ListKind}
 use Rattle.ctl_store.specs.Kinds.{AreOfKind, KeepKinds}
-use Rattle.ctl_store.proofs.PlaceLemmas.{is_eq_from, if_cases, or_none}
+use Rattle.ctl_store.proofs.PlaceLemmas.{is_eq_from, if_cases, or_none, eq_is, lt_ne, all_map, all_append}
 
 later_list : (a b s t : ℕ) → a < b → ordering_then (nat_cmp a b) (nat_cmp s t) ≡ Less
 later_list a b s t l = grind (arith, nat_tests)
@@ -33,32 +33,21 @@ rows_of_later : (list s other : ℕ) (rs : List (ℕ × Content)) → list < oth
 rows_of_later list s other [] l = tt
 rows_of_later list s other (r ∷ rs) l = (later_list list other s r.0 l, rows_of_later list s other rs l)
 
-module _ {X : Type 0} (P : X → Type 0) where
-  both : (xs ys : List X) → AllByRecursion P xs → AllByRecursion P ys → AllByRecursion P (xs ++ ys)
-  both [] ys h k = k
-  both (x ∷ xs) ys h k = (h.0, both xs ys h.1 k)
-
 -- and below those of later lists
 above_lists : (list s n : ℕ) (ls : List (List ℕ × KeyedList)) (m e : ℕ) → list < n → InOrder n ls m e → AllByRecursion (λ q. key_cmp (key_of list s) q ≡ Less) (all_keys ls)
 above_lists list s n [] m e l h = tt
-above_lists list s n (x ∷ ls) m e l h = both (λ q. key_cmp (key_of list s) q ≡ Less) (keys_of x.1) (all_keys ls) (rows_of_later list s x.1.serial x.1.rows (omega (arith, h.0))) (above_lists list s (suc x.1.serial) ls m e (omega (arith, h.0)) h.3)
+above_lists list s n (x ∷ ls) m e l h = all_append (λ q. key_cmp (key_of list s) q ≡ Less) (keys_of x.1) (all_keys ls) (rows_of_later list s x.1.serial x.1.rows (omega (arith, h.0))) (above_lists list s (suc x.1.serial) ls m e (omega (arith, h.0)) h.3)
 
 rising_rows : (list n : ℕ) (rs : List (ℕ × Content)) (m : ℕ) (ks : List StanzaKey) → Rises n rs m → ((s : ℕ) → AllByRecursion (λ q. key_cmp (key_of list s) q ≡ Less) ks) → AreRising ks → AreRising (map (λ (r : ℕ × Content). key_of list r.0) rs ++ ks)
 rising_rows list n [] m ks h a r = r
 rising_rows list n (x ∷ rs) m ks h a r =
-    (both (λ q. key_cmp (key_of list x.0) q ≡ Less) (map (λ (r : ℕ × Content). key_of list r.0) rs) ks (above_rows list x.0 (suc x.0) rs m (omega arith) h.1) (a x.0), rising_rows list (suc x.0) rs m ks h.1 a r)
+    (all_append (λ q. key_cmp (key_of list x.0) q ≡ Less) (map (λ (r : ℕ × Content). key_of list r.0) rs) ks (above_rows list x.0 (suc x.0) rs m (omega arith) h.1) (a x.0), rising_rows list (suc x.0) rs m ks h.1 a r)
 
 pub keys_rise : (n : ℕ) (ls : List (List ℕ × KeyedList)) (m e : ℕ) → InOrder n ls m e → AreRising (all_keys ls)
 keys_rise n [] m e h = tt
 keys_rise n (x ∷ ls) m e h = rising_rows x.1.serial 0 x.1.rows x.1.next (all_keys ls) h.2 (λ s. above_lists x.1.serial s (suc x.1.serial) ls m e (omega arith) h.3) (keys_rise (suc x.1.serial) ls m e h.3)
 
 -- ---- the stanzas under the keys of a list are its stanzas
-
-pub same : (n : ℕ) → nat_eq n n ≡ true
-same n = grind (arith, nat_tests)
-
-above : (m n : ℕ) → m < n → nat_eq m n ≡ false
-above m n l = grind (arith, nat_tests)
 
 module _ {X : Type 0} where
   two : {x y : X} {xs ys : List X} → x ≡ y → xs ≡ ys → x ∷ xs ≡ y ∷ ys
@@ -75,12 +64,12 @@ row_keys list rows = map (λ (row : ℕ × Content). key_of list row.0) rows
 skip_row : (list s n : ℕ) (x : Content) (rows later : List (ℕ × Content)) (m : ℕ) → s < n → Rises n later m → map (in_row ((s, x) ∷ rows)) (row_keys list later) ≡ map (in_row rows) (row_keys list later)
 skip_row list s n x rows [] m l h = refl
 skip_row list s n x rows (r ∷ later) m l h =
-    two (ap (λ b. cond b (Some x) (lookup (λ t. nat_eq t r.0) rows)) (above s r.0 (omega (arith, h.0)))) (skip_row list s (suc r.0) x rows later m (omega (arith, h.0)) h.1)
+    two (ap (λ b. cond b (Some x) (lookup (λ t. nat_eq t r.0) rows)) (lt_ne s r.0 (omega (arith, h.0)))) (skip_row list s (suc r.0) x rows later m (omega (arith, h.0)) h.1)
 
 in_rows_found : (list n : ℕ) (rows : List (ℕ × Content)) (m : ℕ) → Rises n rows m → map (in_row rows) (row_keys list rows) ≡ map Some (stanzas_of rows)
 in_rows_found list n [] m h = refl
 in_rows_found list n (r ∷ rows) m h =
-    two (ap (λ b. cond b (Some r.1) (lookup (λ t. nat_eq t r.0) rows)) (same r.0))
+    two (ap (λ b. cond b (Some r.1) (lookup (λ t. nat_eq t r.0) rows)) (eq_is r.0 r.0 refl))
     (skip_row list r.0 (suc r.0) r.1 rows rows m (omega arith) h.1 ∙ in_rows_found list (suc r.0) rows m h.1)
 
 -- the list of these keys is the first that is asked
@@ -94,7 +83,7 @@ in_first l ls (r ∷ rows) (x ∷ xs) e = grind (arith, in_first l ls rows xs (a
 -- a list with a lower serial than these keys
 skip_list : (l : KeyedList) (ls : List (List ℕ × KeyedList)) (ks : List StanzaKey) → AllByRecursion (λ k. l.serial < k.list) ks → map (λ k. option_or (in_rows k l) (stanza_at k ls)) ks ≡ map (λ k. stanza_at k ls) ks
 skip_list l ls [] h = refl
-skip_list l ls (k ∷ ks) h = two (ap (λ b. option_or (cond b (in_row l.rows k) None) (stanza_at k ls)) (above l.serial k.list h.0)) (skip_list l ls ks h.1)
+skip_list l ls (k ∷ ks) h = two (ap (λ b. option_or (cond b (in_row l.rows k) None) (stanza_at k ls)) (lt_ne l.serial k.list h.0)) (skip_list l ls ks h.1)
 
 rows_later : (list n : ℕ) (rows : List (ℕ × Content)) → n < list → AllByRecursion (λ k. n < k.list) (row_keys list rows)
 rows_later list n [] l = tt
@@ -121,11 +110,6 @@ keys_find name n (x ∷ ls) m e h = by (bytes_eq name x.0) (keys_find name (suc 
 
 -- ---- each key of a list is one of the store
 
-module _ {X : Type 0} {P Q : X → Type 0} (f : (x : X) → P x → Q x) where
-  weaken : (xs : List X) → AllByRecursion P xs → AllByRecursion Q xs
-  weaken [] h = tt
-  weaken (x ∷ xs) h = (f x h.0, weaken xs h.1)
-
 module _ {X : Type 0} where
   pub first_is : (b c : Bool) (x : X) (o : Option X) → b ≡ true → c ≡ true → IsSome (cond b (cond c (Some x) o) None)
   first_is b c x o e f = subst (λ b. IsSome (cond b (cond c (Some x) o) None)) (sym e) (subst (λ c. IsSome (cond c (Some x) o)) (sym f) refl)
@@ -145,8 +129,8 @@ in_some list rs k = IsSome (cond (nat_eq list k.list) (lookup (λ s. nat_eq s k.
 rows_there : (list : ℕ) (rs : List (ℕ × Content)) → AllByRecursion (in_some list rs) (map (λ (r : ℕ × Content). key_of list r.0) rs)
 rows_there list [] = tt
 rows_there list (r ∷ rs) = (
-  first_is (nat_eq list list) (nat_eq r.0 r.0) r.1 (lookup (λ s. nat_eq s r.0) rs) (same list) (same r.0),
-  weaken (λ k h. later_is (nat_eq list k.list) (nat_eq r.0 k.stanza) r.1 (lookup (λ s. nat_eq s k.stanza) rs) h) (map (λ (r : ℕ × Content). key_of list r.0) rs) (rows_there list rs),
+  first_is (nat_eq list list) (nat_eq r.0 r.0) r.1 (lookup (λ s. nat_eq s r.0) rs) (eq_is list list refl) (eq_is r.0 r.0 refl),
+  all_map (λ k h. later_is (nat_eq list k.list) (nat_eq r.0 k.stanza) r.1 (lookup (λ s. nat_eq s k.stanza) rs) h) (map (λ (r : ℕ × Content). key_of list r.0) rs) (rows_there list rs),
 )
 
 pub keys_held : (name : List ℕ) (ls : List (List ℕ × KeyedList)) → AreHeld (option_map_or keys_of (at_name name ls) []) ls
@@ -154,14 +138,14 @@ keys_held name [] = tt
 keys_held name (l ∷ ls) = by (bytes_eq name l.0) (keys_held name ls)
   where
     by : (b : Bool) → AreHeld (option_map_or keys_of (at_name name ls) []) ls → AreHeld (option_map_or keys_of (cond b (Some l.1) (at_name name ls)) []) (l ∷ ls)
-    by true h = weaken (λ k g. either_first (in_rows k l.1) (stanza_at k ls) g) (keys_of l.1) (rows_there l.1.serial l.1.rows)
-    by false h = weaken (λ k g. either_second (in_rows k l.1) (stanza_at k ls) g) (option_map_or keys_of (at_name name ls) []) h
+    by true h = all_map (λ k g. either_first (in_rows k l.1) (stanza_at k ls) g) (keys_of l.1) (rows_there l.1.serial l.1.rows)
+    by false h = all_map (λ k g. either_second (in_rows k l.1) (stanza_at k ls) g) (option_map_or keys_of (at_name name ls) []) h
 
 -- ---- the stanza of a key, found by the serial of its list
 
-none_later : (k : StanzaKey) (n : ℕ) (es : List (List ℕ × HeldList)) (m e : ℕ) → k.list < n → InOrder n (lists_of es) m e → stanza_at k (lists_of es) ≡ None
+pub none_later : (k : StanzaKey) (n : ℕ) (ls : List (List ℕ × KeyedList)) (m e : ℕ) → k.list < n → InOrder n ls m e → stanza_at k ls ≡ None
 none_later k n [] m e l h = refl
-none_later k n (x ∷ es) m e l h = grind (arith, none_later k (suc x.1.serial) es m e (omega (arith, h.0)) h.3)
+none_later k n (x ∷ ls) m e l h = grind (arith, none_later k (suc x.1.serial) ls m e (omega (arith, h.0)) h.3)
 
 abbrev pub in_entry : StanzaKey → Option (List ℕ × HeldList) → Option Content
 in_entry k None = None
@@ -191,11 +175,7 @@ lookup_kind kind serial (row ∷ rows) x h e = grind (arith, lookup_kind kind se
 
 entry_kind : (serial : ℕ) (es : List (List ℕ × HeldList)) (e : List ℕ × HeldList) → KeepKinds (stanza_lists (lists_of es)) → entry_of serial es ≡ Some e → AreOfKind e.1.kind (stanzas_of e.1.rows)
 entry_kind serial [] e h is = cc
-entry_kind serial (x ∷ es) e h is = by (nat_eq x.1.serial serial) (entry_kind serial es e h.1) is
-  where
-    by : (b : Bool) → (entry_of serial es ≡ Some e → AreOfKind e.1.kind (stanzas_of e.1.rows)) → cond b (Some x) (entry_of serial es) ≡ Some e → AreOfKind e.1.kind (stanzas_of e.1.rows)
-    by true later is = subst (λ (e : List ℕ × HeldList). AreOfKind e.1.kind (stanzas_of e.1.rows)) (let same : x ≡ e = cc is in same) h.0
-    by false later is = later is
+entry_kind serial (x ∷ es) e h is = grind (arith, entry_kind serial es e h.1)
 
 pub kind_at : (k : StanzaKey) (es : List (List ℕ × HeldList)) (e : List ℕ × HeldList) → KeepKinds (stanza_lists (lists_of es)) → entry_of k.list es ≡ Some e → IsSome (in_entry k (Some e)) → Some e.1.kind ≡ option_map (λ (x : Content). x.kind) (in_entry k (Some e))
 kind_at k es e h is there = by (lookup (λ s. nat_eq s k.stanza) e.1.rows) there (λ x f. lookup_kind e.1.kind k.stanza e.1.rows x (entry_kind k.list es e h is) f)

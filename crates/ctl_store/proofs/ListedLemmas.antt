@@ -17,16 +17,17 @@ use Rattle.std.specs.Option.{option_map_or, option_or}
 use Rattle.ctl_store.specs.Rows.{Rises, by_name_and_version, remove_row_at, rows_from, replace_at, put_row_at}
 use Rattle.ctl_store.specs.Keys.{KeyedList, stanzas_of, stanza_list, stanza_lists, put_keyed, remove_keyed, key_of, key_at, key_or_new, next_key, next_in, found_in, kept_in, Keyed, list_of_stanzas, keyed_after, keys_of, found_key, put_key, key_is, IsNotAmong, in_rows, stanza_at, removed_of, added_of}
 use Rattle.ctl_store.specs.Held.{HeldList, keyed_list, lists_of, InOrder, entry_of, AreNumbered}
-use Rattle.ctl_store.proofs.PlaceLemmas.{Rises-push, Rises-replace, Rises-remove, place_within, if_cases, or_none}
+use Rattle.ctl_store.proofs.PlaceLemmas.{Rises-replace, Rises-remove, place_within, if_cases, or_none}
 use Rattle.ctl_ordered.specs.Ordered.{without_serials, set_row, cut_row}
 use Rattle.ctl_store.specs.declared.stanza_key.StanzaKey.{StanzaKey}
 use Rattle.ctl_stanza.specs.declared.list_kind.ListKind.{ListKind}
 use Rattle.ctl_store.specs.declared.list_class.ListClass.{ListClass}
-use Rattle.ctl_store.specs.Edits.{Edit, AddList, DropList, Put, Remove, Mark, Unmark, Pin, Unpin, Target, Prefs}
+use Rattle.ctl_store.specs.Edits.{Edit, AddList, DropList, Put, Remove}
 use Rattle.std.specs.FinMap as fin
-
-pub some_is : {X : Type 0} {x y : X} → Some x ≡ Some y → x ≡ y
-some_is e = cc
+use Rattle.std.proofs.lemmas.Map.Made.{lookup-map_values, keys_of-map_values}
+use Rattle.std.proofs.lemmas.List.{map-append}
+use Rattle.indexmap.proofs.SetLemmas.{map-remove}
+use Rattle.ctl_ordered.proofs.SlotLemmas.{rises_last}
 
 module _ {V : Type 0} where
   -- a new name goes last
@@ -66,18 +67,14 @@ module _ {V : Type 0} where
   find-at_name q [] = refl
   find-at_name q (e ∷ es) = ap (λ b. cond b (Some e.1) (fin.find (slice_cmp nat_cmp) q es)) (is_eq-slice_cmp q e.0) ∙ ap (cond (bytes_eq q e.0) (Some e.1)) (find-at_name q es)
 
-  get-at_name : (es : List (List ℕ × V)) (q : List ℕ) → fin.get (fin.from_entries {R = slice_cmp nat_cmp} es) q ≡ at_name q es
-  get-at_name es q = fin.get-from_entries nat_list_cmp_total es q ∙ find-at_name q es
-
-  -- under a name that `using` takes
   pub get_at_name : (es : List (List ℕ × V)) (q : List ℕ) → fin.get (fin.from_entries {R = slice_cmp nat_cmp} es) q ≡ at_name q es
-  get_at_name = get-at_name
+  get_at_name es q = fin.get-from_entries nat_list_cmp_total es q ∙ find-at_name q es
 
   -- the finite map of the entries, after `put_named`
   pub from_entries-put_named : (k : List ℕ) (v : V) (es : List (List ℕ × V)) → fin.from_entries {R = slice_cmp nat_cmp} (put_named k v es) ≡ fin.insert (fin.from_entries es) k v
   from_entries-put_named k v es = fin.same_map nat_list_cmp_total exact_bytes _ _ (λ q.
-      get-at_name (put_named k v es) q ∙ at_name-put_named k v q es ∙ ap (λ b. cond b (Some v) (at_name q es)) (nat_list_eq_equiv.symm k q ∙ sym (is_eq-slice_cmp q k))
-      ∙ ap (cond (eq_by_cmp (slice_cmp nat_cmp) q k) (Some v)) (sym (get-at_name es q)) ∙ sym (fin.get-insert nat_list_cmp_total (fin.from_entries es) k v q))
+      get_at_name (put_named k v es) q ∙ at_name-put_named k v q es ∙ ap (λ b. cond b (Some v) (at_name q es)) (nat_list_eq_equiv.symm k q ∙ sym (is_eq-slice_cmp q k))
+      ∙ ap (cond (eq_by_cmp (slice_cmp nat_cmp) q k) (Some v)) (sym (get_at_name es q)) ∙ sym (fin.get-insert nat_list_cmp_total (fin.from_entries es) k v q))
 
 pub none_is : {X : Type 0} (o : Option X) → is_some o ≡ false → o ≡ None
 none_is None h = refl
@@ -87,8 +84,8 @@ module _ {V : Type 0} where
   -- the finite map of entries that a name left
   pub from_entries-removed : (k : List ℕ) (es fs : List (List ℕ × V)) → ((q : List ℕ) → at_name q fs ≡ cond (bytes_eq k q) None (at_name q es)) → fin.from_entries {R = slice_cmp nat_cmp} fs ≡ fin.remove (fin.from_entries es) k
   from_entries-removed k es fs h = fin.same_map nat_list_cmp_total exact_bytes _ _ (λ q.
-      get-at_name fs q ∙ h q ∙ ap (λ b. cond b None (at_name q es)) (nat_list_eq_equiv.symm k q ∙ sym (is_eq-slice_cmp q k))
-      ∙ ap (cond (eq_by_cmp (slice_cmp nat_cmp) q k) None) (sym (get-at_name es q)) ∙ sym (fin.get-remove nat_list_cmp_total (fin.from_entries es) k q))
+      get_at_name fs q ∙ h q ∙ ap (λ b. cond b None (at_name q es)) (nat_list_eq_equiv.symm k q ∙ sym (is_eq-slice_cmp q k))
+      ∙ ap (cond (eq_by_cmp (slice_cmp nat_cmp) q k) None) (sym (get_at_name es q)) ∙ sym (fin.get-remove nat_list_cmp_total (fin.from_entries es) k q))
 
 -- ---- changes of one list among the lists, and the order of serials through them
 
@@ -104,27 +101,19 @@ pub change_named-none : (name : List ℕ) (f : KeyedList → KeyedList) (es : Li
 change_named-none name f [] e = refl
 change_named-none name f (x ∷ es) e = grind (arith, change_named-none name f es)
 
-pub at_name-lists_of : (name : List ℕ) (es : List (List ℕ × HeldList)) → at_name name (lists_of es) ≡ option_map keyed_list (at_name name es)
-at_name-lists_of name [] = refl
-at_name-lists_of name (x ∷ es) = ap (cond (bytes_eq name x.0) (Some (keyed_list x.1))) (at_name-lists_of name es) ∙ sym (if_cases (option_map keyed_list) (bytes_eq name x.0) _ _)
+pub at_name_lists : (name : List ℕ) (es : List (List ℕ × HeldList)) → at_name name (lists_of es) ≡ option_map keyed_list (at_name name es)
+at_name_lists name es = lookup-map_values keyed_list (bytes_eq name) es
 
-pub without_name-lists_of : (name : List ℕ) (es : List (List ℕ × HeldList)) → lists_of (without_name name es) ≡ without_name name (lists_of es)
-without_name-lists_of name [] = refl
-without_name-lists_of name (x ∷ es) = if_cases lists_of (bytes_eq name x.0) _ _ ∙ ap (λ r. cond (bytes_eq name x.0) (lists_of es) ((x.0, keyed_list x.1) ∷ r)) (without_name-lists_of name es)
-
-lists_of-append : (es fs : List (List ℕ × HeldList)) → lists_of (es ++ fs) ≡ lists_of es ++ lists_of fs
-lists_of-append [] fs = refl
-lists_of-append (x ∷ es) fs = ap (λ r. (x.0, keyed_list x.1) ∷ r) (lists_of-append es fs)
+pub lists_without : (name : List ℕ) (es : List (List ℕ × HeldList)) → lists_of (without_name name es) ≡ without_name name (lists_of es)
+lists_without name [] = refl
+lists_without name (x ∷ es) = if_cases lists_of (bytes_eq name x.0) _ _ ∙ ap (λ r. cond (bytes_eq name x.0) (lists_of es) ((x.0, keyed_list x.1) ∷ r)) (lists_without name es)
 
 -- under names that `using` takes
 pub has_name_lists : (name : List ℕ) (es : List (List ℕ × HeldList)) → has_name name (lists_of es) ≡ is_some (at_name name es)
-has_name_lists name es = grind (arith, at_name-lists_of)
+has_name_lists name es = grind (arith, at_name_lists)
 
 pub lists_put_new : (name : List ℕ) (v : HeldList) (es : List (List ℕ × HeldList)) → has_name name (lists_of es) ≡ false → lists_of (put_named name v es) ≡ lists_of es ++ (name, keyed_list v) ∷ []
-lists_put_new name v es h = ap lists_of (put_named-new name v es (none_is (at_name name es) (sym (has_name_lists name es) ∙ h))) ∙ lists_of-append es ((name, v) ∷ [])
-
-pub lists_without : (name : List ℕ) (es : List (List ℕ × HeldList)) → lists_of (without_name name es) ≡ without_name name (lists_of es)
-lists_without = without_name-lists_of
+lists_put_new name v es h = ap lists_of (put_named-new name v es (none_is (at_name name es) (sym (has_name_lists name es) ∙ h))) ∙ map-append (λ (e : List ℕ × HeldList). (e.0, keyed_list e.1)) es ((name, v) ∷ [])
 
 -- ---- the order of serials
 
@@ -151,7 +140,7 @@ in_order_change n [] m e name f k h = h
 in_order_change n (l ∷ ls) m e name f k h = grind (arith, InOrder-weaken, in_order_change (suc l.1.serial) ls m e name f k h.3)
 
 pub Changes-put : (x : Content) → Changes (put_keyed x)
-Changes-put x = grind (arith, Rises-push, Rises-replace)
+Changes-put x = grind (arith, rises_last, Rises-replace)
 
 pub Changes-remove : (name : List ℕ) (version : Option (List ℕ)) → Changes (remove_keyed name version)
 Changes-remove name version = record {
@@ -173,9 +162,6 @@ pub on_ok_map : {X E : Type 0} (r : Result X E) {P Q : Type 0} → (P → Q) →
 on_ok_map (Ok x) f p = f p
 on_ok_map (Err e) f p = tt
 
-pub at_name_lists : (name : List ℕ) (es : List (List ℕ × HeldList)) → at_name name (lists_of es) ≡ option_map keyed_list (at_name name es)
-at_name_lists = at_name-lists_of
-
 pub if_some_map : {X : Type 0} (o : Option X) {P Q : X → Type 0} → ((x : X) → P x → Q x) → IfSome o P → IfSome o Q
 if_some_map None f h = tt
 if_some_map (Some x) f h = f x h
@@ -183,8 +169,7 @@ if_some_map (Some x) f h = f x h
 -- ---- the lists without serials
 
 pub at_name-stanza_lists : (name : List ℕ) (ls : List (List ℕ × KeyedList)) → at_name name (stanza_lists ls) ≡ option_map stanza_list (at_name name ls)
-at_name-stanza_lists name [] = refl
-at_name-stanza_lists name (l ∷ ls) = ap (cond (bytes_eq name l.0) (Some (stanza_list l.1))) (at_name-stanza_lists name ls) ∙ sym (if_cases (option_map stanza_list) (bytes_eq name l.0) _ _)
+at_name-stanza_lists name ls = lookup-map_values stanza_list (bytes_eq name) ls
 
 known : {X Y : Type 0} (f : X → Y) (o : Option X) → is_some (option_map f o) ≡ is_some o
 known f None = refl
@@ -209,8 +194,7 @@ shown_entries [] = refl
 shown_entries (e ∷ es) = ap (λ l. (e.0, e.1.kind, e.1.class) ∷ l) (shown_entries es)
 
 pub names_held : (es : List (List ℕ × HeldList)) → names_of (stanza_lists (lists_of es)) ≡ names_of es
-names_held [] = refl
-names_held (e ∷ es) = ap (λ l. e.0 ∷ l) (names_held es)
+names_held es = keys_of-map_values stanza_list (lists_of es) ∙ keys_of-map_values keyed_list es
 
 -- ---- lists under their own serials, of which one is changed, comes or goes
 
@@ -333,39 +317,24 @@ module _ (k : StanzaKey) where
   stays_law s (DropList name) h g = drop_stays name s.lists h
   stays_law s (Put list x) h g = change_stays list (put_keyed x) (put_key x) (put_stays x) s.lists g
   stays_law s (Remove list name version) h g = change_stays list (remove_keyed name (Some version)) (found_key name (Some version)) (remove_stays name (Some version)) s.lists h
-  stays_law s (Mark name version) h g = refl
-  stays_law s (Unmark name) h g = refl
-  stays_law s (Pin selector priority) h g = refl
-  stays_law s (Unpin selector) h g = refl
-  stays_law s (Target name) h g = refl
-  stays_law s (Prefs pins) h g = refl
+  stays_law s edit h g = refl
 
 -- ---- the lists without serials
-
-map_push : (rs : List (ℕ × Content)) (n : ℕ) (x : Content) → stanzas_of (rs ++ (n, x) ∷ []) ≡ stanzas_of rs ++ x ∷ []
-map_push [] n x = refl
-map_push (r ∷ rs) n x = ap (λ l. r.1 ∷ l) (map_push rs n x)
 
 map_replace : (rs : List (ℕ × Content)) (i : ℕ) (x : Content) → stanzas_of (replace_at rs i x) ≡ set (stanzas_of rs) i x
 map_replace [] i x = refl
 map_replace (r ∷ rs) zero x = refl
 map_replace (r ∷ rs) (suc i) x = ap (λ l. r.1 ∷ l) (map_replace rs i x)
 
-map_remove : (rs : List (ℕ × Content)) (i : ℕ) → stanzas_of (remove rs i) ≡ remove (stanzas_of rs) i
-map_remove [] zero = refl
-map_remove [] (suc i) = refl
-map_remove (r ∷ rs) zero = refl
-map_remove (r ∷ rs) (suc i) = ap (λ l. r.1 ∷ l) (map_remove rs i)
-
 pub stanzas_of-rows_from : (n : ℕ) (xs : List Content) → stanzas_of (rows_from n xs) ≡ xs
 stanzas_of-rows_from n [] = refl
 stanzas_of-rows_from n (x ∷ xs) = ap (λ l. x ∷ l) (stanzas_of-rows_from (suc n) xs)
 
 put_stanzas : (x : Content) (rows : List (ℕ × Content)) (next : ℕ) → stanzas_of (put_row_at (place (by_name_and_version (package_of x) (version_of x)) rows) x next rows) ≡ put_stanza x (stanzas_of rows)
-put_stanzas x rows next = grind (arith, place_stanzas, map_push, map_replace)
+put_stanzas x rows next = grind (arith, place_stanzas, map-append, map_replace)
 
 remove_stanzas : (name : List ℕ) (version : Option (List ℕ)) (rows : List (ℕ × Content)) → stanzas_of (remove_row_at (place (by_name_and_version name version) rows) rows) ≡ remove_stanza name version (stanzas_of rows)
-remove_stanzas name version rows = grind (arith, place_stanzas, map_remove)
+remove_stanzas name version rows = grind (arith, place_stanzas, map-remove)
 
 pub put_list : (x : Content) (l : KeyedList) → stanza_list (put_keyed x l) ≡ with_stanzas (put_stanza x) (stanza_list l)
 put_list x l = ap (λ (t : List Content). record { kind = l.kind; class = l.class; stanzas = t }) (put_stanzas x l.rows l.next)

@@ -14,13 +14,13 @@ use Rattle.ctl_stanza.specs.Content.{Content, package_of, version_of}
 use Rattle.ctl_store.specs.Step.{place, is_same, is_same_version}
 use Rattle.ctl_store.specs.Sorted.{place_in, insert_in}
 use Rattle.ctl_store.specs.Rows.{Id, id, id_of, row_id, version_id, version_order, id_cmp, ids_of, sorted_ids, lower, has_serial, IsKept, order_at, by_name_and_version, replace_at, sorted_serials, Rises, rows_from, id_at, place_cmp}
-use Rattle.ctl_store.proofs.PlaceLemmas.{and_left, place_within, place_passes, and_second, equal_is, Rises-rows_from, eq_is}
-use Rattle.ctl_store.proofs.RankedLemmas.{found_here as ranked_here, found_past as ranked_past, ranked_replace, ranked_push, ranked_remove, length-sorted_in, g, all_map, all_insert, all_sorted, all_from, Rises-labels}
+use Rattle.ctl_store.proofs.PlaceLemmas.{and_left, place_within, place_passes, and_second, equal_is, Rises-rows_from, eq_is, all_map}
+use Rattle.ctl_store.proofs.RankedLemmas.{found_here as ranked_here, found_past as ranked_past, ranked_replace, ranked_push, ranked_remove, length-sorted_in, g, all_insert, all_sorted, all_from, Rises-labels}
 use Rattle.std.specs.Vec.{vec_capacity}
 use Rattle.ctl_store.specs.HeldPieces.{joined, ArePieces, IsFit}
 use Rattle.ctl_store.specs.Keys.{KeyedList, key_of, key_at}
 use Rattle.ctl_store.specs.Held.{IsHeldList}
-use Rattle.std.proofs.lemmas.List.{drop_more, drop_all}
+use Rattle.std.proofs.lemmas.List.{drop_more, drop_all, length-map}
 use Rattle.std.specs.Option.{option_cmp}
 use Rattle.std.specs.declared.cmp.Ordering.TheVariants.{Equal, Greater}
 use Rattle.ctl_store.specs.Fronts.{front_len, filled, front_of, fronts_of}
@@ -98,10 +98,6 @@ key_read l i row within e = one_taken (λ (r : ℕ × Content). key_of l.serial 
 
 -- ---- what is kept
 
-pub same_length : {X Y : Type 0} (f : X → Y) (xs : List X) → length (map f xs) ≡ length xs
-same_length f [] = refl
-same_length f (x ∷ xs) = ap (λ n. suc n) (same_length f xs)
-
 -- pieces of which one was written
 pub fit_written : {X A B : Type 0} (ps qs ready : Vec (Vec X A) B) → IsFit ps ready → ArePieces qs.items → vec_len qs ≡ vec_len ps → vec_capacity qs ≡ vec_capacity ps → IsFit qs ready
 fit_written ps qs ready h pieces len capacity = record {
@@ -152,11 +148,11 @@ length-rows_from n (x ∷ xs) = ap (λ k. suc k) (length-rows_from (suc n) xs)
 
 -- each of them is in the order once
 pub length-serials : (xs : List Content) → length (sorted_serials (rows_from 0 xs)) ≡ length xs
-length-serials xs = grind (arith, same_length, length-sorted_in, length-rows_from)
+length-serials xs = grind (arith, length-map, length-sorted_in, length-rows_from)
 
 -- so the order is as long as the rows
 pub length-order : (rows : List (ℕ × Content)) (next : ℕ) (order : List ℕ) → IsKept rows next order → length order ≡ length rows
-length-order rows next order h = grind (arith, same_length, length-sorted_in)
+length-order rows next order h = grind (arith, length-map, length-sorted_in)
 
 -- rows from 0 on, in the order that a sort gives
 pub held_sorted : {A B : Type 0} (rows rows_ready : Vec (Vec (ℕ × Content) A) B) (next : ℕ) (order order_ready : Vec (Vec ℕ A) B) (xs : List Content)
@@ -340,7 +336,7 @@ pairs_sorted n (x ∷ xs) m h = grind (arith, pairs_insert, all_sorted, id_total
 
 -- ---- the same by the places of rows
 
-place_total : (rows : List (ℕ × Content)) → IsTotalOrder (place_cmp rows)
+pub place_total : (rows : List (ℕ × Content)) → IsTotalOrder (place_cmp rows)
 place_total rows = then_total (on_total (λ (n : ℕ). id_at rows n) (options_total id_total)) (on_total (λ (n : ℕ). n) nat_cmp_total)
 
 place_exact : (rows : List (ℕ × Content)) (a b : ℕ) → place_cmp rows a b ≡ Equal → a ≡ b
@@ -392,10 +388,6 @@ sorted_is rows xs e serials order s moved sorted =
     (pairs_up rows (sorted_ids (ids_of rows))
     (all_sorted id_cmp id_total (λ (y : ℕ × Id). id_at rows y.0 ≡ Some y.1) (ids_of rows) (subst (λ l. AllByRecursion (λ (y : ℕ × Id). id_at rows y.0 ≡ Some y.1) (ids_of l)) (sym e) (at_places rows 0 xs (λ k. ap (slice_get rows) (let z : 0 + k ≡ k = omega arith in z) ∙ ap (λ l. slice_get l k) e))))
     (pairs_sorted 0 (ids_of rows) (0 + length xs) (Rises-labels id_cmp id_total row_id 0 rows (0 + length xs) (subst (λ l. Rises 0 l (0 + length xs)) (sym e) (Rises-rows_from 0 xs)))))
-
--- the order that a sort of serials asks for
-pub place_ranks : (rows : List (ℕ × Content)) → IsTotalOrder (place_cmp rows)
-place_ranks = place_total
 
 -- what the row at a place is found by, of the stanza at that place
 pub id_at_stanza : {A : Type 0} (n : ℕ) (xs : List (Box Content A)) (k : ℕ) → id_at (rows_from n (map (λ stanza. stanza.value) xs)) k ≡ option_map (λ (x : Box Content A). id_of x.value) (slice_get xs k)

@@ -1,21 +1,20 @@
 -- The settings of one package, after one setting is set or taken out.
-use Rattle.std.proofs.Common.{◌≡◌, ℕ, ℤ, Bool, true, false, cond, List, [], ◌∷◌, refl, ap, sym, ◌∙◌, arith, nat_eq, suc, ◌+◌, ◌<◌, ◌≤◌, ◌++◌, length, map, Option, Some, None, option_map, subst, zero, ◌&&◌, filter, drop}
+use Rattle.std.proofs.Common.{◌≡◌, ℕ, ℤ, Bool, true, false, cond, List, [], ◌∷◌, refl, ap, sym, ◌∙◌, arith, nat_eq, suc, ◌+◌, ◌<◌, ◌++◌, length, map, Option, Some, None, option_map, subst, zero, ◌&&◌, filter, drop}
 use Rattle.std.specs.Map.{remove_entry, lookup}
 use Rattle.indexmap.specs.IndexMap.{insert_entry}
 use Rattle.ctl_store.specs.declared.selector.Selector.{Selector}
 use Rattle.ctl_store.specs.Pins.{selector_eq, is_of, own_settings}
 use Rattle.ctl_store.specs.SelectorLaws.{selector_eq-Decides, label_total}
 use Rattle.std.specs.Ordering.{nat_cmp, is_eq, ordering_then, is_gt, is_lt}
-use Rattle.std.proofs.lemmas.Bool.Decides.{nat_tests}
 use Rattle.std.proofs.lemmas.Cmp.{ranked}
-use Rattle.ctl_store.proofs.PlaceLemmas.{equal_is, some_is, Rises-end, eq_is, gt_ne, is_eq_from, and_left, and_second, both_true}
+use Rattle.ctl_store.proofs.PlaceLemmas.{equal_is, some_is, eq_is, is_eq_from, and_left, and_second, both_true, all_map, turned}
 use Rattle.std.specs.List.{insert, remove, AllByRecursion}
 use Rattle.ctl_ordered.specs.Ordered.{without_serials, set_row, cut_row, row_serial}
 use Rattle.ctl_store.specs.Rows.{Rises}
 use Rattle.ctl_store.specs.HeldRanks.{Label, label_cmp, labels_of, sorted_labels, labels_below, IsRanked}
 use Rattle.ctl_store.specs.Sorted.{place_in, insert_in, serials_in}
 use Rattle.ctl_store.specs.HeldPins.{own_label, own_row, own_start, own_run}
-use Rattle.ctl_store.proofs.RankedLemmas.{below_there, ranked_push, ranked_remove, g, up, lt_back, all_map, all_sorted, in_order, IsInOrder}
+use Rattle.ctl_store.proofs.RankedLemmas.{below_there, ranked_push, ranked_remove, g, up, lt_back, all_sorted, in_order, IsInOrder, all_lookup}
 use Rattle.std.specs.Option.{option_map_or}
 use Rattle.std.specs.Str.{bytes_eq}
 use Rattle.std.specs.Cmp.{nat_cmp_is}
@@ -25,55 +24,22 @@ use Rattle.std.specs.declared.cmp.Ordering.TheVariants.{Equal}
 use Rattle.std.proofs.lemmas.Map.Text.{is_eq-slice_cmp}
 use Rattle.std.proofs.lemmas.Slice.Eq.{bytes_eq-Decides}
 use Rattle.std.proofs.lemmas.List.{drop-map}
+use Rattle.ctl_ordered.proofs.SlotLemmas.{serial_least, no_cut, rises_end}
 
 same_selector : (s t : Selector) → selector_eq s t ≡ true → s ≡ t
 same_selector s t e = (selector_eq-Decides s t).0 e
 
+same_of : (q : List ℕ) (s t : Selector) → selector_eq s t ≡ true → is_of q s ≡ is_of q t
+same_of q s t e = ap (is_of q) (same_selector s t e)
+
 -- a setting of the package is set among its own, where it stands among all
 pub own_insert : (q : List ℕ) (s : Selector) (p : ℤ) (settings : List (Selector × ℤ)) → own_settings q (insert_entry selector_eq settings s p) ≡ cond (is_of q s) (insert_entry selector_eq (own_settings q settings) s p) (own_settings q settings)
 own_insert q s p [] = refl
-own_insert q s p (x ∷ settings) = by (selector_eq s x.0) refl (is_of q x.0) refl (own_insert q s p settings)
-  where
-    by : (b : Bool) → selector_eq s x.0 ≡ b → (a : Bool) → is_of q x.0 ≡ a → own_settings q (insert_entry selector_eq settings s p) ≡ cond (is_of q s) (insert_entry selector_eq (own_settings q settings) s p) (own_settings q settings)
-        → own_settings q (cond {A = List (Selector × ℤ)} b ((x.0, p) ∷ settings) (x ∷ insert_entry selector_eq settings s p))
-        ≡ cond (is_of q s) (insert_entry selector_eq (cond a (x ∷ own_settings q settings) (own_settings q settings)) s p) (cond a (x ∷ own_settings q settings) (own_settings q settings))
-    by true is true at h =
-        ap (λ b. cond {A = List (Selector × ℤ)} b ((x.0, p) ∷ own_settings q settings) (own_settings q settings)) at
-        ∙ sym (ap (λ b. cond b (insert_entry selector_eq (x ∷ own_settings q settings) s p) (x ∷ own_settings q settings)) (ap (is_of q) (same_selector s x.0 is) ∙ at)
-        ∙ ap (λ b. cond {A = List (Selector × ℤ)} b ((x.0, p) ∷ own_settings q settings) (x ∷ insert_entry selector_eq (own_settings q settings) s p)) is)
-    by true is false at h =
-        ap (λ b. cond {A = List (Selector × ℤ)} b ((x.0, p) ∷ own_settings q settings) (own_settings q settings)) at
-        ∙ sym (ap (λ b. cond b (insert_entry selector_eq (own_settings q settings) s p) (own_settings q settings)) (ap (is_of q) (same_selector s x.0 is) ∙ at))
-    by false is true at h =
-        ap (λ b. cond b (x ∷ own_settings q (insert_entry selector_eq settings s p)) (own_settings q (insert_entry selector_eq settings s p))) at
-        ∙ ap (λ l. x ∷ l) h
-        ∙ push (is_of q s)
-        ∙ ap (λ b. cond (is_of q s) (cond {A = List (Selector × ℤ)} b ((x.0, p) ∷ own_settings q settings) (x ∷ insert_entry selector_eq (own_settings q settings) s p)) (x ∷ own_settings q settings)) (sym is)
-      where
-        push : (b : Bool) → x ∷ cond b (insert_entry selector_eq (own_settings q settings) s p) (own_settings q settings) ≡ cond b (x ∷ insert_entry selector_eq (own_settings q settings) s p) (x ∷ own_settings q settings)
-        push b = grind arith
-    by false is false at h = ap (λ b. cond b (x ∷ own_settings q (insert_entry selector_eq settings s p)) (own_settings q (insert_entry selector_eq settings s p))) at ∙ h
+own_insert q s p (x ∷ settings) = grind (arith, same_of, own_insert q s p settings)
 
 pub own_remove : (q : List ℕ) (s : Selector) (settings : List (Selector × ℤ)) → own_settings q (remove_entry (selector_eq s) settings) ≡ cond (is_of q s) (remove_entry (selector_eq s) (own_settings q settings)) (own_settings q settings)
 own_remove q s [] = grind arith
-own_remove q s (x ∷ settings) = by (selector_eq s x.0) refl (is_of q x.0) refl (own_remove q s settings)
-  where
-    by : (b : Bool) → selector_eq s x.0 ≡ b → (a : Bool) → is_of q x.0 ≡ a → own_settings q (remove_entry (selector_eq s) settings) ≡ cond (is_of q s) (remove_entry (selector_eq s) (own_settings q settings)) (own_settings q settings)
-        → own_settings q (cond b settings (x ∷ remove_entry (selector_eq s) settings))
-        ≡ cond (is_of q s) (remove_entry (selector_eq s) (cond a (x ∷ own_settings q settings) (own_settings q settings))) (cond a (x ∷ own_settings q settings) (own_settings q settings))
-    by true is true at h =
-        sym (ap (λ b. cond b (remove_entry (selector_eq s) (x ∷ own_settings q settings)) (x ∷ own_settings q settings)) (ap (is_of q) (same_selector s x.0 is) ∙ at)
-        ∙ ap (λ b. cond b (own_settings q settings) (x ∷ remove_entry (selector_eq s) (own_settings q settings))) is)
-    by true is false at h = sym (ap (λ b. cond b (remove_entry (selector_eq s) (own_settings q settings)) (own_settings q settings)) (ap (is_of q) (same_selector s x.0 is) ∙ at))
-    by false is true at h =
-        ap (λ b. cond b (x ∷ own_settings q (remove_entry (selector_eq s) settings)) (own_settings q (remove_entry (selector_eq s) settings))) at
-        ∙ ap (λ l. x ∷ l) h
-        ∙ push (is_of q s)
-        ∙ ap (λ b. cond (is_of q s) (cond b (own_settings q settings) (x ∷ remove_entry (selector_eq s) (own_settings q settings))) (x ∷ own_settings q settings)) (sym is)
-      where
-        push : (b : Bool) → x ∷ cond b (remove_entry (selector_eq s) (own_settings q settings)) (own_settings q settings) ≡ cond b (x ∷ remove_entry (selector_eq s) (own_settings q settings)) (x ∷ own_settings q settings)
-        push b = grind arith
-    by false is false at h = ap (λ b. cond b (x ∷ own_settings q (remove_entry (selector_eq s) settings)) (own_settings q (remove_entry (selector_eq s) settings))) at ∙ h
+own_remove q s (x ∷ settings) = grind (arith, same_of, own_remove q s settings)
 
 -- ---- labels that tie are one, and how rows are looked up
 
@@ -84,11 +50,8 @@ same_numbers a b e = ranked a b _ (sym (equal_is (nat_cmp a b) e))
 
 -- ---- a serial that is looked up
 
-numbers_turn : (n m : ℕ) → nat_eq n m ≡ nat_eq m n
-numbers_turn n m = grind (arith, nat_tests)
-
 pub lookup_turned : {X : Type 0} (s : ℕ) (rows : List (ℕ × X)) → lookup (nat_eq s) rows ≡ lookup (λ k. nat_eq k s) rows
-lookup_turned s rows = λ j. lookup (λ k. numbers_turn s k j) rows
+lookup_turned s rows = λ j. lookup (λ k. turned s k j) rows
 
 -- ---- the order of pin settings by their packages, while one is set or taken out
 
@@ -112,11 +75,7 @@ Row = ℕ × (Selector × ℤ)
 -- a serial that was not given is of no row
 fresh : (s : Selector) (n : ℕ) (rows : List Row) (m : ℕ) → Rises n rows m → place_in label_cmp own_row (own_label m s) rows ≡ None
 fresh s n [] m h = refl
-fresh s n (r ∷ rows) m h = grind (arith, other_serial, Rises-end, fresh s (suc r.0) rows m h.1)
-
-serial_least : (test : Selector → Bool) (n : ℕ) (rows : List Row) (m serial : ℕ) → Rises n rows m → row_serial test rows ≡ Some serial → n ≤ serial
-serial_least test n [] m serial h e = cc
-serial_least test n (r ∷ rows) m serial h e = grind (arith, serial_least test (suc r.0) rows m serial h.1)
+fresh s n (r ∷ rows) m h = grind (arith, other_serial, rises_end, fresh s (suc r.0) rows m h.1)
 
 -- the row of a selector is the first of its label, and it is the one that is cut
 abbrev IsCutAt : Selector → ℕ → List Row → Type 0
@@ -144,24 +103,6 @@ cut_at s serial n (r ∷ rows) m h e = by (selector_eq s r.1.0) refl e (cut_at s
           ap (λ b. cond b (Some 0) place) (other_serial r.0 serial r.1.0 s less) ∙ ap (option_map (λ k. suc k)) cut.1,
           ap (λ l. r ∷ l) cut.2,
         )
-
-no_cut : (test : Selector → Bool) (rows : List Row) → row_serial test rows ≡ None → cut_row test rows ≡ rows
-no_cut test [] e = refl
-no_cut test (r ∷ rows) e = grind (arith, no_cut test rows)
-
--- a selector that has a row has a priority, and no other has one
-pub value_there : (test : Selector → Bool) (serial : ℕ) (rows : List Row) → row_serial test rows ≡ Some serial → (w : ℤ) × (lookup test (without_serials rows) ≡ Some w)
-value_there test serial [] e = cc
-value_there test serial (r ∷ rows) e = by (test r.1.0) e (value_there test serial rows)
-  where
-    by : (b : Bool) → cond b (Some r.0) (row_serial test rows) ≡ Some serial → (row_serial test rows ≡ Some serial → (w : ℤ) × (lookup test (without_serials rows) ≡ Some w))
-        → (w : ℤ) × (cond b (Some r.1.1) (lookup test (without_serials rows)) ≡ Some w)
-    by true e rest = (r.1.1, refl)
-    by false e rest = rest e
-
-pub value_nowhere : (test : Selector → Bool) (rows : List Row) → row_serial test rows ≡ None → lookup test (without_serials rows) ≡ None
-value_nowhere test [] e = refl
-value_nowhere test (r ∷ rows) e = grind (arith, value_nowhere test rows)
 
 -- another priority changes neither the labels nor the serials
 set_labels : (test : Selector → Bool) (w : ℤ) (rows : List Row) → labels_of own_row (set_row test rows w) ≡ labels_of own_row rows
@@ -310,23 +251,11 @@ filter-sorted q n (r ∷ rows) m h =
 
 -- ---- the settings of their serials
 
-all_from : (n : ℕ) (rows : List (ℕ × (Selector × ℤ))) (m : ℕ) → Rises n rows m → AllByRecursion (λ (r : ℕ × (Selector × ℤ)). n ≤ r.0) rows
-all_from n [] m h = tt
-all_from n (r ∷ rows) m h = (h.0, all_map (λ s k. omega (arith, h.0, k)) rows (all_from (suc r.0) rows m h.1))
-
-all_zip : {P Q R : ℕ × (Selector × ℤ) → Type 0} → ((r : ℕ × (Selector × ℤ)) → P r → Q r → R r) → (rows : List (ℕ × (Selector × ℤ))) → AllByRecursion P rows → AllByRecursion Q rows → AllByRecursion R rows
-all_zip f [] h k = tt
-all_zip f (r ∷ rows) h k = (f r h.0 k.0, all_zip f rows h.1 k.1)
-
 abbrev IsFound : List (ℕ × (Selector × ℤ)) → ℕ × (Selector × ℤ) → Type 0
 IsFound rows r = lookup (nat_eq r.0) rows ≡ Some r.1
 
 all_found : (n : ℕ) (rows : List (ℕ × (Selector × ℤ))) (m : ℕ) → Rises n rows m → AllByRecursion (IsFound rows) rows
-all_found n [] m h = tt
-all_found n (r ∷ rows) m h = (
-  ap (λ b. cond b (Some r.1) (lookup (nat_eq r.0) rows)) (eq_is r.0 r.0 refl),
-  all_zip (λ s k e. ap (λ b. cond b (Some r.1) (lookup (nat_eq s.0) rows)) (gt_ne s.0 r.0 (omega (arith, k))) ∙ e) rows (all_from (suc r.0) rows m h.1) (all_found (suc r.0) rows m h.1),
-)
+all_found n rows m h = all_map (λ r e. lookup_turned r.0 rows ∙ e) rows (all_lookup n rows m h)
 
 -- a label of a serial whose setting is there
 abbrev HasSetting : List ℕ → List (ℕ × (Selector × ℤ)) → ℕ × Label → Type 0

@@ -1,6 +1,6 @@
 -- Places in rows whose serials rise.
 use Rattle.std.proofs.Common.{◌≡◌, ℕ, zero, suc, ◌+◌, ◌<◌, ◌≤◌, Bool, true, false, cond, ◌&&◌, ◌||◌, nat_eq, List, [], ◌∷◌, ◌++◌, length, get_or, Option, None, Some, option_map, refl, ap, subst, ◌∙◌, arith}
-use Rattle.std.specs.List.{remove}
+use Rattle.std.specs.List.{remove, AllByRecursion}
 use Rattle.std.specs.Map.{lookup}
 use Rattle.std.specs.Option.{option_or}
 use Rattle.std.specs.Ordering.{is_eq}
@@ -9,6 +9,7 @@ use Rattle.std.specs.declared.cmp.Ordering.TheVariants.{Equal}
 use Rattle.std.proofs.lemmas.Bool.Decides.{nat_tests}
 use Rattle.ctl_store.specs.Step.{place}
 use Rattle.ctl_store.specs.Rows.{has_serial, Rises, replace_at, rows_from}
+use Rattle.ctl_ordered.proofs.SlotLemmas.{rises_less}
 
 pub if_cases : {A B : Type 0} (f : A → B) (b : Bool) (x y : A) → f (cond b x y) ≡ cond b (f x) (f y)
 if_cases f true x y = refl
@@ -35,10 +36,6 @@ and_left a b e = grind arith
 -- ---- serials that rise
 
 module _ {V : Type 0} where
-  pub Rises-weaken : (n k : ℕ) (rs : List (ℕ × V)) (m : ℕ) → k ≤ n → Rises n rs m → Rises k rs m
-  Rises-weaken n k [] m le h = omega arith
-  Rises-weaken n k (r ∷ rs) m le h = (omega (arith, h.0), h.1)
-
   pub Rises-from : (n : ℕ) (rs : List (ℕ × V)) (m i : ℕ) (d : ℕ × V) → Rises n rs m → i < length rs → n ≤ (get_or rs i d).0
   Rises-from n [] m i d h l = absurd (omega arith)
   Rises-from n (r ∷ rs) m zero d h l = h.0
@@ -51,17 +48,9 @@ module _ {V : Type 0} where
   Rises-up n (r ∷ rs) m (suc i) zero d h l b = absurd (omega arith)
   Rises-up n (r ∷ rs) m (suc i) (suc j) d h l b = Rises-up (suc r.0) rs m i j d h.1 (omega arith) (omega arith)
 
-  pub Rises-end : (n : ℕ) (rs : List (ℕ × V)) (m : ℕ) → Rises n rs m → n ≤ m
-  Rises-end n [] m h = h
-  Rises-end n (r ∷ rs) m h = omega (arith, h.0, Rises-end (suc r.0) rs m h.1)
-
-  pub Rises-push : (n : ℕ) (rs : List (ℕ × V)) (m : ℕ) (x : V) → Rises n rs m → Rises n (rs ++ (m, x) ∷ []) (m + 1)
-  Rises-push n [] m x h = (h, omega arith)
-  Rises-push n (r ∷ rs) m x h = (h.0, Rises-push (suc r.0) rs m x h.1)
-
   pub Rises-remove : (n : ℕ) (rs : List (ℕ × V)) (m i : ℕ) → Rises n rs m → i < length rs → Rises n (remove rs i) m
   Rises-remove n [] m i h l = absurd (omega arith)
-  Rises-remove n (y ∷ rs) m zero h l = Rises-weaken (suc y.0) n rs m (omega (arith, h.0)) h.1
+  Rises-remove n (y ∷ rs) m zero h l = rises_less (suc y.0) n rs m (omega (arith, h.0)) h.1
   Rises-remove n (y ∷ rs) m (suc i) h l = (h.0, Rises-remove (suc y.0) rs m i h.1 (omega arith))
 
 -- ---- places
@@ -69,10 +58,7 @@ module _ {V : Type 0} where
 module _ {X : Type 0} (p : X → Bool) where
   pub place_none : (xs : List X) → ((k : ℕ) (d : X) → k < length xs → p (get_or xs k d) ≡ false) → place p xs ≡ None
   place_none [] h = refl
-  place_none (x ∷ xs) h = by (p x) (h 0 x (omega arith)) (place_none xs (λ k d l. h (suc k) d (omega arith)))
-    where
-      by : (b : Bool) → b ≡ false → place p xs ≡ None → cond b (Some 0) (option_map (λ n. suc n) (place p xs)) ≡ None
-      by b e r = grind arith
+  place_none (x ∷ xs) h = grind (arith, h 0 x (omega arith), place_none xs (λ k d l. h (suc k) d (omega arith)))
 
   pub place_within : (xs : List X) (i : ℕ) → place p xs ≡ Some i → i < length xs
   place_within [] i e = cc
@@ -132,3 +118,31 @@ or_true a b h = grind arith
 
 pub is_first : (a b : Bool) → a ≡ true → (a || b) ≡ true
 is_first a b h = grind arith
+
+pub turned : (a b : ℕ) → nat_eq a b ≡ nat_eq b a
+turned a b = grind (arith, nat_tests)
+
+-- ---- what holds of all
+
+module _ {X : Type 0} {P Q : X → Type 0} where
+  pub all_map : ((x : X) → P x → Q x) → (xs : List X) → AllByRecursion P xs → AllByRecursion Q xs
+  all_map f [] h = tt
+  all_map f (x ∷ xs) h = (f x h.0, all_map f xs h.1)
+
+module _ {X : Type 0} {P Q S : X → Type 0} where
+  pub all_zip : ((x : X) → P x → Q x → S x) → (xs : List X) → AllByRecursion P xs → AllByRecursion Q xs → AllByRecursion S xs
+  all_zip f [] h k = tt
+  all_zip f (x ∷ xs) h k = (f x h.0 k.0, all_zip f xs h.1 k.1)
+
+module _ {X : Type 0} (P : X → Type 0) where
+  pub all_append : (xs ys : List X) → AllByRecursion P xs → AllByRecursion P ys → AllByRecursion P (xs ++ ys)
+  all_append [] ys h k = k
+  all_append (x ∷ xs) ys h k = (h.0, all_append xs ys h.1 k)
+
+  pub all_front : (xs ys : List X) → AllByRecursion P (xs ++ ys) → AllByRecursion P xs
+  all_front [] ys h = tt
+  all_front (x ∷ xs) ys h = (h.0, all_front xs ys h.1)
+
+  pub all_back : (xs ys : List X) → AllByRecursion P (xs ++ ys) → AllByRecursion P ys
+  all_back [] ys h = h
+  all_back (x ∷ xs) ys h = all_back xs ys h.1

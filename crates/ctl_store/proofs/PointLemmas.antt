@@ -1,5 +1,5 @@
 -- Where the items that pass a test end, in pieces.
-use Rattle.std.proofs.Common.{◌≡◌, ℕ, zero, suc, ◌+◌, ◌-◌, ◌<◌, ◌≤◌, Bool, true, false, List, [], ◌∷◌, ◌++◌, length, take, get_or, set, Vec, refl, ap, sym, subst, ◌∙◌, arith, nat_eq, nat_lt, None, Some}
+use Rattle.std.proofs.Common.{◌≡◌, ℕ, zero, suc, ◌+◌, ◌-◌, ◌<◌, ◌≤◌, Bool, true, false, List, [], ◌∷◌, ◌++◌, length, take, get_or, set, Vec, refl, ap, sym, subst, ◌∙◌, arith, nat_eq, nat_lt, None}
 use Rattle.std.specs.List.Sorted.{IsPartitionedBy, IsPartitionPoint}
 use Rattle.std.proofs.lemmas.Option.{slice_get-get_or}
 use Rattle.std.proofs.lemmas.List.{length-append, get_or-append-add, get_or_append_left, get_or_default}
@@ -8,7 +8,7 @@ use Rattle.ctl_store.specs.Step.{place}
 use Rattle.ctl_store.specs.Rows.{has_serial, Rises, replace_at, Id, id_cmp, row_id, IsKept, ids_of, sorted_ids, lower, order_at}
 use Rattle.ctl_store.specs.HeldPieces.{joined, length_at, stands_at, last_passes, ArePieces, place_of_spot, IsSpot, IsSpotOrEnd}
 use Rattle.ctl_store.specs.Spots.{IsEnd}
-use Rattle.ctl_store.proofs.PlaceLemmas.{Rises-up, place_at, place_none}
+use Rattle.ctl_store.proofs.PlaceLemmas.{Rises-up, place_none}
 use Rattle.ctl_store.proofs.PiecesLemmas.{stands_next, length_read, piece_read, spot_within}
 use Rattle.std.specs.Bool.{OnTrue}
 use Rattle.std.specs.Ordering.{is_lt}
@@ -207,10 +207,6 @@ module _ {V : Type 0} where
     where
       below : (a b s : ℕ) → a ≤ b → nat_lt b s ≡ true → nat_lt a s ≡ true
       below a b s le e = grind (arith, nat_tests, e)
-
-  -- the row of the serial stands where those of smaller ones end, or nowhere
-  pub place_there : (s n : ℕ) (rs : List (ℕ × V)) (m r : ℕ) → Rises n rs m → r < length rs → ((d : ℕ × V) → (get_or rs r d).0 ≡ s) → place (has_serial s) rs ≡ Some r
-  place_there = place_at
 
   pub place_nowhere : (s n : ℕ) (rs : List (ℕ × V)) (m r : ℕ) → Rises n rs m → IsEnd (is_below s) rs r → (r < length rs → (d : ℕ × V) → (get_or rs r d).0 ≡ s → ⊥) → place (has_serial s) rs ≡ None
   place_nowhere s n rs m r h point other =

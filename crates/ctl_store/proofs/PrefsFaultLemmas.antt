@@ -1,26 +1,26 @@
--- What is told of a field of preferences is wrong with it, and the lowest of what is wrong.
-use Rattle.std.proofs.Common.{◌≡◌, ◌∙◌, ◌≤◌, ◌++◌, ◌||◌, ℕ, Bool, true, false, cond, List, [], ◌∷◌, drop, codes, nat_eq, Option, Some, None, refl, sym, ap, ap₂, subst, arith, inl, inr, ⊎_elim, ◌+◌, ◌<◌, ◌==◌, zero, suc, length, map, get_or, slice_index, unwrap_or, ◌-◌, ℤ, take, Ok, Err}
+-- What is told of preferences is the least of their faults.
+use Rattle.std.proofs.Common.{◌≡◌, ◌∙◌, ◌≤◌, ◌++◌, ◌||◌, ℕ, Bool, true, false, cond, List, [], ◌∷◌, drop, codes, nat_eq, Option, Some, None, refl, sym, ap, ap₂, subst, arith, inl, inr, ⊎_elim, ◌+◌, ◌<◌, ◌==◌, zero, suc, length, map, slice_index, unwrap_or, ◌-◌, ℤ, take, Ok, Err, Result, ◌⊎◌}
 use Rattle.std.proofs.lemmas.Bool.{cases_Bool, cond-true, cond-false, eqb-true, cases_lt}
 use Rattle.std.proofs.lemmas.Slice.Eq.{bytes_eq-Decides}
 use Rattle.std.specs.List.{starts_with, All, Contains}
 use Rattle.std.specs.Str.{bytes_eq, str_to_ascii_lowercase}
-use Rattle.ctl_relation.specs.Names.{is_name}
 use Rattle.ctl_stanza.specs.declared.fault.Cause.{Cause}
 use Rattle.ctl_stanza.specs.Faults.{number_of, fault_or, is_empty_body, or_else}
 use Rattle.ctl_stanza.specs.Fields.{is_same_name, package_name, FieldText, fields_of_lines, body_named}
 use Rattle.ctl_store.specs.PinVersions.{is_pin_version}
 use Rattle.ctl_store.specs.Prefs.{words_of, pin_name, priority_name, is_general, are_names, version_asked, list_asked, package_cause, asked_cause, pin_cause, priority_cause, field_cause, words_in, body_in, first_wrong, is_missing, own_fault, first_own_fault, first_settings, all_settings, settings_or_fault, read_prefs_text}
-use Rattle.ctl_store.specs.PrefsFaults.{AsksForVersion, HasNoNames, IsBadList, IsBadVersion, IsVersionOfAny, AsksForNothing, IsBadPriority, IsWrongField, is_for_any, LacksPart, IsLacking, HasWrongField, HasOwnFault, HasOwnFaultAt, HasNoPrefsFault, IsLeastPrefsFault, ReadsPrefsOrTells}
+use Rattle.ctl_store.specs.PrefsFaults.{AsksForVersion, HasNoNames, IsBadList, IsBadVersion, IsVersionOfAny, AsksForNothing, IsBadPriority, IsWrongField, is_for_any, LacksPart, IsLacking, HasWrongField, HasOwnFault, HasOwnFaultAt, HasPrefsFault, IsGoodRecordAt, IsLeastPrefsFault, ReadsPrefsOrTells}
 use Rattle.std.specs.Bool.{⊤}
 use Rattle.std.specs.List.Sorted.{IsStrictlyIncreasing}
 use Rattle.std.proofs.lemmas.List.Elements.{All-head, All-tail}
 use Rattle.ctl_stanza.specs.declared.fault.TextFault.{TextFault}
-use Rattle.ctl_stanza.specs.Laws.{FieldsRise}
+use Rattle.ctl_stanza.proofs.CauseLemmas.{or-right}
+use Rattle.ctl_stanza.proofs.WholeLemmas.{Rise, rise-from, Below, below-from}
 use Rattle.ctl_stanza.specs.Records.{parts_of_field, numbered_field, record_of, RecordText, records_before_fault}
-use Rattle.std.proofs.lemmas.List.{get_or-map, get_or-take, get_or-drop, length-map}
-use Rattle.ctl_stanza.specs.LineRuns.{IsStanzaAt, Run, AreStanzasBefore}
+use Rattle.std.proofs.lemmas.List.{get_or-take, get_or-drop}
+use Rattle.ctl_stanza.specs.LineRuns.{IsStanzaAt, IsStanzaBefore, Run, AreStanzasBefore}
 use Rattle.ctl_stanza.specs.Text.{or_fault}
-use Rattle.ctl_stanza.specs.RecordLaws.{HasRecordFault, HasNoRecordFault, AreRecordsUpTo, IsLeastFaultOf, lines_kept, numbers_kept, record_at}
+use Rattle.ctl_stanza.specs.RecordLaws.{HasRecordFault, AreRecordsUpTo, IsLeastFaultOf, lines_kept, numbers_kept, record_at}
 use Rattle.ctl_store.specs.declared.selector.Selector.{Selector}
 use Rattle.ctl_stanza.specs.declared.fault.Cause.TheVariants as causes
 
@@ -73,12 +73,7 @@ asked-sound general name body (Some v) list cause is_pin asks lists e = by (is_p
     by true false p g e = absurd cc
     by false g p h e = let same : causes.Version ≡ cause = cc in
         subst (IsWrongField general name body) same (record { is_pin = is_pin; version = v; asked = asked; no_version = p })
-asked-sound general name body None (Some l) cause is_pin asks lists e = by (is_name l) refl e
-  where
-    by : (p : Bool) → is_name l ≡ p → cond p None (Some causes.Name) ≡ Some cause → IsWrongField general name body cause
-    by true p e = absurd cc
-    by false p e = let same : causes.Name ≡ cause = cc in
-        subst (IsWrongField general name body) same (inr (record { is_pin = is_pin; list = l; asked = list-asks (words_of body) l lists; no_name = p }))
+asked-sound general name body None (Some l) cause is_pin asks lists e = let asked = list-asks (words_of body) l lists in grind arith
 asked-sound general name body None None cause is_pin asks lists e =
     let same : causes.Form ≡ cause = cc in
     let nothing : AsksForNothing name body = record {
@@ -163,54 +158,41 @@ wrong-told general name body causes.Name wrong = exactly general name body cause
 wrong-told general name body causes.Version wrong = exactly general name body causes.Version (bad-version general name body wrong)
 wrong-told general name body causes.Form wrong = ⊎_elim (version-of-any general name body) (λ asks. exactly general name body causes.Form (asks-nothing general name body asks)) wrong
 wrong-told general name body causes.Priority wrong = exactly general name body causes.Priority (bad-priority general name body wrong)
-wrong-told general name body causes.TooLong wrong = absurd wrong
-wrong-told general name body causes.Line wrong = absurd wrong
-wrong-told general name body causes.FieldTwice wrong = absurd wrong
-wrong-told general name body causes.Missing wrong = absurd wrong
-wrong-told general name body causes.Relation wrong = absurd wrong
-wrong-told general name body causes.Memory wrong = absurd wrong
+wrong-told general name body cause wrong = grind arith
 
--- ---- the fault that is told of a record without a faulty line is the least of its faults
+-- ---- what is told of faults that stand at indices
 
--- ---- where fields stand
+-- a fault stands before another, or at the same index with no greater number
+abbrev IsAtMost : ℕ → Cause → ℕ → Cause → Type 0
+IsAtMost i cause j other = (i < j) ⊎ ((i ≡ j) × (number_of cause ≤ number_of other))
 
--- the lines of fields rise, and lie from one up to another
-abbrev Placed : ℕ → ℕ → List FieldText → Type 0
-Placed i m [] = ⊤
-Placed i m (f ∷ fs) = (i ≤ f.line) × (f.line < m) × Placed (suc f.line) m fs
+-- What is told is the least fault, of the line of this number; where nothing is told there is none.
+record TellsLeast (Has : ℕ → Cause → Type 0) (numbers : List ℕ) (told : Option TextFault) : Type 0 where
+  pub some : (fault : TextFault) → told ≡ Some fault → (i : ℕ) × (fault.line ≡ slice_index numbers i) × Has i fault.cause × ((j : ℕ) (cause : Cause) → Has j cause → IsAtMost i fault.cause j cause)
+  pub none : told ≡ None → (j : ℕ) (cause : Cause) → Has j cause → ⊥
 
-pub others-rise : (x : ℕ) (xs : List ℕ) → IsStrictlyIncreasing (x ∷ xs) → IsStrictlyIncreasing xs
-others-rise x xs rise = λ k lt.
-    let next : suc k + 1 ≡ suc (k + 1) = omega arith in
-    subst (λ j. slice_index xs k < slice_index (x ∷ xs) j) next (rise (suc k) (omega arith))
+abbrev fault_at : ℕ → Cause → TextFault
+fault_at line cause = record { line = line; cause = cause }
 
-abbrev lines : List FieldText → List ℕ
-lines fs = map (λ (f : FieldText). f.line) fs
+some-one : {X : Type 0} {x y : X} → Some x ≡ Some y → x ≡ y
+some-one e = cc
 
-placed-after : (f : FieldText) (m : ℕ) (fs : List FieldText) → IsStrictlyIncreasing (lines (f ∷ fs)) → All (λ (g : FieldText). g.line < m) fs → Placed (suc f.line) m fs
-placed-after f m [] rise below = tt
-placed-after f m (g ∷ fs) rise below =
-    let next : 0 + 1 ≡ 1 = omega arith in
-    let less = subst (λ j. f.line < slice_index (lines (f ∷ g ∷ fs)) j) next (rise 0 (omega arith)) in
-    (omega (arith, less), All-head (λ (x : FieldText). x.line < m) g fs below, placed-after g m fs (others-rise f.line (lines (g ∷ fs)) rise) (All-tail (λ (x : FieldText). x.line < m) g fs below))
+in-cons : {X : Type 0} (x y : X) (xs : List X) → Contains (x ∷ xs) y → (x ≡ y) ⊎ Contains xs y
+in-cons x y xs (zero, lt, is) = inl is
+in-cons x y xs (suc k, lt, is) = inr (k, omega arith, is)
 
-placed : (m : ℕ) (fs : List FieldText) → IsStrictlyIncreasing (lines fs) → All (λ (g : FieldText). g.line < m) fs → Placed 0 m fs
-placed m [] rise below = tt
-placed m (f ∷ fs) rise below = (omega arith, All-head (λ (x : FieldText). x.line < m) f fs below, placed-after f m fs rise (All-tail (λ (x : FieldText). x.line < m) f fs below))
-
--- all fields do
-abbrev pub AllRise : Type 0
-AllRise = (stanza : List (List ℕ)) → FieldsRise stanza
-
-placed-from : AllRise → (stanza : List (List ℕ)) → Placed 0 (length stanza) (fields_of_lines stanza)
-placed-from all stanza = placed (length stanza) (fields_of_lines stanza) (all stanza).rise (all stanza).within
-
-placed-reach : (i m : ℕ) (fs : List FieldText) (k : ℕ) (f : FieldText) → Placed i m fs → k < length fs → get_or fs k f ≡ f → (i ≤ f.line) × (f.line < m)
-placed-reach i m [] k f placed lt is = absurd (omega arith)
-placed-reach i m (g ∷ fs) zero f placed lt is = grind arith
-placed-reach i m (g ∷ fs) (suc k) f placed lt is = grind (arith, placed-reach (suc g.line) m fs k f placed.2 (omega arith) is)
+in-behind : {X : Type 0} (x y : X) (xs : List X) → Contains xs y → Contains (x ∷ xs) y
+in-behind x y xs has = (suc has.0, omega (arith, has.1), has.2)
 
 -- ---- the fields of a record, by the fields of its lines
+
+rise-in : (m : ℕ) (fs : List FieldText) (f : FieldText) → Rise m fs → Contains fs f → m ≤ f.line
+rise-in m [] f rise has = absurd (omega (arith, has.1))
+rise-in m (g ∷ fs) f rise has = ⊎_elim (λ e. omega (arith, rise.0, ap (λ (x : FieldText). x.line) e)) (λ later. omega (arith, rise.0, rise-in (suc g.line) fs f rise.1 later)) (in-cons g f fs has)
+
+below-in : (m : ℕ) (fs : List FieldText) (f : FieldText) → Below m fs → Contains fs f → f.line < m
+below-in m [] f below has = absurd (omega (arith, has.1))
+below-in m (g ∷ fs) f below has = ⊎_elim (λ e. omega (arith, below.0, ap (λ (x : FieldText). x.line) e)) (λ later. below-in m fs f below.1 later) (in-cons g f fs has)
 
 abbrev parts : List ℕ → List FieldText → List (List ℕ × List ℕ × ℕ)
 parts ns fs = map parts_of_field (map (numbered_field ns) fs)
@@ -221,6 +203,45 @@ body-named ns name (f ∷ fs) = ap (λ o. cond (is_same_name f.name name) (Some 
 
 general-is : (ns : List ℕ) (stanza : List (List ℕ)) → is_general (words_in package_name (parts ns (fields_of_lines stanza))) ≡ is_for_any stanza
 general-is ns stanza = ap (λ o. is_general (words_of (unwrap_or o []))) (body-named ns package_name (fields_of_lines stanza))
+
+-- a field of these is told of
+abbrev HasTold : Bool → List FieldText → ℕ → Cause → Type 0
+HasTold general fs i cause = (f : FieldText) × Contains fs f × (f.line ≡ i) × (field_cause general f.name f.body ≡ Some cause)
+
+-- of fields whose lines rise the first that is wrong is told
+first-tells : (general : Bool) (ns : List ℕ) (m : ℕ) (fs : List FieldText) → Rise m fs → TellsLeast (HasTold general fs) ns (first_wrong general (parts ns fs))
+first-tells general ns m [] rise = record { some = λ fault e. cc; none = λ e j cause has. absurd (omega (arith, has.1.1)) }
+first-tells general ns m (f ∷ fs) rise = by (field_cause general f.name f.body) refl (first-tells general ns (suc f.line) fs rise.1)
+  where
+    behind : (j : ℕ) (cause : Cause) → HasTold general fs j cause → HasTold general (f ∷ fs) j cause
+    behind j cause has = (has.0, in-behind f has.0 fs has.1, has.2, has.3)
+
+    first-or : (j : ℕ) (cause : Cause) → HasTold general (f ∷ fs) j cause → ((f.line ≡ j) × (field_cause general f.name f.body ≡ Some cause)) ⊎ HasTold general fs j cause
+    first-or j cause has = ⊎_elim
+        (λ e. inl (ap (λ (x : FieldText). x.line) e ∙ has.2, ap (λ (x : FieldText). field_cause general x.name x.body) e ∙ has.3))
+        (λ later. inr (has.0, later, has.2, has.3))
+        (in-cons f has.0 fs has.1)
+
+    by : (o : Option Cause) → field_cause general f.name f.body ≡ o → TellsLeast (HasTold general fs) ns (first_wrong general (parts ns fs)) → TellsLeast (HasTold general (f ∷ fs)) ns (fault_or (slice_index ns f.line) o (first_wrong general (parts ns fs)))
+    by (Some cause) here rest = record {
+      some = λ fault e.
+          let same : fault_at (slice_index ns f.line) cause ≡ fault = some-one e in (
+            f.line,
+            sym (ap (λ (x : TextFault). x.line) same),
+            (f, (0, omega arith, refl), refl, here ∙ ap (λ (x : TextFault). Some x.cause) same),
+            λ j other has. ⊎_elim
+                (λ first. inr (first.0, omega (arith, ap number_of (some-one (sym here ∙ first.1)), ap (λ (x : TextFault). number_of x.cause) same)))
+                (λ later. inl (omega (arith, later.2, rise-in (suc f.line) fs later.0 rise.1 later.1)))
+                (first-or j other has),
+          );
+      none = λ e j other has. cc;
+    }
+    by None here rest = record {
+      some = λ fault e.
+          let known = rest.some fault e in
+          (known.0, known.1, behind known.0 fault.cause known.2, λ j other has. ⊎_elim (λ first. absurd (none-some _ other here first.1)) (known.3 j other) (first-or j other has));
+      none = λ e j other has. ⊎_elim (λ first. none-some _ other here first.1) (rest.none e j other) (first-or j other has);
+    }
 
 -- ---- what is missing
 
@@ -234,9 +255,6 @@ empty-sound o e body is = grind (arith, nil-of)
 empty-complete : (o : Option (List ℕ)) → ((body : List ℕ) → o ≡ Some body → body ≡ []) → is_empty_body o ≡ true
 empty-complete o lacks = grind arith
 
-or-true : (a : Bool) → (a || true) ≡ true
-or-true a = grind arith
-
 abbrev is_empty_part : List ℕ → List (List ℕ) → Bool
 is_empty_part name stanza = is_empty_body (body_named name (fields_of_lines stanza))
 
@@ -247,191 +265,71 @@ missing-sound : (ns : List ℕ) (stanza : List (List ℕ)) → is_missing (parts
 missing-sound ns stanza e = grind (arith, missing-is, empty-sound)
 
 missing-complete : (ns : List ℕ) (stanza : List (List ℕ)) → LacksPart stanza → is_missing (parts ns (fields_of_lines stanza)) ≡ true
-missing-complete ns stanza lacks = grind (arith, empty-complete, or-true, missing-is)
+missing-complete ns stanza lacks = grind (arith, empty-complete, or-right, missing-is)
 
--- ---- the first field that is wrong
+-- ---- the fault of a record without a faulty line
 
-abbrev fault_at : ℕ → Cause → TextFault
-fault_at line cause = record { line = line; cause = cause }
-
-record IsFirstWrong (general : Bool) (ns : List ℕ) (fs : List FieldText) (fault : TextFault) : Type 0 where
-  pub field : FieldText
-  pub stands : Contains fs field
-  pub cause : field_cause general field.name field.body ≡ Some fault.cause
-  pub line : fault.line ≡ slice_index ns field.line
-  pub least : (g : FieldText) (c : Cause) → Contains fs g → field_cause general g.name g.body ≡ Some c → field.line ≤ g.line
-  pub one : (g : FieldText) → Contains fs g → g.line ≡ field.line → g ≡ field
-
-behind : (f g : FieldText) (fs : List FieldText) → Contains fs g → Contains (f ∷ fs) g
-behind f g fs has = (suc has.0, omega (arith, has.1), has.2)
-
-first-wrong : (general : Bool) (ns : List ℕ) (i m : ℕ) (fs : List FieldText) (fault : TextFault) → Placed i m fs → first_wrong general (parts ns fs) ≡ Some fault → IsFirstWrong general ns fs fault
-first-wrong general ns i m [] fault placed e = absurd cc
-first-wrong general ns i m (f ∷ fs) fault placed e = by (field_cause general f.name f.body) refl e (first-wrong general ns (suc f.line) m fs fault placed.2)
-  where
-    by : (o : Option Cause) → field_cause general f.name f.body ≡ o → fault_or (slice_index ns f.line) o (first_wrong general (parts ns fs)) ≡ Some fault
-        → (first_wrong general (parts ns fs) ≡ Some fault → IsFirstWrong general ns fs fault) → IsFirstWrong general ns (f ∷ fs) fault
-    by (Some cause) here e rest =
-        let same : fault_at (slice_index ns f.line) cause ≡ fault = cc in
-        record {
-          field = f;
-          stands = (0, omega arith, refl);
-          cause = here ∙ ap (λ (x : TextFault). Some x.cause) same;
-          line = sym (ap (λ (x : TextFault). x.line) same);
-          least = λ g c has is. reach g has.0 has.1 has.2;
-          one = λ g has line. same-line g has.0 has.1 has.2 line;
-        }
-      where
-        reach : (g : FieldText) (k : ℕ) → k < length (f ∷ fs) → get_or (f ∷ fs) k g ≡ g → f.line ≤ g.line
-        reach g zero lt is = omega (arith, ap (λ (x : FieldText). x.line) is)
-        reach g (suc k) lt is = omega (arith, (placed-reach (suc f.line) m fs k g placed.2 (omega arith) is).0)
-
-        same-line : (g : FieldText) (k : ℕ) → k < length (f ∷ fs) → get_or (f ∷ fs) k g ≡ g → g.line ≡ f.line → g ≡ f
-        same-line g zero lt is line = sym is
-        same-line g (suc k) lt is line = absurd (omega (arith, line, (placed-reach (suc f.line) m fs k g placed.2 (omega arith) is).0))
-    by None here e rest =
-        record {
-          field = known.field;
-          stands = behind f known.field fs known.stands;
-          cause = known.cause;
-          line = known.line;
-          least = λ g c has is. reach g c has.0 has.1 has.2 is;
-          one = λ g has line. same-line g has.0 has.1 has.2 line;
-        }
-      where
-        known : IsFirstWrong general ns fs fault
-        known = rest e
-
-        reach : (g : FieldText) (c : Cause) (k : ℕ) → k < length (f ∷ fs) → get_or (f ∷ fs) k g ≡ g → field_cause general g.name g.body ≡ Some c → known.field.line ≤ g.line
-        reach g c zero lt is wrong =
-            let clash : None ≡ Some c = sym here ∙ ap (λ (x : FieldText). field_cause general x.name x.body) is ∙ wrong in absurd cc
-        reach g c (suc k) lt is wrong = known.least g c (k, omega arith, is) wrong
-
-        same-line : (g : FieldText) (k : ℕ) → k < length (f ∷ fs) → get_or (f ∷ fs) k g ≡ g → g.line ≡ known.field.line → g ≡ known.field
-        same-line g zero lt is line =
-            let above = placed-reach (suc f.line) m fs known.stands.0 known.field placed.2 known.stands.1 known.stands.2 in
-            absurd (omega (arith, line, above.0, ap (λ (x : FieldText). x.line) is))
-        same-line g (suc k) lt is line = known.one g (k, omega arith, is) line
-
-no-wrong : (general : Bool) (ns : List ℕ) (fs : List FieldText) → first_wrong general (parts ns fs) ≡ None → (g : FieldText) (c : Cause) → Contains fs g → field_cause general g.name g.body ≡ Some c → ⊥
-no-wrong general ns [] e g c has wrong = absurd (omega (arith, has.1))
-no-wrong general ns (f ∷ fs) e g c has wrong = by (field_cause general f.name f.body) refl e (λ later there. no-wrong general ns fs later g c there wrong)
-  where
-    by : (o : Option Cause) → field_cause general f.name f.body ≡ o → fault_or (slice_index ns f.line) o (first_wrong general (parts ns fs)) ≡ None → (first_wrong general (parts ns fs) ≡ None → Contains fs g → ⊥) → ⊥
-    by (Some cause) here e rest = cc
-    by None here e rest = go has.0 has.1 has.2
-      where
-        go : (k : ℕ) → k < length (f ∷ fs) → get_or (f ∷ fs) k g ≡ g → ⊥
-        go k lt is = grind arith
-
--- ---- the fault of a record
-
-pub own-within : AllRise → (stanza : List (List ℕ)) (i : ℕ) (cause : Cause) → 0 < length stanza → HasOwnFault stanza i cause → i < length stanza
-own-within all stanza i cause some fault = ⊎_elim
+own-within : (stanza : List (List ℕ)) (i : ℕ) (cause : Cause) → 0 < length stanza → HasOwnFault stanza i cause → i < length stanza
+own-within stanza i cause some fault = ⊎_elim
     (λ (lacking : IsLacking stanza i cause). omega (arith, lacking.first_line))
-    (λ (wrong : HasWrongField stanza i cause).
-    let there = placed-reach 0 (length stanza) (fields_of_lines stanza) wrong.stands.0 wrong.field (placed-from all stanza) wrong.stands.1 wrong.stands.2 in
-    omega (arith, wrong.line, there.1))
+    (λ (wrong : HasWrongField stanza i cause). omega (arith, wrong.line, below-in (length stanza) (fields_of_lines stanza) wrong.field (below-from 0 (length stanza) stanza (omega arith)) wrong.stands))
     fault
 
 -- what is missing has the lowest number
 missing-lowest : (general : Bool) (name body : List ℕ) (cause : Cause) → IsWrongField general name body cause → 7 ≤ number_of cause
 missing-lowest general name body cause wrong = grind arith
 
--- the fault of a record whose lines have these numbers
-pub record TellsOwn (ns : List ℕ) (stanza : List (List ℕ)) (fault : TextFault) : Type 0 where
-  pub index : ℕ
-  pub within : index < length stanza
-  pub line : fault.line ≡ slice_index ns index
-  pub sound : HasOwnFault stanza index fault.cause
-  pub least : (i : ℕ) (cause : Cause) → HasOwnFault stanza i cause → index ≤ i
-  pub lowest : (cause : Cause) → HasOwnFault stanza index cause → number_of fault.cause ≤ number_of cause
-
-tells-missing : (ns : List ℕ) (stanza : List (List ℕ)) → 0 < length stanza → is_missing (parts ns (fields_of_lines stanza)) ≡ true → TellsOwn ns stanza (fault_at (slice_index ns 0) causes.Missing)
-tells-missing ns stanza some missing = record {
-  index = 0;
-  within = some;
-  line = refl;
-  sound = inl (record { missing = refl; first_line = refl; lacks = missing-sound ns stanza missing });
-  least = λ i cause has. omega arith;
-  lowest = λ cause has. ⊎_elim
-      (λ (lacking : IsLacking stanza 0 cause). omega (arith, ap number_of lacking.missing))
-      (λ (wrong : HasWrongField stanza 0 cause). missing-lowest (is_for_any stanza) wrong.field.name wrong.field.body cause wrong.wrong)
-      has;
-}
-
-not-lacking : (ns : List ℕ) (stanza : List (List ℕ)) (i : ℕ) (cause : Cause) → is_missing (parts ns (fields_of_lines stanza)) ≡ false → IsLacking stanza i cause → ⊥
-not-lacking ns stanza i cause whole lacking = let clash : true ≡ false = sym (missing-complete ns stanza lacking.lacks) ∙ whole in cc
-
-tells-wrong : AllRise → (ns : List ℕ) (stanza : List (List ℕ)) (fault : TextFault) → is_missing (parts ns (fields_of_lines stanza)) ≡ false → first_wrong (is_for_any stanza) (parts ns (fields_of_lines stanza)) ≡ Some fault
-    → TellsOwn ns stanza fault
-tells-wrong all ns stanza fault whole e =
-    let general = is_for_any stanza in
-    let fs = fields_of_lines stanza in
-    let stand = placed-from all stanza in
-    let known = first-wrong general ns 0 (length stanza) fs fault stand e in
-    let here = placed-reach 0 (length stanza) fs known.stands.0 known.field stand known.stands.1 known.stands.2 in
-    record {
-      index = known.field.line;
-      within = here.1;
-      line = known.line;
-      sound = inr (record { field = known.field; stands = known.stands; line = refl; wrong = wrong-sound general known.field.name known.field.body fault.cause known.cause });
-      least = λ i cause has. ⊎_elim
-          (λ (lacking : IsLacking stanza i cause). absurd (not-lacking ns stanza i cause whole lacking))
-          (λ (wrong : HasWrongField stanza i cause).
-          let told = wrong-told general wrong.field.name wrong.field.body cause wrong.wrong in
-          omega (arith, known.least wrong.field told.lowest wrong.stands told.told, wrong.line))
-          has;
-      lowest = λ cause has. ⊎_elim
-          (λ (lacking : IsLacking stanza known.field.line cause). absurd (not-lacking ns stanza known.field.line cause whole lacking))
-          (λ (wrong : HasWrongField stanza known.field.line cause).
-          let told = wrong-told general wrong.field.name wrong.field.body cause wrong.wrong in
-          let same = known.one wrong.field wrong.stands wrong.line in
-          let both : Some told.lowest ≡ Some fault.cause = sym told.told ∙ ap (λ (x : FieldText). field_cause general x.name x.body) same ∙ known.cause in
-          let one : told.lowest ≡ fault.cause = cc in
-          omega (arith, told.low, ap number_of one))
-          has;
-    }
-
-pub own-tells : AllRise → (ns : List ℕ) (stanza : List (List ℕ)) (fault : TextFault) → 0 < length stanza → own_fault (record_of ns stanza) ≡ Some fault → TellsOwn ns stanza fault
-own-tells all ns stanza fault some e = grind (arith, tells-missing, tells-wrong, general-is)
-
-pub own-none : (ns : List ℕ) (stanza : List (List ℕ)) → own_fault (record_of ns stanza) ≡ None → (i : ℕ) (cause : Cause) → HasOwnFault stanza i cause → ⊥
-own-none ns stanza e i cause has = by (is_missing ps) refl e
+own-tells : (ns : List ℕ) (stanza : List (List ℕ)) → TellsLeast (HasOwnFault stanza) ns (own_fault (record_of ns stanza))
+own-tells ns stanza = by (is_missing (parts ns fs)) refl (first_wrong (is_general (words_in package_name (parts ns fs))) (parts ns fs)) (ap (λ g. first_wrong g (parts ns fs)) (general-is ns stanza))
   where
-    ps : List (List ℕ × List ℕ × ℕ)
-    ps = parts ns (fields_of_lines stanza)
+    fs : List FieldText
+    fs = fields_of_lines stanza
 
-    by : (b : Bool) → is_missing ps ≡ b → cond b (Some (fault_at (slice_index ns 0) causes.Missing)) (first_wrong (is_general (words_in package_name ps)) ps) ≡ None → ⊥
-    by true missing e = cc
-    by false whole e = ⊎_elim
-        (λ (lacking : IsLacking stanza i cause). not-lacking ns stanza i cause whole lacking)
-        (λ (wrong : HasWrongField stanza i cause).
-        let general = is_for_any stanza in
-        let told = wrong-told general wrong.field.name wrong.field.body cause wrong.wrong in
-        no-wrong general ns (fields_of_lines stanza) (sym (ap (λ g. first_wrong g ps) (general-is ns stanza)) ∙ e) wrong.field told.lowest wrong.stands told.told)
-        has
+    by : (b : Bool) → is_missing (parts ns fs) ≡ b → (o : Option TextFault) → o ≡ first_wrong (is_for_any stanza) (parts ns fs) → TellsLeast (HasOwnFault stanza) ns (cond b (Some (fault_at (slice_index ns 0) causes.Missing)) o)
+    by true missing o is = record {
+      some = λ fault e.
+          let same : fault_at (slice_index ns 0) causes.Missing ≡ fault = some-one e in
+          let cause : causes.Missing ≡ fault.cause = ap (λ (x : TextFault). x.cause) same in (
+            0,
+            sym (ap (λ (x : TextFault). x.line) same),
+            inl (record { missing = sym cause; first_line = refl; lacks = missing-sound ns stanza missing }),
+            λ j other has. ⊎_elim
+                (λ (lacking : IsLacking stanza j other). inr (sym lacking.first_line, omega (arith, ap number_of cause, ap number_of lacking.missing)))
+                (λ (wrong : HasWrongField stanza j other). ⊎_elim
+                (λ later. inl later)
+                (λ first. inr (omega arith, omega (arith, ap number_of cause, missing-lowest (is_for_any stanza) wrong.field.name wrong.field.body other wrong.wrong)))
+                (cases_lt 0 j))
+                has,
+          );
+      none = λ e j other has. cc;
+    }
+    by false whole o is = record {
+      some = λ fault e.
+          let known = tells.some fault (sym is ∙ e) in
+          let f = known.2.0 in (
+            known.0,
+            known.1,
+            inr (record { field = f; stands = known.2.1; line = known.2.2; wrong = wrong-sound (is_for_any stanza) f.name f.body fault.cause known.2.3 }),
+            λ j other has. let told = own-told j other has in ⊎_elim (λ before. inl before) (λ here. inr (here.0, omega (arith, here.1, told.2))) (known.3 j told.0 told.1),
+          );
+      none = λ e j other has. let told = own-told j other has in tells.none (sym is ∙ e) j told.0 told.1;
+    }
+      where
+        tells : TellsLeast (HasTold (is_for_any stanza) fs) ns (first_wrong (is_for_any stanza) (parts ns fs))
+        tells = first-tells (is_for_any stanza) ns 0 fs (rise-from 0 stanza)
 
--- ---- the fault that is told of preferences is the least of their faults
+        own-told : (j : ℕ) (other : Cause) → HasOwnFault stanza j other → (lowest : Cause) × HasTold (is_for_any stanza) fs j lowest × (number_of lowest ≤ number_of other)
+        own-told j other has = ⊎_elim
+            (λ (lacking : IsLacking stanza j other). let clash : true ≡ false = sym (missing-complete ns stanza lacking.lacks) ∙ whole in cc)
+            (λ (wrong : HasWrongField stanza j other).
+            let told = wrong-told (is_for_any stanza) wrong.field.name wrong.field.body other wrong.wrong in
+            (told.lowest, (wrong.field, wrong.stands, wrong.line, told.told), told.low))
+            has
 
-abbrev starts : List Run → List ℕ
-starts runs = map (λ (r : Run). r.start) runs
+-- ---- the first record that has a fault of its own
 
--- ---- where runs start
-
-first-least : (r : Run) (rs : List Run) → IsStrictlyIncreasing (starts (r ∷ rs)) → (k : ℕ) → k < length (r ∷ rs) → r.start ≤ slice_index (starts (r ∷ rs)) k
-first-least r rs rise zero lt = omega arith
-first-least r rs rise (suc k) lt = grind (arith, length-map, first-least r rs rise k (omega (arith, lt)))
-
-first-of : (r : Run) (rs : List Run) (x : Run) → IsStrictlyIncreasing (starts (r ∷ rs)) → Contains (r ∷ rs) x → r.start ≤ x.start
-first-of r rs x rise has =
-    let here : slice_index (starts (r ∷ rs)) has.0 ≡ x.start = get_or-map (λ (y : Run). y.start) (r ∷ rs) has.0 x 0 has.1 ∙ ap (λ (y : Run). y.start) has.2 in
-    omega (arith, here, first-least r rs rise has.0 has.1)
-
-tail-rises : (r : Run) (rs : List Run) → IsStrictlyIncreasing (starts (r ∷ rs)) → IsStrictlyIncreasing (starts rs)
-tail-rises r rs rise = λ k lt.
-    let next : suc k + 1 ≡ suc (k + 1) = omega arith in
-    subst (λ j. slice_index (starts rs) k < slice_index (starts (r ∷ rs)) j) next (rise (suc k) (omega (arith, lt)))
+abbrev run_at : ℕ → List (List ℕ) → Run
+run_at start stanza = record { start = start; lines = stanza }
 
 -- one that starts before another ends before it
 apart : (all : List (List ℕ)) (a b : ℕ) (s t : List (List ℕ)) → IsStanzaAt all a s → IsStanzaAt all b t → a < b → a + length s ≤ b
@@ -440,203 +338,180 @@ apart all a b s t is_s is_t less = ⊎_elim
     (λ (le : a + length s ≤ b). le)
     (cases_lt b (a + length s))
 
--- at one line one starts
-alike : (all : List (List ℕ)) (a : ℕ) (s t : List (List ℕ)) → IsStanzaAt all a s → IsStanzaAt all a t → s ≡ t
-alike all a s t is_s is_t = grind arith
+-- each run has lines, and starts where those before it have ended
+abbrev Follow : ℕ → List Run → Type 0
+Follow m [] = ⊤
+Follow m (r ∷ rs) = (m ≤ r.start) × (0 < length r.lines) × Follow (r.start + length r.lines) rs
 
--- ---- the first record that has a fault of its own
+others-rise : (x : ℕ) (xs : List ℕ) → IsStrictlyIncreasing (x ∷ xs) → IsStrictlyIncreasing xs
+others-rise x xs rise = λ k lt.
+    let next : suc k + 1 ≡ suc (k + 1) = omega arith in
+    subst (λ j. slice_index xs k < slice_index (x ∷ xs) j) next (rise (suc k) (omega (arith, lt)))
 
-record IsFirstOwn (numbers : List ℕ) (runs : List Run) (fault : TextFault) : Type 0 where
-  pub run : Run
-  pub stands : Contains runs run
-  pub told : own_fault (record_at numbers run) ≡ Some fault
-  pub first : (r : Run) → Contains runs r → r.start < run.start → own_fault (record_at numbers r) ≡ None
+follow : (lines : List (List ℕ)) (end m : ℕ) (r : Run) (rs : List Run) → m ≤ r.start → All (IsStanzaBefore lines end) (r ∷ rs) → IsStrictlyIncreasing (map (λ (x : Run). x.start) (r ∷ rs)) → Follow m (r ∷ rs)
+follow lines end m r [] le stand rise = (le, (All-head (IsStanzaBefore lines end) r [] stand).0.some, tt)
+follow lines end m r (s ∷ rs) le stand rise =
+    let here = All-head (IsStanzaBefore lines end) r (s ∷ rs) stand in
+    let others = All-tail (IsStanzaBefore lines end) r (s ∷ rs) stand in
+    let next : 0 + 1 ≡ 1 = omega arith in
+    let less : r.start < s.start = subst (λ j. r.start < slice_index (map (λ (x : Run). x.start) (r ∷ s ∷ rs)) j) next (rise 0 (omega arith)) in
+    let behind = apart lines r.start s.start r.lines s.lines here.0 (All-head (IsStanzaBefore lines end) s rs others).0 less in
+    (le, here.0.some, follow lines end (r.start + length r.lines) s rs behind others (others-rise r.start (map (λ (x : Run). x.start) (s ∷ rs)) rise))
 
-first-own : (numbers : List ℕ) (runs : List Run) (fault : TextFault) → IsStrictlyIncreasing (starts runs) → first_own_fault (map (record_at numbers) runs) ≡ Some fault → IsFirstOwn numbers runs fault
-first-own numbers [] fault rise e = absurd cc
-first-own numbers (r ∷ rs) fault rise e = by (own_fault (record_at numbers r)) refl e (first-own numbers rs fault (tail-rises r rs rise))
-  where
-    by : (o : Option TextFault) → own_fault (record_at numbers r) ≡ o → or_else o (first_own_fault (map (record_at numbers) rs)) ≡ Some fault
-        → (first_own_fault (map (record_at numbers) rs) ≡ Some fault → IsFirstOwn numbers rs fault) → IsFirstOwn numbers (r ∷ rs) fault
-    by (Some own) here e rest = record {
-      run = r;
-      stands = (0, omega arith, refl);
-      told = here ∙ e;
-      first = λ x has less. absurd (omega (arith, less, first-of r rs x rise has));
-    }
-    by None here e rest = record {
-      run = known.run;
-      stands = (suc known.stands.0, omega (arith, known.stands.1), known.stands.2);
-      told = known.told;
-      first = λ x has less. go x has.0 has.1 has.2 less;
-    }
-      where
-        known : IsFirstOwn numbers rs fault
-        known = rest e
+all-follow : (lines : List (List ℕ)) (end : ℕ) (runs : List Run) → AreStanzasBefore lines end runs → Follow 0 runs
+all-follow lines end [] are = tt
+all-follow lines end (r ∷ rs) are = follow lines end 0 r rs (omega arith) are.stand are.rise
 
-        go : (x : Run) (k : ℕ) → k < length (r ∷ rs) → get_or (r ∷ rs) k x ≡ x → x.start < known.run.start → own_fault (record_at numbers x) ≡ None
-        go x zero lt is less = sym (ap (λ (y : Run). own_fault (record_at numbers y)) is) ∙ here
-        go x (suc k) lt is less = known.first x (k, omega arith, is) less
+start-in : (m : ℕ) (rs : List Run) (r : Run) → Follow m rs → Contains rs r → m ≤ r.start
+start-in m [] r follows has = absurd (omega (arith, has.1))
+start-in m (s ∷ rs) r follows has = ⊎_elim (λ e. omega (arith, follows.0, ap (λ (x : Run). x.start) e)) (λ later. omega (arith, follows.0, start-in (s.start + length s.lines) rs r follows.2 later)) (in-cons s r rs has)
 
-none-own : (numbers : List ℕ) (runs : List Run) → first_own_fault (map (record_at numbers) runs) ≡ None → (r : Run) → Contains runs r → own_fault (record_at numbers r) ≡ None
-none-own numbers [] e x has = absurd (omega (arith, has.1))
-none-own numbers (r ∷ rs) e x has = grind (arith, none-own numbers rs)
-
--- ---- the least fault
-
--- all faulty lines come from one line on
-abbrev CleanBefore : List (List ℕ) → ℕ → Type 0
-CleanBefore lines end = (i : ℕ) (cause : Cause) → HasRecordFault lines i cause → end ≤ i
-
-abbrev run_at : ℕ → List (List ℕ) → Run
-run_at start stanza = record { start = start; lines = stanza }
+-- the line at an index is one of these runs, which has this fault there
+abbrev HasOwnIn : List Run → ℕ → Cause → Type 0
+HasOwnIn rs i cause = (r : Run) × Contains rs r × (k : ℕ) × (r.start + k ≡ i) × HasOwnFault r.lines k cause
 
 -- the number of a line of a record
 number-here : (numbers : List ℕ) (from len j : ℕ) → j < len → slice_index (take len (drop from numbers)) j ≡ slice_index numbers (from + j)
 number-here numbers from len j lt = get_or-take len (drop from numbers) j 0 lt ∙ get_or-drop from numbers j 0
 
-own-least : AllRise → (n : ℕ) (text : List ℕ) (end : ℕ) (runs : List Run) (fault : TextFault) → AreStanzasBefore (lines_kept n text) end runs → CleanBefore (lines_kept n text) end
-    → first_own_fault (map (record_at (numbers_kept n text)) runs) ≡ Some fault → IsLeastPrefsFault n text fault
-own-least all n text end runs fault are clean e = record {
-  index = run.start + own.index;
-  line = own.line ∙ number-here numbers run.start (length run.lines) own.index own.within;
-  sound = inr (record { start = run.start; stanza = run.lines; is_record = record { stands = here.0; good = λ i cause ge lt has. absurd (omega (arith, clean i cause has, lt, here.1)) }; index = own.index; line = refl; fault = own.sound });
-  least = λ i cause has. ⊎_elim
-      (λ (faulty : HasRecordFault lines i cause). omega (arith, clean i cause faulty, here.1, own.within))
-      (λ (other : HasOwnFaultAt lines i cause). (reach i cause other).0)
-      has;
-  lowest = λ cause has. ⊎_elim
-      (λ (faulty : HasRecordFault lines (run.start + own.index) cause). absurd (omega (arith, clean (run.start + own.index) cause faulty, here.1, own.within)))
-      (λ (other : HasOwnFaultAt lines (run.start + own.index) cause). (reach (run.start + own.index) cause other).1 refl)
-      has;
-}
+runs-tell : (numbers : List ℕ) (m : ℕ) (rs : List Run) → Follow m rs → TellsLeast (HasOwnIn rs) numbers (first_own_fault (map (record_at numbers) rs))
+runs-tell numbers m [] follows = record { some = λ fault e. cc; none = λ e j cause has. absurd (omega (arith, has.1.1)) }
+runs-tell numbers m (r ∷ rs) follows = by (own_fault (record_at numbers r)) (own-tells (take (length r.lines) (drop r.start numbers)) r.lines) (runs-tell numbers (r.start + length r.lines) rs follows.2)
   where
-    lines : List (List ℕ)
-    lines = lines_kept n text
+    first-or : (j : ℕ) (cause : Cause) → HasOwnIn (r ∷ rs) j cause → ((k : ℕ) × (r.start + k ≡ j) × HasOwnFault r.lines k cause) ⊎ HasOwnIn rs j cause
+    first-or j cause has = ⊎_elim
+        (λ e. inl (has.2, ap (λ (x : Run). x.start + has.2) e ∙ has.3, subst (λ (x : Run). HasOwnFault x.lines has.2 cause) (sym e) has.4))
+        (λ later. inr (has.0, later, has.2, has.3, has.4))
+        (in-cons r has.0 rs has.1)
 
-    numbers : List ℕ
-    numbers = numbers_kept n text
+    by : (o : Option TextFault) → TellsLeast (HasOwnFault r.lines) (take (length r.lines) (drop r.start numbers)) o → TellsLeast (HasOwnIn rs) numbers (first_own_fault (map (record_at numbers) rs))
+        → TellsLeast (HasOwnIn (r ∷ rs)) numbers (or_else o (first_own_fault (map (record_at numbers) rs)))
+    by (Some own) here rest = record {
+      some = λ fault e.
+          let known = here.some fault e in
+          let within = own-within r.lines known.0 fault.cause follows.1 known.2 in (
+            r.start + known.0,
+            known.1 ∙ number-here numbers r.start (length r.lines) known.0 within,
+            (r, (0, omega arith, refl), known.0, refl, known.2),
+            λ j other has. ⊎_elim
+                (λ first. ⊎_elim (λ before. inl (omega (arith, before, first.1))) (λ same. inr (omega (arith, same.0, first.1), same.1)) (known.3 first.0 other first.2))
+                (λ later. inl (omega (arith, within, later.3, start-in (r.start + length r.lines) rs later.0 follows.2 later.1)))
+                (first-or j other has),
+          );
+      none = λ e j other has. cc;
+    }
+    by None here rest = record {
+      some = λ fault e.
+          let known = rest.some fault e in
+          let own = known.2 in (
+            known.0,
+            known.1,
+            (own.0, in-behind r own.0 rs own.1, own.2, own.3, own.4),
+            λ j other has. ⊎_elim (λ first. absurd (here.none refl first.0 other first.2)) (known.3 j other) (first-or j other has),
+          );
+      none = λ e j other has. ⊎_elim (λ first. here.none refl first.0 other first.2) (rest.none e j other) (first-or j other has);
+    }
 
-    known : IsFirstOwn numbers runs fault
-    known = first-own numbers runs fault are.rise e
+-- ---- the least fault
 
-    run : Run
-    run = known.run
+module _ (n : ℕ) (text : List ℕ) where
+  abbrev lines : List (List ℕ)
+  lines = lines_kept n text
 
-    here : IsStanzaAt lines run.start run.lines × (run.start + length run.lines ≤ end)
-    here = subst (λ (r : Run). IsStanzaAt lines r.start r.lines × (r.start + length r.lines ≤ end)) known.stands.2 (are.stand known.stands.0 run known.stands.1)
+  least-of : (fault : TextFault) (i : ℕ) → fault.line ≡ slice_index (numbers_kept n text) i → HasPrefsFault lines i fault.cause → ((j : ℕ) (cause : Cause) → HasPrefsFault lines j cause → IsAtMost i fault.cause j cause)
+      → IsLeastPrefsFault n text fault
+  least-of fault i line sound reach = record {
+    index = i;
+    line = line;
+    sound = sound;
+    least = λ j cause has. ⊎_elim (λ before. omega (arith, before)) (λ here. omega (arith, here.0)) (reach j cause has);
+    lowest = λ cause has. ⊎_elim (λ before. absurd (omega (arith, before))) (λ here. here.1) (reach i cause has);
+  }
 
-    own : TellsOwn (take (length run.lines) (drop run.start numbers)) run.lines fault
-    own = own-tells all (take (length run.lines) (drop run.start numbers)) run.lines fault here.0.some known.told
+  module _ (end : ℕ) (runs : List Run) (are : AreStanzasBefore lines end runs) where
+    tells : TellsLeast (HasOwnIn runs) (numbers_kept n text) (first_own_fault (map (record_at (numbers_kept n text)) runs))
+    tells = runs-tell (numbers_kept n text) 0 runs (all-follow lines end runs are)
 
-    reach : (i : ℕ) (cause : Cause) → HasOwnFaultAt lines i cause → (run.start + own.index ≤ i) × (i ≡ run.start + own.index → number_of fault.cause ≤ number_of cause)
-    reach i cause other = ⊎_elim
-        (λ (less : other.start < run.start).
-        let ends = apart lines other.start run.start other.stanza run.lines other.is_record.stands here.0 less in
-        let r = run_at other.start other.stanza in
-        let in_runs = are.whole r (other.is_record.stands, omega (arith, ends, here.1)) in
-        absurd (own-none (take (length r.lines) (drop r.start numbers)) r.lines (known.first r in_runs less) other.index cause other.fault))
-        (λ (from : run.start ≤ other.start). ⊎_elim
-        (λ (less : run.start < other.start).
-        let ends = apart lines run.start other.start run.lines other.stanza here.0 other.is_record.stands less in
-        (omega (arith, ends, own.within, other.line), λ same. absurd (omega (arith, ends, own.within, other.line, same))))
-        (λ (le : other.start ≤ run.start).
-        let start : other.start ≡ run.start = omega arith in
-        let stanza : other.stanza ≡ run.lines = alike lines run.start other.stanza run.lines (subst (λ a. IsStanzaAt lines a other.stanza) start other.is_record.stands) here.0 in
-        let fault_here = subst (λ s. HasOwnFault s other.index cause) stanza other.fault in (
-          omega (arith, own.least other.index cause fault_here, start, other.line),
-          λ same. own.lowest cause (subst (λ j. HasOwnFault run.lines j cause) (omega (arith, same, start, other.line)) fault_here),
-        ))
-        (cases_lt run.start other.start))
-        (cases_lt other.start run.start)
+    own-in : (j : ℕ) (cause : Cause) (has : HasOwnFaultAt lines j cause) → has.start + length has.stanza ≤ end → HasOwnIn runs j cause
+    own-in j cause has within = let r = run_at has.start has.stanza in (r, are.whole r (has.is_record.stands, within), has.index, has.line, has.fault)
 
--- no record before the faulty lines has a fault of its own
-no-own : (n : ℕ) (text : List ℕ) (end : ℕ) (runs : List Run) → AreStanzasBefore (lines_kept n text) end runs → first_own_fault (map (record_at (numbers_kept n text)) runs) ≡ None
-    → (i : ℕ) (cause : Cause) (has : HasOwnFaultAt (lines_kept n text) i cause) → has.start + length has.stanza ≤ end → ⊥
-no-own n text end runs are e i cause has within =
-    let r = run_at has.start has.stanza in
-    own-none (take (length r.lines) (drop r.start (numbers_kept n text))) r.lines (none-own (numbers_kept n text) runs e r (are.whole r (has.is_record.stands, within))) has.index cause has.fault
+    -- where all faulty lines come from the end on, and a record ends there or starts behind it, the fault of a record is the least
+    own-least : (fault : TextFault) → ((i : ℕ) (cause : Cause) → HasRecordFault lines i cause → end ≤ i)
+        → ((start : ℕ) (stanza : List (List ℕ)) → IsGoodRecordAt lines start stanza → (start + length stanza ≤ end) ⊎ (end < start))
+        → first_own_fault (map (record_at (numbers_kept n text)) runs) ≡ Some fault → IsLeastPrefsFault n text fault
+    own-least fault clean ends e = least-of fault known.0 known.1 (inr (record { start = r.start; stanza = r.lines; is_record = good; index = known.2.2; line = known.2.3; fault = known.2.4 }))
+        (λ j cause has. ⊎_elim
+        (λ (faulty : HasRecordFault lines j cause). inl (omega (arith, clean j cause faulty, before)))
+        (λ (other : HasOwnFaultAt lines j cause). ⊎_elim (λ within. known.3 j cause (own-in j cause other within)) (λ past. inl (omega (arith, before, past, other.line))) (ends other.start other.stanza other.is_record))
+        has)
+      where
+        known : (i : ℕ) × (fault.line ≡ slice_index (numbers_kept n text) i) × HasOwnIn runs i fault.cause × ((j : ℕ) (cause : Cause) → HasOwnIn runs j cause → IsAtMost i fault.cause j cause)
+        known = tells.some fault e
 
--- where no record has one, a faulty line is the least
-line-least : AllRise → (n : ℕ) (text : List ℕ) (fault : TextFault) (least : IsLeastFaultOf n text fault) (runs : List Run) → AreStanzasBefore (lines_kept n text) least.index runs
-    → first_own_fault (map (record_at (numbers_kept n text)) runs) ≡ None → IsLeastPrefsFault n text fault
-line-least all n text fault least runs are e = record {
-  index = least.index;
-  line = least.line;
-  sound = inl least.sound;
-  least = λ i cause has. ⊎_elim
-      (λ (faulty : HasRecordFault lines i cause). least.least i cause faulty)
-      (λ (other : HasOwnFaultAt lines i cause). ⊎_elim
-      (λ (before : i < least.index). absurd (not-before i cause other (omega arith)))
-      (λ (le : least.index ≤ i). le)
-      (cases_lt i least.index))
-      has;
-  lowest = λ cause has. ⊎_elim
-      (λ (faulty : HasRecordFault lines least.index cause). least.lowest cause faulty)
-      (λ (other : HasOwnFaultAt lines least.index cause). absurd (not-before least.index cause other (omega arith)))
-      has;
-}
-  where
-    lines : List (List ℕ)
-    lines = lines_kept n text
+        r : Run
+        r = known.2.0
 
-    not-before : (i : ℕ) (cause : Cause) → HasOwnFaultAt lines i cause → i ≤ least.index → ⊥
-    not-before i cause other le =
-        let inside = own-within all other.stanza other.index cause other.is_record.stands.some other.fault in
-        ⊎_elim
-        (λ (within : least.index < other.start + length other.stanza). other.is_record.good least.index fault.cause (omega (arith, other.line)) within least.sound)
-        (λ (past : other.start + length other.stanza ≤ least.index). no-own n text least.index runs are e i cause other past)
-        (cases_lt least.index (other.start + length other.stanza))
+        here : IsStanzaBefore lines end r
+        here = subst (IsStanzaBefore lines end) known.2.1.2 (are.stand known.2.1.0 r known.2.1.1)
 
-no-fault : (n : ℕ) (text : List ℕ) (runs : List Run) → HasNoRecordFault n text → AreStanzasBefore (lines_kept n text) (length (lines_kept n text)) runs
-    → first_own_fault (map (record_at (numbers_kept n text)) runs) ≡ None → HasNoPrefsFault n text
-no-fault n text runs none are e i cause has = ⊎_elim
-    (λ (faulty : HasRecordFault (lines_kept n text) i cause). none i cause faulty)
-    (λ (other : HasOwnFaultAt (lines_kept n text) i cause). no-own n text (length (lines_kept n text)) runs are e i cause other other.is_record.stands.within)
-    has
+        good : IsGoodRecordAt lines r.start r.lines
+        good = record { stands = here.0; good = λ i cause ge lt has. absurd (omega (arith, clean i cause has, lt, here.1)) }
 
--- ---- the law
+        before : known.0 < end
+        before = omega (arith, known.2.3, own-within r.lines known.2.2 fault.cause here.0.some known.2.4, here.1)
 
-tells-err : (n : ℕ) (text : List ℕ) (fault : TextFault) → read_prefs_text n text ≡ Err fault → IsLeastPrefsFault n text fault → ReadsPrefsOrTells n text
-tells-err n text fault is least = record {
-  read = λ settings e. let clash : Err fault ≡ Ok settings = sym is ∙ e in absurd cc;
-  told = λ other e.
-      let both : Err fault ≡ Err other = sym is ∙ e in
-      let same : fault ≡ other = cc in
-      subst (IsLeastPrefsFault n text) same least;
-}
+  -- where no record before it has one, a faulty line is the least
+  line-least : (fault : TextFault) (least : IsLeastFaultOf n text fault) (runs : List Run) → AreStanzasBefore lines least.index runs
+      → ((start : ℕ) (stanza : List (List ℕ)) → IsGoodRecordAt lines start stanza → (start + length stanza ≤ least.index) ⊎ (least.index < start))
+      → first_own_fault (map (record_at (numbers_kept n text)) runs) ≡ None → IsLeastPrefsFault n text fault
+  line-least fault least runs are ends e = least-of fault least.index least.line (inl least.sound) (λ j cause has. ⊎_elim
+      (λ (faulty : HasRecordFault lines j cause). ⊎_elim
+      (λ before. inl before)
+      (λ on. let same : j ≡ least.index = omega (arith, on, least.least j cause faulty) in inr (sym same, least.lowest cause (subst (λ i. HasRecordFault lines i cause) same faulty)))
+      (cases_lt least.index j))
+      (λ (other : HasOwnFaultAt lines j cause). ⊎_elim (λ within. absurd ((tells least.index runs are).none e j cause (own-in least.index runs are j cause other within))) (λ past. inl (omega (arith, past, other.line))) (ends other.start other.stanza other.is_record))
+      has)
 
-tells-ok : (n : ℕ) (text : List ℕ) (settings : List (Selector × ℤ)) → read_prefs_text n text ≡ Ok settings → HasNoPrefsFault n text → ReadsPrefsOrTells n text
-tells-ok n text settings is none = record {
-  read = λ others e. none;
-  told = λ fault e. let clash : Ok settings ≡ Err fault = sym is ∙ e in absurd cc;
-}
+  -- ---- the law
 
-reads-by : AllRise → (n : ℕ) (text : List ℕ) (read : List RecordText × Option TextFault) → records_before_fault n text ≡ read → AreRecordsUpTo n text read.0 read.1 → ReadsPrefsOrTells n text
-reads-by all n text (records, None) e known = by (first_own_fault records) refl
-  where
-    clean : CleanBefore (lines_kept n text) (length (lines_kept n text))
-    clean i cause has = absurd (known.0 i cause has)
+  tells-err : (fault : TextFault) → read_prefs_text n text ≡ Err fault → IsLeastPrefsFault n text fault → ReadsPrefsOrTells n text
+  tells-err fault is least = record {
+    read = λ settings e. let clash : Err fault ≡ Ok settings = sym is ∙ e in absurd cc;
+    told = λ other e. let both : Err fault ≡ Err other = sym is ∙ e in let same : fault ≡ other = cc in subst (IsLeastPrefsFault n text) same least;
+  }
 
-    by : (own : Option TextFault) → first_own_fault records ≡ own → ReadsPrefsOrTells n text
-    by (Some fault) here =
-        tells-err n text fault (ap settings_or_fault e ∙ ap (λ o. or_fault (or_else o None) (Ok (first_settings [] (all_settings records)))) here)
-        (own-least all n text (length (lines_kept n text)) known.1.runs fault known.1.are_runs clean (ap first_own_fault (sym known.1.records_are) ∙ here))
-    by None here =
-        tells-ok n text (first_settings [] (all_settings records)) (ap settings_or_fault e ∙ ap (λ o. or_fault (or_else o None) (Ok (first_settings [] (all_settings records)))) here)
-        (no-fault n text known.1.runs known.0 known.1.are_runs (ap first_own_fault (sym known.1.records_are) ∙ here))
-reads-by all n text (records, Some faulty) e known = by (first_own_fault records) refl
-  where
-    least : IsLeastFaultOf n text faulty
-    least = known.0
+  abbrev given : Option TextFault → Option TextFault → List RecordText → Result (List (Selector × ℤ)) TextFault
+  given own faulty records = or_fault (or_else own faulty) (Ok (first_settings [] (all_settings records)))
 
-    by : (own : Option TextFault) → first_own_fault records ≡ own → ReadsPrefsOrTells n text
-    by (Some fault) here =
-        tells-err n text fault (ap settings_or_fault e ∙ ap (λ o. or_fault (or_else o (Some faulty)) (Ok (first_settings [] (all_settings records)))) here)
-        (own-least all n text least.index known.1.runs fault known.1.are_runs (λ i cause has. least.least i cause has) (ap first_own_fault (sym known.1.records_are) ∙ here))
-    by None here =
-        tells-err n text faulty (ap settings_or_fault e ∙ ap (λ o. or_fault (or_else o (Some faulty)) (Ok (first_settings [] (all_settings records)))) here)
-        (line-least all n text faulty least known.1.runs known.1.are_runs (ap first_own_fault (sym known.1.records_are) ∙ here))
+  reads-by : (read : List RecordText × Option TextFault) → records_before_fault n text ≡ read → AreRecordsUpTo n text read.0 read.1 → ReadsPrefsOrTells n text
+  reads-by (records, None) e known = by (first_own_fault records) refl
+    where
+      by : (own : Option TextFault) → first_own_fault records ≡ own → ReadsPrefsOrTells n text
+      by (Some fault) here =
+          tells-err fault (ap settings_or_fault e ∙ ap (λ o. given o None records) here)
+          (own-least (length lines) known.1.runs known.1.are_runs fault (λ i cause has. absurd (known.0 i cause has)) (λ start stanza good. inl good.stands.within) (ap first_own_fault (sym known.1.records_are) ∙ here))
+      by None here = record {
+        read = λ settings is j cause has. ⊎_elim
+            (λ (faulty : HasRecordFault lines j cause). known.0 j cause faulty)
+            (λ (other : HasOwnFaultAt lines j cause). (tells (length lines) known.1.runs known.1.are_runs).none (ap first_own_fault (sym known.1.records_are) ∙ here) j cause (own-in (length lines) known.1.runs known.1.are_runs j cause other other.is_record.stands.within))
+            has;
+        told = λ fault is. let clash : Ok (first_settings [] (all_settings records)) ≡ Err fault = sym (ap settings_or_fault e ∙ ap (λ o. given o None records) here) ∙ is in absurd cc;
+      }
+  reads-by (records, Some faulty) e known = by (first_own_fault records) refl
+    where
+      ends : (start : ℕ) (stanza : List (List ℕ)) → IsGoodRecordAt lines start stanza → (start + length stanza ≤ known.0.index) ⊎ (known.0.index < start)
+      ends start stanza is = ⊎_elim
+          (λ past. inr past)
+          (λ le. ⊎_elim (λ over. absurd (is.good known.0.index faulty.cause le over known.0.sound)) (λ within. inl within) (cases_lt known.0.index (start + length stanza)))
+          (cases_lt known.0.index start)
 
-pub reads_prefs_or_tells : AllRise → (n : ℕ) (text : List ℕ) → AreRecordsUpTo n text (records_before_fault n text).0 (records_before_fault n text).1 → ReadsPrefsOrTells n text
-reads_prefs_or_tells all n text known = reads-by all n text (records_before_fault n text) refl known
+      by : (own : Option TextFault) → first_own_fault records ≡ own → ReadsPrefsOrTells n text
+      by (Some fault) here =
+          tells-err fault (ap settings_or_fault e ∙ ap (λ o. given o (Some faulty) records) here)
+          (own-least known.0.index known.1.runs known.1.are_runs fault (λ i cause has. known.0.least i cause has) ends (ap first_own_fault (sym known.1.records_are) ∙ here))
+      by None here =
+          tells-err faulty (ap settings_or_fault e ∙ ap (λ o. given o (Some faulty) records) here)
+          (line-least faulty known.0 known.1.runs known.1.are_runs ends (ap first_own_fault (sym known.1.records_are) ∙ here))
+
+  pub reads_prefs_or_tells : AreRecordsUpTo n text (records_before_fault n text).0 (records_before_fault n text).1 → ReadsPrefsOrTells n text
+  reads_prefs_or_tells known = reads-by (records_before_fault n text) refl known

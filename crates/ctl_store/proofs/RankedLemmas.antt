@@ -7,17 +7,15 @@ use Rattle.std.specs.declared.cmp.Ordering.{Ordering}
 use Rattle.std.proofs.lemmas.Cmp.{upto}
 use Rattle.ctl_store.specs.Places.{place, has_serial, Rises, replace_at}
 use Rattle.ctl_store.specs.Sorted.{insert_in, sorted_in, below_in, labelled, order_in, place_in, IsRankedBy}
-use Rattle.ctl_store.proofs.PlaceLemmas.{some_is, eq_is, lt_ne, place_within, Rises-push, Rises-replace, Rises-remove}
+use Rattle.ctl_store.proofs.PlaceLemmas.{some_is, eq_is, lt_ne, place_within, Rises-replace, Rises-remove, all_map, all_zip}
 use Rattle.std.specs.List.Sorted.{IsPartitionedBy, IsPartitionPoint}
 use Rattle.std.specs.Map.{lookup}
 use Rattle.std.specs.Option.{option_map_or}
 use Rattle.std.specs.declared.cmp.Ordering.TheVariants.{Less}
-use Rattle.std.proofs.lemmas.Option.{slice_get-get_or}
-
-module _ {X : Type 0} {P Q : X → Type 0} where
-  pub all_map : ((x : X) → P x → Q x) → (xs : List X) → AllByRecursion P xs → AllByRecursion Q xs
-  all_map f [] h = tt
-  all_map f (x ∷ xs) h = (f x h.0, all_map f xs h.1)
+use Rattle.std.proofs.lemmas.Option.{slice_get-get_or, slice_get-map, slice_get_past}
+use Rattle.std.proofs.lemmas.List.{length-map, map-append}
+use Rattle.indexmap.proofs.SetLemmas.{map-insert, map-remove}
+use Rattle.ctl_ordered.proofs.SlotLemmas.{rises_last}
 
 pub all_get : {X : Type 0} (P : X → Type 0) (xs : List X) (k : ℕ) (x : X) → AllByRecursion P xs → slice_get xs k ≡ Some x → P x
 all_get P [] k x h e = cc
@@ -224,11 +222,6 @@ module _ {L : Type 0} (R : L → L → Ordering) where
 
 -- ---- what an order of labels says of the rows, and how it changes with them
 
-past_end : {X : Type 0} (xs : List X) (k : ℕ) → length xs ≤ k → slice_get xs k ≡ None
-past_end [] k l = refl
-past_end (x ∷ xs) zero l = absurd (omega arith)
-past_end (x ∷ xs) (suc k) l = past_end xs k (omega arith)
-
 module _ {L : Type 0} where
   -- ---- each serial of the order leads to its row
 
@@ -236,16 +229,11 @@ module _ {L : Type 0} where
   all_from n [] m h = tt
   all_from n (x ∷ xs) m h = (h.0, all_map (λ y k. omega (arith, h.0, k)) xs (all_from (suc x.0) xs m h.1))
 
-  module _ {P Q S : ℕ × L → Type 0} where
-    all_both : ((x : ℕ × L) → P x → Q x → S x) → (xs : List (ℕ × L)) → AllByRecursion P xs → AllByRecursion Q xs → AllByRecursion S xs
-    all_both f [] h k = tt
-    all_both f (x ∷ xs) h k = (f x h.0 k.0, all_both f xs h.1 k.1)
-
-  all_lookup : (n : ℕ) (xs : List (ℕ × L)) (m : ℕ) → Rises n xs m → AllByRecursion (λ (x : ℕ × L). lookup (λ k. nat_eq k x.0) xs ≡ Some x.1) xs
+  pub all_lookup : (n : ℕ) (xs : List (ℕ × L)) (m : ℕ) → Rises n xs m → AllByRecursion (λ (x : ℕ × L). lookup (λ k. nat_eq k x.0) xs ≡ Some x.1) xs
   all_lookup n [] m h = tt
   all_lookup n (x ∷ xs) m h = (
     ap (λ b. cond b (Some x.1) (lookup (λ k. nat_eq k x.0) xs)) (eq_is x.0 x.0 refl),
-    all_both (λ y k e. ap (λ b. cond b (Some x.1) (lookup (λ k. nat_eq k y.0) xs)) (lt_ne x.0 y.0 (omega (arith, k))) ∙ e) xs (all_from (suc x.0) xs m h.1) (all_lookup (suc x.0) xs m h.1),
+    all_zip (λ y k e. ap (λ b. cond b (Some x.1) (lookup (λ k. nat_eq k y.0) xs)) (lt_ne x.0 y.0 (omega (arith, k))) ∙ e) xs (all_from (suc x.0) xs m h.1) (all_lookup (suc x.0) xs m h.1),
   )
 
   get_serial : (xs : List (ℕ × L)) (k : ℕ) (d : ℕ) (y : ℕ × L) → slice_get xs k ≡ Some y → get_or (map (λ (x : ℕ × L). x.0) xs) k d ≡ y.0
@@ -257,27 +245,6 @@ module _ {L : Type 0} where
   some_below [] k l = absurd (omega arith)
   some_below (x ∷ xs) zero l = (x, refl)
   some_below (x ∷ xs) (suc k) l = some_below xs k (omega arith)
-
-  length-serials : (xs : List (ℕ × L)) → length (map (λ (x : ℕ × L). x.0) xs) ≡ length xs
-  length-serials [] = refl
-  length-serials (x ∷ xs) = ap (λ n. suc n) (length-serials xs)
-
-  slice_get-serials : (xs : List (ℕ × L)) (k : ℕ) → slice_get (map (λ (x : ℕ × L). x.0) xs) k ≡ option_map (λ (x : ℕ × L). x.0) (slice_get xs k)
-  slice_get-serials [] k = refl
-  slice_get-serials (x ∷ xs) zero = refl
-  slice_get-serials (x ∷ xs) (suc k) = slice_get-serials xs k
-
-  serials-insert : (xs : List (ℕ × L)) (k : ℕ) (r : ℕ × L) → map (λ (x : ℕ × L). x.0) (insert xs k r) ≡ insert (map (λ (x : ℕ × L). x.0) xs) k r.0
-  serials-insert [] zero r = refl
-  serials-insert [] (suc k) r = refl
-  serials-insert (x ∷ xs) zero r = refl
-  serials-insert (x ∷ xs) (suc k) r = ap (λ l. x.0 ∷ l) (serials-insert xs k r)
-
-  serials-remove : (xs : List (ℕ × L)) (k : ℕ) → map (λ (x : ℕ × L). x.0) (remove xs k) ≡ remove (map (λ (x : ℕ × L). x.0) xs) k
-  serials-remove [] zero = refl
-  serials-remove [] (suc k) = refl
-  serials-remove (x ∷ xs) zero = refl
-  serials-remove (x ∷ xs) (suc k) = ap (λ l. x.0 ∷ l) (serials-remove xs k)
 
 module _ {L : Type 0} (R : L → L → Ordering) (total : IsTotalOrder R) {T : Type 0} (label : ℕ × T → L) where
   -- ---- rows and their labels
@@ -297,16 +264,6 @@ module _ {L : Type 0} (R : L → L → Ordering) (total : IsTotalOrder R) {T : T
   pub Rises-labels : (n : ℕ) (rows : List (ℕ × T)) (m : ℕ) → Rises n rows m → Rises n (labelled label rows) m
   Rises-labels n [] m h = h
   Rises-labels n (r ∷ rows) m h = (h.0, Rises-labels (suc r.0) rows m h.1)
-
-  labels-push : (rows : List (ℕ × T)) (n : ℕ) (x : T) → labelled label (rows ++ (n, x) ∷ []) ≡ labelled label rows ++ (n, label (n, x)) ∷ []
-  labels-push [] n x = refl
-  labels-push (r ∷ rows) n x = ap (λ l. (r.0, label r) ∷ l) (labels-push rows n x)
-
-  labels-remove : (rows : List (ℕ × T)) (i : ℕ) → labelled label (remove rows i) ≡ remove (labelled label rows) i
-  labels-remove [] zero = refl
-  labels-remove [] (suc i) = refl
-  labels-remove (r ∷ rows) zero = refl
-  labels-remove (r ∷ rows) (suc i) = ap (λ l. (r.0, label r) ∷ l) (labels-remove rows i)
 
   -- an item of the same label
   labels-replace : (rows : List (ℕ × T)) (i : ℕ) (x : T) → i < length rows → ((d : ℕ × T) → label (get_or rows i d) ≡ label ((get_or rows i d).0, x)) → labelled label (replace_at rows i x) ≡ labelled label rows
@@ -330,7 +287,7 @@ module _ {L : Type 0} (R : L → L → Ordering) (total : IsTotalOrder R) {T : T
 
     below : (k : ℕ) (d : ℕ) → k < length order → k < below_in R q sorted → is_lt (order_in R label rows q (get_or order k d)) ≡ true
     below k d w l =
-        let y = some_below sorted k (omega (arith, ap length kept.ordered, length-serials sorted)) in
+        let y = some_below sorted k (omega (arith, ap length kept.ordered, length-map sorted (λ (x : ℕ × L). x.0))) in
         ap (λ (s : List ℕ). is_lt (order_in R label rows q (get_or s k d))) kept.ordered
         ∙ ap (λ s. is_lt (order_in R label rows q s)) (get_serial sorted k d y.0 y.1)
         ∙ ap is_lt (order-sorted rows next kept.rises q k y.0 y.1)
@@ -338,7 +295,7 @@ module _ {L : Type 0} (R : L → L → Ordering) (total : IsTotalOrder R) {T : T
 
     above : (k : ℕ) (d : ℕ) → k < length order → below_in R q sorted ≤ k → is_lt (order_in R label rows q (get_or order k d)) ≡ false
     above k d w l =
-        let y = some_below sorted k (omega (arith, ap length kept.ordered, length-serials sorted)) in
+        let y = some_below sorted k (omega (arith, ap length kept.ordered, length-map sorted (λ (x : ℕ × L). x.0))) in
         ap (λ (s : List ℕ). is_lt (order_in R label rows q (get_or s k d))) kept.ordered
         ∙ ap (λ s. is_lt (order_in R label rows q s)) (get_serial sorted k d y.0 y.1)
         ∙ ap is_lt (order-sorted rows next kept.rises q k y.0 y.1)
@@ -349,7 +306,7 @@ module _ {L : Type 0} (R : L → L → Ordering) (total : IsTotalOrder R) {T : T
     parted i j d le l e = grind (arith, below, q, above)
 
     pub below_length : below_in R q sorted ≤ length order
-    below_length = omega (arith, lower_within R total q sorted, ap length kept.ordered, length-serials sorted)
+    below_length = omega (arith, lower_within R total q sorted, ap length kept.ordered, length-map sorted (λ (x : ℕ × L). x.0))
 
     -- the place where they end is the one that halving finds
     pub below_is : (r : ℕ) → r ≤ length order → IsPartitionPoint (λ s. is_lt (order_in R label rows q s) ≡ true) (λ s. is_lt (order_in R label rows q s) ≡ false) order r → r ≡ below_in R q sorted
@@ -366,7 +323,7 @@ module _ {L : Type 0} (R : L → L → Ordering) (total : IsTotalOrder R) {T : T
   found_place rows next order kept q =
       place-labels q rows
       ∙ by (slice_get ids (below_in R q ids)) refl
-      ∙ sym (ap (λ (s : List ℕ). at_place rows q (slice_get s (below_in R q ids))) kept.ordered ∙ ap (at_place rows q) (slice_get-serials ids (below_in R q ids)))
+      ∙ sym (ap (λ (s : List ℕ). at_place rows q (slice_get s (below_in R q ids))) kept.ordered ∙ ap (at_place rows q) (slice_get-map (λ (x : ℕ × L). x.0) ids (below_in R q ids)))
     where
       ids : List (ℕ × L)
       ids = sorted_in R (labelled label rows)
@@ -392,7 +349,7 @@ module _ {L : Type 0} (R : L → L → Ordering) (total : IsTotalOrder R) {T : T
   found_past rows next order kept q at e l =
       found_place rows next order kept q
       ∙ ap (λ k. at_place rows q (slice_get order k)) (sym e)
-      ∙ ap (at_place rows q) (past_end order at l)
+      ∙ ap (at_place rows q) (slice_get_past order at l)
 
   -- the place of a row that is there lies in the order
   pub below_there : (rows : List (ℕ × T)) (next : ℕ) (order : List ℕ) → IsRankedBy R label rows next order → (q : L) (i : ℕ)
@@ -410,12 +367,12 @@ module _ {L : Type 0} (R : L → L → Ordering) (total : IsTotalOrder R) {T : T
 
     pub ranked_push : (x : T) → place_in R label (label (next, x)) rows ≡ None → IsRankedBy R label (rows ++ (next, x) ∷ []) (next + 1) (insert order (below_in R (label (next, x)) (sorted_in R (labelled label rows))) next)
     ranked_push x e = record {
-      rises = Rises-push 0 rows next x kept.rises;
+      rises = rises_last x 0 rows next kept.rises;
       ordered =
           ap (λ (s : List ℕ). insert s k next) kept.ordered
-          ∙ sym (serials-insert (sorted_in R (labelled label rows)) k (next, q))
+          ∙ sym (map-insert (λ (x : ℕ × L). x.0) (sorted_in R (labelled label rows)) k (next, q))
           ∙ ap (map (λ (y : ℕ × L). y.0)) (sym (sorted-append R total (labelled label rows) (next, q) (find-place_none R total q (labelled label rows) (sym (place-labels q rows) ∙ e))))
-          ∙ ap (λ xs. map (λ (y : ℕ × L). y.0) (sorted_in R xs)) (sym (labels-push rows next x));
+          ∙ ap (λ xs. map (λ (y : ℕ × L). y.0) (sorted_in R xs)) (sym (map-append (λ (r : ℕ × T). (r.0, label r)) rows ((next, x) ∷ [])));
     }
       where
         q : L
@@ -429,9 +386,9 @@ module _ {L : Type 0} (R : L → L → Ordering) (total : IsTotalOrder R) {T : T
       rises = Rises-remove 0 rows next i kept.rises (place_within (λ (row : ℕ × T). is_eq (R (label row) q)) rows i e);
       ordered =
           ap (λ (s : List ℕ). remove s k) kept.ordered
-          ∙ sym (serials-remove (sorted_in R (labelled label rows)) k)
+          ∙ sym (map-remove (λ (x : ℕ × L). x.0) (sorted_in R (labelled label rows)) k)
           ∙ ap (map (λ (y : ℕ × L). y.0)) (sym (sorted-remove R total q (labelled label rows) i (sym (place-labels q rows) ∙ e)))
-          ∙ ap (λ xs. map (λ (y : ℕ × L). y.0) (sorted_in R xs)) (sym (labels-remove rows i));
+          ∙ ap (λ xs. map (λ (y : ℕ × L). y.0) (sorted_in R xs)) (sym (map-remove (λ (r : ℕ × T). (r.0, label r)) rows i));
     }
       where
         k : ℕ

@@ -7,7 +7,7 @@ use Rattle.ctl_stanza.specs.declared.list_kind.ListKind.TheVariants.{Packages, S
 use Rattle.ctl_stanza.specs.Content.{Content, content_of}
 use Rattle.ctl_store.specs.Named.{at_name, without_name, change_named}
 use Rattle.ctl_store.specs.State.{StanzaList, State, stanza_count, count_of_kind, status_count}
-use Rattle.ctl_store.specs.Edits.{Edit, AddList, DropList, Put, Remove, Mark, Unmark, Pin, Unpin, Target, Prefs}
+use Rattle.ctl_store.specs.Edits.{Edit, AddList, DropList, Put, Remove}
 use Rattle.ctl_stanza.specs.declared.fault.TextFault.{TextFault}
 use Rattle.ctl_stanza.specs.Text.{Piece, piece_fault, piece_content, with_contents, or_fault, read_pieces, is_gap}
 use Rattle.ctl_store.specs.declared.limits.Limits.{Limits}
@@ -21,7 +21,7 @@ use Rattle.ctl_ordered.specs.Ordered.{Held as Ordered, entries, next_put, withou
 use Rattle.std.specs.Map.{lookup}
 use Rattle.indexmap.specs.IndexMap.{insert_entry}
 use Rattle.ctl_store.specs.Held.{HeldList, lists_of, InOrder, AreNumbered, IsSound}
-use Rattle.ctl_store.proofs.PlaceLemmas.{Rises-rows_from}
+use Rattle.ctl_store.proofs.PlaceLemmas.{Rises-rows_from, all_append}
 use Rattle.ctl_store.proofs.ListedLemmas.{InOrder-weaken, in_order_push, in_order_without, in_order_change, Changes, new_lists, without_lists, change_lists}
 
 module _ {X : Type 0} (P : X → Type 0) where
@@ -78,10 +78,6 @@ remove_keeps name version o = λ l at h. removed_kind l.kind name version l.stan
 
 -- ---- the stanzas of a text
 
-all_with : (kind : ListKind) (xs ys : List Content) → AreOfKind kind xs → AreOfKind kind ys → AreOfKind kind (xs ++ ys)
-all_with kind [] ys h k = k
-all_with kind (x ∷ xs) ys h k = (h.0, all_with kind xs ys h.1 k)
-
 piece_kind : (kind : ListKind) (lines : List (List ℕ)) → AreOfKind kind (piece_content kind lines)
 piece_kind kind lines = by (is_gap lines)
   where
@@ -95,7 +91,7 @@ pieces_kind kind (first ∷ others) xs e = by (piece_fault kind first) (read_pie
   where
     by : (fault : Option TextFault) (read : Result (List Content) TextFault) → ((ys : List Content) → read ≡ Ok ys → AreOfKind kind ys)
         → or_fault fault (with_contents (piece_content kind first.lines) read) ≡ Ok xs → AreOfKind kind xs
-    by None (Ok ys) each e = subst (AreOfKind kind) (let same : piece_content kind first.lines ++ ys ≡ xs = cc e in same) (all_with kind (piece_content kind first.lines) ys (piece_kind kind first.lines) (each ys refl))
+    by None (Ok ys) each e = subst (AreOfKind kind) (let same : piece_content kind first.lines ++ ys ≡ xs = cc e in same) (all_append (λ (x : Content). x.kind ≡ kind) (piece_content kind first.lines) ys (piece_kind kind first.lines) (each ys refl))
     by None (Err why) each e = cc
     by (Some why) read each e = cc
 
@@ -106,12 +102,7 @@ kinds_stay s (DropList name) h b = without_kinds name s.lists h
 kinds_stay s (Put list x) h b = grind (arith, change_kinds, put_kind)
 kinds_stay s (Remove list name version) h b =
     change_kinds list (with_stanzas (remove_stanza name (Some version))) s.lists (λ l i k. removed_kind l.kind name (Some version) l.stanzas k) h
-kinds_stay s (Mark name version) h b = h
-kinds_stay s (Unmark name) h b = h
-kinds_stay s (Pin selector priority) h b = h
-kinds_stay s (Unpin selector) h b = h
-kinds_stay s (Target name) h b = h
-kinds_stay s (Prefs pins) h b = h
+kinds_stay s edit h b = h
 
 -- ---- what every store keeps, after an edit
 

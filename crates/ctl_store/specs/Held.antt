@@ -14,10 +14,10 @@ use Rattle.ctl_store.specs.Named.{at_name}
 use Rattle.ctl_store.specs.State.{State, stanza_count, status_count}
 use Rattle.ctl_store.specs.Kinds.{KeepKinds}
 use Rattle.ctl_store.specs.Edits.{Edit, AddList, Put, Mark, Pin}
-use Rattle.ctl_store.specs.Step.{refusal_of}
+use Rattle.ctl_store.specs.Step.{after, refusal_of}
 use Rattle.ctl_store.specs.Rows.{Rises, IsKept}
 use Rattle.ctl_store.specs.HeldPieces.{most_in_piece, joined, IsFit, Pieces}
-use Rattle.ctl_store.specs.Keys.{KeyedList, Keyed, stanza_lists, removed_of, added_of, coming, AreComing, AreHeld, AreNew}
+use Rattle.ctl_store.specs.Keys.{KeyedList, Keyed, keyed_after, stanza_lists, removed_of, added_of, coming, AreComing, AreHeld, AreNew}
 use Rattle.ctl_store.specs.Followed.{coming_under}
 
 -- a list with the pieces that are ready for its rows, and the room in the one that is ready for its order
@@ -192,3 +192,9 @@ pub record IsReady (h : Held) (plan : Planned) : Type 0 where
   pub added : plan.added ≡ added_of (keyed_of h) plan.edit
   pub goes : AreHeld plan.removed (keyed_of h).lists
   pub comes : AreNew plan.added plan.removed (keyed_of h).lists
+
+-- the store after an edit that it accepted
+pub record HasMade (old new : Held) (edit : Edit) : Type 0 where
+  pub state : state_of new ≡ after (state_of old) edit
+  pub keyed : keyed_of new ≡ keyed_after (keyed_of old) edit
+  pub limits : new.limits ≡ old.limits

@@ -33,4 +33,3 @@ pub mod PinLaws
 pub mod Orders
 pub mod Spots
 pub mod PrefsKept
-pub mod HeldKeys

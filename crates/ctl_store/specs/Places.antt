@@ -1,6 +1,7 @@
 -- Places in lists, and rows under serial numbers.
-use Rattle.std.specs.Prelude.{ℕ, zero, suc, ◌≤◌, Bool, List, [], ◌∷◌, Option, None, Some, option_map, nat_eq, if◌then◌else◌}
+use Rattle.std.specs.Prelude.{ℕ, zero, suc, Bool, List, [], ◌∷◌, Option, None, Some, option_map, nat_eq, if◌then◌else◌}
 use Rattle.std.specs.List.{remove}
+pub use Rattle.ctl_ordered.specs.Slots.{Rises}
 
 -- the place of the first that passes
 abbrev pub place : {X : Type 0} → (X → Bool) → List X → Option ℕ
@@ -11,11 +12,6 @@ place p (x ∷ xs) = if p x then Some 0 else option_map (λ n. suc n) (place p x
 
 abbrev pub has_serial : {V : Type 0} → ℕ → ℕ × V → Bool
 has_serial serial row = nat_eq row.0 serial
-
--- the serials rise from n on, and stay below m
-abbrev pub Rises : {V : Type 0} → ℕ → List (ℕ × V) → ℕ → Type 0
-Rises n [] m = n ≤ m
-Rises n (row ∷ rows) m = (n ≤ row.0) × Rises (suc row.0) rows m
 
 -- the row at a place takes another value
 abbrev pub replace_at : {V : Type 0} → List (ℕ × V) → ℕ → V → List (ℕ × V)

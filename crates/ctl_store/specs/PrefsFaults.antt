@@ -68,12 +68,7 @@ IsWrongField general name body causes.Name = HasNoNames name body ⊎ IsBadList 
 IsWrongField general name body causes.Version = IsBadVersion name body
 IsWrongField general name body causes.Form = IsVersionOfAny general name body ⊎ AsksForNothing name body
 IsWrongField general name body causes.Priority = IsBadPriority name body
-IsWrongField general name body causes.TooLong = ⊥
-IsWrongField general name body causes.Line = ⊥
-IsWrongField general name body causes.FieldTwice = ⊥
-IsWrongField general name body causes.Missing = ⊥
-IsWrongField general name body causes.Relation = ⊥
-IsWrongField general name body causes.Memory = ⊥
+IsWrongField general name body cause = ⊥
 
 -- ---- what is wrong with a record that has no faulty line
 

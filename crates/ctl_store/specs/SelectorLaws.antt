@@ -1,5 +1,5 @@
--- Selectors that are the same are equal, hash alike, and tie in their order.
-use Rattle.std.specs.Prelude.{◌≡◌, ◌++◌, ℕ, Bool, true, false, ◌&&◌, List, [], Option, Some, None}
+-- Selectors that are the same are equal, and tie in their order.
+use Rattle.std.specs.Prelude.{◌≡◌, ℕ, Bool, true, false, ◌&&◌, List, [], Option, Some, None}
 use Rattle.std.proofs.Common.{refl, ap, sym, ◌∙◌}
 use Rattle.std.specs.Bool.{Decides, one_answer}
 use Rattle.std.specs.Cmp.{IsEquivalence, IsTotalOrder, nat_cmp_total}
@@ -10,18 +10,11 @@ use Rattle.std.specs.declared.cmp.Ordering.{Ordering}
 use Rattle.std.specs.declared.cmp.Ordering.TheVariants.{Less, Equal, Greater}
 use Rattle.std.proofs.lemmas.Cmp.{on_total, then_total}
 use Rattle.std.proofs.lemmas.Map.Text.{is_eq-slice_cmp}
-use Rattle.std.specs.Hash as fed
 use Rattle.std.proofs.lemmas.Slice.Eq.{bytes_eq-Decides}
 use Rattle.ctl_store.specs.declared.selector.Selector.{Selector}
 use Rattle.ctl_store.specs.declared.selector.Selector.TheVariants.{Version, Release}
 use Rattle.ctl_store.specs.Pins.{package_eq, selector_eq}
 use Rattle.ctl_store.specs.HeldRanks.{Label, label_cmp, selector_label}
-
--- what is hashed of a selector
-abbrev pub selector_hash : Selector → fed.HashWrites
-selector_hash (Version name version) = fed.slice fed.u8 name ++ fed.slice fed.u8 version
-selector_hash (Release None list) = fed.slice fed.u8 list
-selector_hash (Release (Some name) list) = fed.slice fed.u8 name ++ fed.slice fed.u8 list
 
 and_first : (a b : Bool) → (a && b) ≡ true → a ≡ true
 and_first true b e = refl
@@ -69,10 +62,6 @@ selector_equiv = record {
       (λ e. sym ((selector_eq-Decides t s).0 e), λ e. (selector_eq-Decides t s).1 (sym e));
   congr = λ s t u e. ap (λ (x : Selector). selector_eq x u) ((selector_eq-Decides s t).0 e);
 }
-
--- and hash alike
-pub same_hash : (s t : Selector) → selector_eq s t ≡ true → selector_hash s ≡ selector_hash t
-same_hash s t e = ap selector_hash ((selector_eq-Decides s t).0 e)
 
 -- ---- their order
 

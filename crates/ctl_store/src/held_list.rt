@@ -22,6 +22,7 @@ use crate::store::{Keys, ListEntries};
 use ctl_relation::Version;
 use ctl_stanza::{ListKind, Stanza};
 use std::alloc::{AllocError, Global};
+use std::cell::Cell;
 use std::marker::Model;
 use std::mem;
 
@@ -35,10 +36,10 @@ pub(crate) struct HeldList {
     next: u64,
     rows: Pieces<Row>,
     order: Pieces<u64>,
-    // Where the edit that was last prepared or made is in the order. A commit follows its prepare, and edits of one stanza
-    // follow each other, and one look beside that spot is cheaper than a search. It may be out of date or past the end:
-    // nothing rests on it.
-    last: Spot,
+    // Where the edit that was last checked, prepared or made is in the order. A commit follows its prepare, and edits of one
+    // stanza follow each other, and one look beside that spot is cheaper than a search. It may be out of date or past the
+    // end: nothing rests on it.
+    last: Cell<Spot>,
 }
 
 impl Model for HeldList {
@@ -180,7 +181,7 @@ impl HeldList {
             next,
             rows,
             order,
-            last: Spot { piece: 0, at: 0 },
+            last: Cell::new(Spot { piece: 0, at: 0 }),
         }
     }
 
@@ -224,42 +225,28 @@ impl HeldList {
         stanza_of(self.rows.as_slice(), serial)
     }
 
-    // The spot in the order where a name and a version stand, or would, and the key of the first stanza that has them.
-    fn key_and_spot(&self, name: &[u8], version: Option<&Version>) -> (Spot, Option<StanzaKey>)
-        ensures key { option_to_list result.1 ≡ found_key name.now (option_copied version.entry) (keyed_list self.now) }
-        ensures found { is_some result.1 ≡ is_some (place (by_name_and_version name.now (option_copied version.entry)) self.now.rows) }
-    {
-        let rows = self.rows.as_slice();
-        match look_up(rows, self.order.as_slice(), self.last, name, version) {
-            (order_spot, Some(spot)) => {
-                let key = StanzaKey {
-                    list: self.serial,
-                    stanza: row_at(rows, spot).serial(),
-                };
-                (order_spot, Some(key))
-            }
-            (order_spot, None) => (order_spot, None),
-        }
-    }
-
-    /// The key of the first stanza of this name and an equal version.
+    /// The key of the first stanza of this name and an equal version. The next look-up tries the spot that this one found
+    /// first, so that an edit of what was asked for here needs no second search.
     pub(crate) fn found_key(&self, name: &[u8], version: Option<&Version>) -> Option<StanzaKey>
         ensures key { option_to_list result ≡ found_key name.now (option_copied version.entry) (keyed_list self.now) }
         ensures found { is_some result ≡ is_some (place (by_name_and_version name.now (option_copied version.entry)) self.now.rows) }
     {
-        self.key_and_spot(name, version).1
-    }
-
-    /// The same key. The next look-up tries the spot that this one found first, so that an edit of what was asked for here
-    /// needs no second search.
-    pub(crate) fn find_key(&mut self, name: &[u8], version: Option<&Version>) -> Option<StanzaKey>
-        ensures same { self.new ≡ self.old }
-        ensures key { option_to_list result ≡ found_key name.now (option_copied version.entry) (keyed_list self.old) }
-        ensures found { is_some result ≡ is_some (place (by_name_and_version name.now (option_copied version.entry)) self.old.rows) }
-    {
-        let (spot, key) = self.key_and_spot(name, version);
-        self.last = spot;
-        key
+        let rows = self.rows.as_slice();
+        let (order_spot, place) = look_up(
+            rows,
+            self.order.as_slice(),
+            self.last.get(),
+            name,
+            version,
+        );
+        self.last.set(order_spot);
+        match place {
+            Some(spot) => Some(StanzaKey {
+                list: self.serial,
+                stanza: row_at(rows, spot).serial(),
+            }),
+            None => None,
+        }
     }
 
     /// The serial of its next new stanza.
@@ -293,7 +280,7 @@ impl HeldList {
             &mut self.rows,
             &mut self.next,
             &mut self.order,
-            &mut self.last,
+            &self.last,
             stanza,
         );
         self.rows.forget_room();
@@ -308,13 +295,7 @@ impl HeldList {
         ensures rows { self.new.rows ≡ remove_row name.now (option_copied version.entry) self.old.rows }
         ensures next { self.new.next ≡ self.old.next }
     {
-        remove_from(
-            &mut self.rows,
-            &mut self.order,
-            &mut self.last,
-            name,
-            version,
-        );
+        remove_from(&mut self.rows, &mut self.order, &self.last, name, version);
     }
 }
 
@@ -323,7 +304,7 @@ fn put_in(
     rows: &mut Pieces<Row>,
     next: &mut u64,
     order: &mut Pieces<u64>,
-    last: &mut Spot,
+    last: &Cell<Spot>,
     stanza: Box<Stanza>,
 )
     requires held { IsHeldList rows.old.pieces rows.old.ready next.old order.old.pieces order.old.ready }
@@ -337,11 +318,11 @@ fn put_in(
     let (order_spot, place) = look_up(
         rows.as_slice(),
         order.as_slice(),
-        *last,
+        last.get(),
         stanza.package(),
         stanza.version(),
     );
-    *last = order_spot;
+    last.set(order_spot);
     match place {
         Some(spot) => replace_row(&mut rows.pieces, spot, stanza),
         None => {
@@ -356,7 +337,7 @@ fn put_in(
 fn remove_from(
     rows: &mut Pieces<Row>,
     order: &mut Pieces<u64>,
-    last: &mut Spot,
+    last: &Cell<Spot>,
     name: &[u8],
     version: Option<&Version>,
 )
@@ -365,8 +346,8 @@ fn remove_from(
         → IsHeldList rows.new.pieces rows.new.ready next order.new.pieces order.new.ready }
     ensures rows { joined rows.new.pieces.items ≡ remove_row name.now (option_copied version.entry) (joined rows.old.pieces.items) }
 {
-    let (order_spot, place) = look_up(rows.as_slice(), order.as_slice(), *last, name, version);
-    *last = order_spot;
+    let (order_spot, place) = look_up(rows.as_slice(), order.as_slice(), last.get(), name, version);
+    last.set(order_spot);
     match place {
         Some(spot) => {
             order.remove(order_spot);

@@ -13,7 +13,7 @@ ghost use Rattle.ctl_store.specs.PinLaws.{SetsOwn, TakesOwn};
 ghost use Rattle.ctl_store.specs.PrefsFaults.{ReadsPrefsOrTells};
 ghost use Rattle.ctl_store.specs.PrefsLaws.{CountsFirst};
 
-use ctl_stanza::{fields_stand_in_order, records_are_runs};
+use ctl_stanza::records_are_runs;
 
 /// Of preferences that are read each selector has the priority of its first setting in the text, and no other is set.
 pub fn first_setting_counts()
@@ -26,7 +26,6 @@ pub fn told_prefs_fault_is_least()
     ensures { (n : ℕ) (text : List ℕ) → ReadsPrefsOrTells n text }
 {
     records_are_runs();
-    fields_stand_in_order();
 }
 
 /// A specific pin that is set or taken out is set or taken out among those of its package, and leaves those of others.

@@ -1,17 +1,12 @@
 //! The list of a serial number, and changes of one list in its place.
 
-ghost use Rattle.std.specs.Prelude.{◌≡◌, ◌<◌, ◌+◌, ◌^◌, Some, IfSome, OnOk, false, is_some, option_copied, option_map};
-ghost use Rattle.std.specs.Option.{option_map_or, option_to_list};
+ghost use Rattle.std.specs.Prelude.{◌≡◌, ◌<◌, ◌+◌, ◌^◌, Some, IfSome, OnOk, option_map};
 ghost use Rattle.ctl_ordered.specs.Ordered.{entries};
 ghost use Rattle.ctl_store.specs.Named.{at_name, change_named};
-ghost use Rattle.ctl_store.specs.Step.{place};
-ghost use Rattle.ctl_store.specs.Rows.{by_name_and_version};
 ghost use Rattle.ctl_store.specs.Keys.{put_keyed, remove_keyed};
-ghost use Rattle.ctl_store.specs.HeldKeys.{key_in};
 ghost use Rattle.ctl_store.specs.Held.{lists_of, entry_of, AreNumbered, HasRoomInList};
 
 use crate::held_list::HeldList;
-use crate::stanza_key::StanzaKey;
 use ctl_ordered::Ordered;
 use ctl_relation::{Bytes, Version};
 use ctl_stanza::Stanza;
@@ -24,25 +19,6 @@ pub(crate) fn entry_of(lists: &Ordered<Bytes, HeldList>, serial: u32) -> Option<
 {
     match lists.at(u64::from(serial)) {
         Some((name, list)) => Some((name.as_slice(), list)),
-        None => None,
-    }
-}
-
-/// The key of the first stanza of a name and an equal version in a list. The list's next look-up begins where it stands.
-pub(crate) fn find_in(
-    lists: &mut Ordered<Bytes, HeldList>,
-    list: &Bytes,
-    name: &[u8],
-    version: Option<&Version>,
-) -> Option<StanzaKey>
-    ensures same { lists.new ≡ lists.old }
-    ensures key { option_to_list result ≡ key_in list.now name.now (option_copied version.entry) (entries lists.old) }
-    ensures found { is_some result
-        ≡ option_map_or (λ s. is_some (place (by_name_and_version name.now (option_copied version.entry)) s.rows))
-        (at_name list.now (entries lists.old)) false }
-{
-    match lists.get_mut(list) {
-        Some(listed) => listed.find_key(name, version),
         None => None,
     }
 }

@@ -6,7 +6,6 @@ ghost use Rattle.ctl_store.specs.Pins.{package_eq};
 use crate::pin_version::PinVersion;
 use ctl_relation::Bytes;
 use std::alloc::{AllocError, Global};
-use std::hash::{Hash, Hasher};
 
 /// What a pin setting is for (apt_preferences(5)). A release pin names a list: a list's name is its archive, which apt
 /// writes `a=NAME`.
@@ -115,34 +114,4 @@ impl Eq for Selector {
     ghost use Rattle.ctl_store.specs.SelectorLaws.{selector_equiv};
 
     ghost laws = { selector_equiv };
-}
-
-impl Hash for Selector {
-    ghost use Rattle.ctl_store.specs.SelectorLaws.{selector_hash, same_hash};
-
-    ghost hash_input = { selector_hash };
-
-    ghost respects_eq = { same_hash };
-
-    fn hash<H: Hasher>(&self, state: &mut H) {
-        match self {
-            Selector::Version { package, version } => {
-                package.as_slice().hash(state);
-                version.text().hash(state);
-            }
-            Selector::Release {
-                package: None,
-                list,
-            } => {
-                list.as_slice().hash(state);
-            }
-            Selector::Release {
-                package: Some(package),
-                list,
-            } => {
-                package.as_slice().hash(state);
-                list.as_slice().hash(state);
-            }
-        }
-    }
 }

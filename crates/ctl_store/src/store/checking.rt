@@ -13,7 +13,6 @@ ghost use Rattle.ctl_store.specs.Keys.{found_in, found_of};
 ghost use Rattle.ctl_store.specs.Held.{state_of, keyed_of};
 
 use crate::edit::Edit;
-use crate::lists::find_in;
 use crate::refusal::Refusal;
 use crate::selector::Selector;
 use crate::stanza_key::StanzaKey;
@@ -28,24 +27,6 @@ pub(super) fn one_if_status(kind: ListKind) -> u32
     match kind {
         ListKind::Packages => 0,
         ListKind::Status => 1,
-    }
-}
-
-fn is_status(kind: ListKind) -> bool
-    ensures { result ≡ is_status kind }
-{
-    match kind {
-        ListKind::Packages => false,
-        ListKind::Status => true,
-    }
-}
-
-fn is_same_kind(one: ListKind, other: ListKind) -> bool
-    ensures { result ≡ is_same_kind one other }
-{
-    match one {
-        ListKind::Packages => !is_status(other),
-        ListKind::Status => is_status(other),
     }
 }
 
@@ -69,7 +50,7 @@ impl Store {
         ensures { result ≡ takes_kind kind list.now (state_of self.now).lists }
     {
         match self.lists.get(list) {
-            Some(listed) => is_same_kind(kind, listed.kind()),
+            Some(listed) => kind == listed.kind(),
             None => false,
         }
     }
@@ -85,7 +66,7 @@ impl Store {
         }
     }
 
-    // The key of the first stanza of this name and an equal version in a list.
+    // The key of the first stanza of this name and an equal version in a list, whose next look-up begins where it stands.
     #[tactic(auto, using(crate::proofs::ListedLemmas::at_name_lists, crate::proofs::ListedLemmas::has_stanza_held))]
     fn found_in(&self, list: &Bytes, name: &[u8], version: Option<&Version>) -> Option<StanzaKey>
         ensures key { option_to_list result ≡ found_in list.now name.now (option_copied version.entry) (keyed_of self.now).lists }
@@ -97,17 +78,7 @@ impl Store {
         }
     }
 
-    // The same key as `found_in`. The list's next look-up begins where it stands.
-    #[tactic(auto, using(crate::proofs::ListedLemmas::at_name_lists, crate::proofs::ListedLemmas::has_stanza_held))]
-    fn seek_in(&mut self, list: &Bytes, name: &[u8], version: Option<&Version>) -> Option<StanzaKey>
-        ensures same { self.new ≡ self.old }
-        ensures key { option_to_list result ≡ found_in list.now name.now (option_copied version.entry) (keyed_of self.old).lists }
-        ensures there { is_some result ≡ has_stanza list.now name.now (option_copied version.entry) (state_of self.old).lists }
-    {
-        find_in(&mut self.lists, list, name, version)
-    }
-
-    // The key of the stanza that an edit takes out or replaces.
+    // The key of the stanza that an edit takes out or replaces. Its commit finds at one look what this searched for.
     pub(super) fn found(&self, edit: &Edit) -> Option<StanzaKey>
         ensures key { option_to_list result ≡ found_of (keyed_of self.now) (edit_of edit.now) }
         ensures there { is_some result ≡ is_there (state_of self.now) (edit_of edit.now) }
@@ -121,23 +92,6 @@ impl Store {
                 package,
                 version,
             } => self.found_in(list, package.as_slice(), Some(version)),
-            _ => None,
-        }
-    }
-
-    /// The same key as `found`, for an edit that is about to be made: its commit finds at one look what this searched for.
-    pub(super) fn seek(&mut self, edit: &Edit) -> Option<StanzaKey>
-        ensures same { self.new ≡ self.old }
-        ensures key { option_to_list result ≡ found_of (keyed_of self.old) (edit_of edit.now) }
-        ensures there { is_some result ≡ is_there (state_of self.old) (edit_of edit.now) }
-    {
-        match edit {
-            Edit::Put { list, stanza } => { self.seek_in(list, stanza.package(), stanza.version()) }
-            Edit::Remove {
-                list,
-                package,
-                version,
-            } => self.seek_in(list, package.as_slice(), Some(version)),
             _ => None,
         }
     }
@@ -162,7 +116,8 @@ impl Store {
     {
         match edit {
             Edit::AddList { name, .. } if self.has_list(name) => Some(Refusal::ListExists),
-            Edit::AddList { stanzas, .. } if is_status(stanzas.kind()) && self.has_status() => {
+            Edit::AddList { stanzas, .. }
+                if stanzas.kind() == ListKind::Status && self.has_status() => {
                 Some(Refusal::StatusExists)
             }
             Edit::DropList { name } if !self.has_list(name) => Some(Refusal::NoList),

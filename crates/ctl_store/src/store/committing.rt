@@ -11,7 +11,7 @@ ghost use Rattle.ctl_store.specs.Entries.{IsChange};
 ghost use Rattle.ctl_store.specs.Given.{IsGivenOnce};
 ghost use Rattle.ctl_store.specs.Kinds.{AreOfKind};
 ghost use Rattle.ctl_store.specs.NewLists.{adding};
-ghost use Rattle.ctl_store.specs.Held.{state_of, keyed_of, IsReady, HasRoom, HasRoomInList, Fits};
+ghost use Rattle.ctl_store.specs.Held.{state_of, keyed_of, HasMade, IsReady, HasRoom, HasRoomInList, Fits};
 
 use crate::edit::Edit;
 use crate::held_list::{HeldList, ListRoom, NewList};
@@ -70,9 +70,7 @@ impl Store {
         requires accepted { refusal_of self.old.limits (state_of self.old) (edit_of edit) ≡ None }
         requires gone { gone ≡ length (removed_of (keyed_of self.old) (edit_of edit)) }
         requires room { HasRoom self.old list_room.old (edit_of edit) }
-        ensures state { state_of self.new ≡ after (state_of self.old) (edit_of edit) }
-        ensures keyed { keyed_of self.new ≡ keyed_after (keyed_of self.old) (edit_of edit) }
-        ensures limits { self.new.limits ≡ self.old.limits }
+        ensures { HasMade self.old self.new (edit_of edit) }
     {
         match edit {
             Edit::AddList {
@@ -113,9 +111,7 @@ impl Store {
         requires kinds { AreOfKind list.kind (map (λ stanza. stanza.value) list.stanzas.items) }
         requires list { 0 < self.old.lists_room }
         requires room { Fits (vec_len list.stanzas) list.room }
-        ensures state { state_of self.new ≡ after (state_of self.old) (adding name list) }
-        ensures keyed { keyed_of self.new ≡ keyed_after (keyed_of self.old) (adding name list) }
-        ensures limits { self.new.limits ≡ self.old.limits }
+        ensures { HasMade self.old self.new (adding name list) }
     {
         let _limits = self.limits;
         let count = list.stanzas.len() as u32;
@@ -131,11 +127,8 @@ impl Store {
     fn drop_list(&mut self, name: &Bytes, gone: usize)
         requires accepted { refusal_of self.old.limits (state_of self.old) (edits.DropList name.now) ≡ None }
         requires gone { gone ≡ length (all_in name.now (keyed_of self.old).lists) }
-        ensures state { state_of self.new ≡ after (state_of self.old) (edits.DropList name.now) }
-        ensures keyed { keyed_of self.new ≡ keyed_after (keyed_of self.old) (edits.DropList name.now) }
-        ensures limits { self.new.limits ≡ self.old.limits }
+        ensures { HasMade self.old self.new (edits.DropList name.now) }
     {
-        let _limits = self.limits;
         let statuses = self.count_of_kind(name);
         self.lists.remove(name);
         self.stanzas -= gone as u32;
@@ -147,11 +140,8 @@ impl Store {
         requires accepted { refusal_of self.old.limits (state_of self.old) (edits.Put list.now stanza.value) ≡ None }
         requires gone { gone ≡ length (found_in list.now (package_of stanza.value) (version_of stanza.value) (keyed_of self.old).lists) }
         requires room { IfSome (at_name list.now self.old.lists) HasRoomInList }
-        ensures state { state_of self.new ≡ after (state_of self.old) (edits.Put list.now stanza.value) }
-        ensures keyed { keyed_of self.new ≡ keyed_after (keyed_of self.old) (edits.Put list.now stanza.value) }
-        ensures limits { self.new.limits ≡ self.old.limits }
+        ensures { HasMade self.old self.new (edits.Put list.now stanza.value) }
     {
-        let _limits = self.limits;
         put_in(&mut self.lists, list, stanza);
         self.stanzas += more_if_none_goes(gone);
         self.edits += 1;
@@ -159,11 +149,8 @@ impl Store {
 
     fn remove(&mut self, list: &Bytes, package: &Bytes, version: &Version)
         requires accepted { refusal_of self.old.limits (state_of self.old) (edits.Remove list.now «package».now version.now) ≡ None }
-        ensures state { state_of self.new ≡ after (state_of self.old) (edits.Remove list.now «package».now version.now) }
-        ensures keyed { keyed_of self.new ≡ keyed_after (keyed_of self.old) (edits.Remove list.now «package».now version.now) }
-        ensures limits { self.new.limits ≡ self.old.limits }
+        ensures { HasMade self.old self.new (edits.Remove list.now «package».now version.now) }
     {
-        let _limits = self.limits;
         remove_in(&mut self.lists, list, package.as_slice(), version);
         self.stanzas -= 1;
         self.edits += 1;
@@ -172,22 +159,16 @@ impl Store {
     fn set_mark(&mut self, name: Bytes, version: Option<Version>)
         requires accepted { refusal_of self.old.limits (state_of self.old) (edits.Mark name version) ≡ None }
         requires room { 0 < self.old.marks_room }
-        ensures state { state_of self.new ≡ after (state_of self.old) (edits.Mark name version) }
-        ensures keyed { keyed_of self.new ≡ keyed_of self.old }
-        ensures limits { self.new.limits ≡ self.old.limits }
+        ensures { HasMade self.old self.new (edits.Mark name version) }
     {
-        let _limits = self.limits;
         self.marks.put(name, version);
         self.edits += 1;
     }
 
     fn unmark(&mut self, name: &Bytes)
         requires accepted { refusal_of self.old.limits (state_of self.old) (edits.Unmark name.now) ≡ None }
-        ensures state { state_of self.new ≡ after (state_of self.old) (edits.Unmark name.now) }
-        ensures keyed { keyed_of self.new ≡ keyed_of self.old }
-        ensures limits { self.new.limits ≡ self.old.limits }
+        ensures { HasMade self.old self.new (edits.Unmark name.now) }
     {
-        let _limits = self.limits;
         self.marks.remove(name);
         self.edits += 1;
     }
@@ -195,44 +176,32 @@ impl Store {
     fn pin(&mut self, setting: PinSetting)
         requires accepted { refusal_of self.old.limits (state_of self.old) (edits.Pin setting.selector setting.priority) ≡ None }
         requires room { 0 < self.old.pins_room }
-        ensures state { state_of self.new ≡ after (state_of self.old) (edits.Pin setting.selector setting.priority) }
-        ensures keyed { keyed_of self.new ≡ keyed_of self.old }
-        ensures limits { self.new.limits ≡ self.old.limits }
+        ensures { HasMade self.old self.new (edits.Pin setting.selector setting.priority) }
     {
-        let _limits = self.limits;
         self.pins.put(setting);
         self.edits += 1;
     }
 
     fn unpin(&mut self, selector: &Selector)
         requires accepted { refusal_of self.old.limits (state_of self.old) (edits.Unpin selector.now) ≡ None }
-        ensures state { state_of self.new ≡ after (state_of self.old) (edits.Unpin selector.now) }
-        ensures keyed { keyed_of self.new ≡ keyed_of self.old }
-        ensures limits { self.new.limits ≡ self.old.limits }
+        ensures { HasMade self.old self.new (edits.Unpin selector.now) }
     {
-        let _limits = self.limits;
         self.pins.remove(selector);
         self.edits += 1;
     }
 
     fn set_target(&mut self, name: Option<Bytes>)
         requires accepted { refusal_of self.old.limits (state_of self.old) (edits.Target name) ≡ None }
-        ensures state { state_of self.new ≡ after (state_of self.old) (edits.Target name) }
-        ensures keyed { keyed_of self.new ≡ keyed_of self.old }
-        ensures limits { self.new.limits ≡ self.old.limits }
+        ensures { HasMade self.old self.new (edits.Target name) }
     {
-        let _limits = self.limits;
         self.target = name;
         self.edits += 1;
     }
 
     fn set_all_pins(&mut self, settings: PinSettings)
         requires accepted { refusal_of self.old.limits (state_of self.old) (edits.Prefs settings.pins) ≡ None }
-        ensures state { state_of self.new ≡ after (state_of self.old) (edits.Prefs settings.pins) }
-        ensures keyed { keyed_of self.new ≡ keyed_of self.old }
-        ensures limits { self.new.limits ≡ self.old.limits }
+        ensures { HasMade self.old self.new (edits.Prefs settings.pins) }
     {
-        let _limits = self.limits;
         self.pins = settings.into_table();
         self.edits += 1;
     }

@@ -165,7 +165,7 @@ impl Store {
         ensures refused { IfErr result (λ why. why ≢ refusal.Memory
             → refusal_of self.old.limits (state_of self.old) (edit_of edit.now) ≡ Some why) }
     {
-        let found = self.seek(edit);
+        let found = self.found(edit);
         self.check_found(edit, found.is_some())?;
         let removed = self.removed_keys(edit, found)?;
         let added = self.added_keys(edit, found)?;

@@ -1,8 +1,9 @@
 use Rattle.std.proofs.Common.{◌≡◌, ◌∙◌, ◌<◌, ℕ, sym, ap, arith, length}
 use Rattle.ctl_stanza.specs.Content.{Content}
 use Rattle.ctl_store.specs.HeldPieces.{joined, place_of_spot, stands_at, IsSpot}
-use Rattle.ctl_store.proofs.PointLemmas.{stands_end, stands_within, place_there, place_nowhere}
+use Rattle.ctl_store.proofs.PointLemmas.{stands_end, stands_within, place_nowhere}
 use Rattle.ctl_store.proofs.rows.halved_spot.Goals as goal
+use Rattle.ctl_store.proofs.PlaceLemmas.{place_at}
 
 pub returns-then-serial-clause-place : goal.returns-then-serial-clause-place
 returns-then-serial-clause-place c =
@@ -10,7 +11,7 @@ returns-then-serial-clause-place c =
     let spot = c.end_below-spot.result in
     let l : spot.piece < length ps = omega (arith, c.if-spot-rows.false) in
     let there : IsSpot ps spot = c.end_below-spot.ensures.within.item l in
-    sym (place_there c.args.serial c.requires.rises.0 (joined ps) c.requires.rises.1 (place_of_spot ps spot) c.requires.rises.2 (stands_within ps spot.piece spot.at there)
+    sym (place_at c.args.serial c.requires.rises.0 (joined ps) c.requires.rises.1 (place_of_spot ps spot) c.requires.rises.2 (stands_within ps spot.piece spot.at there)
     (λ d. ap (λ (r : ℕ × Content). r.0) (c.row_at.ensures d) ∙ sym c.serial.ensures ∙ c.if-serial.true))
 
 pub returns-else-serial-clause-place : goal.returns-else-serial-clause-place

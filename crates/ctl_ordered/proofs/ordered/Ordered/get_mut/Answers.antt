@@ -3,7 +3,8 @@ use Rattle.std.specs.Map.{lookup, set_value}
 use Rattle.std.specs.VecDeque.{deque_capacity, deque_len}
 use Rattle.ctl_ordered.specs.Slots.{entries_of, rows_of}
 use Rattle.ctl_ordered.specs.Ordered.{entries, room_of, set_row, IsOrdered}
-use Rattle.ctl_ordered.proofs.SlotLemmas.{set_same, to_lent}
+use Rattle.ctl_ordered.proofs.SlotLemmas.{to_lent}
+use Rattle.std.proofs.lemmas.Map.Steps.{set_value_same}
 use Rattle.ctl_ordered.proofs.OrderLemmas.{key_order, ordered_set, ordered_lent, ordered_value, ordered_gap, ordered_no_value}
 use Rattle.ctl_ordered.proofs.ordered.Ordered.get_mut.Goals as goal
 
@@ -22,7 +23,7 @@ invariant_of-self-lent g c r =
           let lent = ordered_lent order o.slots.entries o.order.items o.next c.self.invariant k s slot c.value_mut.result i at c.value_mut.ensures.value (here.holds w) in
           let set = ordered_set order o.slots.entries o.order.items o.next c.self.invariant k w s slot (here.lender w) i at lent in
           subst (λ slots. IsOrdered g.K.PartialEq.eq g.K.Ord.cmp slots o.order.items o.next) (sym (there.holds (here.lender w)).0) set.0),
-      let same = (there.holds here.lender-at-none).0 ∙ ap (λ x. set_value (nat_eq s) o.slots.entries x) here.holds-at-none ∙ set_same (nat_eq s) o.slots.entries slot at in
+      let same = (there.holds here.lender-at-none).0 ∙ ap (λ x. set_value (nat_eq s) o.slots.entries x) here.holds-at-none ∙ set_value_same (nat_eq s) o.slots.entries slot (sym at) in
           subst (λ slots. IsOrdered g.K.PartialEq.eq g.K.Ord.cmp slots o.order.items o.next) (sym same) c.self.invariant,
     )
 
@@ -52,7 +53,7 @@ returns-in-Some g c =
               room = ap (λ n. room_of n free o.next) wrote.6 ∙ ap (λ v. v.room) c.self.view_is;
             })),
         let wrote = there.holds here.lender-at-none in
-            let same = wrote.0 ∙ ap (λ x. set_value (nat_eq s) o.slots.entries x) here.holds-at-none ∙ set_same (nat_eq s) o.slots.entries slot at in
+            let same = wrote.0 ∙ ap (λ x. set_value (nat_eq s) o.slots.entries x) here.holds-at-none ∙ set_value_same (nat_eq s) o.slots.entries slot (sym at) in
             (λ j. record { rows = rows_of (same j); next = o.next; room = room_of (wrote.6 j) free o.next }) ∙ c.self.view_is,
       ),
       record {

@@ -5,10 +5,11 @@ use Rattle.ctl_ordered.specs.Ordered.{entries, rows_put, next_put}
 use Rattle.ctl_store.specs.Pins.{selector_eq}
 use Rattle.ctl_store.specs.HeldRanks.{IsRanked, labels_of, sorted_labels, labels_below}
 use Rattle.ctl_store.specs.HeldPins.{own_label, own_row}
-use Rattle.ctl_store.proofs.OwnLemmas.{own_set, own_push, value_there, value_nowhere}
+use Rattle.ctl_store.proofs.OwnLemmas.{own_set, own_push}
 use Rattle.ctl_store.proofs.SoundLemmas.{next_most, put_fresh}
 use Rattle.ctl_store.proofs.pin_table.PinTable.put.Goals.{in-Some, in-None+in-Ok}
 use Rattle.ctl_store.proofs.pin_table.PinTable.put.Goals as goal
+use Rattle.ctl_ordered.proofs.SlotLemmas.{row_found, no_value}
 
 pub invariant_of-self : goal.invariant_of-self
 invariant_of-self c =
@@ -19,12 +20,12 @@ invariant_of-self c =
     let put = c.put in
     let kept : IsRanked own_row (rows_put (lookup (selector_eq k) (entries i.settings)) (selector_eq k) i.settings k v) (next_put (lookup (selector_eq k) (entries i.settings)) i.settings) i.packages.items = elim c.match-serial_of.branch [
       | in-Some w ↦
-          let there = value_there (selector_eq k) w.in-Some._serial s.settings.rows (sym w.in-Some.ensures) in
+          let there = row_found (selector_eq k) 0 s.settings.rows s.settings.next w.in-Some._serial c.self.invariant.rises (sym w.in-Some.ensures) in
           subst (λ x. IsRanked own_row (rows_put (lookup (selector_eq k) (entries x.settings)) (selector_eq k) x.settings k v) (next_put (lookup (selector_eq k) (entries x.settings)) x.settings) x.packages.items) (sym w.self-inside-is)
-          (subst (λ o. IsRanked own_row (rows_put o (selector_eq k) s.settings k v) (next_put o s.settings) s.packages.items) (sym there.1)
+          (subst (λ o. IsRanked own_row (rows_put o (selector_eq k) s.settings k v) (next_put o s.settings) s.packages.items) (sym there.1.value)
           (own_set s.settings.rows s.settings.next s.packages.items c.self.invariant (selector_eq k) v))
       | in-None+in-Ok w ↦
-          let none = value_nowhere (selector_eq k) s.settings.rows (sym w.in-None.ensures) in
+          let none = no_value (selector_eq k) s.settings.rows (sym w.in-None.ensures) in
           let next = w.next_serial-serial.ensures in
           let at = w.place_of-at.ensures.place ∙ ap (λ n. labels_below (own_label n k) (sorted_labels (labels_of own_row s.settings.rows))) next in
           subst (λ x. IsRanked own_row (rows_put (lookup (selector_eq k) (entries x.settings)) (selector_eq k) x.settings k v) (next_put (lookup (selector_eq k) (entries x.settings)) x.settings) x.packages.items) (sym w.self-inside-is)

@@ -1,4 +1,4 @@
-use Rattle.std.proofs.Common.{◌≡◌, suc, refl, ◌+◌, ◌∷◌, ◌++◌, [], ◌∙◌, ap, sym, subst, map, length, List, arith}
+use Rattle.std.proofs.Common.{◌≡◌, ◌+◌, ◌∷◌, ◌++◌, [], ◌∙◌, ap, sym, subst, map, length, arith}
 use Rattle.std.specs.FinMap as fin
 use Rattle.ctl_ordered.specs.Ordered as ordered
 use Rattle.std.specs.Str.{bytes_eq}
@@ -13,21 +13,18 @@ use Rattle.ctl_store.proofs.ListedLemmas.{none_is, has_name_lists, lists_put_new
 use Rattle.ctl_store.proofs.SoundLemmas.{sound_add}
 use Rattle.ctl_store.proofs.AcceptLemmas.{add_statuses, add_new, add_fits, new_among}
 use Rattle.ctl_store.proofs.store.Store.add_list.Goals as goal
-
-same_length : {X Y : Type 0} (f : X → Y) (xs : List X) → length (map f xs) ≡ length xs
-same_length f [] = refl
-same_length f (x ∷ xs) = ap (λ n. suc n) (same_length f xs)
+use Rattle.std.proofs.lemmas.List.{length-map}
 
 pub overflow_cast-count : goal.overflow_cast-count
 overflow_cast-count c =
     let h = c.args.self.now in
-    omega (arith, c.len-count.ensures, add_fits h.limits (state_of h) c.args.name c.args.list.kind c.args.list.class (map (λ stanza. stanza.value) c.args.list.stanzas.items) c.requires.accepted, same_length (λ stanza. stanza.value) c.args.list.stanzas.items, c.self.invariant.stanzas_bounded, ap (λ h. h.limits.stanzas) c.self.view_is)
+    omega (arith, c.len-count.ensures, add_fits h.limits (state_of h) c.args.name c.args.list.kind c.args.list.class (map (λ stanza. stanza.value) c.args.list.stanzas.items) c.requires.accepted, length-map c.args.list.stanzas.items (λ stanza. stanza.value), c.self.invariant.stanzas_bounded, ap (λ h. h.limits.stanzas) c.self.view_is)
 
 pub overflow_add-self-2 : goal.overflow_add-self-2
 overflow_add-self-2 c =
     let h = c.args.self.now in
     let held = ap (λ h. stanza_count (state_of h).lists) c.self.view_is in
-    omega (arith, c.len-count.ensures, add_fits h.limits (state_of h) c.args.name c.args.list.kind c.args.list.class (map (λ stanza. stanza.value) c.args.list.stanzas.items) c.requires.accepted, same_length (λ stanza. stanza.value) c.args.list.stanzas.items, c.self.invariant.counted, held, c.self.invariant.stanzas_bounded, ap (λ h. h.limits.stanzas) c.self.view_is)
+    omega (arith, c.len-count.ensures, add_fits h.limits (state_of h) c.args.name c.args.list.kind c.args.list.class (map (λ stanza. stanza.value) c.args.list.stanzas.items) c.requires.accepted, length-map c.args.list.stanzas.items (λ stanza. stanza.value), c.self.invariant.counted, held, c.self.invariant.stanzas_bounded, ap (λ h. h.limits.stanzas) c.self.view_is)
 
 pub overflow_add-self-3 : goal.overflow_add-self-3
 overflow_add-self-3 c =
@@ -40,7 +37,7 @@ invariant_of-self c =
     let s = c.self.inside in
     let h = c.args.self.now in
     let xs = map (λ stanza. stanza.value) c.args.list.stanzas.items in
-    let long : length xs ≡ c.len-count.result = omega (arith, same_length (λ stanza. stanza.value) c.args.list.stanzas.items, c.len-count.ensures) in
+    let long : length xs ≡ c.len-count.result = omega (arith, length-map c.args.list.stanzas.items (λ stanza. stanza.value), c.len-count.ensures) in
     let listed : keyed_list c.new-listed.result ≡ list_of_stanzas s.next_list c.args.list.kind c.args.list.class xs = λ j. record { serial = c.new-listed.ensures.serial j; kind = c.new-listed.ensures.kind j; class = c.new-listed.ensures.class j; next = (c.new-listed.ensures.next ∙ sym c.len-count.ensures ∙ sym long) j; rows = c.new-listed.ensures.rows j } in
     let new = new_among c.args.name (ordered.entries s.lists) (ap (λ h. has_name c.args.name (state_of h).lists) c.self.view_is ∙ add_new h.limits (state_of h) c.args.name c.args.list.kind c.args.list.class xs c.requires.accepted) in
     let lists = ap lists_of c.put.ensures.entries ∙ lists_put_new c.args.name c.new-listed.result (ordered.entries s.lists) new ∙ ap (λ (l : KeyedList). lists_of (ordered.entries s.lists) ++ (c.args.name, l) ∷ []) listed in
@@ -55,26 +52,19 @@ invariant_of-self c =
     (sound_add c.self.invariant c.put.new.self.rows c.args.name c.args.list.kind c.args.list.class xs c.requires.kinds numbered lists
     (omega (arith, add_fits h.limits (state_of h) c.args.name c.args.list.kind c.args.list.class xs c.requires.accepted, c.self.invariant.counted, held, most)))))
 
-pub returns-clause-state : goal.returns-clause-state
-returns-clause-state c =
+pub returns : goal.returns
+returns c =
     let s = c.self.inside in
     let h = c.args.self.now in
     let xs = map (λ stanza. stanza.value) c.args.list.stanzas.items in
-    let long : length xs ≡ c.len-count.result = omega (arith, same_length (λ stanza. stanza.value) c.args.list.stanzas.items, c.len-count.ensures) in
+    let long : length xs ≡ c.len-count.result = omega (arith, length-map c.args.list.stanzas.items (λ stanza. stanza.value), c.len-count.ensures) in
     let listed : keyed_list c.new-listed.result ≡ list_of_stanzas s.next_list c.args.list.kind c.args.list.class xs = λ j. record { serial = c.new-listed.ensures.serial j; kind = c.new-listed.ensures.kind j; class = c.new-listed.ensures.class j; next = (c.new-listed.ensures.next ∙ sym c.len-count.ensures ∙ sym long) j; rows = c.new-listed.ensures.rows j } in
     let new = new_among c.args.name (ordered.entries s.lists) (ap (λ h. has_name c.args.name (state_of h).lists) c.self.view_is ∙ add_new h.limits (state_of h) c.args.name c.args.list.kind c.args.list.class xs c.requires.accepted) in
     let lists = ap lists_of c.put.ensures.entries ∙ lists_put_new c.args.name c.new-listed.result (ordered.entries s.lists) new ∙ ap (λ (l : KeyedList). lists_of (ordered.entries s.lists) ++ (c.args.name, l) ∷ []) listed in
-    (λ j. record { lists = (ap stanza_lists lists ∙ new_lists (lists_of (ordered.entries s.lists)) c.args.name s.next_list c.args.list.kind c.args.list.class xs) j; marks = fin.from_entries (ordered.entries s.marks); pins = s.pins.pins; target = s.target; edits = s.edits + 1 })
-    ∙ ap (λ h. after (state_of h) (AddList c.args.name c.args.list.kind c.args.list.class xs)) c.self.view_is
-
-pub returns-clause-keyed : goal.returns-clause-keyed
-returns-clause-keyed c =
-    let s = c.self.inside in
-    let h = c.args.self.now in
-    let xs = map (λ stanza. stanza.value) c.args.list.stanzas.items in
-    let long : length xs ≡ c.len-count.result = omega (arith, same_length (λ stanza. stanza.value) c.args.list.stanzas.items, c.len-count.ensures) in
-    let listed : keyed_list c.new-listed.result ≡ list_of_stanzas s.next_list c.args.list.kind c.args.list.class xs = λ j. record { serial = c.new-listed.ensures.serial j; kind = c.new-listed.ensures.kind j; class = c.new-listed.ensures.class j; next = (c.new-listed.ensures.next ∙ sym c.len-count.ensures ∙ sym long) j; rows = c.new-listed.ensures.rows j } in
-    let new = new_among c.args.name (ordered.entries s.lists) (ap (λ h. has_name c.args.name (state_of h).lists) c.self.view_is ∙ add_new h.limits (state_of h) c.args.name c.args.list.kind c.args.list.class xs c.requires.accepted) in
-    let lists = ap lists_of c.put.ensures.entries ∙ lists_put_new c.args.name c.new-listed.result (ordered.entries s.lists) new ∙ ap (λ (l : KeyedList). lists_of (ordered.entries s.lists) ++ (c.args.name, l) ∷ []) listed in
-    (λ j. record { lists = lists j; next_list = s.next_list + 1 })
-    ∙ ap (λ h. keyed_after (keyed_of h) (AddList c.args.name c.args.list.kind c.args.list.class xs)) c.self.view_is
+    record {
+      state =
+          (λ j. record { lists = (ap stanza_lists lists ∙ new_lists (lists_of (ordered.entries s.lists)) c.args.name s.next_list c.args.list.kind c.args.list.class xs) j; marks = fin.from_entries (ordered.entries s.marks); pins = s.pins.pins; target = s.target; edits = s.edits + 1 })
+          ∙ ap (λ h. after (state_of h) (AddList c.args.name c.args.list.kind c.args.list.class xs)) c.self.view_is;
+      keyed = (λ j. record { lists = lists j; next_list = s.next_list + 1 }) ∙ ap (λ h. keyed_after (keyed_of h) (AddList c.args.name c.args.list.kind c.args.list.class xs)) c.self.view_is;
+      limits = ap (λ h. h.limits) c.self.view_is;
+    }

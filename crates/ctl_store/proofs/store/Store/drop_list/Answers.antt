@@ -50,18 +50,15 @@ invariant_of-self c =
     (subst (λ m. IsSound c.remove.new.self.rows m s.next_list (s.statuses - count_of_kind f.0.kind) (s.stanzas - length f.0.stanzas) (s.edits + 1) s.limits s.marks.next s.pins.next) (sym c.remove.ensures.next)
     (sound_drop c.self.invariant c.remove.new.self.rows name f.0 numbered lists (ap (λ h. at_name name (state_of h).lists) c.self.view_is ∙ f.1))))
 
-pub returns-clause-state : goal.returns-clause-state
-returns-clause-state c =
+pub returns : goal.returns
+returns c =
     let s = c.self.inside in
     let name = c.args.name.now in
     let lists = ap lists_of c.remove.ensures.entries ∙ lists_without name (ordered.entries s.lists) in
-    (λ j. record { lists = (ap stanza_lists lists ∙ without_lists name (lists_of (ordered.entries s.lists))) j; marks = fin.from_entries (ordered.entries s.marks); pins = s.pins.pins; target = s.target; edits = s.edits + 1 })
-    ∙ ap (λ h. after (state_of h) (DropList name)) c.self.view_is
-
-pub returns-clause-keyed : goal.returns-clause-keyed
-returns-clause-keyed c =
-    let s = c.self.inside in
-    let name = c.args.name.now in
-    let lists = ap lists_of c.remove.ensures.entries ∙ lists_without name (ordered.entries s.lists) in
-    (λ j. record { lists = lists j; next_list = s.next_list })
-    ∙ ap (λ h. keyed_after (keyed_of h) (DropList name)) c.self.view_is
+    record {
+      state =
+          (λ j. record { lists = (ap stanza_lists lists ∙ without_lists name (lists_of (ordered.entries s.lists))) j; marks = fin.from_entries (ordered.entries s.marks); pins = s.pins.pins; target = s.target; edits = s.edits + 1 })
+          ∙ ap (λ h. after (state_of h) (DropList name)) c.self.view_is;
+      keyed = (λ j. record { lists = lists j; next_list = s.next_list }) ∙ ap (λ h. keyed_after (keyed_of h) (DropList name)) c.self.view_is;
+      limits = ap (λ h. h.limits) c.self.view_is;
+    }

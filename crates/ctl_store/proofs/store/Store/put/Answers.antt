@@ -6,8 +6,8 @@ use Rattle.ctl_store.specs.Named.{at_name}
 use Rattle.ctl_store.specs.State.{stanza_count}
 use Rattle.ctl_store.specs.Edits.{Put}
 use Rattle.ctl_store.specs.Step.{after, has_stanza, put_stanza, with_stanzas}
-use Rattle.ctl_store.specs.Keys.{stanza_lists, put_keyed}
-use Rattle.ctl_store.specs.Held.{HeldList, lists_of, state_of, IsSound}
+use Rattle.ctl_store.specs.Keys.{stanza_lists, put_keyed, keyed_after}
+use Rattle.ctl_store.specs.Held.{HeldList, lists_of, state_of, keyed_of, IsSound}
 use Rattle.ctl_store.proofs.ListedLemmas.{in_order_next, if_some_map, Changes-put, change_lists, put_list, found_count, more_is}
 use Rattle.ctl_store.proofs.SoundLemmas.{sound_change, Keeps, put_keeps}
 use Rattle.ctl_store.proofs.AcceptLemmas.{accepted_edits, put_found, put_count, put_fits}
@@ -50,11 +50,16 @@ invariant_of-self c =
     (omega (arith, more, put_count (state_of h) list x f.0 f.1))
     (omega (arith, more, put_fits h.limits (state_of h) list x f.0 c.requires.accepted f.1, c.self.invariant.counted, held, most)))
 
-pub returns-clause-state : goal.returns-clause-state
-returns-clause-state c =
+pub returns : goal.returns
+returns c =
     let s = c.self.inside in
     let list = c.args.list.now in
     let x = c.args.stanza.value in
     let lists = c.put_in.ensures.lists in
-    (λ j. record { lists = (ap stanza_lists lists ∙ change_lists list (put_keyed x) (with_stanzas (put_stanza x)) (put_list x) (lists_of (ordered.entries s.lists))) j; marks = fin.from_entries (ordered.entries s.marks); pins = s.pins.pins; target = s.target; edits = s.edits + 1 })
-    ∙ ap (λ h. after (state_of h) (Put list x)) c.self.view_is
+    record {
+      state =
+          (λ j. record { lists = (ap stanza_lists lists ∙ change_lists list (put_keyed x) (with_stanzas (put_stanza x)) (put_list x) (lists_of (ordered.entries s.lists))) j; marks = fin.from_entries (ordered.entries s.marks); pins = s.pins.pins; target = s.target; edits = s.edits + 1 })
+          ∙ ap (λ h. after (state_of h) (Put list x)) c.self.view_is;
+      keyed = (λ j. record { lists = lists j; next_list = s.next_list }) ∙ ap (λ h. keyed_after (keyed_of h) (Put list x)) c.self.view_is;
+      limits = ap (λ h. h.limits) c.self.view_is;
+    }

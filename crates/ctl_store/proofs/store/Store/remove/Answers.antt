@@ -5,8 +5,8 @@ use Rattle.ctl_store.specs.Named.{at_name, change_named}
 use Rattle.ctl_store.specs.State.{stanza_count}
 use Rattle.ctl_store.specs.Edits.{Remove}
 use Rattle.ctl_store.specs.Step.{after, remove_stanza, with_stanzas}
-use Rattle.ctl_store.specs.Keys.{stanza_lists, remove_keyed}
-use Rattle.ctl_store.specs.Held.{lists_of, state_of, IsSound}
+use Rattle.ctl_store.specs.Keys.{stanza_lists, remove_keyed, keyed_after}
+use Rattle.ctl_store.specs.Held.{lists_of, state_of, keyed_of, IsSound}
 use Rattle.ctl_store.proofs.ListedLemmas.{Changes-remove, change_lists, remove_list}
 use Rattle.ctl_store.proofs.SoundLemmas.{sound_change, remove_keeps}
 use Rattle.ctl_store.proofs.AcceptLemmas.{remove_found, remove_count, count_below}
@@ -36,12 +36,17 @@ invariant_of-self c =
     (omega (arith, count, count_below (state_of h) list f.0 f.1, c.self.invariant.counted, held))
     (omega (arith, c.self.invariant.within)))
 
-pub returns-clause-state : goal.returns-clause-state
-returns-clause-state c =
+pub returns : goal.returns
+returns c =
     let s = c.self.inside in
     let list = c.args.list.now in
     let name = c.args.«package».now in
     let version = c.args.version.now in
     let lists = c.remove_in.ensures.lists ∙ ap (λ n. change_named list (remove_keyed n (Some version)) (lists_of (ordered.entries s.lists))) c.as_slice.ensures in
-    (λ j. record { lists = (ap stanza_lists lists ∙ change_lists list (remove_keyed name (Some version)) (with_stanzas (remove_stanza name (Some version))) (remove_list name (Some version)) (lists_of (ordered.entries s.lists))) j; marks = fin.from_entries (ordered.entries s.marks); pins = s.pins.pins; target = s.target; edits = s.edits + 1 })
-    ∙ ap (λ h. after (state_of h) (Remove list name version)) c.self.view_is
+    record {
+      state =
+          (λ j. record { lists = (ap stanza_lists lists ∙ change_lists list (remove_keyed name (Some version)) (with_stanzas (remove_stanza name (Some version))) (remove_list name (Some version)) (lists_of (ordered.entries s.lists))) j; marks = fin.from_entries (ordered.entries s.marks); pins = s.pins.pins; target = s.target; edits = s.edits + 1 })
+          ∙ ap (λ h. after (state_of h) (Remove list name version)) c.self.view_is;
+      keyed = (λ j. record { lists = lists j; next_list = s.next_list }) ∙ ap (λ h. keyed_after (keyed_of h) (Remove list name version)) c.self.view_is;
+      limits = ap (λ h. h.limits) c.self.view_is;
+    }
