@@ -132,13 +132,13 @@ none_or (Some w) other h = absurd (true≢false h)
 
 module _ (p : List ℕ → Bool) (m : NameMap) where
   abbrev pub from_short : List NamedEntry
-  from_short = filter (λ (e : NamedEntry). p e.0) m.short.entries
+  from_short = filter (λ (e : NamedEntry). p e.0) m.short.tree.entries
 
   abbrev pub from_long : List NamedEntry
   from_long = map long_entry (filter (λ (e : LongEntry). p e.0.items) m.long.entries)
 
-  in_short : (q : List ℕ) → found_in from_short q ≡ cond (p q) (get (slice_cmp nat_cmp) m.short q) None
-  in_short q = part_found p q m.short.entries ∙ ap (λ (o : Option Named). cond (p q) o None) (short_found q m.short.entries)
+  in_short : (q : List ℕ) → found_in from_short q ≡ cond (p q) (get (slice_cmp nat_cmp) m.short.tree q) None
+  in_short q = part_found p q m.short.tree.entries ∙ ap (λ (o : Option Named). cond (p q) o None) (short_found q m.short.tree.entries)
 
   in_long : (q : List ℕ) → found_in from_long q ≡ cond (p q) (at_bytes m.long q) None
   in_long q = ap (λ es. found_in es q) (long_part p m.long.entries) ∙ part_found p q (map long_entry m.long.entries) ∙ ap (λ (o : Option Named). cond (p q) o None) (long_found q m.long.entries)
@@ -147,12 +147,12 @@ module _ (p : List ℕ → Bool) (m : NameMap) where
   no_long : (q : List ℕ) → length q ≤ most_short → is_some (at_bytes m.long q) ≡ false
   no_long q few = not_some (at_bytes m.long q) (λ h. let many : most_short < length q = m.apart.longer q h in omega arith)
 
-  no_short : (q : List ℕ) → most_short < length q → is_some (get (slice_cmp nat_cmp) m.short q) ≡ false
-  no_short q many = not_some (get (slice_cmp nat_cmp) m.short q) (λ h. let few : length q ≤ most_short = m.apart.shorter q h in omega arith)
+  no_short : (q : List ℕ) → most_short < length q → is_some (get (slice_cmp nat_cmp) m.short.tree q) ≡ false
+  no_short q many = not_some (get (slice_cmp nat_cmp) m.short.tree q) (λ h. let few : length q ≤ most_short = m.apart.shorter q h in omega arith)
 
   parts_apart : AreOthers from_short from_long
   parts_apart q h =
-      let found = there (p q) (get (slice_cmp nat_cmp) m.short q) (sym (ap (λ (o : Option Named). is_some o) (in_short q)) ∙ h) in
+      let found = there (p q) (get (slice_cmp nat_cmp) m.short.tree q) (sym (ap (λ (o : Option Named). is_some o) (in_short q)) ∙ h) in
       ap (λ (o : Option Named). is_some o) (in_long q) ∙ none_of (p q) (at_bytes m.long q) (no_long q (m.apart.shorter q found))
 
   long_order : AreLongSorted m.long.entries → AreSorted from_long
@@ -164,18 +164,18 @@ module _ (p : List ℕ → Bool) (m : NameMap) where
 
   -- ---- both parts in one
 
-  pub both_order : AreSorted m.short.entries → AreLongSorted m.long.entries → AreSorted (merged from_short from_long)
-  both_order short_sorted sorted = merged_order from_short from_long parts_apart (part_sorted p m.short.entries short_sorted) (long_order sorted)
+  pub both_order : AreSorted m.short.tree.entries → AreLongSorted m.long.entries → AreSorted (merged from_short from_long)
+  both_order short_sorted sorted = merged_order from_short from_long parts_apart (part_sorted p m.short.tree.entries short_sorted) (long_order sorted)
 
   both_pass : AllByRecursion (λ name. p name ≡ true) (entry_names (merged from_short from_long))
-  both_pass = merged_all (λ name. p name ≡ true) from_short from_long (part_passes p m.short.entries) long_passes
+  both_pass = merged_all (λ name. p name ≡ true) from_short from_long (part_passes p m.short.tree.entries) long_passes
 
   pub both_found : (q : List ℕ) → p q ≡ true → found_in (merged from_short from_long) q ≡ at_name m q
   both_found q is =
       merged_found from_short from_long parts_apart q ∙ (λ i. option_or (in_short q i) (in_long q i))
-      ∙ ap (λ (b : Bool). option_or (cond b (get (slice_cmp nat_cmp) m.short q) None) (cond b (at_bytes m.long q) None)) is ∙ by (nat_le (length q) most_short) refl
+      ∙ ap (λ (b : Bool). option_or (cond b (get (slice_cmp nat_cmp) m.short.tree q) None) (cond b (at_bytes m.long q) None)) is ∙ by (nat_le (length q) most_short) refl
     where
-      by : (b : Bool) → nat_le (length q) most_short ≡ b → option_or (get (slice_cmp nat_cmp) m.short q) (at_bytes m.long q) ≡ cond b (get (slice_cmp nat_cmp) m.short q) (at_bytes m.long q)
+      by : (b : Bool) → nat_le (length q) most_short ≡ b → option_or (get (slice_cmp nat_cmp) m.short.tree q) (at_bytes m.long q) ≡ cond b (get (slice_cmp nat_cmp) m.short.tree q) (at_bytes m.long q)
       by true few = or_none _ _ (no_long q (at_most (length q) most_short few))
       by false many = none_or _ _ (no_short q (more (length q) most_short many))
 
@@ -187,7 +187,7 @@ module _ (p : List ℕ → Bool) (m : NameMap) where
       by false is =
           let none : found_in (merged from_short from_long) q ≡ None =
           merged_found from_short from_long parts_apart q ∙ (λ i. option_or (in_short q i) (in_long q i))
-          ∙ ap (λ (b : Bool). option_or (cond b (get (slice_cmp nat_cmp) m.short q) None) (cond b (at_bytes m.long q) None)) is in
+          ∙ ap (λ (b : Bool). option_or (cond b (get (slice_cmp nat_cmp) m.short.tree q) None) (cond b (at_bytes m.long q) None)) is in
           absurd (true≢false (sym h ∙ ap (λ (o : Option Named). is_some o) none))
 
   -- ---- of the second tree alone
@@ -195,7 +195,7 @@ module _ (p : List ℕ → Bool) (m : NameMap) where
   long_found_alone : (q : List ℕ) → p q ≡ true → most_short < length q → found_in from_long q ≡ at_name m q
   long_found_alone q is many =
       in_long q ∙ ap (λ (b : Bool). cond b (at_bytes m.long q) None) is
-      ∙ sym (ap (λ (b : Bool). cond b (get (slice_cmp nat_cmp) m.short q) (at_bytes m.long q)) (not_at_most (length q) most_short many))
+      ∙ sym (ap (λ (b : Bool). cond b (get (slice_cmp nat_cmp) m.short.tree q) (at_bytes m.long q)) (not_at_most (length q) most_short many))
 
   long_only_alone : (q : List ℕ) → is_some (found_in from_long q) ≡ true → found_in from_long q ≡ at_name m q
   long_only_alone q h = by (p q) refl
@@ -239,13 +239,13 @@ plain false = refl
 module _ (prefix : List ℕ) (m : NameMap) where
   -- a part of each tree, as `range` says it
   abbrev pub short_range : List ℕ → List NamedEntry
-  short_range first = filter (λ (e : NamedEntry). is_le (slice_cmp nat_cmp first e.0) && true) m.short.entries
+  short_range first = filter (λ (e : NamedEntry). is_le (slice_cmp nat_cmp first e.0) && true) m.short.tree.entries
 
   abbrev pub long_range : List NamedEntry
   long_range = map long_entry (filter (λ (e : LongEntry). is_le (slice_cmp nat_cmp prefix e.0.items) && true) m.long.entries)
 
   short_is : (first : List ℕ) → first ≡ prefix → short_range first ≡ from_short (is_from prefix) m
-  short_is first is i = filter (λ (e : NamedEntry). plain (is_le (slice_cmp nat_cmp (is i) e.0)) i) m.short.entries
+  short_is first is i = filter (λ (e : NamedEntry). plain (is_le (slice_cmp nat_cmp (is i) e.0)) i) m.short.tree.entries
 
   long_is : long_range ≡ from_long (is_from prefix) m
   long_is i = map long_entry (filter (λ (e : LongEntry). plain (is_le (slice_cmp nat_cmp prefix e.0.items)) i) m.long.entries)
@@ -255,7 +255,7 @@ module _ (prefix : List ℕ) (m : NameMap) where
   ArePromised es = AreFrom prefix (entry_names es) × (((q : List ℕ) → starts_with nat_eq q prefix ≡ true → found_in es q ≡ at_name m q) × ((q : List ℕ) → is_some (found_in es q) ≡ true → found_in es q ≡ at_name m q))
 
   module _ (sorted : AreLongSorted m.long.entries) where
-    pub both_promised : (first : List ℕ) → first ≡ prefix → AreSorted m.short.entries → ArePromised (merged (short_range first) long_range)
+    pub both_promised : (first : List ℕ) → first ≡ prefix → AreSorted m.short.tree.entries → ArePromised (merged (short_range first) long_range)
     both_promised first is short_sorted =
         subst ArePromised (λ i. merged (sym (short_is first is) i) (sym long_is i))
         (record { order = both_order (is_from prefix) m short_sorted sorted; from = both_pass (is_from prefix) m }, ((λ q h. both_found (is_from prefix) m q (prefix_first prefix q h)), both_only (is_from prefix) m))

@@ -1,6 +1,6 @@
 -- What a write into one of the two trees of names leaves under any name.
 use Rattle.std.proofs.Common.{◌≡◌, ℕ, ◌<◌, ◌≤◌, Bool, true, false, cond, length, List, Option, None, Some, is_some, IsSome, Vec, Global, refl, ap, sym, subst, ◌∙◌, arith, nat_le, nat_cmp, MutBor, OnSome, Result, Ok, Err, OnOk, OnErr}
-use Rattle.std.specs.BTreeMap.{BTreeMap, UpdatesBy, WritesThrough, IsUnchanged, get}
+use Rattle.std.specs.BTreeMap.{BTreeMap, UpdatesBy, WritesThrough, IsUnchanged, get, keys}
 use Rattle.std.specs.Cmp.{eq_by_cmp_equiv}
 use Rattle.std.specs.Cmp.Lexicographic.{slice_cmp, nat_list_cmp_total, nat_list_eq_equiv}
 use Rattle.std.specs.Option.{option_copied_mut}
@@ -88,6 +88,10 @@ set_long name short old new w many h q = by (nat_le (length q) most_short) (byte
     by true true i j = absurd (true≢false (not_long (length q) i (subst (λ n. most_short < n) (same_length name q j) many)))
     by true false i j = refl
 
+-- under each name there is what there was
+pub same_short : (old new : Short) (long : Long) → IsUnchanged old new → (q : List ℕ) → at_either new long q ≡ at_either old long q
+same_short old new long same q = ap (λ es. cond (nat_le (length q) most_short) (lookup (λ k. is_eq (slice_cmp nat_cmp q k)) es) (at_bytes long q)) same
+
 -- ---- the trees stay apart
 
 pub apart_short : (name : List ℕ) (old new : Short) (long : Long) (w : Option Named) → length name ≤ most_short → IsShortSet name old new w → AreApart old long → AreApart new long
@@ -105,11 +109,11 @@ apart_long name short old new w many h apart = record { shorter = apart.shorter;
     by false q e there = apart.longer q (ap is_some (sym (ap (λ b. cond b w (at_bytes old q)) e)) ∙ ap is_some (sym (h q)) ∙ there)
 
 -- what is written through a borrow changes no key
-pub apart_lent : (compare : List ℕ → Ordering) (old new : Short) (long : Long) (w : Named) → WritesThrough (slice_cmp nat_cmp) compare old w new → AreApart old long → AreApart new long
-apart_lent compare old new long w h apart = record { shorter = λ q there. apart.shorter q (same q ∙ there); longer = apart.longer }
+pub apart_lent : (old new : Short) (long : Long) → keys new ≡ keys old → AreApart old long → AreApart new long
+apart_lent old new long h apart = record { shorter = λ q there. apart.shorter q (same q ∙ there); longer = apart.longer }
   where
     same : (q : List ℕ) → is_some (get (slice_cmp nat_cmp) old q) ≡ is_some (get (slice_cmp nat_cmp) new q)
-    same q = is_some-lookup (λ k. is_eq (slice_cmp nat_cmp q k)) old.entries ∙ ap (list_any (λ k. is_eq (slice_cmp nat_cmp q k))) (sym h.1) ∙ sym (is_some-lookup (λ k. is_eq (slice_cmp nat_cmp q k)) new.entries)
+    same q = is_some-lookup (λ k. is_eq (slice_cmp nat_cmp q k)) old.entries ∙ ap (list_any (λ k. is_eq (slice_cmp nat_cmp q k))) (sym h) ∙ sym (is_some-lookup (λ k. is_eq (slice_cmp nat_cmp q k)) new.entries)
 
 pub apart_lent_long : (compare : Vec ℕ Global → Ordering) (short : Short) (old new : Long) (w : Named) → WritesThrough (λ x y. slice_cmp nat_cmp x.items y.items) compare old w new → AreApart short old → AreApart short new
 apart_lent_long compare short old new w h apart = record { shorter = apart.shorter; longer = λ q there. apart.longer q (same q ∙ there) }
@@ -121,6 +125,11 @@ apart_lent_long compare short old new w h apart = record { shorter = apart.short
 pub on_lent : {P : Type 0} (r : Option (MutBor Named)) (o : Option Named) → option_copied_mut r ≡ o → (IsSome o → P) → OnSome r P
 on_lent None o e f = tt
 on_lent (Some x) o e f = f (ap is_some (sym e))
+
+-- what holds of what was lent
+pub of_lent : {P : Type 0} (r : Option (MutBor Named)) → OnSome r P → IsSome (option_copied_mut r) → P
+of_lent None h there = absurd (true≢false (sym there))
+of_lent (Some x) h there = h
 
 -- what holds after a call that may have been refused
 pub on_either : {O E P Q R : Type 0} (r : Result O E) → OnOk r P → OnErr r Q → (P → R) → (Q → R) → R

@@ -22,7 +22,7 @@ pub use Rattle.ctl_index.specs.declared.name_map.NameMap.{NameMap}
 
 -- what stands under a name, if anything does: short names stand in one tree, and longer ones in another
 abbrev pub at_name : NameMap → List ℕ → Option Named
-at_name m name = if nat_le (length name) most_short then get (slice_cmp nat_cmp) m.short name else at_bytes m.long name
+at_name m name = if nat_le (length name) most_short then get (slice_cmp nat_cmp) m.short.tree name else at_bytes m.long name
 
 -- nothing stands under any name
 abbrev pub HoldsNothing : NameMap → Type 0

@@ -11,6 +11,7 @@ ghost use Rattle.ctl_index.specs.TablesViews.{AreFrom};
 
 use crate::name_map::NameMap;
 use crate::named::Named;
+use crate::named_box::NamedBox;
 use crate::short_name::ShortName;
 use std::collections::btree_map;
 use std::marker::Model;
@@ -19,8 +20,8 @@ use std::marker::Model;
 #[derive(Drop)]
 pub(crate) struct NameEntries<'a> {
     // The next of each tree, and what is left of it behind. Of short names there are none where none can begin with a prefix.
-    next_short: Option<(&'a ShortName, &'a Named)>,
-    short: Option<btree_map::Range<'a, ShortName, Named>>,
+    next_short: Option<(&'a ShortName, &'a NamedBox)>,
+    short: Option<btree_map::Range<'a, ShortName, NamedBox>>,
     next_long: Option<(&'a Vec<u8>, &'a Named)>,
     long: btree_map::Range<'a, Vec<u8>, Named>,
 }
@@ -49,9 +50,9 @@ impl<'a> Iterator for NameEntries<'a> {
 
     fn next(&mut self) -> Option<(&'a [u8], &'a Named)> {
         match self.next_short {
-            Some((short, named)) if is_before(short, self.next_long) => {
+            Some((short, boxed)) if is_before(short, self.next_long) => {
                 self.next_short = next_of(&mut self.short);
-                Some((short.as_slice(), named))
+                Some((short.as_slice(), boxed.get()))
             }
             _ => {
                 let (long, named) = self.next_long?;
@@ -74,8 +75,8 @@ fn is_before(short: &ShortName, next_long: Option<(&Vec<u8>, &Named)>) -> bool
 
 // The next of the short names, where there are any.
 fn next_of<'a>(
-    short: &mut Option<btree_map::Range<'a, ShortName, Named>>,
-) -> Option<(&'a ShortName, &'a Named)>
+    short: &mut Option<btree_map::Range<'a, ShortName, NamedBox>>,
+) -> Option<(&'a ShortName, &'a NamedBox)>
     ensures { left_short result short.new ≡ unwrap_or short.old [] }
 {
     match short {
@@ -87,7 +88,7 @@ fn next_of<'a>(
 impl<'a> NameEntries<'a> {
     // Those of a part of each tree, and of short names of none where none can begin with a prefix.
     fn new(
-        mut short: Option<btree_map::Range<'a, ShortName, Named>>,
+        mut short: Option<btree_map::Range<'a, ShortName, NamedBox>>,
         mut long: btree_map::Range<'a, Vec<u8>, Named>,
     ) -> NameEntries<'a>
         ensures { result ≡ merged (unwrap_or short.entry []) (map long_entry long.entry) }
@@ -107,7 +108,7 @@ impl NameMap {
         ensures order { IsStrictlySortedBy (slice_cmp nat_cmp) (entry_names result) }
         ensures found { (q : List ℕ) → found_in result q ≡ at_name self.now q }
     {
-        NameEntries::new(Some(self.short.range(..)), self.long.range(..))
+        NameEntries::new(Some(self.short.tree.range(..)), self.long.range(..))
     }
 
     /// The names from a prefix on with what stands under them, in the order of their bytes: all that begin with it are among them.
@@ -117,7 +118,7 @@ impl NameMap {
         ensures only { (q : List ℕ) → is_some (found_in result q) ≡ true → found_in result q ≡ at_name self.now q }
     {
         let short = match ShortName::of(prefix) {
-            Some(first) => Some(self.short.range(&first..)),
+            Some(first) => Some(self.short.tree.range(&first..)),
             None => None,
         };
         NameEntries::new(short, self.long.range(prefix..))

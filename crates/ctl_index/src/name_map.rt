@@ -7,6 +7,8 @@ ghost use Rattle.std.specs.Str.{bytes_eq};
 ghost use Rattle.ctl_index.specs.NameMap.{AreApart};
 
 use crate::named::Named;
+use crate::named_box::NamedBox;
+use crate::short_map::ShortMap;
 use crate::short_name::ShortName;
 use std::alloc::{AllocError, Global};
 use std::collections::BTreeMap;
@@ -14,9 +16,9 @@ use std::collections::BTreeMap;
 /// What stands under each name.
 #[derive(Drop)]
 pub(crate) struct NameMap {
-    pub(crate) short: BTreeMap<ShortName, Named>,
+    pub(crate) short: ShortMap,
     pub(crate) long: BTreeMap<Vec<u8>, Named>,
-    ghost apart: { AreApart short long },
+    ghost apart: { AreApart short.tree long },
 }
 
 impl NameMap {
@@ -27,7 +29,9 @@ impl NameMap {
         ensures { HoldsNothing result }
     {
         NameMap {
-            short: BTreeMap::new(alloc),
+            short: ShortMap {
+                tree: BTreeMap::new(alloc),
+            },
             long: BTreeMap::new(alloc),
         }
     }
@@ -37,7 +41,10 @@ impl NameMap {
         ensures { option_copied result ≡ at_name self.now name.now }
     {
         match ShortName::of(name) {
-            Some(short) => self.short.get(&short),
+            Some(short) => match self.short.tree.get(&short) {
+                Some(boxed) => Some(boxed.get()),
+                None => None,
+            },
             None => self.long.get(name),
         }
     }
@@ -65,7 +72,8 @@ impl NameMap {
     {
         match ShortName::of(name) {
             Some(short) => {
-                self.short.insert(short, named)?;
+                let boxed = NamedBox::new(alloc, named)?;
+                self.short.tree.insert(short, boxed)?;
             }
             None => {
                 let key = Vec::from_slice(alloc, name)?;
@@ -81,7 +89,7 @@ impl NameMap {
     {
         match ShortName::of(name) {
             Some(short) => {
-                self.short.remove(&short);
+                self.short.tree.remove(&short);
             }
             None => {
                 self.long.remove(name);

@@ -10,8 +10,8 @@ pub returns-in-Some-clause-steps : goal.returns-in-Some-clause-steps
 returns-in-Some-clause-steps c =
     let inside = c.self.inside in
     sym c.self.view_is ∙ ap (λ n. merged (left_short n inside.short) (left_long inside.next_long inside.long)) c.in-Some.is
-    ∙ takes_short (c.in-Some.short, c.in-Some.named) inside.short inside.next_long inside.long c.is_before.result c.is_before.ensures c.if-is_before.true
-    ∙ (λ i. (sym c.as_slice.ensures.bytes i, c.in-Some.named.now) ∷ merged (sym c.next_of-self-inside.ensures i) (left_long inside.next_long inside.long))
+    ∙ takes_short (c.in-Some.short, c.in-Some.boxed) inside.short inside.next_long inside.long c.is_before.result c.is_before.ensures c.if-is_before.true
+    ∙ (λ i. (sym c.as_slice.ensures.bytes i, sym c.get.ensures i) ∷ merged (sym c.next_of-self-inside.ensures i) (left_long inside.next_long inside.long))
 
 pub returns-in-Some-clause-goes : goal.returns-in-Some-clause-goes
 returns-in-Some-clause-goes c = let shorter = ap length (returns-in-Some-clause-steps c) in search rules
@@ -27,7 +27,7 @@ returns-in_ok-long-in_default-clause-steps c =
       | in_default-via-in-Some+else-is_before w ↦
           let told = rw c.in_ok-long-in_default.was at w.is_before.ensures in
           rw (c.in_ok-long-in_default.was, w.in-Some.is)
-          (takes_long (w.in-Some.short, w.in-Some.named) inside.short long inside.long w.is_before.result told w.if-is_before.false)
+          (takes_long (w.in-Some.short, w.in-Some.boxed) inside.short long inside.long w.is_before.result told w.if-is_before.false)
       | in_default-via-in_default w ↦ rw (c.in_ok-long-in_default.was, w.in_default.is) (takes_only_long inside.short long inside.long)
     ] in
     sym c.self.view_is ∙ taken
