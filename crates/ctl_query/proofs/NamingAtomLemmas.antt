@@ -23,7 +23,7 @@ use Rattle.ctl_query.specs.Leads.{leads_of, lead_atom_cmp, line_at, is_at}
 use Rattle.ctl_query.specs.Packages.{is_none_of, packages_of, of_rows}
 use Rattle.ctl_query.specs.ReverseDepends.{naming_in_group, naming_in_field, naming_in_lead}
 use Rattle.ctl_query.specs.ShowPackage.{naming_line, line_if_naming}
-use Rattle.ctl_query.specs.Texts.{line, joined}
+use Rattle.ctl_filter.specs.Texts.{line, joined}
 use Rattle.ctl_query.proofs.AtomLemmas.{IsTail, tail_whole, tail_head, tail_next, atoms_in, atoms_from, outside_silent, named_is_naming}
 use Rattle.ctl_query.proofs.AtomOrderLemmas.{atoms_sorted, of_two}
 use Rattle.ctl_query.proofs.LeadAtomLemmas.{atom_of}

@@ -7,7 +7,6 @@ pub mod ReverseDepends
 pub mod Unmet
 pub mod Policy
 pub mod ShowPackage
-pub mod Words
 pub mod Asked
 pub mod Query
 pub mod QueryRead

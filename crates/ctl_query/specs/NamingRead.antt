@@ -2,7 +2,7 @@
 use Rattle.std.specs.Prelude.{ℕ, Bool, ◌&&◌, List, [], ◌∷◌, Option, Some}
 use Rattle.std.specs.Option.{option_map_or}
 use Rattle.ctl_query.specs.Depends.{mark}
-use Rattle.ctl_query.specs.Texts.{line}
+use Rattle.ctl_filter.specs.Texts.{line}
 
 -- one atom more: whether a further alternative follows each of them
 abbrev pub with_naming : Option Bool → Bool → Option Bool

@@ -5,7 +5,8 @@ ghost use Rattle.ctl_query.specs.ShowPackage.{asker, naming_line, line_if_naming
 ghost use Rattle.ctl_query.specs.ShowPackage.{relation_line, relations_in, relation_lines, entry_line, entry_lines};
 ghost use Rattle.ctl_query.specs.ShowPackage.{has_name, providing_line, line_if_providing, providing_lines};
 
-use crate::text::{append_line, append_parts, version_text};
+use crate::text::version_text;
+use ctl_filter::{append_line, append_parts};
 use ctl_relation::{Atom, FieldKind, Group};
 use ctl_stanza::Stanza;
 use std::alloc::AllocError;
@@ -23,7 +24,7 @@ fn append_asker(lead: &Stanza, out: &mut Vec<u8>) -> Result<(), AllocError>
 }
 
 /// Appends what is told of an atom of a lead that names a name.
-#[tactic(auto, unfolding(crate::specs::Texts::line))]
+#[tactic(auto, unfolding(ctl_filter::specs::Texts::line))]
 pub(crate) fn append_naming_line(
     lead: &Stanza,
     field: FieldKind,
@@ -96,7 +97,7 @@ pub(crate) fn append_naming_lines(
     Ok(())
 }
 
-#[tactic(auto, unfolding(crate::specs::Texts::line))]
+#[tactic(auto, unfolding(ctl_filter::specs::Texts::line))]
 fn append_relation(
     lead: &Stanza,
     field: FieldKind,
@@ -135,7 +136,7 @@ pub(crate) fn append_relation_lines(lead: &Stanza, out: &mut Vec<u8>) -> Result<
     Ok(())
 }
 
-#[tactic(auto, unfolding(crate::specs::Texts::line))]
+#[tactic(auto, unfolding(ctl_filter::specs::Texts::line))]
 fn append_entry(lead: &Stanza, entry: &Group<'_>, out: &mut Vec<u8>) -> Result<(), AllocError>
     ensures { OnOk result (out.new.items ≡ out.old.items ++ entry_line lead.now entry.now) }
 {
@@ -170,7 +171,7 @@ fn has_name(name: &[u8], entry: &Group<'_>) -> bool
     }
 }
 
-#[tactic(auto, unfolding(crate::specs::Texts::line))]
+#[tactic(auto, unfolding(ctl_filter::specs::Texts::line))]
 fn append_providing(lead: &Stanza, entry: &Group<'_>, out: &mut Vec<u8>) -> Result<(), AllocError>
     ensures { OnOk result (out.new.items ≡ out.old.items ++ providing_line lead.now entry.now) }
 {

@@ -15,7 +15,7 @@ use crate::interest::stanzas_are_found;
 use crate::lead_atoms::{LeadAtom, list_atoms};
 use crate::lead_table::LeadTable;
 use crate::relation_lines::mark;
-use crate::text::append_line;
+use ctl_filter::append_line;
 use ctl_policy::rows_are_classes;
 use ctl_relation::Group;
 use ctl_stanza::Stanza;
@@ -80,7 +80,7 @@ fn joined_naming<'a>(found: Option<Naming<'a>>, naming: Naming<'a>) -> Naming<'a
 }
 
 // Appends the line of a package, with `--installed` of one of which a row is installed alone.
-#[tactic(auto, unfolding(crate::specs::Texts::line))]
+#[tactic(auto, unfolding(ctl_filter::specs::Texts::line))]
 fn append_line_of(
     asking: &Asking<'_>,
     installed: bool,

@@ -6,14 +6,14 @@ ghost use Rattle.std.specs.List.{list_all, prefix_len};
 ghost use Rattle.ctl_relation.specs.Names.{is_name};
 ghost use Rattle.ctl_store.specs.declared.refusal.Refusal.TheVariants as refusal;
 ghost use Rattle.ctl_filter.specs.Query.{filter_of};
-ghost use Rattle.ctl_query.specs.Words.{is_among};
+ghost use Rattle.ctl_query.specs.NameSet.{is_among};
 ghost use Rattle.ctl_query.specs.Asked.{asked_row};
 ghost use Rattle.ctl_query.specs.Query.{Query as Asked, is_option, is_argument, is_important, is_installed_alone};
 ghost use Rattle.ctl_query.specs.Query.{depends_options, shows_all};
 ghost use Rattle.ctl_query.specs.Query.{is_before_equals, options_of, version_asked, row_of_parts, row_asked, rows_asked};
 ghost use Rattle.ctl_query.specs.Query.{some_names_asked, query_by, query_in, asked_filter};
 ghost use Rattle.ctl_query.specs.Query.{query_of, query_behind, begin_query};
-ghost use Rattle.ctl_query.specs.QueryRead.{Reads, ReadsQuery, query_text};
+ghost use Rattle.ctl_query.specs.QueryRead.{ReadsQuery, query_text};
 
 use crate::query::{AskedRow, DependsOptions, Query};
 use crate::query_name::{CacheQuery, QueryName};

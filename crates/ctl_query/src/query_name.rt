@@ -1,7 +1,7 @@
 //! The names of queries, and their options.
 
 ghost use Rattle.std.specs.Prelude.{◌≡◌, is_some};
-ghost use Rattle.ctl_query.specs.Words.{is_among};
+ghost use Rattle.ctl_query.specs.NameSet.{is_among};
 ghost use Rattle.ctl_query.specs.Query.{query_named, query_name_of, is_query, is_filter_name, options_of};
 
 /// A query of apt-cache(8), by its name.

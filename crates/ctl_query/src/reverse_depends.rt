@@ -16,7 +16,8 @@ use crate::interest::{packages_naming, stanzas_are_found};
 use crate::lead_table::LeadTable;
 use crate::naming::append_by_atoms;
 use crate::relation_lines::mark;
-use crate::text::{append_line, append_unknown};
+use crate::text::append_unknown;
+use ctl_filter::append_line;
 use ctl_policy::rows_are_classes;
 use ctl_relation::{Bytes, FieldKind, Group};
 use ctl_stanza::Stanza;
@@ -92,7 +93,7 @@ fn naming_of(asking: &Asking<'_>, name: &[u8], asker: &[u8]) -> Option<bool>
 }
 
 /// Appends the line of a package, where an atom was found that names the name.
-#[tactic(auto, unfolding(crate::specs::Texts::line))]
+#[tactic(auto, unfolding(ctl_filter::specs::Texts::line))]
 fn append_naming(asker: &[u8], found: Option<bool>, out: &mut Vec<u8>) -> Result<(), AllocError>
     ensures { OnOk result (out.new.items ≡ out.old.items ++ naming_line asker.now found) }
 {

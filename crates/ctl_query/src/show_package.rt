@@ -15,7 +15,8 @@ ghost use Rattle.ctl_query.specs.NameSet.{lent_names};
 ghost use Rattle.ctl_query.specs.Packages.{rows_of, of_rows, of_all_rows, told_of_row};
 ghost use Rattle.ctl_query.specs.ShowPackage.{source_mark, version_line, naming_lines, relation_lines, entry_lines};
 ghost use Rattle.ctl_query.specs.ShowPackage.{providing_lines, show_package_one, show_package_text};
-ghost use Rattle.ctl_query.specs.Texts.{line, if_known};
+ghost use Rattle.ctl_filter.specs.Texts.{line};
+ghost use Rattle.ctl_query.specs.Texts.{if_known};
 
 use crate::asking::Asking;
 use crate::interest::{packages_naming, packages_providing, stanzas_are_found};
@@ -27,7 +28,8 @@ use crate::lead_table::LeadTable;
 use crate::leads::Leads;
 use crate::policy::row_version;
 use crate::row_sources::RowSources;
-use crate::text::{append_line, append_parts, append_unknown};
+use crate::text::append_unknown;
+use ctl_filter::{append_line, append_parts};
 use ctl_index::{NameView, Namers, Offering};
 use ctl_policy::{NewestFirst, rows_are_classes};
 use ctl_relation::Bytes;
@@ -49,7 +51,7 @@ fn append_sources(store: &Store, row: &[StanzaKey], out: &mut Vec<u8>) -> Result
 }
 
 /// Appends a row with the lists that hold it.
-#[tactic(auto, unfolding(crate::specs::Texts::line))]
+#[tactic(auto, unfolding(ctl_filter::specs::Texts::line))]
 fn append_version(store: &Store, row: &[StanzaKey], out: &mut Vec<u8>) -> Result<(), AllocError>
     requires held { AreHeld row.now (keyed_of store.now).lists }
     requires rising { AreRising row.now }
