@@ -14,7 +14,6 @@ pub mod Answer
 pub mod NameSet
 pub mod Interest
 pub mod Providers
-pub mod NamingRead
 pub mod Holdings
 pub mod Anew
 pub mod Leads
