@@ -10,6 +10,7 @@ pub mod Grammar
 pub mod Trees
 pub mod Laws
 pub mod Texts
+pub mod Read
 pub mod Query
 pub mod Grep
 pub mod Asking

@@ -2,7 +2,7 @@
 
 ghost use Rattle.std.specs.Prelude.{◌≡◌, ◌++◌, ◌∷◌, ◌⊎◌, [], List, false, IfOk, IfErr, OnOk, Ok, Err, true};
 ghost use Rattle.ctl_store.specs.declared.refusal.Refusal.TheVariants as refusal;
-ghost use Rattle.ctl_filter.specs.Inside.Reads.{Reads};
+ghost use Rattle.ctl_filter.specs.Read.{Reads};
 ghost use Rattle.ctl_filter.specs.Words.{sign_named, manner_named, onto_word, onto_pieces, takes_argument, argument_piece};
 ghost use Rattle.ctl_filter.specs.Words.{argument_given, letter_piece, cluster, is_pattern, long_word, word_by};
 ghost use Rattle.ctl_filter.specs.Words.{word_pieces, pieces_from, pieces_of};

@@ -7,7 +7,7 @@ ghost use Rattle.ctl_filter.specs.declared.piece.Piece.TheVariants as piece;
 ghost use Rattle.ctl_filter.specs.Atoms.{Parts, no_modifiers, is_bare, with_fields, more_fields, parts_of};
 ghost use Rattle.ctl_filter.specs.Inside.Values.{modifiers_of, asked_atom, resumed};
 ghost use Rattle.ctl_filter.specs.Names.{names_in, are_field_names};
-ghost use Rattle.ctl_filter.specs.Inside.Reads.{Reads};
+ghost use Rattle.ctl_filter.specs.Read.{Reads};
 
 use crate::names::{append_names, are_field_names};
 use crate::piece::{Manner, Piece};

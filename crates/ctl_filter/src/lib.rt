@@ -30,3 +30,4 @@ pub use laws::{
 };
 pub use parsing::parse_filter;
 pub use query::FilterQuery;
+pub use text::{append_line, append_parts};

@@ -5,8 +5,8 @@ ghost use Rattle.ctl_filter.specs.Texts.{joined, line};
 
 use std::alloc::AllocError;
 
-/// Appends parts, one after another.
-pub(crate) fn append_parts(out: &mut Vec<u8>, parts: &[&[u8]]) -> Result<(), AllocError>
+/// Appends parts, one after another. The only error is want of memory.
+pub fn append_parts(out: &mut Vec<u8>, parts: &[&[u8]]) -> Result<(), AllocError>
     ensures { OnOk result (out.new.items ≡ out.old.items ++ joined (map (λ part. part.now) parts.now)) }
 {
     for part in parts {
@@ -15,9 +15,9 @@ pub(crate) fn append_parts(out: &mut Vec<u8>, parts: &[&[u8]]) -> Result<(), All
     Ok(())
 }
 
-/// Appends a line.
+/// Appends a line: its parts, one after another, and a newline. The only error is want of memory.
 #[tactic(auto, unfolding(crate::specs::Texts::line))]
-pub(crate) fn append_line(out: &mut Vec<u8>, parts: &[&[u8]]) -> Result<(), AllocError>
+pub fn append_line(out: &mut Vec<u8>, parts: &[&[u8]]) -> Result<(), AllocError>
     ensures { OnOk result (out.new.items ≡ out.old.items ++ line (map (λ part. part.now) parts.now)) }
 {
     append_parts(out, parts)?;

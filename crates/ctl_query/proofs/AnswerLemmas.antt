@@ -18,7 +18,8 @@ use Rattle.ctl_policy.specs.Candidate.{installed_of, candidate_of}
 use Rattle.ctl_filter.specs.Grep.{filter_text}
 use Rattle.ctl_query.specs.declared.query.DependsOptions.{DependsOptions}
 use Rattle.ctl_query.specs.Packages.{is_none_of, stanzas_of, names_known, is_known, rows_of, has_row, packages_of, is_installed, stanza_under, lead_in, told, told_of_row, of_rows, of_all_rows}
-use Rattle.ctl_query.specs.Texts.{line, if_known, unknown_line, right_four}
+use Rattle.ctl_filter.specs.Texts.{line}
+use Rattle.ctl_query.specs.Texts.{if_known, unknown_line, right_four}
 use Rattle.ctl_query.specs.PackageNames.{package_names_text, name_line, begins_with}
 use Rattle.ctl_query.specs.Show.{AskedRow, lead_text, not_found_line, version_shown, rows_shown, show_text}
 use Rattle.ctl_query.specs.Policy.{priority_of, row_version, version_or_none, are_equal, are_of_one_row, row_mark, row_lines, policy_one, line_if_pinned, pinned_lines, policy_of_all}

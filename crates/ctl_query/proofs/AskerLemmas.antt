@@ -22,12 +22,19 @@ use Rattle.ctl_query.specs.Inside.Namings.{Naming, line_of, lines_behind}
 use Rattle.ctl_query.specs.Packages.{told, told_of_row, of_rows, rows_of, packages_of, names_known, has_row, is_installed}
 use Rattle.ctl_query.specs.ReverseDepends.{naming_in_lead, naming, asker_line, asking_line}
 use Rattle.ctl_query.proofs.ClassLemmas.{AreClasses, each_class}
-use Rattle.ctl_query.proofs.GroupLemmas.{and_true, and_moved}
 use Rattle.ctl_query.proofs.LeadLemmas.{alike}
 use Rattle.ctl_query.proofs.NamingAtomLemmas.{namings_of}
 use Rattle.ctl_query.proofs.NamingLemmas.{all_turned}
 use Rattle.ctl_query.proofs.OrderLemmas.{in_order_sorted}
 use Rattle.ctl_query.proofs.SilentLemmas.{of_name}
+
+and_true : (b : Bool) → b ≡ (b && true)
+and_true true = refl
+and_true false = refl
+
+and_moved : (a b c : Bool) → ((a && b) && c) ≡ (a && (b && c))
+and_moved true b c = refl
+and_moved false b c = refl
 
 -- each with its package
 abbrev own : List ℕ → List Bool → List Naming
@@ -127,10 +134,12 @@ module _ (world : World) (installed : Bool) where
         at_package p ps (all_turned (λ q. slice_cmp nat_cmp p q ≡ Less) (λ q. bytes_eq p q ≡ false) ps (other_name p) sorted.0)
         (flat_map (asking_line world installed name) ps) (flat_map (λ q. own q (naming world name q)) ps) (told_in_order ps sorted.1) found apart (naming world name p)
 
-    -- What the leads of all packages tell, one after another, are the lines of all packages.
-    pub lines_of_all : AreClasses → AreAt (entries_of world.lists) world.lists →
-        lines None (flat_map (of_rows world (namings_of name)) (packages_of world)) ≡ flat_map (asking_line world installed name) (packages_of world)
-    unfolding packages_of known_names
-    lines_of_all classes at =
-        ap (lines None) (alike _ _ (λ p. of_package world name p classes at) (packages_of world))
-        ∙ told_in_order (packages_of world) (IsStrictlySortedBy-filter (slice_cmp nat_cmp) (has_row world) (names_known world) (in_order_sorted _)) None tt
+    -- What the leads of packages tell, one after another, are the lines of these packages.
+    pub lines_of_packages : AreClasses → AreAt (entries_of world.lists) world.lists → (ps : List (List ℕ)) → IsStrictlySortedBy (slice_cmp nat_cmp) ps →
+        lines None (flat_map (of_rows world (namings_of name)) ps) ≡ flat_map (asking_line world installed name) ps
+    lines_of_packages classes at ps sorted = ap (lines None) (alike _ _ (λ p. of_package world name p classes at) ps) ∙ told_in_order ps sorted None tt
+
+-- packages are in order
+pub packages_sorted : (world : World) → IsStrictlySortedBy (slice_cmp nat_cmp) (packages_of world)
+unfolding packages_of known_names
+packages_sorted world = IsStrictlySortedBy-filter (slice_cmp nat_cmp) (has_row world) (names_known world) (in_order_sorted _)

@@ -1,15 +1,16 @@
 -- The leads of all rows: what is told of rows is told of them, and each stands under its key.
-use Rattle.std.proofs.Common.{◌≡◌, ◌∙◌, ℕ, false, List, [], ◌∷◌, ◌++◌, map, flat_map, Option, None, Some, refl, sym, ap, append-nil, append_assoc}
+use Rattle.std.proofs.Common.{◌≡◌, ◌∙◌, ℕ, false, List, [], ◌∷◌, ◌++◌, map, flat_map, Option, None, Some, refl, sym, ap, subst, append-nil, append_assoc}
 use Rattle.std.specs.List.{AllByRecursion}
 use Rattle.std.specs.Option.{option_map_or}
 use Rattle.std.proofs.lemmas.Grind.{flat_map-append}
 use Rattle.ctl_stanza.specs.Content.{Content}
 use Rattle.ctl_store.specs.declared.stanza_key.StanzaKey.{StanzaKey}
 use Rattle.ctl_store.specs.Entries.{Entry, AreAt}
+use Rattle.ctl_store.specs.Held.{Held, keyed_of}
 use Rattle.ctl_store.specs.Keys.{stanza_at}
 use Rattle.ctl_index.specs.Names.{known_names}
 use Rattle.ctl_policy.specs.Rows.{Row, rows_named, newest_first, keys_of_row, is_any_row}
-use Rattle.ctl_policy.specs.Priority.{World}
+use Rattle.ctl_policy.specs.Priority.{World, world_of}
 use Rattle.ctl_query.specs.Packages.{stanzas_of, names_known, has_row, of_rows, told_of_row, rows_of, packages_of}
 use Rattle.ctl_query.specs.Leads.{keyed_lead, leads_named, leads_of}
 use Rattle.ctl_query.proofs.AtomOrderLemmas.{all_append}
@@ -54,10 +55,9 @@ module _ (world : World) where
         → now ≡ before ++ (heading ++ flat_map (told_of_row world text) rows)
     as_told_under before heading now rows told = as_told (before ++ heading) now rows told ∙ append_assoc before heading (flat_map (told_of_row world text) rows)
 
-    -- and so it is with all rows
-    pub told_of_leads : flat_map (of_rows world text) (packages_of world) ≡ flat_map (λ (e : Entry). text e.1) (leads_of world)
-    unfolding leads_of
-    told_of_leads = alike _ _ (λ name. told_by_leads (rows_of world name)) (packages_of world) ∙ sym (twice (λ (e : Entry). text e.1) (leads_named world) (packages_of world))
+    -- and so it is with the rows of names
+    pub told_of_leads : (names : List (List ℕ)) → flat_map (of_rows world text) names ≡ flat_map (λ (e : Entry). text e.1) (flat_map (leads_named world) names)
+    told_of_leads names = alike _ _ (λ name. told_by_leads (rows_of world name)) names ∙ sym (twice (λ (e : Entry). text e.1) (leads_named world) names)
 
   -- ---- where they stand
 
@@ -73,9 +73,8 @@ module _ (world : World) where
   pub leads_of_rows_at : (rows : List (List StanzaKey)) → AreAt (flat_map (keyed_lead world) rows) world.lists
   leads_of_rows_at rows = all_of_each _ (keyed_lead world) lead_at rows
 
-  pub leads_at : AreAt (leads_of world) world.lists
-  unfolding leads_of
-  leads_at = all_of_each _ (leads_named world) (λ name. leads_of_rows_at (rows_of world name)) (packages_of world)
+  pub leads_at : (names : List (List ℕ)) → AreAt (flat_map (leads_named world) names) world.lists
+  leads_at names = all_of_each _ (leads_named world) (λ name. leads_of_rows_at (rows_of world name)) names
 
   -- ---- of the rows of all names
 
@@ -97,3 +96,7 @@ module _ (world : World) where
   pub leads_of_known : flat_map (flat_map (keyed_lead world)) (map (λ (name : List ℕ). map keys_of_row (newest_first (rows_named name world.lists))) (known_names (stanzas_of world))) ≡ leads_of world
   unfolding leads_of packages_of
   leads_of_known = leads_by_name (names_known world) ∙ skip (leads_named world) (has_row world) no_leads (names_known world)
+
+-- leads of packages stand in the store
+pub leads_held : (store : Held) (names : List (List ℕ)) (leads : List Entry) → leads ≡ flat_map (leads_named (world_of store)) names → AreAt leads (keyed_of store).lists
+leads_held store names leads are = subst (λ (es : List Entry). AreAt es (keyed_of store).lists) (sym are) (leads_at (world_of store) names)

@@ -84,11 +84,11 @@ numbered-push : (n : ℕ) (es : List Entry) (e : Entry) → numbered_from n (es 
 numbered-push n [] e = ap (λ (m : ℕ). (e.0, m) ∷ []) (omega arith)
 numbered-push n (x ∷ es) e = ap (λ ps. (x.0, n) ∷ ps) (numbered-push (n + 1) es e ∙ ap (λ (m : ℕ). numbered_from (n + 1) es ++ (e.0, m) ∷ []) (omega arith))
 
-lent-push : (xs : List (StanzaKey × Bor Content)) (x : StanzaKey × Bor Content) → lent_leads (xs ++ x ∷ []) ≡ lent_leads xs ++ (x.0, x.1.now) ∷ []
+pub lent-push : (xs : List (StanzaKey × Bor Content)) (x : StanzaKey × Bor Content) → lent_leads (xs ++ x ∷ []) ≡ lent_leads xs ++ (x.0, x.1.now) ∷ []
 lent-push [] x = refl
 lent-push (y ∷ xs) x = ap (λ ys. (y.0, y.1.now) ∷ ys) (lent-push xs x)
 
-lent_taken : (i : ℕ) (xs : List (StanzaKey × Bor Content)) → i ≤ length xs → length (lent_leads (take i xs)) ≡ i
+pub lent_taken : (i : ℕ) (xs : List (StanzaKey × Bor Content)) → i ≤ length xs → length (lent_leads (take i xs)) ≡ i
 lent_taken zero xs l = refl
 lent_taken (suc i) [] l = absurd (omega arith)
 lent_taken (suc i) (x ∷ xs) l = ap suc (lent_taken i xs (omega arith))

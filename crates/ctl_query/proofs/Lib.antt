@@ -19,7 +19,6 @@ pub mod ListedAtomLemmas
 pub mod NameLemmas
 pub mod NamingAtomLemmas
 pub mod NamingLemmas
-pub mod NoNameLemmas
 pub mod OfferingLemmas
 pub mod OrderLemmas
 pub mod PackageLemmas

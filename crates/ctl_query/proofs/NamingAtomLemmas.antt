@@ -19,15 +19,14 @@ use Rattle.ctl_index.specs.Names.{naming_fields, keyed_group, keyed_groups, name
 use Rattle.ctl_policy.specs.Priority.{world_of}
 use Rattle.ctl_query.specs.declared.lead_atoms.LeadAtom.{LeadAtom}
 use Rattle.ctl_query.specs.Inside.Namings.{Naming, further_if_named, further_in, naming_in, namings_at}
-use Rattle.ctl_query.specs.Leads.{leads_of, lead_atom_cmp, line_at, is_at}
-use Rattle.ctl_query.specs.Packages.{is_none_of, packages_of, of_rows}
+use Rattle.ctl_query.specs.Leads.{lead_atom_cmp, line_at, is_at, atom_of, leads_named}
+use Rattle.ctl_query.specs.Packages.{is_none_of, of_rows}
 use Rattle.ctl_query.specs.ReverseDepends.{naming_in_group, naming_in_field, naming_in_lead}
 use Rattle.ctl_query.specs.ShowPackage.{naming_line, line_if_naming}
-use Rattle.ctl_query.specs.Texts.{line, joined}
+use Rattle.ctl_filter.specs.Texts.{line, joined}
 use Rattle.ctl_query.proofs.AtomLemmas.{IsTail, tail_whole, tail_head, tail_next, atoms_in, atoms_from, outside_silent, named_is_naming}
 use Rattle.ctl_query.proofs.AtomOrderLemmas.{atoms_sorted, of_two}
-use Rattle.ctl_query.proofs.LeadAtomLemmas.{atom_of}
-use Rattle.ctl_query.proofs.LeadLemmas.{told_of_leads, leads_at}
+use Rattle.ctl_query.proofs.LeadLemmas.{told_of_leads, leads_held}
 
 -- the atoms of a lead that name a name, each with the package of the lead
 abbrev pub namings_of : List ℕ → Content → List Naming
@@ -148,14 +147,14 @@ quiet leads name a none = by (slice_get leads a.place) none
     by None h = refl
     by (Some e) h = at_group e (slice_get (groups_of a.field e.1) a.group) h
 
--- The atoms of all leads that name a name tell of all packages which name it.
-pub atoms_tell : (store : Held) (name : List ℕ) (atoms : List LeadAtom) → IsStrictlySortedBy lead_atom_cmp atoms
-    → ((a : LeadAtom) → list_any (λ b. is_eq (lead_atom_cmp a b)) atoms ≡ list_any (λ (k : AtomKey). is_at (leads_of (world_of store)) k a) (namers_named name (standing store)))
-    → flat_map (namings_at (leads_of (world_of store)) name) atoms ≡ flat_map (of_rows (world_of store) (namings_of name)) (packages_of (world_of store))
-atoms_tell store name atoms sorted members =
-    let leads = leads_of (world_of store) in
+-- The atoms of the leads of packages that name a name tell of all these packages which name it.
+pub atoms_tell : (store : Held) (name : List ℕ) (askers : List (List ℕ)) (leads : List Entry) → leads ≡ flat_map (leads_named (world_of store)) askers → (atoms : List LeadAtom) → IsStrictlySortedBy lead_atom_cmp atoms
+    → ((a : LeadAtom) → list_any (λ b. is_eq (lead_atom_cmp a b)) atoms ≡ list_any (λ (k : AtomKey). is_at leads k a) (namers_named name (standing store)))
+    → flat_map (namings_at leads name) atoms ≡ flat_map (of_rows (world_of store) (namings_of name)) askers
+atoms_tell store name askers leads are atoms sorted members =
     of_two (namings_at leads name) (atoms_from 0 leads) atoms (atoms_sorted 0 leads) sorted
     (λ a out. quiet leads name a (outside_silent leads name a out))
-    (λ a out. quiet leads name a (named_is_naming store leads name (leads_at (world_of store)) a (sym (members a) ∙ out)))
+    (λ a out. quiet leads name a (named_is_naming store leads name (leads_held store askers leads are) a (sym (members a) ∙ out)))
     ∙ told_from leads name 0 leads (tail_whole leads)
-    ∙ sym (told_of_leads (world_of store) (namings_of name))
+    ∙ ap (flat_map (λ (e : Entry). namings_of name e.1)) are
+    ∙ sym (told_of_leads (world_of store) (namings_of name) askers)

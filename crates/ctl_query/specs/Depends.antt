@@ -17,7 +17,8 @@ use Rattle.ctl_policy.specs.Priority.{World}
 use Rattle.ctl_policy.specs.Candidate.{candidate_of}
 use Rattle.ctl_query.specs.declared.query.DependsOptions.{DependsOptions}
 use Rattle.ctl_query.specs.Packages.{is_none_of, stanzas_of, rows_of, has_row, is_installed, stanza_under, told}
-use Rattle.ctl_query.specs.Texts.{line, if_known, field_label}
+use Rattle.ctl_filter.specs.Texts.{line}
+use Rattle.ctl_query.specs.Texts.{if_known, field_label}
 
 -- the lead of the first of some rows
 abbrev pub first_lead : List (List StanzaKey) → Option StanzaKey

@@ -1,15 +1,22 @@
 -- Leads that are lent, and where each stands by its key.
-use Rattle.std.specs.Prelude.{◌≡◌, ℕ, List, map, Option, Some}
+use Rattle.std.specs.Prelude.{◌≡◌, ◌⊎◌, ℕ, List, map, flat_map, Option, Some}
 use Rattle.std.specs.Borrow.{Bor}
 use Rattle.std.specs.BTreeMap.{is_at}
+use Rattle.std.specs.Cmp.Lexicographic.{slice_cmp}
 use Rattle.std.specs.List.{enumerate_from}
 use Rattle.std.specs.List.Sorted.{IsStrictlySortedBy}
 use Rattle.std.specs.Map.{keys_of, lookup}
+use Rattle.std.specs.Ordering.{nat_cmp}
 use Rattle.ctl_stanza.specs.Content.{Content}
 use Rattle.ctl_store.specs.declared.stanza_key.StanzaKey.{StanzaKey}
 use Rattle.ctl_store.specs.Entries.{Entry}
+use Rattle.ctl_store.specs.Held.{Held}
 use Rattle.ctl_store.specs.Keys.{key_cmp}
-use Rattle.ctl_query.specs.Leads.{key_at, lent_lead}
+use Rattle.ctl_policy.specs.Priority.{world_of}
+use Rattle.ctl_query.specs.Interest.{names_it}
+use Rattle.ctl_query.specs.Leads.{key_at, leads_named, lent_lead}
+use Rattle.ctl_query.specs.NameSet.{is_among}
+use Rattle.ctl_query.specs.Packages.{packages_of}
 
 -- leads that are lent
 abbrev pub lent_leads : List (StanzaKey × Bor Content) → List Entry
@@ -32,3 +39,14 @@ pub record ArePlaces (leads : List Entry) (places : List (StanzaKey × ℕ)) : T
   pub rising : AreInKeyOrder places
   pub there : (i : ℕ) (k : StanzaKey) → key_at leads i ≡ Some k → place_under k places ≡ Some i
   pub no_other : (i : ℕ) (k : StanzaKey) → place_under k places ≡ Some i → key_at leads i ≡ Some k
+
+-- ---- of which packages
+
+-- all packages, or those that name a name, in order
+abbrev pub AreAskers : Held → List ℕ → List (List ℕ) → Type 0
+AreAskers store name askers = (askers ≡ packages_of (world_of store))
+    ⊎ (IsStrictlySortedBy (slice_cmp nat_cmp) askers × ((asker : List ℕ) → is_among askers asker ≡ names_it store name asker))
+
+-- the leads of enough packages for the answers on who names a name
+abbrev pub AreEnough : Held → List ℕ → List Entry → Type 0
+AreEnough store name leads = (askers : List (List ℕ)) × (leads ≡ flat_map (leads_named (world_of store)) askers) × AreAskers store name askers

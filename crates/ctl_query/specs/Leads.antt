@@ -60,6 +60,10 @@ line_in name a lead = option_map_or (line_if_naming name lead a.field) (atom_in 
 abbrev pub line_at : List Entry → List ℕ → LeadAtom → List ℕ
 line_at leads name a = option_map_or (λ (e : Entry). line_in name a e.1) (slice_get leads a.place) []
 
+-- the atom that a key names, of the lead at a place
+abbrev pub atom_of : AtomKey → ℕ → LeadAtom
+atom_of k i = record { place = i; field = k.field; group = k.group; atom = k.atom }
+
 -- whether a key names the atom of a lead of this key
 abbrev pub is_key_of : LeadAtom → AtomKey → StanzaKey → Bool
 is_key_of a k key = key_is key k.stanza && (nat_eq (field_place a.field) (field_place k.field) && (nat_eq a.group k.group && nat_eq a.atom k.atom))

@@ -7,7 +7,6 @@ pub mod ReverseDepends
 pub mod Unmet
 pub mod Policy
 pub mod ShowPackage
-pub mod Words
 pub mod Asked
 pub mod Query
 pub mod QueryRead
@@ -15,7 +14,6 @@ pub mod Answer
 pub mod NameSet
 pub mod Interest
 pub mod Providers
-pub mod NamingRead
 pub mod Holdings
 pub mod Anew
 pub mod Leads

@@ -3,7 +3,7 @@ use Rattle.std.specs.Prelude.{ℕ, Bool, List, [], ◌∷◌, nat_eq, filter, fl
 use Rattle.std.specs.List.{starts_with}
 use Rattle.ctl_policy.specs.Priority.{World}
 use Rattle.ctl_query.specs.Packages.{packages_of, names_known}
-use Rattle.ctl_query.specs.Texts.{line}
+use Rattle.ctl_filter.specs.Texts.{line}
 
 abbrev pub name_line : List ℕ → List ℕ
 name_line name = line (name ∷ [])

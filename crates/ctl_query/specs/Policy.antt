@@ -10,7 +10,8 @@ use Rattle.ctl_policy.specs.Rows.{lead_of, version_under, sources_of}
 use Rattle.ctl_policy.specs.Priority.{World, list_priority, row_priority, specific_pin}
 use Rattle.ctl_policy.specs.Candidate.{installed_of, candidate_of}
 use Rattle.ctl_query.specs.Packages.{rows_of, packages_of}
-use Rattle.ctl_query.specs.Texts.{line, if_known, right_four}
+use Rattle.ctl_filter.specs.Texts.{line}
+use Rattle.ctl_query.specs.Texts.{if_known, right_four}
 
 -- the priority of a list; each that is asked for is there
 abbrev pub priority_of : World → List ℕ → ℤ

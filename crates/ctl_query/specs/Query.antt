@@ -8,7 +8,7 @@ use Rattle.ctl_store.specs.PinVersions.{is_version}
 use Rattle.ctl_store.specs.declared.refusal.Refusal.{Refusal}
 use Rattle.ctl_store.specs.declared.refusal.Refusal.TheVariants as refusal
 use Rattle.ctl_filter.specs.Query.{FilterQuery, filter_of}
-use Rattle.ctl_query.specs.Words.{is_among}
+use Rattle.ctl_query.specs.NameSet.{is_among}
 use Rattle.ctl_query.specs.Show.{AskedRow}
 use Rattle.ctl_query.specs.declared.query.DependsOptions.{DependsOptions}
 use Rattle.ctl_query.specs.declared.query_name.CacheQuery.{CacheQuery}

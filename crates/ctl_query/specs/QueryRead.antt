@@ -19,11 +19,6 @@ query_text (held.Policy names) = Policy names.items
 query_text (held.ShowPackage names) = ShowPackage names.items
 query_text (held.Filter filter) = Filter (asked_by filter)
 
--- The value of the definition was read, or it is refused as the definition says, or memory ran out.
-abbrev pub Reads : {X Y : Type 0} → (X → Y) → Result X Refusal → Result Y Refusal → Type 0
-Reads view (Ok x) asked = asked ≡ Ok (view x)
-Reads view (Err cause) asked = (asked ≡ Err cause) ⊎ (cause ≡ refusal.Memory)
-
 -- ---- patterns of `--rx`
 
 -- whether a query has one

@@ -8,7 +8,8 @@ use Rattle.ctl_stanza.specs.Content.{Content, groups_of}
 use Rattle.ctl_index.specs.Names.{naming_fields}
 use Rattle.ctl_policy.specs.Priority.{World}
 use Rattle.ctl_query.specs.Packages.{is_none_of, packages_of, is_installed, of_rows}
-use Rattle.ctl_query.specs.Texts.{line, if_known}
+use Rattle.ctl_filter.specs.Texts.{line}
+use Rattle.ctl_query.specs.Texts.{if_known}
 use Rattle.ctl_query.specs.Depends.{mark}
 
 -- for each atom of a group with the name: whether a further alternative follows it

@@ -6,7 +6,8 @@ use Rattle.ctl_policy.specs.Rows.{rows_named, lead_at}
 use Rattle.ctl_policy.specs.Priority.{World}
 use Rattle.ctl_policy.specs.Candidate.{candidate_of}
 use Rattle.ctl_query.specs.Packages.{has_row, stanza_under, told, of_rows}
-use Rattle.ctl_query.specs.Texts.{line, unknown_line}
+use Rattle.ctl_filter.specs.Texts.{line}
+use Rattle.ctl_query.specs.Texts.{unknown_line}
 
 -- a word of `show`: a name, and a version if it has one
 pub record AskedRow : Type 0 where

@@ -11,7 +11,8 @@ use Rattle.ctl_policy.specs.Rows.{sources_of}
 use Rattle.ctl_policy.specs.Priority.{World}
 use Rattle.ctl_query.specs.Packages.{rows_of, of_rows, of_all_rows, version_text}
 use Rattle.ctl_query.specs.Policy.{row_version}
-use Rattle.ctl_query.specs.Texts.{joined, line, if_known, field_label}
+use Rattle.ctl_filter.specs.Texts.{joined, line}
+use Rattle.ctl_query.specs.Texts.{if_known, field_label}
 
 -- ---- its versions
 

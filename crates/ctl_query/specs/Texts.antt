@@ -1,19 +1,11 @@
--- What the answers have in common: lines, and names that are not known.
-use Rattle.std.specs.Prelude.{ℕ, ℤ, ◌-◌, List, [], ◌∷◌, ◌++◌, length, take, codes, flat_map, if◌then◌else◌}
+-- What the answers have in common: names that are not known, and numbers.
+use Rattle.std.specs.Prelude.{ℕ, ℤ, ◌-◌, List, [], ◌∷◌, ◌++◌, length, take, codes, if◌then◌else◌}
 use Rattle.std.specs.Fmt.{signed_decimal}
 use Rattle.ctl_relation.specs.declared.field_kind.FieldKind.{FieldKind}
 use Rattle.ctl_relation.specs.FieldKind.{names_of}
-use Rattle.ctl_relation.specs.Bytes.{newline}
+use Rattle.ctl_filter.specs.Texts.{line}
 use Rattle.ctl_policy.specs.Priority.{World}
 use Rattle.ctl_query.specs.Packages.{is_known}
-
--- parts, one after another
-abbrev pub joined : List (List ℕ) → List ℕ
-joined parts = flat_map (λ part. part) parts
-
--- a line: its parts and a newline
-unfoldable pub line : List (List ℕ) → List ℕ
-line parts = joined parts ++ newline ∷ []
 
 -- what stands in place of the answer on a name that is not known
 abbrev pub unknown_line : List ℕ → List ℕ

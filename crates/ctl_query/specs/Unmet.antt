@@ -10,7 +10,8 @@ use Rattle.ctl_index.specs.Offers.{offers_among}
 use Rattle.ctl_index.specs.Clauses.{clause_fields}
 use Rattle.ctl_policy.specs.Priority.{World}
 use Rattle.ctl_query.specs.Packages.{stanzas_of, of_all_rows, version_text}
-use Rattle.ctl_query.specs.Texts.{line, field_label}
+use Rattle.ctl_filter.specs.Texts.{line}
+use Rattle.ctl_query.specs.Texts.{field_label}
 
 -- the four fields whose groups are clauses, or with `-i` the first two
 abbrev pub fields_considered : Bool → List FieldKind

@@ -1,10 +1,11 @@
 //! The atoms of leads that name a name, in the order in which `showpkg` tells them.
 
-ghost use Rattle.std.specs.Prelude.{◌≡◌, ◌||◌, ◌++◌, OnOk, IfOk, flat_map};
+ghost use Rattle.std.specs.Prelude.{◌≡◌, ◌&&◌, ◌||◌, ◌++◌, nat_eq, OnOk, IfOk, flat_map};
 ghost use Rattle.std.specs.List.{list_any};
 ghost use Rattle.std.specs.List.Sorted.{IsStrictlySortedBy};
 ghost use Rattle.ctl_index.specs.declared.keys.AtomKey.{AtomKey};
-ghost use Rattle.ctl_query.specs.Leads.{lead_atom_cmp, is_listed, line_in, line_at, is_at, atom_in};
+ghost use Rattle.ctl_query.specs.Leads.{lead_atom_cmp, is_listed, line_in, line_at, is_at, is_key_of, atom_in};
+ghost use Rattle.ctl_query.specs.LeadTable.{lent_leads};
 
 use crate::ahead::look_ahead;
 use crate::lead_lines::append_naming_line;
@@ -12,6 +13,7 @@ use crate::lead_table::LeadTable;
 use ctl_index::{AtomKey, Namers};
 use ctl_relation::{Atom, FieldKind};
 use ctl_stanza::Stanza;
+use ctl_store::{StanzaKey, compare_keys};
 use std::alloc::{AllocError, Global};
 
 /// Where an atom of a lead stands: the place of its lead among all leads, its field, the place of its group in the field and its
@@ -24,6 +26,42 @@ pub(crate) struct LeadAtom {
     pub(crate) atom: u32,
 }
 
+/// Adds the atom that a key names, if the lead at a place has this key.
+fn push_if(
+    atoms: &mut Vec<LeadAtom>,
+    place: usize,
+    lead: &StanzaKey,
+    key: AtomKey,
+) -> Result<(), AllocError>
+    ensures { OnOk result ((a : LeadAtom) → is_listed atoms.new.items a
+        ≡ ((nat_eq a.place place && is_key_of a key lead.now) || is_listed atoms.old.items a)) }
+{
+    if compare_keys(lead, &key.stanza).is_eq() {
+        atoms.push(LeadAtom {
+            place,
+            field: key.field,
+            group: key.group,
+            atom: key.atom,
+        })?;
+    }
+    Ok(())
+}
+
+/// Adds the atom that a key names, of each lead that has its key. They are gone through one by one.
+fn push_each(
+    atoms: &mut Vec<LeadAtom>,
+    leads: &[(StanzaKey, &Stanza)],
+    key: AtomKey,
+) -> Result<(), AllocError>
+    ensures { OnOk result ((a : LeadAtom) → is_listed atoms.new.items a
+        ≡ (is_at (lent_leads leads.now) key a || is_listed atoms.old.items a)) }
+{
+    for place in 0..leads.len() {
+        push_if(atoms, place, &leads[place].0, key)?;
+    }
+    Ok(())
+}
+
 /// Adds the atom that a key names, if its stanza is a lead.
 fn push_atom(
     atoms: &mut Vec<LeadAtom>,
@@ -33,7 +71,7 @@ fn push_atom(
     ensures { OnOk result ((a : LeadAtom) → is_listed atoms.new.items a ≡ (is_at table.now key a || is_listed atoms.old.items a)) }
 {
     match table.place(key.stanza) {
-        Some(place) => {
+        Some(Some(place)) => {
             atoms.push(LeadAtom {
                 place,
                 field: key.field,
@@ -42,7 +80,8 @@ fn push_atom(
             })?;
             Ok(())
         }
-        None => Ok(()),
+        Some(None) => Ok(()),
+        None => push_each(atoms, table.leads(), key),
     }
 }
 

@@ -1,11 +1,12 @@
 //! The lines of `showpkg` that one lead gives.
 
 ghost use Rattle.std.specs.Prelude.{◌≡◌, ◌++◌, OnOk, flat_map};
-ghost use Rattle.ctl_query.specs.ShowPackage.{asker, naming_line, line_if_naming, naming_lines, naming_in};
+ghost use Rattle.ctl_query.specs.ShowPackage.{asker, naming_line};
 ghost use Rattle.ctl_query.specs.ShowPackage.{relation_line, relations_in, relation_lines, entry_line, entry_lines};
 ghost use Rattle.ctl_query.specs.ShowPackage.{has_name, providing_line, line_if_providing, providing_lines};
 
-use crate::text::{append_line, append_parts, version_text};
+use crate::text::version_text;
+use ctl_filter::{append_line, append_parts};
 use ctl_relation::{Atom, FieldKind, Group};
 use ctl_stanza::Stanza;
 use std::alloc::AllocError;
@@ -23,7 +24,7 @@ fn append_asker(lead: &Stanza, out: &mut Vec<u8>) -> Result<(), AllocError>
 }
 
 /// Appends what is told of an atom of a lead that names a name.
-#[tactic(auto, unfolding(crate::specs::Texts::line))]
+#[tactic(auto, unfolding(ctl_filter::specs::Texts::line))]
 pub(crate) fn append_naming_line(
     lead: &Stanza,
     field: FieldKind,
@@ -40,63 +41,7 @@ pub(crate) fn append_naming_line(
     Ok(())
 }
 
-/// Appends the atoms of a group of a lead that name a name. Most groups have none, and are not read.
-fn append_naming_group(
-    name: &[u8],
-    lead: &Stanza,
-    field: FieldKind,
-    group: &Group<'_>,
-    out: &mut Vec<u8>,
-) -> Result<(), AllocError>
-    ensures { OnOk result (out.new.items ≡ out.old.items ++ flat_map (line_if_naming name.now lead.now field) group.now) }
-{
-    if !group.has_name(name) {
-        return Ok(());
-    }
-    'atoms: for atom in group.atoms() {
-        if atom.name() == name {
-            append_naming_line(lead, field, &atom, out)?;
-        }
-    }
-    Ok(())
-}
-
-// Most fields have no such atom, and their groups are not gone through.
-fn append_naming_field(
-    name: &[u8],
-    lead: &Stanza,
-    field: FieldKind,
-    out: &mut Vec<u8>,
-) -> Result<(), AllocError>
-    ensures { OnOk result (out.new.items ≡ out.old.items ++ naming_in name.now lead.now field) }
-{
-    let groups = lead.groups(field);
-    if !groups.have_name(name) {
-        return Ok(());
-    }
-    'groups: for group in groups {
-        append_naming_group(name, lead, field, &group, out)?;
-    }
-    Ok(())
-}
-
-/// Appends the atoms of the eight fields of a lead that name a name.
-#[tactic(auto, unfolding(crate::specs::ShowPackage::naming_lines))]
-pub(crate) fn append_naming_lines(
-    name: &[u8],
-    lead: &Stanza,
-    out: &mut Vec<u8>,
-) -> Result<(), AllocError>
-    ensures { OnOk result (out.new.items ≡ out.old.items ++ naming_lines name.now lead.now) }
-{
-    let fields = FieldKind::eight();
-    for field in fields {
-        append_naming_field(name, lead, *field, out)?;
-    }
-    Ok(())
-}
-
-#[tactic(auto, unfolding(crate::specs::Texts::line))]
+#[tactic(auto, unfolding(ctl_filter::specs::Texts::line))]
 fn append_relation(
     lead: &Stanza,
     field: FieldKind,
@@ -135,7 +80,7 @@ pub(crate) fn append_relation_lines(lead: &Stanza, out: &mut Vec<u8>) -> Result<
     Ok(())
 }
 
-#[tactic(auto, unfolding(crate::specs::Texts::line))]
+#[tactic(auto, unfolding(ctl_filter::specs::Texts::line))]
 fn append_entry(lead: &Stanza, entry: &Group<'_>, out: &mut Vec<u8>) -> Result<(), AllocError>
     ensures { OnOk result (out.new.items ≡ out.old.items ++ entry_line lead.now entry.now) }
 {
@@ -157,7 +102,7 @@ pub(crate) fn append_entry_lines(lead: &Stanza, out: &mut Vec<u8>) -> Result<(),
 }
 
 // Whether an entry has a name; it is read only where its name alone says so.
-#[tactic(auto, using(crate::proofs::NoNameLemmas::no_first_name))]
+#[tactic(auto, using(crate::proofs::GroupLemmas::no_first_name))]
 fn has_name(name: &[u8], entry: &Group<'_>) -> bool
     ensures { result ≡ has_name name.now entry.now }
 {
@@ -170,7 +115,7 @@ fn has_name(name: &[u8], entry: &Group<'_>) -> bool
     }
 }
 
-#[tactic(auto, unfolding(crate::specs::Texts::line))]
+#[tactic(auto, unfolding(ctl_filter::specs::Texts::line))]
 fn append_providing(lead: &Stanza, entry: &Group<'_>, out: &mut Vec<u8>) -> Result<(), AllocError>
     ensures { OnOk result (out.new.items ≡ out.old.items ++ providing_line lead.now entry.now) }
 {

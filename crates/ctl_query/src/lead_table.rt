@@ -1,31 +1,33 @@
-//! The leads of all rows, in the order in which answers on all packages tell of them. An answer that is gathered from the keys
+//! The leads of rows, in the order in which answers on all packages tell of them. An answer that is gathered from the keys
 //! of stanzas, in whatever order they come, finds by the table which of them are leads and where each stands in that order.
 
-ghost use Rattle.std.specs.Prelude.{◌≡◌, ℕ, true, false, Some, IfOk, IfSome, option_map, option_copied, slice_get};
+ghost use Rattle.std.specs.Prelude.{◌≡◌, ℕ, true, Some, IfOk, IfSome, flat_map, option_map, option_copied, slice_get};
 ghost use Rattle.ctl_store.specs.Entries.{Entry};
 ghost use Rattle.ctl_policy.specs.Priority.{world_of};
-ghost use Rattle.ctl_query.specs.Leads.{key_at, leads_of};
-ghost use Rattle.ctl_query.specs.LeadTable.{lent_leads, place_under, numbered_from, AreInKeyOrder};
+ghost use Rattle.ctl_query.specs.Leads.{key_at, leads_named, leads_of};
+ghost use Rattle.ctl_query.specs.LeadTable.{lent_leads, place_under, numbered_from, AreEnough, AreInKeyOrder, ArePlaces};
+ghost use Rattle.ctl_query.specs.NameSet.{lent_names};
 
 use crate::asking::Asking;
+use crate::interest::packages_naming;
 use crate::leads::Leads;
 use ctl_stanza::Stanza;
 use ctl_store::{StanzaKey, compare_keys};
 use std::alloc::{AllocError, Global};
 use std::marker::Model;
 
-/// The leads of all rows, package by package and of each the newest first, and where each stands by its key.
+/// The leads of the rows of packages, package by package and of each the newest first, and where each stands by its key.
 #[derive(Drop)]
 pub(crate) struct LeadTable<'a> {
     leads: Vec<(StanzaKey, &'a Stanza)>,
-    // The place of each among them, in the order of their keys.
-    places: Vec<(StanzaKey, usize)>,
+    // The place of each among them, in the order of their keys. None where two had one key, which no cache has.
+    places: Option<Vec<(StanzaKey, usize)>>,
     // The place to look at first, by the slot of a key: in most slots it is that of the key's lead.
     likely: Vec<u32>,
 }
 
 impl<'a> Model for LeadTable<'a> {
-    ghost use Rattle.std.specs.Prelude.{List};
+    ghost use Rattle.std.specs.Prelude.{List, IfSome};
     ghost use Rattle.ctl_store.specs.Entries.{Entry};
     ghost use Rattle.ctl_query.specs.LeadTable.{lent_leads, ArePlaces};
 
@@ -33,7 +35,7 @@ impl<'a> Model for LeadTable<'a> {
 
     ghost view = { λ table. lent_leads table.leads.items };
 
-    ghost invariant = { λ table. ArePlaces (lent_leads table.leads.items) table.places.items };
+    ghost invariant = { λ table. IfSome table.places (λ places. ArePlaces (lent_leads table.leads.items) places.items) };
 }
 
 // The leads of all rows, each under its key. A name without a row has none.
@@ -43,6 +45,22 @@ fn leads_of<'a>(asking: &Asking<'a>) -> Result<Vec<(StanzaKey, &'a Stanza)>, All
     let mut leads = Vec::new(asking.alloc());
     'names: for rows in asking.all_rows() {
         'leads: for lead in Leads::new(asking.store(), rows) {
+            leads.push(lead)?;
+        }
+    }
+    Ok(leads)
+}
+
+// The leads of the rows of these packages.
+fn leads_named<'a>(
+    asking: &Asking<'a>,
+    packages: &[&[u8]],
+) -> Result<Vec<(StanzaKey, &'a Stanza)>, AllocError>
+    ensures { IfOk result (λ leads. lent_leads leads.items ≡ flat_map (leads_named (world_of asking.now)) (lent_names packages.now)) }
+{
+    let mut leads = Vec::new(asking.alloc());
+    for package in packages {
+        'leads: for lead in asking.leads(package) {
             leads.push(lead)?;
         }
     }
@@ -73,6 +91,21 @@ fn are_rising(places: &[(StanzaKey, usize)]) -> bool
         }
     }
     true
+}
+
+// The place of each lead, in the order of their keys. None where two have one key.
+fn places_of(
+    alloc: Global,
+    leads: &[(StanzaKey, &Stanza)],
+) -> Result<Option<Vec<(StanzaKey, usize)>>, AllocError>
+    ensures { IfOk result (λ places. IfSome places (λ places. ArePlaces (lent_leads leads.now) places.items)) }
+{
+    let mut places = numbered(alloc, leads)?;
+    places.sort_unstable();
+    if !are_rising(&places) {
+        return Ok(None);
+    }
+    Ok(Some(places))
 }
 
 // So far apart are the slots of the stanzas of one list and of the next.
@@ -115,7 +148,7 @@ fn place_under(places: &[(StanzaKey, usize)], key: StanzaKey) -> Option<usize>
 const STANZAS_FOR_A_NAME: usize = 64;
 
 impl<'a> LeadTable<'a> {
-    /// The table of a cache, where so many names are asked for that it pays. For one name alone it never does.
+    /// The table of all leads of a cache, where so many names are asked for that it pays. For one name alone it never does.
     pub(crate) fn for_names(
         asking: &Asking<'a>,
         names: usize,
@@ -125,25 +158,37 @@ impl<'a> LeadTable<'a> {
         if names < 2 || names <= asking.store().counts().stanzas as usize / STANZAS_FOR_A_NAME {
             return Ok(None);
         }
-        LeadTable::new(asking)
+        let table = LeadTable::new(asking.alloc(), leads_of(asking)?)?;
+        Ok(Some(table))
     }
 
-    /// The table of a cache. `None` where two leads had one key, which no cache has.
-    fn new(asking: &Asking<'a>) -> Result<Option<LeadTable<'a>>, AllocError>
-        ensures { IfOk result (λ table. IfSome table (λ t. t ≡ leads_of (world_of asking.now))) }
+    /// The table of the leads of those packages that name a name.
+    pub(crate) fn of_askers(asking: &Asking<'a>, name: &[u8]) -> Result<LeadTable<'a>, AllocError>
+        ensures { IfOk result (λ table. AreEnough asking.now name.now table) }
     {
-        let leads = leads_of(asking)?;
-        let mut places = numbered(asking.alloc(), &leads)?;
-        places.sort_unstable();
-        if !are_rising(&places) {
-            return Ok(None);
-        }
-        let likely = likely_places(asking.alloc(), &leads)?;
-        Ok(Some(LeadTable {
+        let askers = packages_naming(asking, name)?;
+        let leads = leads_named(asking, &askers)?;
+        LeadTable::new(asking.alloc(), leads)
+    }
+
+    /// The table of leads.
+    fn new(alloc: Global, leads: Vec<(StanzaKey, &'a Stanza)>) -> Result<LeadTable<'a>, AllocError>
+        ensures { IfOk result (λ table. table ≡ lent_leads leads.entry.items) }
+    {
+        let places = places_of(alloc, &leads)?;
+        let likely = likely_places(alloc, &leads)?;
+        Ok(LeadTable {
             leads,
             places,
             likely,
-        }))
+        })
+    }
+
+    /// The leads, each under its key.
+    pub(crate) fn leads(&self) -> &[(StanzaKey, &'a Stanza)]
+        ensures { lent_leads result.now ≡ self.now }
+    {
+        &self.leads
     }
 
     // Whether the lead at a place has a key.
@@ -156,17 +201,21 @@ impl<'a> LeadTable<'a> {
         }
     }
 
-    /// The place of the lead of a key, if it is one's. Mostly it is found at the first look, and the lead is near then.
-    pub(crate) fn place(&self, key: StanzaKey) -> Option<usize>
-        ensures some { IfSome result (λ i. key_at self.now i ≡ Some key) }
-        ensures exact { (i : ℕ) → key_at self.now i ≡ Some key → result ≡ Some i }
+    /// The place of the lead of a key, if it is one's, where no other lead has the key: none of a cache has. Mostly it is found at
+    /// the first look, and the lead is near then.
+    pub(crate) fn place(&self, key: StanzaKey) -> Option<Option<usize>>
+        ensures some { IfSome result (λ found. IfSome found (λ i. key_at self.now i ≡ Some key)) }
+        ensures exact { IfSome result (λ found. (i : ℕ) → key_at self.now i ≡ Some key → found ≡ Some i) }
     {
+        let Some(places) = &self.places else {
+            return None;
+        };
         let slot = slot_of(key, self.likely.len());
         let likely = self.likely.get(slot).copied().unwrap_or(0) as usize;
         if self.is_place_of(likely, key) {
-            return Some(likely);
+            return Some(Some(likely));
         }
-        place_under(&self.places, key)
+        Some(place_under(places, key))
     }
 
     /// The lead at a place.

@@ -3,7 +3,7 @@
 ghost use Rattle.std.specs.Prelude.{◌≡◌, ◌++◌, List, [], OnOk, IfOk, option_map, flat_map};
 ghost use Rattle.std.specs.Option.{option_map_or, option_to_list};
 ghost use Rattle.ctl_policy.specs.Priority.{world_of};
-ghost use Rattle.ctl_query.specs.Leads.{leads_of};
+ghost use Rattle.ctl_query.specs.LeadTable.{AreEnough};
 ghost use Rattle.ctl_query.specs.Packages.{packages_of};
 ghost use Rattle.ctl_query.specs.ReverseDepends.{asking_line};
 ghost use Rattle.ctl_query.specs.Inside.Namings.{Naming, lent_naming, further_in, further_at, naming_in, naming_at};
@@ -15,7 +15,7 @@ use crate::interest::stanzas_are_found;
 use crate::lead_atoms::{LeadAtom, list_atoms};
 use crate::lead_table::LeadTable;
 use crate::relation_lines::mark;
-use crate::text::append_line;
+use ctl_filter::append_line;
 use ctl_policy::rows_are_classes;
 use ctl_relation::Group;
 use ctl_stanza::Stanza;
@@ -80,7 +80,7 @@ fn joined_naming<'a>(found: Option<Naming<'a>>, naming: Naming<'a>) -> Naming<'a
 }
 
 // Appends the line of a package, with `--installed` of one of which a row is installed alone.
-#[tactic(auto, unfolding(crate::specs::Texts::line))]
+#[tactic(auto, unfolding(ctl_filter::specs::Texts::line))]
 fn append_line_of(
     asking: &Asking<'_>,
     installed: bool,
@@ -159,8 +159,8 @@ fn append_next<'a>(
     }
 }
 
-/// Appends the lines of all packages that name a name, by a table of all leads: each atom is gone to by its key, and no name is
-/// looked for.
+/// Appends the lines of all packages that name a name, by a table of leads: each atom is gone to by its key, and no name is looked
+/// for.
 pub(crate) fn append_by_atoms(
     asking: &Asking<'_>,
     installed: bool,
@@ -168,7 +168,7 @@ pub(crate) fn append_by_atoms(
     name: &[u8],
     out: &mut Vec<u8>,
 ) -> Result<(), AllocError>
-    requires leads { table.now ≡ leads_of (world_of asking.now) }
+    requires enough { AreEnough asking.now name.now table.now }
     ensures { OnOk result (out.new.items ≡ out.old.items
         ++ flat_map (asking_line (world_of asking.now) installed name.now) (packages_of (world_of asking.now))) }
 {

@@ -10,7 +10,7 @@ ghost use Rattle.ctl_query.specs.PackageNames.{begins_with, name_line, package_n
 ghost use Rattle.ctl_query.specs.Packages.{has_row, names_known, packages_of};
 
 use crate::asking::Asking;
-use crate::text::append_line;
+use ctl_filter::append_line;
 use ctl_index::{Names, PackageNames, Packages};
 use ctl_policy::rows_are_classes;
 use std::alloc::AllocError;

@@ -6,14 +6,16 @@ ghost use Rattle.std.specs.List.{list_all, prefix_len};
 ghost use Rattle.ctl_relation.specs.Names.{is_name};
 ghost use Rattle.ctl_store.specs.declared.refusal.Refusal.TheVariants as refusal;
 ghost use Rattle.ctl_filter.specs.Query.{filter_of};
-ghost use Rattle.ctl_query.specs.Words.{is_among};
+ghost use Rattle.ctl_filter.specs.Read.{Reads};
+ghost use Rattle.ctl_query.specs.NameSet.{is_among};
 ghost use Rattle.ctl_query.specs.Asked.{asked_row};
-ghost use Rattle.ctl_query.specs.Query.{Query as Asked, is_option, is_argument, is_important, is_installed_alone};
+ghost use Rattle.ctl_query.specs.declared.query_name.CacheQuery.TheVariants as query;
+ghost use Rattle.ctl_query.specs.Query.{Query as Asked, PackageNames, is_option, is_argument, is_important, is_installed_alone};
 ghost use Rattle.ctl_query.specs.Query.{depends_options, shows_all};
 ghost use Rattle.ctl_query.specs.Query.{is_before_equals, options_of, version_asked, row_of_parts, row_asked, rows_asked};
 ghost use Rattle.ctl_query.specs.Query.{some_names_asked, query_by, query_in, asked_filter};
 ghost use Rattle.ctl_query.specs.Query.{query_of, query_behind, begin_query};
-ghost use Rattle.ctl_query.specs.QueryRead.{Reads, ReadsQuery, query_text};
+ghost use Rattle.ctl_query.specs.QueryRead.{ReadsQuery, query_text};
 
 use crate::query::{AskedRow, DependsOptions, Query};
 use crate::query_name::{CacheQuery, QueryName};
@@ -204,8 +206,16 @@ fn rows_asked(alloc: Global, words: &[Bytes]) -> Result<Vec<AskedRow>, Refusal>
     Ok(rows)
 }
 
-fn some_names(words: &[Bytes]) -> Result<(), Refusal>
-    ensures { (query : List (List ℕ) → Asked) → Reads (λ _. query words.now) result (some_names_asked query words.now) }
+/// The words that stood there, in whose place none are left.
+fn taken(alloc: Global, words: &mut Vec<Bytes>) -> Vec<Bytes>
+    ensures { result.items ≡ words.old.items }
+{
+    replace(words, Vec::new(alloc))
+}
+
+/// The names that stood there, one at least.
+fn some_names(alloc: Global, words: &mut Vec<Bytes>) -> Result<Vec<Bytes>, Refusal>
+    ensures { (query : List (List ℕ) → Asked) → Reads (λ names. query names.items) result (some_names_asked query words.old.items) }
 {
     if words.is_empty() {
         return Err(Refusal::Usage);
@@ -213,14 +223,19 @@ fn some_names(words: &[Bytes]) -> Result<(), Refusal>
     if !are_names(words) {
         return Err(Refusal::Name);
     }
-    Ok(())
+    Ok(taken(alloc, words))
 }
 
-/// The words that stood there, in whose place none are left.
-fn taken(alloc: Global, words: &mut Vec<Bytes>) -> Vec<Bytes>
-    ensures { result.items ≡ words.old.items }
+/// The prefix that names are to begin with: all begin with the empty one.
+fn prefix_in(alloc: Global, words: &[Bytes]) -> Result<Bytes, Refusal>
+    ensures { (options : List (List ℕ)) → Reads (λ prefix. PackageNames (is_among options (codes "--all-names")) prefix) result
+        (query_by query.PackageNames options words.now) }
 {
-    replace(words, Vec::new(alloc))
+    match words {
+        [] => Ok(Bytes::from_vec(Vec::new(alloc))),
+        [prefix] => copied(alloc, prefix.as_slice()),
+        _ => Err(Refusal::Usage),
+    }
 }
 
 /// What a query asks for by the options among words, which are its own, and by its arguments. These are lent, so that what is left
@@ -234,17 +249,10 @@ fn query_by(
     ensures { Reads query_text result (query_by name (filter is_option words.now) arguments.old.items) }
 {
     match name {
-        CacheQuery::PackageNames => match arguments.as_slice() {
-            [] => Ok(Query::PackageNames(
-                has_option(words, b"--all-names"),
-                Bytes::from_vec(Vec::new(alloc)),
-            )),
-            [prefix] => Ok(Query::PackageNames(
-                has_option(words, b"--all-names"),
-                copied(alloc, prefix.as_slice())?,
-            )),
-            _ => Err(Refusal::Usage),
-        },
+        CacheQuery::PackageNames => {
+            let prefix = prefix_in(alloc, arguments)?;
+            Ok(Query::PackageNames(has_option(words, b"--all-names"), prefix))
+        }
         CacheQuery::Show => {
             if arguments.is_empty() {
                 return Err(Refusal::Usage);
@@ -252,12 +260,12 @@ fn query_by(
             Ok(Query::Show(shows_all(words), rows_asked(alloc, arguments)?))
         }
         CacheQuery::Depends => {
-            some_names(arguments)?;
-            Ok(Query::Depends(depends_options(words), taken(alloc, arguments)))
+            let names = some_names(alloc, arguments)?;
+            Ok(Query::Depends(depends_options(words), names))
         }
         CacheQuery::ReverseDepends => {
-            some_names(arguments)?;
-            Ok(Query::ReverseDepends(is_installed_alone(words), taken(alloc, arguments)))
+            let names = some_names(alloc, arguments)?;
+            Ok(Query::ReverseDepends(is_installed_alone(words), names))
         }
         CacheQuery::Unmet => {
             if !arguments.is_empty() {
@@ -271,10 +279,7 @@ fn query_by(
             }
             Ok(Query::Policy(taken(alloc, arguments)))
         }
-        CacheQuery::ShowPackage => {
-            some_names(arguments)?;
-            Ok(Query::ShowPackage(taken(alloc, arguments)))
-        }
+        CacheQuery::ShowPackage => Ok(Query::ShowPackage(some_names(alloc, arguments)?)),
     }
 }
 

@@ -18,7 +18,8 @@ use crate::asking::Asking;
 use crate::interest::pinned_packages;
 use crate::leads::version_under;
 use crate::source_lines::SourceLines;
-use crate::text::{append_line, append_number, append_parts, append_right_four, append_unknown};
+use crate::text::{append_number, append_right_four, append_unknown};
+use ctl_filter::{append_line, append_parts};
 use ctl_policy::{
     Chosen, NewestFirst, list_priority, row_priority, rows_are_classes, specific_pin,
 };
@@ -76,7 +77,7 @@ fn row_mark(installed: bool) -> &'static [u8]
 }
 
 /// Appends the line of a list that holds a row.
-#[tactic(auto, unfolding(crate::specs::Texts::line))]
+#[tactic(auto, unfolding(ctl_filter::specs::Texts::line))]
 pub(crate) fn append_source(store: &Store, list: &[u8], out: &mut Vec<u8>) -> Result<(), AllocError>
     ensures { OnOk result (out.new.items ≡ out.old.items ++ source_line (world_of store.now) list.now) }
 {
@@ -86,7 +87,7 @@ pub(crate) fn append_source(store: &Store, list: &[u8], out: &mut Vec<u8>) -> Re
     Ok(())
 }
 
-#[tactic(auto, unfolding(crate::specs::Texts::line))]
+#[tactic(auto, unfolding(ctl_filter::specs::Texts::line))]
 fn append_row_line(
     store: &Store,
     name: &[u8],
@@ -173,7 +174,7 @@ fn append_known(
 }
 
 /// Appends the line of a list among all.
-#[tactic(auto, unfolding(crate::specs::Texts::line))]
+#[tactic(auto, unfolding(ctl_filter::specs::Texts::line))]
 fn append_list(store: &Store, list: &[u8], out: &mut Vec<u8>) -> Result<(), AllocError>
     ensures { OnOk result (out.new.items ≡ out.old.items ++ list_line (world_of store.now) list.now) }
 {
@@ -182,7 +183,7 @@ fn append_list(store: &Store, list: &[u8], out: &mut Vec<u8>) -> Result<(), Allo
     Ok(())
 }
 
-#[tactic(auto, unfolding(crate::specs::Texts::line))]
+#[tactic(auto, unfolding(ctl_filter::specs::Texts::line))]
 fn append_pinned_line(
     store: &Store,
     name: &[u8],

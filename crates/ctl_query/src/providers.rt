@@ -11,7 +11,7 @@ ghost use Rattle.ctl_query.specs.Providers.{gives, makes_row};
 use crate::asking::Asking;
 use crate::interest::stanzas_are_found;
 use crate::name_set::add_name;
-use crate::text::append_line;
+use ctl_filter::append_line;
 use ctl_relation::{Atom, Offer, Steps};
 use ctl_stanza::Stanza;
 use std::alloc::AllocError;

@@ -1,8 +1,22 @@
 //! The names of queries, and their options.
 
 ghost use Rattle.std.specs.Prelude.{◌≡◌, is_some};
-ghost use Rattle.ctl_query.specs.Words.{is_among};
+ghost use Rattle.std.specs.List.{list_any};
+ghost use Rattle.std.specs.Str.{bytes_eq};
+ghost use Rattle.ctl_query.specs.NameSet.{lent_names, is_among};
 ghost use Rattle.ctl_query.specs.Query.{query_named, query_name_of, is_query, is_filter_name, options_of};
+
+/// Whether a word is one of these.
+fn is_any_of(words: &[&[u8]], word: &[u8]) -> bool
+    ensures { result ≡ list_any (λ other. bytes_eq word.now other.now) words.now }
+{
+    for other in words {
+        if word == *other {
+            return true;
+        }
+    }
+    false
+}
 
 /// A query of apt-cache(8), by its name.
 #[derive(Clone, Copy, Debug, PartialEq, Eq)]
@@ -40,28 +54,25 @@ impl CacheQuery {
         }
     }
 
+    /// The options of the query.
+    fn options(self) -> &'static [&'static [u8]]
+        ensures { lent_names result.now ≡ options_of self }
+    {
+        match self {
+            CacheQuery::PackageNames => &[b"--all-names"],
+            CacheQuery::Show => &[b"-a", b"--all-versions", b"--no-all-versions"],
+            CacheQuery::Depends => &[b"-i", b"--important", b"--installed"],
+            CacheQuery::ReverseDepends => &[b"--installed"],
+            CacheQuery::Unmet => &[b"-i", b"--important"],
+            CacheQuery::Policy | CacheQuery::ShowPackage => &[],
+        }
+    }
+
     /// Whether an option is one of the query's.
     pub(crate) fn has_option(self, option: &[u8]) -> bool
         ensures { result ≡ is_among (options_of self) option.now }
     {
-        match self {
-            CacheQuery::PackageNames => option == b"--all-names".as_slice(),
-            CacheQuery::Show => {
-                option == b"-a".as_slice()
-                    || option == b"--all-versions".as_slice()
-                    || option == b"--no-all-versions".as_slice()
-            }
-            CacheQuery::Depends => {
-                option == b"-i".as_slice()
-                    || option == b"--important".as_slice()
-                    || option == b"--installed".as_slice()
-            }
-            CacheQuery::ReverseDepends => option == b"--installed".as_slice(),
-            CacheQuery::Unmet => {
-                option == b"-i".as_slice() || option == b"--important".as_slice()
-            }
-            CacheQuery::Policy | CacheQuery::ShowPackage => false,
-        }
+        is_any_of(self.options(), option)
     }
 }
 

@@ -3,7 +3,7 @@
 ghost use Rattle.std.specs.Prelude.{◌≡◌, ◌++◌, OnOk};
 ghost use Rattle.ctl_query.specs.Depends.{mark, named, named_shown, atom_line};
 
-use crate::text::append_parts;
+use ctl_filter::append_parts;
 use ctl_relation::{Atom, FieldKind};
 use std::alloc::AllocError;
 
@@ -46,7 +46,7 @@ fn append_named_shown(with_row: bool, atom: &Atom<'_>, out: &mut Vec<u8>) -> Res
 }
 
 /// Appends the line of an atom of `depends`, by whether its name has a row.
-#[tactic(auto, unfolding(crate::specs::Texts::line))]
+#[tactic(auto, unfolding(ctl_filter::specs::Texts::line))]
 pub(crate) fn append_atom_line(
     with_row: bool,
     alternative: &Alternative<'_>,

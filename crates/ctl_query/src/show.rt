@@ -10,7 +10,8 @@ ghost use Rattle.ctl_query.specs.Show.{lead_text, not_found_line, rows_shown, sh
 use crate::asking::Asking;
 use crate::leads::{lead_in, stanza_under};
 use crate::query::AskedRow;
-use crate::text::{append_line, append_unknown};
+use crate::text::append_unknown;
+use ctl_filter::append_line;
 use ctl_policy::NewestFirst;
 use ctl_relation::Version;
 use ctl_stanza::Stanza;

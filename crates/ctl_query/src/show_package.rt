@@ -11,23 +11,24 @@ ghost use Rattle.ctl_policy.specs.Priority.{world_of};
 ghost use Rattle.ctl_policy.specs.Rows.{sources_of};
 ghost use Rattle.ctl_query.specs.Interest.{offering_named};
 ghost use Rattle.ctl_query.specs.Leads.{leads_of};
+ghost use Rattle.ctl_query.specs.LeadTable.{AreEnough};
 ghost use Rattle.ctl_query.specs.NameSet.{lent_names};
 ghost use Rattle.ctl_query.specs.Packages.{rows_of, of_rows, of_all_rows, told_of_row};
 ghost use Rattle.ctl_query.specs.ShowPackage.{source_mark, version_line, naming_lines, relation_lines, entry_lines};
 ghost use Rattle.ctl_query.specs.ShowPackage.{providing_lines, show_package_one, show_package_text};
-ghost use Rattle.ctl_query.specs.Texts.{line, if_known};
+ghost use Rattle.ctl_filter.specs.Texts.{line};
+ghost use Rattle.ctl_query.specs.Texts.{if_known};
 
 use crate::asking::Asking;
-use crate::interest::{packages_naming, packages_providing, stanzas_are_found};
+use crate::interest::{packages_providing, stanzas_are_found};
 use crate::lead_atoms::{append_atoms, list_atoms};
-use crate::lead_lines::{
-    append_entry_lines, append_naming_lines, append_providing_lines, append_relation_lines,
-};
+use crate::lead_lines::{append_entry_lines, append_providing_lines, append_relation_lines};
 use crate::lead_table::LeadTable;
 use crate::leads::Leads;
 use crate::policy::row_version;
 use crate::row_sources::RowSources;
-use crate::text::{append_line, append_parts, append_unknown};
+use crate::text::append_unknown;
+use ctl_filter::{append_line, append_parts};
 use ctl_index::{NameView, Namers, Offering};
 use ctl_policy::{NewestFirst, rows_are_classes};
 use ctl_relation::Bytes;
@@ -49,7 +50,7 @@ fn append_sources(store: &Store, row: &[StanzaKey], out: &mut Vec<u8>) -> Result
 }
 
 /// Appends a row with the lists that hold it.
-#[tactic(auto, unfolding(crate::specs::Texts::line))]
+#[tactic(auto, unfolding(ctl_filter::specs::Texts::line))]
 fn append_version(store: &Store, row: &[StanzaKey], out: &mut Vec<u8>) -> Result<(), AllocError>
     requires held { AreHeld row.now (keyed_of store.now).lists }
     requires rising { AreRising row.now }
@@ -63,51 +64,27 @@ fn append_version(store: &Store, row: &[StanzaKey], out: &mut Vec<u8>) -> Result
 
 // ---- who names it
 
-fn append_naming_leads(
+/// Appends the atoms that name a name, by a table of leads: each is gone to by its key, and no name is looked for.
+fn append_by_atoms(
     asking: &Asking<'_>,
-    name: &[u8],
-    asker: &[u8],
-    out: &mut Vec<u8>,
-) -> Result<(), AllocError>
-    ensures { OnOk result (out.new.items ≡ out.old.items ++ of_rows (world_of asking.now) (naming_lines name.now) asker.now) }
-{
-    'leads: for (_, lead) in asking.leads(asker) {
-        append_naming_lines(name, lead, out)?;
-    }
-    Ok(())
-}
-
-fn append_each_naming(
-    asking: &Asking<'_>,
-    name: &[u8],
-    askers: &[&[u8]],
-    out: &mut Vec<u8>,
-) -> Result<(), AllocError>
-    ensures { OnOk result (out.new.items ≡ out.old.items
-        ++ flat_map (of_rows (world_of asking.now) (naming_lines name.now)) (lent_names askers.now)) }
-{
-    for asker in askers {
-        append_naming_leads(asking, name, asker, out)?;
-    }
-    Ok(())
-}
-
-/// Appends the atoms that name a name. The packages with such an atom are enough.
-fn append_naming_by_askers(
-    asking: &Asking<'_>,
+    table: &LeadTable<'_>,
+    namers: Namers<'_>,
     name: &[u8],
     out: &mut Vec<u8>,
 ) -> Result<(), AllocError>
+    requires enough { AreEnough asking.now name.now table.now }
+    requires namers { IsPermutation (namers_named name.now (standing asking.now)) namers }
     ensures { OnOk result (out.new.items ≡ out.old.items ++ of_all_rows (world_of asking.now) (naming_lines name.now)) }
 {
     rows_are_classes();
     stanzas_are_found(asking);
-    let askers = packages_naming(asking, name)?;
-    append_each_naming(asking, name, &askers, out)?;
+    let atoms = list_atoms(asking.alloc(), table, namers)?;
+    append_atoms(table, name, &atoms, out)?;
     Ok(())
 }
 
-/// Appends the atoms that name a name. By a table of leads each atom is gone to by its key, and no name is looked for.
+/// Appends the atoms that name a name: by a table of all leads if there is one, else those of the packages with such an atom are
+/// enough.
 fn append_naming(
     asking: &Asking<'_>,
     table: Option<&LeadTable<'_>>,
@@ -120,12 +97,11 @@ fn append_naming(
     ensures { OnOk result (out.new.items ≡ out.old.items ++ of_all_rows (world_of asking.now) (naming_lines name.now)) }
 {
     match table {
-        Some(table) => {
-            let atoms = list_atoms(asking.alloc(), table, namers)?;
-            append_atoms(table, name, &atoms, out)?;
-            Ok(())
+        Some(table) => append_by_atoms(asking, table, namers, name, out),
+        None => {
+            let table = LeadTable::of_askers(asking, name)?;
+            append_by_atoms(asking, &table, namers, name, out)
         }
-        None => append_naming_by_askers(asking, name, out),
     }
 }
 

@@ -1,33 +1,14 @@
 //! What the answers have in common.
 
-ghost use Rattle.std.specs.Prelude.{◌≡◌, ◌++◌, OnOk, map};
+ghost use Rattle.std.specs.Prelude.{◌≡◌, ◌++◌, OnOk};
 ghost use Rattle.std.specs.Fmt.{signed_decimal};
-ghost use Rattle.ctl_query.specs.Texts.{joined, line, unknown_line, right_four};
+ghost use Rattle.ctl_query.specs.Texts.{unknown_line, right_four};
 ghost use Rattle.ctl_query.specs.Packages.{version_text};
 
+use ctl_filter::append_line;
 use ctl_stanza::Stanza;
 use itoa::Buffer;
 use std::alloc::AllocError;
-
-/// Appends parts, one after another.
-pub(crate) fn append_parts(out: &mut Vec<u8>, parts: &[&[u8]]) -> Result<(), AllocError>
-    ensures { OnOk result (out.new.items ≡ out.old.items ++ joined (map (λ part. part.now) parts.now)) }
-{
-    for part in parts {
-        out.extend_from_slice(part)?;
-    }
-    Ok(())
-}
-
-/// Appends a line.
-#[tactic(auto, unfolding(crate::specs::Texts::line))]
-pub(crate) fn append_line(out: &mut Vec<u8>, parts: &[&[u8]]) -> Result<(), AllocError>
-    ensures { OnOk result (out.new.items ≡ out.old.items ++ line (map (λ part. part.now) parts.now)) }
-{
-    append_parts(out, parts)?;
-    out.extend_from_slice(b"\n")?;
-    Ok(())
-}
 
 /// Appends what stands in place of the answer on a name that is not known.
 pub(crate) fn append_unknown(out: &mut Vec<u8>, name: &[u8]) -> Result<(), AllocError>

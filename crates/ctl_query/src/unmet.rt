@@ -12,7 +12,8 @@ ghost use Rattle.ctl_query.specs.Unmet.{unmet_heading, under, unmet_lead, unmet_
 
 use crate::asking::Asking;
 use crate::interest::{packages_with_unmet, stanzas_are_found};
-use crate::text::{append_line, append_parts, version_text};
+use crate::text::version_text;
+use ctl_filter::{append_line, append_parts};
 use ctl_index::ClauseKey;
 use ctl_policy::rows_are_classes;
 use ctl_relation::{FieldKind, Group};
@@ -29,7 +30,7 @@ fn is_unmet(asking: &Asking<'_>, key: ClauseKey, clause: &Group<'_>) -> bool
 }
 
 /// Appends the line of a clause that is not met.
-#[tactic(auto, unfolding(crate::specs::Texts::line))]
+#[tactic(auto, unfolding(ctl_filter::specs::Texts::line))]
 fn append_clause(field: FieldKind, clause: &Group<'_>, out: &mut Vec<u8>) -> Result<(), AllocError>
     ensures { OnOk result (out.new.items ≡ out.old.items ++ clause_line field clause.now) }
 {

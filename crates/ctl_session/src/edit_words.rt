@@ -4,7 +4,7 @@ ghost use Rattle.std.specs.Prelude.{◌≡◌, ◌⊎◌, IfOk, IfErr, None, is_
 ghost use Rattle.ctl_relation.specs.Version.{fault_of};
 ghost use Rattle.ctl_store.specs.declared.refusal.Refusal.TheVariants.{Memory, Version as BadVersion};
 ghost use Rattle.ctl_store.specs.Edits.{edit_of};
-ghost use Rattle.ctl_query.specs.QueryRead.{Reads};
+ghost use Rattle.ctl_filter.specs.Read.{Reads};
 ghost use Rattle.ctl_session.specs.Request.{remove_edit as remove_asked, mark_edit as mark_asked, target_edit as target_asked};
 
 use crate::list_words::copied;

@@ -3,7 +3,7 @@
 ghost use Rattle.std.specs.Prelude.{◌≡◌, IfOk, IfErr, Ok};
 ghost use Rattle.ctl_store.specs.Edits.{edit_of};
 ghost use Rattle.ctl_store.specs.declared.refusal.Refusal.TheVariants.{Memory};
-ghost use Rattle.ctl_query.specs.QueryRead.{Reads};
+ghost use Rattle.ctl_filter.specs.Read.{Reads};
 ghost use Rattle.ctl_session.specs.Request.{if_name, read_name, kind_of_word, class_of_words};
 ghost use Rattle.ctl_session.specs.Request.{AddList as NewListAsked, add_list_request as add_list_asked, put_request as put_asked, prefs_request as prefs_asked};
 ghost use Rattle.ctl_session.specs.Request.{drop_list_edit as drop_list_asked, unmark_edit as unmark_asked};

@@ -2,7 +2,7 @@
 
 ghost use Rattle.std.specs.Prelude.{◌≡◌, IfOk};
 ghost use Rattle.ctl_store.specs.Edits.{edit_of};
-ghost use Rattle.ctl_query.specs.QueryRead.{Reads};
+ghost use Rattle.ctl_filter.specs.Read.{Reads};
 ghost use Rattle.ctl_session.specs.Request.{version_selector, release_selector, selector_of as selector_asked};
 ghost use Rattle.ctl_session.specs.Request.{pin_edit as pin_asked, unpin_edit as unpin_asked};
 

@@ -4,7 +4,7 @@ ghost use Rattle.std.specs.Prelude.{◌≡◌, Result};
 ghost use Rattle.ctl_store.specs.declared.refusal.Refusal.{Refusal as RefusalText};
 ghost use Rattle.ctl_store.specs.Edits.{Edit as EditText, edit_of};
 ghost use Rattle.ctl_query.specs.Query.{query_behind};
-ghost use Rattle.ctl_query.specs.QueryRead.{Reads};
+ghost use Rattle.ctl_filter.specs.Read.{Reads};
 ghost use Rattle.ctl_session.specs.Script.{name_of};
 ghost use Rattle.ctl_session.specs.Request.{asking, changing, command_named, request_by};
 ghost use Rattle.ctl_session.specs.State.{cache_state};

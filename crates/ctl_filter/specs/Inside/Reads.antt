@@ -34,11 +34,6 @@ pub record ReadsPred (depth : ℕ) (tokens rest : List Token) (old new : List St
   pub added : new ≡ old ++ steps
   pub makes : Makes steps (truth_of_pred read)
 
--- The value of the definition was read, or it is refused as the definition says, or memory ran out.
-abbrev pub Reads : {X Y : Type 0} → (X → Y) → Result X Refusal → Result Y Refusal → Type 0
-Reads view (Ok x) asked = asked ≡ Ok (view x)
-Reads view (Err cause) asked = (asked ≡ Err cause) ⊎ (cause ≡ refusal.Memory)
-
 -- Steps were read that make this truth, or it is refused as the definition says, or memory ran out.
 abbrev pub ReadsTruth : {A : Type 0} → Result (Vec Step A) Refusal → Result Truth Refusal → Type 0
 ReadsTruth (Ok steps) asked = (truth : Truth) × (asked ≡ Ok truth) × Makes steps.items truth

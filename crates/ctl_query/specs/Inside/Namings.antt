@@ -9,7 +9,7 @@ use Rattle.ctl_store.specs.Entries.{Entry}
 use Rattle.ctl_policy.specs.Priority.{World}
 use Rattle.ctl_query.specs.declared.lead_atoms.LeadAtom.{LeadAtom}
 use Rattle.ctl_query.specs.Packages.{is_installed}
-use Rattle.ctl_query.specs.Texts.{line}
+use Rattle.ctl_filter.specs.Texts.{line}
 use Rattle.ctl_query.specs.Depends.{mark}
 
 -- a package that names a name, and whether a further alternative follows each of its atoms that do

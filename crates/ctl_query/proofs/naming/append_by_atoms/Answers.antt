@@ -1,18 +1,15 @@
-use Rattle.std.proofs.Common.{◌≡◌, ◌∙◌, ◌++◌, ◌∷◌, ◌+◌, ℕ, List, [], Option, None, option_map, flat_map, drop, drop-cons, add-one, ap, sym, arith}
-use Rattle.std.specs.List.{list_any}
+use Rattle.std.proofs.Common.{◌≡◌, ◌∙◌, ◌++◌, ◌∷◌, ◌+◌, ℕ, List, [], Option, option_map, flat_map, drop, drop-cons, add-one, ap, sym, arith}
 use Rattle.std.specs.Option.{option_to_list}
 use Rattle.std.proofs.Math.ListN.{drop_of_length-le}
 use Rattle.std.proofs.lemmas.List.Sorted.{list_any-IsPermutation}
-use Rattle.ctl_store.specs.Entries.{Entry}
 use Rattle.ctl_index.specs.declared.keys.AtomKey.{AtomKey}
 use Rattle.ctl_index.specs.Held.{standing}
 use Rattle.ctl_index.specs.Names.{namers_named}
 use Rattle.ctl_policy.specs.Priority.{world_of}
 use Rattle.ctl_query.specs.declared.lead_atoms.LeadAtom.{LeadAtom}
 use Rattle.ctl_query.specs.Inside.Namings.{Naming, lent_naming, namings_at, lines_behind}
-use Rattle.ctl_query.specs.Leads.{leads_of, is_at}
-use Rattle.ctl_query.proofs.AskerLemmas.{lines_of_all}
-use Rattle.ctl_query.proofs.NamingAtomLemmas.{atoms_tell}
+use Rattle.ctl_query.specs.Leads.{is_at}
+use Rattle.ctl_query.proofs.LeadNamingLemmas.{lines_are_enough}
 use Rattle.ctl_query.proofs.naming.append_by_atoms.Goals as goal
 
 pub loop-at-preserved : goal.loop-at-preserved
@@ -35,17 +32,14 @@ unfolding lines_behind
 returns c =
     let store = c.args.asking.now in
     let name = c.args.name.now in
-    let leads = leads_of (world_of store) in
     let atoms = c.in_ok-atoms.atoms.items in
     let lines : Option Naming → List LeadAtom → List ℕ = λ found left. lines_behind (world_of store) c.args.installed found (flat_map (namings_at c.args.table.now name) left) in
     let none : drop c.loop-at.at atoms ≡ [] = drop_of_length-le atoms (omega (arith, c.loop-at-test.false)) in
     c.in_ok-append_found.ensures
     ∙ ap (λ left. c.loop-at.out.items ++ lines (option_map lent_naming c.loop-at.found) left) (sym none)
     ∙ c.loop-at.invariant
-    ∙ ap (λ (es : List Entry). c.args.out.now.items ++ lines_behind (world_of store) c.args.installed None (flat_map (namings_at es name) atoms)) c.requires.leads
-    ∙ ap (λ namings. c.args.out.now.items ++ lines_behind (world_of store) c.args.installed None namings)
-    (atoms_tell store name atoms c.in_ok-atoms.ensures.order
+    ∙ ap (λ text. c.args.out.now.items ++ text)
+    (lines_are_enough c.rows_are_classes.ensures store c.stanzas_are_found.ensures name c.args.table.now c.requires.enough atoms c.in_ok-atoms.ensures.order
     (λ (a : LeadAtom). c.in_ok-atoms.ensures.members a
-    ∙ ap (λ (es : List Entry). list_any (λ (k : AtomKey). is_at es k a) c.namers.result) c.requires.leads
-    ∙ sym (list_any-IsPermutation (λ (k : AtomKey). is_at leads k a) (namers_named name (standing store)) c.namers.result c.namers.ensures.namers)))
-    ∙ ap (λ text. c.args.out.now.items ++ text) (lines_of_all (world_of store) c.args.installed name c.rows_are_classes.ensures c.stanzas_are_found.ensures)
+    ∙ sym (list_any-IsPermutation (λ (k : AtomKey). is_at c.args.table.now k a) (namers_named name (standing store)) c.namers.result c.namers.ensures.namers))
+    c.args.installed)

@@ -1,6 +1,6 @@
 use Rattle.std.proofs.Common.{◌≡◌, length}
 use Rattle.std.specs.List.{filter, list_all}
-use Rattle.ctl_query.specs.Words.{is_among}
+use Rattle.ctl_query.specs.NameSet.{is_among}
 use Rattle.ctl_query.specs.Query.{is_option, options_of}
 use Rattle.ctl_query.proofs.parsing.are_options_of.Given as goal
 

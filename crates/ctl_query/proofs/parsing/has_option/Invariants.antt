@@ -1,6 +1,6 @@
 use Rattle.std.proofs.Common.{◌≡◌, length}
 use Rattle.std.specs.List.{filter}
-use Rattle.ctl_query.specs.Words.{is_among}
+use Rattle.ctl_query.specs.NameSet.{is_among}
 use Rattle.ctl_query.specs.Query.{is_option}
 use Rattle.ctl_query.proofs.parsing.has_option.Given as goal
 

@@ -1,7 +1,7 @@
 use Rattle.std.proofs.Common.{rules, [], ◌∷◌, codes}
 use Rattle.ctl_policy.specs.Priority.{world_of}
 use Rattle.ctl_query.specs.ShowPackage.{entry_lines}
-use Rattle.ctl_query.specs.Texts.{line}
+use Rattle.ctl_filter.specs.Texts.{line}
 use Rattle.ctl_query.proofs.LeadLemmas.{as_told_under}
 use Rattle.ctl_query.proofs.show_package.show_entries.Goals as goal
 

@@ -1,5 +1,5 @@
 use Rattle.std.proofs.Common.{◌∙◌, ◌++◌, [], ◌∷◌, codes}
-use Rattle.ctl_query.specs.Texts.{line}
+use Rattle.ctl_filter.specs.Texts.{line}
 use Rattle.ctl_query.proofs.unmet.append_heading.Goals as goal
 
 -- the line with the lead's package and version

@@ -1,8 +1,0 @@
--- Lists of words.
-use Rattle.std.specs.Prelude.{ℕ, Bool, List}
-use Rattle.std.specs.List.{list_any}
-use Rattle.std.specs.Str.{bytes_eq}
-
--- whether a word is one of these
-abbrev pub is_among : List (List ℕ) → List ℕ → Bool
-is_among words word = list_any (bytes_eq word) words
