@@ -3,7 +3,7 @@
 ghost use Rattle.std.specs.Prelude.{◌≡◌, ◌++◌, OnOk, IfOk, map, flat_map, length};
 ghost use Rattle.std.specs.List.{filter};
 ghost use Rattle.ctl_store.specs.Entries.{stanzas_in_order};
-ghost use Rattle.ctl_store.specs.Held.{state_of};
+ghost use Rattle.ctl_store.specs.Store.{state_of};
 ghost use Rattle.ctl_filter.specs.Grep.{is_taken, taken_of, stanza_shown, filter_text};
 ghost use Rattle.ctl_filter.specs.Inside.Values.{shown_of};
 ghost use Rattle.ctl_filter.specs.Held.{query_of};

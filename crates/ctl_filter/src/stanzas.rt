@@ -2,7 +2,7 @@
 
 ghost use Rattle.std.specs.Prelude.{◌≡◌, ◌<◌, ◌^◌, length};
 ghost use Rattle.ctl_store.specs.Entries.{stanzas_in_order};
-ghost use Rattle.ctl_store.specs.Held.{state_of};
+ghost use Rattle.ctl_store.specs.Store.{state_of};
 
 use ctl_stanza::Stanza;
 use ctl_store::{Entries, Store};

@@ -12,7 +12,7 @@ use Rattle.ctl_store.specs.Edits.{Edit, AddList, DropList, Put, Remove, Mark, Un
 use Rattle.ctl_store.specs.Step.{place, is_same, put_at, put_stanza, remove_at, remove_stanza, with_stanzas, after}
 use Rattle.ctl_store.specs.Rows.{by_name_and_version, rows_from, replace_at, put_row_at, remove_row_at}
 use Rattle.ctl_store.specs.Keys.{KeyedList, stanzas_of, stanza_list, stanza_lists, list_of_stanzas, put_keyed, remove_keyed, keyed_after}
-use Rattle.ctl_store.specs.Held.{Held, keyed_of, state_of}
+use Rattle.ctl_store.specs.Store.{Held, keyed_of, state_of}
 
 if_cases : {A B : Type 0} (f : A → B) (b : Bool) (x y : A) → f (cond b x y) ≡ cond b (f x) (f y)
 if_cases f true x y = refl

@@ -13,9 +13,9 @@ use Rattle.std.proofs.lemmas.Slice.Eq.{bytes_eq-Decides}
 use Rattle.ctl_store.specs.declared.stanza_key.StanzaKey.{StanzaKey}
 use Rattle.ctl_store.specs.Keys.{AreHeld}
 use Rattle.ctl_policy.specs.Rows.{Lists, rows_named, newest_first, keys_of_row}
-use Rattle.ctl_index.specs.TablesByName.{NameMap, at_name, named_rows, rows_under}
-use Rattle.ctl_index.specs.TablesViews.{entry_rows}
-use Rattle.ctl_index.specs.NameMap.{NamedEntry, entry_names, found_in}
+use Rattle.ctl_index.specs.Inside.TablesByName.{NameMap, at_name, named_rows, rows_under}
+use Rattle.ctl_index.specs.Inside.TablesViews.{entry_rows}
+use Rattle.ctl_index.specs.Inside.NameMap.{NamedEntry, entry_names, found_in}
 use Rattle.ctl_index.specs.declared.named.Named.{Named}
 
 -- the rows of a name, newest first, each by the keys of its stanzas

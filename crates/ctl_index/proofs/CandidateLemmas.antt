@@ -6,7 +6,7 @@ use Rattle.std.specs.BTreeMap.{keys}
 use Rattle.ctl_policy.specs.Rows.{Row, rows_named, newest_first, is_any_row, has_row}
 use Rattle.ctl_policy.specs.Priority.{World}
 use Rattle.ctl_policy.specs.Chosen.{if_rows, kept_of, choice_in, AreChosen}
-use Rattle.ctl_index.specs.TablesChosen.{ChosenMap}
+use Rattle.ctl_index.specs.Inside.TablesChosen.{ChosenMap}
 use Rattle.ctl_index.proofs.NamesLemmas.{looked-up}
 
 -- where nothing is kept of a name, it has no row

@@ -5,14 +5,14 @@ use Rattle.std.specs.Ordering.{nat_cmp}
 use Rattle.std.specs.Cmp.Lexicographic.{slice_cmp}
 use Rattle.std.specs.BTreeMap.{IsEmpty, is_at}
 use Rattle.std.specs.FinMap as fin
-use Rattle.ctl_store.specs.Held.{Held}
+use Rattle.ctl_store.specs.Store.{Held}
 use Rattle.ctl_policy.specs.declared.chosen.Chosen.{Chosen}
 use Rattle.ctl_policy.specs.Rows.{rows_of, rows_named, versions_of, newest_first}
 use Rattle.ctl_policy.specs.Chosen.{at_bytes, kept_of, place_of, AreChosen}
 use Rattle.ctl_policy.specs.Priority.{World, world_of}
 use Rattle.ctl_policy.specs.Touched.{is_one_of}
 use Rattle.ctl_index.specs.Held.{standing}
-use Rattle.ctl_index.specs.TablesChosen.{ChosenMap, HasRenewed}
+use Rattle.ctl_index.specs.Inside.TablesChosen.{ChosenMap, HasRenewed}
 
 -- a name that had a place made has one
 pub placed_there : (b : Bool) (o p : Option Chosen) → p ≡ cond b (place_of o) o → b ≡ true → IsSome p

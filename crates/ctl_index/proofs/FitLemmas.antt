@@ -24,8 +24,8 @@ use Rattle.ctl_store.specs.Step.{after, is_past, misfit_of, refusal_of, when}
 use Rattle.ctl_index.specs.declared.keys.ClauseKey.{ClauseKey}
 use Rattle.ctl_index.specs.Clauses.{is_clause_field, clause_of}
 use Rattle.ctl_index.specs.Offers.{contents, offers_among}
-use Rattle.ctl_index.specs.TablesFit.{IsWholeAt, AreWhole, NumbersFit}
-use Rattle.ctl_index.specs.TablesParts.{IsJoined}
+use Rattle.ctl_index.specs.Inside.TablesFit.{IsWholeAt, AreWhole, NumbersFit}
+use Rattle.ctl_index.specs.Inside.TablesParts.{IsJoined}
 use Rattle.ctl_index.proofs.StoreLemmas.{all_both, own_under}
 
 -- ---- stanzas without a fault, in parts

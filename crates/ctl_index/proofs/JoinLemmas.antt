@@ -17,16 +17,16 @@ use Rattle.ctl_index.specs.declared.tables.Tables.{Tables}
 use Rattle.ctl_index.specs.Clauses.{clause_atoms, clause_cmp, clause_of, clause_at, number_at}
 use Rattle.ctl_index.specs.Names.{keyed_atoms}
 use Rattle.ctl_index.specs.Offers.{offers_among, contents}
-use Rattle.ctl_index.specs.TablesByName.{offers_under, namers_under}
-use Rattle.ctl_index.specs.TablesIndexed.{atom_named, offer_named, keyed_offers, IsIndexed, IsTakenOut, offers_put, namers_taken, tests_put_in, tests_taken_out}
-use Rattle.ctl_index.specs.TablesLoaded.{IsLoaded, all_hits, offers_sum, namers_sum}
-use Rattle.ctl_index.specs.TablesParts.{IsJoined}
-use Rattle.ctl_index.specs.TablesRows.{RowsCome, RowsGo}
-use Rattle.ctl_index.specs.TablesSight.{Seen, seen, AreSeen}
-use Rattle.ctl_index.specs.TablesCounters.{counted_up}
-use Rattle.ctl_index.specs.TablesFit.{AreWhole, NumbersFit}
-use Rattle.ctl_index.specs.TablesOrder.{is_within}
-use Rattle.ctl_index.specs.TablesSteps.{group_met, span_of, with_each, drop_step}
+use Rattle.ctl_index.specs.Inside.TablesByName.{offers_under, namers_under}
+use Rattle.ctl_index.specs.Inside.TablesIndexed.{atom_named, offer_named, keyed_offers, IsIndexed, IsTakenOut, offers_put, namers_taken, tests_put_in, tests_taken_out}
+use Rattle.ctl_index.specs.Inside.TablesLoaded.{IsLoaded, all_hits, offers_sum, namers_sum}
+use Rattle.ctl_index.specs.Inside.TablesParts.{IsJoined}
+use Rattle.ctl_index.specs.Inside.TablesRows.{RowsCome, RowsGo}
+use Rattle.ctl_index.specs.Inside.TablesSight.{Seen, seen, AreSeen}
+use Rattle.ctl_index.specs.Inside.TablesCounters.{counted_up}
+use Rattle.ctl_index.specs.Inside.TablesFit.{AreWhole, NumbersFit}
+use Rattle.ctl_index.specs.Inside.TablesOrder.{is_within}
+use Rattle.ctl_index.specs.Inside.TablesSteps.{group_met, span_of, with_each, drop_step}
 use Rattle.ctl_index.specs.Work.{named_pairs, pairs}
 use Rattle.ctl_index.proofs.SumLemmas.{sum-cong, sum-plus, sum-swap, sum-flat_map, sum-map, sum-zero}
 use Rattle.ctl_index.proofs.TableLemmas.{put_offers, take_offers, take_namers}

@@ -10,7 +10,7 @@ use Rattle.std.specs.declared.cmp.Ordering.TheVariants.{Less, Equal, Greater}
 use Rattle.ctl_store.specs.declared.stanza_key.StanzaKey.{StanzaKey}
 use Rattle.ctl_store.specs.Keys.{key_cmp}
 use Rattle.ctl_index.specs.declared.span.Span.{Span}
-use Rattle.ctl_index.specs.TablesOrder.{is_within, InOrder, is_before, is_through, ends_behind, put_in_order, others}
+use Rattle.ctl_index.specs.Inside.TablesOrder.{is_within, InOrder, is_before, is_through, ends_behind, put_in_order, others}
 use Rattle.ctl_index.proofs.KeyLemmas.{keys_total}
 use Rattle.std.proofs.lemmas.Bool.{true≢false}
 

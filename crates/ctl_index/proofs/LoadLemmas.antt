@@ -10,11 +10,11 @@ use Rattle.ctl_store.specs.Followed.{under}
 use Rattle.ctl_index.specs.declared.tables.Tables.{Tables}
 use Rattle.ctl_index.specs.Clauses.{clause_cmp, clause_of}
 use Rattle.ctl_index.specs.Names.{keyed_atoms, naming_fields}
-use Rattle.ctl_index.specs.TablesByName.{offers_under, namers_under}
-use Rattle.ctl_index.specs.TablesIndexed.{atom_named, offer_named, keyed_offers, IsPutIn, offers_put}
-use Rattle.ctl_index.specs.TablesLoaded.{ComeApart, IsLoaded}
-use Rattle.ctl_index.specs.TablesSight.{Seen, seen}
-use Rattle.ctl_index.specs.TablesSteps.{group_met, with_each, put_offers_step, put_atoms_step, raise_step}
+use Rattle.ctl_index.specs.Inside.TablesByName.{offers_under, namers_under}
+use Rattle.ctl_index.specs.Inside.TablesIndexed.{atom_named, offer_named, keyed_offers, IsPutIn, offers_put}
+use Rattle.ctl_index.specs.Inside.TablesLoaded.{ComeApart, IsLoaded}
+use Rattle.ctl_index.specs.Inside.TablesSight.{Seen, seen}
+use Rattle.ctl_index.specs.Inside.TablesSteps.{group_met, with_each, put_offers_step, put_atoms_step, raise_step}
 use Rattle.ctl_index.proofs.SeenLemmas.{raised_all-is, entered_all-is}
 use Rattle.ctl_index.proofs.SumLemmas.{each-sum, listed_offers-sum, listed_fields-sum}
 

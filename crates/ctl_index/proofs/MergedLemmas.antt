@@ -11,7 +11,7 @@ use Rattle.std.specs.declared.cmp.Ordering.TheVariants.{Less, Equal, Greater}
 use Rattle.std.proofs.lemmas.Bool.{true≢false}
 use Rattle.std.proofs.lemmas.Map.Text.{is_eq-slice_cmp}
 use Rattle.std.proofs.lemmas.Slice.Eq.{bytes_eq-Decides}
-use Rattle.ctl_index.specs.NameMap.{NamedEntry, entry_names, found_in, long_entry, merged, left_short, left_long}
+use Rattle.ctl_index.specs.Inside.NameMap.{NamedEntry, entry_names, found_in, long_entry, merged, left_short, left_long}
 use Rattle.ctl_index.specs.declared.named.Named.{Named}
 
 -- no name stands in both lists

@@ -8,10 +8,10 @@ use Rattle.std.proofs.lemmas.Bool.Decides.{nat_tests}
 use Rattle.std.proofs.lemmas.List.{nil_from_length}
 use Rattle.ctl_index.specs.declared.named.Named.{Named}
 use Rattle.ctl_store.specs.declared.stanza_key.StanzaKey.{StanzaKey}
-use Rattle.ctl_index.specs.TablesOrder.{put_in_order, is_through}
+use Rattle.ctl_index.specs.Inside.TablesOrder.{put_in_order, is_through}
 use Rattle.ctl_policy.specs.Kept.{HasPut, HasSame, OthersStay}
 use Rattle.ctl_policy.specs.Rows.{Rows}
-use Rattle.ctl_index.specs.TablesByName.{NameMap, at_name, IsSetAt, HasSameNames, named_offers, named_namers, named_rows, rows_under, part_under, is_used, AreUsed}
+use Rattle.ctl_index.specs.Inside.TablesByName.{NameMap, at_name, IsSetAt, HasSameNames, named_offers, named_namers, named_rows, rows_under, part_under, is_used, AreUsed}
 use Rattle.ctl_index.proofs.RowLemmas.{put_there, same_there}
 
 module _ {T : Type 0} (part : Named → T) (none : T) (bs : List ℕ) (m n : NameMap) where

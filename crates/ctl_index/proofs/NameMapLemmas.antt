@@ -20,10 +20,10 @@ use Rattle.std.proofs.lemmas.Slice.Eq.{bytes_eq-Decides}
 use Rattle.ctl_index.specs.declared.name_map.NameMap.{NameMap}
 use Rattle.ctl_index.specs.declared.named.Named.{Named}
 use Rattle.ctl_policy.specs.Chosen.{at_bytes}
-use Rattle.ctl_index.specs.ShortName.{most_short}
-use Rattle.ctl_index.specs.NameMap.{NamedEntry, entry_names, found_in, long_entry, merged}
-use Rattle.ctl_index.specs.TablesByName.{at_name}
-use Rattle.ctl_index.specs.TablesViews.{AreFrom}
+use Rattle.ctl_index.specs.Inside.ShortName.{most_short}
+use Rattle.ctl_index.specs.Inside.NameMap.{NamedEntry, entry_names, found_in, long_entry, merged}
+use Rattle.ctl_index.specs.Inside.TablesByName.{at_name}
+use Rattle.ctl_index.specs.Inside.TablesViews.{AreFrom}
 use Rattle.ctl_index.proofs.ClauseLemmas.{nat_eq-is}
 use Rattle.ctl_index.proofs.MergedLemmas.{AreOthers, merged_order, merged_found, merged_all}
 

@@ -22,9 +22,9 @@ use Rattle.ctl_index.specs.declared.named.Named.{Named}
 use Rattle.ctl_index.specs.declared.tables.Tables.{Tables}
 use Rattle.ctl_index.specs.Names.{naming_fields, naming_atoms, names_of, known_names, keyed_group, keyed_groups, keyed_atoms}
 use Rattle.ctl_index.specs.Offers.{contents}
-use Rattle.ctl_index.specs.NameMap.{NamedEntry, entry_names, found_in}
-use Rattle.ctl_index.specs.TablesByName.{NameMap, at_name, offers_under, namers_under, rows_under, named_offers, named_namers, named_rows, is_used, AreUsed}
-use Rattle.ctl_index.specs.TablesIndexed.{IsIndexed, keyed_offers_from, keyed_offers, offer_named, atom_named}
+use Rattle.ctl_index.specs.Inside.NameMap.{NamedEntry, entry_names, found_in}
+use Rattle.ctl_index.specs.Inside.TablesByName.{NameMap, at_name, offers_under, namers_under, rows_under, named_offers, named_namers, named_rows, is_used, AreUsed}
+use Rattle.ctl_index.specs.Inside.TablesIndexed.{IsIndexed, keyed_offers_from, keyed_offers, offer_named, atom_named}
 use Rattle.ctl_index.proofs.OrderLemmas.{is_among, is_in_order, among_in_order}
 use Rattle.ctl_index.proofs.SumLemmas.{sum-cong, sum-plus, sum-flat_map, sum-map}
 

@@ -15,9 +15,9 @@ use Rattle.ctl_policy.specs.Keys.{has_key, or_none, some_keys}
 use Rattle.ctl_policy.specs.Rows.{is_of_version, is_in_row}
 use Rattle.ctl_index.specs.declared.tables.Tables.{Tables}
 use Rattle.ctl_index.specs.Offers.{contents}
-use Rattle.ctl_index.specs.TablesByName.{offers_under, rows_under, row_under}
-use Rattle.ctl_index.specs.TablesIndexed.{IsIndexed}
-use Rattle.ctl_index.specs.TablesViews.{is_own}
+use Rattle.ctl_index.specs.Inside.TablesByName.{offers_under, rows_under, row_under}
+use Rattle.ctl_index.specs.Inside.TablesIndexed.{IsIndexed}
+use Rattle.ctl_index.specs.Inside.TablesViews.{is_own}
 use Rattle.ctl_index.proofs.NamesLemmas.{HasOffers}
 use Rattle.ctl_index.proofs.PackageLemmas.{own_under}
 use Rattle.ctl_index.proofs.RowLemmas.{some_row}

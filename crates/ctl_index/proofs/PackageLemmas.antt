@@ -23,10 +23,10 @@ use Rattle.ctl_index.specs.declared.tables.Tables.{Tables}
 use Rattle.ctl_index.specs.Names.{is_package}
 use Rattle.ctl_index.specs.Offers.{contents}
 use Rattle.ctl_index.specs.declared.named.Named.{Named}
-use Rattle.ctl_index.specs.TablesByName.{NameMap, at_name, offers_under, named_offers}
-use Rattle.ctl_index.specs.TablesIndexed.{IsIndexed, keyed_offers, keyed_offers_from, offer_named}
-use Rattle.ctl_index.specs.TablesViews.{is_own, has_own, packages_with, AreFrom}
-use Rattle.ctl_index.specs.NameMap.{NamedEntry, entry_names, found_in}
+use Rattle.ctl_index.specs.Inside.TablesByName.{NameMap, at_name, offers_under, named_offers}
+use Rattle.ctl_index.specs.Inside.TablesIndexed.{IsIndexed, keyed_offers, keyed_offers_from, offer_named}
+use Rattle.ctl_index.specs.Inside.TablesViews.{is_own, has_own, packages_with, AreFrom}
+use Rattle.ctl_index.specs.Inside.NameMap.{NamedEntry, entry_names, found_in}
 use Rattle.ctl_index.proofs.NamesLemmas.{any-counted}
 use Rattle.ctl_index.proofs.SumLemmas.{sum-cong, sum-map}
 

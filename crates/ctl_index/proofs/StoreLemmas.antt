@@ -11,9 +11,9 @@ use Rattle.ctl_stanza.specs.Content.{Content}
 use Rattle.ctl_store.specs.declared.stanza_key.StanzaKey.{StanzaKey}
 use Rattle.ctl_store.specs.Keys.{KeyedList, key_of, key_cmp, key_is, all_keys, AreRising, stanza_at}
 use Rattle.ctl_store.specs.Entries.{Entry, entries_in, entries_of, entry_keys, is_among, without_keys, entries_by}
-use Rattle.ctl_store.specs.Held.{Held, keyed_of}
+use Rattle.ctl_store.specs.Store.{Held, keyed_of}
 use Rattle.ctl_store.specs.Followed.{under, AreApart}
-use Rattle.ctl_index.specs.TablesSight.{seen, AreSeen, in_store}
+use Rattle.ctl_index.specs.Inside.TablesSight.{seen, AreSeen, in_store}
 use Rattle.ctl_index.proofs.ClauseLemmas.{is_eq_nat, is_eq_then, nat_eq-refl}
 use Rattle.ctl_index.proofs.SeenLemmas.{key_is-same}
 

@@ -15,7 +15,7 @@ use Rattle.ctl_stanza.specs.Content.{Content, offers_of}
 use Rattle.ctl_store.specs.declared.stanza_key.StanzaKey.{StanzaKey}
 use Rattle.ctl_store.specs.Keys.{key_is, AreHeld, stanza_at}
 use Rattle.ctl_store.specs.Entries.{Entry}
-use Rattle.ctl_store.specs.Held.{Held, keyed_of}
+use Rattle.ctl_store.specs.Store.{Held, keyed_of}
 use Rattle.ctl_index.specs.declared.keys.AtomKey.{AtomKey}
 use Rattle.ctl_index.specs.declared.keys.ClauseKey.{ClauseKey}
 use Rattle.ctl_index.specs.declared.keys.OfferKey.{OfferKey}
@@ -23,11 +23,11 @@ use Rattle.ctl_index.specs.declared.tables.Tables.{Tables}
 use Rattle.ctl_index.specs.Clauses.{clause_at, number_at}
 use Rattle.ctl_index.specs.Names.{keyed_atoms, namers_named}
 use Rattle.ctl_index.specs.Offers.{offers_named}
-use Rattle.ctl_index.specs.TablesByName.{offers_under, namers_under}
-use Rattle.ctl_index.specs.TablesIndexed.{IsIndexed, keyed_offers, keyed_offers_from, offer_named, atom_named}
-use Rattle.ctl_index.specs.TablesOrder.{namer_key}
-use Rattle.ctl_index.specs.TablesSight.{seen, offer_seen, in_store, AreSeen}
-use Rattle.ctl_index.specs.TablesViews.{offer_found, AreFound}
+use Rattle.ctl_index.specs.Inside.TablesByName.{offers_under, namers_under}
+use Rattle.ctl_index.specs.Inside.TablesIndexed.{IsIndexed, keyed_offers, keyed_offers_from, offer_named, atom_named}
+use Rattle.ctl_index.specs.Inside.TablesOrder.{namer_key}
+use Rattle.ctl_index.specs.Inside.TablesSight.{seen, offer_seen, in_store, AreSeen}
+use Rattle.ctl_index.specs.Inside.TablesViews.{offer_found, AreFound}
 use Rattle.ctl_index.proofs.ClauseLemmas.{same_field, nat_eq-is, nat_eq-refl}
 use Rattle.ctl_index.proofs.CounterLemmas.{exact_field}
 use Rattle.ctl_index.proofs.PermutationLemmas.{permutation_of_sums}

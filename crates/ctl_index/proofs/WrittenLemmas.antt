@@ -15,8 +15,8 @@ use Rattle.std.proofs.lemmas.Map.Made.{is_some-lookup}
 use Rattle.std.proofs.lemmas.Map.Text.{is_eq-slice_cmp}
 use Rattle.std.proofs.lemmas.Slice.Eq.{bytes_eq-Decides}
 use Rattle.ctl_policy.specs.Chosen.{at_bytes}
-use Rattle.ctl_index.specs.NameMap.{AreApart}
-use Rattle.ctl_index.specs.ShortName.{most_short}
+use Rattle.ctl_index.specs.Inside.NameMap.{AreApart}
+use Rattle.ctl_index.specs.Inside.ShortName.{most_short}
 use Rattle.ctl_index.specs.declared.named.Named.{Named}
 
 abbrev pub Short : Type 0

@@ -5,13 +5,14 @@ ghost use Rattle.std.specs.Bool.{OnTrue};
 ghost use Rattle.std.specs.Str.{bytes_eq};
 ghost use Rattle.std.specs.BTreeMap.{IsEmpty};
 ghost use Rattle.ctl_index.specs.Held.{standing};
-ghost use Rattle.ctl_store.specs.Held.{Held, Planned, keyed_of};
+ghost use Rattle.ctl_store.specs.Store.{Held, keyed_of};
+ghost use Rattle.ctl_store.specs.Plans.{Planned};
 ghost use Rattle.ctl_policy.specs.Rows.{AreRowsOf};
 ghost use Rattle.ctl_policy.specs.Priority.{world_of};
 ghost use Rattle.ctl_policy.specs.Chosen.{at_bytes, kept_of, AreChosen};
 ghost use Rattle.ctl_policy.specs.Touched.{is_one_of, TouchesAlone};
-ghost use Rattle.ctl_index.specs.TablesChosen.{ChosenMap, HasMade, HasRenewed};
-ghost use Rattle.ctl_index.specs.TablesByName.{rows_under};
+ghost use Rattle.ctl_index.specs.Inside.TablesChosen.{ChosenMap, HasMade, HasRenewed};
+ghost use Rattle.ctl_index.specs.Inside.TablesByName.{rows_under};
 
 use crate::name_table::NameTable;
 use ctl_policy::{

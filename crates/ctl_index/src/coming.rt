@@ -3,13 +3,13 @@
 ghost use Rattle.std.specs.Prelude.{◌≡◌, ◌∷◌, [], ◌+◌, ◌≤◌, ◌<◌, ◌^◌, ℕ, List, OnOk, IfOk, Some, length, if◌then◌else◌};
 ghost use Rattle.std.specs.List.{All};
 ghost use Rattle.ctl_relation.specs.Bounds.{atom_count};
-ghost use Rattle.ctl_index.specs.TablesByName.{offers_under, namers_under, rows_under};
-ghost use Rattle.ctl_index.specs.TablesCounters.{told};
-ghost use Rattle.ctl_index.specs.TablesFit.{IsWholeAt};
-ghost use Rattle.ctl_index.specs.TablesHeld.{HasTested, TestsAtMost, namers_in, number_in, number_told, offers_in, rows_in};
-ghost use Rattle.ctl_index.specs.TablesIndexed.{namers_put, number_entered, number_raised, offers_put};
-ghost use Rattle.ctl_index.specs.TablesSight.{seen};
-ghost use Rattle.ctl_index.specs.TablesSteps.{all_tested, atoms_tested, atoms_tested_at, enter_step, entered_fields, entered_groups, fields_tested, group_met, group_tested, groups_tested, is_clause, listed_fields, listed_group, listed_groups, listed_offers, offers_tested, offers_tested_at, raised, with_each};
+ghost use Rattle.ctl_index.specs.Inside.TablesByName.{offers_under, namers_under, rows_under};
+ghost use Rattle.ctl_index.specs.Inside.TablesCounters.{told};
+ghost use Rattle.ctl_index.specs.Inside.TablesFit.{IsWholeAt};
+ghost use Rattle.ctl_index.specs.Inside.TablesHeld.{HasTested, TestsAtMost, namers_in, number_in, number_told, offers_in, rows_in};
+ghost use Rattle.ctl_index.specs.Inside.TablesIndexed.{namers_put, number_entered, number_raised, offers_put};
+ghost use Rattle.ctl_index.specs.Inside.TablesSight.{seen};
+ghost use Rattle.ctl_index.specs.Inside.TablesSteps.{all_tested, atoms_tested, atoms_tested_at, enter_step, entered_fields, entered_groups, fields_tested, group_met, group_tested, groups_tested, is_clause, listed_fields, listed_group, listed_groups, listed_offers, offers_tested, offers_tested_at, raised, with_each};
 ghost use Rattle.ctl_index.specs.Work.{more_by};
 ghost use Rattle.ctl_stanza.specs.Content.{groups_of};
 

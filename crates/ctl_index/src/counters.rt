@@ -5,7 +5,7 @@ ghost use Rattle.std.specs.BTreeMap.{get, IsEmpty};
 ghost use Rattle.std.specs.BTreeSet.{contains};
 ghost use Rattle.std.specs.Ordering.{is_eq};
 ghost use Rattle.ctl_index.specs.Clauses.{clause_cmp};
-ghost use Rattle.ctl_index.specs.TablesCounters.{AreUnmet, counted_up, entered, marked, told};
+ghost use Rattle.ctl_index.specs.Inside.TablesCounters.{AreUnmet, counted_up, entered, marked, told};
 
 use crate::keys::ClauseKey;
 use std::alloc::{AllocError, Global};

@@ -3,10 +3,10 @@
 ghost use Rattle.std.specs.Prelude.{◌≡◌, ◌∷◌, [], ◌-◌, ◌≤◌, ◌<◌, ◌^◌, ℕ, List, OnOk, None, length, if◌then◌else◌};
 ghost use Rattle.std.specs.BTreeMap.{get};
 ghost use Rattle.ctl_index.specs.Clauses.{clause_cmp};
-ghost use Rattle.ctl_index.specs.TablesByName.{offers_under, namers_under, rows_under};
-ghost use Rattle.ctl_index.specs.TablesHeld.{HasTested, TestsAtMost, namers_in, number_in, offers_in, rows_in};
-ghost use Rattle.ctl_index.specs.TablesIndexed.{namers_left, number_dropped, number_lowered, offers_left};
-ghost use Rattle.ctl_index.specs.TablesSteps.{all_tested, atoms_tested, atoms_tested_at, dropped_fields, dropped_groups, fields_tested, group_tested, groups_tested, is_clause, left_fields, left_group, left_groups, left_offers, lowered, offers_tested, offers_tested_at};
+ghost use Rattle.ctl_index.specs.Inside.TablesByName.{offers_under, namers_under, rows_under};
+ghost use Rattle.ctl_index.specs.Inside.TablesHeld.{HasTested, TestsAtMost, namers_in, number_in, offers_in, rows_in};
+ghost use Rattle.ctl_index.specs.Inside.TablesIndexed.{namers_left, number_dropped, number_lowered, offers_left};
+ghost use Rattle.ctl_index.specs.Inside.TablesSteps.{all_tested, atoms_tested, atoms_tested_at, dropped_fields, dropped_groups, fields_tested, group_tested, groups_tested, is_clause, left_fields, left_group, left_groups, left_offers, lowered, offers_tested, offers_tested_at};
 ghost use Rattle.ctl_index.specs.Work.{more_by};
 ghost use Rattle.ctl_stanza.specs.Content.{groups_of};
 

@@ -2,7 +2,7 @@
 
 ghost use Rattle.std.specs.Prelude.{◌≡◌, None, Some, option_map};
 ghost use Rattle.ctl_relation.specs.Version.{fault_of};
-ghost use Rattle.ctl_index.specs.KeptBound.{kept_of, with_bound};
+ghost use Rattle.ctl_index.specs.Inside.KeptBound.{kept_of, with_bound};
 
 use ctl_relation::{Atom, Operator};
 use std::marker::Model;
@@ -32,7 +32,7 @@ pub(crate) struct KeptBound {
 
 impl Model for KeptBound {
     ghost use Rattle.std.specs.Prelude.{Option};
-    ghost use Rattle.ctl_index.specs.KeptBound.{Bound, bound_held, IsHeld};
+    ghost use Rattle.ctl_index.specs.Inside.KeptBound.{Bound, bound_held, IsHeld};
 
     ghost Value = { Option Bound };
 

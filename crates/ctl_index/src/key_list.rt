@@ -2,7 +2,7 @@
 
 ghost use Rattle.std.specs.Prelude.{◌≡◌, ◌≤◌, ◌∷◌, [], true, false, length, nat_eq, vec_len, insert, IfOk, OnOk, OnErr};
 ghost use Rattle.std.specs.List.Sorted.{IsPartitionPoint};
-ghost use Rattle.ctl_index.specs.TablesOrder.{InOrder, is_before, is_through, ends_behind, put_in_order, others};
+ghost use Rattle.ctl_index.specs.Inside.TablesOrder.{InOrder, is_before, is_through, ends_behind, put_in_order, others};
 
 use crate::keys::OfStanza;
 use crate::span::Span;
@@ -18,7 +18,7 @@ pub(crate) struct KeyList<K: OfStanza> {
 
 impl<K: OfStanza> Model for KeyList<K> {
     ghost use Rattle.std.specs.Prelude.{List};
-    ghost use Rattle.ctl_index.specs.TablesOrder.{InOrder};
+    ghost use Rattle.ctl_index.specs.Inside.TablesOrder.{InOrder};
 
     ghost Value = { List K };
 

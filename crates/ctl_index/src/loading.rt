@@ -1,9 +1,9 @@
 //! A list comes: all its stanzas at once.
 
 ghost use Rattle.std.specs.Prelude.{◌≤◌, OnOk};
-ghost use Rattle.ctl_index.specs.TablesHeld.{HasTested, TestsAtMost};
-ghost use Rattle.ctl_index.specs.TablesIndexed.{tests_put_in};
-ghost use Rattle.ctl_index.specs.TablesLoaded.{ComeApart, IsLoaded};
+ghost use Rattle.ctl_index.specs.Inside.TablesHeld.{HasTested, TestsAtMost};
+ghost use Rattle.ctl_index.specs.Inside.TablesIndexed.{tests_put_in};
+ghost use Rattle.ctl_index.specs.Inside.TablesLoaded.{ComeApart, IsLoaded};
 
 use crate::sight::Sight;
 use crate::tables::{Tables, put_all};

@@ -5,9 +5,9 @@ ghost use Rattle.std.specs.List.{starts_with};
 ghost use Rattle.std.specs.List.Sorted.{IsStrictlySortedBy};
 ghost use Rattle.std.specs.Cmp.Lexicographic.{slice_cmp};
 ghost use Rattle.std.specs.Ordering.{nat_cmp, is_lt};
-ghost use Rattle.ctl_index.specs.NameMap.{entry_names, found_in, left_short, long_entry, merged};
-ghost use Rattle.ctl_index.specs.TablesByName.{at_name};
-ghost use Rattle.ctl_index.specs.TablesViews.{AreFrom};
+ghost use Rattle.ctl_index.specs.Inside.NameMap.{entry_names, found_in, left_short, long_entry, merged};
+ghost use Rattle.ctl_index.specs.Inside.TablesByName.{at_name};
+ghost use Rattle.ctl_index.specs.Inside.TablesViews.{AreFrom};
 
 use crate::name_map::NameMap;
 use crate::named::Named;
@@ -29,8 +29,8 @@ pub(crate) struct NameEntries<'a> {
 impl<'a> Model for NameEntries<'a> {
     ghost use Rattle.std.specs.Coded.{codes};
     ghost use Rattle.std.specs.Prelude.{List};
-    ghost use Rattle.ctl_policy.specs.HeldRows.{rows_code};
-    ghost use Rattle.ctl_index.specs.NameMap.{NamedEntry, merged, left_short, left_long};
+    ghost use Rattle.ctl_policy.specs.Inside.HeldRows.{rows_code};
+    ghost use Rattle.ctl_index.specs.Inside.NameMap.{NamedEntry, merged, left_short, left_long};
 
     ghost Value = { List NamedEntry };
 

@@ -4,7 +4,7 @@ ghost use Rattle.std.specs.Prelude.{◌≡◌, ℕ, List, None, Some, is_some, O
 ghost use Rattle.std.specs.Borrow.{sem};
 ghost use Rattle.std.specs.Option.{option_copied_mut};
 ghost use Rattle.std.specs.Str.{bytes_eq};
-ghost use Rattle.ctl_index.specs.NameMap.{AreApart};
+ghost use Rattle.ctl_index.specs.Inside.NameMap.{AreApart};
 
 use crate::named::Named;
 use crate::named_box::NamedBox;
@@ -22,7 +22,7 @@ pub(crate) struct NameMap {
 }
 
 impl NameMap {
-    ghost use Rattle.ctl_index.specs.TablesByName.{at_name, HoldsNothing, IsSetAt, HasSameNames, LendsNamed};
+    ghost use Rattle.ctl_index.specs.Inside.TablesByName.{at_name, HoldsNothing, IsSetAt, HasSameNames, LendsNamed};
 
     /// No names. It takes no memory.
     pub(crate) fn new(alloc: Global) -> NameMap

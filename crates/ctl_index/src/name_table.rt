@@ -10,12 +10,12 @@ ghost use Rattle.std.specs.List.Sorted.{IsStrictlySortedBy};
 ghost use Rattle.std.specs.Str.{bytes_eq};
 ghost use Rattle.ctl_policy.specs.Kept.{HasPut, HasTaken, OthersStay};
 ghost use Rattle.ctl_index.specs.Clauses.{clause_cmp};
-ghost use Rattle.ctl_index.specs.TablesByName.{at_name, HoldsNothing, offers_under, namers_under, rows_under, AreUsed, is_used, named_namers, named_offers, named_rows, namers_with, namers_without, offers_with, offers_without};
-ghost use Rattle.ctl_index.specs.TablesSight.{atom_met, atom_tested};
-ghost use Rattle.ctl_index.specs.NameMap.{entry_names, found_in};
-ghost use Rattle.ctl_index.specs.TablesViews.{AreFrom};
-ghost use Rattle.ctl_index.specs.TablesOrder.{namer_of};
-ghost use Rattle.ctl_index.specs.TablesSteps.{lowered, offer_tested, raised};
+ghost use Rattle.ctl_index.specs.Inside.TablesByName.{at_name, HoldsNothing, offers_under, namers_under, rows_under, AreUsed, is_used, named_namers, named_offers, named_rows, namers_with, namers_without, offers_with, offers_without};
+ghost use Rattle.ctl_index.specs.Inside.TablesSight.{atom_met, atom_tested};
+ghost use Rattle.ctl_index.specs.Inside.NameMap.{entry_names, found_in};
+ghost use Rattle.ctl_index.specs.Inside.TablesViews.{AreFrom};
+ghost use Rattle.ctl_index.specs.Inside.TablesOrder.{namer_of};
+ghost use Rattle.ctl_index.specs.Inside.TablesSteps.{lowered, offer_tested, raised};
 ghost use Rattle.ctl_index.specs.Work.{more_by};
 ghost use Rattle.ctl_index.specs.declared.keys.ClauseKey.{ClauseKey};
 

@@ -2,8 +2,8 @@
 
 ghost use Rattle.std.specs.Prelude.{◌≡◌, nat_eq};
 ghost use Rattle.std.specs.FinMap as fin;
-ghost use Rattle.ctl_index.specs.TablesByName.{is_used};
-ghost use Rattle.ctl_index.specs.TablesViews.{has_own};
+ghost use Rattle.ctl_index.specs.Inside.TablesByName.{is_used};
+ghost use Rattle.ctl_index.specs.Inside.TablesViews.{has_own};
 
 use crate::key_list::KeyList;
 use crate::keys::Namer;

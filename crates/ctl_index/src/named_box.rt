@@ -20,7 +20,7 @@ pub(crate) struct NamedBox {
 impl Model for NamedBox {
     ghost use Rattle.ctl_index.specs.declared.named.Named.{Named};
     ghost use Rattle.std.specs.Coded.{codes};
-    ghost use Rattle.ctl_policy.specs.HeldRows.{rows_code};
+    ghost use Rattle.ctl_policy.specs.Inside.HeldRows.{rows_code};
 
     ghost Value = { Named };
 

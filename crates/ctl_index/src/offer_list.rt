@@ -2,8 +2,8 @@
 
 ghost use Rattle.std.specs.Prelude.{◌≡◌, ◌∷◌, [], length, nat_eq, IfOk, OnOk, OnErr};
 ghost use Rattle.std.specs.Bool.{OnTrue, OnFalse};
-ghost use Rattle.ctl_index.specs.OfferList.{offers_of_form};
-ghost use Rattle.ctl_index.specs.TablesOrder.{is_within, offer_stanza, others, put_in_order};
+ghost use Rattle.ctl_index.specs.Inside.OfferList.{offers_of_form};
+ghost use Rattle.ctl_index.specs.Inside.TablesOrder.{is_within, offer_stanza, others, put_in_order};
 
 use crate::key_list::KeyList;
 use crate::keys::OfferKey;
@@ -29,7 +29,7 @@ pub(crate) struct OfferList {
 
 impl Model for OfferList {
     ghost use Rattle.std.specs.Prelude.{List};
-    ghost use Rattle.ctl_index.specs.OfferList.{offers_of_form};
+    ghost use Rattle.ctl_index.specs.Inside.OfferList.{offers_of_form};
     ghost use Rattle.ctl_index.specs.declared.keys.OfferKey.{OfferKey};
 
     ghost Value = { List OfferKey };

@@ -1,14 +1,14 @@
 //! The rows of names follow the stanzas that come and go.
 
 ghost use Rattle.std.specs.Prelude.{◌≡◌, ℕ, List, OnOk};
-ghost use Rattle.ctl_store.specs.Held.{Held, keyed_of};
+ghost use Rattle.ctl_store.specs.Store.{Held, keyed_of};
 ghost use Rattle.ctl_store.specs.Keys.{AreRising, all_keys};
 ghost use Rattle.ctl_policy.specs.Rows.{AreRowsOf};
 ghost use Rattle.ctl_index.specs.Held.{standing};
-ghost use Rattle.ctl_index.specs.TablesByName.{NameMap, offers_under, namers_under, rows_under, row_under};
-ghost use Rattle.ctl_index.specs.TablesRows.{AreKept, AreRowsPut, AreRowsTaken, RowsCome, RowsGo};
-ghost use Rattle.ctl_index.specs.TablesSight.{seen};
-ghost use Rattle.ctl_index.specs.TablesSteps.{with_found, put_rows_step, take_rows_step};
+ghost use Rattle.ctl_index.specs.Inside.TablesByName.{NameMap, offers_under, namers_under, rows_under, row_under};
+ghost use Rattle.ctl_index.specs.Inside.TablesRows.{AreKept, AreRowsPut, AreRowsTaken, RowsCome, RowsGo};
+ghost use Rattle.ctl_index.specs.Inside.TablesSight.{seen};
+ghost use Rattle.ctl_index.specs.Inside.TablesSteps.{with_found, put_rows_step, take_rows_step};
 
 use crate::name_table::NameTable;
 use crate::sight::{Sight, stanza_at};

@@ -5,7 +5,7 @@ ghost use Rattle.std.specs.Cmp.{partial_equiv_from_equiv};
 ghost use Rattle.std.specs.Cmp.Lexicographic.{slice_cmp, nat_list_eq_equiv, nat_list_cmp_total, texts_po, texts_ties};
 ghost use Rattle.std.specs.Ordering.{nat_cmp};
 ghost use Rattle.std.specs.Str.{bytes_eq};
-ghost use Rattle.ctl_index.specs.ShortName.{IsHeldIn, number_at};
+ghost use Rattle.ctl_index.specs.Inside.ShortName.{IsHeldIn, number_at};
 
 use std::cmp::Ordering;
 use std::marker::Model;
@@ -28,7 +28,7 @@ pub(crate) struct ShortName {
 
 impl Model for ShortName {
     ghost use Rattle.std.specs.Prelude.{List, ℕ};
-    ghost use Rattle.ctl_index.specs.ShortName.{held_name, IsHeldIn};
+    ghost use Rattle.ctl_index.specs.Inside.ShortName.{held_name, IsHeldIn};
 
     ghost Value = { List ℕ };
 

@@ -12,7 +12,7 @@ use Rattle.ctl_store.specs.declared.selector.Selector.TheVariants.{Version, Rele
 use Rattle.ctl_store.specs.Pins.{selector_eq, is_of, is_general_on, general_pin, own_settings}
 use Rattle.ctl_store.specs.SelectorLaws.{selector_eq-Decides}
 use Rattle.ctl_store.specs.Edits.{Edit, AddList, DropList, Put, Remove, Mark, Unmark, Pin, Unpin, Target, Prefs}
-use Rattle.ctl_store.specs.Held.{Held, state_of}
+use Rattle.ctl_store.specs.Store.{Held, state_of}
 use Rattle.ctl_policy.specs.Priority.{Settings, world_of}
 use Rattle.ctl_policy.specs.Laws.{Stays, with_pins, with_target, world_after}
 use Rattle.ctl_policy.specs.Touched.{sets_again}

@@ -11,7 +11,7 @@ use Rattle.ctl_policy.specs.Chosen.{if_rows}
 use Rattle.ctl_policy.specs.Priority.{World, row_priority}
 use Rattle.ctl_policy.specs.Candidate.{best_of, version_if_row, wanted_version, choice_of}
 use Rattle.ctl_policy.specs.declared.form.Form.{Form}
-use Rattle.ctl_policy.specs.HeldRows.{rows_of_form, IsFormOf, lead_in, version_in_form}
+use Rattle.ctl_policy.specs.Inside.HeldRows.{rows_of_form, IsFormOf, lead_in, version_in_form}
 use Rattle.ctl_policy.proofs.ShownLemmas.{shown_as, shown_get, sorted, find_is}
 
 pub installed_is : (form : Form) (rows : Rows) (wanted : Option (List ℕ)) → IsFormOf form rows → lead_in form wanted ≡ option_map_or (lead_at rows) wanted None

@@ -4,8 +4,8 @@ use Rattle.std.proofs.lemmas.List.{reverse-append, append-nil}
 use Rattle.ctl_relation.specs.Version.{Triple}
 use Rattle.ctl_store.specs.declared.stanza_key.StanzaKey.{StanzaKey}
 use Rattle.ctl_policy.specs.Candidate.{best_of}
-use Rattle.ctl_policy.specs.HeldRows.{shown_row}
-use Rattle.ctl_policy.specs.HeldWalk.{carried}
+use Rattle.ctl_policy.specs.Inside.HeldRows.{shown_row}
+use Rattle.ctl_policy.specs.Inside.HeldWalk.{carried}
 
 module _ (priority : List StanzaKey → ℤ) (installed : Option Triple) where
   carried_is : (rows : List (Triple × List StanzaKey)) (es : List (List ℕ × Vec StanzaKey Global)) → carried priority installed (best_of priority installed rows) es ≡ best_of priority installed (reverse (map shown_row es) ++ rows)

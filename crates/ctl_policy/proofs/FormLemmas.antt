@@ -7,7 +7,7 @@ use Rattle.ctl_relation.specs.Version.{version_cmp}
 use Rattle.ctl_relation.specs.Orders.Versions.{version_total}
 use Rattle.ctl_store.specs.declared.stanza_key.StanzaKey.{StanzaKey}
 use Rattle.ctl_store.specs.Keys.{key_is, AreRising}
-use Rattle.ctl_policy.specs.HeldRows.{Shelf, row_at, AreRows, one_at, form_without}
+use Rattle.ctl_policy.specs.Inside.HeldRows.{Shelf, row_at, AreRows, one_at, form_without}
 use Rattle.ctl_policy.specs.Keys.{without_key, or_none, some_keys}
 use Rattle.ctl_policy.proofs.RowLemmas.{eq_is}
 

@@ -13,8 +13,8 @@ use Rattle.ctl_policy.specs.Keys.{has_key, or_none}
 use Rattle.ctl_policy.specs.Rows.{Lists, rows_named}
 use Rattle.ctl_policy.specs.declared.form.Form.{Form}
 use Rattle.ctl_policy.specs.declared.form.Form.TheVariants.{Empty, One, Many}
-use Rattle.ctl_policy.specs.HeldRows.{row_at, IsOrderedForm, IsFormOf}
-use Rattle.ctl_policy.specs.HeldWalk.{IsHeldForm}
+use Rattle.ctl_policy.specs.Inside.HeldRows.{row_at, IsOrderedForm, IsFormOf}
+use Rattle.ctl_policy.specs.Inside.HeldWalk.{IsHeldForm}
 use Rattle.ctl_policy.proofs.RowLemmas.{eq_is}
 use Rattle.ctl_policy.proofs.SetLemmas.{key_is-itself}
 use Rattle.ctl_policy.proofs.AlikeLemmas.{IsUnder, IsRising, rising_is}

@@ -10,7 +10,8 @@ use Rattle.ctl_store.specs.declared.selector.Selector.TheVariants.{Version, Rele
 use Rattle.ctl_store.specs.Edits.{Edit, AddList, DropList, Put, Remove, Mark, Unmark, Pin, Unpin, Target, Prefs}
 use Rattle.ctl_store.specs.Keys.{all_keys, AreRising, AreCome, AreNew, keyed_after, added_of}
 use Rattle.ctl_store.specs.Entries.{IsChange}
-use Rattle.ctl_store.specs.Held.{Held, Planned, IsReady, keyed_of, state_of}
+use Rattle.ctl_store.specs.Store.{Held, keyed_of, state_of}
+use Rattle.ctl_store.specs.Plans.{Planned, IsReady}
 use Rattle.ctl_policy.specs.declared.chosen.Chosen.{Chosen}
 use Rattle.ctl_policy.specs.Chosen.{at_bytes, kept_of, AreChosen}
 use Rattle.ctl_policy.specs.Priority.{world_of}

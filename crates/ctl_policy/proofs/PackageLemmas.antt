@@ -9,7 +9,7 @@ use Rattle.std.proofs.lemmas.Slice.Eq.{bytes_eq-Decides}
 use Rattle.ctl_stanza.specs.Content.{Content, package_of, version_of}
 use Rattle.ctl_store.specs.declared.stanza_key.StanzaKey.{StanzaKey}
 use Rattle.ctl_store.specs.Keys.{key_is, stanza_at, holder_of, all_in}
-use Rattle.ctl_store.specs.Held.{Held, keyed_of, state_of}
+use Rattle.ctl_store.specs.Store.{Held, keyed_of, state_of}
 use Rattle.ctl_policy.specs.Keys.{has_key}
 use Rattle.ctl_policy.specs.Rows.{Lists, is_called}
 use Rattle.ctl_policy.specs.Laws.{version_found, HoldsNone}

@@ -22,7 +22,7 @@ use Rattle.std.proofs.lemmas.Map.Text.{is_eq-slice_cmp}
 use Rattle.std.proofs.lemmas.Slice.Eq.{bytes_eq-Decides}
 use Rattle.ctl_policy.specs.declared.chosen.Chosen.{Chosen}
 use Rattle.ctl_policy.specs.Chosen.{at_bytes, no_choice, place_of}
-use Rattle.ctl_policy.specs.NewPlaces.{is_listed, lacks_place, AreUnchosen}
+use Rattle.ctl_policy.specs.Inside.NewPlaces.{is_listed, lacks_place, AreUnchosen}
 use Rattle.ctl_policy.specs.Touched.{is_one_of}
 
 -- the order of the keys, and whether a key has these bytes

@@ -11,7 +11,7 @@ use Rattle.ctl_store.specs.Entries.{Entry, entries_of, entry_keys}
 use Rattle.ctl_policy.specs.Keys.{with_key, has_key, or_none, some_keys}
 use Rattle.ctl_policy.specs.Rows.{Lists, Rows, keys_at, keys_with, version_in, is_of_version, is_in_row, AreRowsOf}
 use Rattle.ctl_policy.specs.Kept.{HasPut}
-use Rattle.ctl_policy.specs.HeldRead.{with_keys, IsReadSoFar}
+use Rattle.ctl_policy.specs.Inside.HeldRead.{with_keys, IsReadSoFar}
 use Rattle.ctl_policy.proofs.RowLemmas.{eq_is}
 use Rattle.ctl_policy.proofs.SetLemmas.{key_is-back, same_keys, has_key-with, rises-with}
 use Rattle.ctl_policy.proofs.DefinedLemmas.{with_rises, row_defined}

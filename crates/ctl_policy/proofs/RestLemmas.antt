@@ -24,7 +24,7 @@ use Rattle.ctl_store.specs.State.{Marks, StanzaList}
 use Rattle.ctl_store.specs.Edits.{Edit}
 use Rattle.ctl_store.specs.Step.{after}
 use Rattle.ctl_store.specs.Keys.{stanza_lists, holder_of, keyed_after}
-use Rattle.ctl_store.specs.Held.{Held, keyed_of, state_of}
+use Rattle.ctl_store.specs.Store.{Held, keyed_of, state_of}
 use Rattle.ctl_policy.specs.declared.chosen.Chosen.{Chosen}
 use Rattle.ctl_policy.specs.Rows.{Row, rows_named, lead_of, lead_at, is_called, is_source}
 use Rattle.ctl_policy.specs.Priority.{Settings, World, world_in, world_of, is_target, own_priority, priority_of_list, list_priority, specific_pin, priority_found, source_priorities, greatest, row_priority}

@@ -6,7 +6,7 @@ use Rattle.std.specs.BTreeMap.{get, UpdatesBy}
 use Rattle.ctl_relation.specs.Version.{version_cmp}
 use Rattle.ctl_relation.specs.Orders.Versions.{version_total}
 use Rattle.ctl_store.specs.declared.stanza_key.StanzaKey.{StanzaKey}
-use Rattle.ctl_policy.specs.HeldRows.{Shelf, row_at}
+use Rattle.ctl_policy.specs.Inside.HeldRows.{Shelf, row_at}
 use Rattle.ctl_policy.specs.Keys.{or_none, some_keys}
 
 pub if_cases : {A B : Type 0} (f : A → B) (b : Bool) (x y : A) → f (cond b x y) ≡ cond b (f x) (f y)

@@ -2,7 +2,7 @@
 use Rattle.std.proofs.Common.{◌≡◌, ◌⊎◌, inl, inr, ℕ, List, Option, None, Some}
 use Rattle.ctl_store.specs.Edits.{Target, Prefs}
 use Rattle.ctl_store.specs.Keys.{all_keys, AreRising}
-use Rattle.ctl_store.specs.Held.{Held, keyed_of}
+use Rattle.ctl_store.specs.Store.{Held, keyed_of}
 use Rattle.ctl_policy.specs.Priority.{World, Settings, world_of, list_priority}
 use Rattle.ctl_policy.specs.Laws.{Stays, IsNoSource, IsNoTarget, HoldsNone, with_pins, world_after}
 use Rattle.ctl_policy.specs.Touched.{TargetHoldsNone, LeavePins}

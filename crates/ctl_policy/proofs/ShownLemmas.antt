@@ -15,11 +15,11 @@ use Rattle.ctl_store.specs.declared.stanza_key.StanzaKey.{StanzaKey}
 use Rattle.ctl_store.specs.Keys.{AreRising}
 use Rattle.ctl_policy.specs.Keys.{with_key, without_key, or_none, some_keys}
 use Rattle.ctl_policy.specs.Rows.{Rows, Row, keys_of_row, newest_first}
-use Rattle.ctl_policy.specs.HeldIter.{one_left, items_left}
+use Rattle.ctl_policy.specs.Inside.HeldIter.{one_left, items_left}
 use Rattle.ctl_policy.specs.Kept.{HasPut, HasTaken, HasSame}
 use Rattle.ctl_policy.specs.declared.form.Form.{Form}
 use Rattle.ctl_policy.specs.declared.form.Form.TheVariants.{Empty, One, Many}
-use Rattle.ctl_policy.specs.HeldRows.{Shelf, shown_row, with_items, form_at, form_with, form_without, rows_of_form, IsOrderedForm, IsFormed}
+use Rattle.ctl_policy.specs.Inside.HeldRows.{Shelf, shown_row, with_items, form_at, form_with, form_without, rows_of_form, IsOrderedForm, IsFormed}
 use Rattle.ctl_policy.proofs.RowLemmas.{if_cases}
 use Rattle.ctl_policy.proofs.SetLemmas.{rises-with, rises-without}
 use Rattle.ctl_policy.proofs.AlikeLemmas.{IsUnder, IsRising, rising_is, read_alike}

@@ -15,7 +15,7 @@ use Rattle.ctl_policy.specs.Keys.{has_key}
 use Rattle.ctl_policy.specs.Rows.{Lists}
 use Rattle.ctl_policy.specs.Priority.{World, priority_found}
 use Rattle.ctl_policy.specs.declared.span.Span.{Span}
-use Rattle.ctl_policy.specs.HeldSpan.{holds, widened, IsSpan}
+use Rattle.ctl_policy.specs.Inside.HeldSpan.{holds, widened, IsSpan}
 use Rattle.ctl_policy.proofs.KeyLemmas.{key_total, at_place}
 use Rattle.ctl_policy.proofs.SetLemmas.{IsBelow, key_is-same}
 use Rattle.ctl_policy.proofs.DefinedLemmas.{keys_are, find_placed}

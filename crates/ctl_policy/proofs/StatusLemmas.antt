@@ -19,8 +19,8 @@ use Rattle.ctl_policy.specs.Rows.{Lists, version_in, is_of_version, is_in_row, k
 use Rattle.ctl_policy.specs.Candidate.{is_status_of, status_version}
 use Rattle.ctl_policy.specs.declared.form.Form.{Form}
 use Rattle.ctl_policy.specs.declared.form.Form.TheVariants.{Empty, One, Many}
-use Rattle.ctl_policy.specs.HeldRows.{Shelf, IsOrderedForm, IsFormOf}
-use Rattle.ctl_policy.specs.HeldWalk.{is_status_key, first_status, lower, lowest_status, status_key}
+use Rattle.ctl_policy.specs.Inside.HeldRows.{Shelf, IsOrderedForm, IsFormOf}
+use Rattle.ctl_policy.specs.Inside.HeldWalk.{is_status_key, first_status, lower, lowest_status, status_key}
 use Rattle.ctl_policy.proofs.KeyLemmas.{key_total}
 use Rattle.ctl_policy.proofs.SetLemmas.{same_key, key_is-same, key_is-itself, below_absent, below_further}
 use Rattle.ctl_policy.proofs.AlikeLemmas.{rising_is}

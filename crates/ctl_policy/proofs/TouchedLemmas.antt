@@ -11,7 +11,7 @@ use Rattle.ctl_store.specs.declared.stanza_key.StanzaKey.{StanzaKey}
 use Rattle.ctl_store.specs.Named.{change_named, without_name}
 use Rattle.ctl_store.specs.Edits.{Edit, AddList, DropList, Put, Remove}
 use Rattle.ctl_store.specs.Keys.{KeyedList, stanza_at, stanza_lists, holder_of, all_in, all_keys, AreRising, keyed_after, put_keyed, remove_keyed, removed_of, added_of, list_of_stanzas}
-use Rattle.ctl_store.specs.Held.{Held, keyed_of}
+use Rattle.ctl_store.specs.Store.{Held, keyed_of}
 use Rattle.ctl_policy.specs.Rows.{Lists}
 use Rattle.ctl_policy.specs.Priority.{World, world_of, priority_found}
 use Rattle.ctl_policy.specs.Laws.{Stays, with_lists, version_found, IsUntouched, world_after}

@@ -15,14 +15,15 @@ use Rattle.ctl_store.specs.State.{StanzaList, shown_lists}
 use Rattle.ctl_store.specs.Entries.{Entry, entries_of}
 use Rattle.ctl_store.specs.Keys.{stanza_at, stanza_lists, coming}
 use Rattle.ctl_store.specs.Pins.{is_of, own_settings}
-use Rattle.ctl_store.specs.Held.{Held, Planned, IsReady, keyed_of, state_of}
+use Rattle.ctl_store.specs.Store.{Held, keyed_of, state_of}
+use Rattle.ctl_store.specs.Plans.{Planned, IsReady}
 use Rattle.ctl_policy.specs.declared.form.Form.TheVariants.{Empty}
 use Rattle.ctl_policy.specs.Rows.{rows_of, rows_named, versions_of, newest_first}
 use Rattle.ctl_policy.specs.Priority.{World, Settings, world_of, list_priority, priority_of_list}
 use Rattle.ctl_policy.specs.Chosen.{choice_in, if_rows, kept_of}
 use Rattle.ctl_policy.specs.Laws.{HoldsNone, with_pins}
 use Rattle.ctl_policy.specs.Touched.{TargetHoldsNone, LeavePins, HasNoneOf, LeavesStanzas, is_one_of, packages_at}
-use Rattle.ctl_policy.specs.TouchedNames.{packages_among, packages_in, target_packages, selected_package, pinned_packages, keeps_priority, repinned_packages}
+use Rattle.ctl_policy.specs.Inside.TouchedNames.{packages_among, packages_in, target_packages, selected_package, pinned_packages, keeps_priority, repinned_packages}
 use Rattle.ctl_policy.proofs.RestLemmas.{or_first, or_second}
 use Rattle.ctl_policy.proofs.PackageLemmas.{none_under, none_held}
 use Rattle.ctl_policy.proofs.ShownLemmas.{rows_shown}

@@ -9,7 +9,7 @@ use Rattle.ctl_store.specs.State.{Marks}
 use Rattle.ctl_store.specs.Edits.{Edit}
 use Rattle.ctl_store.specs.Step.{after}
 use Rattle.ctl_store.specs.Keys.{stanza_at, holder_of, all_keys, AreRising, keyed_after}
-use Rattle.ctl_store.specs.Held.{Held, keyed_of, state_of}
+use Rattle.ctl_store.specs.Store.{Held, keyed_of, state_of}
 use Rattle.ctl_policy.specs.Rows.{Lists, Row, rows_named, newest_first, version_in, is_called, is_source}
 use Rattle.ctl_policy.specs.Priority.{World, Settings, world_in, list_priority, row_priority, priority_found}
 use Rattle.ctl_policy.specs.Chosen.{choice_in, kept_of}

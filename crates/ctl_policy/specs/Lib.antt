@@ -4,13 +4,7 @@ pub mod Priority
 pub mod Candidate
 pub mod Kept
 pub mod Chosen
-pub mod NewPlaces
 pub mod Laws
 pub mod ChoiceLaws
 pub mod Touched
-pub mod TouchedNames
-pub mod HeldRows
-pub mod HeldWalk
-pub mod HeldRead
-pub mod HeldIter
-pub mod HeldSpan
+pub mod Inside

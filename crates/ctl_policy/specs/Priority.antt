@@ -14,7 +14,7 @@ use Rattle.ctl_store.specs.Pins.{general_pin}
 use Rattle.ctl_store.specs.Named.{at_name}
 use Rattle.ctl_store.specs.State.{State, StanzaList, Marks}
 use Rattle.ctl_store.specs.Keys.{Keyed, stanza_lists, holder_of}
-use Rattle.ctl_store.specs.Held.{Held, keyed_of, state_of}
+use Rattle.ctl_store.specs.Store.{Held, keyed_of, state_of}
 use Rattle.ctl_policy.specs.Rows.{Lists, lead_of, version_under, is_source}
 
 -- pin settings, in order

@@ -16,7 +16,7 @@ use Rattle.ctl_store.specs.Pins.{selector_eq, own_settings}
 use Rattle.ctl_store.specs.Edits.{Edit, Mark, Unmark, Pin, Unpin, Target, Prefs}
 use Rattle.ctl_store.specs.Keys.{stanza_at, coming, all_keys, AreRising, AreCome, AreNew, removed_of, added_of, keyed_after}
 use Rattle.ctl_store.specs.Entries.{IsChange}
-use Rattle.ctl_store.specs.Held.{Held, keyed_of, state_of}
+use Rattle.ctl_store.specs.Store.{Held, keyed_of, state_of}
 use Rattle.ctl_policy.specs.declared.chosen.Chosen.{Chosen}
 use Rattle.ctl_policy.specs.Chosen.{at_bytes, place_of}
 use Rattle.ctl_policy.specs.Keys.{has_key}

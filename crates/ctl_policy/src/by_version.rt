@@ -4,7 +4,7 @@ ghost use Rattle.std.specs.Prelude.{◌≡◌, ◌∷◌, ◌<◌, length, ℕ, 
 ghost use Rattle.std.specs.Bool.{MatchBool};
 ghost use Rattle.ctl_store.specs.Keys.{AreRising};
 ghost use Rattle.ctl_policy.specs.Keys.{without_key};
-ghost use Rattle.ctl_policy.specs.HeldRows.{AreRows, HasKeyLeft, form_with, form_without, row_at, row_less, with_row};
+ghost use Rattle.ctl_policy.specs.Inside.HeldRows.{AreRows, HasKeyLeft, form_with, form_without, row_at, row_less, with_row};
 
 use crate::keys::{put_key, take_key};
 use ctl_relation::Version;

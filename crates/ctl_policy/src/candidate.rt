@@ -3,12 +3,12 @@
 ghost use Rattle.std.specs.Prelude.{◌≡◌, ◌∷◌, [], None, Some, IfSome, option_copied};
 ghost use Rattle.ctl_relation.specs.Version.{triple_of};
 ghost use Rattle.ctl_store.specs.Keys.{AreHeld};
-ghost use Rattle.ctl_store.specs.Held.{keyed_of};
+ghost use Rattle.ctl_store.specs.Store.{keyed_of};
 ghost use Rattle.ctl_policy.specs.Priority.{world_of};
 ghost use Rattle.ctl_policy.specs.Candidate.{best_named, better, is_upgrade, may_be_taken};
-ghost use Rattle.ctl_policy.specs.HeldRows.{IsOrderedForm, form_shown, rows_of_map};
-ghost use Rattle.ctl_policy.specs.HeldSpan.{IsSpan};
-ghost use Rattle.ctl_policy.specs.HeldWalk.{AreHeldIn, IsHeldForm, considered, considered_alone, triple_if_any};
+ghost use Rattle.ctl_policy.specs.Inside.HeldRows.{IsOrderedForm, form_shown, rows_of_map};
+ghost use Rattle.ctl_policy.specs.Inside.HeldSpan.{IsSpan};
+ghost use Rattle.ctl_policy.specs.Inside.HeldWalk.{AreHeldIn, IsHeldForm, considered, considered_alone, triple_if_any};
 
 use crate::by_version::ByVersion;
 use crate::form::Form;

@@ -4,13 +4,13 @@ ghost use Rattle.std.specs.Prelude.{◌≡◌, ℕ, List, IsSome, Some, None, op
 ghost use Rattle.std.specs.Prelude.{[]};
 ghost use Rattle.std.specs.Str.{bytes_eq};
 ghost use Rattle.ctl_relation.specs.Version.{triple_of};
-ghost use Rattle.ctl_store.specs.Held.{keyed_of};
+ghost use Rattle.ctl_store.specs.Store.{keyed_of};
 ghost use Rattle.ctl_policy.specs.Rows.{rows_named, AreRowsOf, newest_first};
 ghost use Rattle.ctl_policy.specs.Priority.{world_of};
 ghost use Rattle.ctl_policy.specs.Candidate.{lead_of_choice};
 ghost use Rattle.ctl_policy.specs.Chosen.{at_bytes, choice_in, kept_of, renewed};
-ghost use Rattle.ctl_policy.specs.HeldRows.{IsFormOf, IsOrderedForm, lead_in, version_in_form};
-ghost use Rattle.ctl_policy.specs.HeldWalk.{IsHeldForm};
+ghost use Rattle.ctl_policy.specs.Inside.HeldRows.{IsFormOf, IsOrderedForm, lead_in, version_in_form};
+ghost use Rattle.ctl_policy.specs.Inside.HeldWalk.{IsHeldForm};
 
 use crate::candidate::{Choice, best};
 use crate::form::{Form, has_row, keys_in_form};

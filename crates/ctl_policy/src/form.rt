@@ -6,7 +6,7 @@ ghost use Rattle.std.specs.Ordering.{is_eq};
 ghost use Rattle.ctl_relation.specs.Version.{version_cmp};
 ghost use Rattle.ctl_store.specs.Keys.{key_is};
 ghost use Rattle.ctl_policy.specs.Keys.{or_none};
-ghost use Rattle.ctl_policy.specs.HeldRows.{row_at, one_at, form_at, form_with, form_without, IsFormed};
+ghost use Rattle.ctl_policy.specs.Inside.HeldRows.{row_at, one_at, form_at, form_with, form_without, IsFormed};
 
 use crate::by_version::{ByVersion, put_version, take_version};
 use ctl_relation::Version;

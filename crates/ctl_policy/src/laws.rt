@@ -14,7 +14,7 @@ ghost use Rattle.ctl_store.specs.Edits.{Edit, Mark, Unmark, Pin, Unpin};
 ghost use Rattle.ctl_store.specs.Step.{after};
 ghost use Rattle.ctl_store.specs.Keys.{keyed_after, AreHeld, AreRising, all_keys};
 ghost use Rattle.ctl_store.specs.Entries.{entries_of};
-ghost use Rattle.ctl_store.specs.Held.{Held, keyed_of, state_of};
+ghost use Rattle.ctl_store.specs.Store.{Held, keyed_of, state_of};
 ghost use Rattle.ctl_policy.specs.Keys.{some_keys};
 ghost use Rattle.ctl_policy.specs.Rows.{HasLead, Lists, Rows, rows_named, is_in_row, keys_at, keys_with, keys_of_row, newest_first, AreRowsOf};
 ghost use Rattle.ctl_policy.specs.Priority.{World, Settings, world_of};

@@ -2,7 +2,7 @@
 
 ghost use Rattle.std.specs.Prelude.{◌≡◌, [], map};
 ghost use Rattle.ctl_policy.specs.Rows.{newest_first, keys_of_row};
-ghost use Rattle.ctl_policy.specs.HeldRows.{rows_of_form, IsOrderedForm};
+ghost use Rattle.ctl_policy.specs.Inside.HeldRows.{rows_of_form, IsOrderedForm};
 
 use crate::form::Form;
 use ctl_relation::Version;
@@ -27,7 +27,7 @@ pub struct NewestFirst<'a> {
 impl<'a> Model for NewestFirst<'a> {
     ghost use Rattle.std.specs.Prelude.{List};
     ghost use Rattle.ctl_store.specs.declared.stanza_key.StanzaKey.{StanzaKey};
-    ghost use Rattle.ctl_policy.specs.HeldIter.{keys_left};
+    ghost use Rattle.ctl_policy.specs.Inside.HeldIter.{keys_left};
 
     ghost Value = { List (List StanzaKey) };
 

@@ -2,7 +2,7 @@
 
 ghost use Rattle.std.specs.Prelude.{◌≡◌, ℕ, List, false, OnOk, IfOk, ◌&&◌};
 ghost use Rattle.ctl_policy.specs.Chosen.{at_bytes};
-ghost use Rattle.ctl_policy.specs.NewPlaces.{AreUnchosen, is_listed, lacks_place, listed_with};
+ghost use Rattle.ctl_policy.specs.Inside.NewPlaces.{AreUnchosen, is_listed, lacks_place, listed_with};
 ghost use Rattle.ctl_policy.specs.Touched.{is_one_of, with_places};
 
 use crate::chosen::Chosen;

@@ -5,12 +5,12 @@ ghost use Rattle.std.specs.Bool.{OnFalse};
 ghost use Rattle.std.specs.Int.{int_max};
 ghost use Rattle.ctl_store.specs.declared.stanza_key.StanzaKey.{StanzaKey};
 ghost use Rattle.ctl_store.specs.Keys.{AreHeld};
-ghost use Rattle.ctl_store.specs.Held.{keyed_of};
+ghost use Rattle.ctl_store.specs.Store.{keyed_of};
 ghost use Rattle.ctl_store.specs.Pins.{general_pin};
 ghost use Rattle.ctl_policy.specs.Rows.{lead_of, version_under, is_source};
-ghost use Rattle.ctl_policy.specs.HeldSpan.{IsSpan};
+ghost use Rattle.ctl_policy.specs.Inside.HeldSpan.{IsSpan};
 ghost use Rattle.ctl_policy.specs.Laws.{world_with};
-ghost use Rattle.ctl_policy.specs.TouchedNames.{keeps_priority};
+ghost use Rattle.ctl_policy.specs.Inside.TouchedNames.{keeps_priority};
 ghost use Rattle.ctl_policy.specs.Priority.{MatchesNoRow, PinsNoRow, Settings, world_of, own_priority, is_target, list_priority, matches_text, matches_row, specific_pin, greatest, greatest_with, source_priorities, row_priority};
 
 use crate::span::{Span, source_priority};

@@ -5,7 +5,7 @@ ghost use Rattle.std.specs.Bool.{OnTrue, OnFalse};
 ghost use Rattle.std.specs.FinMap as fin;
 ghost use Rattle.ctl_store.specs.Keys.{AreRising};
 ghost use Rattle.ctl_policy.specs.Rows.{keys_at, lead_at, keys_of_row, newest_first};
-ghost use Rattle.ctl_policy.specs.HeldRows.{rows_of_form, IsOrderedForm};
+ghost use Rattle.ctl_policy.specs.Inside.HeldRows.{rows_of_form, IsOrderedForm};
 ghost use Rattle.ctl_policy.specs.Kept.{HasPut, HasTaken, HasSame};
 
 use crate::form::{Form, keys_in_form, put_in_form, take_from_form};
@@ -25,7 +25,7 @@ pub struct Rows {
 
 impl Model for Rows {
     ghost use Rattle.ctl_policy.specs.Rows.{Rows as RowsByVersion};
-    ghost use Rattle.ctl_policy.specs.HeldRows.{rows_code, rows_of_form, IsFormed};
+    ghost use Rattle.ctl_policy.specs.Inside.HeldRows.{rows_code, rows_of_form, IsFormed};
 
     ghost Value = { RowsByVersion };
 

@@ -2,9 +2,9 @@
 
 ghost use Rattle.std.specs.Prelude.{◌≡◌, IsSome, IfSome, Some};
 ghost use Rattle.ctl_store.specs.Keys.{holder_of, stanza_at};
-ghost use Rattle.ctl_store.specs.Held.{keyed_of};
+ghost use Rattle.ctl_store.specs.Store.{keyed_of};
 ghost use Rattle.ctl_policy.specs.Priority.{priority_found, world_of};
-ghost use Rattle.ctl_policy.specs.HeldSpan.{IsSpan, holds, widened};
+ghost use Rattle.ctl_policy.specs.Inside.HeldSpan.{IsSpan, holds, widened};
 
 use crate::priority::list_priority;
 use ctl_store::{StanzaKey, Store};

@@ -2,12 +2,12 @@
 
 ghost use Rattle.std.specs.Prelude.{◌≡◌, IsSome, None, option_copied};
 ghost use Rattle.ctl_store.specs.Keys.{AreHeld, AreRising, all_keys, stanza_at};
-ghost use Rattle.ctl_store.specs.Held.{keyed_of};
+ghost use Rattle.ctl_store.specs.Store.{keyed_of};
 ghost use Rattle.ctl_policy.specs.Rows.{rows_named};
 ghost use Rattle.ctl_policy.specs.Priority.{world_of};
 ghost use Rattle.ctl_policy.specs.Candidate.{status_version, wanted_version};
-ghost use Rattle.ctl_policy.specs.HeldRows.{IsFormOf, IsOrderedForm};
-ghost use Rattle.ctl_policy.specs.HeldWalk.{AreHeldIn, IsHeldForm, is_status_key, first_status, lower, lowest_status, status_key};
+ghost use Rattle.ctl_policy.specs.Inside.HeldRows.{IsFormOf, IsOrderedForm};
+ghost use Rattle.ctl_policy.specs.Inside.HeldWalk.{AreHeldIn, IsHeldForm, is_status_key, first_status, lower, lowest_status, status_key};
 
 use crate::by_version::ByVersion;
 use crate::form::Form;

@@ -4,12 +4,13 @@ ghost use Rattle.std.specs.Prelude.{◌≡◌, ℕ, List, ◌++◌, ◌∷◌, [
 ghost use Rattle.ctl_store.specs.Entries.{entries_of};
 ghost use Rattle.ctl_store.specs.Keys.{stanza_at, coming, AreComing};
 ghost use Rattle.ctl_store.specs.State.{shown_lists};
-ghost use Rattle.ctl_store.specs.Held.{IsReady, keyed_of, state_of};
+ghost use Rattle.ctl_store.specs.Store.{keyed_of, state_of};
+ghost use Rattle.ctl_store.specs.Plans.{IsReady};
 ghost use Rattle.ctl_policy.specs.Chosen.{kept_of};
 ghost use Rattle.ctl_policy.specs.Laws.{HoldsNone};
 ghost use Rattle.ctl_policy.specs.Priority.{world_of};
 ghost use Rattle.ctl_policy.specs.Touched.{is_one_of, SelectsNone, TargetHoldsNone, LeavePins, LeavesStanzas, IsOfOthers, TouchesAlone, packages_at, sets_again};
-ghost use Rattle.ctl_policy.specs.TouchedNames.{HoldsOfOthers, TargetHoldsAlone, package_found, packages_among, packages_in, target_packages, selected_package, pinned_packages, repinned_in};
+ghost use Rattle.ctl_policy.specs.Inside.TouchedNames.{HoldsOfOthers, TargetHoldsAlone, package_found, packages_among, packages_in, target_packages, selected_package, pinned_packages, repinned_in};
 
 use crate::again::sets_again;
 use crate::priority::keeps_priority;

@@ -8,7 +8,7 @@ use Rattle.ctl_relation.specs.Parts.{AtomParts, OfferParts}
 use Rattle.ctl_stanza.specs.Content.{Content, package_of, version_of, is_live, offer_of, offers_in, offers_of, provides_of}
 use Rattle.ctl_store.specs.declared.stanza_key.StanzaKey.{StanzaKey}
 use Rattle.ctl_store.specs.Entries.{Entry, AreAt}
-use Rattle.ctl_store.specs.Held.{Held, keyed_of}
+use Rattle.ctl_store.specs.Store.{Held, keyed_of}
 use Rattle.ctl_index.specs.Held.{standing}
 use Rattle.ctl_index.specs.Offers.{offers_named}
 use Rattle.ctl_store.specs.Keys.{stanza_at}

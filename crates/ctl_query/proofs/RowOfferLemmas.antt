@@ -15,7 +15,7 @@ use Rattle.ctl_relation.specs.Version.{triple_of, version_cmp}
 use Rattle.ctl_stanza.specs.Content.{Content, package_of, is_live, offers_of}
 use Rattle.ctl_store.specs.declared.stanza_key.StanzaKey.{StanzaKey}
 use Rattle.ctl_store.specs.Entries.{Entry, AreAt}
-use Rattle.ctl_store.specs.Held.{Held, keyed_of}
+use Rattle.ctl_store.specs.Store.{Held, keyed_of}
 use Rattle.ctl_store.specs.Keys.{stanza_at}
 use Rattle.ctl_index.specs.Held.{standing}
 use Rattle.ctl_index.specs.Offers.{offers_named}

@@ -13,7 +13,7 @@ use Rattle.ctl_stanza.specs.Content.{Content, groups_of}
 use Rattle.ctl_store.specs.declared.stanza_key.StanzaKey.{StanzaKey}
 use Rattle.ctl_store.specs.Entries.{Entry, AreAt}
 use Rattle.ctl_store.specs.Followed.{under}
-use Rattle.ctl_store.specs.Held.{Held, keyed_of}
+use Rattle.ctl_store.specs.Store.{Held, keyed_of}
 use Rattle.ctl_index.specs.declared.keys.ClauseKey.{ClauseKey}
 use Rattle.ctl_index.specs.Clauses.{clause_fields, is_clause_field, clause_of, clause_at, number_at, is_unmet, group_keys, clauses_of, clauses, unmet_clauses}
 use Rattle.ctl_index.specs.Held.{standing}

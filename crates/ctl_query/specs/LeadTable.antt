@@ -10,7 +10,7 @@ use Rattle.std.specs.Ordering.{nat_cmp}
 use Rattle.ctl_stanza.specs.Content.{Content}
 use Rattle.ctl_store.specs.declared.stanza_key.StanzaKey.{StanzaKey}
 use Rattle.ctl_store.specs.Entries.{Entry}
-use Rattle.ctl_store.specs.Held.{Held}
+use Rattle.ctl_store.specs.Store.{Held}
 use Rattle.ctl_store.specs.Keys.{key_cmp}
 use Rattle.ctl_policy.specs.Priority.{world_of}
 use Rattle.ctl_query.specs.Interest.{names_it}

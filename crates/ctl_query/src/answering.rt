@@ -2,7 +2,7 @@
 
 ghost use Rattle.std.specs.Prelude.{◌≡◌, ◌++◌, ◌+◌, ◌≤◌, [], OnOk, OnErr, false};
 ghost use Rattle.ctl_policy.specs.Priority.{world_of};
-ghost use Rattle.ctl_store.specs.Held.{state_of};
+ghost use Rattle.ctl_store.specs.Store.{state_of};
 ghost use Rattle.ctl_query.specs.Anew.{answer_anew};
 ghost use Rattle.ctl_query.specs.Answer.{answer_text, answer_pairs, policy_answer};
 ghost use Rattle.ctl_query.specs.Holdings.{holdings_of};

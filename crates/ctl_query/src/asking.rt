@@ -5,7 +5,7 @@ ghost use Rattle.std.specs.List.{AllByRecursion};
 ghost use Rattle.std.specs.Cmp.Lexicographic.{slice_cmp};
 ghost use Rattle.std.specs.List.Sorted.{IsPermutation, IsStrictlySortedBy};
 ghost use Rattle.std.specs.Ordering.{nat_cmp, is_le};
-ghost use Rattle.ctl_store.specs.Held.{keyed_of};
+ghost use Rattle.ctl_store.specs.Store.{keyed_of};
 ghost use Rattle.ctl_store.specs.Entries.{Entry};
 ghost use Rattle.ctl_store.specs.Followed.{under};
 ghost use Rattle.ctl_store.specs.Keys.{AreHeld, AreRising};
@@ -43,7 +43,7 @@ pub(crate) struct Asking<'a> {
 
 impl<'a> Model for Asking<'a> {
     ghost use Rattle.std.specs.Prelude.{◌≡◌, false};
-    ghost use Rattle.ctl_store.specs.Held.{Held};
+    ghost use Rattle.ctl_store.specs.Store.{Held};
 
     ghost Value = { Held };
 

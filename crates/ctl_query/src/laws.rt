@@ -4,7 +4,7 @@ ghost use Rattle.std.specs.Prelude.{◌≡◌, ◌↔◌, ℕ, List, [], IsTrue,
 ghost use Rattle.std.specs.List.{All};
 ghost use Rattle.ctl_relation.specs.Met.{met};
 ghost use Rattle.ctl_relation.specs.Parts.{AtomParts};
-ghost use Rattle.ctl_store.specs.Held.{Held, keyed_of, state_of};
+ghost use Rattle.ctl_store.specs.Store.{Held, keyed_of, state_of};
 ghost use Rattle.ctl_store.specs.Keys.{AreRising, all_keys};
 ghost use Rattle.ctl_store.specs.State.{StanzaList};
 ghost use Rattle.ctl_index.specs.Offers.{offers_among};

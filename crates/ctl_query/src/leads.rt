@@ -2,7 +2,7 @@
 
 ghost use Rattle.std.specs.Prelude.{◌≡◌, ◌∷◌, [], IfSome, IfNone, flat_map, option_copied, option_map};
 ghost use Rattle.std.specs.Option.{option_to_list};
-ghost use Rattle.ctl_store.specs.Held.{keyed_of};
+ghost use Rattle.ctl_store.specs.Store.{keyed_of};
 ghost use Rattle.ctl_policy.specs.Rows.{version_under};
 ghost use Rattle.ctl_policy.specs.Priority.{world_of};
 ghost use Rattle.ctl_query.specs.Leads.{keyed_lead, lent_lead};

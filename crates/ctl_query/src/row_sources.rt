@@ -1,7 +1,7 @@
 //! The lists that hold a row, by the keys of its stanzas.
 
 ghost use Rattle.std.specs.Prelude.{◌≡◌, ◌∷◌, [], Some, IfSome, IfNone, option_copied};
-ghost use Rattle.ctl_store.specs.Held.{keyed_of};
+ghost use Rattle.ctl_store.specs.Store.{keyed_of};
 ghost use Rattle.ctl_store.specs.Keys.{AreHeld, AreRising};
 ghost use Rattle.ctl_policy.specs.Rows.{is_called, sources_of};
 ghost use Rattle.ctl_query.specs.Inside.RowSources.{holders_behind};
@@ -21,7 +21,7 @@ pub(crate) struct RowSources<'a> {
 
 impl<'a> Model for RowSources<'a> {
     ghost use Rattle.std.specs.Prelude.{ℕ, List, option_copied};
-    ghost use Rattle.ctl_store.specs.Held.{keyed_of};
+    ghost use Rattle.ctl_store.specs.Store.{keyed_of};
     ghost use Rattle.ctl_store.specs.Keys.{AreHeld};
     ghost use Rattle.ctl_query.specs.Inside.RowSources.{holders_behind};
 

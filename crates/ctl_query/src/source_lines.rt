@@ -1,7 +1,7 @@
 //! The lines of lists as sources of rows in `policy`: those of few lists are made once for all rows that are shown.
 
 ghost use Rattle.std.specs.Prelude.{◌≡◌, ◌++◌, OnOk, IfOk, IfSome, flat_map};
-ghost use Rattle.ctl_store.specs.Held.{keyed_of};
+ghost use Rattle.ctl_store.specs.Store.{keyed_of};
 ghost use Rattle.ctl_store.specs.Keys.{AreHeld, AreRising};
 ghost use Rattle.ctl_policy.specs.Priority.{world_of};
 ghost use Rattle.ctl_policy.specs.Rows.{sources_of};
@@ -29,7 +29,7 @@ pub(crate) struct SourceLines<'a> {
 
 impl<'a> Model for SourceLines<'a> {
     ghost use Rattle.std.specs.Prelude.{◌≡◌, IfSome};
-    ghost use Rattle.ctl_store.specs.Held.{Held};
+    ghost use Rattle.ctl_store.specs.Store.{Held};
     ghost use Rattle.ctl_policy.specs.Priority.{world_of};
     ghost use Rattle.ctl_query.specs.Inside.SourceLines.{lent_lines, lines_of_lists};
 

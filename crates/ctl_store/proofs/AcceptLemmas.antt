@@ -14,7 +14,7 @@ use Rattle.ctl_stanza.specs.Content.{Content, package_of, version_of}
 use Rattle.ctl_store.proofs.PlaceLemmas.{place_within, some_is}
 use Rattle.ctl_store.specs.declared.list_class.ListClass.{ListClass}
 use Rattle.ctl_store.specs.Keys.{KeyedList, key_of, keys_of, stanzas_of, stanza_list, stanza_lists, all_in}
-use Rattle.ctl_store.specs.Held.{HeldList, lists_of}
+use Rattle.ctl_store.specs.Store.{HeldList, lists_of}
 use Rattle.ctl_store.proofs.ListedLemmas.{has_name_lists, has_name_held, at_name-stanza_lists}
 
 left_none : {X : Type 0} (a b : Option X) → option_or a b ≡ None → a ≡ None

@@ -11,7 +11,7 @@ use Rattle.ctl_store.specs.Step.{place}
 use Rattle.ctl_store.specs.Edits.{Edit, AddList, DropList, Put, Remove}
 use Rattle.ctl_store.specs.Rows.{Rises, by_name_and_version, rows_from, replace_at, put_row_at, remove_row_at}
 use Rattle.ctl_store.specs.Keys.{KeyedList, Keyed, key_of, keys_of, key_at, key_or_new, found_key, put_key, key_is, in_rows, stanza_at, put_keyed, remove_keyed, list_of_stanzas, keyed_after, removed_of, added_of, IsNotAmong, AreCome, AreGone, AreNew, AreHeld}
-use Rattle.ctl_store.specs.Held.{InOrder}
+use Rattle.ctl_store.specs.Inside.Held.{InOrder}
 use Rattle.ctl_store.proofs.PlaceLemmas.{eq_is, lt_ne, gt_ne, is_eq_from, and_left, and_second, both_true, or_none, all_map}
 use Rattle.ctl_store.proofs.KeyLemmas.{not_none, keys_held, either_first, either_second, first_is, later_is, in_some, none_later}
 use Rattle.ctl_ordered.proofs.SlotLemmas.{rises_end}

@@ -17,7 +17,7 @@ use Rattle.ctl_store.specs.Edits.{Edit, AddList, DropList, Put, Remove}
 use Rattle.ctl_store.specs.Rows.{Rises, by_name_and_version, rows_from, replace_at, put_row_at, remove_row_at}
 use Rattle.ctl_store.specs.Keys.{KeyedList, Keyed, stanzas_of, stanza_lists, key_of, keys_of, key_at, key_or_new, found_key, put_key, key_is, key_cmp, all_keys, AreRising, stanza_at, put_keyed, remove_keyed, list_of_stanzas, keyed_after, removed_of, added_of, coming, AreCome}
 use Rattle.ctl_store.specs.Entries.{Entry, rows_under, entries_in, entries_of, entry_keys, AreAt, is_among, without_keys, entries_by, entries_at, entries_coming, stanzas_in_order, lists_between, IsSpliced, IsChange}
-use Rattle.ctl_store.specs.Held.{InOrder}
+use Rattle.ctl_store.specs.Inside.Held.{InOrder}
 use Rattle.ctl_store.proofs.PlaceLemmas.{eq_is, lt_ne, Rises-rows_from, is_first, or_true, all_map, all_front, all_back, all_append}
 use Rattle.ctl_store.proofs.KeyLemmas.{keys_rise}
 use Rattle.ctl_store.proofs.ListedLemmas.{InOrder-weaken, in_order_push, in_order_without, in_order_change, Changes-put, Changes-remove, remove_list, change_lists, without_lists}

@@ -14,7 +14,7 @@ use Rattle.std.proofs.lemmas.List.Sums.{sum_by-append}
 use Rattle.ctl_store.specs.Named.{at_name, without_name, change_named}
 use Rattle.ctl_store.specs.Entries.{Entry, rows_under, entries_in, entries_of, entry_keys, AreAt, is_among, without_keys, entries_by, entries_coming, IsChange}
 use Rattle.ctl_store.specs.Followed.{under, AreApart, AreDistinctKeys, coming_under, shown_under, IsFollowed}
-use Rattle.ctl_store.specs.Held.{coming_among, InOrder}
+use Rattle.ctl_store.specs.Inside.Held.{coming_among, InOrder}
 use Rattle.ctl_store.proofs.PlaceLemmas.{is_first, or_true, is_eq_from, both_true, all_map, all_append, all_front, all_back, turned}
 use Rattle.ctl_store.proofs.EntryLemmas.{keys_are_all, less_is_no_other, order_after}
 use Rattle.ctl_store.proofs.ChangeLemmas.{is_itself, ends}

@@ -8,7 +8,8 @@ use Rattle.ctl_stanza.specs.Content.{Content}
 use Rattle.ctl_store.specs.declared.stanza_key.StanzaKey.{StanzaKey}
 use Rattle.ctl_store.specs.Rows.{Rises}
 use Rattle.ctl_store.specs.Keys.{KeyedList, key_of, keys_of, key_cmp, all_keys, AreRising, stanzas_of, in_rows, stanza_at, stanza_lists, AreHeld, list_at, holder_of}
-use Rattle.ctl_store.specs.Held.{InOrder, HeldList, lists_of, entry_of}
+use Rattle.ctl_store.specs.Store.{HeldList, lists_of}
+use Rattle.ctl_store.specs.Inside.Held.{InOrder, entry_of}
 use Rattle.std.specs.Map.{lookup}
 use Rattle.std.specs.Option.{option_or, option_map_or}
 use Rattle.std.specs.Str.{bytes_eq}

@@ -16,7 +16,8 @@ use Rattle.ctl_store.specs.Step.{place, has_stanza, put_stanza, remove_stanza, w
 use Rattle.std.specs.Option.{option_map_or, option_or}
 use Rattle.ctl_store.specs.Rows.{Rises, by_name_and_version, remove_row_at, rows_from, replace_at, put_row_at}
 use Rattle.ctl_store.specs.Keys.{KeyedList, stanzas_of, stanza_list, stanza_lists, put_keyed, remove_keyed, key_of, key_at, key_or_new, next_key, next_in, found_in, kept_in, Keyed, list_of_stanzas, keyed_after, keys_of, found_key, put_key, key_is, IsNotAmong, in_rows, stanza_at, removed_of, added_of}
-use Rattle.ctl_store.specs.Held.{HeldList, keyed_list, lists_of, InOrder, entry_of, AreNumbered}
+use Rattle.ctl_store.specs.Store.{HeldList, keyed_list, lists_of}
+use Rattle.ctl_store.specs.Inside.Held.{InOrder, entry_of, AreNumbered}
 use Rattle.ctl_store.proofs.PlaceLemmas.{Rises-replace, Rises-remove, place_within, if_cases, or_none}
 use Rattle.ctl_ordered.specs.Ordered.{without_serials, set_row, cut_row}
 use Rattle.ctl_store.specs.declared.stanza_key.StanzaKey.{StanzaKey}

@@ -12,14 +12,14 @@ use Rattle.ctl_relation.specs.Version.{version_cmp}
 use Rattle.ctl_relation.specs.Orders.Versions.{equal_versions, triple_total}
 use Rattle.ctl_stanza.specs.Content.{Content, package_of, version_of}
 use Rattle.ctl_store.specs.Step.{place, is_same, is_same_version}
-use Rattle.ctl_store.specs.Sorted.{place_in, insert_in}
+use Rattle.ctl_store.specs.Inside.Sorted.{place_in, insert_in}
 use Rattle.ctl_store.specs.Rows.{Id, id, id_of, row_id, version_id, version_order, id_cmp, ids_of, sorted_ids, lower, has_serial, IsKept, order_at, by_name_and_version, replace_at, sorted_serials, Rises, rows_from, id_at, place_cmp}
 use Rattle.ctl_store.proofs.PlaceLemmas.{and_left, place_within, place_passes, and_second, equal_is, Rises-rows_from, eq_is, all_map}
 use Rattle.ctl_store.proofs.RankedLemmas.{found_here as ranked_here, found_past as ranked_past, ranked_replace, ranked_push, ranked_remove, length-sorted_in, g, all_insert, all_sorted, all_from, Rises-labels}
 use Rattle.std.specs.Vec.{vec_capacity}
-use Rattle.ctl_store.specs.HeldPieces.{joined, ArePieces, IsFit}
+use Rattle.ctl_store.specs.Inside.HeldPieces.{joined, ArePieces, IsFit}
 use Rattle.ctl_store.specs.Keys.{KeyedList, key_of, key_at}
-use Rattle.ctl_store.specs.Held.{IsHeldList}
+use Rattle.ctl_store.specs.Inside.Held.{IsHeldList}
 use Rattle.std.proofs.lemmas.List.{drop_more, drop_all, length-map}
 use Rattle.std.specs.Option.{option_cmp}
 use Rattle.std.specs.declared.cmp.Ordering.TheVariants.{Equal, Greater}

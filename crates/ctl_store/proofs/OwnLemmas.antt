@@ -11,9 +11,9 @@ use Rattle.ctl_store.proofs.PlaceLemmas.{equal_is, some_is, eq_is, is_eq_from, a
 use Rattle.std.specs.List.{insert, remove, AllByRecursion}
 use Rattle.ctl_ordered.specs.Ordered.{without_serials, set_row, cut_row, row_serial}
 use Rattle.ctl_store.specs.Rows.{Rises}
-use Rattle.ctl_store.specs.HeldRanks.{Label, label_cmp, labels_of, sorted_labels, labels_below, IsRanked}
-use Rattle.ctl_store.specs.Sorted.{place_in, insert_in, serials_in}
-use Rattle.ctl_store.specs.HeldPins.{own_label, own_row, own_start, own_run}
+use Rattle.ctl_store.specs.Inside.HeldRanks.{Label, label_cmp, labels_of, sorted_labels, labels_below, IsRanked}
+use Rattle.ctl_store.specs.Inside.Sorted.{place_in, insert_in, serials_in}
+use Rattle.ctl_store.specs.Inside.HeldPins.{own_label, own_row, own_start, own_run}
 use Rattle.ctl_store.proofs.RankedLemmas.{below_there, ranked_push, ranked_remove, g, up, lt_back, all_sorted, in_order, IsInOrder, all_lookup}
 use Rattle.std.specs.Option.{option_map_or}
 use Rattle.std.specs.Str.{bytes_eq}

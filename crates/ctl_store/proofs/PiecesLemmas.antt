@@ -6,7 +6,7 @@ use Rattle.std.proofs.lemmas.List.Edits.{length-remove, insert-append_left, inse
 use Rattle.std.proofs.lemmas.Bool.{cases_lt}
 use Rattle.ctl_store.proofs.PlaceLemmas.{some_is}
 use Rattle.ctl_store.specs.declared.pieces.Spot.{Spot}
-use Rattle.ctl_store.specs.HeldPieces.{joined, length_at, room_in, room_at, room_of_all, room_of_last, stands_at, place_of_spot, IsPiece, ArePieces, AreReady, free_at_end}
+use Rattle.ctl_store.specs.Inside.HeldPieces.{joined, length_at, room_in, room_at, room_of_all, room_of_last, stands_at, place_of_spot, IsPiece, ArePieces, AreReady, free_at_end}
 
 pub plus_one : (n : ℕ) → n + 1 ≡ suc n
 plus_one n = omega arith

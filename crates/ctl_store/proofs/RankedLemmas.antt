@@ -6,7 +6,7 @@ use Rattle.std.specs.Ordering.{is_gt, is_lt, is_eq}
 use Rattle.std.specs.declared.cmp.Ordering.{Ordering}
 use Rattle.std.proofs.lemmas.Cmp.{upto}
 use Rattle.ctl_store.specs.Places.{place, has_serial, Rises, replace_at}
-use Rattle.ctl_store.specs.Sorted.{insert_in, sorted_in, below_in, labelled, order_in, place_in, IsRankedBy}
+use Rattle.ctl_store.specs.Inside.Sorted.{insert_in, sorted_in, below_in, labelled, order_in, place_in, IsRankedBy}
 use Rattle.ctl_store.proofs.PlaceLemmas.{some_is, eq_is, lt_ne, place_within, Rises-replace, Rises-remove, all_map, all_zip}
 use Rattle.std.specs.List.Sorted.{IsPartitionedBy, IsPartitionPoint}
 use Rattle.std.specs.Map.{lookup}

@@ -20,7 +20,8 @@ use Rattle.ctl_store.specs.Keys.{KeyedList, stanza_list, stanza_lists, list_of_s
 use Rattle.ctl_ordered.specs.Ordered.{Held as Ordered, entries, next_put, without_serials}
 use Rattle.std.specs.Map.{lookup}
 use Rattle.indexmap.specs.IndexMap.{insert_entry}
-use Rattle.ctl_store.specs.Held.{HeldList, lists_of, InOrder, AreNumbered, IsSound}
+use Rattle.ctl_store.specs.Store.{HeldList, lists_of}
+use Rattle.ctl_store.specs.Inside.Held.{InOrder, AreNumbered, IsSound}
 use Rattle.ctl_store.proofs.PlaceLemmas.{Rises-rows_from, all_append}
 use Rattle.ctl_store.proofs.ListedLemmas.{InOrder-weaken, in_order_push, in_order_without, in_order_change, Changes, new_lists, without_lists, change_lists}
 

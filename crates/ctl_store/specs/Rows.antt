@@ -8,7 +8,7 @@ use Rattle.ctl_relation.specs.Version.{Triple, triple_of, triple_cmp}
 use Rattle.ctl_stanza.specs.Content.{Content, package_of, version_of}
 use Rattle.ctl_store.specs.Step.{is_same}
 use Rattle.ctl_store.specs.Places.{place}
-use Rattle.ctl_store.specs.Sorted.{labelled, sorted_in, below_in, serials_in, order_in, IsRankedBy}
+use Rattle.ctl_store.specs.Inside.Sorted.{labelled, sorted_in, below_in, serials_in, order_in, IsRankedBy}
 pub use Rattle.ctl_store.specs.Places.{has_serial, Rises, replace_at, remove_row_at}
 
 -- ---- rows in the order of their serials

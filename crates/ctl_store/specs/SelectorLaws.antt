@@ -14,7 +14,7 @@ use Rattle.std.proofs.lemmas.Slice.Eq.{bytes_eq-Decides}
 use Rattle.ctl_store.specs.declared.selector.Selector.{Selector}
 use Rattle.ctl_store.specs.declared.selector.Selector.TheVariants.{Version, Release}
 use Rattle.ctl_store.specs.Pins.{package_eq, selector_eq}
-use Rattle.ctl_store.specs.HeldRanks.{Label, label_cmp, selector_label}
+use Rattle.ctl_store.specs.Inside.HeldRanks.{Label, label_cmp, selector_label}
 
 and_first : (a b : Bool) → (a && b) ≡ true → a ≡ true
 and_first true b e = refl

@@ -7,10 +7,12 @@ ghost use Rattle.std.specs.Vec.{vec_capacity};
 ghost use Rattle.ctl_store.specs.Step.{place};
 ghost use Rattle.ctl_store.specs.Rows.{by_name_and_version, put_row, next_after_put, remove_row};
 ghost use Rattle.ctl_store.specs.Orders.{boxed_rows};
-ghost use Rattle.ctl_store.specs.HeldPieces.{most_in_piece, joined, IsFit, HasRoomFor, room_at_end};
+ghost use Rattle.ctl_store.specs.Inside.HeldPieces.{most_in_piece, joined, IsFit, HasRoomFor, room_at_end};
 ghost use Rattle.ctl_store.specs.Keys.{keys_of, found_key};
 ghost use Rattle.ctl_store.specs.Entries.{entries_in};
-ghost use Rattle.ctl_store.specs.Held.{IsHeldList, Fits, keyed_list};
+ghost use Rattle.ctl_store.specs.Store.{keyed_list};
+ghost use Rattle.ctl_store.specs.Plans.{Fits};
+ghost use Rattle.ctl_store.specs.Inside.Held.{IsHeldList};
 
 use crate::fronts::FRONT_LEN;
 use crate::list_class::ListClass;
@@ -44,8 +46,9 @@ pub(crate) struct HeldList {
 
 impl Model for HeldList {
     ghost use Rattle.std.specs.Prelude.{vec_len};
-    ghost use Rattle.ctl_store.specs.HeldPieces.{joined, room_of_last};
-    ghost use Rattle.ctl_store.specs.Held.{HeldList, IsHeldList};
+    ghost use Rattle.ctl_store.specs.Inside.HeldPieces.{joined, room_of_last};
+    ghost use Rattle.ctl_store.specs.Store.{HeldList};
+    ghost use Rattle.ctl_store.specs.Inside.Held.{IsHeldList};
 
     ghost Value = { HeldList };
 
@@ -83,8 +86,9 @@ pub(crate) struct ListRoom {
 
 impl Model for ListRoom {
     ghost use Rattle.std.specs.Vec.{vec_capacity};
-    ghost use Rattle.ctl_store.specs.HeldPieces.{room_at_end};
-    ghost use Rattle.ctl_store.specs.Held.{ListRoom, IsBare};
+    ghost use Rattle.ctl_store.specs.Inside.HeldPieces.{room_at_end};
+    ghost use Rattle.ctl_store.specs.Plans.{ListRoom};
+    ghost use Rattle.ctl_store.specs.Inside.Held.{IsBare};
 
     ghost Value = { ListRoom };
 

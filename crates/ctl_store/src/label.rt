@@ -3,7 +3,7 @@
 ghost use Rattle.std.specs.Prelude.{◌≡◌, ℕ};
 ghost use Rattle.std.specs.Ordering.{nat_cmp, ordering_then};
 ghost use Rattle.std.specs.Cmp.Lexicographic.{slice_cmp};
-ghost use Rattle.ctl_store.specs.HeldRanks.{label_cmp};
+ghost use Rattle.ctl_store.specs.Inside.HeldRanks.{label_cmp};
 
 use std::cmp::Ordering;
 use std::marker::Model;
@@ -18,7 +18,7 @@ pub(crate) struct Label<'a> {
 }
 
 impl<'a> Model for Label<'a> {
-    ghost use Rattle.ctl_store.specs.HeldRanks.{Label};
+    ghost use Rattle.ctl_store.specs.Inside.HeldRanks.{Label};
 
     ghost Value = { Label };
 

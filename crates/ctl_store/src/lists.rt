@@ -4,7 +4,9 @@ ghost use Rattle.std.specs.Prelude.{◌≡◌, ◌<◌, ◌+◌, ◌^◌, Some, 
 ghost use Rattle.ctl_ordered.specs.Ordered.{entries};
 ghost use Rattle.ctl_store.specs.Named.{at_name, change_named};
 ghost use Rattle.ctl_store.specs.Keys.{put_keyed, remove_keyed};
-ghost use Rattle.ctl_store.specs.Held.{lists_of, entry_of, AreNumbered, HasRoomInList};
+ghost use Rattle.ctl_store.specs.Store.{lists_of};
+ghost use Rattle.ctl_store.specs.Plans.{HasRoomInList};
+ghost use Rattle.ctl_store.specs.Inside.Held.{entry_of, AreNumbered};
 
 use crate::held_list::HeldList;
 use ctl_ordered::Ordered;

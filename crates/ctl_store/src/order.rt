@@ -11,7 +11,7 @@ ghost use Rattle.ctl_store.specs.Orders.{boxed_id, boxed_id_at, boxed_rows, lowe
 ghost use Rattle.std.specs.Ordering.{is_lt, nat_cmp};
 ghost use Rattle.std.specs.Cmp.Lexicographic.{slice_cmp};
 ghost use Rattle.ctl_store.specs.Fronts.{front_of, fronts_of};
-ghost use Rattle.ctl_store.specs.HeldPieces.{joined, last_passes, place_of_spot, ArePieces, IsSpot, IsSpotOrEnd};
+ghost use Rattle.ctl_store.specs.Inside.HeldPieces.{joined, last_passes, place_of_spot, ArePieces, IsSpot, IsSpotOrEnd};
 
 use crate::fronts::{FRONT_LEN, front_of};
 use crate::pieces::{Spot, is_spot};

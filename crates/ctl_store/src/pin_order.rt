@@ -3,9 +3,9 @@
 ghost use Rattle.std.specs.Prelude.{◌≡◌, ◌≤◌, length, option_map, nat_eq};
 ghost use Rattle.std.specs.Map.{lookup};
 ghost use Rattle.std.specs.Ordering.{is_lt};
-ghost use Rattle.ctl_store.specs.HeldRanks.{IsRanked, labels_of, sorted_labels, labels_below, label_order};
+ghost use Rattle.ctl_store.specs.Inside.HeldRanks.{IsRanked, labels_of, sorted_labels, labels_below, label_order};
 ghost use Rattle.ctl_store.specs.Pins.{is_of};
-ghost use Rattle.ctl_store.specs.HeldPins.{own_label, own_row, own_start, own_one};
+ghost use Rattle.ctl_store.specs.Inside.HeldPins.{own_label, own_row, own_start, own_one};
 
 use crate::label::{Label, compare};
 use crate::selector::Selector;

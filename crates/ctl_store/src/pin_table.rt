@@ -28,8 +28,8 @@ impl Model for PinTable {
     ghost use Rattle.std.specs.Prelude.{min, ◌-◌};
     ghost use Rattle.std.specs.VecDeque.{deque_capacity, deque_len};
     ghost use Rattle.ctl_ordered.specs.Ordered.{entries};
-    ghost use Rattle.ctl_store.specs.HeldRanks.{IsRanked};
-    ghost use Rattle.ctl_store.specs.HeldPins.{own_row, PinTable};
+    ghost use Rattle.ctl_store.specs.Inside.HeldRanks.{IsRanked};
+    ghost use Rattle.ctl_store.specs.Inside.HeldPins.{own_row, PinTable};
 
     ghost Value = { PinTable };
 

@@ -8,8 +8,8 @@ ghost use Rattle.ctl_stanza.specs.Content.{Content, package_of};
 ghost use Rattle.ctl_store.specs.Step.{place};
 ghost use Rattle.ctl_store.specs.Rows.{has_serial, Rises, replace_at};
 ghost use Rattle.ctl_store.specs.Fronts.{front_of};
-ghost use Rattle.ctl_store.specs.Spots.{IsEnd};
-ghost use Rattle.ctl_store.specs.HeldPieces.{joined, last_passes, place_of_spot, ArePieces, IsSpot, IsSpotOrEnd};
+ghost use Rattle.ctl_store.specs.Inside.Spots.{IsEnd};
+ghost use Rattle.ctl_store.specs.Inside.HeldPieces.{joined, last_passes, place_of_spot, ArePieces, IsSpot, IsSpotOrEnd};
 
 use crate::fronts::{FRONT_LEN, front_of};
 use crate::pieces::{MOST, Spot, is_spot};

@@ -2,7 +2,7 @@
 
 ghost use Rattle.std.specs.Prelude.{◌≡◌, None};
 ghost use Rattle.ctl_store.specs.declared.selector.Selector.TheVariants as selectors;
-ghost use Rattle.ctl_store.specs.HeldRanks.{selector_label};
+ghost use Rattle.ctl_store.specs.Inside.HeldRanks.{selector_label};
 
 use crate::label::{Label, compare};
 use crate::selector::Selector;

@@ -3,7 +3,7 @@
 ghost use Rattle.std.specs.Prelude.{◌≡◌};
 ghost use Rattle.ctl_store.specs.State.{empty_state};
 ghost use Rattle.ctl_store.specs.Limits.{limits_that_count};
-ghost use Rattle.ctl_store.specs.Held.{state_of};
+ghost use Rattle.ctl_store.specs.Store.{state_of};
 ghost use Rattle.ctl_store.specs.declared.limits.Limits.{Limits};
 
 mod checking;
@@ -44,7 +44,8 @@ pub struct Store {
 
 impl Model for Store {
     ghost use Rattle.ctl_ordered.specs.Ordered.{entries};
-    ghost use Rattle.ctl_store.specs.Held.{Held, IsSound};
+    ghost use Rattle.ctl_store.specs.Store.{Held};
+    ghost use Rattle.ctl_store.specs.Inside.Held.{IsSound};
 
     ghost Value = { Held };
 

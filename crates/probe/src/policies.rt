@@ -3,7 +3,7 @@
 ghost use Rattle.std.specs.Prelude.{◌≡◌, false};
 ghost use Rattle.std.specs.List.{AllByRecursion};
 ghost use Rattle.ctl_store.specs.Keys.{AreHeld};
-ghost use Rattle.ctl_store.specs.Held.{keyed_of};
+ghost use Rattle.ctl_store.specs.Store.{keyed_of};
 
 use crate::said::Said;
 use ctl_index::Cache;

@@ -3,7 +3,7 @@
 ghost use Rattle.std.specs.Prelude.{◌≡◌, ℕ, List, false, map};
 ghost use Rattle.std.specs.List.{AllByRecursion};
 ghost use Rattle.ctl_store.specs.Keys.{AreHeld};
-ghost use Rattle.ctl_store.specs.Held.{keyed_of, state_of};
+ghost use Rattle.ctl_store.specs.Store.{keyed_of, state_of};
 ghost use Rattle.ctl_policy.specs.Rows.{rows_named, newest_first, keys_of_row};
 ghost use Rattle.ctl_index.specs.Names.{known_names};
 ghost use Rattle.ctl_index.specs.Work.{stanzas_of_state};
@@ -24,7 +24,7 @@ pub struct AllRows<'a> {
 impl<'a> Model for AllRows<'a> {
     ghost use Rattle.std.specs.Prelude.{List, map};
     ghost use Rattle.ctl_store.specs.declared.stanza_key.StanzaKey.{StanzaKey};
-    ghost use Rattle.ctl_index.specs.TablesViews.{entry_rows};
+    ghost use Rattle.ctl_index.specs.Inside.TablesViews.{entry_rows};
 
     ghost Value = { List (List (List StanzaKey)) };
 

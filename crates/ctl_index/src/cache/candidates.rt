@@ -7,7 +7,7 @@ ghost use Rattle.std.specs.Cmp.Lexicographic.{slice_cmp};
 ghost use Rattle.std.specs.Ordering.{nat_cmp};
 ghost use Rattle.std.specs.Str.{bytes_eq};
 ghost use Rattle.ctl_store.specs.Keys.{AreHeld};
-ghost use Rattle.ctl_store.specs.Held.{keyed_of, state_of};
+ghost use Rattle.ctl_store.specs.Store.{keyed_of, state_of};
 ghost use Rattle.ctl_policy.specs.Rows.{rows_named, newest_first, keys_of_row, lead_of, lead_at, has_row, sources_of};
 ghost use Rattle.ctl_policy.specs.Priority.{world_of};
 ghost use Rattle.ctl_policy.specs.Candidate.{installed_of, candidate_of};

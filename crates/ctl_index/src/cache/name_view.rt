@@ -5,7 +5,7 @@ ghost use Rattle.std.specs.List.{AllByRecursion, list_any};
 ghost use Rattle.std.specs.List.Sorted.{IsPermutation};
 ghost use Rattle.std.specs.Str.{bytes_eq};
 ghost use Rattle.ctl_store.specs.Keys.{AreHeld};
-ghost use Rattle.ctl_store.specs.Held.{keyed_of, state_of};
+ghost use Rattle.ctl_store.specs.Store.{keyed_of, state_of};
 ghost use Rattle.ctl_policy.specs.Rows.{rows_named, newest_first, keys_of_row};
 ghost use Rattle.ctl_index.specs.Held.{standing};
 ghost use Rattle.ctl_index.specs.Names.{known_names, namers_named};
@@ -26,7 +26,7 @@ pub struct NameView<'a> {
 
 impl<'a> Model for NameView<'a> {
     ghost use Rattle.std.specs.Prelude.{option_copied};
-    ghost use Rattle.ctl_index.specs.NameView.{NameStanding, name_standing};
+    ghost use Rattle.ctl_index.specs.Inside.NameView.{NameStanding, name_standing};
 
     ghost Value = { NameStanding };
 

@@ -6,10 +6,10 @@ ghost use Rattle.std.specs.List.Sorted.{IsStrictlySortedBy};
 ghost use Rattle.std.specs.Cmp.Lexicographic.{slice_cmp};
 ghost use Rattle.std.specs.Ordering.{nat_cmp, is_le};
 ghost use Rattle.std.specs.Str.{bytes_eq};
-ghost use Rattle.ctl_store.specs.Held.{state_of};
+ghost use Rattle.ctl_store.specs.Store.{state_of};
 ghost use Rattle.ctl_index.specs.Names.{is_package, known_names};
-ghost use Rattle.ctl_index.specs.NameMap.{entry_names};
-ghost use Rattle.ctl_index.specs.TablesViews.{packages_with, AreFrom};
+ghost use Rattle.ctl_index.specs.Inside.NameMap.{entry_names};
+ghost use Rattle.ctl_index.specs.Inside.TablesViews.{packages_with, AreFrom};
 ghost use Rattle.ctl_index.specs.Work.{stanzas_of_state};
 
 use crate::cache::{Cache, Names};
@@ -28,8 +28,8 @@ pub struct PackageNames<'a> {
 
 impl<'a> Model for PackageNames<'a> {
     ghost use Rattle.std.specs.Prelude.{ℕ, List};
-    ghost use Rattle.ctl_index.specs.NameMap.{entry_names};
-    ghost use Rattle.ctl_index.specs.TablesViews.{packages_with, AreFrom};
+    ghost use Rattle.ctl_index.specs.Inside.NameMap.{entry_names};
+    ghost use Rattle.ctl_index.specs.Inside.TablesViews.{packages_with, AreFrom};
 
     ghost Value = { List (List ℕ) };
 

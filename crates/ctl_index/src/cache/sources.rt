@@ -2,7 +2,7 @@
 
 ghost use Rattle.std.specs.Prelude.{◌≡◌, ◌∷◌, [], IfSome, IfNone};
 ghost use Rattle.ctl_store.specs.Keys.{AreHeld};
-ghost use Rattle.ctl_store.specs.Held.{keyed_of};
+ghost use Rattle.ctl_store.specs.Store.{keyed_of};
 ghost use Rattle.ctl_policy.specs.Rows.{sources_of};
 ghost use Rattle.ctl_index.specs.RowsTold.{sources_among};
 
@@ -21,7 +21,7 @@ pub struct Sources<'a> {
 impl<'a> Model for Sources<'a> {
     ghost use Rattle.std.specs.Prelude.{ℕ, List};
     ghost use Rattle.ctl_store.specs.Keys.{AreHeld};
-    ghost use Rattle.ctl_store.specs.Held.{keyed_of};
+    ghost use Rattle.ctl_store.specs.Store.{keyed_of};
     ghost use Rattle.ctl_index.specs.RowsTold.{sources_among};
 
     ghost Value = { List (List ℕ) };

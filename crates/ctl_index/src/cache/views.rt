@@ -6,14 +6,14 @@ ghost use Rattle.std.specs.List.Sorted.{IsPermutation};
 ghost use Rattle.ctl_relation.specs.Parts.{OfferParts};
 ghost use Rattle.ctl_store.specs.declared.stanza_key.StanzaKey.{StanzaKey};
 ghost use Rattle.ctl_store.specs.Keys.{AreHeld};
-ghost use Rattle.ctl_store.specs.Held.{keyed_of, state_of};
+ghost use Rattle.ctl_store.specs.Store.{keyed_of, state_of};
 ghost use Rattle.ctl_index.specs.Clauses.{clause_cmp, clause_at, number_at, unmet_clauses};
 ghost use Rattle.ctl_index.specs.Held.{standing};
-ghost use Rattle.ctl_index.specs.NameMap.{entry_names};
+ghost use Rattle.ctl_index.specs.Inside.NameMap.{entry_names};
 ghost use Rattle.ctl_index.specs.Names.{known_names, namers_named};
 ghost use Rattle.ctl_index.specs.Offers.{offers_named};
-ghost use Rattle.ctl_index.specs.TablesOrder.{namer_key};
-ghost use Rattle.ctl_index.specs.TablesViews.{offering};
+ghost use Rattle.ctl_index.specs.Inside.TablesOrder.{namer_key};
+ghost use Rattle.ctl_index.specs.Inside.TablesViews.{offering};
 ghost use Rattle.ctl_index.specs.Work.{stanzas_of_state};
 
 use crate::cache::Cache;
@@ -34,7 +34,7 @@ pub struct Names<'a> {
 
 impl<'a> Model for Names<'a> {
     ghost use Rattle.std.specs.Prelude.{ℕ, List};
-    ghost use Rattle.ctl_index.specs.NameMap.{entry_names};
+    ghost use Rattle.ctl_index.specs.Inside.NameMap.{entry_names};
 
     ghost Value = { List (List ℕ) };
 
@@ -78,7 +78,7 @@ impl<'a> Model for Offers<'a> {
     ghost use Rattle.std.specs.Prelude.{List, map};
     ghost use Rattle.ctl_relation.specs.Parts.{OfferParts};
     ghost use Rattle.ctl_store.specs.declared.stanza_key.StanzaKey.{StanzaKey};
-    ghost use Rattle.ctl_index.specs.TablesViews.{offer_found, AreFound};
+    ghost use Rattle.ctl_index.specs.Inside.TablesViews.{offer_found, AreFound};
 
     ghost Value = { List (StanzaKey × OfferParts) };
 
@@ -121,7 +121,7 @@ pub struct Offering<'a> {
 impl<'a> Model for Offering<'a> {
     ghost use Rattle.std.specs.Prelude.{List};
     ghost use Rattle.ctl_store.specs.declared.stanza_key.StanzaKey.{StanzaKey};
-    ghost use Rattle.ctl_index.specs.TablesViews.{offering};
+    ghost use Rattle.ctl_index.specs.Inside.TablesViews.{offering};
 
     ghost Value = { List StanzaKey };
 
@@ -162,7 +162,7 @@ pub struct Namers<'a> {
 impl<'a> Model for Namers<'a> {
     ghost use Rattle.std.specs.Prelude.{List, map};
     ghost use Rattle.ctl_index.specs.declared.keys.AtomKey.{AtomKey};
-    ghost use Rattle.ctl_index.specs.TablesOrder.{namer_key};
+    ghost use Rattle.ctl_index.specs.Inside.TablesOrder.{namer_key};
 
     ghost Value = { List AtomKey };
 

@@ -10,7 +10,7 @@ ghost use Rattle.ctl_store.specs.Pins.{selector_eq};
 ghost use Rattle.ctl_store.specs.Edits.{edit_of};
 ghost use Rattle.ctl_store.specs.Step.{count_coming, has_status, has_stanza, is_same_kind, is_status, is_there, misfit_of, is_past, after, refusal_of, takes_kind};
 ghost use Rattle.ctl_store.specs.Keys.{found_in, found_of};
-ghost use Rattle.ctl_store.specs.Held.{state_of, keyed_of};
+ghost use Rattle.ctl_store.specs.Store.{state_of, keyed_of};
 
 use crate::edit::Edit;
 use crate::refusal::Refusal;

@@ -10,8 +10,10 @@ ghost use Rattle.ctl_store.specs.Keys.{keyed_after, removed_of, found_in, all_in
 ghost use Rattle.ctl_store.specs.Entries.{IsChange};
 ghost use Rattle.ctl_store.specs.Given.{IsGivenOnce};
 ghost use Rattle.ctl_store.specs.Kinds.{AreOfKind};
-ghost use Rattle.ctl_store.specs.NewLists.{adding};
-ghost use Rattle.ctl_store.specs.Held.{state_of, keyed_of, HasMade, IsReady, HasRoom, HasRoomInList, Fits};
+ghost use Rattle.ctl_store.specs.Inside.NewLists.{adding};
+ghost use Rattle.ctl_store.specs.Store.{state_of, keyed_of};
+ghost use Rattle.ctl_store.specs.Plans.{IsReady, HasRoom, HasRoomInList, Fits};
+ghost use Rattle.ctl_store.specs.Inside.Held.{HasMade};
 
 use crate::edit::Edit;
 use crate::held_list::{HeldList, ListRoom, NewList};

@@ -1,9 +1,9 @@
 //! The stanzas of a store with their keys, lent in order.
 
 ghost use Rattle.std.specs.Prelude.{◌≡◌, ◌++◌, ◌∷◌, IfSome, IfNone, []};
-ghost use Rattle.ctl_store.specs.HeldPieces.{joined, ArePieces};
+ghost use Rattle.ctl_store.specs.Inside.HeldPieces.{joined, ArePieces};
 ghost use Rattle.ctl_store.specs.Entries.{rows_under, entries_of, entry_keys};
-ghost use Rattle.ctl_store.specs.Held.{lists_of};
+ghost use Rattle.ctl_store.specs.Store.{lists_of};
 
 use crate::held_list::HeldList;
 use crate::rows::Row;
@@ -23,7 +23,7 @@ pub(crate) struct ListEntries<'a> {
 
 impl<'a> Model for ListEntries<'a> {
     ghost use Rattle.std.specs.Prelude.{List, ◌++◌};
-    ghost use Rattle.ctl_store.specs.HeldPieces.{joined, ArePieces};
+    ghost use Rattle.ctl_store.specs.Inside.HeldPieces.{joined, ArePieces};
     ghost use Rattle.ctl_store.specs.Entries.{Entry, rows_under};
 
     ghost Value = { List Entry };
@@ -83,7 +83,7 @@ pub struct Entries<'a> {
 impl<'a> Model for Entries<'a> {
     ghost use Rattle.std.specs.Prelude.{List, map, ◌++◌};
     ghost use Rattle.ctl_store.specs.Entries.{Entry, entries_of};
-    ghost use Rattle.ctl_store.specs.Held.{lists_of};
+    ghost use Rattle.ctl_store.specs.Store.{lists_of};
 
     ghost Value = { List Entry };
 

@@ -1,7 +1,7 @@
 //! The pin settings of a package, lent.
 
 ghost use Rattle.std.specs.Prelude.{◌≡◌, drop};
-ghost use Rattle.ctl_store.specs.HeldPins.{own_run};
+ghost use Rattle.ctl_store.specs.Inside.HeldPins.{own_run};
 
 use crate::pin_order::own_setting;
 use crate::selector::Selector;
@@ -23,7 +23,7 @@ pub struct PackagePins<'a> {
 impl<'a> Model for PackagePins<'a> {
     ghost use Rattle.std.specs.Prelude.{List, ℤ, drop};
     ghost use Rattle.ctl_store.specs.declared.selector.Selector.{Selector};
-    ghost use Rattle.ctl_store.specs.HeldPins.{own_run};
+    ghost use Rattle.ctl_store.specs.Inside.HeldPins.{own_run};
 
     ghost Value = { List (Selector × ℤ) };
 

@@ -11,7 +11,9 @@ ghost use Rattle.ctl_store.specs.Keys.{keyed_after, removed_of, added_of, found_
 ghost use Rattle.ctl_store.specs.Entries.{IsChange};
 ghost use Rattle.ctl_store.specs.Followed.{IsFollowed};
 ghost use Rattle.ctl_store.specs.Given.{IsGivenOnce};
-ghost use Rattle.ctl_store.specs.Held.{state_of, keyed_of, HasRoom, IsReady, IsReadyFor, HasRoomIn};
+ghost use Rattle.ctl_store.specs.Store.{state_of, keyed_of};
+ghost use Rattle.ctl_store.specs.Plans.{HasRoom, IsReady};
+ghost use Rattle.ctl_store.specs.Inside.Held.{IsReadyFor, HasRoomIn};
 
 use crate::edit::Edit;
 use crate::held_list::ListRoom;

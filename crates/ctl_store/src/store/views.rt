@@ -12,7 +12,7 @@ ghost use Rattle.std.specs.List.{IsDistinct};
 ghost use Rattle.std.specs.Map.{keys_of as names_of};
 ghost use Rattle.std.specs.Str.{bytes_eq};
 ghost use Rattle.ctl_store.specs.Entries.{entry_keys, entries_of, AreAt};
-ghost use Rattle.ctl_store.specs.Held.{state_of, keyed_of, lists_of};
+ghost use Rattle.ctl_store.specs.Store.{state_of, keyed_of, lists_of};
 ghost use Rattle.ctl_store.specs.declared.limits.Counts.{Counts};
 
 use crate::held_list::HeldList;

@@ -1,6 +1,6 @@
 //! Plans of edits: their keys and stanzas, the names that they touch, and what comes of them.
 
-ghost use Rattle.ctl_store.specs.Held.{IsReady};
+ghost use Rattle.ctl_store.specs.Plans.{IsReady};
 
 use crate::said::{OUT_OF_MEMORY, Said};
 use ctl_policy::touched_names;

@@ -1,6 +1,6 @@
 use Rattle.std.proofs.Common.{◌≡◌, ◌∙◌, length, ap, arith}
 use Rattle.ctl_store.specs.Entries.{stanzas_in_order}
-use Rattle.ctl_store.specs.Held.{state_of, keyed_of}
+use Rattle.ctl_store.specs.Store.{state_of, keyed_of}
 use Rattle.ctl_filter.specs.Inside.Values.{without_keys}
 use Rattle.ctl_filter.proofs.StanzaLemmas.{plain_entries}
 use Rattle.ctl_filter.proofs.stanzas.stanzas_of.Goals as goal

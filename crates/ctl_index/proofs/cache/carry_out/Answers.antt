@@ -6,9 +6,9 @@ use Rattle.ctl_policy.specs.Priority.{world_of}
 use Rattle.ctl_policy.specs.Chosen.{at_bytes, kept_of}
 use Rattle.ctl_policy.specs.Touched.{is_one_of}
 use Rattle.ctl_index.specs.Held.{standing}
-use Rattle.ctl_index.specs.TablesChosen.{HasMade, HasRenewed}
-use Rattle.ctl_index.specs.TablesFollowed.{IsFollowed}
-use Rattle.ctl_index.specs.TablesIndexed.{IsIndexed}
+use Rattle.ctl_index.specs.Inside.TablesChosen.{HasMade, HasRenewed}
+use Rattle.ctl_index.specs.Inside.TablesFollowed.{IsFollowed}
+use Rattle.ctl_index.specs.Inside.TablesIndexed.{IsIndexed}
 use Rattle.ctl_index.specs.Work.{more_by}
 use Rattle.ctl_index.proofs.ChoosingLemmas.{placed_there}
 use Rattle.ctl_index.proofs.LawLemmas.{followed_law, followed_work}

@@ -3,7 +3,7 @@ use Rattle.std.specs.Str.{bytes_eq}
 use Rattle.ctl_policy.specs.Rows.{newest_first, rows_named}
 use Rattle.ctl_policy.specs.Priority.{world_of}
 use Rattle.ctl_policy.specs.Chosen.{at_bytes}
-use Rattle.ctl_index.specs.TablesByName.{rows_under}
+use Rattle.ctl_index.specs.Inside.TablesByName.{rows_under}
 use Rattle.ctl_index.proofs.WrittenLemmas.{updates_bytes}
 use Rattle.ctl_index.proofs.choosing.renew_name.Goals as goal
 

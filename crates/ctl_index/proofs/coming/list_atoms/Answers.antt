@@ -3,9 +3,9 @@ use Rattle.std.proofs.lemmas.List.Sums.{sum_by_more_le}
 use Rattle.ctl_store.specs.declared.stanza_key.StanzaKey.{StanzaKey}
 use Rattle.ctl_index.specs.declared.keys.OfferKey.{OfferKey}
 use Rattle.ctl_index.specs.Names.{naming_fields}
-use Rattle.ctl_index.specs.TablesHeld.{offers_in}
-use Rattle.ctl_index.specs.TablesSight.{seen}
-use Rattle.ctl_index.specs.TablesSteps.{of_found, fields_tested}
+use Rattle.ctl_index.specs.Inside.TablesHeld.{offers_in}
+use Rattle.ctl_index.specs.Inside.TablesSight.{seen}
+use Rattle.ctl_index.specs.Inside.TablesSteps.{of_found, fields_tested}
 use Rattle.ctl_index.proofs.coming.list_atoms.Goals as goal
 
 pub returns-in_err-put_atoms_at-clause-most : goal.returns-in_err-put_atoms_at-clause-most

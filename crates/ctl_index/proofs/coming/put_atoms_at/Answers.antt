@@ -1,7 +1,7 @@
 use Rattle.std.proofs.Common.{ap, ◌∙◌}
 use Rattle.std.specs.Option.{option_map_or}
-use Rattle.ctl_index.specs.TablesHeld.{namers_in}
-use Rattle.ctl_index.specs.TablesSteps.{listed_fields, put_atoms_step}
+use Rattle.ctl_index.specs.Inside.TablesHeld.{namers_in}
+use Rattle.ctl_index.specs.Inside.TablesSteps.{listed_fields, put_atoms_step}
 use Rattle.ctl_index.proofs.NameLemmas.{on_ok_map}
 use Rattle.ctl_index.proofs.coming.put_atoms_at.Goals as goal
 

@@ -3,9 +3,9 @@ use Rattle.std.proofs.lemmas.List.Sums.{sum_by-cons}
 use Rattle.ctl_relation.specs.Parts.{AtomParts}
 use Rattle.ctl_index.specs.declared.keys.AtomKey.{AtomKey}
 use Rattle.ctl_index.specs.declared.keys.OfferKey.{OfferKey}
-use Rattle.ctl_index.specs.TablesByName.{offers_under, namers_under}
-use Rattle.ctl_index.specs.TablesSight.{atom_met, atom_tested}
-use Rattle.ctl_index.specs.TablesSteps.{listed_group, group_met, group_tested}
+use Rattle.ctl_index.specs.Inside.TablesByName.{offers_under, namers_under}
+use Rattle.ctl_index.specs.Inside.TablesSight.{atom_met, atom_tested}
+use Rattle.ctl_index.specs.Inside.TablesSteps.{listed_group, group_met, group_tested}
 use Rattle.ctl_index.proofs.coming.put_group.Goals as goal
 
 pub loop-atom-preserved : goal.loop-atom-preserved

@@ -1,6 +1,6 @@
 use Rattle.std.proofs.Common.{◌≡◌, ◌≤◌, ◌+◌, ◌-◌, ◌*◌, ◌^◌, ℕ, List, length}
-use Rattle.ctl_index.specs.TablesByName.{offers_under, namers_under, rows_under}
-use Rattle.ctl_index.specs.TablesSteps.{listed_group, group_met, group_tested}
+use Rattle.ctl_index.specs.Inside.TablesByName.{offers_under, namers_under, rows_under}
+use Rattle.ctl_index.specs.Inside.TablesSteps.{listed_group, group_met, group_tested}
 use Rattle.ctl_index.specs.Work.{more_by}
 use Rattle.ctl_index.proofs.coming.put_group.Given as goal
 

@@ -4,10 +4,10 @@ use Rattle.ctl_relation.specs.Bounds.{atom_count}
 use Rattle.ctl_relation.specs.Parts.{AtomParts}
 use Rattle.ctl_index.specs.declared.keys.ClauseKey.{ClauseKey}
 use Rattle.ctl_index.specs.declared.keys.OfferKey.{OfferKey}
-use Rattle.ctl_index.specs.TablesHeld.{offers_in, namers_in, number_told}
-use Rattle.ctl_index.specs.TablesByName.{namers_under}
-use Rattle.ctl_index.specs.TablesCounters.{told}
-use Rattle.ctl_index.specs.TablesSteps.{listed_groups, entered_groups, group_met, group_tested, groups_tested, is_clause}
+use Rattle.ctl_index.specs.Inside.TablesHeld.{offers_in, namers_in, number_told}
+use Rattle.ctl_index.specs.Inside.TablesByName.{namers_under}
+use Rattle.ctl_index.specs.Inside.TablesCounters.{told}
+use Rattle.ctl_index.specs.Inside.TablesSteps.{listed_groups, entered_groups, group_met, group_tested, groups_tested, is_clause}
 use Rattle.ctl_index.proofs.coming.put_groups.Goals as goal
 
 pub loop-group-preserved : goal.loop-group-preserved

@@ -1,8 +1,8 @@
 use Rattle.std.proofs.Common.{◌≡◌, ◌≤◌, ◌<◌, ◌+◌, ◌-◌, ◌^◌, ℕ, List, length}
 use Rattle.ctl_relation.specs.Bounds.{atom_count}
 use Rattle.ctl_index.specs.declared.keys.ClauseKey.{ClauseKey}
-use Rattle.ctl_index.specs.TablesHeld.{offers_in, namers_in, rows_in, number_told}
-use Rattle.ctl_index.specs.TablesSteps.{listed_groups, entered_groups, groups_tested}
+use Rattle.ctl_index.specs.Inside.TablesHeld.{offers_in, namers_in, rows_in, number_told}
+use Rattle.ctl_index.specs.Inside.TablesSteps.{listed_groups, entered_groups, groups_tested}
 use Rattle.ctl_index.specs.Work.{more_by}
 use Rattle.ctl_index.proofs.coming.put_groups.Given as goal
 

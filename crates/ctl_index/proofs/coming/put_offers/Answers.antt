@@ -3,10 +3,10 @@ use Rattle.std.proofs.lemmas.List.{at_drop_more}
 use Rattle.std.proofs.lemmas.List.Sums.{sum_by_more, sum_by_more_le}
 use Rattle.ctl_store.specs.declared.stanza_key.StanzaKey.{StanzaKey}
 use Rattle.ctl_index.specs.declared.keys.Namer.{Namer}
-use Rattle.ctl_index.specs.TablesHeld.{offers_in, namers_in, number_in}
-use Rattle.ctl_index.specs.TablesFit.{IsWholeAt}
-use Rattle.ctl_index.specs.TablesSight.{seen}
-use Rattle.ctl_index.specs.TablesSteps.{with_each, with_found, of_found, offers_tests, offers_tested, put_offers_step, raise_step}
+use Rattle.ctl_index.specs.Inside.TablesHeld.{offers_in, namers_in, number_in}
+use Rattle.ctl_index.specs.Inside.TablesFit.{IsWholeAt}
+use Rattle.ctl_index.specs.Inside.TablesSight.{seen}
+use Rattle.ctl_index.specs.Inside.TablesSteps.{with_each, with_found, of_found, offers_tests, offers_tested, put_offers_step, raise_step}
 use Rattle.ctl_index.specs.Work.{more_by}
 use Rattle.ctl_index.proofs.CounterLemmas.{more_by_twice}
 use Rattle.ctl_index.proofs.FitLemmas.{one_more}

@@ -2,10 +2,10 @@ use Rattle.std.proofs.Common.{◌≡◌, ◌<◌, ℕ, List, drop, take}
 use Rattle.std.specs.List.{slice_index_or}
 use Rattle.ctl_store.specs.declared.stanza_key.StanzaKey.{StanzaKey}
 use Rattle.ctl_index.specs.declared.keys.ClauseKey.{ClauseKey}
-use Rattle.ctl_index.specs.TablesHeld.{offers_in, namers_in, rows_in, number_in}
-use Rattle.ctl_index.specs.TablesFit.{IsWholeAt}
-use Rattle.ctl_index.specs.TablesSight.{seen}
-use Rattle.ctl_index.specs.TablesSteps.{with_each, put_offers_step, raise_step, offers_tested}
+use Rattle.ctl_index.specs.Inside.TablesHeld.{offers_in, namers_in, rows_in, number_in}
+use Rattle.ctl_index.specs.Inside.TablesFit.{IsWholeAt}
+use Rattle.ctl_index.specs.Inside.TablesSight.{seen}
+use Rattle.ctl_index.specs.Inside.TablesSteps.{with_each, put_offers_step, raise_step, offers_tested}
 use Rattle.ctl_index.specs.Work.{more_by}
 use Rattle.ctl_index.proofs.coming.put_offers.Given as goal
 

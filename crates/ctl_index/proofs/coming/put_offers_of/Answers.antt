@@ -6,12 +6,12 @@ use Rattle.std.proofs.lemmas.List.Sums.{sum_by_more, sum_by_more_le}
 use Rattle.ctl_relation.specs.Parts.{OfferParts}
 use Rattle.ctl_index.specs.declared.keys.Namer.{Namer}
 use Rattle.ctl_index.specs.declared.keys.OfferKey.{OfferKey}
-use Rattle.ctl_index.specs.TablesHeld.{offers_in, namers_in, number_in}
-use Rattle.ctl_index.specs.TablesByName.{offers_under}
-use Rattle.ctl_index.specs.TablesCounters.{counted_up}
-use Rattle.ctl_index.specs.TablesSight.{hit, tested}
-use Rattle.ctl_index.specs.TablesOrder.{offer_stanza, put_in_order}
-use Rattle.ctl_index.specs.TablesSteps.{listed_offers, raised, all_tested}
+use Rattle.ctl_index.specs.Inside.TablesHeld.{offers_in, namers_in, number_in}
+use Rattle.ctl_index.specs.Inside.TablesByName.{offers_under}
+use Rattle.ctl_index.specs.Inside.TablesCounters.{counted_up}
+use Rattle.ctl_index.specs.Inside.TablesSight.{hit, tested}
+use Rattle.ctl_index.specs.Inside.TablesOrder.{offer_stanza, put_in_order}
+use Rattle.ctl_index.specs.Inside.TablesSteps.{listed_offers, raised, all_tested}
 use Rattle.ctl_index.specs.Work.{more_by}
 use Rattle.ctl_index.proofs.CounterLemmas.{more_by_twice}
 use Rattle.ctl_index.proofs.coming.put_offers_of.Goals as goal

@@ -4,7 +4,7 @@ use Rattle.std.specs.BTreeMap.{IsFromIterResult}
 use Rattle.std.specs.BTreeSet.{contains}
 use Rattle.ctl_index.specs.declared.keys.ClauseKey.{ClauseKey}
 use Rattle.ctl_index.specs.Clauses.{clause_cmp}
-use Rattle.ctl_index.specs.TablesCounters.{marked}
+use Rattle.ctl_index.specs.Inside.TablesCounters.{marked}
 use Rattle.ctl_index.proofs.CounterLemmas.{entered_appended, unmet_entered}
 use Rattle.ctl_index.proofs.counters.append_all.Goals as goal
 

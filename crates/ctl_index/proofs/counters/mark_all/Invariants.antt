@@ -2,7 +2,7 @@ use Rattle.std.proofs.Common.{◌≡◌, drop}
 use Rattle.std.specs.BTreeSet.{contains}
 use Rattle.ctl_index.specs.declared.keys.ClauseKey.{ClauseKey}
 use Rattle.ctl_index.specs.Clauses.{clause_cmp}
-use Rattle.ctl_index.specs.TablesCounters.{marked}
+use Rattle.ctl_index.specs.Inside.TablesCounters.{marked}
 use Rattle.ctl_index.proofs.counters.mark_all.Given as goal
 
 -- what is left to do with the clauses that are left comes to what all come to

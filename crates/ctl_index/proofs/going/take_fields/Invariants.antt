@@ -1,7 +1,7 @@
 use Rattle.std.proofs.Common.{◌≡◌, ℕ, List, drop, take}
 use Rattle.ctl_index.specs.declared.keys.ClauseKey.{ClauseKey}
-use Rattle.ctl_index.specs.TablesHeld.{offers_in, namers_in, rows_in, number_in}
-use Rattle.ctl_index.specs.TablesSteps.{left_fields, dropped_fields, fields_tested}
+use Rattle.ctl_index.specs.Inside.TablesHeld.{offers_in, namers_in, rows_in, number_in}
+use Rattle.ctl_index.specs.Inside.TablesSteps.{left_fields, dropped_fields, fields_tested}
 use Rattle.ctl_index.specs.Work.{more_by}
 use Rattle.ctl_index.proofs.going.take_fields.Given as goal
 

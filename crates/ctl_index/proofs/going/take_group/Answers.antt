@@ -2,9 +2,9 @@ use Rattle.std.proofs.Common.{◌≡◌, ℕ, List, ◌∷◌, ap, sym, ◌∙�
 use Rattle.std.proofs.lemmas.List.Sums.{sum_by-cons}
 use Rattle.ctl_relation.specs.Parts.{AtomParts}
 use Rattle.ctl_index.specs.declared.keys.OfferKey.{OfferKey}
-use Rattle.ctl_index.specs.TablesByName.{offers_under, namers_under}
-use Rattle.ctl_index.specs.TablesSight.{atom_tested}
-use Rattle.ctl_index.specs.TablesSteps.{left_group, group_tested}
+use Rattle.ctl_index.specs.Inside.TablesByName.{offers_under, namers_under}
+use Rattle.ctl_index.specs.Inside.TablesSight.{atom_tested}
+use Rattle.ctl_index.specs.Inside.TablesSteps.{left_group, group_tested}
 use Rattle.ctl_index.proofs.going.take_group.Goals as goal
 
 pub loop-atom-preserved : goal.loop-atom-preserved

@@ -4,8 +4,8 @@ use Rattle.std.specs.BTreeMap.{get}
 use Rattle.ctl_relation.specs.Parts.{AtomParts}
 use Rattle.ctl_index.specs.declared.keys.OfferKey.{OfferKey}
 use Rattle.ctl_index.specs.Clauses.{clause_cmp}
-use Rattle.ctl_index.specs.TablesHeld.{offers_in, namers_in, number_in}
-use Rattle.ctl_index.specs.TablesSteps.{left_groups, dropped_groups, group_tested, groups_tested}
+use Rattle.ctl_index.specs.Inside.TablesHeld.{offers_in, namers_in, number_in}
+use Rattle.ctl_index.specs.Inside.TablesSteps.{left_groups, dropped_groups, group_tested, groups_tested}
 use Rattle.ctl_index.proofs.going.take_groups.Goals as goal
 
 pub loop-group-preserved : goal.loop-group-preserved

@@ -2,9 +2,9 @@ use Rattle.std.proofs.Common.{◌≡◌, ◌<◌, List, ℕ, length, ap, arith, 
 use Rattle.std.proofs.lemmas.List.Sums.{sum_by_more_le}
 use Rattle.ctl_store.specs.declared.stanza_key.StanzaKey.{StanzaKey}
 use Rattle.ctl_index.specs.declared.keys.Namer.{Namer}
-use Rattle.ctl_index.specs.TablesHeld.{namers_in}
-use Rattle.ctl_index.specs.TablesSight.{seen}
-use Rattle.ctl_index.specs.TablesSteps.{of_found, offers_tests}
+use Rattle.ctl_index.specs.Inside.TablesHeld.{namers_in}
+use Rattle.ctl_index.specs.Inside.TablesSight.{seen}
+use Rattle.ctl_index.specs.Inside.TablesSteps.{of_found, offers_tests}
 use Rattle.ctl_index.proofs.going.take_offers.Goals as goal
 
 pub returns-in_err-take_offers_at-clause-most : goal.returns-in_err-take_offers_at-clause-most

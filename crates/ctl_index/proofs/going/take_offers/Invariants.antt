@@ -1,8 +1,8 @@
 use Rattle.std.proofs.Common.{◌≡◌, ℕ, List, drop, take}
 use Rattle.ctl_index.specs.declared.keys.ClauseKey.{ClauseKey}
-use Rattle.ctl_index.specs.TablesHeld.{offers_in, namers_in, rows_in, number_in}
-use Rattle.ctl_index.specs.TablesSight.{seen}
-use Rattle.ctl_index.specs.TablesSteps.{with_each, take_offers_step, lower_step, offers_tested}
+use Rattle.ctl_index.specs.Inside.TablesHeld.{offers_in, namers_in, rows_in, number_in}
+use Rattle.ctl_index.specs.Inside.TablesSight.{seen}
+use Rattle.ctl_index.specs.Inside.TablesSteps.{with_each, take_offers_step, lower_step, offers_tested}
 use Rattle.ctl_index.specs.Work.{more_by}
 use Rattle.ctl_index.proofs.going.take_offers.Given as goal
 

@@ -6,10 +6,10 @@ use Rattle.std.proofs.lemmas.List.Sums.{sum_by_more, sum_by_more_le}
 use Rattle.ctl_relation.specs.Parts.{OfferParts}
 use Rattle.ctl_index.specs.declared.keys.Namer.{Namer}
 use Rattle.ctl_index.specs.declared.keys.OfferKey.{OfferKey}
-use Rattle.ctl_index.specs.TablesHeld.{offers_in, namers_in, number_in}
-use Rattle.ctl_index.specs.TablesSight.{hit, tested}
-use Rattle.ctl_index.specs.TablesOrder.{others, offer_stanza}
-use Rattle.ctl_index.specs.TablesSteps.{left_offers, lowered, all_tested}
+use Rattle.ctl_index.specs.Inside.TablesHeld.{offers_in, namers_in, number_in}
+use Rattle.ctl_index.specs.Inside.TablesSight.{hit, tested}
+use Rattle.ctl_index.specs.Inside.TablesOrder.{others, offer_stanza}
+use Rattle.ctl_index.specs.Inside.TablesSteps.{left_offers, lowered, all_tested}
 use Rattle.ctl_index.specs.Work.{more_by}
 use Rattle.ctl_index.proofs.CounterLemmas.{more_by_twice}
 use Rattle.ctl_index.proofs.going.take_offers_of.Goals as goal

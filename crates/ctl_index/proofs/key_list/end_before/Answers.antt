@@ -1,6 +1,6 @@
 use Rattle.std.proofs.Common.{rules, of_calls}
 use Rattle.std.proofs.lemmas.Fn.{always_returns_same}
-use Rattle.ctl_index.specs.TablesOrder.{is_before}
+use Rattle.ctl_index.specs.Inside.TablesOrder.{is_before}
 use Rattle.ctl_index.proofs.ListLemmas.{parted_before}
 use Rattle.ctl_index.proofs.key_list.end_before.Goals as goal
 

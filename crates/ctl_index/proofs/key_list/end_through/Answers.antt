@@ -1,6 +1,6 @@
 use Rattle.std.proofs.Common.{rules, of_calls, sym, ◌∙◌}
 use Rattle.std.proofs.lemmas.Fn.{always_returns_same}
-use Rattle.ctl_index.specs.TablesOrder.{is_through}
+use Rattle.ctl_index.specs.Inside.TablesOrder.{is_through}
 use Rattle.ctl_index.proofs.ListLemmas.{parted_through, through_all}
 use Rattle.ctl_index.proofs.key_list.end_through.Goals as goal
 

@@ -1,5 +1,5 @@
 use Rattle.std.proofs.Common.{sym}
-use Rattle.ctl_index.specs.TablesByName.{rows_under}
+use Rattle.ctl_index.specs.Inside.TablesByName.{rows_under}
 use Rattle.ctl_index.proofs.KeptLemmas.{one_name, put_key, on_ok_both}
 use Rattle.ctl_index.proofs.rows.put_row_of.Goals as goal
 

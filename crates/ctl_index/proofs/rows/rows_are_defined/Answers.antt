@@ -1,7 +1,7 @@
 use Rattle.std.proofs.Common.{sym, subst}
-use Rattle.ctl_store.specs.Held.{keyed_of}
+use Rattle.ctl_store.specs.Store.{keyed_of}
 use Rattle.ctl_policy.specs.Kept.{IsKept}
-use Rattle.ctl_index.specs.TablesByName.{rows_under}
+use Rattle.ctl_index.specs.Inside.TablesByName.{rows_under}
 use Rattle.ctl_index.proofs.StoreLemmas.{stanza_under}
 use Rattle.ctl_index.proofs.rows.rows_are_defined.Goals as goal
 

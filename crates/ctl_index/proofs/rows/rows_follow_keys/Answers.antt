@@ -1,5 +1,5 @@
-use Rattle.ctl_index.specs.TablesByName.{rows_under}
-use Rattle.ctl_index.specs.TablesSight.{seen}
+use Rattle.ctl_index.specs.Inside.TablesByName.{rows_under}
+use Rattle.ctl_index.specs.Inside.TablesSight.{seen}
 use Rattle.ctl_index.proofs.KeptLemmas.{rows_put_law, rows_take_law}
 use Rattle.ctl_index.proofs.rows.rows_follow_keys.Goals as goal
 

@@ -1,5 +1,5 @@
 use Rattle.std.proofs.Common.{sym}
-use Rattle.ctl_index.specs.TablesByName.{rows_under}
+use Rattle.ctl_index.specs.Inside.TablesByName.{rows_under}
 use Rattle.ctl_index.proofs.KeptLemmas.{one_name, take_key}
 use Rattle.ctl_index.proofs.rows.take_row_of.Goals as goal
 

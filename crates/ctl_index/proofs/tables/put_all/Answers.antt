@@ -1,10 +1,10 @@
 use Rattle.std.proofs.Common.{ℕ, List, ap, ◌∙◌, arith}
 use Rattle.std.specs.FinMap as fin
 use Rattle.ctl_index.specs.declared.keys.OfferKey.{OfferKey}
-use Rattle.ctl_index.specs.TablesHeld.{namers_in}
-use Rattle.ctl_index.specs.TablesIndexed.{offers_put}
-use Rattle.ctl_index.specs.TablesSight.{seen}
-use Rattle.ctl_index.specs.TablesSteps.{with_each, put_atoms_step, put_rows_step, enter_step, offers_tested, atoms_tested}
+use Rattle.ctl_index.specs.Inside.TablesHeld.{namers_in}
+use Rattle.ctl_index.specs.Inside.TablesIndexed.{offers_put}
+use Rattle.ctl_index.specs.Inside.TablesSight.{seen}
+use Rattle.ctl_index.specs.Inside.TablesSteps.{with_each, put_atoms_step, put_rows_step, enter_step, offers_tested, atoms_tested}
 use Rattle.ctl_index.specs.Work.{more_by}
 use Rattle.ctl_index.proofs.CounterLemmas.{more_by_twice}
 use Rattle.ctl_index.proofs.tables.put_all.Goals as goal

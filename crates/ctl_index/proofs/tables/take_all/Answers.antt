@@ -1,13 +1,13 @@
 use Rattle.std.proofs.Common.{◌≡◌, ℕ, List, ap, ◌∙◌, arith}
 use Rattle.std.specs.FinMap as fin
 use Rattle.ctl_index.specs.declared.keys.Namer.{Namer}
-use Rattle.ctl_index.specs.TablesHeld.{offers_in, namers_in}
-use Rattle.ctl_index.specs.TablesIndexed.{namers_taken}
-use Rattle.ctl_index.specs.TablesSight.{seen}
-use Rattle.ctl_index.specs.TablesSteps.{with_each, span_of, take_offers_step, take_atoms_step, take_rows_step, lower_step, offers_tested, atoms_tested}
+use Rattle.ctl_index.specs.Inside.TablesHeld.{offers_in, namers_in}
+use Rattle.ctl_index.specs.Inside.TablesIndexed.{namers_taken}
+use Rattle.ctl_index.specs.Inside.TablesSight.{seen}
+use Rattle.ctl_index.specs.Inside.TablesSteps.{with_each, span_of, take_offers_step, take_atoms_step, take_rows_step, lower_step, offers_tested, atoms_tested}
 use Rattle.ctl_index.specs.Work.{more_by}
 use Rattle.ctl_index.proofs.CounterLemmas.{more_by_twice}
-use Rattle.ctl_index.specs.TablesHeld.{offers_in, namers_in}
+use Rattle.ctl_index.specs.Inside.TablesHeld.{offers_in, namers_in}
 use Rattle.ctl_index.proofs.tables.take_all.Goals as goal
 
 pub returns-clause-tables : goal.returns-clause-tables

@@ -1,7 +1,7 @@
 use Rattle.std.proofs.Common.{Some, option_map, cond, ap, ◌∙◌, rules}
 use Rattle.std.specs.Ordering.{is_eq}
 use Rattle.ctl_relation.specs.Version.{version_cmp}
-use Rattle.ctl_policy.specs.HeldRows.{row_at}
+use Rattle.ctl_policy.specs.Inside.HeldRows.{row_at}
 use Rattle.ctl_policy.specs.Keys.{with_key, or_none}
 use Rattle.ctl_policy.proofs.RowLemmas.{updates_row, row_at-same, on_err, items_of}
 use Rattle.ctl_policy.proofs.by_version.put_version.Goals as goal

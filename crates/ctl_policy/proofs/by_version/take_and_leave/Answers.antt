@@ -1,5 +1,5 @@
 use Rattle.std.proofs.Common.{option_map, ap, ◌∙◌}
-use Rattle.ctl_policy.specs.HeldRows.{row_at}
+use Rattle.ctl_policy.specs.Inside.HeldRows.{row_at}
 use Rattle.ctl_policy.specs.Keys.{without_key}
 use Rattle.ctl_policy.proofs.RowLemmas.{row_absent, items_of}
 use Rattle.ctl_policy.proofs.by_version.take_and_leave.Goals as goal

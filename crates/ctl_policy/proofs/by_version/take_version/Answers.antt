@@ -1,7 +1,7 @@
 use Rattle.std.proofs.Common.{None, cond, option_map, ap, ◌∙◌}
 use Rattle.std.specs.Ordering.{is_eq}
 use Rattle.ctl_relation.specs.Version.{version_cmp}
-use Rattle.ctl_policy.specs.HeldRows.{row_at}
+use Rattle.ctl_policy.specs.Inside.HeldRows.{row_at}
 use Rattle.ctl_policy.specs.Keys.{without_key}
 use Rattle.ctl_policy.proofs.RowLemmas.{updates_row, row_gone, cond_both}
 use Rattle.ctl_policy.proofs.by_version.take_version.Goals as goal

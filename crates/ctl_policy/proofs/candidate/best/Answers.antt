@@ -3,7 +3,7 @@ use Rattle.ctl_relation.specs.Version.{triple_of}
 use Rattle.ctl_policy.specs.Rows.{newest_first}
 use Rattle.ctl_policy.specs.Priority.{world_of, row_priority}
 use Rattle.ctl_policy.specs.Candidate.{best_of}
-use Rattle.ctl_policy.specs.HeldRows.{rows_of_form, IsOrderedForm}
+use Rattle.ctl_policy.specs.Inside.HeldRows.{rows_of_form, IsOrderedForm}
 use Rattle.ctl_policy.specs.declared.form.Form.TheVariants.{Empty, One, Many}
 use Rattle.ctl_policy.proofs.ShownLemmas.{rows_shown}
 use Rattle.ctl_policy.proofs.candidate.best.Goals as goal

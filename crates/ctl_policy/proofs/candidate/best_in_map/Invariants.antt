@@ -1,9 +1,9 @@
 use Rattle.std.proofs.Common.{◌≡◌, option_copied, option_map, None, IfSome}
 use Rattle.ctl_relation.specs.Version.{triple_of}
-use Rattle.ctl_store.specs.Held.{keyed_of}
+use Rattle.ctl_store.specs.Store.{keyed_of}
 use Rattle.ctl_policy.specs.Priority.{world_of, row_priority}
-use Rattle.ctl_policy.specs.HeldSpan.{IsSpan}
-use Rattle.ctl_policy.specs.HeldWalk.{AreHeldIn, carried}
+use Rattle.ctl_policy.specs.Inside.HeldSpan.{IsSpan}
+use Rattle.ctl_policy.specs.Inside.HeldWalk.{AreHeldIn, carried}
 use Rattle.ctl_policy.proofs.candidate.best_in_map.Given as goal
 
 abbrev pub invariant-rows : goal.invariant-rows

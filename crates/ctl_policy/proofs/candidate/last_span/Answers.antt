@@ -1,7 +1,7 @@
 use Rattle.std.proofs.Common.{ℕ, List, ◌-◌, length, slice_get, Vec, Global, IsSome, ap, sym, ◌∙◌}
 use Rattle.ctl_store.specs.declared.stanza_key.StanzaKey.{StanzaKey}
 use Rattle.ctl_store.specs.Keys.{AreHeld, stanza_at}
-use Rattle.ctl_store.specs.Held.{keyed_of}
+use Rattle.ctl_store.specs.Store.{keyed_of}
 use Rattle.ctl_policy.proofs.SpanLemmas.{all_found}
 use Rattle.ctl_policy.proofs.candidate.last_span.Goals as goal
 

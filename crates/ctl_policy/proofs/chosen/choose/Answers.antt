@@ -1,4 +1,4 @@
-use Rattle.ctl_store.specs.Held.{keyed_of}
+use Rattle.ctl_store.specs.Store.{keyed_of}
 use Rattle.ctl_policy.specs.Rows.{rows_named}
 use Rattle.ctl_policy.proofs.ChoiceLemmas.{form_of}
 use Rattle.ctl_policy.proofs.HeldLemmas.{held_form}

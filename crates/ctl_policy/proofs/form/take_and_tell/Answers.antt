@@ -1,5 +1,5 @@
 use Rattle.std.proofs.Common.{subst, ap, sym, ◌∙◌}
-use Rattle.ctl_policy.specs.HeldRows.{form_at, form_without, IsFormed}
+use Rattle.ctl_policy.specs.Inside.HeldRows.{form_at, form_without, IsFormed}
 use Rattle.ctl_policy.proofs.FormLemmas.{on_true, on_false, one_gone, one_stays}
 use Rattle.ctl_policy.proofs.form.take_and_tell.Goals as goal
 

@@ -1,6 +1,6 @@
 use Rattle.std.proofs.Common.{sym, ap, ◌∙◌}
 use Rattle.ctl_policy.specs.Chosen.{no_choice}
-use Rattle.ctl_policy.specs.NewPlaces.{is_listed}
+use Rattle.ctl_policy.specs.Inside.NewPlaces.{is_listed}
 use Rattle.ctl_policy.proofs.PlaceLemmas.{listed_now}
 use Rattle.ctl_policy.proofs.places.list_place.Goals as goal
 

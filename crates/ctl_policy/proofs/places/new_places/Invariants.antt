@@ -1,5 +1,5 @@
 use Rattle.std.proofs.Common.{◌≡◌, ℕ, List, ◌||◌, ◌&&◌, length}
-use Rattle.ctl_policy.specs.NewPlaces.{is_listed, lacks_place, AreUnchosen}
+use Rattle.ctl_policy.specs.Inside.NewPlaces.{is_listed, lacks_place, AreUnchosen}
 use Rattle.ctl_policy.specs.Touched.{is_one_of}
 use Rattle.ctl_policy.proofs.places.new_places.Given as goal
 

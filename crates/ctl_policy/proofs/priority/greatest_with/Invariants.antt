@@ -1,7 +1,7 @@
 use Rattle.std.proofs.Common.{◌≡◌, IfSome, length}
 use Rattle.ctl_store.specs.Keys.{AreHeld}
-use Rattle.ctl_store.specs.Held.{keyed_of}
-use Rattle.ctl_policy.specs.HeldSpan.{IsSpan}
+use Rattle.ctl_store.specs.Store.{keyed_of}
+use Rattle.ctl_policy.specs.Inside.HeldSpan.{IsSpan}
 use Rattle.ctl_policy.specs.Priority.{world_of, greatest_with, source_priorities}
 use Rattle.ctl_policy.proofs.priority.greatest_with.Given as goal
 

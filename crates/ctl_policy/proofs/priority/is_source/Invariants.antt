@@ -1,6 +1,6 @@
 use Rattle.std.proofs.Common.{◌≡◌, length}
 use Rattle.ctl_store.specs.Keys.{AreHeld}
-use Rattle.ctl_store.specs.Held.{keyed_of}
+use Rattle.ctl_store.specs.Store.{keyed_of}
 use Rattle.ctl_policy.specs.Rows.{is_source}
 use Rattle.ctl_policy.proofs.priority.is_source.Given as goal
 

@@ -1,7 +1,7 @@
 use Rattle.std.proofs.Common.{ap, sym, subst, [], ◌≡◌, ◌∙◌}
 use Rattle.std.specs.Bool.{OnTrue, OnFalse}
 use Rattle.ctl_policy.specs.Rows.{newest_first}
-use Rattle.ctl_policy.specs.HeldRows.{rows_of_form, IsOrderedForm}
+use Rattle.ctl_policy.specs.Inside.HeldRows.{rows_of_form, IsOrderedForm}
 use Rattle.ctl_policy.specs.declared.form.Form.TheVariants.{Empty}
 use Rattle.ctl_policy.proofs.ShownLemmas.{rows_shown, one_there, bare_many, filled_many}
 use Rattle.ctl_policy.proofs.rows.is_bare.Goals as goal

@@ -2,7 +2,7 @@ use Rattle.std.proofs.Common.{IfSome, sym, subst, arith}
 use Rattle.std.specs.Str.{bytes_eq}
 use Rattle.std.specs.List.{IsDistinct}
 use Rattle.std.proofs.lemmas.Int.{to_z-of_z}
-use Rattle.ctl_policy.specs.HeldSpan.{IsSpan}
+use Rattle.ctl_policy.specs.Inside.HeldSpan.{IsSpan}
 use Rattle.ctl_policy.specs.Priority.{world_of}
 use Rattle.ctl_policy.proofs.SpanLemmas.{span_priority}
 use Rattle.ctl_policy.proofs.TouchedLemmas.{names_same}

@@ -1,6 +1,6 @@
 use Rattle.std.proofs.Common.{Some, ap, sym, subst, ◌∙◌}
 use Rattle.std.proofs.lemmas.Slice.Eq.{bytes_eq-Decides}
-use Rattle.ctl_policy.specs.HeldSpan.{IsSpan}
+use Rattle.ctl_policy.specs.Inside.HeldSpan.{IsSpan}
 use Rattle.ctl_policy.specs.Priority.{world_of}
 use Rattle.ctl_policy.proofs.SpanLemmas.{widened_is, widened_list}
 use Rattle.ctl_policy.proofs.span.span_with.Goals as goal

@@ -1,7 +1,7 @@
 use Rattle.std.proofs.Common.{◌≡◌, length}
 use Rattle.ctl_store.specs.Keys.{AreHeld}
-use Rattle.ctl_store.specs.Held.{keyed_of}
-use Rattle.ctl_policy.specs.HeldWalk.{first_status}
+use Rattle.ctl_store.specs.Store.{keyed_of}
+use Rattle.ctl_policy.specs.Inside.HeldWalk.{first_status}
 use Rattle.ctl_policy.proofs.status.first_status.Given as goal
 
 abbrev pub invariant-keys : goal.invariant-keys

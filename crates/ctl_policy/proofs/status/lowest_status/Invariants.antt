@@ -1,6 +1,6 @@
 use Rattle.std.proofs.Common.{◌≡◌, None}
-use Rattle.ctl_store.specs.Held.{keyed_of}
-use Rattle.ctl_policy.specs.HeldWalk.{AreHeldIn, lowest_status}
+use Rattle.ctl_store.specs.Store.{keyed_of}
+use Rattle.ctl_policy.specs.Inside.HeldWalk.{AreHeldIn, lowest_status}
 use Rattle.ctl_policy.proofs.status.lowest_status.Given as goal
 
 abbrev pub invariant-rows : goal.invariant-rows

@@ -1,7 +1,7 @@
 use Rattle.std.proofs.Common.{None, ap, ◌∙◌}
 use Rattle.std.specs.Option.{option_map_or}
 use Rattle.ctl_stanza.specs.Content.{version_of}
-use Rattle.ctl_store.specs.Held.{keyed_of}
+use Rattle.ctl_store.specs.Store.{keyed_of}
 use Rattle.ctl_policy.specs.Rows.{version_under}
 use Rattle.ctl_policy.proofs.StatusLemmas.{status_is}
 use Rattle.ctl_policy.proofs.status.status_version.Goals as goal

@@ -1,9 +1,9 @@
 use Rattle.std.proofs.Common.{◌≡◌, ◌++◌, ap, sym, ◌∙◌}
 use Rattle.std.proofs.lemmas.List.{append-nil}
 use Rattle.ctl_store.specs.Entries.{entries_of}
-use Rattle.ctl_store.specs.Held.{keyed_of}
+use Rattle.ctl_store.specs.Store.{keyed_of}
 use Rattle.ctl_policy.specs.Touched.{is_one_of}
-use Rattle.ctl_policy.specs.TouchedNames.{packages_among}
+use Rattle.ctl_policy.specs.Inside.TouchedNames.{packages_among}
 use Rattle.ctl_policy.proofs.TouchedNamesLemmas.{none_kept}
 use Rattle.ctl_policy.proofs.touching.packages_of_store.Goals as goal
 

@@ -1,5 +1,5 @@
 use Rattle.std.proofs.Common.{◌++◌, ap, ◌∙◌}
-use Rattle.ctl_policy.specs.TouchedNames.{pinned_packages}
+use Rattle.ctl_policy.specs.Inside.TouchedNames.{pinned_packages}
 use Rattle.ctl_policy.proofs.TouchedNamesLemmas.{preferred_pushed}
 use Rattle.ctl_policy.proofs.touching.preferred_names.Goals as goal
 

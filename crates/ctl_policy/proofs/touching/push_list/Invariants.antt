@@ -1,8 +1,8 @@
 use Rattle.std.proofs.Common.{◌≡◌, ◌++◌}
-use Rattle.ctl_store.specs.Held.{keyed_of}
+use Rattle.ctl_store.specs.Store.{keyed_of}
 use Rattle.ctl_store.specs.Keys.{stanza_at}
 use Rattle.ctl_policy.specs.Touched.{packages_at}
-use Rattle.ctl_policy.specs.TouchedNames.{packages_in}
+use Rattle.ctl_policy.specs.Inside.TouchedNames.{packages_in}
 use Rattle.ctl_policy.proofs.touching.push_list.Given as goal
 
 abbrev pub invariant-keys : goal.invariant-keys

@@ -1,5 +1,5 @@
 use Rattle.std.proofs.Common.{◌≡◌, ◌++◌}
-use Rattle.ctl_policy.specs.TouchedNames.{pinned_packages}
+use Rattle.ctl_policy.specs.Inside.TouchedNames.{pinned_packages}
 use Rattle.ctl_policy.proofs.touching.push_pinned.Given as goal
 
 abbrev pub invariant-pins : goal.invariant-pins

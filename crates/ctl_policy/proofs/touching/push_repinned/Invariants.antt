@@ -1,8 +1,8 @@
 use Rattle.std.proofs.Common.{◌≡◌, ◌++◌}
 use Rattle.ctl_store.specs.State.{shown_lists}
-use Rattle.ctl_store.specs.Held.{state_of}
+use Rattle.ctl_store.specs.Store.{state_of}
 use Rattle.ctl_policy.specs.Priority.{world_of}
-use Rattle.ctl_policy.specs.TouchedNames.{repinned_packages}
+use Rattle.ctl_policy.specs.Inside.TouchedNames.{repinned_packages}
 use Rattle.ctl_policy.proofs.touching.push_repinned.Given as goal
 
 abbrev pub invariant-lists : goal.invariant-lists

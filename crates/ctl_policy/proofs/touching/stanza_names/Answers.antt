@@ -1,5 +1,5 @@
 use Rattle.std.proofs.Common.{◌++◌, ap, ◌∙◌}
-use Rattle.ctl_store.specs.Held.{keyed_of}
+use Rattle.ctl_store.specs.Store.{keyed_of}
 use Rattle.ctl_store.specs.Keys.{stanza_at, coming}
 use Rattle.ctl_policy.specs.Touched.{packages_at}
 use Rattle.ctl_policy.proofs.TouchedNamesLemmas.{stanzas_pushed}

@@ -1,6 +1,6 @@
 use Rattle.std.proofs.Common.{option_copied, ◌++◌, ap, ◌∙◌}
-use Rattle.ctl_store.specs.Held.{keyed_of}
-use Rattle.ctl_policy.specs.TouchedNames.{target_packages}
+use Rattle.ctl_store.specs.Store.{keyed_of}
+use Rattle.ctl_policy.specs.Inside.TouchedNames.{target_packages}
 use Rattle.ctl_policy.proofs.TouchedNamesLemmas.{targets_pushed}
 use Rattle.ctl_policy.proofs.touching.target_names.Goals as goal
 

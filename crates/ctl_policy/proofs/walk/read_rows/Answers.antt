@@ -1,6 +1,6 @@
 use Rattle.std.proofs.Common.{subst}
-use Rattle.ctl_store.specs.Held.{keyed_of}
-use Rattle.ctl_policy.specs.HeldRead.{IsReadSoFar}
+use Rattle.ctl_store.specs.Store.{keyed_of}
+use Rattle.ctl_policy.specs.Inside.HeldRead.{IsReadSoFar}
 use Rattle.ctl_policy.proofs.ReadLemmas.{read_none, read_all}
 use Rattle.ctl_policy.proofs.walk.read_rows.Goals as goal
 

@@ -1,5 +1,5 @@
-use Rattle.ctl_store.specs.Held.{keyed_of}
-use Rattle.ctl_policy.specs.HeldRead.{IsReadSoFar}
+use Rattle.ctl_store.specs.Store.{keyed_of}
+use Rattle.ctl_policy.specs.Inside.HeldRead.{IsReadSoFar}
 use Rattle.ctl_policy.proofs.walk.read_rows.Given as goal
 
 abbrev pub invariant-entries : goal.invariant-entries

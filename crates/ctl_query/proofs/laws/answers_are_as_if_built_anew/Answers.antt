@@ -1,5 +1,5 @@
 use Rattle.std.proofs.Common.{sym}
-use Rattle.ctl_store.specs.Held.{keyed_of}
+use Rattle.ctl_store.specs.Store.{keyed_of}
 use Rattle.ctl_store.specs.Keys.{stanza_lists}
 use Rattle.ctl_policy.specs.Priority.{world_of}
 use Rattle.ctl_query.specs.Anew.{answer_anew, lists_anew}

@@ -1,6 +1,6 @@
 use Rattle.std.proofs.Common.{◌≡◌, ◌∙◌, ◌||◌, length, Some, sym, ap, arith}
 use Rattle.std.specs.List.{list_any}
-use Rattle.ctl_store.specs.Held.{keyed_of}
+use Rattle.ctl_store.specs.Store.{keyed_of}
 use Rattle.ctl_store.specs.Keys.{stanza_at}
 use Rattle.ctl_query.specs.NameSet.{lent_names, is_among}
 use Rattle.ctl_query.specs.Providers.{gives_at, makes_row_at}

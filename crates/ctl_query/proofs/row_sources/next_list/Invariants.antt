@@ -1,7 +1,7 @@
 use Rattle.std.proofs.Common.{◌≡◌, length}
 use Rattle.std.specs.Option.{option_copied}
 use Rattle.ctl_store.specs.Keys.{AreHeld}
-use Rattle.ctl_store.specs.Held.{keyed_of}
+use Rattle.ctl_store.specs.Store.{keyed_of}
 use Rattle.ctl_query.specs.Inside.RowSources.{holders_behind}
 use Rattle.ctl_query.proofs.row_sources.next_list.Given as goal
 

@@ -1,5 +1,5 @@
 use Rattle.std.proofs.lemmas.List.{append-nil}
-use Rattle.ctl_store.specs.Held.{keyed_of}
+use Rattle.ctl_store.specs.Store.{keyed_of}
 use Rattle.ctl_query.proofs.ListLemmas.{names_shown}
 use Rattle.ctl_query.proofs.source_lines.lines_of.Goals as goal
 

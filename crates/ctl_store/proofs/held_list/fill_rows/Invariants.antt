@@ -1,6 +1,6 @@
 use Rattle.std.proofs.Common.{◌≡◌, ◌≤◌, ◌+◌, ◌++◌, map, length, vec_len}
 use Rattle.ctl_store.specs.Rows.{rows_from}
-use Rattle.ctl_store.specs.HeldPieces.{joined, IsFit, room_at_end}
+use Rattle.ctl_store.specs.Inside.HeldPieces.{joined, IsFit, room_at_end}
 use Rattle.ctl_store.proofs.held_list.fill_rows.Given as goal
 
 abbrev pub invariant-loop-stanza : goal.invariant-loop-stanza

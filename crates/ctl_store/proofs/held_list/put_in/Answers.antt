@@ -2,7 +2,7 @@ use Rattle.std.proofs.Common.{◌≡◌, ◌∙◌, ◌+◌, ◌≤◌, min, sym
 use Rattle.ctl_stanza.specs.Content.{package_of, version_of}
 use Rattle.ctl_store.specs.Step.{place}
 use Rattle.ctl_store.specs.Rows.{id, id_of, ids_of, sorted_ids, lower, by_name_and_version}
-use Rattle.ctl_store.specs.HeldPieces.{most_in_piece, joined, room_of_last, place_of_spot}
+use Rattle.ctl_store.specs.Inside.HeldPieces.{most_in_piece, joined, room_of_last, place_of_spot}
 use Rattle.ctl_store.proofs.PiecesLemmas.{ready_room}
 use Rattle.ctl_store.proofs.OrderLemmas.{fit_written, held_replace, held_push, length-order}
 use Rattle.ctl_store.proofs.held_list.put_in.Goals as goal

@@ -1,7 +1,7 @@
 use Rattle.std.proofs.Common.{◌≡◌, ◌∙◌, sym, ap, Some, option_copied, option_map}
 use Rattle.ctl_store.specs.Step.{place}
 use Rattle.ctl_store.specs.Rows.{id, ids_of, sorted_ids, lower, by_name_and_version}
-use Rattle.ctl_store.specs.HeldPieces.{joined, place_of_spot}
+use Rattle.ctl_store.specs.Inside.HeldPieces.{joined, place_of_spot}
 use Rattle.ctl_store.proofs.OrderLemmas.{held_remove}
 use Rattle.ctl_store.proofs.held_list.remove_from.Goals as goal
 

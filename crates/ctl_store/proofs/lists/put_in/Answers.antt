@@ -3,7 +3,9 @@ use Rattle.std.specs.Str.{bytes_eq}
 use Rattle.ctl_ordered.specs.Ordered.{entries}
 use Rattle.ctl_ordered.proofs.SlotLemmas.{from_lent}
 use Rattle.ctl_store.specs.Keys.{put_keyed}
-use Rattle.ctl_store.specs.Held.{HeldList, lists_of, AreNumbered, HasRoomInList}
+use Rattle.ctl_store.specs.Store.{HeldList, lists_of}
+use Rattle.ctl_store.specs.Plans.{HasRoomInList}
+use Rattle.ctl_store.specs.Inside.Held.{AreNumbered}
 use Rattle.ctl_store.proofs.ListedLemmas.{set_named-change, change_named-none, numbered_set}
 use Rattle.ctl_store.proofs.lists.put_in.Goals as goal
 

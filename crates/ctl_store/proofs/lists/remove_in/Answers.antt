@@ -3,7 +3,8 @@ use Rattle.std.specs.Str.{bytes_eq}
 use Rattle.ctl_ordered.specs.Ordered.{entries}
 use Rattle.ctl_ordered.proofs.SlotLemmas.{from_lent}
 use Rattle.ctl_store.specs.Keys.{remove_keyed}
-use Rattle.ctl_store.specs.Held.{lists_of, AreNumbered}
+use Rattle.ctl_store.specs.Store.{lists_of}
+use Rattle.ctl_store.specs.Inside.Held.{AreNumbered}
 use Rattle.ctl_store.proofs.ListedLemmas.{set_named-change, change_named-none, numbered_set}
 use Rattle.ctl_store.proofs.lists.remove_in.Goals as goal
 

@@ -4,7 +4,9 @@ use Rattle.ctl_ordered.specs.Ordered.{entries}
 use Rattle.ctl_ordered.proofs.SlotLemmas.{from_lent}
 use Rattle.ctl_store.specs.Named.{at_name}
 use Rattle.ctl_store.specs.Keys.{KeyedList}
-use Rattle.ctl_store.specs.Held.{lists_of, AreNumbered, HasRoomInList}
+use Rattle.ctl_store.specs.Store.{lists_of}
+use Rattle.ctl_store.specs.Plans.{HasRoomInList}
+use Rattle.ctl_store.specs.Inside.Held.{AreNumbered}
 use Rattle.ctl_store.proofs.ListedLemmas.{at_name-set_named, set_named-same, on_ok_map, numbered_set}
 use Rattle.ctl_store.proofs.lists.reserve_in.Goals as goal
 

@@ -1,7 +1,7 @@
 use Rattle.std.proofs.Common.{rules, arith, ◌≡◌, ◌∙◌, ◌<◌, ◌-◌, ℕ, Bool, length, slice_index, ap}
 use Rattle.std.specs.Ordering.{is_lt}
 use Rattle.ctl_store.specs.Rows.{order_at}
-use Rattle.ctl_store.specs.HeldPieces.{joined, last_passes, stands_at, place_of_spot}
+use Rattle.ctl_store.specs.Inside.HeldPieces.{joined, last_passes, stands_at, place_of_spot}
 use Rattle.ctl_store.proofs.PiecesLemmas.{length_read, piece_read, spot_within}
 use Rattle.ctl_store.proofs.PointLemmas.{get_joined, last_is, told, last_before}
 use Rattle.ctl_store.proofs.order.follows_lesser.Goals as goal

@@ -1,6 +1,6 @@
 use Rattle.std.proofs.Common.{rules, arith, ◌<◌, length, ap, sym, ◌∙◌}
 use Rattle.std.specs.Ordering.{is_lt}
-use Rattle.ctl_store.specs.HeldPieces.{joined, IsSpot}
+use Rattle.ctl_store.specs.Inside.HeldPieces.{joined, IsSpot}
 use Rattle.ctl_store.proofs.PiecesLemmas.{length_read, spot_within}
 use Rattle.ctl_store.proofs.PointLemmas.{get_joined, on_true, on_true_map, lower_between, spot_or_end}
 use Rattle.ctl_store.proofs.order.is_lower.Goals as goal

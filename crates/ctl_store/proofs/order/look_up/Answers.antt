@@ -5,7 +5,7 @@ use Rattle.ctl_store.specs.Rows.{IsKept, id, ids_of, sorted_ids, lower, has_seri
 use Rattle.ctl_store.specs.Orders.{lower_place}
 use Rattle.ctl_stanza.specs.Content.{Content}
 use Rattle.ctl_store.specs.declared.pieces.Spot.{Spot}
-use Rattle.ctl_store.specs.HeldPieces.{joined, stands_at, place_of_spot, IsSpot}
+use Rattle.ctl_store.specs.Inside.HeldPieces.{joined, stands_at, place_of_spot, IsSpot}
 use Rattle.ctl_store.proofs.OrderLemmas.{found_here, found_past}
 use Rattle.ctl_store.proofs.PiecesLemmas.{length_read}
 use Rattle.ctl_store.proofs.PointLemmas.{get_joined, stands_within, stands_end}

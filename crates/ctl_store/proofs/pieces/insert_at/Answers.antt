@@ -1,6 +1,6 @@
 use Rattle.std.proofs.Common.{◌≡◌, ◌∙◌, ℕ, ◌/◌, ◌<◌, List, length, ap, arith}
 use Rattle.std.specs.List.{insert}
-use Rattle.ctl_store.specs.HeldPieces.{joined, length_at, room_of_last, place_of_spot, IsSpot, IsPiece}
+use Rattle.ctl_store.specs.Inside.HeldPieces.{joined, length_at, room_of_last, place_of_spot, IsSpot, IsPiece}
 use Rattle.ctl_store.proofs.PiecesLemmas.{length_read, room_read, piece_read, length_of_all, some_of_last, last_of_all, room_of_last_push, split_stands, split_fits}
 use Rattle.ctl_store.proofs.pieces.insert_at.Goals as goal
 

@@ -1,5 +1,5 @@
 use Rattle.std.proofs.Common.{◌<◌, length, arith}
-use Rattle.ctl_store.specs.HeldPieces.{IsPiece}
+use Rattle.ctl_store.specs.Inside.HeldPieces.{IsPiece}
 use Rattle.ctl_store.proofs.PiecesLemmas.{length_read, room_read, piece_read, pieces_set, joined_insert, length_at_set, room_at_set}
 use Rattle.ctl_store.proofs.pieces.insert_within.Goals as goal
 

@@ -1,6 +1,6 @@
 use Rattle.std.proofs.Common.{◌∙◌, suc, get_or, set, ap, sym, subst, arith}
 use Rattle.std.specs.List.{remove}
-use Rattle.ctl_store.specs.HeldPieces.{ArePieces, IsPiece, joined, length_at}
+use Rattle.ctl_store.specs.Inside.HeldPieces.{ArePieces, IsPiece, joined, length_at}
 use Rattle.ctl_store.proofs.PiecesLemmas.{plus_one, length_read, room_read, piece_read, pieces_set, pieces_remove, read_before, joined_join}
 use Rattle.ctl_store.proofs.pieces.join_next.Goals as goal
 

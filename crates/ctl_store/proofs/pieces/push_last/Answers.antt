@@ -1,6 +1,6 @@
 use Rattle.std.proofs.Common.{◌≡◌, ◌∙◌, ◌-◌, ◌<◌, min, length, ap, arith}
 use Rattle.std.specs.List.{insert}
-use Rattle.ctl_store.specs.HeldPieces.{length_at, room_in, room_at, room_of_all, free_at_end}
+use Rattle.ctl_store.specs.Inside.HeldPieces.{length_at, room_in, room_at, room_of_all, free_at_end}
 use Rattle.ctl_store.proofs.PiecesLemmas.{length_read, some_free, some_of_all, free_last, length_at_end, room_at_last, room_of_all_push}
 use Rattle.ctl_store.proofs.pieces.push_last.Goals as goal
 

@@ -1,5 +1,5 @@
 use Rattle.std.proofs.Common.{ap, arith}
-use Rattle.ctl_store.specs.HeldPieces.{room_of_all}
+use Rattle.ctl_store.specs.Inside.HeldPieces.{room_of_all}
 use Rattle.ctl_store.proofs.PiecesLemmas.{room_of_all_push}
 use Rattle.ctl_store.proofs.pieces.push_ready.Goals as goal
 

@@ -1,5 +1,5 @@
 use Rattle.std.proofs.Common.{◌≤◌, ◌-◌}
-use Rattle.ctl_store.specs.HeldPieces.{AreReady, room_of_all}
+use Rattle.ctl_store.specs.Inside.HeldPieces.{AreReady, room_of_all}
 use Rattle.ctl_store.proofs.pieces.ready_pieces.Given as goal
 
 abbrev pub invariant-loop-room : goal.invariant-loop-room

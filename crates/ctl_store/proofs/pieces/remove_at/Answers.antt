@@ -1,5 +1,5 @@
 use Rattle.std.proofs.Common.{◌∙◌, ap, arith}
-use Rattle.ctl_store.specs.HeldPieces.{joined}
+use Rattle.ctl_store.specs.Inside.HeldPieces.{joined}
 use Rattle.ctl_store.proofs.PiecesLemmas.{spot_within, length_read, joined_remove_piece}
 use Rattle.ctl_store.proofs.pieces.remove_at.Goals as goal
 

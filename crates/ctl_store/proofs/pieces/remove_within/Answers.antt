@@ -1,5 +1,5 @@
 use Rattle.std.proofs.Common.{arith}
-use Rattle.ctl_store.specs.HeldPieces.{IsPiece}
+use Rattle.ctl_store.specs.Inside.HeldPieces.{IsPiece}
 use Rattle.ctl_store.proofs.PiecesLemmas.{spot_within, length_read, piece_read, pieces_set, joined_remove}
 use Rattle.ctl_store.proofs.pieces.remove_within.Goals as goal
 

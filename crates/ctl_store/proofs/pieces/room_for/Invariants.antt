@@ -1,5 +1,5 @@
 use Rattle.std.proofs.Common.{◌≡◌, ◌+◌, ◌<◌, length}
-use Rattle.ctl_store.specs.HeldPieces.{most_in_piece, joined, ArePieces}
+use Rattle.ctl_store.specs.Inside.HeldPieces.{most_in_piece, joined, ArePieces}
 use Rattle.ctl_store.proofs.pieces.room_for.Given as goal
 
 abbrev pub invariant-pieces : goal.invariant-pieces

@@ -1,6 +1,6 @@
 use Rattle.std.proofs.Common.{◌≡◌, ◌∙◌, ◌+◌, ◌<◌, ◌++◌, ℕ, List, suc, length, drop, set, Vec, ap, sym, subst, arith}
 use Rattle.std.specs.List.{insert}
-use Rattle.ctl_store.specs.HeldPieces.{ArePieces, IsPiece, joined, length_at, room_at, stands_at}
+use Rattle.ctl_store.specs.Inside.HeldPieces.{ArePieces, IsPiece, joined, length_at, room_at, stands_at}
 use Rattle.ctl_store.proofs.PiecesLemmas.{plus_one, read_same, length_read, room_read, piece_read, pieces_set, pieces_insert, halves, joined_split, length_lower, length_upper, room_lower, room_upper, stands_upper}
 use Rattle.ctl_store.proofs.pieces.split.Goals as goal
 

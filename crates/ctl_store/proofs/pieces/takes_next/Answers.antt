@@ -1,5 +1,5 @@
 use Rattle.std.proofs.Common.{◌+◌, ◌<◌, length, arith}
-use Rattle.ctl_store.specs.HeldPieces.{IsPiece}
+use Rattle.ctl_store.specs.Inside.HeldPieces.{IsPiece}
 use Rattle.ctl_store.proofs.PiecesLemmas.{length_read, room_read, piece_read}
 use Rattle.ctl_store.proofs.pieces.takes_next.Goals as goal
 

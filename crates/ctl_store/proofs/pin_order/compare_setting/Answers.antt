@@ -1,8 +1,8 @@
 use Rattle.std.proofs.Common.{◌∙◌, ap}
 use Rattle.std.specs.Option.{option_map_or}
 use Rattle.std.specs.declared.cmp.Ordering.TheVariants.{Less}
-use Rattle.ctl_store.specs.HeldRanks.{label_cmp}
-use Rattle.ctl_store.specs.HeldPins.{own_row}
+use Rattle.ctl_store.specs.Inside.HeldRanks.{label_cmp}
+use Rattle.ctl_store.specs.Inside.HeldPins.{own_row}
 use Rattle.ctl_store.proofs.OwnLemmas.{lookup_turned}
 use Rattle.ctl_store.proofs.pin_order.compare_setting.Goals as goal
 

@@ -1,9 +1,9 @@
 use Rattle.std.proofs.Common.{rules, of_calls, arith, ◌≤◌, length}
 use Rattle.std.proofs.lemmas.Fn.{always_returns_same}
 use Rattle.std.specs.Ordering.{is_lt}
-use Rattle.ctl_store.specs.HeldRanks.{label_cmp, label_order}
+use Rattle.ctl_store.specs.Inside.HeldRanks.{label_cmp, label_order}
 use Rattle.ctl_store.specs.SelectorLaws.{label_total}
-use Rattle.ctl_store.specs.HeldPins.{own_row}
+use Rattle.ctl_store.specs.Inside.HeldPins.{own_row}
 use Rattle.ctl_store.proofs.RankedLemmas.{parted, below_is}
 use Rattle.ctl_store.proofs.pin_order.lower.Goals as goal
 

@@ -1,6 +1,6 @@
 use Rattle.std.proofs.Common.{◌≡◌, ◌∙◌, ◌<◌, ℕ, sym, ap, arith, length}
 use Rattle.ctl_stanza.specs.Content.{Content}
-use Rattle.ctl_store.specs.HeldPieces.{joined, place_of_spot, stands_at, IsSpot}
+use Rattle.ctl_store.specs.Inside.HeldPieces.{joined, place_of_spot, stands_at, IsSpot}
 use Rattle.ctl_store.proofs.PointLemmas.{stands_end, stands_within, place_nowhere}
 use Rattle.ctl_store.proofs.rows.halved_spot.Goals as goal
 use Rattle.ctl_store.proofs.PlaceLemmas.{place_at}

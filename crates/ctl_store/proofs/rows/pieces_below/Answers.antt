@@ -1,7 +1,7 @@
 use Rattle.std.proofs.Common.{rules, of_calls, ◌<◌, ◌≡◌, ◌∙◌, ◌-◌, Bool, true, false, length, get_or, ap, sym, Vec, Global, arith}
 use Rattle.std.proofs.lemmas.Fn.{always_returns_same}
 use Rattle.ctl_store.specs.declared.rows.Row.{Row}
-use Rattle.ctl_store.specs.HeldPieces.{joined, last_passes}
+use Rattle.ctl_store.specs.Inside.HeldPieces.{joined, last_passes}
 use Rattle.ctl_store.proofs.PointLemmas.{is_below, parted_serials, parted_last, end_between, read_passes}
 use Rattle.ctl_store.proofs.rows.pieces_below.Goals.{then-likely-eq0, else-likely-eq0}
 use Rattle.ctl_store.proofs.rows.pieces_below.Goals as goal

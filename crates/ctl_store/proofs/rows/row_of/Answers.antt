@@ -2,7 +2,7 @@ use Rattle.std.proofs.Common.{◌≡◌, ◌∙◌, ℕ, Some, sym, ap}
 use Rattle.ctl_stanza.specs.Content.{Content}
 use Rattle.ctl_store.specs.Rows.{has_serial}
 use Rattle.ctl_store.specs.Step.{place}
-use Rattle.ctl_store.specs.HeldPieces.{joined, place_of_spot}
+use Rattle.ctl_store.specs.Inside.HeldPieces.{joined, place_of_spot}
 use Rattle.ctl_store.proofs.PlaceLemmas.{lookup-place, lookup-place_none}
 use Rattle.ctl_store.proofs.rows.row_of.Goals as goal
 

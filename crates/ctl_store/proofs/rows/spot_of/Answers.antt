@@ -1,6 +1,6 @@
 use Rattle.std.proofs.Common.{◌∙◌, ℕ, sym, ap}
 use Rattle.ctl_stanza.specs.Content.{Content}
-use Rattle.ctl_store.specs.HeldPieces.{joined, place_of_spot, IsSpot}
+use Rattle.ctl_store.specs.Inside.HeldPieces.{joined, place_of_spot, IsSpot}
 use Rattle.ctl_store.proofs.PointLemmas.{stands_within}
 use Rattle.ctl_store.proofs.rows.spot_of.Goals as goal
 use Rattle.ctl_store.proofs.PlaceLemmas.{place_at}

@@ -1,6 +1,6 @@
 use Rattle.std.proofs.Common.{◌∷◌, sym, subst}
 use Rattle.ctl_store.specs.Keys.{AreHeld}
-use Rattle.ctl_store.specs.Held.{keyed_of}
+use Rattle.ctl_store.specs.Store.{keyed_of}
 use Rattle.probe.proofs.state.say_stanzas.Goals as goal
 
 pub loop-key-init : goal.loop-key-init

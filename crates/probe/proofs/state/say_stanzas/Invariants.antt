@@ -1,5 +1,5 @@
 use Rattle.ctl_store.specs.Keys.{AreHeld}
-use Rattle.ctl_store.specs.Held.{keyed_of}
+use Rattle.ctl_store.specs.Store.{keyed_of}
 use Rattle.probe.proofs.state.say_stanzas.Given as goal
 
 abbrev pub invariant-loop-key : goal.invariant-loop-key

@@ -2,11 +2,11 @@ use Rattle.std.proofs.Common.{List, map, refl, ap, sym, subst, ◌∙◌}
 use Rattle.std.specs.List.{AllByRecursion}
 use Rattle.ctl_store.specs.declared.stanza_key.StanzaKey.{StanzaKey}
 use Rattle.ctl_store.specs.Keys.{AreHeld}
-use Rattle.ctl_store.specs.Held.{keyed_of, state_of}
+use Rattle.ctl_store.specs.Store.{keyed_of, state_of}
 use Rattle.ctl_policy.specs.Rows.{rows_named}
 use Rattle.ctl_index.specs.Held.{HeldCache, standing}
 use Rattle.ctl_index.specs.Names.{known_names}
-use Rattle.ctl_index.specs.TablesByName.{rows_under}
+use Rattle.ctl_index.specs.Inside.TablesByName.{rows_under}
 use Rattle.ctl_index.specs.Work.{stanzas_of_state}
 use Rattle.ctl_index.proofs.AllRowsLemmas.{rows_told, rows_along, entries_found, all_held}
 use Rattle.ctl_index.proofs.LawLemmas.{contents_of_state}

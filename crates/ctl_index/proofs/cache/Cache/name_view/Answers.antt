@@ -4,16 +4,16 @@ use Rattle.std.specs.List.Sorted.{IsPermutation}
 use Rattle.std.specs.Str.{bytes_eq}
 use Rattle.ctl_store.specs.declared.stanza_key.StanzaKey.{StanzaKey}
 use Rattle.ctl_store.specs.Keys.{AreHeld}
-use Rattle.ctl_store.specs.Held.{keyed_of, state_of}
+use Rattle.ctl_store.specs.Store.{keyed_of, state_of}
 use Rattle.ctl_policy.specs.Rows.{rows_named, newest_first, keys_of_row}
 use Rattle.ctl_index.specs.Held.{HeldCache, standing}
 use Rattle.ctl_index.specs.Names.{known_names, namers_named}
-use Rattle.ctl_index.specs.NameView.{name_standing}
-use Rattle.ctl_index.specs.TablesByName.{at_name, offers_under, rows_under}
-use Rattle.ctl_index.specs.TablesViews.{offering, offer_found}
+use Rattle.ctl_index.specs.Inside.NameView.{name_standing}
+use Rattle.ctl_index.specs.Inside.TablesByName.{at_name, offers_under, rows_under}
+use Rattle.ctl_index.specs.Inside.TablesViews.{offering, offer_found}
 use Rattle.ctl_index.specs.Offers.{offers_named}
 use Rattle.ctl_relation.specs.Parts.{OfferParts}
-use Rattle.ctl_index.specs.TablesSight.{AreSeen, in_store}
+use Rattle.ctl_index.specs.Inside.TablesSight.{AreSeen, in_store}
 use Rattle.ctl_index.specs.Work.{stanzas_of_state}
 use Rattle.ctl_index.proofs.LawLemmas.{contents_of_state}
 use Rattle.ctl_index.proofs.NameViewLemmas.{rows_of_entry, found_offering}

@@ -5,9 +5,9 @@ use Rattle.std.specs.Ordering.{nat_cmp, is_le}
 use Rattle.std.specs.Cmp.Lexicographic.{slice_cmp}
 use Rattle.std.specs.Str.{bytes_eq}
 use Rattle.std.proofs.lemmas.Map.Made.{is_some-lookup}
-use Rattle.ctl_store.specs.Held.{keyed_of, state_of}
+use Rattle.ctl_store.specs.Store.{keyed_of, state_of}
 use Rattle.ctl_index.specs.Held.{HeldCache, standing}
-use Rattle.ctl_index.specs.NameMap.{entry_names}
+use Rattle.ctl_index.specs.Inside.NameMap.{entry_names}
 use Rattle.ctl_index.specs.Names.{known_names}
 use Rattle.ctl_index.specs.Work.{stanzas_of_state}
 use Rattle.ctl_index.proofs.LawLemmas.{contents_of_state}

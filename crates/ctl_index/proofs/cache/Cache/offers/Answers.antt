@@ -1,5 +1,5 @@
 use Rattle.std.proofs.Common.{List, map, ap, sym, subst, ◌∙◌}
-use Rattle.ctl_store.specs.Held.{keyed_of}
+use Rattle.ctl_store.specs.Store.{keyed_of}
 use Rattle.ctl_index.specs.Held.{HeldCache, standing}
 use Rattle.std.specs.List.Sorted.{IsPermutation}
 use Rattle.ctl_relation.specs.Parts.{OfferParts}
@@ -7,8 +7,8 @@ use Rattle.ctl_store.specs.declared.stanza_key.StanzaKey.{StanzaKey}
 use Rattle.ctl_store.specs.Keys.{AreHeld}
 use Rattle.ctl_index.specs.declared.keys.OfferKey.{OfferKey}
 use Rattle.ctl_index.specs.Offers.{offers_named}
-use Rattle.ctl_index.specs.TablesSight.{AreSeen, in_store}
-use Rattle.ctl_index.specs.TablesViews.{offer_found, AreFound}
+use Rattle.ctl_index.specs.Inside.TablesSight.{AreSeen, in_store}
+use Rattle.ctl_index.specs.Inside.TablesViews.{offer_found, AreFound}
 use Rattle.ctl_index.proofs.StoreLemmas.{rising_apart, store_seen}
 use Rattle.ctl_index.proofs.ViewLemmas.{offers_permuted, offers_found, found_held}
 use Rattle.ctl_index.proofs.cache.Cache.offers.Goals as goal

@@ -1,6 +1,6 @@
 use Rattle.std.proofs.Common.{◌&&◌, nat_eq, ap, ◌∙◌}
 use Rattle.std.specs.List.{starts_with}
-use Rattle.ctl_store.specs.Held.{keyed_of, state_of}
+use Rattle.ctl_store.specs.Store.{keyed_of, state_of}
 use Rattle.ctl_index.specs.Held.{HeldCache, standing}
 use Rattle.ctl_index.specs.Names.{is_package}
 use Rattle.ctl_index.specs.Offers.{contents}

@@ -3,7 +3,7 @@ use Rattle.std.specs.FinMap as fin
 use Rattle.ctl_relation.specs.Version.{version_cmp}
 use Rattle.ctl_store.specs.declared.stanza_key.StanzaKey.{StanzaKey}
 use Rattle.ctl_store.specs.Keys.{AreHeld}
-use Rattle.ctl_store.specs.Held.{keyed_of}
+use Rattle.ctl_store.specs.Store.{keyed_of}
 use Rattle.ctl_policy.specs.Keys.{or_none}
 use Rattle.ctl_policy.specs.Rows.{Rows, AreRowsOf}
 use Rattle.ctl_index.specs.Held.{HeldCache}

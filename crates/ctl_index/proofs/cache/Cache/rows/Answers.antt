@@ -1,6 +1,6 @@
 use Rattle.std.proofs.Common.{Some, map, refl, ap, ◌∙◌}
 use Rattle.std.specs.List.{filter_map}
-use Rattle.ctl_store.specs.Held.{keyed_of}
+use Rattle.ctl_store.specs.Store.{keyed_of}
 use Rattle.ctl_policy.specs.Rows.{rows_named, newest_first, keys_of_row, lead_of}
 use Rattle.ctl_index.proofs.LeadLemmas.{each_led}
 use Rattle.ctl_index.proofs.cache.Cache.rows.Goals as goal

@@ -1,6 +1,6 @@
 use Rattle.std.proofs.Common.{ap, sym, subst}
 use Rattle.ctl_store.specs.State.{State}
-use Rattle.ctl_index.specs.TablesIndexed.{IsIndexed}
+use Rattle.ctl_index.specs.Inside.TablesIndexed.{IsIndexed}
 use Rattle.ctl_index.proofs.RecoverLemmas.{none_standing}
 use Rattle.ctl_index.proofs.cache.Cache.with_limits.Goals as goal
 

@@ -1,7 +1,7 @@
 use Rattle.std.proofs.Common.{◌≡◌, ◌∷◌, List, false, nat_eq, ap, sym, subst, ◌∙◌}
 use Rattle.std.specs.List.{starts_with}
-use Rattle.ctl_index.specs.NameMap.{NamedEntry, entry_names}
-use Rattle.ctl_index.specs.TablesViews.{packages_with, has_own, AreFrom}
+use Rattle.ctl_index.specs.Inside.NameMap.{NamedEntry, entry_names}
+use Rattle.ctl_index.specs.Inside.TablesViews.{packages_with, has_own, AreFrom}
 use Rattle.ctl_index.proofs.PackageLemmas.{stops, goes_on, passes}
 use Rattle.ctl_index.proofs.cache.packages.next_package.Goals as goal
 

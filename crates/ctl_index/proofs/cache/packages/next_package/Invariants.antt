@@ -1,6 +1,6 @@
 use Rattle.std.proofs.Common.{◌≡◌, length}
-use Rattle.ctl_index.specs.NameMap.{entry_names}
-use Rattle.ctl_index.specs.TablesViews.{packages_with, AreFrom}
+use Rattle.ctl_index.specs.Inside.NameMap.{entry_names}
+use Rattle.ctl_index.specs.Inside.TablesViews.{packages_with, AreFrom}
 use Rattle.ctl_index.proofs.cache.packages.next_package.Given as goal
 
 abbrev pub invariant-names : goal.invariant-names

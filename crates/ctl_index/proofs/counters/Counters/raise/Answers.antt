@@ -1,6 +1,6 @@
 use Rattle.std.proofs.Common.{false, rules, arith}
 use Rattle.std.proofs.lemmas.Bool.Decides.{nat_tests}
-use Rattle.ctl_index.specs.TablesCounters.{counted_up}
+use Rattle.ctl_index.specs.Inside.TablesCounters.{counted_up}
 use Rattle.ctl_index.proofs.CounterLemmas.{written, unmet_written}
 use Rattle.ctl_index.proofs.counters.Counters.raise.Goals as goal
 

@@ -2,7 +2,7 @@ use Rattle.std.proofs.Common.{◌≡◌, ◌≤◌, true, false, List, length, a
 use Rattle.std.specs.Prelude.{insert}
 use Rattle.std.specs.List.Sorted.{IsPartitionPoint}
 use Rattle.ctl_store.specs.declared.stanza_key.StanzaKey.{StanzaKey}
-use Rattle.ctl_index.specs.TablesOrder.{InOrder, is_through, put_in_order}
+use Rattle.ctl_index.specs.Inside.TablesOrder.{InOrder, is_through, put_in_order}
 use Rattle.ctl_index.proofs.ListLemmas.{put_at, order_put}
 use Rattle.ctl_index.proofs.key_list.KeyList.put.Given as given
 use Rattle.ctl_index.proofs.key_list.KeyList.put.Goals as goal

@@ -1,6 +1,6 @@
 use Rattle.std.proofs.Common.{◌≡◌, ◌≤◌, true, false, List, not, length, ap, sym, subst, ◌∙◌, arith}
 use Rattle.std.specs.List.Sorted.{IsPartitionPoint}
-use Rattle.ctl_index.specs.TablesOrder.{InOrder, is_within, is_before, is_through, others}
+use Rattle.ctl_index.specs.Inside.TablesOrder.{InOrder, is_within, is_before, is_through, others}
 use Rattle.ctl_index.proofs.ListLemmas.{cut_is, none_cut, order_left}
 use Rattle.ctl_index.proofs.key_list.KeyList.take.Given as given
 use Rattle.ctl_index.proofs.key_list.KeyList.take.Goals as goal

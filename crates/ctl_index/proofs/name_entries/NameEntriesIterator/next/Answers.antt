@@ -1,6 +1,6 @@
 use Rattle.std.proofs.Common.{rules, ◌≡◌, ◌∙◌, ℕ, [], ◌∷◌, map, Bor, Vec, Global, length, ap, sym}
 use Rattle.std.proofs.lemmas.Bool.{true≢false}
-use Rattle.ctl_index.specs.NameMap.{merged, left_short, left_long, long_entry}
+use Rattle.ctl_index.specs.Inside.NameMap.{merged, left_short, left_long, long_entry}
 use Rattle.ctl_index.specs.declared.named.Named.{Named}
 use Rattle.ctl_index.proofs.MergedLemmas.{left_behind, takes_short, takes_long, takes_only_long, none_merged}
 use Rattle.ctl_index.proofs.name_entries.NameEntriesIterator.next.Goals as goal

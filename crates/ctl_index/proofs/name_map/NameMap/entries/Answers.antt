@@ -1,7 +1,7 @@
 use Rattle.std.proofs.Common.{◌≡◌, ℕ, List, Bool, true, map, refl, ap, subst, sym, ◌∙◌, nat_cmp}
 use Rattle.std.specs.List.Sorted.{IsStrictlySortedBy}
 use Rattle.std.specs.Cmp.Lexicographic.{slice_cmp}
-use Rattle.ctl_index.specs.NameMap.{NamedEntry, entry_names, found_in, long_entry, merged}
+use Rattle.ctl_index.specs.Inside.NameMap.{NamedEntry, entry_names, found_in, long_entry, merged}
 use Rattle.ctl_index.proofs.NameMapLemmas.{from_short, from_long, both_order, both_found}
 use Rattle.ctl_index.proofs.name_map.NameMap.entries.Goals as goal
 

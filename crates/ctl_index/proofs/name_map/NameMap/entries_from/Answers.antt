@@ -1,5 +1,5 @@
 use Rattle.std.proofs.Common.{ℕ, ◌<◌, List, [], map, length, unwrap_or, subst, sym, ◌∙◌}
-use Rattle.ctl_index.specs.NameMap.{long_entry, merged}
+use Rattle.ctl_index.specs.Inside.NameMap.{long_entry, merged}
 use Rattle.ctl_index.proofs.NameMapLemmas.{long_range, ArePromised, both_promised, long_promised}
 use Rattle.ctl_index.proofs.name_map.NameMap.entries_from.Goals as goal
 use Rattle.ctl_index.proofs.name_map.NameMap.entries_from.Goals.{in-Some, in-None}

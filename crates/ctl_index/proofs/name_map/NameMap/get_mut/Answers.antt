@@ -1,5 +1,5 @@
 use Rattle.std.proofs.Common.{rules, IsSome, Some, ap, sym, subst, refl}
-use Rattle.ctl_index.specs.NameMap.{AreApart}
+use Rattle.ctl_index.specs.Inside.NameMap.{AreApart}
 use Rattle.ctl_index.proofs.WrittenLemmas.{Long, apart_same, at_either, same_short, short_set, long_set, set_short, set_long, apart_lent, apart_lent_long, of_lent, on_lent}
 use Rattle.ctl_index.proofs.name_map.NameMap.get_mut.Goals as goal
 

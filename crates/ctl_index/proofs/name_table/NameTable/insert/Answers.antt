@@ -1,6 +1,6 @@
 use Rattle.std.proofs.Common.{[], refl}
 use Rattle.std.specs.FinMap as fin
-use Rattle.ctl_index.specs.TablesByName.{named_rows, named_offers, named_namers}
+use Rattle.ctl_index.specs.Inside.TablesByName.{named_rows, named_offers, named_namers}
 use Rattle.ctl_index.proofs.NameLemmas.{changed, used_either, on_ok_map}
 use Rattle.ctl_index.proofs.name_table.NameTable.insert.Goals as goal
 

@@ -1,12 +1,12 @@
 use Rattle.std.proofs.Common.{◌≡◌, ℕ, [], List, length, nat_eq, ◌&&◌, not, cond, ap, sym, ◌∙◌}
 use Rattle.std.specs.Str.{bytes_eq}
-use Rattle.ctl_index.specs.TablesByName.{at_name}
+use Rattle.ctl_index.specs.Inside.TablesByName.{at_name}
 use Rattle.ctl_index.specs.declared.keys.Namer.{Namer}
 use Rattle.ctl_index.specs.declared.named.Named.{Named}
 use Rattle.std.specs.FinMap as fin
 use Rattle.std.specs.Option.{option_map_or}
-use Rattle.ctl_index.specs.TablesByName.{rows_under, named_rows, namers_under, named_offers, named_namers}
-use Rattle.ctl_index.specs.TablesOrder.{namer_of, namer_stanza, put_in_order}
+use Rattle.ctl_index.specs.Inside.TablesByName.{rows_under, named_rows, namers_under, named_offers, named_namers}
+use Rattle.ctl_index.specs.Inside.TablesOrder.{namer_of, namer_stanza, put_in_order}
 use Rattle.ctl_index.proofs.RowLemmas.{none_there}
 use Rattle.ctl_index.proofs.NameLemmas.{on_some, none_more, changed, unchanged, part-found, used_written, used_found, used_more_too}
 use Rattle.ctl_index.proofs.name_table.NameTable.put_atom.Goals as goal

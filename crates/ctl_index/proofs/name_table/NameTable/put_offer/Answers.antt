@@ -2,7 +2,7 @@ use Rattle.std.proofs.Common.{[], ◌≡◌, ℕ, List, length, nat_eq, ◌&&◌
 use Rattle.std.specs.BTreeMap.{get}
 use Rattle.std.specs.List.{sum_by}
 use Rattle.std.specs.Str.{bytes_eq}
-use Rattle.ctl_index.specs.TablesByName.{at_name}
+use Rattle.ctl_index.specs.Inside.TablesByName.{at_name}
 use Rattle.ctl_index.specs.declared.keys.Namer.{Namer}
 use Rattle.ctl_index.specs.declared.keys.ClauseKey.{ClauseKey}
 use Rattle.ctl_index.specs.declared.keys.OfferKey.{OfferKey}
@@ -10,10 +10,10 @@ use Rattle.ctl_index.specs.declared.named.Named.{Named}
 use Rattle.ctl_index.specs.Clauses.{clause_cmp}
 use Rattle.std.specs.FinMap as fin
 use Rattle.std.specs.Option.{option_map_or}
-use Rattle.ctl_index.specs.TablesByName.{rows_under, named_rows, offers_under, namers_under, named_offers, named_namers}
-use Rattle.ctl_index.specs.TablesCounters.{counted_up}
-use Rattle.ctl_index.specs.TablesSight.{hit}
-use Rattle.ctl_index.specs.TablesOrder.{offer_stanza, put_in_order}
+use Rattle.ctl_index.specs.Inside.TablesByName.{rows_under, named_rows, offers_under, namers_under, named_offers, named_namers}
+use Rattle.ctl_index.specs.Inside.TablesCounters.{counted_up}
+use Rattle.ctl_index.specs.Inside.TablesSight.{hit}
+use Rattle.ctl_index.specs.Inside.TablesOrder.{offer_stanza, put_in_order}
 use Rattle.ctl_index.proofs.RowLemmas.{none_there}
 use Rattle.ctl_index.proofs.NameLemmas.{on_some, on_ok_map, none_more, changed, unchanged, part-found, used_written, used_found, used_more}
 use Rattle.ctl_index.proofs.name_table.NameTable.put_offer.Goals as goal

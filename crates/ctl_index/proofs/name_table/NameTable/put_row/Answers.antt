@@ -3,7 +3,7 @@ use Rattle.std.specs.FinMap as fin
 use Rattle.ctl_policy.specs.Kept.{HasPut}
 use Rattle.ctl_policy.specs.Rows.{Rows}
 use Rattle.ctl_index.specs.declared.named.Named.{Named}
-use Rattle.ctl_index.specs.TablesByName.{rows_under, named_offers, named_namers, named_rows}
+use Rattle.ctl_index.specs.Inside.TablesByName.{rows_under, named_offers, named_namers, named_rows}
 use Rattle.ctl_index.proofs.RowLemmas.{none_there, put_there}
 use Rattle.ctl_index.proofs.NameLemmas.{on_some, unchanged, part-found, used_written, used_found, used_rows, put_used, none_under, none_more, own_rows, rows_own, rows_others, on_ok, on_ok_map}
 use Rattle.ctl_index.proofs.name_table.NameTable.put_row.Goals as goal

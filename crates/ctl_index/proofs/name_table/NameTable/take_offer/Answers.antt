@@ -7,9 +7,9 @@ use Rattle.ctl_policy.specs.Rows.{Rows}
 use Rattle.ctl_index.specs.declared.named.Named.{Named}
 use Rattle.ctl_index.specs.Clauses.{clause_cmp}
 use Rattle.std.specs.FinMap as fin
-use Rattle.ctl_index.specs.TablesByName.{IsSetAt, rows_under, named_rows, offers_under, namers_under, named_offers, named_namers}
-use Rattle.ctl_index.specs.TablesSight.{hit}
-use Rattle.ctl_index.specs.TablesOrder.{others, offer_stanza}
+use Rattle.ctl_index.specs.Inside.TablesByName.{IsSetAt, rows_under, named_rows, offers_under, namers_under, named_offers, named_namers}
+use Rattle.ctl_index.specs.Inside.TablesSight.{hit}
+use Rattle.ctl_index.specs.Inside.TablesOrder.{others, offer_stanza}
 use Rattle.ctl_index.proofs.NameLemmas.{on_some, changed, unchanged, replaced, part-found, used_written, used_found, used_replaced, nothing_left, same_either}
 use Rattle.ctl_index.proofs.name_table.NameTable.take_offer.Goals as goal
 

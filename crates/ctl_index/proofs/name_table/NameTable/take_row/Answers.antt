@@ -7,7 +7,7 @@ use Rattle.ctl_index.specs.declared.named.Named.{Named}
 use Rattle.std.specs.Str.{bytes_eq}
 use Rattle.ctl_index.specs.declared.keys.Namer.{Namer}
 use Rattle.ctl_index.specs.declared.keys.OfferKey.{OfferKey}
-use Rattle.ctl_index.specs.TablesByName.{IsSetAt, offers_under, namers_under, rows_under, named_offers, named_namers, named_rows}
+use Rattle.ctl_index.specs.Inside.TablesByName.{IsSetAt, offers_under, namers_under, rows_under, named_offers, named_namers, named_rows}
 use Rattle.ctl_index.proofs.RowLemmas.{none_taken}
 use Rattle.ctl_index.proofs.NameLemmas.{on_some, unchanged, replaced, part-found, used_written, used_replaced, nothing_left, same_either, none_under, rows_own, rows_others, rows_replaced, others_replaced}
 use Rattle.ctl_index.proofs.name_table.NameTable.take_row.Goals as goal

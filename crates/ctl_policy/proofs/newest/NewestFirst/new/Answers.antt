@@ -1,7 +1,7 @@
 use Rattle.std.proofs.Common.{ap, sym, subst, map, ◌∙◌}
 use Rattle.ctl_policy.specs.Rows.{keys_of_row, newest_first}
-use Rattle.ctl_policy.specs.HeldRows.{rows_of_form, IsOrderedForm}
-use Rattle.ctl_policy.specs.HeldIter.{items_left}
+use Rattle.ctl_policy.specs.Inside.HeldRows.{rows_of_form, IsOrderedForm}
+use Rattle.ctl_policy.specs.Inside.HeldIter.{items_left}
 use Rattle.ctl_policy.proofs.ShownLemmas.{empty_left, one_is_left, many_left}
 use Rattle.ctl_policy.proofs.newest.NewestFirst.new.Goals as goal
 

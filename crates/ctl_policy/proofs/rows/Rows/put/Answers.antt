@@ -1,6 +1,6 @@
 use Rattle.std.proofs.Common.{subst}
 use Rattle.ctl_policy.specs.Kept.{HasPut, HasSame}
-use Rattle.ctl_policy.specs.HeldRows.{rows_of_form}
+use Rattle.ctl_policy.specs.Inside.HeldRows.{rows_of_form}
 use Rattle.ctl_policy.proofs.ShownLemmas.{put_shown, put_formed, same_shown, same_formed, on_ok_map, on_err_map, either_way}
 use Rattle.ctl_policy.proofs.rows.Rows.put.Goals as goal
 

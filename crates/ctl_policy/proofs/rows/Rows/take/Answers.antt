@@ -1,6 +1,6 @@
 use Rattle.std.proofs.Common.{subst}
 use Rattle.ctl_policy.specs.Kept.{HasTaken}
-use Rattle.ctl_policy.specs.HeldRows.{rows_of_form}
+use Rattle.ctl_policy.specs.Inside.HeldRows.{rows_of_form}
 use Rattle.ctl_policy.proofs.ShownLemmas.{take_shown, take_formed}
 use Rattle.ctl_policy.proofs.rows.Rows.take.Goals as goal
 

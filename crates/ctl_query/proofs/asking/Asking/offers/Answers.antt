@@ -1,7 +1,7 @@
 use Rattle.std.proofs.Common.{subst, map}
 use Rattle.ctl_relation.specs.Parts.{OfferParts}
 use Rattle.ctl_store.specs.declared.stanza_key.StanzaKey.{StanzaKey}
-use Rattle.ctl_store.specs.Held.{Held, keyed_of}
+use Rattle.ctl_store.specs.Store.{Held, keyed_of}
 use Rattle.ctl_store.specs.Keys.{AreHeld}
 use Rattle.ctl_query.proofs.asking.Asking.offers.Goals as goal
 

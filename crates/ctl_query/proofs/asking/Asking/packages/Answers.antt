@@ -1,5 +1,5 @@
 use Rattle.std.proofs.Common.{◌∙◌, ap}
-use Rattle.ctl_store.specs.Held.{Held}
+use Rattle.ctl_store.specs.Store.{Held}
 use Rattle.ctl_policy.specs.Priority.{world_of}
 use Rattle.ctl_query.specs.Packages.{packages_of}
 use Rattle.ctl_query.proofs.PackageLemmas.{are_packages}

@@ -1,6 +1,6 @@
 use Rattle.std.proofs.Common.{subst}
 use Rattle.std.specs.List.{AllByRecursion}
-use Rattle.ctl_store.specs.Held.{Held, keyed_of}
+use Rattle.ctl_store.specs.Store.{Held, keyed_of}
 use Rattle.ctl_store.specs.Keys.{AreHeld}
 use Rattle.ctl_query.proofs.asking.Asking.rows.Goals as goal
 

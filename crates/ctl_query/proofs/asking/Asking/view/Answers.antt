@@ -1,6 +1,6 @@
 use Rattle.std.proofs.Common.{subst, sym}
 use Rattle.std.specs.List.{AllByRecursion}
-use Rattle.ctl_store.specs.Held.{Held, keyed_of}
+use Rattle.ctl_store.specs.Store.{Held, keyed_of}
 use Rattle.ctl_store.specs.Keys.{AreHeld, AreRising, all_keys}
 use Rattle.ctl_query.proofs.RowRisingLemmas.{rows_rise}
 use Rattle.ctl_query.proofs.asking.Asking.view.Goals as goal

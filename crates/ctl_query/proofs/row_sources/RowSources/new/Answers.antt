@@ -1,7 +1,7 @@
 use Rattle.std.proofs.Common.{subst}
 use Rattle.std.specs.List.{IsDistinct}
 use Rattle.std.specs.Str.{bytes_eq}
-use Rattle.ctl_store.specs.Held.{keyed_of}
+use Rattle.ctl_store.specs.Store.{keyed_of}
 use Rattle.ctl_query.proofs.RowSourceLemmas.{holders_are_sources}
 use Rattle.ctl_query.proofs.SourceLemmas.{names_of_state}
 use Rattle.ctl_query.proofs.row_sources.RowSources.new.Goals as goal

@@ -1,9 +1,9 @@
 use Rattle.std.proofs.Common.{◌≡◌, ◌∙◌, Some, ◌∷◌, [], sym, ap, option_copied, option_map}
 use Rattle.ctl_store.specs.Step.{place}
 use Rattle.ctl_store.specs.Rows.{by_name_and_version}
-use Rattle.ctl_store.specs.HeldPieces.{joined, place_of_spot}
+use Rattle.ctl_store.specs.Inside.HeldPieces.{joined, place_of_spot}
 use Rattle.ctl_store.specs.Keys.{KeyedList, found_key, key_at, key_of, new_list}
-use Rattle.ctl_store.specs.Held.{keyed_list}
+use Rattle.ctl_store.specs.Store.{keyed_list}
 use Rattle.ctl_store.proofs.PlaceLemmas.{place_within}
 use Rattle.ctl_store.proofs.OrderLemmas.{key_read}
 use Rattle.ctl_store.proofs.held_list.HeldList.found_key.Goals as goal

@@ -1,7 +1,7 @@
 use Rattle.std.proofs.Common.{◌∙◌, ◌++◌, map, length, ap, arith}
 use Rattle.ctl_store.specs.Rows.{rows_from, sorted_serials}
-use Rattle.ctl_store.specs.HeldPieces.{joined}
-use Rattle.ctl_store.specs.Held.{ListRoom}
+use Rattle.ctl_store.specs.Inside.HeldPieces.{joined}
+use Rattle.ctl_store.specs.Plans.{ListRoom}
 use Rattle.ctl_store.proofs.OrderLemmas.{length-serials, held_sorted}
 use Rattle.ctl_store.proofs.held_list.HeldList.new.Goals as goal
 use Rattle.std.proofs.lemmas.List.{length-map}

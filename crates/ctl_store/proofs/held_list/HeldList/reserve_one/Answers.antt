@@ -1,5 +1,5 @@
 use Rattle.std.proofs.Common.{length, ap, arith}
-use Rattle.ctl_store.specs.HeldPieces.{joined}
+use Rattle.ctl_store.specs.Inside.HeldPieces.{joined}
 use Rattle.ctl_store.proofs.OrderLemmas.{length-order}
 use Rattle.ctl_store.proofs.ListedLemmas.{on_ok_map}
 use Rattle.ctl_store.proofs.held_list.HeldList.reserve_one.Goals as goal

@@ -1,6 +1,6 @@
 use Rattle.std.proofs.Common.{◌≡◌, ◌∙◌, ◌∷◌, ◌++◌, [], length, ap, sym, arith, append_assoc}
 use Rattle.std.proofs.lemmas.List.{append-nil, nil_from_length}
-use Rattle.ctl_store.specs.HeldPieces.{joined}
+use Rattle.ctl_store.specs.Inside.HeldPieces.{joined}
 use Rattle.ctl_store.proofs.pieces.Pieces.extend.Goals as goal
 
 pub loop-item-init : goal.loop-item-init

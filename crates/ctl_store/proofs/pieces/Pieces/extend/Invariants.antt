@@ -1,5 +1,5 @@
 use Rattle.std.proofs.Common.{◌≡◌, ◌≤◌, ◌++◌, length}
-use Rattle.ctl_store.specs.HeldPieces.{joined, IsFit, room_at_end}
+use Rattle.ctl_store.specs.Inside.HeldPieces.{joined, IsFit, room_at_end}
 use Rattle.ctl_store.proofs.pieces.Pieces.extend.Given as goal
 
 abbrev pub invariant-loop-item : goal.invariant-loop-item

@@ -3,8 +3,8 @@ use Rattle.std.specs.List.{insert}
 use Rattle.std.specs.Map.{lookup}
 use Rattle.ctl_ordered.specs.Ordered.{entries, rows_put, next_put}
 use Rattle.ctl_store.specs.Pins.{selector_eq}
-use Rattle.ctl_store.specs.HeldRanks.{IsRanked, labels_of, sorted_labels, labels_below}
-use Rattle.ctl_store.specs.HeldPins.{own_label, own_row}
+use Rattle.ctl_store.specs.Inside.HeldRanks.{IsRanked, labels_of, sorted_labels, labels_below}
+use Rattle.ctl_store.specs.Inside.HeldPins.{own_label, own_row}
 use Rattle.ctl_store.proofs.OwnLemmas.{own_set, own_push}
 use Rattle.ctl_store.proofs.SoundLemmas.{next_most, put_fresh}
 use Rattle.ctl_store.proofs.pin_table.PinTable.put.Goals.{in-Some, in-None+in-Ok}

@@ -2,8 +2,8 @@ use Rattle.std.proofs.Common.{◌≡◌, ◌∙◌, ap, sym, subst, arith}
 use Rattle.ctl_ordered.specs.Ordered.{cut_row}
 use Rattle.ctl_ordered.proofs.QueueLemmas.{taken}
 use Rattle.ctl_store.specs.Pins.{selector_eq}
-use Rattle.ctl_store.specs.HeldRanks.{IsRanked}
-use Rattle.ctl_store.specs.HeldPins.{own_row}
+use Rattle.ctl_store.specs.Inside.HeldRanks.{IsRanked}
+use Rattle.ctl_store.specs.Inside.HeldPins.{own_row}
 use Rattle.ctl_store.proofs.OwnLemmas.{own_within, own_cut, own_none}
 use Rattle.ctl_store.proofs.pin_table.PinTable.remove.Goals.{in-Some, in-None}
 use Rattle.ctl_store.proofs.pin_table.PinTable.remove.Goals as goal

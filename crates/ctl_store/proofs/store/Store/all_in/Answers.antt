@@ -2,7 +2,7 @@ use Rattle.std.proofs.Common.{◌≡◌, rules}
 use Rattle.std.proofs.lemmas.Iterator.{items_from_collect}
 use Rattle.std.proofs.lemmas.Iterator.Consumers.{YieldsList-from_first}
 use Rattle.ctl_store.specs.Keys.{all_in}
-use Rattle.ctl_store.specs.Held.{lists_of}
+use Rattle.ctl_store.specs.Store.{lists_of}
 use Rattle.ctl_store.proofs.ListedLemmas.{at_name_lists}
 use Rattle.ctl_store.proofs.store.Store.all_in.Goals as goal
 

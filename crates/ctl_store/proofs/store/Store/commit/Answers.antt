@@ -4,7 +4,9 @@ use Rattle.ctl_store.specs.Step.{refusal_of}
 use Rattle.ctl_store.specs.Keys.{Keyed, keyed_after, removed_of, IsNotAmong, stanza_at, AreCome, AreGone}
 use Rattle.ctl_store.specs.Entries.{IsChange}
 use Rattle.ctl_store.specs.Given.{IsGivenOnce}
-use Rattle.ctl_store.specs.Held.{state_of, keyed_of, lists_of, HasRoom, InOrder}
+use Rattle.ctl_store.specs.Store.{state_of, keyed_of, lists_of}
+use Rattle.ctl_store.specs.Plans.{HasRoom}
+use Rattle.ctl_store.specs.Inside.Held.{InOrder}
 use Rattle.ctl_store.proofs.ListedLemmas.{stays_law}
 use Rattle.ctl_store.proofs.ChangeLemmas.{come_law, gone_law, not_added}
 use Rattle.ctl_store.proofs.EntryLemmas.{change_law}

@@ -1,7 +1,7 @@
 use Rattle.std.proofs.Common.{subst, ◌+◌}
 use Rattle.ctl_ordered.specs.Ordered as ordered
 use Rattle.ctl_store.specs.Keys.{AreRising, all_keys}
-use Rattle.ctl_store.specs.Held.{lists_of}
+use Rattle.ctl_store.specs.Store.{lists_of}
 use Rattle.ctl_store.proofs.KeyLemmas.{keys_rise}
 use Rattle.ctl_store.proofs.store.Store.counts.Goals as goal
 

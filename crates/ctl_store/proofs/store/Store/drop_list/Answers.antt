@@ -8,7 +8,8 @@ use Rattle.std.specs.Option.{option_map_or}
 use Rattle.ctl_store.specs.Edits.{DropList}
 use Rattle.ctl_store.specs.Step.{after}
 use Rattle.ctl_store.specs.Keys.{stanza_lists, keyed_after}
-use Rattle.ctl_store.specs.Held.{lists_of, state_of, keyed_of, AreNumbered, IsSound}
+use Rattle.ctl_store.specs.Store.{lists_of, state_of, keyed_of}
+use Rattle.ctl_store.specs.Inside.Held.{AreNumbered, IsSound}
 use Rattle.ctl_store.proofs.ListedLemmas.{lists_without, numbered_cut, without_lists}
 use Rattle.ctl_store.proofs.SoundLemmas.{sound_drop}
 use Rattle.ctl_store.proofs.AcceptLemmas.{kind_below, drop_found, count_below, keys_count}

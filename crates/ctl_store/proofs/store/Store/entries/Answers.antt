@@ -2,7 +2,7 @@ use Rattle.std.proofs.Common.{◌∙◌, ◌+◌, ap, sym, subst}
 use Rattle.ctl_ordered.specs.Ordered as ordered
 use Rattle.ctl_store.specs.Keys.{AreRising, all_keys}
 use Rattle.ctl_store.specs.Entries.{entries_of, entry_keys, AreAt}
-use Rattle.ctl_store.specs.Held.{lists_of}
+use Rattle.ctl_store.specs.Store.{lists_of}
 use Rattle.ctl_store.proofs.KeyLemmas.{keys_rise}
 use Rattle.ctl_store.proofs.EntryLemmas.{keys_are_all, entries_found}
 use Rattle.ctl_store.proofs.store.Store.entries.Goals as goal

@@ -1,7 +1,7 @@
 use Rattle.std.proofs.Common.{◌+◌, ◌∙◌, ap, sym}
 use Rattle.ctl_ordered.specs.Ordered as ordered
 use Rattle.ctl_store.specs.Keys.{stanza_at}
-use Rattle.ctl_store.specs.Held.{lists_of}
+use Rattle.ctl_store.specs.Store.{lists_of}
 use Rattle.ctl_store.proofs.KeyLemmas.{look_up, in_entry}
 use Rattle.ctl_store.proofs.FollowedLemmas.{stanza_under}
 use Rattle.ctl_store.proofs.store.Store.find.Goals as goal

@@ -2,7 +2,7 @@ use Rattle.std.proofs.Common.{◌∙◌, ap, sym, nat_lt}
 use Rattle.ctl_ordered.specs.Ordered as ordered
 use Rattle.ctl_store.specs.Step.{has_status}
 use Rattle.ctl_store.specs.Keys.{stanza_lists}
-use Rattle.ctl_store.specs.Held.{lists_of}
+use Rattle.ctl_store.specs.Store.{lists_of}
 use Rattle.ctl_store.proofs.AcceptLemmas.{has_status-counted}
 use Rattle.ctl_store.proofs.store.Store.has_status.Goals as goal
 

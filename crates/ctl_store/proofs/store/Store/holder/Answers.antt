@@ -2,7 +2,7 @@ use Rattle.std.proofs.Common.{ℕ, List, Some, option_map, IsSome, ◌∙◌, ap
 use Rattle.ctl_ordered.specs.Ordered as ordered
 use Rattle.ctl_stanza.specs.Content.{Content}
 use Rattle.ctl_store.specs.Keys.{stanza_at, list_at, holder_of}
-use Rattle.ctl_store.specs.Held.{HeldList, lists_of}
+use Rattle.ctl_store.specs.Store.{HeldList, lists_of}
 use Rattle.ctl_store.proofs.KeyLemmas.{look_up, list_at_entry, not_none, in_entry, holder_is, kind_at}
 use Rattle.ctl_store.proofs.store.Store.holder.Goals as goal
 

@@ -3,7 +3,7 @@ use Rattle.std.proofs.lemmas.Bool.Decides.{nat_tests}
 use Rattle.ctl_store.specs.State.{stanza_count}
 use Rattle.ctl_store.specs.Edits.{edit_of}
 use Rattle.ctl_store.specs.Step.{count_coming}
-use Rattle.ctl_store.specs.Held.{state_of}
+use Rattle.ctl_store.specs.Store.{state_of}
 use Rattle.ctl_store.proofs.AcceptLemmas.{past_is}
 use Rattle.ctl_store.proofs.store.Store.is_past.Goals as goal
 

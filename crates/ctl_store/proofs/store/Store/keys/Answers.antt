@@ -1,6 +1,6 @@
 use Rattle.std.proofs.Common.{◌∙◌, ap}
 use Rattle.ctl_store.specs.Entries.{entry_keys}
-use Rattle.ctl_store.specs.Held.{lists_of}
+use Rattle.ctl_store.specs.Store.{lists_of}
 use Rattle.ctl_store.proofs.EntryLemmas.{keys_are_all}
 use Rattle.ctl_store.proofs.store.Store.keys.Goals as goal
 

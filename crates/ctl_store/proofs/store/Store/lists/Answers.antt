@@ -5,7 +5,7 @@ use Rattle.std.specs.Map.{keys_of as names_of}
 use Rattle.ctl_store.specs.State.{shown_lists}
 use Rattle.ctl_store.specs.Keys.{stanza_lists}
 use Rattle.ctl_store.specs.Kinds.{KeepKinds}
-use Rattle.ctl_store.specs.Held.{lists_of, state_of}
+use Rattle.ctl_store.specs.Store.{lists_of, state_of}
 use Rattle.ctl_store.proofs.ListedLemmas.{shown_entries, names_held}
 use Rattle.ctl_store.proofs.store.Store.lists.Goals as goal
 

@@ -7,7 +7,8 @@ use Rattle.ctl_store.specs.State.{stanza_count}
 use Rattle.ctl_store.specs.Edits.{Put}
 use Rattle.ctl_store.specs.Step.{after, has_stanza, put_stanza, with_stanzas}
 use Rattle.ctl_store.specs.Keys.{stanza_lists, put_keyed, keyed_after}
-use Rattle.ctl_store.specs.Held.{HeldList, lists_of, state_of, keyed_of, IsSound}
+use Rattle.ctl_store.specs.Store.{HeldList, lists_of, state_of, keyed_of}
+use Rattle.ctl_store.specs.Inside.Held.{IsSound}
 use Rattle.ctl_store.proofs.ListedLemmas.{in_order_next, if_some_map, Changes-put, change_lists, put_list, found_count, more_is}
 use Rattle.ctl_store.proofs.SoundLemmas.{sound_change, Keeps, put_keeps}
 use Rattle.ctl_store.proofs.AcceptLemmas.{accepted_edits, put_found, put_count, put_fits}

@@ -6,7 +6,8 @@ use Rattle.ctl_store.specs.State.{stanza_count}
 use Rattle.ctl_store.specs.Edits.{Remove}
 use Rattle.ctl_store.specs.Step.{after, remove_stanza, with_stanzas}
 use Rattle.ctl_store.specs.Keys.{stanza_lists, remove_keyed, keyed_after}
-use Rattle.ctl_store.specs.Held.{lists_of, state_of, keyed_of, IsSound}
+use Rattle.ctl_store.specs.Store.{lists_of, state_of, keyed_of}
+use Rattle.ctl_store.specs.Inside.Held.{IsSound}
 use Rattle.ctl_store.proofs.ListedLemmas.{Changes-remove, change_lists, remove_list}
 use Rattle.ctl_store.proofs.SoundLemmas.{sound_change, remove_keeps}
 use Rattle.ctl_store.proofs.AcceptLemmas.{remove_found, remove_count, count_below}

@@ -6,7 +6,7 @@ use Rattle.ctl_ordered.specs.Ordered as ordered
 use Rattle.ctl_store.specs.Edits.{Mark}
 use Rattle.ctl_store.specs.Step.{after}
 use Rattle.ctl_store.specs.Keys.{stanza_lists}
-use Rattle.ctl_store.specs.Held.{lists_of, state_of, keyed_of}
+use Rattle.ctl_store.specs.Store.{lists_of, state_of, keyed_of}
 use Rattle.ctl_store.proofs.ListedLemmas.{from_entries-put_named}
 use Rattle.ctl_store.proofs.SoundLemmas.{next_most, sound_more}
 use Rattle.ctl_store.proofs.store.Store.set_mark.Goals as goal

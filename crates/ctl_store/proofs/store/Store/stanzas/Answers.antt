@@ -2,7 +2,7 @@ use Rattle.std.proofs.Common.{rules, ◌≡◌, ◌∙◌, ◌+◌, Some, map, a
 use Rattle.ctl_ordered.specs.Ordered as ordered
 use Rattle.ctl_store.specs.Keys.{AreHeld, all_in, stanza_at, stanza_lists}
 use Rattle.ctl_store.specs.State.{stanzas_named}
-use Rattle.ctl_store.specs.Held.{lists_of}
+use Rattle.ctl_store.specs.Store.{lists_of}
 use Rattle.ctl_store.proofs.ListedLemmas.{at_name_lists}
 use Rattle.ctl_store.proofs.KeyLemmas.{keys_find, keys_held}
 use Rattle.ctl_store.proofs.store.Store.stanzas.Goals as goal

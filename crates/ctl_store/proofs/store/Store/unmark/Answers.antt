@@ -4,7 +4,7 @@ use Rattle.ctl_store.specs.Named.{at_name}
 use Rattle.ctl_store.specs.Edits.{Unmark}
 use Rattle.ctl_store.specs.Step.{after}
 use Rattle.ctl_store.specs.Keys.{stanza_lists}
-use Rattle.ctl_store.specs.Held.{lists_of, state_of, keyed_of}
+use Rattle.ctl_store.specs.Store.{lists_of, state_of, keyed_of}
 use Rattle.ctl_store.proofs.ListedLemmas.{from_entries-removed, at_name-without_name}
 use Rattle.ctl_store.proofs.SoundLemmas.{sound_more}
 use Rattle.ctl_store.proofs.store.Store.unmark.Goals as goal

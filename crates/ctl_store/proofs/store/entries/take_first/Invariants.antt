@@ -1,6 +1,6 @@
 use Rattle.std.proofs.Common.{◌≡◌, [], length}
 use Rattle.ctl_store.specs.Entries.{entries_of}
-use Rattle.ctl_store.specs.Held.{lists_of}
+use Rattle.ctl_store.specs.Store.{lists_of}
 use Rattle.ctl_store.proofs.store.entries.take_first.Given as goal
 
 abbrev pub invariant-lists : goal.invariant-lists

@@ -1,5 +1,5 @@
 use Rattle.std.proofs.Common.{ap, ◌∙◌}
-use Rattle.ctl_store.specs.Held.{keyed_of}
+use Rattle.ctl_store.specs.Store.{keyed_of}
 use Rattle.ctl_index.specs.RowsTold.{sources_among}
 use Rattle.ctl_index.proofs.SourceLemmas.{sources_shown}
 use Rattle.ctl_index.proofs.cache.sources.Sources.new.Goals as goal

@@ -3,14 +3,15 @@ use Rattle.std.specs.Prelude.{◌≡◌, ◌<◌, ℕ, ◌+◌, ◌-◌, ◌^◌
 use Rattle.std.specs.List.{AllByRecursion}
 use Rattle.ctl_store.specs.Keys.{keyed_after}
 use Rattle.ctl_store.specs.Entries.{Entry, entries_of, entries_by, without_keys}
-use Rattle.ctl_store.specs.Held.{Held, Planned, keyed_of}
+use Rattle.ctl_store.specs.Store.{Held, keyed_of}
+use Rattle.ctl_store.specs.Plans.{Planned}
 use Rattle.ctl_store.specs.Followed.{AreApart}
 use Rattle.ctl_index.specs.Held.{standing}
 use Rattle.ctl_index.specs.Offers.{contents}
-use Rattle.ctl_index.specs.TablesParts.{IsJoined}
-use Rattle.ctl_index.specs.TablesSight.{seen, AreSeen, in_store, with_plan}
-use Rattle.ctl_index.specs.TablesOrder.{is_within}
-use Rattle.ctl_index.specs.TablesSteps.{span_of}
+use Rattle.ctl_index.specs.Inside.TablesParts.{IsJoined}
+use Rattle.ctl_index.specs.Inside.TablesSight.{seen, AreSeen, in_store, with_plan}
+use Rattle.ctl_index.specs.Inside.TablesOrder.{is_within}
+use Rattle.ctl_index.specs.Inside.TablesSteps.{span_of}
 use Rattle.ctl_index.specs.Work.{pairs}
 
 -- the stanzas that a plan leaves, and those after it

@@ -5,7 +5,7 @@ use Rattle.std.specs.Map.{lookup}
 use Rattle.ctl_store.specs.declared.selector.Selector.{Selector}
 use Rattle.ctl_store.specs.declared.selector.Selector.TheVariants.{Version, Release}
 use Rattle.ctl_store.specs.Pins.{is_of}
-use Rattle.ctl_store.specs.HeldRanks.{Label}
+use Rattle.ctl_store.specs.Inside.HeldRanks.{Label}
 
 -- a table of pin settings, with the room for more, how many come with no memory, and the serial of the next new one
 pub record PinTable : Type 0 where

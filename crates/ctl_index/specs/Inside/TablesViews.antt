@@ -6,13 +6,13 @@ use Rattle.std.specs.Ordering.{nat_cmp, is_le}
 use Rattle.std.specs.Cmp.Lexicographic.{slice_cmp}
 use Rattle.ctl_relation.specs.Parts.{OfferParts}
 use Rattle.ctl_store.specs.declared.stanza_key.StanzaKey.{StanzaKey}
-use Rattle.ctl_store.specs.Held.{Held}
+use Rattle.ctl_store.specs.Store.{Held}
 use Rattle.ctl_index.specs.declared.keys.OfferKey.{OfferKey}
-use Rattle.ctl_index.specs.NameMap.{NamedEntry, entry_names}
+use Rattle.ctl_index.specs.Inside.NameMap.{NamedEntry, entry_names}
 use Rattle.ctl_index.specs.declared.named.Named.{Named}
 use Rattle.ctl_policy.specs.Rows.{newest_first, keys_of_row}
-use Rattle.ctl_index.specs.TablesByName.{named_offers, named_rows}
-use Rattle.ctl_index.specs.TablesSight.{offer_seen, in_store}
+use Rattle.ctl_index.specs.Inside.TablesByName.{named_offers, named_rows}
+use Rattle.ctl_index.specs.Inside.TablesSight.{offer_seen, in_store}
 
 -- the offer under a key, with the key of its stanza
 abbrev pub offer_found : Held → OfferKey → StanzaKey × OfferParts

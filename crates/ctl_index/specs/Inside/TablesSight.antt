@@ -11,14 +11,15 @@ use Rattle.ctl_store.specs.declared.stanza_key.StanzaKey.{StanzaKey}
 use Rattle.ctl_store.specs.Keys.{stanza_at}
 use Rattle.ctl_store.specs.Entries.{Entry}
 use Rattle.ctl_store.specs.Followed.{coming_under}
-use Rattle.ctl_store.specs.Held.{Held, Planned, keyed_of}
+use Rattle.ctl_store.specs.Store.{Held, keyed_of}
+use Rattle.ctl_store.specs.Plans.{Planned}
 use Rattle.ctl_index.specs.declared.keys.ClauseKey.{ClauseKey}
 use Rattle.ctl_index.specs.declared.keys.AtomKey.{AtomKey}
 use Rattle.ctl_index.specs.declared.keys.Namer.{Namer}
 use Rattle.ctl_index.specs.declared.keys.OfferKey.{OfferKey}
 use Rattle.ctl_index.specs.Clauses.{is_clause_field, clause_cmp}
-use Rattle.ctl_index.specs.KeptBound.{with_bound}
-use Rattle.ctl_index.specs.TablesOrder.{namer_key}
+use Rattle.ctl_index.specs.Inside.KeptBound.{with_bound}
+use Rattle.ctl_index.specs.Inside.TablesOrder.{namer_key}
 
 -- a store, and a plan whose stanzas come, if there is one
 pub record Seen : Type 0 where

@@ -4,10 +4,10 @@ use Rattle.ctl_store.specs.declared.stanza_key.StanzaKey.{StanzaKey}
 use Rattle.ctl_store.specs.Entries.{Entry, entries_by}
 use Rattle.ctl_store.specs.Followed.{under, AreApart}
 use Rattle.ctl_policy.specs.Kept.{IsKept}
-use Rattle.ctl_index.specs.TablesByName.{NameMap, rows_under, row_under}
-use Rattle.ctl_index.specs.TablesParts.{IsJoined}
-use Rattle.ctl_index.specs.TablesSight.{Seen, seen}
-use Rattle.ctl_index.specs.TablesSteps.{with_each, put_rows_step, take_rows_step}
+use Rattle.ctl_index.specs.Inside.TablesByName.{NameMap, rows_under, row_under}
+use Rattle.ctl_index.specs.Inside.TablesParts.{IsJoined}
+use Rattle.ctl_index.specs.Inside.TablesSight.{Seen, seen}
+use Rattle.ctl_index.specs.Inside.TablesSteps.{with_each, put_rows_step, take_rows_step}
 
 -- in the row of each name and version stand the keys of its live stanzas, in order
 abbrev pub AreKept : List Entry → NameMap → Type 0

@@ -6,7 +6,7 @@ use Rattle.std.specs.Ordering.{is_lt, is_le, is_ge, is_gt}
 use Rattle.ctl_store.specs.declared.stanza_key.StanzaKey.{StanzaKey}
 use Rattle.ctl_store.specs.Keys.{key_cmp}
 use Rattle.ctl_relation.specs.Parts.{AtomParts}
-use Rattle.ctl_index.specs.KeptBound.{kept_of}
+use Rattle.ctl_index.specs.Inside.KeptBound.{kept_of}
 use Rattle.ctl_index.specs.declared.keys.AtomKey.{AtomKey}
 use Rattle.ctl_index.specs.declared.keys.Namer.{Namer}
 use Rattle.ctl_index.specs.declared.keys.OfferKey.{OfferKey}

@@ -13,8 +13,8 @@ use Rattle.ctl_policy.specs.Rows.{Rows}
 use Rattle.ctl_index.specs.declared.keys.Namer.{Namer}
 use Rattle.ctl_index.specs.declared.keys.OfferKey.{OfferKey}
 use Rattle.ctl_index.specs.declared.span.Span.{Span}
-use Rattle.ctl_index.specs.ShortName.{most_short}
-use Rattle.ctl_index.specs.TablesOrder.{offer_stanza, namer_stanza, put_in_order, others}
+use Rattle.ctl_index.specs.Inside.ShortName.{most_short}
+use Rattle.ctl_index.specs.Inside.TablesOrder.{offer_stanza, namer_stanza, put_in_order, others}
 use Rattle.ctl_index.specs.contracts.name_map.NameMap.{the_row}
 use Rattle.ctl_index.specs.contracts.named.Named.{the_row as named_row}
 use Rattle.ctl_index.specs.declared.named.Named.{Named}

@@ -5,7 +5,7 @@ use Rattle.std.specs.Cmp.Lexicographic.{slice_cmp}
 use Rattle.std.specs.declared.cmp.Ordering.{Ordering}
 use Rattle.ctl_store.specs.declared.selector.Selector.{Selector}
 use Rattle.ctl_store.specs.declared.selector.Selector.TheVariants.{Version, Release}
-use Rattle.ctl_store.specs.Sorted.{sorted_in, below_in, labelled, order_in, IsRankedBy}
+use Rattle.ctl_store.specs.Inside.Sorted.{sorted_in, below_in, labelled, order_in, IsRankedBy}
 
 -- what a row is found by
 pub record Label : Type 0 where

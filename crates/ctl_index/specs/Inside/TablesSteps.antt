@@ -16,11 +16,11 @@ use Rattle.ctl_index.specs.declared.keys.ClauseKey.{ClauseKey}
 use Rattle.ctl_index.specs.declared.keys.Namer.{Namer}
 use Rattle.ctl_index.specs.declared.keys.OfferKey.{OfferKey}
 use Rattle.ctl_index.specs.declared.span.Span.{Span}
-use Rattle.ctl_index.specs.TablesCounters.{counted_up}
-use Rattle.ctl_index.specs.TablesOrder.{offer_stanza, namer_of, namer_stanza, put_in_order, others}
+use Rattle.ctl_index.specs.Inside.TablesCounters.{counted_up}
+use Rattle.ctl_index.specs.Inside.TablesOrder.{offer_stanza, namer_of, namer_stanza, put_in_order, others}
 use Rattle.ctl_index.specs.Clauses.{is_clause_field, clause_cmp}
 use Rattle.ctl_index.specs.Names.{atom_key, naming_fields}
-use Rattle.ctl_index.specs.TablesSight.{Seen, seen, hit, tested, atom_met, atom_tested}
+use Rattle.ctl_index.specs.Inside.TablesSight.{Seen, seen, hit, tested, atom_met, atom_tested}
 
 -- ---- what comes under a name q
 

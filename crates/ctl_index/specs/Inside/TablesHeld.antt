@@ -7,8 +7,8 @@ use Rattle.ctl_index.specs.declared.keys.Namer.{Namer}
 use Rattle.ctl_index.specs.declared.keys.OfferKey.{OfferKey}
 use Rattle.ctl_index.specs.declared.tables.Tables.{Tables}
 use Rattle.ctl_index.specs.Clauses.{clause_cmp}
-use Rattle.ctl_index.specs.TablesByName.{offers_under, namers_under, rows_under}
-use Rattle.ctl_index.specs.TablesCounters.{told}
+use Rattle.ctl_index.specs.Inside.TablesByName.{offers_under, namers_under, rows_under}
+use Rattle.ctl_index.specs.Inside.TablesCounters.{told}
 use Rattle.ctl_index.specs.Work.{more_by}
 
 -- what stands under a name: its offers, the atoms that name it, its rows

@@ -14,7 +14,7 @@ use Rattle.ctl_policy.specs.Priority.{World, row_priority}
 use Rattle.ctl_policy.specs.Candidate.{Choice, better, may_be_taken}
 use Rattle.ctl_policy.specs.declared.form.Form.{Form}
 use Rattle.ctl_policy.specs.declared.form.Form.TheVariants.{Empty, One, Many}
-use Rattle.ctl_policy.specs.HeldRows.{shown_row}
+use Rattle.ctl_policy.specs.Inside.HeldRows.{shown_row}
 
 -- each stanza of each row stands in the lists
 abbrev pub AreHeldIn : Lists → List (List ℕ × Vec StanzaKey Global) → Type 0

@@ -3,7 +3,7 @@ use Rattle.std.specs.Prelude.{◌≡◌, ℕ, Bool, true, false, List, Vec}
 use Rattle.std.specs.List.{insert}
 use Rattle.std.specs.List.Sorted.{IsPartitionPoint}
 use Rattle.ctl_store.specs.declared.pieces.Spot.{Spot}
-use Rattle.ctl_store.specs.HeldPieces.{joined, place_of_spot}
+use Rattle.ctl_store.specs.Inside.HeldPieces.{joined, place_of_spot}
 
 -- the first items pass a test, so many, and none after them
 abbrev pub IsEnd : {X : Type 0} → (X → Bool) → List X → ℕ → Type 0

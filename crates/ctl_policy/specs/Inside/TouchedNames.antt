@@ -9,7 +9,7 @@ use Rattle.ctl_store.specs.declared.selector.Selector.{Selector}
 use Rattle.ctl_store.specs.declared.selector.Selector.TheVariants.{Version, Release}
 use Rattle.ctl_store.specs.Entries.{Entry}
 use Rattle.ctl_store.specs.Keys.{stanza_at, all_in}
-use Rattle.ctl_store.specs.Held.{Held, state_of}
+use Rattle.ctl_store.specs.Store.{Held, state_of}
 use Rattle.ctl_store.specs.State.{shown_lists}
 use Rattle.ctl_policy.specs.Rows.{Lists}
 use Rattle.ctl_policy.specs.Priority.{World, Settings, list_priority, world_of}

@@ -4,9 +4,9 @@ use Rattle.std.specs.Option.{option_map_or}
 use Rattle.ctl_store.specs.declared.stanza_key.StanzaKey.{StanzaKey}
 use Rattle.ctl_index.specs.declared.keys.AtomKey.{AtomKey}
 use Rattle.ctl_index.specs.declared.named.Named.{Named}
-use Rattle.ctl_index.specs.TablesByName.{named_offers, named_namers}
-use Rattle.ctl_index.specs.TablesOrder.{namer_key}
-use Rattle.ctl_index.specs.TablesViews.{shown_rows, offering}
+use Rattle.ctl_index.specs.Inside.TablesByName.{named_offers, named_namers}
+use Rattle.ctl_index.specs.Inside.TablesOrder.{namer_key}
+use Rattle.ctl_index.specs.Inside.TablesViews.{shown_rows, offering}
 
 -- whether a name is known, its rows, newest first, each by the keys of its stanzas, the stanzas that offer it, and the atoms that
 -- name it

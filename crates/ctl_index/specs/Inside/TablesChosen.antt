@@ -8,7 +8,8 @@ use Rattle.std.specs.BTreeMap.{BTreeMap}
 use Rattle.ctl_store.specs.Step.{after}
 use Rattle.ctl_store.specs.Keys.{all_keys, AreRising, AreCome, keyed_after}
 use Rattle.ctl_store.specs.Entries.{IsChange}
-use Rattle.ctl_store.specs.Held.{Held, Planned, IsReady, keyed_of, state_of}
+use Rattle.ctl_store.specs.Store.{Held, keyed_of, state_of}
+use Rattle.ctl_store.specs.Plans.{Planned, IsReady}
 use Rattle.ctl_policy.specs.declared.chosen.Chosen.{Chosen}
 use Rattle.ctl_policy.specs.Priority.{World}
 use Rattle.ctl_policy.specs.Chosen.{at_bytes, kept_of, place_of}

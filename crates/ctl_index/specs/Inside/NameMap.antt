@@ -7,7 +7,7 @@ use Rattle.std.specs.Map.{lookup}
 use Rattle.std.specs.Ordering.{nat_cmp, is_lt}
 use Rattle.std.specs.Str.{bytes_eq}
 use Rattle.ctl_policy.specs.Chosen.{at_bytes}
-use Rattle.ctl_index.specs.ShortName.{most_short}
+use Rattle.ctl_index.specs.Inside.ShortName.{most_short}
 use Rattle.ctl_index.specs.declared.named.Named.{Named}
 
 -- short names stand in the first, and longer ones in the second

@@ -14,12 +14,12 @@ use Rattle.ctl_index.specs.declared.span.Span.{Span}
 use Rattle.ctl_index.specs.declared.tables.Tables.{Tables}
 use Rattle.ctl_index.specs.Clauses.{number_at}
 use Rattle.ctl_index.specs.Names.{keyed_atoms}
-use Rattle.ctl_index.specs.TablesHeld.{offers_in, namers_in, number_in}
-use Rattle.ctl_index.specs.TablesFit.{IsWholeAt, AreWhole}
-use Rattle.ctl_index.specs.TablesOrder.{namer_of}
-use Rattle.ctl_index.specs.TablesRows.{AreKept, AreRowsPut, AreRowsTaken}
-use Rattle.ctl_index.specs.TablesSight.{Seen, seen}
-use Rattle.ctl_index.specs.TablesSteps.{with_each, span_of, put_offers_step, put_atoms_step, take_offers_step, take_atoms_step, raise_step, lower_step, enter_step, drop_step, offers_tested, atoms_tested}
+use Rattle.ctl_index.specs.Inside.TablesHeld.{offers_in, namers_in, number_in}
+use Rattle.ctl_index.specs.Inside.TablesFit.{IsWholeAt, AreWhole}
+use Rattle.ctl_index.specs.Inside.TablesOrder.{namer_of}
+use Rattle.ctl_index.specs.Inside.TablesRows.{AreKept, AreRowsPut, AreRowsTaken}
+use Rattle.ctl_index.specs.Inside.TablesSight.{Seen, seen}
+use Rattle.ctl_index.specs.Inside.TablesSteps.{with_each, span_of, put_offers_step, put_atoms_step, take_offers_step, take_atoms_step, raise_step, lower_step, enter_step, drop_step, offers_tested, atoms_tested}
 
 abbrev pub keyed_offers_from : StanzaKey → ℕ → List OfferParts → List (OfferKey × OfferParts)
 keyed_offers_from key n [] = []

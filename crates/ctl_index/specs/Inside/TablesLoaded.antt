@@ -14,13 +14,13 @@ use Rattle.ctl_index.specs.declared.tables.Tables.{Tables}
 use Rattle.ctl_index.specs.Clauses.{clause_cmp, clause_of}
 use Rattle.ctl_index.specs.Names.{keyed_atoms}
 use Rattle.ctl_index.specs.Offers.{contents, offers_among}
-use Rattle.ctl_index.specs.TablesByName.{offers_under, namers_under}
-use Rattle.ctl_index.specs.TablesCounters.{counted_up}
-use Rattle.ctl_index.specs.TablesFit.{IsWholeAt}
-use Rattle.ctl_index.specs.TablesIndexed.{keyed_offers, offer_named, atom_named}
-use Rattle.ctl_index.specs.TablesRows.{AreRowsPut}
-use Rattle.ctl_index.specs.TablesSight.{Seen, seen, hit}
-use Rattle.ctl_index.specs.TablesSteps.{group_met}
+use Rattle.ctl_index.specs.Inside.TablesByName.{offers_under, namers_under}
+use Rattle.ctl_index.specs.Inside.TablesCounters.{counted_up}
+use Rattle.ctl_index.specs.Inside.TablesFit.{IsWholeAt}
+use Rattle.ctl_index.specs.Inside.TablesIndexed.{keyed_offers, offer_named, atom_named}
+use Rattle.ctl_index.specs.Inside.TablesRows.{AreRowsPut}
+use Rattle.ctl_index.specs.Inside.TablesSight.{Seen, seen, hit}
+use Rattle.ctl_index.specs.Inside.TablesSteps.{group_met}
 
 -- a sum over the offers of a name, and over the atoms that name it, of stanzas
 abbrev pub offers_sum : List ℕ → (OfferKey → ℕ) → List Entry → ℕ

@@ -1,0 +1,20 @@
+-- How things are held, and the steps of what is proved. Not for callers.
+pub mod KeptBound
+pub mod NameMap
+pub mod NameView
+pub mod OfferList
+pub mod ShortName
+pub mod TablesByName
+pub mod TablesChosen
+pub mod TablesCounters
+pub mod TablesFit
+pub mod TablesFollowed
+pub mod TablesHeld
+pub mod TablesIndexed
+pub mod TablesLoaded
+pub mod TablesOrder
+pub mod TablesParts
+pub mod TablesRows
+pub mod TablesSight
+pub mod TablesSteps
+pub mod TablesViews

@@ -1,0 +1,8 @@
+-- How things are held, and the steps of what is proved. Not for callers.
+pub mod HeldIter
+pub mod HeldRead
+pub mod HeldRows
+pub mod HeldSpan
+pub mod HeldWalk
+pub mod NewPlaces
+pub mod TouchedNames
