@@ -38,6 +38,7 @@ impl NamedBox {
         Ok(NamedBox { named })
     }
 
+    /// What stands there.
     pub(crate) fn get(&self) -> &Named
         ensures { result.now ≡ self.now }
     {
@@ -46,7 +47,8 @@ impl NamedBox {
 
     /// The same, to be changed.
     pub(crate) fn get_mut(&mut self) -> Option<&mut Named>
-        ensures* writes_back { sem 𝓛 (LendsSo the_row named_row self.entry result (λ n named. OnSome result (n ≡ named)) (λ n. n ≡ self.entry.now)) }
+        ensures* writes_back { sem 𝓛 (LendsSo the_row named_row self.entry result
+            (λ n named. OnSome result (n ≡ named)) (λ n. n ≡ self.entry.now)) }
         ensures value { option_copied_mut result ≡ Some self.old }
     {
         Some(self.named.as_mut())
