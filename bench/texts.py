@@ -3,8 +3,8 @@
 
     bench/texts.py [PACKAGES]
 
-Prints the time and the peak memory of reading a Packages file, the peak as a multiple of the text, which is held too, and
-both as ratios to `grep-dctrl -c ''` on the same file in the same run, where dctrl-tools are installed. Then the same
+Prints the time and the peak memory of reading a Packages file block by block, as the program reads one, to stanzas that are
+held, the peak as a multiple of the text, and both as ratios to `grep-dctrl -c ''` on the same file in the same run, where dctrl-tools are installed. Then the same
 without a peer for texts whose shapes cost most, each at a quarter of its size and whole: where work grows as n log n the
 whole takes a little more than four times as long. Without PACKAGES a list of 60,000 stanzas is made. `rt run` in
 crates/probe builds the program that is measured. A peak can't be told that is less than the memory of this script,

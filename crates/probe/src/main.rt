@@ -10,7 +10,8 @@
 //!   and how much memory their groups take is printed instead.
 //! - `text`: `packages`, `status` or `records`, a tab, and a text; it is answered by its stanzas or
 //!   records with all their parts, or by its fault. With one of these words as second argument the whole of standard input is
-//!   one such text, and how many stanzas or records it has is printed instead.
+//!   one such text, and how many stanzas or records it has is printed instead; a list is read block by block, as the program
+//!   reads one.
 //! - `index`: the same edits of a kept cache as of a store; each is answered by `ok`, or `refused` and the number of the refusal, and then the
 //!   count of tests. `limits` begins with a new cache; `views` is answered by all that the tables tell, which are made anew
 //!   before that where they are stale; `packages`, with a prefix, by the names of packages that begin so; `policies` by the priorities of
@@ -49,18 +50,24 @@ mod writing;
 
 use anyhow::{Error, Result, bail};
 use caches::say_followed;
-use ctl_stanza::ListKind;
+use ctl_stanza::{ListKind, StanzaReader, TextFault};
 use ctl_store::Edit;
 use edits::main_list;
 use kept::{Held, Kept};
 use relations::say_field;
 use said::{OUT_OF_MEMORY, Said};
 use std::env;
-use std::io::{BufRead, BufReader};
+use std::io::{BufRead, BufReader, Read};
 use stores::say_change;
-use texts::{TextKind, list_kind_named, say_count, say_text, text_kind_named};
+use texts::{
+    TextKind, list_kind_named, read_block, say_count_of_records, say_count_of_stanzas, say_text,
+    text_kind_named,
+};
 use words::{Form, Word, Words, read_words};
 use writing::{read_all, write_line};
+
+// How many bytes of a list are read at once.
+const BLOCK: usize = 65_536;
 
 /// What a line is.
 #[derive(Clone, Copy)]
@@ -235,11 +242,41 @@ fn answer_lines(rt: &HostRuntime, kept: &mut Kept, first: Subject) -> Result<()>
     Ok(())
 }
 
-fn count_parts(rt: &HostRuntime, kind: TextKind) -> Result<()> {
+fn write_count(rt: &HostRuntime, reading: Result<StanzaReader, TextFault>) -> Result<()> {
+    let mut said = Said::new(rt.alloc());
+    say_count_of_stanzas(reading, &mut said);
+    write_line(rt, said)
+}
+
+// A list is read block by block, as the program reads one.
+fn count_stanzas(rt: &HostRuntime, kind: ListKind) -> Result<()> {
+    let alloc = rt.alloc();
+    let mut input = rt.reader();
+    let mut block = Vec::new(alloc);
+    block.resize(BLOCK, 0)?;
+    let mut reading = Ok(StanzaReader::new(alloc, 1, kind));
+    for _ in 0..u32::MAX {
+        let count = input.read(&mut block)?;
+        if count == 0 {
+            return write_count(rt, reading);
+        }
+        reading = read_block(alloc, reading, &block[..count]);
+    }
+    bail!("the list has too many blocks")
+}
+
+fn count_records(rt: &HostRuntime) -> Result<()> {
     let text = read_all(rt)?;
     let mut said = Said::new(rt.alloc());
-    say_count(rt.alloc(), kind, &text, &mut said);
+    say_count_of_records(&text, &mut said);
     write_line(rt, said)
+}
+
+fn count_parts(rt: &HostRuntime, kind: TextKind) -> Result<()> {
+    match kind {
+        TextKind::List(kind) => count_stanzas(rt, kind),
+        TextKind::Records => count_records(rt),
+    }
 }
 
 // The edit that adds standard input as the list `main`.

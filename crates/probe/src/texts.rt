@@ -4,7 +4,7 @@ use crate::parts::{say_record, say_stanza};
 use crate::said::Said;
 use crate::words::Words;
 use ctl_stanza::{
-    ListKind, Record, Stanza, TextFault, lines_take_bytes, read_records, read_stanzas,
+    ListKind, Record, Stanza, StanzaReader, TextFault, lines_take_bytes, read_records, read_stanzas,
 };
 use std::alloc::Global;
 
@@ -65,25 +65,42 @@ fn say_text_of_records(text: &[u8], said: &mut Said) {
     }
 }
 
-// How many stanzas or records a text has, or its fault.
-fn count_of(alloc: Global, kind: TextKind, text: &[u8]) -> Result<usize, TextFault> {
-    lines_take_bytes();
-    match kind {
-        TextKind::List(kind) => match read_stanzas(alloc, text, 1, kind) {
-            Ok(stanzas) => Ok(stanzas.len()),
-            Err(fault) => Err(fault),
-        },
-        TextKind::Records => match read_records(alloc, text, 1) {
-            Ok(records) => Ok(records.len()),
-            Err(fault) => Err(fault),
-        },
+/// Goes on over the next block of a list, unless it has a fault before it.
+pub fn read_block(
+    alloc: Global,
+    reading: Result<StanzaReader, TextFault>,
+    block: &[u8],
+) -> Result<StanzaReader, TextFault> {
+    match reading {
+        Ok(reader) => reader.push(alloc, block),
+        Err(fault) => Err(fault),
     }
 }
 
-/// How many stanzas or records a text has, or its fault.
-pub fn say_count(alloc: Global, kind: TextKind, text: &[u8], said: &mut Said) {
-    match count_of(alloc, kind, text) {
-        Ok(count) => said.number(b"", count as u128),
+// The stanzas of a list all of whose blocks were read.
+fn stanzas_of(
+    alloc: Global,
+    reading: Result<StanzaReader, TextFault>,
+) -> Result<Vec<Stanza>, TextFault> {
+    match reading {
+        Ok(reader) => reader.finish(alloc),
+        Err(fault) => Err(fault),
+    }
+}
+
+/// How many stanzas a list has all of whose blocks were read, or its fault.
+pub fn say_count_of_stanzas(reading: Result<StanzaReader, TextFault>, said: &mut Said) {
+    match stanzas_of(said.alloc(), reading) {
+        Ok(stanzas) => said.number(b"", stanzas.len() as u128),
+        Err(fault) => say_fault(fault, said),
+    }
+}
+
+/// How many records a text has, or its fault.
+pub fn say_count_of_records(text: &[u8], said: &mut Said) {
+    lines_take_bytes();
+    match read_records(said.alloc(), text, 1) {
+        Ok(records) => said.number(b"", records.len() as u128),
         Err(fault) => say_fault(fault, said),
     }
 }
