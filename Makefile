@@ -60,8 +60,8 @@ test:
 test-needs:
 	python3 tools/test_needs.py
 
-# By itself `rt ci` gives the proofs of the chain of crates the processors that nothing else waits for. With RT_JOBS it has so many
-# tasks of one processor each, however much memory it thinks that they take.
+# With JOBS `rt ci` has so many tasks of one processor each, however much memory it thinks that they take. By itself it begins those that
+# it has memory for, and gives the proofs of the chain of crates the processors that nothing else waits for.
 prove:
 	$(if $(JOBS),RT_JOBS=$(JOBS) )rt ci
 

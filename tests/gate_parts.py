@@ -24,6 +24,8 @@ def run_gate(lines, words=(), more=(), processors=None):
         os.mkdir(folder + "/tools")
         for name in ("gate.py", "gate_file.py", "proof_seconds.py"):
             shutil.copy(os.path.join(TOOLS, name), folder + "/tools")
+        with open(folder + "/crates.txt", "w", encoding="utf-8") as file:
+            file.write("# Two crates.\nlow:\nhigh: low\n")
         with open(folder + "/Makefile", "w", encoding="utf-8") as file:
             for name in (*PARTS, *more):
                 file.write("%s:\n\t@%s\n" % (name, lines.get(name, "echo '1 passed, 0 failed'")))
@@ -59,6 +61,23 @@ def test_parts(tests):
     for what, command in (("no count", "echo all well"), ("a count of none, and a failure", "echo '1 passed, 0 failed'; false")):
         status, lines, _ = run_gate({"edits": command}, ["--keep-going"])
         tests.expect("a part of %s has failed" % what, status == 1 and lines[-1].endswith(" passed, 1 failed"), lines)
+
+
+def test_early_parts(tests):
+    """On four processors what comes behind the proofs begins once all crates are proved, and not before."""
+    if len(os.sched_getaffinity(0)) < 4:
+        return
+    waits = "until [ -e begun ]; do sleep 0.1; done; "
+    prove = "echo 'rt: low proved'; echo 'rt: high proved'; " + waits + "echo '2 passed, 0 failed'"
+    status, lines, _ = run_gate({"prove": prove, "edits": "touch begun; echo '1 passed, 0 failed'"}, processors=4)
+    tests.expect("edits begin once all crates are proved", (status, lines[-1]) == (0, "7 passed, 0 failed"), lines)
+    prove = "echo 'rt: low proved'; sleep 1; touch ended; echo '2 passed, 0 failed'"
+    edits = "test -e ended && echo '1 passed, 0 failed'"
+    status, lines, _ = run_gate({"prove": prove, "edits": edits}, processors=4)
+    tests.expect("and not while one isn't", (status, lines[-1]) == (0, "7 passed, 0 failed"), lines)
+    status, lines, _ = run_gate({"prove": "echo 'rt: low proved'; echo '1 passed, 1 failed'; false"}, processors=4)
+    left = [it for it in lines if it.endswith(": not run")]
+    tests.expect("nor where one can't be", status == 1 and left == ["test-program: not run", "edits: not run"], lines)
 
 
 def test_proofs(tests):
@@ -112,5 +131,6 @@ def test_report(tests):
 
 def run(tests):
     test_parts(tests)
+    test_early_parts(tests)
     test_proofs(tests)
     test_report(tests)

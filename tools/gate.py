@@ -9,8 +9,8 @@ M failed', and ', K skipped' where tests were skipped: the sum over all parts th
 measured is left in out/gate.json.
 
 The proofs are a chain from crate to crate, so that they leave processors idle. With four processors or more what needs no proof, the
-examples too, runs beside them, and the tests of the proved program beside the edits, at low priority; what they print comes behind what
-the others do."""
+examples too, runs beside them; and once all crates are proved, while the last named wrong bodies and the tests under proof are tried, the
+edits and the tests of the proved program. Both have low priority, and what they print comes behind what the others do."""
 
 import concurrent.futures
 import dataclasses
@@ -18,6 +18,7 @@ import os
 import re
 import subprocess
 import sys
+import threading
 import time
 from collections.abc import Callable, Iterable, Iterator
 
@@ -26,12 +27,24 @@ import proof_seconds
 
 TOP = os.path.join(os.path.dirname(os.path.abspath(__file__)), "..")
 
-# A row of parts that run by themselves, and a row of those that can run beside them. On few processors all run one by one, the latter
-# first.
-STAGES: list[tuple[list[str], list[str]]] = [
-    (["layout"], []),
-    (["prove"], ["demo", "test-tools"]),
-    (["edits"], ["test-program", "test-reference", "test-refusals", "test-python"]),
+
+
+@dataclasses.dataclass
+class Stage:
+    """A part, those that can run beside it from the beginning, and rows of those that can once all crates are proved."""
+
+    part: str
+    beside: list[str] = dataclasses.field(default_factory=list)
+    behind: list[list[str]] = dataclasses.field(default_factory=list)
+
+    def names(self) -> list[str]:
+        """The parts in the order in which few processors run them."""
+        return [*self.beside, self.part, *(name for row in reversed(self.behind) for name in row)]
+
+
+STAGES = [
+    Stage("layout"),
+    Stage("prove", ["demo", "test-tools"], [["edits"], ["test-program", "test-reference", "test-refusals", "test-python"]]),
 ]
 PARTS = {
     "layout": "the layout of the files",
@@ -44,14 +57,16 @@ PARTS = {
     "test-python": "the commands and the module of Python",
     "edits": "the edits that must fail",
 }
-# Words for make beside a part's name: in the gate the ledger is read and not written, and the edits have a budget of minutes.
-SETTINGS = {"edits": ["IN_GATE=1"]}
 # So many processors are needed for parts beside each other.
 ENOUGH = 4
+# So much memory a check takes at most.
+OF_A_CHECK = 4 << 30
 # So many lines of a part that failed are told again at the end.
 TOLD_AGAIN = 15
 COUNT = re.compile(r"(\d+) passed, (\d+) failed(?:, (\d+) skipped)?")
 PROVED = re.compile(r"== (\w+)|logic=proved functions=(\d+) .*")
+SAID_PROVED = re.compile(r"rt: (\w+) proved")
+CRATE = re.compile(r"^(\w+):", re.M)
 
 
 @dataclasses.dataclass
@@ -87,20 +102,39 @@ def targets() -> set[str]:
         return set(re.findall(r"^([\w-]+):", file.read(), re.M))
 
 
-def stages() -> list[tuple[list[str], list[str]]]:
-    """Returns the rows of the parts that are there. On few processors each part is a row of its own."""
+def stages() -> list[Stage]:
+    """Returns the stages of the parts that are there. On few processors each part is a stage of its own."""
     there = targets()
-    rows = [([it for it in parts if it in there], [it for it in beside if it in there]) for parts, beside in STAGES]
-    if len(os.sched_getaffinity(0)) < ENOUGH:
-        return [([name], []) for parts, beside in rows for name in (*beside, *parts)]
-    return rows
+
+    def those(names: list[str]) -> list[str]:
+        return [it for it in names if it in there]
+
+    if processors() < ENOUGH:
+        return [Stage(name) for stage in STAGES for name in those(stage.names())]
+    return [Stage(it.part, those(it.beside), [those(row) for row in it.behind]) for it in STAGES if it.part in there]
+
+
+def processors() -> int:
+    return len(os.sched_getaffinity(0))
+
+
+def settings(name: str) -> list[str]:
+    """Returns words for make beside a part's name. The edits read the ledger in the gate and don't write it, and have a budget of
+    minutes. By itself `rt ci` begins only what it thinks that memory holds, which leaves processors idle. It has one task more than there
+    are processors, so that the long ones of the last crates begin early, if all that may run at once has memory."""
+    if name == "edits":
+        return ["IN_GATE=1"]
+    tasks = processors() + 1
+    if name == "prove" and processors() >= ENOUGH and os.sysconf("SC_PHYS_PAGES") * os.sysconf("SC_PAGE_SIZE") >= tasks * OF_A_CHECK:
+        return [f"JOBS={tasks}"]
+    return []
 
 
 def run(name: str, show: Callable[[str], object], before: Iterable[str] = ()) -> Outcome:
     """Runs a part, by a command that stands before make if one is given, and hands on its output line by line. One that gives no
     count, or fails and counts no failure, counts as one failed."""
     began, counted = time.time(), (0, 1, 0)
-    words = [*before, "make", "--no-print-directory", name, *SETTINGS.get(name, [])]
+    words = [*before, "make", "--no-print-directory", name, *settings(name)]
     told = {**os.environ, "PYTHONUNBUFFERED": "1"}
     part = subprocess.Popen(words, stdout=subprocess.PIPE, stderr=subprocess.STDOUT, text=True, errors="replace", env=told)
     watch = proof_seconds.Watch(part.pid) if name == "prove" else None
@@ -136,26 +170,58 @@ def proofs_of(lines: list[str], seconds: dict[proof_seconds.Checked, float]) -> 
     return found
 
 
-def run_stage(parts: list[str], beside: list[str]) -> Iterator[Outcome]:
-    """Runs the parts of a stage, and yields what each came to. The output of the first parts comes as it is written."""
-    if not beside:
-        for name in parts:
-            tell(f"== {name}: {PARTS[name]}")
-            yield run(name, tell)
-        return
-    lines: dict[str, list[str]] = {name: [] for name in beside}
+class Proofs:
+    """Whether all crates are proved, as the lines of `rt ci` tell it. What comes behind the proofs waits for that."""
 
-    def run_beside() -> list[Outcome]:
-        return [run(name, lines[name].append, before=["nice"]) for name in beside]
+    def __init__(self) -> None:
+        with open(os.path.join(TOP, "crates.txt"), encoding="utf-8") as file:
+            self.left = set(CRATE.findall(file.read()))
+        self.known, self.is_well = threading.Event(), False
+
+    def see(self, line: str) -> None:
+        found = SAID_PROVED.fullmatch(line)
+        if found and found[1] in self.left:
+            self.left.remove(found[1])
+            if not self.left:
+                self.end(is_well=True)
+
+    def end(self, is_well: bool) -> None:
+        if not self.known.is_set():
+            self.is_well = is_well
+            self.known.set()
+
+    def wait(self) -> bool:
+        self.known.wait()
+        return self.is_well
+
+
+def run_stage(stage: Stage, keeps_going: bool) -> Iterator[Outcome]:
+    """Runs the parts of a stage, and yields what each came to. The output of the first comes as it is written."""
+    lines: dict[str, list[str]] = {name: [] for name in stage.names()}
+    proofs = Proofs()
+
+    def run_row(names: list[str]) -> list[Outcome]:
+        return [run(name, lines[name].append, before=["nice"]) for name in names]
+
+    def run_behind(names: list[str]) -> list[Outcome]:
+        return run_row(names) if proofs.wait() else []
+
+    def show(line: str) -> None:
+        tell(line)
+        proofs.see(line)
 
     with concurrent.futures.ThreadPoolExecutor() as pool:
-        others = pool.submit(run_beside)
-        for name in parts:
-            tell(f"== {name}: {PARTS[name]}; beside it {', '.join(beside)}")
-            yield run(name, tell)
-        for outcome in others.result():
-            tell("\n".join([f"== {outcome.name}: {PARTS[outcome.name]}", *lines[outcome.name]]))
-            yield outcome
+        beside = pool.submit(run_row, stage.beside)
+        rows = [beside, *(pool.submit(run_behind, row) for row in stage.behind)]
+        others = [name for name in stage.names() if name != stage.part]
+        tell(f"== {stage.part}: {PARTS[stage.part]}" + (f"; beside it {', '.join(others)}" if others else ""))
+        outcome = run(stage.part, show)
+        yield outcome
+        proofs.end(keeps_going or not any(it.failed for it in (outcome, *beside.result())))
+        for row in rows:
+            for outcome in row.result():
+                tell("\n".join([f"== {outcome.name}: {PARTS[outcome.name]}", *lines[outcome.name]]))
+                yield outcome
 
 
 def main(words: list[str]) -> int:
@@ -164,9 +230,9 @@ def main(words: list[str]) -> int:
     os.chdir(TOP)
     rows = stages()
     outcomes, began = [], time.time()
-    left = [name for parts, beside in rows for name in (*beside, *parts)]
-    for parts, beside in rows:
-        for outcome in run_stage(parts, beside):
+    left = [name for stage in rows for name in stage.names()]
+    for stage in rows:
+        for outcome in run_stage(stage, bool(words)):
             outcomes.append(outcome)
             left.remove(outcome.name)
             tell(f"== {outcome}")

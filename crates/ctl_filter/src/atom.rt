@@ -6,12 +6,13 @@ ghost use Rattle.ctl_filter.specs.Filter.{text_passes, field_passes, atom_passes
 ghost use Rattle.ctl_filter.specs.Rx.{rx_matches};
 ghost use Rattle.ctl_filter.specs.Inside.Views.{expression_bytes, expression_ignores_case, expression_tree};
 ghost use Rattle.ctl_filter.specs.Inside.Values.{test_of, atom_of};
-ghost use Rattle.ctl_filter.specs.Inside.Searchers.{sought_by, finds_small, Tree, Fits};
+ghost use Rattle.ctl_filter.specs.Inside.Searchers.{sought_by, finds, Tree, Fits};
 
 use crate::comparison::Bound;
 use crate::expression::Expression;
 use crate::finder::Finder;
-use crate::searching::{has_lowered, has_pattern, lowered};
+use crate::searching::{has_lowered, has_pattern, lowered_finder};
+use bstr::Finder as PatternFinder;
 use ctl_relation::{Bytes, Operator, Version};
 use ctl_stanza::Stanza;
 use regex::bytes::Matcher;
@@ -42,23 +43,25 @@ const _: () = prove!(size_of::<Atom>() <= 64);
 /// What serves each search by one test again.
 #[derive(Drop)]
 pub(crate) enum Searcher<'q> {
-    /// The pattern of a substring in any case, in small letters.
-    Small(Vec<u8>),
+    /// What searches for the pattern of a substring; in any case, for its small letters.
+    Substring(PatternFinder<'q>),
     /// What searches for the pattern of `--rx`.
     Matcher(Matcher<'q>),
 }
 
-/// Whether the pattern of a searcher, if it is one in small letters, stands in the text in any case.
-fn has_small(
+/// Whether a substring stands in the text, by its own searcher.
+fn has_substring(
+    any_case: bool,
     searcher: &Option<Box<Searcher<'_>>>,
     text: &[u8],
     room: &mut Vec<u8>,
 ) -> Result<bool, AllocError>
-    ensures { IfOk result (λ found. found ≡ finds_small (sought_by searcher.now) text.now) }
+    ensures { IfOk result (λ found. found ≡ finds any_case (sought_by searcher.now) text.now) }
 {
     match searcher {
         Some(searcher) => match &**searcher {
-            Searcher::Small(pattern) => has_lowered(pattern, text, room),
+            Searcher::Substring(finder) if any_case => has_lowered(finder, text, room),
+            Searcher::Substring(finder) => Ok(has_pattern(finder, text)),
             Searcher::Matcher(_) => Ok(false),
         },
         None => Ok(false),
@@ -74,7 +77,7 @@ fn has_match(expression: &Expression, searcher: &mut Option<Box<Searcher<'_>>>, 
     match searcher {
         Some(searcher) => match &mut **searcher {
             Searcher::Matcher(matcher) => expression.is_match(matcher, text),
-            Searcher::Small(_) => false,
+            Searcher::Substring(_) => false,
         },
         None => false,
     }
@@ -93,8 +96,7 @@ pub(crate) fn text_passes(
     ensures same { sought_by searcher.new ≡ sought_by searcher.old }
 {
     match test {
-        Test::Substring(false, pattern) => Ok(has_pattern(pattern.as_slice(), text)),
-        Test::Substring(true, _) => has_small(searcher, text, room),
+        Test::Substring(any_case, _) => has_substring(*any_case, searcher, text, room),
         Test::Exact(false, pattern) => Ok(text == pattern.as_slice()),
         Test::Exact(true, pattern) => Ok(text.eq_ignore_ascii_case(pattern.as_slice())),
         Test::Expression(expression) => Ok(has_match(expression, searcher, text)),
@@ -175,7 +177,12 @@ fn searcher_of(alloc: Global, test: &Test) -> Result<Option<Box<Searcher<'_>>>, 
     ensures { IfOk result (λ searcher. Fits test.now searcher) }
 {
     let searcher = match test {
-        Test::Substring(true, pattern) => Searcher::Small(lowered(alloc, pattern.as_slice())?),
+        Test::Substring(false, pattern) => {
+            Searcher::Substring(PatternFinder::new(pattern.as_slice()))
+        }
+        Test::Substring(true, pattern) => {
+            Searcher::Substring(lowered_finder(alloc, pattern.as_slice())?)
+        }
         Test::Expression(expression) => Searcher::Matcher(expression.matcher(alloc)?),
         _ => return Ok(None),
     };

@@ -4,14 +4,14 @@ ghost use Rattle.std.specs.Prelude.{◌≡◌, IfOk, OnOk};
 ghost use Rattle.std.specs.Str.{str_to_ascii_lowercase};
 ghost use Rattle.ctl_filter.specs.Substring.{contains, contains_in_any_case};
 
-use bstr::ByteSlice;
+use bstr::{ByteSlice, Finder};
 use std::alloc::{AllocError, Global};
 
-/// Whether the pattern stands somewhere in the text.
-pub(crate) fn has_pattern(pattern: &[u8], text: &[u8]) -> bool
-    ensures { result ≡ contains pattern.now text.now }
+/// Whether the pattern of a finder stands somewhere in the text.
+pub(crate) fn has_pattern(finder: &Finder<'_>, text: &[u8]) -> bool
+    ensures { result ≡ contains finder.now text.now }
 {
-    text.contains_str(pattern)
+    finder.find(text).is_some()
 }
 
 /// A copy of a text with small letters of ASCII in place of capital ones.
@@ -19,6 +19,14 @@ pub(crate) fn lowered(alloc: Global, text: &[u8]) -> Result<Vec<u8>, AllocError>
     ensures { IfOk result (λ small. small.items ≡ str_to_ascii_lowercase text.now) }
 {
     text.to_ascii_lowercase(alloc)
+}
+
+/// A finder of such a copy.
+pub(crate) fn lowered_finder(alloc: Global, pattern: &[u8]) -> Result<Finder<'static>, AllocError>
+    ensures { IfOk result (λ finder. finder ≡ str_to_ascii_lowercase pattern.now) }
+{
+    let small = lowered(alloc, pattern)?;
+    Finder::new(&small).into_owned(alloc)
 }
 
 /// Writes such a copy into room that serves again.
@@ -31,15 +39,15 @@ fn lower_into(room: &mut Vec<u8>, text: &[u8]) -> Result<(), AllocError>
     Ok(())
 }
 
-/// Whether the pattern, whose letters are small ones, stands somewhere in the text once its letters are small ones too. This takes time
-/// in proportion to both, and memory where the room is too small for the text.
+/// Whether the pattern of a finder, whose letters are small ones, stands somewhere in the text once its letters are small ones too. This
+/// takes time in proportion to both, and memory where the room is too small for the text.
 pub(crate) fn has_lowered(
-    pattern: &[u8],
+    finder: &Finder<'_>,
     text: &[u8],
     room: &mut Vec<u8>,
 ) -> Result<bool, AllocError>
-    ensures { IfOk result (λ found. found ≡ contains pattern.now (str_to_ascii_lowercase text.now)) }
+    ensures { IfOk result (λ found. found ≡ contains finder.now (str_to_ascii_lowercase text.now)) }
 {
     lower_into(room, text)?;
-    Ok(has_pattern(pattern, room))
+    Ok(has_pattern(finder, room))
 }

@@ -1,15 +1,17 @@
 use Rattle.std.proofs.Common.{sym, ◌∙◌, ⊎_elim}
 use Rattle.std.proofs.lemmas.Bool.{cases_Bool, false_from_ne_true}
+use Rattle.bstr.proofs.lemmas.ByteLemmas.{Contains-by}
 use Rattle.ctl_filter.specs.Substring.{contains}
 use Rattle.ctl_filter.proofs.SubstringLemmas.{IsSubstring-from_Contains, Contains-from_IsSubstring, contains-iff}
 use Rattle.ctl_filter.proofs.searching.has_pattern.Goals as goal
 
 pub returns : goal.returns
 returns c =
-    let p = c.args.pattern.now in
+    let p = c.args.finder.now in
     let t = c.args.text.now in
     let law = contains-iff p t in
+    let found = Contains-by t p c.find.result c.find.ensures in
     ⊎_elim
-    (λ yes. yes ∙ sym (law.1 (IsSubstring-from_Contains p t (c.contains_str.ensures.0 yes))))
-    (λ no. no ∙ sym (false_from_ne_true (contains p t) (λ h. let found = c.contains_str.ensures.1 (Contains-from_IsSubstring p t (law.0 h)) in cc)))
-    (cases_Bool c.contains_str.result)
+    (λ yes. yes ∙ sym (law.1 (IsSubstring-from_Contains p t (found.0 (sym c.is_some.ensures ∙ yes)))))
+    (λ no. no ∙ sym (false_from_ne_true (contains p t) (λ h. let some = c.is_some.ensures ∙ found.1 (Contains-from_IsSubstring p t (law.0 h)) in cc)))
+    (cases_Bool c.is_some.result)
