@@ -11,3 +11,4 @@ pub mod CaseLemmas
 pub mod AnyCaseLemmas
 pub mod AskingLemmas
 pub mod FieldTableLemmas
+pub mod BodyLemmas

@@ -1,6 +1,6 @@
 //! Filters: their atoms, and the truth of each on a stanza.
 
-ghost use Rattle.std.specs.Prelude.{◌≡◌, IfOk, IfSome, Some, map, take, false};
+ghost use Rattle.std.specs.Prelude.{◌≡◌, ℕ, List, IfOk, IfSome, Some, map, take, true, false};
 ghost use Rattle.std.specs.List.{list_any};
 ghost use Rattle.ctl_filter.specs.Filter.{text_passes, field_passes, atom_passes};
 ghost use Rattle.ctl_filter.specs.Rx.{rx_matches};
@@ -11,7 +11,7 @@ ghost use Rattle.ctl_filter.specs.Inside.Searchers.{sought_by, finds, Tree, Fits
 use crate::comparison::Bound;
 use crate::expression::Expression;
 use crate::finder::Finder;
-use crate::searching::{has_lowered, has_pattern, lowered_finder};
+use crate::searching::{finder_of, has_lowered, has_newline, has_pattern};
 use bstr::Finder as PatternFinder;
 use ctl_relation::{Bytes, Operator, Version};
 use ctl_stanza::Stanza;
@@ -40,46 +40,40 @@ pub(crate) struct Atom {
 // A line may have some 200,000 atoms.
 const _: () = prove!(size_of::<Atom>() <= 64);
 
-/// What serves each search by one test again.
+/// What serves each search by one test again. A matcher is large, and a plain pattern is to take little.
 #[derive(Drop)]
 pub(crate) enum Searcher<'q> {
     /// What searches for the pattern of a substring; in any case, for its small letters.
-    Substring(PatternFinder<'q>),
+    Substring(Box<PatternFinder<'q>>),
     /// What searches for the pattern of `--rx`.
-    Matcher(Matcher<'q>),
+    Matcher(Box<Matcher<'q>>),
 }
 
 /// Whether a substring stands in the text, by its own searcher.
 fn has_substring(
     any_case: bool,
-    searcher: &Option<Box<Searcher<'_>>>,
+    searcher: &Option<Searcher<'_>>,
     text: &[u8],
     room: &mut Vec<u8>,
 ) -> Result<bool, AllocError>
     ensures { IfOk result (λ found. found ≡ finds any_case (sought_by searcher.now) text.now) }
 {
     match searcher {
-        Some(searcher) => match &**searcher {
-            Searcher::Substring(finder) if any_case => has_lowered(finder, text, room),
-            Searcher::Substring(finder) => Ok(has_pattern(finder, text)),
-            Searcher::Matcher(_) => Ok(false),
-        },
-        None => Ok(false),
+        Some(Searcher::Substring(finder)) if any_case => has_lowered(finder, text, room),
+        Some(Searcher::Substring(finder)) => Ok(has_pattern(finder, text)),
+        _ => Ok(false),
     }
 }
 
 /// Whether the expression has a match in the text, by its own searcher.
-fn has_match(expression: &Expression, searcher: &mut Option<Box<Searcher<'_>>>, text: &[u8]) -> bool
+fn has_match(expression: &Expression, searcher: &mut Option<Searcher<'_>>, text: &[u8]) -> bool
     requires { sought_by searcher.old ≡ Some (Tree (expression_tree expression.now)) }
     ensures found { result ≡ rx_matches (expression_ignores_case expression.now) (expression_bytes expression.now) text.now }
     ensures same { sought_by searcher.new ≡ sought_by searcher.old }
 {
     match searcher {
-        Some(searcher) => match &mut **searcher {
-            Searcher::Matcher(matcher) => expression.is_match(matcher, text),
-            Searcher::Substring(_) => false,
-        },
-        None => false,
+        Some(Searcher::Matcher(matcher)) => expression.is_match(&mut **matcher, text),
+        _ => false,
     }
 }
 
@@ -87,7 +81,7 @@ fn has_match(expression: &Expression, searcher: &mut Option<Box<Searcher<'_>>>, 
 #[tactic(auto, using(crate::proofs::AnyCaseLemmas::contains_lowered))]
 pub(crate) fn text_passes(
     test: &Test,
-    searcher: &mut Option<Box<Searcher<'_>>>,
+    searcher: &mut Option<Searcher<'_>>,
     text: &[u8],
     room: &mut Vec<u8>,
 ) -> Result<bool, AllocError>
@@ -119,7 +113,7 @@ fn version_of<'a>(stanza: &'a Stanza, text: &[u8]) -> Option<&'a Version>
 /// Whether a body of a stanza passes a test. One that is the stanza's version is not read anew, which could take memory.
 fn body_passes(
     test: &Test,
-    searcher: &mut Option<Box<Searcher<'_>>>,
+    searcher: &mut Option<Searcher<'_>>,
     stanza: &Stanza,
     body: &[u8],
     room: &mut Vec<u8>,
@@ -138,7 +132,7 @@ fn body_passes(
 
 fn field_passes(
     test: &Test,
-    searcher: &mut Option<Box<Searcher<'_>>>,
+    searcher: &mut Option<Searcher<'_>>,
     finder: &Finder<'_>,
     name: &[u8],
     room: &mut Vec<u8>,
@@ -156,7 +150,7 @@ fn field_passes(
 fn any_field_passes(
     names: &[Bytes],
     test: &Test,
-    searcher: &mut Option<Box<Searcher<'_>>>,
+    searcher: &mut Option<Searcher<'_>>,
     finder: &Finder<'_>,
     room: &mut Vec<u8>,
 ) -> Result<bool, AllocError>
@@ -173,27 +167,43 @@ fn any_field_passes(
 }
 
 /// The searcher of a test, if it needs one.
-fn searcher_of(alloc: Global, test: &Test) -> Result<Option<Box<Searcher<'_>>>, AllocError>
+fn searcher_of(alloc: Global, test: &Test) -> Result<Option<Searcher<'_>>, AllocError>
     ensures { IfOk result (λ searcher. Fits test.now searcher) }
 {
     let searcher = match test {
-        Test::Substring(false, pattern) => {
-            Searcher::Substring(PatternFinder::new(pattern.as_slice()))
+        Test::Substring(any_case, pattern) => {
+            let finder = finder_of(alloc, *any_case, pattern.as_slice())?;
+            Searcher::Substring(Box::new(alloc, finder)?)
         }
-        Test::Substring(true, pattern) => {
-            Searcher::Substring(lowered_finder(alloc, pattern.as_slice())?)
+        Test::Expression(expression) => {
+            let matcher = expression.matcher(alloc)?;
+            Searcher::Matcher(Box::new(alloc, matcher)?)
         }
-        Test::Expression(expression) => Searcher::Matcher(expression.matcher(alloc)?),
         _ => return Ok(None),
     };
-    Ok(Some(Box::new(alloc, searcher)?))
+    Ok(Some(searcher))
+}
+
+/// Whether the pattern of a substring stands nowhere in a stanza's text. Then it stands in no body: the pattern has no newline, and each
+/// line of a body is a part of a line of the text. The text is searched in less time than a field of it is found.
+#[tactic(auto, using(crate::proofs::BodyLemmas::nowhere))]
+fn is_nowhere(test: &Test, searcher: &Option<Searcher<'_>>, stanza: &Stanza) -> bool
+    requires { Fits test.now searcher.now }
+    ensures { result ≡ true → (names : List (List ℕ)) → list_any (field_passes (test_of test.now) stanza.now) names ≡ false }
+{
+    match (test, searcher) {
+        (Test::Substring(false, pattern), Some(Searcher::Substring(finder))) => {
+            !has_newline(pattern.as_slice()) && !has_pattern(finder, stanza.text())
+        }
+        _ => false,
+    }
 }
 
 /// An atom with its searcher, which is made once for all stanzas.
 #[derive(Drop)]
 pub(crate) struct Prepared<'q> {
     atom: &'q Atom,
-    searcher: Option<Box<Searcher<'q>>>,
+    searcher: Option<Searcher<'q>>,
 }
 
 impl<'q> Model for Prepared<'q> {
@@ -225,6 +235,9 @@ impl<'q> Prepared<'q> {
         match &atom.fields {
             None => text_passes(&atom.test, &mut self.searcher, stanza.text(), room),
             Some(names) => {
+                if is_nowhere(&atom.test, &self.searcher, stanza) {
+                    return Ok(false);
+                }
                 let finder = Finder::new(*room.allocator(), stanza, names.len())?;
                 any_field_passes(names, &atom.test, &mut self.searcher, &finder, room)
             }

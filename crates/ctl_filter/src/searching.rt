@@ -1,11 +1,25 @@
 //! Patterns that stand somewhere in a text.
 
-ghost use Rattle.std.specs.Prelude.{◌≡◌, IfOk, OnOk};
+ghost use Rattle.std.specs.Prelude.{◌≡◌, IfOk, OnOk, take, false, if◌then◌else◌};
+ghost use Rattle.std.specs.List.{list_any};
 ghost use Rattle.std.specs.Str.{str_to_ascii_lowercase};
-ghost use Rattle.ctl_filter.specs.Substring.{contains, contains_in_any_case};
+ghost use Rattle.ctl_filter.specs.Substring.{contains};
+ghost use Rattle.ctl_filter.specs.Inside.Searchers.{is_newline};
 
 use bstr::{ByteSlice, Finder};
 use std::alloc::{AllocError, Global};
+
+/// Whether a pattern has a newline.
+pub(crate) fn has_newline(pattern: &[u8]) -> bool
+    ensures { result ≡ list_any is_newline pattern.now }
+{
+    for byte in pattern {
+        if *byte == b'\n' {
+            return true;
+        }
+    }
+    false
+}
 
 /// Whether the pattern of a finder stands somewhere in the text.
 pub(crate) fn has_pattern(finder: &Finder<'_>, text: &[u8]) -> bool
@@ -21,12 +35,19 @@ pub(crate) fn lowered(alloc: Global, text: &[u8]) -> Result<Vec<u8>, AllocError>
     text.to_ascii_lowercase(alloc)
 }
 
-/// A finder of such a copy.
-pub(crate) fn lowered_finder(alloc: Global, pattern: &[u8]) -> Result<Finder<'static>, AllocError>
-    ensures { IfOk result (λ finder. finder ≡ str_to_ascii_lowercase pattern.now) }
+/// A finder of a pattern; in any case, of its small letters.
+pub(crate) fn finder_of<'q>(
+    alloc: Global,
+    any_case: bool,
+    pattern: &'q [u8],
+) -> Result<Finder<'q>, AllocError>
+    ensures { IfOk result (λ finder. finder ≡ (if any_case then str_to_ascii_lowercase pattern.now else pattern.now)) }
 {
-    let small = lowered(alloc, pattern)?;
-    Finder::new(&small).into_owned(alloc)
+    if any_case {
+        let small = lowered(alloc, pattern)?;
+        return Finder::new(&small).into_owned(alloc);
+    }
+    Ok(Finder::new(pattern))
 }
 
 /// Writes such a copy into room that serves again.
