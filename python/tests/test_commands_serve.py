@@ -5,6 +5,7 @@ import os
 import shutil
 import socket
 import subprocess
+import sys
 import threading
 import time
 
@@ -232,6 +233,33 @@ def test_kept_names(tmp_path):
         while names(root, "fo", **settings)[1] != b"fob\nfoo\nfoo-data\nfox\n" and time.monotonic() < end:
             time.sleep(0.1)
         assert names(root, "fo", DCTRL_CACHE="/nowhere", **settings) == (0, b"fob\nfoo\nfoo-data\nfox\n", b"")
+
+
+SIGNALLED = """
+import signal, socket, sys, threading, time
+sys.path.insert(0, sys.argv[1])
+from dctrl_cache.commands.serve import Server
+def end():
+    while True:
+        try:
+            with socket.socket(socket.AF_UNIX) as talk:
+                talk.connect(sys.argv[2])
+            break
+        except OSError:
+            time.sleep(0.05)
+    time.sleep(0.5)
+    signal.pthread_kill(threading.get_ident(), signal.SIGTERM)
+threading.Thread(target=end, daemon=True).start()
+Server(sys.argv[2], lambda words: None).run()
+"""
+
+
+def test_a_signal_that_another_thread_takes(tmp_path):
+    """It ends the session too, although it breaks nothing off that the first thread waits for."""
+    path = str(tmp_path / "socket")
+    folder = os.path.join(os.path.dirname(APT_COMMAND), "..")
+    assert subprocess.run([sys.executable, "-c", SIGNALLED, folder, path], timeout=60, check=False).returncode == 0
+    assert not os.path.exists(path)
 
 
 def test_names_of_the_served_session(tmp_path):

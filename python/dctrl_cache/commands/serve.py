@@ -1,6 +1,7 @@
 """A session that stays, and answers on a socket."""
 
 import os
+import select
 import signal
 import socket
 import stat
@@ -75,24 +76,37 @@ class Server:
         self._ends = False
 
     def run(self) -> None:
-        """Serves until a signal ends it (TERM, INT or HUP)."""
+        """Serves until a signal ends it (TERM, INT or HUP). One that comes just before the wait for a client, or that another thread takes,
+        doesn't break that wait off: so each is also told by a byte that is waited for."""
+        told, teller = socket.socketpair()
+        teller.setblocking(False)
+        signal.set_wakeup_fd(teller.fileno())
         for number in (signal.SIGTERM, signal.SIGINT, signal.SIGHUP):
             signal.signal(number, self._end)
+        self._listener.setblocking(False)
         self._listener.listen(64)
         try:
             while not self._ends:
-                talk, _ = self._listener.accept()
-                threading.Thread(target=self._serve, args=(talk,), daemon=True).start()
-        except _End:
-            pass
+                select.select([self._listener, told], [], [])
+                self._take_client()
         finally:
+            signal.set_wakeup_fd(-1)
+            told.close()
+            teller.close()
             self._listener.close()
             if self._is_ours:
                 os.unlink(self._path)
 
     def _end(self, _number: int, _frame: FrameType | None) -> None:
         self._ends = True
-        raise _End
+
+    def _take_client(self) -> None:
+        """Answers the next client, if there is one, in a thread of its own."""
+        try:
+            talk, _ = self._listener.accept()
+        except BlockingIOError:
+            return
+        threading.Thread(target=self._serve, args=(talk,), daemon=True).start()
 
     def _serve(self, talk: socket.socket) -> None:
         """Answers one client. One that breaks off costs nobody else anything."""
@@ -106,10 +120,6 @@ class Server:
                     talk.sendall(b"%d %d %d\n" % (reply.status, len(reply.output), len(reply.errors)) + reply.output + reply.errors)
             except OSError:
                 return
-
-
-class _End(Exception):
-    """A signal has come."""
 
 
 def _question(talk: socket.socket) -> list[str]:
