@@ -17,7 +17,7 @@ from answers import PIECE, Session, least
 
 # A filter, the same for grep-dctrl, and the ratio that it is to have at most.
 ROWS = (
-    ("a substring in one field", "-c -F Description library", ["-c", "-F", "Description", "library"], 0.2),
+    ("a substring in one field", "-c -F Description library", ["-c", "-F", "Description", "library"], 0.09),
     ("a substring in any case", "-c -i -F Description LIBRARY", ["-c", "-i", "-F", "Description", "LIBRARY"], None),
     ("a substring anywhere", "-c library", ["-c", "library"], None),
     ("one name, -P -X", "-P -X bash", ["-P", "-X", "bash"], 0.1),
