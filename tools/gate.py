@@ -28,7 +28,6 @@ import proof_seconds
 TOP = os.path.join(os.path.dirname(os.path.abspath(__file__)), "..")
 
 
-
 @dataclasses.dataclass
 class Stage:
     """A part, those that can run beside it from the beginning, and rows of those that can once all crates are proved."""
