@@ -1,16 +1,15 @@
-//! The entries of an ordered map, lent.
+//! The entries of an ordered map, lent or given back.
 
 ghost use Rattle.std.specs.Prelude.{◌≡◌, []};
-ghost use Rattle.ctl_ordered.specs.Slots.{entries_of};
 
 use crate::slot::Slot;
-use indexmap::map::Slice;
+use indexmap::map::{IntoIter, Slice};
 use std::marker::Model;
 
 /// The entries of an [`Ordered`](crate::Ordered), in the order in which their keys were first set.
 #[derive(Drop)]
 pub struct Entries<'a, K, V> {
-    slots: Slice<'a, u64, Slot<K, V>>,
+    pub(crate) slots: Slice<'a, u64, Slot<K, V>>,
 }
 
 impl<'a, K, V> Model for Entries<'a, K, V> {
@@ -23,12 +22,6 @@ impl<'a, K, V> Model for Entries<'a, K, V> {
 }
 
 impl<'a, K, V> Entries<'a, K, V> {
-    pub(crate) fn new(slots: Slice<'a, u64, Slot<K, V>>) -> Entries<'a, K, V>
-        ensures { result ≡ entries_of slots.entry }
-    {
-        Entries { slots }
-    }
-
     /// No entries.
     pub fn none() -> Entries<'a, K, V>
         ensures { result ≡ [] }
@@ -53,6 +46,40 @@ impl<'a, K, V> Iterator for Entries<'a, K, V> {
             self.slots = rest;
             if let Some(entry) = slot.entry() {
                 return Some(entry);
+            }
+        }
+        None
+    }
+}
+
+/// The entries of an [`Ordered`](crate::Ordered) that is given up, in the order in which their keys were first set.
+#[derive(Drop)]
+pub struct IntoEntries<K, V> {
+    pub(crate) slots: IntoIter<u64, Slot<K, V>>,
+}
+
+impl<K, V> Model for IntoEntries<K, V> {
+    ghost use Rattle.std.specs.Prelude.{List};
+    ghost use Rattle.ctl_ordered.specs.Slots.{entries_of};
+
+    ghost Value = { List (K × V) };
+
+    ghost view = { λ it. entries_of it.slots };
+}
+
+impl<K: Drop, V: Drop> Iterator for IntoEntries<K, V> {
+    ghost use Rattle.std.specs.Iterator.{YieldsFirst, item_count};
+
+    ghost next_gives = { YieldsFirst (λ rest. rest) };
+
+    ghost remaining = { item_count (λ rest. rest) };
+
+    type Item = (K, V);
+
+    fn next(&mut self) -> Option<(K, V)> {
+        'skip: while let Some((_, slot)) = self.slots.next() {
+            if let Slot::Entry(key, value) = slot {
+                return Some((key, value));
             }
         }
         None

@@ -7,6 +7,6 @@ mod search;
 mod slot;
 mod wanted;
 
-pub use entries::Entries;
+pub use entries::{Entries, IntoEntries};
 pub use ordered::Ordered;
 pub use wanted::Wanted;

@@ -10,7 +10,7 @@ ghost use Rattle.ctl_ordered.specs.declared.slot.Slot.TheVariants.{Hole};
 ghost use Rattle.ctl_ordered.specs.Slots.{is_entry};
 ghost use Rattle.ctl_ordered.specs.Ordered.{cut_row, entries, next_put, row_serial, rows_put};
 
-use crate::entries::Entries;
+use crate::entries::{Entries, IntoEntries};
 use crate::search::{end_below, look_up};
 use crate::slot::Slot;
 use crate::wanted::Wanted;
@@ -140,7 +140,19 @@ impl<K: Ord + Drop, V: Drop> Ordered<K, V> {
         ensures each_once { IsDistinct K.eq (keys_of (entries self.now)) }
         ensures few { length (entries self.now) < 2 ^ 63 }
     {
-        Entries::new(self.slots.as_slice())
+        Entries {
+            slots: self.slots.as_slice(),
+        }
+    }
+
+    /// The entries, in order, which are given back.
+    pub fn into_entries(self) -> IntoEntries<K, V>
+        ensures { result ≡ entries self }
+    {
+        let Ordered { slots, .. } = self;
+        IntoEntries {
+            slots: slots.into_iter(),
+        }
     }
 
     // A new entry goes last.

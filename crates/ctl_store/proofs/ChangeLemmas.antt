@@ -12,7 +12,8 @@ use Rattle.ctl_store.specs.Edits.{Edit, AddList, DropList, Put, Remove}
 use Rattle.ctl_store.specs.Rows.{Rises, by_name_and_version, rows_from, replace_at, put_row_at, remove_row_at}
 use Rattle.ctl_store.specs.Keys.{KeyedList, Keyed, key_of, keys_of, key_at, key_or_new, found_key, put_key, key_is, in_rows, stanza_at, put_keyed, remove_keyed, list_of_stanzas, keyed_after, removed_of, added_of, IsNotAmong, AreCome, AreGone, AreNew, AreHeld}
 use Rattle.ctl_store.specs.Inside.Held.{InOrder}
-use Rattle.ctl_store.proofs.PlaceLemmas.{eq_is, lt_ne, gt_ne, is_eq_from, and_left, and_second, both_true, or_none, all_map}
+use Rattle.std.proofs.lemmas.Bool.{and_parts, and_from}
+use Rattle.ctl_store.proofs.PlaceLemmas.{eq_is, lt_ne, gt_ne, is_eq_from, or_none, all_map}
 use Rattle.ctl_store.proofs.KeyLemmas.{not_none, keys_held, either_first, either_second, first_is, later_is, in_some, none_later}
 use Rattle.ctl_ordered.proofs.SlotLemmas.{rises_end}
 
@@ -100,7 +101,7 @@ rows_rise n [] m e name l h at = cc at
 rows_rise n (x ∷ ls) m e name l h at = grind (arith, rows_rise (suc x.1.serial) ls m e name l h.3)
 
 pub is_itself : (k : StanzaKey) → key_is k k ≡ true
-is_itself k = both_true (nat_eq k.list k.list) (nat_eq k.stanza k.stanza) (eq_is k.list k.list refl) (eq_is k.stanza k.stanza refl)
+is_itself k = and_from (nat_eq k.list k.list) (nat_eq k.stanza k.stanza) (eq_is k.list k.list refl) (eq_is k.stanza k.stanza refl)
 
 -- ---- the laws
 
@@ -223,7 +224,8 @@ not_added k (q ∷ qs) removed ls n h g = (by (key_is k q) refl, not_added k qs 
     by : (b : Bool) → key_is k q ≡ b → key_is k q ≡ false
     by false is = is
     by true is =
-        let lists : q.list ≡ k.list = is_eq_from q.list k.list (and_left (nat_eq q.list k.list) (nat_eq q.stanza k.stanza) is) in
-        let stanzas : q.stanza ≡ k.stanza = is_eq_from q.stanza k.stanza (and_second (nat_eq q.list k.list) (nat_eq q.stanza k.stanza) is) in
+        let both = and_parts (nat_eq q.list k.list) (nat_eq q.stanza k.stanza) is in
+        let lists : q.list ≡ k.list = is_eq_from q.list k.list both.0 in
+        let stanzas : q.stanza ≡ k.stanza = is_eq_from q.stanza k.stanza both.1 in
         let same_key : q ≡ k = ap (λ a. key_of a q.stanza) lists ∙ ap (λ b. key_of k.list b) stanzas in
         not_none (stanza_at k ls) h (ap (λ k. stanza_at k ls) (sym same_key) ∙ n.0 (subst (λ k. IsNotAmong k removed) (sym same_key) g))

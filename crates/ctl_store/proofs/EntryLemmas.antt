@@ -5,6 +5,7 @@ use Rattle.std.specs.Option.{option_or, option_map_or}
 use Rattle.std.specs.Ordering.{nat_cmp, ordering_then}
 use Rattle.std.specs.Str.{bytes_eq}
 use Rattle.std.specs.declared.cmp.Ordering.TheVariants.{Less}
+use Rattle.std.proofs.lemmas.Bool.{or_left, or_right}
 use Rattle.std.proofs.lemmas.Bool.Decides.{nat_tests}
 use Rattle.std.proofs.lemmas.List.{append_assoc, append-nil, map-append}
 use Rattle.std.proofs.lemmas.List.Elements.{filter-append}
@@ -18,7 +19,7 @@ use Rattle.ctl_store.specs.Rows.{Rises, by_name_and_version, rows_from, replace_
 use Rattle.ctl_store.specs.Keys.{KeyedList, Keyed, stanzas_of, stanza_lists, key_of, keys_of, key_at, key_or_new, found_key, put_key, key_is, key_cmp, all_keys, AreRising, stanza_at, put_keyed, remove_keyed, list_of_stanzas, keyed_after, removed_of, added_of, coming, AreCome}
 use Rattle.ctl_store.specs.Entries.{Entry, rows_under, entries_in, entries_of, entry_keys, AreAt, is_among, without_keys, entries_by, entries_at, entries_coming, stanzas_in_order, lists_between, IsSpliced, IsChange}
 use Rattle.ctl_store.specs.Inside.Held.{InOrder}
-use Rattle.ctl_store.proofs.PlaceLemmas.{eq_is, lt_ne, Rises-rows_from, is_first, or_true, all_map, all_front, all_back, all_append}
+use Rattle.ctl_store.proofs.PlaceLemmas.{eq_is, lt_ne, Rises-rows_from, all_map, all_front, all_back, all_append}
 use Rattle.ctl_store.proofs.KeyLemmas.{keys_rise}
 use Rattle.ctl_store.proofs.ListedLemmas.{InOrder-weaken, in_order_push, in_order_without, in_order_change, Changes-put, Changes-remove, remove_list, change_lists, without_lists}
 use Rattle.ctl_store.proofs.ChangeLemmas.{come_law, is_itself, stanza_in}
@@ -244,7 +245,7 @@ cut_off ks (e ∷ es) h = ap (λ b. cond (not b) (e ∷ without_keys ks es) (wit
 
 own_keys : (es : List Entry) → AllByRecursion (λ e. is_among (entry_keys es) e ≡ true) es
 own_keys [] = tt
-own_keys (e ∷ es) = (is_first (key_is e.0 e.0) (is_among (entry_keys es) e) (is_itself e.0), all_map (λ q g. or_true (key_is q.0 e.0) (is_among (entry_keys es) q) g) es (own_keys es))
+own_keys (e ∷ es) = (or_left (key_is e.0 e.0) (is_among (entry_keys es) e) (is_itself e.0), all_map (λ q g. or_right (key_is q.0 e.0) (is_among (entry_keys es) q) g) es (own_keys es))
 
 -- a key below others is none of them
 below_all : (e : Entry) (es rest : List Entry) → AllByRecursion (λ q. key_cmp e.0 q ≡ Less) (entry_keys (es ++ rest)) → is_among (entry_keys es) e ≡ false

@@ -9,13 +9,14 @@ use Rattle.ctl_store.specs.Keys.{Keyed, key_of, added_of, AreComing, KeyedList, 
 use Rattle.std.specs.Map.{lookup}
 use Rattle.std.specs.Option.{option_or, option_map_or}
 use Rattle.std.specs.declared.cmp.Ordering.TheVariants.{Less}
+use Rattle.std.proofs.lemmas.Bool.{or_left, or_right, and_from}
 use Rattle.std.proofs.lemmas.Bool.Decides.{nat_tests}
 use Rattle.std.proofs.lemmas.List.Sums.{sum_by-append}
 use Rattle.ctl_store.specs.Named.{at_name, without_name, change_named}
 use Rattle.ctl_store.specs.Entries.{Entry, rows_under, entries_in, entries_of, entry_keys, AreAt, is_among, without_keys, entries_by, entries_coming, IsChange}
 use Rattle.ctl_store.specs.Followed.{under, AreApart, AreDistinctKeys, coming_under, shown_under, IsFollowed}
 use Rattle.ctl_store.specs.Inside.Held.{coming_among, InOrder}
-use Rattle.ctl_store.proofs.PlaceLemmas.{is_first, or_true, is_eq_from, both_true, all_map, all_append, all_front, all_back, turned}
+use Rattle.ctl_store.proofs.PlaceLemmas.{is_eq_from, all_map, all_append, all_front, all_back, turned}
 use Rattle.ctl_store.proofs.EntryLemmas.{keys_are_all, less_is_no_other, order_after}
 use Rattle.ctl_store.proofs.ChangeLemmas.{is_itself, ends}
 use Rattle.ctl_store.specs.Given.{was_given, is_given, AreFirstGiven, IsGivenOnce}
@@ -144,8 +145,8 @@ module _ (k : StanzaKey) where
 own_among : (ks : List StanzaKey) → AllByRecursion (λ k. list_any (key_is k) ks ≡ true) ks
 own_among [] = tt
 own_among (k ∷ ks) = (
-  is_first (key_is k k) (list_any (key_is k) ks) (is_itself k),
-  all_both (λ q. list_any (key_is q) ks ≡ true) (λ q. list_any (key_is q) ks ≡ true) (λ q. list_any (key_is q) (k ∷ ks) ≡ true) ks (λ q h _. or_true (key_is q k) (list_any (key_is q) ks) h) (own_among ks) (own_among ks),
+  or_left (key_is k k) (list_any (key_is k) ks) (is_itself k),
+  all_both (λ q. list_any (key_is q) ks ≡ true) (λ q. list_any (key_is q) ks ≡ true) (λ q. list_any (key_is q) (k ∷ ks) ≡ true) ks (λ q h _. or_right (key_is q k) (list_any (key_is q) ks) h) (own_among ks) (own_among ks),
 )
 
 found_by : (find : StanzaKey → Option Content) (P : StanzaKey → Type 0) (ks : List StanzaKey) → AllByRecursion P ks → AllByRecursion (λ (e : Entry). P e.0 × (find e.0 ≡ Some e.1)) (entries_by find ks)
@@ -276,8 +277,8 @@ module _ (k : StanzaKey) where
   gave l = cond (nat_eq l.serial k.list) (nat_lt k.stanza l.next) true
 
   given_push : (ls : List (List ℕ × KeyedList)) (name : List ℕ) (l : KeyedList) → was_given k ls ≡ true → gave l ≡ true → was_given k (ls ++ (name, l) ∷ []) ≡ true
-  given_push [] name l h g = both_true (gave l) true g refl
-  given_push (x ∷ ls) name l h g = let both = and_parts (gave x.1) (was_given k ls) h in both_true (gave x.1) (was_given k (ls ++ (name, l) ∷ [])) both.0 (given_push ls name l both.1 g)
+  given_push [] name l h g = and_from (gave l) true g refl
+  given_push (x ∷ ls) name l h g = let both = and_parts (gave x.1) (was_given k ls) h in and_from (gave x.1) (was_given k (ls ++ (name, l) ∷ [])) both.0 (given_push ls name l both.1 g)
 
   given_without : (name : List ℕ) (ls : List (List ℕ × KeyedList)) → was_given k ls ≡ true → was_given k (without_name name ls) ≡ true
   given_without name [] h = refl
@@ -301,11 +302,11 @@ module _ (k : StanzaKey) where
 
       by : (edit : Edit) → is_given (keyed_after s edit) k ≡ true
       by (AddList name kind class stanzas) =
-          both_true (nat_lt k.list (s.next_list + 1)) (was_given k (s.lists ++ (name, list_of_stanzas s.next_list kind class stanzas) ∷ [])) (lt_is k.list (s.next_list + 1) (omega (arith, below)))
+          and_from (nat_lt k.list (s.next_list + 1)) (was_given k (s.lists ++ (name, list_of_stanzas s.next_list kind class stanzas) ∷ [])) (lt_is k.list (s.next_list + 1) (omega (arith, below)))
           (given_push s.lists name (list_of_stanzas s.next_list kind class stanzas) both.1 (ap (λ b. cond b (nat_lt k.stanza (list_of_stanzas s.next_list kind class stanzas).next) true) other))
-      by (DropList name) = both_true (nat_lt k.list s.next_list) (was_given k (without_name name s.lists)) both.0 (given_without name s.lists both.1)
-      by (Put list x) = both_true (nat_lt k.list s.next_list) (was_given k (change_named list (put_keyed x) s.lists)) both.0 (given_change list (put_keyed x) (Grows-put x) s.lists both.1)
-      by (Remove list name version) = both_true (nat_lt k.list s.next_list) (was_given k (change_named list (remove_keyed name (Some version)) s.lists)) both.0 (given_change list (remove_keyed name (Some version)) (Grows-remove name (Some version)) s.lists both.1)
+      by (DropList name) = and_from (nat_lt k.list s.next_list) (was_given k (without_name name s.lists)) both.0 (given_without name s.lists both.1)
+      by (Put list x) = and_from (nat_lt k.list s.next_list) (was_given k (change_named list (put_keyed x) s.lists)) both.0 (given_change list (put_keyed x) (Grows-put x) s.lists both.1)
+      by (Remove list name version) = and_from (nat_lt k.list s.next_list) (was_given k (change_named list (remove_keyed name (Some version)) s.lists)) both.0 (given_change list (remove_keyed name (Some version)) (Grows-remove name (Some version)) s.lists both.1)
       by edit = h
 
   -- ---- a key that has a stanza was given
@@ -324,10 +325,10 @@ module _ (k : StanzaKey) where
 
   held_in : (n : ℕ) (ls : List (List ℕ × KeyedList)) (m e : ℕ) → InOrder n ls m e → IsSome (stanza_at k ls) → (k.list < m) × (was_given k ls ≡ true)
   held_in n [] m e h some = absurd (let z : ⊥ = cc some in z)
-  held_in n (x ∷ ls) m e h some = grind (arith, k, is_eq_from, none_later, row_below, or_none, ends, both_true, lt_is, later_given, held_in (suc x.1.serial) ls m e h.3)
+  held_in n (x ∷ ls) m e h some = grind (arith, k, is_eq_from, none_later, row_below, or_none, ends, and_from, lt_is, later_given, held_in (suc x.1.serial) ls m e h.3)
 
   held_given : (s : Keyed) (e : ℕ) → InOrder 0 s.lists s.next_list e → IsSome (stanza_at k s.lists) → is_given s k ≡ true
-  held_given s e order some = grind (arith, held_in, both_true, k, lt_is)
+  held_given s e order some = grind (arith, held_in, and_from, k, lt_is)
 
 -- ---- a key that comes was not
 

@@ -1,5 +1,5 @@
 -- The order of keys is the order of the lists and of the stanzas in them.
-use Rattle.std.proofs.Common.{◌≡◌, ℕ, ◌<◌, suc, List, [], ◌∷◌, ◌++◌, map, arith, ◌∙◌, Bool, true, false, cond, nat_eq, drop, Option, None, Some, refl, ap, IsSome, sym, subst, is_some, option_map}
+use Rattle.std.proofs.Common.{◌≡◌, ℕ, ◌<◌, suc, List, [], ◌∷◌, ◌++◌, map, arith, ◌∙◌, Bool, true, false, cond, nat_eq, drop, Option, None, Some, refl, ap, IfSome, IsSome, sym, subst, is_some, option_map}
 use Rattle.std.specs.List.{AllByRecursion}
 use Rattle.std.specs.Ordering.{nat_cmp, ordering_then}
 use Rattle.std.specs.declared.cmp.Ordering.TheVariants.{Less}
@@ -184,3 +184,14 @@ kind_at k es e h is there = by (lookup (λ s. nat_eq s k.stanza) e.1.rows) there
     by : (o : Option Content) → IsSome o → ((x : Content) → o ≡ Some x → x.kind ≡ e.1.kind) → Some e.1.kind ≡ option_map (λ (x : Content). x.kind) o
     by None there f = cc
     by (Some x) there f = ap Some (sym (f x refl))
+
+-- it is that of each stanza under a key of the list
+pub each_kind : (k : StanzaKey) (n : ℕ) (es : List (List ℕ × HeldList)) (m b : ℕ) (e : List ℕ × HeldList) → InOrder n (lists_of es) m b → KeepKinds (stanza_lists (lists_of es)) → entry_of k.list es ≡ Some e
+    → IfSome (stanza_at k (lists_of es)) (λ (x : Content). x.kind ≡ e.1.kind)
+each_kind k n es m b e order h is =
+    subst (λ o. IfSome o (λ (x : Content). x.kind ≡ e.1.kind)) (sym (look_up k n es m b order ∙ ap (in_entry k) is))
+    (by (lookup (λ s. nat_eq s k.stanza) e.1.rows) (λ x f. lookup_kind e.1.kind k.stanza e.1.rows x (entry_kind k.list es e h is) f))
+  where
+    by : (o : Option Content) → ((x : Content) → o ≡ Some x → x.kind ≡ e.1.kind) → IfSome o (λ (x : Content). x.kind ≡ e.1.kind)
+    by None f = tt
+    by (Some x) f = f x refl

@@ -1,9 +1,9 @@
 -- What the order of the rows of a list says of the rows, and how it changes with them.
-use Rattle.std.proofs.Common.{◌≡◌, ℕ, ◌+◌, ◌<◌, ◌≤◌, true, cond, ◌&&◌, List, [], ◌∷◌, ◌++◌, length, get_or, Option, None, Some, refl, ap, sym, ◌∙◌, arith, zero, suc, map, take, drop, Vec, vec_len, subst, false, slice_get, Box, Bool, not, nat_eq, option_map, sum_by}
+use Rattle.std.proofs.Common.{◌≡◌, ℕ, ◌+◌, ◌<◌, ◌≤◌, true, cond, ◌&&◌, List, [], ◌∷◌, ◌++◌, length, get_or, Option, None, Some, refl, ap, sym, ◌∙◌, arith, zero, suc, map, take, drop, subst, false, Bool, not, nat_eq, sum_by}
 use Rattle.std.specs.List.{insert, remove, AllByRecursion, IsAllAdjacentAnswer}
 use Rattle.std.specs.Cmp.{IsTotalOrder, nat_cmp_total}
 use Rattle.std.specs.Cmp.Lexicographic.{options_total, nat_list_cmp_total, slice_cmp}
-use Rattle.std.specs.Ordering.{ordering_then, is_eq, nat_cmp, is_ne, is_lt, is_gt}
+use Rattle.std.specs.Ordering.{ordering_then, is_eq, nat_cmp, is_lt, is_gt}
 use Rattle.std.specs.declared.cmp.Ordering.{Ordering}
 use Rattle.std.proofs.lemmas.Cmp.{on_total, then_total, upto}
 use Rattle.std.proofs.lemmas.Map.Text.{is_eq-slice_cmp}
@@ -13,17 +13,15 @@ use Rattle.ctl_relation.specs.Orders.Versions.{equal_versions, triple_total}
 use Rattle.ctl_stanza.specs.Content.{Content, package_of, version_of}
 use Rattle.ctl_store.specs.Step.{place, is_same, is_same_version}
 use Rattle.ctl_store.specs.Inside.Sorted.{place_in, insert_in}
-use Rattle.ctl_store.specs.Rows.{Id, id, id_of, row_id, version_id, version_order, id_cmp, ids_of, sorted_ids, lower, has_serial, IsKept, order_at, by_name_and_version, replace_at, sorted_serials, Rises, rows_from, id_at, place_cmp}
-use Rattle.ctl_store.proofs.PlaceLemmas.{and_left, place_within, place_passes, and_second, equal_is, Rises-rows_from, eq_is, all_map}
-use Rattle.ctl_store.proofs.RankedLemmas.{found_here as ranked_here, found_past as ranked_past, ranked_replace, ranked_push, ranked_remove, length-sorted_in, g, all_insert, all_sorted, all_from, Rises-labels}
-use Rattle.std.specs.Vec.{vec_capacity}
-use Rattle.ctl_store.specs.Inside.HeldPieces.{joined, ArePieces, IsFit}
+use Rattle.ctl_store.specs.Rows.{Id, id, id_of, row_id, version_id, version_order, id_cmp, ids_of, sorted_ids, lower, has_serial, IsKept, order_at, by_name_and_version, replace_at, sorted_serials, Rises, rows_from, id_under, serial_cmp}
+use Rattle.std.proofs.lemmas.Bool.{and_parts}
+use Rattle.ctl_store.proofs.PlaceLemmas.{place_within, place_passes, equal_is, Rises-rows_from, eq_is, all_map}
+use Rattle.ctl_store.proofs.RankedLemmas.{found_here as ranked_here, found_past as ranked_past, ranked_replace, ranked_push, ranked_remove, length-sorted_in, g, all_insert, all_sorted, all_from, all_lookup, lookup-labels, Rises-labels}
 use Rattle.ctl_store.specs.Keys.{KeyedList, key_of, key_at}
-use Rattle.ctl_store.specs.Inside.Held.{IsHeldList}
-use Rattle.std.proofs.lemmas.List.{drop_more, drop_all, length-map}
+use Rattle.std.proofs.lemmas.List.{length-map}
 use Rattle.std.specs.Option.{option_cmp}
 use Rattle.std.specs.declared.cmp.Ordering.TheVariants.{Equal, Greater}
-use Rattle.ctl_store.specs.Fronts.{front_len, filled, front_of, fronts_of}
+use Rattle.ctl_store.specs.Fronts.{front_len, filled, front_of}
 use Rattle.std.specs.Bool.{OnTrue}
 use Rattle.std.specs.List.Sorted.{IsPermutation, IsSortedBy}
 use Rattle.std.proofs.lemmas.List.Sorted.{sum_by-IsPermutation, sorted_far, ranks_by}
@@ -51,8 +49,8 @@ same_versions (Some v) (Some w) e = ap Some ((equal_versions v w).0 (equal_is (v
 
 exact_id : (name : List ℕ) (version : Option (List ℕ)) (x : Content) → is_same name version x ≡ true → id_of x ≡ id name version
 exact_id name version x e = λ j. record {
-  name = (bytes_eq-Decides (package_of x) name).0 (and_left _ _ e) j;
-  version = same_versions (version_of x) version (and_second _ _ e) j;
+  name = (bytes_eq-Decides (package_of x) name).0 (and_parts _ _ e).0 j;
+  version = same_versions (version_of x) version (and_parts _ _ e).1 j;
 }
 
 -- ---- the first row of a name and a version
@@ -83,8 +81,6 @@ module _ (rows : List (ℕ × Content)) (next : ℕ) (order : List ℕ) (kept : 
   pub kept_remove : (name : List ℕ) (version : Option (List ℕ)) (i : ℕ) → place (by_name_and_version name version) rows ≡ Some i → IsKept (remove rows i) next (remove order (lower (id name version) (sorted_ids (ids_of rows))))
   kept_remove name version i e = ranked_remove id_cmp id_total row_id rows next order kept (id name version) i (sym (place-ids name version rows) ∙ e)
 
--- ---- what a list keeps while its rows and their order change
-
 -- ---- the key at a place
 
 module _ {X Y : Type 0} (f : X → Y) where
@@ -95,50 +91,6 @@ module _ {X Y : Type 0} (f : X → Y) where
 
 pub key_read : (l : KeyedList) (i : ℕ) (row : ℕ × Content) → i < length l.rows → ((d : ℕ × Content) → get_or l.rows i d ≡ row) → key_at l (Some i) ≡ key_of l.serial row.0 ∷ []
 key_read l i row within e = one_taken (λ (r : ℕ × Content). key_of l.serial r.0) l.rows i row within e
-
--- ---- what is kept
-
--- pieces of which one was written
-pub fit_written : {X A B : Type 0} (ps qs ready : Vec (Vec X A) B) → IsFit ps ready → ArePieces qs.items → vec_len qs ≡ vec_len ps → vec_capacity qs ≡ vec_capacity ps → IsFit qs ready
-fit_written ps qs ready h pieces len capacity = record {
-  pieces = pieces;
-  ready = h.ready;
-  room = omega (arith, h.room, len, capacity);
-}
-
-module _ {A B : Type 0} (rows rows_ready : Vec (Vec (ℕ × Content) A) B) (next : ℕ) (order order_ready : Vec (Vec ℕ A) B) (h : IsHeldList rows rows_ready next order order_ready) where
-  abbrev at_id : Content → ℕ
-  at_id x = lower (id_of x) (sorted_ids (ids_of (joined rows.items)))
-
-  pub held_replace : (x : Content) (i : ℕ) (rows' : Vec (Vec (ℕ × Content) A) B) → place (by_name_and_version (package_of x) (version_of x)) (joined rows.items) ≡ Some i
-      → IsFit rows' rows_ready → joined rows'.items ≡ replace_at (joined rows.items) i x → IsHeldList rows' rows_ready next order order_ready
-  held_replace x i rows' found fit is = record {
-    kept = subst (λ l. IsKept l next (joined order.items)) (sym is) (kept_replace (joined rows.items) next (joined order.items) h.kept x i found);
-    rows_fit = fit;
-    order_fit = h.order_fit;
-  }
-
-  module _ (rows' rows_ready' : Vec (Vec (ℕ × Content) A) B) (order' order_ready' : Vec (Vec ℕ A) B) (rows_fit : IsFit rows' rows_ready') (order_fit : IsFit order' order_ready') where
-    pub held_push : (x : Content) (at : ℕ) → place (by_name_and_version (package_of x) (version_of x)) (joined rows.items) ≡ None → at ≡ at_id x
-        → joined rows'.items ≡ joined rows.items ++ (next, x) ∷ [] → joined order'.items ≡ insert (joined order.items) at next → IsHeldList rows' rows_ready' (next + 1) order' order_ready'
-    held_push x at none e is order_is = record {
-      kept =
-          subst (λ l. IsKept l (next + 1) (joined order'.items)) (sym is)
-          (subst (λ l. IsKept (joined rows.items ++ (next, x) ∷ []) (next + 1) l) (sym (order_is ∙ ap (λ k. insert (joined order.items) k next) e)) (kept_push (joined rows.items) next (joined order.items) h.kept x none));
-      rows_fit = rows_fit;
-      order_fit = order_fit;
-    }
-
-    pub held_remove : (name : List ℕ) (version : Option (List ℕ)) (i at : ℕ) → place (by_name_and_version name version) (joined rows.items) ≡ Some i
-        → at ≡ lower (id name version) (sorted_ids (ids_of (joined rows.items)))
-        → joined rows'.items ≡ remove (joined rows.items) i → joined order'.items ≡ remove (joined order.items) at → IsHeldList rows' rows_ready' next order' order_ready'
-    held_remove name version i at found e is order_is = record {
-      kept =
-          subst (λ l. IsKept l next (joined order'.items)) (sym is)
-          (subst (λ l. IsKept (remove (joined rows.items) i) next l) (sym (order_is ∙ ap (remove (joined order.items)) e)) (kept_remove (joined rows.items) next (joined order.items) h.kept name version i found));
-      rows_fit = rows_fit;
-      order_fit = order_fit;
-    }
 
 -- ---- a new list
 
@@ -155,15 +107,10 @@ pub length-order : (rows : List (ℕ × Content)) (next : ℕ) (order : List ℕ
 length-order rows next order h = grind (arith, length-map, length-sorted_in)
 
 -- rows from 0 on, in the order that a sort gives
-pub held_sorted : {A B : Type 0} (rows rows_ready : Vec (Vec (ℕ × Content) A) B) (next : ℕ) (order order_ready : Vec (Vec ℕ A) B) (xs : List Content)
-    → joined rows.items ≡ rows_from 0 xs → next ≡ length xs → joined order.items ≡ sorted_serials (rows_from 0 xs) → IsFit rows rows_ready → IsFit order order_ready → IsHeldList rows rows_ready next order order_ready
-held_sorted rows rows_ready next order order_ready xs is n order_is rows_fit order_fit = record {
-  kept = subst (λ l. IsKept l next (joined order.items)) (sym is) (record {
-    rises = subst (λ m. Rises 0 (rows_from 0 xs) m) (omega (arith, n)) (Rises-rows_from 0 xs);
-    ordered = order_is;
-  });
-  rows_fit = rows_fit;
-  order_fit = order_fit;
+pub kept_sorted : (rows : List (ℕ × Content)) (next : ℕ) (order : List ℕ) (xs : List Content) → rows ≡ rows_from 0 xs → next ≡ length xs → order ≡ sorted_serials rows → IsKept rows next order
+kept_sorted rows next order xs is n order_is = record {
+  rises = subst (λ l. Rises 0 l next) (sym is) (subst (λ m. Rises 0 (rows_from 0 xs) m) (omega (arith, n)) (Rises-rows_from 0 xs));
+  ordered = order_is;
 }
 
 -- ---- where the fronts of two names differ, they stand as the names do
@@ -200,47 +147,6 @@ first_decides o r then e n = grind arith
 pub front_tells : (x : Content) (name : List ℕ) (version : Option (List ℕ)) (o : Ordering) → o ≡ slice_cmp nat_cmp (front_of (package_of x)) (front_of name) → (o ≡ Equal → ⊥) → o ≡ id_cmp (id_of x) (id name version)
 front_tells x name version o e n =
     first_decides o (slice_cmp nat_cmp (package_of x) name) (version_order (version_id (version_of x)) (version_id version)) (fronts_tell front_len (package_of x) name o e n) n
-
--- the stanza whose front stands at a place
-stanza_at : (n : ℕ) (xs : List Content) (k : ℕ) (front : List ℕ) → slice_get (fronts_of xs) k ≡ Some front → (x : Content) × (id_at (rows_from n xs) k ≡ Some (id_of x)) × (front ≡ front_of (package_of x))
-stanza_at n [] k front e = cc
-stanza_at n (x ∷ xs) zero front e = (x, refl, cc)
-stanza_at n (x ∷ xs) (suc k) front e = stanza_at (suc n) xs k front e
-
--- and so do the stanzas at two places
-pub fronts_tell_at : (fronts : List (List ℕ)) (xs : List Content) (i j : ℕ) (front against : List ℕ) (o : Ordering) → fronts ≡ fronts_of xs → slice_get fronts i ≡ Some front → slice_get fronts j ≡ Some against → o ≡ slice_cmp nat_cmp front against → (o ≡ Equal → ⊥)
-    → o ≡ option_cmp id_cmp (id_at (rows_from 0 xs) i) (id_at (rows_from 0 xs) j)
-fronts_tell_at fronts xs i j front against o all e h is n =
-    let one = stanza_at 0 xs i front (ap (λ l. slice_get l i) (sym all) ∙ e) in
-    let other = stanza_at 0 xs j against (ap (λ l. slice_get l j) (sym all) ∙ h) in
-    front_tells one.0 (package_of other.0) (version_of other.0) o (is ∙ (λ j. slice_cmp nat_cmp (one.2 j) (other.2 j))) n
-    ∙ sym (λ j. option_cmp id_cmp (one.1 j) (other.1 j))
-
--- what is left of two fronts at a place compares as the bytes there and what is behind them
-left_by_bytes : (xs ys : List ℕ) (i : ℕ) → i < length xs → i < length ys → slice_cmp nat_cmp (drop i xs) (drop i ys) ≡ ordering_then (nat_cmp (get_or xs i 0) (get_or ys i 0)) (slice_cmp nat_cmp (drop (i + 1) xs) (drop (i + 1) ys))
-left_by_bytes xs ys i h g = λ j. slice_cmp nat_cmp (drop_more xs i 0 h j) (drop_more ys i 0 g j)
-
-unequal_then : (o p : Ordering) → is_ne o ≡ true → o ≡ ordering_then o p
-unequal_then o p h = grind arith
-
-equal_then : (o p : Ordering) → is_ne o ≡ false → p ≡ ordering_then o p
-equal_then o p h = grind arith
-
-module _ (xs ys : List ℕ) (i : ℕ) where
-  module _ (o : Ordering) (h : i < length xs) (g : i < length ys) (is : o ≡ nat_cmp (get_or xs i 0) (get_or ys i 0)) where
-    left : slice_cmp nat_cmp (drop i xs) (drop i ys) ≡ ordering_then o (slice_cmp nat_cmp (drop (i + 1) xs) (drop (i + 1) ys))
-    left = left_by_bytes xs ys i h g ∙ ap (λ r. ordering_then r (slice_cmp nat_cmp (drop (i + 1) xs) (drop (i + 1) ys))) (sym is)
-
-    -- bytes that differ tell it
-    pub bytes_tell : is_ne o ≡ true → o ≡ slice_cmp nat_cmp (drop i xs) (drop i ys)
-    bytes_tell n = unequal_then o _ n ∙ sym left
-
-    -- and else what is behind them does
-    pub bytes_pass : is_ne o ≡ false → slice_cmp nat_cmp (drop (i + 1) xs) (drop (i + 1) ys) ≡ slice_cmp nat_cmp (drop i xs) (drop i ys)
-    bytes_pass e = equal_then o _ e ∙ sym left
-
-  pub none_left : length xs ≤ i → length ys ≤ i → Equal ≡ slice_cmp nat_cmp (drop i xs) (drop i ys)
-  none_left h g = sym (λ j. slice_cmp nat_cmp (drop_all i xs h j) (drop_all i ys g j))
 
 -- ---- sorting the serials of new rows gives the order that is kept
 
@@ -334,34 +240,34 @@ pairs_sorted : (n : ℕ) (xs : List (ℕ × Id)) (m : ℕ) → Rises n xs m → 
 pairs_sorted n [] m h = tt
 pairs_sorted n (x ∷ xs) m h = grind (arith, pairs_insert, all_sorted, id_total, all_map, all_from, pairs_sorted (suc x.0) xs m h.1)
 
--- ---- the same by the places of rows
+-- ---- the same by the serials of rows
 
-pub place_total : (rows : List (ℕ × Content)) → IsTotalOrder (place_cmp rows)
-place_total rows = then_total (on_total (λ (n : ℕ). id_at rows n) (options_total id_total)) (on_total (λ (n : ℕ). n) nat_cmp_total)
+pub serial_total : (rows : List (ℕ × Content)) → IsTotalOrder (serial_cmp rows)
+serial_total rows = then_total (on_total (λ (n : ℕ). id_under rows n) (options_total id_total)) (on_total (λ (n : ℕ). n) nat_cmp_total)
 
-place_exact : (rows : List (ℕ × Content)) (a b : ℕ) → place_cmp rows a b ≡ Equal → a ≡ b
-place_exact rows a b e = grind arith
+serial_exact : (rows : List (ℕ × Content)) (a b : ℕ) → serial_cmp rows a b ≡ Equal → a ≡ b
+serial_exact rows a b e = grind arith
 
 module _ (rows : List (ℕ × Content)) where
-  at_pairs : (x y : ℕ × Id) → id_at rows x.0 ≡ Some x.1 → id_at rows y.0 ≡ Some y.1 → place_cmp rows x.0 y.0 ≡ pair_cmp x y
+  -- a serial, with what its row is found by
+  abbrev IsUnder : ℕ × Id → Type 0
+  IsUnder x = id_under rows x.0 ≡ Some x.1
+
+  at_pairs : (x y : ℕ × Id) → IsUnder x → IsUnder y → serial_cmp rows x.0 y.0 ≡ pair_cmp x y
   at_pairs x y e f = λ j. ordering_then (option_cmp id_cmp (e j) (f j)) (nat_cmp x.0 y.0)
 
-  all_up : (x : ℕ × Id) (ys : List (ℕ × Id)) → id_at rows x.0 ≡ Some x.1 → AllByRecursion (λ (y : ℕ × Id). id_at rows y.0 ≡ Some y.1) ys → AllByRecursion (λ z. is_gt (pair_cmp x z) ≡ false) ys
-      → AllByRecursion (λ n. is_gt (place_cmp rows x.0 n) ≡ false) (map (λ (y : ℕ × Id). y.0) ys)
+  all_up : (x : ℕ × Id) (ys : List (ℕ × Id)) → IsUnder x → AllByRecursion IsUnder ys → AllByRecursion (λ z. is_gt (pair_cmp x z) ≡ false) ys
+      → AllByRecursion (λ n. is_gt (serial_cmp rows x.0 n) ≡ false) (map (λ (y : ℕ × Id). y.0) ys)
   all_up x [] e h k = tt
   all_up x (y ∷ ys) e h k = (ap is_gt (at_pairs x y e h.0) ∙ k.0, all_up x ys e h.1 k.1)
 
-  pairs_up : (ys : List (ℕ × Id)) → AllByRecursion (λ (y : ℕ × Id). id_at rows y.0 ≡ Some y.1) ys → ArePairsUp ys → IsUp (place_cmp rows) (place_total rows) (place_exact rows) (map (λ (y : ℕ × Id). y.0) ys)
+  pairs_up : (ys : List (ℕ × Id)) → AllByRecursion IsUnder ys → ArePairsUp ys → IsUp (serial_cmp rows) (serial_total rows) (serial_exact rows) (map (λ (y : ℕ × Id). y.0) ys)
   pairs_up [] h k = tt
   pairs_up (y ∷ ys) h k = (all_up y ys h.0 h.1 k.0, pairs_up ys h.1 k.1)
 
-  -- each serial is the place of its row
-  at_places : (n : ℕ) (xs : List Content) → ((k : ℕ) → slice_get rows (n + k) ≡ slice_get (rows_from n xs) k) → AllByRecursion (λ (y : ℕ × Id). id_at rows y.0 ≡ Some y.1) (ids_of (rows_from n xs))
-  at_places n [] h = tt
-  at_places n (x ∷ xs) h = (
-    ap (λ k. id_at rows k) (let z : n ≡ n + 0 = omega arith in z) ∙ ap (option_map (λ (row : ℕ × Content). id_of row.1)) (h 0),
-    at_places (suc n) xs (λ k. ap (slice_get rows) (let z : suc n + k ≡ n + suc k = omega arith in z) ∙ h (suc k)),
-  )
+  all_under : (next : ℕ) → Rises 0 rows next → AllByRecursion IsUnder (ids_of rows)
+  all_under next rises =
+      all_map (λ (y : ℕ × Id) e. sym (lookup-labels id_cmp id_total row_id y.0 rows) ∙ e) (ids_of rows) (all_lookup 0 (ids_of rows) next (Rises-labels id_cmp id_total row_id 0 rows next rises))
 
 -- ---- a sort only moves what is there
 
@@ -377,26 +283,25 @@ serials-ids : (rows : List (ℕ × Content)) → map (λ (y : ℕ × Id). y.0) (
 serials-ids [] = refl
 serials-ids (row ∷ rows) = ap (λ l. row.0 ∷ l) (serials-ids rows)
 
--- what a sort by places makes of the serials of new rows
-pub sorted_is : (rows : List (ℕ × Content)) (xs : List Content) → rows ≡ rows_from 0 xs → (serials order : List ℕ) → serials ≡ map (λ (row : ℕ × Content). row.0) rows → IsPermutation serials order
-    → IsSortedBy (λ x y. is_lt (place_cmp rows x y)) order → order ≡ sorted_serials rows
-sorted_is rows xs e serials order s moved sorted =
-    one_list (place_cmp rows) (place_total rows) (place_exact rows) order (sorted_serials rows)
+from_zero : (n : ℕ) (rows : List (ℕ × Content)) (m : ℕ) → Rises n rows m → Rises 0 rows m
+from_zero n [] m h = omega (arith, h)
+from_zero n (row ∷ rows) m h = (omega (arith, h.0), h.1)
+
+-- what a sort makes of the serials of rows
+pub sorted_is : (rows : List (ℕ × Content)) (first next : ℕ) → Rises first rows next → (serials order : List ℕ) → serials ≡ map (λ (row : ℕ × Content). row.0) rows → IsPermutation serials order
+    → IsSortedBy (λ x y. is_lt (serial_cmp rows x y)) order → order ≡ sorted_serials rows
+sorted_is rows first next risen serials order s moved sorted =
+    let rises = from_zero first rows next risen in
+    one_list (serial_cmp rows) (serial_total rows) (serial_exact rows) order (sorted_serials rows)
     (λ f.
     sym (sum_by-tally f order) ∙ sum_by-IsPermutation f serials order moved ∙ sum_by-tally f serials ∙ ap (tally f) (s ∙ sym (serials-ids rows)) ∙ sym (tally-sorted f (ids_of rows)))
-    (sorted_up (place_cmp rows) (place_total rows) (place_exact rows) order sorted)
+    (sorted_up (serial_cmp rows) (serial_total rows) (serial_exact rows) order sorted)
     (pairs_up rows (sorted_ids (ids_of rows))
-    (all_sorted id_cmp id_total (λ (y : ℕ × Id). id_at rows y.0 ≡ Some y.1) (ids_of rows) (subst (λ l. AllByRecursion (λ (y : ℕ × Id). id_at rows y.0 ≡ Some y.1) (ids_of l)) (sym e) (at_places rows 0 xs (λ k. ap (slice_get rows) (let z : 0 + k ≡ k = omega arith in z) ∙ ap (λ l. slice_get l k) e))))
-    (pairs_sorted 0 (ids_of rows) (0 + length xs) (Rises-labels id_cmp id_total row_id 0 rows (0 + length xs) (subst (λ l. Rises 0 l (0 + length xs)) (sym e) (Rises-rows_from 0 xs)))))
+    (all_sorted id_cmp id_total (IsUnder rows) (ids_of rows) (all_under rows next rises))
+    (pairs_sorted 0 (ids_of rows) next (Rises-labels id_cmp id_total row_id 0 rows next rises)))
 
--- what the row at a place is found by, of the stanza at that place
-pub id_at_stanza : {A : Type 0} (n : ℕ) (xs : List (Box Content A)) (k : ℕ) → id_at (rows_from n (map (λ stanza. stanza.value) xs)) k ≡ option_map (λ (x : Box Content A). id_of x.value) (slice_get xs k)
-id_at_stanza n [] k = refl
-id_at_stanza n (x ∷ xs) zero = refl
-id_at_stanza n (x ∷ xs) (suc k) = id_at_stanza (suc n) xs k
+-- ---- serials that stand in order already
 
--- ---- places that stand in order already
-
--- what a test of each place and the next one says
+-- what a test of each and the next one says
 pub in_order : (lt : ℕ → ℕ → Bool) (xs : List ℕ) (r : Bool) → IsAllAdjacentAnswer (λ x y b. b ≡ not (lt y x)) xs r → OnTrue r (IsSortedBy lt xs)
 in_order lt xs r h = grind arith

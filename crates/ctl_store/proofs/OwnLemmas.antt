@@ -1,36 +1,27 @@
 -- The settings of one package, after one setting is set or taken out.
-use Rattle.std.proofs.Common.{◌≡◌, ℕ, ℤ, Bool, true, false, cond, List, [], ◌∷◌, refl, ap, sym, ◌∙◌, arith, nat_eq, suc, ◌+◌, ◌<◌, ◌++◌, length, map, Option, Some, None, option_map, subst, zero, ◌&&◌, filter, drop}
+use Rattle.std.proofs.Common.{◌≡◌, ℕ, ℤ, Bool, true, false, cond, List, [], ◌∷◌, refl, ap, sym, ◌∙◌, arith, nat_eq, suc, ◌+◌, ◌<◌, ◌++◌, length, map, Option, Some, None, subst, zero, filter, drop}
 use Rattle.std.specs.Map.{remove_entry, lookup}
 use Rattle.indexmap.specs.IndexMap.{insert_entry}
 use Rattle.ctl_store.specs.declared.selector.Selector.{Selector}
-use Rattle.ctl_store.specs.Pins.{selector_eq, is_of, own_settings}
-use Rattle.ctl_store.specs.SelectorLaws.{selector_eq-Decides, label_total}
+use Rattle.ctl_store.specs.Pins.{selector_eq, is_of, own_settings, package_eq, package_for, settings_of}
+use Rattle.ctl_store.specs.declared.selector.PinSetting.{PinSetting}
+use Rattle.ctl_store.specs.SelectorLaws.{selector_eq-Decides, package_cmp, package_total, package_eq-Decides, packages_tie}
 use Rattle.std.specs.Ordering.{nat_cmp, is_eq, ordering_then, is_gt, is_lt}
-use Rattle.std.proofs.lemmas.Cmp.{ranked}
-use Rattle.ctl_store.proofs.PlaceLemmas.{equal_is, some_is, eq_is, is_eq_from, and_left, and_second, both_true, all_map, turned}
+use Rattle.std.specs.Cmp.{IsTotalOrder, nat_cmp_total, on_total, then_total, tied_itself}
+use Rattle.ctl_store.proofs.PlaceLemmas.{some_is, all_map, turned}
 use Rattle.std.specs.List.{insert, remove, AllByRecursion}
 use Rattle.ctl_ordered.specs.Ordered.{without_serials, set_row, cut_row, row_serial}
 use Rattle.ctl_store.specs.Rows.{Rises}
-use Rattle.ctl_store.specs.Inside.HeldRanks.{Label, label_cmp, labels_of, sorted_labels, labels_below, IsRanked}
-use Rattle.ctl_store.specs.Inside.Sorted.{place_in, insert_in, serials_in}
-use Rattle.ctl_store.specs.Inside.HeldPins.{own_label, own_row, own_start, own_run}
+use Rattle.ctl_store.specs.Inside.Sorted.{place_in, insert_in, labelled, sorted_in, below_in}
+use Rattle.ctl_store.specs.Inside.HeldPins.{own_cmp, own_row, own_below, own_run, IsRanked}
 use Rattle.ctl_store.proofs.RankedLemmas.{below_there, ranked_push, ranked_remove, g, up, lt_back, all_sorted, in_order, IsInOrder, all_lookup}
 use Rattle.std.specs.Option.{option_map_or}
-use Rattle.std.specs.Str.{bytes_eq}
-use Rattle.std.specs.Cmp.{nat_cmp_is}
-use Rattle.std.specs.Cmp.Lexicographic.{slice_cmp}
 use Rattle.std.specs.declared.cmp.Ordering.{Ordering}
-use Rattle.std.specs.declared.cmp.Ordering.TheVariants.{Equal}
-use Rattle.std.proofs.lemmas.Map.Text.{is_eq-slice_cmp}
-use Rattle.std.proofs.lemmas.Slice.Eq.{bytes_eq-Decides}
 use Rattle.std.proofs.lemmas.List.{drop-map}
 use Rattle.ctl_ordered.proofs.SlotLemmas.{serial_least, no_cut, rises_end}
 
-same_selector : (s t : Selector) → selector_eq s t ≡ true → s ≡ t
-same_selector s t e = (selector_eq-Decides s t).0 e
-
 same_of : (q : List ℕ) (s t : Selector) → selector_eq s t ≡ true → is_of q s ≡ is_of q t
-same_of q s t e = ap (is_of q) (same_selector s t e)
+same_of q s t e = ap (is_of q) ((selector_eq-Decides s t).0 e)
 
 -- a setting of the package is set among its own, where it stands among all
 pub own_insert : (q : List ℕ) (s : Selector) (p : ℤ) (settings : List (Selector × ℤ)) → own_settings q (insert_entry selector_eq settings s p) ≡ cond (is_of q s) (insert_entry selector_eq (own_settings q settings) s p) (own_settings q settings)
@@ -41,71 +32,48 @@ pub own_remove : (q : List ℕ) (s : Selector) (settings : List (Selector × ℤ
 own_remove q s [] = grind arith
 own_remove q s (x ∷ settings) = grind (arith, same_of, own_remove q s settings)
 
--- ---- labels that tie are one, and how rows are looked up
-
--- ---- labels that tie
-
-pub same_numbers : (a b : ℕ) → is_eq (nat_cmp a b) ≡ true → a ≡ b
-same_numbers a b e = ranked a b _ (sym (equal_is (nat_cmp a b) e))
-
--- ---- a serial that is looked up
+-- ---- where settings stand
 
 pub lookup_turned : {X : Type 0} (s : ℕ) (rows : List (ℕ × X)) → lookup (nat_eq s) rows ≡ lookup (λ k. nat_eq k s) rows
 lookup_turned s rows = λ j. lookup (λ k. turned s k j) rows
 
--- ---- the order of pin settings by their packages, while one is set or taken out
-
--- ---- labels that differ by their serials
-
-pub same_label : (a : Label) → is_eq (label_cmp a a) ≡ true
-same_label a = grind (arith, label_total.antisymm a a)
-
-other_label : (a b : Label) → (a.rank ≡ b.rank → ⊥) → is_eq (label_cmp a b) ≡ false
-other_label a b f = grind arith
-
-pub rank_is : (n : ℕ) (s : Selector) → (own_label n s).rank ≡ n
-rank_is n s = grind arith
-
-other_serial : (n m : ℕ) (s t : Selector) → n < m → is_eq (label_cmp (own_label n s) (own_label m t)) ≡ false
-other_serial n m s t l = other_label (own_label n s) (own_label m t) (λ e. omega (arith, l, rank_is n s, rank_is m t, e))
-
 abbrev Row : Type 0
 Row = ℕ × (Selector × ℤ)
 
+abbrev Standing : Type 0
+Standing = Option (List ℕ) × ℕ
+
+pub own_total : IsTotalOrder own_cmp
+own_total = then_total (on_total (λ (a : Standing). a.0) package_total) (on_total (λ (a : Standing). a.1) nat_cmp_total)
+
+-- those of two serials don't tie
+other_serial : (a b : Standing) → a.1 < b.1 → is_eq (own_cmp a b) ≡ false
+other_serial a b l = grind arith
+
 -- a serial that was not given is of no row
-fresh : (s : Selector) (n : ℕ) (rows : List Row) (m : ℕ) → Rises n rows m → place_in label_cmp own_row (own_label m s) rows ≡ None
-fresh s n [] m h = refl
-fresh s n (r ∷ rows) m h = grind (arith, other_serial, rises_end, fresh s (suc r.0) rows m h.1)
+fresh : (q : Option (List ℕ)) (n : ℕ) (rows : List Row) (m : ℕ) → Rises n rows m → place_in own_cmp own_row (q, m) rows ≡ None
+fresh q n [] m h = refl
+fresh q n (r ∷ rows) m h = grind (arith, other_serial, rises_end, fresh q (suc r.0) rows m h.1)
 
--- the row of a selector is the first of its label, and it is the one that is cut
-abbrev IsCutAt : Selector → ℕ → List Row → Type 0
-IsCutAt s serial rows = (i : ℕ) × (place_in label_cmp own_row (own_label serial s) rows ≡ Some i) × (cut_row (selector_eq s) rows ≡ remove rows i)
+-- the place of the row of a selector
+abbrev at : Selector → List Row → ℕ
+at s [] = 0
+at s (r ∷ rows) = cond (selector_eq s r.1.0) 0 (suc (at s rows))
 
-cut_at : (s : Selector) (serial n : ℕ) (rows : List Row) (m : ℕ) → Rises n rows m → row_serial (selector_eq s) rows ≡ Some serial → IsCutAt s serial rows
-cut_at s serial n [] m h e = cc
-cut_at s serial n (r ∷ rows) m h e = by (selector_eq s r.1.0) refl e (cut_at s serial (suc r.0) rows m h.1)
-  where
-    place : Option ℕ
-    place = option_map (λ k. suc k) (place_in label_cmp own_row (own_label serial s) rows)
+ties_there : (s t : Selector) (n m : ℕ) → selector_eq s t ≡ true → n ≡ m → is_eq (own_cmp (package_for t, n) (package_for s, m)) ≡ true
+ties_there s t n m e k = (λ j. is_eq (own_cmp (package_for (sym ((selector_eq-Decides s t).0 e) j), k j) (package_for s, m))) ∙ ap is_eq (tied_itself own_total (package_for s, m))
 
-    by : (b : Bool) → selector_eq s r.1.0 ≡ b → cond b (Some r.0) (row_serial (selector_eq s) rows) ≡ Some serial → (row_serial (selector_eq s) rows ≡ Some serial → IsCutAt s serial rows)
-        → (i : ℕ) × (place_in label_cmp own_row (own_label serial s) (r ∷ rows) ≡ Some i) × (cond b rows (r ∷ cut_row (selector_eq s) rows) ≡ remove (r ∷ rows) i)
-    by true is e rest =
-        let same = sym ((selector_eq-Decides s r.1.0).0 is) in (
-          0,
-          ap (λ b. cond b (Some 0) place) ((λ j. is_eq (label_cmp (own_label (some_is e j) (same j)) (own_label serial s))) ∙ same_label (own_label serial s)),
-          refl,
-        )
-    by false is e rest =
-        let cut = rest e in
-        let less : r.0 < serial = omega (arith, serial_least (selector_eq s) (suc r.0) rows m serial h.1 e) in (
-          suc cut.0,
-          ap (λ b. cond b (Some 0) place) (other_serial r.0 serial r.1.0 s less) ∙ ap (option_map (λ k. suc k)) cut.1,
-          ap (λ l. r ∷ l) cut.2,
-        )
+-- it is the first where it stands, and it is the one that is cut
+at_first : (s : Selector) (serial n : ℕ) (rows : List Row) (m : ℕ) → Rises n rows m → row_serial (selector_eq s) rows ≡ Some serial → place_in own_cmp own_row (package_for s, serial) rows ≡ Some (at s rows)
+at_first s serial n [] m h e = cc
+at_first s serial n (r ∷ rows) m h e = grind (arith, ties_there s r.1.0, other_serial (own_row r) (package_for s, serial), some_is, serial_least (selector_eq s) (suc r.0) rows m serial h.1, at_first s serial (suc r.0) rows m h.1)
 
--- another priority changes neither the labels nor the serials
-set_labels : (test : Selector → Bool) (w : ℤ) (rows : List Row) → labels_of own_row (set_row test rows w) ≡ labels_of own_row rows
+at_cut : (s : Selector) (serial : ℕ) (rows : List Row) → row_serial (selector_eq s) rows ≡ Some serial → cut_row (selector_eq s) rows ≡ remove rows (at s rows)
+at_cut s serial [] e = cc
+at_cut s serial (r ∷ rows) e = grind (arith, at_cut s serial rows)
+
+-- another priority changes neither where settings stand nor the serials
+set_labels : (test : Selector → Bool) (w : ℤ) (rows : List Row) → labelled own_row (set_row test rows w) ≡ labelled own_row rows
 set_labels test w [] = refl
 set_labels test w (r ∷ rows) = grind (arith, set_labels test w rows)
 
@@ -115,182 +83,148 @@ set_rises test w n (r ∷ rows) m h = grind (arith, set_rises test w (suc r.0) r
 
 -- ---- the order after a change
 
-module _ (rows : List Row) (next : ℕ) (order : List ℕ) (kept : IsRanked own_row rows next order) where
-  abbrev below : Label → ℕ
-  below q = labels_below q (sorted_labels (labels_of own_row rows))
-
+module _ (rows : List Row) (next : ℕ) (order : List ℕ) (kept : IsRanked rows next order) where
   -- a setting of a selector that is there stays where it is
-  pub own_set : (test : Selector → Bool) (w : ℤ) → IsRanked own_row (set_row test rows w) next order
+  pub own_set : (test : Selector → Bool) (w : ℤ) → IsRanked (set_row test rows w) next order
   own_set test w = record {
     rises = set_rises test w 0 rows next kept.rises;
-    ordered = kept.ordered ∙ ap (λ xs. map (λ (y : ℕ × Label). y.0) (sorted_labels xs)) (sym (set_labels test w rows));
+    ordered = kept.ordered ∙ ap (λ xs. map (λ (y : ℕ × Standing). y.0) (sorted_in own_cmp xs)) (sym (set_labels test w rows));
   }
 
   -- another goes to the end of those of its package
-  pub own_push : (x : Selector × ℤ) (at : ℕ) → at ≡ below (own_label next x.0) → IsRanked own_row (rows ++ (next, x) ∷ []) (next + 1) (insert order at next)
-  own_push x at e = subst (λ k. IsRanked own_row (rows ++ (next, x) ∷ []) (next + 1) (insert order k next)) (sym e) (ranked_push label_cmp label_total own_row rows next order kept x (fresh x.0 0 rows next kept.rises))
+  pub own_push : (x : Selector × ℤ) (at : ℕ) → at ≡ own_below (package_for x.0, next) rows → IsRanked (rows ++ (next, x) ∷ []) (next + 1) (insert order at next)
+  own_push x at e = subst (λ k. IsRanked (rows ++ (next, x) ∷ []) (next + 1) (insert order k next)) (sym e) (ranked_push own_cmp own_total own_row rows next order kept x (fresh (package_for x.0) 0 rows next kept.rises))
 
   module _ (s : Selector) where
-    pub own_none : row_serial (selector_eq s) rows ≡ None → IsRanked own_row (cut_row (selector_eq s) rows) next order
-    own_none e = subst (λ l. IsRanked own_row l next order) (sym (no_cut (selector_eq s) rows e)) kept
+    pub own_none : row_serial (selector_eq s) rows ≡ None → IsRanked (cut_row (selector_eq s) rows) next order
+    own_none e = subst (λ l. IsRanked l next order) (sym (no_cut (selector_eq s) rows e)) kept
 
     module _ (serial : ℕ) (there : row_serial (selector_eq s) rows ≡ Some serial) where
       -- a setting that is there is in the order
-      pub own_within : below (own_label serial s) < length order
-      own_within = let cut = cut_at s serial 0 rows next kept.rises there in below_there label_cmp label_total own_row rows next order kept (own_label serial s) cut.0 cut.1
+      pub own_within : own_below (package_for s, serial) rows < length order
+      own_within = below_there own_cmp own_total own_row rows next order kept (package_for s, serial) (at s rows) (at_first s serial 0 rows next kept.rises there)
 
-      pub own_cut : (at : ℕ) → at ≡ below (own_label serial s) → IsRanked own_row (cut_row (selector_eq s) rows) next (remove order at)
-      own_cut at e =
-          let cut = cut_at s serial 0 rows next kept.rises there in
-          subst (λ l. IsRanked own_row l next (remove order at)) (sym cut.2)
-          (subst (λ k. IsRanked own_row (remove rows cut.0) next (remove order k)) (sym e) (ranked_remove label_cmp label_total own_row rows next order kept (own_label serial s) cut.0 cut.1))
+      pub own_cut : (k : ℕ) → k ≡ own_below (package_for s, serial) rows → IsRanked (cut_row (selector_eq s) rows) next (remove order k)
+      own_cut k e =
+          subst (λ l. IsRanked l next (remove order k)) (sym (at_cut s serial rows there))
+          (subst (λ k. IsRanked (remove rows (at s rows)) next (remove order k)) (sym e) (ranked_remove own_cmp own_total own_row rows next order kept (package_for s, serial) (at s rows) (at_first s serial 0 rows next kept.rises there)))
 
 -- ---- the settings of one package stand together in the order of packages, in the order in which they were set
 
--- ---- labels of one package
+module _ (q : List ℕ) where
+  abbrev start : Standing
+  start = (Some q, 0)
 
-abbrev own : List ℕ → Label → Bool
-own q l = nat_eq l.form 1 && bytes_eq l.name q
+  abbrev is_own : ℕ × Standing → Bool
+  is_own x = package_eq x.1.0 (Some q)
 
-abbrev is_own : List ℕ → ℕ × Label → Bool
-is_own q x = own q x.1
+  own_is : (s : Selector) → package_eq (package_for s) (Some q) ≡ is_of q s
+  own_is s = grind arith
 
-form_of : (q : List ℕ) (l : Label) → own q l ≡ true → l.form ≡ 1
-form_of q l e = is_eq_from l.form 1 (and_left _ _ e)
+  unequal : (o : Ordering) (n : ℕ) → is_lt (ordering_then o (nat_cmp n 0)) ≡ true → is_eq o ≡ false
+  unequal o n e = grind arith
 
-name_of : (q : List ℕ) (l : Label) → own q l ≡ true → l.name ≡ q
-name_of q l e = (bytes_eq-Decides l.name q).0 (and_second _ _ e)
+  -- what stands before the start is not the package's
+  before_start : (x : ℕ × Standing) → is_lt (own_cmp x.1 start) ≡ true → is_own x ≡ false
+  before_start x e = sym (packages_tie x.1.0 (Some q)) ∙ unequal (package_cmp x.1.0 (Some q)) x.1.1 e
 
-own_is : (q : List ℕ) (n : ℕ) (s : Selector) → own q (own_label n s) ≡ is_of q s
-own_is q n s = grind arith
+  ties : (o p t : Ordering) → is_gt (ordering_then o p) ≡ false → is_lt (ordering_then o t) ≡ false → is_eq o ≡ true
+  ties o p t a b = grind arith
 
-text_is : (n : ℕ) (s : Selector) → (own_label n s).text ≡ []
-text_is n s = grind arith
+  -- between the start and one of the package there are none but its own
+  between : (x y : ℕ × Standing) → is_own y ≡ true → g own_cmp x.1 y.1 ≡ false → is_lt (own_cmp x.1 start) ≡ false → is_own x ≡ true
+  between x y is not_above not_below =
+      sym (packages_tie x.1.0 (Some q))
+      ∙ ties (package_cmp x.1.0 (Some q)) (nat_cmp x.1.1 y.1.1) (nat_cmp x.1.1 0) ((λ j. is_gt (ordering_then (package_cmp x.1.0 (sym ((package_eq-Decides y.1.0 (Some q)).0 is) j)) (nat_cmp x.1.1 y.1.1))) ∙ not_above) not_below
 
-names_tie : (a b q : List ℕ) → a ≡ q → b ≡ q → is_eq (slice_cmp nat_cmp a b) ≡ true
-names_tie a b q d e = is_eq-slice_cmp a b ∙ (λ j. bytes_eq (d j) (e j)) ∙ (bytes_eq-Decides q q).1 refl
+  -- ---- those in front that are of the package
 
-numbers_tie : (a b : ℕ) → a ≡ b → is_eq (nat_cmp a b) ≡ true
-numbers_tie a b e = ap is_eq (sym (nat_cmp_is a b Equal e))
+  abbrev front : List (ℕ × Standing) → List (ℕ × Standing)
+  front [] = []
+  front (x ∷ xs) = cond (is_own x) (x ∷ front xs) []
 
--- ---- where they stand
+  none_own : (y : ℕ × Standing) (ys : List (ℕ × Standing)) → is_own y ≡ false → is_lt (own_cmp y.1 start) ≡ false → AllByRecursion (λ z. g own_cmp y.1 z.1 ≡ false) ys → filter is_own ys ≡ []
+  none_own y [] e w h = refl
+  none_own y (z ∷ ys) e w h = grind (arith, between, none_own y ys e w h.1)
 
-not_less : (o p r t : Ordering) → is_eq o ≡ true → is_eq p ≡ true → is_lt r ≡ false → is_lt t ≡ false → is_lt (ordering_then o (ordering_then p (ordering_then r t))) ≡ false
-not_less o p r t a b c d = grind arith
+  front_is : (ys : List (ℕ × Standing)) → IsInOrder own_cmp ys → AllByRecursion (λ z. is_lt (own_cmp z.1 start) ≡ false) ys → front ys ≡ filter is_own ys
+  front_is [] h w = refl
+  front_is (y ∷ ys) h w = grind (arith, none_own y ys, front_is ys h.1 w.1)
 
-text_not_less : (xs : List ℕ) → is_lt (slice_cmp nat_cmp xs []) ≡ false
-text_not_less [] = refl
-text_not_less (x ∷ xs) = refl
+  from_start : (y : ℕ × Standing) (ys : List (ℕ × Standing)) → is_lt (own_cmp y.1 start) ≡ false → AllByRecursion (λ z. g own_cmp y.1 z.1 ≡ false) ys → AllByRecursion (λ z. is_lt (own_cmp z.1 start) ≡ false) ys
+  from_start y ys e h = all_map (λ z k. lt_back own_cmp own_total z.1 start ∙ up own_cmp own_total start y.1 z.1 (sym (lt_back own_cmp own_total y.1 start) ∙ e) k) ys h
 
-rank_not_less : (n : ℕ) → is_lt (nat_cmp n 0) ≡ false
-rank_not_less n = grind arith
+  front_from : (ys : List (ℕ × Standing)) → IsInOrder own_cmp ys → front (drop (below_in own_cmp start ys) ys) ≡ filter is_own ys
+  front_from [] h = refl
+  front_from (y ∷ ys) h = grind (arith, before_start y, from_start y ys, front_is (y ∷ ys) h, front_from ys h.1)
 
--- what stands before the start is not the package's
-before_start : (q : List ℕ) (l : Label) → is_lt (label_cmp l (own_start q)) ≡ true → own q l ≡ false
-before_start q l e = grind (arith, not_less, names_tie, name_of, numbers_tie, form_of, text_not_less, rank_not_less)
+  -- ---- their order is that of the rows
 
-ties : (o p r t : Ordering) → is_gt (ordering_then o (ordering_then p r)) ≡ false → is_lt (ordering_then o (ordering_then p t)) ≡ false → (is_eq o ≡ true) × (is_eq p ≡ true)
-ties o p r t a b = grind arith
+  abbrev IsNotAfter : ℕ × Standing → ℕ × Standing → Type 0
+  IsNotAfter x y = is_own x ≡ true → is_own y ≡ true → g own_cmp x.1 y.1 ≡ false
 
--- between the start and one of the package there are none but its own
-between : (q : List ℕ) (y z : Label) → own q z ≡ true → g label_cmp y z ≡ false → is_lt (label_cmp y (own_start q)) ≡ false → own q y ≡ true
-between q y z is not_above not_below =
-    let after : Ordering = ordering_then (slice_cmp nat_cmp y.text z.text) (nat_cmp y.rank z.rank) in
-    let start : Ordering = ordering_then (slice_cmp nat_cmp y.text []) (nat_cmp y.rank 0) in
-    let there : is_gt (ordering_then (slice_cmp nat_cmp y.name q) (ordering_then (nat_cmp y.form 1) after)) ≡ false = (λ j. is_gt (ordering_then (slice_cmp nat_cmp y.name (sym (name_of q z is) j)) (ordering_then (nat_cmp y.form (sym (form_of q z is) j)) after))) ∙ not_above in
-    let t = ties (slice_cmp nat_cmp y.name q) (nat_cmp y.form 1) after start there not_below in
-    both_true _ _ (eq_is y.form 1 (same_numbers y.form 1 t.1)) (sym (is_eq-slice_cmp y.name q) ∙ t.0)
+  before_later : (x y : ℕ × Standing) → x.1.1 < y.1.1 → IsNotAfter x y
+  before_later x y l = λ d e. grind (arith, package_eq-Decides, tied_itself package_total)
 
--- ---- those in front that are of the package
+  all_later : (r : Row) (n : ℕ) (rows : List Row) (m : ℕ) → r.0 < n → Rises n rows m → AllByRecursion (IsNotAfter (r.0, own_row r)) (labelled own_row rows)
+  all_later r n [] m l h = tt
+  all_later r n (s ∷ rows) m l h = (before_later (r.0, own_row r) (s.0, own_row s) (omega (arith, l, h.0)), all_later r (suc s.0) rows m (omega (arith, l, h.0)) h.1)
 
-abbrev front : {X : Type 0} → (X → Bool) → List X → List X
-front p [] = []
-front p (x ∷ xs) = cond (p x) (x ∷ front p xs) []
+  filter-insert : (x : ℕ × Standing) (ys : List (ℕ × Standing)) → AllByRecursion (IsNotAfter x) ys → filter is_own (insert_in own_cmp x ys) ≡ filter is_own (x ∷ ys)
+  filter-insert x [] h = refl
+  filter-insert x (y ∷ ys) h = grind (arith, filter-insert x ys h.1)
 
-none_own : (q : List ℕ) (y : ℕ × Label) (ys : List (ℕ × Label)) → is_own q y ≡ false → is_lt (label_cmp y.1 (own_start q)) ≡ false → AllByRecursion (λ z. g label_cmp y.1 z.1 ≡ false) ys → filter (is_own q) ys ≡ []
-none_own q y [] e w h = refl
-none_own q y (z ∷ ys) e w h = grind (arith, between, none_own q y ys e w h.1)
+  filter-sorted : (n : ℕ) (rows : List Row) (m : ℕ) → Rises n rows m → filter is_own (sorted_in own_cmp (labelled own_row rows)) ≡ filter is_own (labelled own_row rows)
+  filter-sorted n [] m h = refl
+  filter-sorted n (r ∷ rows) m h =
+      filter-insert (r.0, own_row r) (sorted_in own_cmp (labelled own_row rows)) (all_sorted own_cmp own_total (IsNotAfter (r.0, own_row r)) (labelled own_row rows) (all_later r (suc r.0) rows m (omega arith) h.1))
+      ∙ ap (λ l. cond (is_own (r.0, own_row r)) ((r.0, own_row r) ∷ l) l) (filter-sorted (suc r.0) rows m h.1)
 
-front_is : (q : List ℕ) (ys : List (ℕ × Label)) → IsInOrder label_cmp ys → AllByRecursion (λ z. is_lt (label_cmp z.1 (own_start q)) ≡ false) ys → front (is_own q) ys ≡ filter (is_own q) ys
-front_is q [] h w = refl
-front_is q (y ∷ ys) h w = grind (arith, none_own, front_is q ys h.1 w.1)
+  -- ---- the settings of their serials
 
-front_from : (q : List ℕ) (ys : List (ℕ × Label)) → IsInOrder label_cmp ys → front (is_own q) (drop (labels_below (own_start q) ys) ys) ≡ filter (is_own q) ys
-front_from q [] h = refl
-front_from q (y ∷ ys) h = by (is_lt (label_cmp y.1 (own_start q))) refl (front_from q ys h.1)
-  where
-    by : (b : Bool) → is_lt (label_cmp y.1 (own_start q)) ≡ b → front (is_own q) (drop (labels_below (own_start q) ys) ys) ≡ filter (is_own q) ys
-        → front (is_own q) (drop (cond b (suc (labels_below (own_start q) ys)) 0) (y ∷ ys)) ≡ cond (is_own q y) (y ∷ filter (is_own q) ys) (filter (is_own q) ys)
-    by true e rest = rest ∙ ap (λ b. cond b (y ∷ filter (is_own q) ys) (filter (is_own q) ys)) (sym (before_start q y.1 e))
-    by false e rest = front_is q (y ∷ ys) h (e, all_map (λ z k. lt_back label_cmp label_total z.1 (own_start q) ∙ up label_cmp label_total (own_start q) y.1 z.1 (sym (lt_back label_cmp label_total y.1 (own_start q)) ∙ e) k) ys h.0)
+  -- that of a serial is there
+  abbrev HasSetting : List Row → ℕ × Standing → Type 0
+  HasSetting rows y = (x : Selector × ℤ) × (lookup (nat_eq y.0) rows ≡ Some x) × (is_of q x.0 ≡ is_own y)
 
--- ---- their order is that of the rows
+  all_have : (all rows : List Row) → AllByRecursion (λ r. lookup (λ k. nat_eq k r.0) all ≡ Some r.1) rows → AllByRecursion (HasSetting all) (labelled own_row rows)
+  all_have all [] h = tt
+  all_have all (r ∷ rows) h = ((r.1, lookup_turned r.0 all ∙ h.0, sym (own_is r.1.0)), all_have all rows h.1)
 
-not_greater : (o p r t : Ordering) → is_eq o ≡ true → is_eq p ≡ true → is_eq r ≡ true → is_gt t ≡ false → is_gt (ordering_then o (ordering_then p (ordering_then r t))) ≡ false
-not_greater o p r t a b c d = grind arith
+  abbrev picked : List Row → List (ℕ × Standing) → List (Selector × ℤ)
+  picked rows [] = []
+  picked rows (y ∷ ys) = option_map_or (λ (x : Selector × ℤ). x ∷ picked rows ys) (lookup (nat_eq y.0) rows) (picked rows ys)
 
-before_later : (q : List ℕ) (n m : ℕ) (s t : Selector) → n < m → own q (own_label n s) ≡ true → own q (own_label m t) ≡ true → g label_cmp (own_label n s) (own_label m t) ≡ false
-before_later q n m s t l d e = grind (arith, not_greater, names_tie, name_of, numbers_tie, form_of, text_is, rank_is)
+  run_picks : (rows : List Row) (ys : List (ℕ × Standing)) → AllByRecursion (HasSetting rows) ys → own_run q rows (map (λ (y : ℕ × Standing). y.0) ys) ≡ picked rows (front ys)
+  run_picks rows [] h = refl
+  run_picks rows (y ∷ ys) h = grind (arith, run_picks rows ys h.1)
 
-abbrev IsNotAfter : List ℕ → ℕ × Label → ℕ × Label → Type 0
-IsNotAfter q x y = is_own q x ≡ true → is_own q y ≡ true → g label_cmp x.1 y.1 ≡ false
+  picks : (all rows : List Row) → AllByRecursion (λ r. lookup (λ k. nat_eq k r.0) all ≡ Some r.1) rows → picked all (filter is_own (labelled own_row rows)) ≡ own_settings q (without_serials rows)
+  picks all [] h = refl
+  picks all (r ∷ rows) h = grind (arith, lookup_turned, own_is, picks all rows h.1)
 
-all_later : (q : List ℕ) (r : ℕ × (Selector × ℤ)) (n : ℕ) (rows : List (ℕ × (Selector × ℤ))) (m : ℕ) → r.0 < n → Rises n rows m → AllByRecursion (IsNotAfter q (r.0, own_row r)) (labels_of own_row rows)
-all_later q r n [] m l h = tt
-all_later q r n (s ∷ rows) m l h = (before_later q r.0 s.0 r.1.0 s.1.0 (omega (arith, l, h.0)), all_later q r (suc s.0) rows m (omega (arith, l, h.0)) h.1)
+  -- from where they begin, the order leads through the settings of the package
+  pub own_found : (rows : List Row) (next : ℕ) (order : List ℕ) (at : ℕ) → IsRanked rows next order → at ≡ own_below start rows → own_run q rows (drop at order) ≡ own_settings q (without_serials rows)
+  own_found rows next order at kept is =
+      (λ j. own_run q rows (drop (is j) (kept.ordered j)))
+      ∙ ap (λ l. own_run q rows l) (drop-map (λ (y : ℕ × Standing). y.0) (below_in own_cmp start ids) ids)
+      ∙ run_picks rows (drop (below_in own_cmp start ids) ids) (all_drop (below_in own_cmp start ids) ids (all_sorted own_cmp own_total (HasSetting rows) (labelled own_row rows) (all_have rows rows there)))
+      ∙ ap (λ l. picked rows l) (front_from ids (in_order own_cmp own_total (labelled own_row rows)) ∙ filter-sorted 0 rows next kept.rises)
+      ∙ picks rows rows there
+    where
+      ids : List (ℕ × Standing)
+      ids = sorted_in own_cmp (labelled own_row rows)
 
-filter-insert : (q : List ℕ) (x : ℕ × Label) (ys : List (ℕ × Label)) → AllByRecursion (IsNotAfter q x) ys → filter (is_own q) (insert_in label_cmp x ys) ≡ filter (is_own q) (x ∷ ys)
-filter-insert q x [] h = refl
-filter-insert q x (y ∷ ys) h = grind (arith, filter-insert q x ys h.1)
+      there : AllByRecursion (λ (r : Row). lookup (λ k. nat_eq k r.0) rows ≡ Some r.1) rows
+      there = all_lookup 0 rows next kept.rises
 
-filter-sorted : (q : List ℕ) (n : ℕ) (rows : List (ℕ × (Selector × ℤ))) (m : ℕ) → Rises n rows m → filter (is_own q) (sorted_labels (labels_of own_row rows)) ≡ filter (is_own q) (labels_of own_row rows)
-filter-sorted q n [] m h = refl
-filter-sorted q n (r ∷ rows) m h =
-    filter-insert q (r.0, own_row r) (sorted_labels (labels_of own_row rows)) (all_sorted label_cmp label_total (IsNotAfter q (r.0, own_row r)) (labels_of own_row rows) (all_later q r (suc r.0) rows m (omega arith) h.1))
-    ∙ ap (λ l. cond (is_own q (r.0, own_row r)) ((r.0, own_row r) ∷ l) l) (filter-sorted q (suc r.0) rows m h.1)
+      all_drop : (k : ℕ) (ys : List (ℕ × Standing)) → AllByRecursion (HasSetting rows) ys → AllByRecursion (HasSetting rows) (drop k ys)
+      all_drop zero ys h = h
+      all_drop (suc k) [] h = h
+      all_drop (suc k) (y ∷ ys) h = all_drop k ys h.1
 
--- ---- the settings of their serials
+-- ---- settings that are given back
 
-abbrev IsFound : List (ℕ × (Selector × ℤ)) → ℕ × (Selector × ℤ) → Type 0
-IsFound rows r = lookup (nat_eq r.0) rows ≡ Some r.1
-
-all_found : (n : ℕ) (rows : List (ℕ × (Selector × ℤ))) (m : ℕ) → Rises n rows m → AllByRecursion (IsFound rows) rows
-all_found n rows m h = all_map (λ r e. lookup_turned r.0 rows ∙ e) rows (all_lookup n rows m h)
-
--- a label of a serial whose setting is there
-abbrev HasSetting : List ℕ → List (ℕ × (Selector × ℤ)) → ℕ × Label → Type 0
-HasSetting q rows y = (x : Selector × ℤ) × (lookup (nat_eq y.0) rows ≡ Some x) × (is_of q x.0 ≡ is_own q y)
-
-all_have : (q : List ℕ) (all rows : List (ℕ × (Selector × ℤ))) → AllByRecursion (IsFound all) rows → AllByRecursion (HasSetting q all) (labels_of own_row rows)
-all_have q all [] h = tt
-all_have q all (r ∷ rows) h = ((r.1, h.0, sym (own_is q r.0 r.1.0)), all_have q all rows h.1)
-
-abbrev picked : List (ℕ × (Selector × ℤ)) → List (ℕ × Label) → List (Selector × ℤ)
-picked rows [] = []
-picked rows (y ∷ ys) = option_map_or (λ (x : Selector × ℤ). x ∷ picked rows ys) (lookup (nat_eq y.0) rows) (picked rows ys)
-
-run_picks : (q : List ℕ) (rows : List (ℕ × (Selector × ℤ))) (ys : List (ℕ × Label)) → AllByRecursion (HasSetting q rows) ys → own_run q rows (map (λ (y : ℕ × Label). y.0) ys) ≡ picked rows (front (is_own q) ys)
-run_picks q rows [] h = refl
-run_picks q rows (y ∷ ys) h = grind (arith, run_picks q rows ys h.1)
-
-picks : (q : List ℕ) (all rows : List (ℕ × (Selector × ℤ))) → AllByRecursion (IsFound all) rows → picked all (filter (is_own q) (labels_of own_row rows)) ≡ own_settings q (without_serials rows)
-picks q all [] h = refl
-picks q all (r ∷ rows) h = grind (arith, picks q all rows h.1)
-
--- from where they begin, the order leads through the settings of the package
-pub own_found : (q : List ℕ) (rows : List (ℕ × (Selector × ℤ))) (next : ℕ) (order : List ℕ) (at : ℕ) → Rises 0 rows next → order ≡ serials_in label_cmp own_row rows → at ≡ labels_below (own_start q) (sorted_labels (labels_of own_row rows))
-    → own_run q rows (drop at order) ≡ own_settings q (without_serials rows)
-own_found q rows next order at h is at_is =
-    (λ j. own_run q rows (drop (at_is j) (is j)))
-    ∙ ap (λ l. own_run q rows l) (drop-map (λ (y : ℕ × Label). y.0) (labels_below (own_start q) ids) ids)
-    ∙ run_picks q rows (drop (labels_below (own_start q) ids) ids) (all_drop (labels_below (own_start q) ids) ids (all_sorted label_cmp label_total (HasSetting q rows) (labels_of own_row rows) (all_have q rows rows (all_found 0 rows next h))))
-    ∙ ap (λ l. picked rows l) (front_from q ids (in_order label_cmp label_total (labels_of own_row rows)) ∙ filter-sorted q 0 rows next h)
-    ∙ picks q rows rows (all_found 0 rows next h)
-  where
-    ids : List (ℕ × Label)
-    ids = sorted_labels (labels_of own_row rows)
-
-    all_drop : (k : ℕ) (ys : List (ℕ × Label)) → AllByRecursion (HasSetting q rows) ys → AllByRecursion (HasSetting q rows) (drop k ys)
-    all_drop zero ys h = h
-    all_drop (suc k) [] h = h
-    all_drop (suc k) (y ∷ ys) h = all_drop k ys h.1
+-- the first of those that are left has gone behind those that were taken
+pub setting_moved : (taken : List PinSetting) (x : PinSetting) (left : List (Selector × ℤ)) → settings_of (taken ++ x ∷ []) ++ left ≡ settings_of taken ++ (x.selector, x.priority) ∷ left
+setting_moved [] x left = refl
+setting_moved (y ∷ taken) x left = ap (λ l. (y.selector, y.priority) ∷ l) (setting_moved taken x left)

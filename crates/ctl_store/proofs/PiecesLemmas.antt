@@ -6,7 +6,7 @@ use Rattle.std.proofs.lemmas.List.Edits.{length-remove, insert-append_left, inse
 use Rattle.std.proofs.lemmas.Bool.{cases_lt}
 use Rattle.ctl_store.proofs.PlaceLemmas.{some_is}
 use Rattle.ctl_store.specs.declared.pieces.Spot.{Spot}
-use Rattle.ctl_store.specs.Inside.HeldPieces.{joined, length_at, room_in, room_at, room_of_all, room_of_last, stands_at, place_of_spot, IsPiece, ArePieces, AreReady, free_at_end}
+use Rattle.ctl_store.specs.Inside.HeldPieces.{joined, length_at, room_in, room_at, room_of_all, room_of_last, stands_at, place_of_spot, IsPiece, ArePieces, free_at_end}
 
 pub plus_one : (n : ℕ) → n + 1 ≡ suc n
 plus_one n = omega arith
@@ -75,18 +75,6 @@ module _ {X A : Type 0} where
   last_of_all [] = omega arith
   last_of_all (q ∷ []) = omega arith
   last_of_all (q ∷ r ∷ ps) = omega (arith, last_of_all (r ∷ ps))
-
-  pub some_of_all : (ps : List (Vec X A)) → 0 < room_of_all ps → 0 < length ps
-  some_of_all [] l = l
-  some_of_all (q ∷ ps) l = omega arith
-
-  pub some_of_last : (ps : List (Vec X A)) → 0 < room_of_last ps → 0 < length ps
-  some_of_last [] l = l
-  some_of_last (q ∷ ps) l = omega arith
-
-  pub ready_room : (ps : List (Vec X A)) → AreReady ps → 0 < length ps → 0 < room_of_all ps
-  ready_room [] h l = l
-  ready_room (q ∷ ps) h l = omega (arith, h.0.room)
 
   pub read_same : (ps : List (Vec X A)) (i : ℕ) (p p' : Vec X A) → i < length ps → p ≡ get_or ps i p → p' ≡ get_or ps i p' → p ≡ p'
   read_same [] i p p' l e e' = absurd (omega arith)

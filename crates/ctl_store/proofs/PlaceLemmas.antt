@@ -1,5 +1,5 @@
 -- Places in rows whose serials rise.
-use Rattle.std.proofs.Common.{◌≡◌, ℕ, zero, suc, ◌+◌, ◌<◌, ◌≤◌, Bool, true, false, cond, ◌&&◌, ◌||◌, nat_eq, List, [], ◌∷◌, ◌++◌, length, get_or, Option, None, Some, option_map, refl, ap, subst, ◌∙◌, arith}
+use Rattle.std.proofs.Common.{◌≡◌, ℕ, zero, suc, ◌+◌, ◌<◌, ◌≤◌, Bool, true, false, cond, nat_eq, List, [], ◌∷◌, ◌++◌, length, get_or, Option, None, Some, option_map, refl, ap, subst, ◌∙◌, arith}
 use Rattle.std.specs.List.{remove, AllByRecursion}
 use Rattle.std.specs.Map.{lookup}
 use Rattle.std.specs.Option.{option_or}
@@ -29,9 +29,6 @@ is_eq_from a b e = grind (arith, nat_tests)
 
 pub some_is : {X : Type 0} {x y : X} → Some x ≡ Some y → x ≡ y
 some_is e = cc
-
-pub and_left : (a b : Bool) → (a && b) ≡ true → a ≡ true
-and_left a b e = grind arith
 
 -- ---- serials that rise
 
@@ -100,24 +97,12 @@ module _ {V : Type 0} where
 
 -- ---- tests and orders
 
-pub both_true : (a b : Bool) → a ≡ true → b ≡ true → (a && b) ≡ true
-both_true a b p q = grind arith
-
-pub and_second : (a b : Bool) → (a && b) ≡ true → b ≡ true
-and_second a b e = grind arith
-
 pub or_none : {X : Type 0} (o : Option X) → option_or o None ≡ o
 or_none None = refl
 or_none (Some x) = refl
 
 pub equal_is : (o : Ordering) → is_eq o ≡ true → o ≡ Equal
 equal_is o e = grind arith
-
-pub or_true : (a b : Bool) → b ≡ true → (a || b) ≡ true
-or_true a b h = grind arith
-
-pub is_first : (a b : Bool) → a ≡ true → (a || b) ≡ true
-is_first a b h = grind arith
 
 pub turned : (a b : ℕ) → nat_eq a b ≡ nat_eq b a
 turned a b = grind (arith, nat_tests)

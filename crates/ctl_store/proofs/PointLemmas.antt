@@ -6,8 +6,7 @@ use Rattle.std.proofs.lemmas.List.{length-append, get_or-append-add, get_or_appe
 use Rattle.std.proofs.lemmas.Bool.Decides.{nat_tests}
 use Rattle.ctl_store.specs.Step.{place}
 use Rattle.ctl_store.specs.Rows.{has_serial, Rises, replace_at, Id, id_cmp, row_id, IsKept, ids_of, sorted_ids, lower, order_at}
-use Rattle.ctl_store.specs.Inside.HeldPieces.{joined, length_at, stands_at, last_passes, ArePieces, place_of_spot, IsSpot, IsSpotOrEnd}
-use Rattle.ctl_store.specs.Inside.Spots.{IsEnd}
+use Rattle.ctl_store.specs.Inside.HeldPieces.{joined, length_at, stands_at, last_passes, ArePieces, place_of_spot, IsSpot, IsSpotOrEnd, IsEnd}
 use Rattle.ctl_store.proofs.PlaceLemmas.{Rises-up, place_none}
 use Rattle.ctl_store.proofs.PiecesLemmas.{stands_next, length_read, piece_read, spot_within}
 use Rattle.std.specs.Bool.{OnTrue}

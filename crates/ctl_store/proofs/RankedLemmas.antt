@@ -257,7 +257,7 @@ module _ {L : Type 0} (R : L → L → Ordering) (total : IsTotalOrder R) {T : T
   serial-labels s [] = refl
   serial-labels s (r ∷ rows) = ap (λ o. cond (nat_eq r.0 s) (Some 0) (option_map (λ n. suc n) o)) (serial-labels s rows)
 
-  lookup-labels : (s : ℕ) (rows : List (ℕ × T)) → lookup (λ k. nat_eq k s) (labelled label rows) ≡ option_map (λ (x : T). label (s, x)) (lookup (λ k. nat_eq k s) rows)
+  pub lookup-labels : (s : ℕ) (rows : List (ℕ × T)) → lookup (λ k. nat_eq k s) (labelled label rows) ≡ option_map (λ (x : T). label (s, x)) (lookup (λ k. nat_eq k s) rows)
   lookup-labels s [] = refl
   lookup-labels s (r ∷ rows) = grind (arith, lookup-labels s rows)
 

@@ -1,6 +1,5 @@
 -- The fronts of names.
-use Rattle.std.specs.Prelude.{ℕ, zero, suc, List, [], ◌∷◌, map}
-use Rattle.ctl_stanza.specs.Content.{Content, package_of}
+use Rattle.std.specs.Prelude.{ℕ, zero, suc, List, [], ◌∷◌}
 
 -- how many bytes a front has
 abbrev pub front_len : ℕ
@@ -14,7 +13,3 @@ filled (suc k) (byte ∷ bytes) = byte ∷ filled k bytes
 
 abbrev pub front_of : List ℕ → List ℕ
 front_of name = filled front_len name
-
--- the fronts of the names of stanzas' packages
-abbrev pub fronts_of : List Content → List (List ℕ)
-fronts_of stanzas = map (λ (x : Content). front_of (package_of x)) stanzas

@@ -27,5 +27,4 @@ pub mod Store
 pub mod Plans
 pub mod PinLaws
 pub mod Orders
-pub mod PrefsKept
 pub mod Inside

@@ -1,9 +1,9 @@
 -- Where a name and a version stand in the order of rows.
-use Rattle.std.specs.Prelude.{◌≡◌, ℕ, ◌-◌, ◌<◌, true, Box, List, map, Option, option_map, slice_index}
+use Rattle.std.specs.Prelude.{◌≡◌, ℕ, ◌-◌, ◌<◌, true, Box, List, map, Option, slice_index}
 use Rattle.std.specs.Ordering.{is_lt}
 use Rattle.ctl_stanza.specs.Content.{Content}
 use Rattle.ctl_store.specs.Places.{place}
-use Rattle.ctl_store.specs.Rows.{Id, by_name_and_version, id_at, id_of, ids_of, lower, order_at, rows_from, sorted_ids}
+use Rattle.ctl_store.specs.Rows.{Id, by_name_and_version, ids_of, lower, order_at, rows_from, sorted_ids}
 
 -- where it stands, or would
 abbrev pub lower_place : Id → List (ℕ × Content) → ℕ
@@ -19,13 +19,6 @@ ComesAfter rows order at wanted = 0 < at → is_lt (order_at rows wanted (slice_
 
 -- ---- stanzas in boxes
 
-module _ {A : Type 0} where
-  -- as rows under the serials from 0 on
-  abbrev pub boxed_rows : List (Box Content A) → List (ℕ × Content)
-  boxed_rows stanzas = rows_from 0 (map (λ (stanza : Box Content A). stanza.value) stanzas)
-
-  abbrev pub boxed_id : Option (Box Content A) → Option Id
-  boxed_id stanza = option_map (λ (stanza : Box Content A). id_of stanza.value) stanza
-
-  abbrev pub boxed_id_at : List (Box Content A) → ℕ → Option Id
-  boxed_id_at stanzas k = id_at (boxed_rows stanzas) k
+-- as rows under the serials from 0 on
+abbrev pub boxed_rows : {A : Type 0} → List (Box Content A) → List (ℕ × Content)
+boxed_rows stanzas = rows_from 0 (map (λ stanza. stanza.value) stanzas)

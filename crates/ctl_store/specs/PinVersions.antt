@@ -1,17 +1,12 @@
 -- What a version pin asks for (apt_preferences(5)).
-use Rattle.std.specs.Prelude.{ℕ, ◌==◌, ◌||◌, Bool, false, nat_eq, List, [], ◌∷◌, Option, Some, None, is_none, option_map, if◌then◌else◌}
-use Rattle.std.specs.List.{list_all, starts_with}
+use Rattle.std.specs.Prelude.{ℕ, ◌-◌, ◌||◌, Bool, false, nat_eq, List, length, take, codes, Option, Some, None, is_none, if◌then◌else◌}
+use Rattle.std.specs.List.{list_all, starts_with, ends_with}
 use Rattle.std.specs.Ordering.{is_eq}
 use Rattle.ctl_relation.specs.Version.{is_upstream_byte, fault_of, version_cmp}
 
-abbrev pub star : ℕ
-star = 42
-
 -- what stands before the star that ends a text
 abbrev pub before_star : List ℕ → Option (List ℕ)
-before_star [] = None
-before_star (b ∷ []) = if b == star then Some [] else None
-before_star (b ∷ c ∷ text) = option_map (λ (prefix : List ℕ). b ∷ prefix) (before_star (c ∷ text))
+before_star text = if ends_with nat_eq text (codes "*") then Some (take (length text - 1) text) else None
 
 abbrev pub is_version : List ℕ → Bool
 is_version text = is_none (fault_of text)

@@ -20,6 +20,16 @@ selector_eq (Version a v) (Release b l) = false
 selector_eq (Release a k) (Version b w) = false
 selector_eq (Release a k) (Release b l) = package_eq a b && bytes_eq k l
 
+-- the package that a selector is for, if it is for one
+abbrev pub package_for : Selector → Option (List ℕ)
+package_for (Version «package» version) = Some «package»
+package_for (Release «package» list) = «package»
+
+-- its form, and the version or list
+abbrev pub asked_of : Selector → ℕ × List ℕ
+asked_of (Version «package» version) = (0, version)
+asked_of (Release «package» list) = (1, list)
+
 -- no selector stands twice
 abbrev pub AreDistinct : List (Selector × ℤ) → Type 0
 AreDistinct pins = IsDistinct selector_eq (names_of pins)

@@ -1,8 +1,10 @@
 -- Preferences, and the pin settings that they make (apt_preferences(5)), as a function. PrefsFaults and PrefsLaws say in plain
 -- words what it gives; `told_prefs_fault_is_least` and `first_setting_counts` that it gives them.
-use Rattle.std.specs.Prelude.{ℕ, ℤ, ◌==◌, ◌&&◌, ◌||◌, not, nat_eq, Bool, false, List, [], ◌∷◌, ◌++◌, map, drop, length, codes, Option, Some, None, is_some, Result, Ok, unwrap_or, if◌then◌else◌}
+use Rattle.std.specs.Prelude.{ℕ, ℤ, ◌==◌, ◌&&◌, ◌||◌, not, nat_eq, Bool, false, if◌then◌else◌}
+use Rattle.std.specs.Prelude.{List, [], ◌∷◌, ◌++◌, map, drop, length, codes, Option, Some, None, is_none, is_some, option_map, Result, Ok}
 use Rattle.std.specs.Str.{bytes_eq}
-use Rattle.std.specs.List.{list_all, starts_with}
+use Rattle.std.specs.List.{list_all, starts_with, flat_map}
+use Rattle.std.specs.Option.{option_to_list}
 use Rattle.std.specs.Map.{lookup}
 use Rattle.ctl_relation.specs.FieldBytes.{is_whitespace}
 use Rattle.ctl_relation.specs.Names.{is_name}
@@ -11,7 +13,7 @@ use Rattle.ctl_stanza.specs.declared.fault.Cause.{Cause}
 use Rattle.ctl_stanza.specs.declared.fault.Cause.TheVariants as causes
 use Rattle.ctl_stanza.specs.Lines.{onto_first}
 use Rattle.ctl_stanza.specs.Fields.{is_same_name, package_name}
-use Rattle.ctl_stanza.specs.Faults.{fault_or, or_else, is_empty_body}
+use Rattle.ctl_stanza.specs.Faults.{fault_or, or_else}
 use Rattle.ctl_stanza.specs.Text.{or_fault}
 use Rattle.ctl_stanza.specs.Records.{RecordText, parts_of_fields, records_before_fault}
 use Rattle.ctl_store.specs.declared.selector.Selector.{Selector}
@@ -44,64 +46,54 @@ pin_name = codes "Pin"
 abbrev pub priority_name : List ℕ
 priority_name = codes "Pin-Priority"
 
--- The body of the first field of a name. A field has a name, a body and the number of its line.
-abbrev pub body_in : List ℕ → List (List ℕ × List ℕ × ℕ) → Option (List ℕ)
-body_in name [] = None
-body_in name (field ∷ fields) = if is_same_name field.0 name then Some field.1 else body_in name fields
+-- The body of the first field of a name, empty where there is no such field. A field has a name, a body and the number of its line.
+abbrev pub body_in : List ℕ → List (List ℕ × List ℕ × ℕ) → List ℕ
+body_in name [] = []
+body_in name (field ∷ fields) = if is_same_name field.0 name then field.1 else body_in name fields
 
 -- ---- what a record is for
 
 -- a record is for any package where its packages are one `*` alone
 abbrev pub is_general : List (List ℕ) → Bool
-is_general [] = false
 is_general (word ∷ []) = bytes_eq word (codes "*")
-is_general (word ∷ other ∷ words) = false
+is_general words = false
 
 abbrev pub are_names : List (List ℕ) → Bool
 are_names words = not (length words == 0) && list_all is_name words
 
--- what stands behind `version`, where a pin is these two words
-abbrev pub version_asked : List (List ℕ) → Option (List ℕ)
-version_asked [] = None
-version_asked (form ∷ []) = None
-version_asked (form ∷ version ∷ []) = if bytes_eq form (codes "version") then Some version else None
-version_asked (form ∷ version ∷ other ∷ words) = None
+-- what stands behind the front of the second word, where a pin is two words and this form is the first
+abbrev pub asked : List ℕ → List ℕ → List (List ℕ) → Option (List ℕ)
+asked form front (first ∷ second ∷ []) =
+    if bytes_eq first form && starts_with nat_eq second front then Some (drop (length front) second) else None
+asked form front words = None
 
--- what stands behind `release a=`, where a pin is these two words
+-- a pin asks for a version by `version` and the version
+abbrev pub version_asked : List (List ℕ) → Option (List ℕ)
+version_asked words = asked (codes "version") [] words
+
+-- a pin asks for a list by `release` and `a=` with the list behind it
 abbrev pub list_asked : List (List ℕ) → Option (List ℕ)
-list_asked [] = None
-list_asked (form ∷ []) = None
-list_asked (form ∷ release ∷ []) =
-    if bytes_eq form (codes "release") && starts_with nat_eq release (codes "a=") then Some (drop 2 release) else None
-list_asked (form ∷ release ∷ other ∷ words) = None
+list_asked words = asked (codes "release") (codes "a=") words
 
 -- ---- faults of a record without a faulty line
 
-abbrev pub package_cause : List (List ℕ) → Option Cause
-package_cause words = if is_general words || are_names words then None else Some causes.Name
-
--- a version is asked of packages by their names alone
-abbrev pub general_cause : Bool → Option Cause
-general_cause general = if general then Some causes.Form else None
-
--- what is wrong with a pin, by whether its record is for any package, and the version or the list that it asks for
+-- What is wrong with a pin, by whether its record is for any package, and the version or the list that it asks for. A version is asked
+-- of packages by their names alone.
 abbrev pub asked_cause : Bool → Option (List ℕ) → Option (List ℕ) → Option Cause
-asked_cause general (Some version) list = if is_pin_version version then general_cause general else Some causes.Version
+asked_cause general (Some version) list =
+    if is_pin_version version then (if general then Some causes.Form else None) else Some causes.Version
 asked_cause general None (Some list) = if is_name list then None else Some causes.Name
 asked_cause general None None = Some causes.Form
 
 abbrev pub pin_cause : Bool → List (List ℕ) → Option Cause
 pin_cause general words = asked_cause general (version_asked words) (list_asked words)
 
-abbrev pub priority_cause : List ℕ → Option Cause
-priority_cause body = if is_some (priority_of body) then None else Some causes.Priority
-
 -- what is wrong with a field of this name and body
 abbrev pub field_cause : Bool → List ℕ → List ℕ → Option Cause
 field_cause general name body =
     if is_same_name name pin_name then pin_cause general (words_of body)
-    else (if is_same_name name package_name then package_cause (words_of body)
-    else (if is_same_name name priority_name then priority_cause body else None))
+    else (if is_same_name name package_name && not (is_general (words_of body) || are_names (words_of body)) then Some causes.Name
+    else (if is_same_name name priority_name && is_none (priority_of body) then Some causes.Priority else None))
 
 -- the first field that is wrong
 abbrev pub first_wrong : Bool → List (List ℕ × List ℕ × ℕ) → Option TextFault
@@ -111,19 +103,15 @@ first_wrong general (field ∷ fields) = fault_or field.2 (field_cause general f
 -- whether a field that a record has to have is absent or empty
 abbrev pub is_missing : List (List ℕ × List ℕ × ℕ) → Bool
 is_missing fields =
-    is_empty_body (body_in package_name fields)
-    || (is_empty_body (body_in pin_name fields) || is_empty_body (body_in priority_name fields))
-
--- the words of the field of a name, none where it is absent
-abbrev pub words_in : List ℕ → List (List ℕ × List ℕ × ℕ) → List (List ℕ)
-words_in name fields = words_of (unwrap_or (body_in name fields) [])
+    length (body_in package_name fields) == 0
+    || (length (body_in pin_name fields) == 0 || length (body_in priority_name fields) == 0)
 
 -- What is missing is told at the first line, before all else that is wrong.
 abbrev pub own_fault : RecordText → Option TextFault
 own_fault text =
     let fields = parts_of_fields text in
     if is_missing fields then Some (record { line = text.first_line; cause = causes.Missing })
-    else first_wrong (is_general (words_in package_name fields)) fields
+    else first_wrong (is_general (words_of (body_in package_name fields))) fields
 
 -- the fault of the first record that has one
 abbrev pub first_own_fault : List RecordText → Option TextFault
@@ -132,25 +120,33 @@ first_own_fault (text ∷ texts) = or_else (own_fault text) (first_own_fault tex
 
 -- ---- settings
 
--- the selectors of a record, by the words of its packages, and the version or the list that it asks for
-abbrev pub selectors_of : List (List ℕ) → Option (List ℕ) → Option (List ℕ) → List Selector
-selectors_of names (Some version) list = map (λ (name : List ℕ). Version name version) names
-selectors_of names None (Some list) =
-    if is_general names then Release None list ∷ []
-    else map (λ (name : List ℕ). Release (Some name) list) names
-selectors_of names None None = []
+-- the selector of a package, or of any, by the version or the list that its pin asks for; none where the pin is wrong for it
+abbrev pub selector_of : Option (List ℕ) → Option (List ℕ) → Option (List ℕ) → Option Selector
+selector_of (Some name) (Some version) list = if is_pin_version version then Some (Version name version) else None
+selector_of None (Some version) list = None
+selector_of name None (Some list) = Some (Release name list)
+selector_of name None None = None
 
-abbrev pub with_priority : Option ℤ → List Selector → List (Selector × ℤ)
-with_priority None selectors = []
-with_priority (Some priority) selectors = map (λ (selector : Selector). (selector, priority)) selectors
+-- the setting of a package, or of any, by the version or the list that its pin asks for
+abbrev pub setting_of : ℤ → Option (List ℕ) → Option (List ℕ) → Option (List ℕ) → List (Selector × ℤ)
+setting_of priority version list name =
+    option_to_list (option_map (λ (selector : Selector). (selector, priority)) (selector_of name version list))
+
+-- the packages that a record is for, by the words of its field: any, or each by its name
+abbrev pub packages_of : List (List ℕ) → List (Option (List ℕ))
+packages_of words = if is_general words then None ∷ [] else map (λ (name : List ℕ). Some name) words
+
+abbrev pub settings_of : Option ℤ → Option (List ℕ) → Option (List ℕ) → List (Option (List ℕ)) → List (Selector × ℤ)
+settings_of None version list packages = []
+settings_of (Some priority) version list packages = flat_map (setting_of priority version list) packages
 
 -- the settings of a record: one for each of its packages in order, or one for any package
 abbrev pub record_settings : RecordText → List (Selector × ℤ)
 record_settings text =
     let fields = parts_of_fields text in
-    let pin = words_in pin_name fields in
-    with_priority (priority_of (unwrap_or (body_in priority_name fields) []))
-    (selectors_of (words_in package_name fields) (version_asked pin) (list_asked pin))
+    let pin = words_of (body_in pin_name fields) in
+    settings_of (priority_of (body_in priority_name fields)) (version_asked pin) (list_asked pin)
+    (packages_of (words_of (body_in package_name fields)))
 
 abbrev pub all_settings : List RecordText → List (Selector × ℤ)
 all_settings [] = []

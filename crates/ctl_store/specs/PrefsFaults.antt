@@ -1,6 +1,7 @@
 -- The faults of preferences (apt_preferences(5)), each at the index of its line, told apart from how the text is read. Comments
 -- are left out, and the lines counted without them.
-use Rattle.std.specs.Prelude.{◌≡◌, ◌≢◌, ◌⊎◌, ◌+◌, ◌<◌, ◌≤◌, ℕ, ℤ, Bool, true, false, List, [], ◌∷◌, ◌++◌, length, codes, slice_index, Contains, None, Ok, Err, unwrap_or}
+use Rattle.std.specs.Prelude.{◌≡◌, ◌≢◌, ◌⊎◌, ◌+◌, ◌<◌, ◌≤◌, ◌||◌, ℕ, ℤ, Bool, true, false}
+use Rattle.std.specs.Prelude.{List, [], ◌∷◌, ◌++◌, length, codes, slice_index, Contains, None, Ok, Err, unwrap_or}
 use Rattle.ctl_relation.specs.Names.{is_name}
 use Rattle.ctl_stanza.specs.declared.fault.TextFault.{TextFault}
 use Rattle.ctl_stanza.specs.declared.fault.Cause.{Cause}
@@ -25,50 +26,29 @@ AsksForVersion body version = words_of body ≡ codes "version" ∷ version ∷ 
 abbrev pub AsksForList : List ℕ → List ℕ → Type 0
 AsksForList body list = words_of body ≡ codes "release" ∷ (codes "a=" ++ list) ∷ []
 
--- the packages are neither one `*` alone nor names
-pub record HasNoNames (name body : List ℕ) : Type 0 where
-  pub is_package : is_same_name name package_name ≡ true
-  pub not_any : is_general (words_of body) ≡ false
-  pub no_names : are_names (words_of body) ≡ false
-
--- a pin asks for a list by what is no name
-pub record IsBadList (name body : List ℕ) : Type 0 where
-  pub is_pin : is_same_name name pin_name ≡ true
-  pub list : List ℕ
-  pub asked : AsksForList body list
-  pub no_name : is_name list ≡ false
-
--- a pin asks for what is neither a version nor the front of one
-pub record IsBadVersion (name body : List ℕ) : Type 0 where
-  pub is_pin : is_same_name name pin_name ≡ true
-  pub version : List ℕ
-  pub asked : AsksForVersion body version
-  pub no_version : is_pin_version version ≡ false
-
--- a record for any package asks for a version
-pub record IsVersionOfAny (general : Bool) (name body : List ℕ) : Type 0 where
-  pub is_pin : is_same_name name pin_name ≡ true
-  pub version : List ℕ
-  pub asked : AsksForVersion body version
-  pub any : general ≡ true
-
 -- a pin asks neither for a version nor for a list
-pub record AsksForNothing (name body : List ℕ) : Type 0 where
-  pub is_pin : is_same_name name pin_name ≡ true
+pub record AsksForNothing (body : List ℕ) : Type 0 where
   pub no_version : (version : List ℕ) → AsksForVersion body version → ⊥
   pub no_list : (list : List ℕ) → AsksForList body list → ⊥
 
-pub record IsBadPriority (name body : List ℕ) : Type 0 where
-  pub is_priority : is_same_name name priority_name ≡ true
-  pub no_priority : priority_of body ≡ None
+-- What is wrong with a pin, by whether its record is for any package: it asks for a list by what is no name, for what is neither a
+-- version nor the front of one, for a version of any package, or for nothing. One pin can have more than one fault.
+abbrev pub IsWrongPin : Bool → List ℕ → Cause → Type 0
+IsWrongPin general body causes.Name = (list : List ℕ) × AsksForList body list × (is_name list ≡ false)
+IsWrongPin general body causes.Version = (version : List ℕ) × AsksForVersion body version × (is_pin_version version ≡ false)
+IsWrongPin general body causes.Form = ((version : List ℕ) × AsksForVersion body version × (general ≡ true)) ⊎ AsksForNothing body
+IsWrongPin general body cause = ⊥
 
--- What is wrong with a field, by whether its record is for any package. One field can have more than one fault.
+-- the packages are neither one `*` alone nor names
+abbrev pub HasNoNames : List ℕ → Type 0
+HasNoNames body = (is_general (words_of body) || are_names (words_of body)) ≡ false
+
+-- what is wrong with a field, by whether its record is for any package
 abbrev pub IsWrongField : Bool → List ℕ → List ℕ → Cause → Type 0
-IsWrongField general name body causes.Name = HasNoNames name body ⊎ IsBadList name body
-IsWrongField general name body causes.Version = IsBadVersion name body
-IsWrongField general name body causes.Form = IsVersionOfAny general name body ⊎ AsksForNothing name body
-IsWrongField general name body causes.Priority = IsBadPriority name body
-IsWrongField general name body cause = ⊥
+IsWrongField general name body cause =
+    ((is_same_name name pin_name ≡ true) × IsWrongPin general body cause)
+    ⊎ (((is_same_name name package_name ≡ true) × HasNoNames body × (cause ≡ causes.Name))
+    ⊎ ((is_same_name name priority_name ≡ true) × (priority_of body ≡ None) × (cause ≡ causes.Priority)))
 
 -- ---- what is wrong with a record that has no faulty line
 

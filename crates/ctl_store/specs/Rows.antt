@@ -1,6 +1,7 @@
 -- The stanzas of a list under their serial numbers, and the order by which one is found.
-use Rattle.std.specs.Prelude.{ℕ, suc, ◌+◌, Bool, List, [], ◌∷◌, ◌++◌, Option, None, Some, option_map, slice_get}
+use Rattle.std.specs.Prelude.{ℕ, suc, ◌+◌, Bool, List, [], ◌∷◌, ◌++◌, Option, None, Some, option_map, nat_eq}
 use Rattle.std.specs.Option.{option_cmp}
+use Rattle.std.specs.Map.{lookup}
 use Rattle.std.specs.Ordering.{nat_cmp, ordering_then}
 use Rattle.std.specs.Cmp.Lexicographic.{slice_cmp}
 use Rattle.std.specs.declared.cmp.Ordering.{Ordering}
@@ -81,13 +82,13 @@ sorted_serials rows = serials_in id_cmp row_id rows
 abbrev pub lower : Id → List (ℕ × Id) → ℕ
 lower wanted xs = below_in id_cmp wanted xs
 
--- what the row at a place is found by
-abbrev pub id_at : List (ℕ × Content) → ℕ → Option Id
-id_at rows k = option_map (λ (row : ℕ × Content). id_of row.1) (slice_get rows k)
+-- what the row of a serial is found by
+abbrev pub id_under : List (ℕ × Content) → ℕ → Option Id
+id_under rows serial = option_map id_of (lookup (λ k. nat_eq k serial) rows)
 
--- how the rows at two places stand, by names and versions and then by the places
-abbrev pub place_cmp : List (ℕ × Content) → ℕ → ℕ → Ordering
-place_cmp rows i j = ordering_then (option_cmp id_cmp (id_at rows i) (id_at rows j)) (nat_cmp i j)
+-- how the rows of two serials stand, by names and versions and then by the serials
+abbrev pub serial_cmp : List (ℕ × Content) → ℕ → ℕ → Ordering
+serial_cmp rows one other = ordering_then (option_cmp id_cmp (id_under rows one) (id_under rows other)) (nat_cmp one other)
 
 -- The serials rise, and the order has each of them.
 abbrev pub IsKept : List (ℕ × Content) → ℕ → List ℕ → Type 0

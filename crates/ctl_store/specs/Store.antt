@@ -9,7 +9,7 @@ use Rattle.ctl_store.specs.declared.selector.Selector.{Selector}
 use Rattle.ctl_store.specs.State.{State}
 use Rattle.ctl_store.specs.Keys.{KeyedList, Keyed, stanza_lists}
 
--- a list with the pieces that are ready for its rows, and the room in the one that is ready for its order
+-- a list with the room for more of its rows, and in their order
 pub record HeldList : Type 0 where
   pub serial : ℕ
   pub kind : ListKind

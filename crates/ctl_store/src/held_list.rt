@@ -1,24 +1,22 @@
 //! The stanzas of one list.
 
-ghost use Rattle.std.specs.Prelude.{◌≡◌, ◌<◌, ◌≤◌, ◌+◌, ◌-◌, ◌^◌, ℕ, [], Option, Some, OnOk, IfOk, min, length, vec_len, is_some, nat_eq, option_copied};
+ghost use Rattle.std.specs.Prelude.{◌≡◌, ◌<◌, ◌≤◌, ◌+◌, ◌-◌, ◌^◌, ℕ, [], Option, Some, OnOk, IfOk, map, min, length, vec_len, is_some, nat_eq, option_copied};
 ghost use Rattle.std.specs.Map.{lookup};
 ghost use Rattle.std.specs.Option.{option_to_list};
 ghost use Rattle.std.specs.Vec.{vec_capacity};
 ghost use Rattle.ctl_store.specs.Step.{place};
 ghost use Rattle.ctl_store.specs.Rows.{by_name_and_version, put_row, next_after_put, remove_row};
 ghost use Rattle.ctl_store.specs.Orders.{boxed_rows};
-ghost use Rattle.ctl_store.specs.Inside.HeldPieces.{most_in_piece, joined, IsFit, HasRoomFor, room_at_end};
+ghost use Rattle.ctl_store.specs.Inside.HeldPieces.{most_in_piece, joined, room_at_end};
 ghost use Rattle.ctl_store.specs.Keys.{keys_of, found_key};
 ghost use Rattle.ctl_store.specs.Entries.{entries_in};
 ghost use Rattle.ctl_store.specs.Store.{keyed_list};
-ghost use Rattle.ctl_store.specs.Plans.{Fits};
-ghost use Rattle.ctl_store.specs.Inside.Held.{IsHeldList};
+ghost use Rattle.ctl_store.specs.Plans.{Fits, HasRoomInList};
 
-use crate::fronts::FRONT_LEN;
 use crate::list_class::ListClass;
 use crate::order::{look_up, sort_serials};
 use crate::pieces::{Pieces, Spot};
-use crate::rows::{Row, replace_row, row_at, stanza_of};
+use crate::rows::{Row, row_at, row_of};
 use crate::stanza_key::StanzaKey;
 use crate::store::{Keys, ListEntries};
 use ctl_relation::Version;
@@ -26,7 +24,6 @@ use ctl_stanza::{ListKind, Stanza};
 use std::alloc::{AllocError, Global};
 use std::cell::Cell;
 use std::marker::Model;
-use std::mem;
 
 /// The stanzas of one list, in the order in which they stand, and the serials in the order of names and versions. A
 /// contract sees the rows and the room for more.
@@ -45,10 +42,10 @@ pub(crate) struct HeldList {
 }
 
 impl Model for HeldList {
-    ghost use Rattle.std.specs.Prelude.{vec_len};
+    ghost use Rattle.std.specs.Prelude.{length};
+    ghost use Rattle.ctl_store.specs.Rows.{IsKept};
     ghost use Rattle.ctl_store.specs.Inside.HeldPieces.{joined, room_of_last};
     ghost use Rattle.ctl_store.specs.Store.{HeldList};
-    ghost use Rattle.ctl_store.specs.Inside.Held.{IsHeldList};
 
     ghost Value = { HeldList };
 
@@ -57,12 +54,12 @@ impl Model for HeldList {
       kind = s.kind;
       class = s.class;
       next = s.next;
-      rows = joined s.rows.pieces.items;
-      room = vec_len s.rows.ready;
-      order_room = room_of_last s.order.ready.items;
+      rows = joined s.rows.pieces;
+      room = room_of_last s.rows.ready;
+      order_room = room_of_last s.order.ready;
     } };
 
-    ghost invariant = { λ s. IsHeldList s.rows.pieces s.rows.ready s.next s.order.pieces s.order.ready };
+    ghost invariant = { λ s. IsKept (joined s.rows.pieces) s.next (joined s.order.pieces) };
 }
 
 /// A list that is made: its kind, its class and its stanzas, with the room for them.
@@ -74,12 +71,10 @@ pub(crate) struct NewList {
     pub(crate) room: ListRoom,
 }
 
-/// The room for a new list: for its serials and the fronts of its names while they are put in order, for its rows, and for the
-/// order that stays.
+/// The room for a new list: for its serials while they are put in order, for its rows, and for the order that stays.
 #[derive(Drop)]
 pub(crate) struct ListRoom {
     serials: Vec<u64>,
-    fronts: Vec<[u8; FRONT_LEN]>,
     rows: Pieces<Row>,
     order: Pieces<u64>,
 }
@@ -92,14 +87,9 @@ impl Model for ListRoom {
 
     ghost Value = { ListRoom };
 
-    ghost view = { λ r. record {
-      serials = vec_capacity r.serials;
-      fronts = vec_capacity r.fronts;
-      rows = room_at_end r.rows.pieces r.rows.ready;
-      order = room_at_end r.order.pieces r.order.ready;
-    } };
+    ghost view = { λ r. record { serials = vec_capacity r.serials; rows = room_at_end r.rows; order = room_at_end r.order } };
 
-    ghost invariant = { λ r. IsBare r.serials r.fronts r.rows.pieces r.rows.ready r.order.pieces r.order.ready };
+    ghost invariant = { λ r. IsBare r.serials r.rows r.order };
 }
 
 impl ListRoom {
@@ -107,17 +97,9 @@ impl ListRoom {
     pub(crate) fn new(alloc: Global) -> ListRoom {
         ListRoom {
             serials: Vec::new(alloc),
-            fronts: Vec::new(alloc),
             rows: Pieces::new(alloc),
             order: Pieces::new(alloc),
         }
-    }
-
-    /// All of it, which leaves none.
-    pub(crate) fn take(&mut self, alloc: Global) -> ListRoom
-        ensures { result ≡ self.old }
-    {
-        mem::replace(self, ListRoom::new(alloc))
     }
 
     /// The room for a list of so many stanzas.
@@ -126,24 +108,28 @@ impl ListRoom {
     {
         Ok(ListRoom {
             serials: Vec::with_capacity(alloc, stanzas)?,
-            fronts: Vec::with_capacity(alloc, stanzas)?,
             rows: Pieces::with_capacity(alloc, stanzas)?,
             order: Pieces::with_capacity(alloc, stanzas)?,
         })
     }
 }
 
-// The stanzas as rows under the serials from 0 on, in the room that is there.
-fn fill_rows(rows: &mut Pieces<Row>, stanzas: Vec<Box<Stanza>>) -> u64
-    requires fit { IsFit rows.old.pieces rows.old.ready }
-    requires none { rows.old.pieces.items ≡ [] }
-    requires room { vec_len stanzas ≤ room_at_end rows.old.pieces rows.old.ready }
-    ensures fit { IsFit rows.new.pieces rows.new.ready }
-    ensures rows { joined rows.new.pieces.items ≡ boxed_rows stanzas.items }
+// The stanzas as rows under the serials from 0 on, and these serials, in the room that is there.
+fn fill_rows(rows: &mut Pieces<Row>, serials: &mut Vec<u64>, stanzas: Vec<Box<Stanza>>) -> u64
+    requires none { rows.old.pieces ≡ [] }
+    requires room { vec_len stanzas ≤ room_at_end rows.old }
+    requires no_serials { serials.old.items ≡ [] }
+    requires serials_room { vec_len stanzas ≤ vec_capacity serials.old }
+    ensures rows { joined rows.new.pieces ≡ boxed_rows stanzas.items }
+    ensures serials { serials.new.items ≡ map (λ row. row.0) (boxed_rows stanzas.items) }
     ensures next { result ≡ vec_len stanzas }
 {
     let mut serial = 0;
     for stanza in stanzas {
+        match serials.push(serial) {
+            Ok(()) => {}
+            Err(_) => unreachable!(),
+        }
         rows.push(Row::new(serial, stanza));
         serial += 1;
     }
@@ -169,13 +155,12 @@ impl HeldList {
         } = list;
         let ListRoom {
             mut serials,
-            mut fronts,
             mut rows,
             mut order,
         } = room;
-        sort_serials(&stanzas, &mut fronts, &mut serials);
+        let next = fill_rows(&mut rows, &mut serials, stanzas);
+        sort_serials(rows.as_slice(), &mut serials);
         order.extend(serials);
-        let next = fill_rows(&mut rows, stanzas);
         rows.forget_room();
         order.forget_room();
         HeldList {
@@ -226,7 +211,10 @@ impl HeldList {
     pub(crate) fn stanza(&self, serial: u64) -> Option<&Stanza>
         ensures { option_copied result ≡ lookup (λ k. nat_eq k serial) self.now.rows }
     {
-        stanza_of(self.rows.as_slice(), serial)
+        match row_of(self.rows.as_slice(), serial) {
+            Some(row) => Some(row.stanza()),
+            None => None,
+        }
     }
 
     /// The key of the first stanza of this name and an equal version. The next look-up tries the spot that this one found
@@ -235,14 +223,8 @@ impl HeldList {
         ensures key { option_to_list result ≡ found_key name.now (option_copied version.entry) (keyed_list self.now) }
         ensures found { is_some result ≡ is_some (place (by_name_and_version name.now (option_copied version.entry)) self.now.rows) }
     {
-        let rows = self.rows.as_slice();
-        let (order_spot, place) = look_up(
-            rows,
-            self.order.as_slice(),
-            self.last.get(),
-            name,
-            version,
-        );
+        let (rows, order) = (self.rows.as_slice(), self.order.as_slice());
+        let (order_spot, place) = look_up(rows, order, self.last.get(), name, version);
         self.last.set(order_spot);
         match place {
             Some(spot) => Some(StanzaKey {
@@ -263,7 +245,7 @@ impl HeldList {
     /// Makes the room for one stanza more.
     pub(crate) fn reserve_one(&mut self, alloc: Global) -> Result<(), AllocError>
         ensures same { keyed_list self.new ≡ keyed_list self.old }
-        ensures ok { OnOk result ((0 < self.new.room) × (min most_in_piece (length self.new.rows + 1) ≤ self.new.order_room)) }
+        ensures ok { OnOk result (HasRoomInList self.new) }
     {
         self.rows.reserve_one(alloc)?;
         self.order.reserve_one(alloc)
@@ -271,8 +253,7 @@ impl HeldList {
 
     /// Puts a stanza in the place of the first of its name and version, else last.
     pub(crate) fn put(&mut self, stanza: Box<Stanza>)
-        requires room { 0 < self.old.room }
-        requires order { min most_in_piece (length self.old.rows + 1) ≤ self.old.order_room }
+        requires room { HasRoomInList self.old }
         requires below { self.old.next + 1 < 2 ^ 64 }
         ensures serial { self.new.serial ≡ self.old.serial }
         ensures kind { self.new.kind ≡ self.old.kind }
@@ -280,13 +261,23 @@ impl HeldList {
         ensures rows { self.new.rows ≡ put_row stanza.value self.old.next self.old.rows }
         ensures next { self.new.next ≡ next_after_put stanza.value self.old.next self.old.rows }
     {
-        put_in(
-            &mut self.rows,
-            &mut self.next,
-            &mut self.order,
-            &self.last,
-            stanza,
+        let (rows, order) = (self.rows.as_slice(), self.order.as_slice());
+        let (order_spot, place) = look_up(
+            rows,
+            order,
+            self.last.get(),
+            stanza.package(),
+            stanza.version(),
         );
+        self.last.set(order_spot);
+        match place {
+            Some(spot) => self.rows.replace(spot, stanza),
+            None => {
+                self.order.insert(order_spot, self.next);
+                self.rows.push(Row::new(self.next, stanza));
+                self.next += 1;
+            }
+        }
         self.rows.forget_room();
         self.order.forget_room();
     }
@@ -299,64 +290,12 @@ impl HeldList {
         ensures rows { self.new.rows ≡ remove_row name.now (option_copied version.entry) self.old.rows }
         ensures next { self.new.next ≡ self.old.next }
     {
-        remove_from(&mut self.rows, &mut self.order, &self.last, name, version);
-    }
-}
-
-// Leaves where the stanza stands in the order as the last spot.
-fn put_in(
-    rows: &mut Pieces<Row>,
-    next: &mut u64,
-    order: &mut Pieces<u64>,
-    last: &Cell<Spot>,
-    stanza: Box<Stanza>,
-)
-    requires held { IsHeldList rows.old.pieces rows.old.ready next.old order.old.pieces order.old.ready }
-    requires room { 0 < vec_len rows.old.ready }
-    requires order { HasRoomFor (length (joined rows.old.pieces.items)) order.old.ready }
-    requires below { next.old + 1 < 2 ^ 64 }
-    ensures held { IsHeldList rows.new.pieces rows.new.ready next.new order.new.pieces order.new.ready }
-    ensures rows { joined rows.new.pieces.items ≡ put_row stanza.value next.old (joined rows.old.pieces.items) }
-    ensures next { next.new ≡ next_after_put stanza.value next.old (joined rows.old.pieces.items) }
-{
-    let (order_spot, place) = look_up(
-        rows.as_slice(),
-        order.as_slice(),
-        last.get(),
-        stanza.package(),
-        stanza.version(),
-    );
-    last.set(order_spot);
-    match place {
-        Some(spot) => replace_row(&mut rows.pieces, spot, stanza),
-        None => {
-            order.insert(order_spot, *next);
-            rows.push(Row::new(*next, stanza));
-            *next += 1;
+        let (rows, order) = (self.rows.as_slice(), self.order.as_slice());
+        let (order_spot, place) = look_up(rows, order, self.last.get(), name, version);
+        self.last.set(order_spot);
+        if let Some(spot) = place {
+            self.order.remove(order_spot);
+            self.rows.remove(spot);
         }
-    }
-}
-
-// Leaves where the stanza stood in the order as the last spot.
-fn remove_from(
-    rows: &mut Pieces<Row>,
-    order: &mut Pieces<u64>,
-    last: &Cell<Spot>,
-    name: &[u8],
-    version: Option<&Version>,
-)
-    requires { (next : ℕ) × IsHeldList rows.old.pieces rows.old.ready next order.old.pieces order.old.ready }
-    ensures held { (next : ℕ) → IsHeldList rows.old.pieces rows.old.ready next order.old.pieces order.old.ready
-        → IsHeldList rows.new.pieces rows.new.ready next order.new.pieces order.new.ready }
-    ensures rows { joined rows.new.pieces.items ≡ remove_row name.now (option_copied version.entry) (joined rows.old.pieces.items) }
-{
-    let (order_spot, place) = look_up(rows.as_slice(), order.as_slice(), last.get(), name, version);
-    last.set(order_spot);
-    match place {
-        Some(spot) => {
-            order.remove(order_spot);
-            rows.remove(spot);
-        }
-        None => {}
     }
 }

@@ -1,16 +1,12 @@
 //! The order of names and versions, by which the stanzas of a list are found.
 
-ghost use Rattle.std.specs.Prelude.{◌≡◌, ◌<◌, ◌≤◌, ◌-◌, ℕ, [], true, IfSome, length, map, slice_index, option_map, option_copied};
+ghost use Rattle.std.specs.Prelude.{◌≡◌, ◌<◌, ◌≤◌, ◌-◌, ℕ, true, IfSome, map, slice_index, option_map, option_copied};
 ghost use Rattle.std.specs.Bool.{OnTrue};
 ghost use Rattle.std.specs.List.Sorted.{IsSortedBy};
-ghost use Rattle.std.specs.Vec.{vec_capacity};
-ghost use Rattle.std.specs.Option.{option_cmp};
 ghost use Rattle.ctl_store.specs.Step.{place};
-ghost use Rattle.ctl_store.specs.Rows.{IsKept, Rises, id, id_of, id_cmp, sorted_serials, order_at, place_cmp, version_order, version_id};
-ghost use Rattle.ctl_store.specs.Orders.{boxed_id, boxed_id_at, boxed_rows, lower_place, row_place, ComesAfter};
-ghost use Rattle.std.specs.Ordering.{is_lt, nat_cmp};
-ghost use Rattle.std.specs.Cmp.Lexicographic.{slice_cmp};
-ghost use Rattle.ctl_store.specs.Fronts.{front_of, fronts_of};
+ghost use Rattle.ctl_store.specs.Rows.{IsKept, Rises, id, id_of, id_cmp, sorted_serials, order_at, serial_cmp, version_order, version_id};
+ghost use Rattle.ctl_store.specs.Orders.{lower_place, row_place, ComesAfter};
+ghost use Rattle.std.specs.Ordering.{is_lt};
 ghost use Rattle.ctl_store.specs.Inside.HeldPieces.{joined, last_passes, place_of_spot, ArePieces, IsSpot, IsSpotOrEnd};
 
 use crate::fronts::{FRONT_LEN, front_of};
@@ -73,25 +69,12 @@ fn compare(stanza: &Stanza, name: &[u8], version: Option<&Version>) -> Ordering
     }
 }
 
-// How two fronts stand. They have few bytes, so that a loop is cheaper than a call that compares slices.
-fn compare_fronts(one: &[u8; FRONT_LEN], other: &[u8; FRONT_LEN]) -> Ordering
-    ensures { result ≡ slice_cmp nat_cmp one.now other.now }
-{
-    for i in 0..FRONT_LEN {
-        let order = one[i].cmp(&other[i]);
-        if order.is_ne() {
-            return order;
-        }
-    }
-    Ordering::Equal
-}
-
 // How a row stands to what is sought. Where the fronts differ they tell it, and nothing is read of the stanza, which stands
 // elsewhere in memory.
 fn compare_found(row: &Row, sought: &Sought<'_>) -> Ordering
     ensures { result ≡ id_cmp (id_of row.now.1) sought.now }
 {
-    match compare_fronts(row.front(), &sought.front) {
+    match row.front().cmp(sought.front.as_slice()) {
         Ordering::Equal => compare(row.stanza(), sought.name, sought.version),
         unequal => unequal,
     }
@@ -121,111 +104,54 @@ fn ends_before(rows: &[Vec<Row>], serials: &[u64], sought: &Sought<'_>) -> bool
     }
 }
 
-// How two stanzas stand by their names and versions. Where there is none, it stands first.
-fn compare_stanzas(one: Option<&Box<Stanza>>, other: Option<&Box<Stanza>>) -> Ordering
-    ensures { result ≡ option_cmp id_cmp (boxed_id (option_copied one.entry)) (boxed_id (option_copied other.entry)) }
+// How two rows stand, by names and versions. Where the fronts differ they tell it here too.
+fn compare_rows(one: &Row, other: &Row) -> Ordering
+    ensures { result ≡ id_cmp (id_of one.now.1) (id_of other.now.1) }
 {
-    match (one, other) {
+    match one.front().cmp(other.front()) {
+        Ordering::Equal => {
+            let other = other.stanza();
+            compare(one.stanza(), other.package(), other.version())
+        }
+        unequal => unequal,
+    }
+}
+
+// How the rows of two serials stand, by names and versions and then by the serials. Where there is none, it stands first.
+fn compare_serials(rows: &[Vec<Row>], one: u64, other: u64) -> Ordering
+    requires pieces { ArePieces rows.now }
+    requires rises { (n : ℕ) × (m : ℕ) × Rises n (joined rows.now) m }
+    ensures { result ≡ serial_cmp (joined rows.now) one other }
+{
+    let order = match (row_of(rows, one), row_of(rows, other)) {
         (None, None) => Ordering::Equal,
         (None, Some(_)) => Ordering::Less,
         (Some(_), None) => Ordering::Greater,
-        (Some(one), Some(other)) => compare(one, other.package(), other.version()),
-    }
+        (Some(row), Some(against)) => compare_rows(row, against),
+    };
+    order.then(one.cmp(&other))
 }
 
-// How the stanzas at two places stand, by their names and versions. Where the fronts of their names differ they tell it, and
-// nothing is read of the stanzas, which stand elsewhere in memory.
-fn compare_by_fronts(
-    stanzas: &[Box<Stanza>],
-    fronts: &[[u8; FRONT_LEN]],
-    one: u64,
-    other: u64,
-) -> Ordering
-    requires { fronts.now ≡ fronts_of (map (λ stanza. stanza.value) stanzas.now) }
-    ensures { result ≡ option_cmp id_cmp (boxed_id_at stanzas.now one) (boxed_id_at stanzas.now other) }
+// Whether serials stand in the order of names and versions already.
+fn are_in_order(rows: &[Vec<Row>], serials: &[u64]) -> bool
+    requires pieces { ArePieces rows.now }
+    requires rises { (n : ℕ) × (m : ℕ) × Rises n (joined rows.now) m }
+    ensures { OnTrue result (IsSortedBy (λ one other. is_lt (serial_cmp (joined rows.now) one other)) serials.now) }
 {
-    if let (Some(front), Some(against)) = (fronts.get(one as usize), fronts.get(other as usize)) {
-        let order = compare_fronts(front, against);
-        if order.is_ne() {
-            return order;
-        }
-    }
-    compare_stanzas(stanzas.get(one as usize), stanzas.get(other as usize))
+    serials.is_sorted_by(|one, other| !compare_serials(rows, *other, *one).is_lt())
 }
 
-// How the stanzas at two places stand, by their names and versions and then by the places.
-fn compare_places(
-    stanzas: &[Box<Stanza>],
-    fronts: &[[u8; FRONT_LEN]],
-    one: u64,
-    other: u64,
-) -> Ordering
-    requires { fronts.now ≡ fronts_of (map (λ stanza. stanza.value) stanzas.now) }
-    ensures { result ≡ place_cmp (boxed_rows stanzas.now) one other }
+/// Puts the serials of rows, which stand as the rows do, in the order of names and versions.
+pub(crate) fn sort_serials(rows: &[Vec<Row>], serials: &mut Vec<u64>)
+    requires pieces { ArePieces rows.now }
+    requires rises { (n : ℕ) × (m : ℕ) × Rises n (joined rows.now) m }
+    requires serials { serials.old.items ≡ map (λ row. row.0) (joined rows.now) }
+    ensures { serials.new.items ≡ sorted_serials (joined rows.now) }
 {
-    compare_by_fronts(stanzas, fronts, one, other).then(one.cmp(&other))
-}
-
-// The fronts of the names of stanzas, for which there is room.
-fn push_fronts(fronts: &mut Vec<[u8; FRONT_LEN]>, stanzas: &[Box<Stanza>])
-    requires none { fronts.old.items ≡ [] }
-    requires room { length stanzas.now ≤ vec_capacity fronts.old }
-    ensures { fronts.new.items ≡ fronts_of (map (λ stanza. stanza.value) stanzas.now) }
-{
-    'stanzas: for stanza in stanzas {
-        match fronts.push(front_of(stanza.package())) {
-            Ok(()) => {}
-            Err(_) => unreachable!(),
-        }
-    }
-}
-
-// The places of stanzas, for which there is room.
-fn push_places(order: &mut Vec<u64>, stanzas: &[Box<Stanza>])
-    requires none { order.old.items ≡ [] }
-    requires room { length stanzas.now ≤ vec_capacity order.old }
-    ensures { order.new.items ≡ map (λ row. row.0) (boxed_rows stanzas.now) }
-{
-    let mut left = stanzas;
-    let mut place = 0;
-    'stanzas: while let Some((_, rest)) = left.split_first() {
-        match order.push(place) {
-            Ok(()) => {}
-            Err(_) => unreachable!(),
-        }
-        place += 1;
-        left = rest;
-    }
-}
-
-// Whether places stand in the order of names and versions already.
-fn are_in_order(stanzas: &[Box<Stanza>], fronts: &[[u8; FRONT_LEN]], order: &[u64]) -> bool
-    requires { fronts.now ≡ fronts_of (map (λ stanza. stanza.value) stanzas.now) }
-    ensures { OnTrue result (IsSortedBy (λ one other. is_lt (place_cmp (boxed_rows stanzas.now) one other)) order.now) }
-{
-    order.is_sorted_by(|one, other| !compare_places(stanzas, fronts, *other, *one).is_lt())
-}
-
-/// The serials of stanzas, which are their places, in the order of names and versions. There is room for them, and for the
-/// fronts of the names.
-pub(crate) fn sort_serials(
-    stanzas: &[Box<Stanza>],
-    fronts: &mut Vec<[u8; FRONT_LEN]>,
-    order: &mut Vec<u64>,
-)
-    requires none { order.old.items ≡ [] }
-    requires room { length stanzas.now ≤ vec_capacity order.old }
-    requires no_fronts { fronts.old.items ≡ [] }
-    requires room_for_fronts { length stanzas.now ≤ vec_capacity fronts.old }
-    ensures { order.new.items ≡ sorted_serials (boxed_rows stanzas.now) }
-{
-    push_fronts(fronts, stanzas);
-    push_places(order, stanzas);
-    let fronts = fronts.as_slice();
-    if are_in_order(stanzas, fronts, order) {
+    if are_in_order(rows, serials) {
         return;
     }
-    order.sort_unstable_by(|one, other| compare_places(stanzas, fronts, *one, *other));
+    serials.sort_unstable_by(|one, other| compare_serials(rows, *one, *other));
 }
 
 // Whether the row before a spot comes before what is sought, or no row is before the spot.

@@ -4,10 +4,13 @@ ghost use Rattle.std.specs.Prelude.{◌≡◌, ◌+◌, ◌-◌, ◌^◌, ◌<�
 ghost use Rattle.std.specs.Bool.{OnTrue};
 ghost use Rattle.std.specs.List.{remove};
 ghost use Rattle.std.specs.Vec.{vec_capacity};
-ghost use Rattle.ctl_store.specs.Inside.Spots.{inserted_at};
-ghost use Rattle.ctl_store.specs.Inside.HeldPieces.{most_in_piece, least_room, joined, length_at, room_in, room_at, stands_at, place_of_spot, IsSpot, IsSpotOrEnd, IsFit, IsReadyPiece, ArePieces, AreReady, HasRoomFor, free_at_end, room_of_all, room_of_last, room_at_end};
+ghost use Rattle.ctl_store.specs.Inside.HeldPieces.{most_in_piece, least_room, joined, length_at, room_in, room_at, stands_at, place_of_spot, IsSpot, IsSpotOrEnd, IsReadyPiece, ArePieces, AreNoMore, AreReady, HasRoomForOne, free_at_end, room_of_all, room_of_last, room_at_end, inserted_at};
+ghost use Rattle.ctl_store.specs.Places.{replace_at};
 
+use crate::rows::Row;
+use ctl_stanza::Stanza;
 use std::alloc::{AllocError, Global};
+use std::marker::Model;
 
 /// How many items a piece holds at most.
 pub(crate) const MOST: usize = 64;
@@ -32,19 +35,29 @@ pub(crate) fn is_spot<T>(pieces: &[Vec<T>], spot: Spot) -> bool
     spot.piece < pieces.len() && spot.at < pieces[spot.piece].len()
 }
 
-/// A sequence in pieces of at most 64 items, none of which is empty. The pieces of a short sequence are small.
+/// A sequence in pieces of at most 64 items, none of which is empty. The pieces of a short sequence are small. A contract sees the
+/// pieces, and the empty ones for what comes.
 #[derive(Drop)]
 pub(crate) struct Pieces<T> {
-    pub(crate) pieces: Vec<Vec<T>>,
+    pieces: Vec<Vec<T>>,
     // Empty pieces for what comes, the last first. There are some only while an edit is prepared.
     ready: Vec<Vec<T>>,
+}
+
+impl<T> Model for Pieces<T> {
+    ghost use Rattle.ctl_store.specs.Inside.HeldPieces.{InPieces, IsFit};
+
+    ghost Value = { InPieces T };
+
+    ghost view = { λ p. record { pieces = p.pieces.items; ready = p.ready.items } };
+
+    ghost invariant = { λ p. IsFit p.pieces p.ready };
 }
 
 impl<T: Drop> Pieces<T> {
     /// No items. It takes no memory.
     pub(crate) fn new(alloc: Global) -> Pieces<T>
-        ensures fit { IsFit result.pieces result.ready }
-        ensures none { result.pieces.items ≡ [] }
+        ensures { result.pieces ≡ [] }
     {
         Pieces {
             pieces: Vec::new(alloc),
@@ -54,9 +67,8 @@ impl<T: Drop> Pieces<T> {
 
     /// No items, with the room for so many.
     pub(crate) fn with_capacity(alloc: Global, items: usize) -> Result<Pieces<T>, AllocError>
-        ensures fit { IfOk result (λ it. IsFit it.pieces it.ready) }
-        ensures none { IfOk result (λ it. it.pieces.items ≡ []) }
-        ensures room { IfOk result (λ it. items ≤ room_at_end it.pieces it.ready) }
+        ensures none { IfOk result (λ it. it.pieces ≡ []) }
+        ensures room { IfOk result (λ it. items ≤ room_at_end it) }
     {
         let ready = ready_pieces(alloc, items)?;
         let mut pieces = Vec::new(alloc);
@@ -66,27 +78,30 @@ impl<T: Drop> Pieces<T> {
 
     /// The pieces, in order.
     pub(crate) fn as_slice(&self) -> &[Vec<T>]
-        ensures { result.now ≡ self.now.pieces.items }
+        ensures same { result.now ≡ self.now.pieces }
+        ensures pieces { ArePieces result.now }
     {
         &self.pieces
     }
 
     /// Makes the room for one item more, wherever it comes.
     pub(crate) fn reserve_one(&mut self, alloc: Global) -> Result<(), AllocError>
-        requires { IsFit self.old.pieces self.old.ready }
-        ensures fit { IsFit self.new.pieces self.new.ready }
-        ensures items { self.new.pieces.items ≡ self.old.pieces.items }
-        ensures some { OnOk result (0 < vec_len self.new.ready) }
-        ensures room { OnOk result (HasRoomFor (length (joined self.new.pieces.items)) self.new.ready) }
+        ensures items { self.new.pieces ≡ self.old.pieces }
+        ensures room { OnOk result (HasRoomForOne self.new) }
     {
-        reserve_piece(&mut self.pieces, &mut self.ready, alloc)
+        let room = room_for(&self.pieces);
+        if room <= room_of_last(&self.ready) {
+            return Ok(());
+        }
+        self.ready.clear();
+        self.pieces.reserve(1)?;
+        self.ready.push(Vec::with_capacity(alloc, room)?)?;
+        Ok(())
     }
 
     /// The room that was made and not taken goes.
     pub(crate) fn forget_room(&mut self)
-        requires { IsFit self.old.pieces self.old.ready }
-        ensures fit { IsFit self.new.pieces self.new.ready }
-        ensures items { self.new.pieces.items ≡ self.old.pieces.items }
+        ensures { self.new.pieces ≡ self.old.pieces }
     {
         self.ready.clear();
         self.ready.shrink_to_fit();
@@ -94,21 +109,26 @@ impl<T: Drop> Pieces<T> {
 
     /// Adds a last item, for which there is room.
     pub(crate) fn push(&mut self, item: T)
-        requires fit { IsFit self.old.pieces self.old.ready }
-        requires room { 0 < room_at_end self.old.pieces self.old.ready }
-        ensures fit { IsFit self.new.pieces self.new.ready }
-        ensures items { joined self.new.pieces.items ≡ joined self.old.pieces.items ++ item ∷ [] }
-        ensures room { room_at_end self.new.pieces self.new.ready + 1 ≡ room_at_end self.old.pieces self.old.ready }
+        requires { 0 < room_at_end self.old }
+        ensures items { joined self.new.pieces ≡ joined self.old.pieces ++ item ∷ [] }
+        ensures room { room_at_end self.new + 1 ≡ room_at_end self.old }
     {
-        push_last(&mut self.pieces, &mut self.ready, item);
+        let count = self.pieces.len();
+        if free_in_last(&self.pieces) == 0 {
+            let mut piece = take_ready(&mut self.ready);
+            insert_in(&mut piece, 0, item);
+            insert_piece(&mut self.pieces, count, piece);
+        } else {
+            let piece = count - 1;
+            let at = self.pieces[piece].len();
+            insert_within(&mut self.pieces, Spot { piece, at }, item);
+        }
     }
 
     /// Adds these items last. There is room for them.
     pub(crate) fn extend(&mut self, items: Vec<T>)
-        requires fit { IsFit self.old.pieces self.old.ready }
-        requires room { vec_len items ≤ room_at_end self.old.pieces self.old.ready }
-        ensures fit { IsFit self.new.pieces self.new.ready }
-        ensures items { joined self.new.pieces.items ≡ joined self.old.pieces.items ++ items.items }
+        requires { vec_len items ≤ room_at_end self.old }
+        ensures { joined self.new.pieces ≡ joined self.old.pieces ++ items.items }
     {
         for item in items {
             self.push(item);
@@ -117,12 +137,15 @@ impl<T: Drop> Pieces<T> {
 
     /// Takes an item out. A piece that is empty then goes, with its memory, and one with few items is joined with a neighbour.
     pub(crate) fn remove(&mut self, spot: Spot)
-        requires fit { IsFit self.old.pieces self.old.ready }
-        requires spot { IsSpot self.old.pieces.items spot }
-        ensures fit { IsFit self.new.pieces self.new.ready }
-        ensures items { joined self.new.pieces.items ≡ remove (joined self.old.pieces.items) (place_of_spot self.old.pieces.items spot) }
+        requires { IsSpot self.old.pieces spot }
+        ensures { joined self.new.pieces ≡ remove (joined self.old.pieces) (place_of_spot self.old.pieces spot) }
     {
-        remove_at(&mut self.pieces, spot);
+        if self.pieces[spot.piece].len() > 1 {
+            remove_within(&mut self.pieces, spot);
+            join_around(&mut self.pieces, spot.piece);
+        } else {
+            let _ = self.pieces.remove(spot.piece);
+        }
         shrink_only(&mut self.pieces);
         shrink_pieces(&mut self.pieces, self.ready.len());
     }
@@ -131,13 +154,34 @@ impl<T: Drop> Pieces<T> {
 impl Pieces<u64> {
     /// Adds an item in the place of that of a spot, which moves up with those after it. There is room for it.
     pub(crate) fn insert(&mut self, spot: Spot, item: u64)
-        requires fit { IsFit self.old.pieces self.old.ready }
-        requires spot { IsSpotOrEnd self.old.pieces.items spot }
-        requires room { HasRoomFor (length (joined self.old.pieces.items)) self.old.ready }
-        ensures fit { IsFit self.new.pieces self.new.ready }
-        ensures items { joined self.new.pieces.items ≡ inserted_at self.old.pieces.items spot item }
+        requires spot { IsSpotOrEnd self.old.pieces spot }
+        requires room { HasRoomForOne self.old }
+        ensures { joined self.new.pieces ≡ inserted_at self.old.pieces spot item }
     {
-        insert_at(&mut self.pieces, &mut self.ready, spot, item);
+        if spot.piece >= self.pieces.len() {
+            self.push(item);
+        } else if free_in(&self.pieces[spot.piece]) > 0 {
+            insert_within(&mut self.pieces, spot, item);
+        } else {
+            let half = self.pieces[spot.piece].len() / 2;
+            split(
+                &mut self.pieces,
+                spot.piece,
+                half,
+                take_ready(&mut self.ready),
+            );
+            insert_within(&mut self.pieces, spot_after_split(spot, half), item);
+        }
+    }
+}
+
+impl Pieces<Row> {
+    /// Puts a stanza in the place of that of a row.
+    pub(crate) fn replace(&mut self, spot: Spot, stanza: Box<Stanza>)
+        requires { IsSpot self.old.pieces spot }
+        ensures { joined self.new.pieces ≡ replace_at (joined self.old.pieces) (place_of_spot self.old.pieces spot) stanza.value }
+    {
+        self.pieces[spot.piece][spot.at].replace(stanza);
     }
 }
 
@@ -153,26 +197,10 @@ fn ready_pieces<T: Drop>(alloc: Global, items: usize) -> Result<Vec<Vec<T>>, All
         let more = if left == 0 { MOST } else { left };
         // What comes later fills the last piece of a long list.
         let capacity = items.min(MOST).max(more).max(LEAST);
-        push_ready(&mut ready, Vec::with_capacity(alloc, capacity)?, more)?;
+        ready.push(Vec::with_capacity(alloc, capacity)?)?;
         room = room.saturating_add(more);
     }
     Ok(ready)
-}
-
-// Adds an empty piece, which has room for so many items.
-fn push_ready<T: Drop>(
-    ready: &mut Vec<Vec<T>>,
-    piece: Vec<T>,
-    items: usize,
-) -> Result<(), AllocError>
-    requires ready { AreReady ready.old.items }
-    requires piece { IsReadyPiece piece }
-    requires items { items ≤ room_in piece }
-    ensures ready { OnOk result (AreReady ready.new.items) }
-    ensures room { OnOk result (room_of_all ready.old.items + items ≤ room_of_all ready.new.items) }
-{
-    ready.push(piece)?;
-    Ok(())
 }
 
 // How large a piece is to be that has room for an item wherever it comes.
@@ -202,27 +230,6 @@ fn room_of_last<T>(ready: &[Vec<T>]) -> usize
         Some(piece) => MOST.min(piece.capacity()),
         None => 0,
     }
-}
-
-fn reserve_piece<T: Drop>(
-    pieces: &mut Vec<Vec<T>>,
-    ready: &mut Vec<Vec<T>>,
-    alloc: Global,
-) -> Result<(), AllocError>
-    requires { IsFit pieces.old ready.old }
-    ensures fit { IsFit pieces.new ready.new }
-    ensures items { pieces.new.items ≡ pieces.old.items }
-    ensures some { OnOk result (0 < vec_len ready.new) }
-    ensures room { OnOk result (HasRoomFor (length (joined pieces.new.items)) ready.new) }
-{
-    let room = room_for(pieces);
-    if room <= room_of_last(ready) {
-        return Ok(());
-    }
-    ready.clear();
-    pieces.reserve(1)?;
-    ready.push(Vec::with_capacity(alloc, room)?)?;
-    Ok(())
 }
 
 // An empty piece, of which there is one.
@@ -301,36 +308,6 @@ fn free_in_last<T>(pieces: &[Vec<T>]) -> usize
     }
 }
 
-fn push_last<T: Drop>(pieces: &mut Vec<Vec<T>>, ready: &mut Vec<Vec<T>>, item: T)
-    requires fit { IsFit pieces.old ready.old }
-    requires room { 0 < room_at_end pieces.old ready.old }
-    ensures fit { IsFit pieces.new ready.new }
-    ensures items { joined pieces.new.items ≡ joined pieces.old.items ++ item ∷ [] }
-    ensures room { room_at_end pieces.new ready.new + 1 ≡ room_at_end pieces.old ready.old }
-{
-    let count = pieces.len();
-    if free_in_last(pieces) == 0 {
-        let mut piece = take_ready(ready);
-        insert_in(&mut piece, 0, item);
-        insert_piece(pieces, count, piece);
-    } else {
-        let at = pieces[count - 1].len();
-        let spot = Spot {
-            piece: count - 1,
-            at,
-        };
-        insert_within(pieces, spot, item);
-    }
-}
-
-// Whether a piece has room for the items of another, and both have few.
-fn takes<T: Drop>(piece: &Vec<T>, next: &Vec<T>) -> bool
-    requires { 0 < vec_len next.now }
-    ensures { result ≡ true → vec_len piece.now + vec_len next.now ≤ room_in piece.now }
-{
-    next.len() <= free_in(piece) && next.len() <= JOINED.saturating_sub(piece.len())
-}
-
 // Whether a piece takes the items of the one behind it, and they are few.
 fn takes_next<T: Drop>(pieces: &[Vec<T>], at: usize) -> bool
     requires pieces { ArePieces pieces.now }
@@ -343,7 +320,7 @@ fn takes_next<T: Drop>(pieces: &[Vec<T>], at: usize) -> bool
     }
     let piece = &pieces[at];
     let next = &pieces[at + 1];
-    takes(piece, next)
+    next.len() <= free_in(piece) && next.len() <= JOINED.saturating_sub(piece.len())
 }
 
 // Moves the items of the next piece into a piece, which has room for them.
@@ -351,9 +328,7 @@ fn join_next<T: Drop>(pieces: &mut Vec<Vec<T>>, at: usize)
     requires pieces { ArePieces pieces.old.items }
     requires next { at + 1 < vec_len pieces.old }
     requires room { length_at pieces.old.items at + length_at pieces.old.items (at + 1) ≤ room_at pieces.old.items at }
-    ensures pieces { ArePieces pieces.new.items }
-    ensures len { vec_len pieces.new ≤ vec_len pieces.old }
-    ensures capacity { vec_capacity pieces.new ≡ vec_capacity pieces.old }
+    ensures kept { AreNoMore pieces.old pieces.new }
     ensures items { joined pieces.new.items ≡ joined pieces.old.items }
 {
     let mut next = pieces.remove(at + 1);
@@ -367,9 +342,7 @@ fn join_next<T: Drop>(pieces: &mut Vec<Vec<T>>, at: usize)
 fn join_around<T: Drop>(pieces: &mut Vec<Vec<T>>, at: usize)
     requires pieces { ArePieces pieces.old.items }
     requires within { at < vec_len pieces.old }
-    ensures pieces { ArePieces pieces.new.items }
-    ensures len { vec_len pieces.new ≤ vec_len pieces.old }
-    ensures capacity { vec_capacity pieces.new ≡ vec_capacity pieces.old }
+    ensures kept { AreNoMore pieces.old pieces.new }
     ensures items { joined pieces.new.items ≡ joined pieces.old.items }
 {
     if takes_next(pieces, at) {
@@ -384,36 +357,17 @@ fn remove_within<T: Drop>(pieces: &mut Vec<Vec<T>>, spot: Spot)
     requires pieces { ArePieces pieces.old.items }
     requires spot { IsSpot pieces.old.items spot }
     requires others { 1 < length_at pieces.old.items spot.piece }
-    ensures pieces { ArePieces pieces.new.items }
+    ensures kept { AreNoMore pieces.old pieces.new }
     ensures len { vec_len pieces.new ≡ vec_len pieces.old }
-    ensures capacity { vec_capacity pieces.new ≡ vec_capacity pieces.old }
     ensures items { joined pieces.new.items ≡ remove (joined pieces.old.items) (place_of_spot pieces.old.items spot) }
 {
     let _ = pieces[spot.piece].remove(spot.at);
 }
 
-fn remove_at<T: Drop>(pieces: &mut Vec<Vec<T>>, spot: Spot)
-    requires pieces { ArePieces pieces.old.items }
-    requires spot { IsSpot pieces.old.items spot }
-    ensures pieces { ArePieces pieces.new.items }
-    ensures len { vec_len pieces.new ≤ vec_len pieces.old }
-    ensures capacity { vec_capacity pieces.new ≡ vec_capacity pieces.old }
-    ensures items { joined pieces.new.items ≡ remove (joined pieces.old.items) (place_of_spot pieces.old.items spot) }
-{
-    if pieces[spot.piece].len() > 1 {
-        remove_within(pieces, spot);
-        join_around(pieces, spot.piece);
-    } else {
-        let _ = pieces.remove(spot.piece);
-    }
-}
-
 // Gives back the memory of an only piece that has room for many more.
 fn shrink_only<T: Drop>(pieces: &mut Vec<Vec<T>>)
     requires { ArePieces pieces.old.items }
-    ensures pieces { ArePieces pieces.new.items }
-    ensures len { vec_len pieces.new ≡ vec_len pieces.old }
-    ensures capacity { vec_capacity pieces.new ≡ vec_capacity pieces.old }
+    ensures kept { AreNoMore pieces.old pieces.new }
     ensures items { joined pieces.new.items ≡ joined pieces.old.items }
 {
     if pieces.len() == 1 {
@@ -487,23 +441,5 @@ fn spot_after_split(spot: Spot, half: usize) -> Spot
             piece: spot.piece + 1,
             at: spot.at - half,
         }
-    }
-}
-
-fn insert_at(pieces: &mut Vec<Vec<u64>>, ready: &mut Vec<Vec<u64>>, spot: Spot, item: u64)
-    requires fit { IsFit pieces.old ready.old }
-    requires spot { IsSpotOrEnd pieces.old.items spot }
-    requires room { HasRoomFor (length (joined pieces.old.items)) ready.old }
-    ensures fit { IsFit pieces.new ready.new }
-    ensures items { joined pieces.new.items ≡ insert (joined pieces.old.items) (place_of_spot pieces.old.items spot) item }
-{
-    if spot.piece >= pieces.len() {
-        push_last(pieces, ready, item);
-    } else if free_in(&pieces[spot.piece]) > 0 {
-        insert_within(pieces, spot, item);
-    } else {
-        let half = pieces[spot.piece].len() / 2;
-        split(pieces, spot.piece, half, take_ready(ready));
-        insert_within(pieces, spot_after_split(spot, half), item);
     }
 }

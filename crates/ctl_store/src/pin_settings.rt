@@ -17,17 +17,19 @@ use std::marker::Model;
 pub struct PinSettings {
     // None has gone from it, so that the serials are as many as the settings.
     table: PinTable,
+    // It stays empty, and is room for the settings, which are given back in it.
+    room: Vec<PinSetting>,
 }
 
 impl Model for PinSettings {
-    ghost use Rattle.std.specs.Prelude.{◌≡◌, length};
     ghost use Rattle.ctl_store.specs.Pins.{Settings};
+    ghost use Rattle.ctl_store.specs.Inside.HeldPins.{IsWhole};
 
     ghost Value = { Settings };
 
     ghost view = { λ s. record { pins = s.table.pins } };
 
-    ghost invariant = { λ s. s.table.next ≡ length s.table.pins };
+    ghost invariant = { λ s. IsWhole s.table s.room };
 }
 
 impl PinSettings {
@@ -37,6 +39,7 @@ impl PinSettings {
     {
         PinSettings {
             table: PinTable::new(alloc),
+            room: Vec::new(alloc),
         }
     }
 
@@ -72,6 +75,7 @@ impl PinSettings {
     {
         // That they are few is said here.
         let _settings = self.table.iter();
+        self.room.reserve(self.table.next_serial() as usize + 1)?;
         self.table.reserve_one()?;
         self.table.put(setting);
         Ok(())
@@ -86,12 +90,28 @@ impl PinSettings {
         self.table.iter()
     }
 
+    /// The settings, in order. It takes no memory.
+    #[tactic(auto, using(crate::proofs::OwnLemmas::setting_moved))]
+    pub fn into_settings(self) -> Vec<PinSetting>
+        ensures { settings_of result.items ≡ self.pins }
+    {
+        let PinSettings { table, mut room } = self;
+        let mut left = table.into_entries();
+        'settings: while let Some((selector, priority)) = left.next() {
+            match room.push(PinSetting { selector, priority }) {
+                Ok(()) => {}
+                Err(_) => unreachable!(),
+            }
+        }
+        room
+    }
+
     /// The table that they are held in.
     pub(crate) fn into_table(self) -> PinTable
         ensures pins { result.pins ≡ self.pins }
         ensures few { result.next < 2 ^ 63 }
     {
-        let PinSettings { table } = self;
+        let PinSettings { table, .. } = self;
         // That they are few is said here.
         let _settings = table.iter();
         table

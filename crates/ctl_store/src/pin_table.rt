@@ -1,15 +1,15 @@
 //! The table in which pin settings are held.
 
-ghost use Rattle.std.specs.Prelude.{◌≡◌, ◌<◌, ◌≤◌, ◌+◌, ◌^◌, [], OnOk, length};
+ghost use Rattle.std.specs.Prelude.{◌≡◌, ◌<◌, ◌≤◌, ◌+◌, ◌^◌, [], OnOk, length, option_copied};
 ghost use Rattle.std.specs.Map.{lookup, remove_entry};
+ghost use Rattle.std.specs.Ordering.{is_lt};
 ghost use Rattle.indexmap.specs.IndexMap.{insert_entry};
 ghost use Rattle.ctl_store.specs.Pins.{selector_eq, general_pin, own_settings, AreDistinct};
+ghost use Rattle.ctl_store.specs.Inside.HeldPins.{own_below, own_order, IsRanked};
 
-use crate::pin_order::{place_of, start_of};
-use crate::selector::{PinSetting, Selector};
-use crate::selector_order::GeneralOn;
-use crate::store::{PackagePins, Pins};
-use ctl_ordered::Ordered;
+use crate::selector::{GeneralOn, PinSetting, Selector};
+use crate::store::Pins;
+use ctl_ordered::{IntoEntries, Ordered};
 use std::alloc::{AllocError, Global};
 use std::collections::VecDeque;
 use std::marker::Model;
@@ -28,8 +28,7 @@ impl Model for PinTable {
     ghost use Rattle.std.specs.Prelude.{min, ◌-◌};
     ghost use Rattle.std.specs.VecDeque.{deque_capacity, deque_len};
     ghost use Rattle.ctl_ordered.specs.Ordered.{entries};
-    ghost use Rattle.ctl_store.specs.Inside.HeldRanks.{IsRanked};
-    ghost use Rattle.ctl_store.specs.Inside.HeldPins.{own_row, PinTable};
+    ghost use Rattle.ctl_store.specs.Inside.HeldPins.{IsRanked, PinTable};
 
     ghost Value = { PinTable };
 
@@ -39,7 +38,30 @@ impl Model for PinTable {
       next = t.settings.next;
     } };
 
-    ghost invariant = { λ t. IsRanked own_row t.settings.rows t.settings.next t.packages.items };
+    ghost invariant = { λ t. IsRanked t.settings.rows t.settings.next t.packages.items };
+}
+
+// Where a package and a serial stand, or would, in the order by packages.
+#[tactic(auto, using(crate::proofs::OwnLemmas::lookup_turned))]
+fn place_of(
+    settings: &Ordered<Selector, i16>,
+    order: &VecDeque<u64>,
+    wanted: (Option<&[u8]>, u64),
+) -> usize
+    requires { IsRanked settings.now.rows settings.now.next order.now.items }
+    ensures place { result ≡ own_below (option_copied wanted.entry.0, wanted.entry.1) settings.now.rows }
+    ensures bound { result ≤ length order.now.items }
+{
+    order.partition_point(
+        |serial: &u64|
+            ensures { result ≡ is_lt (own_order settings.entry.now.rows (option_copied wanted.entry.0, wanted.entry.1) serial.now) }
+        {
+            match settings.at(*serial) {
+                Some((selector, _)) => (selector.package(), *serial).cmp(&wanted).is_lt(),
+                None => true,
+            }
+        },
+    )
 }
 
 impl PinTable {
@@ -58,20 +80,14 @@ impl PinTable {
     pub(crate) fn get(&self, selector: &Selector) -> Option<i16>
         ensures { result ≡ lookup (selector_eq selector.now) self.now.pins }
     {
-        match self.settings.get(selector) {
-            Some(priority) => Some(*priority),
-            None => None,
-        }
+        self.settings.get(selector).copied()
     }
 
     /// The priority of the general pin on a list, if there is one.
     pub(crate) fn general(&self, list: &[u8]) -> Option<i16>
         ensures { result ≡ general_pin list.now self.now.pins }
     {
-        match self.settings.get(GeneralOn { list }) {
-            Some(priority) => Some(*priority),
-            None => None,
-        }
+        self.settings.get(GeneralOn { list }).copied()
     }
 
     /// The settings, in order.
@@ -81,15 +97,35 @@ impl PinTable {
         ensures distinct { AreDistinct result }
         ensures few { length result < 2 ^ 63 }
     {
-        Pins::new(self.settings.iter())
+        Pins {
+            entries: self.settings.iter(),
+        }
+    }
+
+    /// The serial of the next new setting.
+    pub(crate) fn next_serial(&self) -> u64
+        ensures { result ≡ self.now.next }
+    {
+        self.settings.next_serial()
+    }
+
+    /// The settings, in order, which are given back.
+    pub(crate) fn into_entries(self) -> IntoEntries<Selector, i16>
+        ensures { result ≡ self.pins }
+    {
+        self.settings.into_entries()
     }
 
     /// The specific pins of a package, in order.
     pub(crate) fn of<'a>(&'a self, name: &'a [u8]) -> PackagePins<'a>
         ensures { result ≡ own_settings name.now self.now.pins }
     {
-        let start = start_of(&self.settings, &self.packages, name);
-        PackagePins::new(name, &self.settings, &self.packages, start)
+        PackagePins {
+            name,
+            settings: &self.settings,
+            order: &self.packages,
+            at: place_of(&self.settings, &self.packages, (Some(name), 0)),
+        }
     }
 
     /// Makes room for one setting more, while a serial is left.
@@ -116,7 +152,7 @@ impl PinTable {
             Some(_serial) => {}
             None => {
                 let serial = self.settings.next_serial();
-                let at = place_of(&self.settings, &self.packages, serial, &selector);
+                let at = place_of(&self.settings, &self.packages, (selector.package(), serial));
                 match self.packages.insert(at, serial) {
                     Ok(_) => {}
                     Err(_) => unreachable!(),
@@ -133,11 +169,52 @@ impl PinTable {
     {
         match self.settings.serial_of(selector) {
             Some(serial) => {
-                let at = place_of(&self.settings, &self.packages, serial, selector);
+                let at = place_of(&self.settings, &self.packages, (selector.package(), serial));
                 self.packages.remove(at);
             }
             None => {}
         }
         self.settings.remove(selector);
+    }
+}
+
+/// The specific pins of a package, by [`Store::pins_of`](crate::Store::pins_of): selectors with priorities, in the order in
+/// which the selectors were first set.
+#[derive(Drop)]
+pub struct PackagePins<'a> {
+    name: &'a [u8],
+    settings: &'a Ordered<Selector, i16>,
+    // From a place on the serials of the package stand in this order, and behind them those of others.
+    order: &'a VecDeque<u64>,
+    at: usize,
+}
+
+impl<'a> Model for PackagePins<'a> {
+    ghost use Rattle.std.specs.Prelude.{List, ℤ, drop};
+    ghost use Rattle.ctl_store.specs.declared.selector.Selector.{Selector};
+    ghost use Rattle.ctl_store.specs.Inside.HeldPins.{own_run};
+
+    ghost Value = { List (Selector × ℤ) };
+
+    ghost view = { λ it. own_run it.name.now it.settings.now.rows (drop it.at it.order.now.items) };
+}
+
+impl<'a> Iterator for PackagePins<'a> {
+    ghost use Rattle.std.specs.Iterator.{YieldsFirstBy, item_count};
+
+    ghost next_gives = { YieldsFirstBy (λ item. (item.0.now, item.1)) (λ rest. rest) };
+
+    ghost remaining = { item_count (λ rest. rest) };
+
+    type Item = (&'a Selector, i16);
+
+    fn next(&mut self) -> Option<(&'a Selector, i16)> {
+        let serial = self.order.get(self.at)?;
+        let (selector, priority) = self.settings.at(*serial)?;
+        if !selector.is_of(self.name) {
+            return None;
+        }
+        self.at += 1;
+        Some((selector, *priority))
     }
 }

@@ -3,7 +3,7 @@
 ghost use Rattle.std.specs.Prelude.{◌≡◌, ◌⊎◌, IfOk, IfSome, is_some, option_copied};
 ghost use Rattle.std.specs.List.{list_all};
 ghost use Rattle.ctl_relation.specs.Version.{is_upstream_byte};
-ghost use Rattle.ctl_store.specs.PinVersions.{is_pin_version, is_prefix, before_star, begins_with, pin_matches};
+ghost use Rattle.ctl_store.specs.PinVersions.{is_pin_version, before_star, pin_matches};
 ghost use Rattle.std.specs.Str.{bytes_eq};
 
 use ctl_relation::{Bytes, Version, VersionFault};
@@ -37,12 +37,7 @@ impl Model for PinVersion {
 fn is_upstream_byte(byte: u8) -> bool
     ensures { result ≡ is_upstream_byte byte }
 {
-    byte.is_ascii_alphanumeric()
-        || byte == b'+'
-        || byte == b'.'
-        || byte == b'~'
-        || byte == b'-'
-        || byte == b':'
+    byte.is_ascii_alphanumeric() || matches!(byte, b'+' | b'.' | b'~' | b'-' | b':')
 }
 
 fn are_upstream_bytes(text: &[u8]) -> bool
@@ -55,25 +50,10 @@ fn are_upstream_bytes(text: &[u8]) -> bool
 fn before_star(text: &[u8]) -> Option<&[u8]>
     ensures { option_copied result ≡ before_star text.now }
 {
-    let (last, prefix) = text.split_last()?;
-    if *last == b'*' { Some(prefix) } else { None }
-}
-
-fn is_prefix(text: &[u8]) -> bool
-    ensures { result ≡ is_prefix (before_star text.now) }
-{
-    match before_star(text) {
-        Some(prefix) => are_upstream_bytes(prefix),
-        None => false,
-    }
-}
-
-fn begins_with(pin: &[u8], version: &[u8]) -> bool
-    ensures { result ≡ begins_with (before_star pin.now) version.now }
-{
-    match before_star(pin) {
-        Some(prefix) => version.starts_with(prefix),
-        None => false,
+    if text.ends_with(b"*") {
+        Some(&text[..text.len() - 1])
+    } else {
+        None
     }
 }
 
@@ -89,15 +69,15 @@ impl PinVersion {
                 form: Form::Exact(version),
             })),
             Err(VersionFault::Memory) => Err(AllocError),
-            Err(_) => {
-                if !is_prefix(text) {
-                    return Ok(None);
+            Err(_) => match before_star(text) {
+                Some(prefix) if are_upstream_bytes(prefix) => {
+                    let text = Bytes::from_slice(alloc, text)?;
+                    Ok(Some(PinVersion {
+                        form: Form::Prefix(text),
+                    }))
                 }
-                let text = Bytes::from_slice(alloc, text)?;
-                Ok(Some(PinVersion {
-                    form: Form::Prefix(text),
-                }))
-            }
+                _ => Ok(None),
+            },
         }
     }
 
@@ -129,7 +109,10 @@ impl PinVersion {
     {
         match &self.form {
             Form::Exact(wanted) => wanted == version,
-            Form::Prefix(text) => begins_with(text.as_slice(), version.text()),
+            Form::Prefix(text) => match before_star(text.as_slice()) {
+                Some(prefix) => version.text().starts_with(prefix),
+                None => false,
+            },
         }
     }
 }

@@ -1,15 +1,13 @@
 //! Stanzas under their serial numbers.
 
-ghost use Rattle.std.specs.Prelude.{◌≡◌, ◌<◌, ◌≤◌, ℕ, length, IfSome, nat_lt, vec_len, option_map, option_copied, nat_eq};
+ghost use Rattle.std.specs.Prelude.{◌≡◌, ◌≤◌, ℕ, length, IfSome, nat_lt, option_map, option_copied, nat_eq};
 ghost use Rattle.std.specs.Map.{lookup};
-ghost use Rattle.std.specs.Vec.{vec_capacity};
 ghost use Rattle.std.specs.List.{slice_index_or};
 ghost use Rattle.ctl_stanza.specs.Content.{Content, package_of};
 ghost use Rattle.ctl_store.specs.Step.{place};
-ghost use Rattle.ctl_store.specs.Rows.{has_serial, Rises, replace_at};
+ghost use Rattle.ctl_store.specs.Rows.{has_serial, Rises};
 ghost use Rattle.ctl_store.specs.Fronts.{front_of};
-ghost use Rattle.ctl_store.specs.Inside.Spots.{IsEnd};
-ghost use Rattle.ctl_store.specs.Inside.HeldPieces.{joined, last_passes, place_of_spot, ArePieces, IsSpot, IsSpotOrEnd};
+ghost use Rattle.ctl_store.specs.Inside.HeldPieces.{IsEnd, joined, last_passes, place_of_spot, ArePieces, IsSpot, IsSpotOrEnd};
 
 use crate::fronts::{FRONT_LEN, front_of};
 use crate::pieces::{MOST, Spot, is_spot};
@@ -56,7 +54,7 @@ impl Row {
     }
 
     /// The front of its package's name.
-    pub(crate) fn front(&self) -> &[u8; FRONT_LEN]
+    pub(crate) fn front(&self) -> &[u8]
         ensures { result.now ≡ front_of (package_of self.now.1) }
     {
         &self.front
@@ -243,18 +241,6 @@ pub(crate) fn spot_of(rows: &[Vec<Row>], serial: u64) -> Option<Spot>
     halved_spot(rows, serial)
 }
 
-/// Puts a stanza in the place of that of a row.
-pub(crate) fn replace_row(rows: &mut Vec<Vec<Row>>, spot: Spot, stanza: Box<Stanza>)
-    requires pieces { ArePieces rows.old.items }
-    requires spot { IsSpot rows.old.items spot }
-    ensures pieces { ArePieces rows.new.items }
-    ensures len { vec_len rows.new ≡ vec_len rows.old }
-    ensures capacity { vec_capacity rows.new ≡ vec_capacity rows.old }
-    ensures rows { joined rows.new.items ≡ replace_at (joined rows.old.items) (place_of_spot rows.old.items spot) stanza.value }
-{
-    rows[spot.piece][spot.at].replace(stanza);
-}
-
 /// The row of a serial.
 pub(crate) fn row_of(rows: &[Vec<Row>], serial: u64) -> Option<&Row>
     requires pieces { ArePieces rows.now }
@@ -263,18 +249,6 @@ pub(crate) fn row_of(rows: &[Vec<Row>], serial: u64) -> Option<&Row>
 {
     match spot_of(rows, serial) {
         Some(spot) => Some(row_at(rows, spot)),
-        None => None,
-    }
-}
-
-/// The stanza of a serial.
-pub(crate) fn stanza_of(rows: &[Vec<Row>], serial: u64) -> Option<&Stanza>
-    requires pieces { ArePieces rows.now }
-    requires rises { (n : ℕ) × (m : ℕ) × Rises n (joined rows.now) m }
-    ensures { option_copied result ≡ lookup (λ k. nat_eq k serial) (joined rows.now) }
-{
-    match row_of(rows, serial) {
-        Some(row) => Some(row.stanza()),
         None => None,
     }
 }

@@ -1,14 +1,21 @@
 //! Pin settings and their selectors.
 
-ghost use Rattle.std.specs.Prelude.{◌≡◌, IfOk};
-ghost use Rattle.ctl_store.specs.Pins.{package_eq};
+ghost use Rattle.std.specs.Prelude.{◌≡◌, None, Some, IfOk, option_copied, refl};
+ghost use Rattle.std.specs.Cmp.{po, partial_equiv_from_equiv};
+ghost use Rattle.ctl_store.specs.declared.selector.Selector.TheVariants as selectors;
+ghost use Rattle.ctl_store.specs.Pins.{asked_of, is_of, package_for, selector_eq};
+ghost use Rattle.ctl_store.specs.SelectorLaws.{selector_cmp, selector_equiv, selector_ties, selector_total};
 
 use crate::pin_version::PinVersion;
+use ctl_ordered::Wanted;
 use ctl_relation::Bytes;
 use std::alloc::{AllocError, Global};
+use std::cmp::Ordering;
 
 /// What a pin setting is for (apt_preferences(5)). A release pin names a list: a list's name is its archive, which apt
 /// writes `a=NAME`.
+///
+/// They stand in the order of their packages, those of any package first, then versions before lists.
 #[derive(Drop)]
 pub enum Selector {
     /// The versions of a package that the pin's version matches.
@@ -25,6 +32,37 @@ pub struct PinSetting {
 }
 
 impl Selector {
+    // The package that it is for, if it is for one.
+    pub(crate) fn package(&self) -> Option<&[u8]>
+        ensures { option_copied result ≡ package_for self.now }
+    {
+        match self {
+            Selector::Version { package, .. } => Some(package.as_slice()),
+            Selector::Release {
+                package: Some(package),
+                ..
+            } => Some(package.as_slice()),
+            Selector::Release { package: None, .. } => None,
+        }
+    }
+
+    // Whether it is a specific one of the package.
+    pub(crate) fn is_of(&self, name: &[u8]) -> bool
+        ensures { result ≡ is_of name.now self.now }
+    {
+        self.package() == Some(name)
+    }
+
+    // Its form, and the version or list.
+    fn asked(&self) -> (u8, &[u8])
+        ensures { (result.0, result.1.now) ≡ asked_of self.now }
+    {
+        match self {
+            Selector::Version { version, .. } => (0, version.text()),
+            Selector::Release { list, .. } => (1, list.as_slice()),
+        }
+    }
+
     /// A copy, which is always made unless memory runs out.
     pub fn try_clone(&self, alloc: Global) -> Result<Selector, AllocError>
         ensures { IfOk result (λ copy. copy ≡ self.now) }
@@ -34,18 +72,11 @@ impl Selector {
                 package: Bytes::from_slice(alloc, package.as_slice())?,
                 version: version.try_clone(alloc)?,
             }),
-            Selector::Release {
-                package: None,
-                list,
-            } => Ok(Selector::Release {
-                package: None,
-                list: Bytes::from_slice(alloc, list.as_slice())?,
-            }),
-            Selector::Release {
-                package: Some(package),
-                list,
-            } => Ok(Selector::Release {
-                package: Some(Bytes::from_slice(alloc, package.as_slice())?),
+            Selector::Release { package, list } => Ok(Selector::Release {
+                package: match package {
+                    Some(package) => Some(Bytes::from_slice(alloc, package.as_slice())?),
+                    None => None,
+                },
                 list: Bytes::from_slice(alloc, list.as_slice())?,
             }),
         }
@@ -64,54 +95,55 @@ impl PinSetting {
     }
 }
 
-fn is_same_package(one: &Option<Bytes>, other: &Option<Bytes>) -> bool
-    ensures { result ≡ package_eq one.now other.now }
-{
-    match (one, other) {
-        (Some(one), Some(other)) => one.as_slice() == other.as_slice(),
-        (None, None) => true,
-        _ => false,
-    }
-}
-
 impl PartialEq for Selector {
-    ghost use Rattle.std.specs.Cmp.{partial_equiv_from_equiv};
-    ghost use Rattle.ctl_store.specs.Pins.{selector_eq};
-    ghost use Rattle.ctl_store.specs.SelectorLaws.{selector_equiv};
-
     ghost eq = { selector_eq };
 
     ghost laws = { partial_equiv_from_equiv selector_equiv };
 
+    #[tactic(auto, using(crate::specs::SelectorLaws::selector_ties))]
     fn eq(&self, other: &Selector) -> bool {
-        match (self, other) {
-            (
-                Selector::Version {
-                    package: a,
-                    version: v,
-                },
-                Selector::Version {
-                    package: b,
-                    version: w,
-                },
-            ) => { a.as_slice() == b.as_slice() && v == w }
-            (
-                Selector::Release {
-                    package: a,
-                    list: k,
-                },
-                Selector::Release {
-                    package: b,
-                    list: l,
-                },
-            ) => { is_same_package(a, b) && k.as_slice() == l.as_slice() }
-            _ => false,
-        }
+        self.cmp(other).is_eq()
     }
 }
 
 impl Eq for Selector {
-    ghost use Rattle.ctl_store.specs.SelectorLaws.{selector_equiv};
-
     ghost laws = { selector_equiv };
+}
+
+impl PartialOrd for Selector {
+    ghost partial_cmp = { λ s t. Some (selector_cmp s t) };
+
+    ghost laws = { po selector_total selector_ties };
+
+    fn partial_cmp(&self, other: &Selector) -> Option<Ordering> {
+        Some(self.cmp(other))
+    }
+}
+
+impl Ord for Selector {
+    ghost cmp = { selector_cmp };
+
+    ghost total = { selector_total };
+
+    ghost matches_partial_cmp = { λ s t. refl };
+
+    ghost matches_eq = { selector_ties };
+
+    fn cmp(&self, other: &Selector) -> Ordering {
+        (self.package(), self.asked()).cmp(&(other.package(), other.asked()))
+    }
+}
+
+/// What a general pin on a list is looked up by.
+#[derive(Clone, Copy)]
+pub(crate) struct GeneralOn<'a> {
+    pub(crate) list: &'a [u8],
+}
+
+impl<'a> Wanted<Selector> for GeneralOn<'a> {
+    ghost wanted = { λ general. selectors.Release None general.list.now };
+
+    fn order_of(&self, key: &Selector) -> Ordering {
+        (key.package(), key.asked()).cmp(&(None, (1, self.list)))
+    }
 }

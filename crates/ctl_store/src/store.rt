@@ -9,7 +9,6 @@ ghost use Rattle.ctl_store.specs.declared.limits.Limits.{Limits};
 mod checking;
 mod committing;
 mod entries;
-mod package_pins;
 mod preparing;
 mod views;
 
@@ -20,7 +19,6 @@ use ctl_ordered::Ordered;
 use ctl_relation::{Bytes, Version};
 pub(crate) use entries::ListEntries;
 pub use entries::{Entries, Keys};
-pub use package_pins::PackagePins;
 use std::alloc::Global;
 use std::marker::Model;
 pub use views::{Lists, Pins};

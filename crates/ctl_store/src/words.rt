@@ -1,10 +1,9 @@
 //! Words of the fields of preferences.
 
-ghost use Rattle.std.specs.Prelude.{◌≡◌, ◌<◌, ◌≤◌, ◌∷◌, [], not, length, option_map, option_copied, IfSome, IfNone};
-ghost use Rattle.std.specs.List.{list_all, prefix_len};
+ghost use Rattle.std.specs.Prelude.{◌≡◌, ◌≤◌, length, option_copied};
+ghost use Rattle.std.specs.List.{prefix_len};
 ghost use Rattle.ctl_relation.specs.FieldBytes.{is_whitespace};
-ghost use Rattle.ctl_relation.specs.Names.{is_name};
-ghost use Rattle.ctl_store.specs.Prefs.{is_word_byte, words_of, is_general, are_names, version_asked, list_asked};
+ghost use Rattle.ctl_store.specs.Prefs.{is_word_byte, words_of, is_general, are_names, asked};
 
 use ctl_relation::is_name;
 
@@ -19,104 +18,72 @@ fn word_len(text: &[u8]) -> usize
     ensures len { result ≡ prefix_len is_word_byte text.now }
     ensures within { result ≤ length text.now }
 {
-    for (i, byte) in text.iter().enumerate() {
-        if is_whitespace(*byte) {
-            return i;
-        }
-    }
-    text.len()
+    text.iter()
+        .take_while(|byte| !is_whitespace(**byte))
+        .count()
 }
 
-/// The first word of a text, and what stands behind it; None where it has no word.
-#[tactic(auto, using(crate::proofs::PrefsLemmas::word_first, crate::proofs::PrefsLemmas::word_less, crate::proofs::PrefsLemmas::no_word))]
-pub(crate) fn take_word(text: &[u8]) -> Option<(&[u8], &[u8])>
-    ensures word { IfSome result (λ cut. words_of text.now ≡ cut.0.now ∷ words_of cut.1.now) }
-    ensures less { IfSome result (λ cut. length cut.1.now < length text.now) }
-    ensures none { IfNone result (words_of text.now ≡ []) }
-{
-    let mut left = text;
-    while let Some((first, rest)) = left.split_first() {
-        if !is_whitespace(*first) {
-            return Some(left.split_at(word_len(left)));
+/// The words of a text, in order.
+#[derive(Drop)]
+pub(crate) struct Words<'a>(pub(crate) &'a [u8]);
+
+impl<'a> Iterator for Words<'a> {
+    ghost use Rattle.std.specs.Iterator.{YieldsFirstRef, item_count};
+
+    type Item = &'a [u8];
+
+    ghost next_gives = { YieldsFirstRef (λ words. words_of words.0.now) };
+
+    ghost remaining = { item_count (λ words. words_of words.0.now) };
+
+    #[tactic(auto, using(crate::proofs::PrefsLemmas::word_first, crate::proofs::PrefsLemmas::no_word))]
+    fn next(&mut self) -> Option<&'a [u8]> {
+        while let Some((first, rest)) = self.0.split_first() {
+            if !is_whitespace(*first) {
+                let (word, behind) = self.0.split_at(word_len(self.0));
+                self.0 = behind;
+                return Some(word);
+            }
+            self.0 = rest;
         }
-        left = rest;
+        None
     }
-    None
 }
 
 /// Whether a text is one `*` alone.
 pub(crate) fn is_general(text: &[u8]) -> bool
     ensures { result ≡ is_general (words_of text.now) }
 {
-    match take_word(text) {
-        Some((word, behind)) => {
-            let (other, general) = (take_word(behind), word == b"*".as_slice());
-            match other {
-                Some(_) => false,
-                None => general,
-            }
-        }
-        None => false,
+    let mut words = Words(text);
+    match (words.next(), words.next()) {
+        (Some(word), None) => word == b"*".as_slice(),
+        _ => false,
     }
-}
-
-fn are_all_names(text: &[u8]) -> bool
-    ensures { result ≡ list_all is_name (words_of text.now) }
-{
-    let mut left = text;
-    while let Some((word, behind)) = take_word(left) {
-        if !is_name(word) {
-            return false;
-        }
-        left = behind;
-    }
-    true
 }
 
 /// Whether a text is one or more names.
 pub(crate) fn are_names(text: &[u8]) -> bool
     ensures { result ≡ are_names (words_of text.now) }
 {
-    match take_word(text) {
-        Some(_) => are_all_names(text),
-        None => false,
+    let mut some = false;
+    for word in Words(text) {
+        if !is_name(word) {
+            return false;
+        }
+        some = true;
     }
+    some
 }
 
-// The two words of a text that has as many.
-fn two_words(text: &[u8]) -> Option<(&[u8], &[u8])>
-    ensures some { IfSome result (λ two. words_of text.now ≡ two.0.now ∷ two.1.now ∷ []) }
-    ensures version { IfNone result (version_asked (words_of text.now) ≡ None) }
-    ensures list { IfNone result (list_asked (words_of text.now) ≡ None) }
+/// What stands behind the front of the second word, where a text is two words and `form` is the first.
+pub(crate) fn asked<'a>(text: &'a [u8], form: &[u8], front: &[u8]) -> Option<&'a [u8]>
+    ensures { option_copied result ≡ asked form.now front.now (words_of text.now) }
 {
-    let (first, behind) = take_word(text)?;
-    let (second, behind) = take_word(behind)?;
-    match take_word(behind) {
-        Some(_) => None,
-        None => Some((first, second)),
-    }
-}
-
-/// What stands behind `version`, where a text is these two words.
-pub(crate) fn version_asked(text: &[u8]) -> Option<&[u8]>
-    ensures { option_copied result ≡ version_asked (words_of text.now) }
-{
-    let (form, version) = two_words(text)?;
-    if form == b"version".as_slice() {
-        Some(version)
-    } else {
-        None
-    }
-}
-
-/// What stands behind `release a=`, where a text is these two words.
-pub(crate) fn list_asked(text: &[u8]) -> Option<&[u8]>
-    ensures { option_copied result ≡ list_asked (words_of text.now) }
-{
-    let (form, release) = two_words(text)?;
-    if form == b"release".as_slice() && release.starts_with(b"a=") {
-        Some(&release[2..])
-    } else {
-        None
+    let mut words = Words(text);
+    match (words.next(), words.next(), words.next()) {
+        (Some(first), Some(second), None) if first == form && second.starts_with(front) => {
+            Some(&second[front.len()..])
+        }
+        _ => None,
     }
 }

@@ -1,5 +1,6 @@
 -- What every store, list and plan keeps. Not for callers.
-use Rattle.std.specs.Prelude.{◌≡◌, ℕ, ◌+◌, ◌^◌, ◌<◌, ◌≤◌, suc, List, [], ◌∷◌, length, Option, None, Some, IfSome, Vec, nat_eq, if◌then◌else◌}
+use Rattle.std.specs.Prelude.{◌≡◌, ℕ, ◌+◌, ◌^◌, ◌<◌, ◌≤◌, suc, nat_eq, if◌then◌else◌}
+use Rattle.std.specs.Prelude.{List, [], ◌∷◌, length, Option, None, Some, IfSome, Vec}
 use Rattle.std.specs.List.{AllByRecursion}
 use Rattle.ctl_ordered.specs.Ordered.{without_serials}
 use Rattle.ctl_stanza.specs.Content.{Content}
@@ -11,8 +12,8 @@ use Rattle.ctl_store.specs.State.{stanza_count, status_count}
 use Rattle.ctl_store.specs.Kinds.{KeepKinds}
 use Rattle.ctl_store.specs.Edits.{Edit, AddList, Put, Mark, Pin}
 use Rattle.ctl_store.specs.Step.{after}
-use Rattle.ctl_store.specs.Rows.{Rises, IsKept}
-use Rattle.ctl_store.specs.Inside.HeldPieces.{joined, IsFit, Pieces}
+use Rattle.ctl_store.specs.Rows.{Rises}
+use Rattle.ctl_store.specs.Inside.HeldPieces.{InPieces}
 use Rattle.ctl_store.specs.Keys.{KeyedList, keyed_after, stanza_lists, coming, AreComing}
 use Rattle.ctl_store.specs.Followed.{coming_under}
 use Rattle.ctl_store.specs.Plans.{ListRoom, Fits, HasRoomInList}
@@ -33,7 +34,8 @@ InOrder n (l ∷ ls) m e = (n ≤ l.1.serial) × (l.1.next ≤ e) × Rises 0 l.1
 abbrev pub AreNumbered : List (ℕ × (List ℕ × HeldList)) → Type 0
 AreNumbered rows = AllByRecursion (λ (row : ℕ × (List ℕ × HeldList)). row.0 ≡ row.1.1.serial) rows
 
-pub record IsSound (rows : List (ℕ × (List ℕ × HeldList))) (next next_list statuses stanzas edits : ℕ) (limits : Limits) (next_mark next_pin : ℕ) : Type 0 where
+pub record IsSound (rows : List (ℕ × (List ℕ × HeldList))) (next next_list statuses stanzas edits : ℕ) (limits : Limits)
+    (next_mark next_pin : ℕ) : Type 0 where
   pub numbered : AreNumbered rows
   pub next_is : next ≡ next_list
   pub order : InOrder 0 (lists_of (without_serials rows)) next_list (limits.stanzas + edits)
@@ -48,21 +50,11 @@ pub record IsSound (rows : List (ℕ × (List ℕ × HeldList))) (next next_list
   pub stanzas_bounded : limits.stanzas ≤ most
   pub edits_bounded : limits.edits ≤ most
 
--- what every list keeps: its rows and their order, each in pieces
-pub record IsHeldList {A B : Type 0} (rows ready : Pieces (ℕ × Content) A B) (next : ℕ) (order spare : Pieces ℕ A B) : Type 0 where
-  pub kept : IsKept (joined rows.items) next (joined order.items)
-  pub rows_fit : IsFit rows ready
-  pub order_fit : IsFit order spare
-
 -- nothing stands yet in the room for a new list
-module _ {R A B C : Type 0} where
-  pub record IsBare (serials : Vec ℕ C) (fronts : Vec (List ℕ) C) (rows ready : Pieces R A B) (order spare : Pieces ℕ A B) : Type 0 where
-    pub no_serials : serials.items ≡ []
-    pub no_fronts : fronts.items ≡ []
-    pub no_rows : rows.items ≡ []
-    pub rows_fit : IsFit rows ready
-    pub no_order : order.items ≡ []
-    pub order_fit : IsFit order spare
+pub record IsBare {R A : Type 0} (serials : Vec ℕ A) (rows : InPieces R) (order : InPieces ℕ) : Type 0 where
+  pub no_serials : serials.items ≡ []
+  pub no_rows : rows.pieces ≡ []
+  pub no_order : order.pieces ≡ []
 
 -- The stanza that comes under a key, by the first key that comes: those of a new list come from 0 on, and of others there
 -- is no second.

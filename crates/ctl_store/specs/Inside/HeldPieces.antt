@@ -1,6 +1,8 @@
 -- Sequences in pieces.
-use Rattle.std.specs.Prelude.{◌≡◌, ℕ, zero, suc, ◌+◌, ◌-◌, ◌<◌, ◌≤◌, min, List, [], ◌∷◌, length, take, slice_get, Bool, false, Vec, vec_len}
-use Rattle.std.specs.List.{AllByRecursion, flat_map}
+use Rattle.std.specs.Prelude.{◌≡◌, ℕ, zero, suc, ◌+◌, ◌-◌, ◌<◌, ◌≤◌, min, List, [], ◌∷◌, length, take, slice_get, Bool, true, false, Vec, vec_len}
+use Rattle.std.proofs.Common.{Global}
+use Rattle.std.specs.List.{AllByRecursion, flat_map, insert}
+use Rattle.std.specs.List.Sorted.{IsPartitionPoint}
 use Rattle.std.specs.Option.{option_map_or}
 use Rattle.std.specs.Vec.{vec_capacity}
 use Rattle.ctl_store.specs.declared.pieces.Spot.{Spot}
@@ -54,9 +56,10 @@ pub record IsSpotOrEnd {X A : Type 0} (ps : List (Vec X A)) (spot : Spot) : Type
 abbrev pub last_passes : {X : Type 0} → (X → Bool) → List X → Bool
 last_passes p xs = option_map_or p (slice_get xs (length xs - 1)) false
 
--- a sequence in pieces, or empty ones
-abbrev pub Pieces : Type 0 → Type 0 → Type 0 → Type 0
-Pieces X A B = Vec (Vec X A) B
+-- a sequence in pieces, with empty ones for what comes
+pub record InPieces (X : Type 0) : Type 0 where
+  pub pieces : List (Vec X Global)
+  pub ready : List (Vec X Global)
 
 -- ---- what pieces keep
 
@@ -83,6 +86,12 @@ pub record IsFit {X A B : Type 0} (ps ready_ones : Vec (Vec X A) B) : Type 0 whe
   pub ready : AreReady ready_ones.items
   pub room : vec_len ps + vec_len ready_ones ≤ vec_capacity ps
 
+-- pieces in place of others, of which there are no more, in the same memory
+pub record AreNoMore {X A B : Type 0} (ps qs : Vec (Vec X A) B) : Type 0 where
+  pub pieces : ArePieces qs.items
+  pub len : vec_len qs ≤ vec_len ps
+  pub capacity : vec_capacity qs ≡ vec_capacity ps
+
 -- how many items more the last piece takes
 abbrev pub free_at_end : {X A : Type 0} → List (Vec X A) → ℕ
 free_at_end [] = 0
@@ -101,9 +110,17 @@ room_of_last (p ∷ []) = room_in p
 room_of_last (p ∷ q ∷ ps) = room_of_last (q ∷ ps)
 
 -- how many items more come last with no memory
-abbrev pub room_at_end : {X A B : Type 0} → Vec (Vec X A) B → Vec (Vec X A) B → ℕ
-room_at_end pieces ready = free_at_end pieces.items + room_of_all ready.items
+abbrev pub room_at_end : {X : Type 0} → InPieces X → ℕ
+room_at_end p = free_at_end p.pieces + room_of_all p.ready
 
 -- Wherever an item comes, an empty piece has room for half of the piece that it comes into, and for the item.
-abbrev pub HasRoomFor : {X A B : Type 0} → ℕ → Vec (Vec X A) B → Type 0
-HasRoomFor count ready = min most_in_piece (count + 1) ≤ room_of_last ready.items
+abbrev pub HasRoomForOne : {X : Type 0} → InPieces X → Type 0
+HasRoomForOne p = min most_in_piece (length (joined p.pieces) + 1) ≤ room_of_last p.ready
+
+-- the first items pass a test, so many, and none after them
+abbrev pub IsEnd : {X : Type 0} → (X → Bool) → List X → ℕ → Type 0
+IsEnd p xs at = IsPartitionPoint (λ x. p x ≡ true) (λ x. p x ≡ false) xs at
+
+-- all items, with one more in the place of that of a spot
+abbrev pub inserted_at : {X A : Type 0} → List (Vec X A) → Spot → X → List X
+inserted_at ps spot x = insert (joined ps) (place_of_spot ps spot) x

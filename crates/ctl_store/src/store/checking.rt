@@ -8,7 +8,7 @@ ghost use Rattle.ctl_store.specs.Named.{at_name, has_name};
 ghost use Rattle.ctl_store.specs.State.{count_of_kind};
 ghost use Rattle.ctl_store.specs.Pins.{selector_eq};
 ghost use Rattle.ctl_store.specs.Edits.{edit_of};
-ghost use Rattle.ctl_store.specs.Step.{count_coming, has_status, has_stanza, is_same_kind, is_status, is_there, misfit_of, is_past, after, refusal_of, takes_kind};
+ghost use Rattle.ctl_store.specs.Step.{count_coming, has_stanza, is_same_kind, is_status, is_there, misfit_of, is_past, after, refusal_of, takes_kind};
 ghost use Rattle.ctl_store.specs.Keys.{found_in, found_of};
 ghost use Rattle.ctl_store.specs.Store.{state_of, keyed_of};
 
@@ -36,12 +36,6 @@ impl Store {
         ensures { result ≡ has_name name.now (state_of self.now).lists }
     {
         self.lists.get(name).is_some()
-    }
-
-    fn has_status(&self) -> bool
-        ensures { result ≡ has_status (state_of self.now).lists }
-    {
-        self.statuses > 0
     }
 
     // Whether a list of this name is there that holds stanzas of a kind.

@@ -10,10 +10,10 @@ ghost use Rattle.ctl_store.specs.Keys.{keyed_after, removed_of, found_in, all_in
 ghost use Rattle.ctl_store.specs.Entries.{IsChange};
 ghost use Rattle.ctl_store.specs.Given.{IsGivenOnce};
 ghost use Rattle.ctl_store.specs.Kinds.{AreOfKind};
-ghost use Rattle.ctl_store.specs.Inside.NewLists.{adding};
 ghost use Rattle.ctl_store.specs.Store.{state_of, keyed_of};
 ghost use Rattle.ctl_store.specs.Plans.{IsReady, HasRoom, HasRoomInList, Fits};
 ghost use Rattle.ctl_store.specs.Inside.Held.{HasMade};
+ghost use Rattle.ctl_store.specs.Inside.NewLists.{adding};
 
 use crate::edit::Edit;
 use crate::held_list::{HeldList, ListRoom, NewList};
@@ -60,18 +60,18 @@ impl Store {
         let Plan {
             edit,
             removed,
-            mut list_room,
+            list_room,
             ..
         } = plan;
         let _limits = self.limits;
-        self.make(edit, removed.len(), &mut list_room);
+        self.make(edit, removed.len(), list_room);
     }
 
-    // Makes an edit by which so many keys go, and for which this is ready: room for a list, and for pins.
-    fn make(&mut self, edit: Edit, gone: usize, list_room: &mut ListRoom)
+    // Makes an edit by which so many keys go, with the room for a list, if it adds one.
+    fn make(&mut self, edit: Edit, gone: usize, room: ListRoom)
         requires accepted { refusal_of self.old.limits (state_of self.old) (edit_of edit) ≡ None }
         requires gone { gone ≡ length (removed_of (keyed_of self.old) (edit_of edit)) }
-        requires room { HasRoom self.old list_room.old (edit_of edit) }
+        requires room { HasRoom self.old room (edit_of edit) }
         ensures { HasMade self.old self.new (edit_of edit) }
     {
         match edit {
@@ -80,7 +80,6 @@ impl Store {
                 class,
                 stanzas,
             } => {
-                let room = list_room.take(self.alloc);
                 let (kind, stanzas) = stanzas.into_parts();
                 self.add_list(
                     name,

@@ -1,12 +1,13 @@
 //! What a store holds, lent.
 
-ghost use Rattle.std.specs.Prelude.{◌≡◌, ◌+◌, ℕ, true, IsSome, Some, map, option_map, option_copied};
+ghost use Rattle.std.specs.Prelude.{◌≡◌, ◌+◌, ℕ, true, IfSome, IsSome, Some, map, option_map, option_copied};
 ghost use Rattle.std.specs.FinMap as fin;
 ghost use Rattle.ctl_store.specs.State.{stanza_count, shown_lists, stanzas_named};
 ghost use Rattle.ctl_store.specs.Keys.{all_in, all_keys, AreRising, AreHeld, stanza_at, holder_of};
 ghost use Rattle.ctl_store.specs.Followed.{under};
 ghost use Rattle.ctl_store.specs.Kinds.{KeepKinds};
 ghost use Rattle.ctl_store.specs.Named.{at_name};
+ghost use Rattle.ctl_store.specs.Step.{has_status};
 ghost use Rattle.ctl_store.specs.Pins.{general_pin, own_settings, AreDistinct};
 ghost use Rattle.std.specs.List.{IsDistinct};
 ghost use Rattle.std.specs.Map.{keys_of as names_of};
@@ -14,15 +15,17 @@ ghost use Rattle.std.specs.Str.{bytes_eq};
 ghost use Rattle.ctl_store.specs.Entries.{entry_keys, entries_of, AreAt};
 ghost use Rattle.ctl_store.specs.Store.{state_of, keyed_of, lists_of};
 ghost use Rattle.ctl_store.specs.declared.limits.Counts.{Counts};
+ghost use Rattle.ctl_store.specs.declared.stanza_key.StanzaKey.{StanzaKey};
 
 use crate::held_list::HeldList;
 use crate::limits::{Counts, Limits};
 use crate::list_class::ListClass;
 use crate::lists::entry_of;
 use crate::name::Name;
+use crate::pin_table::PackagePins;
 use crate::selector::Selector;
 use crate::stanza_key::StanzaKey;
-use crate::store::{Entries, Keys, ListEntries, PackagePins, Store};
+use crate::store::{Entries, Keys, ListEntries, Store};
 use ctl_relation::{Bytes, Version};
 use ctl_stanza::{ListKind, Stanza};
 use std::marker::Model;
@@ -61,7 +64,7 @@ impl<'a> Iterator for Lists<'a> {
 /// The pin settings of a store, by [`Store::pins`]: selectors with priorities, in order.
 #[derive(Drop)]
 pub struct Pins<'a> {
-    entries: ctl_ordered::Entries<'a, Selector, i16>,
+    pub(crate) entries: ctl_ordered::Entries<'a, Selector, i16>,
 }
 
 impl<'a> Model for Pins<'a> {
@@ -71,15 +74,6 @@ impl<'a> Model for Pins<'a> {
     ghost Value = { List (Selector × ℤ) };
 
     ghost view = { λ it. it.entries };
-}
-
-impl<'a> Pins<'a> {
-    /// These settings.
-    pub(crate) fn new(entries: ctl_ordered::Entries<'a, Selector, i16>) -> Pins<'a>
-        ensures { result ≡ entries.entry }
-    {
-        Pins { entries }
-    }
 }
 
 impl<'a> Iterator for Pins<'a> {
@@ -108,6 +102,13 @@ impl Store {
     {
         let entries = self.lists.iter();
         Lists { entries }
+    }
+
+    /// Whether one of the lists is a status list. The lists aren't walked: status lists are counted.
+    pub fn has_status(&self) -> bool
+        ensures { result ≡ has_status (state_of self.now).lists }
+    {
+        self.statuses > 0
     }
 
     /// The kind of a list, if there is a list of this name.
@@ -202,11 +203,14 @@ impl Store {
         }
     }
 
-    // The name and the kind of the list of a key, which is one of the store.
+    // The name and the kind of the list of a key, which is one of the store. They are those of each key of its list.
     fn holder(&self, key: StanzaKey) -> (&[u8], ListKind)
         requires { IsSome (stanza_at key (keyed_of self.now).lists) }
         ensures name { Some result.0.now ≡ holder_of key (keyed_of self.now).lists }
         ensures kind { Some result.1 ≡ option_map (λ x. x.kind) (stanza_at key (keyed_of self.now).lists) }
+        ensures names { (k : StanzaKey) → k.list ≡ key.list → IsSome (stanza_at k (keyed_of self.now).lists)
+            → holder_of k (keyed_of self.now).lists ≡ Some result.0.now }
+        ensures kinds { (k : StanzaKey) → k.list ≡ key.list → IfSome (stanza_at k (keyed_of self.now).lists) (λ x. x.kind ≡ result.1) }
     {
         match entry_of(&self.lists, key.list) {
             Some((name, listed)) => (name, listed.kind()),
@@ -217,7 +221,10 @@ impl Store {
     /// The name of the list of a key, which is one of the store.
     pub fn list_of(&self, key: StanzaKey) -> &[u8]
         requires { IsSome (stanza_at key (keyed_of self.now).lists) }
-        ensures { Some result.now ≡ holder_of key (keyed_of self.now).lists }
+        ensures name { Some result.now ≡ holder_of key (keyed_of self.now).lists }
+        // so it is for each key of the list
+        ensures each { (k : StanzaKey) → k.list ≡ key.list → IsSome (stanza_at k (keyed_of self.now).lists)
+            → holder_of k (keyed_of self.now).lists ≡ Some result.now }
     {
         self.holder(key).0
     }
@@ -225,7 +232,9 @@ impl Store {
     /// The kind of the list of a key, which is one of the store. It is that of its stanza, which isn't looked at.
     pub fn kind_of(&self, key: StanzaKey) -> ListKind
         requires { IsSome (stanza_at key (keyed_of self.now).lists) }
-        ensures { Some result ≡ option_map (λ x. x.kind) (stanza_at key (keyed_of self.now).lists) }
+        ensures kind { Some result ≡ option_map (λ x. x.kind) (stanza_at key (keyed_of self.now).lists) }
+        // so it is for each key of the list
+        ensures each { (k : StanzaKey) → k.list ≡ key.list → IfSome (stanza_at k (keyed_of self.now).lists) (λ x. x.kind ≡ result) }
     {
         self.holder(key).1
     }

@@ -12,10 +12,8 @@ use Rattle.ctl_store.proofs.lists.put_in.Goals as goal
 pub put-requires : goal.put-requires
 put-requires c =
     let at = sym c.in-Some.ensures.value in
-    let room = subst (λ o. IfSome o HasRoomInList) at c.requires.room in
     record {
-      room = room.row;
-      order = room.order;
+      room = subst (λ o. IfSome o HasRoomInList) at c.requires.room;
       below = subst (λ o. IfSome o (λ (s : HeldList). s.next + 1 < 18446744073709551616)) at c.requires.below;
     }
 

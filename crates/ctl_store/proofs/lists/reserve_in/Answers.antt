@@ -21,7 +21,7 @@ returns-in-Some c =
     let found = ap (at_name list) has.entries ∙ at_name-set_named list v w (entries old) at in
     record {
       lists = ap lists_of has.entries ∙ set_named-same list (entries old) v w at c.reserve_one.ensures.same;
-      ok = on_ok_map c.reserve_one.result (λ room. subst (λ o. IfSome o HasRoomInList) (sym found) (record { row = room.0; order = room.1 })) c.reserve_one.ensures.ok;
+      ok = on_ok_map c.reserve_one.result (λ room. subst (λ o. IfSome o HasRoomInList) (sym found) room) c.reserve_one.ensures.ok;
       numbered = λ h. subst AreNumbered (sym has.rows) (numbered_set (bytes_eq list) old.rows v w at (ap (λ (l : KeyedList). l.serial) c.reserve_one.ensures.same) h);
       next = has.next;
     }

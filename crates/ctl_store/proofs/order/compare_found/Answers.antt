@@ -11,6 +11,6 @@ returns-in-Equal c = c.compare.ensures ∙ (λ j. id_cmp (id_of (c.stanza.ensure
 pub returns-in_default : goal.returns-in_default
 returns-in_default c =
     let s = c.sought.inside in
-    front_tells c.args.row.now.1 s.name.now (option_copied s.version) c.compare_fronts.result
-    (c.compare_fronts.ensures ∙ (λ j. slice_cmp nat_cmp (c.front.ensures j) (c.sought.invariant j))) c.in_default.not-Equal
+    front_tells c.args.row.now.1 s.name.now (option_copied s.version) c.cmp.result
+    (c.cmp.ensures ∙ (λ j. slice_cmp nat_cmp (c.front.ensures j) ((c.as_slice.ensures ∙ c.sought.invariant) j))) c.in_default.not-Equal
     ∙ ap (λ q. id_cmp (id_of c.args.row.now.1) q) c.sought.view_is

@@ -2,8 +2,7 @@ use Rattle.std.proofs.Common.{rules, of_calls, ℕ, Bool, ◌<◌, ◌≡◌, le
 use Rattle.std.proofs.lemmas.Fn.{always_returns_same}
 use Rattle.std.specs.Ordering.{is_lt}
 use Rattle.ctl_store.specs.Rows.{id_cmp, row_id, order_at}
-use Rattle.ctl_store.specs.Inside.HeldPieces.{joined, last_passes, stands_at, length_at}
-use Rattle.ctl_store.specs.Inside.Spots.{IsEnd}
+use Rattle.ctl_store.specs.Inside.HeldPieces.{joined, last_passes, stands_at, length_at, IsEnd}
 use Rattle.ctl_store.proofs.OrderLemmas.{id_total}
 use Rattle.ctl_store.proofs.RankedLemmas.{parted, below_is}
 use Rattle.ctl_store.proofs.PointLemmas.{parted_last, end_found, end_past, stands_within, stands_end}

@@ -1,4 +1,4 @@
-use Rattle.std.proofs.Common.{◌∙◌, suc, get_or, set, ap, sym, subst, arith}
+use Rattle.std.proofs.Common.{rules, ◌∙◌, suc, get_or, set, ap, sym, subst, arith}
 use Rattle.std.specs.List.{remove}
 use Rattle.ctl_store.specs.Inside.HeldPieces.{ArePieces, IsPiece, joined, length_at}
 use Rattle.ctl_store.proofs.PiecesLemmas.{plus_one, length_read, room_read, piece_read, pieces_set, pieces_remove, read_before, joined_join}
@@ -17,8 +17,8 @@ unreachable-requires g c =
     let r = room_read ps at p (omega (arith, c.requires.next)) read in
     omega (arith, c.in-Err.ensures.full, n, m, r, c.requires.room, ap (length_at ps) (plus_one at))
 
-pub returns-clause-pieces : goal.returns-clause-pieces
-returns-clause-pieces g c =
+pub returns-clause-kept : goal.returns-clause-kept
+returns-clause-kept g c =
     let ps = c.args.pieces.now.items in
     let at = c.args.at in
     let p = c.index_mut.result.now in
@@ -29,12 +29,16 @@ returns-clause-pieces g c =
     let n = length_read ps at p (omega (arith, c.requires.next)) read in
     let m = length_read ps (suc at) up (omega (arith, c.requires.next)) (c.remove-next.ensures.value ∙ ap (λ n. get_or ps n up) (plus_one at)) in
     let r = room_read ps at p (omega (arith, c.requires.next)) read in
-    subst (λ l. ArePieces (set l at c.append.new.self)) (sym rest)
-    (pieces_set (remove ps (suc at)) at c.append.new.self (pieces_remove ps (suc at) c.requires.pieces) (record {
-      some = omega (arith, was.some, c.in-Ok.ensures.len);
-      few = omega (arith, c.in-Ok.ensures.len, n, m, r, c.requires.room, ap (length_at ps) (plus_one at));
-      room = omega (arith, was.room, c.in-Ok.ensures.capacity);
-    }))
+    record {
+      pieces = subst (λ l. ArePieces (set l at c.append.new.self)) (sym rest)
+          (pieces_set (remove ps (suc at)) at c.append.new.self (pieces_remove ps (suc at) c.requires.pieces) (record {
+            some = omega (arith, was.some, c.in-Ok.ensures.len);
+            few = omega (arith, c.in-Ok.ensures.len, n, m, r, c.requires.room, ap (length_at ps) (plus_one at));
+            room = omega (arith, was.room, c.in-Ok.ensures.capacity);
+          }));
+      len = search rules;
+      capacity = search rules;
+    }
 
 pub returns-clause-items : goal.returns-clause-items
 returns-clause-items g c =

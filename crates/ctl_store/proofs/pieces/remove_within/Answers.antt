@@ -1,4 +1,4 @@
-use Rattle.std.proofs.Common.{arith}
+use Rattle.std.proofs.Common.{rules, arith}
 use Rattle.ctl_store.specs.Inside.HeldPieces.{IsPiece}
 use Rattle.ctl_store.proofs.PiecesLemmas.{spot_within, length_read, piece_read, pieces_set, joined_remove}
 use Rattle.ctl_store.proofs.pieces.remove_within.Goals as goal
@@ -12,17 +12,21 @@ remove-requires g c =
     let within = spot_within ps c.args.spot.piece c.args.spot.at c.requires.spot in
     omega (arith, c.requires.spot, length_read ps c.args.spot.piece c.index_mut.result.now within c.index_mut.ensures.value)
 
-pub returns-clause-pieces : goal.returns-clause-pieces
-returns-clause-pieces g c =
+pub returns-clause-kept : goal.returns-clause-kept
+returns-clause-kept g c =
     let ps = c.args.pieces.now.items in
     let within = spot_within ps c.args.spot.piece c.args.spot.at c.requires.spot in
     let p : IsPiece c.index_mut.result.now = piece_read ps c.args.spot.piece c.index_mut.result.now c.requires.pieces within c.index_mut.ensures.value in
     let n = length_read ps c.args.spot.piece c.index_mut.result.now within c.index_mut.ensures.value in
-    pieces_set ps c.args.spot.piece c.remove.new.self c.requires.pieces (record {
-      some = omega (arith, c.remove.ensures.len, n, c.requires.others);
-      few = omega (arith, c.remove.ensures.len, p.few);
-      room = omega (arith, c.remove.ensures.capacity, p.room);
-    })
+    record {
+      pieces = pieces_set ps c.args.spot.piece c.remove.new.self c.requires.pieces (record {
+        some = omega (arith, c.remove.ensures.len, n, c.requires.others);
+        few = omega (arith, c.remove.ensures.len, p.few);
+        room = omega (arith, c.remove.ensures.capacity, p.room);
+      });
+      len = search rules;
+      capacity = search rules;
+    }
 
 pub returns-clause-items : goal.returns-clause-items
 returns-clause-items g c =

@@ -1,7 +1,7 @@
 use Rattle.std.proofs.Common.{◌≡◌, ◌∙◌, ◌+◌, ◌<◌, ◌++◌, ℕ, List, suc, length, drop, set, Vec, ap, sym, subst, arith}
 use Rattle.std.specs.List.{insert}
-use Rattle.ctl_store.specs.Inside.HeldPieces.{ArePieces, IsPiece, joined, length_at, room_at, stands_at}
-use Rattle.ctl_store.proofs.PiecesLemmas.{plus_one, read_same, length_read, room_read, piece_read, pieces_set, pieces_insert, halves, joined_split, length_lower, length_upper, room_lower, room_upper, stands_upper}
+use Rattle.ctl_store.specs.Inside.HeldPieces.{ArePieces, IsPiece, joined, length_at, room_at}
+use Rattle.ctl_store.proofs.PiecesLemmas.{plus_one, read_same, length_read, room_read, piece_read, pieces_set, pieces_insert, halves, joined_split, length_lower, length_upper, room_lower, room_upper}
 use Rattle.ctl_store.proofs.pieces.split.Goals as goal
 
 next : {X : Type 0} (xs ys : List X) (at : ℕ) (x : X) → ys ≡ insert xs (at + 1) x → ys ≡ insert xs (suc at) x
@@ -86,13 +86,3 @@ returns-clause-upper_room c =
     ∙ room_upper ps c.args.at c.truncate.new.self c.extend_from_slice.new.self within
     in
     omega (arith, is, c.in-Ok.ensures.capacity, c.requires.fits)
-
-pub returns-clause-upper : goal.returns-clause-upper
-returns-clause-upper c = λ j.
-    let ps = c.args.pieces.now.items in
-    let within : c.args.at < length ps = omega arith in
-    let n = length_read ps c.args.at c.index_mut.result.now within c.index_mut.ensures.value in
-    let low : length c.truncate.new.self.items ≡ c.args.half = omega (arith, n, c.requires.some, c.truncate.ensures.len) in
-    ap (λ n. stands_at c.insert_piece.new.pieces.items n j) (plus_one c.args.at)
-    ∙ ap (λ l. stands_at l (suc c.args.at) j) (next (set ps c.args.at c.truncate.new.self) c.insert_piece.new.pieces.items c.args.at c.extend_from_slice.new.self c.insert_piece.ensures.items)
-    ∙ stands_upper ps c.args.at c.truncate.new.self c.extend_from_slice.new.self j within ∙ ap (λ k. stands_at ps c.args.at (k + j)) low

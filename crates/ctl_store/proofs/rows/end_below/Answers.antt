@@ -1,7 +1,6 @@
 use Rattle.std.proofs.Common.{rules, of_calls, ◌<◌, ◌≡◌, length, arith}
 use Rattle.std.proofs.lemmas.Fn.{always_returns_same}
-use Rattle.ctl_store.specs.Inside.HeldPieces.{joined, stands_at, length_at}
-use Rattle.ctl_store.specs.Inside.Spots.{IsEnd}
+use Rattle.ctl_store.specs.Inside.HeldPieces.{joined, stands_at, length_at, IsEnd}
 use Rattle.ctl_store.proofs.PointLemmas.{is_below, parted_serials, end_found, end_past}
 use Rattle.ctl_store.proofs.rows.end_below.Goals as goal
 

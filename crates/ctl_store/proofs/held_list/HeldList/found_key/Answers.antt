@@ -16,7 +16,7 @@ returns-in-Some-clause-key c =
     let at = place_of_spot ps c.in-Some.spot in
     let l : KeyedList = new_list inside.serial inside.kind inside.class inside.next (joined ps) in
     let found : place test (joined ps) ≡ Some at = sym c.look_up-place.ensures.place ∙ ap (option_map (λ s. place_of_spot ps s)) c.in-Some.is in
-    let same : l ≡ keyed_list c.args.self.now = (λ j. new_list inside.serial inside.kind inside.class inside.next (joined (c.as_slice-rows.ensures j))) ∙ ap keyed_list c.self.view_is in
+    let same : l ≡ keyed_list c.args.self.now = (λ j. new_list inside.serial inside.kind inside.class inside.next (joined (c.as_slice-rows.ensures.same j))) ∙ ap keyed_list c.self.view_is in
     ap (λ n. key_of inside.serial n ∷ []) c.serial.ensures
     ∙ sym (key_read l at c.row_at.result.now (place_within test (joined ps) at found) c.row_at.ensures)
     ∙ ap (key_at l) (sym found)

@@ -1,24 +1,14 @@
-use Rattle.std.proofs.Common.{◌≡◌, ◌+◌, None, List, length, ap, subst, sym, ◌∙◌, arith}
-use Rattle.ctl_store.specs.declared.stanza_key.StanzaKey.{StanzaKey}
-use Rattle.ctl_store.specs.Step.{refusal_of}
+use Rattle.std.proofs.Common.{◌+◌, ap, subst, sym, ◌∙◌}
 use Rattle.ctl_store.specs.Keys.{Keyed, keyed_after, removed_of, IsNotAmong, stanza_at, AreCome, AreGone}
 use Rattle.ctl_store.specs.Entries.{IsChange}
 use Rattle.ctl_store.specs.Given.{IsGivenOnce}
-use Rattle.ctl_store.specs.Store.{state_of, keyed_of, lists_of}
-use Rattle.ctl_store.specs.Plans.{HasRoom}
+use Rattle.ctl_store.specs.Store.{keyed_of, lists_of}
 use Rattle.ctl_store.specs.Inside.Held.{InOrder}
 use Rattle.ctl_store.proofs.ListedLemmas.{stays_law}
 use Rattle.ctl_store.proofs.ChangeLemmas.{come_law, gone_law, not_added}
 use Rattle.ctl_store.proofs.EntryLemmas.{change_law}
 use Rattle.ctl_store.proofs.FollowedLemmas.{given_law}
 use Rattle.ctl_store.proofs.store.Store.commit.Goals as goal
-
-pub make-requires : goal.make-requires
-make-requires c = record {
-  accepted = subst (λ p. refusal_of c.args.self.now.limits (state_of c.args.self.now) p.edit ≡ None) (sym c.plan.view_is) c.requires.accepted;
-  gone = omega (arith, c.len.ensures, ap (λ (ks : List StanzaKey). length ks) (ap (λ p. p.removed) c.plan.view_is ∙ c.requires.removed ∙ ap (λ p. removed_of (keyed_of c.args.self.now) p.edit) (sym c.plan.view_is)));
-  room = subst (λ p. HasRoom c.args.self.now p.list_room p.edit) (sym c.plan.view_is) c.requires.room;
-}
 
 pub returns-clause-stays : goal.returns-clause-stays
 returns-clause-stays c = λ k held h.

@@ -1,9 +1,10 @@
-use Rattle.std.proofs.Common.{ℕ, List, Some, option_map, IsSome, ◌∙◌, ap, sym, subst, ◌+◌}
+use Rattle.std.proofs.Common.{◌≡◌, ℕ, List, Some, option_map, IfSome, IsSome, ◌∙◌, ap, sym, subst, ◌+◌}
 use Rattle.ctl_ordered.specs.Ordered as ordered
 use Rattle.ctl_stanza.specs.Content.{Content}
 use Rattle.ctl_store.specs.Keys.{stanza_at, list_at, holder_of}
 use Rattle.ctl_store.specs.Store.{HeldList, lists_of}
-use Rattle.ctl_store.proofs.KeyLemmas.{look_up, list_at_entry, not_none, in_entry, holder_is, kind_at}
+use Rattle.ctl_store.specs.Inside.Held.{entry_of}
+use Rattle.ctl_store.proofs.KeyLemmas.{look_up, list_at_entry, not_none, in_entry, holder_is, kind_at, each_kind}
 use Rattle.ctl_store.proofs.store.Store.holder.Goals as goal
 
 pub entry_of-requires : goal.entry_of-requires
@@ -26,5 +27,10 @@ returns c =
     record {
       name = ap (option_map (λ (e : List ℕ × HeldList). e.0)) found ∙ sym (list_at_entry k.list (ordered.entries s.lists)) ∙ ap (λ h. list_at k.list (lists_of h.lists)) c.self.view_is
           ∙ sym (ap (λ h. holder_of k (lists_of h.lists)) (sym c.self.view_is) ∙ holder_is k 0 (ordered.entries s.lists) s.next_list (s.limits.stanzas + s.edits) c.self.invariant.order (subst (λ h. IsSome (stanza_at k (lists_of h.lists))) (sym c.self.view_is) c.requires) ∙ ap (λ h. list_at k.list (lists_of h.lists)) c.self.view_is);
+      names = λ k same there. ap (λ h. holder_of k (lists_of h.lists)) (sym c.self.view_is) ∙ holder_is k 0 (ordered.entries s.lists) s.next_list (s.limits.stanzas + s.edits) c.self.invariant.order (subst (λ h. IsSome (stanza_at k (lists_of h.lists))) (sym c.self.view_is) there)
+          ∙ ap (λ n. list_at n (lists_of (ordered.entries s.lists))) same ∙ list_at_entry c.args.key.list (ordered.entries s.lists) ∙ ap (option_map (λ (e : List ℕ × HeldList). e.0)) (sym found);
+      kinds = λ k same. subst (λ h. IfSome (stanza_at k (lists_of h.lists)) (λ (x : Content). x.kind ≡ c.kind.result)) c.self.view_is
+          (subst (λ kind. IfSome (stanza_at k (lists_of (ordered.entries s.lists))) (λ (x : Content). x.kind ≡ kind)) (sym c.kind.ensures)
+          (each_kind k 0 (ordered.entries s.lists) s.next_list (s.limits.stanzas + s.edits) _ c.self.invariant.order c.self.invariant.kinds (ap (λ n. entry_of n (ordered.entries s.lists)) same ∙ sym found)));
       kind = ap Some c.kind.ensures ∙ kind_at k (ordered.entries s.lists) _ c.self.invariant.kinds (sym found) (subst IsSome at c.requires) ∙ sym (ap (option_map (λ (x : Content). x.kind)) at);
     }
