@@ -1,18 +1,82 @@
--- Rows that are considered from the oldest to the newest give the best of them.
-use Rattle.std.proofs.Common.{◌≡◌, ℕ, ℤ, List, [], ◌∷◌, ◌++◌, map, reverse, Option, None, Vec, Global, refl, ap, sym, ◌∙◌, append_assoc}
-use Rattle.std.proofs.lemmas.List.{reverse-append, append-nil}
+-- Rows that are considered from the newest to the oldest give the best of them.
+use Rattle.std.proofs.Common.{◌≡◌, ℕ, ℤ, Bool, true, false, cond, ◌&&◌, List, [], ◌∷◌, ◌++◌, map, reverse, Option, None, Some, Vec, Global, refl, ap, sym, ◌∙◌, arith}
+use Rattle.std.specs.Prelude.{int_lt}
+use Rattle.std.specs.List.{AllByRecursion}
+use Rattle.std.proofs.lemmas.Int.{ints}
+use Rattle.std.proofs.lemmas.List.{map-append, reverse-append}
 use Rattle.ctl_relation.specs.Version.{Triple}
 use Rattle.ctl_store.specs.declared.stanza_key.StanzaKey.{StanzaKey}
-use Rattle.ctl_policy.specs.Candidate.{best_of}
+use Rattle.ctl_policy.specs.Rows.{Row, lead_of}
+use Rattle.ctl_policy.specs.Candidate.{Choice, best_of, better, may_be_taken}
 use Rattle.ctl_policy.specs.Inside.HeldRows.{shown_row}
-use Rattle.ctl_policy.specs.Inside.HeldWalk.{carried}
+use Rattle.ctl_policy.specs.Inside.HeldWalk.{carried, considered_row}
+
+-- the better of what newer rows have, and of what older ones have
+abbrev joined : Choice → Choice → Choice
+joined None older = older
+joined (Some newer) older = better newer older
+
+joined_none : (newer : Choice) → joined newer None ≡ newer
+joined_none None = refl
+joined_none (Some newer) = refl
+
+less_than : (a b c : ℤ) → int_lt a b ≡ true → int_lt b c ≡ true → int_lt a c ≡ true
+less_than a b c h k = grind (arith, ints)
+
+not_less : (a b c : ℤ) → int_lt a b ≡ false → int_lt b c ≡ false → int_lt a c ≡ false
+not_less a b c h k = grind (arith, ints)
+
+abbrev either : Bool → ℤ × Option StanzaKey → ℤ × Option StanzaKey → Choice
+either older one other = cond older (Some one) (Some other)
+
+-- where a row has a greater priority than a newer one, that one can't win, and else the row can't
+row_wins : (newer row : ℤ × Option StanzaKey) (older : Choice) → int_lt newer.0 row.0 ≡ true → better row older ≡ better newer (better row older)
+row_wins newer row None h = ap (λ b. either b row newer) (sym h)
+row_wins newer row (Some older) h = by (int_lt row.0 older.0) refl
+  where
+    by : (b : Bool) → int_lt row.0 older.0 ≡ b → either b older row ≡ better newer (either b older row)
+    by true k = ap (λ b. either b older newer) (sym (less_than newer.0 row.0 older.0 h k))
+    by false k = ap (λ b. either b row newer) (sym h)
+
+row_loses : (newer row : ℤ × Option StanzaKey) (older : Choice) → int_lt newer.0 row.0 ≡ false → better newer older ≡ better newer (better row older)
+row_loses newer row None h = ap (λ b. either b row newer) (sym h)
+row_loses newer row (Some older) h = by (int_lt row.0 older.0) refl
+  where
+    by : (b : Bool) → int_lt row.0 older.0 ≡ b → better newer (Some older) ≡ better newer (either b older row)
+    by true k = refl
+    by false k = ap (λ b. either b older newer) (not_less newer.0 row.0 older.0 h k) ∙ ap (λ b. either b row newer) (sym h)
+
+pub all_before : {X : Type 0} (P : X → Type 0) (xs ys : List X) → AllByRecursion P (xs ++ ys) → AllByRecursion P xs
+all_before P [] ys h = tt
+all_before P (x ∷ xs) ys h = (h.0, all_before P xs ys h.1)
 
 module _ (priority : List StanzaKey → ℤ) (installed : Option Triple) where
-  carried_is : (rows : List (Triple × List StanzaKey)) (es : List (List ℕ × Vec StanzaKey Global)) → carried priority installed (best_of priority installed rows) es ≡ best_of priority installed (reverse (map shown_row es) ++ rows)
-  carried_is rows [] = refl
-  carried_is rows (e ∷ es) =
-      carried_is (shown_row e ∷ rows) es
-      ∙ ap (best_of priority installed) (sym (append_assoc (reverse (map shown_row es)) (shown_row e ∷ []) rows) ∙ ap (λ l. l ++ rows) (sym (reverse-append (shown_row e ∷ []) (map shown_row es))))
+  step : (newer : Choice) (row : Row) (older : Choice) → joined (considered_row priority installed newer row) older
+      ≡ joined newer (cond (may_be_taken (priority row.1) row.0 installed) (better (priority row.1, lead_of row.1) older) older)
+  step None row older = by (may_be_taken (priority row.1) row.0 installed)
+    where
+      by : (may : Bool) → joined (cond may (Some (priority row.1, lead_of row.1)) None) older ≡ cond may (better (priority row.1, lead_of row.1) older) older
+      by true = refl
+      by false = refl
+  step (Some newer) row older = by (may_be_taken (priority row.1) row.0 installed) (int_lt newer.0 (priority row.1)) refl
+    where
+      this : ℤ × Option StanzaKey
+      this = (priority row.1, lead_of row.1)
 
-  pub best_carried : (es : List (List ℕ × Vec StanzaKey Global)) → carried priority installed None es ≡ best_of priority installed (reverse (map shown_row es))
-  best_carried es = carried_is [] es ∙ ap (best_of priority installed) (append-nil (reverse (map shown_row es)))
+      by : (may more : Bool) → int_lt newer.0 (priority row.1) ≡ more → joined (cond (more && may) (Some this) (Some newer)) older ≡ better newer (cond may (better this older) older)
+      by true true h = row_wins newer this older h
+      by true false h = row_loses newer this older h
+      by false true h = refl
+      by false false h = refl
+
+  carried_is : (newer : Choice) (rows : List Row) → carried priority installed newer rows ≡ joined newer (best_of priority installed rows)
+  carried_is newer [] = sym (joined_none newer)
+  carried_is newer (row ∷ rows) = carried_is (considered_row priority installed newer row) rows ∙ step newer row (best_of priority installed rows)
+
+  pub best_carried : (rows : List Row) → carried priority installed None rows ≡ best_of priority installed rows
+  best_carried rows = carried_is None rows
+
+  -- the last entry of a map is the newest row that is left
+  pub carried_last : (newer : Choice) (es : List (List ℕ × Vec StanzaKey Global)) (e : List ℕ × Vec StanzaKey Global)
+      → carried priority installed newer (reverse (map shown_row (es ++ e ∷ []))) ≡ carried priority installed (considered_row priority installed newer (shown_row e)) (reverse (map shown_row es))
+  carried_last newer es e = ap (carried priority installed newer) (ap reverse (map-append shown_row es (e ∷ [])) ∙ reverse-append (map shown_row es) (shown_row e ∷ []))

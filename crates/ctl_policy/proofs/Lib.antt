@@ -18,7 +18,6 @@ pub mod ReadLemmas
 pub mod SettingLemmas
 pub mod StepLemmas
 pub mod StepListLemmas
-pub mod SpanLemmas
 pub mod TouchedLemmas
 pub mod AgainLemmas
 pub mod AwayLemmas

@@ -1,7 +1,7 @@
 -- The first stanza of a name in the status list is the lowest of such keys in its rows.
-use Rattle.std.proofs.Common.{◌≡◌, ℕ, Bool, true, false, cond, ◌&&◌, ◌||◌, List, [], ◌∷◌, Option, None, Some, option_map, is_some, Vec, Global, refl, ap, sym, subst, ◌∙◌, Ordering, Less, Equal, Greater}
+use Rattle.std.proofs.Common.{◌≡◌, ℕ, Bool, true, false, cond, ◌&&◌, ◌||◌, List, [], ◌∷◌, Option, None, Some, option_map, is_some, Vec, Global, nat_eq, refl, ap, sym, subst, ◌∙◌, Ordering, Less, Equal, Greater}
 use Rattle.std.specs.Ordering.{is_lt, is_eq, ordering_reverse}
-use Rattle.std.specs.Option.{option_map_or}
+use Rattle.std.specs.Option.{option_map_or, option_or}
 use Rattle.std.specs.List.{AllByRecursion}
 use Rattle.std.specs.Map.{lookup, keys_of}
 use Rattle.std.specs.BTreeMap.{is_at}
@@ -11,8 +11,10 @@ use Rattle.ctl_relation.specs.Version.{version_cmp}
 use Rattle.ctl_relation.specs.Orders.Versions.{version_total}
 use Rattle.ctl_stanza.specs.Content.{Content}
 use Rattle.ctl_store.specs.declared.stanza_key.StanzaKey.{StanzaKey}
-use Rattle.ctl_store.specs.Step.{is_status}
-use Rattle.ctl_store.specs.Keys.{key_cmp, key_is, stanza_at, all_keys, AreRising}
+use Rattle.ctl_stanza.specs.declared.list_kind.ListKind.{ListKind}
+use Rattle.ctl_store.specs.Kinds.{AreOfKind, KeepKinds}
+use Rattle.ctl_store.specs.Step.{has_status, is_status}
+use Rattle.ctl_store.specs.Keys.{key_cmp, key_is, stanza_at, stanza_lists, stanzas_of, all_keys, in_rows as rows_at, AreRising}
 use Rattle.ctl_store.specs.Entries.{entries_of, entry_keys}
 use Rattle.ctl_policy.specs.Keys.{has_key, or_none}
 use Rattle.ctl_policy.specs.Rows.{Lists, version_in, is_of_version, is_in_row, keys_with, keys_at, rows_named, lead_of, version_under}
@@ -273,3 +275,51 @@ module _ (q : List ℕ) (lists : Lists) (rising : AreRising (all_keys lists)) wh
   pub status_is : (form : Form) → IsOrderedForm form → IsFormOf form (rows_named q lists) → version_under lists (status_key lists form) ≡ status_version q lists
   status_is form ordered h = ap (version_under lists) (lowest_lead (keys_with (is_status_of q) (entries_of lists)) (with_rises (is_status_of q) (entries_of lists) up) (status_key lists form)
       (lowest_alike (tells (is_status_of q)) (λ k. has_key k (keys_with (is_status_of q) (entries_of lists))) (status_key lists form) (λ k. sym (among (is_status_of q) k)) (lowest_form form ordered h)))
+
+-- ---- without a status list no stanza stands in it
+
+neither : (a b : Bool) → (a || b) ≡ false → (a ≡ false) × (b ≡ false)
+neither true b e = absurd (false≢true (sym e))
+neither false b e = (refl, e)
+
+abbrev has_kind : Option Content → Bool
+has_kind o = option_map_or (λ (x : Content). is_status x.kind) o false
+
+of_kind : (kind : ListKind) (p : ℕ → Bool) (rows : List (ℕ × Content)) → is_status kind ≡ false → AreOfKind kind (stanzas_of rows) → has_kind (lookup p rows) ≡ false
+of_kind kind p [] e h = refl
+of_kind kind p (row ∷ rows) e h = by (p row.0) (ap is_status h.0 ∙ e) (of_kind kind p rows e h.1)
+  where
+    by : (b : Bool) → is_status row.1.kind ≡ false → has_kind (lookup p rows) ≡ false → has_kind (cond b (Some row.1) (lookup p rows)) ≡ false
+    by true here there = here
+    by false here there = there
+
+none_held : (lists : Lists) → KeepKinds (stanza_lists lists) → has_status (stanza_lists lists) ≡ false → (k : StanzaKey) → is_status_key lists k ≡ false
+none_held [] h none k = refl
+none_held (l ∷ ls) h none k =
+    let both = neither (is_status l.1.kind) (has_status (stanza_lists ls)) none in
+    by (rows_at k l.1) (here (nat_eq l.1.serial k.list) (of_kind l.1.kind (λ s. nat_eq s k.stanza) l.1.rows both.0 h.0)) (none_held ls h.1 both.1 k)
+  where
+    here : (b : Bool) → has_kind (lookup (λ s. nat_eq s k.stanza) l.1.rows) ≡ false → has_kind (cond b (lookup (λ s. nat_eq s k.stanza) l.1.rows) None) ≡ false
+    here true e = e
+    here false e = refl
+
+    by : (o : Option Content) → has_kind o ≡ false → is_status_key ls k ≡ false → has_kind (option_or o (stanza_at k ls)) ≡ false
+    by None e f = f
+    by (Some x) e f = e
+
+module _ (lists : Lists) (none : (k : StanzaKey) → is_status_key lists k ≡ false) where
+  none_first : (keys : List StanzaKey) → first_status lists keys ≡ None
+  none_first [] = refl
+  none_first (k ∷ keys) = ap (λ b. cond b (Some k) (first_status lists keys)) (none k) ∙ none_first keys
+
+  none_lowest : (es : Entries) → lowest_status lists None es ≡ None
+  none_lowest [] = refl
+  none_lowest (e ∷ es) = ap (λ o. lowest_status lists o es) (none_first e.1.items) ∙ none_lowest es
+
+  none_found : (form : Form) → status_key lists form ≡ None
+  none_found Empty = refl
+  none_found (One version key) = none_first (key ∷ [])
+  none_found (Many shelf) = none_lowest shelf.entries
+
+pub no_status_key : (lists : Lists) (form : Form) → KeepKinds (stanza_lists lists) → has_status (stanza_lists lists) ≡ false → status_key lists form ≡ None
+no_status_key lists form h none = none_found lists (none_held lists h none) form

@@ -1,5 +1,6 @@
 -- The installed row and the candidate of a name (apt_preferences(5), "How APT Interprets Priorities").
-use Rattle.std.specs.Prelude.{ℕ, ℤ, pos, Bool, true, ◌&&◌, ◌||◌, int_lt, int_le, List, [], ◌∷◌, Option, None, Some, is_some, option_map, unwrap_or, if◌then◌else◌}
+use Rattle.std.specs.Prelude.{ℕ, ℤ, pos, Bool, true, ◌&&◌, ◌||◌, int_lt, int_le, List, [], ◌∷◌, if◌then◌else◌}
+use Rattle.std.specs.Prelude.{Option, None, Some, is_some, option_map, unwrap_or}
 use Rattle.std.specs.Option.{option_map_or}
 use Rattle.std.specs.Ordering.{is_ge}
 use Rattle.std.specs.FinMap as fin

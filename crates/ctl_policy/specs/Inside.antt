@@ -2,7 +2,7 @@
 pub mod HeldIter
 pub mod HeldRead
 pub mod HeldRows
-pub mod HeldSpan
 pub mod HeldWalk
+pub mod KnownLists
 pub mod NewPlaces
 pub mod TouchedNames

@@ -1,5 +1,6 @@
 -- The priority of a list and of a row (apt_preferences(5), "APT's Default Priority Assignments" and "The Effect of APT Preferences").
-use Rattle.std.specs.Prelude.{◌≡◌, ℕ, ℤ, pos, Bool, false, ◌&&◌, List, [], ◌∷◌, map, Option, None, Some, option_map, unwrap_or, if◌then◌else◌}
+use Rattle.std.specs.Prelude.{◌≡◌, ℕ, ℤ, pos, Bool, false, ◌&&◌, List, [], ◌∷◌, map, if◌then◌else◌}
+use Rattle.std.specs.Prelude.{Option, None, Some, option_map, unwrap_or}
 use Rattle.std.specs.Str.{bytes_eq}
 use Rattle.std.specs.Int.{int_max}
 use Rattle.ctl_stanza.specs.declared.list_kind.ListKind.{ListKind}

@@ -1,19 +1,17 @@
 //! The candidate among the rows of a name.
 
-ghost use Rattle.std.specs.Prelude.{◌≡◌, ◌∷◌, [], None, Some, IfSome, option_copied};
+ghost use Rattle.std.specs.Prelude.{◌≡◌, ◌∷◌, [], None, Some, option_copied};
 ghost use Rattle.ctl_relation.specs.Version.{triple_of};
 ghost use Rattle.ctl_store.specs.Keys.{AreHeld};
 ghost use Rattle.ctl_store.specs.Store.{keyed_of};
 ghost use Rattle.ctl_policy.specs.Priority.{world_of};
-ghost use Rattle.ctl_policy.specs.Candidate.{best_named, better, is_upgrade, may_be_taken};
+ghost use Rattle.ctl_policy.specs.Candidate.{best_named, is_upgrade, may_be_taken};
 ghost use Rattle.ctl_policy.specs.Inside.HeldRows.{IsOrderedForm, form_shown, rows_of_map};
-ghost use Rattle.ctl_policy.specs.Inside.HeldSpan.{IsSpan};
-ghost use Rattle.ctl_policy.specs.Inside.HeldWalk.{AreHeldIn, IsHeldForm, considered, considered_alone, triple_if_any};
+ghost use Rattle.ctl_policy.specs.Inside.HeldWalk.{AreHeldIn, IsHeldForm, considered, considered_alone, triple_if_any, wins};
 
 use crate::by_version::ByVersion;
 use crate::form::Form;
 use crate::priority::{is_pinned, priority_where, row_priority};
-use crate::span::{Span, span_of};
 use ctl_relation::Version;
 use ctl_store::{StanzaKey, Store};
 use std::slice;
@@ -36,49 +34,36 @@ fn may_be_taken(priority: i16, version: &Version, installed: Option<&Version>) -
     priority > 0 && is_upgrade(priority, version, installed)
 }
 
-fn better(newer: Choice, older: Option<Choice>) -> Option<Choice>
-    ensures { result ≡ better newer older }
+// Whether a row of this priority is taken instead of a newer one: where its priority is greater.
+fn wins(priority: i16, newer: Option<Choice>) -> bool
+    ensures { result ≡ wins priority newer }
 {
-    match older {
-        Some(older) => {
-            if newer.0 < older.0 {
-                Some(older)
-            } else {
-                Some(newer)
-            }
-        }
-        None => Some(newer),
+    match newer {
+        Some(newer) => newer.0 < priority,
+        None => true,
     }
 }
 
+// What is chosen, once a row was considered that is older than the one chosen so far. Its version is compared only where it
+// would win.
 fn considered(
     priority: i16,
     version: &Version,
     lead: Option<StanzaKey>,
     installed: Option<&Version>,
-    choice: Option<Choice>,
+    newer: Option<Choice>,
 ) -> Option<Choice>
-    ensures { result ≡ considered priority (triple_of version.now) lead (triple_if_any (option_copied installed.entry)) choice }
+    ensures { result ≡ considered priority (triple_of version.now) lead (triple_if_any (option_copied installed.entry)) newer }
 {
-    if may_be_taken(priority, version, installed) {
-        better((priority, lead), choice)
+    if wins(priority, newer) && may_be_taken(priority, version, installed) {
+        Some((priority, lead))
     } else {
-        choice
+        newer
     }
 }
 
-// The span of the first stanza of the newest row. Versions mostly come in their order, and so the keys of the other rows mostly
-// stand between that one and the first.
-fn last_span<'a>(store: &'a Store, rows: &ByVersion) -> Option<Span<'a>>
-    requires { AreHeldIn (keyed_of store.now).lists rows.now.entries }
-    ensures { IfSome result (λ span. IsSpan span (world_of store.now)) }
-{
-    let (_, keys) = rows.last_key_value()?;
-    let key = keys.first()?;
-    Some(span_of(store, *key))
-}
-
-// The row to be taken of a map of rows of a name, where this version is installed.
+// The row to be taken of a map of rows of a name, where this version is installed. The newest comes first: where no older row
+// has a greater priority, no other version is compared.
 #[tactic(auto, using(crate::proofs::ChosenLemmas::best_carried))]
 fn best_in_map(
     store: &Store,
@@ -90,10 +75,10 @@ fn best_in_map(
     ensures { result ≡ best_named name.now (world_of store.now) (triple_if_any (option_copied installed.entry)) (rows_of_map rows.now) }
 {
     let pinned = is_pinned(store, name);
-    let mut known = last_span(store, rows);
+    let mut known = None;
     let mut choice = None;
     let mut left = rows.iter();
-    'rows: while let Some((version, keys)) = left.next() {
+    'rows: while let Some((version, keys)) = left.next_back() {
         let priority = priority_where(store, name, keys, pinned, &mut known);
         choice = considered(priority, version, keys.first().copied(), installed, choice);
     }

@@ -8,12 +8,12 @@ ghost use Rattle.ctl_store.specs.Keys.{AreHeld};
 ghost use Rattle.ctl_store.specs.Store.{keyed_of};
 ghost use Rattle.ctl_store.specs.Pins.{general_pin};
 ghost use Rattle.ctl_policy.specs.Rows.{lead_of, version_under, is_source};
-ghost use Rattle.ctl_policy.specs.Inside.HeldSpan.{IsSpan};
+ghost use Rattle.ctl_policy.specs.Inside.KnownLists.{IsKnownPriority};
 ghost use Rattle.ctl_policy.specs.Laws.{world_with};
 ghost use Rattle.ctl_policy.specs.Inside.TouchedNames.{keeps_priority};
 ghost use Rattle.ctl_policy.specs.Priority.{MatchesNoRow, PinsNoRow, Settings, world_of, own_priority, is_target, list_priority, matches_text, matches_row, specific_pin, greatest, greatest_with, source_priorities, row_priority};
 
-use crate::span::{Span, source_priority};
+use crate::known_priority::{KnownPriority, source_priority};
 use ctl_relation::Version;
 use ctl_stanza::ListKind;
 use ctl_store::{ListClass, PackagePins, PinSettings, PinVersion, Selector, StanzaKey, Store};
@@ -80,16 +80,16 @@ fn larger(one: i16, other: i16) -> i16
 }
 
 // The greatest priority of the lists that hold these stanzas, beside one priority.
-fn greatest_with<'a>(
-    store: &'a Store,
-    known: &mut Option<Span<'a>>,
+fn greatest_with(
+    store: &Store,
+    known: &mut Option<KnownPriority>,
     priority: i16,
     keys: &[StanzaKey],
 ) -> i16
     requires held { AreHeld keys.now (keyed_of store.now).lists }
-    requires known { IfSome known.old (λ span. IsSpan span (world_of store.now)) }
+    requires known { IfSome known.old (λ one. IsKnownPriority one (world_of store.now)) }
     ensures greatest { result ≡ greatest_with priority (source_priorities (world_of store.now) keys.now) }
-    ensures known { IfSome known.new (λ span. IsSpan span (world_of store.now)) }
+    ensures known { IfSome known.new (λ one. IsKnownPriority one (world_of store.now)) }
 {
     let mut greatest = priority;
     let mut left = keys;
@@ -100,11 +100,11 @@ fn greatest_with<'a>(
     greatest
 }
 
-fn greatest<'a>(store: &'a Store, known: &mut Option<Span<'a>>, keys: &[StanzaKey]) -> i16
+fn greatest(store: &Store, known: &mut Option<KnownPriority>, keys: &[StanzaKey]) -> i16
     requires held { AreHeld keys.now (keyed_of store.now).lists }
-    requires known { IfSome known.old (λ span. IsSpan span (world_of store.now)) }
+    requires known { IfSome known.old (λ one. IsKnownPriority one (world_of store.now)) }
     ensures greatest { result ≡ greatest (source_priorities (world_of store.now) keys.now) }
-    ensures known { IfSome known.new (λ span. IsSpan span (world_of store.now)) }
+    ensures known { IfSome known.new (λ one. IsKnownPriority one (world_of store.now)) }
 {
     match keys.split_first() {
         Some((key, rest)) => {
@@ -240,19 +240,20 @@ fn may_match_any(store: &Store, pins: PackagePins<'_>) -> bool
     false
 }
 
-/// The priority of a row of a name, where it is told whether a specific pin of the name may match one, and a span may be known.
-pub(crate) fn priority_where<'a>(
-    store: &'a Store,
+/// The priority of a row of a name, where it is told whether a specific pin of the name may match one, and the priority of a list
+/// may be known.
+pub(crate) fn priority_where(
+    store: &Store,
     name: &[u8],
     keys: &[StanzaKey],
     pinned: bool,
-    known: &mut Option<Span<'a>>,
+    known: &mut Option<KnownPriority>,
 ) -> i16
     requires held { AreHeld keys.now (keyed_of store.now).lists }
     requires none { pinned ≡ false → specific_pin name.now (keyed_of store.now).lists keys.now (world_of store.now).pins ≡ None }
-    requires known { IfSome known.old (λ span. IsSpan span (world_of store.now)) }
+    requires known { IfSome known.old (λ one. IsKnownPriority one (world_of store.now)) }
     ensures priority { result ≡ row_priority name.now (world_of store.now) keys.now }
-    ensures known { IfSome known.new (λ span. IsSpan span (world_of store.now)) }
+    ensures known { IfSome known.new (λ one. IsKnownPriority one (world_of store.now)) }
 {
     let pin = if pinned {
         specific_pin(store, name, keys)

@@ -1,5 +1,5 @@
--- How the rows of a name are walked, from the oldest to the newest.
-use Rattle.std.specs.Prelude.{ℕ, ℤ, Bool, false, List, [], ◌∷◌, Option, None, Some, Vec, option_map, if◌then◌else◌}
+-- How the rows of a name are walked.
+use Rattle.std.specs.Prelude.{ℕ, ℤ, Bool, true, false, ◌&&◌, int_lt, List, [], ◌∷◌, Option, None, Some, Vec, option_map, if◌then◌else◌}
 use Rattle.std.proofs.Common.{Global}
 use Rattle.std.specs.List.{AllByRecursion}
 use Rattle.std.specs.Option.{option_map_or}
@@ -9,12 +9,11 @@ use Rattle.ctl_stanza.specs.Content.{Content}
 use Rattle.ctl_store.specs.declared.stanza_key.StanzaKey.{StanzaKey}
 use Rattle.ctl_store.specs.Step.{is_status}
 use Rattle.ctl_store.specs.Keys.{AreHeld, stanza_at, key_cmp}
-use Rattle.ctl_policy.specs.Rows.{Lists, lead_of}
+use Rattle.ctl_policy.specs.Rows.{Lists, Row, lead_of}
 use Rattle.ctl_policy.specs.Priority.{World, row_priority}
-use Rattle.ctl_policy.specs.Candidate.{Choice, better, may_be_taken}
+use Rattle.ctl_policy.specs.Candidate.{Choice, may_be_taken}
 use Rattle.ctl_policy.specs.declared.form.Form.{Form}
 use Rattle.ctl_policy.specs.declared.form.Form.TheVariants.{Empty, One, Many}
-use Rattle.ctl_policy.specs.Inside.HeldRows.{shown_row}
 
 -- each stanza of each row stands in the lists
 abbrev pub AreHeldIn : Lists → List (List ℕ × Vec StanzaKey Global) → Type 0
@@ -25,12 +24,17 @@ IsHeldForm lists Empty = Unit {0}
 IsHeldForm lists (One version key) = AreHeld (key ∷ []) lists
 IsHeldForm lists (Many shelf) = AreHeldIn lists shelf.entries
 
--- a choice, once a newer row was considered
+-- whether a row of a priority is taken instead of a newer one: where its priority is greater
+abbrev pub wins : ℤ → Choice → Bool
+wins priority None = true
+wins priority (Some newer) = int_lt newer.0 priority
+
+-- what is chosen, once an older row was considered
 abbrev pub considered : ℤ → Triple → Option StanzaKey → Option Triple → Choice → Choice
-considered priority version lead installed choice =
-    if may_be_taken priority version installed
-    then better (priority, lead) choice
-    else choice
+considered priority version lead installed newer =
+    if wins priority newer && may_be_taken priority version installed
+    then Some (priority, lead)
+    else newer
 
 -- what the order of versions sees of one, if there is one
 abbrev pub triple_if_any : Option (List ℕ) → Option Triple
@@ -40,14 +44,14 @@ triple_if_any version = option_map triple_of version
 abbrev pub considered_alone : List ℕ → World → List ℕ → StanzaKey → Option Triple → Choice
 considered_alone name w version key installed = considered (row_priority name w (key ∷ [])) (triple_of version) (Some key) installed None
 
--- a choice, once a row of a map was considered
-abbrev pub considered_row : (List StanzaKey → ℤ) → Option Triple → Choice → List ℕ × Vec StanzaKey Global → Choice
-considered_row priority installed choice e = considered (priority e.1.items) (shown_row e).0 (lead_of e.1.items) installed choice
+-- what is chosen, once an older row of a name was considered
+abbrev pub considered_row : (List StanzaKey → ℤ) → Option Triple → Choice → Row → Choice
+considered_row priority installed newer row = considered (priority row.1) row.0 (lead_of row.1) installed newer
 
--- a choice, once these rows were considered, the oldest first
-abbrev pub carried : (List StanzaKey → ℤ) → Option Triple → Choice → List (List ℕ × Vec StanzaKey Global) → Choice
-carried priority installed choice [] = choice
-carried priority installed choice (e ∷ es) = carried priority installed (considered_row priority installed choice e) es
+-- what is chosen, once these older rows were considered, the newest first
+abbrev pub carried : (List StanzaKey → ℤ) → Option Triple → Choice → List Row → Choice
+carried priority installed newer [] = newer
+carried priority installed newer (row ∷ rows) = carried priority installed (considered_row priority installed newer row) rows
 
 -- ---- the first stanza of the status list
 
