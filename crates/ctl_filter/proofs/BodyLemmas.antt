@@ -1,18 +1,25 @@
 -- A pattern without a newline that stands in the body of a field stands in the stanza's text: each line of a body is a part of a line of
 -- the text.
-use Rattle.std.proofs.Common.{◌≡◌, ◌∙◌, ℕ, zero, suc, ◌+◌, Bool, true, false, ◌||◌, ◌==◌, cond, List, [], ◌∷◌, ◌++◌, take, drop, Option, None, Some, refl, sym, ap, append-nil}
+use Rattle.std.proofs.Common.{◌≡◌, ◌∙◌, ℕ, zero, suc, ◌+◌, Bool, true, false, ◌||◌, ◌==◌, cond, List, [], ◌∷◌, ◌++◌, take, drop, Option, None, Some, refl, sym, ap, append-nil, arith}
 use Rattle.std.specs.Prelude.{not, position, slice_index}
 use Rattle.std.specs.List.{list_any, prefix_len}
 use Rattle.std.specs.Option.{option_map_or}
+use Rattle.std.specs.Char.{to_ascii_lowercase}
+use Rattle.std.specs.Str.{str_to_ascii_lowercase, str_eq_ignore_ascii_case}
+use Rattle.std.proofs.lemmas.Slice.Eq.{bytes_eq-Decides}
 use Rattle.std.proofs.lemmas.Bool.{and_parts, and_from, false≢true, or_left, or_right, or_parts, or_from, false_from_ne_true}
 use Rattle.ctl_relation.specs.Bytes.{newline, colon, hash, hyphen}
 use Rattle.ctl_stanza.specs.Lines.{onto_first, lines_of, is_blank_byte, is_blank}
 use Rattle.ctl_stanza.specs.LineKind.{kind_of, kind_after_name, is_field_name_byte}
 use Rattle.ctl_stanza.specs.Fields.{strip_front, before_stripped, strip_end, value_of, continues, continued, FieldText, field_at, fields_from, is_same_name, body_named}
-use Rattle.ctl_stanza.specs.Content.{Content}
-use Rattle.ctl_filter.specs.Substring.{begins, contains}
-use Rattle.ctl_filter.specs.Filter.{Substring, field_passes}
-use Rattle.ctl_filter.specs.Inside.Searchers.{is_newline}
+use Rattle.ctl_stanza.specs.Content.{Content, body_of}
+use Rattle.ctl_filter.specs.Substring.{begins, contains, contains_in_any_case}
+use Rattle.ctl_filter.specs.Filter.{Substring, text_passes, field_passes}
+use Rattle.ctl_filter.specs.declared.atom.Searcher.{Searcher}
+use Rattle.ctl_filter.specs.declared.atom.Test.TheVariants as held
+use Rattle.ctl_filter.specs.Inside.Searchers.{is_newline, finds, sought_by, sought_of, Fits}
+use Rattle.ctl_filter.proofs.SubstringLemmas.{contains-iff}
+use Rattle.ctl_filter.proofs.AnyCaseLemmas.{any_case-iff, contains_lowered}
 
 -- what holds of both holds of either
 either_way : {T : Type 0} (P : T → Type 0) (c : Bool) (x y : T) → P x → P y → P (cond c x y)
@@ -192,11 +199,62 @@ module _ (p : List ℕ) where
     in_field name i [] h = absurd (false≢true h)
     in_field name i (line ∷ lines) h = of_line name i line lines (in_field name (suc i) lines) h
 
--- a pattern that stands nowhere in the text passes in no field
-pub nowhere : (pattern : List ℕ) (stanza : Content) → list_any is_newline pattern ≡ false → contains pattern stanza.text ≡ false
-    → (names : List (List ℕ)) → list_any (field_passes (Substring false pattern) stanza) names ≡ false
-nowhere pattern stanza free none [] = refl
-nowhere pattern stanza free none (name ∷ names) = or_from (field_passes (Substring false pattern) stanza name) (list_any (field_passes (Substring false pattern) stanza) names)
-    (false_from_ne_true (field_passes (Substring false pattern) stanza name)
-    (λ h. false≢true (sym none ∙ in_lines pattern stanza.text (in_field pattern free name 0 (lines_of stanza.text) h))))
-    (nowhere pattern stanza free none names)
+-- ---- patterns in any case
+
+-- a newline has no case
+newline-lowered : (byte : ℕ) → is_newline (to_ascii_lowercase byte) ≡ is_newline byte
+newline-lowered byte = grind (arith)
+
+newlines-lowered : (text : List ℕ) → list_any is_newline (str_to_ascii_lowercase text) ≡ list_any is_newline text
+newlines-lowered [] = refl
+newlines-lowered (b ∷ bs) = λ i. newline-lowered b i || newlines-lowered bs i
+
+-- what is a pattern but for the case of its letters has a newline where the pattern has one
+newlines-same : (part pattern : List ℕ) → str_eq_ignore_ascii_case part pattern ≡ true → list_any is_newline part ≡ list_any is_newline pattern
+newlines-same part pattern same =
+    sym (newlines-lowered part) ∙ ap (list_any is_newline) ((bytes_eq-Decides (str_to_ascii_lowercase part) (str_to_ascii_lowercase pattern)).0 same)
+    ∙ newlines-lowered pattern
+
+module _ (pattern text : List ℕ) (free : list_any is_newline pattern ≡ false) where
+  -- the part of a body that is the pattern but for case stands in the text
+  in_any_case : (body : Option (List ℕ))
+      → ((q : List ℕ) → list_any is_newline q ≡ false → option_map_or (contains q) body false ≡ true → contains q text ≡ true)
+      → option_map_or (contains_in_any_case pattern) body false ≡ true → contains_in_any_case pattern text ≡ true
+  in_any_case None stands h = absurd (false≢true h)
+  in_any_case (Some body) stands h =
+      let part = (any_case-iff pattern body).0 h in
+      let here = (contains-iff part.middle body).1 (part.prefix, part.suffix, part.parts) in
+      let there = (contains-iff part.middle text).0 (stands part.middle (newlines-same part.middle pattern part.same ∙ free) here) in
+      (any_case-iff pattern text).1 (record { prefix = there.0; middle = part.middle; suffix = there.1; parts = there.2; same = part.same })
+
+-- ---- fields
+
+module _ (pattern : List ℕ) (stanza : Content) (free : list_any is_newline pattern ≡ false) where
+  in_text : (any_case : Bool) (name : List ℕ) → field_passes (Substring any_case pattern) stanza name ≡ true → text_passes (Substring any_case pattern) stanza.text ≡ true
+  in_text false name h = in_lines pattern stanza.text (in_field pattern free name 0 (lines_of stanza.text) h)
+  in_text true name h = in_any_case pattern stanza.text free (body_of stanza name)
+      (λ q none here. in_lines q stanza.text (in_field q none name 0 (lines_of stanza.text) here)) h
+
+  in_no_field : (any_case : Bool) → text_passes (Substring any_case pattern) stanza.text ≡ false
+      → (names : List (List ℕ)) → list_any (field_passes (Substring any_case pattern) stanza) names ≡ false
+  in_no_field any_case none [] = refl
+  in_no_field any_case none (name ∷ names) =
+      or_from (field_passes (Substring any_case pattern) stanza name) (list_any (field_passes (Substring any_case pattern) stanza) names)
+      (false_from_ne_true (field_passes (Substring any_case pattern) stanza name) (λ h. false≢true (sym none ∙ in_text any_case name h)))
+      (in_no_field any_case none names)
+
+-- a pattern that isn't found in the text passes in no field
+pub nowhere : (any_case : Bool) (pattern : List ℕ) (searcher : Option Searcher) (stanza : Content)
+    → Fits (held.Substring any_case pattern) searcher → not (list_any is_newline pattern) ≡ true → finds any_case (sought_by searcher) stanza.text ≡ false
+    → (names : List (List ℕ)) → list_any (field_passes (Substring any_case pattern) stanza) names ≡ false
+nowhere any_case pattern searcher stanza fits free none =
+    in_no_field pattern stanza (without (list_any is_newline pattern) free) any_case
+    (by any_case (ap (λ sought. finds any_case sought stanza.text) (sym fits) ∙ none))
+  where
+    without : (b : Bool) → not b ≡ true → b ≡ false
+    without true h = sym h
+    without false h = refl
+
+    by : (c : Bool) → finds c (sought_of (held.Substring c pattern)) stanza.text ≡ false → text_passes (Substring c pattern) stanza.text ≡ false
+    by true h = contains_lowered pattern stanza.text ∙ h
+    by false h = h

@@ -1,5 +1,6 @@
 -- Atoms by their words: modifiers in any order, at most one manner, and a pattern. The laws cite this.
-use Rattle.std.specs.Prelude.{◌≡◌, ℕ, ◌+◌, ◌&&◌, ◌||◌, nat_le, Bool, true, false, List, [], ◌∷◌, ◌++◌, map, flat_map, length, codes, Option, None, Some, is_ok, Err, if◌then◌else◌}
+use Rattle.std.specs.Prelude.{◌≡◌, ℕ, ◌+◌, ◌&&◌, ◌||◌, nat_le, Bool, true, false, List, [], ◌∷◌, ◌++◌}
+use Rattle.std.specs.Prelude.{map, flat_map, length, codes, Option, None, Some, is_ok, Err, if◌then◌else◌}
 use Rattle.std.specs.List.{list_all, list_any}
 use Rattle.ctl_relation.specs.Bytes.{hyphen}
 use Rattle.ctl_relation.specs.declared.operator.Operator.TheVariants as operator

@@ -1,5 +1,6 @@
 -- What words say is parted into the tokens of an expression, its atoms, and what is shown. What is wrong is a bad filter.
-use Rattle.std.specs.Prelude.{ℕ, ◌+◌, ◌&&◌, ◌==◌, Bool, true, false, not, List, [], ◌∷◌, ◌++◌, flat_map, length, Option, None, Some, is_none, Result, Ok, Err, if◌then◌else◌}
+use Rattle.std.specs.Prelude.{ℕ, ◌+◌, ◌&&◌, ◌==◌, Bool, true, false, not, List, [], ◌∷◌, ◌++◌}
+use Rattle.std.specs.Prelude.{flat_map, length, Option, None, Some, is_none, Result, Ok, Err, if◌then◌else◌}
 use Rattle.std.specs.List.{list_any}
 use Rattle.ctl_store.specs.declared.refusal.Refusal.{Refusal}
 use Rattle.ctl_store.specs.declared.refusal.Refusal.TheVariants as refusal
@@ -57,8 +58,10 @@ onto_parts tokens atoms (Err cause) = Err cause
 -- and the comparisons an atom has one at most.
 abbrev pub parts_from : ℕ → Modifiers → List Piece → Result Parts Refusal
 parts_from n modifiers [] = if is_bare modifiers then Ok (record { tokens = []; atoms = [] }) else Err refusal.Filter
-parts_from n modifiers (piece.Sign t ∷ pieces) = if is_bare modifiers then onto_parts (t ∷ []) [] (parts_from n modifiers pieces) else Err refusal.Filter
-parts_from n modifiers (piece.Pattern p ∷ pieces) = onto_parts (token.Atom n ∷ []) (atom_with modifiers p ∷ []) (parts_from (n + 1) no_modifiers pieces)
+parts_from n modifiers (piece.Sign t ∷ pieces) =
+    if is_bare modifiers then onto_parts (t ∷ []) [] (parts_from n modifiers pieces) else Err refusal.Filter
+parts_from n modifiers (piece.Pattern p ∷ pieces) =
+    onto_parts (token.Atom n ∷ []) (atom_with modifiers p ∷ []) (parts_from (n + 1) no_modifiers pieces)
 parts_from n modifiers (piece.Fields text ∷ pieces) =
     if are_field_names (names_in text) then parts_from n (with_fields modifiers (names_in text)) pieces else Err refusal.Filter
 parts_from n modifiers (piece.AnyCase ∷ pieces) = parts_from n (record modifiers { any_case = true }) pieces

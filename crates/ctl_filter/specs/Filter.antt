@@ -48,7 +48,8 @@ field_passes test stanza name = option_map_or (text_passes test) (body_of stanza
 
 -- one of its texts passes
 abbrev pub atom_passes : Content → Atom → Bool
-atom_passes stanza atom = option_map_or (λ names. list_any (field_passes atom.test stanza) names) atom.fields (text_passes atom.test stanza.text)
+atom_passes stanza atom =
+    option_map_or (λ names. list_any (field_passes atom.test stanza) names) atom.fields (text_passes atom.test stanza.text)
 
 -- ---- expressions over atoms, which stand as their numbers
 

@@ -1,5 +1,6 @@
 -- The answer to a filter (grep-dctrl(1)).
-use Rattle.std.specs.Prelude.{ℕ, Bool, not, ◌==◌, ◌&&◌, ◌||◌, List, [], ◌∷◌, ◌++◌, length, take, flat_map, codes, decimal, Option, Some, None, is_some, if◌then◌else◌}
+use Rattle.std.specs.Prelude.{ℕ, Bool, not, ◌==◌, ◌&&◌, ◌||◌, List, [], ◌∷◌, ◌++◌, length, take}
+use Rattle.std.specs.Prelude.{flat_map, codes, decimal, Option, Some, None, is_some, if◌then◌else◌}
 use Rattle.std.specs.List.{filter, list_any, prefix_len}
 use Rattle.std.specs.Option.{option_map_or}
 use Rattle.ctl_relation.specs.Bytes.{newline}

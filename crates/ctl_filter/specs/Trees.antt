@@ -75,15 +75,18 @@ one_less (suc n) = n
 abbrev mutual
   pub first_neg : ℕ → ℕ → List Token → Option (Neg × List Token)
   first_neg zero depth tokens = None
-  first_neg (suc n) depth tokens = neg_by depth tokens (first_neg n (one_less depth) (drop 1 tokens)) (first_pred n (one_less depth) (drop 1 tokens))
+  first_neg (suc n) depth tokens =
+      neg_by depth tokens (first_neg n (one_less depth) (drop 1 tokens)) (first_pred n (one_less depth) (drop 1 tokens))
 
   pub first_conj : ℕ → ℕ → List Token → Option (Conj × List Token)
   first_conj zero depth tokens = None
-  first_conj (suc n) depth tokens = option_and_then (λ (r : Neg × List Token). conj_by r.0 r.1 (first_conj n depth (drop 1 r.1))) (first_neg n depth tokens)
+  first_conj (suc n) depth tokens =
+      option_and_then (λ (r : Neg × List Token). conj_by r.0 r.1 (first_conj n depth (drop 1 r.1))) (first_neg n depth tokens)
 
   pub first_pred : ℕ → ℕ → List Token → Option (Pred × List Token)
   first_pred zero depth tokens = None
-  first_pred (suc n) depth tokens = option_and_then (λ (r : Conj × List Token). pred_by r.0 r.1 (first_pred n depth (drop 1 r.1))) (first_conj n depth tokens)
+  first_pred (suc n) depth tokens =
+      option_and_then (λ (r : Conj × List Token). pred_by r.0 r.1 (first_pred n depth (drop 1 r.1))) (first_conj n depth tokens)
 
 -- all words are used up
 abbrev pub whole : Option (Pred × List Token) → Option Pred

@@ -6,7 +6,7 @@ ghost use Rattle.ctl_filter.specs.Filter.{text_passes, field_passes, atom_passes
 ghost use Rattle.ctl_filter.specs.Rx.{rx_matches};
 ghost use Rattle.ctl_filter.specs.Inside.Views.{expression_bytes, expression_ignores_case, expression_tree};
 ghost use Rattle.ctl_filter.specs.Inside.Values.{test_of, atom_of};
-ghost use Rattle.ctl_filter.specs.Inside.Searchers.{sought_by, finds, Tree, Fits};
+ghost use Rattle.ctl_filter.specs.Inside.Searchers.{sought_by, finds, is_within_lines, Tree, Fits};
 
 use crate::comparison::Bound;
 use crate::expression::Expression;
@@ -184,18 +184,35 @@ fn searcher_of(alloc: Global, test: &Test) -> Result<Option<Searcher<'_>>, Alloc
     Ok(Some(searcher))
 }
 
+/// Whether a test asks for a substring whose pattern has no newline.
+fn is_within_lines(test: &Test) -> bool
+    ensures { result ≡ is_within_lines test.now }
+{
+    match test {
+        Test::Substring(_, pattern) => !has_newline(pattern.as_slice()),
+        _ => false,
+    }
+}
+
 /// Whether the pattern of a substring stands nowhere in a stanza's text. Then it stands in no body: the pattern has no newline, and each
 /// line of a body is a part of a line of the text. The text is searched in less time than a field of it is found.
 #[tactic(auto, using(crate::proofs::BodyLemmas::nowhere))]
-fn is_nowhere(test: &Test, searcher: &Option<Searcher<'_>>, stanza: &Stanza) -> bool
-    requires { Fits test.now searcher.now }
-    ensures { result ≡ true → (names : List (List ℕ)) → list_any (field_passes (test_of test.now) stanza.now) names ≡ false }
+fn is_nowhere(
+    test: &Test,
+    searcher: &Option<Searcher<'_>>,
+    stanza: &Stanza,
+    room: &mut Vec<u8>,
+) -> Result<bool, AllocError>
+    requires fits { Fits test.now searcher.now }
+    requires within_lines { is_within_lines test.now ≡ true }
+    ensures { IfOk result (λ nowhere. nowhere ≡ true
+        → (names : List (List ℕ)) → list_any (field_passes (test_of test.now) stanza.now) names ≡ false) }
 {
-    match (test, searcher) {
-        (Test::Substring(false, pattern), Some(Searcher::Substring(finder))) => {
-            !has_newline(pattern.as_slice()) && !has_pattern(finder, stanza.text())
+    match test {
+        Test::Substring(any_case, _) => {
+            Ok(!has_substring(*any_case, searcher, stanza.text(), room)?)
         }
-        _ => false,
+        _ => Ok(false),
     }
 }
 
@@ -204,18 +221,21 @@ fn is_nowhere(test: &Test, searcher: &Option<Searcher<'_>>, stanza: &Stanza) -> 
 pub(crate) struct Prepared<'q> {
     atom: &'q Atom,
     searcher: Option<Searcher<'q>>,
+    // Whether it asks for a substring whose pattern has no newline, which is looked for once.
+    within_lines: bool,
 }
 
 impl<'q> Model for Prepared<'q> {
+    ghost use Rattle.std.specs.Prelude.{◌≡◌};
     ghost use Rattle.ctl_filter.specs.Filter.{Atom};
     ghost use Rattle.ctl_filter.specs.Inside.Values.{atom_of};
-    ghost use Rattle.ctl_filter.specs.Inside.Searchers.{Fits};
+    ghost use Rattle.ctl_filter.specs.Inside.Searchers.{is_within_lines, Fits};
 
     ghost Value = { Atom };
 
     ghost view = { λ p. atom_of p.atom.now };
 
-    ghost invariant = { λ p. Fits p.atom.now.test p.searcher };
+    ghost invariant = { λ p. Fits p.atom.now.test p.searcher × (p.within_lines ≡ is_within_lines p.atom.now.test) };
 }
 
 impl<'q> Prepared<'q> {
@@ -223,7 +243,12 @@ impl<'q> Prepared<'q> {
         ensures { IfOk result (λ p. p ≡ atom_of atom.now) }
     {
         let searcher = searcher_of(alloc, &atom.test)?;
-        Ok(Prepared { atom, searcher })
+        let within_lines = is_within_lines(&atom.test);
+        Ok(Prepared {
+            atom,
+            searcher,
+            within_lines,
+        })
     }
 
     /// Whether a stanza passes. The room serves again.
@@ -235,7 +260,7 @@ impl<'q> Prepared<'q> {
         match &atom.fields {
             None => text_passes(&atom.test, &mut self.searcher, stanza.text(), room),
             Some(names) => {
-                if is_nowhere(&atom.test, &self.searcher, stanza) {
+                if self.within_lines && is_nowhere(&atom.test, &self.searcher, stanza, room)? {
                     return Ok(false);
                 }
                 let finder = Finder::new(*room.allocator(), stanza, names.len())?;

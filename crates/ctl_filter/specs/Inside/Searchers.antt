@@ -1,5 +1,6 @@
 -- What serves each search of a test again.
-use Rattle.std.specs.Prelude.{◌≡◌, ℕ, Bool, false, List, ◌==◌, Option, Some, None, if◌then◌else◌}
+use Rattle.std.specs.Prelude.{◌≡◌, ℕ, Bool, false, not, List, ◌==◌, Option, Some, None, if◌then◌else◌}
+use Rattle.std.specs.List.{list_any}
 use Rattle.std.specs.Option.{option_map}
 use Rattle.std.specs.Str.{str_to_ascii_lowercase}
 use Rattle.regex.specs.Patterns.{Re}
@@ -45,3 +46,8 @@ finds any_case (Some (Tree tree)) text = false
 
 abbrev pub is_newline : ℕ → Bool
 is_newline byte = byte == newline
+
+-- a substring is asked for, whose pattern has no newline
+abbrev pub is_within_lines : HeldTest → Bool
+is_within_lines (held.Substring any_case pattern) = not (list_any is_newline pattern)
+is_within_lines _ = false

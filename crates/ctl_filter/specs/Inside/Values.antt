@@ -30,7 +30,8 @@ asked_atom atom = atom_with (modifiers_of atom.modifiers) atom.pattern
 
 -- what comes of what was gathered, and the pieces behind it
 abbrev pub resumed : Gathered → List Piece → Result Parts Refusal
-resumed g pieces = onto_parts g.tokens.items (map asked_atom g.atoms.items) (parts_from (length g.atoms.items) (modifiers_of g.modifiers) pieces)
+resumed g pieces =
+    onto_parts g.tokens.items (map asked_atom g.atoms.items) (parts_from (length g.atoms.items) (modifiers_of g.modifiers) pieces)
 
 -- ---- atoms
 
@@ -47,7 +48,11 @@ atom_of atom = record { fields = option_map (λ names. names.items) atom.fields;
 -- ---- what is shown
 
 abbrev pub shown_of : HeldShown → Shown
-shown_of shown = record { bodies_alone = shown.bodies_alone; first_line_alone = shown.first_line_alone; fields = option_map (λ names. names.items) shown.fields }
+shown_of shown = record {
+  bodies_alone = shown.bodies_alone;
+  first_line_alone = shown.first_line_alone;
+  fields = option_map (λ names. names.items) shown.fields;
+}
 
 -- the stanzas of entries
 abbrev pub without_keys : List Entry → List Content
