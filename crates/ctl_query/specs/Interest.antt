@@ -28,7 +28,9 @@ names_it store name asker = list_any (λ (key : AtomKey). is_of_package store as
 
 -- whether the stanza of a key is of this package and has entries of Provides
 abbrev pub is_provider : Held → List ℕ → StanzaKey → Bool
-is_provider store name key = option_map_or (λ stanza. bytes_eq name (package_of stanza) && not (is_none_of (provides_of stanza))) (stanza_at key (keyed_of store).lists) false
+is_provider store name key =
+    option_map_or (λ stanza. bytes_eq name (package_of stanza) && not (is_none_of (provides_of stanza)))
+    (stanza_at key (keyed_of store).lists) false
 
 -- the stanzas that offer a name, by their keys
 abbrev pub offering_named : Held → List ℕ → List StanzaKey

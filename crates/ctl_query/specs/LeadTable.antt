@@ -49,4 +49,5 @@ AreAskers store name askers = (askers ≡ packages_of (world_of store))
 
 -- the leads of enough packages for the answers on who names a name
 abbrev pub AreEnough : Held → List ℕ → List Entry → Type 0
-AreEnough store name leads = (askers : List (List ℕ)) × (leads ≡ flat_map (leads_named (world_of store)) askers) × AreAskers store name askers
+AreEnough store name leads =
+    (askers : List (List ℕ)) × (leads ≡ flat_map (leads_named (world_of store)) askers) × AreAskers store name askers

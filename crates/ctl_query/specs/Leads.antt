@@ -43,7 +43,10 @@ key_at leads i = option_map (λ (e : Entry). e.0) (slice_get leads i)
 
 -- lead by lead, and in each by field, by group and by the place in it
 abbrev pub lead_atom_cmp : LeadAtom → LeadAtom → Ordering
-lead_atom_cmp a b = ordering_then (nat_cmp a.place b.place) (ordering_then (nat_cmp (field_place a.field) (field_place b.field)) (ordering_then (nat_cmp a.group b.group) (nat_cmp a.atom b.atom)))
+lead_atom_cmp a b =
+    ordering_then (nat_cmp a.place b.place)
+    (ordering_then (nat_cmp (field_place a.field) (field_place b.field))
+    (ordering_then (nat_cmp a.group b.group) (nat_cmp a.atom b.atom)))
 
 -- whether an atom is one of these
 abbrev pub is_listed : List LeadAtom → LeadAtom → Bool
@@ -66,7 +69,8 @@ atom_of k i = record { place = i; field = k.field; group = k.group; atom = k.ato
 
 -- whether a key names the atom of a lead of this key
 abbrev pub is_key_of : LeadAtom → AtomKey → StanzaKey → Bool
-is_key_of a k key = key_is key k.stanza && (nat_eq (field_place a.field) (field_place k.field) && (nat_eq a.group k.group && nat_eq a.atom k.atom))
+is_key_of a k key =
+    key_is key k.stanza && (nat_eq (field_place a.field) (field_place k.field) && (nat_eq a.group k.group && nat_eq a.atom k.atom))
 
 abbrev pub is_at : List Entry → AtomKey → LeadAtom → Bool
 is_at leads k a = option_map_or (is_key_of a k) (key_at leads a.place) false

@@ -43,7 +43,8 @@ row_mark installed = if installed then codes " *** " else codes "     "
 
 abbrev pub row_line : World → Option StanzaKey → List ℕ → List StanzaKey → List ℕ
 row_line world installed name row =
-    line (row_mark (are_of_one_row world installed (lead_of row)) ∷ row_version world row ∷ codes " " ∷ signed_decimal (row_priority name world row) ∷ [])
+    line (row_mark (are_of_one_row world installed (lead_of row)) ∷ row_version world row ∷ codes " "
+    ∷ signed_decimal (row_priority name world row) ∷ [])
 
 abbrev pub source_line : World → List ℕ → List ℕ
 source_line world list = line (codes "       " ∷ right_four (priority_of world list) ∷ codes " " ∷ list ∷ [])

@@ -9,7 +9,8 @@ use Rattle.ctl_store.specs.declared.refusal.Refusal.TheVariants as refusal
 use Rattle.ctl_query.specs.QueryRead.{query_text}
 use Rattle.ctl_session.specs.State.{CacheState}
 use Rattle.ctl_session.specs.Script.{Command}
-use Rattle.ctl_session.specs.Request.{Request as RequestText, AddList as AddListText, Put as PutText, Prefs as PrefsText, Change as ChangeText, Ask as AskText}
+use Rattle.ctl_session.specs.Request.{Request as RequestText, AddList as AddListText, Put as PutText, Prefs as PrefsText}
+use Rattle.ctl_session.specs.Request.{Change as ChangeText, Ask as AskText}
 use Rattle.ctl_session.specs.Request.{IsWhole, request_of_line}
 use Rattle.ctl_session.specs.Patterns.{AsksPattern}
 use Rattle.ctl_session.specs.Outcome.{Refused}

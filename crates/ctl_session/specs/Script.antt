@@ -1,5 +1,6 @@
 -- A script, and how it is cut into commands.
-use Rattle.std.specs.Prelude.{ℕ, ◌+◌, List, [], ◌∷◌, ◌<◌, ◌^◌, ◌&&◌, ◌||◌, ◌==◌, ◌≤◌, Option, None, Some, Bool, true, false, not, if◌then◌else◌, nat_le, length, codes}
+use Rattle.std.specs.Prelude.{ℕ, ◌+◌, List, [], ◌∷◌, ◌<◌, ◌^◌, ◌&&◌, ◌||◌, ◌==◌, ◌≤◌}
+use Rattle.std.specs.Prelude.{Option, None, Some, Bool, true, false, not, if◌then◌else◌, nat_le, length, codes}
 use Rattle.std.specs.Str.{bytes_eq}
 use Rattle.ctl_relation.specs.Bytes.{newline, hash, dot}
 use Rattle.ctl_stanza.specs.Lines.{max_line, lines_of, is_blank_byte}

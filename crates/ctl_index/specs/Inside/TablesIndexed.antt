@@ -19,7 +19,8 @@ use Rattle.ctl_index.specs.Inside.TablesFit.{IsWholeAt, AreWhole}
 use Rattle.ctl_index.specs.Inside.TablesOrder.{namer_of}
 use Rattle.ctl_index.specs.Inside.TablesRows.{AreKept, AreRowsPut, AreRowsTaken}
 use Rattle.ctl_index.specs.Inside.TablesSight.{Seen, seen}
-use Rattle.ctl_index.specs.Inside.TablesSteps.{with_each, span_of, put_offers_step, put_atoms_step, take_offers_step, take_atoms_step, raise_step, lower_step, enter_step, drop_step, offers_tested, atoms_tested}
+use Rattle.ctl_index.specs.Inside.TablesSteps.{with_each, span_of, put_offers_step, put_atoms_step, take_offers_step, take_atoms_step}
+use Rattle.ctl_index.specs.Inside.TablesSteps.{raise_step, lower_step, enter_step, drop_step, offers_tested, atoms_tested}
 
 abbrev pub keyed_offers_from : StanzaKey → ℕ → List OfferParts → List (OfferKey × OfferParts)
 keyed_offers_from key n [] = []
