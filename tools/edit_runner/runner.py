@@ -276,9 +276,10 @@ def twice(work, *given):
 
 
 def make_ready(ready, crate, new):
-    """Puts batches among those that are ready: the most wanted come first, and of these the most work."""
+    """Puts batches among those that are ready: the most wanted come first, and of these the most work. An edit that goes alone has its whole
+    crate proved, which takes longest: begun last, it would leave all processors but one idle."""
     ready += [(crate, it) for it in new]
-    ready.sort(key=lambda it: (min(edit.rank for edit in it[1]), -len(it[1])))
+    ready.sort(key=lambda it: (min(edit.rank for edit in it[1]), all(edit.shares for edit in it[1]), -len(it[1])))
 
 
 def good(crate):
