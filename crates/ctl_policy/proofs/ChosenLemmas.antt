@@ -1,5 +1,5 @@
 -- Rows that are considered from the newest to the oldest give the best of them.
-use Rattle.std.proofs.Common.{◌≡◌, ℕ, ℤ, Bool, true, false, cond, ◌&&◌, List, [], ◌∷◌, ◌++◌, map, reverse, Option, None, Some, Vec, Global, refl, ap, sym, ◌∙◌, arith}
+use Rattle.std.proofs.Common.{◌≡◌, ◌≤ℤ◌, ℕ, ℤ, Bool, true, false, cond, ◌&&◌, List, [], ◌∷◌, ◌++◌, map, reverse, Option, None, Some, IfSome, Vec, Global, refl, ap, sym, ◌∙◌, arith}
 use Rattle.std.specs.Prelude.{int_lt}
 use Rattle.std.specs.List.{AllByRecursion}
 use Rattle.std.proofs.lemmas.Int.{ints}
@@ -9,7 +9,7 @@ use Rattle.ctl_store.specs.declared.stanza_key.StanzaKey.{StanzaKey}
 use Rattle.ctl_policy.specs.Rows.{Row, lead_of}
 use Rattle.ctl_policy.specs.Candidate.{Choice, best_of, better, may_be_taken}
 use Rattle.ctl_policy.specs.Inside.HeldRows.{shown_row}
-use Rattle.ctl_policy.specs.Inside.HeldWalk.{carried, considered_row}
+use Rattle.ctl_policy.specs.Inside.HeldWalk.{carried, considered_row, may_win, wins}
 
 -- the better of what newer rows have, and of what older ones have
 abbrev joined : Choice → Choice → Choice
@@ -46,6 +46,11 @@ row_loses newer row (Some older) h = by (int_lt row.0 older.0) refl
     by true k = refl
     by false k = ap (λ b. either b older newer) (not_less newer.0 row.0 older.0 h k) ∙ ap (λ b. either b row newer) (sym h)
 
+-- where a row of a priority doesn't win, none of at most that priority does
+no_win : (newer : Choice) (p bound : ℤ) → p ≤ℤ bound → wins bound newer ≡ false → wins p newer ≡ false
+no_win None p bound le e = e
+no_win (Some newer) p bound le e = grind (arith, ints)
+
 pub all_before : {X : Type 0} (P : X → Type 0) (xs ys : List X) → AllByRecursion P (xs ++ ys) → AllByRecursion P xs
 all_before P [] ys h = tt
 all_before P (x ∷ xs) ys h = (h.0, all_before P xs ys h.1)
@@ -76,7 +81,18 @@ module _ (priority : List StanzaKey → ℤ) (installed : Option Triple) where
   pub best_carried : (rows : List Row) → carried priority installed None rows ≡ best_of priority installed rows
   best_carried rows = carried_is None rows
 
-  -- the last entry of a map is the newest row that is left
-  pub carried_last : (newer : Choice) (es : List (List ℕ × Vec StanzaKey Global)) (e : List ℕ × Vec StanzaKey Global)
-      → carried priority installed newer (reverse (map shown_row (es ++ e ∷ []))) ≡ carried priority installed (considered_row priority installed newer (shown_row e)) (reverse (map shown_row es))
-  carried_last newer es e = ap (carried priority installed newer) (ap reverse (map-append shown_row es (e ∷ [])) ∙ reverse-append (map shown_row es) (shown_row e ∷ []))
+  -- the last entry of a map is the newest row that is left, and the others are considered after it
+  pub considered_last : (newer choice : Choice) (all es : List (List ℕ × Vec StanzaKey Global)) (e : List ℕ × Vec StanzaKey Global) → choice ≡ considered_row priority installed newer (shown_row e) → all ≡ es ++ e ∷ []
+      → carried priority installed choice (reverse (map shown_row es)) ≡ carried priority installed newer (reverse (map shown_row all))
+  considered_last newer choice all es e is steps =
+      ap (λ c. carried priority installed c (reverse (map shown_row es))) is
+      ∙ sym (ap (carried priority installed newer) (ap (λ l. reverse (map shown_row l)) steps ∙ ap reverse (map-append shown_row es (e ∷ [])) ∙ reverse-append (map shown_row es) (shown_row e ∷ [])))
+
+  -- where no older row may win, the rest of the walk changes nothing
+  pub settled : (bound : Option ℤ) (newer : Choice) (rows : List Row) → IfSome bound (λ b. (keys : List StanzaKey) → priority keys ≤ℤ b) → may_win bound newer ≡ false → carried priority installed newer rows ≡ newer
+  settled None newer rows h e = cc
+  settled (Some bound) newer [] h e = refl
+  settled (Some bound) newer (row ∷ rows) h e =
+      ap (λ c. carried priority installed c rows)
+      (ap (λ b. cond (b && may_be_taken (priority row.1) row.0 installed) (Some (priority row.1, lead_of row.1)) newer) (no_win newer (priority row.1) bound (h row.1) e))
+      ∙ settled (Some bound) newer rows h e

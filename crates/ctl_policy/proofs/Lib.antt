@@ -5,6 +5,7 @@ pub mod FormLemmas
 pub mod AlikeLemmas
 pub mod ShownLemmas
 pub mod ChosenLemmas
+pub mod BoundLemmas
 pub mod ByNameLemmas
 pub mod DefinedLemmas
 pub mod KeptLemmas

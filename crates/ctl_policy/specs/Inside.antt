@@ -5,4 +5,5 @@ pub mod HeldRows
 pub mod HeldWalk
 pub mod KnownLists
 pub mod NewPlaces
+pub mod RowBound
 pub mod TouchedNames

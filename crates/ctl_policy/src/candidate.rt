@@ -7,11 +7,11 @@ ghost use Rattle.ctl_store.specs.Store.{keyed_of};
 ghost use Rattle.ctl_policy.specs.Priority.{world_of};
 ghost use Rattle.ctl_policy.specs.Candidate.{best_named, is_upgrade, may_be_taken};
 ghost use Rattle.ctl_policy.specs.Inside.HeldRows.{IsOrderedForm, form_shown, rows_of_map};
-ghost use Rattle.ctl_policy.specs.Inside.HeldWalk.{AreHeldIn, IsHeldForm, considered, considered_alone, triple_if_any, wins};
+ghost use Rattle.ctl_policy.specs.Inside.HeldWalk.{AreHeldIn, IsHeldForm, considered, considered_alone, may_win, triple_if_any, wins};
 
 use crate::by_version::ByVersion;
 use crate::form::Form;
-use crate::priority::{is_pinned, priority_where, row_priority};
+use crate::priority::{bound_of_rows, is_pinned, priority_where, row_priority};
 use ctl_relation::Version;
 use ctl_store::{StanzaKey, Store};
 use std::slice;
@@ -62,8 +62,18 @@ fn considered(
     }
 }
 
+// Whether an older row may win, where none has a priority above this one, if it is known.
+fn may_win(bound: Option<i16>, newer: Option<Choice>) -> bool
+    ensures { result ≡ may_win bound newer }
+{
+    match bound {
+        Some(bound) => wins(bound, newer),
+        None => true,
+    }
+}
+
 // The row to be taken of a map of rows of a name, where this version is installed. The newest comes first: where no older row
-// has a greater priority, no other version is compared.
+// has a greater priority, no other version is compared, and where none can have one, no other row is looked at.
 #[tactic(auto, using(crate::proofs::ChosenLemmas::best_carried))]
 fn best_in_map(
     store: &Store,
@@ -75,12 +85,16 @@ fn best_in_map(
     ensures { result ≡ best_named name.now (world_of store.now) (triple_if_any (option_copied installed.entry)) (rows_of_map rows.now) }
 {
     let pinned = is_pinned(store, name);
+    let bound = bound_of_rows(store, pinned, rows.len());
     let mut known = None;
     let mut choice = None;
     let mut left = rows.iter();
     'rows: while let Some((version, keys)) = left.next_back() {
         let priority = priority_where(store, name, keys, pinned, &mut known);
         choice = considered(priority, version, keys.first().copied(), installed, choice);
+        if !may_win(bound, choice) {
+            return choice;
+        }
     }
     choice
 }

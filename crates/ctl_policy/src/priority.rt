@@ -1,14 +1,15 @@
 //! The priority of a list and of a row (apt_preferences(5)).
 
-ghost use Rattle.std.specs.Prelude.{◌≡◌, ℕ, List, false, None, Some, IfSome, option_copied};
+ghost use Rattle.std.specs.Prelude.{◌≡◌, ℕ, List, false, None, Some, IfSome, OnSome, option_copied};
 ghost use Rattle.std.specs.Bool.{OnFalse};
 ghost use Rattle.std.specs.Int.{int_max};
 ghost use Rattle.ctl_store.specs.declared.stanza_key.StanzaKey.{StanzaKey};
 ghost use Rattle.ctl_store.specs.Keys.{AreHeld};
-ghost use Rattle.ctl_store.specs.Store.{keyed_of};
+ghost use Rattle.ctl_store.specs.Store.{keyed_of, state_of};
 ghost use Rattle.ctl_store.specs.Pins.{general_pin};
 ghost use Rattle.ctl_policy.specs.Rows.{lead_of, version_under, is_source};
 ghost use Rattle.ctl_policy.specs.Inside.KnownLists.{IsKnownPriority};
+ghost use Rattle.ctl_policy.specs.Inside.RowBound.{greatest_of_lists, priority_of_kind};
 ghost use Rattle.ctl_policy.specs.Laws.{world_with};
 ghost use Rattle.ctl_policy.specs.Inside.TouchedNames.{keeps_priority};
 ghost use Rattle.ctl_policy.specs.Priority.{MatchesNoRow, PinsNoRow, Settings, world_of, own_priority, is_target, list_priority, matches_text, matches_row, specific_pin, greatest, greatest_with, source_priorities, row_priority};
@@ -43,18 +44,31 @@ fn is_target(target: Option<&[u8]>, list: &[u8], kind: ListKind) -> bool
     }
 }
 
+// The priority of a list of this name, kind and class, where this is the priority of its general pin.
+fn priority_of_kind(
+    store: &Store,
+    list: &[u8],
+    kind: ListKind,
+    class: ListClass,
+    pin: Option<i16>,
+) -> i16
+    ensures { result ≡ priority_of_kind (state_of store.now).target list.now kind class pin }
+{
+    if is_target(store.target(), list, kind) {
+        return 990;
+    }
+    match pin {
+        Some(priority) => priority,
+        None => own_priority(kind, class),
+    }
+}
+
 // The priority of a list, if there is a list of this name, where this is the priority of its general pin.
 fn priority_where_pinned(store: &Store, list: &[u8], pin: Option<i16>) -> Option<i16>
     ensures { (pins : Settings) → pin ≡ general_pin list.now pins → result ≡ list_priority list.now (world_with pins store.now) }
 {
     let (kind, class) = store.list(list)?;
-    if is_target(store.target(), list, kind) {
-        return Some(990);
-    }
-    match pin {
-        Some(priority) => Some(priority),
-        None => Some(own_priority(kind, class)),
-    }
+    Some(priority_of_kind(store, list, kind, class, pin))
 }
 
 /// The priority of a list, if there is a list of this name: 990 for the target release, else that of its general pin,
@@ -77,6 +91,19 @@ fn larger(one: i16, other: i16) -> i16
     ensures { result ≡ int_max one other }
 {
     if other < one { one } else { other }
+}
+
+// The greatest priority of all lists, or 0 where that is greater.
+fn greatest_of_lists(store: &Store) -> i16
+    ensures { result ≡ greatest_of_lists store.now }
+{
+    let mut greatest = 0;
+    let mut left = store.lists();
+    'lists: while let Some((list, kind, class)) = left.next() {
+        let pin = store.general_pin(list);
+        greatest = larger(greatest, priority_of_kind(store, list, kind, class, pin));
+    }
+    greatest
 }
 
 // The greatest priority of the lists that hold these stanzas, beside one priority.
@@ -274,4 +301,18 @@ pub fn row_priority(store: &Store, name: &[u8], keys: &[StanzaKey]) -> i16
 {
     let mut known = None;
     priority_where(store, name, keys, true, &mut known)
+}
+
+/// The greatest priority of all lists, or 0 where that is greater: no row of a name has a greater one, if no specific pin of the
+/// name matches a row. It is told where none may match, and where there are no more lists than so many rows: else it would take
+/// longer to find it than to walk over the rows.
+pub(crate) fn bound_of_rows(store: &Store, pinned: bool, rows: usize) -> Option<i16>
+    ensures pinned { OnSome result (pinned ≡ false) }
+    ensures bound { IfSome result (λ bound. bound ≡ greatest_of_lists store.now) }
+{
+    if pinned || store.lists().nth(rows).is_some() {
+        None
+    } else {
+        Some(greatest_of_lists(store))
+    }
 }

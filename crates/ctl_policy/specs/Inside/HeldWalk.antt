@@ -29,6 +29,11 @@ abbrev pub wins : ℤ → Choice → Bool
 wins priority None = true
 wins priority (Some newer) = int_lt newer.0 priority
 
+-- whether an older row may win, where none has a priority above this one, if it is known
+abbrev pub may_win : Option ℤ → Choice → Bool
+may_win None newer = true
+may_win (Some bound) newer = wins bound newer
+
 -- what is chosen, once an older row was considered
 abbrev pub considered : ℤ → Triple → Option StanzaKey → Option Triple → Choice → Choice
 considered priority version lead installed newer =
