@@ -5,7 +5,7 @@ use Rattle.indexmap.specs.IndexMap.{insert_entry}
 use Rattle.ctl_ordered.specs.Slots.{entries_of, rows_of}
 use Rattle.ctl_ordered.specs.Ordered.{entries, IsOrdered}
 use Rattle.ctl_ordered.proofs.OrderLemmas.{key_order, ordered_pushed}
-use Rattle.ctl_ordered.proofs.ordered.Ordered.push.Goals as goal
+use Rattle.ctl_ordered.proofs.ordered.Ordered.push_last.Goals as goal
 
 pub invariant_of-self : goal.invariant_of-self
 invariant_of-self g c =
