@@ -11,6 +11,7 @@ use crate::tables::Tables;
 use ctl_store::StanzaKey;
 use std::alloc::AllocError;
 
+#[tactic(auto, using(crate::proofs::SeenLemmas::tests_come))]
 /// The stanzas under these keys come. What then stands under a name is told by sums, whatever the order in which it is entered.
 pub(crate) fn put_list(
     sight: &Sight<'_>,

@@ -9,7 +9,6 @@ use Rattle.ctl_index.specs.Inside.TablesIndexed.{namers_sum}
 use Rattle.ctl_index.specs.Inside.TablesLoaded.{number_with}
 use Rattle.ctl_index.specs.Inside.TablesSight.{seen, entries_seen}
 use Rattle.ctl_index.specs.Inside.TablesSteps.{with_each, put_rows_step, atoms_tested}
-use Rattle.ctl_index.proofs.SeenLemmas.{tests_come}
 use Rattle.ctl_index.proofs.loading.put_list.Goals as goal
 
 pub returns-clause-tables : goal.returns-clause-tables
@@ -28,19 +27,3 @@ returns-clause-tables c = λ apart.
           ∙ (λ i. with_each (seen s) (put_rows_step q version) keys (fin.get ((c.in_ok-put_atoms.ensures.rows ∙ c.in_ok-put_offers.ensures.rows) i q) version));
       whole = c.in_ok-put_offers.ensures.whole;
     }
-
-pub returns-clause-steps : goal.returns-clause-steps
-returns-clause-steps c =
-    omega (arith, c.in_ok-put_atoms.ensures.steps, c.in_ok-put_offers.ensures.steps, tests_come c.args.sight.now c.args.keys.now (offers_in c.args.tables.now) (offers_in c.put_offers.new.tables) c.in_ok-put_offers.ensures.offers)
-
-pub returns-clause-most : goal.returns-clause-most
-returns-clause-most c =
-    omega (arith, c.in_ok-put_atoms.ensures.steps, c.in_ok-put_offers.ensures.steps, tests_come c.args.sight.now c.args.keys.now (offers_in c.args.tables.now) (offers_in c.put_offers.new.tables) c.in_ok-put_offers.ensures.offers)
-
-pub returns-in_err-put_atoms-clause-most : goal.returns-in_err-put_atoms-clause-most
-returns-in_err-put_atoms-clause-most c =
-    omega (arith, c.put_atoms.ensures.most, c.in_ok-put_offers.ensures.steps, tests_come c.args.sight.now c.args.keys.now (offers_in c.args.tables.now) (offers_in c.put_offers.new.tables) c.in_ok-put_offers.ensures.offers)
-
-pub returns-in_err-put_rows-clause-most : goal.returns-in_err-put_rows-clause-most
-returns-in_err-put_rows-clause-most c =
-    omega (arith, c.in_ok-put_atoms.ensures.steps, c.in_ok-put_offers.ensures.steps, tests_come c.args.sight.now c.args.keys.now (offers_in c.args.tables.now) (offers_in c.put_offers.new.tables) c.in_ok-put_offers.ensures.offers)
