@@ -18,8 +18,8 @@ use Rattle.ctl_index.specs.Clauses.{clause_atoms, clause_cmp, clause_of, clause_
 use Rattle.ctl_index.specs.Names.{keyed_atoms}
 use Rattle.ctl_index.specs.Offers.{offers_among, contents}
 use Rattle.ctl_index.specs.Inside.TablesByName.{offers_under, namers_under}
-use Rattle.ctl_index.specs.Inside.TablesIndexed.{atom_named, offer_named, keyed_offers, IsIndexed, IsTakenOut, offers_put, namers_taken, tests_put_in, tests_taken_out}
-use Rattle.ctl_index.specs.Inside.TablesLoaded.{IsLoaded, all_hits, offers_sum, namers_sum}
+use Rattle.ctl_index.specs.Inside.TablesIndexed.{atom_named, offer_named, keyed_offers, IsIndexed, IsTakenOut, offers_sum, namers_sum, namers_taken, tests_taken_out}
+use Rattle.ctl_index.specs.Inside.TablesLoaded.{IsLoaded, all_hits, tests_put_in}
 use Rattle.ctl_index.specs.Inside.TablesParts.{IsJoined}
 use Rattle.ctl_index.specs.Inside.TablesRows.{RowsCome, RowsGo}
 use Rattle.ctl_index.specs.Inside.TablesSight.{Seen, seen, AreSeen}
@@ -28,8 +28,8 @@ use Rattle.ctl_index.specs.Inside.TablesFit.{AreWhole, NumbersFit}
 use Rattle.ctl_index.specs.Inside.TablesOrder.{is_within}
 use Rattle.ctl_index.specs.Inside.TablesSteps.{group_met, span_of, with_each, drop_step}
 use Rattle.ctl_index.specs.Work.{named_pairs, pairs}
-use Rattle.ctl_index.proofs.SumLemmas.{sum-cong, sum-plus, sum-swap, sum-flat_map, sum-map, sum-zero}
-use Rattle.ctl_index.proofs.TableLemmas.{put_offers, take_offers, take_namers}
+use Rattle.ctl_index.proofs.SumLemmas.{offers-over, sum-cong, sum-plus, sum-swap, sum-flat_map, sum-map, sum-zero}
+use Rattle.ctl_index.proofs.TableLemmas.{take_offers, take_namers}
 use Rattle.ctl_index.proofs.ClauseLemmas.{gone}
 use Rattle.ctl_index.proofs.FitLemmas.{come_whole, all_whole, rest_whole}
 use Rattle.ctl_index.proofs.SeenLemmas.{one_under, clause_met-is, listed_hits, all_tested-is, offers_tested-is, atoms_tested-is, lowered_all-is, dropped_all-is}
@@ -39,10 +39,7 @@ use Rattle.ctl_index.proofs.SeenLemmas.{one_under, clause_met-is, listed_hits, a
 module _ (all rest some : List Entry) (joined : IsJoined all rest some) where
   offers-joined : (h : OfferParts → ℕ) → sum_by h (offers_among (contents all)) ≡ sum_by h (offers_among (contents rest)) + sum_by h (offers_among (contents some))
   offers-joined h =
-      over all ∙ joined.sums (λ (e : Entry). sum_by h (offers_of e.1)) ∙ (λ i. sym (over rest) i + sym (over some) i)
-    where
-      over : (es : List Entry) → sum_by h (offers_among (contents es)) ≡ sum_by (λ (e : Entry). sum_by h (offers_of e.1)) es
-      over es = sum-flat_map h offers_of (contents es) ∙ sum-map (λ x. sum_by h (offers_of x)) (λ (e : Entry). e.1) es
+      offers-over h all ∙ joined.sums (λ (e : Entry). sum_by h (offers_of e.1)) ∙ (λ i. sym (offers-over h rest) i + sym (offers-over h some) i)
 
   atoms-joined : (g : AtomParts → ℕ) → sum_by g (flat_map clause_atoms (contents all)) ≡ sum_by g (flat_map clause_atoms (contents rest)) + sum_by g (flat_map clause_atoms (contents some))
   atoms-joined g =
@@ -51,16 +48,14 @@ module _ (all rest some : List Entry) (joined : IsJoined all rest some) where
       over : (es : List Entry) → sum_by g (flat_map clause_atoms (contents es)) ≡ sum_by (λ (e : Entry). sum_by g (clause_atoms e.1)) es
       over es = sum-flat_map g clause_atoms (contents es) ∙ sum-map (λ x. sum_by g (clause_atoms x)) (λ (e : Entry). e.1) es
 
+  named-joined : (atoms : List AtomParts) → named_pairs atoms (offers_among (contents all)) ≡ named_pairs atoms (offers_among (contents rest)) + named_pairs atoms (offers_among (contents some))
+  named-joined atoms =
+      sum-cong _ _ (λ (a : AtomParts). offers-joined (λ (o : OfferParts). cond (bytes_eq a.name o.name) 1 0)) atoms
+      ∙ sum-plus (λ (a : AtomParts). count_by (λ (o : OfferParts). bytes_eq a.name o.name) (offers_among (contents rest))) (λ (a : AtomParts). count_by (λ (o : OfferParts). bytes_eq a.name o.name) (offers_among (contents some))) atoms
+
   pub pairs-joined : pairs (contents all) ≡ pairs (contents rest) + (named_pairs (flat_map clause_atoms (contents rest)) (offers_among (contents some)) + named_pairs (flat_map clause_atoms (contents some)) (offers_among (contents all)))
   pairs-joined =
-      let os = offers_among (contents all) in
-      let left = offers_among (contents rest) in
-      let new = offers_among (contents some) in
-      let atoms = flat_map clause_atoms (contents rest) in
-      let both : named_pairs atoms os ≡ named_pairs atoms left + named_pairs atoms new =
-      sum-cong _ _ (λ (a : AtomParts). offers-joined (λ (o : OfferParts). cond (bytes_eq a.name o.name) 1 0)) atoms
-      ∙ sum-plus (λ (a : AtomParts). count_by (λ (o : OfferParts). bytes_eq a.name o.name) left) (λ (a : AtomParts). count_by (λ (o : OfferParts). bytes_eq a.name o.name) new) atoms in
-      omega (arith, atoms-joined (λ (a : AtomParts). count_by (λ (o : OfferParts). bytes_eq a.name o.name) os), both)
+      omega (arith, atoms-joined (λ (a : AtomParts). count_by (λ (o : OfferParts). bytes_eq a.name o.name) (offers_among (contents all))), named-joined (flat_map clause_atoms (contents rest)))
 
   pub met_pairs-joined : (atoms : List AtomParts) → met_pairs atoms (offers_among (contents all)) ≡ met_pairs atoms (offers_among (contents rest)) + sum_by (λ (o : OfferParts). sum_by (λ (a : AtomParts). cond (met a o) 1 0) atoms) (offers_among (contents some))
   met_pairs-joined atoms =
@@ -147,13 +142,14 @@ module _ (s : Seen) (keys : List StanzaKey) (all rest : List Entry) (old new : T
         whole = whole;
       }
 
-  put_counted : tests_put_in s keys old ≡ named_pairs (flat_map clause_atoms (contents rest)) (offers_among (contents come)) + named_pairs (flat_map clause_atoms (contents come)) (offers_among (contents all))
+  put_counted : tests_put_in s keys old ≡ (named_pairs (flat_map clause_atoms (contents rest)) (offers_among (contents come)) + named_pairs (flat_map clause_atoms (contents come)) (offers_among (contents rest))) + pairs (contents come)
   put_counted = λ i.
-      (offers_tested-is s (namers_under old.names.map) keys ∙ all_tested-is s (namers_under old.names.map) rest was.namers sees (offers_among (contents come))) i
-      + atoms_tested-is s (offers_put s keys old) all (put_offers s keys all rest old joined was) sees_all keys i
+      ((offers_tested-is s (namers_under old.names.map) keys ∙ all_tested-is s (namers_under old.names.map) rest was.namers sees (offers_among (contents come))) i
+      + atoms_tested-is s (offers_under old.names.map) rest was.offers sees keys i)
+      + pairs (contents come)
 
   pub put_tests : tests_put_in s keys old ≡ pairs (contents all) - pairs (contents rest)
-  put_tests = omega (arith, put_counted, pairs-joined all rest come joined)
+  put_tests = omega (arith, put_counted, pairs-joined all rest come joined, named-joined all rest come joined (flat_map clause_atoms (contents come)))
 
 -- ---- stanzas go
 

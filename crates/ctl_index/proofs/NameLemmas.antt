@@ -1,11 +1,13 @@
 -- The table of names: what a write under the name bs leaves under any name.
 use Rattle.std.proofs.Common.{◌≡◌, ◌+◌, ℕ, Bool, true, false, cond, not, nat_eq, ◌&&◌, length, List, [], ◌∷◌, Option, None, Some, Result, Ok, Err, OnOk, OnErr, OnSome, refl, ap, sym, subst, ◌∙◌, arith}
+use Rattle.std.specs.List.{sum_by}
 use Rattle.std.specs.Str.{bytes_eq}
 use Rattle.std.specs.FinMap as fin
 use Rattle.std.specs.Option.{option_map_or}
 use Rattle.std.proofs.lemmas.Slice.Eq.{bytes_eq-Decides}
 use Rattle.std.proofs.lemmas.Bool.Decides.{nat_tests}
 use Rattle.std.proofs.lemmas.List.{nil_from_length}
+use Rattle.std.proofs.lemmas.List.Sums.{sum_by-cons}
 use Rattle.ctl_index.specs.declared.named.Named.{Named}
 use Rattle.ctl_store.specs.declared.stanza_key.StanzaKey.{StanzaKey}
 use Rattle.ctl_index.specs.Inside.TablesOrder.{put_in_order, is_through}
@@ -147,6 +149,15 @@ none_more part none bs m n x is e same q = by (bytes_eq bs q) refl
     by : (b : Bool) → bytes_eq bs q ≡ b → cond b x (part_under part none n q) ≡ part_under part none m q
     by true t = is ∙ sym (none_under part none bs m e) ∙ ap (part_under part none m) ((bytes_eq-Decides bs q).0 t)
     by false t = ap (λ o. option_map_or part o none) (same q)
+
+-- one under a name that wasn't there
+pub first_there : {Y : Type 0} (part : Named → List Y) (bs : List ℕ) (m n : NameMap) (x : List Y) (y : Y) (f : Y → ℕ) → x ≡ y ∷ [] → None ≡ at_name m bs → HasSameNames m n
+    → (q : List ℕ) → sum_by f (cond (bytes_eq bs q) x (part_under part [] n q)) ≡ sum_by f (part_under part [] m q) + cond (bytes_eq bs q) (f y) 0
+first_there part bs m n x y f is e same q = by (bytes_eq bs q) refl
+  where
+    by : (b : Bool) → bytes_eq bs q ≡ b → sum_by f (cond b x (part_under part [] n q)) ≡ sum_by f (part_under part [] m q) + cond b (f y) 0
+    by true t = omega (arith, ap (sum_by f) is, sum_by-cons f y [], ap (λ l. sum_by f (part_under part [] m l)) (sym ((bytes_eq-Decides bs q).0 t)), ap (sum_by f) (none_under part [] bs m e))
+    by false t = omega (arith, ap (λ o. sum_by f (option_map_or part o [])) (same q))
 
 -- what stands under its own name
 pub own_rows : (bs : List ℕ) (r o : Rows) → cond (bytes_eq bs bs) r o ≡ r

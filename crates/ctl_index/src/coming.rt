@@ -1,16 +1,21 @@
 //! Stanzas come: their offers first, and then their atoms, so that a pair of their own is tested once.
 
-ghost use Rattle.std.specs.Prelude.{◌≡◌, ◌∷◌, [], ◌+◌, ◌≤◌, ◌<◌, ◌^◌, ℕ, List, OnOk, IfOk, Some, length, if◌then◌else◌};
-ghost use Rattle.std.specs.List.{All};
+ghost use Rattle.std.specs.Prelude.{◌≡◌, ◌∷◌, [], ◌+◌, ◌≤◌, ◌<◌, ◌^◌, ℕ, List, OnOk, IfOk, Some, length, option_map, if◌then◌else◌};
+ghost use Rattle.std.specs.List.{All, sum_by};
 ghost use Rattle.ctl_relation.specs.Bounds.{atom_count};
+ghost use Rattle.ctl_index.specs.Clauses.{clause_at};
 ghost use Rattle.ctl_index.specs.Inside.TablesByName.{offers_under, namers_under, rows_under};
-ghost use Rattle.ctl_index.specs.Inside.TablesCounters.{told};
+ghost use Rattle.ctl_index.specs.Inside.TablesCounters.{counted_up, told};
 ghost use Rattle.ctl_index.specs.Inside.TablesFit.{IsWholeAt};
 ghost use Rattle.ctl_index.specs.Inside.TablesHeld.{HasTested, TestsAtMost, namers_in, number_in, number_told, offers_in, rows_in};
-ghost use Rattle.ctl_index.specs.Inside.TablesIndexed.{namers_put, number_entered, number_raised, offers_put};
-ghost use Rattle.ctl_index.specs.Inside.TablesSight.{seen};
-ghost use Rattle.ctl_index.specs.Inside.TablesSteps.{all_tested, atoms_tested, atoms_tested_at, enter_step, entered_fields, entered_groups, fields_tested, group_met, group_tested, groups_tested, is_clause, listed_fields, listed_group, listed_groups, listed_offers, offers_tested, offers_tested_at, raised, with_each};
+ghost use Rattle.ctl_index.specs.Inside.TablesIndexed.{atom_named, keyed_offers_from, namers_sum, offer_named, offers_sum};
+ghost use Rattle.ctl_index.specs.Inside.TablesLoaded.{ComeApart, all_hits, group_named, number_with};
+ghost use Rattle.ctl_index.specs.Inside.TablesSight.{entries_seen, seen};
+ghost use Rattle.ctl_index.specs.Inside.TablesSteps.{all_tested, atoms_tested, atoms_tested_at, fields_tested, group_met, group_tested, groups_tested, is_clause, offers_tested, offers_tested_at};
+ghost use Rattle.ctl_index.specs.Names.{keyed_atoms, keyed_group, keyed_groups, naming_fields};
+ghost use Rattle.ctl_index.specs.Offers.{contents, offers_among};
 ghost use Rattle.ctl_index.specs.Work.{more_by};
+ghost use Rattle.ctl_index.specs.declared.keys.Namer.{Namer};
 ghost use Rattle.ctl_stanza.specs.Content.{groups_of};
 
 use crate::counters::Counters;
@@ -31,11 +36,12 @@ fn put_offers_of(
     tables: &mut Tables,
 ) -> Result<(), AllocError>
     requires { length offers.now < 2 ^ 32 }
-    ensures offers { OnOk result ((q : List ℕ) → offers_in tables.new q ≡ listed_offers key q 0 offers.now (offers_in tables.old q)) }
+    ensures offers { OnOk result ((q : List ℕ) (f : OfferKey → ℕ) → sum_by f (offers_in tables.new q)
+        ≡ sum_by f (offers_in tables.old q) + sum_by (offer_named q f) (keyed_offers_from key 0 offers.now)) }
     ensures namers { OnOk result (namers_in tables.new ≡ namers_in tables.old) }
     ensures rows { OnOk result (rows_in tables.new ≡ rows_in tables.old) }
     ensures counts { OnOk result ((k : ClauseKey) → number_in tables.new k
-        ≡ raised sight.now (namers_in tables.old) offers.now k (number_in tables.old k)) }
+        ≡ option_map (counted_up (all_hits sight.now (namers_in tables.old) offers.now k)) (number_in tables.old k)) }
     ensures steps { OnOk result (HasTested (all_tested sight.now (namers_in tables.old) offers.now) tables.old tables.new) }
     ensures most { TestsAtMost (all_tested sight.now (namers_in tables.old) offers.now) tables.old tables.new }
     ensures least { tables.old.steps ≤ tables.new.steps }
@@ -60,10 +66,13 @@ fn put_offers_of(
 // What the stanza under a key offers, if there is one.
 fn put_offers_at(sight: &Sight<'_>, key: StanzaKey, tables: &mut Tables) -> Result<(), AllocError>
     ensures whole { OnOk result (IsWholeAt (seen sight.now) key) }
-    ensures offers { OnOk result ((q : List ℕ) → offers_in tables.new q ≡ offers_put sight.now (key ∷ []) tables.old q) }
+    ensures offers { OnOk result ((q : List ℕ) (f : OfferKey → ℕ) → sum_by f (offers_in tables.new q)
+        ≡ sum_by f (offers_in tables.old q) + offers_sum q f (entries_seen sight.now (key ∷ []))) }
     ensures namers { OnOk result (namers_in tables.new ≡ namers_in tables.old) }
     ensures rows { OnOk result (rows_in tables.new ≡ rows_in tables.old) }
-    ensures counts { OnOk result ((k : ClauseKey) → number_in tables.new k ≡ number_raised sight.now (key ∷ []) tables.old k) }
+    ensures counts { OnOk result ((k : ClauseKey) → number_in tables.new k
+        ≡ option_map (counted_up (all_hits sight.now (namers_in tables.old) (offers_among (contents (entries_seen sight.now (key ∷ [])))) k))
+        (number_in tables.old k)) }
     ensures steps { OnOk result (HasTested (offers_tested_at sight.now (namers_in tables.old) key) tables.old tables.new) }
     ensures most { TestsAtMost (offers_tested_at sight.now (namers_in tables.old) key) tables.old tables.new }
     ensures least { tables.old.steps ≤ tables.new.steps }
@@ -86,10 +95,13 @@ pub(crate) fn put_offers(
     tables: &mut Tables,
 ) -> Result<(), AllocError>
     ensures whole { OnOk result (All (IsWholeAt (seen sight.now)) keys.now) }
-    ensures offers { OnOk result ((q : List ℕ) → offers_in tables.new q ≡ offers_put sight.now keys.now tables.old q) }
+    ensures offers { OnOk result ((q : List ℕ) (f : OfferKey → ℕ) → sum_by f (offers_in tables.new q)
+        ≡ sum_by f (offers_in tables.old q) + offers_sum q f (entries_seen sight.now keys.now)) }
     ensures namers { OnOk result (namers_in tables.new ≡ namers_in tables.old) }
     ensures rows { OnOk result (rows_in tables.new ≡ rows_in tables.old) }
-    ensures counts { OnOk result ((k : ClauseKey) → number_in tables.new k ≡ number_raised sight.now keys.now tables.old k) }
+    ensures counts { OnOk result ((k : ClauseKey) → number_in tables.new k
+        ≡ option_map (counted_up (all_hits sight.now (namers_in tables.old) (offers_among (contents (entries_seen sight.now keys.now))) k))
+        (number_in tables.old k)) }
     ensures steps { OnOk result (HasTested (offers_tested sight.now (namers_in tables.old) keys.now) tables.old tables.new) }
     ensures most { TestsAtMost (offers_tested sight.now (namers_in tables.old) keys.now) tables.old tables.new }
     ensures least { tables.old.steps ≤ tables.new.steps }
@@ -110,8 +122,9 @@ fn put_group(
     steps: &mut Steps,
 ) -> Result<u128, AllocError>
     requires { length group.now < 2 ^ 32 }
-    ensures namers { OnOk result ((q : List ℕ) → namers_under names.new.map q
-        ≡ listed_group clause.stanza clause.field clause.group q 0 group.now (namers_under names.old.map q)) }
+    ensures namers { OnOk result ((q : List ℕ) (f : Namer → ℕ) → sum_by f (namers_under names.new.map q)
+        ≡ sum_by f (namers_under names.old.map q)
+        + sum_by (atom_named q f) (keyed_group clause.stanza clause.field clause.group 0 group.now)) }
     ensures offers { OnOk result (offers_under names.new.map ≡ offers_under names.old.map) }
     ensures rows { OnOk result (rows_under names.new.map ≡ rows_under names.old.map) }
     ensures met { IfOk result (λ met. met ≡ group_met sight.now clause.field (offers_under names.old.map) group.now) }
@@ -147,6 +160,7 @@ fn list_clause(counters: &mut Counters, clause: ClauseKey, number: u128) -> Resu
     Ok(())
 }
 
+#[tactic(auto, using(crate::proofs::ClauseLemmas::groups_start))]
 fn put_groups(
     sight: &Sight<'_>,
     key: StanzaKey,
@@ -156,12 +170,12 @@ fn put_groups(
 ) -> Result<(), AllocError>
     requires count { length groups < 2 ^ 32 }
     requires few { atom_count groups < 2 ^ 32 }
-    ensures namers { OnOk result ((q : List ℕ) → namers_in tables.new q
-        ≡ listed_groups key field q 0 groups.entry (namers_in tables.old q)) }
+    ensures namers { OnOk result ((q : List ℕ) (f : Namer → ℕ) → sum_by f (namers_in tables.new q)
+        ≡ sum_by f (namers_in tables.old q) + sum_by (atom_named q f) (keyed_groups key field 0 groups.entry)) }
     ensures offers { OnOk result (offers_in tables.new ≡ offers_in tables.old) }
     ensures rows { OnOk result (rows_in tables.new ≡ rows_in tables.old) }
     ensures counts { OnOk result ((k : ClauseKey) → number_told tables.new k
-        ≡ entered_groups sight.now (offers_in tables.old) key field 0 groups.entry k (number_told tables.old k)) }
+        ≡ number_with sight.now (offers_in tables.old) field (group_named key field groups.entry k) (number_told tables.old k)) }
     ensures steps { OnOk result (HasTested (groups_tested sight.now field (offers_in tables.old) groups.entry) tables.old tables.new) }
     ensures most { TestsAtMost (groups_tested sight.now field (offers_in tables.old) groups.entry) tables.old tables.new }
     ensures least { tables.old.steps ≤ tables.new.steps }
@@ -189,12 +203,13 @@ fn put_field(
     field: FieldKind,
     tables: &mut Tables,
 ) -> Result<(), AllocError>
-    ensures namers { OnOk result ((q : List ℕ) → namers_in tables.new q
-        ≡ listed_groups key field q 0 (groups_of field stanza.now) (namers_in tables.old q)) }
+    ensures namers { OnOk result ((q : List ℕ) (f : Namer → ℕ) → sum_by f (namers_in tables.new q)
+        ≡ sum_by f (namers_in tables.old q) + sum_by (atom_named q f) (keyed_groups key field 0 (groups_of field stanza.now))) }
     ensures offers { OnOk result (offers_in tables.new ≡ offers_in tables.old) }
     ensures rows { OnOk result (rows_in tables.new ≡ rows_in tables.old) }
     ensures counts { OnOk result ((k : ClauseKey) → number_told tables.new k
-        ≡ entered_groups sight.now (offers_in tables.old) key field 0 (groups_of field stanza.now) k (number_told tables.old k)) }
+        ≡ number_with sight.now (offers_in tables.old) field (group_named key field (groups_of field stanza.now) k)
+        (number_told tables.old k)) }
     ensures steps { OnOk result (HasTested (groups_tested sight.now field (offers_in tables.old)
         (groups_of field stanza.now)) tables.old tables.new) }
     ensures most { TestsAtMost (groups_tested sight.now field (offers_in tables.old) (groups_of field stanza.now)) tables.old tables.new }
@@ -204,7 +219,7 @@ fn put_field(
     put_groups(sight, key, field, groups, tables)
 }
 
-// The groups of these fields.
+// The groups of the eight fields.
 fn put_fields(
     sight: &Sight<'_>,
     key: StanzaKey,
@@ -212,12 +227,13 @@ fn put_fields(
     fields: &[FieldKind],
     tables: &mut Tables,
 ) -> Result<(), AllocError>
-    ensures namers { OnOk result ((q : List ℕ) → namers_in tables.new q
-        ≡ listed_fields key stanza.now q fields.now (namers_in tables.old q)) }
+    requires { fields.now ≡ naming_fields }
+    ensures namers { OnOk result ((q : List ℕ) (f : Namer → ℕ) → sum_by f (namers_in tables.new q)
+        ≡ sum_by f (namers_in tables.old q) + sum_by (atom_named q f) (keyed_atoms (key, stanza.now))) }
     ensures offers { OnOk result (offers_in tables.new ≡ offers_in tables.old) }
     ensures rows { OnOk result (rows_in tables.new ≡ rows_in tables.old) }
     ensures counts { OnOk result ((k : ClauseKey) → number_told tables.new k
-        ≡ entered_fields sight.now (offers_in tables.old) key stanza.now fields.now k (number_told tables.old k)) }
+        ≡ number_with sight.now (offers_in tables.old) k.field (clause_at k ((key, stanza.now) ∷ [])) (number_told tables.old k)) }
     ensures steps { OnOk result (HasTested (fields_tested sight.now (offers_in tables.old) fields.now stanza.now) tables.old tables.new) }
     ensures most { TestsAtMost (fields_tested sight.now (offers_in tables.old) fields.now stanza.now) tables.old tables.new }
     ensures least { tables.old.steps ≤ tables.new.steps }
@@ -231,11 +247,13 @@ fn put_fields(
 
 // The atoms of the stanza under a key, if there is one.
 fn put_atoms_at(sight: &Sight<'_>, key: StanzaKey, tables: &mut Tables) -> Result<(), AllocError>
-    ensures namers { OnOk result ((q : List ℕ) → namers_in tables.new q ≡ namers_put sight.now (key ∷ []) tables.old q) }
+    ensures namers { OnOk result ((q : List ℕ) (f : Namer → ℕ) → sum_by f (namers_in tables.new q)
+        ≡ sum_by f (namers_in tables.old q) + namers_sum q f (entries_seen sight.now (key ∷ []))) }
     ensures offers { OnOk result (offers_in tables.new ≡ offers_in tables.old) }
     ensures rows { OnOk result (rows_in tables.new ≡ rows_in tables.old) }
     ensures counts { OnOk result ((k : ClauseKey) → number_told tables.new k
-        ≡ number_entered sight.now (offers_in tables.old) (key ∷ []) k (number_told tables.old k)) }
+        ≡ number_with sight.now (offers_in tables.old) k.field (clause_at k (entries_seen sight.now (key ∷ [])))
+        (number_told tables.old k)) }
     ensures steps { OnOk result (HasTested (atoms_tested_at sight.now (offers_in tables.old) key) tables.old tables.new) }
     ensures most { TestsAtMost (atoms_tested_at sight.now (offers_in tables.old) key) tables.old tables.new }
     ensures least { tables.old.steps ≤ tables.new.steps }
@@ -249,11 +267,13 @@ fn put_atoms_at(sight: &Sight<'_>, key: StanzaKey, tables: &mut Tables) -> Resul
 
 // The atoms of the stanzas under these keys, and the clauses that come with them, which wait to be entered.
 fn list_atoms(sight: &Sight<'_>, keys: &[StanzaKey], tables: &mut Tables) -> Result<(), AllocError>
-    ensures namers { OnOk result ((q : List ℕ) → namers_in tables.new q ≡ namers_put sight.now keys.now tables.old q) }
+    ensures namers { OnOk result ((q : List ℕ) (f : Namer → ℕ) → sum_by f (namers_in tables.new q)
+        ≡ sum_by f (namers_in tables.old q) + namers_sum q f (entries_seen sight.now keys.now)) }
     ensures offers { OnOk result (offers_in tables.new ≡ offers_in tables.old) }
     ensures rows { OnOk result (rows_in tables.new ≡ rows_in tables.old) }
-    ensures counts { OnOk result ((k : ClauseKey) → number_told tables.new k
-        ≡ number_entered sight.now (offers_in tables.old) keys.now k (number_told tables.old k)) }
+    ensures counts { OnOk result (ComeApart sight.now keys.now → (k : ClauseKey) → number_told tables.new k
+        ≡ number_with sight.now (offers_in tables.old) k.field (clause_at k (entries_seen sight.now keys.now))
+        (number_told tables.old k)) }
     ensures steps { OnOk result (HasTested (atoms_tested sight.now (offers_in tables.old) keys.now) tables.old tables.new) }
     ensures most { TestsAtMost (atoms_tested sight.now (offers_in tables.old) keys.now) tables.old tables.new }
     ensures least { tables.old.steps ≤ tables.new.steps }
@@ -272,11 +292,12 @@ pub(crate) fn put_atoms(
     keys: &[StanzaKey],
     tables: &mut Tables,
 ) -> Result<(), AllocError>
-    ensures namers { OnOk result ((q : List ℕ) → namers_in tables.new q ≡ namers_put sight.now keys.now tables.old q) }
+    ensures namers { OnOk result ((q : List ℕ) (f : Namer → ℕ) → sum_by f (namers_in tables.new q)
+        ≡ sum_by f (namers_in tables.old q) + namers_sum q f (entries_seen sight.now keys.now)) }
     ensures offers { OnOk result (offers_in tables.new ≡ offers_in tables.old) }
     ensures rows { OnOk result (rows_in tables.new ≡ rows_in tables.old) }
-    ensures counts { OnOk result ((k : ClauseKey) → number_in tables.new k
-        ≡ number_entered sight.now (offers_in tables.old) keys.now k (number_in tables.old k)) }
+    ensures counts { OnOk result (ComeApart sight.now keys.now → (k : ClauseKey) → number_in tables.new k
+        ≡ number_with sight.now (offers_in tables.old) k.field (clause_at k (entries_seen sight.now keys.now)) (number_in tables.old k)) }
     ensures steps { OnOk result (HasTested (atoms_tested sight.now (offers_in tables.old) keys.now) tables.old tables.new) }
     ensures most { TestsAtMost (atoms_tested sight.now (offers_in tables.old) keys.now) tables.old tables.new }
     ensures least { tables.old.steps ≤ tables.new.steps }

@@ -1,15 +1,17 @@
-//! A list comes: all its stanzas at once.
+//! Stanzas come: all that come with an edit at once.
 
 ghost use Rattle.std.specs.Prelude.{◌≤◌, OnOk};
 ghost use Rattle.ctl_index.specs.Inside.TablesHeld.{HasTested, TestsAtMost};
-ghost use Rattle.ctl_index.specs.Inside.TablesIndexed.{tests_put_in};
-ghost use Rattle.ctl_index.specs.Inside.TablesLoaded.{ComeApart, IsLoaded};
+ghost use Rattle.ctl_index.specs.Inside.TablesLoaded.{ComeApart, IsLoaded, tests_put_in};
 
+use crate::coming::{put_atoms, put_offers};
+use crate::rows::put_rows;
 use crate::sight::Sight;
-use crate::tables::{Tables, put_all};
+use crate::tables::Tables;
 use ctl_store::StanzaKey;
 use std::alloc::AllocError;
 
+#[tactic(auto, using(crate::proofs::SeenLemmas::tests_come))]
 /// The stanzas under these keys come. What then stands under a name is told by sums, whatever the order in which it is entered.
 pub(crate) fn put_list(
     sight: &Sight<'_>,
@@ -21,6 +23,8 @@ pub(crate) fn put_list(
     ensures most { TestsAtMost (tests_put_in sight.now keys.now tables.old) tables.old tables.new }
     ensures least { tables.old.steps ≤ tables.new.steps }
 {
-    put_all(sight, keys, tables)?;
+    put_offers(sight, keys, tables)?;
+    put_atoms(sight, keys, tables)?;
+    put_rows(sight, keys, &mut tables.names)?;
     Ok(())
 }

@@ -10,12 +10,13 @@ ghost use Rattle.std.specs.List.Sorted.{IsStrictlySortedBy};
 ghost use Rattle.std.specs.Str.{bytes_eq};
 ghost use Rattle.ctl_policy.specs.Kept.{HasPut, HasTaken, OthersStay};
 ghost use Rattle.ctl_index.specs.Clauses.{clause_cmp};
-ghost use Rattle.ctl_index.specs.Inside.TablesByName.{at_name, HoldsNothing, offers_under, namers_under, rows_under, AreUsed, is_used, named_namers, named_offers, named_rows, namers_with, namers_without, offers_with, offers_without};
+ghost use Rattle.ctl_index.specs.Inside.TablesByName.{at_name, HoldsNothing, offers_under, namers_under, rows_under, AreUsed, is_used, named_namers, named_offers, named_rows, namers_without, offers_without};
 ghost use Rattle.ctl_index.specs.Inside.TablesSight.{atom_met, atom_tested};
 ghost use Rattle.ctl_index.specs.Inside.NameMap.{entry_names, found_in};
 ghost use Rattle.ctl_index.specs.Inside.TablesViews.{AreFrom};
 ghost use Rattle.ctl_index.specs.Inside.TablesOrder.{namer_of};
-ghost use Rattle.ctl_index.specs.Inside.TablesSteps.{lowered, offer_tested, raised};
+ghost use Rattle.ctl_index.specs.Inside.TablesCounters.{counted_up};
+ghost use Rattle.ctl_index.specs.Inside.TablesSteps.{lowered, offer_hits, offer_tested};
 ghost use Rattle.ctl_index.specs.Work.{more_by};
 ghost use Rattle.ctl_index.specs.declared.keys.ClauseKey.{ClauseKey};
 
@@ -140,12 +141,13 @@ impl NameTable {
         counters: &mut Counters,
         steps: &mut Steps,
     ) -> Result<(), AllocError>
-        ensures offers { OnOk result ((q : List ℕ) → offers_under self.new.map q
-            ≡ offers_with self.old.map coming.entry.offer.now.name coming.entry.key q) }
+        ensures offers { OnOk result ((q : List ℕ) (f : OfferKey → ℕ) → sum_by f (offers_under self.new.map q)
+            ≡ sum_by f (offers_under self.old.map q) + (if bytes_eq coming.entry.offer.now.name q then f coming.entry.key else 0)) }
         ensures namers { OnOk result ((q : List ℕ) → namers_under self.new.map q ≡ namers_under self.old.map q) }
         ensures rows { OnOk result ((q : List ℕ) → rows_under self.new.map q ≡ rows_under self.old.map q) }
         ensures counts { OnOk result ((k : ClauseKey) → get clause_cmp counters.new.numbers k
-            ≡ raised sight.now (namers_under self.old.map) (coming.entry.offer.now ∷ []) k (get clause_cmp counters.old.numbers k)) }
+            ≡ option_map (counted_up (offer_hits sight.now (namers_under self.old.map) coming.entry.offer.now k))
+            (get clause_cmp counters.old.numbers k)) }
         ensures steps { OnOk result (steps.new
             ≡ more_by (offer_tested sight.now (namers_under self.old.map) coming.entry.offer.now) steps.old) }
         ensures most { steps.new ≤ more_by (offer_tested sight.now (namers_under self.old.map) coming.entry.offer.now) steps.old }
@@ -184,8 +186,8 @@ impl NameTable {
         atom: &Atom<'_>,
         steps: &mut Steps,
     ) -> Result<usize, AllocError>
-        ensures namers { OnOk result ((q : List ℕ) → namers_under self.new.map q
-            ≡ namers_with self.old.map atom.now.name (namer_of key atom.now) q) }
+        ensures namers { OnOk result ((q : List ℕ) (f : Namer → ℕ) → sum_by f (namers_under self.new.map q)
+            ≡ sum_by f (namers_under self.old.map q) + (if bytes_eq atom.now.name q then f (namer_of key atom.now) else 0)) }
         ensures offers { OnOk result ((q : List ℕ) → offers_under self.new.map q ≡ offers_under self.old.map q) }
         ensures rows { OnOk result ((q : List ℕ) → rows_under self.new.map q ≡ rows_under self.old.map q) }
         ensures met { IfOk result (λ met. met ≡ atom_met sight.now key.field atom.now (offers_under self.old.map atom.now.name)) }

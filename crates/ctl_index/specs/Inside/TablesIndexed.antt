@@ -1,6 +1,6 @@
--- Of the tables alone: tables that hold what the stanzas under keys have, and what stanzas that come or go make of them.
+-- Of the tables alone: tables that hold what the stanzas under keys have, and what stanzas that go make of them.
 use Rattle.std.specs.Prelude.{◌≡◌, ℕ, suc, ◌+◌, List, [], ◌∷◌, Option, if◌then◌else◌}
-use Rattle.std.specs.List.{All, sum_by}
+use Rattle.std.specs.List.{sum_by}
 use Rattle.std.specs.Str.{bytes_eq}
 use Rattle.ctl_relation.specs.Parts.{AtomParts, OfferParts}
 use Rattle.ctl_stanza.specs.Content.{offers_of}
@@ -15,12 +15,12 @@ use Rattle.ctl_index.specs.declared.tables.Tables.{Tables}
 use Rattle.ctl_index.specs.Clauses.{number_at}
 use Rattle.ctl_index.specs.Names.{keyed_atoms}
 use Rattle.ctl_index.specs.Inside.TablesHeld.{offers_in, namers_in, number_in}
-use Rattle.ctl_index.specs.Inside.TablesFit.{IsWholeAt, AreWhole}
+use Rattle.ctl_index.specs.Inside.TablesFit.{AreWhole}
 use Rattle.ctl_index.specs.Inside.TablesOrder.{namer_of}
-use Rattle.ctl_index.specs.Inside.TablesRows.{AreKept, AreRowsPut, AreRowsTaken}
+use Rattle.ctl_index.specs.Inside.TablesRows.{AreKept, AreRowsTaken}
 use Rattle.ctl_index.specs.Inside.TablesSight.{Seen, seen}
-use Rattle.ctl_index.specs.Inside.TablesSteps.{with_each, span_of, put_offers_step, put_atoms_step, take_offers_step, take_atoms_step}
-use Rattle.ctl_index.specs.Inside.TablesSteps.{raise_step, lower_step, enter_step, drop_step, offers_tested, atoms_tested}
+use Rattle.ctl_index.specs.Inside.TablesSteps.{with_each, span_of, take_offers_step, take_atoms_step}
+use Rattle.ctl_index.specs.Inside.TablesSteps.{lower_step, drop_step, offers_tested, atoms_tested}
 
 abbrev pub keyed_offers_from : StanzaKey → ℕ → List OfferParts → List (OfferKey × OfferParts)
 keyed_offers_from key n [] = []
@@ -53,38 +53,6 @@ pub record IsIndexed (es : List Entry) (t : Tables) : Type 0 where
   pub counters : (k : ClauseKey) → number_in t k ≡ number_at k es
   pub rows : AreKept es t.names.map
   pub whole : AreWhole es
-
--- ---- stanzas that come
-
--- what stands under a name once they came
-abbrev pub offers_put : Seen → List StanzaKey → Tables → List ℕ → List OfferKey
-offers_put s keys old q = with_each (seen s) (put_offers_step q) keys (offers_in old q)
-
-abbrev pub namers_put : Seen → List StanzaKey → Tables → List ℕ → List Namer
-namers_put s keys old q = with_each (seen s) (put_atoms_step q) keys (namers_in old q)
-
--- the number of a clause that stood, once offers came that meet its atoms
-abbrev pub number_raised : Seen → List StanzaKey → Tables → ClauseKey → Option ℕ
-number_raised s keys old k = with_each (seen s) (raise_step s (namers_in old) k) keys (number_in old k)
-
--- that of a clause, once those came that have their number by these offers
-abbrev pub number_entered : Seen → (List ℕ → List OfferKey) → List StanzaKey → ClauseKey → Option ℕ → Option ℕ
-number_entered s offers keys k old = with_each (seen s) (enter_step s offers k) keys old
-
--- that of one that stood is raised, and those that come have theirs
-abbrev pub number_put : Seen → List StanzaKey → Tables → ClauseKey → Option ℕ
-number_put s keys old k = number_entered s (offers_put s keys old) keys k (number_raised s keys old k)
-
-pub record IsPutIn (s : Seen) (keys : List StanzaKey) (old new : Tables) : Type 0 where
-  pub offers : (q : List ℕ) → offers_in new q ≡ offers_put s keys old q
-  pub namers : (q : List ℕ) → namers_in new q ≡ namers_put s keys old q
-  pub counters : (k : ClauseKey) → number_in new k ≡ number_put s keys old k
-  pub rows : AreRowsPut s keys old.names.map new.names.map
-  pub whole : All (IsWholeAt (seen s)) keys
-
--- how many tests are made
-abbrev pub tests_put_in : Seen → List StanzaKey → Tables → ℕ
-tests_put_in s keys old = offers_tested s (namers_in old) keys + atoms_tested s (offers_put s keys old) keys
 
 -- ---- stanzas that go
 

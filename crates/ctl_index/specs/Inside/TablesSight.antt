@@ -9,7 +9,7 @@ use Rattle.ctl_relation.specs.Met.{met}
 use Rattle.ctl_stanza.specs.Content.{Content, groups_of, offers_of}
 use Rattle.ctl_store.specs.declared.stanza_key.StanzaKey.{StanzaKey}
 use Rattle.ctl_store.specs.Keys.{stanza_at}
-use Rattle.ctl_store.specs.Entries.{Entry}
+use Rattle.ctl_store.specs.Entries.{Entry, entries_by}
 use Rattle.ctl_store.specs.Followed.{coming_under}
 use Rattle.ctl_store.specs.Store.{Held, keyed_of}
 use Rattle.ctl_store.specs.Plans.{Planned}
@@ -32,6 +32,10 @@ come_with plan k = option_and_then (λ (p : Planned). coming_under p.added p.edi
 
 abbrev pub seen : Seen → StanzaKey → Option Content
 seen s k = option_or (come_with s.plan k) (stanza_at k (keyed_of s.store).lists)
+
+-- the stanzas that are seen under keys
+abbrev pub entries_seen : Seen → List StanzaKey → List Entry
+entries_seen s keys = entries_by (seen s) keys
 
 abbrev pub offer_seen : Seen → OfferKey → Option OfferParts
 offer_seen s k = option_and_then (λ x. slice_get (offers_of x) k.place) (seen s k.stanza)

@@ -11,44 +11,14 @@ use Rattle.ctl_store.specs.declared.stanza_key.StanzaKey.{StanzaKey}
 use Rattle.ctl_store.specs.Keys.{key_of}
 use Rattle.ctl_policy.specs.Keys.{with_key, without_key, or_none, some_keys}
 use Rattle.ctl_policy.specs.Rows.{is_in_row}
-use Rattle.ctl_index.specs.declared.keys.AtomKey.{AtomKey}
 use Rattle.ctl_index.specs.declared.keys.ClauseKey.{ClauseKey}
 use Rattle.ctl_index.specs.declared.keys.Namer.{Namer}
 use Rattle.ctl_index.specs.declared.keys.OfferKey.{OfferKey}
 use Rattle.ctl_index.specs.declared.span.Span.{Span}
-use Rattle.ctl_index.specs.Inside.TablesCounters.{counted_up}
-use Rattle.ctl_index.specs.Inside.TablesOrder.{offer_stanza, namer_of, namer_stanza, put_in_order, others}
+use Rattle.ctl_index.specs.Inside.TablesOrder.{offer_stanza, namer_stanza, others}
 use Rattle.ctl_index.specs.Clauses.{is_clause_field, clause_cmp}
-use Rattle.ctl_index.specs.Names.{atom_key, naming_fields}
+use Rattle.ctl_index.specs.Names.{naming_fields}
 use Rattle.ctl_index.specs.Inside.TablesSight.{Seen, seen, hit, tested, atom_met, atom_tested}
-
--- ---- what comes under a name q
-
-abbrev pub with_offer : OfferKey → List ℕ → OfferParts → List OfferKey → List OfferKey
-with_offer key q offer xs = if bytes_eq offer.name q then put_in_order offer_stanza key xs else xs
-
-abbrev pub with_atom : AtomKey → List ℕ → AtomParts → List Namer → List Namer
-with_atom key q atom xs = if bytes_eq atom.name q then put_in_order namer_stanza (namer_of key atom) xs else xs
-
-abbrev pub offer_key : StanzaKey → ℕ → OfferKey
-offer_key key n = record { stanza = key; place = n }
-
-abbrev pub listed_offers : StanzaKey → List ℕ → ℕ → List OfferParts → List OfferKey → List OfferKey
-listed_offers key q n [] xs = xs
-listed_offers key q n (offer ∷ offers) xs = listed_offers key q (suc n) offers (with_offer (offer_key key n) q offer xs)
-
-abbrev pub listed_group : StanzaKey → FieldKind → ℕ → List ℕ → ℕ → List AtomParts → List Namer → List Namer
-listed_group key field group q n [] xs = xs
-listed_group key field group q n (atom ∷ atoms) xs =
-    listed_group key field group q (suc n) atoms (with_atom (atom_key key field group n) q atom xs)
-
-abbrev pub listed_groups : StanzaKey → FieldKind → List ℕ → ℕ → List (List AtomParts) → List Namer → List Namer
-listed_groups key field q n [] xs = xs
-listed_groups key field q n (group ∷ groups) xs = listed_groups key field q (suc n) groups (listed_group key field n q 0 group xs)
-
-abbrev pub listed_fields : StanzaKey → Content → List ℕ → List FieldKind → List Namer → List Namer
-listed_fields key stanza q [] xs = xs
-listed_fields key stanza q (field ∷ fields) xs = listed_fields key stanza q fields (listed_groups key field q 0 (groups_of field stanza) xs)
 
 -- ---- what goes under a name q: all that is of a span of keys, once a stanza of it names q
 
@@ -94,23 +64,9 @@ is_clause group k = is_clause_field group.field && is_eq (clause_cmp group k)
 abbrev pub group_clause : StanzaKey → FieldKind → ℕ → ClauseKey
 group_clause key field n = record { stanza = key; field = field; group = n }
 
--- the number of a clause, once a group came with its own, or went
-abbrev pub with_number : ClauseKey → ℕ → ClauseKey → Option ℕ → Option ℕ
-with_number group n k old = if is_clause group k then Some n else old
-
+-- the number of a clause, once a group went
 abbrev pub without_number : ClauseKey → ClauseKey → Option ℕ → Option ℕ
 without_number group k old = if is_clause group k then None else old
-
-abbrev pub entered_groups : Seen → OffersByName → StanzaKey → FieldKind → ℕ → List (List AtomParts) → ClauseKey → Option ℕ → Option ℕ
-entered_groups s offers key field n [] k old = old
-entered_groups s offers key field n (group ∷ groups) k old =
-    entered_groups s offers key field (suc n) groups k
-    (with_number (group_clause key field n) (group_met s field offers group) k old)
-
-abbrev pub entered_fields : Seen → (List ℕ → List OfferKey) → StanzaKey → Content → List FieldKind → ClauseKey → Option ℕ → Option ℕ
-entered_fields s offers key stanza [] k old = old
-entered_fields s offers key stanza (field ∷ fields) k old =
-    entered_fields s offers key stanza fields k (entered_groups s offers key field 0 (groups_of field stanza) k old)
 
 abbrev pub dropped_groups : StanzaKey → FieldKind → ℕ → List (List AtomParts) → ClauseKey → Option ℕ → Option ℕ
 dropped_groups key field n [] k old = old
@@ -127,10 +83,6 @@ dropped_fields key stanza (field ∷ fields) k old =
 -- how many of the atoms that name an offer meet it, and are of a clause
 abbrev pub offer_hits : Seen → (List ℕ → List Namer) → OfferParts → ClauseKey → ℕ
 offer_hits s namers offer k = sum_by (hit s offer k) (namers offer.name)
-
-abbrev pub raised : Seen → (List ℕ → List Namer) → List OfferParts → ClauseKey → Option ℕ → Option ℕ
-raised s namers [] k old = old
-raised s namers (offer ∷ offers) k old = raised s namers offers k (option_map (counted_up (offer_hits s namers offer k)) old)
 
 abbrev pub lowered : Seen → (List ℕ → List Namer) → List OfferParts → ClauseKey → Option ℕ → Option ℕ
 lowered s namers [] k old = old
@@ -158,12 +110,6 @@ with_each find step (key ∷ keys) a = with_each find step keys (with_found find
 abbrev pub of_found : (StanzaKey → Option Content) → (Content → ℕ) → StanzaKey → ℕ
 of_found find f key = option_map_or f (find key) 0
 
-abbrev pub put_offers_step : List ℕ → StanzaKey → Content → List OfferKey → List OfferKey
-put_offers_step q key x xs = listed_offers key q 0 (offers_of x) xs
-
-abbrev pub put_atoms_step : List ℕ → StanzaKey → Content → List Namer → List Namer
-put_atoms_step q key x xs = listed_fields key x q naming_fields xs
-
 abbrev pub take_offers_step : Span → List ℕ → StanzaKey → Content → List OfferKey → List OfferKey
 take_offers_step span q key x xs = left_offers span q (offers_of x) xs
 
@@ -177,14 +123,8 @@ put_rows_step q version key x row = if is_in_row q version x then Some (with_key
 abbrev pub take_rows_step : List ℕ → List ℕ → StanzaKey → Content → Option (List StanzaKey) → Option (List StanzaKey)
 take_rows_step q version key x row = if is_in_row q version x then some_keys (without_key key (or_none row)) else row
 
-abbrev pub raise_step : Seen → (List ℕ → List Namer) → ClauseKey → StanzaKey → Content → Option ℕ → Option ℕ
-raise_step s namers k key x old = raised s namers (offers_of x) k old
-
 abbrev pub lower_step : Seen → (List ℕ → List Namer) → ClauseKey → StanzaKey → Content → Option ℕ → Option ℕ
 lower_step s namers k key x old = lowered s namers (offers_of x) k old
-
-abbrev pub enter_step : Seen → (List ℕ → List OfferKey) → ClauseKey → StanzaKey → Content → Option ℕ → Option ℕ
-enter_step s offers k key x old = entered_fields s offers key x naming_fields k old
 
 abbrev pub drop_step : ClauseKey → StanzaKey → Content → Option ℕ → Option ℕ
 drop_step k key x old = dropped_fields key x naming_fields k old

@@ -1,16 +1,23 @@
-use Rattle.std.proofs.Common.{◌≡◌, ℕ, List, drop, take}
+use Rattle.std.proofs.Common.{◌≡◌, ◌+◌, ℕ, List, drop, take}
+use Rattle.std.specs.List.{sum_by}
 use Rattle.ctl_index.specs.declared.keys.ClauseKey.{ClauseKey}
+use Rattle.ctl_index.specs.declared.keys.Namer.{Namer}
+use Rattle.ctl_index.specs.Clauses.{clause_at}
 use Rattle.ctl_index.specs.Inside.TablesHeld.{offers_in, namers_in, rows_in, number_told}
-use Rattle.ctl_index.specs.Inside.TablesSight.{seen}
-use Rattle.ctl_index.specs.Inside.TablesSteps.{with_each, put_atoms_step, enter_step, atoms_tested}
+use Rattle.ctl_index.specs.Inside.TablesIndexed.{namers_sum}
+use Rattle.ctl_index.specs.Inside.TablesLoaded.{ComeApart, number_with}
+use Rattle.ctl_index.specs.Inside.TablesSight.{entries_seen}
+use Rattle.ctl_index.specs.Inside.TablesSteps.{atoms_tested}
 use Rattle.ctl_index.specs.Work.{more_by}
 use Rattle.ctl_index.proofs.coming.list_atoms.Given as goal
 
+-- what is left to do with the stanzas that are left comes to what all come to
 abbrev pub invariant-loop-key : goal.invariant-loop-key
 invariant-loop-key l = record {
-  namers : (q : List ℕ) → with_each (seen l.fn.sight) (put_atoms_step q) (drop l.key-index l.fn.keys) (namers_in l.tables q) ≡ with_each (seen l.fn.sight) (put_atoms_step q) l.fn.keys (namers_in l.fn.tables q);
+  namers : (q : List ℕ) (f : Namer → ℕ) → sum_by f (namers_in l.tables q) ≡ sum_by f (namers_in l.fn.tables q) + namers_sum q f (entries_seen l.fn.sight (take l.key-index l.fn.keys));
   offers : offers_in l.tables ≡ offers_in l.fn.tables;
   rows : rows_in l.tables ≡ rows_in l.fn.tables;
-  counts : (k : ClauseKey) → with_each (seen l.fn.sight) (enter_step l.fn.sight (offers_in l.fn.tables) k) (drop l.key-index l.fn.keys) (number_told l.tables k) ≡ with_each (seen l.fn.sight) (enter_step l.fn.sight (offers_in l.fn.tables) k) l.fn.keys (number_told l.fn.tables k);
+  apart : ComeApart l.fn.sight l.fn.keys → ComeApart l.fn.sight (drop l.key-index l.fn.keys);
+  counts : ComeApart l.fn.sight l.fn.keys → (k : ClauseKey) → number_with l.fn.sight (offers_in l.fn.tables) k.field (clause_at k (entries_seen l.fn.sight (drop l.key-index l.fn.keys))) (number_told l.tables k) ≡ number_with l.fn.sight (offers_in l.fn.tables) k.field (clause_at k (entries_seen l.fn.sight l.fn.keys)) (number_told l.fn.tables k);
   steps : l.tables.steps ≡ more_by (atoms_tested l.fn.sight (offers_in l.fn.tables) (take l.key-index l.fn.keys)) l.fn.tables.steps;
 }

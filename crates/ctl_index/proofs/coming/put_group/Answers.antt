@@ -1,11 +1,14 @@
 use Rattle.std.proofs.Common.{◌≡◌, ℕ, suc, ◌∷◌, List, ap, sym, ◌∙◌, ◌+◌, length, arith}
+use Rattle.std.specs.List.{sum_by}
 use Rattle.std.proofs.lemmas.List.Sums.{sum_by-cons}
 use Rattle.ctl_relation.specs.Parts.{AtomParts}
 use Rattle.ctl_index.specs.declared.keys.AtomKey.{AtomKey}
 use Rattle.ctl_index.specs.declared.keys.OfferKey.{OfferKey}
-use Rattle.ctl_index.specs.Inside.TablesByName.{offers_under, namers_under}
+use Rattle.ctl_index.specs.Inside.TablesByName.{offers_under}
+use Rattle.ctl_index.specs.Inside.TablesIndexed.{atom_named}
 use Rattle.ctl_index.specs.Inside.TablesSight.{atom_met, atom_tested}
-use Rattle.ctl_index.specs.Inside.TablesSteps.{listed_group, group_met, group_tested}
+use Rattle.ctl_index.specs.Inside.TablesSteps.{group_met, group_tested}
+use Rattle.ctl_index.specs.Names.{keyed_group}
 use Rattle.ctl_index.proofs.coming.put_group.Goals as goal
 
 pub loop-atom-preserved : goal.loop-atom-preserved
@@ -25,12 +28,13 @@ loop-atom-preserved c =
     let one_met : atom_met s k.field a (offers_under c.loop-atom.names.map a.name) ≡ atom_met s k.field a (t a.name) = ap (λ (u : List ℕ → List OfferKey). atom_met s k.field a (u a.name)) c.loop-atom.invariant.offers in
     let one : atom_tested s k.field (offers_under c.loop-atom.names.map a.name) ≡ atom_tested s k.field (t a.name) = ap (λ (u : List ℕ → List OfferKey). atom_tested s k.field (u a.name)) c.loop-atom.invariant.offers in
     record {
-      namers = λ q.
-          let now = namers_under c.loop-atom.names.map q in
-          let z : p + 1 ≡ suc p = omega arith in
-          ap (λ n. listed_group k.stanza k.field k.group q n rest (namers_under c.put_atom.new.self.map q)) z
-          ∙ ap (listed_group k.stanza k.field k.group q (suc p) rest) (c.in_ok-met.ensures.namers q)
-          ∙ sym (ap (λ ps. listed_group k.stanza k.field k.group q p ps now) left) ∙ c.loop-atom.invariant.namers q;
+      namers = λ q f.
+          let F : AtomKey × AtomParts → ℕ = atom_named q f in
+          let z : suc p ≡ p + 1 = omega arith in
+          let more : sum_by F (keyed_group k.stanza k.field k.group p c.loop-atom.atom-iterator) ≡ F (key, a) + sum_by F (keyed_group k.stanza k.field k.group (p + 1) rest) =
+          ap (λ ps. sum_by F (keyed_group k.stanza k.field k.group p ps)) left ∙ sum_by-cons F (key, a) (keyed_group k.stanza k.field k.group (suc p) rest)
+          ∙ (λ j. F (key, a) + sum_by F (keyed_group k.stanza k.field k.group (z j) rest)) in
+          omega (arith, c.in_ok-met.ensures.namers q f, more, c.loop-atom.invariant.namers q f);
       offers = (λ j q. c.in_ok-met.ensures.offers q j) ∙ c.loop-atom.invariant.offers;
       rows = (λ j q. c.in_ok-met.ensures.rows q j) ∙ c.loop-atom.invariant.rows;
       met = omega (arith, met, one_met, c.in_ok-met.ensures.met, c.loop-atom.invariant.met);

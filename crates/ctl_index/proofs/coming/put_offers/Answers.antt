@@ -1,15 +1,20 @@
-use Rattle.std.proofs.Common.{◌≡◌, ◌<◌, ◌+◌, List, ℕ, length, take, drop, ap, sym, ◌∙◌, arith, get_or, rules}
-use Rattle.std.proofs.lemmas.List.{at_drop_more}
+use Rattle.std.proofs.Common.{◌≡◌, ◌<◌, ◌+◌, List, [], ◌∷◌, ℕ, length, take, option_map, ap, sym, ◌∙◌, arith, get_or, rules}
+use Rattle.std.specs.List.{sum_by}
 use Rattle.std.proofs.lemmas.List.Sums.{sum_by_more, sum_by_more_le}
 use Rattle.ctl_store.specs.declared.stanza_key.StanzaKey.{StanzaKey}
 use Rattle.ctl_index.specs.declared.keys.Namer.{Namer}
-use Rattle.ctl_index.specs.Inside.TablesHeld.{offers_in, namers_in, number_in}
+use Rattle.ctl_index.specs.Offers.{contents, offers_among}
+use Rattle.ctl_index.specs.Inside.TablesCounters.{counted_up}
+use Rattle.ctl_index.specs.Inside.TablesHeld.{namers_in, number_in}
 use Rattle.ctl_index.specs.Inside.TablesFit.{IsWholeAt}
-use Rattle.ctl_index.specs.Inside.TablesSight.{seen}
-use Rattle.ctl_index.specs.Inside.TablesSteps.{with_each, with_found, of_found, offers_tests, offers_tested, put_offers_step, raise_step}
+use Rattle.ctl_index.specs.Inside.TablesIndexed.{keyed_offers, offer_named}
+use Rattle.ctl_index.specs.Inside.TablesLoaded.{all_hits}
+use Rattle.ctl_index.specs.Inside.TablesSight.{seen, entries_seen}
+use Rattle.ctl_index.specs.Inside.TablesSteps.{of_found, offer_hits, offers_tests, offers_tested}
 use Rattle.ctl_index.specs.Work.{more_by}
-use Rattle.ctl_index.proofs.CounterLemmas.{more_by_twice}
+use Rattle.ctl_index.proofs.CounterLemmas.{counted_up_none, counted_up_twice, more_by_twice}
 use Rattle.ctl_index.proofs.FitLemmas.{one_more}
+use Rattle.ctl_index.proofs.SumLemmas.{come_more, offers_more}
 use Rattle.ctl_index.proofs.coming.put_offers.Goals as goal
 
 pub returns-in_err-put_offers_at-clause-most : goal.returns-in_err-put_offers_at-clause-most
@@ -35,17 +40,15 @@ loop-key-preserved c =
     let t = namers_in c.args.tables.now in
     record {
       whole = one_more (IsWholeAt (seen s)) keys i d below c.loop-key.invariant.whole c.in_ok-put_offers_at.ensures.whole;
-      offers = λ q.
-          let now = offers_in c.loop-key.tables q in
-          ap (with_each (seen s) (put_offers_step q) (drop (i + 1) keys)) (c.in_ok-put_offers_at.ensures.offers q)
-          ∙ sym (at_drop_more (λ ks. with_each (seen s) (put_offers_step q) ks now) keys i d below) ∙ c.loop-key.invariant.offers q;
+      offers = λ q f. omega (arith, c.in_ok-put_offers_at.ensures.offers q f, c.loop-key.invariant.offers q f, come_more (seen s) (λ e. sum_by (offer_named q f) (keyed_offers e)) keys i d below);
       namers = search rules;
       rows = search rules;
       counts = λ k.
-          let now = number_in c.loop-key.tables k in
-          ap (with_each (seen s) (raise_step s t k) (drop (i + 1) keys)) (c.in_ok-put_offers_at.ensures.counts k
-          ∙ ap (λ (u : List ℕ → List Namer). with_found (seen s) (raise_step s u k) key now) c.loop-key.invariant.namers)
-          ∙ sym (at_drop_more (λ ks. with_each (seen s) (raise_step s t k) ks now) keys i d below) ∙ c.loop-key.invariant.counts k;
+          let was = number_in c.args.tables.now k in
+          c.in_ok-put_offers_at.ensures.counts k
+          ∙ (λ j. option_map (counted_up (all_hits s (c.loop-key.invariant.namers j) (offers_among (contents (entries_seen s (key ∷ [])))) k)) (c.loop-key.invariant.counts k j))
+          ∙ counted_up_twice (all_hits s t (offers_among (contents (entries_seen s (take i keys)))) k) (all_hits s t (offers_among (contents (entries_seen s (key ∷ [])))) k) was
+          ∙ ap (λ n. option_map (counted_up n) was) (sym (offers_more (seen s) (λ o. offer_hits s t o k) keys i d below));
       steps =
           c.in_ok-put_offers_at.ensures.steps ∙ ap (λ (u : List ℕ → List Namer). more_by (of_found (seen s) (offers_tests s u) key) c.loop-key.tables.steps) c.loop-key.invariant.namers
           ∙ ap (more_by _) c.loop-key.invariant.steps ∙ more_by_twice (offers_tested s t (take i keys)) _ c.args.tables.now.steps

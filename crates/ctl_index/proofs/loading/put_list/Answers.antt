@@ -1,5 +1,29 @@
-use Rattle.ctl_index.proofs.LoadLemmas.{loaded_by_each}
+use Rattle.std.proofs.Common.{◌≡◌, ◌+◌, ℕ, List, ap, sym, ◌∙◌, arith}
+use Rattle.std.specs.FinMap as fin
+use Rattle.std.specs.List.{sum_by}
+use Rattle.ctl_index.specs.Clauses.{clause_at}
+use Rattle.ctl_index.specs.Offers.{contents}
+use Rattle.ctl_index.specs.Work.{pairs}
+use Rattle.ctl_index.specs.Inside.TablesHeld.{offers_in}
+use Rattle.ctl_index.specs.Inside.TablesIndexed.{namers_sum}
+use Rattle.ctl_index.specs.Inside.TablesLoaded.{number_with}
+use Rattle.ctl_index.specs.Inside.TablesSight.{seen, entries_seen}
+use Rattle.ctl_index.specs.Inside.TablesSteps.{with_each, put_rows_step, atoms_tested}
 use Rattle.ctl_index.proofs.loading.put_list.Goals as goal
 
 pub returns-clause-tables : goal.returns-clause-tables
-returns-clause-tables c apart = loaded_by_each c.args.sight.now c.args.keys.now c.args.tables.now c.put_all.new.tables apart c.in_ok-put_all.ensures.tables
+returns-clause-tables c = λ apart.
+    let s = c.args.sight.now in
+    let keys = c.args.keys.now in
+    let offers = c.in_ok-put_rows.ensures.offers ∙ c.in_ok-put_atoms.ensures.offers in
+    record {
+      offers = λ q f. (λ i. sum_by f (offers i q)) ∙ c.in_ok-put_offers.ensures.offers q f;
+      namers = λ q f.
+          (λ i. sum_by f (c.in_ok-put_rows.ensures.namers i q)) ∙ c.in_ok-put_atoms.ensures.namers q f
+          ∙ (λ i. sum_by f (c.in_ok-put_offers.ensures.namers i q) + namers_sum q f (entries_seen s keys));
+      counters = λ k. c.in_ok-put_atoms.ensures.counts apart k ∙ (λ i. number_with s (sym offers i) k.field (clause_at k (entries_seen s keys)) (c.in_ok-put_offers.ensures.counts k i));
+      rows = λ q version.
+          c.in_ok-put_rows.ensures.rows q version
+          ∙ (λ i. with_each (seen s) (put_rows_step q version) keys (fin.get ((c.in_ok-put_atoms.ensures.rows ∙ c.in_ok-put_offers.ensures.rows) i q) version));
+      whole = c.in_ok-put_offers.ensures.whole;
+    }

@@ -1,4 +1,5 @@
 use Rattle.std.proofs.Common.{◌≡◌, ℕ, [], List, length, nat_eq, ◌&&◌, not, cond, ap, sym, ◌∙◌}
+use Rattle.std.specs.List.{sum_by}
 use Rattle.std.specs.Str.{bytes_eq}
 use Rattle.ctl_index.specs.Inside.TablesByName.{at_name}
 use Rattle.ctl_index.specs.declared.keys.Namer.{Namer}
@@ -9,6 +10,7 @@ use Rattle.ctl_index.specs.Inside.TablesByName.{rows_under, named_rows, namers_u
 use Rattle.ctl_index.specs.Inside.TablesOrder.{namer_of, namer_stanza, put_in_order}
 use Rattle.ctl_index.proofs.RowLemmas.{none_there}
 use Rattle.ctl_index.proofs.NameLemmas.{on_some, none_more, changed, unchanged, part-found, used_written, used_found, used_more_too}
+use Rattle.ctl_index.proofs.SumLemmas.{sum-either}
 use Rattle.ctl_index.proofs.name_table.NameTable.put_atom.Goals as goal
 
 pub invariant_of-self : goal.invariant_of-self
@@ -44,9 +46,10 @@ returns-in_ok-put-in-Some-clause-namers c =
     let v = c.in-Some.named.now in
     let w : Named = record { offers = v.offers; namers = c.put.new.self; rows = v.rows } in
     let f : List Namer → List Namer = λ l. put_in_order namer_stanza (namer_of c.args.key c.args.atom.now) l in
-    λ q.
-    changed named_namers [] c.name.result.now m (c.get_mut.follows.lender w) w f (on_some c.in-Some.is (c.get_mut.follows.holds w)) (c.in_ok-put-in-Some.ensures.ok ∙ ap (λ n. put_in_order namer_stanza n (named_namers v)) c.new.ensures ∙ ap f (part-found named_namers [] c.name.result.now m _ c.in-Some.ensures.value)) q
-    ∙ ap (λ b. cond (bytes_eq b q) (f (namers_under m q)) (namers_under m q)) c.name.ensures
+    λ q g.
+    ap (sum_by g) (changed named_namers [] c.name.result.now m (c.get_mut.follows.lender w) w f (on_some c.in-Some.is (c.get_mut.follows.holds w)) (c.in_ok-put-in-Some.ensures.ok ∙ ap (λ n. put_in_order namer_stanza n (named_namers v)) c.new.ensures ∙ ap f (part-found named_namers [] c.name.result.now m _ c.in-Some.ensures.value)) q
+    ∙ ap (λ b. cond (bytes_eq b q) (f (namers_under m q)) (namers_under m q)) c.name.ensures)
+    ∙ sum-either namer_stanza g (bytes_eq c.args.atom.now.name q) (namers_under m q) (namer_of c.args.key c.args.atom.now)
 
 pub returns-in_ok-put-in-Some-clause-rows : goal.returns-in_ok-put-in-Some-clause-rows
 returns-in_ok-put-in-Some-clause-rows c =

@@ -1,4 +1,4 @@
-use Rattle.std.proofs.Common.{[], ◌≡◌, ℕ, List, length, nat_eq, ◌&&◌, not, cond, option_map, ap, sym, subst, ◌∙◌}
+use Rattle.std.proofs.Common.{[], ◌≡◌, ◌+◌, ℕ, List, length, nat_eq, ◌&&◌, not, cond, option_map, ap, sym, subst, ◌∙◌}
 use Rattle.std.specs.BTreeMap.{get}
 use Rattle.std.specs.List.{sum_by}
 use Rattle.std.specs.Str.{bytes_eq}
@@ -15,7 +15,8 @@ use Rattle.ctl_index.specs.Inside.TablesCounters.{counted_up}
 use Rattle.ctl_index.specs.Inside.TablesSight.{hit}
 use Rattle.ctl_index.specs.Inside.TablesOrder.{offer_stanza, put_in_order}
 use Rattle.ctl_index.proofs.RowLemmas.{none_there}
-use Rattle.ctl_index.proofs.NameLemmas.{on_some, on_ok_map, none_more, changed, unchanged, part-found, used_written, used_found, used_more}
+use Rattle.ctl_index.proofs.NameLemmas.{on_some, on_ok_map, first_there, none_more, changed, unchanged, part-found, used_written, used_found, used_more}
+use Rattle.ctl_index.proofs.SumLemmas.{sum-either}
 use Rattle.ctl_index.proofs.name_table.NameTable.put_offer.Goals as goal
 
 pub invariant_of-self : goal.invariant_of-self
@@ -44,9 +45,10 @@ returns-in_ok-put-in-Some-clause-offers c =
     let v = c.in-Some.named.now in
     let w : Named = record { offers = c.put.new.self; namers = v.namers; rows = v.rows } in
     let f : List OfferKey → List OfferKey = λ l. put_in_order offer_stanza c.args.coming.key l in
-    λ q.
-    changed named_offers [] c.name.result.now m (c.get_mut.follows.lender w) w f (on_some c.in-Some.is (c.get_mut.follows.holds w)) (c.in_ok-put-in-Some.ensures.ok ∙ ap f (part-found named_offers [] c.name.result.now m _ c.in-Some.ensures.value)) q
-    ∙ ap (λ b. cond (bytes_eq b q) (f (offers_under m q)) (offers_under m q)) c.name.ensures
+    λ q g.
+    ap (sum_by g) (changed named_offers [] c.name.result.now m (c.get_mut.follows.lender w) w f (on_some c.in-Some.is (c.get_mut.follows.holds w)) (c.in_ok-put-in-Some.ensures.ok ∙ ap f (part-found named_offers [] c.name.result.now m _ c.in-Some.ensures.value)) q
+    ∙ ap (λ b. cond (bytes_eq b q) (f (offers_under m q)) (offers_under m q)) c.name.ensures)
+    ∙ sum-either offer_stanza g (bytes_eq c.args.coming.offer.now.name q) (offers_under m q) c.args.coming.key
 
 pub returns-in_ok-put-in-Some-clause-namers : goal.returns-in_ok-put-in-Some-clause-namers
 returns-in_ok-put-in-Some-clause-namers c =
@@ -67,6 +69,16 @@ returns-in_ok-put-in-Some-clause-rows c =
     let v = c.in-Some.named.now in
     let w : Named = record { offers = c.put.new.self; namers = v.namers; rows = v.rows } in
     unchanged named_rows fin.empty c.name.result.now m (c.get_mut.follows.lender w) w (on_some c.in-Some.is (c.get_mut.follows.holds w)) (part-found named_rows fin.empty c.name.result.now m _ c.in-Some.ensures.value)
+
+pub returns-in-None-clause-offers : goal.returns-in-None-clause-offers
+returns-in-None-clause-offers c =
+    let m = c.args.self.now.map in
+    let bs = c.name-in-None.result.now in
+    let same : (q : List ℕ) → offers_under c.get_mut.follows.lender-at-none q ≡ offers_under m q = λ q. ap (λ o. option_map_or named_offers o []) (c.get_mut.follows.holds-at-none q) in
+    on_ok_map c.insert.result (λ h q g.
+    ap (sum_by g) (h q ∙ ap (cond (bytes_eq bs q) c.of_one.result) (same q))
+    ∙ first_there named_offers bs m m c.of_one.result c.args.coming.key g c.of_one.ensures (c.in-None.ensures.value ∙ ap (at_name m) (c.name.ensures ∙ sym c.name-in-None.ensures)) (λ r i. at_name m r) q
+    ∙ ap (λ b. sum_by g (offers_under m q) + cond (bytes_eq b q) (g c.args.coming.key) 0) c.name-in-None.ensures) c.insert.ensures.offers
 
 pub returns-in-None-clause-rows : goal.returns-in-None-clause-rows
 returns-in-None-clause-rows c =
