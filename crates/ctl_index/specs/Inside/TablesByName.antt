@@ -12,9 +12,8 @@ use Rattle.ctl_policy.specs.Chosen.{at_bytes}
 use Rattle.ctl_policy.specs.Rows.{Rows}
 use Rattle.ctl_index.specs.declared.keys.Namer.{Namer}
 use Rattle.ctl_index.specs.declared.keys.OfferKey.{OfferKey}
-use Rattle.ctl_index.specs.declared.span.Span.{Span}
 use Rattle.ctl_index.specs.Inside.ShortName.{most_short}
-use Rattle.ctl_index.specs.Inside.TablesOrder.{offer_stanza, namer_stanza, put_in_order, others}
+use Rattle.ctl_index.specs.Inside.TablesOrder.{offer_stanza, namer_stanza, put_in_order}
 use Rattle.ctl_index.specs.contracts.name_map.NameMap.{the_row}
 use Rattle.ctl_index.specs.contracts.named.Named.{the_row as named_row}
 use Rattle.ctl_index.specs.declared.named.Named.{Named}
@@ -67,18 +66,12 @@ rows_under m name = part_under named_rows fin.empty m name
 abbrev pub row_under : NameMap → List ℕ → List ℕ → Option (List StanzaKey)
 row_under m name version = fin.get (rows_under m name) version
 
--- the offers, or the namers, that stand under a name, with one more under this name, and without those of a span of stanzas
+-- the offers, or the namers, that stand under a name, with one more under this name
 abbrev pub offers_with : NameMap → List ℕ → OfferKey → List ℕ → List OfferKey
 offers_with m name key q = if bytes_eq name q then put_in_order offer_stanza key (offers_under m q) else offers_under m q
 
 abbrev pub namers_with : NameMap → List ℕ → Namer → List ℕ → List Namer
 namers_with m name namer q = if bytes_eq name q then put_in_order namer_stanza namer (namers_under m q) else namers_under m q
-
-abbrev pub offers_without : NameMap → List ℕ → Span → List ℕ → List OfferKey
-offers_without m name span q = if bytes_eq name q then others offer_stanza span (offers_under m q) else offers_under m q
-
-abbrev pub namers_without : NameMap → List ℕ → Span → List ℕ → List Namer
-namers_without m name span q = if bytes_eq name q then others namer_stanza span (namers_under m q) else namers_under m q
 
 -- whether anything stands under a name
 abbrev pub is_used : Named → Bool
