@@ -1,6 +1,6 @@
 -- Stanzas that come or go: the tables hold what the stanzas then have, and the tests are the pairs that come or go.
-use Rattle.std.proofs.Common.{◌≡◌, ℕ, ◌+◌, ◌-◌, ◌<◌, ◌≤◌, ◌^◌, true, false, cond, List, length, Option, Some, None, IfSome, refl, ap, sym, subst, ◌∙◌, arith}
-use Rattle.std.specs.List.{sum_by, flat_map, AllByRecursion, count_by}
+use Rattle.std.proofs.Common.{◌≡◌, ℕ, ◌+◌, ◌-◌, ◌<◌, ◌≤◌, ◌^◌, Bool, true, false, cond, ◌&&◌, List, length, Option, Some, None, is_some, IfSome, refl, ap, sym, subst, ◌∙◌, arith}
+use Rattle.std.specs.List.{sum_by, flat_map, list_any, AllByRecursion, count_by}
 use Rattle.std.specs.Option.{option_map, option_map_or, option_or, option_and_then}
 use Rattle.std.specs.Str.{bytes_eq}
 use Rattle.std.specs.BTreeMap.{get}
@@ -8,6 +8,7 @@ use Rattle.ctl_relation.specs.Parts.{AtomParts, OfferParts}
 use Rattle.ctl_relation.specs.Met.{met, met_pairs}
 use Rattle.ctl_stanza.specs.Content.{Content, offers_of}
 use Rattle.ctl_store.specs.declared.stanza_key.StanzaKey.{StanzaKey}
+use Rattle.ctl_store.specs.Keys.{key_is}
 use Rattle.ctl_store.specs.Entries.{Entry, entries_by}
 use Rattle.ctl_store.specs.Followed.{under, AreApart}
 use Rattle.ctl_index.specs.declared.keys.Namer.{Namer}
@@ -18,21 +19,23 @@ use Rattle.ctl_index.specs.Clauses.{clause_atoms, clause_cmp, clause_of, clause_
 use Rattle.ctl_index.specs.Names.{keyed_atoms}
 use Rattle.ctl_index.specs.Offers.{offers_among, contents}
 use Rattle.ctl_index.specs.Inside.TablesByName.{offers_under, namers_under}
-use Rattle.ctl_index.specs.Inside.TablesIndexed.{atom_named, offer_named, keyed_offers, IsIndexed, IsTakenOut, offers_sum, namers_sum, namers_taken, tests_taken_out}
+use Rattle.ctl_index.specs.Inside.TablesIndexed.{atom_named, offer_named, keyed_offers, IsIndexed, offers_sum, namers_sum}
+use Rattle.ctl_index.specs.Inside.TablesLeft.{IsTakenOut, hits_at, is_clause_at, namers_taken, tests_taken_out}
 use Rattle.ctl_index.specs.Inside.TablesLoaded.{IsLoaded, all_hits, tests_put_in}
 use Rattle.ctl_index.specs.Inside.TablesParts.{IsJoined}
 use Rattle.ctl_index.specs.Inside.TablesRows.{RowsCome, RowsGo}
-use Rattle.ctl_index.specs.Inside.TablesSight.{Seen, seen, AreSeen}
+use Rattle.ctl_index.specs.Inside.TablesSight.{Seen, seen, hit, AreSeen}
 use Rattle.ctl_index.specs.Inside.TablesCounters.{counted_up}
 use Rattle.ctl_index.specs.Inside.TablesFit.{AreWhole, NumbersFit}
 use Rattle.ctl_index.specs.Inside.TablesOrder.{is_within}
-use Rattle.ctl_index.specs.Inside.TablesSteps.{group_met, span_of, with_each, drop_step}
+use Rattle.ctl_index.specs.Inside.TablesSteps.{group_met, span_of}
 use Rattle.ctl_index.specs.Work.{named_pairs, pairs}
-use Rattle.ctl_index.proofs.SumLemmas.{offers-over, sum-cong, sum-plus, sum-swap, sum-flat_map, sum-map, sum-zero}
+use Rattle.ctl_index.proofs.SumLemmas.{offers-over, sum-cong, sum-plus, sum-swap, sum-flat_map, sum-map, sum-zero, found-sum}
 use Rattle.ctl_index.proofs.TableLemmas.{take_offers, take_namers}
-use Rattle.ctl_index.proofs.ClauseLemmas.{gone}
+use Rattle.ctl_index.proofs.LeavingLemmas.{any_same}
 use Rattle.ctl_index.proofs.FitLemmas.{come_whole, all_whole, rest_whole}
-use Rattle.ctl_index.proofs.SeenLemmas.{one_under, clause_met-is, listed_hits, all_tested-is, offers_tested-is, atoms_tested-is, lowered_all-is, dropped_all-is}
+use Rattle.ctl_index.proofs.SeenLemmas.{one_under, clause_met-is, listed_hits, all_tested-is, offers_tested-is, atoms_tested-is}
+use Rattle.ctl_index.proofs.StoreLemmas.{under_by}
 
 -- ---- pairs over two parts
 
@@ -168,21 +171,36 @@ module _ (s : Seen) (keys : List StanzaKey) (all rest : List Entry) (old new : T
   take_number : IsTakenOut s keys old new → (k : ClauseKey) → get clause_cmp new.counters.numbers k ≡ number_at k rest
   take_number step k =
       step.counters k
-      ∙ lowered_all-is s (namers_taken s keys old) k keys (with_each (seen s) (drop_step k) keys (get clause_cmp old.counters.numbers k))
-      ∙ (λ i. option_map (λ n. n - hits-is s (namers_taken s keys old) rest left_namers sees apart (offers_among (contents going)) k i) (dropped_all-is s k keys apart_gone (was.counters k i) i))
-      ∙ ap (λ c. option_map (λ n. n - hits_of (offers_among (contents going)) (clause_at k rest)) (gone (clause_at k going) (number_of all (option_and_then (clause_of k) c)))) (joined.unders k.stanza)
+      ∙ (λ i. option_map (λ n. n - hits i) (cond (goes i) None (was.counters k i)))
+      ∙ ap (λ c. option_map (λ n. n - hits_of (offers_among (contents going)) (clause_at k rest)) (cond (is_some (clause_at k going)) None (number_of all (option_and_then (clause_of k) c)))) (joined.unders k.stanza)
       ∙ by (under k.stanza going) (under k.stanza rest) (λ x h. joined.either k.stanza x h)
     where
+      hits : sum_by (hits_at s (namers_taken s keys old) k) keys ≡ hits_of (offers_among (contents going)) (clause_at k rest)
+      hits =
+          found-sum (seen s) (λ x. all_hits s (namers_taken s keys old) (offers_of x) k) keys
+          ∙ sym (sum-map (λ x. all_hits s (namers_taken s keys old) (offers_of x) k) (λ (e : Entry). e.1) going)
+          ∙ sym (sum-flat_map (λ (o : OfferParts). sum_by (hit s o k) (namers_taken s keys old o.name)) offers_of (contents going))
+          ∙ hits-is s (namers_taken s keys old) rest left_namers sees apart (offers_among (contents going)) k
+
+      there : (b : Bool) (c : Option Content) → b && is_some (option_and_then (clause_of k) c) ≡ is_some (option_and_then (clause_of k) (cond b c None))
+      there true c = refl
+      there false c = refl
+
+      goes : list_any (is_clause_at s k) keys ≡ is_some (clause_at k going)
+      goes =
+          any_same (seen s) (λ c. is_some (option_and_then (clause_of k) c)) k.stanza keys
+          ∙ there (list_any (key_is k.stanza) keys) (seen s k.stanza) ∙ ap (λ c. is_some (option_and_then (clause_of k) c)) (sym (under_by (seen s) keys k.stanza))
+
       les : (c : Option (List AtomParts)) → option_map (λ n. n - hits_of (offers_among (contents going)) c) (number_of all c) ≡ number_of rest c
       les None = refl
       les (Some atoms) = ap (λ n. Some n) (omega (arith, met_pairs-joined all rest going joined atoms))
 
-      all_gone : (c : Option (List AtomParts)) → gone c (number_of all c) ≡ None
+      all_gone : (c : Option (List AtomParts)) → cond (is_some c) None (number_of all c) ≡ None
       all_gone None = refl
       all_gone (Some atoms) = refl
 
       by : (c d : Option Content) → ((x : Content) → c ≡ Some x → d ≡ None)
-          → option_map (λ n. n - hits_of (offers_among (contents going)) (option_and_then (clause_of k) d)) (gone (option_and_then (clause_of k) c) (number_of all (option_and_then (clause_of k) (option_or c d)))) ≡ number_of rest (option_and_then (clause_of k) d)
+          → option_map (λ n. n - hits_of (offers_among (contents going)) (option_and_then (clause_of k) d)) (cond (is_some (option_and_then (clause_of k) c)) None (number_of all (option_and_then (clause_of k) (option_or c d)))) ≡ number_of rest (option_and_then (clause_of k) d)
       by None d none = les (option_and_then (clause_of k) d)
       by (Some x) d none =
           ap (option_map (λ n. n - hits_of (offers_among (contents going)) (option_and_then (clause_of k) d))) (all_gone (clause_of k x))

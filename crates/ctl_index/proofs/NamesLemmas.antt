@@ -53,19 +53,19 @@ count-all (x ∷ xs) = sum_by-cons (λ y. 1) x xs ∙ omega (arith, count-all xs
 
 module _ (q : List ℕ) where
   abbrev is : List ℕ → ℕ
-  is name = cond (bytes_eq q name) 1 0
+  is name = cond (bytes_eq name q) 1 0
 
-  offered-from : (key : StanzaKey) (n : ℕ) (os : List OfferParts) → sum_by (offer_named q (λ k. 1)) (keyed_offers_from key n os) ≡ sum_by (λ (o : OfferParts). is o.name) os
+  pub offered-from : (key : StanzaKey) (n : ℕ) (os : List OfferParts) → sum_by (offer_named q (λ k. 1)) (keyed_offers_from key n os) ≡ sum_by (λ (o : OfferParts). is o.name) os
   offered-from key n [] = refl
   offered-from key n (o ∷ os) =
       sum_by-cons (offer_named q (λ k. 1)) (record { stanza = key; place = n }, o) (keyed_offers_from key (suc n) os)
-      ∙ (λ i. cond (nat_list_eq_equiv.symm o.name q i) 1 0 + offered-from key (suc n) os i) ∙ sym (sum_by-cons (λ (p : OfferParts). is p.name) o os)
+      ∙ ap (λ m. is o.name + m) (offered-from key (suc n) os) ∙ sym (sum_by-cons (λ (p : OfferParts). is p.name) o os)
 
   named-group : (key : StanzaKey) (field : FieldKind) (g n : ℕ) (atoms : List AtomParts) → sum_by (atom_named q (λ k. 1)) (keyed_group key field g n atoms) ≡ sum_by (λ (a : AtomParts). is a.name) atoms
   named-group key field g n [] = refl
   named-group key field g n (a ∷ atoms) =
       sum_by-cons (atom_named q (λ k. 1)) (record { stanza = key; field = field; group = g; atom = n }, a) (keyed_group key field g (suc n) atoms)
-      ∙ (λ i. cond (nat_list_eq_equiv.symm a.name q i) 1 0 + named-group key field g (suc n) atoms i) ∙ sym (sum_by-cons (λ (b : AtomParts). is b.name) a atoms)
+      ∙ ap (λ m. is a.name + m) (named-group key field g (suc n) atoms) ∙ sym (sum_by-cons (λ (b : AtomParts). is b.name) a atoms)
 
   named-groups : (key : StanzaKey) (field : FieldKind) (n : ℕ) (groups : List (List AtomParts)) → sum_by (atom_named q (λ k. 1)) (keyed_groups key field n groups) ≡ sum_by (λ group. sum_by (λ (a : AtomParts). is a.name) group) groups
   named-groups key field n [] = refl
@@ -73,7 +73,7 @@ module _ (q : List ℕ) where
       sum_by-append (atom_named q (λ k. 1)) (keyed_group key field n 0 group) (keyed_groups key field (suc n) groups)
       ∙ (λ i. named-group key field n 0 group i + named-groups key field (suc n) groups i) ∙ sym (sum_by-cons (λ g. sum_by (λ (a : AtomParts). is a.name) g) group groups)
 
-  named-all : (e : Entry) → sum_by (atom_named q (λ k. 1)) (keyed_atoms e) ≡ sum_by (λ (a : AtomParts). is a.name) (naming_atoms e.1)
+  pub named-all : (e : Entry) → sum_by (atom_named q (λ k. 1)) (keyed_atoms e) ≡ sum_by (λ (a : AtomParts). is a.name) (naming_atoms e.1)
   named-all e =
       sum-flat_map (atom_named q (λ k. 1)) (λ field. keyed_groups e.0 field 0 (groups_of field e.1)) naming_fields
       ∙ sum-cong _ _ (λ field. named-groups e.0 field 0 (groups_of field e.1) ∙ sym (sum-flat_map (λ (a : AtomParts). is a.name) (λ group. group) (groups_of field e.1))) naming_fields
@@ -84,9 +84,9 @@ module _ (q : List ℕ) where
       sum_by-append is (map (λ (o : OfferParts). o.name) (offers_of x)) (map (λ (a : AtomParts). a.name) (naming_atoms x))
       ∙ (λ i. sum-map is (λ (o : OfferParts). o.name) (offers_of x) i + sum-map is (λ (a : AtomParts). a.name) (naming_atoms x) i)
 
-  listed-sum : (es : List Entry) (t : Tables) → IsIndexed es t → sum_by is (flat_map names_of (contents es)) ≡ length (offers_under t.names.map q) + length (namers_under t.names.map q)
+  listed-sum : (es : List Entry) (t : Tables) → IsIndexed es t → sum_by (λ name. cond (bytes_eq q name) 1 0) (flat_map names_of (contents es)) ≡ length (offers_under t.names.map q) + length (namers_under t.names.map q)
   listed-sum es t was =
-      sum-flat_map is names_of (contents es) ∙ sum-map (λ x. sum_by is (names_of x)) (λ (e : Entry). e.1) es
+      sum-cong _ _ (λ name i. cond (nat_list_eq_equiv.symm q name i) 1 0) (flat_map names_of (contents es)) ∙ sum-flat_map is names_of (contents es) ∙ sum-map (λ x. sum_by is (names_of x)) (λ (e : Entry). e.1) es
       ∙ sum-cong _ _ (λ (e : Entry). names-sum e.1 ∙ (λ i. sym (offered-from e.0 0 (offers_of e.1)) i + sym (named-all e) i)) es
       ∙ sum-plus (λ (e : Entry). sum_by (offer_named q (λ k. 1)) (keyed_offers e)) (λ (e : Entry). sum_by (atom_named q (λ k. 1)) (keyed_atoms e)) es
       ∙ (λ i. (sym (was.offers q (λ k. 1)) ∙ count-all (offers_under t.names.map q)) i + (sym (was.namers q (λ k. 1)) ∙ count-all (namers_under t.names.map q)) i)

@@ -11,6 +11,7 @@ pub mod TablesFit
 pub mod TablesFollowed
 pub mod TablesHeld
 pub mod TablesIndexed
+pub mod TablesLeft
 pub mod TablesLoaded
 pub mod TablesOrder
 pub mod TablesParts

@@ -1,12 +1,16 @@
 //! Stanzas go: their atoms first, and then their offers, so that a pair of their own is tested once.
 
-ghost use Rattle.std.specs.Prelude.{◌≡◌, ◌∷◌, [], ◌-◌, ◌≤◌, ◌<◌, ◌^◌, ℕ, List, OnOk, None, length, if◌then◌else◌};
+ghost use Rattle.std.specs.Prelude.{◌≡◌, ◌≤◌, ◌<◌, ◌^◌, ℕ, List, OnOk, None, length, if◌then◌else◌};
 ghost use Rattle.std.specs.BTreeMap.{get};
+ghost use Rattle.std.specs.List.{list_any, sum_by};
 ghost use Rattle.ctl_index.specs.Clauses.{clause_cmp};
 ghost use Rattle.ctl_index.specs.Inside.TablesByName.{offers_under, namers_under, rows_under};
+ghost use Rattle.ctl_index.specs.Inside.TablesCounters.{less_by};
 ghost use Rattle.ctl_index.specs.Inside.TablesHeld.{HasTested, TestsAtMost, namers_in, number_in, offers_in, rows_in};
-ghost use Rattle.ctl_index.specs.Inside.TablesIndexed.{namers_left, number_dropped, number_lowered, offers_left};
-ghost use Rattle.ctl_index.specs.Inside.TablesSteps.{all_tested, atoms_tested, atoms_tested_at, dropped_fields, dropped_groups, fields_tested, group_tested, groups_tested, is_clause, left_fields, left_group, left_groups, left_offers, lowered, offers_tested, offers_tested_at};
+ghost use Rattle.ctl_index.specs.Inside.TablesLeft.{has_namer, has_namer_at, has_namer_in, has_offer, has_offer_at, hits_at, is_clause_at, is_group_below, is_of_field};
+ghost use Rattle.ctl_index.specs.Inside.TablesLoaded.{all_hits};
+ghost use Rattle.ctl_index.specs.Inside.TablesOrder.{namer_stanza, offer_stanza, without_if};
+ghost use Rattle.ctl_index.specs.Inside.TablesSteps.{all_tested, atoms_tested, atoms_tested_at, fields_tested, group_tested, groups_tested, is_clause, offers_tested, offers_tested_at};
 ghost use Rattle.ctl_index.specs.Work.{more_by};
 ghost use Rattle.ctl_stanza.specs.Content.{groups_of};
 
@@ -28,7 +32,8 @@ fn take_group(
     names: &mut NameTable,
     steps: &mut Steps,
 )
-    ensures namers { (q : List ℕ) → namers_under names.new.map q ≡ left_group going.now.span q group.now (namers_under names.old.map q) }
+    ensures namers { (q : List ℕ) → namers_under names.new.map q
+        ≡ without_if namer_stanza going.now.span (has_namer q group.now) (namers_under names.old.map q) }
     ensures offers { offers_under names.new.map ≡ offers_under names.old.map }
     ensures rows { rows_under names.new.map ≡ rows_under names.old.map }
     ensures steps { steps.new ≡ more_by (group_tested going.now.sight field (offers_under names.old.map) group.now) steps.old }
@@ -57,10 +62,12 @@ fn take_groups(
     tables: &mut Tables,
 )
     requires { length groups < 2 ^ 32 }
-    ensures namers { (q : List ℕ) → namers_in tables.new q ≡ left_groups going.now.span q groups.entry (namers_in tables.old q) }
+    ensures namers { (q : List ℕ) → namers_in tables.new q
+        ≡ without_if namer_stanza going.now.span (list_any (has_namer q) groups.entry) (namers_in tables.old q) }
     ensures offers { offers_in tables.new ≡ offers_in tables.old }
     ensures rows { rows_in tables.new ≡ rows_in tables.old }
-    ensures counts { (k : ClauseKey) → number_in tables.new k ≡ dropped_groups key field 0 groups.entry k (number_in tables.old k) }
+    ensures counts { (k : ClauseKey) → number_in tables.new k
+        ≡ (if is_group_below key field (length groups.entry) k then None else number_in tables.old k) }
     ensures steps { HasTested (groups_tested going.now.sight field (offers_in tables.old) groups.entry) tables.old tables.new }
 {
     let _count = tables.steps.count();
@@ -86,11 +93,11 @@ fn take_field(
     tables: &mut Tables,
 )
     ensures namers { (q : List ℕ) → namers_in tables.new q
-        ≡ left_groups going.now.span q (groups_of field stanza.now) (namers_in tables.old q) }
+        ≡ without_if namer_stanza going.now.span (has_namer_in q stanza.now field) (namers_in tables.old q) }
     ensures offers { offers_in tables.new ≡ offers_in tables.old }
     ensures rows { rows_in tables.new ≡ rows_in tables.old }
     ensures counts { (k : ClauseKey) → number_in tables.new k
-        ≡ dropped_groups key field 0 (groups_of field stanza.now) k (number_in tables.old k) }
+        ≡ (if is_of_field key stanza.now k field then None else number_in tables.old k) }
     ensures steps { HasTested (groups_tested going.now.sight field (offers_in tables.old)
         (groups_of field stanza.now)) tables.old tables.new }
 {
@@ -106,10 +113,12 @@ fn take_fields(
     fields: &[FieldKind],
     tables: &mut Tables,
 )
-    ensures namers { (q : List ℕ) → namers_in tables.new q ≡ left_fields going.now.span stanza.now q fields.now (namers_in tables.old q) }
+    ensures namers { (q : List ℕ) → namers_in tables.new q
+        ≡ without_if namer_stanza going.now.span (list_any (has_namer_in q stanza.now) fields.now) (namers_in tables.old q) }
     ensures offers { offers_in tables.new ≡ offers_in tables.old }
     ensures rows { rows_in tables.new ≡ rows_in tables.old }
-    ensures counts { (k : ClauseKey) → number_in tables.new k ≡ dropped_fields key stanza.now fields.now k (number_in tables.old k) }
+    ensures counts { (k : ClauseKey) → number_in tables.new k
+        ≡ (if list_any (is_of_field key stanza.now k) fields.now then None else number_in tables.old k) }
     ensures steps { HasTested (fields_tested going.now.sight (offers_in tables.old) fields.now stanza.now) tables.old tables.new }
 {
     let _count = tables.steps.count();
@@ -120,10 +129,12 @@ fn take_fields(
 
 // The atoms of the stanza under a key, if there is one.
 fn take_atoms_at(going: &Going<'_>, key: StanzaKey, tables: &mut Tables)
-    ensures namers { (q : List ℕ) → namers_in tables.new q ≡ namers_left going.now.sight going.now.span (key ∷ []) tables.old q }
+    ensures namers { (q : List ℕ) → namers_in tables.new q
+        ≡ without_if namer_stanza going.now.span (has_namer_at going.now.sight q key) (namers_in tables.old q) }
     ensures offers { offers_in tables.new ≡ offers_in tables.old }
     ensures rows { rows_in tables.new ≡ rows_in tables.old }
-    ensures counts { (k : ClauseKey) → number_in tables.new k ≡ number_dropped going.now.sight (key ∷ []) tables.old k }
+    ensures counts { (k : ClauseKey) → number_in tables.new k
+        ≡ (if is_clause_at going.now.sight k key then None else number_in tables.old k) }
     ensures steps { HasTested (atoms_tested_at going.now.sight (offers_in tables.old) key) tables.old tables.new }
 {
     let _count = tables.steps.count();
@@ -136,10 +147,12 @@ fn take_atoms_at(going: &Going<'_>, key: StanzaKey, tables: &mut Tables)
 /// The atoms of the stanzas under these keys, which are those of the span. They are tested against the offers of their names, and
 /// the clauses go.
 pub(crate) fn take_atoms(going: &Going<'_>, keys: &[StanzaKey], tables: &mut Tables)
-    ensures namers { (q : List ℕ) → namers_in tables.new q ≡ namers_left going.now.sight going.now.span keys.now tables.old q }
+    ensures namers { (q : List ℕ) → namers_in tables.new q
+        ≡ without_if namer_stanza going.now.span (list_any (has_namer_at going.now.sight q) keys.now) (namers_in tables.old q) }
     ensures offers { offers_in tables.new ≡ offers_in tables.old }
     ensures rows { rows_in tables.new ≡ rows_in tables.old }
-    ensures counts { (k : ClauseKey) → number_in tables.new k ≡ number_dropped going.now.sight keys.now tables.old k }
+    ensures counts { (k : ClauseKey) → number_in tables.new k
+        ≡ (if list_any (is_clause_at going.now.sight k) keys.now then None else number_in tables.old k) }
     ensures steps { HasTested (atoms_tested going.now.sight (offers_in tables.old) keys.now) tables.old tables.new }
 {
     let _count = tables.steps.count();
@@ -155,11 +168,11 @@ fn take_offers_of(
     tables: &mut Tables,
 ) -> Result<(), AllocError>
     ensures offers { OnOk result ((q : List ℕ) → offers_in tables.new q
-        ≡ left_offers going.now.span q offers.now (offers_in tables.old q)) }
+        ≡ without_if offer_stanza going.now.span (has_offer q offers.now) (offers_in tables.old q)) }
     ensures namers { OnOk result (namers_in tables.new ≡ namers_in tables.old) }
     ensures rows { OnOk result (rows_in tables.new ≡ rows_in tables.old) }
     ensures counts { OnOk result ((k : ClauseKey) → number_in tables.new k
-        ≡ lowered going.now.sight (namers_in tables.old) offers.now k (number_in tables.old k)) }
+        ≡ less_by (all_hits going.now.sight (namers_in tables.old) offers.now k) (number_in tables.old k)) }
     ensures steps { OnOk result (HasTested (all_tested going.now.sight (namers_in tables.old) offers.now) tables.old tables.new) }
     ensures most { TestsAtMost (all_tested going.now.sight (namers_in tables.old) offers.now) tables.old tables.new }
     ensures least { tables.old.steps ≤ tables.new.steps }
@@ -176,10 +189,11 @@ fn take_offers_of(
 // What the stanza under a key offers, if there is one.
 fn take_offers_at(going: &Going<'_>, key: StanzaKey, tables: &mut Tables) -> Result<(), AllocError>
     ensures offers { OnOk result ((q : List ℕ) → offers_in tables.new q
-        ≡ offers_left going.now.sight going.now.span (key ∷ []) tables.old q) }
+        ≡ without_if offer_stanza going.now.span (has_offer_at going.now.sight q key) (offers_in tables.old q)) }
     ensures namers { OnOk result (namers_in tables.new ≡ namers_in tables.old) }
     ensures rows { OnOk result (rows_in tables.new ≡ rows_in tables.old) }
-    ensures counts { OnOk result ((k : ClauseKey) → number_in tables.new k ≡ number_lowered going.now.sight (key ∷ []) tables.old k) }
+    ensures counts { OnOk result ((k : ClauseKey) → number_in tables.new k
+        ≡ less_by (hits_at going.now.sight (namers_in tables.old) k key) (number_in tables.old k)) }
     ensures steps { OnOk result (HasTested (offers_tested_at going.now.sight (namers_in tables.old) key) tables.old tables.new) }
     ensures most { TestsAtMost (offers_tested_at going.now.sight (namers_in tables.old) key) tables.old tables.new }
     ensures least { tables.old.steps ≤ tables.new.steps }
@@ -198,10 +212,11 @@ pub(crate) fn take_offers(
     tables: &mut Tables,
 ) -> Result<(), AllocError>
     ensures offers { OnOk result ((q : List ℕ) → offers_in tables.new q
-        ≡ offers_left going.now.sight going.now.span keys.now tables.old q) }
+        ≡ without_if offer_stanza going.now.span (list_any (has_offer_at going.now.sight q) keys.now) (offers_in tables.old q)) }
     ensures namers { OnOk result (namers_in tables.new ≡ namers_in tables.old) }
     ensures rows { OnOk result (rows_in tables.new ≡ rows_in tables.old) }
-    ensures counts { OnOk result ((k : ClauseKey) → number_in tables.new k ≡ number_lowered going.now.sight keys.now tables.old k) }
+    ensures counts { OnOk result ((k : ClauseKey) → number_in tables.new k
+        ≡ less_by (sum_by (hits_at going.now.sight (namers_in tables.old) k) keys.now) (number_in tables.old k)) }
     ensures steps { OnOk result (HasTested (offers_tested going.now.sight (namers_in tables.old) keys.now) tables.old tables.new) }
     ensures most { TestsAtMost (offers_tested going.now.sight (namers_in tables.old) keys.now) tables.old tables.new }
     ensures least { tables.old.steps ≤ tables.new.steps }

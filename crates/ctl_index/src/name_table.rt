@@ -10,13 +10,14 @@ ghost use Rattle.std.specs.List.Sorted.{IsStrictlySortedBy};
 ghost use Rattle.std.specs.Str.{bytes_eq};
 ghost use Rattle.ctl_policy.specs.Kept.{HasPut, HasTaken, OthersStay};
 ghost use Rattle.ctl_index.specs.Clauses.{clause_cmp};
-ghost use Rattle.ctl_index.specs.Inside.TablesByName.{at_name, HoldsNothing, offers_under, namers_under, rows_under, AreUsed, is_used, named_namers, named_offers, named_rows, namers_without, offers_without};
+ghost use Rattle.ctl_index.specs.Inside.TablesByName.{at_name, HoldsNothing, offers_under, namers_under, rows_under, AreUsed, is_used, named_namers, named_offers, named_rows};
 ghost use Rattle.ctl_index.specs.Inside.TablesSight.{atom_met, atom_tested};
 ghost use Rattle.ctl_index.specs.Inside.NameMap.{entry_names, found_in};
+ghost use Rattle.ctl_index.specs.Inside.TablesCounters.{less_by};
 ghost use Rattle.ctl_index.specs.Inside.TablesViews.{AreFrom};
-ghost use Rattle.ctl_index.specs.Inside.TablesOrder.{namer_of};
+ghost use Rattle.ctl_index.specs.Inside.TablesOrder.{namer_of, namer_stanza, offer_stanza, without_if};
 ghost use Rattle.ctl_index.specs.Inside.TablesCounters.{counted_up};
-ghost use Rattle.ctl_index.specs.Inside.TablesSteps.{lowered, offer_hits, offer_tested};
+ghost use Rattle.ctl_index.specs.Inside.TablesSteps.{offer_hits, offer_tested};
 ghost use Rattle.ctl_index.specs.Work.{more_by};
 ghost use Rattle.ctl_index.specs.declared.keys.ClauseKey.{ClauseKey};
 
@@ -224,7 +225,8 @@ impl NameTable {
         atom: &Atom<'_>,
         steps: &mut Steps,
     )
-        ensures namers { (q : List ℕ) → namers_under self.new.map q ≡ namers_without self.old.map atom.now.name going.now.span q }
+        ensures namers { (q : List ℕ) → namers_under self.new.map q
+            ≡ without_if namer_stanza going.now.span (bytes_eq atom.now.name q) (namers_under self.old.map q) }
         ensures offers { (q : List ℕ) → offers_under self.new.map q ≡ offers_under self.old.map q }
         ensures rows { (q : List ℕ) → rows_under self.new.map q ≡ rows_under self.old.map q }
         ensures steps { steps.new ≡ more_by (atom_tested going.now.sight field (offers_under self.old.map atom.now.name)) steps.old }
@@ -249,11 +251,11 @@ impl NameTable {
         steps: &mut Steps,
     ) -> Result<(), AllocError>
         ensures offers { OnOk result ((q : List ℕ) → offers_under self.new.map q
-            ≡ offers_without self.old.map offer.now.name going.now.span q) }
+            ≡ without_if offer_stanza going.now.span (bytes_eq offer.now.name q) (offers_under self.old.map q)) }
         ensures namers { OnOk result ((q : List ℕ) → namers_under self.new.map q ≡ namers_under self.old.map q) }
         ensures rows { OnOk result ((q : List ℕ) → rows_under self.new.map q ≡ rows_under self.old.map q) }
         ensures counts { OnOk result ((k : ClauseKey) → get clause_cmp counters.new.numbers k
-            ≡ lowered going.now.sight (namers_under self.old.map) (offer.now ∷ []) k (get clause_cmp counters.old.numbers k)) }
+            ≡ less_by (offer_hits going.now.sight (namers_under self.old.map) offer.now k) (get clause_cmp counters.old.numbers k)) }
         ensures steps { OnOk result (steps.new
             ≡ more_by (offer_tested going.now.sight (namers_under self.old.map) offer.now) steps.old) }
         ensures most { steps.new ≤ more_by (offer_tested going.now.sight (namers_under self.old.map) offer.now) steps.old }

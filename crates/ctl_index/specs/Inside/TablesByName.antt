@@ -12,9 +12,7 @@ use Rattle.ctl_policy.specs.Chosen.{at_bytes}
 use Rattle.ctl_policy.specs.Rows.{Rows}
 use Rattle.ctl_index.specs.declared.keys.Namer.{Namer}
 use Rattle.ctl_index.specs.declared.keys.OfferKey.{OfferKey}
-use Rattle.ctl_index.specs.declared.span.Span.{Span}
 use Rattle.ctl_index.specs.Inside.ShortName.{most_short}
-use Rattle.ctl_index.specs.Inside.TablesOrder.{offer_stanza, namer_stanza, others}
 use Rattle.ctl_index.specs.contracts.name_map.NameMap.{the_row}
 use Rattle.ctl_index.specs.contracts.named.Named.{the_row as named_row}
 use Rattle.ctl_index.specs.declared.named.Named.{Named}
@@ -66,13 +64,6 @@ rows_under m name = part_under named_rows fin.empty m name
 -- the row of a version of a name, if there is one
 abbrev pub row_under : NameMap → List ℕ → List ℕ → Option (List StanzaKey)
 row_under m name version = fin.get (rows_under m name) version
-
--- the offers, or the namers, that stand under a name, without those of a span of stanzas under this name
-abbrev pub offers_without : NameMap → List ℕ → Span → List ℕ → List OfferKey
-offers_without m name span q = if bytes_eq name q then others offer_stanza span (offers_under m q) else offers_under m q
-
-abbrev pub namers_without : NameMap → List ℕ → Span → List ℕ → List Namer
-namers_without m name span q = if bytes_eq name q then others namer_stanza span (namers_under m q) else namers_under m q
 
 -- whether anything stands under a name
 abbrev pub is_used : Named → Bool

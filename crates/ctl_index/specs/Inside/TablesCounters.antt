@@ -1,6 +1,6 @@
 -- Of the tables alone: counters, and the clauses that stand at 0.
 use Rattle.std.specs.Prelude.{◌≡◌, ℕ, ◌+◌, ◌-◌, ◌^◌, min, max, Bool, false, nat_eq, List, [], ◌∷◌, Option, Some, if◌then◌else◌}
-use Rattle.std.specs.Option.{option_map_or}
+use Rattle.std.specs.Option.{option_map, option_map_or}
 use Rattle.std.specs.BTreeMap.{BTreeMap, get}
 use Rattle.std.specs.BTreeSet.{BTreeSet, contains}
 use Rattle.std.specs.Ordering.{is_eq}
@@ -17,6 +17,10 @@ AreUnmet numbers unmet = (k : ClauseKey) → contains clause_cmp unmet k ≡ opt
 -- A number that counts n more. At the last value of a u128 it would stay, which no number of the tables comes to.
 abbrev pub counted_up : ℕ → ℕ → ℕ
 counted_up n number = max number (min (number + n) (2 ^ 128 - 1))
+
+-- the number of a clause, if there is one, and so many less
+abbrev pub less_by : ℕ → Option ℕ → Option ℕ
+less_by n number = option_map (λ m. m - n) number
 
 -- the number of a clause, once these clauses came in turn, each with its number
 abbrev pub entered : List (ClauseKey × ℕ) → ClauseKey → Option ℕ → Option ℕ

@@ -1,4 +1,4 @@
--- Of the tables alone: tables that hold what the stanzas under keys have, and what stanzas that go make of them.
+-- Of the tables alone: tables that hold what the stanzas under keys have.
 use Rattle.std.specs.Prelude.{◌≡◌, ℕ, suc, ◌+◌, List, [], ◌∷◌, Option, if◌then◌else◌}
 use Rattle.std.specs.List.{sum_by}
 use Rattle.std.specs.Str.{bytes_eq}
@@ -10,17 +10,13 @@ use Rattle.ctl_index.specs.declared.keys.ClauseKey.{ClauseKey}
 use Rattle.ctl_index.specs.declared.keys.AtomKey.{AtomKey}
 use Rattle.ctl_index.specs.declared.keys.Namer.{Namer}
 use Rattle.ctl_index.specs.declared.keys.OfferKey.{OfferKey}
-use Rattle.ctl_index.specs.declared.span.Span.{Span}
 use Rattle.ctl_index.specs.declared.tables.Tables.{Tables}
 use Rattle.ctl_index.specs.Clauses.{number_at}
 use Rattle.ctl_index.specs.Names.{keyed_atoms}
 use Rattle.ctl_index.specs.Inside.TablesHeld.{offers_in, namers_in, number_in}
 use Rattle.ctl_index.specs.Inside.TablesFit.{AreWhole}
 use Rattle.ctl_index.specs.Inside.TablesOrder.{namer_of}
-use Rattle.ctl_index.specs.Inside.TablesRows.{AreKept, AreRowsTaken}
-use Rattle.ctl_index.specs.Inside.TablesSight.{Seen, seen}
-use Rattle.ctl_index.specs.Inside.TablesSteps.{with_each, span_of, take_offers_step, take_atoms_step}
-use Rattle.ctl_index.specs.Inside.TablesSteps.{lower_step, drop_step, offers_tested, atoms_tested}
+use Rattle.ctl_index.specs.Inside.TablesRows.{AreKept}
 
 abbrev pub keyed_offers_from : StanzaKey → ℕ → List OfferParts → List (OfferKey × OfferParts)
 keyed_offers_from key n [] = []
@@ -54,39 +50,3 @@ pub record IsIndexed (es : List Entry) (t : Tables) : Type 0 where
   pub rows : AreKept es t.names.map
   pub whole : AreWhole es
 
--- ---- stanzas that go
-
--- what stands under a name once stanzas of a span went
-abbrev pub offers_left : Seen → Span → List StanzaKey → Tables → List ℕ → List OfferKey
-offers_left s span keys old q = with_each (seen s) (take_offers_step span q) keys (offers_in old q)
-
-abbrev pub namers_left : Seen → Span → List StanzaKey → Tables → List ℕ → List Namer
-namers_left s span keys old q = with_each (seen s) (take_atoms_step span q) keys (namers_in old q)
-
--- once all of their span went
-abbrev pub offers_taken : Seen → List StanzaKey → Tables → List ℕ → List OfferKey
-offers_taken s keys old q = offers_left s (span_of keys) keys old q
-
-abbrev pub namers_taken : Seen → List StanzaKey → Tables → List ℕ → List Namer
-namers_taken s keys old q = namers_left s (span_of keys) keys old q
-
--- the number of a clause that stays, once offers went that met its atoms
-abbrev pub number_lowered : Seen → List StanzaKey → Tables → ClauseKey → Option ℕ
-number_lowered s keys old k = with_each (seen s) (lower_step s (namers_in old) k) keys (number_in old k)
-
--- that of one that is no clause of theirs
-abbrev pub number_dropped : Seen → List StanzaKey → Tables → ClauseKey → Option ℕ
-number_dropped s keys old k = with_each (seen s) (drop_step k) keys (number_in old k)
-
--- the number of a clause: those of theirs go, and that of one that stays is lowered
-abbrev pub number_taken : Seen → List StanzaKey → Tables → ClauseKey → Option ℕ
-number_taken s keys old k = with_each (seen s) (lower_step s (namers_taken s keys old) k) keys (number_dropped s keys old k)
-
-pub record IsTakenOut (s : Seen) (keys : List StanzaKey) (old new : Tables) : Type 0 where
-  pub offers : (q : List ℕ) → offers_in new q ≡ offers_taken s keys old q
-  pub namers : (q : List ℕ) → namers_in new q ≡ namers_taken s keys old q
-  pub counters : (k : ClauseKey) → number_in new k ≡ number_taken s keys old k
-  pub rows : AreRowsTaken s keys old.names.map new.names.map
-
-abbrev pub tests_taken_out : Seen → List StanzaKey → Tables → ℕ
-tests_taken_out s keys old = atoms_tested s (offers_in old) keys + offers_tested s (namers_taken s keys old) keys

@@ -54,3 +54,7 @@ module _ {X : Type 0} (stanza : X → StanzaKey) where
   -- those of no stanza of a span
   abbrev pub others : Span → List X → List X
   others span xs = filter (λ x. not (is_within span (stanza x))) xs
+
+  -- without those of a span, where it is said so
+  abbrev pub without_if : Span → Bool → List X → List X
+  without_if span b xs = if b then others span xs else xs

@@ -20,24 +20,6 @@ use Rattle.ctl_index.specs.Clauses.{is_clause_field, clause_cmp}
 use Rattle.ctl_index.specs.Names.{naming_fields}
 use Rattle.ctl_index.specs.Inside.TablesSight.{Seen, seen, hit, tested, atom_met, atom_tested}
 
--- ---- what goes under a name q: all that is of a span of keys, once a stanza of it names q
-
-abbrev pub left_offers : Span → List ℕ → List OfferParts → List OfferKey → List OfferKey
-left_offers span q [] xs = xs
-left_offers span q (offer ∷ offers) xs = left_offers span q offers (if bytes_eq offer.name q then others offer_stanza span xs else xs)
-
-abbrev pub left_group : Span → List ℕ → List AtomParts → List Namer → List Namer
-left_group span q [] xs = xs
-left_group span q (atom ∷ atoms) xs = left_group span q atoms (if bytes_eq atom.name q then others namer_stanza span xs else xs)
-
-abbrev pub left_groups : Span → List ℕ → List (List AtomParts) → List Namer → List Namer
-left_groups span q [] xs = xs
-left_groups span q (group ∷ groups) xs = left_groups span q groups (left_group span q group xs)
-
-abbrev pub left_fields : Span → Content → List ℕ → List FieldKind → List Namer → List Namer
-left_fields span stanza q [] xs = xs
-left_fields span stanza q (field ∷ fields) xs = left_fields span stanza q fields (left_groups span q (groups_of field stanza) xs)
-
 -- ---- the counters, where these offers stand under the names
 
 -- the offers of each name
@@ -64,29 +46,11 @@ is_clause group k = is_clause_field group.field && is_eq (clause_cmp group k)
 abbrev pub group_clause : StanzaKey → FieldKind → ℕ → ClauseKey
 group_clause key field n = record { stanza = key; field = field; group = n }
 
--- the number of a clause, once a group went
-abbrev pub without_number : ClauseKey → ClauseKey → Option ℕ → Option ℕ
-without_number group k old = if is_clause group k then None else old
-
-abbrev pub dropped_groups : StanzaKey → FieldKind → ℕ → List (List AtomParts) → ClauseKey → Option ℕ → Option ℕ
-dropped_groups key field n [] k old = old
-dropped_groups key field n (group ∷ groups) k old =
-    dropped_groups key field (suc n) groups k (without_number (group_clause key field n) k old)
-
-abbrev pub dropped_fields : StanzaKey → Content → List FieldKind → ClauseKey → Option ℕ → Option ℕ
-dropped_fields key stanza [] k old = old
-dropped_fields key stanza (field ∷ fields) k old =
-    dropped_fields key stanza fields k (dropped_groups key field 0 (groups_of field stanza) k old)
-
 -- ---- the counters, where offers come or go and these namers stand under the names
 
 -- how many of the atoms that name an offer meet it, and are of a clause
 abbrev pub offer_hits : Seen → (List ℕ → List Namer) → OfferParts → ClauseKey → ℕ
 offer_hits s namers offer k = sum_by (hit s offer k) (namers offer.name)
-
-abbrev pub lowered : Seen → (List ℕ → List Namer) → List OfferParts → ClauseKey → Option ℕ → Option ℕ
-lowered s namers [] k old = old
-lowered s namers (offer ∷ offers) k old = lowered s namers offers k (option_map (λ n. n - offer_hits s namers offer k) old)
 
 -- how many tests an offer makes, and how many several make
 abbrev pub offer_tested : Seen → (List ℕ → List Namer) → OfferParts → ℕ
@@ -110,24 +74,12 @@ with_each find step (key ∷ keys) a = with_each find step keys (with_found find
 abbrev pub of_found : (StanzaKey → Option Content) → (Content → ℕ) → StanzaKey → ℕ
 of_found find f key = option_map_or f (find key) 0
 
-abbrev pub take_offers_step : Span → List ℕ → StanzaKey → Content → List OfferKey → List OfferKey
-take_offers_step span q key x xs = left_offers span q (offers_of x) xs
-
-abbrev pub take_atoms_step : Span → List ℕ → StanzaKey → Content → List Namer → List Namer
-take_atoms_step span q key x xs = left_fields span x q naming_fields xs
-
 -- The row of a version of a name, where the key of a stanza comes or goes: a live one of the name and the version changes it.
 abbrev pub put_rows_step : List ℕ → List ℕ → StanzaKey → Content → Option (List StanzaKey) → Option (List StanzaKey)
 put_rows_step q version key x row = if is_in_row q version x then Some (with_key key (or_none row)) else row
 
 abbrev pub take_rows_step : List ℕ → List ℕ → StanzaKey → Content → Option (List StanzaKey) → Option (List StanzaKey)
 take_rows_step q version key x row = if is_in_row q version x then some_keys (without_key key (or_none row)) else row
-
-abbrev pub lower_step : Seen → (List ℕ → List Namer) → ClauseKey → StanzaKey → Content → Option ℕ → Option ℕ
-lower_step s namers k key x old = lowered s namers (offers_of x) k old
-
-abbrev pub drop_step : ClauseKey → StanzaKey → Content → Option ℕ → Option ℕ
-drop_step k key x old = dropped_fields key x naming_fields k old
 
 -- how many tests the offers, or the atoms, of a stanza make, and those of several
 abbrev pub offers_tests : Seen → (List ℕ → List Namer) → Content → ℕ

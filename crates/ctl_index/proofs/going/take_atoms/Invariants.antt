@@ -1,16 +1,18 @@
-use Rattle.std.proofs.Common.{◌≡◌, ℕ, List, drop, take}
+use Rattle.std.proofs.Common.{◌≡◌, ℕ, List, take, None, cond}
+use Rattle.std.specs.List.{list_any}
 use Rattle.ctl_index.specs.declared.keys.ClauseKey.{ClauseKey}
 use Rattle.ctl_index.specs.Inside.TablesHeld.{offers_in, namers_in, rows_in, number_in}
-use Rattle.ctl_index.specs.Inside.TablesSight.{seen}
-use Rattle.ctl_index.specs.Inside.TablesSteps.{with_each, take_atoms_step, drop_step, atoms_tested}
+use Rattle.ctl_index.specs.Inside.TablesLeft.{has_namer_at, is_clause_at}
+use Rattle.ctl_index.specs.Inside.TablesOrder.{namer_stanza, without_if}
+use Rattle.ctl_index.specs.Inside.TablesSteps.{atoms_tested}
 use Rattle.ctl_index.specs.Work.{more_by}
 use Rattle.ctl_index.proofs.going.take_atoms.Given as goal
 
 abbrev pub invariant-loop-key : goal.invariant-loop-key
 invariant-loop-key l = record {
-  namers : (q : List ℕ) → with_each (seen l.fn.going.sight) (take_atoms_step l.fn.going.span q) (drop l.key-index l.fn.keys) (namers_in l.tables q) ≡ with_each (seen l.fn.going.sight) (take_atoms_step l.fn.going.span q) l.fn.keys (namers_in l.fn.tables q);
+  namers : (q : List ℕ) → namers_in l.tables q ≡ without_if namer_stanza l.fn.going.span (list_any (has_namer_at l.fn.going.sight q) (take l.key-index l.fn.keys)) (namers_in l.fn.tables q);
   offers : offers_in l.tables ≡ offers_in l.fn.tables;
   rows : rows_in l.tables ≡ rows_in l.fn.tables;
-  counts : (k : ClauseKey) → with_each (seen l.fn.going.sight) (drop_step k) (drop l.key-index l.fn.keys) (number_in l.tables k) ≡ with_each (seen l.fn.going.sight) (drop_step k) l.fn.keys (number_in l.fn.tables k);
+  counts : (k : ClauseKey) → number_in l.tables k ≡ cond (list_any (is_clause_at l.fn.going.sight k) (take l.key-index l.fn.keys)) None (number_in l.fn.tables k);
   steps : l.tables.steps ≡ more_by (atoms_tested l.fn.going.sight (offers_in l.fn.tables) (take l.key-index l.fn.keys)) l.fn.tables.steps;
 }

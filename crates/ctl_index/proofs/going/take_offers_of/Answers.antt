@@ -6,12 +6,15 @@ use Rattle.std.proofs.lemmas.List.Sums.{sum_by_more, sum_by_more_le}
 use Rattle.ctl_relation.specs.Parts.{OfferParts}
 use Rattle.ctl_index.specs.declared.keys.Namer.{Namer}
 use Rattle.ctl_index.specs.declared.keys.OfferKey.{OfferKey}
+use Rattle.ctl_index.specs.Offers.{is_offered}
+use Rattle.ctl_index.specs.Inside.TablesCounters.{less_by}
 use Rattle.ctl_index.specs.Inside.TablesHeld.{offers_in, namers_in, number_in}
-use Rattle.ctl_index.specs.Inside.TablesSight.{hit, tested}
+use Rattle.ctl_index.specs.Inside.TablesSight.{tested}
 use Rattle.ctl_index.specs.Inside.TablesOrder.{others, offer_stanza}
-use Rattle.ctl_index.specs.Inside.TablesSteps.{left_offers, lowered, all_tested}
+use Rattle.ctl_index.specs.Inside.TablesSteps.{all_tested, offer_hits}
 use Rattle.ctl_index.specs.Work.{more_by}
 use Rattle.ctl_index.proofs.CounterLemmas.{more_by_twice}
+use Rattle.ctl_index.proofs.LeavingLemmas.{filter_twice, less_more, twice_more}
 use Rattle.ctl_index.proofs.going.take_offers_of.Goals as goal
 
 pub loop-offer-preserved : goal.loop-offer-preserved
@@ -25,16 +28,15 @@ loop-offer-preserved c =
     let item : o ≡ get_or os i o = search rules in
     record {
       offers = λ q.
+          let old = offers_in c.args.tables.now q in
+          let left = others offer_stanza c.args.going.now.span in
           let now = offers_in c.loop-offer.tables q in
-          let taken : OfferParts → List OfferKey = λ p. cond (bytes_eq p.name q) (others offer_stanza c.args.going.now.span now) now in
-          ap (left_offers c.args.going.now.span q (drop (i + 1) os)) (c.in_ok-take_offer.ensures.offers q ∙ ap taken item)
-          ∙ sym (at_drop_more (λ ps. left_offers c.args.going.now.span q ps now) os i o below) ∙ c.loop-offer.invariant.offers q;
+          twice_more left old (filter_twice _ old) (is_offered q) os i o below (c.in_ok-take_offer.ensures.offers q ∙ ap (λ (p : OfferParts). cond (is_offered q p) (left now) now) item) (c.loop-offer.invariant.offers q);
       namers = (λ j q. c.in_ok-take_offer.ensures.namers q j) ∙ c.loop-offer.invariant.namers;
       rows = (λ j q. c.in_ok-take_offer.ensures.rows q j) ∙ c.loop-offer.invariant.rows;
       counts = λ k.
-          let now = number_in c.loop-offer.tables k in
-          ap (lowered s t (drop (i + 1) os) k) (c.in_ok-take_offer.ensures.counts k ∙ ap (λ (u : List ℕ → List Namer). option_map (λ (n : ℕ). n - sum_by (hit s o k) (u o.name)) now) c.loop-offer.invariant.namers ∙ ap (λ (p : OfferParts). option_map (λ (n : ℕ). n - sum_by (hit s p k) (t p.name)) now) item)
-          ∙ sym (at_drop_more (λ ps. lowered s t ps k now) os i o below) ∙ c.loop-offer.invariant.counts k;
+          c.in_ok-take_offer.ensures.counts k ∙ (λ j. less_by (offer_hits s (c.loop-offer.invariant.namers j) (item j) k) (c.loop-offer.invariant.counts k j))
+          ∙ less_more (λ (p : OfferParts). offer_hits s t p k) os i o below (number_in c.args.tables.now k);
       steps =
           c.in_ok-take_offer.ensures.steps ∙ ap (λ (u : List ℕ → List Namer). more_by (sum_by (tested s o.name) (u o.name)) c.loop-offer.tables.steps) c.loop-offer.invariant.namers
           ∙ ap (λ (p : OfferParts). more_by (sum_by (tested s p.name) (t p.name)) c.loop-offer.tables.steps) item ∙ ap (more_by _) c.loop-offer.invariant.steps ∙ more_by_twice (all_tested s t (take i os)) _ c.args.tables.now.steps

@@ -1,10 +1,13 @@
 use Rattle.std.proofs.Common.{◌≡◌, ℕ, List, ap, ◌∙◌, arith}
 use Rattle.std.specs.FinMap as fin
+use Rattle.std.specs.List.{list_any, sum_by}
 use Rattle.ctl_index.specs.declared.keys.Namer.{Namer}
+use Rattle.ctl_index.specs.Inside.TablesCounters.{less_by}
 use Rattle.ctl_index.specs.Inside.TablesHeld.{offers_in, namers_in}
-use Rattle.ctl_index.specs.Inside.TablesIndexed.{namers_taken}
+use Rattle.ctl_index.specs.Inside.TablesLeft.{has_namer_at, has_offer_at, hits_at, namers_taken}
+use Rattle.ctl_index.specs.Inside.TablesOrder.{namer_stanza, offer_stanza, without_if}
 use Rattle.ctl_index.specs.Inside.TablesSight.{seen}
-use Rattle.ctl_index.specs.Inside.TablesSteps.{with_each, span_of, take_offers_step, take_atoms_step, take_rows_step, lower_step, offers_tested, atoms_tested}
+use Rattle.ctl_index.specs.Inside.TablesSteps.{with_each, span_of, take_rows_step, offers_tested, atoms_tested}
 use Rattle.ctl_index.specs.Work.{more_by}
 use Rattle.ctl_index.proofs.CounterLemmas.{more_by_twice}
 use Rattle.ctl_index.specs.Inside.TablesHeld.{offers_in, namers_in}
@@ -17,11 +20,11 @@ returns-clause-tables c =
     let old = c.args.tables.now in
     let span : c.in-Some.span ≡ span_of keys = c.in-Some.ensures.some in
     let left : (q : List ℕ) → namers_in c.take_atoms.new.tables q ≡ namers_taken s keys old q =
-    λ q. c.take_atoms.ensures.namers q ∙ (λ i. with_each (seen s) (take_atoms_step (span i) q) keys (namers_in old q)) in
+    λ q. c.take_atoms.ensures.namers q ∙ (λ i. without_if namer_stanza (span i) (list_any (has_namer_at s q) keys) (namers_in old q)) in
     record {
-      offers = λ q. (λ i. c.take_rows.ensures.offers i q) ∙ c.in_ok-take_offers.ensures.offers q ∙ (λ i. with_each (seen s) (take_offers_step (span i) q) keys (c.take_atoms.ensures.offers i q));
+      offers = λ q. (λ i. c.take_rows.ensures.offers i q) ∙ c.in_ok-take_offers.ensures.offers q ∙ (λ i. without_if offer_stanza (span i) (list_any (has_offer_at s q) keys) (c.take_atoms.ensures.offers i q));
       namers = λ q. (λ i. c.take_rows.ensures.namers i q) ∙ (λ i. c.in_ok-take_offers.ensures.namers i q) ∙ left q;
-      counters = λ k. c.in_ok-take_offers.ensures.counts k ∙ (λ i. with_each (seen s) (lower_step s (λ q. left q i) k) keys (c.take_atoms.ensures.counts k i));
+      counters = λ k. c.in_ok-take_offers.ensures.counts k ∙ (λ i. less_by (sum_by (hits_at s (λ q. left q i) k) keys) (c.take_atoms.ensures.counts k i));
       rows = λ q version.
           c.take_rows.ensures.rows q version
           ∙ (λ i. with_each (seen s) (take_rows_step q version) keys (fin.get ((c.in_ok-take_offers.ensures.rows ∙ c.take_atoms.ensures.rows) i q) version));
@@ -34,7 +37,7 @@ returns-clause-steps c =
     let old = c.args.tables.now in
     let span : c.in-Some.span ≡ span_of keys = c.in-Some.ensures.some in
     let left : (q : List ℕ) → namers_in c.take_atoms.new.tables q ≡ namers_taken s keys old q =
-    λ q. c.take_atoms.ensures.namers q ∙ (λ i. with_each (seen s) (take_atoms_step (span i) q) keys (namers_in old q)) in
+    λ q. c.take_atoms.ensures.namers q ∙ (λ i. without_if namer_stanza (span i) (list_any (has_namer_at s q) keys) (namers_in old q)) in
     c.in_ok-take_offers.ensures.steps ∙ (λ i. more_by (offers_tested s (λ q. left q i) keys) (c.take_atoms.ensures.steps i))
     ∙ more_by_twice (atoms_tested s (offers_in old) keys) (offers_tested s (namers_taken s keys old) keys) c.args.tables.now.steps
 
@@ -45,7 +48,7 @@ returns-clause-most c =
     let old = c.args.tables.now in
     let span : c.in-Some.span ≡ span_of keys = c.in-Some.ensures.some in
     let left : (q : List ℕ) → namers_in c.take_atoms.new.tables q ≡ namers_taken s keys old q =
-    λ q. c.take_atoms.ensures.namers q ∙ (λ i. with_each (seen s) (take_atoms_step (span i) q) keys (namers_in old q)) in
+    λ q. c.take_atoms.ensures.namers q ∙ (λ i. without_if namer_stanza (span i) (list_any (has_namer_at s q) keys) (namers_in old q)) in
     let same = ap (λ (t : List ℕ → List Namer). offers_tested s t keys) (λ i q. left q i) in
     omega (arith, c.in_ok-take_offers.ensures.steps, c.take_atoms.ensures.steps, same)
 
@@ -56,6 +59,6 @@ returns-in_err-take_offers-clause-most c =
     let old = c.args.tables.now in
     let span : c.in-Some.span ≡ span_of keys = c.in-Some.ensures.some in
     let left : (q : List ℕ) → namers_in c.take_atoms.new.tables q ≡ namers_taken s keys old q =
-    λ q. c.take_atoms.ensures.namers q ∙ (λ i. with_each (seen s) (take_atoms_step (span i) q) keys (namers_in old q)) in
+    λ q. c.take_atoms.ensures.namers q ∙ (λ i. without_if namer_stanza (span i) (list_any (has_namer_at s q) keys) (namers_in old q)) in
     let same = ap (λ (t : List ℕ → List Namer). offers_tested s t keys) (λ i q. left q i) in
     omega (arith, c.take_offers.ensures.most, c.take_atoms.ensures.steps, same)
