@@ -1,9 +1,10 @@
 -- Of the tables alone: what stanzas that go leave of them.
-use Rattle.std.specs.Prelude.{◌≡◌, ℕ, ◌+◌, ◌&&◌, Bool, false, List, length, nat_lt, Option, None, is_some, if◌then◌else◌}
+use Rattle.std.specs.Prelude.{◌≡◌, ℕ, ◌+◌, ◌&&◌, Bool, false, List, length, nat_eq, nat_lt, Option, None, is_some, if◌then◌else◌}
 use Rattle.std.specs.List.{list_any, sum_by}
 use Rattle.std.specs.Option.{option_map_or, option_and_then}
 use Rattle.std.specs.Str.{bytes_eq}
 use Rattle.ctl_relation.specs.declared.field_kind.FieldKind.{FieldKind}
+use Rattle.ctl_relation.specs.FieldKind.{field_place}
 use Rattle.ctl_relation.specs.Parts.{AtomParts, OfferParts}
 use Rattle.ctl_stanza.specs.Content.{Content, groups_of, offers_of}
 use Rattle.ctl_store.specs.declared.stanza_key.StanzaKey.{StanzaKey}
@@ -12,7 +13,7 @@ use Rattle.ctl_index.specs.declared.keys.ClauseKey.{ClauseKey}
 use Rattle.ctl_index.specs.declared.keys.Namer.{Namer}
 use Rattle.ctl_index.specs.declared.keys.OfferKey.{OfferKey}
 use Rattle.ctl_index.specs.declared.tables.Tables.{Tables}
-use Rattle.ctl_index.specs.Clauses.{clause_of}
+use Rattle.ctl_index.specs.Clauses.{is_clause_field, clause_of}
 use Rattle.ctl_index.specs.Names.{naming_fields}
 use Rattle.ctl_index.specs.Offers.{is_offered}
 use Rattle.ctl_index.specs.Inside.TablesCounters.{less_by}
@@ -21,7 +22,7 @@ use Rattle.ctl_index.specs.Inside.TablesLoaded.{all_hits}
 use Rattle.ctl_index.specs.Inside.TablesOrder.{offer_stanza, namer_stanza, without_if}
 use Rattle.ctl_index.specs.Inside.TablesRows.{AreRowsTaken}
 use Rattle.ctl_index.specs.Inside.TablesSight.{Seen, seen}
-use Rattle.ctl_index.specs.Inside.TablesSteps.{is_clause, group_clause, of_found, span_of, offers_tested, atoms_tested}
+use Rattle.ctl_index.specs.Inside.TablesSteps.{of_found, span_of, offers_tested, atoms_tested}
 
 -- ---- under a name q
 
@@ -46,7 +47,8 @@ has_namer_at s q key = option_map_or (λ x. list_any (has_namer_in q x) naming_f
 
 -- whether it is one of the first n groups of a field of the stanza under a key; one of the field
 abbrev pub is_group_below : StanzaKey → FieldKind → ℕ → ClauseKey → Bool
-is_group_below key field n k = is_clause (group_clause key field k.group) k && nat_lt k.group n
+is_group_below key field n k =
+    is_clause_field field && (key_is k.stanza key && (nat_eq (field_place field) (field_place k.field) && nat_lt k.group n))
 
 abbrev pub is_of_field : StanzaKey → Content → ClauseKey → FieldKind → Bool
 is_of_field key stanza k field = is_group_below key field (length (groups_of field stanza)) k
