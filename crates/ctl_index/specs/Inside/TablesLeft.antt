@@ -1,9 +1,10 @@
 -- Of the tables alone: what stanzas that go leave of them.
-use Rattle.std.specs.Prelude.{◌≡◌, ℕ, ◌+◌, ◌&&◌, Bool, false, List, length, nat_lt, Option, None, is_some, if◌then◌else◌}
+use Rattle.std.specs.Prelude.{◌≡◌, ℕ, ◌+◌, ◌&&◌, Bool, false, List, length, nat_eq, nat_lt, None, is_some, if◌then◌else◌}
 use Rattle.std.specs.List.{list_any, sum_by}
 use Rattle.std.specs.Option.{option_map_or, option_and_then}
 use Rattle.std.specs.Str.{bytes_eq}
 use Rattle.ctl_relation.specs.declared.field_kind.FieldKind.{FieldKind}
+use Rattle.ctl_relation.specs.FieldKind.{field_place}
 use Rattle.ctl_relation.specs.Parts.{AtomParts, OfferParts}
 use Rattle.ctl_stanza.specs.Content.{Content, groups_of, offers_of}
 use Rattle.ctl_store.specs.declared.stanza_key.StanzaKey.{StanzaKey}
@@ -12,7 +13,7 @@ use Rattle.ctl_index.specs.declared.keys.ClauseKey.{ClauseKey}
 use Rattle.ctl_index.specs.declared.keys.Namer.{Namer}
 use Rattle.ctl_index.specs.declared.keys.OfferKey.{OfferKey}
 use Rattle.ctl_index.specs.declared.tables.Tables.{Tables}
-use Rattle.ctl_index.specs.Clauses.{clause_of}
+use Rattle.ctl_index.specs.Clauses.{is_clause_field, clause_of}
 use Rattle.ctl_index.specs.Names.{naming_fields}
 use Rattle.ctl_index.specs.Offers.{is_offered}
 use Rattle.ctl_index.specs.Inside.TablesCounters.{less_by}
@@ -21,33 +22,38 @@ use Rattle.ctl_index.specs.Inside.TablesLoaded.{all_hits}
 use Rattle.ctl_index.specs.Inside.TablesOrder.{offer_stanza, namer_stanza, without_if}
 use Rattle.ctl_index.specs.Inside.TablesRows.{AreRowsTaken}
 use Rattle.ctl_index.specs.Inside.TablesSight.{Seen, seen}
-use Rattle.ctl_index.specs.Inside.TablesSteps.{is_clause, group_clause, of_found, span_of, offers_tested, atoms_tested}
+use Rattle.ctl_index.specs.Inside.TablesSteps.{of_found, span_of, offers_tested, atoms_tested}
 
 -- ---- under a name q
 
--- whether one of these offers is of the name; one of these atoms, or of those of a field of a stanza, names it
+-- whether one of these offers is of the name
 abbrev pub has_offer : List ℕ → List OfferParts → Bool
 has_offer q offers = list_any (is_offered q) offers
 
+-- whether one of these atoms names it
 abbrev pub has_namer : List ℕ → List AtomParts → Bool
 has_namer q atoms = list_any (λ (atom : AtomParts). bytes_eq atom.name q) atoms
 
+-- whether an atom of a field of a stanza names it
 abbrev pub has_namer_in : List ℕ → Content → FieldKind → Bool
 has_namer_in q stanza field = list_any (has_namer q) (groups_of field stanza)
 
--- whether the stanza that is seen under a key offers the name; whether it names it
+-- whether the stanza that is seen under a key offers it
 abbrev pub has_offer_at : Seen → List ℕ → StanzaKey → Bool
 has_offer_at s q key = option_map_or (λ x. has_offer q (offers_of x)) (seen s key) false
 
+-- whether an atom of that stanza names it
 abbrev pub has_namer_at : Seen → List ℕ → StanzaKey → Bool
 has_namer_at s q key = option_map_or (λ x. list_any (has_namer_in q x) naming_fields) (seen s key) false
 
 -- ---- the number of a clause k
 
--- whether it is one of the first n groups of a field of the stanza under a key; one of the field
+-- whether it is one of the first n groups of a field, of the stanza under a key
 abbrev pub is_group_below : StanzaKey → FieldKind → ℕ → ClauseKey → Bool
-is_group_below key field n k = is_clause (group_clause key field k.group) k && nat_lt k.group n
+is_group_below key field n k =
+    is_clause_field field && (key_is k.stanza key && (nat_eq (field_place field) (field_place k.field) && nat_lt k.group n))
 
+-- whether it is one of the field
 abbrev pub is_of_field : StanzaKey → Content → ClauseKey → FieldKind → Bool
 is_of_field key stanza k field = is_group_below key field (length (groups_of field stanza)) k
 
@@ -61,23 +67,21 @@ hits_at s namers k key = of_found (seen s) (λ x. all_hits s namers (offers_of x
 
 -- ---- once the stanzas under these keys went
 
--- what stands under a name: where one of them has it, all of their span went
+-- the offers of a name: where one of them offers it, all of their span went
 abbrev pub offers_taken : Seen → List StanzaKey → Tables → List ℕ → List OfferKey
 offers_taken s keys old q = without_if offer_stanza (span_of keys) (list_any (has_offer_at s q) keys) (offers_in old q)
 
+-- the atoms that name it: where an atom of one of them does, all of their span went
 abbrev pub namers_taken : Seen → List StanzaKey → Tables → List ℕ → List Namer
 namers_taken s keys old q = without_if namer_stanza (span_of keys) (list_any (has_namer_at s q) keys) (namers_in old q)
 
--- the number of a clause: none of one of theirs, and of one that stays less how often they hit it
-abbrev pub number_taken : Seen → List StanzaKey → Tables → ClauseKey → Option ℕ
-number_taken s keys old k =
-    less_by (sum_by (hits_at s (namers_taken s keys old) k) keys)
-    (if list_any (is_clause_at s k) keys then None else number_in old k)
-
+-- Under each name stands what they leave. A clause of theirs has no number, and one that stays has its own less how often what they
+-- offer hits it. The rows are without their keys.
 pub record IsTakenOut (s : Seen) (keys : List StanzaKey) (old new : Tables) : Type 0 where
   pub offers : (q : List ℕ) → offers_in new q ≡ offers_taken s keys old q
   pub namers : (q : List ℕ) → namers_in new q ≡ namers_taken s keys old q
-  pub counters : (k : ClauseKey) → number_in new k ≡ number_taken s keys old k
+  pub counters : (k : ClauseKey) → number_in new k
+      ≡ less_by (sum_by (hits_at s (namers_taken s keys old) k) keys) (if list_any (is_clause_at s k) keys then None else number_in old k)
   pub rows : AreRowsTaken s keys old.names.map new.names.map
 
 -- how many tests are made

@@ -1,5 +1,5 @@
 -- Of the tables alone: what each step of taking stanzas out or putting them in makes of them.
-use Rattle.std.specs.Prelude.{ℕ, ◌-◌, suc, ◌&&◌, Bool, List, [], ◌∷◌, Option, None, Some, if◌then◌else◌}
+use Rattle.std.specs.Prelude.{ℕ, suc, ◌&&◌, Bool, List, [], ◌∷◌, Option, Some, if◌then◌else◌}
 use Rattle.std.specs.List.{sum_by}
 use Rattle.std.specs.Option.{option_map, option_map_or}
 use Rattle.std.specs.Str.{bytes_eq}
@@ -15,7 +15,6 @@ use Rattle.ctl_index.specs.declared.keys.ClauseKey.{ClauseKey}
 use Rattle.ctl_index.specs.declared.keys.Namer.{Namer}
 use Rattle.ctl_index.specs.declared.keys.OfferKey.{OfferKey}
 use Rattle.ctl_index.specs.declared.span.Span.{Span}
-use Rattle.ctl_index.specs.Inside.TablesOrder.{offer_stanza, namer_stanza, others}
 use Rattle.ctl_index.specs.Clauses.{is_clause_field, clause_cmp}
 use Rattle.ctl_index.specs.Names.{naming_fields}
 use Rattle.ctl_index.specs.Inside.TablesSight.{Seen, seen, hit, tested, atom_met, atom_tested}

@@ -1,4 +1,4 @@
-use Rattle.std.proofs.Common.{◌<◌, None, length, refl, arith, rules}
+use Rattle.std.proofs.Common.{None, refl, arith, rules}
 use Rattle.std.proofs.lemmas.Grind.{common_steps}
 use Rattle.ctl_index.specs.Inside.TablesHeld.{namers_in, number_in}
 use Rattle.ctl_index.specs.Inside.TablesLeft.{has_namer_in, is_of_field}
@@ -10,14 +10,12 @@ pub loop-field-preserved : goal.loop-field-preserved
 loop-field-preserved c =
     let x = c.args.stanza.now in
     let fields = c.args.fields.now in
-    let i = c.loop-field.field-index in
-    let below : i < length fields = omega arith in
     record {
       namers = λ q.
           let old = namers_in c.args.tables.now q in
-          twice_more (others namer_stanza c.args.going.now.span) old (filter_twice _ old) (has_namer_in q x) fields i _ below (c.take_field.ensures.namers q) (c.loop-field.invariant.namers q);
+          twice_more (others namer_stanza c.args.going.now.span) old (filter_twice _ old) (has_namer_in q x) fields c.loop-field.field-index _ (omega arith) (c.take_field.ensures.namers q) (c.loop-field.invariant.namers q);
       offers = search rules;
       rows = search rules;
-      counts = λ k. twice_more (λ _. None) (number_in c.args.tables.now k) refl (is_of_field c.args.key x k) fields i _ below (c.take_field.ensures.counts k) (c.loop-field.invariant.counts k);
+      counts = λ k. twice_more (λ _. None) (number_in c.args.tables.now k) refl (is_of_field c.args.key x k) fields c.loop-field.field-index _ (omega arith) (c.take_field.ensures.counts k) (c.loop-field.invariant.counts k);
       steps = grind (arith, common_steps);
     }

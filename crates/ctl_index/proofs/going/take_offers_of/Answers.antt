@@ -1,11 +1,8 @@
-use Rattle.std.proofs.Common.{◌≡◌, ℕ, List, cond, ap, sym, ◌∙◌, ◌+◌, ◌-◌, ◌<◌, length, take, drop, option_map, arith, get_or, rules}
+use Rattle.std.proofs.Common.{◌≡◌, ℕ, List, cond, ap, sym, ◌∙◌, ◌<◌, length, take, arith, get_or, rules}
 use Rattle.std.specs.List.{sum_by}
-use Rattle.std.specs.Str.{bytes_eq}
-use Rattle.std.proofs.lemmas.List.{at_drop_more}
 use Rattle.std.proofs.lemmas.List.Sums.{sum_by_more, sum_by_more_le}
 use Rattle.ctl_relation.specs.Parts.{OfferParts}
 use Rattle.ctl_index.specs.declared.keys.Namer.{Namer}
-use Rattle.ctl_index.specs.declared.keys.OfferKey.{OfferKey}
 use Rattle.ctl_index.specs.Offers.{is_offered}
 use Rattle.ctl_index.specs.Inside.TablesCounters.{less_by}
 use Rattle.ctl_index.specs.Inside.TablesHeld.{offers_in, namers_in, number_in}

@@ -4,7 +4,7 @@ use Rattle.std.specs.List.{list_any, sum_by}
 use Rattle.ctl_index.specs.declared.keys.Namer.{Namer}
 use Rattle.ctl_index.specs.Inside.TablesCounters.{less_by}
 use Rattle.ctl_index.specs.Inside.TablesHeld.{offers_in, namers_in}
-use Rattle.ctl_index.specs.Inside.TablesLeft.{has_namer_at, has_offer_at, hits_at, namers_taken}
+use Rattle.ctl_index.specs.Inside.TablesLeft.{has_namer_at, has_offer_at, hits_at, namers_taken, tests_taken_out}
 use Rattle.ctl_index.specs.Inside.TablesOrder.{namer_stanza, offer_stanza, without_if}
 use Rattle.ctl_index.specs.Inside.TablesSight.{seen}
 use Rattle.ctl_index.specs.Inside.TablesSteps.{with_each, span_of, take_rows_step, offers_tested, atoms_tested}
@@ -43,14 +43,8 @@ returns-clause-steps c =
 
 pub returns-clause-most : goal.returns-clause-most
 returns-clause-most c =
-    let s = c.args.sight in
-    let keys = c.args.keys.now in
-    let old = c.args.tables.now in
-    let span : c.in-Some.span ≡ span_of keys = c.in-Some.ensures.some in
-    let left : (q : List ℕ) → namers_in c.take_atoms.new.tables q ≡ namers_taken s keys old q =
-    λ q. c.take_atoms.ensures.namers q ∙ (λ i. without_if namer_stanza (span i) (list_any (has_namer_at s q) keys) (namers_in old q)) in
-    let same = ap (λ (t : List ℕ → List Namer). offers_tested s t keys) (λ i q. left q i) in
-    omega (arith, c.in_ok-take_offers.ensures.steps, c.take_atoms.ensures.steps, same)
+    let all : c.take_offers.new.tables.steps ≡ more_by (tests_taken_out c.args.sight c.args.keys.now c.args.tables.now) c.args.tables.now.steps = returns-clause-steps c in
+    omega (arith, all)
 
 pub returns-in_err-take_offers-clause-most : goal.returns-in_err-take_offers-clause-most
 returns-in_err-take_offers-clause-most c =

@@ -1,7 +1,6 @@
-use Rattle.std.proofs.Common.{◌≡◌, ℕ, [], List, Some, None, cond, ap, sym, subst, ◌∙◌}
+use Rattle.std.proofs.Common.{ℕ, [], List, Some, None, cond, ap, sym, subst, ◌∙◌, arith}
 use Rattle.std.specs.Str.{bytes_eq}
-use Rattle.ctl_index.specs.declared.keys.OfferKey.{OfferKey}
-use Rattle.ctl_policy.specs.Rows.{Rows}
+use Rattle.std.proofs.lemmas.Grind.{common_steps}
 use Rattle.ctl_index.specs.declared.named.Named.{Named}
 use Rattle.std.specs.FinMap as fin
 use Rattle.ctl_index.specs.Inside.TablesByName.{IsSetAt, rows_under, named_rows, offers_under, namers_under, named_offers, named_namers}
@@ -30,8 +29,8 @@ invariant_of-self-else-not-is_used c =
     let writes : IsSetAt bs m n (Some w) = on_some c.in-Some.is (c.get_mut.follows.holds w) in
     record { used = used_written bs m n w writes (sym c.is_used.ensures ∙ c.if-not-is_used.false) c.args.self.now.used }
 
-pub returns-then-not-is_used-clause-namers : goal.returns-then-not-is_used-clause-namers
-returns-then-not-is_used-clause-namers c =
+pub returns-then-not-is_used : goal.returns-then-not-is_used
+returns-then-not-is_used c =
     let m = c.args.self.now.map in
     let v = c.in-Some.named.now in
     let w : Named = record { offers = v.offers; namers = c.take.new.self; rows = v.rows } in
@@ -40,65 +39,32 @@ returns-then-not-is_used-clause-namers c =
     let writes : IsSetAt bs m n (Some w) = on_some c.in-Some.is (c.get_mut.follows.holds w) in
     let removes : IsSetAt bs n c.remove.new.self None = subst (λ (b : List ℕ). IsSetAt b n c.remove.new.self None) (c.name-then-not-is_used.ensures ∙ sym c.name.ensures) c.remove.ensures in
     let left = nothing_left w (sym c.is_used.ensures ∙ c.if-not-is_used.true) in
-    let none : others namer_stanza c.args.going.now.span (namers_under m bs) ≡ [] = sym (c.take.ensures ∙ ap (others namer_stanza c.args.going.now.span) (part-found named_namers [] bs m _ c.in-Some.ensures.value)) ∙ left.namers in
-    λ q.
-    replaced named_namers [] bs m n c.remove.new.self w (others namer_stanza c.args.going.now.span) writes removes none q
-    ∙ ap (λ b. cond (bytes_eq b q) (others namer_stanza c.args.going.now.span (namers_under m q)) (namers_under m q)) c.name.ensures
+    let found = c.in-Some.ensures.value in
+    let stay = others namer_stanza c.args.going.now.span in
+    record {
+      namers = λ q.
+          replaced named_namers [] bs m n c.remove.new.self w stay writes removes (sym (c.take.ensures ∙ ap stay (part-found named_namers [] bs m _ found)) ∙ left.namers) q
+          ∙ ap (λ b. cond (bytes_eq b q) (stay (namers_under m q)) (namers_under m q)) c.name.ensures;
+      offers = λ q. replaced named_offers [] bs m n c.remove.new.self w (λ l. l) writes removes (sym (part-found named_offers [] bs m _ found) ∙ left.offers) q ∙ same_either (bytes_eq bs q) (offers_under m q);
+      rows = λ q. replaced named_rows fin.empty bs m n c.remove.new.self w (λ l. l) writes removes (sym (part-found named_rows fin.empty bs m _ found) ∙ left.rows) q ∙ same_either (bytes_eq bs q) (rows_under m q);
+      steps = grind (arith, common_steps);
+    }
 
-pub returns-then-not-is_used-clause-offers : goal.returns-then-not-is_used-clause-offers
-returns-then-not-is_used-clause-offers c =
+pub returns-else-not-is_used : goal.returns-else-not-is_used
+returns-else-not-is_used c =
     let m = c.args.self.now.map in
     let v = c.in-Some.named.now in
     let w : Named = record { offers = v.offers; namers = c.take.new.self; rows = v.rows } in
     let bs = c.name.result.now in
     let n = c.get_mut.follows.lender w in
     let writes : IsSetAt bs m n (Some w) = on_some c.in-Some.is (c.get_mut.follows.holds w) in
-    let removes : IsSetAt bs n c.remove.new.self None = subst (λ (b : List ℕ). IsSetAt b n c.remove.new.self None) (c.name-then-not-is_used.ensures ∙ sym c.name.ensures) c.remove.ensures in
-    let left = nothing_left w (sym c.is_used.ensures ∙ c.if-not-is_used.true) in
-    let f : List OfferKey → List OfferKey = λ l. l in
-    λ q. replaced named_offers [] bs m n c.remove.new.self w f writes removes (sym (part-found named_offers [] bs m _ c.in-Some.ensures.value) ∙ left.offers) q ∙ same_either (bytes_eq bs q) (offers_under m q)
-
-pub returns-else-not-is_used-clause-namers : goal.returns-else-not-is_used-clause-namers
-returns-else-not-is_used-clause-namers c =
-    let m = c.args.self.now.map in
-    let v = c.in-Some.named.now in
-    let w : Named = record { offers = v.offers; namers = c.take.new.self; rows = v.rows } in
-    let bs = c.name.result.now in
-    let n = c.get_mut.follows.lender w in
-    let writes : IsSetAt bs m n (Some w) = on_some c.in-Some.is (c.get_mut.follows.holds w) in
-    λ q.
-    changed named_namers [] bs m n w (others namer_stanza c.args.going.now.span) writes (c.take.ensures ∙ ap (others namer_stanza c.args.going.now.span) (part-found named_namers [] bs m _ c.in-Some.ensures.value)) q
-    ∙ ap (λ b. cond (bytes_eq b q) (others namer_stanza c.args.going.now.span (namers_under m q)) (namers_under m q)) c.name.ensures
-
-pub returns-else-not-is_used-clause-offers : goal.returns-else-not-is_used-clause-offers
-returns-else-not-is_used-clause-offers c =
-    let m = c.args.self.now.map in
-    let v = c.in-Some.named.now in
-    let w : Named = record { offers = v.offers; namers = c.take.new.self; rows = v.rows } in
-    let bs = c.name.result.now in
-    let n = c.get_mut.follows.lender w in
-    let writes : IsSetAt bs m n (Some w) = on_some c.in-Some.is (c.get_mut.follows.holds w) in
-    unchanged named_offers [] bs m n w writes (part-found named_offers [] bs m _ c.in-Some.ensures.value)
-
-pub returns-then-not-is_used-clause-rows : goal.returns-then-not-is_used-clause-rows
-returns-then-not-is_used-clause-rows c =
-    let m = c.args.self.now.map in
-    let v = c.in-Some.named.now in
-    let w : Named = record { offers = v.offers; namers = c.take.new.self; rows = v.rows } in
-    let bs = c.name.result.now in
-    let n = c.get_mut.follows.lender w in
-    let writes : IsSetAt bs m n (Some w) = on_some c.in-Some.is (c.get_mut.follows.holds w) in
-    let removes : IsSetAt bs n c.remove.new.self None = subst (λ (b : List ℕ). IsSetAt b n c.remove.new.self None) (c.name-then-not-is_used.ensures ∙ sym c.name.ensures) c.remove.ensures in
-    let left = nothing_left w (sym c.is_used.ensures ∙ c.if-not-is_used.true) in
-    let f : Rows → Rows = λ l. l in
-    λ q. replaced named_rows fin.empty bs m n c.remove.new.self w f writes removes (sym (part-found named_rows fin.empty bs m _ c.in-Some.ensures.value) ∙ left.rows) q ∙ same_either (bytes_eq bs q) (rows_under m q)
-
-pub returns-else-not-is_used-clause-rows : goal.returns-else-not-is_used-clause-rows
-returns-else-not-is_used-clause-rows c =
-    let m = c.args.self.now.map in
-    let v = c.in-Some.named.now in
-    let w : Named = record { offers = v.offers; namers = c.take.new.self; rows = v.rows } in
-    let bs = c.name.result.now in
-    let n = c.get_mut.follows.lender w in
-    let writes : IsSetAt bs m n (Some w) = on_some c.in-Some.is (c.get_mut.follows.holds w) in
-    unchanged named_rows fin.empty bs m n w writes (part-found named_rows fin.empty bs m _ c.in-Some.ensures.value)
+    let found = c.in-Some.ensures.value in
+    let stay = others namer_stanza c.args.going.now.span in
+    record {
+      namers = λ q.
+          changed named_namers [] bs m n w stay writes (c.take.ensures ∙ ap stay (part-found named_namers [] bs m _ found)) q
+          ∙ ap (λ b. cond (bytes_eq b q) (stay (namers_under m q)) (namers_under m q)) c.name.ensures;
+      offers = unchanged named_offers [] bs m n w writes (part-found named_offers [] bs m _ found);
+      rows = unchanged named_rows fin.empty bs m n w writes (part-found named_rows fin.empty bs m _ found);
+      steps = grind (arith, common_steps);
+    }

@@ -1,13 +1,14 @@
-use Rattle.std.proofs.Common.{◌≡◌, ◌-◌, ℕ, [], List, Some, None, cond, option_map, ap, sym, subst, ◌∙◌}
+use Rattle.std.proofs.Common.{◌≡◌, ℕ, [], List, Some, None, cond, ap, sym, subst, ◌∙◌, arith}
 use Rattle.std.specs.BTreeMap.{get}
 use Rattle.std.specs.List.{sum_by}
 use Rattle.std.specs.Str.{bytes_eq}
 use Rattle.ctl_index.specs.declared.keys.Namer.{Namer}
-use Rattle.ctl_policy.specs.Rows.{Rows}
+use Rattle.std.proofs.lemmas.Grind.{common_steps}
 use Rattle.ctl_index.specs.declared.named.Named.{Named}
 use Rattle.ctl_index.specs.Clauses.{clause_cmp}
 use Rattle.std.specs.FinMap as fin
 use Rattle.ctl_index.specs.Inside.TablesByName.{IsSetAt, rows_under, named_rows, offers_under, namers_under, named_offers, named_namers}
+use Rattle.ctl_index.specs.Inside.TablesCounters.{less_by}
 use Rattle.ctl_index.specs.Inside.TablesSight.{hit}
 use Rattle.ctl_index.specs.Inside.TablesOrder.{others, offer_stanza}
 use Rattle.ctl_index.proofs.NameLemmas.{on_some, changed, unchanged, replaced, part-found, used_written, used_found, used_replaced, nothing_left, same_either}
@@ -40,8 +41,8 @@ invariant_of-self-else-not-is_used c =
     let writes : IsSetAt bs m n (Some w) = on_some c.in-Some.is (c.get_mut.follows.holds w) in
     record { used = used_written bs m n w writes (sym c.is_used.ensures ∙ c.if-not-is_used.false) c.args.self.now.used }
 
-pub returns-then-not-is_used-clause-offers : goal.returns-then-not-is_used-clause-offers
-returns-then-not-is_used-clause-offers c =
+pub returns-then-not-is_used : goal.returns-then-not-is_used
+returns-then-not-is_used c =
     let m = c.args.self.now.map in
     let v = c.in-Some.named.now in
     let w : Named = record { offers = c.take.new.self; namers = v.namers; rows = v.rows } in
@@ -50,77 +51,42 @@ returns-then-not-is_used-clause-offers c =
     let writes : IsSetAt bs m n (Some w) = on_some c.in-Some.is (c.get_mut.follows.holds w) in
     let removes : IsSetAt bs n c.remove.new.self None = subst (λ (b : List ℕ). IsSetAt b n c.remove.new.self None) (c.name-then-not-is_used.ensures ∙ sym c.name.ensures) c.remove.ensures in
     let left = nothing_left w (sym c.is_used.ensures ∙ c.if-not-is_used.true) in
-    let none : others offer_stanza c.args.going.now.span (offers_under m bs) ≡ [] = sym (c.take.ensures ∙ ap (others offer_stanza c.args.going.now.span) (part-found named_offers [] bs m _ c.in-Some.ensures.value)) ∙ left.offers in
-    λ q.
-    replaced named_offers [] bs m n c.remove.new.self w (others offer_stanza c.args.going.now.span) writes removes none q
-    ∙ ap (λ b. cond (bytes_eq b q) (others offer_stanza c.args.going.now.span (offers_under m q)) (offers_under m q)) c.name.ensures
+    let found = c.in-Some.ensures.value in
+    let stay = others offer_stanza c.args.going.now.span in
+    record {
+      offers = λ q.
+          replaced named_offers [] bs m n c.remove.new.self w stay writes removes (sym (c.take.ensures ∙ ap stay (part-found named_offers [] bs m _ found)) ∙ left.offers) q
+          ∙ ap (λ b. cond (bytes_eq b q) (stay (offers_under m q)) (offers_under m q)) c.name.ensures;
+      namers = λ q. replaced named_namers [] bs m n c.remove.new.self w (λ l. l) writes removes (sym (part-found named_namers [] bs m _ found) ∙ left.namers) q ∙ same_either (bytes_eq bs q) (namers_under m q);
+      rows = λ q. replaced named_rows fin.empty bs m n c.remove.new.self w (λ l. l) writes removes (sym (part-found named_rows fin.empty bs m _ found) ∙ left.rows) q ∙ same_either (bytes_eq bs q) (rows_under m q);
+      counts = λ k.
+          let same : c.as_slice.result.now ≡ namers_under m c.args.offer.now.name = c.as_slice.ensures ∙ part-found named_namers [] bs m _ found ∙ ap (namers_under m) c.name.ensures in
+          c.in_ok-part.ensures.counts k ∙ ap (λ (xs : List Namer). less_by (sum_by (hit c.args.going.now.sight c.args.offer.now k) xs) (get clause_cmp c.args.counters.now.numbers k)) same;
+      steps = grind (arith, common_steps);
+      most = grind (arith, common_steps);
+      least = grind (arith, common_steps);
+    }
 
-pub returns-then-not-is_used-clause-namers : goal.returns-then-not-is_used-clause-namers
-returns-then-not-is_used-clause-namers c =
+pub returns-else-not-is_used : goal.returns-else-not-is_used
+returns-else-not-is_used c =
     let m = c.args.self.now.map in
     let v = c.in-Some.named.now in
     let w : Named = record { offers = c.take.new.self; namers = v.namers; rows = v.rows } in
     let bs = c.name.result.now in
     let n = c.get_mut.follows.lender w in
     let writes : IsSetAt bs m n (Some w) = on_some c.in-Some.is (c.get_mut.follows.holds w) in
-    let removes : IsSetAt bs n c.remove.new.self None = subst (λ (b : List ℕ). IsSetAt b n c.remove.new.self None) (c.name-then-not-is_used.ensures ∙ sym c.name.ensures) c.remove.ensures in
-    let left = nothing_left w (sym c.is_used.ensures ∙ c.if-not-is_used.true) in
-    let f : List Namer → List Namer = λ l. l in
-    λ q. replaced named_namers [] bs m n c.remove.new.self w f writes removes (sym (part-found named_namers [] bs m _ c.in-Some.ensures.value) ∙ left.namers) q ∙ same_either (bytes_eq bs q) (namers_under m q)
-
-pub returns-else-not-is_used-clause-offers : goal.returns-else-not-is_used-clause-offers
-returns-else-not-is_used-clause-offers c =
-    let m = c.args.self.now.map in
-    let v = c.in-Some.named.now in
-    let w : Named = record { offers = c.take.new.self; namers = v.namers; rows = v.rows } in
-    let bs = c.name.result.now in
-    let n = c.get_mut.follows.lender w in
-    let writes : IsSetAt bs m n (Some w) = on_some c.in-Some.is (c.get_mut.follows.holds w) in
-    λ q.
-    changed named_offers [] bs m n w (others offer_stanza c.args.going.now.span) writes (c.take.ensures ∙ ap (others offer_stanza c.args.going.now.span) (part-found named_offers [] bs m _ c.in-Some.ensures.value)) q
-    ∙ ap (λ b. cond (bytes_eq b q) (others offer_stanza c.args.going.now.span (offers_under m q)) (offers_under m q)) c.name.ensures
-
-pub returns-else-not-is_used-clause-namers : goal.returns-else-not-is_used-clause-namers
-returns-else-not-is_used-clause-namers c =
-    let m = c.args.self.now.map in
-    let v = c.in-Some.named.now in
-    let w : Named = record { offers = c.take.new.self; namers = v.namers; rows = v.rows } in
-    let bs = c.name.result.now in
-    let n = c.get_mut.follows.lender w in
-    let writes : IsSetAt bs m n (Some w) = on_some c.in-Some.is (c.get_mut.follows.holds w) in
-    unchanged named_namers [] bs m n w writes (part-found named_namers [] bs m _ c.in-Some.ensures.value)
-
-pub returns-then-not-is_used-clause-counts : goal.returns-then-not-is_used-clause-counts
-returns-then-not-is_used-clause-counts c = λ k.
-    let m = c.args.self.now.map in
-    let same : c.as_slice.result.now ≡ namers_under m c.args.offer.now.name = c.as_slice.ensures ∙ part-found named_namers [] c.name.result.now m _ c.in-Some.ensures.value ∙ ap (namers_under m) c.name.ensures in
-    c.in_ok-part.ensures.counts k ∙ ap (λ (xs : List Namer). option_map (λ (n : ℕ). n - sum_by (hit c.args.going.now.sight c.args.offer.now k) xs) (get clause_cmp c.args.counters.now.numbers k)) same
-
-pub returns-else-not-is_used-clause-counts : goal.returns-else-not-is_used-clause-counts
-returns-else-not-is_used-clause-counts c = λ k.
-    let m = c.args.self.now.map in
-    let same : c.as_slice.result.now ≡ namers_under m c.args.offer.now.name = c.as_slice.ensures ∙ part-found named_namers [] c.name.result.now m _ c.in-Some.ensures.value ∙ ap (namers_under m) c.name.ensures in
-    c.in_ok-part.ensures.counts k ∙ ap (λ (xs : List Namer). option_map (λ (n : ℕ). n - sum_by (hit c.args.going.now.sight c.args.offer.now k) xs) (get clause_cmp c.args.counters.now.numbers k)) same
-
-pub returns-then-not-is_used-clause-rows : goal.returns-then-not-is_used-clause-rows
-returns-then-not-is_used-clause-rows c =
-    let m = c.args.self.now.map in
-    let v = c.in-Some.named.now in
-    let w : Named = record { offers = c.take.new.self; namers = v.namers; rows = v.rows } in
-    let bs = c.name.result.now in
-    let n = c.get_mut.follows.lender w in
-    let writes : IsSetAt bs m n (Some w) = on_some c.in-Some.is (c.get_mut.follows.holds w) in
-    let removes : IsSetAt bs n c.remove.new.self None = subst (λ (b : List ℕ). IsSetAt b n c.remove.new.self None) (c.name-then-not-is_used.ensures ∙ sym c.name.ensures) c.remove.ensures in
-    let left = nothing_left w (sym c.is_used.ensures ∙ c.if-not-is_used.true) in
-    let f : Rows → Rows = λ l. l in
-    λ q. replaced named_rows fin.empty bs m n c.remove.new.self w f writes removes (sym (part-found named_rows fin.empty bs m _ c.in-Some.ensures.value) ∙ left.rows) q ∙ same_either (bytes_eq bs q) (rows_under m q)
-
-pub returns-else-not-is_used-clause-rows : goal.returns-else-not-is_used-clause-rows
-returns-else-not-is_used-clause-rows c =
-    let m = c.args.self.now.map in
-    let v = c.in-Some.named.now in
-    let w : Named = record { offers = c.take.new.self; namers = v.namers; rows = v.rows } in
-    let bs = c.name.result.now in
-    let n = c.get_mut.follows.lender w in
-    let writes : IsSetAt bs m n (Some w) = on_some c.in-Some.is (c.get_mut.follows.holds w) in
-    unchanged named_rows fin.empty bs m n w writes (part-found named_rows fin.empty bs m _ c.in-Some.ensures.value)
+    let found = c.in-Some.ensures.value in
+    let stay = others offer_stanza c.args.going.now.span in
+    record {
+      offers = λ q.
+          changed named_offers [] bs m n w stay writes (c.take.ensures ∙ ap stay (part-found named_offers [] bs m _ found)) q
+          ∙ ap (λ b. cond (bytes_eq b q) (stay (offers_under m q)) (offers_under m q)) c.name.ensures;
+      namers = unchanged named_namers [] bs m n w writes (part-found named_namers [] bs m _ found);
+      rows = unchanged named_rows fin.empty bs m n w writes (part-found named_rows fin.empty bs m _ found);
+      counts = λ k.
+          let same : c.as_slice.result.now ≡ namers_under m c.args.offer.now.name = c.as_slice.ensures ∙ part-found named_namers [] bs m _ found ∙ ap (namers_under m) c.name.ensures in
+          c.in_ok-part.ensures.counts k ∙ ap (λ (xs : List Namer). less_by (sum_by (hit c.args.going.now.sight c.args.offer.now k) xs) (get clause_cmp c.args.counters.now.numbers k)) same;
+      steps = grind (arith, common_steps);
+      most = grind (arith, common_steps);
+      least = grind (arith, common_steps);
+    }
