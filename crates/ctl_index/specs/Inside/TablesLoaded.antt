@@ -1,4 +1,4 @@
--- Of the tables alone: what a list of stanzas that comes makes of them, told by sums.
+-- Of the tables alone: what stanzas that come make of them, told by sums.
 use Rattle.std.specs.Prelude.{◌≡◌, ℕ, ◌+◌, List, slice_get, Option, None, if◌then◌else◌}
 use Rattle.std.specs.List.{All, sum_by}
 use Rattle.std.specs.Option.{option_map, option_or}

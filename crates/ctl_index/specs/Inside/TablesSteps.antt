@@ -1,4 +1,4 @@
--- Of the tables alone: what each step of taking stanzas out or putting them in makes of them.
+-- Of the tables alone: what each step of taking stanzas out makes of them, and how many tests are made.
 use Rattle.std.specs.Prelude.{ℕ, ◌-◌, suc, ◌&&◌, Bool, List, [], ◌∷◌, Option, None, Some, if◌then◌else◌}
 use Rattle.std.specs.List.{sum_by}
 use Rattle.std.specs.Option.{option_map, option_map_or}
