@@ -27,8 +27,8 @@ use Rattle.ctl_index.specs.Inside.TablesRows.{RowsCome, RowsGo}
 use Rattle.ctl_index.specs.Inside.TablesSight.{Seen, seen, hit, AreSeen}
 use Rattle.ctl_index.specs.Inside.TablesCounters.{counted_up}
 use Rattle.ctl_index.specs.Inside.TablesFit.{AreWhole, NumbersFit}
-use Rattle.ctl_index.specs.Inside.TablesOrder.{is_within}
-use Rattle.ctl_index.specs.Inside.TablesSteps.{group_met, span_of}
+use Rattle.ctl_index.specs.Inside.TablesOrder.{is_within, span_of}
+use Rattle.ctl_index.specs.Inside.TablesTests.{group_met}
 use Rattle.ctl_index.specs.Work.{named_pairs, pairs}
 use Rattle.ctl_index.proofs.SumLemmas.{offers-over, sum-cong, sum-plus, sum-swap, sum-flat_map, sum-map, sum-zero, found-sum}
 use Rattle.ctl_index.proofs.TableLemmas.{take_offers, take_namers}

@@ -18,7 +18,7 @@ use Rattle.ctl_policy.specs.Keys.{with_key, without_key, or_none, some_keys}
 use Rattle.ctl_policy.specs.Rows.{Rows, version_in, is_of_version, is_in_row}
 use Rattle.ctl_policy.specs.Kept.{RowsByName, Stanzas, IsKept, OthersStay, HasPut, HasTaken, with_stanza, without_stanza}
 use Rattle.ctl_index.specs.Inside.TablesParts.{IsJoined}
-use Rattle.ctl_index.specs.Inside.TablesSteps.{with_found, with_each, put_rows_step, take_rows_step}
+use Rattle.ctl_index.specs.Inside.TablesRows.{with_found, with_each, put_rows_step, take_rows_step}
 use Rattle.ctl_index.proofs.SeenLemmas.{key_is-same}
 use Rattle.ctl_index.proofs.StoreLemmas.{key_is-turned, key_is-own}
 

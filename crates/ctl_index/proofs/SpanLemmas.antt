@@ -9,8 +9,7 @@ use Rattle.std.proofs.lemmas.Bool.{true≢false}
 use Rattle.ctl_store.specs.declared.stanza_key.StanzaKey.{StanzaKey}
 use Rattle.ctl_store.specs.Keys.{key_cmp, key_is, AreRising}
 use Rattle.ctl_store.specs.Entries.{Entry, entry_keys, is_among}
-use Rattle.ctl_index.specs.Inside.TablesOrder.{is_within}
-use Rattle.ctl_index.specs.Inside.TablesSteps.{last_or, span_of}
+use Rattle.ctl_index.specs.Inside.TablesOrder.{is_within, last_or, span_of}
 use Rattle.ctl_index.proofs.KeyLemmas.{key_same, turned}
 use Rattle.ctl_index.proofs.StoreLemmas.{all_append, all_both, own_among}
 

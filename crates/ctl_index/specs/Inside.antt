@@ -17,5 +17,5 @@ pub mod TablesOrder
 pub mod TablesParts
 pub mod TablesRows
 pub mod TablesSight
-pub mod TablesSteps
+pub mod TablesTests
 pub mod TablesViews

@@ -11,7 +11,7 @@ ghost use Rattle.ctl_index.specs.Inside.TablesHeld.{HasTested, TestsAtMost, name
 ghost use Rattle.ctl_index.specs.Inside.TablesIndexed.{atom_named, keyed_offers_from, namers_sum, offer_named, offers_sum};
 ghost use Rattle.ctl_index.specs.Inside.TablesLoaded.{ComeApart, all_hits, group_named, number_with};
 ghost use Rattle.ctl_index.specs.Inside.TablesSight.{entries_seen, seen};
-ghost use Rattle.ctl_index.specs.Inside.TablesSteps.{all_tested, atoms_tested, atoms_tested_at, fields_tested, group_met, group_tested, groups_tested, is_clause, offers_tested, offers_tested_at};
+ghost use Rattle.ctl_index.specs.Inside.TablesTests.{all_tested, atoms_tested, atoms_tested_at, fields_tested, group_met, group_tested, groups_tested, is_clause, offers_tested, offers_tested_at};
 ghost use Rattle.ctl_index.specs.Names.{keyed_atoms, keyed_group, keyed_groups, naming_fields};
 ghost use Rattle.ctl_index.specs.Offers.{contents, offers_among};
 ghost use Rattle.ctl_index.specs.Work.{more_by};
@@ -71,7 +71,8 @@ fn put_offers_at(sight: &Sight<'_>, key: StanzaKey, tables: &mut Tables) -> Resu
     ensures namers { OnOk result (namers_in tables.new ≡ namers_in tables.old) }
     ensures rows { OnOk result (rows_in tables.new ≡ rows_in tables.old) }
     ensures counts { OnOk result ((k : ClauseKey) → number_in tables.new k
-        ≡ option_map (counted_up (all_hits sight.now (namers_in tables.old) (offers_among (contents (entries_seen sight.now (key ∷ [])))) k))
+        ≡ option_map (counted_up
+        (all_hits sight.now (namers_in tables.old) (offers_among (contents (entries_seen sight.now (key ∷ [])))) k))
         (number_in tables.old k)) }
     ensures steps { OnOk result (HasTested (offers_tested_at sight.now (namers_in tables.old) key) tables.old tables.new) }
     ensures most { TestsAtMost (offers_tested_at sight.now (namers_in tables.old) key) tables.old tables.new }
@@ -100,7 +101,8 @@ pub(crate) fn put_offers(
     ensures namers { OnOk result (namers_in tables.new ≡ namers_in tables.old) }
     ensures rows { OnOk result (rows_in tables.new ≡ rows_in tables.old) }
     ensures counts { OnOk result ((k : ClauseKey) → number_in tables.new k
-        ≡ option_map (counted_up (all_hits sight.now (namers_in tables.old) (offers_among (contents (entries_seen sight.now keys.now))) k))
+        ≡ option_map (counted_up
+        (all_hits sight.now (namers_in tables.old) (offers_among (contents (entries_seen sight.now keys.now))) k))
         (number_in tables.old k)) }
     ensures steps { OnOk result (HasTested (offers_tested sight.now (namers_in tables.old) keys.now) tables.old tables.new) }
     ensures most { TestsAtMost (offers_tested sight.now (namers_in tables.old) keys.now) tables.old tables.new }

@@ -10,7 +10,7 @@ ghost use Rattle.ctl_index.specs.Inside.TablesHeld.{HasTested, TestsAtMost, name
 ghost use Rattle.ctl_index.specs.Inside.TablesLeft.{has_namer, has_namer_at, has_namer_in, has_offer, has_offer_at, hits_at, is_clause_at, is_group_below, is_of_field};
 ghost use Rattle.ctl_index.specs.Inside.TablesLoaded.{all_hits};
 ghost use Rattle.ctl_index.specs.Inside.TablesOrder.{namer_stanza, offer_stanza, without_if};
-ghost use Rattle.ctl_index.specs.Inside.TablesSteps.{all_tested, atoms_tested, atoms_tested_at, fields_tested, group_tested, groups_tested, is_clause, offers_tested, offers_tested_at};
+ghost use Rattle.ctl_index.specs.Inside.TablesTests.{all_tested, atoms_tested, atoms_tested_at, fields_tested, group_tested, groups_tested, is_clause, offers_tested, offers_tested_at};
 ghost use Rattle.ctl_index.specs.Work.{more_by};
 ghost use Rattle.ctl_stanza.specs.Content.{groups_of};
 

@@ -1,4 +1,4 @@
-//! Stanzas come: all that come with an edit at once.
+//! Stanzas come, all at once.
 
 ghost use Rattle.std.specs.Prelude.{◌≤◌, OnOk};
 ghost use Rattle.ctl_index.specs.Inside.TablesHeld.{HasTested, TestsAtMost};
@@ -11,8 +11,8 @@ use crate::tables::Tables;
 use ctl_store::StanzaKey;
 use std::alloc::AllocError;
 
-#[tactic(auto, using(crate::proofs::SeenLemmas::tests_come))]
 /// The stanzas under these keys come. What then stands under a name is told by sums, whatever the order in which it is entered.
+#[tactic(auto, using(crate::proofs::SeenLemmas::tests_come))]
 pub(crate) fn put_list(
     sight: &Sight<'_>,
     keys: &[StanzaKey],

@@ -17,7 +17,7 @@ ghost use Rattle.ctl_index.specs.Inside.TablesCounters.{less_by};
 ghost use Rattle.ctl_index.specs.Inside.TablesViews.{AreFrom};
 ghost use Rattle.ctl_index.specs.Inside.TablesOrder.{namer_of, namer_stanza, offer_stanza, without_if};
 ghost use Rattle.ctl_index.specs.Inside.TablesCounters.{counted_up};
-ghost use Rattle.ctl_index.specs.Inside.TablesSteps.{offer_hits, offer_tested};
+ghost use Rattle.ctl_index.specs.Inside.TablesTests.{offer_hits, offer_tested};
 ghost use Rattle.ctl_index.specs.Work.{more_by};
 ghost use Rattle.ctl_index.specs.declared.keys.ClauseKey.{ClauseKey};
 

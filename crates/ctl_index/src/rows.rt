@@ -6,9 +6,8 @@ ghost use Rattle.ctl_store.specs.Keys.{AreRising, all_keys};
 ghost use Rattle.ctl_policy.specs.Rows.{AreRowsOf};
 ghost use Rattle.ctl_index.specs.Held.{standing};
 ghost use Rattle.ctl_index.specs.Inside.TablesByName.{NameMap, offers_under, namers_under, rows_under, row_under};
-ghost use Rattle.ctl_index.specs.Inside.TablesRows.{AreKept, AreRowsPut, AreRowsTaken, RowsCome, RowsGo};
+ghost use Rattle.ctl_index.specs.Inside.TablesRows.{AreKept, AreRowsPut, AreRowsTaken, RowsCome, RowsGo, with_found, put_rows_step, take_rows_step};
 ghost use Rattle.ctl_index.specs.Inside.TablesSight.{seen};
-ghost use Rattle.ctl_index.specs.Inside.TablesSteps.{with_found, put_rows_step, take_rows_step};
 
 use crate::name_table::NameTable;
 use crate::sight::{Sight, stanza_at};

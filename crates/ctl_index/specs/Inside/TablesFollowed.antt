@@ -10,8 +10,7 @@ use Rattle.ctl_index.specs.Held.{standing}
 use Rattle.ctl_index.specs.Offers.{contents}
 use Rattle.ctl_index.specs.Inside.TablesParts.{IsJoined}
 use Rattle.ctl_index.specs.Inside.TablesSight.{seen, AreSeen, in_store, with_plan}
-use Rattle.ctl_index.specs.Inside.TablesOrder.{is_within}
-use Rattle.ctl_index.specs.Inside.TablesSteps.{span_of}
+use Rattle.ctl_index.specs.Inside.TablesOrder.{is_within, span_of}
 use Rattle.ctl_index.specs.Work.{pairs}
 
 -- the stanzas that a plan leaves, and those after it

@@ -19,10 +19,10 @@ use Rattle.ctl_index.specs.Offers.{is_offered}
 use Rattle.ctl_index.specs.Inside.TablesCounters.{less_by}
 use Rattle.ctl_index.specs.Inside.TablesHeld.{offers_in, namers_in, number_in}
 use Rattle.ctl_index.specs.Inside.TablesLoaded.{all_hits}
-use Rattle.ctl_index.specs.Inside.TablesOrder.{offer_stanza, namer_stanza, without_if}
+use Rattle.ctl_index.specs.Inside.TablesOrder.{offer_stanza, namer_stanza, without_if, span_of}
 use Rattle.ctl_index.specs.Inside.TablesRows.{AreRowsTaken}
 use Rattle.ctl_index.specs.Inside.TablesSight.{Seen, seen}
-use Rattle.ctl_index.specs.Inside.TablesSteps.{of_found, span_of, offers_tested, atoms_tested}
+use Rattle.ctl_index.specs.Inside.TablesTests.{of_found, offers_tested, atoms_tested}
 
 -- ---- under a name q
 

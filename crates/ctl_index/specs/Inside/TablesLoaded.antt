@@ -1,4 +1,4 @@
--- Of the tables alone: what a list of stanzas that comes makes of them, told by sums.
+-- Of the tables alone: what stanzas that come make of them, told by sums.
 use Rattle.std.specs.Prelude.{◌≡◌, ℕ, ◌+◌, List, slice_get, Option, None, if◌then◌else◌}
 use Rattle.std.specs.List.{All, sum_by}
 use Rattle.std.specs.Option.{option_map, option_or}
@@ -20,7 +20,7 @@ use Rattle.ctl_index.specs.Inside.TablesHeld.{offers_in, namers_in, number_in}
 use Rattle.ctl_index.specs.Inside.TablesIndexed.{offers_sum, namers_sum}
 use Rattle.ctl_index.specs.Inside.TablesRows.{AreRowsPut}
 use Rattle.ctl_index.specs.Inside.TablesSight.{Seen, seen, entries_seen}
-use Rattle.ctl_index.specs.Inside.TablesSteps.{OffersByName, is_clause, group_clause, group_met, offer_hits, offers_tested, atoms_tested}
+use Rattle.ctl_index.specs.Inside.TablesTests.{OffersByName, is_clause, group_clause, group_met, offer_hits, offers_tested, atoms_tested}
 
 -- how often these offers hit a clause, where these namers stand under the names
 abbrev pub all_hits : Seen → (List ℕ → List Namer) → List OfferParts → ClauseKey → ℕ

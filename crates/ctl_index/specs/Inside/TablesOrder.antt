@@ -4,7 +4,7 @@ use Rattle.std.specs.List.{AllByRecursion}
 use Rattle.std.specs.Option.{option_map_or}
 use Rattle.std.specs.Ordering.{is_lt, is_le, is_ge, is_gt}
 use Rattle.ctl_store.specs.declared.stanza_key.StanzaKey.{StanzaKey}
-use Rattle.ctl_store.specs.Keys.{key_cmp}
+use Rattle.ctl_store.specs.Keys.{key_cmp, key_of}
 use Rattle.ctl_relation.specs.Parts.{AtomParts}
 use Rattle.ctl_index.specs.Inside.KeptBound.{kept_of}
 use Rattle.ctl_index.specs.declared.keys.AtomKey.{AtomKey}
@@ -58,3 +58,14 @@ module _ {X : Type 0} (stanza : X → StanzaKey) where
   -- without those of a span, where it is said so
   abbrev pub without_if : Span → Bool → List X → List X
   without_if span b xs = if b then others span xs else xs
+
+-- ---- the span of keys
+
+abbrev pub last_or : StanzaKey → List StanzaKey → StanzaKey
+last_or key [] = key
+last_or key (other ∷ keys) = last_or other keys
+
+-- The first and the last of keys. Of no keys it is a span that holds none.
+abbrev pub span_of : List StanzaKey → Span
+span_of [] = record { first = key_of 1 0; last = key_of 0 0 }
+span_of (key ∷ keys) = record { first = key; last = last_or key keys }

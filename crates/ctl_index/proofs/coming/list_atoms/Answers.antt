@@ -10,7 +10,7 @@ use Rattle.ctl_index.specs.Inside.TablesHeld.{offers_in, number_told}
 use Rattle.ctl_index.specs.Inside.TablesIndexed.{atom_named}
 use Rattle.ctl_index.specs.Inside.TablesLoaded.{ComeApart, number_with}
 use Rattle.ctl_index.specs.Inside.TablesSight.{seen, entries_seen}
-use Rattle.ctl_index.specs.Inside.TablesSteps.{of_found, fields_tested, atoms_tested}
+use Rattle.ctl_index.specs.Inside.TablesTests.{of_found, fields_tested, atoms_tested}
 use Rattle.ctl_index.specs.Work.{more_by}
 use Rattle.ctl_index.proofs.CounterLemmas.{more_by_twice}
 use Rattle.ctl_index.proofs.SeenLemmas.{apart_behind, clauses_come}

@@ -7,7 +7,7 @@ use Rattle.ctl_index.specs.Inside.TablesHeld.{offers_in, namers_in, rows_in, num
 use Rattle.ctl_index.specs.Inside.TablesIndexed.{namers_sum}
 use Rattle.ctl_index.specs.Inside.TablesLoaded.{ComeApart, number_with}
 use Rattle.ctl_index.specs.Inside.TablesSight.{entries_seen}
-use Rattle.ctl_index.specs.Inside.TablesSteps.{atoms_tested}
+use Rattle.ctl_index.specs.Inside.TablesTests.{atoms_tested}
 use Rattle.ctl_index.specs.Work.{more_by}
 use Rattle.ctl_index.proofs.coming.list_atoms.Given as goal
 

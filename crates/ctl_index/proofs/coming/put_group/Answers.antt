@@ -1,4 +1,4 @@
-use Rattle.std.proofs.Common.{◌≡◌, ℕ, suc, ◌∷◌, List, ap, sym, ◌∙◌, ◌+◌, length, arith}
+use Rattle.std.proofs.Common.{◌≡◌, ℕ, suc, ◌∷◌, List, ap, ◌∙◌, ◌+◌, length, arith}
 use Rattle.std.specs.List.{sum_by}
 use Rattle.std.proofs.lemmas.List.Sums.{sum_by-cons}
 use Rattle.ctl_relation.specs.Parts.{AtomParts}
@@ -7,7 +7,7 @@ use Rattle.ctl_index.specs.declared.keys.OfferKey.{OfferKey}
 use Rattle.ctl_index.specs.Inside.TablesByName.{offers_under}
 use Rattle.ctl_index.specs.Inside.TablesIndexed.{atom_named}
 use Rattle.ctl_index.specs.Inside.TablesSight.{atom_met, atom_tested}
-use Rattle.ctl_index.specs.Inside.TablesSteps.{group_met, group_tested}
+use Rattle.ctl_index.specs.Inside.TablesTests.{group_met, group_tested}
 use Rattle.ctl_index.specs.Names.{keyed_group}
 use Rattle.ctl_index.proofs.coming.put_group.Goals as goal
 

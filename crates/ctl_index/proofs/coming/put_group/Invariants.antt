@@ -3,7 +3,7 @@ use Rattle.std.specs.List.{sum_by}
 use Rattle.ctl_index.specs.declared.keys.Namer.{Namer}
 use Rattle.ctl_index.specs.Inside.TablesByName.{offers_under, namers_under, rows_under}
 use Rattle.ctl_index.specs.Inside.TablesIndexed.{atom_named}
-use Rattle.ctl_index.specs.Inside.TablesSteps.{group_met, group_tested}
+use Rattle.ctl_index.specs.Inside.TablesTests.{group_met, group_tested}
 use Rattle.ctl_index.specs.Names.{keyed_group}
 use Rattle.ctl_index.specs.Work.{more_by}
 use Rattle.ctl_index.proofs.coming.put_group.Given as goal

@@ -9,7 +9,7 @@ use Rattle.ctl_index.specs.declared.keys.OfferKey.{OfferKey}
 use Rattle.ctl_index.specs.Inside.TablesHeld.{offers_in, number_told}
 use Rattle.ctl_index.specs.Inside.TablesIndexed.{atom_named}
 use Rattle.ctl_index.specs.Inside.TablesLoaded.{number_with}
-use Rattle.ctl_index.specs.Inside.TablesSteps.{group_met, group_tested, groups_tested, is_clause}
+use Rattle.ctl_index.specs.Inside.TablesTests.{group_met, group_tested, groups_tested, is_clause}
 use Rattle.ctl_index.specs.Names.{keyed_group, keyed_groups}
 use Rattle.ctl_index.proofs.ClauseLemmas.{group_from, groups_end, group_comes}
 use Rattle.ctl_index.proofs.coming.put_groups.Goals as goal

@@ -6,7 +6,7 @@ use Rattle.ctl_index.specs.declared.keys.Namer.{Namer}
 use Rattle.ctl_index.specs.Inside.TablesHeld.{offers_in, namers_in, rows_in, number_told}
 use Rattle.ctl_index.specs.Inside.TablesIndexed.{atom_named}
 use Rattle.ctl_index.specs.Inside.TablesLoaded.{group_named, number_with}
-use Rattle.ctl_index.specs.Inside.TablesSteps.{groups_tested}
+use Rattle.ctl_index.specs.Inside.TablesTests.{groups_tested}
 use Rattle.ctl_index.specs.Names.{keyed_groups}
 use Rattle.ctl_index.specs.Work.{more_by}
 use Rattle.ctl_index.proofs.ClauseLemmas.{group_from}

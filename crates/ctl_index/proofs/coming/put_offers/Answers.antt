@@ -1,4 +1,4 @@
-use Rattle.std.proofs.Common.{◌≡◌, ◌<◌, ◌+◌, List, [], ◌∷◌, ℕ, length, take, option_map, ap, sym, ◌∙◌, arith, get_or, rules}
+use Rattle.std.proofs.Common.{◌≡◌, ◌<◌, List, [], ◌∷◌, ℕ, length, take, option_map, ap, sym, ◌∙◌, arith, get_or, rules}
 use Rattle.std.specs.List.{sum_by}
 use Rattle.std.proofs.lemmas.List.Sums.{sum_by_more, sum_by_more_le}
 use Rattle.ctl_store.specs.declared.stanza_key.StanzaKey.{StanzaKey}
@@ -10,9 +10,9 @@ use Rattle.ctl_index.specs.Inside.TablesFit.{IsWholeAt}
 use Rattle.ctl_index.specs.Inside.TablesIndexed.{keyed_offers, offer_named}
 use Rattle.ctl_index.specs.Inside.TablesLoaded.{all_hits}
 use Rattle.ctl_index.specs.Inside.TablesSight.{seen, entries_seen}
-use Rattle.ctl_index.specs.Inside.TablesSteps.{of_found, offer_hits, offers_tests, offers_tested}
+use Rattle.ctl_index.specs.Inside.TablesTests.{of_found, offer_hits, offers_tests, offers_tested}
 use Rattle.ctl_index.specs.Work.{more_by}
-use Rattle.ctl_index.proofs.CounterLemmas.{counted_up_none, counted_up_twice, more_by_twice}
+use Rattle.ctl_index.proofs.CounterLemmas.{counted_up_twice, more_by_twice}
 use Rattle.ctl_index.proofs.FitLemmas.{one_more}
 use Rattle.ctl_index.proofs.SumLemmas.{come_more, offers_more}
 use Rattle.ctl_index.proofs.coming.put_offers.Goals as goal

@@ -10,7 +10,7 @@ use Rattle.ctl_index.specs.Inside.TablesFit.{IsWholeAt}
 use Rattle.ctl_index.specs.Inside.TablesIndexed.{offers_sum}
 use Rattle.ctl_index.specs.Inside.TablesLoaded.{all_hits}
 use Rattle.ctl_index.specs.Inside.TablesSight.{seen, entries_seen}
-use Rattle.ctl_index.specs.Inside.TablesSteps.{offers_tested}
+use Rattle.ctl_index.specs.Inside.TablesTests.{offers_tested}
 use Rattle.ctl_index.specs.Work.{more_by}
 use Rattle.ctl_index.proofs.coming.put_offers.Given as goal
 

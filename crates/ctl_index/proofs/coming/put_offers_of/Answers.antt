@@ -10,10 +10,10 @@ use Rattle.ctl_index.specs.Inside.TablesHeld.{namers_in, number_in}
 use Rattle.ctl_index.specs.Inside.TablesCounters.{counted_up}
 use Rattle.ctl_index.specs.Inside.TablesIndexed.{keyed_offers_from, offer_named}
 use Rattle.ctl_index.specs.Inside.TablesLoaded.{all_hits}
-use Rattle.ctl_index.specs.Inside.TablesSight.{hit, tested}
-use Rattle.ctl_index.specs.Inside.TablesSteps.{all_tested, offer_hits}
+use Rattle.ctl_index.specs.Inside.TablesSight.{tested}
+use Rattle.ctl_index.specs.Inside.TablesTests.{all_tested, offer_hits}
 use Rattle.ctl_index.specs.Work.{more_by}
-use Rattle.ctl_index.proofs.CounterLemmas.{counted_up_none, counted_up_twice, more_by_twice}
+use Rattle.ctl_index.proofs.CounterLemmas.{counted_up_twice, more_by_twice}
 use Rattle.ctl_index.proofs.coming.put_offers_of.Goals as goal
 
 pub loop-i-preserved : goal.loop-i-preserved

@@ -6,7 +6,7 @@ use Rattle.ctl_index.specs.Inside.TablesCounters.{counted_up}
 use Rattle.ctl_index.specs.Inside.TablesHeld.{offers_in, namers_in, rows_in, number_in}
 use Rattle.ctl_index.specs.Inside.TablesIndexed.{keyed_offers_from, offer_named}
 use Rattle.ctl_index.specs.Inside.TablesLoaded.{all_hits}
-use Rattle.ctl_index.specs.Inside.TablesSteps.{all_tested}
+use Rattle.ctl_index.specs.Inside.TablesTests.{all_tested}
 use Rattle.ctl_index.specs.Work.{more_by}
 use Rattle.ctl_index.proofs.coming.put_offers_of.Given as goal
 

@@ -8,7 +8,7 @@ use Rattle.ctl_index.specs.Inside.TablesByName.{offers_under, namers_under}
 use Rattle.ctl_index.specs.Inside.TablesSight.{atom_tested}
 use Rattle.ctl_index.specs.Inside.TablesLeft.{has_namer}
 use Rattle.ctl_index.specs.Inside.TablesOrder.{namer_stanza, others, without_if}
-use Rattle.ctl_index.specs.Inside.TablesSteps.{group_tested}
+use Rattle.ctl_index.specs.Inside.TablesTests.{group_tested}
 use Rattle.ctl_index.proofs.LeavingLemmas.{filter_twice, twice}
 use Rattle.ctl_index.proofs.going.take_group.Goals as goal
 

@@ -2,7 +2,7 @@ use Rattle.std.proofs.Common.{◌≡◌, ◌≤◌, ◌-◌, ◌^◌, ℕ, List}
 use Rattle.ctl_index.specs.Inside.TablesByName.{offers_under, namers_under, rows_under}
 use Rattle.ctl_index.specs.Inside.TablesLeft.{has_namer}
 use Rattle.ctl_index.specs.Inside.TablesOrder.{namer_stanza, without_if}
-use Rattle.ctl_index.specs.Inside.TablesSteps.{group_tested}
+use Rattle.ctl_index.specs.Inside.TablesTests.{group_tested}
 use Rattle.ctl_index.specs.Work.{more_by}
 use Rattle.ctl_index.proofs.going.take_group.Given as goal
 

@@ -6,7 +6,7 @@ use Rattle.ctl_index.specs.declared.keys.OfferKey.{OfferKey}
 use Rattle.ctl_index.specs.Inside.TablesHeld.{offers_in, namers_in, number_in}
 use Rattle.ctl_index.specs.Inside.TablesLeft.{has_namer, is_group_below}
 use Rattle.ctl_index.specs.Inside.TablesOrder.{namer_stanza, others, without_if}
-use Rattle.ctl_index.specs.Inside.TablesSteps.{group_clause, group_tested, groups_tested, is_clause}
+use Rattle.ctl_index.specs.Inside.TablesTests.{group_clause, group_tested, groups_tested, is_clause}
 use Rattle.ctl_index.proofs.LeavingLemmas.{below-more, below-none, filter_twice, twice}
 use Rattle.ctl_index.proofs.going.take_groups.Goals as goal
 

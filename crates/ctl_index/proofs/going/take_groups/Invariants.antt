@@ -4,7 +4,7 @@ use Rattle.ctl_index.specs.declared.keys.ClauseKey.{ClauseKey}
 use Rattle.ctl_index.specs.Inside.TablesHeld.{offers_in, namers_in, rows_in, number_in}
 use Rattle.ctl_index.specs.Inside.TablesLeft.{has_namer, is_group_below}
 use Rattle.ctl_index.specs.Inside.TablesOrder.{namer_stanza, without_if}
-use Rattle.ctl_index.specs.Inside.TablesSteps.{groups_tested}
+use Rattle.ctl_index.specs.Inside.TablesTests.{groups_tested}
 use Rattle.ctl_index.specs.Work.{more_by}
 use Rattle.ctl_index.proofs.going.take_groups.Given as goal
 

@@ -8,7 +8,7 @@ use Rattle.ctl_index.specs.Inside.TablesHeld.{namers_in, number_in, offers_in}
 use Rattle.ctl_index.specs.Inside.TablesLeft.{has_offer_at, hits_at}
 use Rattle.ctl_index.specs.Inside.TablesOrder.{offer_stanza, others}
 use Rattle.ctl_index.specs.Inside.TablesSight.{seen}
-use Rattle.ctl_index.specs.Inside.TablesSteps.{of_found, offers_tests}
+use Rattle.ctl_index.specs.Inside.TablesTests.{of_found, offers_tests}
 use Rattle.ctl_index.proofs.LeavingLemmas.{filter_twice, less_more, twice_more}
 use Rattle.ctl_index.proofs.going.take_offers.Goals as goal
 

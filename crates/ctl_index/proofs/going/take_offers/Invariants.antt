@@ -5,7 +5,7 @@ use Rattle.ctl_index.specs.Inside.TablesCounters.{less_by}
 use Rattle.ctl_index.specs.Inside.TablesHeld.{offers_in, namers_in, rows_in, number_in}
 use Rattle.ctl_index.specs.Inside.TablesLeft.{has_offer_at, hits_at}
 use Rattle.ctl_index.specs.Inside.TablesOrder.{offer_stanza, without_if}
-use Rattle.ctl_index.specs.Inside.TablesSteps.{offers_tested}
+use Rattle.ctl_index.specs.Inside.TablesTests.{offers_tested}
 use Rattle.ctl_index.specs.Work.{more_by}
 use Rattle.ctl_index.proofs.going.take_offers.Given as goal
 

@@ -8,7 +8,7 @@ use Rattle.ctl_index.specs.Inside.TablesCounters.{less_by}
 use Rattle.ctl_index.specs.Inside.TablesHeld.{offers_in, namers_in, number_in}
 use Rattle.ctl_index.specs.Inside.TablesSight.{tested}
 use Rattle.ctl_index.specs.Inside.TablesOrder.{others, offer_stanza}
-use Rattle.ctl_index.specs.Inside.TablesSteps.{all_tested, offer_hits}
+use Rattle.ctl_index.specs.Inside.TablesTests.{all_tested, offer_hits}
 use Rattle.ctl_index.specs.Work.{more_by}
 use Rattle.ctl_index.proofs.CounterLemmas.{more_by_twice}
 use Rattle.ctl_index.proofs.LeavingLemmas.{filter_twice, less_more, twice_more}

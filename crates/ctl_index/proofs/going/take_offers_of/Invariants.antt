@@ -5,7 +5,7 @@ use Rattle.ctl_index.specs.Inside.TablesHeld.{offers_in, namers_in, rows_in, num
 use Rattle.ctl_index.specs.Inside.TablesLeft.{has_offer}
 use Rattle.ctl_index.specs.Inside.TablesLoaded.{all_hits}
 use Rattle.ctl_index.specs.Inside.TablesOrder.{offer_stanza, without_if}
-use Rattle.ctl_index.specs.Inside.TablesSteps.{all_tested}
+use Rattle.ctl_index.specs.Inside.TablesTests.{all_tested}
 use Rattle.ctl_index.specs.Work.{more_by}
 use Rattle.ctl_index.proofs.going.take_offers_of.Given as goal
 

@@ -1,14 +1,11 @@
-use Rattle.std.proofs.Common.{◌≡◌, ◌+◌, ℕ, List, ap, sym, ◌∙◌, arith}
+use Rattle.std.proofs.Common.{◌+◌, sym, ◌∙◌}
 use Rattle.std.specs.FinMap as fin
 use Rattle.std.specs.List.{sum_by}
 use Rattle.ctl_index.specs.Clauses.{clause_at}
-use Rattle.ctl_index.specs.Offers.{contents}
-use Rattle.ctl_index.specs.Work.{pairs}
-use Rattle.ctl_index.specs.Inside.TablesHeld.{offers_in}
 use Rattle.ctl_index.specs.Inside.TablesIndexed.{namers_sum}
 use Rattle.ctl_index.specs.Inside.TablesLoaded.{number_with}
 use Rattle.ctl_index.specs.Inside.TablesSight.{seen, entries_seen}
-use Rattle.ctl_index.specs.Inside.TablesSteps.{with_each, put_rows_step, atoms_tested}
+use Rattle.ctl_index.specs.Inside.TablesRows.{with_each, put_rows_step}
 use Rattle.ctl_index.proofs.loading.put_list.Goals as goal
 
 pub returns-clause-tables : goal.returns-clause-tables

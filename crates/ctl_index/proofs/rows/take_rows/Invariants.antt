@@ -1,7 +1,7 @@
 use Rattle.std.proofs.Common.{◌≡◌, ℕ, List, drop}
 use Rattle.ctl_index.specs.Inside.TablesByName.{offers_under, namers_under, row_under}
 use Rattle.ctl_index.specs.Inside.TablesSight.{seen}
-use Rattle.ctl_index.specs.Inside.TablesSteps.{with_each, take_rows_step}
+use Rattle.ctl_index.specs.Inside.TablesRows.{with_each, take_rows_step}
 use Rattle.ctl_index.proofs.rows.take_rows.Given as goal
 
 abbrev pub invariant-loop-key : goal.invariant-loop-key

@@ -5,9 +5,10 @@ use Rattle.ctl_index.specs.declared.keys.Namer.{Namer}
 use Rattle.ctl_index.specs.Inside.TablesCounters.{less_by}
 use Rattle.ctl_index.specs.Inside.TablesHeld.{offers_in, namers_in}
 use Rattle.ctl_index.specs.Inside.TablesLeft.{has_namer_at, has_offer_at, hits_at, namers_taken, tests_taken_out}
-use Rattle.ctl_index.specs.Inside.TablesOrder.{namer_stanza, offer_stanza, without_if}
+use Rattle.ctl_index.specs.Inside.TablesOrder.{namer_stanza, offer_stanza, without_if, span_of}
 use Rattle.ctl_index.specs.Inside.TablesSight.{seen}
-use Rattle.ctl_index.specs.Inside.TablesSteps.{with_each, span_of, take_rows_step, offers_tested, atoms_tested}
+use Rattle.ctl_index.specs.Inside.TablesRows.{with_each, take_rows_step}
+use Rattle.ctl_index.specs.Inside.TablesTests.{offers_tested, atoms_tested}
 use Rattle.ctl_index.specs.Work.{more_by}
 use Rattle.ctl_index.proofs.CounterLemmas.{more_by_twice}
 use Rattle.ctl_index.specs.Inside.TablesHeld.{offers_in, namers_in}

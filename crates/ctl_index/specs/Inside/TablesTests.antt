@@ -1,20 +1,15 @@
--- Of the tables alone: what each step of taking stanzas out or putting them in makes of them.
-use Rattle.std.specs.Prelude.{ℕ, suc, ◌&&◌, Bool, List, [], ◌∷◌, Option, Some, if◌then◌else◌}
+-- Of the tables alone: how many offers meet the atoms of groups, and how many tests stanzas that come or go make.
+use Rattle.std.specs.Prelude.{ℕ, ◌&&◌, Bool, List, Option}
 use Rattle.std.specs.List.{sum_by}
-use Rattle.std.specs.Option.{option_map, option_map_or}
-use Rattle.std.specs.Str.{bytes_eq}
+use Rattle.std.specs.Option.{option_map_or}
 use Rattle.std.specs.Ordering.{is_eq}
 use Rattle.ctl_relation.specs.declared.field_kind.FieldKind.{FieldKind}
 use Rattle.ctl_relation.specs.Parts.{AtomParts, OfferParts}
 use Rattle.ctl_stanza.specs.Content.{Content, groups_of, offers_of}
 use Rattle.ctl_store.specs.declared.stanza_key.StanzaKey.{StanzaKey}
-use Rattle.ctl_store.specs.Keys.{key_of}
-use Rattle.ctl_policy.specs.Keys.{with_key, without_key, or_none, some_keys}
-use Rattle.ctl_policy.specs.Rows.{is_in_row}
 use Rattle.ctl_index.specs.declared.keys.ClauseKey.{ClauseKey}
 use Rattle.ctl_index.specs.declared.keys.Namer.{Namer}
 use Rattle.ctl_index.specs.declared.keys.OfferKey.{OfferKey}
-use Rattle.ctl_index.specs.declared.span.Span.{Span}
 use Rattle.ctl_index.specs.Clauses.{is_clause_field, clause_cmp}
 use Rattle.ctl_index.specs.Names.{naming_fields}
 use Rattle.ctl_index.specs.Inside.TablesSight.{Seen, seen, hit, tested, atom_met, atom_tested}
@@ -60,25 +55,9 @@ all_tested s namers offers = sum_by (offer_tested s namers) offers
 
 -- ---- several stanzas
 
--- what a step makes of it with the stanza that is found under a key, if there is one
-abbrev pub with_found : {A : Type 0} → (StanzaKey → Option Content) → (StanzaKey → Content → A → A) → StanzaKey → A → A
-with_found find step key a = option_map_or (λ x. step key x a) (find key) a
-
--- with each of those that are found under these keys, in turn
-abbrev pub with_each : {A : Type 0} → (StanzaKey → Option Content) → (StanzaKey → Content → A → A) → List StanzaKey → A → A
-with_each find step [] a = a
-with_each find step (key ∷ keys) a = with_each find step keys (with_found find step key a)
-
 -- a number of each stanza that is found, 0 where there is none
 abbrev pub of_found : (StanzaKey → Option Content) → (Content → ℕ) → StanzaKey → ℕ
 of_found find f key = option_map_or f (find key) 0
-
--- The row of a version of a name, where the key of a stanza comes or goes: a live one of the name and the version changes it.
-abbrev pub put_rows_step : List ℕ → List ℕ → StanzaKey → Content → Option (List StanzaKey) → Option (List StanzaKey)
-put_rows_step q version key x row = if is_in_row q version x then Some (with_key key (or_none row)) else row
-
-abbrev pub take_rows_step : List ℕ → List ℕ → StanzaKey → Content → Option (List StanzaKey) → Option (List StanzaKey)
-take_rows_step q version key x row = if is_in_row q version x then some_keys (without_key key (or_none row)) else row
 
 -- how many tests the offers, or the atoms, of a stanza make, and those of several
 abbrev pub offers_tests : Seen → (List ℕ → List Namer) → Content → ℕ
@@ -95,14 +74,3 @@ offers_tested s namers keys = sum_by (offers_tested_at s namers) keys
 
 abbrev pub atoms_tested : Seen → (List ℕ → List OfferKey) → List StanzaKey → ℕ
 atoms_tested s offers keys = sum_by (atoms_tested_at s offers) keys
-
--- ---- the span of keys
-
-abbrev pub last_or : StanzaKey → List StanzaKey → StanzaKey
-last_or key [] = key
-last_or key (other ∷ keys) = last_or other keys
-
--- The first and the last of keys. Of no keys it is a span that holds none.
-abbrev pub span_of : List StanzaKey → Span
-span_of [] = record { first = key_of 1 0; last = key_of 0 0 }
-span_of (key ∷ keys) = record { first = key; last = last_or key keys }
