@@ -1,5 +1,5 @@
 -- Of the tables alone: tables that hold what the stanzas under keys have.
-use Rattle.std.specs.Prelude.{◌≡◌, ℕ, suc, ◌+◌, List, [], ◌∷◌, Option, if◌then◌else◌}
+use Rattle.std.specs.Prelude.{◌≡◌, ℕ, suc, List, [], ◌∷◌, if◌then◌else◌}
 use Rattle.std.specs.List.{sum_by}
 use Rattle.std.specs.Str.{bytes_eq}
 use Rattle.ctl_relation.specs.Parts.{AtomParts, OfferParts}
@@ -49,4 +49,3 @@ pub record IsIndexed (es : List Entry) (t : Tables) : Type 0 where
   pub counters : (k : ClauseKey) → number_in t k ≡ number_at k es
   pub rows : AreKept es t.names.map
   pub whole : AreWhole es
-
