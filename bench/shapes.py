@@ -80,9 +80,9 @@ def edits_that_change_nothing(count):
 # Each with its least size and the greatest exponents that are wanted of its edits
 SHAPES = [
     (pins_of_one_row, 100, {"pin": 1.2}),
-    (pins_of_many_rows, 100, {"pin": 1.2}),
+    (pins_of_many_rows, 100, {"add-list": 0.5, "pin": 1.2}),
     (lists_of_one_name, 500, {"add-list": 1.1, "mark, unmark": 1.1, "drop-list": 1.1}),
-    (versions_of_one_name, 1_000, {"put": 1.1, "remove": 1.1}),
+    (versions_of_one_name, 1_000, {"put": 0.6, "remove": 0.7}),
     (edits_that_change_nothing, 10_000, {"the same again": 0.2, "that target again": 0.2, "that pin again": 0.2, "that mark again": 0.2}),
 ]
 
