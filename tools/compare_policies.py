@@ -16,10 +16,12 @@ import subprocess
 import sys
 import tempfile
 
-sys.path.insert(0, os.path.join(os.path.dirname(os.path.abspath(__file__)), "..", "bench"))
+from edit_sequences import probe
+
+# Behind the import above: both bench and the reference program have a module `relations`.
+sys.path.append(os.path.join(os.path.dirname(os.path.abspath(__file__)), "..", "bench"))
 
 from apt_folder import AptFolder  # noqa: E402
-from edit_sequences import probe  # noqa: E402
 
 # How many names one process of apt-cache is asked for.
 NAMES_AT_ONCE = 4_000
