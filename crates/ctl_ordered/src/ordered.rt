@@ -19,7 +19,7 @@ use std::alloc::{AllocError, Global};
 use std::collections::VecDeque;
 use std::marker::Model;
 
-// With fewer entries than so many, no room is kept for more.
+// With fewer slots than so many, no room is kept for more.
 const FEW: usize = 8;
 
 /// Values by key, in the order in which the keys were first set. No key stands twice.
@@ -158,8 +158,8 @@ impl<K: Ord + Drop, V: Drop> Ordered<K, V> {
         }
     }
 
-    // A new entry goes last, into the room that is there.
-    fn push_last(&mut self, key: K, value: V)
+    // A new entry goes last.
+    fn push(&mut self, key: K, value: V)
         requires room { 0 < self.old.room }
         requires new { lookup (K.eq key) (entries self.old) ≡ None }
         ensures entries { entries self.new ≡ insert_entry K.eq (entries self.old) key value }
@@ -176,29 +176,8 @@ impl<K: Ord + Drop, V: Drop> Ordered<K, V> {
             Ok(_) => {}
             Err(_) => unreachable!(),
         }
+        trim(&mut self.slots);
         self.next += 1;
-    }
-
-    // Gives back the room for more, where there are few entries: the map makes room for seven at once.
-    fn trim(&mut self)
-        ensures rows { self.new.rows ≡ self.old.rows }
-        ensures next { self.new.next ≡ self.old.next }
-    {
-        if self.slots.len() < FEW {
-            self.slots.shrink_to_fit();
-        }
-    }
-
-    // A new entry goes last.
-    fn push(&mut self, key: K, value: V)
-        requires room { 0 < self.old.room }
-        requires new { lookup (K.eq key) (entries self.old) ≡ None }
-        ensures entries { entries self.new ≡ insert_entry K.eq (entries self.old) key value }
-        ensures rows { self.new.rows ≡ self.old.rows ++ (self.old.next, (key, value)) ∷ [] }
-        ensures next { self.new.next ≡ self.old.next + 1 }
-    {
-        self.push_last(key, value);
-        self.trim();
     }
 
     /// Sets a key's value, in the room that [`reserve_one`](Ordered::reserve_one) made. A key that is there keeps its place,
@@ -244,6 +223,15 @@ impl<K: Ord + Drop, V: Drop> Ordered<K, V> {
         if self.slots.len() / 2 > self.order.len() {
             drop_holes(&mut self.slots);
         }
+    }
+}
+
+// Gives back the room for more of a map of few slots, which makes room for seven at once.
+fn trim<K: Drop, V: Drop>(slots: &mut IndexMap<u64, Slot<K, V>>)
+    ensures { slots.new.entries ≡ slots.old.entries }
+{
+    if slots.len() < FEW {
+        slots.shrink_to_fit();
     }
 }
 
