@@ -1,6 +1,6 @@
 //! Patterns that stand somewhere in a text.
 
-ghost use Rattle.std.specs.Prelude.{◌≡◌, IfOk, OnOk, take, false, if◌then◌else◌};
+ghost use Rattle.std.specs.Prelude.{◌≡◌, IfOk, length, take, false, if◌then◌else◌};
 ghost use Rattle.std.specs.List.{list_any};
 ghost use Rattle.std.specs.Str.{str_to_ascii_lowercase};
 ghost use Rattle.ctl_filter.specs.Substring.{contains};
@@ -50,14 +50,14 @@ pub(crate) fn finder_of<'q>(
     Ok(Finder::new(pattern))
 }
 
-/// Writes such a copy into room that serves again.
-fn lower_into(room: &mut Vec<u8>, text: &[u8]) -> Result<(), AllocError>
-    ensures { OnOk result (room.new.items ≡ str_to_ascii_lowercase text.now) }
+/// Writes such a copy over a room of the text's length. The text is gone through once, many bytes at a time.
+fn write_lowered(text: &[u8], room: &mut [u8])
+    requires { length room.old ≡ length text.now }
+    ensures { room.new ≡ str_to_ascii_lowercase text.now }
 {
-    room.clear();
-    room.extend_from_slice(text)?;
-    room.as_mut_slice().make_ascii_lowercase();
-    Ok(())
+    for i in 0..text.len() {
+        room[i] = text[i].to_ascii_lowercase();
+    }
 }
 
 /// Whether the pattern of a finder, whose letters are small ones, stands somewhere in the text once its letters are small ones too. This
@@ -69,6 +69,10 @@ pub(crate) fn has_lowered(
 ) -> Result<bool, AllocError>
     ensures { IfOk result (λ found. found ≡ contains finder.now (str_to_ascii_lowercase text.now)) }
 {
-    lower_into(room, text)?;
-    Ok(has_pattern(finder, room))
+    if room.len() < text.len() {
+        room.resize(text.len(), 0)?;
+    }
+    let small = &mut room[..text.len()];
+    write_lowered(text, small);
+    Ok(has_pattern(finder, small))
 }

@@ -67,7 +67,7 @@ one_more P keys n e below before here k d lt = by (nat_lt k n) refl
 
 -- all of two parts
 pub all_whole : (all rest some : List Entry) → IsJoined all rest some → AreWhole rest → AreWhole some → AreWhole all
-all_whole all rest some joined r s k = subst (λ o. IfSome o IsWhole) (sym (joined.unders k)) (by (under k some) (s k))
+all_whole all rest some joined r s k = subst (λ o. IfSome o IsWhole) (sym (joined.parted.unders k)) (by (under k some) (s k))
   where
     by : (o : Option Content) → IfSome o IsWhole → IfSome (option_or o (under k rest)) IsWhole
     by None h = r k
@@ -76,7 +76,7 @@ all_whole all rest some joined r s k = subst (λ o. IfSome o IsWhole) (sym (join
 -- those of one part
 pub rest_whole : (all rest some : List Entry) → IsJoined all rest some → AreWhole all → AreWhole rest
 rest_whole all rest some joined a k =
-    by (under k some) (under k rest) (joined.either k) (subst (λ o. IfSome o IsWhole) (joined.unders k) (a k))
+    by (under k some) (under k rest) (joined.parted.either k) (subst (λ o. IfSome o IsWhole) (joined.parted.unders k) (a k))
   where
     by : (o r : Option Content) → ((x : Content) → o ≡ Some x → r ≡ None) → IfSome (option_or o r) IsWhole → IfSome r IsWhole
     by None r none h = h

@@ -23,7 +23,6 @@ use Rattle.ctl_index.specs.Inside.TablesIndexed.{atom_named, offer_named, keyed_
 use Rattle.ctl_index.specs.Inside.TablesLeft.{IsTakenOut, hits_at, is_clause_at, namers_taken, tests_taken_out}
 use Rattle.ctl_index.specs.Inside.TablesLoaded.{IsLoaded, all_hits, tests_put_in}
 use Rattle.ctl_index.specs.Inside.TablesParts.{IsJoined}
-use Rattle.ctl_index.specs.Inside.TablesRows.{RowsCome, RowsGo}
 use Rattle.ctl_index.specs.Inside.TablesSight.{Seen, seen, hit, AreSeen}
 use Rattle.ctl_index.specs.Inside.TablesCounters.{counted_up}
 use Rattle.ctl_index.specs.Inside.TablesFit.{AreWhole, NumbersFit}
@@ -110,8 +109,8 @@ module _ (s : Seen) (keys : List StanzaKey) (all rest : List Entry) (old new : T
   loaded_number step fits k =
       step.counters k
       ∙ (λ i. option_or (came (under k.stanza come) i) (raised i))
-      ∙ by (under k.stanza come) (under k.stanza rest) (subst (λ (c : Option Content). IfSome (number all (option_and_then (clause_of k) c)) (λ n. n < 2 ^ 128)) (joined.unders k.stanza) (fits k)) (λ x h. joined.either k.stanza x h)
-      ∙ ap (λ c. number all (option_and_then (clause_of k) c)) (sym (joined.unders k.stanza))
+      ∙ by (under k.stanza come) (under k.stanza rest) (subst (λ (c : Option Content). IfSome (number all (option_and_then (clause_of k) c)) (λ n. n < 2 ^ 128)) (joined.parted.unders k.stanza) (fits k)) (λ x h. joined.parted.either k.stanza x h)
+      ∙ ap (λ c. number all (option_and_then (clause_of k) c)) (sym (joined.parted.unders k.stanza))
     where
       came : (c : Option Content) → option_map (group_met s k.field (offers_under new.names.map)) (option_and_then (clause_of k) c) ≡ number all (option_and_then (clause_of k) c)
       came None = refl
@@ -134,14 +133,14 @@ module _ (s : Seen) (keys : List StanzaKey) (all rest : List Entry) (old new : T
       by None d few none = more (option_and_then (clause_of k) d) few
       by (Some x) d few none = ap (λ (z : Option Content). option_or (number all (clause_of k x)) (stood z)) (none x refl) ∙ or_none (number all (clause_of k x))
 
-  pub load_law : RowsCome → NumbersFit → AreApart all → length all < 2 ^ 32 → IsLoaded s keys old new → IsIndexed all new
-  load_law follow fit apart_all few step =
+  pub load_law : NumbersFit → AreApart all → length all < 2 ^ 32 → IsLoaded s keys old new → IsIndexed all new
+  load_law fit apart_all few step =
       let whole : AreWhole all = all_whole all rest come joined was.whole (come_whole (seen s) keys step.whole) in
       record {
         offers = loaded_offers step;
         namers = loaded_namers step;
         counters = loaded_number step (fit all few apart_all whole);
-        rows = follow s keys all rest old.names.map new.names.map joined apart_new was.rows step.rows;
+        rows = step.rows (λ k. under k all) (λ k. under k rest) joined.parted apart_new was.rows;
         whole = whole;
       }
 
@@ -172,8 +171,8 @@ module _ (s : Seen) (keys : List StanzaKey) (all rest : List Entry) (old new : T
   take_number step k =
       step.counters k
       ∙ (λ i. option_map (λ n. n - hits i) (cond (goes i) None (was.counters k i)))
-      ∙ ap (λ c. option_map (λ n. n - hits_of (offers_among (contents going)) (clause_at k rest)) (cond (is_some (clause_at k going)) None (number_of all (option_and_then (clause_of k) c)))) (joined.unders k.stanza)
-      ∙ by (under k.stanza going) (under k.stanza rest) (λ x h. joined.either k.stanza x h)
+      ∙ ap (λ c. option_map (λ n. n - hits_of (offers_among (contents going)) (clause_at k rest)) (cond (is_some (clause_at k going)) None (number_of all (option_and_then (clause_of k) c)))) (joined.parted.unders k.stanza)
+      ∙ by (under k.stanza going) (under k.stanza rest) (λ x h. joined.parted.either k.stanza x h)
     where
       hits : sum_by (hits_at s (namers_taken s keys old) k) keys ≡ hits_of (offers_among (contents going)) (clause_at k rest)
       hits =
@@ -206,12 +205,12 @@ module _ (s : Seen) (keys : List StanzaKey) (all rest : List Entry) (old new : T
           ap (option_map (λ n. n - hits_of (offers_among (contents going)) (option_and_then (clause_of k) d))) (all_gone (clause_of k x))
           ∙ sym (ap (λ z. number_of rest (option_and_then (clause_of k) z)) (none x refl))
 
-  pub take_law : RowsGo → IsTakenOut s keys old new → IsIndexed rest new
-  take_law follow step = record {
+  pub take_law : IsTakenOut s keys old new → IsIndexed rest new
+  take_law step = record {
     offers = λ q f. ap (sum_by f) (step.offers q) ∙ take_offers s keys all rest old joined was outside inside q f;
     namers = λ q f. ap (sum_by f) (step.namers q) ∙ left_namers q f;
     counters = take_number step;
-    rows = follow s keys all rest old.names.map new.names.map joined apart_gone was.rows step.rows;
+    rows = step.rows (λ k. under k all) (λ k. under k rest) joined.parted apart_gone was.rows;
     whole = rest_whole all rest going joined was.whole;
   }
 

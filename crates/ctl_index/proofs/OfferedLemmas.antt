@@ -4,6 +4,7 @@ use Rattle.std.specs.List.{list_any}
 use Rattle.std.specs.Option.{option_map_or}
 use Rattle.std.specs.Str.{bytes_eq}
 use Rattle.std.specs.Cmp.Lexicographic.{nat_list_eq_equiv}
+use Rattle.std.specs.FinMap as fin
 use Rattle.std.proofs.lemmas.Bool.Decides.{nat_tests}
 use Rattle.ctl_stanza.specs.Content.{Content, package_of, is_live, body_of}
 use Rattle.ctl_stanza.specs.Fields.{version_name}
@@ -15,7 +16,7 @@ use Rattle.ctl_policy.specs.Keys.{has_key, or_none, some_keys}
 use Rattle.ctl_policy.specs.Rows.{is_of_version, is_in_row}
 use Rattle.ctl_index.specs.declared.tables.Tables.{Tables}
 use Rattle.ctl_index.specs.Offers.{contents}
-use Rattle.ctl_index.specs.Inside.TablesByName.{offers_under, rows_under, row_under}
+use Rattle.ctl_index.specs.Inside.TablesByName.{offers_under, rows_under}
 use Rattle.ctl_index.specs.Inside.TablesIndexed.{IsIndexed}
 use Rattle.ctl_index.specs.Inside.TablesViews.{is_own}
 use Rattle.ctl_index.proofs.NamesLemmas.{HasOffers}
@@ -67,7 +68,7 @@ rows_offered es t was q h =
     found v k None e h = cc
     found v k (Some x) e h = under_any (is_of q) k x es e (describes q v x h)
 
-    by : (v : List ℕ) (ks : List StanzaKey) → row_under t.names.map q v ≡ Some ks → list_any (is_of q) (contents es) ≡ true
+    by : (v : List ℕ) (ks : List StanzaKey) → fin.get (rows_under t.names.map q) v ≡ Some ks → list_any (is_of q) (contents es) ≡ true
     by v [] there =
         let none : ◌≡◌ {A = Option (List StanzaKey)} (Some []) None = sym there ∙ was.rows.some q v ∙ ap (λ o. some_keys (or_none o)) there in
         absurd (let z : ⊥ = cc in z)

@@ -7,8 +7,7 @@ use Rattle.std.specs.Cmp.Lexicographic.{slice_cmp}
 use Rattle.std.specs.Ordering.{nat_cmp, ordering_then}
 use Rattle.std.specs.declared.cmp.Ordering.{Ordering}
 use Rattle.std.specs.declared.cmp.Ordering.TheVariants.{Less, Equal, Greater}
-use Rattle.ctl_store.specs.Fronts.{filled}
-use Rattle.ctl_index.specs.Inside.ShortName.{held_name, IsHeldIn, spelled, number_at}
+use Rattle.ctl_index.specs.Inside.ShortName.{held_name, IsHeldIn, spelled, number_at, filled}
 
 -- ---- orders one after another
 

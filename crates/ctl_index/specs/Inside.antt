@@ -19,3 +19,4 @@ pub mod TablesRows
 pub mod TablesSight
 pub mod TablesTests
 pub mod TablesViews
+pub mod TablesWaiting

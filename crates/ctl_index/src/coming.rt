@@ -5,7 +5,8 @@ ghost use Rattle.std.specs.List.{All, sum_by};
 ghost use Rattle.ctl_relation.specs.Bounds.{atom_count};
 ghost use Rattle.ctl_index.specs.Clauses.{clause_at};
 ghost use Rattle.ctl_index.specs.Inside.TablesByName.{offers_under, namers_under, rows_under};
-ghost use Rattle.ctl_index.specs.Inside.TablesCounters.{counted_up, told};
+ghost use Rattle.ctl_index.specs.Inside.TablesCounters.{counted_up};
+ghost use Rattle.ctl_index.specs.Inside.TablesWaiting.{told};
 ghost use Rattle.ctl_index.specs.Inside.TablesFit.{IsWholeAt};
 ghost use Rattle.ctl_index.specs.Inside.TablesHeld.{HasTested, TestsAtMost, namers_in, number_in, number_told, offers_in, rows_in};
 ghost use Rattle.ctl_index.specs.Inside.TablesIndexed.{atom_named, keyed_offers_from, namers_sum, offer_named, offers_sum};
@@ -151,10 +152,10 @@ fn put_group(
     Ok(met)
 }
 
-// The counter of a group with this number, where the group is a clause, comes to those that wait to be entered.
+// The counter of a group with this number, where the group is a clause, comes to those that are entered or wait to be.
 fn list_clause(counters: &mut Counters, clause: ClauseKey, number: u128) -> Result<(), AllocError>
-    ensures { OnOk result ((k : ClauseKey) → told counters.new.waiting.items counters.new.numbers k
-        ≡ (if is_clause clause k then Some number else told counters.old.waiting.items counters.old.numbers k)) }
+    ensures { OnOk result ((k : ClauseKey) → told counters.new.waiting counters.new.numbers k
+        ≡ (if is_clause clause k then Some number else told counters.old.waiting counters.old.numbers k)) }
 {
     if clause.field.is_wanted() {
         counters.wait(clause, number)?;
@@ -306,5 +307,7 @@ pub(crate) fn put_atoms(
 {
     tables.counters.let_none_wait();
     list_atoms(sight, keys, tables)?;
-    tables.counters.enter_waiting()
+    tables.names.pack_behind(keys.len())?;
+    tables.counters.enter_waiting()?;
+    Ok(())
 }

@@ -5,20 +5,22 @@ ghost use Rattle.std.specs.BTreeMap.{get, IsEmpty};
 ghost use Rattle.std.specs.BTreeSet.{contains};
 ghost use Rattle.std.specs.Ordering.{is_eq};
 ghost use Rattle.ctl_index.specs.Clauses.{clause_cmp};
-ghost use Rattle.ctl_index.specs.Inside.TablesCounters.{AreUnmet, counted_up, entered, marked, told};
+ghost use Rattle.ctl_index.specs.Inside.TablesCounters.{AreUnmet, IsBehind, counted_up, entered, marked};
+ghost use Rattle.ctl_index.specs.Inside.TablesWaiting.{told};
 
 use crate::keys::ClauseKey;
+use crate::waiting::Waiting;
 use std::alloc::{AllocError, Global};
 use std::collections::{BTreeMap, BTreeSet};
 use std::mem;
 
-/// The number of each clause, with those at 0 beside, and the clauses that wait to be entered, each with its number.
+/// The number of each clause, with those at 0 beside, and the clauses that wait to be entered.
 #[derive(Drop)]
 pub(crate) struct Counters {
     alloc: Global,
     numbers: BTreeMap<ClauseKey, u128>,
     unmet: BTreeSet<ClauseKey>,
-    waiting: Vec<(ClauseKey, u128)>,
+    waiting: Waiting,
     ghost at_zero: { AreUnmet numbers unmet },
 }
 
@@ -91,7 +93,7 @@ fn mark_all(
     Ok(())
 }
 
-// These clauses come to those that are there.
+// These clauses come together. A tree that is made of many keys at once has full nodes.
 fn append_all(
     alloc: Global,
     clauses: Vec<(ClauseKey, u128)>,
@@ -110,17 +112,74 @@ fn append_all(
 
 // The same, where no clause is left if memory ends in the middle.
 #[tactic(auto, using(crate::proofs::CounterLemmas::unmet_none))]
-fn enter_all(
+fn enter_together(
     alloc: Global,
     clauses: Vec<(ClauseKey, u128)>,
     numbers: &mut BTreeMap<ClauseKey, u128>,
     unmet: &mut BTreeSet<ClauseKey>,
 ) -> Result<(), AllocError>
+    requires { AreUnmet numbers.old unmet.old }
     ensures numbers { OnOk result ((k : ClauseKey) → get clause_cmp numbers.new k
         ≡ entered clauses.items k (get clause_cmp numbers.old k)) }
-    ensures unmet { AreUnmet numbers.old unmet.old → AreUnmet numbers.new unmet.new }
+    ensures unmet { AreUnmet numbers.new unmet.new }
 {
     match append_all(alloc, clauses, numbers, unmet) {
+        Ok(()) => Ok(()),
+        Err(error) => {
+            numbers.clear();
+            unmet.clear();
+            Err(error)
+        }
+    }
+}
+
+// A clause comes with its number.
+fn enter(
+    key: ClauseKey,
+    number: u128,
+    numbers: &mut BTreeMap<ClauseKey, u128>,
+    unmet: &mut BTreeSet<ClauseKey>,
+) -> Result<(), AllocError>
+    requires { AreUnmet numbers.old unmet.old }
+    ensures numbers { OnOk result ((k : ClauseKey) → get clause_cmp numbers.new k
+        ≡ (if is_eq (clause_cmp key k) then Some number else get clause_cmp numbers.old k)) }
+    ensures unmet { OnOk result (AreUnmet numbers.new unmet.new) }
+{
+    let there = numbers.insert(key, number)?;
+    note(unmet, key, matches!(there, Some(0)), number == 0)?;
+    Ok(())
+}
+
+// These clauses come in turn.
+fn enter_each(
+    clauses: &[(ClauseKey, u128)],
+    numbers: &mut BTreeMap<ClauseKey, u128>,
+    unmet: &mut BTreeSet<ClauseKey>,
+) -> Result<(), AllocError>
+    requires { AreUnmet numbers.old unmet.old }
+    ensures numbers { OnOk result ((k : ClauseKey) → get clause_cmp numbers.new k
+        ≡ entered clauses.now k (get clause_cmp numbers.old k)) }
+    ensures unmet { OnOk result (AreUnmet numbers.new unmet.new) }
+{
+    for clause in clauses {
+        enter(clause.0, clause.1, numbers, unmet)?;
+    }
+    Ok(())
+}
+
+// The same, where no clause is left if memory ends in the middle.
+#[tactic(auto, using(crate::proofs::CounterLemmas::unmet_none))]
+fn enter_all(
+    clauses: &[(ClauseKey, u128)],
+    numbers: &mut BTreeMap<ClauseKey, u128>,
+    unmet: &mut BTreeSet<ClauseKey>,
+) -> Result<(), AllocError>
+    requires { AreUnmet numbers.old unmet.old }
+    ensures numbers { OnOk result ((k : ClauseKey) → get clause_cmp numbers.new k
+        ≡ entered clauses.now k (get clause_cmp numbers.old k)) }
+    ensures unmet { AreUnmet numbers.new unmet.new }
+{
+    match enter_each(clauses, numbers, unmet) {
         Ok(()) => Ok(()),
         Err(error) => {
             numbers.clear();
@@ -139,7 +198,7 @@ impl Counters {
             alloc,
             numbers: BTreeMap::new(alloc),
             unmet: BTreeSet::new(alloc),
-            waiting: Vec::new(alloc),
+            waiting: Waiting::new(alloc),
         }
     }
 
@@ -166,29 +225,55 @@ impl Counters {
 
     /// None waits to be entered from now on.
     pub(crate) fn let_none_wait(&mut self)
-        ensures { (k : ClauseKey) → told self.new.waiting.items self.new.numbers k ≡ get clause_cmp self.old.numbers k }
+        ensures { (k : ClauseKey) → told self.new.waiting self.new.numbers k ≡ get clause_cmp self.old.numbers k }
     {
-        self.waiting.clear();
+        self.waiting = if self.numbers.is_empty() {
+            Waiting::first(self.alloc)
+        } else {
+            Waiting::new(self.alloc)
+        };
     }
 
-    /// A clause comes to those that wait to be entered.
-    #[tactic(auto, using(crate::proofs::CounterLemmas::entered_push))]
-    pub(crate) fn wait(&mut self, clause: ClauseKey, number: u128) -> Result<(), AllocError>
-        ensures { OnOk result ((k : ClauseKey) → told self.new.waiting.items self.new.numbers k
-            ≡ (if is_eq (clause_cmp clause k) then Some number else told self.old.waiting.items self.old.numbers k)) }
+    // Where there is no room for a clause behind those that wait, these are entered.
+    fn make_room(&mut self, clause: ClauseKey) -> Result<(), AllocError>
+        ensures told { OnOk result ((k : ClauseKey) → told self.new.waiting self.new.numbers k
+            ≡ told self.old.waiting self.old.numbers k) }
+        ensures room { OnOk result (IsBehind self.new.waiting.highest clause) }
     {
-        self.waiting.push((clause, number))?;
+        if self.waiting.has_room(clause) {
+            return Ok(());
+        }
+        self.enter_waiting()
+    }
+
+    /// A clause comes to those that wait to be entered, or is entered at once.
+    pub(crate) fn wait(&mut self, clause: ClauseKey, number: u128) -> Result<(), AllocError>
+        ensures { OnOk result ((k : ClauseKey) → told self.new.waiting self.new.numbers k
+            ≡ (if is_eq (clause_cmp clause k) then Some number else told self.old.waiting self.old.numbers k)) }
+    {
+        self.make_room(clause)?;
+        if self.waiting.put(clause, number)? {
+            enter_all(&[(clause, number)], &mut self.numbers, &mut self.unmet)?;
+        }
         Ok(())
     }
 
-    /// Those that wait are entered. They come together, since a tree that is made of many keys at once has full nodes, while one to
-    /// which keys come one by one in their order has nodes that are half empty. Where memory is refused, no clause is left.
+    /// Those that wait are entered. Where memory is refused, no clause is left.
     pub(crate) fn enter_waiting(&mut self) -> Result<(), AllocError>
-        ensures { OnOk result ((k : ClauseKey) → get clause_cmp self.new.numbers k
-            ≡ told self.old.waiting.items self.old.numbers k) }
+        ensures numbers { OnOk result ((k : ClauseKey) → get clause_cmp self.new.numbers k
+            ≡ told self.old.waiting self.old.numbers k) }
+        ensures none { OnOk result ((k : ClauseKey) → told self.new.waiting self.new.numbers k ≡ get clause_cmp self.new.numbers k) }
+        ensures lowest { OnOk result (self.new.waiting.highest ≡ None) }
     {
-        let clauses = mem::replace(&mut self.waiting, Vec::new(self.alloc));
-        enter_all(self.alloc, clauses, &mut self.numbers, &mut self.unmet)
+        let waiting = mem::replace(&mut self.waiting, Waiting::new(self.alloc));
+        enter_all(&waiting.halfway, &mut self.numbers, &mut self.unmet)?;
+        if waiting.is_first() {
+            let clauses = waiting.between;
+            enter_together(self.alloc, clauses, &mut self.numbers, &mut self.unmet)?;
+        } else {
+            enter_all(&waiting.between, &mut self.numbers, &mut self.unmet)?;
+        }
+        Ok(())
     }
 
     /// The clause goes.

@@ -35,6 +35,9 @@ use ctl_relation::{Atom, FieldKind, Offer, Steps, Version};
 use ctl_store::StanzaKey;
 use std::alloc::{AllocError, Global};
 
+// The trees are made anew where at least one stanza came for so many names.
+const NAMES_A_STANZA: usize = 8;
+
 /// The offers, the namers and the rows of each name, names under which nothing stands left out.
 #[derive(Drop)]
 pub(crate) struct NameTable {
@@ -132,6 +135,19 @@ impl NameTable {
             ≡ (if bytes_eq name.now q then named_rows named else rows_under self.old.map q)) }
     {
         self.map.insert(self.alloc, name, named)
+    }
+
+    /// The trees are made anew with full nodes, where so many stanzas came that it is worth it: an edit of one is not to pay for it.
+    pub(crate) fn pack_behind(&mut self, stanzas: usize) -> Result<(), AllocError>
+        ensures offers { OnOk result (offers_under self.new.map ≡ offers_under self.old.map) }
+        ensures namers { OnOk result (namers_under self.new.map ≡ namers_under self.old.map) }
+        ensures rows { OnOk result (rows_under self.new.map ≡ rows_under self.old.map) }
+    {
+        if stanzas < self.map.len() / NAMES_A_STANZA {
+            return Ok(());
+        }
+        self.map.pack(self.alloc)?;
+        Ok(())
     }
 
     /// An offer comes: it is listed, and tested against the clauses that name it.

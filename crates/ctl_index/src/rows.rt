@@ -1,13 +1,13 @@
 //! The rows of names follow the stanzas that come and go.
 
-ghost use Rattle.std.specs.Prelude.{◌≡◌, ℕ, List, OnOk};
+ghost use Rattle.std.specs.Prelude.{◌≡◌, ℕ, List, [], ◌∷◌, OnOk};
 ghost use Rattle.ctl_store.specs.Store.{Held, keyed_of};
 ghost use Rattle.ctl_store.specs.Keys.{AreRising, all_keys};
 ghost use Rattle.ctl_policy.specs.Rows.{AreRowsOf};
 ghost use Rattle.ctl_index.specs.Held.{standing};
-ghost use Rattle.ctl_index.specs.Inside.TablesByName.{NameMap, offers_under, namers_under, rows_under, row_under};
-ghost use Rattle.ctl_index.specs.Inside.TablesRows.{AreKept, AreRowsPut, AreRowsTaken, RowsCome, RowsGo, with_found, put_rows_step, take_rows_step};
-ghost use Rattle.ctl_index.specs.Inside.TablesSight.{seen};
+ghost use Rattle.ctl_index.specs.Inside.TablesByName.{NameMap, offers_under, namers_under, rows_under};
+ghost use Rattle.ctl_index.specs.Inside.TablesRows.{AreKept, AreRowsPut, AreRowsTaken};
+ghost use Rattle.ctl_index.specs.Inside.TablesSight.{entries_seen};
 
 use crate::name_table::NameTable;
 use crate::sight::{Sight, stanza_at};
@@ -18,11 +18,11 @@ use std::alloc::AllocError;
 
 // The row of a stanza, where it is live.
 fn put_row_of(key: StanzaKey, stanza: &Stanza, names: &mut NameTable) -> Result<(), AllocError>
-    ensures rows { OnOk result ((q : List ℕ) → (version : List ℕ) → row_under names.new.map q version
-        ≡ put_rows_step q version key stanza.now (row_under names.old.map q version)) }
+    ensures rows { OnOk result (AreRowsPut ((key, stanza.now) ∷ []) (rows_under names.old.map) (rows_under names.new.map)) }
     ensures offers { OnOk result (offers_under names.new.map ≡ offers_under names.old.map) }
     ensures namers { OnOk result (namers_under names.new.map ≡ namers_under names.old.map) }
 {
+    rows_follow_stanzas();
     match stanza.version() {
         Some(version) => names.put_row(stanza.package(), version, key),
         None => Ok(()),
@@ -31,8 +31,7 @@ fn put_row_of(key: StanzaKey, stanza: &Stanza, names: &mut NameTable) -> Result<
 
 // The row of the stanza under a key, if there is one.
 fn put_row_at(sight: &Sight<'_>, key: StanzaKey, names: &mut NameTable) -> Result<(), AllocError>
-    ensures rows { OnOk result ((q : List ℕ) → (version : List ℕ) → row_under names.new.map q version
-        ≡ with_found (seen sight.now) (put_rows_step q version) key (row_under names.old.map q version)) }
+    ensures rows { OnOk result (AreRowsPut (entries_seen sight.now (key ∷ [])) (rows_under names.old.map) (rows_under names.new.map)) }
     ensures offers { OnOk result (offers_under names.new.map ≡ offers_under names.old.map) }
     ensures namers { OnOk result (namers_under names.new.map ≡ namers_under names.old.map) }
 {
@@ -48,7 +47,7 @@ pub(crate) fn put_rows(
     keys: &[StanzaKey],
     names: &mut NameTable,
 ) -> Result<(), AllocError>
-    ensures rows { OnOk result (AreRowsPut sight.now keys.now names.old.map names.new.map) }
+    ensures rows { OnOk result (AreRowsPut (entries_seen sight.now keys.now) (rows_under names.old.map) (rows_under names.new.map)) }
     ensures offers { OnOk result (offers_under names.new.map ≡ offers_under names.old.map) }
     ensures namers { OnOk result (namers_under names.new.map ≡ namers_under names.old.map) }
 {
@@ -60,11 +59,11 @@ pub(crate) fn put_rows(
 
 // The row of a stanza, where it is live.
 fn take_row_of(key: StanzaKey, stanza: &Stanza, names: &mut NameTable)
-    ensures rows { (q : List ℕ) → (version : List ℕ) → row_under names.new.map q version
-        ≡ take_rows_step q version key stanza.now (row_under names.old.map q version) }
+    ensures rows { AreRowsTaken ((key, stanza.now) ∷ []) (rows_under names.old.map) (rows_under names.new.map) }
     ensures offers { offers_under names.new.map ≡ offers_under names.old.map }
     ensures namers { namers_under names.new.map ≡ namers_under names.old.map }
 {
+    rows_follow_stanzas();
     match stanza.version() {
         Some(version) => names.take_row(stanza.package(), version, key),
         None => {}
@@ -73,8 +72,7 @@ fn take_row_of(key: StanzaKey, stanza: &Stanza, names: &mut NameTable)
 
 // The row of the stanza under a key, if there is one.
 fn take_row_at(sight: &Sight<'_>, key: StanzaKey, names: &mut NameTable)
-    ensures rows { (q : List ℕ) → (version : List ℕ) → row_under names.new.map q version
-        ≡ with_found (seen sight.now) (take_rows_step q version) key (row_under names.old.map q version) }
+    ensures rows { AreRowsTaken (entries_seen sight.now (key ∷ [])) (rows_under names.old.map) (rows_under names.new.map) }
     ensures offers { offers_under names.new.map ≡ offers_under names.old.map }
     ensures namers { namers_under names.new.map ≡ namers_under names.old.map }
 {
@@ -86,21 +84,13 @@ fn take_row_at(sight: &Sight<'_>, key: StanzaKey, names: &mut NameTable)
 
 /// The keys of the live stanzas among these go from their rows. It takes no memory.
 pub(crate) fn take_rows(sight: &Sight<'_>, keys: &[StanzaKey], names: &mut NameTable)
-    ensures rows { AreRowsTaken sight.now keys.now names.old.map names.new.map }
+    ensures rows { AreRowsTaken (entries_seen sight.now keys.now) (rows_under names.old.map) (rows_under names.new.map) }
     ensures offers { offers_under names.new.map ≡ offers_under names.old.map }
     ensures namers { namers_under names.new.map ≡ namers_under names.old.map }
 {
     for key in keys {
         take_row_at(sight, *key, names);
     }
-}
-
-/// Rows follow the stanzas of several keys, as they do one.
-pub(crate) fn rows_follow_keys()
-    ensures come { RowsCome }
-    ensures go { RowsGo }
-{
-    rows_follow_stanzas();
 }
 
 /// The rows that are kept of the stanzas of a store are those of the definition.

@@ -1,12 +1,12 @@
 //! The priority of a list, known by its serial.
 
-ghost use Rattle.std.specs.Prelude.{◌≡◌, IsSome, IfSome, Some};
+ghost use Rattle.std.specs.Prelude.{◌≡◌, IsSome, IfSome};
 ghost use Rattle.ctl_store.specs.Keys.{holder_of, stanza_at};
 ghost use Rattle.ctl_store.specs.Store.{keyed_of};
 ghost use Rattle.ctl_policy.specs.Priority.{priority_found, world_of};
 ghost use Rattle.ctl_policy.specs.Inside.KnownLists.{IsKnownPriority};
 
-use crate::priority::list_priority;
+use crate::priority::priority_of_kind;
 use ctl_store::{StanzaKey, Store};
 
 /// A list, by the serial that its keys have, and its priority. Stanzas of one list mostly follow each other where rows are
@@ -17,25 +17,16 @@ pub(crate) struct KnownPriority {
     priority: i16,
 }
 
-// The priority of the list of a name, which holds a stanza.
-fn priority_of(store: &Store, list: &[u8]) -> i16
-    ensures { result ≡ priority_found (world_of store.now) (Some list.now) }
-{
-    match list_priority(store, list) {
-        Some(priority) => priority,
-        None => 0,
-    }
-}
-
 // The list that holds a stanza, with its priority.
 fn known_of(store: &Store, key: StanzaKey) -> KnownPriority
     requires { IsSome (stanza_at key (keyed_of store.now).lists) }
     ensures known { IsKnownPriority result (world_of store.now) }
     ensures priority { result.priority ≡ priority_found (world_of store.now) (holder_of key (keyed_of store.now).lists) }
 {
+    let (list, kind, class) = store.list_with(key);
     KnownPriority {
         list: key.list,
-        priority: priority_of(store, store.list_of(key)),
+        priority: priority_of_kind(store, list, kind, class, store.general_pin(list)),
     }
 }
 

@@ -44,8 +44,8 @@ fn is_target(target: Option<&[u8]>, list: &[u8], kind: ListKind) -> bool
     }
 }
 
-// The priority of a list of this name, kind and class, where this is the priority of its general pin.
-fn priority_of_kind(
+/// The priority of a list of this name, kind and class, where this is the priority of its general pin.
+pub(crate) fn priority_of_kind(
     store: &Store,
     list: &[u8],
     kind: ListKind,

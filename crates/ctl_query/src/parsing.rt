@@ -51,28 +51,20 @@ fn arguments_in(alloc: Global, words: &[Bytes]) -> Result<Vec<Bytes>, AllocError
 fn are_options_of(name: CacheQuery, words: &[Bytes]) -> bool
     ensures { result ≡ list_all (is_among (options_of name)) (filter is_option words.now) }
 {
-    let mut rest = words;
-    'words: while let Some((word, others)) = rest.split_first() {
-        if is_option(word.as_slice()) && !name.has_option(word.as_slice()) {
-            return false;
-        }
-        rest = others;
-    }
-    true
+    words
+        .iter()
+        .filter(|word| is_option(word.as_slice()))
+        .all(|option| name.has_option(option.as_slice()))
 }
 
 /// Whether an option is among words.
 fn has_option(words: &[Bytes], option: &[u8]) -> bool
     ensures { result ≡ is_among (filter is_option words.now) option.now }
 {
-    let mut rest = words;
-    'words: while let Some((word, others)) = rest.split_first() {
-        if is_option(word.as_slice()) && option == word.as_slice() {
-            return true;
-        }
-        rest = others;
-    }
-    false
+    words
+        .iter()
+        .filter(|word| is_option(word.as_slice()))
+        .any(|other| option == other.as_slice())
 }
 
 fn are_names(words: &[Bytes]) -> bool
@@ -117,15 +109,10 @@ fn is_all(option: &[u8]) -> bool
 fn shows_all(words: &[Bytes]) -> bool
     ensures { result ≡ shows_all (filter is_option words.now) }
 {
-    let mut all = true;
-    let mut rest = words;
-    'words: while let Some((word, others)) = rest.split_first() {
-        if is_option(word.as_slice()) {
-            all = is_all(word.as_slice());
-        }
-        rest = others;
-    }
-    all
+    words
+        .iter()
+        .filter(|word| is_option(word.as_slice()))
+        .fold(true, |_, option| is_all(option.as_slice()))
 }
 
 // How many bytes stand before the first `=`.

@@ -1,3 +1,4 @@
+pub mod FrontLemmas
 pub mod PlaceLemmas
 pub mod PiecesLemmas
 pub mod PointLemmas

@@ -1,8 +1,8 @@
 -- Lists of values by name, and the finite maps that they are.
-use Rattle.std.proofs.Common.{◌≡◌, ℕ, Bool, true, false, cond, List, [], ◌∷◌, ◌++◌, Option, None, Some, is_some, refl, ap, sym, ◌∙◌, arith, ◌+◌, ◌≤◌, suc, option_map, map, IfSome, OnOk, Result, Ok, Err, nat_eq, ◌<◌, ◌-◌, zero, length, take, drop, ◌&&◌, set}
+use Rattle.std.proofs.Common.{◌≡◌, ℕ, Bool, true, false, cond, List, [], ◌∷◌, ◌++◌, Option, None, Some, is_some, refl, ap, sym, subst, ◌∙◌, arith, ◌+◌, ◌≤◌, suc, option_map, map, IfSome, OnOk, Result, Ok, Err, nat_eq, ◌<◌, ◌-◌, zero, length, take, drop, ◌&&◌, set}
 use Rattle.std.specs.Str.{bytes_eq}
 use Rattle.std.specs.Map.{keys_of as names_of, lookup}
-use Rattle.std.specs.List.{IsDistinct, remove}
+use Rattle.std.specs.List.{AllByRecursion, IsDistinct, remove}
 use Rattle.std.specs.Cmp.Lexicographic.{slice_cmp, nat_list_cmp_total, nat_list_eq_equiv}
 use Rattle.std.specs.Ordering.{nat_cmp, eq_by_cmp}
 use Rattle.std.proofs.lemmas.Map.{lookup-remove_entry}
@@ -198,6 +198,24 @@ pub names_held : (es : List (List ℕ × HeldList)) → names_of (stanza_lists (
 names_held es = keys_of-map_values stanza_list (lists_of es) ∙ keys_of-map_values keyed_list es
 
 -- ---- lists under their own serials, of which one is changed, comes or goes
+
+-- a name that is not among those of the lists is not that of the list of a serial
+entry_apart : (name : List ℕ) (serial : ℕ) (es : List (List ℕ × HeldList)) → AllByRecursion (λ q. bytes_eq name q ≡ false) (names_of es) → IfSome (entry_of serial es) (λ e. bytes_eq e.0 name ≡ false)
+entry_apart name serial [] h = tt
+entry_apart name serial (x ∷ es) h = grind (arith, nat_list_eq_equiv.symm name x.0, entry_apart name serial es h.1)
+
+-- the list of a serial is that of its name
+pub entry_named : (serial : ℕ) (es : List (List ℕ × HeldList)) → IsDistinct bytes_eq (names_of es) → IfSome (entry_of serial es) (λ e. at_name e.0 es ≡ Some e.1)
+unfolding IsDistinct
+entry_named serial [] h = tt
+entry_named serial (x ∷ es) h = grind (arith, nat_list_eq_equiv.refl x.0, entry_apart x.0 serial es h.0, entry_named serial es h.1)
+
+-- so its kind and its class are those of its name
+pub kind_named : (serial : ℕ) (es : List (List ℕ × HeldList)) (e : List ℕ × HeldList) → IsDistinct bytes_eq (names_of es) → Some e ≡ entry_of serial es → option_map (λ (l : StanzaList). l.kind) (at_name e.0 (stanza_lists (lists_of es))) ≡ Some e.1.kind
+kind_named serial es e d found = ap (option_map (λ (l : StanzaList). l.kind)) (at_name_held e.0 es) ∙ ap (λ o. option_map (λ (l : StanzaList). l.kind) (option_map stanza_list (option_map keyed_list o))) (subst (λ o. IfSome o (λ x. at_name x.0 es ≡ Some x.1)) (sym found) (entry_named serial es d))
+
+pub class_named : (serial : ℕ) (es : List (List ℕ × HeldList)) (e : List ℕ × HeldList) → IsDistinct bytes_eq (names_of es) → Some e ≡ entry_of serial es → option_map (λ (l : StanzaList). l.class) (at_name e.0 (stanza_lists (lists_of es))) ≡ Some e.1.class
+class_named serial es e d found = ap (option_map (λ (l : StanzaList). l.class)) (at_name_held e.0 es) ∙ ap (λ o. option_map (λ (l : StanzaList). l.class) (option_map stanza_list (option_map keyed_list o))) (subst (λ o. IfSome o (λ x. at_name x.0 es ≡ Some x.1)) (sym found) (entry_named serial es d))
 
 -- the row of a serial is the list of that serial
 pub entry_is : (serial : ℕ) (rows : List (ℕ × (List ℕ × HeldList))) → AreNumbered rows → lookup (nat_eq serial) rows ≡ entry_of serial (without_serials rows)

@@ -1,29 +1,32 @@
 -- What the order of the rows of a list says of the rows, and how it changes with them.
-use Rattle.std.proofs.Common.{◌≡◌, ℕ, ◌+◌, ◌<◌, ◌≤◌, true, cond, ◌&&◌, List, [], ◌∷◌, ◌++◌, length, get_or, Option, None, Some, refl, ap, sym, ◌∙◌, arith, zero, suc, map, take, drop, subst, false, Bool, not, nat_eq, sum_by}
-use Rattle.std.specs.List.{insert, remove, AllByRecursion, IsAllAdjacentAnswer}
-use Rattle.std.specs.Cmp.{IsTotalOrder, nat_cmp_total}
+use Rattle.std.proofs.Common.{◌≡◌, ℕ, ◌+◌, ◌<◌, ◌≤◌, true, cond, ◌&&◌, List, [], ◌∷◌, ◌++◌, length, get_or, Option, None, Some, refl, ap, sym, ◌∙◌, arith, zero, suc, map, take, drop, subst, false, Bool, not, sum_by}
+use Rattle.std.specs.List.{insert, remove, slice_get, AllByRecursion, IsAllAdjacentAnswer}
+use Rattle.std.specs.Cmp.{IsTotalOrder, nat_cmp_total, tied_itself}
 use Rattle.std.specs.Cmp.Lexicographic.{options_total, nat_list_cmp_total, slice_cmp}
 use Rattle.std.specs.Ordering.{ordering_then, is_eq, nat_cmp, is_lt, is_gt}
 use Rattle.std.specs.declared.cmp.Ordering.{Ordering}
 use Rattle.std.proofs.lemmas.Cmp.{on_total, then_total, upto}
 use Rattle.std.proofs.lemmas.Map.Text.{is_eq-slice_cmp}
 use Rattle.std.proofs.lemmas.Slice.Eq.{bytes_eq-Decides}
-use Rattle.ctl_relation.specs.Version.{version_cmp}
+use Rattle.ctl_relation.specs.Version.{triple_cmp, triple_of, version_cmp}
+use Rattle.std.specs.Str.{bytes_eq}
 use Rattle.ctl_relation.specs.Orders.Versions.{equal_versions, triple_total}
 use Rattle.ctl_stanza.specs.Content.{Content, package_of, version_of}
 use Rattle.ctl_store.specs.Step.{place, is_same, is_same_version}
 use Rattle.ctl_store.specs.Inside.Sorted.{place_in, insert_in}
-use Rattle.ctl_store.specs.Rows.{Id, id, id_of, row_id, version_id, version_order, id_cmp, ids_of, sorted_ids, lower, has_serial, IsKept, order_at, by_name_and_version, replace_at, sorted_serials, Rises, rows_from, id_under, serial_cmp}
+use Rattle.ctl_store.specs.declared.fronts.Placed.{Placed}
+use Rattle.ctl_store.specs.Rows.{Id, id, id_of, row_id, version_id, version_order, id_cmp, ids_of, sorted_ids, lower, has_serial, IsKept, by_name_and_version, replace_at, placed, placed_row, placed_at, placed_cmp, sorted_placed, Rises, rows_from, id_under, serial_cmp}
 use Rattle.std.proofs.lemmas.Bool.{and_parts}
-use Rattle.ctl_store.proofs.PlaceLemmas.{place_within, place_passes, equal_is, Rises-rows_from, eq_is, all_map}
-use Rattle.ctl_store.proofs.RankedLemmas.{found_here as ranked_here, found_past as ranked_past, ranked_replace, ranked_push, ranked_remove, length-sorted_in, g, all_insert, all_sorted, all_from, all_lookup, lookup-labels, Rises-labels}
+use Rattle.ctl_store.proofs.PlaceLemmas.{place_within, place_passes, equal_is, Rises-rows_from, all_map}
+use Rattle.ctl_store.proofs.RankedLemmas.{found_here as ranked_here, found_past as ranked_past, parted, below_is, order-sorted, ranked_replace, ranked_push, ranked_remove, length-sorted_in, g, all_insert, all_sorted, all_from, all_lookup, lookup-labels, Rises-labels}
 use Rattle.ctl_store.specs.Keys.{KeyedList, key_of, key_at}
 use Rattle.std.proofs.lemmas.List.{length-map}
 use Rattle.std.specs.Option.{option_cmp}
-use Rattle.std.specs.declared.cmp.Ordering.TheVariants.{Equal, Greater}
-use Rattle.ctl_store.specs.Fronts.{front_len, filled, front_of}
+use Rattle.std.specs.declared.cmp.Ordering.TheVariants.{Less, Equal, Greater}
+use Rattle.ctl_store.specs.Fronts.{front_of}
+use Rattle.ctl_store.proofs.FrontLemmas.{fronts_tell}
 use Rattle.std.specs.Bool.{OnTrue}
-use Rattle.std.specs.List.Sorted.{IsPermutation, IsSortedBy}
+use Rattle.std.specs.List.Sorted.{IsPartitionedBy, IsPartitionPoint, IsPermutation, IsSortedBy}
 use Rattle.std.proofs.lemmas.List.Sorted.{sum_by-IsPermutation, sorted_far, ranks_by}
 use Rattle.std.proofs.lemmas.List.Sums.{sum_by-cons}
 
@@ -47,11 +50,32 @@ same_versions None (Some w) e = cc
 same_versions (Some v) None e = cc
 same_versions (Some v) (Some w) e = ap Some ((equal_versions v w).0 (equal_is (version_cmp v w) e))
 
+-- versions of one text are equal
+pub one_text : (v w : List ℕ) → bytes_eq v w ≡ true → Equal ≡ version_order (Some (triple_of v)) (Some (triple_of w))
+one_text v w e = sym (tied_itself triple_total (triple_of v)) ∙ ap (λ t. triple_cmp (triple_of v) (triple_of t)) ((bytes_eq-Decides v w).0 e)
+
 exact_id : (name : List ℕ) (version : Option (List ℕ)) (x : Content) → is_same name version x ≡ true → id_of x ≡ id name version
 exact_id name version x e = λ j. record {
   name = (bytes_eq-Decides (package_of x) name).0 (and_parts _ _ e).0 j;
   version = same_versions (version_of x) version (and_parts _ _ e).1 j;
 }
+
+-- ---- where the fronts of two names differ, they stand as the names do
+
+first_decides : (o r then : Ordering) → o ≡ r → (o ≡ Equal → ⊥) → o ≡ ordering_then r then
+first_decides o r then e n = grind arith
+
+-- so do names and versions, of which names come first
+front_first : (x q : Id) → ordering_then (nat_cmp (front_of x.name) (front_of q.name)) (id_cmp x q) ≡ id_cmp x q
+front_first x q = by (nat_cmp (front_of x.name) (front_of q.name)) refl
+  where
+    differ : (o : Ordering) → o ≡ nat_cmp (front_of x.name) (front_of q.name) → (o ≡ Equal → ⊥) → o ≡ id_cmp x q
+    differ o e n = first_decides o (slice_cmp nat_cmp x.name q.name) (version_order x.version q.version) (fronts_tell x.name q.name o e n) n
+
+    by : (o : Ordering) → o ≡ nat_cmp (front_of x.name) (front_of q.name) → ordering_then o (id_cmp x q) ≡ id_cmp x q
+    by Equal e = refl
+    by Less e = differ Less e (λ k. cc)
+    by Greater e = differ Greater e (λ k. cc)
 
 -- ---- the first row of a name and a version
 
@@ -59,27 +83,45 @@ pub place-ids : (name : List ℕ) (version : Option (List ℕ)) (rows : List (�
 place-ids name version [] = refl
 place-ids name version (r ∷ rows) = grind (arith, same_id, place-ids name version rows)
 
-module _ (rows : List (ℕ × Content)) (next : ℕ) (order : List ℕ) (kept : IsKept rows next order) where
+module _ (rows : List (ℕ × Content)) (next : ℕ) (order : List Placed) (kept : IsKept rows next order) where
+  module _ (q : Id) where
+    -- an entry tells how its row stands
+    tells : (k : ℕ) (y : ℕ × Id) → slice_get (sorted_ids (ids_of rows)) k ≡ Some y → placed_at rows q (placed y) ≡ id_cmp y.1 q
+    tells k y e = ap (ordering_then (nat_cmp (front_of y.1.name) (front_of q.name))) (order-sorted id_cmp id_total row_id rows next kept.rises q k y e) ∙ front_first y.1 q
+
+    abbrev pub comes_before : Placed → Bool
+    comes_before one = is_lt (placed_at rows q one)
+
+    pub parted_placed : IsPartitionedBy comes_before order
+    parted_placed = parted id_cmp id_total row_id placed rows next order kept q (placed_at rows q) tells
+
+    pub lower_is : (r : ℕ) → r ≤ length order → IsPartitionPoint (λ s. comes_before s ≡ true) (λ s. comes_before s ≡ false) order r → r ≡ lower q (sorted_ids (ids_of rows))
+    lower_is r w h = below_is id_cmp id_total row_id placed rows next order kept q (placed_at rows q) tells (record { front = 0; serial = 0 }) r w h
+
   module _ (name : List ℕ) (version : Option (List ℕ)) (at : ℕ) (e : at ≡ lower (id name version) (sorted_ids (ids_of rows))) where
-    pub found_here : at < length order
-        → place (by_name_and_version name version) rows ≡ cond (is_eq (order_at rows (id name version) (get_or order at 0))) (place (has_serial (get_or order at 0)) rows) None
-    found_here l = place-ids name version rows ∙ ranked_here id_cmp id_total row_id rows next order kept (id name version) at e l
+    pub found_here : (d : Placed) → at < length order
+        → place (by_name_and_version name version) rows ≡ cond (is_eq (placed_at rows (id name version) (get_or order at d))) (place (has_serial (get_or order at d).serial) rows) None
+    found_here d l =
+        place-ids name version rows
+        ∙ ranked_here id_cmp id_total row_id placed rows next order kept (id name version) (placed_at rows (id name version)) (tells (id name version)) (λ p. p.serial) (λ y. refl) at d e l
 
     pub found_past : length order ≤ at → place (by_name_and_version name version) rows ≡ None
-    found_past l = place-ids name version rows ∙ ranked_past id_cmp id_total row_id rows next order kept (id name version) at e l
+    found_past l =
+        place-ids name version rows
+        ∙ ranked_past id_cmp id_total row_id placed rows next order kept (id name version) (placed_at rows (id name version)) (tells (id name version)) (λ p. p.serial) (λ y. refl) at e l
 
   -- ---- the order after a change
 
   pub kept_replace : (x : Content) (i : ℕ) → place (by_name_and_version (package_of x) (version_of x)) rows ≡ Some i → IsKept (replace_at rows i x) next order
   kept_replace x i e =
-      ranked_replace id_cmp id_total row_id rows next order kept x i (place_within (by_name_and_version (package_of x) (version_of x)) rows i e)
+      ranked_replace id_cmp id_total row_id placed rows next order kept x i (place_within (by_name_and_version (package_of x) (version_of x)) rows i e)
       (λ d. exact_id (package_of x) (version_of x) (get_or rows i d).1 (place_passes (by_name_and_version (package_of x) (version_of x)) rows i d e))
 
-  pub kept_push : (x : Content) → place (by_name_and_version (package_of x) (version_of x)) rows ≡ None → IsKept (rows ++ (next, x) ∷ []) (next + 1) (insert order (lower (id_of x) (sorted_ids (ids_of rows))) next)
-  kept_push x e = ranked_push id_cmp id_total row_id rows next order kept x (sym (place-ids (package_of x) (version_of x) rows) ∙ e)
+  pub kept_push : (x : Content) → place (by_name_and_version (package_of x) (version_of x)) rows ≡ None → IsKept (rows ++ (next, x) ∷ []) (next + 1) (insert order (lower (id_of x) (sorted_ids (ids_of rows))) (placed_row (next, x)))
+  kept_push x e = ranked_push id_cmp id_total row_id placed rows next order kept x (sym (place-ids (package_of x) (version_of x) rows) ∙ e)
 
   pub kept_remove : (name : List ℕ) (version : Option (List ℕ)) (i : ℕ) → place (by_name_and_version name version) rows ≡ Some i → IsKept (remove rows i) next (remove order (lower (id name version) (sorted_ids (ids_of rows))))
-  kept_remove name version i e = ranked_remove id_cmp id_total row_id rows next order kept (id name version) i (sym (place-ids name version rows) ∙ e)
+  kept_remove name version i e = ranked_remove id_cmp id_total row_id placed rows next order kept (id name version) i (sym (place-ids name version rows) ∙ e)
 
 -- ---- the key at a place
 
@@ -99,93 +141,67 @@ length-rows_from n [] = refl
 length-rows_from n (x ∷ xs) = ap (λ k. suc k) (length-rows_from (suc n) xs)
 
 -- each of them is in the order once
-pub length-serials : (xs : List Content) → length (sorted_serials (rows_from 0 xs)) ≡ length xs
-length-serials xs = grind (arith, length-map, length-sorted_in, length-rows_from)
+pub length-placed : (xs : List Content) → length (sorted_placed (rows_from 0 xs)) ≡ length xs
+length-placed xs = grind (arith, length-map, length-sorted_in, length-rows_from)
 
 -- so the order is as long as the rows
-pub length-order : (rows : List (ℕ × Content)) (next : ℕ) (order : List ℕ) → IsKept rows next order → length order ≡ length rows
+pub length-order : (rows : List (ℕ × Content)) (next : ℕ) (order : List Placed) → IsKept rows next order → length order ≡ length rows
 length-order rows next order h = grind (arith, length-map, length-sorted_in)
 
 -- rows from 0 on, in the order that a sort gives
-pub kept_sorted : (rows : List (ℕ × Content)) (next : ℕ) (order : List ℕ) (xs : List Content) → rows ≡ rows_from 0 xs → next ≡ length xs → order ≡ sorted_serials rows → IsKept rows next order
+pub kept_sorted : (rows : List (ℕ × Content)) (next : ℕ) (order : List Placed) (xs : List Content) → rows ≡ rows_from 0 xs → next ≡ length xs → order ≡ sorted_placed rows → IsKept rows next order
 kept_sorted rows next order xs is n order_is = record {
   rises = subst (λ l. Rises 0 l next) (sym is) (subst (λ m. Rises 0 (rows_from 0 xs) m) (omega (arith, n)) (Rises-rows_from 0 xs));
   ordered = order_is;
 }
 
--- ---- where the fronts of two names differ, they stand as the names do
-
--- An end is as a zero, the least byte.
-least : (k : ℕ) (ys : List ℕ) (o : Ordering) → o ≡ slice_cmp nat_cmp (filled k []) (filled k ys) → (o ≡ Equal → ⊥) → o ≡ slice_cmp nat_cmp [] ys
-least zero ys o e n = absurd (n e)
-least (suc k) [] o e n = least k [] o e n
-least (suc k) (y ∷ ys) o e n = grind (arith, least k ys o)
-
-greatest : (k : ℕ) (xs : List ℕ) (o : Ordering) → o ≡ slice_cmp nat_cmp (filled k xs) (filled k []) → (o ≡ Equal → ⊥) → o ≡ slice_cmp nat_cmp xs []
-greatest zero xs o e n = absurd (n e)
-greatest (suc k) [] o e n = greatest k [] o e n
-greatest (suc k) (x ∷ xs) o e n = by (nat_cmp x 0) refl e (λ h. greatest k xs o h n)
-  where
-    more : (zs : List ℕ) → o ≡ slice_cmp nat_cmp zs [] → o ≡ Greater
-    more [] h = absurd (n h)
-    more (z ∷ zs) h = h
-
-    by : (r : Ordering) → nat_cmp x 0 ≡ r → o ≡ ordering_then r (slice_cmp nat_cmp (filled k xs) (filled k [])) → (o ≡ slice_cmp nat_cmp (filled k xs) (filled k []) → o ≡ slice_cmp nat_cmp xs []) → o ≡ Greater
-    by r is h rest = grind arith
-
--- fronts that differ stand as their names do
-fronts_tell : (k : ℕ) (xs ys : List ℕ) (o : Ordering) → o ≡ slice_cmp nat_cmp (filled k xs) (filled k ys) → (o ≡ Equal → ⊥) → o ≡ slice_cmp nat_cmp xs ys
-fronts_tell zero xs ys o e n = absurd (n e)
-fronts_tell (suc k) [] ys o e n = least (suc k) ys o e n
-fronts_tell (suc k) (x ∷ xs) [] o e n = greatest (suc k) (x ∷ xs) o e n
-fronts_tell (suc k) (x ∷ xs) (y ∷ ys) o e n = grind (arith, fronts_tell k xs ys o)
-
-first_decides : (o r then : Ordering) → o ≡ r → (o ≡ Equal → ⊥) → o ≡ ordering_then r then
-first_decides o r then e n = grind arith
-
--- so do stanzas, whose names come first in their order
-pub front_tells : (x : Content) (name : List ℕ) (version : Option (List ℕ)) (o : Ordering) → o ≡ slice_cmp nat_cmp (front_of (package_of x)) (front_of name) → (o ≡ Equal → ⊥) → o ≡ id_cmp (id_of x) (id name version)
-front_tells x name version o e n =
-    first_decides o (slice_cmp nat_cmp (package_of x) name) (version_order (version_id (version_of x)) (version_id version)) (fronts_tell front_len (package_of x) name o e n) n
-
--- ---- sorting the serials of new rows gives the order that is kept
+-- ---- sorting the entries of new rows gives the order that is kept
 
 -- ---- two lists in order that count alike are one
 
-abbrev tally : (ℕ → ℕ) → List ℕ → ℕ
-tally f [] = 0
-tally f (x ∷ xs) = f x + tally f xs
+module _ {X : Type 0} where
+  abbrev tally : (X → ℕ) → List X → ℕ
+  tally f [] = 0
+  tally f (x ∷ xs) = f x + tally f xs
 
-sum_by-tally : (f : ℕ → ℕ) (xs : List ℕ) → sum_by f xs ≡ tally f xs
-sum_by-tally f [] = refl
-sum_by-tally f (x ∷ xs) = sum_by-cons f x xs ∙ ap (λ n. f x + n) (sum_by-tally f xs)
+  sum_by-tally : (f : X → ℕ) (xs : List X) → sum_by f xs ≡ tally f xs
+  sum_by-tally f [] = refl
+  sum_by-tally f (x ∷ xs) = sum_by-cons f x xs ∙ ap (λ n. f x + n) (sum_by-tally f xs)
 
-abbrev one_at : ℕ → ℕ → ℕ
-one_at x z = cond (nat_eq z x) 1 0
+module _ {X : Type 0} (R : X → X → Ordering) (total : IsTotalOrder R) (exact : (a b : X) → R a b ≡ Equal → a ≡ b) where
+  abbrev one_at : X → X → ℕ
+  one_at x z = cond (is_eq (R z x)) 1 0
 
-one_here : (x : ℕ) → one_at x x ≡ 1
-one_here x = ap (λ b. cond b 1 0) (eq_is x x refl)
+  one_here : (x : X) → one_at x x ≡ 1
+  one_here x = ap (λ o. cond (is_eq o) 1 0) (tied_itself total x)
 
--- what is counted stands there
-counted : (P : ℕ → Type 0) (x : ℕ) (zs : List ℕ) → AllByRecursion P zs → 0 < tally (one_at x) zs → P x
-counted P x [] h l = absurd (omega arith)
-counted P x (z ∷ zs) h l = grind (arith, counted P x zs h.1)
+  -- what is counted stands there
+  counted : (P : X → Type 0) (x : X) (zs : List X) → AllByRecursion P zs → 0 < tally (one_at x) zs → P x
+  counted P x [] h l = absurd (omega arith)
+  counted P x (z ∷ zs) h l = by (R z x) refl l (counted P x zs h.1)
+    where
+      by : (o : Ordering) → R z x ≡ o → 0 < cond (is_eq o) 1 0 + tally (one_at x) zs → (0 < tally (one_at x) zs → P x) → P x
+      by Equal e k rest = subst P (exact z x e) h.0
+      by Less e k rest = rest (omega (arith, k))
+      by Greater e k rest = rest (omega (arith, k))
 
-module _ (R : ℕ → ℕ → Ordering) (total : IsTotalOrder R) (exact : (a b : ℕ) → R a b ≡ Equal → a ≡ b) where
-  abbrev IsUp : List ℕ → Type 0
+  abbrev IsUp : List X → Type 0
   IsUp [] = Unit {0}
   IsUp (x ∷ xs) = AllByRecursion (λ y. is_gt (R x y) ≡ false) xs × IsUp xs
 
-  back : (a b : ℕ) → is_lt (R a b) ≡ is_gt (R b a)
+  back : (a b : X) → is_lt (R a b) ≡ is_gt (R b a)
   back a b = grind (arith, total.antisymm a b)
 
-  not_above_itself : (a : ℕ) → is_gt (R a a) ≡ false
+  not_above_itself : (a : X) → is_gt (R a a) ≡ false
   not_above_itself a = grind (arith, total.antisymm a a)
 
-  neither : (a b : ℕ) → is_gt (R a b) ≡ false → is_gt (R b a) ≡ false → a ≡ b
-  neither a b p q = grind arith
+  neither : (a b : X) → is_gt (R a b) ≡ false → is_gt (R b a) ≡ false → a ≡ b
+  neither a b p q = exact a b (tie (R a b) p (back a b ∙ q))
+    where
+      tie : (o : Ordering) → is_gt o ≡ false → is_lt o ≡ false → o ≡ Equal
+      tie o p q = grind arith
 
-  one_list : (xs ys : List ℕ) → ((f : ℕ → ℕ) → tally f xs ≡ tally f ys) → IsUp xs → IsUp ys → xs ≡ ys
+  one_list : (xs ys : List X) → ((f : X → ℕ) → tally f xs ≡ tally f ys) → IsUp xs → IsUp ys → xs ≡ ys
   one_list [] [] t u v = refl
   one_list [] (y ∷ ys) t u v = absurd (omega (arith, t (λ n. 1)))
   one_list (x ∷ xs) [] t u v = absurd (omega (arith, t (λ n. 1)))
@@ -196,19 +212,19 @@ module _ (R : ℕ → ℕ → Ordering) (total : IsTotalOrder R) (exact : (a b :
           (counted (λ z. is_gt (R x z) ≡ false) y (x ∷ xs) (not_above_itself x, u.0) (omega (arith, t (one_at y), one_here y)))
           (counted (λ z. is_gt (R y z) ≡ false) x (y ∷ ys) (not_above_itself y, v.0) (omega (arith, t (one_at x), one_here x)))
 
-  all_at : (P : ℕ → Type 0) (xs : List ℕ) → ((k : ℕ) (d : ℕ) → k < length xs → P (get_or xs k d)) → AllByRecursion P xs
+  all_at : (P : X → Type 0) (xs : List X) → ((k : ℕ) (d : X) → k < length xs → P (get_or xs k d)) → AllByRecursion P xs
   all_at P [] h = tt
   all_at P (x ∷ xs) h = (h 0 x (omega arith), all_at P xs (λ k d l. h (suc k) d (omega arith)))
 
-  up_from : (xs : List ℕ) → ((i j : ℕ) (d : ℕ) → i ≤ j → j < length xs → is_lt (R (get_or xs j d) (get_or xs i d)) ≡ false) → IsUp xs
+  up_from : (xs : List X) → ((i j : ℕ) (d : X) → i ≤ j → j < length xs → is_lt (R (get_or xs j d) (get_or xs i d)) ≡ false) → IsUp xs
   up_from [] h = tt
   up_from (x ∷ xs) h = (
     all_at (λ y. is_gt (R x y) ≡ false) xs (λ k d l. sym (back (get_or xs k d) x) ∙ h 0 (suc k) d (omega arith) (omega arith)),
     up_from xs (λ i j d le l. h (suc i) (suc j) d (omega arith) (omega arith)),
   )
 
-  sorted_up : (xs : List ℕ) → IsSortedBy (λ x y. is_lt (R x y)) xs → IsUp xs
-  sorted_up xs s = up_from xs (sorted_far (λ x y. is_lt (R x y)) (ranks_by total (λ (n : ℕ). n)) xs s)
+  sorted_up : (xs : List X) → IsSortedBy (λ x y. is_lt (R x y)) xs → IsUp xs
+  sorted_up xs s = up_from xs (sorted_far (λ x y. is_lt (R x y)) (ranks_by total (λ (n : X). n)) xs s)
 
 -- ---- the order of rows, in pairs of serials and what they are found by
 
@@ -240,28 +256,48 @@ pairs_sorted : (n : ℕ) (xs : List (ℕ × Id)) (m : ℕ) → Rises n xs m → 
 pairs_sorted n [] m h = tt
 pairs_sorted n (x ∷ xs) m h = grind (arith, pairs_insert, all_sorted, id_total, all_map, all_from, pairs_sorted (suc x.0) xs m h.1)
 
--- ---- the same by the serials of rows
+-- ---- the same by the entries of rows
 
-pub serial_total : (rows : List (ℕ × Content)) → IsTotalOrder (serial_cmp rows)
+serial_total : (rows : List (ℕ × Content)) → IsTotalOrder (serial_cmp rows)
 serial_total rows = then_total (on_total (λ (n : ℕ). id_under rows n) (options_total id_total)) (on_total (λ (n : ℕ). n) nat_cmp_total)
 
 serial_exact : (rows : List (ℕ × Content)) (a b : ℕ) → serial_cmp rows a b ≡ Equal → a ≡ b
 serial_exact rows a b e = grind arith
 
 module _ (rows : List (ℕ × Content)) where
+  pub placed_total : IsTotalOrder (placed_cmp rows)
+  placed_total = then_total (on_total (λ (p : Placed). p.front) nat_cmp_total) (on_total (λ (p : Placed). p.serial) (serial_total rows))
+
+  both_equal : (o p : Ordering) → ordering_then o p ≡ Equal → (o ≡ Equal) × (p ≡ Equal)
+  both_equal o p e = grind arith
+
+  front_exact : (n m : ℕ) → nat_cmp n m ≡ Equal → n ≡ m
+  front_exact n m e = grind arith
+
+  placed_exact : (a b : Placed) → placed_cmp rows a b ≡ Equal → a ≡ b
+  placed_exact a b e =
+      let both = both_equal (nat_cmp a.front b.front) (serial_cmp rows a.serial b.serial) e in
+      λ j. record { front = front_exact a.front b.front both.0 j; serial = serial_exact rows a.serial b.serial both.1 j }
+
   -- a serial, with what its row is found by
   abbrev IsUnder : ℕ × Id → Type 0
   IsUnder x = id_under rows x.0 ≡ Some x.1
 
-  at_pairs : (x y : ℕ × Id) → IsUnder x → IsUnder y → serial_cmp rows x.0 y.0 ≡ pair_cmp x y
-  at_pairs x y e f = λ j. ordering_then (option_cmp id_cmp (e j) (f j)) (nat_cmp x.0 y.0)
+  after_front : (o r n : Ordering) → ordering_then o r ≡ r → ordering_then o (ordering_then r n) ≡ ordering_then r n
+  after_front Equal r n e = refl
+  after_front Less r n e = ap (λ t. ordering_then t n) e
+  after_front Greater r n e = ap (λ t. ordering_then t n) e
 
-  all_up : (x : ℕ × Id) (ys : List (ℕ × Id)) → IsUnder x → AllByRecursion IsUnder ys → AllByRecursion (λ z. is_gt (pair_cmp x z) ≡ false) ys
-      → AllByRecursion (λ n. is_gt (serial_cmp rows x.0 n) ≡ false) (map (λ (y : ℕ × Id). y.0) ys)
+  at_pairs : (x y : ℕ × Id) → IsUnder x → IsUnder y → placed_cmp rows (placed x) (placed y) ≡ pair_cmp x y
+  at_pairs x y e f =
+      (λ j. ordering_then (nat_cmp (front_of x.1.name) (front_of y.1.name)) (ordering_then (option_cmp id_cmp (e j) (f j)) (nat_cmp x.0 y.0)))
+      ∙ after_front (nat_cmp (front_of x.1.name) (front_of y.1.name)) (id_cmp x.1 y.1) (nat_cmp x.0 y.0) (front_first x.1 y.1)
+
+  all_up : (x : ℕ × Id) (ys : List (ℕ × Id)) → IsUnder x → AllByRecursion IsUnder ys → AllByRecursion (λ z. is_gt (pair_cmp x z) ≡ false) ys → AllByRecursion (λ p. is_gt (placed_cmp rows (placed x) p) ≡ false) (map placed ys)
   all_up x [] e h k = tt
   all_up x (y ∷ ys) e h k = (ap is_gt (at_pairs x y e h.0) ∙ k.0, all_up x ys e h.1 k.1)
 
-  pairs_up : (ys : List (ℕ × Id)) → AllByRecursion IsUnder ys → ArePairsUp ys → IsUp (serial_cmp rows) (serial_total rows) (serial_exact rows) (map (λ (y : ℕ × Id). y.0) ys)
+  pairs_up : (ys : List (ℕ × Id)) → AllByRecursion IsUnder ys → ArePairsUp ys → IsUp (placed_cmp rows) placed_total placed_exact (map placed ys)
   pairs_up [] h k = tt
   pairs_up (y ∷ ys) h k = (all_up y ys h.0 h.1 k.0, pairs_up ys h.1 k.1)
 
@@ -271,37 +307,36 @@ module _ (rows : List (ℕ × Content)) where
 
 -- ---- a sort only moves what is there
 
-tally-insert : (f : ℕ → ℕ) (x : ℕ × Id) (ys : List (ℕ × Id)) → tally f (map (λ (y : ℕ × Id). y.0) (insert_in id_cmp x ys)) ≡ f x.0 + tally f (map (λ (y : ℕ × Id). y.0) ys)
+tally-insert : (f : Placed → ℕ) (x : ℕ × Id) (ys : List (ℕ × Id)) → tally f (map placed (insert_in id_cmp x ys)) ≡ f (placed x) + tally f (map placed ys)
 tally-insert f x [] = refl
 tally-insert f x (y ∷ ys) = grind (arith, tally-insert f x ys)
 
-tally-sorted : (f : ℕ → ℕ) (xs : List (ℕ × Id)) → tally f (map (λ (y : ℕ × Id). y.0) (sorted_ids xs)) ≡ tally f (map (λ (y : ℕ × Id). y.0) xs)
+tally-sorted : (f : Placed → ℕ) (xs : List (ℕ × Id)) → tally f (map placed (sorted_ids xs)) ≡ tally f (map placed xs)
 tally-sorted f [] = refl
-tally-sorted f (x ∷ xs) = tally-insert f x (sorted_ids xs) ∙ ap (λ n. f x.0 + n) (tally-sorted f xs)
+tally-sorted f (x ∷ xs) = tally-insert f x (sorted_ids xs) ∙ ap (λ n. f (placed x) + n) (tally-sorted f xs)
 
-serials-ids : (rows : List (ℕ × Content)) → map (λ (y : ℕ × Id). y.0) (ids_of rows) ≡ map (λ (row : ℕ × Content). row.0) rows
-serials-ids [] = refl
-serials-ids (row ∷ rows) = ap (λ l. row.0 ∷ l) (serials-ids rows)
+placed-ids : (rows : List (ℕ × Content)) → map placed (ids_of rows) ≡ map placed_row rows
+placed-ids [] = refl
+placed-ids (row ∷ rows) = ap (λ l. placed_row row ∷ l) (placed-ids rows)
 
 from_zero : (n : ℕ) (rows : List (ℕ × Content)) (m : ℕ) → Rises n rows m → Rises 0 rows m
 from_zero n [] m h = omega (arith, h)
 from_zero n (row ∷ rows) m h = (omega (arith, h.0), h.1)
 
--- what a sort makes of the serials of rows
-pub sorted_is : (rows : List (ℕ × Content)) (first next : ℕ) → Rises first rows next → (serials order : List ℕ) → serials ≡ map (λ (row : ℕ × Content). row.0) rows → IsPermutation serials order
-    → IsSortedBy (λ x y. is_lt (serial_cmp rows x y)) order → order ≡ sorted_serials rows
-sorted_is rows first next risen serials order s moved sorted =
+-- what a sort makes of the entries of rows
+pub sorted_is : (rows : List (ℕ × Content)) (first next : ℕ) → Rises first rows next → (old order : List Placed) → old ≡ map placed_row rows → IsPermutation old order → IsSortedBy (λ x y. is_lt (placed_cmp rows x y)) order → order ≡ sorted_placed rows
+sorted_is rows first next risen old order s moved sorted =
     let rises = from_zero first rows next risen in
-    one_list (serial_cmp rows) (serial_total rows) (serial_exact rows) order (sorted_serials rows)
+    one_list (placed_cmp rows) (placed_total rows) (placed_exact rows) order (sorted_placed rows)
     (λ f.
-    sym (sum_by-tally f order) ∙ sum_by-IsPermutation f serials order moved ∙ sum_by-tally f serials ∙ ap (tally f) (s ∙ sym (serials-ids rows)) ∙ sym (tally-sorted f (ids_of rows)))
-    (sorted_up (serial_cmp rows) (serial_total rows) (serial_exact rows) order sorted)
+    sym (sum_by-tally f order) ∙ sum_by-IsPermutation f old order moved ∙ sum_by-tally f old ∙ ap (tally f) (s ∙ sym (placed-ids rows)) ∙ sym (tally-sorted f (ids_of rows)))
+    (sorted_up (placed_cmp rows) (placed_total rows) (placed_exact rows) order sorted)
     (pairs_up rows (sorted_ids (ids_of rows))
     (all_sorted id_cmp id_total (IsUnder rows) (ids_of rows) (all_under rows next rises))
     (pairs_sorted 0 (ids_of rows) next (Rises-labels id_cmp id_total row_id 0 rows next rises)))
 
--- ---- serials that stand in order already
+-- ---- entries that stand in order already
 
 -- what a test of each and the next one says
-pub in_order : (lt : ℕ → ℕ → Bool) (xs : List ℕ) (r : Bool) → IsAllAdjacentAnswer (λ x y b. b ≡ not (lt y x)) xs r → OnTrue r (IsSortedBy lt xs)
+pub in_order : (lt : Placed → Placed → Bool) (xs : List Placed) (r : Bool) → IsAllAdjacentAnswer (λ x y b. b ≡ not (lt y x)) xs r → OnTrue r (IsSortedBy lt xs)
 in_order lt xs r h = grind arith

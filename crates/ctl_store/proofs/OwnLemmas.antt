@@ -1,5 +1,5 @@
 -- The settings of one package, after one setting is set or taken out.
-use Rattle.std.proofs.Common.{◌≡◌, ℕ, ℤ, Bool, true, false, cond, List, [], ◌∷◌, refl, ap, sym, ◌∙◌, arith, nat_eq, suc, ◌+◌, ◌<◌, ◌++◌, length, map, Option, Some, None, subst, zero, filter, drop}
+use Rattle.std.proofs.Common.{◌≡◌, ℕ, ℤ, Bool, true, false, cond, List, [], ◌∷◌, refl, ap, sym, ◌∙◌, arith, nat_eq, suc, ◌+◌, ◌<◌, ◌≤◌, ◌++◌, length, map, Option, Some, None, subst, zero, filter, drop}
 use Rattle.std.specs.Map.{remove_entry, lookup}
 use Rattle.indexmap.specs.IndexMap.{insert_entry}
 use Rattle.ctl_store.specs.declared.selector.Selector.{Selector}
@@ -9,12 +9,13 @@ use Rattle.ctl_store.specs.SelectorLaws.{selector_eq-Decides, package_cmp, packa
 use Rattle.std.specs.Ordering.{nat_cmp, is_eq, ordering_then, is_gt, is_lt}
 use Rattle.std.specs.Cmp.{IsTotalOrder, nat_cmp_total, on_total, then_total, tied_itself}
 use Rattle.ctl_store.proofs.PlaceLemmas.{some_is, all_map, turned}
-use Rattle.std.specs.List.{insert, remove, AllByRecursion}
+use Rattle.std.specs.List.{insert, remove, slice_get, AllByRecursion}
+use Rattle.std.specs.List.Sorted.{IsPartitionedBy, IsPartitionPoint}
 use Rattle.ctl_ordered.specs.Ordered.{without_serials, set_row, cut_row, row_serial}
 use Rattle.ctl_store.specs.Rows.{Rises}
 use Rattle.ctl_store.specs.Inside.Sorted.{place_in, insert_in, labelled, sorted_in, below_in}
-use Rattle.ctl_store.specs.Inside.HeldPins.{own_cmp, own_row, own_below, own_run, IsRanked}
-use Rattle.ctl_store.proofs.RankedLemmas.{below_there, ranked_push, ranked_remove, g, up, lt_back, all_sorted, in_order, IsInOrder, all_lookup}
+use Rattle.ctl_store.specs.Inside.HeldPins.{own_cmp, own_order, own_row, own_below, own_one, own_run, IsRanked}
+use Rattle.ctl_store.proofs.RankedLemmas.{below_there, below_is, parted, order-sorted, ranked_push, ranked_remove, g, up, lt_back, all_sorted, in_order, IsInOrder, all_lookup}
 use Rattle.std.specs.Option.{option_map_or}
 use Rattle.std.specs.declared.cmp.Ordering.{Ordering}
 use Rattle.std.proofs.lemmas.List.{drop-map}
@@ -93,7 +94,13 @@ module _ (rows : List Row) (next : ℕ) (order : List ℕ) (kept : IsRanked rows
 
   -- another goes to the end of those of its package
   pub own_push : (x : Selector × ℤ) (at : ℕ) → at ≡ own_below (package_for x.0, next) rows → IsRanked (rows ++ (next, x) ∷ []) (next + 1) (insert order at next)
-  own_push x at e = subst (λ k. IsRanked (rows ++ (next, x) ∷ []) (next + 1) (insert order k next)) (sym e) (ranked_push own_cmp own_total own_row rows next order kept x (fresh (package_for x.0) 0 rows next kept.rises))
+  own_push x at e = subst (λ k. IsRanked (rows ++ (next, x) ∷ []) (next + 1) (insert order k next)) (sym e) (ranked_push own_cmp own_total own_row (λ (x : ℕ × Standing). x.0) rows next order kept x (fresh (package_for x.0) 0 rows next kept.rises))
+
+  -- where halving leads
+  pub own_lower : (q : Standing) (r : ℕ) → r ≤ length order → (IsPartitionedBy (λ s. is_lt (own_order rows q s)) order → IsPartitionPoint (λ s. is_lt (own_order rows q s) ≡ true) (λ s. is_lt (own_order rows q s) ≡ false) order r) → r ≡ own_below q rows
+  own_lower q r w h =
+      below_is own_cmp own_total own_row (λ (x : ℕ × Standing). x.0) rows next order kept q (own_order rows q) (order-sorted own_cmp own_total own_row rows next kept.rises q) 0 r w
+      (h (parted own_cmp own_total own_row (λ (x : ℕ × Standing). x.0) rows next order kept q (own_order rows q) (order-sorted own_cmp own_total own_row rows next kept.rises q)))
 
   module _ (s : Selector) where
     pub own_none : row_serial (selector_eq s) rows ≡ None → IsRanked (cut_row (selector_eq s) rows) next order
@@ -102,12 +109,12 @@ module _ (rows : List Row) (next : ℕ) (order : List ℕ) (kept : IsRanked rows
     module _ (serial : ℕ) (there : row_serial (selector_eq s) rows ≡ Some serial) where
       -- a setting that is there is in the order
       pub own_within : own_below (package_for s, serial) rows < length order
-      own_within = below_there own_cmp own_total own_row rows next order kept (package_for s, serial) (at s rows) (at_first s serial 0 rows next kept.rises there)
+      own_within = below_there own_cmp own_total own_row (λ (x : ℕ × Standing). x.0) rows next order kept (package_for s, serial) (own_order rows (package_for s, serial)) (order-sorted own_cmp own_total own_row rows next kept.rises (package_for s, serial)) (λ n. n) (λ y. refl) (at s rows) (at_first s serial 0 rows next kept.rises there)
 
       pub own_cut : (k : ℕ) → k ≡ own_below (package_for s, serial) rows → IsRanked (cut_row (selector_eq s) rows) next (remove order k)
       own_cut k e =
           subst (λ l. IsRanked l next (remove order k)) (sym (at_cut s serial rows there))
-          (subst (λ k. IsRanked (remove rows (at s rows)) next (remove order k)) (sym e) (ranked_remove own_cmp own_total own_row rows next order kept (package_for s, serial) (at s rows) (at_first s serial 0 rows next kept.rises there)))
+          (subst (λ k. IsRanked (remove rows (at s rows)) next (remove order k)) (sym e) (ranked_remove own_cmp own_total own_row (λ (x : ℕ × Standing). x.0) rows next order kept (package_for s, serial) (at s rows) (at_first s serial 0 rows next kept.rises there)))
 
 -- ---- the settings of one package stand together in the order of packages, in the order in which they were set
 
@@ -221,6 +228,20 @@ module _ (q : List ℕ) where
       all_drop zero ys h = h
       all_drop (suc k) [] h = h
       all_drop (suc k) (y ∷ ys) h = all_drop k ys h.1
+
+-- the settings from a place of the order on, by that of the serial there
+pub run_next : (q : List ℕ) (rows : List Row) (order : List ℕ) (i next serial : ℕ) → slice_get order i ≡ Some serial → next ≡ i + 1
+    → own_run q rows (drop i order) ≡ option_map_or (λ (setting : Selector × ℤ). setting ∷ own_run q rows (drop next order)) (own_one q (lookup (nat_eq serial) rows)) []
+run_next q rows [] i next serial e k = cc
+run_next q rows (s ∷ order) zero next serial e k = grind (arith, some_is)
+run_next q rows (s ∷ order) (suc i) zero serial e k = absurd (omega (arith, k))
+run_next q rows (s ∷ order) (suc i) (suc next) serial e k = run_next q rows order i next serial e (omega (arith, k))
+
+pub run_ends : (q : List ℕ) (rows : List Row) (order : List ℕ) (i : ℕ) → slice_get order i ≡ None → own_run q rows (drop i order) ≡ []
+run_ends q rows [] zero e = refl
+run_ends q rows [] (suc i) e = refl
+run_ends q rows (s ∷ order) zero e = cc
+run_ends q rows (s ∷ order) (suc i) e = run_ends q rows order i e
 
 -- ---- settings that are given back
 

@@ -5,16 +5,17 @@ use Rattle.std.proofs.lemmas.Option.{slice_get-get_or}
 use Rattle.std.proofs.lemmas.List.{length-append, get_or-append-add, get_or_append_left, get_or_default}
 use Rattle.std.proofs.lemmas.Bool.Decides.{nat_tests}
 use Rattle.ctl_store.specs.Step.{place}
-use Rattle.ctl_store.specs.Rows.{has_serial, Rises, replace_at, Id, id_cmp, row_id, IsKept, ids_of, sorted_ids, lower, order_at}
+use Rattle.ctl_store.specs.Rows.{has_serial, Rises, replace_at, Id, IsKept, ids_of, sorted_ids, lower, placed_at}
+use Rattle.ctl_store.specs.Orders.{ComesAfter}
 use Rattle.ctl_store.specs.Inside.HeldPieces.{joined, length_at, stands_at, last_passes, ArePieces, place_of_spot, IsSpot, IsSpotOrEnd, IsEnd}
 use Rattle.ctl_store.proofs.PlaceLemmas.{Rises-up, place_none}
 use Rattle.ctl_store.proofs.PiecesLemmas.{stands_next, length_read, piece_read, spot_within}
 use Rattle.std.specs.Bool.{OnTrue}
 use Rattle.std.specs.Ordering.{is_lt}
 use Rattle.ctl_stanza.specs.Content.{Content}
+use Rattle.ctl_store.specs.declared.fronts.Placed.{Placed}
 use Rattle.ctl_store.specs.declared.pieces.Spot.{Spot}
-use Rattle.ctl_store.proofs.OrderLemmas.{id_total}
-use Rattle.ctl_store.proofs.RankedLemmas.{parted, below_is}
+use Rattle.ctl_store.proofs.OrderLemmas.{parted_placed, lower_is}
 
 module _ {X : Type 0} (p : X → Bool) where
   cons_end : (x : X) (ys : List X) (r : ℕ) → p x ≡ true → IsEnd p ys r → IsEnd p (x ∷ ys) (suc r)
@@ -231,8 +232,9 @@ module _ {P Q : Type 0} where
   on_true_map b f h = grind arith
 
 -- a test of what is read at a place
-pub told : (P : Type 0) (p : ℕ → Bool) (b : Bool) (t s : ℕ) → t ≡ s → b ≡ p s → OnTrue b (P → p t ≡ true)
-told P p b t s e f = grind arith
+pub told : {X : Type 0} (P : Type 0) (p : X → Bool) (b : Bool) (t : X → X) → ((d : X) → b ≡ p (t d)) → OnTrue b ((d : X) → P → p (t d) ≡ true)
+told P p true t e = λ d l. sym (e d)
+told P p false t e = tt
 
 module _ {X A : Type 0} where
   -- a piece begins where the one before it ends
@@ -246,11 +248,10 @@ module _ {X A : Type 0} where
       let l = spot_within ps spot.piece spot.at there in
       record { piece = omega (arith, l); item = λ w. there; end = λ e. absurd (omega (arith, e, l)) }
 
-module _ {A : Type 0} where
   -- before the first item of a piece stands the last of the one before
-  pub last_before : (ps : List (Vec ℕ A)) → ArePieces ps → (spot : Spot) → spot.piece < length ps → 0 < spot.piece → spot.at ≡ 0 → (v : Vec ℕ A) → v ≡ get_or ps (spot.piece - 1) v
-      → get_or (joined ps) (place_of_spot ps spot - 1) 0 ≡ get_or v.items (length v.items - 1) 0
-  last_before ps h spot l some first v e =
+  pub last_before : (ps : List (Vec X A)) → ArePieces ps → (spot : Spot) → spot.piece < length ps → 0 < spot.piece → spot.at ≡ 0 → (v : Vec X A) → v ≡ get_or ps (spot.piece - 1) v
+      → (d : X) → get_or (joined ps) (place_of_spot ps spot - 1) d ≡ get_or v.items (length v.items - 1) d
+  last_before ps h spot l some first v e d =
       let k = spot.piece - 1 in
       let within : k < length ps = omega (arith, l, some) in
       let next : spot.piece ≡ suc k = omega (arith, some) in
@@ -259,16 +260,13 @@ module _ {A : Type 0} where
       let len : length_at ps k ≡ length v.items = length_read ps k v within e in
       let one = (piece_read ps k v h within e).some in
       let behind : place_of_spot ps spot - 1 ≡ stands_at ps k (length v.items - 1) = omega (arith, at, past, len, one) in
-      ap (λ n. get_or (joined ps) n 0) behind
-      ∙ get_joined ps k (length v.items - 1) v (get_or v.items (length v.items - 1) 0) 0 (omega (arith, len, one)) e (get_or_default v.items (length v.items - 1) 0 _ (omega (arith, one)))
+      ap (λ n. get_or (joined ps) n d) behind
+      ∙ get_joined ps k (length v.items - 1) v (get_or v.items (length v.items - 1) d) d (omega (arith, len, one)) e (get_or_default v.items (length v.items - 1) d _ (omega (arith, one)))
 
-  pub lower_between : (rows : List (ℕ × Content)) (next : ℕ) (ps : List (Vec ℕ A)) → IsKept rows next (joined ps) → (q : Id) (spot : Spot) → IsSpot ps spot → (s : ℕ) → get_or (joined ps) (place_of_spot ps spot) 0 ≡ s
-      → is_lt (order_at rows q s) ≡ false → (0 < place_of_spot ps spot → is_lt (order_at rows q (get_or (joined ps) (place_of_spot ps spot - 1) 0)) ≡ true) → place_of_spot ps spot ≡ lower q (sorted_ids (ids_of rows))
+module _ {A : Type 0} where
+  pub lower_between : (rows : List (ℕ × Content)) (next : ℕ) (ps : List (Vec Placed A)) → IsKept rows next (joined ps) → (q : Id) (spot : Spot) → IsSpot ps spot → (s : Placed) → ((d : Placed) → get_or (joined ps) (place_of_spot ps spot) d ≡ s)
+      → is_lt (placed_at rows q s) ≡ false → ComesAfter rows (joined ps) (place_of_spot ps spot) q → place_of_spot ps spot ≡ lower q (sorted_ids (ids_of rows))
   lower_between rows next ps kept q spot there s at here before =
-      let p : ℕ → Bool = λ s. is_lt (order_at rows q s) in
-      let r = place_of_spot ps spot in
       let w = stands_within ps spot.piece spot.at there in
-      below_is id_cmp id_total row_id rows next (joined ps) kept q r (omega (arith, w))
-      (end_between p (joined ps) r (parted id_cmp id_total row_id rows next (joined ps) kept q) w
-      (λ d l. ap p (get_or_default (joined ps) (r - 1) d 0 (omega (arith, w, l))) ∙ before l)
-      (λ d. ap p (get_or_default (joined ps) r d 0 w ∙ at) ∙ here))
+      lower_is rows next (joined ps) kept q (place_of_spot ps spot) (omega (arith, w))
+      (end_between (λ one. is_lt (placed_at rows q one)) (joined ps) (place_of_spot ps spot) (parted_placed rows next (joined ps) kept q) w before (λ d. ap (λ one. is_lt (placed_at rows q one)) (at d) ∙ here))

@@ -236,10 +236,10 @@ module _ {L : Type 0} where
     all_zip (λ y k e. ap (λ b. cond b (Some x.1) (lookup (λ k. nat_eq k y.0) xs)) (lt_ne x.0 y.0 (omega (arith, k))) ∙ e) xs (all_from (suc x.0) xs m h.1) (all_lookup (suc x.0) xs m h.1),
   )
 
-  get_serial : (xs : List (ℕ × L)) (k : ℕ) (d : ℕ) (y : ℕ × L) → slice_get xs k ≡ Some y → get_or (map (λ (x : ℕ × L). x.0) xs) k d ≡ y.0
-  get_serial [] k d y e = cc
-  get_serial (x ∷ xs) zero d y e = ap (λ (t : ℕ × L). t.0) (some_is e)
-  get_serial (x ∷ xs) (suc k) d y e = get_serial xs k d y e
+  get_entry : {E : Type 0} (f : ℕ × L → E) (xs : List (ℕ × L)) (k : ℕ) (d : E) (y : ℕ × L) → slice_get xs k ≡ Some y → get_or (map f xs) k d ≡ f y
+  get_entry f [] k d y e = cc
+  get_entry f (x ∷ xs) zero d y e = ap f (some_is e)
+  get_entry f (x ∷ xs) (suc k) d y e = get_entry f xs k d y e
 
   some_below : (xs : List (ℕ × L)) (k : ℕ) → k < length xs → (y : ℕ × L) × (slice_get xs k ≡ Some y)
   some_below [] k l = absurd (omega arith)
@@ -278,101 +278,85 @@ module _ {L : Type 0} (R : L → L → Ordering) (total : IsTotalOrder R) {T : T
       by o e = grind arith
 
   module _ (rows : List (ℕ × T)) (next : ℕ) (rises : Rises 0 rows next) where
-    order-sorted : (q : L) (k : ℕ) (y : ℕ × L) → slice_get (sorted_in R (labelled label rows)) k ≡ Some y → order_in R label rows q y.0 ≡ R y.1 q
+    pub order-sorted : (q : L) (k : ℕ) (y : ℕ × L) → slice_get (sorted_in R (labelled label rows)) k ≡ Some y → order_in R label rows q y.0 ≡ R y.1 q
     order-sorted q k y e = grind (arith, order-found, q, all_get, k, all_sorted, all_lookup, Rises-labels)
 
-  module _ (rows : List (ℕ × T)) (next : ℕ) (order : List ℕ) (kept : IsRankedBy R label rows next order) (q : L) where
+  -- An order of entries, with a test that tells of each how its row stands to a label.
+  module _ {E : Type 0} (entry : ℕ × L → E) (rows : List (ℕ × T)) (next : ℕ) (order : List E) (kept : IsRankedBy R label entry rows next order) (q : L) (o : E → Ordering)
+      (tells : (k : ℕ) (y : ℕ × L) → slice_get (sorted_in R (labelled label rows)) k ≡ Some y → o (entry y) ≡ R y.1 q) where
     abbrev sorted : List (ℕ × L)
     sorted = sorted_in R (labelled label rows)
 
-    below : (k : ℕ) (d : ℕ) → k < length order → k < below_in R q sorted → is_lt (order_in R label rows q (get_or order k d)) ≡ true
-    below k d w l =
-        let y = some_below sorted k (omega (arith, ap length kept.ordered, length-map sorted (λ (x : ℕ × L). x.0))) in
-        ap (λ (s : List ℕ). is_lt (order_in R label rows q (get_or s k d))) kept.ordered
-        ∙ ap (λ s. is_lt (order_in R label rows q s)) (get_serial sorted k d y.0 y.1)
-        ∙ ap is_lt (order-sorted rows next kept.rises q k y.0 y.1)
-        ∙ before_lower R total q sorted k y.0 l y.1
+    read : (k : ℕ) (d : E) → k < length order → (y : ℕ × L) × (slice_get sorted k ≡ Some y) × (o (get_or order k d) ≡ R y.1 q)
+    read k d w =
+        let y = some_below sorted k (omega (arith, ap length kept.ordered, length-map sorted entry)) in
+        (y.0, y.1, ap (λ (s : List E). o (get_or s k d)) kept.ordered ∙ ap o (get_entry entry sorted k d y.0 y.1) ∙ tells k y.0 y.1)
 
-    above : (k : ℕ) (d : ℕ) → k < length order → below_in R q sorted ≤ k → is_lt (order_in R label rows q (get_or order k d)) ≡ false
-    above k d w l =
-        let y = some_below sorted k (omega (arith, ap length kept.ordered, length-map sorted (λ (x : ℕ × L). x.0))) in
-        ap (λ (s : List ℕ). is_lt (order_in R label rows q (get_or s k d))) kept.ordered
-        ∙ ap (λ s. is_lt (order_in R label rows q s)) (get_serial sorted k d y.0 y.1)
-        ∙ ap is_lt (order-sorted rows next kept.rises q k y.0 y.1)
-        ∙ from_lower R total q (labelled label rows) k y.0 l y.1
+    below : (k : ℕ) (d : E) → k < length order → k < below_in R q sorted → is_lt (o (get_or order k d)) ≡ true
+    below k d w l = let y = read k d w in ap is_lt y.2 ∙ before_lower R total q sorted k y.0 l y.1
+
+    above : (k : ℕ) (d : E) → k < length order → below_in R q sorted ≤ k → is_lt (o (get_or order k d)) ≡ false
+    above k d w l = let y = read k d w in ap is_lt y.2 ∙ from_lower R total q (labelled label rows) k y.0 l y.1
 
     -- the smaller ones stand first
-    pub parted : IsPartitionedBy (λ s. is_lt (order_in R label rows q s)) order
-    parted i j d le l e = grind (arith, below, q, above)
+    pub parted : IsPartitionedBy (λ s. is_lt (o s)) order
+    parted i j d le l e = grind (arith, below, above)
 
     pub below_length : below_in R q sorted ≤ length order
-    below_length = omega (arith, lower_within R total q sorted, ap length kept.ordered, length-map sorted (λ (x : ℕ × L). x.0))
+    below_length = omega (arith, lower_within R total q sorted, ap length kept.ordered, length-map sorted entry)
 
     -- the place where they end is the one that halving finds
-    pub below_is : (r : ℕ) → r ≤ length order → IsPartitionPoint (λ s. is_lt (order_in R label rows q s) ≡ true) (λ s. is_lt (order_in R label rows q s) ≡ false) order r → r ≡ below_in R q sorted
-    below_is r w h = grind (arith, q, below, below_length, above)
+    pub below_is : (d : E) (r : ℕ) → r ≤ length order → IsPartitionPoint (λ s. is_lt (o s) ≡ true) (λ s. is_lt (o s) ≡ false) order r → r ≡ below_in R q sorted
+    below_is d r w h =
+        grind (arith, below r d, below_length, above (below_in R q sorted) d, h.0 (below_in R q sorted) d, h.1 r d)
 
-  -- ---- the first row of a label
+    -- ---- the first row of a label
 
-  abbrev pub at_place : List (ℕ × T) → L → Option ℕ → Option ℕ
-  at_place rows q None = None
-  at_place rows q (Some s) = cond (is_eq (order_in R label rows q s)) (place (has_serial s) rows) None
+    module _ (serial : E → ℕ) (serial_is : (y : ℕ × L) → serial (entry y) ≡ y.0) where
+      abbrev pub at_place : Option E → Option ℕ
+      at_place None = None
+      at_place (Some s) = cond (is_eq (o s)) (place (has_serial (serial s)) rows) None
 
-  found_place : (rows : List (ℕ × T)) (next : ℕ) (order : List ℕ) → IsRankedBy R label rows next order → (q : L)
-      → place_in R label q rows ≡ at_place rows q (slice_get order (below_in R q (sorted_in R (labelled label rows))))
-  found_place rows next order kept q =
-      place-labels q rows
-      ∙ by (slice_get ids (below_in R q ids)) refl
-      ∙ sym (ap (λ (s : List ℕ). at_place rows q (slice_get s (below_in R q ids))) kept.ordered ∙ ap (at_place rows q) (slice_get-map (λ (x : ℕ × L). x.0) ids (below_in R q ids)))
-    where
-      ids : List (ℕ × L)
-      ids = sorted_in R (labelled label rows)
-
-      by : (o : Option (ℕ × L)) → slice_get ids (below_in R q ids) ≡ o → place (λ (x : ℕ × L). is_eq (R x.1 q)) (labelled label rows) ≡ at_place rows q (option_map (λ (x : ℕ × L). x.0) o)
-      by None e = place-find_none R total q (labelled label rows) (found R total q (labelled label rows) ∙ ap (if_at R q) e)
-      by (Some y) e = test (is_eq (R y.1 q)) refl
+      found_place : place_in R label q rows ≡ at_place (slice_get order (below_in R q sorted))
+      found_place =
+          place-labels q rows
+          ∙ by (slice_get sorted (below_in R q sorted)) refl
+          ∙ sym (ap (λ (s : List E). at_place (slice_get s (below_in R q sorted))) kept.ordered ∙ ap at_place (slice_get-map entry sorted (below_in R q sorted)))
         where
-          test : (b : Bool) → is_eq (R y.1 q) ≡ b → place (λ (x : ℕ × L). is_eq (R x.1 q)) (labelled label rows) ≡ cond (is_eq (order_in R label rows q y.0)) (place (has_serial y.0) rows) None
-          test b k = grind (arith, place-find, q, Rises-labels, found, if_at, k, serial-labels, order-sorted, ids, place-find_none)
+          by : (x : Option (ℕ × L)) → slice_get sorted (below_in R q sorted) ≡ x → place (λ (x : ℕ × L). is_eq (R x.1 q)) (labelled label rows) ≡ at_place (option_map entry x)
+          by None e = place-find_none R total q (labelled label rows) (found R total q (labelled label rows) ∙ ap (if_at R q) e)
+          by (Some y) e = test (is_eq (R y.1 q)) refl
+            where
+              test : (b : Bool) → is_eq (R y.1 q) ≡ b → place (λ (x : ℕ × L). is_eq (R x.1 q)) (labelled label rows) ≡ cond (is_eq (o (entry y))) (place (has_serial (serial (entry y))) rows) None
+              test b k = grind (arith, place-find, q, Rises-labels, found, if_at, k, serial-labels, tells, serial_is, place-find_none)
 
-  pub found_here : (rows : List (ℕ × T)) (next : ℕ) (order : List ℕ) → IsRankedBy R label rows next order → (q : L) (at : ℕ)
-      → at ≡ below_in R q (sorted_in R (labelled label rows)) → at < length order
-      → place_in R label q rows ≡ cond (is_eq (order_in R label rows q (get_or order at 0))) (place (has_serial (get_or order at 0)) rows) None
-  found_here rows next order kept q at e l =
-      found_place rows next order kept q
-      ∙ ap (λ k. at_place rows q (slice_get order k)) (sym e)
-      ∙ ap (at_place rows q) (slice_get-get_or order at 0 l)
+      pub found_here : (at : ℕ) (d : E) → at ≡ below_in R q sorted → at < length order → place_in R label q rows ≡ cond (is_eq (o (get_or order at d))) (place (has_serial (serial (get_or order at d))) rows) None
+      found_here at d e l = found_place ∙ ap (λ k. at_place (slice_get order k)) (sym e) ∙ ap at_place (slice_get-get_or order at d l)
 
-  pub found_past : (rows : List (ℕ × T)) (next : ℕ) (order : List ℕ) → IsRankedBy R label rows next order → (q : L) (at : ℕ)
-      → at ≡ below_in R q (sorted_in R (labelled label rows)) → length order ≤ at
-      → place_in R label q rows ≡ None
-  found_past rows next order kept q at e l =
-      found_place rows next order kept q
-      ∙ ap (λ k. at_place rows q (slice_get order k)) (sym e)
-      ∙ ap (at_place rows q) (slice_get_past order at l)
+      pub found_past : (at : ℕ) → at ≡ below_in R q sorted → length order ≤ at → place_in R label q rows ≡ None
+      found_past at e l = found_place ∙ ap (λ k. at_place (slice_get order k)) (sym e) ∙ ap at_place (slice_get_past order at l)
 
-  -- the place of a row that is there lies in the order
-  pub below_there : (rows : List (ℕ × T)) (next : ℕ) (order : List ℕ) → IsRankedBy R label rows next order → (q : L) (i : ℕ)
-      → place_in R label q rows ≡ Some i → below_in R q (sorted_in R (labelled label rows)) < length order
-  below_there rows next order kept q i e = grind (arith, below_length, q, found_past)
+      -- the place of a row that is there lies in the order
+      pub below_there : (i : ℕ) → place_in R label q rows ≡ Some i → below_in R q sorted < length order
+      below_there i e = grind (arith, below_length, found_past)
 
   -- ---- the order after a change
 
-  module _ (rows : List (ℕ × T)) (next : ℕ) (order : List ℕ) (kept : IsRankedBy R label rows next order) where
-    pub ranked_replace : (x : T) (i : ℕ) → i < length rows → ((d : ℕ × T) → label (get_or rows i d) ≡ label ((get_or rows i d).0, x)) → IsRankedBy R label (replace_at rows i x) next order
+  module _ {E : Type 0} (entry : ℕ × L → E) (rows : List (ℕ × T)) (next : ℕ) (order : List E) (kept : IsRankedBy R label entry rows next order) where
+    pub ranked_replace : (x : T) (i : ℕ) → i < length rows → ((d : ℕ × T) → label (get_or rows i d) ≡ label ((get_or rows i d).0, x)) → IsRankedBy R label entry (replace_at rows i x) next order
     ranked_replace x i l e = record {
       rises = Rises-replace 0 rows next i x kept.rises;
-      ordered = kept.ordered ∙ ap (λ xs. map (λ (y : ℕ × L). y.0) (sorted_in R xs)) (sym (labels-replace rows i x l e));
+      ordered = kept.ordered ∙ ap (λ xs. map entry (sorted_in R xs)) (sym (labels-replace rows i x l e));
     }
 
-    pub ranked_push : (x : T) → place_in R label (label (next, x)) rows ≡ None → IsRankedBy R label (rows ++ (next, x) ∷ []) (next + 1) (insert order (below_in R (label (next, x)) (sorted_in R (labelled label rows))) next)
+    pub ranked_push : (x : T) → place_in R label (label (next, x)) rows ≡ None → IsRankedBy R label entry (rows ++ (next, x) ∷ []) (next + 1) (insert order (below_in R (label (next, x)) (sorted_in R (labelled label rows))) (entry (next, label (next, x))))
     ranked_push x e = record {
       rises = rises_last x 0 rows next kept.rises;
       ordered =
-          ap (λ (s : List ℕ). insert s k next) kept.ordered
-          ∙ sym (map-insert (λ (x : ℕ × L). x.0) (sorted_in R (labelled label rows)) k (next, q))
-          ∙ ap (map (λ (y : ℕ × L). y.0)) (sym (sorted-append R total (labelled label rows) (next, q) (find-place_none R total q (labelled label rows) (sym (place-labels q rows) ∙ e))))
-          ∙ ap (λ xs. map (λ (y : ℕ × L). y.0) (sorted_in R xs)) (sym (map-append (λ (r : ℕ × T). (r.0, label r)) rows ((next, x) ∷ [])));
+          ap (λ (s : List E). insert s k (entry (next, q))) kept.ordered
+          ∙ sym (map-insert entry (sorted_in R (labelled label rows)) k (next, q))
+          ∙ ap (map entry) (sym (sorted-append R total (labelled label rows) (next, q) (find-place_none R total q (labelled label rows) (sym (place-labels q rows) ∙ e))))
+          ∙ ap (λ xs. map entry (sorted_in R xs)) (sym (map-append (λ (r : ℕ × T). (r.0, label r)) rows ((next, x) ∷ [])));
     }
       where
         q : L
@@ -381,14 +365,14 @@ module _ {L : Type 0} (R : L → L → Ordering) (total : IsTotalOrder R) {T : T
         k : ℕ
         k = below_in R q (sorted_in R (labelled label rows))
 
-    pub ranked_remove : (q : L) (i : ℕ) → place_in R label q rows ≡ Some i → IsRankedBy R label (remove rows i) next (remove order (below_in R q (sorted_in R (labelled label rows))))
+    pub ranked_remove : (q : L) (i : ℕ) → place_in R label q rows ≡ Some i → IsRankedBy R label entry (remove rows i) next (remove order (below_in R q (sorted_in R (labelled label rows))))
     ranked_remove q i e = record {
       rises = Rises-remove 0 rows next i kept.rises (place_within (λ (row : ℕ × T). is_eq (R (label row) q)) rows i e);
       ordered =
-          ap (λ (s : List ℕ). remove s k) kept.ordered
-          ∙ sym (map-remove (λ (x : ℕ × L). x.0) (sorted_in R (labelled label rows)) k)
-          ∙ ap (map (λ (y : ℕ × L). y.0)) (sym (sorted-remove R total q (labelled label rows) i (sym (place-labels q rows) ∙ e)))
-          ∙ ap (λ xs. map (λ (y : ℕ × L). y.0) (sorted_in R xs)) (sym (map-remove (λ (r : ℕ × T). (r.0, label r)) rows i));
+          ap (λ (s : List E). remove s k) kept.ordered
+          ∙ sym (map-remove entry (sorted_in R (labelled label rows)) k)
+          ∙ ap (map entry) (sym (sorted-remove R total q (labelled label rows) i (sym (place-labels q rows) ∙ e)))
+          ∙ ap (λ xs. map entry (sorted_in R xs)) (sym (map-remove (λ (r : ℕ × T). (r.0, label r)) rows i));
     }
       where
         k : ℕ

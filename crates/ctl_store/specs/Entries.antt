@@ -1,6 +1,5 @@
 -- The stanzas under their keys, and what an edit makes of them.
-use Rattle.std.specs.Prelude.{◌≡◌, ℕ, ◌+◌, List, [], ◌∷◌, ◌++◌, map, filter, filter_map, flat_map, sum_by}
-use Rattle.std.specs.Prelude.{not, Bool, Option, Some, option_map}
+use Rattle.std.specs.Prelude.{◌≡◌, ℕ, ◌+◌, List, [], ◌∷◌, ◌++◌, map, filter, filter_map, flat_map, sum_by, not, Bool, Option, Some, option_map}
 use Rattle.std.specs.List.{AllByRecursion, list_any}
 use Rattle.ctl_stanza.specs.Content.{Content, package_of, version_of}
 use Rattle.ctl_store.specs.declared.stanza_key.StanzaKey.{StanzaKey}

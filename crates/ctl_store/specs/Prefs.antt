@@ -1,7 +1,6 @@
 -- Preferences, and the pin settings that they make (apt_preferences(5)), as a function. PrefsFaults and PrefsLaws say in plain
 -- words what it gives; `told_prefs_fault_is_least` and `first_setting_counts` that it gives them.
-use Rattle.std.specs.Prelude.{ℕ, ℤ, ◌==◌, ◌&&◌, ◌||◌, not, nat_eq, Bool, false, if◌then◌else◌}
-use Rattle.std.specs.Prelude.{List, [], ◌∷◌, ◌++◌, map, drop, length, codes, Option, Some, None, is_none, is_some, option_map, Result, Ok}
+use Rattle.std.specs.Prelude.{ℕ, ℤ, ◌==◌, ◌&&◌, ◌||◌, not, nat_eq, Bool, false, if◌then◌else◌, List, [], ◌∷◌, ◌++◌, map, drop, length, codes, Option, Some, None, is_none, is_some, option_map, Result, Ok}
 use Rattle.std.specs.Str.{bytes_eq}
 use Rattle.std.specs.List.{list_all, starts_with, flat_map}
 use Rattle.std.specs.Option.{option_to_list}

@@ -1,5 +1,5 @@
 -- The stanzas of a list under their serial numbers, and the order by which one is found.
-use Rattle.std.specs.Prelude.{ℕ, suc, ◌+◌, Bool, List, [], ◌∷◌, ◌++◌, Option, None, Some, option_map, nat_eq}
+use Rattle.std.specs.Prelude.{ℕ, suc, ◌+◌, Bool, List, [], ◌∷◌, ◌++◌, Option, None, Some, map, option_map, nat_eq}
 use Rattle.std.specs.Option.{option_cmp}
 use Rattle.std.specs.Map.{lookup}
 use Rattle.std.specs.Ordering.{nat_cmp, ordering_then}
@@ -9,7 +9,9 @@ use Rattle.ctl_relation.specs.Version.{Triple, triple_of, triple_cmp}
 use Rattle.ctl_stanza.specs.Content.{Content, package_of, version_of}
 use Rattle.ctl_store.specs.Step.{is_same}
 use Rattle.ctl_store.specs.Places.{place}
-use Rattle.ctl_store.specs.Inside.Sorted.{labelled, sorted_in, below_in, serials_in, order_in, IsRankedBy}
+use Rattle.ctl_store.specs.declared.fronts.Placed.{Placed}
+use Rattle.ctl_store.specs.Fronts.{front_of}
+use Rattle.ctl_store.specs.Inside.Sorted.{labelled, sorted_in, below_in, order_in, IsRankedBy}
 pub use Rattle.ctl_store.specs.Places.{has_serial, Rises, replace_at, remove_row_at}
 
 -- ---- rows in the order of their serials
@@ -74,9 +76,16 @@ ids_of rows = labelled row_id rows
 abbrev pub sorted_ids : List (ℕ × Id) → List (ℕ × Id)
 sorted_ids xs = sorted_in id_cmp xs
 
--- the serials of rows in that order
-abbrev pub sorted_serials : List (ℕ × Content) → List ℕ
-sorted_serials rows = serials_in id_cmp row_id rows
+-- an entry of that order: a serial, with the front of the name
+abbrev pub placed : ℕ × Id → Placed
+placed x = record { front = front_of x.1.name; serial = x.0 }
+
+abbrev pub placed_row : ℕ × Content → Placed
+placed_row row = placed (row.0, row_id row)
+
+-- the entries of rows in that order
+abbrev pub sorted_placed : List (ℕ × Content) → List Placed
+sorted_placed rows = map placed (sorted_ids (ids_of rows))
 
 -- how many stand before the first that isn't smaller
 abbrev pub lower : Id → List (ℕ × Id) → ℕ
@@ -90,10 +99,17 @@ id_under rows serial = option_map id_of (lookup (λ k. nat_eq k serial) rows)
 abbrev pub serial_cmp : List (ℕ × Content) → ℕ → ℕ → Ordering
 serial_cmp rows one other = ordering_then (option_cmp id_cmp (id_under rows one) (id_under rows other)) (nat_cmp one other)
 
--- The serials rise, and the order has each of them.
-abbrev pub IsKept : List (ℕ × Content) → ℕ → List ℕ → Type 0
-IsKept rows next order = IsRankedBy id_cmp row_id rows next order
+-- The serials rise, and the order has an entry of each of them.
+abbrev pub IsKept : List (ℕ × Content) → ℕ → List Placed → Type 0
+IsKept rows next order = IsRankedBy id_cmp row_id placed rows next order
 
 -- how the row of a serial stands to a name and a version
 abbrev pub order_at : List (ℕ × Content) → Id → ℕ → Ordering
 order_at rows wanted serial = order_in id_cmp row_id rows wanted serial
+
+-- how fronts stand, and where they are equal the rows
+abbrev pub placed_at : List (ℕ × Content) → Id → Placed → Ordering
+placed_at rows wanted one = ordering_then (nat_cmp one.front (front_of wanted.name)) (order_at rows wanted one.serial)
+
+abbrev pub placed_cmp : List (ℕ × Content) → Placed → Placed → Ordering
+placed_cmp rows one other = ordering_then (nat_cmp one.front other.front) (serial_cmp rows one.serial other.serial)

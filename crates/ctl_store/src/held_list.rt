@@ -5,7 +5,7 @@ ghost use Rattle.std.specs.Map.{lookup};
 ghost use Rattle.std.specs.Option.{option_to_list};
 ghost use Rattle.std.specs.Vec.{vec_capacity};
 ghost use Rattle.ctl_store.specs.Step.{place};
-ghost use Rattle.ctl_store.specs.Rows.{by_name_and_version, put_row, next_after_put, remove_row};
+ghost use Rattle.ctl_store.specs.Rows.{by_name_and_version, placed_row, put_row, next_after_put, remove_row};
 ghost use Rattle.ctl_store.specs.Orders.{boxed_rows};
 ghost use Rattle.ctl_store.specs.Inside.HeldPieces.{most_in_piece, joined, room_at_end};
 ghost use Rattle.ctl_store.specs.Keys.{keys_of, found_key};
@@ -13,8 +13,9 @@ ghost use Rattle.ctl_store.specs.Entries.{entries_in};
 ghost use Rattle.ctl_store.specs.Store.{keyed_list};
 ghost use Rattle.ctl_store.specs.Plans.{Fits, HasRoomInList};
 
+use crate::fronts::Placed;
 use crate::list_class::ListClass;
-use crate::order::{look_up, sort_serials};
+use crate::order::{look_up, sort_placed};
 use crate::pieces::{Pieces, Spot};
 use crate::rows::{Row, row_at, row_of};
 use crate::stanza_key::StanzaKey;
@@ -25,7 +26,7 @@ use std::alloc::{AllocError, Global};
 use std::cell::Cell;
 use std::marker::Model;
 
-/// The stanzas of one list, in the order in which they stand, and the serials in the order of names and versions. A
+/// The stanzas of one list, in the order in which they stand, and an entry of each in the order of names and versions. A
 /// contract sees the rows and the room for more.
 #[derive(Drop)]
 pub(crate) struct HeldList {
@@ -34,7 +35,7 @@ pub(crate) struct HeldList {
     class: ListClass,
     next: u64,
     rows: Pieces<Row>,
-    order: Pieces<u64>,
+    order: Pieces<Placed>,
     // Where the edit that was last checked, prepared or made is in the order. A commit follows its prepare, and edits of one
     // stanza follow each other, and one look beside that spot is cheaper than a search. It may be out of date or past the
     // end: nothing rests on it.
@@ -71,12 +72,12 @@ pub(crate) struct NewList {
     pub(crate) room: ListRoom,
 }
 
-/// The room for a new list: for its serials while they are put in order, for its rows, and for the order that stays.
+/// The room for a new list: for its entries of the order while they are sorted, for its rows, and for the order that stays.
 #[derive(Drop)]
 pub(crate) struct ListRoom {
-    serials: Vec<u64>,
+    placed: Vec<Placed>,
     rows: Pieces<Row>,
-    order: Pieces<u64>,
+    order: Pieces<Placed>,
 }
 
 impl Model for ListRoom {
@@ -87,16 +88,16 @@ impl Model for ListRoom {
 
     ghost Value = { ListRoom };
 
-    ghost view = { λ r. record { serials = vec_capacity r.serials; rows = room_at_end r.rows; order = room_at_end r.order } };
+    ghost view = { λ r. record { serials = vec_capacity r.placed; rows = room_at_end r.rows; order = room_at_end r.order } };
 
-    ghost invariant = { λ r. IsBare r.serials r.rows r.order };
+    ghost invariant = { λ r. IsBare r.placed r.rows r.order };
 }
 
 impl ListRoom {
     /// No room. It takes no memory.
     pub(crate) fn new(alloc: Global) -> ListRoom {
         ListRoom {
-            serials: Vec::new(alloc),
+            placed: Vec::new(alloc),
             rows: Pieces::new(alloc),
             order: Pieces::new(alloc),
         }
@@ -107,26 +108,26 @@ impl ListRoom {
         ensures { IfOk result (λ room. Fits stanzas room) }
     {
         Ok(ListRoom {
-            serials: Vec::with_capacity(alloc, stanzas)?,
+            placed: Vec::with_capacity(alloc, stanzas)?,
             rows: Pieces::with_capacity(alloc, stanzas)?,
             order: Pieces::with_capacity(alloc, stanzas)?,
         })
     }
 }
 
-// The stanzas as rows under the serials from 0 on, and these serials, in the room that is there.
-fn fill_rows(rows: &mut Pieces<Row>, serials: &mut Vec<u64>, stanzas: Vec<Box<Stanza>>) -> u64
+// The stanzas as rows under the serials from 0 on, and their entries of the order as they stand, in the room that is there.
+fn fill_rows(rows: &mut Pieces<Row>, placed: &mut Vec<Placed>, stanzas: Vec<Box<Stanza>>) -> u64
     requires none { rows.old.pieces ≡ [] }
     requires room { vec_len stanzas ≤ room_at_end rows.old }
-    requires no_serials { serials.old.items ≡ [] }
-    requires serials_room { vec_len stanzas ≤ vec_capacity serials.old }
+    requires none_placed { placed.old.items ≡ [] }
+    requires placed_room { vec_len stanzas ≤ vec_capacity placed.old }
     ensures rows { joined rows.new.pieces ≡ boxed_rows stanzas.items }
-    ensures serials { serials.new.items ≡ map (λ row. row.0) (boxed_rows stanzas.items) }
+    ensures placed { placed.new.items ≡ map placed_row (boxed_rows stanzas.items) }
     ensures next { result ≡ vec_len stanzas }
 {
     let mut serial = 0;
     for stanza in stanzas {
-        match serials.push(serial) {
+        match placed.push(Placed::new(serial, &stanza)) {
             Ok(()) => {}
             Err(_) => unreachable!(),
         }
@@ -137,7 +138,7 @@ fn fill_rows(rows: &mut Pieces<Row>, serials: &mut Vec<u64>, stanzas: Vec<Box<St
 }
 
 impl HeldList {
-    /// A list of these stanzas, for which there is room. The order comes by one sort: each serial put in its place would
+    /// A list of these stanzas, for which there is room. The order comes by one sort: each entry put in its place would
     /// look for that place.
     pub(crate) fn new(serial: u32, list: NewList) -> HeldList
         requires { Fits (vec_len list.stanzas) list.room }
@@ -154,13 +155,13 @@ impl HeldList {
             room,
         } = list;
         let ListRoom {
-            mut serials,
+            mut placed,
             mut rows,
             mut order,
         } = room;
-        let next = fill_rows(&mut rows, &mut serials, stanzas);
-        sort_serials(rows.as_slice(), &mut serials);
-        order.extend(serials);
+        let next = fill_rows(&mut rows, &mut placed, stanzas);
+        sort_placed(rows.as_slice(), &mut placed);
+        order.extend(placed);
         rows.forget_room();
         order.forget_room();
         HeldList {
@@ -273,7 +274,8 @@ impl HeldList {
         match place {
             Some(spot) => self.rows.replace(spot, stanza),
             None => {
-                self.order.insert(order_spot, self.next);
+                self.order
+                    .insert(order_spot, Placed::new(self.next, &stanza));
                 self.rows.push(Row::new(self.next, stanza));
                 self.next += 1;
             }

@@ -4,12 +4,12 @@ ghost use Rattle.std.specs.Prelude.{◌≡◌, ◌<◌, ◌≤◌, ◌-◌, ℕ,
 ghost use Rattle.std.specs.Bool.{OnTrue};
 ghost use Rattle.std.specs.List.Sorted.{IsSortedBy};
 ghost use Rattle.ctl_store.specs.Step.{place};
-ghost use Rattle.ctl_store.specs.Rows.{IsKept, Rises, id, id_of, id_cmp, sorted_serials, order_at, serial_cmp, version_order, version_id};
+ghost use Rattle.ctl_store.specs.Rows.{IsKept, Rises, id, id_of, id_cmp, order_at, placed_at, placed_cmp, placed_row, serial_cmp, sorted_placed, version_order, version_id};
 ghost use Rattle.ctl_store.specs.Orders.{lower_place, row_place, ComesAfter};
 ghost use Rattle.std.specs.Ordering.{is_lt};
 ghost use Rattle.ctl_store.specs.Inside.HeldPieces.{joined, last_passes, place_of_spot, ArePieces, IsSpot, IsSpotOrEnd};
 
-use crate::fronts::{FRONT_LEN, front_of};
+use crate::fronts::{Placed, front_of};
 use crate::pieces::{Spot, is_spot};
 use crate::rows::{Row, row_of, spot_of};
 use ctl_relation::Version;
@@ -20,7 +20,7 @@ use std::marker::Model;
 /// A name and a version that are looked up, with the front of the name. A contract sees what they are found by.
 #[derive(Drop)]
 struct Sought<'a> {
-    front: [u8; FRONT_LEN],
+    front: u64,
     name: &'a [u8],
     version: Option<&'a Version>,
 }
@@ -49,6 +49,8 @@ impl<'a> Sought<'a> {
     }
 }
 
+// Equal texts are not read.
+#[tactic(auto, using(crate::proofs::OrderLemmas::one_text))]
 fn compare_versions(one: Option<&Version>, other: Option<&Version>) -> Ordering
     ensures { result ≡ version_order (version_id (option_copied one.entry)) (version_id (option_copied other.entry)) }
 {
@@ -56,6 +58,7 @@ fn compare_versions(one: Option<&Version>, other: Option<&Version>) -> Ordering
         (None, None) => Ordering::Equal,
         (None, Some(_)) => Ordering::Less,
         (Some(_), None) => Ordering::Greater,
+        (Some(one), Some(other)) if one.text() == other.text() => Ordering::Equal,
         (Some(one), Some(other)) => one.cmp(other),
     }
 }
@@ -69,17 +72,6 @@ fn compare(stanza: &Stanza, name: &[u8], version: Option<&Version>) -> Ordering
     }
 }
 
-// How a row stands to what is sought. Where the fronts differ they tell it, and nothing is read of the stanza, which stands
-// elsewhere in memory.
-fn compare_found(row: &Row, sought: &Sought<'_>) -> Ordering
-    ensures { result ≡ id_cmp (id_of row.now.1) sought.now }
-{
-    match row.front().cmp(sought.front.as_slice()) {
-        Ordering::Equal => compare(row.stanza(), sought.name, sought.version),
-        unequal => unequal,
-    }
-}
-
 // How the row of a serial stands to what is sought.
 fn compare_row(rows: &[Vec<Row>], serial: u64, sought: &Sought<'_>) -> Ordering
     requires pieces { ArePieces rows.now }
@@ -87,33 +79,33 @@ fn compare_row(rows: &[Vec<Row>], serial: u64, sought: &Sought<'_>) -> Ordering
     ensures { result ≡ order_at (joined rows.now) sought.now serial }
 {
     match row_of(rows, serial) {
-        Some(row) => compare_found(row, sought),
+        Some(row) => compare(row.stanza(), sought.name, sought.version),
         None => Ordering::Less,
     }
 }
 
-// Whether the row of the last of some serials comes before what is sought.
-fn ends_before(rows: &[Vec<Row>], serials: &[u64], sought: &Sought<'_>) -> bool
+// How an entry of the order stands to what is sought. Where the fronts differ they tell it, and nothing is read of the row,
+// which stands elsewhere in memory.
+fn compare_placed(rows: &[Vec<Row>], one: Placed, sought: &Sought<'_>) -> Ordering
     requires pieces { ArePieces rows.now }
     requires rises { (n : ℕ) × (m : ℕ) × Rises n (joined rows.now) m }
-    ensures { result ≡ last_passes (λ serial. is_lt (order_at (joined rows.now) sought.now serial)) serials.now }
+    ensures { result ≡ placed_at (joined rows.now) sought.now one }
 {
-    match serials.last() {
-        Some(serial) => compare_row(rows, *serial, sought).is_lt(),
-        None => false,
+    match one.front.cmp(&sought.front) {
+        Ordering::Equal => compare_row(rows, one.serial, sought),
+        unequal => unequal,
     }
 }
 
-// How two rows stand, by names and versions. Where the fronts differ they tell it here too.
-fn compare_rows(one: &Row, other: &Row) -> Ordering
-    ensures { result ≡ id_cmp (id_of one.now.1) (id_of other.now.1) }
+// Whether the last of some entries comes before what is sought.
+fn ends_before(rows: &[Vec<Row>], placed: &[Placed], sought: &Sought<'_>) -> bool
+    requires pieces { ArePieces rows.now }
+    requires rises { (n : ℕ) × (m : ℕ) × Rises n (joined rows.now) m }
+    ensures { result ≡ last_passes (λ one. is_lt (placed_at (joined rows.now) sought.now one)) placed.now }
 {
-    match one.front().cmp(other.front()) {
-        Ordering::Equal => {
-            let other = other.stanza();
-            compare(one.stanza(), other.package(), other.version())
-        }
-        unequal => unequal,
+    match placed.last() {
+        Some(one) => compare_placed(rows, *one, sought).is_lt(),
+        None => false,
     }
 }
 
@@ -127,35 +119,50 @@ fn compare_serials(rows: &[Vec<Row>], one: u64, other: u64) -> Ordering
         (None, None) => Ordering::Equal,
         (None, Some(_)) => Ordering::Less,
         (Some(_), None) => Ordering::Greater,
-        (Some(row), Some(against)) => compare_rows(row, against),
+        (Some(row), Some(against)) => {
+            let against = against.stanza();
+            compare(row.stanza(), against.package(), against.version())
+        }
     };
     order.then(one.cmp(&other))
 }
 
-// Whether serials stand in the order of names and versions already.
-fn are_in_order(rows: &[Vec<Row>], serials: &[u64]) -> bool
+// How two entries stand, by names and versions and then by the serials. Where the fronts differ they tell it here too.
+fn compare_entries(rows: &[Vec<Row>], one: Placed, other: Placed) -> Ordering
     requires pieces { ArePieces rows.now }
     requires rises { (n : ℕ) × (m : ℕ) × Rises n (joined rows.now) m }
-    ensures { OnTrue result (IsSortedBy (λ one other. is_lt (serial_cmp (joined rows.now) one other)) serials.now) }
+    ensures { result ≡ placed_cmp (joined rows.now) one other }
 {
-    serials.is_sorted_by(|one, other| !compare_serials(rows, *other, *one).is_lt())
+    match one.front.cmp(&other.front) {
+        Ordering::Equal => compare_serials(rows, one.serial, other.serial),
+        unequal => unequal,
+    }
 }
 
-/// Puts the serials of rows, which stand as the rows do, in the order of names and versions.
-pub(crate) fn sort_serials(rows: &[Vec<Row>], serials: &mut Vec<u64>)
+// Whether entries stand in the order of names and versions already.
+fn are_in_order(rows: &[Vec<Row>], placed: &[Placed]) -> bool
     requires pieces { ArePieces rows.now }
     requires rises { (n : ℕ) × (m : ℕ) × Rises n (joined rows.now) m }
-    requires serials { serials.old.items ≡ map (λ row. row.0) (joined rows.now) }
-    ensures { serials.new.items ≡ sorted_serials (joined rows.now) }
+    ensures { OnTrue result (IsSortedBy (λ one other. is_lt (placed_cmp (joined rows.now) one other)) placed.now) }
 {
-    if are_in_order(rows, serials) {
+    placed.is_sorted_by(|one, other| !compare_entries(rows, *other, *one).is_lt())
+}
+
+/// Puts the entries of rows, which stand as the rows do, in the order of names and versions.
+pub(crate) fn sort_placed(rows: &[Vec<Row>], placed: &mut Vec<Placed>)
+    requires pieces { ArePieces rows.now }
+    requires rises { (n : ℕ) × (m : ℕ) × Rises n (joined rows.now) m }
+    requires placed { placed.old.items ≡ map placed_row (joined rows.now) }
+    ensures { placed.new.items ≡ sorted_placed (joined rows.now) }
+{
+    if are_in_order(rows, placed) {
         return;
     }
-    serials.sort_unstable_by(|one, other| compare_serials(rows, *one, *other));
+    placed.sort_unstable_by(|one, other| compare_entries(rows, *one, *other));
 }
 
 // Whether the row before a spot comes before what is sought, or no row is before the spot.
-fn follows_lesser(rows: &[Vec<Row>], order: &[Vec<u64>], spot: Spot, sought: &Sought<'_>) -> bool
+fn follows_lesser(rows: &[Vec<Row>], order: &[Vec<Placed>], spot: Spot, sought: &Sought<'_>) -> bool
     requires rows { ArePieces rows.now }
     requires order { ArePieces order.now }
     requires rises { (n : ℕ) × (m : ℕ) × Rises n (joined rows.now) m }
@@ -163,8 +170,8 @@ fn follows_lesser(rows: &[Vec<Row>], order: &[Vec<u64>], spot: Spot, sought: &So
     ensures { OnTrue result (ComesAfter (joined rows.now) (joined order.now) (place_of_spot order.now spot) sought.now) }
 {
     if spot.at > 0 {
-        let serial = order[spot.piece][spot.at - 1];
-        return compare_row(rows, serial, sought).is_lt();
+        let before = order[spot.piece][spot.at - 1];
+        return compare_placed(rows, before, sought).is_lt();
     }
     if spot.piece == 0 {
         return true;
@@ -174,7 +181,7 @@ fn follows_lesser(rows: &[Vec<Row>], order: &[Vec<u64>], spot: Spot, sought: &So
 
 // Whether what is sought stands, or would, at a spot. The order tells it by two rows: the one there doesn't come before it,
 // and the one before does. The spot need not be in the order.
-fn is_lower(rows: &[Vec<Row>], order: &[Vec<u64>], likely: Spot, sought: &Sought<'_>) -> bool
+fn is_lower(rows: &[Vec<Row>], order: &[Vec<Placed>], likely: Spot, sought: &Sought<'_>) -> bool
     requires rows { ArePieces rows.now }
     requires order { ArePieces order.now }
     requires kept { (next : ℕ) × IsKept (joined rows.now) next (joined order.now) }
@@ -184,15 +191,15 @@ fn is_lower(rows: &[Vec<Row>], order: &[Vec<u64>], likely: Spot, sought: &Sought
     if !is_spot(order, likely) {
         return false;
     }
-    let serial = order[likely.piece][likely.at];
-    if compare_row(rows, serial, sought).is_lt() {
+    let there = order[likely.piece][likely.at];
+    if compare_placed(rows, there, sought).is_lt() {
         return false;
     }
     follows_lesser(rows, order, likely, sought)
 }
 
 // Where what is sought stands, or would, in the order of rows. The likely spot is looked at first.
-fn lower(rows: &[Vec<Row>], order: &[Vec<u64>], likely: Spot, sought: &Sought<'_>) -> Spot
+fn lower(rows: &[Vec<Row>], order: &[Vec<Placed>], likely: Spot, sought: &Sought<'_>) -> Spot
     requires rows { ArePieces rows.now }
     requires order { ArePieces order.now }
     requires kept { (next : ℕ) × IsKept (joined rows.now) next (joined order.now) }
@@ -202,11 +209,11 @@ fn lower(rows: &[Vec<Row>], order: &[Vec<u64>], likely: Spot, sought: &Sought<'_
     if is_lower(rows, order, likely, sought) {
         return likely;
     }
-    let piece = order.partition_point(|serials| ends_before(rows, serials, sought));
+    let piece = order.partition_point(|placed| ends_before(rows, placed, sought));
     match order.get(piece) {
-        Some(serials) => Spot {
+        Some(placed) => Spot {
             piece,
-            at: serials.partition_point(|serial| compare_row(rows, *serial, sought).is_lt()),
+            at: placed.partition_point(|one| compare_placed(rows, *one, sought).is_lt()),
         },
         None => Spot { piece, at: 0 },
     }
@@ -216,7 +223,7 @@ fn lower(rows: &[Vec<Row>], order: &[Vec<u64>], likely: Spot, sought: &Sought<'_
 /// answer is the same whatever the likely spot is. Where they stand at it, there is no search.
 pub(crate) fn look_up(
     rows: &[Vec<Row>],
-    order: &[Vec<u64>],
+    order: &[Vec<Placed>],
     likely: Spot,
     name: &[u8],
     version: Option<&Version>,
@@ -236,9 +243,9 @@ pub(crate) fn look_up(
     if spot.piece >= order.len() {
         return (spot, None);
     }
-    let serial = order[spot.piece][spot.at];
-    if compare_row(rows, serial, &sought).is_eq() {
-        (spot, spot_of(rows, serial))
+    let there = order[spot.piece][spot.at];
+    if compare_placed(rows, there, &sought).is_eq() {
+        (spot, spot_of(rows, there.serial))
     } else {
         (spot, None)
     }

@@ -7,6 +7,7 @@ ghost use Rattle.std.specs.Vec.{vec_capacity};
 ghost use Rattle.ctl_store.specs.Inside.HeldPieces.{most_in_piece, least_room, joined, length_at, room_in, room_at, stands_at, place_of_spot, IsSpot, IsSpotOrEnd, IsReadyPiece, ArePieces, AreNoMore, AreReady, HasRoomForOne, free_at_end, room_of_all, room_of_last, room_at_end, inserted_at};
 ghost use Rattle.ctl_store.specs.Places.{replace_at};
 
+use crate::fronts::Placed;
 use crate::rows::Row;
 use ctl_stanza::Stanza;
 use std::alloc::{AllocError, Global};
@@ -151,9 +152,9 @@ impl<T: Drop> Pieces<T> {
     }
 }
 
-impl Pieces<u64> {
+impl Pieces<Placed> {
     /// Adds an item in the place of that of a spot, which moves up with those after it. There is room for it.
-    pub(crate) fn insert(&mut self, spot: Spot, item: u64)
+    pub(crate) fn insert(&mut self, spot: Spot, item: Placed)
         requires spot { IsSpotOrEnd self.old.pieces spot }
         requires room { HasRoomForOne self.old }
         ensures { joined self.new.pieces ≡ inserted_at self.old.pieces spot item }
@@ -392,7 +393,7 @@ fn shrink_pieces<T: Drop>(pieces: &mut Vec<Vec<T>>, more: usize)
 }
 
 // The items of a piece from a place on.
-fn upper_part(piece: &[u64], half: usize) -> &[u64]
+fn upper_part(piece: &[Placed], half: usize) -> &[Placed]
     requires { half ≤ length piece.now }
     ensures items { result.now ≡ drop half piece.now }
     ensures len { length result.now + half ≡ length piece.now }
@@ -401,7 +402,7 @@ fn upper_part(piece: &[u64], half: usize) -> &[u64]
 }
 
 // Moves the items of a piece from a place on into another, which comes behind it.
-fn split(pieces: &mut Vec<Vec<u64>>, at: usize, half: usize, mut upper: Vec<u64>)
+fn split(pieces: &mut Vec<Vec<Placed>>, at: usize, half: usize, mut upper: Vec<Placed>)
     requires pieces { ArePieces pieces.old.items }
     requires within { at < vec_len pieces.old }
     requires lower { 0 < half }

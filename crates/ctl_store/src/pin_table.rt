@@ -1,11 +1,11 @@
 //! The table in which pin settings are held.
 
-ghost use Rattle.std.specs.Prelude.{◌≡◌, ◌<◌, ◌≤◌, ◌+◌, ◌^◌, [], OnOk, length, option_copied};
+ghost use Rattle.std.specs.Prelude.{◌≡◌, ◌<◌, ◌≤◌, ◌+◌, ◌^◌, [], OnOk, length, nat_eq, option_copied, option_map};
 ghost use Rattle.std.specs.Map.{lookup, remove_entry};
 ghost use Rattle.std.specs.Ordering.{is_lt};
 ghost use Rattle.indexmap.specs.IndexMap.{insert_entry};
 ghost use Rattle.ctl_store.specs.Pins.{selector_eq, general_pin, own_settings, AreDistinct};
-ghost use Rattle.ctl_store.specs.Inside.HeldPins.{own_below, own_order, IsRanked};
+ghost use Rattle.ctl_store.specs.Inside.HeldPins.{own_below, own_one, own_order, IsRanked};
 
 use crate::selector::{GeneralOn, PinSetting, Selector};
 use crate::store::Pins;
@@ -178,6 +178,20 @@ impl PinTable {
     }
 }
 
+// The setting of a serial, where it is one of the package.
+fn own_at<'a>(
+    settings: &'a Ordered<Selector, i16>,
+    serial: u64,
+    name: &[u8],
+) -> Option<(&'a Selector, i16)>
+    ensures { option_map (λ setting. (setting.0.now, setting.1)) result ≡ own_one name.now (lookup (nat_eq serial) settings.now.rows) }
+{
+    match settings.at(serial) {
+        Some((selector, priority)) if selector.is_of(name) => Some((selector, *priority)),
+        _ => None,
+    }
+}
+
 /// The specific pins of a package, by [`Store::pins_of`](crate::Store::pins_of): selectors with priorities, in the order in
 /// which the selectors were first set.
 #[derive(Drop)]
@@ -208,13 +222,11 @@ impl<'a> Iterator for PackagePins<'a> {
 
     type Item = (&'a Selector, i16);
 
+    #[tactic(auto, using(crate::proofs::OwnLemmas::run_next, crate::proofs::OwnLemmas::run_ends))]
     fn next(&mut self) -> Option<(&'a Selector, i16)> {
         let serial = self.order.get(self.at)?;
-        let (selector, priority) = self.settings.at(*serial)?;
-        if !selector.is_of(self.name) {
-            return None;
-        }
+        let setting = own_at(self.settings, *serial, self.name)?;
         self.at += 1;
-        Some((selector, *priority))
+        Some(setting)
     }
 }

@@ -1,13 +1,13 @@
 //! Preferences (apt_preferences(5)).
 
-ghost use Rattle.std.specs.Prelude.{◌≡◌, ◌≢◌, ◌+◌, ◌<◌, ◌^◌, None, Some, Ok, Err, length, option_copied, IfOk, IfErr, OnOk};
+ghost use Rattle.std.specs.Prelude.{◌≡◌, ◌≢◌, ◌+◌, ◌<◌, ◌^◌, [], None, Some, Ok, Err, length, option_copied, IfOk, IfErr, OnOk};
 ghost use Rattle.ctl_stanza.specs.declared.fault.Cause.TheVariants as causes;
 ghost use Rattle.ctl_stanza.specs.Faults.{IsMemoryAtZero, Tells};
 ghost use Rattle.ctl_stanza.specs.Lines.{lines_of};
 ghost use Rattle.ctl_stanza.specs.Records.{parts_of_fields, records_before_fault};
 ghost use Rattle.ctl_store.specs.PrefsFaults.{HasNoPrefsFault, TellsLeastPrefsFault};
 ghost use Rattle.ctl_store.specs.PrefsLaws.{SetsFirst};
-ghost use Rattle.ctl_store.specs.Prefs.{words_of, body_in, is_missing, pin_cause, field_cause};
+ghost use Rattle.ctl_store.specs.Prefs.{words_of, body_in, is_missing, pin_cause, field_cause, first_wrong};
 ghost use Rattle.ctl_store.specs.Prefs.{own_fault, first_own_fault, selector_of, setting_of, settings_of, packages_of};
 ghost use Rattle.ctl_store.specs.Prefs.{record_settings, all_settings, first_settings, read_prefs_text};
 
@@ -157,9 +157,23 @@ fn keep_settings(
     Ok(())
 }
 
+// Ends with the first field of a record that is wrong.
+#[tactic(auto, using(crate::proofs::PrefsLemmas::never_memory))]
+fn check_fields(alloc: Global, general: bool, item: &Record) -> Result<(), TextFault>
+    ensures whole { OnOk result (first_wrong general (parts_of_fields item.now) ≡ None) }
+    ensures fault { IfErr result (Tells (first_wrong general (parts_of_fields item.now))) }
+    ensures memory { IfErr result IsMemoryAtZero }
+{
+    for (name, body, line) in item.fields() {
+        if let Some(cause) = field_cause(alloc, general, name, body)? {
+            return Err(TextFault { line, cause });
+        }
+    }
+    Ok(())
+}
+
 // Adds the settings of a record that has no faulty line, or ends with its fault: what it lacks, or else its first field
 // that is wrong.
-#[tactic(auto, using(crate::proofs::PrefsLemmas::never_memory))]
 fn keep_record(alloc: Global, kept: &mut PinSettings, item: &Record) -> Result<(), TextFault>
     ensures whole { OnOk result (own_fault item.now ≡ None) }
     ensures settings { OnOk result (kept.new.pins ≡ first_settings kept.old.pins (record_settings item.now)) }
@@ -173,12 +187,7 @@ fn keep_record(alloc: Global, kept: &mut PinSettings, item: &Record) -> Result<(
         });
     }
     let packages = body_in(item, b"Package");
-    let general = is_general(packages);
-    for (name, body, line) in item.fields() {
-        if let Some(cause) = field_cause(alloc, general, name, body)? {
-            return Err(TextFault { line, cause });
-        }
-    }
+    check_fields(alloc, is_general(packages), item)?;
     let body = body_in(item, b"Pin");
     let pin = Asked {
         version: asked(body, b"version", b""),
@@ -206,20 +215,25 @@ fn keep_records(alloc: Global, kept: &mut PinSettings, records: &[Record]) -> Re
     Ok(())
 }
 
-// Reads preferences as their definition says.
-fn read_settings(alloc: Global, text: &[u8], first_line: u64) -> Result<PinSettings, TextFault>
+// Reads preferences, as their definition says, into no settings.
+fn read_settings(
+    alloc: Global,
+    kept: &mut PinSettings,
+    text: &[u8],
+    first_line: u64,
+) -> Result<(), TextFault>
+    requires none { kept.old.pins ≡ [] }
     requires lines { first_line + length (lines_of text.now) < 2 ^ 64 }
-    ensures ok { IfOk result (λ settings. read_prefs_text first_line text.now ≡ Ok settings.pins) }
+    ensures ok { OnOk result (read_prefs_text first_line text.now ≡ Ok kept.new.pins) }
     ensures err { IfErr result (λ fault. fault.cause ≢ causes.Memory → read_prefs_text first_line text.now ≡ Err fault) }
     ensures memory { IfErr result IsMemoryAtZero }
 {
     let RecordsBeforeFault { records, fault } = read_records_before_fault(alloc, text, first_line)?;
-    let mut kept = PinSettings::new(alloc);
-    keep_records(alloc, &mut kept, &records)?;
-    if let Some(fault) = fault {
-        return Err(fault);
+    keep_records(alloc, kept, &records)?;
+    match fault {
+        Some(fault) => Err(fault),
+        None => Ok(()),
     }
-    Ok(kept)
 }
 
 /// Reads preferences, whose lines count from `first_line`, to the pin settings that they make. Of two settings of one
@@ -244,5 +258,9 @@ pub fn read_prefs(alloc: Global, text: &[u8], first_line: u64) -> Result<PinSett
 {
     first_setting_counts();
     told_prefs_fault_is_least();
-    read_settings(alloc, text, first_line)
+    let mut kept = PinSettings::new(alloc);
+    match read_settings(alloc, &mut kept, text, first_line) {
+        Ok(()) => Ok(kept),
+        Err(fault) => Err(fault),
+    }
 }

@@ -1,10 +1,15 @@
 -- Short names: how the bytes of a name stand in a value of a fixed size.
-use Rattle.std.specs.Prelude.{◌≡◌, ℕ, ◌+◌, ◌*◌, ◌≤◌, List, [], ◌∷◌, ◌++◌, length, take, drop, slice_index}
-use Rattle.ctl_store.specs.Fronts.{filled}
+use Rattle.std.specs.Prelude.{◌≡◌, ℕ, zero, suc, ◌+◌, ◌*◌, ◌≤◌, List, [], ◌∷◌, ◌++◌, length, take, drop, slice_index}
 
 -- how many bytes a short name has at most
 abbrev pub most_short : ℕ
 most_short = 31
+
+-- the first k bytes of a name, filled up with zeros
+abbrev pub filled : ℕ → List ℕ → List ℕ
+filled zero name = []
+filled (suc k) [] = 0 ∷ filled k []
+filled (suc k) (byte ∷ bytes) = byte ∷ filled k bytes
 
 -- the name in these places, whose last has the number of its bytes
 abbrev pub held_name : List ℕ → List ℕ

@@ -1,5 +1,5 @@
 -- Of the tables alone: what stands under a name, that is its offers, the atoms that name it, and its rows.
-use Rattle.std.specs.Prelude.{◌≡◌, ℕ, List, [], Bool, true, not, ◌&&◌, length, nat_eq, nat_le, Option, None, Some, OnSome, if◌then◌else◌}
+use Rattle.std.specs.Prelude.{◌≡◌, ℕ, List, [], Bool, true, not, ◌&&◌, length, nat_eq, nat_le, Option, None, Some, OnSome, IfSome, if◌then◌else◌}
 use Rattle.std.specs.Borrow.{LendsSo, MutBor, Fml}
 use Rattle.std.specs.BTreeMap.{get}
 use Rattle.std.specs.Cmp.Lexicographic.{slice_cmp}
@@ -7,7 +7,6 @@ use Rattle.std.specs.FinMap as fin
 use Rattle.std.specs.Option.{option_map_or}
 use Rattle.std.specs.Ordering.{nat_cmp}
 use Rattle.std.specs.Str.{bytes_eq}
-use Rattle.ctl_store.specs.declared.stanza_key.StanzaKey.{StanzaKey}
 use Rattle.ctl_policy.specs.Chosen.{at_bytes}
 use Rattle.ctl_policy.specs.Rows.{Rows}
 use Rattle.ctl_index.specs.declared.keys.Namer.{Namer}
@@ -33,6 +32,10 @@ IsSetAt name old new named = (q : List ℕ) → at_name new q ≡ (if bytes_eq n
 -- under each name there is what there was
 abbrev pub HasSameNames : NameMap → NameMap → Type 0
 HasSameNames old new = (q : List ℕ) → at_name new q ≡ at_name old q
+
+-- under each name there is what there was, or nothing
+abbrev pub HasSomeNames : NameMap → NameMap → Type 0
+HasSomeNames old new = (q : List ℕ) → IfSome (at_name new q) (λ named. at_name old q ≡ Some named)
 
 -- A table that lends what stands under a name ends with what is left there, and as it was where nothing is.
 abbrev pub LendsNamed : MutBor NameMap → List ℕ → Option (MutBor Named) → Fml
@@ -60,10 +63,6 @@ namers_under m name = part_under named_namers [] m name
 
 abbrev pub rows_under : NameMap → List ℕ → Rows
 rows_under m name = part_under named_rows fin.empty m name
-
--- the row of a version of a name, if there is one
-abbrev pub row_under : NameMap → List ℕ → List ℕ → Option (List StanzaKey)
-row_under m name version = fin.get (rows_under m name) version
 
 -- whether anything stands under a name
 abbrev pub is_used : Named → Bool

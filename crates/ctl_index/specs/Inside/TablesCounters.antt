@@ -1,9 +1,9 @@
 -- Of the tables alone: counters, and the clauses that stand at 0.
-use Rattle.std.specs.Prelude.{◌≡◌, ℕ, ◌+◌, ◌-◌, ◌^◌, min, max, Bool, false, nat_eq, List, [], ◌∷◌, Option, Some, if◌then◌else◌}
+use Rattle.std.specs.Prelude.{◌≡◌, ℕ, ◌+◌, ◌-◌, ◌^◌, min, max, Bool, true, false, nat_eq, List, [], ◌∷◌, Option, None, Some, if◌then◌else◌}
 use Rattle.std.specs.Option.{option_map, option_map_or}
 use Rattle.std.specs.BTreeMap.{BTreeMap, get}
 use Rattle.std.specs.BTreeSet.{BTreeSet, contains}
-use Rattle.std.specs.Ordering.{is_eq}
+use Rattle.std.specs.Ordering.{is_eq, is_lt}
 use Rattle.ctl_index.specs.declared.keys.ClauseKey.{ClauseKey}
 use Rattle.ctl_index.specs.Clauses.{clause_cmp}
 
@@ -27,9 +27,18 @@ abbrev pub entered : List (ClauseKey × ℕ) → ClauseKey → Option ℕ → Op
 entered [] k old = old
 entered (clause ∷ clauses) k old = entered clauses k (if is_eq (clause_cmp clause.0 k) then Some clause.1 else old)
 
--- the number of a clause, once those are entered that wait
-abbrev pub told : List (ClauseKey × ℕ) → Numbers → ClauseKey → Option ℕ
-told waiting numbers k = entered waiting k (get clause_cmp numbers k)
+-- the same, once those halfway were entered, and then those between
+abbrev pub waited : List (ClauseKey × ℕ) → List (ClauseKey × ℕ) → ClauseKey → Option ℕ → Option ℕ
+waited halfway between k old = entered between k (entered halfway k old)
+
+-- a clause is above the highest that came before, if one came
+abbrev pub IsBehind : Option ClauseKey → ClauseKey → Type 0
+IsBehind None k = Unit {0}
+IsBehind (Some highest) k = is_lt (clause_cmp highest k) ≡ true
+
+-- none of these clauses is above the highest
+abbrev pub AreUpTo : Option ClauseKey → List (ClauseKey × ℕ) → Type 0
+AreUpTo highest clauses = (k : ClauseKey) → IsBehind highest k → (old : Option ℕ) → entered clauses k old ≡ old
 
 -- whether a clause stands at 0, once these clauses came in turn
 abbrev pub marked : List (ClauseKey × ℕ) → ClauseKey → Bool → Bool

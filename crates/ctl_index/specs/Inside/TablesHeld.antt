@@ -8,7 +8,7 @@ use Rattle.ctl_index.specs.declared.keys.OfferKey.{OfferKey}
 use Rattle.ctl_index.specs.declared.tables.Tables.{Tables}
 use Rattle.ctl_index.specs.Clauses.{clause_cmp}
 use Rattle.ctl_index.specs.Inside.TablesByName.{offers_under, namers_under, rows_under}
-use Rattle.ctl_index.specs.Inside.TablesCounters.{told}
+use Rattle.ctl_index.specs.Inside.TablesWaiting.{told}
 use Rattle.ctl_index.specs.Work.{more_by}
 
 -- what stands under a name: its offers, the atoms that name it, its rows
@@ -26,7 +26,7 @@ abbrev pub number_in : Tables → ClauseKey → Option ℕ
 number_in t k = get clause_cmp t.counters.numbers k
 
 abbrev pub number_told : Tables → ClauseKey → Option ℕ
-number_told t k = told t.counters.waiting.items t.counters.numbers k
+number_told t k = told t.counters.waiting t.counters.numbers k
 
 -- so many tests were made, or at most so many
 abbrev pub HasTested : ℕ → Tables → Tables → Type 0

@@ -17,11 +17,11 @@ use Rattle.ctl_index.specs.Clauses.{is_clause_field, clause_of}
 use Rattle.ctl_index.specs.Names.{naming_fields}
 use Rattle.ctl_index.specs.Offers.{is_offered}
 use Rattle.ctl_index.specs.Inside.TablesCounters.{less_by}
-use Rattle.ctl_index.specs.Inside.TablesHeld.{offers_in, namers_in, number_in}
+use Rattle.ctl_index.specs.Inside.TablesHeld.{offers_in, namers_in, rows_in, number_in}
 use Rattle.ctl_index.specs.Inside.TablesLoaded.{all_hits}
 use Rattle.ctl_index.specs.Inside.TablesOrder.{offer_stanza, namer_stanza, without_if, span_of}
 use Rattle.ctl_index.specs.Inside.TablesRows.{AreRowsTaken}
-use Rattle.ctl_index.specs.Inside.TablesSight.{Seen, seen}
+use Rattle.ctl_index.specs.Inside.TablesSight.{Seen, seen, entries_seen}
 use Rattle.ctl_index.specs.Inside.TablesTests.{of_found, offers_tested, atoms_tested}
 
 -- ---- under a name q
@@ -82,7 +82,7 @@ pub record IsTakenOut (s : Seen) (keys : List StanzaKey) (old new : Tables) : Ty
   pub namers : (q : List ℕ) → namers_in new q ≡ namers_taken s keys old q
   pub counters : (k : ClauseKey) → number_in new k
       ≡ less_by (sum_by (hits_at s (namers_taken s keys old) k) keys) (if list_any (is_clause_at s k) keys then None else number_in old k)
-  pub rows : AreRowsTaken s keys old.names.map new.names.map
+  pub rows : AreRowsTaken (entries_seen s keys) (rows_in old) (rows_in new)
 
 -- how many tests are made
 abbrev pub tests_taken_out : Seen → List StanzaKey → Tables → ℕ

@@ -16,7 +16,7 @@ use Rattle.ctl_index.specs.Offers.{contents, offers_among}
 use Rattle.ctl_index.specs.Work.{pairs}
 use Rattle.ctl_index.specs.Inside.TablesCounters.{counted_up}
 use Rattle.ctl_index.specs.Inside.TablesFit.{IsWholeAt}
-use Rattle.ctl_index.specs.Inside.TablesHeld.{offers_in, namers_in, number_in}
+use Rattle.ctl_index.specs.Inside.TablesHeld.{offers_in, namers_in, rows_in, number_in}
 use Rattle.ctl_index.specs.Inside.TablesIndexed.{offers_sum, namers_sum}
 use Rattle.ctl_index.specs.Inside.TablesRows.{AreRowsPut}
 use Rattle.ctl_index.specs.Inside.TablesSight.{Seen, seen, entries_seen}
@@ -48,7 +48,7 @@ pub record IsLoaded (s : Seen) (keys : List StanzaKey) (old new : Tables) : Type
   pub namers : (q : List ℕ) (f : Namer → ℕ)
       → sum_by f (namers_in new q) ≡ sum_by f (namers_in old q) + namers_sum q f (entries_seen s keys)
   pub counters : (k : ClauseKey) → number_in new k ≡ number_loaded s (entries_seen s keys) old new k
-  pub rows : AreRowsPut s keys old.names.map new.names.map
+  pub rows : AreRowsPut (entries_seen s keys) (rows_in old) (rows_in new)
   pub whole : All (IsWholeAt (seen s)) keys
 
 -- the stanzas under these keys stand under keys of their own

@@ -1,9 +1,9 @@
 -- What every store, list and plan keeps. Not for callers.
-use Rattle.std.specs.Prelude.{◌≡◌, ℕ, ◌+◌, ◌^◌, ◌<◌, ◌≤◌, suc, nat_eq, if◌then◌else◌}
-use Rattle.std.specs.Prelude.{List, [], ◌∷◌, length, Option, None, Some, IfSome, Vec}
+use Rattle.std.specs.Prelude.{◌≡◌, ℕ, ◌+◌, ◌^◌, ◌<◌, ◌≤◌, suc, nat_eq, if◌then◌else◌, List, [], ◌∷◌, length, Option, None, Some, IfSome, Vec}
 use Rattle.std.specs.List.{AllByRecursion}
 use Rattle.ctl_ordered.specs.Ordered.{without_serials}
 use Rattle.ctl_stanza.specs.Content.{Content}
+use Rattle.ctl_store.specs.declared.fronts.Placed.{Placed}
 use Rattle.ctl_store.specs.declared.limits.Limits.{Limits}
 use Rattle.ctl_store.specs.declared.stanza_key.StanzaKey.{StanzaKey}
 use Rattle.ctl_store.specs.Limits.{most}
@@ -51,8 +51,8 @@ pub record IsSound (rows : List (ℕ × (List ℕ × HeldList))) (next next_list
   pub edits_bounded : limits.edits ≤ most
 
 -- nothing stands yet in the room for a new list
-pub record IsBare {R A : Type 0} (serials : Vec ℕ A) (rows : InPieces R) (order : InPieces ℕ) : Type 0 where
-  pub no_serials : serials.items ≡ []
+pub record IsBare {R A : Type 0} (placed : Vec Placed A) (rows : InPieces R) (order : InPieces Placed) : Type 0 where
+  pub none_placed : placed.items ≡ []
   pub no_rows : rows.pieces ≡ []
   pub no_order : order.pieces ≡ []
 

@@ -35,7 +35,7 @@ own_order rows wanted serial = order_in own_cmp own_row rows wanted serial
 
 -- The serials rise, and the order has each of them.
 abbrev pub IsRanked : List (ℕ × (Selector × ℤ)) → ℕ → List ℕ → Type 0
-IsRanked rows next order = IsRankedBy own_cmp own_row rows next order
+IsRanked rows next order = IsRankedBy own_cmp own_row (λ (x : ℕ × (Option (List ℕ) × ℕ)). x.0) rows next order
 
 -- as many serials as settings are given, and there is room to give these back
 pub record IsWhole {C : Type 0} (table : PinTable) (room : Vec PinSetting C) : Type 0 where

@@ -28,10 +28,6 @@ module _ {L : Type 0} (R : L → L → Ordering) where
   below_in wanted (x ∷ xs) = if is_lt (R x.1 wanted) then suc (below_in wanted xs) else 0
 
   module _ {T : Type 0} (label : ℕ × T → L) where
-    -- the serials of rows in the order of their labels
-    abbrev pub serials_in : List (ℕ × T) → List ℕ
-    serials_in rows = map (λ (x : ℕ × L). x.0) (sorted_in (labelled label rows))
-
     -- how the row of a serial stands to a label
     abbrev pub order_in : List (ℕ × T) → L → ℕ → Ordering
     order_in rows wanted serial = option_map_or (λ (x : T). R (label (serial, x)) wanted) (lookup (λ k. nat_eq k serial) rows) Less
@@ -40,7 +36,7 @@ module _ {L : Type 0} (R : L → L → Ordering) where
     abbrev pub place_in : L → List (ℕ × T) → Option ℕ
     place_in wanted rows = place (λ (row : ℕ × T). is_eq (R (label row) wanted)) rows
 
-    -- The serials rise, and the order has each of them.
-    pub record IsRankedBy (rows : List (ℕ × T)) (next : ℕ) (order : List ℕ) : Type 0 where
+    -- The serials rise, and the order has an entry of each of them.
+    pub record IsRankedBy {E : Type 0} (entry : ℕ × L → E) (rows : List (ℕ × T)) (next : ℕ) (order : List E) : Type 0 where
       pub rises : Rises 0 rows next
-      pub ordered : order ≡ serials_in rows
+      pub ordered : order ≡ map entry (sorted_in (labelled label rows))

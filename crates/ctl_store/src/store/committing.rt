@@ -26,6 +26,7 @@ use crate::store::Store;
 use crate::store::checking::one_if_status;
 use ctl_relation::{Bytes, Version};
 use ctl_stanza::Stanza;
+use std::mem::replace;
 
 // How many stanzas more a list has once one is put, where so many keys go.
 fn more_if_none_goes(gone: usize) -> u32
@@ -60,18 +61,18 @@ impl Store {
         let Plan {
             edit,
             removed,
-            list_room,
+            mut list_room,
             ..
         } = plan;
         let _limits = self.limits;
-        self.make(edit, removed.len(), list_room);
+        self.make(edit, removed.len(), &mut list_room);
     }
 
-    // Makes an edit by which so many keys go, with the room for a list, if it adds one.
-    fn make(&mut self, edit: Edit, gone: usize, room: ListRoom)
+    // Makes an edit by which so many keys go, with the room for a list, if it adds one. Its parts are let go where they are used.
+    fn make(&mut self, edit: Edit, gone: usize, room: &mut ListRoom)
         requires accepted { refusal_of self.old.limits (state_of self.old) (edit_of edit) ≡ None }
         requires gone { gone ≡ length (removed_of (keyed_of self.old) (edit_of edit)) }
-        requires room { HasRoom self.old room (edit_of edit) }
+        requires room { HasRoom self.old room.old (edit_of edit) }
         ensures { HasMade self.old self.new (edit_of edit) }
     {
         match edit {
@@ -81,6 +82,7 @@ impl Store {
                 stanzas,
             } => {
                 let (kind, stanzas) = stanzas.into_parts();
+                let room = replace(room, ListRoom::new(self.alloc));
                 self.add_list(
                     name,
                     NewList {
@@ -91,17 +93,17 @@ impl Store {
                     },
                 )
             }
-            Edit::DropList { name } => self.drop_list(&name, gone),
-            Edit::Put { list, stanza } => self.put(&list, stanza, gone),
+            Edit::DropList { name } => self.drop_list(name, gone),
+            Edit::Put { list, stanza } => self.put(list, stanza, gone),
             Edit::Remove {
                 list,
                 package,
                 version,
-            } => self.remove(&list, &package, &version),
+            } => self.remove(list, package, version),
             Edit::Mark { package, version } => self.set_mark(package, version),
-            Edit::Unmark { package } => self.unmark(&package),
+            Edit::Unmark { package } => self.unmark(package),
             Edit::Pin { setting } => self.pin(setting),
-            Edit::Unpin { selector } => self.unpin(&selector),
+            Edit::Unpin { selector } => self.unpin(selector),
             Edit::Target { name } => self.set_target(name),
             Edit::Prefs { settings } => self.set_all_pins(settings),
         }
@@ -125,34 +127,34 @@ impl Store {
         self.edits += 1;
     }
 
-    fn drop_list(&mut self, name: &Bytes, gone: usize)
-        requires accepted { refusal_of self.old.limits (state_of self.old) (edits.DropList name.now) ≡ None }
-        requires gone { gone ≡ length (all_in name.now (keyed_of self.old).lists) }
-        ensures { HasMade self.old self.new (edits.DropList name.now) }
+    fn drop_list(&mut self, name: Bytes, gone: usize)
+        requires accepted { refusal_of self.old.limits (state_of self.old) (edits.DropList name) ≡ None }
+        requires gone { gone ≡ length (all_in name (keyed_of self.old).lists) }
+        ensures { HasMade self.old self.new (edits.DropList name) }
     {
-        let statuses = self.count_of_kind(name);
-        self.lists.remove(name);
+        let statuses = self.count_of_kind(&name);
+        self.lists.remove(&name);
         self.stanzas -= gone as u32;
         self.statuses -= statuses;
         self.edits += 1;
     }
 
-    fn put(&mut self, list: &Bytes, stanza: Box<Stanza>, gone: usize)
-        requires accepted { refusal_of self.old.limits (state_of self.old) (edits.Put list.now stanza.value) ≡ None }
-        requires gone { gone ≡ length (found_in list.now (package_of stanza.value) (version_of stanza.value) (keyed_of self.old).lists) }
-        requires room { IfSome (at_name list.now self.old.lists) HasRoomInList }
-        ensures { HasMade self.old self.new (edits.Put list.now stanza.value) }
+    fn put(&mut self, list: Bytes, stanza: Box<Stanza>, gone: usize)
+        requires accepted { refusal_of self.old.limits (state_of self.old) (edits.Put list stanza.value) ≡ None }
+        requires gone { gone ≡ length (found_in list (package_of stanza.value) (version_of stanza.value) (keyed_of self.old).lists) }
+        requires room { IfSome (at_name list self.old.lists) HasRoomInList }
+        ensures { HasMade self.old self.new (edits.Put list stanza.value) }
     {
-        put_in(&mut self.lists, list, stanza);
+        put_in(&mut self.lists, &list, stanza);
         self.stanzas += more_if_none_goes(gone);
         self.edits += 1;
     }
 
-    fn remove(&mut self, list: &Bytes, package: &Bytes, version: &Version)
-        requires accepted { refusal_of self.old.limits (state_of self.old) (edits.Remove list.now «package».now version.now) ≡ None }
-        ensures { HasMade self.old self.new (edits.Remove list.now «package».now version.now) }
+    fn remove(&mut self, list: Bytes, package: Bytes, version: Version)
+        requires accepted { refusal_of self.old.limits (state_of self.old) (edits.Remove list «package» version) ≡ None }
+        ensures { HasMade self.old self.new (edits.Remove list «package» version) }
     {
-        remove_in(&mut self.lists, list, package.as_slice(), version);
+        remove_in(&mut self.lists, &list, package.as_slice(), &version);
         self.stanzas -= 1;
         self.edits += 1;
     }
@@ -166,11 +168,11 @@ impl Store {
         self.edits += 1;
     }
 
-    fn unmark(&mut self, name: &Bytes)
-        requires accepted { refusal_of self.old.limits (state_of self.old) (edits.Unmark name.now) ≡ None }
-        ensures { HasMade self.old self.new (edits.Unmark name.now) }
+    fn unmark(&mut self, name: Bytes)
+        requires accepted { refusal_of self.old.limits (state_of self.old) (edits.Unmark name) ≡ None }
+        ensures { HasMade self.old self.new (edits.Unmark name) }
     {
-        self.marks.remove(name);
+        self.marks.remove(&name);
         self.edits += 1;
     }
 
@@ -183,11 +185,11 @@ impl Store {
         self.edits += 1;
     }
 
-    fn unpin(&mut self, selector: &Selector)
-        requires accepted { refusal_of self.old.limits (state_of self.old) (edits.Unpin selector.now) ≡ None }
-        ensures { HasMade self.old self.new (edits.Unpin selector.now) }
+    fn unpin(&mut self, selector: Selector)
+        requires accepted { refusal_of self.old.limits (state_of self.old) (edits.Unpin selector) ≡ None }
+        ensures { HasMade self.old self.new (edits.Unpin selector) }
     {
-        self.pins.remove(selector);
+        self.pins.remove(&selector);
         self.edits += 1;
     }
 

@@ -171,8 +171,8 @@ impl Store {
         self.check_found(edit, found.is_some())?;
         let removed = self.removed_keys(edit, found)?;
         let added = self.added_keys(edit, found)?;
-        let list_room = make_ready(self.alloc, edit)?;
         self.make_room(edit)?;
+        let list_room = make_ready(self.alloc, edit)?;
         Ok((removed, added, list_room))
     }
 

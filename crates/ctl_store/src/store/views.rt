@@ -203,17 +203,21 @@ impl Store {
         }
     }
 
-    // The name and the kind of the list of a key, which is one of the store. They are those of each key of its list.
-    fn holder(&self, key: StanzaKey) -> (&[u8], ListKind)
+    // The name, the kind and the class of the list of a key, which is one of the store. They are those of each key of its list.
+    fn holder(&self, key: StanzaKey) -> (&[u8], ListKind, ListClass)
         requires { IsSome (stanza_at key (keyed_of self.now).lists) }
         ensures name { Some result.0.now ≡ holder_of key (keyed_of self.now).lists }
         ensures kind { Some result.1 ≡ option_map (λ x. x.kind) (stanza_at key (keyed_of self.now).lists) }
         ensures names { (k : StanzaKey) → k.list ≡ key.list → IsSome (stanza_at k (keyed_of self.now).lists)
             → holder_of k (keyed_of self.now).lists ≡ Some result.0.now }
         ensures kinds { (k : StanzaKey) → k.list ≡ key.list → IfSome (stanza_at k (keyed_of self.now).lists) (λ x. x.kind ≡ result.1) }
+        ensures kind_named { option_map (λ l. l.kind) (at_name result.0.now (state_of self.now).lists) ≡ Some result.1 }
+        ensures class_named { option_map (λ l. l.class) (at_name result.0.now (state_of self.now).lists) ≡ Some result.2 }
     {
+        // That no name stands twice is said here.
+        let _entries = self.lists.iter();
         match entry_of(&self.lists, key.list) {
-            Some((name, listed)) => (name, listed.kind()),
+            Some((name, listed)) => (name, listed.kind(), listed.class()),
             None => unreachable!(),
         }
     }
@@ -227,6 +231,19 @@ impl Store {
             → holder_of k (keyed_of self.now).lists ≡ Some result.now }
     {
         self.holder(key).0
+    }
+
+    /// The name, the kind and the class of the list of a key, which is one of the store. No name is looked for.
+    pub fn list_with(&self, key: StanzaKey) -> (&[u8], ListKind, ListClass)
+        requires { IsSome (stanza_at key (keyed_of self.now).lists) }
+        ensures name { Some result.0.now ≡ holder_of key (keyed_of self.now).lists }
+        ensures kind { option_map (λ l. l.kind) (at_name result.0.now (state_of self.now).lists) ≡ Some result.1 }
+        ensures class { option_map (λ l. l.class) (at_name result.0.now (state_of self.now).lists) ≡ Some result.2 }
+        // the name is that of each key of the list
+        ensures each { (k : StanzaKey) → k.list ≡ key.list → IsSome (stanza_at k (keyed_of self.now).lists)
+            → holder_of k (keyed_of self.now).lists ≡ Some result.0.now }
+    {
+        self.holder(key)
     }
 
     /// The kind of the list of a key, which is one of the store. It is that of its stanza, which isn't looked at.

@@ -15,7 +15,7 @@ returns-clause-tables c =
     let h = c.args.store.now in
     let keys = c.args.keys.now in
     load_law (in_store h) keys (standing h) [] c.args.tables.now c.put_list.new.tables (joined_all h keys c.requires.keys c.requires.found) c.requires.empty tt (come_apart h keys c.requires.keys c.requires.found c.requires.rising) tt
-    (store_seen h (rising_apart (keyed_of h).lists c.requires.rising)) c.rows_follow_keys.ensures.come c.numbers_fit.ensures (rising_apart (keyed_of h).lists c.requires.rising) c.requires.few
+    (store_seen h (rising_apart (keyed_of h).lists c.requires.rising)) c.numbers_fit.ensures (rising_apart (keyed_of h).lists c.requires.rising) c.requires.few
     (c.in_ok-put_list.ensures.tables (come_apart h keys c.requires.keys c.requires.found c.requires.rising))
 
 pub returns-clause-steps : goal.returns-clause-steps

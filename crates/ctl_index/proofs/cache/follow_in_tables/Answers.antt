@@ -18,10 +18,10 @@ returns-clause-tables c = λ law was.
     let old = c.args.tables.now in
     let mid = c.take_all.new.tables in
     let took : IsTakenOut (in_store h) plan.removed old mid = subst (λ (ks : List StanzaKey). IsTakenOut (in_store h) ks old mid) c.removed.ensures c.in_ok-take_all.ensures.tables in
-    let left : IsIndexed (staying h plan) mid = take_law (in_store h) plan.removed (standing h) (staying h plan) old mid law.taken was law.outside law.inside law.apart law.apart_going law.seen_staying law.seen_standing c.rows_follow_keys.ensures.go took in
+    let left : IsIndexed (staying h plan) mid = take_law (in_store h) plan.removed (standing h) (staying h plan) old mid law.taken was law.outside law.inside law.apart law.apart_going law.seen_staying law.seen_standing took in
     let put : ComeApart (with_plan h plan) plan.added → IsLoaded (with_plan h plan) plan.added mid c.put_list.new.tables =
     subst (λ (ks : List StanzaKey). ComeApart (with_plan h plan) ks → IsLoaded (with_plan h plan) ks mid c.put_list.new.tables) c.added.ensures.keys c.in_ok-put_list.ensures.tables in
-    load_law (with_plan h plan) plan.added (standing_after h plan) (staying h plan) mid c.put_list.new.tables law.put left law.apart law.apart_coming law.seen_still law.seen_after c.rows_follow_keys.ensures.come c.numbers_fit.ensures law.apart_after law.few (put law.apart_coming)
+    load_law (with_plan h plan) plan.added (standing_after h plan) (staying h plan) mid c.put_list.new.tables law.put left law.apart law.apart_coming law.seen_still law.seen_after c.numbers_fit.ensures law.apart_after law.few (put law.apart_coming)
 
 pub returns-clause-steps : goal.returns-clause-steps
 returns-clause-steps c = λ law was.
@@ -31,7 +31,7 @@ returns-clause-steps c = λ law was.
     let mid = c.take_all.new.tables in
     let s0 = c.args.tables.now.steps in
     let took : IsTakenOut (in_store h) plan.removed old mid = subst (λ (ks : List StanzaKey). IsTakenOut (in_store h) ks old mid) c.removed.ensures c.in_ok-take_all.ensures.tables in
-    let left : IsIndexed (staying h plan) mid = take_law (in_store h) plan.removed (standing h) (staying h plan) old mid law.taken was law.outside law.inside law.apart law.apart_going law.seen_staying law.seen_standing c.rows_follow_keys.ensures.go took in
+    let left : IsIndexed (staying h plan) mid = take_law (in_store h) plan.removed (standing h) (staying h plan) old mid law.taken was law.outside law.inside law.apart law.apart_going law.seen_staying law.seen_standing took in
     let out : c.take_all.new.tables.steps ≡ more_by (pairs_gone h plan) s0 =
     subst (λ (ks : List StanzaKey). c.take_all.new.tables.steps ≡ more_by (tests_taken_out (in_store h) ks old) s0) c.removed.ensures c.in_ok-take_all.ensures.steps
     ∙ ap (λ n. more_by n s0) (take_tests (in_store h) plan.removed (standing h) (staying h plan) old mid law.taken was law.outside law.inside law.apart law.apart_going law.seen_staying law.seen_standing) in
@@ -57,7 +57,7 @@ returns-in_err-put_list-clause-most c = λ law was.
     let mid = c.take_all.new.tables in
     let s0 = c.args.tables.now.steps in
     let took : IsTakenOut (in_store h) plan.removed old mid = subst (λ (ks : List StanzaKey). IsTakenOut (in_store h) ks old mid) c.removed.ensures c.in_ok-take_all.ensures.tables in
-    let left : IsIndexed (staying h plan) mid = take_law (in_store h) plan.removed (standing h) (staying h plan) old mid law.taken was law.outside law.inside law.apart law.apart_going law.seen_staying law.seen_standing c.rows_follow_keys.ensures.go took in
+    let left : IsIndexed (staying h plan) mid = take_law (in_store h) plan.removed (standing h) (staying h plan) old mid law.taken was law.outside law.inside law.apart law.apart_going law.seen_staying law.seen_standing took in
     let out : c.take_all.new.tables.steps ≤ more_by (tests_taken_out (in_store h) plan.removed old) s0 =
     subst (λ (ks : List StanzaKey). c.take_all.new.tables.steps ≤ more_by (tests_taken_out (in_store h) ks old) s0) c.removed.ensures c.take_all.ensures.most in
     let in_too : c.put_list.new.tables.steps ≤ more_by (tests_put_in (with_plan h plan) plan.added mid) c.take_all.new.tables.steps =

@@ -1,13 +1,13 @@
-use Rattle.std.proofs.Common.{◌≡◌, ℕ, List, ap, ◌∙◌, arith}
-use Rattle.std.specs.FinMap as fin
+use Rattle.std.proofs.Common.{◌≡◌, ℕ, List, ap, subst, ◌∙◌, arith}
 use Rattle.std.specs.List.{list_any, sum_by}
 use Rattle.ctl_index.specs.declared.keys.Namer.{Namer}
+use Rattle.ctl_index.specs.Inside.TablesByName.{rows_under}
 use Rattle.ctl_index.specs.Inside.TablesCounters.{less_by}
 use Rattle.ctl_index.specs.Inside.TablesHeld.{offers_in, namers_in}
 use Rattle.ctl_index.specs.Inside.TablesLeft.{has_namer_at, has_offer_at, hits_at, namers_taken, tests_taken_out}
 use Rattle.ctl_index.specs.Inside.TablesOrder.{namer_stanza, offer_stanza, without_if, span_of}
-use Rattle.ctl_index.specs.Inside.TablesSight.{seen}
-use Rattle.ctl_index.specs.Inside.TablesRows.{with_each, take_rows_step}
+use Rattle.ctl_index.specs.Inside.TablesSight.{entries_seen}
+use Rattle.ctl_index.specs.Inside.TablesRows.{AreRowsTaken}
 use Rattle.ctl_index.specs.Inside.TablesTests.{offers_tested, atoms_tested}
 use Rattle.ctl_index.specs.Work.{more_by}
 use Rattle.ctl_index.proofs.CounterLemmas.{more_by_twice}
@@ -26,9 +26,7 @@ returns-clause-tables c =
       offers = λ q. (λ i. c.take_rows.ensures.offers i q) ∙ c.in_ok-take_offers.ensures.offers q ∙ (λ i. without_if offer_stanza (span i) (list_any (has_offer_at s q) keys) (c.take_atoms.ensures.offers i q));
       namers = λ q. (λ i. c.take_rows.ensures.namers i q) ∙ (λ i. c.in_ok-take_offers.ensures.namers i q) ∙ left q;
       counters = λ k. c.in_ok-take_offers.ensures.counts k ∙ (λ i. less_by (sum_by (hits_at s (λ q. left q i) k) keys) (c.take_atoms.ensures.counts k i));
-      rows = λ q version.
-          c.take_rows.ensures.rows q version
-          ∙ (λ i. with_each (seen s) (take_rows_step q version) keys (fin.get ((c.in_ok-take_offers.ensures.rows ∙ c.take_atoms.ensures.rows) i q) version));
+      rows = subst (λ rows. AreRowsTaken (entries_seen s keys) rows (rows_under c.take_rows.new.names.map)) (c.in_ok-take_offers.ensures.rows ∙ c.take_atoms.ensures.rows) c.take_rows.ensures.rows;
     }
 
 pub returns-clause-steps : goal.returns-clause-steps

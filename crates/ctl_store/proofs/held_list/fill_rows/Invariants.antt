@@ -1,6 +1,6 @@
 use Rattle.std.proofs.Common.{◌≡◌, ◌≤◌, ◌+◌, ◌++◌, map, length, vec_len}
 use Rattle.std.specs.Vec.{vec_capacity}
-use Rattle.ctl_store.specs.Rows.{rows_from}
+use Rattle.ctl_store.specs.Rows.{placed_row, rows_from}
 use Rattle.ctl_store.specs.Inside.HeldPieces.{joined, room_at_end}
 use Rattle.ctl_store.proofs.held_list.fill_rows.Given as goal
 
@@ -8,7 +8,7 @@ abbrev pub invariant-loop-stanza : goal.invariant-loop-stanza
 invariant-loop-stanza l = record {
   rows : joined l.rows.pieces ++ rows_from l.serial (map (λ stanza. stanza.value) l.stanza-iterator.rest.items) ≡ rows_from 0 (map (λ stanza. stanza.value) l.fn.stanzas.items);
   room : length l.stanza-iterator.rest.items ≤ room_at_end l.rows;
-  serials : l.serials.items ++ map (λ row. row.0) (rows_from l.serial (map (λ stanza. stanza.value) l.stanza-iterator.rest.items)) ≡ map (λ row. row.0) (rows_from 0 (map (λ stanza. stanza.value) l.fn.stanzas.items));
-  serials_room : vec_len l.serials + length l.stanza-iterator.rest.items ≤ vec_capacity l.serials;
+  placed : l.placed.items ++ map placed_row (rows_from l.serial (map (λ stanza. stanza.value) l.stanza-iterator.rest.items)) ≡ map placed_row (rows_from 0 (map (λ stanza. stanza.value) l.fn.stanzas.items));
+  placed_room : vec_len l.placed + length l.stanza-iterator.rest.items ≤ vec_capacity l.placed;
   whole : l.serial + length l.stanza-iterator.rest.items ≡ vec_len l.fn.stanzas;
 }

@@ -13,8 +13,8 @@ offset_bounds-order-likely c =
 pub bounds-order-likely : goal.bounds-order-likely
 bounds-order-likely c = spot_within c.args.order.now c.args.likely.piece c.args.likely.at c.if-not-is_spot.ensures
 
-pub index-serial-requires : goal.index-serial-requires
-index-serial-requires c =
+pub index-there-requires : goal.index-there-requires
+index-there-requires c =
     let spot = c.args.likely in
     let ps = c.args.order.now in
     let there : IsSpot ps spot = c.if-not-is_spot.ensures in
@@ -25,11 +25,11 @@ returns-clause-place c =
     let spot = c.args.likely in
     let ps = c.args.order.now in
     let there : IsSpot ps spot = c.if-not-is_spot.ensures in
-    let serial = c.index-serial.result.now in
+    let one = c.index-there.result.now in
     on_true_map c.follows_lesser.result
-    (lower_between (joined c.args.rows.now) c.requires.kept.0 ps c.requires.kept.1 c.args.sought.now spot there serial
-    (get_joined ps spot.piece spot.at c.index-order-likely.result serial 0 there c.index-order-likely.is c.index-serial.ensures)
-    (ap is_lt (sym c.compare_row.ensures) ∙ sym c.is_lt.ensures ∙ c.if-is_lt.false))
+    (lower_between (joined c.args.rows.now) c.requires.kept.0 ps c.requires.kept.1 c.args.sought.now spot there one
+    (λ d. get_joined ps spot.piece spot.at c.index-order-likely.result one d there c.index-order-likely.is c.index-there.ensures)
+    (ap is_lt (sym c.compare_placed.ensures) ∙ sym c.is_lt.ensures ∙ c.if-is_lt.false))
     c.follows_lesser.ensures
 
 pub returns-clause-within : goal.returns-clause-within

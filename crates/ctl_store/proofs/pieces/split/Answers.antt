@@ -1,5 +1,6 @@
 use Rattle.std.proofs.Common.{◌≡◌, ◌∙◌, ◌+◌, ◌<◌, ◌++◌, ℕ, List, suc, length, drop, set, Vec, ap, sym, subst, arith}
 use Rattle.std.specs.List.{insert}
+use Rattle.ctl_store.specs.declared.fronts.Placed.{Placed}
 use Rattle.ctl_store.specs.Inside.HeldPieces.{ArePieces, IsPiece, joined, length_at, room_at}
 use Rattle.ctl_store.proofs.PiecesLemmas.{plus_one, read_same, length_read, room_read, piece_read, pieces_set, pieces_insert, halves, joined_split, length_lower, length_upper, room_lower, room_upper}
 use Rattle.ctl_store.proofs.pieces.split.Goals as goal
@@ -43,7 +44,7 @@ returns-clause-items c =
     let up = c.extend_from_slice.new.self in
     let half = c.args.half in
     let same : c.index.result.now ≡ p = read_same ps c.args.at c.index.result.now p within c.index.ensures c.index_mut.ensures.value in
-    let rest : up.items ≡ drop half p.items = c.in-Ok.ensures.items ∙ ap (λ l. l ++ c.upper_part.result.now) c.requires.upper.none ∙ c.upper_part.ensures.items ∙ ap (drop half) (c.deref.ensures.value ∙ ap (λ (v : Vec ℕ _). v.items) same) in
+    let rest : up.items ≡ drop half p.items = c.in-Ok.ensures.items ∙ ap (λ l. l ++ c.upper_part.result.now) c.requires.upper.none ∙ c.upper_part.ensures.items ∙ ap (drop half) (c.deref.ensures.value ∙ ap (λ (v : Vec Placed _). v.items) same) in
     ap joined (next (set ps c.args.at low) c.insert_piece.new.pieces.items c.args.at up c.insert_piece.ensures.items)
     ∙ joined_split ps c.args.at p low up within c.index_mut.ensures.value (halves half p.items low.items up.items c.truncate.ensures.items rest)
 

@@ -1,9 +1,8 @@
 use Rattle.std.proofs.Common.{rules, of_calls, arith, ℕ, Option, List, ◌≤◌, length, option_copied}
 use Rattle.std.proofs.lemmas.Fn.{always_returns_same}
 use Rattle.std.specs.Ordering.{is_lt}
-use Rattle.ctl_store.specs.Inside.HeldPins.{own_cmp, own_row, own_order}
-use Rattle.ctl_store.proofs.OwnLemmas.{own_total}
-use Rattle.ctl_store.proofs.RankedLemmas.{parted, below_is}
+use Rattle.ctl_store.specs.Inside.HeldPins.{own_order}
+use Rattle.ctl_store.proofs.OwnLemmas.{own_lower}
 use Rattle.ctl_store.proofs.pin_table.place_of.Goals as goal
 
 pub returns-clause-place : goal.returns-clause-place
@@ -13,5 +12,5 @@ returns-clause-place c =
     let order = c.args.order.now.items in
     let q : Option (List ℕ) × ℕ = (option_copied c.args.wanted.0, c.args.wanted.1) in
     let bound : c.partition_point.result ≤ length order = let ok = c.args.order.now.ok in omega (arith, c.partition_point.ensures.bound) in
-    below_is own_cmp own_total own_row rows next order c.requires q c.partition_point.result bound
-    (c.partition_point.ensures.partitioned (λ s. is_lt (own_order rows q s)) (always_returns_same _ _ _ (λ a r f k. search (rules, of_calls))) (parted own_cmp own_total own_row rows next order c.requires q))
+    own_lower rows next order c.requires q c.partition_point.result bound
+    (c.partition_point.ensures.partitioned (λ s. is_lt (own_order rows q s)) (always_returns_same _ _ _ (λ a r f k. search (rules, of_calls))))

@@ -16,7 +16,7 @@ returns-clause-point c =
 pub returns-then-ends_before-clause-point : goal.returns-then-ends_before-clause-point
 returns-then-ends_before-clause-point c =
     let ps = c.args.rows.now in
-    let k = c.likely_piece-likely.result in
+    let k = c.first_spot-likely.result.piece in
     let p : Vec Row Global → Bool = λ v. last_passes (is_below c.args.serial) v.items in
     let parted = parted_last (is_below c.args.serial) ps c.requires.pieces (parted_serials c.args.serial c.requires.rises.0 (joined ps) c.requires.rises.1 c.requires.rises.2) in
     let within : k < length ps = search rules in

@@ -1,14 +1,14 @@
 use Rattle.std.proofs.Common.{◌∙◌, ◌++◌, ◌+◌, map, length, ap, sym, subst, arith}
-use Rattle.ctl_store.specs.Rows.{Rises, sorted_serials}
+use Rattle.ctl_store.specs.Rows.{Rises, sorted_placed}
 use Rattle.ctl_store.specs.Inside.HeldPieces.{joined}
 use Rattle.ctl_store.specs.Plans.{ListRoom}
 use Rattle.ctl_store.proofs.PlaceLemmas.{Rises-rows_from}
-use Rattle.ctl_store.proofs.OrderLemmas.{length-serials, kept_sorted}
+use Rattle.ctl_store.proofs.OrderLemmas.{length-placed, kept_sorted}
 use Rattle.ctl_store.proofs.held_list.HeldList.new.Goals as goal
 use Rattle.std.proofs.lemmas.List.{length-map}
 
-pub sort_serials-requires-clause-rises : goal.sort_serials-requires-clause-rises
-sort_serials-requires-clause-rises c =
+pub sort_placed-requires-clause-rises : goal.sort_placed-requires-clause-rises
+sort_placed-requires-clause-rises c =
     let xs = map (λ stanza. stanza.value) c.args.list.stanzas.items in
     (0, 0 + length xs, subst (λ l. Rises 0 l (0 + length xs)) (sym (ap joined c.as_slice.ensures.same ∙ c.fill_rows-next.ensures.rows)) (Rises-rows_from 0 xs))
 
@@ -20,9 +20,9 @@ extend-requires c =
       arith,
       c.requires.order,
       ap (λ (room : ListRoom). room.order) c.room.view_is,
-      ap length c.sort_serials.ensures,
-      ap (λ l. length (sorted_serials l)) (ap joined c.as_slice.ensures.same ∙ c.fill_rows-next.ensures.rows),
-      length-serials xs,
+      ap length c.sort_placed.ensures,
+      ap (λ l. length (sorted_placed l)) (ap joined c.as_slice.ensures.same ∙ c.fill_rows-next.ensures.rows),
+      length-placed xs,
       length-map stanzas (λ stanza. stanza.value),
     )
 
@@ -33,5 +33,5 @@ invariant_of-result c =
     kept_sorted (joined rows.pieces) c.fill_rows-next.result (joined c.forget_room-2.new.self.pieces) xs
     (ap joined c.forget_room.ensures ∙ c.fill_rows-next.ensures.rows)
     (omega (arith, c.fill_rows-next.ensures.next, length-map c.args.list.stanzas.items (λ stanza. stanza.value)))
-    (ap joined c.forget_room-2.ensures ∙ c.extend.ensures ∙ ap (λ l. joined l ++ c.sort_serials.new.serials.items) c.room.invariant.no_order ∙ c.sort_serials.ensures
-    ∙ ap (λ l. sorted_serials (joined l)) (c.as_slice.ensures.same ∙ sym c.forget_room.ensures))
+    (ap joined c.forget_room-2.ensures ∙ c.extend.ensures ∙ ap (λ l. joined l ++ c.sort_placed.new.placed.items) c.room.invariant.no_order ∙ c.sort_placed.ensures
+    ∙ ap (λ l. sorted_placed (joined l)) (c.as_slice.ensures.same ∙ sym c.forget_room.ensures))

@@ -1,8 +1,9 @@
 use Rattle.std.proofs.Common.{◌≡◌, ◌∙◌, ◌+◌, sym, ap, subst, arith, ◌++◌, ◌∷◌, [], List, ℕ, None, Some, option_copied, option_map}
 use Rattle.std.specs.List.{insert}
 use Rattle.ctl_stanza.specs.Content.{Content, package_of, version_of}
+use Rattle.ctl_store.specs.declared.fronts.Placed.{Placed}
 use Rattle.ctl_store.specs.Step.{place}
-use Rattle.ctl_store.specs.Rows.{IsKept, id, id_of, ids_of, sorted_ids, lower, by_name_and_version}
+use Rattle.ctl_store.specs.Rows.{IsKept, id, id_of, ids_of, sorted_ids, lower, placed_row, by_name_and_version}
 use Rattle.ctl_store.specs.Plans.{HasRoomInList}
 use Rattle.ctl_store.specs.Inside.HeldPieces.{joined, place_of_spot}
 use Rattle.ctl_store.proofs.PiecesLemmas.{last_of_all}
@@ -45,10 +46,10 @@ invariant_of-self c =
       | in-None w ↦
           let none : place (by_name_and_version (package_of x) (version_of x)) rows ≡ None =
           sym moved ∙ sym c.look_up-place.ensures.place ∙ ap (option_map (λ t. place_of_spot c.as_slice-rows.result.now t)) w.in-None.is in
-          let items : joined w.push.new.self.pieces ≡ rows ++ (s.next, x) ∷ [] = w.push.ensures.items ∙ ap (λ r. rows ++ r ∷ []) w.new.ensures in
+          let items : joined w.push.new.self.pieces ≡ rows ++ (s.next, x) ∷ [] = w.push.ensures.items ∙ ap (λ r. rows ++ r ∷ []) w.new-in-None.ensures in
           subst (λ i. IsKept (joined i.rows.pieces) i.next (joined i.order.pieces)) (sym w.self-inside-is)
           (subst (λ (l : List (ℕ × Content)). IsKept l (s.next + 1) (joined w.insert.new.self.pieces)) (sym items)
-          (subst (λ (l : List ℕ). IsKept (rows ++ (s.next, x) ∷ []) (s.next + 1) l) (sym (w.insert.ensures ∙ ap (λ k. insert order k s.next) at)) (kept_push rows s.next order c.self.invariant x none)))
+          (subst (λ (l : List Placed). IsKept (rows ++ (s.next, x) ∷ []) (s.next + 1) l) (sym (w.insert.ensures ∙ ap (λ k. insert order k w.new.result) at ∙ ap (insert order (lower (id_of x) (sorted_ids (ids_of rows)))) (w.new.ensures ∙ ap (λ y. placed_row (s.next, y)) w.deref-in-None.ensures))) (kept_push rows s.next order c.self.invariant x none)))
     ] in
     subst (λ qs. IsKept (joined qs) m.next (joined c.forget_room-2.new.self.pieces)) (sym c.forget_room.ensures)
     (subst (λ qs. IsKept (joined m.rows.pieces) m.next (joined qs)) (sym c.forget_room-2.ensures) kept)

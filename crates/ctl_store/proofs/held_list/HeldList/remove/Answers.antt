@@ -1,6 +1,7 @@
 use Rattle.std.proofs.Common.{◌≡◌, ◌∙◌, sym, ap, subst, List, ℕ, Some, option_copied, option_map}
 use Rattle.std.specs.List.{remove}
 use Rattle.ctl_stanza.specs.Content.{Content}
+use Rattle.ctl_store.specs.declared.fronts.Placed.{Placed}
 use Rattle.ctl_store.specs.Step.{place}
 use Rattle.ctl_store.specs.Rows.{IsKept, id, ids_of, sorted_ids, lower, by_name_and_version}
 use Rattle.ctl_store.specs.Inside.HeldPieces.{joined, place_of_spot}
@@ -23,4 +24,4 @@ invariant_of-self c =
     let at : place_of_spot s.order.pieces order_spot ≡ lower (id name version) (sorted_ids (ids_of rows)) =
     (λ j. place_of_spot (sym c.as_slice-order.ensures.same j) order_spot) ∙ c.look_up-place.ensures.order ∙ (λ j. lower (id name version) (sorted_ids (ids_of (joined (c.as_slice-rows.ensures.same j))))) in
     subst (λ (l : List (ℕ × Content)). IsKept l s.next (joined c.remove.new.self.pieces)) (sym c.remove-in-Some.ensures)
-    (subst (λ (l : List ℕ). IsKept (remove rows (place_of_spot ps spot)) s.next l) (sym (c.remove.ensures ∙ ap (remove order) at)) (kept_remove rows s.next order c.self.invariant name version (place_of_spot ps spot) found))
+    (subst (λ (l : List Placed). IsKept (remove rows (place_of_spot ps spot)) s.next l) (sym (c.remove.ensures ∙ ap (remove order) at)) (kept_remove rows s.next order c.self.invariant name version (place_of_spot ps spot) found))

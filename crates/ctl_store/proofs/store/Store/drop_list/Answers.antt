@@ -21,7 +21,7 @@ kind_is s name l count e at = e ∙ ap (λ o. option_map_or (λ (l : StanzaList)
 pub overflow_sub-self-2 : goal.overflow_sub-self-2
 overflow_sub-self-2 c =
     let h = c.args.self.now in
-    let name = c.args.name.now in
+    let name = c.args.name in
     let f = drop_found h.limits (state_of h) name c.requires.accepted in
     let kind = kind_is (state_of h) name f.0 c.count_of_kind-statuses.result c.count_of_kind-statuses.ensures f.1 in
     omega (arith, kind, kind_below name (state_of h).lists f.0 f.1, c.self.invariant.statuses_counted, ap (λ h. status_count (state_of h).lists) c.self.view_is)
@@ -29,9 +29,9 @@ overflow_sub-self-2 c =
 pub overflow_sub-self : goal.overflow_sub-self
 overflow_sub-self c =
     let h = c.args.self.now in
-    let f = drop_found h.limits (state_of h) c.args.name.now c.requires.accepted in
+    let f = drop_found h.limits (state_of h) c.args.name c.requires.accepted in
     let held = ap (λ h. stanza_count (state_of h).lists) c.self.view_is in
-    omega (arith, c.requires.gone, keys_count c.args.name.now (keyed_of h).lists f.0 f.1, count_below (state_of h) c.args.name.now f.0 f.1, c.self.invariant.counted, held)
+    omega (arith, c.requires.gone, keys_count c.args.name (keyed_of h).lists f.0 f.1, count_below (state_of h) c.args.name f.0 f.1, c.self.invariant.counted, held)
 
 pub overflow_cast-self : goal.overflow_cast-self
 overflow_cast-self c = omega (arith, overflow_sub-self c, c.self.invariant.within, c.self.invariant.stanzas_bounded)
@@ -40,7 +40,7 @@ pub invariant_of-self : goal.invariant_of-self
 invariant_of-self c =
     let s = c.self.inside in
     let h = c.args.self.now in
-    let name = c.args.name.now in
+    let name = c.args.name in
     let f = drop_found h.limits (state_of h) name c.requires.accepted in
     let count = c.requires.gone ∙ keys_count name (keyed_of h).lists f.0 f.1 in
     let lists = ap lists_of c.remove.ensures.entries ∙ lists_without name (ordered.entries s.lists) in
@@ -54,7 +54,7 @@ invariant_of-self c =
 pub returns : goal.returns
 returns c =
     let s = c.self.inside in
-    let name = c.args.name.now in
+    let name = c.args.name in
     let lists = ap lists_of c.remove.ensures.entries ∙ lists_without name (ordered.entries s.lists) in
     record {
       state =

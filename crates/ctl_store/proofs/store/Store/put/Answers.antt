@@ -18,15 +18,15 @@ pub put_in-requires-clause-below : goal.put_in-requires-clause-below
 put_in-requires-clause-below c =
     let s = c.self.inside in
     let h = c.args.self.now in
-    let more = accepted_edits h.limits (state_of h) (Put c.args.list.now c.args.stanza.value) c.requires.accepted in
-    if_some_map (at_name c.args.list.now (ordered.entries s.lists)) (λ (x : HeldList) (k : x.next ≤ s.limits.stanzas + s.edits). omega (arith, k, more, c.self.invariant.stanzas_bounded, c.self.invariant.edits_bounded, ap (λ h. h.edits) c.self.view_is, ap (λ h. h.limits.edits) c.self.view_is))
-    (in_order_next 0 (ordered.entries s.lists) s.next_list (s.limits.stanzas + s.edits) c.args.list.now c.self.invariant.order)
+    let more = accepted_edits h.limits (state_of h) (Put c.args.list c.args.stanza.value) c.requires.accepted in
+    if_some_map (at_name c.args.list (ordered.entries s.lists)) (λ (x : HeldList) (k : x.next ≤ s.limits.stanzas + s.edits). omega (arith, k, more, c.self.invariant.stanzas_bounded, c.self.invariant.edits_bounded, ap (λ h. h.edits) c.self.view_is, ap (λ h. h.limits.edits) c.self.view_is))
+    (in_order_next 0 (ordered.entries s.lists) s.next_list (s.limits.stanzas + s.edits) c.args.list c.self.invariant.order)
 
 pub overflow_add-self : goal.overflow_add-self
 overflow_add-self c =
     let s = c.self.inside in
     let h = c.args.self.now in
-    let list = c.args.list.now in
+    let list = c.args.list in
     let x = c.args.stanza.value in
     let f = put_found h.limits (state_of h) list x c.requires.accepted in
     let held = ap (λ h. stanza_count (state_of h).lists) c.self.view_is in
@@ -38,7 +38,7 @@ pub invariant_of-self : goal.invariant_of-self
 invariant_of-self c =
     let s = c.self.inside in
     let h = c.args.self.now in
-    let list = c.args.list.now in
+    let list = c.args.list in
     let x = c.args.stanza.value in
     let f = put_found h.limits (state_of h) list x c.requires.accepted in
     let held = ap (λ h. stanza_count (state_of h).lists) c.self.view_is in
@@ -54,7 +54,7 @@ invariant_of-self c =
 pub returns : goal.returns
 returns c =
     let s = c.self.inside in
-    let list = c.args.list.now in
+    let list = c.args.list in
     let x = c.args.stanza.value in
     let lists = c.put_in.ensures.lists in
     record {

@@ -16,17 +16,17 @@ use Rattle.ctl_store.proofs.store.Store.remove.Goals as goal
 pub overflow_sub-self : goal.overflow_sub-self
 overflow_sub-self c =
     let h = c.args.self.now in
-    let f = remove_found h.limits (state_of h) c.args.list.now c.args.«package».now c.args.version.now c.requires.accepted in
+    let f = remove_found h.limits (state_of h) c.args.list c.args.«package» c.args.version c.requires.accepted in
     let held = ap (λ h. stanza_count (state_of h).lists) c.self.view_is in
-    omega (arith, remove_count h.limits (state_of h) c.args.list.now c.args.«package».now c.args.version.now f.0 c.requires.accepted f.1, count_below (state_of h) c.args.list.now f.0 f.1, c.self.invariant.counted, held)
+    omega (arith, remove_count h.limits (state_of h) c.args.list c.args.«package» c.args.version f.0 c.requires.accepted f.1, count_below (state_of h) c.args.list f.0 f.1, c.self.invariant.counted, held)
 
 pub invariant_of-self : goal.invariant_of-self
 invariant_of-self c =
     let s = c.self.inside in
     let h = c.args.self.now in
-    let list = c.args.list.now in
-    let name = c.args.«package».now in
-    let version = c.args.version.now in
+    let list = c.args.list in
+    let name = c.args.«package» in
+    let version = c.args.version in
     let f = remove_found h.limits (state_of h) list name version c.requires.accepted in
     let count = remove_count h.limits (state_of h) list name version f.0 c.requires.accepted f.1 in
     let held = ap (λ h. stanza_count (state_of h).lists) c.self.view_is in
@@ -40,9 +40,9 @@ invariant_of-self c =
 pub returns : goal.returns
 returns c =
     let s = c.self.inside in
-    let list = c.args.list.now in
-    let name = c.args.«package».now in
-    let version = c.args.version.now in
+    let list = c.args.list in
+    let name = c.args.«package» in
+    let version = c.args.version in
     let lists = c.remove_in.ensures.lists ∙ ap (λ n. change_named list (remove_keyed n (Some version)) (lists_of (ordered.entries s.lists))) c.as_slice.ensures in
     record {
       state =

@@ -19,8 +19,8 @@ returns c =
     let s = c.self.inside in
     record {
       state =
-          (λ j. record { lists = stanza_lists (lists_of (ordered.entries s.lists)); marks = (from_entries-removed c.args.name.now (ordered.entries s.marks) (ordered.entries c.remove.new.self) (λ q. ap (at_name q) c.remove.ensures.entries ∙ at_name-without_name c.args.name.now q (ordered.entries s.marks) c.remove.ensures.each_once)) j; pins = s.pins.pins; target = s.target; edits = s.edits + 1 })
-          ∙ ap (λ h. after (state_of h) (Unmark c.args.name.now)) c.self.view_is;
+          (λ j. record { lists = stanza_lists (lists_of (ordered.entries s.lists)); marks = (from_entries-removed c.args.name (ordered.entries s.marks) (ordered.entries c.remove.new.self) (λ q. ap (at_name q) c.remove.ensures.entries ∙ at_name-without_name c.args.name q (ordered.entries s.marks) c.remove.ensures.each_once)) j; pins = s.pins.pins; target = s.target; edits = s.edits + 1 })
+          ∙ ap (λ h. after (state_of h) (Unmark c.args.name)) c.self.view_is;
       keyed = ap keyed_of c.self.view_is;
       limits = ap (λ h. h.limits) c.self.view_is;
     }

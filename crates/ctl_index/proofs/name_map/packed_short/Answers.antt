@@ -1,0 +1,14 @@
+use Rattle.std.proofs.Common.{nat_cmp}
+use Rattle.std.specs.BTreeMap.{IsFromIterResult}
+use Rattle.std.specs.Cmp.Lexicographic.{slice_cmp}
+use Rattle.std.proofs.lemmas.Iterator.Adapters.{fact_from_collect}
+use Rattle.std.proofs.lemmas.Iterator.Consumers.{YieldsList-from_rest}
+use Rattle.std.proofs.lemmas.Result.{IfOk-weaker}
+use Rattle.ctl_index.proofs.PackLemmas.{same_short_names}
+use Rattle.ctl_index.proofs.name_map.packed_short.Goals as goal
+
+pub returns : goal.returns
+returns c =
+    let gives = c.into_iter-short.ensures.into_iter_gives in
+    IfOk-weaker c.collect.result (IsFromIterResult (slice_cmp nat_cmp) c.args.names.entries) _ (λ tree made. same_short_names c.args.names tree gives.5 made)
+    (fact_from_collect (IsFromIterResult (slice_cmp nat_cmp)) c.collect.result c.collect.ensures.ran (YieldsList-from_rest c.args.names.entries gives.0))
