@@ -3,7 +3,7 @@ use Rattle.std.proofs.Common.{◌≡◌, ℕ, Bool, true, false, cond, length, L
 use Rattle.std.specs.BTreeMap.{BTreeMap, IsFromIterResult, IsOrdered, get, keys}
 use Rattle.std.specs.Cmp.{IsTotalOrder, eq_by_cmp_equiv, on_total}
 use Rattle.std.specs.Cmp.Lexicographic.{slice_cmp, nat_list_cmp_total}
-use Rattle.std.specs.Map.{lookup, update_all}
+use Rattle.std.specs.Map.{lookup}
 use Rattle.std.specs.Option.{option_map_or, option_or}
 use Rattle.std.specs.Ordering.{is_eq, eq_by_cmp}
 use Rattle.std.specs.declared.cmp.Ordering.{Ordering}

@@ -132,7 +132,8 @@ impl Waiting {
             → waited self.new.halfway.items self.new.between.items k (if is_eq (clause_cmp clause k) then v else o)
             ≡ (if is_eq (clause_cmp clause k) then v else waited self.old.halfway.items self.old.between.items k o)) }
         ensures waits { IfOk result (λ at_once. at_once ≡ false → (k : ClauseKey) (o : Option ℕ)
-            → waited self.new.halfway.items self.new.between.items k o ≡ (if is_eq (clause_cmp clause k) then Some number else waited self.old.halfway.items self.old.between.items k o)) }
+            → waited self.new.halfway.items self.new.between.items k o
+            ≡ (if is_eq (clause_cmp clause k) then Some number else waited self.old.halfway.items self.old.between.items k o)) }
     {
         match self.turn {
             Turn::Together => {
