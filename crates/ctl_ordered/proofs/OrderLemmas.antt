@@ -1,32 +1,37 @@
 -- Orders of serials, by which keys are found.
-use Rattle.std.proofs.Common.{◌≡◌, ◌⊎◌, inl, inr, ℕ, zero, suc, ◌+◌, ◌<◌, ◌≤◌, Bool, true, false, cond, nat_eq, List, [], ◌∷◌, ◌++◌, length, get_or, filter, Option, None, Some, refl, ap, sym, subst, ◌∙◌, arith}
+use Rattle.std.proofs.Common.{◌≡◌, inl, inr, ℕ, zero, suc, ◌+◌, ◌<◌, ◌≤◌, Bool, true, false, cond, nat_eq, List, [], ◌∷◌, ◌++◌, map, length, get_or, filter, Option, None, Some, is_some, refl, ap, sym, subst, ◌∙◌, arith}
+use Rattle.std.proofs.Math.Nat.{eq-or-lt_of_le}
+use Rattle.std.proofs.lemmas.Bool.{cases_Bool, cases_lt}
 use Rattle.std.proofs.lemmas.Map.{keys-set_value, lookup-insert, lookup-remove_entry, none_passes_from_lookup}
+use Rattle.std.proofs.lemmas.Map.Keys.{IsDistinct-push, IsDistinct-from_apart, Less-from_sorted}
+use Rattle.std.proofs.lemmas.Map.Made.{is_some-lookup}
 use Rattle.std.proofs.lemmas.List.{get_or-map, length-map, map-append}
+use Rattle.std.proofs.lemmas.List.Edits.{insert_end}
+use Rattle.std.proofs.lemmas.List.Elements.{All-from_get_or, recursion_from_All}
+use Rattle.std.proofs.lemmas.List.Recursion.{found_nowhere}
+use Rattle.std.proofs.lemmas.Option.{none-some}
 use Rattle.indexmap.proofs.SetLemmas.{map-insert, map-remove}
-use Rattle.std.proofs.lemmas.Cmp.{tied_itself, tied_back}
+use Rattle.indexmap.proofs.MapLemmas.{absent_from_lookup, insert_entry-absent}
 use Rattle.std.specs.Borrow.{MutBor}
 use Rattle.std.specs.Option.{option_copied_mut, OnSome}
-use Rattle.std.specs.Cmp.{IsEquivalence, IsTotalOrder}
+use Rattle.std.specs.Cmp.{Equal-is, IsEquivalence, IsTotalOrder}
 use Rattle.std.specs.List.{IsDistinct, AllByRecursion, insert, remove}
-use Rattle.std.specs.List.Sorted.{IsPartitionedBy}
+use Rattle.std.specs.List.Sorted.{IsPartitionedBy, IsStrictlySortedBy}
 use Rattle.std.specs.Map.{lookup, keys_of, set_value, remove_entry}
 use Rattle.std.specs.Ordering.{is_eq, is_lt, ordering_reverse}
 use Rattle.std.specs.declared.cmp.Ordering.{Ordering}
-use Rattle.std.specs.declared.cmp.Ordering.TheVariants.{Less, Equal, Greater}
+use Rattle.std.specs.declared.cmp.Ordering.TheVariants.{Less}
 use Rattle.ctl_ordered.specs.declared.slot.Slot.{Slot}
 use Rattle.ctl_ordered.specs.declared.slot.Slot.TheVariants.{Entry, Hole}
 use Rattle.indexmap.specs.IndexMap.{insert_entry}
 use Rattle.ctl_ordered.specs.Slots.{entries_of, rows_of, value_of, with_value, is_entry, Rises}
 use Rattle.ctl_ordered.specs.Ordered.{without_serials, serials_of, row_serial, found_cmp, order_at, set_row, cut_row, IsBelow, KeysRise, IsKept, IsOrdered}
-use Rattle.ctl_ordered.proofs.SlotLemmas.{yes, no, some_not_none, from_lent, entry_in, row_at, rises_rows, rises_set, rises_last, rises_squeezed, insert_last, insert_new, lookup_last, rows_set, rows_cut, rows_last, rows_squeezed, IsEntryOf, row_found, no_value, no_cut, no_serial, entries_set, entries_cut, serials_set, serials_cut, keys_in_rows, apart_cut, apart_last}
+use Rattle.ctl_ordered.proofs.SlotLemmas.{from_lent, entry_in, row_at, rises_rows, rises_set, rises_last, rises_squeezed, insert_last, rows_set, rows_cut, rows_last, rows_squeezed, IsEntryOf, row_found, no_value, no_cut, no_serial, views_set, views_cut, keys_in_rows, all_cut, apart_cut}
 
 is_less : (o : Ordering) → is_lt o ≡ true → o ≡ Less
 is_less o e = grind arith
 
-is_equal : (o : Ordering) → is_eq o ≡ true → o ≡ Equal
-is_equal o e = grind arith
-
-is_greater : (o : Ordering) → is_lt o ≡ false → is_eq o ≡ false → o ≡ Greater
+is_greater : (o : Ordering) → is_lt o ≡ false → is_eq o ≡ false → ordering_reverse o ≡ Less
 is_greater o e f = grind arith
 
 -- how keys stand to each other, and when they are equal
@@ -38,232 +43,129 @@ pub record IsOrderOf {K : Type 0} (eq : K → K → Bool) (R : K → K → Order
 pub key_order : {K : Type 0} {eq : K → K → Bool} {R : K → K → Ordering} → IsEquivalence eq → IsTotalOrder R → ((x y : K) → eq x y ≡ is_eq (R x y)) → IsOrderOf eq R
 key_order laws total alike = record { laws = laws; total = total; alike = alike }
 
-module _ {K : Type 0} where
-  first : (ps : List (K × ℕ)) → 0 < length ps → K × ℕ
-  first [] l = absurd (omega arith)
-  first (p ∷ ps) l = p
-
-  all_at : (P : K → Type 0) (ps : List (K × ℕ)) (i : ℕ) (d : K × ℕ) → AllByRecursion P (keys_of ps) → i < length ps → P (get_or ps i d).0
-  all_at P [] i d h l = absurd (omega arith)
-  all_at P (p ∷ ps) zero d h l = h.0
-  all_at P (p ∷ ps) (suc i) d h l = all_at P ps i d h.1 (omega arith)
-
-  all_from : (P : K → Type 0) (ps : List (K × ℕ)) → ((i : ℕ) (d : K × ℕ) → i < length ps → P (get_or ps i d).0) → AllByRecursion P (keys_of ps)
-  all_from P [] h = tt
-  all_from P (p ∷ ps) h = (h 0 p (omega arith), all_from P ps (λ i d l. h (suc i) d (omega arith)))
-
-  all_insert : (P : K → Type 0) (ps : List (K × ℕ)) (i : ℕ) (p : K × ℕ) → AllByRecursion P (keys_of ps) → P p.0 → AllByRecursion P (keys_of (insert ps i p))
-  all_insert P ps zero p h x = (x, h)
-  all_insert P [] (suc i) p h x = (x, tt)
-  all_insert P (q ∷ ps) (suc i) p h x = (h.0, all_insert P ps i p h.1 x)
-
-  all_remove : (P : K → Type 0) (ps : List (K × ℕ)) (i : ℕ) → AllByRecursion P (keys_of ps) → AllByRecursion P (keys_of (remove ps i))
-  all_remove P [] zero h = h
-  all_remove P [] (suc i) h = h
-  all_remove P (q ∷ ps) zero h = h.1
-  all_remove P (q ∷ ps) (suc i) h = (h.0, all_remove P ps i h.1)
+all_insert : {K : Type 0} (P : K → Type 0) (ps : List (K × ℕ)) (i : ℕ) (p : K × ℕ) → AllByRecursion P (keys_of ps) → P p.0 → AllByRecursion P (keys_of (insert ps i p))
+all_insert P ps zero p h x = (x, h)
+all_insert P [] (suc i) p h x = (x, tt)
+all_insert P (q ∷ ps) (suc i) p h x = (h.0, all_insert P ps i p h.1 x)
 
 -- ---- keys that rise
 
 module _ {K : Type 0} {eq : K → K → Bool} {R : K → K → Ordering} (o : IsOrderOf eq R) where
-  turned : (x y : K) → R x y ≡ Less → R y x ≡ Greater
-  turned x y e = o.total.antisymm y x ∙ ap ordering_reverse e
+  apart : (x y : K) → R x y ≡ Less → eq x y ≡ false
+  apart x y e = o.alike x y ∙ ap is_eq e
 
-  turned_back : (x y : K) → R x y ≡ Greater → R y x ≡ Less
-  turned_back x y e = o.total.antisymm y x ∙ ap ordering_reverse e
+  sorted : (ps : List (K × ℕ)) → KeysRise R ps → IsStrictlySortedBy R (keys_of ps)
+  unfolding IsStrictlySortedBy
+  sorted [] h = tt
+  sorted (p ∷ ps) h = (h.0, sorted ps h.1)
 
-  before : (x y : K) → R x y ≡ Less → eq y x ≡ false
-  before x y e = o.alike y x ∙ ap is_eq (turned x y e)
+  keys_apart : (ps : List (K × ℕ)) → KeysRise R ps → IsDistinct eq (keys_of ps)
+  keys_apart ps h =
+      IsDistinct-from_apart eq (keys_of ps) (λ i j d l b. apart (get_or (keys_of ps) i d) (get_or (keys_of ps) j d) (Less-from_sorted R (keys_of ps) i j d (sorted ps h) l b))
 
-  after : (x y : K) → R x y ≡ Less → eq x y ≡ false
-  after x y e = o.alike x y ∙ ap is_eq e
+  -- a key is found at a place before which there is none
+  found_there : (q d : K) (ps : List (K × ℕ)) (r e : ℕ) → ((j : ℕ) → j < r → eq q (get_or (keys_of ps) j d) ≡ false) → r < length ps → eq q (get_or (keys_of ps) r d) ≡ true
+      → (lookup (eq q) ps ≡ Some (get_or (map (λ (p : K × ℕ). p.1) ps) r e)) × (remove ps r ≡ remove_entry (eq q) ps)
+  found_there q d [] r e h l t = absurd (omega arith)
+  found_there q d (p ∷ ps) zero e h l t = (grind (arith, t), grind (arith, t))
+  found_there q d (p ∷ ps) (suc r) e h l t =
+      let rest = found_there q d ps r e (λ j l. h (suc j) (omega arith)) (omega arith) t in
+      let other : eq q p.0 ≡ false = h 0 (omega arith) in
+      (grind (arith, other, rest.0), grind (arith, other, rest.1))
 
-  climb : (ps : List (K × ℕ)) (i j : ℕ) (d : K × ℕ) → KeysRise R ps → i < j → j < length ps → R (get_or ps i d).0 (get_or ps j d).0 ≡ Less
-  climb [] i j d h l b = absurd (omega arith)
-  climb (p ∷ ps) i zero d h l b = absurd (omega arith)
-  climb (p ∷ ps) zero (suc j) d h l b = all_at (λ k. R p.0 k ≡ Less) ps j d h.0 (omega arith)
-  climb (p ∷ ps) (suc i) (suc j) d h l b = climb ps i j d h.1 (omega arith) (omega arith)
-
-  -- each serial is found by its own key
-  own : (ps : List (K × ℕ)) (i : ℕ) (d : K × ℕ) → KeysRise R ps → i < length ps → lookup (eq (get_or ps i d).0) ps ≡ Some (get_or ps i d).1
-  own [] i d h l = absurd (omega arith)
-  own (p ∷ ps) zero d h l = yes (Some p.1) (lookup (eq p.0) ps) (o.alike p.0 p.0 ∙ ap is_eq (tied_itself o.total p.0))
-  own (p ∷ ps) (suc i) d h l =
-      no (Some p.1) (lookup (eq (get_or ps i d).0) ps) (before p.0 (get_or ps i d).0 (all_at (λ k. R p.0 k ≡ Less) ps i d h.0 (omega arith)))
-      ∙ own ps i d h.1 (omega arith)
-
-  -- a key is found at a place before which there is none, and nowhere where there is none
-  found_there : (q : K) (ps : List (K × ℕ)) (r : ℕ) (d : K × ℕ) → ((j : ℕ) (d : K × ℕ) → j < r → eq q (get_or ps j d).0 ≡ false) → r < length ps → eq q (get_or ps r d).0 ≡ true
-      → (lookup (eq q) ps ≡ Some (get_or ps r d).1) × (remove ps r ≡ remove_entry (eq q) ps)
-  found_there q [] r d h l e = absurd (omega arith)
-  found_there q (p ∷ ps) zero d h l e = (yes (Some p.1) (lookup (eq q) ps) e, sym (yes ps (p ∷ remove_entry (eq q) ps) e))
-  found_there q (p ∷ ps) (suc r) d h l e =
-      let rest = found_there q ps r d (λ j d l. h (suc j) d (omega arith)) (omega arith) e in
-      let other = h 0 p (omega arith) in
-      (no (Some p.1) (lookup (eq q) ps) other ∙ rest.0, ap (λ l. p ∷ l) rest.1 ∙ sym (no ps (p ∷ remove_entry (eq q) ps) other))
-
-  found_nowhere : (q : K) (ps : List (K × ℕ)) → ((j : ℕ) (d : K × ℕ) → j < length ps → eq q (get_or ps j d).0 ≡ false) → lookup (eq q) ps ≡ None
-  found_nowhere q [] h = refl
-  found_nowhere q (p ∷ ps) h = no (Some p.1) (lookup (eq q) ps) (h 0 p (omega arith)) ∙ found_nowhere q ps (λ j d l. h (suc j) d (omega arith))
-
-  climbs_insert : (q : K) (s : ℕ) (ps : List (K × ℕ)) (r : ℕ) → KeysRise R ps → r ≤ length ps → ((j : ℕ) (d : K × ℕ) → j < r → R (get_or ps j d).0 q ≡ Less) → ((j : ℕ) (d : K × ℕ) → r ≤ j → j < length ps → R q (get_or ps j d).0 ≡ Less)
+  climbs_insert : (q : K) (s : ℕ) (ps : List (K × ℕ)) (r : ℕ) → KeysRise R ps → r ≤ length ps → ((j : ℕ) → j < r → R (get_or (keys_of ps) j q) q ≡ Less) → ((j : ℕ) → r ≤ j → j < length ps → R q (get_or (keys_of ps) j q) ≡ Less)
       → KeysRise R (insert ps r (q, s))
-  climbs_insert q s [] zero h l low high = (tt, tt)
+  climbs_insert q s ps zero h l low high =
+      (recursion_from_All (λ k. R q k ≡ Less) (keys_of ps) (All-from_get_or (λ k. R q k ≡ Less) (keys_of ps) q (λ j b. high j (omega arith) (omega (arith, b, length-map ps (λ (p : K × ℕ). p.0))))), h)
   climbs_insert q s [] (suc r) h l low high = absurd (omega arith)
-  climbs_insert q s (p ∷ ps) zero h l low high = (all_from (λ k. R q k ≡ Less) (p ∷ ps) (λ j d b. high j d (omega arith) b), h)
   climbs_insert q s (p ∷ ps) (suc r) h l low high =
-      (all_insert (λ k. R p.0 k ≡ Less) ps r (q, s) h.0 (low 0 p (omega arith)), climbs_insert q s ps r h.1 (omega arith) (λ j d b. low (suc j) d (omega arith)) (λ j d b c. high (suc j) d (omega arith) (omega arith)))
+      (all_insert (λ k. R p.0 k ≡ Less) ps r (q, s) h.0 (low 0 (omega arith)), climbs_insert q s ps r h.1 (omega arith) (λ j b. low (suc j) (omega arith)) (λ j b c. high (suc j) (omega arith) (omega arith)))
 
-  climbs_remove : (ps : List (K × ℕ)) (r : ℕ) → KeysRise R ps → KeysRise R (remove ps r)
-  climbs_remove [] zero h = h
-  climbs_remove [] (suc r) h = h
-  climbs_remove (p ∷ ps) zero h = h.1
-  climbs_remove (p ∷ ps) (suc r) h = (all_remove (λ k. R p.0 k ≡ Less) ps r h.0, climbs_remove ps r h.1)
-
-  apart_climbs : (ps : List (K × ℕ)) → KeysRise R ps → IsDistinct eq (keys_of ps)
-  unfolding IsDistinct
-  apart_climbs [] h = tt
-  apart_climbs (p ∷ ps) h = (all_from (λ k. eq p.0 k ≡ false) ps (λ i d l. after p.0 (get_or ps i d).0 (all_at (λ k. R p.0 k ≡ Less) ps i d h.0 l)), apart_climbs ps h.1)
-
-  -- ---- the order of slots
+  climbs_cut : (test : K → Bool) (ps : List (K × ℕ)) → KeysRise R ps → KeysRise R (remove_entry test ps)
+  climbs_cut test [] h = h
+  climbs_cut test (p ∷ ps) h = grind (arith, all_cut (R p.0) Less test ps h.0, climbs_cut test ps h.1)
 
   module _ {V : Type 0} (slots : List (ℕ × Slot K V)) (order : List ℕ) (next : ℕ) (held : IsOrdered eq R slots order next) (q : K) where
     abbrev ps : List (K × ℕ)
     ps = held.pairs
 
+    abbrev rows : List (ℕ × (K × V))
+    rows = rows_of slots
+
+    abbrev key : ℕ → K
+    key i = get_or (keys_of ps) i q
+
+    -- ---- the order of slots
+
+    climb : (i j : ℕ) → i < j → j < length ps → R (key i) (key j) ≡ Less
+    climb i j l b = Less-from_sorted R (keys_of ps) i j q (sorted ps held.climbs) l (omega (arith, b, length-map ps (λ (p : K × ℕ). p.0)))
+
+    entry_found : (k : K) (s : ℕ) → Some s ≡ row_serial (eq k) rows → (e : K × V) × IsEntryOf (eq k) rows s e
+    entry_found k s i = row_found (eq k) 0 rows next s (rises_rows 0 slots next held.kept.rises) (sym i)
+
     -- the slot of a serial stands to a key as the serial's key does
-    order_is_key : (i : ℕ) (d : K × ℕ) → i < length ps → order_at R slots q (get_or ps i d).1 ≡ R (get_or ps i d).0 q
-    order_is_key i d l =
-        let k = (get_or ps i d).0 in
-        let s = (get_or ps i d).1 in
-        let there = row_found (eq k) 0 (rows_of slots) next s (rises_rows 0 slots next held.kept.rises) (sym (held.kept.found k) ∙ own ps i d held.climbs l) in
+    order_read : (i d : ℕ) → i < length ps → order_at R slots q (get_or order i d) ≡ R (key i) q
+    order_read i d l =
+        let k = key i in
+        let s = get_or order i d in
+        let own = found_there k q ps i d (λ j m. o.laws.symm k (key j) ∙ apart (key j) k (climb j i m l)) l (o.laws.refl k) in
+        let there = entry_found k s (ap (λ (l : List ℕ). Some (get_or l i d)) held.order_is ∙ sym own.0 ∙ held.kept.found k) in
         found_as (lookup (nat_eq s) slots) there.0 (row_at s 0 slots next held.kept.rises ∙ there.1.row)
-        ∙ sym (o.total.congr k there.0.0 q (is_equal (R k there.0.0) (sym (o.alike k there.0.0) ∙ there.1.passes)))
+        ∙ sym (o.total.congr k there.0.0 q ((Equal-is (R k there.0.0)).0 (sym (o.alike k there.0.0) ∙ there.1.passes)))
       where
         found_as : (r : Option (Slot K V)) (e : K × V) → entry_in r ≡ Some e → found_cmp R r q ≡ R e.0 q
         found_as r e is = grind arith
-
-    order_read : (i d : ℕ) (e : K × ℕ) → i < length ps → order_at R slots q (get_or order i d) ≡ R (get_or ps i e).0 q
-    order_read i d e l =
-        ap (λ (l : List ℕ). order_at R slots q (get_or l i d)) held.order_is
-        ∙ ap (λ s. order_at R slots q s) (get_or-map (λ (p : K × ℕ). p.1) ps i e d l) ∙ order_is_key i e l
 
     length_order : length order ≡ length ps
     length_order = ap length held.order_is ∙ length-map ps (λ (p : K × ℕ). p.1)
 
     pub parted : IsPartitionedBy (λ s. is_lt (order_at R slots q s)) order
     parted i j d le l e =
-        let x = first ps (omega (arith, l, length_order)) in
-        elim (apart_or_same i j le) [
+        let b : j < length ps = omega (arith, l, length_order) in
+        elim (eq-or-lt_of_le le) [
           | inl same ↦ subst (λ n. is_lt (order_at R slots q (get_or order n d)) ≡ true) (sym same) e
           | inr less ↦
-              ap is_lt (order_read i d x (omega (arith, l, less, length_order)))
-              ∙ ap is_lt (o.total.trans (get_or ps i x).0 (get_or ps j x).0 q (climb ps i j x held.climbs less (omega (arith, l, length_order))) (is_less (R (get_or ps j x).0 q) (sym (ap is_lt (order_read j d x (omega (arith, l, length_order)))) ∙ e)))
+              ap is_lt (order_read i d (omega (arith, b, less)))
+              ∙ ap is_lt (o.total.trans (key i) (key j) q (climb i j less b) (is_less (R (key j) q) (sym (ap is_lt (order_read j d b)) ∙ e)))
         ]
-      where
-        apart_or_same : (i j : ℕ) → i ≤ j → (i ≡ j) ⊎ (i < j)
-        apart_or_same i j le = grind arith
 
-    -- at the point where those before the key end
-    module _ (r : ℕ) (bound : r ≤ length order) (point : IsBelow R slots q order r) where
-      low : (j : ℕ) (d : K × ℕ) → j < r → R (get_or ps j d).0 q ≡ Less
-      low j d l = is_less (R (get_or ps j d).0 q) (sym (ap is_lt (order_read j 0 d (omega (arith, l, bound, length_order)))) ∙ point.0 j 0 (omega arith) l)
-
-      not_low : (j : ℕ) (d : K × ℕ) → r ≤ j → j < length ps → is_lt (R (get_or ps j d).0 q) ≡ false
-      not_low j d l b = sym (ap is_lt (order_read j 0 d b)) ∙ point.1 j 0 l (omega (arith, b, length_order))
-
-      lower_apart : (j : ℕ) (d : K × ℕ) → j < r → eq q (get_or ps j d).0 ≡ false
-      lower_apart j d l = before (get_or ps j d).0 q (low j d l)
-
-      there_is : (d : K × ℕ) → r < length order → is_eq (order_at R slots q (get_or order r 0)) ≡ true
-          → (lookup (eq q) ps ≡ Some (get_or ps r d).1) × (remove ps r ≡ remove_entry (eq q) ps)
-      there_is d l e =
-          let b : r < length ps = omega (arith, l, length_order) in
-          found_there q ps r d lower_apart b (o.alike q (get_or ps r d).0 ∙ ap is_eq (tied_back o.total (get_or ps r d).0 q (is_equal (R (get_or ps r d).0 q) (sym (ap is_eq (order_read r 0 d b)) ∙ e))))
-
-      pub serial_there : r < length order → is_eq (order_at R slots q (get_or order r 0)) ≡ true → Some (get_or order r 0) ≡ row_serial (eq q) (rows_of slots)
-      serial_there l e =
-          let x = first ps (omega (arith, l, length_order)) in
-          ap (λ (l : List ℕ). Some (get_or l r 0)) held.order_is ∙ ap (λ s. Some s) (get_or-map (λ (p : K × ℕ). p.1) ps r x 0 (omega (arith, l, length_order)))
-          ∙ sym (there_is x l e).0 ∙ held.kept.found q
-
-      pub serial_nowhere : (r < length order → is_eq (order_at R slots q (get_or order r 0)) ≡ false) → None ≡ row_serial (eq q) (rows_of slots)
-      serial_nowhere other = sym (sym (held.kept.found q) ∙ found_nowhere q ps (λ j d l. elim (three j) [
-        | inl less ↦ lower_apart j d less
-        | inr more ↦ above j d l more
-      ]))
-        where
-          three : (j : ℕ) → (j < r) ⊎ (r ≤ j)
-          three j = grind arith
-
-          first_above : (d : K × ℕ) → r < length ps → R q (get_or ps r d).0 ≡ Less
-          first_above d l = grind (arith, length_order, turned_back, is_greater, not_low, order_read)
-
-          above : (j : ℕ) (d : K × ℕ) → j < length ps → r ≤ j → eq q (get_or ps j d).0 ≡ false
-          above j d l m = elim (same_or_more j m) [
-            | inl e ↦ subst (λ n. eq q (get_or ps n d).0 ≡ false) e (after q (get_or ps r d).0 (first_above d (omega (arith, l, e))))
-            | inr more ↦ after q (get_or ps j d).0 (o.total.trans q (get_or ps r d).0 (get_or ps j d).0 (first_above d (omega (arith, l, more))) (climb ps r j d held.climbs more l))
-          ]
-            where
-              same_or_more : (j : ℕ) → r ≤ j → (r ≡ j) ⊎ (r < j)
-              same_or_more j m = grind arith
-
--- ---- what a kept map keeps
-
-module _ {K V : Type 0} {eq : K → K → Bool} {R : K → K → Ordering} (o : IsOrderOf eq R) where
-  pub empty_ordered : (slots : List (ℕ × Slot K V)) (order : List ℕ) → slots ≡ [] → order ≡ [] → IsOrdered eq R slots order 0
-  unfolding IsDistinct
-  empty_ordered slots order e f =
-      record {
-        pairs = [];
-        order_is = f;
-        kept = subst (λ (l : List (ℕ × Slot K V)). IsKept eq l [] 0) (sym e) (record { found = λ k. refl; rises = omega arith; apart = tt });
-        climbs = tt;
-      }
-
-  module _ (slots : List (ℕ × Slot K V)) (order : List ℕ) (next : ℕ) (held : IsOrdered eq R slots order next) (k : K) where
-    abbrev rows : List (ℕ × (K × V))
-    rows = rows_of slots
-
-    entry_found : (s : ℕ) → Some s ≡ row_serial (eq k) rows → (e : K × V) × IsEntryOf (eq k) rows s e
-    entry_found s i = row_found (eq k) 0 rows next s (rises_rows 0 slots next held.kept.rises) (sym i)
+    -- ---- what a kept map keeps
 
     -- the slot of a key's serial has the key's entry
-    slot_is : (s : ℕ) (r : Slot K V) (e : K × V) → IsEntryOf (eq k) rows s e → Some r ≡ lookup (nat_eq s) slots → r ≡ Entry e.0 e.1
-    slot_is s r e is at = entry_is r e (ap entry_in at ∙ row_at s 0 slots next held.kept.rises ∙ is.row)
+    slot_is : (s : ℕ) (r : Slot K V) → Some s ≡ row_serial (eq q) rows → Some r ≡ lookup (nat_eq s) slots → (e : K × V) × (r ≡ Entry e.0 e.1) × IsEntryOf (eq q) rows s e
+    slot_is s r i at = let there = entry_found q s i in (there.0, entry_is r there.0 (ap entry_in at ∙ row_at s 0 slots next held.kept.rises ∙ there.1.row), there.1)
       where
         entry_is : (r : Slot K V) (e : K × V) → entry_in (Some r) ≡ Some e → r ≡ Entry e.0 e.1
         entry_is r e is = grind arith
 
-    pub ordered_value : (s : ℕ) (r : Slot K V) → Some s ≡ row_serial (eq k) rows → Some r ≡ lookup (nat_eq s) slots → value_of r ≡ lookup (eq k) (entries_of slots)
-    ordered_value s r i at = let there = entry_found s i in ap value_of (slot_is s r there.0 there.1 at) ∙ sym there.1.value
+    pub ordered_value : (s : ℕ) (r : Slot K V) → Some s ≡ row_serial (eq q) rows → Some r ≡ lookup (nat_eq s) slots → value_of r ≡ lookup (eq q) (entries_of slots)
+    ordered_value s r i at = let there = slot_is s r i at in ap value_of there.1 ∙ sym there.2.value
 
-    pub ordered_gap : (s : ℕ) → Some s ≡ row_serial (eq k) rows → None ≡ lookup (nat_eq s) slots → ⊥
-    ordered_gap s i at = some_not_none (sym (ap entry_in at ∙ row_at s 0 slots next held.kept.rises ∙ (entry_found s i).1.row))
+    pub ordered_gap : (s : ℕ) → Some s ≡ row_serial (eq q) rows → None ≡ lookup (nat_eq s) slots → ⊥
+    ordered_gap s i at = let there = entry_found q s i in none-some there.0 (ap entry_in at ∙ row_at s 0 slots next held.kept.rises ∙ there.1.row)
 
-    pub ordered_no_value : None ≡ row_serial (eq k) rows → (None ≡ lookup (eq k) (entries_of slots)) × (entries_of slots ≡ remove_entry (eq k) (entries_of slots)) × (rows ≡ cut_row (eq k) rows)
+    pub ordered_no_value : None ≡ row_serial (eq q) rows → (None ≡ lookup (eq q) (entries_of slots)) × (entries_of slots ≡ remove_entry (eq q) (entries_of slots)) × (rows ≡ cut_row (eq q) rows)
     ordered_no_value i =
-        let cut = sym (no_cut (eq k) rows (sym i)) in
-        (sym (no_value (eq k) rows (sym i)), ap without_serials cut ∙ entries_cut (eq k) rows, cut)
+        let cut = sym (no_cut (eq q) rows (sym i)) in
+        (sym (no_value (eq q) rows (sym i)), ap without_serials cut ∙ (views_cut (eq q) rows).0, cut)
 
-    pub ordered_lent : {P : Type 0} (s : ℕ) (r : Slot K V) (m : Option (MutBor V)) → Some s ≡ row_serial (eq k) rows → Some r ≡ lookup (nat_eq s) slots → option_copied_mut m ≡ value_of r → OnSome m P → P
-    ordered_lent s r m i at e p = let there = entry_found s i in from_lent m there.0.1 (e ∙ ap value_of (slot_is s r there.0 there.1 at)) p
-
-    pub ordered_set : (w : V) (s : ℕ) (r x : Slot K V) → Some s ≡ row_serial (eq k) rows → Some r ≡ lookup (nat_eq s) slots → x ≡ with_value r w
-        → IsOrdered eq R (set_value (nat_eq s) slots x) order next × (entries_of (set_value (nat_eq s) slots x) ≡ set_value (eq k) (entries_of slots) w) × (rows_of (set_value (nat_eq s) slots x) ≡ set_row (eq k) rows w)
-    ordered_set w s r x i at set =
-        let there = entry_found s i in
-        let here = slot_is s r there.0 there.1 at in
-        let new : rows_of (set_value (nat_eq s) slots x) ≡ set_row (eq k) rows w =
-        ap (λ y. rows_of (set_value (nat_eq s) slots y)) (set ∙ ap (λ y. with_value y w) here) ∙ rows_set s there.0 w slots (sym at ∙ ap (λ y. Some y) here) ∙ there.1.set w in
-        let entries = ap without_serials new ∙ entries_set (eq k) rows w in (
+    pub ordered_set : (w : V) (s : ℕ) (r x : Slot K V) (m : Option (MutBor V)) → Some s ≡ row_serial (eq q) rows → Some r ≡ lookup (nat_eq s) slots → option_copied_mut m ≡ value_of r → OnSome m (x ≡ with_value r w)
+        → IsOrdered eq R (set_value (nat_eq s) slots x) order next × (entries_of (set_value (nat_eq s) slots x) ≡ set_value (eq q) (entries_of slots) w) × (rows_of (set_value (nat_eq s) slots x) ≡ set_row (eq q) rows w)
+    ordered_set w s r x m i at lent on =
+        let there = slot_is s r i at in
+        let here = there.1 in
+        let set = from_lent m there.0.1 (lent ∙ ap value_of here) on in
+        let new : rows_of (set_value (nat_eq s) slots x) ≡ set_row (eq q) rows w =
+        ap (λ y. rows_of (set_value (nat_eq s) slots y)) (set ∙ ap (λ y. with_value y w) here) ∙ rows_set s there.0 w slots (sym at ∙ ap (λ y. Some y) here) ∙ there.2.set w in
+        let views = views_set (eq q) rows w in
+        let entries = ap without_serials new ∙ views.0 in (
           record {
-            pairs = held.pairs;
+            pairs = ps;
             order_is = held.order_is;
             kept = record {
-              found = λ q. held.kept.found q ∙ sym (ap (lookup (eq q)) (ap serials_of new ∙ serials_set (eq k) rows w));
+              found = λ k. held.kept.found k ∙ sym (ap (lookup (eq k)) (ap serials_of new ∙ views.1));
               rises = rises_set (nat_eq s) x 0 slots next held.kept.rises;
-              apart = subst (λ ks. IsDistinct eq ks) (sym (ap keys_of entries ∙ keys-set_value (eq k) (entries_of slots) w)) held.kept.apart;
+              apart = subst (λ ks. IsDistinct eq ks) (sym (ap keys_of entries ∙ keys-set_value (eq q) (entries_of slots) w)) held.kept.apart;
             };
             climbs = held.climbs;
           },
@@ -271,68 +173,115 @@ module _ {K V : Type 0} {eq : K → K → Bool} {R : K → K → Ordering} (o : 
           new,
         )
 
-    module _ (r : ℕ) (bound : r ≤ length order) (point : IsBelow R slots k order r) where
-      pub ordered_pushed : (v : V) → lookup (eq k) (entries_of slots) ≡ None
-          → IsOrdered eq R (insert_entry nat_eq slots next (Entry k v)) (insert order r next) (next + 1) × (entries_of (insert_entry nat_eq slots next (Entry k v)) ≡ insert_entry eq (entries_of slots) k v) × (rows_of (insert_entry nat_eq slots next (Entry k v)) ≡ rows ++ (next, (k, v)) ∷ [])
+    -- at the point where those before the key end
+    module _ (r : ℕ) (bound : r ≤ length order) (point : IsBelow R slots q order r) where
+      low : (j : ℕ) → j < r → R (key j) q ≡ Less
+      low j l = is_less (R (key j) q) (sym (ap is_lt (order_read j 0 (omega (arith, l, bound, length_order)))) ∙ point.0 j 0 (omega arith) l)
+
+      there_is : r < length order → is_eq (order_at R slots q (get_or order r 0)) ≡ true → (lookup (eq q) ps ≡ Some (get_or order r 0)) × (remove ps r ≡ remove_entry (eq q) ps)
+      there_is l e =
+          let b : r < length ps = omega (arith, l, length_order) in
+          let there = found_there q q ps r 0 (λ j m. o.laws.symm q (key j) ∙ apart (key j) q (low j m)) b (o.laws.symm q (key r) ∙ o.alike (key r) q ∙ sym (ap is_eq (order_read r 0 b)) ∙ e) in
+          (there.0 ∙ ap (λ (l : List ℕ). Some (get_or l r 0)) (sym held.order_is), there.1)
+
+      pub serial_there : r < length order → is_eq (order_at R slots q (get_or order r 0)) ≡ true → Some (get_or order r 0) ≡ row_serial (eq q) rows
+      serial_there l e = sym (there_is l e).0 ∙ held.kept.found q
+
+      -- where the key there is another, those from there on are above
+      module _ (other : r < length order → is_eq (order_at R slots q (get_or order r 0)) ≡ false) where
+        above : (j : ℕ) → r ≤ j → j < length ps → R q (key j) ≡ Less
+        above j m l = elim (eq-or-lt_of_le m) [
+          | inl same ↦ subst (λ n. R q (key n) ≡ Less) same (first (omega (arith, l, m)))
+          | inr more ↦ o.total.trans q (key r) (key j) (first (omega (arith, l, m))) (climb r j more l)
+        ]
+          where
+            first : r < length ps → R q (key r) ≡ Less
+            first l =
+                let read = order_read r 0 l in
+                let b : r < length order = omega (arith, l, length_order) in
+                o.total.antisymm q (key r) ∙ is_greater (R (key r) q) (sym (ap is_lt read) ∙ point.1 r 0 (omega arith) b) (sym (ap is_eq read) ∙ other b)
+
+        pub serial_nowhere : None ≡ row_serial (eq q) rows
+        serial_nowhere =
+            sym (found_nowhere (lookup (eq q)) (λ (p : K × ℕ). eq q p.0) (λ p. Some p.1) None refl (λ p ps. refl) ps (q, 0) (λ j l. ap (eq q) (sym (get_or-map (λ (p : K × ℕ). p.0) ps j (q, 0) q l)) ∙ not_at j l))
+            ∙ held.kept.found q
+          where
+            not_at : (j : ℕ) → j < length ps → eq q (key j) ≡ false
+            not_at j l = elim (cases_lt j r) [
+              | inl less ↦ o.laws.symm q (key j) ∙ apart (key j) q (low j less)
+              | inr more ↦ apart q (key j) (above j more l)
+            ]
+
+      pub ordered_pushed : (v : V) → lookup (eq q) (entries_of slots) ≡ None
+          → IsOrdered eq R (insert_entry nat_eq slots next (Entry q v)) (insert order r next) (next + 1) × (entries_of (insert_entry nat_eq slots next (Entry q v)) ≡ insert_entry eq (entries_of slots) q v) × (rows_of (insert_entry nat_eq slots next (Entry q v)) ≡ rows ++ (next, (q, v)) ∷ [])
       ordered_pushed v none =
-          let ps = held.pairs in
-          let free = no_serial (eq k) rows none in
-          let passes = none_passes_from_lookup (eq k) ps (held.kept.found k ∙ free) in
-          let all = insert_last (Entry k v) 0 slots next held.kept.rises in
-          let new : rows_of (insert_entry nat_eq slots next (Entry k v)) ≡ rows ++ (next, (k, v)) ∷ [] = ap rows_of all ∙ rows_last slots next (k, v) in
-          let entries : entries_of (insert_entry nat_eq slots next (Entry k v)) ≡ entries_of slots ++ (k, v) ∷ [] = ap without_serials new ∙ map-append (λ (row : ℕ × (K × V)). row.1) rows ((next, (k, v)) ∷ []) in
-          let serials : serials_of (rows_of (insert_entry nat_eq slots next (Entry k v))) ≡ serials_of rows ++ (k, next) ∷ [] = ap serials_of new ∙ map-append (λ (row : ℕ × (K × V)). (row.1.0, row.0)) rows ((next, (k, v)) ∷ []) in (
+          let free = no_serial (eq q) rows none in
+          let all = insert_last (Entry q v) 0 slots next held.kept.rises in
+          let new : rows_of (insert_entry nat_eq slots next (Entry q v)) ≡ rows ++ (next, (q, v)) ∷ [] = ap rows_of all ∙ rows_last slots next (q, v) in
+          let entries : entries_of (insert_entry nat_eq slots next (Entry q v)) ≡ entries_of slots ++ (q, v) ∷ [] = ap without_serials new ∙ map-append (λ (row : ℕ × (K × V)). row.1) rows ((next, (q, v)) ∷ []) in
+          let serials : serials_of (rows_of (insert_entry nat_eq slots next (Entry q v))) ≡ insert (serials_of rows) (length (serials_of rows)) (q, next) =
+          ap serials_of new ∙ map-append (λ (row : ℕ × (K × V)). (row.1.0, row.0)) rows ((next, (q, v)) ∷ []) ∙ sym (insert_end (serials_of rows) (q, next)) in
+          let other : r < length order → is_eq (order_at R slots q (get_or order r 0)) ≡ false = λ l. elim (cases_Bool (is_eq (order_at R slots q (get_or order r 0)))) [
+            | inl e ↦ absurd (none-some (get_or order r 0) (sym free ∙ sym (serial_there l e)))
+            | inr e ↦ e
+          ] in (
             record {
-              pairs = insert ps r (k, next);
-              order_is = ap (λ l. insert l r next) held.order_is ∙ sym (map-insert (λ (p : K × ℕ). p.1) ps r (k, next));
+              pairs = insert ps r (q, next);
+              order_is = ap (λ l. insert l r next) held.order_is ∙ sym (map-insert (λ (p : K × ℕ). p.1) ps r (q, next));
               kept = record {
-                found = λ q. lookup-insert o.laws k next q ps r passes ∙ ap (λ x. cond (eq k q) (Some next) x) (held.kept.found q) ∙ sym (ap (lookup (eq q)) serials ∙ lookup_last o.laws q k next (serials_of rows) free);
-                rises = subst (λ l. Rises 0 l (next + 1)) (sym all) (rises_last (Entry k v) 0 slots next held.kept.rises);
-                apart = subst (λ (es : List (K × V)). IsDistinct eq (keys_of es)) (sym entries) (apart_last eq o.laws (entries_of slots) k v none held.kept.apart);
+                found = λ k.
+                    lookup-insert o.laws q next k ps r (none_passes_from_lookup (eq q) ps (held.kept.found q ∙ free)) ∙ ap (λ x. cond (eq q k) (Some next) x) (held.kept.found k)
+                    ∙ sym (ap (lookup (eq k)) serials ∙ lookup-insert o.laws q next k (serials_of rows) (length (serials_of rows)) (none_passes_from_lookup (eq q) (serials_of rows) free));
+                rises = subst (λ l. Rises 0 l (next + 1)) (sym all) (rises_last (Entry q v) 0 slots next held.kept.rises);
+                apart =
+                    subst (IsDistinct eq) (sym (ap keys_of entries ∙ map-append (λ (e : K × V). e.0) (entries_of slots) ((q, v) ∷ [])))
+                    (IsDistinct-push o.laws (keys_of (entries_of slots)) q held.kept.apart (sym (is_some-lookup (eq q) (entries_of slots)) ∙ ap is_some none));
               };
-              climbs = climbs_insert o k next ps r held.climbs (omega (arith, bound, length_order o slots order next held k)) (low o slots order next held k r bound point) (λ j d l b.
-                  turned_back o (get_or ps j d).0 k (is_greater (R (get_or ps j d).0 k) (not_low o slots order next held k r bound point j d l b) (sym (o.alike (get_or ps j d).0 k) ∙ o.laws.symm (get_or ps j d).0 k ∙ passes_at ps passes j d b)));
+              climbs = climbs_insert q next ps r held.climbs (omega (arith, bound, length_order)) low (above other);
             },
-            entries ∙ sym (insert_new eq (entries_of slots) k v (none_passes_from_lookup (eq k) (entries_of slots) none)),
+            entries ∙ sym (insert_entry-absent eq q v (entries_of slots) (absent_from_lookup (eq q) (entries_of slots) none)),
             new,
           )
-        where
-          passes_at : (ps : List (K × ℕ)) → AllByRecursion (λ (e : K × ℕ). eq k e.0 ≡ false) ps → (j : ℕ) (d : K × ℕ) → j < length ps → eq k (get_or ps j d).0 ≡ false
-          passes_at [] h j d b = absurd (omega arith)
-          passes_at (p ∷ ps) h zero d b = h.0
-          passes_at (p ∷ ps) h (suc j) d b = passes_at ps h.1 j d (omega arith)
 
-      pub ordered_cut : (s : ℕ) → Some s ≡ row_serial (eq k) rows → r < length order
-          → IsOrdered eq R (set_value (nat_eq s) slots Hole) (remove order r) next × (entries_of (set_value (nat_eq s) slots Hole) ≡ remove_entry (eq k) (entries_of slots)) × (rows_of (set_value (nat_eq s) slots Hole) ≡ cut_row (eq k) rows)
+      pub ordered_cut : (s : ℕ) → Some s ≡ row_serial (eq q) rows → r < length order
+          → IsOrdered eq R (set_value (nat_eq s) slots Hole) (remove order r) next × (entries_of (set_value (nat_eq s) slots Hole) ≡ remove_entry (eq q) (entries_of slots)) × (rows_of (set_value (nat_eq s) slots Hole) ≡ cut_row (eq q) rows)
       ordered_cut s i l =
-          let ps = held.pairs in
-          let there = there_is o slots order next held k r bound point (first ps (omega (arith, l, length_order o slots order next held k))) l (here (is_eq (order_at R slots k (get_or order r 0))) refl) in
-          let new : rows_of (set_value (nat_eq s) slots Hole) ≡ cut_row (eq k) rows = rows_cut s 0 slots next held.kept.rises ∙ (entry_found s i).1.cut in
-          let entries = ap without_serials new ∙ entries_cut (eq k) rows in
-          let serials = ap serials_of new ∙ serials_cut (eq k) rows in
-          let one = o.laws.congr k in (
+          let here : is_eq (order_at R slots q (get_or order r 0)) ≡ true = elim (cases_Bool (is_eq (order_at R slots q (get_or order r 0)))) [
+            | inl e ↦ e
+            | inr e ↦ absurd (none-some s (serial_nowhere (λ l. e) ∙ sym i))
+          ] in
+          let new : rows_of (set_value (nat_eq s) slots Hole) ≡ cut_row (eq q) rows = rows_cut s 0 slots next held.kept.rises ∙ (entry_found q s i).1.cut in
+          let views = views_cut (eq q) rows in
+          let entries = ap without_serials new ∙ views.0 in (
             record {
-              pairs = remove ps r;
-              order_is = ap (λ l. remove l r) held.order_is ∙ sym (map-remove (λ (p : K × ℕ). p.1) ps r);
+              pairs = remove_entry (eq q) ps;
+              order_is = ap (λ l. remove l r) held.order_is ∙ sym (map-remove (λ (p : K × ℕ). p.1) ps r) ∙ ap (map (λ (p : K × ℕ). p.1)) (there_is l here).1;
               kept = record {
-                found = λ q.
-                    ap (lookup (eq q)) there.1 ∙ lookup-remove_entry o.laws (eq k) (λ x y e. one x y e) q ps (apart_climbs o ps held.climbs) ∙ ap (λ x. cond (eq k q) None x) (held.kept.found q)
-                    ∙ sym (ap (lookup (eq q)) serials ∙ lookup-remove_entry o.laws (eq k) (λ x y e. one x y e) q (serials_of rows) (subst (IsDistinct eq) (sym (keys_in_rows rows)) held.kept.apart));
+                found = λ k.
+                    lookup-remove_entry o.laws (eq q) (o.laws.congr q) k ps (keys_apart ps held.climbs) ∙ ap (λ x. cond (eq q k) None x) (held.kept.found k)
+                    ∙ sym (ap (lookup (eq k)) (ap serials_of new ∙ views.1) ∙ lookup-remove_entry o.laws (eq q) (o.laws.congr q) k (serials_of rows) (subst (IsDistinct eq) (sym (keys_in_rows rows)) held.kept.apart));
                 rises = rises_set (nat_eq s) Hole 0 slots next held.kept.rises;
-                apart = subst (λ (es : List (K × V)). IsDistinct eq (keys_of es)) (sym entries) (apart_cut eq k (entries_of slots) held.kept.apart);
+                apart = subst (λ (es : List (K × V)). IsDistinct eq (keys_of es)) (sym entries) (apart_cut eq q (entries_of slots) held.kept.apart);
               };
-              climbs = climbs_remove o ps r held.climbs;
+              climbs = climbs_cut (eq q) ps held.climbs;
             },
             entries,
             new,
           )
-        where
-          here : (b : Bool) → is_eq (order_at R slots k (get_or order r 0)) ≡ b → is_eq (order_at R slots k (get_or order r 0)) ≡ true
-          here true e = e
-          here false e = absurd (some_not_none (i ∙ sym (serial_nowhere o slots order next held k r bound point (λ l. e))))
 
-  pub ordered_squeezed : (slots : List (ℕ × Slot K V)) (order : List ℕ) (next : ℕ) → IsOrdered eq R slots order next → IsOrdered eq R (filter (λ (r : ℕ × Slot K V). is_entry r.1) slots) order next
-  ordered_squeezed slots order next held =
+module _ {K V : Type 0} {eq : K → K → Bool} {R : K → K → Ordering} (slots : List (ℕ × Slot K V)) (order : List ℕ) where
+  pub empty_ordered : slots ≡ [] → order ≡ [] → IsOrdered eq R slots order 0
+  unfolding IsDistinct
+  empty_ordered e f =
+      record {
+        pairs = [];
+        order_is = f;
+        kept = subst (λ (l : List (ℕ × Slot K V)). IsKept eq l [] 0) (sym e) (record { found = λ k. refl; rises = omega arith; apart = tt });
+        climbs = tt;
+      }
+
+  pub ordered_squeezed : (next : ℕ) → IsOrdered eq R slots order next → IsOrdered eq R (filter (λ (r : ℕ × Slot K V). is_entry r.1) slots) order next
+  ordered_squeezed next held =
       record {
         pairs = held.pairs;
         order_is = held.order_is;

@@ -1,8 +1,7 @@
 use Rattle.std.proofs.Common.{◌∙◌, sym, ap, nat_eq}
-use Rattle.std.proofs.lemmas.Map.{none_passes_from_lookup}
 use Rattle.ctl_ordered.specs.declared.slot.Slot.TheVariants.{Hole}
 use Rattle.ctl_ordered.proofs.SlotLemmas.{set_none}
 use Rattle.ctl_ordered.proofs.ordered.empty_slot.Goals as goal
 
 pub returns-in-None : goal.returns-in-None
-returns-in-None g c = ap (λ m. m.entries) c.get_mut.follows.holds-at-none ∙ sym (set_none (nat_eq c.args.serial) c.args.slots.now.entries Hole (none_passes_from_lookup (nat_eq c.args.serial) c.args.slots.now.entries (sym c.in-None.ensures.value)))
+returns-in-None g c = ap (λ m. m.entries) c.get_mut.follows.holds-at-none ∙ sym (set_none (nat_eq c.args.serial) c.args.slots.now.entries Hole (sym c.in-None.ensures.value))

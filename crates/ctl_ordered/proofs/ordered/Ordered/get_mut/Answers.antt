@@ -5,7 +5,7 @@ use Rattle.ctl_ordered.specs.Slots.{entries_of, rows_of}
 use Rattle.ctl_ordered.specs.Ordered.{entries, room_of, set_row, IsOrdered}
 use Rattle.ctl_ordered.proofs.SlotLemmas.{to_lent}
 use Rattle.std.proofs.lemmas.Map.Steps.{set_value_same}
-use Rattle.ctl_ordered.proofs.OrderLemmas.{key_order, ordered_set, ordered_lent, ordered_value, ordered_gap, ordered_no_value}
+use Rattle.ctl_ordered.proofs.OrderLemmas.{key_order, ordered_set, ordered_value, ordered_gap, ordered_no_value}
 use Rattle.ctl_ordered.proofs.ordered.Ordered.get_mut.Goals as goal
 
 pub invariant_of-self-lent : goal.invariant_of-self-lent
@@ -20,8 +20,7 @@ invariant_of-self-lent g c r =
     let here = c.value_mut.follows in
     let there = c.get_mut.follows in (
       (λ w.
-          let lent = ordered_lent order o.slots.entries o.order.items o.next c.self.invariant k s slot c.value_mut.result i at c.value_mut.ensures.value (here.holds w) in
-          let set = ordered_set order o.slots.entries o.order.items o.next c.self.invariant k w s slot (here.lender w) i at lent in
+          let set = ordered_set order o.slots.entries o.order.items o.next c.self.invariant k w s slot (here.lender w) c.value_mut.result i at c.value_mut.ensures.value (here.holds w) in
           subst (λ slots. IsOrdered g.K.PartialEq.eq g.K.Ord.cmp slots o.order.items o.next) (sym (there.holds (here.lender w)).0) set.0),
       let same = (there.holds here.lender-at-none).0 ∙ ap (λ x. set_value (nat_eq s) o.slots.entries x) here.holds-at-none ∙ set_value_same (nat_eq s) o.slots.entries slot (sym at) in
           subst (λ slots. IsOrdered g.K.PartialEq.eq g.K.Ord.cmp slots o.order.items o.next) (sym same) c.self.invariant,
@@ -44,8 +43,7 @@ returns-in-Some g c =
         refl,
         (λ w.
             let wrote = there.holds (here.lender w) in
-            let lent = ordered_lent order o.slots.entries o.order.items o.next c.self.invariant k s slot c.value_mut.result i at c.value_mut.ensures.value (here.holds w) in
-            let set = ordered_set order o.slots.entries o.order.items o.next c.self.invariant k w s slot (here.lender w) i at lent in
+            let set = ordered_set order o.slots.entries o.order.items o.next c.self.invariant k w s slot (here.lender w) c.value_mut.result i at c.value_mut.ensures.value (here.holds w) in
             to_lent c.value_mut.result (record {
               entries = ap entries_of wrote.0 ∙ set.1 ∙ ap (λ v. set_value (eq k) (entries v) w) c.self.view_is;
               rows = ap rows_of wrote.0 ∙ set.2 ∙ ap (λ v. set_row (eq k) v.rows w) c.self.view_is;

@@ -2,14 +2,13 @@ use Rattle.std.proofs.Common.{◌∙◌, ap, sym, subst}
 use Rattle.ctl_ordered.specs.Slots.{rows_of}
 use Rattle.ctl_ordered.specs.Ordered.{IsOrdered}
 use Rattle.ctl_ordered.proofs.SlotLemmas.{rows_squeezed}
-use Rattle.ctl_ordered.proofs.OrderLemmas.{key_order, ordered_squeezed}
+use Rattle.ctl_ordered.proofs.OrderLemmas.{ordered_squeezed}
 use Rattle.ctl_ordered.proofs.ordered.Ordered.squeeze.Goals as goal
 
 pub invariant_of-self : goal.invariant_of-self
 invariant_of-self g c =
     let o = c.self.inside in
-    let order = key_order g.met.K.Eq.laws g.met.K.Ord.total g.met.K.Ord.matches_eq in
-    subst (λ rs. IsOrdered g.K.PartialEq.eq g.K.Ord.cmp rs o.order.items o.next) (sym c.drop_holes.ensures) (ordered_squeezed order o.slots.entries o.order.items o.next c.self.invariant)
+    subst (λ rs. IsOrdered g.K.PartialEq.eq g.K.Ord.cmp rs o.order.items o.next) (sym c.drop_holes.ensures) (ordered_squeezed o.slots.entries o.order.items o.next c.self.invariant)
 
 pub returns-then-len-clause-rows : goal.returns-then-len-clause-rows
 returns-then-len-clause-rows g c = ap rows_of c.drop_holes.ensures ∙ rows_squeezed c.self.inside.slots.entries ∙ ap (λ v. v.rows) c.self.view_is
