@@ -6,24 +6,22 @@ use Rattle.ctl_store.specs.declared.refusal.Refusal.{Refusal}
 use Rattle.ctl_store.specs.Named.{at_name, without_name, change_named, has_name}
 use Rattle.ctl_store.specs.State.{StanzaList, State, stanza_count, count_of_kind, status_count}
 use Rattle.ctl_store.specs.Edits.{Edit, AddList, DropList, Put, Remove}
-use Rattle.ctl_store.specs.Step.{when, changed, after, misfit_of, is_past, refusal_of, place, is_same, is_same_kind, put_at, put_stanza, remove_stanza, takes_kind, with_stanzas, has_stanza, count_coming, has_status}
+use Rattle.ctl_store.specs.Step.{when, changed, after, misfit_of, is_past, refusal_of, place, is_same, put_at, put_stanza, remove_stanza, takes_kind, with_stanzas, has_stanza, count_coming, has_status}
 use Rattle.std.proofs.lemmas.Bool.Decides.{nat_tests}
 use Rattle.std.proofs.lemmas.List.Edits.{length-remove}
 use Rattle.ctl_stanza.specs.declared.list_kind.ListKind.{ListKind}
 use Rattle.ctl_stanza.specs.Content.{Content, package_of, version_of}
-use Rattle.ctl_store.proofs.PlaceLemmas.{place_within, some_is}
+use Rattle.ctl_store.proofs.PlaceLemmas.{place_within, some_is, some_of}
 use Rattle.ctl_store.specs.declared.list_class.ListClass.{ListClass}
 use Rattle.ctl_store.specs.Keys.{KeyedList, key_of, keys_of, stanzas_of, stanza_list, stanza_lists, all_in}
 use Rattle.ctl_store.specs.Store.{HeldList, lists_of}
 use Rattle.ctl_store.proofs.ListedLemmas.{has_name_lists, has_name_held, at_name-stanza_lists}
 
-left_none : {X : Type 0} (a b : Option X) → option_or a b ≡ None → a ≡ None
-left_none None b e = refl
-left_none (Some x) b e = cc
+left_none : (a b : Option Refusal) → option_or a b ≡ None → a ≡ None
+left_none a b e = grind arith
 
-right_none : {X : Type 0} (a b : Option X) → option_or a b ≡ None → b ≡ None
-right_none None b e = e
-right_none (Some x) b e = cc
+right_none : (a b : Option Refusal) → option_or a b ≡ None → b ≡ None
+right_none a b e = grind arith
 
 when_none : (b : Bool) (why : Refusal) → when b why ≡ None → b ≡ false
 when_none b why e = grind arith
@@ -78,11 +76,8 @@ count-remove_le list name version [] = omega arith
 count-remove_le list name version (l ∷ ls) = grind (arith, remove-length, count-remove_le list name version ls)
 
 count-put : (list : List ℕ) (x : Content) (ls : List (List ℕ × StanzaList)) → has_name list ls ≡ true → stanza_count (change_named list (with_stanzas (put_stanza x)) ls) ≡ stanza_count ls + cond (has_stanza list (package_of x) (version_of x) ls) 0 1
-count-put list x ls e = by (at_name list ls) refl e
-  where
-    by : (o : Option StanzaList) → at_name list ls ≡ o → is_some o ≡ true → stanza_count (change_named list (with_stanzas (put_stanza x)) ls) ≡ stanza_count ls + cond (option_map_or (λ (l : StanzaList). is_some (place (is_same (package_of x) (version_of x)) l.stanzas)) o false) 0 1
-    by None was e = cc
-    by (Some l) was e = omega (arith, count-change list (with_stanzas (put_stanza x)) ls l was, put-length x l.stanzas)
+count-put list x ls e =
+    let l = some_of (at_name list ls) e in omega (arith, count-change list (with_stanzas (put_stanza x)) ls l.0 l.1, put-length x l.0.stanzas, ap {B = ℕ} (λ o. cond (option_map_or (λ (l : StanzaList). is_some (place (is_same (package_of x) (version_of x)) l.stanzas)) o false) 0 1) l.1)
 
 pub no_refusal : (b : Bool) (why : Refusal) → when (not b) why ≡ None → b ≡ true
 no_refusal b why e = grind arith
@@ -97,11 +92,7 @@ fewer_past : (limit count after : ℕ) → count ≤ limit → after ≤ count �
 fewer_past limit count after l e = grind (arith, nat_tests)
 
 named : (kind : ListKind) (name : List ℕ) (ls : List (List ℕ × StanzaList)) → takes_kind kind name ls ≡ true → has_name name ls ≡ true
-named kind name ls e = by (at_name name ls) e
-  where
-    by : (o : Option StanzaList) → option_map_or (λ (l : StanzaList). is_same_kind kind l.kind) o false ≡ true → is_some o ≡ true
-    by None e = cc
-    by (Some l) e = refl
+named kind name ls e = grind arith
 
 stanzas_past : (limit : ℕ) (s : State) (edit : Edit) → misfit_of s edit ≡ None → stanza_count s.lists ≤ limit → nat_lt limit (stanza_count (changed s edit).lists) ≡ nat_lt (limit - stanza_count s.lists) (count_coming s edit)
 stanzas_past limit s (AddList name kind class stanzas) e l = more_past limit (stanza_count s.lists) (length stanzas) _ l (count-push s.lists name (record { kind = kind; class = class; stanzas = stanzas }))
@@ -115,27 +106,14 @@ past_is limits s edit e l = grind (arith, stanzas_past, edits_past)
 
 -- ---- what an accepted edit finds, and how many stanzas are there after it
 
-pub no_when : (b : Bool) (why : Refusal) → when b why ≡ None → b ≡ false
-no_when b why e = grind arith
-
-first : (a b : Option Refusal) → option_or a b ≡ None → a ≡ None
-first a b e = grind arith
-
-pub second : (a b : Option Refusal) → option_or a b ≡ None → b ≡ None
-second a b e = grind arith
-
-some : {X : Type 0} (o : Option X) → is_some o ≡ true → (x : X) × (o ≡ Some x)
-some None e = cc
-some (Some x) e = (x, refl)
-
 pub add_new : (limits : Limits) (s : State) (name : List ℕ) (kind : ListKind) (class : ListClass) (xs : List Content) → refusal_of limits s (AddList name kind class xs) ≡ None → has_name name s.lists ≡ false
-add_new limits s name kind class xs e = no_when _ _ (first _ _ (accepted_fits limits s (AddList name kind class xs) e))
+add_new limits s name kind class xs e = when_none _ _ (left_none _ _ (accepted_fits limits s (AddList name kind class xs) e))
 
 pub add_fits : (limits : Limits) (s : State) (name : List ℕ) (kind : ListKind) (class : ListClass) (xs : List Content) → refusal_of limits s (AddList name kind class xs) ≡ None → stanza_count s.lists + length xs ≤ limits.stanzas
 add_fits limits s name kind class xs e = omega (arith, accepted_stanzas limits s (AddList name kind class xs) e, count-push s.lists name (record { kind = kind; class = class; stanzas = xs }))
 
 pub drop_found : (limits : Limits) (s : State) (name : List ℕ) → refusal_of limits s (DropList name) ≡ None → (l : StanzaList) × (at_name name s.lists ≡ Some l)
-drop_found limits s name e = some (at_name name s.lists) (no_refusal _ _ (accepted_fits limits s (DropList name) e))
+drop_found limits s name e = some_of (at_name name s.lists) (no_refusal _ _ (accepted_fits limits s (DropList name) e))
 
 pub count_below : (s : State) (name : List ℕ) (l : StanzaList) → at_name name s.lists ≡ Some l → length l.stanzas ≤ stanza_count s.lists
 count_below s name l e = omega (arith, count-without name s.lists l e)
@@ -152,21 +130,17 @@ keys_count name ls l e = by (at_name name ls) (sym (at_name-stanza_lists name ls
     by None e = cc e
     by (Some k) e = rows_count k.serial k.rows ∙ ap (λ (l : StanzaList). length l.stanzas) (some_is e)
 
-taken : (o : Option StanzaList) (f : StanzaList → Bool) → option_map_or f o false ≡ true → (l : StanzaList) × (o ≡ Some l)
-taken None f e = cc
-taken (Some l) f e = (l, refl)
-
 pub put_takes : (limits : Limits) (s : State) (list : List ℕ) (x : Content) → refusal_of limits s (Put list x) ≡ None → takes_kind x.kind list s.lists ≡ true
 put_takes limits s list x e = no_refusal _ _ (accepted_fits limits s (Put list x) e)
 
 pub put_found : (limits : Limits) (s : State) (list : List ℕ) (x : Content) → refusal_of limits s (Put list x) ≡ None → (l : StanzaList) × (at_name list s.lists ≡ Some l)
-put_found limits s list x e = taken (at_name list s.lists) (λ (l : StanzaList). is_same_kind x.kind l.kind) (put_takes limits s list x e)
+put_found limits s list x e = some_of (at_name list s.lists) (named x.kind list s.lists (put_takes limits s list x e))
 
 pub remove_found : (limits : Limits) (s : State) (list name version : List ℕ) → refusal_of limits s (Remove list name version) ≡ None → (l : StanzaList) × (at_name list s.lists ≡ Some l)
-remove_found limits s list name version e = some (at_name list s.lists) (no_refusal _ _ (first _ _ (accepted_fits limits s (Remove list name version) e)))
+remove_found limits s list name version e = some_of (at_name list s.lists) (no_refusal _ _ (left_none _ _ (accepted_fits limits s (Remove list name version) e)))
 
 has_it : (limits : Limits) (s : State) (list name version : List ℕ) → refusal_of limits s (Remove list name version) ≡ None → has_stanza list name (Some version) s.lists ≡ true
-has_it limits s list name version e = no_refusal _ _ (second _ _ (accepted_fits limits s (Remove list name version) e))
+has_it limits s list name version e = no_refusal _ _ (right_none _ _ (accepted_fits limits s (Remove list name version) e))
 
 has_is : (s : State) (list name : List ℕ) (version : Option (List ℕ)) (l : StanzaList) → at_name list s.lists ≡ Some l → has_stanza list name version s.lists ≡ is_some (place (is_same name version) l.stanzas)
 has_is s list name version l e = ap (λ o. option_map_or (λ (l : StanzaList). is_some (place (is_same name version) l.stanzas)) o false) e
@@ -208,7 +182,7 @@ has_status-counted (l ∷ ls) = grind (arith, has_status-counted ls)
 -- a status list comes only where there is none
 pub add_statuses : (limits : Limits) (s : State) (name : List ℕ) (kind : ListKind) (class : ListClass) (xs : List Content) → refusal_of limits s (AddList name kind class xs) ≡ None
     → (n : ℕ) → status_count s.lists ≤ n → 1 ≤ n → status_count s.lists + count_of_kind kind ≤ n
-add_statuses limits s name kind class xs e n l one = grind (arith, no_when, second, accepted_fits, nat_tests, has_status-counted)
+add_statuses limits s name kind class xs e n l one = grind (arith, when_none, right_none, accepted_fits, nat_tests, has_status-counted)
 
 -- the count of a list that is there is among them
 pub kind_below : (name : List ℕ) (ls : List (List ℕ × StanzaList)) (l : StanzaList) → at_name name ls ≡ Some l → count_of_kind l.kind ≤ status_count ls

@@ -3,7 +3,6 @@ use Rattle.std.proofs.Common.{◌≡◌, ℕ, zero, suc, ◌+◌, ◌<◌, ◌�
 use Rattle.std.specs.List.{AllByRecursion, remove, slice_get}
 use Rattle.std.specs.Map.{lookup}
 use Rattle.std.specs.Option.{option_map_or}
-use Rattle.std.specs.Str.{bytes_eq}
 use Rattle.ctl_stanza.specs.Content.{Content, package_of, version_of}
 use Rattle.ctl_store.specs.declared.stanza_key.StanzaKey.{StanzaKey}
 use Rattle.ctl_store.specs.Named.{at_name, without_name, change_named}
@@ -14,7 +13,7 @@ use Rattle.ctl_store.specs.Keys.{KeyedList, Keyed, key_of, keys_of, key_at, key_
 use Rattle.ctl_store.specs.Inside.Held.{InOrder}
 use Rattle.std.proofs.lemmas.Bool.{and_parts, and_from}
 use Rattle.ctl_store.proofs.PlaceLemmas.{eq_is, lt_ne, gt_ne, is_eq_from, or_none, all_map}
-use Rattle.ctl_store.proofs.KeyLemmas.{not_none, keys_held, either_first, either_second, first_is, later_is, in_some, none_later}
+use Rattle.ctl_store.proofs.KeyLemmas.{not_none, keys_held, held_in, first_is, later_is, in_some, none_later}
 use Rattle.ctl_ordered.proofs.SlotLemmas.{rises_end}
 
 abbrev pub stanza_in : ℕ → List (ℕ × Content) → Option Content
@@ -199,22 +198,21 @@ some_there list (r ∷ rs) zero = (first_is (nat_eq list list) (nat_eq r.0 r.0) 
 some_there list (r ∷ rs) (suc i) = all_map (λ k h. later_is (nat_eq list k.list) (nat_eq r.0 k.stanza) r.1 (lookup (λ s. nat_eq s k.stanza) rs) h) (map (λ (r : ℕ × Content). key_of list r.0) (take 1 (drop i rs))) (some_there list rs i)
 
 found_held : (name : List ℕ) (version : Option (List ℕ)) (list : List ℕ) (ls : List (List ℕ × KeyedList)) → AreHeld (option_map_or (found_key name version) (at_name list ls) []) ls
-found_held name version list [] = tt
-found_held name version list (l ∷ ls) = by (bytes_eq list l.0) (found_held name version list ls)
+found_held name version list ls = held_in (found_key name version) (λ l. at_place l (place (by_name_and_version name version) l.rows)) list ls
   where
-    at_place : (o : Option ℕ) → AreHeld (key_at l.1 o) (l ∷ ls)
-    at_place None = tt
-    at_place (Some i) = all_map (λ k g. either_first (in_rows k l.1) (stanza_at k ls) g) (key_at l.1 (Some i)) (some_there l.1.serial l.1.rows i)
-
-    by : (b : Bool) → AreHeld (option_map_or (found_key name version) (at_name list ls) []) ls → AreHeld (option_map_or (found_key name version) (cond b (Some l.1) (at_name list ls)) []) (l ∷ ls)
-    by true h = at_place (place (by_name_and_version name version) l.1.rows)
-    by false h = all_map (λ k g. either_second (in_rows k l.1) (stanza_at k ls) g) (option_map_or (found_key name version) (at_name list ls) []) h
+    at_place : (l : KeyedList) (o : Option ℕ) → AllByRecursion (in_some l.serial l.rows) (key_at l o)
+    at_place l None = tt
+    at_place l (Some i) = some_there l.serial l.rows i
 
 pub removed_held : (s : Keyed) (edit : Edit) → AreHeld (removed_of s edit) s.lists
 removed_held s (DropList name) = keys_held name s.lists
 removed_held s (Put list x) = found_held (package_of x) (version_of x) list s.lists
 removed_held s (Remove list name version) = found_held name (Some version) list s.lists
 removed_held s edit = tt
+
+-- what holds of a store and of keys holds of their equals
+pub moved : (P : Keyed → List StanzaKey → List StanzaKey → Type 0) {s t : Keyed} {r a removed added : List StanzaKey} → t ≡ s → removed ≡ r → added ≡ a → P s r a → P t removed added
+moved P {s} {t} {r} {a} {removed} {added} e f g h = subst (λ t. P t removed added) (sym e) (subst (λ ks. P s ks added) (sym f) (subst (P s r) (sym g) h))
 
 -- a key that has a stanza and doesn't go doesn't come
 pub not_added : (k : StanzaKey) (added removed : List StanzaKey) (ls : List (List ℕ × KeyedList)) → AreNew added removed ls → IsSome (stanza_at k ls) → IsNotAmong k removed → IsNotAmong k added

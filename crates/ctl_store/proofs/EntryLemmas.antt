@@ -38,42 +38,28 @@ record Cut (before after : List Entry) (removed added : List StanzaKey) : Type 0
   removed_are : entry_keys gone ≡ removed
   added_are : entry_keys come ≡ added
 
-uncut : (es : List Entry) → Cut es es [] []
-uncut es = record {
-  gone = [];
-  come = [];
-  spliced = record { head = es; tail = []; before_is = sym (append-nil es); after_is = sym (append-nil es) };
-  removed_are = refl;
-  added_are = refl;
+cut : {before after : List Entry} {removed added : List StanzaKey} (head gone come tail : List Entry) → before ≡ head ++ (gone ++ tail) → after ≡ head ++ (come ++ tail) → entry_keys gone ≡ removed → entry_keys come ≡ added
+    → Cut before after removed added
+cut head gone come tail before_is after_is removed_are added_are = record {
+  gone = gone;
+  come = come;
+  spliced = record { head = head; tail = tail; before_is = before_is; after_is = after_is };
+  removed_are = removed_are;
+  added_are = added_are;
 }
+
+uncut : (es : List Entry) → Cut es es [] []
+uncut es = cut [] [] [] es refl refl refl refl
 
 after_head : (p b a : List Entry) (r k : List StanzaKey) → Cut b a r k → Cut (p ++ b) (p ++ a) r k
-after_head p b a r k c = record {
-  gone = c.gone;
-  come = c.come;
-  spliced = record {
-    head = p ++ c.spliced.head;
-    tail = c.spliced.tail;
-    before_is = ap (λ z. p ++ z) c.spliced.before_is ∙ sym (append_assoc p c.spliced.head (c.gone ++ c.spliced.tail));
-    after_is = ap (λ z. p ++ z) c.spliced.after_is ∙ sym (append_assoc p c.spliced.head (c.come ++ c.spliced.tail));
-  };
-  removed_are = c.removed_are;
-  added_are = c.added_are;
-}
+after_head p b a r k c =
+    let s = c.spliced in
+    cut (p ++ s.head) c.gone c.come s.tail (ap (λ z. p ++ z) s.before_is ∙ sym (append_assoc p s.head (c.gone ++ s.tail))) (ap (λ z. p ++ z) s.after_is ∙ sym (append_assoc p s.head (c.come ++ s.tail))) c.removed_are c.added_are
 
 before_tail : (b a q : List Entry) (r k : List StanzaKey) → Cut b a r k → Cut (b ++ q) (a ++ q) r k
-before_tail b a q r k c = record {
-  gone = c.gone;
-  come = c.come;
-  spliced = record {
-    head = c.spliced.head;
-    tail = c.spliced.tail ++ q;
-    before_is = ap (λ z. z ++ q) c.spliced.before_is ∙ longer c.spliced.head c.gone c.spliced.tail q;
-    after_is = ap (λ z. z ++ q) c.spliced.after_is ∙ longer c.spliced.head c.come c.spliced.tail q;
-  };
-  removed_are = c.removed_are;
-  added_are = c.added_are;
-}
+before_tail b a q r k c =
+    let s = c.spliced in
+    cut s.head c.gone c.come (s.tail ++ q) (ap (λ z. z ++ q) s.before_is ∙ longer s.head c.gone s.tail q) (ap (λ z. z ++ q) s.after_is ∙ longer s.head c.come s.tail q) c.removed_are c.added_are
 
 -- ---- rows
 
@@ -88,35 +74,18 @@ module _ (list : ℕ) where
   replaced : (rows : List (ℕ × Content)) (i : ℕ) (x : Content) → Cut (rows_under list rows) (rows_under list (replace_at rows i x)) (keys_there i rows) (keys_there i rows)
   replaced [] zero x = uncut []
   replaced [] (suc i) x = uncut []
-  replaced (r ∷ rows) zero x = record {
-    gone = (key_of list r.0, r.1) ∷ [];
-    come = (key_of list r.0, x) ∷ [];
-    spliced = record { head = []; tail = rows_under list rows; before_is = refl; after_is = refl };
-    removed_are = refl;
-    added_are = refl;
-  }
+  replaced (r ∷ rows) zero x = cut [] ((key_of list r.0, r.1) ∷ []) ((key_of list r.0, x) ∷ []) (rows_under list rows) refl refl refl refl
   replaced (r ∷ rows) (suc i) x = after_head ((key_of list r.0, r.1) ∷ []) (rows_under list rows) (rows_under list (replace_at rows i x)) (keys_there i rows) (keys_there i rows) (replaced rows i x)
 
   taken : (rows : List (ℕ × Content)) (i : ℕ) → Cut (rows_under list rows) (rows_under list (remove rows i)) (keys_there i rows) []
   taken [] zero = uncut []
   taken [] (suc i) = uncut []
-  taken (r ∷ rows) zero = record {
-    gone = (key_of list r.0, r.1) ∷ [];
-    come = [];
-    spliced = record { head = []; tail = rows_under list rows; before_is = refl; after_is = refl };
-    removed_are = refl;
-    added_are = refl;
-  }
+  taken (r ∷ rows) zero = cut [] ((key_of list r.0, r.1) ∷ []) [] (rows_under list rows) refl refl refl refl
   taken (r ∷ rows) (suc i) = after_head ((key_of list r.0, r.1) ∷ []) (rows_under list rows) (rows_under list (remove rows i)) (keys_there i rows) [] (taken rows i)
 
   pushed : (rows : List (ℕ × Content)) (next : ℕ) (x : Content) → Cut (rows_under list rows) (rows_under list (rows ++ (next, x) ∷ [])) [] (key_of list next ∷ [])
-  pushed rows next x = record {
-    gone = [];
-    come = (key_of list next, x) ∷ [];
-    spliced = record { head = rows_under list rows; tail = []; before_is = sym (append-nil (rows_under list rows)); after_is = map-append (λ (row : ℕ × Content). (key_of list row.0, row.1)) rows ((next, x) ∷ []) };
-    removed_are = refl;
-    added_are = refl;
-  }
+  pushed rows next x =
+      cut (rows_under list rows) [] ((key_of list next, x) ∷ []) [] (sym (append-nil (rows_under list rows))) (map-append (λ (row : ℕ × Content). (key_of list row.0, row.1)) rows ((next, x) ∷ [])) refl refl
 
 -- ---- lists
 
@@ -156,13 +125,7 @@ dropped name (l ∷ ls) = by (bytes_eq name l.0) (dropped name ls)
   where
     by : (b : Bool) → Cut (entries_of ls) (entries_of (without_name name ls)) (option_map_or keys_of (at_name name ls) []) []
         → Cut (entries_of (l ∷ ls)) (entries_of (cond b ls (l ∷ without_name name ls))) (option_map_or keys_of (cond b (Some l.1) (at_name name ls)) []) []
-    by true c = record {
-      gone = entries_in l.1;
-      come = [];
-      spliced = record { head = []; tail = entries_of ls; before_is = refl; after_is = refl };
-      removed_are = keys_under l.1.serial l.1.rows;
-      added_are = refl;
-    }
+    by true c = cut [] (entries_in l.1) [] (entries_of ls) refl refl (keys_under l.1.serial l.1.rows) refl
     by false c = after_head (entries_in l.1) (entries_of ls) (entries_of (without_name name ls)) (option_map_or keys_of (at_name name ls) []) [] c
 
 last_entries : (ls : List (List ℕ × KeyedList)) (name : List ℕ) (l : KeyedList) → entries_of (ls ++ (name, l) ∷ []) ≡ entries_of ls ++ (entries_in l ++ [])
@@ -170,21 +133,19 @@ last_entries [] name l = refl
 last_entries (x ∷ ls) name l = ap (λ es. entries_in x.1 ++ es) (last_entries ls name l) ∙ sym (append_assoc (entries_in x.1) (entries_of ls) (entries_in l ++ []))
 
 new_cut : (ls : List (List ℕ × KeyedList)) (name : List ℕ) (l : KeyedList) → Cut (entries_of ls) (entries_of (ls ++ (name, l) ∷ [])) [] (keys_of l)
-new_cut ls name l = record {
-  gone = [];
-  come = entries_in l;
-  spliced = record { head = entries_of ls; tail = []; before_is = sym (append-nil (entries_of ls)); after_is = last_entries ls name l };
-  removed_are = refl;
-  added_are = keys_under l.serial l.rows;
-}
+new_cut ls name l = cut (entries_of ls) [] (entries_in l) [] (sym (append-nil (entries_of ls))) (last_entries ls name l) refl (keys_under l.serial l.rows)
+
+-- a change that takes out a stanza of a name and a version
+taken_cut : (list name : List ℕ) (version : Option (List ℕ)) (ls : List (List ℕ × KeyedList)) → Cut (entries_of ls) (entries_of (change_named list (remove_keyed name version) ls)) (option_map_or (found_key name version) (at_name list ls) []) []
+taken_cut list name version ls =
+    subst (λ ks. Cut (entries_of ls) (entries_of (change_named list (remove_keyed name version) ls)) (option_map_or (found_key name version) (at_name list ls) []) ks) (sym (none_in (at_name list ls)))
+    (changed list (remove_keyed name version) (found_key name version) no_keys (remove_cut name version) ls)
 
 edit_cut : (s : Keyed) (edit : Edit) → Cut (entries_of s.lists) (entries_of (keyed_after s edit).lists) (removed_of s edit) (added_of s edit)
 edit_cut s (AddList name kind class stanzas) = new_cut s.lists name (list_of_stanzas s.next_list kind class stanzas)
 edit_cut s (DropList name) = dropped name s.lists
 edit_cut s (Put list x) = changed list (put_keyed x) (found_key (package_of x) (version_of x)) (put_key x) (put_cut x) s.lists
-edit_cut s (Remove list name version) =
-    subst (λ ks. Cut (entries_of s.lists) (entries_of (change_named list (remove_keyed name (Some version)) s.lists)) (option_map_or (found_key name (Some version)) (at_name list s.lists) []) ks) (sym (none_in (at_name list s.lists)))
-    (changed list (remove_keyed name (Some version)) (found_key name (Some version)) no_keys (remove_cut name (Some version)) s.lists)
+edit_cut s (Remove list name version) = taken_cut list name (Some version) s.lists
 edit_cut s edit = uncut (entries_of s.lists)
 
 -- ---- the entries and the keys
@@ -303,11 +264,6 @@ keyed_between ls (DropList name) = without_name name ls
 keyed_between ls (Put list x) = change_named list (remove_keyed (package_of x) (version_of x)) ls
 keyed_between ls (Remove list name version) = change_named list (remove_keyed name (Some version)) ls
 keyed_between ls edit = ls
-
-taken_cut : (list name : List ℕ) (version : Option (List ℕ)) (ls : List (List ℕ × KeyedList)) → Cut (entries_of ls) (entries_of (change_named list (remove_keyed name version) ls)) (option_map_or (found_key name version) (at_name list ls) []) []
-taken_cut list name version ls =
-    subst (λ ks. Cut (entries_of ls) (entries_of (change_named list (remove_keyed name version) ls)) (option_map_or (found_key name version) (at_name list ls) []) ks) (sym (none_in (at_name list ls)))
-    (changed list (remove_keyed name version) (found_key name version) no_keys (remove_cut name version) ls)
 
 between_cut : (s : Keyed) (edit : Edit) → Cut (entries_of s.lists) (entries_of (keyed_between s.lists edit)) (removed_of s edit) []
 between_cut s (DropList name) = dropped name s.lists

@@ -9,14 +9,14 @@ use Rattle.ctl_store.specs.Keys.{Keyed, key_of, added_of, AreComing, KeyedList, 
 use Rattle.std.specs.Map.{lookup}
 use Rattle.std.specs.Option.{option_or, option_map_or}
 use Rattle.std.specs.declared.cmp.Ordering.TheVariants.{Less}
-use Rattle.std.proofs.lemmas.Bool.{or_left, or_right, and_from}
+use Rattle.std.proofs.lemmas.Bool.{or_left, or_right, and_from, and_parts, ltb-true}
 use Rattle.std.proofs.lemmas.Bool.Decides.{nat_tests}
 use Rattle.std.proofs.lemmas.List.Sums.{sum_by-append}
 use Rattle.ctl_store.specs.Named.{at_name, without_name, change_named}
 use Rattle.ctl_store.specs.Entries.{Entry, rows_under, entries_in, entries_of, entry_keys, AreAt, is_among, without_keys, entries_by, entries_coming, IsChange}
 use Rattle.ctl_store.specs.Followed.{under, AreApart, AreDistinctKeys, coming_under, shown_under, IsFollowed}
 use Rattle.ctl_store.specs.Inside.Held.{coming_among, InOrder}
-use Rattle.ctl_store.proofs.PlaceLemmas.{is_eq_from, all_map, all_append, all_front, all_back, turned}
+use Rattle.ctl_store.proofs.PlaceLemmas.{is_eq_from, gt_ne, all_map, all_zip, all_append, all_front, all_back, turned}
 use Rattle.ctl_store.proofs.EntryLemmas.{keys_are_all, less_is_no_other, order_after}
 use Rattle.ctl_store.proofs.ChangeLemmas.{is_itself, ends}
 use Rattle.ctl_store.specs.Given.{was_given, is_given, AreFirstGiven, IsGivenOnce}
@@ -41,10 +41,6 @@ added_come s edit = tt
 
 -- ---- an edit that is followed key by key ends in the stanzas after it
 
-all_both : {X : Type 0} (P Q R : X → Type 0) (xs : List X) → ((x : X) → P x → Q x → R x) → AllByRecursion P xs → AllByRecursion Q xs → AllByRecursion R xs
-all_both P Q R [] f p q = tt
-all_both P Q R (x ∷ xs) f p q = (f x p.0 q.0, all_both P Q R xs f p.1 q.1)
-
 key_is-turned : (a b : StanzaKey) → key_is a b ≡ key_is b a
 key_is-turned a b = λ i. turned b.list a.list i && turned b.stanza a.stanza i
 
@@ -67,8 +63,7 @@ own_under : (es : List Entry) → AreApart es → AllByRecursion (λ (e : Entry)
 own_under [] h = tt
 own_under (e ∷ es) h = (
   ap (λ b. cond b (Some e.1) (under e.0 es)) (is_itself e.0),
-  all_both (λ (d : Entry). key_is e.0 d.0 ≡ false) (λ (d : Entry). under d.0 es ≡ Some d.1) (λ (d : Entry). under d.0 (e ∷ es) ≡ Some d.1) es
-      (λ d apart is. ap (λ b. cond b (Some e.1) (under d.0 es)) (key_is-turned d.0 e.0 ∙ apart) ∙ is) h.0 (own_under es h.1),
+  all_zip (λ d apart is. ap (λ b. cond b (Some e.1) (under d.0 es)) (key_is-turned d.0 e.0 ∙ apart) ∙ is) es h.0 (own_under es h.1),
 )
 
 -- ---- keys that rise stand apart
@@ -146,7 +141,7 @@ own_among : (ks : List StanzaKey) → AllByRecursion (λ k. list_any (key_is k) 
 own_among [] = tt
 own_among (k ∷ ks) = (
   or_left (key_is k k) (list_any (key_is k) ks) (is_itself k),
-  all_both (λ q. list_any (key_is q) ks ≡ true) (λ q. list_any (key_is q) ks ≡ true) (λ q. list_any (key_is q) (k ∷ ks) ≡ true) ks (λ q h _. or_right (key_is q k) (list_any (key_is q) ks) h) (own_among ks) (own_among ks),
+  all_map (λ q h. or_right (key_is q k) (list_any (key_is q) ks) h) ks (own_among ks),
 )
 
 found_by : (find : StanzaKey → Option Content) (P : StanzaKey → Type 0) (ks : List StanzaKey) → AllByRecursion P ks → AllByRecursion (λ (e : Entry). P e.0 × (find e.0 ≡ Some e.1)) (entries_by find ks)
@@ -204,7 +199,7 @@ module _ (before after : List (List ℕ × KeyedList)) (removed added : List Sta
   apart_new = apart_front new change.entries.tail (apart_back change.entries.head (new ++ change.entries.tail) (subst AreApart change.entries.after_is apart_after))
 
   apart_then : AreApart (rest ++ new)
-  apart_then = grind (arith, apart_join, apart_without, apart_before, apart_new, all_both, apart_part, others)
+  apart_then = grind (arith, apart_join, apart_without, apart_before, apart_new, all_map, apart_part, others)
 
   distinct : AreDistinctKeys removed
   distinct = grind (arith, apart_back, apart_before, distinct_keys, apart_front)
@@ -213,13 +208,12 @@ module _ (before after : List (List ℕ × KeyedList)) (removed added : List Sta
   distinct_added = subst AreDistinctKeys change.added_keys (distinct_keys new apart_new)
 
   shown_rest : AllByRecursion (λ (e : Entry). shown_under before added edit e.0 ≡ Some e.1) rest
-  shown_rest = grind (arith, all_both, others, all_kept)
+  shown_rest = grind (arith, all_zip, others, all_kept)
 
   shown_new : AllByRecursion (λ (e : Entry). shown_under before added edit e.0 ≡ Some e.1) new
   shown_new =
-      let come = found_by (coming edit) (λ k. list_any (key_is k) added ≡ true) added (own_among added) in
-      all_both (λ (e : Entry). (list_any (key_is e.0) added ≡ true) × (coming edit e.0 ≡ Some e.1)) (λ (e : Entry). (list_any (key_is e.0) added ≡ true) × (coming edit e.0 ≡ Some e.1)) (λ (e : Entry). shown_under before added edit e.0 ≡ Some e.1) new
-      (λ e is _. ap (λ b. option_or (cond b (coming edit e.0) None) (stanza_at e.0 before)) is.0 ∙ ap (λ o. option_or o (stanza_at e.0 before)) is.1) come come
+      all_map (λ e is. ap (λ b. option_or (cond b (coming edit e.0) None) (stanza_at e.0 before)) is.0 ∙ ap (λ o. option_or o (stanza_at e.0 before)) is.1) new
+      (found_by (coming edit) (λ k. list_any (key_is k) added ≡ true) added (own_among added))
 
   own_new : AllByRecursion (λ (e : Entry). under e.0 (entries_of after) ≡ Some e.1) new
   own_new =
@@ -246,20 +240,11 @@ module _ (before after : List (List ℕ × KeyedList)) (removed added : List Sta
 lt_is : (a b : ℕ) → a < b → nat_lt a b ≡ true
 lt_is a b h = grind (arith, nat_tests, h)
 
-lt_from : (a b : ℕ) → nat_lt a b ≡ true → a < b
-lt_from a b h = grind (arith, nat_tests, h)
-
-not_below_itself : (a : ℕ) → nat_lt a a ≡ false
-not_below_itself a = grind (arith, nat_tests)
-
-and_parts : (a b : Bool) → (a && b) ≡ true → (a ≡ true) × (b ≡ true)
-and_parts a b h = grind arith
-
 and_false : (a b : Bool) → b ≡ false → (a && b) ≡ false
 and_false a b h = grind arith
 
-first_false : (a b : Bool) → a ≡ false → (a && b) ≡ false
-first_false a b h = grind arith
+not_below_itself : (a : ℕ) (b : Bool) → (nat_lt a a && b) ≡ false
+not_below_itself a b = grind (arith, nat_tests)
 
 -- a change of a list that keeps its serial, and gives more keys or as many
 record Grows (f : KeyedList → KeyedList) : Type 0 where
@@ -289,25 +274,19 @@ module _ (k : StanzaKey) where
   given_change name f g (x ∷ ls) h = grind (arith, given_change name f g ls)
 
   stays_given : (s : Keyed) (edit : Edit) → is_given s k ≡ true → is_given (keyed_after s edit) k ≡ true
-  stays_given s edit h = by edit
-    where
-      both : (nat_lt k.list s.next_list ≡ true) × (was_given k s.lists ≡ true)
-      both = and_parts (nat_lt k.list s.next_list) (was_given k s.lists) h
-
-      below : k.list < s.next_list
-      below = lt_from k.list s.next_list both.0
-
-      other : nat_eq s.next_list k.list ≡ false
-      other = grind (arith, nat_tests, below)
-
-      by : (edit : Edit) → is_given (keyed_after s edit) k ≡ true
-      by (AddList name kind class stanzas) =
-          and_from (nat_lt k.list (s.next_list + 1)) (was_given k (s.lists ++ (name, list_of_stanzas s.next_list kind class stanzas) ∷ [])) (lt_is k.list (s.next_list + 1) (omega (arith, below)))
-          (given_push s.lists name (list_of_stanzas s.next_list kind class stanzas) both.1 (ap (λ b. cond b (nat_lt k.stanza (list_of_stanzas s.next_list kind class stanzas).next) true) other))
-      by (DropList name) = and_from (nat_lt k.list s.next_list) (was_given k (without_name name s.lists)) both.0 (given_without name s.lists both.1)
-      by (Put list x) = and_from (nat_lt k.list s.next_list) (was_given k (change_named list (put_keyed x) s.lists)) both.0 (given_change list (put_keyed x) (Grows-put x) s.lists both.1)
-      by (Remove list name version) = and_from (nat_lt k.list s.next_list) (was_given k (change_named list (remove_keyed name (Some version)) s.lists)) both.0 (given_change list (remove_keyed name (Some version)) (Grows-remove name (Some version)) s.lists both.1)
-      by edit = h
+  stays_given s (AddList name kind class stanzas) h =
+      let both = and_parts (nat_lt k.list s.next_list) (was_given k s.lists) h in
+      let below = ltb-true k.list s.next_list both.0 in
+      and_from (nat_lt k.list (s.next_list + 1)) (was_given k (s.lists ++ (name, list_of_stanzas s.next_list kind class stanzas) ∷ [])) (lt_is k.list (s.next_list + 1) (omega (arith, below)))
+      (given_push s.lists name (list_of_stanzas s.next_list kind class stanzas) both.1 (ap (λ b. cond b (nat_lt k.stanza (list_of_stanzas s.next_list kind class stanzas).next) true) (gt_ne s.next_list k.list below)))
+  stays_given s (DropList name) h =
+      let both = and_parts (nat_lt k.list s.next_list) (was_given k s.lists) h in and_from (nat_lt k.list s.next_list) (was_given k (without_name name s.lists)) both.0 (given_without name s.lists both.1)
+  stays_given s (Put list x) h =
+      let both = and_parts (nat_lt k.list s.next_list) (was_given k s.lists) h in and_from (nat_lt k.list s.next_list) (was_given k (change_named list (put_keyed x) s.lists)) both.0 (given_change list (put_keyed x) (Grows-put x) s.lists both.1)
+  stays_given s (Remove list name version) h =
+      let both = and_parts (nat_lt k.list s.next_list) (was_given k s.lists) h in and_from (nat_lt k.list s.next_list) (was_given k (change_named list (remove_keyed name (Some version)) s.lists)) both.0
+      (given_change list (remove_keyed name (Some version)) (Grows-remove name (Some version)) s.lists both.1)
+  stays_given s edit h = h
 
   -- ---- a key that has a stanza was given
 
@@ -338,7 +317,7 @@ new_in list l (x ∷ ls) at = grind (arith, new_in list l ls)
 
 new_first : (s : Keyed) (rs : List (ℕ × Content)) → AreFirstGiven s (map (λ (row : ℕ × Content). key_of s.next_list row.0) rs) []
 new_first s [] = tt
-new_first s (r ∷ rs) = ((λ h. first_false (nat_lt s.next_list s.next_list) (was_given (key_of s.next_list r.0) s.lists) (not_below_itself s.next_list)), new_first s rs)
+new_first s (r ∷ rs) = ((λ h. not_below_itself s.next_list (was_given (key_of s.next_list r.0) s.lists)), new_first s rs)
 
 put_new : (s : Keyed) (list : List ℕ) (x : Content) (o : Option KeyedList) → at_name list s.lists ≡ o → AreFirstGiven s (option_map_or (put_key x) o []) (option_map_or (found_key (package_of x) (version_of x)) o [])
 put_new s list x o at = grind (arith, and_false, new_in, is_itself, all_map)

@@ -1,5 +1,5 @@
 -- The order of keys is the order of the lists and of the stanzas in them.
-use Rattle.std.proofs.Common.{◌≡◌, ℕ, ◌<◌, suc, List, [], ◌∷◌, ◌++◌, map, arith, ◌∙◌, Bool, true, false, cond, nat_eq, drop, Option, None, Some, refl, ap, IfSome, IsSome, sym, subst, is_some, option_map}
+use Rattle.std.proofs.Common.{◌≡◌, ℕ, ◌<◌, suc, List, [], ◌∷◌, ◌++◌, map, arith, ◌∙◌, Bool, true, false, cond, nat_eq, drop, Option, None, Some, refl, ap, ap₂, IfSome, IsSome, sym, subst, is_some, option_map}
 use Rattle.std.specs.List.{AllByRecursion}
 use Rattle.std.specs.Ordering.{nat_cmp, ordering_then}
 use Rattle.std.specs.declared.cmp.Ordering.TheVariants.{Less}
@@ -50,10 +50,6 @@ keys_rise n (x ∷ ls) m e h = rising_rows x.1.serial 0 x.1.rows x.1.next (all_k
 
 -- ---- the stanzas under the keys of a list are its stanzas
 
-module _ {X : Type 0} where
-  two : {x y : X} {xs ys : List X} → x ≡ y → xs ≡ ys → x ∷ xs ≡ y ∷ ys
-  two {x} {y} {xs} {ys} e f = ap (λ z. z ∷ xs) e ∙ ap (λ zs. y ∷ zs) f
-
 -- the stanza of a serial among rows
 abbrev in_row : List (ℕ × Content) → StanzaKey → Option Content
 in_row rows k = lookup (λ s. nat_eq s k.stanza) rows
@@ -65,12 +61,12 @@ row_keys list rows = map (λ (row : ℕ × Content). key_of list row.0) rows
 skip_row : (list s n : ℕ) (x : Content) (rows later : List (ℕ × Content)) (m : ℕ) → s < n → Rises n later m → map (in_row ((s, x) ∷ rows)) (row_keys list later) ≡ map (in_row rows) (row_keys list later)
 skip_row list s n x rows [] m l h = refl
 skip_row list s n x rows (r ∷ later) m l h =
-    two (ap (λ b. cond b (Some x) (lookup (λ t. nat_eq t r.0) rows)) (lt_ne s r.0 (omega (arith, h.0)))) (skip_row list s (suc r.0) x rows later m (omega (arith, h.0)) h.1)
+    ap₂ (λ o os. o ∷ os) (ap (λ b. cond b (Some x) (lookup (λ t. nat_eq t r.0) rows)) (lt_ne s r.0 (omega (arith, h.0)))) (skip_row list s (suc r.0) x rows later m (omega (arith, h.0)) h.1)
 
 in_rows_found : (list n : ℕ) (rows : List (ℕ × Content)) (m : ℕ) → Rises n rows m → map (in_row rows) (row_keys list rows) ≡ map Some (stanzas_of rows)
 in_rows_found list n [] m h = refl
 in_rows_found list n (r ∷ rows) m h =
-    two (ap (λ b. cond b (Some r.1) (lookup (λ t. nat_eq t r.0) rows)) (eq_is r.0 r.0 refl))
+    ap₂ (λ o os. o ∷ os) (ap (λ b. cond b (Some r.1) (lookup (λ t. nat_eq t r.0) rows)) (eq_is r.0 r.0 refl))
     (skip_row list r.0 (suc r.0) r.1 rows rows m (omega arith) h.1 ∙ in_rows_found list (suc r.0) rows m h.1)
 
 -- the list of these keys is the first that is asked
@@ -84,7 +80,7 @@ in_first l ls (r ∷ rows) (x ∷ xs) e = grind (arith, in_first l ls rows xs (a
 -- a list with a lower serial than these keys
 skip_list : (l : KeyedList) (ls : List (List ℕ × KeyedList)) (ks : List StanzaKey) → AllByRecursion (λ k. l.serial < k.list) ks → map (λ k. option_or (in_rows k l) (stanza_at k ls)) ks ≡ map (λ k. stanza_at k ls) ks
 skip_list l ls [] h = refl
-skip_list l ls (k ∷ ks) h = two (ap (λ b. option_or (cond b (in_row l.rows k) None) (stanza_at k ls)) (lt_ne l.serial k.list h.0)) (skip_list l ls ks h.1)
+skip_list l ls (k ∷ ks) h = ap₂ (λ o os. o ∷ os) (ap (λ b. option_or (cond b (in_row l.rows k) None) (stanza_at k ls)) (lt_ne l.serial k.list h.0)) (skip_list l ls ks h.1)
 
 rows_later : (list n : ℕ) (rows : List (ℕ × Content)) → n < list → AllByRecursion (λ k. n < k.list) (row_keys list rows)
 rows_later list n [] l = tt
@@ -92,11 +88,7 @@ rows_later list n (r ∷ rows) l = (l, rows_later list n rows l)
 
 keys_later : (name : List ℕ) (s n : ℕ) (ls : List (List ℕ × KeyedList)) (m e : ℕ) → s < n → InOrder n ls m e → AllByRecursion (λ k. s < k.list) (option_map_or keys_of (at_name name ls) [])
 keys_later name s n [] m e l h = tt
-keys_later name s n (x ∷ ls) m e l h = by (bytes_eq name x.0) (keys_later name s (suc x.1.serial) ls m e (omega (arith, h.0)) h.3)
-  where
-    by : (b : Bool) → AllByRecursion (λ k. s < k.list) (option_map_or keys_of (at_name name ls) []) → AllByRecursion (λ k. s < k.list) (option_map_or keys_of (cond b (Some x.1) (at_name name ls)) [])
-    by true later = rows_later x.1.serial s x.1.rows (omega (arith, h.0))
-    by false later = later
+keys_later name s n (x ∷ ls) m e l h = grind (arith, rows_later x.1.serial s x.1.rows (omega (arith, h.0)), keys_later name s (suc x.1.serial) ls m e (omega (arith, h.0)) h.3)
 
 pub keys_find : (name : List ℕ) (n : ℕ) (ls : List (List ℕ × KeyedList)) (m e : ℕ) → InOrder n ls m e →
     map (λ k. stanza_at k ls) (option_map_or keys_of (at_name name ls) []) ≡ map Some (stanzas_named name (stanza_lists ls))
@@ -134,13 +126,17 @@ rows_there list (r ∷ rs) = (
   all_map (λ k h. later_is (nat_eq list k.list) (nat_eq r.0 k.stanza) r.1 (lookup (λ s. nat_eq s k.stanza) rs) h) (map (λ (r : ℕ × Content). key_of list r.0) rs) (rows_there list rs),
 )
 
-pub keys_held : (name : List ℕ) (ls : List (List ℕ × KeyedList)) → AreHeld (option_map_or keys_of (at_name name ls) []) ls
-keys_held name [] = tt
-keys_held name (l ∷ ls) = by (bytes_eq name l.0) (keys_held name ls)
+-- keys of the list of a name, which its rows have
+pub held_in : (keys : KeyedList → List StanzaKey) → ((l : KeyedList) → AllByRecursion (in_some l.serial l.rows) (keys l)) → (name : List ℕ) (ls : List (List ℕ × KeyedList)) → AreHeld (option_map_or keys (at_name name ls) []) ls
+held_in keys there name [] = tt
+held_in keys there name (l ∷ ls) = by (bytes_eq name l.0) (held_in keys there name ls)
   where
-    by : (b : Bool) → AreHeld (option_map_or keys_of (at_name name ls) []) ls → AreHeld (option_map_or keys_of (cond b (Some l.1) (at_name name ls)) []) (l ∷ ls)
-    by true h = all_map (λ k g. either_first (in_rows k l.1) (stanza_at k ls) g) (keys_of l.1) (rows_there l.1.serial l.1.rows)
-    by false h = all_map (λ k g. either_second (in_rows k l.1) (stanza_at k ls) g) (option_map_or keys_of (at_name name ls) []) h
+    by : (b : Bool) → AreHeld (option_map_or keys (at_name name ls) []) ls → AreHeld (option_map_or keys (cond b (Some l.1) (at_name name ls)) []) (l ∷ ls)
+    by true h = all_map (λ k g. either_first (in_rows k l.1) (stanza_at k ls) g) (keys l.1) (there l.1)
+    by false h = all_map (λ k g. either_second (in_rows k l.1) (stanza_at k ls) g) (option_map_or keys (at_name name ls) []) h
+
+pub keys_held : (name : List ℕ) (ls : List (List ℕ × KeyedList)) → AreHeld (option_map_or keys_of (at_name name ls) []) ls
+keys_held name ls = held_in keys_of (λ l. rows_there l.serial l.rows) name ls
 
 -- ---- the stanza of a key, found by the serial of its list
 
@@ -170,28 +166,20 @@ holder_is k n (x ∷ es) m e h there = grind (arith, not_none, none_later, is_eq
 
 -- ---- the kind of a list is that of its stanzas
 
-lookup_kind : (kind : ListKind) (serial : ℕ) (rows : List (ℕ × Content)) (x : Content) → AreOfKind kind (stanzas_of rows) → lookup (λ s. nat_eq s serial) rows ≡ Some x → x.kind ≡ kind
-lookup_kind kind serial [] x h e = cc
-lookup_kind kind serial (row ∷ rows) x h e = grind (arith, lookup_kind kind serial rows x h.1)
+lookup_kind : (kind : ListKind) (serial : ℕ) (rows : List (ℕ × Content)) → AreOfKind kind (stanzas_of rows) → IfSome (lookup (λ s. nat_eq s serial) rows) (λ x. x.kind ≡ kind)
+lookup_kind kind serial [] h = tt
+lookup_kind kind serial (row ∷ rows) h = grind (arith, lookup_kind kind serial rows h.1)
 
 entry_kind : (serial : ℕ) (es : List (List ℕ × HeldList)) (e : List ℕ × HeldList) → KeepKinds (stanza_lists (lists_of es)) → entry_of serial es ≡ Some e → AreOfKind e.1.kind (stanzas_of e.1.rows)
 entry_kind serial [] e h is = cc
 entry_kind serial (x ∷ es) e h is = grind (arith, entry_kind serial es e h.1)
 
 pub kind_at : (k : StanzaKey) (es : List (List ℕ × HeldList)) (e : List ℕ × HeldList) → KeepKinds (stanza_lists (lists_of es)) → entry_of k.list es ≡ Some e → IsSome (in_entry k (Some e)) → Some e.1.kind ≡ option_map (λ (x : Content). x.kind) (in_entry k (Some e))
-kind_at k es e h is there = by (lookup (λ s. nat_eq s k.stanza) e.1.rows) there (λ x f. lookup_kind e.1.kind k.stanza e.1.rows x (entry_kind k.list es e h is) f)
-  where
-    by : (o : Option Content) → IsSome o → ((x : Content) → o ≡ Some x → x.kind ≡ e.1.kind) → Some e.1.kind ≡ option_map (λ (x : Content). x.kind) o
-    by None there f = cc
-    by (Some x) there f = ap Some (sym (f x refl))
+kind_at k es e h is there = grind (arith, lookup_kind e.1.kind k.stanza e.1.rows (entry_kind k.list es e h is))
 
 -- it is that of each stanza under a key of the list
 pub each_kind : (k : StanzaKey) (n : ℕ) (es : List (List ℕ × HeldList)) (m b : ℕ) (e : List ℕ × HeldList) → InOrder n (lists_of es) m b → KeepKinds (stanza_lists (lists_of es)) → entry_of k.list es ≡ Some e
     → IfSome (stanza_at k (lists_of es)) (λ (x : Content). x.kind ≡ e.1.kind)
 each_kind k n es m b e order h is =
     subst (λ o. IfSome o (λ (x : Content). x.kind ≡ e.1.kind)) (sym (look_up k n es m b order ∙ ap (in_entry k) is))
-    (by (lookup (λ s. nat_eq s k.stanza) e.1.rows) (λ x f. lookup_kind e.1.kind k.stanza e.1.rows x (entry_kind k.list es e h is) f))
-  where
-    by : (o : Option Content) → ((x : Content) → o ≡ Some x → x.kind ≡ e.1.kind) → IfSome o (λ (x : Content). x.kind ≡ e.1.kind)
-    by None f = tt
-    by (Some x) f = f x refl
+    (lookup_kind e.1.kind k.stanza e.1.rows (entry_kind k.list es e h is))

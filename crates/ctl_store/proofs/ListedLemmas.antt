@@ -18,7 +18,7 @@ use Rattle.ctl_store.specs.Rows.{Rises, by_name_and_version, remove_row_at, rows
 use Rattle.ctl_store.specs.Keys.{KeyedList, stanzas_of, stanza_list, stanza_lists, put_keyed, remove_keyed, key_of, key_at, key_or_new, next_key, next_in, found_in, kept_in, Keyed, list_of_stanzas, keyed_after, keys_of, found_key, put_key, key_is, IsNotAmong, in_rows, stanza_at, removed_of, added_of}
 use Rattle.ctl_store.specs.Store.{HeldList, keyed_list, lists_of}
 use Rattle.ctl_store.specs.Inside.Held.{InOrder, entry_of, AreNumbered}
-use Rattle.ctl_store.proofs.PlaceLemmas.{Rises-replace, Rises-remove, place_within, if_cases, or_none}
+use Rattle.ctl_store.proofs.PlaceLemmas.{Rises-replace, Rises-remove, none_is, place_within, place-map, if_cases}
 use Rattle.ctl_ordered.specs.Ordered.{without_serials, set_row, cut_row}
 use Rattle.ctl_store.specs.declared.stanza_key.StanzaKey.{StanzaKey}
 use Rattle.ctl_stanza.specs.declared.list_kind.ListKind.{ListKind}
@@ -44,9 +44,7 @@ module _ {V : Type 0} where
 -- ---- what each name has, after a change
 
 choose : {X : Type 0} (a b c : Bool) (v w r s : X) → (a ≡ true → b ≡ c) → (c ≡ true → a ≡ b) → s ≡ cond c v r → cond a (cond b v r) (cond b w s) ≡ cond c v (cond b w r)
-choose true b c v w r s h k e = grind arith
-choose false b true v w r s h k e = ap (λ d. cond d w s) (sym (k refl)) ∙ e
-choose false b false v w r s h k e = ap (cond b w) e
+choose a b c v w r s h k e = grind arith
 
 same_bytes : (x y : List ℕ) → bytes_eq x y ≡ true → x ≡ y
 same_bytes x y h = (bytes_eq-Decides x y).0 h
@@ -76,10 +74,6 @@ module _ {V : Type 0} where
   from_entries-put_named k v es = fin.same_map nat_list_cmp_total exact_bytes _ _ (λ q.
       get_at_name (put_named k v es) q ∙ at_name-put_named k v q es ∙ ap (λ b. cond b (Some v) (at_name q es)) (nat_list_eq_equiv.symm k q ∙ sym (is_eq-slice_cmp q k))
       ∙ ap (cond (eq_by_cmp (slice_cmp nat_cmp) q k) (Some v)) (sym (get_at_name es q)) ∙ sym (fin.get-insert nat_list_cmp_total (fin.from_entries es) k v q))
-
-pub none_is : {X : Type 0} (o : Option X) → is_some o ≡ false → o ≡ None
-none_is None h = refl
-none_is (Some x) h = cc
 
 module _ {V : Type 0} where
   -- the finite map of entries that a name left
@@ -172,20 +166,15 @@ if_some_map (Some x) f h = f x h
 pub at_name-stanza_lists : (name : List ℕ) (ls : List (List ℕ × KeyedList)) → at_name name (stanza_lists ls) ≡ option_map stanza_list (at_name name ls)
 at_name-stanza_lists name ls = lookup-map_values stanza_list (bytes_eq name) ls
 
-known : {X Y : Type 0} (f : X → Y) (o : Option X) → is_some (option_map f o) ≡ is_some o
-known f None = refl
-known f (Some v) = refl
-
 -- under names that `using` takes
-pub has_name_held : (name : List ℕ) (es : List (List ℕ × HeldList)) → has_name name (stanza_lists (lists_of es)) ≡ is_some (at_name name es)
-has_name_held name es = ap is_some (at_name-stanza_lists name (lists_of es)) ∙ known stanza_list (at_name name (lists_of es)) ∙ ap is_some (at_name_lists name es) ∙ known keyed_list (at_name name es)
-
 pub at_name_held : (name : List ℕ) (es : List (List ℕ × HeldList)) → at_name name (stanza_lists (lists_of es)) ≡ option_map stanza_list (option_map keyed_list (at_name name es))
 at_name_held name es = at_name-stanza_lists name (lists_of es) ∙ ap (option_map stanza_list) (at_name_lists name es)
 
+pub has_name_held : (name : List ℕ) (es : List (List ℕ × HeldList)) → has_name name (stanza_lists (lists_of es)) ≡ is_some (at_name name es)
+has_name_held name es = grind (arith, at_name_held)
+
 pub place_stanzas : (p : Content → Bool) (rows : List (ℕ × Content)) → place p (stanzas_of rows) ≡ place (λ (r : ℕ × Content). p r.1) rows
-place_stanzas p [] = refl
-place_stanzas p (r ∷ rows) = ap (λ o. cond (p r.1) (Some 0) (option_map (λ n. suc n) o)) (place_stanzas p rows)
+place_stanzas p rows = place-map (λ (r : ℕ × Content). r.1) p rows
 
 pub has_stanza_held : (list name : List ℕ) (version : Option (List ℕ)) (es : List (List ℕ × HeldList)) → has_stanza list name version (stanza_lists (lists_of es)) ≡ option_map_or (λ (s : HeldList). is_some (place (by_name_and_version name version) s.rows)) (at_name list es) false
 has_stanza_held list name version es = grind (arith, at_name_held, place_stanzas)
@@ -211,11 +200,8 @@ entry_named serial [] h = tt
 entry_named serial (x ∷ es) h = grind (arith, nat_list_eq_equiv.refl x.0, entry_apart x.0 serial es h.0, entry_named serial es h.1)
 
 -- so its kind and its class are those of its name
-pub kind_named : (serial : ℕ) (es : List (List ℕ × HeldList)) (e : List ℕ × HeldList) → IsDistinct bytes_eq (names_of es) → Some e ≡ entry_of serial es → option_map (λ (l : StanzaList). l.kind) (at_name e.0 (stanza_lists (lists_of es))) ≡ Some e.1.kind
-kind_named serial es e d found = ap (option_map (λ (l : StanzaList). l.kind)) (at_name_held e.0 es) ∙ ap (λ o. option_map (λ (l : StanzaList). l.kind) (option_map stanza_list (option_map keyed_list o))) (subst (λ o. IfSome o (λ x. at_name x.0 es ≡ Some x.1)) (sym found) (entry_named serial es d))
-
-pub class_named : (serial : ℕ) (es : List (List ℕ × HeldList)) (e : List ℕ × HeldList) → IsDistinct bytes_eq (names_of es) → Some e ≡ entry_of serial es → option_map (λ (l : StanzaList). l.class) (at_name e.0 (stanza_lists (lists_of es))) ≡ Some e.1.class
-class_named serial es e d found = ap (option_map (λ (l : StanzaList). l.class)) (at_name_held e.0 es) ∙ ap (λ o. option_map (λ (l : StanzaList). l.class) (option_map stanza_list (option_map keyed_list o))) (subst (λ o. IfSome o (λ x. at_name x.0 es ≡ Some x.1)) (sym found) (entry_named serial es d))
+pub list_named : (serial : ℕ) (es : List (List ℕ × HeldList)) (e : List ℕ × HeldList) → IsDistinct bytes_eq (names_of es) → Some e ≡ entry_of serial es → at_name e.0 (stanza_lists (lists_of es)) ≡ Some (stanza_list (keyed_list e.1))
+list_named serial es e d found = at_name_held e.0 es ∙ ap (λ o. option_map stanza_list (option_map keyed_list o)) (subst (λ o. IfSome o (λ x. at_name x.0 es ≡ Some x.1)) (sym found) (entry_named serial es d))
 
 -- the row of a serial is the list of that serial
 pub entry_is : (serial : ℕ) (rows : List (ℕ × (List ℕ × HeldList))) → AreNumbered rows → lookup (nat_eq serial) rows ≡ entry_of serial (without_serials rows)
@@ -274,10 +260,6 @@ more_is b gone e = grind arith
 other : (a b : Bool) → a ≡ true → (a && b) ≡ false → b ≡ false
 other a b e h = grind arith
 
-nothing : {X : Type 0} (b : Bool) → cond {A = Option X} b None None ≡ None
-nothing true = refl
-nothing false = refl
-
 module _ (k : StanzaKey) where
   absent : (list : ℕ) (rs : List (ℕ × Content)) → nat_eq list k.list ≡ true → IsNotAmong k (map (λ (r : ℕ × Content). key_of list r.0) rs) → lookup (λ s. nat_eq s k.stanza) rs ≡ None
   absent list [] e h = refl
@@ -319,15 +301,10 @@ module _ (k : StanzaKey) where
 
   drop_stays : (name : List ℕ) (ls : List (List ℕ × KeyedList)) → IsNotAmong k (option_map_or keys_of (at_name name ls) []) → stanza_at k (without_name name ls) ≡ stanza_at k ls
   drop_stays name [] h = refl
-  drop_stays name (l ∷ ls) h = by (bytes_eq name l.0) h (drop_stays name ls)
-    where
-      by : (b : Bool) → IsNotAmong k (option_map_or keys_of (cond b (Some l.1) (at_name name ls)) []) → (IsNotAmong k (option_map_or keys_of (at_name name ls) []) → stanza_at k (without_name name ls) ≡ stanza_at k ls)
-          → stanza_at k (cond b ls (l ∷ without_name name ls)) ≡ stanza_at k (l ∷ ls)
-      by true h rest = sym (ap (λ o. option_or o (stanza_at k ls)) (in_list l.1.serial (lookup (λ s. nat_eq s k.stanza) l.1.rows) None (λ e. absent l.1.serial l.1.rows e h) ∙ nothing (nat_eq l.1.serial k.list)))
-      by false h rest = ap (option_or (in_rows k l.1)) (rest h)
+  drop_stays name (l ∷ ls) h = grind (arith, absent l.1.serial l.1.rows, drop_stays name ls)
 
   add_stays : (name : List ℕ) (x : KeyedList) (ls : List (List ℕ × KeyedList)) → IsNotAmong k (keys_of x) → stanza_at k (ls ++ (name, x) ∷ []) ≡ stanza_at k ls
-  add_stays name x [] h = or_none (in_rows k x) ∙ in_list x.serial (lookup (λ s. nat_eq s k.stanza) x.rows) None (λ e. absent x.serial x.rows e h) ∙ nothing (nat_eq x.serial k.list)
+  add_stays name x [] h = grind (arith, absent x.serial x.rows)
   add_stays name x (l ∷ ls) h = ap (option_or (in_rows k l.1)) (add_stays name x ls h)
 
   -- a key that neither goes nor comes keeps its stanza

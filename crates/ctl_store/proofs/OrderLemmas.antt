@@ -18,7 +18,7 @@ use Rattle.ctl_store.specs.declared.fronts.Placed.{Placed}
 use Rattle.ctl_store.specs.Rows.{Id, id, id_of, row_id, version_id, version_order, id_cmp, ids_of, sorted_ids, lower, has_serial, IsKept, by_name_and_version, replace_at, placed, placed_row, placed_at, placed_cmp, sorted_placed, Rises, rows_from, id_under, serial_cmp}
 use Rattle.std.proofs.lemmas.Bool.{and_parts}
 use Rattle.ctl_store.proofs.PlaceLemmas.{place_within, place_passes, equal_is, Rises-rows_from, all_map}
-use Rattle.ctl_store.proofs.RankedLemmas.{found_here as ranked_here, found_past as ranked_past, parted, below_is, order-sorted, ranked_replace, ranked_push, ranked_remove, length-sorted_in, g, all_insert, all_sorted, all_from, all_lookup, lookup-labels, Rises-labels}
+use Rattle.ctl_store.proofs.RankedLemmas.{found_here as ranked_here, found_past as ranked_past, parted, below_is, order-sorted, ranked_replace, ranked_push, ranked_remove, length-sorted_in, g, lt_back, all_insert, all_sorted, all_from, all_lookup, lookup-labels, Rises-labels}
 use Rattle.ctl_store.specs.Keys.{KeyedList, key_of, key_at}
 use Rattle.std.proofs.lemmas.List.{length-map}
 use Rattle.std.specs.Option.{option_cmp}
@@ -62,20 +62,14 @@ exact_id name version x e = λ j. record {
 
 -- ---- where the fronts of two names differ, they stand as the names do
 
-first_decides : (o r then : Ordering) → o ≡ r → (o ≡ Equal → ⊥) → o ≡ ordering_then r then
-first_decides o r then e n = grind arith
+first_decides : (o r then : Ordering) → ((o ≡ Equal → ⊥) → o ≡ r) → ordering_then o (ordering_then r then) ≡ ordering_then r then
+first_decides Equal r then e = refl
+first_decides Less r then e = ap (λ r. ordering_then r then) (e (λ k. cc))
+first_decides Greater r then e = ap (λ r. ordering_then r then) (e (λ k. cc))
 
 -- so do names and versions, of which names come first
 front_first : (x q : Id) → ordering_then (nat_cmp (front_of x.name) (front_of q.name)) (id_cmp x q) ≡ id_cmp x q
-front_first x q = by (nat_cmp (front_of x.name) (front_of q.name)) refl
-  where
-    differ : (o : Ordering) → o ≡ nat_cmp (front_of x.name) (front_of q.name) → (o ≡ Equal → ⊥) → o ≡ id_cmp x q
-    differ o e n = first_decides o (slice_cmp nat_cmp x.name q.name) (version_order x.version q.version) (fronts_tell x.name q.name o e n) n
-
-    by : (o : Ordering) → o ≡ nat_cmp (front_of x.name) (front_of q.name) → ordering_then o (id_cmp x q) ≡ id_cmp x q
-    by Equal e = refl
-    by Less e = differ Less e (λ k. cc)
-    by Greater e = differ Greater e (λ k. cc)
+front_first x q = first_decides (nat_cmp (front_of x.name) (front_of q.name)) (slice_cmp nat_cmp x.name q.name) (version_order x.version q.version) (fronts_tell x.name q.name (nat_cmp (front_of x.name) (front_of q.name)) refl)
 
 -- ---- the first row of a name and a version
 
@@ -157,16 +151,12 @@ kept_sorted rows next order xs is n order_is = record {
 
 -- ---- sorting the entries of new rows gives the order that is kept
 
+module _ {X : Type 0} (R : X → X → Ordering) where
+  abbrev IsUp : List X → Type 0
+  IsUp [] = Unit {0}
+  IsUp (x ∷ xs) = AllByRecursion (λ y. is_gt (R x y) ≡ false) xs × IsUp xs
+
 -- ---- two lists in order that count alike are one
-
-module _ {X : Type 0} where
-  abbrev tally : (X → ℕ) → List X → ℕ
-  tally f [] = 0
-  tally f (x ∷ xs) = f x + tally f xs
-
-  sum_by-tally : (f : X → ℕ) (xs : List X) → sum_by f xs ≡ tally f xs
-  sum_by-tally f [] = refl
-  sum_by-tally f (x ∷ xs) = sum_by-cons f x xs ∙ ap (λ n. f x + n) (sum_by-tally f xs)
 
 module _ {X : Type 0} (R : X → X → Ordering) (total : IsTotalOrder R) (exact : (a b : X) → R a b ≡ Equal → a ≡ b) where
   abbrev one_at : X → X → ℕ
@@ -176,54 +166,39 @@ module _ {X : Type 0} (R : X → X → Ordering) (total : IsTotalOrder R) (exact
   one_here x = ap (λ o. cond (is_eq o) 1 0) (tied_itself total x)
 
   -- what is counted stands there
-  counted : (P : X → Type 0) (x : X) (zs : List X) → AllByRecursion P zs → 0 < tally (one_at x) zs → P x
+  counted : (P : X → Type 0) (x : X) (zs : List X) → AllByRecursion P zs → 0 < sum_by (one_at x) zs → P x
   counted P x [] h l = absurd (omega arith)
-  counted P x (z ∷ zs) h l = by (R z x) refl l (counted P x zs h.1)
-    where
-      by : (o : Ordering) → R z x ≡ o → 0 < cond (is_eq o) 1 0 + tally (one_at x) zs → (0 < tally (one_at x) zs → P x) → P x
-      by Equal e k rest = subst P (exact z x e) h.0
-      by Less e k rest = rest (omega (arith, k))
-      by Greater e k rest = rest (omega (arith, k))
-
-  abbrev IsUp : List X → Type 0
-  IsUp [] = Unit {0}
-  IsUp (x ∷ xs) = AllByRecursion (λ y. is_gt (R x y) ≡ false) xs × IsUp xs
-
-  back : (a b : X) → is_lt (R a b) ≡ is_gt (R b a)
-  back a b = grind (arith, total.antisymm a b)
+  counted P x (z ∷ zs) h l = grind (arith, exact z x, sum_by-cons, counted P x zs h.1)
 
   not_above_itself : (a : X) → is_gt (R a a) ≡ false
-  not_above_itself a = grind (arith, total.antisymm a a)
+  not_above_itself a = ap is_gt (tied_itself total a)
 
-  neither : (a b : X) → is_gt (R a b) ≡ false → is_gt (R b a) ≡ false → a ≡ b
-  neither a b p q = exact a b (tie (R a b) p (back a b ∙ q))
-    where
-      tie : (o : Ordering) → is_gt o ≡ false → is_lt o ≡ false → o ≡ Equal
-      tie o p q = grind arith
-
-  one_list : (xs ys : List X) → ((f : X → ℕ) → tally f xs ≡ tally f ys) → IsUp xs → IsUp ys → xs ≡ ys
+  one_list : (xs ys : List X) → ((f : X → ℕ) → sum_by f xs ≡ sum_by f ys) → IsUp R xs → IsUp R ys → xs ≡ ys
   one_list [] [] t u v = refl
-  one_list [] (y ∷ ys) t u v = absurd (omega (arith, t (λ n. 1)))
-  one_list (x ∷ xs) [] t u v = absurd (omega (arith, t (λ n. 1)))
-  one_list (x ∷ xs) (y ∷ ys) t u v = λ j. same j ∷ one_list xs ys (λ f. omega (arith, t f, ap f same)) u.1 v.1 j
+  one_list [] (y ∷ ys) t u v = absurd (omega (arith, t (λ n. 1), sum_by-cons (λ n. 1) y ys))
+  one_list (x ∷ xs) [] t u v = absurd (omega (arith, t (λ n. 1), sum_by-cons (λ n. 1) x xs))
+  one_list (x ∷ xs) (y ∷ ys) t u v = λ j. same j ∷ one_list xs ys (λ f. omega (arith, t f, sum_by-cons f x xs, sum_by-cons f y ys, ap f same)) u.1 v.1 j
     where
+      neither : is_gt (R x y) ≡ false → is_gt (R y x) ≡ false → R x y ≡ Equal
+      neither p q = grind (arith, total.antisymm x y)
+
       same : x ≡ y
-      same = neither x y
-          (counted (λ z. is_gt (R x z) ≡ false) y (x ∷ xs) (not_above_itself x, u.0) (omega (arith, t (one_at y), one_here y)))
-          (counted (λ z. is_gt (R y z) ≡ false) x (y ∷ ys) (not_above_itself y, v.0) (omega (arith, t (one_at x), one_here x)))
+      same = exact x y (neither
+          (counted (λ z. is_gt (R x z) ≡ false) y (x ∷ xs) (not_above_itself x, u.0) (omega (arith, t (one_at y), sum_by-cons (one_at y) y ys, one_here y)))
+          (counted (λ z. is_gt (R y z) ≡ false) x (y ∷ ys) (not_above_itself y, v.0) (omega (arith, t (one_at x), sum_by-cons (one_at x) x xs, one_here x))))
 
   all_at : (P : X → Type 0) (xs : List X) → ((k : ℕ) (d : X) → k < length xs → P (get_or xs k d)) → AllByRecursion P xs
   all_at P [] h = tt
   all_at P (x ∷ xs) h = (h 0 x (omega arith), all_at P xs (λ k d l. h (suc k) d (omega arith)))
 
-  up_from : (xs : List X) → ((i j : ℕ) (d : X) → i ≤ j → j < length xs → is_lt (R (get_or xs j d) (get_or xs i d)) ≡ false) → IsUp xs
+  up_from : (xs : List X) → ((i j : ℕ) (d : X) → i ≤ j → j < length xs → is_lt (R (get_or xs j d) (get_or xs i d)) ≡ false) → IsUp R xs
   up_from [] h = tt
   up_from (x ∷ xs) h = (
-    all_at (λ y. is_gt (R x y) ≡ false) xs (λ k d l. sym (back (get_or xs k d) x) ∙ h 0 (suc k) d (omega arith) (omega arith)),
+    all_at (λ y. is_gt (R x y) ≡ false) xs (λ k d l. sym (lt_back R total (get_or xs k d) x) ∙ h 0 (suc k) d (omega arith) (omega arith)),
     up_from xs (λ i j d le l. h (suc i) (suc j) d (omega arith) (omega arith)),
   )
 
-  sorted_up : (xs : List X) → IsSortedBy (λ x y. is_lt (R x y)) xs → IsUp xs
+  sorted_up : (xs : List X) → IsSortedBy (λ x y. is_lt (R x y)) xs → IsUp R xs
   sorted_up xs s = up_from xs (sorted_far (λ x y. is_lt (R x y)) (ranks_by total (λ (n : X). n)) xs s)
 
 -- ---- the order of rows, in pairs of serials and what they are found by
@@ -234,25 +209,21 @@ pair_cmp x y = ordering_then (id_cmp x.1 y.1) (nat_cmp x.0 y.0)
 pair_total : IsTotalOrder pair_cmp
 pair_total = then_total (on_total (λ (x : ℕ × Id). x.1) id_total) (on_total (λ (x : ℕ × Id). x.0) nat_cmp_total)
 
-abbrev ArePairsUp : List (ℕ × Id) → Type 0
-ArePairsUp [] = Unit {0}
-ArePairsUp (y ∷ ys) = AllByRecursion (λ z. is_gt (pair_cmp y z) ≡ false) ys × ArePairsUp ys
-
 before_later : (x y : ℕ × Id) → g id_cmp x.1 y.1 ≡ false → x.0 < y.0 → is_gt (pair_cmp x y) ≡ false
 before_later x y e l = grind arith
 
 above_first : (x y : ℕ × Id) → g id_cmp x.1 y.1 ≡ true → is_gt (pair_cmp y x) ≡ false
 above_first x y e = grind (arith, id_total.antisymm y.1 x.1)
 
-pairs_insert : (x : ℕ × Id) (ys : List (ℕ × Id)) → AllByRecursion (λ (y : ℕ × Id). x.0 < y.0) ys → ArePairsUp ys → ArePairsUp (insert_in id_cmp x ys)
+pairs_insert : (x : ℕ × Id) (ys : List (ℕ × Id)) → AllByRecursion (λ (y : ℕ × Id). x.0 < y.0) ys → IsUp pair_cmp ys → IsUp pair_cmp (insert_in id_cmp x ys)
 pairs_insert x [] s o = (tt, tt)
 pairs_insert x (y ∷ ys) s o = by (g id_cmp x.1 y.1) refl (pairs_insert x ys s.1 o.1)
   where
-    by : (b : Bool) → g id_cmp x.1 y.1 ≡ b → ArePairsUp (insert_in id_cmp x ys) → ArePairsUp (cond b (y ∷ insert_in id_cmp x ys) (x ∷ y ∷ ys))
+    by : (b : Bool) → g id_cmp x.1 y.1 ≡ b → IsUp pair_cmp (insert_in id_cmp x ys) → IsUp pair_cmp (cond b (y ∷ insert_in id_cmp x ys) (x ∷ y ∷ ys))
     by true e rest = (all_insert id_cmp id_total (λ z. is_gt (pair_cmp y z) ≡ false) x ys (above_first x y e) o.0, rest)
     by false e rest = ((before_later x y e s.0, all_map (λ z k. upto pair_total x y z (before_later x y e s.0) k) ys o.0), o)
 
-pairs_sorted : (n : ℕ) (xs : List (ℕ × Id)) (m : ℕ) → Rises n xs m → ArePairsUp (sorted_ids xs)
+pairs_sorted : (n : ℕ) (xs : List (ℕ × Id)) (m : ℕ) → Rises n xs m → IsUp pair_cmp (sorted_ids xs)
 pairs_sorted n [] m h = tt
 pairs_sorted n (x ∷ xs) m h = grind (arith, pairs_insert, all_sorted, id_total, all_map, all_from, pairs_sorted (suc x.0) xs m h.1)
 
@@ -268,25 +239,18 @@ module _ (rows : List (ℕ × Content)) where
   pub placed_total : IsTotalOrder (placed_cmp rows)
   placed_total = then_total (on_total (λ (p : Placed). p.front) nat_cmp_total) (on_total (λ (p : Placed). p.serial) (serial_total rows))
 
-  both_equal : (o p : Ordering) → ordering_then o p ≡ Equal → (o ≡ Equal) × (p ≡ Equal)
-  both_equal o p e = grind arith
-
-  front_exact : (n m : ℕ) → nat_cmp n m ≡ Equal → n ≡ m
-  front_exact n m e = grind arith
-
   placed_exact : (a b : Placed) → placed_cmp rows a b ≡ Equal → a ≡ b
   placed_exact a b e =
-      let both = both_equal (nat_cmp a.front b.front) (serial_cmp rows a.serial b.serial) e in
-      λ j. record { front = front_exact a.front b.front both.0 j; serial = serial_exact rows a.serial b.serial both.1 j }
+      let front : a.front ≡ b.front = grind (arith, e) in
+      let serial : a.serial ≡ b.serial = grind (arith, serial_exact, e) in
+      λ j. record { front = front j; serial = serial j }
 
   -- a serial, with what its row is found by
   abbrev IsUnder : ℕ × Id → Type 0
   IsUnder x = id_under rows x.0 ≡ Some x.1
 
   after_front : (o r n : Ordering) → ordering_then o r ≡ r → ordering_then o (ordering_then r n) ≡ ordering_then r n
-  after_front Equal r n e = refl
-  after_front Less r n e = ap (λ t. ordering_then t n) e
-  after_front Greater r n e = ap (λ t. ordering_then t n) e
+  after_front o r n e = grind arith
 
   at_pairs : (x y : ℕ × Id) → IsUnder x → IsUnder y → placed_cmp rows (placed x) (placed y) ≡ pair_cmp x y
   at_pairs x y e f =
@@ -297,7 +261,7 @@ module _ (rows : List (ℕ × Content)) where
   all_up x [] e h k = tt
   all_up x (y ∷ ys) e h k = (ap is_gt (at_pairs x y e h.0) ∙ k.0, all_up x ys e h.1 k.1)
 
-  pairs_up : (ys : List (ℕ × Id)) → AllByRecursion IsUnder ys → ArePairsUp ys → IsUp (placed_cmp rows) placed_total placed_exact (map placed ys)
+  pairs_up : (ys : List (ℕ × Id)) → AllByRecursion IsUnder ys → IsUp pair_cmp ys → IsUp (placed_cmp rows) (map placed ys)
   pairs_up [] h k = tt
   pairs_up (y ∷ ys) h k = (all_up y ys h.0 h.1 k.0, pairs_up ys h.1 k.1)
 
@@ -307,13 +271,13 @@ module _ (rows : List (ℕ × Content)) where
 
 -- ---- a sort only moves what is there
 
-tally-insert : (f : Placed → ℕ) (x : ℕ × Id) (ys : List (ℕ × Id)) → tally f (map placed (insert_in id_cmp x ys)) ≡ f (placed x) + tally f (map placed ys)
-tally-insert f x [] = refl
-tally-insert f x (y ∷ ys) = grind (arith, tally-insert f x ys)
+sum_by-insert : (f : Placed → ℕ) (x : ℕ × Id) (ys : List (ℕ × Id)) → sum_by f (map placed (insert_in id_cmp x ys)) ≡ f (placed x) + sum_by f (map placed ys)
+sum_by-insert f x [] = sum_by-cons f (placed x) []
+sum_by-insert f x (y ∷ ys) = grind (arith, sum_by-cons f (placed x) (placed y ∷ map placed ys), sum_by-cons f (placed y) (map placed ys), sum_by-cons f (placed y) (map placed (insert_in id_cmp x ys)), sum_by-insert f x ys)
 
-tally-sorted : (f : Placed → ℕ) (xs : List (ℕ × Id)) → tally f (map placed (sorted_ids xs)) ≡ tally f (map placed xs)
-tally-sorted f [] = refl
-tally-sorted f (x ∷ xs) = tally-insert f x (sorted_ids xs) ∙ ap (λ n. f (placed x) + n) (tally-sorted f xs)
+sum_by-sorted : (f : Placed → ℕ) (xs : List (ℕ × Id)) → sum_by f (map placed (sorted_ids xs)) ≡ sum_by f (map placed xs)
+sum_by-sorted f [] = refl
+sum_by-sorted f (x ∷ xs) = omega (arith, sum_by-insert f x (sorted_ids xs), sum_by-cons f (placed x) (map placed xs), sum_by-sorted f xs)
 
 placed-ids : (rows : List (ℕ × Content)) → map placed (ids_of rows) ≡ map placed_row rows
 placed-ids [] = refl
@@ -328,8 +292,7 @@ pub sorted_is : (rows : List (ℕ × Content)) (first next : ℕ) → Rises firs
 sorted_is rows first next risen old order s moved sorted =
     let rises = from_zero first rows next risen in
     one_list (placed_cmp rows) (placed_total rows) (placed_exact rows) order (sorted_placed rows)
-    (λ f.
-    sym (sum_by-tally f order) ∙ sum_by-IsPermutation f old order moved ∙ sum_by-tally f old ∙ ap (tally f) (s ∙ sym (placed-ids rows)) ∙ sym (tally-sorted f (ids_of rows)))
+    (λ f. sum_by-IsPermutation f old order moved ∙ ap (sum_by f) (s ∙ sym (placed-ids rows)) ∙ sym (sum_by-sorted f (ids_of rows)))
     (sorted_up (placed_cmp rows) (placed_total rows) (placed_exact rows) order sorted)
     (pairs_up rows (sorted_ids (ids_of rows))
     (all_sorted id_cmp id_total (IsUnder rows) (ids_of rows) (all_under rows next rises))

@@ -1,5 +1,5 @@
 -- The settings of one package, after one setting is set or taken out.
-use Rattle.std.proofs.Common.{◌≡◌, ℕ, ℤ, Bool, true, false, cond, List, [], ◌∷◌, refl, ap, sym, ◌∙◌, arith, nat_eq, suc, ◌+◌, ◌<◌, ◌≤◌, ◌++◌, length, map, Option, Some, None, subst, zero, filter, drop}
+use Rattle.std.proofs.Common.{◌≡◌, ℕ, ℤ, Bool, true, false, cond, List, [], ◌∷◌, refl, ap, sym, ◌∙◌, arith, nat_eq, suc, ◌+◌, ◌<◌, ◌≤◌, ◌++◌, length, map, Option, Some, None, subst, zero, filter, take, drop}
 use Rattle.std.specs.Map.{remove_entry, lookup}
 use Rattle.indexmap.specs.IndexMap.{insert_entry}
 use Rattle.ctl_store.specs.declared.selector.Selector.{Selector}
@@ -8,7 +8,7 @@ use Rattle.ctl_store.specs.declared.selector.PinSetting.{PinSetting}
 use Rattle.ctl_store.specs.SelectorLaws.{selector_eq-Decides, package_cmp, package_total, package_eq-Decides, packages_tie}
 use Rattle.std.specs.Ordering.{nat_cmp, is_eq, ordering_then, is_gt, is_lt}
 use Rattle.std.specs.Cmp.{IsTotalOrder, nat_cmp_total, on_total, then_total, tied_itself}
-use Rattle.ctl_store.proofs.PlaceLemmas.{some_is, all_map, turned}
+use Rattle.ctl_store.proofs.PlaceLemmas.{some_is, all_map, all_back, turned}
 use Rattle.std.specs.List.{insert, remove, slice_get, AllByRecursion}
 use Rattle.std.specs.List.Sorted.{IsPartitionedBy, IsPartitionPoint}
 use Rattle.ctl_ordered.specs.Ordered.{without_serials, set_row, cut_row, row_serial}
@@ -18,7 +18,7 @@ use Rattle.ctl_store.specs.Inside.HeldPins.{own_cmp, own_order, own_row, own_bel
 use Rattle.ctl_store.proofs.RankedLemmas.{below_there, below_is, parted, order-sorted, ranked_push, ranked_remove, g, up, lt_back, all_sorted, in_order, IsInOrder, all_lookup}
 use Rattle.std.specs.Option.{option_map_or}
 use Rattle.std.specs.declared.cmp.Ordering.{Ordering}
-use Rattle.std.proofs.lemmas.List.{drop-map}
+use Rattle.std.proofs.lemmas.List.{drop-map, take-append-drop}
 use Rattle.ctl_ordered.proofs.SlotLemmas.{serial_least, no_cut, rises_end}
 
 same_of : (q : List ℕ) (s t : Selector) → selector_eq s t ≡ true → is_of q s ≡ is_of q t
@@ -214,7 +214,8 @@ module _ (q : List ℕ) where
   own_found rows next order at kept is =
       (λ j. own_run q rows (drop (is j) (kept.ordered j)))
       ∙ ap (λ l. own_run q rows l) (drop-map (λ (y : ℕ × Standing). y.0) (below_in own_cmp start ids) ids)
-      ∙ run_picks rows (drop (below_in own_cmp start ids) ids) (all_drop (below_in own_cmp start ids) ids (all_sorted own_cmp own_total (HasSetting rows) (labelled own_row rows) (all_have rows rows there)))
+      ∙ run_picks rows (drop (below_in own_cmp start ids) ids) (all_back (HasSetting rows) (take (below_in own_cmp start ids) ids) (drop (below_in own_cmp start ids) ids)
+      (subst (AllByRecursion (HasSetting rows)) (sym (take-append-drop (below_in own_cmp start ids) ids)) (all_sorted own_cmp own_total (HasSetting rows) (labelled own_row rows) (all_have rows rows there))))
       ∙ ap (λ l. picked rows l) (front_from ids (in_order own_cmp own_total (labelled own_row rows)) ∙ filter-sorted 0 rows next kept.rises)
       ∙ picks rows rows there
     where
@@ -223,11 +224,6 @@ module _ (q : List ℕ) where
 
       there : AllByRecursion (λ (r : Row). lookup (λ k. nat_eq k r.0) rows ≡ Some r.1) rows
       there = all_lookup 0 rows next kept.rises
-
-      all_drop : (k : ℕ) (ys : List (ℕ × Standing)) → AllByRecursion (HasSetting rows) ys → AllByRecursion (HasSetting rows) (drop k ys)
-      all_drop zero ys h = h
-      all_drop (suc k) [] h = h
-      all_drop (suc k) (y ∷ ys) h = all_drop k ys h.1
 
 -- the settings from a place of the order on, by that of the serial there
 pub run_next : (q : List ℕ) (rows : List Row) (order : List ℕ) (i next serial : ℕ) → slice_get order i ≡ Some serial → next ≡ i + 1

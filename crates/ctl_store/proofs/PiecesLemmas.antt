@@ -39,20 +39,16 @@ module _ {X A : Type 0} where
   piece_read (q ∷ ps) zero p h l e = subst IsPiece (sym e) h.0
   piece_read (q ∷ ps) (suc i) p h l e = piece_read ps i p h.1 (omega arith) e
 
-  pub length_at_set : (ps : List (Vec X A)) (i : ℕ) (p : Vec X A) → i < length ps → length_at (set ps i p) i ≡ length p.items
-  length_at_set [] i p l = absurd (omega arith)
-  length_at_set (q ∷ ps) zero p l = refl
-  length_at_set (q ∷ ps) (suc i) p l = length_at_set ps i p (omega arith)
-
   pub room_read : (ps : List (Vec X A)) (i : ℕ) (p : Vec X A) → i < length ps → p ≡ get_or ps i p → room_at ps i ≡ room_in p
   room_read [] i p l e = absurd (omega arith)
   room_read (q ∷ ps) zero p l e = sym (ap room_in e)
   room_read (q ∷ ps) (suc i) p l e = room_read ps i p (omega arith) e
 
-  pub room_at_set : (ps : List (Vec X A)) (i : ℕ) (p : Vec X A) → i < length ps → room_at (set ps i p) i ≡ room_in p
-  room_at_set [] i p l = absurd (omega arith)
-  room_at_set (q ∷ ps) zero p l = refl
-  room_at_set (q ∷ ps) (suc i) p l = room_at_set ps i p (omega arith)
+  -- a piece that was put at a place
+  pub piece_set : (ps : List (Vec X A)) (i : ℕ) (p : Vec X A) → i < length ps → (length_at (set ps i p) i ≡ length p.items) × (room_at (set ps i p) i ≡ room_in p)
+  piece_set [] i p l = absurd (omega arith)
+  piece_set (q ∷ ps) zero p l = (refl, refl)
+  piece_set (q ∷ ps) (suc i) p l = piece_set ps i p (omega arith)
 
   -- a piece has no more items than all have
   pub length_of_all : (ps : List (Vec X A)) (i : ℕ) → length_at ps i ≤ length (joined ps)
@@ -76,17 +72,7 @@ module _ {X A : Type 0} where
   last_of_all (q ∷ []) = omega arith
   last_of_all (q ∷ r ∷ ps) = omega (arith, last_of_all (r ∷ ps))
 
-  pub read_same : (ps : List (Vec X A)) (i : ℕ) (p p' : Vec X A) → i < length ps → p ≡ get_or ps i p → p' ≡ get_or ps i p' → p ≡ p'
-  read_same [] i p p' l e e' = absurd (omega arith)
-  read_same (q ∷ ps) zero p p' l e e' = e ∙ sym e'
-  read_same (q ∷ ps) (suc i) p p' l e e' = read_same ps i p p' (omega arith) e e'
-
   -- ---- what is kept
-
-  pub pieces_set : (ps : List (Vec X A)) (i : ℕ) (p : Vec X A) → ArePieces ps → IsPiece p → ArePieces (set ps i p)
-  pieces_set [] i p h y = h
-  pieces_set (q ∷ ps) zero p h y = (y, h.1)
-  pieces_set (q ∷ ps) (suc i) p h y = (h.0, pieces_set ps i p h.1 y)
 
   pub pieces_insert : (ps : List (Vec X A)) (i : ℕ) (p : Vec X A) → ArePieces ps → IsPiece p → ArePieces (insert ps i p)
   pieces_insert ps zero p h y = (y, h)
@@ -128,12 +114,6 @@ module _ {X A : Type 0} where
   joined_join (q ∷ r ∷ ps) zero p up p' l e f w = ap (λ l. l ++ joined ps) (w ∙ (λ j. (e j).items ++ (f j).items)) ∙ append_assoc q.items r.items (joined ps)
   joined_join (q ∷ r ∷ ps) (suc i) p up p' l e f w = ap (λ l. q.items ++ l) (joined_join (r ∷ ps) i p up p' (omega arith) e f w)
 
-  pub pieces_remove : (ps : List (Vec X A)) (i : ℕ) → ArePieces ps → ArePieces (remove ps i)
-  pieces_remove [] zero h = tt
-  pieces_remove [] (suc i) h = tt
-  pieces_remove (q ∷ ps) zero h = h.1
-  pieces_remove (q ∷ ps) (suc i) h = (h.0, pieces_remove ps i h.1)
-
   -- the piece before one that goes
   pub read_before : (ps : List (Vec X A)) (i : ℕ) (p : Vec X A) → suc i < length ps → p ≡ get_or (remove ps (suc i)) i p → p ≡ get_or ps i p
   read_before [] i p l e = absurd (omega arith)
@@ -148,25 +128,12 @@ module _ {X A : Type 0} where
   joined_split (q ∷ ps) zero p low up l e w = sym (append_assoc low.items up.items (joined ps)) ∙ ap (λ l. l ++ joined ps) (w ∙ ap (λ (v : Vec X A). v.items) e)
   joined_split (q ∷ ps) (suc i) p low up l e w = ap (λ l. q.items ++ l) (joined_split ps i p low up (omega arith) e w)
 
-  pub length_lower : (ps : List (Vec X A)) (i : ℕ) (low up : Vec X A) → i < length ps → length_at (insert (set ps i low) (suc i) up) i ≡ length low.items
-  length_lower [] i low up l = absurd (omega arith)
-  length_lower (q ∷ ps) zero low up l = refl
-  length_lower (q ∷ ps) (suc i) low up l = length_lower ps i low up (omega arith)
-
-  pub length_upper : (ps : List (Vec X A)) (i : ℕ) (low up : Vec X A) → i < length ps → length_at (insert (set ps i low) (suc i) up) (suc i) ≡ length up.items
-  length_upper [] i low up l = absurd (omega arith)
-  length_upper (q ∷ ps) zero low up l = refl
-  length_upper (q ∷ ps) (suc i) low up l = length_upper ps i low up (omega arith)
-
-  pub room_lower : (ps : List (Vec X A)) (i : ℕ) (low up : Vec X A) → i < length ps → room_at (insert (set ps i low) (suc i) up) i ≡ room_in low
-  room_lower [] i low up l = absurd (omega arith)
-  room_lower (q ∷ ps) zero low up l = refl
-  room_lower (q ∷ ps) (suc i) low up l = room_lower ps i low up (omega arith)
-
-  pub room_upper : (ps : List (Vec X A)) (i : ℕ) (low up : Vec X A) → i < length ps → room_at (insert (set ps i low) (suc i) up) (suc i) ≡ room_in up
-  room_upper [] i low up l = absurd (omega arith)
-  room_upper (q ∷ ps) zero low up l = refl
-  room_upper (q ∷ ps) (suc i) low up l = room_upper ps i low up (omega arith)
+  -- how many items the two parts have, and how many they have room for
+  pub parts_at : (ps : List (Vec X A)) (i : ℕ) (low up : Vec X A) → i < length ps → let qs = insert (set ps i low) (suc i) up in
+      (length_at qs i ≡ length low.items) × (length_at qs (suc i) ≡ length up.items) × (room_at qs i ≡ room_in low) × (room_at qs (suc i) ≡ room_in up)
+  parts_at [] i low up l = absurd (omega arith)
+  parts_at (q ∷ ps) zero low up l = (refl, refl, refl, refl)
+  parts_at (q ∷ ps) (suc i) low up l = parts_at ps i low up (omega arith)
 
   pub stands_upper : (ps : List (Vec X A)) (i : ℕ) (low up : Vec X A) (j : ℕ) → i < length ps → stands_at (insert (set ps i low) (suc i) up) (suc i) j ≡ stands_at ps i (length low.items + j)
   stands_upper [] i low up j l = absurd (omega arith)
@@ -188,21 +155,6 @@ module _ {X A : Type 0} where
   free_last (q ∷ r ∷ ps) (suc n) e = free_last (r ∷ ps) n (omega arith)
 
   -- the piece that `slice_get` finds
-  pub got_within : (ps : List (Vec X A)) (n : ℕ) (p : Vec X A) → Some p ≡ slice_get ps n → n < length ps
-  got_within [] n p e = cc
-  got_within (q ∷ ps) zero p e = omega arith
-  got_within (q ∷ ps) (suc n) p e = omega (arith, got_within ps n p e)
-
-  pub got_length : (ps : List (Vec X A)) (n : ℕ) (p : Vec X A) → Some p ≡ slice_get ps n → length_at ps n ≡ length p.items
-  got_length [] n p e = cc
-  got_length (q ∷ ps) zero p e = sym (ap (λ (v : Vec X A). length v.items) (some_is e))
-  got_length (q ∷ ps) (suc n) p e = got_length ps n p e
-
-  pub got_room : (ps : List (Vec X A)) (n : ℕ) (p : Vec X A) → Some p ≡ slice_get ps n → room_at ps n ≡ room_in p
-  got_room [] n p e = cc
-  got_room (q ∷ ps) zero p e = sym (ap room_in (some_is e))
-  got_room (q ∷ ps) (suc n) p e = got_room ps n p e
-
   pub got_last : (ps : List (Vec X A)) (n : ℕ) (p : Vec X A) → n + 1 ≡ length ps → Some p ≡ slice_get ps n → room_of_last ps ≡ room_in p
   got_last [] n p l e = cc
   got_last (q ∷ []) zero p l e = sym (ap room_in (some_is e))
@@ -210,13 +162,9 @@ module _ {X A : Type 0} where
   got_last (q ∷ r ∷ ps) zero p l e = absurd (omega arith)
   got_last (q ∷ r ∷ ps) (suc n) p l e = got_last (r ∷ ps) n p (omega arith) e
 
-  pub room_at_last : (ps : List (Vec X A)) (p : Vec X A) → room_at (insert ps (length ps) p) (length ps) ≡ room_in p
-  room_at_last [] p = refl
-  room_at_last (q ∷ ps) p = room_at_last ps p
-
-  pub length_at_end : (ps : List (Vec X A)) (p : Vec X A) → length_at (insert ps (length ps) p) (length ps) ≡ length p.items
-  length_at_end [] p = refl
-  length_at_end (q ∷ ps) p = length_at_end ps p
+  pub last_at : (ps : List (Vec X A)) (p : Vec X A) → (length_at (insert ps (length ps) p) (length ps) ≡ length p.items) × (room_at (insert ps (length ps) p) (length ps) ≡ room_in p)
+  last_at [] p = (refl, refl)
+  last_at (q ∷ ps) p = last_at ps p
 
   -- ---- a spot whose piece was split
 

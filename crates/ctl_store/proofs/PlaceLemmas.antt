@@ -1,5 +1,5 @@
 -- Places in rows whose serials rise.
-use Rattle.std.proofs.Common.{◌≡◌, ℕ, zero, suc, ◌+◌, ◌<◌, ◌≤◌, Bool, true, false, cond, nat_eq, List, [], ◌∷◌, ◌++◌, length, get_or, Option, None, Some, option_map, refl, ap, subst, ◌∙◌, arith}
+use Rattle.std.proofs.Common.{◌≡◌, ℕ, zero, suc, ◌+◌, ◌<◌, ◌≤◌, Bool, true, false, cond, nat_eq, List, [], ◌∷◌, ◌++◌, length, get_or, set, map, Option, None, Some, is_some, option_map, refl, ap, subst, ◌∙◌, arith}
 use Rattle.std.specs.List.{remove, AllByRecursion}
 use Rattle.std.specs.Map.{lookup}
 use Rattle.std.specs.Option.{option_or}
@@ -29,6 +29,15 @@ is_eq_from a b e = grind (arith, nat_tests)
 
 pub some_is : {X : Type 0} {x y : X} → Some x ≡ Some y → x ≡ y
 some_is e = cc
+
+pub none_is : {X : Type 0} (o : Option X) → is_some o ≡ false → o ≡ None
+none_is None h = refl
+none_is (Some x) h = cc
+
+-- what there is, if there is one
+pub some_of : {X : Type 0} (o : Option X) → is_some o ≡ true → (x : X) × (o ≡ Some x)
+some_of None e = cc
+some_of (Some x) e = (x, refl)
 
 -- ---- serials that rise
 
@@ -66,6 +75,10 @@ module _ {X : Type 0} (p : X → Bool) where
   place_passes [] i d e = cc
   place_passes (x ∷ xs) i d e = grind (arith, place_passes xs)
 
+pub place-map : {X Y : Type 0} (f : X → Y) (p : Y → Bool) (xs : List X) → place p (map f xs) ≡ place (λ x. p (f x)) xs
+place-map f p [] = refl
+place-map f p (x ∷ xs) = ap (λ o. cond (p (f x)) (Some 0) (option_map (λ n. suc n) o)) (place-map f p xs)
+
 module _ {V : Type 0} where
   -- the row of a serial stands at one place
   pub place_at : (s n : ℕ) (rs : List (ℕ × V)) (m i : ℕ) → Rises n rs m → i < length rs → ((d : ℕ × V) → (get_or rs i d).0 ≡ s) → place (has_serial s) rs ≡ Some i
@@ -75,13 +88,11 @@ module _ {V : Type 0} where
       ap (λ b. cond b (Some 0) (option_map (λ n. suc n) (place (has_serial s) rs))) (lt_ne r.0 s (omega (arith, Rises-from (suc r.0) rs m i r h.1 (omega arith), e r)))
       ∙ ap (option_map (λ n. suc n)) (place_at s (suc r.0) rs m i h.1 (omega arith) e)
 
-module _ {V : Type 0} where
   pub Rises-replace : (n : ℕ) (rs : List (ℕ × V)) (m i : ℕ) (x : V) → Rises n rs m → Rises n (replace_at rs i x) m
   Rises-replace n [] m i x h = h
   Rises-replace n (y ∷ rs) m zero x h = h
   Rises-replace n (y ∷ rs) m (suc i) x h = (h.0, Rises-replace (suc y.0) rs m i x h.1)
 
-module _ {V : Type 0} where
   -- the value at the place of a serial
   pub lookup-place : (s : ℕ) (rs : List (ℕ × V)) (i : ℕ) (d : ℕ × V) → place (has_serial s) rs ≡ Some i → lookup (λ k. nat_eq k s) rs ≡ Some (get_or rs i d).1
   lookup-place s [] i d e = cc
@@ -123,6 +134,17 @@ module _ {X : Type 0} (P : X → Type 0) where
   pub all_append : (xs ys : List X) → AllByRecursion P xs → AllByRecursion P ys → AllByRecursion P (xs ++ ys)
   all_append [] ys h k = k
   all_append (x ∷ xs) ys h k = (h.0, all_append xs ys h.1 k)
+
+  pub all_set : (xs : List X) (i : ℕ) (x : X) → AllByRecursion P xs → P x → AllByRecursion P (set xs i x)
+  all_set [] i x h p = h
+  all_set (y ∷ ys) zero x h p = (p, h.1)
+  all_set (y ∷ ys) (suc i) x h p = (h.0, all_set ys i x h.1 p)
+
+  pub all_removed : (xs : List X) (i : ℕ) → AllByRecursion P xs → AllByRecursion P (remove xs i)
+  all_removed [] zero h = h
+  all_removed [] (suc i) h = h
+  all_removed (y ∷ ys) zero h = h.1
+  all_removed (y ∷ ys) (suc i) h = (h.0, all_removed ys i h.1)
 
   pub all_front : (xs ys : List X) → AllByRecursion P (xs ++ ys) → AllByRecursion P xs
   all_front [] ys h = tt

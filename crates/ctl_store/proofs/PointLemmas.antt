@@ -35,13 +35,10 @@ module _ {X : Type 0} (p : X → Bool) where
   last_none [] ys zero b h none = none_end ys none
   last_none [] ys (suc r) b h none = absurd (omega arith)
   last_none (x ∷ q) ys (suc r) b h none = cons_end x (q ++ ys) r (h.0 0 x (omega arith) (omega arith)) (last_none q ys r (omega arith) (tail_end x q r h) none)
-  last_none (x ∷ q) ys zero b h none = all (last_none q ys 0 (omega arith) (none_end q (λ k d l. h.1 (suc k) d (omega arith) (omega arith))) none)
+  last_none (x ∷ q) ys zero b h none = none_end (x ∷ (q ++ ys)) (each (last_none q ys 0 (omega arith) (none_end q (λ k d l. h.1 (suc k) d (omega arith) (omega arith))) none))
     where
-      all : IsEnd p (q ++ ys) 0 → IsEnd p (x ∷ (q ++ ys)) 0
-      all rest = none_end (x ∷ (q ++ ys)) each
-        where
-          each : (k : ℕ) (d : X) → k < suc (length (q ++ ys)) → p (get_or (x ∷ (q ++ ys)) k d) ≡ false
-          each k d l = grind arith
+      each : IsEnd p (q ++ ys) 0 → (k : ℕ) (d : X) → k < suc (length (q ++ ys)) → p (get_or (x ∷ (q ++ ys)) k d) ≡ false
+      each rest k d l = grind arith
 
   -- the item at a place, which is read as `x ≡ get_or xs i x`
   pub read_passes : (xs : List X) (i : ℕ) (x d : X) (b : Bool) → i < length xs → x ≡ get_or xs i x → p x ≡ b → p (get_or xs i d) ≡ b
@@ -52,11 +49,7 @@ module _ {X : Type 0} (p : X → Bool) where
   end_between xs r parted within before here = (λ k d a l. parted k (r - 1) d (omega arith) (omega arith) (before d (omega arith)), λ k d a l. high k d a l)
     where
       high : (k : ℕ) (d : X) → r ≤ k → k < length xs → p (get_or xs k d) ≡ false
-      high k d a l = by (p (get_or xs k d)) refl
-        where
-          by : (b : Bool) → p (get_or xs k d) ≡ b → p (get_or xs k d) ≡ false
-          by false is = is
-          by true is = let z : p (get_or xs r d) ≡ true = parted r k d a l is in let f = here d in cc
+      high k d a l = grind (arith, parted r k d a l, here d)
 
   -- ---- parts of a list in which those that pass come first
 
@@ -74,13 +67,10 @@ module _ {X : Type 0} (p : X → Bool) where
   all_pass q some h e k d l = h k (length q - 1) d (omega arith) (omega arith) (sym (last_is q (length q - 1) d (omega arith)) ∙ e)
 
   none_after : (q ys : List X) → 0 < length q → IsPartitionedBy p (q ++ ys) → last_passes p q ≡ false → (k : ℕ) (d : X) → k < length ys → p (get_or ys k d) ≡ false
-  none_after q ys some h e k d l = by (p (get_or ys k d)) refl
-    where
-      by : (b : Bool) → p (get_or ys k d) ≡ b → p (get_or ys k d) ≡ false
-      by false is = is
-      by true is =
-          let z : last_passes p q ≡ true = last_is q (length q - 1) d (omega arith) ∙ sym (ap p (get_or_append_left q ys d (length q - 1) (omega arith))) ∙ h (length q - 1) (length q + k) d (omega arith) (omega (arith, length-append q ys)) (ap p (get_or-append-add q ys k d) ∙ is) in
-          cc
+  none_after q ys some h e k d l =
+      let last = last_is q (length q - 1) d (omega arith) ∙ sym (ap p (get_or_append_left q ys d (length q - 1) (omega arith))) in
+      let is = ap p (get_or-append-add q ys k d) in
+      grind (arith, last, is, h (length q - 1) (length q + k) d (omega arith) (omega (arith, length-append q ys)))
 
   inside : (q : List X) (r : ℕ) → 0 < length q → r ≤ length q → IsEnd p q r → last_passes p q ≡ false → r < length q
   inside [] r some b h e = absurd (omega arith)
@@ -157,7 +147,6 @@ module _ {X A : Type 0} where
   stands_end [] j = refl
   stands_end (q ∷ ps) j = omega (arith, length-append q.items (joined ps), length-append q.items (joined (take (length ps) ps)), stands_end ps j)
 
-module _ {X A : Type 0} where
   pub get_joined : (ps : List (Vec X A)) (i j : ℕ) (p : Vec X A) (x d : X) → j < length_at ps i → p ≡ get_or ps i p → x ≡ get_or p.items j x → get_or (joined ps) (stands_at ps i j) d ≡ x
   get_joined [] i j p x d l e f = absurd (omega arith)
   get_joined (q ∷ ps) zero j p x d l e f = grind (arith, get_or_append_left, get_or_default)

@@ -1,8 +1,9 @@
 -- What is told of preferences is the least of their faults.
 use Rattle.std.proofs.Common.{◌≡◌, ◌∙◌, ◌≤◌, ◌++◌, ◌||◌, ◌&&◌, not, ℕ, Bool, true, false, cond, List, [], ◌∷◌, drop, codes, nat_eq, Option, Some, None, refl, sym, ap, ap₂, subst, arith, inl, inr, ⊎_elim, ◌+◌, ◌<◌, ◌==◌, zero, suc, length, map, slice_index, unwrap_or, is_none, ◌-◌, ℤ, take, Ok, Err, ◌⊎◌}
-use Rattle.std.proofs.lemmas.Bool.{cond-true, cond-false, eqb-true, cases_lt}
+use Rattle.std.proofs.lemmas.Bool.{and_parts, cond-true, cond-false, eqb-true, cases_lt}
 use Rattle.std.proofs.lemmas.Bool.Decides.{Decides-eqb}
-use Rattle.std.proofs.lemmas.List.{get_or-take, get_or-drop, get_or-map, length-map}
+use Rattle.std.proofs.lemmas.List.{get_or-take, get_or-drop, get_or-map, length-map, nil_from_length}
+use Rattle.std.proofs.lemmas.Option.{none-some}
 use Rattle.std.proofs.lemmas.List.Elements.{All-head, All-tail}
 use Rattle.std.proofs.lemmas.List.Kept.{AllPairs-from_increasing}
 use Rattle.std.proofs.lemmas.Slice.Eq.{bytes_eq-Decides, starts_is}
@@ -21,6 +22,7 @@ use Rattle.ctl_stanza.specs.Text.{or_fault}
 use Rattle.ctl_stanza.proofs.CauseLemmas.{or-cases, or-left, or-right}
 use Rattle.ctl_stanza.proofs.RelationLemmas.{same-respects}
 use Rattle.ctl_stanza.proofs.WholeLemmas.{Rise, rise-from, Below, below-from}
+use Rattle.ctl_store.proofs.PlaceLemmas.{some_is}
 use Rattle.ctl_store.specs.declared.selector.Selector.{Selector}
 use Rattle.ctl_store.specs.PinVersions.{is_pin_version}
 use Rattle.ctl_store.specs.Prefs.{words_of, pin_name, priority_name, is_general, are_names, asked, version_asked, list_asked, asked_cause, pin_cause, field_cause, body_in, first_wrong, is_missing, own_fault, first_own_fault, first_settings, all_settings, settings_or_fault, read_prefs_text}
@@ -28,11 +30,8 @@ use Rattle.ctl_store.specs.PrefsFaults.{AsksForVersion, IsWrongPin, IsWrongField
 use Rattle.ctl_store.specs.Priority.{priority_of}
 use Rattle.ctl_relation.specs.Names.{is_name}
 
-some-one : {X : Type 0} {x y : X} → Some x ≡ Some y → x ≡ y
-some-one e = cc
-
-none-some : {A : Type 0} (o : Option A) (x : A) → o ≡ None → o ≡ Some x → ⊥
-none-some o x none some = let clash : None ≡ Some x = sym none ∙ some in cc
+not-both : {A : Type 0} (o : Option A) (x : A) → o ≡ None → o ≡ Some x → ⊥
+not-both o x none some = none-some x (sym none ∙ some)
 
 -- ---- what a pin asks for
 
@@ -43,14 +42,14 @@ asks form front (a ∷ b ∷ c ∷ words) x e = absurd cc
 asks form front (a ∷ b ∷ []) x e = by (bytes_eq a form) (starts_with nat_eq b front) refl refl e
   where
     by : (p q : Bool) → bytes_eq a form ≡ p → starts_with nat_eq b front ≡ q → cond (p && q) (Some (drop (length front) b)) None ≡ Some x → a ∷ b ∷ [] ≡ form ∷ (front ++ x) ∷ []
-    by true true p q e = ap₂ (λ f s. f ∷ s ∷ []) ((bytes_eq-Decides a form).0 p) ((starts_is Decides-eqb b front true (sym q)).0 refl ∙ ap (λ l. front ++ l) (some-one e))
+    by true true p q e = ap₂ (λ f s. f ∷ s ∷ []) ((bytes_eq-Decides a form).0 p) ((starts_is Decides-eqb b front true (sym q)).0 refl ∙ ap (λ l. front ++ l) (some_is e))
     by true false p q e = absurd cc
     by false q p r e = absurd cc
 
 -- ---- what is told is wrong
 
 wrong-as : (general : Bool) (body : List ℕ) (a b : Cause) → Some a ≡ Some b → IsWrongPin general body a → IsWrongPin general body b
-wrong-as general body a b e wrong = subst (IsWrongPin general body) (some-one e) wrong
+wrong-as general body a b e wrong = subst (IsWrongPin general body) (some_is e) wrong
 
 pin-sound : (general : Bool) (body : List ℕ) (version list : Option (List ℕ)) (cause : Cause) → version_asked (words_of body) ≡ version → list_asked (words_of body) ≡ list
     → asked_cause general version list ≡ Some cause → IsWrongPin general body cause
@@ -69,14 +68,9 @@ pin-sound general body None (Some l) cause is_version is_list e = by (is_name l)
     by true p e = absurd cc
     by false p e = wrong-as general body causes.Name cause e (l, asks (codes "release") (codes "a=") (words_of body) l is_list, p)
 pin-sound general body None None cause is_version is_list e = wrong-as general body causes.Form cause e (inr (record {
-  no_version = λ version is. none-some (version_asked (words_of body)) version is_version (ap version_asked is);
-  no_list = λ list is. none-some (list_asked (words_of body)) list is_list (ap list_asked is);
+  no_version = λ version is. not-both (version_asked (words_of body)) version is_version (ap version_asked is);
+  no_list = λ list is. not-both (list_asked (words_of body)) list is_list (ap list_asked is);
 }))
-
-both : (p q : Bool) → (p && q) ≡ true → (p ≡ true) × (q ≡ true)
-both true true e = (refl, refl)
-both true false e = absurd cc
-both false q e = absurd cc
 
 false-of : (q : Bool) → not q ≡ true → q ≡ false
 false-of q e = grind arith
@@ -92,9 +86,9 @@ wrong-sound general name body cause e =
         → cond p (pin_cause general (words_of body)) (cond q (Some causes.Name) (cond r (Some causes.Priority) None)) ≡ Some cause → IsWrongField general name body cause
     by true q r is x y e = inl (is, pin-sound general body (version_asked (words_of body)) (list_asked (words_of body)) cause refl refl e)
     by false true r x is y e =
-        let wrong : IsWrongField general name body causes.Name = inr (inl ((both _ _ is).0, false-of _ (both _ _ is).1, refl)) in subst (IsWrongField general name body) (some-one e) wrong
+        let wrong : IsWrongField general name body causes.Name = inr (inl ((and_parts _ _ is).0, false-of _ (and_parts _ _ is).1, refl)) in subst (IsWrongField general name body) (some_is e) wrong
     by false false true x y is e =
-        let wrong : IsWrongField general name body causes.Priority = inr (inr ((both _ _ is).0, none-of _ (both _ _ is).1, refl)) in subst (IsWrongField general name body) (some-one e) wrong
+        let wrong : IsWrongField general name body causes.Priority = inr (inr ((and_parts _ _ is).0, none-of _ (and_parts _ _ is).1, refl)) in subst (IsWrongField general name body) (some_is e) wrong
     by false false false x y z e = absurd cc
 
 -- ---- of what is wrong the lowest is told
@@ -214,21 +208,17 @@ fields-tell general ns m (f ∷ fs) rise =
     (λ i cause has. has) (λ i cause has. has) (own (field_cause general f.name f.body) refl) (fields-tell general ns (suc f.line) fs rise.1))
   where
     own : (o : Option Cause) → field_cause general f.name f.body ≡ o → TellsLeast (λ i cause. IsTold general i cause f) ns (fault_or (slice_index ns f.line) o None)
-    own None is = λ j cause told. none-some (field_cause general f.name f.body) cause is told.1
-    own (Some cause) is = (f.line, refl, (refl, is), λ j other told. inr (told.0, omega (arith, ap number_of (some-one (sym is ∙ told.1)))))
+    own None is = λ j cause told. not-both (field_cause general f.name f.body) cause is told.1
+    own (Some cause) is = (f.line, refl, (refl, is), λ j other told. inr (told.0, omega (arith, ap number_of (some_is (sym is ∙ told.1)))))
 
 -- ---- what is missing
-
-nil-of : (xs : List ℕ) → (length xs == 0) ≡ true → xs ≡ []
-nil-of [] e = refl
-nil-of (x ∷ xs) e = absurd (omega (arith, eqb-true (length (x ∷ xs)) 0 e))
 
 abbrev is_empty_part : List ℕ → List ℕ → List (List ℕ) → Bool
 is_empty_part ns name stanza = length (body_in name (parts ns (fields_of_lines stanza))) == 0
 
 lacks-sound : (ns name : List ℕ) (stanza : List (List ℕ)) → is_empty_part ns name stanza ≡ true → LacksBody stanza name
 lacks-sound ns name stanza e body is =
-    nil-of body (ap (λ (o : Option (List ℕ)). length (unwrap_or o []) == 0) (sym is) ∙ ap (λ (l : List ℕ). length l == 0) (sym (body-named ns name (fields_of_lines stanza))) ∙ e)
+    nil_from_length body (eqb-true (length body) 0 (ap (λ (o : Option (List ℕ)). length (unwrap_or o []) == 0) (sym is) ∙ ap (λ (l : List ℕ). length l == 0) (sym (body-named ns name (fields_of_lines stanza))) ∙ e))
 
 lacks-complete : (ns name : List ℕ) (stanza : List (List ℕ)) → LacksBody stanza name → is_empty_part ns name stanza ≡ true
 lacks-complete ns name stanza lacks = grind (arith, body-named)
@@ -250,9 +240,6 @@ own-within : (stanza : List (List ℕ)) (i : ℕ) (cause : Cause) → 0 < length
 own-within stanza i cause some (inl lacking) = omega (arith, lacking.first_line)
 own-within stanza i cause some (inr wrong) =
     omega (arith, wrong.line, below-in (length stanza) (fields_of_lines stanza) wrong.field (below-from 0 (length stanza) stanza (omega arith)) wrong.stands)
-
-abbrev fault_at : ℕ → Cause → TextFault
-fault_at line cause = record { line = line; cause = cause }
 
 own-tells : (ns : List ℕ) (stanza : List (List ℕ)) → TellsLeast (HasOwnFault stanza) ns (own_fault (record_of ns stanza))
 own-tells ns stanza = by (is_missing (parts ns fs)) refl
@@ -280,7 +267,7 @@ own-tells ns stanza = by (is_missing (parts ns fs)) refl
         )
 
     by : (b : Bool) → is_missing (parts ns fs) ≡ b
-        → TellsLeast (HasOwnFault stanza) ns (cond b (Some (fault_at (slice_index ns 0) causes.Missing)) (first_wrong (is_general (words_of (body_in package_name (parts ns fs)))) (parts ns fs)))
+        → TellsLeast (HasOwnFault stanza) ns (cond b (Some (record { line = slice_index ns 0; cause = causes.Missing })) (first_wrong (is_general (words_of (body_in package_name (parts ns fs)))) (parts ns fs)))
     by true missing = (
       0,
       refl,

@@ -1,5 +1,5 @@
 -- Pairs of serials and labels, in the order of the labels.
-use Rattle.std.proofs.Common.{◌≡◌, ℕ, zero, suc, ◌<◌, ◌≤◌, Bool, true, false, cond, List, [], ◌∷◌, ◌++◌, length, Option, None, Some, option_map, refl, ap, sym, subst, ◌∙◌, arith, ◌+◌, nat_eq, map, get_or}
+use Rattle.std.proofs.Common.{◌≡◌, ℕ, zero, suc, ◌<◌, ◌≤◌, Bool, true, false, cond, List, [], ◌∷◌, ◌++◌, length, Option, None, Some, is_some, option_map, refl, ap, sym, subst, ◌∙◌, arith, ◌+◌, nat_eq, map, get_or}
 use Rattle.std.specs.List.{AllByRecursion, find, slice_get, insert, remove}
 use Rattle.std.specs.Cmp.{IsTotalOrder}
 use Rattle.std.specs.Ordering.{is_gt, is_lt, is_eq}
@@ -7,12 +7,12 @@ use Rattle.std.specs.declared.cmp.Ordering.{Ordering}
 use Rattle.std.proofs.lemmas.Cmp.{upto}
 use Rattle.ctl_store.specs.Places.{place, has_serial, Rises, replace_at}
 use Rattle.ctl_store.specs.Inside.Sorted.{insert_in, sorted_in, below_in, labelled, order_in, place_in, IsRankedBy}
-use Rattle.ctl_store.proofs.PlaceLemmas.{some_is, eq_is, lt_ne, place_within, Rises-replace, Rises-remove, all_map, all_zip}
+use Rattle.ctl_store.proofs.PlaceLemmas.{some_is, none_is, eq_is, lt_ne, place_within, place-map, Rises-replace, Rises-remove, all_map, all_zip}
 use Rattle.std.specs.List.Sorted.{IsPartitionedBy, IsPartitionPoint}
 use Rattle.std.specs.Map.{lookup}
 use Rattle.std.specs.Option.{option_map_or}
 use Rattle.std.specs.declared.cmp.Ordering.TheVariants.{Less}
-use Rattle.std.proofs.lemmas.Option.{slice_get-get_or, slice_get-map, slice_get_past}
+use Rattle.std.proofs.lemmas.Option.{get_or_from_slice_get, slice_get-get_or, slice_get-map, slice_get_past}
 use Rattle.std.proofs.lemmas.List.{length-map, map-append}
 use Rattle.indexmap.proofs.SetLemmas.{map-insert, map-remove}
 use Rattle.ctl_ordered.proofs.SlotLemmas.{rises_last}
@@ -155,29 +155,25 @@ module _ {L : Type 0} (R : L → L → Ordering) where
     sorted-drop_first q (x ∷ xs) = grind (arith, drop_first-insert_at, drop_first-insert, in_order, sorted-drop_first q xs)
 
     -- what goes stands where halving leads
-    drop_first-lower : (q : L) (y : ℕ × L) (ys : List (ℕ × L)) → IsInOrder ys → find (is_at q) ys ≡ Some y → drop_first q ys ≡ remove ys (below_in R q ys)
-    drop_first-lower q y [] h e = cc
-    drop_first-lower q y (x ∷ ys) h e = grind (arith, none_above, eq_else, lt_back, eq_not_lt, drop_first-lower q y ys h.1)
+    drop_first-lower : (q : L) (ys : List (ℕ × L)) → IsInOrder ys → is_some (find (is_at q) ys) ≡ true → drop_first q ys ≡ remove ys (below_in R q ys)
+    drop_first-lower q [] h e = cc
+    drop_first-lower q (x ∷ ys) h e = grind (arith, none_above, eq_else, lt_back, eq_not_lt, drop_first-lower q ys h.1)
 
     drop_first-place : (q : L) (xs : List (ℕ × L)) (i : ℕ) → place (λ x. is_eq (R x.1 q)) xs ≡ Some i → drop_first q xs ≡ remove xs i
     drop_first-place q [] i e = cc
     drop_first-place q (x ∷ xs) i e = grind (arith, drop_first-place q xs)
 
-    find-place : (q : L) (xs : List (ℕ × L)) (i : ℕ) → place (λ x. is_eq (R x.1 q)) xs ≡ Some i → (y : ℕ × L) × (find (is_at q) xs ≡ Some y)
-    find-place q [] i e = cc
-    find-place q (x ∷ xs) i e = by (is_at q x) (place (is_at q) xs) refl e (find-place q xs)
-      where
-        by : (b : Bool) (o : Option ℕ) → place (is_at q) xs ≡ o → cond b (Some 0) (option_map (λ n. suc n) o) ≡ Some i → ((j : ℕ) → place (is_at q) xs ≡ Some j → (y : ℕ × L) × (find (is_at q) xs ≡ Some y))
-            → (y : ℕ × L) × (cond b (Some x) (find (is_at q) xs) ≡ Some y)
-        by true o was e rec = (x, refl)
-        by false None was e rec = cc
-        by false (Some j) was e rec = rec j was
+    -- one has a label where there is a place of it
+    some-place : (q : L) (xs : List (ℕ × L)) → is_some (place (λ x. is_eq (R x.1 q)) xs) ≡ is_some (find (is_at q) xs)
+    some-place q [] = refl
+    some-place q (x ∷ xs) = grind (arith, some-place q xs)
 
     -- after a row at the first place of a label goes
     pub sorted-remove : (q : L) (xs : List (ℕ × L)) (i : ℕ) → place (λ x. is_eq (R x.1 q)) xs ≡ Some i → sorted_in R (remove xs i) ≡ remove (sorted_in R xs) (below_in R q (sorted_in R xs))
     sorted-remove q xs i e =
-        let f = find-place q xs i e in
-        sym (ap (sorted_in R) (drop_first-place q xs i e)) ∙ sorted-drop_first q xs ∙ drop_first-lower q f.0 (sorted_in R xs) (in_order xs) (find-sorted q xs ∙ f.1)
+        sym (ap (sorted_in R) (drop_first-place q xs i e))
+        ∙ sorted-drop_first q xs
+        ∙ drop_first-lower q (sorted_in R xs) (in_order xs) (ap is_some (find-sorted q xs) ∙ sym (some-place q xs) ∙ ap is_some e)
 
     -- ---- places and serials
 
@@ -191,12 +187,7 @@ module _ {L : Type 0} (R : L → L → Ordering) where
     place-find q n (x ∷ xs) m y h e = grind (arith, eq_is, some_is, lt_ne, from_front, place-find q (suc x.0) xs m y h.1)
 
     pub place-find_none : (q : L) (xs : List (ℕ × L)) → find (λ x. is_eq (R x.1 q)) xs ≡ None → place (λ x. is_eq (R x.1 q)) xs ≡ None
-    place-find_none q [] e = refl
-    place-find_none q (x ∷ xs) e = grind (arith, place-find_none q xs)
-
-    pub find-place_none : (q : L) (xs : List (ℕ × L)) → place (λ x. is_eq (R x.1 q)) xs ≡ None → find (λ x. is_eq (R x.1 q)) xs ≡ None
-    find-place_none q [] e = refl
-    find-place_none q (x ∷ xs) e = grind (arith, find-place_none q xs)
+    place-find_none q xs e = none_is (place (λ x. is_eq (R x.1 q)) xs) (some-place q xs ∙ ap is_some e)
 
     -- ---- what stands before the place where halving leads, and from it on
 
@@ -236,11 +227,6 @@ module _ {L : Type 0} where
     all_zip (λ y k e. ap (λ b. cond b (Some x.1) (lookup (λ k. nat_eq k y.0) xs)) (lt_ne x.0 y.0 (omega (arith, k))) ∙ e) xs (all_from (suc x.0) xs m h.1) (all_lookup (suc x.0) xs m h.1),
   )
 
-  get_entry : {E : Type 0} (f : ℕ × L → E) (xs : List (ℕ × L)) (k : ℕ) (d : E) (y : ℕ × L) → slice_get xs k ≡ Some y → get_or (map f xs) k d ≡ f y
-  get_entry f [] k d y e = cc
-  get_entry f (x ∷ xs) zero d y e = ap f (some_is e)
-  get_entry f (x ∷ xs) (suc k) d y e = get_entry f xs k d y e
-
   some_below : (xs : List (ℕ × L)) (k : ℕ) → k < length xs → (y : ℕ × L) × (slice_get xs k ≡ Some y)
   some_below [] k l = absurd (omega arith)
   some_below (x ∷ xs) zero l = (x, refl)
@@ -250,12 +236,10 @@ module _ {L : Type 0} (R : L → L → Ordering) (total : IsTotalOrder R) {T : T
   -- ---- rows and their labels
 
   place-labels : (q : L) (rows : List (ℕ × T)) → place_in R label q rows ≡ place (λ (x : ℕ × L). is_eq (R x.1 q)) (labelled label rows)
-  place-labels q [] = refl
-  place-labels q (r ∷ rows) = ap (λ o. cond (is_eq (R (label r) q)) (Some 0) (option_map (λ n. suc n) o)) (place-labels q rows)
+  place-labels q rows = sym (place-map (λ (r : ℕ × T). (r.0, label r)) (λ x. is_eq (R x.1 q)) rows)
 
   serial-labels : (s : ℕ) (rows : List (ℕ × T)) → place (has_serial s) (labelled label rows) ≡ place (has_serial s) rows
-  serial-labels s [] = refl
-  serial-labels s (r ∷ rows) = ap (λ o. cond (nat_eq r.0 s) (Some 0) (option_map (λ n. suc n) o)) (serial-labels s rows)
+  serial-labels s rows = place-map (λ (r : ℕ × T). (r.0, label r)) (has_serial s) rows
 
   pub lookup-labels : (s : ℕ) (rows : List (ℕ × T)) → lookup (λ k. nat_eq k s) (labelled label rows) ≡ option_map (λ (x : T). label (s, x)) (lookup (λ k. nat_eq k s) rows)
   lookup-labels s [] = refl
@@ -290,7 +274,7 @@ module _ {L : Type 0} (R : L → L → Ordering) (total : IsTotalOrder R) {T : T
     read : (k : ℕ) (d : E) → k < length order → (y : ℕ × L) × (slice_get sorted k ≡ Some y) × (o (get_or order k d) ≡ R y.1 q)
     read k d w =
         let y = some_below sorted k (omega (arith, ap length kept.ordered, length-map sorted entry)) in
-        (y.0, y.1, ap (λ (s : List E). o (get_or s k d)) kept.ordered ∙ ap o (get_entry entry sorted k d y.0 y.1) ∙ tells k y.0 y.1)
+        (y.0, y.1, ap (λ (s : List E). o (get_or s k d)) kept.ordered ∙ ap o (get_or_from_slice_get (map entry sorted) k (entry y.0) d (slice_get-map entry sorted k ∙ ap (option_map entry) y.1)) ∙ tells k y.0 y.1)
 
     below : (k : ℕ) (d : E) → k < length order → k < below_in R q sorted → is_lt (o (get_or order k d)) ≡ true
     below k d w l = let y = read k d w in ap is_lt y.2 ∙ before_lower R total q sorted k y.0 l y.1
@@ -355,7 +339,7 @@ module _ {L : Type 0} (R : L → L → Ordering) (total : IsTotalOrder R) {T : T
       ordered =
           ap (λ (s : List E). insert s k (entry (next, q))) kept.ordered
           ∙ sym (map-insert entry (sorted_in R (labelled label rows)) k (next, q))
-          ∙ ap (map entry) (sym (sorted-append R total (labelled label rows) (next, q) (find-place_none R total q (labelled label rows) (sym (place-labels q rows) ∙ e))))
+          ∙ ap (map entry) (sym (sorted-append R total (labelled label rows) (next, q) (none_is _ (sym (some-place R total q (labelled label rows)) ∙ ap is_some (sym (place-labels q rows) ∙ e)))))
           ∙ ap (λ xs. map entry (sorted_in R xs)) (sym (map-append (λ (r : ℕ × T). (r.0, label r)) rows ((next, x) ∷ [])));
     }
       where

@@ -1,9 +1,7 @@
 -- Stanzas stay of their lists' kinds.
-use Rattle.std.proofs.Common.{◌≡◌, ◌∙◌, ℕ, zero, suc, Bool, true, false, cond, List, [], ◌∷◌, ◌++◌, Option, None, Some, Result, Ok, Err, set, refl, ap, sym, subst, arith, ◌+◌, ◌-◌, ◌^◌, ◌≤◌, length}
+use Rattle.std.proofs.Common.{◌≡◌, cond, ◌∙◌, ℕ, Bool, true, false, List, [], ◌∷◌, ◌++◌, Option, None, Some, Result, Ok, Err, refl, ap, sym, subst, arith, ◌+◌, ◌-◌, ◌^◌, ◌≤◌, length}
 use Rattle.std.specs.Option.{option_map_or}
-use Rattle.std.specs.List.{AllByRecursion, remove}
 use Rattle.ctl_stanza.specs.declared.list_kind.ListKind.{ListKind}
-use Rattle.ctl_stanza.specs.declared.list_kind.ListKind.TheVariants.{Packages, Status}
 use Rattle.ctl_stanza.specs.Content.{Content, content_of}
 use Rattle.ctl_store.specs.Named.{at_name, without_name, change_named}
 use Rattle.ctl_store.specs.State.{StanzaList, State, stanza_count, count_of_kind, status_count}
@@ -22,28 +20,11 @@ use Rattle.std.specs.Map.{lookup}
 use Rattle.indexmap.specs.IndexMap.{insert_entry}
 use Rattle.ctl_store.specs.Store.{HeldList, lists_of}
 use Rattle.ctl_store.specs.Inside.Held.{InOrder, AreNumbered, IsSound}
-use Rattle.ctl_store.proofs.PlaceLemmas.{Rises-rows_from, all_append}
+use Rattle.ctl_store.proofs.PlaceLemmas.{Rises-rows_from, all_append, all_set, all_removed}
 use Rattle.ctl_store.proofs.ListedLemmas.{InOrder-weaken, in_order_push, in_order_without, in_order_change, Changes, new_lists, without_lists, change_lists}
 
-module _ {X : Type 0} (P : X → Type 0) where
-  pub all_last : (xs : List X) (x : X) → AllByRecursion P xs → P x → AllByRecursion P (xs ++ x ∷ [])
-  all_last [] x h p = (p, tt)
-  all_last (y ∷ ys) x h p = (h.0, all_last ys x h.1 p)
-
-  all_set : (xs : List X) (i : ℕ) (x : X) → AllByRecursion P xs → P x → AllByRecursion P (set xs i x)
-  all_set [] zero x h p = h
-  all_set [] (suc i) x h p = h
-  all_set (y ∷ ys) zero x h p = (p, h.1)
-  all_set (y ∷ ys) (suc i) x h p = (h.0, all_set ys i x h.1 p)
-
-  all_removed : (xs : List X) (i : ℕ) → AllByRecursion P xs → AllByRecursion P (remove xs i)
-  all_removed [] zero h = h
-  all_removed [] (suc i) h = h
-  all_removed (y ∷ ys) zero h = h.1
-  all_removed (y ∷ ys) (suc i) h = (h.0, all_removed ys i h.1)
-
 put_kind : (kind : ListKind) (x : Content) (xs : List Content) → x.kind ≡ kind → AreOfKind kind xs → AreOfKind kind (put_stanza x xs)
-put_kind kind x xs e h = grind (arith, all_last, all_set)
+put_kind kind x xs e h = grind (arith, all_append, all_set)
 
 removed_kind : (kind : ListKind) (name : List ℕ) (version : Option (List ℕ)) (xs : List Content) → AreOfKind kind xs → AreOfKind kind (remove_stanza name version xs)
 removed_kind kind name version xs h = grind (arith, all_removed)
@@ -63,10 +44,7 @@ change_kinds name f (l ∷ ls) g h = grind (arith, change_kinds name f ls)
 -- ---- an accepted edit
 
 same_kind : (a b : ListKind) → is_same_kind a b ≡ true → a ≡ b
-same_kind Packages Packages e = refl
-same_kind Packages Status e = cc
-same_kind Status Packages e = cc
-same_kind Status Status e = refl
+same_kind a b e = grind arith
 
 takes_same : (kind : ListKind) (name : List ℕ) (ls : List (List ℕ × StanzaList)) → takes_kind kind name ls ≡ true → (l : StanzaList) → at_name name ls ≡ Some l → kind ≡ l.kind
 takes_same kind name ls t l at = same_kind kind l.kind (sym (ap (λ o. option_map_or (λ (l : StanzaList). is_same_kind kind l.kind) o false) at) ∙ t)
@@ -98,7 +76,7 @@ pieces_kind kind (first ∷ others) xs e = by (piece_fault kind first) (read_pie
 
 pub kinds_stay : (s : State) (edit : Edit) → KeepKinds s.lists → BringsItsKind s edit → KeepKinds (after s edit).lists
 kinds_stay s (AddList name kind class stanzas) h b =
-    all_last (λ (l : List ℕ × StanzaList). AreOfKind l.1.kind l.1.stanzas) s.lists (name, new_list kind class stanzas) h b
+    all_append (λ (l : List ℕ × StanzaList). AreOfKind l.1.kind l.1.stanzas) s.lists ((name, new_list kind class stanzas) ∷ []) h (b, tt)
 kinds_stay s (DropList name) h b = without_kinds name s.lists h
 kinds_stay s (Put list x) h b = grind (arith, change_kinds, put_kind)
 kinds_stay s (Remove list name version) h b =
@@ -160,7 +138,7 @@ module _ {rows : List (ℕ × (List ℕ × HeldList))} {given next statuses stan
     few_pins = omega (arith, sound.few_pins);
     statuses_counted = sym (ap (λ ls. status_count (stanza_lists ls)) e ∙ ap status_count (new_lists (lists_of lists) name next kind class xs) ∙ status_count-push (stanza_lists (lists_of lists)) name (record { kind = kind; class = class; stanzas = xs }) ∙ ap (λ n. n + count_of_kind kind) (sym sound.statuses_counted));
     counted = sym (ap (λ ls. stanza_count (stanza_lists ls)) e ∙ ap stanza_count (new_lists (lists_of lists) name next kind class xs) ∙ count-push (stanza_lists (lists_of lists)) name (record { kind = kind; class = class; stanzas = xs }) ∙ ap (λ n. n + length xs) (sym sound.counted));
-    kinds = subst KeepKinds (sym (ap stanza_lists e ∙ new_lists (lists_of lists) name next kind class xs)) (all_last (λ (l : List ℕ × StanzaList). AreOfKind l.1.kind l.1.stanzas) (stanza_lists (lists_of lists)) (name, record { kind = kind; class = class; stanzas = xs }) sound.kinds each);
+    kinds = subst KeepKinds (sym (ap stanza_lists e ∙ new_lists (lists_of lists) name next kind class xs)) (all_append (λ (l : List ℕ × StanzaList). AreOfKind l.1.kind l.1.stanzas) (stanza_lists (lists_of lists)) ((name, record { kind = kind; class = class; stanzas = xs }) ∷ []) sound.kinds (each, tt));
     within = within;
     stanzas_bounded = sound.stanzas_bounded;
     edits_bounded = sound.edits_bounded;

@@ -50,11 +50,7 @@ fn are_upstream_bytes(text: &[u8]) -> bool
 fn before_star(text: &[u8]) -> Option<&[u8]>
     ensures { option_copied result ≡ before_star text.now }
 {
-    if text.ends_with(b"*") {
-        Some(&text[..text.len() - 1])
-    } else {
-        None
-    }
+    text.strip_suffix(b"*")
 }
 
 impl PinVersion {

@@ -72,10 +72,7 @@ impl Plan {
     pub fn find(&self, key: StanzaKey) -> Option<&Stanza>
         ensures { option_copied result ≡ coming_under self.now.added self.now.edit key }
     {
-        match self.added.first() {
-            Some(first) => found_from(&self.edit, *first, key),
-            None => None,
-        }
+        found_from(&self.edit, *self.added.first()?, key)
     }
 }
 

@@ -66,10 +66,7 @@ impl Store {
         ensures key { option_to_list result ≡ found_in list.now name.now (option_copied version.entry) (keyed_of self.now).lists }
         ensures there { is_some result ≡ has_stanza list.now name.now (option_copied version.entry) (state_of self.now).lists }
     {
-        match self.lists.get(list) {
-            Some(listed) => listed.found_key(name, version),
-            None => None,
-        }
+        self.lists.get(list)?.found_key(name, version)
     }
 
     // The key of the stanza that an edit takes out or replaces. Its commit finds at one look what this searched for.

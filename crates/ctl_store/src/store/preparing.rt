@@ -71,13 +71,11 @@ impl Store {
     fn next_in(&self, list: &Bytes) -> Option<StanzaKey>
         ensures { option_to_list result ≡ next_in list.now (keyed_of self.now).lists }
     {
-        match self.lists.get(list) {
-            Some(listed) => Some(StanzaKey {
-                list: listed.serial(),
-                stanza: listed.next(),
-            }),
-            None => None,
-        }
+        let listed = self.lists.get(list)?;
+        Some(StanzaKey {
+            list: listed.serial(),
+            stanza: listed.next(),
+        })
     }
 
     // The key under which a stanza that is put stands: that which goes, else a new one.

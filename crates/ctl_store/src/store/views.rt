@@ -116,10 +116,7 @@ impl Store {
     pub fn kind(&self, list: &[u8]) -> Option<ListKind>
         ensures { result ≡ option_map (λ l. l.kind) (at_name list.now (state_of self.now).lists) }
     {
-        match self.lists.get(Name { bytes: list }) {
-            Some(listed) => Some(listed.kind()),
-            None => None,
-        }
+        Some(self.lists.get(Name { bytes: list })?.kind())
     }
 
     /// The kind and the class of a list, if there is a list of this name.
@@ -127,10 +124,8 @@ impl Store {
     pub fn list(&self, name: &[u8]) -> Option<(ListKind, ListClass)>
         ensures { result ≡ option_map (λ l. (l.kind, l.class)) (at_name name.now (state_of self.now).lists) }
     {
-        match self.lists.get(Name { bytes: name }) {
-            Some(listed) => Some((listed.kind(), listed.class())),
-            None => None,
-        }
+        let listed = self.lists.get(Name { bytes: name })?;
+        Some((listed.kind(), listed.class()))
     }
 
     /// The serial of a list, which its keys have, if there is a list of this name.
@@ -138,10 +133,7 @@ impl Store {
     pub fn serial(&self, list: &[u8]) -> Option<u32>
         ensures { result ≡ option_map (λ l. l.serial) (at_name list.now (keyed_of self.now).lists) }
     {
-        match self.lists.get(Name { bytes: list }) {
-            Some(listed) => Some(listed.serial()),
-            None => None,
-        }
+        Some(self.lists.get(Name { bytes: list })?.serial())
     }
 
     /// All stanzas with their keys, list by list and stanza by stanza.
@@ -297,10 +289,7 @@ impl Store {
     pub fn target(&self) -> Option<&[u8]>
         ensures { option_copied result ≡ (state_of self.now).target }
     {
-        match &self.target {
-            Some(name) => Some(name.as_slice()),
-            None => None,
-        }
+        Some(self.target.as_ref()?.as_slice())
     }
 
     /// How many stanzas it holds, and how many edits it has accepted. The keys of its stanzas rise in the order of its

@@ -1,7 +1,8 @@
 use Rattle.std.proofs.Common.{rules, ◌∙◌, suc, get_or, set, ap, sym, subst, arith}
 use Rattle.std.specs.List.{remove}
 use Rattle.ctl_store.specs.Inside.HeldPieces.{ArePieces, IsPiece, joined, length_at}
-use Rattle.ctl_store.proofs.PiecesLemmas.{plus_one, length_read, room_read, piece_read, pieces_set, pieces_remove, read_before, joined_join}
+use Rattle.ctl_store.proofs.PiecesLemmas.{plus_one, length_read, room_read, piece_read, read_before, joined_join}
+use Rattle.ctl_store.proofs.PlaceLemmas.{all_set, all_removed}
 use Rattle.ctl_store.proofs.pieces.join_next.Goals as goal
 
 pub unreachable-requires : goal.unreachable-requires
@@ -31,7 +32,7 @@ returns-clause-kept g c =
     let r = room_read ps at p (omega (arith, c.requires.next)) read in
     record {
       pieces = subst (λ l. ArePieces (set l at c.append.new.self)) (sym rest)
-          (pieces_set (remove ps (suc at)) at c.append.new.self (pieces_remove ps (suc at) c.requires.pieces) (record {
+          (all_set IsPiece (remove ps (suc at)) at c.append.new.self (all_removed IsPiece ps (suc at) c.requires.pieces) (record {
             some = omega (arith, was.some, c.in-Ok.ensures.len);
             few = omega (arith, c.in-Ok.ensures.len, n, m, r, c.requires.room, ap (length_at ps) (plus_one at));
             room = omega (arith, was.room, c.in-Ok.ensures.capacity);

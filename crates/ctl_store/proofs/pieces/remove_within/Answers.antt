@@ -1,6 +1,7 @@
 use Rattle.std.proofs.Common.{rules, arith}
 use Rattle.ctl_store.specs.Inside.HeldPieces.{IsPiece}
-use Rattle.ctl_store.proofs.PiecesLemmas.{spot_within, length_read, piece_read, pieces_set, joined_remove}
+use Rattle.ctl_store.proofs.PiecesLemmas.{spot_within, length_read, piece_read, joined_remove}
+use Rattle.ctl_store.proofs.PlaceLemmas.{all_set}
 use Rattle.ctl_store.proofs.pieces.remove_within.Goals as goal
 
 pub index_mut-requires : goal.index_mut-requires
@@ -19,7 +20,7 @@ returns-clause-kept g c =
     let p : IsPiece c.index_mut.result.now = piece_read ps c.args.spot.piece c.index_mut.result.now c.requires.pieces within c.index_mut.ensures.value in
     let n = length_read ps c.args.spot.piece c.index_mut.result.now within c.index_mut.ensures.value in
     record {
-      pieces = pieces_set ps c.args.spot.piece c.remove.new.self c.requires.pieces (record {
+      pieces = all_set IsPiece ps c.args.spot.piece c.remove.new.self c.requires.pieces (record {
         some = omega (arith, c.remove.ensures.len, n, c.requires.others);
         few = omega (arith, c.remove.ensures.len, p.few);
         room = omega (arith, c.remove.ensures.capacity, p.room);

@@ -1,7 +1,7 @@
 use Rattle.std.proofs.Common.{◌≡◌, ◌∙◌, ◌-◌, ◌<◌, min, length, ap, arith}
 use Rattle.std.specs.List.{insert}
 use Rattle.ctl_store.specs.Inside.HeldPieces.{length_at, room_in, room_at, room_of_all, room_at_end, free_at_end}
-use Rattle.ctl_store.proofs.PiecesLemmas.{length_read, some_free, free_last, length_at_end, room_at_last, room_of_all_push}
+use Rattle.ctl_store.proofs.PiecesLemmas.{length_read, some_free, free_last, last_at, room_of_all_push}
 use Rattle.ctl_store.proofs.pieces.Pieces.push.Goals as goal
 
 pub insert_within-requires-clause-at : goal.insert_within-requires-clause-at
@@ -29,8 +29,8 @@ returns-then-free_in_last-eq0-clause-room g c =
     let count : c.len-count.result ≡ length ps = omega arith in
     let now : qs ≡ insert ps (length ps) p = c.insert_piece.ensures.items ∙ ap (λ n. insert ps n p) count in
     let one : length p.items ≡ 1 = omega (arith, ap length c.take_ready-piece.ensures.piece.none, c.insert_in.ensures.len) in
-    let at : length_at qs (length ps) ≡ 1 = ap (λ l. length_at l (length ps)) now ∙ length_at_end ps p ∙ one in
-    let room : room_at qs (length ps) ≡ room_in p = ap (λ l. room_at l (length ps)) now ∙ room_at_last ps p in
+    let at : length_at qs (length ps) ≡ 1 = ap (λ l. length_at l (length ps)) now ∙ (last_at ps p).0 ∙ one in
+    let room : room_at qs (length ps) ≡ room_in p = ap (λ l. room_at l (length ps)) now ∙ (last_at ps p).1 in
     let same : room_in p ≡ room_in taken = ap (λ n. min 64 n) c.insert_in.ensures.capacity in
     omega (arith, ap room_at_end c.self.view_is, none, at, room, same, c.take_ready-piece.ensures.piece.room, free_last qs (length ps) (omega (arith, c.insert_piece.ensures.len)), ap room_of_all c.take_ready-piece.ensures.items, room_of_all_push c.take_ready-piece.new.ready.items taken)
 

@@ -10,7 +10,8 @@ use Rattle.ctl_store.specs.Step.{after}
 use Rattle.ctl_store.specs.Keys.{KeyedList, stanza_lists, list_of_stanzas, keyed_after}
 use Rattle.ctl_store.specs.Store.{lists_of, keyed_list, state_of, keyed_of}
 use Rattle.ctl_store.specs.Inside.Held.{AreNumbered, IsSound}
-use Rattle.ctl_store.proofs.ListedLemmas.{none_is, has_name_lists, lists_put_new, numbered_last, new_lists}
+use Rattle.ctl_store.proofs.PlaceLemmas.{none_is}
+use Rattle.ctl_store.proofs.ListedLemmas.{has_name_lists, lists_put_new, numbered_last, new_lists}
 use Rattle.ctl_store.proofs.SoundLemmas.{sound_add}
 use Rattle.ctl_store.proofs.AcceptLemmas.{add_statuses, add_new, add_fits, new_among}
 use Rattle.ctl_store.proofs.store.Store.add_list.Goals as goal
