@@ -1,7 +1,7 @@
 //! The fronts of names, which tell most names apart.
 
 ghost use Rattle.std.specs.Prelude.{◌≡◌};
-ghost use Rattle.ctl_store.specs.Fronts.{digit, has_digit, first_digit, behind_first, front_of};
+ghost use Rattle.ctl_store.specs.Fronts.{digit, first_digit, behind_first, front_of};
 ghost use Rattle.ctl_store.specs.Rows.{placed_row};
 
 use ctl_stanza::Stanza;
@@ -36,32 +36,30 @@ impl Placed {
 fn digit_of(byte: u8) -> u64
     ensures { result ≡ digit byte }
 {
-    let signs = byte.saturating_sub(42).min(1) + byte.saturating_sub(44).min(2);
-    let others = byte.saturating_sub(47).min(10) + byte.saturating_sub(96).min(26);
-    (signs + others) as u64
+    let number = match byte {
+        b'a'..=b'z' => byte - 83,
+        b'0'..=b'9' => byte - 44,
+        0..=42 => 0,
+        43 | 44 => 1,
+        45 => 2,
+        46 | 47 => 3,
+        58..=96 => 13,
+        _ => 39,
+    };
+    number as u64
 }
 
-// Whether a character has a number of its own.
-fn has_digit(byte: u8) -> bool
-    ensures { result ≡ has_digit byte }
-{
-    byte > 0 && digit_of(byte - 1) < digit_of(byte)
-}
-
-fn first_digit(name: &[u8]) -> u64
-    ensures { result ≡ first_digit name.now }
-{
-    name.first().map_or(0, |byte| digit_of(*byte))
-}
-
-// What stands behind the first character.
-fn behind_first(name: &[u8]) -> &[u8]
-    ensures { result.now ≡ behind_first name.now }
+// The number of the first character, and what stands behind it.
+fn first_of(name: &[u8]) -> (u64, &[u8])
+    ensures number { result.0 ≡ first_digit name.now }
+    ensures behind { result.1.now ≡ behind_first name.now }
 {
     match name.split_first() {
-        Some((byte, behind)) if has_digit(*byte) => behind,
-        Some(_) => LAST,
-        None => name,
+        Some((byte, behind)) => match *byte {
+            b'a'..=b'z' | b'0'..=b'9' | b'+' | b'-' | b'.' => (digit_of(*byte), behind),
+            other => (digit_of(other), LAST),
+        },
+        None => (0, name),
     }
 }
 
@@ -72,8 +70,9 @@ pub(crate) fn front_of(name: &[u8]) -> u64
     let mut front = 0;
     let mut left = name;
     for place in 0..FRONT_LEN {
-        front = front * 40 + first_digit(left);
-        left = behind_first(left);
+        let (digit, behind) = first_of(left);
+        front = front * 40 + digit;
+        left = behind;
     }
     front
 }

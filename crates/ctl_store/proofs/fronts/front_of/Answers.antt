@@ -7,7 +7,7 @@ pub overflow_mul-front : goal.overflow_mul-front
 overflow_mul-front c = omega (arith, fits_word c.loop-place.place c.loop-place.front (omega arith) c.loop-place.invariant.bound)
 
 pub overflow_add-front : goal.overflow_add-front
-overflow_add-front c = omega (arith, fits_word c.loop-place.place c.loop-place.front (omega arith) c.loop-place.invariant.bound, c.first_digit.ensures, first_most c.loop-place.left.now)
+overflow_add-front c = omega (arith, fits_word c.loop-place.place c.loop-place.front (omega arith) c.loop-place.invariant.bound, c.first_of-digit.ensures.number, first_most c.loop-place.left.now)
 
 pub loop-place-init : goal.loop-place-init
 loop-place-init c = record { same = whole c.args.name.now; bound = omega arith }
@@ -15,7 +15,7 @@ loop-place-init c = record { same = whole c.args.name.now; bound = omega arith }
 pub loop-place-preserved : goal.loop-place-preserved
 loop-place-preserved c = record {
   same =
-      (λ j. packed (front_len - (c.loop-place.place + 1)) (c.loop-place.front * 40 + c.first_digit.ensures j) (c.behind_first-left.ensures j))
+      (λ j. packed (front_len - (c.loop-place.place + 1)) (c.loop-place.front * 40 + c.first_of-digit.ensures.number j) (c.first_of-digit.ensures.behind j))
       ∙ sym (made c.loop-place.place c.loop-place.front c.loop-place.left.now (omega arith)) ∙ c.loop-place.invariant.same;
-  bound = omega (arith, fits c.loop-place.place c.loop-place.front c.loop-place.invariant.bound, c.first_digit.ensures, first_most c.loop-place.left.now);
+  bound = omega (arith, fits c.loop-place.place c.loop-place.front c.loop-place.invariant.bound, c.first_of-digit.ensures.number, first_most c.loop-place.left.now);
 }
