@@ -24,9 +24,9 @@ use Rattle.std.specs.declared.cmp.Ordering.TheVariants.{Less}
 use Rattle.ctl_ordered.specs.declared.slot.Slot.{Slot}
 use Rattle.ctl_ordered.specs.declared.slot.Slot.TheVariants.{Entry, Hole}
 use Rattle.indexmap.specs.IndexMap.{insert_entry}
-use Rattle.ctl_ordered.specs.Slots.{entries_of, rows_of, value_of, with_value, is_entry, Rises}
-use Rattle.ctl_ordered.specs.Ordered.{without_serials, serials_of, row_serial, found_cmp, order_at, set_row, cut_row, IsBelow, KeysRise, IsKept, IsOrdered}
-use Rattle.ctl_ordered.proofs.SlotLemmas.{from_lent, entry_in, row_at, rises_rows, rises_set, rises_last, rises_squeezed, insert_last, rows_set, rows_cut, rows_last, rows_squeezed, IsEntryOf, row_found, no_value, no_cut, no_serial, views_set, views_cut, keys_in_rows, all_cut, apart_cut}
+use Rattle.ctl_ordered.specs.Slots.{entries_of, filled_of, value_of, with_value, is_entry, Rises}
+use Rattle.ctl_ordered.specs.Ordered.{without_serials, serials_of, filled_serial, found_cmp, order_at, set_filled, cut_filled, IsBelow, KeysRise, HasSerials, IsOrdered}
+use Rattle.ctl_ordered.proofs.SlotLemmas.{from_lent, entry_in, filled_at, rises_filled, rises_set, rises_last, rises_squeezed, insert_last, filled_set, filled_cut, filled_last, filled_squeezed, IsEntryOf, filled_found, no_value, no_cut, no_serial, views_set, views_cut, keys_in_filled, all_cut, apart_cut}
 
 is_less : (o : Ordering) → is_lt o ≡ true → o ≡ Less
 is_less o e = grind arith
@@ -89,8 +89,8 @@ module _ {K : Type 0} {eq : K → K → Bool} {R : K → K → Ordering} (o : Is
     abbrev ps : List (K × ℕ)
     ps = held.pairs
 
-    abbrev rows : List (ℕ × (K × V))
-    rows = rows_of slots
+    abbrev filled : List (ℕ × (K × V))
+    filled = filled_of slots
 
     abbrev key : ℕ → K
     key i = get_or (keys_of ps) i q
@@ -100,8 +100,8 @@ module _ {K : Type 0} {eq : K → K → Bool} {R : K → K → Ordering} (o : Is
     climb : (i j : ℕ) → i < j → j < length ps → R (key i) (key j) ≡ Less
     climb i j l b = Less-from_sorted R (keys_of ps) i j q (sorted ps held.climbs) l (omega (arith, b, length-map ps (λ (p : K × ℕ). p.0)))
 
-    entry_found : (k : K) (s : ℕ) → Some s ≡ row_serial (eq k) rows → (e : K × V) × IsEntryOf (eq k) rows s e
-    entry_found k s i = row_found (eq k) 0 rows next s (rises_rows 0 slots next held.kept.rises) (sym i)
+    entry_found : (k : K) (s : ℕ) → Some s ≡ filled_serial (eq k) filled → (e : K × V) × IsEntryOf (eq k) filled s e
+    entry_found k s i = filled_found (eq k) 0 filled next s (rises_filled 0 slots next held.kept.rises) (sym i)
 
     -- the slot of a serial stands to a key as the serial's key does
     order_read : (i d : ℕ) → i < length ps → order_at R slots q (get_or order i d) ≡ R (key i) q
@@ -110,7 +110,7 @@ module _ {K : Type 0} {eq : K → K → Bool} {R : K → K → Ordering} (o : Is
         let s = get_or order i d in
         let own = found_there k q ps i d (λ j m. o.laws.symm k (key j) ∙ apart (key j) k (climb j i m l)) l (o.laws.refl k) in
         let there = entry_found k s (ap (λ (l : List ℕ). Some (get_or l i d)) held.order_is ∙ sym own.0 ∙ held.kept.found k) in
-        found_as (lookup (nat_eq s) slots) there.0 (row_at s 0 slots next held.kept.rises ∙ there.1.row)
+        found_as (lookup (nat_eq s) slots) there.0 (filled_at s 0 slots next held.kept.rises ∙ there.1.slot)
         ∙ sym (o.total.congr k there.0.0 q ((Equal-is (R k there.0.0)).0 (sym (o.alike k there.0.0) ∙ there.1.passes)))
       where
         found_as : (r : Option (Slot K V)) (e : K × V) → entry_in r ≡ Some e → found_cmp R r q ≡ R e.0 q
@@ -132,32 +132,32 @@ module _ {K : Type 0} {eq : K → K → Bool} {R : K → K → Ordering} (o : Is
     -- ---- what a kept map keeps
 
     -- the slot of a key's serial has the key's entry
-    slot_is : (s : ℕ) (r : Slot K V) → Some s ≡ row_serial (eq q) rows → Some r ≡ lookup (nat_eq s) slots → (e : K × V) × (r ≡ Entry e.0 e.1) × IsEntryOf (eq q) rows s e
-    slot_is s r i at = let there = entry_found q s i in (there.0, entry_is r there.0 (ap entry_in at ∙ row_at s 0 slots next held.kept.rises ∙ there.1.row), there.1)
+    slot_is : (s : ℕ) (r : Slot K V) → Some s ≡ filled_serial (eq q) filled → Some r ≡ lookup (nat_eq s) slots → (e : K × V) × (r ≡ Entry e.0 e.1) × IsEntryOf (eq q) filled s e
+    slot_is s r i at = let there = entry_found q s i in (there.0, entry_is r there.0 (ap entry_in at ∙ filled_at s 0 slots next held.kept.rises ∙ there.1.slot), there.1)
       where
         entry_is : (r : Slot K V) (e : K × V) → entry_in (Some r) ≡ Some e → r ≡ Entry e.0 e.1
         entry_is r e is = grind arith
 
-    pub ordered_value : (s : ℕ) (r : Slot K V) → Some s ≡ row_serial (eq q) rows → Some r ≡ lookup (nat_eq s) slots → value_of r ≡ lookup (eq q) (entries_of slots)
+    pub ordered_value : (s : ℕ) (r : Slot K V) → Some s ≡ filled_serial (eq q) filled → Some r ≡ lookup (nat_eq s) slots → value_of r ≡ lookup (eq q) (entries_of slots)
     ordered_value s r i at = let there = slot_is s r i at in ap value_of there.1 ∙ sym there.2.value
 
-    pub ordered_gap : (s : ℕ) → Some s ≡ row_serial (eq q) rows → None ≡ lookup (nat_eq s) slots → ⊥
-    ordered_gap s i at = let there = entry_found q s i in none-some there.0 (ap entry_in at ∙ row_at s 0 slots next held.kept.rises ∙ there.1.row)
+    pub ordered_gap : (s : ℕ) → Some s ≡ filled_serial (eq q) filled → None ≡ lookup (nat_eq s) slots → ⊥
+    ordered_gap s i at = let there = entry_found q s i in none-some there.0 (ap entry_in at ∙ filled_at s 0 slots next held.kept.rises ∙ there.1.slot)
 
-    pub ordered_no_value : None ≡ row_serial (eq q) rows → (None ≡ lookup (eq q) (entries_of slots)) × (entries_of slots ≡ remove_entry (eq q) (entries_of slots)) × (rows ≡ cut_row (eq q) rows)
+    pub ordered_no_value : None ≡ filled_serial (eq q) filled → (None ≡ lookup (eq q) (entries_of slots)) × (entries_of slots ≡ remove_entry (eq q) (entries_of slots)) × (filled ≡ cut_filled (eq q) filled)
     ordered_no_value i =
-        let cut = sym (no_cut (eq q) rows (sym i)) in
-        (sym (no_value (eq q) rows (sym i)), ap without_serials cut ∙ (views_cut (eq q) rows).0, cut)
+        let cut = sym (no_cut (eq q) filled (sym i)) in
+        (sym (no_value (eq q) filled (sym i)), ap without_serials cut ∙ (views_cut (eq q) filled).0, cut)
 
-    pub ordered_set : (w : V) (s : ℕ) (r x : Slot K V) (m : Option (MutBor V)) → Some s ≡ row_serial (eq q) rows → Some r ≡ lookup (nat_eq s) slots → option_copied_mut m ≡ value_of r → OnSome m (x ≡ with_value r w)
-        → IsOrdered eq R (set_value (nat_eq s) slots x) order next × (entries_of (set_value (nat_eq s) slots x) ≡ set_value (eq q) (entries_of slots) w) × (rows_of (set_value (nat_eq s) slots x) ≡ set_row (eq q) rows w)
+    pub ordered_set : (w : V) (s : ℕ) (r x : Slot K V) (m : Option (MutBor V)) → Some s ≡ filled_serial (eq q) filled → Some r ≡ lookup (nat_eq s) slots → option_copied_mut m ≡ value_of r → OnSome m (x ≡ with_value r w)
+        → IsOrdered eq R (set_value (nat_eq s) slots x) order next × (entries_of (set_value (nat_eq s) slots x) ≡ set_value (eq q) (entries_of slots) w) × (filled_of (set_value (nat_eq s) slots x) ≡ set_filled (eq q) filled w)
     ordered_set w s r x m i at lent on =
         let there = slot_is s r i at in
         let here = there.1 in
         let set = from_lent m there.0.1 (lent ∙ ap value_of here) on in
-        let new : rows_of (set_value (nat_eq s) slots x) ≡ set_row (eq q) rows w =
-        ap (λ y. rows_of (set_value (nat_eq s) slots y)) (set ∙ ap (λ y. with_value y w) here) ∙ rows_set s there.0 w slots (sym at ∙ ap (λ y. Some y) here) ∙ there.2.set w in
-        let views = views_set (eq q) rows w in
+        let new : filled_of (set_value (nat_eq s) slots x) ≡ set_filled (eq q) filled w =
+        ap (λ y. filled_of (set_value (nat_eq s) slots y)) (set ∙ ap (λ y. with_value y w) here) ∙ filled_set s there.0 w slots (sym at ∙ ap (λ y. Some y) here) ∙ there.2.set w in
+        let views = views_set (eq q) filled w in
         let entries = ap without_serials new ∙ views.0 in (
           record {
             pairs = ps;
@@ -184,7 +184,7 @@ module _ {K : Type 0} {eq : K → K → Bool} {R : K → K → Ordering} (o : Is
           let there = found_there q q ps r 0 (λ j m. o.laws.symm q (key j) ∙ apart (key j) q (low j m)) b (o.laws.symm q (key r) ∙ o.alike (key r) q ∙ sym (ap is_eq (order_read r 0 b)) ∙ e) in
           (there.0 ∙ ap (λ (l : List ℕ). Some (get_or l r 0)) (sym held.order_is), there.1)
 
-      pub serial_there : r < length order → is_eq (order_at R slots q (get_or order r 0)) ≡ true → Some (get_or order r 0) ≡ row_serial (eq q) rows
+      pub serial_there : r < length order → is_eq (order_at R slots q (get_or order r 0)) ≡ true → Some (get_or order r 0) ≡ filled_serial (eq q) filled
       serial_there l e = sym (there_is l e).0 ∙ held.kept.found q
 
       -- where the key there is another, those from there on are above
@@ -201,7 +201,7 @@ module _ {K : Type 0} {eq : K → K → Bool} {R : K → K → Ordering} (o : Is
                 let b : r < length order = omega (arith, l, length_order) in
                 o.total.antisymm q (key r) ∙ is_greater (R (key r) q) (sym (ap is_lt read) ∙ point.1 r 0 (omega arith) b) (sym (ap is_eq read) ∙ other b)
 
-        pub serial_nowhere : None ≡ row_serial (eq q) rows
+        pub serial_nowhere : None ≡ filled_serial (eq q) filled
         serial_nowhere =
             sym (found_nowhere (lookup (eq q)) (λ (p : K × ℕ). eq q p.0) (λ p. Some p.1) None refl (λ p ps. refl) ps (q, 0) (λ j l. ap (eq q) (sym (get_or-map (λ (p : K × ℕ). p.0) ps j (q, 0) q l)) ∙ not_at j l))
             ∙ held.kept.found q
@@ -213,14 +213,14 @@ module _ {K : Type 0} {eq : K → K → Bool} {R : K → K → Ordering} (o : Is
             ]
 
       pub ordered_pushed : (v : V) → lookup (eq q) (entries_of slots) ≡ None
-          → IsOrdered eq R (insert_entry nat_eq slots next (Entry q v)) (insert order r next) (next + 1) × (entries_of (insert_entry nat_eq slots next (Entry q v)) ≡ insert_entry eq (entries_of slots) q v) × (rows_of (insert_entry nat_eq slots next (Entry q v)) ≡ rows ++ (next, (q, v)) ∷ [])
+          → IsOrdered eq R (insert_entry nat_eq slots next (Entry q v)) (insert order r next) (next + 1) × (entries_of (insert_entry nat_eq slots next (Entry q v)) ≡ insert_entry eq (entries_of slots) q v) × (filled_of (insert_entry nat_eq slots next (Entry q v)) ≡ filled ++ (next, (q, v)) ∷ [])
       ordered_pushed v none =
-          let free = no_serial (eq q) rows none in
+          let free = no_serial (eq q) filled none in
           let all = insert_last (Entry q v) 0 slots next held.kept.rises in
-          let new : rows_of (insert_entry nat_eq slots next (Entry q v)) ≡ rows ++ (next, (q, v)) ∷ [] = ap rows_of all ∙ rows_last slots next (q, v) in
-          let entries : entries_of (insert_entry nat_eq slots next (Entry q v)) ≡ entries_of slots ++ (q, v) ∷ [] = ap without_serials new ∙ map-append (λ (row : ℕ × (K × V)). row.1) rows ((next, (q, v)) ∷ []) in
-          let serials : serials_of (rows_of (insert_entry nat_eq slots next (Entry q v))) ≡ insert (serials_of rows) (length (serials_of rows)) (q, next) =
-          ap serials_of new ∙ map-append (λ (row : ℕ × (K × V)). (row.1.0, row.0)) rows ((next, (q, v)) ∷ []) ∙ sym (insert_end (serials_of rows) (q, next)) in
+          let new : filled_of (insert_entry nat_eq slots next (Entry q v)) ≡ filled ++ (next, (q, v)) ∷ [] = ap filled_of all ∙ filled_last slots next (q, v) in
+          let entries : entries_of (insert_entry nat_eq slots next (Entry q v)) ≡ entries_of slots ++ (q, v) ∷ [] = ap without_serials new ∙ map-append (λ (slot : ℕ × (K × V)). slot.1) filled ((next, (q, v)) ∷ []) in
+          let serials : serials_of (filled_of (insert_entry nat_eq slots next (Entry q v))) ≡ insert (serials_of filled) (length (serials_of filled)) (q, next) =
+          ap serials_of new ∙ map-append (λ (slot : ℕ × (K × V)). (slot.1.0, slot.0)) filled ((next, (q, v)) ∷ []) ∙ sym (insert_end (serials_of filled) (q, next)) in
           let other : r < length order → is_eq (order_at R slots q (get_or order r 0)) ≡ false = λ l. elim (cases_Bool (is_eq (order_at R slots q (get_or order r 0)))) [
             | inl e ↦ absurd (none-some (get_or order r 0) (sym free ∙ sym (serial_there l e)))
             | inr e ↦ e
@@ -231,7 +231,7 @@ module _ {K : Type 0} {eq : K → K → Bool} {R : K → K → Ordering} (o : Is
               kept = record {
                 found = λ k.
                     lookup-insert o.laws q next k ps r (none_passes_from_lookup (eq q) ps (held.kept.found q ∙ free)) ∙ ap (λ x. cond (eq q k) (Some next) x) (held.kept.found k)
-                    ∙ sym (ap (lookup (eq k)) serials ∙ lookup-insert o.laws q next k (serials_of rows) (length (serials_of rows)) (none_passes_from_lookup (eq q) (serials_of rows) free));
+                    ∙ sym (ap (lookup (eq k)) serials ∙ lookup-insert o.laws q next k (serials_of filled) (length (serials_of filled)) (none_passes_from_lookup (eq q) (serials_of filled) free));
                 rises = subst (λ l. Rises 0 l (next + 1)) (sym all) (rises_last (Entry q v) 0 slots next held.kept.rises);
                 apart =
                     subst (IsDistinct eq) (sym (ap keys_of entries ∙ map-append (λ (e : K × V). e.0) (entries_of slots) ((q, v) ∷ [])))
@@ -243,15 +243,15 @@ module _ {K : Type 0} {eq : K → K → Bool} {R : K → K → Ordering} (o : Is
             new,
           )
 
-      pub ordered_cut : (s : ℕ) → Some s ≡ row_serial (eq q) rows → r < length order
-          → IsOrdered eq R (set_value (nat_eq s) slots Hole) (remove order r) next × (entries_of (set_value (nat_eq s) slots Hole) ≡ remove_entry (eq q) (entries_of slots)) × (rows_of (set_value (nat_eq s) slots Hole) ≡ cut_row (eq q) rows)
+      pub ordered_cut : (s : ℕ) → Some s ≡ filled_serial (eq q) filled → r < length order
+          → IsOrdered eq R (set_value (nat_eq s) slots Hole) (remove order r) next × (entries_of (set_value (nat_eq s) slots Hole) ≡ remove_entry (eq q) (entries_of slots)) × (filled_of (set_value (nat_eq s) slots Hole) ≡ cut_filled (eq q) filled)
       ordered_cut s i l =
           let here : is_eq (order_at R slots q (get_or order r 0)) ≡ true = elim (cases_Bool (is_eq (order_at R slots q (get_or order r 0)))) [
             | inl e ↦ e
             | inr e ↦ absurd (none-some s (serial_nowhere (λ l. e) ∙ sym i))
           ] in
-          let new : rows_of (set_value (nat_eq s) slots Hole) ≡ cut_row (eq q) rows = rows_cut s 0 slots next held.kept.rises ∙ (entry_found q s i).1.cut in
-          let views = views_cut (eq q) rows in
+          let new : filled_of (set_value (nat_eq s) slots Hole) ≡ cut_filled (eq q) filled = filled_cut s 0 slots next held.kept.rises ∙ (entry_found q s i).1.cut in
+          let views = views_cut (eq q) filled in
           let entries = ap without_serials new ∙ views.0 in (
             record {
               pairs = remove_entry (eq q) ps;
@@ -259,7 +259,7 @@ module _ {K : Type 0} {eq : K → K → Bool} {R : K → K → Ordering} (o : Is
               kept = record {
                 found = λ k.
                     lookup-remove_entry o.laws (eq q) (o.laws.congr q) k ps (keys_apart ps held.climbs) ∙ ap (λ x. cond (eq q k) None x) (held.kept.found k)
-                    ∙ sym (ap (lookup (eq k)) (ap serials_of new ∙ views.1) ∙ lookup-remove_entry o.laws (eq q) (o.laws.congr q) k (serials_of rows) (subst (IsDistinct eq) (sym (keys_in_rows rows)) held.kept.apart));
+                    ∙ sym (ap (lookup (eq k)) (ap serials_of new ∙ views.1) ∙ lookup-remove_entry o.laws (eq q) (o.laws.congr q) k (serials_of filled) (subst (IsDistinct eq) (sym (keys_in_filled filled)) held.kept.apart));
                 rises = rises_set (nat_eq s) Hole 0 slots next held.kept.rises;
                 apart = subst (λ (es : List (K × V)). IsDistinct eq (keys_of es)) (sym entries) (apart_cut eq q (entries_of slots) held.kept.apart);
               };
@@ -276,7 +276,7 @@ module _ {K V : Type 0} {eq : K → K → Bool} {R : K → K → Ordering} (slot
       record {
         pairs = [];
         order_is = f;
-        kept = subst (λ (l : List (ℕ × Slot K V)). IsKept eq l [] 0) (sym e) (record { found = λ k. refl; rises = omega arith; apart = tt });
+        kept = subst (λ (l : List (ℕ × Slot K V)). HasSerials eq l [] 0) (sym e) (record { found = λ k. refl; rises = omega arith; apart = tt });
         climbs = tt;
       }
 
@@ -286,9 +286,9 @@ module _ {K V : Type 0} {eq : K → K → Bool} {R : K → K → Ordering} (slot
         pairs = held.pairs;
         order_is = held.order_is;
         kept = record {
-          found = λ q. held.kept.found q ∙ sym (ap (row_serial (eq q)) (rows_squeezed slots));
+          found = λ q. held.kept.found q ∙ sym (ap (filled_serial (eq q)) (filled_squeezed slots));
           rises = rises_squeezed 0 slots next held.kept.rises;
-          apart = subst (λ (rows : List (ℕ × (K × V))). IsDistinct eq (keys_of (without_serials rows))) (sym (rows_squeezed slots)) held.kept.apart;
+          apart = subst (λ (filled : List (ℕ × (K × V))). IsDistinct eq (keys_of (without_serials filled))) (sym (filled_squeezed slots)) held.kept.apart;
         };
         climbs = held.climbs;
       }

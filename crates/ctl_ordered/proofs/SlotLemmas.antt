@@ -1,4 +1,4 @@
--- Slots under rising serials, some of them holes, and the rows that stand in them.
+-- Slots under rising serials, some of them holes, and those that are filled.
 use Rattle.std.proofs.Common.{◌≡◌, inl, inr, ℕ, suc, ◌+◌, ◌<◌, ◌≤◌, Bool, true, false, nat_eq, List, [], ◌∷◌, ◌++◌, length, Option, None, Some, filter, refl, ap, arith}
 use Rattle.std.proofs.lemmas.Bool.{cases_Bool}
 use Rattle.std.proofs.lemmas.Bool.Decides.{nat_tests}
@@ -9,8 +9,8 @@ use Rattle.std.specs.Map.{lookup, keys_of, set_value, remove_entry}
 use Rattle.indexmap.specs.IndexMap.{insert_entry}
 use Rattle.ctl_ordered.specs.declared.slot.Slot.{Slot}
 use Rattle.ctl_ordered.specs.declared.slot.Slot.TheVariants.{Entry, Hole}
-use Rattle.ctl_ordered.specs.Slots.{entries_of, rows_of, entry_of, is_entry, Rises}
-use Rattle.ctl_ordered.specs.Ordered.{without_serials, serials_of, set_row, cut_row, row_serial}
+use Rattle.ctl_ordered.specs.Slots.{entries_of, filled_of, entry_of, is_entry, Rises}
+use Rattle.ctl_ordered.specs.Ordered.{without_serials, serials_of, set_filled, cut_filled, filled_serial}
 
 -- ---- serials that rise
 
@@ -55,40 +55,40 @@ pub to_lent : {V : Type 0} {P : Type 0} (m : Option (MutBor V)) → P → OnSome
 to_lent None p = tt
 to_lent (Some m) p = p
 
--- ---- rows in slots
+-- ---- the filled slots
 
 module _ {K V : Type 0} where
-  pub rises_rows : (n : ℕ) (rs : List (ℕ × Slot K V)) (m : ℕ) → Rises n rs m → Rises n (rows_of rs) m
-  rises_rows n [] m h = h
-  rises_rows n (r ∷ rs) m h = grind (arith, rises_less (suc r.0) n (rows_of rs) m, rises_rows (suc r.0) rs m h.1)
+  pub rises_filled : (n : ℕ) (rs : List (ℕ × Slot K V)) (m : ℕ) → Rises n rs m → Rises n (filled_of rs) m
+  rises_filled n [] m h = h
+  rises_filled n (r ∷ rs) m h = grind (arith, rises_less (suc r.0) n (filled_of rs) m, rises_filled (suc r.0) rs m h.1)
 
   -- what stands in a slot, if it is there
   abbrev pub entry_in : Option (Slot K V) → Option (K × V)
   entry_in None = None
   entry_in (Some slot) = entry_of slot
 
-  -- the row of a serial is what stands in its slot
-  pub row_at : (s n : ℕ) (rs : List (ℕ × Slot K V)) (m : ℕ) → Rises n rs m → entry_in (lookup (nat_eq s) rs) ≡ lookup (nat_eq s) (rows_of rs)
-  row_at s n [] m h = refl
-  row_at s n (r ∷ rs) m h = grind (arith, nat_tests, row_at s (suc r.0) rs m h.1, none_below s (suc r.0) (rows_of rs) m (rises_rows (suc r.0) rs m h.1))
+  -- what stands in the slot of a serial stands in the filled one
+  pub filled_at : (s n : ℕ) (rs : List (ℕ × Slot K V)) (m : ℕ) → Rises n rs m → entry_in (lookup (nat_eq s) rs) ≡ lookup (nat_eq s) (filled_of rs)
+  filled_at s n [] m h = refl
+  filled_at s n (r ∷ rs) m h = grind (arith, nat_tests, filled_at s (suc r.0) rs m h.1, none_below s (suc r.0) (filled_of rs) m (rises_filled (suc r.0) rs m h.1))
 
-  -- another value in a slot is another in its row
-  pub rows_set : (s : ℕ) (e : K × V) (w : V) (rs : List (ℕ × Slot K V)) → lookup (nat_eq s) rs ≡ Some (Entry e.0 e.1) → rows_of (set_value (nat_eq s) rs (Entry e.0 w)) ≡ set_value (nat_eq s) (rows_of rs) (e.0, w)
-  rows_set s e w [] at = refl
-  rows_set s e w (r ∷ rs) at = grind (arith, rows_set s e w rs)
+  -- another value in a slot is another in the filled one
+  pub filled_set : (s : ℕ) (e : K × V) (w : V) (rs : List (ℕ × Slot K V)) → lookup (nat_eq s) rs ≡ Some (Entry e.0 e.1) → filled_of (set_value (nat_eq s) rs (Entry e.0 w)) ≡ set_value (nat_eq s) (filled_of rs) (e.0, w)
+  filled_set s e w [] at = refl
+  filled_set s e w (r ∷ rs) at = grind (arith, filled_set s e w rs)
 
-  -- the row of a slot that is a hole from now on goes
-  pub rows_cut : (s n : ℕ) (rs : List (ℕ × Slot K V)) (m : ℕ) → Rises n rs m → rows_of (set_value (nat_eq s) rs Hole) ≡ remove_entry (nat_eq s) (rows_of rs)
-  rows_cut s n [] m h = refl
-  rows_cut s n (r ∷ rs) m h = grind (arith, nat_tests, rows_cut s (suc r.0) rs m h.1, none_below s (suc r.0) (rows_of rs) m (rises_rows (suc r.0) rs m h.1))
+  -- a slot that is a hole from now on goes from the filled ones
+  pub filled_cut : (s n : ℕ) (rs : List (ℕ × Slot K V)) (m : ℕ) → Rises n rs m → filled_of (set_value (nat_eq s) rs Hole) ≡ remove_entry (nat_eq s) (filled_of rs)
+  filled_cut s n [] m h = refl
+  filled_cut s n (r ∷ rs) m h = grind (arith, nat_tests, filled_cut s (suc r.0) rs m h.1, none_below s (suc r.0) (filled_of rs) m (rises_filled (suc r.0) rs m h.1))
 
-  pub rows_last : (rs : List (ℕ × Slot K V)) (s : ℕ) (e : K × V) → rows_of (rs ++ (s, Entry e.0 e.1) ∷ []) ≡ rows_of rs ++ (s, e) ∷ []
-  rows_last [] s e = refl
-  rows_last (r ∷ rs) s e = grind (arith, rows_last rs s e)
+  pub filled_last : (rs : List (ℕ × Slot K V)) (s : ℕ) (e : K × V) → filled_of (rs ++ (s, Entry e.0 e.1) ∷ []) ≡ filled_of rs ++ (s, e) ∷ []
+  filled_last [] s e = refl
+  filled_last (r ∷ rs) s e = grind (arith, filled_last rs s e)
 
-  pub rows_squeezed : (rs : List (ℕ × Slot K V)) → rows_of (filter (λ (r : ℕ × Slot K V). is_entry r.1) rs) ≡ rows_of rs
-  rows_squeezed [] = refl
-  rows_squeezed (r ∷ rs) = grind (arith, rows_squeezed rs)
+  pub filled_squeezed : (rs : List (ℕ × Slot K V)) → filled_of (filter (λ (r : ℕ × Slot K V). is_entry r.1) rs) ≡ filled_of rs
+  filled_squeezed [] = refl
+  filled_squeezed (r ∷ rs) = grind (arith, filled_squeezed rs)
 
   pub rises_squeezed : (n : ℕ) (rs : List (ℕ × Slot K V)) (m : ℕ) → Rises n rs m → Rises n (filter (λ (r : ℕ × Slot K V). is_entry r.1) rs) m
   rises_squeezed n [] m h = h
@@ -99,63 +99,63 @@ module _ {K V : Type 0} where
   few_entries [] = omega arith
   few_entries (r ∷ rs) = grind (arith, few_entries rs)
 
--- ---- the row of a key
+-- ---- the filled slot of a key
 
 module _ {K V : Type 0} (test : K → Bool) where
-  pub serial_least : (n : ℕ) (rows : List (ℕ × (K × V))) (m s : ℕ) → Rises n rows m → row_serial test rows ≡ Some s → n ≤ s
+  pub serial_least : (n : ℕ) (filled : List (ℕ × (K × V))) (m s : ℕ) → Rises n filled m → filled_serial test filled ≡ Some s → n ≤ s
   serial_least n [] m s h i = cc
-  serial_least n (r ∷ rows) m s h i = grind (arith, serial_least (suc r.0) rows m s h.1)
+  serial_least n (r ∷ filled) m s h i = grind (arith, serial_least (suc r.0) filled m s h.1)
 
   -- the entry of the first key that passes, which stands under this serial
-  pub record IsEntryOf (rows : List (ℕ × (K × V))) (s : ℕ) (e : K × V) : Type 0 where
+  pub record IsEntryOf (filled : List (ℕ × (K × V))) (s : ℕ) (e : K × V) : Type 0 where
     pub passes : test e.0 ≡ true
-    pub row : lookup (nat_eq s) rows ≡ Some e
-    pub value : lookup test (without_serials rows) ≡ Some e.1
-    pub set : (w : V) → set_value (nat_eq s) rows (e.0, w) ≡ set_row test rows w
-    pub cut : remove_entry (nat_eq s) rows ≡ cut_row test rows
+    pub slot : lookup (nat_eq s) filled ≡ Some e
+    pub value : lookup test (without_serials filled) ≡ Some e.1
+    pub set : (w : V) → set_value (nat_eq s) filled (e.0, w) ≡ set_filled test filled w
+    pub cut : remove_entry (nat_eq s) filled ≡ cut_filled test filled
 
-  pub row_found : (n : ℕ) (rows : List (ℕ × (K × V))) (m s : ℕ) → Rises n rows m → row_serial test rows ≡ Some s → (e : K × V) × IsEntryOf rows s e
-  row_found n [] m s h i = cc
-  row_found n (r ∷ rows) m s h i = elim (cases_Bool (test r.1.0)) [
+  pub filled_found : (n : ℕ) (filled : List (ℕ × (K × V))) (m s : ℕ) → Rises n filled m → filled_serial test filled ≡ Some s → (e : K × V) × IsEntryOf filled s e
+  filled_found n [] m s h i = cc
+  filled_found n (r ∷ filled) m s h i = elim (cases_Bool (test r.1.0)) [
     | inl c ↦
         let here : nat_eq s r.0 ≡ true = grind (arith, nat_tests, i, c) in
-        (r.1, record { passes = c; row = grind (arith, here); value = grind (arith, c); set = λ w. grind (arith, here, c); cut = grind (arith, here, c) })
+        (r.1, record { passes = c; slot = grind (arith, here); value = grind (arith, c); set = λ w. grind (arith, here, c); cut = grind (arith, here, c) })
     | inr c ↦
-        let later : row_serial test rows ≡ Some s = grind (arith, i, c) in
-        let apart : nat_eq s r.0 ≡ false = grind (arith, nat_tests, serial_least (suc r.0) rows m s h.1 later) in
-        let rest = row_found (suc r.0) rows m s h.1 later in
+        let later : filled_serial test filled ≡ Some s = grind (arith, i, c) in
+        let apart : nat_eq s r.0 ≡ false = grind (arith, nat_tests, serial_least (suc r.0) filled m s h.1 later) in
+        let rest = filled_found (suc r.0) filled m s h.1 later in
         let is = rest.1 in
-        (rest.0, record { passes = is.passes; row = grind (arith, apart, is.row); value = grind (arith, c, is.value); set = λ w. grind (arith, apart, c, is.set w); cut = grind (arith, apart, c, is.cut) })
+        (rest.0, record { passes = is.passes; slot = grind (arith, apart, is.slot); value = grind (arith, c, is.value); set = λ w. grind (arith, apart, c, is.set w); cut = grind (arith, apart, c, is.cut) })
   ]
 
-  -- a key without a row has no value, and nothing of it is cut
-  pub no_value : (rows : List (ℕ × (K × V))) → row_serial test rows ≡ None → lookup test (without_serials rows) ≡ None
+  -- a key without a filled slot has no value, and nothing of it is cut
+  pub no_value : (filled : List (ℕ × (K × V))) → filled_serial test filled ≡ None → lookup test (without_serials filled) ≡ None
   no_value [] i = refl
-  no_value (r ∷ rows) i = grind (arith, no_value rows)
+  no_value (r ∷ filled) i = grind (arith, no_value filled)
 
-  pub no_cut : (rows : List (ℕ × (K × V))) → row_serial test rows ≡ None → cut_row test rows ≡ rows
+  pub no_cut : (filled : List (ℕ × (K × V))) → filled_serial test filled ≡ None → cut_filled test filled ≡ filled
   no_cut [] i = refl
-  no_cut (r ∷ rows) i = grind (arith, no_cut rows)
+  no_cut (r ∷ filled) i = grind (arith, no_cut filled)
 
-  pub no_serial : (rows : List (ℕ × (K × V))) → lookup test (without_serials rows) ≡ None → row_serial test rows ≡ None
+  pub no_serial : (filled : List (ℕ × (K × V))) → lookup test (without_serials filled) ≡ None → filled_serial test filled ≡ None
   no_serial [] i = refl
-  no_serial (r ∷ rows) i = grind (arith, no_serial rows)
+  no_serial (r ∷ filled) i = grind (arith, no_serial filled)
 
-  -- the entries and the serials of rows of which one has another value, or goes
-  pub views_set : (rows : List (ℕ × (K × V))) (w : V) → (without_serials (set_row test rows w) ≡ set_value test (without_serials rows) w) × (serials_of (set_row test rows w) ≡ serials_of rows)
+  -- the entries and the serials of filled slots of which one has another value, or goes
+  pub views_set : (filled : List (ℕ × (K × V))) (w : V) → (without_serials (set_filled test filled w) ≡ set_value test (without_serials filled) w) × (serials_of (set_filled test filled w) ≡ serials_of filled)
   views_set [] w = (refl, refl)
-  views_set (r ∷ rows) w = let rest = views_set rows w in (grind (arith, rest.0), grind (arith, rest.1))
+  views_set (r ∷ filled) w = let rest = views_set filled w in (grind (arith, rest.0), grind (arith, rest.1))
 
-  pub views_cut : (rows : List (ℕ × (K × V))) → (without_serials (cut_row test rows) ≡ remove_entry test (without_serials rows)) × (serials_of (cut_row test rows) ≡ remove_entry test (serials_of rows))
+  pub views_cut : (filled : List (ℕ × (K × V))) → (without_serials (cut_filled test filled) ≡ remove_entry test (without_serials filled)) × (serials_of (cut_filled test filled) ≡ remove_entry test (serials_of filled))
   views_cut [] = (refl, refl)
-  views_cut (r ∷ rows) = let rest = views_cut rows in (grind (arith, rest.0), grind (arith, rest.1))
+  views_cut (r ∷ filled) = let rest = views_cut filled in (grind (arith, rest.0), grind (arith, rest.1))
 
 -- ---- entries
 
 module _ {K V : Type 0} where
-  pub keys_in_rows : (rows : List (ℕ × (K × V))) → keys_of (serials_of rows) ≡ keys_of (without_serials rows)
-  keys_in_rows [] = refl
-  keys_in_rows (r ∷ rows) = ap (λ l. r.1.0 ∷ l) (keys_in_rows rows)
+  pub keys_in_filled : (filled : List (ℕ × (K × V))) → keys_of (serials_of filled) ≡ keys_of (without_serials filled)
+  keys_in_filled [] = refl
+  keys_in_filled (r ∷ filled) = ap (λ l. r.1.0 ∷ l) (keys_in_filled filled)
 
   pub all_cut : {Y : Type 0} (f : K → Y) (y : Y) (test : K → Bool) (es : List (K × V)) → AllByRecursion (λ k. f k ≡ y) (keys_of es) → AllByRecursion (λ k. f k ≡ y) (keys_of (remove_entry test es))
   all_cut f y test [] h = tt

@@ -8,47 +8,47 @@ use Rattle.std.specs.declared.cmp.Ordering.{Ordering}
 use Rattle.std.specs.declared.cmp.Ordering.TheVariants.{Less}
 use Rattle.ctl_ordered.specs.declared.slot.Slot.{Slot}
 use Rattle.ctl_ordered.specs.declared.slot.Slot.TheVariants.{Entry, Hole}
-use Rattle.ctl_ordered.specs.Slots.{entries_of, rows_of, Rises}
+use Rattle.ctl_ordered.specs.Slots.{entries_of, filled_of, Rises}
 
--- what an ordered map holds: its entries in order, each under its serial; the serial of the next; and how many more go in
+-- what an ordered map holds: its filled slots in order, each an entry under its serial; the serial of the next; and how many more go in
 -- with no memory
-pub record Held (K V : Type 0) : Type 0 where
-  pub rows : List (ℕ × (K × V))
+pub record OrderedEntries (K V : Type 0) : Type 0 where
+  pub filled : List (ℕ × (K × V))
   pub next : ℕ
   pub room : ℕ
 
 module _ {K V : Type 0} where
   abbrev pub without_serials : List (ℕ × (K × V)) → List (K × V)
-  without_serials rows = map (λ (row : ℕ × (K × V)). row.1) rows
+  without_serials filled = map (λ (slot : ℕ × (K × V)). slot.1) filled
 
   -- the entries, in order
-  abbrev pub entries : Held K V → List (K × V)
-  entries held = without_serials held.rows
+  abbrev pub entries : OrderedEntries K V → List (K × V)
+  entries held = without_serials held.filled
 
-  -- the row of the first key that passes has another value
-  abbrev pub set_row : (K → Bool) → List (ℕ × (K × V)) → V → List (ℕ × (K × V))
-  set_row test [] w = []
-  set_row test (row ∷ rows) w = if test row.1.0 then (row.0, (row.1.0, w)) ∷ rows else row ∷ set_row test rows w
+  -- the slot of the first key that passes has another value
+  abbrev pub set_filled : (K → Bool) → List (ℕ × (K × V)) → V → List (ℕ × (K × V))
+  set_filled test [] w = []
+  set_filled test (slot ∷ filled) w = if test slot.1.0 then (slot.0, (slot.1.0, w)) ∷ filled else slot ∷ set_filled test filled w
 
-  -- the rows without that of the first key that passes
-  abbrev pub cut_row : (K → Bool) → List (ℕ × (K × V)) → List (ℕ × (K × V))
-  cut_row test [] = []
-  cut_row test (row ∷ rows) = if test row.1.0 then rows else row ∷ cut_row test rows
+  -- the filled slots without that of the first key that passes
+  abbrev pub cut_filled : (K → Bool) → List (ℕ × (K × V)) → List (ℕ × (K × V))
+  cut_filled test [] = []
+  cut_filled test (slot ∷ filled) = if test slot.1.0 then filled else slot ∷ cut_filled test filled
 
   -- the keys, each with its serial
   abbrev pub serials_of : List (ℕ × (K × V)) → List (K × ℕ)
-  serials_of rows = map (λ (row : ℕ × (K × V)). (row.1.0, row.0)) rows
+  serials_of filled = map (λ (slot : ℕ × (K × V)). (slot.1.0, slot.0)) filled
 
   -- the serial of the first key that passes
-  abbrev pub row_serial : (K → Bool) → List (ℕ × (K × V)) → Option ℕ
-  row_serial test rows = lookup test (serials_of rows)
+  abbrev pub filled_serial : (K → Bool) → List (ℕ × (K × V)) → Option ℕ
+  filled_serial test filled = lookup test (serials_of filled)
 
-  -- by the value that a key has: its row has another value, and a new key goes last, under the next serial
-  abbrev pub rows_put : Option V → (K → Bool) → Held K V → K → V → List (ℕ × (K × V))
-  rows_put None test held key value = held.rows ++ (held.next, (key, value)) ∷ []
-  rows_put (Some old) test held key value = set_row test held.rows value
+  -- by the value that a key has: its slot has another value, and a new key goes last, under the next serial
+  abbrev pub filled_put : Option V → (K → Bool) → OrderedEntries K V → K → V → List (ℕ × (K × V))
+  filled_put None test held key value = held.filled ++ (held.next, (key, value)) ∷ []
+  filled_put (Some old) test held key value = set_filled test held.filled value
 
-  abbrev pub next_put : Option V → Held K V → ℕ
+  abbrev pub next_put : Option V → OrderedEntries K V → ℕ
   next_put None held = held.next + 1
   next_put (Some old) held = held.next
 
@@ -77,9 +77,9 @@ module _ {K : Type 0} (R : K → K → Ordering) where
   KeysRise (p ∷ ps) = AllByRecursion (λ k. R p.0 k ≡ Less) (keys_of ps) × KeysRise ps
 
 module _ {K V : Type 0} (eq : K → K → Bool) where
-  -- The serial of each key is that of its row, serials rise, and no key stands twice.
-  pub record IsKept (slots : List (ℕ × Slot K V)) (serials : List (K × ℕ)) (next : ℕ) : Type 0 where
-    pub found : (k : K) → lookup (eq k) serials ≡ row_serial (eq k) (rows_of slots)
+  -- The serial of each key is that of its slot, serials rise, and no key stands twice.
+  pub record HasSerials (slots : List (ℕ × Slot K V)) (serials : List (K × ℕ)) (next : ℕ) : Type 0 where
+    pub found : (k : K) → lookup (eq k) serials ≡ filled_serial (eq k) (filled_of slots)
     pub rises : Rises 0 slots next
     pub apart : IsDistinct eq (keys_of (entries_of slots))
 
@@ -87,7 +87,7 @@ module _ {K V : Type 0} (eq : K → K → Bool) where
   pub record IsOrdered (R : K → K → Ordering) (slots : List (ℕ × Slot K V)) (order : List ℕ) (next : ℕ) : Type 0 where
     pub pairs : List (K × ℕ)
     pub order_is : order ≡ map (λ (p : K × ℕ). p.1) pairs
-    pub kept : IsKept slots pairs next
+    pub kept : HasSerials slots pairs next
     pub climbs : KeysRise R pairs
 
 -- how many entries more go in with no memory: no more than both vectors have room for, and than serials are left

@@ -26,16 +26,16 @@ module _ {K V : Type 0} where
   with_value (Entry k v) w = Entry k w
   with_value Hole w = Hole
 
-  -- what stands in the slot of a serial, before other rows
-  abbrev pub and_row : ℕ → Slot K V → List (ℕ × (K × V)) → List (ℕ × (K × V))
-  and_row serial (Entry k v) rows = (serial, (k, v)) ∷ rows
-  and_row serial Hole rows = rows
+  -- what stands in the slot of a serial, before other filled slots
+  abbrev pub and_filled : ℕ → Slot K V → List (ℕ × (K × V)) → List (ℕ × (K × V))
+  and_filled serial (Entry k v) filled = (serial, (k, v)) ∷ filled
+  and_filled serial Hole filled = filled
 
-  -- the entries in slots under their serials, in order
-  abbrev pub rows_of : List (ℕ × Slot K V) → List (ℕ × (K × V))
-  rows_of [] = []
-  rows_of (slot ∷ slots) = and_row slot.0 slot.1 (rows_of slots)
+  -- the slots that are filled, in order: each an entry under its serial
+  abbrev pub filled_of : List (ℕ × Slot K V) → List (ℕ × (K × V))
+  filled_of [] = []
+  filled_of (slot ∷ slots) = and_filled slot.0 slot.1 (filled_of slots)
 
   -- the entries in slots, in order
   abbrev pub entries_of : List (ℕ × Slot K V) → List (K × V)
-  entries_of slots = map (λ (row : ℕ × (K × V)). row.1) (rows_of slots)
+  entries_of slots = map (λ (slot : ℕ × (K × V)). slot.1) (filled_of slots)

@@ -8,7 +8,7 @@ ghost use Rattle.std.specs.Map.{keys_of, lookup, set_value};
 ghost use Rattle.indexmap.specs.IndexMap.{insert_entry, shift_remove_entry};
 ghost use Rattle.ctl_ordered.specs.declared.slot.Slot.TheVariants.{Hole};
 ghost use Rattle.ctl_ordered.specs.Slots.{is_entry};
-ghost use Rattle.ctl_ordered.specs.Ordered.{cut_row, entries, next_put, row_serial, rows_put};
+ghost use Rattle.ctl_ordered.specs.Ordered.{cut_filled, entries, next_put, filled_serial, filled_put};
 
 use crate::entries::{Entries, IntoEntries};
 use crate::search::{end_below, look_up};
@@ -45,13 +45,13 @@ impl<K: Ord, V> Model for Ordered<K, V> {
     ghost use Rattle.std.specs.Prelude.{◌-◌};
     ghost use Rattle.std.specs.VecDeque.{deque_capacity, deque_len};
     ghost use Rattle.indexmap.specs.IndexMap.{spare};
-    ghost use Rattle.ctl_ordered.specs.Slots.{rows_of};
-    ghost use Rattle.ctl_ordered.specs.Ordered.{room_of, Held, IsOrdered};
+    ghost use Rattle.ctl_ordered.specs.Slots.{filled_of};
+    ghost use Rattle.ctl_ordered.specs.Ordered.{room_of, OrderedEntries, IsOrdered};
 
-    ghost Value = { Held K V };
+    ghost Value = { OrderedEntries K V };
 
     ghost view = { λ o. record {
-      rows = rows_of o.slots.entries;
+      filled = filled_of o.slots.entries;
       next = o.next;
       room = room_of (spare o.slots) (deque_capacity o.order - deque_len o.order) o.next;
     } };
@@ -64,7 +64,7 @@ impl<K: Ord + Drop, V: Drop> Ordered<K, V> {
 
     /// No entries. It takes no memory.
     pub fn new(alloc: Global) -> Self
-        ensures rows { result.rows ≡ [] }
+        ensures filled { result.filled ≡ [] }
         ensures next { result.next ≡ 0 }
     {
         Ordered {
@@ -77,7 +77,7 @@ impl<K: Ord + Drop, V: Drop> Ordered<K, V> {
     /// Makes room for one entry more, while a serial is left: fewer than 2⁶⁴ - 1 new keys were put.
     pub fn reserve_one(&mut self) -> Result<(), AllocError>
         requires { self.old.next + 1 < 2 ^ 64 }
-        ensures rows { self.new.rows ≡ self.old.rows }
+        ensures filled { self.new.filled ≡ self.old.filled }
         ensures next { self.new.next ≡ self.old.next }
         ensures ok { OnOk result (0 < self.new.room) }
     {
@@ -100,7 +100,7 @@ impl<K: Ord + Drop, V: Drop> Ordered<K, V> {
 
     /// The serial of a key.
     pub fn serial_of<Q: Wanted<K>>(&self, wanted: Q) -> Option<u64>
-        ensures { result ≡ row_serial (K.eq (Q.wanted wanted)) self.now.rows }
+        ensures { result ≡ filled_serial (K.eq (Q.wanted wanted)) self.now.filled }
     {
         let (_, serial) = look_up(&self.slots, &self.order, wanted);
         serial
@@ -115,7 +115,7 @@ impl<K: Ord + Drop, V: Drop> Ordered<K, V> {
 
     /// The entry of a serial.
     pub fn at(&self, serial: u64) -> Option<(&K, &V)>
-        ensures { option_map (λ entry. (entry.0.now, entry.1.now)) result ≡ lookup (nat_eq serial) self.now.rows }
+        ensures { option_map (λ entry. (entry.0.now, entry.1.now)) result ≡ lookup (nat_eq serial) self.now.filled }
     {
         match self.slots.get(&serial) {
             Some(slot) => slot.entry(),
@@ -163,7 +163,7 @@ impl<K: Ord + Drop, V: Drop> Ordered<K, V> {
         requires room { 0 < self.old.room }
         requires new { lookup (K.eq key) (entries self.old) ≡ None }
         ensures entries { entries self.new ≡ insert_entry K.eq (entries self.old) key value }
-        ensures rows { self.new.rows ≡ self.old.rows ++ (self.old.next, (key, value)) ∷ [] }
+        ensures filled { self.new.filled ≡ self.old.filled ++ (self.old.next, (key, value)) ∷ [] }
         ensures next { self.new.next ≡ self.old.next + 1 }
     {
         let serial = self.next;
@@ -186,7 +186,7 @@ impl<K: Ord + Drop, V: Drop> Ordered<K, V> {
         requires { 0 < self.old.room }
         ensures entries { entries self.new ≡ insert_entry K.eq (entries self.old) key value }
         // a key that is there keeps its serial
-        ensures rows { self.new.rows ≡ rows_put (lookup (K.eq key) (entries self.old)) (K.eq key) self.old key value }
+        ensures filled { self.new.filled ≡ filled_put (lookup (K.eq key) (entries self.old)) (K.eq key) self.old key value }
         ensures next { self.new.next ≡ next_put (lookup (K.eq key) (entries self.old)) self.old }
     {
         match self.get_mut(&key) {
@@ -200,7 +200,7 @@ impl<K: Ord + Drop, V: Drop> Ordered<K, V> {
     /// Takes an entry out, if it is there. The others keep their order.
     pub fn remove<Q: Wanted<K>>(&mut self, wanted: Q)
         ensures entries { entries self.new ≡ shift_remove_entry (K.eq (Q.wanted wanted)) (entries self.old) }
-        ensures rows { self.new.rows ≡ cut_row (K.eq (Q.wanted wanted)) self.old.rows }
+        ensures filled { self.new.filled ≡ cut_filled (K.eq (Q.wanted wanted)) self.old.filled }
         ensures next { self.new.next ≡ self.old.next }
         // no key stood twice, so that none like it is left
         ensures each_once { IsDistinct K.eq (keys_of (entries self.old)) }
@@ -217,7 +217,7 @@ impl<K: Ord + Drop, V: Drop> Ordered<K, V> {
 
     // The holes go once they are more than the entries.
     fn squeeze(&mut self)
-        ensures rows { self.new.rows ≡ self.old.rows }
+        ensures filled { self.new.filled ≡ self.old.filled }
         ensures next { self.new.next ≡ self.old.next }
     {
         if self.slots.len() / 2 > self.order.len() {

@@ -3,8 +3,8 @@
 ghost use Rattle.std.specs.Prelude.{◌≡◌, ◌<◌, ◌≤◌, true, false, ℕ, IfSome, length};
 ghost use Rattle.std.specs.List.Sorted.{IsPartitionPoint};
 ghost use Rattle.std.specs.Ordering.{is_lt};
-ghost use Rattle.ctl_ordered.specs.Slots.{rows_of};
-ghost use Rattle.ctl_ordered.specs.Ordered.{order_at, row_serial, IsBelow, IsOrdered};
+ghost use Rattle.ctl_ordered.specs.Slots.{filled_of};
+ghost use Rattle.ctl_ordered.specs.Ordered.{order_at, filled_serial, IsBelow, IsOrdered};
 
 use crate::slot::Slot;
 use crate::wanted::Wanted;
@@ -52,7 +52,7 @@ pub(crate) fn look_up<K: Ord, V, Q: Wanted<K>>(
     requires { (next : ℕ) × IsOrdered K.eq K.cmp slots.now.entries order.now.items next }
     ensures bound { result.0 ≤ length order.now.items }
     ensures point { IsBelow K.cmp slots.now.entries (Q.wanted wanted) order.now.items result.0 }
-    ensures serial { result.1 ≡ row_serial (K.eq (Q.wanted wanted)) (rows_of slots.now.entries) }
+    ensures serial { result.1 ≡ filled_serial (K.eq (Q.wanted wanted)) (filled_of slots.now.entries) }
     ensures within { IfSome result.1 (λ _. result.0 < length order.now.items) }
 {
     let at = end_below(slots, order, wanted);

@@ -1,8 +1,8 @@
 use Rattle.std.proofs.Common.{◌∙◌, ap, refl, sym, subst, nat_eq, ◌-◌}
 use Rattle.std.specs.Map.{lookup, set_value}
 use Rattle.std.specs.VecDeque.{deque_capacity, deque_len}
-use Rattle.ctl_ordered.specs.Slots.{entries_of, rows_of}
-use Rattle.ctl_ordered.specs.Ordered.{entries, room_of, set_row, IsOrdered}
+use Rattle.ctl_ordered.specs.Slots.{entries_of, filled_of}
+use Rattle.ctl_ordered.specs.Ordered.{entries, room_of, set_filled, IsOrdered}
 use Rattle.ctl_ordered.proofs.SlotLemmas.{to_lent}
 use Rattle.std.proofs.lemmas.Map.Steps.{set_value_same}
 use Rattle.ctl_ordered.proofs.OrderLemmas.{key_order, ordered_set, ordered_value, ordered_gap, ordered_no_value}
@@ -46,13 +46,13 @@ returns-in-Some g c =
             let set = ordered_set order o.slots.entries o.order.items o.next c.self.invariant k w s slot (here.lender w) c.value_mut.result i at c.value_mut.ensures.value (here.holds w) in
             to_lent c.value_mut.result (record {
               entries = ap entries_of wrote.0 ∙ set.1 ∙ ap (λ v. set_value (eq k) (entries v) w) c.self.view_is;
-              rows = ap rows_of wrote.0 ∙ set.2 ∙ ap (λ v. set_row (eq k) v.rows w) c.self.view_is;
+              filled = ap filled_of wrote.0 ∙ set.2 ∙ ap (λ v. set_filled (eq k) v.filled w) c.self.view_is;
               next = ap (λ v. v.next) c.self.view_is;
               room = ap (λ n. room_of n free o.next) wrote.6 ∙ ap (λ v. v.room) c.self.view_is;
             })),
         let wrote = there.holds here.lender-at-none in
             let same = wrote.0 ∙ ap (λ x. set_value (nat_eq s) o.slots.entries x) here.holds-at-none ∙ set_value_same (nat_eq s) o.slots.entries slot (sym at) in
-            (λ j. record { rows = rows_of (same j); next = o.next; room = room_of (wrote.6 j) free o.next }) ∙ c.self.view_is,
+            (λ j. record { filled = filled_of (same j); next = o.next; room = room_of (wrote.6 j) free o.next }) ∙ c.self.view_is,
       ),
       record {
         writes_back = tt;

@@ -1,5 +1,5 @@
 use Rattle.std.proofs.Common.{◌∙◌, ap, sym}
-use Rattle.ctl_ordered.specs.Ordered.{entries, next_put, rows_put}
+use Rattle.ctl_ordered.specs.Ordered.{entries, next_put, filled_put}
 use Rattle.ctl_ordered.proofs.SlotLemmas.{insert_old, from_lent}
 use Rattle.ctl_ordered.proofs.ordered.Ordered.put.Goals as goal
 
@@ -11,6 +11,6 @@ returns-in-Some g c =
     let has = from_lent c.get_mut.result c.in-Some.place.now (c.get_mut.ensures.value ∙ sym at) (c.get_mut.follows.holds c.args.value) in
     record {
       entries = has.entries ∙ sym (insert_old eq (entries old) c.args.key c.args.value c.in-Some.place.now (sym at));
-      rows = has.rows ∙ ap (λ x. rows_put x (eq c.args.key) old c.args.key c.args.value) at;
+      filled = has.filled ∙ ap (λ x. filled_put x (eq c.args.key) old c.args.key c.args.value) at;
       next = has.next ∙ ap (λ x. next_put x old) at;
     }

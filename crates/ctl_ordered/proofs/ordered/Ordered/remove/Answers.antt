@@ -2,8 +2,8 @@ use Rattle.std.proofs.Common.{◌≡◌, ◌∙◌, ◌<◌, ℕ, Option, length
 use Rattle.std.specs.Prelude.{IfSome}
 use Rattle.std.specs.List.{remove, IsDistinct}
 use Rattle.std.specs.Map.{keys_of, remove_entry}
-use Rattle.ctl_ordered.specs.Slots.{rows_of}
-use Rattle.ctl_ordered.specs.Ordered.{cut_row, entries, without_serials, IsOrdered}
+use Rattle.ctl_ordered.specs.Slots.{filled_of}
+use Rattle.ctl_ordered.specs.Ordered.{cut_filled, entries, without_serials, IsOrdered}
 use Rattle.ctl_ordered.proofs.QueueLemmas.{taken}
 use Rattle.ctl_ordered.proofs.OrderLemmas.{key_order, ordered_cut, ordered_no_value}
 use Rattle.ctl_ordered.proofs.ordered.Ordered.remove.Goals as goal
@@ -29,10 +29,10 @@ returns-in_default-Some g c =
     let found = c.in_default-Some in
     let within = subst (λ (s : Option ℕ). IfSome s (λ _. at < length o.order.items)) found.is-1 c.look_up.ensures.within in
     let cut = ordered_cut (key_order g.met.K.Eq.laws g.met.K.Ord.total g.met.K.Ord.matches_eq) o.slots.entries o.order.items o.next c.self.invariant q at c.look_up.ensures.bound c.look_up.ensures.point found.serial (sym found.is-1 ∙ c.look_up.ensures.serial) within in
-    let left = c.squeeze.ensures.rows ∙ ap rows_of c.empty_slot.ensures in
+    let left = c.squeeze.ensures.filled ∙ ap filled_of c.empty_slot.ensures in
     record {
       entries = ap without_serials left ∙ cut.1 ∙ ap (λ v. remove_entry (eq q) (entries v)) c.self.view_is;
-      rows = left ∙ cut.2 ∙ ap (λ v. cut_row (eq q) v.rows) c.self.view_is;
+      filled = left ∙ cut.2 ∙ ap (λ v. cut_filled (eq q) v.filled) c.self.view_is;
       next = c.squeeze.ensures.next ∙ ap (λ v. v.next) c.self.view_is;
       each_once = subst (λ es. IsDistinct eq (keys_of es)) (ap entries c.self.view_is) c.self.invariant.kept.apart;
     }
@@ -46,7 +46,7 @@ returns-in_default-None g c =
     let none = ordered_no_value order o.slots.entries o.order.items o.next c.self.invariant q (sym c.in_default-None.is-1 ∙ c.look_up.ensures.serial) in
     record {
       entries = subst (λ es. es ≡ remove_entry (eq q) es) (ap entries c.self.view_is) none.1;
-      rows = subst (λ rs. rs ≡ cut_row (eq q) rs) (ap (λ v. v.rows) c.self.view_is) none.2;
+      filled = subst (λ rs. rs ≡ cut_filled (eq q) rs) (ap (λ v. v.filled) c.self.view_is) none.2;
       next = refl;
       each_once = subst (λ es. IsDistinct eq (keys_of es)) (ap entries c.self.view_is) c.self.invariant.kept.apart;
     }
