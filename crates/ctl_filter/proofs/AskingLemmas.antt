@@ -17,7 +17,7 @@ use Rattle.ctl_filter.specs.Names.{names_in, are_field_names}
 use Rattle.ctl_filter.specs.Filter.{Atom}
 use Rattle.ctl_filter.specs.Atoms.{Modifiers, Parts, no_modifiers, with_fields, more_fields, test_by, atom_with, onto_parts, parts_from}
 use Rattle.ctl_filter.specs.Words.{WordPieces, onto_word, onto_pieces, behind_word, behind_letter, takes_argument, argument_given, letter_piece, cluster, sign_named, is_pattern, alone, long_word, word_pieces, word_by, pieces_from, pieces_of}
-use Rattle.ctl_filter.specs.Asking.{Modifier, InFields, InAnyCase, By, words_of, piece_of, names_of, is_any_case, manners_of, fields_asked, only_manner, atom_asked, are_named, AtomsAreAsked, ModifiersAreSpelled, PatternsAreWords, stands_alone, is_cluster_letter, ClustersAreLetters}
+use Rattle.ctl_filter.specs.Asking.{Modifier, InFields, InAnyCase, By, words_of, piece_of, names_asked, is_any_case, manners_of, fields_asked, only_manner, atom_asked, are_named, AtomsAreAsked, ModifiersAreSpelled, PatternsAreWords, stands_alone, is_cluster_letter, ClustersAreLetters}
 use Rattle.ctl_filter.proofs.WordLemmas.{pieces-moved}
 use Rattle.ctl_filter.proofs.CaseLemmas.{and-assoc}
 
@@ -177,7 +177,7 @@ given (Some m) = m ∷ []
 
 abbrev behind : Option (List (List ℕ)) → List Modifier → Option (List (List ℕ))
 behind None ms = fields_asked ms
-behind (Some names) ms = Some (names ++ flat_map names_of ms)
+behind (Some names) ms = Some (names ++ flat_map names_asked ms)
 
 fields-more : (done : Modifiers) (ms : List Modifier) → (all_more done ms).fields ≡ behind done.fields ms
 fields-more done [] = none done.fields
@@ -189,7 +189,7 @@ fields-more done (InFields fields ∷ ms) = fields-more (with_fields done (names
   where
     add : (o : Option (List (List ℕ))) → behind (Some (more_fields o (names_in fields))) ms ≡ behind o (InFields fields ∷ ms)
     add None = refl
-    add (Some names) = ap (λ l. Some l) (append_assoc names (names_in fields) (flat_map names_of ms))
+    add (Some names) = ap (λ l. Some l) (append_assoc names (names_in fields) (flat_map names_asked ms))
 fields-more done (InAnyCase ∷ ms) = fields-more (record done { any_case = true }) ms ∙ skip done.fields
   where
     skip : (o : Option (List (List ℕ))) → behind o ms ≡ behind o (InAnyCase ∷ ms)

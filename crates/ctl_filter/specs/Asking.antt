@@ -46,10 +46,10 @@ is_fields (InFields fields) = true
 is_fields InAnyCase = false
 is_fields (By m) = false
 
-abbrev pub names_of : Modifier → List (List ℕ)
-names_of (InFields fields) = names_in fields
-names_of InAnyCase = []
-names_of (By m) = []
+abbrev pub names_asked : Modifier → List (List ℕ)
+names_asked (InFields fields) = names_in fields
+names_asked InAnyCase = []
+names_asked (By m) = []
 
 abbrev pub is_any_case : Modifier → Bool
 is_any_case (InFields fields) = false
@@ -63,7 +63,7 @@ manners_of (By m) = m ∷ []
 
 -- the fields of all `-F` and `-P`, one after another, if there is one
 abbrev pub fields_asked : List Modifier → Option (List (List ℕ))
-fields_asked modifiers = if list_any is_fields modifiers then Some (flat_map names_of modifiers) else None
+fields_asked modifiers = if list_any is_fields modifiers then Some (flat_map names_asked modifiers) else None
 
 abbrev pub only_manner : List Manner → Option Manner
 only_manner [] = None
@@ -77,7 +77,7 @@ atom_asked modifiers pattern = record {
 }
 
 abbrev pub are_named : Modifier → Bool
-are_named modifier = are_field_names (names_of modifier)
+are_named modifier = are_field_names (names_asked modifier)
 
 -- fields are named by names, and at most one manner is given
 abbrev pub are_modifiers : List Modifier → Bool

@@ -15,5 +15,5 @@ pub mod Query
 pub mod Grep
 pub mod Asking
 -- what a contract sees of a filter that was read
-pub mod Held
+pub mod HeldQuery
 pub mod Inside

@@ -6,7 +6,7 @@ ghost use Rattle.ctl_store.specs.Entries.{stanzas_in_order};
 ghost use Rattle.ctl_store.specs.Store.{state_of};
 ghost use Rattle.ctl_filter.specs.Grep.{is_taken, taken_of, stanza_shown, filter_text};
 ghost use Rattle.ctl_filter.specs.Inside.Values.{shown_of};
-ghost use Rattle.ctl_filter.specs.Held.{query_of};
+ghost use Rattle.ctl_filter.specs.HeldQuery.{query_of};
 
 use crate::printing::append_stanza;
 use crate::query::{FilterQuery, Shown};

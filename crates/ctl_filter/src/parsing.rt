@@ -7,7 +7,7 @@ ghost use Rattle.ctl_filter.specs.Filter.{is_readable, has_expression};
 ghost use Rattle.ctl_filter.specs.Rx.{is_well_formed};
 ghost use Rattle.ctl_filter.specs.Filter as asked;
 ghost use Rattle.ctl_filter.specs.Inside.Values.{asked_atom, atom_of, test_of, shown_of, AreOptionsOf};
-ghost use Rattle.ctl_filter.specs.Held.{IsAskedBy};
+ghost use Rattle.ctl_filter.specs.HeldQuery.{IsAskedBy};
 ghost use Rattle.ctl_filter.specs.Names.{are_field_names};
 ghost use Rattle.ctl_filter.specs.Atoms.{names_shown};
 ghost use Rattle.ctl_filter.specs.Query.{shown_by, if_pieces, filter_of};

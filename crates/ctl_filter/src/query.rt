@@ -26,7 +26,7 @@ pub struct FilterQuery {
 
 impl Model for FilterQuery {
     ghost use Rattle.std.specs.Prelude.{map};
-    ghost use Rattle.ctl_filter.specs.Held.{HeldQuery};
+    ghost use Rattle.ctl_filter.specs.HeldQuery.{HeldQuery};
     ghost use Rattle.ctl_filter.specs.Inside.Values.{atom_of, shown_of};
     ghost use Rattle.ctl_filter.specs.Inside.Steps.{Makes, made_by};
 

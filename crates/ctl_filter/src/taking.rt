@@ -4,7 +4,7 @@ ghost use Rattle.std.specs.Prelude.{◌≡◌, OnOk, IfOk, map, not, if◌then�
 ghost use Rattle.ctl_filter.specs.Filter.{atom_passes};
 ghost use Rattle.ctl_filter.specs.Grep.{is_taken};
 ghost use Rattle.ctl_filter.specs.Inside.Values.{atom_of};
-ghost use Rattle.ctl_filter.specs.Held.{query_of};
+ghost use Rattle.ctl_filter.specs.HeldQuery.{query_of};
 
 use crate::atom::{Atom, Prepared};
 use crate::query::FilterQuery;
@@ -62,7 +62,7 @@ pub(crate) struct Taker<'q> {
 
 impl<'q> Model for Taker<'q> {
     ghost use Rattle.std.specs.Prelude.{◌≡◌, map};
-    ghost use Rattle.ctl_filter.specs.Held.{HeldQuery};
+    ghost use Rattle.ctl_filter.specs.HeldQuery.{HeldQuery};
     ghost use Rattle.ctl_filter.specs.Inside.Values.{atom_of};
 
     ghost Value = { HeldQuery };

@@ -10,7 +10,7 @@ use Rattle.ctl_store.specs.Named.{without_name, change_named}
 use Rattle.ctl_store.specs.State.{StanzaList}
 use Rattle.ctl_store.specs.Edits.{Edit, AddList, DropList, Put, Remove, Mark, Unmark, Pin, Unpin, Target, Prefs}
 use Rattle.ctl_store.specs.Step.{place, is_same, put_at, put_stanza, remove_at, remove_stanza, with_stanzas, after}
-use Rattle.ctl_store.specs.Rows.{by_name_and_version, rows_from, replace_at, put_row_at, remove_row_at}
+use Rattle.ctl_store.specs.Slots.{by_name_and_version, slots_from, replace_at, put_slot_at, remove_slot_at}
 use Rattle.ctl_store.specs.Keys.{KeyedList, stanzas_of, stanza_list, stanza_lists, list_of_stanzas, put_keyed, remove_keyed, keyed_after}
 use Rattle.ctl_store.specs.Store.{Held, keyed_of, state_of}
 
@@ -37,32 +37,32 @@ map_remove [] (suc i) = refl
 map_remove (r ∷ rs) zero = refl
 map_remove (r ∷ rs) (suc i) = ap (λ l. r.1 ∷ l) (map_remove rs i)
 
-stanzas_of-rows_from : (n : ℕ) (xs : List Content) → stanzas_of (rows_from n xs) ≡ xs
-stanzas_of-rows_from n [] = refl
-stanzas_of-rows_from n (x ∷ xs) = ap (λ l. x ∷ l) (stanzas_of-rows_from (suc n) xs)
+stanzas_of-slots_from : (n : ℕ) (xs : List Content) → stanzas_of (slots_from n xs) ≡ xs
+stanzas_of-slots_from n [] = refl
+stanzas_of-slots_from n (x ∷ xs) = ap (λ l. x ∷ l) (stanzas_of-slots_from (suc n) xs)
 
-put_stanzas : (x : Content) (rows : List (ℕ × Content)) (next : ℕ) → stanzas_of (put_row_at (place (by_name_and_version (package_of x) (version_of x)) rows) x next rows) ≡ put_stanza x (stanzas_of rows)
+put_stanzas : (x : Content) (rows : List (ℕ × Content)) (next : ℕ) → stanzas_of (put_slot_at (place (by_name_and_version (package_of x) (version_of x)) rows) x next rows) ≡ put_stanza x (stanzas_of rows)
 put_stanzas x rows next = by (place (by_name_and_version (package_of x) (version_of x)) rows) ∙ ap (λ o. put_at o x (stanzas_of rows)) (sym (place_stanzas (is_same (package_of x) (version_of x)) rows))
   where
-    by : (o : Option ℕ) → stanzas_of (put_row_at o x next rows) ≡ put_at o x (stanzas_of rows)
+    by : (o : Option ℕ) → stanzas_of (put_slot_at o x next rows) ≡ put_at o x (stanzas_of rows)
     by None = map_push rows next x
     by (Some i) = map_replace rows i x
 
-remove_stanzas : (name : List ℕ) (version : Option (List ℕ)) (rows : List (ℕ × Content)) → stanzas_of (remove_row_at (place (by_name_and_version name version) rows) rows) ≡ remove_stanza name version (stanzas_of rows)
+remove_stanzas : (name : List ℕ) (version : Option (List ℕ)) (rows : List (ℕ × Content)) → stanzas_of (remove_slot_at (place (by_name_and_version name version) rows) rows) ≡ remove_stanza name version (stanzas_of rows)
 remove_stanzas name version rows = by (place (by_name_and_version name version) rows) ∙ ap (λ o. remove_at o (stanzas_of rows)) (sym (place_stanzas (is_same name version) rows))
   where
-    by : (o : Option ℕ) → stanzas_of (remove_row_at o rows) ≡ remove_at o (stanzas_of rows)
+    by : (o : Option ℕ) → stanzas_of (remove_slot_at o rows) ≡ remove_at o (stanzas_of rows)
     by None = refl
     by (Some i) = map_remove rows i
 
 put_list : (x : Content) (l : KeyedList) → stanza_list (put_keyed x l) ≡ with_stanzas (put_stanza x) (stanza_list l)
-put_list x l = ap (λ (t : List Content). record { kind = l.kind; class = l.class; stanzas = t }) (put_stanzas x l.rows l.next)
+put_list x l = ap (λ (t : List Content). record { kind = l.kind; class = l.class; stanzas = t }) (put_stanzas x l.slots l.next)
 
 remove_list : (name : List ℕ) (version : Option (List ℕ)) (l : KeyedList) → stanza_list (remove_keyed name version l) ≡ with_stanzas (remove_stanza name version) (stanza_list l)
-remove_list name version l = ap (λ (t : List Content). record { kind = l.kind; class = l.class; stanzas = t }) (remove_stanzas name version l.rows)
+remove_list name version l = ap (λ (t : List Content). record { kind = l.kind; class = l.class; stanzas = t }) (remove_stanzas name version l.slots)
 
 new_lists : (ls : List (List ℕ × KeyedList)) (name : List ℕ) (serial : ℕ) (kind : ListKind) (class : ListClass) (xs : List Content) → stanza_lists (ls ++ (name, list_of_stanzas serial kind class xs) ∷ []) ≡ stanza_lists ls ++ (name, record { kind = kind; class = class; stanzas = xs }) ∷ []
-new_lists [] name serial kind class xs = ap (λ (t : List Content). (name, record { kind = kind; class = class; stanzas = t }) ∷ []) (stanzas_of-rows_from 0 xs)
+new_lists [] name serial kind class xs = ap (λ (t : List Content). (name, record { kind = kind; class = class; stanzas = t }) ∷ []) (stanzas_of-slots_from 0 xs)
 new_lists (l ∷ ls) name serial kind class xs = ap (λ r. (l.0, stanza_list l.1) ∷ r) (new_lists ls name serial kind class xs)
 
 without_lists : (name : List ℕ) (ls : List (List ℕ × KeyedList)) → stanza_lists (without_name name ls) ≡ without_name name (stanza_lists ls)

@@ -11,7 +11,7 @@ use Rattle.ctl_policy.specs.Rows.{rows_of, rows_named, versions_of, newest_first
 use Rattle.ctl_policy.specs.Chosen.{at_bytes, kept_of, place_of, AreChosen}
 use Rattle.ctl_policy.specs.Priority.{World, world_of}
 use Rattle.ctl_policy.specs.Touched.{is_one_of}
-use Rattle.ctl_index.specs.Held.{standing}
+use Rattle.ctl_index.specs.HeldCache.{standing}
 use Rattle.ctl_index.specs.Inside.TablesChosen.{ChosenMap, HasRenewed}
 
 -- a name that had a place made has one

@@ -11,7 +11,7 @@ use Rattle.ctl_store.specs.declared.stanza_key.StanzaKey.{StanzaKey}
 use Rattle.ctl_store.specs.Keys.{key_is}
 use Rattle.ctl_store.specs.Entries.{Entry, entries_by}
 use Rattle.ctl_store.specs.Followed.{under, AreApart}
-use Rattle.ctl_index.specs.declared.keys.Namer.{Namer}
+use Rattle.ctl_index.specs.declared.keys.NamingAtom.{NamingAtom}
 use Rattle.ctl_index.specs.declared.keys.OfferKey.{OfferKey}
 use Rattle.ctl_index.specs.declared.keys.ClauseKey.{ClauseKey}
 use Rattle.ctl_index.specs.declared.tables.Tables.{Tables}
@@ -23,7 +23,7 @@ use Rattle.ctl_index.specs.Inside.TablesIndexed.{atom_named, offer_named, keyed_
 use Rattle.ctl_index.specs.Inside.TablesLeft.{IsTakenOut, hits_at, is_clause_at, namers_taken, tests_taken_out}
 use Rattle.ctl_index.specs.Inside.TablesLoaded.{IsLoaded, all_hits, tests_put_in}
 use Rattle.ctl_index.specs.Inside.TablesParts.{IsJoined}
-use Rattle.ctl_index.specs.Inside.TablesSight.{Seen, seen, hit, AreSeen}
+use Rattle.ctl_index.specs.Inside.TablesPending.{Pending, seen, hit, AreSeen}
 use Rattle.ctl_index.specs.Inside.TablesCounters.{counted_up}
 use Rattle.ctl_index.specs.Inside.TablesFit.{AreWhole, NumbersFit}
 use Rattle.ctl_index.specs.Inside.TablesOrder.{is_within, span_of}
@@ -70,7 +70,7 @@ abbrev hits_of : List OfferParts → Option (List AtomParts) → ℕ
 hits_of os c = option_map_or (λ atoms. sum_by (λ (o : OfferParts). sum_by (λ (a : AtomParts). cond (met a o) 1 0) atoms) os) c 0
 
 -- what offers hit of a clause of these stanzas, where their atoms are listed
-hits-is : (s : Seen) (atoms : List ℕ → List Namer) (es : List Entry) → ((q : List ℕ) (f : Namer → ℕ) → sum_by f (atoms q) ≡ sum_by (λ (e : Entry). sum_by (atom_named q f) (keyed_atoms e)) es) → AreSeen s es → AreApart es
+hits-is : (s : Pending) (atoms : List ℕ → List NamingAtom) (es : List Entry) → ((q : List ℕ) (f : NamingAtom → ℕ) → sum_by f (atoms q) ≡ sum_by (λ (e : Entry). sum_by (atom_named q f) (keyed_atoms e)) es) → AreSeen s es → AreApart es
     → (os : List OfferParts) (k : ClauseKey) → all_hits s atoms os k ≡ hits_of os (clause_at k es)
 hits-is s atoms es fact sees apart os k =
     sum-cong _ _ (λ o. listed_hits s atoms es fact sees k o ∙ one_under (λ y. option_map_or (λ group. sum_by (λ a. cond (met a o) 1 0) group) (clause_of k y) 0) k.stanza es apart ∙ join o (under k.stanza es)) os
@@ -91,7 +91,7 @@ or_none (Some y) = refl
 
 -- ---- stanzas come
 
-module _ (s : Seen) (keys : List StanzaKey) (all rest : List Entry) (old new : Tables) (joined : IsJoined all rest (entries_by (seen s) keys)) (was : IsIndexed rest old)
+module _ (s : Pending) (keys : List StanzaKey) (all rest : List Entry) (old new : Tables) (joined : IsJoined all rest (entries_by (seen s) keys)) (was : IsIndexed rest old)
     (apart : AreApart rest) (apart_new : AreApart (entries_by (seen s) keys)) (sees : AreSeen s rest) (sees_all : AreSeen s all) where
   abbrev come : List Entry
   come = entries_by (seen s) keys
@@ -102,7 +102,7 @@ module _ (s : Seen) (keys : List StanzaKey) (all rest : List Entry) (old new : T
   loaded_offers : IsLoaded s keys old new → (q : List ℕ) (f : OfferKey → ℕ) → sum_by f (offers_under new.names.map q) ≡ offers_sum q f all
   loaded_offers step q f = step.offers q f ∙ ap (λ n. n + offers_sum q f come) (was.offers q f) ∙ sym (joined.sums (λ (e : Entry). sum_by (offer_named q f) (keyed_offers e)))
 
-  loaded_namers : IsLoaded s keys old new → (q : List ℕ) (f : Namer → ℕ) → sum_by f (namers_under new.names.map q) ≡ namers_sum q f all
+  loaded_namers : IsLoaded s keys old new → (q : List ℕ) (f : NamingAtom → ℕ) → sum_by f (namers_under new.names.map q) ≡ namers_sum q f all
   loaded_namers step q f = step.namers q f ∙ ap (λ n. n + namers_sum q f come) (was.namers q f) ∙ sym (joined.sums (λ (e : Entry). sum_by (atom_named q f) (keyed_atoms e)))
 
   loaded_number : IsLoaded s keys old new → ((k : ClauseKey) → IfSome (number_at k all) (λ n. n < 2 ^ 128)) → (k : ClauseKey) → get clause_cmp new.counters.numbers k ≡ number_at k all
@@ -155,13 +155,13 @@ module _ (s : Seen) (keys : List StanzaKey) (all rest : List Entry) (old new : T
 
 -- ---- stanzas go
 
-module _ (s : Seen) (keys : List StanzaKey) (all rest : List Entry) (old new : Tables) (joined : IsJoined all rest (entries_by (seen s) keys)) (was : IsIndexed all old)
+module _ (s : Pending) (keys : List StanzaKey) (all rest : List Entry) (old new : Tables) (joined : IsJoined all rest (entries_by (seen s) keys)) (was : IsIndexed all old)
     (outside : AllByRecursion (λ (e : Entry). is_within (span_of keys) e.0 ≡ false) rest) (inside : AllByRecursion (λ (e : Entry). is_within (span_of keys) e.0 ≡ true) (entries_by (seen s) keys))
     (apart : AreApart rest) (apart_gone : AreApart (entries_by (seen s) keys)) (sees : AreSeen s rest) (sees_all : AreSeen s all) where
   abbrev going : List Entry
   going = entries_by (seen s) keys
 
-  left_namers : (q : List ℕ) (f : Namer → ℕ) → sum_by f (namers_taken s keys old q) ≡ sum_by (λ (e : Entry). sum_by (atom_named q f) (keyed_atoms e)) rest
+  left_namers : (q : List ℕ) (f : NamingAtom → ℕ) → sum_by f (namers_taken s keys old q) ≡ sum_by (λ (e : Entry). sum_by (atom_named q f) (keyed_atoms e)) rest
   left_namers = take_namers s keys all rest old joined was outside inside
 
   abbrev number_of : List Entry → Option (List AtomParts) → Option ℕ

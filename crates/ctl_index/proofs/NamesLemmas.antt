@@ -20,7 +20,7 @@ use Rattle.ctl_store.specs.declared.stanza_key.StanzaKey.{StanzaKey}
 use Rattle.ctl_store.specs.Entries.{Entry}
 use Rattle.ctl_index.specs.declared.named.Named.{Named}
 use Rattle.ctl_index.specs.declared.tables.Tables.{Tables}
-use Rattle.ctl_index.specs.Names.{naming_fields, naming_atoms, names_of, known_names, keyed_group, keyed_groups, keyed_atoms}
+use Rattle.ctl_index.specs.Names.{naming_fields, naming_atoms, names_told, known_names, keyed_group, keyed_groups, keyed_atoms}
 use Rattle.ctl_index.specs.Offers.{contents}
 use Rattle.ctl_index.specs.Inside.NameMap.{NamedEntry, entry_names, found_in}
 use Rattle.ctl_index.specs.Inside.TablesByName.{NameMap, at_name, offers_under, namers_under, rows_under, named_offers, named_namers, named_rows, is_used, AreUsed}
@@ -79,14 +79,14 @@ module _ (q : List ℕ) where
       ∙ sum-cong _ _ (λ field. named-groups e.0 field 0 (groups_of field e.1) ∙ sym (sum-flat_map (λ (a : AtomParts). is a.name) (λ group. group) (groups_of field e.1))) naming_fields
       ∙ sym (sum-flat_map (λ (a : AtomParts). is a.name) (λ field. flat_map (λ group. group) (groups_of field e.1)) naming_fields)
 
-  names-sum : (x : Content) → sum_by is (names_of x) ≡ sum_by (λ (o : OfferParts). is o.name) (offers_of x) + sum_by (λ (a : AtomParts). is a.name) (naming_atoms x)
+  names-sum : (x : Content) → sum_by is (names_told x) ≡ sum_by (λ (o : OfferParts). is o.name) (offers_of x) + sum_by (λ (a : AtomParts). is a.name) (naming_atoms x)
   names-sum x =
       sum_by-append is (map (λ (o : OfferParts). o.name) (offers_of x)) (map (λ (a : AtomParts). a.name) (naming_atoms x))
       ∙ (λ i. sum-map is (λ (o : OfferParts). o.name) (offers_of x) i + sum-map is (λ (a : AtomParts). a.name) (naming_atoms x) i)
 
-  listed-sum : (es : List Entry) (t : Tables) → IsIndexed es t → sum_by (λ name. cond (bytes_eq q name) 1 0) (flat_map names_of (contents es)) ≡ length (offers_under t.names.map q) + length (namers_under t.names.map q)
+  listed-sum : (es : List Entry) (t : Tables) → IsIndexed es t → sum_by (λ name. cond (bytes_eq q name) 1 0) (flat_map names_told (contents es)) ≡ length (offers_under t.names.map q) + length (namers_under t.names.map q)
   listed-sum es t was =
-      sum-cong _ _ (λ name i. cond (nat_list_eq_equiv.symm q name i) 1 0) (flat_map names_of (contents es)) ∙ sum-flat_map is names_of (contents es) ∙ sum-map (λ x. sum_by is (names_of x)) (λ (e : Entry). e.1) es
+      sum-cong _ _ (λ name i. cond (nat_list_eq_equiv.symm q name i) 1 0) (flat_map names_told (contents es)) ∙ sum-flat_map is names_told (contents es) ∙ sum-map (λ x. sum_by is (names_told x)) (λ (e : Entry). e.1) es
       ∙ sum-cong _ _ (λ (e : Entry). names-sum e.1 ∙ (λ i. sym (offered-from e.0 0 (offers_of e.1)) i + sym (named-all e) i)) es
       ∙ sum-plus (λ (e : Entry). sum_by (offer_named q (λ k. 1)) (keyed_offers e)) (λ (e : Entry). sum_by (atom_named q (λ k. 1)) (keyed_atoms e)) es
       ∙ (λ i. (sym (was.offers q (λ k. 1)) ∙ count-all (offers_under t.names.map q)) i + (sym (was.namers q (λ k. 1)) ∙ count-all (namers_under t.names.map q)) i)
@@ -147,11 +147,11 @@ pub known_is : (es : List Entry) (t : Tables) → IsIndexed es t → AreUsed t.n
     → IsStrictlySortedBy (slice_cmp nat_cmp) (entry_names entries) → ((q : List ℕ) → found_in entries q ≡ at_name t.names.map q) → entry_names entries ≡ known_names (contents es)
 unfolding known_names
 known_is es t was used offered entries sorted found =
-    is_in_order (entry_names entries) (flat_map names_of (contents es)) sorted
-    (λ q. sym (is_some-lookup (bytes_eq q) entries) ∙ ap is_some (found q) ∙ there-used t.names.map q used (offered q) ∙ ap (λ n. not (nat_eq n 0)) (sym (listed-sum q es t was)) ∙ sym (any-counted (bytes_eq q) (flat_map names_of (contents es))))
+    is_in_order (entry_names entries) (flat_map names_told (contents es)) sorted
+    (λ q. sym (is_some-lookup (bytes_eq q) entries) ∙ ap is_some (found q) ∙ there-used t.names.map q used (offered q) ∙ ap (λ n. not (nat_eq n 0)) (sym (listed-sum q es t was)) ∙ sym (any-counted (bytes_eq q) (flat_map names_told (contents es))))
 
 -- a name stands in the table where it is known
 pub known_there : (q : List ℕ) (es : List Entry) (t : Tables) → IsIndexed es t → AreUsed t.names.map → HasOffers t.names.map q → is_some (at_name t.names.map q) ≡ list_any (bytes_eq q) (known_names (contents es))
 unfolding known_names
 known_there q es t was used offered =
-    there-used t.names.map q used offered ∙ ap (λ n. not (nat_eq n 0)) (sym (listed-sum q es t was)) ∙ sym (any-counted (bytes_eq q) (flat_map names_of (contents es))) ∙ sym (among_in_order q (flat_map names_of (contents es)))
+    there-used t.names.map q used offered ∙ ap (λ n. not (nat_eq n 0)) (sym (listed-sum q es t was)) ∙ sym (any-counted (bytes_eq q) (flat_map names_told (contents es))) ∙ sym (among_in_order q (flat_map names_told (contents es)))

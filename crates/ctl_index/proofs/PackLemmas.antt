@@ -90,17 +90,6 @@ module _ (short new_short : Short) (long new_long : Long) (shorter : (q : List �
   pub apart_less : AreApart short long → AreApart new_short new_long
   apart_less apart = record { shorter = λ q there. apart.shorter q (still _ _ (shorter q) there); longer = λ q there. apart.longer q (still _ _ (longer q) there) }
 
-  pub either_less : (q : List ℕ) → IsLess (at_either new_short new_long q) (at_either short long q)
-  either_less q = by (nat_le (length q) most_short)
-    where
-      by : (b : Bool) → IsLess (cond b (get (slice_cmp nat_cmp) new_short q) (at_bytes new_long q)) (cond b (get (slice_cmp nat_cmp) short q) (at_bytes long q))
-      by true = shorter q
-      by false = longer q
-
-pub either_same : (short new_short : Short) (long new_long : Long) → ((q : List ℕ) → get (slice_cmp nat_cmp) new_short q ≡ get (slice_cmp nat_cmp) short q)
-    → ((q : List ℕ) → at_bytes new_long q ≡ at_bytes long q) → (q : List ℕ) → at_either new_short new_long q ≡ at_either short long q
-either_same short new_short long new_long shorter longer q i = cond (nat_le (length q) most_short) (shorter q i) (longer q i)
-
 pub used_less : (new old : Option Named) → IsLess new old → option_map_or is_used old true ≡ true → option_map_or is_used new true ≡ true
 used_less None old h used = refl
 used_less (Some named) old h used = ap (λ o. option_map_or is_used o true) (sym h) ∙ used

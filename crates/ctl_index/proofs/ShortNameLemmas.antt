@@ -7,7 +7,7 @@ use Rattle.std.specs.Cmp.Lexicographic.{slice_cmp}
 use Rattle.std.specs.Ordering.{nat_cmp, ordering_then}
 use Rattle.std.specs.declared.cmp.Ordering.{Ordering}
 use Rattle.std.specs.declared.cmp.Ordering.TheVariants.{Less, Equal, Greater}
-use Rattle.ctl_index.specs.Inside.ShortName.{held_name, IsHeldIn, spelled, number_at, filled}
+use Rattle.ctl_index.specs.Inside.ShortName.{held_name, IsHeldIn, spelled, word_at, filled}
 
 -- ---- orders one after another
 
@@ -86,7 +86,7 @@ same_taken (suc n) (x ∷ xs) (y ∷ ys) e = ap suc (same_taken n xs ys (omega a
 
 -- so what is left of them at a place compares by the numbers there, and then by what is behind those
 by_number : (at : ℕ) (xs ys : List ℕ) → length xs ≡ length ys → AreBytes xs → AreBytes ys
-    → slice_cmp nat_cmp (drop at xs) (drop at ys) ≡ ordering_then (nat_cmp (number_at at xs) (number_at at ys)) (slice_cmp nat_cmp (drop (at + 8) xs) (drop (at + 8) ys))
+    → slice_cmp nat_cmp (drop at xs) (drop at ys) ≡ ordering_then (nat_cmp (word_at at xs) (word_at at ys)) (slice_cmp nat_cmp (drop (at + 8) xs) (drop (at + 8) ys))
 by_number at xs ys e g h =
     let left : length (drop at xs) ≡ length (drop at ys) = omega (arith, length-drop at xs, length-drop at ys) in
     let here : AreBytes (take 8 (drop at xs)) = bytes_taken 8 (drop at xs) (bytes_left at xs g) in
@@ -157,26 +157,26 @@ abbrev from_place : ℕ → List ℕ → List ℕ → Ordering
 from_place at xs ys = slice_cmp nat_cmp (drop at xs) (drop at ys)
 
 module _ (xs ys name other : List ℕ) (m : IsHeldIn xs name) (n : IsHeldIn ys other) (g : AreBytes xs) (h : AreBytes ys) where
-  by_held : (at : ℕ) → from_place at xs ys ≡ ordering_then (nat_cmp (number_at at xs) (number_at at ys)) (from_place (at + 8) xs ys)
+  by_held : (at : ℕ) → from_place at xs ys ≡ ordering_then (nat_cmp (word_at at xs) (word_at at ys)) (from_place (at + 8) xs ys)
   by_held at = by_number at xs ys (length_held xs name m ∙ sym (length_held ys other n)) g h
 
   -- numbers that differ tell it
-  pub numbers_differ : (at a b : ℕ) (o : Ordering) → a ≡ number_at at xs → b ≡ number_at at ys → (a ≡ b → ⊥) → o ≡ nat_cmp a b → o ≡ from_place at xs ys
+  pub numbers_differ : (at a b : ℕ) (o : Ordering) → a ≡ word_at at xs → b ≡ word_at at ys → (a ≡ b → ⊥) → o ≡ nat_cmp a b → o ≡ from_place at xs ys
   numbers_differ at a b o p q apart e =
       differ_then a b o (from_place (at + 8) xs ys) apart e ∙ (λ i. ordering_then (nat_cmp (p i) (q i)) (from_place (at + 8) xs ys)) ∙ sym (by_held at)
 
   -- and else what is behind them does
-  pub numbers_tie : (at a b : ℕ) → a ≡ number_at at xs → b ≡ number_at at ys → a ≡ b → from_place (at + 8) xs ys ≡ from_place at xs ys
+  pub numbers_tie : (at a b : ℕ) → a ≡ word_at at xs → b ≡ word_at at ys → a ≡ b → from_place (at + 8) xs ys ≡ from_place at xs ys
   numbers_tie at a b p q e =
       tie_then a b (from_place (at + 8) xs ys) e ∙ (λ i. ordering_then (nat_cmp (p i) (q i)) (from_place (at + 8) xs ys)) ∙ sym (by_held at)
 
   -- behind the last there is none
-  pub last_numbers : (a b : ℕ) (o : Ordering) → a ≡ number_at 24 xs → b ≡ number_at 24 ys → o ≡ nat_cmp a b → o ≡ from_place 24 xs ys
+  pub last_numbers : (a b : ℕ) (o : Ordering) → a ≡ word_at 24 xs → b ≡ word_at 24 ys → o ≡ nat_cmp a b → o ≡ from_place 24 xs ys
   last_numbers a b o p q e =
       let none_here : drop 32 xs ≡ [] = drop_all 32 xs (omega (arith, length_held xs name m)) in
       let none_there : drop 32 ys ≡ [] = drop_all 32 ys (omega (arith, length_held ys other n)) in
-      e ∙ (λ i. nat_cmp (p i) (q i)) ∙ sym (then_equal (nat_cmp (number_at 24 xs) (number_at 24 ys)))
-      ∙ (λ i. ordering_then (nat_cmp (number_at 24 xs) (number_at 24 ys)) (slice_cmp nat_cmp (sym none_here i) (sym none_there i))) ∙ sym (by_held 24)
+      e ∙ (λ i. nat_cmp (p i) (q i)) ∙ sym (then_equal (nat_cmp (word_at 24 xs) (word_at 24 ys)))
+      ∙ (λ i. ordering_then (nat_cmp (word_at 24 xs) (word_at 24 ys)) (slice_cmp nat_cmp (sym none_here i) (sym none_there i))) ∙ sym (by_held 24)
 
   -- and all of them do as the names that are seen
   pub names_tell : (a b : List ℕ) → name ≡ a → other ≡ b → from_place 0 xs ys ≡ slice_cmp nat_cmp a b

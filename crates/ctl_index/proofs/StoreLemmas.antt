@@ -13,7 +13,7 @@ use Rattle.ctl_store.specs.Keys.{KeyedList, key_of, key_cmp, key_is, all_keys, A
 use Rattle.ctl_store.specs.Entries.{Entry, entries_in, entries_of, entry_keys, is_among, without_keys, entries_by}
 use Rattle.ctl_store.specs.Store.{Held, keyed_of}
 use Rattle.ctl_store.specs.Followed.{under, AreApart}
-use Rattle.ctl_index.specs.Inside.TablesSight.{seen, AreSeen, in_store}
+use Rattle.ctl_index.specs.Inside.TablesPending.{seen, AreSeen, in_store}
 use Rattle.ctl_index.proofs.ClauseLemmas.{is_eq_nat, is_eq_then, nat_eq-refl}
 use Rattle.ctl_index.proofs.SeenLemmas.{key_is-same}
 
@@ -79,7 +79,7 @@ in_list k serial (row ∷ rows) = by (nat_eq serial k.list) (nat_eq row.0 k.stan
 -- a store's stanza of a key is the one under it
 pub stanza_under : (k : StanzaKey) (ls : List (List ℕ × KeyedList)) → stanza_at k ls ≡ under k (entries_of ls)
 stanza_under k [] = refl
-stanza_under k (l ∷ ls) = (λ i. option_or (sym (in_list k l.1.serial l.1.rows) i) (stanza_under k ls i)) ∙ sym (under-append k (entries_in l.1) (entries_of ls))
+stanza_under k (l ∷ ls) = (λ i. option_or (sym (in_list k l.1.serial l.1.slots) i) (stanza_under k ls i)) ∙ sym (under-append k (entries_in l.1) (entries_of ls))
 
 pub own_under : (es : List Entry) → AreApart es → AllByRecursion (λ (e : Entry). under e.0 es ≡ Some e.1) es
 own_under [] h = tt
@@ -103,7 +103,7 @@ plain_keys serial (row ∷ rows) = ap (λ ks. key_of serial row.0 ∷ ks) (plain
 
 pub keys_of_entries : (ls : List (List ℕ × KeyedList)) → map (λ (e : Entry). e.0) (entries_of ls) ≡ all_keys ls
 keys_of_entries [] = refl
-keys_of_entries (l ∷ ls) = map-append (λ (e : Entry). e.0) (entries_in l.1) (entries_of ls) ∙ (λ i. plain_keys l.1.serial l.1.rows i ++ keys_of_entries ls i)
+keys_of_entries (l ∷ ls) = map-append (λ (e : Entry). e.0) (entries_in l.1) (entries_of ls) ∙ (λ i. plain_keys l.1.serial l.1.slots i ++ keys_of_entries ls i)
 
 below_apart : (k q : StanzaKey) → key_cmp k q ≡ Less → key_is k q ≡ false
 below_apart k q h = turned ∙ sym tie ∙ ap is_eq h

@@ -15,7 +15,7 @@ use Rattle.ctl_stanza.specs.Content.{Content}
 use Rattle.ctl_store.specs.Entries.{Entry}
 use Rattle.ctl_index.specs.declared.keys.ClauseKey.{ClauseKey}
 use Rattle.ctl_index.specs.Clauses.{clause_at, is_met, is_unmet}
-use Rattle.ctl_index.specs.Names.{known_names, names_of}
+use Rattle.ctl_index.specs.Names.{known_names, names_told}
 use Rattle.ctl_index.specs.Offers.{contents, offers_among}
 use Rattle.ctl_index.proofs.NamesLemmas.{any-counted}
 use Rattle.ctl_index.proofs.OrderLemmas.{in_order_sorted, among_in_order}
@@ -59,7 +59,7 @@ unmet_is key es = by (clause_at key es)
 
 pub names_rise : (stanzas : List Content) → IsStrictlySortedBy (slice_cmp nat_cmp) (known_names stanzas)
 unfolding known_names
-names_rise stanzas = in_order_sorted (flat_map names_of stanzas)
+names_rise stanzas = in_order_sorted (flat_map names_told stanzas)
 
 module _ {X : Type 0} (p : X → Bool) where
   any_append : (xs ys : List X) → list_any p (xs ++ ys) ≡ (list_any p xs || list_any p ys)
@@ -74,6 +74,6 @@ module _ {X : Type 0} (p : X → Bool) where
   any_of_each f [] = refl
   any_of_each f (y ∷ ys) = any_append (f y) (flat_map f ys) ∙ ap (λ t. list_any p (f y) || t) (any_of_each f ys)
 
-pub names_are : (name : List ℕ) (stanzas : List Content) → list_any (bytes_eq name) (known_names stanzas) ≡ list_any (λ stanza. list_any (bytes_eq name) (names_of stanza)) stanzas
+pub names_are : (name : List ℕ) (stanzas : List Content) → list_any (bytes_eq name) (known_names stanzas) ≡ list_any (λ stanza. list_any (bytes_eq name) (names_told stanza)) stanzas
 unfolding known_names
-names_are name stanzas = among_in_order name (flat_map names_of stanzas) ∙ any_of_each (bytes_eq name) names_of stanzas
+names_are name stanzas = among_in_order name (flat_map names_told stanzas) ∙ any_of_each (bytes_eq name) names_told stanzas

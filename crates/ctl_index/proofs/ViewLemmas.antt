@@ -26,7 +26,7 @@ use Rattle.ctl_index.specs.Offers.{offers_named}
 use Rattle.ctl_index.specs.Inside.TablesByName.{offers_under, namers_under}
 use Rattle.ctl_index.specs.Inside.TablesIndexed.{IsIndexed, keyed_offers, keyed_offers_from, offer_named, atom_named}
 use Rattle.ctl_index.specs.Inside.TablesOrder.{namer_key}
-use Rattle.ctl_index.specs.Inside.TablesSight.{seen, offer_seen, in_store, AreSeen}
+use Rattle.ctl_index.specs.Inside.TablesPending.{seen, offer_seen, in_store, AreSeen}
 use Rattle.ctl_index.specs.Inside.TablesViews.{offer_found, AreFound}
 use Rattle.ctl_index.proofs.ClauseLemmas.{same_field, nat_eq-is, nat_eq-refl}
 use Rattle.ctl_index.proofs.CounterLemmas.{exact_field}

@@ -16,7 +16,7 @@ pub mod TablesLoaded
 pub mod TablesOrder
 pub mod TablesParts
 pub mod TablesRows
-pub mod TablesSight
+pub mod TablesPending
 pub mod TablesTests
 pub mod TablesViews
 pub mod TablesWaiting

@@ -24,12 +24,12 @@ in_order [] = []
 in_order (name ∷ names) = insert_key (slice_cmp nat_cmp) (in_order names) name
 
 -- the names that a stanza offers, and those that its atoms name
-abbrev pub names_of : Content → List (List ℕ)
-names_of stanza = map (λ (offer : OfferParts). offer.name) (offers_of stanza) ++ map (λ (atom : AtomParts). atom.name) (naming_atoms stanza)
+abbrev pub names_told : Content → List (List ℕ)
+names_told stanza = map (λ (offer : OfferParts). offer.name) (offers_of stanza) ++ map (λ (atom : AtomParts). atom.name) (naming_atoms stanza)
 
 -- A name is known that is offered, or is the name of an atom of one of the eight fields. What has a row is offered.
 unfoldable pub known_names : List Content → List (List ℕ)
-known_names stanzas = in_order (flat_map names_of stanzas)
+known_names stanzas = in_order (flat_map names_told stanzas)
 
 -- whether a live stanza is of the package of a name
 abbrev pub is_package : List Content → List ℕ → Bool

@@ -4,7 +4,7 @@ ghost use Rattle.std.specs.Prelude.{◌≡◌, ℕ, List, [], true, IfOk, IsSome
 ghost use Rattle.std.specs.Bool.{OnTrue};
 ghost use Rattle.std.specs.Str.{bytes_eq};
 ghost use Rattle.std.specs.BTreeMap.{IsEmpty};
-ghost use Rattle.ctl_index.specs.Held.{standing};
+ghost use Rattle.ctl_index.specs.HeldCache.{standing};
 ghost use Rattle.ctl_store.specs.Store.{Held, keyed_of};
 ghost use Rattle.ctl_store.specs.Plans.{Planned};
 ghost use Rattle.ctl_policy.specs.Rows.{AreRowsOf};

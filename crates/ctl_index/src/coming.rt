@@ -11,18 +11,18 @@ ghost use Rattle.ctl_index.specs.Inside.TablesFit.{IsWholeAt};
 ghost use Rattle.ctl_index.specs.Inside.TablesHeld.{HasTested, TestsAtMost, namers_in, number_in, number_told, offers_in, rows_in};
 ghost use Rattle.ctl_index.specs.Inside.TablesIndexed.{atom_named, keyed_offers_from, namers_sum, offer_named, offers_sum};
 ghost use Rattle.ctl_index.specs.Inside.TablesLoaded.{ComeApart, all_hits, group_named, number_with};
-ghost use Rattle.ctl_index.specs.Inside.TablesSight.{entries_seen, seen};
+ghost use Rattle.ctl_index.specs.Inside.TablesPending.{entries_seen, seen};
 ghost use Rattle.ctl_index.specs.Inside.TablesTests.{all_tested, atoms_tested, atoms_tested_at, fields_tested, group_met, group_tested, groups_tested, is_clause, offers_tested, offers_tested_at};
 ghost use Rattle.ctl_index.specs.Names.{keyed_atoms, keyed_group, keyed_groups, naming_fields};
 ghost use Rattle.ctl_index.specs.Offers.{contents, offers_among};
 ghost use Rattle.ctl_index.specs.Work.{more_by};
-ghost use Rattle.ctl_index.specs.declared.keys.Namer.{Namer};
+ghost use Rattle.ctl_index.specs.declared.keys.NamingAtom.{NamingAtom};
 ghost use Rattle.ctl_stanza.specs.Content.{groups_of};
 
 use crate::counters::Counters;
 use crate::keys::{AtomKey, ClauseKey, KeyedOffer, OfferKey};
 use crate::name_table::NameTable;
-use crate::sight::{Sight, stanza_at};
+use crate::pending_store::{PendingStore, stanza_at};
 use crate::tables::Tables;
 use ctl_relation::{FieldKind, Group, Groups, Offer, Steps};
 use ctl_stanza::Stanza;
@@ -31,7 +31,7 @@ use std::alloc::AllocError;
 
 // What a stanza offers.
 fn put_offers_of(
-    sight: &Sight<'_>,
+    pending: &PendingStore<'_>,
     key: StanzaKey,
     offers: &[Offer],
     tables: &mut Tables,
@@ -42,9 +42,9 @@ fn put_offers_of(
     ensures namers { OnOk result (namers_in tables.new ≡ namers_in tables.old) }
     ensures rows { OnOk result (rows_in tables.new ≡ rows_in tables.old) }
     ensures counts { OnOk result ((k : ClauseKey) → number_in tables.new k
-        ≡ option_map (counted_up (all_hits sight.now (namers_in tables.old) offers.now k)) (number_in tables.old k)) }
-    ensures steps { OnOk result (HasTested (all_tested sight.now (namers_in tables.old) offers.now) tables.old tables.new) }
-    ensures most { TestsAtMost (all_tested sight.now (namers_in tables.old) offers.now) tables.old tables.new }
+        ≡ option_map (counted_up (all_hits pending.now (namers_in tables.old) offers.now k)) (number_in tables.old k)) }
+    ensures steps { OnOk result (HasTested (all_tested pending.now (namers_in tables.old) offers.now) tables.old tables.new) }
+    ensures most { TestsAtMost (all_tested pending.now (namers_in tables.old) offers.now) tables.old tables.new }
     ensures least { tables.old.steps ≤ tables.new.steps }
 {
     let _count = tables.steps.count();
@@ -59,32 +59,36 @@ fn put_offers_of(
         };
         let counters = &mut tables.counters;
         let steps = &mut tables.steps;
-        tables.names.put_offer(sight, coming, counters, steps)?;
+        tables.names.put_offer(pending, coming, counters, steps)?;
     }
     Ok(())
 }
 
 // What the stanza under a key offers, if there is one.
-fn put_offers_at(sight: &Sight<'_>, key: StanzaKey, tables: &mut Tables) -> Result<(), AllocError>
-    ensures whole { OnOk result (IsWholeAt (seen sight.now) key) }
+fn put_offers_at(
+    pending: &PendingStore<'_>,
+    key: StanzaKey,
+    tables: &mut Tables,
+) -> Result<(), AllocError>
+    ensures whole { OnOk result (IsWholeAt (seen pending.now) key) }
     ensures offers { OnOk result ((q : List ℕ) (f : OfferKey → ℕ) → sum_by f (offers_in tables.new q)
-        ≡ sum_by f (offers_in tables.old q) + offers_sum q f (entries_seen sight.now (key ∷ []))) }
+        ≡ sum_by f (offers_in tables.old q) + offers_sum q f (entries_seen pending.now (key ∷ []))) }
     ensures namers { OnOk result (namers_in tables.new ≡ namers_in tables.old) }
     ensures rows { OnOk result (rows_in tables.new ≡ rows_in tables.old) }
     ensures counts { OnOk result ((k : ClauseKey) → number_in tables.new k
         ≡ option_map (counted_up
-        (all_hits sight.now (namers_in tables.old) (offers_among (contents (entries_seen sight.now (key ∷ [])))) k))
+        (all_hits pending.now (namers_in tables.old) (offers_among (contents (entries_seen pending.now (key ∷ [])))) k))
         (number_in tables.old k)) }
-    ensures steps { OnOk result (HasTested (offers_tested_at sight.now (namers_in tables.old) key) tables.old tables.new) }
-    ensures most { TestsAtMost (offers_tested_at sight.now (namers_in tables.old) key) tables.old tables.new }
+    ensures steps { OnOk result (HasTested (offers_tested_at pending.now (namers_in tables.old) key) tables.old tables.new) }
+    ensures most { TestsAtMost (offers_tested_at pending.now (namers_in tables.old) key) tables.old tables.new }
     ensures least { tables.old.steps ≤ tables.new.steps }
 {
     let _count = tables.steps.count();
-    match stanza_at(sight, key) {
+    match stanza_at(pending, key) {
         Some(stanza) => {
             // That the stanza has no fault is said here.
             let _kind = stanza.kind();
-            put_offers_of(sight, key, stanza.offers(), tables)
+            put_offers_of(pending, key, stanza.offers(), tables)
         }
         None => Ok(()),
     }
@@ -92,48 +96,48 @@ fn put_offers_at(sight: &Sight<'_>, key: StanzaKey, tables: &mut Tables) -> Resu
 
 /// What the stanzas under these keys offer. It is listed, and tested against the clauses that name it.
 pub(crate) fn put_offers(
-    sight: &Sight<'_>,
+    pending: &PendingStore<'_>,
     keys: &[StanzaKey],
     tables: &mut Tables,
 ) -> Result<(), AllocError>
-    ensures whole { OnOk result (All (IsWholeAt (seen sight.now)) keys.now) }
+    ensures whole { OnOk result (All (IsWholeAt (seen pending.now)) keys.now) }
     ensures offers { OnOk result ((q : List ℕ) (f : OfferKey → ℕ) → sum_by f (offers_in tables.new q)
-        ≡ sum_by f (offers_in tables.old q) + offers_sum q f (entries_seen sight.now keys.now)) }
+        ≡ sum_by f (offers_in tables.old q) + offers_sum q f (entries_seen pending.now keys.now)) }
     ensures namers { OnOk result (namers_in tables.new ≡ namers_in tables.old) }
     ensures rows { OnOk result (rows_in tables.new ≡ rows_in tables.old) }
     ensures counts { OnOk result ((k : ClauseKey) → number_in tables.new k
         ≡ option_map (counted_up
-        (all_hits sight.now (namers_in tables.old) (offers_among (contents (entries_seen sight.now keys.now))) k))
+        (all_hits pending.now (namers_in tables.old) (offers_among (contents (entries_seen pending.now keys.now))) k))
         (number_in tables.old k)) }
-    ensures steps { OnOk result (HasTested (offers_tested sight.now (namers_in tables.old) keys.now) tables.old tables.new) }
-    ensures most { TestsAtMost (offers_tested sight.now (namers_in tables.old) keys.now) tables.old tables.new }
+    ensures steps { OnOk result (HasTested (offers_tested pending.now (namers_in tables.old) keys.now) tables.old tables.new) }
+    ensures most { TestsAtMost (offers_tested pending.now (namers_in tables.old) keys.now) tables.old tables.new }
     ensures least { tables.old.steps ≤ tables.new.steps }
 {
     let _count = tables.steps.count();
     for key in keys {
-        put_offers_at(sight, *key, tables)?;
+        put_offers_at(pending, *key, tables)?;
     }
     Ok(())
 }
 
 // The atoms of a group. It tells how many offers meet them, where the group is a clause.
 fn put_group(
-    sight: &Sight<'_>,
+    pending: &PendingStore<'_>,
     clause: ClauseKey,
     group: &Group<'_>,
     names: &mut NameTable,
     steps: &mut Steps,
 ) -> Result<u128, AllocError>
     requires { length group.now < 2 ^ 32 }
-    ensures namers { OnOk result ((q : List ℕ) (f : Namer → ℕ) → sum_by f (namers_under names.new.map q)
+    ensures namers { OnOk result ((q : List ℕ) (f : NamingAtom → ℕ) → sum_by f (namers_under names.new.map q)
         ≡ sum_by f (namers_under names.old.map q)
         + sum_by (atom_named q f) (keyed_group clause.stanza clause.field clause.group 0 group.now)) }
     ensures offers { OnOk result (offers_under names.new.map ≡ offers_under names.old.map) }
     ensures rows { OnOk result (rows_under names.new.map ≡ rows_under names.old.map) }
-    ensures met { IfOk result (λ met. met ≡ group_met sight.now clause.field (offers_under names.old.map) group.now) }
+    ensures met { IfOk result (λ met. met ≡ group_met pending.now clause.field (offers_under names.old.map) group.now) }
     ensures steps { OnOk result (steps.new
-        ≡ more_by (group_tested sight.now clause.field (offers_under names.old.map) group.now) steps.old) }
-    ensures most { steps.new ≤ more_by (group_tested sight.now clause.field (offers_under names.old.map) group.now) steps.old }
+        ≡ more_by (group_tested pending.now clause.field (offers_under names.old.map) group.now) steps.old) }
+    ensures most { steps.new ≤ more_by (group_tested pending.now clause.field (offers_under names.old.map) group.now) steps.old }
     ensures least { steps.old ≤ steps.new }
 {
     let _count = steps.count();
@@ -146,7 +150,7 @@ fn put_group(
             group: clause.group,
             atom: place,
         };
-        met += names.put_atom(sight, key, &atom, steps)? as u128;
+        met += names.put_atom(pending, key, &atom, steps)? as u128;
         place += 1;
     }
     Ok(met)
@@ -165,7 +169,7 @@ fn list_clause(counters: &mut Counters, clause: ClauseKey, number: u128) -> Resu
 
 #[tactic(auto, using(crate::proofs::ClauseLemmas::groups_start))]
 fn put_groups(
-    sight: &Sight<'_>,
+    pending: &PendingStore<'_>,
     key: StanzaKey,
     field: FieldKind,
     groups: Groups<'_>,
@@ -173,14 +177,14 @@ fn put_groups(
 ) -> Result<(), AllocError>
     requires count { length groups < 2 ^ 32 }
     requires few { atom_count groups < 2 ^ 32 }
-    ensures namers { OnOk result ((q : List ℕ) (f : Namer → ℕ) → sum_by f (namers_in tables.new q)
+    ensures namers { OnOk result ((q : List ℕ) (f : NamingAtom → ℕ) → sum_by f (namers_in tables.new q)
         ≡ sum_by f (namers_in tables.old q) + sum_by (atom_named q f) (keyed_groups key field 0 groups.entry)) }
     ensures offers { OnOk result (offers_in tables.new ≡ offers_in tables.old) }
     ensures rows { OnOk result (rows_in tables.new ≡ rows_in tables.old) }
     ensures counts { OnOk result ((k : ClauseKey) → number_told tables.new k
-        ≡ number_with sight.now (offers_in tables.old) field (group_named key field groups.entry k) (number_told tables.old k)) }
-    ensures steps { OnOk result (HasTested (groups_tested sight.now field (offers_in tables.old) groups.entry) tables.old tables.new) }
-    ensures most { TestsAtMost (groups_tested sight.now field (offers_in tables.old) groups.entry) tables.old tables.new }
+        ≡ number_with pending.now (offers_in tables.old) field (group_named key field groups.entry k) (number_told tables.old k)) }
+    ensures steps { OnOk result (HasTested (groups_tested pending.now field (offers_in tables.old) groups.entry) tables.old tables.new) }
+    ensures most { TestsAtMost (groups_tested pending.now field (offers_in tables.old) groups.entry) tables.old tables.new }
     ensures least { tables.old.steps ≤ tables.new.steps }
 {
     let _count = tables.steps.count();
@@ -191,7 +195,13 @@ fn put_groups(
             field,
             group: place,
         };
-        let met = put_group(sight, clause, &group, &mut tables.names, &mut tables.steps)?;
+        let met = put_group(
+            pending,
+            clause,
+            &group,
+            &mut tables.names,
+            &mut tables.steps,
+        )?;
         list_clause(&mut tables.counters, clause, met)?;
         place += 1;
     }
@@ -200,90 +210,98 @@ fn put_groups(
 
 // The groups of one field.
 fn put_field(
-    sight: &Sight<'_>,
+    pending: &PendingStore<'_>,
     key: StanzaKey,
     stanza: &Stanza,
     field: FieldKind,
     tables: &mut Tables,
 ) -> Result<(), AllocError>
-    ensures namers { OnOk result ((q : List ℕ) (f : Namer → ℕ) → sum_by f (namers_in tables.new q)
+    ensures namers { OnOk result ((q : List ℕ) (f : NamingAtom → ℕ) → sum_by f (namers_in tables.new q)
         ≡ sum_by f (namers_in tables.old q) + sum_by (atom_named q f) (keyed_groups key field 0 (groups_of field stanza.now))) }
     ensures offers { OnOk result (offers_in tables.new ≡ offers_in tables.old) }
     ensures rows { OnOk result (rows_in tables.new ≡ rows_in tables.old) }
     ensures counts { OnOk result ((k : ClauseKey) → number_told tables.new k
-        ≡ number_with sight.now (offers_in tables.old) field (group_named key field (groups_of field stanza.now) k)
+        ≡ number_with pending.now (offers_in tables.old) field (group_named key field (groups_of field stanza.now) k)
         (number_told tables.old k)) }
-    ensures steps { OnOk result (HasTested (groups_tested sight.now field (offers_in tables.old)
+    ensures steps { OnOk result (HasTested (groups_tested pending.now field (offers_in tables.old)
         (groups_of field stanza.now)) tables.old tables.new) }
-    ensures most { TestsAtMost (groups_tested sight.now field (offers_in tables.old) (groups_of field stanza.now)) tables.old tables.new }
+    ensures most { TestsAtMost (groups_tested pending.now field (offers_in tables.old) (groups_of field stanza.now)) tables.old tables.new }
     ensures least { tables.old.steps ≤ tables.new.steps }
 {
     let groups = stanza.groups(field);
-    put_groups(sight, key, field, groups, tables)
+    put_groups(pending, key, field, groups, tables)
 }
 
 // The groups of the eight fields.
 fn put_fields(
-    sight: &Sight<'_>,
+    pending: &PendingStore<'_>,
     key: StanzaKey,
     stanza: &Stanza,
     fields: &[FieldKind],
     tables: &mut Tables,
 ) -> Result<(), AllocError>
     requires { fields.now ≡ naming_fields }
-    ensures namers { OnOk result ((q : List ℕ) (f : Namer → ℕ) → sum_by f (namers_in tables.new q)
+    ensures namers { OnOk result ((q : List ℕ) (f : NamingAtom → ℕ) → sum_by f (namers_in tables.new q)
         ≡ sum_by f (namers_in tables.old q) + sum_by (atom_named q f) (keyed_atoms (key, stanza.now))) }
     ensures offers { OnOk result (offers_in tables.new ≡ offers_in tables.old) }
     ensures rows { OnOk result (rows_in tables.new ≡ rows_in tables.old) }
     ensures counts { OnOk result ((k : ClauseKey) → number_told tables.new k
-        ≡ number_with sight.now (offers_in tables.old) k.field (clause_at k ((key, stanza.now) ∷ [])) (number_told tables.old k)) }
-    ensures steps { OnOk result (HasTested (fields_tested sight.now (offers_in tables.old) fields.now stanza.now) tables.old tables.new) }
-    ensures most { TestsAtMost (fields_tested sight.now (offers_in tables.old) fields.now stanza.now) tables.old tables.new }
+        ≡ number_with pending.now (offers_in tables.old) k.field (clause_at k ((key, stanza.now) ∷ [])) (number_told tables.old k)) }
+    ensures steps { OnOk result (HasTested (fields_tested pending.now (offers_in tables.old) fields.now stanza.now) tables.old tables.new) }
+    ensures most { TestsAtMost (fields_tested pending.now (offers_in tables.old) fields.now stanza.now) tables.old tables.new }
     ensures least { tables.old.steps ≤ tables.new.steps }
 {
     let _count = tables.steps.count();
     for field in fields {
-        put_field(sight, key, stanza, *field, tables)?;
+        put_field(pending, key, stanza, *field, tables)?;
     }
     Ok(())
 }
 
 // The atoms of the stanza under a key, if there is one.
-fn put_atoms_at(sight: &Sight<'_>, key: StanzaKey, tables: &mut Tables) -> Result<(), AllocError>
-    ensures namers { OnOk result ((q : List ℕ) (f : Namer → ℕ) → sum_by f (namers_in tables.new q)
-        ≡ sum_by f (namers_in tables.old q) + namers_sum q f (entries_seen sight.now (key ∷ []))) }
+fn put_atoms_at(
+    pending: &PendingStore<'_>,
+    key: StanzaKey,
+    tables: &mut Tables,
+) -> Result<(), AllocError>
+    ensures namers { OnOk result ((q : List ℕ) (f : NamingAtom → ℕ) → sum_by f (namers_in tables.new q)
+        ≡ sum_by f (namers_in tables.old q) + namers_sum q f (entries_seen pending.now (key ∷ []))) }
     ensures offers { OnOk result (offers_in tables.new ≡ offers_in tables.old) }
     ensures rows { OnOk result (rows_in tables.new ≡ rows_in tables.old) }
     ensures counts { OnOk result ((k : ClauseKey) → number_told tables.new k
-        ≡ number_with sight.now (offers_in tables.old) k.field (clause_at k (entries_seen sight.now (key ∷ [])))
+        ≡ number_with pending.now (offers_in tables.old) k.field (clause_at k (entries_seen pending.now (key ∷ [])))
         (number_told tables.old k)) }
-    ensures steps { OnOk result (HasTested (atoms_tested_at sight.now (offers_in tables.old) key) tables.old tables.new) }
-    ensures most { TestsAtMost (atoms_tested_at sight.now (offers_in tables.old) key) tables.old tables.new }
+    ensures steps { OnOk result (HasTested (atoms_tested_at pending.now (offers_in tables.old) key) tables.old tables.new) }
+    ensures most { TestsAtMost (atoms_tested_at pending.now (offers_in tables.old) key) tables.old tables.new }
     ensures least { tables.old.steps ≤ tables.new.steps }
 {
     let _count = tables.steps.count();
-    match stanza_at(sight, key) {
-        Some(stanza) => put_fields(sight, key, stanza, FieldKind::eight(), tables),
+    match stanza_at(pending, key) {
+        Some(stanza) => put_fields(pending, key, stanza, FieldKind::eight(), tables),
         None => Ok(()),
     }
 }
 
 // The atoms of the stanzas under these keys, and the clauses that come with them, which wait to be entered.
-fn list_atoms(sight: &Sight<'_>, keys: &[StanzaKey], tables: &mut Tables) -> Result<(), AllocError>
-    ensures namers { OnOk result ((q : List ℕ) (f : Namer → ℕ) → sum_by f (namers_in tables.new q)
-        ≡ sum_by f (namers_in tables.old q) + namers_sum q f (entries_seen sight.now keys.now)) }
+fn list_atoms(
+    pending: &PendingStore<'_>,
+    keys: &[StanzaKey],
+    tables: &mut Tables,
+) -> Result<(), AllocError>
+    ensures namers { OnOk result ((q : List ℕ) (f : NamingAtom → ℕ) → sum_by f (namers_in tables.new q)
+        ≡ sum_by f (namers_in tables.old q) + namers_sum q f (entries_seen pending.now keys.now)) }
     ensures offers { OnOk result (offers_in tables.new ≡ offers_in tables.old) }
     ensures rows { OnOk result (rows_in tables.new ≡ rows_in tables.old) }
-    ensures counts { OnOk result (ComeApart sight.now keys.now → (k : ClauseKey) → number_told tables.new k
-        ≡ number_with sight.now (offers_in tables.old) k.field (clause_at k (entries_seen sight.now keys.now))
+    ensures counts { OnOk result (ComeApart pending.now keys.now → (k : ClauseKey) → number_told tables.new k
+        ≡ number_with pending.now (offers_in tables.old) k.field (clause_at k (entries_seen pending.now keys.now))
         (number_told tables.old k)) }
-    ensures steps { OnOk result (HasTested (atoms_tested sight.now (offers_in tables.old) keys.now) tables.old tables.new) }
-    ensures most { TestsAtMost (atoms_tested sight.now (offers_in tables.old) keys.now) tables.old tables.new }
+    ensures steps { OnOk result (HasTested (atoms_tested pending.now (offers_in tables.old) keys.now) tables.old tables.new) }
+    ensures most { TestsAtMost (atoms_tested pending.now (offers_in tables.old) keys.now) tables.old tables.new }
     ensures least { tables.old.steps ≤ tables.new.steps }
 {
     let _count = tables.steps.count();
     for key in keys {
-        put_atoms_at(sight, *key, tables)?;
+        put_atoms_at(pending, *key, tables)?;
     }
     Ok(())
 }
@@ -291,22 +309,22 @@ fn list_atoms(sight: &Sight<'_>, keys: &[StanzaKey], tables: &mut Tables) -> Res
 /// The atoms of the stanzas under these keys, whose offers are listed. They are listed, and each clause comes with the number of
 /// listed offers that meet its atoms.
 pub(crate) fn put_atoms(
-    sight: &Sight<'_>,
+    pending: &PendingStore<'_>,
     keys: &[StanzaKey],
     tables: &mut Tables,
 ) -> Result<(), AllocError>
-    ensures namers { OnOk result ((q : List ℕ) (f : Namer → ℕ) → sum_by f (namers_in tables.new q)
-        ≡ sum_by f (namers_in tables.old q) + namers_sum q f (entries_seen sight.now keys.now)) }
+    ensures namers { OnOk result ((q : List ℕ) (f : NamingAtom → ℕ) → sum_by f (namers_in tables.new q)
+        ≡ sum_by f (namers_in tables.old q) + namers_sum q f (entries_seen pending.now keys.now)) }
     ensures offers { OnOk result (offers_in tables.new ≡ offers_in tables.old) }
     ensures rows { OnOk result (rows_in tables.new ≡ rows_in tables.old) }
-    ensures counts { OnOk result (ComeApart sight.now keys.now → (k : ClauseKey) → number_in tables.new k
-        ≡ number_with sight.now (offers_in tables.old) k.field (clause_at k (entries_seen sight.now keys.now)) (number_in tables.old k)) }
-    ensures steps { OnOk result (HasTested (atoms_tested sight.now (offers_in tables.old) keys.now) tables.old tables.new) }
-    ensures most { TestsAtMost (atoms_tested sight.now (offers_in tables.old) keys.now) tables.old tables.new }
+    ensures counts { OnOk result (ComeApart pending.now keys.now → (k : ClauseKey) → number_in tables.new k
+        ≡ number_with pending.now (offers_in tables.old) k.field (clause_at k (entries_seen pending.now keys.now)) (number_in tables.old k)) }
+    ensures steps { OnOk result (HasTested (atoms_tested pending.now (offers_in tables.old) keys.now) tables.old tables.new) }
+    ensures most { TestsAtMost (atoms_tested pending.now (offers_in tables.old) keys.now) tables.old tables.new }
     ensures least { tables.old.steps ≤ tables.new.steps }
 {
     tables.counters.let_none_wait();
-    list_atoms(sight, keys, tables)?;
+    list_atoms(pending, keys, tables)?;
     tables.names.pack_behind(keys.len())?;
     tables.counters.enter_waiting()?;
     Ok(())

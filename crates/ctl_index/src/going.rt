@@ -17,7 +17,7 @@ ghost use Rattle.ctl_stanza.specs.Content.{groups_of};
 use crate::counters::Counters;
 use crate::keys::ClauseKey;
 use crate::name_table::NameTable;
-use crate::sight::{Going, stanza_at};
+use crate::pending_store::{Going, stanza_at};
 use crate::tables::Tables;
 use ctl_relation::{FieldKind, Group, Groups, Offer, Steps};
 use ctl_stanza::Stanza;
@@ -36,7 +36,7 @@ fn take_group(
         ≡ without_if namer_stanza going.now.span (has_namer q group.now) (namers_under names.old.map q) }
     ensures offers { offers_under names.new.map ≡ offers_under names.old.map }
     ensures rows { rows_under names.new.map ≡ rows_under names.old.map }
-    ensures steps { steps.new ≡ more_by (group_tested going.now.sight field (offers_under names.old.map) group.now) steps.old }
+    ensures steps { steps.new ≡ more_by (group_tested going.now.pending field (offers_under names.old.map) group.now) steps.old }
 {
     let _count = steps.count();
     for atom in group.atoms() {
@@ -68,7 +68,7 @@ fn take_groups(
     ensures rows { rows_in tables.new ≡ rows_in tables.old }
     ensures counts { (k : ClauseKey) → number_in tables.new k
         ≡ (if is_group_below key field (length groups.entry) k then None else number_in tables.old k) }
-    ensures steps { HasTested (groups_tested going.now.sight field (offers_in tables.old) groups.entry) tables.old tables.new }
+    ensures steps { HasTested (groups_tested going.now.pending field (offers_in tables.old) groups.entry) tables.old tables.new }
 {
     let _count = tables.steps.count();
     let mut place = 0;
@@ -98,7 +98,7 @@ fn take_field(
     ensures rows { rows_in tables.new ≡ rows_in tables.old }
     ensures counts { (k : ClauseKey) → number_in tables.new k
         ≡ (if is_of_field key stanza.now k field then None else number_in tables.old k) }
-    ensures steps { HasTested (groups_tested going.now.sight field (offers_in tables.old)
+    ensures steps { HasTested (groups_tested going.now.pending field (offers_in tables.old)
         (groups_of field stanza.now)) tables.old tables.new }
 {
     let groups = stanza.groups(field);
@@ -119,7 +119,7 @@ fn take_fields(
     ensures rows { rows_in tables.new ≡ rows_in tables.old }
     ensures counts { (k : ClauseKey) → number_in tables.new k
         ≡ (if list_any (is_of_field key stanza.now k) fields.now then None else number_in tables.old k) }
-    ensures steps { HasTested (fields_tested going.now.sight (offers_in tables.old) fields.now stanza.now) tables.old tables.new }
+    ensures steps { HasTested (fields_tested going.now.pending (offers_in tables.old) fields.now stanza.now) tables.old tables.new }
 {
     let _count = tables.steps.count();
     for field in fields {
@@ -130,15 +130,15 @@ fn take_fields(
 // The atoms of the stanza under a key, if there is one.
 fn take_atoms_at(going: &Going<'_>, key: StanzaKey, tables: &mut Tables)
     ensures namers { (q : List ℕ) → namers_in tables.new q
-        ≡ without_if namer_stanza going.now.span (has_namer_at going.now.sight q key) (namers_in tables.old q) }
+        ≡ without_if namer_stanza going.now.span (has_namer_at going.now.pending q key) (namers_in tables.old q) }
     ensures offers { offers_in tables.new ≡ offers_in tables.old }
     ensures rows { rows_in tables.new ≡ rows_in tables.old }
     ensures counts { (k : ClauseKey) → number_in tables.new k
-        ≡ (if is_clause_at going.now.sight k key then None else number_in tables.old k) }
-    ensures steps { HasTested (atoms_tested_at going.now.sight (offers_in tables.old) key) tables.old tables.new }
+        ≡ (if is_clause_at going.now.pending k key then None else number_in tables.old k) }
+    ensures steps { HasTested (atoms_tested_at going.now.pending (offers_in tables.old) key) tables.old tables.new }
 {
     let _count = tables.steps.count();
-    match stanza_at(&going.sight, key) {
+    match stanza_at(&going.pending, key) {
         Some(stanza) => take_fields(going, key, stanza, FieldKind::eight(), tables),
         None => {}
     }
@@ -148,12 +148,12 @@ fn take_atoms_at(going: &Going<'_>, key: StanzaKey, tables: &mut Tables)
 /// the clauses go.
 pub(crate) fn take_atoms(going: &Going<'_>, keys: &[StanzaKey], tables: &mut Tables)
     ensures namers { (q : List ℕ) → namers_in tables.new q
-        ≡ without_if namer_stanza going.now.span (list_any (has_namer_at going.now.sight q) keys.now) (namers_in tables.old q) }
+        ≡ without_if namer_stanza going.now.span (list_any (has_namer_at going.now.pending q) keys.now) (namers_in tables.old q) }
     ensures offers { offers_in tables.new ≡ offers_in tables.old }
     ensures rows { rows_in tables.new ≡ rows_in tables.old }
     ensures counts { (k : ClauseKey) → number_in tables.new k
-        ≡ (if list_any (is_clause_at going.now.sight k) keys.now then None else number_in tables.old k) }
-    ensures steps { HasTested (atoms_tested going.now.sight (offers_in tables.old) keys.now) tables.old tables.new }
+        ≡ (if list_any (is_clause_at going.now.pending k) keys.now then None else number_in tables.old k) }
+    ensures steps { HasTested (atoms_tested going.now.pending (offers_in tables.old) keys.now) tables.old tables.new }
 {
     let _count = tables.steps.count();
     for key in keys {
@@ -172,9 +172,9 @@ fn take_offers_of(
     ensures namers { OnOk result (namers_in tables.new ≡ namers_in tables.old) }
     ensures rows { OnOk result (rows_in tables.new ≡ rows_in tables.old) }
     ensures counts { OnOk result ((k : ClauseKey) → number_in tables.new k
-        ≡ less_by (all_hits going.now.sight (namers_in tables.old) offers.now k) (number_in tables.old k)) }
-    ensures steps { OnOk result (HasTested (all_tested going.now.sight (namers_in tables.old) offers.now) tables.old tables.new) }
-    ensures most { TestsAtMost (all_tested going.now.sight (namers_in tables.old) offers.now) tables.old tables.new }
+        ≡ less_by (all_hits going.now.pending (namers_in tables.old) offers.now k) (number_in tables.old k)) }
+    ensures steps { OnOk result (HasTested (all_tested going.now.pending (namers_in tables.old) offers.now) tables.old tables.new) }
+    ensures most { TestsAtMost (all_tested going.now.pending (namers_in tables.old) offers.now) tables.old tables.new }
     ensures least { tables.old.steps ≤ tables.new.steps }
 {
     let _count = tables.steps.count();
@@ -189,17 +189,17 @@ fn take_offers_of(
 // What the stanza under a key offers, if there is one.
 fn take_offers_at(going: &Going<'_>, key: StanzaKey, tables: &mut Tables) -> Result<(), AllocError>
     ensures offers { OnOk result ((q : List ℕ) → offers_in tables.new q
-        ≡ without_if offer_stanza going.now.span (has_offer_at going.now.sight q key) (offers_in tables.old q)) }
+        ≡ without_if offer_stanza going.now.span (has_offer_at going.now.pending q key) (offers_in tables.old q)) }
     ensures namers { OnOk result (namers_in tables.new ≡ namers_in tables.old) }
     ensures rows { OnOk result (rows_in tables.new ≡ rows_in tables.old) }
     ensures counts { OnOk result ((k : ClauseKey) → number_in tables.new k
-        ≡ less_by (hits_at going.now.sight (namers_in tables.old) k key) (number_in tables.old k)) }
-    ensures steps { OnOk result (HasTested (offers_tested_at going.now.sight (namers_in tables.old) key) tables.old tables.new) }
-    ensures most { TestsAtMost (offers_tested_at going.now.sight (namers_in tables.old) key) tables.old tables.new }
+        ≡ less_by (hits_at going.now.pending (namers_in tables.old) k key) (number_in tables.old k)) }
+    ensures steps { OnOk result (HasTested (offers_tested_at going.now.pending (namers_in tables.old) key) tables.old tables.new) }
+    ensures most { TestsAtMost (offers_tested_at going.now.pending (namers_in tables.old) key) tables.old tables.new }
     ensures least { tables.old.steps ≤ tables.new.steps }
 {
     let _count = tables.steps.count();
-    match stanza_at(&going.sight, key) {
+    match stanza_at(&going.pending, key) {
         Some(stanza) => take_offers_of(going, stanza.offers(), tables),
         None => Ok(()),
     }
@@ -212,13 +212,13 @@ pub(crate) fn take_offers(
     tables: &mut Tables,
 ) -> Result<(), AllocError>
     ensures offers { OnOk result ((q : List ℕ) → offers_in tables.new q
-        ≡ without_if offer_stanza going.now.span (list_any (has_offer_at going.now.sight q) keys.now) (offers_in tables.old q)) }
+        ≡ without_if offer_stanza going.now.span (list_any (has_offer_at going.now.pending q) keys.now) (offers_in tables.old q)) }
     ensures namers { OnOk result (namers_in tables.new ≡ namers_in tables.old) }
     ensures rows { OnOk result (rows_in tables.new ≡ rows_in tables.old) }
     ensures counts { OnOk result ((k : ClauseKey) → number_in tables.new k
-        ≡ less_by (sum_by (hits_at going.now.sight (namers_in tables.old) k) keys.now) (number_in tables.old k)) }
-    ensures steps { OnOk result (HasTested (offers_tested going.now.sight (namers_in tables.old) keys.now) tables.old tables.new) }
-    ensures most { TestsAtMost (offers_tested going.now.sight (namers_in tables.old) keys.now) tables.old tables.new }
+        ≡ less_by (sum_by (hits_at going.now.pending (namers_in tables.old) k) keys.now) (number_in tables.old k)) }
+    ensures steps { OnOk result (HasTested (offers_tested going.now.pending (namers_in tables.old) keys.now) tables.old tables.new) }
+    ensures most { TestsAtMost (offers_tested going.now.pending (namers_in tables.old) keys.now) tables.old tables.new }
     ensures least { tables.old.steps ≤ tables.new.steps }
 {
     let _count = tables.steps.count();

@@ -2,7 +2,7 @@
 
 ghost use Rattle.std.specs.Prelude.{◌≡◌, None, Some, option_map};
 ghost use Rattle.ctl_relation.specs.Version.{fault_of};
-ghost use Rattle.ctl_index.specs.Inside.KeptBound.{kept_of, with_bound};
+ghost use Rattle.ctl_index.specs.Inside.KeptBound.{bound_kept, with_bound};
 
 use ctl_relation::{Atom, Operator};
 use std::marker::Model;
@@ -11,7 +11,7 @@ use std::marker::Model;
 const MOST_KEPT: usize = 12;
 
 #[derive(Drop)]
-enum Held {
+enum BoundForm {
     // There is no bound.
     Without,
     // An operator and a version, whose text are so many of the bytes behind the number.
@@ -27,7 +27,7 @@ enum Held {
 /// atom, which takes more than half of the time of such a test.
 #[derive(Drop)]
 pub(crate) struct KeptBound {
-    held: Held,
+    held: BoundForm,
 }
 
 impl Model for KeptBound {
@@ -44,30 +44,30 @@ impl Model for KeptBound {
 // What is kept of a bound.
 fn kept(operator: Operator, version: &[u8]) -> KeptBound
     requires { fault_of version.now ≡ None }
-    ensures { result ≡ kept_of (Some (operator, version.now)) }
+    ensures { result ≡ bound_kept (Some (operator, version.now)) }
 {
     if version.len() > MOST_KEPT {
         return KeptBound {
-            held: Held::Elsewhere,
+            held: BoundForm::Elsewhere,
         };
     }
     let mut places = [0; MOST_KEPT];
     let (front, _) = places.split_at_mut(version.len());
     front.copy_from_slice(version);
     KeptBound {
-        held: Held::Short(operator, version.len() as u8, places),
+        held: BoundForm::Short(operator, version.len() as u8, places),
     }
 }
 
 impl KeptBound {
     /// What is kept of the bound of an atom.
     pub(crate) fn of(atom: &Atom<'_>) -> KeptBound
-        ensures { result ≡ kept_of atom.now.bound }
+        ensures { result ≡ bound_kept atom.now.bound }
     {
         match atom.bound() {
             Some((operator, version)) => kept(operator, version),
             None => KeptBound {
-                held: Held::Without,
+                held: BoundForm::Without,
             },
         }
     }
@@ -77,12 +77,12 @@ impl KeptBound {
         ensures { result ≡ option_map (with_bound name.now) self.now }
     {
         match &self.held {
-            Held::Without => Some(Atom::new(name, None, None)),
-            Held::Short(operator, len, places) => {
+            BoundForm::Without => Some(Atom::new(name, None, None)),
+            BoundForm::Short(operator, len, places) => {
                 let version = &places[..*len as usize];
                 Some(Atom::new(name, None, Some((*operator, version))))
             }
-            Held::Elsewhere => None,
+            BoundForm::Elsewhere => None,
         }
     }
 }

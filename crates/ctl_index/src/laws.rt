@@ -11,7 +11,7 @@ ghost use Rattle.ctl_stanza.specs.Content.{Content};
 ghost use Rattle.ctl_store.specs.Entries.{Entry};
 ghost use Rattle.ctl_index.specs.declared.keys.ClauseKey.{ClauseKey};
 ghost use Rattle.ctl_index.specs.Clauses.{clause_at, is_met, is_unmet};
-ghost use Rattle.ctl_index.specs.Names.{known_names, names_of};
+ghost use Rattle.ctl_index.specs.Names.{known_names, names_told};
 ghost use Rattle.ctl_index.specs.Offers.{contents, offers_among};
 
 /// The number of a clause is 0 exactly where no offer meets any of its atoms.
@@ -25,5 +25,5 @@ pub fn unmet_clauses_have_no_offer()
 pub fn known_names_rise()
     ensures order { (stanzas : List Content) → IsStrictlySortedBy (slice_cmp nat_cmp) (known_names stanzas) }
     ensures members { (name : List ℕ) → (stanzas : List Content)
-        → list_any (bytes_eq name) (known_names stanzas) ≡ list_any (λ stanza. list_any (bytes_eq name) (names_of stanza)) stanzas }
+        → list_any (bytes_eq name) (known_names stanzas) ≡ list_any (λ stanza. list_any (bytes_eq name) (names_told stanza)) stanzas }
 {}

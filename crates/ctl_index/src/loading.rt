@@ -5,8 +5,8 @@ ghost use Rattle.ctl_index.specs.Inside.TablesHeld.{HasTested, TestsAtMost};
 ghost use Rattle.ctl_index.specs.Inside.TablesLoaded.{ComeApart, IsLoaded, tests_put_in};
 
 use crate::coming::{put_atoms, put_offers};
+use crate::pending_store::PendingStore;
 use crate::rows::put_rows;
-use crate::sight::Sight;
 use crate::tables::Tables;
 use ctl_store::StanzaKey;
 use std::alloc::AllocError;
@@ -14,17 +14,17 @@ use std::alloc::AllocError;
 /// The stanzas under these keys come. What then stands under a name is told by sums, whatever the order in which it is entered.
 #[tactic(auto, using(crate::proofs::SeenLemmas::tests_come))]
 pub(crate) fn put_list(
-    sight: &Sight<'_>,
+    pending: &PendingStore<'_>,
     keys: &[StanzaKey],
     tables: &mut Tables,
 ) -> Result<(), AllocError>
-    ensures tables { OnOk result (ComeApart sight.now keys.now → IsLoaded sight.now keys.now tables.old tables.new) }
-    ensures steps { OnOk result (HasTested (tests_put_in sight.now keys.now tables.old) tables.old tables.new) }
-    ensures most { TestsAtMost (tests_put_in sight.now keys.now tables.old) tables.old tables.new }
+    ensures tables { OnOk result (ComeApart pending.now keys.now → IsLoaded pending.now keys.now tables.old tables.new) }
+    ensures steps { OnOk result (HasTested (tests_put_in pending.now keys.now tables.old) tables.old tables.new) }
+    ensures most { TestsAtMost (tests_put_in pending.now keys.now tables.old) tables.old tables.new }
     ensures least { tables.old.steps ≤ tables.new.steps }
 {
-    put_offers(sight, keys, tables)?;
-    put_atoms(sight, keys, tables)?;
-    put_rows(sight, keys, &mut tables.names)?;
+    put_offers(pending, keys, tables)?;
+    put_atoms(pending, keys, tables)?;
+    put_rows(pending, keys, &mut tables.names)?;
     Ok(())
 }

@@ -11,7 +11,7 @@ ghost use Rattle.std.specs.Str.{bytes_eq};
 ghost use Rattle.ctl_policy.specs.Kept.{HasPut, HasTaken, OthersStay};
 ghost use Rattle.ctl_index.specs.Clauses.{clause_cmp};
 ghost use Rattle.ctl_index.specs.Inside.TablesByName.{at_name, HoldsNothing, offers_under, namers_under, rows_under, AreUsed, is_used, named_namers, named_offers, named_rows};
-ghost use Rattle.ctl_index.specs.Inside.TablesSight.{atom_met, atom_tested};
+ghost use Rattle.ctl_index.specs.Inside.TablesPending.{atom_met, atom_tested};
 ghost use Rattle.ctl_index.specs.Inside.NameMap.{entry_names, found_in};
 ghost use Rattle.ctl_index.specs.Inside.TablesCounters.{less_by};
 ghost use Rattle.ctl_index.specs.Inside.TablesViews.{AreFrom};
@@ -22,14 +22,14 @@ ghost use Rattle.ctl_index.specs.Work.{more_by};
 ghost use Rattle.ctl_index.specs.declared.keys.ClauseKey.{ClauseKey};
 
 use crate::counters::Counters;
-use crate::counting::{count_tested, meet, part};
+use crate::counting::{count_tested, lower_clauses, raise_clauses};
 use crate::key_list::KeyList;
-use crate::keys::{AtomKey, KeyedOffer, Namer, OfferKey};
+use crate::keys::{AtomKey, KeyedOffer, NamingAtom, OfferKey};
 use crate::name_entries::NameEntries;
 use crate::name_map::NameMap;
 use crate::named::{Named, is_used};
 use crate::offer_list::OfferList;
-use crate::sight::{Going, Sight};
+use crate::pending_store::{Going, PendingStore};
 use ctl_policy::Rows;
 use ctl_relation::{Atom, FieldKind, Offer, Steps, Version};
 use ctl_store::StanzaKey;
@@ -88,7 +88,7 @@ impl NameTable {
     }
 
     /// The atoms that name a name.
-    pub(crate) fn namers(&self, name: &[u8]) -> &[Namer]
+    pub(crate) fn namers(&self, name: &[u8]) -> &[NamingAtom]
         ensures { result.now ≡ namers_under self.now.map name.now }
     {
         match self.map.get(name) {
@@ -153,7 +153,7 @@ impl NameTable {
     /// An offer comes: it is listed, and tested against the clauses that name it.
     pub(crate) fn put_offer(
         &mut self,
-        sight: &Sight<'_>,
+        pending: &PendingStore<'_>,
         coming: KeyedOffer<'_>,
         counters: &mut Counters,
         steps: &mut Steps,
@@ -163,19 +163,19 @@ impl NameTable {
         ensures namers { OnOk result ((q : List ℕ) → namers_under self.new.map q ≡ namers_under self.old.map q) }
         ensures rows { OnOk result ((q : List ℕ) → rows_under self.new.map q ≡ rows_under self.old.map q) }
         ensures counts { OnOk result ((k : ClauseKey) → get clause_cmp counters.new.numbers k
-            ≡ option_map (counted_up (offer_hits sight.now (namers_under self.old.map) coming.entry.offer.now k))
+            ≡ option_map (counted_up (offer_hits pending.now (namers_under self.old.map) coming.entry.offer.now k))
             (get clause_cmp counters.old.numbers k)) }
         ensures steps { OnOk result (steps.new
-            ≡ more_by (offer_tested sight.now (namers_under self.old.map) coming.entry.offer.now) steps.old) }
-        ensures most { steps.new ≤ more_by (offer_tested sight.now (namers_under self.old.map) coming.entry.offer.now) steps.old }
+            ≡ more_by (offer_tested pending.now (namers_under self.old.map) coming.entry.offer.now) steps.old) }
+        ensures most { steps.new ≤ more_by (offer_tested pending.now (namers_under self.old.map) coming.entry.offer.now) steps.old }
         ensures least { steps.old ≤ steps.new }
     {
         let _count = steps.count();
         match self.map.get_mut(coming.offer.name()) {
             Some(named) => {
                 named.offers.put(coming.key)?;
-                meet(
-                    sight,
+                raise_clauses(
+                    pending,
                     coming.offer,
                     named.namers.as_slice(),
                     counters,
@@ -198,32 +198,32 @@ impl NameTable {
     /// many meet it.
     pub(crate) fn put_atom(
         &mut self,
-        sight: &Sight<'_>,
+        pending: &PendingStore<'_>,
         key: AtomKey,
         atom: &Atom<'_>,
         steps: &mut Steps,
     ) -> Result<usize, AllocError>
-        ensures namers { OnOk result ((q : List ℕ) (f : Namer → ℕ) → sum_by f (namers_under self.new.map q)
+        ensures namers { OnOk result ((q : List ℕ) (f : NamingAtom → ℕ) → sum_by f (namers_under self.new.map q)
             ≡ sum_by f (namers_under self.old.map q) + (if bytes_eq atom.now.name q then f (namer_of key atom.now) else 0)) }
         ensures offers { OnOk result ((q : List ℕ) → offers_under self.new.map q ≡ offers_under self.old.map q) }
         ensures rows { OnOk result ((q : List ℕ) → rows_under self.new.map q ≡ rows_under self.old.map q) }
-        ensures met { IfOk result (λ met. met ≡ atom_met sight.now key.field atom.now (offers_under self.old.map atom.now.name)) }
+        ensures met { IfOk result (λ met. met ≡ atom_met pending.now key.field atom.now (offers_under self.old.map atom.now.name)) }
         ensures few { IfOk result (λ met. met < 2 ^ 64) }
         ensures steps { OnOk result (steps.new
-            ≡ more_by (atom_tested sight.now key.field (offers_under self.old.map atom.now.name)) steps.old) }
-        ensures most { steps.new ≤ more_by (atom_tested sight.now key.field (offers_under self.old.map atom.now.name)) steps.old }
+            ≡ more_by (atom_tested pending.now key.field (offers_under self.old.map atom.now.name)) steps.old) }
+        ensures most { steps.new ≤ more_by (atom_tested pending.now key.field (offers_under self.old.map atom.now.name)) steps.old }
         ensures least { steps.old ≤ steps.new }
     {
         let _count = steps.count();
         match self.map.get_mut(atom.name()) {
             Some(named) => {
-                named.namers.put(Namer::new(key, atom))?;
-                Ok(count_tested(sight, key.field, atom, named.offers.as_slice(), steps))
+                named.namers.put(NamingAtom::new(key, atom))?;
+                Ok(count_tested(pending, key.field, atom, named.offers.as_slice(), steps))
             }
             None => {
                 let named = Named {
                     offers: OfferList::new(self.alloc),
-                    namers: KeyList::of_one(self.alloc, Namer::new(key, atom))?,
+                    namers: KeyList::of_one(self.alloc, NamingAtom::new(key, atom))?,
                     rows: Rows::new(self.alloc),
                 };
                 self.insert(atom.name(), named)?;
@@ -245,13 +245,13 @@ impl NameTable {
             ≡ without_if namer_stanza going.now.span (bytes_eq atom.now.name q) (namers_under self.old.map q) }
         ensures offers { (q : List ℕ) → offers_under self.new.map q ≡ offers_under self.old.map q }
         ensures rows { (q : List ℕ) → rows_under self.new.map q ≡ rows_under self.old.map q }
-        ensures steps { steps.new ≡ more_by (atom_tested going.now.sight field (offers_under self.old.map atom.now.name)) steps.old }
+        ensures steps { steps.new ≡ more_by (atom_tested going.now.pending field (offers_under self.old.map atom.now.name)) steps.old }
     {
         let _count = steps.count();
         let Some(named) = self.map.get_mut(atom.name()) else {
             return;
         };
-        let _ = count_tested(&going.sight, field, atom, named.offers.as_slice(), steps);
+        let _ = count_tested(&going.pending, field, atom, named.offers.as_slice(), steps);
         named.namers.take(going.span);
         if !is_used(named) {
             self.map.remove(atom.name());
@@ -271,18 +271,18 @@ impl NameTable {
         ensures namers { OnOk result ((q : List ℕ) → namers_under self.new.map q ≡ namers_under self.old.map q) }
         ensures rows { OnOk result ((q : List ℕ) → rows_under self.new.map q ≡ rows_under self.old.map q) }
         ensures counts { OnOk result ((k : ClauseKey) → get clause_cmp counters.new.numbers k
-            ≡ less_by (offer_hits going.now.sight (namers_under self.old.map) offer.now k) (get clause_cmp counters.old.numbers k)) }
+            ≡ less_by (offer_hits going.now.pending (namers_under self.old.map) offer.now k) (get clause_cmp counters.old.numbers k)) }
         ensures steps { OnOk result (steps.new
-            ≡ more_by (offer_tested going.now.sight (namers_under self.old.map) offer.now) steps.old) }
-        ensures most { steps.new ≤ more_by (offer_tested going.now.sight (namers_under self.old.map) offer.now) steps.old }
+            ≡ more_by (offer_tested going.now.pending (namers_under self.old.map) offer.now) steps.old) }
+        ensures most { steps.new ≤ more_by (offer_tested going.now.pending (namers_under self.old.map) offer.now) steps.old }
         ensures least { steps.old ≤ steps.new }
     {
         let _count = steps.count();
         let Some(named) = self.map.get_mut(offer.name()) else {
             return Ok(());
         };
-        part(
-            &going.sight,
+        lower_clauses(
+            &going.pending,
             offer,
             named.namers.as_slice(),
             counters,

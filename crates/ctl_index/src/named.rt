@@ -6,7 +6,7 @@ ghost use Rattle.ctl_index.specs.Inside.TablesByName.{is_used};
 ghost use Rattle.ctl_index.specs.Inside.TablesViews.{has_own};
 
 use crate::key_list::KeyList;
-use crate::keys::Namer;
+use crate::keys::NamingAtom;
 use crate::offer_list::OfferList;
 use ctl_policy::Rows;
 
@@ -14,7 +14,7 @@ use ctl_policy::Rows;
 #[derive(Drop)]
 pub(crate) struct Named {
     pub(crate) offers: OfferList,
-    pub(crate) namers: KeyList<Namer>,
+    pub(crate) namers: KeyList<NamingAtom>,
     pub(crate) rows: Rows,
 }
 

@@ -4,13 +4,13 @@ ghost use Rattle.std.specs.Prelude.{◌≡◌, ℕ, List, [], ◌∷◌, OnOk};
 ghost use Rattle.ctl_store.specs.Store.{Held, keyed_of};
 ghost use Rattle.ctl_store.specs.Keys.{AreRising, all_keys};
 ghost use Rattle.ctl_policy.specs.Rows.{AreRowsOf};
-ghost use Rattle.ctl_index.specs.Held.{standing};
+ghost use Rattle.ctl_index.specs.HeldCache.{standing};
 ghost use Rattle.ctl_index.specs.Inside.TablesByName.{NameMap, offers_under, namers_under, rows_under};
 ghost use Rattle.ctl_index.specs.Inside.TablesRows.{AreKept, AreRowsPut, AreRowsTaken};
-ghost use Rattle.ctl_index.specs.Inside.TablesSight.{entries_seen};
+ghost use Rattle.ctl_index.specs.Inside.TablesPending.{entries_seen};
 
 use crate::name_table::NameTable;
-use crate::sight::{Sight, stanza_at};
+use crate::pending_store::{PendingStore, stanza_at};
 use ctl_policy::{rows_are_kept, rows_follow_stanzas};
 use ctl_stanza::Stanza;
 use ctl_store::StanzaKey;
@@ -30,12 +30,16 @@ fn put_row_of(key: StanzaKey, stanza: &Stanza, names: &mut NameTable) -> Result<
 }
 
 // The row of the stanza under a key, if there is one.
-fn put_row_at(sight: &Sight<'_>, key: StanzaKey, names: &mut NameTable) -> Result<(), AllocError>
-    ensures rows { OnOk result (AreRowsPut (entries_seen sight.now (key ∷ [])) (rows_under names.old.map) (rows_under names.new.map)) }
+fn put_row_at(
+    pending: &PendingStore<'_>,
+    key: StanzaKey,
+    names: &mut NameTable,
+) -> Result<(), AllocError>
+    ensures rows { OnOk result (AreRowsPut (entries_seen pending.now (key ∷ [])) (rows_under names.old.map) (rows_under names.new.map)) }
     ensures offers { OnOk result (offers_under names.new.map ≡ offers_under names.old.map) }
     ensures namers { OnOk result (namers_under names.new.map ≡ namers_under names.old.map) }
 {
-    match stanza_at(sight, key) {
+    match stanza_at(pending, key) {
         Some(stanza) => put_row_of(key, stanza, names),
         None => Ok(()),
     }
@@ -43,16 +47,16 @@ fn put_row_at(sight: &Sight<'_>, key: StanzaKey, names: &mut NameTable) -> Resul
 
 /// The keys of the live stanzas among these come into their rows.
 pub(crate) fn put_rows(
-    sight: &Sight<'_>,
+    pending: &PendingStore<'_>,
     keys: &[StanzaKey],
     names: &mut NameTable,
 ) -> Result<(), AllocError>
-    ensures rows { OnOk result (AreRowsPut (entries_seen sight.now keys.now) (rows_under names.old.map) (rows_under names.new.map)) }
+    ensures rows { OnOk result (AreRowsPut (entries_seen pending.now keys.now) (rows_under names.old.map) (rows_under names.new.map)) }
     ensures offers { OnOk result (offers_under names.new.map ≡ offers_under names.old.map) }
     ensures namers { OnOk result (namers_under names.new.map ≡ namers_under names.old.map) }
 {
     for key in keys {
-        put_row_at(sight, *key, names)?;
+        put_row_at(pending, *key, names)?;
     }
     Ok(())
 }
@@ -71,25 +75,25 @@ fn take_row_of(key: StanzaKey, stanza: &Stanza, names: &mut NameTable)
 }
 
 // The row of the stanza under a key, if there is one.
-fn take_row_at(sight: &Sight<'_>, key: StanzaKey, names: &mut NameTable)
-    ensures rows { AreRowsTaken (entries_seen sight.now (key ∷ [])) (rows_under names.old.map) (rows_under names.new.map) }
+fn take_row_at(pending: &PendingStore<'_>, key: StanzaKey, names: &mut NameTable)
+    ensures rows { AreRowsTaken (entries_seen pending.now (key ∷ [])) (rows_under names.old.map) (rows_under names.new.map) }
     ensures offers { offers_under names.new.map ≡ offers_under names.old.map }
     ensures namers { namers_under names.new.map ≡ namers_under names.old.map }
 {
-    match stanza_at(sight, key) {
+    match stanza_at(pending, key) {
         Some(stanza) => take_row_of(key, stanza, names),
         None => {}
     }
 }
 
 /// The keys of the live stanzas among these go from their rows. It takes no memory.
-pub(crate) fn take_rows(sight: &Sight<'_>, keys: &[StanzaKey], names: &mut NameTable)
-    ensures rows { AreRowsTaken (entries_seen sight.now keys.now) (rows_under names.old.map) (rows_under names.new.map) }
+pub(crate) fn take_rows(pending: &PendingStore<'_>, keys: &[StanzaKey], names: &mut NameTable)
+    ensures rows { AreRowsTaken (entries_seen pending.now keys.now) (rows_under names.old.map) (rows_under names.new.map) }
     ensures offers { offers_under names.new.map ≡ offers_under names.old.map }
     ensures namers { namers_under names.new.map ≡ namers_under names.old.map }
 {
     for key in keys {
-        take_row_at(sight, *key, names);
+        take_row_at(pending, *key, names);
     }
 }
 

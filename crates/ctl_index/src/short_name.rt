@@ -5,7 +5,7 @@ ghost use Rattle.std.specs.Cmp.{partial_equiv_from_equiv};
 ghost use Rattle.std.specs.Cmp.Lexicographic.{slice_cmp, nat_list_eq_equiv, nat_list_cmp_total, texts_po, texts_ties};
 ghost use Rattle.std.specs.Ordering.{nat_cmp};
 ghost use Rattle.std.specs.Str.{bytes_eq};
-ghost use Rattle.ctl_index.specs.Inside.ShortName.{IsHeldIn, number_at};
+ghost use Rattle.ctl_index.specs.Inside.ShortName.{IsHeldIn, word_at};
 
 use std::cmp::Ordering;
 use std::marker::Model;
@@ -38,9 +38,9 @@ impl Model for ShortName {
 }
 
 // The number that eight bytes from a place on spell, the first counting most.
-fn number_at(places: &[u8; PLACES], at: usize) -> u64
+fn word_at(places: &[u8; PLACES], at: usize) -> u64
     requires { at + 8 ≤ 32 }
-    ensures number { result ≡ number_at at places.now }
+    ensures number { result ≡ word_at at places.now }
     ensures bytes { (k : ℕ) → slice_index places.now k < 256 }
 {
     u64::from_be_bytes([
@@ -114,18 +114,18 @@ impl Ord for ShortName {
     ghost matches_eq = { texts_ties };
 
     fn cmp(&self, other: &ShortName) -> Ordering {
-        let (a, b) = (number_at(&self.places, 0), number_at(&other.places, 0));
+        let (a, b) = (word_at(&self.places, 0), word_at(&other.places, 0));
         if a != b {
             return a.cmp(&b);
         }
-        let (a, b) = (number_at(&self.places, 8), number_at(&other.places, 8));
+        let (a, b) = (word_at(&self.places, 8), word_at(&other.places, 8));
         if a != b {
             return a.cmp(&b);
         }
-        let (a, b) = (number_at(&self.places, 16), number_at(&other.places, 16));
+        let (a, b) = (word_at(&self.places, 16), word_at(&other.places, 16));
         if a != b {
             return a.cmp(&b);
         }
-        number_at(&self.places, 24).cmp(&number_at(&other.places, 24))
+        word_at(&self.places, 24).cmp(&word_at(&other.places, 24))
     }
 }

@@ -4,12 +4,12 @@ use Rattle.std.specs.Str.{bytes_eq}
 use Rattle.std.specs.Cmp.Lexicographic.{nat_list_eq_equiv}
 use Rattle.ctl_store.specs.declared.stanza_key.StanzaKey.{StanzaKey}
 use Rattle.ctl_store.specs.Named.{at_name}
-use Rattle.ctl_store.specs.Keys.{KeyedList, in_rows, holder_of}
+use Rattle.ctl_store.specs.Keys.{KeyedList, in_slots, holder_of}
 use Rattle.ctl_policy.specs.Rows.{Lists, is_called, is_source}
 
 not_called : (list : List ℕ) (k : StanzaKey) (ls : Lists) → at_name list ls ≡ None → is_called list (holder_of k ls) ≡ false
 not_called list k [] e = refl
-not_called list k (l ∷ ls) e = by (bytes_eq list l.0) refl (is_some (in_rows k l.1)) e (not_called list k ls)
+not_called list k (l ∷ ls) e = by (bytes_eq list l.0) refl (is_some (in_slots k l.1)) e (not_called list k ls)
   where
     by : (b : Bool) → bytes_eq list l.0 ≡ b → (h : Bool) → cond b (Some l.1) (at_name list ls) ≡ None → (at_name list ls ≡ None → is_called list (holder_of k ls) ≡ false)
         → is_called list (cond h (Some l.0) (holder_of k ls)) ≡ false

@@ -61,7 +61,7 @@ keys-append (s ∷ ss) ts = ap (λ l. s.0 ∷ l) (keys-append ss ts)
 
 pub keys_are : (lists : Lists) → entry_keys (entries_of lists) ≡ all_keys lists
 keys_are [] = refl
-keys_are (l ∷ ls) = keys-append (entries_in l.1) (entries_of ls) ∙ (λ i. placed_rows l.1.serial l.1.rows i ++ keys_are ls i)
+keys_are (l ∷ ls) = keys-append (entries_in l.1) (entries_of ls) ∙ (λ i. placed_rows l.1.serial l.1.slots i ++ keys_are ls i)
 
 pub with_below : (p : Content → Bool) (k : StanzaKey) (ss : List Entry) → IsBelow k (entry_keys ss) → IsBelow k (keys_with p ss)
 with_below p k [] h = tt
@@ -100,7 +100,7 @@ find_in-rows k serial (r ∷ rows) false e = λ i. cond (e i && nat_eq r.0 k.sta
 
 pub find_placed : (k : StanzaKey) (lists : Lists) → find_in k (entries_of lists) ≡ stanza_at k lists
 find_placed k [] = refl
-find_placed k (l ∷ ls) = find_in-append k (entries_in l.1) (entries_of ls) ∙ (λ i. option_or (find_in-rows k l.1.serial l.1.rows (nat_eq l.1.serial k.list) refl i) (find_placed k ls i))
+find_placed k (l ∷ ls) = find_in-append k (entries_in l.1) (entries_of ls) ∙ (λ i. option_or (find_in-rows k l.1.serial l.1.slots (nat_eq l.1.serial k.list) refl i) (find_placed k ls i))
 
 pub has_key-placed : (p : Content → Bool) (k : StanzaKey) (ss : List Entry) → AreRising (entry_keys ss) → has_key k (keys_with p ss) ≡ option_map_or p (find_in k ss) false
 has_key-placed p k [] h = refl

@@ -7,7 +7,7 @@ use Rattle.ctl_relation.specs.Version.{version_cmp}
 use Rattle.ctl_relation.specs.Orders.Versions.{version_total}
 use Rattle.ctl_store.specs.declared.stanza_key.StanzaKey.{StanzaKey}
 use Rattle.ctl_store.specs.Keys.{key_is, AreRising}
-use Rattle.ctl_policy.specs.Inside.HeldRows.{Shelf, row_at, AreRows, one_at, form_without}
+use Rattle.ctl_policy.specs.Inside.HeldRows.{RowMap, row_in_map, AreRows, one_at, form_without}
 use Rattle.ctl_policy.specs.Keys.{without_key, or_none, some_keys}
 use Rattle.ctl_policy.proofs.RowLemmas.{eq_is}
 
@@ -19,7 +19,7 @@ pub on_false : (b : Bool) {P : Type 0} → (b ≡ false → P) → OnFalse b P
 on_false true f = tt
 on_false false f = f refl
 
-pub one_rises : (rows : Shelf) (there : List ℕ) (other : StanzaKey) → ((v : List ℕ) → row_at rows v ≡ one_at there other v) → AreRows rows
+pub one_rises : (rows : RowMap) (there : List ℕ) (other : StanzaKey) → ((v : List ℕ) → row_in_map rows v ≡ one_at there other v) → AreRows rows
 one_rises rows there other h v = subst (λ o. AreRising (or_none o)) (sym (h v)) (by (is_eq (version_cmp there v)))
   where
     by : (b : Bool) → AreRising (or_none (cond b (Some (other ∷ [])) None))

@@ -13,7 +13,7 @@ use Rattle.ctl_policy.specs.Keys.{has_key, or_none}
 use Rattle.ctl_policy.specs.Rows.{Lists, rows_named}
 use Rattle.ctl_policy.specs.declared.form.Form.{Form}
 use Rattle.ctl_policy.specs.declared.form.Form.TheVariants.{Empty, One, Many}
-use Rattle.ctl_policy.specs.Inside.HeldRows.{row_at, IsOrderedForm, IsFormOf}
+use Rattle.ctl_policy.specs.Inside.HeldRows.{row_in_map, IsOrderedForm, IsFormOf}
 use Rattle.ctl_policy.specs.Inside.HeldWalk.{IsHeldForm}
 use Rattle.ctl_policy.proofs.RowLemmas.{eq_is}
 use Rattle.ctl_policy.proofs.SetLemmas.{key_is-itself}
@@ -68,4 +68,4 @@ held_form (One version key) name lists ordered h =
     (key_held name version lists key (ap (λ o. has_key key (or_none o)) (sym (h version) ∙ ap (λ o. cond (is_eq o) (Some (key ∷ [])) None) (tied_itself version_total version)) ∙ or_left (key_is key key) false (key_is-itself key)), tt)
 held_form (Many m) name lists ordered h =
     each_row (λ ks. AreHeld ks lists) m.entries (rising_is (keys_of m.entries) ordered)
-    (λ v. each_key (λ k. IsSome (stanza_at k lists)) (or_none (row_at m v)) (λ k e. key_held name v lists k (ap (λ o. has_key k (or_none o)) (sym (h v)) ∙ e)))
+    (λ v. each_key (λ k. IsSome (stanza_at k lists)) (or_none (row_in_map m v)) (λ k e. key_held name v lists k (ap (λ o. has_key k (or_none o)) (sym (h v)) ∙ e)))

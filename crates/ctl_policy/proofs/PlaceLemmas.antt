@@ -148,12 +148,12 @@ module _ (old coming new : BTreeMap (Vec ℕ Global) Chosen) where
   added : IsDistinct (eq_by_cmp key_cmp) (keys coming) → InsertsAll key_cmp old coming.entries new → (q : List ℕ) → at_bytes new q ≡ option_or (at_bytes coming q) (at_bytes old q)
   added distinct h = by_keys IsFirst new.entries coming.entries old.entries refl (λ k. h.0 k ∙ update_all_distinct key_laws (eq_by_cmp key_cmp) (λ x y. refl) _ coming.entries k distinct)
 
-  abbrev IsKept : Option Chosen → Option Chosen → Option Chosen → Type 0
-  IsKept after added before = added ≡ None → after ≡ before
+  abbrev KeepsPlace : Option Chosen → Option Chosen → Option Chosen → Type 0
+  KeepsPlace after added before = added ≡ None → after ≡ before
 
   -- where the coming map has nothing, a part of it changes nothing
   kept : (rest : BTreeMap (Vec ℕ Global) Chosen) → MovesPrefix key_cmp old coming new rest → (q : List ℕ) → at_bytes coming q ≡ None → at_bytes new q ≡ at_bytes old q
-  kept rest h q none = by_keys IsKept new.entries h.0 old.entries (λ _. refl) (λ k e. h.2.0 k ∙ update_all-absent key_laws _ h.0 k e) q
+  kept rest h q none = by_keys KeepsPlace new.entries h.0 old.entries (λ _. refl) (λ k e. h.2.0 k ∙ update_all-absent key_laws _ h.0 k e) q
       (front-none (has_bytes q) h.0 rest.entries (sym (ap (lookup (has_bytes q)) h.1) ∙ none))
 
 -- ---- what `make_places` leaves

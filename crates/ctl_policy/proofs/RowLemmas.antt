@@ -6,7 +6,7 @@ use Rattle.std.specs.BTreeMap.{get, UpdatesBy}
 use Rattle.ctl_relation.specs.Version.{version_cmp}
 use Rattle.ctl_relation.specs.Orders.Versions.{version_total}
 use Rattle.ctl_store.specs.declared.stanza_key.StanzaKey.{StanzaKey}
-use Rattle.ctl_policy.specs.Inside.HeldRows.{Shelf, row_at}
+use Rattle.ctl_policy.specs.Inside.HeldRows.{RowMap, row_in_map}
 use Rattle.ctl_policy.specs.Keys.{or_none, some_keys}
 
 pub if_cases : {A B : Type 0} (f : A → B) (b : Bool) (x y : A) → f (cond b x y) ≡ cond b (f x) (f y)
@@ -22,19 +22,19 @@ abbrev pub items_of : Vec StanzaKey Global → List StanzaKey
 items_of v = v.items
 
 -- a change at a version: w is there then, and other versions have what they had
-pub updates_row : (v : List ℕ) (m n : Shelf) (w : Option (Vec StanzaKey Global)) → UpdatesBy version_cmp (version_cmp v) m n w → (q : List ℕ) → row_at n q ≡ cond (is_eq (version_cmp v q)) (option_map items_of w) (row_at m q)
+pub updates_row : (v : List ℕ) (m n : RowMap) (w : Option (Vec StanzaKey Global)) → UpdatesBy version_cmp (version_cmp v) m n w → (q : List ℕ) → row_in_map n q ≡ cond (is_eq (version_cmp v q)) (option_map items_of w) (row_in_map m q)
 updates_row v m n w h q = ap (option_map items_of) (h.0 q) ∙ if_cases (option_map items_of) (is_eq (version_cmp v q)) w (get version_cmp m q)
 
 -- equal versions have one row
-pub row_at-equal : (v q : List ℕ) (m : Shelf) → version_cmp v q ≡ Equal → row_at m v ≡ row_at m q
-row_at-equal v q m e = ap (option_map items_of) (λ i. lookup (λ k. is_eq (version_total.congr v q k e i)) m.entries)
+pub row_in_map-equal : (v q : List ℕ) (m : RowMap) → version_cmp v q ≡ Equal → row_in_map m v ≡ row_in_map m q
+row_in_map-equal v q m e = ap (option_map items_of) (λ i. lookup (λ k. is_eq (version_total.congr v q k e i)) m.entries)
 
 -- a write of what is there
-pub row_at-same : (v q : List ℕ) (m : Shelf) → cond (is_eq (version_cmp v q)) (row_at m v) (row_at m q) ≡ row_at m q
-row_at-same v q m = by (is_eq (version_cmp v q)) refl
+pub row_in_map-same : (v q : List ℕ) (m : RowMap) → cond (is_eq (version_cmp v q)) (row_in_map m v) (row_in_map m q) ≡ row_in_map m q
+row_in_map-same v q m = by (is_eq (version_cmp v q)) refl
   where
-    by : (b : Bool) → is_eq (version_cmp v q) ≡ b → cond b (row_at m v) (row_at m q) ≡ row_at m q
-    by true e = row_at-equal v q m (eq_is _ e)
+    by : (b : Bool) → is_eq (version_cmp v q) ≡ b → cond b (row_in_map m v) (row_in_map m q) ≡ row_in_map m q
+    by true e = row_in_map-equal v q m (eq_is _ e)
     by false e = refl
 
 pub on_err : {X E : Type 0} (r : Result X E) {P : Type 0} → P → OnErr r P
@@ -56,11 +56,11 @@ row_stays f None z h = ap some_keys (sym z)
 row_stays f (Some ks) z h = sym (some_of (f ks) h)
 
 -- a change of a row that isn't there
-pub row_absent : (f : List StanzaKey → List StanzaKey) (v q : List ℕ) (m : Shelf) → None ≡ row_at m v → row_at m q ≡ cond (is_eq (version_cmp v q)) (option_map f (row_at m v)) (row_at m q)
+pub row_absent : (f : List StanzaKey → List StanzaKey) (v q : List ℕ) (m : RowMap) → None ≡ row_in_map m v → row_in_map m q ≡ cond (is_eq (version_cmp v q)) (option_map f (row_in_map m v)) (row_in_map m q)
 row_absent f v q m h = by (is_eq (version_cmp v q)) refl
   where
-    by : (b : Bool) → is_eq (version_cmp v q) ≡ b → row_at m q ≡ cond b (option_map f (row_at m v)) (row_at m q)
-    by true e = sym (row_at-equal v q m (eq_is _ e)) ∙ sym h ∙ ap (option_map f) h
+    by : (b : Bool) → is_eq (version_cmp v q) ≡ b → row_in_map m q ≡ cond b (option_map f (row_in_map m v)) (row_in_map m q)
+    by true e = sym (row_in_map-equal v q m (eq_is _ e)) ∙ sym h ∙ ap (option_map f) h
     by false e = refl
 
 pub cond_both : {X : Type 0} (b : Bool) (x y z : X) → cond b x (cond b y z) ≡ cond b x z

@@ -19,7 +19,7 @@ use Rattle.ctl_policy.specs.Inside.HeldIter.{one_left, items_left}
 use Rattle.ctl_policy.specs.Kept.{HasPut, HasTaken, HasSame}
 use Rattle.ctl_policy.specs.declared.form.Form.{Form}
 use Rattle.ctl_policy.specs.declared.form.Form.TheVariants.{Empty, One, Many}
-use Rattle.ctl_policy.specs.Inside.HeldRows.{Shelf, shown_row, with_items, form_at, form_with, form_without, rows_of_form, IsOrderedForm, IsFormed}
+use Rattle.ctl_policy.specs.Inside.HeldRows.{RowMap, shown_row, with_items, form_at, form_with, form_without, rows_of_form, IsOrderedForm, IsFormed}
 use Rattle.ctl_policy.proofs.RowLemmas.{if_cases}
 use Rattle.ctl_policy.proofs.SetLemmas.{rises-with, rises-without}
 use Rattle.ctl_policy.proofs.AlikeLemmas.{IsUnder, IsRising, rising_is, read_alike}
@@ -159,11 +159,11 @@ none_of : (es : List (List ℕ × Vec StanzaKey Global)) → length es ≡ 0 →
 none_of [] h = refl
 none_of (e ∷ es) h = absurd (omega (arith, h))
 
-pub bare_many : (m : Shelf) (b : Bool) → IsOrderedForm (Many m) → (b ≡ true) ↔ (length m.entries ≡ 0) → OnTrue b (newest_first (rows_of_form (Many m)) ≡ [])
+pub bare_many : (m : RowMap) (b : Bool) → IsOrderedForm (Many m) → (b ≡ true) ↔ (length m.entries ≡ 0) → OnTrue b (newest_first (rows_of_form (Many m)) ≡ [])
 bare_many m true o h = sym (rows_shown (Many m) o) ∙ none_of m.entries (h.0 refl)
 bare_many m false o h = tt
 
-pub filled_many : (m : Shelf) (b : Bool) → IsOrderedForm (Many m) → (b ≡ true) ↔ (length m.entries ≡ 0) → OnFalse b (newest_first (rows_of_form (Many m)) ≡ [] → ⊥)
+pub filled_many : (m : RowMap) (b : Bool) → IsOrderedForm (Many m) → (b ≡ true) ↔ (length m.entries ≡ 0) → OnFalse b (newest_first (rows_of_form (Many m)) ≡ [] → ⊥)
 filled_many m true o h = tt
 filled_many m false o h = λ e. many_there m.entries (λ z. false≢true (h.1 z)) (rows_shown (Many m) o ∙ e)
 
@@ -186,7 +186,7 @@ empty_left = ap (map keys_of_row) (rows_shown Empty tt)
 pub one_is_left : (version : List ℕ) (key : StanzaKey) → one_left (Some key) ≡ map keys_of_row (newest_first (rows_of_form (One version key)))
 one_is_left version key = ap (map keys_of_row) (rows_shown (One version key) tt)
 
-pub many_left : (m : Shelf) → IsOrderedForm (Many m) → items_left m.entries ≡ map keys_of_row (newest_first (rows_of_form (Many m)))
+pub many_left : (m : RowMap) → IsOrderedForm (Many m) → items_left m.entries ≡ map keys_of_row (newest_first (rows_of_form (Many m)))
 many_left m o = items_shown m.entries ∙ ap (map keys_of_row) (rows_shown (Many m) o)
 
 pub last_first : (es : List (List ℕ × Vec StanzaKey Global)) (e : List ℕ × Vec StanzaKey Global) → items_left (es ++ e ∷ []) ≡ e.1.items ∷ items_left es

@@ -14,14 +14,14 @@ use Rattle.ctl_store.specs.declared.stanza_key.StanzaKey.{StanzaKey}
 use Rattle.ctl_stanza.specs.declared.list_kind.ListKind.{ListKind}
 use Rattle.ctl_store.specs.Kinds.{AreOfKind, KeepKinds}
 use Rattle.ctl_store.specs.Step.{has_status, is_status}
-use Rattle.ctl_store.specs.Keys.{key_cmp, key_is, stanza_at, stanza_lists, stanzas_of, all_keys, in_rows as rows_at, AreRising}
+use Rattle.ctl_store.specs.Keys.{key_cmp, key_is, stanza_at, stanza_lists, stanzas_of, all_keys, in_slots, AreRising}
 use Rattle.ctl_store.specs.Entries.{entries_of, entry_keys}
 use Rattle.ctl_policy.specs.Keys.{has_key, or_none}
 use Rattle.ctl_policy.specs.Rows.{Lists, version_in, is_of_version, is_in_row, keys_with, keys_at, rows_named, lead_of, version_under}
 use Rattle.ctl_policy.specs.Candidate.{is_status_of, status_version}
 use Rattle.ctl_policy.specs.declared.form.Form.{Form}
 use Rattle.ctl_policy.specs.declared.form.Form.TheVariants.{Empty, One, Many}
-use Rattle.ctl_policy.specs.Inside.HeldRows.{Shelf, IsOrderedForm, IsFormOf}
+use Rattle.ctl_policy.specs.Inside.HeldRows.{RowMap, IsOrderedForm, IsFormOf}
 use Rattle.ctl_policy.specs.Inside.HeldWalk.{is_status_key, first_status, lower, lowest_status, status_key}
 use Rattle.ctl_policy.proofs.KeyLemmas.{key_total}
 use Rattle.ctl_policy.proofs.SetLemmas.{same_key, key_is-same, key_is-itself, below_absent, below_further}
@@ -150,17 +150,17 @@ abbrev Entries : Type 0
 Entries = List (List ℕ × Vec StanzaKey Global)
 
 -- whether a key stands in one of the rows
-abbrev in_rows : StanzaKey → Entries → Bool
-in_rows k [] = false
-in_rows k (e ∷ es) = has_key k e.1.items || in_rows k es
+abbrev in_slots : StanzaKey → Entries → Bool
+in_slots k [] = false
+in_slots k (e ∷ es) = has_key k e.1.items || in_slots k es
 
 abbrev status_in : Lists → Entries → StanzaKey → Bool
 status_in lists [] k = false
 status_in lists (e ∷ es) k = (has_key k e.1.items && is_status_key lists k) || status_in lists es k
 
-status_both : (lists : Lists) (es : Entries) (k : StanzaKey) → status_in lists es k ≡ (in_rows k es && is_status_key lists k)
+status_both : (lists : Lists) (es : Entries) (k : StanzaKey) → status_in lists es k ≡ (in_slots k es && is_status_key lists k)
 status_both lists [] k = refl
-status_both lists (e ∷ es) k = ap (λ z. (has_key k e.1.items && is_status_key lists k) || z) (status_both lists es k) ∙ by (has_key k e.1.items) (in_rows k es) (is_status_key lists k)
+status_both lists (e ∷ es) k = ap (λ z. (has_key k e.1.items && is_status_key lists k) || z) (status_both lists es k) ∙ by (has_key k e.1.items) (in_slots k es) (is_status_key lists k)
   where
     by : (a b s : Bool) → ((a && s) || (b && s)) ≡ ((a || b) && s)
     by true true true = refl
@@ -179,18 +179,18 @@ lowest_rows lists p found (e ∷ es) r h =
 
 -- ---- a key that is found under a version stands in a row, and the other way round
 
-in_rows-found : (k : StanzaKey) (v : List ℕ) (es : Entries) → has_key k (or_none (option_map (λ (x : Vec StanzaKey Global). x.items) (lookup (is_at (version_cmp v)) es))) ≡ true → in_rows k es ≡ true
-in_rows-found k v [] h = absurd (false≢true h)
-in_rows-found k v (e ∷ es) h = by (is_eq (version_cmp v e.0)) h (in_rows-found k v es)
+in_slots-found : (k : StanzaKey) (v : List ℕ) (es : Entries) → has_key k (or_none (option_map (λ (x : Vec StanzaKey Global). x.items) (lookup (is_at (version_cmp v)) es))) ≡ true → in_slots k es ≡ true
+in_slots-found k v [] h = absurd (false≢true h)
+in_slots-found k v (e ∷ es) h = by (is_eq (version_cmp v e.0)) h (in_slots-found k v es)
   where
     by : (b : Bool) → has_key k (or_none (option_map (λ (x : Vec StanzaKey Global). x.items) (cond b (Some e.1) (lookup (is_at (version_cmp v)) es)))) ≡ true
-        → (has_key k (or_none (option_map (λ (x : Vec StanzaKey Global). x.items) (lookup (is_at (version_cmp v)) es))) ≡ true → in_rows k es ≡ true) → in_rows k (e ∷ es) ≡ true
-    by true h rest = or_left (has_key k e.1.items) (in_rows k es) h
-    by false h rest = or_right (has_key k e.1.items) (in_rows k es) (rest h)
+        → (has_key k (or_none (option_map (λ (x : Vec StanzaKey Global). x.items) (lookup (is_at (version_cmp v)) es))) ≡ true → in_slots k es ≡ true) → in_slots k (e ∷ es) ≡ true
+    by true h rest = or_left (has_key k e.1.items) (in_slots k es) h
+    by false h rest = or_right (has_key k e.1.items) (in_slots k es) (rest h)
 
-in_rows-each : (P : StanzaKey → Type 0) (k : StanzaKey) (es : Entries) → AllByRecursion (λ (e : List ℕ × Vec StanzaKey Global). (j : StanzaKey) → has_key j e.1.items ≡ true → P j) es → in_rows k es ≡ true → P k
-in_rows-each P k [] a h = absurd (false≢true h)
-in_rows-each P k (e ∷ es) a h = or_cases (has_key k e.1.items) (in_rows k es) h (a.0 k) (in_rows-each P k es a.1)
+in_slots-each : (P : StanzaKey → Type 0) (k : StanzaKey) (es : Entries) → AllByRecursion (λ (e : List ℕ × Vec StanzaKey Global). (j : StanzaKey) → has_key j e.1.items ≡ true → P j) es → in_slots k es ≡ true → P k
+in_slots-each P k [] a h = absurd (false≢true h)
+in_slots-each P k (e ∷ es) a h = or_cases (has_key k e.1.items) (in_slots k es) h (a.0 k) (in_slots-each P k es a.1)
 
 -- ---- live stanzas of a name
 
@@ -240,14 +240,14 @@ module _ (q : List ℕ) (lists : Lists) (rising : AreRising (all_keys lists)) wh
       by (Some x) = swap (is_live x) (is_status x.kind)
 
   -- which keys stand in the rows of the name
-  in_map : (m : Shelf) → IsOrderedForm (Many m) → IsFormOf (Many m) (rows_named q lists) → (k : StanzaKey) → in_rows k m.entries ≡ tells is_live k
-  in_map m ordered form k = same_truth (in_rows k m.entries) (tells is_live k)
-      (in_rows-each (λ j. tells is_live j ≡ true) k m.entries
+  in_map : (m : RowMap) → IsOrderedForm (Many m) → IsFormOf (Many m) (rows_named q lists) → (k : StanzaKey) → in_slots k m.entries ≡ tells is_live k
+  in_map m ordered form k = same_truth (in_slots k m.entries) (tells is_live k)
+      (in_slots-each (λ j. tells is_live j ≡ true) k m.entries
       (each_row (λ ks. (j : StanzaKey) → has_key j ks ≡ true → tells is_live j ≡ true) m.entries (rising_is (keys_of m.entries) ordered)
       (λ v j h. live_row v (stanza_at j lists) (sym (named v j) ∙ ap (λ o. has_key j (or_none o)) (sym (form v)) ∙ h))))
-      (λ h. let found = row_live (stanza_at k lists) h in in_rows-found k found.0 m.entries (ap (λ o. has_key k (or_none o)) (form found.0) ∙ named found.0 k ∙ found.1))
+      (λ h. let found = row_live (stanza_at k lists) h in in_slots-found k found.0 m.entries (ap (λ o. has_key k (or_none o)) (form found.0) ∙ named found.0 k ∙ found.1))
 
-  rows_rise : (m : Shelf) → IsOrderedForm (Many m) → IsFormOf (Many m) (rows_named q lists) → AllByRecursion (λ (e : List ℕ × Vec StanzaKey Global). AreRising e.1.items) m.entries
+  rows_rise : (m : RowMap) → IsOrderedForm (Many m) → IsFormOf (Many m) (rows_named q lists) → AllByRecursion (λ (e : List ℕ × Vec StanzaKey Global). AreRising e.1.items) m.entries
   rows_rise m ordered form = each_row AreRising m.entries (rising_is (keys_of m.entries) ordered)
       (λ v. subst (λ o. AreRising (or_none o)) (sym (form v ∙ row_defined q v lists)) (subst AreRising (sym (or_none-some (keys_with (is_in_row q v) (entries_of lists)))) (with_rises (is_in_row q v) (entries_of lists) up)))
 
@@ -297,9 +297,9 @@ none_held : (lists : Lists) → KeepKinds (stanza_lists lists) → has_status (s
 none_held [] h none k = refl
 none_held (l ∷ ls) h none k =
     let both = neither (is_status l.1.kind) (has_status (stanza_lists ls)) none in
-    by (rows_at k l.1) (here (nat_eq l.1.serial k.list) (of_kind l.1.kind (λ s. nat_eq s k.stanza) l.1.rows both.0 h.0)) (none_held ls h.1 both.1 k)
+    by (in_slots k l.1) (here (nat_eq l.1.serial k.list) (of_kind l.1.kind (λ s. nat_eq s k.stanza) l.1.slots both.0 h.0)) (none_held ls h.1 both.1 k)
   where
-    here : (b : Bool) → has_kind (lookup (λ s. nat_eq s k.stanza) l.1.rows) ≡ false → has_kind (cond b (lookup (λ s. nat_eq s k.stanza) l.1.rows) None) ≡ false
+    here : (b : Bool) → has_kind (lookup (λ s. nat_eq s k.stanza) l.1.slots) ≡ false → has_kind (cond b (lookup (λ s. nat_eq s k.stanza) l.1.slots) None) ≡ false
     here true e = e
     here false e = refl
 
@@ -319,7 +319,7 @@ module _ (lists : Lists) (none : (k : StanzaKey) → is_status_key lists k ≡ f
   none_found : (form : Form) → status_key lists form ≡ None
   none_found Empty = refl
   none_found (One version key) = none_first (key ∷ [])
-  none_found (Many shelf) = none_lowest shelf.entries
+  none_found (Many row_map) = none_lowest row_map.entries
 
 pub no_status_key : (lists : Lists) (form : Form) → KeepKinds (stanza_lists lists) → has_status (stanza_lists lists) ≡ false → status_key lists form ≡ None
 no_status_key lists form h none = none_found lists (none_held lists h none) form

@@ -13,7 +13,7 @@ use Rattle.ctl_store.specs.declared.stanza_key.StanzaKey.{StanzaKey}
 use Rattle.ctl_store.specs.Named.{at_name, without_name, change_named}
 use Rattle.ctl_store.specs.Pins.{general_pin}
 use Rattle.ctl_store.specs.State.{StanzaList}
-use Rattle.ctl_store.specs.Keys.{KeyedList, stanza_list, stanza_lists, key_is, keys_of, all_keys, all_in, AreRising, in_rows, stanza_at, holder_of}
+use Rattle.ctl_store.specs.Keys.{KeyedList, stanza_list, stanza_lists, key_is, keys_of, all_keys, all_in, AreRising, in_slots, stanza_at, holder_of}
 use Rattle.ctl_store.specs.Entries.{Entry, entries_of, entries_in, entry_keys}
 use Rattle.ctl_policy.specs.Keys.{has_key}
 use Rattle.ctl_policy.specs.Rows.{Lists}
@@ -42,10 +42,10 @@ apart k (e ∷ es) fs r h g = by (key_is k e.0) refl h (apart k es fs r.1)
     by true is h rest = false≢true (sym (below_absent e.0 (entry_keys (es ++ fs)) r.0) ∙ ap (λ z. has_key z (entry_keys (es ++ fs))) (sym (key_is-same k e.0 is)) ∙ found_behind k es fs g)
     by false is h rest = rest h g
 
-found_in_list : (k : StanzaKey) (l : KeyedList) → find_in k (entries_in l) ≡ in_rows k l
-found_in_list k l = find_in-rows k l.serial l.rows (nat_eq l.serial k.list) refl
+found_in_list : (k : StanzaKey) (l : KeyedList) → find_in k (entries_in l) ≡ in_slots k l
+found_in_list k l = find_in-rows k l.serial l.slots (nat_eq l.serial k.list) refl
 
-twice : (k : StanzaKey) (l : List ℕ × KeyedList) (ls : Lists) → AreRising (all_keys (l ∷ ls)) → is_some (in_rows k l.1) ≡ true → is_some (stanza_at k ls) ≡ true → ⊥
+twice : (k : StanzaKey) (l : List ℕ × KeyedList) (ls : Lists) → AreRising (all_keys (l ∷ ls)) → is_some (in_slots k l.1) ≡ true → is_some (stanza_at k ls) ≡ true → ⊥
 twice k l ls r h g = apart k (entries_in l.1) (entries_of ls) (subst AreRising (sym (keys_are (l ∷ ls))) r) (ap is_some (found_in_list k l.1) ∙ h) (ap is_some (find_placed k ls) ∙ g)
 
 pub behind_rises : (xs ys : List StanzaKey) → AreRising (xs ++ ys) → AreRising ys
@@ -60,7 +60,7 @@ module _ (k : StanzaKey) where
   change_holder f list [] r s h e = refl
   change_holder f list (l ∷ ls) r s h e = by (bytes_eq list l.0) s e (change_holder f list ls (behind_rises (keys_of l.1) (all_keys ls) r))
     where
-      here : (a b : Option Content) → in_rows k l.1 ≡ a → in_rows k (f l.1) ≡ b → AreRising (all_keys ((l.0, f l.1) ∷ ls)) → is_some (option_or a (stanza_at k ls)) ≡ true → option_or b (stanza_at k ls) ≡ option_or a (stanza_at k ls)
+      here : (a b : Option Content) → in_slots k l.1 ≡ a → in_slots k (f l.1) ≡ b → AreRising (all_keys ((l.0, f l.1) ∷ ls)) → is_some (option_or a (stanza_at k ls)) ≡ true → option_or b (stanza_at k ls) ≡ option_or a (stanza_at k ls)
           → cond (is_some b) (Some l.0) (holder_of k ls) ≡ cond (is_some a) (Some l.0) (holder_of k ls)
       here None None p q s h e = refl
       here (Some x) (Some y) p q s h e = refl
@@ -76,14 +76,14 @@ module _ (k : StanzaKey) where
       by : (b : Bool) → AreRising (all_keys (cond {A = Lists} b ((l.0, f l.1) ∷ ls) (l ∷ change_named list f ls))) → stanza_at k (cond {A = Lists} b ((l.0, f l.1) ∷ ls) (l ∷ change_named list f ls)) ≡ stanza_at k (l ∷ ls)
           → (AreRising (all_keys (change_named list f ls)) → is_some (stanza_at k ls) ≡ true → stanza_at k (change_named list f ls) ≡ stanza_at k ls → holder_of k (change_named list f ls) ≡ holder_of k ls)
           → holder_of k (cond {A = Lists} b ((l.0, f l.1) ∷ ls) (l ∷ change_named list f ls)) ≡ holder_of k (l ∷ ls)
-      by true s e rest = here (in_rows k l.1) (in_rows k (f l.1)) refl refl s h e
-      by false s e rest = there (in_rows k l.1) h e (rest (behind_rises (keys_of l.1) (all_keys (change_named list f ls)) s))
+      by true s e rest = here (in_slots k l.1) (in_slots k (f l.1)) refl refl s h e
+      by false s e rest = there (in_slots k l.1) h e (rest (behind_rises (keys_of l.1) (all_keys (change_named list f ls)) s))
 
   pub drop_holder : (list : List ℕ) (ls : Lists) → AreRising (all_keys ls) → is_some (stanza_at k ls) ≡ true → stanza_at k (without_name list ls) ≡ stanza_at k ls → holder_of k (without_name list ls) ≡ holder_of k ls
   drop_holder list [] r h e = refl
   drop_holder list (l ∷ ls) r h e = by (bytes_eq list l.0) e (drop_holder list ls (behind_rises (keys_of l.1) (all_keys ls) r))
     where
-      here : (a : Option Content) → in_rows k l.1 ≡ a → stanza_at k ls ≡ option_or a (stanza_at k ls) → holder_of k ls ≡ cond (is_some a) (Some l.0) (holder_of k ls)
+      here : (a : Option Content) → in_slots k l.1 ≡ a → stanza_at k ls ≡ option_or a (stanza_at k ls) → holder_of k ls ≡ cond (is_some a) (Some l.0) (holder_of k ls)
       here None p e = refl
       here (Some x) p e = absurd (twice k l ls r (ap is_some p) (ap is_some e))
 
@@ -96,12 +96,12 @@ module _ (k : StanzaKey) where
       by : (b : Bool) → stanza_at k (cond {A = Lists} b ls (l ∷ without_name list ls)) ≡ stanza_at k (l ∷ ls)
           → (is_some (stanza_at k ls) ≡ true → stanza_at k (without_name list ls) ≡ stanza_at k ls → holder_of k (without_name list ls) ≡ holder_of k ls)
           → holder_of k (cond {A = Lists} b ls (l ∷ without_name list ls)) ≡ holder_of k (l ∷ ls)
-      by true e rest = here (in_rows k l.1) refl e
-      by false e rest = there (in_rows k l.1) h e rest
+      by true e rest = here (in_slots k l.1) refl e
+      by false e rest = there (in_slots k l.1) h e rest
 
   pub add_holder : (ls new : Lists) → is_some (stanza_at k ls) ≡ true → holder_of k (ls ++ new) ≡ holder_of k ls
   add_holder [] new h = absurd (false≢true h)
-  add_holder (l ∷ ls) new h = by (in_rows k l.1) h (add_holder ls new)
+  add_holder (l ∷ ls) new h = by (in_slots k l.1) h (add_holder ls new)
     where
       by : (a : Option Content) → is_some (option_or a (stanza_at k ls)) ≡ true → (is_some (stanza_at k ls) ≡ true → holder_of k (ls ++ new) ≡ holder_of k ls) → cond (is_some a) (Some l.0) (holder_of k (ls ++ new)) ≡ cond (is_some a) (Some l.0) (holder_of k ls)
       by (Some x) h rest = refl
@@ -156,7 +156,7 @@ other_bytes list name l e h = by (bytes_eq name l) refl
 module _ (k : StanzaKey) where
   pub add_sort : (name : List ℕ) (ls new : Lists) → holder_of k ls ≡ Some name → sort_named name (ls ++ new) ≡ sort_named name ls
   add_sort name [] new h = cc
-  add_sort name (l ∷ ls) new h = by (bytes_eq name l.0) refl (is_some (in_rows k l.1)) h (add_sort name ls new)
+  add_sort name (l ∷ ls) new h = by (bytes_eq name l.0) refl (is_some (in_slots k l.1)) h (add_sort name ls new)
     where
       by : (b : Bool) → bytes_eq name l.0 ≡ b → (a : Bool) → cond a (Some l.0) (holder_of k ls) ≡ Some name → (holder_of k ls ≡ Some name → sort_named name (ls ++ new) ≡ sort_named name ls)
           → option_map sort_of (cond b (Some (stanza_list l.1)) (at_name name (stanza_lists (ls ++ new)))) ≡ option_map sort_of (cond b (Some (stanza_list l.1)) (at_name name (stanza_lists ls)))
@@ -166,21 +166,21 @@ module _ (k : StanzaKey) where
 
   pub not_holder : (name : List ℕ) (ls : Lists) → AllByRecursion (λ y. bytes_eq name y ≡ false) (names_of ls) → holder_of k ls ≡ Some name → ⊥
   not_holder name [] a h = cc
-  not_holder name (l ∷ ls) a h = by (is_some (in_rows k l.1)) h (not_holder name ls a.1)
+  not_holder name (l ∷ ls) a h = by (is_some (in_slots k l.1)) h (not_holder name ls a.1)
     where
       by : (b : Bool) → cond b (Some l.0) (holder_of k ls) ≡ Some name → (holder_of k ls ≡ Some name → ⊥) → ⊥
       by true h rest = false≢true (sym a.0 ∙ same_bytes l.0 name (ap (λ o. unwrap_or o name) h))
       by false h rest = rest h
 
-  pub key_in_list : (l : KeyedList) → is_some (in_rows k l) ≡ true → has_key k (keys_of l) ≡ true
-  key_in_list l h = ap (has_key k) (sym (placed_rows l.serial l.rows)) ∙ found_behind k [] (entries_in l) (ap is_some (found_in_list k l) ∙ h)
+  pub key_in_list : (l : KeyedList) → is_some (in_slots k l) ≡ true → has_key k (keys_of l) ≡ true
+  key_in_list l h = ap (has_key k) (sym (placed_rows l.serial l.slots)) ∙ found_behind k [] (entries_in l) (ap is_some (found_in_list k l) ∙ h)
 
 pub held_in_list : (k : StanzaKey) (list : List ℕ) (ls : Lists) → IsDistinct bytes_eq (names_of ls) → holder_of k ls ≡ Some list → has_key k (all_in list ls) ≡ true
 unfolding IsDistinct
 held_in_list k list [] d h = cc
-held_in_list k list (l ∷ ls) d h = by (bytes_eq list l.0) refl (is_some (in_rows k l.1)) refl h (held_in_list k list ls d.1)
+held_in_list k list (l ∷ ls) d h = by (bytes_eq list l.0) refl (is_some (in_slots k l.1)) refl h (held_in_list k list ls d.1)
   where
-    by : (b : Bool) → bytes_eq list l.0 ≡ b → (a : Bool) → is_some (in_rows k l.1) ≡ a → cond a (Some l.0) (holder_of k ls) ≡ Some list → (holder_of k ls ≡ Some list → has_key k (all_in list ls) ≡ true)
+    by : (b : Bool) → bytes_eq list l.0 ≡ b → (a : Bool) → is_some (in_slots k l.1) ≡ a → cond a (Some l.0) (holder_of k ls) ≡ Some list → (holder_of k ls ≡ Some list → has_key k (all_in list ls) ≡ true)
         → has_key k (option_map_or keys_of (cond b (Some l.1) (at_name list ls)) []) ≡ true
     by true is true held h rest = key_in_list k l.1 held
     by true is false held h rest = absurd (not_holder k list ls (subst (λ z. AllByRecursion (λ y. bytes_eq z y ≡ false) (names_of ls)) (sym ((bytes_eq-Decides list l.0).0 is)) d.0) h)

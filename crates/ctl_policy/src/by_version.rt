@@ -4,7 +4,7 @@ ghost use Rattle.std.specs.Prelude.{◌≡◌, ◌∷◌, ◌<◌, length, ℕ, 
 ghost use Rattle.std.specs.Bool.{MatchBool};
 ghost use Rattle.ctl_store.specs.Keys.{AreRising};
 ghost use Rattle.ctl_policy.specs.Keys.{without_key};
-ghost use Rattle.ctl_policy.specs.Inside.HeldRows.{AreRows, HasKeyLeft, form_with, form_without, row_at, row_less, with_row};
+ghost use Rattle.ctl_policy.specs.Inside.HeldRows.{AreRows, HasKeyLeft, form_with, form_without, row_in_map, row_less, with_row};
 
 use crate::keys::{put_key, take_key};
 use ctl_relation::Version;
@@ -32,8 +32,8 @@ pub(crate) fn put_version(
     key: StanzaKey,
 ) -> Result<(), AllocError>
     requires { AreRows rows.old }
-    ensures ok { OnOk result ((v : List ℕ) → row_at rows.new v ≡ form_with version.now key (row_at rows.old) v) }
-    ensures err { OnErr result ((v : List ℕ) → row_at rows.new v ≡ row_at rows.old v) }
+    ensures ok { OnOk result ((v : List ℕ) → row_in_map rows.new v ≡ form_with version.now key (row_in_map rows.old) v) }
+    ensures err { OnErr result ((v : List ℕ) → row_in_map rows.new v ≡ row_in_map rows.old v) }
 {
     match rows.get_mut(version) {
         Some(keys) => {
@@ -62,7 +62,7 @@ fn take_and_tell(keys: &mut Vec<StanzaKey>, key: StanzaKey) -> bool
 // Takes a key out from under its version, and tells whether that leaves a row without keys.
 fn take_and_leave(rows: &mut ByVersion, version: &Version, key: StanzaKey) -> bool
     requires { AreRows rows.old }
-    ensures rows { (v : List ℕ) → row_at rows.new v ≡ with_row version.now (row_less version.now key rows.old) (row_at rows.old) v }
+    ensures rows { (v : List ℕ) → row_in_map rows.new v ≡ with_row version.now (row_less version.now key rows.old) (row_in_map rows.old) v }
     ensures left { MatchBool result (row_less version.now key rows.old ≡ Some []) (HasKeyLeft (row_less version.now key rows.old)) }
 {
     match rows.get_mut(version) {
@@ -74,7 +74,7 @@ fn take_and_leave(rows: &mut ByVersion, version: &Version, key: StanzaKey) -> bo
 /// Takes a key out from under its version. It takes no memory.
 pub(crate) fn take_version(rows: &mut ByVersion, version: &Version, key: StanzaKey)
     requires { AreRows rows.old }
-    ensures { (v : List ℕ) → row_at rows.new v ≡ form_without version.now key (row_at rows.old) v }
+    ensures { (v : List ℕ) → row_in_map rows.new v ≡ form_without version.now key (row_in_map rows.old) v }
 {
     if take_and_leave(rows, version, key) {
         rows.remove(version);

@@ -6,7 +6,7 @@ ghost use Rattle.std.specs.Ordering.{is_eq};
 ghost use Rattle.ctl_relation.specs.Version.{version_cmp};
 ghost use Rattle.ctl_store.specs.Keys.{key_is};
 ghost use Rattle.ctl_policy.specs.Keys.{or_none};
-ghost use Rattle.ctl_policy.specs.Inside.HeldRows.{row_at, one_at, form_at, form_with, form_without, IsFormed};
+ghost use Rattle.ctl_policy.specs.Inside.HeldRows.{row_in_map, one_at, form_at, form_with, form_without, IsFormed};
 
 use crate::by_version::{ByVersion, put_version, take_version};
 use ctl_relation::Version;
@@ -25,7 +25,7 @@ pub enum Form {
 
 // A map of the row of one stanza.
 fn mapped(alloc: Global, version: &Version, key: StanzaKey) -> Result<ByVersion, AllocError>
-    ensures { IfOk result (λ rows. (v : List ℕ) → row_at rows v ≡ one_at version.now key v) }
+    ensures { IfOk result (λ rows. (v : List ℕ) → row_in_map rows v ≡ one_at version.now key v) }
 {
     let mut rows = BTreeMap::new(alloc);
     put_version(alloc, &mut rows, version, key)?;
@@ -40,7 +40,7 @@ fn grown(
     version: &Version,
     key: StanzaKey,
 ) -> Result<ByVersion, AllocError>
-    ensures { IfOk result (λ rows. (v : List ℕ) → row_at rows v ≡ form_with version.now key (one_at there.now other) v) }
+    ensures { IfOk result (λ rows. (v : List ℕ) → row_in_map rows v ≡ form_with version.now key (one_at there.now other) v) }
 {
     let mut rows = mapped(alloc, there, other)?;
     put_version(alloc, &mut rows, version, key)?;
@@ -101,7 +101,7 @@ pub(crate) fn take_from_form(form: &mut Form, version: &Version, key: StanzaKey)
 }
 
 fn keys_in_map<'a>(map: &'a ByVersion, version: &Version) -> &'a [StanzaKey]
-    ensures { result.now ≡ or_none (row_at map.now version.now) }
+    ensures { result.now ≡ or_none (row_in_map map.now version.now) }
 {
     match map.get(version) {
         Some(keys) => keys,

@@ -9,9 +9,9 @@ use Rattle.std.specs.declared.cmp.Ordering.TheVariants.{Less, Equal, Greater}
 use Rattle.std.proofs.lemmas.Bool.Decides.{nat_tests}
 use Rattle.ctl_stanza.specs.Content.{Content}
 use Rattle.ctl_store.specs.declared.stanza_key.StanzaKey.{StanzaKey}
-use Rattle.ctl_store.specs.Rows.{rows_from}
-use Rattle.ctl_store.specs.Keys.{KeyedList, stanzas_of, stanza_lists, list_of_stanzas, key_of, keys_of, key_cmp, all_keys, AreRising, in_rows, stanza_at, holder_of}
-use Rattle.ctl_store.specs.Entries.{Entry, rows_under, entries_in, entries_of}
+use Rattle.ctl_store.specs.Slots.{slots_from}
+use Rattle.ctl_store.specs.Keys.{KeyedList, stanzas_of, stanza_lists, list_of_stanzas, key_of, keys_of, key_cmp, all_keys, AreRising, in_slots, stanza_at, holder_of}
+use Rattle.ctl_store.specs.Entries.{Entry, slots_under, entries_in, entries_of}
 use Rattle.ctl_policy.specs.Rows.{Lists}
 use Rattle.ctl_query.specs.Anew.{lists_anew}
 
@@ -30,21 +30,21 @@ place_in serial (row ∷ rows) = cond (nat_eq row.0 serial) 0 (suc (place_in ser
 
 -- at its place stands the stanza of a serial
 pub found_at_place : (serial from at : ℕ) (rows : List (ℕ × Content)) → at ≡ from + place_in serial rows →
-    lookup (λ s. nat_eq s at) (rows_from from (stanzas_of rows)) ≡ lookup (λ s. nat_eq s serial) rows
+    lookup (λ s. nat_eq s at) (slots_from from (stanzas_of rows)) ≡ lookup (λ s. nat_eq s serial) rows
 found_at_place serial from at [] is = refl
 found_at_place serial from at (row ∷ rows) is = by (nat_eq row.0 serial) is (λ j. found_at_place serial (suc from) at rows j)
   where
     by : (b : Bool) → at ≡ from + cond b 0 (suc (place_in serial rows)) →
-        (at ≡ suc from + place_in serial rows → lookup (λ s. nat_eq s at) (rows_from (suc from) (stanzas_of rows)) ≡ lookup (λ s. nat_eq s serial) rows) →
-        cond (nat_eq from at) (Some row.1) (lookup (λ s. nat_eq s at) (rows_from (suc from) (stanzas_of rows))) ≡ cond b (Some row.1) (lookup (λ s. nat_eq s serial) rows)
-    by true e rest = ap (λ t. cond t (Some row.1) (lookup (λ s. nat_eq s at) (rows_from (suc from) (stanzas_of rows)))) (eq_is from at (omega (arith, e)))
-    by false e rest = ap (λ t. cond t (Some row.1) (lookup (λ s. nat_eq s at) (rows_from (suc from) (stanzas_of rows)))) (lt_ne from at (omega (arith, e))) ∙ rest (omega (arith, e))
+        (at ≡ suc from + place_in serial rows → lookup (λ s. nat_eq s at) (slots_from (suc from) (stanzas_of rows)) ≡ lookup (λ s. nat_eq s serial) rows) →
+        cond (nat_eq from at) (Some row.1) (lookup (λ s. nat_eq s at) (slots_from (suc from) (stanzas_of rows))) ≡ cond b (Some row.1) (lookup (λ s. nat_eq s serial) rows)
+    by true e rest = ap (λ t. cond t (Some row.1) (lookup (λ s. nat_eq s at) (slots_from (suc from) (stanzas_of rows)))) (eq_is from at (omega (arith, e)))
+    by false e rest = ap (λ t. cond t (Some row.1) (lookup (λ s. nat_eq s at) (slots_from (suc from) (stanzas_of rows)))) (lt_ne from at (omega (arith, e))) ∙ rest (omega (arith, e))
 
 -- ---- keys
 
 -- the key that the stanza of a key has where the lists are added anew; another key has one of no list
 abbrev pub moved_in : ℕ → KeyedList → (StanzaKey → StanzaKey) → StanzaKey → StanzaKey
-moved_in n l others key = cond (is_some (in_rows key l)) (key_of n (place_in key.stanza l.rows)) (others key)
+moved_in n l others key = cond (is_some (in_slots key l)) (key_of n (place_in key.stanza l.slots)) (others key)
 
 abbrev pub moved : ℕ → Lists → StanzaKey → StanzaKey
 moved n [] = λ (key : StanzaKey). key_of n 0
@@ -52,28 +52,28 @@ moved n (l ∷ ls) = moved_in n l.1 (moved (suc n) ls)
 
 pub moved_above : (n : ℕ) (ls : Lists) (key : StanzaKey) → n ≤ (moved n ls key).list
 moved_above n [] key = omega arith
-moved_above n (l ∷ ls) key = by (is_some (in_rows key l.1)) (moved_above (suc n) ls key)
+moved_above n (l ∷ ls) key = by (is_some (in_slots key l.1)) (moved_above (suc n) ls key)
   where
-    by : (b : Bool) → suc n ≤ (moved (suc n) ls key).list → n ≤ (cond b (key_of n (place_in key.stanza l.1.rows)) (moved (suc n) ls key)).list
+    by : (b : Bool) → suc n ≤ (moved (suc n) ls key).list → n ≤ (cond b (key_of n (place_in key.stanza l.1.slots)) (moved (suc n) ls key)).list
     by true h = omega arith
     by false h = omega (arith, h)
 
 -- a list under its new serial
 abbrev anew : ℕ → KeyedList → KeyedList
-anew n l = list_of_stanzas n l.kind l.class (stanzas_of l.rows)
+anew n l = list_of_stanzas n l.kind l.class (stanzas_of l.slots)
 
 -- a key of a later list is none of this one
-other_list : (n : ℕ) (l : KeyedList) (key : StanzaKey) → n < key.list → in_rows key (anew n l) ≡ None
-other_list n l key below = ap (λ b. cond b (lookup (λ s. nat_eq s key.stanza) (rows_from 0 (stanzas_of l.rows))) None) (lt_ne n key.list below)
+other_list : (n : ℕ) (l : KeyedList) (key : StanzaKey) → n < key.list → in_slots key (anew n l) ≡ None
+other_list n l key below = ap (λ b. cond b (lookup (λ s. nat_eq s key.stanza) (slots_from 0 (stanzas_of l.slots))) None) (lt_ne n key.list below)
 
-own_serial : (l : KeyedList) (key : StanzaKey) (b : Bool) → nat_eq l.serial key.list ≡ b → is_some (in_rows key l) ≡ true → lookup (λ s. nat_eq s key.stanza) l.rows ≡ in_rows key l
-own_serial l key true e there = sym (ap (λ b. cond b (lookup (λ s. nat_eq s key.stanza) l.rows) None) e)
-own_serial l key false e there = let none : in_rows key l ≡ None = ap (λ b. cond b (lookup (λ s. nat_eq s key.stanza) l.rows) None) e in let bad : true ≡ false = sym there ∙ ap is_some none in absurd (cc bad)
+own_serial : (l : KeyedList) (key : StanzaKey) (b : Bool) → nat_eq l.serial key.list ≡ b → is_some (in_slots key l) ≡ true → lookup (λ s. nat_eq s key.stanza) l.slots ≡ in_slots key l
+own_serial l key true e there = sym (ap (λ b. cond b (lookup (λ s. nat_eq s key.stanza) l.slots) None) e)
+own_serial l key false e there = let none : in_slots key l ≡ None = ap (λ b. cond b (lookup (λ s. nat_eq s key.stanza) l.slots) None) e in let bad : true ≡ false = sym there ∙ ap is_some none in absurd (cc bad)
 
-own_list : (n : ℕ) (l : KeyedList) (key : StanzaKey) → is_some (in_rows key l) ≡ true → in_rows (key_of n (place_in key.stanza l.rows)) (anew n l) ≡ in_rows key l
+own_list : (n : ℕ) (l : KeyedList) (key : StanzaKey) → is_some (in_slots key l) ≡ true → in_slots (key_of n (place_in key.stanza l.slots)) (anew n l) ≡ in_slots key l
 own_list n l key there =
-    ap (λ b. cond b (lookup (λ s. nat_eq s (place_in key.stanza l.rows)) (rows_from 0 (stanzas_of l.rows))) None) (eq_is n n refl)
-    ∙ found_at_place key.stanza 0 (place_in key.stanza l.rows) l.rows (omega arith)
+    ap (λ b. cond b (lookup (λ s. nat_eq s (place_in key.stanza l.slots)) (slots_from 0 (stanzas_of l.slots))) None) (eq_is n n refl)
+    ∙ found_at_place key.stanza 0 (place_in key.stanza l.slots) l.slots (omega arith)
     ∙ own_serial l key (nat_eq l.serial key.list) refl there
 
 module _ {A : Type 0} where
@@ -89,30 +89,30 @@ module _ {A : Type 0} where
 -- under its new key stands the stanza of a key
 pub stanza_moved : (n : ℕ) (ls : Lists) (key : StanzaKey) → stanza_at (moved n ls key) (lists_anew n (stanza_lists ls)) ≡ stanza_at key ls
 stanza_moved n [] key = refl
-stanza_moved n (l ∷ ls) key = by (is_some (in_rows key l.1)) refl (stanza_moved (suc n) ls key)
+stanza_moved n (l ∷ ls) key = by (is_some (in_slots key l.1)) refl (stanza_moved (suc n) ls key)
   where
-    by : (b : Bool) → is_some (in_rows key l.1) ≡ b → stanza_at (moved (suc n) ls key) (lists_anew (suc n) (stanza_lists ls)) ≡ stanza_at key ls →
-        option_or (in_rows (cond b (key_of n (place_in key.stanza l.1.rows)) (moved (suc n) ls key)) (anew n l.1)) (stanza_at (cond b (key_of n (place_in key.stanza l.1.rows)) (moved (suc n) ls key)) (lists_anew (suc n) (stanza_lists ls)))
-        ≡ option_or (in_rows key l.1) (stanza_at key ls)
+    by : (b : Bool) → is_some (in_slots key l.1) ≡ b → stanza_at (moved (suc n) ls key) (lists_anew (suc n) (stanza_lists ls)) ≡ stanza_at key ls →
+        option_or (in_slots (cond b (key_of n (place_in key.stanza l.1.slots)) (moved (suc n) ls key)) (anew n l.1)) (stanza_at (cond b (key_of n (place_in key.stanza l.1.slots)) (moved (suc n) ls key)) (lists_anew (suc n) (stanza_lists ls)))
+        ≡ option_or (in_slots key l.1) (stanza_at key ls)
     by true e rest =
-        let new = key_of n (place_in key.stanza l.1.rows) in
+        let new = key_of n (place_in key.stanza l.1.slots) in
         ap (λ o. option_or o (stanza_at new (lists_anew (suc n) (stanza_lists ls)))) (own_list n l.1 key e)
-        ∙ some_first (in_rows key l.1) (stanza_at new (lists_anew (suc n) (stanza_lists ls))) e ∙ sym (some_first (in_rows key l.1) (stanza_at key ls) e)
+        ∙ some_first (in_slots key l.1) (stanza_at new (lists_anew (suc n) (stanza_lists ls))) e ∙ sym (some_first (in_slots key l.1) (stanza_at key ls) e)
     by false e rest =
         let new = moved (suc n) ls key in
         ap (λ o. option_or o (stanza_at new (lists_anew (suc n) (stanza_lists ls)))) (other_list n l.1 new (omega (arith, moved_above (suc n) ls key)))
-        ∙ rest ∙ sym (none_first (in_rows key l.1) (stanza_at key ls) e)
+        ∙ rest ∙ sym (none_first (in_slots key l.1) (stanza_at key ls) e)
 
 -- and it is of the same list
 pub holder_moved : (n : ℕ) (ls : Lists) (key : StanzaKey) → holder_of (moved n ls key) (lists_anew n (stanza_lists ls)) ≡ holder_of key ls
 holder_moved n [] key = refl
-holder_moved n (l ∷ ls) key = by (is_some (in_rows key l.1)) refl (holder_moved (suc n) ls key)
+holder_moved n (l ∷ ls) key = by (is_some (in_slots key l.1)) refl (holder_moved (suc n) ls key)
   where
-    by : (b : Bool) → is_some (in_rows key l.1) ≡ b → holder_of (moved (suc n) ls key) (lists_anew (suc n) (stanza_lists ls)) ≡ holder_of key ls →
-        cond (is_some (in_rows (cond b (key_of n (place_in key.stanza l.1.rows)) (moved (suc n) ls key)) (anew n l.1))) (Some l.0) (holder_of (cond b (key_of n (place_in key.stanza l.1.rows)) (moved (suc n) ls key)) (lists_anew (suc n) (stanza_lists ls)))
-        ≡ cond (is_some (in_rows key l.1)) (Some l.0) (holder_of key ls)
+    by : (b : Bool) → is_some (in_slots key l.1) ≡ b → holder_of (moved (suc n) ls key) (lists_anew (suc n) (stanza_lists ls)) ≡ holder_of key ls →
+        cond (is_some (in_slots (cond b (key_of n (place_in key.stanza l.1.slots)) (moved (suc n) ls key)) (anew n l.1))) (Some l.0) (holder_of (cond b (key_of n (place_in key.stanza l.1.slots)) (moved (suc n) ls key)) (lists_anew (suc n) (stanza_lists ls)))
+        ≡ cond (is_some (in_slots key l.1)) (Some l.0) (holder_of key ls)
     by true e rest =
-        ap (λ c. cond c (Some l.0) (holder_of (key_of n (place_in key.stanza l.1.rows)) (lists_anew (suc n) (stanza_lists ls)))) (ap is_some (own_list n l.1 key e) ∙ e)
+        ap (λ c. cond c (Some l.0) (holder_of (key_of n (place_in key.stanza l.1.slots)) (lists_anew (suc n) (stanza_lists ls)))) (ap is_some (own_list n l.1 key e) ∙ e)
         ∙ sym (ap (λ c. cond c (Some l.0) (holder_of key ls)) e)
     by false e rest =
         let new = moved (suc n) ls key in
@@ -122,9 +122,9 @@ holder_moved n (l ∷ ls) key = by (is_some (in_rows key l.1)) refl (holder_move
 -- the lists are the same but for the serials
 pub lists_are_same : (n : ℕ) (ls : Lists) → stanza_lists (lists_anew n (stanza_lists ls)) ≡ stanza_lists ls
 lists_are_same n [] = refl
-lists_are_same n (l ∷ ls) = λ i. (l.0, record { kind = l.1.kind; class = l.1.class; stanzas = stanzas_back 0 (stanzas_of l.1.rows) i }) ∷ lists_are_same (suc n) ls i
+lists_are_same n (l ∷ ls) = λ i. (l.0, record { kind = l.1.kind; class = l.1.class; stanzas = stanzas_back 0 (stanzas_of l.1.slots) i }) ∷ lists_are_same (suc n) ls i
   where
-    stanzas_back : (m : ℕ) (xs : List Content) → stanzas_of (rows_from m xs) ≡ xs
+    stanzas_back : (m : ℕ) (xs : List Content) → stanzas_of (slots_from m xs) ≡ xs
     stanzas_back m [] = refl
     stanzas_back m (x ∷ xs) = ap (λ ys. x ∷ ys) (stanzas_back (suc m) xs)
 
@@ -140,7 +140,7 @@ module _ (f : StanzaKey → StanzaKey) (serial n : ℕ) where
   Counts m [] = Unit {0}
   Counts m (row ∷ rows) = (f (key_of serial row.0) ≡ key_of n m) × Counts (suc m) rows
 
-  rows_moved : (m : ℕ) (rows : List (ℕ × Content)) → Counts m rows → rows_under n (rows_from m (stanzas_of rows)) ≡ map (entry_moved f) (rows_under serial rows)
+  rows_moved : (m : ℕ) (rows : List (ℕ × Content)) → Counts m rows → slots_under n (slots_from m (stanzas_of rows)) ≡ map (entry_moved f) (slots_under serial rows)
   rows_moved m [] h = refl
   rows_moved m (row ∷ rows) h = λ i. (sym h.0 i, row.1) ∷ rows_moved (suc m) rows h.1 i
 
@@ -174,12 +174,12 @@ placed (row ∷ rows) h = (
   one_behind row rows 0 rows h.0 (placed rows h.1),
 )
 
-counted : (n : ℕ) (l : KeyedList) (others : StanzaKey → StanzaKey) (m : ℕ) (rows : List (ℕ × Content)) → Placed l.rows m rows → Counts (moved_in n l others) l.serial n m rows
+counted : (n : ℕ) (l : KeyedList) (others : StanzaKey → StanzaKey) (m : ℕ) (rows : List (ℕ × Content)) → Placed l.slots m rows → Counts (moved_in n l others) l.serial n m rows
 counted n l others m [] h = tt
 counted n l others m (row ∷ rows) h =
     let key = key_of l.serial row.0 in
-    let there : is_some (in_rows key l) ≡ true = ap (λ b. is_some (cond b (lookup (λ s. nat_eq s row.0) l.rows) None)) (eq_is l.serial l.serial refl) ∙ h.1 in (
-      ap (λ b. cond b (key_of n (place_in row.0 l.rows)) (others key)) there ∙ ap (λ k. key_of n k) h.0,
+    let there : is_some (in_slots key l) ≡ true = ap (λ b. is_some (cond b (lookup (λ s. nat_eq s row.0) l.slots) None)) (eq_is l.serial l.serial refl) ∙ h.1 in (
+      ap (λ b. cond b (key_of n (place_in row.0 l.slots)) (others key)) there ∙ ap (λ k. key_of n k) h.0,
       counted n l others (suc m) rows h.2,
     )
 
@@ -229,9 +229,9 @@ not_there : (serial : ℕ) (rows : List (ℕ × Content)) (key : StanzaKey) → 
 not_there serial [] key e h = refl
 not_there serial (row ∷ rows) key e h = ap (λ b. cond b (Some row.1) (lookup (λ s. nat_eq s key.stanza) rows)) (key_not serial row.0 key h.0 e) ∙ not_there serial rows key e h.1
 
-not_in : (l : KeyedList) (key : StanzaKey) (b : Bool) → nat_eq l.serial key.list ≡ b → AllByRecursion (λ (row : ℕ × Content). key_cmp (key_of l.serial row.0) key ≡ Less) l.rows → in_rows key l ≡ None
-not_in l key true e h = ap (λ b. cond b (lookup (λ s. nat_eq s key.stanza) l.rows) None) e ∙ not_there l.serial l.rows key e h
-not_in l key false e h = ap (λ b. cond b (lookup (λ s. nat_eq s key.stanza) l.rows) None) e
+not_in : (l : KeyedList) (key : StanzaKey) (b : Bool) → nat_eq l.serial key.list ≡ b → AllByRecursion (λ (row : ℕ × Content). key_cmp (key_of l.serial row.0) key ≡ Less) l.slots → in_slots key l ≡ None
+not_in l key true e h = ap (λ b. cond b (lookup (λ s. nat_eq s key.stanza) l.slots) None) e ∙ not_there l.serial l.slots key e h
+not_in l key false e h = ap (λ b. cond b (lookup (λ s. nat_eq s key.stanza) l.slots) None) e
 
 -- each of some keys is above all keys of rows
 abbrev AreAbove : ℕ → List (ℕ × Content) → List StanzaKey → Type 0
@@ -252,13 +252,13 @@ all_above serial (row ∷ rows) keys h =
 
 entry_keys_are : (ls : Lists) → map (λ (e : Entry). e.0) (entries_of ls) ≡ all_keys ls
 entry_keys_are [] = refl
-entry_keys_are (l ∷ ls) = both (entries_in l.1) (entries_of ls) ∙ (λ i. rows_keys l.1.serial l.1.rows i ++ entry_keys_are ls i)
+entry_keys_are (l ∷ ls) = both (entries_in l.1) (entries_of ls) ∙ (λ i. rows_keys l.1.serial l.1.slots i ++ entry_keys_are ls i)
   where
     both : (xs ys : List Entry) → map (λ (e : Entry). e.0) (xs ++ ys) ≡ map (λ (e : Entry). e.0) xs ++ map (λ (e : Entry). e.0) ys
     both [] ys = refl
     both (x ∷ xs) ys = ap (λ ks. x.0 ∷ ks) (both xs ys)
 
-    rows_keys : (serial : ℕ) (rows : List (ℕ × Content)) → map (λ (e : Entry). e.0) (rows_under serial rows) ≡ map (λ (row : ℕ × Content). key_of serial row.0) rows
+    rows_keys : (serial : ℕ) (rows : List (ℕ × Content)) → map (λ (e : Entry). e.0) (slots_under serial rows) ≡ map (λ (row : ℕ × Content). key_of serial row.0) rows
     rows_keys serial [] = refl
     rows_keys serial (row ∷ rows) = ap (λ ks. key_of serial row.0 ∷ ks) (rows_keys serial rows)
 
@@ -267,17 +267,17 @@ map_append f [] ys = refl
 map_append f (x ∷ xs) ys = ap (λ l. f x ∷ l) (map_append f xs ys)
 
 -- entries of later lists move as those lists say
-later_moved : (n : ℕ) (l : KeyedList) (others : StanzaKey → StanzaKey) (es : List Entry) → AreAbove l.serial l.rows (map (λ (e : Entry). e.0) es) → map (entry_moved others) es ≡ map (entry_moved (moved_in n l others)) es
+later_moved : (n : ℕ) (l : KeyedList) (others : StanzaKey → StanzaKey) (es : List Entry) → AreAbove l.serial l.slots (map (λ (e : Entry). e.0) es) → map (entry_moved others) es ≡ map (entry_moved (moved_in n l others)) es
 later_moved n l others [] h = refl
 later_moved n l others (e ∷ es) h =
-    let none : is_some (in_rows e.0 l) ≡ false = ap is_some (not_in l e.0 (nat_eq l.serial e.0.list) refl h.0) in
-    λ i. (sym (ap (λ b. cond b (key_of n (place_in e.0.stanza l.rows)) (others e.0)) none) i, e.1) ∷ later_moved n l others es h.1 i
+    let none : is_some (in_slots e.0 l) ≡ false = ap is_some (not_in l e.0 (nat_eq l.serial e.0.list) refl h.0) in
+    λ i. (sym (ap (λ b. cond b (key_of n (place_in e.0.stanza l.slots)) (others e.0)) none) i, e.1) ∷ later_moved n l others es h.1 i
 
 -- the stanzas stand in the same order under their new keys
 pub entries_moved : (n : ℕ) (ls : Lists) → AreRising (all_keys ls) → entries_of (lists_anew n (stanza_lists ls)) ≡ map (entry_moved (moved n ls)) (entries_of ls)
 entries_moved n [] h = refl
 entries_moved n (l ∷ ls) h =
-    let first = rows_moved (moved n (l ∷ ls)) l.1.serial n 0 l.1.rows (counted n l.1 (moved (suc n) ls) 0 l.1.rows (placed l.1.rows (rise_rows l.1.serial l.1.rows (all_keys ls) h))) in
+    let first = rows_moved (moved n (l ∷ ls)) l.1.serial n 0 l.1.slots (counted n l.1 (moved (suc n) ls) 0 l.1.slots (placed l.1.slots (rise_rows l.1.serial l.1.slots (all_keys ls) h))) in
     let rest = entries_moved (suc n) ls (rise_behind (keys_of l.1) (all_keys ls) h) in
-    let later = later_moved n l.1 (moved (suc n) ls) (entries_of ls) (subst (AreAbove l.1.serial l.1.rows) (sym (entry_keys_are ls)) (all_above l.1.serial l.1.rows (all_keys ls) h)) in
+    let later = later_moved n l.1 (moved (suc n) ls) (entries_of ls) (subst (AreAbove l.1.serial l.1.slots) (sym (entry_keys_are ls)) (all_above l.1.serial l.1.slots (all_keys ls) h)) in
     (λ i. first i ++ (rest ∙ later) i) ∙ sym (map_append (entry_moved (moved n (l ∷ ls))) (entries_in l.1) (entries_of ls))

@@ -5,7 +5,7 @@ use Rattle.std.specs.List.Sorted.{IsStrictlySortedBy}
 use Rattle.std.specs.Ordering.{nat_cmp}
 use Rattle.ctl_store.specs.Entries.{AreAt}
 use Rattle.ctl_store.specs.Store.{Held, keyed_of}
-use Rattle.ctl_index.specs.Held.{standing}
+use Rattle.ctl_index.specs.HeldCache.{standing}
 use Rattle.ctl_policy.specs.Priority.{World, world_of}
 use Rattle.ctl_query.specs.Interest.{names_it, provides_it, has_unmet}
 use Rattle.ctl_query.specs.NameSet.{is_among}

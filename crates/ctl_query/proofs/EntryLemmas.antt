@@ -7,19 +7,19 @@ use Rattle.std.proofs.lemmas.List.{map-append}
 use Rattle.ctl_stanza.specs.Content.{Content}
 use Rattle.ctl_store.specs.declared.stanza_key.StanzaKey.{StanzaKey}
 use Rattle.ctl_store.specs.Keys.{KeyedList, key_of, key_is, stanza_at, stanza_lists}
-use Rattle.ctl_store.specs.Entries.{Entry, rows_under, entries_in, entries_of, stanzas_in_order, AreAt}
+use Rattle.ctl_store.specs.Entries.{Entry, slots_under, entries_in, entries_of, stanzas_in_order, AreAt}
 use Rattle.ctl_store.specs.Followed.{under}
 use Rattle.ctl_index.specs.Offers.{contents}
 
 -- ---- without their keys
 
-plain_rows : (serial : ℕ) (rows : List (ℕ × Content)) → contents (rows_under serial rows) ≡ map (λ (row : ℕ × Content). row.1) rows
+plain_rows : (serial : ℕ) (rows : List (ℕ × Content)) → contents (slots_under serial rows) ≡ map (λ (row : ℕ × Content). row.1) rows
 plain_rows serial [] = refl
 plain_rows serial (row ∷ rows) = ap (λ xs. row.1 ∷ xs) (plain_rows serial rows)
 
 pub contents_are : (ls : List (List ℕ × KeyedList)) → contents (entries_of ls) ≡ stanzas_in_order (stanza_lists ls)
 contents_are [] = refl
-contents_are (l ∷ ls) = map-append (λ (e : Entry). e.1) (entries_in l.1) (entries_of ls) ∙ (λ i. plain_rows l.1.serial l.1.rows i ++ contents_are ls i)
+contents_are (l ∷ ls) = map-append (λ (e : Entry). e.1) (entries_in l.1) (entries_of ls) ∙ (λ i. plain_rows l.1.serial l.1.slots i ++ contents_are ls i)
 
 -- ---- what stands under a key
 
@@ -48,7 +48,7 @@ in_list k serial (row ∷ rows) = by (nat_eq serial k.list) (nat_eq row.0 k.stan
 -- the stanza of a key is the one under it
 pub stanza_under : (k : StanzaKey) (ls : List (List ℕ × KeyedList)) → stanza_at k ls ≡ under k (entries_of ls)
 stanza_under k [] = refl
-stanza_under k (l ∷ ls) = (λ i. option_or (sym (in_list k l.1.serial l.1.rows) i) (stanza_under k ls i)) ∙ sym (under-append k (entries_in l.1) (entries_of ls))
+stanza_under k (l ∷ ls) = (λ i. option_or (sym (in_list k l.1.serial l.1.slots) i) (stanza_under k ls i)) ∙ sym (under-append k (entries_in l.1) (entries_of ls))
 
 -- what is found by a key stands under it
 pub each_under : (ls : List (List ℕ × KeyedList)) (es : List Entry) → AreAt es ls → AllByRecursion (λ (e : Entry). under e.0 (entries_of ls) ≡ Some e.1) es

@@ -6,7 +6,7 @@ use Rattle.std.proofs.lemmas.List.Folds.{list_any-append}
 use Rattle.ctl_stanza.specs.Content.{Content, package_of, is_live}
 use Rattle.ctl_store.specs.declared.stanza_key.StanzaKey.{StanzaKey}
 use Rattle.ctl_store.specs.Entries.{Entry, entries_of}
-use Rattle.ctl_index.specs.Names.{names_of, in_order, known_names}
+use Rattle.ctl_index.specs.Names.{names_told, in_order, known_names}
 use Rattle.ctl_index.specs.Offers.{contents}
 use Rattle.ctl_policy.specs.Keys.{some_keys}
 use Rattle.ctl_policy.specs.Rows.{Row, is_of_version, is_in_row, keys_with, rows_named, newest_first, is_any_row}
@@ -31,24 +31,24 @@ true_first true b e = refl
 true_first false b e = absurd (let z : ⊥ = cc in z)
 
 -- a stanza of a row of a name offers this name
-offered : (name version : List ℕ) (x : Content) → is_in_row name version x ≡ true → is_among (names_of x) name ≡ true
+offered : (name version : List ℕ) (x : Content) → is_in_row name version x ≡ true → is_among (names_told x) name ≡ true
 offered name version x h = by (is_live x) refl
   where
     none : (b : Bool) → is_of_version version (cond b None None) ≡ true → ⊥
     none true e = cc
     none false e = cc
 
-    by : (b : Bool) → is_live x ≡ b → is_among (names_of x) name ≡ true
+    by : (b : Bool) → is_live x ≡ b → is_among (names_told x) name ≡ true
     by true live = rw live (true_first _ _ (of_name name version x h))
     by false live = absurd (none (bytes_eq (package_of x) name) (rw live at h))
 
-no_keys : (name version : List ℕ) (es : List Entry) → is_among (flat_map names_of (contents es)) name ≡ false → keys_with (is_in_row name version) es ≡ []
+no_keys : (name version : List ℕ) (es : List Entry) → is_among (flat_map names_told (contents es)) name ≡ false → keys_with (is_in_row name version) es ≡ []
 no_keys name version [] out = refl
 no_keys name version (e ∷ es) out =
-    let parts = sym (list_any-append (bytes_eq name) (names_of e.1) (flat_map names_of (contents es))) ∙ out in
+    let parts = sym (list_any-append (bytes_eq name) (names_told e.1) (flat_map names_told (contents es))) ∙ out in
     by (is_in_row name version e.1) refl (left_false _ _ parts) (no_keys name version es (right_false _ _ parts))
   where
-    by : (b : Bool) → is_in_row name version e.1 ≡ b → is_among (names_of e.1) name ≡ false → keys_with (is_in_row name version) es ≡ [] →
+    by : (b : Bool) → is_in_row name version e.1 ≡ b → is_among (names_told e.1) name ≡ false → keys_with (is_in_row name version) es ≡ [] →
         cond b (e.0 ∷ keys_with (is_in_row name version) es) (keys_with (is_in_row name version) es) ≡ []
     by true is out rest = absurd (let z : true ≡ false = sym (offered name version e.1 is) ∙ out in let w : ⊥ = cc in w)
     by false is out rest = rest
@@ -61,7 +61,7 @@ pub no_row : (rows : List Row) → AllByRecursion (λ (row : Row). ⊥) rows →
 no_row [] h = refl
 no_row (row ∷ rows) h = absurd h.0
 
-known_are : (world : World) → names_known world ≡ in_order (flat_map names_of (stanzas_of world))
+known_are : (world : World) → names_known world ≡ in_order (flat_map names_told (stanzas_of world))
 unfolding known_names
 known_are world = refl
 
@@ -71,8 +71,8 @@ row_known classes world name row = by (is_among (names_known world) name) refl
     by : (b : Bool) → is_among (names_known world) name ≡ b → is_among (names_known world) name ≡ true
     by true e = e
     by false e =
-        let out : is_among (flat_map names_of (contents (entries_of world.lists))) name ≡ false =
-        ap (λ xs. is_among (flat_map names_of xs) name) (contents_are world.lists) ∙ sym (among_in_order name (flat_map names_of (stanzas_of world))) ∙ ap (λ xs. is_among xs name) (sym (known_are world)) ∙ e in
+        let out : is_among (flat_map names_told (contents (entries_of world.lists))) name ≡ false =
+        ap (λ xs. is_among (flat_map names_told xs) name) (contents_are world.lists) ∙ sym (among_in_order name (flat_map names_told (stanzas_of world))) ∙ ap (λ xs. is_among xs name) (sym (known_are world)) ∙ e in
         let none = no_row (newest_first (rows_named name world.lists)) (each_class classes (λ keys. ⊥) name world.lists (λ version. none_some _ (no_keys name version (entries_of world.lists) out))) in
         absurd (let z : true ≡ false = sym row ∙ none in let w : ⊥ = cc in w)
 

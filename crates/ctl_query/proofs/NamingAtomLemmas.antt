@@ -14,7 +14,7 @@ use Rattle.ctl_stanza.specs.Content.{Content, package_of, groups_of}
 use Rattle.ctl_store.specs.Entries.{Entry}
 use Rattle.ctl_store.specs.Store.{Held}
 use Rattle.ctl_index.specs.declared.keys.AtomKey.{AtomKey}
-use Rattle.ctl_index.specs.Held.{standing}
+use Rattle.ctl_index.specs.HeldCache.{standing}
 use Rattle.ctl_index.specs.Names.{naming_fields, keyed_group, keyed_groups, namers_named}
 use Rattle.ctl_policy.specs.Priority.{world_of}
 use Rattle.ctl_query.specs.declared.lead_atoms.LeadAtom.{LeadAtom}

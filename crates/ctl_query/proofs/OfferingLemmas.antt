@@ -9,7 +9,7 @@ use Rattle.ctl_stanza.specs.Content.{Content, package_of, version_of, is_live, o
 use Rattle.ctl_store.specs.declared.stanza_key.StanzaKey.{StanzaKey}
 use Rattle.ctl_store.specs.Entries.{Entry, AreAt}
 use Rattle.ctl_store.specs.Store.{Held, keyed_of}
-use Rattle.ctl_index.specs.Held.{standing}
+use Rattle.ctl_index.specs.HeldCache.{standing}
 use Rattle.ctl_index.specs.Offers.{offers_named}
 use Rattle.ctl_store.specs.Keys.{stanza_at}
 use Rattle.ctl_query.specs.Packages.{is_none_of}

@@ -22,7 +22,7 @@ keys-append (e ∷ es) fs = ap (λ keys. e.0 ∷ keys) (keys-append es fs)
 
 keys_are : (lists : Lists) → entry_keys (entries_of lists) ≡ all_keys lists
 keys_are [] = refl
-keys_are (l ∷ ls) = keys-append (entries_in l.1) (entries_of ls) ∙ (λ i. placed l.1.serial l.1.rows i ++ keys_are ls i)
+keys_are (l ∷ ls) = keys-append (entries_in l.1) (entries_of ls) ∙ (λ i. placed l.1.serial l.1.slots i ++ keys_are ls i)
 
 -- ---- of those that pass
 

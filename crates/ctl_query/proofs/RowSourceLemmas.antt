@@ -11,7 +11,7 @@ use Rattle.std.proofs.lemmas.Bool.Decides.{nat_tests}
 use Rattle.std.proofs.lemmas.Slice.Eq.{bytes_eq-Decides}
 use Rattle.ctl_stanza.specs.Content.{Content}
 use Rattle.ctl_store.specs.declared.stanza_key.StanzaKey.{StanzaKey}
-use Rattle.ctl_store.specs.Keys.{KeyedList, key_of, keys_of, key_cmp, all_keys, AreRising, in_rows, stanza_at, AreHeld, holder_of}
+use Rattle.ctl_store.specs.Keys.{KeyedList, key_of, keys_of, key_cmp, all_keys, AreRising, in_slots, stanza_at, AreHeld, holder_of}
 use Rattle.ctl_policy.specs.Rows.{Lists, is_called, is_source, sources_of}
 use Rattle.ctl_query.specs.Inside.RowSources.{holder_then, holders_behind}
 use Rattle.ctl_query.proofs.LeadTableLemmas.{keys_total}
@@ -45,19 +45,19 @@ module _ (P : StanzaKey → Type 0) (q : StanzaKey) where
       by false e rest = rest (ap (λ b. is_some (cond b (Some r.1) (lookup (λ s. nat_eq s q.stanza) rows))) (sym e) ∙ there)
 
   -- what holds of the keys of a list holds of a key in it
-  each_in : (l : KeyedList) → is_some (in_rows q l) ≡ true → AllByRecursion P (keys_of l) → P q
+  each_in : (l : KeyedList) → is_some (in_slots q l) ≡ true → AllByRecursion P (keys_of l) → P q
   each_in l there h = by (nat_eq l.serial q.list) refl
     where
       by : (b : Bool) → nat_eq l.serial q.list ≡ b → P q
-      by true e = each_row l.serial (nat_same l.serial q.list e) l.rows (ap (λ b. is_some (cond b (lookup (λ s. nat_eq s q.stanza) l.rows) None)) (sym e) ∙ there) h
-      by false e = absurd (true≢false (sym (ap (λ b. is_some (cond b (lookup (λ s. nat_eq s q.stanza) l.rows) None)) (sym e) ∙ there)))
+      by true e = each_row l.serial (nat_same l.serial q.list e) l.slots (ap (λ b. is_some (cond b (lookup (λ s. nat_eq s q.stanza) l.slots) None)) (sym e) ∙ there) h
+      by false e = absurd (true≢false (sym (ap (λ b. is_some (cond b (lookup (λ s. nat_eq s q.stanza) l.slots) None)) (sym e) ∙ there)))
 
   -- what holds of all keys holds of a key that is held
   each_held : (ls : Lists) → IsSome (stanza_at q ls) → AllByRecursion P (all_keys ls) → P q
   each_held [] held h = absurd (true≢false (sym held))
-  each_held (l ∷ ls) held h = by (in_rows q l.1) refl (λ there. each_held ls there (all_back P (keys_of l.1) (all_keys ls) h))
+  each_held (l ∷ ls) held h = by (in_slots q l.1) refl (λ there. each_held ls there (all_back P (keys_of l.1) (all_keys ls) h))
     where
-      by : (o : Option Content) → in_rows q l.1 ≡ o → (IsSome (stanza_at q ls) → P q) → P q
+      by : (o : Option Content) → in_slots q l.1 ≡ o → (IsSome (stanza_at q ls) → P q) → P q
       by None e rest = rest (subst (λ (o : Option Content). IsSome (option_or o (stanza_at q ls))) e held)
       by (Some x) e rest = each_in l.1 (ap is_some e) (all_front P (keys_of l.1) (all_keys ls) h)
 
@@ -117,13 +117,13 @@ all_of Q so (name ∷ names) = (so name, all_of Q so names)
 -- ---- keys that the first list doesn't hold
 
 abbrev IsElsewhere : KeyedList → StanzaKey → Type 0
-IsElsewhere l q = is_some (in_rows q l) ≡ false
+IsElsewhere l q = is_some (in_slots q l) ≡ false
 
 module _ (l : List ℕ × KeyedList) (ls : Lists) where
   held_behind : (q : StanzaKey) → IsElsewhere l.1 q → IsSome (stanza_at q (l ∷ ls)) → IsSome (stanza_at q ls)
-  held_behind q away held = by (in_rows q l.1) refl
+  held_behind q away held = by (in_slots q l.1) refl
     where
-      by : (o : Option Content) → in_rows q l.1 ≡ o → IsSome (stanza_at q ls)
+      by : (o : Option Content) → in_slots q l.1 ≡ o → IsSome (stanza_at q ls)
       by None e = subst (λ (o : Option Content). IsSome (option_or o (stanza_at q ls))) e held
       by (Some x) e = absurd (true≢false (ap is_some (sym e) ∙ away))
 
@@ -146,9 +146,9 @@ module _ (l : List ℕ × KeyedList) (ls : Lists) where
 
   module _ (rising : AreRising (keys_of l.1 ++ all_keys ls)) where
     later_elsewhere : (k q : StanzaKey) → IsSome (stanza_at k ls) → key_cmp k q ≡ Less → IsElsewhere l.1 q
-    later_elsewhere k q held below = by (is_some (in_rows q l.1)) refl
+    later_elsewhere k q held below = by (is_some (in_slots q l.1)) refl
       where
-        by : (b : Bool) → is_some (in_rows q l.1) ≡ b → is_some (in_rows q l.1) ≡ false
+        by : (b : Bool) → is_some (in_slots q l.1) ≡ b → is_some (in_slots q l.1) ≡ false
         by true e =
             absurd (not_both k q below (each_held (λ y. key_cmp q y ≡ Less) k ls held
             (each_in (λ x. AllByRecursion (λ y. key_cmp x y ≡ Less) (all_keys ls)) q l.1 e (rise_apart (keys_of l.1) (all_keys ls) rising))))
@@ -160,11 +160,11 @@ module _ (l : List ℕ × KeyedList) (ls : Lists) where
 
     module _ (apart : AllByRecursion (λ y. bytes_eq l.0 y ≡ false) (names_of ls))
         (others : (keys : List StanzaKey) → AreRising keys → AreHeld keys ls → holders_behind ls None keys ≡ sources_of keys ls) where
-      here : (k : StanzaKey) → is_some (in_rows k l.1) ≡ true → holder_of k (l ∷ ls) ≡ Some l.0
+      here : (k : StanzaKey) → is_some (in_slots k l.1) ≡ true → holder_of k (l ∷ ls) ≡ Some l.0
       here k e = ap (λ b. cond b (Some l.0) (holder_of k ls)) e
 
       -- a key more that the first list holds
-      again : (k : StanzaKey) (ks : List StanzaKey) → is_some (in_rows k l.1) ≡ true → holders_behind (l ∷ ls) (Some l.0) (k ∷ ks) ≡ holders_behind (l ∷ ls) (Some l.0) ks
+      again : (k : StanzaKey) (ks : List StanzaKey) → is_some (in_slots k l.1) ≡ true → holders_behind (l ∷ ls) (Some l.0) (k ∷ ks) ≡ holders_behind (l ∷ ls) (Some l.0) ks
       again k ks e =
           ap (λ (o : Option (List ℕ)). holder_then (Some l.0) o (λ next. holders_behind (l ∷ ls) next ks)) (here k e)
           ∙ ap (λ b. cond b (holders_behind (l ∷ ls) (Some l.0) ks) (l.0 ∷ holders_behind (l ∷ ls) (Some l.0) ks)) (itself l.0)
@@ -181,9 +181,9 @@ module _ (l : List ℕ × KeyedList) (ls : Lists) where
       of_next : (keys : List StanzaKey) → AreRising keys → AreHeld keys (l ∷ ls) →
           holders_behind (l ∷ ls) (Some l.0) keys ≡ filter (λ (name : List ℕ). is_source name (l ∷ ls) keys) (names_of ls)
       of_next [] rise held = sym (filter_none (names_of ls))
-      of_next (k ∷ ks) rise held = by (is_some (in_rows k l.1)) refl (of_next ks rise.1 held.1)
+      of_next (k ∷ ks) rise held = by (is_some (in_slots k l.1)) refl (of_next ks rise.1 held.1)
         where
-          by : (b : Bool) → is_some (in_rows k l.1) ≡ b → holders_behind (l ∷ ls) (Some l.0) ks ≡ filter (λ (name : List ℕ). is_source name (l ∷ ls) ks) (names_of ls) →
+          by : (b : Bool) → is_some (in_slots k l.1) ≡ b → holders_behind (l ∷ ls) (Some l.0) ks ≡ filter (λ (name : List ℕ). is_source name (l ∷ ls) ks) (names_of ls) →
               holders_behind (l ∷ ls) (Some l.0) (k ∷ ks) ≡ filter (λ (name : List ℕ). is_source name (l ∷ ls) (k ∷ ks)) (names_of ls)
           by true e rest =
               again k ks e ∙ rest
@@ -196,9 +196,9 @@ module _ (l : List ℕ × KeyedList) (ls : Lists) where
 
       of_all : (keys : List StanzaKey) → AreRising keys → AreHeld keys (l ∷ ls) → holders_behind (l ∷ ls) None keys ≡ sources_of keys (l ∷ ls)
       of_all [] rise held = sym (filter_none (names_of ls))
-      of_all (k ∷ ks) rise held = by (is_some (in_rows k l.1)) refl
+      of_all (k ∷ ks) rise held = by (is_some (in_slots k l.1)) refl
         where
-          by : (b : Bool) → is_some (in_rows k l.1) ≡ b → holders_behind (l ∷ ls) None (k ∷ ks) ≡ sources_of (k ∷ ks) (l ∷ ls)
+          by : (b : Bool) → is_some (in_slots k l.1) ≡ b → holders_behind (l ∷ ls) None (k ∷ ks) ≡ sources_of (k ∷ ks) (l ∷ ls)
           by true e =
               let rest : List (List ℕ) = filter (λ (name : List ℕ). is_source name (l ∷ ls) (k ∷ ks)) (names_of ls) in
               ap (λ (o : Option (List ℕ)). holder_then None o (λ next. holders_behind (l ∷ ls) next ks)) (here k e)

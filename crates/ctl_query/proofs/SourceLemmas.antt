@@ -7,7 +7,7 @@ use Rattle.std.specs.Str.{bytes_eq}
 use Rattle.std.proofs.lemmas.Bool.{true≢false}
 use Rattle.std.proofs.lemmas.Slice.Eq.{bytes_eq-Decides}
 use Rattle.ctl_store.specs.declared.stanza_key.StanzaKey.{StanzaKey}
-use Rattle.ctl_store.specs.Keys.{KeyedList, holder_of, in_rows, stanza_lists}
+use Rattle.ctl_store.specs.Keys.{KeyedList, holder_of, in_slots, stanza_lists}
 
 abbrev Lists : Type 0
 Lists = List (List ℕ × KeyedList)
@@ -34,9 +34,9 @@ turned a b other = by (bytes_eq b a) refl
 -- a name that holds a key is among those that are apart from another
 pub held_apart : (key : StanzaKey) (name other : List ℕ) (lists : Lists) → holder_of key lists ≡ Some name → AllByRecursion (λ y. bytes_eq other y ≡ false) (names_of lists) → bytes_eq other name ≡ false
 held_apart key name other [] held apart = absurd (true≢false (sym (ap is_there held)))
-held_apart key name other (l ∷ lists) held apart = by (is_some (in_rows key l.1)) refl (λ h. held_apart key name other lists h apart.1)
+held_apart key name other (l ∷ lists) held apart = by (is_some (in_slots key l.1)) refl (λ h. held_apart key name other lists h apart.1)
   where
-    by : (b : Bool) → is_some (in_rows key l.1) ≡ b → (holder_of key lists ≡ Some name → bytes_eq other name ≡ false) → bytes_eq other name ≡ false
+    by : (b : Bool) → is_some (in_slots key l.1) ≡ b → (holder_of key lists ≡ Some name → bytes_eq other name ≡ false) → bytes_eq other name ≡ false
     by true e rest = ap (bytes_eq other) (sym (ap (or_else name) (ap (λ b. cond b (Some l.0) (holder_of key lists)) (sym e) ∙ held))) ∙ apart.0
     by false e rest = rest (ap (λ b. cond b (Some l.0) (holder_of key lists)) (sym e) ∙ held)
 

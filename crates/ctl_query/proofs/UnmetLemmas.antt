@@ -16,7 +16,7 @@ use Rattle.ctl_store.specs.Followed.{under}
 use Rattle.ctl_store.specs.Store.{Held, keyed_of}
 use Rattle.ctl_index.specs.declared.keys.ClauseKey.{ClauseKey}
 use Rattle.ctl_index.specs.Clauses.{clause_fields, is_clause_field, clause_of, clause_at, number_at, is_unmet, group_keys, clauses_of, clauses, unmet_clauses}
-use Rattle.ctl_index.specs.Held.{standing}
+use Rattle.ctl_index.specs.HeldCache.{standing}
 use Rattle.ctl_index.specs.Offers.{contents, offers_among}
 use Rattle.ctl_policy.specs.Priority.{world_of}
 use Rattle.ctl_query.specs.Interest.{is_of_package, has_unmet}

@@ -44,11 +44,11 @@ providers world atom =
 abbrev pub is_kept : World → Bool → List ℕ → Bool
 is_kept world installed name = not installed || is_installed world name
 
-abbrev pub kept_of : World → Bool → List (List ℕ) → List (List ℕ)
-kept_of world installed names = filter (is_kept world installed) names
+abbrev pub names_kept : World → Bool → List (List ℕ) → List (List ℕ)
+names_kept world installed names = filter (is_kept world installed) names
 
 abbrev pub providers_kept : World → Bool → AtomParts → List (List ℕ)
-providers_kept world installed atom = kept_of world installed (providers world atom)
+providers_kept world installed atom = names_kept world installed (providers world atom)
 
 -- Whether an atom has lines: with `--installed` it has where a row of its name is installed or a provider is kept.
 abbrev pub has_lines : World → Bool → AtomParts → Bool

@@ -13,7 +13,7 @@ use Rattle.ctl_store.specs.Store.{Held, keyed_of}
 use Rattle.ctl_index.specs.declared.keys.AtomKey.{AtomKey}
 use Rattle.ctl_index.specs.declared.keys.ClauseKey.{ClauseKey}
 use Rattle.ctl_index.specs.Clauses.{unmet_clauses}
-use Rattle.ctl_index.specs.Held.{standing}
+use Rattle.ctl_index.specs.HeldCache.{standing}
 use Rattle.ctl_index.specs.Names.{namers_named}
 use Rattle.ctl_index.specs.Offers.{offers_named}
 use Rattle.ctl_query.specs.Packages.{is_none_of}

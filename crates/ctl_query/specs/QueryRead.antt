@@ -3,7 +3,7 @@ use Rattle.std.specs.Prelude.{◌≡◌, ◌⊎◌, map, Bool, true, false, Resu
 use Rattle.ctl_store.specs.declared.refusal.Refusal.{Refusal}
 use Rattle.ctl_store.specs.declared.refusal.Refusal.TheVariants as refusal
 use Rattle.ctl_filter.specs.Query.{asks_expression}
-use Rattle.ctl_filter.specs.Held.{query_of as asked_by}
+use Rattle.ctl_filter.specs.HeldQuery.{query_of as asked_by}
 use Rattle.ctl_query.specs.Asked.{asked_row}
 use Rattle.ctl_query.specs.Query.{Query, PackageNames, Show, Depends, ReverseDepends, Unmet, Policy, ShowPackage, Filter}
 use Rattle.ctl_query.specs.declared.query.Query.{Query as HeldQuery}

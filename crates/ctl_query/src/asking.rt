@@ -10,7 +10,7 @@ ghost use Rattle.ctl_store.specs.Entries.{Entry};
 ghost use Rattle.ctl_store.specs.Followed.{under};
 ghost use Rattle.ctl_store.specs.Keys.{AreHeld, AreRising};
 ghost use Rattle.ctl_index.specs.Clauses.{clause_at, number_at, unmet_clauses};
-ghost use Rattle.ctl_index.specs.Held.{standing};
+ghost use Rattle.ctl_index.specs.HeldCache.{standing};
 ghost use Rattle.ctl_index.specs.Names.{is_package, namers_named};
 ghost use Rattle.ctl_index.specs.Offers.{offers_named};
 ghost use Rattle.ctl_policy.specs.Candidate.{candidate_of};

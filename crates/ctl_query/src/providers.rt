@@ -3,7 +3,7 @@
 ghost use Rattle.std.specs.Prelude.{◌≡◌, ◌++◌, ◌+◌, ◌≤◌, ◌||◌, ℕ, List, OnOk, IfOk, false, not, flat_map, count_by};
 ghost use Rattle.std.specs.Str.{bytes_eq};
 ghost use Rattle.ctl_policy.specs.Priority.{world_of};
-ghost use Rattle.ctl_query.specs.Depends.{is_kept, kept_of, providers, atom_pairs, provider_line};
+ghost use Rattle.ctl_query.specs.Depends.{is_kept, names_kept, providers, atom_pairs, provider_line};
 ghost use Rattle.ctl_query.specs.NameSet.{lent_names, is_among};
 ghost use Rattle.ctl_query.specs.Packages.{has_row, is_none_of};
 ghost use Rattle.ctl_query.specs.Providers.{gives, makes_row};
@@ -80,7 +80,7 @@ fn is_kept(asking: &Asking<'_>, installed: bool, name: &[u8]) -> bool
 
 /// Whether any of some names is kept.
 pub(crate) fn is_any_kept(asking: &Asking<'_>, installed: bool, names: &BTreeSet<&[u8]>) -> bool
-    ensures { result ≡ not (is_none_of (kept_of (world_of asking.now) installed (lent_names names.now.keys))) }
+    ensures { result ≡ not (is_none_of (names_kept (world_of asking.now) installed (lent_names names.now.keys))) }
 {
     'names: for name in names {
         if is_kept(asking, installed, name) {
@@ -98,7 +98,7 @@ pub(crate) fn append_providers(
     out: &mut Vec<u8>,
 ) -> Result<(), AllocError>
     ensures { OnOk result (out.new.items ≡ out.old.items
-        ++ flat_map provider_line (kept_of (world_of asking.now) installed (lent_names names.now.keys))) }
+        ++ flat_map provider_line (names_kept (world_of asking.now) installed (lent_names names.now.keys))) }
 {
     'names: for name in names {
         if is_kept(asking, installed, name) {

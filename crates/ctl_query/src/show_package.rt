@@ -5,7 +5,7 @@ ghost use Rattle.std.specs.List.{AllByRecursion};
 ghost use Rattle.std.specs.List.Sorted.{IsPermutation};
 ghost use Rattle.ctl_store.specs.Store.{keyed_of};
 ghost use Rattle.ctl_store.specs.Keys.{AreHeld, AreRising};
-ghost use Rattle.ctl_index.specs.Held.{standing};
+ghost use Rattle.ctl_index.specs.HeldCache.{standing};
 ghost use Rattle.ctl_index.specs.Names.{namers_named};
 ghost use Rattle.ctl_policy.specs.Priority.{world_of};
 ghost use Rattle.ctl_policy.specs.Rows.{sources_of};

@@ -2,7 +2,7 @@
 use Rattle.std.specs.Prelude.{◌≡◌, ℕ, ◌<◌, List, [], ◌∷◌, ◌++◌, Option, Bool, true, length, take}
 use Rattle.std.specs.Io.KnownBytes.{Consumes, IsAtEnd, Appends}
 use Rattle.ctl_stanza.specs.Lines.{text_of_lines}
-use Rattle.ctl_index.specs.Held.{HeldCache}
+use Rattle.ctl_index.specs.HeldCache.{HeldCache}
 use Rattle.ctl_session.specs.State.{CacheState, cache_state}
 use Rattle.ctl_session.specs.Script.{Command, commands_of, AreLines, IsWithin, whole_commands_of, whole_commands_in}
 use Rattle.ctl_session.specs.LineReading.{IsPast}

@@ -3,7 +3,7 @@ use Rattle.std.specs.Prelude.{ℕ}
 use Rattle.ctl_store.specs.declared.limits.Limits.{Limits}
 use Rattle.ctl_store.specs.State.{State}
 use Rattle.ctl_store.specs.Store.{state_of}
-use Rattle.ctl_index.specs.Held.{HeldCache}
+use Rattle.ctl_index.specs.HeldCache.{HeldCache}
 
 -- What commands work on: what a store holds, and its limits. The definitions of commands, outcomes and runs speak of it alone.
 pub record CacheState : Type 0 where

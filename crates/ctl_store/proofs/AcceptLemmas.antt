@@ -118,9 +118,9 @@ drop_found limits s name e = some_of (at_name name s.lists) (no_refusal _ _ (acc
 pub count_below : (s : State) (name : List ℕ) (l : StanzaList) → at_name name s.lists ≡ Some l → length l.stanzas ≤ stanza_count s.lists
 count_below s name l e = omega (arith, count-without name s.lists l e)
 
-rows_count : (list : ℕ) (rows : List (ℕ × Content)) → length (map (λ (row : ℕ × Content). key_of list row.0) rows) ≡ length (stanzas_of rows)
-rows_count list [] = refl
-rows_count list (row ∷ rows) = ap (λ n. suc n) (rows_count list rows)
+slots_count : (list : ℕ) (slots : List (ℕ × Content)) → length (map (λ (slot : ℕ × Content). key_of list slot.0) slots) ≡ length (stanzas_of slots)
+slots_count list [] = refl
+slots_count list (slot ∷ slots) = ap (λ n. suc n) (slots_count list slots)
 
 -- a list has as many keys as stanzas
 pub keys_count : (name : List ℕ) (ls : List (List ℕ × KeyedList)) (l : StanzaList) → at_name name (stanza_lists ls) ≡ Some l → length (all_in name ls) ≡ length l.stanzas
@@ -128,7 +128,7 @@ keys_count name ls l e = by (at_name name ls) (sym (at_name-stanza_lists name ls
   where
     by : (o : Option KeyedList) → option_map stanza_list o ≡ Some l → length (option_map_or keys_of o []) ≡ length l.stanzas
     by None e = cc e
-    by (Some k) e = rows_count k.serial k.rows ∙ ap (λ (l : StanzaList). length l.stanzas) (some_is e)
+    by (Some k) e = slots_count k.serial k.slots ∙ ap (λ (l : StanzaList). length l.stanzas) (some_is e)
 
 pub put_takes : (limits : Limits) (s : State) (list : List ℕ) (x : Content) → refusal_of limits s (Put list x) ≡ None → takes_kind x.kind list s.lists ≡ true
 put_takes limits s list x e = no_refusal _ _ (accepted_fits limits s (Put list x) e)

@@ -15,11 +15,11 @@ use Rattle.ctl_store.specs.declared.stanza_key.StanzaKey.{StanzaKey}
 use Rattle.ctl_store.specs.Named.{at_name, without_name, change_named}
 use Rattle.ctl_store.specs.Step.{place, remove_stanza, with_stanzas}
 use Rattle.ctl_store.specs.Edits.{Edit, AddList, DropList, Put, Remove}
-use Rattle.ctl_store.specs.Rows.{Rises, by_name_and_version, rows_from, replace_at, put_row_at, remove_row_at}
+use Rattle.ctl_store.specs.Slots.{Rises, by_name_and_version, slots_from, replace_at, put_slot_at, remove_slot_at}
 use Rattle.ctl_store.specs.Keys.{KeyedList, Keyed, stanzas_of, stanza_lists, key_of, keys_of, key_at, key_or_new, found_key, put_key, key_is, key_cmp, all_keys, AreRising, stanza_at, put_keyed, remove_keyed, list_of_stanzas, keyed_after, removed_of, added_of, coming, AreCome}
-use Rattle.ctl_store.specs.Entries.{Entry, rows_under, entries_in, entries_of, entry_keys, AreAt, is_among, without_keys, entries_by, entries_at, entries_coming, stanzas_in_order, lists_between, IsSpliced, IsChange}
-use Rattle.ctl_store.specs.Inside.Held.{InOrder}
-use Rattle.ctl_store.proofs.PlaceLemmas.{eq_is, lt_ne, Rises-rows_from, all_map, all_front, all_back, all_append}
+use Rattle.ctl_store.specs.Entries.{Entry, slots_under, entries_in, entries_of, entry_keys, AreAt, is_among, without_keys, entries_by, entries_at, entries_coming, stanzas_in_order, lists_between, IsSpliced, IsChange}
+use Rattle.ctl_store.specs.Inside.Sound.{InOrder}
+use Rattle.ctl_store.proofs.PlaceLemmas.{eq_is, lt_ne, Rises-slots_from, all_map, all_front, all_back, all_append}
 use Rattle.ctl_store.proofs.KeyLemmas.{keys_rise}
 use Rattle.ctl_store.proofs.ListedLemmas.{InOrder-weaken, in_order_push, in_order_without, in_order_change, Changes-put, Changes-remove, remove_list, change_lists, without_lists}
 use Rattle.ctl_store.proofs.ChangeLemmas.{come_law, is_itself, stanza_in}
@@ -61,47 +61,47 @@ before_tail b a q r k c =
     let s = c.spliced in
     cut s.head c.gone c.come (s.tail ++ q) (ap (λ z. z ++ q) s.before_is ∙ longer s.head c.gone s.tail q) (ap (λ z. z ++ q) s.after_is ∙ longer s.head c.come s.tail q) c.removed_are c.added_are
 
--- ---- rows
+-- ---- slots
 
-pub keys_under : (list : ℕ) (rows : List (ℕ × Content)) → entry_keys (rows_under list rows) ≡ map (λ (row : ℕ × Content). key_of list row.0) rows
+pub keys_under : (list : ℕ) (slots : List (ℕ × Content)) → entry_keys (slots_under list slots) ≡ map (λ (slot : ℕ × Content). key_of list slot.0) slots
 keys_under list [] = refl
-keys_under list (r ∷ rows) = ap (λ ks. key_of list r.0 ∷ ks) (keys_under list rows)
+keys_under list (r ∷ slots) = ap (λ ks. key_of list r.0 ∷ ks) (keys_under list slots)
 
 module _ (list : ℕ) where
   abbrev keys_there : ℕ → List (ℕ × Content) → List StanzaKey
-  keys_there i rows = map (λ (row : ℕ × Content). key_of list row.0) (take 1 (drop i rows))
+  keys_there i slots = map (λ (slot : ℕ × Content). key_of list slot.0) (take 1 (drop i slots))
 
-  replaced : (rows : List (ℕ × Content)) (i : ℕ) (x : Content) → Cut (rows_under list rows) (rows_under list (replace_at rows i x)) (keys_there i rows) (keys_there i rows)
+  replaced : (slots : List (ℕ × Content)) (i : ℕ) (x : Content) → Cut (slots_under list slots) (slots_under list (replace_at slots i x)) (keys_there i slots) (keys_there i slots)
   replaced [] zero x = uncut []
   replaced [] (suc i) x = uncut []
-  replaced (r ∷ rows) zero x = cut [] ((key_of list r.0, r.1) ∷ []) ((key_of list r.0, x) ∷ []) (rows_under list rows) refl refl refl refl
-  replaced (r ∷ rows) (suc i) x = after_head ((key_of list r.0, r.1) ∷ []) (rows_under list rows) (rows_under list (replace_at rows i x)) (keys_there i rows) (keys_there i rows) (replaced rows i x)
+  replaced (r ∷ slots) zero x = cut [] ((key_of list r.0, r.1) ∷ []) ((key_of list r.0, x) ∷ []) (slots_under list slots) refl refl refl refl
+  replaced (r ∷ slots) (suc i) x = after_head ((key_of list r.0, r.1) ∷ []) (slots_under list slots) (slots_under list (replace_at slots i x)) (keys_there i slots) (keys_there i slots) (replaced slots i x)
 
-  taken : (rows : List (ℕ × Content)) (i : ℕ) → Cut (rows_under list rows) (rows_under list (remove rows i)) (keys_there i rows) []
+  taken : (slots : List (ℕ × Content)) (i : ℕ) → Cut (slots_under list slots) (slots_under list (remove slots i)) (keys_there i slots) []
   taken [] zero = uncut []
   taken [] (suc i) = uncut []
-  taken (r ∷ rows) zero = cut [] ((key_of list r.0, r.1) ∷ []) [] (rows_under list rows) refl refl refl refl
-  taken (r ∷ rows) (suc i) = after_head ((key_of list r.0, r.1) ∷ []) (rows_under list rows) (rows_under list (remove rows i)) (keys_there i rows) [] (taken rows i)
+  taken (r ∷ slots) zero = cut [] ((key_of list r.0, r.1) ∷ []) [] (slots_under list slots) refl refl refl refl
+  taken (r ∷ slots) (suc i) = after_head ((key_of list r.0, r.1) ∷ []) (slots_under list slots) (slots_under list (remove slots i)) (keys_there i slots) [] (taken slots i)
 
-  pushed : (rows : List (ℕ × Content)) (next : ℕ) (x : Content) → Cut (rows_under list rows) (rows_under list (rows ++ (next, x) ∷ [])) [] (key_of list next ∷ [])
-  pushed rows next x =
-      cut (rows_under list rows) [] ((key_of list next, x) ∷ []) [] (sym (append-nil (rows_under list rows))) (map-append (λ (row : ℕ × Content). (key_of list row.0, row.1)) rows ((next, x) ∷ [])) refl refl
+  pushed : (slots : List (ℕ × Content)) (next : ℕ) (x : Content) → Cut (slots_under list slots) (slots_under list (slots ++ (next, x) ∷ [])) [] (key_of list next ∷ [])
+  pushed slots next x =
+      cut (slots_under list slots) [] ((key_of list next, x) ∷ []) [] (sym (append-nil (slots_under list slots))) (map-append (λ (slot : ℕ × Content). (key_of list slot.0, slot.1)) slots ((next, x) ∷ [])) refl refl
 
 -- ---- lists
 
 put_cut : (x : Content) (l : KeyedList) → Cut (entries_in l) (entries_in (put_keyed x l)) (found_key (package_of x) (version_of x) l) (put_key x l)
-put_cut x l = by (place (by_name_and_version (package_of x) (version_of x)) l.rows)
+put_cut x l = by (place (by_name_and_version (package_of x) (version_of x)) l.slots)
   where
-    by : (o : Option ℕ) → Cut (rows_under l.serial l.rows) (rows_under l.serial (put_row_at o x l.next l.rows)) (key_at l o) (key_or_new l o)
-    by None = pushed l.serial l.rows l.next x
-    by (Some i) = replaced l.serial l.rows i x
+    by : (o : Option ℕ) → Cut (slots_under l.serial l.slots) (slots_under l.serial (put_slot_at o x l.next l.slots)) (key_at l o) (key_or_new l o)
+    by None = pushed l.serial l.slots l.next x
+    by (Some i) = replaced l.serial l.slots i x
 
 remove_cut : (name : List ℕ) (version : Option (List ℕ)) (l : KeyedList) → Cut (entries_in l) (entries_in (remove_keyed name version l)) (found_key name version l) []
-remove_cut name version l = by (place (by_name_and_version name version) l.rows)
+remove_cut name version l = by (place (by_name_and_version name version) l.slots)
   where
-    by : (o : Option ℕ) → Cut (rows_under l.serial l.rows) (rows_under l.serial (remove_row_at o l.rows)) (key_at l o) []
-    by None = uncut (rows_under l.serial l.rows)
-    by (Some i) = taken l.serial l.rows i
+    by : (o : Option ℕ) → Cut (slots_under l.serial l.slots) (slots_under l.serial (remove_slot_at o l.slots)) (key_at l o) []
+    by None = uncut (slots_under l.serial l.slots)
+    by (Some i) = taken l.serial l.slots i
 
 module _ (name : List ℕ) (f : KeyedList → KeyedList) (r k : KeyedList → List StanzaKey) (each : (l : KeyedList) → Cut (entries_in l) (entries_in (f l)) (r l) (k l)) where
   changed : (ls : List (List ℕ × KeyedList)) → Cut (entries_of ls) (entries_of (change_named name f ls)) (option_map_or r (at_name name ls) []) (option_map_or k (at_name name ls) [])
@@ -125,7 +125,7 @@ dropped name (l ∷ ls) = by (bytes_eq name l.0) (dropped name ls)
   where
     by : (b : Bool) → Cut (entries_of ls) (entries_of (without_name name ls)) (option_map_or keys_of (at_name name ls) []) []
         → Cut (entries_of (l ∷ ls)) (entries_of (cond b ls (l ∷ without_name name ls))) (option_map_or keys_of (cond b (Some l.1) (at_name name ls)) []) []
-    by true c = cut [] (entries_in l.1) [] (entries_of ls) refl refl (keys_under l.1.serial l.1.rows) refl
+    by true c = cut [] (entries_in l.1) [] (entries_of ls) refl refl (keys_under l.1.serial l.1.slots) refl
     by false c = after_head (entries_in l.1) (entries_of ls) (entries_of (without_name name ls)) (option_map_or keys_of (at_name name ls) []) [] c
 
 last_entries : (ls : List (List ℕ × KeyedList)) (name : List ℕ) (l : KeyedList) → entries_of (ls ++ (name, l) ∷ []) ≡ entries_of ls ++ (entries_in l ++ [])
@@ -133,7 +133,7 @@ last_entries [] name l = refl
 last_entries (x ∷ ls) name l = ap (λ es. entries_in x.1 ++ es) (last_entries ls name l) ∙ sym (append_assoc (entries_in x.1) (entries_of ls) (entries_in l ++ []))
 
 new_cut : (ls : List (List ℕ × KeyedList)) (name : List ℕ) (l : KeyedList) → Cut (entries_of ls) (entries_of (ls ++ (name, l) ∷ [])) [] (keys_of l)
-new_cut ls name l = cut (entries_of ls) [] (entries_in l) [] (sym (append-nil (entries_of ls))) (last_entries ls name l) refl (keys_under l.serial l.rows)
+new_cut ls name l = cut (entries_of ls) [] (entries_in l) [] (sym (append-nil (entries_of ls))) (last_entries ls name l) refl (keys_under l.serial l.slots)
 
 -- a change that takes out a stanza of a name and a version
 taken_cut : (list name : List ℕ) (version : Option (List ℕ)) (ls : List (List ℕ × KeyedList)) → Cut (entries_of ls) (entries_of (change_named list (remove_keyed name version) ls)) (option_map_or (found_key name version) (at_name list ls) []) []
@@ -152,19 +152,19 @@ edit_cut s edit = uncut (entries_of s.lists)
 
 pub keys_are_all : (ls : List (List ℕ × KeyedList)) → entry_keys (entries_of ls) ≡ all_keys ls
 keys_are_all [] = refl
-keys_are_all (l ∷ ls) = map-append (λ (e : Entry). e.0) (entries_in l.1) (entries_of ls) ∙ ap (λ ks. ks ++ entry_keys (entries_of ls)) (keys_under l.1.serial l.1.rows) ∙ ap (λ ks. keys_of l.1 ++ ks) (keys_are_all ls)
+keys_are_all (l ∷ ls) = map-append (λ (e : Entry). e.0) (entries_in l.1) (entries_of ls) ∙ ap (λ ks. ks ++ entry_keys (entries_of ls)) (keys_under l.1.serial l.1.slots) ∙ ap (λ ks. keys_of l.1 ++ ks) (keys_are_all ls)
 
 -- an entry of a list, from a serial on, with the stanza of its key
-record IsIn (list n : ℕ) (rows : List (ℕ × Content)) (e : Entry) : Type 0 where
+record IsIn (list n : ℕ) (slots : List (ℕ × Content)) (e : Entry) : Type 0 where
   list_is : list ≡ e.0.list
   from : n ≤ e.0.stanza
-  found : stanza_in e.0.stanza rows ≡ Some e.1
+  found : stanza_in e.0.stanza slots ≡ Some e.1
 
-rows_found : (list n : ℕ) (rows : List (ℕ × Content)) (m : ℕ) → Rises n rows m → AllByRecursion (IsIn list n rows) (rows_under list rows)
-rows_found list n [] m h = tt
-rows_found list n (r ∷ rows) m h = (
-  record { list_is = refl; from = h.0; found = ap (λ b. cond b (Some r.1) (stanza_in r.0 rows)) (eq_is r.0 r.0 refl) },
-  all_map (λ e g. record { list_is = g.list_is; from = omega (arith, h.0, g.from); found = ap (λ b. cond b (Some r.1) (stanza_in e.0.stanza rows)) (lt_ne r.0 e.0.stanza (omega (arith, g.from))) ∙ g.found }) (rows_under list rows) (rows_found list (suc r.0) rows m h.1),
+slots_found : (list n : ℕ) (slots : List (ℕ × Content)) (m : ℕ) → Rises n slots m → AllByRecursion (IsIn list n slots) (slots_under list slots)
+slots_found list n [] m h = tt
+slots_found list n (r ∷ slots) m h = (
+  record { list_is = refl; from = h.0; found = ap (λ b. cond b (Some r.1) (stanza_in r.0 slots)) (eq_is r.0 r.0 refl) },
+  all_map (λ e g. record { list_is = g.list_is; from = omega (arith, h.0, g.from); found = ap (λ b. cond b (Some r.1) (stanza_in e.0.stanza slots)) (lt_ne r.0 e.0.stanza (omega (arith, g.from))) ∙ g.found }) (slots_under list slots) (slots_found list (suc r.0) slots m h.1),
 )
 
 record IsFound (n : ℕ) (ls : List (List ℕ × KeyedList)) (e : Entry) : Type 0 where
@@ -175,8 +175,8 @@ all_found : (n : ℕ) (ls : List (List ℕ × KeyedList)) (m e : ℕ) → InOrde
 all_found n [] m e h = tt
 all_found n (x ∷ ls) m e h =
     all_append (IsFound n (x ∷ ls)) (entries_in x.1) (entries_of ls)
-    (all_map (λ q g. record { from = omega (arith, h.0, g.list_is); found = ap (λ b. option_or (cond b (stanza_in q.0.stanza x.1.rows) None) (stanza_at q.0 ls)) (eq_is x.1.serial q.0.list g.list_is) ∙ ap (λ o. option_or o (stanza_at q.0 ls)) g.found }) (entries_in x.1) (rows_found x.1.serial 0 x.1.rows x.1.next h.2))
-    (all_map (λ q g. record { from = omega (arith, h.0, g.from); found = ap (λ b. option_or (cond b (stanza_in q.0.stanza x.1.rows) None) (stanza_at q.0 ls)) (lt_ne x.1.serial q.0.list (omega (arith, g.from))) ∙ g.found }) (entries_of ls) (all_found (suc x.1.serial) ls m e h.3))
+    (all_map (λ q g. record { from = omega (arith, h.0, g.list_is); found = ap (λ b. option_or (cond b (stanza_in q.0.stanza x.1.slots) None) (stanza_at q.0 ls)) (eq_is x.1.serial q.0.list g.list_is) ∙ ap (λ o. option_or o (stanza_at q.0 ls)) g.found }) (entries_in x.1) (slots_found x.1.serial 0 x.1.slots x.1.next h.2))
+    (all_map (λ q g. record { from = omega (arith, h.0, g.from); found = ap (λ b. option_or (cond b (stanza_in q.0.stanza x.1.slots) None) (stanza_at q.0 ls)) (lt_ne x.1.serial q.0.list (omega (arith, g.from))) ∙ g.found }) (entries_of ls) (all_found (suc x.1.serial) ls m e h.3))
 
 pub entries_found : (n : ℕ) (ls : List (List ℕ × KeyedList)) (m e : ℕ) → InOrder n ls m e → AreAt (entries_of ls) ls
 entries_found n ls m e h = all_map (λ q g. g.found) (entries_of ls) (all_found n ls m e h)
@@ -247,7 +247,7 @@ between (e ∷ head) gone tail h =
 pub order_after : (s : Keyed) (e : ℕ) → InOrder 0 s.lists s.next_list e → (edit : Edit) → (n : ℕ) × InOrder 0 (keyed_after s edit).lists (keyed_after s edit).next_list n
 order_after s e order (AddList name kind class stanzas) = (
   e + length stanzas + 1,
-  in_order_push 0 s.lists s.next_list (e + length stanzas) name (list_of_stanzas s.next_list kind class stanzas) refl (omega arith) (subst (λ m. Rises 0 (rows_from 0 stanzas) m) (let z : 0 + length stanzas ≡ length stanzas = omega arith in z) (Rises-rows_from 0 stanzas)) (InOrder-weaken 0 0 s.lists s.next_list e (e + length stanzas) (omega arith) (omega arith) order),
+  in_order_push 0 s.lists s.next_list (e + length stanzas) name (list_of_stanzas s.next_list kind class stanzas) refl (omega arith) (subst (λ m. Rises 0 (slots_from 0 stanzas) m) (let z : 0 + length stanzas ≡ length stanzas = omega arith in z) (Rises-slots_from 0 stanzas)) (InOrder-weaken 0 0 s.lists s.next_list e (e + length stanzas) (omega arith) (omega arith) order),
 )
 order_after s e order (DropList name) = (e + 1, in_order_without 0 s.lists s.next_list e name order)
 order_after s e order (Put list x) = (e + 1, in_order_change 0 s.lists s.next_list e list (put_keyed x) (Changes-put x) order)
@@ -282,14 +282,14 @@ rest_is b a r k c rising = grind (arith, between)
 rest_only : (b a : List Entry) (r : List StanzaKey) (c : Cut b a r []) → AreRising (entry_keys b) → without_keys r b ≡ a
 rest_only b a r c rising = rest_is b a r [] c rising ∙ ap (λ come. c.spliced.head ++ (come ++ c.spliced.tail)) (sym (no_entries c.come c.added_are)) ∙ sym c.spliced.after_is
 
-row_contents : (list : ℕ) (rows : List (ℕ × Content)) → map (λ (e : Entry). e.1) (rows_under list rows) ≡ stanzas_of rows
-row_contents list [] = refl
-row_contents list (r ∷ rows) = ap (λ xs. r.1 ∷ xs) (row_contents list rows)
+slot_contents : (list : ℕ) (slots : List (ℕ × Content)) → map (λ (e : Entry). e.1) (slots_under list slots) ≡ stanzas_of slots
+slot_contents list [] = refl
+slot_contents list (r ∷ slots) = ap (λ xs. r.1 ∷ xs) (slot_contents list slots)
 
 -- the stanzas without their keys
 contents_are : (ls : List (List ℕ × KeyedList)) → map (λ (e : Entry). e.1) (entries_of ls) ≡ stanzas_in_order (stanza_lists ls)
 contents_are [] = refl
-contents_are (l ∷ ls) = map-append (λ (e : Entry). e.1) (entries_in l.1) (entries_of ls) ∙ ap (λ xs. xs ++ map (λ (e : Entry). e.1) (entries_of ls)) (row_contents l.1.serial l.1.rows) ∙ ap (λ xs. stanzas_of l.1.rows ++ xs) (contents_are ls)
+contents_are (l ∷ ls) = map-append (λ (e : Entry). e.1) (entries_in l.1) (entries_of ls) ∙ ap (λ xs. xs ++ map (λ (e : Entry). e.1) (entries_of ls)) (slot_contents l.1.serial l.1.slots) ∙ ap (λ xs. stanzas_of l.1.slots ++ xs) (contents_are ls)
 
 lists_are : (ls : List (List ℕ × KeyedList)) (edit : Edit) → stanza_lists (keyed_between ls edit) ≡ lists_between (stanza_lists ls) edit
 lists_are ls (DropList name) = without_lists name ls

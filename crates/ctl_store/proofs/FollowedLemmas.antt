@@ -4,7 +4,7 @@ use Rattle.std.specs.List.{AllByRecursion, slice_get, list_any}
 use Rattle.ctl_stanza.specs.Content.{Content, package_of, version_of}
 use Rattle.ctl_store.specs.declared.stanza_key.StanzaKey.{StanzaKey}
 use Rattle.ctl_store.specs.Edits.{Edit, AddList, DropList, Put, Remove}
-use Rattle.ctl_store.specs.Rows.{rows_from, Rises}
+use Rattle.ctl_store.specs.Slots.{slots_from, Rises}
 use Rattle.ctl_store.specs.Keys.{Keyed, key_of, added_of, AreComing, KeyedList, key_cmp, key_is, put_key, all_keys, AreRising, stanza_at, coming, found_key, put_keyed, remove_keyed, list_of_stanzas, keyed_after, removed_of}
 use Rattle.std.specs.Map.{lookup}
 use Rattle.std.specs.Option.{option_or, option_map_or}
@@ -13,9 +13,9 @@ use Rattle.std.proofs.lemmas.Bool.{or_left, or_right, and_from, and_parts, ltb-t
 use Rattle.std.proofs.lemmas.Bool.Decides.{nat_tests}
 use Rattle.std.proofs.lemmas.List.Sums.{sum_by-append}
 use Rattle.ctl_store.specs.Named.{at_name, without_name, change_named}
-use Rattle.ctl_store.specs.Entries.{Entry, rows_under, entries_in, entries_of, entry_keys, AreAt, is_among, without_keys, entries_by, entries_coming, IsChange}
+use Rattle.ctl_store.specs.Entries.{Entry, slots_under, entries_in, entries_of, entry_keys, AreAt, is_among, without_keys, entries_by, entries_coming, IsChange}
 use Rattle.ctl_store.specs.Followed.{under, AreApart, AreDistinctKeys, coming_under, shown_under, IsFollowed}
-use Rattle.ctl_store.specs.Inside.Held.{coming_among, InOrder}
+use Rattle.ctl_store.specs.Inside.Sound.{coming_among, InOrder}
 use Rattle.ctl_store.proofs.PlaceLemmas.{is_eq_from, gt_ne, all_map, all_zip, all_append, all_front, all_back, turned}
 use Rattle.ctl_store.proofs.EntryLemmas.{keys_are_all, less_is_no_other, order_after}
 use Rattle.ctl_store.proofs.ChangeLemmas.{is_itself, ends}
@@ -23,7 +23,7 @@ use Rattle.ctl_store.specs.Given.{was_given, is_given, AreFirstGiven, IsGivenOnc
 use Rattle.ctl_store.proofs.KeyLemmas.{none_later}
 use Rattle.ctl_ordered.proofs.SlotLemmas.{rises_end}
 
-each_there : (list n : ℕ) (all xs : List Content) → ((k : ℕ) → slice_get all (n + k) ≡ slice_get xs k) → AllByRecursion (λ (k : StanzaKey). IsSome (slice_get all k.stanza)) (map (λ (row : ℕ × Content). key_of list row.0) (rows_from n xs))
+each_there : (list n : ℕ) (all xs : List Content) → ((k : ℕ) → slice_get all (n + k) ≡ slice_get xs k) → AllByRecursion (λ (k : StanzaKey). IsSome (slice_get all k.stanza)) (map (λ (slot : ℕ × Content). key_of list slot.0) (slots_from n xs))
 each_there list n all [] h = tt
 each_there list n all (x ∷ xs) h = (
   subst IsSome (sym (ap (slice_get all) (let z : n ≡ n + 0 = omega arith in z) ∙ h 0)) refl,
@@ -50,14 +50,14 @@ pub under-append : (k : StanzaKey) (xs ys : List Entry) → under k (xs ++ ys) �
 under-append k [] ys = refl
 under-append k (x ∷ xs) ys = grind (arith, under-append k xs ys)
 
-in_list : (k : StanzaKey) (serial : ℕ) (rows : List (ℕ × Content)) → under k (rows_under serial rows) ≡ cond (nat_eq serial k.list) (lookup (λ s. nat_eq s k.stanza) rows) None
+in_list : (k : StanzaKey) (serial : ℕ) (slots : List (ℕ × Content)) → under k (slots_under serial slots) ≡ cond (nat_eq serial k.list) (lookup (λ s. nat_eq s k.stanza) slots) None
 in_list k serial [] = grind arith
-in_list k serial (row ∷ rows) = grind (arith, in_list k serial rows)
+in_list k serial (slot ∷ slots) = grind (arith, in_list k serial slots)
 
 -- the stanza of a key is the one under it
 pub stanza_under : (k : StanzaKey) (ls : List (List ℕ × KeyedList)) → stanza_at k ls ≡ under k (entries_of ls)
 stanza_under k [] = refl
-stanza_under k (l ∷ ls) = (λ i. option_or (sym (in_list k l.1.serial l.1.rows) i) (stanza_under k ls i)) ∙ sym (under-append k (entries_in l.1) (entries_of ls))
+stanza_under k (l ∷ ls) = (λ i. option_or (sym (in_list k l.1.serial l.1.slots) i) (stanza_under k ls i)) ∙ sym (under-append k (entries_in l.1) (entries_of ls))
 
 own_under : (es : List Entry) → AreApart es → AllByRecursion (λ (e : Entry). under e.0 es ≡ Some e.1) es
 own_under [] h = tt
@@ -155,7 +155,7 @@ module _ (k : StanzaKey) where
   Comes edit added = coming_among edit added k ≡ coming_under added edit k
 
   abbrev new_keys : ℕ → ℕ → List Content → List StanzaKey
-  new_keys serial n xs = map (λ (row : ℕ × Content). key_of serial row.0) (rows_from n xs)
+  new_keys serial n xs = map (λ (slot : ℕ × Content). key_of serial slot.0) (slots_from n xs)
 
   no_list : (serial n : ℕ) (xs : List Content) → nat_eq serial k.list ≡ false → list_any (key_is k) (new_keys serial n xs) ≡ false
   no_list serial n [] h = refl
@@ -290,9 +290,9 @@ module _ (k : StanzaKey) where
 
   -- ---- a key that has a stanza was given
 
-  row_below : (n : ℕ) (rs : List (ℕ × Content)) (m : ℕ) → Rises n rs m → IsSome (lookup (λ s. nat_eq s k.stanza) rs) → k.stanza < m
-  row_below n [] m h some = absurd (let z : ⊥ = cc some in z)
-  row_below n (r ∷ rs) m h some = grind (arith, is_eq_from, rises_end, row_below (suc r.0) rs m h.1)
+  slot_below : (n : ℕ) (rs : List (ℕ × Content)) (m : ℕ) → Rises n rs m → IsSome (lookup (λ s. nat_eq s k.stanza) rs) → k.stanza < m
+  slot_below n [] m h some = absurd (let z : ⊥ = cc some in z)
+  slot_below n (r ∷ rs) m h some = grind (arith, is_eq_from, rises_end, slot_below (suc r.0) rs m h.1)
 
   -- lists with higher serials gave no other
   later_given : (n : ℕ) (ls : List (List ℕ × KeyedList)) (m e : ℕ) → k.list < n → InOrder n ls m e → was_given k ls ≡ true
@@ -304,7 +304,7 @@ module _ (k : StanzaKey) where
 
   held_in : (n : ℕ) (ls : List (List ℕ × KeyedList)) (m e : ℕ) → InOrder n ls m e → IsSome (stanza_at k ls) → (k.list < m) × (was_given k ls ≡ true)
   held_in n [] m e h some = absurd (let z : ⊥ = cc some in z)
-  held_in n (x ∷ ls) m e h some = grind (arith, k, is_eq_from, none_later, row_below, or_none, ends, and_from, lt_is, later_given, held_in (suc x.1.serial) ls m e h.3)
+  held_in n (x ∷ ls) m e h some = grind (arith, k, is_eq_from, none_later, slot_below, or_none, ends, and_from, lt_is, later_given, held_in (suc x.1.serial) ls m e h.3)
 
   held_given : (s : Keyed) (e : ℕ) → InOrder 0 s.lists s.next_list e → IsSome (stanza_at k s.lists) → is_given s k ≡ true
   held_given s e order some = grind (arith, held_in, and_from, k, lt_is)
@@ -315,7 +315,7 @@ new_in : (list : List ℕ) (l : KeyedList) (ls : List (List ℕ × KeyedList)) �
 new_in list l [] at = absurd (let z : ⊥ = cc at in z)
 new_in list l (x ∷ ls) at = grind (arith, new_in list l ls)
 
-new_first : (s : Keyed) (rs : List (ℕ × Content)) → AreFirstGiven s (map (λ (row : ℕ × Content). key_of s.next_list row.0) rs) []
+new_first : (s : Keyed) (rs : List (ℕ × Content)) → AreFirstGiven s (map (λ (slot : ℕ × Content). key_of s.next_list slot.0) rs) []
 new_first s [] = tt
 new_first s (r ∷ rs) = ((λ h. not_below_itself s.next_list (was_given (key_of s.next_list r.0) s.lists)), new_first s rs)
 
@@ -323,7 +323,7 @@ put_new : (s : Keyed) (list : List ℕ) (x : Content) (o : Option KeyedList) →
 put_new s list x o at = grind (arith, and_false, new_in, is_itself, all_map)
 
 first_law : (s : Keyed) (edit : Edit) → AreFirstGiven s (added_of s edit) (removed_of s edit)
-first_law s (AddList name kind class stanzas) = new_first s (rows_from 0 stanzas)
+first_law s (AddList name kind class stanzas) = new_first s (slots_from 0 stanzas)
 first_law s (Put list x) = put_new s list x (at_name list s.lists) refl
 first_law s edit = tt
 

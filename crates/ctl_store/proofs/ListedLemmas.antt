@@ -14,12 +14,12 @@ use Rattle.ctl_stanza.specs.Content.{Content, package_of, version_of}
 use Rattle.ctl_store.specs.State.{shown_lists, StanzaList}
 use Rattle.ctl_store.specs.Step.{place, has_stanza, put_stanza, remove_stanza, with_stanzas}
 use Rattle.std.specs.Option.{option_map_or, option_or}
-use Rattle.ctl_store.specs.Rows.{Rises, by_name_and_version, remove_row_at, rows_from, replace_at, put_row_at}
-use Rattle.ctl_store.specs.Keys.{KeyedList, stanzas_of, stanza_list, stanza_lists, put_keyed, remove_keyed, key_of, key_at, key_or_new, next_key, next_in, found_in, kept_in, Keyed, list_of_stanzas, keyed_after, keys_of, found_key, put_key, key_is, IsNotAmong, in_rows, stanza_at, removed_of, added_of}
+use Rattle.ctl_store.specs.Slots.{Rises, by_name_and_version, remove_slot_at, slots_from, replace_at, put_slot_at}
+use Rattle.ctl_store.specs.Keys.{KeyedList, stanzas_of, stanza_list, stanza_lists, put_keyed, remove_keyed, key_of, key_at, key_or_new, next_key, next_in, found_in, kept_in, Keyed, list_of_stanzas, keyed_after, keys_of, found_key, put_key, key_is, IsNotAmong, in_slots, stanza_at, removed_of, added_of}
 use Rattle.ctl_store.specs.Store.{HeldList, keyed_list, lists_of}
-use Rattle.ctl_store.specs.Inside.Held.{InOrder, entry_of, AreNumbered}
+use Rattle.ctl_store.specs.Inside.Sound.{InOrder, entry_of, AreNumbered}
 use Rattle.ctl_store.proofs.PlaceLemmas.{Rises-replace, Rises-remove, none_is, place_within, place-map, if_cases}
-use Rattle.ctl_ordered.specs.Ordered.{without_serials, set_row, cut_row}
+use Rattle.ctl_ordered.specs.Ordered.{without_serials, set_filled, cut_filled}
 use Rattle.ctl_store.specs.declared.stanza_key.StanzaKey.{StanzaKey}
 use Rattle.ctl_stanza.specs.declared.list_kind.ListKind.{ListKind}
 use Rattle.ctl_store.specs.declared.list_class.ListClass.{ListClass}
@@ -116,7 +116,7 @@ pub InOrder-weaken : (n k : ℕ) (ls : List (List ℕ × KeyedList)) (m e f : �
 InOrder-weaken n k [] m e f le lf h = omega arith
 InOrder-weaken n k (l ∷ ls) m e f le lf h = (omega (arith, h.0), omega (arith, h.1), h.2, InOrder-weaken (suc l.1.serial) (suc l.1.serial) ls m e f (omega arith) lf h.3)
 
-pub in_order_push : (n : ℕ) (ls : List (List ℕ × KeyedList)) (m e : ℕ) (name : List ℕ) (x : KeyedList) → x.serial ≡ m → x.next ≤ e → Rises 0 x.rows x.next → InOrder n ls m e → InOrder n (ls ++ (name, x) ∷ []) (m + 1) (e + 1)
+pub in_order_push : (n : ℕ) (ls : List (List ℕ × KeyedList)) (m e : ℕ) (name : List ℕ) (x : KeyedList) → x.serial ≡ m → x.next ≤ e → Rises 0 x.slots x.next → InOrder n ls m e → InOrder n (ls ++ (name, x) ∷ []) (m + 1) (e + 1)
 in_order_push n [] m e name x s few rises h = (omega (arith, h, s), omega (arith, few), rises, omega (arith, s))
 in_order_push n (l ∷ ls) m e name x s few rises h = (h.0, omega (arith, h.1), h.2, in_order_push (suc l.1.serial) ls m e name x s few rises h.3)
 
@@ -128,7 +128,7 @@ in_order_without n (l ∷ ls) m e name h = grind (arith, InOrder-weaken, in_orde
 pub record Changes (f : KeyedList → KeyedList) : Type 0 where
   pub serial : (l : KeyedList) → (f l).serial ≡ l.serial
   pub next : (l : KeyedList) → (f l).next ≤ l.next + 1
-  pub rises : (l : KeyedList) → Rises 0 l.rows l.next → Rises 0 (f l).rows (f l).next
+  pub rises : (l : KeyedList) → Rises 0 l.slots l.next → Rises 0 (f l).slots (f l).next
 
 pub in_order_change : (n : ℕ) (ls : List (List ℕ × KeyedList)) (m e : ℕ) (name : List ℕ) (f : KeyedList → KeyedList) → Changes f → InOrder n ls m e → InOrder n (change_named name f ls) m (e + 1)
 in_order_change n [] m e name f k h = h
@@ -141,12 +141,12 @@ pub Changes-remove : (name : List ℕ) (version : Option (List ℕ)) → Changes
 Changes-remove name version = record {
   serial = λ l. refl;
   next = λ l. omega arith;
-  rises = λ l h. rises l (place (by_name_and_version name version) l.rows) refl h;
+  rises = λ l h. rises l (place (by_name_and_version name version) l.slots) refl h;
 }
   where
-    rises : (l : KeyedList) (o : Option ℕ) → place (by_name_and_version name version) l.rows ≡ o → Rises 0 l.rows l.next → Rises 0 (remove_row_at o l.rows) l.next
+    rises : (l : KeyedList) (o : Option ℕ) → place (by_name_and_version name version) l.slots ≡ o → Rises 0 l.slots l.next → Rises 0 (remove_slot_at o l.slots) l.next
     rises l None e h = h
-    rises l (Some i) e h = Rises-remove 0 l.rows l.next i h (place_within (by_name_and_version name version) l.rows i e)
+    rises l (Some i) e h = Rises-remove 0 l.slots l.next i h (place_within (by_name_and_version name version) l.slots i e)
 
 -- the next serial of a list that is there
 pub in_order_next : (n : ℕ) (es : List (List ℕ × HeldList)) (m e : ℕ) (name : List ℕ) → InOrder n (lists_of es) m e → IfSome (at_name name es) (λ s. s.next ≤ e)
@@ -173,10 +173,10 @@ at_name_held name es = at_name-stanza_lists name (lists_of es) ∙ ap (option_ma
 pub has_name_held : (name : List ℕ) (es : List (List ℕ × HeldList)) → has_name name (stanza_lists (lists_of es)) ≡ is_some (at_name name es)
 has_name_held name es = grind (arith, at_name_held)
 
-pub place_stanzas : (p : Content → Bool) (rows : List (ℕ × Content)) → place p (stanzas_of rows) ≡ place (λ (r : ℕ × Content). p r.1) rows
-place_stanzas p rows = place-map (λ (r : ℕ × Content). r.1) p rows
+pub place_stanzas : (p : Content → Bool) (slots : List (ℕ × Content)) → place p (stanzas_of slots) ≡ place (λ (r : ℕ × Content). p r.1) slots
+place_stanzas p slots = place-map (λ (r : ℕ × Content). r.1) p slots
 
-pub has_stanza_held : (list name : List ℕ) (version : Option (List ℕ)) (es : List (List ℕ × HeldList)) → has_stanza list name version (stanza_lists (lists_of es)) ≡ option_map_or (λ (s : HeldList). is_some (place (by_name_and_version name version) s.rows)) (at_name list es) false
+pub has_stanza_held : (list name : List ℕ) (version : Option (List ℕ)) (es : List (List ℕ × HeldList)) → has_stanza list name version (stanza_lists (lists_of es)) ≡ option_map_or (λ (s : HeldList). is_some (place (by_name_and_version name version) s.slots)) (at_name list es) false
 has_stanza_held list name version es = grind (arith, at_name_held, place_stanzas)
 
 pub shown_entries : (es : List (List ℕ × HeldList)) → map (λ (e : List ℕ × HeldList). (e.0, e.1.kind, e.1.class)) es ≡ shown_lists (stanza_lists (lists_of es))
@@ -203,46 +203,46 @@ entry_named serial (x ∷ es) h = grind (arith, nat_list_eq_equiv.refl x.0, entr
 pub list_named : (serial : ℕ) (es : List (List ℕ × HeldList)) (e : List ℕ × HeldList) → IsDistinct bytes_eq (names_of es) → Some e ≡ entry_of serial es → at_name e.0 (stanza_lists (lists_of es)) ≡ Some (stanza_list (keyed_list e.1))
 list_named serial es e d found = at_name_held e.0 es ∙ ap (λ o. option_map stanza_list (option_map keyed_list o)) (subst (λ o. IfSome o (λ x. at_name x.0 es ≡ Some x.1)) (sym found) (entry_named serial es d))
 
--- the row of a serial is the list of that serial
-pub entry_is : (serial : ℕ) (rows : List (ℕ × (List ℕ × HeldList))) → AreNumbered rows → lookup (nat_eq serial) rows ≡ entry_of serial (without_serials rows)
+-- the slot of a serial is the list of that serial
+pub entry_is : (serial : ℕ) (slots : List (ℕ × (List ℕ × HeldList))) → AreNumbered slots → lookup (nat_eq serial) slots ≡ entry_of serial (without_serials slots)
 entry_is serial [] h = refl
-entry_is serial (row ∷ rows) h = grind (arith, entry_is serial rows h.1)
+entry_is serial (slot ∷ slots) h = grind (arith, entry_is serial slots h.1)
 
-pub numbered_last : (n : ℕ) (x : List ℕ × HeldList) (rows : List (ℕ × (List ℕ × HeldList))) → n ≡ x.1.serial → AreNumbered rows → AreNumbered (rows ++ (n, x) ∷ [])
+pub numbered_last : (n : ℕ) (x : List ℕ × HeldList) (slots : List (ℕ × (List ℕ × HeldList))) → n ≡ x.1.serial → AreNumbered slots → AreNumbered (slots ++ (n, x) ∷ [])
 numbered_last n x [] e h = (e, tt)
-numbered_last n x (row ∷ rows) e h = (h.0, numbered_last n x rows e h.1)
+numbered_last n x (slot ∷ slots) e h = (h.0, numbered_last n x slots e h.1)
 
-pub numbered_cut : (test : List ℕ → Bool) (rows : List (ℕ × (List ℕ × HeldList))) → AreNumbered rows → AreNumbered (cut_row test rows)
+pub numbered_cut : (test : List ℕ → Bool) (slots : List (ℕ × (List ℕ × HeldList))) → AreNumbered slots → AreNumbered (cut_filled test slots)
 numbered_cut test [] h = h
-numbered_cut test (row ∷ rows) h = grind (arith, numbered_cut test rows h.1)
+numbered_cut test (slot ∷ slots) h = grind (arith, numbered_cut test slots h.1)
 
 -- a list is written that has the serial of the one that was there
-pub numbered_set : (test : List ℕ → Bool) (rows : List (ℕ × (List ℕ × HeldList))) (v w : HeldList) → Some v ≡ lookup test (without_serials rows) → w.serial ≡ v.serial → AreNumbered rows → AreNumbered (set_row test rows w)
+pub numbered_set : (test : List ℕ → Bool) (slots : List (ℕ × (List ℕ × HeldList))) (v w : HeldList) → Some v ≡ lookup test (without_serials slots) → w.serial ≡ v.serial → AreNumbered slots → AreNumbered (set_filled test slots w)
 numbered_set test [] v w at e h = h
-numbered_set test (row ∷ rows) v w at e h = grind (arith, numbered_set test rows v w)
+numbered_set test (slot ∷ slots) v w at e h = grind (arith, numbered_set test slots v w)
 
 -- what was there, written again
-pub set_row_same : (test : List ℕ → Bool) (rows : List (ℕ × (List ℕ × HeldList))) (v w : HeldList) → Some v ≡ lookup test (without_serials rows) → w ≡ v → set_row test rows w ≡ rows
-set_row_same test [] v w at e = refl
-set_row_same test (row ∷ rows) v w at e = grind (arith, set_row_same test rows v w)
+pub set_slot_same : (test : List ℕ → Bool) (slots : List (ℕ × (List ℕ × HeldList))) (v w : HeldList) → Some v ≡ lookup test (without_serials slots) → w ≡ v → set_filled test slots w ≡ slots
+set_slot_same test [] v w at e = refl
+set_slot_same test (slot ∷ slots) v w at e = grind (arith, set_slot_same test slots v w)
 
 -- ---- the keys that go and come as a stanza is put: at most one goes, and it comes again
 
 abbrev first_key : ℕ → List (ℕ × Content) → List StanzaKey
-first_key list rows = map (λ (row : ℕ × Content). key_of list row.0) (take 1 rows)
+first_key list slots = map (λ (slot : ℕ × Content). key_of list slot.0) (take 1 slots)
 
-count : (list : ℕ) (rows : List (ℕ × Content)) (i : ℕ) → i < length rows → length (first_key list (drop i rows)) ≡ 1
+count : (list : ℕ) (slots : List (ℕ × Content)) (i : ℕ) → i < length slots → length (first_key list (drop i slots)) ≡ 1
 count list [] i l = absurd (omega arith)
-count list (r ∷ rows) zero l = refl
-count list (r ∷ rows) (suc i) l = count list rows i (omega arith)
+count list (r ∷ slots) zero l = refl
+count list (r ∷ slots) (suc i) l = count list slots i (omega arith)
 
-none_new : (l : KeyedList) (o : Option ℕ) → ((i : ℕ) → o ≡ Some i → i < length l.rows) → key_at l o ≡ [] → key_or_new l o ≡ next_key l
+none_new : (l : KeyedList) (o : Option ℕ) → ((i : ℕ) → o ≡ Some i → i < length l.slots) → key_at l o ≡ [] → key_or_new l o ≡ next_key l
 none_new l None h e = refl
-none_new l (Some i) h e = absurd (omega (arith, count l.serial l.rows i (h i refl), ap (λ (ks : List StanzaKey). length ks) e))
+none_new l (Some i) h e = absurd (omega (arith, count l.serial l.slots i (h i refl), ap (λ (ks : List StanzaKey). length ks) e))
 
-key_count : (l : KeyedList) (o : Option ℕ) → ((i : ℕ) → o ≡ Some i → i < length l.rows) → length (key_at l o) ≡ cond (is_some o) 1 0
+key_count : (l : KeyedList) (o : Option ℕ) → ((i : ℕ) → o ≡ Some i → i < length l.slots) → length (key_at l o) ≡ cond (is_some o) 1 0
 key_count l None h = refl
-key_count l (Some i) h = count l.serial l.rows i (h i refl)
+key_count l (Some i) h = count l.serial l.slots i (h i refl)
 
 -- where none goes, a new one comes
 pub kept_new : (list : List ℕ) (x : Content) (ls : List (List ℕ × KeyedList)) → found_in list (package_of x) (version_of x) ls ≡ [] → kept_in list x ls ≡ next_in list ls
@@ -284,28 +284,28 @@ module _ (k : StanzaKey) where
   in_list : (list : ℕ) (o p : Option Content) → (nat_eq list k.list ≡ true → o ≡ p) → cond (nat_eq list k.list) o None ≡ cond (nat_eq list k.list) p None
   in_list list o p f = grind arith
 
-  put_stays : (x : Content) (l : KeyedList) → IsNotAmong k (put_key x l) → in_rows k (put_keyed x l) ≡ in_rows k l
+  put_stays : (x : Content) (l : KeyedList) → IsNotAmong k (put_key x l) → in_slots k (put_keyed x l) ≡ in_slots k l
   put_stays x l h = grind (arith, in_list, pushed, replaced)
 
-  remove_stays : (name : List ℕ) (version : Option (List ℕ)) (l : KeyedList) → IsNotAmong k (found_key name version l) → in_rows k (remove_keyed name version l) ≡ in_rows k l
-  remove_stays name version l h = by (place (by_name_and_version name version) l.rows) h
+  remove_stays : (name : List ℕ) (version : Option (List ℕ)) (l : KeyedList) → IsNotAmong k (found_key name version l) → in_slots k (remove_keyed name version l) ≡ in_slots k l
+  remove_stays name version l h = by (place (by_name_and_version name version) l.slots) h
     where
-      by : (o : Option ℕ) → IsNotAmong k (key_at l o) → cond (nat_eq l.serial k.list) (lookup (λ s. nat_eq s k.stanza) (remove_row_at o l.rows)) None ≡ in_rows k l
+      by : (o : Option ℕ) → IsNotAmong k (key_at l o) → cond (nat_eq l.serial k.list) (lookup (λ s. nat_eq s k.stanza) (remove_slot_at o l.slots)) None ≡ in_slots k l
       by None h = refl
-      by (Some i) h = in_list l.serial _ _ (λ e. removed l.serial i l.rows e h)
+      by (Some i) h = in_list l.serial _ _ (λ e. removed l.serial i l.slots e h)
 
-  change_stays : (name : List ℕ) (f : KeyedList → KeyedList) (g : KeyedList → List StanzaKey) → ((l : KeyedList) → IsNotAmong k (g l) → in_rows k (f l) ≡ in_rows k l)
+  change_stays : (name : List ℕ) (f : KeyedList → KeyedList) (g : KeyedList → List StanzaKey) → ((l : KeyedList) → IsNotAmong k (g l) → in_slots k (f l) ≡ in_slots k l)
       → (ls : List (List ℕ × KeyedList)) → IsNotAmong k (option_map_or g (at_name name ls) []) → stanza_at k (change_named name f ls) ≡ stanza_at k ls
   change_stays name f g s [] h = refl
   change_stays name f g s (l ∷ ls) h = grind (arith, change_stays name f g s ls)
 
   drop_stays : (name : List ℕ) (ls : List (List ℕ × KeyedList)) → IsNotAmong k (option_map_or keys_of (at_name name ls) []) → stanza_at k (without_name name ls) ≡ stanza_at k ls
   drop_stays name [] h = refl
-  drop_stays name (l ∷ ls) h = grind (arith, absent l.1.serial l.1.rows, drop_stays name ls)
+  drop_stays name (l ∷ ls) h = grind (arith, absent l.1.serial l.1.slots, drop_stays name ls)
 
   add_stays : (name : List ℕ) (x : KeyedList) (ls : List (List ℕ × KeyedList)) → IsNotAmong k (keys_of x) → stanza_at k (ls ++ (name, x) ∷ []) ≡ stanza_at k ls
-  add_stays name x [] h = grind (arith, absent x.serial x.rows)
-  add_stays name x (l ∷ ls) h = ap (option_or (in_rows k l.1)) (add_stays name x ls h)
+  add_stays name x [] h = grind (arith, absent x.serial x.slots)
+  add_stays name x (l ∷ ls) h = ap (option_or (in_slots k l.1)) (add_stays name x ls h)
 
   -- a key that neither goes nor comes keeps its stanza
   pub stays_law : (s : Keyed) (edit : Edit) → IsNotAmong k (removed_of s edit) → IsNotAmong k (added_of s edit) → stanza_at k (keyed_after s edit).lists ≡ stanza_at k s.lists
@@ -322,24 +322,24 @@ map_replace [] i x = refl
 map_replace (r ∷ rs) zero x = refl
 map_replace (r ∷ rs) (suc i) x = ap (λ l. r.1 ∷ l) (map_replace rs i x)
 
-pub stanzas_of-rows_from : (n : ℕ) (xs : List Content) → stanzas_of (rows_from n xs) ≡ xs
-stanzas_of-rows_from n [] = refl
-stanzas_of-rows_from n (x ∷ xs) = ap (λ l. x ∷ l) (stanzas_of-rows_from (suc n) xs)
+pub stanzas_of-slots_from : (n : ℕ) (xs : List Content) → stanzas_of (slots_from n xs) ≡ xs
+stanzas_of-slots_from n [] = refl
+stanzas_of-slots_from n (x ∷ xs) = ap (λ l. x ∷ l) (stanzas_of-slots_from (suc n) xs)
 
-put_stanzas : (x : Content) (rows : List (ℕ × Content)) (next : ℕ) → stanzas_of (put_row_at (place (by_name_and_version (package_of x) (version_of x)) rows) x next rows) ≡ put_stanza x (stanzas_of rows)
-put_stanzas x rows next = grind (arith, place_stanzas, map-append, map_replace)
+put_stanzas : (x : Content) (slots : List (ℕ × Content)) (next : ℕ) → stanzas_of (put_slot_at (place (by_name_and_version (package_of x) (version_of x)) slots) x next slots) ≡ put_stanza x (stanzas_of slots)
+put_stanzas x slots next = grind (arith, place_stanzas, map-append, map_replace)
 
-remove_stanzas : (name : List ℕ) (version : Option (List ℕ)) (rows : List (ℕ × Content)) → stanzas_of (remove_row_at (place (by_name_and_version name version) rows) rows) ≡ remove_stanza name version (stanzas_of rows)
-remove_stanzas name version rows = grind (arith, place_stanzas, map-remove)
+remove_stanzas : (name : List ℕ) (version : Option (List ℕ)) (slots : List (ℕ × Content)) → stanzas_of (remove_slot_at (place (by_name_and_version name version) slots) slots) ≡ remove_stanza name version (stanzas_of slots)
+remove_stanzas name version slots = grind (arith, place_stanzas, map-remove)
 
 pub put_list : (x : Content) (l : KeyedList) → stanza_list (put_keyed x l) ≡ with_stanzas (put_stanza x) (stanza_list l)
-put_list x l = ap (λ (t : List Content). record { kind = l.kind; class = l.class; stanzas = t }) (put_stanzas x l.rows l.next)
+put_list x l = ap (λ (t : List Content). record { kind = l.kind; class = l.class; stanzas = t }) (put_stanzas x l.slots l.next)
 
 pub remove_list : (name : List ℕ) (version : Option (List ℕ)) (l : KeyedList) → stanza_list (remove_keyed name version l) ≡ with_stanzas (remove_stanza name version) (stanza_list l)
-remove_list name version l = ap (λ (t : List Content). record { kind = l.kind; class = l.class; stanzas = t }) (remove_stanzas name version l.rows)
+remove_list name version l = ap (λ (t : List Content). record { kind = l.kind; class = l.class; stanzas = t }) (remove_stanzas name version l.slots)
 
 pub new_lists : (ls : List (List ℕ × KeyedList)) (name : List ℕ) (serial : ℕ) (kind : ListKind) (class : ListClass) (xs : List Content) → stanza_lists (ls ++ (name, list_of_stanzas serial kind class xs) ∷ []) ≡ stanza_lists ls ++ (name, record { kind = kind; class = class; stanzas = xs }) ∷ []
-new_lists [] name serial kind class xs = ap (λ (t : List Content). (name, record { kind = kind; class = class; stanzas = t }) ∷ []) (stanzas_of-rows_from 0 xs)
+new_lists [] name serial kind class xs = ap (λ (t : List Content). (name, record { kind = kind; class = class; stanzas = t }) ∷ []) (stanzas_of-slots_from 0 xs)
 new_lists (l ∷ ls) name serial kind class xs = ap (λ r. (l.0, stanza_list l.1) ∷ r) (new_lists ls name serial kind class xs)
 
 pub without_lists : (name : List ℕ) (ls : List (List ℕ × KeyedList)) → stanza_lists (without_name name ls) ≡ without_name name (stanza_lists ls)

@@ -1,4 +1,4 @@
--- What the order of the rows of a list says of the rows, and how it changes with them.
+-- What the order of the slots of a list says of the slots, and how it changes with them.
 use Rattle.std.proofs.Common.{◌≡◌, ℕ, ◌+◌, ◌<◌, ◌≤◌, true, cond, ◌&&◌, List, [], ◌∷◌, ◌++◌, length, get_or, Option, None, Some, refl, ap, sym, ◌∙◌, arith, zero, suc, map, take, drop, subst, false, Bool, not, sum_by}
 use Rattle.std.specs.List.{insert, remove, slice_get, AllByRecursion, IsAllAdjacentAnswer}
 use Rattle.std.specs.Cmp.{IsTotalOrder, nat_cmp_total, tied_itself}
@@ -15,9 +15,9 @@ use Rattle.ctl_stanza.specs.Content.{Content, package_of, version_of}
 use Rattle.ctl_store.specs.Step.{place, is_same, is_same_version}
 use Rattle.ctl_store.specs.Inside.Sorted.{place_in, insert_in}
 use Rattle.ctl_store.specs.declared.fronts.Placed.{Placed}
-use Rattle.ctl_store.specs.Rows.{Id, id, id_of, row_id, version_id, version_order, id_cmp, ids_of, sorted_ids, lower, has_serial, IsKept, by_name_and_version, replace_at, placed, placed_row, placed_at, placed_cmp, sorted_placed, Rises, rows_from, id_under, serial_cmp}
+use Rattle.ctl_store.specs.Slots.{Id, id, id_of, slot_id, version_id, version_order, id_cmp, ids_of, sorted_ids, lower, has_serial, HasOrder, by_name_and_version, replace_at, placed, placed_slot, placed_at, placed_cmp, sorted_placed, Rises, slots_from, id_under, serial_cmp}
 use Rattle.std.proofs.lemmas.Bool.{and_parts}
-use Rattle.ctl_store.proofs.PlaceLemmas.{place_within, place_passes, equal_is, Rises-rows_from, all_map}
+use Rattle.ctl_store.proofs.PlaceLemmas.{place_within, place_passes, equal_is, Rises-slots_from, all_map}
 use Rattle.ctl_store.proofs.RankedLemmas.{found_here as ranked_here, found_past as ranked_past, parted, below_is, order-sorted, ranked_replace, ranked_push, ranked_remove, length-sorted_in, g, lt_back, all_insert, all_sorted, all_from, all_lookup, lookup-labels, Rises-labels}
 use Rattle.ctl_store.specs.Keys.{KeyedList, key_of, key_at}
 use Rattle.std.proofs.lemmas.List.{length-map}
@@ -71,51 +71,51 @@ first_decides Greater r then e = ap (λ r. ordering_then r then) (e (λ k. cc))
 front_first : (x q : Id) → ordering_then (nat_cmp (front_of x.name) (front_of q.name)) (id_cmp x q) ≡ id_cmp x q
 front_first x q = first_decides (nat_cmp (front_of x.name) (front_of q.name)) (slice_cmp nat_cmp x.name q.name) (version_order x.version q.version) (fronts_tell x.name q.name (nat_cmp (front_of x.name) (front_of q.name)) refl)
 
--- ---- the first row of a name and a version
+-- ---- the first slot of a name and a version
 
-pub place-ids : (name : List ℕ) (version : Option (List ℕ)) (rows : List (ℕ × Content)) → place (by_name_and_version name version) rows ≡ place_in id_cmp row_id (id name version) rows
+pub place-ids : (name : List ℕ) (version : Option (List ℕ)) (slots : List (ℕ × Content)) → place (by_name_and_version name version) slots ≡ place_in id_cmp slot_id (id name version) slots
 place-ids name version [] = refl
-place-ids name version (r ∷ rows) = grind (arith, same_id, place-ids name version rows)
+place-ids name version (r ∷ slots) = grind (arith, same_id, place-ids name version slots)
 
-module _ (rows : List (ℕ × Content)) (next : ℕ) (order : List Placed) (kept : IsKept rows next order) where
+module _ (slots : List (ℕ × Content)) (next : ℕ) (order : List Placed) (kept : HasOrder slots next order) where
   module _ (q : Id) where
-    -- an entry tells how its row stands
-    tells : (k : ℕ) (y : ℕ × Id) → slice_get (sorted_ids (ids_of rows)) k ≡ Some y → placed_at rows q (placed y) ≡ id_cmp y.1 q
-    tells k y e = ap (ordering_then (nat_cmp (front_of y.1.name) (front_of q.name))) (order-sorted id_cmp id_total row_id rows next kept.rises q k y e) ∙ front_first y.1 q
+    -- an entry tells how its slot stands
+    tells : (k : ℕ) (y : ℕ × Id) → slice_get (sorted_ids (ids_of slots)) k ≡ Some y → placed_at slots q (placed y) ≡ id_cmp y.1 q
+    tells k y e = ap (ordering_then (nat_cmp (front_of y.1.name) (front_of q.name))) (order-sorted id_cmp id_total slot_id slots next kept.rises q k y e) ∙ front_first y.1 q
 
     abbrev pub comes_before : Placed → Bool
-    comes_before one = is_lt (placed_at rows q one)
+    comes_before one = is_lt (placed_at slots q one)
 
     pub parted_placed : IsPartitionedBy comes_before order
-    parted_placed = parted id_cmp id_total row_id placed rows next order kept q (placed_at rows q) tells
+    parted_placed = parted id_cmp id_total slot_id placed slots next order kept q (placed_at slots q) tells
 
-    pub lower_is : (r : ℕ) → r ≤ length order → IsPartitionPoint (λ s. comes_before s ≡ true) (λ s. comes_before s ≡ false) order r → r ≡ lower q (sorted_ids (ids_of rows))
-    lower_is r w h = below_is id_cmp id_total row_id placed rows next order kept q (placed_at rows q) tells (record { front = 0; serial = 0 }) r w h
+    pub lower_is : (r : ℕ) → r ≤ length order → IsPartitionPoint (λ s. comes_before s ≡ true) (λ s. comes_before s ≡ false) order r → r ≡ lower q (sorted_ids (ids_of slots))
+    lower_is r w h = below_is id_cmp id_total slot_id placed slots next order kept q (placed_at slots q) tells (record { front = 0; serial = 0 }) r w h
 
-  module _ (name : List ℕ) (version : Option (List ℕ)) (at : ℕ) (e : at ≡ lower (id name version) (sorted_ids (ids_of rows))) where
+  module _ (name : List ℕ) (version : Option (List ℕ)) (at : ℕ) (e : at ≡ lower (id name version) (sorted_ids (ids_of slots))) where
     pub found_here : (d : Placed) → at < length order
-        → place (by_name_and_version name version) rows ≡ cond (is_eq (placed_at rows (id name version) (get_or order at d))) (place (has_serial (get_or order at d).serial) rows) None
+        → place (by_name_and_version name version) slots ≡ cond (is_eq (placed_at slots (id name version) (get_or order at d))) (place (has_serial (get_or order at d).serial) slots) None
     found_here d l =
-        place-ids name version rows
-        ∙ ranked_here id_cmp id_total row_id placed rows next order kept (id name version) (placed_at rows (id name version)) (tells (id name version)) (λ p. p.serial) (λ y. refl) at d e l
+        place-ids name version slots
+        ∙ ranked_here id_cmp id_total slot_id placed slots next order kept (id name version) (placed_at slots (id name version)) (tells (id name version)) (λ p. p.serial) (λ y. refl) at d e l
 
-    pub found_past : length order ≤ at → place (by_name_and_version name version) rows ≡ None
+    pub found_past : length order ≤ at → place (by_name_and_version name version) slots ≡ None
     found_past l =
-        place-ids name version rows
-        ∙ ranked_past id_cmp id_total row_id placed rows next order kept (id name version) (placed_at rows (id name version)) (tells (id name version)) (λ p. p.serial) (λ y. refl) at e l
+        place-ids name version slots
+        ∙ ranked_past id_cmp id_total slot_id placed slots next order kept (id name version) (placed_at slots (id name version)) (tells (id name version)) (λ p. p.serial) (λ y. refl) at e l
 
   -- ---- the order after a change
 
-  pub kept_replace : (x : Content) (i : ℕ) → place (by_name_and_version (package_of x) (version_of x)) rows ≡ Some i → IsKept (replace_at rows i x) next order
+  pub kept_replace : (x : Content) (i : ℕ) → place (by_name_and_version (package_of x) (version_of x)) slots ≡ Some i → HasOrder (replace_at slots i x) next order
   kept_replace x i e =
-      ranked_replace id_cmp id_total row_id placed rows next order kept x i (place_within (by_name_and_version (package_of x) (version_of x)) rows i e)
-      (λ d. exact_id (package_of x) (version_of x) (get_or rows i d).1 (place_passes (by_name_and_version (package_of x) (version_of x)) rows i d e))
+      ranked_replace id_cmp id_total slot_id placed slots next order kept x i (place_within (by_name_and_version (package_of x) (version_of x)) slots i e)
+      (λ d. exact_id (package_of x) (version_of x) (get_or slots i d).1 (place_passes (by_name_and_version (package_of x) (version_of x)) slots i d e))
 
-  pub kept_push : (x : Content) → place (by_name_and_version (package_of x) (version_of x)) rows ≡ None → IsKept (rows ++ (next, x) ∷ []) (next + 1) (insert order (lower (id_of x) (sorted_ids (ids_of rows))) (placed_row (next, x)))
-  kept_push x e = ranked_push id_cmp id_total row_id placed rows next order kept x (sym (place-ids (package_of x) (version_of x) rows) ∙ e)
+  pub kept_push : (x : Content) → place (by_name_and_version (package_of x) (version_of x)) slots ≡ None → HasOrder (slots ++ (next, x) ∷ []) (next + 1) (insert order (lower (id_of x) (sorted_ids (ids_of slots))) (placed_slot (next, x)))
+  kept_push x e = ranked_push id_cmp id_total slot_id placed slots next order kept x (sym (place-ids (package_of x) (version_of x) slots) ∙ e)
 
-  pub kept_remove : (name : List ℕ) (version : Option (List ℕ)) (i : ℕ) → place (by_name_and_version name version) rows ≡ Some i → IsKept (remove rows i) next (remove order (lower (id name version) (sorted_ids (ids_of rows))))
-  kept_remove name version i e = ranked_remove id_cmp id_total row_id placed rows next order kept (id name version) i (sym (place-ids name version rows) ∙ e)
+  pub kept_remove : (name : List ℕ) (version : Option (List ℕ)) (i : ℕ) → place (by_name_and_version name version) slots ≡ Some i → HasOrder (remove slots i) next (remove order (lower (id name version) (sorted_ids (ids_of slots))))
+  kept_remove name version i e = ranked_remove id_cmp id_total slot_id placed slots next order kept (id name version) i (sym (place-ids name version slots) ∙ e)
 
 -- ---- the key at a place
 
@@ -125,31 +125,31 @@ module _ {X Y : Type 0} (f : X → Y) where
   one_taken (y ∷ xs) zero x l e = ap (λ t. f t ∷ []) (e y)
   one_taken (y ∷ xs) (suc i) x l e = one_taken xs i x (omega arith) e
 
-pub key_read : (l : KeyedList) (i : ℕ) (row : ℕ × Content) → i < length l.rows → ((d : ℕ × Content) → get_or l.rows i d ≡ row) → key_at l (Some i) ≡ key_of l.serial row.0 ∷ []
-key_read l i row within e = one_taken (λ (r : ℕ × Content). key_of l.serial r.0) l.rows i row within e
+pub key_read : (l : KeyedList) (i : ℕ) (slot : ℕ × Content) → i < length l.slots → ((d : ℕ × Content) → get_or l.slots i d ≡ slot) → key_at l (Some i) ≡ key_of l.serial slot.0 ∷ []
+key_read l i slot within e = one_taken (λ (r : ℕ × Content). key_of l.serial r.0) l.slots i slot within e
 
 -- ---- a new list
 
-length-rows_from : (n : ℕ) (xs : List Content) → length (rows_from n xs) ≡ length xs
-length-rows_from n [] = refl
-length-rows_from n (x ∷ xs) = ap (λ k. suc k) (length-rows_from (suc n) xs)
+length-slots_from : (n : ℕ) (xs : List Content) → length (slots_from n xs) ≡ length xs
+length-slots_from n [] = refl
+length-slots_from n (x ∷ xs) = ap (λ k. suc k) (length-slots_from (suc n) xs)
 
 -- each of them is in the order once
-pub length-placed : (xs : List Content) → length (sorted_placed (rows_from 0 xs)) ≡ length xs
-length-placed xs = grind (arith, length-map, length-sorted_in, length-rows_from)
+pub length-placed : (xs : List Content) → length (sorted_placed (slots_from 0 xs)) ≡ length xs
+length-placed xs = grind (arith, length-map, length-sorted_in, length-slots_from)
 
--- so the order is as long as the rows
-pub length-order : (rows : List (ℕ × Content)) (next : ℕ) (order : List Placed) → IsKept rows next order → length order ≡ length rows
-length-order rows next order h = grind (arith, length-map, length-sorted_in)
+-- so the order is as long as the slots
+pub length-order : (slots : List (ℕ × Content)) (next : ℕ) (order : List Placed) → HasOrder slots next order → length order ≡ length slots
+length-order slots next order h = grind (arith, length-map, length-sorted_in)
 
--- rows from 0 on, in the order that a sort gives
-pub kept_sorted : (rows : List (ℕ × Content)) (next : ℕ) (order : List Placed) (xs : List Content) → rows ≡ rows_from 0 xs → next ≡ length xs → order ≡ sorted_placed rows → IsKept rows next order
-kept_sorted rows next order xs is n order_is = record {
-  rises = subst (λ l. Rises 0 l next) (sym is) (subst (λ m. Rises 0 (rows_from 0 xs) m) (omega (arith, n)) (Rises-rows_from 0 xs));
+-- slots from 0 on, in the order that a sort gives
+pub kept_sorted : (slots : List (ℕ × Content)) (next : ℕ) (order : List Placed) (xs : List Content) → slots ≡ slots_from 0 xs → next ≡ length xs → order ≡ sorted_placed slots → HasOrder slots next order
+kept_sorted slots next order xs is n order_is = record {
+  rises = subst (λ l. Rises 0 l next) (sym is) (subst (λ m. Rises 0 (slots_from 0 xs) m) (omega (arith, n)) (Rises-slots_from 0 xs));
   ordered = order_is;
 }
 
--- ---- sorting the entries of new rows gives the order that is kept
+-- ---- sorting the entries of new slots gives the order that is kept
 
 module _ {X : Type 0} (R : X → X → Ordering) where
   abbrev IsUp : List X → Type 0
@@ -201,7 +201,7 @@ module _ {X : Type 0} (R : X → X → Ordering) (total : IsTotalOrder R) (exact
   sorted_up : (xs : List X) → IsSortedBy (λ x y. is_lt (R x y)) xs → IsUp R xs
   sorted_up xs s = up_from xs (sorted_far (λ x y. is_lt (R x y)) (ranks_by total (λ (n : X). n)) xs s)
 
--- ---- the order of rows, in pairs of serials and what they are found by
+-- ---- the order of slots, in pairs of serials and what they are found by
 
 abbrev pair_cmp : ℕ × Id → ℕ × Id → Ordering
 pair_cmp x y = ordering_then (id_cmp x.1 y.1) (nat_cmp x.0 y.0)
@@ -227,47 +227,47 @@ pairs_sorted : (n : ℕ) (xs : List (ℕ × Id)) (m : ℕ) → Rises n xs m → 
 pairs_sorted n [] m h = tt
 pairs_sorted n (x ∷ xs) m h = grind (arith, pairs_insert, all_sorted, id_total, all_map, all_from, pairs_sorted (suc x.0) xs m h.1)
 
--- ---- the same by the entries of rows
+-- ---- the same by the entries of slots
 
-serial_total : (rows : List (ℕ × Content)) → IsTotalOrder (serial_cmp rows)
-serial_total rows = then_total (on_total (λ (n : ℕ). id_under rows n) (options_total id_total)) (on_total (λ (n : ℕ). n) nat_cmp_total)
+serial_total : (slots : List (ℕ × Content)) → IsTotalOrder (serial_cmp slots)
+serial_total slots = then_total (on_total (λ (n : ℕ). id_under slots n) (options_total id_total)) (on_total (λ (n : ℕ). n) nat_cmp_total)
 
-serial_exact : (rows : List (ℕ × Content)) (a b : ℕ) → serial_cmp rows a b ≡ Equal → a ≡ b
-serial_exact rows a b e = grind arith
+serial_exact : (slots : List (ℕ × Content)) (a b : ℕ) → serial_cmp slots a b ≡ Equal → a ≡ b
+serial_exact slots a b e = grind arith
 
-module _ (rows : List (ℕ × Content)) where
-  pub placed_total : IsTotalOrder (placed_cmp rows)
-  placed_total = then_total (on_total (λ (p : Placed). p.front) nat_cmp_total) (on_total (λ (p : Placed). p.serial) (serial_total rows))
+module _ (slots : List (ℕ × Content)) where
+  pub placed_total : IsTotalOrder (placed_cmp slots)
+  placed_total = then_total (on_total (λ (p : Placed). p.front) nat_cmp_total) (on_total (λ (p : Placed). p.serial) (serial_total slots))
 
-  placed_exact : (a b : Placed) → placed_cmp rows a b ≡ Equal → a ≡ b
+  placed_exact : (a b : Placed) → placed_cmp slots a b ≡ Equal → a ≡ b
   placed_exact a b e =
       let front : a.front ≡ b.front = grind (arith, e) in
       let serial : a.serial ≡ b.serial = grind (arith, serial_exact, e) in
       λ j. record { front = front j; serial = serial j }
 
-  -- a serial, with what its row is found by
+  -- a serial, with what its slot is found by
   abbrev IsUnder : ℕ × Id → Type 0
-  IsUnder x = id_under rows x.0 ≡ Some x.1
+  IsUnder x = id_under slots x.0 ≡ Some x.1
 
   after_front : (o r n : Ordering) → ordering_then o r ≡ r → ordering_then o (ordering_then r n) ≡ ordering_then r n
   after_front o r n e = grind arith
 
-  at_pairs : (x y : ℕ × Id) → IsUnder x → IsUnder y → placed_cmp rows (placed x) (placed y) ≡ pair_cmp x y
+  at_pairs : (x y : ℕ × Id) → IsUnder x → IsUnder y → placed_cmp slots (placed x) (placed y) ≡ pair_cmp x y
   at_pairs x y e f =
       (λ j. ordering_then (nat_cmp (front_of x.1.name) (front_of y.1.name)) (ordering_then (option_cmp id_cmp (e j) (f j)) (nat_cmp x.0 y.0)))
       ∙ after_front (nat_cmp (front_of x.1.name) (front_of y.1.name)) (id_cmp x.1 y.1) (nat_cmp x.0 y.0) (front_first x.1 y.1)
 
-  all_up : (x : ℕ × Id) (ys : List (ℕ × Id)) → IsUnder x → AllByRecursion IsUnder ys → AllByRecursion (λ z. is_gt (pair_cmp x z) ≡ false) ys → AllByRecursion (λ p. is_gt (placed_cmp rows (placed x) p) ≡ false) (map placed ys)
+  all_up : (x : ℕ × Id) (ys : List (ℕ × Id)) → IsUnder x → AllByRecursion IsUnder ys → AllByRecursion (λ z. is_gt (pair_cmp x z) ≡ false) ys → AllByRecursion (λ p. is_gt (placed_cmp slots (placed x) p) ≡ false) (map placed ys)
   all_up x [] e h k = tt
   all_up x (y ∷ ys) e h k = (ap is_gt (at_pairs x y e h.0) ∙ k.0, all_up x ys e h.1 k.1)
 
-  pairs_up : (ys : List (ℕ × Id)) → AllByRecursion IsUnder ys → IsUp pair_cmp ys → IsUp (placed_cmp rows) (map placed ys)
+  pairs_up : (ys : List (ℕ × Id)) → AllByRecursion IsUnder ys → IsUp pair_cmp ys → IsUp (placed_cmp slots) (map placed ys)
   pairs_up [] h k = tt
   pairs_up (y ∷ ys) h k = (all_up y ys h.0 h.1 k.0, pairs_up ys h.1 k.1)
 
-  all_under : (next : ℕ) → Rises 0 rows next → AllByRecursion IsUnder (ids_of rows)
+  all_under : (next : ℕ) → Rises 0 slots next → AllByRecursion IsUnder (ids_of slots)
   all_under next rises =
-      all_map (λ (y : ℕ × Id) e. sym (lookup-labels id_cmp id_total row_id y.0 rows) ∙ e) (ids_of rows) (all_lookup 0 (ids_of rows) next (Rises-labels id_cmp id_total row_id 0 rows next rises))
+      all_map (λ (y : ℕ × Id) e. sym (lookup-labels id_cmp id_total slot_id y.0 slots) ∙ e) (ids_of slots) (all_lookup 0 (ids_of slots) next (Rises-labels id_cmp id_total slot_id 0 slots next rises))
 
 -- ---- a sort only moves what is there
 
@@ -279,24 +279,24 @@ sum_by-sorted : (f : Placed → ℕ) (xs : List (ℕ × Id)) → sum_by f (map p
 sum_by-sorted f [] = refl
 sum_by-sorted f (x ∷ xs) = omega (arith, sum_by-insert f x (sorted_ids xs), sum_by-cons f (placed x) (map placed xs), sum_by-sorted f xs)
 
-placed-ids : (rows : List (ℕ × Content)) → map placed (ids_of rows) ≡ map placed_row rows
+placed-ids : (slots : List (ℕ × Content)) → map placed (ids_of slots) ≡ map placed_slot slots
 placed-ids [] = refl
-placed-ids (row ∷ rows) = ap (λ l. placed_row row ∷ l) (placed-ids rows)
+placed-ids (slot ∷ slots) = ap (λ l. placed_slot slot ∷ l) (placed-ids slots)
 
-from_zero : (n : ℕ) (rows : List (ℕ × Content)) (m : ℕ) → Rises n rows m → Rises 0 rows m
+from_zero : (n : ℕ) (slots : List (ℕ × Content)) (m : ℕ) → Rises n slots m → Rises 0 slots m
 from_zero n [] m h = omega (arith, h)
-from_zero n (row ∷ rows) m h = (omega (arith, h.0), h.1)
+from_zero n (slot ∷ slots) m h = (omega (arith, h.0), h.1)
 
--- what a sort makes of the entries of rows
-pub sorted_is : (rows : List (ℕ × Content)) (first next : ℕ) → Rises first rows next → (old order : List Placed) → old ≡ map placed_row rows → IsPermutation old order → IsSortedBy (λ x y. is_lt (placed_cmp rows x y)) order → order ≡ sorted_placed rows
-sorted_is rows first next risen old order s moved sorted =
-    let rises = from_zero first rows next risen in
-    one_list (placed_cmp rows) (placed_total rows) (placed_exact rows) order (sorted_placed rows)
-    (λ f. sum_by-IsPermutation f old order moved ∙ ap (sum_by f) (s ∙ sym (placed-ids rows)) ∙ sym (sum_by-sorted f (ids_of rows)))
-    (sorted_up (placed_cmp rows) (placed_total rows) (placed_exact rows) order sorted)
-    (pairs_up rows (sorted_ids (ids_of rows))
-    (all_sorted id_cmp id_total (IsUnder rows) (ids_of rows) (all_under rows next rises))
-    (pairs_sorted 0 (ids_of rows) next (Rises-labels id_cmp id_total row_id 0 rows next rises)))
+-- what a sort makes of the entries of slots
+pub sorted_is : (slots : List (ℕ × Content)) (first next : ℕ) → Rises first slots next → (old order : List Placed) → old ≡ map placed_slot slots → IsPermutation old order → IsSortedBy (λ x y. is_lt (placed_cmp slots x y)) order → order ≡ sorted_placed slots
+sorted_is slots first next risen old order s moved sorted =
+    let rises = from_zero first slots next risen in
+    one_list (placed_cmp slots) (placed_total slots) (placed_exact slots) order (sorted_placed slots)
+    (λ f. sum_by-IsPermutation f old order moved ∙ ap (sum_by f) (s ∙ sym (placed-ids slots)) ∙ sym (sum_by-sorted f (ids_of slots)))
+    (sorted_up (placed_cmp slots) (placed_total slots) (placed_exact slots) order sorted)
+    (pairs_up slots (sorted_ids (ids_of slots))
+    (all_sorted id_cmp id_total (IsUnder slots) (ids_of slots) (all_under slots next rises))
+    (pairs_sorted 0 (ids_of slots) next (Rises-labels id_cmp id_total slot_id 0 slots next rises)))
 
 -- ---- entries that stand in order already
 

@@ -1,4 +1,4 @@
--- Places in rows whose serials rise.
+-- Places in slots whose serials rise.
 use Rattle.std.proofs.Common.{◌≡◌, ℕ, zero, suc, ◌+◌, ◌<◌, ◌≤◌, Bool, true, false, cond, nat_eq, List, [], ◌∷◌, ◌++◌, length, get_or, set, map, Option, None, Some, is_some, option_map, refl, ap, subst, ◌∙◌, arith}
 use Rattle.std.specs.List.{remove, AllByRecursion}
 use Rattle.std.specs.Map.{lookup}
@@ -8,7 +8,7 @@ use Rattle.std.specs.declared.cmp.Ordering.{Ordering}
 use Rattle.std.specs.declared.cmp.Ordering.TheVariants.{Equal}
 use Rattle.std.proofs.lemmas.Bool.Decides.{nat_tests}
 use Rattle.ctl_store.specs.Step.{place}
-use Rattle.ctl_store.specs.Rows.{has_serial, Rises, replace_at, rows_from}
+use Rattle.ctl_store.specs.Slots.{has_serial, Rises, replace_at, slots_from}
 use Rattle.ctl_ordered.proofs.SlotLemmas.{rises_less}
 
 pub if_cases : {A B : Type 0} (f : A → B) (b : Bool) (x y : A) → f (cond b x y) ≡ cond b (f x) (f y)
@@ -80,7 +80,7 @@ place-map f p [] = refl
 place-map f p (x ∷ xs) = ap (λ o. cond (p (f x)) (Some 0) (option_map (λ n. suc n) o)) (place-map f p xs)
 
 module _ {V : Type 0} where
-  -- the row of a serial stands at one place
+  -- the slot of a serial stands at one place
   pub place_at : (s n : ℕ) (rs : List (ℕ × V)) (m i : ℕ) → Rises n rs m → i < length rs → ((d : ℕ × V) → (get_or rs i d).0 ≡ s) → place (has_serial s) rs ≡ Some i
   place_at s n [] m i h l e = absurd (omega arith)
   place_at s n (r ∷ rs) m zero h l e = ap (λ b. cond b (Some 0) (option_map (λ n. suc n) (place (has_serial s) rs))) (eq_is r.0 s (e r))
@@ -102,9 +102,9 @@ module _ {V : Type 0} where
   lookup-place_none s [] e = refl
   lookup-place_none s (r ∷ rs) e = grind (arith, lookup-place_none s rs)
 
-  pub Rises-rows_from : (n : ℕ) (xs : List V) → Rises n (rows_from n xs) (n + length xs)
-  Rises-rows_from n [] = omega arith
-  Rises-rows_from n (x ∷ xs) = (omega arith, subst (λ m. Rises (suc n) (rows_from (suc n) xs) m) (omega arith) (Rises-rows_from (suc n) xs))
+  pub Rises-slots_from : (n : ℕ) (xs : List V) → Rises n (slots_from n xs) (n + length xs)
+  Rises-slots_from n [] = omega arith
+  Rises-slots_from n (x ∷ xs) = (omega arith, subst (λ m. Rises (suc n) (slots_from (suc n) xs) m) (omega arith) (Rises-slots_from (suc n) xs))
 
 -- ---- tests and orders
 

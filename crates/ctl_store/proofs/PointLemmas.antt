@@ -5,7 +5,7 @@ use Rattle.std.proofs.lemmas.Option.{slice_get-get_or}
 use Rattle.std.proofs.lemmas.List.{length-append, get_or-append-add, get_or_append_left, get_or_default}
 use Rattle.std.proofs.lemmas.Bool.Decides.{nat_tests}
 use Rattle.ctl_store.specs.Step.{place}
-use Rattle.ctl_store.specs.Rows.{has_serial, Rises, replace_at, Id, IsKept, ids_of, sorted_ids, lower, placed_at}
+use Rattle.ctl_store.specs.Slots.{has_serial, Rises, replace_at, Id, HasOrder, ids_of, sorted_ids, lower, placed_at}
 use Rattle.ctl_store.specs.Orders.{ComesAfter}
 use Rattle.ctl_store.specs.Inside.HeldPieces.{joined, length_at, stands_at, last_passes, ArePieces, place_of_spot, IsSpot, IsSpotOrEnd, IsEnd}
 use Rattle.ctl_store.proofs.PlaceLemmas.{Rises-up, place_none}
@@ -160,7 +160,7 @@ module _ {X A : Type 0} where
   stands_within (q ∷ ps) zero j l = omega (arith, length-append q.items (joined ps))
   stands_within (q ∷ ps) (suc i) j l = omega (arith, length-append q.items (joined ps), length-append q.items (joined (take i ps)), stands_within ps i j l)
 
--- ---- a row that takes another value
+-- ---- a slot that takes another value
 
 module _ {V : Type 0} where
   replace_in : (xs ys : List (ℕ × V)) (j : ℕ) (r : ℕ × V) (x : V) → j < length xs → r ≡ get_or xs j r → set xs j (r.0, x) ++ ys ≡ replace_at (xs ++ ys) j x
@@ -182,11 +182,11 @@ module _ {V A : Type 0} where
       ∙ sym (replace_behind q.items (joined ps) (stands_at ps i j) x)
       ∙ ap (λ n. replace_at (q.items ++ joined ps) n x) (sym (stands_next q ps i j))
 
--- ---- rows whose serials rise
+-- ---- slots whose serials rise
 
 module _ {V : Type 0} where
   abbrev pub is_below : ℕ → ℕ × V → Bool
-  is_below s row = nat_lt row.0 s
+  is_below s slot = nat_lt slot.0 s
 
   pub parted_serials : (s n : ℕ) (rs : List (ℕ × V)) (m : ℕ) → Rises n rs m → IsPartitionedBy (is_below s) rs
   parted_serials s n rs m h i j d le l e =
@@ -210,7 +210,7 @@ module _ {V : Type 0} where
       differs : (a b s k r : ℕ) → (k < r → nat_lt a s ≡ true) → (r ≤ k → nat_lt b s ≡ false) → (r < k → b < a) → (k ≡ r → a ≡ b) → (r ≤ k → b ≡ s → ⊥) → nat_eq a s ≡ false
       differs a b s k r low high up same other = grind (arith, nat_tests, low, high, up, same, other)
 
--- ---- the place of a name and a version, told by the row there and the one before it
+-- ---- the place of a name and a version, told by the slot there and the one before it
 
 pub on_true : {P : Type 0} → (b : Bool) → P → OnTrue b P
 on_true true h = h
@@ -253,9 +253,9 @@ module _ {X A : Type 0} where
       ∙ get_joined ps k (length v.items - 1) v (get_or v.items (length v.items - 1) d) d (omega (arith, len, one)) e (get_or_default v.items (length v.items - 1) d _ (omega (arith, one)))
 
 module _ {A : Type 0} where
-  pub lower_between : (rows : List (ℕ × Content)) (next : ℕ) (ps : List (Vec Placed A)) → IsKept rows next (joined ps) → (q : Id) (spot : Spot) → IsSpot ps spot → (s : Placed) → ((d : Placed) → get_or (joined ps) (place_of_spot ps spot) d ≡ s)
-      → is_lt (placed_at rows q s) ≡ false → ComesAfter rows (joined ps) (place_of_spot ps spot) q → place_of_spot ps spot ≡ lower q (sorted_ids (ids_of rows))
-  lower_between rows next ps kept q spot there s at here before =
+  pub lower_between : (slots : List (ℕ × Content)) (next : ℕ) (ps : List (Vec Placed A)) → HasOrder slots next (joined ps) → (q : Id) (spot : Spot) → IsSpot ps spot → (s : Placed) → ((d : Placed) → get_or (joined ps) (place_of_spot ps spot) d ≡ s)
+      → is_lt (placed_at slots q s) ≡ false → ComesAfter slots (joined ps) (place_of_spot ps spot) q → place_of_spot ps spot ≡ lower q (sorted_ids (ids_of slots))
+  lower_between slots next ps kept q spot there s at here before =
       let w = stands_within ps spot.piece spot.at there in
-      lower_is rows next (joined ps) kept q (place_of_spot ps spot) (omega (arith, w))
-      (end_between (λ one. is_lt (placed_at rows q one)) (joined ps) (place_of_spot ps spot) (parted_placed rows next (joined ps) kept q) w before (λ d. ap (λ one. is_lt (placed_at rows q one)) (at d) ∙ here))
+      lower_is slots next (joined ps) kept q (place_of_spot ps spot) (omega (arith, w))
+      (end_between (λ one. is_lt (placed_at slots q one)) (joined ps) (place_of_spot ps spot) (parted_placed slots next (joined ps) kept q) w before (λ d. ap (λ one. is_lt (placed_at slots q one)) (at d) ∙ here))

@@ -97,7 +97,7 @@ module _ {L : Type 0} (R : L → L → Ordering) where
     find-insert q x [] = refl
     find-insert q x (y ∷ ys) = grind (arith, find-insert q x ys)
 
-    -- the first of the rows is the first of them in order
+    -- the first of the slots is the first of them in order
     pub find-sorted : (q : L) (xs : List (ℕ × L)) → find (is_at q) (sorted_in R xs) ≡ find (is_at q) xs
     find-sorted q [] = refl
     find-sorted q (x ∷ xs) = find-insert q x (sorted_in R xs) ∙ ap (cond (is_at q x) (Some x)) (find-sorted q xs)
@@ -117,7 +117,7 @@ module _ {L : Type 0} (R : L → L → Ordering) where
     pub found : (q : L) (xs : List (ℕ × L)) → find (is_at q) xs ≡ if_at q (slice_get (sorted_in R xs) (below_in R q (sorted_in R xs)))
     found q xs = sym (find-sorted q xs) ∙ found_at_lower q (sorted_in R xs) (in_order xs)
 
-    -- ---- a last row
+    -- ---- a last slot
 
     insert-put_upper : (x r : ℕ × L) (ys : List (ℕ × L)) → insert_in R x (put_upper r ys) ≡ put_upper r (insert_in R x ys)
     insert-put_upper x r [] = refl
@@ -131,17 +131,17 @@ module _ {L : Type 0} (R : L → L → Ordering) where
     put_upper-insert r [] e = refl
     put_upper-insert r (y ∷ ys) e = grind (arith, put_upper-insert r ys)
 
-    -- where none has its label, a last row goes where halving leads
+    -- where none has its label, a last slot goes where halving leads
     pub sorted-append : (xs : List (ℕ × L)) (r : ℕ × L) → find (is_at r.1) xs ≡ None → sorted_in R (xs ++ r ∷ []) ≡ insert (sorted_in R xs) (below_in R r.1 (sorted_in R xs)) r
     sorted-append xs r e = sorted-push xs r ∙ put_upper-insert r (sorted_in R xs) (find-sorted r.1 xs ∙ e)
 
-    -- ---- a row that goes
+    -- ---- a slot that goes
 
     head_insert : (r y : ℕ × L) (ys : List (ℕ × L)) → g r.1 y.1 ≡ false → AllByRecursion (λ z. g y.1 z.1 ≡ false) ys → insert_in R r ys ≡ r ∷ ys
     head_insert r y [] e h = refl
     head_insert r y (z ∷ ys) e h = ap (λ t. cond t (z ∷ insert_in R r ys) (r ∷ z ∷ ys)) (up r.1 y.1 z.1 e h.0)
 
-    -- the row itself is the first that goes
+    -- the slot itself is the first that goes
     drop_first-insert_at : (q : L) (r : ℕ × L) (ys : List (ℕ × L)) → is_at q r ≡ true → drop_first q (insert_in R r ys) ≡ ys
     drop_first-insert_at q r [] e = ap (λ t. cond t [] (r ∷ [])) e
     drop_first-insert_at q r (y ∷ ys) e = grind (arith, drop_first-insert_at q r ys e)
@@ -168,7 +168,7 @@ module _ {L : Type 0} (R : L → L → Ordering) where
     some-place q [] = refl
     some-place q (x ∷ xs) = grind (arith, some-place q xs)
 
-    -- after a row at the first place of a label goes
+    -- after a slot at the first place of a label goes
     pub sorted-remove : (q : L) (xs : List (ℕ × L)) (i : ℕ) → place (λ x. is_eq (R x.1 q)) xs ≡ Some i → sorted_in R (remove xs i) ≡ remove (sorted_in R xs) (below_in R q (sorted_in R xs))
     sorted-remove q xs i e =
         sym (ap (sorted_in R) (drop_first-place q xs i e))
@@ -211,10 +211,10 @@ module _ {L : Type 0} (R : L → L → Ordering) where
     lower_within q [] = omega arith
     lower_within q (y ∷ ys) = grind (arith, lower_within q ys)
 
--- ---- what an order of labels says of the rows, and how it changes with them
+-- ---- what an order of labels says of the slots, and how it changes with them
 
 module _ {L : Type 0} where
-  -- ---- each serial of the order leads to its row
+  -- ---- each serial of the order leads to its slot
 
   pub all_from : (n : ℕ) (xs : List (ℕ × L)) (m : ℕ) → Rises n xs m → AllByRecursion (λ (x : ℕ × L). n ≤ x.0) xs
   all_from n [] m h = tt
@@ -233,43 +233,43 @@ module _ {L : Type 0} where
   some_below (x ∷ xs) (suc k) l = some_below xs k (omega arith)
 
 module _ {L : Type 0} (R : L → L → Ordering) (total : IsTotalOrder R) {T : Type 0} (label : ℕ × T → L) where
-  -- ---- rows and their labels
+  -- ---- slots and their labels
 
-  place-labels : (q : L) (rows : List (ℕ × T)) → place_in R label q rows ≡ place (λ (x : ℕ × L). is_eq (R x.1 q)) (labelled label rows)
-  place-labels q rows = sym (place-map (λ (r : ℕ × T). (r.0, label r)) (λ x. is_eq (R x.1 q)) rows)
+  place-labels : (q : L) (slots : List (ℕ × T)) → place_in R label q slots ≡ place (λ (x : ℕ × L). is_eq (R x.1 q)) (labelled label slots)
+  place-labels q slots = sym (place-map (λ (r : ℕ × T). (r.0, label r)) (λ x. is_eq (R x.1 q)) slots)
 
-  serial-labels : (s : ℕ) (rows : List (ℕ × T)) → place (has_serial s) (labelled label rows) ≡ place (has_serial s) rows
-  serial-labels s rows = place-map (λ (r : ℕ × T). (r.0, label r)) (has_serial s) rows
+  serial-labels : (s : ℕ) (slots : List (ℕ × T)) → place (has_serial s) (labelled label slots) ≡ place (has_serial s) slots
+  serial-labels s slots = place-map (λ (r : ℕ × T). (r.0, label r)) (has_serial s) slots
 
-  pub lookup-labels : (s : ℕ) (rows : List (ℕ × T)) → lookup (λ k. nat_eq k s) (labelled label rows) ≡ option_map (λ (x : T). label (s, x)) (lookup (λ k. nat_eq k s) rows)
+  pub lookup-labels : (s : ℕ) (slots : List (ℕ × T)) → lookup (λ k. nat_eq k s) (labelled label slots) ≡ option_map (λ (x : T). label (s, x)) (lookup (λ k. nat_eq k s) slots)
   lookup-labels s [] = refl
-  lookup-labels s (r ∷ rows) = grind (arith, lookup-labels s rows)
+  lookup-labels s (r ∷ slots) = grind (arith, lookup-labels s slots)
 
-  pub Rises-labels : (n : ℕ) (rows : List (ℕ × T)) (m : ℕ) → Rises n rows m → Rises n (labelled label rows) m
+  pub Rises-labels : (n : ℕ) (slots : List (ℕ × T)) (m : ℕ) → Rises n slots m → Rises n (labelled label slots) m
   Rises-labels n [] m h = h
-  Rises-labels n (r ∷ rows) m h = (h.0, Rises-labels (suc r.0) rows m h.1)
+  Rises-labels n (r ∷ slots) m h = (h.0, Rises-labels (suc r.0) slots m h.1)
 
   -- an item of the same label
-  labels-replace : (rows : List (ℕ × T)) (i : ℕ) (x : T) → i < length rows → ((d : ℕ × T) → label (get_or rows i d) ≡ label ((get_or rows i d).0, x)) → labelled label (replace_at rows i x) ≡ labelled label rows
+  labels-replace : (slots : List (ℕ × T)) (i : ℕ) (x : T) → i < length slots → ((d : ℕ × T) → label (get_or slots i d) ≡ label ((get_or slots i d).0, x)) → labelled label (replace_at slots i x) ≡ labelled label slots
   labels-replace [] i x l e = refl
-  labels-replace (r ∷ rows) zero x l e = ap (λ (t : L). (r.0, t) ∷ labelled label rows) (sym (e r))
-  labels-replace (r ∷ rows) (suc i) x l e = ap (λ l. (r.0, label r) ∷ l) (labels-replace rows i x (omega arith) e)
+  labels-replace (r ∷ slots) zero x l e = ap (λ (t : L). (r.0, t) ∷ labelled label slots) (sym (e r))
+  labels-replace (r ∷ slots) (suc i) x l e = ap (λ l. (r.0, label r) ∷ l) (labels-replace slots i x (omega arith) e)
 
-  order-found : (rows : List (ℕ × T)) (q : L) (y : ℕ × L) → lookup (λ k. nat_eq k y.0) (labelled label rows) ≡ Some y.1 → order_in R label rows q y.0 ≡ R y.1 q
-  order-found rows q y e = by (lookup (λ k. nat_eq k y.0) rows) (sym (lookup-labels y.0 rows) ∙ e)
+  order-found : (slots : List (ℕ × T)) (q : L) (y : ℕ × L) → lookup (λ k. nat_eq k y.0) (labelled label slots) ≡ Some y.1 → order_in R label slots q y.0 ≡ R y.1 q
+  order-found slots q y e = by (lookup (λ k. nat_eq k y.0) slots) (sym (lookup-labels y.0 slots) ∙ e)
     where
       by : (o : Option T) → option_map (λ (x : T). label (y.0, x)) o ≡ Some y.1 → option_map_or (λ (x : T). R (label (y.0, x)) q) o Less ≡ R y.1 q
       by o e = grind arith
 
-  module _ (rows : List (ℕ × T)) (next : ℕ) (rises : Rises 0 rows next) where
-    pub order-sorted : (q : L) (k : ℕ) (y : ℕ × L) → slice_get (sorted_in R (labelled label rows)) k ≡ Some y → order_in R label rows q y.0 ≡ R y.1 q
+  module _ (slots : List (ℕ × T)) (next : ℕ) (rises : Rises 0 slots next) where
+    pub order-sorted : (q : L) (k : ℕ) (y : ℕ × L) → slice_get (sorted_in R (labelled label slots)) k ≡ Some y → order_in R label slots q y.0 ≡ R y.1 q
     order-sorted q k y e = grind (arith, order-found, q, all_get, k, all_sorted, all_lookup, Rises-labels)
 
-  -- An order of entries, with a test that tells of each how its row stands to a label.
-  module _ {E : Type 0} (entry : ℕ × L → E) (rows : List (ℕ × T)) (next : ℕ) (order : List E) (kept : IsRankedBy R label entry rows next order) (q : L) (o : E → Ordering)
-      (tells : (k : ℕ) (y : ℕ × L) → slice_get (sorted_in R (labelled label rows)) k ≡ Some y → o (entry y) ≡ R y.1 q) where
+  -- An order of entries, with a test that tells of each how its slot stands to a label.
+  module _ {E : Type 0} (entry : ℕ × L → E) (slots : List (ℕ × T)) (next : ℕ) (order : List E) (kept : IsRankedBy R label entry slots next order) (q : L) (o : E → Ordering)
+      (tells : (k : ℕ) (y : ℕ × L) → slice_get (sorted_in R (labelled label slots)) k ≡ Some y → o (entry y) ≡ R y.1 q) where
     abbrev sorted : List (ℕ × L)
-    sorted = sorted_in R (labelled label rows)
+    sorted = sorted_in R (labelled label slots)
 
     read : (k : ℕ) (d : E) → k < length order → (y : ℕ × L) × (slice_get sorted k ≡ Some y) × (o (get_or order k d) ≡ R y.1 q)
     read k d w =
@@ -280,7 +280,7 @@ module _ {L : Type 0} (R : L → L → Ordering) (total : IsTotalOrder R) {T : T
     below k d w l = let y = read k d w in ap is_lt y.2 ∙ before_lower R total q sorted k y.0 l y.1
 
     above : (k : ℕ) (d : E) → k < length order → below_in R q sorted ≤ k → is_lt (o (get_or order k d)) ≡ false
-    above k d w l = let y = read k d w in ap is_lt y.2 ∙ from_lower R total q (labelled label rows) k y.0 l y.1
+    above k d w l = let y = read k d w in ap is_lt y.2 ∙ from_lower R total q (labelled label slots) k y.0 l y.1
 
     -- the smaller ones stand first
     pub parted : IsPartitionedBy (λ s. is_lt (o s)) order
@@ -294,70 +294,70 @@ module _ {L : Type 0} (R : L → L → Ordering) (total : IsTotalOrder R) {T : T
     below_is d r w h =
         grind (arith, below r d, below_length, above (below_in R q sorted) d, h.0 (below_in R q sorted) d, h.1 r d)
 
-    -- ---- the first row of a label
+    -- ---- the first slot of a label
 
     module _ (serial : E → ℕ) (serial_is : (y : ℕ × L) → serial (entry y) ≡ y.0) where
       abbrev pub at_place : Option E → Option ℕ
       at_place None = None
-      at_place (Some s) = cond (is_eq (o s)) (place (has_serial (serial s)) rows) None
+      at_place (Some s) = cond (is_eq (o s)) (place (has_serial (serial s)) slots) None
 
-      found_place : place_in R label q rows ≡ at_place (slice_get order (below_in R q sorted))
+      found_place : place_in R label q slots ≡ at_place (slice_get order (below_in R q sorted))
       found_place =
-          place-labels q rows
+          place-labels q slots
           ∙ by (slice_get sorted (below_in R q sorted)) refl
           ∙ sym (ap (λ (s : List E). at_place (slice_get s (below_in R q sorted))) kept.ordered ∙ ap at_place (slice_get-map entry sorted (below_in R q sorted)))
         where
-          by : (x : Option (ℕ × L)) → slice_get sorted (below_in R q sorted) ≡ x → place (λ (x : ℕ × L). is_eq (R x.1 q)) (labelled label rows) ≡ at_place (option_map entry x)
-          by None e = place-find_none R total q (labelled label rows) (found R total q (labelled label rows) ∙ ap (if_at R q) e)
+          by : (x : Option (ℕ × L)) → slice_get sorted (below_in R q sorted) ≡ x → place (λ (x : ℕ × L). is_eq (R x.1 q)) (labelled label slots) ≡ at_place (option_map entry x)
+          by None e = place-find_none R total q (labelled label slots) (found R total q (labelled label slots) ∙ ap (if_at R q) e)
           by (Some y) e = test (is_eq (R y.1 q)) refl
             where
-              test : (b : Bool) → is_eq (R y.1 q) ≡ b → place (λ (x : ℕ × L). is_eq (R x.1 q)) (labelled label rows) ≡ cond (is_eq (o (entry y))) (place (has_serial (serial (entry y))) rows) None
+              test : (b : Bool) → is_eq (R y.1 q) ≡ b → place (λ (x : ℕ × L). is_eq (R x.1 q)) (labelled label slots) ≡ cond (is_eq (o (entry y))) (place (has_serial (serial (entry y))) slots) None
               test b k = grind (arith, place-find, q, Rises-labels, found, if_at, k, serial-labels, tells, serial_is, place-find_none)
 
-      pub found_here : (at : ℕ) (d : E) → at ≡ below_in R q sorted → at < length order → place_in R label q rows ≡ cond (is_eq (o (get_or order at d))) (place (has_serial (serial (get_or order at d))) rows) None
+      pub found_here : (at : ℕ) (d : E) → at ≡ below_in R q sorted → at < length order → place_in R label q slots ≡ cond (is_eq (o (get_or order at d))) (place (has_serial (serial (get_or order at d))) slots) None
       found_here at d e l = found_place ∙ ap (λ k. at_place (slice_get order k)) (sym e) ∙ ap at_place (slice_get-get_or order at d l)
 
-      pub found_past : (at : ℕ) → at ≡ below_in R q sorted → length order ≤ at → place_in R label q rows ≡ None
+      pub found_past : (at : ℕ) → at ≡ below_in R q sorted → length order ≤ at → place_in R label q slots ≡ None
       found_past at e l = found_place ∙ ap (λ k. at_place (slice_get order k)) (sym e) ∙ ap at_place (slice_get_past order at l)
 
-      -- the place of a row that is there lies in the order
-      pub below_there : (i : ℕ) → place_in R label q rows ≡ Some i → below_in R q sorted < length order
+      -- the place of a slot that is there lies in the order
+      pub below_there : (i : ℕ) → place_in R label q slots ≡ Some i → below_in R q sorted < length order
       below_there i e = grind (arith, below_length, found_past)
 
   -- ---- the order after a change
 
-  module _ {E : Type 0} (entry : ℕ × L → E) (rows : List (ℕ × T)) (next : ℕ) (order : List E) (kept : IsRankedBy R label entry rows next order) where
-    pub ranked_replace : (x : T) (i : ℕ) → i < length rows → ((d : ℕ × T) → label (get_or rows i d) ≡ label ((get_or rows i d).0, x)) → IsRankedBy R label entry (replace_at rows i x) next order
+  module _ {E : Type 0} (entry : ℕ × L → E) (slots : List (ℕ × T)) (next : ℕ) (order : List E) (kept : IsRankedBy R label entry slots next order) where
+    pub ranked_replace : (x : T) (i : ℕ) → i < length slots → ((d : ℕ × T) → label (get_or slots i d) ≡ label ((get_or slots i d).0, x)) → IsRankedBy R label entry (replace_at slots i x) next order
     ranked_replace x i l e = record {
-      rises = Rises-replace 0 rows next i x kept.rises;
-      ordered = kept.ordered ∙ ap (λ xs. map entry (sorted_in R xs)) (sym (labels-replace rows i x l e));
+      rises = Rises-replace 0 slots next i x kept.rises;
+      ordered = kept.ordered ∙ ap (λ xs. map entry (sorted_in R xs)) (sym (labels-replace slots i x l e));
     }
 
-    pub ranked_push : (x : T) → place_in R label (label (next, x)) rows ≡ None → IsRankedBy R label entry (rows ++ (next, x) ∷ []) (next + 1) (insert order (below_in R (label (next, x)) (sorted_in R (labelled label rows))) (entry (next, label (next, x))))
+    pub ranked_push : (x : T) → place_in R label (label (next, x)) slots ≡ None → IsRankedBy R label entry (slots ++ (next, x) ∷ []) (next + 1) (insert order (below_in R (label (next, x)) (sorted_in R (labelled label slots))) (entry (next, label (next, x))))
     ranked_push x e = record {
-      rises = rises_last x 0 rows next kept.rises;
+      rises = rises_last x 0 slots next kept.rises;
       ordered =
           ap (λ (s : List E). insert s k (entry (next, q))) kept.ordered
-          ∙ sym (map-insert entry (sorted_in R (labelled label rows)) k (next, q))
-          ∙ ap (map entry) (sym (sorted-append R total (labelled label rows) (next, q) (none_is _ (sym (some-place R total q (labelled label rows)) ∙ ap is_some (sym (place-labels q rows) ∙ e)))))
-          ∙ ap (λ xs. map entry (sorted_in R xs)) (sym (map-append (λ (r : ℕ × T). (r.0, label r)) rows ((next, x) ∷ [])));
+          ∙ sym (map-insert entry (sorted_in R (labelled label slots)) k (next, q))
+          ∙ ap (map entry) (sym (sorted-append R total (labelled label slots) (next, q) (none_is _ (sym (some-place R total q (labelled label slots)) ∙ ap is_some (sym (place-labels q slots) ∙ e)))))
+          ∙ ap (λ xs. map entry (sorted_in R xs)) (sym (map-append (λ (r : ℕ × T). (r.0, label r)) slots ((next, x) ∷ [])));
     }
       where
         q : L
         q = label (next, x)
 
         k : ℕ
-        k = below_in R q (sorted_in R (labelled label rows))
+        k = below_in R q (sorted_in R (labelled label slots))
 
-    pub ranked_remove : (q : L) (i : ℕ) → place_in R label q rows ≡ Some i → IsRankedBy R label entry (remove rows i) next (remove order (below_in R q (sorted_in R (labelled label rows))))
+    pub ranked_remove : (q : L) (i : ℕ) → place_in R label q slots ≡ Some i → IsRankedBy R label entry (remove slots i) next (remove order (below_in R q (sorted_in R (labelled label slots))))
     ranked_remove q i e = record {
-      rises = Rises-remove 0 rows next i kept.rises (place_within (λ (row : ℕ × T). is_eq (R (label row) q)) rows i e);
+      rises = Rises-remove 0 slots next i kept.rises (place_within (λ (slot : ℕ × T). is_eq (R (label slot) q)) slots i e);
       ordered =
           ap (λ (s : List E). remove s k) kept.ordered
-          ∙ sym (map-remove entry (sorted_in R (labelled label rows)) k)
-          ∙ ap (map entry) (sym (sorted-remove R total q (labelled label rows) i (sym (place-labels q rows) ∙ e)))
-          ∙ ap (λ xs. map entry (sorted_in R xs)) (sym (map-remove (λ (r : ℕ × T). (r.0, label r)) rows i));
+          ∙ sym (map-remove entry (sorted_in R (labelled label slots)) k)
+          ∙ ap (map entry) (sym (sorted-remove R total q (labelled label slots) i (sym (place-labels q slots) ∙ e)))
+          ∙ ap (λ xs. map entry (sorted_in R xs)) (sym (map-remove (λ (r : ℕ × T). (r.0, label r)) slots i));
     }
       where
         k : ℕ
-        k = below_in R q (sorted_in R (labelled label rows))
+        k = below_in R q (sorted_in R (labelled label slots))

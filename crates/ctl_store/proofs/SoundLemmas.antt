@@ -13,14 +13,14 @@ use Rattle.ctl_store.specs.Step.{after, is_same_kind, new_list, put_stanza, refu
 use Rattle.ctl_store.specs.Kinds.{AreOfKind, KeepKinds}
 use Rattle.ctl_store.proofs.AcceptLemmas.{put_takes, count-push, count-without, count-change, status_count-push, status_count-without, status_count-change}
 use Rattle.ctl_store.specs.declared.list_class.ListClass.{ListClass}
-use Rattle.ctl_store.specs.Rows.{Rises, rows_from}
+use Rattle.ctl_store.specs.Slots.{Rises, slots_from}
 use Rattle.ctl_store.specs.Keys.{KeyedList, stanza_list, stanza_lists, list_of_stanzas}
-use Rattle.ctl_ordered.specs.Ordered.{Held as Ordered, entries, next_put, without_serials}
+use Rattle.ctl_ordered.specs.Ordered.{OrderedEntries as Ordered, entries, next_put, without_serials}
 use Rattle.std.specs.Map.{lookup}
 use Rattle.indexmap.specs.IndexMap.{insert_entry}
 use Rattle.ctl_store.specs.Store.{HeldList, lists_of}
-use Rattle.ctl_store.specs.Inside.Held.{InOrder, AreNumbered, IsSound}
-use Rattle.ctl_store.proofs.PlaceLemmas.{Rises-rows_from, all_append, all_set, all_removed}
+use Rattle.ctl_store.specs.Inside.Sound.{InOrder, AreNumbered, IsSound}
+use Rattle.ctl_store.proofs.PlaceLemmas.{Rises-slots_from, all_append, all_set, all_removed}
 use Rattle.ctl_store.proofs.ListedLemmas.{InOrder-weaken, in_order_push, in_order_without, in_order_change, Changes, new_lists, without_lists, change_lists}
 
 put_kind : (kind : ListKind) (x : Content) (xs : List Content) → x.kind ≡ kind → AreOfKind kind xs → AreOfKind kind (put_stanza x xs)
@@ -102,15 +102,15 @@ next_is (Some x) held many count m e = omega (arith, m, e)
 pub put_fresh : {K X : Type 0} (eq : K → K → Bool) (k : K) (v : X) (held : Ordered K X) → held.next ≡ length (entries held) → next_put (lookup (eq k) (entries held)) held ≡ length (insert_entry eq (entries held) k v)
 put_fresh eq k v held e = next_is (lookup (eq k) (entries held)) held (length (insert_entry eq (entries held) k v)) (length (entries held)) (inserted eq k v (entries held)) e
 
-module _ {rows : List (ℕ × (List ℕ × HeldList))} {given next statuses stanzas edits : ℕ} {limits : Limits} {marks pins : ℕ} (sound : IsSound rows given next statuses stanzas edits limits marks pins) where
+module _ {slots : List (ℕ × (List ℕ × HeldList))} {given next statuses stanzas edits : ℕ} {limits : Limits} {marks pins : ℕ} (sound : IsSound slots given next statuses stanzas edits limits marks pins) where
   abbrev lists : List (List ℕ × HeldList)
-  lists = without_serials rows
+  lists = without_serials slots
 
   one_more : (ls : List (List ℕ × KeyedList)) (n : ℕ) → InOrder 0 ls n ((limits.stanzas + edits) + 1) → InOrder 0 ls n (limits.stanzas + (edits + 1))
   one_more ls n h = InOrder-weaken 0 0 ls n ((limits.stanzas + edits) + 1) (limits.stanzas + (edits + 1)) (omega arith) (omega arith) h
 
   -- an edit of other parts
-  pub sound_more : (next_mark next_pin : ℕ) → next_mark ≤ edits + 1 → next_pin ≤ 2 ^ 63 + (edits + 1) → IsSound rows given next statuses stanzas (edits + 1) limits next_mark next_pin
+  pub sound_more : (next_mark next_pin : ℕ) → next_mark ≤ edits + 1 → next_pin ≤ 2 ^ 63 + (edits + 1) → IsSound slots given next statuses stanzas (edits + 1) limits next_mark next_pin
   sound_more next_mark next_pin few_marks few_pins = record {
     numbered = sound.numbered;
     next_is = sound.next_is;
@@ -132,7 +132,7 @@ module _ {rows : List (ℕ × (List ℕ × HeldList))} {given next statuses stan
   sound_add new name kind class xs each numbered e within = record {
     numbered = numbered;
     next_is = omega (arith, sound.next_is);
-    order = subst (λ ls. InOrder 0 ls (next + 1) (limits.stanzas + (edits + 1))) (sym e) (one_more (lists_of lists ++ (name, list_of_stanzas next kind class xs) ∷ []) (next + 1) (in_order_push 0 (lists_of lists) next (limits.stanzas + edits) name (list_of_stanzas next kind class xs) refl (omega arith) (subst (λ m. Rises 0 (rows_from 0 xs) m) (let z : 0 + length xs ≡ length xs = omega arith in z) (Rises-rows_from 0 xs)) sound.order));
+    order = subst (λ ls. InOrder 0 ls (next + 1) (limits.stanzas + (edits + 1))) (sym e) (one_more (lists_of lists ++ (name, list_of_stanzas next kind class xs) ∷ []) (next + 1) (in_order_push 0 (lists_of lists) next (limits.stanzas + edits) name (list_of_stanzas next kind class xs) refl (omega arith) (subst (λ m. Rises 0 (slots_from 0 xs) m) (let z : 0 + length xs ≡ length xs = omega arith in z) (Rises-slots_from 0 xs)) sound.order));
     few = omega (arith, sound.few);
     few_marks = omega (arith, sound.few_marks);
     few_pins = omega (arith, sound.few_pins);

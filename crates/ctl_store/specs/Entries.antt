@@ -13,11 +13,11 @@ use Rattle.ctl_store.specs.Keys.{KeyedList, stanza_lists, key_of, key_is, all_ke
 abbrev pub Entry : Type 0
 Entry = StanzaKey × Content
 
-abbrev pub rows_under : ℕ → List (ℕ × Content) → List Entry
-rows_under list rows = map (λ (row : ℕ × Content). (key_of list row.0, row.1)) rows
+abbrev pub slots_under : ℕ → List (ℕ × Content) → List Entry
+slots_under list slots = map (λ (slot : ℕ × Content). (key_of list slot.0, slot.1)) slots
 
 abbrev pub entries_in : KeyedList → List Entry
-entries_in l = rows_under l.serial l.rows
+entries_in l = slots_under l.serial l.slots
 
 -- all stanzas under their keys, list by list and stanza by stanza
 abbrev pub entries_of : List (List ℕ × KeyedList) → List Entry

@@ -3,4 +3,4 @@ pub mod HeldPieces
 pub mod HeldPins
 pub mod NewLists
 pub mod Sorted
-pub mod Held
+pub mod Sound

@@ -14,7 +14,7 @@ use Rattle.ctl_store.specs.Named.{at_name, without_name, change_named}
 use Rattle.ctl_store.specs.State.{StanzaList}
 use Rattle.ctl_store.specs.Edits.{Edit, AddList, DropList, Put, Remove}
 use Rattle.ctl_store.specs.Step.{place}
-use Rattle.ctl_store.specs.Rows.{by_name_and_version, rows_from, put_row, next_after_put, remove_row}
+use Rattle.ctl_store.specs.Slots.{by_name_and_version, slots_from, put_slot, next_after_put, remove_slot}
 
 -- a list with its serial, its stanzas under theirs, and the serial of its next new stanza
 pub record KeyedList : Type 0 where
@@ -22,7 +22,7 @@ pub record KeyedList : Type 0 where
   pub kind : ListKind
   pub class : ListClass
   pub next : ℕ
-  pub rows : List (ℕ × Content)
+  pub slots : List (ℕ × Content)
 
 -- the lists, and the serial of the next one
 pub record Keyed : Type 0 where
@@ -31,10 +31,10 @@ pub record Keyed : Type 0 where
 
 -- without the serials
 abbrev pub stanzas_of : List (ℕ × Content) → List Content
-stanzas_of rows = map (λ (row : ℕ × Content). row.1) rows
+stanzas_of slots = map (λ (slot : ℕ × Content). slot.1) slots
 
 abbrev pub stanza_list : KeyedList → StanzaList
-stanza_list l = record { kind = l.kind; class = l.class; stanzas = stanzas_of l.rows }
+stanza_list l = record { kind = l.kind; class = l.class; stanzas = stanzas_of l.slots }
 
 abbrev pub stanza_lists : List (List ℕ × KeyedList) → List (List ℕ × StanzaList)
 stanza_lists ls = map (λ (l : List ℕ × KeyedList). (l.0, stanza_list l.1)) ls
@@ -42,17 +42,17 @@ stanza_lists ls = map (λ (l : List ℕ × KeyedList). (l.0, stanza_list l.1)) l
 -- ---- what an edit makes of them
 
 abbrev pub new_list : ℕ → ListKind → ListClass → ℕ → List (ℕ × Content) → KeyedList
-new_list serial kind class next rows = record { serial = serial; kind = kind; class = class; next = next; rows = rows }
+new_list serial kind class next slots = record { serial = serial; kind = kind; class = class; next = next; slots = slots }
 
 -- a list with these stanzas, under the serials from 0 on
 abbrev pub list_of_stanzas : ℕ → ListKind → ListClass → List Content → KeyedList
-list_of_stanzas serial kind class stanzas = new_list serial kind class (length stanzas) (rows_from 0 stanzas)
+list_of_stanzas serial kind class stanzas = new_list serial kind class (length stanzas) (slots_from 0 stanzas)
 
 abbrev pub put_keyed : Content → KeyedList → KeyedList
-put_keyed x l = record l { rows = put_row x l.next l.rows; next = next_after_put x l.next l.rows }
+put_keyed x l = record l { slots = put_slot x l.next l.slots; next = next_after_put x l.next l.slots }
 
 abbrev pub remove_keyed : List ℕ → Option (List ℕ) → KeyedList → KeyedList
-remove_keyed name version l = record l { rows = remove_row name version l.rows }
+remove_keyed name version l = record l { slots = remove_slot name version l.slots }
 
 -- A list that comes takes the next serial, and so does a stanza that replaces no other.
 abbrev pub keyed_after : Keyed → Edit → Keyed
@@ -72,7 +72,7 @@ abbrev pub key_of : ℕ → ℕ → StanzaKey
 key_of list serial = record { list = list; stanza = serial }
 
 abbrev pub keys_of : KeyedList → List StanzaKey
-keys_of l = map (λ (row : ℕ × Content). key_of l.serial row.0) l.rows
+keys_of l = map (λ (slot : ℕ × Content). key_of l.serial slot.0) l.slots
 
 abbrev pub key_cmp : StanzaKey → StanzaKey → Ordering
 key_cmp a b = ordering_then (nat_cmp a.list b.list) (nat_cmp a.stanza b.stanza)
@@ -94,12 +94,12 @@ abbrev pub IsNotAmong : StanzaKey → List StanzaKey → Type 0
 IsNotAmong k ks = AllByRecursion (λ q. key_is k q ≡ false) ks
 
 -- the stanza of a key: each list is asked in turn
-abbrev pub in_rows : StanzaKey → KeyedList → Option Content
-in_rows k l = if nat_eq l.serial k.list then lookup (λ s. nat_eq s k.stanza) l.rows else None
+abbrev pub in_slots : StanzaKey → KeyedList → Option Content
+in_slots k l = if nat_eq l.serial k.list then lookup (λ s. nat_eq s k.stanza) l.slots else None
 
 abbrev pub stanza_at : StanzaKey → List (List ℕ × KeyedList) → Option Content
 stanza_at k [] = None
-stanza_at k (l ∷ ls) = option_or (in_rows k l.1) (stanza_at k ls)
+stanza_at k (l ∷ ls) = option_or (in_slots k l.1) (stanza_at k ls)
 
 -- each key has a stanza
 abbrev pub AreHeld : List StanzaKey → List (List ℕ × KeyedList) → Type 0
@@ -113,7 +113,7 @@ list_at serial (l ∷ ls) = if nat_eq l.1.serial serial then Some l.0 else list_
 -- the key at a place
 abbrev pub key_at : KeyedList → Option ℕ → List StanzaKey
 key_at l None = []
-key_at l (Some i) = map (λ (row : ℕ × Content). key_of l.serial row.0) (take 1 (drop i l.rows))
+key_at l (Some i) = map (λ (slot : ℕ × Content). key_of l.serial slot.0) (take 1 (drop i l.slots))
 
 -- the key of the next new stanza of a list
 abbrev pub next_key : KeyedList → List StanzaKey
@@ -126,11 +126,11 @@ key_or_new l (Some i) = key_at l (Some i)
 
 -- the key of the first stanza of this name and an equal version
 abbrev pub found_key : List ℕ → Option (List ℕ) → KeyedList → List StanzaKey
-found_key name version l = key_at l (place (by_name_and_version name version) l.rows)
+found_key name version l = key_at l (place (by_name_and_version name version) l.slots)
 
 -- the key under which a stanza that is put stands
 abbrev pub put_key : Content → KeyedList → List StanzaKey
-put_key x l = key_or_new l (place (by_name_and_version (package_of x) (version_of x)) l.rows)
+put_key x l = key_or_new l (place (by_name_and_version (package_of x) (version_of x)) l.slots)
 
 abbrev pub found_in : List ℕ → List ℕ → Option (List ℕ) → List (List ℕ × KeyedList) → List StanzaKey
 found_in list name version ls = option_map_or (found_key name version) (at_name list ls) []
@@ -189,4 +189,4 @@ AreNew added removed ls = AllByRecursion (λ k. IsNotAmong k removed → stanza_
 -- the name of the list that holds a key
 abbrev pub holder_of : StanzaKey → List (List ℕ × KeyedList) → Option (List ℕ)
 holder_of k [] = None
-holder_of k (l ∷ ls) = if is_some (in_rows k l.1) then Some l.0 else holder_of k ls
+holder_of k (l ∷ ls) = if is_some (in_slots k l.1) then Some l.0 else holder_of k ls

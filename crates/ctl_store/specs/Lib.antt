@@ -17,7 +17,7 @@ pub mod PrefsFaults
 pub mod Edits
 pub mod Places
 pub mod Step
-pub mod Rows
+pub mod Slots
 pub mod Fronts
 pub mod Keys
 pub mod Entries

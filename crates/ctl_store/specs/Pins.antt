@@ -35,7 +35,7 @@ abbrev pub AreDistinct : List (Selector × ℤ) → Type 0
 AreDistinct pins = IsDistinct selector_eq (names_of pins)
 
 -- pin settings that take the place of all
-pub record Settings : Type 0 where
+pub record NewPins : Type 0 where
   pub pins : List (Selector × ℤ)
 
 -- settings as pairs of a selector and its priority

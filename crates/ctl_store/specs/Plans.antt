@@ -9,16 +9,16 @@ use Rattle.ctl_store.specs.Inside.HeldPieces.{most_in_piece}
 use Rattle.ctl_store.specs.Keys.{removed_of, added_of, AreHeld, AreNew}
 use Rattle.ctl_store.specs.Store.{HeldList, Held, keyed_of, state_of}
 
--- the room for a new list: for its serials while they are put in order, for its rows, and for the order that stays
+-- the room for a new list: for its serials while they are put in order, for its slots, and for the order that stays
 pub record ListRoom : Type 0 where
   pub serials : ℕ
-  pub rows : ℕ
+  pub slots : ℕ
   pub order : ℕ
 
 -- so many stanzas fit in the room
 pub record Fits (count : ℕ) (room : ListRoom) : Type 0 where
   pub serials : count ≤ room.serials
-  pub rows : count ≤ room.rows
+  pub slots : count ≤ room.slots
   pub order : count ≤ room.order
 
 -- a plan: the edit, the keys that go and come, and what is made ready for the edit
@@ -30,8 +30,8 @@ pub record Planned : Type 0 where
 
 -- there is room for one stanza more in a list
 pub record HasRoomInList (s : HeldList) : Type 0 where
-  pub row : min most_in_piece (length s.rows + 1) ≤ s.room
-  pub order : min most_in_piece (length s.rows + 1) ≤ s.order_room
+  pub slot : min most_in_piece (length s.slots + 1) ≤ s.room
+  pub order : min most_in_piece (length s.slots + 1) ≤ s.order_room
 
 -- what is made ready for a new list
 pub record HasRoomForList (h : Held) (stanzas : List Content) (room : ListRoom) : Type 0 where

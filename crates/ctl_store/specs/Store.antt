@@ -9,13 +9,13 @@ use Rattle.ctl_store.specs.declared.selector.Selector.{Selector}
 use Rattle.ctl_store.specs.State.{State}
 use Rattle.ctl_store.specs.Keys.{KeyedList, Keyed, stanza_lists}
 
--- a list with the room for more of its rows, and in their order
+-- a list with the room for more of its slots, and in their order
 pub record HeldList : Type 0 where
   pub serial : ℕ
   pub kind : ListKind
   pub class : ListClass
   pub next : ℕ
-  pub rows : List (ℕ × Content)
+  pub slots : List (ℕ × Content)
   pub room : ℕ
   pub order_room : ℕ
 
@@ -32,7 +32,7 @@ pub record Held : Type 0 where
   pub limits : Limits
 
 abbrev pub keyed_list : HeldList → KeyedList
-keyed_list s = record { serial = s.serial; kind = s.kind; class = s.class; next = s.next; rows = s.rows }
+keyed_list s = record { serial = s.serial; kind = s.kind; class = s.class; next = s.next; slots = s.slots }
 
 abbrev pub lists_of : List (List ℕ × HeldList) → List (List ℕ × KeyedList)
 lists_of es = map (λ (e : List ℕ × HeldList). (e.0, keyed_list e.1)) es

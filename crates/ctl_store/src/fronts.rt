@@ -2,7 +2,7 @@
 
 ghost use Rattle.std.specs.Prelude.{◌≡◌};
 ghost use Rattle.ctl_store.specs.Fronts.{digit, first_digit, behind_first, front_of};
-ghost use Rattle.ctl_store.specs.Rows.{placed_row};
+ghost use Rattle.ctl_store.specs.Slots.{placed_slot};
 
 use ctl_stanza::Stanza;
 
@@ -12,7 +12,7 @@ const FRONT_LEN: usize = 12;
 // What stands behind a character that has no number of its own.
 const LAST: &[u8] = b"zzzzzzzzzzzz";
 
-/// The serial of a row, with the front of its package's name, by which most comparisons are decided without a look at the row.
+/// The serial of a slot, with the front of its package's name, by which most comparisons are decided without a look at the slot.
 #[derive(Clone, Copy)]
 pub(crate) struct Placed {
     pub(crate) front: u64,
@@ -22,7 +22,7 @@ pub(crate) struct Placed {
 impl Placed {
     /// A stanza under its serial.
     pub(crate) fn new(serial: u64, stanza: &Stanza) -> Placed
-        ensures { result ≡ placed_row (serial, stanza.now) }
+        ensures { result ≡ placed_slot (serial, stanza.now) }
     {
         Placed {
             front: front_of(stanza.package()),

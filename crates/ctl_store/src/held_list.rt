@@ -5,8 +5,8 @@ ghost use Rattle.std.specs.Map.{lookup};
 ghost use Rattle.std.specs.Option.{option_to_list};
 ghost use Rattle.std.specs.Vec.{vec_capacity};
 ghost use Rattle.ctl_store.specs.Step.{place};
-ghost use Rattle.ctl_store.specs.Rows.{by_name_and_version, placed_row, put_row, next_after_put, remove_row};
-ghost use Rattle.ctl_store.specs.Orders.{boxed_rows};
+ghost use Rattle.ctl_store.specs.Slots.{by_name_and_version, placed_slot, put_slot, next_after_put, remove_slot};
+ghost use Rattle.ctl_store.specs.Orders.{boxed_slots};
 ghost use Rattle.ctl_store.specs.Inside.HeldPieces.{most_in_piece, joined, room_at_end};
 ghost use Rattle.ctl_store.specs.Keys.{keys_of, found_key};
 ghost use Rattle.ctl_store.specs.Entries.{entries_in};
@@ -17,7 +17,7 @@ use crate::fronts::Placed;
 use crate::list_class::ListClass;
 use crate::order::{look_up, sort_placed};
 use crate::pieces::{Pieces, Spot};
-use crate::rows::{Row, row_at, row_of};
+use crate::slots::{Slot, slot_at, slot_of};
 use crate::stanza_key::StanzaKey;
 use crate::store::{Keys, ListEntries};
 use ctl_relation::Version;
@@ -27,14 +27,14 @@ use std::cell::Cell;
 use std::marker::Model;
 
 /// The stanzas of one list, in the order in which they stand, and an entry of each in the order of names and versions. A
-/// contract sees the rows and the room for more.
+/// contract sees the slots and the room for more.
 #[derive(Drop)]
 pub(crate) struct HeldList {
     serial: u32,
     kind: ListKind,
     class: ListClass,
     next: u64,
-    rows: Pieces<Row>,
+    slots: Pieces<Slot>,
     order: Pieces<Placed>,
     // Where the edit that was last checked, prepared or made is in the order. A commit follows its prepare, and edits of one
     // stanza follow each other, and one look beside that spot is cheaper than a search. It may be out of date or past the
@@ -44,7 +44,7 @@ pub(crate) struct HeldList {
 
 impl Model for HeldList {
     ghost use Rattle.std.specs.Prelude.{length};
-    ghost use Rattle.ctl_store.specs.Rows.{IsKept};
+    ghost use Rattle.ctl_store.specs.Slots.{HasOrder};
     ghost use Rattle.ctl_store.specs.Inside.HeldPieces.{joined, room_of_last};
     ghost use Rattle.ctl_store.specs.Store.{HeldList};
 
@@ -55,12 +55,12 @@ impl Model for HeldList {
       kind = s.kind;
       class = s.class;
       next = s.next;
-      rows = joined s.rows.pieces;
-      room = room_of_last s.rows.ready;
+      slots = joined s.slots.pieces;
+      room = room_of_last s.slots.ready;
       order_room = room_of_last s.order.ready;
     } };
 
-    ghost invariant = { λ s. IsKept (joined s.rows.pieces) s.next (joined s.order.pieces) };
+    ghost invariant = { λ s. HasOrder (joined s.slots.pieces) s.next (joined s.order.pieces) };
 }
 
 /// A list that is made: its kind, its class and its stanzas, with the room for them.
@@ -72,11 +72,11 @@ pub(crate) struct NewList {
     pub(crate) room: ListRoom,
 }
 
-/// The room for a new list: for its entries of the order while they are sorted, for its rows, and for the order that stays.
+/// The room for a new list: for its entries of the order while they are sorted, for its slots, and for the order that stays.
 #[derive(Drop)]
 pub(crate) struct ListRoom {
     placed: Vec<Placed>,
-    rows: Pieces<Row>,
+    slots: Pieces<Slot>,
     order: Pieces<Placed>,
 }
 
@@ -84,13 +84,13 @@ impl Model for ListRoom {
     ghost use Rattle.std.specs.Vec.{vec_capacity};
     ghost use Rattle.ctl_store.specs.Inside.HeldPieces.{room_at_end};
     ghost use Rattle.ctl_store.specs.Plans.{ListRoom};
-    ghost use Rattle.ctl_store.specs.Inside.Held.{IsBare};
+    ghost use Rattle.ctl_store.specs.Inside.Sound.{IsBare};
 
     ghost Value = { ListRoom };
 
-    ghost view = { λ r. record { serials = vec_capacity r.placed; rows = room_at_end r.rows; order = room_at_end r.order } };
+    ghost view = { λ r. record { serials = vec_capacity r.placed; slots = room_at_end r.slots; order = room_at_end r.order } };
 
-    ghost invariant = { λ r. IsBare r.placed r.rows r.order };
+    ghost invariant = { λ r. IsBare r.placed r.slots r.order };
 }
 
 impl ListRoom {
@@ -98,7 +98,7 @@ impl ListRoom {
     pub(crate) fn new(alloc: Global) -> ListRoom {
         ListRoom {
             placed: Vec::new(alloc),
-            rows: Pieces::new(alloc),
+            slots: Pieces::new(alloc),
             order: Pieces::new(alloc),
         }
     }
@@ -109,20 +109,20 @@ impl ListRoom {
     {
         Ok(ListRoom {
             placed: Vec::with_capacity(alloc, stanzas)?,
-            rows: Pieces::with_capacity(alloc, stanzas)?,
+            slots: Pieces::with_capacity(alloc, stanzas)?,
             order: Pieces::with_capacity(alloc, stanzas)?,
         })
     }
 }
 
-// The stanzas as rows under the serials from 0 on, and their entries of the order as they stand, in the room that is there.
-fn fill_rows(rows: &mut Pieces<Row>, placed: &mut Vec<Placed>, stanzas: Vec<Box<Stanza>>) -> u64
-    requires none { rows.old.pieces ≡ [] }
-    requires room { vec_len stanzas ≤ room_at_end rows.old }
+// The stanzas as slots under the serials from 0 on, and their entries of the order as they stand, in the room that is there.
+fn fill_slots(slots: &mut Pieces<Slot>, placed: &mut Vec<Placed>, stanzas: Vec<Box<Stanza>>) -> u64
+    requires none { slots.old.pieces ≡ [] }
+    requires room { vec_len stanzas ≤ room_at_end slots.old }
     requires none_placed { placed.old.items ≡ [] }
     requires placed_room { vec_len stanzas ≤ vec_capacity placed.old }
-    ensures rows { joined rows.new.pieces ≡ boxed_rows stanzas.items }
-    ensures placed { placed.new.items ≡ map placed_row (boxed_rows stanzas.items) }
+    ensures slots { joined slots.new.pieces ≡ boxed_slots stanzas.items }
+    ensures placed { placed.new.items ≡ map placed_slot (boxed_slots stanzas.items) }
     ensures next { result ≡ vec_len stanzas }
 {
     let mut serial = 0;
@@ -131,7 +131,7 @@ fn fill_rows(rows: &mut Pieces<Row>, placed: &mut Vec<Placed>, stanzas: Vec<Box<
             Ok(()) => {}
             Err(_) => unreachable!(),
         }
-        rows.push(Row::new(serial, stanza));
+        slots.push(Slot::new(serial, stanza));
         serial += 1;
     }
     serial
@@ -146,7 +146,7 @@ impl HeldList {
         ensures kind { result.kind ≡ list.kind }
         ensures class { result.class ≡ list.class }
         ensures next { result.next ≡ vec_len list.stanzas }
-        ensures rows { result.rows ≡ boxed_rows list.stanzas.items }
+        ensures slots { result.slots ≡ boxed_slots list.stanzas.items }
     {
         let NewList {
             kind,
@@ -156,20 +156,20 @@ impl HeldList {
         } = list;
         let ListRoom {
             mut placed,
-            mut rows,
+            mut slots,
             mut order,
         } = room;
-        let next = fill_rows(&mut rows, &mut placed, stanzas);
-        sort_placed(rows.as_slice(), &mut placed);
+        let next = fill_slots(&mut slots, &mut placed, stanzas);
+        sort_placed(slots.as_slice(), &mut placed);
         order.extend(placed);
-        rows.forget_room();
+        slots.forget_room();
         order.forget_room();
         HeldList {
             serial,
             kind,
             class,
             next,
-            rows,
+            slots,
             order,
             last: Cell::new(Spot { piece: 0, at: 0 }),
         }
@@ -205,15 +205,15 @@ impl HeldList {
     pub(crate) fn entries(&self) -> ListEntries<'_>
         ensures { result ≡ entries_in (keyed_list self.now) }
     {
-        ListEntries::new(self.serial, self.rows.as_slice())
+        ListEntries::new(self.serial, self.slots.as_slice())
     }
 
     /// The stanza of a serial.
     pub(crate) fn stanza(&self, serial: u64) -> Option<&Stanza>
-        ensures { option_copied result ≡ lookup (λ k. nat_eq k serial) self.now.rows }
+        ensures { option_copied result ≡ lookup (λ k. nat_eq k serial) self.now.slots }
     {
-        match row_of(self.rows.as_slice(), serial) {
-            Some(row) => Some(row.stanza()),
+        match slot_of(self.slots.as_slice(), serial) {
+            Some(slot) => Some(slot.stanza()),
             None => None,
         }
     }
@@ -222,15 +222,15 @@ impl HeldList {
     /// first, so that an edit of what was asked for here needs no second search.
     pub(crate) fn found_key(&self, name: &[u8], version: Option<&Version>) -> Option<StanzaKey>
         ensures key { option_to_list result ≡ found_key name.now (option_copied version.entry) (keyed_list self.now) }
-        ensures found { is_some result ≡ is_some (place (by_name_and_version name.now (option_copied version.entry)) self.now.rows) }
+        ensures found { is_some result ≡ is_some (place (by_name_and_version name.now (option_copied version.entry)) self.now.slots) }
     {
-        let (rows, order) = (self.rows.as_slice(), self.order.as_slice());
-        let (order_spot, place) = look_up(rows, order, self.last.get(), name, version);
+        let (slots, order) = (self.slots.as_slice(), self.order.as_slice());
+        let (order_spot, place) = look_up(slots, order, self.last.get(), name, version);
         self.last.set(order_spot);
         match place {
             Some(spot) => Some(StanzaKey {
                 list: self.serial,
-                stanza: row_at(rows, spot).serial(),
+                stanza: slot_at(slots, spot).serial(),
             }),
             None => None,
         }
@@ -248,7 +248,7 @@ impl HeldList {
         ensures same { keyed_list self.new ≡ keyed_list self.old }
         ensures ok { OnOk result (HasRoomInList self.new) }
     {
-        self.rows.reserve_one(alloc)?;
+        self.slots.reserve_one(alloc)?;
         self.order.reserve_one(alloc)
     }
 
@@ -259,12 +259,12 @@ impl HeldList {
         ensures serial { self.new.serial ≡ self.old.serial }
         ensures kind { self.new.kind ≡ self.old.kind }
         ensures class { self.new.class ≡ self.old.class }
-        ensures rows { self.new.rows ≡ put_row stanza.value self.old.next self.old.rows }
-        ensures next { self.new.next ≡ next_after_put stanza.value self.old.next self.old.rows }
+        ensures slots { self.new.slots ≡ put_slot stanza.value self.old.next self.old.slots }
+        ensures next { self.new.next ≡ next_after_put stanza.value self.old.next self.old.slots }
     {
-        let (rows, order) = (self.rows.as_slice(), self.order.as_slice());
+        let (slots, order) = (self.slots.as_slice(), self.order.as_slice());
         let (order_spot, place) = look_up(
-            rows,
+            slots,
             order,
             self.last.get(),
             stanza.package(),
@@ -272,15 +272,15 @@ impl HeldList {
         );
         self.last.set(order_spot);
         match place {
-            Some(spot) => self.rows.replace(spot, stanza),
+            Some(spot) => self.slots.replace(spot, stanza),
             None => {
                 self.order
                     .insert(order_spot, Placed::new(self.next, &stanza));
-                self.rows.push(Row::new(self.next, stanza));
+                self.slots.push(Slot::new(self.next, stanza));
                 self.next += 1;
             }
         }
-        self.rows.forget_room();
+        self.slots.forget_room();
         self.order.forget_room();
     }
 
@@ -289,15 +289,15 @@ impl HeldList {
         ensures serial { self.new.serial ≡ self.old.serial }
         ensures kind { self.new.kind ≡ self.old.kind }
         ensures class { self.new.class ≡ self.old.class }
-        ensures rows { self.new.rows ≡ remove_row name.now (option_copied version.entry) self.old.rows }
+        ensures slots { self.new.slots ≡ remove_slot name.now (option_copied version.entry) self.old.slots }
         ensures next { self.new.next ≡ self.old.next }
     {
-        let (rows, order) = (self.rows.as_slice(), self.order.as_slice());
-        let (order_spot, place) = look_up(rows, order, self.last.get(), name, version);
+        let (slots, order) = (self.slots.as_slice(), self.order.as_slice());
+        let (order_spot, place) = look_up(slots, order, self.last.get(), name, version);
         self.last.set(order_spot);
         if let Some(spot) = place {
             self.order.remove(order_spot);
-            self.rows.remove(spot);
+            self.slots.remove(spot);
         }
     }
 }

@@ -6,7 +6,7 @@ ghost use Rattle.ctl_store.specs.Named.{at_name, change_named};
 ghost use Rattle.ctl_store.specs.Keys.{put_keyed, remove_keyed};
 ghost use Rattle.ctl_store.specs.Store.{lists_of};
 ghost use Rattle.ctl_store.specs.Plans.{HasRoomInList};
-ghost use Rattle.ctl_store.specs.Inside.Held.{entry_of, AreNumbered};
+ghost use Rattle.ctl_store.specs.Inside.Sound.{entry_of, AreNumbered};
 
 use crate::held_list::HeldList;
 use ctl_ordered::Ordered;
@@ -16,7 +16,7 @@ use std::alloc::{AllocError, Global};
 
 /// The list of a serial, with its name.
 pub(crate) fn entry_of(lists: &Ordered<Bytes, HeldList>, serial: u32) -> Option<(&[u8], &HeldList)>
-    requires { AreNumbered lists.now.rows }
+    requires { AreNumbered lists.now.filled }
     ensures { option_map (λ e. (e.0.now, e.1.now)) result ≡ entry_of serial (entries lists.now) }
 {
     match lists.at(u64::from(serial)) {
@@ -33,7 +33,7 @@ pub(crate) fn reserve_in(
 ) -> Result<(), AllocError>
     ensures lists { lists_of (entries lists.new) ≡ lists_of (entries lists.old) }
     ensures ok { OnOk result (IfSome (at_name list.now (entries lists.new)) HasRoomInList) }
-    ensures numbered { AreNumbered lists.old.rows → AreNumbered lists.new.rows }
+    ensures numbered { AreNumbered lists.old.filled → AreNumbered lists.new.filled }
     ensures next { lists.new.next ≡ lists.old.next }
 {
     match lists.get_mut(list) {
@@ -47,7 +47,7 @@ pub(crate) fn put_in(lists: &mut Ordered<Bytes, HeldList>, list: &Bytes, stanza:
     requires room { IfSome (at_name list.now (entries lists.old)) HasRoomInList }
     requires below { IfSome (at_name list.now (entries lists.old)) (λ s. s.next + 1 < 2 ^ 64) }
     ensures lists { lists_of (entries lists.new) ≡ change_named list.now (put_keyed stanza.value) (lists_of (entries lists.old)) }
-    ensures numbered { AreNumbered lists.old.rows → AreNumbered lists.new.rows }
+    ensures numbered { AreNumbered lists.old.filled → AreNumbered lists.new.filled }
     ensures next { lists.new.next ≡ lists.old.next }
 {
     match lists.get_mut(list) {
@@ -65,7 +65,7 @@ pub(crate) fn remove_in(
 )
     ensures lists { lists_of (entries lists.new)
         ≡ change_named list.now (remove_keyed name.now (Some version.now)) (lists_of (entries lists.old)) }
-    ensures numbered { AreNumbered lists.old.rows → AreNumbered lists.new.rows }
+    ensures numbered { AreNumbered lists.old.filled → AreNumbered lists.new.filled }
     ensures next { lists.new.next ≡ lists.old.next }
 {
     match lists.get_mut(list) {

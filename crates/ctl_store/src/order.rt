@@ -4,14 +4,14 @@ ghost use Rattle.std.specs.Prelude.{◌≡◌, ◌<◌, ◌≤◌, ◌-◌, ℕ,
 ghost use Rattle.std.specs.Bool.{OnTrue};
 ghost use Rattle.std.specs.List.Sorted.{IsSortedBy};
 ghost use Rattle.ctl_store.specs.Step.{place};
-ghost use Rattle.ctl_store.specs.Rows.{IsKept, Rises, id, id_of, id_cmp, order_at, placed_at, placed_cmp, placed_row, serial_cmp, sorted_placed, version_order, version_id};
-ghost use Rattle.ctl_store.specs.Orders.{lower_place, row_place, ComesAfter};
+ghost use Rattle.ctl_store.specs.Slots.{HasOrder, Rises, id, id_of, id_cmp, order_at, placed_at, placed_cmp, placed_slot, serial_cmp, sorted_placed, version_order, version_id};
+ghost use Rattle.ctl_store.specs.Orders.{lower_place, slot_place, ComesAfter};
 ghost use Rattle.std.specs.Ordering.{is_lt};
 ghost use Rattle.ctl_store.specs.Inside.HeldPieces.{joined, last_passes, place_of_spot, ArePieces, IsSpot, IsSpotOrEnd};
 
 use crate::fronts::{Placed, front_of};
 use crate::pieces::{Spot, is_spot};
-use crate::rows::{Row, row_of, spot_of};
+use crate::slots::{Slot, slot_of, spot_of};
 use ctl_relation::Version;
 use ctl_stanza::Stanza;
 use std::cmp::Ordering;
@@ -27,7 +27,7 @@ struct Sought<'a> {
 
 impl<'a> Model for Sought<'a> {
     ghost use Rattle.std.specs.Prelude.{◌≡◌, option_copied};
-    ghost use Rattle.ctl_store.specs.Rows.{Id, id};
+    ghost use Rattle.ctl_store.specs.Slots.{Id, id};
     ghost use Rattle.ctl_store.specs.Fronts.{front_of};
 
     ghost Value = { Id };
@@ -72,180 +72,185 @@ fn compare(stanza: &Stanza, name: &[u8], version: Option<&Version>) -> Ordering
     }
 }
 
-// How the row of a serial stands to what is sought.
-fn compare_row(rows: &[Vec<Row>], serial: u64, sought: &Sought<'_>) -> Ordering
-    requires pieces { ArePieces rows.now }
-    requires rises { (n : ℕ) × (m : ℕ) × Rises n (joined rows.now) m }
-    ensures { result ≡ order_at (joined rows.now) sought.now serial }
+// How the slot of a serial stands to what is sought.
+fn compare_slot(slots: &[Vec<Slot>], serial: u64, sought: &Sought<'_>) -> Ordering
+    requires pieces { ArePieces slots.now }
+    requires rises { (n : ℕ) × (m : ℕ) × Rises n (joined slots.now) m }
+    ensures { result ≡ order_at (joined slots.now) sought.now serial }
 {
-    match row_of(rows, serial) {
-        Some(row) => compare(row.stanza(), sought.name, sought.version),
+    match slot_of(slots, serial) {
+        Some(slot) => compare(slot.stanza(), sought.name, sought.version),
         None => Ordering::Less,
     }
 }
 
-// How an entry of the order stands to what is sought. Where the fronts differ they tell it, and nothing is read of the row,
+// How an entry of the order stands to what is sought. Where the fronts differ they tell it, and nothing is read of the slot,
 // which stands elsewhere in memory.
-fn compare_placed(rows: &[Vec<Row>], one: Placed, sought: &Sought<'_>) -> Ordering
-    requires pieces { ArePieces rows.now }
-    requires rises { (n : ℕ) × (m : ℕ) × Rises n (joined rows.now) m }
-    ensures { result ≡ placed_at (joined rows.now) sought.now one }
+fn compare_placed(slots: &[Vec<Slot>], one: Placed, sought: &Sought<'_>) -> Ordering
+    requires pieces { ArePieces slots.now }
+    requires rises { (n : ℕ) × (m : ℕ) × Rises n (joined slots.now) m }
+    ensures { result ≡ placed_at (joined slots.now) sought.now one }
 {
     match one.front.cmp(&sought.front) {
-        Ordering::Equal => compare_row(rows, one.serial, sought),
+        Ordering::Equal => compare_slot(slots, one.serial, sought),
         unequal => unequal,
     }
 }
 
 // Whether the last of some entries comes before what is sought.
-fn ends_before(rows: &[Vec<Row>], placed: &[Placed], sought: &Sought<'_>) -> bool
-    requires pieces { ArePieces rows.now }
-    requires rises { (n : ℕ) × (m : ℕ) × Rises n (joined rows.now) m }
-    ensures { result ≡ last_passes (λ one. is_lt (placed_at (joined rows.now) sought.now one)) placed.now }
+fn ends_before(slots: &[Vec<Slot>], placed: &[Placed], sought: &Sought<'_>) -> bool
+    requires pieces { ArePieces slots.now }
+    requires rises { (n : ℕ) × (m : ℕ) × Rises n (joined slots.now) m }
+    ensures { result ≡ last_passes (λ one. is_lt (placed_at (joined slots.now) sought.now one)) placed.now }
 {
     match placed.last() {
-        Some(one) => compare_placed(rows, *one, sought).is_lt(),
+        Some(one) => compare_placed(slots, *one, sought).is_lt(),
         None => false,
     }
 }
 
-// How the rows of two serials stand, by names and versions and then by the serials. Where there is none, it stands first.
-fn compare_serials(rows: &[Vec<Row>], one: u64, other: u64) -> Ordering
-    requires pieces { ArePieces rows.now }
-    requires rises { (n : ℕ) × (m : ℕ) × Rises n (joined rows.now) m }
-    ensures { result ≡ serial_cmp (joined rows.now) one other }
+// How the slots of two serials stand, by names and versions and then by the serials. Where there is none, it stands first.
+fn compare_serials(slots: &[Vec<Slot>], one: u64, other: u64) -> Ordering
+    requires pieces { ArePieces slots.now }
+    requires rises { (n : ℕ) × (m : ℕ) × Rises n (joined slots.now) m }
+    ensures { result ≡ serial_cmp (joined slots.now) one other }
 {
-    let order = match (row_of(rows, one), row_of(rows, other)) {
+    let order = match (slot_of(slots, one), slot_of(slots, other)) {
         (None, None) => Ordering::Equal,
         (None, Some(_)) => Ordering::Less,
         (Some(_), None) => Ordering::Greater,
-        (Some(row), Some(against)) => {
+        (Some(slot), Some(against)) => {
             let against = against.stanza();
-            compare(row.stanza(), against.package(), against.version())
+            compare(slot.stanza(), against.package(), against.version())
         }
     };
     order.then(one.cmp(&other))
 }
 
 // How two entries stand, by names and versions and then by the serials. Where the fronts differ they tell it here too.
-fn compare_entries(rows: &[Vec<Row>], one: Placed, other: Placed) -> Ordering
-    requires pieces { ArePieces rows.now }
-    requires rises { (n : ℕ) × (m : ℕ) × Rises n (joined rows.now) m }
-    ensures { result ≡ placed_cmp (joined rows.now) one other }
+fn compare_entries(slots: &[Vec<Slot>], one: Placed, other: Placed) -> Ordering
+    requires pieces { ArePieces slots.now }
+    requires rises { (n : ℕ) × (m : ℕ) × Rises n (joined slots.now) m }
+    ensures { result ≡ placed_cmp (joined slots.now) one other }
 {
     match one.front.cmp(&other.front) {
-        Ordering::Equal => compare_serials(rows, one.serial, other.serial),
+        Ordering::Equal => compare_serials(slots, one.serial, other.serial),
         unequal => unequal,
     }
 }
 
 // Whether entries stand in the order of names and versions already.
-fn are_in_order(rows: &[Vec<Row>], placed: &[Placed]) -> bool
-    requires pieces { ArePieces rows.now }
-    requires rises { (n : ℕ) × (m : ℕ) × Rises n (joined rows.now) m }
-    ensures { OnTrue result (IsSortedBy (λ one other. is_lt (placed_cmp (joined rows.now) one other)) placed.now) }
+fn are_in_order(slots: &[Vec<Slot>], placed: &[Placed]) -> bool
+    requires pieces { ArePieces slots.now }
+    requires rises { (n : ℕ) × (m : ℕ) × Rises n (joined slots.now) m }
+    ensures { OnTrue result (IsSortedBy (λ one other. is_lt (placed_cmp (joined slots.now) one other)) placed.now) }
 {
-    placed.is_sorted_by(|one, other| !compare_entries(rows, *other, *one).is_lt())
+    placed.is_sorted_by(|one, other| !compare_entries(slots, *other, *one).is_lt())
 }
 
-/// Puts the entries of rows, which stand as the rows do, in the order of names and versions.
-pub(crate) fn sort_placed(rows: &[Vec<Row>], placed: &mut Vec<Placed>)
-    requires pieces { ArePieces rows.now }
-    requires rises { (n : ℕ) × (m : ℕ) × Rises n (joined rows.now) m }
-    requires placed { placed.old.items ≡ map placed_row (joined rows.now) }
-    ensures { placed.new.items ≡ sorted_placed (joined rows.now) }
+/// Puts the entries of slots, which stand as the slots do, in the order of names and versions.
+pub(crate) fn sort_placed(slots: &[Vec<Slot>], placed: &mut Vec<Placed>)
+    requires pieces { ArePieces slots.now }
+    requires rises { (n : ℕ) × (m : ℕ) × Rises n (joined slots.now) m }
+    requires placed { placed.old.items ≡ map placed_slot (joined slots.now) }
+    ensures { placed.new.items ≡ sorted_placed (joined slots.now) }
 {
-    if are_in_order(rows, placed) {
+    if are_in_order(slots, placed) {
         return;
     }
-    placed.sort_unstable_by(|one, other| compare_entries(rows, *one, *other));
+    placed.sort_unstable_by(|one, other| compare_entries(slots, *one, *other));
 }
 
-// Whether the row before a spot comes before what is sought, or no row is before the spot.
-fn follows_lesser(rows: &[Vec<Row>], order: &[Vec<Placed>], spot: Spot, sought: &Sought<'_>) -> bool
-    requires rows { ArePieces rows.now }
+// Whether the slot before a spot comes before what is sought, or no slot is before the spot.
+fn follows_lesser(
+    slots: &[Vec<Slot>],
+    order: &[Vec<Placed>],
+    spot: Spot,
+    sought: &Sought<'_>,
+) -> bool
+    requires slots { ArePieces slots.now }
     requires order { ArePieces order.now }
-    requires rises { (n : ℕ) × (m : ℕ) × Rises n (joined rows.now) m }
+    requires rises { (n : ℕ) × (m : ℕ) × Rises n (joined slots.now) m }
     requires spot { IsSpot order.now spot }
-    ensures { OnTrue result (ComesAfter (joined rows.now) (joined order.now) (place_of_spot order.now spot) sought.now) }
+    ensures { OnTrue result (ComesAfter (joined slots.now) (joined order.now) (place_of_spot order.now spot) sought.now) }
 {
     if spot.at > 0 {
         let before = order[spot.piece][spot.at - 1];
-        return compare_placed(rows, before, sought).is_lt();
+        return compare_placed(slots, before, sought).is_lt();
     }
     if spot.piece == 0 {
         return true;
     }
-    ends_before(rows, &order[spot.piece - 1], sought)
+    ends_before(slots, &order[spot.piece - 1], sought)
 }
 
-// Whether what is sought stands, or would, at a spot. The order tells it by two rows: the one there doesn't come before it,
+// Whether what is sought stands, or would, at a spot. The order tells it by two slots: the one there doesn't come before it,
 // and the one before does. The spot need not be in the order.
-fn is_lower(rows: &[Vec<Row>], order: &[Vec<Placed>], likely: Spot, sought: &Sought<'_>) -> bool
-    requires rows { ArePieces rows.now }
+fn is_lower(slots: &[Vec<Slot>], order: &[Vec<Placed>], likely: Spot, sought: &Sought<'_>) -> bool
+    requires slots { ArePieces slots.now }
     requires order { ArePieces order.now }
-    requires kept { (next : ℕ) × IsKept (joined rows.now) next (joined order.now) }
-    ensures place { OnTrue result (place_of_spot order.now likely ≡ lower_place sought.now (joined rows.now)) }
+    requires kept { (next : ℕ) × HasOrder (joined slots.now) next (joined order.now) }
+    ensures place { OnTrue result (place_of_spot order.now likely ≡ lower_place sought.now (joined slots.now)) }
     ensures within { OnTrue result (IsSpotOrEnd order.now likely) }
 {
     if !is_spot(order, likely) {
         return false;
     }
     let there = order[likely.piece][likely.at];
-    if compare_placed(rows, there, sought).is_lt() {
+    if compare_placed(slots, there, sought).is_lt() {
         return false;
     }
-    follows_lesser(rows, order, likely, sought)
+    follows_lesser(slots, order, likely, sought)
 }
 
-// Where what is sought stands, or would, in the order of rows. The likely spot is looked at first.
-fn lower(rows: &[Vec<Row>], order: &[Vec<Placed>], likely: Spot, sought: &Sought<'_>) -> Spot
-    requires rows { ArePieces rows.now }
+// Where what is sought stands, or would, in the order of slots. The likely spot is looked at first.
+fn lower(slots: &[Vec<Slot>], order: &[Vec<Placed>], likely: Spot, sought: &Sought<'_>) -> Spot
+    requires slots { ArePieces slots.now }
     requires order { ArePieces order.now }
-    requires kept { (next : ℕ) × IsKept (joined rows.now) next (joined order.now) }
-    ensures place { place_of_spot order.now result ≡ lower_place sought.now (joined rows.now) }
+    requires kept { (next : ℕ) × HasOrder (joined slots.now) next (joined order.now) }
+    ensures place { place_of_spot order.now result ≡ lower_place sought.now (joined slots.now) }
     ensures within { IsSpotOrEnd order.now result }
 {
-    if is_lower(rows, order, likely, sought) {
+    if is_lower(slots, order, likely, sought) {
         return likely;
     }
-    let piece = order.partition_point(|placed| ends_before(rows, placed, sought));
+    let piece = order.partition_point(|placed| ends_before(slots, placed, sought));
     match order.get(piece) {
         Some(placed) => Spot {
             piece,
-            at: placed.partition_point(|one| compare_placed(rows, *one, sought).is_lt()),
+            at: placed.partition_point(|one| compare_placed(slots, *one, sought).is_lt()),
         },
         None => Spot { piece, at: 0 },
     }
 }
 
-/// Where a name and a version stand, or would, in the order of rows, and the spot of the first row that has them. The
+/// Where a name and a version stand, or would, in the order of slots, and the spot of the first slot that has them. The
 /// answer is the same whatever the likely spot is. Where they stand at it, there is no search.
 pub(crate) fn look_up(
-    rows: &[Vec<Row>],
+    slots: &[Vec<Slot>],
     order: &[Vec<Placed>],
     likely: Spot,
     name: &[u8],
     version: Option<&Version>,
 ) -> (Spot, Option<Spot>)
-    requires rows { ArePieces rows.now }
+    requires slots { ArePieces slots.now }
     requires order { ArePieces order.now }
-    requires kept { (next : ℕ) × IsKept (joined rows.now) next (joined order.now) }
-    ensures order { place_of_spot order.now result.0 ≡ lower_place (id name.now (option_copied version.entry)) (joined rows.now) }
-    ensures place { option_map (place_of_spot rows.now) result.1 ≡ row_place name.now (option_copied version.entry) (joined rows.now) }
+    requires kept { (next : ℕ) × HasOrder (joined slots.now) next (joined order.now) }
+    ensures order { place_of_spot order.now result.0 ≡ lower_place (id name.now (option_copied version.entry)) (joined slots.now) }
+    ensures place { option_map (place_of_spot slots.now) result.1 ≡ slot_place name.now (option_copied version.entry) (joined slots.now) }
     ensures in_order { IsSpotOrEnd order.now result.0 }
-    ensures in_rows { IfSome result.1 (λ spot. IsSpot rows.now spot) }
-    // a row that is there is in the order
+    ensures in_slots { IfSome result.1 (λ spot. IsSpot slots.now spot) }
+    // a slot that is there is in the order
     ensures found { IfSome result.1 (λ _. IsSpot order.now result.0) }
 {
     let sought = Sought::new(name, version);
-    let spot = lower(rows, order, likely, &sought);
+    let spot = lower(slots, order, likely, &sought);
     if spot.piece >= order.len() {
         return (spot, None);
     }
     let there = order[spot.piece][spot.at];
-    if compare_placed(rows, there, &sought).is_eq() {
-        (spot, spot_of(rows, there.serial))
+    if compare_placed(slots, there, &sought).is_eq() {
+        (spot, spot_of(slots, there.serial))
     } else {
         (spot, None)
     }

@@ -8,7 +8,7 @@ ghost use Rattle.ctl_store.specs.Inside.HeldPieces.{most_in_piece, least_room, j
 ghost use Rattle.ctl_store.specs.Places.{replace_at};
 
 use crate::fronts::Placed;
-use crate::rows::Row;
+use crate::slots::Slot;
 use ctl_stanza::Stanza;
 use std::alloc::{AllocError, Global};
 use std::marker::Model;
@@ -176,8 +176,8 @@ impl Pieces<Placed> {
     }
 }
 
-impl Pieces<Row> {
-    /// Puts a stanza in the place of that of a row.
+impl Pieces<Slot> {
+    /// Puts a stanza in the place of that of a slot.
     pub(crate) fn replace(&mut self, spot: Spot, stanza: Box<Stanza>)
         requires { IsSpot self.old.pieces spot }
         ensures { joined self.new.pieces ≡ replace_at (joined self.old.pieces) (place_of_spot self.old.pieces spot) stanza.value }

@@ -22,10 +22,10 @@ pub struct PinSettings {
 }
 
 impl Model for PinSettings {
-    ghost use Rattle.ctl_store.specs.Pins.{Settings};
+    ghost use Rattle.ctl_store.specs.Pins.{NewPins};
     ghost use Rattle.ctl_store.specs.Inside.HeldPins.{IsWhole};
 
-    ghost Value = { Settings };
+    ghost Value = { NewPins };
 
     ghost view = { λ s. record { pins = s.table.pins } };
 

@@ -38,7 +38,7 @@ impl Model for PinTable {
       next = t.settings.next;
     } };
 
-    ghost invariant = { λ t. IsRanked t.settings.rows t.settings.next t.packages.items };
+    ghost invariant = { λ t. IsRanked t.settings.filled t.settings.next t.packages.items };
 }
 
 // Where a package and a serial stand, or would, in the order by packages.
@@ -48,13 +48,13 @@ fn place_of(
     order: &VecDeque<u64>,
     wanted: (Option<&[u8]>, u64),
 ) -> usize
-    requires { IsRanked settings.now.rows settings.now.next order.now.items }
-    ensures place { result ≡ own_below (option_copied wanted.entry.0, wanted.entry.1) settings.now.rows }
+    requires { IsRanked settings.now.filled settings.now.next order.now.items }
+    ensures place { result ≡ own_below (option_copied wanted.entry.0, wanted.entry.1) settings.now.filled }
     ensures bound { result ≤ length order.now.items }
 {
     order.partition_point(
         |serial: &u64|
-            ensures { result ≡ is_lt (own_order settings.entry.now.rows (option_copied wanted.entry.0, wanted.entry.1) serial.now) }
+            ensures { result ≡ is_lt (own_order settings.entry.now.filled (option_copied wanted.entry.0, wanted.entry.1) serial.now) }
         {
             match settings.at(*serial) {
                 Some((selector, _)) => (selector.package(), *serial).cmp(&wanted).is_lt(),
@@ -184,7 +184,7 @@ fn own_at<'a>(
     serial: u64,
     name: &[u8],
 ) -> Option<(&'a Selector, i16)>
-    ensures { option_map (λ setting. (setting.0.now, setting.1)) result ≡ own_one name.now (lookup (nat_eq serial) settings.now.rows) }
+    ensures { option_map (λ setting. (setting.0.now, setting.1)) result ≡ own_one name.now (lookup (nat_eq serial) settings.now.filled) }
 {
     match settings.at(serial) {
         Some((selector, priority)) if selector.is_of(name) => Some((selector, *priority)),
@@ -210,7 +210,7 @@ impl<'a> Model for PackagePins<'a> {
 
     ghost Value = { List (Selector × ℤ) };
 
-    ghost view = { λ it. own_run it.name.now it.settings.now.rows (drop it.at it.order.now.items) };
+    ghost view = { λ it. own_run it.name.now it.settings.now.filled (drop it.at it.order.now.items) };
 }
 
 impl<'a> Iterator for PackagePins<'a> {

@@ -4,7 +4,7 @@ ghost use Rattle.std.specs.Prelude.{◌≡◌, ◌∷◌, [], Some, IsSome, opti
 ghost use Rattle.ctl_store.specs.Edits.{edit_of};
 ghost use Rattle.ctl_store.specs.Keys.{coming, AreComing};
 ghost use Rattle.ctl_store.specs.Followed.{coming_under};
-ghost use Rattle.ctl_store.specs.Inside.Held.{coming_among};
+ghost use Rattle.ctl_store.specs.Inside.Sound.{coming_among};
 
 use crate::edit::Edit;
 use crate::held_list::ListRoom;
@@ -24,7 +24,7 @@ pub struct Plan {
 impl Model for Plan {
     ghost use Rattle.ctl_store.specs.Edits.{edit_of};
     ghost use Rattle.ctl_store.specs.Plans.{Planned};
-    ghost use Rattle.ctl_store.specs.Inside.Held.{IsWhole};
+    ghost use Rattle.ctl_store.specs.Inside.Sound.{IsWhole};
 
     ghost Value = { Planned };
 

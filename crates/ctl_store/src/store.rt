@@ -43,7 +43,7 @@ pub struct Store {
 impl Model for Store {
     ghost use Rattle.ctl_ordered.specs.Ordered.{entries};
     ghost use Rattle.ctl_store.specs.Store.{Held};
-    ghost use Rattle.ctl_store.specs.Inside.Held.{IsSound};
+    ghost use Rattle.ctl_store.specs.Inside.Sound.{IsSound};
 
     ghost Value = { Held };
 
@@ -60,7 +60,7 @@ impl Model for Store {
       limits = s.limits;
     } };
 
-    ghost invariant = { λ s. IsSound s.lists.rows s.lists.next s.next_list s.statuses s.stanzas s.edits s.limits s.marks.next s.pins.next };
+    ghost invariant = { λ s. IsSound s.lists.filled s.lists.next s.next_list s.statuses s.stanzas s.edits s.limits s.marks.next s.pins.next };
 }
 
 impl Store {

@@ -26,5 +26,5 @@ spelled n [] = n
 spelled n (byte ∷ bytes) = spelled (n * 256 + byte) bytes
 
 -- that of the eight bytes from a place on
-abbrev pub number_at : ℕ → List ℕ → ℕ
-number_at at places = spelled 0 (take 8 (drop at places))
+abbrev pub word_at : ℕ → List ℕ → ℕ
+word_at at places = spelled 0 (take 8 (drop at places))

@@ -9,7 +9,7 @@ use Rattle.std.specs.Ordering.{nat_cmp}
 use Rattle.std.specs.Str.{bytes_eq}
 use Rattle.ctl_policy.specs.Chosen.{at_bytes}
 use Rattle.ctl_policy.specs.Rows.{Rows}
-use Rattle.ctl_index.specs.declared.keys.Namer.{Namer}
+use Rattle.ctl_index.specs.declared.keys.NamingAtom.{NamingAtom}
 use Rattle.ctl_index.specs.declared.keys.OfferKey.{OfferKey}
 use Rattle.ctl_index.specs.Inside.ShortName.{most_short}
 use Rattle.ctl_index.specs.contracts.name_map.NameMap.{the_row}
@@ -48,7 +48,7 @@ part_under part none m name = option_map_or part (at_name m name) none
 abbrev pub named_offers : Named → List OfferKey
 named_offers v = v.offers
 
-abbrev pub named_namers : Named → List Namer
+abbrev pub named_namers : Named → List NamingAtom
 named_namers v = v.namers
 
 abbrev pub named_rows : Named → Rows
@@ -58,7 +58,7 @@ named_rows v = v.rows
 abbrev pub offers_under : NameMap → List ℕ → List OfferKey
 offers_under m name = part_under named_offers [] m name
 
-abbrev pub namers_under : NameMap → List ℕ → List Namer
+abbrev pub namers_under : NameMap → List ℕ → List NamingAtom
 namers_under m name = part_under named_namers [] m name
 
 abbrev pub rows_under : NameMap → List ℕ → Rows

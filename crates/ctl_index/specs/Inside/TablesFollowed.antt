@@ -6,10 +6,10 @@ use Rattle.ctl_store.specs.Entries.{Entry, entries_of, entries_by, without_keys}
 use Rattle.ctl_store.specs.Store.{Held, keyed_of}
 use Rattle.ctl_store.specs.Plans.{Planned}
 use Rattle.ctl_store.specs.Followed.{AreApart}
-use Rattle.ctl_index.specs.Held.{standing}
+use Rattle.ctl_index.specs.HeldCache.{standing}
 use Rattle.ctl_index.specs.Offers.{contents}
 use Rattle.ctl_index.specs.Inside.TablesParts.{IsJoined}
-use Rattle.ctl_index.specs.Inside.TablesSight.{seen, AreSeen, in_store, with_plan}
+use Rattle.ctl_index.specs.Inside.TablesPending.{seen, AreSeen, in_store, with_plan}
 use Rattle.ctl_index.specs.Inside.TablesOrder.{is_within, span_of}
 use Rattle.ctl_index.specs.Work.{pairs}
 
@@ -24,17 +24,17 @@ standing_after h plan = entries_of (keyed_after (keyed_of h) plan.edit).lists
 abbrev pub going : Held → Planned → List Entry
 going h plan = entries_by (seen (in_store h)) plan.removed
 
-abbrev pub coming : Held → Planned → List Entry
-coming h plan = entries_by (seen (with_plan h plan)) plan.added
+abbrev pub entries_added : Held → Planned → List Entry
+entries_added h plan = entries_by (seen (with_plan h plan)) plan.added
 
 pub record IsFollowed (h : Held) (plan : Planned) : Type 0 where
   pub taken : IsJoined (standing h) (staying h plan) (going h plan)
-  pub put : IsJoined (standing_after h plan) (staying h plan) (coming h plan)
+  pub put : IsJoined (standing_after h plan) (staying h plan) (entries_added h plan)
   pub outside : AllByRecursion (λ (e : Entry). is_within (span_of plan.removed) e.0 ≡ false) (staying h plan)
   pub inside : AllByRecursion (λ (e : Entry). is_within (span_of plan.removed) e.0 ≡ true) (going h plan)
   pub apart : AreApart (staying h plan)
   pub apart_going : AreApart (going h plan)
-  pub apart_coming : AreApart (coming h plan)
+  pub apart_coming : AreApart (entries_added h plan)
   pub apart_after : AreApart (standing_after h plan)
   pub few : length (standing_after h plan) < 2 ^ 32
   pub seen_standing : AreSeen (in_store h) (standing h)

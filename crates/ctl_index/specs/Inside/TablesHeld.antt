@@ -3,7 +3,7 @@ use Rattle.std.specs.Prelude.{◌≡◌, ◌≤◌, ℕ, List, Option}
 use Rattle.std.specs.BTreeMap.{get}
 use Rattle.ctl_policy.specs.Rows.{Rows}
 use Rattle.ctl_index.specs.declared.keys.ClauseKey.{ClauseKey}
-use Rattle.ctl_index.specs.declared.keys.Namer.{Namer}
+use Rattle.ctl_index.specs.declared.keys.NamingAtom.{NamingAtom}
 use Rattle.ctl_index.specs.declared.keys.OfferKey.{OfferKey}
 use Rattle.ctl_index.specs.declared.tables.Tables.{Tables}
 use Rattle.ctl_index.specs.Clauses.{clause_cmp}
@@ -15,7 +15,7 @@ use Rattle.ctl_index.specs.Work.{more_by}
 abbrev pub offers_in : Tables → List ℕ → List OfferKey
 offers_in t = offers_under t.names.map
 
-abbrev pub namers_in : Tables → List ℕ → List Namer
+abbrev pub namers_in : Tables → List ℕ → List NamingAtom
 namers_in t = namers_under t.names.map
 
 abbrev pub rows_in : Tables → List ℕ → Rows

@@ -8,7 +8,7 @@ use Rattle.ctl_store.specs.declared.stanza_key.StanzaKey.{StanzaKey}
 use Rattle.ctl_store.specs.Entries.{Entry}
 use Rattle.ctl_index.specs.declared.keys.ClauseKey.{ClauseKey}
 use Rattle.ctl_index.specs.declared.keys.AtomKey.{AtomKey}
-use Rattle.ctl_index.specs.declared.keys.Namer.{Namer}
+use Rattle.ctl_index.specs.declared.keys.NamingAtom.{NamingAtom}
 use Rattle.ctl_index.specs.declared.keys.OfferKey.{OfferKey}
 use Rattle.ctl_index.specs.declared.tables.Tables.{Tables}
 use Rattle.ctl_index.specs.Clauses.{number_at}
@@ -30,14 +30,14 @@ keyed_offers e = keyed_offers_from e.0 0 (offers_of e.1)
 abbrev pub offer_named : List ℕ → (OfferKey → ℕ) → OfferKey × OfferParts → ℕ
 offer_named q f x = if bytes_eq x.1.name q then f x.0 else 0
 
-abbrev pub atom_named : List ℕ → (Namer → ℕ) → AtomKey × AtomParts → ℕ
+abbrev pub atom_named : List ℕ → (NamingAtom → ℕ) → AtomKey × AtomParts → ℕ
 atom_named q f x = if bytes_eq x.1.name q then f (namer_of x.0 x.1) else 0
 
 -- sums over the offers of a name, or over the atoms that name it, of stanzas
 abbrev pub offers_sum : List ℕ → (OfferKey → ℕ) → List Entry → ℕ
 offers_sum q f es = sum_by (λ (e : Entry). sum_by (offer_named q f) (keyed_offers e)) es
 
-abbrev pub namers_sum : List ℕ → (Namer → ℕ) → List Entry → ℕ
+abbrev pub namers_sum : List ℕ → (NamingAtom → ℕ) → List Entry → ℕ
 namers_sum q f es = sum_by (λ (e : Entry). sum_by (atom_named q f) (keyed_atoms e)) es
 
 -- Under each name stand the keys of its offers, and of its atoms with what is kept of their bounds, each as often as it is there, in
@@ -45,7 +45,7 @@ namers_sum q f es = sum_by (λ (e : Entry). sum_by (atom_named q f) (keyed_atoms
 -- the stanzas, and these have no fault.
 pub record IsIndexed (es : List Entry) (t : Tables) : Type 0 where
   pub offers : (q : List ℕ) (f : OfferKey → ℕ) → sum_by f (offers_in t q) ≡ offers_sum q f es
-  pub namers : (q : List ℕ) (f : Namer → ℕ) → sum_by f (namers_in t q) ≡ namers_sum q f es
+  pub namers : (q : List ℕ) (f : NamingAtom → ℕ) → sum_by f (namers_in t q) ≡ namers_sum q f es
   pub counters : (k : ClauseKey) → number_in t k ≡ number_at k es
   pub rows : AreKept es t.names.map
   pub whole : AreWhole es

@@ -6,23 +6,23 @@ use Rattle.std.specs.Ordering.{is_lt, is_le, is_ge, is_gt}
 use Rattle.ctl_store.specs.declared.stanza_key.StanzaKey.{StanzaKey}
 use Rattle.ctl_store.specs.Keys.{key_cmp, key_of}
 use Rattle.ctl_relation.specs.Parts.{AtomParts}
-use Rattle.ctl_index.specs.Inside.KeptBound.{kept_of}
+use Rattle.ctl_index.specs.Inside.KeptBound.{bound_kept}
 use Rattle.ctl_index.specs.declared.keys.AtomKey.{AtomKey}
-use Rattle.ctl_index.specs.declared.keys.Namer.{Namer}
+use Rattle.ctl_index.specs.declared.keys.NamingAtom.{NamingAtom}
 use Rattle.ctl_index.specs.declared.keys.OfferKey.{OfferKey}
 use Rattle.ctl_index.specs.declared.span.Span.{Span}
 
 abbrev pub offer_stanza : OfferKey → StanzaKey
 offer_stanza key = key.stanza
 
-abbrev pub namer_stanza : Namer → StanzaKey
+abbrev pub namer_stanza : NamingAtom → StanzaKey
 namer_stanza namer = namer.stanza
 
 -- an atom among those that name its name, and its key
-abbrev pub namer_of : AtomKey → AtomParts → Namer
-namer_of key atom = record { stanza = key.stanza; group = key.group; atom = key.atom; field = key.field; bound = kept_of atom.bound }
+abbrev pub namer_of : AtomKey → AtomParts → NamingAtom
+namer_of key atom = record { stanza = key.stanza; group = key.group; atom = key.atom; field = key.field; bound = bound_kept atom.bound }
 
-abbrev pub namer_key : Namer → AtomKey
+abbrev pub namer_key : NamingAtom → AtomKey
 namer_key namer = record { stanza = namer.stanza; field = namer.field; group = namer.group; atom = namer.atom }
 
 -- whether a key is one of a span

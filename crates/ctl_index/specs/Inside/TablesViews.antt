@@ -12,7 +12,7 @@ use Rattle.ctl_index.specs.Inside.NameMap.{NamedEntry, entry_names}
 use Rattle.ctl_index.specs.declared.named.Named.{Named}
 use Rattle.ctl_policy.specs.Rows.{newest_first, keys_of_row}
 use Rattle.ctl_index.specs.Inside.TablesByName.{named_offers, named_rows}
-use Rattle.ctl_index.specs.Inside.TablesSight.{offer_seen, in_store}
+use Rattle.ctl_index.specs.Inside.TablesPending.{offer_seen, in_store}
 
 -- the offer under a key, with the key of its stanza
 abbrev pub offer_found : Held → OfferKey → StanzaKey × OfferParts

@@ -7,7 +7,7 @@ ghost use Rattle.std.specs.Str.{bytes_eq};
 ghost use Rattle.ctl_store.specs.Keys.{AreHeld};
 ghost use Rattle.ctl_store.specs.Store.{keyed_of, state_of};
 ghost use Rattle.ctl_policy.specs.Rows.{rows_named, newest_first, keys_of_row};
-ghost use Rattle.ctl_index.specs.Held.{standing};
+ghost use Rattle.ctl_index.specs.HeldCache.{standing};
 ghost use Rattle.ctl_index.specs.Names.{known_names, namers_named};
 ghost use Rattle.ctl_index.specs.Offers.{offers_named};
 ghost use Rattle.ctl_index.specs.Work.{stanzas_of_state};

@@ -8,7 +8,7 @@ ghost use Rattle.ctl_store.specs.declared.stanza_key.StanzaKey.{StanzaKey};
 ghost use Rattle.ctl_store.specs.Keys.{AreHeld};
 ghost use Rattle.ctl_store.specs.Store.{keyed_of, state_of};
 ghost use Rattle.ctl_index.specs.Clauses.{clause_cmp, clause_at, number_at, unmet_clauses};
-ghost use Rattle.ctl_index.specs.Held.{standing};
+ghost use Rattle.ctl_index.specs.HeldCache.{standing};
 ghost use Rattle.ctl_index.specs.Inside.NameMap.{entry_names};
 ghost use Rattle.ctl_index.specs.Names.{known_names, namers_named};
 ghost use Rattle.ctl_index.specs.Offers.{offers_named};
@@ -17,9 +17,9 @@ ghost use Rattle.ctl_index.specs.Inside.TablesViews.{offering};
 ghost use Rattle.ctl_index.specs.Work.{stanzas_of_state};
 
 use crate::cache::Cache;
-use crate::keys::{AtomKey, ClauseKey, Namer, OfferKey};
+use crate::keys::{AtomKey, ClauseKey, NamingAtom, OfferKey};
 use crate::name_entries::NameEntries;
-use crate::sight::{Sight, offer_at};
+use crate::pending_store::{PendingStore, offer_at};
 use ctl_relation::Offer;
 use ctl_store::{StanzaKey, Store};
 use std::collections::{BTreeMap, btree_set};
@@ -98,11 +98,11 @@ impl<'a> Iterator for Offers<'a> {
 
     fn next(&mut self) -> Option<(StanzaKey, &'a Offer)> {
         let (key, rest) = self.keys.split_first()?;
-        let sight = Sight {
+        let pending = PendingStore {
             store: self.store,
             plan: None,
         };
-        match offer_at(&sight, *key) {
+        match offer_at(&pending, *key) {
             Some(offer) => {
                 self.keys = rest;
                 Some((key.stanza, offer))
@@ -156,7 +156,7 @@ impl<'a> Iterator for Offering<'a> {
 /// The atoms that name a name, by [`Cache::namers`].
 #[derive(Drop)]
 pub struct Namers<'a> {
-    namers: &'a [Namer],
+    namers: &'a [NamingAtom],
 }
 
 impl<'a> Model for Namers<'a> {
@@ -171,7 +171,7 @@ impl<'a> Model for Namers<'a> {
 
 impl<'a> Namers<'a> {
     /// The atoms of these namers.
-    pub(crate) fn new(namers: &'a [Namer]) -> Namers<'a>
+    pub(crate) fn new(namers: &'a [NamingAtom]) -> Namers<'a>
         ensures { result ≡ map namer_key namers.now }
     {
         Namers { namers }

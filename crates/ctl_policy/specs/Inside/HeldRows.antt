@@ -15,16 +15,16 @@ use Rattle.ctl_policy.specs.Keys.{with_key, without_key, or_none, some_keys}
 use Rattle.ctl_policy.specs.Rows.{Rows, Row, lead_of, newest_first}
 
 -- a map of rows
-abbrev pub Shelf : Type 0
-Shelf = BTreeMap (List ℕ) (Vec StanzaKey Global)
+abbrev pub RowMap : Type 0
+RowMap = BTreeMap (List ℕ) (Vec StanzaKey Global)
 
 -- the row of a version in a map
-abbrev pub row_at : Shelf → List ℕ → Option (List StanzaKey)
-row_at shelf version = option_map (λ (keys : Vec StanzaKey Global). keys.items) (get version_cmp shelf version)
+abbrev pub row_in_map : RowMap → List ℕ → Option (List StanzaKey)
+row_in_map row_map version = option_map (λ (keys : Vec StanzaKey Global). keys.items) (get version_cmp row_map version)
 
 -- each row is in order
-abbrev pub AreRows : Shelf → Type 0
-AreRows shelf = (version : List ℕ) → AreRising (or_none (row_at shelf version))
+abbrev pub AreRows : RowMap → Type 0
+AreRows row_map = (version : List ℕ) → AreRising (or_none (row_in_map row_map version))
 
 -- the row of a version, where one stanza is all
 abbrev pub one_at : List ℕ → StanzaKey → List ℕ → Option (List StanzaKey)
@@ -33,7 +33,7 @@ one_at version key v = if is_eq (version_cmp version v) then Some (key ∷ []) e
 abbrev pub form_at : Form → List ℕ → Option (List StanzaKey)
 form_at Empty v = None
 form_at (One version key) v = one_at version key v
-form_at (Many shelf) v = row_at shelf v
+form_at (Many row_map) v = row_in_map row_map v
 
 abbrev pub IsFormed : Form → Type 0
 IsFormed form = (v : List ℕ) → AreRising (or_none (form_at form v))
@@ -50,8 +50,8 @@ abbrev pub form_without : List ℕ → StanzaKey → (List ℕ → Option (List 
 form_without version key at v = with_row version (some_keys (without_key key (or_none (at version)))) at v
 
 -- the row of a version with a key less, of which none may be left
-abbrev pub row_less : List ℕ → StanzaKey → Shelf → Option (List StanzaKey)
-row_less version key shelf = option_map (without_key key) (row_at shelf version)
+abbrev pub row_less : List ℕ → StanzaKey → RowMap → Option (List StanzaKey)
+row_less version key row_map = option_map (without_key key) (row_in_map row_map version)
 
 -- a row, if there is one, has a key
 abbrev pub HasKeyLeft : Option (List StanzaKey) → Type 0
@@ -72,14 +72,14 @@ abbrev pub shown_row : List ℕ × Vec StanzaKey Global → Row
 shown_row e = (triple_of e.0, e.1.items)
 
 -- the rows of a map, newest first
-abbrev pub rows_of_map : Shelf → List Row
-rows_of_map shelf = reverse (map shown_row shelf.entries)
+abbrev pub rows_of_map : RowMap → List Row
+rows_of_map row_map = reverse (map shown_row row_map.entries)
 
 -- the rows that are held
 abbrev pub rows_of_form : Form → Rows
 rows_of_form Empty = fin.empty
 rows_of_form (One version key) = fin.insert fin.empty version (key ∷ [])
-rows_of_form (Many shelf) = fin.from_entries (map with_items shelf.entries)
+rows_of_form (Many row_map) = fin.from_entries (map with_items row_map.entries)
 
 -- the same, newest first
 abbrev pub form_shown : Form → List Row
@@ -89,7 +89,7 @@ form_shown form = newest_first (rows_of_form form)
 abbrev pub IsOrderedForm : Form → Type 0
 IsOrderedForm Empty = Unit {0}
 IsOrderedForm (One version key) = Unit {0}
-IsOrderedForm (Many shelf) = IsOrdered version_cmp shelf
+IsOrderedForm (Many row_map) = IsOrdered version_cmp row_map
 
 -- what is held are the rows of a name
 abbrev pub IsFormOf : Form → Rows → Type 0

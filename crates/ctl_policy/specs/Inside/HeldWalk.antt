@@ -22,7 +22,7 @@ AreHeldIn lists es = AllByRecursion (λ (e : List ℕ × Vec StanzaKey Global). 
 abbrev pub IsHeldForm : Lists → Form → Type 0
 IsHeldForm lists Empty = Unit {0}
 IsHeldForm lists (One version key) = AreHeld (key ∷ []) lists
-IsHeldForm lists (Many shelf) = AreHeldIn lists shelf.entries
+IsHeldForm lists (Many row_map) = AreHeldIn lists row_map.entries
 
 -- whether a row of a priority is taken instead of a newer one: where its priority is greater
 abbrev pub wins : ℤ → Choice → Bool
@@ -83,4 +83,4 @@ lowest_status lists found (e ∷ es) = lowest_status lists (lower found (first_s
 abbrev pub status_key : Lists → Form → Option StanzaKey
 status_key lists Empty = None
 status_key lists (One version key) = first_status lists (key ∷ [])
-status_key lists (Many shelf) = lowest_status lists None shelf.entries
+status_key lists (Many row_map) = lowest_status lists None row_map.entries

@@ -22,20 +22,20 @@ abbrev pub own_cmp : Option (List ℕ) × ℕ → Option (List ℕ) × ℕ → O
 own_cmp a b = ordering_then (package_cmp a.0 b.0) (nat_cmp a.1 b.1)
 
 -- where a setting stands
-abbrev pub own_row : ℕ × (Selector × ℤ) → Option (List ℕ) × ℕ
-own_row row = (package_for row.1.0, row.0)
+abbrev pub own_slot : ℕ × (Selector × ℤ) → Option (List ℕ) × ℕ
+own_slot slot = (package_for slot.1.0, slot.0)
 
 -- how many settings stand before a package and a serial
 abbrev pub own_below : Option (List ℕ) × ℕ → List (ℕ × (Selector × ℤ)) → ℕ
-own_below wanted rows = below_in own_cmp wanted (sorted_in own_cmp (labelled own_row rows))
+own_below wanted slots = below_in own_cmp wanted (sorted_in own_cmp (labelled own_slot slots))
 
 -- how the setting of a serial stands to a package and a serial
 abbrev pub own_order : List (ℕ × (Selector × ℤ)) → Option (List ℕ) × ℕ → ℕ → Ordering
-own_order rows wanted serial = order_in own_cmp own_row rows wanted serial
+own_order slots wanted serial = order_in own_cmp own_slot slots wanted serial
 
 -- The serials rise, and the order has each of them.
 abbrev pub IsRanked : List (ℕ × (Selector × ℤ)) → ℕ → List ℕ → Type 0
-IsRanked rows next order = IsRankedBy own_cmp own_row (λ (x : ℕ × (Option (List ℕ) × ℕ)). x.0) rows next order
+IsRanked slots next order = IsRankedBy own_cmp own_slot (λ (x : ℕ × (Option (List ℕ) × ℕ)). x.0) slots next order
 
 -- as many serials as settings are given, and there is room to give these back
 pub record IsWhole {C : Type 0} (table : PinTable) (room : Vec PinSetting C) : Type 0 where
@@ -50,6 +50,6 @@ own_one name (Some setting) = if is_of name setting.0 then Some setting else Non
 
 -- the settings of the first serials, as far as they are of the package
 abbrev pub own_run : List ℕ → List (ℕ × (Selector × ℤ)) → List ℕ → List (Selector × ℤ)
-own_run name rows [] = []
-own_run name rows (serial ∷ serials) =
-    option_map_or (λ (setting : Selector × ℤ). setting ∷ own_run name rows serials) (own_one name (lookup (nat_eq serial) rows)) []
+own_run name slots [] = []
+own_run name slots (serial ∷ serials) =
+    option_map_or (λ (setting : Selector × ℤ). setting ∷ own_run name slots serials) (own_one name (lookup (nat_eq serial) slots)) []

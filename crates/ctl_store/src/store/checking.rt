@@ -124,7 +124,7 @@ impl Store {
     }
 
     // How many stanzas an edit brings, where the one that it replaces is there or not.
-    fn coming(&self, edit: &Edit, there: bool) -> usize
+    fn count_coming(&self, edit: &Edit, there: bool) -> usize
         requires { there ≡ is_there (state_of self.now) (edit_of edit.now) }
         ensures { result ≡ count_coming (state_of self.now) (edit_of edit.now) }
     {
@@ -141,7 +141,7 @@ impl Store {
         requires fits { misfit_of (state_of self.now) (edit_of edit.now) ≡ None }
         ensures { result ≡ is_past self.now.limits (after (state_of self.now) (edit_of edit.now)) }
     {
-        self.coming(edit, there) > (self.limits.stanzas - self.stanzas) as usize
+        self.count_coming(edit, there) > (self.limits.stanzas - self.stanzas) as usize
             || self.edits >= self.limits.edits
     }
 

@@ -12,7 +12,7 @@ ghost use Rattle.ctl_store.specs.Given.{IsGivenOnce};
 ghost use Rattle.ctl_store.specs.Kinds.{AreOfKind};
 ghost use Rattle.ctl_store.specs.Store.{state_of, keyed_of};
 ghost use Rattle.ctl_store.specs.Plans.{IsReady, HasRoom, HasRoomInList, Fits};
-ghost use Rattle.ctl_store.specs.Inside.Held.{HasMade};
+ghost use Rattle.ctl_store.specs.Inside.Sound.{HasMade};
 ghost use Rattle.ctl_store.specs.Inside.NewLists.{adding};
 
 use crate::edit::Edit;

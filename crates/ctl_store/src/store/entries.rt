@@ -2,11 +2,11 @@
 
 ghost use Rattle.std.specs.Prelude.{◌≡◌, ◌++◌, ◌∷◌, IfSome, IfNone, []};
 ghost use Rattle.ctl_store.specs.Inside.HeldPieces.{joined, ArePieces};
-ghost use Rattle.ctl_store.specs.Entries.{rows_under, entries_of, entry_keys};
+ghost use Rattle.ctl_store.specs.Entries.{slots_under, entries_of, entry_keys};
 ghost use Rattle.ctl_store.specs.Store.{lists_of};
 
 use crate::held_list::HeldList;
-use crate::rows::Row;
+use crate::slots::Slot;
 use crate::stanza_key::StanzaKey;
 use ctl_relation::Bytes;
 use ctl_stanza::Stanza;
@@ -17,31 +17,31 @@ use std::marker::Model;
 pub(crate) struct ListEntries<'a> {
     list: u32,
     // What is left of a piece, and the pieces after it.
-    rows: &'a [Row],
-    pieces: &'a [Vec<Row>],
+    slots: &'a [Slot],
+    pieces: &'a [Vec<Slot>],
 }
 
 impl<'a> Model for ListEntries<'a> {
     ghost use Rattle.std.specs.Prelude.{List, ◌++◌};
     ghost use Rattle.ctl_store.specs.Inside.HeldPieces.{joined, ArePieces};
-    ghost use Rattle.ctl_store.specs.Entries.{Entry, rows_under};
+    ghost use Rattle.ctl_store.specs.Entries.{Entry, slots_under};
 
     ghost Value = { List Entry };
 
-    ghost view = { λ it. rows_under it.list (it.rows.now ++ joined it.pieces.now) };
+    ghost view = { λ it. slots_under it.list (it.slots.now ++ joined it.pieces.now) };
 
     ghost invariant = { λ it. ArePieces it.pieces.now };
 }
 
 impl<'a> ListEntries<'a> {
-    /// The rows in pieces of a list of this serial.
-    pub(crate) fn new(list: u32, pieces: &'a [Vec<Row>]) -> ListEntries<'a>
+    /// The slots in pieces of a list of this serial.
+    pub(crate) fn new(list: u32, pieces: &'a [Vec<Slot>]) -> ListEntries<'a>
         requires { ArePieces pieces.now }
-        ensures { result ≡ rows_under list (joined pieces.now) }
+        ensures { result ≡ slots_under list (joined pieces.now) }
     {
         ListEntries {
             list,
-            rows: &[],
+            slots: &[],
             pieces,
         }
     }
@@ -57,18 +57,18 @@ impl<'a> Iterator for ListEntries<'a> {
     type Item = (StanzaKey, &'a Stanza);
 
     fn next(&mut self) -> Option<(StanzaKey, &'a Stanza)> {
-        if self.rows.is_empty() {
+        if self.slots.is_empty() {
             let (piece, pieces) = self.pieces.split_first()?;
-            self.rows = piece;
+            self.slots = piece;
             self.pieces = pieces;
         }
-        let (row, rest) = self.rows.split_first()?;
-        self.rows = rest;
+        let (slot, rest) = self.slots.split_first()?;
+        self.slots = rest;
         let key = StanzaKey {
             list: self.list,
-            stanza: row.serial(),
+            stanza: slot.serial(),
         };
-        Some((key, row.stanza()))
+        Some((key, slot.stanza()))
     }
 }
 

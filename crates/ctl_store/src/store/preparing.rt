@@ -6,14 +6,14 @@ ghost use Rattle.ctl_store.specs.declared.refusal.Refusal.TheVariants as refusal
 ghost use Rattle.ctl_stanza.specs.Content.{package_of, version_of};
 ghost use Rattle.ctl_store.specs.Edits.{edit_of};
 ghost use Rattle.ctl_store.specs.Step.{refusal_of};
-ghost use Rattle.ctl_store.specs.Rows.{rows_from};
+ghost use Rattle.ctl_store.specs.Slots.{slots_from};
 ghost use Rattle.ctl_store.specs.Keys.{keyed_after, removed_of, added_of, found_of, found_in, kept_in, next_in, all_in, key_of};
 ghost use Rattle.ctl_store.specs.Entries.{IsChange};
 ghost use Rattle.ctl_store.specs.Followed.{IsFollowed};
 ghost use Rattle.ctl_store.specs.Given.{IsGivenOnce};
 ghost use Rattle.ctl_store.specs.Store.{state_of, keyed_of};
 ghost use Rattle.ctl_store.specs.Plans.{HasRoom, IsReady};
-ghost use Rattle.ctl_store.specs.Inside.Held.{IsReadyFor, HasRoomIn};
+ghost use Rattle.ctl_store.specs.Inside.Sound.{IsReadyFor, HasRoomIn};
 
 use crate::edit::Edit;
 use crate::held_list::ListRoom;
@@ -28,7 +28,7 @@ use std::alloc::{AllocError, Global};
 
 // The keys of the stanzas of a new list.
 fn new_keys(alloc: Global, list: u32, stanzas: &[Box<Stanza>]) -> Result<Vec<StanzaKey>, AllocError>
-    ensures { IfOk result (λ v. v.items ≡ map (λ row. key_of list row.0) (rows_from 0 (map (λ stanza. stanza.value) stanzas.now))) }
+    ensures { IfOk result (λ v. v.items ≡ map (λ slot. key_of list slot.0) (slots_from 0 (map (λ stanza. stanza.value) stanzas.now))) }
 {
     let mut keys = Vec::with_capacity(alloc, stanzas.len())?;
     let mut left = stanzas;

@@ -2,7 +2,7 @@ use Rattle.std.proofs.Common.{◌≡◌, ◌++◌, flat_map}
 use Rattle.std.specs.List.{filter}
 use Rattle.ctl_filter.specs.Grep.{is_taken, stanza_shown}
 use Rattle.ctl_filter.specs.Inside.Values.{shown_of}
-use Rattle.ctl_filter.specs.Held.{query_of}
+use Rattle.ctl_filter.specs.HeldQuery.{query_of}
 use Rattle.ctl_filter.proofs.answering.append_taken.Given as goal
 
 abbrev pub invariant-stanzas : goal.invariant-stanzas

@@ -1,6 +1,6 @@
 use Rattle.std.proofs.Common.{rules, ◌≡◌, length, arith}
 use Rattle.ctl_filter.specs.Grep.{is_taken}
-use Rattle.ctl_filter.specs.Held.{query_of}
+use Rattle.ctl_filter.specs.HeldQuery.{query_of}
 use Rattle.ctl_filter.proofs.StanzaLemmas.{filtered}
 use Rattle.ctl_filter.proofs.answering.count_taken.Goals as goal
 

@@ -1,7 +1,7 @@
 use Rattle.std.proofs.Common.{◌≡◌, ◌+◌, length}
 use Rattle.std.specs.List.{filter}
 use Rattle.ctl_filter.specs.Grep.{is_taken}
-use Rattle.ctl_filter.specs.Held.{query_of}
+use Rattle.ctl_filter.specs.HeldQuery.{query_of}
 use Rattle.ctl_filter.proofs.answering.count_taken.Given as goal
 
 -- the stanzas taken so far, and those to be taken of what is left, are all

@@ -5,7 +5,7 @@ use Rattle.ctl_store.specs.Entries.{entries_of}
 use Rattle.ctl_policy.specs.Priority.{world_of}
 use Rattle.ctl_policy.specs.Chosen.{at_bytes, kept_of}
 use Rattle.ctl_policy.specs.Touched.{is_one_of}
-use Rattle.ctl_index.specs.Held.{standing}
+use Rattle.ctl_index.specs.HeldCache.{standing}
 use Rattle.ctl_index.specs.Inside.TablesChosen.{HasMade, HasRenewed}
 use Rattle.ctl_index.specs.Inside.TablesFollowed.{IsFollowed}
 use Rattle.ctl_index.specs.Inside.TablesIndexed.{IsIndexed}

@@ -1,9 +1,9 @@
 use Rattle.std.proofs.Common.{◌≡◌, ◌-◌, [], refl, arith}
 use Rattle.ctl_store.specs.Store.{keyed_of}
-use Rattle.ctl_index.specs.Held.{standing}
+use Rattle.ctl_index.specs.HeldCache.{standing}
 use Rattle.ctl_index.specs.Offers.{contents}
 use Rattle.ctl_index.specs.Inside.TablesLoaded.{tests_put_in}
-use Rattle.ctl_index.specs.Inside.TablesSight.{in_store}
+use Rattle.ctl_index.specs.Inside.TablesPending.{in_store}
 use Rattle.ctl_index.specs.Work.{pairs}
 use Rattle.ctl_index.proofs.JoinLemmas.{load_law, put_tests}
 use Rattle.ctl_index.proofs.StoreLemmas.{rising_apart, store_seen}

@@ -1,11 +1,11 @@
 use Rattle.std.proofs.Common.{◌≡◌, ◌≤◌, ◌+◌, List, ap, subst, ◌∙◌, arith}
 use Rattle.ctl_store.specs.declared.stanza_key.StanzaKey.{StanzaKey}
-use Rattle.ctl_index.specs.Held.{standing}
+use Rattle.ctl_index.specs.HeldCache.{standing}
 use Rattle.ctl_index.specs.Inside.TablesFollowed.{staying, standing_after, pairs_gone, pairs_come}
 use Rattle.ctl_index.specs.Inside.TablesIndexed.{IsIndexed}
 use Rattle.ctl_index.specs.Inside.TablesLeft.{IsTakenOut, tests_taken_out}
 use Rattle.ctl_index.specs.Inside.TablesLoaded.{ComeApart, IsLoaded, tests_put_in}
-use Rattle.ctl_index.specs.Inside.TablesSight.{in_store, with_plan}
+use Rattle.ctl_index.specs.Inside.TablesPending.{in_store, with_plan}
 use Rattle.ctl_index.specs.Work.{more_by}
 use Rattle.ctl_index.proofs.CounterLemmas.{more_by_twice}
 use Rattle.ctl_index.proofs.JoinLemmas.{load_law, put_tests, take_law, take_tests}

@@ -9,7 +9,7 @@ use Rattle.ctl_index.specs.Names.{naming_fields, keyed_atoms}
 use Rattle.ctl_index.specs.Inside.TablesHeld.{offers_in, number_told}
 use Rattle.ctl_index.specs.Inside.TablesIndexed.{atom_named}
 use Rattle.ctl_index.specs.Inside.TablesLoaded.{ComeApart, number_with}
-use Rattle.ctl_index.specs.Inside.TablesSight.{seen, entries_seen}
+use Rattle.ctl_index.specs.Inside.TablesPending.{seen, entries_seen}
 use Rattle.ctl_index.specs.Inside.TablesTests.{of_found, fields_tested, atoms_tested}
 use Rattle.ctl_index.specs.Work.{more_by}
 use Rattle.ctl_index.proofs.CounterLemmas.{more_by_twice}
@@ -19,7 +19,7 @@ use Rattle.ctl_index.proofs.coming.list_atoms.Goals as goal
 
 pub loop-key-preserved : goal.loop-key-preserved
 loop-key-preserved c =
-    let s = c.args.sight.now in
+    let s = c.args.pending.now in
     let keys = c.args.keys.now in
     let i = c.loop-key.key-index in
     let d : StanzaKey = record { list = 0; stanza = 0 } in
@@ -45,7 +45,7 @@ loop-key-preserved c =
 
 pub returns-in_err-put_atoms_at-clause-most : goal.returns-in_err-put_atoms_at-clause-most
 returns-in_err-put_atoms_at-clause-most c =
-    let s = c.args.sight.now in
+    let s = c.args.pending.now in
     let keys = c.args.keys.now in
     let i = c.loop-key.key-index in
     let d : StanzaKey = record { list = 0; stanza = 0 } in

@@ -6,14 +6,14 @@ use Rattle.ctl_index.specs.declared.keys.AtomKey.{AtomKey}
 use Rattle.ctl_index.specs.declared.keys.OfferKey.{OfferKey}
 use Rattle.ctl_index.specs.Inside.TablesByName.{offers_under}
 use Rattle.ctl_index.specs.Inside.TablesIndexed.{atom_named}
-use Rattle.ctl_index.specs.Inside.TablesSight.{atom_met, atom_tested}
+use Rattle.ctl_index.specs.Inside.TablesPending.{atom_met, atom_tested}
 use Rattle.ctl_index.specs.Inside.TablesTests.{group_met, group_tested}
 use Rattle.ctl_index.specs.Names.{keyed_group}
 use Rattle.ctl_index.proofs.coming.put_group.Goals as goal
 
 pub loop-atom-preserved : goal.loop-atom-preserved
 loop-atom-preserved c =
-    let s = c.args.sight.now in
+    let s = c.args.pending.now in
     let k = c.args.clause in
     let t = offers_under c.args.names.now.map in
     let p = c.loop-atom.place in
@@ -47,7 +47,7 @@ loop-atom-preserved c =
 
 pub returns-in_err-met-clause-most : goal.returns-in_err-met-clause-most
 returns-in_err-met-clause-most c =
-    let s = c.args.sight.now in
+    let s = c.args.pending.now in
     let k = c.args.clause in
     let t = offers_under c.args.names.now.map in
     let a : AtomParts = c.in-Some.atom in

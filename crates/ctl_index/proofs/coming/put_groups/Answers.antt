@@ -16,7 +16,7 @@ use Rattle.ctl_index.proofs.coming.put_groups.Goals as goal
 
 pub loop-group-preserved : goal.loop-group-preserved
 loop-group-preserved c =
-    let s = c.args.sight.now in
+    let s = c.args.pending.now in
     let key = c.args.key in
     let field = c.args.field in
     let t = offers_in c.args.tables.now in
@@ -54,7 +54,7 @@ loop-group-preserved c =
 
 pub returns-clause-counts : goal.returns-clause-counts
 returns-clause-counts c = λ k.
-    let s = c.args.sight.now in
+    let s = c.args.pending.now in
     let t = offers_in c.args.tables.now in
     let now = number_told c.loop-group.tables k in
     sym (ap (λ gs. number_with s t c.args.field (group_from c.args.key k c.args.field c.loop-group.place gs) now) c.in-None.ensures.steps.0 ∙ groups_end s t c.args.key k c.args.field c.loop-group.place now)

@@ -4,13 +4,13 @@ use Rattle.std.specs.Str.{bytes_eq}
 use Rattle.std.proofs.lemmas.List.{at_drop_more}
 use Rattle.std.proofs.lemmas.List.Sums.{sum_by-cons, sum_by_more, sum_by_more_le}
 use Rattle.ctl_relation.specs.Parts.{OfferParts}
-use Rattle.ctl_index.specs.declared.keys.Namer.{Namer}
+use Rattle.ctl_index.specs.declared.keys.NamingAtom.{NamingAtom}
 use Rattle.ctl_index.specs.declared.keys.OfferKey.{OfferKey}
 use Rattle.ctl_index.specs.Inside.TablesHeld.{namers_in, number_in}
 use Rattle.ctl_index.specs.Inside.TablesCounters.{counted_up}
 use Rattle.ctl_index.specs.Inside.TablesIndexed.{keyed_offers_from, offer_named}
 use Rattle.ctl_index.specs.Inside.TablesLoaded.{all_hits}
-use Rattle.ctl_index.specs.Inside.TablesSight.{tested}
+use Rattle.ctl_index.specs.Inside.TablesPending.{tested}
 use Rattle.ctl_index.specs.Inside.TablesTests.{all_tested, offer_hits}
 use Rattle.ctl_index.specs.Work.{more_by}
 use Rattle.ctl_index.proofs.CounterLemmas.{counted_up_twice, more_by_twice}
@@ -18,7 +18,7 @@ use Rattle.ctl_index.proofs.coming.put_offers_of.Goals as goal
 
 pub loop-i-preserved : goal.loop-i-preserved
 loop-i-preserved c =
-    let s = c.args.sight.now in
+    let s = c.args.pending.now in
     let t = namers_in c.args.tables.now in
     let os = c.args.offers.now in
     let i = c.loop-i.i in
@@ -44,14 +44,14 @@ loop-i-preserved c =
           ∙ counted_up_twice (all_hits s t (take i os) k) (offer_hits s t (get_or os i o) k) was
           ∙ ap (λ n. option_map (counted_up n) was) (sym (sum_by_more (λ (p : OfferParts). offer_hits s t p k) os i o below));
       steps =
-          c.in_ok-put_offer.ensures.steps ∙ ap (λ (u : List ℕ → List Namer). more_by (sum_by (tested s o.name) (u o.name)) c.loop-i.tables.steps) c.loop-i.invariant.namers
+          c.in_ok-put_offer.ensures.steps ∙ ap (λ (u : List ℕ → List NamingAtom). more_by (sum_by (tested s o.name) (u o.name)) c.loop-i.tables.steps) c.loop-i.invariant.namers
           ∙ ap (λ (p : OfferParts). more_by (sum_by (tested s p.name) (t p.name)) c.loop-i.tables.steps) item ∙ ap (more_by _) c.loop-i.invariant.steps ∙ more_by_twice (all_tested s t (take i os)) _ c.args.tables.now.steps
           ∙ ap (λ n. more_by n c.args.tables.now.steps) (sym (sum_by_more (λ (p : OfferParts). sum_by (tested s p.name) (t p.name)) os i o below));
     }
 
 pub returns-in_err-put_offer-clause-most : goal.returns-in_err-put_offer-clause-most
 returns-in_err-put_offer-clause-most c =
-    let s = c.args.sight.now in
+    let s = c.args.pending.now in
     let t = namers_in c.args.tables.now in
     let os = c.args.offers.now in
     let i = c.loop-i.i in
@@ -59,5 +59,5 @@ returns-in_err-put_offer-clause-most c =
     let below : i < length os = omega arith in
     let item : o ≡ get_or os i o = search rules in
     let one : sum_by (tested s o.name) (namers_in c.loop-i.tables o.name) ≡ sum_by (tested s (get_or os i o).name) (t (get_or os i o).name) =
-    ap (λ (u : List ℕ → List Namer). sum_by (tested s o.name) (u o.name)) c.loop-i.invariant.namers ∙ ap (λ (p : OfferParts). sum_by (tested s p.name) (t p.name)) item in
+    ap (λ (u : List ℕ → List NamingAtom). sum_by (tested s o.name) (u o.name)) c.loop-i.invariant.namers ∙ ap (λ (p : OfferParts). sum_by (tested s p.name) (t p.name)) item in
     omega (arith, c.put_offer.ensures.most, one, c.loop-i.invariant.steps, sum_by_more_le (λ (p : OfferParts). sum_by (tested s p.name) (t p.name)) os i o below)

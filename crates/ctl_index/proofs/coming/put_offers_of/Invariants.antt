@@ -15,6 +15,6 @@ invariant-loop-i l = record {
   offers : (q : List ℕ) (f : OfferKey → ℕ) → sum_by f (offers_in l.tables q) + sum_by (offer_named q f) (keyed_offers_from l.fn.key l.i (drop l.i l.fn.offers)) ≡ sum_by f (offers_in l.fn.tables q) + sum_by (offer_named q f) (keyed_offers_from l.fn.key 0 l.fn.offers);
   namers : namers_in l.tables ≡ namers_in l.fn.tables;
   rows : rows_in l.tables ≡ rows_in l.fn.tables;
-  counts : (k : ClauseKey) → number_in l.tables k ≡ option_map (counted_up (all_hits l.fn.sight (namers_in l.fn.tables) (take l.i l.fn.offers) k)) (number_in l.fn.tables k);
-  steps : l.tables.steps ≡ more_by (all_tested l.fn.sight (namers_in l.fn.tables) (take l.i l.fn.offers)) l.fn.tables.steps;
+  counts : (k : ClauseKey) → number_in l.tables k ≡ option_map (counted_up (all_hits l.fn.pending (namers_in l.fn.tables) (take l.i l.fn.offers) k)) (number_in l.fn.tables k);
+  steps : l.tables.steps ≡ more_by (all_tested l.fn.pending (namers_in l.fn.tables) (take l.i l.fn.offers)) l.fn.tables.steps;
 }

@@ -8,7 +8,7 @@ use Rattle.ctl_index.proofs.going.take_atoms.Goals as goal
 
 pub loop-key-preserved : goal.loop-key-preserved
 loop-key-preserved c =
-    let s = c.args.going.now.sight in
+    let s = c.args.going.now.pending in
     let keys = c.args.keys.now in
     record {
       namers = λ q.

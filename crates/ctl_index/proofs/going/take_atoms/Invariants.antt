@@ -10,9 +10,9 @@ use Rattle.ctl_index.proofs.going.take_atoms.Given as goal
 
 abbrev pub invariant-loop-key : goal.invariant-loop-key
 invariant-loop-key l = record {
-  namers : (q : List ℕ) → namers_in l.tables q ≡ without_if namer_stanza l.fn.going.span (list_any (has_namer_at l.fn.going.sight q) (take l.key-index l.fn.keys)) (namers_in l.fn.tables q);
+  namers : (q : List ℕ) → namers_in l.tables q ≡ without_if namer_stanza l.fn.going.span (list_any (has_namer_at l.fn.going.pending q) (take l.key-index l.fn.keys)) (namers_in l.fn.tables q);
   offers : offers_in l.tables ≡ offers_in l.fn.tables;
   rows : rows_in l.tables ≡ rows_in l.fn.tables;
-  counts : (k : ClauseKey) → number_in l.tables k ≡ cond (list_any (is_clause_at l.fn.going.sight k) (take l.key-index l.fn.keys)) None (number_in l.fn.tables k);
-  steps : l.tables.steps ≡ more_by (atoms_tested l.fn.going.sight (offers_in l.fn.tables) (take l.key-index l.fn.keys)) l.fn.tables.steps;
+  counts : (k : ClauseKey) → number_in l.tables k ≡ cond (list_any (is_clause_at l.fn.going.pending k) (take l.key-index l.fn.keys)) None (number_in l.fn.tables k);
+  steps : l.tables.steps ≡ more_by (atoms_tested l.fn.going.pending (offers_in l.fn.tables) (take l.key-index l.fn.keys)) l.fn.tables.steps;
 }

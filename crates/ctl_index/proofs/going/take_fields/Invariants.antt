@@ -14,5 +14,5 @@ invariant-loop-field l = record {
   offers : offers_in l.tables ≡ offers_in l.fn.tables;
   rows : rows_in l.tables ≡ rows_in l.fn.tables;
   counts : (k : ClauseKey) → number_in l.tables k ≡ cond (list_any (is_of_field l.fn.key l.fn.stanza k) (take l.field-index l.fn.fields)) None (number_in l.fn.tables k);
-  steps : l.tables.steps ≡ more_by (fields_tested l.fn.going.sight (offers_in l.fn.tables) (take l.field-index l.fn.fields) l.fn.stanza) l.fn.tables.steps;
+  steps : l.tables.steps ≡ more_by (fields_tested l.fn.going.pending (offers_in l.fn.tables) (take l.field-index l.fn.fields) l.fn.stanza) l.fn.tables.steps;
 }

@@ -2,10 +2,10 @@ use Rattle.std.proofs.Common.{◌≡◌, ℕ, List, ◌∷◌, ap, sym, ◌∙�
 use Rattle.std.specs.Str.{bytes_eq}
 use Rattle.std.proofs.lemmas.List.Sums.{sum_by-cons}
 use Rattle.ctl_relation.specs.Parts.{AtomParts}
-use Rattle.ctl_index.specs.declared.keys.Namer.{Namer}
+use Rattle.ctl_index.specs.declared.keys.NamingAtom.{NamingAtom}
 use Rattle.ctl_index.specs.declared.keys.OfferKey.{OfferKey}
 use Rattle.ctl_index.specs.Inside.TablesByName.{offers_under, namers_under}
-use Rattle.ctl_index.specs.Inside.TablesSight.{atom_tested}
+use Rattle.ctl_index.specs.Inside.TablesPending.{atom_tested}
 use Rattle.ctl_index.specs.Inside.TablesLeft.{has_namer}
 use Rattle.ctl_index.specs.Inside.TablesOrder.{namer_stanza, others, without_if}
 use Rattle.ctl_index.specs.Inside.TablesTests.{group_tested}
@@ -14,7 +14,7 @@ use Rattle.ctl_index.proofs.going.take_group.Goals as goal
 
 pub loop-atom-preserved : goal.loop-atom-preserved
 loop-atom-preserved c =
-    let s = c.args.going.now.sight in
+    let s = c.args.going.now.pending in
     let t = offers_under c.args.names.now.map in
     let span = c.args.going.now.span in
     let a : AtomParts = c.in-Some.atom in
@@ -26,7 +26,7 @@ loop-atom-preserved c =
     record {
       namers = λ q.
           let now = namers_under c.loop-atom.names.map q in
-          let left_by : List AtomParts → List Namer = λ ps. without_if namer_stanza span (has_namer q ps) now in
+          let left_by : List AtomParts → List NamingAtom = λ ps. without_if namer_stanza span (has_namer q ps) now in
           ap (without_if namer_stanza span (has_namer q rest)) (c.take_atom.ensures.namers q)
           ∙ twice (others namer_stanza span) now (filter_twice _ now) (bytes_eq a.name q) (has_namer q rest)
           ∙ sym (ap left_by left) ∙ c.loop-atom.invariant.namers q;

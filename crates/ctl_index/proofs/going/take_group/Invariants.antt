@@ -12,6 +12,6 @@ invariant-loop-atom l = record {
   namers : (q : List ℕ) → without_if namer_stanza l.fn.going.span (has_namer q l.atom-iterator) (namers_under l.names.map q) ≡ without_if namer_stanza l.fn.going.span (has_namer q l.fn.group) (namers_under l.fn.names.map q);
   offers : offers_under l.names.map ≡ offers_under l.fn.names.map;
   rows : rows_under l.names.map ≡ rows_under l.fn.names.map;
-  steps : more_by (group_tested l.fn.going.sight l.fn.field (offers_under l.fn.names.map) l.atom-iterator) l.steps ≡ more_by (group_tested l.fn.going.sight l.fn.field (offers_under l.fn.names.map) l.fn.group) l.fn.steps;
+  steps : more_by (group_tested l.fn.going.pending l.fn.field (offers_under l.fn.names.map) l.atom-iterator) l.steps ≡ more_by (group_tested l.fn.going.pending l.fn.field (offers_under l.fn.names.map) l.fn.group) l.fn.steps;
   counted : l.steps ≤ 2 ^ 128 - 1;
 }

@@ -23,7 +23,7 @@ loop-group-init c = record {
 
 pub loop-group-preserved : goal.loop-group-preserved
 loop-group-preserved c =
-    let s = c.args.going.now.sight in
+    let s = c.args.going.now.pending in
     let field = c.args.field in
     let span = c.args.going.now.span in
     let t = offers_in c.args.tables.now in

@@ -16,6 +16,6 @@ invariant-loop-group l = record {
   rows : rows_in l.tables ≡ rows_in l.fn.tables;
   counts : (k : ClauseKey) → number_in l.tables k ≡ cond (is_group_below l.fn.key l.fn.field l.place k) None (number_in l.fn.tables k);
   places : l.place + length l.group-iterator ≡ length l.fn.groups;
-  steps : more_by (groups_tested l.fn.going.sight l.fn.field (offers_in l.fn.tables) l.group-iterator) l.tables.steps ≡ more_by (groups_tested l.fn.going.sight l.fn.field (offers_in l.fn.tables) l.fn.groups) l.fn.tables.steps;
+  steps : more_by (groups_tested l.fn.going.pending l.fn.field (offers_in l.fn.tables) l.group-iterator) l.tables.steps ≡ more_by (groups_tested l.fn.going.pending l.fn.field (offers_in l.fn.tables) l.fn.groups) l.fn.tables.steps;
   counted : l.tables.steps ≤ 2 ^ 128 - 1;
 }

@@ -11,9 +11,9 @@ use Rattle.ctl_index.proofs.going.take_offers.Given as goal
 
 abbrev pub invariant-loop-key : goal.invariant-loop-key
 invariant-loop-key l = record {
-  offers : (q : List ℕ) → offers_in l.tables q ≡ without_if offer_stanza l.fn.going.span (list_any (has_offer_at l.fn.going.sight q) (take l.key-index l.fn.keys)) (offers_in l.fn.tables q);
+  offers : (q : List ℕ) → offers_in l.tables q ≡ without_if offer_stanza l.fn.going.span (list_any (has_offer_at l.fn.going.pending q) (take l.key-index l.fn.keys)) (offers_in l.fn.tables q);
   namers : namers_in l.tables ≡ namers_in l.fn.tables;
   rows : rows_in l.tables ≡ rows_in l.fn.tables;
-  counts : (k : ClauseKey) → number_in l.tables k ≡ less_by (sum_by (hits_at l.fn.going.sight (namers_in l.fn.tables) k) (take l.key-index l.fn.keys)) (number_in l.fn.tables k);
-  steps : l.tables.steps ≡ more_by (offers_tested l.fn.going.sight (namers_in l.fn.tables) (take l.key-index l.fn.keys)) l.fn.tables.steps;
+  counts : (k : ClauseKey) → number_in l.tables k ≡ less_by (sum_by (hits_at l.fn.going.pending (namers_in l.fn.tables) k) (take l.key-index l.fn.keys)) (number_in l.fn.tables k);
+  steps : l.tables.steps ≡ more_by (offers_tested l.fn.going.pending (namers_in l.fn.tables) (take l.key-index l.fn.keys)) l.fn.tables.steps;
 }

@@ -14,6 +14,6 @@ invariant-loop-offer l = record {
   offers : (q : List ℕ) → offers_in l.tables q ≡ without_if offer_stanza l.fn.going.span (has_offer q (take l.offer-index l.fn.offers)) (offers_in l.fn.tables q);
   namers : namers_in l.tables ≡ namers_in l.fn.tables;
   rows : rows_in l.tables ≡ rows_in l.fn.tables;
-  counts : (k : ClauseKey) → number_in l.tables k ≡ less_by (all_hits l.fn.going.sight (namers_in l.fn.tables) (take l.offer-index l.fn.offers) k) (number_in l.fn.tables k);
-  steps : l.tables.steps ≡ more_by (all_tested l.fn.going.sight (namers_in l.fn.tables) (take l.offer-index l.fn.offers)) l.fn.tables.steps;
+  counts : (k : ClauseKey) → number_in l.tables k ≡ less_by (all_hits l.fn.going.pending (namers_in l.fn.tables) (take l.offer-index l.fn.offers) k) (number_in l.fn.tables k);
+  steps : l.tables.steps ≡ more_by (all_tested l.fn.going.pending (namers_in l.fn.tables) (take l.offer-index l.fn.offers)) l.fn.tables.steps;
 }

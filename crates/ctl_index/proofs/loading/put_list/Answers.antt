@@ -4,13 +4,13 @@ use Rattle.ctl_index.specs.Clauses.{clause_at}
 use Rattle.ctl_index.specs.Inside.TablesByName.{rows_under}
 use Rattle.ctl_index.specs.Inside.TablesIndexed.{namers_sum}
 use Rattle.ctl_index.specs.Inside.TablesLoaded.{number_with}
-use Rattle.ctl_index.specs.Inside.TablesSight.{entries_seen}
+use Rattle.ctl_index.specs.Inside.TablesPending.{entries_seen}
 use Rattle.ctl_index.specs.Inside.TablesRows.{AreRowsPut}
 use Rattle.ctl_index.proofs.loading.put_list.Goals as goal
 
 pub returns-clause-tables : goal.returns-clause-tables
 returns-clause-tables c = λ apart.
-    let s = c.args.sight.now in
+    let s = c.args.pending.now in
     let keys = c.args.keys.now in
     let offers = c.in_ok-put_rows.ensures.offers ∙ c.in_ok-put_atoms.ensures.offers in
     record {

@@ -1,12 +1,12 @@
 use Rattle.std.proofs.Common.{◌≡◌, take}
 use Rattle.ctl_index.specs.Inside.TablesByName.{offers_under, namers_under, rows_under}
 use Rattle.ctl_index.specs.Inside.TablesRows.{AreRowsTaken}
-use Rattle.ctl_index.specs.Inside.TablesSight.{entries_seen}
+use Rattle.ctl_index.specs.Inside.TablesPending.{entries_seen}
 use Rattle.ctl_index.proofs.rows.take_rows.Given as goal
 
 abbrev pub invariant-loop-key : goal.invariant-loop-key
 invariant-loop-key l = record {
-  rows : AreRowsTaken (entries_seen l.fn.sight (take l.key-index l.fn.keys)) (rows_under l.fn.names.map) (rows_under l.names.map);
+  rows : AreRowsTaken (entries_seen l.fn.pending (take l.key-index l.fn.keys)) (rows_under l.fn.names.map) (rows_under l.names.map);
   offers : offers_under l.names.map ≡ offers_under l.fn.names.map;
   namers : namers_under l.names.map ≡ namers_under l.fn.names.map;
 }

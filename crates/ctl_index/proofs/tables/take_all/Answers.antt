@@ -1,12 +1,12 @@
 use Rattle.std.proofs.Common.{◌≡◌, ℕ, List, ap, subst, ◌∙◌, arith}
 use Rattle.std.specs.List.{list_any, sum_by}
-use Rattle.ctl_index.specs.declared.keys.Namer.{Namer}
+use Rattle.ctl_index.specs.declared.keys.NamingAtom.{NamingAtom}
 use Rattle.ctl_index.specs.Inside.TablesByName.{rows_under}
 use Rattle.ctl_index.specs.Inside.TablesCounters.{less_by}
 use Rattle.ctl_index.specs.Inside.TablesHeld.{offers_in, namers_in}
 use Rattle.ctl_index.specs.Inside.TablesLeft.{has_namer_at, has_offer_at, hits_at, namers_taken, tests_taken_out}
 use Rattle.ctl_index.specs.Inside.TablesOrder.{namer_stanza, offer_stanza, without_if, span_of}
-use Rattle.ctl_index.specs.Inside.TablesSight.{entries_seen}
+use Rattle.ctl_index.specs.Inside.TablesPending.{entries_seen}
 use Rattle.ctl_index.specs.Inside.TablesRows.{AreRowsTaken}
 use Rattle.ctl_index.specs.Inside.TablesTests.{offers_tested, atoms_tested}
 use Rattle.ctl_index.specs.Work.{more_by}
@@ -16,7 +16,7 @@ use Rattle.ctl_index.proofs.tables.take_all.Goals as goal
 
 pub returns-clause-tables : goal.returns-clause-tables
 returns-clause-tables c =
-    let s = c.args.sight in
+    let s = c.args.pending in
     let keys = c.args.keys.now in
     let old = c.args.tables.now in
     let span : c.in-Some.span ≡ span_of keys = c.in-Some.ensures.some in
@@ -31,7 +31,7 @@ returns-clause-tables c =
 
 pub returns-clause-steps : goal.returns-clause-steps
 returns-clause-steps c =
-    let s = c.args.sight in
+    let s = c.args.pending in
     let keys = c.args.keys.now in
     let old = c.args.tables.now in
     let span : c.in-Some.span ≡ span_of keys = c.in-Some.ensures.some in
@@ -42,16 +42,16 @@ returns-clause-steps c =
 
 pub returns-clause-most : goal.returns-clause-most
 returns-clause-most c =
-    let all : c.take_offers.new.tables.steps ≡ more_by (tests_taken_out c.args.sight c.args.keys.now c.args.tables.now) c.args.tables.now.steps = returns-clause-steps c in
+    let all : c.take_offers.new.tables.steps ≡ more_by (tests_taken_out c.args.pending c.args.keys.now c.args.tables.now) c.args.tables.now.steps = returns-clause-steps c in
     omega (arith, all)
 
 pub returns-in_err-take_offers-clause-most : goal.returns-in_err-take_offers-clause-most
 returns-in_err-take_offers-clause-most c =
-    let s = c.args.sight in
+    let s = c.args.pending in
     let keys = c.args.keys.now in
     let old = c.args.tables.now in
     let span : c.in-Some.span ≡ span_of keys = c.in-Some.ensures.some in
     let left : (q : List ℕ) → namers_in c.take_atoms.new.tables q ≡ namers_taken s keys old q =
     λ q. c.take_atoms.ensures.namers q ∙ (λ i. without_if namer_stanza (span i) (list_any (has_namer_at s q) keys) (namers_in old q)) in
-    let same = ap (λ (t : List ℕ → List Namer). offers_tested s t keys) (λ i q. left q i) in
+    let same = ap (λ (t : List ℕ → List NamingAtom). offers_tested s t keys) (λ i q. left q i) in
     omega (arith, c.take_offers.ensures.most, c.take_atoms.ensures.steps, same)

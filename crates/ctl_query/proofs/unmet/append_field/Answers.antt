@@ -1,6 +1,6 @@
 use Rattle.std.proofs.Common.{length, ap, arith}
 use Rattle.ctl_stanza.specs.Content.{groups_of}
-use Rattle.ctl_index.specs.Held.{standing}
+use Rattle.ctl_index.specs.HeldCache.{standing}
 use Rattle.ctl_policy.specs.Priority.{world_of}
 use Rattle.ctl_query.specs.Unmet.{line_if_unmet}
 use Rattle.ctl_query.proofs.UnmetLemmas.{clause_found, at_place, behind_place, one_passed}

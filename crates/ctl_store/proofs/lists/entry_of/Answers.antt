@@ -5,10 +5,10 @@ use Rattle.ctl_store.proofs.lists.entry_of.Goals as goal
 
 pub returns-in-Some : goal.returns-in-Some
 returns-in-Some c =
-    let rows = c.args.lists.now.rows in
-    (λ j. Some (c.as_slice.ensures j, c.in-Some.list.now)) ∙ c.in-Some.ensures ∙ ap (λ serial. lookup (nat_eq serial) rows) c.from.ensures ∙ entry_is c.args.serial rows c.requires
+    let slots = c.args.lists.now.filled in
+    (λ j. Some (c.as_slice.ensures j, c.in-Some.list.now)) ∙ c.in-Some.ensures ∙ ap (λ serial. lookup (nat_eq serial) slots) c.from.ensures ∙ entry_is c.args.serial slots c.requires
 
 pub returns-in-None : goal.returns-in-None
 returns-in-None c =
-    let rows = c.args.lists.now.rows in
-    c.in-None.ensures ∙ ap (λ serial. lookup (nat_eq serial) rows) c.from.ensures ∙ entry_is c.args.serial rows c.requires
+    let slots = c.args.lists.now.filled in
+    c.in-None.ensures ∙ ap (λ serial. lookup (nat_eq serial) slots) c.from.ensures ∙ entry_is c.args.serial slots c.requires

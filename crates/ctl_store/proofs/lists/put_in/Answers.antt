@@ -5,7 +5,7 @@ use Rattle.ctl_ordered.proofs.SlotLemmas.{from_lent}
 use Rattle.ctl_store.specs.Keys.{put_keyed}
 use Rattle.ctl_store.specs.Store.{HeldList, lists_of}
 use Rattle.ctl_store.specs.Plans.{HasRoomInList}
-use Rattle.ctl_store.specs.Inside.Held.{AreNumbered}
+use Rattle.ctl_store.specs.Inside.Sound.{AreNumbered}
 use Rattle.ctl_store.proofs.ListedLemmas.{set_named-change, change_named-none, numbered_set}
 use Rattle.ctl_store.proofs.lists.put_in.Goals as goal
 
@@ -29,8 +29,8 @@ returns-in-Some c =
       lists =
           ap lists_of has.entries
           ∙ set_named-change list (put_keyed c.args.stanza.value) (entries old) v w at
-          (λ j. record { serial = c.put.ensures.serial j; kind = c.put.ensures.kind j; class = c.put.ensures.class j; next = c.put.ensures.next j; rows = c.put.ensures.rows j });
-      numbered = λ h. subst AreNumbered (sym has.rows) (numbered_set (bytes_eq list) old.rows v w at c.put.ensures.serial h);
+          (λ j. record { serial = c.put.ensures.serial j; kind = c.put.ensures.kind j; class = c.put.ensures.class j; next = c.put.ensures.next j; slots = c.put.ensures.slots j });
+      numbered = λ h. subst AreNumbered (sym has.filled) (numbered_set (bytes_eq list) old.filled v w at c.put.ensures.serial h);
       next = has.next;
     }
 
@@ -39,6 +39,6 @@ returns-in-None c =
     let none = c.get_mut.follows.holds-at-none in
     record {
       lists = ap (λ l. lists_of (entries l)) none ∙ change_named-none c.args.list.now (put_keyed c.args.stanza.value) (entries c.args.lists.now) c.in-None.ensures.value;
-      numbered = λ h. subst (λ l. AreNumbered l.rows) (sym none) h;
+      numbered = λ h. subst (λ l. AreNumbered l.filled) (sym none) h;
       next = ap (λ l. l.next) none;
     }

@@ -4,7 +4,7 @@ use Rattle.ctl_ordered.specs.Ordered.{entries}
 use Rattle.ctl_ordered.proofs.SlotLemmas.{from_lent}
 use Rattle.ctl_store.specs.Keys.{remove_keyed}
 use Rattle.ctl_store.specs.Store.{lists_of}
-use Rattle.ctl_store.specs.Inside.Held.{AreNumbered}
+use Rattle.ctl_store.specs.Inside.Sound.{AreNumbered}
 use Rattle.ctl_store.proofs.ListedLemmas.{set_named-change, change_named-none, numbered_set}
 use Rattle.ctl_store.proofs.lists.remove_in.Goals as goal
 
@@ -20,8 +20,8 @@ returns-in-Some c =
       lists =
           ap lists_of has.entries
           ∙ set_named-change list (remove_keyed c.args.name.now (Some c.args.version.now)) (entries old) v w at
-          (λ j. record { serial = c.remove.ensures.serial j; kind = c.remove.ensures.kind j; class = c.remove.ensures.class j; next = c.remove.ensures.next j; rows = c.remove.ensures.rows j });
-      numbered = λ h. subst AreNumbered (sym has.rows) (numbered_set (bytes_eq list) old.rows v w at c.remove.ensures.serial h);
+          (λ j. record { serial = c.remove.ensures.serial j; kind = c.remove.ensures.kind j; class = c.remove.ensures.class j; next = c.remove.ensures.next j; slots = c.remove.ensures.slots j });
+      numbered = λ h. subst AreNumbered (sym has.filled) (numbered_set (bytes_eq list) old.filled v w at c.remove.ensures.serial h);
       next = has.next;
     }
 
@@ -30,6 +30,6 @@ returns-in-None c =
     let none = c.get_mut.follows.holds-at-none in
     record {
       lists = ap (λ l. lists_of (entries l)) none ∙ change_named-none c.args.list.now (remove_keyed c.args.name.now (Some c.args.version.now)) (entries c.args.lists.now) c.in-None.ensures.value;
-      numbered = λ h. subst (λ l. AreNumbered l.rows) (sym none) h;
+      numbered = λ h. subst (λ l. AreNumbered l.filled) (sym none) h;
       next = ap (λ l. l.next) none;
     }

@@ -6,7 +6,7 @@ use Rattle.ctl_store.specs.Named.{at_name}
 use Rattle.ctl_store.specs.Keys.{KeyedList}
 use Rattle.ctl_store.specs.Store.{lists_of}
 use Rattle.ctl_store.specs.Plans.{HasRoomInList}
-use Rattle.ctl_store.specs.Inside.Held.{AreNumbered}
+use Rattle.ctl_store.specs.Inside.Sound.{AreNumbered}
 use Rattle.ctl_store.proofs.ListedLemmas.{at_name-set_named, set_named-same, on_ok_map, numbered_set}
 use Rattle.ctl_store.proofs.lists.reserve_in.Goals as goal
 
@@ -22,7 +22,7 @@ returns-in-Some c =
     record {
       lists = ap lists_of has.entries ∙ set_named-same list (entries old) v w at c.reserve_one.ensures.same;
       ok = on_ok_map c.reserve_one.result (λ room. subst (λ o. IfSome o HasRoomInList) (sym found) room) c.reserve_one.ensures.ok;
-      numbered = λ h. subst AreNumbered (sym has.rows) (numbered_set (bytes_eq list) old.rows v w at (ap (λ (l : KeyedList). l.serial) c.reserve_one.ensures.same) h);
+      numbered = λ h. subst AreNumbered (sym has.filled) (numbered_set (bytes_eq list) old.filled v w at (ap (λ (l : KeyedList). l.serial) c.reserve_one.ensures.same) h);
       next = has.next;
     }
 
@@ -32,6 +32,6 @@ returns-in-None c =
     record {
       lists = ap (λ l. lists_of (entries l)) none;
       ok = subst (λ o. IfSome o HasRoomInList) (c.in-None.ensures.value ∙ ap (λ l. at_name c.args.list.now (entries l)) (sym none)) tt;
-      numbered = λ h. subst (λ l. AreNumbered l.rows) (sym none) h;
+      numbered = λ h. subst (λ l. AreNumbered l.filled) (sym none) h;
       next = ap (λ l. l.next) none;
     }

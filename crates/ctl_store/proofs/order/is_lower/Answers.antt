@@ -27,7 +27,7 @@ returns-clause-place c =
     let there : IsSpot ps spot = c.if-not-is_spot.ensures in
     let one = c.index-there.result.now in
     on_true_map c.follows_lesser.result
-    (lower_between (joined c.args.rows.now) c.requires.kept.0 ps c.requires.kept.1 c.args.sought.now spot there one
+    (lower_between (joined c.args.slots.now) c.requires.kept.0 ps c.requires.kept.1 c.args.sought.now spot there one
     (λ d. get_joined ps spot.piece spot.at c.index-order-likely.result one d there c.index-order-likely.is c.index-there.ensures)
     (ap is_lt (sym c.compare_placed.ensures) ∙ sym c.is_lt.ensures ∙ c.if-is_lt.false))
     c.follows_lesser.ensures

@@ -7,10 +7,10 @@ use Rattle.ctl_store.proofs.pin_table.place_of.Goals as goal
 
 pub returns-clause-place : goal.returns-clause-place
 returns-clause-place c =
-    let rows = c.args.settings.now.rows in
+    let slots = c.args.settings.now.filled in
     let next = c.args.settings.now.next in
     let order = c.args.order.now.items in
     let q : Option (List ℕ) × ℕ = (option_copied c.args.wanted.0, c.args.wanted.1) in
     let bound : c.partition_point.result ≤ length order = let ok = c.args.order.now.ok in omega (arith, c.partition_point.ensures.bound) in
-    own_lower rows next order c.requires q c.partition_point.result bound
-    (c.partition_point.ensures.partitioned (λ s. is_lt (own_order rows q s)) (always_returns_same _ _ _ (λ a r f k. search (rules, of_calls))))
+    own_lower slots next order c.requires q c.partition_point.result bound
+    (c.partition_point.ensures.partitioned (λ s. is_lt (own_order slots q s)) (always_returns_same _ _ _ (λ a r f k. search (rules, of_calls))))

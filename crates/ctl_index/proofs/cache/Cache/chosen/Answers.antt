@@ -1,7 +1,7 @@
 use Rattle.std.proofs.Common.{◌∙◌, ap, sym}
 use Rattle.ctl_policy.specs.Priority.{world_of}
 use Rattle.ctl_policy.specs.Chosen.{choice_in}
-use Rattle.ctl_index.specs.Held.{HeldCache}
+use Rattle.ctl_index.specs.HeldCache.{HeldCache}
 use Rattle.ctl_index.proofs.CandidateLemmas.{none_kept}
 use Rattle.ctl_index.proofs.cache.Cache.chosen.Goals as goal
 

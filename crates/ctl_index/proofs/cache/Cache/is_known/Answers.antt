@@ -2,7 +2,7 @@ use Rattle.std.proofs.Common.{ap, ◌∙◌}
 use Rattle.std.specs.List.{list_any}
 use Rattle.std.specs.Str.{bytes_eq}
 use Rattle.ctl_store.specs.Store.{keyed_of, state_of}
-use Rattle.ctl_index.specs.Held.{HeldCache, standing}
+use Rattle.ctl_index.specs.HeldCache.{HeldCache, standing}
 use Rattle.ctl_index.specs.Names.{known_names}
 use Rattle.ctl_index.specs.Work.{stanzas_of_state}
 use Rattle.ctl_index.proofs.LawLemmas.{contents_of_state}

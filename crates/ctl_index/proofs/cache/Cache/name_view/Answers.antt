@@ -6,14 +6,14 @@ use Rattle.ctl_store.specs.declared.stanza_key.StanzaKey.{StanzaKey}
 use Rattle.ctl_store.specs.Keys.{AreHeld}
 use Rattle.ctl_store.specs.Store.{keyed_of, state_of}
 use Rattle.ctl_policy.specs.Rows.{rows_named, newest_first, keys_of_row}
-use Rattle.ctl_index.specs.Held.{HeldCache, standing}
+use Rattle.ctl_index.specs.HeldCache.{HeldCache, standing}
 use Rattle.ctl_index.specs.Names.{known_names, namers_named}
 use Rattle.ctl_index.specs.Inside.NameView.{name_standing}
 use Rattle.ctl_index.specs.Inside.TablesByName.{at_name, offers_under, rows_under}
 use Rattle.ctl_index.specs.Inside.TablesViews.{offering, offer_found}
 use Rattle.ctl_index.specs.Offers.{offers_named}
 use Rattle.ctl_relation.specs.Parts.{OfferParts}
-use Rattle.ctl_index.specs.Inside.TablesSight.{AreSeen, in_store}
+use Rattle.ctl_index.specs.Inside.TablesPending.{AreSeen, in_store}
 use Rattle.ctl_index.specs.Work.{stanzas_of_state}
 use Rattle.ctl_index.proofs.LawLemmas.{contents_of_state}
 use Rattle.ctl_index.proofs.NameViewLemmas.{rows_of_entry, found_offering}

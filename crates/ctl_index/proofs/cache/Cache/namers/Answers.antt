@@ -1,13 +1,13 @@
 use Rattle.std.proofs.Common.{◌≡◌, true, is_some, map, ap, sym, subst, ◌∙◌}
 use Rattle.ctl_store.specs.Store.{keyed_of}
-use Rattle.ctl_index.specs.Held.{HeldCache, standing}
+use Rattle.ctl_index.specs.HeldCache.{HeldCache, standing}
 use Rattle.std.specs.List.{AllByRecursion}
 use Rattle.std.specs.List.Sorted.{IsPermutation}
 use Rattle.ctl_store.specs.Keys.{AreHeld, stanza_at}
 use Rattle.ctl_index.specs.declared.keys.AtomKey.{AtomKey}
 use Rattle.ctl_index.specs.Names.{namers_named}
 use Rattle.ctl_index.specs.Inside.TablesOrder.{namer_key}
-use Rattle.ctl_index.specs.Inside.TablesSight.{AreSeen, in_store}
+use Rattle.ctl_index.specs.Inside.TablesPending.{AreSeen, in_store}
 use Rattle.ctl_index.proofs.StoreLemmas.{rising_apart, store_seen}
 use Rattle.ctl_index.proofs.ViewLemmas.{namers_permuted, namers_held, keys_held}
 use Rattle.ctl_index.proofs.cache.Cache.namers.Goals as goal

@@ -6,7 +6,7 @@ use Rattle.std.specs.Cmp.Lexicographic.{slice_cmp}
 use Rattle.std.specs.Str.{bytes_eq}
 use Rattle.std.proofs.lemmas.Map.Made.{is_some-lookup}
 use Rattle.ctl_store.specs.Store.{keyed_of, state_of}
-use Rattle.ctl_index.specs.Held.{HeldCache, standing}
+use Rattle.ctl_index.specs.HeldCache.{HeldCache, standing}
 use Rattle.ctl_index.specs.Inside.NameMap.{entry_names}
 use Rattle.ctl_index.specs.Names.{known_names}
 use Rattle.ctl_index.specs.Work.{stanzas_of_state}

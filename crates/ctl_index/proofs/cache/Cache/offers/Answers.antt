@@ -1,13 +1,13 @@
 use Rattle.std.proofs.Common.{List, map, ap, sym, subst, ◌∙◌}
 use Rattle.ctl_store.specs.Store.{keyed_of}
-use Rattle.ctl_index.specs.Held.{HeldCache, standing}
+use Rattle.ctl_index.specs.HeldCache.{HeldCache, standing}
 use Rattle.std.specs.List.Sorted.{IsPermutation}
 use Rattle.ctl_relation.specs.Parts.{OfferParts}
 use Rattle.ctl_store.specs.declared.stanza_key.StanzaKey.{StanzaKey}
 use Rattle.ctl_store.specs.Keys.{AreHeld}
 use Rattle.ctl_index.specs.declared.keys.OfferKey.{OfferKey}
 use Rattle.ctl_index.specs.Offers.{offers_named}
-use Rattle.ctl_index.specs.Inside.TablesSight.{AreSeen, in_store}
+use Rattle.ctl_index.specs.Inside.TablesPending.{AreSeen, in_store}
 use Rattle.ctl_index.specs.Inside.TablesViews.{offer_found, AreFound}
 use Rattle.ctl_index.proofs.StoreLemmas.{rising_apart, store_seen}
 use Rattle.ctl_index.proofs.ViewLemmas.{offers_permuted, offers_found, found_held}

@@ -1,7 +1,7 @@
 use Rattle.std.proofs.Common.{◌&&◌, nat_eq, ap, ◌∙◌}
 use Rattle.std.specs.List.{starts_with}
 use Rattle.ctl_store.specs.Store.{keyed_of, state_of}
-use Rattle.ctl_index.specs.Held.{HeldCache, standing}
+use Rattle.ctl_index.specs.HeldCache.{HeldCache, standing}
 use Rattle.ctl_index.specs.Names.{is_package}
 use Rattle.ctl_index.specs.Offers.{contents}
 use Rattle.ctl_index.specs.Work.{stanzas_of_state}

@@ -8,7 +8,7 @@ use Rattle.std.specs.Str.{bytes_eq}
 use Rattle.ctl_store.specs.Store.{keyed_of}
 use Rattle.ctl_policy.specs.Priority.{world_of}
 use Rattle.ctl_policy.specs.Rows.{has_row}
-use Rattle.ctl_index.specs.Held.{HeldCache}
+use Rattle.ctl_index.specs.HeldCache.{HeldCache}
 use Rattle.ctl_index.proofs.CandidateLemmas.{kept_names}
 use Rattle.ctl_index.proofs.NamesLemmas.{sorted-items}
 use Rattle.ctl_index.proofs.cache.Cache.packages.Goals as goal

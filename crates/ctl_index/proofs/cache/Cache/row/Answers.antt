@@ -6,7 +6,7 @@ use Rattle.ctl_store.specs.Keys.{AreHeld}
 use Rattle.ctl_store.specs.Store.{keyed_of}
 use Rattle.ctl_policy.specs.Keys.{or_none}
 use Rattle.ctl_policy.specs.Rows.{Rows, AreRowsOf}
-use Rattle.ctl_index.specs.Held.{HeldCache}
+use Rattle.ctl_index.specs.HeldCache.{HeldCache}
 use Rattle.ctl_index.specs.RowsTold.{row_at}
 use Rattle.ctl_index.proofs.cache.Cache.row.Goals as goal
 

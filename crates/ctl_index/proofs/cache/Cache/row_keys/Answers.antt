@@ -3,7 +3,7 @@ use Rattle.std.specs.List.{AllByRecursion}
 use Rattle.ctl_store.specs.Keys.{AreHeld}
 use Rattle.ctl_store.specs.Store.{keyed_of}
 use Rattle.ctl_policy.specs.Rows.{Rows, AreRowsOf}
-use Rattle.ctl_index.specs.Held.{HeldCache}
+use Rattle.ctl_index.specs.HeldCache.{HeldCache}
 use Rattle.ctl_index.proofs.cache.Cache.row_keys.Goals as goal
 
 pub returns-in-Some-clause-held : goal.returns-in-Some-clause-held

@@ -1,6 +1,6 @@
 use Rattle.std.proofs.Common.{false, nat_eq, ap, sym, subst, ◌∙◌}
 use Rattle.ctl_store.specs.Store.{keyed_of}
-use Rattle.ctl_index.specs.Held.{HeldCache, standing}
+use Rattle.ctl_index.specs.HeldCache.{HeldCache, standing}
 use Rattle.std.specs.Option.{option_map_or}
 use Rattle.ctl_store.specs.Keys.{AreRising}
 use Rattle.ctl_store.specs.Entries.{entry_keys}

@@ -2,7 +2,7 @@ use Rattle.std.proofs.Common.{◌≡◌, ℕ, [], List, length, nat_eq, ◌&&◌
 use Rattle.std.specs.List.{sum_by}
 use Rattle.std.specs.Str.{bytes_eq}
 use Rattle.ctl_index.specs.Inside.TablesByName.{at_name}
-use Rattle.ctl_index.specs.declared.keys.Namer.{Namer}
+use Rattle.ctl_index.specs.declared.keys.NamingAtom.{NamingAtom}
 use Rattle.ctl_index.specs.declared.named.Named.{Named}
 use Rattle.std.specs.FinMap as fin
 use Rattle.std.specs.Option.{option_map_or}
@@ -20,7 +20,7 @@ invariant_of-self c =
     let w : Named = record { offers = v.offers; namers = c.put.new.self; rows = v.rows } in
     record {
       used = used_written c.name.result.now m (c.get_mut.follows.lender w) w (on_some c.in-Some.is (c.get_mut.follows.holds w))
-          (ap (λ (xs : List Namer). not ((nat_eq (length (named_offers v)) 0 && nat_eq (length xs) 0) && nat_eq (fin.len (named_rows v)) 0)) c.in_err-put-in-Some.ensures.err ∙ used_found m c.name.result.now v c.in-Some.ensures.value c.args.self.now.used) c.args.self.now.used;
+          (ap (λ (xs : List NamingAtom). not ((nat_eq (length (named_offers v)) 0 && nat_eq (length xs) 0) && nat_eq (fin.len (named_rows v)) 0)) c.in_err-put-in-Some.ensures.err ∙ used_found m c.name.result.now v c.in-Some.ensures.value c.args.self.now.used) c.args.self.now.used;
     }
 
 pub invariant_of-self-in-Some : goal.invariant_of-self-in-Some
@@ -30,7 +30,7 @@ invariant_of-self-in-Some c =
     let w : Named = record { offers = v.offers; namers = c.put.new.self; rows = v.rows } in
     record {
       used = used_written c.name.result.now m (c.get_mut.follows.lender w) w (on_some c.in-Some.is (c.get_mut.follows.holds w))
-          (ap (λ (xs : List Namer). not ((nat_eq (length (named_offers v)) 0 && nat_eq (length xs) 0) && nat_eq (fin.len (named_rows v)) 0)) c.in_ok-put-in-Some.ensures.ok ∙ used_more_too namer_stanza (named_namers v) c.new.result (nat_eq (length (named_offers v)) 0) (nat_eq (fin.len (named_rows v)) 0)) c.args.self.now.used;
+          (ap (λ (xs : List NamingAtom). not ((nat_eq (length (named_offers v)) 0 && nat_eq (length xs) 0) && nat_eq (fin.len (named_rows v)) 0)) c.in_ok-put-in-Some.ensures.ok ∙ used_more_too namer_stanza (named_namers v) c.new.result (nat_eq (length (named_offers v)) 0) (nat_eq (fin.len (named_rows v)) 0)) c.args.self.now.used;
     }
 
 pub returns-in_ok-put-in-Some-clause-offers : goal.returns-in_ok-put-in-Some-clause-offers
@@ -45,7 +45,7 @@ returns-in_ok-put-in-Some-clause-namers c =
     let m = c.args.self.now.map in
     let v = c.in-Some.named.now in
     let w : Named = record { offers = v.offers; namers = c.put.new.self; rows = v.rows } in
-    let f : List Namer → List Namer = λ l. put_in_order namer_stanza (namer_of c.args.key c.args.atom.now) l in
+    let f : List NamingAtom → List NamingAtom = λ l. put_in_order namer_stanza (namer_of c.args.key c.args.atom.now) l in
     λ q g.
     ap (sum_by g) (changed named_namers [] c.name.result.now m (c.get_mut.follows.lender w) w f (on_some c.in-Some.is (c.get_mut.follows.holds w)) (c.in_ok-put-in-Some.ensures.ok ∙ ap (λ n. put_in_order namer_stanza n (named_namers v)) c.new.ensures ∙ ap f (part-found named_namers [] c.name.result.now m _ c.in-Some.ensures.value)) q
     ∙ ap (λ b. cond (bytes_eq b q) (f (namers_under m q)) (namers_under m q)) c.name.ensures)

@@ -3,7 +3,7 @@ use Rattle.std.specs.BTreeMap.{get}
 use Rattle.std.specs.List.{sum_by}
 use Rattle.std.specs.Str.{bytes_eq}
 use Rattle.ctl_index.specs.Inside.TablesByName.{at_name}
-use Rattle.ctl_index.specs.declared.keys.Namer.{Namer}
+use Rattle.ctl_index.specs.declared.keys.NamingAtom.{NamingAtom}
 use Rattle.ctl_index.specs.declared.keys.ClauseKey.{ClauseKey}
 use Rattle.ctl_index.specs.declared.keys.OfferKey.{OfferKey}
 use Rattle.ctl_index.specs.declared.named.Named.{Named}
@@ -12,7 +12,7 @@ use Rattle.std.specs.FinMap as fin
 use Rattle.std.specs.Option.{option_map_or}
 use Rattle.ctl_index.specs.Inside.TablesByName.{rows_under, named_rows, offers_under, namers_under, named_offers, named_namers}
 use Rattle.ctl_index.specs.Inside.TablesCounters.{counted_up}
-use Rattle.ctl_index.specs.Inside.TablesSight.{hit}
+use Rattle.ctl_index.specs.Inside.TablesPending.{hit}
 use Rattle.ctl_index.specs.Inside.TablesOrder.{offer_stanza, put_in_order}
 use Rattle.ctl_index.proofs.RowLemmas.{none_there}
 use Rattle.ctl_index.proofs.NameLemmas.{on_some, on_ok_map, first_there, none_more, changed, unchanged, part-found, used_written, used_found, used_more}
@@ -61,7 +61,7 @@ pub returns-in_ok-put-in-Some-clause-counts : goal.returns-in_ok-put-in-Some-cla
 returns-in_ok-put-in-Some-clause-counts c =
     let m = c.args.self.now.map in
     let same : c.as_slice.result.now ≡ namers_under m c.args.coming.offer.now.name = c.as_slice.ensures ∙ part-found named_namers [] c.name.result.now m _ c.in-Some.ensures.value ∙ ap (namers_under m) c.name.ensures in
-    subst (λ (xs : List Namer). (k : ClauseKey) → get clause_cmp c.meet.new.counters.numbers k ≡ option_map (counted_up (sum_by (hit c.args.sight.now c.args.coming.offer.now k) xs)) (get clause_cmp c.args.counters.now.numbers k)) same c.meet.ensures.counts
+    subst (λ (xs : List NamingAtom). (k : ClauseKey) → get clause_cmp c.raise_clauses.new.counters.numbers k ≡ option_map (counted_up (sum_by (hit c.args.pending.now c.args.coming.offer.now k) xs)) (get clause_cmp c.args.counters.now.numbers k)) same c.raise_clauses.ensures.counts
 
 pub returns-in_ok-put-in-Some-clause-rows : goal.returns-in_ok-put-in-Some-clause-rows
 returns-in_ok-put-in-Some-clause-rows c =

@@ -2,14 +2,14 @@ use Rattle.std.proofs.Common.{◌≡◌, ℕ, [], List, Some, None, cond, ap, sy
 use Rattle.std.specs.BTreeMap.{get}
 use Rattle.std.specs.List.{sum_by}
 use Rattle.std.specs.Str.{bytes_eq}
-use Rattle.ctl_index.specs.declared.keys.Namer.{Namer}
+use Rattle.ctl_index.specs.declared.keys.NamingAtom.{NamingAtom}
 use Rattle.std.proofs.lemmas.Grind.{common_steps}
 use Rattle.ctl_index.specs.declared.named.Named.{Named}
 use Rattle.ctl_index.specs.Clauses.{clause_cmp}
 use Rattle.std.specs.FinMap as fin
 use Rattle.ctl_index.specs.Inside.TablesByName.{IsSetAt, rows_under, named_rows, offers_under, namers_under, named_offers, named_namers}
 use Rattle.ctl_index.specs.Inside.TablesCounters.{less_by}
-use Rattle.ctl_index.specs.Inside.TablesSight.{hit}
+use Rattle.ctl_index.specs.Inside.TablesPending.{hit}
 use Rattle.ctl_index.specs.Inside.TablesOrder.{others, offer_stanza}
 use Rattle.ctl_index.proofs.NameLemmas.{on_some, changed, unchanged, replaced, part-found, used_written, used_found, used_replaced, nothing_left, same_either}
 use Rattle.ctl_index.proofs.name_table.NameTable.take_offer.Goals as goal
@@ -61,7 +61,7 @@ returns-then-not-is_used c =
       rows = λ q. replaced named_rows fin.empty bs m n c.remove.new.self w (λ l. l) writes removes (sym (part-found named_rows fin.empty bs m _ found) ∙ left.rows) q ∙ same_either (bytes_eq bs q) (rows_under m q);
       counts = λ k.
           let same : c.as_slice.result.now ≡ namers_under m c.args.offer.now.name = c.as_slice.ensures ∙ part-found named_namers [] bs m _ found ∙ ap (namers_under m) c.name.ensures in
-          c.in_ok-part.ensures.counts k ∙ ap (λ (xs : List Namer). less_by (sum_by (hit c.args.going.now.sight c.args.offer.now k) xs) (get clause_cmp c.args.counters.now.numbers k)) same;
+          c.in_ok-lower_clauses.ensures.counts k ∙ ap (λ (xs : List NamingAtom). less_by (sum_by (hit c.args.going.now.pending c.args.offer.now k) xs) (get clause_cmp c.args.counters.now.numbers k)) same;
       steps = grind (arith, common_steps);
       most = grind (arith, common_steps);
       least = grind (arith, common_steps);
@@ -85,7 +85,7 @@ returns-else-not-is_used c =
       rows = unchanged named_rows fin.empty bs m n w writes (part-found named_rows fin.empty bs m _ found);
       counts = λ k.
           let same : c.as_slice.result.now ≡ namers_under m c.args.offer.now.name = c.as_slice.ensures ∙ part-found named_namers [] bs m _ found ∙ ap (namers_under m) c.name.ensures in
-          c.in_ok-part.ensures.counts k ∙ ap (λ (xs : List Namer). less_by (sum_by (hit c.args.going.now.sight c.args.offer.now k) xs) (get clause_cmp c.args.counters.now.numbers k)) same;
+          c.in_ok-lower_clauses.ensures.counts k ∙ ap (λ (xs : List NamingAtom). less_by (sum_by (hit c.args.going.now.pending c.args.offer.now k) xs) (get clause_cmp c.args.counters.now.numbers k)) same;
       steps = grind (arith, common_steps);
       most = grind (arith, common_steps);
       least = grind (arith, common_steps);

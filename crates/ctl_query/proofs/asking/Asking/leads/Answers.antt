@@ -3,7 +3,7 @@ use Rattle.std.specs.List.{AllByRecursion}
 use Rattle.ctl_store.specs.Entries.{Entry}
 use Rattle.ctl_store.specs.Followed.{under}
 use Rattle.ctl_store.specs.Store.{keyed_of}
-use Rattle.ctl_index.specs.Held.{standing}
+use Rattle.ctl_index.specs.HeldCache.{standing}
 use Rattle.ctl_policy.specs.Priority.{world_of}
 use Rattle.ctl_query.specs.Leads.{keyed_lead, leads_named}
 use Rattle.ctl_query.specs.Packages.{rows_of}

@@ -2,14 +2,14 @@ use Rattle.std.proofs.Common.{◌≡◌, ◌+◌, ◌∷◌, ◌++◌, [], ◌�
 use Rattle.std.specs.FinMap as fin
 use Rattle.ctl_ordered.specs.Ordered as ordered
 use Rattle.std.specs.Str.{bytes_eq}
-use Rattle.ctl_ordered.specs.Ordered.{next_put, rows_put}
+use Rattle.ctl_ordered.specs.Ordered.{next_put, filled_put}
 use Rattle.ctl_store.specs.Named.{at_name, has_name}
 use Rattle.ctl_store.specs.State.{stanza_count, status_count, count_of_kind}
 use Rattle.ctl_store.specs.Edits.{AddList}
 use Rattle.ctl_store.specs.Step.{after}
 use Rattle.ctl_store.specs.Keys.{KeyedList, stanza_lists, list_of_stanzas, keyed_after}
 use Rattle.ctl_store.specs.Store.{lists_of, keyed_list, state_of, keyed_of}
-use Rattle.ctl_store.specs.Inside.Held.{AreNumbered, IsSound}
+use Rattle.ctl_store.specs.Inside.Sound.{AreNumbered, IsSound}
 use Rattle.ctl_store.proofs.PlaceLemmas.{none_is}
 use Rattle.ctl_store.proofs.ListedLemmas.{has_name_lists, lists_put_new, numbered_last, new_lists}
 use Rattle.ctl_store.proofs.SoundLemmas.{sound_add}
@@ -40,18 +40,18 @@ invariant_of-self c =
     let h = c.args.self.now in
     let xs = map (λ stanza. stanza.value) c.args.list.stanzas.items in
     let long : length xs ≡ c.len-count.result = omega (arith, length-map c.args.list.stanzas.items (λ stanza. stanza.value), c.len-count.ensures) in
-    let listed : keyed_list c.new-listed.result ≡ list_of_stanzas s.next_list c.args.list.kind c.args.list.class xs = λ j. record { serial = c.new-listed.ensures.serial j; kind = c.new-listed.ensures.kind j; class = c.new-listed.ensures.class j; next = (c.new-listed.ensures.next ∙ sym c.len-count.ensures ∙ sym long) j; rows = c.new-listed.ensures.rows j } in
+    let listed : keyed_list c.new-listed.result ≡ list_of_stanzas s.next_list c.args.list.kind c.args.list.class xs = λ j. record { serial = c.new-listed.ensures.serial j; kind = c.new-listed.ensures.kind j; class = c.new-listed.ensures.class j; next = (c.new-listed.ensures.next ∙ sym c.len-count.ensures ∙ sym long) j; slots = c.new-listed.ensures.slots j } in
     let new = new_among c.args.name (ordered.entries s.lists) (ap (λ h. has_name c.args.name (state_of h).lists) c.self.view_is ∙ add_new h.limits (state_of h) c.args.name c.args.list.kind c.args.list.class xs c.requires.accepted) in
     let lists = ap lists_of c.put.ensures.entries ∙ lists_put_new c.args.name c.new-listed.result (ordered.entries s.lists) new ∙ ap (λ (l : KeyedList). lists_of (ordered.entries s.lists) ++ (c.args.name, l) ∷ []) listed in
     let none = none_is (at_name c.args.name (ordered.entries s.lists)) (sym (has_name_lists c.args.name (ordered.entries s.lists)) ∙ new) in
-    let rows = c.put.ensures.rows ∙ ap (λ o. rows_put o (bytes_eq c.args.name) s.lists c.args.name c.new-listed.result) none in
-    let numbered = subst AreNumbered (sym rows) (numbered_last s.lists.next (c.args.name, c.new-listed.result) s.lists.rows (c.self.invariant.next_is ∙ sym c.new-listed.ensures.serial) c.self.invariant.numbered) in
+    let filled = c.put.ensures.filled ∙ ap (λ o. filled_put o (bytes_eq c.args.name) s.lists c.args.name c.new-listed.result) none in
+    let numbered = subst AreNumbered (sym filled) (numbered_last s.lists.next (c.args.name, c.new-listed.result) s.lists.filled (c.self.invariant.next_is ∙ sym c.new-listed.ensures.serial) c.self.invariant.numbered) in
     let held = ap (λ h. stanza_count (state_of h).lists) c.self.view_is in
     let most = ap (λ h. h.limits.stanzas) c.self.view_is in
-    subst (λ k. IsSound c.put.new.self.rows c.put.new.self.next (s.next_list + 1) (s.statuses + k) (s.stanzas + c.len-count.result) (s.edits + 1) s.limits s.marks.next s.pins.next) (sym c.one_if_status.ensures)
-    (subst (λ n. IsSound c.put.new.self.rows c.put.new.self.next (s.next_list + 1) (s.statuses + count_of_kind c.args.list.kind) (s.stanzas + n) (s.edits + 1) s.limits s.marks.next s.pins.next) long
-    (subst (λ m. IsSound c.put.new.self.rows m (s.next_list + 1) (s.statuses + count_of_kind c.args.list.kind) (s.stanzas + length xs) (s.edits + 1) s.limits s.marks.next s.pins.next) (sym (c.put.ensures.next ∙ ap (λ o. next_put o s.lists) none))
-    (sound_add c.self.invariant c.put.new.self.rows c.args.name c.args.list.kind c.args.list.class xs c.requires.kinds numbered lists
+    subst (λ k. IsSound c.put.new.self.filled c.put.new.self.next (s.next_list + 1) (s.statuses + k) (s.stanzas + c.len-count.result) (s.edits + 1) s.limits s.marks.next s.pins.next) (sym c.one_if_status.ensures)
+    (subst (λ n. IsSound c.put.new.self.filled c.put.new.self.next (s.next_list + 1) (s.statuses + count_of_kind c.args.list.kind) (s.stanzas + n) (s.edits + 1) s.limits s.marks.next s.pins.next) long
+    (subst (λ m. IsSound c.put.new.self.filled m (s.next_list + 1) (s.statuses + count_of_kind c.args.list.kind) (s.stanzas + length xs) (s.edits + 1) s.limits s.marks.next s.pins.next) (sym (c.put.ensures.next ∙ ap (λ o. next_put o s.lists) none))
+    (sound_add c.self.invariant c.put.new.self.filled c.args.name c.args.list.kind c.args.list.class xs c.requires.kinds numbered lists
     (omega (arith, add_fits h.limits (state_of h) c.args.name c.args.list.kind c.args.list.class xs c.requires.accepted, c.self.invariant.counted, held, most)))))
 
 pub returns : goal.returns
@@ -60,7 +60,7 @@ returns c =
     let h = c.args.self.now in
     let xs = map (λ stanza. stanza.value) c.args.list.stanzas.items in
     let long : length xs ≡ c.len-count.result = omega (arith, length-map c.args.list.stanzas.items (λ stanza. stanza.value), c.len-count.ensures) in
-    let listed : keyed_list c.new-listed.result ≡ list_of_stanzas s.next_list c.args.list.kind c.args.list.class xs = λ j. record { serial = c.new-listed.ensures.serial j; kind = c.new-listed.ensures.kind j; class = c.new-listed.ensures.class j; next = (c.new-listed.ensures.next ∙ sym c.len-count.ensures ∙ sym long) j; rows = c.new-listed.ensures.rows j } in
+    let listed : keyed_list c.new-listed.result ≡ list_of_stanzas s.next_list c.args.list.kind c.args.list.class xs = λ j. record { serial = c.new-listed.ensures.serial j; kind = c.new-listed.ensures.kind j; class = c.new-listed.ensures.class j; next = (c.new-listed.ensures.next ∙ sym c.len-count.ensures ∙ sym long) j; slots = c.new-listed.ensures.slots j } in
     let new = new_among c.args.name (ordered.entries s.lists) (ap (λ h. has_name c.args.name (state_of h).lists) c.self.view_is ∙ add_new h.limits (state_of h) c.args.name c.args.list.kind c.args.list.class xs c.requires.accepted) in
     let lists = ap lists_of c.put.ensures.entries ∙ lists_put_new c.args.name c.new-listed.result (ordered.entries s.lists) new ∙ ap (λ (l : KeyedList). lists_of (ordered.entries s.lists) ++ (c.args.name, l) ∷ []) listed in
     record {

@@ -3,7 +3,7 @@ use Rattle.ctl_store.specs.Keys.{Keyed, keyed_after, IsNotAmong, stanza_at, AreC
 use Rattle.ctl_store.specs.Entries.{IsChange}
 use Rattle.ctl_store.specs.Given.{IsGivenOnce}
 use Rattle.ctl_store.specs.Store.{keyed_of, lists_of}
-use Rattle.ctl_store.specs.Inside.Held.{InOrder}
+use Rattle.ctl_store.specs.Inside.Sound.{InOrder}
 use Rattle.ctl_store.proofs.ListedLemmas.{stays_law}
 use Rattle.ctl_store.proofs.ChangeLemmas.{come_law, gone_law, not_added, moved}
 use Rattle.ctl_store.proofs.EntryLemmas.{change_law}

@@ -9,7 +9,7 @@ use Rattle.ctl_store.specs.Edits.{DropList}
 use Rattle.ctl_store.specs.Step.{after}
 use Rattle.ctl_store.specs.Keys.{stanza_lists, keyed_after}
 use Rattle.ctl_store.specs.Store.{lists_of, state_of, keyed_of}
-use Rattle.ctl_store.specs.Inside.Held.{AreNumbered, IsSound}
+use Rattle.ctl_store.specs.Inside.Sound.{AreNumbered, IsSound}
 use Rattle.ctl_store.proofs.ListedLemmas.{lists_without, numbered_cut, without_lists}
 use Rattle.ctl_store.proofs.SoundLemmas.{sound_drop}
 use Rattle.ctl_store.proofs.AcceptLemmas.{kind_below, drop_found, count_below, keys_count}
@@ -45,11 +45,11 @@ invariant_of-self c =
     let count = c.requires.gone ∙ keys_count name (keyed_of h).lists f.0 f.1 in
     let lists = ap lists_of c.remove.ensures.entries ∙ lists_without name (ordered.entries s.lists) in
     let kind = kind_is (state_of h) name f.0 c.count_of_kind-statuses.result c.count_of_kind-statuses.ensures f.1 in
-    let numbered = subst AreNumbered (sym c.remove.ensures.rows) (numbered_cut (bytes_eq name) s.lists.rows c.self.invariant.numbered) in
-    subst (λ k. IsSound c.remove.new.self.rows c.remove.new.self.next s.next_list (s.statuses - k) (s.stanzas - c.args.gone) (s.edits + 1) s.limits s.marks.next s.pins.next) (sym kind)
-    (subst (λ n. IsSound c.remove.new.self.rows c.remove.new.self.next s.next_list (s.statuses - count_of_kind f.0.kind) (s.stanzas - n) (s.edits + 1) s.limits s.marks.next s.pins.next) (sym count)
-    (subst (λ m. IsSound c.remove.new.self.rows m s.next_list (s.statuses - count_of_kind f.0.kind) (s.stanzas - length f.0.stanzas) (s.edits + 1) s.limits s.marks.next s.pins.next) (sym c.remove.ensures.next)
-    (sound_drop c.self.invariant c.remove.new.self.rows name f.0 numbered lists (ap (λ h. at_name name (state_of h).lists) c.self.view_is ∙ f.1))))
+    let numbered = subst AreNumbered (sym c.remove.ensures.filled) (numbered_cut (bytes_eq name) s.lists.filled c.self.invariant.numbered) in
+    subst (λ k. IsSound c.remove.new.self.filled c.remove.new.self.next s.next_list (s.statuses - k) (s.stanzas - c.args.gone) (s.edits + 1) s.limits s.marks.next s.pins.next) (sym kind)
+    (subst (λ n. IsSound c.remove.new.self.filled c.remove.new.self.next s.next_list (s.statuses - count_of_kind f.0.kind) (s.stanzas - n) (s.edits + 1) s.limits s.marks.next s.pins.next) (sym count)
+    (subst (λ m. IsSound c.remove.new.self.filled m s.next_list (s.statuses - count_of_kind f.0.kind) (s.stanzas - length f.0.stanzas) (s.edits + 1) s.limits s.marks.next s.pins.next) (sym c.remove.ensures.next)
+    (sound_drop c.self.invariant c.remove.new.self.filled name f.0 numbered lists (ap (λ h. at_name name (state_of h).lists) c.self.view_is ∙ f.1))))
 
 pub returns : goal.returns
 returns c =

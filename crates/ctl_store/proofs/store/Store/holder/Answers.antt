@@ -6,7 +6,7 @@ use Rattle.ctl_store.specs.Named.{at_name}
 use Rattle.ctl_store.specs.State.{StanzaList}
 use Rattle.ctl_store.proofs.ListedLemmas.{list_named}
 use Rattle.ctl_store.specs.Store.{HeldList, lists_of}
-use Rattle.ctl_store.specs.Inside.Held.{entry_of}
+use Rattle.ctl_store.specs.Inside.Sound.{entry_of}
 use Rattle.ctl_store.proofs.KeyLemmas.{look_up, list_at_entry, not_none, in_entry, holder_is, kind_at, each_kind}
 use Rattle.ctl_store.proofs.store.Store.holder.Goals as goal
 

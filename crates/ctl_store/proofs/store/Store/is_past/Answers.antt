@@ -13,26 +13,26 @@ below_is a b l = grind (arith, nat_tests)
 above_is : (a b : ℕ) → b ≤ a → nat_lt a b ≡ false
 above_is a b l = grind (arith, nat_tests)
 
-pub returns-then-coming-self : goal.returns-then-coming-self
-returns-then-coming-self c =
+pub returns-then-count_coming-self : goal.returns-then-count_coming-self
+returns-then-count_coming-self c =
     let s = c.self.inside in
     let h = c.args.self.now in
     let e = edit_of c.args.edit.now in
     let held = ap (λ h. stanza_count (state_of h).lists) c.self.view_is in
     let most = ap (λ h. h.limits.stanzas) c.self.view_is in
-    let room : h.limits.stanzas - stanza_count (state_of h).lists < count_coming (state_of h) e = omega (arith, c.if-coming-self.true, c.coming.ensures, c.self.invariant.counted, held, most) in
+    let room : h.limits.stanzas - stanza_count (state_of h).lists < count_coming (state_of h) e = omega (arith, c.if-count_coming-self.true, c.count_coming.ensures, c.self.invariant.counted, held, most) in
     let first = below_is (h.limits.stanzas - stanza_count (state_of h).lists) (count_coming (state_of h) e) room in
-    below_is (s.limits.stanzas - s.stanzas) c.coming.result c.if-coming-self.true
+    below_is (s.limits.stanzas - s.stanzas) c.count_coming.result c.if-count_coming-self.true
     ∙ sym (past_is h.limits (state_of h) e c.requires.fits (omega (arith, c.self.invariant.within, c.self.invariant.counted, held, most)) ∙ ap (λ b. b || nat_le h.limits.edits h.edits) first)
 
-pub returns-else-coming-self : goal.returns-else-coming-self
-returns-else-coming-self c =
+pub returns-else-count_coming-self : goal.returns-else-count_coming-self
+returns-else-count_coming-self c =
     let s = c.self.inside in
     let h = c.args.self.now in
     let e = edit_of c.args.edit.now in
     let held = ap (λ h. stanza_count (state_of h).lists) c.self.view_is in
     let most = ap (λ h. h.limits.stanzas) c.self.view_is in
-    let room : count_coming (state_of h) e ≤ h.limits.stanzas - stanza_count (state_of h).lists = omega (arith, c.if-coming-self.false, c.coming.ensures, c.self.invariant.counted, held, most) in
+    let room : count_coming (state_of h) e ≤ h.limits.stanzas - stanza_count (state_of h).lists = omega (arith, c.if-count_coming-self.false, c.count_coming.ensures, c.self.invariant.counted, held, most) in
     let first = above_is (h.limits.stanzas - stanza_count (state_of h).lists) (count_coming (state_of h) e) room in
     ap (λ h. nat_le h.limits.edits h.edits) c.self.view_is
     ∙ sym (past_is h.limits (state_of h) e c.requires.fits (omega (arith, c.self.invariant.within, c.self.invariant.counted, held, most)) ∙ ap (λ b. b || nat_le h.limits.edits h.edits) first)

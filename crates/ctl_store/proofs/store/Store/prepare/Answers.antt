@@ -7,7 +7,7 @@ use Rattle.ctl_store.proofs.ChangeLemmas.{removed_held, new_law, moved}
 use Rattle.ctl_store.specs.Followed.{coming_under, IsFollowed}
 use Rattle.ctl_store.specs.Given.{IsGivenOnce}
 use Rattle.ctl_store.specs.Store.{keyed_of, lists_of}
-use Rattle.ctl_store.specs.Inside.Held.{coming_among, InOrder}
+use Rattle.ctl_store.specs.Inside.Sound.{coming_among, InOrder}
 use Rattle.ctl_store.proofs.KeyLemmas.{keys_rise}
 use Rattle.ctl_store.proofs.FollowedLemmas.{comes_among, followed_law, given_law, added_come}
 use Rattle.ctl_store.proofs.store.Store.prepare.Goals as goal

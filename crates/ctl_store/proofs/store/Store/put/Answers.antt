@@ -8,7 +8,7 @@ use Rattle.ctl_store.specs.Edits.{Put}
 use Rattle.ctl_store.specs.Step.{after, has_stanza, put_stanza, with_stanzas}
 use Rattle.ctl_store.specs.Keys.{stanza_lists, put_keyed, keyed_after}
 use Rattle.ctl_store.specs.Store.{HeldList, lists_of, state_of, keyed_of}
-use Rattle.ctl_store.specs.Inside.Held.{IsSound}
+use Rattle.ctl_store.specs.Inside.Sound.{IsSound}
 use Rattle.ctl_store.proofs.ListedLemmas.{in_order_next, if_some_map, Changes-put, change_lists, put_list, found_count, more_is}
 use Rattle.ctl_store.proofs.SoundLemmas.{sound_change, Keeps, put_keeps}
 use Rattle.ctl_store.proofs.AcceptLemmas.{accepted_edits, put_found, put_count, put_fits}
@@ -45,8 +45,8 @@ invariant_of-self c =
     let most = ap (λ h. h.limits.stanzas) c.self.view_is in
     let more = c.more_if_none_goes.ensures ∙ more_is (has_stanza list (package_of x) (version_of x) (state_of h).lists) c.args.gone (c.requires.gone ∙ found_count list (package_of x) (version_of x) (lists_of h.lists)) in
     let lists = c.put_in.ensures.lists in
-    subst (λ m. IsSound c.put_in.new.lists.rows m s.next_list s.statuses (s.stanzas + c.more_if_none_goes.result) (s.edits + 1) s.limits s.marks.next s.pins.next) (sym c.put_in.ensures.next)
-    (sound_change c.self.invariant c.put_in.new.lists.rows list f.0 (put_keyed x) (with_stanzas (put_stanza x)) (s.stanzas + c.more_if_none_goes.result) (Changes-put x) (λ k. refl) (put_list x) (subst (Keeps (with_stanzas (put_stanza x))) (sym (ap (λ h. at_name list (state_of h).lists) c.self.view_is)) (put_keeps h.limits (state_of h) list x c.requires.accepted)) (c.put_in.ensures.numbered c.self.invariant.numbered) lists
+    subst (λ m. IsSound c.put_in.new.lists.filled m s.next_list s.statuses (s.stanzas + c.more_if_none_goes.result) (s.edits + 1) s.limits s.marks.next s.pins.next) (sym c.put_in.ensures.next)
+    (sound_change c.self.invariant c.put_in.new.lists.filled list f.0 (put_keyed x) (with_stanzas (put_stanza x)) (s.stanzas + c.more_if_none_goes.result) (Changes-put x) (λ k. refl) (put_list x) (subst (Keeps (with_stanzas (put_stanza x))) (sym (ap (λ h. at_name list (state_of h).lists) c.self.view_is)) (put_keeps h.limits (state_of h) list x c.requires.accepted)) (c.put_in.ensures.numbered c.self.invariant.numbered) lists
     (ap (λ h. at_name list (state_of h).lists) c.self.view_is ∙ f.1)
     (omega (arith, more, put_count (state_of h) list x f.0 f.1))
     (omega (arith, more, put_fits h.limits (state_of h) list x f.0 c.requires.accepted f.1, c.self.invariant.counted, held, most)))

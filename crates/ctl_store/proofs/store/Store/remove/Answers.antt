@@ -7,7 +7,7 @@ use Rattle.ctl_store.specs.Edits.{Remove}
 use Rattle.ctl_store.specs.Step.{after, remove_stanza, with_stanzas}
 use Rattle.ctl_store.specs.Keys.{stanza_lists, remove_keyed, keyed_after}
 use Rattle.ctl_store.specs.Store.{lists_of, state_of, keyed_of}
-use Rattle.ctl_store.specs.Inside.Held.{IsSound}
+use Rattle.ctl_store.specs.Inside.Sound.{IsSound}
 use Rattle.ctl_store.proofs.ListedLemmas.{Changes-remove, change_lists, remove_list}
 use Rattle.ctl_store.proofs.SoundLemmas.{sound_change, remove_keeps}
 use Rattle.ctl_store.proofs.AcceptLemmas.{remove_found, remove_count, count_below}
@@ -31,8 +31,8 @@ invariant_of-self c =
     let count = remove_count h.limits (state_of h) list name version f.0 c.requires.accepted f.1 in
     let held = ap (λ h. stanza_count (state_of h).lists) c.self.view_is in
     let lists = c.remove_in.ensures.lists ∙ ap (λ n. change_named list (remove_keyed n (Some version)) (lists_of (ordered.entries s.lists))) c.as_slice.ensures in
-    subst (λ m. IsSound c.remove_in.new.lists.rows m s.next_list s.statuses (s.stanzas - 1) (s.edits + 1) s.limits s.marks.next s.pins.next) (sym c.remove_in.ensures.next)
-    (sound_change c.self.invariant c.remove_in.new.lists.rows list f.0 (remove_keyed name (Some version)) (with_stanzas (remove_stanza name (Some version))) (s.stanzas - 1) (Changes-remove name (Some version)) (λ k. refl) (remove_list name (Some version)) (remove_keeps name (Some version) (at_name list (stanza_lists (lists_of (ordered.entries s.lists))))) (c.remove_in.ensures.numbered c.self.invariant.numbered) lists
+    subst (λ m. IsSound c.remove_in.new.lists.filled m s.next_list s.statuses (s.stanzas - 1) (s.edits + 1) s.limits s.marks.next s.pins.next) (sym c.remove_in.ensures.next)
+    (sound_change c.self.invariant c.remove_in.new.lists.filled list f.0 (remove_keyed name (Some version)) (with_stanzas (remove_stanza name (Some version))) (s.stanzas - 1) (Changes-remove name (Some version)) (λ k. refl) (remove_list name (Some version)) (remove_keeps name (Some version) (at_name list (stanza_lists (lists_of (ordered.entries s.lists))))) (c.remove_in.ensures.numbered c.self.invariant.numbered) lists
     (ap (λ h. at_name list (state_of h).lists) c.self.view_is ∙ f.1)
     (omega (arith, count, count_below (state_of h) list f.0 f.1, c.self.invariant.counted, held))
     (omega (arith, c.self.invariant.within)))

@@ -3,7 +3,7 @@ use Rattle.ctl_store.specs.Places.{replace_at}
 use Rattle.ctl_store.specs.Inside.HeldPieces.{InPieces, IsSpot, joined, place_of_spot}
 use Rattle.ctl_store.proofs.PiecesLemmas.{length_read, spot_within}
 use Rattle.ctl_store.proofs.PointLemmas.{replace_joined}
-use Rattle.ctl_store.proofs.pieces.Pieces+Row.replace.Goals as goal
+use Rattle.ctl_store.proofs.pieces.Pieces+Slot.replace.Goals as goal
 
 pub index_mut-requires : goal.index_mut-requires
 index_mut-requires c = omega (arith, spot_within c.self.inside.pieces.items c.args.spot.piece c.args.spot.at (subst (λ (p : InPieces _). IsSpot p.pieces c.args.spot) (sym c.self.view_is) c.requires))

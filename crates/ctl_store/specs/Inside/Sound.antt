@@ -12,7 +12,7 @@ use Rattle.ctl_store.specs.State.{stanza_count, status_count}
 use Rattle.ctl_store.specs.Kinds.{KeepKinds}
 use Rattle.ctl_store.specs.Edits.{Edit, AddList, Put, Mark, Pin}
 use Rattle.ctl_store.specs.Step.{after}
-use Rattle.ctl_store.specs.Rows.{Rises}
+use Rattle.ctl_store.specs.Slots.{Rises}
 use Rattle.ctl_store.specs.Inside.HeldPieces.{InPieces}
 use Rattle.ctl_store.specs.Keys.{KeyedList, keyed_after, stanza_lists, coming, AreComing}
 use Rattle.ctl_store.specs.Followed.{coming_under}
@@ -28,32 +28,32 @@ entry_of serial (e ∷ es) = if nat_eq e.1.serial serial then Some e else entry_
 -- gave more than e of them.
 abbrev pub InOrder : ℕ → List (List ℕ × KeyedList) → ℕ → ℕ → Type 0
 InOrder n [] m e = n ≤ m
-InOrder n (l ∷ ls) m e = (n ≤ l.1.serial) × (l.1.next ≤ e) × Rises 0 l.1.rows l.1.next × InOrder (suc l.1.serial) ls m e
+InOrder n (l ∷ ls) m e = (n ≤ l.1.serial) × (l.1.next ≤ e) × Rises 0 l.1.slots l.1.next × InOrder (suc l.1.serial) ls m e
 
 -- each list stands under its own serial
 abbrev pub AreNumbered : List (ℕ × (List ℕ × HeldList)) → Type 0
-AreNumbered rows = AllByRecursion (λ (row : ℕ × (List ℕ × HeldList)). row.0 ≡ row.1.1.serial) rows
+AreNumbered slots = AllByRecursion (λ (slot : ℕ × (List ℕ × HeldList)). slot.0 ≡ slot.1.1.serial) slots
 
-pub record IsSound (rows : List (ℕ × (List ℕ × HeldList))) (next next_list statuses stanzas edits : ℕ) (limits : Limits)
+pub record IsSound (slots : List (ℕ × (List ℕ × HeldList))) (next next_list statuses stanzas edits : ℕ) (limits : Limits)
     (next_mark next_pin : ℕ) : Type 0 where
-  pub numbered : AreNumbered rows
+  pub numbered : AreNumbered slots
   pub next_is : next ≡ next_list
-  pub order : InOrder 0 (lists_of (without_serials rows)) next_list (limits.stanzas + edits)
+  pub order : InOrder 0 (lists_of (without_serials slots)) next_list (limits.stanzas + edits)
   pub few : next_list ≤ edits
   pub few_marks : next_mark ≤ edits
   -- preferences came with fewer than 2^63 settings, and each edit after them sets one at most
   pub few_pins : next_pin ≤ 2 ^ 63 + edits
-  pub statuses_counted : statuses ≡ status_count (stanza_lists (lists_of (without_serials rows)))
-  pub counted : stanzas ≡ stanza_count (stanza_lists (lists_of (without_serials rows)))
-  pub kinds : KeepKinds (stanza_lists (lists_of (without_serials rows)))
+  pub statuses_counted : statuses ≡ status_count (stanza_lists (lists_of (without_serials slots)))
+  pub counted : stanzas ≡ stanza_count (stanza_lists (lists_of (without_serials slots)))
+  pub kinds : KeepKinds (stanza_lists (lists_of (without_serials slots)))
   pub within : stanzas ≤ limits.stanzas
   pub stanzas_bounded : limits.stanzas ≤ most
   pub edits_bounded : limits.edits ≤ most
 
 -- nothing stands yet in the room for a new list
-pub record IsBare {R A : Type 0} (placed : Vec Placed A) (rows : InPieces R) (order : InPieces Placed) : Type 0 where
+pub record IsBare {R A : Type 0} (placed : Vec Placed A) (slots : InPieces R) (order : InPieces Placed) : Type 0 where
   pub none_placed : placed.items ≡ []
-  pub no_rows : rows.pieces ≡ []
+  pub no_slots : slots.pieces ≡ []
   pub no_order : order.pieces ≡ []
 
 -- The stanza that comes under a key, by the first key that comes: those of a new list come from 0 on, and of others there
