@@ -150,17 +150,17 @@ abbrev Entries : Type 0
 Entries = List (List ℕ × Vec StanzaKey Global)
 
 -- whether a key stands in one of the rows
-abbrev in_slots : StanzaKey → Entries → Bool
-in_slots k [] = false
-in_slots k (e ∷ es) = has_key k e.1.items || in_slots k es
+abbrev in_rows : StanzaKey → Entries → Bool
+in_rows k [] = false
+in_rows k (e ∷ es) = has_key k e.1.items || in_rows k es
 
 abbrev status_in : Lists → Entries → StanzaKey → Bool
 status_in lists [] k = false
 status_in lists (e ∷ es) k = (has_key k e.1.items && is_status_key lists k) || status_in lists es k
 
-status_both : (lists : Lists) (es : Entries) (k : StanzaKey) → status_in lists es k ≡ (in_slots k es && is_status_key lists k)
+status_both : (lists : Lists) (es : Entries) (k : StanzaKey) → status_in lists es k ≡ (in_rows k es && is_status_key lists k)
 status_both lists [] k = refl
-status_both lists (e ∷ es) k = ap (λ z. (has_key k e.1.items && is_status_key lists k) || z) (status_both lists es k) ∙ by (has_key k e.1.items) (in_slots k es) (is_status_key lists k)
+status_both lists (e ∷ es) k = ap (λ z. (has_key k e.1.items && is_status_key lists k) || z) (status_both lists es k) ∙ by (has_key k e.1.items) (in_rows k es) (is_status_key lists k)
   where
     by : (a b s : Bool) → ((a && s) || (b && s)) ≡ ((a || b) && s)
     by true true true = refl
@@ -179,18 +179,18 @@ lowest_rows lists p found (e ∷ es) r h =
 
 -- ---- a key that is found under a version stands in a row, and the other way round
 
-in_slots-found : (k : StanzaKey) (v : List ℕ) (es : Entries) → has_key k (or_none (option_map (λ (x : Vec StanzaKey Global). x.items) (lookup (is_at (version_cmp v)) es))) ≡ true → in_slots k es ≡ true
-in_slots-found k v [] h = absurd (false≢true h)
-in_slots-found k v (e ∷ es) h = by (is_eq (version_cmp v e.0)) h (in_slots-found k v es)
+in_rows-found : (k : StanzaKey) (v : List ℕ) (es : Entries) → has_key k (or_none (option_map (λ (x : Vec StanzaKey Global). x.items) (lookup (is_at (version_cmp v)) es))) ≡ true → in_rows k es ≡ true
+in_rows-found k v [] h = absurd (false≢true h)
+in_rows-found k v (e ∷ es) h = by (is_eq (version_cmp v e.0)) h (in_rows-found k v es)
   where
     by : (b : Bool) → has_key k (or_none (option_map (λ (x : Vec StanzaKey Global). x.items) (cond b (Some e.1) (lookup (is_at (version_cmp v)) es)))) ≡ true
-        → (has_key k (or_none (option_map (λ (x : Vec StanzaKey Global). x.items) (lookup (is_at (version_cmp v)) es))) ≡ true → in_slots k es ≡ true) → in_slots k (e ∷ es) ≡ true
-    by true h rest = or_left (has_key k e.1.items) (in_slots k es) h
-    by false h rest = or_right (has_key k e.1.items) (in_slots k es) (rest h)
+        → (has_key k (or_none (option_map (λ (x : Vec StanzaKey Global). x.items) (lookup (is_at (version_cmp v)) es))) ≡ true → in_rows k es ≡ true) → in_rows k (e ∷ es) ≡ true
+    by true h rest = or_left (has_key k e.1.items) (in_rows k es) h
+    by false h rest = or_right (has_key k e.1.items) (in_rows k es) (rest h)
 
-in_slots-each : (P : StanzaKey → Type 0) (k : StanzaKey) (es : Entries) → AllByRecursion (λ (e : List ℕ × Vec StanzaKey Global). (j : StanzaKey) → has_key j e.1.items ≡ true → P j) es → in_slots k es ≡ true → P k
-in_slots-each P k [] a h = absurd (false≢true h)
-in_slots-each P k (e ∷ es) a h = or_cases (has_key k e.1.items) (in_slots k es) h (a.0 k) (in_slots-each P k es a.1)
+in_rows-each : (P : StanzaKey → Type 0) (k : StanzaKey) (es : Entries) → AllByRecursion (λ (e : List ℕ × Vec StanzaKey Global). (j : StanzaKey) → has_key j e.1.items ≡ true → P j) es → in_rows k es ≡ true → P k
+in_rows-each P k [] a h = absurd (false≢true h)
+in_rows-each P k (e ∷ es) a h = or_cases (has_key k e.1.items) (in_rows k es) h (a.0 k) (in_rows-each P k es a.1)
 
 -- ---- live stanzas of a name
 
@@ -240,12 +240,12 @@ module _ (q : List ℕ) (lists : Lists) (rising : AreRising (all_keys lists)) wh
       by (Some x) = swap (is_live x) (is_status x.kind)
 
   -- which keys stand in the rows of the name
-  in_map : (m : RowMap) → IsOrderedForm (Many m) → IsFormOf (Many m) (rows_named q lists) → (k : StanzaKey) → in_slots k m.entries ≡ tells is_live k
-  in_map m ordered form k = same_truth (in_slots k m.entries) (tells is_live k)
-      (in_slots-each (λ j. tells is_live j ≡ true) k m.entries
+  in_map : (m : RowMap) → IsOrderedForm (Many m) → IsFormOf (Many m) (rows_named q lists) → (k : StanzaKey) → in_rows k m.entries ≡ tells is_live k
+  in_map m ordered form k = same_truth (in_rows k m.entries) (tells is_live k)
+      (in_rows-each (λ j. tells is_live j ≡ true) k m.entries
       (each_row (λ ks. (j : StanzaKey) → has_key j ks ≡ true → tells is_live j ≡ true) m.entries (rising_is (keys_of m.entries) ordered)
       (λ v j h. live_row v (stanza_at j lists) (sym (named v j) ∙ ap (λ o. has_key j (or_none o)) (sym (form v)) ∙ h))))
-      (λ h. let found = row_live (stanza_at k lists) h in in_slots-found k found.0 m.entries (ap (λ o. has_key k (or_none o)) (form found.0) ∙ named found.0 k ∙ found.1))
+      (λ h. let found = row_live (stanza_at k lists) h in in_rows-found k found.0 m.entries (ap (λ o. has_key k (or_none o)) (form found.0) ∙ named found.0 k ∙ found.1))
 
   rows_rise : (m : RowMap) → IsOrderedForm (Many m) → IsFormOf (Many m) (rows_named q lists) → AllByRecursion (λ (e : List ℕ × Vec StanzaKey Global). AreRising e.1.items) m.entries
   rows_rise m ordered form = each_row AreRising m.entries (rising_is (keys_of m.entries) ordered)

@@ -60,7 +60,8 @@ impl Model for Store {
       limits = s.limits;
     } };
 
-    ghost invariant = { λ s. IsSound s.lists.filled s.lists.next s.next_list s.statuses s.stanzas s.edits s.limits s.marks.next s.pins.next };
+    ghost invariant = { λ s.
+        IsSound s.lists.filled s.lists.next s.next_list s.statuses s.stanzas s.edits s.limits s.marks.next s.pins.next };
 }
 
 impl Store {
