@@ -319,7 +319,7 @@ pub(crate) fn put_atoms(
     ensures rows { OnOk result (rows_in tables.new ≡ rows_in tables.old) }
     ensures counts { OnOk result (ComeApart pending.now keys.now → (k : ClauseKey) → number_in tables.new k
         ≡ number_with pending.now (offers_in tables.old) k.field
-            (clause_at k (entries_seen pending.now keys.now)) (number_in tables.old k)) }
+        (clause_at k (entries_seen pending.now keys.now)) (number_in tables.old k)) }
     ensures steps { OnOk result (HasTested (atoms_tested pending.now (offers_in tables.old) keys.now) tables.old tables.new) }
     ensures most { TestsAtMost (atoms_tested pending.now (offers_in tables.old) keys.now) tables.old tables.new }
     ensures least { tables.old.steps ≤ tables.new.steps }
