@@ -27,7 +27,7 @@ abbrev pub IsFound : NameMap → NamedEntry → Type 0
 IsFound m e = at_name m e.0 ≡ Some e.1
 
 -- the rows of an entry are those under its name
-of_entry : (m : NameMap) (e : NamedEntry) → IsFound m e → rows_under m e.0 ≡ named_rows e.1
+pub of_entry : (m : NameMap) (e : NamedEntry) → IsFound m e → rows_under m e.0 ≡ named_rows e.1
 of_entry m e found = ap (λ o. option_map_or named_rows o fin.empty) found
 
 -- ---- entries in order are found under their names

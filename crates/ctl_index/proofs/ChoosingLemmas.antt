@@ -10,7 +10,6 @@ use Rattle.ctl_policy.specs.declared.chosen.Chosen.{Chosen}
 use Rattle.ctl_policy.specs.Rows.{rows_of, rows_named, versions_of, newest_first}
 use Rattle.ctl_policy.specs.Chosen.{at_bytes, kept_of, place_of, AreChosen}
 use Rattle.ctl_policy.specs.Priority.{World, world_of}
-use Rattle.ctl_policy.specs.Touched.{is_one_of}
 use Rattle.ctl_index.specs.HeldCache.{standing}
 use Rattle.ctl_index.specs.Inside.TablesChosen.{ChosenMap, HasRenewed}
 
@@ -27,13 +26,13 @@ twice true x y z = refl
 twice false x y z = refl
 
 -- what names have that were chosen anew for a world, and what others have
-pub renewed_for : (names : List (List ℕ)) (w u : World) (old placed new : ChosenMap) → HasRenewed names w old placed new → w ≡ u
-    → (q : List ℕ) → at_bytes new q ≡ cond (is_one_of q names) (kept_of q u) (at_bytes old q)
-renewed_for names w u old placed new h e q =
+pub renewed_for : (touches : List ℕ → Bool) (w u : World) (old placed new : ChosenMap) → HasRenewed touches w old placed new → w ≡ u
+    → (q : List ℕ) → at_bytes new q ≡ cond (touches q) (kept_of q u) (at_bytes old q)
+renewed_for touches w u old placed new h e q =
     h.renewed q
-    ∙ ap (cond (is_one_of q names) (kept_of q w)) (h.places q)
-    ∙ twice (is_one_of q names) (kept_of q w) (place_of (at_bytes old q)) (at_bytes old q)
-    ∙ ap (λ v. cond (is_one_of q names) (kept_of q v) (at_bytes old q)) e
+    ∙ ap (cond (touches q) (kept_of q w)) (h.places q)
+    ∙ twice (touches q) (kept_of q w) (place_of (at_bytes old q)) (at_bytes old q)
+    ∙ ap (λ v. cond (touches q) (kept_of q v) (at_bytes old q)) e
 
 -- all names that have anything to be kept were chosen anew
 pub renewed_all : (b : Bool) (kept placed new : Option Chosen) → new ≡ cond b kept placed → (b ≡ false → placed ≡ None) → (b ≡ false → kept ≡ None) → new ≡ kept

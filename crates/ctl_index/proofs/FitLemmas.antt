@@ -1,16 +1,16 @@
 -- Stanzas without a fault, and the numbers of their clauses.
-use Rattle.std.proofs.Common.{◌≡◌, ℕ, zero, suc, ◌+◌, ◌<◌, ◌≤◌, ◌^◌, Bool, true, false, cond, List, [], ◌∷◌, length, Option, None, Some, IfSome, get_or, refl, ap, sym, subst, ◌∙◌, arith}
+use Rattle.std.proofs.Common.{◌≡◌, ℕ, zero, suc, ◌+◌, ◌*◌, ◌<◌, ◌≤◌, ◌^◌, Bool, true, false, cond, List, [], ◌∷◌, length, Option, None, Some, IfSome, get_or, refl, ap, sym, subst, ◌∙◌, arith, mul-le-mul, lt_of_le_of_lt}
 use Rattle.std.specs.Prelude.{slice_get, nat_lt, ◌||◌}
-use Rattle.std.specs.List.{All, AllByRecursion, cons_option}
+use Rattle.std.specs.List.{All, AllByRecursion, cons_option, flat_map}
 use Rattle.std.specs.Option.{option_map, option_or, option_and_then}
 use Rattle.std.proofs.lemmas.Bool.Decides.{nat_tests}
 use Rattle.std.proofs.lemmas.List.{get_or_default, length-map, length-append}
-use Rattle.std.proofs.lemmas.List.Elements.{All-from_recursion, recursion_from_All, All-map}
-use Rattle.ctl_relation.specs.Parts.{AtomParts}
+use Rattle.std.proofs.lemmas.List.Elements.{All-from_recursion, recursion_from_All, All-map, All-head, All-tail, All-weaker}
+use Rattle.ctl_relation.specs.Parts.{AtomParts, OfferParts}
 use Rattle.ctl_relation.specs.Met.{met_pairs}
 use Rattle.ctl_relation.specs.FieldKind.{is_provides}
-use Rattle.ctl_stanza.specs.Content.{Content, relations_of_kind}
-use Rattle.ctl_stanza.specs.Sound.{IsWhole, IsSound, IsSmallGroup, MetPairsFit}
+use Rattle.ctl_stanza.specs.Content.{Content, relations_of_kind, offers_of}
+use Rattle.ctl_stanza.specs.Sound.{IsWhole, IsSound, IsSmallGroup}
 use Rattle.ctl_store.specs.declared.limits.Limits.{Limits}
 use Rattle.ctl_store.specs.declared.refusal.Refusal.{Refusal}
 use Rattle.ctl_store.specs.declared.refusal.Refusal.TheVariants.{Full}
@@ -97,8 +97,25 @@ small_clause k x sound = by (is_clause_field k.field) (is_provides k.field)
     by true true = tt
     by true false = at_place IsSmallGroup (relations_of_kind k.field x) k.group (recursion_from_All IsSmallGroup (relations_of_kind k.field x) (sound.sizes k.field))
 
-pub numbers_are_few : ((content : Content) → IsWhole content → IsSound content) → MetPairsFit → NumbersFit
-numbers_are_few sound fit es few apart whole k = by (under k.stanza es) (whole k.stanza)
+-- what stanzas offer, each fewer than 2^32
+offers-le : (contents : List Content) → All (λ content. length (offers_of content) < 2 ^ 32) contents → length (flat_map offers_of contents) ≤ length contents * 4294967295
+offers-le [] h = omega arith
+offers-le (c ∷ cs) h =
+    let P : Content → Type 0 = λ content. length (offers_of content) < 2 ^ 32 in
+    omega (arith, length-append (offers_of c) (flat_map offers_of cs), All-head P c cs h, offers-le cs (All-tail P c cs h))
+
+-- the pairs of few atoms and what fewer than 2^32 stanzas offer
+pairs-few : ((atoms : List AtomParts) (offers : List OfferParts) → met_pairs atoms offers ≤ length atoms * length offers) → (sound : (content : Content) → IsWhole content → IsSound content)
+    → (atoms : List AtomParts) (contents : List Content) → length atoms < 2 ^ 32 → length contents < 2 ^ 32 → All IsWhole contents → met_pairs atoms (flat_map offers_of contents) < 2 ^ 96
+pairs-few most sound atoms contents small short whole =
+    let offers : length (flat_map offers_of contents) ≤ 18446744065119617025 =
+    omega (arith, short, offers-le contents (All-weaker IsWhole (λ content. length (offers_of content) < 2 ^ 32) (λ content w. (sound content w).offers) contents whole)) in
+    let atoms' : length atoms ≤ 4294967295 = omega (arith, small) in
+    lt_of_le_of_lt (most atoms (flat_map offers_of contents)) (lt_of_le_of_lt (mul-le-mul atoms' offers) (omega arith))
+
+pub numbers_are_few : ((content : Content) → IsWhole content → IsSound content)
+    → ((atoms : List AtomParts) (offers : List OfferParts) → met_pairs atoms offers ≤ length atoms * length offers) → NumbersFit
+numbers_are_few sound most es few apart whole k = by (under k.stanza es) (whole k.stanza)
   where
     each : AllByRecursion (λ (e : Entry). IsWhole e.1) es
     each =
@@ -111,11 +128,11 @@ numbers_are_few sound fit es few apart whole k = by (under k.stanza es) (whole k
     short : length (contents es) < 2 ^ 32
     short = omega (arith, length-map es (λ (e : Entry). e.1), few)
 
-    group : (g : Option (List AtomParts)) → IfSome g IsSmallGroup → IfSome (option_map (λ atoms. met_pairs atoms (offers_among (contents es))) g) (λ n. n < 2 ^ 128)
+    group : (g : Option (List AtomParts)) → IfSome g IsSmallGroup → IfSome (option_map (λ atoms. met_pairs atoms (offers_among (contents es))) g) (λ n. n < 2 ^ 96)
     group None h = tt
-    group (Some atoms) h = fit atoms (contents es) (omega (arith, h)) short all
+    group (Some atoms) h = pairs-few most sound atoms (contents es) h short all
 
-    by : (c : Option Content) → IfSome c IsWhole → IfSome (option_map (λ atoms. met_pairs atoms (offers_among (contents es))) (option_and_then (clause_of k) c)) (λ n. n < 2 ^ 128)
+    by : (c : Option Content) → IfSome c IsWhole → IfSome (option_map (λ atoms. met_pairs atoms (offers_among (contents es))) (option_and_then (clause_of k) c)) (λ n. n < 2 ^ 96)
     by None h = tt
     by (Some x) h = group (clause_of k x) (small_clause k x (sound x h))
 

@@ -105,11 +105,11 @@ module _ (s : Pending) (keys : List StanzaKey) (all rest : List Entry) (old new 
   loaded_namers : IsLoaded s keys old new → (q : List ℕ) (f : NamingAtom → ℕ) → sum_by f (namers_under new.names.map q) ≡ namers_sum q f all
   loaded_namers step q f = step.namers q f ∙ ap (λ n. n + namers_sum q f come) (was.namers q f) ∙ sym (joined.sums (λ (e : Entry). sum_by (atom_named q f) (keyed_atoms e)))
 
-  loaded_number : IsLoaded s keys old new → ((k : ClauseKey) → IfSome (number_at k all) (λ n. n < 2 ^ 128)) → (k : ClauseKey) → get clause_cmp new.counters.numbers k ≡ number_at k all
+  loaded_number : IsLoaded s keys old new → ((k : ClauseKey) → IfSome (number_at k all) (λ n. n < 2 ^ 96)) → (k : ClauseKey) → get clause_cmp new.counters.numbers k ≡ number_at k all
   loaded_number step fits k =
       step.counters k
       ∙ (λ i. option_or (came (under k.stanza come) i) (raised i))
-      ∙ by (under k.stanza come) (under k.stanza rest) (subst (λ (c : Option Content). IfSome (number all (option_and_then (clause_of k) c)) (λ n. n < 2 ^ 128)) (joined.parted.unders k.stanza) (fits k)) (λ x h. joined.parted.either k.stanza x h)
+      ∙ by (under k.stanza come) (under k.stanza rest) (subst (λ (c : Option Content). IfSome (number all (option_and_then (clause_of k) c)) (λ n. n < 2 ^ 96)) (joined.parted.unders k.stanza) (fits k)) (λ x h. joined.parted.either k.stanza x h)
       ∙ ap (λ c. number all (option_and_then (clause_of k) c)) (sym (joined.parted.unders k.stanza))
     where
       came : (c : Option Content) → option_map (group_met s k.field (offers_under new.names.map)) (option_and_then (clause_of k) c) ≡ number all (option_and_then (clause_of k) c)
@@ -120,7 +120,7 @@ module _ (s : Pending) (keys : List StanzaKey) (all rest : List Entry) (old new 
           ≡ option_map (counted_up (hits_of (offers_among (contents come)) (clause_at k rest))) (number_at k rest)
       raised = λ i. option_map (counted_up (hits-is s (namers_under old.names.map) rest was.namers sees apart (offers_among (contents come)) k i)) (was.counters k i)
 
-      more : (c : Option (List AtomParts)) → IfSome (number all c) (λ n. n < 2 ^ 128) → option_map (counted_up (hits_of (offers_among (contents come)) c)) (number rest c) ≡ number all c
+      more : (c : Option (List AtomParts)) → IfSome (number all c) (λ n. n < 2 ^ 96) → option_map (counted_up (hits_of (offers_among (contents come)) c)) (number rest c) ≡ number all c
       more None few = refl
       more (Some atoms) few = ap (λ n. Some n) (omega (arith, met_pairs-joined all rest come joined atoms, few))
 
@@ -128,7 +128,7 @@ module _ (s : Pending) (keys : List StanzaKey) (all rest : List Entry) (old new 
       stood : Option Content → Option ℕ
       stood d = option_map (counted_up (hits_of (offers_among (contents come)) (option_and_then (clause_of k) d))) (number rest (option_and_then (clause_of k) d))
 
-      by : (c d : Option Content) → IfSome (number all (option_and_then (clause_of k) (option_or c d))) (λ n. n < 2 ^ 128) → ((x : Content) → c ≡ Some x → d ≡ None)
+      by : (c d : Option Content) → IfSome (number all (option_and_then (clause_of k) (option_or c d))) (λ n. n < 2 ^ 96) → ((x : Content) → c ≡ Some x → d ≡ None)
           → option_or (number all (option_and_then (clause_of k) c)) (stood d) ≡ number all (option_and_then (clause_of k) (option_or c d))
       by None d few none = more (option_and_then (clause_of k) d) few
       by (Some x) d few none = ap (λ (z : Option Content). option_or (number all (clause_of k x)) (stood z)) (none x refl) ∙ or_none (number all (clause_of k x))

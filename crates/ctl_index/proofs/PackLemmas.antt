@@ -1,5 +1,5 @@
 -- Trees of names that are made anew of what stood in them.
-use Rattle.std.proofs.Common.{◌≡◌, ℕ, Bool, true, false, cond, length, List, [], ◌∷◌, ◌⊎◌, inl, inr, Option, None, Some, is_some, IfSome, Vec, Global, refl, ap, sym, subst, ◌∙◌, nat_le, nat_cmp, true≢false}
+use Rattle.std.proofs.Common.{◌≡◌, ℕ, Bool, true, false, cond, List, [], ◌∷◌, ◌⊎◌, inl, inr, Option, None, Some, is_some, IfSome, Vec, Global, refl, ap, sym, subst, ◌∙◌, nat_cmp, true≢false}
 use Rattle.std.specs.BTreeMap.{BTreeMap, IsFromIterResult, IsOrdered, get, keys}
 use Rattle.std.specs.Cmp.{IsTotalOrder, eq_by_cmp_equiv, on_total}
 use Rattle.std.specs.Cmp.Lexicographic.{slice_cmp, nat_list_cmp_total}
@@ -14,9 +14,8 @@ use Rattle.std.proofs.lemmas.Slice.Eq.{bytes_eq-Decides}
 use Rattle.ctl_policy.specs.Chosen.{at_bytes}
 use Rattle.ctl_index.specs.declared.named.Named.{Named}
 use Rattle.ctl_index.specs.Inside.NameMap.{AreApart}
-use Rattle.ctl_index.specs.Inside.ShortName.{most_short}
 use Rattle.ctl_index.specs.Inside.TablesByName.{is_used}
-use Rattle.ctl_index.proofs.WrittenLemmas.{Short, Long, at_either}
+use Rattle.ctl_index.proofs.WrittenLemmas.{Short, Long}
 
 -- ---- a map that is made of the entries of another
 

@@ -23,7 +23,8 @@ use Rattle.ctl_store.specs.Followed.{under, AreApart}
 use Rattle.ctl_index.specs.declared.keys.ClauseKey.{ClauseKey}
 use Rattle.ctl_index.specs.Clauses.{clause_fields, is_clause_field, clause_cmp, clause_of, clause_at, is_unmet, group_keys, clauses_of, clauses, unmet_clauses}
 use Rattle.ctl_index.proofs.ClauseLemmas.{tie_is, same_stanza, same_field, at_from, at_from-start}
-use Rattle.ctl_index.proofs.CounterLemmas.{clauses_total, exact_clauses, same_clause}
+use Rattle.ctl_index.proofs.CounterLemmas.{exact_clauses, same_clause}
+use Rattle.ctl_index.specs.ClauseOrder.{clauses_total}
 use Rattle.ctl_index.proofs.SeenLemmas.{key_is-same, none_under}
 use Rattle.ctl_index.proofs.KeyLemmas.{nat_same, key_same}
 use Rattle.ctl_index.proofs.StoreLemmas.{all_append}

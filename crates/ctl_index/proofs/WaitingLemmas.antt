@@ -6,7 +6,8 @@ use Rattle.std.specs.declared.cmp.Ordering.TheVariants.{Less, Equal, Greater}
 use Rattle.ctl_index.specs.declared.keys.ClauseKey.{ClauseKey}
 use Rattle.ctl_index.specs.Clauses.{clause_cmp}
 use Rattle.ctl_index.specs.Inside.TablesCounters.{AreUpTo, IsBehind, entered}
-use Rattle.ctl_index.proofs.CounterLemmas.{clauses_total, entered_push, same_clause}
+use Rattle.ctl_index.proofs.CounterLemmas.{entered_push, same_clause}
+use Rattle.ctl_index.specs.ClauseOrder.{clauses_total}
 
 less : (o : Ordering) → is_lt o ≡ true → o ≡ Less
 less Less e = refl

@@ -18,5 +18,7 @@ pub mod TablesParts
 pub mod TablesRows
 pub mod TablesPending
 pub mod TablesTests
+pub mod TablesTouched
 pub mod TablesViews
 pub mod TablesWaiting
+pub mod UnmetSet

@@ -1,6 +1,6 @@
 //! Names whose installed row and candidate are chosen anew.
 
-ghost use Rattle.std.specs.Prelude.{◌≡◌, ℕ, List, [], true, IfOk, IsSome, if◌then◌else◌};
+ghost use Rattle.std.specs.Prelude.{◌≡◌, ℕ, List, [], Bool, true, IfOk, IsSome, if◌then◌else◌};
 ghost use Rattle.std.specs.Bool.{OnTrue};
 ghost use Rattle.std.specs.Str.{bytes_eq};
 ghost use Rattle.std.specs.BTreeMap.{IsEmpty};
@@ -10,19 +10,37 @@ ghost use Rattle.ctl_store.specs.Plans.{Planned};
 ghost use Rattle.ctl_policy.specs.Rows.{AreRowsOf};
 ghost use Rattle.ctl_policy.specs.Priority.{world_of};
 ghost use Rattle.ctl_policy.specs.Chosen.{at_bytes, kept_of, AreChosen};
-ghost use Rattle.ctl_policy.specs.Touched.{is_one_of, TouchesAlone};
+ghost use Rattle.ctl_policy.specs.Touched.{is_one_of, TouchesOnly};
 ghost use Rattle.ctl_index.specs.Inside.TablesChosen.{ChosenMap, HasMade, HasRenewed};
 ghost use Rattle.ctl_index.specs.Inside.TablesByName.{rows_under};
 
 use crate::name_table::NameTable;
 use ctl_policy::{
-    Chosen, make_places, names_with_rows_are_kept, packages_of_store, plans_are_accepted, renew,
-    rows_are_shown, touched_names_are_enough, worlds_move,
+    Chosen, Rows, make_places, names_with_rows_are_kept, packages_of_store, plans_are_accepted,
+    renew, rows_are_shown, touched_names_are_enough, worlds_move,
 };
 use ctl_relation::Bytes;
 use ctl_store::Store;
 use std::alloc::{AllocError, Global};
 use std::collections::BTreeMap;
+
+/// Chooses anew for a name, of which these are the rows, and whose place is there where anything is to be kept of it. Others keep what
+/// is chosen of them. It takes no memory.
+pub(crate) fn renew_rows(
+    store: &Store,
+    rows: &Rows,
+    name: &[u8],
+    chosen: &mut BTreeMap<Vec<u8>, Chosen>,
+)
+    requires rows { AreRowsOf rows.now name.now (keyed_of store.now).lists }
+    requires place { IsSome (kept_of name.now (world_of store.now)) → IsSome (at_bytes chosen.old name.now) }
+    ensures { (q : List ℕ) → at_bytes chosen.new q
+        ≡ (if bytes_eq name.now q then kept_of name.now (world_of store.now) else at_bytes chosen.old q) }
+{
+    rows_are_shown();
+    names_with_rows_are_kept();
+    renew(store, rows, chosen, name);
+}
 
 // Chooses anew for a name, whose place is there where anything is to be kept of it.
 fn renew_name(store: &Store, names: &NameTable, name: &[u8], chosen: &mut BTreeMap<Vec<u8>, Chosen>)
@@ -34,7 +52,7 @@ fn renew_name(store: &Store, names: &NameTable, name: &[u8], chosen: &mut BTreeM
     rows_are_shown();
     names_with_rows_are_kept();
     match names.rows(name) {
-        Some(rows) => renew(store, rows, chosen, name),
+        Some(rows) => renew_rows(store, rows, name, chosen),
         None => {
             chosen.remove(name);
         }
@@ -94,11 +112,12 @@ pub(crate) fn choose_all(
     Ok(chosen)
 }
 
-/// Where the names that an edit touches had places and were chosen anew, and the others stayed, all is chosen as after the edit.
+/// Where the names that pass a test had places and were chosen anew, those that an edit touches are among them, and the others
+/// stayed, all is chosen as after the edit.
 pub(crate) fn choices_follow_edits()
-    ensures { (h : Held) → (plan : Planned) → (new : Held) → (names : List (List ℕ)) → (old : ChosenMap)
-        → (placed : ChosenMap) → (chosen : ChosenMap) → HasMade h plan new → TouchesAlone names h plan.edit
-        → AreChosen old (world_of h) → HasRenewed names (world_of new) old placed chosen
+    ensures { (h : Held) → (plan : Planned) → (new : Held) → (touches : List ℕ → Bool) → (old : ChosenMap)
+        → (placed : ChosenMap) → (chosen : ChosenMap) → HasMade h plan new → TouchesOnly touches h plan.edit
+        → AreChosen old (world_of h) → HasRenewed touches (world_of new) old placed chosen
         → AreChosen chosen (world_of new) }
 {
     plans_are_accepted();

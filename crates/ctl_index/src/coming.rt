@@ -22,6 +22,7 @@ ghost use Rattle.ctl_stanza.specs.Content.{groups_of};
 use crate::counters::Counters;
 use crate::keys::{AtomKey, ClauseKey, KeyedOffer, OfferKey};
 use crate::name_table::NameTable;
+use crate::packed_key::PackedKey;
 use crate::pending_store::{PendingStore, stanza_at};
 use crate::tables::Tables;
 use ctl_relation::{FieldKind, Group, Groups, Offer, Steps};
@@ -50,7 +51,7 @@ fn put_offers_of(
     let _count = tables.steps.count();
     for i in 0..offers.len() {
         let key = OfferKey {
-            stanza: key,
+            stanza: PackedKey::new(key),
             place: i as u32,
         };
         let coming = KeyedOffer {
@@ -135,6 +136,7 @@ fn put_group(
     ensures offers { OnOk result (offers_under names.new.map ≡ offers_under names.old.map) }
     ensures rows { OnOk result (rows_under names.new.map ≡ rows_under names.old.map) }
     ensures met { IfOk result (λ met. met ≡ group_met pending.now clause.field (offers_under names.old.map) group.now) }
+    ensures few { IfOk result (λ met. met < 2 ^ 96) }
     ensures steps { OnOk result (steps.new
         ≡ more_by (group_tested pending.now clause.field (offers_under names.old.map) group.now) steps.old) }
     ensures most { steps.new ≤ more_by (group_tested pending.now clause.field (offers_under names.old.map) group.now) steps.old }
@@ -158,6 +160,7 @@ fn put_group(
 
 // The counter of a group with this number, where the group is a clause, comes to those that are entered or wait to be.
 fn list_clause(counters: &mut Counters, clause: ClauseKey, number: u128) -> Result<(), AllocError>
+    requires { number < 2 ^ 96 }
     ensures { OnOk result ((k : ClauseKey) → told counters.new.waiting counters.new.numbers k
         ≡ (if is_clause clause k then Some number else told counters.old.waiting counters.old.numbers k)) }
 {

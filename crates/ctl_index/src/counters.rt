@@ -1,50 +1,47 @@
 //! The number of each clause, and the clauses at 0.
 
-ghost use Rattle.std.specs.Prelude.{◌≡◌, ◌-◌, ℕ, None, Some, true, false, OnOk, OnErr, option_map, if◌then◌else◌};
+ghost use Rattle.std.specs.Prelude.{◌≡◌, ◌-◌, ℕ, ◌<◌, ◌^◌, nat_eq, None, Some, true, false, OnOk, OnErr, option_map, if◌then◌else◌};
 ghost use Rattle.std.specs.BTreeMap.{get, IsEmpty};
 ghost use Rattle.std.specs.BTreeSet.{contains};
+ghost use Rattle.std.specs.Option.{option_map_or};
 ghost use Rattle.std.specs.Ordering.{is_eq};
 ghost use Rattle.ctl_index.specs.Clauses.{clause_cmp};
 ghost use Rattle.ctl_index.specs.Inside.TablesCounters.{AreUnmet, IsBehind, counted_up, entered, marked};
 ghost use Rattle.ctl_index.specs.Inside.TablesWaiting.{told};
 
+use crate::clause_number::ClauseNumber;
 use crate::keys::ClauseKey;
-use crate::waiting::Waiting;
+use crate::packed_clause::PackedClause;
+use crate::unmet_set::UnmetSet;
+use crate::waiting::{Waiting, counted};
 use std::alloc::{AllocError, Global};
-use std::collections::{BTreeMap, BTreeSet};
+use std::collections::BTreeMap;
 use std::mem;
+
+// The last number that is kept, which none comes to.
+const MOST: u128 = 79_228_162_514_264_337_593_543_950_335;
 
 /// The number of each clause, with those at 0 beside, and the clauses that wait to be entered.
 #[derive(Drop)]
 pub(crate) struct Counters {
     alloc: Global,
-    numbers: BTreeMap<ClauseKey, u128>,
-    unmet: BTreeSet<ClauseKey>,
+    numbers: BTreeMap<PackedClause, ClauseNumber>,
+    unmet: UnmetSet,
     waiting: Waiting,
     ghost at_zero: { AreUnmet numbers unmet },
 }
 
-// Whether a clause is above all those at 0, as most are that come behind others.
-fn is_above(unmet: &BTreeSet<ClauseKey>, key: ClauseKey) -> bool
-    ensures { result ≡ true → contains clause_cmp unmet.now key ≡ false }
-{
-    match unmet.last() {
-        Some(last) => *last < key,
-        None => true,
-    }
-}
-
 // Notes whether a clause is among those at 0.
 #[tactic(auto, using(crate::proofs::CounterLemmas::marked_already))]
-fn mark(unmet: &mut BTreeSet<ClauseKey>, key: ClauseKey, is_unmet: bool) -> Result<(), AllocError>
+fn mark(unmet: &mut UnmetSet, key: ClauseKey, is_unmet: bool) -> Result<(), AllocError>
     ensures ok { OnOk result ((k : ClauseKey) → contains clause_cmp unmet.new k
         ≡ (if is_eq (clause_cmp key k) then is_unmet else contains clause_cmp unmet.old k)) }
     ensures err { OnErr result ((k : ClauseKey) → contains clause_cmp unmet.new k ≡ contains clause_cmp unmet.old k) }
 {
     if is_unmet {
         unmet.insert(key)?;
-    } else if !is_above(unmet, key) {
-        let _ = unmet.remove(&key);
+    } else if !unmet.is_below(key) {
+        unmet.remove(key);
     }
     Ok(())
 }
@@ -52,7 +49,7 @@ fn mark(unmet: &mut BTreeSet<ClauseKey>, key: ClauseKey, is_unmet: bool) -> Resu
 // Notes whether a clause is among those at 0, where that has changed.
 #[tactic(auto, using(crate::proofs::CounterLemmas::marked_already))]
 fn note(
-    unmet: &mut BTreeSet<ClauseKey>,
+    unmet: &mut UnmetSet,
     key: ClauseKey,
     was_unmet: bool,
     is_unmet: bool,
@@ -70,25 +67,25 @@ fn note(
 
 // Takes a clause from those at 0, where it is one.
 #[tactic(auto, using(crate::proofs::CounterLemmas::marked_already))]
-fn unmark(unmet: &mut BTreeSet<ClauseKey>, key: ClauseKey, was_unmet: bool)
+fn unmark(unmet: &mut UnmetSet, key: ClauseKey, was_unmet: bool)
     requires { contains clause_cmp unmet.old key ≡ was_unmet }
     ensures { (k : ClauseKey) → contains clause_cmp unmet.new k
         ≡ (if is_eq (clause_cmp key k) then false else contains clause_cmp unmet.old k) }
 {
     if was_unmet {
-        let _ = unmet.remove(&key);
+        unmet.remove(key);
     }
 }
 
 // Notes of each of these clauses in turn whether it is among those at 0.
 fn mark_all(
-    unmet: &mut BTreeSet<ClauseKey>,
-    clauses: &[(ClauseKey, u128)],
+    unmet: &mut UnmetSet,
+    clauses: &[(PackedClause, ClauseNumber)],
 ) -> Result<(), AllocError>
     ensures { OnOk result ((k : ClauseKey) → contains clause_cmp unmet.new k ≡ marked clauses.now k (contains clause_cmp unmet.old k)) }
 {
     for clause in clauses {
-        mark(unmet, clause.0, clause.1 == 0)?;
+        mark(unmet, clause.0.key(), clause.1.get() == 0)?;
     }
     Ok(())
 }
@@ -96,9 +93,9 @@ fn mark_all(
 // These clauses come together. A tree that is made of many keys at once has full nodes.
 fn append_all(
     alloc: Global,
-    clauses: Vec<(ClauseKey, u128)>,
-    numbers: &mut BTreeMap<ClauseKey, u128>,
-    unmet: &mut BTreeSet<ClauseKey>,
+    clauses: Vec<(PackedClause, ClauseNumber)>,
+    numbers: &mut BTreeMap<PackedClause, ClauseNumber>,
+    unmet: &mut UnmetSet,
 ) -> Result<(), AllocError>
     ensures numbers { OnOk result ((k : ClauseKey) → get clause_cmp numbers.new k
         ≡ entered clauses.items k (get clause_cmp numbers.old k)) }
@@ -114,9 +111,9 @@ fn append_all(
 #[tactic(auto, using(crate::proofs::CounterLemmas::unmet_none))]
 fn enter_together(
     alloc: Global,
-    clauses: Vec<(ClauseKey, u128)>,
-    numbers: &mut BTreeMap<ClauseKey, u128>,
-    unmet: &mut BTreeSet<ClauseKey>,
+    clauses: Vec<(PackedClause, ClauseNumber)>,
+    numbers: &mut BTreeMap<PackedClause, ClauseNumber>,
+    unmet: &mut UnmetSet,
 ) -> Result<(), AllocError>
     requires { AreUnmet numbers.old unmet.old }
     ensures numbers { OnOk result ((k : ClauseKey) → get clause_cmp numbers.new k
@@ -133,28 +130,48 @@ fn enter_together(
     }
 }
 
+// A number that counts one more.
+fn one_more(number: u128) -> u128
+    requires { number < 2 ^ 96 }
+    ensures more { result ≡ counted_up 1 number }
+    ensures few { result < 2 ^ 96 }
+{
+    if number < MOST { number + 1 } else { number }
+}
+
+// Whether there is a number, and it is 0.
+fn is_at_zero(number: Option<ClauseNumber>) -> bool
+    ensures { result ≡ option_map_or (λ n. nat_eq n 0) number false }
+{
+    match number {
+        Some(number) => number.get() == 0,
+        None => false,
+    }
+}
+
 // A clause comes with its number.
 fn enter(
     key: ClauseKey,
     number: u128,
-    numbers: &mut BTreeMap<ClauseKey, u128>,
-    unmet: &mut BTreeSet<ClauseKey>,
+    numbers: &mut BTreeMap<PackedClause, ClauseNumber>,
+    unmet: &mut UnmetSet,
 ) -> Result<(), AllocError>
-    requires { AreUnmet numbers.old unmet.old }
+    requires few { number < 2 ^ 96 }
+    requires unmet { AreUnmet numbers.old unmet.old }
     ensures numbers { OnOk result ((k : ClauseKey) → get clause_cmp numbers.new k
         ≡ (if is_eq (clause_cmp key k) then Some number else get clause_cmp numbers.old k)) }
     ensures unmet { OnOk result (AreUnmet numbers.new unmet.new) }
 {
-    let there = numbers.insert(key, number)?;
-    note(unmet, key, matches!(there, Some(0)), number == 0)?;
+    let there = numbers.insert(PackedClause::new(key), ClauseNumber::new(number))?;
+    note(unmet, key, is_at_zero(there), number == 0)?;
     Ok(())
 }
 
 // These clauses come in turn.
 fn enter_each(
-    clauses: &[(ClauseKey, u128)],
-    numbers: &mut BTreeMap<ClauseKey, u128>,
-    unmet: &mut BTreeSet<ClauseKey>,
+    clauses: &[(PackedClause, ClauseNumber)],
+    numbers: &mut BTreeMap<PackedClause, ClauseNumber>,
+    unmet: &mut UnmetSet,
 ) -> Result<(), AllocError>
     requires { AreUnmet numbers.old unmet.old }
     ensures numbers { OnOk result ((k : ClauseKey) → get clause_cmp numbers.new k
@@ -162,7 +179,7 @@ fn enter_each(
     ensures unmet { OnOk result (AreUnmet numbers.new unmet.new) }
 {
     for clause in clauses {
-        enter(clause.0, clause.1, numbers, unmet)?;
+        enter(clause.0.key(), clause.1.get(), numbers, unmet)?;
     }
     Ok(())
 }
@@ -170,9 +187,9 @@ fn enter_each(
 // The same, where no clause is left if memory ends in the middle.
 #[tactic(auto, using(crate::proofs::CounterLemmas::unmet_none))]
 fn enter_all(
-    clauses: &[(ClauseKey, u128)],
-    numbers: &mut BTreeMap<ClauseKey, u128>,
-    unmet: &mut BTreeSet<ClauseKey>,
+    clauses: &[(PackedClause, ClauseNumber)],
+    numbers: &mut BTreeMap<PackedClause, ClauseNumber>,
+    unmet: &mut UnmetSet,
 ) -> Result<(), AllocError>
     requires { AreUnmet numbers.old unmet.old }
     ensures numbers { OnOk result ((k : ClauseKey) → get clause_cmp numbers.new k
@@ -197,13 +214,13 @@ impl Counters {
         Counters {
             alloc,
             numbers: BTreeMap::new(alloc),
-            unmet: BTreeSet::new(alloc),
+            unmet: UnmetSet::new(alloc),
             waiting: Waiting::new(alloc),
         }
     }
 
     /// The number of each clause.
-    pub(crate) fn numbers(&self) -> &BTreeMap<ClauseKey, u128>
+    pub(crate) fn numbers(&self) -> &BTreeMap<PackedClause, ClauseNumber>
         ensures { result.now ≡ self.now.numbers }
     {
         &self.numbers
@@ -213,11 +230,13 @@ impl Counters {
     pub(crate) fn number(&self, key: ClauseKey) -> Option<u128>
         ensures { result ≡ get clause_cmp self.now.numbers key }
     {
-        self.numbers.get(&key).copied()
+        self.numbers
+            .get(&PackedClause::new(key))
+            .map(|number| number.get())
     }
 
     /// The clauses at 0, in order.
-    pub(crate) fn unmet(&self) -> &BTreeSet<ClauseKey>
+    pub(crate) fn unmet(&self) -> &UnmetSet
         ensures { AreUnmet self.now.numbers result.now }
     {
         &self.unmet
@@ -248,12 +267,14 @@ impl Counters {
 
     /// A clause comes to those that wait to be entered, or is entered at once.
     pub(crate) fn wait(&mut self, clause: ClauseKey, number: u128) -> Result<(), AllocError>
+        requires { number < 2 ^ 96 }
         ensures { OnOk result ((k : ClauseKey) → told self.new.waiting self.new.numbers k
             ≡ (if is_eq (clause_cmp clause k) then Some number else told self.old.waiting self.old.numbers k)) }
     {
         self.make_room(clause)?;
         if self.waiting.put(clause, number)? {
-            enter_all(&[(clause, number)], &mut self.numbers, &mut self.unmet)?;
+            let clauses = [counted(clause, number)];
+            enter_all(&clauses, &mut self.numbers, &mut self.unmet)?;
         }
         Ok(())
     }
@@ -281,8 +302,8 @@ impl Counters {
         ensures { (k : ClauseKey) → get clause_cmp self.new.numbers k
             ≡ (if is_eq (clause_cmp key k) then None else get clause_cmp self.old.numbers k) }
     {
-        let gone = self.numbers.remove(&key);
-        unmark(&mut self.unmet, key, matches!(gone, Some(0)));
+        let gone = self.numbers.remove(&PackedClause::new(key));
+        unmark(&mut self.unmet, key, is_at_zero(gone));
     }
 
     /// The clause, if it is there, counts one more.
@@ -291,11 +312,12 @@ impl Counters {
             ≡ option_map (counted_up (if is_eq (clause_cmp key k) then 1 else 0))
             (get clause_cmp self.old.numbers k) }
     {
-        match self.numbers.get_mut(&key) {
-            Some(n) => {
-                let more = n.saturating_add(1);
-                unmark(&mut self.unmet, key, *n == 0);
-                *n = more;
+        match self.numbers.get_mut(&PackedClause::new(key)) {
+            Some(number) => {
+                let counted = number.get();
+                let more = ClauseNumber::new(one_more(counted));
+                unmark(&mut self.unmet, key, counted == 0);
+                *number = more;
             }
             None => {}
         }
@@ -307,11 +329,13 @@ impl Counters {
             ≡ option_map (λ n. n - (if is_eq (clause_cmp key k) then 1 else 0))
             (get clause_cmp self.old.numbers k)) }
     {
-        match self.numbers.get_mut(&key) {
-            Some(n) => {
-                let less = n.saturating_sub(1);
-                note(&mut self.unmet, key, *n == 0, less == 0)?;
-                *n = less;
+        match self.numbers.get_mut(&PackedClause::new(key)) {
+            Some(number) => {
+                let counted = number.get();
+                let left = counted.saturating_sub(1);
+                let less = ClauseNumber::new(left);
+                note(&mut self.unmet, key, counted == 0, left == 0)?;
+                *number = less;
                 Ok(())
             }
             None => Ok(()),

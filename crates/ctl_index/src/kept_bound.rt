@@ -8,7 +8,7 @@ use ctl_relation::{Atom, Operator};
 use std::marker::Model;
 
 // How many bytes a version has at most that is kept.
-const MOST_KEPT: usize = 12;
+const MOST_KEPT: usize = 8;
 
 #[derive(Drop)]
 enum BoundForm {
@@ -20,7 +20,7 @@ enum BoundForm {
     Elsewhere,
 }
 
-/// What is kept of the bound of an atom: that there is none, or which it is, where its version has at most 12 bytes. A longer one
+/// What is kept of the bound of an atom: that there is none, or which it is, where its version has at most 8 bytes. A longer one
 /// stands in its stanza alone.
 ///
 /// An offer that comes or goes is tested against each atom of its name. What is kept here need not be fetched from the stanza of the

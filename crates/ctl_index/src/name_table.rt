@@ -124,6 +124,11 @@ impl NameTable {
         self.map.get(name)
     }
 
+    /// How many names there are.
+    pub(crate) fn len(&self) -> usize {
+        self.map.len()
+    }
+
     // What stands under a name that isn't there yet.
     fn insert(&mut self, name: &[u8], named: Named) -> Result<(), AllocError>
         requires { is_used named ≡ true }
@@ -143,7 +148,7 @@ impl NameTable {
         ensures namers { OnOk result (namers_under self.new.map ≡ namers_under self.old.map) }
         ensures rows { OnOk result (rows_under self.new.map ≡ rows_under self.old.map) }
     {
-        if stanzas < self.map.len() / NAMES_A_STANZA {
+        if stanzas < self.len() / NAMES_A_STANZA {
             return Ok(());
         }
         self.map.pack(self.alloc)?;

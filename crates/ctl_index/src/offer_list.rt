@@ -74,7 +74,7 @@ fn take_and_tell(form: &mut Form, span: Span) -> bool
 {
     match form {
         Form::Empty => false,
-        Form::One(key) => is_within(key.stanza, span),
+        Form::One(key) => is_within(key.stanza.key(), span),
         Form::Many(keys) => {
             keys.take(span);
             false

@@ -1,12 +1,14 @@
 //! Clauses that wait to be entered.
 
-ghost use Rattle.std.specs.Prelude.{◌≡◌, ℕ, None, Some, Option, true, false, IfOk, OnOk, if◌then◌else◌};
+ghost use Rattle.std.specs.Prelude.{◌≡◌, ◌<◌, ◌^◌, ℕ, None, Some, Option, true, false, IfOk, OnOk, if◌then◌else◌};
 ghost use Rattle.std.specs.Bool.{OnTrue};
 ghost use Rattle.std.specs.Ordering.{is_eq};
 ghost use Rattle.ctl_index.specs.Clauses.{clause_cmp};
 ghost use Rattle.ctl_index.specs.Inside.TablesCounters.{AreUpTo, IsBehind, waited};
 
+use crate::clause_number::ClauseNumber;
 use crate::keys::ClauseKey;
+use crate::packed_clause::PackedClause;
 use std::alloc::{AllocError, Global};
 
 // How many clauses wait at most between those that are halfway.
@@ -25,6 +27,14 @@ enum Turn {
     Fourth,
 }
 
+// A clause with its number, as they are kept.
+pub(crate) fn counted(clause: ClauseKey, number: u128) -> (PackedClause, ClauseNumber)
+    requires { number < 2 ^ 96 }
+    ensures { result ≡ (clause, number) }
+{
+    (PackedClause::new(clause), ClauseNumber::new(number))
+}
+
 /// Clauses that come in rising order, each with its number, of which most wait until many have come.
 ///
 /// A tree to which keys come one by one in rising order has half-empty nodes: one that is full is split in the middle, and no key
@@ -33,8 +43,8 @@ enum Turn {
 /// entered at once, and then those halfway between two of these, and then the ones between, which fill the nodes.
 #[derive(Drop)]
 pub(crate) struct Waiting {
-    pub(crate) halfway: Vec<(ClauseKey, u128)>,
-    pub(crate) between: Vec<(ClauseKey, u128)>,
+    pub(crate) halfway: Vec<(PackedClause, ClauseNumber)>,
+    pub(crate) between: Vec<(PackedClause, ClauseNumber)>,
     highest: Option<ClauseKey>,
     turn: Turn,
     ghost halfway_up_to: { AreUpTo highest halfway.items },
@@ -103,11 +113,12 @@ impl Waiting {
 
     // A clause comes that is halfway between two that are entered at once.
     fn put_halfway(&mut self, clause: ClauseKey, number: u128, next: Turn) -> Result<(), AllocError>
-        requires { IsBehind self.old.highest clause }
+        requires few { number < 2 ^ 96 }
+        requires behind { IsBehind self.old.highest clause }
         ensures { OnOk result ((k : ClauseKey) (o : Option ℕ) → waited self.new.halfway.items self.new.between.items k o
             ≡ (if is_eq (clause_cmp clause k) then Some number else waited self.old.halfway.items self.old.between.items k o)) }
     {
-        self.halfway.push((clause, number))?;
+        self.halfway.push(counted(clause, number))?;
         self.highest = Some(clause);
         self.turn = next;
         Ok(())
@@ -115,11 +126,12 @@ impl Waiting {
 
     // A clause comes that is between one that is halfway and one that is entered at once.
     fn put_between(&mut self, clause: ClauseKey, number: u128, next: Turn) -> Result<(), AllocError>
-        requires { IsBehind self.old.highest clause }
+        requires few { number < 2 ^ 96 }
+        requires behind { IsBehind self.old.highest clause }
         ensures { OnOk result ((k : ClauseKey) (o : Option ℕ) → waited self.new.halfway.items self.new.between.items k o
             ≡ (if is_eq (clause_cmp clause k) then Some number else waited self.old.halfway.items self.old.between.items k o)) }
     {
-        self.between.push((clause, number))?;
+        self.between.push(counted(clause, number))?;
         self.highest = Some(clause);
         self.turn = next;
         Ok(())
@@ -127,7 +139,8 @@ impl Waiting {
 
     /// A clause comes, above those that came before. It waits, or it is told that it is to be entered at once.
     pub(crate) fn put(&mut self, clause: ClauseKey, number: u128) -> Result<bool, AllocError>
-        requires { IsBehind self.old.highest clause }
+        requires few { number < 2 ^ 96 }
+        requires behind { IsBehind self.old.highest clause }
         ensures at_once { IfOk result (λ at_once. at_once ≡ true → (k : ClauseKey) (v : Option ℕ) (o : Option ℕ)
             → waited self.new.halfway.items self.new.between.items k (if is_eq (clause_cmp clause k) then v else o)
             ≡ (if is_eq (clause_cmp clause k) then v else waited self.old.halfway.items self.old.between.items k o)) }

@@ -26,5 +26,5 @@ pub mod BestLemmas
 pub mod NamesLemmas
 pub mod PackageLemmas
 pub mod TouchedNamesLemmas
-pub mod PlaceLemmas
 pub mod WithoutLemmas
+pub mod ComingLemmas

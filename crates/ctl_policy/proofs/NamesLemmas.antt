@@ -16,7 +16,7 @@ use Rattle.ctl_policy.specs.declared.chosen.Chosen.{Chosen}
 use Rattle.ctl_policy.specs.Chosen.{at_bytes, kept_of, AreChosen}
 use Rattle.ctl_policy.specs.Priority.{world_of}
 use Rattle.ctl_policy.specs.Laws.{Stays, world_after}
-use Rattle.ctl_policy.specs.Touched.{SelectsNone, IsOfOthers, IsNotTouched, IsAccepted, TouchesAlone, is_one_of}
+use Rattle.ctl_policy.specs.Touched.{SelectsNone, IsOfOthers, IsNotTouched, IsAccepted, TouchesOnly}
 use Rattle.ctl_policy.proofs.RestLemmas.{Sets, Takes, mark_others, unmark_others, pin_others, unpin_others, general_pin_others, general_unpin_others}
 use Rattle.ctl_policy.proofs.TouchLemmas.{no_source}
 use Rattle.ctl_policy.proofs.AgainLemmas.{set_again}
@@ -53,14 +53,14 @@ pub untouched_stays : Sets → Takes → (old : Held) (edit : Edit) (q : List �
 untouched_stays sets takes old edit q a (inl again) = set_again old edit q again
 untouched_stays sets takes old edit q a (inr e) = of_others sets takes old edit q a e
 
--- the names that an edit touches are chosen anew
-pub touched_renewed : ((h : Held) → (edit : Edit) → (q : List ℕ) → IsAccepted h edit → IsNotTouched q h edit → Stays q (world_of h) (world_after h edit)) → (old new : BTreeMap (Vec ℕ Global) Chosen) (names : List (List ℕ)) (h : Held) (edit : Edit)
-    → IsAccepted h edit → TouchesAlone names h edit → AreChosen old (world_of h) → ((q : List ℕ) → at_bytes new q ≡ cond (is_one_of q names) (kept_of q (world_after h edit)) (at_bytes old q)) → AreChosen new (world_after h edit)
-touched_renewed stay old new names h edit a touches kept renewed q = renewed q ∙ by (is_one_of q names) refl
+-- the names that an edit touches are chosen anew, and more may be
+pub touched_renewed : ((h : Held) → (edit : Edit) → (q : List ℕ) → IsAccepted h edit → IsNotTouched q h edit → Stays q (world_of h) (world_after h edit)) → (old new : BTreeMap (Vec ℕ Global) Chosen) (touches : List ℕ → Bool) (h : Held) (edit : Edit)
+    → IsAccepted h edit → TouchesOnly touches h edit → AreChosen old (world_of h) → ((q : List ℕ) → at_bytes new q ≡ cond (touches q) (kept_of q (world_after h edit)) (at_bytes old q)) → AreChosen new (world_after h edit)
+touched_renewed stay old new touches h edit a only kept renewed q = renewed q ∙ by (touches q) refl
   where
-    by : (b : Bool) → is_one_of q names ≡ b → cond b (kept_of q (world_after h edit)) (at_bytes old q) ≡ kept_of q (world_after h edit)
+    by : (b : Bool) → touches q ≡ b → cond b (kept_of q (world_after h edit)) (at_bytes old q) ≡ kept_of q (world_after h edit)
     by true e = refl
-    by false e = kept q ∙ sym (stay h edit q a (touches q e)).kept
+    by false e = kept q ∙ sym (stay h edit q a (only q e)).kept
 
 pub plan_accepted : (h : Held) (plan : Planned) → IsReady h plan → AreRising (all_keys (keyed_of h).lists) → IsDistinct bytes_eq (names_of (state_of h).lists)
     → IsChange (keyed_of h).lists (keyed_after (keyed_of h) plan.edit).lists plan.removed plan.added plan.edit → AreCome plan.added plan.edit (keyed_after (keyed_of h) plan.edit).lists → IsAccepted h plan.edit

@@ -36,7 +36,7 @@ gone_key k ks (e ∷ es) h = by (is_among ks e) refl (key_is k e.0) refl (gone_k
 
 -- ---- one of some keys
 
-one_of : (P : StanzaKey → Type 0) (k : StanzaKey) (ks : List StanzaKey) → AllByRecursion P ks → has_key k ks ≡ true → P k
+pub one_of : (P : StanzaKey → Type 0) (k : StanzaKey) (ks : List StanzaKey) → AllByRecursion P ks → has_key k ks ≡ true → P k
 one_of P k [] a h = absurd (false≢true h)
 one_of P k (x ∷ xs) a h = by (key_is k x) refl h (one_of P k xs a.1)
   where

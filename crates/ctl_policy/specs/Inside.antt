@@ -4,6 +4,5 @@ pub mod HeldRead
 pub mod HeldRows
 pub mod HeldWalk
 pub mod KnownLists
-pub mod NewPlaces
 pub mod RowBound
 pub mod TouchedNames

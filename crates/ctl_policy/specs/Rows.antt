@@ -1,6 +1,7 @@
 -- The rows of a name: its versions as `apt-cache policy` lists them (apt-cache(8)), their leads and their sources.
-use Rattle.std.specs.Prelude.{◌≡◌, ℕ, Bool, true, false, ◌||◌, List, [], ◌∷◌, map, filter, reverse, Option, None, Some, if◌then◌else◌}
+use Rattle.std.specs.Prelude.{◌≡◌, ℕ, nat_eq, Bool, true, false, ◌||◌, List, [], ◌∷◌, map, filter, reverse, Option, None, Some, if◌then◌else◌}
 use Rattle.std.specs.Prelude.{IsSome, slice_get}
+use Rattle.std.specs.List.{list_any}
 use Rattle.std.specs.Map.{keys_of as names_of}
 use Rattle.std.specs.Option.{option_map_or}
 use Rattle.std.specs.Ordering.{is_eq}
@@ -87,6 +88,14 @@ is_any_row (row ∷ rows) = true
 -- whether a name has a row
 abbrev pub has_row : List ℕ → Lists → Bool
 has_row name lists = is_any_row (newest_first (rows_named name lists))
+
+-- whether a key is that of a stanza of the list with this serial
+abbrev pub is_of_list : ℕ → StanzaKey → Bool
+is_of_list list key = nat_eq key.list list
+
+-- whether one of the rows has such a key
+abbrev pub has_list : ℕ → Rows → Bool
+has_list list rows = list_any (λ keys. list_any (is_of_list list) keys) (map keys_of_row (newest_first rows))
 
 -- ---- leads and sources
 

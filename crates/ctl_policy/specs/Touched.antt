@@ -91,9 +91,13 @@ abbrev pub packages_at : List StanzaKey → (StanzaKey → Option Content) → L
 packages_at [] find = []
 packages_at (k ∷ ks) find = option_map_or (λ x. package_of x ∷ packages_at ks find) (find k) (packages_at ks find)
 
+-- an edit touches no name but those that pass a test
+abbrev pub TouchesOnly : (List ℕ → Bool) → Held → Edit → Type 0
+TouchesOnly touches h edit = (name : List ℕ) → touches name ≡ false → IsNotTouched name h edit
+
 -- an edit touches no name but these
 abbrev pub TouchesAlone : List (List ℕ) → Held → Edit → Type 0
-TouchesAlone names h edit = (name : List ℕ) → is_one_of name names ≡ false → IsNotTouched name h edit
+TouchesAlone names h edit = TouchesOnly (λ name. is_one_of name names) h edit
 
 -- an edit takes out and puts in what it tells, and leaves the rest
 abbrev pub ChangesAlone : Held → Edit → Type 0

@@ -1,6 +1,6 @@
 //! Laws on the names that an edit of the store touches: all others stay.
 
-ghost use Rattle.std.specs.Prelude.{◌≡◌, ℕ, ℤ, false, List, Option, None, Vec, if◌then◌else◌};
+ghost use Rattle.std.specs.Prelude.{◌≡◌, ℕ, ℤ, Bool, false, List, Option, None, Vec, if◌then◌else◌};
 ghost use Rattle.std.proofs.Common.{Global};
 ghost use Rattle.std.specs.Str.{bytes_eq};
 ghost use Rattle.std.specs.List.{IsDistinct};
@@ -19,8 +19,9 @@ ghost use Rattle.ctl_store.specs.Plans.{Planned, IsReady};
 ghost use Rattle.ctl_policy.specs.declared.chosen.Chosen.{Chosen};
 ghost use Rattle.ctl_policy.specs.Chosen.{at_bytes, kept_of, AreChosen};
 ghost use Rattle.ctl_policy.specs.Priority.{Settings, world_of};
+ghost use Rattle.ctl_policy.specs.Rows.{Rows, AreRowsOf, has_list};
 ghost use Rattle.ctl_policy.specs.Laws.{Stays, HoldsNone, world_after};
-ghost use Rattle.ctl_policy.specs.Touched.{TargetHoldsNone, LeavePins, LeavesStanzas, IsNotTouched, IsAccepted, TouchesAlone, HasNoneOf, is_one_of, packages_at};
+ghost use Rattle.ctl_policy.specs.Touched.{TargetHoldsNone, LeavePins, LeavesStanzas, IsNotTouched, IsAccepted, TouchesOnly, HasNoneOf, is_one_of, packages_at};
 
 use crate::laws::general_pins_leave_other_names;
 use ctl_store::settings_by_package;
@@ -87,12 +88,22 @@ pub fn untouched_names_stay()
     settings_by_package();
 }
 
-/// After an accepted edit the names that it touches are chosen anew, and all are right.
+/// Where a list comes, a name isn't touched of which no row, as it is after the edit, has the key of a stanza of that list.
+pub fn rows_tell_touched_names()
+    ensures { (h : Held) → (list : List ℕ) → (kind : ListKind) → (class : ListClass) → (stanzas : List Content)
+        → (rows : Rows) → (name : List ℕ) → IsAccepted h (AddList list kind class stanzas)
+        → AreRowsOf rows name (keyed_after (keyed_of h) (AddList list kind class stanzas)).lists
+        → has_list h.next_list rows ≡ false
+        → IsNotTouched name h (AddList list kind class stanzas) }
+{}
+
+/// After an accepted edit the names that pass a test are chosen anew, and those that the edit touches are among them: all are
+/// right.
 pub fn touched_names_are_enough()
     ensures { (old : BTreeMap (Vec ℕ Global) Chosen) → (new : BTreeMap (Vec ℕ Global) Chosen)
-        → (names : List (List ℕ)) → (h : Held) → (edit : Edit) → IsAccepted h edit
-        → TouchesAlone names h edit → AreChosen old (world_of h)
-        → ((q : List ℕ) → at_bytes new q ≡ (if is_one_of q names then kept_of q (world_after h edit) else at_bytes old q))
+        → (touches : List ℕ → Bool) → (h : Held) → (edit : Edit) → IsAccepted h edit
+        → TouchesOnly touches h edit → AreChosen old (world_of h)
+        → ((q : List ℕ) → at_bytes new q ≡ (if touches q then kept_of q (world_after h edit) else at_bytes old q))
         → AreChosen new (world_after h edit) }
 {
     untouched_names_stay();

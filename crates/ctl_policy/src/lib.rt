@@ -24,8 +24,8 @@ pub use choice_laws::{candidates_are_best, rows_fall, sources_bound_priorities};
 pub use chosen::{Chosen, choose, renew};
 pub use edit_laws::{
     edits_of_general_pins, edits_of_lists, edits_of_preferences, edits_of_stanzas,
-    edits_of_targets, packages_tell_live_stanzas, plans_are_accepted, touched_names_are_enough,
-    untouched_names_stay,
+    edits_of_targets, packages_tell_live_stanzas, plans_are_accepted, rows_tell_touched_names,
+    touched_names_are_enough, untouched_names_stay,
 };
 pub use laws::{
     edits_of_one_name, general_pins_leave_other_names, marks_leave_other_names,
@@ -35,7 +35,7 @@ pub use laws::{
     worlds_move,
 };
 pub use newest::NewestFirst;
-pub use places::make_places;
+pub use places::{comes_first, make_place, make_places};
 pub use priority::{is_source, list_priority, row_priority, specific_pin};
 pub use rows::Rows;
 pub use touching::{packages_of_store, touched_names};

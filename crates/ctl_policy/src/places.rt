@@ -1,8 +1,8 @@
 //! Places for what is chosen of names.
 
-ghost use Rattle.std.specs.Prelude.{◌≡◌, ℕ, List, false, OnOk, IfOk, ◌&&◌};
-ghost use Rattle.ctl_policy.specs.Chosen.{at_bytes};
-ghost use Rattle.ctl_policy.specs.Inside.NewPlaces.{AreUnchosen, is_listed, lacks_place, listed_with};
+ghost use Rattle.std.specs.Prelude.{◌≡◌, ◌%◌, ℕ, List, false, nat_eq, OnOk, OnErr, if◌then◌else◌};
+ghost use Rattle.std.specs.Str.{bytes_eq};
+ghost use Rattle.ctl_policy.specs.Chosen.{at_bytes, place_of};
 ghost use Rattle.ctl_policy.specs.Touched.{is_one_of, with_places};
 
 use crate::chosen::Chosen;
@@ -10,15 +10,20 @@ use ctl_relation::Bytes;
 use std::alloc::{AllocError, Global};
 use std::collections::BTreeMap;
 
-// Adds a place for a name that has none.
-fn list_place(
+/// Makes a place for a name that has none, in which neither a row is installed nor a candidate. Other names stay as they are. Where
+/// memory is refused all names do.
+///
+/// # Errors
+///
+/// Out of memory.
+pub fn make_place(
     alloc: Global,
-    chosen: &BTreeMap<Vec<u8>, Chosen>,
+    chosen: &mut BTreeMap<Vec<u8>, Chosen>,
     name: &[u8],
-    places: &mut Vec<(Vec<u8>, Chosen)>,
 ) -> Result<(), AllocError>
-    ensures listed { OnOk result ((q : List ℕ) → is_listed q places.new.items ≡ listed_with name.now chosen.now places.old.items q) }
-    ensures unchosen { OnOk result (AreUnchosen places.old.items → AreUnchosen places.new.items) }
+    ensures there { OnOk result ((q : List ℕ) → at_bytes chosen.new q
+        ≡ (if bytes_eq name.now q then place_of (at_bytes chosen.old q) else at_bytes chosen.old q)) }
+    ensures err { OnErr result ((q : List ℕ) → at_bytes chosen.new q ≡ at_bytes chosen.old q) }
 {
     if chosen.contains_key(name) {
         return Ok(());
@@ -28,26 +33,48 @@ fn list_place(
         installed: None,
         candidate: None,
     };
-    places.push((key, none))?;
+    chosen.insert(key, none)?;
     Ok(())
 }
 
-// A place for each of these names that has none. A name that comes twice has two.
-fn new_places(
-    alloc: Global,
-    chosen: &BTreeMap<Vec<u8>, Chosen>,
-    names: &[Bytes],
-) -> Result<Vec<(Vec<u8>, Chosen)>, AllocError>
-    ensures listed { IfOk result (λ places. (q : List ℕ) → is_listed q places.items ≡ (is_one_of q names.now && lacks_place q chosen.now)) }
-    ensures unchosen { IfOk result (λ places. AreUnchosen places.items) }
+/// Whether the name at a position comes in the first of two walks over names that rise, for which places are made: every other
+/// does.
+pub fn comes_first(position: usize) -> bool
+    ensures { result ≡ nat_eq (position % 2) 0 }
 {
-    let mut places = Vec::new(alloc);
-    let mut left = names;
-    'names: while let Some((name, rest)) = left.split_first() {
-        list_place(alloc, chosen, name.as_slice(), &mut places)?;
-        left = rest;
+    position % 2 == 0
+}
+
+// Makes a place for some of these names, those that come first. No clause says which: it is a matter of memory alone.
+fn make_first_places(
+    alloc: Global,
+    chosen: &mut BTreeMap<Vec<u8>, Chosen>,
+    names: &[Bytes],
+) -> Result<(), AllocError>
+    ensures places { (q : List ℕ) → place_of (at_bytes chosen.new q) ≡ place_of (at_bytes chosen.old q) }
+    ensures others { (q : List ℕ) → is_one_of q names.now ≡ false → at_bytes chosen.new q ≡ at_bytes chosen.old q }
+{
+    for (position, name) in names.iter().enumerate() {
+        if comes_first(position) {
+            make_place(alloc, chosen, name.as_slice())?;
+        }
     }
-    Ok(places)
+    Ok(())
+}
+
+// Makes a place for each of these names that has none.
+fn make_missing_places(
+    alloc: Global,
+    chosen: &mut BTreeMap<Vec<u8>, Chosen>,
+    names: &[Bytes],
+) -> Result<(), AllocError>
+    ensures there { OnOk result ((q : List ℕ) → at_bytes chosen.new q ≡ with_places names.now chosen.old q) }
+    ensures others { (q : List ℕ) → is_one_of q names.now ≡ false → at_bytes chosen.new q ≡ at_bytes chosen.old q }
+{
+    for name in names {
+        make_place(alloc, chosen, name.as_slice())?;
+    }
+    Ok(())
 }
 
 /// Makes a place for each of these names that has none, so that [`renew`](crate::renew) takes no memory. In a new place neither
@@ -64,9 +91,9 @@ pub fn make_places(
     ensures there { OnOk result ((q : List ℕ) → at_bytes chosen.new q ≡ with_places names.now chosen.old q) }
     ensures others { (q : List ℕ) → is_one_of q names.now ≡ false → at_bytes chosen.new q ≡ at_bytes chosen.old q }
 {
-    // A map that is made of all its keys at once has full nodes. Keys that are inserted in rising order leave them half full.
-    let places = new_places(alloc, chosen, names)?;
-    let mut coming = BTreeMap::from_iter(alloc, places)?;
-    chosen.append(&mut coming)?;
-    Ok(())
+    // The names that an edit touches rise. A tree to which keys come one by one in rising order has half-empty nodes: one that is
+    // full is split in the middle, and no key comes to its lower half again. Here the second walk fills the nodes that the first
+    // left half full.
+    make_first_places(alloc, chosen, names)?;
+    make_missing_places(alloc, chosen, names)
 }

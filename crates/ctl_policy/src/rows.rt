@@ -3,8 +3,9 @@
 ghost use Rattle.std.specs.Prelude.{◌≡◌, [], map, List, ℕ, None, OnOk, OnErr};
 ghost use Rattle.std.specs.Bool.{OnTrue, OnFalse};
 ghost use Rattle.std.specs.FinMap as fin;
+ghost use Rattle.std.specs.List.{list_any};
 ghost use Rattle.ctl_store.specs.Keys.{AreRising};
-ghost use Rattle.ctl_policy.specs.Rows.{keys_at, lead_at, keys_of_row, newest_first};
+ghost use Rattle.ctl_policy.specs.Rows.{has_list, is_of_list, keys_at, lead_at, keys_of_row, newest_first};
 ghost use Rattle.ctl_policy.specs.Inside.HeldRows.{rows_of_form, IsOrderedForm};
 ghost use Rattle.ctl_policy.specs.Kept.{HasPut, HasTaken, HasSame};
 
@@ -61,6 +62,13 @@ fn is_bare(form: &Form) -> bool
     }
 }
 
+// Whether one of these keys is that of a stanza of a list.
+fn are_any_of(keys: &[StanzaKey], list: u32) -> bool
+    ensures { result ≡ list_any (is_of_list list) keys.now }
+{
+    keys.iter().any(|key| key.list == list)
+}
+
 impl Rows {
     /// No rows. It takes no memory.
     pub fn new(alloc: Global) -> Rows
@@ -110,6 +118,13 @@ impl Rows {
         ensures { result ≡ map keys_of_row (newest_first self.now) }
     {
         NewestFirst::new(self.form())
+    }
+
+    /// Whether one of the rows has the key of a stanza of the list with this serial number.
+    pub fn has_list(&self, list: u32) -> bool
+        ensures { result ≡ has_list list self.now }
+    {
+        self.iter().any(|keys| are_any_of(keys, list))
     }
 
     /// The keys of the stanzas of a version, in order; none where there is no row of it.

@@ -12,7 +12,7 @@ Bound = Option (Operator × List ℕ)
 
 -- how many bytes a version has at most that is kept
 abbrev pub most_kept : ℕ
-most_kept = 12
+most_kept = 8
 
 -- the bound, where it is kept
 abbrev pub bound_kept : Bound → Option Bound

@@ -1,5 +1,5 @@
 -- What is chosen of each name, and how it follows an edit.
-use Rattle.std.specs.Prelude.{◌≡◌, ℕ, List, Vec, if◌then◌else◌}
+use Rattle.std.specs.Prelude.{◌≡◌, ℕ, Bool, List, Vec, if◌then◌else◌}
 use Rattle.std.proofs.Common.{Global}
 use Rattle.std.specs.Str.{bytes_eq}
 use Rattle.std.specs.List.{IsDistinct}
@@ -13,7 +13,6 @@ use Rattle.ctl_store.specs.Plans.{Planned, IsReady}
 use Rattle.ctl_policy.specs.declared.chosen.Chosen.{Chosen}
 use Rattle.ctl_policy.specs.Priority.{World}
 use Rattle.ctl_policy.specs.Chosen.{at_bytes, kept_of, place_of}
-use Rattle.ctl_policy.specs.Touched.{is_one_of}
 
 -- a map of what is chosen of names
 abbrev pub ChosenMap : Type 0
@@ -29,7 +28,7 @@ pub record HasMade (h : Held) (plan : Planned) (new : Held) : Type 0 where
   pub keyed : keyed_of new ≡ keyed_after (keyed_of h) plan.edit
   pub state : state_of new ≡ after (state_of h) plan.edit
 
--- these names had places made, and then were chosen anew
-pub record HasRenewed (names : List (List ℕ)) (w : World) (old placed new : ChosenMap) : Type 0 where
-  pub places : (q : List ℕ) → at_bytes placed q ≡ (if is_one_of q names then place_of (at_bytes old q) else at_bytes old q)
-  pub renewed : (q : List ℕ) → at_bytes new q ≡ (if is_one_of q names then kept_of q w else at_bytes placed q)
+-- the names that pass a test had places made, and then were chosen anew
+pub record HasRenewed (touches : List ℕ → Bool) (w : World) (old placed new : ChosenMap) : Type 0 where
+  pub places : (q : List ℕ) → at_bytes placed q ≡ (if touches q then place_of (at_bytes old q) else at_bytes old q)
+  pub renewed : (q : List ℕ) → at_bytes new q ≡ (if touches q then kept_of q w else at_bytes placed q)

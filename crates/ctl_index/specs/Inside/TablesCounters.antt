@@ -14,9 +14,9 @@ Numbers = BTreeMap ClauseKey ℕ
 abbrev pub AreUnmet : Numbers → BTreeSet ClauseKey → Type 0
 AreUnmet numbers unmet = (k : ClauseKey) → contains clause_cmp unmet k ≡ option_map_or (λ n. nat_eq n 0) (get clause_cmp numbers k) false
 
--- A number that counts n more. At the last value of a u128 it would stay, which no number of the tables comes to.
+-- A number that counts n more. At the last value below 2^96 it would stay, which no number of the tables comes to.
 abbrev pub counted_up : ℕ → ℕ → ℕ
-counted_up n number = max number (min (number + n) (2 ^ 128 - 1))
+counted_up n number = max number (min (number + n) (2 ^ 96 - 1))
 
 -- the number of a clause, if there is one, and so many less
 abbrev pub less_by : ℕ → Option ℕ → Option ℕ

@@ -1,4 +1,4 @@
--- Of the tables alone: why no number of a clause passes a u128. Stanzas without a fault have few atoms and few offers.
+-- Of the tables alone: why each number of a clause is below 2^96. Stanzas without a fault have few atoms and few offers.
 use Rattle.std.specs.Prelude.{◌<◌, ◌^◌, List, length, Option, IfSome}
 use Rattle.ctl_stanza.specs.Content.{Content}
 use Rattle.ctl_stanza.specs.Sound.{IsWhole}
@@ -16,7 +16,7 @@ IsWholeAt find k = IfSome (find k) IsWhole
 abbrev pub AreWhole : List Entry → Type 0
 AreWhole es = (k : StanzaKey) → IsWholeAt (λ q. under q es) k
 
--- The numbers of the clauses of less than 2^32 stanzas fit in 128 bits.
+-- The numbers of the clauses of less than 2^32 stanzas fit in 96 bits.
 abbrev pub NumbersFit : Type 0
 NumbersFit = (es : List Entry) → length es < 2 ^ 32 → AreApart es → AreWhole es
-    → (k : ClauseKey) → IfSome (number_at k es) (λ n. n < 2 ^ 128)
+    → (k : ClauseKey) → IfSome (number_at k es) (λ n. n < 2 ^ 96)

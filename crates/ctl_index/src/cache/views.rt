@@ -17,12 +17,15 @@ ghost use Rattle.ctl_index.specs.Inside.TablesViews.{offering};
 ghost use Rattle.ctl_index.specs.Work.{stanzas_of_state};
 
 use crate::cache::Cache;
+use crate::clause_number::ClauseNumber;
 use crate::keys::{AtomKey, ClauseKey, NamingAtom, OfferKey};
 use crate::name_entries::NameEntries;
+use crate::packed_clause::PackedClause;
 use crate::pending_store::{PendingStore, offer_at};
+use crate::unmet_set::UnmetClauses;
 use ctl_relation::Offer;
 use ctl_store::{StanzaKey, Store};
-use std::collections::{BTreeMap, btree_set};
+use std::collections::BTreeMap;
 use std::marker::Model;
 
 /// The names that are known, by [`Cache::names`], in the order of their bytes.
@@ -105,7 +108,7 @@ impl<'a> Iterator for Offers<'a> {
         match offer_at(&pending, *key) {
             Some(offer) => {
                 self.keys = rest;
-                Some((key.stanza, offer))
+                Some((key.stanza.key(), offer))
             }
             None => unreachable!(),
         }
@@ -149,7 +152,7 @@ impl<'a> Iterator for Offering<'a> {
     fn next(&mut self) -> Option<StanzaKey> {
         let (key, rest) = self.keys.split_first()?;
         self.keys = rest;
-        Some(key.stanza)
+        Some(key.stanza.key())
     }
 }
 
@@ -191,38 +194,6 @@ impl<'a> Iterator for Namers<'a> {
         let (namer, rest) = self.namers.split_first()?;
         self.namers = rest;
         Some(namer.key())
-    }
-}
-
-/// The clauses that no offer meets, by [`Cache::unmet_clauses`], in order.
-#[derive(Drop)]
-pub struct UnmetClauses<'a> {
-    keys: btree_set::Iter<'a, ClauseKey>,
-}
-
-impl<'a> Model for UnmetClauses<'a> {
-    ghost use Rattle.std.specs.Prelude.{List};
-    ghost use Rattle.ctl_index.specs.declared.keys.ClauseKey.{ClauseKey};
-
-    ghost Value = { List ClauseKey };
-
-    ghost view = { λ it. it.keys };
-}
-
-impl<'a> Iterator for UnmetClauses<'a> {
-    ghost use Rattle.std.specs.Iterator.{YieldsFirst, item_count};
-
-    ghost next_gives = { YieldsFirst (λ rest. rest) };
-
-    ghost remaining = { item_count (λ rest. rest) };
-
-    type Item = ClauseKey;
-
-    fn next(&mut self) -> Option<ClauseKey> {
-        match self.keys.next() {
-            Some(key) => Some(*key),
-            None => None,
-        }
     }
 }
 
@@ -302,12 +273,11 @@ impl Cache {
     {
         // That the keys rise is said here.
         let _counts = self.store.counts();
-        let keys = self.tables.counters.unmet().iter();
-        UnmetClauses { keys }
+        self.tables.counters.unmet().iter()
     }
 
     /// The number of each clause.
-    pub fn counters(&self) -> &BTreeMap<ClauseKey, u128>
+    pub fn counters(&self) -> &BTreeMap<PackedClause, ClauseNumber>
         requires { self.now.stale ≡ false }
         ensures { (k : ClauseKey) → get clause_cmp result.now k ≡ number_at k (standing self.now.store) }
     {

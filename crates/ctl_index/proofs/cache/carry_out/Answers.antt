@@ -1,14 +1,14 @@
-use Rattle.std.proofs.Common.{cond, ◌≡◌, ◌≤◌, ◌<◌, ◌^◌, arith, ap, subst, sym, ◌∙◌}
+use Rattle.std.proofs.Common.{◌≡◌, ◌≤◌, ◌<◌, ◌^◌, arith, ap, subst, sym, ◌∙◌}
 use Rattle.ctl_store.specs.declared.limits.Limits.{Limits}
 use Rattle.ctl_store.specs.Keys.{Keyed, AreComing}
 use Rattle.ctl_store.specs.Entries.{entries_of}
 use Rattle.ctl_policy.specs.Priority.{world_of}
-use Rattle.ctl_policy.specs.Chosen.{at_bytes, kept_of}
-use Rattle.ctl_policy.specs.Touched.{is_one_of}
+use Rattle.ctl_policy.specs.Chosen.{at_bytes}
 use Rattle.ctl_index.specs.HeldCache.{standing}
 use Rattle.ctl_index.specs.Inside.TablesChosen.{HasMade, HasRenewed}
 use Rattle.ctl_index.specs.Inside.TablesFollowed.{IsFollowed}
 use Rattle.ctl_index.specs.Inside.TablesIndexed.{IsIndexed}
+use Rattle.ctl_index.specs.Inside.TablesTouched.{is_touched}
 use Rattle.ctl_index.specs.Work.{more_by}
 use Rattle.ctl_index.proofs.ChoosingLemmas.{placed_there}
 use Rattle.ctl_index.proofs.LawLemmas.{followed_law, followed_work}
@@ -24,8 +24,8 @@ returns-clause-indexed c =
     let law : IsFollowed h plan = followed_law h plan comes c.counts-counts.ensures.order c.requires.change c.requires.ready.accepted most in
     subst (λ (k : Keyed). IsIndexed (entries_of k.lists) c.follow.new.tables) (sym c.commit.ensures.keyed) (c.in_ok-touched.ensures.tables law c.requires.indexed)
 
-pub renew_names-requires-clause-rows : goal.renew_names-requires-clause-rows
-renew_names-requires-clause-rows c =
+pub renew_touched-requires-clause-rows : goal.renew_touched-requires-clause-rows
+renew_touched-requires-clause-rows c =
     let h = c.args.store.now in
     let plan = c.args.plan in
     let limits : c.limits-limits.result.stanzas ≡ h.limits.stanzas = ap (λ (l : Limits). l.stanzas) c.limits-limits.ensures in
@@ -35,15 +35,22 @@ renew_names-requires-clause-rows c =
     let tables : IsIndexed (standing c.commit.new.self) c.follow.new.tables = subst (λ (k : Keyed). IsIndexed (entries_of k.lists) c.follow.new.tables) (sym c.commit.ensures.keyed) (c.in_ok-touched.ensures.tables law c.requires.indexed) in
     c.rows_are_defined.ensures c.commit.new.self c.follow.new.tables.names.map c.commit.ensures.change.rises tables.rows
 
-pub renew_names-requires-clause-places : goal.renew_names-requires-clause-places
-renew_names-requires-clause-places c = λ q e.
-    placed_there (is_one_of q c.in_ok-touched.touched.items) (at_bytes c.args.chosen.now q) (at_bytes c.follow.new.chosen q) (c.in_ok-touched.ensures.places q)
-    (ap (is_one_of q) (sym c.deref.ensures.value) ∙ e)
+pub renew_touched-requires-clause-places : goal.renew_touched-requires-clause-places
+renew_touched-requires-clause-places c = λ q e.
+    placed_there (is_touched c.follow.new.tables.names.map c.in_ok-touched.touched q) (at_bytes c.args.chosen.now q) (at_bytes c.follow.new.chosen q) (c.in_ok-touched.ensures.places q) e
 
 pub returns-clause-chosen : goal.returns-clause-chosen
 returns-clause-chosen c =
     let h = c.args.store.now in
     let plan = c.args.plan in
+    let limits : c.limits-limits.result.stanzas ≡ h.limits.stanzas = ap (λ (l : Limits). l.stanzas) c.limits-limits.ensures in
+    let most : h.limits.stanzas < 2 ^ 32 = omega (arith, limits) in
+    let comes : AreComing plan.added plan.edit = subst (λ ks. AreComing ks plan.edit) c.added-added.ensures.keys c.added-added.ensures.coming in
+    let law : IsFollowed h plan = followed_law h plan comes c.counts-counts.ensures.order c.requires.change c.requires.ready.accepted most in
+    let tables : IsIndexed (standing c.commit.new.self) c.follow.new.tables = subst (λ (k : Keyed). IsIndexed (entries_of k.lists) c.follow.new.tables) (sym c.commit.ensures.keyed) (c.in_ok-touched.ensures.tables law c.requires.indexed) in
+    let m = c.follow.new.tables.names.map in
+    let touched = c.in_ok-touched.touched in
+    let rows = c.rows_are_defined.ensures c.commit.new.self m c.commit.ensures.change.rises tables.rows in
     let made : HasMade h plan c.commit.new.self = record {
       ready = c.requires.ready;
       rising = c.counts-counts.ensures.order;
@@ -53,14 +60,12 @@ returns-clause-chosen c =
       keyed = c.commit.ensures.keyed;
       state = c.commit.ensures.state;
     } in
-    let names = c.in_ok-touched.touched.items in
-    let renewed : HasRenewed names (world_of c.commit.new.self) c.args.chosen.now c.follow.new.chosen c.renew_names.new.chosen = record {
+    let only = c.touched_names_are_told.ensures h plan c.commit.new.self touched m made c.in_ok-touched.ensures.touches rows in
+    let renewed : HasRenewed (is_touched m touched) (world_of c.commit.new.self) c.args.chosen.now c.follow.new.chosen c.renew_touched.new.chosen = record {
       places = c.in_ok-touched.ensures.places;
-      renewed = λ q.
-          c.renew_names.ensures q
-          ∙ ap (λ ns. cond (is_one_of q ns) (kept_of q (world_of c.commit.new.self)) (at_bytes c.follow.new.chosen q)) c.deref.ensures.value;
+      renewed = c.renew_touched.ensures;
     } in
-    c.choices_follow_edits.ensures h plan c.commit.new.self names c.args.chosen.now c.follow.new.chosen c.renew_names.new.chosen made c.in_ok-touched.ensures.touches c.requires.chosen renewed
+    c.choices_follow_edits.ensures h plan c.commit.new.self (is_touched m touched) c.args.chosen.now c.follow.new.chosen c.renew_touched.new.chosen made only c.requires.chosen renewed
 
 pub returns-clause-steps : goal.returns-clause-steps
 returns-clause-steps c =

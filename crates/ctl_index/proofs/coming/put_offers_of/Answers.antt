@@ -25,15 +25,15 @@ loop-i-preserved c =
     let o = c.index-offers-i.result in
     let below : i < length os = omega arith in
     let item : o ≡ get_or os i o = search rules in
-    let key : OfferKey = record { stanza = c.args.key; place = i } in
+    let key : OfferKey = record { stanza = c.new.result; place = i } in
     record {
       offers = λ q f.
           let F : OfferKey × OfferParts → ℕ = offer_named q f in
           let z : suc i ≡ i + 1 = omega arith in
           let left : sum_by F (keyed_offers_from c.args.key i (drop i os)) ≡ cond (bytes_eq o.name q) (f key) 0 + sum_by F (keyed_offers_from c.args.key (i + 1) (drop (i + 1) os)) =
           at_drop_more (λ ps. sum_by F (keyed_offers_from c.args.key i ps)) os i o below
-          ∙ sum_by-cons F (key, get_or os i o) (keyed_offers_from c.args.key (suc i) (drop (i + 1) os))
-          ∙ (λ j. F (key, sym item j) + sum_by F (keyed_offers_from c.args.key (z j) (drop (i + 1) os))) in
+          ∙ sum_by-cons F (record { stanza = c.args.key; place = i }, get_or os i o) (keyed_offers_from c.args.key (suc i) (drop (i + 1) os))
+          ∙ (λ j. F (record { stanza = sym c.new.ensures j; place = i }, sym item j) + sum_by F (keyed_offers_from c.args.key (z j) (drop (i + 1) os))) in
           omega (arith, c.in_ok-put_offer.ensures.offers q f, left, c.loop-i.invariant.offers q f);
       namers = (λ j q. c.in_ok-put_offer.ensures.namers q j) ∙ c.loop-i.invariant.namers;
       rows = (λ j q. c.in_ok-put_offer.ensures.rows q j) ∙ c.loop-i.invariant.rows;

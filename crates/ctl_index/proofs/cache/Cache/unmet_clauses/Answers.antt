@@ -15,6 +15,6 @@ returns c =
     let fresh = ap (λ w. w.stale) c.self.view_is ∙ c.requires in
     let was = (c.self.invariant fresh).0 in
     let rising : AreRising (entry_keys (standing h)) = subst AreRising (sym (keys_of_entries (keyed_of h).lists)) c.counts-counts.ensures.order in
-    c.iter-keys.ensures.rest
-    ∙ unmet_is (standing h) c.unmet.result.now rising (rising_apart (keyed_of h).lists c.counts-counts.ensures.order) c.iter-keys.ensures.ordered (λ k. c.unmet.ensures k ∙ ap (λ o. option_map_or (λ n. nat_eq n 0) o false) (was.counters k))
+    c.iter.ensures.keys
+    ∙ unmet_is (standing h) c.unmet.result.now rising (rising_apart (keyed_of h).lists c.counts-counts.ensures.order) c.iter.ensures.ordered (λ k. c.unmet.ensures k ∙ ap (λ o. option_map_or (λ n. nat_eq n 0) o false) (was.counters k))
     ∙ ap (λ (w : HeldCache). unmet_clauses (standing w.store)) c.self.view_is
