@@ -31,26 +31,11 @@ pub(crate) struct Counters {
     ghost at_zero: { AreUnmet numbers unmet },
 }
 
-// Notes whether a clause is among those at 0.
-#[tactic(auto, using(crate::proofs::CounterLemmas::marked_already))]
-fn mark(unmet: &mut UnmetSet, key: ClauseKey, is_unmet: bool) -> Result<(), AllocError>
-    ensures ok { OnOk result ((k : ClauseKey) → contains clause_cmp unmet.new k
-        ≡ (if is_eq (clause_cmp key k) then is_unmet else contains clause_cmp unmet.old k)) }
-    ensures err { OnErr result ((k : ClauseKey) → contains clause_cmp unmet.new k ≡ contains clause_cmp unmet.old k) }
-{
-    if is_unmet {
-        unmet.insert(key)?;
-    } else if !unmet.is_below(key) {
-        unmet.remove(key);
-    }
-    Ok(())
-}
-
 // Notes whether a clause is among those at 0, where that has changed.
 #[tactic(auto, using(crate::proofs::CounterLemmas::marked_already))]
 fn note(
     unmet: &mut UnmetSet,
-    key: ClauseKey,
+    key: PackedClause,
     was_unmet: bool,
     is_unmet: bool,
 ) -> Result<(), AllocError>
@@ -62,18 +47,18 @@ fn note(
     if was_unmet == is_unmet {
         return Ok(());
     }
-    mark(unmet, key, is_unmet)
+    unmet.mark(key, is_unmet)
 }
 
-// Takes a clause from those at 0, where it is one.
+// A clause counts more than before, and leaves those at 0 where it is one.
 #[tactic(auto, using(crate::proofs::CounterLemmas::marked_already))]
-fn unmark(unmet: &mut UnmetSet, key: ClauseKey, was_unmet: bool)
+fn unmark(unmet: &mut UnmetSet, key: PackedClause, was_unmet: bool)
     requires { contains clause_cmp unmet.old key ≡ was_unmet }
     ensures { (k : ClauseKey) → contains clause_cmp unmet.new k
         ≡ (if is_eq (clause_cmp key k) then false else contains clause_cmp unmet.old k) }
 {
     if was_unmet {
-        unmet.remove(key);
+        unmet.leave(key);
     }
 }
 
@@ -85,7 +70,7 @@ fn mark_all(
     ensures { OnOk result ((k : ClauseKey) → contains clause_cmp unmet.new k ≡ marked clauses.now k (contains clause_cmp unmet.old k)) }
 {
     for clause in clauses {
-        mark(unmet, clause.0.key(), clause.1.get() == 0)?;
+        unmet.mark(clause.0, clause.1.get() == 0)?;
     }
     Ok(())
 }
@@ -151,7 +136,7 @@ fn is_at_zero(number: Option<ClauseNumber>) -> bool
 
 // A clause comes with its number.
 fn enter(
-    key: ClauseKey,
+    key: PackedClause,
     number: u128,
     numbers: &mut BTreeMap<PackedClause, ClauseNumber>,
     unmet: &mut UnmetSet,
@@ -162,7 +147,7 @@ fn enter(
         ≡ (if is_eq (clause_cmp key k) then Some number else get clause_cmp numbers.old k)) }
     ensures unmet { OnOk result (AreUnmet numbers.new unmet.new) }
 {
-    let there = numbers.insert(PackedClause::new(key), ClauseNumber::new(number))?;
+    let there = numbers.insert(key, ClauseNumber::new(number))?;
     note(unmet, key, is_at_zero(there), number == 0)?;
     Ok(())
 }
@@ -179,7 +164,7 @@ fn enter_each(
     ensures unmet { OnOk result (AreUnmet numbers.new unmet.new) }
 {
     for clause in clauses {
-        enter(clause.0.key(), clause.1.get(), numbers, unmet)?;
+        enter(clause.0, clause.1.get(), numbers, unmet)?;
     }
     Ok(())
 }
@@ -302,8 +287,9 @@ impl Counters {
         ensures { (k : ClauseKey) → get clause_cmp self.new.numbers k
             ≡ (if is_eq (clause_cmp key k) then None else get clause_cmp self.old.numbers k) }
     {
-        let gone = self.numbers.remove(&PackedClause::new(key));
-        unmark(&mut self.unmet, key, is_at_zero(gone));
+        let key = PackedClause::new(key);
+        let _ = self.numbers.remove(&key);
+        self.unmet.remove(key);
     }
 
     /// The clause, if it is there, counts one more.
@@ -312,7 +298,8 @@ impl Counters {
             ≡ option_map (counted_up (if is_eq (clause_cmp key k) then 1 else 0))
             (get clause_cmp self.old.numbers k) }
     {
-        match self.numbers.get_mut(&PackedClause::new(key)) {
+        let key = PackedClause::new(key);
+        match self.numbers.get_mut(&key) {
             Some(number) => {
                 let counted = number.get();
                 let more = ClauseNumber::new(one_more(counted));
@@ -329,7 +316,8 @@ impl Counters {
             ≡ option_map (λ n. n - (if is_eq (clause_cmp key k) then 1 else 0))
             (get clause_cmp self.old.numbers k)) }
     {
-        match self.numbers.get_mut(&PackedClause::new(key)) {
+        let key = PackedClause::new(key);
+        match self.numbers.get_mut(&key) {
             Some(number) => {
                 let counted = number.get();
                 let left = counted.saturating_sub(1);

@@ -3,7 +3,8 @@
 ghost use Rattle.std.specs.Prelude.{◌≡◌, Some, refl};
 ghost use Rattle.std.specs.Cmp.{po, partial_equiv_from_equiv};
 ghost use Rattle.ctl_index.specs.Clauses.{clause_cmp};
-ghost use Rattle.ctl_index.specs.ClauseOrder.{clause_eq, clauses_equiv, clauses_ties, clauses_total};
+ghost use Rattle.std.specs.Ordering.{eq_by_cmp};
+ghost use Rattle.ctl_index.specs.ClauseOrder.{clauses_equiv, clauses_total};
 
 use crate::keys::ClauseKey;
 use crate::packed_key::PackedKey;
@@ -58,7 +59,7 @@ impl PackedClause {
 }
 
 impl PartialEq for PackedClause {
-    ghost eq = { clause_eq };
+    ghost eq = { eq_by_cmp clause_cmp };
 
     ghost laws = { partial_equiv_from_equiv clauses_equiv };
 
@@ -74,7 +75,7 @@ impl Eq for PackedClause {
 impl PartialOrd for PackedClause {
     ghost partial_cmp = { λ a b. Some (clause_cmp a b) };
 
-    ghost laws = { po clauses_total clauses_ties };
+    ghost laws = { po clauses_total (λ a b. refl) };
 
     fn partial_cmp(&self, other: &PackedClause) -> Option<Ordering> {
         Some(self.cmp(other))
@@ -88,7 +89,7 @@ impl Ord for PackedClause {
 
     ghost matches_partial_cmp = { λ a b. refl };
 
-    ghost matches_eq = { clauses_ties };
+    ghost matches_eq = { λ a b. refl };
 
     fn cmp(&self, other: &PackedClause) -> Ordering {
         self.key().cmp(&other.key())

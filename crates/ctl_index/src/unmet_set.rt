@@ -13,20 +13,18 @@ use std::alloc::{AllocError, Global};
 use std::collections::{BTreeMap, btree_map};
 use std::marker::Model;
 
-// How many clauses that left keep their place at most.
-const MOST_LEFT: usize = 32_768;
+// Up to how many places a clause that leaves keeps its own.
+const MOST_PLACES: usize = 32_768;
 
 /// The clauses that stand at 0, in order.
 ///
-/// One that leaves keeps its place, which says so, as long as not too many do. Where a package goes that twenty thousand others
-/// depend on, and comes again, so many clauses come and leave: that no node of the tree is made and freed for them takes a fifth
-/// less time.
+/// One that leaves keeps its place, which says so, unless there are very many places. Where a package goes that twenty thousand
+/// others depend on, and comes again, so many clauses come and leave: that no node of the tree is made and freed for them takes a
+/// fifth less time.
 #[derive(Drop)]
 pub(crate) struct UnmetSet {
     // Whether each clause that has a place is at 0.
     places: BTreeMap<PackedClause, bool>,
-    // How many of them are not, as far as they were counted.
-    left: usize,
 }
 
 impl Model for UnmetSet {
@@ -50,7 +48,6 @@ impl UnmetSet {
     {
         UnmetSet {
             places: BTreeMap::new(alloc),
-            left: 0,
         }
     }
 
@@ -59,58 +56,60 @@ impl UnmetSet {
         ensures { (k : ClauseKey) → contains clause_cmp self.new k ≡ false }
     {
         self.places.clear();
-        self.left = 0;
-    }
-
-    /// Whether a clause is above all that have a place, as most are that come behind others.
-    pub(crate) fn is_below(&self, key: ClauseKey) -> bool
-        ensures { result ≡ true → contains clause_cmp self.now key ≡ false }
-    {
-        match self.places.last_key_value() {
-            Some((last, _)) => last.key().cmp(&key).is_lt(),
-            None => true,
-        }
     }
 
     /// A clause comes.
-    pub(crate) fn insert(&mut self, key: ClauseKey) -> Result<(), AllocError>
+    pub(crate) fn insert(&mut self, key: PackedClause) -> Result<(), AllocError>
         ensures ok { OnOk result ((k : ClauseKey) → contains clause_cmp self.new k
             ≡ (if is_eq (clause_cmp key k) then true else contains clause_cmp self.old k)) }
         ensures err { OnErr result (self.new ≡ self.old) }
     {
-        let there = self.places.insert(PackedClause::new(key), true)?;
-        if matches!(there, Some(false)) {
-            self.left = self.left.saturating_sub(1);
-        }
+        let _ = self.places.insert(key, true)?;
         Ok(())
     }
 
-    // A clause leaves, and keeps its place.
-    fn leave(&mut self, key: ClauseKey)
+    /// A clause leaves, if it is there: it counts more than 0.
+    pub(crate) fn leave(&mut self, key: PackedClause)
         ensures { (k : ClauseKey) → contains clause_cmp self.new k
             ≡ (if is_eq (clause_cmp key k) then false else contains clause_cmp self.old k) }
     {
-        match self.places.get_mut(&PackedClause::new(key)) {
-            Some(is_unmet) => {
-                if *is_unmet {
-                    self.left = self.left.saturating_add(1);
-                }
-                *is_unmet = false;
-            }
+        if self.places.len() >= MOST_PLACES {
+            self.remove(key);
+            return;
+        }
+        match self.places.get_mut(&key) {
+            Some(is_unmet) => *is_unmet = false,
             None => {}
         }
     }
 
-    /// A clause leaves, if it is there.
-    pub(crate) fn remove(&mut self, key: ClauseKey)
+    /// A clause leaves, if it is there, and no place is kept for it.
+    pub(crate) fn remove(&mut self, key: PackedClause)
         ensures { (k : ClauseKey) → contains clause_cmp self.new k
             ≡ (if is_eq (clause_cmp key k) then false else contains clause_cmp self.old k) }
     {
-        if self.left < MOST_LEFT {
-            self.leave(key);
-        } else {
-            let _ = self.places.remove(&PackedClause::new(key));
+        let _ = self.places.remove(&key);
+    }
+
+    /// A clause comes or leaves. Most that leave here are above all that have a place, and need not be looked for.
+    #[tactic(auto, using(crate::proofs::CounterLemmas::marked_already))]
+    pub(crate) fn mark(&mut self, key: PackedClause, is_unmet: bool) -> Result<(), AllocError>
+        ensures ok { OnOk result ((k : ClauseKey) → contains clause_cmp self.new k
+            ≡ (if is_eq (clause_cmp key k) then is_unmet else contains clause_cmp self.old k)) }
+        ensures err { OnErr result (self.new ≡ self.old) }
+    {
+        if is_unmet {
+            return self.insert(key);
         }
+        match self.places.last_key_value() {
+            Some((last, _)) => {
+                if last.cmp(&key).is_ge() {
+                    self.leave(key);
+                }
+            }
+            None => {}
+        }
+        Ok(())
     }
 
     /// Those that are there, in order.
