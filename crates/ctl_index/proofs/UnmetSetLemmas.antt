@@ -7,8 +7,9 @@ use Rattle.std.specs.List.Sorted.{IsStrictlySortedBy}
 use Rattle.std.specs.Map.{lookup, keys_of}
 use Rattle.std.specs.BTreeMap.{BTreeMap, get, keys, IsOrdered}
 use Rattle.std.specs.BTreeSet.{contains}
-use Rattle.std.specs.Ordering.{is_eq, is_lt}
-use Rattle.std.specs.declared.cmp.Ordering.TheVariants.{Less}
+use Rattle.std.specs.Ordering.{is_eq, is_ge, is_lt}
+use Rattle.std.specs.declared.cmp.Ordering.{Ordering}
+use Rattle.std.specs.declared.cmp.Ordering.TheVariants.{Less, Equal, Greater}
 use Rattle.std.proofs.lemmas.List.Elements.{recursion_from_All}
 use Rattle.std.proofs.lemmas.Map.Keys.{sorted_head, sorted_tail}
 use Rattle.ctl_index.specs.declared.keys.ClauseKey.{ClauseKey}
@@ -64,8 +65,14 @@ no_place m a was none k = by (is_eq (clause_cmp a k)) refl
     by true tie = ap (contains clause_cmp (unmet_of m)) (sym (same_clause a k tie)) ∙ contains_place m was a ∙ ap (λ p. option_map_or (λ b. b) p false) none
     by false tie = refl
 
+-- nothing is both up to and above the same
+not_both : (o : Ordering) → is_lt o ≡ false → is_ge o ≡ false → ⊥
+not_both Less up above = true≢false up
+not_both Equal up above = true≢false above
+not_both Greater up above = true≢false above
+
 -- a clause above the last place is not at 0
-pub above_last : (m : BTreeMap ClauseKey Bool) (last a : ClauseKey) → All (λ q. is_lt (clause_cmp last q) ≡ false) (keys m) → is_lt (clause_cmp last a) ≡ true → contains clause_cmp (unmet_of m) a ≡ false
+pub above_last : (m : BTreeMap ClauseKey Bool) (last a : ClauseKey) → All (λ q. is_lt (clause_cmp last q) ≡ false) (keys m) → is_ge (clause_cmp last a) ≡ false → contains clause_cmp (unmet_of m) a ≡ false
 above_last m last a all above = go m.entries (recursion_from_All (λ q. is_lt (clause_cmp last q) ≡ false) (keys m) all)
   where
     go : (es : List (ClauseKey × Bool)) → AllByRecursion (λ q. is_lt (clause_cmp last q) ≡ false) (keys_of es) → list_any (λ q. is_eq (clause_cmp a q)) (unmet_keys es) ≡ false
@@ -74,7 +81,7 @@ above_last m last a all above = go m.entries (recursion_from_All (λ q. is_lt (c
       where
         by : list_any (λ q. is_eq (clause_cmp a q)) (unmet_keys es) ≡ false → (b t : Bool) → is_eq (clause_cmp a e.0) ≡ t → list_any (λ q. is_eq (clause_cmp a q)) (cond b (e.0 ∷ unmet_keys es) (unmet_keys es)) ≡ false
         by rest false t tie = rest
-        by rest true true tie = absurd (true≢false (sym above ∙ ap (λ q. is_lt (clause_cmp last q)) (same_clause a e.0 tie) ∙ h.0))
+        by rest true true tie = absurd (not_both (clause_cmp last e.0) h.0 (ap (λ q. is_ge (clause_cmp last q)) (sym (same_clause a e.0 tie)) ∙ above))
         by rest true false tie = ap (λ c. c || list_any (λ q. is_eq (clause_cmp a q)) (unmet_keys es)) tie ∙ rest
 
 -- those that are at 0 are in the order of all that have a place

@@ -68,18 +68,26 @@ impl UnmetSet {
         Ok(())
     }
 
+    // A clause leaves, if it is there, and its place stays.
+    fn keep_place(&mut self, key: PackedClause)
+        ensures { (k : ClauseKey) → contains clause_cmp self.new k
+            ≡ (if is_eq (clause_cmp key k) then false else contains clause_cmp self.old k) }
+    {
+        match self.places.get_mut(&key) {
+            Some(is_unmet) => *is_unmet = false,
+            None => {}
+        }
+    }
+
     /// A clause leaves, if it is there: it counts more than 0.
     pub(crate) fn leave(&mut self, key: PackedClause)
         ensures { (k : ClauseKey) → contains clause_cmp self.new k
             ≡ (if is_eq (clause_cmp key k) then false else contains clause_cmp self.old k) }
     {
-        if self.places.len() >= MOST_PLACES {
+        if self.places.len() < MOST_PLACES {
+            self.keep_place(key);
+        } else {
             self.remove(key);
-            return;
-        }
-        match self.places.get_mut(&key) {
-            Some(is_unmet) => *is_unmet = false,
-            None => {}
         }
     }
 
