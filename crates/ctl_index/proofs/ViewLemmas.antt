@@ -38,20 +38,20 @@ use Rattle.ctl_index.proofs.TableLemmas.{own_atoms, all_map}
 
 -- ---- keys that are the same
 
-and_true : (a b : Bool) → (a && b) ≡ true → (a ≡ true) × (b ≡ true)
+pub and_true : (a b : Bool) → (a && b) ≡ true → (a ≡ true) × (b ≡ true)
 and_true true b h = (refl, h)
 and_true false b h = absurd (true≢false (sym h))
 
-both_true : (a b : Bool) → a ≡ true → b ≡ true → (a && b) ≡ true
+pub both_true : (a b : Bool) → a ≡ true → b ≡ true → (a && b) ≡ true
 both_true a b h k = λ i. and_ab i
   where
     and_ab : (a && b) ≡ true
     and_ab = ap (λ c. c && b) h ∙ k
 
-abbrev atom_same : AtomKey → AtomKey → Bool
+abbrev pub atom_same : AtomKey → AtomKey → Bool
 atom_same a b = key_is a.stanza b.stanza && (same_field a.field b.field && (nat_eq a.group b.group && nat_eq a.atom b.atom))
 
-atom_exact : (a b : AtomKey) → atom_same a b ≡ true → a ≡ b
+pub atom_exact : (a b : AtomKey) → atom_same a b ≡ true → a ≡ b
 atom_exact a b h =
     let one = and_true (key_is a.stanza b.stanza) _ h in
     let two = and_true (same_field a.field b.field) _ one.1 in
@@ -62,7 +62,7 @@ atom_exact a b h =
     let atom = nat_eq-is a.atom b.atom three.1 in
     λ i. record { stanza = stanza i; field = field i; group = group i; atom = atom i }
 
-atom_own : (a : AtomKey) → atom_same a a ≡ true
+pub atom_own : (a : AtomKey) → atom_same a a ≡ true
 atom_own a = λ i. key_is-own a.stanza i && (nat_eq-refl (field_place a.field) i && (nat_eq-refl a.group i && nat_eq-refl a.atom i))
 
 abbrev offer_same : OfferKey → OfferKey → Bool

@@ -1,11 +1,12 @@
 -- Who names what, and which names are known: what is offered (Debian Policy 7.5), and what a relation field names (7.1).
-use Rattle.std.specs.Prelude.{ℕ, suc, Bool, ◌&&◌, List, [], ◌∷◌, ◌++◌, map, filter, flat_map}
+use Rattle.std.specs.Prelude.{ℕ, suc, Bool, true, ◌&&◌, nat_le, List, [], ◌∷◌, ◌++◌, map, filter, flat_map, length, codes, Option, None, Some, if◌then◌else◌}
 use Rattle.std.specs.BTreeSet.{insert_key}
 use Rattle.std.specs.Cmp.Lexicographic.{slice_cmp}
 use Rattle.std.specs.Ordering.{nat_cmp}
 use Rattle.std.specs.List.{list_any}
 use Rattle.std.specs.Str.{bytes_eq}
 use Rattle.ctl_relation.specs.declared.field_kind.FieldKind.{FieldKind}
+use Rattle.ctl_relation.specs.declared.operator.Operator.{Operator}
 -- the fields whose atoms name packages
 pub use Rattle.ctl_relation.specs.FieldKind.{eight_fields as naming_fields}
 use Rattle.ctl_relation.specs.Parts.{AtomParts, OfferParts}
@@ -62,3 +63,40 @@ namers_of name e = map (λ (atom : AtomKey × AtomParts). atom.0) (filter (is_na
 -- the atoms that name a name, in cache order
 abbrev pub namers_named : List ℕ → List Entry → List AtomKey
 namers_named name es = flat_map (namers_of name) es
+
+-- ---- what is kept of them
+
+-- all of an atom but its name: its qualifier and its bound
+abbrev pub AllButName : Type 0
+AllButName = Option (List ℕ) × Option (Operator × List ℕ)
+
+-- the atom of a name
+abbrev pub with_name : List ℕ → AllButName → AtomParts
+with_name name rest = record { name = name; qualifier = rest.0; bound = rest.1 }
+
+-- how many bytes a version has at most that is kept
+abbrev pub most_kept : ℕ
+most_kept = 8
+
+abbrev pub is_qualifier_kept : Option (List ℕ) → Bool
+is_qualifier_kept None = true
+is_qualifier_kept (Some qualifier) = bytes_eq qualifier (codes "any")
+
+abbrev pub is_bound_kept : Option (Operator × List ℕ) → Bool
+is_bound_kept None = true
+is_bound_kept (Some bound) = nat_le (length bound.1) most_kept
+
+-- all but the name is kept of an atom with no qualifier or `any`, and no version that is longer
+abbrev pub kept_of : AtomParts → Option AllButName
+kept_of atom = if is_qualifier_kept atom.qualifier && is_bound_kept atom.bound then Some (atom.qualifier, atom.bound) else None
+
+-- the key of an atom that names a name, and what is kept of the atom
+abbrev pub KeptNamer : Type 0
+KeptNamer = AtomKey × Option AllButName
+
+abbrev pub kept_namers_of : List ℕ → Entry → List KeptNamer
+kept_namers_of name e = map (λ (atom : AtomKey × AtomParts). (atom.0, kept_of atom.1)) (filter (is_named name) (keyed_atoms e))
+
+-- the atoms that name a name, in cache order, each with what is kept of it
+abbrev pub kept_namers_named : List ℕ → List Entry → List KeptNamer
+kept_namers_named name es = flat_map (kept_namers_of name) es

@@ -6,7 +6,7 @@ use Rattle.std.specs.Ordering.{is_lt, is_le, is_ge, is_gt}
 use Rattle.ctl_store.specs.declared.stanza_key.StanzaKey.{StanzaKey}
 use Rattle.ctl_store.specs.Keys.{key_cmp, key_of}
 use Rattle.ctl_relation.specs.Parts.{AtomParts}
-use Rattle.ctl_index.specs.Inside.KeptBound.{bound_kept}
+use Rattle.ctl_index.specs.Names.{KeptNamer, kept_of}
 use Rattle.ctl_index.specs.declared.keys.AtomKey.{AtomKey}
 use Rattle.ctl_index.specs.declared.keys.NamingAtom.{NamingAtom}
 use Rattle.ctl_index.specs.declared.keys.OfferKey.{OfferKey}
@@ -20,10 +20,14 @@ namer_stanza namer = namer.stanza
 
 -- an atom among those that name its name, and its key
 abbrev pub namer_of : AtomKey → AtomParts → NamingAtom
-namer_of key atom = record { stanza = key.stanza; group = key.group; atom = key.atom; field = key.field; bound = bound_kept atom.bound }
+namer_of key atom = record { stanza = key.stanza; group = key.group; atom = key.atom; field = key.field; kept = kept_of atom }
 
 abbrev pub namer_key : NamingAtom → AtomKey
 namer_key namer = record { stanza = namer.stanza; field = namer.field; group = namer.group; atom = namer.atom }
+
+-- its key, and what is kept of it
+abbrev pub kept_namer : NamingAtom → KeptNamer
+kept_namer namer = (namer_key namer, namer.kept)
 
 -- whether a key is one of a span
 abbrev pub is_within : Span → StanzaKey → Bool

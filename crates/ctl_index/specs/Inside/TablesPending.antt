@@ -18,7 +18,7 @@ use Rattle.ctl_index.specs.declared.keys.AtomKey.{AtomKey}
 use Rattle.ctl_index.specs.declared.keys.NamingAtom.{NamingAtom}
 use Rattle.ctl_index.specs.declared.keys.OfferKey.{OfferKey}
 use Rattle.ctl_index.specs.Clauses.{is_clause_field, clause_cmp}
-use Rattle.ctl_index.specs.Inside.KeptBound.{with_bound}
+use Rattle.ctl_index.specs.Names.{with_name}
 use Rattle.ctl_index.specs.Inside.TablesOrder.{namer_key}
 
 -- a store, and a plan whose stanzas come, if there is one
@@ -65,9 +65,9 @@ atom_tested s field offers = if is_clause_field field then sum_by (tested_by s) 
 abbrev pub clause_key : AtomKey → ClauseKey
 clause_key k = record { stanza = k.stanza; field = k.field; group = k.group }
 
--- The atom of a namer of this name: with the bound that is kept, else the one that is seen. A qualifier plays no part in a test.
+-- the atom of a namer of this name: what is kept, else what is seen
 abbrev pub atom_told : Pending → List ℕ → NamingAtom → Option AtomParts
-atom_told s name namer = option_or (option_map (with_bound name) namer.bound) (atom_seen s (namer_key namer))
+atom_told s name namer = option_or (option_map (with_name name) namer.kept) (atom_seen s (namer_key namer))
 
 -- whether a namer is one of a clause
 abbrev pub is_namer_of : ClauseKey → NamingAtom → Bool

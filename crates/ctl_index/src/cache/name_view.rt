@@ -8,11 +8,11 @@ ghost use Rattle.ctl_store.specs.Keys.{AreHeld};
 ghost use Rattle.ctl_store.specs.Store.{keyed_of, state_of};
 ghost use Rattle.ctl_policy.specs.Rows.{rows_named, newest_first, keys_of_row};
 ghost use Rattle.ctl_index.specs.HeldCache.{standing};
-ghost use Rattle.ctl_index.specs.Names.{known_names, namers_named};
+ghost use Rattle.ctl_index.specs.Names.{known_names, namers_named, kept_namers_named};
 ghost use Rattle.ctl_index.specs.Offers.{offers_named};
 ghost use Rattle.ctl_index.specs.Work.{stanzas_of_state};
 
-use crate::cache::{Cache, Namers, Offering};
+use crate::cache::{Cache, KeptNamers, Namers, Offering};
 use crate::named::Named;
 use crate::rows::rows_are_defined;
 use ctl_policy::{NewestFirst, rows_are_held, rows_are_shown};
@@ -70,6 +70,16 @@ impl<'a> NameView<'a> {
             None => Namers::new(&[]),
         }
     }
+
+    /// The same atoms, each with what is kept of it.
+    pub fn kept_namers(&self) -> KeptNamers<'a>
+        ensures { result ≡ self.now.kept_namers }
+    {
+        match self.named {
+            Some(named) => KeptNamers::new(named.namers.as_slice()),
+            None => KeptNamers::new(&[]),
+        }
+    }
 }
 
 impl Cache {
@@ -81,6 +91,7 @@ impl Cache {
         ensures held { AllByRecursion (λ row. AreHeld row (keyed_of self.now.store).lists) result.rows }
         ensures offering { IsPermutation (map (λ offer. offer.0) (offers_named name.now (standing self.now.store))) result.offering }
         ensures namers { IsPermutation (namers_named name.now (standing self.now.store)) result.namers }
+        ensures kept { IsPermutation (kept_namers_named name.now (standing self.now.store)) result.kept_namers }
     {
         rows_are_defined();
         rows_are_shown();

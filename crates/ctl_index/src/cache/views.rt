@@ -1,6 +1,6 @@
 //! What a cache tells: its store, and, where it isn't stale, what stands in its tables, lent.
 
-ghost use Rattle.std.specs.Prelude.{◌≡◌, ℕ, List, Some, IsSome, false, map};
+ghost use Rattle.std.specs.Prelude.{◌≡◌, ℕ, List, Some, IsSome, false, map, option_map};
 ghost use Rattle.std.specs.BTreeMap.{get};
 ghost use Rattle.std.specs.List.Sorted.{IsPermutation};
 ghost use Rattle.ctl_relation.specs.Parts.{OfferParts};
@@ -10,9 +10,9 @@ ghost use Rattle.ctl_store.specs.Store.{keyed_of, state_of};
 ghost use Rattle.ctl_index.specs.Clauses.{clause_cmp, clause_at, number_at, unmet_clauses};
 ghost use Rattle.ctl_index.specs.HeldCache.{standing};
 ghost use Rattle.ctl_index.specs.Inside.NameMap.{entry_names};
-ghost use Rattle.ctl_index.specs.Names.{known_names, namers_named};
+ghost use Rattle.ctl_index.specs.Names.{known_names, namers_named, with_name};
 ghost use Rattle.ctl_index.specs.Offers.{offers_named};
-ghost use Rattle.ctl_index.specs.Inside.TablesOrder.{namer_key};
+ghost use Rattle.ctl_index.specs.Inside.TablesOrder.{namer_key, kept_namer};
 ghost use Rattle.ctl_index.specs.Inside.TablesViews.{offering};
 ghost use Rattle.ctl_index.specs.Work.{stanzas_of_state};
 
@@ -23,7 +23,7 @@ use crate::name_entries::NameEntries;
 use crate::packed_clause::PackedClause;
 use crate::pending_store::{PendingStore, offer_at};
 use crate::unmet_set::UnmetClauses;
-use ctl_relation::Offer;
+use ctl_relation::{Atom, Offer};
 use ctl_store::{StanzaKey, Store};
 use std::collections::BTreeMap;
 use std::marker::Model;
@@ -194,6 +194,85 @@ impl<'a> Iterator for Namers<'a> {
         let (namer, rest) = self.namers.split_first()?;
         self.namers = rest;
         Some(namer.key())
+    }
+}
+
+/// An atom that names a name, by [`KeptNamers`]: its key, and what is kept of it.
+#[derive(Drop)]
+pub struct KeptNamer<'a> {
+    namer: &'a NamingAtom,
+}
+
+impl<'a> Model for KeptNamer<'a> {
+    ghost use Rattle.ctl_index.specs.Names.{KeptNamer as KeyAndKept};
+    ghost use Rattle.ctl_index.specs.Inside.TablesOrder.{kept_namer};
+
+    ghost Value = { KeyAndKept };
+
+    ghost view = { λ n. kept_namer n.namer.now };
+}
+
+impl<'a> KeptNamer<'a> {
+    /// The key of the atom.
+    pub fn key(&self) -> AtomKey
+        ensures { result ≡ self.now.0 }
+    {
+        self.namer.key()
+    }
+
+    /// The atom with this name, if it is kept.
+    pub fn atom(&self, name: &'a [u8]) -> Option<Atom<'a>>
+        ensures { result ≡ option_map (with_name name.now) self.now.1 }
+    {
+        self.namer.kept.atom(name)
+    }
+
+    /// The same atom once more.
+    pub fn copied(&self) -> KeptNamer<'a>
+        ensures { result ≡ self.now }
+    {
+        KeptNamer { namer: self.namer }
+    }
+}
+
+/// The atoms that name a name, each with what is kept of it, by [`NameView::kept_namers`](crate::NameView::kept_namers).
+#[derive(Drop)]
+pub struct KeptNamers<'a> {
+    namers: &'a [NamingAtom],
+}
+
+impl<'a> Model for KeptNamers<'a> {
+    ghost use Rattle.std.specs.Prelude.{List, map};
+    ghost use Rattle.ctl_index.specs.Names.{KeptNamer as KeyAndKept};
+    ghost use Rattle.ctl_index.specs.Inside.TablesOrder.{kept_namer};
+
+    ghost Value = { List KeyAndKept };
+
+    ghost view = { λ it. map kept_namer it.namers.now };
+}
+
+impl<'a> KeptNamers<'a> {
+    /// The atoms of these namers.
+    pub(crate) fn new(namers: &'a [NamingAtom]) -> KeptNamers<'a>
+        ensures { result ≡ map kept_namer namers.now }
+    {
+        KeptNamers { namers }
+    }
+}
+
+impl<'a> Iterator for KeptNamers<'a> {
+    ghost use Rattle.std.specs.Iterator.{YieldsFirst, item_count};
+
+    ghost next_gives = { YieldsFirst (λ rest. rest) };
+
+    ghost remaining = { item_count (λ rest. rest) };
+
+    type Item = KeptNamer<'a>;
+
+    fn next(&mut self) -> Option<KeptNamer<'a>> {
+        let (namer, rest) = self.namers.split_first()?;
+        self.namers = rest;
+        Some(KeptNamer { namer })
     }
 }
 

@@ -7,7 +7,7 @@ use Rattle.ctl_store.specs.Keys.{AreHeld}
 use Rattle.ctl_store.specs.Store.{keyed_of, state_of}
 use Rattle.ctl_policy.specs.Rows.{rows_named, newest_first, keys_of_row}
 use Rattle.ctl_index.specs.HeldCache.{HeldCache, standing}
-use Rattle.ctl_index.specs.Names.{known_names, namers_named}
+use Rattle.ctl_index.specs.Names.{known_names, namers_named, kept_namers_named}
 use Rattle.ctl_index.specs.Inside.NameView.{name_standing}
 use Rattle.ctl_index.specs.Inside.TablesByName.{at_name, offers_under, rows_under}
 use Rattle.ctl_index.specs.Inside.TablesViews.{offering, offer_found}
@@ -15,6 +15,7 @@ use Rattle.ctl_index.specs.Offers.{offers_named}
 use Rattle.ctl_relation.specs.Parts.{OfferParts}
 use Rattle.ctl_index.specs.Inside.TablesPending.{AreSeen, in_store}
 use Rattle.ctl_index.specs.Work.{stanzas_of_state}
+use Rattle.ctl_index.proofs.KeptNamerLemmas.{kept_permuted}
 use Rattle.ctl_index.proofs.LawLemmas.{contents_of_state}
 use Rattle.ctl_index.proofs.NameViewLemmas.{rows_of_entry, found_offering}
 use Rattle.ctl_index.proofs.NamesLemmas.{known_there}
@@ -63,6 +64,15 @@ returns-clause-namers c =
     let sees : AreSeen (in_store h) (standing h) = store_seen h (rising_apart (keyed_of h).lists c.counts-counts.ensures.order) in
     subst (λ (w : HeldCache). IsPermutation (namers_named name (standing w.store)) (name_standing (option_copied c.get.result)).namers) c.self.view_is
     (subst (λ o. IsPermutation (namers_named name (standing h)) (name_standing o).namers) (sym c.get.ensures.entry) (namers_permuted h (standing h) c.self.inside.tables was sees name))
+
+pub returns-clause-kept : goal.returns-clause-kept
+returns-clause-kept c =
+    let h = c.self.inside.store in
+    let name = c.args.name.now in
+    let fresh = ap (λ w. w.stale) c.self.view_is ∙ c.requires in
+    let was = (c.self.invariant fresh).0 in
+    subst (λ (w : HeldCache). IsPermutation (kept_namers_named name (standing w.store)) (name_standing (option_copied c.get.result)).kept_namers) c.self.view_is
+    (subst (λ o. IsPermutation (kept_namers_named name (standing h)) (name_standing o).kept_namers) (sym c.get.ensures.entry) (kept_permuted (standing h) c.self.inside.tables was name))
 
 pub returns-clause-offering : goal.returns-clause-offering
 returns-clause-offering c =
