@@ -51,7 +51,7 @@ tail_next all i x xs h j = ap (slice_get all) (let z : suc i + j ≡ i + suc j =
 
 -- ---- what all atoms print
 
-atom_is : (a : LeadAtom) (x : Content) (group : List AtomParts) (atom : AtomParts) → slice_get (groups_of a.field x) a.group ≡ Some group → slice_get group a.atom ≡ Some atom → atom_in a x ≡ Some atom
+pub atom_is : (a : LeadAtom) (x : Content) (group : List AtomParts) (atom : AtomParts) → slice_get (groups_of a.field x) a.group ≡ Some group → slice_get group a.atom ≡ Some atom → atom_in a x ≡ Some atom
 atom_is a x group atom at is = ap (option_and_then (λ (g : List AtomParts). slice_get g a.atom)) at ∙ is
 
 line_is : (leads : List Entry) (name : List ℕ) (a : LeadAtom) (e : Entry) (atom : AtomParts) → slice_get leads a.place ≡ Some e → atom_in a e.1 ≡ Some atom → line_at leads name a ≡ line_if_naming name e.1 a.field atom
@@ -105,7 +105,7 @@ text_of_all leads name = text_from leads name 0 leads (tail_whole leads)
 none_some : {X : Type 0} (x : X) → ◌≡◌ {A = Option X} None (Some x) → ⊥
 none_some x h = cc
 
-some_is : {X : Type 0} (x y : X) → ◌≡◌ {A = Option X} (Some x) (Some y) → x ≡ y
+pub some_is : {X : Type 0} (x y : X) → ◌≡◌ {A = Option X} (Some x) (Some y) → x ≡ y
 some_is {X} x y h = ap (λ (o : Option X). option_map_or (λ z. z) o x) h
 
 true_false : true ≡ false → ⊥
@@ -123,7 +123,7 @@ any_flat : {X Y : Type 0} (p : Y → Bool) (f : X → List Y) (xs : List X) → 
 any_flat p f [] = refl
 any_flat p f (x ∷ xs) = list_any-append p (f x) (flat_map f xs) ∙ ap (λ b. list_any p (f x) || b) (any_flat p f xs)
 
-any_map : {X Y : Type 0} (p : Y → Bool) (f : X → Y) (xs : List X) → list_any p (map f xs) ≡ list_any (λ x. p (f x)) xs
+pub any_map : {X Y : Type 0} (p : Y → Bool) (f : X → Y) (xs : List X) → list_any p (map f xs) ≡ list_any (λ x. p (f x)) xs
 any_map p f [] = refl
 any_map p f (x ∷ xs) = ap (λ b. p (f x) || b) (any_map p f xs)
 
@@ -181,7 +181,7 @@ module _ (d : Entry) (a : LeadAtom) (atom : AtomParts) (p : AtomKey × AtomParts
 
 -- ---- what the atoms that name a name don't stand for
 
-all_at : {X : Type 0} (P : X → Type 0) (xs : List X) (i : ℕ) (x : X) → AllByRecursion P xs → slice_get xs i ≡ Some x → P x
+pub all_at : {X : Type 0} (P : X → Type 0) (xs : List X) (i : ℕ) (x : X) → AllByRecursion P xs → slice_get xs i ≡ Some x → P x
 all_at P [] i x all at = absurd (none_some x at)
 all_at P (y ∷ ys) zero x all at = subst P (some_is y x at) all.0
 all_at P (y ∷ ys) (suc i) x all at = all_at P ys i x all.1 at

@@ -113,7 +113,7 @@ all_map : {X K : Type 0} (P : K → Type 0) (h : X → K) (xs : List X) → AllB
 all_map P h [] a = tt
 all_map P h (x ∷ xs) a = (a.0, all_map P h xs a.1)
 
-sorted_map : {X K : Type 0} (c : K → K → Ordering) (h : X → K) (xs : List X) → IsStrictlySortedBy (λ x y. c (h x) (h y)) xs → IsStrictlySortedBy c (map h xs)
+pub sorted_map : {X K : Type 0} (c : K → K → Ordering) (h : X → K) (xs : List X) → IsStrictlySortedBy (λ x y. c (h x) (h y)) xs → IsStrictlySortedBy c (map h xs)
 unfolding IsStrictlySortedBy
 sorted_map c h [] s = tt
 sorted_map c h (x ∷ xs) s = (all_map (λ k. c (h x) k ≡ Less) h xs s.0, sorted_map c h xs s.1)

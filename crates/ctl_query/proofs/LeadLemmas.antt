@@ -26,7 +26,7 @@ pub alike : {A B : Type 0} (f g : A → List B) → ((x : A) → f x ≡ g x) �
 alike f g same [] = refl
 alike f g same (x ∷ xs) = λ i. same x i ++ alike f g same xs i
 
-all_of_each : {A B : Type 0} (P : B → Type 0) (f : A → List B) → ((x : A) → AllByRecursion P (f x)) → (xs : List A) → AllByRecursion P (flat_map f xs)
+pub all_of_each : {A B : Type 0} (P : B → Type 0) (f : A → List B) → ((x : A) → AllByRecursion P (f x)) → (xs : List A) → AllByRecursion P (flat_map f xs)
 all_of_each P f each [] = tt
 all_of_each P f each (x ∷ xs) = all_append P (f x) (flat_map f xs) (each x) (all_of_each P f each xs)
 

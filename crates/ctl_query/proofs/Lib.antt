@@ -9,6 +9,7 @@ pub mod EnoughLemmas
 pub mod EntryLemmas
 pub mod GroupLemmas
 pub mod InterestLemmas
+pub mod KeptLemmas
 pub mod KnownLemmas
 pub mod LeadAtomLemmas
 pub mod LeadLemmas

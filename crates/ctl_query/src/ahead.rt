@@ -3,7 +3,7 @@
 
 ghost use Rattle.std.specs.Prelude.{◌≡◌, OnOk};
 
-use crate::lead_atoms::LeadAtom;
+use crate::lead_atoms::ListedAtom;
 use crate::lead_table::LeadTable;
 use crate::text::version_text;
 use std::alloc::AllocError;
@@ -15,10 +15,10 @@ const AHEAD: usize = 32;
 const FEW: usize = 4;
 
 // How many bytes the packages and the versions of the leads of atoms have.
-fn bytes_of_leads(table: &LeadTable<'_>, atoms: &[LeadAtom]) -> usize {
+fn bytes_of_leads(table: &LeadTable<'_>, atoms: &[ListedAtom<'_>]) -> usize {
     let mut bytes: usize = 0;
     for atom in atoms {
-        if let Some(lead) = table.lead(atom.place) {
+        if let Some(lead) = table.lead(atom.at.place) {
             let more = lead
                 .package()
                 .len()
@@ -30,30 +30,41 @@ fn bytes_of_leads(table: &LeadTable<'_>, atoms: &[LeadAtom]) -> usize {
 }
 
 // How many groups there are in the fields of atoms.
-fn groups_of_fields(table: &LeadTable<'_>, atoms: &[LeadAtom]) -> usize {
+fn groups_of_fields(table: &LeadTable<'_>, atoms: &[ListedAtom<'_>]) -> usize {
     let mut groups: usize = 0;
     for atom in atoms {
-        if let Some(lead) = table.lead(atom.place) {
-            groups = groups.saturating_add(lead.groups(atom.field).len());
+        if let Some(lead) = table.lead(atom.at.place) {
+            groups = groups.saturating_add(lead.groups(atom.at.field).len());
         }
     }
     groups
 }
 
-// Makes room for what is written of atoms. Most lines take more: what counts is that their parts are gone to.
-fn make_room(table: &LeadTable<'_>, atoms: &[LeadAtom], out: &mut Vec<u8>) -> Result<(), AllocError>
+// Makes room for what is written of atoms. Most lines take more: what counts is that their parts are gone to, the fields of the
+// atoms too where these are read.
+fn make_room(
+    table: &LeadTable<'_>,
+    atoms: &[ListedAtom<'_>],
+    reads_fields: bool,
+    out: &mut Vec<u8>,
+) -> Result<(), AllocError>
     ensures { OnOk result (out.new.items ≡ out.old.items) }
 {
     let bytes = bytes_of_leads(table, atoms);
-    let groups = groups_of_fields(table, atoms);
+    let groups = if reads_fields {
+        groups_of_fields(table, atoms)
+    } else {
+        0
+    };
     out.reserve(bytes.max(groups))
 }
 
 /// Makes room for what is written of the next atoms, where those before are written; in between it does nothing.
 pub(crate) fn look_ahead(
     table: &LeadTable<'_>,
-    atoms: &[LeadAtom],
+    atoms: &[ListedAtom<'_>],
     at: usize,
+    reads_fields: bool,
     out: &mut Vec<u8>,
 ) -> Result<(), AllocError>
     ensures { OnOk result (out.new.items ≡ out.old.items) }
@@ -63,5 +74,5 @@ pub(crate) fn look_ahead(
     }
     let (_, left) = atoms.split_at(at);
     let (ahead, _) = left.split_at(AHEAD.min(left.len()));
-    make_room(table, ahead, out)
+    make_room(table, ahead, reads_fields, out)
 }

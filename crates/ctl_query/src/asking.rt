@@ -11,7 +11,7 @@ ghost use Rattle.ctl_store.specs.Followed.{under};
 ghost use Rattle.ctl_store.specs.Keys.{AreHeld, AreRising};
 ghost use Rattle.ctl_index.specs.Clauses.{clause_at, number_at, unmet_clauses};
 ghost use Rattle.ctl_index.specs.HeldCache.{standing};
-ghost use Rattle.ctl_index.specs.Names.{is_package, namers_named};
+ghost use Rattle.ctl_index.specs.Names.{is_package, namers_named, kept_namers_named};
 ghost use Rattle.ctl_index.specs.Offers.{offers_named};
 ghost use Rattle.ctl_policy.specs.Candidate.{candidate_of};
 ghost use Rattle.ctl_policy.specs.Chosen.{choice_in};
@@ -125,7 +125,7 @@ impl<'a> Asking<'a> {
         ensures held { AllByRecursion (λ row. AreHeld row (keyed_of self.now).lists) result.rows }
         ensures rising { AllByRecursion AreRising result.rows }
         ensures offering { IsPermutation (offering_named self.now name.now) result.offering }
-        ensures namers { IsPermutation (namers_named name.now (standing self.now)) result.namers }
+        ensures kept { IsPermutation (kept_namers_named name.now (standing self.now)) result.kept_namers }
     {
         rows_are_classes();
         // That all keys rise is said here.

@@ -1,16 +1,18 @@
 //! The atoms of leads that name a name, in the order in which `showpkg` tells them.
 
-ghost use Rattle.std.specs.Prelude.{◌≡◌, ◌&&◌, ◌||◌, ◌++◌, nat_eq, OnOk, IfOk, flat_map};
-ghost use Rattle.std.specs.List.{list_any};
+ghost use Rattle.std.specs.Prelude.{◌≡◌, ◌&&◌, ◌||◌, ◌++◌, ℕ, List, nat_eq, OnOk, IfOk, Some, flat_map};
+ghost use Rattle.std.specs.List.{All, list_any};
 ghost use Rattle.std.specs.List.Sorted.{IsStrictlySortedBy};
-ghost use Rattle.ctl_index.specs.declared.keys.AtomKey.{AtomKey};
-ghost use Rattle.ctl_query.specs.Leads.{lead_atom_cmp, is_listed, line_in, line_at, is_at, is_key_of, atom_in};
+ghost use Rattle.ctl_index.specs.Names.{KeptNamer as KeyAndKept};
+ghost use Rattle.ctl_store.specs.Entries.{Entry};
+ghost use Rattle.ctl_query.specs.Leads.{lead_atom_cmp, is_listed, line_in, line_at, is_at, is_key_of, atom_in, key_at};
+ghost use Rattle.ctl_query.specs.ListedAtoms.{places_in, listed_at, IsKeptIn, IsKept, IsKeptOf};
 ghost use Rattle.ctl_query.specs.LeadTable.{lent_leads};
 
 use crate::ahead::look_ahead;
 use crate::lead_lines::append_naming_line;
 use crate::lead_table::LeadTable;
-use ctl_index::{AtomKey, Namers};
+use ctl_index::{KeptNamer, KeptNamers};
 use ctl_relation::{Atom, FieldKind};
 use ctl_stanza::Stanza;
 use ctl_store::{StanzaKey, compare_keys};
@@ -26,93 +28,117 @@ pub(crate) struct LeadAtom {
     pub(crate) atom: u32,
 }
 
-/// Adds the atom that a key names, if the lead at a place has this key.
-fn push_if(
-    atoms: &mut Vec<LeadAtom>,
-    place: usize,
-    lead: &StanzaKey,
-    key: AtomKey,
-) -> Result<(), AllocError>
-    ensures { OnOk result ((a : LeadAtom) → is_listed atoms.new.items a
-        ≡ ((nat_eq a.place place && is_key_of a key lead.now) || is_listed atoms.old.items a)) }
+/// An atom of a lead: where it stands, and what is kept of it beside its key.
+#[derive(Drop)]
+pub(crate) struct ListedAtom<'a> {
+    pub(crate) at: LeadAtom,
+    pub(crate) namer: KeptNamer<'a>,
+}
+
+// The atom that a key names, of the lead at a place.
+fn listed_at<'a>(namer: KeptNamer<'a>, place: usize) -> ListedAtom<'a>
+    ensures { result ≡ listed_at namer.entry place }
 {
-    if compare_keys(lead, &key.stanza).is_eq() {
-        atoms.push(LeadAtom {
+    let key = namer.key();
+    ListedAtom {
+        at: LeadAtom {
             place,
             field: key.field,
             group: key.group,
             atom: key.atom,
-        })?;
+        },
+        namer,
+    }
+}
+
+/// Adds the atom that a key names, if the lead at a place has this key.
+fn push_if<'a>(
+    atoms: &mut Vec<ListedAtom<'a>>,
+    place: usize,
+    lead: &StanzaKey,
+    namer: &KeptNamer<'a>,
+) -> Result<(), AllocError>
+    ensures members { OnOk result ((a : LeadAtom) → is_listed (places_in atoms.new.items) a
+        ≡ ((nat_eq a.place place && is_key_of a namer.now.0 lead.now) || is_listed (places_in atoms.old.items) a)) }
+    ensures kept { OnOk result ((leads : List Entry) (name : List ℕ) → key_at leads place ≡ Some lead.now
+        → IsKeptOf leads name namer.now → All (IsKept leads name) atoms.old.items → All (IsKept leads name) atoms.new.items) }
+{
+    if compare_keys(lead, &namer.key().stanza).is_eq() {
+        atoms.push(listed_at(namer.copied(), place))?;
     }
     Ok(())
 }
 
 /// Adds the atom that a key names, of each lead that has its key. They are gone through one by one.
-fn push_each(
-    atoms: &mut Vec<LeadAtom>,
+fn push_each<'a>(
+    atoms: &mut Vec<ListedAtom<'a>>,
     leads: &[(StanzaKey, &Stanza)],
-    key: AtomKey,
+    namer: &KeptNamer<'a>,
 ) -> Result<(), AllocError>
-    ensures { OnOk result ((a : LeadAtom) → is_listed atoms.new.items a
-        ≡ (is_at (lent_leads leads.now) key a || is_listed atoms.old.items a)) }
+    ensures members { OnOk result ((a : LeadAtom) → is_listed (places_in atoms.new.items) a
+        ≡ (is_at (lent_leads leads.now) namer.now.0 a || is_listed (places_in atoms.old.items) a)) }
+    ensures kept { OnOk result ((name : List ℕ) → IsKeptOf (lent_leads leads.now) name namer.now
+        → All (IsKept (lent_leads leads.now) name) atoms.old.items → All (IsKept (lent_leads leads.now) name) atoms.new.items) }
 {
     for place in 0..leads.len() {
-        push_if(atoms, place, &leads[place].0, key)?;
+        push_if(atoms, place, &leads[place].0, namer)?;
     }
     Ok(())
 }
 
 /// Adds the atom that a key names, if its stanza is a lead.
-fn push_atom(
-    atoms: &mut Vec<LeadAtom>,
+fn push_atom<'a>(
+    atoms: &mut Vec<ListedAtom<'a>>,
     table: &LeadTable<'_>,
-    key: AtomKey,
+    namer: KeptNamer<'a>,
 ) -> Result<(), AllocError>
-    ensures { OnOk result ((a : LeadAtom) → is_listed atoms.new.items a ≡ (is_at table.now key a || is_listed atoms.old.items a)) }
+    ensures members { OnOk result ((a : LeadAtom) → is_listed (places_in atoms.new.items) a
+        ≡ (is_at table.now namer.entry.0 a || is_listed (places_in atoms.old.items) a)) }
+    ensures kept { OnOk result ((name : List ℕ) → IsKeptOf table.now name namer.entry
+        → All (IsKept table.now name) atoms.old.items → All (IsKept table.now name) atoms.new.items) }
 {
-    match table.place(key.stanza) {
+    match table.place(namer.key().stanza) {
         Some(Some(place)) => {
-            atoms.push(LeadAtom {
-                place,
-                field: key.field,
-                group: key.group,
-                atom: key.atom,
-            })?;
+            atoms.push(listed_at(namer, place))?;
             Ok(())
         }
         Some(None) => Ok(()),
-        None => push_each(atoms, table.leads(), key),
+        None => push_each(atoms, table.leads(), &namer),
     }
 }
 
 /// Puts atoms in order, each once.
-fn put_in_order(atoms: &mut Vec<LeadAtom>)
-    ensures order { IsStrictlySortedBy lead_atom_cmp atoms.new.items }
-    ensures members { (a : LeadAtom) → is_listed atoms.new.items a ≡ is_listed atoms.old.items a }
+fn put_in_order(atoms: &mut Vec<ListedAtom<'_>>)
+    ensures order { IsStrictlySortedBy lead_atom_cmp (places_in atoms.new.items) }
+    ensures members { (a : LeadAtom) → is_listed (places_in atoms.new.items) a ≡ is_listed (places_in atoms.old.items) a }
+    ensures kept { (leads : List Entry) (name : List ℕ) → All (IsKept leads name) atoms.old.items
+        → All (IsKept leads name) atoms.new.items }
 {
-    atoms.sort_unstable();
-    atoms.dedup();
+    atoms.sort_unstable_by_key(|listed| listed.at);
+    atoms.dedup_by(|a, b| a.at == b.at);
 }
 
 /// The atoms of leads that name what these keys name, in order, each once.
-pub(crate) fn list_atoms(
+pub(crate) fn list_atoms<'a>(
     alloc: Global,
     table: &LeadTable<'_>,
-    namers: Namers<'_>,
-) -> Result<Vec<LeadAtom>, AllocError>
-    ensures order { IfOk result (λ atoms. IsStrictlySortedBy lead_atom_cmp atoms.items) }
-    ensures members { IfOk result (λ atoms. (a : LeadAtom) → is_listed atoms.items a
-        ≡ list_any (λ (k : AtomKey). is_at table.now k a) namers.entry) }
+    namers: KeptNamers<'a>,
+) -> Result<Vec<ListedAtom<'a>>, AllocError>
+    ensures order { IfOk result (λ atoms. IsStrictlySortedBy lead_atom_cmp (places_in atoms.items)) }
+    ensures members { IfOk result (λ atoms. (a : LeadAtom) → is_listed (places_in atoms.items) a
+        ≡ list_any (λ (n : KeyAndKept). is_at table.now n.0 a) namers.entry) }
+    ensures kept { IfOk result (λ atoms. (name : List ℕ) → All (IsKeptOf table.now name) namers.entry
+        → All (IsKept table.now name) atoms.items) }
 {
     let mut atoms = Vec::new(alloc);
-    'keys: for key in namers {
-        push_atom(&mut atoms, table, key)?;
+    'namers: for namer in namers {
+        push_atom(&mut atoms, table, namer)?;
     }
     put_in_order(&mut atoms);
     Ok(atoms)
 }
 
-/// The atom of a lead, if it is there.
+/// The atom of a lead, if it is there, read in its field.
 fn atom_in(lead: &Stanza, atom: LeadAtom) -> Option<Atom<'_>>
     ensures { result ≡ atom_in atom lead.now }
 {
@@ -120,19 +146,31 @@ fn atom_in(lead: &Stanza, atom: LeadAtom) -> Option<Atom<'_>>
     group.get(atom.atom as usize)
 }
 
+/// The same of an atom that names a name. What is kept of it is not read again.
+fn atom_naming<'a>(lead: &'a Stanza, name: &'a [u8], listed: &'a ListedAtom<'_>) -> Option<Atom<'a>>
+    requires { IsKeptIn lead.now name.now listed.now }
+    ensures { result ≡ atom_in listed.now.at lead.now }
+{
+    match listed.namer.atom(name) {
+        Some(atom) => Some(atom),
+        None => atom_in(lead, listed.at),
+    }
+}
+
 /// Appends the line of an atom of a lead, if it has the name.
 fn append_atom_in(
     lead: &Stanza,
     name: &[u8],
-    atom: LeadAtom,
+    listed: &ListedAtom<'_>,
     out: &mut Vec<u8>,
 ) -> Result<(), AllocError>
-    ensures { OnOk result (out.new.items ≡ out.old.items ++ line_in name.now atom lead.now) }
+    requires { IsKeptIn lead.now name.now listed.now }
+    ensures { OnOk result (out.new.items ≡ out.old.items ++ line_in name.now listed.now.at lead.now) }
 {
-    match atom_in(lead, atom) {
+    match atom_naming(lead, name, listed) {
         Some(found) => {
             if found.name() == name {
-                append_naming_line(lead, atom.field, &found, out)?;
+                append_naming_line(lead, listed.at.field, &found, out)?;
             }
             Ok(())
         }
@@ -144,13 +182,14 @@ fn append_atom_in(
 fn append_atom(
     table: &LeadTable<'_>,
     name: &[u8],
-    atom: LeadAtom,
+    listed: &ListedAtom<'_>,
     out: &mut Vec<u8>,
 ) -> Result<(), AllocError>
-    ensures { OnOk result (out.new.items ≡ out.old.items ++ line_at table.now name.now atom) }
+    requires { IsKept table.now name.now listed.now }
+    ensures { OnOk result (out.new.items ≡ out.old.items ++ line_at table.now name.now listed.now.at) }
 {
-    match table.lead(atom.place) {
-        Some(lead) => append_atom_in(lead, name, atom, out),
+    match table.lead(listed.at.place) {
+        Some(lead) => append_atom_in(lead, name, listed, out),
         None => Ok(()),
     }
 }
@@ -159,14 +198,15 @@ fn append_atom(
 pub(crate) fn append_atoms(
     table: &LeadTable<'_>,
     name: &[u8],
-    atoms: &[LeadAtom],
+    atoms: &[ListedAtom<'_>],
     out: &mut Vec<u8>,
 ) -> Result<(), AllocError>
-    ensures { OnOk result (out.new.items ≡ out.old.items ++ flat_map (line_at table.now name.now) atoms.now) }
+    requires { All (IsKept table.now name.now) atoms.now }
+    ensures { OnOk result (out.new.items ≡ out.old.items ++ flat_map (λ (listed : ListedAtom). line_at table.now name.now listed.at) atoms.now) }
 {
     for at in 0..atoms.len() {
-        look_ahead(table, atoms, at, out)?;
-        append_atom(table, name, atoms[at], out)?;
+        look_ahead(table, atoms, at, false, out)?;
+        append_atom(table, name, &atoms[at], out)?;
     }
     Ok(())
 }

@@ -174,11 +174,11 @@ pub(crate) fn append_by_atoms(
 {
     rows_are_classes();
     stanzas_are_found(asking);
-    let atoms = list_atoms(asking.alloc(), table, asking.namers(name))?;
+    let atoms = list_atoms(asking.alloc(), table, asking.view(name).kept_namers())?;
     let mut found = None;
     for at in 0..atoms.len() {
-        look_ahead(table, &atoms, at, out)?;
-        let naming = naming_at(table, name, atoms[at]);
+        look_ahead(table, &atoms, at, true, out)?;
+        let naming = naming_at(table, name, atoms[at].at);
         found = append_next(asking, installed, found, naming, out)?;
     }
     append_found(asking, installed, found, out)?;

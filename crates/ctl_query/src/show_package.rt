@@ -6,7 +6,7 @@ ghost use Rattle.std.specs.List.Sorted.{IsPermutation};
 ghost use Rattle.ctl_store.specs.Store.{keyed_of};
 ghost use Rattle.ctl_store.specs.Keys.{AreHeld, AreRising};
 ghost use Rattle.ctl_index.specs.HeldCache.{standing};
-ghost use Rattle.ctl_index.specs.Names.{namers_named};
+ghost use Rattle.ctl_index.specs.Names.{kept_namers_named};
 ghost use Rattle.ctl_policy.specs.Priority.{world_of};
 ghost use Rattle.ctl_policy.specs.Rows.{sources_of};
 ghost use Rattle.ctl_query.specs.Interest.{offering_named};
@@ -29,7 +29,7 @@ use crate::policy::row_version;
 use crate::row_sources::RowSources;
 use crate::text::append_unknown;
 use ctl_filter::{append_line, append_parts};
-use ctl_index::{NameView, Namers, Offering};
+use ctl_index::{KeptNamers, NameView, Offering};
 use ctl_policy::{NewestFirst, rows_are_classes};
 use ctl_relation::Bytes;
 use ctl_store::{StanzaKey, Store};
@@ -68,12 +68,12 @@ fn append_version(store: &Store, row: &[StanzaKey], out: &mut Vec<u8>) -> Result
 fn append_by_atoms(
     asking: &Asking<'_>,
     table: &LeadTable<'_>,
-    namers: Namers<'_>,
+    namers: KeptNamers<'_>,
     name: &[u8],
     out: &mut Vec<u8>,
 ) -> Result<(), AllocError>
     requires enough { AreEnough asking.now name.now table.now }
-    requires namers { IsPermutation (namers_named name.now (standing asking.now)) namers }
+    requires namers { IsPermutation (kept_namers_named name.now (standing asking.now)) namers }
     ensures { OnOk result (out.new.items ≡ out.old.items ++ of_all_rows (world_of asking.now) (naming_lines name.now)) }
 {
     rows_are_classes();
@@ -88,12 +88,12 @@ fn append_by_atoms(
 fn append_naming(
     asking: &Asking<'_>,
     table: Option<&LeadTable<'_>>,
-    namers: Namers<'_>,
+    namers: KeptNamers<'_>,
     name: &[u8],
     out: &mut Vec<u8>,
 ) -> Result<(), AllocError>
     requires leads { IfSome table (λ table. table.now ≡ leads_of (world_of asking.now)) }
-    requires namers { IsPermutation (namers_named name.now (standing asking.now)) namers }
+    requires namers { IsPermutation (kept_namers_named name.now (standing asking.now)) namers }
     ensures { OnOk result (out.new.items ≡ out.old.items ++ of_all_rows (world_of asking.now) (naming_lines name.now)) }
 {
     match table {
@@ -175,12 +175,12 @@ fn show_versions(
 fn show_namers(
     asking: &Asking<'_>,
     table: Option<&LeadTable<'_>>,
-    namers: Namers<'_>,
+    namers: KeptNamers<'_>,
     name: &[u8],
     out: &mut Vec<u8>,
 ) -> Result<(), AllocError>
     requires leads { IfSome table (λ table. table.now ≡ leads_of (world_of asking.now)) }
-    requires namers { IsPermutation (namers_named name.now (standing asking.now)) namers }
+    requires namers { IsPermutation (kept_namers_named name.now (standing asking.now)) namers }
     ensures { OnOk result (out.new.items ≡ out.old.items ++ (line (codes "Reverse Depends:" ∷ [])
         ++ of_all_rows (world_of asking.now) (naming_lines name.now))) }
 {
@@ -238,12 +238,12 @@ fn append_known(
     requires held { AllByRecursion (λ row. AreHeld row (keyed_of asking.now).lists) view.now.rows }
     requires rising { AllByRecursion AreRising view.now.rows }
     requires offering { IsPermutation (offering_named asking.now name.now) view.now.offering }
-    requires namers { IsPermutation (namers_named name.now (standing asking.now)) view.now.namers }
+    requires namers { IsPermutation (kept_namers_named name.now (standing asking.now)) view.now.kept_namers }
     ensures { OnOk result (out.new.items ≡ out.old.items ++ show_package_one (world_of asking.now) name.now) }
 {
     append_line(out, &[b"Package: ", name])?;
     show_versions(asking, view.rows(), out)?;
-    show_namers(asking, table, view.namers(), name, out)?;
+    show_namers(asking, table, view.kept_namers(), name, out)?;
     show_relations(asking.store(), view.rows(), out)?;
     show_entries(asking.store(), view.rows(), out)?;
     show_providers(asking, view.offering(), name, out)

@@ -1,10 +1,13 @@
-use Rattle.std.proofs.Common.{◌≡◌, ◌||◌}
-use Rattle.std.specs.List.{list_any}
-use Rattle.ctl_index.specs.declared.keys.AtomKey.{AtomKey}
+use Rattle.std.proofs.Common.{◌≡◌, ◌||◌, ℕ, List}
+use Rattle.std.specs.List.{All, list_any}
+use Rattle.ctl_index.specs.Names.{KeptNamer}
 use Rattle.ctl_query.specs.declared.lead_atoms.LeadAtom.{LeadAtom}
 use Rattle.ctl_query.specs.Leads.{is_listed, is_at}
+use Rattle.ctl_query.specs.ListedAtoms.{places_in, IsKept, IsKeptOf}
 use Rattle.ctl_query.proofs.lead_atoms.list_atoms.Given as goal
 
--- the atoms so far and those of the keys that are left are those of all keys
-abbrev pub invariant-keys : goal.invariant-keys
-invariant-keys l = (a : LeadAtom) → (list_any (λ (k : AtomKey). is_at l.table k a) l.key-iterator || is_listed l.atoms.items a) ≡ list_any (λ (k : AtomKey). is_at l.table k a) l.initial.key-iterator
+-- The atoms so far and those of the keys that are left are those of all keys. What is kept of them is so of those so far.
+abbrev pub invariant-namers : goal.invariant-namers
+invariant-namers l =
+    ((a : LeadAtom) → (list_any (λ (n : KeptNamer). is_at l.table n.0 a) l.namer-iterator || is_listed (places_in l.atoms.items) a) ≡ list_any (λ (n : KeptNamer). is_at l.table n.0 a) l.initial.namer-iterator)
+    × ((name : List ℕ) → All (IsKeptOf l.table name) l.initial.namer-iterator → All (IsKeptOf l.table name) l.namer-iterator × All (IsKept l.table name) l.atoms.items)
