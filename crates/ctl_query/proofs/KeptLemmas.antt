@@ -21,7 +21,7 @@ use Rattle.ctl_index.specs.Names.{naming_fields, keyed_group, keyed_groups, keye
 use Rattle.ctl_query.specs.declared.lead_atoms.LeadAtom.{LeadAtom}
 use Rattle.ctl_query.specs.Leads.{atom_in, atom_of, key_at, is_at}
 use Rattle.ctl_query.specs.LeadTable.{AreEnough}
-use Rattle.ctl_query.specs.ListedAtoms.{listed_at, IsKept, IsKeptOf}
+use Rattle.ctl_query.specs.Inside.ListedAtoms.{listed_at, IsKept, IsKeptOf}
 use Rattle.ctl_query.proofs.AtomLemmas.{IsTail, tail_whole, tail_head, tail_next, atom_is, all_at, some_is}
 use Rattle.ctl_query.proofs.AtomOrderLemmas.{all_append}
 use Rattle.ctl_query.proofs.LeadLemmas.{all_of_each, leads_held}

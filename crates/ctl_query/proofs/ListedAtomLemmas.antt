@@ -21,7 +21,7 @@ use Rattle.ctl_query.specs.declared.lead_atoms.LeadAtom.{LeadAtom}
 use Rattle.ctl_query.specs.declared.lead_atoms.ListedAtom.{ListedAtom}
 use Rattle.ctl_query.specs.Leads.{lead_atom_cmp, atom_of, is_key_of, is_at, is_listed, key_at}
 use Rattle.ctl_query.specs.LeadTable.{lent_leads}
-use Rattle.ctl_query.specs.ListedAtoms.{places_in, listed_at, IsKept, IsKeptOf}
+use Rattle.ctl_query.specs.Inside.ListedAtoms.{places_in, listed_at, IsKept, IsKeptOf}
 use Rattle.ctl_query.proofs.AtomLemmas.{any_map}
 use Rattle.ctl_query.proofs.AtomOrderLemmas.{lead_atoms_total}
 use Rattle.ctl_query.proofs.LeadAtomLemmas.{nat_itself, tie_is, key_tie}

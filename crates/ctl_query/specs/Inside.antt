@@ -1,4 +1,5 @@
 -- How this crate's own functions go about the answers. Callers need none of it.
+pub mod ListedAtoms
 pub mod Namings
 pub mod Repeats
 pub mod RowSources

@@ -18,5 +18,4 @@ pub mod Holdings
 pub mod Anew
 pub mod Leads
 pub mod LeadTable
-pub mod ListedAtoms
 pub mod Inside

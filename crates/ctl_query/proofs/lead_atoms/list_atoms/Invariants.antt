@@ -3,7 +3,7 @@ use Rattle.std.specs.List.{All, list_any}
 use Rattle.ctl_index.specs.Names.{KeptNamer}
 use Rattle.ctl_query.specs.declared.lead_atoms.LeadAtom.{LeadAtom}
 use Rattle.ctl_query.specs.Leads.{is_listed, is_at}
-use Rattle.ctl_query.specs.ListedAtoms.{places_in, IsKept, IsKeptOf}
+use Rattle.ctl_query.specs.Inside.ListedAtoms.{places_in, IsKept, IsKeptOf}
 use Rattle.ctl_query.proofs.lead_atoms.list_atoms.Given as goal
 
 -- The atoms so far and those of the keys that are left are those of all keys. What is kept of them is so of those so far.

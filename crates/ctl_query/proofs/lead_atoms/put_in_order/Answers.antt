@@ -9,7 +9,7 @@ use Rattle.std.specs.List.Sorted.{IsStrictlySortedBy}
 use Rattle.std.specs.Ordering.{is_eq}
 use Rattle.ctl_query.specs.declared.lead_atoms.ListedAtom.{ListedAtom}
 use Rattle.ctl_query.specs.Leads.{lead_atom_cmp, is_listed}
-use Rattle.ctl_query.specs.ListedAtoms.{places_in, IsKept}
+use Rattle.ctl_query.specs.Inside.ListedAtoms.{places_in, IsKept}
 use Rattle.ctl_query.proofs.AtomOrderLemmas.{lead_atoms_total, sorted_map}
 use Rattle.ctl_query.proofs.ListedAtomLemmas.{same_place, same_place_is, kept_once}
 use Rattle.ctl_query.proofs.lead_atoms.put_in_order.Goals as goal

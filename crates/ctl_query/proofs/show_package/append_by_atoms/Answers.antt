@@ -5,7 +5,7 @@ use Rattle.ctl_index.specs.HeldCache.{standing}
 use Rattle.ctl_query.specs.declared.lead_atoms.LeadAtom.{LeadAtom}
 use Rattle.ctl_query.specs.declared.lead_atoms.ListedAtom.{ListedAtom}
 use Rattle.ctl_query.specs.Leads.{line_at, is_at}
-use Rattle.ctl_query.specs.ListedAtoms.{places_in, IsKept}
+use Rattle.ctl_query.specs.Inside.ListedAtoms.{places_in, IsKept}
 use Rattle.ctl_query.proofs.KeptLemmas.{any_named, namers_are_kept}
 use Rattle.ctl_query.proofs.LeadNamingLemmas.{atoms_are_enough}
 use Rattle.ctl_query.proofs.ListedAtomLemmas.{of_places}
