@@ -1,5 +1,5 @@
 -- What is kept of the atoms that name a name is what stands in the leads.
-use Rattle.std.proofs.Common.{◌≡◌, ◌∙◌, ℕ, suc, Bool, true, false, cond, ◌&&◌, ◌||◌, List, [], ◌∷◌, ◌++◌, map, slice_get, flat_map, Option, None, Some, refl, sym, ap}
+use Rattle.std.proofs.Common.{◌≡◌, ◌∙◌, ℕ, suc, Bool, true, false, cond, ◌&&◌, ◌||◌, List, [], ◌∷◌, map, slice_get, Option, None, Some, refl, sym, ap}
 use Rattle.std.specs.Prelude.{IfSome}
 use Rattle.std.specs.List.{All, AllByRecursion, list_any, filter}
 use Rattle.std.specs.List.Sorted.{IsPermutation}
@@ -18,10 +18,9 @@ use Rattle.ctl_store.specs.Store.{Held, keyed_of}
 use Rattle.ctl_index.specs.declared.keys.AtomKey.{AtomKey}
 use Rattle.ctl_index.specs.HeldCache.{standing}
 use Rattle.ctl_index.specs.Names.{naming_fields, keyed_group, keyed_groups, keyed_atoms, is_named, namers_of, namers_named, AllButName, KeptNamer, with_name, is_qualifier_kept, is_bound_kept, kept_of, kept_namers_of, kept_namers_named}
-use Rattle.ctl_query.specs.declared.lead_atoms.LeadAtom.{LeadAtom}
-use Rattle.ctl_query.specs.Leads.{atom_in, atom_of, key_at, is_at}
+use Rattle.ctl_query.specs.Leads.{atom_in, atom_of}
 use Rattle.ctl_query.specs.LeadTable.{AreEnough}
-use Rattle.ctl_query.specs.Inside.ListedAtoms.{listed_at, IsKept, IsKeptOf}
+use Rattle.ctl_query.specs.Inside.ListedAtoms.{IsKeptOf}
 use Rattle.ctl_query.proofs.AtomLemmas.{IsTail, tail_whole, tail_head, tail_next, atom_is, all_at, some_is}
 use Rattle.ctl_query.proofs.AtomOrderLemmas.{all_append}
 use Rattle.ctl_query.proofs.LeadLemmas.{all_of_each, leads_held}
