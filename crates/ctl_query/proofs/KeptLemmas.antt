@@ -20,7 +20,7 @@ use Rattle.ctl_index.specs.HeldCache.{standing}
 use Rattle.ctl_index.specs.Names.{naming_fields, keyed_group, keyed_groups, keyed_atoms, is_named, namers_of, namers_named, AllButName, KeptNamer, with_name, is_qualifier_kept, is_bound_kept, kept_of, kept_namers_of, kept_namers_named}
 use Rattle.ctl_query.specs.Leads.{atom_in, atom_of}
 use Rattle.ctl_query.specs.LeadTable.{AreEnough}
-use Rattle.ctl_query.specs.Inside.ListedAtoms.{IsKeptOf}
+use Rattle.ctl_query.specs.Inside.ListedAtoms.{listed_at, IsKeptIn, IsKeptOf}
 use Rattle.ctl_query.proofs.AtomLemmas.{IsTail, tail_whole, tail_head, tail_next, atom_is, all_at, some_is}
 use Rattle.ctl_query.proofs.AtomOrderLemmas.{all_append}
 use Rattle.ctl_query.proofs.LeadLemmas.{all_of_each, leads_held}
@@ -84,16 +84,19 @@ module _ (lists : List (List ℕ × KeyedList)) (leads : List Entry) (held : All
   is_kept : (d : Entry) → stanza_at d.0 lists ≡ Some d.1 → (y : AtomKey × AtomParts) → Stands d y → bytes_eq y.1.name name ≡ true → IsKeptOf leads name (y.0, kept_of y.1)
   is_kept d at y stands named i key = by (slice_get leads i) refl key
     where
+      named_there : (e : Entry) → e.1 ≡ d.1 → option_map (λ (atom : AtomParts). atom.name) (atom_in (atom_of y.0 i) e.1) ≡ Some name
+      named_there e same = ap (λ (o : Option AtomParts). option_map (λ (atom : AtomParts). atom.name) o) (ap (atom_in (atom_of y.0 i)) same ∙ stands.1 i) ∙ ap Some ((bytes_eq-Decides y.1.name name).0 named)
+
       told : (e : Entry) → e.1 ≡ d.1 → (kept : Bool) → IfSome (cond kept (Some (y.1.qualifier, y.1.bound)) None) (λ (rest : AllButName). atom_in (atom_of y.0 i) e.1 ≡ Some (with_name name rest))
       told e same true = ap (atom_in (atom_of y.0 i)) same ∙ stands.1 i ∙ (λ j. Some (record { name = (bytes_eq-Decides y.1.name name).0 named j; qualifier = y.1.qualifier; bound = y.1.bound }))
       told e same false = tt
 
-      by : (o : Option Entry) → slice_get leads i ≡ o → option_map (λ (e : Entry). e.0) o ≡ Some y.0.stanza → IfSome o (λ (e : Entry). IfSome (kept_of y.1) (λ rest. atom_in (atom_of y.0 i) e.1 ≡ Some (with_name name rest)))
+      by : (o : Option Entry) → slice_get leads i ≡ o → option_map (λ (e : Entry). e.0) o ≡ Some y.0.stanza → IfSome o (λ (e : Entry). IsKeptIn e.1 name (listed_at (y.0, kept_of y.1) i))
       by None is k = tt
       by (Some e) is k =
-          told e
-          (some_is e.1 d.1 (sym (all_at (λ (e : Entry). stanza_at e.0 lists ≡ Some e.1) leads i e held is) ∙ ap (λ s. stanza_at s lists) (some_is e.0 y.0.stanza k ∙ stands.0) ∙ at))
-          (is_qualifier_kept y.1.qualifier && is_bound_kept y.1.bound)
+          let same : e.1 ≡ d.1 =
+          some_is e.1 d.1 (sym (all_at (λ (e : Entry). stanza_at e.0 lists ≡ Some e.1) leads i e held is) ∙ ap (λ s. stanza_at s lists) (some_is e.0 y.0.stanza k ∙ stands.0) ∙ at) in
+          (named_there e same, told e same (is_qualifier_kept y.1.qualifier && is_bound_kept y.1.bound))
 
   are_kept : (d : Entry) → stanza_at d.0 lists ≡ Some d.1 → (ys : List (AtomKey × AtomParts)) → AllByRecursion (Stands d) ys → AllByRecursion (IsKeptOf leads name) (map (λ (y : AtomKey × AtomParts). (y.0, kept_of y.1)) (filter (is_named name) ys))
   are_kept d at [] stand = tt

@@ -10,7 +10,7 @@ use Rattle.ctl_index.specs.HeldCache.{standing}
 use Rattle.ctl_index.specs.Names.{namers_named}
 use Rattle.ctl_policy.specs.Priority.{world_of}
 use Rattle.ctl_query.specs.declared.lead_atoms.LeadAtom.{LeadAtom}
-use Rattle.ctl_query.specs.Inside.Namings.{namings_at, lines_behind}
+use Rattle.ctl_query.specs.Inside.Namings.{lines_behind}
 use Rattle.ctl_query.specs.Leads.{leads_of, line_at, is_at, lead_atom_cmp}
 use Rattle.ctl_query.specs.LeadTable.{AreEnough}
 use Rattle.ctl_query.specs.Packages.{packages_of, of_rows, of_all_rows}
@@ -22,7 +22,7 @@ use Rattle.ctl_query.proofs.AtomOrderLemmas.{atoms_sorted, of_two}
 use Rattle.ctl_query.proofs.ClassLemmas.{AreClasses}
 use Rattle.ctl_query.proofs.EnoughLemmas.{askers_are_enough, naming_is_enough}
 use Rattle.ctl_query.proofs.LeadLemmas.{told_of_leads, leads_held}
-use Rattle.ctl_query.proofs.NamingAtomLemmas.{atoms_tell, namings_of}
+use Rattle.ctl_query.proofs.NamingAtomLemmas.{atoms_tell, namings_named, namings_of}
 
 -- the leads of all packages are enough
 pub all_are_enough : (store : Held) (name : List ℕ) (leads : List Entry) → leads ≡ leads_of (world_of store) → AreEnough store name leads
@@ -41,7 +41,7 @@ module _ (classes : AreClasses) (store : Held) (at : AreAt (standing store) (key
       ∙ ⊎_elim (λ all. ap (flat_map (of_rows (world_of store) (naming_lines name))) all) (λ some. naming_is_enough classes store at name enough.0 some.0 some.1) enough.2
 
   -- and for the lines of all packages
-  pub lines_are_enough : (installed : Bool) → lines_behind (world_of store) installed None (flat_map (namings_at leads name) atoms) ≡ flat_map (asking_line (world_of store) installed name) (packages_of (world_of store))
+  pub lines_are_enough : (installed : Bool) → lines_behind (world_of store) installed None (flat_map (namings_named leads name) atoms) ≡ flat_map (asking_line (world_of store) installed name) (packages_of (world_of store))
   lines_are_enough installed =
       ap (lines_behind (world_of store) installed None) (atoms_tell store name enough.0 leads enough.1 atoms sorted members)
       ∙ ⊎_elim

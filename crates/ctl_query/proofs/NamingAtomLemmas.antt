@@ -1,6 +1,9 @@
 -- The atoms of leads that name a name: by them it is told of each lead which of its atoms do.
 use Rattle.std.proofs.Common.{◌≡◌, ◌∙◌, ℕ, zero, suc, ◌+◌, Bool, true, false, cond, not, nat_lt, List, [], ◌∷◌, ◌++◌, length, map, slice_get, flat_map, Option, None, Some, refl, sym, ap, option_map, arith}
-use Rattle.std.specs.List.{list_any}
+use Rattle.std.specs.List.{All, list_any}
+use Rattle.std.specs.Prelude.{IfSome}
+use Rattle.std.proofs.lemmas.List.Elements.{All-head, All-tail}
+use Rattle.std.proofs.lemmas.Slice.Eq.{bytes_eq-Decides}
 use Rattle.std.specs.List.Sorted.{IsStrictlySortedBy}
 use Rattle.std.specs.Option.{option_map_or, option_and_then, option_to_list, is_some}
 use Rattle.std.specs.Ordering.{is_eq}
@@ -18,19 +21,61 @@ use Rattle.ctl_index.specs.HeldCache.{standing}
 use Rattle.ctl_index.specs.Names.{naming_fields, keyed_group, keyed_groups, namers_named}
 use Rattle.ctl_policy.specs.Priority.{world_of}
 use Rattle.ctl_query.specs.declared.lead_atoms.LeadAtom.{LeadAtom}
-use Rattle.ctl_query.specs.Inside.Namings.{Naming, further_if_named, further_in, naming_in, namings_at}
+use Rattle.ctl_query.specs.declared.lead_atoms.ListedAtom.{ListedAtom}
+use Rattle.ctl_query.specs.Inside.ListedAtoms.{IsKept, IsKeptIn}
+use Rattle.ctl_query.specs.Inside.Namings.{Naming, naming_in, namings_at}
 use Rattle.ctl_query.specs.Leads.{lead_atom_cmp, line_at, is_at, atom_of, leads_named}
 use Rattle.ctl_query.specs.Packages.{is_none_of, of_rows}
 use Rattle.ctl_query.specs.ReverseDepends.{naming_in_group, naming_in_field, naming_in_lead}
 use Rattle.ctl_query.specs.ShowPackage.{naming_line, line_if_naming}
 use Rattle.ctl_filter.specs.Texts.{line, joined}
-use Rattle.ctl_query.proofs.AtomLemmas.{IsTail, tail_whole, tail_head, tail_next, atoms_in, atoms_from, outside_silent, named_is_naming}
+use Rattle.ctl_query.proofs.AtomLemmas.{IsTail, tail_whole, tail_head, tail_next, atoms_in, atoms_from, outside_silent, named_is_naming, some_is}
 use Rattle.ctl_query.proofs.AtomOrderLemmas.{atoms_sorted, of_two}
 use Rattle.ctl_query.proofs.LeadLemmas.{told_of_leads, leads_held}
 
 -- the atoms of a lead that name a name, each with the package of the lead
 abbrev pub namings_of : List ℕ → Content → List Naming
 namings_of name lead = map (λ (further : Bool). (package_of lead, further)) (naming_in_lead name lead)
+
+-- ---- where an atom has the name
+
+-- whether a further alternative follows it
+abbrev further_if_named : List ℕ → ℕ → List AtomParts → AtomParts → Option Bool
+further_if_named name i group atom = cond (bytes_eq atom.name name) (Some (nat_lt (i + 1) (length group))) None
+
+abbrev further_in : List ℕ → ℕ → List AtomParts → Option Bool
+further_in name i group = option_and_then (further_if_named name i group) (slice_get group i)
+
+abbrev naming_if_named : List ℕ → LeadAtom → Content → Option Naming
+naming_if_named name a lead = option_map (λ further. (package_of lead, further)) (option_and_then (further_in name a.atom) (slice_get (groups_of a.field lead) a.group))
+
+abbrev pub namings_named : List Entry → List ℕ → LeadAtom → List Naming
+namings_named leads name a = option_to_list (option_and_then (λ (e : Entry). naming_if_named name a e.1) (slice_get leads a.place))
+
+one_named : (leads : List Entry) (name : List ℕ) (listed : ListedAtom) → IsKept leads name listed → namings_at leads listed.at ≡ namings_named leads name listed.at
+one_named leads name listed kept = by (slice_get leads listed.at.place) kept
+  where
+    a : LeadAtom
+    a = listed.at
+
+    at_atom : (group : List AtomParts) (o : Option AtomParts) → option_map (λ (atom : AtomParts). atom.name) o ≡ Some name → Some (nat_lt (a.atom + 1) (length group)) ≡ option_and_then (further_if_named name a.atom group) o
+    at_atom group None h = absurd cc
+    at_atom group (Some atom) h = sym (ap (λ b. cond b (Some (nat_lt (a.atom + 1) (length group))) None) ((bytes_eq-Decides atom.name name).1 (some_is atom.name name h)))
+
+    at_group : (e : Entry) (o : Option (List AtomParts)) → option_map (λ (atom : AtomParts). atom.name) (option_and_then (λ (group : List AtomParts). slice_get group a.atom) o) ≡ Some name →
+        option_to_list {X = Naming} (option_map (λ (f : Bool). (package_of e.1, f)) (option_map (λ (group : List AtomParts). nat_lt (a.atom + 1) (length group)) o))
+        ≡ option_to_list (option_map (λ (f : Bool). (package_of e.1, f)) (option_and_then (further_in name a.atom) o))
+    at_group e None h = refl
+    at_group e (Some group) h = ap (λ (o : Option Bool). option_to_list {X = Naming} (option_map (λ (f : Bool). (package_of e.1, f)) o)) (at_atom group (slice_get group a.atom) h)
+
+    by : (o : Option Entry) → IfSome o (λ (e : Entry). IsKeptIn e.1 name listed) → option_to_list (option_and_then (λ (e : Entry). naming_in a e.1) o) ≡ option_to_list (option_and_then (λ (e : Entry). naming_if_named name a e.1) o)
+    by None h = refl
+    by (Some e) h = at_group e (slice_get (groups_of a.field e.1) a.group) h.0
+
+-- atoms that have the name tell what they do, whether that is looked at or not
+pub all_named : (leads : List Entry) (name : List ℕ) (atoms : List ListedAtom) → All (IsKept leads name) atoms → flat_map (λ (listed : ListedAtom). namings_at leads listed.at) atoms ≡ flat_map (λ (listed : ListedAtom). namings_named leads name listed.at) atoms
+all_named leads name [] all = refl
+all_named leads name (x ∷ xs) all = λ i. one_named leads name x (All-head (IsKept leads name) x xs all) i ++ all_named leads name xs (All-tail (IsKept leads name) x xs all) i
 
 -- ---- whether a further alternative follows
 
@@ -57,20 +102,20 @@ module _ (leads : List Entry) (name : List ℕ) (i : ℕ) (e : Entry) (at : slic
   tagged found = map (λ (further : Bool). (package_of e.1, further)) found
 
   abbrev told : List (AtomKey × AtomParts) → List Naming
-  told ys = flat_map (namings_at leads name) (map (λ (y : AtomKey × AtomParts). atom_of y.0 i) ys)
+  told ys = flat_map (namings_named leads name) (map (λ (y : AtomKey × AtomParts). atom_of y.0 i) ys)
 
   told_append : (xs ys : List (AtomKey × AtomParts)) → told (xs ++ ys) ≡ told xs ++ told ys
   told_append xs ys =
-      ap (flat_map (namings_at leads name)) (map-append (λ (y : AtomKey × AtomParts). atom_of y.0 i) xs ys)
-      ∙ flat_map-append (namings_at leads name) (map (λ (y : AtomKey × AtomParts). atom_of y.0 i) xs) (map (λ (y : AtomKey × AtomParts). atom_of y.0 i) ys)
+      ap (flat_map (namings_named leads name)) (map-append (λ (y : AtomKey × AtomParts). atom_of y.0 i) xs ys)
+      ∙ flat_map-append (namings_named leads name) (map (λ (y : AtomKey × AtomParts). atom_of y.0 i) xs) (map (λ (y : AtomKey × AtomParts). atom_of y.0 i) ys)
 
   abbrev of_further : Option Bool → List Naming
   of_further further = option_to_list {X = Naming} (option_map (λ (f : Bool). (package_of e.1, f)) further)
 
   of_atom : (a : LeadAtom) (group : List AtomParts) (atom : AtomParts) → slice_get leads a.place ≡ Some e → slice_get (groups_of a.field e.1) a.group ≡ Some group → slice_get group a.atom ≡ Some atom →
-      namings_at leads name a ≡ of_further (further_if_named name a.atom group atom)
+      namings_named leads name a ≡ of_further (further_if_named name a.atom group atom)
   of_atom a group atom there is has =
-      ap (λ (o : Option Entry). option_to_list (option_and_then (λ (d : Entry). naming_in name a d.1) o)) there
+      ap (λ (o : Option Entry). option_to_list (option_and_then (λ (d : Entry). naming_if_named name a d.1) o)) there
       ∙ ap (λ (o : Option (List AtomParts)). of_further (option_and_then (further_in name a.atom) o)) is
       ∙ ap (λ (o : Option AtomParts). of_further (option_and_then (further_if_named name a.atom group) o)) has
 
@@ -104,14 +149,14 @@ module _ (leads : List Entry) (name : List ℕ) (i : ℕ) (e : Entry) (at : slic
       told_append (keyed_groups e.0 field 0 (groups_of field e.1)) (flat_map (λ f. keyed_groups e.0 f 0 (groups_of f e.1)) fields)
       ∙ (λ j. in_field field j ++ in_fields fields j)
 
-  in_entry : flat_map (namings_at leads name) (atoms_in i e) ≡ namings_of name e.1
+  in_entry : flat_map (namings_named leads name) (atoms_in i e) ≡ namings_of name e.1
   unfolding naming_in_lead
   in_entry = in_fields naming_fields ∙ sym (map_flat (λ (further : Bool). (package_of e.1, further)) (naming_in_field name e.1) naming_fields)
 
-told_from : (leads : List Entry) (name : List ℕ) (i : ℕ) (rest : List Entry) → IsTail leads i rest → flat_map (namings_at leads name) (atoms_from i rest) ≡ flat_map (λ (e : Entry). namings_of name e.1) rest
+told_from : (leads : List Entry) (name : List ℕ) (i : ℕ) (rest : List Entry) → IsTail leads i rest → flat_map (namings_named leads name) (atoms_from i rest) ≡ flat_map (λ (e : Entry). namings_of name e.1) rest
 told_from leads name i [] tail = refl
 told_from leads name i (e ∷ es) tail =
-    flat_map-append (namings_at leads name) (atoms_in i e) (atoms_from (suc i) es)
+    flat_map-append (namings_named leads name) (atoms_in i e) (atoms_from (suc i) es)
     ∙ (λ j. in_entry leads name i e (tail_head leads i e es tail) j ++ told_from leads name (suc i) es (tail_next leads i e es tail) j)
 
 -- ---- what prints nothing names nothing
@@ -124,7 +169,7 @@ no_line : (parts : List (List ℕ)) → line parts ≡ [] → ⊥
 unfolding line
 no_line parts h = some_text (joined parts) _ h
 
-quiet : (leads : List Entry) (name : List ℕ) (a : LeadAtom) → line_at leads name a ≡ [] → namings_at leads name a ≡ []
+quiet : (leads : List Entry) (name : List ℕ) (a : LeadAtom) → line_at leads name a ≡ [] → namings_named leads name a ≡ []
 quiet leads name a none = by (slice_get leads a.place) none
   where
     at_name : (e : Entry) (group : List AtomParts) (atom : AtomParts) (b : Bool) → bytes_eq atom.name name ≡ b → line_if_naming name e.1 a.field atom ≡ [] →
@@ -143,16 +188,16 @@ quiet leads name a none = by (slice_get leads a.place) none
     at_group e (Some group) h = at_atom e group (slice_get group a.atom) h
 
     by : (o : Option Entry) → option_map_or (λ (e : Entry). option_map_or (line_if_naming name e.1 a.field) (option_and_then (λ (group : List AtomParts). slice_get group a.atom) (slice_get (groups_of a.field e.1) a.group)) []) o [] ≡ [] →
-        option_to_list (option_and_then (λ (e : Entry). naming_in name a e.1) o) ≡ []
+        option_to_list (option_and_then (λ (e : Entry). naming_if_named name a e.1) o) ≡ []
     by None h = refl
     by (Some e) h = at_group e (slice_get (groups_of a.field e.1) a.group) h
 
 -- The atoms of the leads of packages that name a name tell of all these packages which name it.
 pub atoms_tell : (store : Held) (name : List ℕ) (askers : List (List ℕ)) (leads : List Entry) → leads ≡ flat_map (leads_named (world_of store)) askers → (atoms : List LeadAtom) → IsStrictlySortedBy lead_atom_cmp atoms
     → ((a : LeadAtom) → list_any (λ b. is_eq (lead_atom_cmp a b)) atoms ≡ list_any (λ (k : AtomKey). is_at leads k a) (namers_named name (standing store)))
-    → flat_map (namings_at leads name) atoms ≡ flat_map (of_rows (world_of store) (namings_of name)) askers
+    → flat_map (namings_named leads name) atoms ≡ flat_map (of_rows (world_of store) (namings_of name)) askers
 atoms_tell store name askers leads are atoms sorted members =
-    of_two (namings_at leads name) (atoms_from 0 leads) atoms (atoms_sorted 0 leads) sorted
+    of_two (namings_named leads name) (atoms_from 0 leads) atoms (atoms_sorted 0 leads) sorted
     (λ a out. quiet leads name a (outside_silent leads name a out))
     (λ a out. quiet leads name a (named_is_naming store leads name (leads_held store askers leads are) a (sym (members a) ∙ out)))
     ∙ told_from leads name 0 leads (tail_whole leads)

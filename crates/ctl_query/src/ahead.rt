@@ -14,10 +14,21 @@ const AHEAD: usize = 32;
 // Of fewer atoms none is: there is little to wait for at once.
 const FEW: usize = 4;
 
-// How many bytes the packages and the versions of the leads of atoms have.
-fn bytes_of_leads(table: &LeadTable<'_>, atoms: &[ListedAtom<'_>]) -> usize {
+// Up to which place atoms are looked at from this one on, where those before it are written: in between to none.
+fn end_of_look(atoms: usize, at: usize) -> usize {
+    if at % AHEAD != 0 || atoms < FEW {
+        return at;
+    }
+    at.saturating_add(AHEAD).min(atoms)
+}
+
+// How many bytes the packages and the versions of the leads of the next atoms have.
+fn bytes_of_leads(table: &LeadTable<'_>, atoms: &[ListedAtom<'_>], at: usize) -> usize {
     let mut bytes: usize = 0;
-    for atom in atoms {
+    for place in at..end_of_look(atoms.len(), at) {
+        let Some(atom) = atoms.get(place) else {
+            return bytes;
+        };
         if let Some(lead) = table.lead(atom.at.place) {
             let more = lead
                 .package()
@@ -29,50 +40,46 @@ fn bytes_of_leads(table: &LeadTable<'_>, atoms: &[ListedAtom<'_>]) -> usize {
     bytes
 }
 
-// How many groups there are in the fields of atoms.
-fn groups_of_fields(table: &LeadTable<'_>, atoms: &[ListedAtom<'_>]) -> usize {
+// How many bytes the packages of the leads of the next atoms have, with how many groups there are in their fields.
+fn groups_of_fields(table: &LeadTable<'_>, atoms: &[ListedAtom<'_>], at: usize) -> usize {
     let mut groups: usize = 0;
-    for atom in atoms {
+    for place in at..end_of_look(atoms.len(), at) {
+        let Some(atom) = atoms.get(place) else {
+            return groups;
+        };
         if let Some(lead) = table.lead(atom.at.place) {
-            groups = groups.saturating_add(lead.groups(atom.at.field).len());
+            let more = lead
+                .package()
+                .len()
+                .saturating_add(lead.groups(atom.at.field).len());
+            groups = groups.saturating_add(more);
         }
     }
     groups
 }
 
-// Makes room for what is written of atoms. Most lines take more: what counts is that their parts are gone to, the fields of the
-// atoms too where these are read.
-fn make_room(
-    table: &LeadTable<'_>,
-    atoms: &[ListedAtom<'_>],
-    reads_fields: bool,
-    out: &mut Vec<u8>,
-) -> Result<(), AllocError>
-    ensures { OnOk result (out.new.items ≡ out.old.items) }
-{
-    let bytes = bytes_of_leads(table, atoms);
-    let groups = if reads_fields {
-        groups_of_fields(table, atoms)
-    } else {
-        0
-    };
-    out.reserve(bytes.max(groups))
-}
-
-/// Makes room for what is written of the next atoms, where those before are written; in between it does nothing.
-pub(crate) fn look_ahead(
+/// Makes room for what is written of the packages and the versions of the next atoms, where those before are written; in between
+/// it does nothing.
+pub(crate) fn look_ahead_at_versions(
     table: &LeadTable<'_>,
     atoms: &[ListedAtom<'_>],
     at: usize,
-    reads_fields: bool,
     out: &mut Vec<u8>,
 ) -> Result<(), AllocError>
     ensures { OnOk result (out.new.items ≡ out.old.items) }
 {
-    if at % AHEAD != 0 || atoms.len() < FEW || at >= atoms.len() {
-        return Ok(());
-    }
-    let (_, left) = atoms.split_at(at);
-    let (ahead, _) = left.split_at(AHEAD.min(left.len()));
-    make_room(table, ahead, reads_fields, out)
+    out.reserve(bytes_of_leads(table, atoms, at))
+}
+
+/// The same where the fields of the atoms are looked at, and no version. Most lines take less: what counts is that their parts
+/// are gone to.
+pub(crate) fn look_ahead_at_fields(
+    table: &LeadTable<'_>,
+    atoms: &[ListedAtom<'_>],
+    at: usize,
+    out: &mut Vec<u8>,
+) -> Result<(), AllocError>
+    ensures { OnOk result (out.new.items ≡ out.old.items) }
+{
+    out.reserve(groups_of_fields(table, atoms, at))
 }

@@ -9,7 +9,7 @@ ghost use Rattle.ctl_query.specs.Leads.{lead_atom_cmp, is_listed, line_in, line_
 ghost use Rattle.ctl_query.specs.Inside.ListedAtoms.{places_in, listed_at, IsKeptIn, IsKept, IsKeptOf};
 ghost use Rattle.ctl_query.specs.LeadTable.{lent_leads};
 
-use crate::ahead::look_ahead;
+use crate::ahead::look_ahead_at_versions;
 use crate::lead_lines::append_naming_line;
 use crate::lead_table::LeadTable;
 use ctl_index::{KeptNamer, KeptNamers};
@@ -205,7 +205,7 @@ pub(crate) fn append_atoms(
     ensures { OnOk result (out.new.items ≡ out.old.items ++ flat_map (λ (listed : ListedAtom). line_at table.now name.now listed.at) atoms.now) }
 {
     for at in 0..atoms.len() {
-        look_ahead(table, atoms, at, false, out)?;
+        look_ahead_at_versions(table, atoms, at, out)?;
         append_atom(table, name, &atoms[at], out)?;
     }
     Ok(())

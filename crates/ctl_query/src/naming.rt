@@ -6,10 +6,10 @@ ghost use Rattle.ctl_policy.specs.Priority.{world_of};
 ghost use Rattle.ctl_query.specs.LeadTable.{AreEnough};
 ghost use Rattle.ctl_query.specs.Packages.{packages_of};
 ghost use Rattle.ctl_query.specs.ReverseDepends.{asking_line};
-ghost use Rattle.ctl_query.specs.Inside.Namings.{Naming, lent_naming, further_in, further_at, naming_in, naming_at};
+ghost use Rattle.ctl_query.specs.Inside.Namings.{Naming, lent_naming, further_at, naming_in, naming_at};
 ghost use Rattle.ctl_query.specs.Inside.Namings.{line_of, joined_naming, closed_line, lines_behind};
 
-use crate::ahead::look_ahead;
+use crate::ahead::look_ahead_at_fields;
 use crate::asking::Asking;
 use crate::interest::stanzas_are_found;
 use crate::lead_atoms::{LeadAtom, list_atoms};
@@ -17,48 +17,33 @@ use crate::lead_table::LeadTable;
 use crate::relation_lines::mark;
 use ctl_filter::append_line;
 use ctl_policy::rows_are_classes;
-use ctl_relation::Group;
 use ctl_stanza::Stanza;
 use std::alloc::AllocError;
 
 /// A package that names a name, and whether a further alternative follows each of its atoms that do.
 type Naming<'a> = (&'a [u8], bool);
 
-// Whether a further alternative follows an atom of a group; none where it has another name or isn't there.
-fn further_in(group: &Group<'_>, name: &[u8], place: u32) -> Option<bool>
-    ensures { result ≡ further_in name.now place group.now }
+// Whether a further alternative follows an atom of a lead in its group. No atom is read for that.
+fn further_at(lead: &Stanza, atom: LeadAtom) -> Option<bool>
+    ensures { result ≡ further_at atom lead.now }
 {
-    match group.get(place as usize) {
-        Some(atom) if atom.name() == name => Some(place as usize + 1 < group.len()),
-        _ => None,
-    }
+    let group = lead.groups(atom.field).get(atom.group as usize)?;
+    Some(atom.atom as usize + 1 < group.len())
 }
 
-// The same of an atom of a lead.
-fn further_at(lead: &Stanza, name: &[u8], atom: LeadAtom) -> Option<bool>
-    ensures { result ≡ further_at name.now atom lead.now }
+// The package of a lead, which has an atom that names the name, and whether a further alternative follows that.
+fn naming_in<'a>(lead: &'a Stanza, atom: LeadAtom) -> Option<Naming<'a>>
+    ensures { option_map lent_naming result ≡ naming_in atom lead.now }
 {
-    match lead.groups(atom.field).get(atom.group as usize) {
-        Some(group) => further_in(&group, name, atom.atom),
-        None => None,
-    }
+    let further = further_at(lead, atom)?;
+    Some((lead.package(), further))
 }
 
-// The package of a lead, where its atom has the name.
-fn naming_in<'a>(lead: &'a Stanza, name: &[u8], atom: LeadAtom) -> Option<Naming<'a>>
-    ensures { option_map lent_naming result ≡ naming_in name.now atom lead.now }
-{
-    match further_at(lead, name, atom) {
-        Some(further) => Some((lead.package(), further)),
-        None => None,
-    }
-}
-
-fn naming_at<'a>(table: &LeadTable<'a>, name: &[u8], atom: LeadAtom) -> Option<Naming<'a>>
-    ensures { option_map lent_naming result ≡ naming_at table.now name.now atom }
+fn naming_at<'a>(table: &LeadTable<'a>, atom: LeadAtom) -> Option<Naming<'a>>
+    ensures { option_map lent_naming result ≡ naming_at table.now atom }
 {
     match table.lead(atom.place) {
-        Some(lead) => naming_in(lead, name, atom),
+        Some(lead) => naming_in(lead, atom),
         None => None,
     }
 }
@@ -177,8 +162,8 @@ pub(crate) fn append_by_atoms(
     let atoms = list_atoms(asking.alloc(), table, asking.view(name).kept_namers())?;
     let mut found = None;
     for at in 0..atoms.len() {
-        look_ahead(table, &atoms, at, true, out)?;
-        let naming = naming_at(table, name, atoms[at].at);
+        look_ahead_at_fields(table, &atoms, at, out)?;
+        let naming = naming_at(table, atoms[at].at);
         found = append_next(asking, installed, found, naming, out)?;
     }
     append_found(asking, installed, found, out)?;

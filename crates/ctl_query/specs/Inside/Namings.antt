@@ -22,25 +22,19 @@ lent_naming naming = (naming.0.now, naming.1)
 
 -- ---- by an atom of a lead
 
--- whether a further alternative follows, where the atom has the name
-abbrev pub further_if_named : List ℕ → ℕ → List AtomParts → AtomParts → Option Bool
-further_if_named name i group atom = if bytes_eq atom.name name then Some (nat_lt (i + 1) (length group)) else None
+-- whether a further alternative follows it in its group
+abbrev pub further_at : LeadAtom → Content → Option Bool
+further_at a lead = option_map (λ (group : List AtomParts). nat_lt (a.atom + 1) (length group)) (slice_get (groups_of a.field lead) a.group)
 
-abbrev pub further_in : List ℕ → ℕ → List AtomParts → Option Bool
-further_in name i group = option_and_then (further_if_named name i group) (slice_get group i)
+-- the package of the lead with that
+abbrev pub naming_in : LeadAtom → Content → Option Naming
+naming_in a lead = option_map (λ further. (package_of lead, further)) (further_at a lead)
 
-abbrev pub further_at : List ℕ → LeadAtom → Content → Option Bool
-further_at name a lead = option_and_then (further_in name a.atom) (slice_get (groups_of a.field lead) a.group)
+abbrev pub naming_at : List Entry → LeadAtom → Option Naming
+naming_at leads a = option_and_then (λ (e : Entry). naming_in a e.1) (slice_get leads a.place)
 
--- the package of a lead, where its atom has the name
-abbrev pub naming_in : List ℕ → LeadAtom → Content → Option Naming
-naming_in name a lead = option_map (λ further. (package_of lead, further)) (further_at name a lead)
-
-abbrev pub naming_at : List Entry → List ℕ → LeadAtom → Option Naming
-naming_at leads name a = option_and_then (λ (e : Entry). naming_in name a e.1) (slice_get leads a.place)
-
-abbrev pub namings_at : List Entry → List ℕ → LeadAtom → List Naming
-namings_at leads name a = option_to_list (naming_at leads name a)
+abbrev pub namings_at : List Entry → LeadAtom → List Naming
+namings_at leads a = option_to_list (naming_at leads a)
 
 -- ---- one behind another, those of a package together
 
