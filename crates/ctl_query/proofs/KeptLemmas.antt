@@ -3,7 +3,7 @@ use Rattle.std.proofs.Common.{◌≡◌, ◌∙◌, ℕ, suc, Bool, true, false,
 use Rattle.std.specs.Prelude.{IfSome}
 use Rattle.std.specs.List.{All, AllByRecursion, list_any, filter}
 use Rattle.std.specs.List.Sorted.{IsPermutation}
-use Rattle.std.specs.Option.{option_map}
+use Rattle.std.specs.Option.{option_map, option_map_or}
 use Rattle.std.specs.Str.{bytes_eq}
 use Rattle.std.proofs.lemmas.List.Elements.{All-from_recursion}
 use Rattle.std.proofs.lemmas.List.Folds.{list_any-append}
@@ -11,14 +11,16 @@ use Rattle.std.proofs.lemmas.List.Sorted.{All-permutation, list_any-IsPermutatio
 use Rattle.std.proofs.lemmas.Slice.Eq.{bytes_eq-Decides}
 use Rattle.ctl_relation.specs.declared.field_kind.FieldKind.{FieldKind}
 use Rattle.ctl_relation.specs.Parts.{AtomParts}
-use Rattle.ctl_stanza.specs.Content.{groups_of}
+use Rattle.ctl_stanza.specs.Content.{Content, groups_of}
 use Rattle.ctl_store.specs.Entries.{Entry, AreAt}
 use Rattle.ctl_store.specs.Keys.{KeyedList, stanza_at}
 use Rattle.ctl_store.specs.Store.{Held, keyed_of}
 use Rattle.ctl_index.specs.declared.keys.AtomKey.{AtomKey}
 use Rattle.ctl_index.specs.HeldCache.{standing}
 use Rattle.ctl_index.specs.Names.{naming_fields, keyed_group, keyed_groups, keyed_atoms, is_named, namers_of, namers_named, AllButName, KeptNamer, with_name, is_qualifier_kept, is_bound_kept, kept_of, kept_namers_of, kept_namers_named}
-use Rattle.ctl_query.specs.Leads.{atom_in, atom_of}
+use Rattle.ctl_query.specs.declared.lead_atoms.LeadAtom.{LeadAtom}
+use Rattle.ctl_query.specs.Leads.{atom_in, atom_of, line_in}
+use Rattle.ctl_query.specs.ShowPackage.{line_if_naming, naming_line}
 use Rattle.ctl_query.specs.LeadTable.{AreEnough}
 use Rattle.ctl_query.specs.Inside.ListedAtoms.{listed_at, IsKeptIn, IsKeptOf}
 use Rattle.ctl_query.proofs.AtomLemmas.{IsTail, tail_whole, tail_head, tail_next, atom_is, all_at, some_is}
@@ -116,3 +118,9 @@ pub namers_are_kept : (store : Held) → AreAt (standing store) (keyed_of store)
 namers_are_kept store at name leads enough namers same =
     All-permutation (IsKeptOf leads name) (kept_namers_named name (standing store)) namers same
     (All-from_recursion (IsKeptOf leads name) (kept_namers_named name (standing store)) (all_kept (keyed_of store).lists leads (leads_held store enough.0 leads enough.1) name (standing store) at))
+
+-- The line of an atom that has the name.
+pub named_line : (name : List ℕ) (lead : Content) (a : LeadAtom) (atom : AtomParts) → atom_in a lead ≡ Some atom → option_map (λ (it : AtomParts). it.name) (atom_in a lead) ≡ Some name → line_in name a lead ≡ naming_line lead a.field atom
+named_line name lead a atom is named =
+    ap (λ (o : Option AtomParts). option_map_or (line_if_naming name lead a.field) o []) is
+    ∙ ap (λ b. cond b (naming_line lead a.field atom) []) ((bytes_eq-Decides atom.name name).1 (some_is atom.name name (sym (ap (λ (o : Option AtomParts). option_map (λ (it : AtomParts). it.name) o) is) ∙ named)))

@@ -146,7 +146,7 @@ fn atom_in(lead: &Stanza, atom: LeadAtom) -> Option<Atom<'_>>
     group.get(atom.atom as usize)
 }
 
-/// The same of an atom that names a name. What is kept of it is not read again.
+/// The same of an atom that has a name. What is kept of it is not read again.
 fn atom_naming<'a>(lead: &'a Stanza, name: &'a [u8], listed: &'a ListedAtom<'_>) -> Option<Atom<'a>>
     requires { IsKeptIn lead.now name.now listed.now }
     ensures { result ≡ atom_in listed.now.at lead.now }
@@ -157,7 +157,8 @@ fn atom_naming<'a>(lead: &'a Stanza, name: &'a [u8], listed: &'a ListedAtom<'_>)
     }
 }
 
-/// Appends the line of an atom of a lead, if it has the name.
+/// Appends the line of an atom of a lead.
+#[tactic(auto, using(crate::proofs::KeptLemmas::named_line))]
 fn append_atom_in(
     lead: &Stanza,
     name: &[u8],
@@ -168,17 +169,12 @@ fn append_atom_in(
     ensures { OnOk result (out.new.items ≡ out.old.items ++ line_in name.now listed.now.at lead.now) }
 {
     match atom_naming(lead, name, listed) {
-        Some(found) => {
-            if found.name() == name {
-                append_naming_line(lead, listed.at.field, &found, out)?;
-            }
-            Ok(())
-        }
+        Some(found) => append_naming_line(lead, listed.at.field, &found, out),
         None => Ok(()),
     }
 }
 
-/// Appends the line of an atom, if it has the name.
+/// Appends the line of an atom.
 fn append_atom(
     table: &LeadTable<'_>,
     name: &[u8],
@@ -194,7 +190,7 @@ fn append_atom(
     }
 }
 
-/// Appends the lines of those of these atoms that have the name.
+/// Appends the lines of atoms.
 pub(crate) fn append_atoms(
     table: &LeadTable<'_>,
     name: &[u8],
