@@ -1,5 +1,5 @@
 -- What a write into one of the two trees of names leaves under any name.
-use Rattle.std.proofs.Common.{◌≡◌, ℕ, ◌<◌, ◌≤◌, Bool, true, false, cond, length, List, Option, None, Some, is_some, option_map, IsSome, Vec, Global, refl, ap, sym, subst, ◌∙◌, arith, nat_le, nat_cmp, MutBor, OnSome, Result, Ok, Err, OnOk, OnErr}
+use Rattle.std.proofs.Common.{◌≡◌, ℕ, ◌<◌, ◌≤◌, Bool, true, false, cond, length, List, Option, None, Some, is_some, IsSome, Vec, Global, refl, ap, sym, subst, ◌∙◌, arith, nat_le, nat_cmp, MutBor, OnSome, Result, Ok, Err, OnOk, OnErr}
 use Rattle.std.specs.BTreeMap.{BTreeMap, UpdatesBy, WritesThrough, IsUnchanged, get, keys}
 use Rattle.std.specs.Cmp.{eq_by_cmp_equiv}
 use Rattle.std.specs.Cmp.Lexicographic.{slice_cmp, nat_list_cmp_total, nat_list_eq_equiv}
@@ -142,38 +142,3 @@ apart_same short new_short long new_long s l apart = record {
   shorter = λ q there. apart.shorter q (ap (λ es. is_some (lookup (λ k. is_eq (slice_cmp nat_cmp q k)) es)) (sym s) ∙ there);
   longer = λ q there. apart.longer q (ap (λ es. is_some (lookup (λ (k : Vec ℕ Global). is_eq (slice_cmp nat_cmp q k.items)) es)) (sym l) ∙ there);
 }
-
--- ---- what stands in one of the trees
-
-pub short_at : (short : Short) (long : Long) → AreApart short long → (q : List ℕ) (v : Named) → get (slice_cmp nat_cmp) short q ≡ Some v → at_either short long q ≡ Some v
-short_at short long apart q v e = by (nat_le (length q) most_short) refl
-  where
-    by : (b : Bool) → nat_le (length q) most_short ≡ b → at_either short long q ≡ Some v
-    by true t = ap (λ b. cond b (get (slice_cmp nat_cmp) short q) (at_bytes long q)) t ∙ e
-    by false t = absurd (true≢false (not_short (length q) t (apart.shorter q (ap is_some e))))
-
-pub long_at : (short : Short) (long : Long) → AreApart short long → (q : List ℕ) (v : Named) → at_bytes long q ≡ Some v → at_either short long q ≡ Some v
-long_at short long apart q v e = by (nat_le (length q) most_short) refl
-  where
-    by : (b : Bool) → nat_le (length q) most_short ≡ b → at_either short long q ≡ Some v
-    by true t = absurd (true≢false (not_long (length q) t (apart.longer q (ap is_some e))))
-    by false t = ap (λ b. cond b (get (slice_cmp nat_cmp) short q) (at_bytes long q)) t ∙ e
-
-mapped_some : {X : Type 0} (f : X → X) (o : Option X) → is_some (option_map f o) ≡ is_some o
-mapped_some f None = refl
-mapped_some f (Some x) = refl
-
--- both trees after each value was written anew by its name
-module _ (f : List ℕ → Named → Named) (short s : Short) (long l : Long) (are : (q : List ℕ) → get (slice_cmp nat_cmp) s q ≡ option_map (f q) (get (slice_cmp nat_cmp) short q)) (also : (q : List ℕ) → at_bytes l q ≡ option_map (f q) (at_bytes long q)) where
-  pub mapped_at : (q : List ℕ) → at_either s l q ≡ option_map (f q) (at_either short long q)
-  mapped_at q = by (nat_le (length q) most_short)
-    where
-      by : (b : Bool) → cond b (get (slice_cmp nat_cmp) s q) (at_bytes l q) ≡ option_map (f q) (cond b (get (slice_cmp nat_cmp) short q) (at_bytes long q))
-      by true = are q
-      by false = also q
-
-  pub mapped_apart : AreApart short long → AreApart s l
-  mapped_apart apart = record {
-    shorter = λ q e. apart.shorter q (sym (mapped_some (f q) (get (slice_cmp nat_cmp) short q)) ∙ sym (ap is_some (are q)) ∙ e);
-    longer = λ q e. apart.longer q (sym (mapped_some (f q) (at_bytes long q)) ∙ sym (ap is_some (also q)) ∙ e);
-  }

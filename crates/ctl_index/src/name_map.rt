@@ -1,23 +1,19 @@
 //! The two trees of names: of short names, which stand in the keys themselves, and of longer ones.
 
-ghost use Rattle.std.specs.Prelude.{◌≡◌, ℕ, List, None, Some, is_some, IfOk, OnOk, OnErr, option_copied, option_map, if◌then◌else◌};
+ghost use Rattle.std.specs.Prelude.{◌≡◌, ℕ, List, None, Some, is_some, IfOk, OnOk, OnErr, option_copied, if◌then◌else◌};
 ghost use Rattle.std.specs.BTreeMap.{get};
 ghost use Rattle.std.specs.Borrow.{sem};
 ghost use Rattle.std.specs.Cmp.Lexicographic.{slice_cmp};
 ghost use Rattle.std.specs.Ordering.{nat_cmp};
-ghost use Rattle.ctl_store.specs.Store.{keyed_of};
 ghost use Rattle.ctl_policy.specs.Chosen.{at_bytes};
-ghost use Rattle.ctl_policy.specs.Rows.{AreRowsOf};
 ghost use Rattle.std.specs.Option.{option_copied_mut};
 ghost use Rattle.std.specs.Str.{bytes_eq};
 ghost use Rattle.ctl_index.specs.Inside.NameMap.{AreApart};
 
-use crate::choosing::{choose_long, choose_short};
 use crate::named::Named;
 use crate::named_box::NamedBox;
 use crate::short_map::ShortMap;
 use crate::short_name::ShortName;
-use ctl_store::Store;
 use std::alloc::{AllocError, Global};
 use std::collections::BTreeMap;
 use std::mem;
@@ -53,9 +49,7 @@ fn packed_long(
 }
 
 impl NameMap {
-    ghost use Rattle.ctl_index.specs.declared.named.Named.{Named as NamedHeld};
-    ghost use Rattle.ctl_index.specs.Inside.TablesChosen.{chosen_anew};
-    ghost use Rattle.ctl_index.specs.Inside.TablesByName.{at_name, named_own, HoldsNothing, IsSetAt, HasSameNames, HasSomeNames, LendsNamed};
+    ghost use Rattle.ctl_index.specs.Inside.TablesByName.{at_name, HoldsNothing, IsSetAt, HasSameNames, HasSomeNames, LendsNamed};
 
     /// No names. It takes no memory.
     pub(crate) fn new(alloc: Global) -> NameMap
@@ -145,16 +139,6 @@ impl NameMap {
         self.pack_long(alloc)?;
         self.pack_short(alloc)?;
         Ok(())
-    }
-
-    /// Chooses anew for the names that have a row with a stanza of a list, or for all. It takes no memory.
-    pub(crate) fn choose(&mut self, store: &Store, list: Option<u32>)
-        requires { (q : List ℕ) (v : NamedHeld) → at_name self.old q ≡ Some v
-            → AreRowsOf (named_own v).rows q (keyed_of store.now).lists }
-        ensures { (q : List ℕ) → at_name self.new q ≡ option_map (chosen_anew store.now list q) (at_name self.old q) }
-    {
-        choose_short(store, list, &mut self.short.tree);
-        choose_long(store, list, &mut self.long);
     }
 
     /// How many names there are.

@@ -46,7 +46,7 @@ impl<'a> NameView<'a> {
         ensures { result ≡ self.now.rows }
     {
         match self.named {
-            Some(named) => named.own.rows.iter(),
+            Some(named) => named.rows.iter(),
             None => NewestFirst::none(),
         }
     }

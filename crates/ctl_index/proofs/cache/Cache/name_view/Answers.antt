@@ -19,6 +19,7 @@ use Rattle.ctl_index.proofs.KeptNamerLemmas.{kept_permuted}
 use Rattle.ctl_index.proofs.LawLemmas.{contents_of_state}
 use Rattle.ctl_index.proofs.NameViewLemmas.{rows_of_entry, found_offering}
 use Rattle.ctl_index.proofs.NamesLemmas.{known_there}
+use Rattle.ctl_index.proofs.OfferedLemmas.{rows_offered}
 use Rattle.ctl_index.proofs.StoreLemmas.{rising_apart, store_seen}
 use Rattle.ctl_index.proofs.ViewLemmas.{namers_permuted, offers_permuted}
 use Rattle.std.proofs.lemmas.List.Sorted.{IsPermutation-map}
@@ -30,7 +31,7 @@ returns-clause-known c =
     let name = c.args.name.now in
     let fresh = ap (λ w. w.stale) c.self.view_is ∙ c.requires in
     let was = (c.self.invariant fresh).0 in
-    ap (λ o. is_some o) c.get.ensures.entry ∙ known_there name (standing h) c.self.inside.tables was c.get.ensures.used ((c.self.invariant fresh).2 name)
+    ap (λ o. is_some o) c.get.ensures.entry ∙ known_there name (standing h) c.self.inside.tables was c.get.ensures.used (rows_offered (standing h) c.self.inside.tables was name)
     ∙ ap (λ xs. list_any (bytes_eq name) (known_names xs)) (contents_of_state (keyed_of h).lists)
     ∙ ap (λ (w : HeldCache). list_any (bytes_eq name) (known_names (stanzas_of_state (state_of w.store)))) c.self.view_is
 
