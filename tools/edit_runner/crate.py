@@ -15,7 +15,7 @@ NAME = re.compile(r"[A-Za-z0-9_-][A-Za-z0-9_.-]*\.edit")
 LENT = {
     ("ctl_index", "impl Cache", "store"),
     ("ctl_index", "impl Cache", "counters"),
-    ("ctl_index", "impl Cache", "candidates"),
+    ("ctl_index", "impl<'a> KeptNamer<'a>", "copied"),
     ("ctl_ordered", "impl<K: Ord + Drop, V: Drop> Ordered<K, V>", "new"),
 }
 

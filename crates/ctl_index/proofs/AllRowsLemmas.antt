@@ -7,13 +7,12 @@ use Rattle.std.specs.Ordering.{nat_cmp, is_eq}
 use Rattle.std.specs.Str.{bytes_eq}
 use Rattle.std.specs.declared.cmp.Ordering.TheVariants.{Less}
 use Rattle.std.specs.Option.{option_map_or}
-use Rattle.std.specs.FinMap as fin
 use Rattle.std.proofs.lemmas.Map.Text.{is_eq-slice_cmp}
 use Rattle.std.proofs.lemmas.Slice.Eq.{bytes_eq-Decides}
 use Rattle.ctl_store.specs.declared.stanza_key.StanzaKey.{StanzaKey}
 use Rattle.ctl_store.specs.Keys.{AreHeld}
 use Rattle.ctl_policy.specs.Rows.{Lists, rows_named, newest_first, keys_of_row}
-use Rattle.ctl_index.specs.Inside.TablesByName.{NameMap, at_name, named_rows, rows_under}
+use Rattle.ctl_index.specs.Inside.TablesByName.{NameMap, at_name, named_own, no_rows, rows_under}
 use Rattle.ctl_index.specs.Inside.TablesViews.{entry_rows}
 use Rattle.ctl_index.specs.Inside.NameMap.{NamedEntry, entry_names, found_in}
 use Rattle.ctl_index.specs.declared.named.Named.{Named}
@@ -27,8 +26,8 @@ abbrev pub IsFound : NameMap → NamedEntry → Type 0
 IsFound m e = at_name m e.0 ≡ Some e.1
 
 -- the rows of an entry are those under its name
-pub of_entry : (m : NameMap) (e : NamedEntry) → IsFound m e → rows_under m e.0 ≡ named_rows e.1
-of_entry m e found = ap (λ o. option_map_or named_rows o fin.empty) found
+pub of_entry : (m : NameMap) (e : NamedEntry) → IsFound m e → rows_under m e.0 ≡ (named_own e.1).rows
+of_entry m e found = ap (λ o. (option_map_or named_own o no_rows).rows) found
 
 -- ---- entries in order are found under their names
 

@@ -1,5 +1,5 @@
 -- The table of names: what a write under the name bs leaves under any name.
-use Rattle.std.proofs.Common.{◌≡◌, ◌+◌, ℕ, Bool, true, false, cond, not, nat_eq, ◌&&◌, length, List, [], ◌∷◌, Option, None, Some, Result, Ok, Err, OnOk, OnErr, OnSome, refl, ap, sym, subst, ◌∙◌, arith}
+use Rattle.std.proofs.Common.{◌≡◌, ◌+◌, ℕ, Bool, true, false, cond, not, nat_eq, ◌&&◌, ◌||◌, is_some, length, List, [], ◌∷◌, Option, None, Some, Result, Ok, Err, OnOk, OnErr, OnSome, refl, ap, sym, subst, ◌∙◌, arith}
 use Rattle.std.specs.List.{sum_by}
 use Rattle.std.specs.Str.{bytes_eq}
 use Rattle.std.specs.FinMap as fin
@@ -8,12 +8,17 @@ use Rattle.std.proofs.lemmas.Slice.Eq.{bytes_eq-Decides}
 use Rattle.std.proofs.lemmas.Bool.Decides.{nat_tests}
 use Rattle.std.proofs.lemmas.List.{nil_from_length}
 use Rattle.std.proofs.lemmas.List.Sums.{sum_by-cons}
+use Rattle.ctl_index.specs.declared.named.ChosenRows.{ChosenRows}
 use Rattle.ctl_index.specs.declared.named.Named.{Named}
+use Rattle.ctl_relation.specs.Version.{version_cmp}
 use Rattle.ctl_store.specs.declared.stanza_key.StanzaKey.{StanzaKey}
 use Rattle.ctl_index.specs.Inside.TablesOrder.{put_in_order, is_through}
 use Rattle.ctl_policy.specs.Kept.{HasPut, HasSame, OthersStay}
+use Rattle.ctl_policy.specs.declared.chosen.Chosen.{Chosen}
+use Rattle.ctl_policy.specs.Chosen.{no_choice}
 use Rattle.ctl_policy.specs.Rows.{Rows}
-use Rattle.ctl_index.specs.Inside.TablesByName.{NameMap, at_name, IsSetAt, HasSameNames, named_offers, named_namers, named_rows, rows_under, part_under, is_used, AreUsed}
+use Rattle.ctl_index.specs.Inside.TablesByName.{NameMap, at_name, IsSetAt, HasSameNames, named_offers, named_namers, named_own, no_rows, own_under, rows_under, chosen_under, part_under, is_bare, is_used, AreUsed}
+use Rattle.ctl_index.specs.Inside.TablesChosen.{HasSameRows}
 use Rattle.ctl_index.proofs.RowLemmas.{put_there, same_there}
 
 module _ {T : Type 0} (part : Named → T) (none : T) (bs : List ℕ) (m n : NameMap) where
@@ -88,30 +93,59 @@ used_more_too g xs x b d = ap (λ z. not ((b && z) && d)) (not_empty g xs x) ∙
     by false = refl
 
 -- a row
-pub used_rows : (v : Named) → nat_eq (fin.len (named_rows v)) 0 ≡ false → is_used v ≡ true
-used_rows v h = ap (λ z. not ((nat_eq (length (named_offers v)) 0 && nat_eq (length (named_namers v)) 0) && z)) h ∙ by (nat_eq (length (named_offers v)) 0 && nat_eq (length (named_namers v)) 0)
+pub bare_rows : (own : ChosenRows) → nat_eq (fin.len own.rows) 0 ≡ false → is_bare own ≡ false
+bare_rows own h = ap (λ z. z && not (is_some own.chosen.installed || is_some own.chosen.candidate)) h
+
+pub used_rows : (v : Named) → nat_eq (fin.len (named_own v).rows) 0 ≡ false → is_used v ≡ true
+used_rows v h = ap (λ z. not ((nat_eq (length (named_offers v)) 0 && nat_eq (length (named_namers v)) 0) && z)) (bare_rows (named_own v) h) ∙ by (nat_eq (length (named_offers v)) 0 && nat_eq (length (named_namers v)) 0)
   where
     by : (b : Bool) → not (b && false) ≡ true
     by true = refl
     by false = refl
 
-none_is : (n : ℕ) → nat_eq n 0 ≡ true → n ≡ 0
+pub none_is : (n : ℕ) → nat_eq n 0 ≡ true → n ≡ 0
 none_is n h = grind (arith, nat_tests)
+
+abbrev pub own_by : Rows → Chosen → ChosenRows
+own_by rows chosen = record { rows = rows; chosen = chosen }
+
+abbrev choice_by : Option StanzaKey → Option StanzaKey → Chosen
+choice_by installed candidate = record { installed = installed; candidate = candidate }
+
+nothing_chosen : (installed candidate : Option StanzaKey) → not (is_some installed || is_some candidate) ≡ true → choice_by installed candidate ≡ no_choice
+nothing_chosen None None h = refl
+nothing_chosen None (Some key) h = absurd (let z : ⊥ = cc in z)
+nothing_chosen (Some key) candidate h = absurd (let z : ⊥ = cc in z)
+
+-- no rows are bare
+pub none_bare : is_bare no_rows ≡ true
+none_bare = ap (λ n. nat_eq n 0 && true) (fin.len-empty version_cmp (List StanzaKey))
+
+-- no row, of which nothing is chosen
+bare_own : (own : ChosenRows) → is_bare own ≡ true → own ≡ no_rows
+bare_own own h = by (nat_eq (fin.len own.rows) 0) refl h
+  where
+    by : (b : Bool) → nat_eq (fin.len own.rows) 0 ≡ b → (b && not (is_some own.chosen.installed || is_some own.chosen.candidate)) ≡ true → own ≡ no_rows
+    by true e h =
+        let rows = fin.empty_of_len own.rows (none_is (fin.len own.rows) e) in
+        let chosen = nothing_chosen own.chosen.installed own.chosen.candidate h in
+        λ i. own_by (rows i) (chosen i)
+    by false e h = absurd (let z : ⊥ = cc in z)
 
 pub record NothingLeft (v : Named) : Type 0 where
   pub offers : named_offers v ≡ []
   pub namers : named_namers v ≡ []
-  pub rows : named_rows v ≡ fin.empty
+  pub own : named_own v ≡ no_rows
 
 -- nothing is left under a name that is not used
 pub nothing_left : (v : Named) → is_used v ≡ false → NothingLeft v
-nothing_left v h = by (nat_eq (length (named_offers v)) 0) (nat_eq (length (named_namers v)) 0) (nat_eq (fin.len (named_rows v)) 0) refl refl refl h
+nothing_left v h = by (nat_eq (length (named_offers v)) 0) (nat_eq (length (named_namers v)) 0) (is_bare (named_own v)) refl refl refl h
   where
-    by : (a b d : Bool) → nat_eq (length (named_offers v)) 0 ≡ a → nat_eq (length (named_namers v)) 0 ≡ b → nat_eq (fin.len (named_rows v)) 0 ≡ d → not ((a && b) && d) ≡ false → NothingLeft v
+    by : (a b d : Bool) → nat_eq (length (named_offers v)) 0 ≡ a → nat_eq (length (named_namers v)) 0 ≡ b → is_bare (named_own v) ≡ d → not ((a && b) && d) ≡ false → NothingLeft v
     by true true true e f g h = record {
       offers = nil_from_length (named_offers v) (none_is (length (named_offers v)) e);
       namers = nil_from_length (named_namers v) (none_is (length (named_namers v)) f);
-      rows = fin.empty_of_len (named_rows v) (none_is (fin.len (named_rows v)) g);
+      own = bare_own (named_own v) g;
     }
     by true true false e f g h = absurd (let z : ⊥ = cc in z)
     by true false d e f g h = absurd (let z : ⊥ = cc in z)
@@ -159,34 +193,98 @@ first_there part bs m n x y f is e same q = by (bytes_eq bs q) refl
     by true t = omega (arith, ap (sum_by f) is, sum_by-cons f y [], ap (λ l. sum_by f (part_under part [] m l)) (sym ((bytes_eq-Decides bs q).0 t)), ap (sum_by f) (none_under part [] bs m e))
     by false t = omega (arith, ap (λ o. sum_by f (option_map_or part o [])) (same q))
 
+abbrev pub rows_of_own : ChosenRows → Rows
+rows_of_own own = own.rows
+
 -- what stands under its own name
-pub own_rows : (bs : List ℕ) (r o : Rows) → cond (bytes_eq bs bs) r o ≡ r
-own_rows bs r o = ap (λ b. cond b r o) ((bytes_eq-Decides bs bs).1 refl)
+pub at_itself : {X : Type 0} (bs : List ℕ) (r o : X) → cond (bytes_eq bs bs) r o ≡ r
+at_itself bs r o = ap (λ b. cond b r o) ((bytes_eq-Decides bs bs).1 refl)
 
 -- other names keep their rows after a write
 pub rows_others : (bs : List ℕ) (m n : NameMap) (w : Named) → IsSetAt bs m n (Some w) → OthersStay bs (rows_under m) (rows_under n)
 rows_others bs m n w writes q h v =
-    ap (λ (r : Rows). fin.get r v) (changed named_rows fin.empty bs m n w (λ _. named_rows w) writes refl q ∙ ap (λ b. cond b (named_rows w) (rows_under m q)) h)
+    ap (λ (own : ChosenRows). fin.get own.rows v) (changed named_own no_rows bs m n w (λ _. named_own w) writes refl q ∙ ap (λ b. cond b (named_own w) (own_under m q)) h)
 
 -- the rows that were written
-pub rows_own : (bs : List ℕ) (m n : NameMap) (w : Named) → IsSetAt bs m n (Some w) → rows_under n bs ≡ named_rows w
-rows_own bs m n w writes = changed named_rows fin.empty bs m n w (λ _. named_rows w) writes refl bs ∙ own_rows bs (named_rows w) (rows_under m bs)
+pub rows_own : (bs : List ℕ) (m n : NameMap) (w : Named) → IsSetAt bs m n (Some w) → rows_under n bs ≡ (named_own w).rows
+rows_own bs m n w writes = ap rows_of_own (changed named_own no_rows bs m n w (λ _. named_own w) writes refl bs ∙ at_itself bs (named_own w) (own_under m bs))
 
 -- the same after a write and a removal of a name without rows
-all_replaced : (bs : List ℕ) (m n o : NameMap) (w : Named) → IsSetAt bs m n (Some w) → IsSetAt bs n o None → named_rows w ≡ fin.empty → (q : List ℕ) → rows_under o q ≡ cond (bytes_eq bs q) (named_rows w) (rows_under m q)
-all_replaced bs m n o w writes removes none q = replaced named_rows fin.empty bs m n o w (λ _. named_rows w) writes removes none q
+all_replaced : (bs : List ℕ) (m n o : NameMap) (w : Named) → IsSetAt bs m n (Some w) → IsSetAt bs n o None → named_own w ≡ no_rows → (q : List ℕ) → own_under o q ≡ cond (bytes_eq bs q) (named_own w) (own_under m q)
+all_replaced bs m n o w writes removes none q = replaced named_own no_rows bs m n o w (λ _. named_own w) writes removes none q
 
-pub others_replaced : (bs : List ℕ) (m n o : NameMap) (w : Named) → IsSetAt bs m n (Some w) → IsSetAt bs n o None → named_rows w ≡ fin.empty → OthersStay bs (rows_under m) (rows_under o)
-others_replaced bs m n o w writes removes none q h v = ap (λ (r : Rows). fin.get r v) (all_replaced bs m n o w writes removes none q ∙ ap (λ b. cond b (named_rows w) (rows_under m q)) h)
+pub others_replaced : (bs : List ℕ) (m n o : NameMap) (w : Named) → IsSetAt bs m n (Some w) → IsSetAt bs n o None → named_own w ≡ no_rows → OthersStay bs (rows_under m) (rows_under o)
+others_replaced bs m n o w writes removes none q h v = ap (λ (own : ChosenRows). fin.get own.rows v) (all_replaced bs m n o w writes removes none q ∙ ap (λ b. cond b (named_own w) (own_under m q)) h)
 
-pub rows_replaced : (bs : List ℕ) (m n o : NameMap) (w : Named) → IsSetAt bs m n (Some w) → IsSetAt bs n o None → named_rows w ≡ fin.empty → rows_under o bs ≡ named_rows w
-rows_replaced bs m n o w writes removes none = all_replaced bs m n o w writes removes none bs ∙ own_rows bs (named_rows w) (rows_under m bs)
+pub rows_replaced : (bs : List ℕ) (m n o : NameMap) (w : Named) → IsSetAt bs m n (Some w) → IsSetAt bs n o None → named_own w ≡ no_rows → rows_under o bs ≡ (named_own w).rows
+rows_replaced bs m n o w writes removes none = ap rows_of_own (all_replaced bs m n o w writes removes none bs ∙ at_itself bs (named_own w) (own_under m bs))
+
+-- what is chosen
+abbrev pub chosen_of : ChosenRows → Chosen
+chosen_of own = own.chosen
+
+-- the same of all names
+abbrev pub all_chosen : (List ℕ → ChosenRows) → List ℕ → Chosen
+all_chosen own q = (own q).chosen
+
+stays_either : {T : Type 0} (f : ChosenRows → T) (b : Bool) (w o : ChosenRows) → (b ≡ true → f w ≡ f o) → f (cond b w o) ≡ f o
+stays_either f true w o h = h refl
+stays_either f false w o h = refl
+
+found_part : {T : Type 0} (f : ChosenRows → T) (bs q : List ℕ) (m : NameMap) (w : Named) → f (named_own w) ≡ f (own_under m bs) → bytes_eq bs q ≡ true → f (named_own w) ≡ f (own_under m q)
+found_part f bs q m w is e = is ∙ ap (λ name. f (own_under m name)) ((bytes_eq-Decides bs q).0 e)
+
+module _ {T : Type 0} (f : ChosenRows → T) (bs : List ℕ) (m n : NameMap) (w : Named) (writes : IsSetAt bs m n (Some w)) (is : f (named_own w) ≡ f (own_under m bs)) where
+  -- a part of the rows with what is chosen stays under each name after a write that leaves it
+  pub part_written : (q : List ℕ) → f (own_under n q) ≡ f (own_under m q)
+  part_written q = ap f (changed named_own no_rows bs m n w (λ _. named_own w) writes refl q) ∙ stays_either f (bytes_eq bs q) (named_own w) (own_under m q) (found_part f bs q m w is)
+
+  -- the same after the removal of a name without rows, of which nothing is chosen
+  pub part_replaced : (o : NameMap) → IsSetAt bs n o None → named_own w ≡ no_rows → (q : List ℕ) → f (own_under o q) ≡ f (own_under m q)
+  part_replaced o removes none q =
+      ap f (all_replaced bs m n o w writes removes none q) ∙ stays_either f (bytes_eq bs q) (named_own w) (own_under m q) (found_part f bs q m w is)
+
+chosen_cond : (b : Bool) (w o : ChosenRows) (x : Chosen) → w.chosen ≡ x → chosen_of (cond b w o) ≡ cond b x o.chosen
+chosen_cond true w o x h = h
+chosen_cond false w o x h = refl
+
+-- what is chosen of a name is written, and of others stays
+module _ (bs : List ℕ) (m n : NameMap) (w : Named) (writes : IsSetAt bs m n (Some w)) (x : Chosen) (is : (named_own w).chosen ≡ x) where
+  pub choice_written : (q : List ℕ) → chosen_under n q ≡ cond (bytes_eq bs q) x (chosen_under m q)
+  choice_written q = ap chosen_of (changed named_own no_rows bs m n w (λ _. named_own w) writes refl q) ∙ chosen_cond (bytes_eq bs q) (named_own w) (own_under m q) x is
+
+  pub choice_replaced : (o : NameMap) → IsSetAt bs n o None → named_own w ≡ no_rows → (q : List ℕ) → chosen_under o q ≡ cond (bytes_eq bs q) x (chosen_under m q)
+  choice_replaced o removes none q = ap chosen_of (all_replaced bs m n o w writes removes none q) ∙ chosen_cond (bytes_eq bs q) (named_own w) (own_under m q) x is
+
+-- of a name that isn't there nothing is chosen
+pub choice_absent : (bs : List ℕ) (m n : NameMap) (x : Chosen) → x ≡ no_choice → None ≡ at_name m bs → HasSameNames m n → (q : List ℕ) → chosen_under n q ≡ cond (bytes_eq bs q) x (chosen_under m q)
+choice_absent bs m n x is e same q = ap (λ o. chosen_of (option_map_or named_own o no_rows)) (same q) ∙ by (bytes_eq bs q) refl
+  where
+    by : (b : Bool) → bytes_eq bs q ≡ b → chosen_under m q ≡ cond b x (chosen_under m q)
+    by true t = ap (chosen_under m) (sym ((bytes_eq-Decides bs q).0 t)) ∙ ap chosen_of (none_under named_own no_rows bs m e) ∙ sym is
+    by false t = refl
+
+-- all but what is chosen stays where the same stands under each name
+pub same_rows : (m n : NameMap) → HasSameNames m n → HasSameRows m n
+same_rows m n same = record {
+  offers = λ i q. option_map_or named_offers (same q i) [];
+  namers = λ i q. option_map_or named_namers (same q i) [];
+  rows = λ i q. rows_of_own (option_map_or named_own (same q i) no_rows);
+}
+
+pub chosen_new : (bs : List ℕ) (m n : NameMap) (x : ChosenRows) → x.chosen ≡ no_choice → None ≡ at_name m bs → HasSameNames m n → (q : List ℕ) → chosen_of (cond (bytes_eq bs q) x (own_under n q)) ≡ chosen_under m q
+chosen_new bs m n x is e same q = by (bytes_eq bs q) refl
+  where
+    by : (b : Bool) → bytes_eq bs q ≡ b → chosen_of (cond b x (own_under n q)) ≡ chosen_under m q
+    by true t = is ∙ sym (ap chosen_of (none_under named_own no_rows bs m e)) ∙ ap (chosen_under m) ((bytes_eq-Decides bs q).0 t)
+    by false t = ap (λ o. chosen_of (option_map_or named_own o no_rows)) (same q)
 
 -- a name has rows, or what it had, once a key was put that may have been refused
-pub put_used : {O E : Type 0} (r : Result O E) (version : List ℕ) (key : StanzaKey) (v : Named) (new : Rows) → OnOk r (HasPut version key (named_rows v) new) → OnErr r (HasSame (named_rows v) new) → is_used v ≡ true
-    → is_used (record { offers = v.offers; namers = v.namers; rows = new }) ≡ true
-put_used (Ok x) version key v new put same used = used_rows (record { offers = v.offers; namers = v.namers; rows = new }) (put_there version key (named_rows v) new put)
-put_used (Err e) version key v new put same used = ap (λ b. not ((nat_eq (length (named_offers v)) 0 && nat_eq (length (named_namers v)) 0) && b)) (same_there (named_rows v) new same) ∙ used
+pub put_used : {O E : Type 0} (r : Result O E) (version : List ℕ) (key : StanzaKey) (v : Named) (new : Rows) → OnOk r (HasPut version key (named_own v).rows new) → OnErr r (HasSame (named_own v).rows new) → is_used v ≡ true
+    → is_used (record { offers = v.offers; namers = v.namers; own = own_by new v.own.chosen }) ≡ true
+put_used (Ok x) version key v new put same used = used_rows (record { offers = v.offers; namers = v.namers; own = own_by new v.own.chosen }) (put_there version key (named_own v).rows new put)
+put_used (Err e) version key v new put same used =
+    ap (λ b. not ((nat_eq (length (named_offers v)) 0 && nat_eq (length (named_namers v)) 0) && (b && not (is_some v.own.chosen.installed || is_some v.own.chosen.candidate)))) (same_there (named_own v).rows new same) ∙ used
 
 -- what holds where something was lent
 pub on_some : {X P : Type 0} {r : Option X} {x : X} → r ≡ Some x → OnSome r P → P

@@ -135,17 +135,17 @@ module _ (p : List ℕ → Bool) (m : NameMap) where
   from_short = filter (λ (e : NamedEntry). p e.0) m.short.tree.entries
 
   abbrev pub from_long : List NamedEntry
-  from_long = map long_entry (filter (λ (e : LongEntry). p e.0.items) m.long.entries)
+  from_long = map long_entry (filter (λ (e : LongEntry). p e.0.items) m.long.tree.entries)
 
   in_short : (q : List ℕ) → found_in from_short q ≡ cond (p q) (get (slice_cmp nat_cmp) m.short.tree q) None
   in_short q = part_found p q m.short.tree.entries ∙ ap (λ (o : Option Named). cond (p q) o None) (short_found q m.short.tree.entries)
 
-  in_long : (q : List ℕ) → found_in from_long q ≡ cond (p q) (at_bytes m.long q) None
-  in_long q = ap (λ es. found_in es q) (long_part p m.long.entries) ∙ part_found p q (map long_entry m.long.entries) ∙ ap (λ (o : Option Named). cond (p q) o None) (long_found q m.long.entries)
+  in_long : (q : List ℕ) → found_in from_long q ≡ cond (p q) (at_bytes m.long.tree q) None
+  in_long q = ap (λ es. found_in es q) (long_part p m.long.tree.entries) ∙ part_found p q (map long_entry m.long.tree.entries) ∙ ap (λ (o : Option Named). cond (p q) o None) (long_found q m.long.tree.entries)
 
   -- a short name is not in the second tree, and a longer one not in the first
-  no_long : (q : List ℕ) → length q ≤ most_short → is_some (at_bytes m.long q) ≡ false
-  no_long q few = not_some (at_bytes m.long q) (λ h. let many : most_short < length q = m.apart.longer q h in omega arith)
+  no_long : (q : List ℕ) → length q ≤ most_short → is_some (at_bytes m.long.tree q) ≡ false
+  no_long q few = not_some (at_bytes m.long.tree q) (λ h. let many : most_short < length q = m.apart.longer q h in omega arith)
 
   no_short : (q : List ℕ) → most_short < length q → is_some (get (slice_cmp nat_cmp) m.short.tree q) ≡ false
   no_short q many = not_some (get (slice_cmp nat_cmp) m.short.tree q) (λ h. let few : length q ≤ most_short = m.apart.shorter q h in omega arith)
@@ -153,18 +153,18 @@ module _ (p : List ℕ → Bool) (m : NameMap) where
   parts_apart : AreOthers from_short from_long
   parts_apart q h =
       let found = there (p q) (get (slice_cmp nat_cmp) m.short.tree q) (sym (ap (λ (o : Option Named). is_some o) (in_short q)) ∙ h) in
-      ap (λ (o : Option Named). is_some o) (in_long q) ∙ none_of (p q) (at_bytes m.long q) (no_long q (m.apart.shorter q found))
+      ap (λ (o : Option Named). is_some o) (in_long q) ∙ none_of (p q) (at_bytes m.long.tree q) (no_long q (m.apart.shorter q found))
 
-  long_order : AreLongSorted m.long.entries → AreSorted from_long
+  long_order : AreLongSorted m.long.tree.entries → AreSorted from_long
   long_order h =
-      subst AreSorted (sym (long_part p m.long.entries)) (part_sorted p (map long_entry m.long.entries) (long_sorted m.long.entries h))
+      subst AreSorted (sym (long_part p m.long.tree.entries)) (part_sorted p (map long_entry m.long.tree.entries) (long_sorted m.long.tree.entries h))
 
   long_passes : AllByRecursion (λ name. p name ≡ true) (entry_names from_long)
-  long_passes = subst (λ (es : List NamedEntry). AllByRecursion (λ name. p name ≡ true) (entry_names es)) (sym (long_part p m.long.entries)) (part_passes p (map long_entry m.long.entries))
+  long_passes = subst (λ (es : List NamedEntry). AllByRecursion (λ name. p name ≡ true) (entry_names es)) (sym (long_part p m.long.tree.entries)) (part_passes p (map long_entry m.long.tree.entries))
 
   -- ---- both parts in one
 
-  pub both_order : AreSorted m.short.tree.entries → AreLongSorted m.long.entries → AreSorted (merged from_short from_long)
+  pub both_order : AreSorted m.short.tree.entries → AreLongSorted m.long.tree.entries → AreSorted (merged from_short from_long)
   both_order short_sorted sorted = merged_order from_short from_long parts_apart (part_sorted p m.short.tree.entries short_sorted) (long_order sorted)
 
   both_pass : AllByRecursion (λ name. p name ≡ true) (entry_names (merged from_short from_long))
@@ -173,9 +173,9 @@ module _ (p : List ℕ → Bool) (m : NameMap) where
   pub both_found : (q : List ℕ) → p q ≡ true → found_in (merged from_short from_long) q ≡ at_name m q
   both_found q is =
       merged_found from_short from_long parts_apart q ∙ (λ i. option_or (in_short q i) (in_long q i))
-      ∙ ap (λ (b : Bool). option_or (cond b (get (slice_cmp nat_cmp) m.short.tree q) None) (cond b (at_bytes m.long q) None)) is ∙ by (nat_le (length q) most_short) refl
+      ∙ ap (λ (b : Bool). option_or (cond b (get (slice_cmp nat_cmp) m.short.tree q) None) (cond b (at_bytes m.long.tree q) None)) is ∙ by (nat_le (length q) most_short) refl
     where
-      by : (b : Bool) → nat_le (length q) most_short ≡ b → option_or (get (slice_cmp nat_cmp) m.short.tree q) (at_bytes m.long q) ≡ cond b (get (slice_cmp nat_cmp) m.short.tree q) (at_bytes m.long q)
+      by : (b : Bool) → nat_le (length q) most_short ≡ b → option_or (get (slice_cmp nat_cmp) m.short.tree q) (at_bytes m.long.tree q) ≡ cond b (get (slice_cmp nat_cmp) m.short.tree q) (at_bytes m.long.tree q)
       by true few = or_none _ _ (no_long q (at_most (length q) most_short few))
       by false many = none_or _ _ (no_short q (more (length q) most_short many))
 
@@ -187,25 +187,25 @@ module _ (p : List ℕ → Bool) (m : NameMap) where
       by false is =
           let none : found_in (merged from_short from_long) q ≡ None =
           merged_found from_short from_long parts_apart q ∙ (λ i. option_or (in_short q i) (in_long q i))
-          ∙ ap (λ (b : Bool). option_or (cond b (get (slice_cmp nat_cmp) m.short.tree q) None) (cond b (at_bytes m.long q) None)) is in
+          ∙ ap (λ (b : Bool). option_or (cond b (get (slice_cmp nat_cmp) m.short.tree q) None) (cond b (at_bytes m.long.tree q) None)) is in
           absurd (true≢false (sym h ∙ ap (λ (o : Option Named). is_some o) none))
 
   -- ---- of the second tree alone
 
   long_found_alone : (q : List ℕ) → p q ≡ true → most_short < length q → found_in from_long q ≡ at_name m q
   long_found_alone q is many =
-      in_long q ∙ ap (λ (b : Bool). cond b (at_bytes m.long q) None) is
-      ∙ sym (ap (λ (b : Bool). cond b (get (slice_cmp nat_cmp) m.short.tree q) (at_bytes m.long q)) (not_at_most (length q) most_short many))
+      in_long q ∙ ap (λ (b : Bool). cond b (at_bytes m.long.tree q) None) is
+      ∙ sym (ap (λ (b : Bool). cond b (get (slice_cmp nat_cmp) m.short.tree q) (at_bytes m.long.tree q)) (not_at_most (length q) most_short many))
 
   long_only_alone : (q : List ℕ) → is_some (found_in from_long q) ≡ true → found_in from_long q ≡ at_name m q
   long_only_alone q h = by (p q) refl
     where
-      in_part : is_some (cond (p q) (at_bytes m.long q) None) ≡ true
+      in_part : is_some (cond (p q) (at_bytes m.long.tree q) None) ≡ true
       in_part = sym (ap (λ (o : Option Named). is_some o) (in_long q)) ∙ h
 
       by : (b : Bool) → p q ≡ b → found_in from_long q ≡ at_name m q
-      by true is = long_found_alone q is (m.apart.longer q (there (p q) (at_bytes m.long q) in_part))
-      by false is = absurd (true≢false (sym in_part ∙ ap (λ (b : Bool). is_some (cond b (at_bytes m.long q) None)) is))
+      by true is = long_found_alone q is (m.apart.longer q (there (p q) (at_bytes m.long.tree q) in_part))
+      by false is = absurd (true≢false (sym in_part ∙ ap (λ (b : Bool). is_some (cond b (at_bytes m.long.tree q) None)) is))
 
 -- ---- from a prefix on
 
@@ -242,19 +242,19 @@ module _ (prefix : List ℕ) (m : NameMap) where
   short_range first = filter (λ (e : NamedEntry). is_le (slice_cmp nat_cmp first e.0) && true) m.short.tree.entries
 
   abbrev pub long_range : List NamedEntry
-  long_range = map long_entry (filter (λ (e : LongEntry). is_le (slice_cmp nat_cmp prefix e.0.items) && true) m.long.entries)
+  long_range = map long_entry (filter (λ (e : LongEntry). is_le (slice_cmp nat_cmp prefix e.0.items) && true) m.long.tree.entries)
 
   short_is : (first : List ℕ) → first ≡ prefix → short_range first ≡ from_short (is_from prefix) m
   short_is first is i = filter (λ (e : NamedEntry). plain (is_le (slice_cmp nat_cmp (is i) e.0)) i) m.short.tree.entries
 
   long_is : long_range ≡ from_long (is_from prefix) m
-  long_is i = map long_entry (filter (λ (e : LongEntry). plain (is_le (slice_cmp nat_cmp prefix e.0.items)) i) m.long.entries)
+  long_is i = map long_entry (filter (λ (e : LongEntry). plain (is_le (slice_cmp nat_cmp prefix e.0.items)) i) m.long.tree.entries)
 
   -- what `entries_from` promises of entries
   abbrev pub ArePromised : List NamedEntry → Type 0
   ArePromised es = AreFrom prefix (entry_names es) × (((q : List ℕ) → starts_with nat_eq q prefix ≡ true → found_in es q ≡ at_name m q) × ((q : List ℕ) → is_some (found_in es q) ≡ true → found_in es q ≡ at_name m q))
 
-  module _ (sorted : AreLongSorted m.long.entries) where
+  module _ (sorted : AreLongSorted m.long.tree.entries) where
     pub both_promised : (first : List ℕ) → first ≡ prefix → AreSorted m.short.tree.entries → ArePromised (merged (short_range first) long_range)
     both_promised first is short_sorted =
         subst ArePromised (λ i. merged (sym (short_is first is) i) (sym long_is i))

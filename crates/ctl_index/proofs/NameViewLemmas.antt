@@ -8,11 +8,11 @@ use Rattle.ctl_store.specs.Store.{Held}
 use Rattle.ctl_policy.specs.Rows.{newest_first, keys_of_row}
 use Rattle.ctl_index.specs.declared.named.Named.{Named}
 use Rattle.ctl_index.specs.declared.keys.OfferKey.{OfferKey}
-use Rattle.ctl_index.specs.Inside.TablesByName.{named_rows}
+use Rattle.ctl_index.specs.Inside.TablesByName.{named_own, no_rows}
 use Rattle.ctl_index.specs.Inside.TablesViews.{shown_rows, offering, offer_found}
 
 -- the rows of the entry of a name, where no rows are shown as none
-pub rows_of_entry : newest_first fin.empty ≡ [] → (o : Option Named) → option_map_or shown_rows o [] ≡ map keys_of_row (newest_first (option_map_or named_rows o fin.empty))
+pub rows_of_entry : newest_first fin.empty ≡ [] → (o : Option Named) → option_map_or shown_rows o [] ≡ map keys_of_row (newest_first (option_map_or named_own o no_rows).rows)
 rows_of_entry none (Some named) = refl
 rows_of_entry none None = (λ i. map keys_of_row (sym none i))
 

@@ -12,7 +12,6 @@ use Rattle.std.proofs.lemmas.Bool.Decides.{nat_tests}
 use Rattle.std.proofs.lemmas.List.Sums.{sum_by-append, sum_by-cons}
 use Rattle.std.proofs.lemmas.Map.Made.{is_some-lookup}
 use Rattle.std.proofs.lemmas.Map.Text.{is_eq-slice_cmp}
-use Rattle.std.specs.FinMap as fin
 use Rattle.ctl_relation.specs.declared.field_kind.FieldKind.{FieldKind}
 use Rattle.ctl_relation.specs.Parts.{AtomParts, OfferParts}
 use Rattle.ctl_stanza.specs.Content.{Content, groups_of, offers_of}
@@ -23,7 +22,7 @@ use Rattle.ctl_index.specs.declared.tables.Tables.{Tables}
 use Rattle.ctl_index.specs.Names.{naming_fields, naming_atoms, names_told, known_names, keyed_group, keyed_groups, keyed_atoms}
 use Rattle.ctl_index.specs.Offers.{contents}
 use Rattle.ctl_index.specs.Inside.NameMap.{NamedEntry, entry_names, found_in}
-use Rattle.ctl_index.specs.Inside.TablesByName.{NameMap, at_name, offers_under, namers_under, rows_under, named_offers, named_namers, named_rows, is_used, AreUsed}
+use Rattle.ctl_index.specs.Inside.TablesByName.{NameMap, at_name, offers_under, namers_under, own_under, no_rows, named_offers, named_namers, named_own, is_bare, is_used, AreUsed}
 use Rattle.ctl_index.specs.Inside.TablesIndexed.{IsIndexed, keyed_offers_from, keyed_offers, offer_named, atom_named}
 use Rattle.ctl_index.proofs.OrderLemmas.{is_among, is_in_order, among_in_order}
 use Rattle.ctl_index.proofs.SumLemmas.{sum-cong, sum-plus, sum-flat_map, sum-map}
@@ -93,12 +92,12 @@ module _ (q : List ℕ) where
 
 -- ---- the names of the table
 
--- what has rows has offers
+-- what has rows, or of which anything is chosen, has offers
 abbrev pub HasOffers : NameMap → List ℕ → Type 0
-HasOffers m q = nat_eq (fin.len (rows_under m q)) 0 ≡ false → nat_eq (length (offers_under m q)) 0 ≡ false
+HasOffers m q = is_bare (own_under m q) ≡ false → nat_eq (length (offers_under m q)) 0 ≡ false
 
-used-sum : (a b r : ℕ) → (nat_eq r 0 ≡ false → nat_eq a 0 ≡ false) → not ((nat_eq a 0 && nat_eq b 0) && nat_eq r 0) ≡ not (nat_eq (a + b) 0)
-used-sum a b r h = by (nat_eq a 0) (nat_eq b 0) (nat_eq r 0) refl refl h
+used-sum : (a b : ℕ) (bare : Bool) → (bare ≡ false → nat_eq a 0 ≡ false) → not ((nat_eq a 0 && nat_eq b 0) && bare) ≡ not (nat_eq (a + b) 0)
+used-sum a b bare h = by (nat_eq a 0) (nat_eq b 0) bare refl refl h
   where
     none : nat_eq a 0 ≡ true → nat_eq b 0 ≡ true → nat_eq (a + b) 0 ≡ true
     none e f = grind (arith, nat_tests)
@@ -119,10 +118,10 @@ used-sum a b r h = by (nat_eq a 0) (nat_eq b 0) (nat_eq r 0) refl refl h
 there-used : (m : NameMap) (q : List ℕ) → AreUsed m → HasOffers m q → is_some (at_name m q) ≡ not (nat_eq (length (offers_under m q) + length (namers_under m q)) 0)
 there-used m q used offered = by (at_name m q) (used q) offered
   where
-    by : (o : Option Named) → option_map_or is_used o true ≡ true → (nat_eq (fin.len (option_map_or named_rows o fin.empty)) 0 ≡ false → nat_eq (length (option_map_or named_offers o [])) 0 ≡ false)
+    by : (o : Option Named) → option_map_or is_used o true ≡ true → (is_bare (option_map_or named_own o no_rows) ≡ false → nat_eq (length (option_map_or named_offers o [])) 0 ≡ false)
         → is_some o ≡ not (nat_eq (length (option_map_or named_offers o []) + length (option_map_or named_namers o [])) 0)
     by None u offered = refl
-    by (Some v) u offered = sym u ∙ used-sum (length (named_offers v)) (length (named_namers v)) (fin.len (named_rows v)) offered
+    by (Some v) u offered = sym u ∙ used-sum (length (named_offers v)) (length (named_namers v)) (is_bare (named_own v)) offered
 
 pub looked-up : {V : Type 0} (q : List ℕ) (es : List (Vec ℕ Global × V)) → is_some (lookup (λ k. is_eq (slice_cmp nat_cmp q k.items)) es) ≡ is_among (map (λ (k : Vec ℕ Global). k.items) (map (λ (e : Vec ℕ Global × V). e.0) es)) q
 looked-up q [] = refl

@@ -1,10 +1,11 @@
--- A name with rows has an offer: that of a live stanza of its package.
-use Rattle.std.proofs.Common.{◌≡◌, ℕ, suc, arith, Bool, true, false, cond, nat_eq, ◌&&◌, ◌||◌, length, List, [], ◌∷◌, Option, None, Some, refl, ap, sym, ◌∙◌, unwrap_or}
+-- A name with rows has an offer: that of a live stanza of its package. Of a name without rows nothing is chosen.
+use Rattle.std.proofs.Common.{◌≡◌, ℕ, suc, arith, Bool, true, false, not, cond, is_some, nat_eq, ◌&&◌, ◌||◌, length, List, [], ◌∷◌, Option, None, Some, refl, ap, sym, ◌∙◌, unwrap_or}
 use Rattle.std.specs.List.{list_any}
 use Rattle.std.specs.Option.{option_map_or}
 use Rattle.std.specs.Str.{bytes_eq}
 use Rattle.std.specs.Cmp.Lexicographic.{nat_list_eq_equiv}
 use Rattle.std.specs.FinMap as fin
+use Rattle.std.proofs.lemmas.Bool.{true≢false}
 use Rattle.std.proofs.lemmas.Bool.Decides.{nat_tests}
 use Rattle.ctl_stanza.specs.Content.{Content, package_of, is_live, body_of}
 use Rattle.ctl_stanza.specs.Fields.{version_name}
@@ -12,15 +13,21 @@ use Rattle.ctl_store.specs.declared.stanza_key.StanzaKey.{StanzaKey}
 use Rattle.ctl_store.specs.Keys.{key_is}
 use Rattle.ctl_store.specs.Entries.{Entry}
 use Rattle.ctl_store.specs.Followed.{under}
+use Rattle.ctl_store.specs.Store.{Held, keyed_of}
 use Rattle.ctl_policy.specs.Keys.{has_key, or_none, some_keys}
-use Rattle.ctl_policy.specs.Rows.{is_of_version, is_in_row}
+use Rattle.ctl_policy.specs.declared.chosen.Chosen.{Chosen}
+use Rattle.ctl_policy.specs.Chosen.{AreChosen, choice_in, no_choice}
+use Rattle.ctl_policy.specs.Priority.{World, world_of}
+use Rattle.ctl_policy.specs.Rows.{Lists, Rows, AreRowsOf, is_of_version, is_in_row, newest_first, rows_named}
 use Rattle.ctl_index.specs.declared.tables.Tables.{Tables}
 use Rattle.ctl_index.specs.Offers.{contents}
-use Rattle.ctl_index.specs.Inside.TablesByName.{offers_under, rows_under}
+use Rattle.ctl_index.specs.HeldCache.{standing}
+use Rattle.ctl_index.specs.Inside.TablesByName.{AreOffered, offers_under, rows_under, chosen_under}
+use Rattle.ctl_index.specs.Inside.TablesHeld.{chosen_in}
 use Rattle.ctl_index.specs.Inside.TablesIndexed.{IsIndexed}
 use Rattle.ctl_index.specs.Inside.TablesViews.{is_own}
-use Rattle.ctl_index.proofs.NamesLemmas.{HasOffers}
 use Rattle.ctl_index.proofs.PackageLemmas.{own_under}
+use Rattle.ctl_index.proofs.NameLemmas.{none_is}
 use Rattle.ctl_index.proofs.RowLemmas.{some_row}
 use Rattle.ctl_index.proofs.StoreLemmas.{key_is-own}
 
@@ -59,7 +66,7 @@ under_any p k x (e ∷ es) h t = by (key_is k e.0) h (λ g. under_any p k x es g
     by true h rest = or_left (p e.1) (list_any p (contents es)) (ap (λ o. p (unwrap_or o x)) h ∙ t)
     by false h rest = or_right (p e.1) (list_any p (contents es)) (rest h)
 
-pub rows_offered : (es : List Entry) (t : Tables) → IsIndexed es t → (q : List ℕ) → HasOffers t.names.map q
+rows_offered : (es : List Entry) (t : Tables) → IsIndexed es t → (q : List ℕ) → nat_eq (fin.len (rows_under t.names.map q)) 0 ≡ false → nat_eq (length (offers_under t.names.map q)) 0 ≡ false
 rows_offered es t was q h =
     let row = some_row (rows_under t.names.map q) h in
     some_any is_own (offers_under t.names.map q) (own_under q es t was ∙ by row.version row.keys row.there)
@@ -74,3 +81,26 @@ rows_offered es t was q h =
         absurd (let z : ⊥ = cc in z)
     by v (k ∷ ks) there =
         found v k (under k es) refl (sym (was.rows.held q v k) ∙ ap (λ o. has_key k (or_none o)) there ∙ or_left (key_is k k) (has_key k ks) (key_is-own k))
+
+-- what the laws of the policy say of names without rows
+pub record NoneWithoutRows : Type 0 where
+  pub alike : (rows : Rows) → (name : List ℕ) → (lists : Lists) → AreRowsOf rows name lists → newest_first rows ≡ newest_first (rows_named name lists)
+  pub none : newest_first fin.empty ≡ []
+  pub choice : (name : List ℕ) → (w : World) → newest_first (rows_named name w.lists) ≡ [] → choice_in name w ≡ no_choice
+
+-- whether a row is installed, or there is a candidate
+abbrev is_any : Chosen → Bool
+is_any chosen = is_some chosen.installed || is_some chosen.candidate
+
+module _ (law : NoneWithoutRows) (h : Held) (t : Tables) (rows : (q : List ℕ) → AreRowsOf (rows_under t.names.map q) q (keyed_of h).lists) (chosen : AreChosen (chosen_in t) (world_of h)) where
+  unchosen : (q : List ℕ) → nat_eq (fin.len (rows_under t.names.map q)) 0 ≡ true → chosen_under t.names.map q ≡ no_choice
+  unchosen q len =
+      let empty : rows_under t.names.map q ≡ fin.empty = fin.empty_of_len (rows_under t.names.map q) (none_is (fin.len (rows_under t.names.map q)) len) in
+      chosen q ∙ law.choice q (world_of h) (sym (law.alike (rows_under t.names.map q) q (keyed_of h).lists (rows q)) ∙ ap newest_first empty ∙ law.none)
+
+  pub chosen_offered : IsIndexed (standing h) t → AreOffered t.names.map
+  chosen_offered was q e = by (nat_eq (fin.len (rows_under t.names.map q)) 0) refl e
+    where
+      by : (b : Bool) → nat_eq (fin.len (rows_under t.names.map q)) 0 ≡ b → (b && not (is_any (chosen_under t.names.map q))) ≡ false → nat_eq (length (offers_under t.names.map q)) 0 ≡ false
+      by true len bare = absurd (true≢false (sym (ap (λ c. not (is_any c)) (unchosen q len)) ∙ bare))
+      by false len bare = rows_offered (standing h) t was q len

@@ -1,5 +1,5 @@
 -- The rows of one name: whether there is one, and what a key that comes or goes makes of them.
-use Rattle.std.proofs.Common.{◌≡◌, ℕ, Bool, true, false, cond, nat_eq, length, List, [], ◌∷◌, map, Option, None, Some, refl, ap, sym, ◌∙◌, arith}
+use Rattle.std.proofs.Common.{◌≡◌, ℕ, Bool, true, false, not, cond, nat_eq, length, List, [], ◌∷◌, map, Option, None, Some, refl, ap, sym, ◌∙◌, arith}
 use Rattle.std.specs.Bool.{OnTrue, OnFalse}
 use Rattle.std.specs.Ordering.{is_eq}
 use Rattle.std.specs.FinMap as fin
@@ -11,7 +11,7 @@ use Rattle.ctl_relation.specs.Orders.Versions.{version_total}
 use Rattle.ctl_store.specs.declared.stanza_key.StanzaKey.{StanzaKey}
 use Rattle.ctl_policy.specs.Keys.{with_key, without_key, or_none, some_keys}
 use Rattle.ctl_policy.specs.Kept.{HasPut, HasTaken, HasSame}
-use Rattle.ctl_policy.specs.Rows.{Rows, keys_at, newest_first}
+use Rattle.ctl_policy.specs.Rows.{Row, Rows, is_any_row, keys_at, newest_first}
 
 abbrev NamedRow : Type 0
 NamedRow = List ℕ × List StanzaKey
@@ -76,6 +76,20 @@ bare_is b r t f = by b t f
     by : (b : Bool) → OnTrue b (newest_first r ≡ []) → OnFalse b (newest_first r ≡ [] → ⊥) → b ≡ nat_eq (fin.len r) 0
     by true t f = let z : fin.len r ≡ 0 = sym same ∙ ap length t in sym (ap (λ n. nat_eq n 0) z)
     by false t f = none (nat_eq (fin.len r) 0) refl f
+
+-- whether there is a row, by their number
+pub any_row : (r : Rows) → not (nat_eq (fin.len r) 0) ≡ is_any_row (newest_first r)
+any_row r = by (newest_first r) refl
+  where
+    by : (rows : List Row) → newest_first r ≡ rows → not (nat_eq (fin.len r) 0) ≡ is_any_row rows
+    by [] e = ap not (sym (bare_is true r e tt))
+    by (row ∷ rows) e = ap not (sym (bare_is false r tt (λ none. let both : ◌≡◌ {A = List Row} (row ∷ rows) [] = sym e ∙ none in let z : ⊥ = cc in z)))
+
+-- the same by a test for no row
+pub not_bare : (b : Bool) (rows : List Row) → OnTrue b (rows ≡ []) → OnFalse b (rows ≡ [] → ⊥) → not b ≡ is_any_row rows
+not_bare true rows t f = sym (ap is_any_row t)
+not_bare false [] t f = absurd (f refl)
+not_bare false (row ∷ rows) t f = refl
 
 -- rows that answer alike are some or none alike
 pub same_there : (old new : Rows) → HasSame old new → nat_eq (fin.len new) 0 ≡ nat_eq (fin.len old) 0

@@ -1,13 +1,12 @@
 -- What a write into one of the two trees of names leaves under any name.
-use Rattle.std.proofs.Common.{◌≡◌, ℕ, ◌<◌, ◌≤◌, Bool, true, false, cond, length, List, Option, None, Some, is_some, IsSome, Vec, Global, refl, ap, sym, subst, ◌∙◌, arith, nat_le, nat_cmp, MutBor, OnSome, Result, Ok, Err, OnOk, OnErr}
-use Rattle.std.specs.BTreeMap.{BTreeMap, UpdatesBy, WritesThrough, IsUnchanged, get, keys}
+use Rattle.std.proofs.Common.{◌≡◌, ℕ, ◌<◌, ◌≤◌, Bool, true, false, cond, length, List, Option, None, Some, is_some, option_map, IsSome, Vec, Global, refl, ap, sym, subst, ◌∙◌, arith, nat_le, nat_cmp, MutBor, OnSome, Result, Ok, Err, OnOk, OnErr}
+use Rattle.std.specs.BTreeMap.{BTreeMap, UpdatesBy, IsUnchanged, get, keys}
 use Rattle.std.specs.Cmp.{eq_by_cmp_equiv}
 use Rattle.std.specs.Cmp.Lexicographic.{slice_cmp, nat_list_cmp_total, nat_list_eq_equiv}
 use Rattle.std.specs.Option.{option_copied_mut}
 use Rattle.std.specs.Map.{lookup, KeepsOthers, IsKeyTest, AreApart as ArePartedTests}
 use Rattle.std.specs.List.{list_any}
 use Rattle.std.specs.Ordering.{is_eq}
-use Rattle.std.specs.declared.cmp.Ordering.{Ordering}
 use Rattle.std.specs.Str.{bytes_eq}
 use Rattle.std.proofs.lemmas.Bool.{true≢false}
 use Rattle.std.proofs.lemmas.Bool.Decides.{nat_tests}
@@ -92,6 +91,9 @@ set_long name short old new w many h q = by (nat_le (length q) most_short) (byte
 pub same_short : (old new : Short) (long : Long) → IsUnchanged old new → (q : List ℕ) → at_either new long q ≡ at_either old long q
 same_short old new long same q = ap (λ es. cond (nat_le (length q) most_short) (lookup (λ k. is_eq (slice_cmp nat_cmp q k)) es) (at_bytes long q)) same
 
+pub same_long : (short : Short) (old new : Long) → IsUnchanged old new → (q : List ℕ) → at_either short new q ≡ at_either short old q
+same_long short old new same q = ap (λ es. cond (nat_le (length q) most_short) (get (slice_cmp nat_cmp) short q) (lookup (λ (k : Vec ℕ Global). is_eq (slice_cmp nat_cmp q k.items)) es)) same
+
 -- ---- the trees stay apart
 
 pub apart_short : (name : List ℕ) (old new : Short) (long : Long) (w : Option Named) → length name ≤ most_short → IsShortSet name old new w → AreApart old long → AreApart new long
@@ -115,11 +117,11 @@ apart_lent old new long h apart = record { shorter = λ q there. apart.shorter q
     same : (q : List ℕ) → is_some (get (slice_cmp nat_cmp) old q) ≡ is_some (get (slice_cmp nat_cmp) new q)
     same q = is_some-lookup (λ k. is_eq (slice_cmp nat_cmp q k)) old.entries ∙ ap (list_any (λ k. is_eq (slice_cmp nat_cmp q k))) (sym h) ∙ sym (is_some-lookup (λ k. is_eq (slice_cmp nat_cmp q k)) new.entries)
 
-pub apart_lent_long : (compare : Vec ℕ Global → Ordering) (short : Short) (old new : Long) (w : Named) → WritesThrough (λ x y. slice_cmp nat_cmp x.items y.items) compare old w new → AreApart short old → AreApart short new
-apart_lent_long compare short old new w h apart = record { shorter = apart.shorter; longer = λ q there. apart.longer q (same q ∙ there) }
+pub apart_lent_long : (short : Short) (old new : Long) → keys new ≡ keys old → AreApart short old → AreApart short new
+apart_lent_long short old new h apart = record { shorter = apart.shorter; longer = λ q there. apart.longer q (same q ∙ there) }
   where
     same : (q : List ℕ) → is_some (at_bytes old q) ≡ is_some (at_bytes new q)
-    same q = is_some-lookup (λ k. is_eq (slice_cmp nat_cmp q k.items)) old.entries ∙ ap (list_any (λ (k : Vec ℕ Global). is_eq (slice_cmp nat_cmp q k.items))) (sym h.1) ∙ sym (is_some-lookup (λ k. is_eq (slice_cmp nat_cmp q k.items)) new.entries)
+    same q = is_some-lookup (λ k. is_eq (slice_cmp nat_cmp q k.items)) old.entries ∙ ap (list_any (λ (k : Vec ℕ Global). is_eq (slice_cmp nat_cmp q k.items))) (sym h) ∙ sym (is_some-lookup (λ k. is_eq (slice_cmp nat_cmp q k.items)) new.entries)
 
 -- what holds where something was lent
 pub on_lent : {P : Type 0} (r : Option (MutBor Named)) (o : Option Named) → option_copied_mut r ≡ o → (IsSome o → P) → OnSome r P
@@ -142,3 +144,38 @@ apart_same short new_short long new_long s l apart = record {
   shorter = λ q there. apart.shorter q (ap (λ es. is_some (lookup (λ k. is_eq (slice_cmp nat_cmp q k)) es)) (sym s) ∙ there);
   longer = λ q there. apart.longer q (ap (λ es. is_some (lookup (λ (k : Vec ℕ Global). is_eq (slice_cmp nat_cmp q k.items)) es)) (sym l) ∙ there);
 }
+
+-- ---- what stands in one of the trees
+
+pub short_at : (short : Short) (long : Long) → AreApart short long → (q : List ℕ) (v : Named) → get (slice_cmp nat_cmp) short q ≡ Some v → at_either short long q ≡ Some v
+short_at short long apart q v e = by (nat_le (length q) most_short) refl
+  where
+    by : (b : Bool) → nat_le (length q) most_short ≡ b → at_either short long q ≡ Some v
+    by true t = ap (λ b. cond b (get (slice_cmp nat_cmp) short q) (at_bytes long q)) t ∙ e
+    by false t = absurd (true≢false (not_short (length q) t (apart.shorter q (ap is_some e))))
+
+pub long_at : (short : Short) (long : Long) → AreApart short long → (q : List ℕ) (v : Named) → at_bytes long q ≡ Some v → at_either short long q ≡ Some v
+long_at short long apart q v e = by (nat_le (length q) most_short) refl
+  where
+    by : (b : Bool) → nat_le (length q) most_short ≡ b → at_either short long q ≡ Some v
+    by true t = absurd (true≢false (not_long (length q) t (apart.longer q (ap is_some e))))
+    by false t = ap (λ b. cond b (get (slice_cmp nat_cmp) short q) (at_bytes long q)) t ∙ e
+
+mapped_some : {X : Type 0} (f : X → X) (o : Option X) → is_some (option_map f o) ≡ is_some o
+mapped_some f None = refl
+mapped_some f (Some x) = refl
+
+-- both trees after each value was written anew by its name
+module _ (f : List ℕ → Named → Named) (short s : Short) (long l : Long) (are : (q : List ℕ) → get (slice_cmp nat_cmp) s q ≡ option_map (f q) (get (slice_cmp nat_cmp) short q)) (also : (q : List ℕ) → at_bytes l q ≡ option_map (f q) (at_bytes long q)) where
+  pub mapped_at : (q : List ℕ) → at_either s l q ≡ option_map (f q) (at_either short long q)
+  mapped_at q = by (nat_le (length q) most_short)
+    where
+      by : (b : Bool) → cond b (get (slice_cmp nat_cmp) s q) (at_bytes l q) ≡ option_map (f q) (cond b (get (slice_cmp nat_cmp) short q) (at_bytes long q))
+      by true = are q
+      by false = also q
+
+  pub mapped_apart : AreApart short long → AreApart s l
+  mapped_apart apart = record {
+    shorter = λ q e. apart.shorter q (sym (mapped_some (f q) (get (slice_cmp nat_cmp) short q)) ∙ sym (ap is_some (are q)) ∙ e);
+    longer = λ q e. apart.longer q (sym (mapped_some (f q) (at_bytes long q)) ∙ sym (ap is_some (also q)) ∙ e);
+  }

@@ -4,11 +4,11 @@ ghost use Rattle.std.specs.Prelude.{◌≡◌, ◌∷◌, [], ◌+◌, ◌≤◌
 ghost use Rattle.std.specs.List.{All, sum_by};
 ghost use Rattle.ctl_relation.specs.Bounds.{atom_count};
 ghost use Rattle.ctl_index.specs.Clauses.{clause_at};
-ghost use Rattle.ctl_index.specs.Inside.TablesByName.{offers_under, namers_under, rows_under};
+ghost use Rattle.ctl_index.specs.Inside.TablesByName.{offers_under, namers_under, own_under};
 ghost use Rattle.ctl_index.specs.Inside.TablesCounters.{counted_up};
 ghost use Rattle.ctl_index.specs.Inside.TablesWaiting.{told};
 ghost use Rattle.ctl_index.specs.Inside.TablesFit.{IsWholeAt};
-ghost use Rattle.ctl_index.specs.Inside.TablesHeld.{HasTested, TestsAtMost, namers_in, number_in, number_told, offers_in, rows_in};
+ghost use Rattle.ctl_index.specs.Inside.TablesHeld.{HasTested, TestsAtMost, namers_in, number_in, number_told, offers_in, own_in};
 ghost use Rattle.ctl_index.specs.Inside.TablesIndexed.{atom_named, keyed_offers_from, namers_sum, offer_named, offers_sum};
 ghost use Rattle.ctl_index.specs.Inside.TablesLoaded.{ComeApart, all_hits, group_named, number_with};
 ghost use Rattle.ctl_index.specs.Inside.TablesPending.{entries_seen, seen};
@@ -41,7 +41,7 @@ fn put_offers_of(
     ensures offers { OnOk result ((q : List ℕ) (f : OfferKey → ℕ) → sum_by f (offers_in tables.new q)
         ≡ sum_by f (offers_in tables.old q) + sum_by (offer_named q f) (keyed_offers_from key 0 offers.now)) }
     ensures namers { OnOk result (namers_in tables.new ≡ namers_in tables.old) }
-    ensures rows { OnOk result (rows_in tables.new ≡ rows_in tables.old) }
+    ensures rows { OnOk result (own_in tables.new ≡ own_in tables.old) }
     ensures counts { OnOk result ((k : ClauseKey) → number_in tables.new k
         ≡ option_map (counted_up (all_hits pending.now (namers_in tables.old) offers.now k)) (number_in tables.old k)) }
     ensures steps { OnOk result (HasTested (all_tested pending.now (namers_in tables.old) offers.now) tables.old tables.new) }
@@ -75,7 +75,7 @@ fn put_offers_at(
     ensures offers { OnOk result ((q : List ℕ) (f : OfferKey → ℕ) → sum_by f (offers_in tables.new q)
         ≡ sum_by f (offers_in tables.old q) + offers_sum q f (entries_seen pending.now (key ∷ []))) }
     ensures namers { OnOk result (namers_in tables.new ≡ namers_in tables.old) }
-    ensures rows { OnOk result (rows_in tables.new ≡ rows_in tables.old) }
+    ensures rows { OnOk result (own_in tables.new ≡ own_in tables.old) }
     ensures counts { OnOk result ((k : ClauseKey) → number_in tables.new k
         ≡ option_map (counted_up
         (all_hits pending.now (namers_in tables.old) (offers_among (contents (entries_seen pending.now (key ∷ [])))) k))
@@ -105,7 +105,7 @@ pub(crate) fn put_offers(
     ensures offers { OnOk result ((q : List ℕ) (f : OfferKey → ℕ) → sum_by f (offers_in tables.new q)
         ≡ sum_by f (offers_in tables.old q) + offers_sum q f (entries_seen pending.now keys.now)) }
     ensures namers { OnOk result (namers_in tables.new ≡ namers_in tables.old) }
-    ensures rows { OnOk result (rows_in tables.new ≡ rows_in tables.old) }
+    ensures rows { OnOk result (own_in tables.new ≡ own_in tables.old) }
     ensures counts { OnOk result ((k : ClauseKey) → number_in tables.new k
         ≡ option_map (counted_up
         (all_hits pending.now (namers_in tables.old) (offers_among (contents (entries_seen pending.now keys.now))) k))
@@ -134,7 +134,7 @@ fn put_group(
         ≡ sum_by f (namers_under names.old.map q)
         + sum_by (atom_named q f) (keyed_group clause.stanza clause.field clause.group 0 group.now)) }
     ensures offers { OnOk result (offers_under names.new.map ≡ offers_under names.old.map) }
-    ensures rows { OnOk result (rows_under names.new.map ≡ rows_under names.old.map) }
+    ensures rows { OnOk result (own_under names.new.map ≡ own_under names.old.map) }
     ensures met { IfOk result (λ met. met ≡ group_met pending.now clause.field (offers_under names.old.map) group.now) }
     ensures few { IfOk result (λ met. met < 2 ^ 96) }
     ensures steps { OnOk result (steps.new
@@ -183,7 +183,7 @@ fn put_groups(
     ensures namers { OnOk result ((q : List ℕ) (f : NamingAtom → ℕ) → sum_by f (namers_in tables.new q)
         ≡ sum_by f (namers_in tables.old q) + sum_by (atom_named q f) (keyed_groups key field 0 groups.entry)) }
     ensures offers { OnOk result (offers_in tables.new ≡ offers_in tables.old) }
-    ensures rows { OnOk result (rows_in tables.new ≡ rows_in tables.old) }
+    ensures rows { OnOk result (own_in tables.new ≡ own_in tables.old) }
     ensures counts { OnOk result ((k : ClauseKey) → number_told tables.new k
         ≡ number_with pending.now (offers_in tables.old) field (group_named key field groups.entry k) (number_told tables.old k)) }
     ensures steps { OnOk result (HasTested (groups_tested pending.now field (offers_in tables.old) groups.entry) tables.old tables.new) }
@@ -222,7 +222,7 @@ fn put_field(
     ensures namers { OnOk result ((q : List ℕ) (f : NamingAtom → ℕ) → sum_by f (namers_in tables.new q)
         ≡ sum_by f (namers_in tables.old q) + sum_by (atom_named q f) (keyed_groups key field 0 (groups_of field stanza.now))) }
     ensures offers { OnOk result (offers_in tables.new ≡ offers_in tables.old) }
-    ensures rows { OnOk result (rows_in tables.new ≡ rows_in tables.old) }
+    ensures rows { OnOk result (own_in tables.new ≡ own_in tables.old) }
     ensures counts { OnOk result ((k : ClauseKey) → number_told tables.new k
         ≡ number_with pending.now (offers_in tables.old) field (group_named key field (groups_of field stanza.now) k)
         (number_told tables.old k)) }
@@ -247,7 +247,7 @@ fn put_fields(
     ensures namers { OnOk result ((q : List ℕ) (f : NamingAtom → ℕ) → sum_by f (namers_in tables.new q)
         ≡ sum_by f (namers_in tables.old q) + sum_by (atom_named q f) (keyed_atoms (key, stanza.now))) }
     ensures offers { OnOk result (offers_in tables.new ≡ offers_in tables.old) }
-    ensures rows { OnOk result (rows_in tables.new ≡ rows_in tables.old) }
+    ensures rows { OnOk result (own_in tables.new ≡ own_in tables.old) }
     ensures counts { OnOk result ((k : ClauseKey) → number_told tables.new k
         ≡ number_with pending.now (offers_in tables.old) k.field (clause_at k ((key, stanza.now) ∷ [])) (number_told tables.old k)) }
     ensures steps { OnOk result (HasTested (fields_tested pending.now (offers_in tables.old) fields.now stanza.now) tables.old tables.new) }
@@ -270,7 +270,7 @@ fn put_atoms_at(
     ensures namers { OnOk result ((q : List ℕ) (f : NamingAtom → ℕ) → sum_by f (namers_in tables.new q)
         ≡ sum_by f (namers_in tables.old q) + namers_sum q f (entries_seen pending.now (key ∷ []))) }
     ensures offers { OnOk result (offers_in tables.new ≡ offers_in tables.old) }
-    ensures rows { OnOk result (rows_in tables.new ≡ rows_in tables.old) }
+    ensures rows { OnOk result (own_in tables.new ≡ own_in tables.old) }
     ensures counts { OnOk result ((k : ClauseKey) → number_told tables.new k
         ≡ number_with pending.now (offers_in tables.old) k.field (clause_at k (entries_seen pending.now (key ∷ [])))
         (number_told tables.old k)) }
@@ -294,7 +294,7 @@ fn list_atoms(
     ensures namers { OnOk result ((q : List ℕ) (f : NamingAtom → ℕ) → sum_by f (namers_in tables.new q)
         ≡ sum_by f (namers_in tables.old q) + namers_sum q f (entries_seen pending.now keys.now)) }
     ensures offers { OnOk result (offers_in tables.new ≡ offers_in tables.old) }
-    ensures rows { OnOk result (rows_in tables.new ≡ rows_in tables.old) }
+    ensures rows { OnOk result (own_in tables.new ≡ own_in tables.old) }
     ensures counts { OnOk result (ComeApart pending.now keys.now → (k : ClauseKey) → number_told tables.new k
         ≡ number_with pending.now (offers_in tables.old) k.field (clause_at k (entries_seen pending.now keys.now))
         (number_told tables.old k)) }
@@ -319,7 +319,7 @@ pub(crate) fn put_atoms(
     ensures namers { OnOk result ((q : List ℕ) (f : NamingAtom → ℕ) → sum_by f (namers_in tables.new q)
         ≡ sum_by f (namers_in tables.old q) + namers_sum q f (entries_seen pending.now keys.now)) }
     ensures offers { OnOk result (offers_in tables.new ≡ offers_in tables.old) }
-    ensures rows { OnOk result (rows_in tables.new ≡ rows_in tables.old) }
+    ensures rows { OnOk result (own_in tables.new ≡ own_in tables.old) }
     ensures counts { OnOk result (ComeApart pending.now keys.now → (k : ClauseKey) → number_in tables.new k
         ≡ number_with pending.now (offers_in tables.old) k.field
         (clause_at k (entries_seen pending.now keys.now)) (number_in tables.old k)) }
@@ -329,7 +329,6 @@ pub(crate) fn put_atoms(
 {
     tables.counters.let_none_wait();
     list_atoms(pending, keys, tables)?;
-    tables.names.pack_behind(keys.len())?;
     tables.counters.enter_waiting()?;
     Ok(())
 }

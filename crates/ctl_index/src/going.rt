@@ -4,9 +4,9 @@ ghost use Rattle.std.specs.Prelude.{◌≡◌, ◌≤◌, ◌<◌, ◌^◌, ℕ,
 ghost use Rattle.std.specs.BTreeMap.{get};
 ghost use Rattle.std.specs.List.{list_any, sum_by};
 ghost use Rattle.ctl_index.specs.Clauses.{clause_cmp};
-ghost use Rattle.ctl_index.specs.Inside.TablesByName.{offers_under, namers_under, rows_under};
+ghost use Rattle.ctl_index.specs.Inside.TablesByName.{offers_under, namers_under, own_under};
 ghost use Rattle.ctl_index.specs.Inside.TablesCounters.{less_by};
-ghost use Rattle.ctl_index.specs.Inside.TablesHeld.{HasTested, TestsAtMost, namers_in, number_in, offers_in, rows_in};
+ghost use Rattle.ctl_index.specs.Inside.TablesHeld.{HasTested, TestsAtMost, namers_in, number_in, offers_in, own_in};
 ghost use Rattle.ctl_index.specs.Inside.TablesLeft.{has_namer, has_namer_at, has_namer_in, has_offer, has_offer_at, hits_at, is_clause_at, is_group_below, is_of_field};
 ghost use Rattle.ctl_index.specs.Inside.TablesLoaded.{all_hits};
 ghost use Rattle.ctl_index.specs.Inside.TablesOrder.{namer_stanza, offer_stanza, without_if};
@@ -35,7 +35,7 @@ fn take_group(
     ensures namers { (q : List ℕ) → namers_under names.new.map q
         ≡ without_if namer_stanza going.now.span (has_namer q group.now) (namers_under names.old.map q) }
     ensures offers { offers_under names.new.map ≡ offers_under names.old.map }
-    ensures rows { rows_under names.new.map ≡ rows_under names.old.map }
+    ensures rows { own_under names.new.map ≡ own_under names.old.map }
     ensures steps { steps.new ≡ more_by (group_tested going.now.pending field (offers_under names.old.map) group.now) steps.old }
 {
     let _count = steps.count();
@@ -65,7 +65,7 @@ fn take_groups(
     ensures namers { (q : List ℕ) → namers_in tables.new q
         ≡ without_if namer_stanza going.now.span (list_any (has_namer q) groups.entry) (namers_in tables.old q) }
     ensures offers { offers_in tables.new ≡ offers_in tables.old }
-    ensures rows { rows_in tables.new ≡ rows_in tables.old }
+    ensures rows { own_in tables.new ≡ own_in tables.old }
     ensures counts { (k : ClauseKey) → number_in tables.new k
         ≡ (if is_group_below key field (length groups.entry) k then None else number_in tables.old k) }
     ensures steps { HasTested (groups_tested going.now.pending field (offers_in tables.old) groups.entry) tables.old tables.new }
@@ -95,7 +95,7 @@ fn take_field(
     ensures namers { (q : List ℕ) → namers_in tables.new q
         ≡ without_if namer_stanza going.now.span (has_namer_in q stanza.now field) (namers_in tables.old q) }
     ensures offers { offers_in tables.new ≡ offers_in tables.old }
-    ensures rows { rows_in tables.new ≡ rows_in tables.old }
+    ensures rows { own_in tables.new ≡ own_in tables.old }
     ensures counts { (k : ClauseKey) → number_in tables.new k
         ≡ (if is_of_field key stanza.now k field then None else number_in tables.old k) }
     ensures steps { HasTested (groups_tested going.now.pending field (offers_in tables.old)
@@ -116,7 +116,7 @@ fn take_fields(
     ensures namers { (q : List ℕ) → namers_in tables.new q
         ≡ without_if namer_stanza going.now.span (list_any (has_namer_in q stanza.now) fields.now) (namers_in tables.old q) }
     ensures offers { offers_in tables.new ≡ offers_in tables.old }
-    ensures rows { rows_in tables.new ≡ rows_in tables.old }
+    ensures rows { own_in tables.new ≡ own_in tables.old }
     ensures counts { (k : ClauseKey) → number_in tables.new k
         ≡ (if list_any (is_of_field key stanza.now k) fields.now then None else number_in tables.old k) }
     ensures steps { HasTested (fields_tested going.now.pending (offers_in tables.old) fields.now stanza.now) tables.old tables.new }
@@ -132,7 +132,7 @@ fn take_atoms_at(going: &Going<'_>, key: StanzaKey, tables: &mut Tables)
     ensures namers { (q : List ℕ) → namers_in tables.new q
         ≡ without_if namer_stanza going.now.span (has_namer_at going.now.pending q key) (namers_in tables.old q) }
     ensures offers { offers_in tables.new ≡ offers_in tables.old }
-    ensures rows { rows_in tables.new ≡ rows_in tables.old }
+    ensures rows { own_in tables.new ≡ own_in tables.old }
     ensures counts { (k : ClauseKey) → number_in tables.new k
         ≡ (if is_clause_at going.now.pending k key then None else number_in tables.old k) }
     ensures steps { HasTested (atoms_tested_at going.now.pending (offers_in tables.old) key) tables.old tables.new }
@@ -150,7 +150,7 @@ pub(crate) fn take_atoms(going: &Going<'_>, keys: &[StanzaKey], tables: &mut Tab
     ensures namers { (q : List ℕ) → namers_in tables.new q
         ≡ without_if namer_stanza going.now.span (list_any (has_namer_at going.now.pending q) keys.now) (namers_in tables.old q) }
     ensures offers { offers_in tables.new ≡ offers_in tables.old }
-    ensures rows { rows_in tables.new ≡ rows_in tables.old }
+    ensures rows { own_in tables.new ≡ own_in tables.old }
     ensures counts { (k : ClauseKey) → number_in tables.new k
         ≡ (if list_any (is_clause_at going.now.pending k) keys.now then None else number_in tables.old k) }
     ensures steps { HasTested (atoms_tested going.now.pending (offers_in tables.old) keys.now) tables.old tables.new }
@@ -170,7 +170,7 @@ fn take_offers_of(
     ensures offers { OnOk result ((q : List ℕ) → offers_in tables.new q
         ≡ without_if offer_stanza going.now.span (has_offer q offers.now) (offers_in tables.old q)) }
     ensures namers { OnOk result (namers_in tables.new ≡ namers_in tables.old) }
-    ensures rows { OnOk result (rows_in tables.new ≡ rows_in tables.old) }
+    ensures rows { OnOk result (own_in tables.new ≡ own_in tables.old) }
     ensures counts { OnOk result ((k : ClauseKey) → number_in tables.new k
         ≡ less_by (all_hits going.now.pending (namers_in tables.old) offers.now k) (number_in tables.old k)) }
     ensures steps { OnOk result (HasTested (all_tested going.now.pending (namers_in tables.old) offers.now) tables.old tables.new) }
@@ -191,7 +191,7 @@ fn take_offers_at(going: &Going<'_>, key: StanzaKey, tables: &mut Tables) -> Res
     ensures offers { OnOk result ((q : List ℕ) → offers_in tables.new q
         ≡ without_if offer_stanza going.now.span (has_offer_at going.now.pending q key) (offers_in tables.old q)) }
     ensures namers { OnOk result (namers_in tables.new ≡ namers_in tables.old) }
-    ensures rows { OnOk result (rows_in tables.new ≡ rows_in tables.old) }
+    ensures rows { OnOk result (own_in tables.new ≡ own_in tables.old) }
     ensures counts { OnOk result ((k : ClauseKey) → number_in tables.new k
         ≡ less_by (hits_at going.now.pending (namers_in tables.old) k key) (number_in tables.old k)) }
     ensures steps { OnOk result (HasTested (offers_tested_at going.now.pending (namers_in tables.old) key) tables.old tables.new) }
@@ -214,7 +214,7 @@ pub(crate) fn take_offers(
     ensures offers { OnOk result ((q : List ℕ) → offers_in tables.new q
         ≡ without_if offer_stanza going.now.span (list_any (has_offer_at going.now.pending q) keys.now) (offers_in tables.old q)) }
     ensures namers { OnOk result (namers_in tables.new ≡ namers_in tables.old) }
-    ensures rows { OnOk result (rows_in tables.new ≡ rows_in tables.old) }
+    ensures rows { OnOk result (own_in tables.new ≡ own_in tables.old) }
     ensures counts { OnOk result ((k : ClauseKey) → number_in tables.new k
         ≡ less_by (sum_by (hits_at going.now.pending (namers_in tables.old) k) keys.now) (number_in tables.old k)) }
     ensures steps { OnOk result (HasTested (offers_tested going.now.pending (namers_in tables.old) keys.now) tables.old tables.new) }

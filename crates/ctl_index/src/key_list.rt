@@ -60,7 +60,7 @@ fn end_through<K: OfStanza>(keys: &[K], stanza: StanzaKey) -> usize
     keys.partition_point(|key| compare_keys(&key.stanza(), &stanza).is_le())
 }
 
-// Inserts a key. A list that is full gets room for an eighth more, and a short one for this key alone: most names have few
+// Inserts a key. A list that is full gets room for an eighth more, and a short one for this key and one more: most names have few
 // offers and few atoms, and finished lists are to have little spare room.
 fn insert_exactly<K: OfStanza>(keys: &mut Vec<K>, at: usize, key: K) -> Result<(), AllocError>
     requires { at ≤ vec_len keys.old }
@@ -68,7 +68,7 @@ fn insert_exactly<K: OfStanza>(keys: &mut Vec<K>, at: usize, key: K) -> Result<(
     ensures err { OnErr result (keys.new.items ≡ keys.old.items) }
 {
     if keys.len() == keys.capacity() {
-        keys.reserve_exact((keys.len() / 8).max(1))?;
+        keys.reserve_exact((keys.len() / 8).max(2))?;
     }
     keys.insert(at, key)?;
     Ok(())

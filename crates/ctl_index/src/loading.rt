@@ -1,7 +1,7 @@
 //! Stanzas come, all at once.
 
-ghost use Rattle.std.specs.Prelude.{◌≤◌, OnOk};
-ghost use Rattle.ctl_index.specs.Inside.TablesHeld.{HasTested, TestsAtMost};
+ghost use Rattle.std.specs.Prelude.{◌≡◌, ◌≤◌, OnOk};
+ghost use Rattle.ctl_index.specs.Inside.TablesHeld.{HasTested, TestsAtMost, chosen_in};
 ghost use Rattle.ctl_index.specs.Inside.TablesLoaded.{ComeApart, IsLoaded, tests_put_in};
 
 use crate::coming::{put_atoms, put_offers};
@@ -18,6 +18,7 @@ pub(crate) fn put_list(
     keys: &[StanzaKey],
     tables: &mut Tables,
 ) -> Result<(), AllocError>
+    ensures chosen { OnOk result (chosen_in tables.new ≡ chosen_in tables.old) }
     ensures tables { OnOk result (ComeApart pending.now keys.now → IsLoaded pending.now keys.now tables.old tables.new) }
     ensures steps { OnOk result (HasTested (tests_put_in pending.now keys.now tables.old) tables.old tables.new) }
     ensures most { TestsAtMost (tests_put_in pending.now keys.now tables.old) tables.old tables.new }

@@ -22,8 +22,8 @@ pub(crate) struct NameEntries<'a> {
     // The next of each tree, and what is left of it behind. Of short names there are none where none can begin with a prefix.
     next_short: Option<(&'a ShortName, &'a NamedBox)>,
     short: Option<btree_map::Range<'a, ShortName, NamedBox>>,
-    next_long: Option<(&'a Vec<u8>, &'a Named)>,
-    long: btree_map::Range<'a, Vec<u8>, Named>,
+    next_long: Option<(&'a Vec<u8>, &'a NamedBox)>,
+    long: btree_map::Range<'a, Vec<u8>, NamedBox>,
 }
 
 impl<'a> Model for NameEntries<'a> {
@@ -55,16 +55,16 @@ impl<'a> Iterator for NameEntries<'a> {
                 Some((short.as_slice(), boxed.get()))
             }
             _ => {
-                let (long, named) = self.next_long?;
+                let (long, boxed) = self.next_long?;
                 self.next_long = self.long.next();
-                Some((long.as_slice(), named))
+                Some((long.as_slice(), boxed.get()))
             }
         }
     }
 }
 
 // Whether a short name comes before the next of the longer ones, or none of these is left.
-fn is_before(short: &ShortName, next_long: Option<(&Vec<u8>, &Named)>) -> bool
+fn is_before(short: &ShortName, next_long: Option<(&Vec<u8>, &NamedBox)>) -> bool
     ensures { MatchOption next_long.entry (result ≡ true) (λ e. result ≡ is_lt (slice_cmp nat_cmp short.now e.0.now.items)) }
 {
     match next_long {
@@ -89,7 +89,7 @@ impl<'a> NameEntries<'a> {
     // Those of a part of each tree, and of short names of none where none can begin with a prefix.
     fn new(
         mut short: Option<btree_map::Range<'a, ShortName, NamedBox>>,
-        mut long: btree_map::Range<'a, Vec<u8>, Named>,
+        mut long: btree_map::Range<'a, Vec<u8>, NamedBox>,
     ) -> NameEntries<'a>
         ensures { result ≡ merged (unwrap_or short.entry []) (map long_entry long.entry) }
     {
@@ -108,7 +108,7 @@ impl NameMap {
         ensures order { IsStrictlySortedBy (slice_cmp nat_cmp) (entry_names result) }
         ensures found { (q : List ℕ) → found_in result q ≡ at_name self.now q }
     {
-        NameEntries::new(Some(self.short.tree.range(..)), self.long.range(..))
+        NameEntries::new(Some(self.short.tree.range(..)), self.long.tree.range(..))
     }
 
     /// The names from a prefix on with what stands under them, in the order of their bytes: all that begin with it are among them.
@@ -121,6 +121,6 @@ impl NameMap {
             Some(first) => Some(self.short.tree.range(&first..)),
             None => None,
         };
-        NameEntries::new(short, self.long.range(prefix..))
+        NameEntries::new(short, self.long.tree.range(prefix..))
     }
 }

@@ -1,55 +1,39 @@
 //! The two trees of names: of short names, which stand in the keys themselves, and of longer ones.
 
-ghost use Rattle.std.specs.Prelude.{◌≡◌, ℕ, List, None, Some, is_some, IfOk, OnOk, OnErr, option_copied, if◌then◌else◌};
+ghost use Rattle.std.specs.Prelude.{◌≡◌, ℕ, List, None, Some, is_some, IfOk, OnOk, OnErr, option_copied, option_map, if◌then◌else◌};
 ghost use Rattle.std.specs.BTreeMap.{get};
 ghost use Rattle.std.specs.Borrow.{sem};
 ghost use Rattle.std.specs.Cmp.Lexicographic.{slice_cmp};
 ghost use Rattle.std.specs.Ordering.{nat_cmp};
+ghost use Rattle.ctl_store.specs.Store.{keyed_of};
 ghost use Rattle.ctl_policy.specs.Chosen.{at_bytes};
+ghost use Rattle.ctl_policy.specs.Rows.{AreRowsOf};
 ghost use Rattle.std.specs.Option.{option_copied_mut};
 ghost use Rattle.std.specs.Str.{bytes_eq};
 ghost use Rattle.ctl_index.specs.Inside.NameMap.{AreApart};
 
+use crate::choosing::{choose_long, choose_short};
+use crate::long_map::LongMap;
 use crate::named::Named;
 use crate::named_box::NamedBox;
 use crate::short_map::ShortMap;
 use crate::short_name::ShortName;
+use ctl_store::Store;
 use std::alloc::{AllocError, Global};
 use std::collections::BTreeMap;
-use std::mem;
 
 /// What stands under each name.
 #[derive(Drop)]
 pub(crate) struct NameMap {
     pub(crate) short: ShortMap,
-    pub(crate) long: BTreeMap<Vec<u8>, Named>,
-    ghost apart: { AreApart short.tree long },
-}
-
-// The same names in a tree whose nodes are full.
-fn packed_short(
-    alloc: Global,
-    names: BTreeMap<ShortName, NamedBox>,
-) -> Result<BTreeMap<ShortName, NamedBox>, AllocError>
-    ensures { IfOk result (λ tree. (q : List ℕ) → get (slice_cmp nat_cmp) tree q ≡ get (slice_cmp nat_cmp) names q) }
-{
-    let short = names.into_iter();
-    short.collect(alloc)
-}
-
-// The same of longer names.
-fn packed_long(
-    alloc: Global,
-    names: BTreeMap<Vec<u8>, Named>,
-) -> Result<BTreeMap<Vec<u8>, Named>, AllocError>
-    ensures { IfOk result (λ tree. (q : List ℕ) → at_bytes tree q ≡ at_bytes names q) }
-{
-    let long = names.into_iter();
-    long.collect(alloc)
+    pub(crate) long: LongMap,
+    ghost apart: { AreApart short.tree long.tree },
 }
 
 impl NameMap {
-    ghost use Rattle.ctl_index.specs.Inside.TablesByName.{at_name, HoldsNothing, IsSetAt, HasSameNames, HasSomeNames, LendsNamed};
+    ghost use Rattle.ctl_index.specs.declared.named.Named.{Named as NamedHeld};
+    ghost use Rattle.ctl_index.specs.Inside.TablesChosen.{chosen_anew};
+    ghost use Rattle.ctl_index.specs.Inside.TablesByName.{at_name, named_own, HoldsNothing, IsSetAt, HasSameNames, LendsNamed};
 
     /// No names. It takes no memory.
     pub(crate) fn new(alloc: Global) -> NameMap
@@ -59,7 +43,9 @@ impl NameMap {
             short: ShortMap {
                 tree: BTreeMap::new(alloc),
             },
-            long: BTreeMap::new(alloc),
+            long: LongMap {
+                tree: BTreeMap::new(alloc),
+            },
         }
     }
 
@@ -72,7 +58,10 @@ impl NameMap {
                 Some(boxed) => Some(boxed.get()),
                 None => None,
             },
-            None => self.long.get(name),
+            None => match self.long.tree.get(name) {
+                Some(boxed) => Some(boxed.get()),
+                None => None,
+            },
         }
     }
 
@@ -104,46 +93,26 @@ impl NameMap {
             }
             None => {
                 let key = Vec::from_slice(alloc, name)?;
-                self.long.insert(key, named)?;
+                let boxed = NamedBox::new(alloc, named)?;
+                self.long.tree.insert(key, boxed)?;
             }
         }
         Ok(())
     }
 
-    // The nodes of the tree of longer names are made full.
-    fn pack_long(&mut self, alloc: Global) -> Result<(), AllocError>
-        ensures ok { OnOk result (HasSameNames self.old self.new) }
-        ensures some { HasSomeNames self.old self.new }
+    /// Chooses anew for the names that have a row with a stanza of a list, or for all. It takes no memory.
+    pub(crate) fn choose(&mut self, store: &Store, list: Option<u32>)
+        requires { (q : List ℕ) (v : NamedHeld) → at_name self.old q ≡ Some v
+            → AreRowsOf (named_own v).rows q (keyed_of store.now).lists }
+        ensures { (q : List ℕ) → at_name self.new q ≡ option_map (chosen_anew store.now list q) (at_name self.old q) }
     {
-        let names = mem::replace(&mut self.long, BTreeMap::new(alloc));
-        self.long = packed_long(alloc, names)?;
-        Ok(())
-    }
-
-    // The nodes of the tree of short names are made full.
-    fn pack_short(&mut self, alloc: Global) -> Result<(), AllocError>
-        ensures ok { OnOk result (HasSameNames self.old self.new) }
-        ensures some { HasSomeNames self.old self.new }
-    {
-        let names = mem::replace(&mut self.short.tree, BTreeMap::new(alloc));
-        self.short.tree = packed_short(alloc, names)?;
-        Ok(())
-    }
-
-    /// The nodes of both trees are made full, as those of a tree are that is made of many names at once. Nodes to which names came
-    /// one by one are half empty. Where memory is refused nothing may stand under some names that were there.
-    pub(crate) fn pack(&mut self, alloc: Global) -> Result<(), AllocError>
-        ensures ok { OnOk result (HasSameNames self.old self.new) }
-        ensures some { HasSomeNames self.old self.new }
-    {
-        self.pack_long(alloc)?;
-        self.pack_short(alloc)?;
-        Ok(())
+        choose_short(store, list, &mut self.short.tree);
+        choose_long(store, list, &mut self.long.tree);
     }
 
     /// How many names there are.
     pub(crate) fn len(&self) -> usize {
-        self.short.tree.len().saturating_add(self.long.len())
+        self.short.tree.len().saturating_add(self.long.tree.len())
     }
 
     /// Nothing stands under a name from now on.
@@ -155,7 +124,7 @@ impl NameMap {
                 self.short.tree.remove(&short);
             }
             None => {
-                self.long.remove(name);
+                self.long.tree.remove(name);
             }
         }
     }

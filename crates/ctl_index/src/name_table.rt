@@ -1,6 +1,6 @@
-//! The table of names: who offers each name, the atoms that name it, and its rows.
+//! The table of names: who offers each name, the atoms that name it, its rows, and what is chosen of them.
 
-ghost use Rattle.std.specs.Prelude.{◌≡◌, ◌≤◌, ◌<◌, ◌^◌, ◌∷◌, ◌++◌, ◌+◌, ◌-◌, ℕ, [], List, Some, OnOk, IfOk, IfSome, IfNone, is_some, option_copied, option_map, true, nat_eq, if◌then◌else◌};
+ghost use Rattle.std.specs.Prelude.{◌≡◌, ◌≤◌, ◌<◌, ◌^◌, ◌∷◌, ◌++◌, ◌+◌, ◌-◌, ℕ, [], List, None, Some, OnOk, IfOk, IfSome, IfNone, is_some, option_copied, option_map, true, nat_eq, if◌then◌else◌};
 ghost use Rattle.std.specs.BTreeMap.{get};
 ghost use Rattle.std.specs.Cmp.Lexicographic.{slice_cmp};
 ghost use Rattle.std.specs.FinMap as fin;
@@ -8,9 +8,14 @@ ghost use Rattle.std.specs.Ordering.{nat_cmp};
 ghost use Rattle.std.specs.List.{sum_by, starts_with};
 ghost use Rattle.std.specs.List.Sorted.{IsStrictlySortedBy};
 ghost use Rattle.std.specs.Str.{bytes_eq};
+ghost use Rattle.ctl_store.specs.Store.{keyed_of};
+ghost use Rattle.ctl_policy.specs.Chosen.{choice_in, no_choice};
 ghost use Rattle.ctl_policy.specs.Kept.{HasPut, HasTaken, OthersStay};
+ghost use Rattle.ctl_policy.specs.Priority.{world_of};
+ghost use Rattle.ctl_policy.specs.Rows.{AreRowsOf};
 ghost use Rattle.ctl_index.specs.Clauses.{clause_cmp};
-ghost use Rattle.ctl_index.specs.Inside.TablesByName.{at_name, HoldsNothing, offers_under, namers_under, rows_under, AreUsed, is_used, named_namers, named_offers, named_rows};
+ghost use Rattle.ctl_index.specs.Inside.TablesByName.{at_name, HoldsNothing, offers_under, namers_under, own_under, rows_under, chosen_under, AreUsed, is_used, named_namers, named_offers, named_own};
+ghost use Rattle.ctl_index.specs.Inside.TablesChosen.{AreRenewed, HasSameRows, are_asked};
 ghost use Rattle.ctl_index.specs.Inside.TablesPending.{atom_met, atom_tested};
 ghost use Rattle.ctl_index.specs.Inside.NameMap.{entry_names, found_in};
 ghost use Rattle.ctl_index.specs.Inside.TablesCounters.{less_by};
@@ -23,22 +28,20 @@ ghost use Rattle.ctl_index.specs.declared.keys.ClauseKey.{ClauseKey};
 
 use crate::counters::Counters;
 use crate::counting::{count_tested, lower_clauses, raise_clauses};
+use crate::kept_choice::KeptChoice;
 use crate::key_list::KeyList;
 use crate::keys::{AtomKey, KeyedOffer, NamingAtom, OfferKey};
 use crate::name_entries::NameEntries;
 use crate::name_map::NameMap;
-use crate::named::{Named, is_used};
+use crate::named::{ChosenRows, Named, is_used};
 use crate::offer_list::OfferList;
 use crate::pending_store::{Going, PendingStore};
-use ctl_policy::Rows;
+use ctl_policy::{Rows, choose, names_with_rows_are_kept, rows_are_shown};
 use ctl_relation::{Atom, FieldKind, Offer, Steps, Version};
-use ctl_store::StanzaKey;
+use ctl_store::{StanzaKey, Store};
 use std::alloc::{AllocError, Global};
 
-// The trees are made anew where at least one stanza came for so many names.
-const NAMES_A_STANZA: usize = 8;
-
-/// The offers, the namers and the rows of each name, names under which nothing stands left out.
+/// The offers, the namers and the rows of each name with what is chosen of them, names under which nothing stands left out.
 #[derive(Drop)]
 pub(crate) struct NameTable {
     alloc: Global,
@@ -103,7 +106,7 @@ impl NameTable {
         ensures none { IfNone result (rows_under self.now.map name.now ≡ fin.empty) }
     {
         match self.map.get(name) {
-            Some(named) => Some(&named.rows),
+            Some(named) => Some(&named.own.rows),
             None => None,
         }
     }
@@ -136,23 +139,10 @@ impl NameTable {
             ≡ (if bytes_eq name.now q then named_offers named else offers_under self.old.map q)) }
         ensures namers { OnOk result ((q : List ℕ) → namers_under self.new.map q
             ≡ (if bytes_eq name.now q then named_namers named else namers_under self.old.map q)) }
-        ensures rows { OnOk result ((q : List ℕ) → rows_under self.new.map q
-            ≡ (if bytes_eq name.now q then named_rows named else rows_under self.old.map q)) }
+        ensures rows { OnOk result ((q : List ℕ) → own_under self.new.map q
+            ≡ (if bytes_eq name.now q then named_own named else own_under self.old.map q)) }
     {
         self.map.insert(self.alloc, name, named)
-    }
-
-    /// The trees are made anew with full nodes, where so many stanzas came that it is worth it: an edit of one is not to pay for it.
-    pub(crate) fn pack_behind(&mut self, stanzas: usize) -> Result<(), AllocError>
-        ensures offers { OnOk result (offers_under self.new.map ≡ offers_under self.old.map) }
-        ensures namers { OnOk result (namers_under self.new.map ≡ namers_under self.old.map) }
-        ensures rows { OnOk result (rows_under self.new.map ≡ rows_under self.old.map) }
-    {
-        if stanzas < self.len() / NAMES_A_STANZA {
-            return Ok(());
-        }
-        self.map.pack(self.alloc)?;
-        Ok(())
     }
 
     /// An offer comes: it is listed, and tested against the clauses that name it.
@@ -166,7 +156,7 @@ impl NameTable {
         ensures offers { OnOk result ((q : List ℕ) (f : OfferKey → ℕ) → sum_by f (offers_under self.new.map q)
             ≡ sum_by f (offers_under self.old.map q) + (if bytes_eq coming.entry.offer.now.name q then f coming.entry.key else 0)) }
         ensures namers { OnOk result ((q : List ℕ) → namers_under self.new.map q ≡ namers_under self.old.map q) }
-        ensures rows { OnOk result ((q : List ℕ) → rows_under self.new.map q ≡ rows_under self.old.map q) }
+        ensures rows { OnOk result ((q : List ℕ) → own_under self.new.map q ≡ own_under self.old.map q) }
         ensures counts { OnOk result ((k : ClauseKey) → get clause_cmp counters.new.numbers k
             ≡ option_map (counted_up (offer_hits pending.now (namers_under self.old.map) coming.entry.offer.now k))
             (get clause_cmp counters.old.numbers k)) }
@@ -192,7 +182,7 @@ impl NameTable {
                 let named = Named {
                     offers: OfferList::of_one(self.alloc, coming.key),
                     namers: KeyList::new(self.alloc),
-                    rows: Rows::new(self.alloc),
+                    own: ChosenRows::none(self.alloc),
                 };
                 self.insert(coming.offer.name(), named)
             }
@@ -211,7 +201,7 @@ impl NameTable {
         ensures namers { OnOk result ((q : List ℕ) (f : NamingAtom → ℕ) → sum_by f (namers_under self.new.map q)
             ≡ sum_by f (namers_under self.old.map q) + (if bytes_eq atom.now.name q then f (namer_of key atom.now) else 0)) }
         ensures offers { OnOk result ((q : List ℕ) → offers_under self.new.map q ≡ offers_under self.old.map q) }
-        ensures rows { OnOk result ((q : List ℕ) → rows_under self.new.map q ≡ rows_under self.old.map q) }
+        ensures rows { OnOk result ((q : List ℕ) → own_under self.new.map q ≡ own_under self.old.map q) }
         ensures met { IfOk result (λ met. met ≡ atom_met pending.now key.field atom.now (offers_under self.old.map atom.now.name)) }
         ensures few { IfOk result (λ met. met < 2 ^ 64) }
         ensures steps { OnOk result (steps.new
@@ -229,7 +219,7 @@ impl NameTable {
                 let named = Named {
                     offers: OfferList::new(self.alloc),
                     namers: KeyList::of_one(self.alloc, NamingAtom::new(key, atom))?,
-                    rows: Rows::new(self.alloc),
+                    own: ChosenRows::none(self.alloc),
                 };
                 self.insert(atom.name(), named)?;
                 Ok(0)
@@ -249,7 +239,7 @@ impl NameTable {
         ensures namers { (q : List ℕ) → namers_under self.new.map q
             ≡ without_if namer_stanza going.now.span (bytes_eq atom.now.name q) (namers_under self.old.map q) }
         ensures offers { (q : List ℕ) → offers_under self.new.map q ≡ offers_under self.old.map q }
-        ensures rows { (q : List ℕ) → rows_under self.new.map q ≡ rows_under self.old.map q }
+        ensures rows { (q : List ℕ) → own_under self.new.map q ≡ own_under self.old.map q }
         ensures steps { steps.new ≡ more_by (atom_tested going.now.pending field (offers_under self.old.map atom.now.name)) steps.old }
     {
         let _count = steps.count();
@@ -274,7 +264,7 @@ impl NameTable {
         ensures offers { OnOk result ((q : List ℕ) → offers_under self.new.map q
             ≡ without_if offer_stanza going.now.span (bytes_eq offer.now.name q) (offers_under self.old.map q)) }
         ensures namers { OnOk result ((q : List ℕ) → namers_under self.new.map q ≡ namers_under self.old.map q) }
-        ensures rows { OnOk result ((q : List ℕ) → rows_under self.new.map q ≡ rows_under self.old.map q) }
+        ensures rows { OnOk result ((q : List ℕ) → own_under self.new.map q ≡ own_under self.old.map q) }
         ensures counts { OnOk result ((k : ClauseKey) → get clause_cmp counters.new.numbers k
             ≡ less_by (offer_hits going.now.pending (namers_under self.old.map) offer.now k) (get clause_cmp counters.old.numbers k)) }
         ensures steps { OnOk result (steps.new
@@ -309,18 +299,19 @@ impl NameTable {
     ) -> Result<(), AllocError>
         ensures row { OnOk result (HasPut version.now key (rows_under self.old.map name.now) (rows_under self.new.map name.now)) }
         ensures others { OnOk result (OthersStay name.now (rows_under self.old.map) (rows_under self.new.map)) }
+        ensures chosen { OnOk result ((q : List ℕ) → chosen_under self.new.map q ≡ chosen_under self.old.map q) }
         ensures offers { OnOk result ((q : List ℕ) → offers_under self.new.map q ≡ offers_under self.old.map q) }
         ensures namers { OnOk result ((q : List ℕ) → namers_under self.new.map q ≡ namers_under self.old.map q) }
     {
         match self.map.get_mut(name) {
-            Some(named) => named.rows.put(version, key),
+            Some(named) => named.own.rows.put(version, key),
             None => {
                 let mut rows = Rows::new(self.alloc);
                 rows.put(version, key)?;
                 let named = Named {
                     offers: OfferList::new(self.alloc),
                     namers: KeyList::new(self.alloc),
-                    rows,
+                    own: ChosenRows::of_rows(rows),
                 };
                 self.insert(name, named)
             }
@@ -331,15 +322,49 @@ impl NameTable {
     pub(crate) fn take_row(&mut self, name: &[u8], version: &Version, key: StanzaKey)
         ensures row { HasTaken version.now key (rows_under self.old.map name.now) (rows_under self.new.map name.now) }
         ensures others { OthersStay name.now (rows_under self.old.map) (rows_under self.new.map) }
+        ensures chosen { (q : List ℕ) → chosen_under self.new.map q ≡ chosen_under self.old.map q }
         ensures offers { (q : List ℕ) → offers_under self.new.map q ≡ offers_under self.old.map q }
         ensures namers { (q : List ℕ) → namers_under self.new.map q ≡ namers_under self.old.map q }
     {
         let Some(named) = self.map.get_mut(name) else {
             return;
         };
-        named.rows.take(version, key);
+        named.own.rows.take(version, key);
         if !is_used(named) {
             self.map.remove(name);
         }
+    }
+
+    /// Chooses anew for a name, after an edit of the store. It takes no memory.
+    pub(crate) fn choose(&mut self, store: &Store, name: &[u8])
+        requires { AreRowsOf (rows_under self.old.map name.now) name.now (keyed_of store.now).lists }
+        ensures chosen { (q : List ℕ) → chosen_under self.new.map q
+            ≡ (if bytes_eq name.now q then choice_in name.now (world_of store.now) else chosen_under self.old.map q) }
+        ensures stays { HasSameRows self.old.map self.new.map }
+    {
+        rows_are_shown();
+        names_with_rows_are_kept();
+        let Some(named) = self.map.get_mut(name) else {
+            return;
+        };
+        named.own.chosen = KeptChoice::new(choose(store, name, &named.own.rows));
+        if !is_used(named) {
+            self.map.remove(name);
+        }
+    }
+
+    /// Chooses anew for the names that have a row with a stanza of a list, or for all, after an edit of the store. It takes no
+    /// memory.
+    pub(crate) fn choose_for(&mut self, store: &Store, list: Option<u32>)
+        requires rows { (q : List ℕ) → AreRowsOf (rows_under self.old.map q) q (keyed_of store.now).lists }
+        // for all names alone where nothing is chosen yet
+        requires none { list ≡ None → (q : List ℕ) → chosen_under self.old.map q ≡ no_choice }
+        ensures chosen { AreRenewed (λ q. are_asked list (rows_under self.old.map q)) (world_of store.now)
+            (chosen_under self.old.map) (chosen_under self.new.map) }
+        ensures stays { HasSameRows self.old.map self.new.map }
+    {
+        rows_are_shown();
+        names_with_rows_are_kept();
+        self.map.choose(store, list);
     }
 }

@@ -5,7 +5,7 @@ ghost use Rattle.ctl_store.specs.Store.{Held, keyed_of};
 ghost use Rattle.ctl_store.specs.Keys.{AreRising, all_keys};
 ghost use Rattle.ctl_policy.specs.Rows.{AreRowsOf};
 ghost use Rattle.ctl_index.specs.HeldCache.{standing};
-ghost use Rattle.ctl_index.specs.Inside.TablesByName.{NameMap, offers_under, namers_under, rows_under};
+ghost use Rattle.ctl_index.specs.Inside.TablesByName.{NameMap, offers_under, namers_under, rows_under, chosen_under};
 ghost use Rattle.ctl_index.specs.Inside.TablesRows.{AreKept, AreRowsPut, AreRowsTaken};
 ghost use Rattle.ctl_index.specs.Inside.TablesPending.{entries_seen};
 
@@ -19,6 +19,7 @@ use std::alloc::AllocError;
 // The row of a stanza, where it is live.
 fn put_row_of(key: StanzaKey, stanza: &Stanza, names: &mut NameTable) -> Result<(), AllocError>
     ensures rows { OnOk result (AreRowsPut ((key, stanza.now) ∷ []) (rows_under names.old.map) (rows_under names.new.map)) }
+    ensures chosen { OnOk result (chosen_under names.new.map ≡ chosen_under names.old.map) }
     ensures offers { OnOk result (offers_under names.new.map ≡ offers_under names.old.map) }
     ensures namers { OnOk result (namers_under names.new.map ≡ namers_under names.old.map) }
 {
@@ -36,6 +37,7 @@ fn put_row_at(
     names: &mut NameTable,
 ) -> Result<(), AllocError>
     ensures rows { OnOk result (AreRowsPut (entries_seen pending.now (key ∷ [])) (rows_under names.old.map) (rows_under names.new.map)) }
+    ensures chosen { OnOk result (chosen_under names.new.map ≡ chosen_under names.old.map) }
     ensures offers { OnOk result (offers_under names.new.map ≡ offers_under names.old.map) }
     ensures namers { OnOk result (namers_under names.new.map ≡ namers_under names.old.map) }
 {
@@ -52,6 +54,7 @@ pub(crate) fn put_rows(
     names: &mut NameTable,
 ) -> Result<(), AllocError>
     ensures rows { OnOk result (AreRowsPut (entries_seen pending.now keys.now) (rows_under names.old.map) (rows_under names.new.map)) }
+    ensures chosen { OnOk result (chosen_under names.new.map ≡ chosen_under names.old.map) }
     ensures offers { OnOk result (offers_under names.new.map ≡ offers_under names.old.map) }
     ensures namers { OnOk result (namers_under names.new.map ≡ namers_under names.old.map) }
 {
@@ -64,6 +67,7 @@ pub(crate) fn put_rows(
 // The row of a stanza, where it is live.
 fn take_row_of(key: StanzaKey, stanza: &Stanza, names: &mut NameTable)
     ensures rows { AreRowsTaken ((key, stanza.now) ∷ []) (rows_under names.old.map) (rows_under names.new.map) }
+    ensures chosen { chosen_under names.new.map ≡ chosen_under names.old.map }
     ensures offers { offers_under names.new.map ≡ offers_under names.old.map }
     ensures namers { namers_under names.new.map ≡ namers_under names.old.map }
 {
@@ -77,6 +81,7 @@ fn take_row_of(key: StanzaKey, stanza: &Stanza, names: &mut NameTable)
 // The row of the stanza under a key, if there is one.
 fn take_row_at(pending: &PendingStore<'_>, key: StanzaKey, names: &mut NameTable)
     ensures rows { AreRowsTaken (entries_seen pending.now (key ∷ [])) (rows_under names.old.map) (rows_under names.new.map) }
+    ensures chosen { chosen_under names.new.map ≡ chosen_under names.old.map }
     ensures offers { offers_under names.new.map ≡ offers_under names.old.map }
     ensures namers { namers_under names.new.map ≡ namers_under names.old.map }
 {
@@ -89,6 +94,7 @@ fn take_row_at(pending: &PendingStore<'_>, key: StanzaKey, names: &mut NameTable
 /// The keys of the live stanzas among these go from their rows. It takes no memory.
 pub(crate) fn take_rows(pending: &PendingStore<'_>, keys: &[StanzaKey], names: &mut NameTable)
     ensures rows { AreRowsTaken (entries_seen pending.now keys.now) (rows_under names.old.map) (rows_under names.new.map) }
+    ensures chosen { chosen_under names.new.map ≡ chosen_under names.old.map }
     ensures offers { offers_under names.new.map ≡ offers_under names.old.map }
     ensures namers { namers_under names.new.map ≡ namers_under names.old.map }
 {

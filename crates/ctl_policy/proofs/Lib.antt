@@ -6,7 +6,6 @@ pub mod AlikeLemmas
 pub mod ShownLemmas
 pub mod ChosenLemmas
 pub mod BoundLemmas
-pub mod ByNameLemmas
 pub mod DefinedLemmas
 pub mod KeptLemmas
 pub mod HeldLemmas

@@ -1,9 +1,8 @@
 -- Every edit leaves names that it doesn't touch, and choices that are renewed for the others are right.
-use Rattle.std.proofs.Common.{◌≡◌, inl, inr, ℕ, ℤ, Bool, true, false, cond, List, None, Some, refl, sym, subst, ◌∙◌, Vec, Global}
+use Rattle.std.proofs.Common.{◌≡◌, inl, inr, ℕ, ℤ, Bool, true, false, cond, List, None, Some, refl, sym, subst, ◌∙◌}
 use Rattle.std.specs.Str.{bytes_eq}
 use Rattle.std.specs.List.{IsDistinct}
 use Rattle.std.specs.Map.{keys_of as names_of}
-use Rattle.std.specs.BTreeMap.{BTreeMap}
 use Rattle.std.proofs.lemmas.Slice.Eq.{bytes_eq-Decides}
 use Rattle.ctl_store.specs.declared.selector.Selector.{Selector}
 use Rattle.ctl_store.specs.declared.selector.Selector.TheVariants.{Version, Release}
@@ -13,7 +12,7 @@ use Rattle.ctl_store.specs.Entries.{IsChange}
 use Rattle.ctl_store.specs.Store.{Held, keyed_of, state_of}
 use Rattle.ctl_store.specs.Plans.{Planned, IsReady}
 use Rattle.ctl_policy.specs.declared.chosen.Chosen.{Chosen}
-use Rattle.ctl_policy.specs.Chosen.{at_bytes, kept_of, AreChosen}
+use Rattle.ctl_policy.specs.Chosen.{choice_in, AreChosen}
 use Rattle.ctl_policy.specs.Priority.{world_of}
 use Rattle.ctl_policy.specs.Laws.{Stays, world_after}
 use Rattle.ctl_policy.specs.Touched.{SelectsNone, IsOfOthers, IsNotTouched, IsAccepted, TouchesOnly}
@@ -54,13 +53,13 @@ untouched_stays sets takes old edit q a (inl again) = set_again old edit q again
 untouched_stays sets takes old edit q a (inr e) = of_others sets takes old edit q a e
 
 -- the names that an edit touches are chosen anew, and more may be
-pub touched_renewed : ((h : Held) → (edit : Edit) → (q : List ℕ) → IsAccepted h edit → IsNotTouched q h edit → Stays q (world_of h) (world_after h edit)) → (old new : BTreeMap (Vec ℕ Global) Chosen) (touches : List ℕ → Bool) (h : Held) (edit : Edit)
-    → IsAccepted h edit → TouchesOnly touches h edit → AreChosen old (world_of h) → ((q : List ℕ) → at_bytes new q ≡ cond (touches q) (kept_of q (world_after h edit)) (at_bytes old q)) → AreChosen new (world_after h edit)
+pub touched_renewed : ((h : Held) → (edit : Edit) → (q : List ℕ) → IsAccepted h edit → IsNotTouched q h edit → Stays q (world_of h) (world_after h edit)) → (old new : List ℕ → Chosen) (touches : List ℕ → Bool) (h : Held) (edit : Edit)
+    → IsAccepted h edit → TouchesOnly touches h edit → AreChosen old (world_of h) → ((q : List ℕ) → new q ≡ cond (touches q) (choice_in q (world_after h edit)) (old q)) → AreChosen new (world_after h edit)
 touched_renewed stay old new touches h edit a only kept renewed q = renewed q ∙ by (touches q) refl
   where
-    by : (b : Bool) → touches q ≡ b → cond b (kept_of q (world_after h edit)) (at_bytes old q) ≡ kept_of q (world_after h edit)
+    by : (b : Bool) → touches q ≡ b → cond b (choice_in q (world_after h edit)) (old q) ≡ choice_in q (world_after h edit)
     by true e = refl
-    by false e = kept q ∙ sym (stay h edit q a (only q e)).kept
+    by false e = kept q ∙ sym (stay h edit q a (only q e)).choice
 
 pub plan_accepted : (h : Held) (plan : Planned) → IsReady h plan → AreRising (all_keys (keyed_of h).lists) → IsDistinct bytes_eq (names_of (state_of h).lists)
     → IsChange (keyed_of h).lists (keyed_after (keyed_of h) plan.edit).lists plan.removed plan.added plan.edit → AreCome plan.added plan.edit (keyed_after (keyed_of h) plan.edit).lists → IsAccepted h plan.edit

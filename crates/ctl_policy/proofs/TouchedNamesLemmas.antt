@@ -3,30 +3,24 @@ use Rattle.std.proofs.Common.{◌≡◌, ◌⊎◌, inl, inr, ℕ, ℤ, Bool, tr
 use Rattle.std.specs.Str.{bytes_eq}
 use Rattle.std.specs.List.{IsDistinct}
 use Rattle.std.specs.Map.{keys_of as names_of}
-use Rattle.std.specs.Option.{option_map_or, option_eq}
+use Rattle.std.specs.Option.{option_eq}
 use Rattle.std.specs.Ordering.{int_eq}
 use Rattle.std.specs.Cmp.{signed_Decides}
 use Rattle.std.proofs.lemmas.Slice.Eq.{bytes_eq-Decides}
-use Rattle.ctl_stanza.specs.Content.{package_of, version_of}
 use Rattle.ctl_store.specs.declared.selector.Selector.{Selector}
 use Rattle.ctl_store.specs.declared.selector.Selector.TheVariants.{Version, Release}
 use Rattle.ctl_store.specs.Named.{at_name}
 use Rattle.ctl_store.specs.State.{StanzaList, shown_lists}
-use Rattle.ctl_store.specs.Entries.{Entry, entries_of}
 use Rattle.ctl_store.specs.Keys.{stanza_at, stanza_lists, coming}
 use Rattle.ctl_store.specs.Pins.{is_of, own_settings}
 use Rattle.ctl_store.specs.Store.{Held, keyed_of, state_of}
 use Rattle.ctl_store.specs.Plans.{Planned, IsReady}
-use Rattle.ctl_policy.specs.declared.form.Form.TheVariants.{Empty}
-use Rattle.ctl_policy.specs.Rows.{rows_of, rows_named, versions_of, newest_first}
 use Rattle.ctl_policy.specs.Priority.{World, Settings, world_of, list_priority, priority_of_list}
-use Rattle.ctl_policy.specs.Chosen.{choice_in, if_rows, kept_of}
 use Rattle.ctl_policy.specs.Laws.{HoldsNone, with_pins}
 use Rattle.ctl_policy.specs.Touched.{TargetHoldsNone, LeavePins, HasNoneOf, LeavesStanzas, is_one_of, packages_at}
-use Rattle.ctl_policy.specs.Inside.TouchedNames.{packages_among, packages_in, target_packages, selected_package, pinned_packages, keeps_priority, repinned_packages}
+use Rattle.ctl_policy.specs.Inside.TouchedNames.{packages_in, target_packages, selected_package, pinned_packages, keeps_priority, repinned_packages}
 use Rattle.ctl_policy.proofs.RestLemmas.{or_first, or_second}
 use Rattle.ctl_policy.proofs.PackageLemmas.{none_under, none_held}
-use Rattle.ctl_policy.proofs.ShownLemmas.{rows_shown}
 
 -- ---- names that are none of some
 
@@ -44,19 +38,6 @@ module _ (q : List ℕ) where
 
   pub not_back : (xs ys : List (List ℕ)) → is_one_of q (xs ++ ys) ≡ false → is_one_of q ys ≡ false
   not_back xs ys e = or_second (is_one_of q xs) (is_one_of q ys) (sym (either xs ys) ∙ e)
-
-  -- ---- all stanzas
-
-  no_versions : (es : List Entry) → is_one_of q (packages_among es) ≡ false → versions_of q es ≡ []
-  no_versions [] e = refl
-  no_versions (s ∷ ss) e =
-      ap (λ b. option_map_or (λ (v : List ℕ). (s.0, v) ∷ versions_of q ss) (cond b (version_of s.1) None) (versions_of q ss)) (or_first (bytes_eq (package_of s.1) q) (is_one_of q (packages_among ss)) e)
-      ∙ no_versions ss (or_second (bytes_eq (package_of s.1) q) (is_one_of q (packages_among ss)) e)
-
-  pub none_kept : (h : Held) → is_one_of q (packages_among (entries_of (keyed_of h).lists)) ≡ false → kept_of q (world_of h) ≡ None
-  none_kept h e =
-      let none : newest_first (rows_named q (keyed_of h).lists) ≡ [] = ap (λ vs. newest_first (rows_of vs)) (no_versions (entries_of (keyed_of h).lists) e) ∙ sym (rows_shown Empty tt) in
-      ap (λ rows. if_rows rows (choice_in q (world_of h))) none
 
   -- ---- settings
 

@@ -1,7 +1,6 @@
--- What is chosen of a name, and a map of what is chosen of names.
-use Rattle.std.specs.Prelude.{◌≡◌, ℕ, List, [], ◌∷◌, Option, None, Some, Vec, if◌then◌else◌}
+-- What is chosen of a name, and of all names.
+use Rattle.std.specs.Prelude.{◌≡◌, ℕ, List, [], ◌∷◌, Option, None, Some, Vec}
 use Rattle.std.proofs.Common.{Global}
-use Rattle.std.specs.Str.{bytes_eq}
 use Rattle.std.specs.Ordering.{nat_cmp}
 use Rattle.std.specs.Cmp.Lexicographic.{slice_cmp}
 use Rattle.std.specs.BTreeMap.{BTreeMap, get_by}
@@ -26,21 +25,12 @@ kept_of name w = if_rows (newest_first (rows_named name w.lists)) (choice_in nam
 abbrev pub no_choice : Chosen
 no_choice = record { installed = None; candidate = None }
 
--- the place of a name, where there may be one already
-abbrev pub place_of : Option Chosen → Option Chosen
-place_of None = Some no_choice
-place_of (Some choice) = Some choice
+-- of each name there is what is chosen of it, also of those without a row
+abbrev pub AreChosen : (List ℕ → Chosen) → World → Type 0
+AreChosen chosen w = (name : List ℕ) → chosen name ≡ choice_in name w
 
 -- ---- maps by name
 
 -- the value at the key whose bytes are these
 abbrev pub at_bytes : {X : Type 0} → BTreeMap (Vec ℕ Global) X → List ℕ → Option X
 at_bytes m name = get_by (λ k. slice_cmp nat_cmp name k.items) m
-
--- what is chosen of a name, once this one was chosen anew
-abbrev pub renewed : List ℕ → World → BTreeMap (Vec ℕ Global) Chosen → List ℕ → Option Chosen
-renewed name w chosen q = if bytes_eq name q then kept_of name w else at_bytes chosen q
-
--- each name that has a row is there with what is chosen of it, and no other name
-abbrev pub AreChosen : BTreeMap (Vec ℕ Global) Chosen → World → Type 0
-AreChosen chosen w = (name : List ℕ) → at_bytes chosen name ≡ kept_of name w

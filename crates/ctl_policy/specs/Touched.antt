@@ -1,7 +1,5 @@
 -- Which names an accepted edit touches.
-use Rattle.std.specs.Prelude.{◌≡◌, ◌⊎◌, ℕ, Bool, true, false, List, [], ◌∷◌, Option, None, Some, Vec, if◌then◌else◌}
-use Rattle.std.proofs.Common.{Global}
-use Rattle.std.specs.BTreeMap.{BTreeMap}
+use Rattle.std.specs.Prelude.{◌≡◌, ◌⊎◌, ℕ, Bool, true, false, List, [], ◌∷◌, Option, None, Some}
 use Rattle.std.specs.Str.{bytes_eq}
 use Rattle.std.specs.List.{IsDistinct, list_any}
 use Rattle.std.specs.Option.{option_map_or, option_eq}
@@ -17,8 +15,6 @@ use Rattle.ctl_store.specs.Edits.{Edit, Mark, Unmark, Pin, Unpin, Target, Prefs}
 use Rattle.ctl_store.specs.Keys.{stanza_at, coming, all_keys, AreRising, AreCome, AreNew, removed_of, added_of, keyed_after}
 use Rattle.ctl_store.specs.Entries.{IsChange}
 use Rattle.ctl_store.specs.Store.{Held, keyed_of, state_of}
-use Rattle.ctl_policy.specs.declared.chosen.Chosen.{Chosen}
-use Rattle.ctl_policy.specs.Chosen.{at_bytes, place_of}
 use Rattle.ctl_policy.specs.Keys.{has_key}
 use Rattle.ctl_policy.specs.Rows.{Lists}
 use Rattle.ctl_policy.specs.Priority.{World, Settings, world_of, list_priority}
@@ -81,10 +77,6 @@ IsNotTouched name h edit = (sets_again h edit ≡ true) ⊎ IsOfOthers name h ed
 -- whether a name is one of some
 abbrev pub is_one_of : List ℕ → List (List ℕ) → Bool
 is_one_of name names = list_any (λ other. bytes_eq other name) names
-
--- what is chosen of a name, once each of these has a place
-abbrev pub with_places : List (List ℕ) → BTreeMap (Vec ℕ Global) Chosen → List ℕ → Option Chosen
-with_places names chosen q = if is_one_of q names then place_of (at_bytes chosen q) else at_bytes chosen q
 
 -- the packages of the stanzas that are found under keys
 abbrev pub packages_at : List StanzaKey → (StanzaKey → Option Content) → List (List ℕ)

@@ -1,14 +1,12 @@
 //! What is chosen of a name.
 
-ghost use Rattle.std.specs.Prelude.{◌≡◌, ℕ, List, IsSome, Some, None, option_copied, option_map, if◌then◌else◌};
-ghost use Rattle.std.specs.Prelude.{[]};
-ghost use Rattle.std.specs.Str.{bytes_eq};
+ghost use Rattle.std.specs.Prelude.{◌≡◌, option_copied, option_map};
 ghost use Rattle.ctl_relation.specs.Version.{triple_of};
 ghost use Rattle.ctl_store.specs.Store.{keyed_of};
-ghost use Rattle.ctl_policy.specs.Rows.{rows_named, AreRowsOf, newest_first};
+ghost use Rattle.ctl_policy.specs.Rows.{rows_named, AreRowsOf};
 ghost use Rattle.ctl_policy.specs.Priority.{world_of};
 ghost use Rattle.ctl_policy.specs.Candidate.{lead_of_choice};
-ghost use Rattle.ctl_policy.specs.Chosen.{at_bytes, choice_in, kept_of, renewed};
+ghost use Rattle.ctl_policy.specs.Chosen.{choice_in};
 ghost use Rattle.ctl_policy.specs.Inside.HeldRows.{IsFormOf, IsOrderedForm, lead_in, version_in_form};
 ghost use Rattle.ctl_policy.specs.Inside.HeldWalk.{IsHeldForm};
 
@@ -18,7 +16,6 @@ use crate::rows::Rows;
 use crate::status::wanted_version;
 use ctl_relation::Version;
 use ctl_store::{StanzaKey, Store};
-use std::collections::BTreeMap;
 
 /// The installed row and the candidate of a name, by their leads.
 #[derive(Clone, Copy, Debug, PartialEq, Eq)]
@@ -75,46 +72,4 @@ pub fn choose(store: &Store, name: &[u8], rows: &Rows) -> Chosen
     ensures { result ≡ choice_in name.now (world_of store.now) }
 {
     choose_in(store, name, rows.form())
-}
-
-// What is to be kept of a name: nothing where it has no row.
-fn choice_to_keep(store: &Store, name: &[u8], rows: &Rows) -> Option<Chosen>
-    requires { AreRowsOf rows.now name.now (keyed_of store.now).lists }
-    ensures choice { result ≡ kept_of name.now (world_of store.now) }
-    ensures there { newest_first rows.now ≡ [] → result ≡ None }
-{
-    if rows.is_empty() {
-        None
-    } else {
-        Some(choose(store, name, rows))
-    }
-}
-
-// Writes what is chosen of a name into its place, or takes the name out.
-fn write_choice(chosen: &mut BTreeMap<Vec<u8>, Chosen>, name: &[u8], choice: Option<Chosen>)
-    requires { IsSome choice → IsSome (at_bytes chosen.old name.now) }
-    ensures { (q : List ℕ) → at_bytes chosen.new q ≡ (if bytes_eq name.now q then choice else at_bytes chosen.old q) }
-{
-    match choice {
-        Some(choice) => match chosen.get_mut(name) {
-            Some(place) => {
-                *place = choice;
-            }
-            None => unreachable!(),
-        },
-        None => {
-            chosen.remove(name);
-        }
-    }
-}
-
-/// Chooses anew for a name, of which these are the rows, and whose place is there if it has one. A name without rows goes.
-/// Other names keep what is chosen of them. It takes no memory.
-pub fn renew(store: &Store, rows: &Rows, chosen: &mut BTreeMap<Vec<u8>, Chosen>, name: &[u8])
-    requires rows { AreRowsOf rows.now name.now (keyed_of store.now).lists }
-    requires place { (newest_first rows.now ≡ [] → ⊥) → IsSome (at_bytes chosen.old name.now) }
-    ensures { (q : List ℕ) → at_bytes chosen.new q ≡ renewed name.now (world_of store.now) chosen.old q }
-{
-    let choice = choice_to_keep(store, name, rows);
-    write_choice(chosen, name, choice);
 }

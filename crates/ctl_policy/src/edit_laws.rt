@@ -1,11 +1,9 @@
 //! Laws on the names that an edit of the store touches: all others stay.
 
-ghost use Rattle.std.specs.Prelude.{◌≡◌, ℕ, ℤ, Bool, false, List, Option, None, Vec, if◌then◌else◌};
-ghost use Rattle.std.proofs.Common.{Global};
+ghost use Rattle.std.specs.Prelude.{◌≡◌, ℕ, ℤ, Bool, false, List, Option, None, if◌then◌else◌};
 ghost use Rattle.std.specs.Str.{bytes_eq};
 ghost use Rattle.std.specs.List.{IsDistinct};
 ghost use Rattle.std.specs.Map.{keys_of as names_of};
-ghost use Rattle.std.specs.BTreeMap.{BTreeMap};
 ghost use Rattle.ctl_stanza.specs.declared.list_kind.ListKind.{ListKind};
 ghost use Rattle.ctl_stanza.specs.Content.{Content};
 ghost use Rattle.ctl_store.specs.declared.list_class.ListClass.{ListClass};
@@ -17,7 +15,7 @@ ghost use Rattle.ctl_store.specs.Entries.{IsChange};
 ghost use Rattle.ctl_store.specs.Store.{Held, keyed_of, state_of};
 ghost use Rattle.ctl_store.specs.Plans.{Planned, IsReady};
 ghost use Rattle.ctl_policy.specs.declared.chosen.Chosen.{Chosen};
-ghost use Rattle.ctl_policy.specs.Chosen.{at_bytes, kept_of, AreChosen};
+ghost use Rattle.ctl_policy.specs.Chosen.{choice_in, AreChosen};
 ghost use Rattle.ctl_policy.specs.Priority.{Settings, world_of};
 ghost use Rattle.ctl_policy.specs.Rows.{Rows, AreRowsOf, has_list};
 ghost use Rattle.ctl_policy.specs.Laws.{Stays, HoldsNone, world_after};
@@ -100,10 +98,9 @@ pub fn rows_tell_touched_names()
 /// After an accepted edit the names that pass a test are chosen anew, and those that the edit touches are among them: all are
 /// right.
 pub fn touched_names_are_enough()
-    ensures { (old : BTreeMap (Vec ℕ Global) Chosen) → (new : BTreeMap (Vec ℕ Global) Chosen)
-        → (touches : List ℕ → Bool) → (h : Held) → (edit : Edit) → IsAccepted h edit
-        → TouchesOnly touches h edit → AreChosen old (world_of h)
-        → ((q : List ℕ) → at_bytes new q ≡ (if touches q then kept_of q (world_after h edit) else at_bytes old q))
+    ensures { (old : List ℕ → Chosen) → (new : List ℕ → Chosen) → (touches : List ℕ → Bool) → (h : Held) → (edit : Edit)
+        → IsAccepted h edit → TouchesOnly touches h edit → AreChosen old (world_of h)
+        → ((q : List ℕ) → new q ≡ (if touches q then choice_in q (world_after h edit) else old q))
         → AreChosen new (world_after h edit) }
 {
     untouched_names_stay();

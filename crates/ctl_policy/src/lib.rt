@@ -13,7 +13,6 @@ mod keys;
 mod known_priority;
 mod laws;
 mod newest;
-mod places;
 mod priority;
 mod rows;
 mod status;
@@ -21,7 +20,7 @@ mod touching;
 mod walk;
 
 pub use choice_laws::{candidates_are_best, rows_fall, sources_bound_priorities};
-pub use chosen::{Chosen, choose, renew};
+pub use chosen::{Chosen, choose};
 pub use edit_laws::{
     edits_of_general_pins, edits_of_lists, edits_of_preferences, edits_of_stanzas,
     edits_of_targets, packages_tell_live_stanzas, plans_are_accepted, rows_tell_touched_names,
@@ -35,8 +34,7 @@ pub use laws::{
     worlds_move,
 };
 pub use newest::NewestFirst;
-pub use places::{comes_first, make_place, make_places};
 pub use priority::{is_source, list_priority, row_priority, specific_pin};
 pub use rows::Rows;
-pub use touching::{packages_of_store, touched_names};
+pub use touching::touched_names;
 pub use walk::read_rows;

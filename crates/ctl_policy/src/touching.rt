@@ -1,16 +1,13 @@
 //! The names that an edit of a store touches, before it is made.
 
 ghost use Rattle.std.specs.Prelude.{◌≡◌, ℕ, List, ◌++◌, ◌∷◌, [], None, true, IfOk, OnOk, option_copied};
-ghost use Rattle.ctl_store.specs.Entries.{entries_of};
 ghost use Rattle.ctl_store.specs.Keys.{stanza_at, coming, AreComing};
-ghost use Rattle.ctl_store.specs.State.{shown_lists};
-ghost use Rattle.ctl_store.specs.Store.{keyed_of, state_of};
+ghost use Rattle.ctl_store.specs.Store.{keyed_of};
 ghost use Rattle.ctl_store.specs.Plans.{IsReady};
-ghost use Rattle.ctl_policy.specs.Chosen.{kept_of};
 ghost use Rattle.ctl_policy.specs.Laws.{HoldsNone};
 ghost use Rattle.ctl_policy.specs.Priority.{world_of};
-ghost use Rattle.ctl_policy.specs.Touched.{is_one_of, SelectsNone, TargetHoldsNone, LeavePins, LeavesStanzas, IsOfOthers, TouchesAlone, packages_at, sets_again};
-ghost use Rattle.ctl_policy.specs.Inside.TouchedNames.{HoldsOfOthers, TargetHoldsAlone, package_found, packages_among, packages_in, target_packages, selected_package, pinned_packages, repinned_in};
+ghost use Rattle.ctl_policy.specs.Touched.{is_one_of, SelectsNone, LeavePins, LeavesStanzas, IsOfOthers, TouchesAlone, packages_at, sets_again};
+ghost use Rattle.ctl_policy.specs.Inside.TouchedNames.{HoldsOfOthers, TargetHoldsAlone, package_found, packages_in, target_packages, selected_package, pinned_packages, repinned_in};
 
 use crate::again::sets_again;
 use crate::priority::keeps_priority;
@@ -84,25 +81,6 @@ fn push_list(
         push_package(alloc, store.find(key), names)?;
     }
     Ok(())
-}
-
-/// The packages of all stanzas of a store, in their order. One of several stanzas comes several times.
-///
-/// # Errors
-///
-/// Out of memory.
-pub fn packages_of_store(alloc: Global, store: &Store) -> Result<Vec<Bytes>, AllocError>
-    ensures packages { IfOk result (λ names. names.items ≡ packages_among (entries_of (keyed_of store.now).lists)) }
-    // of any other name there is nothing to keep
-    ensures others { IfOk result (λ names. HoldsOfOthers names.items (λ name. kept_of name (world_of store.now) ≡ None)) }
-{
-    let mut names = Vec::new(alloc);
-    let mut left = store.entries();
-    'entries: while let Some((_, stanza)) = left.next() {
-        let package = Bytes::from_slice(alloc, stanza.package())?;
-        names.push(package)?;
-    }
-    Ok(names)
 }
 
 // ---- names of edits

@@ -3,11 +3,10 @@
 use crate::made::{given, version};
 use crate::said::Said;
 use crate::tables::{agree, same};
-use ctl_policy::{Chosen, Rows, read_rows, renew};
+use ctl_policy::{Rows, choose, read_rows};
 use ctl_relation::Version;
 use ctl_store::{StanzaKey, Store};
 use std::alloc::{AllocError, Global};
-use std::collections::BTreeMap;
 use std::test::Fail;
 
 fn key(stanza: u64) -> StanzaKey {
@@ -64,20 +63,17 @@ fn rows_follow_keys(rt: HostRuntime) -> Result<(), Fail> {
     Ok(())
 }
 
-/// A name without rows goes from a map of choices.
-fn renewed_none(alloc: Global, store: &Store, name: &[u8]) -> Result<bool, AllocError> {
+/// Whether nothing is chosen of a name.
+fn chooses_nothing(alloc: Global, store: &Store, name: &[u8]) -> Result<bool, AllocError> {
     let rows = read_rows(alloc, store, name)?;
-    let mut chosen: BTreeMap<Vec<u8>, Chosen> = BTreeMap::new(alloc);
-    if rows.is_empty() {
-        renew(store, &rows, &mut chosen, name);
-    }
-    Ok(chosen.is_empty())
+    let chosen = choose(store, name, &rows);
+    Ok(chosen.installed.is_none() && chosen.candidate.is_none())
 }
 
 #[test]
-fn a_name_without_rows_has_no_choice(rt: HostRuntime) -> Result<(), Fail> {
+fn of_a_name_without_rows_nothing_is_chosen(rt: HostRuntime) -> Result<(), Fail> {
     let store = Store::new(rt.alloc());
-    let is_none = renewed_none(rt.alloc(), &store, b"foo")?;
+    let is_none = chooses_nothing(rt.alloc(), &store, b"foo")?;
     agree(&rt, b"foo", is_none, true);
     Ok(())
 }

@@ -73,6 +73,6 @@ pub fn say_policies(cache: &Cache, said: &mut Said)
         say_package(cache, name, said);
     }
     for (name, chosen) in cache.candidates() {
-        say_chosen(b" chosen=", name, *chosen, said);
+        say_chosen(b" chosen=", name, chosen, said);
     }
 }

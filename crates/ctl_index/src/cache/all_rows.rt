@@ -42,7 +42,7 @@ impl<'a> Iterator for AllRows<'a> {
 
     fn next(&mut self) -> Option<NewestFirst<'a>> {
         match self.entries.next() {
-            Some((_, named)) => Some(named.rows.iter()),
+            Some((_, named)) => Some(named.own.rows.iter()),
             None => None,
         }
     }

@@ -3,6 +3,7 @@
 ghost use Rattle.std.specs.Prelude.{◌≡◌, ◌∷◌, ℕ, List, [], IfSome, IfNone, Some, false, filter_map, map};
 ghost use Rattle.std.specs.List.{AllByRecursion, list_any};
 ghost use Rattle.std.specs.List.Sorted.{IsStrictlySortedBy};
+ghost use Rattle.std.specs.Map.{lookup};
 ghost use Rattle.std.specs.Cmp.Lexicographic.{slice_cmp};
 ghost use Rattle.std.specs.Ordering.{nat_cmp};
 ghost use Rattle.std.specs.Str.{bytes_eq};
@@ -11,34 +12,53 @@ ghost use Rattle.ctl_store.specs.Store.{keyed_of, state_of};
 ghost use Rattle.ctl_policy.specs.Rows.{rows_named, newest_first, keys_of_row, lead_of, lead_at, has_row, sources_of};
 ghost use Rattle.ctl_policy.specs.Priority.{world_of};
 ghost use Rattle.ctl_policy.specs.Candidate.{installed_of, candidate_of};
-ghost use Rattle.ctl_policy.specs.Chosen.{AreChosen, choice_in};
+ghost use Rattle.ctl_policy.specs.declared.chosen.Chosen.{Chosen as ChosenLeads};
+ghost use Rattle.ctl_policy.specs.Chosen.{choice_in, kept_of};
 ghost use Rattle.ctl_index.specs.Names.{known_names};
+ghost use Rattle.ctl_index.specs.Inside.TablesViews.{with_rows};
 ghost use Rattle.ctl_index.specs.RowsTold.{row_at, priority_at, row_under};
 ghost use Rattle.ctl_index.specs.Work.{stanzas_of_state};
 
 use crate::cache::{Cache, Sources};
+use crate::name_entries::NameEntries;
+use crate::named::{Named, has_rows};
 use crate::rows::rows_are_defined;
 use ctl_policy::{
-    Chosen, NewestFirst, names_with_rows_are_kept, row_priority, rows_are_held, rows_are_shown,
-    rows_have_leads,
+    Chosen, NewestFirst, row_priority, rows_are_held, rows_are_shown, rows_have_leads,
 };
 use ctl_relation::Version;
 use ctl_store::StanzaKey;
-use std::collections::{BTreeMap, btree_map};
 use std::marker::Model;
+
+// Takes the entries up to the next one of a name that has a row.
+fn next_with_rows<'a>(entries: &mut NameEntries<'a>) -> Option<(&'a [u8], &'a Named)>
+    ensures some { IfSome result (λ e. with_rows entries.old ≡ (e.0.now, e.1.now) ∷ with_rows entries.new) }
+    ensures none { IfNone result (with_rows entries.old ≡ []) }
+    ensures ended { IfNone result (with_rows entries.new ≡ []) }
+{
+    'names: while let Some((name, named)) = entries.next() {
+        if has_rows(named) {
+            return Some((name, named));
+        }
+    }
+    None
+}
 
 /// The names that have a row, by [`Cache::packages`], in the order of their bytes.
 #[derive(Drop)]
 pub struct Packages<'a> {
-    keys: btree_map::Keys<'a, Vec<u8>, Chosen>,
+    // What is left of the names.
+    entries: NameEntries<'a>,
 }
 
 impl<'a> Model for Packages<'a> {
-    ghost use Rattle.std.specs.Prelude.{ℕ, List, map};
+    ghost use Rattle.std.specs.Prelude.{ℕ, List};
+    ghost use Rattle.ctl_index.specs.Inside.NameMap.{entry_names};
+    ghost use Rattle.ctl_index.specs.Inside.TablesViews.{with_rows};
 
     ghost Value = { List (List ℕ) };
 
-    ghost view = { λ it. map (λ key. key.items) it.keys };
+    ghost view = { λ it. entry_names (with_rows it.entries) };
 }
 
 impl<'a> Iterator for Packages<'a> {
@@ -51,8 +71,42 @@ impl<'a> Iterator for Packages<'a> {
     type Item = &'a [u8];
 
     fn next(&mut self) -> Option<&'a [u8]> {
-        match self.keys.next() {
-            Some(key) => Some(key),
+        match next_with_rows(&mut self.entries) {
+            Some((name, _)) => Some(name),
+            None => None,
+        }
+    }
+}
+
+/// The names that have a row with what is chosen of each, by [`Cache::candidates`], in the order of the bytes of the names.
+#[derive(Drop)]
+pub struct Candidates<'a> {
+    // What is left of the names.
+    entries: NameEntries<'a>,
+}
+
+impl<'a> Model for Candidates<'a> {
+    ghost use Rattle.std.specs.Prelude.{ℕ, List, map};
+    ghost use Rattle.ctl_policy.specs.declared.chosen.Chosen.{Chosen};
+    ghost use Rattle.ctl_index.specs.Inside.TablesViews.{with_rows, entry_chosen};
+
+    ghost Value = { List (List ℕ × Chosen) };
+
+    ghost view = { λ it. map entry_chosen (with_rows it.entries) };
+}
+
+impl<'a> Iterator for Candidates<'a> {
+    ghost use Rattle.std.specs.Iterator.{YieldsFirstBy, item_count};
+
+    ghost next_gives = { YieldsFirstBy (λ item. (item.0.now, item.1)) (λ rest. rest) };
+
+    ghost remaining = { item_count (λ rest. rest) };
+
+    type Item = (&'a [u8], Chosen);
+
+    fn next(&mut self) -> Option<(&'a [u8], Chosen)> {
+        match next_with_rows(&mut self.entries) {
+            Some((name, named)) => Some((name, named.own.chosen.get())),
             None => None,
         }
     }
@@ -200,8 +254,14 @@ impl Cache {
         requires { self.now.stale ≡ false }
         ensures { result ≡ has_row name.now (keyed_of self.now.store).lists }
     {
-        names_with_rows_are_kept();
-        self.chosen.contains_key(name)
+        rows_are_defined();
+        rows_are_shown();
+        // That the keys rise is said here.
+        let _counts = self.store.counts();
+        match self.tables.names.rows(name) {
+            Some(rows) => !rows.is_empty(),
+            None => false,
+        }
     }
 
     /// Whether a name is known: one that is offered, or that an atom names.
@@ -218,9 +278,12 @@ impl Cache {
         ensures order { IsStrictlySortedBy (slice_cmp nat_cmp) result }
         ensures members { (name : List ℕ) → list_any (bytes_eq name) result ≡ has_row name (keyed_of self.now.store).lists }
     {
-        names_with_rows_are_kept();
-        let keys = self.chosen.keys();
-        Packages { keys }
+        rows_are_defined();
+        rows_are_shown();
+        // That the keys rise is said here.
+        let _counts = self.store.counts();
+        let entries = self.tables.names.entries();
+        Packages { entries }
     }
 
     /// What is chosen of a name: the leads of the row that is installed and of the candidate.
@@ -228,9 +291,8 @@ impl Cache {
         requires { self.now.stale ≡ false }
         ensures { result ≡ choice_in name.now (world_of self.now.store) }
     {
-        names_with_rows_are_kept();
-        match self.chosen.get(name) {
-            Some(chosen) => *chosen,
+        match self.tables.names.get(name) {
+            Some(named) => named.own.chosen.get(),
             None => Chosen {
                 installed: None,
                 candidate: None,
@@ -254,11 +316,17 @@ impl Cache {
         self.chosen(name).candidate
     }
 
-    /// What is chosen of each name that has a row.
-    pub fn candidates(&self) -> &BTreeMap<Vec<u8>, Chosen>
+    /// What is chosen of each name that has a row, in the order of the bytes of the names.
+    pub fn candidates(&self) -> Candidates<'_>
         requires { self.now.stale ≡ false }
-        ensures { AreChosen result.now (world_of self.now.store) }
+        ensures order { IsStrictlySortedBy (slice_cmp nat_cmp) (map (λ (e : List ℕ × ChosenLeads). e.0) result) }
+        ensures each { (name : List ℕ) → lookup (bytes_eq name) result ≡ kept_of name (world_of self.now.store) }
     {
-        &self.chosen
+        rows_are_defined();
+        rows_are_shown();
+        // That the keys rise is said here.
+        let _counts = self.store.counts();
+        let entries = self.tables.names.entries();
+        Candidates { entries }
     }
 }

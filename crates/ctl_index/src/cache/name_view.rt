@@ -6,6 +6,8 @@ ghost use Rattle.std.specs.List.Sorted.{IsPermutation};
 ghost use Rattle.std.specs.Str.{bytes_eq};
 ghost use Rattle.ctl_store.specs.Keys.{AreHeld};
 ghost use Rattle.ctl_store.specs.Store.{keyed_of, state_of};
+ghost use Rattle.ctl_policy.specs.Chosen.{choice_in};
+ghost use Rattle.ctl_policy.specs.Priority.{world_of};
 ghost use Rattle.ctl_policy.specs.Rows.{rows_named, newest_first, keys_of_row};
 ghost use Rattle.ctl_index.specs.HeldCache.{standing};
 ghost use Rattle.ctl_index.specs.Names.{known_names, namers_named, kept_namers_named};
@@ -15,7 +17,7 @@ ghost use Rattle.ctl_index.specs.Work.{stanzas_of_state};
 use crate::cache::{Cache, KeptNamers, Namers, Offering};
 use crate::named::Named;
 use crate::rows::rows_are_defined;
-use ctl_policy::{NewestFirst, rows_are_held, rows_are_shown};
+use ctl_policy::{Chosen, NewestFirst, rows_are_held, rows_are_shown};
 use std::marker::Model;
 
 /// What stands under one name, by [`Cache::name_view`]: the name is looked up once for all of it.
@@ -46,8 +48,21 @@ impl<'a> NameView<'a> {
         ensures { result ≡ self.now.rows }
     {
         match self.named {
-            Some(named) => named.rows.iter(),
+            Some(named) => named.own.rows.iter(),
             None => NewestFirst::none(),
+        }
+    }
+
+    /// What is chosen of the name: the leads of the row that is installed and of the candidate.
+    pub fn chosen(&self) -> Chosen
+        ensures { result ≡ self.now.chosen }
+    {
+        match self.named {
+            Some(named) => named.own.chosen.get(),
+            None => Chosen {
+                installed: None,
+                candidate: None,
+            },
         }
     }
 
@@ -92,6 +107,7 @@ impl Cache {
         ensures offering { IsPermutation (map (λ offer. offer.0) (offers_named name.now (standing self.now.store))) result.offering }
         ensures namers { IsPermutation (namers_named name.now (standing self.now.store)) result.namers }
         ensures kept { IsPermutation (kept_namers_named name.now (standing self.now.store)) result.kept_namers }
+        ensures chosen { result.chosen ≡ choice_in name.now (world_of self.now.store) }
     {
         rows_are_defined();
         rows_are_shown();

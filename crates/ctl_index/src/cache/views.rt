@@ -1,6 +1,6 @@
 //! What a cache tells: its store, and, where it isn't stale, what stands in its tables, lent.
 
-ghost use Rattle.std.specs.Prelude.{◌≡◌, ℕ, List, Some, IsSome, false, map, option_map};
+ghost use Rattle.std.specs.Prelude.{◌≡◌, ℕ, List, Some, IsSome, false, length, map, option_map};
 ghost use Rattle.std.specs.BTreeMap.{get};
 ghost use Rattle.std.specs.List.Sorted.{IsPermutation};
 ghost use Rattle.ctl_relation.specs.Parts.{OfferParts};
@@ -257,6 +257,13 @@ impl<'a> KeptNamers<'a> {
         ensures { result ≡ map kept_namer namers.now }
     {
         KeptNamers { namers }
+    }
+
+    /// How many are left.
+    pub fn len(&self) -> usize
+        ensures { result ≡ length self.now }
+    {
+        self.namers.len()
     }
 }
 

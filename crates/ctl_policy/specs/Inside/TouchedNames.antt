@@ -1,5 +1,5 @@
 -- The packages that stand under what an edit touches.
-use Rattle.std.specs.Prelude.{◌≡◌, ℕ, Bool, false, ◌++◌, List, [], ◌∷◌, map, Option, None, Some, if◌then◌else◌}
+use Rattle.std.specs.Prelude.{◌≡◌, ℕ, Bool, false, ◌++◌, List, [], ◌∷◌, Option, None, Some, if◌then◌else◌}
 use Rattle.std.specs.Option.{option_eq}
 use Rattle.std.specs.Ordering.{int_eq}
 use Rattle.ctl_stanza.specs.declared.list_kind.ListKind.{ListKind}
@@ -7,7 +7,6 @@ use Rattle.ctl_stanza.specs.Content.{Content, package_of}
 use Rattle.ctl_store.specs.declared.list_class.ListClass.{ListClass}
 use Rattle.ctl_store.specs.declared.selector.Selector.{Selector}
 use Rattle.ctl_store.specs.declared.selector.Selector.TheVariants.{Version, Release}
-use Rattle.ctl_store.specs.Entries.{Entry}
 use Rattle.ctl_store.specs.Keys.{stanza_at, all_in}
 use Rattle.ctl_store.specs.Store.{Held, state_of}
 use Rattle.ctl_store.specs.State.{shown_lists}
@@ -28,10 +27,6 @@ TargetHoldsAlone names target lists = HoldsOfOthers names (λ name. TargetHoldsN
 abbrev pub package_found : Option Content → List (List ℕ)
 package_found None = []
 package_found (Some x) = package_of x ∷ []
-
--- the packages of stanzas
-abbrev pub packages_among : List Entry → List (List ℕ)
-packages_among es = map (λ (e : Entry). package_of e.1) es
 
 -- the packages of the stanzas of a list
 abbrev pub packages_in : List ℕ → Lists → List (List ℕ)

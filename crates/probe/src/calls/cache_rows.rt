@@ -98,7 +98,7 @@ pub fn say_candidates(cache: &Cache, said: &mut Said)
     requires { cache.now.stale ≡ false }
 {
     for (name, chosen) in cache.candidates() {
-        say_choice(name, *chosen, said);
+        say_choice(name, chosen, said);
     }
 }
 

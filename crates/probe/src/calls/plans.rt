@@ -55,8 +55,8 @@ fn say_come(plan: &Plan, key: StanzaKey, said: &mut Said) {
     });
 }
 
-/// Names, each behind a space.
-pub fn say_names(names: &[Bytes], said: &mut Said) {
+// Names, each behind a space.
+fn say_names(names: &[Bytes], said: &mut Said) {
     for name in names {
         said.all(&[b" ", name.as_slice()]);
     }

@@ -2,10 +2,8 @@
 
 use crate::calls::keys::stanza_key;
 use crate::calls::pins::{say_priority, say_setting};
-use crate::calls::plans::say_names;
 use crate::said::{OUT_OF_MEMORY, Said};
 use crate::words::Words;
-use ctl_policy::packages_of_store;
 use ctl_relation::Version;
 use ctl_stanza::ListKind;
 use ctl_store::{ListClass, StanzaKey, Store};
@@ -156,14 +154,6 @@ fn say_serial(serial: Option<u32>, said: &mut Said) {
     }
 }
 
-// The packages of its stanzas, each behind a space.
-fn say_packages(store: &Store, said: &mut Said) {
-    match packages_of_store(said.alloc(), store) {
-        Ok(names) => say_names(&names, said),
-        Err(_) => said.fail(OUT_OF_MEMORY),
-    }
-}
-
 // What a store holds of a list or of a package.
 fn say_view_of(store: &Store, view: &str, name: &[u8], said: &mut Said) {
     match view {
@@ -180,7 +170,7 @@ fn say_view_of(store: &Store, view: &str, name: &[u8], said: &mut Said) {
 /// What a store holds, by words:
 ///
 /// - `numbers`: how many stanzas and edits, and the limits of both;
-/// - `keys`: each with its list and its stanza; `entries`: each with its package; `packages`: the package of each;
+/// - `keys`: each with its list and its stanza; `entries`: each with its package;
 /// - `find`, a key: the list and the text of its stanza; `keys-of`, a list: the keys of its stanzas, and these by name;
 /// - `lists`: each with its kind and class; `target`: the target release;
 /// - `list`, a name: its kind, and its kind and class; `serial`, a list: its serial number;
@@ -191,7 +181,6 @@ pub fn say_view(store: &Store, words: &mut Words<'_, '_>, said: &mut Said) {
         "numbers" => say_numbers(store, said),
         "keys" => say_keys(store, said),
         "entries" => say_entries(store, said),
-        "packages" => say_packages(store, said),
         "find" => say_found(store, stanza_key(words), said),
         "lists" => say_lists(store, said),
         "target" => said.add(store.target().unwrap_or(b"none")),

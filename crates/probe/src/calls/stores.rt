@@ -4,12 +4,9 @@ use crate::calls::keys::{stanza_key, stanza_sign};
 use crate::calls::plans::{Told, say_late, say_made, say_planned};
 use crate::calls::store_views::{say_numbers, say_view};
 use crate::edits::edit_named;
-use crate::said::{OUT_OF_MEMORY, Said};
+use crate::said::Said;
 use crate::words::Words;
-use ctl_policy::{Chosen, make_places};
-use ctl_relation::Bytes;
 use ctl_store::{Edit, Limits, Refusal, Store};
-use std::collections::BTreeMap;
 
 const REFUSALS: &[Refusal] = &[
     Refusal::Command,
@@ -50,34 +47,6 @@ fn say_most(said: &mut Said) {
     said.number(b"", Limits::MOST.stanzas as u128);
     said.number(b" stanzas, ", Limits::MOST.edits as u128);
     said.add(b" edits");
-}
-
-fn chosen_words(chosen: &Chosen) -> &'static [u8] {
-    if chosen.installed.is_none() && chosen.candidate.is_none() {
-        b" nothing;"
-    } else {
-        b" something;"
-    }
-}
-
-fn say_chosen(places: &BTreeMap<Vec<u8>, Chosen>, said: &mut Said) {
-    for (name, chosen) in places {
-        said.add(name);
-        said.add(chosen_words(chosen));
-    }
-}
-
-// Places for names in a map of what is chosen, each with what is chosen there.
-fn say_places_of(names: &[Bytes], said: &mut Said) {
-    let mut places: BTreeMap<Vec<u8>, Chosen> = BTreeMap::new(said.alloc());
-    if make_places(said.alloc(), &mut places, names).is_err() {
-        said.fail(OUT_OF_MEMORY);
-    }
-    say_chosen(&places, said);
-}
-
-fn say_places(words: &mut Words<'_, '_>, said: &mut Said) {
-    say_places_of(&words.all_kept(), said);
 }
 
 fn edit_of(words: &mut Words<'_, '_>) -> Option<Edit> {
@@ -122,7 +91,6 @@ fn begin(store: &mut Store, limits: Limits, said: &mut Said) {
 fn say_other(store: &mut Store, word: &str, words: &mut Words<'_, '_>, said: &mut Said) {
     match word {
         "most" => say_most(said),
-        "places" => say_places(words, said),
         "sign" => said.add(stanza_sign(words)),
         "refusals" => say_refusals(said),
         _ => say_edited(store, word, words, said),
@@ -135,7 +103,7 @@ fn say_other(store: &mut Store, word: &str, words: &mut Words<'_, '_>, said: &mu
 /// - `show`, and a view;
 /// - an edit: the keys that are handed back; `plan`, an edit: what is planned; `plan-finds`, a key, an edit: the plan's stanza of the key;
 /// - `late`, an edit, and one that is refused before it: this one as it comes back, and what comes of both;
-/// - `touched`, an edit: the names that it touches; `places`, names: their places in a map of what is chosen;
+/// - `touched`, an edit: the names that it touches;
 /// - `sign`, two keys: how they are ordered; `refusals`: all with their numbers.
 pub fn say_call(store: &mut Store, words: &mut Words<'_, '_>, said: &mut Said) {
     match words.word() {

@@ -1,31 +1,23 @@
-use Rattle.std.proofs.Common.{◌≡◌, ◌≤◌, ◌<◌, ◌^◌, arith, ap, subst, sym, ◌∙◌}
+use Rattle.std.proofs.Common.{◌≡◌, ◌≤◌, ◌<◌, ◌^◌, ℕ, List, arith, ap, subst, sym, ◌∙◌}
 use Rattle.ctl_store.specs.declared.limits.Limits.{Limits}
 use Rattle.ctl_store.specs.Keys.{Keyed, AreComing}
 use Rattle.ctl_store.specs.Entries.{entries_of}
 use Rattle.ctl_policy.specs.Priority.{world_of}
-use Rattle.ctl_policy.specs.Chosen.{at_bytes}
+use Rattle.ctl_policy.specs.declared.chosen.Chosen.{Chosen}
+use Rattle.ctl_policy.specs.Chosen.{AreChosen}
 use Rattle.ctl_index.specs.HeldCache.{standing}
-use Rattle.ctl_index.specs.Inside.TablesChosen.{HasMade, HasRenewed}
+use Rattle.ctl_index.specs.Inside.TablesByName.{chosen_under}
+use Rattle.ctl_index.specs.Inside.TablesChosen.{HasMade}
 use Rattle.ctl_index.specs.Inside.TablesFollowed.{IsFollowed}
 use Rattle.ctl_index.specs.Inside.TablesIndexed.{IsIndexed}
 use Rattle.ctl_index.specs.Inside.TablesTouched.{is_touched}
 use Rattle.ctl_index.specs.Work.{more_by}
-use Rattle.ctl_index.proofs.ChoosingLemmas.{placed_there}
 use Rattle.ctl_index.proofs.LawLemmas.{followed_law, followed_work}
+use Rattle.ctl_index.proofs.RecoverLemmas.{indexed_same, with_names}
 use Rattle.ctl_index.proofs.cache.carry_out.Goals as goal
 
-pub returns-clause-indexed : goal.returns-clause-indexed
-returns-clause-indexed c =
-    let h = c.args.store.now in
-    let plan = c.args.plan in
-    let limits : c.limits-limits.result.stanzas ≡ h.limits.stanzas = ap (λ (l : Limits). l.stanzas) c.limits-limits.ensures in
-    let most : h.limits.stanzas < 2 ^ 32 = omega (arith, limits) in
-    let comes : AreComing plan.added plan.edit = subst (λ ks. AreComing ks plan.edit) c.added-added.ensures.keys c.added-added.ensures.coming in
-    let law : IsFollowed h plan = followed_law h plan comes c.counts-counts.ensures.order c.requires.change c.requires.ready.accepted most in
-    subst (λ (k : Keyed). IsIndexed (entries_of k.lists) c.follow.new.tables) (sym c.commit.ensures.keyed) (c.in_ok-touched.ensures.tables law c.requires.indexed)
-
-pub renew_touched-requires-clause-rows : goal.renew_touched-requires-clause-rows
-renew_touched-requires-clause-rows c =
+pub choose_touched-requires : goal.choose_touched-requires
+choose_touched-requires c =
     let h = c.args.store.now in
     let plan = c.args.plan in
     let limits : c.limits-limits.result.stanzas ≡ h.limits.stanzas = ap (λ (l : Limits). l.stanzas) c.limits-limits.ensures in
@@ -35,9 +27,16 @@ renew_touched-requires-clause-rows c =
     let tables : IsIndexed (standing c.commit.new.self) c.follow.new.tables = subst (λ (k : Keyed). IsIndexed (entries_of k.lists) c.follow.new.tables) (sym c.commit.ensures.keyed) (c.in_ok-touched.ensures.tables law c.requires.indexed) in
     c.rows_are_defined.ensures c.commit.new.self c.follow.new.tables.names.map c.commit.ensures.change.rises tables.rows
 
-pub renew_touched-requires-clause-places : goal.renew_touched-requires-clause-places
-renew_touched-requires-clause-places c = λ q e.
-    placed_there (is_touched c.follow.new.tables.names.map c.in_ok-touched.touched q) (at_bytes c.args.chosen.now q) (at_bytes c.follow.new.chosen q) (c.in_ok-touched.ensures.places q) e
+pub returns-clause-indexed : goal.returns-clause-indexed
+returns-clause-indexed c =
+    let h = c.args.store.now in
+    let plan = c.args.plan in
+    let limits : c.limits-limits.result.stanzas ≡ h.limits.stanzas = ap (λ (l : Limits). l.stanzas) c.limits-limits.ensures in
+    let most : h.limits.stanzas < 2 ^ 32 = omega (arith, limits) in
+    let comes : AreComing plan.added plan.edit = subst (λ ks. AreComing ks plan.edit) c.added-added.ensures.keys c.added-added.ensures.coming in
+    let law : IsFollowed h plan = followed_law h plan comes c.counts-counts.ensures.order c.requires.change c.requires.ready.accepted most in
+    let tables : IsIndexed (standing c.commit.new.self) c.follow.new.tables = subst (λ (k : Keyed). IsIndexed (entries_of k.lists) c.follow.new.tables) (sym c.commit.ensures.keyed) (c.in_ok-touched.ensures.tables law c.requires.indexed) in
+    indexed_same (standing c.commit.new.self) c.follow.new.tables c.choose_touched.new.names c.choose_touched.ensures.stays tables
 
 pub returns-clause-chosen : goal.returns-clause-chosen
 returns-clause-chosen c =
@@ -61,11 +60,12 @@ returns-clause-chosen c =
       state = c.commit.ensures.state;
     } in
     let only = c.touched_names_are_told.ensures h plan c.commit.new.self touched m made c.in_ok-touched.ensures.touches rows in
-    let renewed : HasRenewed (is_touched m touched) (world_of c.commit.new.self) c.args.chosen.now c.follow.new.chosen c.renew_touched.new.chosen = record {
-      places = c.in_ok-touched.ensures.places;
-      renewed = c.renew_touched.ensures;
-    } in
-    c.choices_follow_edits.ensures h plan c.commit.new.self (is_touched m touched) c.args.chosen.now c.follow.new.chosen c.renew_touched.new.chosen made only c.requires.chosen renewed
+    let was : AreChosen (chosen_under m) (world_of h) = subst (λ (chosen : List ℕ → Chosen). AreChosen chosen (world_of h)) (sym c.in_ok-touched.ensures.chosen) c.requires.chosen in
+    c.choices_follow_edits.ensures h plan c.commit.new.self (is_touched m touched) (chosen_under m) (chosen_under c.choose_touched.new.names.map) made only was c.choose_touched.ensures.chosen
+
+pub returns-clause-offered : goal.returns-clause-offered
+returns-clause-offered c =
+    c.chosen_names_are_offered.ensures c.commit.new.self (with_names c.follow.new.tables c.choose_touched.new.names) c.commit.ensures.change.rises (returns-clause-indexed c) (returns-clause-chosen c)
 
 pub returns-clause-steps : goal.returns-clause-steps
 returns-clause-steps c =

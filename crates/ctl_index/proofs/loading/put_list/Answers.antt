@@ -1,12 +1,18 @@
-use Rattle.std.proofs.Common.{◌+◌, sym, subst, ◌∙◌}
+use Rattle.std.proofs.Common.{◌+◌, ℕ, List, ap, sym, subst, ◌∙◌}
 use Rattle.std.specs.List.{sum_by}
+use Rattle.ctl_index.specs.declared.named.ChosenRows.{ChosenRows}
 use Rattle.ctl_index.specs.Clauses.{clause_at}
 use Rattle.ctl_index.specs.Inside.TablesByName.{rows_under}
 use Rattle.ctl_index.specs.Inside.TablesIndexed.{namers_sum}
 use Rattle.ctl_index.specs.Inside.TablesLoaded.{number_with}
 use Rattle.ctl_index.specs.Inside.TablesPending.{entries_seen}
 use Rattle.ctl_index.specs.Inside.TablesRows.{AreRowsPut}
+use Rattle.ctl_index.proofs.NameLemmas.{all_chosen}
 use Rattle.ctl_index.proofs.loading.put_list.Goals as goal
+
+pub returns-clause-chosen : goal.returns-clause-chosen
+returns-clause-chosen c =
+    c.in_ok-put_rows.ensures.chosen ∙ ap all_chosen (c.in_ok-put_atoms.ensures.rows ∙ c.in_ok-put_offers.ensures.rows)
 
 pub returns-clause-tables : goal.returns-clause-tables
 returns-clause-tables c = λ apart.
@@ -19,6 +25,6 @@ returns-clause-tables c = λ apart.
           (λ i. sum_by f (c.in_ok-put_rows.ensures.namers i q)) ∙ c.in_ok-put_atoms.ensures.namers q f
           ∙ (λ i. sum_by f (c.in_ok-put_offers.ensures.namers i q) + namers_sum q f (entries_seen s keys));
       counters = λ k. c.in_ok-put_atoms.ensures.counts apart k ∙ (λ i. number_with s (sym offers i) k.field (clause_at k (entries_seen s keys)) (c.in_ok-put_offers.ensures.counts k i));
-      rows = subst (λ rows. AreRowsPut (entries_seen s keys) rows (rows_under c.put_rows.new.names.map)) (c.in_ok-put_atoms.ensures.rows ∙ c.in_ok-put_offers.ensures.rows) c.in_ok-put_rows.ensures.rows;
+      rows = subst (λ (own : List ℕ → ChosenRows). AreRowsPut (entries_seen s keys) (λ q. (own q).rows) (rows_under c.put_rows.new.names.map)) (c.in_ok-put_atoms.ensures.rows ∙ c.in_ok-put_offers.ensures.rows) c.in_ok-put_rows.ensures.rows;
       whole = c.in_ok-put_offers.ensures.whole;
     }

@@ -9,6 +9,7 @@ use Rattle.ctl_index.proofs.rows.put_rows.Goals as goal
 pub loop-key-preserved : goal.loop-key-preserved
 loop-key-preserved c = record {
   rows = more_put (seen c.args.pending.now) c.args.keys.now c.loop-key.key-index _ (omega arith) (rows_under c.args.names.now.map) (rows_under c.loop-key.names.map) (rows_under c.put_row_at.new.names.map) c.loop-key.invariant.rows c.in_ok-put_row_at.ensures.rows;
+  chosen = search rules;
   offers = search rules;
   namers = search rules;
 }

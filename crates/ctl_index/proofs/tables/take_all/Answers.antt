@@ -1,6 +1,7 @@
 use Rattle.std.proofs.Common.{◌≡◌, ℕ, List, ap, subst, ◌∙◌, arith}
 use Rattle.std.specs.List.{list_any, sum_by}
 use Rattle.ctl_index.specs.declared.keys.NamingAtom.{NamingAtom}
+use Rattle.ctl_index.specs.declared.named.ChosenRows.{ChosenRows}
 use Rattle.ctl_index.specs.Inside.TablesByName.{rows_under}
 use Rattle.ctl_index.specs.Inside.TablesCounters.{less_by}
 use Rattle.ctl_index.specs.Inside.TablesHeld.{offers_in, namers_in}
@@ -10,9 +11,13 @@ use Rattle.ctl_index.specs.Inside.TablesPending.{entries_seen}
 use Rattle.ctl_index.specs.Inside.TablesRows.{AreRowsTaken}
 use Rattle.ctl_index.specs.Inside.TablesTests.{offers_tested, atoms_tested}
 use Rattle.ctl_index.specs.Work.{more_by}
+use Rattle.ctl_index.proofs.NameLemmas.{all_chosen}
 use Rattle.ctl_index.proofs.CounterLemmas.{more_by_twice}
 use Rattle.ctl_index.specs.Inside.TablesHeld.{offers_in, namers_in}
 use Rattle.ctl_index.proofs.tables.take_all.Goals as goal
+
+pub returns-clause-chosen : goal.returns-clause-chosen
+returns-clause-chosen c = c.take_rows.ensures.chosen ∙ ap all_chosen (c.in_ok-take_offers.ensures.rows ∙ c.take_atoms.ensures.rows)
 
 pub returns-clause-tables : goal.returns-clause-tables
 returns-clause-tables c =
@@ -26,7 +31,7 @@ returns-clause-tables c =
       offers = λ q. (λ i. c.take_rows.ensures.offers i q) ∙ c.in_ok-take_offers.ensures.offers q ∙ (λ i. without_if offer_stanza (span i) (list_any (has_offer_at s q) keys) (c.take_atoms.ensures.offers i q));
       namers = λ q. (λ i. c.take_rows.ensures.namers i q) ∙ (λ i. c.in_ok-take_offers.ensures.namers i q) ∙ left q;
       counters = λ k. c.in_ok-take_offers.ensures.counts k ∙ (λ i. less_by (sum_by (hits_at s (λ q. left q i) k) keys) (c.take_atoms.ensures.counts k i));
-      rows = subst (λ rows. AreRowsTaken (entries_seen s keys) rows (rows_under c.take_rows.new.names.map)) (c.in_ok-take_offers.ensures.rows ∙ c.take_atoms.ensures.rows) c.take_rows.ensures.rows;
+      rows = subst (λ (own : List ℕ → ChosenRows). AreRowsTaken (entries_seen s keys) (λ q. (own q).rows) (rows_under c.take_rows.new.names.map)) (c.in_ok-take_offers.ensures.rows ∙ c.take_atoms.ensures.rows) c.take_rows.ensures.rows;
     }
 
 pub returns-clause-steps : goal.returns-clause-steps

@@ -11,7 +11,6 @@ use Rattle.ctl_index.specs.Work.{stanzas_of_state}
 use Rattle.ctl_index.proofs.AllRowsLemmas.{rows_told, rows_along, entries_found, all_held}
 use Rattle.ctl_index.proofs.LawLemmas.{contents_of_state}
 use Rattle.ctl_index.proofs.NamesLemmas.{known_is}
-use Rattle.ctl_index.proofs.OfferedLemmas.{rows_offered}
 use Rattle.ctl_index.proofs.cache.Cache.all_rows.Goals as goal
 
 pub returns-clause-rows : goal.returns-clause-rows
@@ -24,7 +23,7 @@ returns-clause-rows c =
     let was = (c.self.invariant fresh).0 in
     rows_along m lists (λ name. c.rows_are_shown.ensures.alike (rows_under m name) name lists (c.rows_are_defined.ensures h m c.counts-counts.ensures.order was.rows name)) c.entries.result
     (entries_found m c.entries.result c.entries.ensures.order c.entries.ensures.found)
-    ∙ ap (map (rows_told lists)) (known_is (standing h) t was c.entries.ensures.used (rows_offered (standing h) t was) c.entries.result c.entries.ensures.order c.entries.ensures.found ∙ ap known_names (contents_of_state lists))
+    ∙ ap (map (rows_told lists)) (known_is (standing h) t was c.entries.ensures.used (c.self.invariant fresh).2 c.entries.result c.entries.ensures.order c.entries.ensures.found ∙ ap known_names (contents_of_state lists))
     ∙ ap (λ (w : HeldCache). map (rows_told (keyed_of w.store).lists) (known_names (stanzas_of_state (state_of w.store)))) c.self.view_is
 
 pub returns-clause-held : goal.returns-clause-held

@@ -5,6 +5,8 @@ use Rattle.std.specs.Str.{bytes_eq}
 use Rattle.ctl_store.specs.declared.stanza_key.StanzaKey.{StanzaKey}
 use Rattle.ctl_store.specs.Keys.{AreHeld}
 use Rattle.ctl_store.specs.Store.{keyed_of, state_of}
+use Rattle.ctl_policy.specs.Chosen.{choice_in}
+use Rattle.ctl_policy.specs.Priority.{world_of}
 use Rattle.ctl_policy.specs.Rows.{rows_named, newest_first, keys_of_row}
 use Rattle.ctl_index.specs.HeldCache.{HeldCache, standing}
 use Rattle.ctl_index.specs.Names.{known_names, namers_named, kept_namers_named}
@@ -19,7 +21,6 @@ use Rattle.ctl_index.proofs.KeptNamerLemmas.{kept_permuted}
 use Rattle.ctl_index.proofs.LawLemmas.{contents_of_state}
 use Rattle.ctl_index.proofs.NameViewLemmas.{rows_of_entry, found_offering}
 use Rattle.ctl_index.proofs.NamesLemmas.{known_there}
-use Rattle.ctl_index.proofs.OfferedLemmas.{rows_offered}
 use Rattle.ctl_index.proofs.StoreLemmas.{rising_apart, store_seen}
 use Rattle.ctl_index.proofs.ViewLemmas.{namers_permuted, offers_permuted}
 use Rattle.std.proofs.lemmas.List.Sorted.{IsPermutation-map}
@@ -31,7 +32,7 @@ returns-clause-known c =
     let name = c.args.name.now in
     let fresh = ap (λ w. w.stale) c.self.view_is ∙ c.requires in
     let was = (c.self.invariant fresh).0 in
-    ap (λ o. is_some o) c.get.ensures.entry ∙ known_there name (standing h) c.self.inside.tables was c.get.ensures.used (rows_offered (standing h) c.self.inside.tables was name)
+    ap (λ o. is_some o) c.get.ensures.entry ∙ known_there name (standing h) c.self.inside.tables was c.get.ensures.used ((c.self.invariant fresh).2 name)
     ∙ ap (λ xs. list_any (bytes_eq name) (known_names xs)) (contents_of_state (keyed_of h).lists)
     ∙ ap (λ (w : HeldCache). list_any (bytes_eq name) (known_names (stanzas_of_state (state_of w.store)))) c.self.view_is
 
@@ -89,3 +90,9 @@ returns-clause-offering c =
     (IsPermutation-map (λ (offer : StanzaKey × OfferParts). offer.0) (offers_named name (standing h)) (map (offer_found h) listed) (offers_permuted h (standing h) t was sees name)) in
     subst (λ (w : HeldCache). IsPermutation (keys (offers_named name (standing w.store))) (name_standing (option_copied c.get.result)).offering) c.self.view_is
     (subst (λ o. IsPermutation (keys (offers_named name (standing h))) (name_standing o).offering) (sym c.get.ensures.entry) found)
+
+pub returns-clause-chosen : goal.returns-clause-chosen
+returns-clause-chosen c =
+    let name = c.args.name.now in
+    let fresh = ap (λ w. w.stale) c.self.view_is ∙ c.requires in
+    ap (λ o. (name_standing o).chosen) c.get.ensures.entry ∙ (c.self.invariant fresh).1 name ∙ ap (λ (h : HeldCache). choice_in name (world_of h.store)) c.self.view_is

@@ -12,7 +12,6 @@ use Rattle.ctl_index.specs.Names.{known_names}
 use Rattle.ctl_index.specs.Work.{stanzas_of_state}
 use Rattle.ctl_index.proofs.LawLemmas.{contents_of_state}
 use Rattle.ctl_index.proofs.NamesLemmas.{known_there}
-use Rattle.ctl_index.proofs.OfferedLemmas.{rows_offered}
 use Rattle.ctl_index.proofs.cache.Cache.names_from.Goals as goal
 
 pub returns-clause-order : goal.returns-clause-order
@@ -33,7 +32,7 @@ returns-clause-members c = λ name begins.
     ap (list_any (bytes_eq name)) c.new.ensures
     ∙ sym (is_some-lookup (bytes_eq name) entries.result)
     ∙ ap is_some (entries.ensures.found name (ap (starts_with nat_eq name) c.in_ok-prefix.ensures.items ∙ begins))
-    ∙ known_there name (standing h) c.self.inside.tables was entries.ensures.used (rows_offered (standing h) c.self.inside.tables was name)
+    ∙ known_there name (standing h) c.self.inside.tables was entries.ensures.used ((c.self.invariant fresh).2 name)
     ∙ ap (λ xs. list_any (bytes_eq name) (known_names xs)) (contents_of_state (keyed_of h).lists)
     ∙ ap (λ (w : HeldCache). list_any (bytes_eq name) (known_names (stanzas_of_state (state_of w.store)))) c.self.view_is
 
@@ -44,7 +43,7 @@ returns-clause-only c = λ name among.
     let fresh = ap (λ w. w.stale) c.self.view_is ∙ c.requires in
     let was = (c.self.invariant fresh).0 in
     let there = is_some-lookup (bytes_eq name) entries.result ∙ sym (ap (list_any (bytes_eq name)) c.new.ensures) ∙ among in
-    sym (known_there name (standing h) c.self.inside.tables was entries.ensures.used (rows_offered (standing h) c.self.inside.tables was name)
+    sym (known_there name (standing h) c.self.inside.tables was entries.ensures.used ((c.self.invariant fresh).2 name)
     ∙ ap (λ xs. list_any (bytes_eq name) (known_names xs)) (contents_of_state (keyed_of h).lists)
     ∙ ap (λ (w : HeldCache). list_any (bytes_eq name) (known_names (stanzas_of_state (state_of w.store)))) c.self.view_is)
     ∙ sym (ap is_some (entries.ensures.only name there)) ∙ there

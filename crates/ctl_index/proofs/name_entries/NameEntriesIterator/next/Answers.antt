@@ -19,7 +19,7 @@ returns-in-Some-clause-goes c = let shorter = ap length (returns-in-Some-clause-
 pub returns-in_ok-long-in_default-clause-steps : goal.returns-in_ok-long-in_default-clause-steps
 returns-in_ok-long-in_default-clause-steps c =
     let inside = c.self.inside in
-    let long : Bor (Vec ℕ Global) × Bor Named = (c.in_ok-long-in_default.long, c.in_ok-long-in_default.named) in
+    let long : Bor (Vec ℕ Global) × Bor Named = (c.in_ok-long-in_default.long, c.in_ok-long-in_default.boxed) in
     let behind = left_behind c.next-self-inside.result inside.long c.next-self-inside.new.self c.next-self-inside.ensures.steps in
     let taken : merged (left_short inside.next_short inside.short) (left_long inside.next_long inside.long)
     ≡ (long.0.now.items, long.1.now) ∷ merged (left_short inside.next_short inside.short) (map long_entry inside.long) =
@@ -31,7 +31,7 @@ returns-in_ok-long-in_default-clause-steps c =
       | in_default-via-in_default w ↦ rw (c.in_ok-long-in_default.was, w.in_default.is) (takes_only_long inside.short long inside.long)
     ] in
     sym c.self.view_is ∙ taken
-    ∙ (λ i. (sym c.as_slice-in_default.ensures.value i, c.in_ok-long-in_default.named.now) ∷ merged (left_short inside.next_short inside.short) (sym behind i))
+    ∙ (λ i. (sym c.as_slice-in_default.ensures.value i, sym c.get-in_default.ensures i) ∷ merged (left_short inside.next_short inside.short) (sym behind i))
 
 pub returns-in_ok-long-in_default-clause-goes : goal.returns-in_ok-long-in_default-clause-goes
 returns-in_ok-long-in_default-clause-goes c = let shorter = ap length (returns-in_ok-long-in_default-clause-steps c) in search rules

@@ -1,6 +1,5 @@
 use Rattle.std.proofs.Common.{[], refl}
-use Rattle.std.specs.FinMap as fin
-use Rattle.ctl_index.specs.Inside.TablesByName.{named_rows, named_offers, named_namers}
+use Rattle.ctl_index.specs.Inside.TablesByName.{named_own, named_offers, named_namers, no_rows}
 use Rattle.ctl_index.proofs.NameLemmas.{changed, used_either, on_ok_map}
 use Rattle.ctl_index.proofs.name_table.NameTable.insert.Goals as goal
 
@@ -17,4 +16,4 @@ returns-clause-namers c =
 
 pub returns-clause-rows : goal.returns-clause-rows
 returns-clause-rows c =
-    on_ok_map c.insert.result (λ set. changed named_rows fin.empty c.args.name.now c.args.self.now.map c.insert.new.self c.args.named (λ _. named_rows c.args.named) set refl) c.insert.ensures.ok
+    on_ok_map c.insert.result (λ set. changed named_own no_rows c.args.name.now c.args.self.now.map c.insert.new.self c.args.named (λ _. named_own c.args.named) set refl) c.insert.ensures.ok

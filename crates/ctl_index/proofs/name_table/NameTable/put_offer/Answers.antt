@@ -8,13 +8,11 @@ use Rattle.ctl_index.specs.declared.keys.ClauseKey.{ClauseKey}
 use Rattle.ctl_index.specs.declared.keys.OfferKey.{OfferKey}
 use Rattle.ctl_index.specs.declared.named.Named.{Named}
 use Rattle.ctl_index.specs.Clauses.{clause_cmp}
-use Rattle.std.specs.FinMap as fin
 use Rattle.std.specs.Option.{option_map_or}
-use Rattle.ctl_index.specs.Inside.TablesByName.{rows_under, named_rows, offers_under, namers_under, named_offers, named_namers}
+use Rattle.ctl_index.specs.Inside.TablesByName.{own_under, named_own, offers_under, namers_under, named_offers, named_namers, no_rows, is_bare}
 use Rattle.ctl_index.specs.Inside.TablesCounters.{counted_up}
 use Rattle.ctl_index.specs.Inside.TablesPending.{hit}
 use Rattle.ctl_index.specs.Inside.TablesOrder.{offer_stanza, put_in_order}
-use Rattle.ctl_index.proofs.RowLemmas.{none_there}
 use Rattle.ctl_index.proofs.NameLemmas.{on_some, on_ok_map, first_there, none_more, changed, unchanged, part-found, used_written, used_found, used_more}
 use Rattle.ctl_index.proofs.SumLemmas.{sum-either}
 use Rattle.ctl_index.proofs.name_table.NameTable.put_offer.Goals as goal
@@ -23,27 +21,27 @@ pub invariant_of-self : goal.invariant_of-self
 invariant_of-self c =
     let m = c.args.self.now.map in
     let v = c.in-Some.named.now in
-    let w : Named = record { offers = c.put.new.self; namers = v.namers; rows = v.rows } in
+    let w : Named = record { offers = c.put.new.self; namers = v.namers; own = v.own } in
     record {
       used = used_written c.name.result.now m (c.get_mut.follows.lender w) w (on_some c.in-Some.is (c.get_mut.follows.holds w))
-          (ap (λ (os : List OfferKey). not ((nat_eq (length os) 0 && nat_eq (length (named_namers v)) 0) && nat_eq (fin.len (named_rows v)) 0)) c.in_err-put-in-Some.ensures.err ∙ used_found m c.name.result.now v c.in-Some.ensures.value c.args.self.now.used) c.args.self.now.used;
+          (ap (λ (os : List OfferKey). not ((nat_eq (length os) 0 && nat_eq (length (named_namers v)) 0) && is_bare (named_own v))) c.in_err-put-in-Some.ensures.err ∙ used_found m c.name.result.now v c.in-Some.ensures.value c.args.self.now.used) c.args.self.now.used;
     }
 
 pub invariant_of-self-in-Some : goal.invariant_of-self-in-Some
 invariant_of-self-in-Some c =
     let m = c.args.self.now.map in
     let v = c.in-Some.named.now in
-    let w : Named = record { offers = c.put.new.self; namers = v.namers; rows = v.rows } in
+    let w : Named = record { offers = c.put.new.self; namers = v.namers; own = v.own } in
     record {
       used = used_written c.name.result.now m (c.get_mut.follows.lender w) w (on_some c.in-Some.is (c.get_mut.follows.holds w))
-          (ap (λ (os : List OfferKey). not ((nat_eq (length os) 0 && nat_eq (length (named_namers v)) 0) && nat_eq (fin.len (named_rows v)) 0)) c.in_ok-put-in-Some.ensures.ok ∙ used_more offer_stanza (named_offers v) c.args.coming.key (nat_eq (length (named_namers v)) 0) (nat_eq (fin.len (named_rows v)) 0)) c.args.self.now.used;
+          (ap (λ (os : List OfferKey). not ((nat_eq (length os) 0 && nat_eq (length (named_namers v)) 0) && is_bare (named_own v))) c.in_ok-put-in-Some.ensures.ok ∙ used_more offer_stanza (named_offers v) c.args.coming.key (nat_eq (length (named_namers v)) 0) (is_bare (named_own v))) c.args.self.now.used;
     }
 
 pub returns-in_ok-put-in-Some-clause-offers : goal.returns-in_ok-put-in-Some-clause-offers
 returns-in_ok-put-in-Some-clause-offers c =
     let m = c.args.self.now.map in
     let v = c.in-Some.named.now in
-    let w : Named = record { offers = c.put.new.self; namers = v.namers; rows = v.rows } in
+    let w : Named = record { offers = c.put.new.self; namers = v.namers; own = v.own } in
     let f : List OfferKey → List OfferKey = λ l. put_in_order offer_stanza c.args.coming.key l in
     λ q g.
     ap (sum_by g) (changed named_offers [] c.name.result.now m (c.get_mut.follows.lender w) w f (on_some c.in-Some.is (c.get_mut.follows.holds w)) (c.in_ok-put-in-Some.ensures.ok ∙ ap f (part-found named_offers [] c.name.result.now m _ c.in-Some.ensures.value)) q
@@ -54,7 +52,7 @@ pub returns-in_ok-put-in-Some-clause-namers : goal.returns-in_ok-put-in-Some-cla
 returns-in_ok-put-in-Some-clause-namers c =
     let m = c.args.self.now.map in
     let v = c.in-Some.named.now in
-    let w : Named = record { offers = c.put.new.self; namers = v.namers; rows = v.rows } in
+    let w : Named = record { offers = c.put.new.self; namers = v.namers; own = v.own } in
     unchanged named_namers [] c.name.result.now m (c.get_mut.follows.lender w) w (on_some c.in-Some.is (c.get_mut.follows.holds w)) (part-found named_namers [] c.name.result.now m _ c.in-Some.ensures.value)
 
 pub returns-in_ok-put-in-Some-clause-counts : goal.returns-in_ok-put-in-Some-clause-counts
@@ -67,8 +65,8 @@ pub returns-in_ok-put-in-Some-clause-rows : goal.returns-in_ok-put-in-Some-claus
 returns-in_ok-put-in-Some-clause-rows c =
     let m = c.args.self.now.map in
     let v = c.in-Some.named.now in
-    let w : Named = record { offers = c.put.new.self; namers = v.namers; rows = v.rows } in
-    unchanged named_rows fin.empty c.name.result.now m (c.get_mut.follows.lender w) w (on_some c.in-Some.is (c.get_mut.follows.holds w)) (part-found named_rows fin.empty c.name.result.now m _ c.in-Some.ensures.value)
+    let w : Named = record { offers = c.put.new.self; namers = v.namers; own = v.own } in
+    unchanged named_own no_rows c.name.result.now m (c.get_mut.follows.lender w) w (on_some c.in-Some.is (c.get_mut.follows.holds w)) (part-found named_own no_rows c.name.result.now m _ c.in-Some.ensures.value)
 
 pub returns-in-None-clause-offers : goal.returns-in-None-clause-offers
 returns-in-None-clause-offers c =
@@ -84,7 +82,7 @@ pub returns-in-None-clause-rows : goal.returns-in-None-clause-rows
 returns-in-None-clause-rows c =
     let m = c.args.self.now.map in
     let bs = c.name-in-None.result.now in
-    let same : (q : List ℕ) → rows_under c.get_mut.follows.lender-at-none q ≡ rows_under m q = λ q. ap (λ o. option_map_or named_rows o fin.empty) (c.get_mut.follows.holds-at-none q) in
+    let same : (q : List ℕ) → own_under c.get_mut.follows.lender-at-none q ≡ own_under m q = λ q. ap (λ o. option_map_or named_own o no_rows) (c.get_mut.follows.holds-at-none q) in
     on_ok_map c.insert.result (λ h q.
-    h q ∙ ap (cond (bytes_eq bs q) c.new-in-None.result) (same q)
-    ∙ none_more named_rows fin.empty bs m m c.new-in-None.result (none_there c.new-in-None.result c.new-in-None.ensures) (c.in-None.ensures.value ∙ ap (at_name m) (c.name.ensures ∙ sym c.name-in-None.ensures)) (λ r i. at_name m r) q) c.insert.ensures.rows
+    h q ∙ ap (cond (bytes_eq bs q) c.none.result) (same q)
+    ∙ none_more named_own no_rows bs m m c.none.result c.none.ensures (c.in-None.ensures.value ∙ ap (at_name m) (c.name.ensures ∙ sym c.name-in-None.ensures)) (λ r i. at_name m r) q) c.insert.ensures.rows

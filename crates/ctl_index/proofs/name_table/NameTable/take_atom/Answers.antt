@@ -2,8 +2,7 @@ use Rattle.std.proofs.Common.{ℕ, [], List, Some, None, cond, ap, sym, subst, �
 use Rattle.std.specs.Str.{bytes_eq}
 use Rattle.std.proofs.lemmas.Grind.{common_steps}
 use Rattle.ctl_index.specs.declared.named.Named.{Named}
-use Rattle.std.specs.FinMap as fin
-use Rattle.ctl_index.specs.Inside.TablesByName.{IsSetAt, rows_under, named_rows, offers_under, namers_under, named_offers, named_namers}
+use Rattle.ctl_index.specs.Inside.TablesByName.{IsSetAt, own_under, named_own, offers_under, namers_under, named_offers, named_namers, no_rows}
 use Rattle.ctl_index.specs.Inside.TablesOrder.{others, namer_stanza}
 use Rattle.ctl_index.proofs.NameLemmas.{on_some, changed, unchanged, replaced, part-found, used_written, used_replaced, nothing_left, same_either}
 use Rattle.ctl_index.proofs.name_table.NameTable.take_atom.Goals as goal
@@ -12,7 +11,7 @@ pub invariant_of-self-then-not-is_used : goal.invariant_of-self-then-not-is_used
 invariant_of-self-then-not-is_used c =
     let m = c.args.self.now.map in
     let v = c.in-Some.named.now in
-    let w : Named = record { offers = v.offers; namers = c.take.new.self; rows = v.rows } in
+    let w : Named = record { offers = v.offers; namers = c.take.new.self; own = v.own } in
     let bs = c.name.result.now in
     let n = c.get_mut.follows.lender w in
     let writes : IsSetAt bs m n (Some w) = on_some c.in-Some.is (c.get_mut.follows.holds w) in
@@ -23,7 +22,7 @@ pub invariant_of-self-else-not-is_used : goal.invariant_of-self-else-not-is_used
 invariant_of-self-else-not-is_used c =
     let m = c.args.self.now.map in
     let v = c.in-Some.named.now in
-    let w : Named = record { offers = v.offers; namers = c.take.new.self; rows = v.rows } in
+    let w : Named = record { offers = v.offers; namers = c.take.new.self; own = v.own } in
     let bs = c.name.result.now in
     let n = c.get_mut.follows.lender w in
     let writes : IsSetAt bs m n (Some w) = on_some c.in-Some.is (c.get_mut.follows.holds w) in
@@ -33,7 +32,7 @@ pub returns-then-not-is_used : goal.returns-then-not-is_used
 returns-then-not-is_used c =
     let m = c.args.self.now.map in
     let v = c.in-Some.named.now in
-    let w : Named = record { offers = v.offers; namers = c.take.new.self; rows = v.rows } in
+    let w : Named = record { offers = v.offers; namers = c.take.new.self; own = v.own } in
     let bs = c.name.result.now in
     let n = c.get_mut.follows.lender w in
     let writes : IsSetAt bs m n (Some w) = on_some c.in-Some.is (c.get_mut.follows.holds w) in
@@ -46,7 +45,7 @@ returns-then-not-is_used c =
           replaced named_namers [] bs m n c.remove.new.self w stay writes removes (sym (c.take.ensures ∙ ap stay (part-found named_namers [] bs m _ found)) ∙ left.namers) q
           ∙ ap (λ b. cond (bytes_eq b q) (stay (namers_under m q)) (namers_under m q)) c.name.ensures;
       offers = λ q. replaced named_offers [] bs m n c.remove.new.self w (λ l. l) writes removes (sym (part-found named_offers [] bs m _ found) ∙ left.offers) q ∙ same_either (bytes_eq bs q) (offers_under m q);
-      rows = λ q. replaced named_rows fin.empty bs m n c.remove.new.self w (λ l. l) writes removes (sym (part-found named_rows fin.empty bs m _ found) ∙ left.rows) q ∙ same_either (bytes_eq bs q) (rows_under m q);
+      rows = λ q. replaced named_own no_rows bs m n c.remove.new.self w (λ l. l) writes removes (sym (part-found named_own no_rows bs m _ found) ∙ left.own) q ∙ same_either (bytes_eq bs q) (own_under m q);
       steps = grind (arith, common_steps);
     }
 
@@ -54,7 +53,7 @@ pub returns-else-not-is_used : goal.returns-else-not-is_used
 returns-else-not-is_used c =
     let m = c.args.self.now.map in
     let v = c.in-Some.named.now in
-    let w : Named = record { offers = v.offers; namers = c.take.new.self; rows = v.rows } in
+    let w : Named = record { offers = v.offers; namers = c.take.new.self; own = v.own } in
     let bs = c.name.result.now in
     let n = c.get_mut.follows.lender w in
     let writes : IsSetAt bs m n (Some w) = on_some c.in-Some.is (c.get_mut.follows.holds w) in
@@ -65,6 +64,6 @@ returns-else-not-is_used c =
           changed named_namers [] bs m n w stay writes (c.take.ensures ∙ ap stay (part-found named_namers [] bs m _ found)) q
           ∙ ap (λ b. cond (bytes_eq b q) (stay (namers_under m q)) (namers_under m q)) c.name.ensures;
       offers = unchanged named_offers [] bs m n w writes (part-found named_offers [] bs m _ found);
-      rows = unchanged named_rows fin.empty bs m n w writes (part-found named_rows fin.empty bs m _ found);
+      rows = unchanged named_own no_rows bs m n w writes (part-found named_own no_rows bs m _ found);
       steps = grind (arith, common_steps);
     }

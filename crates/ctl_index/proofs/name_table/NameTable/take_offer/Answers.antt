@@ -6,8 +6,7 @@ use Rattle.ctl_index.specs.declared.keys.NamingAtom.{NamingAtom}
 use Rattle.std.proofs.lemmas.Grind.{common_steps}
 use Rattle.ctl_index.specs.declared.named.Named.{Named}
 use Rattle.ctl_index.specs.Clauses.{clause_cmp}
-use Rattle.std.specs.FinMap as fin
-use Rattle.ctl_index.specs.Inside.TablesByName.{IsSetAt, rows_under, named_rows, offers_under, namers_under, named_offers, named_namers}
+use Rattle.ctl_index.specs.Inside.TablesByName.{IsSetAt, own_under, named_own, offers_under, namers_under, named_offers, named_namers, no_rows}
 use Rattle.ctl_index.specs.Inside.TablesCounters.{less_by}
 use Rattle.ctl_index.specs.Inside.TablesPending.{hit}
 use Rattle.ctl_index.specs.Inside.TablesOrder.{others, offer_stanza}
@@ -24,7 +23,7 @@ pub invariant_of-self-then-not-is_used : goal.invariant_of-self-then-not-is_used
 invariant_of-self-then-not-is_used c =
     let m = c.args.self.now.map in
     let v = c.in-Some.named.now in
-    let w : Named = record { offers = c.take.new.self; namers = v.namers; rows = v.rows } in
+    let w : Named = record { offers = c.take.new.self; namers = v.namers; own = v.own } in
     let bs = c.name.result.now in
     let n = c.get_mut.follows.lender w in
     let writes : IsSetAt bs m n (Some w) = on_some c.in-Some.is (c.get_mut.follows.holds w) in
@@ -35,7 +34,7 @@ pub invariant_of-self-else-not-is_used : goal.invariant_of-self-else-not-is_used
 invariant_of-self-else-not-is_used c =
     let m = c.args.self.now.map in
     let v = c.in-Some.named.now in
-    let w : Named = record { offers = c.take.new.self; namers = v.namers; rows = v.rows } in
+    let w : Named = record { offers = c.take.new.self; namers = v.namers; own = v.own } in
     let bs = c.name.result.now in
     let n = c.get_mut.follows.lender w in
     let writes : IsSetAt bs m n (Some w) = on_some c.in-Some.is (c.get_mut.follows.holds w) in
@@ -45,7 +44,7 @@ pub returns-then-not-is_used : goal.returns-then-not-is_used
 returns-then-not-is_used c =
     let m = c.args.self.now.map in
     let v = c.in-Some.named.now in
-    let w : Named = record { offers = c.take.new.self; namers = v.namers; rows = v.rows } in
+    let w : Named = record { offers = c.take.new.self; namers = v.namers; own = v.own } in
     let bs = c.name.result.now in
     let n = c.get_mut.follows.lender w in
     let writes : IsSetAt bs m n (Some w) = on_some c.in-Some.is (c.get_mut.follows.holds w) in
@@ -58,7 +57,7 @@ returns-then-not-is_used c =
           replaced named_offers [] bs m n c.remove.new.self w stay writes removes (sym (c.take.ensures ∙ ap stay (part-found named_offers [] bs m _ found)) ∙ left.offers) q
           ∙ ap (λ b. cond (bytes_eq b q) (stay (offers_under m q)) (offers_under m q)) c.name.ensures;
       namers = λ q. replaced named_namers [] bs m n c.remove.new.self w (λ l. l) writes removes (sym (part-found named_namers [] bs m _ found) ∙ left.namers) q ∙ same_either (bytes_eq bs q) (namers_under m q);
-      rows = λ q. replaced named_rows fin.empty bs m n c.remove.new.self w (λ l. l) writes removes (sym (part-found named_rows fin.empty bs m _ found) ∙ left.rows) q ∙ same_either (bytes_eq bs q) (rows_under m q);
+      rows = λ q. replaced named_own no_rows bs m n c.remove.new.self w (λ l. l) writes removes (sym (part-found named_own no_rows bs m _ found) ∙ left.own) q ∙ same_either (bytes_eq bs q) (own_under m q);
       counts = λ k.
           let same : c.as_slice.result.now ≡ namers_under m c.args.offer.now.name = c.as_slice.ensures ∙ part-found named_namers [] bs m _ found ∙ ap (namers_under m) c.name.ensures in
           c.in_ok-lower_clauses.ensures.counts k ∙ ap (λ (xs : List NamingAtom). less_by (sum_by (hit c.args.going.now.pending c.args.offer.now k) xs) (get clause_cmp c.args.counters.now.numbers k)) same;
@@ -71,7 +70,7 @@ pub returns-else-not-is_used : goal.returns-else-not-is_used
 returns-else-not-is_used c =
     let m = c.args.self.now.map in
     let v = c.in-Some.named.now in
-    let w : Named = record { offers = c.take.new.self; namers = v.namers; rows = v.rows } in
+    let w : Named = record { offers = c.take.new.self; namers = v.namers; own = v.own } in
     let bs = c.name.result.now in
     let n = c.get_mut.follows.lender w in
     let writes : IsSetAt bs m n (Some w) = on_some c.in-Some.is (c.get_mut.follows.holds w) in
@@ -82,7 +81,7 @@ returns-else-not-is_used c =
           changed named_offers [] bs m n w stay writes (c.take.ensures ∙ ap stay (part-found named_offers [] bs m _ found)) q
           ∙ ap (λ b. cond (bytes_eq b q) (stay (offers_under m q)) (offers_under m q)) c.name.ensures;
       namers = unchanged named_namers [] bs m n w writes (part-found named_namers [] bs m _ found);
-      rows = unchanged named_rows fin.empty bs m n w writes (part-found named_rows fin.empty bs m _ found);
+      rows = unchanged named_own no_rows bs m n w writes (part-found named_own no_rows bs m _ found);
       counts = λ k.
           let same : c.as_slice.result.now ≡ namers_under m c.args.offer.now.name = c.as_slice.ensures ∙ part-found named_namers [] bs m _ found ∙ ap (namers_under m) c.name.ensures in
           c.in_ok-lower_clauses.ensures.counts k ∙ ap (λ (xs : List NamingAtom). less_by (sum_by (hit c.args.going.now.pending c.args.offer.now k) xs) (get clause_cmp c.args.counters.now.numbers k)) same;
