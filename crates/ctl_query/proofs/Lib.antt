@@ -16,6 +16,7 @@ pub mod LeadLemmas
 pub mod LeadNamingLemmas
 pub mod LeadTableLemmas
 pub mod ListLemmas
+pub mod LikelyLemmas
 pub mod ListedAtomLemmas
 pub mod NameLemmas
 pub mod NamingAtomLemmas
@@ -32,7 +33,9 @@ pub mod RowLemmas
 pub mod RowOfferLemmas
 pub mod RowSourceLemmas
 pub mod RowRisingLemmas
+pub mod ShownLeadLemmas
 pub mod SilentLemmas
 pub mod SourceLemmas
+pub mod TextPartLemmas
 pub mod TwinLemmas
 pub mod UnmetLemmas

@@ -1,6 +1,8 @@
 -- How this crate's own functions go about the answers. Callers need none of it.
+pub mod Askers
 pub mod ListedAtoms
 pub mod Namings
 pub mod Repeats
 pub mod RowSources
 pub mod SourceLines
+pub mod TextParts

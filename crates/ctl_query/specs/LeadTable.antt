@@ -1,5 +1,5 @@
 -- Leads that are lent, and where each stands by its key.
-use Rattle.std.specs.Prelude.{◌≡◌, ◌⊎◌, ℕ, List, map, flat_map, Option, Some}
+use Rattle.std.specs.Prelude.{◌≡◌, ◌⊎◌, ◌+◌, ◌-◌, ◌*◌, ◌%◌, ◌^◌, ℕ, List, map, flat_map, length, Option, Some, bit_and, slice_get, unwrap_or}
 use Rattle.std.specs.Borrow.{Bor}
 use Rattle.std.specs.BTreeMap.{is_at}
 use Rattle.std.specs.Cmp.Lexicographic.{slice_cmp}
@@ -39,6 +39,20 @@ pub record ArePlaces (leads : List Entry) (places : List (StanzaKey × ℕ)) : T
   pub rising : AreInKeyOrder places
   pub there : (i : ℕ) (k : StanzaKey) → key_at leads i ≡ Some k → place_under k places ≡ Some i
   pub no_other : (i : ℕ) (k : StanzaKey) → place_under k places ≡ Some i → key_at leads i ≡ Some k
+
+-- ---- where a lead is looked for first
+
+-- the slot of a key among so many, a power of two: stanzas of one list that follow one another have slots that do
+abbrev pub slot_of : StanzaKey → ℕ → ℕ
+slot_of key slots = bit_and ((key.stanza + key.list * 2_654_435_761 % 2 ^ 64) % 2 ^ 64) (slots - 1)
+
+-- the place that stands at the slot of a key
+abbrev pub likely_place : StanzaKey → List ℕ → ℕ
+likely_place key likely = unwrap_or (slice_get likely (slot_of key (length likely))) 0
+
+-- the place of each lead stands at the slot of its key
+abbrev pub AreLikely : List Entry → List ℕ → Type 0
+AreLikely leads likely = (i : ℕ) (k : StanzaKey) → key_at leads i ≡ Some k → likely_place k likely ≡ i
 
 -- ---- of which packages
 

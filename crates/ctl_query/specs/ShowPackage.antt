@@ -27,10 +27,14 @@ version_line world row = line (row_version world row ∷ flat_map source_mark (s
 
 -- what stands before a relation or an entry of another package: the package and its version
 abbrev pub asker : Content → List ℕ
-asker lead = joined (codes "  " ∷ package_of lead ∷ codes " " ∷ version_text lead ∷ codes " " ∷ [])
+asker lead = joined (codes "  " ∷ package_of lead ∷ codes " " ∷ version_text lead ∷ [])
+
+-- what stands between a version and a relation: the field
+abbrev pub label : FieldKind → List ℕ
+label field = joined (codes " " ∷ field_label field ∷ codes ": " ∷ [])
 
 abbrev pub naming_line : Content → FieldKind → AtomParts → List ℕ
-naming_line lead field atom = line (asker lead ∷ field_label field ∷ codes ": " ∷ atom_text atom ∷ [])
+naming_line lead field atom = line (asker lead ∷ label field ∷ atom_text atom ∷ [])
 
 abbrev pub line_if_naming : List ℕ → Content → FieldKind → AtomParts → List ℕ
 line_if_naming name lead field atom = if bytes_eq atom.name name then naming_line lead field atom else []
@@ -45,7 +49,7 @@ naming_lines name lead = flat_map (naming_in name lead) naming_fields
 -- ---- what it names
 
 abbrev pub relation_line : Content → FieldKind → List AtomParts → List ℕ
-relation_line lead field group = line (version_text lead ∷ codes " " ∷ field_label field ∷ codes ": " ∷ group_text group ∷ [])
+relation_line lead field group = line (version_text lead ∷ label field ∷ group_text group ∷ [])
 
 abbrev pub relations_in : Content → FieldKind → List ℕ
 relations_in lead field = flat_map (relation_line lead field) (groups_of field lead)
@@ -68,7 +72,7 @@ has_name name [] = false
 has_name name (atom ∷ others) = bytes_eq atom.name name
 
 abbrev pub providing_line : Content → List AtomParts → List ℕ
-providing_line lead entry = line (asker lead ∷ group_text entry ∷ [])
+providing_line lead entry = line (asker lead ∷ codes " " ∷ group_text entry ∷ [])
 
 abbrev pub line_if_providing : List ℕ → Content → List AtomParts → List ℕ
 line_if_providing name lead entry = if has_name name entry then providing_line lead entry else []

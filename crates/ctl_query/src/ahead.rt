@@ -5,7 +5,6 @@ ghost use Rattle.std.specs.Prelude.{◌≡◌, OnOk};
 
 use crate::lead_atoms::ListedAtom;
 use crate::lead_table::LeadTable;
-use crate::text::version_text;
 use std::alloc::AllocError;
 
 // How many atoms are looked at ahead.
@@ -20,24 +19,6 @@ fn end_of_look(atoms: usize, at: usize) -> usize {
         return at;
     }
     at.saturating_add(AHEAD).min(atoms)
-}
-
-// How many bytes the packages and the versions of the leads of the next atoms have.
-fn bytes_of_leads(table: &LeadTable<'_>, atoms: &[ListedAtom<'_>], at: usize) -> usize {
-    let mut bytes: usize = 0;
-    for place in at..end_of_look(atoms.len(), at) {
-        let Some(atom) = atoms.get(place) else {
-            return bytes;
-        };
-        if let Some(lead) = table.lead(atom.at.place) {
-            let more = lead
-                .package()
-                .len()
-                .saturating_add(version_text(lead).len());
-            bytes = bytes.saturating_add(more);
-        }
-    }
-    bytes
 }
 
 // How many bytes the packages of the leads of the next atoms have, with how many groups there are in their fields.
@@ -58,22 +39,9 @@ fn groups_of_fields(table: &LeadTable<'_>, atoms: &[ListedAtom<'_>], at: usize) 
     groups
 }
 
-/// Makes room for what is written of the packages and the versions of the next atoms, where those before are written; in between
-/// it does nothing.
-pub(crate) fn look_ahead_at_versions(
-    table: &LeadTable<'_>,
-    atoms: &[ListedAtom<'_>],
-    at: usize,
-    out: &mut Vec<u8>,
-) -> Result<(), AllocError>
-    ensures { OnOk result (out.new.items ≡ out.old.items) }
-{
-    out.reserve(bytes_of_leads(table, atoms, at))
-}
-
-/// The same where the fields of the atoms are looked at, and no version. Most lines take less: what counts is that their parts
-/// are gone to.
-pub(crate) fn look_ahead_at_fields(
+/// Makes room for what is written of the next atoms, where those before are written; in between it does nothing. Most lines take
+/// less: what counts is that the packages and the fields of the atoms are gone to.
+pub(crate) fn look_ahead(
     table: &LeadTable<'_>,
     atoms: &[ListedAtom<'_>],
     at: usize,

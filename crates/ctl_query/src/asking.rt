@@ -28,11 +28,18 @@ use ctl_index::{
     AllRows, Cache, ClauseKey, NameView, Namers, Names, Offers, PackageNames, Packages,
     UnmetClauses,
 };
-use ctl_policy::{Chosen, NewestFirst, rows_are_classes};
+use ctl_policy::{NewestFirst, rows_are_classes};
 use ctl_relation::Version;
 use ctl_store::{StanzaKey, Store};
 use std::alloc::{AllocError, Global};
 use std::marker::Model;
+
+/// A name that is asked for, with what stands under it, so that it is looked up once.
+#[derive(Drop)]
+pub(crate) struct AskedName<'a> {
+    pub(crate) name: &'a [u8],
+    pub(crate) view: NameView<'a>,
+}
 
 /// A cache that isn't stale, seen as what is held in it, and what gives an answer its memory.
 #[derive(Drop)]
@@ -126,6 +133,7 @@ impl<'a> Asking<'a> {
         ensures rising { AllByRecursion AreRising result.rows }
         ensures offering { IsPermutation (offering_named self.now name.now) result.offering }
         ensures kept { IsPermutation (kept_namers_named name.now (standing self.now)) result.kept_namers }
+        ensures chosen { result.chosen ≡ choice_in name.now (world_of self.now) }
     {
         rows_are_classes();
         // That all keys rise is said here.
@@ -133,34 +141,11 @@ impl<'a> Asking<'a> {
         self.cache.name_view(name)
     }
 
-    /// Whether a name is known.
-    #[tactic(auto, unfolding(crate::specs::Packages::is_known))]
-    pub(crate) fn is_known(&self, name: &[u8]) -> bool
-        ensures { result ≡ is_known (world_of self.now) name.now }
-    {
-        self.cache.is_known(name)
-    }
-
-    /// Whether a name is known, where its row is looked for first and is then near: a name with a row is known.
-    pub(crate) fn is_known_by_row(&self, name: &[u8]) -> bool
-        ensures { result ≡ is_known (world_of self.now) name.now }
-    {
-        rows_are_classes();
-        self.has_row(name) || self.is_known(name)
-    }
-
     /// Whether a name has a row.
     pub(crate) fn has_row(&self, name: &[u8]) -> bool
         ensures { result ≡ has_row (world_of self.now) name.now }
     {
         self.cache.has_row(name)
-    }
-
-    /// What is chosen of a name: the leads of the row that is installed and of the candidate.
-    pub(crate) fn chosen(&self, name: &[u8]) -> Chosen
-        ensures { result ≡ choice_in name.now (world_of self.now) }
-    {
-        self.cache.chosen(name)
     }
 
     /// Whether a row of a name is installed.

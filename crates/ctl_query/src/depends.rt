@@ -1,15 +1,18 @@
 //! The answer to `depends`.
 
 ghost use Rattle.std.specs.Prelude.{◌≡◌, ◌++◌, ◌+◌, ◌≤◌, OnOk, option_copied};
+ghost use Rattle.std.specs.Option.{option_or};
 ghost use Rattle.std.specs.BTreeMap.{values};
 ghost use Rattle.std.specs.List.{All};
+ghost use Rattle.ctl_policy.specs.Chosen.{choice_in};
 ghost use Rattle.ctl_policy.specs.Priority.{world_of};
+ghost use Rattle.ctl_policy.specs.Rows.{lead_of};
 ghost use Rattle.ctl_query.specs.Depends.{atom_lines, group_lines, field_lines, lead_lines, has_lines};
-ghost use Rattle.ctl_query.specs.Depends.{depends_fields, first_lead, lead_shown, depends_one, depends_text};
+ghost use Rattle.ctl_query.specs.Depends.{depends_fields, depends_one, depends_text};
 ghost use Rattle.ctl_query.specs.Depends.{atom_pairs, group_pairs, field_pairs, lead_pairs, one_pairs, depends_pairs, providers};
 ghost use Rattle.ctl_query.specs.Inside.Repeats.{IsWritten};
 ghost use Rattle.ctl_query.specs.NameSet.{lent_names};
-ghost use Rattle.ctl_query.specs.Packages.{rows_of};
+ghost use Rattle.ctl_query.specs.Packages.{rows_of, stanza_under};
 ghost use Rattle.ctl_query.specs.Texts.{if_known};
 
 use crate::asking::Asking;
@@ -20,9 +23,11 @@ use crate::relation_lines::{Alternative, append_atom_line};
 use crate::repeats::{Written, keep, lines_of};
 use crate::text::append_unknown;
 use ctl_filter::append_line;
+use ctl_index::NameView;
+use ctl_policy::Chosen;
 use ctl_relation::{Bytes, FieldKind, Group, Steps};
 use ctl_stanza::Stanza;
-use ctl_store::StanzaKey;
+use ctl_store::{StanzaKey, Store};
 use std::alloc::AllocError;
 use std::collections::{BTreeMap, BTreeSet};
 
@@ -204,24 +209,27 @@ impl<'a> Depending<'a> {
         Ok(())
     }
 
-    /// Appends the answer on a known name.
+    /// Appends the answer on a known name, under which this stands.
     #[tactic(auto, unfolding(crate::specs::Depends::depends_one, crate::specs::Depends::one_pairs))]
     fn append_known(
         &self,
+        view: &NameView<'_>,
         name: &[u8],
         out: &mut Vec<u8>,
         steps: &mut Steps,
     ) -> Result<(), AllocError>
+        requires rows { view.now.rows ≡ rows_of (world_of self.now.asking.now) name.now }
+        requires chosen { view.now.chosen ≡ choice_in name.now (world_of self.now.asking.now) }
         ensures text { OnOk result (out.new.items ≡ out.old.items ++ depends_one (world_of self.now.asking.now) self.now.options name.now) }
         ensures steps { steps.new ≤ steps.old + one_pairs (world_of self.now.asking.now) self.now.options name.now }
         ensures kept { steps.old ≤ steps.new }
     {
-        if !self.asking.has_row(name) {
+        let Some(newest) = view.rows().next() else {
             append_line(out, &[b"<", name, b">"])?;
             return Ok(());
-        }
+        };
         append_line(out, &[name])?;
-        match lead_shown(self.asking, name) {
+        match lead_shown(self.asking.store(), view.chosen(), newest) {
             Some(lead) => self.append_lead(lead, out, steps)?,
             None => {}
         }
@@ -239,11 +247,12 @@ impl<'a> Depending<'a> {
         ensures steps { steps.new ≤ steps.old + one_pairs (world_of self.now.asking.now) self.now.options name.now }
         ensures kept { steps.old ≤ steps.new }
     {
-        if !self.asking.is_known_by_row(name) {
+        let view = self.asking.view(name);
+        if !view.is_known() {
             append_unknown(out, name)?;
             return Ok(());
         }
-        self.append_known(name, out, steps)?;
+        self.append_known(&view, name, out, steps)?;
         Ok(())
     }
 
@@ -267,25 +276,15 @@ impl<'a> Depending<'a> {
     }
 }
 
-/// The lead of the newest row of a name.
-fn first_lead(asking: &Asking<'_>, name: &[u8]) -> Option<StanzaKey>
-    ensures { result ≡ first_lead (rows_of (world_of asking.now) name.now) }
-{
-    match asking.rows(name).next() {
-        Some(row) => row.first().copied(),
-        None => None,
-    }
-}
-
 /// The candidate's lead, or where there is no candidate that of the newest row.
-fn lead_shown<'a>(asking: &Asking<'a>, name: &[u8]) -> Option<&'a Stanza>
-    ensures { option_copied result ≡ lead_shown (world_of asking.now) name.now }
+fn lead_shown<'a>(store: &'a Store, chosen: Chosen, newest: &[StanzaKey]) -> Option<&'a Stanza>
+    ensures { option_copied result ≡ stanza_under (world_of store.now) (option_or chosen.candidate (lead_of newest.now)) }
 {
-    let key = match asking.candidate(name) {
+    let key = match chosen.candidate {
         Some(key) => Some(key),
-        None => first_lead(asking, name),
+        None => newest.first().copied(),
     };
-    stanza_under(asking.store(), key)
+    stanza_under(store, key)
 }
 
 /// Appends the answer to `depends`. It makes at most one test for each pair of an atom of a lead that is shown and an offer

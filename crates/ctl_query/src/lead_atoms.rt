@@ -8,8 +8,9 @@ ghost use Rattle.ctl_store.specs.Entries.{Entry};
 ghost use Rattle.ctl_query.specs.Leads.{lead_atom_cmp, is_listed, line_in, line_at, is_at, is_key_of, atom_in, key_at};
 ghost use Rattle.ctl_query.specs.Inside.ListedAtoms.{places_in, listed_at, IsKeptIn, IsKept, IsKeptOf};
 ghost use Rattle.ctl_query.specs.LeadTable.{lent_leads};
+ghost use Rattle.ctl_query.specs.ShowPackage.{asker};
 
-use crate::ahead::look_ahead_at_versions;
+use crate::askers::{Asker, AskerTable};
 use crate::lead_lines::append_naming_line;
 use crate::lead_table::LeadTable;
 use ctl_index::{KeptNamer, KeptNamers};
@@ -130,7 +131,7 @@ pub(crate) fn list_atoms<'a>(
     ensures kept { IfOk result (λ atoms. (name : List ℕ) → All (IsKeptOf table.now name) namers.entry
         → All (IsKept table.now name) atoms.items) }
 {
-    let mut atoms = Vec::new(alloc);
+    let mut atoms = Vec::with_capacity(alloc, namers.len())?;
     'namers: for namer in namers {
         push_atom(&mut atoms, table, namer)?;
     }
@@ -159,24 +160,25 @@ fn atom_naming<'a>(lead: &'a Stanza, name: &'a [u8], listed: &'a ListedAtom<'_>)
 
 /// Appends the line of an atom of a lead.
 #[tactic(auto, using(crate::proofs::KeptLemmas::named_line))]
-fn append_atom_in(
-    lead: &Stanza,
+fn append_atom_of(
+    from: &Asker<'_>,
     name: &[u8],
     listed: &ListedAtom<'_>,
     out: &mut Vec<u8>,
 ) -> Result<(), AllocError>
-    requires { IsKeptIn lead.now name.now listed.now }
-    ensures { OnOk result (out.new.items ≡ out.old.items ++ line_in name.now listed.now.at lead.now) }
+    requires kept { IsKeptIn from.now.lead.now name.now listed.now }
+    requires text { from.now.text.now ≡ asker from.now.lead.now }
+    ensures { OnOk result (out.new.items ≡ out.old.items ++ line_in name.now listed.now.at from.now.lead.now) }
 {
-    match atom_naming(lead, name, listed) {
-        Some(found) => append_naming_line(lead, listed.at.field, &found, out),
+    match atom_naming(from.lead, name, listed) {
+        Some(found) => append_naming_line(from.text, listed.at.field, &found, out),
         None => Ok(()),
     }
 }
 
 /// Appends the line of an atom.
 fn append_atom(
-    table: &LeadTable<'_>,
+    table: &AskerTable<'_>,
     name: &[u8],
     listed: &ListedAtom<'_>,
     out: &mut Vec<u8>,
@@ -184,25 +186,25 @@ fn append_atom(
     requires { IsKept table.now name.now listed.now }
     ensures { OnOk result (out.new.items ≡ out.old.items ++ line_at table.now name.now listed.now.at) }
 {
-    match table.lead(listed.at.place) {
-        Some(lead) => append_atom_in(lead, name, listed, out),
+    match table.asker(listed.at.place) {
+        Some(asker) => append_atom_of(&asker, name, listed, out),
         None => Ok(()),
     }
 }
 
 /// Appends the lines of atoms.
 pub(crate) fn append_atoms(
-    table: &LeadTable<'_>,
+    table: &AskerTable<'_>,
     name: &[u8],
     atoms: &[ListedAtom<'_>],
     out: &mut Vec<u8>,
 ) -> Result<(), AllocError>
     requires { All (IsKept table.now name.now) atoms.now }
-    ensures { OnOk result (out.new.items ≡ out.old.items ++ flat_map (λ (listed : ListedAtom). line_at table.now name.now listed.at) atoms.now) }
+    ensures { OnOk result (out.new.items ≡ out.old.items
+        ++ flat_map (λ (listed : ListedAtom). line_at table.now name.now listed.at) atoms.now) }
 {
-    for at in 0..atoms.len() {
-        look_ahead_at_versions(table, atoms, at, out)?;
-        append_atom(table, name, &atoms[at], out)?;
+    for listed in atoms {
+        append_atom(table, name, listed, out)?;
     }
     Ok(())
 }

@@ -1,7 +1,9 @@
 //! The lines of `showpkg` that one lead gives.
 
-ghost use Rattle.std.specs.Prelude.{◌≡◌, ◌++◌, OnOk, flat_map};
-ghost use Rattle.ctl_query.specs.ShowPackage.{asker, naming_line};
+ghost use Rattle.std.specs.Prelude.{◌≡◌, ◌++◌, ◌∷◌, [], OnOk, flat_map};
+ghost use Rattle.ctl_relation.specs.Printed.{atom_text};
+ghost use Rattle.ctl_filter.specs.Texts.{line};
+ghost use Rattle.ctl_query.specs.ShowPackage.{asker, label};
 ghost use Rattle.ctl_query.specs.ShowPackage.{relation_line, relations_in, relation_lines, entry_line, entry_lines};
 ghost use Rattle.ctl_query.specs.ShowPackage.{has_name, providing_line, line_if_providing, providing_lines};
 
@@ -11,31 +13,47 @@ use ctl_relation::{Atom, FieldKind, Group};
 use ctl_stanza::Stanza;
 use std::alloc::AllocError;
 
-/// Appends what stands before a relation or an entry of another package.
-fn append_asker(lead: &Stanza, out: &mut Vec<u8>) -> Result<(), AllocError>
+// The name of a field with what stands round it, in one piece: there are so many lines that each copy of a few bytes counts.
+fn label(field: FieldKind) -> &'static [u8]
+    ensures { result.now ≡ label field }
+{
+    match field {
+        FieldKind::PreDepends => b" PreDepends: ",
+        FieldKind::Depends => b" Depends: ",
+        FieldKind::Conflicts => b" Conflicts: ",
+        FieldKind::Breaks => b" Breaks: ",
+        FieldKind::Recommends => b" Recommends: ",
+        FieldKind::Suggests => b" Suggests: ",
+        FieldKind::Replaces => b" Replaces: ",
+        FieldKind::Enhances => b" Enhances: ",
+        FieldKind::Provides => b" Provides: ",
+    }
+}
+
+/// Appends what stands before a relation or an entry of another package: the package and the version of its lead.
+pub(crate) fn append_asker(lead: &Stanza, out: &mut Vec<u8>) -> Result<(), AllocError>
     ensures { OnOk result (out.new.items ≡ out.old.items ++ asker lead.now) }
 {
-    out.extend_from_slice(b"  ")?;
+    out.push(b' ')?;
+    out.push(b' ')?;
     out.extend_from_slice(lead.package())?;
     out.push(b' ')?;
     out.extend_from_slice(version_text(lead))?;
-    out.push(b' ')?;
     Ok(())
 }
 
-/// Appends what is told of an atom of a lead that names a name.
+/// Appends what is told of an atom that names a name, behind the package and the version of its lead.
 #[tactic(auto, unfolding(ctl_filter::specs::Texts::line))]
 pub(crate) fn append_naming_line(
-    lead: &Stanza,
+    asker: &[u8],
     field: FieldKind,
     atom: &Atom<'_>,
     out: &mut Vec<u8>,
 ) -> Result<(), AllocError>
-    ensures { OnOk result (out.new.items ≡ out.old.items ++ naming_line lead.now field atom.now) }
+    ensures { OnOk result (out.new.items ≡ out.old.items ++ line (asker.now ∷ label field ∷ atom_text atom.now ∷ [])) }
 {
-    append_asker(lead, out)?;
-    out.extend_from_slice(field.printed_name())?;
-    out.extend_from_slice(b": ")?;
+    out.extend_from_slice(asker)?;
+    out.extend_from_slice(label(field))?;
     atom.append_to(out)?;
     out.push(b'\n')?;
     Ok(())
@@ -51,9 +69,7 @@ fn append_relation(
     ensures { OnOk result (out.new.items ≡ out.old.items ++ relation_line lead.now field group.now) }
 {
     out.extend_from_slice(version_text(lead))?;
-    out.push(b' ')?;
-    out.extend_from_slice(field.printed_name())?;
-    out.extend_from_slice(b": ")?;
+    out.extend_from_slice(label(field))?;
     group.append_to(out)?;
     out.push(b'\n')?;
     Ok(())
@@ -120,8 +136,9 @@ fn append_providing(lead: &Stanza, entry: &Group<'_>, out: &mut Vec<u8>) -> Resu
     ensures { OnOk result (out.new.items ≡ out.old.items ++ providing_line lead.now entry.now) }
 {
     append_asker(lead, out)?;
+    out.push(b' ')?;
     entry.append_to(out)?;
-    out.extend_from_slice(b"\n")?;
+    out.push(b'\n')?;
     Ok(())
 }
 

@@ -2,10 +2,11 @@
 //! of stanzas, in whatever order they come, finds by the table which of them are leads and where each stands in that order.
 
 ghost use Rattle.std.specs.Prelude.{◌≡◌, ℕ, true, Some, IfOk, IfSome, flat_map, option_map, option_copied, slice_get};
+ghost use Rattle.std.specs.Bool.{OnTrue, OnFalse};
 ghost use Rattle.ctl_store.specs.Entries.{Entry};
 ghost use Rattle.ctl_policy.specs.Priority.{world_of};
 ghost use Rattle.ctl_query.specs.Leads.{key_at, leads_named, leads_of};
-ghost use Rattle.ctl_query.specs.LeadTable.{lent_leads, place_under, numbered_from, AreEnough, AreInKeyOrder, ArePlaces};
+ghost use Rattle.ctl_query.specs.LeadTable.{lent_leads, likely_place, place_under, numbered_from, slot_of, AreEnough, AreInKeyOrder, AreLikely, ArePlaces};
 ghost use Rattle.ctl_query.specs.NameSet.{lent_names};
 
 use crate::asking::Asking;
@@ -20,22 +21,26 @@ use std::marker::Model;
 #[derive(Drop)]
 pub(crate) struct LeadTable<'a> {
     leads: Vec<(StanzaKey, &'a Stanza)>,
-    // The place of each among them, in the order of their keys. None where two had one key, which no cache has.
-    places: Option<Vec<(StanzaKey, usize)>>,
     // The place to look at first, by the slot of a key: in most slots it is that of the key's lead.
     likely: Vec<u32>,
+    // Whether each lead is the one at the slot of its key, so that a key has no lead but this one.
+    are_likely: bool,
+    // Where some are not, the place of each among the leads, in the order of their keys. None where two had one key, which no cache
+    // has.
+    places: Option<Vec<(StanzaKey, usize)>>,
 }
 
 impl<'a> Model for LeadTable<'a> {
-    ghost use Rattle.std.specs.Prelude.{List, IfSome};
+    ghost use Rattle.std.specs.Prelude.{◌≡◌, List, IfSome, true};
     ghost use Rattle.ctl_store.specs.Entries.{Entry};
-    ghost use Rattle.ctl_query.specs.LeadTable.{lent_leads, ArePlaces};
+    ghost use Rattle.ctl_query.specs.LeadTable.{lent_leads, AreLikely, ArePlaces};
 
     ghost Value = { List Entry };
 
     ghost view = { λ table. lent_leads table.leads.items };
 
-    ghost invariant = { λ table. IfSome table.places (λ places. ArePlaces (lent_leads table.leads.items) places.items) };
+    ghost invariant = { λ table. (table.are_likely ≡ true → AreLikely (lent_leads table.leads.items) table.likely.items)
+        × IfSome table.places (λ places. ArePlaces (lent_leads table.leads.items) places.items) };
 }
 
 // The leads of all rows, each under its key. A name without a row has none.
@@ -115,7 +120,9 @@ const LIST_APART: u64 = 2_654_435_761;
 const MOST_SLOTS: usize = 2_147_483_648;
 
 // The slot of a key among so many, which are a power of two. Stanzas of one list that follow one another have slots that do.
-fn slot_of(key: StanzaKey, slots: usize) -> usize {
+fn slot_of(key: StanzaKey, slots: usize) -> usize
+    ensures { result ≡ slot_of key slots }
+{
     let start = u64::from(key.list).wrapping_mul(LIST_APART);
     (key.stanza.wrapping_add(start) & (slots as u64).saturating_sub(1)) as usize
 }
@@ -131,6 +138,25 @@ fn likely_places(alloc: Global, leads: &[(StanzaKey, &Stanza)]) -> Result<Vec<u3
         }
     }
     Ok(likely)
+}
+
+// The place at the slot of a key.
+fn likely_place(likely: &[u32], key: StanzaKey) -> usize
+    ensures { result ≡ likely_place key likely.now }
+{
+    likely.get(slot_of(key, likely.len())).copied().unwrap_or(0) as usize
+}
+
+// Whether each lead is the one at the slot of its key.
+fn are_likely(leads: &[(StanzaKey, &Stanza)], likely: &[u32]) -> bool
+    ensures { OnTrue result (AreLikely (lent_leads leads.now) likely.now) }
+{
+    for place in 0..leads.len() {
+        if likely_place(likely, leads[place].0) != place {
+            return false;
+        }
+    }
+    true
 }
 
 // The place beside a key, where keys rise.
@@ -175,12 +201,18 @@ impl<'a> LeadTable<'a> {
     fn new(alloc: Global, leads: Vec<(StanzaKey, &'a Stanza)>) -> Result<LeadTable<'a>, AllocError>
         ensures { IfOk result (λ table. table ≡ lent_leads leads.entry.items) }
     {
-        let places = places_of(alloc, &leads)?;
         let likely = likely_places(alloc, &leads)?;
+        let are_likely = are_likely(&leads, &likely);
+        let places = if are_likely {
+            None
+        } else {
+            places_of(alloc, &leads)?
+        };
         Ok(LeadTable {
             leads,
-            places,
             likely,
+            are_likely,
+            places,
         })
     }
 
@@ -193,12 +225,29 @@ impl<'a> LeadTable<'a> {
 
     // Whether the lead at a place has a key.
     fn is_place_of(&self, place: usize, key: StanzaKey) -> bool
-        ensures { result ≡ true → key_at self.now place ≡ Some key }
+        ensures its { OnTrue result (key_at self.now place ≡ Some key) }
+        ensures of_another { OnFalse result (key_at self.now place ≡ Some key → ⊥) }
     {
         match self.leads.get(place) {
             Some(lead) => compare_keys(&lead.0, &key).is_eq(),
             None => false,
         }
+    }
+
+    // The place of the lead of a key by the keys in order, where some leads aren't at the slots of theirs. Mostly it is found at the
+    // first look all the same.
+    fn sorted_place(&self, key: StanzaKey) -> Option<Option<usize>>
+        ensures some { IfSome result (λ found. IfSome found (λ i. key_at self.now i ≡ Some key)) }
+        ensures exact { IfSome result (λ found. (i : ℕ) → key_at self.now i ≡ Some key → found ≡ Some i) }
+    {
+        let Some(places) = &self.places else {
+            return None;
+        };
+        let likely = likely_place(&self.likely, key);
+        if self.is_place_of(likely, key) {
+            return Some(Some(likely));
+        }
+        Some(place_under(places, key))
     }
 
     /// The place of the lead of a key, if it is one's, where no other lead has the key: none of a cache has. Mostly it is found at
@@ -207,15 +256,15 @@ impl<'a> LeadTable<'a> {
         ensures some { IfSome result (λ found. IfSome found (λ i. key_at self.now i ≡ Some key)) }
         ensures exact { IfSome result (λ found. (i : ℕ) → key_at self.now i ≡ Some key → found ≡ Some i) }
     {
-        let Some(places) = &self.places else {
-            return None;
-        };
-        let slot = slot_of(key, self.likely.len());
-        let likely = self.likely.get(slot).copied().unwrap_or(0) as usize;
-        if self.is_place_of(likely, key) {
-            return Some(Some(likely));
+        if !self.are_likely {
+            return self.sorted_place(key);
         }
-        Some(place_under(places, key))
+        let likely = likely_place(&self.likely, key);
+        if self.is_place_of(likely, key) {
+            Some(Some(likely))
+        } else {
+            Some(None)
+        }
     }
 
     /// The lead at a place.

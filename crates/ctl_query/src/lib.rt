@@ -3,6 +3,7 @@
 
 mod ahead;
 mod answering;
+mod askers;
 mod asking;
 mod depends;
 mod interest;

@@ -2,6 +2,9 @@
 
 ghost use Rattle.std.specs.Prelude.{◌≡◌, ◌++◌, List, [], OnOk, IfOk, option_map, flat_map};
 ghost use Rattle.std.specs.Option.{option_map_or, option_to_list};
+ghost use Rattle.std.specs.List.Sorted.{IsPermutation};
+ghost use Rattle.ctl_index.specs.HeldCache.{standing};
+ghost use Rattle.ctl_index.specs.Names.{kept_namers_named};
 ghost use Rattle.ctl_policy.specs.Priority.{world_of};
 ghost use Rattle.ctl_query.specs.LeadTable.{AreEnough};
 ghost use Rattle.ctl_query.specs.Packages.{packages_of};
@@ -9,8 +12,8 @@ ghost use Rattle.ctl_query.specs.ReverseDepends.{asking_line};
 ghost use Rattle.ctl_query.specs.Inside.Namings.{Naming, lent_naming, further_at, naming_in, naming_at};
 ghost use Rattle.ctl_query.specs.Inside.Namings.{line_of, joined_naming, closed_line, lines_behind};
 
-use crate::ahead::look_ahead_at_fields;
-use crate::asking::Asking;
+use crate::ahead::look_ahead;
+use crate::asking::{AskedName, Asking};
 use crate::interest::stanzas_are_found;
 use crate::lead_atoms::{LeadAtom, list_atoms};
 use crate::lead_table::LeadTable;
@@ -150,19 +153,20 @@ pub(crate) fn append_by_atoms(
     asking: &Asking<'_>,
     installed: bool,
     table: &LeadTable<'_>,
-    name: &[u8],
+    asked: &AskedName<'_>,
     out: &mut Vec<u8>,
 ) -> Result<(), AllocError>
-    requires enough { AreEnough asking.now name.now table.now }
+    requires enough { AreEnough asking.now asked.now.name.now table.now }
+    requires namers { IsPermutation (kept_namers_named asked.now.name.now (standing asking.now)) asked.now.view.kept_namers }
     ensures { OnOk result (out.new.items ≡ out.old.items
-        ++ flat_map (asking_line (world_of asking.now) installed name.now) (packages_of (world_of asking.now))) }
+        ++ flat_map (asking_line (world_of asking.now) installed asked.now.name.now) (packages_of (world_of asking.now))) }
 {
     rows_are_classes();
     stanzas_are_found(asking);
-    let atoms = list_atoms(asking.alloc(), table, asking.view(name).kept_namers())?;
+    let atoms = list_atoms(asking.alloc(), table, asked.view.kept_namers())?;
     let mut found = None;
     for at in 0..atoms.len() {
-        look_ahead_at_fields(table, &atoms, at, out)?;
+        look_ahead(table, &atoms, at, out)?;
         let naming = naming_at(table, atoms[at].at);
         found = append_next(asking, installed, found, naming, out)?;
     }

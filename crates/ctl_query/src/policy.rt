@@ -287,8 +287,7 @@ fn append_one(
 {
     let view = asking.view(name);
     if view.is_known() {
-        let chosen = asking.chosen(name);
-        append_known(sources, name, chosen, view.rows(), out)?;
+        append_known(sources, name, view.chosen(), view.rows(), out)?;
         Ok(())
     } else {
         append_unknown(out, name)?;

@@ -1,13 +1,16 @@
 //! The answer to `rdepends`.
 
 ghost use Rattle.std.specs.Prelude.{◌≡◌, ◌++◌, OnOk, IfSome, flat_map};
+ghost use Rattle.std.specs.List.Sorted.{IsPermutation};
+ghost use Rattle.ctl_index.specs.HeldCache.{standing};
+ghost use Rattle.ctl_index.specs.Names.{kept_namers_named};
 ghost use Rattle.ctl_policy.specs.Priority.{world_of};
 ghost use Rattle.ctl_query.specs.Leads.{leads_of};
 ghost use Rattle.ctl_query.specs.ReverseDepends.{asking_line, reverse_depends_one, reverse_depends_text};
 ghost use Rattle.ctl_query.specs.Packages.{packages_of};
 ghost use Rattle.ctl_query.specs.Texts.{if_known};
 
-use crate::asking::Asking;
+use crate::asking::{AskedName, Asking};
 use crate::lead_table::LeadTable;
 use crate::naming::append_by_atoms;
 use crate::text::append_unknown;
@@ -21,18 +24,19 @@ fn append_all_askers(
     asking: &Asking<'_>,
     installed: bool,
     table: Option<&LeadTable<'_>>,
-    name: &[u8],
+    asked: &AskedName<'_>,
     out: &mut Vec<u8>,
 ) -> Result<(), AllocError>
     requires leads { IfSome table (λ table. table.now ≡ leads_of (world_of asking.now)) }
+    requires namers { IsPermutation (kept_namers_named asked.now.name.now (standing asking.now)) asked.now.view.kept_namers }
     ensures { OnOk result (out.new.items ≡ out.old.items
-        ++ flat_map (asking_line (world_of asking.now) installed name.now) (packages_of (world_of asking.now))) }
+        ++ flat_map (asking_line (world_of asking.now) installed asked.now.name.now) (packages_of (world_of asking.now))) }
 {
     match table {
-        Some(table) => append_by_atoms(asking, installed, table, name, out),
+        Some(table) => append_by_atoms(asking, installed, table, asked, out),
         None => {
-            let table = LeadTable::of_askers(asking, name)?;
-            append_by_atoms(asking, installed, &table, name, out)
+            let table = LeadTable::of_askers(asking, asked.name)?;
+            append_by_atoms(asking, installed, &table, asked, out)
         }
     }
 }
@@ -43,15 +47,16 @@ fn append_known(
     asking: &Asking<'_>,
     installed: bool,
     table: Option<&LeadTable<'_>>,
-    name: &[u8],
+    asked: &AskedName<'_>,
     out: &mut Vec<u8>,
 ) -> Result<(), AllocError>
     requires leads { IfSome table (λ table. table.now ≡ leads_of (world_of asking.now)) }
-    ensures { OnOk result (out.new.items ≡ out.old.items ++ reverse_depends_one (world_of asking.now) installed name.now) }
+    requires namers { IsPermutation (kept_namers_named asked.now.name.now (standing asking.now)) asked.now.view.kept_namers }
+    ensures { OnOk result (out.new.items ≡ out.old.items ++ reverse_depends_one (world_of asking.now) installed asked.now.name.now) }
 {
-    append_line(out, &[name])?;
+    append_line(out, &[asked.name])?;
     append_line(out, &[b"Reverse Depends:"])?;
-    append_all_askers(asking, installed, table, name, out)
+    append_all_askers(asking, installed, table, asked, out)
 }
 
 fn append_one(
@@ -65,11 +70,12 @@ fn append_one(
     ensures { OnOk result (out.new.items ≡ out.old.items
         ++ if_known (world_of asking.now) (reverse_depends_one (world_of asking.now) installed) name.now) }
 {
-    if !asking.is_known(name) {
+    let view = asking.view(name);
+    if !view.is_known() {
         append_unknown(out, name)?;
         return Ok(());
     }
-    append_known(asking, installed, table, name, out)?;
+    append_known(asking, installed, table, &AskedName { name, view }, out)?;
     Ok(())
 }
 

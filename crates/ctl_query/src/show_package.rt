@@ -19,6 +19,7 @@ ghost use Rattle.ctl_query.specs.ShowPackage.{providing_lines, show_package_one,
 ghost use Rattle.ctl_filter.specs.Texts.{line};
 ghost use Rattle.ctl_query.specs.Texts.{if_known};
 
+use crate::askers::AskerTable;
 use crate::asking::Asking;
 use crate::interest::{packages_providing, stanzas_are_found};
 use crate::lead_atoms::{append_atoms, list_atoms};
@@ -67,7 +68,7 @@ fn append_version(store: &Store, row: &[StanzaKey], out: &mut Vec<u8>) -> Result
 /// Appends the atoms that name a name, by a table of leads: each is gone to by its key, and no name is looked for.
 fn append_by_atoms(
     asking: &Asking<'_>,
-    table: &LeadTable<'_>,
+    table: &AskerTable<'_>,
     namers: KeptNamers<'_>,
     name: &[u8],
     out: &mut Vec<u8>,
@@ -78,7 +79,7 @@ fn append_by_atoms(
 {
     rows_are_classes();
     stanzas_are_found(asking);
-    let atoms = list_atoms(asking.alloc(), table, namers)?;
+    let atoms = list_atoms(asking.alloc(), table.table(), namers)?;
     append_atoms(table, name, &atoms, out)?;
     Ok(())
 }
@@ -87,7 +88,7 @@ fn append_by_atoms(
 /// enough.
 fn append_naming(
     asking: &Asking<'_>,
-    table: Option<&LeadTable<'_>>,
+    table: Option<&AskerTable<'_>>,
     namers: KeptNamers<'_>,
     name: &[u8],
     out: &mut Vec<u8>,
@@ -99,7 +100,7 @@ fn append_naming(
     match table {
         Some(table) => append_by_atoms(asking, table, namers, name, out),
         None => {
-            let table = LeadTable::of_askers(asking, name)?;
+            let table = AskerTable::new(asking.alloc(), LeadTable::of_askers(asking, name)?)?;
             append_by_atoms(asking, &table, namers, name, out)
         }
     }
@@ -165,16 +166,17 @@ fn show_versions(
     ensures { OnOk result (out.new.items ≡ out.old.items ++ (line (codes "Versions:" ∷ [])
         ++ (flat_map (version_line (world_of asking.now)) rows.entry ++ line []))) }
 {
-    append_line(out, &[b"Versions:"])?;
+    out.extend_from_slice(b"Versions:\n")?;
     'rows: for row in rows {
         append_version(asking.store(), row, out)?;
     }
-    append_line(out, &[])
+    out.push(b'\n')?;
+    Ok(())
 }
 
 fn show_namers(
     asking: &Asking<'_>,
-    table: Option<&LeadTable<'_>>,
+    table: Option<&AskerTable<'_>>,
     namers: KeptNamers<'_>,
     name: &[u8],
     out: &mut Vec<u8>,
@@ -184,15 +186,16 @@ fn show_namers(
     ensures { OnOk result (out.new.items ≡ out.old.items ++ (line (codes "Reverse Depends:" ∷ [])
         ++ of_all_rows (world_of asking.now) (naming_lines name.now))) }
 {
-    append_line(out, &[b"Reverse Depends:"])?;
-    append_naming(asking, table, namers, name, out)
+    out.extend_from_slice(b"Reverse Depends:\n")?;
+    append_naming(asking, table, namers, name, out)?;
+    Ok(())
 }
 
 fn show_relations(store: &Store, rows: NewestFirst<'_>, out: &mut Vec<u8>) -> Result<(), AllocError>
     ensures { OnOk result (out.new.items ≡ out.old.items ++ (line (codes "Dependencies:" ∷ [])
         ++ flat_map (told_of_row (world_of store.now) relation_lines) rows.entry)) }
 {
-    append_line(out, &[b"Dependencies:"])?;
+    out.extend_from_slice(b"Dependencies:\n")?;
     'leads: for (_, lead) in Leads::new(store, rows) {
         append_relation_lines(lead, out)?;
     }
@@ -203,7 +206,7 @@ fn show_entries(store: &Store, rows: NewestFirst<'_>, out: &mut Vec<u8>) -> Resu
     ensures { OnOk result (out.new.items ≡ out.old.items ++ (line (codes "Provides:" ∷ [])
         ++ flat_map (told_of_row (world_of store.now) entry_lines) rows.entry)) }
 {
-    append_line(out, &[b"Provides:"])?;
+    out.extend_from_slice(b"Provides:\n")?;
     'leads: for (_, lead) in Leads::new(store, rows) {
         append_entry_lines(lead, out)?;
     }
@@ -220,15 +223,16 @@ fn show_providers(
     ensures { OnOk result (out.new.items ≡ out.old.items ++ (line (codes "Reverse Provides:" ∷ [])
         ++ of_all_rows (world_of asking.now) (providing_lines name.now))) }
 {
-    append_line(out, &[b"Reverse Provides:"])?;
-    append_providing(asking, offering, name, out)
+    out.extend_from_slice(b"Reverse Provides:\n")?;
+    append_providing(asking, offering, name, out)?;
+    Ok(())
 }
 
 /// Appends the answer on a known name, under which this stands.
 #[tactic(auto, unfolding(crate::specs::ShowPackage::show_package_one))]
 fn append_known(
     asking: &Asking<'_>,
-    table: Option<&LeadTable<'_>>,
+    table: Option<&AskerTable<'_>>,
     view: &NameView<'_>,
     name: &[u8],
     out: &mut Vec<u8>,
@@ -251,7 +255,7 @@ fn append_known(
 
 fn append_one(
     asking: &Asking<'_>,
-    table: Option<&LeadTable<'_>>,
+    table: Option<&AskerTable<'_>>,
     name: &[u8],
     out: &mut Vec<u8>,
 ) -> Result<(), AllocError>
@@ -270,7 +274,7 @@ fn append_one(
 
 fn append_each(
     asking: &Asking<'_>,
-    table: Option<&LeadTable<'_>>,
+    table: Option<&AskerTable<'_>>,
     names: &[Bytes],
     out: &mut Vec<u8>,
 ) -> Result<(), AllocError>
@@ -292,7 +296,10 @@ pub(crate) fn append_show_package(
     ensures { OnOk result (out.new.items ≡ out.old.items ++ show_package_text (world_of asking.now) names.now) }
 {
     match LeadTable::for_names(asking, names.len())? {
-        Some(table) => append_each(asking, Some(&table), names, out),
+        Some(table) => {
+            let table = AskerTable::new(asking.alloc(), table)?;
+            append_each(asking, Some(&table), names, out)
+        }
         None => append_each(asking, None, names, out),
     }
 }

@@ -115,9 +115,7 @@ impl<'a> Atom<'a> {
     {
         self.append_name(out)?;
         if let Some((operator, version)) = self.bound {
-            out.extend_from_slice(b" (")?;
-            out.extend_from_slice(operator.text())?;
-            out.push(b' ')?;
+            out.extend_from_slice(operator.opening())?;
             out.extend_from_slice(version)?;
             out.push(b')')?;
         }

@@ -1,6 +1,6 @@
 //! The operators of version bounds (Debian Policy 7.1).
 
-ghost use Rattle.std.specs.Prelude.{◌≡◌, None};
+ghost use Rattle.std.specs.Prelude.{◌≡◌, ◌++◌, None, codes};
 ghost use Rattle.ctl_relation.specs.Met.{relates};
 ghost use Rattle.ctl_relation.specs.Printed.{operator_text};
 ghost use Rattle.ctl_relation.specs.Version.{fault_of};
@@ -35,6 +35,20 @@ impl Operator {
             Operator::Equal => order.is_eq(),
             Operator::LaterOrEqual => order.is_ge(),
             Operator::Later => order.is_gt(),
+        }
+    }
+
+    /// What stands between a name and the version of its bound as they are printed, in one piece: atoms are printed by the
+    /// hundred thousand.
+    pub(crate) fn opening(self) -> &'static [u8]
+        ensures { result.now ≡ codes " (" ++ operator_text self ++ codes " " }
+    {
+        match self {
+            Operator::Earlier => b" (<< ",
+            Operator::EarlierOrEqual => b" (<= ",
+            Operator::Equal => b" (= ",
+            Operator::LaterOrEqual => b" (>= ",
+            Operator::Later => b" (>> ",
         }
     }
 

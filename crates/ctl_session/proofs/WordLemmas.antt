@@ -1,11 +1,14 @@
 -- The words of a command, byte by byte.
-use Rattle.std.proofs.Common.{◌≡◌, ◌≢◌, ◌==◌, ℕ, List, [], ◌∷◌, ◌++◌, Option, None, Some, Bool, true, false, refl, sym, ◌∙◌, ap, subst, inl, inr, cond, append_assoc, append-nil}
+use Rattle.std.proofs.Common.{◌≡◌, ◌≢◌, ◌==◌, ◌+◌, ◌<◌, ℕ, List, [], ◌∷◌, ◌++◌, length, take, get_or, Option, None, Some, Bool, true, false, refl, sym, ◌∙◌, ap, subst, inl, inr, cond, append_assoc, append-nil}
+use Rattle.std.specs.List.{All, AllByRecursion}
+use Rattle.std.proofs.lemmas.List.{take_more}
+use Rattle.std.proofs.lemmas.List.Elements.{All-append, All-from_recursion}
 use Rattle.std.specs.Option.{option_map}
 use Rattle.std.proofs.lemmas.Bool.{cases_Bool, eqb-true}
 use Rattle.ctl_relation.specs.Bytes.{apostrophe}
 use Rattle.ctl_stanza.specs.Lines.{onto_first, is_blank_byte}
 use Rattle.ctl_session.specs.Words.{words_from, onto_word, ended_before}
-use Rattle.ctl_session.specs.WordsRead.{before_first, onto_read}
+use Rattle.ctl_session.specs.WordsRead.{before_first, onto_read, IsPlain}
 use Rattle.ctl_session.specs.declared.words.Place.{Place}
 use Rattle.ctl_session.specs.declared.words.Place.TheVariants.{Between, Within, Quoted}
 
@@ -101,6 +104,21 @@ pub goes_on : (place : Place) (words : List (List ℕ)) (word more : List ℕ) (
 goes_on place words word more b text at blank quote grown =
     subst (λ p. option_map (onto_read p words more) (words_from p text) ≡ option_map (onto_read p words word) (words_from p (b ∷ text))) (sym at)
     (ap (λ w. option_map (onto_read Within words w) (words_from Within text)) grown ∙ byte_more b words word (words_from Within text) ∙ sym (rw blank (rw quote refl)))
+
+-- one plain byte more
+pub plain_more : (text : List ℕ) (n d : ℕ) → n < length text → IsPlain (get_or text n d) → All IsPlain (take n text) → All IsPlain (take (n + 1) text)
+plain_more text n d within plain all =
+    subst (All IsPlain) (sym (take_more text n d within))
+    (All-append IsPlain (take n text) (get_or text n d ∷ []) all (All-from_recursion IsPlain (get_or text n d ∷ []) (plain, tt)))
+
+-- plain bytes go on with a word
+pub all_go_on : (place : Place) (words : List (List ℕ)) (word plain text : List ℕ) → place ≡ Within → AllByRecursion IsPlain plain →
+    option_map (onto_read place words (word ++ plain)) (words_from place text) ≡ option_map (onto_read place words word) (words_from place (plain ++ text))
+all_go_on place words word [] text at all = ap (λ w. option_map (onto_read place words w) (words_from place text)) (append-nil word)
+all_go_on place words word (b ∷ plain) text at all =
+    ap (λ w. option_map (onto_read place words w) (words_from place text)) (sym (append_assoc word (b ∷ []) plain))
+    ∙ all_go_on place words (word ++ b ∷ []) plain text at all.1
+    ∙ goes_on place words word (word ++ b ∷ []) b (plain ++ text) at all.0.0 all.0.1 refl
 
 pub goes_on_quoted : (place : Place) (words : List (List ℕ)) (word more : List ℕ) (b : ℕ) (text : List ℕ) → place ≡ Quoted → (b == apostrophe) ≡ false → more ≡ word ++ b ∷ [] →
     option_map (onto_read place words more) (words_from place text) ≡ option_map (onto_read place words word) (words_from place (b ∷ text))

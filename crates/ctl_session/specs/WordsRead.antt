@@ -1,5 +1,7 @@
 -- Words that are being read.
-use Rattle.std.specs.Prelude.{ℕ, List, [], ◌∷◌, ◌++◌, Option}
+use Rattle.std.specs.Prelude.{◌≡◌, ◌==◌, ℕ, false, List, [], ◌∷◌, ◌++◌, Option}
+use Rattle.ctl_relation.specs.Bytes.{apostrophe}
+use Rattle.ctl_stanza.specs.Lines.{is_blank_byte}
 use Rattle.std.specs.Option.{option_map}
 use Rattle.ctl_session.specs.Words.{words_from}
 use Rattle.ctl_session.specs.declared.words.Reading.{Reading}
@@ -20,3 +22,7 @@ onto_read Quoted words word rest = words ++ before_first word rest
 -- what is read so far, and then the words of a text from there on
 abbrev pub words_read : Reading → List ℕ → Option (List (List ℕ))
 words_read reading text = option_map (onto_read reading.place reading.words.items reading.word.items) (words_from reading.place text)
+
+-- a byte that goes on with its word: neither blank nor a quote
+abbrev pub IsPlain : ℕ → Type 0
+IsPlain b = (is_blank_byte b ≡ false) × ((b == apostrophe) ≡ false)

@@ -1,10 +1,11 @@
 //! The words of a command.
 
-ghost use Rattle.std.specs.Prelude.{◌≡◌, ◌∷◌, [], ℕ, List, IfOk, OnOk};
+ghost use Rattle.std.specs.Prelude.{◌≡◌, ◌≤◌, ◌∷◌, [], ℕ, List, IfOk, OnOk, length, take};
+ghost use Rattle.std.specs.List.{All};
 ghost use Rattle.std.specs.Option.{option_map};
 ghost use Rattle.ctl_session.specs.Words.{words_of};
 ghost use Rattle.ctl_session.specs.declared.words.Place.TheVariants.{Between, Within, Quoted};
-ghost use Rattle.ctl_session.specs.WordsRead.{words_read};
+ghost use Rattle.ctl_session.specs.WordsRead.{words_read, IsPlain};
 
 use crate::line_words::is_blank;
 use ctl_relation::Bytes;
@@ -27,6 +28,19 @@ pub(crate) struct Reading {
     words: Vec<Bytes>,
     word: Vec<u8>,
     place: Place,
+}
+
+// How many bytes of a text stand before its first blank or quote.
+fn plain_len(text: &[u8]) -> usize
+    ensures bound { result ≤ length text.now }
+    ensures plain { All IsPlain (take result text.now) }
+{
+    for place in 0..text.len() {
+        if is_blank(text[place]) || text[place] == b'\'' {
+            return place;
+        }
+    }
+    text.len()
 }
 
 impl Reading {
@@ -77,6 +91,17 @@ impl Reading {
         Ok(())
     }
 
+    /// Reads the bytes of a word up to the next blank or quote, and tells what is left: the words of a line are mostly plain.
+    fn read_plain<'t>(&mut self, text: &'t [u8]) -> Result<&'t [u8], AllocError>
+        requires { self.old.place ≡ Within }
+        ensures read { IfOk result (λ left. words_read self.new left.now ≡ words_read self.old text.now) }
+        ensures shorter { IfOk result (λ left. length left.now ≤ length text.now) }
+    {
+        let (plain, left) = text.split_at(plain_len(text));
+        self.word.extend_from_slice(plain)?;
+        Ok(left)
+    }
+
     /// Reads a byte between quotes: the closing one, or one of the word.
     fn read_quoted(&mut self, byte: u8) -> Result<(), AllocError>
         requires { self.old.place ≡ Quoted }
@@ -119,8 +144,13 @@ pub(crate) fn words(alloc: Global, text: &[u8]) -> Result<Option<Vec<Bytes>>, Al
         word: Vec::new(alloc),
         place: Place::Between,
     };
-    'bytes: for byte in text {
+    let mut left = text;
+    'bytes: while let Some((byte, rest)) = left.split_first() {
         reading.read(alloc, *byte)?;
+        left = match reading.place {
+            Place::Within => reading.read_plain(rest)?,
+            _ => rest,
+        };
     }
     reading.end()
 }

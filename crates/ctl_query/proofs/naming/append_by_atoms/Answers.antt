@@ -27,7 +27,7 @@ loop-at-preserved c =
     let next : drop c.loop-at.at atoms ≡ a ∷ drop (c.loop-at.at + 1) atoms =
     drop-cons atoms c.loop-at.at a (omega (arith, c.loop-at-test.true)) ∙ (λ i. sym c.index.ensures i ∷ drop (sym (add-one c.loop-at.at) i) atoms) in
     c.in_ok-found.ensures left
-    ∙ ap (λ (text : List ℕ). text ++ lines (option_to_list (option_map lent_naming c.naming_at-naming.result) ++ left)) c.in_ok-look_ahead_at_fields.ensures
+    ∙ ap (λ (text : List ℕ). text ++ lines (option_to_list (option_map lent_naming c.naming_at-naming.result) ++ left)) c.in_ok-look_ahead.ensures
     ∙ ap (λ (o : Option Naming). c.loop-at.out.items ++ lines (option_to_list o ++ left)) c.naming_at-naming.ensures
     ∙ ap (λ (others : List ListedAtom). c.loop-at.out.items ++ lines (flat_map told others)) (sym next)
     ∙ c.loop-at.invariant
@@ -36,11 +36,11 @@ pub returns : goal.returns
 unfolding lines_behind
 returns c =
     let store = c.args.asking.now in
-    let name = c.args.name.now in
+    let name = c.args.asked.now.name.now in
     let atoms = c.in_ok-atoms.atoms.items in
     let told = namings_at c.args.table.now in
     let lines : Option Naming → List ListedAtom → List ℕ = λ found left. lines_behind (world_of store) c.args.installed found (flat_map (λ (listed : ListedAtom). told listed.at) left) in
-    let same : IsPermutation (kept_namers_named name (standing store)) c.kept_namers.result = subst (IsPermutation (kept_namers_named name (standing store))) (sym c.kept_namers.ensures) c.view.ensures.kept in
+    let same : IsPermutation (kept_namers_named name (standing store)) c.kept_namers.result = subst (IsPermutation (kept_namers_named name (standing store))) (sym c.kept_namers.ensures) c.requires.namers in
     let none : drop c.loop-at.at atoms ≡ [] = drop_of_length-le atoms (omega (arith, c.loop-at-test.false)) in
     c.in_ok-append_found.ensures
     ∙ ap (λ left. c.loop-at.out.items ++ lines (option_map lent_naming c.loop-at.found) left) (sym none)

@@ -6,4 +6,5 @@ use Rattle.ctl_query.proofs.LeadLemmas.{as_told_under}
 use Rattle.ctl_query.proofs.show_package.show_entries.Goals as goal
 
 pub returns : goal.returns
+unfolding line
 returns c = as_told_under (world_of c.args.store.now) entry_lines c.args.out.now.items (line (codes "Provides:" ∷ [])) c.leads.out.items c.args.rows (search rules)
