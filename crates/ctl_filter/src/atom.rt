@@ -77,27 +77,6 @@ fn has_match(expression: &Expression, searcher: &mut Option<Searcher<'_>>, text:
     }
 }
 
-/// Whether a text passes a test, by the test's own searcher.
-#[tactic(auto, using(crate::proofs::AnyCaseLemmas::contains_lowered))]
-pub(crate) fn text_passes(
-    test: &Test,
-    searcher: &mut Option<Searcher<'_>>,
-    text: &[u8],
-    room: &mut Vec<u8>,
-) -> Result<bool, AllocError>
-    requires { Fits test.now searcher.old }
-    ensures passes { IfOk result (λ passes. passes ≡ text_passes (test_of test.now) text.now) }
-    ensures same { sought_by searcher.new ≡ sought_by searcher.old }
-{
-    match test {
-        Test::Substring(any_case, _) => has_substring(*any_case, searcher, text, room),
-        Test::Exact(false, pattern) => Ok(text == pattern.as_slice()),
-        Test::Exact(true, pattern) => Ok(text.eq_ignore_ascii_case(pattern.as_slice())),
-        Test::Expression(expression) => Ok(has_match(expression, searcher, text)),
-        Test::Compare(operator, bound) => bound.is_met_by(*room.allocator(), *operator, text),
-    }
-}
-
 /// The version of a stanza, if the text is that.
 fn version_of<'a>(stanza: &'a Stanza, text: &[u8]) -> Option<&'a Version>
     ensures { IfSome result (λ version. version.now ≡ text.now) }
@@ -108,62 +87,6 @@ fn version_of<'a>(stanza: &'a Stanza, text: &[u8]) -> Option<&'a Version>
     } else {
         None
     }
-}
-
-/// Whether a body of a stanza passes a test. One that is the stanza's version is not read anew, which could take memory.
-fn body_passes(
-    test: &Test,
-    searcher: &mut Option<Searcher<'_>>,
-    stanza: &Stanza,
-    body: &[u8],
-    room: &mut Vec<u8>,
-) -> Result<bool, AllocError>
-    requires { Fits test.now searcher.old }
-    ensures passes { IfOk result (λ passes. passes ≡ text_passes (test_of test.now) body.now) }
-    ensures same { sought_by searcher.new ≡ sought_by searcher.old }
-{
-    if let Test::Compare(operator, bound) = test {
-        if let Some(version) = version_of(stanza, body) {
-            return Ok(bound.is_met_by_version(*operator, version));
-        }
-    }
-    text_passes(test, searcher, body, room)
-}
-
-fn field_passes(
-    test: &Test,
-    searcher: &mut Option<Searcher<'_>>,
-    finder: &Finder<'_>,
-    name: &[u8],
-    room: &mut Vec<u8>,
-) -> Result<bool, AllocError>
-    requires { Fits test.now searcher.old }
-    ensures passes { IfOk result (λ passes. passes ≡ field_passes (test_of test.now) finder.now name.now) }
-    ensures same { sought_by searcher.new ≡ sought_by searcher.old }
-{
-    match finder.body(name)? {
-        Some(body) => body_passes(test, searcher, finder.stanza(), body, room),
-        None => Ok(false),
-    }
-}
-
-fn any_field_passes(
-    names: &[Bytes],
-    test: &Test,
-    searcher: &mut Option<Searcher<'_>>,
-    finder: &Finder<'_>,
-    room: &mut Vec<u8>,
-) -> Result<bool, AllocError>
-    requires { Fits test.now searcher.old }
-    ensures passes { IfOk result (λ passes. passes ≡ list_any (field_passes (test_of test.now) finder.now) names.now) }
-    ensures same { sought_by searcher.new ≡ sought_by searcher.old }
-{
-    for name in names {
-        if field_passes(test, searcher, finder, name.as_slice(), room)? {
-            return Ok(true);
-        }
-    }
-    Ok(false)
 }
 
 /// The searcher of a test, if it needs one.
@@ -194,25 +117,122 @@ fn is_within_lines(test: &Test) -> bool
     }
 }
 
-/// Whether the pattern of a substring stands nowhere in a stanza's text. Then it stands in no body: the pattern has no newline, and each
-/// line of a body is a part of a line of the text. The text is searched in less time than a field of it is found.
-#[tactic(auto, using(crate::proofs::BodyLemmas::nowhere))]
-fn is_nowhere(
-    test: &Test,
-    searcher: &Option<Searcher<'_>>,
-    stanza: &Stanza,
-    room: &mut Vec<u8>,
-) -> Result<bool, AllocError>
-    requires fits { Fits test.now searcher.now }
-    requires within_lines { is_within_lines test.now ≡ true }
-    ensures { IfOk result (λ nowhere. nowhere ≡ true
-        → (names : List (List ℕ)) → list_any (field_passes (test_of test.now) stanza.now) names ≡ false) }
-{
-    match test {
-        Test::Substring(any_case, _) => {
-            Ok(!has_substring(*any_case, searcher, stanza.text(), room)?)
+/// A test with what searches for its pattern, which is made once for all texts.
+#[derive(Drop)]
+struct PreparedTest<'q> {
+    test: &'q Test,
+    searcher: Option<Searcher<'q>>,
+    // Whether it asks for a substring whose pattern has no newline, which is looked for once.
+    within_lines: bool,
+}
+
+impl<'q> Model for PreparedTest<'q> {
+    ghost use Rattle.std.specs.Prelude.{◌≡◌};
+    ghost use Rattle.ctl_filter.specs.Filter.{Test};
+    ghost use Rattle.ctl_filter.specs.Inside.Values.{test_of};
+    ghost use Rattle.ctl_filter.specs.Inside.Searchers.{is_within_lines, Fits};
+
+    ghost Value = { Test };
+
+    ghost view = { λ p. test_of p.test.now };
+
+    ghost invariant = { λ p. Fits p.test.now p.searcher × (p.within_lines ≡ is_within_lines p.test.now) };
+}
+
+impl<'q> PreparedTest<'q> {
+    fn new(alloc: Global, test: &'q Test) -> Result<PreparedTest<'q>, AllocError>
+        ensures { IfOk result (λ p. p ≡ test_of test.now) }
+    {
+        let searcher = searcher_of(alloc, test)?;
+        let within_lines = is_within_lines(test);
+        Ok(PreparedTest {
+            test,
+            searcher,
+            within_lines,
+        })
+    }
+
+    /// Whether a text passes.
+    #[tactic(auto, using(crate::proofs::AnyCaseLemmas::contains_lowered))]
+    fn text_passes(&mut self, text: &[u8], room: &mut Vec<u8>) -> Result<bool, AllocError>
+        ensures passes { IfOk result (λ passes. passes ≡ text_passes self.old text.now) }
+        ensures same { self.new ≡ self.old }
+    {
+        match self.test {
+            Test::Substring(any_case, _) => has_substring(*any_case, &self.searcher, text, room),
+            Test::Exact(false, pattern) => Ok(text == pattern.as_slice()),
+            Test::Exact(true, pattern) => Ok(text.eq_ignore_ascii_case(pattern.as_slice())),
+            Test::Expression(expression) => Ok(has_match(expression, &mut self.searcher, text)),
+            Test::Compare(operator, bound) => bound.is_met_by(*room.allocator(), *operator, text),
         }
-        _ => Ok(false),
+    }
+
+    /// Whether a body of a stanza passes. One that is the stanza's version is not read anew, which could take memory.
+    fn body_passes(
+        &mut self,
+        stanza: &Stanza,
+        body: &[u8],
+        room: &mut Vec<u8>,
+    ) -> Result<bool, AllocError>
+        ensures passes { IfOk result (λ passes. passes ≡ text_passes self.old body.now) }
+        ensures same { self.new ≡ self.old }
+    {
+        if let Test::Compare(operator, bound) = self.test {
+            if let Some(version) = version_of(stanza, body) {
+                return Ok(bound.is_met_by_version(*operator, version));
+            }
+        }
+        self.text_passes(body, room)
+    }
+
+    fn field_passes(
+        &mut self,
+        finder: &Finder<'_>,
+        name: &[u8],
+        room: &mut Vec<u8>,
+    ) -> Result<bool, AllocError>
+        ensures passes { IfOk result (λ passes. passes ≡ field_passes self.old finder.now name.now) }
+        ensures same { self.new ≡ self.old }
+    {
+        match finder.body(name)? {
+            Some(body) => self.body_passes(finder.stanza(), body, room),
+            None => Ok(false),
+        }
+    }
+
+    fn any_field_passes(
+        &mut self,
+        names: &[Bytes],
+        finder: &Finder<'_>,
+        room: &mut Vec<u8>,
+    ) -> Result<bool, AllocError>
+        ensures passes { IfOk result (λ passes. passes ≡ list_any (field_passes self.old finder.now) names.now) }
+        ensures same { self.new ≡ self.old }
+    {
+        for name in names {
+            if self.field_passes(finder, name.as_slice(), room)? {
+                return Ok(true);
+            }
+        }
+        Ok(false)
+    }
+
+    /// Whether the pattern of a substring stands nowhere in a stanza's text. Then it stands in no body: the pattern has no newline, and
+    /// each line of a body is a part of a line of the text. The text is searched in less time than a field of it is found.
+    #[tactic(auto, using(crate::proofs::BodyLemmas::nowhere))]
+    fn is_nowhere(&self, stanza: &Stanza, room: &mut Vec<u8>) -> Result<bool, AllocError>
+        ensures { IfOk result (λ nowhere. nowhere ≡ true
+            → (names : List (List ℕ)) → list_any (field_passes self.now stanza.now) names ≡ false) }
+    {
+        if !self.within_lines {
+            return Ok(false);
+        }
+        match self.test {
+            Test::Substring(any_case, _) => {
+                Ok(!has_substring(*any_case, &self.searcher, stanza.text(), room)?)
+            }
+            _ => Ok(false),
+        }
     }
 }
 
@@ -220,35 +240,27 @@ fn is_nowhere(
 #[derive(Drop)]
 pub(crate) struct Prepared<'q> {
     atom: &'q Atom,
-    searcher: Option<Searcher<'q>>,
-    // Whether it asks for a substring whose pattern has no newline, which is looked for once.
-    within_lines: bool,
+    test: PreparedTest<'q>,
 }
 
 impl<'q> Model for Prepared<'q> {
     ghost use Rattle.std.specs.Prelude.{◌≡◌};
     ghost use Rattle.ctl_filter.specs.Filter.{Atom};
-    ghost use Rattle.ctl_filter.specs.Inside.Values.{atom_of};
-    ghost use Rattle.ctl_filter.specs.Inside.Searchers.{is_within_lines, Fits};
+    ghost use Rattle.ctl_filter.specs.Inside.Values.{atom_of, test_of};
 
     ghost Value = { Atom };
 
     ghost view = { λ p. atom_of p.atom.now };
 
-    ghost invariant = { λ p. Fits p.atom.now.test p.searcher × (p.within_lines ≡ is_within_lines p.atom.now.test) };
+    ghost invariant = { λ p. p.test ≡ test_of p.atom.now.test };
 }
 
 impl<'q> Prepared<'q> {
     pub(crate) fn new(alloc: Global, atom: &'q Atom) -> Result<Prepared<'q>, AllocError>
         ensures { IfOk result (λ p. p ≡ atom_of atom.now) }
     {
-        let searcher = searcher_of(alloc, &atom.test)?;
-        let within_lines = is_within_lines(&atom.test);
-        Ok(Prepared {
-            atom,
-            searcher,
-            within_lines,
-        })
+        let test = PreparedTest::new(alloc, &atom.test)?;
+        Ok(Prepared { atom, test })
     }
 
     /// Whether a stanza passes. The room serves again.
@@ -256,15 +268,14 @@ impl<'q> Prepared<'q> {
         ensures passes { IfOk result (λ passes. passes ≡ atom_passes stanza.now self.old) }
         ensures same { self.new ≡ self.old }
     {
-        let atom = self.atom;
-        match &atom.fields {
-            None => text_passes(&atom.test, &mut self.searcher, stanza.text(), room),
+        match &self.atom.fields {
+            None => self.test.text_passes(stanza.text(), room),
             Some(names) => {
-                if self.within_lines && is_nowhere(&atom.test, &self.searcher, stanza, room)? {
+                if self.test.is_nowhere(stanza, room)? {
                     return Ok(false);
                 }
                 let finder = Finder::new(*room.allocator(), stanza, names.len())?;
-                any_field_passes(names, &atom.test, &mut self.searcher, &finder, room)
+                self.test.any_field_passes(names, &finder, room)
             }
         }
     }

@@ -11,7 +11,7 @@ use crate::piece::{Manner, Piece};
 use crate::token::Token;
 use ctl_relation::{Bytes, Operator};
 use ctl_store::Refusal;
-use std::alloc::Global;
+use std::alloc::{AllocError, Global};
 
 fn sign_named(word: &[u8]) -> Option<Token>
     ensures { result ≡ sign_named word.now }
@@ -54,20 +54,15 @@ fn manner_named(word: &[u8]) -> Option<Manner>
 fn copied(alloc: Global, text: &[u8]) -> Result<Bytes, Refusal>
     ensures { Reads (λ copy. copy) result (Ok text.now) }
 {
-    match Bytes::from_slice(alloc, text) {
-        Ok(copy) => Ok(copy),
-        Err(_) => Err(Refusal::Memory),
-    }
+    let copy = Bytes::from_slice(alloc, text)?;
+    Ok(copy)
 }
 
-fn push_piece(pieces: &mut Vec<Piece>, piece: Piece) -> Result<(), Refusal>
-    ensures ok { OnOk result (pieces.new.items ≡ pieces.old.items ++ piece ∷ []) }
-    ensures err { IfErr result (λ cause. cause ≡ refusal.Memory) }
+fn push_piece(pieces: &mut Vec<Piece>, piece: Piece) -> Result<(), AllocError>
+    ensures { OnOk result (pieces.new.items ≡ pieces.old.items ++ piece ∷ []) }
 {
-    match pieces.push(piece) {
-        Ok(()) => Ok(()),
-        Err(_) => Err(Refusal::Memory),
-    }
+    pieces.push(piece)?;
+    Ok(())
 }
 
 // ---- clusters of letters
@@ -91,7 +86,6 @@ fn argument_piece(alloc: Global, letter: u8, word: &[u8]) -> Result<Piece, Refus
 
 /// Takes the argument of a letter: the rest of its word or, where that is empty, the next word. Says whether it took that.
 fn take_argument(
-    alloc: Global,
     letter: u8,
     letters: &[u8],
     words: &[Bytes],
@@ -99,6 +93,7 @@ fn take_argument(
 ) -> Result<bool, Refusal>
     ensures { Reads (λ taken. (pieces.new.items, taken)) result (onto_word pieces.old.items (argument_given letter letters.now words.now)) }
 {
+    let alloc = *pieces.allocator();
     if !letters.is_empty() {
         push_piece(pieces, argument_piece(alloc, letter, letters)?)?;
         return Ok(false);
@@ -129,18 +124,14 @@ fn letter_piece(alloc: Global, letter: u8) -> Result<Piece, Refusal>
 }
 
 /// Reads the letters of a cluster in turn.
-fn read_cluster(
-    alloc: Global,
-    letters: &[u8],
-    words: &[Bytes],
-    pieces: &mut Vec<Piece>,
-) -> Result<bool, Refusal>
+fn read_cluster(letters: &[u8], words: &[Bytes], pieces: &mut Vec<Piece>) -> Result<bool, Refusal>
     ensures { Reads (λ taken. (pieces.new.items, taken)) result (onto_word pieces.old.items (cluster words.now letters.now)) }
 {
+    let alloc = *pieces.allocator();
     let mut rest = letters;
     'letters: while let Some((letter, others)) = rest.split_first() {
         if takes_argument(*letter) {
-            return take_argument(alloc, *letter, others, words, pieces);
+            return take_argument(*letter, others, words, pieces);
         }
         push_piece(pieces, letter_piece(alloc, *letter)?)?;
         rest = others;
@@ -160,31 +151,32 @@ fn is_pattern(word: &[u8]) -> bool
     }
 }
 
-/// Reads a word that begins with `--`.
-fn read_long(alloc: Global, word: &[u8], pieces: &mut Vec<Piece>) -> Result<bool, Refusal>
+/// The piece of a word that begins with `--`.
+fn long_piece(alloc: Global, word: &[u8]) -> Result<Piece, Refusal>
+    ensures { Reads (λ piece. (piece ∷ [], false)) result (long_word word.now) }
+{
+    if word.starts_with(b"--pattern=") {
+        return Ok(Piece::Pattern(copied(alloc, &word[10..])?));
+    }
+    match manner_named(word) {
+        Some(manner) => Ok(Piece::Manner(manner)),
+        None => Err(Refusal::Usage),
+    }
+}
+
+fn read_long(word: &[u8], pieces: &mut Vec<Piece>) -> Result<bool, Refusal>
     ensures { Reads (λ taken. (pieces.new.items, taken)) result (onto_word pieces.old.items (long_word word.now)) }
 {
-    let piece = if word.starts_with(b"--pattern=") {
-        Piece::Pattern(copied(alloc, &word[10..])?)
-    } else {
-        match manner_named(word) {
-            Some(manner) => Piece::Manner(manner),
-            None => return Err(Refusal::Usage),
-        }
-    };
+    let piece = long_piece(*pieces.allocator(), word)?;
     push_piece(pieces, piece)?;
     Ok(false)
 }
 
 /// Reads a word, with the words behind it, and says whether it took the next.
-fn read_word(
-    alloc: Global,
-    word: &[u8],
-    words: &[Bytes],
-    pieces: &mut Vec<Piece>,
-) -> Result<bool, Refusal>
+fn read_word(word: &[u8], words: &[Bytes], pieces: &mut Vec<Piece>) -> Result<bool, Refusal>
     ensures { Reads (λ taken. (pieces.new.items, taken)) result (onto_word pieces.old.items (word_pieces word.now words.now)) }
 {
+    let alloc = *pieces.allocator();
     if let Some(sign) = sign_named(word) {
         push_piece(pieces, Piece::Sign(sign))?;
         return Ok(false);
@@ -194,14 +186,13 @@ fn read_word(
         return Ok(false);
     }
     if word.starts_with(b"--") {
-        return read_long(alloc, word, pieces);
+        return read_long(word, pieces);
     }
-    read_cluster(alloc, &word[1..], words, pieces)
+    read_cluster(&word[1..], words, pieces)
 }
 
 /// Reads the first of some words, unless it was taken as an argument. Says whether it takes the next.
 fn read_first(
-    alloc: Global,
     taken: bool,
     word: &[u8],
     words: &[Bytes],
@@ -215,7 +206,7 @@ fn read_first(
     if taken {
         return Ok(false);
     }
-    let next = read_word(alloc, word, words, pieces)?;
+    let next = read_word(word, words, pieces)?;
     Ok(next)
 }
 
@@ -231,7 +222,7 @@ pub(crate) fn pieces_of(alloc: Global, words: &[Bytes]) -> Result<Vec<Piece>, Re
     let mut taken = false;
     let mut rest = words;
     'words: while let Some((word, others)) = rest.split_first() {
-        taken = read_first(alloc, taken, word.as_slice(), others, &mut pieces)?;
+        taken = read_first(taken, word.as_slice(), others, &mut pieces)?;
         rest = others;
     }
     Ok(pieces)

@@ -14,7 +14,7 @@ use crate::piece::{Manner, Piece};
 use crate::token::Token;
 use ctl_relation::Bytes;
 use ctl_store::Refusal;
-use std::alloc::Global;
+use std::alloc::{AllocError, Global};
 use std::mem;
 
 /// The modifiers of an atom.
@@ -56,24 +56,18 @@ fn is_bare(modifiers: &Modifiers) -> bool
     modifiers.fields.is_none() && !modifiers.any_case && modifiers.manner.is_none()
 }
 
-fn push_token(tokens: &mut Vec<Token>, token: Token) -> Result<(), Refusal>
-    ensures ok { OnOk result (tokens.new.items ≡ tokens.old.items ++ token ∷ []) }
-    ensures err { IfErr result (λ cause. cause ≡ refusal.Memory) }
+fn push_token(tokens: &mut Vec<Token>, token: Token) -> Result<(), AllocError>
+    ensures { OnOk result (tokens.new.items ≡ tokens.old.items ++ token ∷ []) }
 {
-    match tokens.push(token) {
-        Ok(()) => Ok(()),
-        Err(_) => Err(Refusal::Memory),
-    }
+    tokens.push(token)?;
+    Ok(())
 }
 
-fn push_atom(atoms: &mut Vec<AskedAtom>, atom: AskedAtom) -> Result<(), Refusal>
-    ensures ok { OnOk result (atoms.new.items ≡ atoms.old.items ++ atom ∷ []) }
-    ensures err { IfErr result (λ cause. cause ≡ refusal.Memory) }
+fn push_atom(atoms: &mut Vec<AskedAtom>, atom: AskedAtom) -> Result<(), AllocError>
+    ensures { OnOk result (atoms.new.items ≡ atoms.old.items ++ atom ∷ []) }
 {
-    match atoms.push(atom) {
-        Ok(()) => Ok(()),
-        Err(_) => Err(Refusal::Memory),
-    }
+    atoms.push(atom)?;
+    Ok(())
 }
 
 fn take_sign(sign: Token, gathered: &mut Gathered) -> Result<(), Refusal>
@@ -84,7 +78,8 @@ fn take_sign(sign: Token, gathered: &mut Gathered) -> Result<(), Refusal>
     if !is_bare(&gathered.modifiers) {
         return Err(Refusal::Filter);
     }
-    push_token(&mut gathered.tokens, sign)
+    push_token(&mut gathered.tokens, sign)?;
+    Ok(())
 }
 
 fn take_pattern(pattern: Bytes, gathered: &mut Gathered) -> Result<(), Refusal>
@@ -111,10 +106,8 @@ fn more_fields(
         Some(names) => names,
         None => Vec::new(alloc),
     };
-    match append_names(alloc, text, &mut names) {
-        Ok(()) => Ok(names),
-        Err(_) => Err(Refusal::Memory),
-    }
+    append_names(alloc, text, &mut names)?;
+    Ok(names)
 }
 
 /// Whether FIELDS are names.

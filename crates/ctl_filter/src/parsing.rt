@@ -6,6 +6,7 @@ ghost use Rattle.ctl_store.specs.declared.refusal.Refusal.TheVariants as refusal
 ghost use Rattle.ctl_filter.specs.Filter.{is_readable, has_expression};
 ghost use Rattle.ctl_filter.specs.Rx.{is_well_formed};
 ghost use Rattle.ctl_filter.specs.Filter as asked;
+ghost use Rattle.ctl_filter.specs.Inside.Views.{expression_bytes, expression_ignores_case};
 ghost use Rattle.ctl_filter.specs.Inside.Values.{asked_atom, atom_of, test_of, shown_of, AreOptionsOf};
 ghost use Rattle.ctl_filter.specs.HeldQuery.{IsAskedBy};
 ghost use Rattle.ctl_filter.specs.Names.{are_field_names};
@@ -24,7 +25,15 @@ use crate::query::{FilterQuery, Shown};
 use crate::reading::steps_of;
 use ctl_relation::{Bytes, Operator};
 use ctl_store::Refusal;
-use std::alloc::Global;
+use std::alloc::{AllocError, Global};
+
+fn expression_test(alloc: Global, expression: Expression) -> Result<Test, AllocError>
+    ensures { IfOk result (λ test. test_of test
+        ≡ asked.Expression (expression_ignores_case expression) (expression_bytes expression)) }
+{
+    let expression = Box::new(alloc, expression)?;
+    Ok(Test::Expression(expression))
+}
 
 fn expression_of(
     alloc: Global,
@@ -37,20 +46,15 @@ fn expression_of(
     ensures err { IfErr result (λ cause. (cause ≡ refusal.Pattern) ⊎ (cause ≡ refusal.Memory)) }
 {
     let expression = Expression::new(alloc, pattern, any_case, size_limit)?;
-    match Box::new(alloc, expression) {
-        Ok(expression) => Ok(Test::Expression(expression)),
-        Err(_) => Err(Refusal::Memory),
-    }
+    let test = expression_test(alloc, expression)?;
+    Ok(test)
 }
 
-fn comparison_of(alloc: Global, operator: Operator, pattern: Bytes) -> Result<Test, Refusal>
-    ensures ok { IfOk result (λ test. test_of test ≡ asked.Compare operator pattern) }
-    ensures err { IfErr result (λ cause. cause ≡ refusal.Memory) }
+fn comparison_of(alloc: Global, operator: Operator, pattern: Bytes) -> Result<Test, AllocError>
+    ensures { IfOk result (λ test. test_of test ≡ asked.Compare operator pattern) }
 {
-    match Bound::boxed(alloc, pattern) {
-        Ok(bound) => Ok(Test::Compare(operator, bound)),
-        Err(_) => Err(Refusal::Memory),
-    }
+    let bound = Bound::boxed(alloc, pattern)?;
+    Ok(Test::Compare(operator, bound))
 }
 
 /// Builds an atom. Its pattern is built where it is one of `--rx`, within a limit on size.
@@ -74,14 +78,11 @@ fn built_atom(alloc: Global, asked: AskedAtom, size_limit: usize) -> Result<Atom
     Ok(Atom { fields, test })
 }
 
-fn push_atom(atoms: &mut Vec<Atom>, atom: Atom) -> Result<(), Refusal>
-    ensures ok { OnOk result (map atom_of atoms.new.items ≡ map atom_of atoms.old.items ++ atom_of atom ∷ []) }
-    ensures err { IfErr result (λ cause. cause ≡ refusal.Memory) }
+fn push_atom(atoms: &mut Vec<Atom>, atom: Atom) -> Result<(), AllocError>
+    ensures { OnOk result (map atom_of atoms.new.items ≡ map atom_of atoms.old.items ++ atom_of atom ∷ []) }
 {
-    match atoms.push(atom) {
-        Ok(()) => Ok(()),
-        Err(_) => Err(Refusal::Memory),
-    }
+    atoms.push(atom)?;
+    Ok(())
 }
 
 /// Whether an atom has a pattern of `--rx`.
@@ -135,9 +136,7 @@ fn names_asked(alloc: Global, pieces: &[Piece]) -> Result<Vec<Bytes>, Refusal>
     ensures err { IfErr result (λ cause. ((cause ≡ refusal.Filter) × (are_field_names (names_shown pieces.now) ≡ false))
         ⊎ (cause ≡ refusal.Memory)) }
 {
-    let Ok(names) = names_shown(alloc, pieces) else {
-        return Err(Refusal::Memory);
-    };
+    let names = names_shown(alloc, pieces)?;
     if are_field_names(&names) {
         Ok(names)
     } else {
@@ -152,14 +151,12 @@ fn shown_by(alloc: Global, pieces: &[Piece], names: Vec<Bytes>) -> Result<Shown,
     ensures err { IfErr result (λ cause. cause ≡ refusal.Memory) }
 {
     let first_line_alone = is_given(b'd', pieces);
-    match fields_shown(alloc, first_line_alone, names) {
-        Ok(fields) => Ok(Shown {
-            bodies_alone: is_given(b'n', pieces),
-            first_line_alone,
-            fields,
-        }),
-        Err(_) => Err(Refusal::Memory),
-    }
+    let fields = fields_shown(alloc, first_line_alone, names)?;
+    Ok(Shown {
+        bodies_alone: is_given(b'n', pieces),
+        first_line_alone,
+        fields,
+    })
 }
 
 /// The options of a filter: `-v`, `-c`, and what is to be shown.

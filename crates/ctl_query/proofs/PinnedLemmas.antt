@@ -14,7 +14,7 @@ use Rattle.ctl_policy.specs.Priority.{World, matches_row, specific_pin}
 use Rattle.ctl_query.specs.Interest.{is_pinned}
 use Rattle.ctl_query.specs.NameSet.{is_among}
 use Rattle.ctl_query.specs.Packages.{has_row, packages_of, rows_of}
-use Rattle.ctl_query.specs.Policy.{pinned_line, line_if_pinned, pinned_lines}
+use Rattle.ctl_query.specs.Policy.{row_version, pinned_line, line_if_pinned, pinned_lines}
 use Rattle.ctl_query.proofs.ClassLemmas.{AreClasses}
 use Rattle.ctl_query.proofs.InterestLemmas.{of_two, no_package}
 use Rattle.ctl_query.proofs.KnownLemmas.{left_false, right_false, row_known}
@@ -47,7 +47,7 @@ no_lines : (world : World) (name : List ℕ) → is_pinned world.pins name ≡ f
 unfolding pinned_lines
 no_lines world name h =
     no_line_each (line_if_pinned world name) (rows_of world name)
-    (λ row. ap (λ (priority : Option ℤ). option_map_or (pinned_line world name row) priority []) (no_pin world name row world.pins h))
+    (λ row. ap (λ (priority : Option ℤ). option_map_or (pinned_line name (row_version world row)) priority []) (no_pin world name row world.pins h))
 
 -- ---- what is no package
 

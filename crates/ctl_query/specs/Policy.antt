@@ -69,13 +69,14 @@ policy_text world names = flat_map (if_known world (policy_one world)) names
 abbrev pub list_line : World → List ℕ → List ℕ
 list_line world list = line (right_four (priority_of world list) ∷ codes " " ∷ list ∷ [])
 
-abbrev pub pinned_line : World → List ℕ → List StanzaKey → ℤ → List ℕ
-pinned_line world name row priority =
-    line (codes "     " ∷ name ∷ codes " -> " ∷ row_version world row ∷ codes " with priority " ∷ signed_decimal priority ∷ [])
+-- a version of a name, and the priority that a specific pin gives it
+abbrev pub pinned_line : List ℕ → List ℕ → ℤ → List ℕ
+pinned_line name version priority =
+    line (codes "     " ∷ name ∷ codes " -> " ∷ version ∷ codes " with priority " ∷ signed_decimal priority ∷ [])
 
 -- a row whose priority comes from a specific pin
 abbrev pub line_if_pinned : World → List ℕ → List StanzaKey → List ℕ
-line_if_pinned world name row = option_map_or (pinned_line world name row) (specific_pin name world.lists row world.pins) []
+line_if_pinned world name row = option_map_or (pinned_line name (row_version world row)) (specific_pin name world.lists row world.pins) []
 
 -- those of a name
 unfoldable pub pinned_lines : World → List ℕ → List ℕ

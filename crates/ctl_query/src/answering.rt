@@ -9,7 +9,7 @@ ghost use Rattle.ctl_query.specs.Holdings.{holdings_of};
 ghost use Rattle.ctl_query.specs.QueryRead.{query_text};
 
 use crate::asking::Asking;
-use crate::depends::append_depends;
+use crate::depends::Depending;
 use crate::laws::answers_are_as_if_built_anew;
 use crate::package_names::append_package_names;
 use crate::policy::{append_policy, append_policy_of_all};
@@ -21,7 +21,7 @@ use crate::unmet::append_unmet;
 use ctl_filter::append_filter;
 use ctl_index::Cache;
 use ctl_relation::{Bytes, Steps};
-use std::alloc::{AllocError, Global};
+use std::alloc::AllocError;
 
 /// Appends the answer to `policy`, with or without names.
 fn append_any_policy(
@@ -54,7 +54,10 @@ fn append_answer(
             append_package_names(asking, *all, prefix.as_slice(), out)
         }
         Query::Show(all, rows) => append_show(asking, *all, rows, out),
-        Query::Depends(options, names) => append_depends(asking, *options, names, out, steps),
+        Query::Depends(options, names) => {
+            let options = *options;
+            Depending { asking, options }.append_to(names, out, steps)
+        }
         Query::ReverseDepends(installed, names) => {
             append_reverse_depends(asking, *installed, names, out)
         }
@@ -112,7 +115,6 @@ fn answer_behind(
 ///
 /// Out of memory. Then the text is as before.
 pub fn answer(
-    alloc: Global,
     cache: &Cache,
     query: &Query,
     out: &mut Vec<u8>,
@@ -128,7 +130,7 @@ pub fn answer(
     answers_are_as_if_built_anew();
     // That the keys rise is said here.
     let _counts = cache.store().counts();
-    let asking = Asking::new(alloc, cache);
+    let asking = Asking::new(*out.allocator(), cache);
     if out.is_empty() {
         answer_alone(&asking, query, out, steps)?;
         Ok(())

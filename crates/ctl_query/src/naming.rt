@@ -67,18 +67,25 @@ fn joined_naming<'a>(found: Option<Naming<'a>>, naming: Naming<'a>) -> Naming<'a
     }
 }
 
+/// What `rdepends` is asked of, and whether it shows packages of which a row is installed alone.
+#[derive(Drop)]
+pub(crate) struct ReverseDepending<'a> {
+    pub(crate) asking: &'a Asking<'a>,
+    pub(crate) installed: bool,
+}
+
 // Appends the line of a package, with `--installed` of one of which a row is installed alone.
 #[tactic(auto, unfolding(ctl_filter::specs::Texts::line))]
 fn append_line_of(
-    asking: &Asking<'_>,
-    installed: bool,
+    depending: &ReverseDepending<'_>,
     naming: Naming<'_>,
     out: &mut Vec<u8>,
 ) -> Result<(), AllocError>
-    ensures { OnOk result (out.new.items ≡ out.old.items ++ line_of (world_of asking.now) installed (lent_naming naming.entry)) }
+    ensures { OnOk result (out.new.items ≡ out.old.items
+        ++ line_of (world_of depending.now.asking.now) depending.now.installed (lent_naming naming.entry)) }
 {
     let (asker, all) = naming;
-    if installed && !asking.is_installed(asker) {
+    if depending.installed && !depending.asking.is_installed(asker) {
         return Ok(());
     }
     out.extend_from_slice(mark(all))?;
@@ -88,19 +95,19 @@ fn append_line_of(
 
 // Appends the line of what was found before, where one of another package follows.
 fn append_closed(
-    asking: &Asking<'_>,
-    installed: bool,
+    depending: &ReverseDepending<'_>,
     found: Option<Naming<'_>>,
     naming: Naming<'_>,
     out: &mut Vec<u8>,
 ) -> Result<(), AllocError>
     ensures { OnOk result (out.new.items ≡ out.old.items
-        ++ closed_line (world_of asking.now) installed (option_map lent_naming found.entry) (lent_naming naming.entry)) }
+        ++ closed_line (world_of depending.now.asking.now) depending.now.installed (option_map lent_naming found.entry)
+        (lent_naming naming.entry)) }
 {
     match found {
         Some(found) => {
             if found.0 != naming.0 {
-                append_line_of(asking, installed, found, out)?;
+                append_line_of(depending, found, out)?;
             }
             Ok(())
         }
@@ -110,16 +117,16 @@ fn append_closed(
 
 // Appends the line of what was found, if anything was.
 fn append_found(
-    asking: &Asking<'_>,
-    installed: bool,
+    depending: &ReverseDepending<'_>,
     found: Option<Naming<'_>>,
     out: &mut Vec<u8>,
 ) -> Result<(), AllocError>
     ensures { OnOk result (out.new.items ≡ out.old.items
-        ++ option_map_or (line_of (world_of asking.now) installed) (option_map lent_naming found.entry) []) }
+        ++ option_map_or (line_of (world_of depending.now.asking.now) depending.now.installed)
+        (option_map lent_naming found.entry) []) }
 {
     match found {
-        Some(found) => append_line_of(asking, installed, found, out),
+        Some(found) => append_line_of(depending, found, out),
         None => Ok(()),
     }
 }
@@ -127,20 +134,19 @@ fn append_found(
 // What is found with an atom more, of which the line before is appended where it is of another package.
 #[tactic(auto, unfolding(crate::specs::Inside::Namings::lines_behind))]
 fn append_next<'a>(
-    asking: &Asking<'_>,
-    installed: bool,
+    depending: &ReverseDepending<'_>,
     found: Option<Naming<'a>>,
     naming: Option<Naming<'a>>,
     out: &mut Vec<u8>,
 ) -> Result<Option<Naming<'a>>, AllocError>
     ensures { IfOk result (λ next. (others : List Naming)
-        → out.new.items ++ lines_behind (world_of asking.now) installed (option_map lent_naming next) others
-        ≡ out.old.items ++ lines_behind (world_of asking.now) installed (option_map lent_naming found.entry)
+        → out.new.items ++ lines_behind (world_of depending.now.asking.now) depending.now.installed (option_map lent_naming next) others
+        ≡ out.old.items ++ lines_behind (world_of depending.now.asking.now) depending.now.installed (option_map lent_naming found.entry)
         (option_to_list (option_map lent_naming naming.entry) ++ others)) }
 {
     match naming {
         Some(naming) => {
-            append_closed(asking, installed, found, naming, out)?;
+            append_closed(depending, found, naming, out)?;
             Ok(Some(joined_naming(found, naming)))
         }
         None => Ok(found),
@@ -150,26 +156,26 @@ fn append_next<'a>(
 /// Appends the lines of all packages that name a name, by a table of leads: each atom is gone to by its key, and no name is looked
 /// for.
 pub(crate) fn append_by_atoms(
-    asking: &Asking<'_>,
-    installed: bool,
+    depending: &ReverseDepending<'_>,
     table: &LeadTable<'_>,
     asked: &AskedName<'_>,
     out: &mut Vec<u8>,
 ) -> Result<(), AllocError>
-    requires enough { AreEnough asking.now asked.now.name.now table.now }
-    requires namers { IsPermutation (kept_namers_named asked.now.name.now (standing asking.now)) asked.now.view.kept_namers }
+    requires enough { AreEnough depending.now.asking.now asked.now.name.now table.now }
+    requires namers { IsPermutation (kept_namers_named asked.now.name.now (standing depending.now.asking.now)) asked.now.view.kept_namers }
     ensures { OnOk result (out.new.items ≡ out.old.items
-        ++ flat_map (asking_line (world_of asking.now) installed asked.now.name.now) (packages_of (world_of asking.now))) }
+        ++ flat_map (asking_line (world_of depending.now.asking.now) depending.now.installed asked.now.name.now)
+        (packages_of (world_of depending.now.asking.now))) }
 {
     rows_are_classes();
-    stanzas_are_found(asking);
-    let atoms = list_atoms(asking.alloc(), table, asked.view.kept_namers())?;
+    stanzas_are_found(depending.asking);
+    let atoms = list_atoms(depending.asking.alloc(), table, asked.view.kept_namers())?;
     let mut found = None;
     for at in 0..atoms.len() {
         look_ahead(table, &atoms, at, out)?;
         let naming = naming_at(table, atoms[at].at);
-        found = append_next(asking, installed, found, naming, out)?;
+        found = append_next(depending, found, naming, out)?;
     }
-    append_found(asking, installed, found, out)?;
+    append_found(depending, found, out)?;
     Ok(())
 }

@@ -141,10 +141,8 @@ fn read_version(alloc: Global, text: &[u8]) -> Result<Version, Refusal>
 fn copied(alloc: Global, text: &[u8]) -> Result<Bytes, Refusal>
     ensures { Reads (λ copy. copy) result (Ok text.now) }
 {
-    match Bytes::from_slice(alloc, text) {
-        Ok(copy) => Ok(copy),
-        Err(_) => Err(Refusal::Memory),
-    }
+    let copy = Bytes::from_slice(alloc, text)?;
+    Ok(copy)
 }
 
 fn row_of_parts(alloc: Global, name: &[u8], behind: &[u8]) -> Result<AskedRow, Refusal>
@@ -169,14 +167,11 @@ fn row_asked(alloc: Global, word: &[u8]) -> Result<AskedRow, Refusal>
     row_of_parts(alloc, name, behind)
 }
 
-fn push_row(rows: &mut Vec<AskedRow>, row: AskedRow) -> Result<(), Refusal>
-    ensures ok { OnOk result (rows.new.items ≡ rows.old.items ++ row ∷ []) }
-    ensures err { IfErr result (λ cause. cause ≡ refusal.Memory) }
+fn push_row(rows: &mut Vec<AskedRow>, row: AskedRow) -> Result<(), AllocError>
+    ensures { OnOk result (rows.new.items ≡ rows.old.items ++ row ∷ []) }
 {
-    match rows.push(row) {
-        Ok(()) => Ok(()),
-        Err(_) => Err(Refusal::Memory),
-    }
+    rows.push(row)?;
+    Ok(())
 }
 
 /// The first refusal counts, from left to right.
@@ -273,9 +268,7 @@ fn query_by(
 fn query_in(alloc: Global, name: CacheQuery, words: &[Bytes]) -> Result<Query, Refusal>
     ensures { Reads query_text result (query_in name words.now) }
 {
-    let Ok(mut arguments) = arguments_in(alloc, words) else {
-        return Err(Refusal::Memory);
-    };
+    let mut arguments = arguments_in(alloc, words)?;
     if !are_options_of(name, words) {
         return Err(Refusal::Usage);
     }

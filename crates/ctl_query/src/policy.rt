@@ -14,15 +14,13 @@ ghost use Rattle.ctl_query.specs.Texts.{if_known};
 ghost use Rattle.ctl_query.specs.Packages.{packages_of, rows_of};
 ghost use Rattle.ctl_policy.specs.Chosen.{choice_in};
 
-use crate::asking::Asking;
+use crate::asking::{AskedName, Asking};
 use crate::interest::pinned_packages;
 use crate::leads::version_under;
 use crate::source_lines::SourceLines;
 use crate::text::{append_number, append_right_four, append_unknown};
 use ctl_filter::{append_line, append_parts};
-use ctl_policy::{
-    Chosen, NewestFirst, list_priority, row_priority, rows_are_classes, specific_pin,
-};
+use ctl_policy::{NewestFirst, list_priority, row_priority, rows_are_classes, specific_pin};
 use ctl_relation::Bytes;
 use ctl_store::{StanzaKey, Store};
 use std::alloc::AllocError;
@@ -87,59 +85,75 @@ pub(crate) fn append_source(store: &Store, list: &[u8], out: &mut Vec<u8>) -> Re
     Ok(())
 }
 
-#[tactic(auto, unfolding(ctl_filter::specs::Texts::line))]
-fn append_row_line(
-    store: &Store,
-    name: &[u8],
+/// The version table of a name, of which this is the installed row's lead.
+#[derive(Drop)]
+struct VersionTable<'a> {
+    sources: &'a SourceLines<'a>,
+    name: &'a [u8],
     installed: Option<StanzaKey>,
-    row: &[StanzaKey],
-    out: &mut Vec<u8>,
-) -> Result<(), AllocError>
-    requires { AreHeld row.now (keyed_of store.now).lists }
-    ensures { OnOk result (out.new.items ≡ out.old.items ++ row_line (world_of store.now) installed name.now row.now) }
-{
-    let is_installed = are_of_one_row(store, installed, row.first().copied());
-    out.extend_from_slice(row_mark(is_installed))?;
-    out.extend_from_slice(row_version(store, row))?;
-    out.extend_from_slice(b" ")?;
-    append_number(out, row_priority(store, name, row))?;
-    out.extend_from_slice(b"\n")?;
-    Ok(())
 }
 
-/// Appends a row of a name, which has these stanzas, and under it its sources.
-#[tactic(auto, unfolding(crate::specs::Policy::row_lines))]
-fn append_row(
-    sources: &SourceLines<'_>,
-    name: &[u8],
-    installed: Option<StanzaKey>,
-    row: &[StanzaKey],
-    out: &mut Vec<u8>,
-) -> Result<(), AllocError>
-    requires held { AreHeld row.now (keyed_of sources.now).lists }
-    requires rising { AreRising row.now }
-    ensures { OnOk result (out.new.items ≡ out.old.items ++ row_lines (world_of sources.now) installed name.now row.now) }
-{
-    append_row_line(sources.store(), name, installed, row, out)?;
-    sources.append_to(row, out)?;
-    Ok(())
-}
-
-/// Appends the version table: the rows of a name.
-pub(crate) fn append_table(
-    sources: &SourceLines<'_>,
-    name: &[u8],
-    installed: Option<StanzaKey>,
-    rows: NewestFirst<'_>,
-    out: &mut Vec<u8>,
-) -> Result<(), AllocError>
-    requires held { AllByRecursion (λ row. AreHeld row (keyed_of sources.now).lists) rows }
-    requires rising { AllByRecursion AreRising rows }
-    ensures { OnOk result (out.new.items ≡ out.old.items ++ flat_map (row_lines (world_of sources.now) installed name.now) rows.entry) }
-{
-    'rows: for row in rows {
-        append_row(sources, name, installed, row, out)?;
+impl<'a> VersionTable<'a> {
+    #[tactic(auto, unfolding(ctl_filter::specs::Texts::line))]
+    fn append_row_line(&self, row: &[StanzaKey], out: &mut Vec<u8>) -> Result<(), AllocError>
+        requires { AreHeld row.now (keyed_of self.now.sources.now).lists }
+        ensures { OnOk result (out.new.items ≡ out.old.items
+            ++ row_line (world_of self.now.sources.now) self.now.installed self.now.name.now row.now) }
+    {
+        let store = self.sources.store();
+        let is_installed = are_of_one_row(store, self.installed, row.first().copied());
+        out.extend_from_slice(row_mark(is_installed))?;
+        out.extend_from_slice(row_version(store, row))?;
+        out.extend_from_slice(b" ")?;
+        append_number(out, row_priority(store, self.name, row))?;
+        out.extend_from_slice(b"\n")?;
+        Ok(())
     }
+
+    /// Appends a row, which has these stanzas, and under it its sources.
+    #[tactic(auto, unfolding(crate::specs::Policy::row_lines))]
+    fn append_row(&self, row: &[StanzaKey], out: &mut Vec<u8>) -> Result<(), AllocError>
+        requires held { AreHeld row.now (keyed_of self.now.sources.now).lists }
+        requires rising { AreRising row.now }
+        ensures { OnOk result (out.new.items ≡ out.old.items
+            ++ row_lines (world_of self.now.sources.now) self.now.installed self.now.name.now row.now) }
+    {
+        self.append_row_line(row, out)?;
+        self.sources.append_to(row, out)?;
+        Ok(())
+    }
+
+    /// Appends some rows.
+    fn append_rows(&self, rows: NewestFirst<'_>, out: &mut Vec<u8>) -> Result<(), AllocError>
+        requires held { AllByRecursion (λ row. AreHeld row (keyed_of self.now.sources.now).lists) rows }
+        requires rising { AllByRecursion AreRising rows }
+        ensures { OnOk result (out.new.items ≡ out.old.items
+            ++ flat_map (row_lines (world_of self.now.sources.now) self.now.installed self.now.name.now) rows.entry) }
+    {
+        'rows: for row in rows {
+            self.append_row(row, out)?;
+        }
+        Ok(())
+    }
+}
+
+/// Appends the version table of a name: what is chosen of it tells its installed row.
+fn append_table(
+    sources: &SourceLines<'_>,
+    asked: &AskedName<'_>,
+    out: &mut Vec<u8>,
+) -> Result<(), AllocError>
+    requires held { AllByRecursion (λ row. AreHeld row (keyed_of sources.now).lists) asked.now.view.rows }
+    requires rising { AllByRecursion AreRising asked.now.view.rows }
+    ensures { OnOk result (out.new.items ≡ out.old.items
+        ++ flat_map (row_lines (world_of sources.now) asked.now.view.chosen.installed asked.now.name.now) asked.now.view.rows) }
+{
+    let table = VersionTable {
+        sources,
+        name: asked.name,
+        installed: asked.view.chosen().installed,
+    };
+    table.append_rows(asked.view.rows(), out)?;
     Ok(())
 }
 
@@ -147,19 +161,18 @@ pub(crate) fn append_table(
 #[tactic(auto, unfolding(crate::specs::Policy::policy_one))]
 fn append_known(
     sources: &SourceLines<'_>,
-    name: &[u8],
-    chosen: Chosen,
-    rows: NewestFirst<'_>,
+    asked: &AskedName<'_>,
     out: &mut Vec<u8>,
 ) -> Result<(), AllocError>
-    requires chosen { chosen ≡ choice_in name.now (world_of sources.now) }
-    requires rows { rows ≡ rows_of (world_of sources.now) name.now }
-    requires held { AllByRecursion (λ row. AreHeld row (keyed_of sources.now).lists) rows }
-    requires rising { AllByRecursion AreRising rows }
-    ensures { OnOk result (out.new.items ≡ out.old.items ++ policy_one (world_of sources.now) name.now) }
+    requires chosen { asked.now.view.chosen ≡ choice_in asked.now.name.now (world_of sources.now) }
+    requires rows { asked.now.view.rows ≡ rows_of (world_of sources.now) asked.now.name.now }
+    requires held { AllByRecursion (λ row. AreHeld row (keyed_of sources.now).lists) asked.now.view.rows }
+    requires rising { AllByRecursion AreRising asked.now.view.rows }
+    ensures { OnOk result (out.new.items ≡ out.old.items ++ policy_one (world_of sources.now) asked.now.name.now) }
 {
     let store = sources.store();
-    append_line(out, &[name, b":"])?;
+    let chosen = asked.view.chosen();
+    append_line(out, &[asked.name, b":"])?;
     append_line(
         out,
         &[b"  Installed: ", version_or_none(store, chosen.installed)],
@@ -169,7 +182,7 @@ fn append_known(
         &[b"  Candidate: ", version_or_none(store, chosen.candidate)],
     )?;
     append_line(out, &[b"  Version table:"])?;
-    append_table(sources, name, chosen.installed, rows, out)?;
+    append_table(sources, asked, out)?;
     Ok(())
 }
 
@@ -185,16 +198,15 @@ fn append_list(store: &Store, list: &[u8], out: &mut Vec<u8>) -> Result<(), Allo
 
 #[tactic(auto, unfolding(ctl_filter::specs::Texts::line))]
 fn append_pinned_line(
-    store: &Store,
     name: &[u8],
-    row: &[StanzaKey],
+    version: &[u8],
     priority: i16,
     out: &mut Vec<u8>,
 ) -> Result<(), AllocError>
-    ensures { OnOk result (out.new.items ≡ out.old.items ++ pinned_line (world_of store.now) name.now row.now priority) }
+    ensures { OnOk result (out.new.items ≡ out.old.items ++ pinned_line name.now version.now priority) }
 {
     append_parts(out, &[b"     ", name, b" -> "])?;
-    append_parts(out, &[row_version(store, row), b" with priority "])?;
+    append_parts(out, &[version, b" with priority "])?;
     append_number(out, priority)?;
     out.extend_from_slice(b"\n")?;
     Ok(())
@@ -211,7 +223,7 @@ fn append_pinned(
     ensures { OnOk result (out.new.items ≡ out.old.items ++ line_if_pinned (world_of store.now) name.now row.now) }
 {
     match specific_pin(store, name, row) {
-        Some(priority) => append_pinned_line(store, name, row, priority, out),
+        Some(priority) => append_pinned_line(name, row_version(store, row), priority, out),
         None => Ok(()),
     }
 }
@@ -287,7 +299,7 @@ fn append_one(
 {
     let view = asking.view(name);
     if view.is_known() {
-        append_known(sources, name, view.chosen(), view.rows(), out)?;
+        append_known(sources, &AskedName { name, view }, out)?;
         Ok(())
     } else {
         append_unknown(out, name)?;

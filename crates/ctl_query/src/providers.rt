@@ -17,19 +17,19 @@ use ctl_stanza::Stanza;
 use std::alloc::AllocError;
 use std::collections::BTreeSet;
 
-/// Adds the package of a stanza, if it has another name and the offer meets the atom.
+/// Adds the package of a stanza, if it has another name and its offer meets the atom.
 fn add_provider<'a>(
     names: &mut BTreeSet<&'a [u8]>,
-    stanza: &'a Stanza,
-    offer: &Offer,
+    offering: (&'a Stanza, &Offer),
     atom: &Atom<'_>,
     steps: &mut Steps,
 ) -> Result<(), AllocError>
     ensures names { OnOk result ((other : List ℕ) → is_among (lent_names names.new.keys) other
-        ≡ (gives atom.now other stanza.now offer.now || is_among (lent_names names.old.keys) other)) }
+        ≡ (gives atom.now other offering.entry.0.now offering.entry.1.now || is_among (lent_names names.old.keys) other)) }
     ensures steps { steps.new ≤ steps.old + 1 }
     ensures kept { steps.old ≤ steps.new }
 {
+    let (stanza, offer) = offering;
     // That the count has its last value is said here.
     let _count = steps.count();
     let package = stanza.package();
@@ -65,7 +65,7 @@ pub(crate) fn providers<'a>(
     'offers: for (key, offer) in asking.offers(atom.name()) {
         let stanza = store.stanza(key);
         with_row = with_row_of(with_row, stanza, atom);
-        add_provider(&mut names, stanza, offer, atom, steps)?;
+        add_provider(&mut names, (stanza, offer), atom, steps)?;
     }
     let _count = names.len();
     Ok((names, with_row))

@@ -96,13 +96,13 @@ fn append_candidate(asking: &Asking<'_>, name: &[u8], out: &mut Vec<u8>) -> Resu
 fn append_shown(
     asking: &Asking<'_>,
     all: bool,
-    name: &[u8],
-    version: &Option<Version>,
+    asked: &AskedRow,
     out: &mut Vec<u8>,
 ) -> Result<(), AllocError>
-    ensures { OnOk result (out.new.items ≡ out.old.items ++ rows_shown (world_of asking.now) all name.now version.now) }
+    ensures { OnOk result (out.new.items ≡ out.old.items ++ rows_shown (world_of asking.now) all asked.now.name asked.now.version) }
 {
-    match version {
+    let name = asked.name.as_slice();
+    match &asked.version {
         Some(version) => append_version(asking, name, version, out),
         None => {
             if all {
@@ -124,7 +124,7 @@ fn append_one(
 {
     let name = asked.name.as_slice();
     if asking.has_row(name) {
-        append_shown(asking, all, name, &asked.version, out)?;
+        append_shown(asking, all, asked, out)?;
         Ok(())
     } else {
         append_unknown(out, name)?;

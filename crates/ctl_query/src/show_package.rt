@@ -20,7 +20,7 @@ ghost use Rattle.ctl_filter.specs.Texts.{line};
 ghost use Rattle.ctl_query.specs.Texts.{if_known};
 
 use crate::askers::AskerTable;
-use crate::asking::Asking;
+use crate::asking::{AskedName, Asking};
 use crate::interest::{packages_providing, stanzas_are_found};
 use crate::lead_atoms::{append_atoms, list_atoms};
 use crate::lead_lines::{append_entry_lines, append_providing_lines, append_relation_lines};
@@ -30,7 +30,7 @@ use crate::policy::row_version;
 use crate::row_sources::RowSources;
 use crate::text::append_unknown;
 use ctl_filter::{append_line, append_parts};
-use ctl_index::{KeptNamers, NameView, Offering};
+use ctl_index::Offering;
 use ctl_policy::{NewestFirst, rows_are_classes};
 use ctl_relation::Bytes;
 use ctl_store::{StanzaKey, Store};
@@ -69,18 +69,17 @@ fn append_version(store: &Store, row: &[StanzaKey], out: &mut Vec<u8>) -> Result
 fn append_by_atoms(
     asking: &Asking<'_>,
     table: &AskerTable<'_>,
-    namers: KeptNamers<'_>,
-    name: &[u8],
+    asked: &AskedName<'_>,
     out: &mut Vec<u8>,
 ) -> Result<(), AllocError>
-    requires enough { AreEnough asking.now name.now table.now }
-    requires namers { IsPermutation (kept_namers_named name.now (standing asking.now)) namers }
-    ensures { OnOk result (out.new.items ≡ out.old.items ++ of_all_rows (world_of asking.now) (naming_lines name.now)) }
+    requires enough { AreEnough asking.now asked.now.name.now table.now }
+    requires namers { IsPermutation (kept_namers_named asked.now.name.now (standing asking.now)) asked.now.view.kept_namers }
+    ensures { OnOk result (out.new.items ≡ out.old.items ++ of_all_rows (world_of asking.now) (naming_lines asked.now.name.now)) }
 {
     rows_are_classes();
     stanzas_are_found(asking);
-    let atoms = list_atoms(asking.alloc(), table.table(), namers)?;
-    append_atoms(table, name, &atoms, out)?;
+    let atoms = list_atoms(asking.alloc(), table.table(), asked.view.kept_namers())?;
+    append_atoms(table, asked.name, &atoms, out)?;
     Ok(())
 }
 
@@ -89,19 +88,18 @@ fn append_by_atoms(
 fn append_naming(
     asking: &Asking<'_>,
     table: Option<&AskerTable<'_>>,
-    namers: KeptNamers<'_>,
-    name: &[u8],
+    asked: &AskedName<'_>,
     out: &mut Vec<u8>,
 ) -> Result<(), AllocError>
     requires leads { IfSome table (λ table. table.now ≡ leads_of (world_of asking.now)) }
-    requires namers { IsPermutation (kept_namers_named name.now (standing asking.now)) namers }
-    ensures { OnOk result (out.new.items ≡ out.old.items ++ of_all_rows (world_of asking.now) (naming_lines name.now)) }
+    requires namers { IsPermutation (kept_namers_named asked.now.name.now (standing asking.now)) asked.now.view.kept_namers }
+    ensures { OnOk result (out.new.items ≡ out.old.items ++ of_all_rows (world_of asking.now) (naming_lines asked.now.name.now)) }
 {
     match table {
-        Some(table) => append_by_atoms(asking, table, namers, name, out),
+        Some(table) => append_by_atoms(asking, table, asked, out),
         None => {
-            let table = AskerTable::new(asking.alloc(), LeadTable::of_askers(asking, name)?)?;
-            append_by_atoms(asking, &table, namers, name, out)
+            let table = AskerTable::new(asking.alloc(), LeadTable::of_askers(asking, asked.name)?)?;
+            append_by_atoms(asking, &table, asked, out)
         }
     }
 }
@@ -177,17 +175,16 @@ fn show_versions(
 fn show_namers(
     asking: &Asking<'_>,
     table: Option<&AskerTable<'_>>,
-    namers: KeptNamers<'_>,
-    name: &[u8],
+    asked: &AskedName<'_>,
     out: &mut Vec<u8>,
 ) -> Result<(), AllocError>
     requires leads { IfSome table (λ table. table.now ≡ leads_of (world_of asking.now)) }
-    requires namers { IsPermutation (kept_namers_named name.now (standing asking.now)) namers }
+    requires namers { IsPermutation (kept_namers_named asked.now.name.now (standing asking.now)) asked.now.view.kept_namers }
     ensures { OnOk result (out.new.items ≡ out.old.items ++ (line (codes "Reverse Depends:" ∷ [])
-        ++ of_all_rows (world_of asking.now) (naming_lines name.now))) }
+        ++ of_all_rows (world_of asking.now) (naming_lines asked.now.name.now))) }
 {
     out.extend_from_slice(b"Reverse Depends:\n")?;
-    append_naming(asking, table, namers, name, out)?;
+    append_naming(asking, table, asked, out)?;
     Ok(())
 }
 
@@ -228,29 +225,28 @@ fn show_providers(
     Ok(())
 }
 
-/// Appends the answer on a known name, under which this stands.
+/// Appends the answer on a known name.
 #[tactic(auto, unfolding(crate::specs::ShowPackage::show_package_one))]
 fn append_known(
     asking: &Asking<'_>,
     table: Option<&AskerTable<'_>>,
-    view: &NameView<'_>,
-    name: &[u8],
+    asked: &AskedName<'_>,
     out: &mut Vec<u8>,
 ) -> Result<(), AllocError>
     requires leads { IfSome table (λ table. table.now ≡ leads_of (world_of asking.now)) }
-    requires rows { view.now.rows ≡ rows_of (world_of asking.now) name.now }
-    requires held { AllByRecursion (λ row. AreHeld row (keyed_of asking.now).lists) view.now.rows }
-    requires rising { AllByRecursion AreRising view.now.rows }
-    requires offering { IsPermutation (offering_named asking.now name.now) view.now.offering }
-    requires namers { IsPermutation (kept_namers_named name.now (standing asking.now)) view.now.kept_namers }
-    ensures { OnOk result (out.new.items ≡ out.old.items ++ show_package_one (world_of asking.now) name.now) }
+    requires rows { asked.now.view.rows ≡ rows_of (world_of asking.now) asked.now.name.now }
+    requires held { AllByRecursion (λ row. AreHeld row (keyed_of asking.now).lists) asked.now.view.rows }
+    requires rising { AllByRecursion AreRising asked.now.view.rows }
+    requires offering { IsPermutation (offering_named asking.now asked.now.name.now) asked.now.view.offering }
+    requires namers { IsPermutation (kept_namers_named asked.now.name.now (standing asking.now)) asked.now.view.kept_namers }
+    ensures { OnOk result (out.new.items ≡ out.old.items ++ show_package_one (world_of asking.now) asked.now.name.now) }
 {
-    append_line(out, &[b"Package: ", name])?;
-    show_versions(asking, view.rows(), out)?;
-    show_namers(asking, table, view.kept_namers(), name, out)?;
-    show_relations(asking.store(), view.rows(), out)?;
-    show_entries(asking.store(), view.rows(), out)?;
-    show_providers(asking, view.offering(), name, out)
+    append_line(out, &[b"Package: ", asked.name])?;
+    show_versions(asking, asked.view.rows(), out)?;
+    show_namers(asking, table, asked, out)?;
+    show_relations(asking.store(), asked.view.rows(), out)?;
+    show_entries(asking.store(), asked.view.rows(), out)?;
+    show_providers(asking, asked.view.offering(), asked.name, out)
 }
 
 fn append_one(
@@ -268,7 +264,7 @@ fn append_one(
         append_unknown(out, name)?;
         return Ok(());
     }
-    append_known(asking, table, &view, name, out)?;
+    append_known(asking, table, &AskedName { name, view }, out)?;
     Ok(())
 }
 

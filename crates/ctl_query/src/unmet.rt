@@ -21,6 +21,13 @@ use ctl_stanza::Stanza;
 use ctl_store::StanzaKey;
 use std::alloc::AllocError;
 
+/// The lead of a row, and its key.
+#[derive(Drop)]
+struct Lead<'a> {
+    key: StanzaKey,
+    stanza: &'a Stanza,
+}
+
 /// Whether no offer meets a clause, which has these atoms. The cache keeps the number of those that do, so none is tested.
 fn is_unmet(asking: &Asking<'_>, key: ClauseKey, clause: &Group<'_>) -> bool
     requires clause { clause_at key (standing asking.now) ≡ Some clause.now }
@@ -59,20 +66,19 @@ fn append_if_unmet(
 /// Appends the clauses of a field of a lead that are not met.
 fn append_field(
     asking: &Asking<'_>,
-    stanza: StanzaKey,
-    lead: &Stanza,
+    lead: &Lead<'_>,
     field: FieldKind,
     out: &mut Vec<u8>,
 ) -> Result<(), AllocError>
-    requires lead { found_under stanza (standing asking.now) ≡ Some lead.now }
+    requires lead { found_under lead.now.key (standing asking.now) ≡ Some lead.now.stanza.now }
     requires field { is_clause_field field ≡ true }
-    ensures { OnOk result (out.new.items ≡ out.old.items ++ unmet_in_field (world_of asking.now) lead.now field) }
+    ensures { OnOk result (out.new.items ≡ out.old.items ++ unmet_in_field (world_of asking.now) lead.now.stanza.now field) }
 {
-    let groups = lead.groups(field);
+    let groups = lead.stanza.groups(field);
     let mut group = 0u32;
     'clauses: for clause in groups {
         let key = ClauseKey {
-            stanza,
+            stanza: lead.key,
             field,
             group,
         };
@@ -87,20 +93,19 @@ fn append_field(
 fn append_clauses(
     asking: &Asking<'_>,
     important: bool,
-    stanza: StanzaKey,
-    lead: &Stanza,
+    lead: &Lead<'_>,
     out: &mut Vec<u8>,
 ) -> Result<(), AllocError>
-    requires lead { found_under stanza (standing asking.now) ≡ Some lead.now }
-    ensures { OnOk result (out.new.items ≡ out.old.items ++ clause_lines (world_of asking.now) important lead.now) }
+    requires lead { found_under lead.now.key (standing asking.now) ≡ Some lead.now.stanza.now }
+    ensures { OnOk result (out.new.items ≡ out.old.items ++ clause_lines (world_of asking.now) important lead.now.stanza.now) }
 {
-    append_field(asking, stanza, lead, FieldKind::PreDepends, out)?;
-    append_field(asking, stanza, lead, FieldKind::Depends, out)?;
+    append_field(asking, lead, FieldKind::PreDepends, out)?;
+    append_field(asking, lead, FieldKind::Depends, out)?;
     if important {
         return Ok(());
     }
-    append_field(asking, stanza, lead, FieldKind::Recommends, out)?;
-    append_field(asking, stanza, lead, FieldKind::Suggests, out)?;
+    append_field(asking, lead, FieldKind::Recommends, out)?;
+    append_field(asking, lead, FieldKind::Suggests, out)?;
     Ok(())
 }
 
@@ -135,17 +140,16 @@ fn close_heading(start: usize, headed: usize, out: &mut Vec<u8>)
 fn append_lead(
     asking: &Asking<'_>,
     important: bool,
-    stanza: StanzaKey,
-    lead: &Stanza,
+    lead: &Lead<'_>,
     out: &mut Vec<u8>,
 ) -> Result<(), AllocError>
-    requires lead { found_under stanza (standing asking.now) ≡ Some lead.now }
-    ensures { OnOk result (out.new.items ≡ out.old.items ++ unmet_lead (world_of asking.now) important lead.now) }
+    requires lead { found_under lead.now.key (standing asking.now) ≡ Some lead.now.stanza.now }
+    ensures { OnOk result (out.new.items ≡ out.old.items ++ unmet_lead (world_of asking.now) important lead.now.stanza.now) }
 {
     let start = out.len();
-    append_heading(lead, out)?;
+    append_heading(lead.stanza, out)?;
     let headed = out.len();
-    append_clauses(asking, important, stanza, lead, out)?;
+    append_clauses(asking, important, lead, out)?;
     close_heading(start, headed, out);
     Ok(())
 }
@@ -159,8 +163,8 @@ fn append_leads(
     ensures { OnOk result (out.new.items ≡ out.old.items
         ++ of_rows (world_of asking.now) (unmet_lead (world_of asking.now) important) name.now) }
 {
-    'leads: for (key, lead) in asking.leads(name) {
-        append_lead(asking, important, key, lead, out)?;
+    'leads: for (key, stanza) in asking.leads(name) {
+        append_lead(asking, important, &Lead { key, stanza }, out)?;
     }
     Ok(())
 }

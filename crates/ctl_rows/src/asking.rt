@@ -29,7 +29,7 @@ fn say_counted(cache: &Cache, query: &Query, said: &mut Said) {
         return said.add(b"stale\n");
     }
     let mut steps = Steps::new();
-    let answered = answer(said.alloc(), cache, query, &mut said.bytes, &mut steps);
+    let answered = answer(cache, query, &mut said.bytes, &mut steps);
     said.keep(answered);
     said.number(b"", steps.count());
     said.add(b" tests\n");

@@ -45,7 +45,7 @@ fn carry_out(
         Request::Put(list, kind) => reply_of_edit(put(at, cache, list, kind, &text)),
         Request::Prefs => reply_of_edit(set_prefs(at, cache, &text)),
         Request::Change(change) => reply_of_edit(edit(cache, change, at.number)),
-        Request::Ask(query) => match answer(at.alloc, cache, &query, out, &mut Steps::new()) {
+        Request::Ask(query) => match answer(cache, &query, out, &mut Steps::new()) {
             Ok(()) => Reply::Answered,
             Err(_) => Reply::Refused(refused(at.number, Refusal::Memory)),
         },

@@ -5,4 +5,4 @@ use Rattle.ctl_query.specs.ReverseDepends.{reverse_depends_one}
 use Rattle.ctl_query.proofs.reverse_depends.append_each_name.Given as goal
 
 abbrev pub invariant-loop-name : goal.invariant-loop-name
-invariant-loop-name l = l.out.items ≡ l.initial.out.items ++ flat_map (if_known (world_of l.asking) (reverse_depends_one (world_of l.asking) l.installed)) (take l.name-index l.names)
+invariant-loop-name l = l.out.items ≡ l.initial.out.items ++ flat_map (if_known (world_of l.depending.asking.now) (reverse_depends_one (world_of l.depending.asking.now) l.depending.installed)) (take l.name-index l.names)

@@ -8,4 +8,4 @@ use Rattle.ctl_query.proofs.show_package.append_naming.Goals as goal
 pub append_by_atoms-requires-clause-enough : goal.append_by_atoms-requires-clause-enough
 append_by_atoms-requires-clause-enough c =
     let IsGiven : Option (Bor (List Entry)) → Type 0 = λ table. IfSome table (λ table. table.now ≡ leads_of (world_of c.args.asking.now)) in
-    all_are_enough c.args.asking.now c.args.name.now c.in-Some.table.now (subst IsGiven c.in-Some.is c.requires.leads)
+    all_are_enough c.args.asking.now c.args.asked.now.name.now c.in-Some.table.now (subst IsGiven c.in-Some.is c.requires.leads)

@@ -8,7 +8,7 @@ use Rattle.ctl_query.proofs.show_package.show_namers.Goals as goal
 pub returns : goal.returns
 unfolding line
 returns c =
-    let lines = of_all_rows (world_of c.args.asking.now) (naming_lines c.args.name.now) in
+    let lines = of_all_rows (world_of c.args.asking.now) (naming_lines c.args.asked.now.name.now) in
     c.in_ok-append_naming.ensures
     ∙ ap (λ text. text ++ lines) c.in_ok-extend_from_slice.ensures.items
     ∙ append_assoc c.args.out.now.items (line (codes "Reverse Depends:" ∷ [])) lines

@@ -6,8 +6,8 @@ use Rattle.ctl_query.proofs.unmet.append_lead.Goals as goal
 pub returns : goal.returns
 unfolding unmet_lead
 returns c =
-    let lines = clause_lines (world_of c.args.asking.now) c.args.important c.args.lead.now in
+    let lines = clause_lines (world_of c.args.asking.now) c.args.important c.args.lead.now.stanza.now in
     let started : length c.args.out.now.items ≡ c.len-start.result = search rules in
-    let headed : length (c.args.out.now.items ++ unmet_heading c.args.lead.now) ≡ c.len-headed.result = search (rules, c.in_ok-append_heading.ensures) in
-    c.close_heading.ensures c.args.out.now.items (unmet_heading c.args.lead.now) lines started headed
+    let headed : length (c.args.out.now.items ++ unmet_heading c.args.lead.now.stanza.now) ≡ c.len-headed.result = search (rules, c.in_ok-append_heading.ensures) in
+    c.close_heading.ensures c.args.out.now.items (unmet_heading c.args.lead.now.stanza.now) lines started headed
     (c.in_ok-append_clauses.ensures ∙ ap (λ text. text ++ lines) c.in_ok-append_heading.ensures)

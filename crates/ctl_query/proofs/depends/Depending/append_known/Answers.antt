@@ -14,7 +14,7 @@ use Rattle.ctl_query.proofs.depends.Depending.append_known.Goals as goal
 pub returns-in_default-clause-text : goal.returns-in_default-clause-text
 returns-in_default-clause-text c =
     let world = world_of c.args.self.now.asking.now in
-    let name = c.args.name.now in
+    let name = c.args.asked.now.name.now in
     let none : rows_of world name ≡ [] = search rules in
     c.in_ok-append_line.ensures ∙ ap (λ text. c.args.out.now.items ++ text) (sym (told_without world c.args.self.now.options name none))
 
@@ -22,7 +22,7 @@ pub returns-in_ok-append_lead-in-Some-lead_shown-clause-text : goal.returns-in_o
 returns-in_ok-append_lead-in-Some-lead_shown-clause-text c =
     let world = world_of c.args.self.now.asking.now in
     let options = c.args.self.now.options in
-    let name = c.args.name.now in
+    let name = c.args.asked.now.name.now in
     let out = c.args.out.now.items in
     let newest = c.in-Some.newest.now in
     let lead = c.in-Some-lead_shown.lead.now in
@@ -41,7 +41,7 @@ pub returns-in-None-clause-text : goal.returns-in-None-clause-text
 returns-in-None-clause-text c =
     let world = world_of c.args.self.now.asking.now in
     let options = c.args.self.now.options in
-    let name = c.args.name.now in
+    let name = c.args.asked.now.name.now in
     let out = c.args.out.now.items in
     let newest = c.in-Some.newest.now in
     let lines = lead_lines world options in
