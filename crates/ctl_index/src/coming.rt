@@ -11,7 +11,7 @@ ghost use Rattle.ctl_index.specs.Inside.TablesFit.{IsWholeAt};
 ghost use Rattle.ctl_index.specs.Inside.TablesHeld.{HasTested, TestsAtMost, namers_in, number_in, number_told, offers_in, own_in};
 ghost use Rattle.ctl_index.specs.Inside.TablesIndexed.{atom_named, keyed_offers_from, namers_sum, offer_named, offers_sum};
 ghost use Rattle.ctl_index.specs.Inside.TablesLoaded.{ComeApart, all_hits, group_named, number_with};
-ghost use Rattle.ctl_index.specs.Inside.TablesPending.{entries_seen, seen};
+ghost use Rattle.ctl_index.specs.Inside.TablesPending.{AreThere, entries_seen, seen};
 ghost use Rattle.ctl_index.specs.Inside.TablesTests.{all_tested, atoms_tested, atoms_tested_at, fields_tested, group_met, group_tested, groups_tested, is_clause, offers_tested, offers_tested_at};
 ghost use Rattle.ctl_index.specs.Names.{keyed_atoms, keyed_group, keyed_groups, naming_fields};
 ghost use Rattle.ctl_index.specs.Offers.{contents, offers_among};
@@ -129,7 +129,8 @@ fn put_group(
     names: &mut NameTable,
     steps: &mut Steps,
 ) -> Result<u128, AllocError>
-    requires { length group.now < 2 ^ 32 }
+    requires short { length group.now < 2 ^ 32 }
+    requires there { AreThere pending.now (offers_under names.old.map) }
     ensures namers { OnOk result ((q : List ℕ) (f : NamingAtom → ℕ) → sum_by f (namers_under names.new.map q)
         ≡ sum_by f (namers_under names.old.map q)
         + sum_by (atom_named q f) (keyed_group clause.stanza clause.field clause.group 0 group.now)) }
@@ -180,6 +181,7 @@ fn put_groups(
 ) -> Result<(), AllocError>
     requires count { length groups < 2 ^ 32 }
     requires few { atom_count groups < 2 ^ 32 }
+    requires there { AreThere pending.now (offers_in tables.old) }
     ensures namers { OnOk result ((q : List ℕ) (f : NamingAtom → ℕ) → sum_by f (namers_in tables.new q)
         ≡ sum_by f (namers_in tables.old q) + sum_by (atom_named q f) (keyed_groups key field 0 groups.entry)) }
     ensures offers { OnOk result (offers_in tables.new ≡ offers_in tables.old) }
@@ -219,6 +221,7 @@ fn put_field(
     field: FieldKind,
     tables: &mut Tables,
 ) -> Result<(), AllocError>
+    requires { AreThere pending.now (offers_in tables.old) }
     ensures namers { OnOk result ((q : List ℕ) (f : NamingAtom → ℕ) → sum_by f (namers_in tables.new q)
         ≡ sum_by f (namers_in tables.old q) + sum_by (atom_named q f) (keyed_groups key field 0 (groups_of field stanza.now))) }
     ensures offers { OnOk result (offers_in tables.new ≡ offers_in tables.old) }
@@ -243,7 +246,8 @@ fn put_fields(
     fields: &[FieldKind],
     tables: &mut Tables,
 ) -> Result<(), AllocError>
-    requires { fields.now ≡ naming_fields }
+    requires fields { fields.now ≡ naming_fields }
+    requires there { AreThere pending.now (offers_in tables.old) }
     ensures namers { OnOk result ((q : List ℕ) (f : NamingAtom → ℕ) → sum_by f (namers_in tables.new q)
         ≡ sum_by f (namers_in tables.old q) + sum_by (atom_named q f) (keyed_atoms (key, stanza.now))) }
     ensures offers { OnOk result (offers_in tables.new ≡ offers_in tables.old) }
@@ -267,6 +271,7 @@ fn put_atoms_at(
     key: StanzaKey,
     tables: &mut Tables,
 ) -> Result<(), AllocError>
+    requires { AreThere pending.now (offers_in tables.old) }
     ensures namers { OnOk result ((q : List ℕ) (f : NamingAtom → ℕ) → sum_by f (namers_in tables.new q)
         ≡ sum_by f (namers_in tables.old q) + namers_sum q f (entries_seen pending.now (key ∷ []))) }
     ensures offers { OnOk result (offers_in tables.new ≡ offers_in tables.old) }
@@ -291,6 +296,7 @@ fn list_atoms(
     keys: &[StanzaKey],
     tables: &mut Tables,
 ) -> Result<(), AllocError>
+    requires { AreThere pending.now (offers_in tables.old) }
     ensures namers { OnOk result ((q : List ℕ) (f : NamingAtom → ℕ) → sum_by f (namers_in tables.new q)
         ≡ sum_by f (namers_in tables.old q) + namers_sum q f (entries_seen pending.now keys.now)) }
     ensures offers { OnOk result (offers_in tables.new ≡ offers_in tables.old) }
@@ -316,6 +322,7 @@ pub(crate) fn put_atoms(
     keys: &[StanzaKey],
     tables: &mut Tables,
 ) -> Result<(), AllocError>
+    requires { AreThere pending.now (offers_in tables.old) }
     ensures namers { OnOk result ((q : List ℕ) (f : NamingAtom → ℕ) → sum_by f (namers_in tables.new q)
         ≡ sum_by f (namers_in tables.old q) + namers_sum q f (entries_seen pending.now keys.now)) }
     ensures offers { OnOk result (offers_in tables.new ≡ offers_in tables.old) }

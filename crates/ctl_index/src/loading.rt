@@ -1,8 +1,9 @@
 //! Stanzas come, all at once.
 
 ghost use Rattle.std.specs.Prelude.{◌≡◌, ◌≤◌, OnOk};
-ghost use Rattle.ctl_index.specs.Inside.TablesHeld.{HasTested, TestsAtMost, chosen_in};
+ghost use Rattle.ctl_index.specs.Inside.TablesHeld.{HasTested, TestsAtMost, chosen_in, offers_in};
 ghost use Rattle.ctl_index.specs.Inside.TablesLoaded.{ComeApart, IsLoaded, tests_put_in};
+ghost use Rattle.ctl_index.specs.Inside.TablesPending.{AreThere};
 
 use crate::coming::{put_atoms, put_offers};
 use crate::pending_store::PendingStore;
@@ -18,6 +19,7 @@ pub(crate) fn put_list(
     keys: &[StanzaKey],
     tables: &mut Tables,
 ) -> Result<(), AllocError>
+    requires { AreThere pending.now (offers_in tables.old) }
     ensures chosen { OnOk result (chosen_in tables.new ≡ chosen_in tables.old) }
     ensures tables { OnOk result (ComeApart pending.now keys.now → IsLoaded pending.now keys.now tables.old tables.new) }
     ensures steps { OnOk result (HasTested (tests_put_in pending.now keys.now tables.old) tables.old tables.new) }

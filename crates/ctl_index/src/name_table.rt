@@ -16,7 +16,7 @@ ghost use Rattle.ctl_policy.specs.Rows.{AreRowsOf};
 ghost use Rattle.ctl_index.specs.Clauses.{clause_cmp};
 ghost use Rattle.ctl_index.specs.Inside.TablesByName.{at_name, HoldsNothing, offers_under, namers_under, own_under, rows_under, chosen_under, AreUsed, is_used, named_namers, named_offers, named_own};
 ghost use Rattle.ctl_index.specs.Inside.TablesChosen.{AreRenewed, HasSameRows, are_asked};
-ghost use Rattle.ctl_index.specs.Inside.TablesPending.{atom_met, atom_tested};
+ghost use Rattle.ctl_index.specs.Inside.TablesPending.{atom_met, atom_tested, missing};
 ghost use Rattle.ctl_index.specs.Inside.NameMap.{entry_names, found_in};
 ghost use Rattle.ctl_index.specs.Inside.TablesCounters.{less_by};
 ghost use Rattle.ctl_index.specs.Inside.TablesViews.{AreFrom};
@@ -27,7 +27,7 @@ ghost use Rattle.ctl_index.specs.Work.{more_by};
 ghost use Rattle.ctl_index.specs.declared.keys.ClauseKey.{ClauseKey};
 
 use crate::counters::Counters;
-use crate::counting::{count_tested, lower_clauses, raise_clauses};
+use crate::counting::{count_tested, count_there, lower_clauses, raise_clauses};
 use crate::kept_choice::KeptChoice;
 use crate::key_list::KeyList;
 use crate::keys::{AtomKey, KeyedOffer, NamingAtom, OfferKey};
@@ -198,6 +198,7 @@ impl NameTable {
         atom: &Atom<'_>,
         steps: &mut Steps,
     ) -> Result<usize, AllocError>
+        requires { sum_by (missing pending.now atom.now.name) (offers_under self.old.map atom.now.name) ≡ 0 }
         ensures namers { OnOk result ((q : List ℕ) (f : NamingAtom → ℕ) → sum_by f (namers_under self.new.map q)
             ≡ sum_by f (namers_under self.old.map q) + (if bytes_eq atom.now.name q then f (namer_of key atom.now) else 0)) }
         ensures offers { OnOk result ((q : List ℕ) → offers_under self.new.map q ≡ offers_under self.old.map q) }
@@ -213,7 +214,7 @@ impl NameTable {
         match self.map.get_mut(atom.name()) {
             Some(named) => {
                 named.namers.put(NamingAtom::new(key, atom))?;
-                Ok(count_tested(pending, key.field, atom, named.offers.as_slice(), steps))
+                Ok(count_there(pending, key.field, atom, named.offers.as_slice(), steps))
             }
             None => {
                 let named = Named {

@@ -33,6 +33,13 @@ impl Steps {
         self.count
     }
 
+    /// So many tests are counted more.
+    pub fn add(&mut self, tests: usize)
+        ensures { self.new ≡ min (self.old + tests) (2 ^ 128 - 1) }
+    {
+        self.count = self.count.saturating_add(tests as u128);
+    }
+
     pub(crate) fn add_one(&mut self)
         ensures { self.new ≡ min (self.old + 1) (2 ^ 128 - 1) }
     {

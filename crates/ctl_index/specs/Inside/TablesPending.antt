@@ -1,9 +1,10 @@
 -- Of the tables alone: which stanza stands under a key while an edit is followed. One that comes with a plan, else one of the store.
-use Rattle.std.specs.Prelude.{ℕ, Bool, ◌&&◌, ◌≡◌, List, slice_get, Option, None, Some, if◌then◌else◌}
+use Rattle.std.specs.Prelude.{ℕ, Bool, false, ◌&&◌, ◌≡◌, List, slice_get, Option, None, Some, if◌then◌else◌}
 use Rattle.std.specs.List.{sum_by, AllByRecursion}
 use Rattle.ctl_relation.specs.declared.field_kind.FieldKind.{FieldKind}
 use Rattle.std.specs.Option.{option_and_then, option_map, option_map_or, option_or}
 use Rattle.std.specs.Ordering.{is_eq}
+use Rattle.std.specs.Str.{bytes_eq}
 use Rattle.ctl_relation.specs.Parts.{AtomParts, OfferParts}
 use Rattle.ctl_relation.specs.Met.{met}
 use Rattle.ctl_stanza.specs.Content.{Content, groups_of, offers_of}
@@ -53,6 +54,14 @@ met_by s atom k = option_map_or (λ offer. if met atom offer then 1 else 0) (off
 
 abbrev pub tested_by : Pending → OfferKey → ℕ
 tested_by s k = option_map_or (λ (offer : OfferParts). 1) (offer_seen s k) 0
+
+-- as a number, whether no offer of this name is seen under a key
+abbrev pub missing : Pending → List ℕ → OfferKey → ℕ
+missing s name k = if option_map_or (λ (offer : OfferParts). bytes_eq name offer.name) (offer_seen s k) false then 0 else 1
+
+-- under each name stand the keys of offers that are seen and have the name
+pub record AreThere (s : Pending) (offers : List ℕ → List OfferKey) : Type 0 where
+  pub none_missing : (name : List ℕ) → sum_by (missing s name) (offers name) ≡ 0
 
 -- how many of these offers meet an atom of a field, and how many are tested: none where the field has no clauses
 abbrev pub atom_met : Pending → FieldKind → AtomParts → List OfferKey → ℕ

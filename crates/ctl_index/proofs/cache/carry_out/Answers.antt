@@ -16,37 +16,34 @@ use Rattle.ctl_index.proofs.LawLemmas.{followed_law, followed_work}
 use Rattle.ctl_index.proofs.RecoverLemmas.{indexed_same, with_names}
 use Rattle.ctl_index.proofs.cache.carry_out.Goals as goal
 
-pub choose_touched-requires : goal.choose_touched-requires
-choose_touched-requires c =
+pub follow-requires-clause-law : goal.follow-requires-clause-law
+follow-requires-clause-law c =
     let h = c.args.store.now in
     let plan = c.args.plan in
     let limits : c.limits-limits.result.stanzas ≡ h.limits.stanzas = ap (λ (l : Limits). l.stanzas) c.limits-limits.ensures in
     let most : h.limits.stanzas < 2 ^ 32 = omega (arith, limits) in
     let comes : AreComing plan.added plan.edit = subst (λ ks. AreComing ks plan.edit) c.added-added.ensures.keys c.added-added.ensures.coming in
-    let law : IsFollowed h plan = followed_law h plan comes c.counts-counts.ensures.order c.requires.change c.requires.ready.accepted most in
-    let tables : IsIndexed (standing c.commit.new.self) c.follow.new.tables = subst (λ (k : Keyed). IsIndexed (entries_of k.lists) c.follow.new.tables) (sym c.commit.ensures.keyed) (c.in_ok-touched.ensures.tables law c.requires.indexed) in
+    followed_law h plan comes c.counts-counts.ensures.order c.requires.change c.requires.ready.accepted most
+
+pub choose_touched-requires : goal.choose_touched-requires
+choose_touched-requires c =
+    let h = c.args.store.now in
+    let plan = c.args.plan in
+    let tables : IsIndexed (standing c.commit.new.self) c.follow.new.tables = subst (λ (k : Keyed). IsIndexed (entries_of k.lists) c.follow.new.tables) (sym c.commit.ensures.keyed) c.in_ok-touched.ensures.tables in
     c.rows_are_defined.ensures c.commit.new.self c.follow.new.tables.names.map c.commit.ensures.change.rises tables.rows
 
 pub returns-clause-indexed : goal.returns-clause-indexed
 returns-clause-indexed c =
     let h = c.args.store.now in
     let plan = c.args.plan in
-    let limits : c.limits-limits.result.stanzas ≡ h.limits.stanzas = ap (λ (l : Limits). l.stanzas) c.limits-limits.ensures in
-    let most : h.limits.stanzas < 2 ^ 32 = omega (arith, limits) in
-    let comes : AreComing plan.added plan.edit = subst (λ ks. AreComing ks plan.edit) c.added-added.ensures.keys c.added-added.ensures.coming in
-    let law : IsFollowed h plan = followed_law h plan comes c.counts-counts.ensures.order c.requires.change c.requires.ready.accepted most in
-    let tables : IsIndexed (standing c.commit.new.self) c.follow.new.tables = subst (λ (k : Keyed). IsIndexed (entries_of k.lists) c.follow.new.tables) (sym c.commit.ensures.keyed) (c.in_ok-touched.ensures.tables law c.requires.indexed) in
+    let tables : IsIndexed (standing c.commit.new.self) c.follow.new.tables = subst (λ (k : Keyed). IsIndexed (entries_of k.lists) c.follow.new.tables) (sym c.commit.ensures.keyed) c.in_ok-touched.ensures.tables in
     indexed_same (standing c.commit.new.self) c.follow.new.tables c.choose_touched.new.names c.choose_touched.ensures.stays tables
 
 pub returns-clause-chosen : goal.returns-clause-chosen
 returns-clause-chosen c =
     let h = c.args.store.now in
     let plan = c.args.plan in
-    let limits : c.limits-limits.result.stanzas ≡ h.limits.stanzas = ap (λ (l : Limits). l.stanzas) c.limits-limits.ensures in
-    let most : h.limits.stanzas < 2 ^ 32 = omega (arith, limits) in
-    let comes : AreComing plan.added plan.edit = subst (λ ks. AreComing ks plan.edit) c.added-added.ensures.keys c.added-added.ensures.coming in
-    let law : IsFollowed h plan = followed_law h plan comes c.counts-counts.ensures.order c.requires.change c.requires.ready.accepted most in
-    let tables : IsIndexed (standing c.commit.new.self) c.follow.new.tables = subst (λ (k : Keyed). IsIndexed (entries_of k.lists) c.follow.new.tables) (sym c.commit.ensures.keyed) (c.in_ok-touched.ensures.tables law c.requires.indexed) in
+    let tables : IsIndexed (standing c.commit.new.self) c.follow.new.tables = subst (λ (k : Keyed). IsIndexed (entries_of k.lists) c.follow.new.tables) (sym c.commit.ensures.keyed) c.in_ok-touched.ensures.tables in
     let m = c.follow.new.tables.names.map in
     let touched = c.in_ok-touched.touched in
     let rows = c.rows_are_defined.ensures c.commit.new.self m c.commit.ensures.change.rises tables.rows in
@@ -71,28 +68,19 @@ pub returns-clause-steps : goal.returns-clause-steps
 returns-clause-steps c =
     let h = c.args.store.now in
     let plan = c.args.plan in
-    let limits : c.limits-limits.result.stanzas ≡ h.limits.stanzas = ap (λ (l : Limits). l.stanzas) c.limits-limits.ensures in
-    let most : h.limits.stanzas < 2 ^ 32 = omega (arith, limits) in
     let comes : AreComing plan.added plan.edit = subst (λ ks. AreComing ks plan.edit) c.added-added.ensures.keys c.added-added.ensures.coming in
-    let law : IsFollowed h plan = followed_law h plan comes c.counts-counts.ensures.order c.requires.change c.requires.ready.accepted most in
-    c.in_ok-touched.ensures.steps law c.requires.indexed ∙ ap (λ n. more_by n c.args.tables.now.steps) (followed_work h plan comes c.counts-counts.ensures.order c.requires.change)
+    c.in_ok-touched.ensures.steps ∙ ap (λ n. more_by n c.args.tables.now.steps) (followed_work h plan comes c.counts-counts.ensures.order c.requires.change)
 
 pub returns-clause-most : goal.returns-clause-most
 returns-clause-most c =
     let h = c.args.store.now in
     let plan = c.args.plan in
-    let limits : c.limits-limits.result.stanzas ≡ h.limits.stanzas = ap (λ (l : Limits). l.stanzas) c.limits-limits.ensures in
-    let most : h.limits.stanzas < 2 ^ 32 = omega (arith, limits) in
     let comes : AreComing plan.added plan.edit = subst (λ ks. AreComing ks plan.edit) c.added-added.ensures.keys c.added-added.ensures.coming in
-    let law : IsFollowed h plan = followed_law h plan comes c.counts-counts.ensures.order c.requires.change c.requires.ready.accepted most in
-    subst (λ n. c.follow.new.tables.steps ≤ more_by n c.args.tables.now.steps) (followed_work h plan comes c.counts-counts.ensures.order c.requires.change) (c.follow.ensures.most law c.requires.indexed)
+    subst (λ n. c.follow.new.tables.steps ≤ more_by n c.args.tables.now.steps) (followed_work h plan comes c.counts-counts.ensures.order c.requires.change) c.follow.ensures.most
 
 pub returns-in_err-touched-clause-most : goal.returns-in_err-touched-clause-most
 returns-in_err-touched-clause-most c =
     let h = c.args.store.now in
     let plan = c.args.plan in
-    let limits : c.limits-limits.result.stanzas ≡ h.limits.stanzas = ap (λ (l : Limits). l.stanzas) c.limits-limits.ensures in
-    let most : h.limits.stanzas < 2 ^ 32 = omega (arith, limits) in
     let comes : AreComing plan.added plan.edit = subst (λ ks. AreComing ks plan.edit) c.added-added.ensures.keys c.added-added.ensures.coming in
-    let law : IsFollowed h plan = followed_law h plan comes c.counts-counts.ensures.order c.requires.change c.requires.ready.accepted most in
-    subst (λ n. c.follow.new.tables.steps ≤ more_by n c.args.tables.now.steps) (followed_work h plan comes c.counts-counts.ensures.order c.requires.change) (c.follow.ensures.most law c.requires.indexed)
+    subst (λ n. c.follow.new.tables.steps ≤ more_by n c.args.tables.now.steps) (followed_work h plan comes c.counts-counts.ensures.order c.requires.change) c.follow.ensures.most

@@ -2,13 +2,18 @@ use Rattle.std.proofs.Common.{◌≡◌, ◌-◌, [], refl, arith}
 use Rattle.ctl_store.specs.Store.{keyed_of}
 use Rattle.ctl_index.specs.HeldCache.{standing}
 use Rattle.ctl_index.specs.Offers.{contents}
+use Rattle.ctl_index.specs.Inside.TablesHeld.{offers_in}
 use Rattle.ctl_index.specs.Inside.TablesLoaded.{tests_put_in}
 use Rattle.ctl_index.specs.Inside.TablesPending.{in_store}
 use Rattle.ctl_index.specs.Work.{pairs}
 use Rattle.ctl_index.proofs.JoinLemmas.{load_law, put_tests}
 use Rattle.ctl_index.proofs.StoreLemmas.{rising_apart, store_seen}
 use Rattle.ctl_index.proofs.RecoverLemmas.{joined_all, come_apart}
+use Rattle.ctl_index.proofs.ThereLemmas.{listed_there}
 use Rattle.ctl_index.proofs.cache.fill.Goals as goal
+
+pub put_list-requires : goal.put_list-requires
+put_list-requires c = listed_there (in_store c.args.store.now) (offers_in c.args.tables.now) [] c.requires.empty.offers tt
 
 pub returns-clause-tables : goal.returns-clause-tables
 returns-clause-tables c =

@@ -2,6 +2,7 @@ use Rattle.std.proofs.Common.{◌≡◌, ◌≤◌, ◌+◌, List, ap, subst, �
 use Rattle.ctl_store.specs.declared.stanza_key.StanzaKey.{StanzaKey}
 use Rattle.ctl_index.specs.HeldCache.{standing}
 use Rattle.ctl_index.specs.Inside.TablesFollowed.{staying, standing_after, pairs_gone, pairs_come}
+use Rattle.ctl_index.specs.Inside.TablesHeld.{offers_in}
 use Rattle.ctl_index.specs.Inside.TablesIndexed.{IsIndexed}
 use Rattle.ctl_index.specs.Inside.TablesLeft.{IsTakenOut, tests_taken_out}
 use Rattle.ctl_index.specs.Inside.TablesLoaded.{ComeApart, IsLoaded, tests_put_in}
@@ -9,10 +10,25 @@ use Rattle.ctl_index.specs.Inside.TablesPending.{in_store, with_plan}
 use Rattle.ctl_index.specs.Work.{more_by}
 use Rattle.ctl_index.proofs.CounterLemmas.{more_by_twice}
 use Rattle.ctl_index.proofs.JoinLemmas.{load_law, put_tests, take_law, take_tests}
+use Rattle.ctl_index.proofs.ThereLemmas.{listed_there}
 use Rattle.ctl_index.proofs.cache.follow_in_tables.Goals as goal
 
+pub put_list-requires : goal.put_list-requires
+put_list-requires c =
+    let law = c.requires.law in
+    let was = c.requires.indexed in
+    let h = c.args.store.now in
+    let plan = c.args.plan.now in
+    let old = c.args.tables.now in
+    let mid = c.take_all.new.tables in
+    let took : IsTakenOut (in_store h) plan.removed old mid = subst (λ (ks : List StanzaKey). IsTakenOut (in_store h) ks old mid) c.removed.ensures c.in_ok-take_all.ensures.tables in
+    let left : IsIndexed (staying h plan) mid = take_law (in_store h) plan.removed (standing h) (staying h plan) old mid law.taken was law.outside law.inside law.apart law.apart_going law.seen_staying law.seen_standing took in
+    listed_there (with_plan h plan) (offers_in mid) (staying h plan) left.offers law.seen_still
+
 pub returns-clause-tables : goal.returns-clause-tables
-returns-clause-tables c = λ law was.
+returns-clause-tables c =
+    let law = c.requires.law in
+    let was = c.requires.indexed in
     let h = c.args.store.now in
     let plan = c.args.plan.now in
     let old = c.args.tables.now in
@@ -24,7 +40,9 @@ returns-clause-tables c = λ law was.
     load_law (with_plan h plan) plan.added (standing_after h plan) (staying h plan) mid c.put_list.new.tables law.put left law.apart law.apart_coming law.seen_still law.seen_after c.numbers_fit.ensures law.apart_after law.few (put law.apart_coming)
 
 pub returns-clause-steps : goal.returns-clause-steps
-returns-clause-steps c = λ law was.
+returns-clause-steps c =
+    let law = c.requires.law in
+    let was = c.requires.indexed in
     let h = c.args.store.now in
     let plan = c.args.plan.now in
     let old = c.args.tables.now in
@@ -41,7 +59,9 @@ returns-clause-steps c = λ law was.
     in_too ∙ ap (more_by (pairs_come h plan)) out ∙ more_by_twice (pairs_gone h plan) (pairs_come h plan) s0
 
 pub returns-in_err-take_all-clause-most : goal.returns-in_err-take_all-clause-most
-returns-in_err-take_all-clause-most c = λ law was.
+returns-in_err-take_all-clause-most c =
+    let law = c.requires.law in
+    let was = c.requires.indexed in
     let h = c.args.store.now in
     let plan = c.args.plan.now in
     let old = c.args.tables.now in
@@ -50,7 +70,9 @@ returns-in_err-take_all-clause-most c = λ law was.
     omega (arith, out, take_tests (in_store h) plan.removed (standing h) (staying h plan) old c.take_all.new.tables law.taken was law.outside law.inside law.apart law.apart_going law.seen_staying law.seen_standing)
 
 pub returns-in_err-put_list-clause-most : goal.returns-in_err-put_list-clause-most
-returns-in_err-put_list-clause-most c = λ law was.
+returns-in_err-put_list-clause-most c =
+    let law = c.requires.law in
+    let was = c.requires.indexed in
     let h = c.args.store.now in
     let plan = c.args.plan.now in
     let old = c.args.tables.now in
@@ -71,8 +93,10 @@ returns-in_err-put_list-clause-most c = λ law was.
     )
 
 pub returns-clause-most : goal.returns-clause-most
-returns-clause-most c = λ law was.
+returns-clause-most c =
+    let law = c.requires.law in
+    let was = c.requires.indexed in
     let h = c.args.store.now in
     let plan = c.args.plan.now in
-    let all : c.put_list.new.tables.steps ≡ more_by (pairs_gone h plan + pairs_come h plan) c.args.tables.now.steps = returns-clause-steps c law was in
+    let all : c.put_list.new.tables.steps ≡ more_by (pairs_gone h plan + pairs_come h plan) c.args.tables.now.steps = returns-clause-steps c in
     omega (arith, all)

@@ -1,4 +1,4 @@
-use Rattle.std.proofs.Common.{◌≡◌, ℕ, suc, ◌∷◌, List, ap, ◌∙◌, ◌+◌, length, arith}
+use Rattle.std.proofs.Common.{◌≡◌, ℕ, suc, ◌∷◌, List, ap, subst, sym, ◌∙◌, ◌+◌, length, arith}
 use Rattle.std.specs.List.{sum_by}
 use Rattle.std.proofs.lemmas.List.Sums.{sum_by-cons}
 use Rattle.ctl_relation.specs.Parts.{AtomParts}
@@ -6,10 +6,15 @@ use Rattle.ctl_index.specs.declared.keys.AtomKey.{AtomKey}
 use Rattle.ctl_index.specs.declared.keys.OfferKey.{OfferKey}
 use Rattle.ctl_index.specs.Inside.TablesByName.{offers_under}
 use Rattle.ctl_index.specs.Inside.TablesIndexed.{atom_named}
-use Rattle.ctl_index.specs.Inside.TablesPending.{atom_met, atom_tested}
+use Rattle.ctl_index.specs.Inside.TablesPending.{atom_met, atom_tested, missing}
 use Rattle.ctl_index.specs.Inside.TablesTests.{group_met, group_tested}
 use Rattle.ctl_index.specs.Names.{keyed_group}
 use Rattle.ctl_index.proofs.coming.put_group.Goals as goal
+
+pub put_atom-requires : goal.put_atom-requires
+put_atom-requires c =
+    let name = c.in-Some.atom.name in
+    subst (λ (u : List ℕ → List OfferKey). sum_by (missing c.args.pending.now name) (u name) ≡ 0) (sym c.loop-atom.invariant.offers) (c.requires.there.none_missing name)
 
 pub loop-atom-preserved : goal.loop-atom-preserved
 loop-atom-preserved c =

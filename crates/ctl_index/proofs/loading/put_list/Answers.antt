@@ -3,12 +3,18 @@ use Rattle.std.specs.List.{sum_by}
 use Rattle.ctl_index.specs.declared.named.ChosenRows.{ChosenRows}
 use Rattle.ctl_index.specs.Clauses.{clause_at}
 use Rattle.ctl_index.specs.Inside.TablesByName.{rows_under}
+use Rattle.ctl_index.specs.Inside.TablesHeld.{offers_in}
 use Rattle.ctl_index.specs.Inside.TablesIndexed.{namers_sum}
 use Rattle.ctl_index.specs.Inside.TablesLoaded.{number_with}
 use Rattle.ctl_index.specs.Inside.TablesPending.{entries_seen}
 use Rattle.ctl_index.specs.Inside.TablesRows.{AreRowsPut}
 use Rattle.ctl_index.proofs.NameLemmas.{all_chosen}
+use Rattle.ctl_index.proofs.ThereLemmas.{more_there}
 use Rattle.ctl_index.proofs.loading.put_list.Goals as goal
+
+pub put_atoms-requires : goal.put_atoms-requires
+put_atoms-requires c =
+    more_there c.args.pending.now c.args.keys.now (offers_in c.args.tables.now) (offers_in c.put_offers.new.tables) c.in_ok-put_offers.ensures.offers c.requires
 
 pub returns-clause-chosen : goal.returns-clause-chosen
 returns-clause-chosen c =
