@@ -1,6 +1,6 @@
 -- How this crate's own functions go about the answers. Callers need none of it.
 pub mod Askers
-pub mod FieldLines
+pub mod KeptLines
 pub mod ListedAtoms
 pub mod Namings
 pub mod Repeats

@@ -9,7 +9,7 @@ ghost use Rattle.ctl_policy.specs.Rows.{lead_of};
 ghost use Rattle.ctl_query.specs.Depends.{atom_lines, group_lines, field_lines, lead_lines, has_lines};
 ghost use Rattle.ctl_query.specs.Depends.{depends_fields, depends_one, depends_text};
 ghost use Rattle.ctl_query.specs.Depends.{atom_pairs, group_pairs, field_pairs, lead_pairs, one_pairs, depends_pairs, providers};
-ghost use Rattle.ctl_query.specs.Inside.FieldLines.{AreWritten};
+ghost use Rattle.ctl_query.specs.Inside.KeptLines.{AreWritten};
 ghost use Rattle.ctl_query.specs.NameSet.{lent_names};
 ghost use Rattle.ctl_query.specs.Packages.{rows_of, stanza_under};
 ghost use Rattle.ctl_query.specs.Texts.{if_known};

@@ -34,37 +34,40 @@ fn is_option(word: &[u8]) -> bool
     }
 }
 
-/// The words that are no options.
-fn arguments_in(alloc: Global, words: &[Bytes]) -> Result<Vec<Bytes>, AllocError>
-    ensures { IfOk result (λ arguments. arguments.items ≡ filter is_argument words.now) }
+/// Copies of the words that are options.
+fn options_in(alloc: Global, words: &[Bytes]) -> Result<Vec<Bytes>, AllocError>
+    ensures { IfOk result (λ options. options.items ≡ filter is_option words.now) }
 {
-    let mut arguments = Vec::new(alloc);
+    let mut options = Vec::new(alloc);
     for word in words {
-        if !is_option(word.as_slice()) {
-            arguments.push(Bytes::from_slice(alloc, word.as_slice())?)?;
+        if is_option(word.as_slice()) {
+            options.push(Bytes::from_slice(alloc, word.as_slice())?)?;
         }
     }
-    Ok(arguments)
+    Ok(options)
 }
 
-/// Whether the options among words are those of a query.
-fn are_options_of(name: CacheQuery, words: &[Bytes]) -> bool
-    ensures { result ≡ list_all (is_among (options_of name)) (filter is_option words.now) }
+/// Leaves the words that are no options.
+fn keep_arguments(words: &mut Vec<Bytes>)
+    ensures { words.new.items ≡ filter is_argument words.old.items }
 {
-    words
+    words.retain(|word| !is_option(word.as_slice()));
+}
+
+/// Whether options are those of a query.
+fn are_options_of(name: CacheQuery, options: &[Bytes]) -> bool
+    ensures { result ≡ list_all (is_among (options_of name)) options.now }
+{
+    options
         .iter()
-        .filter(|word| is_option(word.as_slice()))
         .all(|option| name.has_option(option.as_slice()))
 }
 
-/// Whether an option is among words.
-fn has_option(words: &[Bytes], option: &[u8]) -> bool
-    ensures { result ≡ is_among (filter is_option words.now) option.now }
+/// Whether an option is among these.
+fn has_option(options: &[Bytes], option: &[u8]) -> bool
+    ensures { result ≡ is_among options.now option.now }
 {
-    words
-        .iter()
-        .filter(|word| is_option(word.as_slice()))
-        .any(|other| option == other.as_slice())
+    options.iter().any(|other| option == other.as_slice())
 }
 
 fn are_names(words: &[Bytes]) -> bool
@@ -78,24 +81,24 @@ fn are_names(words: &[Bytes]) -> bool
     true
 }
 
-fn is_important(words: &[Bytes]) -> bool
-    ensures { result ≡ is_important (filter is_option words.now) }
+fn is_important(options: &[Bytes]) -> bool
+    ensures { result ≡ is_important options.now }
 {
-    has_option(words, b"-i") || has_option(words, b"--important")
+    has_option(options, b"-i") || has_option(options, b"--important")
 }
 
-fn is_installed_alone(words: &[Bytes]) -> bool
-    ensures { result ≡ is_installed_alone (filter is_option words.now) }
+fn is_installed_alone(options: &[Bytes]) -> bool
+    ensures { result ≡ is_installed_alone options.now }
 {
-    has_option(words, b"--installed")
+    has_option(options, b"--installed")
 }
 
-fn depends_options(words: &[Bytes]) -> DependsOptions
-    ensures { result ≡ depends_options (filter is_option words.now) }
+fn depends_options(options: &[Bytes]) -> DependsOptions
+    ensures { result ≡ depends_options options.now }
 {
     DependsOptions {
-        important: is_important(words),
-        installed: is_installed_alone(words),
+        important: is_important(options),
+        installed: is_installed_alone(options),
     }
 }
 
@@ -106,12 +109,11 @@ fn is_all(option: &[u8]) -> bool
 }
 
 /// Of the options of `show` the last one counts.
-fn shows_all(words: &[Bytes]) -> bool
-    ensures { result ≡ shows_all (filter is_option words.now) }
+fn shows_all(options: &[Bytes]) -> bool
+    ensures { result ≡ shows_all options.now }
 {
-    words
+    options
         .iter()
-        .filter(|word| is_option(word.as_slice()))
         .fold(true, |_, option| is_all(option.as_slice()))
 }
 
@@ -138,13 +140,6 @@ fn read_version(alloc: Global, text: &[u8]) -> Result<Version, Refusal>
     }
 }
 
-fn copied(alloc: Global, text: &[u8]) -> Result<Bytes, Refusal>
-    ensures { Reads (λ copy. copy) result (Ok text.now) }
-{
-    let copy = Bytes::from_slice(alloc, text)?;
-    Ok(copy)
-}
-
 fn row_of_parts(alloc: Global, name: &[u8], behind: &[u8]) -> Result<AskedRow, Refusal>
     ensures { Reads asked_row result (row_of_parts name.now behind.now) }
 {
@@ -152,7 +147,7 @@ fn row_of_parts(alloc: Global, name: &[u8], behind: &[u8]) -> Result<AskedRow, R
         [] => None,
         [_, version @ ..] => Some(read_version(alloc, version)?),
     };
-    let name = copied(alloc, name)?;
+    let name = Bytes::from_slice(alloc, name)?;
     Ok(AskedRow { name, version })
 }
 
@@ -215,45 +210,45 @@ fn prefix_in(alloc: Global, words: &[Bytes]) -> Result<Bytes, Refusal>
 {
     match words {
         [] => Ok(Bytes::from_vec(Vec::new(alloc))),
-        [prefix] => copied(alloc, prefix.as_slice()),
+        [prefix] => Ok(Bytes::from_slice(alloc, prefix.as_slice())?),
         _ => Err(Refusal::Usage),
     }
 }
 
-/// What a query asks for by the options among words, which are its own, and by its arguments. These are lent, so that what is left
-/// of them is let go in one place.
+/// What a query asks for by its options, which are its own, and by its arguments. These are lent, so that what is left of them is
+/// let go in one place.
 fn query_by(
     alloc: Global,
     name: CacheQuery,
-    words: &[Bytes],
+    options: &[Bytes],
     arguments: &mut Vec<Bytes>,
 ) -> Result<Query, Refusal>
-    ensures { Reads query_text result (query_by name (filter is_option words.now) arguments.old.items) }
+    ensures { Reads query_text result (query_by name options.now arguments.old.items) }
 {
     match name {
         CacheQuery::PackageNames => {
             let prefix = prefix_in(alloc, arguments)?;
-            Ok(Query::PackageNames(has_option(words, b"--all-names"), prefix))
+            Ok(Query::PackageNames(has_option(options, b"--all-names"), prefix))
         }
         CacheQuery::Show => {
             if arguments.is_empty() {
                 return Err(Refusal::Usage);
             }
-            Ok(Query::Show(shows_all(words), rows_asked(alloc, arguments)?))
+            Ok(Query::Show(shows_all(options), rows_asked(alloc, arguments)?))
         }
         CacheQuery::Depends => {
             let names = some_names(alloc, arguments)?;
-            Ok(Query::Depends(depends_options(words), names))
+            Ok(Query::Depends(depends_options(options), names))
         }
         CacheQuery::ReverseDepends => {
             let names = some_names(alloc, arguments)?;
-            Ok(Query::ReverseDepends(is_installed_alone(words), names))
+            Ok(Query::ReverseDepends(is_installed_alone(options), names))
         }
         CacheQuery::Unmet => {
             if !arguments.is_empty() {
                 return Err(Refusal::Usage);
             }
-            Ok(Query::Unmet(is_important(words)))
+            Ok(Query::Unmet(is_important(options)))
         }
         CacheQuery::Policy => {
             if !are_names(arguments) {
@@ -265,14 +260,17 @@ fn query_by(
     }
 }
 
-fn query_in(alloc: Global, name: CacheQuery, words: &[Bytes]) -> Result<Query, Refusal>
-    ensures { Reads query_text result (query_in name words.now) }
+/// What a query asks for by its words. They are lent, and the names among them go into the query as they are: a script asks for
+/// thousands at once.
+fn query_in(alloc: Global, name: CacheQuery, words: &mut Vec<Bytes>) -> Result<Query, Refusal>
+    ensures { Reads query_text result (query_in name words.old.items) }
 {
-    let mut arguments = arguments_in(alloc, words)?;
-    if !are_options_of(name, words) {
+    let options = options_in(alloc, words)?;
+    if !are_options_of(name, &options) {
         return Err(Refusal::Usage);
     }
-    query_by(alloc, name, words, &mut arguments)
+    keep_arguments(words);
+    query_by(alloc, name, &options, words)
 }
 
 /// What the words of grep-dctrl(1) ask for.
@@ -284,23 +282,34 @@ fn filter_asked(alloc: Global, words: &[Bytes]) -> Result<Query, Refusal>
 }
 
 /// What the words behind the name of a query ask for: its options and its arguments (apt-cache(8)), or the words of a filter
-/// (grep-dctrl(1)).
+/// (grep-dctrl(1)). Names go into the query as they are, without a copy.
 ///
 /// # Errors
 ///
 /// The first of these: [`Refusal::Usage`], where an option is not one of the query's, or there are too many or too few
 /// arguments; and, argument by argument from the left, [`Refusal::Name`] and [`Refusal::Version`], where one is no name or
 /// version. Those of a filter are told at [`parse_filter`]. [`Refusal::Memory`] where memory is refused.
-pub fn parse_words(alloc: Global, name: QueryName, words: &[Bytes]) -> Result<Query, Refusal>
-    ensures { ReadsQuery result (query_behind name words.now) }
+pub fn parse_words(alloc: Global, name: QueryName, words: Vec<Bytes>) -> Result<Query, Refusal>
+    ensures { ReadsQuery result (query_behind name words.items) }
 {
+    let mut words = words;
     match name {
-        QueryName::Filter => filter_asked(alloc, words),
+        QueryName::Filter => filter_asked(alloc, &words),
         QueryName::Cache(query) => {
-            let query = query_in(alloc, query, words)?;
+            let query = query_in(alloc, query, &mut words)?;
             Ok(query)
         }
     }
+}
+
+fn copies(alloc: Global, words: &[Bytes]) -> Result<Vec<Bytes>, AllocError>
+    ensures { IfOk result (λ copies. copies.items ≡ words.now) }
+{
+    let mut copies = Vec::with_capacity(alloc, words.len())?;
+    for word in words {
+        copies.push(Bytes::from_slice(alloc, word.as_slice())?)?;
+    }
+    Ok(copies)
 }
 
 /// What words ask for: the name of a query, and behind it what [`parse_words`] takes.
@@ -318,7 +327,7 @@ pub fn parse_query(alloc: Global, words: &[Bytes]) -> Result<Query, Refusal>
         return Err(Refusal::Command);
     };
     match QueryName::read(name.as_slice()) {
-        Some(name) => parse_words(alloc, name, words),
+        Some(name) => parse_words(alloc, name, copies(alloc, words)?),
         None => Err(Refusal::Command),
     }
 }

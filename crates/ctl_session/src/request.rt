@@ -53,8 +53,8 @@ fn change(edit: Result<Edit, Refusal>) -> Result<Request, Refusal>
 
 /// What a query asks for by the words behind its name.
 #[tactic(auto, using(crate::proofs::AskingLemmas::query_refused))]
-fn query_request(alloc: Global, name: QueryName, words: &[Bytes]) -> Result<Request, Refusal>
-    ensures { ReadsForAny result (asking (query_behind name words.now)) }
+fn query_request(alloc: Global, name: QueryName, words: Vec<Bytes>) -> Result<Request, Refusal>
+    ensures { ReadsForAny result (asking (query_behind name words.items)) }
 {
     match parse_words(alloc, name, words) {
         Ok(query) => Ok(Request::Ask(query)),
@@ -82,7 +82,7 @@ fn request_by(
         CommandName::Unpin => change(unpin_edit(alloc, &words)),
         CommandName::Target => change(target_edit(alloc, &words)),
         CommandName::Prefs => prefs_request(&words),
-        CommandName::Query(name) => query_request(alloc, name, &words),
+        CommandName::Query(name) => query_request(alloc, name, words),
     }
 }
 

@@ -1,7 +1,7 @@
 use Rattle.std.proofs.Common.{◌≡◌, ◌++◌, ◌+◌, ◌≤◌, length}
 use Rattle.ctl_policy.specs.Priority.{world_of}
 use Rattle.ctl_query.specs.Depends.{group_lines, group_pairs}
-use Rattle.ctl_query.specs.Inside.FieldLines.{AreWritten}
+use Rattle.ctl_query.specs.Inside.KeptLines.{AreWritten}
 use Rattle.ctl_query.proofs.depends.FieldLines.append_group.Given as goal
 
 -- what was written, and the lines of the atoms that are left, are what there was and the lines of all; and so it is with the tests
