@@ -7,7 +7,7 @@ use Rattle.std.specs.Cmp.Lexicographic.{slice_cmp}
 use Rattle.std.specs.Ordering.{nat_cmp, ordering_then}
 use Rattle.std.specs.declared.cmp.Ordering.{Ordering}
 use Rattle.std.specs.declared.cmp.Ordering.TheVariants.{Less, Equal, Greater}
-use Rattle.ctl_index.specs.Inside.ShortName.{held_name, IsHeldIn, spelled, word_at, filled}
+use Rattle.ctl_index.specs.Inside.ShortName.{held_name, IsHeldIn, spelled, word_at, filled, order_behind}
 
 -- ---- orders one after another
 
@@ -144,6 +144,13 @@ differ_then a b o p n e = by o e
 tie_then : (a b : ℕ) (p : Ordering) → a ≡ b → p ≡ ordering_then (nat_cmp a b) p
 tie_then a b p e = ap (λ q. ordering_then q p) (nat_cmp_is a b Equal e)
 
+-- the same of numbers that are told by others
+pub told_apart : (x y a b : ℕ) (o p : Ordering) → a ≡ x → b ≡ y → (a ≡ b → ⊥) → o ≡ nat_cmp a b → o ≡ ordering_then (nat_cmp x y) p
+told_apart x y a b o p e f apart is = differ_then a b o p apart is ∙ (λ i. ordering_then (nat_cmp (e i) (f i)) p)
+
+pub told_equal : (x y a b : ℕ) (o p : Ordering) → a ≡ x → b ≡ y → a ≡ b → o ≡ p → o ≡ ordering_then (nat_cmp x y) p
+told_equal x y a b o p e f same is = is ∙ tie_then a b p same ∙ (λ i. ordering_then (nat_cmp (e i) (f i)) p)
+
 length_filled : (k : ℕ) (name : List ℕ) → length (filled k name) ≡ k
 length_filled zero name = refl
 length_filled (suc k) [] = ap suc (length_filled k [])
@@ -177,6 +184,14 @@ module _ (xs ys name other : List ℕ) (m : IsHeldIn xs name) (n : IsHeldIn ys o
       let none_there : drop 32 ys ≡ [] = drop_all 32 ys (omega (arith, length_held ys other n)) in
       e ∙ (λ i. nat_cmp (p i) (q i)) ∙ sym (then_equal (nat_cmp (word_at 24 xs) (word_at 24 ys)))
       ∙ (λ i. ordering_then (nat_cmp (word_at 24 xs) (word_at 24 ys)) (slice_cmp nat_cmp (sym none_here i) (sym none_there i))) ∙ sym (by_held 24)
+
+  -- those behind the first, in turn
+  pub numbers_behind : order_behind xs ys ≡ from_place 8 xs ys
+  numbers_behind =
+      let last : nat_cmp (word_at 24 xs) (word_at 24 ys) ≡ from_place 24 xs ys = last_numbers _ _ _ refl refl refl in
+      let two : ordering_then (nat_cmp (word_at 16 xs) (word_at 16 ys)) (nat_cmp (word_at 24 xs) (word_at 24 ys)) ≡ from_place 16 xs ys =
+      ap (ordering_then (nat_cmp (word_at 16 xs) (word_at 16 ys))) last ∙ sym (by_held 16) in
+      ap (ordering_then (nat_cmp (word_at 8 xs) (word_at 8 ys))) two ∙ sym (by_held 8)
 
   -- and all of them do as the names that are seen
   pub names_tell : (a b : List ℕ) → name ≡ a → other ≡ b → from_place 0 xs ys ≡ slice_cmp nat_cmp a b

@@ -5,7 +5,7 @@ ghost use Rattle.std.specs.Cmp.{partial_equiv_from_equiv};
 ghost use Rattle.std.specs.Cmp.Lexicographic.{slice_cmp, nat_list_eq_equiv, nat_list_cmp_total, texts_po, texts_ties};
 ghost use Rattle.std.specs.Ordering.{nat_cmp};
 ghost use Rattle.std.specs.Str.{bytes_eq};
-ghost use Rattle.ctl_index.specs.Inside.ShortName.{IsHeldIn, word_at};
+ghost use Rattle.ctl_index.specs.Inside.ShortName.{IsHeldIn, word_at, order_behind};
 
 use std::cmp::Ordering;
 use std::marker::Model;
@@ -53,6 +53,22 @@ fn word_at(places: &[u8; PLACES], at: usize) -> u64
         places[at + 6],
         places[at + 7],
     ])
+}
+
+// How names compare whose first eight bytes are the same. Few that a search passes are, so that it stands apart.
+#[inline(never)]
+fn compare_behind(places: &[u8; PLACES], others: &[u8; PLACES]) -> Ordering
+    ensures { result ≡ order_behind places.now others.now }
+{
+    let (a, b) = (word_at(places, 8), word_at(others, 8));
+    if a != b {
+        return a.cmp(&b);
+    }
+    let (a, b) = (word_at(places, 16), word_at(others, 16));
+    if a != b {
+        return a.cmp(&b);
+    }
+    word_at(places, 24).cmp(&word_at(others, 24))
 }
 
 impl ShortName {
@@ -113,19 +129,12 @@ impl Ord for ShortName {
 
     ghost matches_eq = { texts_ties };
 
+    #[inline(always)]
     fn cmp(&self, other: &ShortName) -> Ordering {
         let (a, b) = (word_at(&self.places, 0), word_at(&other.places, 0));
         if a != b {
             return a.cmp(&b);
         }
-        let (a, b) = (word_at(&self.places, 8), word_at(&other.places, 8));
-        if a != b {
-            return a.cmp(&b);
-        }
-        let (a, b) = (word_at(&self.places, 16), word_at(&other.places, 16));
-        if a != b {
-            return a.cmp(&b);
-        }
-        word_at(&self.places, 24).cmp(&word_at(&other.places, 24))
+        compare_behind(&self.places, &other.places)
     }
 }

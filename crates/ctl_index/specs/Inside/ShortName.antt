@@ -1,4 +1,6 @@
 -- Short names: how the bytes of a name stand in a value of a fixed size.
+use Rattle.std.specs.Ordering.{nat_cmp, ordering_then}
+use Rattle.std.specs.declared.cmp.Ordering.{Ordering}
 use Rattle.std.specs.Prelude.{◌≡◌, ℕ, zero, suc, ◌+◌, ◌*◌, ◌≤◌, List, [], ◌∷◌, ◌++◌, length, take, drop, slice_index}
 
 -- how many bytes a short name has at most
@@ -28,3 +30,9 @@ spelled n (byte ∷ bytes) = spelled (n * 256 + byte) bytes
 -- that of the eight bytes from a place on
 abbrev pub word_at : ℕ → List ℕ → ℕ
 word_at at places = spelled 0 (take 8 (drop at places))
+
+-- which comes first by the numbers behind the first one
+abbrev pub order_behind : List ℕ → List ℕ → Ordering
+order_behind places others =
+    ordering_then (nat_cmp (word_at 8 places) (word_at 8 others))
+    (ordering_then (nat_cmp (word_at 16 places) (word_at 16 others)) (nat_cmp (word_at 24 places) (word_at 24 others)))
