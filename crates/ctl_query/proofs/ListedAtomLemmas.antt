@@ -2,15 +2,18 @@
 use Rattle.std.proofs.Common.{◌≡◌, ◌∙◌, ℕ, zero, suc, ◌+◌, ◌<◌, Bool, true, false, cond, ◌&&◌, ◌||◌, nat_eq, List, [], ◌∷◌, ◌++◌, Bor, length, take, get_or, flat_map, Some, refl, sym, ap, arith}
 use Rattle.std.specs.Cmp.{Equal-is, alike_right}
 use Rattle.std.specs.List.{All, list_any, dedup, dedup_from}
-use Rattle.std.specs.Ordering.{is_eq, ordering_reverse}
+use Rattle.std.specs.List.Sorted.{IsStrictlySortedBy}
+use Rattle.std.specs.Ordering.{is_eq, is_lt, ordering_reverse}
 use Rattle.std.specs.Option.{option_map_or}
 use Rattle.std.proofs.lemmas.Bool.Decides.{nat_tests}
 use Rattle.std.proofs.lemmas.List.{map-append, take_more}
 use Rattle.std.proofs.lemmas.List.Elements.{All-push}
 use Rattle.std.proofs.lemmas.List.Folds.{list_any-append}
+use Rattle.std.proofs.lemmas.Map.Keys.{sorted_from_all_adjacent}
 use Rattle.std.specs.declared.cmp.Ordering.{Ordering}
 use Rattle.std.specs.declared.cmp.Ordering.TheVariants.{Less, Equal, Greater}
 use Rattle.ctl_relation.specs.FieldKind.{field_place}
+use Rattle.ctl_relation.specs.declared.field_kind.FieldKind.TheVariants.{PreDepends}
 use Rattle.ctl_stanza.specs.Content.{Content}
 use Rattle.ctl_store.specs.declared.stanza_key.StanzaKey.{StanzaKey}
 use Rattle.ctl_store.specs.Entries.{Entry}
@@ -26,6 +29,7 @@ use Rattle.ctl_query.proofs.AtomLemmas.{any_map}
 use Rattle.ctl_query.proofs.AtomOrderLemmas.{lead_atoms_total}
 use Rattle.ctl_query.proofs.LeadAtomLemmas.{nat_itself, tie_is, key_tie}
 use Rattle.ctl_query.proofs.LeadTableLemmas.{lent-push, lent_taken}
+use Rattle.ctl_query.proofs.RisingLemmas.{less_where}
 
 turned : (o : Ordering) → is_eq (ordering_reverse o) ≡ is_eq o
 turned Less = refl
@@ -155,3 +159,24 @@ pub lent_key : (leads : List (StanzaKey × Bor Content)) (i : ℕ) (d : StanzaKe
 lent_key [] i d l = absurd (omega (arith, l))
 lent_key (x ∷ xs) zero d l = refl
 lent_key (x ∷ xs) (suc i) d l = lent_key xs i d (omega (arith, l))
+
+-- ---- those that stand in order as they are
+
+at_read : (atoms : List ListedAtom) (i : ℕ) (d : ListedAtom) → get_or (places_in atoms) i d.at ≡ (get_or atoms i d).at
+at_read [] i d = refl
+at_read (a ∷ atoms) zero d = refl
+at_read (a ∷ atoms) (suc i) d = at_read atoms i d
+
+places_long : (atoms : List ListedAtom) → length (places_in atoms) ≡ length atoms
+places_long [] = refl
+places_long (a ∷ atoms) = ap suc (places_long atoms)
+
+pub in_order_from : (atoms : List ListedAtom) → ((k : ℕ) (d : ListedAtom) → k + 1 < length atoms → is_lt (lead_atom_cmp (get_or atoms k d).at (get_or atoms (k + 1) d).at) ≡ true) → IsStrictlySortedBy lead_atom_cmp (places_in atoms)
+in_order_from [] each = sorted_from_all_adjacent lead_atoms_total [] (record { place = 0; field = PreDepends; group = 0; atom = 0 }) (λ k l. absurd (omega (arith, l)))
+in_order_from (a ∷ atoms) each = sorted_from_all_adjacent lead_atoms_total (places_in (a ∷ atoms)) a.at (λ k l.
+    (λ i. lead_atom_cmp (at_read (a ∷ atoms) k a i) (at_read (a ∷ atoms) (k + 1) a i)) ∙ less_where _ (each k a (omega (arith, l, places_long (a ∷ atoms)))))
+
+pub atom_read : (atoms : List ListedAtom) (i : ℕ) (a d : ListedAtom) → i < length atoms → a ≡ get_or atoms i a → a ≡ get_or atoms i d
+atom_read [] i a d l e = absurd (omega (arith, l))
+atom_read (b ∷ atoms) zero a d l e = e
+atom_read (b ∷ atoms) (suc i) a d l e = atom_read atoms i a d (omega (arith, l)) e

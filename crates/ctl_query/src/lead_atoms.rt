@@ -1,6 +1,8 @@
 //! The atoms of leads that name a name, in the order in which `showpkg` tells them.
 
 ghost use Rattle.std.specs.Prelude.{◌≡◌, ◌&&◌, ◌||◌, ◌++◌, ℕ, List, nat_eq, OnOk, IfOk, Some, flat_map};
+ghost use Rattle.std.specs.Bool.{OnTrue};
+ghost use Rattle.std.specs.Ordering.{is_lt};
 ghost use Rattle.std.specs.List.{All, list_any};
 ghost use Rattle.std.specs.List.Sorted.{IsStrictlySortedBy};
 ghost use Rattle.ctl_index.specs.Names.{KeptNamer as KeyAndKept};
@@ -108,8 +110,27 @@ fn push_atom<'a>(
     }
 }
 
-/// Puts atoms in order, each once.
-fn put_in_order(atoms: &mut Vec<ListedAtom<'_>>)
+/// Whether an atom stands before another one.
+fn is_before(atom: &ListedAtom<'_>, other: &ListedAtom<'_>) -> bool
+    ensures { result ≡ is_lt (lead_atom_cmp atom.now.at other.now.at) }
+{
+    atom.at.cmp(&other.at).is_lt()
+}
+
+/// Whether atoms stand in order, each once.
+fn are_in_order(atoms: &[ListedAtom<'_>]) -> bool
+    ensures { OnTrue result (IsStrictlySortedBy lead_atom_cmp (places_in atoms.now)) }
+{
+    for i in 1..atoms.len() {
+        if !is_before(&atoms[i - 1], &atoms[i]) {
+            return false;
+        }
+    }
+    true
+}
+
+/// Sorts atoms, and leaves each once.
+fn sort(atoms: &mut Vec<ListedAtom<'_>>)
     ensures order { IsStrictlySortedBy lead_atom_cmp (places_in atoms.new.items) }
     ensures members { (a : LeadAtom) → is_listed (places_in atoms.new.items) a ≡ is_listed (places_in atoms.old.items) a }
     ensures kept { (leads : List Entry) (name : List ℕ) → All (IsKept leads name) atoms.old.items
@@ -117,6 +138,18 @@ fn put_in_order(atoms: &mut Vec<ListedAtom<'_>>)
 {
     atoms.sort_unstable_by_key(|listed| listed.at);
     atoms.dedup_by(|a, b| a.at == b.at);
+}
+
+/// Puts atoms in order, each once. Where the stanzas of a list stand in the order of their names, they are so as they come.
+fn put_in_order(atoms: &mut Vec<ListedAtom<'_>>)
+    ensures order { IsStrictlySortedBy lead_atom_cmp (places_in atoms.new.items) }
+    ensures members { (a : LeadAtom) → is_listed (places_in atoms.new.items) a ≡ is_listed (places_in atoms.old.items) a }
+    ensures kept { (leads : List Entry) (name : List ℕ) → All (IsKept leads name) atoms.old.items
+        → All (IsKept leads name) atoms.new.items }
+{
+    if !are_in_order(atoms) {
+        sort(atoms);
+    }
 }
 
 /// The atoms of leads that name what these keys name, in order, each once.

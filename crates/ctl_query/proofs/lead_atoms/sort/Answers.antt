@@ -12,7 +12,7 @@ use Rattle.ctl_query.specs.Leads.{lead_atom_cmp, is_listed}
 use Rattle.ctl_query.specs.Inside.ListedAtoms.{places_in, IsKept}
 use Rattle.ctl_query.proofs.AtomOrderLemmas.{lead_atoms_total, sorted_map}
 use Rattle.ctl_query.proofs.ListedAtomLemmas.{same_place, same_place_is, kept_once}
-use Rattle.ctl_query.proofs.lead_atoms.put_in_order.Goals as goal
+use Rattle.ctl_query.proofs.lead_atoms.sort.Goals as goal
 
 pub returns-clause-order : goal.returns-clause-order
 returns-clause-order c =
