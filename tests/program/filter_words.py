@@ -81,6 +81,28 @@ def test_order(tests):
         tests.same("what is told of %r" % words[:20], asked(tests, words), refused(wanted))
 
 
+def test_any_case(tests):
+    """Letters of ASCII alone are taken in any case, and no other bytes that differ as a small letter and its capital do."""
+    script = b"add-list m packages\nPackage: foo\nVersion: 1\nNotes: A_b@C[d]E^f\\g \xc3\x84 h\n i\tj and I)J\n.\ngrep-dctrl -c -i '%s'\n"
+    for pattern, wanted in (
+        (b"a_B@c[D]e^F\\G \xc3\x84 H", 1),
+        (b"a\x7fb", 0),
+        (b"b`c", 0),
+        (b"c{d", 0),
+        (b"f|g", 0),
+        (b"d}e", 0),
+        (b"e~f", 0),
+        (b"\xc3\xa4", 0),
+        (b"h* i", 0),
+        (b"I\tJ", 1),
+        # what looks like it stands before
+        (b"i)j", 1),
+        (b"i)j and", 0),
+        (b"d i)j", 1),
+    ):
+        tests.same("%r in any case" % pattern, tests.run([], script % pattern), (0, b"%d\n" % wanted, b""))
+
+
 def test_small_stack(tests):
     """What a filter takes of the stack doesn't go by its words."""
     script = START + b"grep-dctrl -c " + b"x -o " * 200_000 + b"foo\n"
@@ -93,4 +115,5 @@ def test_filters(tests):
     test_long_patterns(tests)
     test_expressions(tests)
     test_order(tests)
+    test_any_case(tests)
     test_small_stack(tests)

@@ -8,6 +8,7 @@ pub mod StepLemmas
 pub mod StanzaLemmas
 pub mod WordLemmas
 pub mod CaseLemmas
+pub mod CaseBitLemmas
 pub mod AnyCaseLemmas
 pub mod AskingLemmas
 pub mod FieldTableLemmas

@@ -4,5 +4,6 @@ pub mod Reads
 pub mod Views
 pub mod Faults
 pub mod Values
+pub mod CaseBits
 pub mod Searchers
 pub mod FieldTable

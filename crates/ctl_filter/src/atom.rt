@@ -11,8 +11,8 @@ ghost use Rattle.ctl_filter.specs.Inside.Searchers.{sought_by, finds, is_within_
 use crate::comparison::Bound;
 use crate::expression::Expression;
 use crate::finder::Finder;
-use crate::searching::{finder_of, has_lowered, has_newline, has_pattern};
-use bstr::Finder as PatternFinder;
+use crate::pattern_finder::PatternFinder;
+use crate::searching::has_newline;
 use ctl_relation::{Bytes, Operator, Version};
 use ctl_stanza::Stanza;
 use regex::bytes::Matcher;
@@ -59,8 +59,8 @@ fn has_substring(
     ensures { IfOk result (λ found. found ≡ finds any_case (sought_by searcher.now) text.now) }
 {
     match searcher {
-        Some(Searcher::Substring(finder)) if any_case => has_lowered(finder, text, room),
-        Some(Searcher::Substring(finder)) => Ok(has_pattern(finder, text)),
+        Some(Searcher::Substring(finder)) if any_case => finder.is_in_lowered(text, room),
+        Some(Searcher::Substring(finder)) => Ok(finder.is_in(text)),
         _ => Ok(false),
     }
 }
@@ -95,7 +95,7 @@ fn searcher_of(alloc: Global, test: &Test) -> Result<Option<Searcher<'_>>, Alloc
 {
     let searcher = match test {
         Test::Substring(any_case, pattern) => {
-            let finder = finder_of(alloc, *any_case, pattern.as_slice())?;
+            let finder = PatternFinder::new(alloc, *any_case, pattern.as_slice())?;
             Searcher::Substring(Box::new(alloc, finder)?)
         }
         Test::Expression(expression) => {

@@ -12,6 +12,7 @@ mod laws;
 mod names;
 mod options;
 mod parsing;
+mod pattern_finder;
 mod piece;
 mod printing;
 mod query;

@@ -19,7 +19,7 @@ pub data Sought : Type 0 where
   Tree : Re → Sought
 
 abbrev pub sought_in : Searcher → Sought
-sought_in (searcher.Substring finder) = Text finder.value
+sought_in (searcher.Substring finder) = Text finder.value.finder
 sought_in (searcher.Matcher matcher) = Tree (matcher_pattern matcher.value)
 
 -- what an atom's searcher searches for, if it has one
