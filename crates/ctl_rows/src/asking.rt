@@ -1,6 +1,7 @@
 //! Queries that are asked of a cache by calls, behind what a text has.
 
 use crate::said::Said;
+use crate::tables::same;
 use ctl_index::Cache;
 use ctl_query::{Query, QueryName, answer, parse_query};
 use ctl_relation::{Bytes, Steps};
@@ -48,4 +49,15 @@ pub fn say_asked(cache: &Cache, texts: &[&[u8]], said: &mut Said) {
         Ok(words) => say_asked_by(cache, texts, &words, said),
         Err(_) => said.fail(),
     }
+}
+
+#[test]
+fn tests_are_counted_several_at_once(rt: HostRuntime) {
+    let mut steps = Steps::new();
+    steps.add(3);
+    steps.add(0);
+    steps.add(4);
+    let mut said = Said::new(rt.alloc());
+    said.number(b"", steps.count());
+    same(&rt, b"3, 0 and 4", said.shown(), b"7");
 }
