@@ -71,6 +71,9 @@ def test_early_parts(tests):
     prove = "echo 'rt: low proved'; echo 'rt: high proved'; " + waits + "echo '2 passed, 0 failed'"
     status, lines, _ = run_gate({"prove": prove, "edits": "touch begun; echo '1 passed, 0 failed'"}, processors=4)
     tests.expect("edits begin once all crates are proved", (status, lines[-1]) == (0, "7 passed, 0 failed"), lines)
+    kept = "echo 'rt: low is kept: an earlier run proved it'; echo 'rt: high proved'; " + waits + "echo '2 passed, 0 failed'"
+    status, lines, _ = run_gate({"prove": kept, "edits": "touch begun; echo '1 passed, 0 failed'"}, processors=4)
+    tests.expect("also where an earlier run proved one", (status, lines[-1]) == (0, "7 passed, 0 failed"), lines)
     prove = "echo 'rt: low proved'; sleep 1; touch ended; echo '2 passed, 0 failed'"
     edits = "test -e ended && echo '1 passed, 0 failed'"
     status, lines, _ = run_gate({"prove": prove, "edits": edits}, processors=4)

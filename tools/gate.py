@@ -64,7 +64,8 @@ OF_A_CHECK = 4 << 30
 TOLD_AGAIN = 15
 COUNT = re.compile(r"(\d+) passed, (\d+) failed(?:, (\d+) skipped)?")
 PROVED = re.compile(r"== (\w+)|logic=proved functions=(\d+) .*")
-SAID_PROVED = re.compile(r"rt: (\w+) proved")
+# A crate that an earlier run on this machine proved is kept.
+SAID_PROVED = re.compile(r"rt: (\w+) (?:proved|is kept: .*)")
 CRATE = re.compile(r"^(\w+):", re.M)
 
 
