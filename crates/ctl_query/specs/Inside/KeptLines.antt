@@ -8,4 +8,5 @@ use Rattle.ctl_query.specs.Inside.Repeats.{IsWritten}
 
 -- they stand in the text
 abbrev pub AreWritten : FieldLines → List ℕ → Type 0
-AreWritten lines text = All (IsWritten (world_of lines.depending.now.asking.now) lines.depending.now.options.installed lines.field text) (values lines.kept)
+AreWritten lines text =
+    All (IsWritten (world_of lines.depending.now.asking.now) lines.depending.now.options.installed lines.field text) (values lines.kept)
