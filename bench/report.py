@@ -35,12 +35,15 @@ def ratio(row, name):
 
 
 def lines(row, sizes):
-    """The lines of a row. Below the peak of memory stands how many times the text that is."""
+    """The lines of a row. Below the peak of memory stands how many times the text that is, and below a list that comes beside another or
+    goes how many times one takes that comes alone."""
     line = "%-34s %5d %12s" % (row["what"], row["times"], number(row["taken"]["dctrl-cache"], row["unit"]))
     for name in PROGRAMS[1:]:
         there = name in row["taken"]
         line += "%12s %7s" % ((number(row["taken"][name], row["unit"]), "%.3g" % ratio(row, name)) if there else ("-", "-"))
     yield line
+    if "comes" in row:
+        yield "%-34s %5d %12s" % ("  as times one that comes alone", row["times"], "%.2f" % (row["taken"]["dctrl-cache"] / row["comes"]))
     size = sizes.get(str(row["times"]))
     if row["what"] == "peak memory" and size:
         shown = ["%.2f" % (row["taken"][name] / size) if name in row["taken"] else "-" for name in PROGRAMS]

@@ -21,7 +21,7 @@ import chart
 import report
 from answers import Session, commands
 from apt_folder import AptFolder
-from grown import Grown
+from grown import Grown, renamed
 from lists import made_list
 from processes import peak_of, process, processors
 
@@ -101,8 +101,8 @@ class Table:
         self.spent.append((time.monotonic() - start, what, times, len(rounds)))
         self.add(what, times, {name: min(row[name] for row in rounds) for name in ways}, "s")
 
-    def add(self, what, times, taken, unit):
-        self.rows.append({"what": what, "times": times, "unit": unit, "taken": taken})
+    def add(self, what, times, taken, unit, **more):
+        self.rows.append({"what": what, "times": times, "unit": unit, "taken": taken, **more})
         print("\n".join(report.lines(self.rows[-1], self.sizes)), flush=True)
 
     def show_longest(self):
@@ -190,6 +190,29 @@ class Measuring:
             lambda: session.time(script) / ASKED_ONCE, lambda: self.peers.apt_cache_anew()[0] + self.peers.apt_cache("policy", name)[0],
             None, lambda: self.peers.python_anew(name)[0]))
 
+    def lists(self):
+        """Lists that come to a session as bodies: the first, then one of other names or the same again beside it, which goes again."""
+        text = self.grown.text.rstrip(b"\n") + b"\n"
+        start, spent = time.monotonic(), {}
+        for which, second in {"another": renamed(text, 2), "the same": text}.items():
+            rows = ("a list comes", "%s list comes beside it" % which, "%s list goes again" % which)
+            scripts = (body("one", text), body("other", second), b"drop-list other\n")
+            for _ in range(ROUNDS):
+                session = Session(self.program, [])
+                for row, script in zip(rows, scripts):
+                    spent.setdefault(row, []).append(session.time(script))
+                session.close()
+        self.table.spent.append((time.monotonic() - start, "lists that come and go", self.times, ROUNDS))
+        comes = min(spent["a list comes"])
+        for row, seconds in spent.items():
+            more = {} if row == "a list comes" else {"comes": comes}
+            self.table.add(row, self.times, {"dctrl-cache": min(seconds)}, "s", **more)
+
+
+def body(name, text):
+    """The command that adds a list by its text."""
+    return b"add-list %s packages\n%s.\n" % (name.encode(), text)
+
 
 def read_words():
     asked = argparse.ArgumentParser(description=__doc__, formatter_class=argparse.RawDescriptionHelpFormatter)
@@ -233,6 +256,8 @@ def main():
             measuring = Measuring(table, program, grown, os.path.join(folder, "apt%d" % times))
             measuring.ready()
             measuring.session(times == 1)
+            if times == 1:
+                measuring.lists()
             shutil.rmtree(os.path.join(folder, "apt%d" % times), ignore_errors=True)
     seconds, load_then = time.monotonic() - start, processors()[1]
     print("load %.1f at the end; it took %d s, most of them:" % (load_then, seconds))

@@ -20,6 +20,7 @@ from grown import Grown  # noqa: E402
 ONCE = ["pkgnames", "showpkg of all names", "depends of all names", "rdepends of all names", "show of one name", "showpkg of one name",
         "depends of one name", "rdepends of one name"]
 GROWING = ["ready", "peak memory", "policy of all names", "unmet", "policy of one name", "one edit, and policy of one name", "peak memory of the session"]
+LISTS = ["a list comes", *("%s list %s" % (which, does) for which in ("another", "the same") for does in ("comes beside it", "goes again"))]
 OF_GREP = ["ready", "show of one name"]
 
 
@@ -55,7 +56,7 @@ def test_table(tests):
         with open(results, encoding="ascii") as file:
             rows = json.load(file)["rows"]
         tests.same("what is measured", sorted((row["what"], row["times"]) for row in rows),
-                   sorted([(what, 1) for what in ONCE + GROWING] + [(what, 2) for what in GROWING]))
+                   sorted([(what, 1) for what in ONCE + GROWING + LISTS] + [(what, 2) for what in GROWING]))
         tests.same("what is printed", [row["what"] for row in rows if row["what"].encode() not in output], [])
         tests.same("rows of dctrl-cache", [row["what"] for row in rows if not row["taken"].get("dctrl-cache", 0) > 0], [])
         for name, command, wanted in (("apt-cache", "apt-cache", sorted(set(ONCE + GROWING) - {"peak memory of the session"})), ("grep-dctrl", "grep-dctrl", sorted(OF_GREP))):
@@ -65,10 +66,10 @@ def test_table(tests):
             tests.same("the rows of %s" % name, sorted({row["what"] for row in rows if row["taken"].get(name, 0) > 0}), wanted)
         page = files.write("page.md", ("before\n%sold\n%sbehind\n" % (report.BEGINS, report.ENDS)).encode())
         status, told, errors = finished([sys.executable, REPORT, results, page])
-        tests.same("the table is put into a page", (status, errors, told.count(b"\n")), (0, b"", len(ONCE + GROWING)))
+        tests.same("the table is put into a page", (status, errors, told.count(b"\n")), (0, b"", len(ONCE + GROWING + LISTS)))
         with open(page, encoding="utf-8") as file:
             text = file.read()
-        shown = [line.strip() for line in output.decode().split("\n") if line.startswith(tuple(ONCE + GROWING))]
+        shown = [line.strip() for line in output.decode().split("\n") if line.startswith(tuple(ONCE + GROWING + LISTS))]
         tests.same("the page around the table", (text.startswith("before\n" + report.BEGINS + "\nMeasured on "), text.endswith("\n\n" + report.ENDS + "behind\n")), (True, True))
         tests.same("the table of the page", (len(shown), [line for line in shown if "    %s\n" % line not in text]), (len(rows), []))
         wrong = finished([sys.executable, REPORT, results, files.write("other.md", b"no marks\n")])
