@@ -22,6 +22,7 @@ import report
 from answers import Session, commands
 from apt_folder import AptFolder
 from grown import Grown, renamed
+from list_edits import script_of
 from lists import made_list
 from processes import peak_of, process, processors
 
@@ -196,7 +197,7 @@ class Measuring:
         start, spent = time.monotonic(), {}
         for which, second in {"another": renamed(text, 2), "the same": text}.items():
             rows = ("a list comes", "%s list comes beside it" % which, "%s list goes again" % which)
-            scripts = (body("one", text), body("other", second), b"drop-list other\n")
+            scripts = (script_of([("add-list", b"one", [text])]), script_of([("add-list", b"other", [second])]), b"drop-list other\n")
             for _ in range(ROUNDS):
                 session = Session(self.program, [])
                 for row, script in zip(rows, scripts):
@@ -207,11 +208,6 @@ class Measuring:
         for row, seconds in spent.items():
             more = {} if row == "a list comes" else {"comes": comes}
             self.table.add(row, self.times, {"dctrl-cache": min(seconds)}, "s", **more)
-
-
-def body(name, text):
-    """The command that adds a list by its text."""
-    return b"add-list %s packages\n%s.\n" % (name.encode(), text)
 
 
 def read_words():
