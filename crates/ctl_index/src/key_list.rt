@@ -85,11 +85,11 @@ impl<K: OfStanza> KeyList<K> {
         }
     }
 
-    /// A list of one, with no spare room.
+    /// A list of one, with room for one more.
     pub(crate) fn of_one(alloc: Global, key: K) -> Result<KeyList<K>, AllocError>
         ensures { IfOk result (λ list. list ≡ key ∷ []) }
     {
-        let mut keys = Vec::with_capacity(alloc, 1)?;
+        let mut keys = Vec::with_capacity(alloc, 2)?;
         keys.push(key)?;
         Ok(KeyList { keys })
     }
