@@ -1,5 +1,4 @@
 -- How things are held, and the steps of what is proved. Not for callers.
-pub mod ClauseNumbers
 pub mod KeptChoice
 pub mod KeptForm
 pub mod NameMap
